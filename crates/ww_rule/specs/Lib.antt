@@ -1,0 +1,2 @@
+pub mod Wireworld
+pub mod Grid

@@ -1,0 +1,56 @@
+use Rattle.std.specs.Prelude.{ℤ, pos, ◌+ℤ◌, ◌-ℤ◌, ℕ, zero, suc, ◌+◌, ◌||◌, ◌==◌, cond, Bool}
+use Rattle.ww_rule.specs.declared.pattern.State.{State}
+use Rattle.ww_rule.specs.declared.pattern.State.TheVariants.{Empty, Head, Tail, Conductor}
+
+-- a state for every pair of integers: x goes east, y goes down
+abbrev pub Plane : Type 0
+Plane = ℤ → ℤ → State
+
+-- 1 for a head, and 0 for another state
+abbrev pub count_head : State → ℕ
+count_head Empty = 0
+count_head Head = 1
+count_head Tail = 0
+count_head Conductor = 0
+
+-- how many of the eight neighbours are heads
+abbrev pub heads_around : Plane → ℤ → ℤ → ℕ
+heads_around p x y =
+    count_head (p (x -ℤ pos 1) (y -ℤ pos 1))
+    + count_head (p x (y -ℤ pos 1))
+    + count_head (p (x +ℤ pos 1) (y -ℤ pos 1))
+    + count_head (p (x -ℤ pos 1) y)
+    + count_head (p (x +ℤ pos 1) y)
+    + count_head (p (x -ℤ pos 1) (y +ℤ pos 1))
+    + count_head (p x (y +ℤ pos 1))
+    + count_head (p (x +ℤ pos 1) (y +ℤ pos 1))
+
+-- what a cell becomes, by its state and the number of heads around it
+abbrev pub next_state : State → ℕ → State
+next_state Empty n = Empty
+next_state Head n = Tail
+next_state Tail n = Conductor
+next_state Conductor n = cond (n == 1 || n == 2) Head Conductor
+
+-- the next plane
+abbrev pub step : Plane → Plane
+step p x y = next_state (p x y) (heads_around p x y)
+
+-- the plane after n generations
+abbrev pub evolve : ℕ → Plane → Plane
+evolve zero p = p
+evolve (suc n) p = step (evolve n p)
+
+-- which cells are made heads at a generation
+abbrev pub Due : Type 0
+Due = ℕ → ℤ → ℤ → Bool
+
+-- the plane with the cells that are due made heads
+abbrev pub injected : (ℤ → ℤ → Bool) → Plane → Plane
+injected due p x y = cond (due x y) Head (p x y)
+
+-- the driven evolution: at generation 0 the plane with the injections of generation 0,
+-- and at each later one the rule on the generation before, with the injections that are due then
+abbrev pub driven : Due → Plane → ℕ → Plane
+driven due p zero = injected (due zero) p
+driven due p (suc g) = injected (due (suc g)) (step (driven due p g))

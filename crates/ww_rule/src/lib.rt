@@ -1,0 +1,6 @@
+//! Wireworld: states, patterns, planes and the rule.
+#![tactic(auto)]
+
+mod pattern;
+
+pub use pattern::{Pattern, State};
