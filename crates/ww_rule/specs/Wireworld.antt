@@ -33,13 +33,13 @@ next_state Tail n = Conductor
 next_state Conductor n = cond (n == 1 || n == 2) Head Conductor
 
 -- the next plane
-abbrev pub step : Plane → Plane
-step p x y = next_state (p x y) (heads_around p x y)
+abbrev pub next_plane : Plane → Plane
+next_plane p x y = next_state (p x y) (heads_around p x y)
 
 -- the plane after n generations
 abbrev pub evolve : ℕ → Plane → Plane
 evolve zero p = p
-evolve (suc n) p = step (evolve n p)
+evolve (suc n) p = next_plane (evolve n p)
 
 -- which cells are made heads at a generation
 abbrev pub Due : Type 0
@@ -53,4 +53,4 @@ injected due p x y = cond (due x y) Head (p x y)
 -- and at each later one the rule on the generation before, with the injections that are due then
 abbrev pub driven : Due → Plane → ℕ → Plane
 driven due p zero = injected (due zero) p
-driven due p (suc g) = injected (due (suc g)) (step (driven due p g))
+driven due p (suc g) = injected (due (suc g)) (next_plane (driven due p g))
