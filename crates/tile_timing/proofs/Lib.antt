@@ -4,3 +4,6 @@ pub mod Sound
 pub mod Ports
 pub mod Borders
 pub mod Runs
+pub mod Traces
+pub mod Path
+pub mod PortTests
