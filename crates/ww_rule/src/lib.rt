@@ -2,5 +2,7 @@
 #![tactic(auto)]
 
 mod pattern;
+mod plane;
 
-pub use pattern::{Pattern, State};
+pub use pattern::{Injection, Pattern, State};
+pub use plane::Plane;
