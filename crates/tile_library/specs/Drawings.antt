@@ -3,6 +3,7 @@ use Rattle.std.specs.Prelude.{pos, negsuc, ℤ, ◌-ℤ◌, ℕ, ◌==◌, false
 use Rattle.tile_core.specs.declared.kind.Kind.{Kind}
 use Rattle.tile_core.specs.declared.kind.Kind.TheVariants.{Swap, Xor, Or, AndNot, Fork, East, South, North, EastSouth, SouthWest, WestNorth, NorthEast, West, WestSwap}
 use Rattle.tile_core.specs.Drawing.{Drawing}
+use Rattle.tile_timing.specs.Mirror.{mirrored}
 use Rattle.tile_library.specs.declared.drawings.TheConstants.{SWAP, XOR, OR, AND_NOT, FORK, EAST, SOUTH, EAST_SOUTH, SOUTH_WEST, WEST_NORTH, NORTH_EAST}
 
 -- what rows of text draw: the byte 67, which is a C, is a conductor
@@ -10,10 +11,6 @@ abbrev pub drawn : List (List ℕ) → Drawing
 drawn rows (pos x) (pos y) = get_or (get_or rows y []) x 46 == 67
 drawn rows (pos x) (negsuc y) = false
 drawn rows (negsuc x) y = false
-
--- the same with west and east changed
-abbrev pub mirrored : Drawing → Drawing
-mirrored drawing x y = drawing (pos 31 -ℤ x) y
 
 -- the drawing of each kind
 abbrev pub drawing_of : Kind → Drawing

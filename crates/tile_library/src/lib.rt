@@ -2,3 +2,8 @@
 #![tactic(auto)]
 
 pub mod drawings;
+mod rows;
+mod shipped;
+pub mod tiles;
+
+pub use shipped::Shipped;

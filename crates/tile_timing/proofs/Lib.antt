@@ -7,3 +7,4 @@ pub mod Runs
 pub mod Traces
 pub mod Path
 pub mod PortTests
+pub mod Mirrors

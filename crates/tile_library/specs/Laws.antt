@@ -1,4 +1,5 @@
--- Each drawing keeps the timing law: the heads of a run of 32 generations are computed, choice by choice.
+-- Each drawing keeps the timing law: the heads of a run of 32 generations are computed, for each choice of entries.
+-- (The laws of the traits cite these proofs, and so they stand in specs.)
 use Rattle.std.proofs.Common.{◌≡◌, refl, Bool, true, false, ◌&&◌, List, ℕ}
 use Rattle.std.proofs.lemmas.Bool.{and_parts}
 use Rattle.tile_core.specs.declared.kind.Kind.{Kind}
@@ -8,10 +9,12 @@ use Rattle.tile_core.specs.Interface.{Interface}
 use Rattle.tile_core.specs.Kinds.{interface}
 use Rattle.tile_core.specs.TimingLaw.{KeepsTime, MeetsTimingLaw}
 use Rattle.tile_timing.proofs.Traces.{law_test, keeps_time}
+use Rattle.tile_timing.specs.Mirror.{mirrored}
+use Rattle.tile_timing.proofs.Mirrors.{law_mirrored}
 use Rattle.tile_timing.proofs.PortTests.{ports_test, has_ports}
 use Rattle.tile_library.specs.declared.drawings.TheConstants.{SWAP, XOR, OR, AND_NOT, FORK, EAST, SOUTH, EAST_SOUTH, SOUTH_WEST, WEST_NORTH, NORTH_EAST}
-use Rattle.tile_library.specs.Drawings.{drawn, mirrored, drawing_of}
-use Rattle.tile_library.proofs.Rows.{fits_box, drawn_in_box}
+use Rattle.tile_library.specs.Drawings.{drawn, drawing_of}
+use Rattle.tile_library.specs.InBox.{fits_box, drawn_in_box}
 
 -- what computes for rows of text that keep the law
 pub record Passes (tile : Interface) (rows : List (List ℕ)) : Type 0 where
@@ -69,3 +72,23 @@ north_east_meets = meets_law (interface NorthEast) NORTH_EAST (record { dark = r
 
 pub west_meets : MeetsTimingLaw (interface West) (drawn EAST)
 west_meets = meets_law (interface West) EAST (record { dark = refl; lower = refl; upper = refl; both = refl; fits = refl; ports = refl })
+
+pub west_swap_meets : MeetsTimingLaw (interface WestSwap) (mirrored (drawn SWAP))
+west_swap_meets =
+    law_mirrored (interface Swap) (interface WestSwap) (drawn SWAP) (record { lanes = refl; entries = refl; exits = refl; answer = λ a b. refl }) swap_meets
+
+pub every_kind_meets : (kind : Kind) → MeetsTimingLaw (interface kind) (drawing_of kind)
+every_kind_meets Swap = swap_meets
+every_kind_meets Xor = xor_meets
+every_kind_meets Or = or_meets
+every_kind_meets AndNot = and_not_meets
+every_kind_meets Fork = fork_meets
+every_kind_meets East = east_meets
+every_kind_meets South = south_meets
+every_kind_meets North = north_meets
+every_kind_meets EastSouth = east_south_meets
+every_kind_meets SouthWest = south_west_meets
+every_kind_meets WestNorth = west_north_meets
+every_kind_meets NorthEast = north_east_meets
+every_kind_meets West = west_meets
+every_kind_meets WestSwap = west_swap_meets
