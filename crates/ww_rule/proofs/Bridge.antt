@@ -65,8 +65,8 @@ heads_seen look x y =
     + count_head (look_before look (x + 2) y)
     + (count_head (look_before look x (y + 1)) + count_head (look_before look (x + 2) (y + 1)))
     + (count_head (look_before look x (y + 2))
-        + count_head (look_before look (x + 1) (y + 2))
-        + count_head (look_before look (x + 2) (y + 2)))
+    + count_head (look_before look (x + 1) (y + 2))
+    + count_head (look_before look (x + 2) (y + 2)))
 
 -- the rule on the plane of a look-up is the rule on the look-up with an empty frame
 pub next_framed : (look : ℕ → ℕ → State) (x y : ℕ) → next_plane (framed look) (pos x) (pos y) ≡ next_state (look x y) (heads_seen look x y)

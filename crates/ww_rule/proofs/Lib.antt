@@ -6,3 +6,4 @@ pub mod Finite
 pub mod RowLemmas
 pub mod Bridge
 pub mod Injected
+pub mod Streams

@@ -1,5 +1,5 @@
 //! Laws of the rule: each function does nothing, and its contract is the law.
-ghost use Rattle.ww_rule.specs.Laws.{KeepsTranslations, KeepsMirrors, IsLocal, StaysInBox, StaysFinite};
+ghost use Rattle.ww_rule.specs.Laws.{KeepsTranslations, KeepsMirrors, IsLocal, StaysInBox, StaysFinite, StreamsAreInjected};
 
 /// The rule, and every number of generations of it, commute with translations.
 pub fn keeps_translations()
@@ -26,3 +26,10 @@ pub fn stays_in_box()
 pub fn stays_finite()
     ensures { StaysFinite }
 {}
+
+/// Streams inject at generation cycle * period, at the cell of each input whose bit is 1 in that cycle, and
+/// nowhere else.
+pub fn streams_are_injected()
+    ensures { StreamsAreInjected }
+{
+}
