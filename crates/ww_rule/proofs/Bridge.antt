@@ -46,8 +46,8 @@ framed_before look zero (suc y) = refl
 framed_before look (suc x) zero = ap (λ u. framed look u (negsuc 0)) (one_back x)
 framed_before look (suc x) (suc y) = ap₂ (framed look) (one_back x) (one_back y)
 
-moved : (p : Plane) (u u' v v' : ℤ) (a : ℕ) → u ≡ u' → v ≡ v' → a ≡ count_head (p u v) → a ≡ count_head (p u' v')
-moved p u u' v v' a e f h = h ∙ ap₂ (λ x y. count_head (p x y)) e f
+count_moved : (p : Plane) (u u' v v' : ℤ) (a : ℕ) → u ≡ u' → v ≡ v' → a ≡ count_head (p u v) → a ≡ count_head (p u' v')
+count_moved p u u' v v' a e f h = h ∙ ap₂ (λ x y. count_head (p x y)) e f
 
 sum_moved : (a b c d e f g h a' b' c' d' e' f' g' h' : ℕ) → a ≡ a' → b ≡ b' → c ≡ c' → d ≡ d' → e ≡ e' → f ≡ f' → g ≡ g' → h ≡ h' → a + b + c + (d + e) + (f + g + h) ≡ a' + b' + c' + d' + e' + f' + g' + h'
 sum_moved a b c d e f g h a' b' c' d' e' f' g' h' p1 p2 p3 p4 p5 p6 p7 p8 = omega arith
@@ -55,7 +55,7 @@ sum_moved a b c d e f g h a' b' c' d' e' f' g' h' p1 p2 p3 p4 p5 p6 p7 p8 = omeg
 -- the eight counts of any plane, by places that are counted from 1
 pub heads_around_before : (p : Plane) (x y a b c d e f g h : ℕ) → a ≡ count_head (p (pos x -ℤ pos 1) (pos y -ℤ pos 1)) → b ≡ count_head (p (pos (x + 1) -ℤ pos 1) (pos y -ℤ pos 1)) → c ≡ count_head (p (pos (x + 2) -ℤ pos 1) (pos y -ℤ pos 1)) → d ≡ count_head (p (pos x -ℤ pos 1) (pos (y + 1) -ℤ pos 1)) → e ≡ count_head (p (pos (x + 2) -ℤ pos 1) (pos (y + 1) -ℤ pos 1)) → f ≡ count_head (p (pos x -ℤ pos 1) (pos (y + 2) -ℤ pos 1)) → g ≡ count_head (p (pos (x + 1) -ℤ pos 1) (pos (y + 2) -ℤ pos 1)) → h ≡ count_head (p (pos (x + 2) -ℤ pos 1) (pos (y + 2) -ℤ pos 1)) → a + b + c + (d + e) + (f + g + h) ≡ heads_around p (pos x) (pos y)
 heads_around_before p x y a b c d e f g h p1 p2 p3 p4 p5 p6 p7 p8 =
-    sum_moved a b c d e f g h _ _ _ _ _ _ _ _ p1 (moved p _ _ _ _ b (same_place x) refl p2) (moved p _ _ _ _ c (one_on x) refl p3) (moved p _ _ _ _ d refl (same_place y) p4) (moved p _ _ _ _ e (one_on x) (same_place y) p5) (moved p _ _ _ _ f refl (one_on y) p6) (moved p _ _ _ _ g (same_place x) (one_on y) p7) (moved p _ _ _ _ h (one_on x) (one_on y) p8)
+    sum_moved a b c d e f g h _ _ _ _ _ _ _ _ p1 (count_moved p _ _ _ _ b (same_place x) refl p2) (count_moved p _ _ _ _ c (one_on x) refl p3) (count_moved p _ _ _ _ d refl (same_place y) p4) (count_moved p _ _ _ _ e (one_on x) (same_place y) p5) (count_moved p _ _ _ _ f refl (one_on y) p6) (count_moved p _ _ _ _ g (same_place x) (one_on y) p7) (count_moved p _ _ _ _ h (one_on x) (one_on y) p8)
 
 -- how many heads a look-up has around a place
 abbrev pub heads_seen : (ℕ → ℕ → State) → ℕ → ℕ → ℕ

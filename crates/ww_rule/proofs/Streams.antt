@@ -1,5 +1,5 @@
 -- What streams of bits make due.
-use Rattle.std.proofs.Common.{ℤ, pos, ℕ, zero, suc, ◌+◌, ◌*◌, ◌<◌, ◌≤◌, ◌≡◌, refl, sym, ap, ap₂, ◌∙◌, ◌↔◌, subst, inl, inr, Bool, true, false, ◌&&◌, ◌||◌, ◌==◌, cond, List, [], ◌∷◌, ◌++◌, length, get_or, arith}
+use Rattle.std.proofs.Common.{ℤ, pos, ℕ, zero, suc, ◌+◌, ◌*◌, ◌<◌, ◌≡◌, refl, sym, ap, ◌∙◌, ◌↔◌, subst, inl, inr, Bool, true, false, ◌&&◌, ◌||◌, ◌==◌, List, [], ◌∷◌, ◌++◌, length, get_or, arith}
 use Rattle.std.proofs.lemmas.Bool.{and_parts, and_from, or_cases, true≢false, eqb-true, eq-eqb}
 use Rattle.std.proofs.lemmas.Bool.Decides.{Decides-int_eq}
 use Rattle.std.proofs.lemmas.List.{get_or_past}
@@ -119,6 +119,7 @@ bit_rows h period cells (row ∷ rows) g x y (suc cycle) t bit =
     ∙ or_right (due_of_list first g x y) (due_of_list others g x y) (bit_rows (h + period) period cells rows g x y cycle later bit)
 
 pub streams_injected : (period : ℕ) (cells : List (ℕ × ℕ)) (rows : List (List Bool)) (g : ℕ) (x y : ℤ) → (due_of_streams period cells rows g x y ≡ true) ↔ IsBitOfStreams period cells rows g x y
-streams_injected period cells rows g x y =
-    (λ e. let h = rows_bit 0 period cells rows g x y e in let t : 0 + h.cycle * period ≡ g = h.in_time in record { cycle = h.cycle; input = h.bit.input; in_time = omega arith; in_cells = h.bit.within; one = h.bit.one; column = h.bit.column; line = h.bit.line },
-        λ h. let t : h.cycle * period ≡ g = h.in_time in bit_rows 0 period cells rows g x y h.cycle (omega arith) (record { input = h.input; within = h.in_cells; one = h.one; column = h.column; line = h.line }))
+streams_injected period cells rows g x y = (
+  λ e. let h = rows_bit 0 period cells rows g x y e in let t : 0 + h.cycle * period ≡ g = h.in_time in record { cycle = h.cycle; input = h.bit.input; in_time = omega arith; in_cells = h.bit.within; one = h.bit.one; column = h.bit.column; line = h.bit.line },
+  λ h. let t : h.cycle * period ≡ g = h.in_time in bit_rows 0 period cells rows g x y h.cycle (omega arith) (record { input = h.input; within = h.in_cells; one = h.one; column = h.column; line = h.line }),
+)

@@ -3,7 +3,7 @@ use Rattle.std.specs.Prelude.{ℤ, pos, ◌+ℤ◌, ◌-ℤ◌, ◌≤ℤ◌, �
 use Rattle.ww_rule.specs.declared.pattern.State.{State}
 use Rattle.ww_rule.specs.declared.pattern.State.TheVariants.{Empty}
 use Rattle.ww_rule.specs.declared.pattern.Injection.{Injection}
-use Rattle.ww_rule.specs.Wireworld.{Plane, Due, next_plane, evolve, driven}
+use Rattle.ww_rule.specs.Wireworld.{Plane, Due, next_plane, evolve, driven, undriven}
 use Rattle.ww_rule.specs.Grid.{IsGrid, IsEmptyOutside, in_box, plane_of}
 use Rattle.ww_rule.specs.Injections.{due_of_list, due_of_streams}
 
@@ -39,6 +39,10 @@ abbrev pub KeepsMirrors : Type 0
 KeepsMirrors =
     ((a : ℤ) (p : Plane) → next_plane (mirrored a p) ≡ mirrored a (next_plane p))
     × ((a : ℤ) (n : ℕ) (p : Plane) → evolve n (mirrored a p) ≡ mirrored a (evolve n p))
+
+-- a pattern that is not driven evolves by the rule alone
+abbrev pub IsUndrivenEvolution : Type 0
+IsUndrivenEvolution = (p : Plane) (g : ℕ) → driven undriven p g ≡ evolve g p
 
 -- a cell's next state depends on distance 1 alone, and its state after n generations on distance n
 abbrev pub IsLocal : Type 0

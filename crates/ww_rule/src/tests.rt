@@ -1,7 +1,7 @@
 // Small patterns by hand, in the letters of RLE: '.' is empty, A a head, B a tail and C a conductor.
-use crate::{Pattern, Plane, RuleError, State, mirror_x, step_driven, step_plain};
 ghost use Rattle.std.specs.Prelude.{◌≡◌, length, IfOk};
 
+use crate::{Pattern, Plane, RuleError, State, mirror_x, step_driven, step_plain};
 use lists::List;
 use std::alloc::Global;
 use std::test::Fail;

@@ -5,5 +5,5 @@ abbrev pub invariant-loop-west : goal.invariant-loop-west
 invariant-loop-west l =
     record {
       many : length l.rows.items ≡ l.west-index;
-      long : All (λ row. length row ≡ 3) l.rows.items
+      long : All (λ row. length row ≡ 3) l.rows.items;
     }
