@@ -6,30 +6,15 @@ use Rattle.std.proofs.Math.Path.{fun_ext}
 use Rattle.ww_rule.specs.declared.pattern.State.{State}
 use Rattle.ww_rule.specs.declared.pattern.State.TheVariants.{Empty}
 use Rattle.ww_rule.specs.Wireworld.{Plane, next_plane, next_state, heads_around, count_head}
-use Rattle.ww_rule.specs.Grid.{plane_of}
+use Rattle.ww_rule.specs.Grid.{framed, plane_of}
 use Rattle.ww_rule.proofs.Cells.{next_plane_same}
 use Rattle.ww_rule.proofs.Boxes.{plane_of_beside, plane_of_below}
-
--- the plane of a look-up by column and row: empty to the west of column 0 and to the north of row 0
-abbrev pub framed : (ℕ → ℕ → State) → Plane
-framed look (pos x) (pos y) = look x y
-framed look (pos x) (negsuc y) = Empty
-framed look (negsuc x) y = Empty
 
 -- the look-up by places that are counted from 1, where 0 is the empty frame
 abbrev pub look_before : (ℕ → ℕ → State) → ℕ → ℕ → State
 look_before look x zero = Empty
 look_before look zero (suc y) = Empty
 look_before look (suc x) (suc y) = look x y
-
--- rows are such a look-up
-pub plane_of_framed : (rows : List (List State)) → plane_of rows ≡ framed (λ x y. get_or (get_or rows y []) x Empty)
-plane_of_framed rows = fun_ext (λ x. fun_ext (λ y. place x y))
-  where
-    place : (x y : ℤ) → plane_of rows x y ≡ framed (λ x y. get_or (get_or rows y []) x Empty) x y
-    place (pos x) (pos y) = refl
-    place (pos x) (negsuc y) = refl
-    place (negsuc x) y = refl
 
 pub one_back : (x : ℕ) → pos (suc x) -ℤ pos 1 ≡ pos x
 one_back x = let e : suc x ≡ x + 1 = omega arith in ap (λ n. pos n -ℤ pos 1) e ∙ +ℤ-neg_ℤ_cancel (pos x) (pos 1)
