@@ -6,30 +6,15 @@ use Rattle.std.proofs.Math.Path.{fun_ext}
 use Rattle.ww_rule.specs.declared.pattern.State.{State}
 use Rattle.ww_rule.specs.declared.pattern.State.TheVariants.{Empty}
 use Rattle.ww_rule.specs.Wireworld.{Plane, next_plane, next_state, heads_around, count_head}
-use Rattle.ww_rule.specs.Grid.{plane_of}
+use Rattle.ww_rule.specs.Grid.{framed, plane_of}
 use Rattle.ww_rule.proofs.Cells.{next_plane_same}
 use Rattle.ww_rule.proofs.Boxes.{plane_of_beside, plane_of_below}
-
--- the plane of a look-up by column and row: empty to the west of column 0 and to the north of row 0
-abbrev pub framed : (ℕ → ℕ → State) → Plane
-framed look (pos x) (pos y) = look x y
-framed look (pos x) (negsuc y) = Empty
-framed look (negsuc x) y = Empty
 
 -- the look-up by places that are counted from 1, where 0 is the empty frame
 abbrev pub look_before : (ℕ → ℕ → State) → ℕ → ℕ → State
 look_before look x zero = Empty
 look_before look zero (suc y) = Empty
 look_before look (suc x) (suc y) = look x y
-
--- rows are such a look-up
-pub plane_of_framed : (rows : List (List State)) → plane_of rows ≡ framed (λ x y. get_or (get_or rows y []) x Empty)
-plane_of_framed rows = fun_ext (λ x. fun_ext (λ y. place x y))
-  where
-    place : (x y : ℤ) → plane_of rows x y ≡ framed (λ x y. get_or (get_or rows y []) x Empty) x y
-    place (pos x) (pos y) = refl
-    place (pos x) (negsuc y) = refl
-    place (negsuc x) y = refl
 
 pub one_back : (x : ℕ) → pos (suc x) -ℤ pos 1 ≡ pos x
 one_back x = let e : suc x ≡ x + 1 = omega arith in ap (λ n. pos n -ℤ pos 1) e ∙ +ℤ-neg_ℤ_cancel (pos x) (pos 1)
@@ -46,8 +31,8 @@ framed_before look zero (suc y) = refl
 framed_before look (suc x) zero = ap (λ u. framed look u (negsuc 0)) (one_back x)
 framed_before look (suc x) (suc y) = ap₂ (framed look) (one_back x) (one_back y)
 
-moved : (p : Plane) (u u' v v' : ℤ) (a : ℕ) → u ≡ u' → v ≡ v' → a ≡ count_head (p u v) → a ≡ count_head (p u' v')
-moved p u u' v v' a e f h = h ∙ ap₂ (λ x y. count_head (p x y)) e f
+count_moved : (p : Plane) (u u' v v' : ℤ) (a : ℕ) → u ≡ u' → v ≡ v' → a ≡ count_head (p u v) → a ≡ count_head (p u' v')
+count_moved p u u' v v' a e f h = h ∙ ap₂ (λ x y. count_head (p x y)) e f
 
 sum_moved : (a b c d e f g h a' b' c' d' e' f' g' h' : ℕ) → a ≡ a' → b ≡ b' → c ≡ c' → d ≡ d' → e ≡ e' → f ≡ f' → g ≡ g' → h ≡ h' → a + b + c + (d + e) + (f + g + h) ≡ a' + b' + c' + d' + e' + f' + g' + h'
 sum_moved a b c d e f g h a' b' c' d' e' f' g' h' p1 p2 p3 p4 p5 p6 p7 p8 = omega arith
@@ -55,7 +40,7 @@ sum_moved a b c d e f g h a' b' c' d' e' f' g' h' p1 p2 p3 p4 p5 p6 p7 p8 = omeg
 -- the eight counts of any plane, by places that are counted from 1
 pub heads_around_before : (p : Plane) (x y a b c d e f g h : ℕ) → a ≡ count_head (p (pos x -ℤ pos 1) (pos y -ℤ pos 1)) → b ≡ count_head (p (pos (x + 1) -ℤ pos 1) (pos y -ℤ pos 1)) → c ≡ count_head (p (pos (x + 2) -ℤ pos 1) (pos y -ℤ pos 1)) → d ≡ count_head (p (pos x -ℤ pos 1) (pos (y + 1) -ℤ pos 1)) → e ≡ count_head (p (pos (x + 2) -ℤ pos 1) (pos (y + 1) -ℤ pos 1)) → f ≡ count_head (p (pos x -ℤ pos 1) (pos (y + 2) -ℤ pos 1)) → g ≡ count_head (p (pos (x + 1) -ℤ pos 1) (pos (y + 2) -ℤ pos 1)) → h ≡ count_head (p (pos (x + 2) -ℤ pos 1) (pos (y + 2) -ℤ pos 1)) → a + b + c + (d + e) + (f + g + h) ≡ heads_around p (pos x) (pos y)
 heads_around_before p x y a b c d e f g h p1 p2 p3 p4 p5 p6 p7 p8 =
-    sum_moved a b c d e f g h _ _ _ _ _ _ _ _ p1 (moved p _ _ _ _ b (same_place x) refl p2) (moved p _ _ _ _ c (one_on x) refl p3) (moved p _ _ _ _ d refl (same_place y) p4) (moved p _ _ _ _ e (one_on x) (same_place y) p5) (moved p _ _ _ _ f refl (one_on y) p6) (moved p _ _ _ _ g (same_place x) (one_on y) p7) (moved p _ _ _ _ h (one_on x) (one_on y) p8)
+    sum_moved a b c d e f g h _ _ _ _ _ _ _ _ p1 (count_moved p _ _ _ _ b (same_place x) refl p2) (count_moved p _ _ _ _ c (one_on x) refl p3) (count_moved p _ _ _ _ d refl (same_place y) p4) (count_moved p _ _ _ _ e (one_on x) (same_place y) p5) (count_moved p _ _ _ _ f refl (one_on y) p6) (count_moved p _ _ _ _ g (same_place x) (one_on y) p7) (count_moved p _ _ _ _ h (one_on x) (one_on y) p8)
 
 -- how many heads a look-up has around a place
 abbrev pub heads_seen : (ℕ → ℕ → State) → ℕ → ℕ → ℕ
@@ -65,8 +50,8 @@ heads_seen look x y =
     + count_head (look_before look (x + 2) y)
     + (count_head (look_before look x (y + 1)) + count_head (look_before look (x + 2) (y + 1)))
     + (count_head (look_before look x (y + 2))
-        + count_head (look_before look (x + 1) (y + 2))
-        + count_head (look_before look (x + 2) (y + 2)))
+    + count_head (look_before look (x + 1) (y + 2))
+    + count_head (look_before look (x + 2) (y + 2)))
 
 -- the rule on the plane of a look-up is the rule on the look-up with an empty frame
 pub next_framed : (look : ℕ → ℕ → State) (x y : ℕ) → next_plane (framed look) (pos x) (pos y) ≡ next_state (look x y) (heads_seen look x y)

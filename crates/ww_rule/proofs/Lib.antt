@@ -1,4 +1,5 @@
 pub mod Cells
+pub mod Generations
 pub mod Moves
 pub mod Locality
 pub mod Boxes
@@ -6,3 +7,4 @@ pub mod Finite
 pub mod RowLemmas
 pub mod Bridge
 pub mod Injected
+pub mod Streams

@@ -1,26 +1,14 @@
 -- How far a cell sees.
-use Rattle.std.proofs.Common.{ℤ, pos, ◌+ℤ◌, ◌-ℤ◌, ◌≤ℤ◌, ℕ, zero, suc, ◌≡◌, arith}
+use Rattle.std.proofs.Common.{ℤ, pos, ◌+ℤ◌, ◌-ℤ◌, ◌≤ℤ◌, ℕ, zero, suc, ◌≡◌, ap, arith}
 use Rattle.std.proofs.lemmas.Int.{ints}
-use Rattle.ww_rule.specs.Wireworld.{Plane, next_plane, evolve}
+use Rattle.ww_rule.specs.Wireworld.{Plane, next_plane, evolve, count_head}
 use Rattle.ww_rule.specs.Laws.{AgreeNear}
-use Rattle.ww_rule.proofs.Cells.{next_plane_same}
+use Rattle.ww_rule.proofs.Cells.{next_plane_counts}
 
 -- planes that agree at distance 1 have the same next state there
 pub next_plane_near : (p q : Plane) (x y : ℤ) → AgreeNear 1 p q x y → next_plane p x y ≡ next_plane q x y
-next_plane_near p q x y go =
-    next_plane_same p q x y x y (go x y (lo x) (hi x) (lo y) (hi y)) (go _ _ (same _) (far x) (same _) (far y)) (go _ _ (lo x) (hi x) (same _) (far y)) (go _ _ (far x) (same _) (same _) (far y)) (go _ _ (same _) (far x) (lo y) (hi y)) (go _ _ (far x) (same _) (lo y) (hi y)) (go _ _ (same _) (far x) (far y) (same _)) (go _ _ (lo x) (hi x) (far y) (same _)) (go _ _ (far x) (same _) (far y) (same _))
-  where
-    same : (z : ℤ) → z ≤ℤ z
-    same z = omega (arith, ints)
-
-    lo : (z : ℤ) → (z -ℤ pos 1) ≤ℤ z
-    lo z = omega (arith, ints)
-
-    hi : (z : ℤ) → z ≤ℤ (z +ℤ pos 1)
-    hi z = omega (arith, ints)
-
-    far : (z : ℤ) → (z -ℤ pos 1) ≤ℤ (z +ℤ pos 1)
-    far z = omega (arith, ints)
+next_plane_near p q x y agree =
+    next_plane_counts p q x y (agree x y (omega (arith, ints)) (omega (arith, ints)) (omega (arith, ints)) (omega (arith, ints))) (λ u v a b c d. ap count_head (agree u v a b c d))
 
 nearer : (n : ℕ) (p q : Plane) (x y x' y' : ℤ) → AgreeNear (suc n) p q x y → (x -ℤ pos 1) ≤ℤ x' → x' ≤ℤ (x +ℤ pos 1) → (y -ℤ pos 1) ≤ℤ y' → y' ≤ℤ (y +ℤ pos 1) → AgreeNear n p q x' y'
 nearer n p q x y x' y' agree a b c d u v e f g i =

@@ -1,15 +1,11 @@
 -- The rule commutes with translations and with mirrors.
-use Rattle.std.proofs.Common.{ℤ, pos, ◌+ℤ◌, ◌-ℤ◌, ℕ, zero, suc, ◌+◌, ◌≡◌, refl, ap, ap₂, ◌∙◌, arith}
+use Rattle.std.proofs.Common.{ℤ, pos, ◌+ℤ◌, ◌-ℤ◌, ℕ, ◌+◌, ◌≡◌, refl, ap, ap₂, arith}
 use Rattle.std.proofs.lemmas.Int.{ints}
 use Rattle.std.proofs.Math.Path.{fun_ext}
 use Rattle.ww_rule.specs.Wireworld.{Plane, next_plane, evolve, next_state, count_head}
 use Rattle.ww_rule.specs.Laws.{moved, mirrored}
+use Rattle.ww_rule.proofs.Generations.{evolve_keeps}
 use Rattle.ww_rule.proofs.Cells.{next_plane_same}
-
--- what keeps one step keeps every number of steps
-pub evolve_keeps : (f : Plane → Plane) → ((p : Plane) → next_plane (f p) ≡ f (next_plane p)) → (n : ℕ) (p : Plane) → evolve n (f p) ≡ f (evolve n p)
-evolve_keeps f keeps zero p = refl
-evolve_keeps f keeps (suc n) p = ap next_plane (evolve_keeps f keeps n p) ∙ keeps (evolve n p)
 
 down_moved : (x a : ℤ) → (x -ℤ pos 1) -ℤ a ≡ (x -ℤ a) -ℤ pos 1
 down_moved x a = omega (arith, ints)

@@ -24,7 +24,7 @@ same_grid width height old new grid many long =
     record {
       long = λ y d h. let b : y < length old = omega arith in ap length (get_or_any new y d [] h) ∙ long y b ∙ grid.long y [] b;
       many = λ n. many ∙ grid.many n;
-      none = λ e. nil_from_length new (many ∙ ap length (grid.none e))
+      none = λ e. nil_from_length new (many ∙ ap length (grid.none e));
     }
 
 -- a cell of the box stands in the rows

@@ -16,11 +16,15 @@ pub record IsGrid (width height : ℕ) (rows : List (List State)) : Type 0 where
   pub many : width * height ≢ 0 → length rows ≡ height
   pub none : width * height ≡ 0 → rows ≡ []
 
+-- the plane of a look-up by column and row, from 0 eastward and from 0 downward; all else is empty
+abbrev pub framed : (ℕ → ℕ → State) → Plane
+framed look (pos x) (pos y) = look x y
+framed look (pos x) (negsuc y) = Empty
+framed look (negsuc x) y = Empty
+
 -- a pattern is the plane with its cells at x from 0 eastward and y from 0 downward; all else is empty
 abbrev pub plane_of : List (List State) → Plane
-plane_of rows (pos x) (pos y) = get_or (get_or rows y []) x Empty
-plane_of rows (pos x) (negsuc y) = Empty
-plane_of rows (negsuc x) y = Empty
+plane_of rows = framed (λ x y. get_or (get_or rows y []) x Empty)
 
 -- is it a cell of the box of so many columns and rows at the origin?
 abbrev pub in_box : ℕ → ℕ → ℤ → ℤ → Bool

@@ -1,11 +1,11 @@
 -- What the rule keeps, and how far a cell sees.
-use Rattle.std.specs.Prelude.{ℤ, pos, ◌+ℤ◌, ◌-ℤ◌, ◌≤ℤ◌, ℕ, ◌≡◌, ◌≢◌, false, List}
+use Rattle.std.specs.Prelude.{ℤ, pos, ◌+ℤ◌, ◌-ℤ◌, ◌≤ℤ◌, ℕ, ◌*◌, ◌<◌, ◌≡◌, ◌≢◌, ◌↔◌, Bool, true, false, List, [], length, get_or}
 use Rattle.ww_rule.specs.declared.pattern.State.{State}
 use Rattle.ww_rule.specs.declared.pattern.State.TheVariants.{Empty}
 use Rattle.ww_rule.specs.declared.pattern.Injection.{Injection}
-use Rattle.ww_rule.specs.Wireworld.{Plane, Due, next_plane, evolve, driven}
+use Rattle.ww_rule.specs.Wireworld.{Plane, Due, next_plane, evolve, driven, undriven}
 use Rattle.ww_rule.specs.Grid.{IsGrid, IsEmptyOutside, in_box, plane_of}
-use Rattle.ww_rule.specs.Injections.{due_of_list}
+use Rattle.ww_rule.specs.Injections.{due_of_list, due_of_streams}
 
 -- the plane moved by a to the east and by b downward
 abbrev pub moved : ℤ → ℤ → Plane → Plane
@@ -40,6 +40,10 @@ KeepsMirrors =
     ((a : ℤ) (p : Plane) → next_plane (mirrored a p) ≡ mirrored a (next_plane p))
     × ((a : ℤ) (n : ℕ) (p : Plane) → evolve n (mirrored a p) ≡ mirrored a (evolve n p))
 
+-- a pattern that is not driven evolves by the rule alone
+abbrev pub IsUndrivenEvolution : Type 0
+IsUndrivenEvolution = (p : Plane) (g : ℕ) → driven undriven p g ≡ evolve g p
+
 -- a cell's next state depends on distance 1 alone, and its state after n generations on distance n
 abbrev pub IsLocal : Type 0
 IsLocal =
@@ -62,3 +66,19 @@ StaysFinite =
     ((rows : List (List State)) → HasFinitelyManyCells (plane_of rows))
     × ((n : ℕ) (p : Plane) → HasFinitelyManyCells p → HasFinitelyManyCells (evolve n p))
     × ((injections : List Injection) (p : Plane) (g : ℕ) → HasFinitelyManyCells p → HasFinitelyManyCells (driven (due_of_list injections) p g))
+
+-- an injection of streams: at generation cycle * period, in a cycle in which the bit of an input is 1, at the input's cell
+pub record IsBitOfStreams (period : ℕ) (cells : List (ℕ × ℕ)) (rows : List (List Bool)) (g : ℕ) (x y : ℤ) : Type 0 where
+  pub cycle : ℕ
+  pub input : ℕ
+  pub in_time : cycle * period ≡ g
+  pub in_cells : input < length cells
+  pub one : get_or (get_or rows cycle []) input false ≡ true
+  pub column : pos (get_or cells input (0, 0)).0 ≡ x
+  pub line : pos (get_or cells input (0, 0)).1 ≡ y
+
+-- streams make due exactly their bits that are 1
+abbrev pub StreamsAreInjected : Type 0
+StreamsAreInjected =
+    (period : ℕ) (cells : List (ℕ × ℕ)) (rows : List (List Bool)) (g : ℕ) (x y : ℤ)
+    → (due_of_streams period cells rows g x y ≡ true) ↔ IsBitOfStreams period cells rows g x y

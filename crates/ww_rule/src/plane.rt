@@ -35,7 +35,8 @@ impl Plane {
         })
     }
 
-    /// The plane with these cells (x, y) made heads, whatever they held. It takes no memory.
+    /// The plane with these cells (x, y) of its box made heads, whatever they held: a pattern's generation 0, when it is
+    /// driven.
     pub fn inject(self, alloc: Global, injections: &[(u64, u64)]) -> Plane
         requires in_box { AreInBox self.width self.height injections.now }
         ensures width { result.width ≡ self.width }

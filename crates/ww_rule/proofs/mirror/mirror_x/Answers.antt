@@ -7,7 +7,7 @@ pub invariant_of-result : goal.invariant_of-result
 invariant_of-result c =
     let e : map reverse c.args.pattern.now.rows ≡ c.in_ok-rows.rows = sym (c.in_ok-rows.ensures ∙ ap (map reverse) c.as_slice.ensures) in
     record {
-      in_rows = subst (IsGrid c.args.pattern.now.width c.args.pattern.now.height) e (reversed_grid c.args.pattern.now.width c.args.pattern.now.height c.args.pattern.now.rows c.args.pattern.now.in_rows)
+      in_rows = subst (IsGrid c.args.pattern.now.width c.args.pattern.now.height) e (reversed_grid c.args.pattern.now.width c.args.pattern.now.height c.args.pattern.now.rows c.args.pattern.now.in_rows);
     }
 
 pub returns-clause-cells : goal.returns-clause-cells

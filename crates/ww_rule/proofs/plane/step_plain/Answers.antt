@@ -24,7 +24,7 @@ loop-y-preserved c =
     record {
       many = omega (arith, sym (ap length items), length-append c.loop-y.rows.items (new ∷ []));
       long = subst (λ rows. (k : ℕ) → k < y + 1 → is_long k (get_or rows k [])) items (pushed is_long c.loop-y.rows.items new [] y c.loop-y.invariant.many c.loop-y.invariant.long here_long);
-      cells = subst (λ rows. (k : ℕ) → k < y + 1 → is_next k (get_or rows k [])) items (pushed is_next c.loop-y.rows.items new [] y c.loop-y.invariant.many c.loop-y.invariant.cells here_next)
+      cells = subst (λ rows. (k : ℕ) → k < y + 1 → is_next k (get_or rows k [])) items (pushed is_next c.loop-y.rows.items new [] y c.loop-y.invariant.many c.loop-y.invariant.cells here_next);
     }
 
 pub invariant_of-result : goal.invariant_of-result
@@ -33,7 +33,7 @@ invariant_of-result c =
     let same : old ≡ c.args.plane.now.rows = c.as_slice-old.ensures in
     let grid : IsGrid c.args.plane.now.width c.args.plane.now.height old = subst (IsGrid c.args.plane.now.width c.args.plane.now.height) (sym same) c.args.plane.now.in_rows in
     record {
-      in_rows = subst (IsGrid c.args.plane.now.width c.args.plane.now.height) (sym c.of.ensures) (same_grid c.args.plane.now.width c.args.plane.now.height old c.loop-y.rows.items grid (omega arith) (λ k h. c.loop-y.invariant.long k (omega arith)))
+      in_rows = subst (IsGrid c.args.plane.now.width c.args.plane.now.height) (sym c.of.ensures) (same_grid c.args.plane.now.width c.args.plane.now.height old c.loop-y.rows.items grid (omega arith) (λ k h. c.loop-y.invariant.long k (omega arith)));
     }
 
 pub returns-clause-cells : goal.returns-clause-cells

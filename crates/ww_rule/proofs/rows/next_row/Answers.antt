@@ -14,5 +14,5 @@ loop-x-preserved c =
     let here : c.next.result ≡ next_plane (plane_of three) (pos c.loop-x.x) (pos 1) = c.next.ensures ∙ ap (next_state _) c.heads_near.ensures.counted in
     record {
       long = omega (arith, sym (ap length items), length-append c.loop-x.next.items (c.next.result ∷ []));
-      cells = subst (λ next. (k : ℕ) → k < c.loop-x.x + 1 → is k (get_or next k Empty)) items (pushed is c.loop-x.next.items c.next.result Empty c.loop-x.x c.loop-x.invariant.long c.loop-x.invariant.cells here)
+      cells = subst (λ next. (k : ℕ) → k < c.loop-x.x + 1 → is k (get_or next k Empty)) items (pushed is c.loop-x.next.items c.next.result Empty c.loop-x.x c.loop-x.invariant.long c.loop-x.invariant.cells here);
     }

@@ -8,5 +8,5 @@ abbrev pub invariant-loop-x : goal.invariant-loop-x
 invariant-loop-x l =
     record {
       long : length l.next.items ≡ l.x;
-      cells : (k : ℕ) → k < l.x → get_or l.next.items k Empty ≡ next_plane (plane_of (l.above ∷ l.row ∷ l.below ∷ [])) (pos k) (pos 1)
+      cells : (k : ℕ) → k < l.x → get_or l.next.items k Empty ≡ next_plane (plane_of (l.above ∷ l.row ∷ l.below ∷ [])) (pos k) (pos 1);
     }

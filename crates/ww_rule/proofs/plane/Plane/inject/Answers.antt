@@ -32,7 +32,7 @@ loop-x-preserved c =
     let back : take c.loop-x.rows.len (c.make_head.new.rows ++ drop (length c.make_head.new.rows) rows) ≡ with_head rows cell.0 cell.1 = take_at c.make_head.new.rows (drop (length c.make_head.new.rows) rows) c.loop-x.rows.len (omega arith) ∙ made in
     record {
       grid = subst (IsGrid c.args.self.width c.args.self.height) (sym back) (with_head_grid c.args.self.width c.args.self.height cell.0 cell.1 rows c.loop-x.invariant.grid iny);
-      cells = ap plane_of back ∙ with_head_shows cell.0 cell.1 rows iny inx ∙ ap (injected (is_among (cell ∷ []))) c.loop-x.invariant.cells ∙ injected_more cells i (0, 0) (plane_of c.args.self.rows) c.loop-x-test.true
+      cells = ap plane_of back ∙ with_head_shows cell.0 cell.1 rows iny inx ∙ ap (injected (is_among (cell ∷ []))) c.loop-x.invariant.cells ∙ injected_more cells i (0, 0) (plane_of c.args.self.rows) c.loop-x-test.true;
     }
 
 pub returns-clause-cells : goal.returns-clause-cells

@@ -8,5 +8,5 @@ abbrev pub invariant-loop-x : goal.invariant-loop-x
 invariant-loop-x l =
     record {
       grid : IsGrid l.width l.height l.rows.items;
-      cells : plane_of l.rows.items ≡ injected (is_among (take l.x-index l.injections)) (plane_of l.fn.self.rows)
+      cells : plane_of l.rows.items ≡ injected (is_among (take l.x-index l.injections)) (plane_of l.fn.self.rows);
     }
