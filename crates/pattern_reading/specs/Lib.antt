@@ -5,3 +5,5 @@ pub mod Items
 pub mod Pattern
 pub mod PortLines
 pub mod PortTable
+pub mod Examples
+pub mod Laws

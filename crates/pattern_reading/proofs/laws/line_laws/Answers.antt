@@ -1,0 +1,8 @@
+use Rattle.pattern_reading.proofs.LineLaws.{all_in_lines, numbered_lines}
+use Rattle.pattern_reading.proofs.laws.line_laws.Goals as goal
+
+pub returns-clause-joined : goal.returns-clause-joined
+returns-clause-joined c = all_in_lines
+
+pub returns-clause-numbered : goal.returns-clause-numbered
+returns-clause-numbered c = numbered_lines
