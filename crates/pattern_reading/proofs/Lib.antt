@@ -5,3 +5,5 @@ pub mod PortExamples
 pub mod RleLaws
 pub mod PortLaws
 pub mod LineLaws
+pub mod LineText
+pub mod PortText

@@ -1,6 +1,6 @@
 -- Laws of the readings: a text says one thing.
-use Rattle.std.specs.Prelude.{◌≡◌, ◌⊎◌, ℕ, if◌then◌else◌, List, [], ◌∷◌, ◌++◌, map, length, flat_map}
-use Rattle.std.specs.List.{range_with_len}
+use Rattle.std.specs.Prelude.{◌≡◌, ◌≢◌, ◌⊎◌, ℕ, ◌+◌, Bool, true, if◌then◌else◌, List, [], ◌∷◌, ◌++◌, map, length, flat_map}
+use Rattle.std.specs.List.{All, range_with_len}
 use Rattle.std.specs.Str.Lines.{lines}
 use Rattle.ww_rule.specs.Grid.{Grid}
 use Rattle.pattern_reading.specs.declared.faults.RleFaultKind.{RleFaultKind}
@@ -57,3 +57,18 @@ HasNumberedLines text = map (λ line. line.number) (lines_of text) ≡ range_wit
 -- The lines are those that `lines` of Rust gives.
 abbrev pub HasLinesOfRust : List ℕ → Type 0
 HasLinesOfRust text = map (λ line. line.bytes) (lines_of text) ≡ lines text
+
+-- bytes that can stand in a line, and a name that can stand in a line of the table
+abbrev pub IsLineText : List ℕ → Type 0
+IsLineText bytes = All (λ b. (b ≢ 10) × (b ≢ 13)) bytes
+
+abbrev pub IsPortName : List ℕ → Type 0
+IsPortName name = (name ≢ []) × All (λ b. (b ≢ 10) × (b ≢ 13) × (b ≢ 32)) name
+
+-- a line whose number is greater by n
+abbrev pub later_by : ℕ → Line → Line
+later_by n line = record line { number = n + line.number }
+
+-- A line before a text is its first line, and the others are the text's.
+abbrev pub HasFirstLine : List ℕ → List ℕ → Type 0
+HasFirstLine bytes rest = lines_of (bytes ++ 10 ∷ rest) ≡ record { number = 1; bytes = bytes; is_ended = true } ∷ map (later_by 1) (lines_of rest)
