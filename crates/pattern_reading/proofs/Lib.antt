@@ -7,3 +7,4 @@ pub mod PortLaws
 pub mod LineLaws
 pub mod LineText
 pub mod PortText
+pub mod Later
