@@ -1,10 +1,9 @@
 -- A text whose lines have greater numbers says the same, of later lines.
-use Rattle.std.proofs.Common.{ℕ, zero, suc, ◌+◌, ◌<◌, ◌≤◌, ◌≡◌, refl, sym, ap, ◌∙◌, Bool, true, false, not, ◌||◌, cond, List, [], ◌∷◌, ◌++◌, map, length, take, drop, get_or, arith}
-use Rattle.std.specs.Prelude.{if◌then◌else◌, Option, Some, None, option_map, find, take_while, filter_map, flat_map, slice_get, unwrap_or, codes}
+use Rattle.std.proofs.Common.{ℕ, suc, ◌+◌, ◌≡◌, refl, sym, ap, ◌∙◌, Bool, true, false, not, cond, List, [], ◌∷◌, map, drop, arith}
+use Rattle.std.specs.Prelude.{if◌then◌else◌, Option, Some, None, option_map, find, take_while, filter_map, slice_get, unwrap_or}
 use Rattle.std.specs.List.{prefix_len, after_first, list_any, cons_option}
 use Rattle.std.proofs.lemmas.List.{drop-map, take-map, map-append}
 use Rattle.std.proofs.lemmas.Simd.{map-map}
-use Rattle.ww_rule.specs.declared.pattern.State.{State}
 use Rattle.ww_rule.specs.declared.pattern.State.TheVariants.{Empty}
 use Rattle.ww_rule.specs.Grid.{Grid}
 use Rattle.pattern_reading.specs.declared.faults.RleFaultKind.{RleFaultKind}

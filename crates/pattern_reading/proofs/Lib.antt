@@ -8,3 +8,4 @@ pub mod LineLaws
 pub mod LineText
 pub mod PortText
 pub mod Later
+pub mod Spelled

@@ -1,10 +1,9 @@
 -- A line that stands before a text.
-use Rattle.std.proofs.Common.{ℕ, zero, suc, ◌+◌, ◌<◌, ◌≤◌, ◌≡◌, ◌≢◌, inl, inr, ◌⊎◌, refl, sym, ap, ◌∙◌, Bool, true, false, ◌&&◌, ◌==◌, List, [], ◌∷◌, ◌++◌, map, length, arith}
+use Rattle.std.proofs.Common.{ℕ, ◌+◌, ◌≡◌, ◌≢◌, inl, inr, ◌⊎◌, refl, ap, ◌∙◌, Bool, true, false, ◌==◌, List, [], ◌∷◌, ◌++◌, map, arith}
 use Rattle.std.specs.Prelude.{if◌then◌else◌}
-use Rattle.std.specs.List.{All}
 use Rattle.std.proofs.lemmas.Bool.Decides.{eqb_tells}
 use Rattle.std.proofs.lemmas.List.Elements.{All-head, All-tail}
-use Rattle.pattern_reading.specs.Lines.{Line, begins_with, lines_from, lines_of, onto_first_line, with_line_feeds}
+use Rattle.pattern_reading.specs.Lines.{Line, lines_from, onto_first_line, with_line_feeds}
 use Rattle.pattern_reading.specs.Laws.{IsLineText, HasFirstLine, later_by}
 
 pub not_equal : (a b : ℕ) → a ≢ b → (a == b) ≡ false

@@ -1,5 +1,5 @@
 -- Laws of the readings: a text says one thing.
-use Rattle.std.specs.Prelude.{◌≡◌, ◌≢◌, ◌⊎◌, ℕ, ◌+◌, Bool, true, if◌then◌else◌, List, [], ◌∷◌, ◌++◌, map, length, flat_map}
+use Rattle.std.specs.Prelude.{◌≡◌, ◌≢◌, ◌⊎◌, ℕ, ◌+◌, true, if◌then◌else◌, List, [], ◌∷◌, ◌++◌, map, length, flat_map}
 use Rattle.std.specs.List.{All, range_with_len}
 use Rattle.std.specs.Str.Lines.{lines}
 use Rattle.ww_rule.specs.Grid.{Grid}
@@ -58,12 +58,9 @@ HasNumberedLines text = map (λ line. line.number) (lines_of text) ≡ range_wit
 abbrev pub HasLinesOfRust : List ℕ → Type 0
 HasLinesOfRust text = map (λ line. line.bytes) (lines_of text) ≡ lines text
 
--- bytes that can stand in a line, and a name that can stand in a line of the table
+-- bytes that can stand in a line
 abbrev pub IsLineText : List ℕ → Type 0
 IsLineText bytes = All (λ b. (b ≢ 10) × (b ≢ 13)) bytes
-
-abbrev pub IsPortName : List ℕ → Type 0
-IsPortName name = (name ≢ []) × All (λ b. (b ≢ 10) × (b ≢ 13) × (b ≢ 32)) name
 
 -- a line whose number is greater by n
 abbrev pub later_by : ℕ → Line → Line

@@ -7,3 +7,4 @@ pub mod PortLines
 pub mod PortTable
 pub mod Examples
 pub mod Laws
+pub mod Spelling

@@ -1,4 +1,5 @@
 use Rattle.pattern_reading.proofs.LineLaws.{all_in_lines, numbered_lines}
+use Rattle.pattern_reading.proofs.LineText.{first_line}
 use Rattle.pattern_reading.proofs.laws.line_laws.Goals as goal
 
 pub returns-clause-joined : goal.returns-clause-joined
@@ -6,3 +7,6 @@ returns-clause-joined c = all_in_lines
 
 pub returns-clause-numbered : goal.returns-clause-numbered
 returns-clause-numbered c = numbered_lines
+
+pub returns-clause-first : goal.returns-clause-first
+returns-clause-first c = first_line
