@@ -9,3 +9,4 @@ pub mod LineText
 pub mod PortText
 pub mod Later
 pub mod Spelled
+pub mod NamedGate

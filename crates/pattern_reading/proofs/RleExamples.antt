@@ -4,7 +4,7 @@ use Rattle.std.specs.Prelude.{Some, None}
 use Rattle.std.specs.List.{AllByRecursion}
 use Rattle.ww_rule.specs.Grid.{Grid}
 use Rattle.pattern_reading.specs.Pattern.{HasRleFault, ReadsAsPattern, RleFaultAt}
-use Rattle.pattern_reading.specs.Examples.{PatternExample, RleFaultExample, ReadsAsSaid, HasSaidFault, or_examples, header_examples, header_fault_examples, item_examples, item_fault_examples, end_fault_examples}
+use Rattle.pattern_reading.specs.Examples.{PatternExample, RleFaultExample, ReadsAsSaid, HasSaidFault, or_examples, header_examples, header_fault_examples, item_examples, item_fault_examples, end_fault_examples, or_grid, or_pattern_lines}
 use Rattle.pattern_reading.proofs.RleVerdict.{IsJudged, rle_verdict, rle_judged, grid_of}
 
 verdict_fault : (text : List ℕ) (fault : RleFaultAt) → rle_verdict text ≡ Some fault → HasRleFault text fault.kind fault.line
@@ -46,3 +46,6 @@ items_as_said = patterns_as_said item_examples (search rules)
 
 pub or_gate_as_said : AllByRecursion ReadsAsSaid or_examples
 or_gate_as_said = patterns_as_said or_examples (refl, refl, (refl, refl, tt))
+
+pub or_pattern_reads : ReadsAsPattern or_pattern_lines or_grid
+or_pattern_reads = verdict_pattern or_pattern_lines or_grid refl refl

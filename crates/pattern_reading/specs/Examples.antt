@@ -104,6 +104,9 @@ or_rows =
     ∷ (codes ".................................")
     ∷ []
 
+abbrev pub or_grid : Grid
+or_grid = record { width = 33; height = 32; rows = drawn or_rows }
+
 abbrev pub or_port_lines : List ℕ
 or_port_lines = codes "#C BLIFWW 1 P 32 L 32\n#C BLIFWW IN 0 8 a\n#C BLIFWW IN 0 24 b\n#C BLIFWW OUT 32 8 y\n"
 

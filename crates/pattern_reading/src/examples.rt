@@ -1,6 +1,8 @@
 // Texts whose reading is known, and texts that are at fault: the definitions say of each what they should.
 
+ghost use Rattle.std.specs.Prelude.{List, ℕ};
 ghost use Rattle.std.specs.List.{AllByRecursion};
+ghost use Rattle.pattern_reading.specs.Spelling.{IsPortName, HasNamedGate};
 ghost use Rattle.pattern_reading.specs.Examples.{ReadsAsSaid, HasSaidFault, ReadsAsSaidPorts, HasSaidPortFault};
 ghost use Rattle.pattern_reading.specs.Examples.{or_examples, header_examples, item_examples};
 ghost use Rattle.pattern_reading.specs.Examples.{header_fault_examples, item_fault_examples, end_fault_examples};
@@ -12,6 +14,12 @@ pub fn or_gate_reads()
     ensures pattern { AllByRecursion ReadsAsSaid or_examples }
     ensures ports { AllByRecursion ReadsAsSaidPorts or_ports_examples }
 {}
+
+/// The same of a gate with any names.
+pub fn named_gate_reads()
+    ensures { (a b y : List ℕ) → IsPortName a → IsPortName b → IsPortName y → HasNamedGate a b y }
+{
+}
 
 /// Patterns by texts of extended RLE, in the forms that a header and items may have.
 pub fn patterns_read()
