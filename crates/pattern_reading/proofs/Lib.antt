@@ -10,3 +10,4 @@ pub mod PortText
 pub mod Later
 pub mod Spelled
 pub mod NamedGate
+pub mod RustLines

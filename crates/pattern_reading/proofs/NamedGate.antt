@@ -23,6 +23,7 @@ gate_sound : (a b y : List ℕ) → a ≢ b → IsSoundAfter 33 32 [] (named_or_
 gate_sound a b y h = (refl, (refl, (rw (other_name a b h) refl, (refl, tt))))
 
 pub named_gate : (a b y : List ℕ) → IsPortName a → IsPortName b → IsPortName y → HasNamedGate a b y
-named_gate a b y ha hb hy =
-    (same_pattern (named_or_forms a b y) or_pattern_lines _ (gate_spellable a b y ha hb hy) or_pattern_reads,
-    λ h. spelled_ports (named_or_forms a b y) or_pattern_lines 33 32 (gate_spellable a b y ha hb hy) (gate_sound a b y h) refl)
+named_gate a b y ha hb hy = (
+  same_pattern (named_or_forms a b y) or_pattern_lines _ (gate_spellable a b y ha hb hy) or_pattern_reads,
+  λ h. spelled_ports (named_or_forms a b y) or_pattern_lines 33 32 (gate_spellable a b y ha hb hy) (gate_sound a b y h) refl,
+)

@@ -1,7 +1,7 @@
 -- The header of a text of extended RLE, by Golly's description: `x = 3, y = 1, rule = WireWorld`.
 use Rattle.std.specs.Prelude.{ℕ, Bool, false, ◌||◌, not, if◌then◌else◌, List, Option, Some, None, codes, find, take_while}
 use Rattle.std.specs.List.{list_all, after_first}
-use Rattle.std.specs.Str.{str_eq_ignore_ascii_case}
+use Rattle.std.specs.Str.{byte, str_eq_ignore_ascii_case}
 use Rattle.pattern_reading.specs.Lines.{Line, begins_with, lines_of}
 use Rattle.pattern_reading.specs.Numbers.{◌>>=◌, is_blank, after_word, number_at_front, if_some_bytes, without_blanks_around}
 
@@ -42,9 +42,9 @@ abbrev pub is_wireworld : Option (List ℕ) → Bool
 is_wireworld None = false
 is_wireworld (Some name) = str_eq_ignore_ascii_case name (codes "WireWorld")
 
--- whether a line begins with `#`, which makes it a comment
+-- whether a line is a comment: it begins with `#`
 abbrev pub is_comment : Line → Bool
-is_comment line = begins_with 35 line.bytes
+is_comment line = begins_with (byte "#") line.bytes
 
 -- whether a line before the header is skipped: comments are, and lines of blanks
 abbrev pub is_skipped : Line → Bool
@@ -54,7 +54,7 @@ is_skipped line = is_comment line || list_all is_blank line.bytes
 abbrev pub header_line : List ℕ → Option Line
 header_line text = find (λ line. not (is_skipped line)) (lines_of text)
 
--- the lines before the header, or all where there is none, and the lines after it
+-- the lines before the header, which are all where there is none, and the lines after it
 abbrev pub lines_before_header : List ℕ → List Line
 lines_before_header text = take_while is_skipped (lines_of text)
 

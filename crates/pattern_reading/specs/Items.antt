@@ -25,6 +25,7 @@ pieces_of (b ∷ bs) =
     let of_rest = pieces_of bs in
     if is_ascii_digit b then onto_first_piece b of_rest else record { digits = []; tag = Some b } ∷ of_rest
 
+-- what a piece of a line stands for
 pub data Item : Type 0 where
   -- so many cells of one state
   Cells : ℕ → State → Item
@@ -36,7 +37,7 @@ pub data Item : Type 0 where
   Blank : Item
   -- digits that the end of the text cuts off
   CutOff : Item
-  -- what is no item
+  -- anything else, which is no item
   NoItem : Item
 
 -- what a tag with a count stands for: `.` and `b` are empty cells, `A` and `o` heads, `B` tails, `C` conductors, and `$` ends a row
@@ -59,7 +60,7 @@ item_with_count (Some (suc n)) tag = counted_item (suc n) tag
 abbrev pub item_without_count : ℕ → Item
 item_without_count tag = if tag == byte "!" then End else if is_blank tag then Blank else counted_item 1 tag
 
--- what a piece of a line stands for; digits at the line's end are cut off where the line has no end, since the text ends there
+-- digits at a line's end are cut off where the line has no end, since the text ends there
 abbrev pub item_in : Bool → List ℕ → Option ℕ → Item
 item_in is_ended digits None = if is_ended then NoItem else CutOff
 item_in is_ended [] (Some tag) = item_without_count tag

@@ -21,7 +21,7 @@ rle_fault_number CellOutside = 5
 rle_fault_number NoEnd = 6
 rle_fault_number GridTooLarge = 7
 
--- The text has a header without fault, with these numbers.
+-- The text has a header without fault, and these are its numbers.
 pub record HasBox (text : List ℕ) (width height : ℕ) : Type 0 where
   pub line : Line
   pub first : header_line text ≡ Some line
@@ -43,7 +43,7 @@ has_end text = list_any (λ i. is_end i.item) (items_after_header text)
 abbrev pub placed_items : List ℕ → List Placed
 placed_items text = placed_after [] (take_while (λ i. not (is_end i.item)) (items_after_header text))
 
--- Where a run of cells lies in the box. Empty cells may pass it, and so may row ends.
+-- what is at fault in a run of cells: heads, tails and conductors lie in the box, and empty cells may pass it
 abbrev pub run_fault : ℕ → ℕ → Placed → ℕ → State → Option RleFaultKind
 run_fault width height p n Empty = None
 run_fault width height p n _ = if nat_le (p.x + n) width && nat_lt p.y height then None else Some CellOutside
@@ -84,8 +84,8 @@ pub record ReadsAsPattern (text : List ℕ) (grid : Grid) : Type 0 where
   pub in_rows : IsGrid grid.width grid.height grid.rows
   pub cells : (x y : ℕ) → x < grid.width → y < grid.height → get_or (get_or grid.rows y []) x Empty ≡ state_at (placed_items text) x y
 
--- The text has this fault at its earliest place, with this line. What is at fault in the header comes first, and then the items, in
--- the text's order. That a box is too large is no fault of the text, but a reader's limit.
+-- This fault comes first in the text, and it is on this line. What is at fault in the header comes first, and then the items, in the
+-- text's order. That a box is too large is no fault of the text, but a reader's limit.
 abbrev pub HasRleFault : List ℕ → RleFaultKind → ℕ → Type 0
 -- there is no line to be the header, or it does not begin with `x`, blanks before it aside
 HasRleFault text NoHeader line =
@@ -97,11 +97,12 @@ HasRleFault text BadHeader line =
 -- it names no rule, or another
 HasRleFault text OtherRule line =
     (header : Line) × (header_line text ≡ Some header) × (parts : Header) × (header_in header.bytes ≡ Some parts) × (is_wireworld parts.rule ≡ false) × (line ≡ header.number)
+-- of the items that are at fault the first is no item, or has cells outside the box
 HasRleFault text BadItem line =
     (width height : ℕ) × HasBox text width height × (slice_get (item_faults text width height) 0 ≡ Some (record { kind = BadItem; line = line }))
 HasRleFault text CellOutside line =
     (width height : ℕ) × HasBox text width height × (slice_get (item_faults text width height) 0 ≡ Some (record { kind = CellOutside; line = line }))
--- no item is at fault, and no `!` is there
+-- no item is at fault, and there is no `!`
 HasRleFault text NoEnd line =
     (width height : ℕ) × HasBox text width height × (item_faults text width height ≡ []) × (has_end text ≡ false) × (line ≡ last_line text)
 HasRleFault text GridTooLarge line = ⊥

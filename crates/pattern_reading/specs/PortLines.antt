@@ -1,4 +1,5 @@
--- The lines of a port table.
+-- The lines of a port table. It stands in comments before the header, in a form of this program's own, so that other readers of
+-- extended RLE pass over it.
 use Rattle.std.specs.Prelude.{ℕ, Bool, ◌&&◌, ◌||◌, not, ◌==◌, if◌then◌else◌, List, [], ◌∷◌, length, slice_index, Option, Some, None, codes, is_some, filter_map}
 use Rattle.std.specs.List.{list_all, slice_split}
 use Rattle.std.specs.Str.{bytes_eq, byte}
@@ -28,6 +29,7 @@ abbrev pub path_in : List ℕ → Option (List ℕ)
 path_in field =
     if bytes_eq field (codes "-") || list_all is_path_number (slice_split (λ b. b == byte ".") field) then Some field else None
 
+-- the period is not 0
 abbrev pub version_in : List ℕ → List ℕ → List ℕ → List ℕ → List ℕ → Option PortForm
 version_in version p_word p l_word l =
     if bytes_eq version (codes "1") && bytes_eq p_word (codes "P") && bytes_eq l_word (codes "L")

@@ -102,8 +102,8 @@ ports_of forms = record {
 abbrev pub forms_of : List ℕ → List PortForm
 forms_of text = filter_map (λ line. line.form) (table_of text)
 
--- The text, whose header has a box of this width and height, reads as a port table: no line of its table is at fault, and the lines
--- make that table. A text without such lines has the empty table of period 32 and latency 0.
+-- The text reads as a port table in a box of this width and height, which is the header's where there is one: no line of its table is
+-- at fault, and its lines make that table. A text without such lines has the empty table of period 32 and latency 0.
 pub record ReadsAsPorts (text : List ℕ) (width height : ℕ) (ports : Ports) : Type 0 where
   pub no_fault : port_faults text width height ≡ []
   pub ports_is : ports ≡ ports_of (forms_of text)

@@ -18,8 +18,7 @@ pub fn or_gate_reads()
 /// The same of a gate with any names.
 pub fn named_gate_reads()
     ensures { (a b y : List ℕ) → IsPortName a → IsPortName b → IsPortName y → HasNamedGate a b y }
-{
-}
+{}
 
 /// Patterns by texts of extended RLE, in the forms that a header and items may have.
 pub fn patterns_read()

@@ -3,7 +3,7 @@
 ghost use Rattle.std.specs.Prelude.{List, ℕ};
 ghost use Rattle.pattern_reading.specs.Laws.{HasOnePattern, HasOneRleFault, HasNoFaultIfRead, HasPatternOrFault};
 ghost use Rattle.pattern_reading.specs.Laws.{HasOneTable, HasOnePortFault, HasNoPortFaultIfRead, HasTableOrFault};
-ghost use Rattle.pattern_reading.specs.Laws.{HasAllInLines, HasNumberedLines, IsLineText, HasFirstLine};
+ghost use Rattle.pattern_reading.specs.Laws.{HasAllInLines, HasNumberedLines, HasLinesOfRust, IsLineText, HasFirstLine};
 ghost use Rattle.pattern_reading.specs.PortLines.{PortForm};
 ghost use Rattle.pattern_reading.specs.Spelling.{HasSpelledPorts, HasSamePattern};
 
@@ -23,10 +23,12 @@ pub fn port_laws()
     ensures total { (text : List ℕ) (width height : ℕ) → HasTableOrFault text width height }
 {}
 
-/// The lines of a text are numbered from 1 on, all of the text is in them, and a line before a text is its first line.
+/// The lines of a text are numbered from 1 on, all of the text is in them, they are those of Rust's `lines`, and a line before a
+/// text is its first line.
 pub fn line_laws()
     ensures joined { (text : List ℕ) → HasAllInLines text }
     ensures numbered { (text : List ℕ) → HasNumberedLines text }
+    ensures of_rust { (text : List ℕ) → HasLinesOfRust text }
     ensures first { (bytes rest : List ℕ) → IsLineText bytes → HasFirstLine bytes rest }
 {}
 
