@@ -5,3 +5,6 @@ pub mod Weight
 pub mod CoverValue
 pub mod Valuation
 pub mod Loop
+pub mod Laws
+pub mod Instances
+pub mod Designs

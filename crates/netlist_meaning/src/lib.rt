@@ -4,6 +4,9 @@
 ghost use Rattle.std.specs.Prelude.{◌≡◌};
 ghost use Rattle.netlist_meaning.specs.CoverValue.{fits, product_holds, any_holds, cover_value};
 
+pub mod instances;
+pub mod laws;
+
 use lists::Bytes;
 use netlist_core::Cover;
 

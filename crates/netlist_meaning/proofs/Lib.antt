@@ -1,0 +1,4 @@
+pub mod Joined
+pub mod Names
+pub mod Flat
+pub mod OneCover

@@ -1,0 +1,20 @@
+//! What the definitions say of single designs. The functions do nothing: each has what is proved as its contract.
+
+ghost use Rattle.std.specs.Prelude.{◌||◌};
+ghost use Rattle.netlist_meaning.specs.Designs.{or_design};
+ghost use Rattle.netlist_meaning.specs.Instances.{Computes, OneCoverComputes, OneCoverComputesOr};
+
+/// A model of one cover of two inputs has a run on all rows of two bits, and in every run its output is the cover's value.
+pub fn one_cover_computes_its_value()
+    ensures { OneCoverComputes }
+{}
+
+/// With the rows of an OR its output is `a` or `b`.
+pub fn one_cover_computes_or()
+    ensures { OneCoverComputesOr }
+{}
+
+/// The OR of the inputs a and b, as its text has it.
+pub fn or_text_computes_or()
+    ensures { Computes or_design (λ p q. p || q) }
+{}
