@@ -2,7 +2,7 @@
 
 ghost use Rattle.std.specs.Prelude.{◌||◌};
 ghost use Rattle.netlist_meaning.specs.Designs.{or_design};
-ghost use Rattle.netlist_meaning.specs.Instances.{Computes, OneCoverComputes, OneCoverComputesOr};
+ghost use Rattle.netlist_meaning.specs.Instances.{Computes, OneCoverComputes, OneCoverComputesOr, LatchToggles, LatchBreaksLoop, CoverReadsItself, TowerWeighs, HasWeights};
 
 /// A model of one cover of two inputs has a run on all rows of two bits, and in every run its output is the cover's value.
 pub fn one_cover_computes_its_value()
@@ -18,3 +18,33 @@ pub fn one_cover_computes_or()
 pub fn or_text_computes_or()
     ensures { Computes or_design (λ p q. p || q) }
 {}
+
+/// A latch with init 0 that takes the inverse of its output gives 0 and 1 in turn, in a run that is there.
+pub fn latch_toggles()
+    ensures { LatchToggles }
+{
+}
+
+/// A circle of covers through a latch is no combinational loop.
+pub fn latch_breaks_loop()
+    ensures { LatchBreaksLoop }
+{
+}
+
+/// A cover that reads its own output is a combinational loop of one net.
+pub fn cover_reads_itself()
+    ensures { CoverReadsItself }
+{
+}
+
+/// A tower of models, each of which places the next one twice, has a weight that doubles with each.
+pub fn tower_weighs()
+    ensures { TowerWeighs }
+{
+}
+
+/// The weights of a two-bit adder, of a constant beside 1022 and 1023 inputs, and of a tower of 41 models.
+pub fn weights()
+    ensures { HasWeights }
+{
+}
