@@ -5,3 +5,5 @@ pub mod OneCover
 pub mod Toggle
 pub mod Loops
 pub mod Weights
+pub mod Places
+pub mod ClockInstances

@@ -70,19 +70,24 @@ solves n q apart cycle row empty =
     nothing : (row : List Bool) → length row ≡ 0 → [] ≡ row
     nothing [] e = refl
     nothing (bit ∷ row) e = absurd (omega arith)
+
     the_one : (place : Place) → run_of q cycle place n ≡ cover_value (codes "0" ∷ []) true (run_of q cycle place q ∷ [])
     the_one place =
         bits_at_n n q (is_odd cycle) place apart
         ∙ ap not (sym (bits_at_q q (is_odd cycle) place))
         ∙ sym (inverts (bits_of q (is_odd cycle) place q))
+
     holds : (place : Place) (model : Model) (cover : Cover) → model ≡ toggle_main n q → Contains model.covers cover → run_of q cycle place cover.out ≡ cover_value cover.rows cover.on (map (run_of q cycle place) cover.ins)
     holds place model cover is_main has_cover =
         let is_cover : cover ≡ cover_of 4 (q ∷ []) n (codes "0" ∷ []) = contains-one model.covers (cover_of 4 (q ∷ []) n (codes "0" ∷ [])) cover (ap (λ m. m.covers) is_main) has_cover in
         subst (λ c. run_of q cycle place c.out ≡ cover_value c.rows c.on (map (run_of q cycle place) c.ins)) (sym is_cover) (the_one place)
+
     state : LatchState
     state = state_in (toggle_design n q) (start_state (toggle_design n q)) (run_of q) cycle
+
     at_q : run_of q cycle [] q ≡ state [] 0
     at_q = bits_at_q q (is_odd cycle) [] ∙ sym (state_is n q apart cycle)
+
     latched : (place : Place) (number : ℕ) (latch : LatchRow) → (place ≡ []) × (number ≡ 0) × (latch ≡ latch_of 3 n q 0) → run_of q cycle place latch.output ≡ state place number
     latched place number latch (is_top, is_first, is_it) =
         subst (λ p. run_of q cycle p latch.output ≡ state p number) (sym is_top)
@@ -95,10 +100,13 @@ alternates n q rows run is_run = go
   where
     valued : (cycle : ℕ) → cycle < length rows → IsValuation (toggle_design n q) (get_or rows cycle []) (state_in (toggle_design n q) (start_state (toggle_design n q)) run cycle) (run cycle)
     valued cycle lt = is_run cycle (get_or rows cycle []) (slice_get-get_or rows cycle [] lt)
+
     at_q : (cycle : ℕ) → cycle < length rows → run cycle [] q ≡ state_in (toggle_design n q) (start_state (toggle_design n q)) run cycle [] 0
     at_q cycle lt = (valued cycle lt).latches_hold [] 0 (latch_of 3 n q 0) refl
+
     at_n : (cycle : ℕ) → cycle < length rows → run cycle [] n ≡ not (run cycle [] q)
     at_n cycle lt = (valued cycle lt).covers_hold [] (toggle_main n q) (cover_of 4 (q ∷ []) n (codes "0" ∷ [])) refl (0, omega arith, refl) ∙ inverts (run cycle [] q)
+
     go : (cycle : ℕ) → cycle < length rows → run cycle [] q ≡ is_odd cycle
     go zero lt = at_q zero lt
     go (suc cycle) lt = at_q (suc cycle) lt ∙ at_n cycle (omega arith) ∙ ap not (go cycle (omega arith))
@@ -120,9 +128,10 @@ step_is n q read written h =
     let (is_top, is_main) = model_at-flat (toggle_design n q) (toggle_main n q) (flat n q) h.place h.model h.has_model in
     let is_cover : h.cover ≡ cover_of 4 (q ∷ []) n (codes "0" ∷ []) = contains-one h.model.covers (cover_of 4 (q ∷ []) n (codes "0" ∷ [])) h.cover (ap (λ m. m.covers) is_main) h.has_cover in
     let is_input : h.input ≡ q = contains-one h.cover.ins q h.input (ap (λ c. c.ins) is_cover) h.has_input in
-    let is_output : h.cover.out ≡ n = ap (λ c. c.out) is_cover in
-    (joined-flat (toggle_design n q) (toggle_main n q) (flat n q) h.reads ∙ ap (λ p. net_at p h.input) is_top ∙ ap (net_at []) is_input,
-     sym (joined-flat (toggle_design n q) (toggle_main n q) (flat n q) h.writes) ∙ ap (λ p. net_at p h.cover.out) is_top ∙ ap (net_at []) is_output)
+    let is_output : h.cover.out ≡ n = ap (λ c. c.out) is_cover in (
+      joined-flat (toggle_design n q) (toggle_main n q) (flat n q) h.reads ∙ ap (λ p. net_at p h.input) is_top ∙ ap (net_at []) is_input,
+      sym (joined-flat (toggle_design n q) (toggle_main n q) (flat n q) h.writes) ∙ ap (λ p. net_at p h.cover.out) is_top ∙ ap (net_at []) is_output,
+    )
 
 ends_are : (n q : Name) (start : Net) (nets : List Net) (end : Net) → FeedsThrough (toggle_design n q) start nets end → (start ≡ net_at [] q) × (end ≡ net_at [] n)
 ends_are n q start [] end h = step_is n q start end h

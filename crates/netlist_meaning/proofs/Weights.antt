@@ -33,13 +33,16 @@ storeys-find line k n le small = go line n le small
   where
     test : Model → Bool
     test model = bytes_eq model.name (storey_name k)
+
     here : (line : ℕ) (models : List Model) (j : ℕ) → j ≡ k → find test (storey line j ∷ models) ≡ Some (storey line k)
     here line models j same =
         ap (λ t. cond t (Some (storey line j)) (find test models)) (ap (λ name. bytes_eq name (storey_name k)) (storey-name line j ∙ ap storey_name same) ∙ bytes_eq-same (storey_name k))
         ∙ ap (λ i. Some (storey line i)) same
+
     past : (line : ℕ) (models : List Model) (j : ℕ) → j ≢ k → j < 2 ^ 64 → k < 2 ^ 64 → find test (storey line j ∷ models) ≡ find test models
     past line models j apart small small' =
         ap (λ t. cond t (Some (storey line j)) (find test models)) (ap (λ name. bytes_eq name (storey_name k)) (storey-name line j) ∙ bytes_eq-other (storey_name j) (storey_name k) (storey_name-apart j k small small' apart))
+
     go : (line n : ℕ) → k ≤ n → n < 2 ^ 64 → (at : ℕ) × (find test (storeys line n) ≡ Some (storey at k))
     go line zero le small = let same : 0 ≡ k = omega arith in (line, here line [] 0 same)
     go line (suc n) le small =

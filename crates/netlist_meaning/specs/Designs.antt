@@ -1,5 +1,5 @@
 -- Single designs, each with its text in a comment, where a slash stands for a line end.
-use Rattle.std.specs.Prelude.{ℕ, zero, suc, ◌+◌, ◌++◌, List, [], ◌∷◌, true, None, codes, decimal, map}
+use Rattle.std.specs.Prelude.{ℕ, zero, suc, ◌+◌, ◌++◌, List, [], ◌∷◌, true, Some, None, codes, decimal, map}
 use Rattle.netlist_core.specs.declared.model.Design.{Design}
 use Rattle.netlist_core.specs.declared.model.Model.{Model}
 use Rattle.netlist_core.specs.declared.model.Cover.{Cover}
@@ -7,6 +7,7 @@ use Rattle.netlist_core.specs.declared.model.Port.{Port}
 use Rattle.netlist_core.specs.declared.model.Pin.{Pin}
 use Rattle.netlist_core.specs.declared.model.Subckt.{Subckt}
 use Rattle.netlist_core.specs.declared.model.LatchRow.{LatchRow}
+use Rattle.netlist_core.specs.declared.model.Trigger.TheVariants.{Rise}
 use Rattle.netlist_meaning.specs.Places.{Name}
 
 -- ports of one line, by their names
@@ -178,3 +179,57 @@ storeys line (suc n) = storey line (suc n) ∷ storeys (line + 4) n
 
 abbrev pub tower_design : ℕ → Design
 tower_design n = design_of (storeys 1 n)
+
+-- .model m / .inputs d \ / clk # two / .outputs q / .latch d q re clk 2 / .end
+abbrev pub clocked_main : Model
+clocked_main =
+    record {
+      line = 1;
+      name = codes "m";
+      ins = ports_of 2 (codes "d" ∷ codes "clk" ∷ []);
+      outs = ports_of 4 (codes "q" ∷ []);
+      clocks = [];
+      covers = [];
+      latches = record { line = 5; input = codes "d"; output = codes "q"; kind = Some Rise; control = Some (codes "clk"); init = 2 } ∷ [];
+      subckts = [];
+    }
+
+abbrev pub clocked_design : Design
+clocked_design = design_of (clocked_main ∷ [])
+
+-- .model m / .inputs d clk / .outputs q y / .latch d q re clk 2 / .names clk y / 1 1
+abbrev pub read_clock_main : Model
+read_clock_main =
+    record {
+      line = 1;
+      name = codes "m";
+      ins = ports_of 2 (codes "d" ∷ codes "clk" ∷ []);
+      outs = ports_of 3 (codes "q" ∷ codes "y" ∷ []);
+      clocks = [];
+      covers = cover_of 5 (codes "clk" ∷ []) (codes "y") (codes "1" ∷ []) ∷ [];
+      latches = record { line = 4; input = codes "d"; output = codes "q"; kind = Some Rise; control = Some (codes "clk"); init = 2 } ∷ [];
+      subckts = [];
+    }
+
+abbrev pub read_clock_design : Design
+read_clock_design = design_of (read_clock_main ∷ [])
+
+-- .model m / .inputs d / .clock c e / .outputs p q / .latch d p re c / .latch d q re e / .end: latches with two clocks
+abbrev pub two_clocks_main : Model
+two_clocks_main =
+    record {
+      line = 1;
+      name = codes "m";
+      ins = ports_of 2 (codes "d" ∷ []);
+      outs = ports_of 4 (codes "p" ∷ codes "q" ∷ []);
+      clocks = ports_of 3 (codes "c" ∷ codes "e" ∷ []);
+      covers = [];
+      latches =
+        record { line = 5; input = codes "d"; output = codes "p"; kind = Some Rise; control = Some (codes "c"); init = 3 }
+        ∷ record { line = 6; input = codes "d"; output = codes "q"; kind = Some Rise; control = Some (codes "e"); init = 3 }
+        ∷ [];
+      subckts = [];
+    }
+
+abbrev pub two_clocks_design : Design
+two_clocks_design = design_of (two_clocks_main ∷ [])

@@ -6,10 +6,11 @@ use Rattle.netlist_core.specs.declared.model.Cover.{Cover}
 use Rattle.netlist_core.specs.declared.model.Port.{Port}
 use Rattle.netlist_core.specs.declared.model.LatchRow.{LatchRow}
 use Rattle.netlist_meaning.specs.Places.{Name, port_names}
-use Rattle.netlist_meaning.specs.Nets.{Net, net_at}
+use Rattle.netlist_meaning.specs.Nets.{Net, net_at, IsInNames}
 use Rattle.netlist_meaning.specs.CoverValue.{cover_value}
 use Rattle.netlist_meaning.specs.Valuation.{Valuation, IsRun, output_bits}
-use Rattle.netlist_meaning.specs.Designs.{or_design, toggle_design, loop_design, adder_design, wide_design, tower_design}
+use Rattle.netlist_meaning.specs.Designs.{or_design, toggle_design, loop_design, adder_design, wide_design, tower_design, clocked_design, read_clock_design, two_clocks_design}
+use Rattle.netlist_meaning.specs.Clocks.{IsClockRead, IsTwoClocks}
 use Rattle.netlist_meaning.specs.Loop.{IsCombinationalLoop}
 use Rattle.netlist_meaning.specs.Weight.{weight}
 
@@ -82,3 +83,15 @@ pub record HasWeights : Type 0 where
   pub widest : weight (wide_design 1022) ≡ 1024
   pub too_wide : weight (wide_design 1023) ≡ 1025
   pub tower : weight (tower_design 40) ≡ 3298534883326
+
+-- the latches' control gets no IN name
+abbrev pub ControlIsNoInput : Type 0
+ControlIsNoInput = IsInNames clocked_design (codes "d" ∷ [])
+
+-- a cover that reads the control is the fault, on its line
+abbrev pub CoverReadsClock : Type 0
+CoverReadsClock = IsClockRead read_clock_design 5 (codes "clk")
+
+-- a second latch with another control is the fault, on its line
+abbrev pub LatchHasOtherClock : Type 0
+LatchHasOtherClock = IsTwoClocks two_clocks_design 6 (codes "e")

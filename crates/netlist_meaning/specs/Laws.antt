@@ -1,8 +1,9 @@
 -- What is proved of the definitions, for every design.
-use Rattle.std.specs.Prelude.{◌≡◌, ◌↔◌, Bool, true, List, IsTrue}
+use Rattle.std.specs.Prelude.{ℕ, ◌&&◌, cond, length, nat_lt, is_some, bytes_eq, count_by, sum_by, ◌≡◌, ◌↔◌, Bool, true, List, IsTrue}
 use Rattle.netlist_core.specs.declared.model.Design.{Design}
-use Rattle.netlist_meaning.specs.Places.{Name}
+use Rattle.netlist_meaning.specs.Places.{Name, Place, model_at}
 use Rattle.netlist_meaning.specs.Nets.{Net, IsPinned, Joined, IsClockNet, IsInNames}
+use Rattle.netlist_meaning.specs.Weight.{weight, own_weight, of_model}
 use Rattle.netlist_meaning.specs.Valuation.{Valuation}
 
 -- an equivalence of nets, as a test
@@ -34,3 +35,14 @@ PinsAreEnough = (design : Design) (bits : Valuation) → AgreeAtPins design bits
 -- a design has at most one list of IN names
 abbrev pub InNamesAreOne : Type 0
 InNamesAreOne = (design : Design) (names others : List Name) → IsInNames design names → IsInNames design others → names ≡ others
+
+-- a list has each place that is fewer than so many lines deep once, and nothing else
+abbrev pub ListsPlaces : Design → ℕ → List Place → Type 0
+ListsPlaces design depth places =
+    (place : Place) → count_by (bytes_eq place) places ≡ cond (is_some (model_at design place) && nat_lt (length place) depth) 1 0
+
+-- the weight is the sum of the own weights of the models at the places that are fewer lines deep than there are models
+abbrev pub WeightIsSum : Type 0
+WeightIsSum =
+    (design : Design) → (places : List Place) × ListsPlaces design (length design.models) places
+    × (weight design ≡ sum_by (λ place. of_model own_weight (model_at design place)) places)

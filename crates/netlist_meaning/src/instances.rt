@@ -22,29 +22,24 @@ pub fn or_text_computes_or()
 /// A latch with init 0 that takes the inverse of its output gives 0 and 1 in turn, in a run that is there.
 pub fn latch_toggles()
     ensures { LatchToggles }
-{
-}
+{}
 
 /// A circle of covers through a latch is no combinational loop.
 pub fn latch_breaks_loop()
     ensures { LatchBreaksLoop }
-{
-}
+{}
 
 /// A cover that reads its own output is a combinational loop of one net.
 pub fn cover_reads_itself()
     ensures { CoverReadsItself }
-{
-}
+{}
 
 /// A tower of models, each of which places the next one twice, has a weight that doubles with each.
 pub fn tower_weighs()
     ensures { TowerWeighs }
-{
-}
+{}
 
 /// The weights of a two-bit adder, of a constant beside 1022 and 1023 inputs, and of a tower of 41 models.
 pub fn weights()
     ensures { HasWeights }
-{
-}
+{}

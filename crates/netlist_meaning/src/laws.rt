@@ -1,7 +1,7 @@
 //! What is proved of the definitions, for every design. The functions do nothing: each has a law as its contract.
 
 ghost use Rattle.netlist_core.specs.declared.model.Design.{Design};
-ghost use Rattle.netlist_meaning.specs.Laws.{IsLeastEquivalence, PinsAreEnough, InNamesAreOne};
+ghost use Rattle.netlist_meaning.specs.Laws.{IsLeastEquivalence, PinsAreEnough, InNamesAreOne, WeightIsSum};
 
 /// Joined nets are the least equivalence in which each pin joins its actual with its formal.
 pub fn joined_is_the_least_equivalence()
@@ -17,3 +17,9 @@ pub fn pins_are_enough()
 pub fn in_names_are_one()
     ensures { InNamesAreOne }
 {}
+
+/// The weight is the sum of the own weights of the models at all places that are fewer subckt lines deep than there are models.
+pub fn weight_is_the_sum_over_places()
+    ensures { WeightIsSum }
+{
+}

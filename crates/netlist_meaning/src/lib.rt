@@ -51,3 +51,55 @@ pub fn cover_value(cover: &Cover, bits: &[bool]) -> bool
         !any_holds(rows, bits)
     }
 }
+
+#[cfg(test)]
+mod tests {
+    use super::*;
+    use lists::List;
+    use std::alloc::{AllocError, Global};
+
+    // A cover of the rows, each as wide as the cover has inputs. Only what `cover_value` reads is filled in.
+    fn cover(alloc: Global, rows: &[&[u8]], on: bool) -> Result<Cover, AllocError> {
+        let mut held = Vec::new(alloc);
+        for row in rows {
+            held.push(List::of(row.to_vec(alloc)?))?;
+        }
+        Ok(Cover {
+            line: 1,
+            ins: List::of(Vec::new(alloc)),
+            out: List::of(Vec::new(alloc)),
+            rows: List::of(held),
+            on,
+        })
+    }
+
+    // Each row of the table: the rows of a cover of two inputs, whether they end in `1`, and the values
+    // under the bits 00, 01, 10 and 11.
+    #[test]
+    fn covers_have_the_values_of_their_rows(rt: HostRuntime) {
+        let alloc = rt.alloc();
+        let table: [(&[&[u8]], bool, [bool; 4]); 5] = [
+            (&[b"1-", b"-1"], true, [false, true, true, true]),
+            (&[b"10"], true, [false, false, true, false]),
+            (&[b"11"], false, [true, true, true, false]),
+            (&[b"10", b"01"], true, [false, true, true, false]),
+            (&[], true, [false, false, false, false]),
+        ];
+        let bits = [[false, false], [false, true], [true, false], [true, true]];
+        for (rows, on, want) in table {
+            let cover = cover(alloc, rows, on).expect(&rt, "ample memory");
+            for (bits, want) in bits.iter().zip(want.iter()) {
+                assert_eq!(rt; cover_value(&cover, bits), *want);
+            }
+        }
+        let inverter = cover(alloc, &[b"0"], true).expect(&rt, "ample memory");
+        assert!(rt; cover_value(&inverter, &[false]) && !cover_value(&inverter, &[true]));
+        let one = cover(alloc, &[b""], true).expect(&rt, "ample memory");
+        let zero = cover(alloc, &[], true).expect(&rt, "ample memory");
+        assert!(rt; cover_value(&one, &[]) && !cover_value(&zero, &[]));
+        let carry = cover(alloc, &[b"11-", b"1-1", b"-11"], true).expect(&rt, "ample memory");
+        assert!(rt;
+            cover_value(&carry, &[true, true, false]) && !cover_value(&carry, &[true, false, false])
+        );
+    }
+}
