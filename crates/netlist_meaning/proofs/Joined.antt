@@ -1,10 +1,9 @@
 -- Joined nets, clock nets and IN names.
-use Rattle.std.proofs.Common.{◌≡◌, ◌↔◌, ◌⊎◌, Bool, true, List, [], ◌∷◌, IsTrue, refl, sym, ap, ◌∙◌}
+use Rattle.std.proofs.Common.{◌≡◌, List, [], ◌∷◌, IsTrue, refl, sym, ap, ◌∙◌}
 use Rattle.netlist_core.specs.declared.model.Design.{Design}
 use Rattle.netlist_meaning.specs.Places.{Name, main_inputs}
-use Rattle.netlist_meaning.specs.Nets.{Net, IsPinned, Joined, by_pin, itself, reversed, followed, IsClockNet, IsLatchControl, IsMainClock, WithoutControl, none, kept, left_out, IsInNames}
-use Rattle.netlist_meaning.specs.Valuation.{Valuation}
-use Rattle.netlist_meaning.specs.Laws.{IsEquivalence, IsLeastEquivalence, AgreeAtPins, AgreeWhereJoined, PinsAreEnough, InNamesAreOne}
+use Rattle.netlist_meaning.specs.Nets.{Net, IsPinned, Joined, by_pin, itself, reversed, followed, IsClockNet, WithoutControl, none, kept, left_out}
+use Rattle.netlist_meaning.specs.Laws.{IsLeastEquivalence, AgreeAtPins, AgreeWhereJoined, PinsAreEnough, InNamesAreOne}
 
 -- any relation that holds at pins and is an equivalence holds of joined nets
 pub joined_gives : (design : Design) (R : Net → Net → Type 0) → ((a : Net) → R a a) → ((a b : Net) → R a b → R b a) → ((a b c : Net) → R a b → R b c → R a c) → ((outer inner : Net) → IsPinned design outer inner → R outer inner) → {a b : Net} → Joined design a b → R a b

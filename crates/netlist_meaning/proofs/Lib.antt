@@ -7,3 +7,4 @@ pub mod Loops
 pub mod Weights
 pub mod Places
 pub mod ClockInstances
+pub mod Adder

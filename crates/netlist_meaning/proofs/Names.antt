@@ -1,5 +1,5 @@
 -- Names that are one, or two.
-use Rattle.std.proofs.Common.{ℕ, ◌≡◌, ◌≢◌, ◌<◌, List, [], ◌∷◌, length, get_or, Bool, true, false, Option, Some, None, option_and_then, Contains, refl, sym, ap, ◌∙◌, arith, bytes_eq, Decides, true≢false}
+use Rattle.std.proofs.Common.{ℕ, ◌≡◌, ◌≢◌, List, [], ◌∷◌, length, get_or, true, false, Option, Some, None, option_and_then, Contains, refl, sym, ap, ◌∙◌, arith, bytes_eq, true≢false}
 use Rattle.std.proofs.lemmas.Slice.Eq.{bytes_eq-Decides}
 use Rattle.std.proofs.lemmas.Option.{none-some}
 use Rattle.std.proofs.lemmas.Bool.{false_from_ne_true}

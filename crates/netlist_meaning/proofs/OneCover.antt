@@ -1,18 +1,17 @@
 -- One cover of two inputs.
-use Rattle.std.proofs.Common.{ℕ, ◌≡◌, ◌≢◌, ◌<◌, List, [], ◌∷◌, Bool, true, false, cond, ◌||◌, Option, Some, None, slice_get, get_or, codes, map, length, All, Contains, refl, sym, ap, ◌∙◌, subst, arith, bytes_eq}
-use Rattle.std.proofs.lemmas.Option.{none-some, same_Some, slice_get_within, get_or_from_slice_get}
+use Rattle.std.proofs.Common.{ℕ, ◌≡◌, ◌≢◌, List, [], ◌∷◌, Bool, true, false, cond, ◌||◌, Some, get_or, codes, map, length, All, Contains, refl, sym, ap, ◌∙◌, subst, arith, bytes_eq}
+use Rattle.std.proofs.lemmas.Option.{slice_get_within, get_or_from_slice_get}
 use Rattle.netlist_core.specs.declared.model.Design.{Design}
 use Rattle.netlist_core.specs.declared.model.Model.{Model}
 use Rattle.netlist_core.specs.declared.model.Cover.{Cover}
-use Rattle.netlist_core.specs.declared.model.LatchRow.{LatchRow}
-use Rattle.netlist_meaning.specs.Places.{Name, Place, main_model, model_at, latch_at, main_inputs, main_outputs, port_names}
-use Rattle.netlist_meaning.specs.Nets.{Net, Joined, IsControl, IsInNames, WithoutControl}
+use Rattle.netlist_meaning.specs.Places.{Name, Place, model_at, main_inputs, main_outputs}
+use Rattle.netlist_meaning.specs.Nets.{Net, IsControl, IsInNames}
 use Rattle.netlist_meaning.specs.CoverValue.{cover_value}
 use Rattle.netlist_meaning.specs.Valuation.{Valuation, LatchState, IsValuation, IsRun, state_in, start_state, output_bits}
 use Rattle.netlist_meaning.specs.Designs.{or_main, or_design, cover_of}
 use Rattle.netlist_meaning.specs.Instances.{IsOneCover, Computes, OneCoverComputes, or_rows, OneCoverComputesOr}
 use Rattle.netlist_meaning.proofs.Names.{bytes_eq-same, bytes_eq-other, contains-one, apart_by}
-use Rattle.netlist_meaning.proofs.Flat.{IsFlat, main_is, model_at-main, model_at-flat, joined-flat, no_latch-flat, all_in_names}
+use Rattle.netlist_meaning.proofs.Flat.{IsFlat, model_at-main, model_at-flat, joined-flat, no_latch-flat, all_in_names}
 use Rattle.netlist_meaning.proofs.Joined.{in_names_are_one}
 
 flat_of : (a b y : Name) (rows : List (List ℕ)) (on : Bool) (design : Design) (h : IsOneCover a b y rows on design) → IsFlat design h.main

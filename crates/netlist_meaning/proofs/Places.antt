@@ -1,5 +1,5 @@
 -- The places of a design as a list, and sums over them.
-use Rattle.std.proofs.Common.{ℕ, zero, suc, ◌≡◌, ◌≢◌, ◌<◌, ◌≤◌, ◌+◌, List, [], ◌∷◌, ◌++◌, Bool, true, false, cond, ◌&&◌, Option, Some, None, slice_get, map, length, is_some, option_and_then, option_map, unwrap_or, pred, ◌==◌, add-zero, zero-add, refl, sym, ap, ◌∙◌, arith, bytes_eq, nat_eq, nat_lt, sum_by, count_by}
+use Rattle.std.proofs.Common.{ℕ, zero, suc, ◌≡◌, ◌<◌, ◌+◌, List, [], ◌∷◌, ◌++◌, Bool, true, false, cond, ◌&&◌, Option, Some, None, slice_get, map, length, is_some, option_and_then, option_map, unwrap_or, pred, ◌==◌, add-zero, zero-add, refl, sym, ap, ◌∙◌, arith, bytes_eq, nat_lt, sum_by, count_by}
 use Rattle.std.proofs.lemmas.List.Sums.{sum_by-cons, sum_by-append}
 use Rattle.std.proofs.lemmas.List.Folds.{fold-map}
 use Rattle.std.proofs.lemmas.Bool.{false_from_ne_true}
@@ -9,9 +9,9 @@ use Rattle.std.specs.Bool.{one_answer}
 use Rattle.netlist_core.specs.declared.model.Design.{Design}
 use Rattle.netlist_core.specs.declared.model.Model.{Model}
 use Rattle.netlist_core.specs.declared.model.Subckt.{Subckt}
-use Rattle.netlist_meaning.specs.Places.{Name, Place, main_model, model_named, model_below, model_at}
-use Rattle.netlist_meaning.specs.Weight.{weight, weight_below, own_weight, of_model}
-use Rattle.netlist_meaning.specs.Laws.{ListsPlaces, WeightIsSum}
+use Rattle.netlist_meaning.specs.Places.{Place, main_model, model_named, model_below}
+use Rattle.netlist_meaning.specs.Weight.{weight_below, own_weight, of_model}
+use Rattle.netlist_meaning.specs.Laws.{WeightIsSum}
 
 -- the places inside the models of some subckt lines, where each line has a list of its own
 next_line : Place → Place
@@ -92,14 +92,17 @@ sum_below design zero model = refl
 sum_below design (suc depth) model =
     sum_by-cons at_place [] (inside g model.subckts)
     ∙ both _ _ _ _ refl (sum_by-same at_place (λ place. weight_at (in_lines design (Some model) model.subckts place)) (inside g model.subckts) same
-      ∙ sum_inside design (Some model) g w (λ line. sum_named design depth (sum_below design depth) (model_named design line.model)) model.subckts)
+    ∙ sum_inside design (Some model) g w (λ line. sum_named design depth (sum_below design depth) (model_named design line.model)) model.subckts)
   where
     at_place : Place → ℕ
     at_place place = weight_at (model_below design place model)
+
     g : Subckt → List Place
     g line = places_of (places_below design depth) (model_named design line.model)
+
     w : Subckt → ℕ
     w line = of_model (weight_below design depth) (model_named design line.model)
+
     same : (place : Place) → at_place place ≡ weight_at (in_lines design (Some model) model.subckts place)
     same [] = refl
     same (number ∷ place) = refl
@@ -130,6 +133,7 @@ count_inside g h each (line ∷ lines) (suc number) place =
   where
     first_line : (other : Place) → one_if (bytes_eq (suc number ∷ place) (0 ∷ other)) ≡ 0
     first_line other = ap (λ t. one_if (t && bytes_eq place other)) (eqb-suc-zero number)
+
     shifted : (other : Place) → one_if (bytes_eq (suc number ∷ place) (next_line other)) ≡ one_if (bytes_eq (number ∷ place) other)
     shifted [] = refl
     shifted (first ∷ other) = ap (λ t. one_if (t && bytes_eq place other)) (same_answer number first)
@@ -161,7 +165,7 @@ never true n = ap one_if (sym (false_from_ne_true (nat_lt n 0) (λ e. let lt : n
 
 at_line : (design : Design) (depth : ℕ) (place : Place) (line : Option Subckt)
     → unwrap_or (option_map (λ subckt. once_below design depth (model_named design subckt.model) place) line) 0
-      ≡ one_if (is_some (option_and_then (model_below design place) (option_and_then (λ subckt. model_named design subckt.model) line)) && nat_lt (suc (length place)) (suc depth))
+    ≡ one_if (is_some (option_and_then (model_below design place) (option_and_then (λ subckt. model_named design subckt.model) line)) && nat_lt (suc (length place)) (suc depth))
 at_line design depth place None = refl
 at_line design depth place (Some line) =
     ap (λ t. one_if (is_some (option_and_then (model_below design place) (model_named design line.model)) && t)) (sym (same_order (length place) depth))
@@ -185,12 +189,14 @@ count_below design (suc depth) model (number ∷ place) =
   where
     g : Subckt → List Place
     g line = places_of (places_below design depth) (model_named design line.model)
+
     h : Subckt → Place → ℕ
     h line other = once_below design depth (model_named design line.model) other
 
 pub weight_is_sum : WeightIsSum
 unfolding weight_at
-weight_is_sum design =
-    (places_of (places_below design (length design.models)) (main_model design),
-     count_named design (length design.models) (count_below design (length design.models)) (main_model design),
-     sym (sum_named design (length design.models) (sum_below design (length design.models)) (main_model design)))
+weight_is_sum design = (
+  places_of (places_below design (length design.models)) (main_model design),
+  count_named design (length design.models) (count_below design (length design.models)) (main_model design),
+  sym (sum_named design (length design.models) (sum_below design (length design.models)) (main_model design)),
+)

@@ -1,17 +1,16 @@
 -- A latch that takes the inverse of its output.
-use Rattle.std.proofs.Common.{ℕ, zero, suc, ◌≡◌, ◌≢◌, ◌<◌, ◌+◌, List, [], ◌∷◌, Bool, true, false, not, cond, Option, Some, None, slice_get, get_or, map, length, All, Contains, refl, sym, ap, ◌∙◌, subst, arith, bytes_eq, codes}
+use Rattle.std.proofs.Common.{ℕ, zero, suc, ◌≡◌, ◌≢◌, ◌<◌, List, [], ◌∷◌, Bool, true, false, not, cond, Some, slice_get, get_or, map, length, All, Contains, refl, sym, ap, ◌∙◌, subst, arith, bytes_eq, codes}
 use Rattle.std.proofs.lemmas.Option.{none-some, same_Some, slice_get_within, get_or_from_slice_get, slice_get-get_or}
-use Rattle.netlist_core.specs.declared.model.Design.{Design}
 use Rattle.netlist_core.specs.declared.model.Model.{Model}
 use Rattle.netlist_core.specs.declared.model.Cover.{Cover}
 use Rattle.netlist_core.specs.declared.model.LatchRow.{LatchRow}
-use Rattle.netlist_meaning.specs.Places.{Name, Place, model_at, latch_at}
-use Rattle.netlist_meaning.specs.Nets.{Net, net_at, Joined, none}
+use Rattle.netlist_meaning.specs.Places.{Name, Place, latch_at}
+use Rattle.netlist_meaning.specs.Nets.{Net, net_at, none}
 use Rattle.netlist_meaning.specs.CoverValue.{cover_value}
-use Rattle.netlist_meaning.specs.Valuation.{Valuation, LatchState, IsValuation, IsRun, state_in, start_state, output_bits}
-use Rattle.netlist_meaning.specs.Loop.{Feeds, FeedsThrough, IsCombinationalLoop}
+use Rattle.netlist_meaning.specs.Valuation.{Valuation, LatchState, IsValuation, IsRun, state_in, start_state}
+use Rattle.netlist_meaning.specs.Loop.{Feeds, FeedsThrough}
 use Rattle.netlist_meaning.specs.Designs.{toggle_main, toggle_design, cover_of, latch_of}
-use Rattle.netlist_meaning.specs.Instances.{is_odd, IsToggle, LatchToggles, LatchBreaksLoop}
+use Rattle.netlist_meaning.specs.Instances.{is_odd, LatchToggles, LatchBreaksLoop}
 use Rattle.netlist_meaning.proofs.Names.{bytes_eq-same, bytes_eq-other, contains-one}
 use Rattle.netlist_meaning.proofs.Flat.{IsFlat, model_at-flat, joined-flat, latch_at-flat}
 

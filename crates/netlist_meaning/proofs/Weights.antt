@@ -1,10 +1,8 @@
 -- Weights of single designs.
-use Rattle.std.proofs.Common.{ℕ, zero, suc, ◌≡◌, ◌≢◌, ◌<◌, ◌≤◌, ◌+◌, ◌*◌, ◌^◌, List, [], ◌∷◌, ◌++◌, Bool, true, false, cond, Option, Some, None, slice_get, find, length, drop, refl, sym, ap, ◌∙◌, subst, arith, bytes_eq, codes, decimal, inl, inr}
+use Rattle.std.proofs.Common.{ℕ, zero, suc, ◌≡◌, ◌≢◌, ◌<◌, ◌≤◌, ◌+◌, ◌*◌, ◌^◌, List, [], ◌∷◌, Bool, cond, Some, slice_get, find, length, drop, refl, ap, ◌∙◌, arith, bytes_eq, inl, inr}
 use Rattle.std.proofs.lemmas.Fmt.{decimal_injective}
-use Rattle.netlist_core.specs.declared.model.Design.{Design}
 use Rattle.netlist_core.specs.declared.model.Model.{Model}
-use Rattle.netlist_meaning.specs.Places.{Name, main_model, model_named}
-use Rattle.netlist_meaning.specs.Weight.{weight, weight_below, of_model, own_weight}
+use Rattle.netlist_meaning.specs.Weight.{weight, weight_below, of_model}
 use Rattle.netlist_meaning.specs.Designs.{storey_name, storey, storeys, tower_design, adder_design, wide_design}
 use Rattle.netlist_meaning.specs.Instances.{TowerWeighs, HasWeights}
 use Rattle.std.proofs.lemmas.Bool.{cases_eq}

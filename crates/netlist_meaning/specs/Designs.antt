@@ -82,6 +82,13 @@ loop_main =
 abbrev pub loop_design : Design
 loop_design = design_of (loop_main ∷ [])
 
+-- .names a b c s / 100 1 / 010 1 / 001 1 / 111 1, and .names a b c co / 11- 1 / 1-1 1 / -11 1
+abbrev pub sum_cover : Cover
+sum_cover = cover_of 10 (codes "a" ∷ codes "b" ∷ codes "c" ∷ []) (codes "s") (codes "100" ∷ codes "010" ∷ codes "001" ∷ codes "111" ∷ [])
+
+abbrev pub carry_cover : Cover
+carry_cover = cover_of 15 (codes "a" ∷ codes "b" ∷ codes "c" ∷ []) (codes "co") (codes "11-" ∷ codes "1-1" ∷ codes "-11" ∷ [])
+
 -- .model fa / .inputs a b c / .outputs s co / .names a b c s / 100 1 / 010 1 / 001 1 / 111 1
 -- / .names a b c co / 11- 1 / 1-1 1 / -11 1 / .end
 abbrev pub full_adder : Model
@@ -92,13 +99,17 @@ full_adder =
       ins = ports_of 8 (codes "a" ∷ codes "b" ∷ codes "c" ∷ []);
       outs = ports_of 9 (codes "s" ∷ codes "co" ∷ []);
       clocks = [];
-      covers =
-          cover_of 10 (codes "a" ∷ codes "b" ∷ codes "c" ∷ []) (codes "s") (codes "100" ∷ codes "010" ∷ codes "001" ∷ codes "111" ∷ [])
-          ∷ cover_of 15 (codes "a" ∷ codes "b" ∷ codes "c" ∷ []) (codes "co") (codes "11-" ∷ codes "1-1" ∷ codes "-11" ∷ [])
-          ∷ [];
+      covers = sum_cover ∷ carry_cover ∷ [];
       latches = [];
       subckts = [];
     }
+
+-- .subckt fa a=a0 b=b0 c=ci s=s0 co=k, and .subckt fa a=a1 b=b1 c=k s=s1 co=c
+abbrev pub first_line : Subckt
+first_line = subckt_of 4 (codes "fa") (pin_of (codes "a") (codes "a0") ∷ pin_of (codes "b") (codes "b0") ∷ pin_of (codes "c") (codes "ci") ∷ pin_of (codes "s") (codes "s0") ∷ pin_of (codes "co") (codes "k") ∷ [])
+
+abbrev pub second_line : Subckt
+second_line = subckt_of 5 (codes "fa") (pin_of (codes "a") (codes "a1") ∷ pin_of (codes "b") (codes "b1") ∷ pin_of (codes "c") (codes "k") ∷ pin_of (codes "s") (codes "s1") ∷ pin_of (codes "co") (codes "c") ∷ [])
 
 -- .model add / .inputs a0 a1 b0 b1 ci / .outputs s0 s1 c / .subckt fa a=a0 b=b0 c=ci s=s0 co=k
 -- / .subckt fa a=a1 b=b1 c=k s=s1 co=c / .end, and the full adder
@@ -225,9 +236,9 @@ two_clocks_main =
       clocks = ports_of 3 (codes "c" ∷ codes "e" ∷ []);
       covers = [];
       latches =
-        record { line = 5; input = codes "d"; output = codes "p"; kind = Some Rise; control = Some (codes "c"); init = 3 }
-        ∷ record { line = 6; input = codes "d"; output = codes "q"; kind = Some Rise; control = Some (codes "e"); init = 3 }
-        ∷ [];
+          record { line = 5; input = codes "d"; output = codes "p"; kind = Some Rise; control = Some (codes "c"); init = 3 }
+          ∷ record { line = 6; input = codes "d"; output = codes "q"; kind = Some Rise; control = Some (codes "e"); init = 3 }
+          ∷ [];
       subckts = [];
     }
 

@@ -1,15 +1,13 @@
 -- What the definitions say of single designs.
-use Rattle.std.specs.Prelude.{ℕ, zero, suc, ◌+◌, ◌*◌, ◌^◌, ◌<◌, ◌≡◌, ◌≢◌, List, [], ◌∷◌, Bool, true, false, not, ◌||◌, length, All, slice_get, Some, None, codes}
+use Rattle.std.specs.Prelude.{ℕ, zero, suc, cond, ◌+◌, ◌*◌, ◌^◌, ◌<◌, ◌≡◌, ◌≢◌, List, [], ◌∷◌, Bool, true, false, not, ◌||◌, length, All, slice_get, Some, codes}
 use Rattle.netlist_core.specs.declared.model.Design.{Design}
 use Rattle.netlist_core.specs.declared.model.Model.{Model}
 use Rattle.netlist_core.specs.declared.model.Cover.{Cover}
-use Rattle.netlist_core.specs.declared.model.Port.{Port}
-use Rattle.netlist_core.specs.declared.model.LatchRow.{LatchRow}
 use Rattle.netlist_meaning.specs.Places.{Name, port_names}
 use Rattle.netlist_meaning.specs.Nets.{Net, net_at, IsInNames}
 use Rattle.netlist_meaning.specs.CoverValue.{cover_value}
 use Rattle.netlist_meaning.specs.Valuation.{Valuation, IsRun, output_bits}
-use Rattle.netlist_meaning.specs.Designs.{or_design, toggle_design, loop_design, adder_design, wide_design, tower_design, clocked_design, read_clock_design, two_clocks_design}
+use Rattle.netlist_meaning.specs.Designs.{toggle_design, loop_design, adder_design, wide_design, tower_design, clocked_design, read_clock_design, two_clocks_design}
 use Rattle.netlist_meaning.specs.Clocks.{IsClockRead, IsTwoClocks}
 use Rattle.netlist_meaning.specs.Loop.{IsCombinationalLoop}
 use Rattle.netlist_meaning.specs.Weight.{weight}
@@ -95,3 +93,17 @@ CoverReadsClock = IsClockRead read_clock_design 5 (codes "clk")
 -- a second latch with another control is the fault, on its line
 abbrev pub LatchHasOtherClock : Type 0
 LatchHasOtherClock = IsTwoClocks two_clocks_design 6 (codes "e")
+
+-- the number of some bits, the lowest first
+abbrev pub number_of : List Bool → ℕ
+number_of [] = 0
+number_of (bit ∷ bits) = cond bit 1 0 + 2 * number_of bits
+
+-- there is a run on every list of rows of five bits a0 a1 b0 b1 ci, and in every run the outputs of each cycle are the sum
+pub record IsAdder (design : Design) : Type 0 where
+  pub runs : (rows : List (List Bool)) → All (λ row. length row ≡ 5) rows → (run : ℕ → Valuation) × IsRun design rows run
+  pub adds : (rows : List (List Bool)) (run : ℕ → Valuation) → IsRun design rows run → (cycle : ℕ) (a0 a1 b0 b1 ci : Bool) → slice_get rows cycle ≡ Some (a0 ∷ a1 ∷ b0 ∷ b1 ∷ ci ∷ [])
+      → number_of (output_bits design (run cycle)) ≡ number_of (a0 ∷ a1 ∷ []) + number_of (b0 ∷ b1 ∷ []) + number_of (ci ∷ [])
+
+abbrev pub AdderAdds : Type 0
+AdderAdds = IsAdder adder_design

@@ -1,5 +1,5 @@
 -- What is proved of the definitions, for every design.
-use Rattle.std.specs.Prelude.{ℕ, ◌&&◌, cond, length, nat_lt, is_some, bytes_eq, count_by, sum_by, ◌≡◌, ◌↔◌, Bool, true, List, IsTrue}
+use Rattle.std.specs.Prelude.{ℕ, ◌&&◌, cond, length, nat_lt, is_some, bytes_eq, count_by, sum_by, ◌≡◌, ◌↔◌, Bool, List, IsTrue}
 use Rattle.netlist_core.specs.declared.model.Design.{Design}
 use Rattle.netlist_meaning.specs.Places.{Name, Place, model_at}
 use Rattle.netlist_meaning.specs.Nets.{Net, IsPinned, Joined, IsClockNet, IsInNames}

@@ -2,7 +2,7 @@
 
 ghost use Rattle.std.specs.Prelude.{◌||◌};
 ghost use Rattle.netlist_meaning.specs.Designs.{or_design};
-ghost use Rattle.netlist_meaning.specs.Instances.{Computes, OneCoverComputes, OneCoverComputesOr, LatchToggles, LatchBreaksLoop, CoverReadsItself, TowerWeighs, HasWeights};
+ghost use Rattle.netlist_meaning.specs.Instances.{Computes, OneCoverComputes, OneCoverComputesOr, LatchToggles, LatchBreaksLoop, CoverReadsItself, TowerWeighs, HasWeights, ControlIsNoInput, CoverReadsClock, LatchHasOtherClock, AdderAdds};
 
 /// A model of one cover of two inputs has a run on all rows of two bits, and in every run its output is the cover's value.
 pub fn one_cover_computes_its_value()
@@ -42,4 +42,24 @@ pub fn tower_weighs()
 /// The weights of a two-bit adder, of a constant beside 1022 and 1023 inputs, and of a tower of 41 models.
 pub fn weights()
     ensures { HasWeights }
+{}
+
+/// A name in `.inputs` that is the latches' control is no IN name.
+pub fn control_is_no_input()
+    ensures { ControlIsNoInput }
+{}
+
+/// A cover that reads the control is the fault of a clock net that is read, on the cover's line.
+pub fn cover_reads_clock()
+    ensures { CoverReadsClock }
+{}
+
+/// A second latch with another control is the fault of two clocks, on that latch's line.
+pub fn latch_has_other_clock()
+    ensures { LatchHasOtherClock }
+{}
+
+/// The two-bit adder, made of two full adders, has a run on all rows of five bits, and in every run it adds.
+pub fn adder_adds()
+    ensures { AdderAdds }
 {}

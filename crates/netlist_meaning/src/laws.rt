@@ -21,5 +21,4 @@ pub fn in_names_are_one()
 /// The weight is the sum of the own weights of the models at all places that are fewer subckt lines deep than there are models.
 pub fn weight_is_the_sum_over_places()
     ensures { WeightIsSum }
-{
-}
+{}
