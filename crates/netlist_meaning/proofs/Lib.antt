@@ -8,3 +8,4 @@ pub mod Weights
 pub mod Places
 pub mod ClockInstances
 pub mod Adder
+pub mod Depth

@@ -48,7 +48,7 @@ pub record IsTwoClocks (design : Design) (line : ℕ) (word : Name) : Type 0 whe
   pub is_word : word ≡ control_word found.latch.control
 
 -- a word on a line that reads or drives a net as a cover, as a latch's data or as a main output does:
--- the line's number, where the word stands among such words of the line, and the net
+-- the line's number, a position that rises along the line's words, and the net
 pub data IsUse (design : Design) : ℕ → ℕ → Net → Type 0 where
   by_cover : {place : Place} {model : Model} {cover : Cover} {position : ℕ} {name : Name} → model_at design place ≡ Some model → Contains model.covers cover → slice_get (cover.ins ++ cover.out ∷ []) position ≡ Some name → IsUse design cover.line position (net_at place name)
   by_latch : {place : Place} {model : Model} {latch : LatchRow} {position : ℕ} {name : Name} → model_at design place ≡ Some model → Contains model.latches latch → slice_get (latch.input ∷ latch.output ∷ []) position ≡ Some name → IsUse design latch.line position (net_at place name)

@@ -1,7 +1,8 @@
 -- What is proved of the definitions, for every design.
-use Rattle.std.specs.Prelude.{ℕ, ◌&&◌, cond, length, nat_lt, is_some, bytes_eq, count_by, sum_by, ◌≡◌, ◌↔◌, Bool, List, IsTrue}
+use Rattle.std.specs.Prelude.{◌≢◌, ◌<◌, ◌++◌, [], Some, ℕ, ◌&&◌, cond, length, nat_lt, is_some, bytes_eq, count_by, sum_by, ◌≡◌, ◌↔◌, Bool, List, IsTrue}
 use Rattle.netlist_core.specs.declared.model.Design.{Design}
-use Rattle.netlist_meaning.specs.Places.{Name, Place, model_at}
+use Rattle.netlist_core.specs.declared.model.Model.{Model}
+use Rattle.netlist_meaning.specs.Places.{Name, Place, model_at, IsPlace}
 use Rattle.netlist_meaning.specs.Nets.{Net, IsPinned, Joined, IsClockNet, IsInNames}
 use Rattle.netlist_meaning.specs.Weight.{weight, own_weight, of_model}
 use Rattle.netlist_meaning.specs.Valuation.{Valuation}
@@ -45,4 +46,20 @@ ListsPlaces design depth places =
 abbrev pub WeightIsSum : Type 0
 WeightIsSum =
     (design : Design) → (places : List Place) × ListsPlaces design (length design.models) places
+    × (weight design ≡ sum_by (λ place. of_model own_weight (model_at design place)) places)
+
+-- no model stands, by its name, inside a place of itself: in a design without a circle of subckt lines
+abbrev pub IsNotRecursive : Design → Type 0
+IsNotRecursive design =
+    (outer inner : Place) (a b : Model) → inner ≢ [] → model_at design outer ≡ Some a → model_at design (outer ++ inner) ≡ Some b → a.name ≢ b.name
+
+-- then each place is fewer lines deep than there are models
+abbrev pub PlacesAreShallow : Type 0
+PlacesAreShallow = (design : Design) → IsNotRecursive design → (place : Place) → IsPlace design place → length place < length design.models
+
+-- and the weight is the sum over a list that has each place once
+abbrev pub WeightIsSumOverAll : Type 0
+WeightIsSumOverAll =
+    (design : Design) → IsNotRecursive design → (places : List Place)
+    × ((place : Place) → count_by (bytes_eq place) places ≡ cond (is_some (model_at design place)) 1 0)
     × (weight design ≡ sum_by (λ place. of_model own_weight (model_at design place)) places)
