@@ -1,0 +1,5 @@
+pub mod LogicalLines
+pub mod Models
+pub mod LineFaults
+pub mod ModelFaults
+pub mod Faults

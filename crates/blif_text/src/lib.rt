@@ -1,0 +1,8 @@
+//! What a BLIF text says: its logical lines, its models, and its faults.
+#![tactic(auto)]
+
+mod fault;
+mod logical;
+
+pub use fault::{Fault, FaultKind};
+pub use logical::Logical;
