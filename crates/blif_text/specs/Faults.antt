@@ -4,37 +4,11 @@ use Rattle.netlist_core.specs.declared.model.Model.{Model}
 use Rattle.netlist_core.specs.declared.model.Design.{Design}
 use Rattle.blif_text.specs.declared.logical.Logical.{Logical}
 use Rattle.blif_text.specs.declared.fault.Fault.{Fault}
-use Rattle.blif_text.specs.declared.fault.FaultKind.{FaultKind}
-use Rattle.blif_text.specs.declared.fault.FaultKind.TheVariants.{NoModelYet, UnknownDirective, Unsupported, BadCount, RowOutside, BadRow, MixedCover, BadLatch, BadPin, AfterEnd, DuplicateModel, DuplicatePort, MultipleDrivers, Undriven, NoSuchModel, NoSuchPin, PinTwice, PinMissing, Recursive, TwoClocks, ClockRead, NoModel}
+use Rattle.blif_text.specs.declared.fault.FaultKind.TheVariants.{NoModel}
 use Rattle.blif_text.specs.LogicalLines.{logical_lines}
 use Rattle.blif_text.specs.Models.{models_of}
 use Rattle.blif_text.specs.LineFaults.{fault_at, line_fault}
 use Rattle.blif_text.specs.ModelFaults.{HasModelFault, AreFaultless}
-
--- the number of a fault
-abbrev pub number_of : FaultKind → ℕ
-number_of NoModelYet = 1
-number_of UnknownDirective = 2
-number_of Unsupported = 3
-number_of BadCount = 4
-number_of RowOutside = 5
-number_of BadRow = 6
-number_of MixedCover = 7
-number_of BadLatch = 8
-number_of BadPin = 9
-number_of AfterEnd = 10
-number_of DuplicateModel = 11
-number_of DuplicatePort = 12
-number_of MultipleDrivers = 13
-number_of Undriven = 14
-number_of NoSuchModel = 15
-number_of NoSuchPin = 16
-number_of PinTwice = 17
-number_of PinMissing = 18
-number_of Recursive = 19
-number_of TwoClocks = 20
-number_of ClockRead = 21
-number_of NoModel = 22
 
 -- 22: there is no logical line
 abbrev pub fault_if_empty : List Logical → Option Fault

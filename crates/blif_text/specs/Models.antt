@@ -70,7 +70,8 @@ cover_of l rows = record {
   ins = take (length (operands l) - 1) (operands l);
   out = output_part (operands l);
   rows = map (λ (row : Logical). input_part row.words) rows;
-  on = list_all turns_on rows }
+  on = list_all turns_on rows;
+}
 
 -- A cover has the rows that directly follow its `.names`.
 abbrev pub cover_at : Bool → Logical → List Logical → List Cover
@@ -132,7 +133,8 @@ model_of l lines = record {
   clocks = ports_listed (codes ".clock") lines;
   covers = covers_of lines;
   latches = flat_map latch_on (lines_with (codes ".latch") lines);
-  subckts = map subckt_of (lines_with (codes ".subckt") lines) }
+  subckts = map subckt_of (lines_with (codes ".subckt") lines);
+}
 
 abbrev pub model_at : Bool → Logical → List Logical → List Model
 model_at true l later = model_of l (take_while stays_in_model later) ∷ []

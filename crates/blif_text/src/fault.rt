@@ -1,4 +1,7 @@
 // The faults of a text.
+ghost use Rattle.std.specs.Prelude.{◌≡◌};
+ghost use Rattle.blif_text.specs.FaultNames.{name_of, number_of};
+
 use lists::Bytes;
 
 /// The faults, in the order of their numbers, from 1. `TwoClocks` and `ClockRead` are faults of the
@@ -27,6 +30,68 @@ pub enum FaultKind {
     TwoClocks,
     ClockRead,
     NoModel,
+}
+
+impl FaultKind {
+    /// The number that stands after `B` on the line of a fault.
+    pub fn number(self) -> u8
+        ensures { result ≡ number_of self }
+    {
+        match self {
+            FaultKind::NoModelYet => 1,
+            FaultKind::UnknownDirective => 2,
+            FaultKind::Unsupported => 3,
+            FaultKind::BadCount => 4,
+            FaultKind::RowOutside => 5,
+            FaultKind::BadRow => 6,
+            FaultKind::MixedCover => 7,
+            FaultKind::BadLatch => 8,
+            FaultKind::BadPin => 9,
+            FaultKind::AfterEnd => 10,
+            FaultKind::DuplicateModel => 11,
+            FaultKind::DuplicatePort => 12,
+            FaultKind::MultipleDrivers => 13,
+            FaultKind::Undriven => 14,
+            FaultKind::NoSuchModel => 15,
+            FaultKind::NoSuchPin => 16,
+            FaultKind::PinTwice => 17,
+            FaultKind::PinMissing => 18,
+            FaultKind::Recursive => 19,
+            FaultKind::TwoClocks => 20,
+            FaultKind::ClockRead => 21,
+            FaultKind::NoModel => 22,
+        }
+    }
+
+    /// The name on the line of a fault, in ASCII.
+    pub fn name(self) -> &'static str
+        ensures { result.now ≡ name_of self }
+    {
+        match self {
+            FaultKind::NoModelYet => "NoModelYet",
+            FaultKind::UnknownDirective => "UnknownDirective",
+            FaultKind::Unsupported => "Unsupported",
+            FaultKind::BadCount => "BadCount",
+            FaultKind::RowOutside => "RowOutside",
+            FaultKind::BadRow => "BadRow",
+            FaultKind::MixedCover => "MixedCover",
+            FaultKind::BadLatch => "BadLatch",
+            FaultKind::BadPin => "BadPin",
+            FaultKind::AfterEnd => "AfterEnd",
+            FaultKind::DuplicateModel => "DuplicateModel",
+            FaultKind::DuplicatePort => "DuplicatePort",
+            FaultKind::MultipleDrivers => "MultipleDrivers",
+            FaultKind::Undriven => "Undriven",
+            FaultKind::NoSuchModel => "NoSuchModel",
+            FaultKind::NoSuchPin => "NoSuchPin",
+            FaultKind::PinTwice => "PinTwice",
+            FaultKind::PinMissing => "PinMissing",
+            FaultKind::Recursive => "Recursive",
+            FaultKind::TwoClocks => "TwoClocks",
+            FaultKind::ClockRead => "ClockRead",
+            FaultKind::NoModel => "NoModel",
+        }
+    }
 }
 
 /// A fault with the number of its line and the word that it names.
