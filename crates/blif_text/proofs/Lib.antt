@@ -1,2 +1,5 @@
-pub mod OrText
+pub mod CircleLemmas
+pub mod CircleTexts
+pub mod Computed
+pub mod OrGateLemmas
 pub mod Texts

@@ -6,3 +6,5 @@ pub mod Drivers
 pub mod Circles
 pub mod ModelFaults
 pub mod Faults
+pub mod Instances
+pub mod OrGate

@@ -2,6 +2,7 @@
 #![tactic(auto)]
 
 mod fault;
+pub mod instances;
 mod logical;
 
 pub use fault::{Fault, FaultKind};
