@@ -8,3 +8,4 @@ pub mod ModelFaults
 pub mod Faults
 pub mod Instances
 pub mod OrGate
+pub mod Laws

@@ -3,6 +3,7 @@
 
 mod fault;
 pub mod instances;
+pub mod laws;
 mod logical;
 
 pub use fault::{Fault, FaultKind};

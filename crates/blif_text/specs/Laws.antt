@@ -1,0 +1,79 @@
+-- Laws of the definitions: what the first fault is, that there is at most one, and that a text is a design or has a fault.
+use Rattle.std.specs.Prelude.{◌≡◌, ◌≢◌, ℕ, ◌<◌, ◌⊎◌, ◌↔◌, List, [], ◌∷◌, ◌++◌, reverse, flat_map, ◌≤◌, Some, None}
+use Rattle.std.specs.List.{AllByRecursion}
+use Rattle.netlist_core.specs.declared.model.Port.{Port}
+use Rattle.netlist_core.specs.declared.model.Model.{Model}
+use Rattle.netlist_core.specs.declared.model.Design.{Design}
+use Rattle.blif_text.specs.declared.logical.Logical.{Logical}
+use Rattle.blif_text.specs.declared.fault.Fault.{Fault}
+use Rattle.blif_text.specs.declared.fault.FaultKind.{FaultKind}
+use Rattle.blif_text.specs.declared.fault.FaultKind.TheVariants.{Recursive}
+use Rattle.blif_text.specs.FaultNames.{number_of}
+use Rattle.blif_text.specs.LogicalLines.{logical_lines}
+use Rattle.blif_text.specs.Models.{models_of}
+use Rattle.blif_text.specs.LineFaults.{word_at_fault, line_fault}
+use Rattle.blif_text.specs.Drivers.{at_line}
+use Rattle.blif_text.specs.ModelFaults.{model_fault, words_at_fault}
+use Rattle.blif_text.specs.Faults.{HasModels, HasFault, IsDesignOf}
+
+-- the line breaks no rule over the lines before it, the nearest first
+abbrev pub BreaksNone : List Logical → Logical → Type 0
+BreaksNone before line = (kind : FaultKind) → word_at_fault kind before line ≡ None
+
+-- The fault is that of a line which breaks its rule, and none of a lower number, over the lines before it, of which none breaks one.
+pub record IsFirstLineFault (lines : List Logical) (fault : Fault) : Type 0 where
+  pub before : List Logical
+  pub line : Logical
+  pub after : List Logical
+  pub are_lines : lines ≡ before ++ line ∷ after
+  pub at_its_line : fault.line ≡ line.line
+  pub breaks : word_at_fault fault.kind (reverse before) line ≡ Some fault.word
+  pub is_lowest : (kind : FaultKind) → number_of kind < number_of fault.kind → word_at_fault kind (reverse before) line ≡ None
+  pub is_earliest : (front : List Logical) (earlier : Logical) (back : List Logical) → before ≡ front ++ earlier ∷ back → BreaksNone (reverse front) earlier
+
+abbrev pub LineFaultIsFirst : Type 0
+LineFaultIsFirst = (lines : List Logical) (fault : Fault) → (line_fault lines ≡ Some fault) ↔ IsFirstLineFault lines fault
+
+-- Two faults of the same lines are of one kind, at one line, and the same, but that one line may lie on several circles.
+pub record AreSameFault (f g : Fault) : Type 0 where
+  pub kind : f.kind ≡ g.kind
+  pub line : f.line ≡ g.line
+  pub whole : f.kind ≢ Recursive → f ≡ g
+
+abbrev pub OneFault : Type 0
+OneFault = (lines : List Logical) (f g : Fault) → HasFault lines f → HasFault lines g → AreSameFault f g
+
+abbrev pub OneDesign : Type 0
+OneDesign = (text : List ℕ) (d e : Design) → IsDesignOf text d → IsDesignOf text e → d ≡ e
+
+abbrev pub NeverBoth : Type 0
+NeverBoth = (text : List ℕ) (d : Design) (f : Fault) → IsDesignOf text d → ¬ (HasFault (logical_lines text) f)
+
+-- Lines that break no rule on lines describe no model only if there are none.
+abbrev pub NoModelNoLine : Type 0
+NoModelNoLine = (lines : List Logical) → HasModels lines [] → lines ≡ []
+
+-- Lines have a fault, or their models have none but perhaps a circle.
+abbrev pub FaultOrModels : Type 0
+FaultOrModels = (lines : List Logical) → ((f : Fault) × HasFault lines f) ⊎ (HasModels lines (models_of lines) × (model_fault (models_of lines) ≡ None))
+
+-- the earliest of a list of names with lines: those in front of it stand on later lines, those behind it on no earlier line
+pub record IsEarliest (ports : List Port) (p : Port) : Type 0 where
+  pub front : List Port
+  pub back : List Port
+  pub are_ports : ports ≡ front ++ p ∷ back
+  pub front_later : AllByRecursion (λ (q : Port). p.line < q.line) front
+  pub back_no_earlier : AllByRecursion (λ (q : Port). p.line ≤ q.line) back
+
+-- all words at which the models break a rule
+abbrev pub all_words_at_fault : FaultKind → List Model → List Port
+all_words_at_fault kind models = flat_map (words_at_fault kind models) models
+
+-- The fault is by the lowest rule that holds of the models, at its earliest line, there the earliest word.
+pub record IsFirstModelFault (models : List Model) (fault : Fault) : Type 0 where
+  pub some_model : models ≢ []
+  pub is_earliest : IsEarliest (all_words_at_fault fault.kind models) (at_line fault.line fault.word)
+  pub is_lowest : (kind : FaultKind) → number_of kind < number_of fault.kind → all_words_at_fault kind models ≡ []
+
+abbrev pub ModelFaultIsFirst : Type 0
+ModelFaultIsFirst = (models : List Model) (fault : Fault) → ((model_fault models ≡ Some fault) × (models ≢ [])) ↔ IsFirstModelFault models fault

@@ -1,0 +1,43 @@
+// Laws of the definitions.
+ghost use Rattle.blif_text.specs.Laws.{FaultOrModels, LineFaultIsFirst, ModelFaultIsFirst, NeverBoth, NoModelNoLine, OneDesign, OneFault};
+
+/// The fault of the lines by a rule on lines is that of the earliest line which breaks one over the
+/// lines before it, by the rule of the lowest number.
+pub fn line_fault_is_first()
+    ensures { LineFaultIsFirst }
+{}
+
+/// The fault of models by a rule on models is by the lowest rule that holds of them, at its earliest
+/// line, with the earliest word.
+pub fn model_fault_is_first()
+    ensures { ModelFaultIsFirst }
+{}
+
+/// Two faults of the same lines have one kind and one line, and but for the models of a circle one word.
+#[tactic(auto, using(crate::proofs::OneFault::one_fault))]
+pub fn one_fault()
+    ensures { OneFault }
+{}
+
+/// A text is one design at most.
+#[tactic(auto, using(crate::proofs::OneFault::one_design))]
+pub fn one_design()
+    ensures { OneDesign }
+{}
+
+/// The text of a design has no fault.
+#[tactic(auto, using(crate::proofs::OneFault::never_both))]
+pub fn never_design_and_fault()
+    ensures { NeverBoth }
+{}
+
+/// Lines without a fault of their own that describe no model are no lines.
+#[tactic(auto, using(crate::proofs::OneFault::no_model_no_line))]
+pub fn no_model_no_line()
+    ensures { NoModelNoLine }
+{}
+
+/// Lines have a fault, or they describe models that have none but perhaps a circle.
+pub fn fault_or_models()
+    ensures { FaultOrModels }
+{}
