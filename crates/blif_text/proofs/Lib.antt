@@ -1,8 +1,10 @@
 pub mod CircleLemmas
+pub mod CircleSearch
 pub mod CircleTexts
 pub mod Computed
 pub mod FirstFaults
 pub mod FirstModelFaults
+pub mod Members
 pub mod OneFault
 pub mod OrGateLemmas
 pub mod Texts

@@ -1,5 +1,5 @@
 -- A list of lines has one fault at most, and a design has none.
-use Rattle.std.proofs.Common.{◌≡◌, refl, sym, ap, subst, ◌∙◌, ◌≤◌, ◌⊎◌, inl, inr, List, [], ◌∷◌, ◌++◌, Bool, true, false, not, ◌||◌, arith, drop}
+use Rattle.std.proofs.Common.{◌≡◌, refl, sym, ap, subst, ◌∙◌, ℕ, ◌≤◌, ◌⊎◌, inl, inr, List, [], ◌∷◌, ◌++◌, Bool, true, false, not, ◌||◌, arith, drop}
 use Rattle.std.specs.Prelude.{Some, None, Option, option_map}
 use Rattle.std.specs.Bool.{then_some}
 use Rattle.std.specs.Option.{option_or}
@@ -12,10 +12,11 @@ use Rattle.blif_text.specs.LogicalLines.{logical_lines}
 use Rattle.blif_text.specs.Models.{models_of, model_at, begins_model, first_word}
 use Rattle.blif_text.specs.LineFaults.{line_fault, word_at_fault, first_broken, line_rules, fault_at, fault_after}
 use Rattle.blif_text.specs.Circles.{IsOnCircle, IsCircleFault}
-use Rattle.blif_text.specs.ModelFaults.{model_fault}
-use Rattle.blif_text.specs.Faults.{HasModels, HasFault, fault_if_empty}
+use Rattle.blif_text.specs.ModelFaults.{model_fault, AreFaultless, HasModelFault}
+use Rattle.blif_text.specs.Faults.{HasModels, HasFault, IsDesignOf, fault_if_empty}
 use Rattle.blif_text.specs.Faults.HasFault.{of_no_line, of_line, of_models}
-use Rattle.blif_text.specs.Laws.{AreSameFault, OneFault, OneDesign, NeverBoth, NoModelNoLine, FaultOrModels}
+use Rattle.blif_text.proofs.CircleSearch.{circle_or_none}
+use Rattle.blif_text.specs.Laws.{AreSameFault, OneFault, OneDesign, NeverBoth, NoModelNoLine, FaultlessOrFault, DesignOrFault}
 
 -- the fault by any rule but the one on circles
 abbrev plain_fault : List Logical → Option Fault
@@ -77,10 +78,18 @@ pub no_model_no_line : NoModelNoLine
 no_model_no_line [] m = refl
 no_model_no_line (l ∷ ls) m = absurd (first_line l ls (begins_model l) refl m.no_fault m.are_models)
 
-pub fault_or_models : FaultOrModels
-fault_or_models lines = by (line_fault lines) refl (model_fault (models_of lines)) refl
+pub faultless_or_fault : FaultlessOrFault
+faultless_or_fault models = by (model_fault models) refl (circle_or_none models)
   where
-    by : (o : Option Fault) → line_fault lines ≡ o → (p : Option Fault) → model_fault (models_of lines) ≡ p → ((f : Fault) × HasFault lines f) ⊎ (HasModels lines (models_of lines) × (model_fault (models_of lines) ≡ None))
-    by (Some f) d p e = inl (f, of_line d)
-    by None d (Some f) e = inl (f, of_models (record { no_fault = d; are_models = refl }) (inl e))
-    by None d None e = inr (record { no_fault = d; are_models = refl }, e)
+    by : (o : Option Fault) → model_fault models ≡ o → ((f : Fault) × IsCircleFault models f) ⊎ ((line : ℕ) (names : List (List ℕ)) → ¬ (IsOnCircle models line names)) → AreFaultless models ⊎ ((f : Fault) × HasModelFault models f)
+    by (Some f) e c = inr (f, inl e)
+    by None e (inl c) = inr (c.0, inr (e, c.1))
+    by None e (inr none) = inl (record { no_fault = e; no_circle = none })
+
+pub design_or_fault : DesignOrFault
+design_or_fault text = by (line_fault (logical_lines text)) refl (faultless_or_fault (models_of (logical_lines text)))
+  where
+    by : (o : Option Fault) → line_fault (logical_lines text) ≡ o → AreFaultless (models_of (logical_lines text)) ⊎ ((f : Fault) × HasModelFault (models_of (logical_lines text)) f) → IsDesignOf text (record { models = models_of (logical_lines text) }) ⊎ ((f : Fault) × HasFault (logical_lines text) f)
+    by (Some f) e r = inr (f, of_line e)
+    by None e (inl r) = inl (record { models = record { no_fault = e; are_models = refl }; faultless = r })
+    by None e (inr r) = inr (r.0, of_models (record { no_fault = e; are_models = refl }) r.1)

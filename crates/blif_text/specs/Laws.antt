@@ -13,7 +13,7 @@ use Rattle.blif_text.specs.LogicalLines.{logical_lines}
 use Rattle.blif_text.specs.Models.{models_of}
 use Rattle.blif_text.specs.LineFaults.{word_at_fault, line_fault}
 use Rattle.blif_text.specs.Drivers.{at_line}
-use Rattle.blif_text.specs.ModelFaults.{model_fault, words_at_fault}
+use Rattle.blif_text.specs.ModelFaults.{model_fault, words_at_fault, AreFaultless, HasModelFault}
 use Rattle.blif_text.specs.Faults.{HasModels, HasFault, IsDesignOf}
 
 -- the line breaks no rule over the lines before it, the nearest first
@@ -53,9 +53,13 @@ NeverBoth = (text : List ℕ) (d : Design) (f : Fault) → IsDesignOf text d →
 abbrev pub NoModelNoLine : Type 0
 NoModelNoLine = (lines : List Logical) → HasModels lines [] → lines ≡ []
 
--- Lines have a fault, or their models have none but perhaps a circle.
-abbrev pub FaultOrModels : Type 0
-FaultOrModels = (lines : List Logical) → ((f : Fault) × HasFault lines f) ⊎ (HasModels lines (models_of lines) × (model_fault (models_of lines) ≡ None))
+-- Models are without a fault, or they have one.
+abbrev pub FaultlessOrFault : Type 0
+FaultlessOrFault = (models : List Model) → AreFaultless models ⊎ ((f : Fault) × HasModelFault models f)
+
+-- A text is a design, or has a fault.
+abbrev pub DesignOrFault : Type 0
+DesignOrFault = (text : List ℕ) → IsDesignOf text (record { models = models_of (logical_lines text) }) ⊎ ((f : Fault) × HasFault (logical_lines text) f)
 
 -- the earliest of a list of names with lines: those in front of it stand on later lines, those behind it on no earlier line
 pub record IsEarliest (ports : List Port) (p : Port) : Type 0 where

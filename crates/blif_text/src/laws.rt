@@ -1,5 +1,5 @@
 // Laws of the definitions.
-ghost use Rattle.blif_text.specs.Laws.{FaultOrModels, LineFaultIsFirst, ModelFaultIsFirst, NeverBoth, NoModelNoLine, OneDesign, OneFault};
+ghost use Rattle.blif_text.specs.Laws.{DesignOrFault, FaultlessOrFault, LineFaultIsFirst, ModelFaultIsFirst, NeverBoth, NoModelNoLine, OneDesign, OneFault};
 
 /// The fault of the lines by a rule on lines is that of the earliest line which breaks one over the
 /// lines before it, by the rule of the lowest number.
@@ -37,7 +37,12 @@ pub fn no_model_no_line()
     ensures { NoModelNoLine }
 {}
 
-/// Lines have a fault, or they describe models that have none but perhaps a circle.
-pub fn fault_or_models()
-    ensures { FaultOrModels }
+/// Models are without a fault, or they have one.
+pub fn faultless_or_fault()
+    ensures { FaultlessOrFault }
+{}
+
+/// A text is a design, or has a fault.
+pub fn design_or_fault()
+    ensures { DesignOrFault }
 {}
