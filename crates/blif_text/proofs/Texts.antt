@@ -1,10 +1,11 @@
 -- The lines and words of texts that are joined of parts.
 use Rattle.std.proofs.Common.{◌≡◌, refl, ap, ◌∙◌, ℕ, suc, ◌+◌, ◌<◌, List, [], ◌∷◌, ◌++◌, length, Bool, true, false, ◌||◌, arith, true≢false, take, get_or, cond, not, zero, ◌-◌, ◌&&◌}
 use Rattle.std.specs.Prelude.{None, filter_map, ◌==◌, if◌then◌else◌}
-use Rattle.std.specs.List.{list_any, onto_first, list_all, before_first, cons_option}
+use Rattle.std.specs.List.{list_any, onto_first, list_all, before_first, cons_option, slice_split}
 use Rattle.std.specs.Str.Lines.{lines_of_parts, strip_carriage_return}
 use Rattle.std.proofs.lemmas.List.Sums.{take_while-cons}
 use Rattle.blif_text.specs.declared.logical.Logical.{Logical}
+use Rattle.blif_text.specs.Laws.{LinesAreKnown}
 use Rattle.blif_text.specs.LogicalLines.{cut_or_kept, parts_between, is_newline, physical_lines, is_blank, words_of, joined_lines, JoinedLine, without_comment, before_backslash, is_hash, found_or_later, continued_by, non_empty, logical_line, with_words}
 
 -- the parts of a list in which nothing passes the test before the place where it is cut
@@ -134,3 +135,15 @@ logical n words = record { line = n; words = words }
 
 pub logical-cut : (n : ℕ) (w rest : List ℕ) (word : List ℕ) (words : List (List ℕ)) → list_any is_special w ≡ false → words_of w ≡ word ∷ words → lines_from n (w ++ 10 ∷ rest) ≡ logical n (word ∷ words) ∷ lines_from (n + 1) rest
 logical-cut n w rest word words e f = ap (filter_map logical_line) (line-cut n w rest e) ∙ ap (λ v. cons_option (with_words n v) (lines_from (n + 1) rest)) f
+
+-- the parts are those of a split
+cut_as : (p : ℕ → Bool) (b : ℕ) (parts : List (List ℕ)) (c : Bool) → cut_or_kept c b parts ≡ cond c ([] ∷ parts) (onto_first b parts)
+cut_as p b parts true = refl
+cut_as p b parts false = refl
+
+pub parts-split : (p : ℕ → Bool) (bs : List ℕ) → parts_between p bs ≡ slice_split p bs
+parts-split p [] = refl
+parts-split p (b ∷ bs) = cut_as p b (parts_between p bs) (p b) ∙ ap (λ v. cond (p b) ([] ∷ v) (onto_first b v)) (parts-split p bs)
+
+pub lines_are_known : LinesAreKnown
+lines_are_known text = ap lines_of_parts (parts-split is_newline text)

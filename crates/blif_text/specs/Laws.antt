@@ -1,6 +1,7 @@
 -- Laws of the definitions: what the first fault is, that there is at most one, and that a text is a design or has a fault.
-use Rattle.std.specs.Prelude.{◌≡◌, ◌≢◌, ℕ, ◌<◌, ◌⊎◌, ◌↔◌, List, [], ◌∷◌, ◌++◌, reverse, flat_map, ◌≤◌, Some, None}
-use Rattle.std.specs.List.{AllByRecursion}
+use Rattle.std.specs.Prelude.{◌≡◌, ◌≢◌, ℕ, ◌<◌, ◌⊎◌, ◌↔◌, List, [], ◌∷◌, ◌++◌, reverse, flat_map, ◌+◌, true, false, ⊤, ◌≤◌, Some, None}
+use Rattle.std.specs.List.{AllByRecursion, list_any}
+use Rattle.std.specs.Str.Lines.{lines}
 use Rattle.netlist_core.specs.declared.model.Port.{Port}
 use Rattle.netlist_core.specs.declared.model.Model.{Model}
 use Rattle.netlist_core.specs.declared.model.Design.{Design}
@@ -9,8 +10,8 @@ use Rattle.blif_text.specs.declared.fault.Fault.{Fault}
 use Rattle.blif_text.specs.declared.fault.FaultKind.{FaultKind}
 use Rattle.blif_text.specs.declared.fault.FaultKind.TheVariants.{Recursive}
 use Rattle.blif_text.specs.FaultNames.{number_of}
-use Rattle.blif_text.specs.LogicalLines.{logical_lines}
-use Rattle.blif_text.specs.Models.{models_of}
+use Rattle.blif_text.specs.LogicalLines.{logical_lines, physical_lines, is_blank}
+use Rattle.blif_text.specs.Models.{models_of, begins_model}
 use Rattle.blif_text.specs.LineFaults.{word_at_fault, line_fault}
 use Rattle.blif_text.specs.Drivers.{at_line}
 use Rattle.blif_text.specs.ModelFaults.{model_fault, words_at_fault, AreFaultless, HasModelFault}
@@ -81,3 +82,23 @@ pub record IsFirstModelFault (models : List Model) (fault : Fault) : Type 0 wher
 
 abbrev pub ModelFaultIsFirst : Type 0
 ModelFaultIsFirst = (models : List Model) (fault : Fault) → ((model_fault models ≡ Some fault) × (models ≢ [])) ↔ IsFirstModelFault models fault
+
+-- Lines are cut before each `.model`: what stands before it and what it begins have their own models.
+abbrev pub ModelsAreCut : Type 0
+ModelsAreCut = (before : List Logical) (line : Logical) (after : List Logical) → begins_model line ≡ true → models_of (before ++ line ∷ after) ≡ models_of before ++ models_of (line ∷ after)
+
+-- The physical lines are those of Rust's `lines`.
+abbrev pub LinesAreKnown : Type 0
+LinesAreKnown = (text : List ℕ) → physical_lines text ≡ lines text
+
+-- Each logical line has a word, and each word has a byte and no blank.
+abbrev pub HasWords : Logical → Type 0
+HasWords l = (l.words ≢ []) × AllByRecursion (λ (word : List ℕ). (word ≢ []) × (list_any is_blank word ≡ false)) l.words
+
+-- The numbers of the lines rise, from at least this one on.
+abbrev pub Rises : ℕ → List Logical → Type 0
+Rises least [] = ⊤
+Rises least (l ∷ lines) = (least ≤ l.line) × Rises (l.line + 1) lines
+
+abbrev pub LinesHaveWords : Type 0
+LinesHaveWords = (text : List ℕ) → AllByRecursion HasWords (logical_lines text) × Rises 1 (logical_lines text)

@@ -1,5 +1,20 @@
 // Laws of the definitions.
-ghost use Rattle.blif_text.specs.Laws.{DesignOrFault, FaultlessOrFault, LineFaultIsFirst, ModelFaultIsFirst, NeverBoth, NoModelNoLine, OneDesign, OneFault};
+ghost use Rattle.blif_text.specs.Laws.{DesignOrFault, FaultlessOrFault, LineFaultIsFirst, LinesAreKnown, LinesHaveWords, ModelFaultIsFirst, ModelsAreCut, NeverBoth, NoModelNoLine, OneDesign, OneFault};
+
+/// The physical lines of a text are those of Rust's `lines`.
+pub fn lines_are_known()
+    ensures { LinesAreKnown }
+{}
+
+/// Each logical line has a word, each word has a byte and no blank, and the numbers of the lines rise from 1 on.
+pub fn lines_have_words()
+    ensures { LinesHaveWords }
+{}
+
+/// Lines are cut before each `.model`.
+pub fn models_are_cut()
+    ensures { ModelsAreCut }
+{}
 
 /// The fault of the lines by a rule on lines is that of the earliest line which breaks one over the
 /// lines before it, by the rule of the lowest number.
