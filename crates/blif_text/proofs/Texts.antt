@@ -1,11 +1,11 @@
 -- The lines and words of texts that are joined of parts.
-use Rattle.std.proofs.Common.{◌≡◌, refl, ap, ◌∙◌, ℕ, suc, ◌+◌, ◌<◌, List, [], ◌∷◌, ◌++◌, length, Bool, true, false, ◌||◌, arith, true≢false, take, get_or, cond, not, zero, ◌-◌, ◌&&◌}
+use Rattle.std.proofs.Common.{◌≡◌, ◌≢◌, refl, ap, ◌∙◌, ℕ, suc, ◌+◌, ◌<◌, List, [], ◌∷◌, ◌++◌, length, Bool, true, false, ◌||◌, arith, true≢false, take, get_or, cond, not, zero, ◌-◌, ◌&&◌}
 use Rattle.std.specs.Prelude.{None, filter_map, ◌==◌, if◌then◌else◌}
 use Rattle.std.specs.List.{list_any, onto_first, list_all, before_first, cons_option, slice_split}
 use Rattle.std.specs.Str.Lines.{lines_of_parts, strip_carriage_return}
 use Rattle.std.proofs.lemmas.List.Sums.{take_while-cons}
 use Rattle.blif_text.specs.declared.logical.Logical.{Logical}
-use Rattle.blif_text.specs.Laws.{LinesAreKnown}
+use Rattle.blif_text.specs.Laws.{LinesAreKnown, WordsAreRuns}
 use Rattle.blif_text.specs.LogicalLines.{cut_or_kept, parts_between, is_newline, physical_lines, is_blank, words_of, joined_lines, JoinedLine, without_comment, before_backslash, is_hash, found_or_later, continued_by, non_empty, logical_line, with_words}
 
 -- the parts of a list in which nothing passes the test before the place where it is cut
@@ -147,3 +147,15 @@ parts-split p (b ∷ bs) = cut_as p b (parts_between p bs) (p b) ∙ ap (λ v. c
 
 pub lines_are_known : LinesAreKnown
 lines_are_known text = ap lines_of_parts (parts-split is_newline text)
+
+has_byte : (word : List ℕ) → word ≢ [] → 0 < length word
+has_byte [] n = absurd (n refl)
+has_byte (b ∷ bs) n = omega arith
+
+pub words_are_runs : WordsAreRuns
+words_are_runs = record {
+  before_blank = λ word blank rest n e h. words-cut word blank rest (has_byte word n) e h;
+  at_the_end = λ word n e. words-whole word (has_byte word n) e;
+  after_blank = λ blank rest h. ap (filter_map non_empty) (parts-cut is_blank [] blank rest refl h);
+  of_nothing = refl;
+}

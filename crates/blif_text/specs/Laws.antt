@@ -10,7 +10,7 @@ use Rattle.blif_text.specs.declared.fault.Fault.{Fault}
 use Rattle.blif_text.specs.declared.fault.FaultKind.{FaultKind}
 use Rattle.blif_text.specs.declared.fault.FaultKind.TheVariants.{Recursive}
 use Rattle.blif_text.specs.FaultNames.{number_of}
-use Rattle.blif_text.specs.LogicalLines.{logical_lines, physical_lines, is_blank}
+use Rattle.blif_text.specs.LogicalLines.{logical_lines, physical_lines, is_blank, words_of}
 use Rattle.blif_text.specs.Models.{models_of, begins_model}
 use Rattle.blif_text.specs.LineFaults.{word_at_fault, line_fault}
 use Rattle.blif_text.specs.Drivers.{at_line}
@@ -102,3 +102,10 @@ Rises least (l ∷ lines) = (least ≤ l.line) × Rises (l.line + 1) lines
 
 abbrev pub LinesHaveWords : Type 0
 LinesHaveWords = (text : List ℕ) → AllByRecursion HasWords (logical_lines text) × Rises 1 (logical_lines text)
+
+-- Words are the longest runs of bytes that are no blanks: a run before a blank, or at the end, is one word, and a blank belongs to none.
+pub record WordsAreRuns : Type 0 where
+  pub before_blank : (word : List ℕ) (blank : ℕ) (rest : List ℕ) → word ≢ [] → list_any is_blank word ≡ false → is_blank blank ≡ true → words_of (word ++ blank ∷ rest) ≡ word ∷ words_of rest
+  pub at_the_end : (word : List ℕ) → word ≢ [] → list_any is_blank word ≡ false → words_of word ≡ word ∷ []
+  pub after_blank : (blank : ℕ) (rest : List ℕ) → is_blank blank ≡ true → words_of (blank ∷ rest) ≡ words_of rest
+  pub of_nothing : words_of [] ≡ []

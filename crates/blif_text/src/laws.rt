@@ -1,9 +1,15 @@
 // Laws of the definitions.
-ghost use Rattle.blif_text.specs.Laws.{DesignOrFault, FaultlessOrFault, LineFaultIsFirst, LinesAreKnown, LinesHaveWords, ModelFaultIsFirst, ModelsAreCut, NeverBoth, NoModelNoLine, OneDesign, OneFault};
+ghost use Rattle.blif_text.specs.Laws.{DesignOrFault, FaultlessOrFault, LineFaultIsFirst, LinesAreKnown, LinesHaveWords, ModelFaultIsFirst, ModelsAreCut, NeverBoth, NoModelNoLine, OneDesign, OneFault, WordsAreRuns};
 
 /// The physical lines of a text are those of Rust's `lines`.
 pub fn lines_are_known()
     ensures { LinesAreKnown }
+{}
+
+/// Words are the longest runs of bytes that are no blanks.
+#[tactic(auto, using(crate::proofs::Texts::words_are_runs))]
+pub fn words_are_runs()
+    ensures { WordsAreRuns }
 {}
 
 /// Each logical line has a word, each word has a byte and no blank, and the numbers of the lines rise from 1 on.
