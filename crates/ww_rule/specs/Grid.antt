@@ -1,5 +1,5 @@
 -- Boxes of cells in rows, and the planes that they stand for.
-use Rattle.std.specs.Prelude.{ℕ, pos, negsuc, ◌≡◌, ◌≢◌, ◌*◌, List, [], length, All, get_or}
+use Rattle.std.specs.Prelude.{ℤ, pos, negsuc, ℕ, Bool, false, ◌&&◌, nat_lt, ◌<◌, ◌≡◌, ◌≢◌, ◌*◌, List, [], length, All, get_or}
 use Rattle.ww_rule.specs.declared.pattern.State.{State}
 use Rattle.ww_rule.specs.declared.pattern.State.TheVariants.{Empty}
 use Rattle.ww_rule.specs.Wireworld.{Plane}
@@ -21,3 +21,17 @@ abbrev pub plane_of : List (List State) → Plane
 plane_of rows (pos x) (pos y) = get_or (get_or rows y []) x Empty
 plane_of rows (pos x) (negsuc y) = Empty
 plane_of rows (negsuc x) y = Empty
+
+-- is it a cell of the box of so many columns and rows at the origin?
+abbrev pub in_box : ℕ → ℕ → ℤ → ℤ → Bool
+in_box width height (pos x) (pos y) = nat_lt x width && nat_lt y height
+in_box width height (pos x) (negsuc y) = false
+in_box width height (negsuc x) y = false
+
+-- the plane is empty outside that box
+abbrev pub IsEmptyOutside : ℕ → ℕ → Plane → Type 0
+IsEmptyOutside width height p = (x y : ℤ) → in_box width height x y ≡ false → p x y ≡ Empty
+
+-- these cells lie in that box
+abbrev pub AreInBox : ℕ → ℕ → List (ℕ × ℕ) → Type 0
+AreInBox width height cells = All (λ cell. (cell.0 < width) × (cell.1 < height)) cells
