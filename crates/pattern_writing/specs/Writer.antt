@@ -3,12 +3,8 @@
 use Rattle.std.specs.Prelude.{ℕ, ◌+◌, ◌==◌, nat_le, Bool, if◌then◌else◌, List, [], ◌∷◌, ◌++◌, map, flat_map, length, codes, decimal}
 use Rattle.ww_rule.specs.declared.pattern.State.{State}
 use Rattle.ww_rule.specs.declared.pattern.State.TheVariants.{Empty, Head, Tail, Conductor}
-use Rattle.ww_rule.specs.declared.pattern.Pattern.{Pattern}
 use Rattle.ww_rule.specs.Grid.{Grid}
-
--- a pattern as a value
-abbrev pub grid_of : Pattern → Grid
-grid_of p = record { width = p.width; height = p.height; rows = p.rows }
+pub use Rattle.ww_rule.specs.Patterns.{grid_of}
 
 -- `.` for an empty cell, and `A`, `B`, `C` for the states 1 to 3
 abbrev pub tag_of : State → ℕ

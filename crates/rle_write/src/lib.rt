@@ -6,3 +6,6 @@ mod rows;
 mod text;
 
 pub use text::write_pattern;
+
+#[cfg(test)]
+mod tests;

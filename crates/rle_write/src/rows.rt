@@ -14,14 +14,14 @@ const EMPTY: u8 = b'.';
 
 /// Equal cells of a row, not yet written.
 #[derive(Clone, Copy)]
-pub struct Run {
+struct Run {
     count: usize,
     tag: u8,
 }
 
 /// Where the text has come: the bytes of its last line, and the row ends that are due before the next cell.
 #[derive(Clone, Copy)]
-pub struct Place {
+struct Place {
     used: usize,
     ends: usize,
 }

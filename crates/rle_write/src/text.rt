@@ -2,7 +2,8 @@
 ghost use Rattle.std.specs.Prelude.{◌≡◌, ℕ, List, [], ◌++◌, length, take, decimal, IfOk, OnOk, OnErr};
 ghost use Rattle.std.specs.Io.KnownBytes.{Appends};
 ghost use Rattle.ww_base.specs.Faults.{HasCause};
-ghost use Rattle.pattern_writing.specs.Writer.{grid_of, lines_text, header_text, writer_text};
+ghost use Rattle.ww_rule.specs.Patterns.{grid_of};
+ghost use Rattle.pattern_writing.specs.Writer.{lines_text, header_text, writer_text};
 ghost use Rattle.rle_write.specs.Progress.{Wrote, Broke};
 
 use crate::items::send;
