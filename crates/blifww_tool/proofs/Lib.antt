@@ -1,0 +1,4 @@
+pub mod GateDrawing
+pub mod JoinedPieces
+pub mod ThinNames
+pub mod Shapes

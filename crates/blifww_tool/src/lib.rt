@@ -1,0 +1,10 @@
+//! The top call of the program: `compile`, for the text of one OR gate.
+#![tactic(auto)]
+
+mod drawing;
+mod joined;
+mod refusals;
+mod thin;
+
+
+
