@@ -2,3 +2,4 @@ pub mod GateDrawing
 pub mod JoinedPieces
 pub mod ThinNames
 pub mod Shapes
+pub mod Written

@@ -5,6 +5,9 @@ mod drawing;
 mod joined;
 mod refusals;
 mod thin;
+mod top;
 
+pub use top::run;
 
-
+#[cfg(test)]
+mod tests;

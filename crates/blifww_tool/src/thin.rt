@@ -7,10 +7,15 @@ ghost use Rattle.blifww_tool.specs.Thin.{Names, IsThin, HasNames, HasDistinctPor
 use crate::joined::is_joined;
 
 const MODEL: &[u8] = b".model ";
+
 const INPUTS: &[u8] = b"\n.inputs ";
+
 const OUTPUTS: &[u8] = b"\n.outputs ";
+
 const NAMES: &[u8] = b"\n.names ";
+
 const ROWS: &[u8] = b"\n1- 1\n-1 1\n.end\n";
+
 const SPACE: &[u8] = b" ";
 
 /// The names of an OR gate: its model, its inputs and its output.

@@ -1,0 +1,29 @@
+//! Compiles the BLIF text on standard input to a Wireworld pattern on standard output.
+#![tactic(auto)]
+
+use std::process::ExitCode;
+use std::env;
+use ww_base::{Failed, Sink, StdSink, StdSource, write_all};
+
+// Tells that there is no memory for the words, and answers the status.
+fn tell_no_memory(err: &mut impl Sink) -> u8 {
+    match write_all(err, b"no memory\n") {
+        Ok(()) => 7,
+        Err(Failed) => 6,
+    }
+}
+
+fn main(rt: HostRuntime) -> ExitCode {
+    let mut src = StdSource::new(rt.stdin());
+    let mut out = StdSink::new(rt.stdout());
+    let mut err = StdSink::new(rt.stderr());
+    // Words that cannot be had are no command.
+    let words = match env::args(&rt) {
+        Ok(words) => words.collect::<Vec<String>>(rt.alloc()),
+        Err(_) => Ok(Vec::new(rt.alloc())),
+    };
+    ExitCode::from(match words {
+        Ok(words) => blifww_tool::run(rt.alloc(), &words, &mut src, &mut out, &mut err),
+        Err(_) => tell_no_memory(&mut err),
+    })
+}
