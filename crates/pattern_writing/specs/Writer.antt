@@ -56,9 +56,13 @@ abbrev pub runs_of : List ℕ → List Item
 runs_of [] = []
 runs_of (t ∷ ts) = with_tag t (runs_of ts)
 
--- a count of 1 is left out
+-- the digits of a count, where a count of 1 is left out
+abbrev pub count_text : ℕ → List ℕ
+count_text n = if n == 1 then [] else decimal n
+
+-- the count, and the tag
 abbrev pub item_text : Item → List ℕ
-item_text i = (if i.count == 1 then [] else decimal i.count) ++ i.tag ∷ []
+item_text i = count_text i.count ++ i.tag ∷ []
 
 -- the items of the rows, with `!` after them
 abbrev pub item_texts : List (List State) → List (List ℕ)
