@@ -1,12 +1,19 @@
 //! Compiles the BLIF text on standard input to a Wireworld pattern on standard output.
 #![tactic(auto)]
 
-use std::process::ExitCode;
+ghost use Rattle.std.specs.Prelude.{◌≡◌, ◌≢◌, codes};
+ghost use Rattle.std.specs.Io.KnownBytes.{Appends};
+ghost use Rattle.ww_base.specs.Faults.{Rose};
+
 use std::env;
+use std::process::ExitCode;
 use ww_base::{Failed, Sink, StdSink, StdSource, write_all};
 
 // Tells that there is no memory for the words, and answers the status.
-fn tell_no_memory(err: &mut impl Sink) -> u8 {
+fn tell_no_memory<E: Sink>(err: &mut E) -> u8
+    ensures told { result ≡ 7 → Appends (E.written err.old) (E.written err.new) (codes "no memory\n") }
+    ensures failed { result ≢ 7 → (result ≡ 6) × Rose (E.faults err.old) (E.faults err.new) }
+{
     match write_all(err, b"no memory\n") {
         Ok(()) => 7,
         Err(Failed) => 6,

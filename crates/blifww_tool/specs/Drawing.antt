@@ -27,3 +27,7 @@ or_lines n =
 -- the text of the gate with these names
 abbrev pub or_text : Names → List ℕ
 or_text n = writer_text or_grid (or_lines n)
+
+-- the names of a gate whose text is written out letter by letter
+abbrev pub sample_names : Names
+sample_names = record { model = codes "or"; a = codes "a"; b = codes "b"; y = codes "y" }

@@ -1,10 +1,12 @@
 // The drawing of an OR gate, and the lines that say where its ports are.
 ghost use Rattle.std.specs.Prelude.{◌≡◌, ◌++◌, map, IfOk};
 ghost use Rattle.pattern_writing.specs.Writer.{grid_of};
-ghost use Rattle.blifww_tool.specs.Drawing.{state_of, or_grid, or_lines};
+ghost use Rattle.pattern_writing.specs.Samples as samples;
+ghost use Rattle.blifww_tool.specs.Drawing.{state_of, or_grid, or_lines, or_text, sample_names};
 
 use crate::thin::Gate;
 use lists::{Bytes, List};
+use pattern_writing::samples_are_so;
 use std::alloc::{AllocError, Global};
 use ww_rule::{Pattern, State};
 
@@ -101,4 +103,12 @@ pub fn or_lines(alloc: Global, gate: &Gate) -> Result<[Bytes; 4], AllocError>
         port_line(alloc, b"#C BLIFWW IN 0 24 ", gate.b)?,
         port_line(alloc, b"#C BLIFWW OUT 32 8 ", gate.y)?,
     ])
+}
+
+/// Does nothing: its clause says that the text of an OR gate with the names a, b and y is the one that stands written out,
+/// letter by letter, in `pattern_writing`.
+pub fn sample_is_so()
+    ensures { or_text sample_names ≡ samples.or_text }
+{
+    samples_are_so();
 }

@@ -7,6 +7,7 @@ mod refusals;
 mod thin;
 mod top;
 
+pub use drawing::sample_is_so;
 pub use top::run;
 
 #[cfg(test)]
