@@ -1,4 +1,6 @@
 // Runs over sources and sinks in memory.
+ghost use Rattle.std.specs.Prelude.{◌≤◌};
+
 use crate::run;
 use std::alloc::Global;
 use std::test::Fail;
@@ -29,7 +31,9 @@ fn run_over(
     text: &[u8],
     source: (usize, &[u64]),
     rooms: (usize, usize),
-) -> Result<Outcome, Fail> {
+) -> Result<Outcome, Fail>
+    requires { 1 ≤ source.0 }
+{
     let mut given = Vec::new(alloc);
     for word in words {
         given.push(String::from_str(alloc, word)?)?;
