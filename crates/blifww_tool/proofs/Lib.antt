@@ -1,0 +1,5 @@
+pub mod GateDrawing
+pub mod JoinedPieces
+pub mod ThinNames
+pub mod Shapes
+pub mod Written
