@@ -4,3 +4,4 @@ pub mod Thin
 pub mod Drawing
 pub mod Run
 pub mod ReadRefusals
+pub mod Gate

@@ -4,6 +4,7 @@ ghost use Rattle.std.specs.Io.KnownBytes.{Keeps};
 ghost use Rattle.ww_base.specs.Faults.{Rose};
 ghost use Rattle.blifww_tool.specs.Thin.{Names, IsThin};
 ghost use Rattle.blifww_tool.specs.Drawing.{or_text};
+ghost use Rattle.blifww_tool.specs.Gate.{WritesWhatItRead};
 ghost use Rattle.blifww_tool.specs.Run.{IsShape, text_limit, status_of, line_of, Reading, reading, Writing, writing, Gave, GaveAll, Gained, GainedNothing, WriteFailed, HasReason, Compiles, IsCalm, CutsLine, CutsText};
 
 use crate::drawing::{or_lines, or_pattern};
@@ -28,6 +29,7 @@ fn is_shape(words: &[String]) -> bool
 
 // Reads the text of an OR gate and writes its pattern. All memory is taken before the first byte is written.
 fn compile<S: Source, O: Sink>(alloc: Global, src: &mut S, out: &mut O) -> Result<(), Refusal>
+    ensures headline { OnOk result (WritesWhatItRead (reading S.left S.faults src.old src.new) (writing O.written O.faults out.old out.new)) }
     ensures done { OnOk result (Compiles (reading S.left S.faults src.old src.new) (writing O.written O.faults out.old out.new) or_text) }
     ensures refused { IfErr result (λ r. (r ≢ Refusal.WriteFault) → GainedNothing (writing O.written O.faults out.old out.new)
         × HasReason [] (reading S.left S.faults src.old src.new) r) }
@@ -55,6 +57,7 @@ fn work<S: Source, O: Sink>(
     src: &mut S,
     out: &mut O,
 ) -> Result<(), Refusal>
+    ensures headline { OnOk result (WritesWhatItRead (reading S.left S.faults src.old src.new) (writing O.written O.faults out.old out.new)) }
     ensures done { OnOk result (Compiles (reading S.left S.faults src.old src.new) (writing O.written O.faults out.old out.new) or_text) }
     ensures shape { OnOk result (IsShape (map string_bytes words.now)) }
     ensures refused { IfErr result (λ r. (r ≢ Refusal.WriteFault) → GainedNothing (writing O.written O.faults out.old out.new)
@@ -88,6 +91,10 @@ pub fn run<S: Source, O: Sink, E: Sink>(
     out: &mut O,
     err: &mut E,
 ) -> u8
+    // The bytes that `out` gained carry the design of the text that `src` had left.
+    ensures headline { result ≡ 0 → WritesWhatItRead (reading S.left S.faults src.old src.new) (writing O.written O.faults out.old out.new) }
+
+    // What was read and written, and that nothing else was.
     ensures done { result ≡ 0 → Compiles (reading S.left S.faults src.old src.new) (writing O.written O.faults out.old out.new) or_text }
     ensures silent { result ≡ 0 → GainedNothing (writing E.written E.faults err.old err.new) }
 

@@ -27,7 +27,7 @@ no_control : (a b y : Name) (rows : List (List ℕ)) (on : Bool) (design : Desig
 no_control a b y rows on design h net (source, is_source, _) =
     no_latch-flat design h.main (flat_of a b y rows on design h) h.latches source.place is_source.number is_source.latch is_source.has_latch
 
-in_names_are : (a b y : Name) (rows : List (List ℕ)) (on : Bool) (design : Design) (h : IsOneCover a b y rows on design) → IsInNames design (a ∷ b ∷ [])
+pub in_names_are : (a b y : Name) (rows : List (List ℕ)) (on : Bool) (design : Design) (h : IsOneCover a b y rows on design) → IsInNames design (a ∷ b ∷ [])
 in_names_are a b y rows on design h =
     subst (λ names. IsInNames design names) (inputs_are a b y rows on design h) (all_in_names design (no_control a b y rows on design h) (main_inputs design))
 
