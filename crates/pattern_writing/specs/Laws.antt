@@ -1,6 +1,6 @@
 -- What holds of the items of every list of tags.
-use Rattle.std.specs.Prelude.{◌≡◌, ◌≢◌, ℕ, List, [], ◌∷◌, flat_map, replicate}
-use Rattle.pattern_writing.specs.Writer.{Item, runs_of}
+use Rattle.std.specs.Prelude.{◌≡◌, ◌≢◌, ℕ, List, [], ◌∷◌, ◌==◌, not, filter, flat_map, replicate}
+use Rattle.pattern_writing.specs.Writer.{Item, runs_of, wrapped}
 
 -- the tags that items stand for
 abbrev pub spelled : List Item → List ℕ
@@ -23,3 +23,12 @@ ItemsSpellTags = (tags : List ℕ) → spelled (runs_of tags) ≡ tags
 -- and each is as long as it can be
 abbrev pub ItemsAreLongestRuns : Type 0
 ItemsAreLongestRuns = (tags : List ℕ) → HasLongestRuns (runs_of tags)
+
+-- the bytes but line ends
+abbrev pub without_line_ends : List ℕ → List ℕ
+without_line_ends bytes = filter (λ b. not (b == 10)) bytes
+
+-- wrapping puts in line ends, and nothing else
+abbrev pub WrappingKeepsItems : Type 0
+WrappingKeepsItems = (used : ℕ) (items : List (List ℕ)) →
+    without_line_ends (wrapped used items) ≡ without_line_ends (flat_map (λ item. item) items)

@@ -3,7 +3,7 @@
 
 ghost use Rattle.std.specs.Prelude.{◌≡◌, ◌++◌, length};
 ghost use Rattle.pattern_writing.specs.Writer.{writer_text};
-ghost use Rattle.pattern_writing.specs.Laws.{ItemsSpellTags, ItemsAreLongestRuns};
+ghost use Rattle.pattern_writing.specs.Laws.{ItemsSpellTags, ItemsAreLongestRuns, WrappingKeepsItems};
 ghost use Rattle.pattern_writing.specs.Samples.{or_grid, or_port_lines, or_net_lines, or_text, or_text_with_nets, bare_grid, bare_lines, bare_text};
 
 /// Does nothing: its clauses are facts about the definition, for an OR gate in a box of 33 by 32 cells and for a box without cells.
@@ -19,4 +19,9 @@ pub fn samples_are_so()
 pub fn items_are_runs()
     ensures spell { ItemsSpellTags }
     ensures longest { ItemsAreLongestRuns }
+{}
+
+/// Does nothing: its clause is a law of all items on lines.
+pub fn wrapping_keeps_items()
+    ensures { WrappingKeepsItems }
 {}
