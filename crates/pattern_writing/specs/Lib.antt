@@ -1,2 +1,3 @@
-pub mod Writer
+pub mod Laws
 pub mod Samples
+pub mod Writer

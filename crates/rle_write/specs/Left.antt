@@ -1,5 +1,5 @@
 -- The text that is still to come, where a writer stands somewhere in a pattern.
-use Rattle.std.specs.Prelude.{◌≡◌, ◌≢◌, ℕ, zero, suc, List, [], ◌∷◌, ◌++◌, map, flat_map, replicate, codes}
+use Rattle.std.specs.Prelude.{◌≡◌, ◌≢◌, ℕ, zero, suc, List, [], ◌∷◌, ◌++◌, map, flat_map, replicate, length, codes}
 use Rattle.ww_rule.specs.declared.pattern.State.{State}
 use Rattle.ww_rule.specs.declared.pattern.State.TheVariants.{Empty}
 use Rattle.pattern_writing.specs.Writer.{Item, tag_of, row_end, without_end, row_tags, runs_of, item_text, wrapped}
@@ -18,13 +18,17 @@ abbrev pub end_items : ℕ → List Item
 end_items zero = []
 end_items (suc n) = record { count = suc n; tag = row_end } ∷ []
 
--- the text of items and of the `!` after them, begun on a line that has some bytes
-abbrev pub items_left : ℕ → List Item → List ℕ
-items_left used items = wrapped used (map item_text items ++ codes "!" ∷ [])
+-- the text of a line that is begun and of items on it
+abbrev pub line_left : List ℕ → List (List ℕ) → List ℕ
+line_left line items = line ++ wrapped (length line) items
+
+-- the text of a line that is begun, of items on it and of the `!` after them
+abbrev pub items_left : List ℕ → List Item → List ℕ
+items_left line items = line_left line (map item_text items ++ codes "!" ∷ [])
 
 -- the same of the items of tags
-abbrev pub text_left : ℕ → List ℕ → List ℕ
-text_left used tags = items_left used (runs_of tags)
+abbrev pub text_left : List ℕ → List ℕ → List ℕ
+text_left line tags = items_left line (runs_of tags)
 
 -- the tags do not begin with this one
 abbrev pub BeginsOther : ℕ → List ℕ → Type 0

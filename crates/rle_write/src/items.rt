@@ -1,24 +1,13 @@
 // Items on lines.
-ghost use Rattle.std.specs.Prelude.{◌≡◌, ◌≤◌, ◌+◌, ℕ, List, ◌∷◌, ◌++◌, length, IfOk, OnOk, OnErr};
-ghost use Rattle.pattern_writing.specs.Writer.{count_text, item_text, line_break, used_after, wrapped};
+ghost use Rattle.std.specs.Prelude.{◌≡◌, ◌≤◌, ◌+◌, ℕ, List, ◌∷◌, ◌++◌, length, OnOk, OnErr};
+ghost use Rattle.pattern_writing.specs.Writer.{count_text, item_text, line_break, used_after};
+ghost use Rattle.rle_write.specs.Left.{line_left};
+ghost use Rattle.rle_write.specs.Lines.{line_text};
 ghost use Rattle.rle_write.specs.Progress.{Wrote, Broke};
 
+use crate::line::{LINE, Line};
 use itoa::Buffer;
-use ww_base::{Failed, Sink, write_all};
-
-/// The most bytes that a line of items has.
-const LINE: usize = 70;
-
-/// Writes a piece, or a front of it where a write fails.
-pub fn send<O: Sink>(sink: &mut O, piece: &[u8]) -> Result<(), Failed>
-    ensures ok { OnOk result ((rest : List ℕ) →
-        Wrote (O.written sink.old) (O.written sink.new) (O.faults sink.old) (O.faults sink.new) (piece.now ++ rest) rest) }
-    ensures err { OnErr result ((rest : List ℕ) →
-        Broke (O.written sink.old) (O.written sink.new) (O.faults sink.old) (O.faults sink.new) (piece.now ++ rest)) }
-    ensures later { O.faults sink.old ≤ O.faults sink.new }
-{
-    write_all(sink, piece)
-}
+use ww_base::{Failed, Sink};
 
 // The digits of a count, if it is not 1.
 fn count_digits(buffer: &mut Buffer, count: usize) -> &str
@@ -31,47 +20,44 @@ fn count_digits(buffer: &mut Buffer, count: usize) -> &str
     buffer.format(count)
 }
 
-// Ends the line, where an item of `size` bytes does not fit on it, and answers where the item begins.
-fn break_line<O: Sink>(sink: &mut O, used: usize, size: usize) -> Result<usize, Failed>
-    requires line { used ≤ 70 }
-    requires short { size ≤ 41 }
-    ensures start { IfOk result (λ start. (item : List ℕ) → length item ≡ size → start + size ≡ used_after used item) }
-    ensures within { IfOk result (λ start. start + size ≤ 70) }
-    ensures ok { IfOk result (λ start. (item rest : List ℕ) → length item ≡ size →
+// Ends the line, where an item of `size` bytes does not fit on it.
+fn make_room<O: Sink>(sink: &mut O, line: &mut Line, size: usize) -> Result<(), Failed>
+    requires { size ≤ 41 }
+    ensures room { OnOk result (length (line_text line.new) + size ≤ 70) }
+    ensures start { OnOk result ((item : List ℕ) → length item ≡ size →
+        length (line_text line.new) + size ≡ used_after (length (line_text line.old)) item) }
+    ensures ok { OnOk result ((item rest : List ℕ) → length item ≡ size →
         Wrote (O.written sink.old) (O.written sink.new) (O.faults sink.old) (O.faults sink.new)
-        (line_break used item ++ rest) rest) }
+        (line_text line.old ++ (line_break (length (line_text line.old)) item ++ rest)) (line_text line.new ++ rest)) }
     ensures err { OnErr result ((item rest : List ℕ) → length item ≡ size →
         Broke (O.written sink.old) (O.written sink.new) (O.faults sink.old) (O.faults sink.new)
-        (line_break used item ++ rest)) }
+        (line_text line.old ++ (line_break (length (line_text line.old)) item ++ rest))) }
 {
-    if used + size <= LINE {
-        return Ok(used);
+    if line.len() + size <= LINE {
+        return Ok(());
     }
-    send(sink, b"\n")?;
-    Ok(0)
+    line.end(sink)
 }
 
-/// Writes an item on the line that has `used` bytes, or on the next, and answers how many bytes the line has then.
+/// Puts an item on the line, or on the next where it does not fit.
 pub fn write_item<O: Sink>(
     sink: &mut O,
-    used: usize,
+    line: &mut Line,
     count: usize,
     tag: u8,
-) -> Result<usize, Failed>
-    requires { used ≤ 70 }
-    ensures within { IfOk result (λ after. after ≤ 70) }
-    ensures ok { IfOk result (λ after. (items : List (List ℕ)) →
+) -> Result<(), Failed>
+    ensures ok { OnOk result ((items : List (List ℕ)) →
         Wrote (O.written sink.old) (O.written sink.new) (O.faults sink.old) (O.faults sink.new)
-        (wrapped used (item_text (record { count = count; tag = tag }) ∷ items)) (wrapped after items)) }
+        (line_left (line_text line.old) (item_text (record { count = count; tag = tag }) ∷ items))
+        (line_left (line_text line.new) items)) }
     ensures err { OnErr result ((items : List (List ℕ)) →
         Broke (O.written sink.old) (O.written sink.new) (O.faults sink.old) (O.faults sink.new)
-        (wrapped used (item_text (record { count = count; tag = tag }) ∷ items))) }
+        (line_left (line_text line.old) (item_text (record { count = count; tag = tag }) ∷ items))) }
 {
     let mut buffer = Buffer::new();
     let digits = count_digits(&mut buffer, count);
-    let size = digits.len() + 1;
-    let start = break_line(sink, used, size)?;
-    send(sink, digits.as_bytes())?;
-    send(sink, &[tag])?;
-    Ok(start + size)
+    make_room(sink, line, digits.len() + 1)?;
+    line.push(digits.as_bytes());
+    line.push(&[tag]);
+    Ok(())
 }

@@ -2,6 +2,7 @@
 #![tactic(auto)]
 
 mod items;
+mod line;
 mod rows;
 mod text;
 

@@ -2,9 +2,11 @@
 ghost use Rattle.std.specs.Prelude.{◌≡◌, ◌≢◌, ◌≤◌, ◌<◌, ◌+◌, ◌^◌, ℕ, List, [], ◌∷◌, ◌++◌, replicate, IfOk, OnErr, OnOk};
 ghost use Rattle.pattern_writing.specs.Writer.{Item, tag_of, row_end, item_texts, wrapped};
 ghost use Rattle.rle_write.specs.Left.{rows_left, row_left, end_items, items_left, text_left, IsRunBefore};
+ghost use Rattle.rle_write.specs.Lines.{line_text};
 ghost use Rattle.rle_write.specs.Progress.{Wrote, Broke};
 
 use crate::items::write_item;
+use crate::line::Line;
 use lists::List;
 use ww_base::{Failed, Sink};
 use ww_rule::State;
@@ -19,13 +21,6 @@ struct Run {
     tag: u8,
 }
 
-/// Where the text has come: the bytes of its last line, and the row ends that are due before the next cell.
-#[derive(Clone, Copy)]
-struct Place {
-    used: usize,
-    ends: usize,
-}
-
 fn letter(state: State) -> u8
     ensures tag { result ≡ tag_of state }
     ensures cell { result ≢ row_end }
@@ -38,80 +33,77 @@ fn letter(state: State) -> u8
     }
 }
 
-// Writes the row ends that are due, and answers how many bytes the line has then.
-fn write_ends<O: Sink>(sink: &mut O, place: Place) -> Result<usize, Failed>
-    requires { place.used ≤ 70 }
-    ensures within { IfOk result (λ after. after ≤ 70) }
-    ensures ok { IfOk result (λ after. (items : List Item) →
+// Writes the row ends that are due.
+fn write_ends<O: Sink>(sink: &mut O, line: &mut Line, ends: usize) -> Result<(), Failed>
+    ensures ok { OnOk result ((items : List Item) →
         Wrote (O.written sink.old) (O.written sink.new) (O.faults sink.old) (O.faults sink.new)
-        (items_left place.used (end_items place.ends ++ items)) (items_left after items)) }
+        (items_left (line_text line.old) (end_items ends ++ items)) (items_left (line_text line.new) items)) }
     ensures err { OnErr result ((items : List Item) →
         Broke (O.written sink.old) (O.written sink.new) (O.faults sink.old) (O.faults sink.new)
-        (items_left place.used (end_items place.ends ++ items))) }
+        (items_left (line_text line.old) (end_items ends ++ items))) }
 {
-    if place.ends == 0 {
-        return Ok(place.used);
+    if ends == 0 {
+        return Ok(());
     }
-    write_item(sink, place.used, place.ends, b'$')
+    write_item(sink, line, ends, b'$')
 }
 
-// Writes a run, after the row ends that are due before it.
-fn write_run<O: Sink>(sink: &mut O, place: Place, run: Run) -> Result<Place, Failed>
-    requires line { place.used ≤ 70 }
-    requires cell { run.tag ≢ row_end }
-    ensures within { IfOk result (λ after. after.used ≤ 70) }
-    ensures fewer { IfOk result (λ after. after.ends ≤ place.ends) }
+// Writes a run, after the row ends that are due before it, and answers how many are due then.
+fn write_run<O: Sink>(sink: &mut O, line: &mut Line, ends: usize, run: Run) -> Result<usize, Failed>
+    requires { run.tag ≢ row_end }
+    ensures fewer { IfOk result (λ after. after ≤ ends) }
     ensures ok { IfOk result (λ after. (tags : List ℕ) (rows : List (List State)) → IsRunBefore run.count run.tag tags →
         Wrote (O.written sink.old) (O.written sink.new) (O.faults sink.old) (O.faults sink.new)
-        (text_left place.used (row_left place.ends (replicate run.count run.tag ++ tags) rows))
-        (text_left after.used (row_left after.ends tags rows))) }
+        (text_left (line_text line.old) (row_left ends (replicate run.count run.tag ++ tags) rows))
+        (text_left (line_text line.new) (row_left after tags rows))) }
     ensures err { OnErr result ((tags : List ℕ) (rows : List (List State)) → IsRunBefore run.count run.tag tags →
         Broke (O.written sink.old) (O.written sink.new) (O.faults sink.old) (O.faults sink.new)
-        (text_left place.used (row_left place.ends (replicate run.count run.tag ++ tags) rows))) }
+        (text_left (line_text line.old) (row_left ends (replicate run.count run.tag ++ tags) rows))) }
 {
     if run.count == 0 {
-        return Ok(place);
+        return Ok(ends);
     }
-    let start = write_ends(sink, place)?;
-    let used = write_item(sink, start, run.count, run.tag)?;
-    Ok(Place { used, ends: 0 })
+    write_ends(sink, line, ends)?;
+    write_item(sink, line, run.count, run.tag)?;
+    Ok(0)
 }
 
 // Writes the last run of a row, if its cells are not empty.
-fn end_run<O: Sink>(sink: &mut O, place: Place, run: Run) -> Result<Place, Failed>
-    requires line { place.used ≤ 70 }
-    requires cell { run.tag ≢ row_end }
-    ensures within { IfOk result (λ after. after.used ≤ 70) }
-    ensures fewer { IfOk result (λ after. after.ends ≤ place.ends) }
+fn end_run<O: Sink>(sink: &mut O, line: &mut Line, ends: usize, run: Run) -> Result<usize, Failed>
+    requires { run.tag ≢ row_end }
+    ensures fewer { IfOk result (λ after. after ≤ ends) }
     ensures ok { IfOk result (λ after. (rows : List (List State)) →
         Wrote (O.written sink.old) (O.written sink.new) (O.faults sink.old) (O.faults sink.new)
-        (text_left place.used (row_left place.ends (replicate run.count run.tag ++ []) rows))
-        (text_left after.used (row_left after.ends [] rows))) }
+        (text_left (line_text line.old) (row_left ends (replicate run.count run.tag ++ []) rows))
+        (text_left (line_text line.new) (row_left after [] rows))) }
     ensures err { OnErr result ((rows : List (List State)) →
         Broke (O.written sink.old) (O.written sink.new) (O.faults sink.old) (O.faults sink.new)
-        (text_left place.used (row_left place.ends (replicate run.count run.tag ++ []) rows))) }
+        (text_left (line_text line.old) (row_left ends (replicate run.count run.tag ++ []) rows))) }
 {
     if run.tag == EMPTY {
-        return Ok(place);
+        return Ok(ends);
     }
-    write_run(sink, place, run)
+    write_run(sink, line, ends, run)
 }
 
-// Writes a row up to its last cell that is not empty: the row's end is due from then on.
-fn write_row<O: Sink>(sink: &mut O, place: Place, row: &[State]) -> Result<Place, Failed>
-    requires line { place.used ≤ 70 }
-    requires room { place.ends + 1 < 2 ^ 64 }
-    ensures within { IfOk result (λ after. after.used ≤ 70) }
-    ensures one_more { IfOk result (λ after. after.ends ≤ place.ends + 1) }
+// Writes a row up to its last cell that is not empty, and answers how many row ends are due then, its own among them.
+fn write_row<O: Sink>(
+    sink: &mut O,
+    line: &mut Line,
+    ends: usize,
+    row: &[State],
+) -> Result<usize, Failed>
+    requires { ends + 1 < 2 ^ 64 }
+    ensures one_more { IfOk result (λ after. after ≤ ends + 1) }
     ensures ok { IfOk result (λ after. (rows : List (List State)) →
         Wrote (O.written sink.old) (O.written sink.new) (O.faults sink.old) (O.faults sink.new)
-        (text_left place.used (rows_left place.ends (row.now ∷ rows)))
-        (text_left after.used (rows_left after.ends rows))) }
+        (text_left (line_text line.old) (rows_left ends (row.now ∷ rows)))
+        (text_left (line_text line.new) (rows_left after rows))) }
     ensures err { OnErr result ((rows : List (List State)) →
         Broke (O.written sink.old) (O.written sink.new) (O.faults sink.old) (O.faults sink.new)
-        (text_left place.used (rows_left place.ends (row.now ∷ rows)))) }
+        (text_left (line_text line.old) (rows_left ends (row.now ∷ rows)))) }
 {
-    let mut at = place;
+    let mut due = ends;
     let mut run = Run {
         count: 0,
         tag: EMPTY,
@@ -121,30 +113,28 @@ fn write_row<O: Sink>(sink: &mut O, place: Place, row: &[State]) -> Result<Place
         if tag == run.tag {
             run.count += 1;
         } else {
-            at = write_run(sink, at, run)?;
+            due = write_run(sink, line, due, run)?;
             run = Run { count: 1, tag };
         }
     }
-    let last = end_run(sink, at, run)?;
-    Ok(Place {
-        used: last.used,
-        ends: last.ends + 1,
-    })
+    let last = end_run(sink, line, due, run)?;
+    Ok(last + 1)
 }
 
-/// Writes the items of the rows, and the `!` after them.
+/// Writes the items of the rows, the `!` after them and a line end.
 pub fn write_rows<O: Sink>(sink: &mut O, rows: &[List<State>]) -> Result<(), Failed>
-    ensures ok { OnOk result (
+    ensures ok { OnOk result ((rest : List ℕ) →
         Wrote (O.written sink.old) (O.written sink.new) (O.faults sink.old) (O.faults sink.new)
-        (wrapped 0 (item_texts rows.now)) []) }
-    ensures err { OnErr result (
+        (wrapped 0 (item_texts rows.now) ++ (10 ∷ rest)) rest) }
+    ensures err { OnErr result ((rest : List ℕ) →
         Broke (O.written sink.old) (O.written sink.new) (O.faults sink.old) (O.faults sink.new)
-        (wrapped 0 (item_texts rows.now))) }
+        (wrapped 0 (item_texts rows.now) ++ (10 ∷ rest))) }
 {
-    let mut at = Place { used: 0, ends: 0 };
+    let mut line = Line::new();
+    let mut ends = 0;
     for row in rows {
-        at = write_row(sink, at, row.as_slice())?;
+        ends = write_row(sink, &mut line, ends, row.as_slice())?;
     }
-    write_item(sink, at.used, 1, b'!')?;
-    Ok(())
+    write_item(sink, &mut line, 1, b'!')?;
+    line.end(sink)
 }

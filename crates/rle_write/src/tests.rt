@@ -3,7 +3,7 @@ ghost use Rattle.std.specs.Prelude.{◌≡◌, length, IfOk};
 
 use crate::write_pattern;
 use lists::{Bytes, List};
-use std::alloc::{AllocError, Global};
+use std::alloc::Global;
 use std::test::Fail;
 use ww_base::{Failed, MemSink};
 use ww_rule::{Pattern, RuleError, State};

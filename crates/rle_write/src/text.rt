@@ -6,7 +6,7 @@ ghost use Rattle.ww_rule.specs.Patterns.{grid_of};
 ghost use Rattle.pattern_writing.specs.Writer.{lines_text, header_text, writer_text};
 ghost use Rattle.rle_write.specs.Progress.{Wrote, Broke};
 
-use crate::items::send;
+use crate::line::send;
 use crate::rows::write_rows;
 use itoa::Buffer;
 use lists::Bytes;
@@ -71,6 +71,5 @@ pub fn write_pattern<O: Sink>(
 {
     write_lines(sink, lines)?;
     write_header(sink, pattern.width, pattern.height)?;
-    write_rows(sink, pattern.rows.as_slice())?;
-    send(sink, b"\n")
+    write_rows(sink, pattern.rows.as_slice())
 }

@@ -1,5 +1,5 @@
 use Rattle.rle_write.proofs.Steps.{both_err, broke_piece}
-use Rattle.rle_write.proofs.items.send.Goals as goal
+use Rattle.rle_write.proofs.line.send.Goals as goal
 
 pub returns-clause-err : goal.returns-clause-err
 returns-clause-err g c =
