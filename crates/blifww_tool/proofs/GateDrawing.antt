@@ -1,7 +1,6 @@
 -- The gate's box of cells has rows of its width, as many as its height.
-use Rattle.std.proofs.Common.{rules, ◌≡◌, ℕ, refl, List, length, arith, ◌==◌, Bool, true, nat_eq}
+use Rattle.std.proofs.Common.{rules, ◌≡◌, refl, List, length, arith, true, nat_eq}
 use Rattle.std.proofs.lemmas.List.Sums.{AllPass-from_list_all}
-use Rattle.std.specs.List.{AllPass}
 use Rattle.ww_rule.specs.declared.pattern.State.{State}
 use Rattle.ww_rule.specs.Grid.{IsGrid}
 use Rattle.blifww_tool.specs.Drawing.{or_grid}

@@ -1,4 +1,4 @@
-use Rattle.std.proofs.Common.{rules, sym, ap, ◌∙◌, ◌≡◌, get_or, ◌++◌, ◌∷◌, []}
+use Rattle.std.proofs.Common.{rules}
 use Rattle.std.proofs.lemmas.List.{map_more}
 use Rattle.blifww_tool.specs.Drawing.{state_of}
 use Rattle.blifww_tool.proofs.drawing.row_of.Goals as goal

@@ -1,4 +1,4 @@
-use Rattle.std.proofs.Common.{rules, string_bytes, codes, ◌≡◌, IsTrue}
+use Rattle.std.proofs.Common.{rules, string_bytes, codes}
 use Rattle.blifww_tool.proofs.Shapes.{two_words}
 use Rattle.blifww_tool.proofs.top.is_shape.Goals as goal
 
