@@ -1,6 +1,7 @@
-// Standard input, output and error as a source and sinks. What a real stream gives or keeps no contract can say: they
-// tell no bytes, and count the errors alone.
-ghost use Rattle.std.specs.Prelude.{None};
+// Standard input, output and error as a source and sinks. What a stream of the system gives or keeps no contract can
+// say, so these tell no bytes. Over a stream whose bytes are known they are those bytes.
+ghost use Rattle.std.specs.Prelude.{◌≡◌};
+ghost use Rattle.ww_base.specs.Standard.{source_stream, source_faults, sink_stream, sink_faults};
 
 use crate::{Failed, Sink, Source};
 use std::io::{Read, Write};
@@ -13,15 +14,19 @@ pub struct StdSource<R: Read + Drop> {
 }
 
 impl<R: Read + Drop> StdSource<R> {
-    pub fn new(stream: R) -> Self {
+    /// A source that has not failed yet.
+    pub fn new(stream: R) -> Self
+        ensures stream { source_stream result ≡ stream }
+        ensures faults { source_faults result ≡ 0 }
+    {
         StdSource { stream, faults: 0 }
     }
 }
 
 impl<R: Read + Drop> Source for StdSource<R> {
-    ghost left = { λ _. None };
+    ghost left = { λ s. R.remaining (source_stream s) };
 
-    ghost faults = { λ s. s.faults };
+    ghost faults = { λ s. source_faults s };
 
     fn read(&mut self, buf: &mut [u8]) -> Result<usize, Failed> {
         match self.stream.read(buf) {
@@ -42,15 +47,19 @@ pub struct StdSink<W: Write + Drop> {
 }
 
 impl<W: Write + Drop> StdSink<W> {
-    pub fn new(stream: W) -> Self {
+    /// A sink that has not failed yet.
+    pub fn new(stream: W) -> Self
+        ensures stream { sink_stream result ≡ stream }
+        ensures faults { sink_faults result ≡ 0 }
+    {
         StdSink { stream, faults: 0 }
     }
 }
 
 impl<W: Write + Drop> Sink for StdSink<W> {
-    ghost written = { λ _. None };
+    ghost written = { λ s. W.contents (sink_stream s) };
 
-    ghost faults = { λ s. s.faults };
+    ghost faults = { λ s. sink_faults s };
 
     fn write(&mut self, piece: &[u8]) -> Result<usize, Failed> {
         match self.stream.write(piece) {
