@@ -9,3 +9,4 @@ pub mod Places
 pub mod ClockInstances
 pub mod Adder
 pub mod Depth
+pub mod CoverValue

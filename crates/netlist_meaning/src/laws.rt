@@ -1,7 +1,7 @@
 //! What is proved of the definitions, for every design. The functions do nothing: each has a law as its contract.
 
 ghost use Rattle.netlist_core.specs.declared.model.Design.{Design};
-ghost use Rattle.netlist_meaning.specs.Laws.{IsLeastEquivalence, PinsAreEnough, InNamesAreOne, WeightIsSum, PlacesAreShallow, WeightIsSumOverAll};
+ghost use Rattle.netlist_meaning.specs.Laws.{IsLeastEquivalence, PinsAreEnough, InNamesAreOne, WeightIsSum, PlacesAreShallow, WeightIsSumOverAll, CoversSay};
 
 /// Joined nets are the least equivalence in which each pin joins its actual with its formal.
 pub fn joined_is_the_least_equivalence()
@@ -31,4 +31,10 @@ pub fn places_are_shallow()
 /// So there the weight is the sum of the own weights over all places.
 pub fn weight_is_the_sum_over_all_places()
     ensures { WeightIsSumOverAll }
+{}
+
+/// A cover of rows that end in `1` gives 1 exactly when in one of its rows each `1` stands under a bit 1 and each `0`
+/// under a bit 0; one of rows that end in `0` gives 0 exactly then.
+pub fn covers_say_what_their_rows_say()
+    ensures { CoversSay }
 {}
