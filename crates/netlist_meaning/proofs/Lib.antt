@@ -10,3 +10,4 @@ pub mod ClockInstances
 pub mod Adder
 pub mod Depth
 pub mod CoverValue
+pub mod Roots

@@ -1,11 +1,18 @@
 //! What is proved of the definitions, for every design. The functions do nothing: each has a law as its contract.
 
 ghost use Rattle.netlist_core.specs.declared.model.Design.{Design};
+ghost use Rattle.netlist_meaning.specs.Roots.{JoinedIsSameRoot};
 ghost use Rattle.netlist_meaning.specs.Laws.{IsLeastEquivalence, PinsAreEnough, InNamesAreOne, WeightIsSum, PlacesAreShallow, WeightIsSumOverAll, CoversSay};
 
 /// Joined nets are the least equivalence in which each pin joins its actual with its formal.
 pub fn joined_is_the_least_equivalence()
     ensures { (design : Design) → IsLeastEquivalence design }
+{}
+
+/// Where no line names a formal with two actuals, joined nets are those of one root: of the net that is found by going
+/// from each formal to its actual, as far as there are pins.
+pub fn joined_nets_have_one_root()
+    ensures { JoinedIsSameRoot }
 {}
 
 /// Bits that agree at each pin agree at all joined nets, and the other way round.
