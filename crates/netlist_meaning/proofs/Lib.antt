@@ -11,3 +11,4 @@ pub mod Adder
 pub mod Depth
 pub mod CoverValue
 pub mod Roots
+pub mod Delay

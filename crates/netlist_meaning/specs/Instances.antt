@@ -1,5 +1,5 @@
 -- What the definitions say of single designs.
-use Rattle.std.specs.Prelude.{ℕ, zero, suc, cond, ◌+◌, ◌*◌, ◌^◌, ◌<◌, ◌≡◌, ◌≢◌, List, [], ◌∷◌, Bool, true, false, not, ◌||◌, length, All, slice_get, Some, codes}
+use Rattle.std.specs.Prelude.{ℕ, zero, suc, cond, ◌+◌, ◌*◌, ◌^◌, ◌<◌, ◌≡◌, ◌≢◌, List, [], ◌∷◌, Bool, true, false, not, ◌||◌, length, All, slice_get, get_or, Some, codes}
 use Rattle.netlist_core.specs.declared.model.Design.{Design}
 use Rattle.netlist_core.specs.declared.model.Model.{Model}
 use Rattle.netlist_core.specs.declared.model.Cover.{Cover}
@@ -107,3 +107,17 @@ pub record IsAdder (design : Design) : Type 0 where
 
 abbrev pub AdderAdds : Type 0
 AdderAdds = IsAdder adder_design
+
+-- 0, and then the bit of the row before
+abbrev pub delayed : List (List Bool) → ℕ → List Bool
+delayed rows zero = false ∷ []
+delayed rows (suc cycle) = get_or rows cycle []
+
+-- there is a run on every list of rows of one bit, and in every run the output is 0 and then the input of the cycle before
+pub record IsDelay (design : Design) : Type 0 where
+  pub runs : (rows : List (List Bool)) → All (λ row. length row ≡ 1) rows → (run : ℕ → Valuation) × IsRun design rows run
+  pub gives : (rows : List (List Bool)) (run : ℕ → Valuation) → IsRun design rows run → (cycle : ℕ) → cycle < length rows → output_bits design (run cycle) ≡ delayed rows cycle
+
+-- a latch with a control among the inputs, and init 2, delays its input
+abbrev pub ClockedLatchDelays : Type 0
+ClockedLatchDelays = IsDelay clocked_design

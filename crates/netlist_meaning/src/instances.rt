@@ -2,7 +2,7 @@
 
 ghost use Rattle.std.specs.Prelude.{◌||◌};
 ghost use Rattle.netlist_meaning.specs.Designs.{or_design};
-ghost use Rattle.netlist_meaning.specs.Instances.{Computes, OneCoverComputes, OneCoverComputesOr, LatchToggles, LatchBreaksLoop, CoverReadsItself, TowerWeighs, HasWeights, ControlIsNoInput, CoverReadsClock, LatchHasOtherClock, AdderAdds};
+ghost use Rattle.netlist_meaning.specs.Instances.{Computes, OneCoverComputes, OneCoverComputesOr, LatchToggles, LatchBreaksLoop, CoverReadsItself, TowerWeighs, HasWeights, ControlIsNoInput, CoverReadsClock, LatchHasOtherClock, ClockedLatchDelays, AdderAdds};
 
 /// A model of one cover of two inputs has a run on all rows of two bits, and in every run its output is the cover's value.
 pub fn one_cover_computes_its_value()
@@ -47,6 +47,11 @@ pub fn weights()
 /// A name in `.inputs` that is the latches' control is no IN name.
 pub fn control_is_no_input()
     ensures { ControlIsNoInput }
+{}
+
+/// A latch with a control and init 2 gives 0 and then its input of the cycle before, in a run that is there.
+pub fn clocked_latch_delays()
+    ensures { ClockedLatchDelays }
 {}
 
 /// A cover that reads the control is the fault of a clock net that is read, on the cover's line.
