@@ -74,5 +74,6 @@ pub covers_say : CoversSay
 covers_say =
     record {
       on = λ rows bits. (λ e. (any-holds rows bits).0 (sym (on_is rows bits) ∙ e), λ h. on_is rows bits ∙ (any-holds rows bits).1 h);
+      no_rows = λ on bits. refl;
       off = λ rows bits some. (λ e. (any-holds rows bits).0 (inverted _ (sym (off_is rows bits some) ∙ e)), λ h. off_is rows bits some ∙ ap not ((any-holds rows bits).1 h));
     }

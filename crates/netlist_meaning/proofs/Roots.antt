@@ -1,5 +1,5 @@
 -- Joined nets are those of one root.
-use Rattle.std.proofs.Common.{ℕ, zero, suc, ◌≡◌, ◌<◌, List, [], ◌∷◌, ◌++◌, Bool, true, false, cond, Option, Some, None, slice_get, get_or, length, find, option_and_then, option_map, unwrap_or, bytes_eq, Contains, refl, sym, ap, ◌∙◌, subst, arith, append_assoc, true≢false}
+use Rattle.std.proofs.Common.{ℕ, zero, suc, ◌≡◌, ◌<◌, List, [], ◌∷◌, ◌++◌, Bool, true, false, cond, Option, Some, None, slice_get, get_or, length, find, option_and_then, option_map, unwrap_or, bytes_eq, Contains, ◌⊎◌, ◌≤◌, inl, inr, refl, sym, ap, ◌∙◌, subst, arith, append_assoc, true≢false}
 use Rattle.std.proofs.lemmas.Slice.Eq.{bytes_eq-Decides}
 use Rattle.std.proofs.lemmas.Option.{none-some, same_Some}
 use Rattle.std.proofs.lemmas.List.{append-nil}
@@ -9,7 +9,7 @@ use Rattle.netlist_core.specs.declared.model.Subckt.{Subckt}
 use Rattle.netlist_core.specs.declared.model.Pin.{Pin}
 use Rattle.netlist_meaning.specs.Places.{Name, Place, main_model, model_placed, model_below, model_at}
 use Rattle.netlist_meaning.specs.Nets.{Net, net_at, IsPinned, Joined, by_pin, itself, reversed, followed}
-use Rattle.netlist_meaning.specs.Roots.{pin_named, actual_or_formal, out_of_line, root_below, root, NamesFormalsOnce, JoinedIsSameRoot}
+use Rattle.netlist_meaning.specs.Roots.{pin_named, actual_or_formal, out_of_line, root_below, root, NamesFormalsOnce, JoinedIsSameRoot, RootsAreNearest}
 use Rattle.netlist_meaning.proofs.Names.{and_then-from}
 use Rattle.netlist_meaning.proofs.Joined.{joined_gives}
 use Rattle.netlist_meaning.proofs.Depth.{model_at-append}
@@ -143,3 +143,66 @@ joined_is_same_root design once a b = (
   joined_gives design (λ x y. root design x ≡ root design y) (λ x. refl) (λ x y e. sym e) (λ x y z e f. e ∙ f) (same_root design once),
   λ e. followed (subst (λ r. Joined design a r) e (joins_root design a)) (reversed (joins_root design b)),
 )
+
+-- out of a line a net stays where it is, or comes out
+out_is : (line : Option Subckt) (number : ℕ) (place : Place) (name : Name) → (net_at (number ∷ place) name ≡ out_of_line line number place name) ⊎ (length (out_of_line line number place name).place ≤ length place)
+out_is line number [] name = by_pin_found (option_and_then (pin_named name) line)
+  where
+    by_pin_found : (found : Option Pin) → (net_at (number ∷ []) name ≡ actual_or_formal number name found) ⊎ (length (actual_or_formal number name found).place ≤ 0)
+    by_pin_found None = inl refl
+    by_pin_found (Some pin) = inr (omega arith)
+out_is line number (first ∷ place) name = inl refl
+
+-- a net that is not its own root lies deeper
+own_root_below : (design : Design) (place : Place) (name : Name) (model : Model) → (net_at place name ≡ root_below design place name model) ⊎ (length (root_below design place name model).place < length place)
+own_root_below design [] name model = inl refl
+own_root_below design (number ∷ place) name model =
+    elim (in_placed (own_root_below design place name) (model_placed design model number)) [
+      | inl same ↦ subst Goal same stays
+      | inr lt ↦ inr (comes_out inner lt)
+    ]
+  where
+    inner : Net
+    inner = unwrap_or (option_map (root_below design place name) (model_placed design model number)) (net_at place name)
+
+    out : Net → Net
+    out net = out_of_line (slice_get model.subckts number) number net.place net.name
+
+    Goal : Net → Type 0
+    Goal net = (net_at (number ∷ place) name ≡ out net) ⊎ (length (out net).place < suc (length place))
+
+    in_placed : ((m : Model) → (net_at place name ≡ root_below design place name m) ⊎ (length (root_below design place name m).place < length place)) → (placed : Option Model)
+        → let net : Net = unwrap_or (option_map (root_below design place name) placed) (net_at place name) in (net_at place name ≡ net) ⊎ (length net.place < length place)
+    in_placed each None = inl refl
+    in_placed each (Some m) = each m
+
+    stays : Goal (net_at place name)
+    stays = elim (out_is (slice_get model.subckts number) number place name) [
+      | inl same ↦ inl same
+      | inr le ↦ inr (omega arith)
+    ]
+
+    comes_out : (net : Net) → length net.place < length place → length (out net).place < suc (length place)
+    comes_out net lt = elim (out_is (slice_get model.subckts number) number net.place net.name) [
+      | inl same ↦ let long : length (out net).place ≡ suc (length net.place) = sym (ap (λ n. length n.place) same) in omega arith
+      | inr le ↦ omega arith
+    ]
+
+own_root : (design : Design) (net : Net) → (net ≡ root design net) ⊎ (length (root design net).place < length net.place)
+own_root design net = by_main (main_model design)
+  where
+    by_main : (main : Option Model) → let r : Net = unwrap_or (option_map (root_below design net.place net.name) main) net in (net ≡ r) ⊎ (length r.place < length net.place)
+    by_main None = inl refl
+    by_main (Some main) = own_root_below design net.place net.name main
+
+pub roots_are_nearest : RootsAreNearest
+roots_are_nearest design once =
+    record {
+      joined = joins_root design;
+      nearest = λ a b h.
+          let same : root design a ≡ root design b = (joined_is_same_root design once a b).0 h in
+          elim (own_root design b) [
+            | inl own ↦ inl (own ∙ sym same)
+            | inr lt ↦ inr (let e : length (root design a).place ≡ length (root design b).place = ap (λ n. length n.place) same in omega arith)
+          ];
+    }

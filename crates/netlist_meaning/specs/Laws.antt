@@ -66,7 +66,8 @@ HoldsUnder row bits =
     (column : ℕ) (bit : Bool) → slice_get bits column ≡ Some bit
     → (slice_get row column ≡ Some 49 → bit ≡ true) × (slice_get row column ≡ Some 48 → bit ≡ false)
 
--- rows that end in `1`: the value is 1 exactly when a row holds; rows that end in `0`: it is 0 exactly when one holds
+-- rows that end in `1`: the value is 1 exactly when a row holds; rows that end in `0`: it is 0 exactly when one holds; no rows: it is 0
 pub record CoversSay : Type 0 where
   pub on : (rows : List (List ℕ)) (bits : List Bool) → (cover_value rows true bits ≡ true) ↔ Any (λ row. HoldsUnder row bits) rows
+  pub no_rows : (on : Bool) (bits : List Bool) → cover_value [] on bits ≡ false
   pub off : (rows : List (List ℕ)) (bits : List Bool) → rows ≢ [] → (cover_value rows false bits ≡ false) ↔ Any (λ row. HoldsUnder row bits) rows

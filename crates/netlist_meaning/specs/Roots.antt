@@ -1,5 +1,5 @@
 -- The root of a net: of all nets that are joined with it, the one nearest the main model.
-use Rattle.std.specs.Prelude.{ℕ, ◌≡◌, ◌↔◌, [], ◌∷◌, Option, Some, None, slice_get, find, option_and_then, option_map, unwrap_or, bytes_eq, Contains}
+use Rattle.std.specs.Prelude.{ℕ, ◌<◌, ◌⊎◌, length, ◌≡◌, ◌↔◌, [], ◌∷◌, Option, Some, None, slice_get, find, option_and_then, option_map, unwrap_or, bytes_eq, Contains}
 use Rattle.netlist_core.specs.declared.model.Design.{Design}
 use Rattle.netlist_core.specs.declared.model.Model.{Model}
 use Rattle.netlist_core.specs.declared.model.Subckt.{Subckt}
@@ -41,3 +41,11 @@ NamesFormalsOnce design =
 -- there joined nets are those of one root
 abbrev pub JoinedIsSameRoot : Type 0
 JoinedIsSameRoot = (design : Design) → NamesFormalsOnce design → (a b : Net) → Joined design a b ↔ (root design a ≡ root design b)
+
+-- there a net is joined with its root, which is the net of its class that is nearest the main model: any other lies deeper
+pub record RootIsNearest (design : Design) : Type 0 where
+  pub joined : (net : Net) → Joined design net (root design net)
+  pub nearest : (a b : Net) → Joined design a b → (b ≡ root design a) ⊎ (length (root design a).place < length b.place)
+
+abbrev pub RootsAreNearest : Type 0
+RootsAreNearest = (design : Design) → NamesFormalsOnce design → RootIsNearest design

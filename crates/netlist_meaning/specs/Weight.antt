@@ -12,6 +12,7 @@ abbrev pub is_among : List Port → Name → Bool
 is_among ports name = list_any (λ port. bytes_eq port.name name) ports
 
 -- one for each name in `.inputs`, in `.outputs` and in `.clock`, where a name in `.inputs` and `.clock` is one
+-- (a name that stands twice in one of the lists, which is a fault, counts twice)
 abbrev pub port_weight : Model → ℕ
 port_weight model = length model.ins + length model.outs + count_by (λ clock. not (is_among model.ins clock.name)) model.clocks
 

@@ -1,7 +1,7 @@
 //! What is proved of the definitions, for every design. The functions do nothing: each has a law as its contract.
 
 ghost use Rattle.netlist_core.specs.declared.model.Design.{Design};
-ghost use Rattle.netlist_meaning.specs.Roots.{JoinedIsSameRoot};
+ghost use Rattle.netlist_meaning.specs.Roots.{JoinedIsSameRoot, RootsAreNearest};
 ghost use Rattle.netlist_meaning.specs.Laws.{IsLeastEquivalence, PinsAreEnough, InNamesAreOne, WeightIsSum, PlacesAreShallow, WeightIsSumOverAll, CoversSay};
 
 /// Joined nets are the least equivalence in which each pin joins its actual with its formal.
@@ -13,6 +13,11 @@ pub fn joined_is_the_least_equivalence()
 /// from each formal to its actual, as far as there are pins.
 pub fn joined_nets_have_one_root()
     ensures { JoinedIsSameRoot }
+{}
+
+/// There the root of a net is joined with it, and any other net that is joined with it lies deeper than the root.
+pub fn roots_are_nearest_the_main_model()
+    ensures { RootsAreNearest }
 {}
 
 /// Bits that agree at each pin agree at all joined nets, and the other way round.
