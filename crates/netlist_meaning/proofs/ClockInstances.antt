@@ -13,7 +13,7 @@ use Rattle.netlist_meaning.proofs.Names.{apart_by, contains-one}
 use Rattle.netlist_meaning.proofs.Flat.{IsFlat, model_at-flat, joined-flat, latch_at-flat}
 
 -- a control of a flat design is the control of one of its main model's latches
-control_is : (design : Design) (main : Model) → IsFlat design main → (net : Net) → IsControl design net → (number : ℕ) × (latch : LatchRow) × (slice_get main.latches number ≡ Some latch) × (latch.control ≡ Some net.name)
+pub control_is : (design : Design) (main : Model) → IsFlat design main → (net : Net) → IsControl design net → (number : ℕ) × (latch : LatchRow) × (slice_get main.latches number ≡ Some latch) × (latch.control ≡ Some net.name)
 control_is design main flat net (source, is_source, joined) =
     let same : source ≡ net = joined-flat design main flat joined in (
       is_source.number,

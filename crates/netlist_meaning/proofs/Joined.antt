@@ -19,7 +19,7 @@ joined_is_least design =
       itself = λ a. itself;
       reversed = λ a b h. reversed h;
       followed = λ a b c h k. followed h k;
-      is_least = λ test e p a b h. joined_gives design (λ x y. IsTrue (test x y)) e.itself e.reversed e.followed p h;
+      is_least = λ test e p a b h. joined_gives design (λ x y. IsTrue (test x y)) e.refl (λ x y t. sym (e.symm x y) ∙ t) (λ x y z t u. e.congr x y z t ∙ u) p h;
     }
 
 -- a net joined to a clock net is one

@@ -9,3 +9,6 @@ pub mod Places
 pub mod ClockInstances
 pub mod Adder
 pub mod Depth
+pub mod CoverValue
+pub mod Roots
+pub mod Delay

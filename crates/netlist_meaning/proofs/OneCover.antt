@@ -1,5 +1,5 @@
 -- One cover of two inputs.
-use Rattle.std.proofs.Common.{ℕ, ◌≡◌, ◌≢◌, List, [], ◌∷◌, Bool, true, false, cond, ◌||◌, Some, get_or, codes, map, length, All, Contains, refl, sym, ap, ◌∙◌, subst, arith, bytes_eq}
+use Rattle.std.proofs.Common.{ℕ, ◌≡◌, ◌≢◌, List, [], ◌∷◌, Bool, true, false, cond, not, ◌||◌, ◌&&◌, Some, get_or, codes, map, length, All, Contains, refl, sym, ap, ◌∙◌, subst, arith, bytes_eq}
 use Rattle.std.proofs.lemmas.Option.{slice_get_within, get_or_from_slice_get}
 use Rattle.netlist_core.specs.declared.model.Design.{Design}
 use Rattle.netlist_core.specs.declared.model.Model.{Model}
@@ -9,7 +9,7 @@ use Rattle.netlist_meaning.specs.Nets.{Net, IsControl, IsInNames}
 use Rattle.netlist_meaning.specs.CoverValue.{cover_value}
 use Rattle.netlist_meaning.specs.Valuation.{Valuation, LatchState, IsValuation, IsRun, state_in, start_state, output_bits}
 use Rattle.netlist_meaning.specs.Designs.{or_main, or_design, cover_of}
-use Rattle.netlist_meaning.specs.Instances.{IsOneCover, Computes, OneCoverComputes, or_rows, OneCoverComputesOr}
+use Rattle.netlist_meaning.specs.Instances.{IsOneCover, Computes, OneCoverComputes, or_rows, OneCoverComputesOr, OneCoverComputesNand}
 use Rattle.netlist_meaning.proofs.Names.{bytes_eq-same, bytes_eq-other, contains-one, apart_by}
 use Rattle.netlist_meaning.proofs.Flat.{IsFlat, model_at-main, model_at-flat, joined-flat, no_latch-flat, all_in_names}
 use Rattle.netlist_meaning.proofs.Joined.{in_names_are_one}
@@ -183,4 +183,18 @@ or_design_computes_or =
       cover_on = refl;
       latches = refl;
       subckts = refl;
+    }
+
+nand_value : (p q : Bool) → cover_value (codes "11" ∷ []) false (p ∷ q ∷ []) ≡ not (p && q)
+nand_value true true = refl
+nand_value true false = refl
+nand_value false true = refl
+nand_value false false = refl
+
+pub one_cover_computes_nand : OneCoverComputesNand
+one_cover_computes_nand a b y design ab ay by h =
+    let computes : Computes design (λ p q. cover_value (codes "11" ∷ []) false (p ∷ q ∷ [])) = one_cover_computes a b y (codes "11" ∷ []) false design ab ay by h in
+    record {
+      runs = computes.runs;
+      gives = λ rows run is_run cycle p q is_row. computes.gives rows run is_run cycle p q is_row ∙ ap (λ bit. bit ∷ []) (nand_value p q);
     }

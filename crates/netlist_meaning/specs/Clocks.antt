@@ -15,7 +15,7 @@ pub record FlatLatch (design : Design) : Type 0 where
   pub latch : LatchRow
   pub has_latch : latch_at design place number ≡ Some latch
 
--- the order of flat latches: by their places, and at one place by their lines
+-- the order of flat latches: by their places, and at one place by their lines, since a model's latches are in the order of the text
 abbrev pub ComesBefore : (design : Design) → FlatLatch design → FlatLatch design → Type 0
 ComesBefore design a b = IsBefore a.place b.place ⊎ ((a.place ≡ b.place) × (a.number < b.number))
 
@@ -36,8 +36,8 @@ abbrev pub control_word : Option Name → Name
 control_word None = codes "-"
 control_word (Some name) = name
 
--- B20: a flat latch, the first to do so, differs in type or control from the first of all;
--- its line, and its control or `-`
+-- B20: a flat latch differs in type or control from the first; of those that do, the one that is named is the first in
+-- that same order, by its line and its control or `-`
 pub record IsTwoClocks (design : Design) (line : ℕ) (word : Name) : Type 0 where
   pub first : FlatLatch design
   pub is_first : (other : FlatLatch design) → ¬ ComesBefore design other first
@@ -66,3 +66,21 @@ pub record IsClockRead (design : Design) (line : ℕ) (word : Name) : Type 0 whe
   pub is_use : IsClockUse design line position net
   pub is_earliest : (other_line other_position : ℕ) (other : Net) → IsClockUse design other_line other_position other → (line < other_line) ⊎ ((line ≡ other_line) × (position ≤ other_position))
   pub is_word : word ≡ net.name
+
+-- no latch differs in type or control from the first
+abbrev pub HasOneClock : Design → Type 0
+HasOneClock design = (line : ℕ) (word : Name) → ¬ IsTwoClocks design line word
+
+-- the two faults of clocks
+pub data ClockFault : Type 0 where
+  two_clocks : ClockFault
+  clock_read : ClockFault
+
+-- the clock fault of a design, with its line and word: B20, or where there is none B21
+abbrev pub IsClockFault : Design → ClockFault → ℕ → Name → Type 0
+IsClockFault design two_clocks line word = IsTwoClocks design line word
+IsClockFault design clock_read line word = HasOneClock design × IsClockRead design line word
+
+-- there is no clock fault
+abbrev pub HasNoClockFault : Design → Type 0
+HasNoClockFault design = (fault : ClockFault) (line : ℕ) (word : Name) → ¬ IsClockFault design fault line word

@@ -123,10 +123,7 @@ adder_main =
       clocks = [];
       covers = [];
       latches = [];
-      subckts =
-          subckt_of 4 (codes "fa") (pin_of (codes "a") (codes "a0") ∷ pin_of (codes "b") (codes "b0") ∷ pin_of (codes "c") (codes "ci") ∷ pin_of (codes "s") (codes "s0") ∷ pin_of (codes "co") (codes "k") ∷ [])
-          ∷ subckt_of 5 (codes "fa") (pin_of (codes "a") (codes "a1") ∷ pin_of (codes "b") (codes "b1") ∷ pin_of (codes "c") (codes "k") ∷ pin_of (codes "s") (codes "s1") ∷ pin_of (codes "co") (codes "c") ∷ [])
-          ∷ [];
+      subckts = first_line ∷ second_line ∷ [];
     }
 
 abbrev pub adder_design : Design
@@ -244,3 +241,54 @@ two_clocks_main =
 
 abbrev pub two_clocks_design : Design
 two_clocks_design = design_of (two_clocks_main ∷ [])
+
+-- .model r / .inputs d / .outputs q / .latch d q init / .end
+abbrev pub latch_main : ℕ → Model
+latch_main init =
+    record {
+      line = 1;
+      name = codes "r";
+      ins = ports_of 2 (codes "d" ∷ []);
+      outs = ports_of 3 (codes "q" ∷ []);
+      clocks = [];
+      covers = [];
+      latches = latch_of 4 (codes "d") (codes "q") init ∷ [];
+      subckts = [];
+    }
+
+abbrev pub latch_design : ℕ → Design
+latch_design init = design_of (latch_main init ∷ [])
+
+-- .model m / .outputs x / .subckt b i=x o=x / .end
+abbrev pub circle_line : Subckt
+circle_line = subckt_of 3 (codes "b") (pin_of (codes "i") (codes "x") ∷ pin_of (codes "o") (codes "x") ∷ [])
+
+abbrev pub circle_main : Model
+circle_main =
+    record {
+      line = 1;
+      name = codes "m";
+      ins = [];
+      outs = ports_of 2 (codes "x" ∷ []);
+      clocks = [];
+      covers = [];
+      latches = [];
+      subckts = circle_line ∷ [];
+    }
+
+-- .model b / .inputs i / .outputs o / .names i o / 1 1 / .end
+abbrev pub buffer : Model
+buffer =
+    record {
+      line = 5;
+      name = codes "b";
+      ins = ports_of 6 (codes "i" ∷ []);
+      outs = ports_of 7 (codes "o" ∷ []);
+      clocks = [];
+      covers = cover_of 8 (codes "i" ∷ []) (codes "o") (codes "1" ∷ []) ∷ [];
+      latches = [];
+      subckts = [];
+    }
+
+abbrev pub circle_design : Design
+circle_design = design_of (circle_main ∷ buffer ∷ [])

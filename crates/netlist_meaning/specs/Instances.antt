@@ -1,5 +1,5 @@
 -- What the definitions say of single designs.
-use Rattle.std.specs.Prelude.{ℕ, zero, suc, cond, ◌+◌, ◌*◌, ◌^◌, ◌<◌, ◌≡◌, ◌≢◌, List, [], ◌∷◌, Bool, true, false, not, ◌||◌, length, All, slice_get, Some, codes}
+use Rattle.std.specs.Prelude.{ℕ, zero, suc, cond, ◌+◌, ◌*◌, ◌^◌, ◌<◌, ◌≡◌, ◌≢◌, List, [], ◌∷◌, Bool, true, false, not, ◌||◌, length, All, ◌&&◌, ◌==◌, slice_get, get_or, Some, codes}
 use Rattle.netlist_core.specs.declared.model.Design.{Design}
 use Rattle.netlist_core.specs.declared.model.Model.{Model}
 use Rattle.netlist_core.specs.declared.model.Cover.{Cover}
@@ -7,7 +7,7 @@ use Rattle.netlist_meaning.specs.Places.{Name, port_names}
 use Rattle.netlist_meaning.specs.Nets.{Net, net_at, IsInNames}
 use Rattle.netlist_meaning.specs.CoverValue.{cover_value}
 use Rattle.netlist_meaning.specs.Valuation.{Valuation, IsRun, output_bits}
-use Rattle.netlist_meaning.specs.Designs.{toggle_design, loop_design, adder_design, wide_design, tower_design, clocked_design, read_clock_design, two_clocks_design}
+use Rattle.netlist_meaning.specs.Designs.{toggle_design, loop_design, adder_design, wide_design, tower_design, clocked_design, read_clock_design, two_clocks_design, latch_design, circle_design}
 use Rattle.netlist_meaning.specs.Clocks.{IsClockRead, IsTwoClocks}
 use Rattle.netlist_meaning.specs.Loop.{IsCombinationalLoop}
 use Rattle.netlist_meaning.specs.Weight.{weight}
@@ -107,3 +107,33 @@ pub record IsAdder (design : Design) : Type 0 where
 
 abbrev pub AdderAdds : Type 0
 AdderAdds = IsAdder adder_design
+
+-- a first bit, and then the bit of the row before
+abbrev pub delayed : Bool → List (List Bool) → ℕ → List Bool
+delayed first rows zero = first ∷ []
+delayed first rows (suc cycle) = get_or rows cycle []
+
+-- there is a run on every list of rows of one bit, and in every run the output is the first bit and then the input of the cycle before
+pub record IsDelay (first : Bool) (design : Design) : Type 0 where
+  pub runs : (rows : List (List Bool)) → All (λ row. length row ≡ 1) rows → (run : ℕ → Valuation) × IsRun design rows run
+  pub gives : (rows : List (List Bool)) (run : ℕ → Valuation) → IsRun design rows run → (cycle : ℕ) → cycle < length rows → output_bits design (run cycle) ≡ delayed first rows cycle
+
+-- a latch delays its input, and starts as 1 where its init is 1, and as 0 for any other
+abbrev pub LatchDelays : Type 0
+LatchDelays = (init : ℕ) → IsDelay (init == 1) (latch_design init)
+
+-- so does one with a control among the inputs, and init 2
+abbrev pub ClockedLatchDelays : Type 0
+ClockedLatchDelays = IsDelay false clocked_design
+
+-- with the row `11 0` one cover computes NAND
+abbrev pub OneCoverComputesNand : Type 0
+OneCoverComputesNand =
+    (a b y : Name) (design : Design) → a ≢ b → a ≢ y → b ≢ y → IsOneCover a b y (codes "11" ∷ []) false design
+    → Computes design (λ p q. not (p && q))
+
+-- a circle through pins is a loop, and each of its joined nets names it
+pub record IsLoopThroughPins : Type 0 where
+  pub outside : IsCombinationalLoop circle_design (net_at [] (codes "x") ∷ [])
+  pub input : IsCombinationalLoop circle_design (net_at (0 ∷ []) (codes "i") ∷ [])
+  pub output : IsCombinationalLoop circle_design (net_at (0 ∷ []) (codes "o") ∷ [])

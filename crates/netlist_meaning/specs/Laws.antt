@@ -1,19 +1,15 @@
 -- What is proved of the definitions, for every design.
-use Rattle.std.specs.Prelude.{◌≢◌, ◌<◌, ◌++◌, [], Some, ℕ, ◌&&◌, cond, length, nat_lt, is_some, bytes_eq, count_by, sum_by, ◌≡◌, ◌↔◌, Bool, List, IsTrue}
+use Rattle.std.specs.Prelude.{slice_get, true, false, Any, ◌≢◌, ◌<◌, ◌++◌, [], Some, ℕ, ◌&&◌, cond, length, nat_lt, is_some, bytes_eq, count_by, sum_by, ◌≡◌, ◌↔◌, Bool, List, IsTrue}
+use Rattle.std.specs.Cmp.{IsEquivalence}
 use Rattle.netlist_core.specs.declared.model.Design.{Design}
 use Rattle.netlist_core.specs.declared.model.Model.{Model}
 use Rattle.netlist_meaning.specs.Places.{Name, Place, model_at, IsPlace}
 use Rattle.netlist_meaning.specs.Nets.{Net, IsPinned, Joined, IsClockNet, IsInNames}
 use Rattle.netlist_meaning.specs.Weight.{weight, own_weight, of_model}
+use Rattle.netlist_meaning.specs.CoverValue.{cover_value}
 use Rattle.netlist_meaning.specs.Valuation.{Valuation}
 
--- an equivalence of nets, as a test
-pub record IsEquivalence (test : Net → Net → Bool) : Type 0 where
-  pub itself : (a : Net) → IsTrue (test a a)
-  pub reversed : (a b : Net) → IsTrue (test a b) → IsTrue (test b a)
-  pub followed : (a b c : Net) → IsTrue (test a b) → IsTrue (test b c) → IsTrue (test a c)
-
--- joined nets are an equivalence that holds at each pin, and any other such equivalence holds of joined nets
+-- joined nets are an equivalence that holds at each pin, and any test that is such an equivalence holds of joined nets
 pub record IsLeastEquivalence (design : Design) : Type 0 where
   pub holds_at_pins : (outer inner : Net) → IsPinned design outer inner → Joined design outer inner
   pub itself : (a : Net) → Joined design a a
@@ -63,3 +59,15 @@ WeightIsSumOverAll =
     (design : Design) → IsNotRecursive design → (places : List Place)
     × ((place : Place) → count_by (bytes_eq place) places ≡ cond (is_some (model_at design place)) 1 0)
     × (weight design ≡ sum_by (λ place. of_model own_weight (model_at design place)) places)
+
+-- each `1` of a row stands under a bit 1, and each `0` under a bit 0
+abbrev pub HoldsUnder : List ℕ → List Bool → Type 0
+HoldsUnder row bits =
+    (column : ℕ) (bit : Bool) → slice_get bits column ≡ Some bit
+    → (slice_get row column ≡ Some 49 → bit ≡ true) × (slice_get row column ≡ Some 48 → bit ≡ false)
+
+-- rows that end in `1`: the value is 1 exactly when a row holds; rows that end in `0`: it is 0 exactly when one holds; no rows: it is 0
+pub record CoversSay : Type 0 where
+  pub on : (rows : List (List ℕ)) (bits : List Bool) → (cover_value rows true bits ≡ true) ↔ Any (λ row. HoldsUnder row bits) rows
+  pub no_rows : (on : Bool) (bits : List Bool) → cover_value [] on bits ≡ false
+  pub off : (rows : List (List ℕ)) (bits : List Bool) → rows ≢ [] → (cover_value rows false bits ≡ false) ↔ Any (λ row. HoldsUnder row bits) rows

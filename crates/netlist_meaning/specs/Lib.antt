@@ -8,3 +8,4 @@ pub mod Loop
 pub mod Laws
 pub mod Instances
 pub mod Designs
+pub mod Roots

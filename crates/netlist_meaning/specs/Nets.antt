@@ -16,7 +16,7 @@ pub record Net : Type 0 where
 abbrev pub net_at : Place → Name → Net
 net_at place name = record { place = place; name = name }
 
--- the names that a model's lines name
+-- the names that a model's lines name, in no order that means anything, and perhaps more than once
 abbrev pub model_names : Model → List Name
 model_names model =
     port_names model.ins
@@ -63,7 +63,7 @@ pub record IsMainClock (design : Design) (net : Net) : Type 0 where
   pub is_clock : Contains (main_clocks design) net.name
   pub is_no_input : ¬ Contains (main_inputs design) net.name
 
--- the latches' control, with all nets joined to it
+-- the latches' control, with all nets joined to it (one, where the latches have one clock)
 abbrev pub IsControl : Design → Net → Type 0
 IsControl design net = (source : Net) × IsLatchControl design source × Joined design source net
 

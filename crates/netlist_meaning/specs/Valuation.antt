@@ -22,7 +22,7 @@ pub record IsValuation (design : Design) (inputs : List Bool) (state : LatchStat
   pub in_names : List Name
   pub are_in_names : IsInNames design in_names
   pub inputs_given : map (bits []) in_names ≡ inputs
-  -- joined nets agree; nothing is said of clock nets
+  -- joined nets agree, but for clock nets, of which no equation speaks in a design whose clock nets are not read or driven
   pub joined_agree : (a b : Net) → Joined design a b → ¬ IsClockNet design a → bits a.place a.name ≡ bits b.place b.name
   -- the output of each cover, in each place, is the cover's value
   pub covers_hold : (place : Place) (model : Model) (cover : Cover) → model_at design place ≡ Some model → Contains model.covers cover → bits place cover.out ≡ cover_value cover.rows cover.on (map (bits place) cover.ins)
@@ -56,7 +56,7 @@ state_in design start run (suc cycle) = next_state design (run cycle)
 abbrev pub IsRunFrom : Design → LatchState → List (List Bool) → (ℕ → Valuation) → Type 0
 IsRunFrom design start rows run = (cycle : ℕ) (row : List Bool) → slice_get rows cycle ≡ Some row → IsValuation design row (state_in design start run cycle) (run cycle)
 
--- a run: from the start state on. `run cycle` is the valuation of the cycle, from 0, below the number of rows
+-- a run: from the start state on. `run cycle` is the valuation of the cycle, from 0; from the number of rows on it means nothing
 abbrev pub IsRun : Design → List (List Bool) → (ℕ → Valuation) → Type 0
 IsRun design rows run = IsRunFrom design (start_state design) rows run
 
@@ -64,7 +64,7 @@ IsRun design rows run = IsRunFrom design (start_state design) rows run
 abbrev pub AreInputRows : Design → List (List Bool) → Type 0
 AreInputRows design rows = (names : List Name) × IsInNames design names × All (λ row. length row ≡ length names) rows
 
--- the bits of the main outputs, in order, and the bit of the one of that number, from 0
+-- the bits of the main outputs, in order, and the bit of the one of that number, from 0, which below the number of outputs means something
 abbrev pub output_bits : Design → Valuation → List Bool
 output_bits design bits = map (bits []) (main_outputs design)
 

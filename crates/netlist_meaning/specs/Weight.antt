@@ -4,16 +4,17 @@ use Rattle.std.specs.List.{list_any}
 use Rattle.netlist_core.specs.declared.model.Design.{Design}
 use Rattle.netlist_core.specs.declared.model.Model.{Model}
 use Rattle.netlist_core.specs.declared.model.Cover.{Cover}
-use Rattle.netlist_meaning.specs.Places.{Name, main_model, model_named, port_names}
+use Rattle.netlist_core.specs.declared.model.Port.{Port}
+use Rattle.netlist_meaning.specs.Places.{Name, main_model, model_named}
 
--- is the name among these?
-abbrev pub is_among : List Name → Name → Bool
-is_among names name = list_any (λ other. bytes_eq other name) names
+-- has one of the ports that name?
+abbrev pub is_among : List Port → Name → Bool
+is_among ports name = list_any (λ port. bytes_eq port.name name) ports
 
 -- one for each name in `.inputs`, in `.outputs` and in `.clock`, where a name in `.inputs` and `.clock` is one
+-- (a name that stands twice in one of the lists, which is a fault, counts twice)
 abbrev pub port_weight : Model → ℕ
-port_weight model =
-    length model.ins + length model.outs + count_by (λ name. not (is_among (port_names model.ins) name)) (port_names model.clocks)
+port_weight model = length model.ins + length model.outs + count_by (λ clock. not (is_among model.ins clock.name)) model.clocks
 
 -- the characters `0` and `1` of a row
 abbrev pub literals : List ℕ → ℕ

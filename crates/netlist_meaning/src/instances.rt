@@ -2,7 +2,7 @@
 
 ghost use Rattle.std.specs.Prelude.{◌||◌};
 ghost use Rattle.netlist_meaning.specs.Designs.{or_design};
-ghost use Rattle.netlist_meaning.specs.Instances.{Computes, OneCoverComputes, OneCoverComputesOr, LatchToggles, LatchBreaksLoop, CoverReadsItself, TowerWeighs, HasWeights, ControlIsNoInput, CoverReadsClock, LatchHasOtherClock, AdderAdds};
+ghost use Rattle.netlist_meaning.specs.Instances.{Computes, OneCoverComputes, OneCoverComputesOr, OneCoverComputesNand, IsLoopThroughPins, LatchDelays, LatchToggles, LatchBreaksLoop, CoverReadsItself, TowerWeighs, HasWeights, ControlIsNoInput, CoverReadsClock, LatchHasOtherClock, ClockedLatchDelays, AdderAdds};
 
 /// A model of one cover of two inputs has a run on all rows of two bits, and in every run its output is the cover's value.
 pub fn one_cover_computes_its_value()
@@ -12,6 +12,11 @@ pub fn one_cover_computes_its_value()
 /// With the rows of an OR its output is `a` or `b`.
 pub fn one_cover_computes_or()
     ensures { OneCoverComputesOr }
+{}
+
+/// With the row `11` of an off-set its output is not both.
+pub fn one_cover_computes_nand()
+    ensures { OneCoverComputesNand }
 {}
 
 /// The OR of the inputs a and b, as its text has it.
@@ -34,6 +39,11 @@ pub fn cover_reads_itself()
     ensures { CoverReadsItself }
 {}
 
+/// A circle through the pins of a subckt line is a combinational loop, of any of its joined nets.
+pub fn pins_close_loop()
+    ensures { IsLoopThroughPins }
+{}
+
 /// A tower of models, each of which places the next one twice, has a weight that doubles with each.
 pub fn tower_weighs()
     ensures { TowerWeighs }
@@ -47,6 +57,16 @@ pub fn weights()
 /// A name in `.inputs` that is the latches' control is no IN name.
 pub fn control_is_no_input()
     ensures { ControlIsNoInput }
+{}
+
+/// A latch gives 1 first where its init is 1, and else 0, and then its input of the cycle before, in a run that is there.
+pub fn latch_delays()
+    ensures { LatchDelays }
+{}
+
+/// A latch with a control and init 2 gives 0 and then its input of the cycle before, in a run that is there.
+pub fn clocked_latch_delays()
+    ensures { ClockedLatchDelays }
 {}
 
 /// A cover that reads the control is the fault of a clock net that is read, on the cover's line.

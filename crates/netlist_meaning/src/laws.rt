@@ -1,11 +1,23 @@
 //! What is proved of the definitions, for every design. The functions do nothing: each has a law as its contract.
 
 ghost use Rattle.netlist_core.specs.declared.model.Design.{Design};
-ghost use Rattle.netlist_meaning.specs.Laws.{IsLeastEquivalence, PinsAreEnough, InNamesAreOne, WeightIsSum, PlacesAreShallow, WeightIsSumOverAll};
+ghost use Rattle.netlist_meaning.specs.Roots.{JoinedIsSameRoot, RootsAreNearest};
+ghost use Rattle.netlist_meaning.specs.Laws.{IsLeastEquivalence, PinsAreEnough, InNamesAreOne, WeightIsSum, PlacesAreShallow, WeightIsSumOverAll, CoversSay};
 
 /// Joined nets are the least equivalence in which each pin joins its actual with its formal.
 pub fn joined_is_the_least_equivalence()
     ensures { (design : Design) → IsLeastEquivalence design }
+{}
+
+/// Where no line names a formal with two actuals, joined nets are those of one root: of the net that is found by going
+/// from each formal to its actual, as far as there are pins.
+pub fn joined_nets_have_one_root()
+    ensures { JoinedIsSameRoot }
+{}
+
+/// There the root of a net is joined with it, and any other net that is joined with it lies deeper than the root.
+pub fn roots_are_nearest_the_main_model()
+    ensures { RootsAreNearest }
 {}
 
 /// Bits that agree at each pin agree at all joined nets, and the other way round.
@@ -31,4 +43,10 @@ pub fn places_are_shallow()
 /// So there the weight is the sum of the own weights over all places.
 pub fn weight_is_the_sum_over_all_places()
     ensures { WeightIsSumOverAll }
+{}
+
+/// A cover of rows that end in `1` gives 1 exactly when in one of its rows each `1` stands under a bit 1 and each `0`
+/// under a bit 0; one of rows that end in `0` gives 0 exactly then.
+pub fn covers_say_what_their_rows_say()
+    ensures { CoversSay }
 {}
