@@ -4,7 +4,9 @@ ghost use Rattle.std.specs.Prelude.{List, ℕ};
 ghost use Rattle.pattern_reading.specs.Laws.{HasOnePattern, HasOneRleFault, HasNoFaultIfRead, HasPatternOrFault};
 ghost use Rattle.pattern_reading.specs.Laws.{HasOneTable, HasOnePortFault, HasNoPortFaultIfRead, HasTableOrFault};
 ghost use Rattle.pattern_reading.specs.Laws.{HasAllInLines, HasNumberedLines, HasLinesOfRust, IsLineText, HasFirstLine};
+ghost use Rattle.ww_rule.specs.Grid.{Grid};
 ghost use Rattle.pattern_reading.specs.PortLines.{PortForm};
+ghost use Rattle.pattern_reading.specs.SpelledPattern.{SpelledItem, HasSpelledPattern, HasSpelledHeader, HasSpelledCount};
 ghost use Rattle.pattern_reading.specs.Spelling.{HasSpelledPorts, HasSamePattern};
 
 /// Each text of extended RLE reads as exactly one pattern, or has exactly one first fault.
@@ -36,4 +38,11 @@ pub fn line_laws()
 pub fn spelled_table_laws()
     ensures ports { (forms : List PortForm) (rest : List ℕ) → HasSpelledPorts forms rest }
     ensures pattern { (forms : List PortForm) (rest : List ℕ) → HasSamePattern forms rest }
+{}
+
+/// A header and items that are spelled are read as the pattern that they spell, however the items are cut into lines.
+pub fn spelled_pattern_laws()
+    ensures pattern { (header : List ℕ) (lines : List (List SpelledItem)) (rest : List ℕ) → HasSpelledPattern header lines rest }
+    ensures header { (grid : Grid) → HasSpelledHeader grid }
+    ensures count { (count tag : ℕ) → HasSpelledCount count tag }
 {}
