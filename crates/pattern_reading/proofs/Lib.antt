@@ -14,3 +14,4 @@ pub mod RustLines
 pub mod SpelledItems
 pub mod SpelledPattern
 pub mod SpelledHeader
+pub mod Places

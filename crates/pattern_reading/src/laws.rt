@@ -3,7 +3,8 @@
 ghost use Rattle.std.specs.Prelude.{List, ℕ};
 ghost use Rattle.pattern_reading.specs.Laws.{HasOnePattern, HasOneRleFault, HasNoFaultIfRead, HasPatternOrFault};
 ghost use Rattle.pattern_reading.specs.Laws.{HasOneTable, HasOnePortFault, HasNoPortFaultIfRead, HasTableOrFault};
-ghost use Rattle.pattern_reading.specs.Laws.{HasAllInLines, HasNumberedLines, HasLinesOfRust, IsLineText, HasFirstLine};
+ghost use Rattle.pattern_reading.specs.Laws.{HasAllInLines, HasNumberedLines, HasLinesOfRust, IsLineText, HasFirstLine, HasNextPlace};
+ghost use Rattle.pattern_reading.specs.Items.{Item};
 ghost use Rattle.ww_rule.specs.Grid.{Grid};
 ghost use Rattle.pattern_reading.specs.PortLines.{PortForm};
 ghost use Rattle.pattern_reading.specs.SpelledPattern.{SpelledItem, HasSpelledPattern, HasSpelledHeader, HasSpelledCount};
@@ -32,6 +33,11 @@ pub fn line_laws()
     ensures numbered { (text : List ℕ) → HasNumberedLines text }
     ensures of_rust { (text : List ℕ) → HasLinesOfRust text }
     ensures first { (bytes rest : List ℕ) → IsLineText bytes → HasFirstLine bytes rest }
+{}
+
+/// The sums of counts that place an item grow item by item, as a reader keeps them.
+pub fn place_laws()
+    ensures { (item : Item) (before : List Item) → HasNextPlace item before }
 {}
 
 /// A port table that is spelled before a text is read as it was meant, and changes nothing in the text's pattern.
