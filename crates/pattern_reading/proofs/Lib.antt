@@ -15,3 +15,4 @@ pub mod SpelledItems
 pub mod SpelledPattern
 pub mod SpelledHeader
 pub mod Places
+pub mod Large
