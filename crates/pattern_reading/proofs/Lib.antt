@@ -16,3 +16,4 @@ pub mod SpelledPattern
 pub mod SpelledHeader
 pub mod Places
 pub mod Large
+pub mod FirstLine

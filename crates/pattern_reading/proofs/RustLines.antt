@@ -28,7 +28,7 @@ strip_step : (b : ℕ) (xs : List ℕ) (k : ℕ) (t : Bool) → (if t then b ∷
 strip_step b xs k true = refl
 strip_step b xs k false = refl
 
-strip_onto : (b : ℕ) (part : List ℕ) → (part ≡ [] → (b == 13) ≡ false) → strip_carriage_return (b ∷ part) ≡ b ∷ strip_carriage_return part
+pub strip_onto : (b : ℕ) (part : List ℕ) → (part ≡ [] → (b == 13) ≡ false) → strip_carriage_return (b ∷ part) ≡ b ∷ strip_carriage_return part
 strip_onto b [] h = rw (h refl) refl
 strip_onto b (c ∷ cs) h =
     let last : length (b ∷ c ∷ cs) - 1 ≡ suc (length (c ∷ cs) - 1) = omega arith in

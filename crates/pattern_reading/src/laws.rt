@@ -3,7 +3,7 @@
 ghost use Rattle.std.specs.Prelude.{List, ℕ};
 ghost use Rattle.pattern_reading.specs.Laws.{HasOnePattern, HasOneRleFault, HasNoFaultIfRead, HasPatternOrFault};
 ghost use Rattle.pattern_reading.specs.Laws.{HasOneTable, HasOnePortFault, HasNoPortFaultIfRead, HasTableOrFault};
-ghost use Rattle.pattern_reading.specs.Laws.{HasAllInLines, HasNumberedLines, HasLinesOfRust, IsLineText, HasFirstLine, HasNextPlace};
+ghost use Rattle.pattern_reading.specs.Laws.{HasAllInLines, HasNumberedLines, HasLinesOfRust, IsLineText, HasFirstLine, HasLineThenRest, HasLoneLine, HasNextPlace};
 ghost use Rattle.pattern_reading.specs.Items.{Item};
 ghost use Rattle.ww_rule.specs.Grid.{Grid};
 ghost use Rattle.pattern_reading.specs.PortLines.{PortForm};
@@ -27,12 +27,14 @@ pub fn port_laws()
 {}
 
 /// The lines of a text are numbered from 1 on, all of the text is in them, they are those of Rust's `lines`, and a line before a
-/// text is its first line.
+/// text is its first line, so that a text can be read line by line.
 pub fn line_laws()
     ensures joined { (text : List ℕ) → HasAllInLines text }
     ensures numbered { (text : List ℕ) → HasNumberedLines text }
     ensures of_rust { (text : List ℕ) → HasLinesOfRust text }
     ensures first { (bytes rest : List ℕ) → IsLineText bytes → HasFirstLine bytes rest }
+    ensures cut { (bytes rest : List ℕ) → HasLineThenRest bytes rest }
+    ensures lone { (bytes : List ℕ) → HasLoneLine bytes }
 {}
 
 /// The sums of counts that place an item grow item by item, as a reader keeps them.
