@@ -1,4 +1,4 @@
--- A text whose lines have greater numbers says the same, of later lines.
+-- What the items of a text say, but for their lines, does not depend on the lines' numbers: so a comment before a text changes nothing.
 use Rattle.std.proofs.Common.{ℕ, suc, ◌+◌, ◌≡◌, refl, sym, ap, ◌∙◌, Bool, true, false, not, cond, List, [], ◌∷◌, map, drop, arith}
 use Rattle.std.specs.Prelude.{if◌then◌else◌, Option, Some, None, option_map, find, take_while, filter_map, slice_get, unwrap_or}
 use Rattle.std.specs.List.{prefix_len, after_first, list_any, cons_option}
@@ -51,40 +51,43 @@ module _ {X Y : Type 0} (g : X → Y) where
       by_found None ys = refl
       by_found (Some y) ys = refl
 
-abbrev later_item : ℕ → LineItem → LineItem
-later_item k i = record i { line = k + i.line }
+abbrev pub next : ℕ → ℕ
+next n = 1 + n
 
-abbrev later_placed : ℕ → Placed → Placed
-later_placed k p = record p { line = k + p.line }
+abbrev pub renumbered : (ℕ → ℕ) → Line → Line
+renumbered k line = record line { number = k line.number }
 
-abbrev later_fault : ℕ → RleFaultAt → RleFaultAt
-later_fault k f = record f { line = k + f.line }
+abbrev pub later_item : (ℕ → ℕ) → LineItem → LineItem
+later_item k i = record i { line = k i.line }
 
-items_of_later_line : (k : ℕ) (line : Line) → items_of_line (later_by k line) ≡ map (later_item k) (items_of_line line)
+abbrev pub later_placed : (ℕ → ℕ) → Placed → Placed
+later_placed k p = record p { line = k p.line }
+
+abbrev pub later_fault : (ℕ → ℕ) → RleFaultAt → RleFaultAt
+later_fault k f = record f { line = k f.line }
+
+items_of_later_line : (k : ℕ → ℕ) (line : Line) → items_of_line (renumbered k line) ≡ map (later_item k) (items_of_line line)
 items_of_later_line k line = by_test (is_comment line)
   where
-    by_test : (b : Bool) → (if b then [] else map (λ (piece : Piece). record { line = k + line.number; item = item_in line.is_ended piece.digits piece.tag }) (pieces_of line.bytes)) ≡ map (later_item k) (if b then [] else map (λ (piece : Piece). record { line = line.number; item = item_in line.is_ended piece.digits piece.tag }) (pieces_of line.bytes))
+    by_test : (b : Bool) → (if b then [] else map (λ (piece : Piece). record { line = k line.number; item = item_in line.is_ended piece.digits piece.tag }) (pieces_of line.bytes)) ≡ map (later_item k) (if b then [] else map (λ (piece : Piece). record { line = line.number; item = item_in line.is_ended piece.digits piece.tag }) (pieces_of line.bytes))
     by_test true = refl
     by_test false = sym (map-map (later_item k) _ (pieces_of line.bytes))
 
-items_of_later_lines : (k : ℕ) (lines : List Line) → items_of_lines (map (later_by k) lines) ≡ map (later_item k) (items_of_lines lines)
+pub items_of_later_lines : (k : ℕ → ℕ) (lines : List Line) → items_of_lines (map (renumbered k) lines) ≡ map (later_item k) (items_of_lines lines)
 items_of_later_lines k [] = refl
 items_of_later_lines k (line ∷ lines) =
     rw (items_of_later_line k line, items_of_later_lines k lines) (sym (map-append (later_item k) (items_of_line line) (items_of_lines lines)))
 
-placed_later : (k : ℕ) (before : List Item) (items : List LineItem) → placed_after before (map (later_item k) items) ≡ map (later_placed k) (placed_after before items)
+pub placed_later : (k : ℕ → ℕ) (before : List Item) (items : List LineItem) → placed_after before (map (later_item k) items) ≡ map (later_placed k) (placed_after before items)
 placed_later k before [] = refl
 placed_later k before (i ∷ is) = rw (placed_later k (i.item ∷ before) is) refl
 
-fault_later : (k width height : ℕ) (p : Placed) → fault_at width height (later_placed k p) ≡ option_map (later_fault k) (fault_at width height p)
+pub fault_later : (k : ℕ → ℕ) (width height : ℕ) (p : Placed) → fault_at width height (later_placed k p) ≡ option_map (later_fault k) (fault_at width height p)
 fault_later k width height p = by_kind (item_fault width height p p.item)
   where
-    by_kind : (o : Option RleFaultKind) → (o >>= λ kind. Some (record { kind = kind; line = k + p.line })) ≡ option_map (later_fault k) (o >>= λ kind. Some (record { kind = kind; line = p.line }))
+    by_kind : (o : Option RleFaultKind) → (o >>= λ kind. Some (record { kind = kind; line = k p.line })) ≡ option_map (later_fault k) (o >>= λ kind. Some (record { kind = kind; line = p.line }))
     by_kind None = refl
     by_kind (Some kind) = refl
-
-state_later : (k x y : ℕ) (p : Placed) → state_in x y (later_placed k p) p.item ≡ state_in x y p p.item
-state_later k x y p = refl
 
 -- a comment before the lines of a text
 abbrev pub comment_line : List ℕ → Line
@@ -104,22 +107,22 @@ module _ (more bytes text : List ℕ) (e : HasCommentBefore more bytes text) whe
   after_later : lines_after_header more ≡ map (later_by 1) (lines_after_header text)
   after_later = rw e (drop_past _ (comment_line bytes) (map (later_by 1) (lines_of text)) ∙ after_first_mapped (later_by 1) (λ line. not (is_skipped line)) (λ line. not (is_skipped line)) (λ line. refl) (lines_of text))
 
-  items_later : items_after_header more ≡ map (later_item 1) (items_after_header text)
-  items_later = ap items_of_lines after_later ∙ items_of_later_lines 1 (lines_after_header text)
+  items_later : items_after_header more ≡ map (later_item next) (items_after_header text)
+  items_later = ap items_of_lines after_later ∙ items_of_later_lines next (lines_after_header text)
 
   end_later : has_end more ≡ has_end text
-  end_later = rw items_later (any_mapped (later_item 1) (λ i. is_end i.item) (λ i. is_end i.item) (λ i. refl) (items_after_header text))
+  end_later = rw items_later (any_mapped (later_item next) (λ i. is_end i.item) (λ i. is_end i.item) (λ i. refl) (items_after_header text))
 
-  placed_items_later : placed_items more ≡ map (later_placed 1) (placed_items text)
+  placed_items_later : placed_items more ≡ map (later_placed next) (placed_items text)
   placed_items_later =
-      rw (items_later, take_while_mapped (later_item 1) (λ i. not (is_end i.item)) (λ i. not (is_end i.item)) (λ i. refl) (items_after_header text)) (placed_later 1 [] _)
+      rw (items_later, take_while_mapped (later_item next) (λ i. not (is_end i.item)) (λ i. not (is_end i.item)) (λ i. refl) (items_after_header text)) (placed_later next [] _)
 
-  faults_later : (width height : ℕ) → item_faults more width height ≡ map (later_fault 1) (item_faults text width height)
-  faults_later width height = rw placed_items_later (filter_map_later (later_placed 1) (fault_at width height) (fault_at width height) (later_fault 1) (fault_later 1 width height) (placed_items text))
+  faults_later : (width height : ℕ) → item_faults more width height ≡ map (later_fault next) (item_faults text width height)
+  faults_later width height = rw placed_items_later (filter_map_later (later_placed next) (fault_at width height) (fault_at width height) (later_fault next) (fault_later next width height) (placed_items text))
 
   state_at_later : (x y : ℕ) → state_at (placed_items more) x y ≡ state_at (placed_items text) x y
   state_at_later x y =
-      rw placed_items_later (ap (λ o. unwrap_or (slice_get o 0) Empty) (filter_map_mapped (later_placed 1) (λ p. state_in x y p p.item) (λ p. state_in x y p p.item) (λ p. refl) (placed_items text)))
+      rw placed_items_later (ap (λ o. unwrap_or (slice_get o 0) Empty) (filter_map_mapped (later_placed next) (λ p. state_in x y p p.item) (λ p. state_in x y p p.item) (λ p. refl) (placed_items text)))
 
   box_later : (width height : ℕ) → HasBox text width height → HasBox more width height
   box_later width height box = record {
@@ -135,7 +138,7 @@ module _ (more bytes text : List ℕ) (e : HasCommentBefore more bytes text) whe
   pub pattern_later : (grid : Grid) → ReadsAsPattern text grid → ReadsAsPattern more grid
   pattern_later grid h = record {
     header = box_later grid.width grid.height h.header;
-    no_fault = faults_later grid.width grid.height ∙ ap (map (later_fault 1)) h.no_fault;
+    no_fault = faults_later grid.width grid.height ∙ ap (map (later_fault next)) h.no_fault;
     ends = end_later ∙ h.ends;
     in_rows = h.in_rows;
     cells = λ x y a b. h.cells x y a b ∙ sym (state_at_later x y);

@@ -11,3 +11,9 @@ pub mod Later
 pub mod Spelled
 pub mod NamedGate
 pub mod RustLines
+pub mod SpelledItems
+pub mod SpelledPattern
+pub mod SpelledHeader
+pub mod Places
+pub mod Large
+pub mod FirstLine

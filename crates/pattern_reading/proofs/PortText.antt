@@ -27,7 +27,7 @@ digit_in_range ds h k d l = rw (get_or_default_zero ds k d l) (digit_at ds k h l
 in_range : (c : ℕ) → IsInRange 48 57 c → is_ascii_digit c ≡ true
 in_range c h = grind (arith, le-leb)
 
-digits_pass : (ds : List ℕ) → AllDigits 10 ds → list_all is_ascii_digit ds ≡ true
+pub digits_pass : (ds : List ℕ) → AllDigits 10 ds → list_all is_ascii_digit ds ≡ true
 digits_pass ds h = list_all-from_AllPass is_ascii_digit ds (λ k d l. in_range (get_or ds k d) (digit_in_range ds h k d l))
 
 pub number_in_numeral : (ds : List ℕ) → IsNumeral 10 ds → digits_value 10 ds < 2 ^ 64 → number_in ds ≡ Some (digits_value 10 ds)
@@ -65,7 +65,7 @@ line_byte : (b : ℕ) → is_line_byte b ≡ true → (b ≢ 10) × (b ≢ 13)
 line_byte b e =
     (λ h. absurd (true≢false (sym (ap is_line_byte (sym h) ∙ e))), λ h. absurd (true≢false (sym (ap is_line_byte (sym h) ∙ e))))
 
-letters_line : (word : List ℕ) → list_all is_line_byte word ≡ true → IsLineText word
+pub letters_line : (word : List ℕ) → list_all is_line_byte word ≡ true → IsLineText word
 letters_line word e k d l = line_byte _ (AllPass-from_list_all is_line_byte word e k d l)
 
 -- words joined by spaces are split into those words
@@ -82,7 +82,7 @@ split_words word (next ∷ words) h hs =
     ∙ ap (λ ws. word ∷ ws) (split_words next words hs.0 hs.1)
 
 -- and stand in a line
-line_part : (word : List ℕ) → IsField word → IsLineText word
+pub line_part : (word : List ℕ) → IsField word → IsLineText word
 line_part word h k d l = ((h k d l).0, (h k d l).1)
 
 join_text : (word : List ℕ) (words : List (List ℕ)) → IsField word → AllByRecursion IsField words → IsLineText (join_with_byte 32 (word ∷ words))

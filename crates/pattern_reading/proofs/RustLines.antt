@@ -1,11 +1,11 @@
 -- The lines of a text are those that `lines` of Rust gives.
-use Rattle.std.proofs.Common.{ℕ, zero, suc, ◌+◌, ◌-◌, ◌<◌, ◌≤◌, ◌≡◌, ◌≢◌, ◌⊎◌, inl, inr, refl, sym, ap, ◌∙◌, Bool, true, false, true≢false, cond, ◌&&◌, ◌==◌, List, [], ◌∷◌, map, length, take, arith}
-use Rattle.std.specs.Prelude.{if◌then◌else◌, slice_index}
+use Rattle.std.proofs.Common.{ℕ, suc, ◌+◌, ◌-◌, ◌<◌, ◌≡◌, refl, sym, ap, ◌∙◌, Bool, true, false, true≢false, cond, ◌&&◌, ◌==◌, List, [], ◌∷◌, map, length, take, arith}
+use Rattle.std.specs.Prelude.{if◌then◌else◌}
 use Rattle.std.specs.List.{slice_split, onto_first}
-use Rattle.std.specs.Str.Lines.{lines, lines_of_parts, strip_carriage_return}
+use Rattle.std.specs.Str.Lines.{lines_of_parts, strip_carriage_return}
 use Rattle.std.proofs.lemmas.Bool.{eqb-true, and_parts}
 use Rattle.std.proofs.lemmas.List.Splits.{length-slice_split, slice_split-cons_yes, slice_split-cons_no}
-use Rattle.pattern_reading.specs.Lines.{Line, begins_with, lines_from, lines_of, onto_first_line, with_line_feeds}
+use Rattle.pattern_reading.specs.Lines.{Line, begins_with, lines_from, onto_first_line, with_line_feeds}
 use Rattle.pattern_reading.specs.Laws.{HasLinesOfRust}
 use Rattle.pattern_reading.proofs.LineText.{not_equal}
 
@@ -28,7 +28,7 @@ strip_step : (b : ℕ) (xs : List ℕ) (k : ℕ) (t : Bool) → (if t then b ∷
 strip_step b xs k true = refl
 strip_step b xs k false = refl
 
-strip_onto : (b : ℕ) (part : List ℕ) → (part ≡ [] → (b == 13) ≡ false) → strip_carriage_return (b ∷ part) ≡ b ∷ strip_carriage_return part
+pub strip_onto : (b : ℕ) (part : List ℕ) → (part ≡ [] → (b == 13) ≡ false) → strip_carriage_return (b ∷ part) ≡ b ∷ strip_carriage_return part
 strip_onto b [] h = rw (h refl) refl
 strip_onto b (c ∷ cs) h =
     let last : length (b ∷ c ∷ cs) - 1 ≡ suc (length (c ∷ cs) - 1) = omega arith in

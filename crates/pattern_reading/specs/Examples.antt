@@ -283,6 +283,15 @@ end_fault_examples =
     ∷ has (with_items (codes "3C18446744073709551616")) rle.NoEnd 2
     ∷ []
 
+-- boxes of more cells than a reader takes, and of as many as it takes
+abbrev pub too_large_texts : List (List ℕ)
+too_large_texts =
+    codes "x = 16385, y = 16384, rule = WireWorld\n!" ∷ codes "x = 18446744073709551615, y = 18446744073709551615, rule = WireWorld\n0C" ∷ []
+
+abbrev pub large_texts : List (List ℕ)
+large_texts =
+    codes "x = 16384, y = 16384, rule = WireWorld\n!" ∷ codes "x = 18446744073709551615, y = 0, rule = WireWorld\n0C" ∷ codes "x = 16385, y = 16384\n!" ∷ []
+
 -- the version line of a period of 4 and a latency of 2
 abbrev pub version_four : List ℕ
 version_four = wire_version (codes "4")

@@ -1,12 +1,13 @@
 -- Laws of the readings: a text says one thing.
-use Rattle.std.specs.Prelude.{◌≡◌, ◌≢◌, ◌⊎◌, ℕ, ◌+◌, true, if◌then◌else◌, List, [], ◌∷◌, ◌++◌, map, length, flat_map}
+use Rattle.std.specs.Prelude.{false, ◌≡◌, ◌≢◌, ◌⊎◌, ℕ, ◌+◌, true, if◌then◌else◌, List, [], ◌∷◌, ◌++◌, map, length, flat_map}
 use Rattle.std.specs.List.{All, range_with_len}
-use Rattle.std.specs.Str.Lines.{lines}
+use Rattle.std.specs.Str.Lines.{lines, strip_carriage_return}
 use Rattle.ww_rule.specs.Grid.{Grid}
 use Rattle.pattern_reading.specs.declared.faults.RleFaultKind.{RleFaultKind}
 use Rattle.pattern_reading.specs.declared.faults.PortFaultKind.{PortFaultKind}
 use Rattle.pattern_reading.specs.declared.ports.Ports.{Ports}
 use Rattle.pattern_reading.specs.Lines.{Line, lines_of, with_line_feeds}
+use Rattle.pattern_reading.specs.Items.{Item, Cells, RowEnds, column_after, row_after}
 use Rattle.pattern_reading.specs.Pattern.{ReadsAsPattern, HasRleFault}
 use Rattle.pattern_reading.specs.PortTable.{ReadsAsPorts, HasPortFault}
 
@@ -69,3 +70,27 @@ later_by n line = record line { number = n + line.number }
 -- A line before a text is its first line, and the others are the text's.
 abbrev pub HasFirstLine : List ℕ → List ℕ → Type 0
 HasFirstLine bytes rest = lines_of (bytes ++ 10 ∷ rest) ≡ record { number = 1; bytes = bytes; is_ended = true } ∷ map (later_by 1) (lines_of rest)
+
+-- where the item after another begins, by where that one began
+abbrev pub next_column : Item → ℕ → ℕ
+next_column (Cells n state) x = x + n
+next_column (RowEnds n) x = 0
+next_column _ x = x
+
+abbrev pub next_row : Item → ℕ → ℕ
+next_row (RowEnds n) y = y + n
+next_row _ y = y
+
+-- The sums of counts grow item by item.
+abbrev pub HasNextPlace : Item → List Item → Type 0
+HasNextPlace item before =
+    (column_after (item ∷ before) ≡ next_column item (column_after before)) × (row_after (item ∷ before) ≡ next_row item (row_after before))
+
+-- Any text that is not empty is a line and the rest: up to its first line feed, less the carriage return directly before it; or, where
+-- it has no line feed, all of it.
+abbrev pub HasLineThenRest : List ℕ → List ℕ → Type 0
+HasLineThenRest bytes rest =
+    All (λ b. b ≢ 10) bytes → lines_of (bytes ++ 10 ∷ rest) ≡ record { number = 1; bytes = strip_carriage_return bytes; is_ended = true } ∷ map (later_by 1) (lines_of rest)
+
+abbrev pub HasLoneLine : List ℕ → Type 0
+HasLoneLine bytes = All (λ b. b ≢ 10) bytes → bytes ≢ [] → lines_of bytes ≡ record { number = 1; bytes = bytes; is_ended = false } ∷ []

@@ -8,3 +8,4 @@ pub mod PortTable
 pub mod Examples
 pub mod Laws
 pub mod Spelling
+pub mod SpelledPattern

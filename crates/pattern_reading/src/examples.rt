@@ -6,7 +6,8 @@ ghost use Rattle.pattern_reading.specs.Spelling.{IsPortName, HasNamedGate};
 ghost use Rattle.pattern_reading.specs.Examples.{ReadsAsSaid, HasSaidFault, ReadsAsSaidPorts, HasSaidPortFault};
 ghost use Rattle.pattern_reading.specs.Examples.{or_examples, header_examples, item_examples};
 ghost use Rattle.pattern_reading.specs.Examples.{header_fault_examples, item_fault_examples, end_fault_examples};
-ghost use Rattle.pattern_reading.specs.Examples.{or_ports_examples, ports_examples};
+ghost use Rattle.pattern_reading.specs.Examples.{or_ports_examples, ports_examples, too_large_texts, large_texts};
+ghost use Rattle.pattern_reading.specs.Pattern.{IsGridTooLarge};
 ghost use Rattle.pattern_reading.specs.Examples.{bad_line_examples, bad_order_examples, outside_port_examples, twice_examples};
 
 /// The text of an OR gate, with its net lines and without them, spells its drawing and its ports.
@@ -31,6 +32,12 @@ pub fn faults_of_patterns()
     ensures headers { AllByRecursion HasSaidFault header_fault_examples }
     ensures items { AllByRecursion HasSaidFault item_fault_examples }
     ensures ends { AllByRecursion HasSaidFault end_fault_examples }
+{}
+
+/// Texts whose box is too large for a reader, and texts in which no such box is.
+pub fn large_boxes()
+    ensures too_large { AllByRecursion IsGridTooLarge too_large_texts }
+    ensures not_too_large { AllByRecursion (λ text. ¬ (IsGridTooLarge text)) large_texts }
 {}
 
 /// Port tables by texts, in the forms that their lines may have.

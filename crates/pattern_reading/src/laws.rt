@@ -3,8 +3,11 @@
 ghost use Rattle.std.specs.Prelude.{List, ℕ};
 ghost use Rattle.pattern_reading.specs.Laws.{HasOnePattern, HasOneRleFault, HasNoFaultIfRead, HasPatternOrFault};
 ghost use Rattle.pattern_reading.specs.Laws.{HasOneTable, HasOnePortFault, HasNoPortFaultIfRead, HasTableOrFault};
-ghost use Rattle.pattern_reading.specs.Laws.{HasAllInLines, HasNumberedLines, HasLinesOfRust, IsLineText, HasFirstLine};
+ghost use Rattle.pattern_reading.specs.Laws.{HasAllInLines, HasNumberedLines, HasLinesOfRust, IsLineText, HasFirstLine, HasLineThenRest, HasLoneLine, HasNextPlace};
+ghost use Rattle.pattern_reading.specs.Items.{Item};
+ghost use Rattle.ww_rule.specs.Grid.{Grid};
 ghost use Rattle.pattern_reading.specs.PortLines.{PortForm};
+ghost use Rattle.pattern_reading.specs.SpelledPattern.{SpelledItem, HasSpelledPattern, HasSpelledHeader, HasSpelledCount};
 ghost use Rattle.pattern_reading.specs.Spelling.{HasSpelledPorts, HasSamePattern};
 
 /// Each text of extended RLE reads as exactly one pattern, or has exactly one first fault.
@@ -24,16 +27,30 @@ pub fn port_laws()
 {}
 
 /// The lines of a text are numbered from 1 on, all of the text is in them, they are those of Rust's `lines`, and a line before a
-/// text is its first line.
+/// text is its first line, so that a text can be read line by line.
 pub fn line_laws()
     ensures joined { (text : List ℕ) → HasAllInLines text }
     ensures numbered { (text : List ℕ) → HasNumberedLines text }
     ensures of_rust { (text : List ℕ) → HasLinesOfRust text }
     ensures first { (bytes rest : List ℕ) → IsLineText bytes → HasFirstLine bytes rest }
+    ensures cut { (bytes rest : List ℕ) → HasLineThenRest bytes rest }
+    ensures lone { (bytes : List ℕ) → HasLoneLine bytes }
+{}
+
+/// The sums of counts that place an item grow item by item, as a reader keeps them.
+pub fn place_laws()
+    ensures { (item : Item) (before : List Item) → HasNextPlace item before }
 {}
 
 /// A port table that is spelled before a text is read as it was meant, and changes nothing in the text's pattern.
 pub fn spelled_table_laws()
     ensures ports { (forms : List PortForm) (rest : List ℕ) → HasSpelledPorts forms rest }
     ensures pattern { (forms : List PortForm) (rest : List ℕ) → HasSamePattern forms rest }
+{}
+
+/// A header and items that are spelled are read as the pattern that they spell, however the items are cut into lines.
+pub fn spelled_pattern_laws()
+    ensures pattern { (header : List ℕ) (lines : List (List SpelledItem)) (rest : List ℕ) → HasSpelledPattern header lines rest }
+    ensures header { (grid : Grid) → HasSpelledHeader grid }
+    ensures count { (count tag : ℕ) → HasSpelledCount count tag }
 {}

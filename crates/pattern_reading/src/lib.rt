@@ -7,8 +7,11 @@ mod laws;
 mod ports;
 
 pub use examples::{
-    faults_of_patterns, faults_of_ports, named_gate_reads, or_gate_reads, patterns_read, ports_read,
+    faults_of_patterns, faults_of_ports, large_boxes, named_gate_reads, or_gate_reads,
+    patterns_read, ports_read,
 };
 pub use faults::{PortFaultKind, RleFaultKind};
-pub use laws::{line_laws, pattern_laws, port_laws, spelled_table_laws};
+pub use laws::{
+    line_laws, pattern_laws, place_laws, port_laws, spelled_pattern_laws, spelled_table_laws,
+};
 pub use ports::{NetLine, PortLine, Ports};

@@ -1,5 +1,6 @@
 use Rattle.pattern_reading.proofs.LineLaws.{all_in_lines, numbered_lines}
 use Rattle.pattern_reading.proofs.RustLines.{lines_of_rust}
+use Rattle.pattern_reading.proofs.FirstLine.{line_then_rest, lone_line}
 use Rattle.pattern_reading.proofs.LineText.{first_line}
 use Rattle.pattern_reading.proofs.laws.line_laws.Goals as goal
 
@@ -14,3 +15,9 @@ returns-clause-first c = first_line
 
 pub returns-clause-of_rust : goal.returns-clause-of_rust
 returns-clause-of_rust c = lines_of_rust
+
+pub returns-clause-cut : goal.returns-clause-cut
+returns-clause-cut c = line_then_rest
+
+pub returns-clause-lone : goal.returns-clause-lone
+returns-clause-lone c = lone_line
