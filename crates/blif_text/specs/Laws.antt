@@ -35,6 +35,10 @@ pub record IsFirstLineFault (lines : List Logical) (fault : Fault) : Type 0 wher
 abbrev pub LineFaultIsFirst : Type 0
 LineFaultIsFirst = (lines : List Logical) (fault : Fault) → (line_fault lines ≡ Some fault) ↔ IsFirstLineFault lines fault
 
+-- Lines have no such fault where each of them breaks no rule over the lines before it.
+abbrev pub NoLineFault : Type 0
+NoLineFault = (lines : List Logical) → (line_fault lines ≡ None) ↔ ((before : List Logical) (line : Logical) (after : List Logical) → lines ≡ before ++ line ∷ after → BreaksNone (reverse before) line)
+
 -- Two faults of the same lines are of one kind, at one line, and the same, but that one line may lie on several circles.
 pub record AreSameFault (f g : Fault) : Type 0 where
   pub kind : f.kind ≡ g.kind
@@ -79,6 +83,10 @@ pub record IsFirstModelFault (models : List Model) (fault : Fault) : Type 0 wher
   pub some_model : models ≢ []
   pub is_earliest : IsEarliest (all_words_at_fault fault.kind models) (at_line fault.line fault.word)
   pub is_lowest : (kind : FaultKind) → number_of kind < number_of fault.kind → all_words_at_fault kind models ≡ []
+
+-- Some models have no such fault where they break no rule at any word.
+abbrev pub NoModelFault : Type 0
+NoModelFault = (models : List Model) → models ≢ [] → (model_fault models ≡ None) ↔ ((kind : FaultKind) → all_words_at_fault kind models ≡ [])
 
 abbrev pub ModelFaultIsFirst : Type 0
 ModelFaultIsFirst = (models : List Model) (fault : Fault) → ((model_fault models ≡ Some fault) × (models ≢ [])) ↔ IsFirstModelFault models fault

@@ -1,5 +1,5 @@
 // Laws of the definitions.
-ghost use Rattle.blif_text.specs.Laws.{DesignOrFault, FaultlessOrFault, LineFaultIsFirst, LinesAreKnown, LinesHaveWords, ModelFaultIsFirst, ModelsAreCut, NeverBoth, NoModelNoLine, OneDesign, OneFault, WordsAreRuns};
+ghost use Rattle.blif_text.specs.Laws.{DesignOrFault, FaultlessOrFault, LineFaultIsFirst, LinesAreKnown, LinesHaveWords, ModelFaultIsFirst, ModelsAreCut, NeverBoth, NoLineFault, NoModelFault, NoModelNoLine, OneDesign, OneFault, WordsAreRuns};
 
 /// The physical lines of a text are those of Rust's `lines`.
 pub fn lines_are_known()
@@ -26,6 +26,17 @@ pub fn models_are_cut()
 /// lines before it, by the rule of the lowest number.
 pub fn line_fault_is_first()
     ensures { LineFaultIsFirst }
+{}
+
+/// Lines have no such fault exactly where each of them breaks no rule over the lines before it.
+pub fn no_line_fault()
+    ensures { NoLineFault }
+{}
+
+/// Models, of which there is one at least, have no fault by a rule on models, circles aside, exactly where
+/// they break none at any word.
+pub fn no_model_fault()
+    ensures { NoModelFault }
 {}
 
 /// The fault of models by a rule on models is by the lowest rule that holds of them, at its earliest
