@@ -1,5 +1,5 @@
 // Laws of the definitions.
-ghost use Rattle.blif_text.specs.Laws.{DesignOrFault, FaultlessOrFault, LineFaultIsFirst, LinesAreKnown, LinesHaveWords, ModelFaultIsFirst, ModelsAreCut, NeverBoth, NoLineFault, NoModelFault, NoModelNoLine, OneDesign, OneFault, WordsAreRuns};
+ghost use Rattle.blif_text.specs.Laws.{DesignOrFault, FaultlessOrFault, FormalsAreDistinct, LineFaultIsFirst, LinesAreKnown, LinesHaveWords, ModelFaultIsFirst, ModelsAreCut, ModelsAreDistinct, NeverBoth, NoLineFault, NoModelFault, NoModelIsInItself, NoModelNoLine, OneDesign, OneFault, WordsAreRuns};
 
 /// The physical lines of a text are those of Rust's `lines`.
 pub fn lines_are_known()
@@ -77,4 +77,19 @@ pub fn faultless_or_fault()
 /// A text is a design, or has a fault.
 pub fn design_or_fault()
     ensures { DesignOrFault }
+{}
+
+/// The models of a design have distinct names.
+pub fn models_are_distinct()
+    ensures { ModelsAreDistinct }
+{}
+
+/// In models without a fault, the pins of a subckt line have distinct formals.
+pub fn formals_are_distinct()
+    ensures { FormalsAreDistinct }
+{}
+
+/// In models without a fault, none leads back to itself by subckt lines.
+pub fn no_model_is_in_itself()
+    ensures { NoModelIsInItself }
 {}
