@@ -124,7 +124,7 @@ reaches models (v ∷ vs) a xs b p d all = by (is_in v xs) (λ ys q e f. reaches
         or_right (reach models vs a b) (reach models vs a v && reach models vs v b) (both (reach models vs a v) (reach models vs v b) (first c.0 q.0 e.0 (narrowed vs v c.0 e.2 all_front)) (second c.1 q.1 e.1 (narrowed vs v c.1 e.3 all_back)))
 
 -- A way from a word to another end, made simple: no word stands twice on it, nor does the end.
-record IsSimpleWay (models : List Model) (a : List ℕ) (xs : List (List ℕ)) (end : List ℕ) : Type 0 where
+pub record IsSimpleWay (models : List Model) (a : List ℕ) (xs : List (List ℕ)) (end : List ℕ) : Type 0 where
   pub leads : Leads models a xs end
   pub distinct : Distinct (end ∷ a ∷ xs)
 
@@ -143,7 +143,7 @@ longer models a next xs end n p w new = record {
   distinct = (λ i. elim i as (λ _. ⊥) [ inl e ↦ n (sym e) | inr j ↦ w.distinct.0 j ], (new, w.distinct.1));
 }
 
-simple_way : (models : List Model) (a : List ℕ) (xs : List (List ℕ)) (end : List ℕ) → a ≢ end → Leads models a xs end → (ys : List (List ℕ)) × IsSimpleWay models a ys end
+pub simple_way : (models : List Model) (a : List ℕ) (xs : List (List ℕ)) (end : List ℕ) → a ≢ end → Leads models a xs end → (ys : List (List ℕ)) × IsSimpleWay models a ys end
 simple_way models a [] end n p = ([], last_step models a end n p)
 simple_way models a (next ∷ xs) end n p = by (bytes_eq next end) refl (λ m. simple_way models next xs end m p.1)
   where

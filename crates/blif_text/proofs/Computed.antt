@@ -101,6 +101,15 @@ design_by text models a b c later = record { models = record { no_fault = a; are
 
 pub model_instances : ModelInstances
 model_instances = record {
+  inverter = design_by _ _ refl refl refl refl;
+  nand_gate = design_by _ _ refl refl refl refl;
+  constant_one = design_by _ _ refl refl refl refl;
+  constant_zero = design_by _ _ refl refl refl refl;
+  register = design_by _ _ refl refl refl refl;
+  two_outputs = design_by _ _ refl refl refl refl;
+  own_input = design_by _ _ refl refl refl refl;
+  nothing = design_by _ _ refl refl refl refl;
+  made = design_by _ _ refl refl refl refl;
   or_gate = design_by _ _ refl refl refl refl;
   annotated = design_by _ _ refl refl refl refl;
   toggle = design_by _ _ refl refl refl refl;

@@ -11,7 +11,7 @@ use Rattle.blif_text.specs.declared.fault.FaultKind.{FaultKind}
 use Rattle.blif_text.specs.declared.fault.FaultKind.TheVariants.{NoModelYet, UnknownDirective, Unsupported, BadCount, RowOutside, BadRow, MixedCover, BadLatch, BadPin, AfterEnd, DuplicateModel}
 use Rattle.blif_text.specs.FaultNames.{number_of}
 use Rattle.blif_text.specs.LineFaults.{word_at_fault, fault_at, first_broken, fault_after, line_fault, line_rules}
-use Rattle.blif_text.specs.Laws.{BreaksNone, IsFirstLineFault, LineFaultIsFirst}
+use Rattle.blif_text.specs.Laws.{BreaksNone, IsFirstLineFault, LineFaultIsFirst, NoLineFault}
 
 -- one of a list
 abbrev pub Member : FaultKind → List FaultKind → Type 0
@@ -201,3 +201,32 @@ line_fault_is_first lines fault = (λ e. to e, λ r. from r)
         (subst (λ v. word_at_fault fault.kind v r.line ≡ Some fault.word) (sym (append-nil (reverse r.before))) r.breaks)
         (λ kind lower. subst (λ v. word_at_fault kind v r.line ≡ None) (sym (append-nil (reverse r.before))) (r.is_lowest kind lower))
         (λ a x c h. subst (λ v. BreaksNone v x) (sym (append-nil (reverse a))) (r.is_earliest a x c h))
+
+-- where no fault comes, no line breaks a rule
+none_after : (before lines : List Logical) → fault_after before lines ≡ None → (front : List Logical) (l : Logical) (back : List Logical) → lines ≡ front ++ l ∷ back → BreaksNone (reverse front ++ before) l
+none_after before [] e [] l back h = absurd (cc)
+none_after before [] e (x ∷ xs) l back h = absurd (cc)
+none_after before (z ∷ zs) e front l back h = by (first_broken line_rules before z) refl e front h (λ d xs g. none_after (z ∷ before) zs d xs l back g)
+  where
+    step : first_broken line_rules before z ≡ None → fault_after (z ∷ before) zs ≡ None → (front : List Logical) → z ∷ zs ≡ front ++ l ∷ back → (fault_after (z ∷ before) zs ≡ None → (xs : List Logical) → zs ≡ xs ++ l ∷ back → BreaksNone (reverse xs ++ z ∷ before) l) → BreaksNone (reverse front ++ before) l
+    step none d [] h again = let g : z ≡ l = cc in subst (λ v. BreaksNone before v) g (breaks_none before z none)
+    step none d (x ∷ xs) h again =
+        let g : x ≡ z = cc in
+        let rest : zs ≡ xs ++ l ∷ back = cc in
+        subst (λ v. BreaksNone v l) (sym (turned x xs before)) (subst (λ v. BreaksNone (reverse xs ++ v ∷ before) l) (sym g) (again d xs rest))
+
+    by : (o : Option Fault) → first_broken line_rules before z ≡ o → option_or o (fault_after (z ∷ before) zs) ≡ None → (front : List Logical) → z ∷ zs ≡ front ++ l ∷ back → (fault_after (z ∷ before) zs ≡ None → (xs : List Logical) → zs ≡ xs ++ l ∷ back → BreaksNone (reverse xs ++ z ∷ before) l) → BreaksNone (reverse front ++ before) l
+    by (Some f) o d front h again = absurd (cc)
+    by None o d front h again = step o d front h again
+
+after_none : (before lines : List Logical) → ((front : List Logical) (l : Logical) (back : List Logical) → lines ≡ front ++ l ∷ back → BreaksNone (reverse front ++ before) l) → fault_after before lines ≡ None
+after_none before [] all = refl
+after_none before (z ∷ zs) all =
+    ap (λ o. option_or o (fault_after (z ∷ before) zs)) (none_broken before z line_rules (all [] z zs refl))
+    ∙ after_none (z ∷ before) zs (λ front l back h. subst (λ v. BreaksNone v l) (turned z front before) (all (z ∷ front) l back (ap (λ v. z ∷ v) h)))
+
+pub no_line_fault : NoLineFault
+no_line_fault lines = (
+  λ e before line after h. subst (λ v. BreaksNone v line) (append-nil (reverse before)) (none_after [] lines e before line after h),
+  λ all. after_none [] lines (λ front l back h. subst (λ v. BreaksNone v l) (sym (append-nil (reverse front))) (all front l back h)),
+)

@@ -12,7 +12,7 @@ use Rattle.blif_text.specs.declared.fault.FaultKind.TheVariants.{NoModelYet, Unk
 use Rattle.blif_text.specs.FaultNames.{number_of}
 use Rattle.blif_text.specs.Drivers.{at_line}
 use Rattle.blif_text.specs.ModelFaults.{earlier_of, earliest, words_at_fault, fault_of_port, first_broken_by, model_rules, model_fault}
-use Rattle.blif_text.specs.Laws.{IsEarliest, all_words_at_fault, IsFirstModelFault, ModelFaultIsFirst}
+use Rattle.blif_text.specs.Laws.{IsEarliest, all_words_at_fault, IsFirstModelFault, ModelFaultIsFirst, NoModelFault}
 use Rattle.blif_text.proofs.FirstFaults.{Member, ascends, above, left, right}
 
 -- the earliest of a list
@@ -185,3 +185,23 @@ model_fault_is_first models fault = (λ p. to p.0 p.1, λ r. (from r, r.some_mod
         let i : IsEarliest (all_words_at_fault fault.kind models) (at_line fault.line fault.word) = r.is_earliest in
         let w : earliest (all_words_at_fault fault.kind models) ≡ Some (at_line fault.line fault.word) = ap earliest i.are_ports ∙ found_earliest i.front (at_line fault.line fault.word) i.back i.front_later i.back_no_earlier in
         by_rules models r.some_model ∙ elim (model_rule fault.kind models) as (λ _. first_broken_by model_rules models ≡ Some fault) [ inl h ↦ absurd (some_word h i) | inr m ↦ finds models model_rules fault refl m w r.is_lowest ]
+
+-- where no fault comes, no rule is broken
+not_found : (models : List Model) (rules : List FaultKind) → first_broken_by rules models ≡ None → (kind : FaultKind) → Member kind rules → all_words_at_fault kind models ≡ []
+not_found models [] e kind m = absurd m
+not_found models (k ∷ ks) e kind m = by (earliest (all_words_at_fault k models)) refl e m (λ d n. not_found models ks d kind n)
+  where
+    by : (o : Option Port) → earliest (all_words_at_fault k models) ≡ o → option_or (option_map (fault_of_port k) o) (first_broken_by ks models) ≡ None → Member kind (k ∷ ks) → (first_broken_by ks models ≡ None → Member kind ks → all_words_at_fault kind models ≡ []) → all_words_at_fault kind models ≡ []
+    by (Some p) h d m again = absurd (cc)
+    by None h d (inl same_kind) again = subst (λ j. all_words_at_fault j models ≡ []) (sym same_kind) (none_empty (all_words_at_fault k models) h)
+    by None h d (inr later) again = again d later
+
+none_broken : (models : List Model) (rules : List FaultKind) → ((kind : FaultKind) → all_words_at_fault kind models ≡ []) → first_broken_by rules models ≡ None
+none_broken models [] none = refl
+none_broken models (k ∷ ks) none = ap (λ v. option_or (option_map (fault_of_port k) (earliest v)) (first_broken_by ks models)) (none k) ∙ none_broken models ks none
+
+pub no_model_fault : NoModelFault
+no_model_fault models some = (
+  λ e kind. elim (model_rule kind models) as (λ _. all_words_at_fault kind models ≡ []) [ inl h ↦ h | inr m ↦ not_found models model_rules (sym (by_rules models some) ∙ e) kind m ],
+  λ none. by_rules models some ∙ none_broken models model_rules none,
+)

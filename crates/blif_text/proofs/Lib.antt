@@ -3,6 +3,7 @@ pub mod CircleSearch
 pub mod CircleTexts
 pub mod Computed
 pub mod Cuts
+pub mod Designs
 pub mod FirstFaults
 pub mod FirstModelFaults
 pub mod LineNumbers

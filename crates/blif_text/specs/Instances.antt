@@ -97,6 +97,24 @@ pub record ModelInstances : Type 0 where
   pub latches : IsDesignWith (codes ".model l\n.inputs d c\n.outputs p q r s t\n.latch d p\n.latch d q 1\n.latch d r fe c\n.latch d s re c 0\n.latch d t fe NIL 2\n.end\n") ((flat_model 1 (codes "l") (ports 2 ((codes "d") ∷ (codes "c") ∷ [])) (ports 3 ((codes "p") ∷ (codes "q") ∷ (codes "r") ∷ (codes "s") ∷ (codes "t") ∷ [])) ([]) ((free_latch 4 (codes "d") (codes "p") 3) ∷ (free_latch 5 (codes "d") (codes "q") 1) ∷ (clocked_latch 6 (codes "d") (codes "r") Fall (codes "c") 3) ∷ (clocked_latch 7 (codes "d") (codes "s") Rise (codes "c") 0) ∷ (free_latch 8 (codes "d") (codes "t") 2) ∷ [])) ∷ [])
   -- a pin is cut at its first `=`
   pub pins : IsDesignWith (codes ".model m\n.inputs b=c\n.subckt s a=b=c\n.model s\n.inputs a\n") ((deep_model 1 (codes "m") (ports 2 ((codes "b=c") ∷ [])) [] ((subckt 3 (codes "s") ((pin (codes "a") (codes "b=c")) ∷ [])) ∷ [])) ∷ (deep_model 4 (codes "s") (ports 5 ((codes "a") ∷ [])) [] ([])) ∷ [])
+  -- an inverter, without `.end`
+  pub inverter : IsDesignWith (codes ".model n\n.inputs a\n.outputs y\n.names a y\n0 1\n") ((flat_model 1 (codes "n") (ports 2 ((codes "a") ∷ [])) (ports 3 ((codes "y") ∷ [])) ((cover 4 ((codes "a") ∷ []) (codes "y") ((codes "0") ∷ []) true) ∷ []) []) ∷ [])
+  -- a row that ends in `0`
+  pub nand_gate : IsDesignWith (codes ".model or\n.inputs a b\n.outputs y\n.names a b y\n11 0\n.end\n") ((flat_model 1 (codes "or") (ports 2 ((codes "a") ∷ (codes "b") ∷ [])) (ports 3 ((codes "y") ∷ [])) ((cover 4 ((codes "a") ∷ (codes "b") ∷ []) (codes "y") ((codes "11") ∷ []) false) ∷ []) []) ∷ [])
+  -- the constant 1
+  pub constant_one : IsDesignWith (codes ".model c\n.outputs y\n.names y\n1\n.end\n") ((flat_model 1 (codes "c") [] (ports 2 ((codes "y") ∷ [])) ((cover 3 [] (codes "y") ((codes "") ∷ []) true) ∷ []) []) ∷ [])
+  -- the constant 0
+  pub constant_zero : IsDesignWith (codes ".model c\n.outputs y\n.names y\n.end\n") ((flat_model 1 (codes "c") [] (ports 2 ((codes "y") ∷ [])) ((cover 3 [] (codes "y") [] true) ∷ []) []) ∷ [])
+  -- a latch with init 1
+  pub register : IsDesignWith (codes ".model r\n.inputs d\n.outputs q\n.latch d q 1\n.end\n") ((flat_model 1 (codes "r") (ports 2 ((codes "d") ∷ [])) (ports 3 ((codes "q") ∷ [])) [] ((free_latch 4 (codes "d") (codes "q") 1) ∷ [])) ∷ [])
+  -- two covers of one input each
+  pub two_outputs : IsDesignWith (codes ".model x\n.inputs a b\n.outputs p q\n.names b p\n1 1\n.names a q\n1 1\n.end\n") ((flat_model 1 (codes "x") (ports 2 ((codes "a") ∷ (codes "b") ∷ [])) (ports 3 ((codes "p") ∷ (codes "q") ∷ [])) ((cover 4 ((codes "b") ∷ []) (codes "p") ((codes "1") ∷ []) true) ∷ (cover 6 ((codes "a") ∷ []) (codes "q") ((codes "1") ∷ []) true) ∷ []) []) ∷ [])
+  -- a cover that reads its output: no fault of lines or models
+  pub own_input : IsDesignWith (codes ".model m\n.inputs a\n.outputs x\n.names x a x\n11 1\n.end\n") ((flat_model 1 (codes "m") (ports 2 ((codes "a") ∷ [])) (ports 3 ((codes "x") ∷ [])) ((cover 4 ((codes "x") ∷ (codes "a") ∷ []) (codes "x") ((codes "11") ∷ []) true) ∷ []) []) ∷ [])
+  -- a model of nothing
+  pub nothing : IsDesignWith (codes ".model m\n.end\n") ((flat_model 1 (codes "m") [] [] [] []) ∷ [])
+  -- a made netlist
+  pub made : IsDesignWith (codes ".model made\n.inputs i0 i1 i2 i3\n.outputs g1 q0 q1\n.latch i2 q0 0\n.latch i3 q1 1\n.names q0 i3 g0\n10 1\n01 1\n.names g0 g0 g1\n11 0\n.end\n") ((flat_model 1 (codes "made") (ports 2 ((codes "i0") ∷ (codes "i1") ∷ (codes "i2") ∷ (codes "i3") ∷ [])) (ports 3 ((codes "g1") ∷ (codes "q0") ∷ (codes "q1") ∷ [])) ((cover 6 ((codes "q0") ∷ (codes "i3") ∷ []) (codes "g0") ((codes "10") ∷ (codes "01") ∷ []) true) ∷ (cover 9 ((codes "g0") ∷ (codes "g0") ∷ []) (codes "g1") ((codes "11") ∷ []) false) ∷ []) ((free_latch 4 (codes "i2") (codes "q0") 0) ∷ (free_latch 5 (codes "i3") (codes "q1") 1) ∷ [])) ∷ [])
 
 -- Texts without a fault.
 pub record FaultlessInstances : Type 0 where

@@ -1,8 +1,10 @@
 -- Laws of the definitions: what the first fault is, that there is at most one, and that a text is a design or has a fault.
-use Rattle.std.specs.Prelude.{◌≡◌, ◌≢◌, ℕ, ◌<◌, ◌⊎◌, ◌↔◌, List, [], ◌∷◌, ◌++◌, reverse, flat_map, ◌+◌, true, false, ⊤, ◌≤◌, Some, None}
-use Rattle.std.specs.List.{AllByRecursion, list_any}
+use Rattle.std.specs.Prelude.{◌≡◌, ◌≢◌, ℕ, ◌<◌, ◌⊎◌, ◌↔◌, List, [], ◌∷◌, ◌++◌, reverse, map, bytes_eq, Contains, flat_map, ◌+◌, true, false, ⊤, ◌≤◌, Some, None}
+use Rattle.std.specs.List.{AllByRecursion, list_any, IsDistinct}
 use Rattle.std.specs.Str.Lines.{lines}
 use Rattle.netlist_core.specs.declared.model.Port.{Port}
+use Rattle.netlist_core.specs.declared.model.Pin.{Pin}
+use Rattle.netlist_core.specs.declared.model.Subckt.{Subckt}
 use Rattle.netlist_core.specs.declared.model.Model.{Model}
 use Rattle.netlist_core.specs.declared.model.Design.{Design}
 use Rattle.blif_text.specs.declared.logical.Logical.{Logical}
@@ -14,6 +16,7 @@ use Rattle.blif_text.specs.LogicalLines.{logical_lines, physical_lines, is_blank
 use Rattle.blif_text.specs.Models.{models_of, begins_model}
 use Rattle.blif_text.specs.LineFaults.{word_at_fault, line_fault}
 use Rattle.blif_text.specs.Drivers.{at_line}
+use Rattle.blif_text.specs.Circles.{Leads}
 use Rattle.blif_text.specs.ModelFaults.{model_fault, words_at_fault, AreFaultless, HasModelFault}
 use Rattle.blif_text.specs.Faults.{HasModels, HasFault, IsDesignOf}
 
@@ -34,6 +37,10 @@ pub record IsFirstLineFault (lines : List Logical) (fault : Fault) : Type 0 wher
 
 abbrev pub LineFaultIsFirst : Type 0
 LineFaultIsFirst = (lines : List Logical) (fault : Fault) → (line_fault lines ≡ Some fault) ↔ IsFirstLineFault lines fault
+
+-- Lines have no such fault where each of them breaks no rule over the lines before it.
+abbrev pub NoLineFault : Type 0
+NoLineFault = (lines : List Logical) → (line_fault lines ≡ None) ↔ ((before : List Logical) (line : Logical) (after : List Logical) → lines ≡ before ++ line ∷ after → BreaksNone (reverse before) line)
 
 -- Two faults of the same lines are of one kind, at one line, and the same, but that one line may lie on several circles.
 pub record AreSameFault (f g : Fault) : Type 0 where
@@ -80,6 +87,10 @@ pub record IsFirstModelFault (models : List Model) (fault : Fault) : Type 0 wher
   pub is_earliest : IsEarliest (all_words_at_fault fault.kind models) (at_line fault.line fault.word)
   pub is_lowest : (kind : FaultKind) → number_of kind < number_of fault.kind → all_words_at_fault kind models ≡ []
 
+-- Some models have no such fault where they break no rule at any word.
+abbrev pub NoModelFault : Type 0
+NoModelFault = (models : List Model) → models ≢ [] → (model_fault models ≡ None) ↔ ((kind : FaultKind) → all_words_at_fault kind models ≡ [])
+
 abbrev pub ModelFaultIsFirst : Type 0
 ModelFaultIsFirst = (models : List Model) (fault : Fault) → ((model_fault models ≡ Some fault) × (models ≢ [])) ↔ IsFirstModelFault models fault
 
@@ -109,3 +120,13 @@ pub record WordsAreRuns : Type 0 where
   pub at_the_end : (word : List ℕ) → word ≢ [] → list_any is_blank word ≡ false → words_of word ≡ word ∷ []
   pub after_blank : (blank : ℕ) (rest : List ℕ) → is_blank blank ≡ true → words_of (blank ∷ rest) ≡ words_of rest
   pub of_nothing : words_of [] ≡ []
+
+-- What a design without a fault has: models of distinct names, pins of distinct formals, no model that places itself by way of others.
+abbrev pub ModelsAreDistinct : Type 0
+ModelsAreDistinct = (text : List ℕ) (design : Design) → IsDesignOf text design → IsDistinct bytes_eq (map (λ (m : Model). m.name) design.models)
+
+abbrev pub FormalsAreDistinct : Type 0
+FormalsAreDistinct = (models : List Model) → AreFaultless models → (m : Model) (s : Subckt) → Contains models m → Contains m.subckts s → IsDistinct bytes_eq (map (λ (pin : Pin). pin.formal) s.pins)
+
+abbrev pub NoModelIsInItself : Type 0
+NoModelIsInItself = (models : List Model) → AreFaultless models → (name : List ℕ) (names : List (List ℕ)) → ¬ (Leads models name names name)

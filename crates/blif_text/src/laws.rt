@@ -1,5 +1,5 @@
 // Laws of the definitions.
-ghost use Rattle.blif_text.specs.Laws.{DesignOrFault, FaultlessOrFault, LineFaultIsFirst, LinesAreKnown, LinesHaveWords, ModelFaultIsFirst, ModelsAreCut, NeverBoth, NoModelNoLine, OneDesign, OneFault, WordsAreRuns};
+ghost use Rattle.blif_text.specs.Laws.{DesignOrFault, FaultlessOrFault, FormalsAreDistinct, LineFaultIsFirst, LinesAreKnown, LinesHaveWords, ModelFaultIsFirst, ModelsAreCut, ModelsAreDistinct, NeverBoth, NoLineFault, NoModelFault, NoModelIsInItself, NoModelNoLine, OneDesign, OneFault, WordsAreRuns};
 
 /// The physical lines of a text are those of Rust's `lines`.
 pub fn lines_are_known()
@@ -26,6 +26,17 @@ pub fn models_are_cut()
 /// lines before it, by the rule of the lowest number.
 pub fn line_fault_is_first()
     ensures { LineFaultIsFirst }
+{}
+
+/// Lines have no such fault exactly where each of them breaks no rule over the lines before it.
+pub fn no_line_fault()
+    ensures { NoLineFault }
+{}
+
+/// Models, of which there is one at least, have no fault by a rule on models, circles aside, exactly where
+/// they break none at any word.
+pub fn no_model_fault()
+    ensures { NoModelFault }
 {}
 
 /// The fault of models by a rule on models is by the lowest rule that holds of them, at its earliest
@@ -66,4 +77,19 @@ pub fn faultless_or_fault()
 /// A text is a design, or has a fault.
 pub fn design_or_fault()
     ensures { DesignOrFault }
+{}
+
+/// The models of a design have distinct names.
+pub fn models_are_distinct()
+    ensures { ModelsAreDistinct }
+{}
+
+/// In models without a fault, the pins of a subckt line have distinct formals.
+pub fn formals_are_distinct()
+    ensures { FormalsAreDistinct }
+{}
+
+/// In models without a fault, none leads back to itself by subckt lines.
+pub fn no_model_is_in_itself()
+    ensures { NoModelIsInItself }
 {}
