@@ -1,10 +1,8 @@
 -- Each drawing keeps the timing law: the heads of a run of 32 generations are computed, for each choice of entries.
 -- (The laws of the traits cite these proofs, and so they stand in specs.)
-use Rattle.std.proofs.Common.{◌≡◌, refl, Bool, true, false, ◌&&◌, List, ℕ}
-use Rattle.std.proofs.lemmas.Bool.{and_parts}
+use Rattle.std.proofs.Common.{◌≡◌, refl, Bool, true, false, List, ℕ}
 use Rattle.tile_core.specs.declared.kind.Kind.{Kind}
 use Rattle.tile_core.specs.declared.kind.Kind.TheVariants.{Swap, Xor, Or, AndNot, Fork, East, South, North, EastSouth, SouthWest, WestNorth, NorthEast, West, WestSwap}
-use Rattle.tile_core.specs.Drawing.{Drawing}
 use Rattle.tile_core.specs.Interface.{Interface}
 use Rattle.tile_core.specs.Kinds.{interface}
 use Rattle.tile_core.specs.TimingLaw.{KeepsTime, MeetsTimingLaw}

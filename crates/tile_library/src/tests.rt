@@ -1,13 +1,11 @@
 // The rows of the timing law's test, and the page of all tiles.
+use crate::{Shipped, tiles};
+use page::PAGE;
 use std::alloc::{AllocError, Global};
 use std::test::Fail;
-
-use tile_core::{Kind, Library};
+use tile_core::{Kind, Library, Tile};
 use tile_timing::law_holds;
 use ww_rule::State;
-
-use crate::Shipped;
-use page::PAGE;
 
 mod page;
 
@@ -59,7 +57,10 @@ fn law_holds_of_the_or_drawing_alone(rt: HostRuntime) -> Result<(), Fail> {
     let mut lit = or_cells();
     lit[8 * 32] = State::Head;
     assert!(rt; law_holds(&or, Kind::Or), "the drawing");
-    assert!(rt; !law_holds(&or_without_diodes(), Kind::Or), "without diodes");
+    assert!(rt;
+        !law_holds(&or_without_diodes(), Kind::Or),
+        "without diodes"
+    );
     assert!(rt; !law_holds(&or, Kind::Xor), "another kind");
     assert!(rt; !law_holds(all_but_one, Kind::Or), "another length");
     assert!(rt; !law_holds(&lit, Kind::Or), "with a head");
@@ -110,7 +111,11 @@ fn push_answers(page: &mut String, kind: Kind) -> Result<(), AllocError> {
     page.push_str("| a | b | y | z |\n|---|---|---|---|\n")?;
     for (a, b) in [(false, false), (false, true), (true, false), (true, true)] {
         let [y, z] = kind.answer([a, b]);
-        writeln!(page, "| {} | {} | {} | {} |", a as u8, b as u8, y as u8, z as u8)?;
+        writeln!(
+            page,
+            "| {} | {} | {} | {} |",
+            a as u8, b as u8, y as u8, z as u8
+        )?;
     }
     Ok(())
 }
@@ -130,5 +135,20 @@ fn sections(alloc: Global) -> Result<String, AllocError> {
 fn page_shows_every_tile(rt: HostRuntime) -> Result<(), Fail> {
     let sections = sections(rt.alloc())?;
     assert!(rt; PAGE.ends_with(sections.as_str()));
+    Ok(())
+}
+
+// What a tile lights, if its first entry is lit alone.
+fn lit_by_first<T: Tile>(tile: &T) -> [bool; 2] {
+    tile.answer([true, false])
+}
+
+#[test]
+fn tiles_answer_by_themselves(rt: HostRuntime) -> Result<(), Fail> {
+    assert_eq!(rt; lit_by_first(&tiles::Swap), [false, true]);
+    assert_eq!(rt; lit_by_first(&tiles::Fork), [true, true]);
+    assert_eq!(rt; lit_by_first(&tiles::SouthWest), [true, false]);
+    assert_eq!(rt; tiles::SouthWest::ENTRIES, [(16, 0), (0, 0)]);
+    assert!(rt; tiles::SouthWest.cell(23, 7) && !tiles::SouthWest.cell(24, 7));
     Ok(())
 }

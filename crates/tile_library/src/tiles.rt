@@ -2,10 +2,11 @@
 ghost use Rattle.tile_core.specs.Kinds.{entries, exits, answer};
 ghost use Rattle.tile_library.specs.Drawings.{drawing_of};
 
-use tile_core::{Kind, Tile};
-
-use crate::drawings::{AND_NOT, EAST, EAST_SOUTH, FORK, NORTH_EAST, OR, SOUTH, SOUTH_WEST, SWAP, WEST_NORTH, XOR};
+use crate::drawings::{
+    AND_NOT, EAST, EAST_SOUTH, FORK, NORTH_EAST, OR, SOUTH, SOUTH_WEST, SWAP, WEST_NORTH, XOR,
+};
 use crate::rows::{is_drawn, is_drawn_mirrored};
+use tile_core::{Kind, Tile};
 
 /// Two signals from the west side to the east side, where they change places.
 #[derive(Clone, Copy, Debug)]
@@ -16,13 +17,19 @@ impl Tile for Swap {
     ghost use Rattle.tile_library.specs.Laws.{swap_meets};
 
     const LANES: u32 = 2;
+
     const ENTRIES: [(u32, u32); 2] = [(0, 8), (0, 24)];
+
     const EXITS: [(u32, u32); 2] = [(31, 8), (31, 24)];
 
     ghost LANES = { 2 };
+
     ghost ENTRIES = { entries Swap };
+
     ghost EXITS = { exits Swap };
+
     ghost drawing = { drawing_of Swap };
+
     ghost answers = { answer Swap };
 
     fn cell(&self, x: u32, y: u32) -> bool {
@@ -45,13 +52,19 @@ impl Tile for Xor {
     ghost use Rattle.tile_library.specs.Laws.{xor_meets};
 
     const LANES: u32 = 2;
+
     const ENTRIES: [(u32, u32); 2] = [(0, 8), (0, 24)];
+
     const EXITS: [(u32, u32); 2] = [(31, 8), (31, 24)];
 
     ghost LANES = { 2 };
+
     ghost ENTRIES = { entries Xor };
+
     ghost EXITS = { exits Xor };
+
     ghost drawing = { drawing_of Xor };
+
     ghost answers = { answer Xor };
 
     fn cell(&self, x: u32, y: u32) -> bool {
@@ -74,13 +87,19 @@ impl Tile for Or {
     ghost use Rattle.tile_library.specs.Laws.{or_meets};
 
     const LANES: u32 = 2;
+
     const ENTRIES: [(u32, u32); 2] = [(0, 8), (0, 24)];
+
     const EXITS: [(u32, u32); 2] = [(31, 8), (31, 24)];
 
     ghost LANES = { 2 };
+
     ghost ENTRIES = { entries Or };
+
     ghost EXITS = { exits Or };
+
     ghost drawing = { drawing_of Or };
+
     ghost answers = { answer Or };
 
     fn cell(&self, x: u32, y: u32) -> bool {
@@ -103,13 +122,19 @@ impl Tile for AndNot {
     ghost use Rattle.tile_library.specs.Laws.{and_not_meets};
 
     const LANES: u32 = 2;
+
     const ENTRIES: [(u32, u32); 2] = [(0, 8), (0, 24)];
+
     const EXITS: [(u32, u32); 2] = [(31, 8), (31, 24)];
 
     ghost LANES = { 2 };
+
     ghost ENTRIES = { entries AndNot };
+
     ghost EXITS = { exits AndNot };
+
     ghost drawing = { drawing_of AndNot };
+
     ghost answers = { answer AndNot };
 
     fn cell(&self, x: u32, y: u32) -> bool {
@@ -132,13 +157,19 @@ impl Tile for Fork {
     ghost use Rattle.tile_library.specs.Laws.{fork_meets};
 
     const LANES: u32 = 2;
+
     const ENTRIES: [(u32, u32); 2] = [(0, 8), (0, 24)];
+
     const EXITS: [(u32, u32); 2] = [(31, 8), (31, 24)];
 
     ghost LANES = { 2 };
+
     ghost ENTRIES = { entries Fork };
+
     ghost EXITS = { exits Fork };
+
     ghost drawing = { drawing_of Fork };
+
     ghost answers = { answer Fork };
 
     fn cell(&self, x: u32, y: u32) -> bool {
@@ -161,13 +192,19 @@ impl Tile for East {
     ghost use Rattle.tile_library.specs.Laws.{east_meets};
 
     const LANES: u32 = 1;
+
     const ENTRIES: [(u32, u32); 2] = [(0, 8), (0, 0)];
+
     const EXITS: [(u32, u32); 2] = [(31, 8), (0, 0)];
 
     ghost LANES = { 1 };
+
     ghost ENTRIES = { entries East };
+
     ghost EXITS = { exits East };
+
     ghost drawing = { drawing_of East };
+
     ghost answers = { answer East };
 
     fn cell(&self, x: u32, y: u32) -> bool {
@@ -190,13 +227,19 @@ impl Tile for South {
     ghost use Rattle.tile_library.specs.Laws.{south_meets};
 
     const LANES: u32 = 1;
+
     const ENTRIES: [(u32, u32); 2] = [(16, 0), (0, 0)];
+
     const EXITS: [(u32, u32); 2] = [(16, 15), (0, 0)];
 
     ghost LANES = { 1 };
+
     ghost ENTRIES = { entries South };
+
     ghost EXITS = { exits South };
+
     ghost drawing = { drawing_of South };
+
     ghost answers = { answer South };
 
     fn cell(&self, x: u32, y: u32) -> bool {
@@ -219,13 +262,19 @@ impl Tile for North {
     ghost use Rattle.tile_library.specs.Laws.{north_meets};
 
     const LANES: u32 = 1;
+
     const ENTRIES: [(u32, u32); 2] = [(16, 15), (0, 0)];
+
     const EXITS: [(u32, u32); 2] = [(16, 0), (0, 0)];
 
     ghost LANES = { 1 };
+
     ghost ENTRIES = { entries North };
+
     ghost EXITS = { exits North };
+
     ghost drawing = { drawing_of North };
+
     ghost answers = { answer North };
 
     fn cell(&self, x: u32, y: u32) -> bool {
@@ -248,13 +297,19 @@ impl Tile for EastSouth {
     ghost use Rattle.tile_library.specs.Laws.{east_south_meets};
 
     const LANES: u32 = 1;
+
     const ENTRIES: [(u32, u32); 2] = [(0, 8), (0, 0)];
+
     const EXITS: [(u32, u32); 2] = [(16, 15), (0, 0)];
 
     ghost LANES = { 1 };
+
     ghost ENTRIES = { entries EastSouth };
+
     ghost EXITS = { exits EastSouth };
+
     ghost drawing = { drawing_of EastSouth };
+
     ghost answers = { answer EastSouth };
 
     fn cell(&self, x: u32, y: u32) -> bool {
@@ -277,13 +332,19 @@ impl Tile for SouthWest {
     ghost use Rattle.tile_library.specs.Laws.{south_west_meets};
 
     const LANES: u32 = 1;
+
     const ENTRIES: [(u32, u32); 2] = [(16, 0), (0, 0)];
+
     const EXITS: [(u32, u32); 2] = [(0, 8), (0, 0)];
 
     ghost LANES = { 1 };
+
     ghost ENTRIES = { entries SouthWest };
+
     ghost EXITS = { exits SouthWest };
+
     ghost drawing = { drawing_of SouthWest };
+
     ghost answers = { answer SouthWest };
 
     fn cell(&self, x: u32, y: u32) -> bool {
@@ -306,13 +367,19 @@ impl Tile for WestNorth {
     ghost use Rattle.tile_library.specs.Laws.{west_north_meets};
 
     const LANES: u32 = 1;
+
     const ENTRIES: [(u32, u32); 2] = [(31, 8), (0, 0)];
+
     const EXITS: [(u32, u32); 2] = [(16, 0), (0, 0)];
 
     ghost LANES = { 1 };
+
     ghost ENTRIES = { entries WestNorth };
+
     ghost EXITS = { exits WestNorth };
+
     ghost drawing = { drawing_of WestNorth };
+
     ghost answers = { answer WestNorth };
 
     fn cell(&self, x: u32, y: u32) -> bool {
@@ -335,13 +402,19 @@ impl Tile for NorthEast {
     ghost use Rattle.tile_library.specs.Laws.{north_east_meets};
 
     const LANES: u32 = 1;
+
     const ENTRIES: [(u32, u32); 2] = [(16, 15), (0, 0)];
+
     const EXITS: [(u32, u32); 2] = [(31, 8), (0, 0)];
 
     ghost LANES = { 1 };
+
     ghost ENTRIES = { entries NorthEast };
+
     ghost EXITS = { exits NorthEast };
+
     ghost drawing = { drawing_of NorthEast };
+
     ghost answers = { answer NorthEast };
 
     fn cell(&self, x: u32, y: u32) -> bool {
@@ -364,13 +437,19 @@ impl Tile for West {
     ghost use Rattle.tile_library.specs.Laws.{west_meets};
 
     const LANES: u32 = 1;
+
     const ENTRIES: [(u32, u32); 2] = [(31, 8), (0, 0)];
+
     const EXITS: [(u32, u32); 2] = [(0, 8), (0, 0)];
 
     ghost LANES = { 1 };
+
     ghost ENTRIES = { entries West };
+
     ghost EXITS = { exits West };
+
     ghost drawing = { drawing_of West };
+
     ghost answers = { answer West };
 
     fn cell(&self, x: u32, y: u32) -> bool {
@@ -393,13 +472,19 @@ impl Tile for WestSwap {
     ghost use Rattle.tile_library.specs.Laws.{west_swap_meets};
 
     const LANES: u32 = 2;
+
     const ENTRIES: [(u32, u32); 2] = [(31, 8), (31, 24)];
+
     const EXITS: [(u32, u32); 2] = [(0, 8), (0, 24)];
 
     ghost LANES = { 2 };
+
     ghost ENTRIES = { entries WestSwap };
+
     ghost EXITS = { exits WestSwap };
+
     ghost drawing = { drawing_of WestSwap };
+
     ghost answers = { answer WestSwap };
 
     fn cell(&self, x: u32, y: u32) -> bool {

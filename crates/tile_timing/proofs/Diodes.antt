@@ -1,6 +1,6 @@
 -- A diode in a wire lets an electron pass eastward, in three generations, and stops one that comes from the east.
-use Rattle.std.proofs.Common.{ℤ, pos, ℕ, ◌<◌, ◌≤◌, ◌≡◌, refl, sym, ap, ◌∙◌, Bool, true, false, ◌||◌, ◌&&◌, List, [], ◌∷◌, int_eq, lit<}
-use Rattle.ww_rule.specs.Wireworld.{Plane, evolve}
+use Rattle.std.proofs.Common.{ℤ, pos, ℕ, ◌≡◌, ap, ◌∙◌, ◌||◌, [], ◌∷◌, lit<}
+use Rattle.ww_rule.specs.Wireworld.{evolve}
 use Rattle.ww_rule.specs.Laws.{moved}
 use Rattle.ww_rule.proofs.Moves.{evolve_moved}
 use Rattle.tile_core.specs.Drawing.{Cell, is_among, Drawing, picture}

@@ -1,5 +1,5 @@
 -- The ports and the border of a drawing, by tests that compute.
-use Rattle.std.proofs.Common.{ℤ, pos, negsuc, ℕ, zero, suc, ◌*◌, ◌<◌, ◌≤◌, ◌≡◌, sym, ap, ◌∙◌, Bool, true, false, ◌||◌, ◌&&◌, not, leb, List, [], ◌∷◌, ◌++◌, arith, inl, inr}
+use Rattle.std.proofs.Common.{ℤ, pos, negsuc, ℕ, zero, suc, ◌*◌, ◌<◌, ◌≡◌, sym, ap, ◌∙◌, Bool, true, false, ◌||◌, ◌&&◌, not, ◌++◌, arith, inl, inr}
 use Rattle.std.proofs.lemmas.Bool.{and_parts, true≢false, cases_lt, ltb-true}
 use Rattle.tile_core.specs.Drawing.{is_among, Drawing}
 use Rattle.tile_core.specs.Interface.{Interface, entry_cells, exit_cells, is_in_box, is_on_border}
