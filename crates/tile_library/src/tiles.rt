@@ -14,7 +14,7 @@ pub struct Swap;
 
 impl Tile for Swap {
     ghost use Rattle.tile_core.specs.declared.kind.Kind.TheVariants.{Swap};
-    ghost use Rattle.tile_library.specs.Laws.{swap_meets};
+    ghost use Rattle.tile_library.specs.Laws.{has_form, swap_meets};
 
     const LANES: u32 = 2;
 
@@ -40,6 +40,8 @@ impl Tile for Swap {
         Kind::Swap.answer(lit)
     }
 
+    ghost form = { has_form Swap };
+
     ghost law = { swap_meets };
 }
 
@@ -49,7 +51,7 @@ pub struct Xor;
 
 impl Tile for Xor {
     ghost use Rattle.tile_core.specs.declared.kind.Kind.TheVariants.{Xor};
-    ghost use Rattle.tile_library.specs.Laws.{xor_meets};
+    ghost use Rattle.tile_library.specs.Laws.{has_form, xor_meets};
 
     const LANES: u32 = 2;
 
@@ -75,6 +77,8 @@ impl Tile for Xor {
         Kind::Xor.answer(lit)
     }
 
+    ghost form = { has_form Xor };
+
     ghost law = { xor_meets };
 }
 
@@ -84,7 +88,7 @@ pub struct Or;
 
 impl Tile for Or {
     ghost use Rattle.tile_core.specs.declared.kind.Kind.TheVariants.{Or};
-    ghost use Rattle.tile_library.specs.Laws.{or_meets};
+    ghost use Rattle.tile_library.specs.Laws.{has_form, or_meets};
 
     const LANES: u32 = 2;
 
@@ -110,6 +114,8 @@ impl Tile for Or {
         Kind::Or.answer(lit)
     }
 
+    ghost form = { has_form Or };
+
     ghost law = { or_meets };
 }
 
@@ -119,7 +125,7 @@ pub struct AndNot;
 
 impl Tile for AndNot {
     ghost use Rattle.tile_core.specs.declared.kind.Kind.TheVariants.{AndNot};
-    ghost use Rattle.tile_library.specs.Laws.{and_not_meets};
+    ghost use Rattle.tile_library.specs.Laws.{has_form, and_not_meets};
 
     const LANES: u32 = 2;
 
@@ -145,6 +151,8 @@ impl Tile for AndNot {
         Kind::AndNot.answer(lit)
     }
 
+    ghost form = { has_form AndNot };
+
     ghost law = { and_not_meets };
 }
 
@@ -154,7 +162,7 @@ pub struct Fork;
 
 impl Tile for Fork {
     ghost use Rattle.tile_core.specs.declared.kind.Kind.TheVariants.{Fork};
-    ghost use Rattle.tile_library.specs.Laws.{fork_meets};
+    ghost use Rattle.tile_library.specs.Laws.{has_form, fork_meets};
 
     const LANES: u32 = 2;
 
@@ -180,6 +188,8 @@ impl Tile for Fork {
         Kind::Fork.answer(lit)
     }
 
+    ghost form = { has_form Fork };
+
     ghost law = { fork_meets };
 }
 
@@ -189,7 +199,7 @@ pub struct East;
 
 impl Tile for East {
     ghost use Rattle.tile_core.specs.declared.kind.Kind.TheVariants.{East};
-    ghost use Rattle.tile_library.specs.Laws.{east_meets};
+    ghost use Rattle.tile_library.specs.Laws.{has_form, east_meets};
 
     const LANES: u32 = 1;
 
@@ -215,6 +225,8 @@ impl Tile for East {
         Kind::East.answer(lit)
     }
 
+    ghost form = { has_form East };
+
     ghost law = { east_meets };
 }
 
@@ -224,7 +236,7 @@ pub struct South;
 
 impl Tile for South {
     ghost use Rattle.tile_core.specs.declared.kind.Kind.TheVariants.{South};
-    ghost use Rattle.tile_library.specs.Laws.{south_meets};
+    ghost use Rattle.tile_library.specs.Laws.{has_form, south_meets};
 
     const LANES: u32 = 1;
 
@@ -250,6 +262,8 @@ impl Tile for South {
         Kind::South.answer(lit)
     }
 
+    ghost form = { has_form South };
+
     ghost law = { south_meets };
 }
 
@@ -259,7 +273,7 @@ pub struct North;
 
 impl Tile for North {
     ghost use Rattle.tile_core.specs.declared.kind.Kind.TheVariants.{North};
-    ghost use Rattle.tile_library.specs.Laws.{north_meets};
+    ghost use Rattle.tile_library.specs.Laws.{has_form, north_meets};
 
     const LANES: u32 = 1;
 
@@ -285,6 +299,8 @@ impl Tile for North {
         Kind::North.answer(lit)
     }
 
+    ghost form = { has_form North };
+
     ghost law = { north_meets };
 }
 
@@ -294,7 +310,7 @@ pub struct EastSouth;
 
 impl Tile for EastSouth {
     ghost use Rattle.tile_core.specs.declared.kind.Kind.TheVariants.{EastSouth};
-    ghost use Rattle.tile_library.specs.Laws.{east_south_meets};
+    ghost use Rattle.tile_library.specs.Laws.{has_form, east_south_meets};
 
     const LANES: u32 = 1;
 
@@ -320,6 +336,8 @@ impl Tile for EastSouth {
         Kind::EastSouth.answer(lit)
     }
 
+    ghost form = { has_form EastSouth };
+
     ghost law = { east_south_meets };
 }
 
@@ -329,7 +347,7 @@ pub struct SouthWest;
 
 impl Tile for SouthWest {
     ghost use Rattle.tile_core.specs.declared.kind.Kind.TheVariants.{SouthWest};
-    ghost use Rattle.tile_library.specs.Laws.{south_west_meets};
+    ghost use Rattle.tile_library.specs.Laws.{has_form, south_west_meets};
 
     const LANES: u32 = 1;
 
@@ -355,6 +373,8 @@ impl Tile for SouthWest {
         Kind::SouthWest.answer(lit)
     }
 
+    ghost form = { has_form SouthWest };
+
     ghost law = { south_west_meets };
 }
 
@@ -364,7 +384,7 @@ pub struct WestNorth;
 
 impl Tile for WestNorth {
     ghost use Rattle.tile_core.specs.declared.kind.Kind.TheVariants.{WestNorth};
-    ghost use Rattle.tile_library.specs.Laws.{west_north_meets};
+    ghost use Rattle.tile_library.specs.Laws.{has_form, west_north_meets};
 
     const LANES: u32 = 1;
 
@@ -390,6 +410,8 @@ impl Tile for WestNorth {
         Kind::WestNorth.answer(lit)
     }
 
+    ghost form = { has_form WestNorth };
+
     ghost law = { west_north_meets };
 }
 
@@ -399,7 +421,7 @@ pub struct NorthEast;
 
 impl Tile for NorthEast {
     ghost use Rattle.tile_core.specs.declared.kind.Kind.TheVariants.{NorthEast};
-    ghost use Rattle.tile_library.specs.Laws.{north_east_meets};
+    ghost use Rattle.tile_library.specs.Laws.{has_form, north_east_meets};
 
     const LANES: u32 = 1;
 
@@ -425,6 +447,8 @@ impl Tile for NorthEast {
         Kind::NorthEast.answer(lit)
     }
 
+    ghost form = { has_form NorthEast };
+
     ghost law = { north_east_meets };
 }
 
@@ -434,7 +458,7 @@ pub struct West;
 
 impl Tile for West {
     ghost use Rattle.tile_core.specs.declared.kind.Kind.TheVariants.{West};
-    ghost use Rattle.tile_library.specs.Laws.{west_meets};
+    ghost use Rattle.tile_library.specs.Laws.{has_form, west_meets};
 
     const LANES: u32 = 1;
 
@@ -460,6 +484,8 @@ impl Tile for West {
         Kind::West.answer(lit)
     }
 
+    ghost form = { has_form West };
+
     ghost law = { west_meets };
 }
 
@@ -469,7 +495,7 @@ pub struct WestSwap;
 
 impl Tile for WestSwap {
     ghost use Rattle.tile_core.specs.declared.kind.Kind.TheVariants.{WestSwap};
-    ghost use Rattle.tile_library.specs.Laws.{west_swap_meets};
+    ghost use Rattle.tile_library.specs.Laws.{has_form, west_swap_meets};
 
     const LANES: u32 = 2;
 
@@ -494,6 +520,8 @@ impl Tile for WestSwap {
     fn answer(&self, lit: [bool; 2]) -> [bool; 2] {
         Kind::WestSwap.answer(lit)
     }
+
+    ghost form = { has_form WestSwap };
 
     ghost law = { west_swap_meets };
 }
