@@ -1,3 +1,4 @@
+-- Tests of ports, port by port and cell by cell.
 use Rattle.std.proofs.Common.{IsTrue, ℤ, pos, ℕ, ◌≤◌, ◌≡◌, ◌↔◌, refl, sym, ap, subst, ◌∙◌, Bool, true, false, ◌||◌, ◌&&◌, cond, List, [], ◌∷◌, All, map, take, drop, length, get_or, arith, inl, inr, int_eq}
 use Rattle.std.specs.List.{list_any}
 use Rattle.std.proofs.lemmas.Bool.{or_cases, true≢false}
