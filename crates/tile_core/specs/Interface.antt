@@ -1,9 +1,8 @@
 -- What the surroundings of a tile know of it: its height, its ports, and its answer.
-use Rattle.std.specs.Prelude.{pos, negsuc, ℤ, ℕ, ◌+◌, ◌*◌, Bool, false, ◌&&◌, ◌||◌, ◌==◌, ltb, cond, List, [], ◌∷◌, map, take}
+use Rattle.std.specs.Prelude.{pos, negsuc, ℤ, ℕ, ◌+◌, ◌*◌, Bool, false, ◌&&◌, ◌||◌, ◌==◌, ltb, cond, List, [], ◌∷◌, map, take, length, get_or, ◌≡◌, ◌⊎◌}
 use Rattle.tile_core.specs.Drawing.{Cell}
 
--- A tile is as many lanes high as it has entries and exits. The lists of ports have two places, and the answer
--- two bits: a tile of one lane uses the first alone, and its second port is (0, 0) and its second bit false.
+-- a tile has as many entries and exits as it has lanes, and the lists of ports have two places, the upper port first
 pub record Interface : Type 0 where
   pub lanes : ℕ
   pub entries : List (ℕ × ℕ)
@@ -47,3 +46,13 @@ is_on_border tile (pos x) (pos y) =
     is_in_box tile (pos x) (pos y) && (x == 0 || x == 31 || y == 0 || y + 1 == 16 * tile.lanes)
 is_on_border tile (pos x) (negsuc y) = false
 is_on_border tile (negsuc x) y = false
+
+-- Two ports and two bits for two lanes. Of one lane the second port is (0, 0), and the second bit false.
+pub record IsInterface (tile : Interface) : Type 0 where
+  pub height : (tile.lanes ≡ 1) ⊎ (tile.lanes ≡ 2)
+  pub two_entries : length tile.entries ≡ 2
+  pub two_exits : length tile.exits ≡ 2
+  pub two_bits : (a b : Bool) → length (tile.answer a b) ≡ 2
+  pub unused_entry : tile.lanes ≡ 1 → get_or tile.entries 1 (0, 0) ≡ (0, 0)
+  pub unused_exit : tile.lanes ≡ 1 → get_or tile.exits 1 (0, 0) ≡ (0, 0)
+  pub unused_bit : tile.lanes ≡ 1 → (a b : Bool) → get_or (tile.answer a b) 1 false ≡ false

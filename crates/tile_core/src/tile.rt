@@ -1,7 +1,7 @@
 // What a tile is, and what a library of tiles is: the two traits whose laws are the timing law.
 ghost use Rattle.std.specs.Prelude.{◌≡◌, ℕ, pos, Bool, false, List, get_or};
 ghost use Rattle.tile_core.specs.Drawing.{Drawing};
-ghost use Rattle.tile_core.specs.Interface.{Interface};
+ghost use Rattle.tile_core.specs.Interface.{Interface, IsInterface};
 ghost use Rattle.tile_core.specs.Kinds.{interface};
 ghost use Rattle.tile_core.specs.TimingLaw.{MeetsTimingLaw};
 
@@ -34,6 +34,8 @@ pub trait Tile {
     /// Which exits are heads at generation 31, if the entries that `lit` names are heads at generation 0.
     fn answer(&self, lit: [bool; 2]) -> [bool; 2]
         ensures { result ≡ answers (get_or lit 0 false) (get_or lit 1 false) };
+
+    ghost form: { IsInterface (record { lanes = LANES; entries = ENTRIES; exits = EXITS; answer = answers }) };
 
     ghost law: { MeetsTimingLaw (record { lanes = LANES; entries = ENTRIES; exits = EXITS; answer = answers }) drawing };
 }

@@ -1,5 +1,5 @@
 -- The drawings, as tests on cells.
-use Rattle.std.specs.Prelude.{pos, negsuc, ℤ, ◌-ℤ◌, ℕ, ◌==◌, false, List, [], get_or}
+use Rattle.std.specs.Prelude.{pos, negsuc, ℕ, ◌==◌, false, List, [], get_or}
 use Rattle.tile_core.specs.declared.kind.Kind.{Kind}
 use Rattle.tile_core.specs.declared.kind.Kind.TheVariants.{Swap, Xor, Or, AndNot, Fork, East, South, North, EastSouth, SouthWest, WestNorth, NorthEast, West, WestSwap}
 use Rattle.tile_core.specs.Drawing.{Drawing}

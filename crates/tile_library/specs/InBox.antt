@@ -1,8 +1,7 @@
 -- Rows of text lie in the box of their tile. (A law of a trait cites these proofs, and so they stand in specs.)
-use Rattle.std.proofs.Common.{ℤ, pos, negsuc, ◌-ℤ◌, ℕ, zero, suc, ◌*◌, ◌<◌, ◌≤◌, ◌≡◌, refl, sym, ap, ◌∙◌, Bool, true, false, ◌&&◌, ◌==◌, leb, List, [], ◌∷◌, length, get_or, arith, inl, inr}
+use Rattle.std.proofs.Common.{ℤ, pos, negsuc, ℕ, zero, suc, ◌*◌, ◌<◌, ◌≤◌, ◌≡◌, sym, ap, ◌∙◌, Bool, true, ◌&&◌, ◌==◌, leb, List, [], ◌∷◌, length, get_or, arith, inl, inr}
 use Rattle.std.proofs.lemmas.Bool.{and_parts, and_from, true≢false, cases_lt, lt-ltb, leb-true}
 use Rattle.std.proofs.lemmas.List.{get_or_past}
-use Rattle.tile_core.specs.Drawing.{Drawing}
 use Rattle.tile_core.specs.Interface.{Interface, is_in_box}
 use Rattle.tile_library.specs.Drawings.{drawn}
 

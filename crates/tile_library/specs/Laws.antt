@@ -1,11 +1,9 @@
 -- Each drawing keeps the timing law: the heads of a run of 32 generations are computed, for each choice of entries.
 -- (The laws of the traits cite these proofs, and so they stand in specs.)
-use Rattle.std.proofs.Common.{◌≡◌, refl, Bool, true, false, ◌&&◌, List, ℕ}
-use Rattle.std.proofs.lemmas.Bool.{and_parts}
+use Rattle.std.proofs.Common.{◌≡◌, refl, Bool, true, false, List, ℕ, length, get_or, arith, inl, inr}
 use Rattle.tile_core.specs.declared.kind.Kind.{Kind}
 use Rattle.tile_core.specs.declared.kind.Kind.TheVariants.{Swap, Xor, Or, AndNot, Fork, East, South, North, EastSouth, SouthWest, WestNorth, NorthEast, West, WestSwap}
-use Rattle.tile_core.specs.Drawing.{Drawing}
-use Rattle.tile_core.specs.Interface.{Interface}
+use Rattle.tile_core.specs.Interface.{Interface, IsInterface}
 use Rattle.tile_core.specs.Kinds.{interface}
 use Rattle.tile_core.specs.TimingLaw.{KeepsTime, MeetsTimingLaw}
 use Rattle.tile_timing.proofs.Traces.{law_test, keeps_time}
@@ -15,6 +13,31 @@ use Rattle.tile_timing.proofs.PortTests.{ports_test, has_ports}
 use Rattle.tile_library.specs.declared.drawings.TheConstants.{SWAP, XOR, OR, AND_NOT, FORK, EAST, SOUTH, EAST_SOUTH, SOUTH_WEST, WEST_NORTH, NORTH_EAST}
 use Rattle.tile_library.specs.Drawings.{drawn, drawing_of}
 use Rattle.tile_library.specs.InBox.{fits_box, drawn_in_box}
+
+pair_form : (kind : Kind) → (interface kind).lanes ≡ 2 → length (interface kind).entries ≡ 2 → length (interface kind).exits ≡ 2 → ((a b : Bool) → length ((interface kind).answer a b) ≡ 2) → IsInterface (interface kind)
+pair_form kind height entries exits bits =
+    record { height = inr height; two_entries = entries; two_exits = exits; two_bits = bits; unused_entry = λ one. absurd (omega (arith, one, height)); unused_exit = λ one. absurd (omega (arith, one, height)); unused_bit = λ one. absurd (omega (arith, one, height)) }
+
+single_form : (kind : Kind) → (interface kind).lanes ≡ 1 → length (interface kind).entries ≡ 2 → length (interface kind).exits ≡ 2 → ((a b : Bool) → length ((interface kind).answer a b) ≡ 2) → get_or (interface kind).entries 1 (0, 0) ≡ (0, 0) → get_or (interface kind).exits 1 (0, 0) ≡ (0, 0) → ((a b : Bool) → get_or ((interface kind).answer a b) 1 false ≡ false) → IsInterface (interface kind)
+single_form kind height entries exits bits entry exit bit =
+    record { height = inl height; two_entries = entries; two_exits = exits; two_bits = bits; unused_entry = λ one. entry; unused_exit = λ one. exit; unused_bit = λ one. bit }
+
+-- the ports and answers of each kind have the form of an interface
+pub has_form : (kind : Kind) → IsInterface (interface kind)
+has_form Swap = pair_form Swap refl refl refl (λ a b. refl)
+has_form Xor = pair_form Xor refl refl refl (λ a b. refl)
+has_form Or = pair_form Or refl refl refl (λ a b. refl)
+has_form AndNot = pair_form AndNot refl refl refl (λ a b. refl)
+has_form Fork = pair_form Fork refl refl refl (λ a b. refl)
+has_form East = single_form East refl refl refl (λ a b. refl) refl refl (λ a b. refl)
+has_form South = single_form South refl refl refl (λ a b. refl) refl refl (λ a b. refl)
+has_form North = single_form North refl refl refl (λ a b. refl) refl refl (λ a b. refl)
+has_form EastSouth = single_form EastSouth refl refl refl (λ a b. refl) refl refl (λ a b. refl)
+has_form SouthWest = single_form SouthWest refl refl refl (λ a b. refl) refl refl (λ a b. refl)
+has_form WestNorth = single_form WestNorth refl refl refl (λ a b. refl) refl refl (λ a b. refl)
+has_form NorthEast = single_form NorthEast refl refl refl (λ a b. refl) refl refl (λ a b. refl)
+has_form West = single_form West refl refl refl (λ a b. refl) refl refl (λ a b. refl)
+has_form WestSwap = pair_form WestSwap refl refl refl (λ a b. refl)
 
 -- what computes for rows of text that keep the law
 pub record Passes (tile : Interface) (rows : List (List ℕ)) : Type 0 where

@@ -4,6 +4,8 @@
 pub mod drawings;
 mod rows;
 mod shipped;
+#[cfg(test)]
+mod tests;
 pub mod tiles;
 
 pub use shipped::Shipped;

@@ -1,9 +1,8 @@
 // The library of the shipped drawings.
 ghost use Rattle.tile_library.specs.Drawings.{drawing_of};
 
-use tile_core::{Kind, Library, Tile};
-
 use crate::tiles;
+use tile_core::{Kind, Library, Tile};
 
 /// The shipped drawings: for each kind that of its tile in `tiles`.
 #[derive(Clone, Copy, Debug)]

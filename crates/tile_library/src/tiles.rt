@@ -2,10 +2,11 @@
 ghost use Rattle.tile_core.specs.Kinds.{entries, exits, answer};
 ghost use Rattle.tile_library.specs.Drawings.{drawing_of};
 
-use tile_core::{Kind, Tile};
-
-use crate::drawings::{AND_NOT, EAST, EAST_SOUTH, FORK, NORTH_EAST, OR, SOUTH, SOUTH_WEST, SWAP, WEST_NORTH, XOR};
+use crate::drawings::{
+    AND_NOT, EAST, EAST_SOUTH, FORK, NORTH_EAST, OR, SOUTH, SOUTH_WEST, SWAP, WEST_NORTH, XOR,
+};
 use crate::rows::{is_drawn, is_drawn_mirrored};
+use tile_core::{Kind, Tile};
 
 /// Two signals from the west side to the east side, where they change places.
 #[derive(Clone, Copy, Debug)]
@@ -13,16 +14,22 @@ pub struct Swap;
 
 impl Tile for Swap {
     ghost use Rattle.tile_core.specs.declared.kind.Kind.TheVariants.{Swap};
-    ghost use Rattle.tile_library.specs.Laws.{swap_meets};
+    ghost use Rattle.tile_library.specs.Laws.{has_form, swap_meets};
 
     const LANES: u32 = 2;
+
     const ENTRIES: [(u32, u32); 2] = [(0, 8), (0, 24)];
+
     const EXITS: [(u32, u32); 2] = [(31, 8), (31, 24)];
 
     ghost LANES = { 2 };
+
     ghost ENTRIES = { entries Swap };
+
     ghost EXITS = { exits Swap };
+
     ghost drawing = { drawing_of Swap };
+
     ghost answers = { answer Swap };
 
     fn cell(&self, x: u32, y: u32) -> bool {
@@ -33,6 +40,8 @@ impl Tile for Swap {
         Kind::Swap.answer(lit)
     }
 
+    ghost form = { has_form Swap };
+
     ghost law = { swap_meets };
 }
 
@@ -42,16 +51,22 @@ pub struct Xor;
 
 impl Tile for Xor {
     ghost use Rattle.tile_core.specs.declared.kind.Kind.TheVariants.{Xor};
-    ghost use Rattle.tile_library.specs.Laws.{xor_meets};
+    ghost use Rattle.tile_library.specs.Laws.{has_form, xor_meets};
 
     const LANES: u32 = 2;
+
     const ENTRIES: [(u32, u32); 2] = [(0, 8), (0, 24)];
+
     const EXITS: [(u32, u32); 2] = [(31, 8), (31, 24)];
 
     ghost LANES = { 2 };
+
     ghost ENTRIES = { entries Xor };
+
     ghost EXITS = { exits Xor };
+
     ghost drawing = { drawing_of Xor };
+
     ghost answers = { answer Xor };
 
     fn cell(&self, x: u32, y: u32) -> bool {
@@ -62,6 +77,8 @@ impl Tile for Xor {
         Kind::Xor.answer(lit)
     }
 
+    ghost form = { has_form Xor };
+
     ghost law = { xor_meets };
 }
 
@@ -71,16 +88,22 @@ pub struct Or;
 
 impl Tile for Or {
     ghost use Rattle.tile_core.specs.declared.kind.Kind.TheVariants.{Or};
-    ghost use Rattle.tile_library.specs.Laws.{or_meets};
+    ghost use Rattle.tile_library.specs.Laws.{has_form, or_meets};
 
     const LANES: u32 = 2;
+
     const ENTRIES: [(u32, u32); 2] = [(0, 8), (0, 24)];
+
     const EXITS: [(u32, u32); 2] = [(31, 8), (31, 24)];
 
     ghost LANES = { 2 };
+
     ghost ENTRIES = { entries Or };
+
     ghost EXITS = { exits Or };
+
     ghost drawing = { drawing_of Or };
+
     ghost answers = { answer Or };
 
     fn cell(&self, x: u32, y: u32) -> bool {
@@ -91,6 +114,8 @@ impl Tile for Or {
         Kind::Or.answer(lit)
     }
 
+    ghost form = { has_form Or };
+
     ghost law = { or_meets };
 }
 
@@ -100,16 +125,22 @@ pub struct AndNot;
 
 impl Tile for AndNot {
     ghost use Rattle.tile_core.specs.declared.kind.Kind.TheVariants.{AndNot};
-    ghost use Rattle.tile_library.specs.Laws.{and_not_meets};
+    ghost use Rattle.tile_library.specs.Laws.{has_form, and_not_meets};
 
     const LANES: u32 = 2;
+
     const ENTRIES: [(u32, u32); 2] = [(0, 8), (0, 24)];
+
     const EXITS: [(u32, u32); 2] = [(31, 8), (31, 24)];
 
     ghost LANES = { 2 };
+
     ghost ENTRIES = { entries AndNot };
+
     ghost EXITS = { exits AndNot };
+
     ghost drawing = { drawing_of AndNot };
+
     ghost answers = { answer AndNot };
 
     fn cell(&self, x: u32, y: u32) -> bool {
@@ -120,6 +151,8 @@ impl Tile for AndNot {
         Kind::AndNot.answer(lit)
     }
 
+    ghost form = { has_form AndNot };
+
     ghost law = { and_not_meets };
 }
 
@@ -129,16 +162,22 @@ pub struct Fork;
 
 impl Tile for Fork {
     ghost use Rattle.tile_core.specs.declared.kind.Kind.TheVariants.{Fork};
-    ghost use Rattle.tile_library.specs.Laws.{fork_meets};
+    ghost use Rattle.tile_library.specs.Laws.{has_form, fork_meets};
 
     const LANES: u32 = 2;
+
     const ENTRIES: [(u32, u32); 2] = [(0, 8), (0, 24)];
+
     const EXITS: [(u32, u32); 2] = [(31, 8), (31, 24)];
 
     ghost LANES = { 2 };
+
     ghost ENTRIES = { entries Fork };
+
     ghost EXITS = { exits Fork };
+
     ghost drawing = { drawing_of Fork };
+
     ghost answers = { answer Fork };
 
     fn cell(&self, x: u32, y: u32) -> bool {
@@ -149,6 +188,8 @@ impl Tile for Fork {
         Kind::Fork.answer(lit)
     }
 
+    ghost form = { has_form Fork };
+
     ghost law = { fork_meets };
 }
 
@@ -158,16 +199,22 @@ pub struct East;
 
 impl Tile for East {
     ghost use Rattle.tile_core.specs.declared.kind.Kind.TheVariants.{East};
-    ghost use Rattle.tile_library.specs.Laws.{east_meets};
+    ghost use Rattle.tile_library.specs.Laws.{has_form, east_meets};
 
     const LANES: u32 = 1;
+
     const ENTRIES: [(u32, u32); 2] = [(0, 8), (0, 0)];
+
     const EXITS: [(u32, u32); 2] = [(31, 8), (0, 0)];
 
     ghost LANES = { 1 };
+
     ghost ENTRIES = { entries East };
+
     ghost EXITS = { exits East };
+
     ghost drawing = { drawing_of East };
+
     ghost answers = { answer East };
 
     fn cell(&self, x: u32, y: u32) -> bool {
@@ -178,6 +225,8 @@ impl Tile for East {
         Kind::East.answer(lit)
     }
 
+    ghost form = { has_form East };
+
     ghost law = { east_meets };
 }
 
@@ -187,16 +236,22 @@ pub struct South;
 
 impl Tile for South {
     ghost use Rattle.tile_core.specs.declared.kind.Kind.TheVariants.{South};
-    ghost use Rattle.tile_library.specs.Laws.{south_meets};
+    ghost use Rattle.tile_library.specs.Laws.{has_form, south_meets};
 
     const LANES: u32 = 1;
+
     const ENTRIES: [(u32, u32); 2] = [(16, 0), (0, 0)];
+
     const EXITS: [(u32, u32); 2] = [(16, 15), (0, 0)];
 
     ghost LANES = { 1 };
+
     ghost ENTRIES = { entries South };
+
     ghost EXITS = { exits South };
+
     ghost drawing = { drawing_of South };
+
     ghost answers = { answer South };
 
     fn cell(&self, x: u32, y: u32) -> bool {
@@ -207,6 +262,8 @@ impl Tile for South {
         Kind::South.answer(lit)
     }
 
+    ghost form = { has_form South };
+
     ghost law = { south_meets };
 }
 
@@ -216,16 +273,22 @@ pub struct North;
 
 impl Tile for North {
     ghost use Rattle.tile_core.specs.declared.kind.Kind.TheVariants.{North};
-    ghost use Rattle.tile_library.specs.Laws.{north_meets};
+    ghost use Rattle.tile_library.specs.Laws.{has_form, north_meets};
 
     const LANES: u32 = 1;
+
     const ENTRIES: [(u32, u32); 2] = [(16, 15), (0, 0)];
+
     const EXITS: [(u32, u32); 2] = [(16, 0), (0, 0)];
 
     ghost LANES = { 1 };
+
     ghost ENTRIES = { entries North };
+
     ghost EXITS = { exits North };
+
     ghost drawing = { drawing_of North };
+
     ghost answers = { answer North };
 
     fn cell(&self, x: u32, y: u32) -> bool {
@@ -236,6 +299,8 @@ impl Tile for North {
         Kind::North.answer(lit)
     }
 
+    ghost form = { has_form North };
+
     ghost law = { north_meets };
 }
 
@@ -245,16 +310,22 @@ pub struct EastSouth;
 
 impl Tile for EastSouth {
     ghost use Rattle.tile_core.specs.declared.kind.Kind.TheVariants.{EastSouth};
-    ghost use Rattle.tile_library.specs.Laws.{east_south_meets};
+    ghost use Rattle.tile_library.specs.Laws.{has_form, east_south_meets};
 
     const LANES: u32 = 1;
+
     const ENTRIES: [(u32, u32); 2] = [(0, 8), (0, 0)];
+
     const EXITS: [(u32, u32); 2] = [(16, 15), (0, 0)];
 
     ghost LANES = { 1 };
+
     ghost ENTRIES = { entries EastSouth };
+
     ghost EXITS = { exits EastSouth };
+
     ghost drawing = { drawing_of EastSouth };
+
     ghost answers = { answer EastSouth };
 
     fn cell(&self, x: u32, y: u32) -> bool {
@@ -265,6 +336,8 @@ impl Tile for EastSouth {
         Kind::EastSouth.answer(lit)
     }
 
+    ghost form = { has_form EastSouth };
+
     ghost law = { east_south_meets };
 }
 
@@ -274,16 +347,22 @@ pub struct SouthWest;
 
 impl Tile for SouthWest {
     ghost use Rattle.tile_core.specs.declared.kind.Kind.TheVariants.{SouthWest};
-    ghost use Rattle.tile_library.specs.Laws.{south_west_meets};
+    ghost use Rattle.tile_library.specs.Laws.{has_form, south_west_meets};
 
     const LANES: u32 = 1;
+
     const ENTRIES: [(u32, u32); 2] = [(16, 0), (0, 0)];
+
     const EXITS: [(u32, u32); 2] = [(0, 8), (0, 0)];
 
     ghost LANES = { 1 };
+
     ghost ENTRIES = { entries SouthWest };
+
     ghost EXITS = { exits SouthWest };
+
     ghost drawing = { drawing_of SouthWest };
+
     ghost answers = { answer SouthWest };
 
     fn cell(&self, x: u32, y: u32) -> bool {
@@ -294,6 +373,8 @@ impl Tile for SouthWest {
         Kind::SouthWest.answer(lit)
     }
 
+    ghost form = { has_form SouthWest };
+
     ghost law = { south_west_meets };
 }
 
@@ -303,16 +384,22 @@ pub struct WestNorth;
 
 impl Tile for WestNorth {
     ghost use Rattle.tile_core.specs.declared.kind.Kind.TheVariants.{WestNorth};
-    ghost use Rattle.tile_library.specs.Laws.{west_north_meets};
+    ghost use Rattle.tile_library.specs.Laws.{has_form, west_north_meets};
 
     const LANES: u32 = 1;
+
     const ENTRIES: [(u32, u32); 2] = [(31, 8), (0, 0)];
+
     const EXITS: [(u32, u32); 2] = [(16, 0), (0, 0)];
 
     ghost LANES = { 1 };
+
     ghost ENTRIES = { entries WestNorth };
+
     ghost EXITS = { exits WestNorth };
+
     ghost drawing = { drawing_of WestNorth };
+
     ghost answers = { answer WestNorth };
 
     fn cell(&self, x: u32, y: u32) -> bool {
@@ -323,6 +410,8 @@ impl Tile for WestNorth {
         Kind::WestNorth.answer(lit)
     }
 
+    ghost form = { has_form WestNorth };
+
     ghost law = { west_north_meets };
 }
 
@@ -332,16 +421,22 @@ pub struct NorthEast;
 
 impl Tile for NorthEast {
     ghost use Rattle.tile_core.specs.declared.kind.Kind.TheVariants.{NorthEast};
-    ghost use Rattle.tile_library.specs.Laws.{north_east_meets};
+    ghost use Rattle.tile_library.specs.Laws.{has_form, north_east_meets};
 
     const LANES: u32 = 1;
+
     const ENTRIES: [(u32, u32); 2] = [(16, 15), (0, 0)];
+
     const EXITS: [(u32, u32); 2] = [(31, 8), (0, 0)];
 
     ghost LANES = { 1 };
+
     ghost ENTRIES = { entries NorthEast };
+
     ghost EXITS = { exits NorthEast };
+
     ghost drawing = { drawing_of NorthEast };
+
     ghost answers = { answer NorthEast };
 
     fn cell(&self, x: u32, y: u32) -> bool {
@@ -352,6 +447,8 @@ impl Tile for NorthEast {
         Kind::NorthEast.answer(lit)
     }
 
+    ghost form = { has_form NorthEast };
+
     ghost law = { north_east_meets };
 }
 
@@ -361,16 +458,22 @@ pub struct West;
 
 impl Tile for West {
     ghost use Rattle.tile_core.specs.declared.kind.Kind.TheVariants.{West};
-    ghost use Rattle.tile_library.specs.Laws.{west_meets};
+    ghost use Rattle.tile_library.specs.Laws.{has_form, west_meets};
 
     const LANES: u32 = 1;
+
     const ENTRIES: [(u32, u32); 2] = [(31, 8), (0, 0)];
+
     const EXITS: [(u32, u32); 2] = [(0, 8), (0, 0)];
 
     ghost LANES = { 1 };
+
     ghost ENTRIES = { entries West };
+
     ghost EXITS = { exits West };
+
     ghost drawing = { drawing_of West };
+
     ghost answers = { answer West };
 
     fn cell(&self, x: u32, y: u32) -> bool {
@@ -381,6 +484,8 @@ impl Tile for West {
         Kind::West.answer(lit)
     }
 
+    ghost form = { has_form West };
+
     ghost law = { west_meets };
 }
 
@@ -390,16 +495,22 @@ pub struct WestSwap;
 
 impl Tile for WestSwap {
     ghost use Rattle.tile_core.specs.declared.kind.Kind.TheVariants.{WestSwap};
-    ghost use Rattle.tile_library.specs.Laws.{west_swap_meets};
+    ghost use Rattle.tile_library.specs.Laws.{has_form, west_swap_meets};
 
     const LANES: u32 = 2;
+
     const ENTRIES: [(u32, u32); 2] = [(31, 8), (31, 24)];
+
     const EXITS: [(u32, u32); 2] = [(0, 8), (0, 24)];
 
     ghost LANES = { 2 };
+
     ghost ENTRIES = { entries WestSwap };
+
     ghost EXITS = { exits WestSwap };
+
     ghost drawing = { drawing_of WestSwap };
+
     ghost answers = { answer WestSwap };
 
     fn cell(&self, x: u32, y: u32) -> bool {
@@ -409,6 +520,8 @@ impl Tile for WestSwap {
     fn answer(&self, lit: [bool; 2]) -> [bool; 2] {
         Kind::WestSwap.answer(lit)
     }
+
+    ghost form = { has_form WestSwap };
 
     ghost law = { west_swap_meets };
 }

@@ -1,5 +1,5 @@
 -- The border of a slice that has the length of a kind's box.
-use Rattle.std.proofs.Common.{ℤ, pos, negsuc, ℕ, ◌+◌, ◌*◌, ◌/◌, ◌%◌, ◌<◌, ◌≤◌, ◌≡◌, ◌↔◌, refl, sym, ap, ap₂, subst, ◌∙◌, Bool, true, false, ◌&&◌, cond, List, length, get_or, ◌++◌, arith, inl, inr, IsTrue, lit<}
+use Rattle.std.proofs.Common.{ℤ, pos, negsuc, ℕ, ◌+◌, ◌*◌, ◌/◌, ◌%◌, ◌<◌, ◌≡◌, ◌↔◌, sym, ap, ap₂, ◌∙◌, Bool, true, List, length, ◌++◌, arith, inl, inr, IsTrue, lit<}
 use Rattle.std.proofs.lemmas.Bool.{true≢false, cases_lt, lt-ltb, and_from}
 use Rattle.std.proofs.lemmas.List.{get_or_past}
 use Rattle.std.proofs.lemmas.Nat.{mod-mul-add, div-mul-add}
@@ -10,7 +10,6 @@ use Rattle.tile_core.specs.Drawing.{is_among}
 use Rattle.tile_core.specs.Interface.{entry_cells, exit_cells, is_in_box, is_on_border}
 use Rattle.tile_core.specs.Kinds.{lanes, interface}
 use Rattle.tile_core.specs.TimingLaw.{HasPorts}
-use Rattle.tile_timing.specs.Window.{shown}
 use Rattle.tile_timing.specs.Law.{drawing_of, is_filled, AreDrawn, IsBorderClear}
 use Rattle.tile_timing.proofs.Windows.{at_place, beside, shown_at}
 

@@ -8,3 +8,4 @@ pub mod Traces
 pub mod Path
 pub mod PortTests
 pub mod Mirrors
+pub mod Diodes

@@ -1,13 +1,13 @@
 -- A mirrored drawing keeps the timing law of the mirrored tile.
-use Rattle.std.proofs.Common.{ℤ, pos, negsuc, ◌+ℤ◌, ◌-ℤ◌, ℕ, ◌+◌, ◌-◌, ◌*◌, ◌<◌, ◌≤◌, ◌≡◌, ◌≢◌, ◌↔◌, refl, sym, ap, ap₂, subst, ◌∙◌, Bool, true, false, ◌||◌, ◌&&◌, ◌==◌, ltb, cond, List, [], ◌∷◌, ◌++◌, map, arith, int_eq, inl, inr}
+use Rattle.std.proofs.Common.{ℤ, pos, negsuc, ◌-ℤ◌, ℕ, ◌+◌, ◌-◌, ◌*◌, ◌<◌, ◌≡◌, refl, sym, ap, ap₂, ◌∙◌, Bool, true, false, ◌||◌, ◌&&◌, ◌==◌, ltb, cond, List, [], ◌∷◌, ◌++◌, map, arith, int_eq}
 use Rattle.std.proofs.lemmas.Int.{ints}
-use Rattle.std.proofs.lemmas.Bool.{and_parts, and_from, or_cases, true≢false, ltb-true, lt-ltb}
+use Rattle.std.proofs.lemmas.Bool.{and_parts, and_from, true≢false, ltb-true, lt-ltb}
 use Rattle.std.proofs.lemmas.Bool.Decides.{Decides-int_eq, Decides-eqb, same_from_decides, Decides-like}
 use Rattle.std.proofs.lemmas.List.{map-append}
 use Rattle.std.proofs.Math.IntN.{+ℤ-neg_ℤ_cancel}
 use Rattle.std.proofs.Math.Path.{fun_ext}
 use Rattle.ww_rule.specs.declared.pattern.State.TheVariants.{Empty, Head, Tail, Conductor}
-use Rattle.ww_rule.specs.Wireworld.{Plane, evolve}
+use Rattle.ww_rule.specs.Wireworld.{evolve}
 use Rattle.ww_rule.specs.Laws.{mirrored as mirrored_plane}
 use Rattle.ww_rule.proofs.Moves.{evolve_mirrored}
 use Rattle.tile_core.specs.Drawing.{Cell, is_among, Drawing, picture}

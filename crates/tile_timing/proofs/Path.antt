@@ -1,3 +1,4 @@
+-- A path of conductors in which only consecutive cells touch carries an electron one cell a generation.
 use Rattle.std.proofs.Common.{ℤ, pos, ◌+ℤ◌, ◌-ℤ◌, ℕ, zero, suc, ◌+◌, ◌<◌, ◌≡◌, ◌≢◌, refl, sym, ap, ap₂, ◌∙◌, Bool, true, false, ◌||◌, ◌&&◌, not, cond, ◌==◌, List, [], ◌∷◌, drop, length, arith, int_eq, inl, inr}
 use Rattle.std.proofs.lemmas.Int.{ints}
 use Rattle.std.proofs.lemmas.Bool.{cases_Bool, false_from_ne_true, true≢false}
@@ -117,7 +118,7 @@ one_head drawing c ts x y w =
 
 -- on the drawing, the cells beside c are those before it and those after it, and these are apart
 pub record Follows (drawing : Drawing) (before : List Cell) (c : Cell) (after : List Cell) : Type 0 where
-  pub wired : drawing c.x c.y ≡ true
+  pub drawn : drawing c.x c.y ≡ true
   pub beside : (x y : ℤ) → drawing x y ≡ true → is_beside x y c ≡ (is_among x y after || is_among x y before)
   pub not_itself : (x y : ℤ) → (is_among x y (c ∷ []) && is_among x y after) ≡ false
   pub not_back : (x y : ℤ) → (is_among x y before && is_among x y after) ≡ false
@@ -134,7 +135,7 @@ path_rule true false false false n e p q = ap (λ k. cond (k == 1 || k == 2) Hea
 -- an electron at c goes on to the cell after it
 pub goes_on : (drawing : Drawing) (before : List Cell) (c : Cell) (after : List Cell) → Follows drawing before c after → next_plane (picture drawing (c ∷ []) before) ≡ picture drawing after (c ∷ [])
 goes_on drawing before c after f =
-    fun_ext (λ x. fun_ext (λ y. path_rule (drawing x y) (is_among x y (c ∷ [])) (is_among x y before) (is_among x y after) (heads_around (picture drawing (c ∷ []) before) x y) (λ w. one_head drawing c before x y f.wired ∙ ap (λ b. cond b 1 0) (f.beside x y w)) (f.not_itself x y) (f.not_back x y)))
+    fun_ext (λ x. fun_ext (λ y. path_rule (drawing x y) (is_among x y (c ∷ [])) (is_among x y before) (is_among x y after) (heads_around (picture drawing (c ∷ []) before) x y) (λ w. one_head drawing c before x y f.drawn ∙ ap (λ b. cond b 1 0) (f.beside x y w)) (f.not_itself x y) (f.not_back x y)))
 
 abbrev pub first : List Cell → List Cell
 first [] = []

@@ -1,10 +1,10 @@
 -- The ports and the border of a drawing, by tests that compute.
-use Rattle.std.proofs.Common.{ℤ, pos, negsuc, ℕ, zero, suc, ◌*◌, ◌<◌, ◌≤◌, ◌≡◌, sym, ap, ◌∙◌, Bool, true, false, ◌||◌, ◌&&◌, not, leb, List, [], ◌∷◌, ◌++◌, arith, inl, inr}
+use Rattle.std.proofs.Common.{ℤ, pos, negsuc, ℕ, zero, suc, ◌*◌, ◌<◌, ◌≡◌, sym, ap, ◌∙◌, Bool, true, false, ◌||◌, ◌&&◌, not, ◌++◌, arith, inl, inr}
 use Rattle.std.proofs.lemmas.Bool.{and_parts, true≢false, cases_lt, ltb-true}
 use Rattle.tile_core.specs.Drawing.{is_among, Drawing}
 use Rattle.tile_core.specs.Interface.{Interface, entry_cells, exit_cells, is_in_box, is_on_border}
 use Rattle.tile_core.specs.TimingLaw.{HasPorts}
-use Rattle.tile_timing.proofs.Traces.{all_wired, wired-says}
+use Rattle.tile_timing.proofs.Traces.{all_drawn, all_drawn-says}
 
 -- the test holds of each number below n
 abbrev pub below : (ℕ → Bool) → ℕ → Bool
@@ -26,8 +26,8 @@ is_clear tile drawing y x =
 
 abbrev pub ports_test : Interface → Drawing → Bool
 ports_test tile drawing =
-    all_wired drawing (entry_cells tile)
-    && all_wired drawing (exit_cells tile)
+    all_drawn drawing (entry_cells tile)
+    && all_drawn drawing (exit_cells tile)
     && below (λ y. below (is_clear tile drawing y) 32) (16 * tile.lanes)
 
 port_if : (e w p : Bool) → (not (e && w) || p) ≡ true → e ≡ true → w ≡ true → p ≡ true
@@ -49,7 +49,7 @@ has_ports tile drawing inside t =
     let inner = and_parts _ _ outer.0 in
     record {
       in_box = inside;
-      has_entries = λ x y e. wired-says drawing (entry_cells tile) x y inner.0 e;
-      has_exits = λ x y e. wired-says drawing (exit_cells tile) x y inner.1 e;
+      has_entries = λ x y e. all_drawn-says drawing (entry_cells tile) x y inner.0 e;
+      has_exits = λ x y e. all_drawn-says drawing (exit_cells tile) x y inner.1 e;
       border = border tile drawing outer.1;
     }

@@ -1,6 +1,7 @@
-use Rattle.std.proofs.Common.{IsTrue, ℤ, pos, ℕ, ◌+◌, ◌≤◌, ◌≡◌, ◌↔◌, refl, sym, ap, ap₂, subst, ◌∙◌, Bool, true, false, ◌||◌, ◌&&◌, ◌==◌, cond, List, [], ◌∷◌, All, map, take, drop, length, get_or, arith, inl, inr, int_eq}
+-- Tests of ports, port by port and cell by cell.
+use Rattle.std.proofs.Common.{IsTrue, ℤ, pos, ℕ, ◌≤◌, ◌≡◌, ◌↔◌, refl, sym, ap, subst, ◌∙◌, Bool, true, false, ◌||◌, ◌&&◌, cond, List, [], ◌∷◌, All, map, take, drop, length, get_or, arith, inl, inr, int_eq}
 use Rattle.std.specs.List.{list_any}
-use Rattle.std.proofs.lemmas.Bool.{and_parts, or_cases, true≢false}
+use Rattle.std.proofs.lemmas.Bool.{or_cases, true≢false}
 use Rattle.std.proofs.lemmas.Bool.Decides.{Decides-int_eq}
 use Rattle.std.proofs.lemmas.List.Elements.{All-nil, All-cons, All-head, All-tail}
 use Rattle.ww_rule.specs.declared.pattern.State.TheVariants.{Head}
@@ -81,7 +82,7 @@ pub each_port_lit : (p : Plane) (ports listed : List (ℕ × ℕ)) (bits wanted 
 each_port_lit p ports listed bits wanted r e f says =
     subst (λ bs. IsTrue r ↔ AreLitAs (map cell_at ports) (chosen (map cell_at ports) bs) p) f
     (subst (λ ps. IsTrue r ↔ AreLitAs (map cell_at ps) (chosen (map cell_at ps) wanted) p) e
-     (each_port_cell (λ x y. (p x y ≡ Head) ↔ (is_among x y (chosen (map cell_at listed) wanted) ≡ true)) listed listed r refl says))
+    (each_port_cell (λ x y. (p x y ≡ Head) ↔ (is_among x y (chosen (map cell_at listed) wanted) ≡ true)) listed listed r refl says))
 
 pub two_bits : (bits : List Bool) → length bits ≡ 2 → bits ≡ get_or bits 0 false ∷ get_or bits 1 false ∷ []
 two_bits [] e = absurd (omega (arith, e))

@@ -1,5 +1,5 @@
 -- The timing law of one choice of entries, as what a run of 32 generations shows.
-use Rattle.std.proofs.Common.{ℤ, ℕ, ◌+◌, ◌<◌, ◌≤◌, ◌≡◌, ◌≢◌, refl, sym, ap, ◌↔◌, subst, ◌∙◌, List, [], ◌∷◌, get_or, arith, inl, inr, add-one, Bool, true, false, lit≤, lit<}
+use Rattle.std.proofs.Common.{ℕ, ◌+◌, ◌<◌, ◌≤◌, ◌≡◌, refl, sym, ap, ◌↔◌, subst, ◌∙◌, [], get_or, arith, inl, inr, add-one, Bool, true, false, lit≤, lit<}
 use Rattle.std.proofs.lemmas.Bool.{cases_lt}
 use Rattle.std.proofs.Math.Path.{fun_ext}
 use Rattle.ww_rule.specs.declared.pattern.State.TheVariants.{Head}

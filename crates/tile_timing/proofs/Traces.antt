@@ -23,9 +23,9 @@ abbrev pub is_nil : List Cell → Bool
 is_nil [] = true
 is_nil (c ∷ cs) = false
 
-abbrev pub all_wired : Drawing → List Cell → Bool
-all_wired drawing [] = true
-all_wired drawing (c ∷ cs) = drawing c.x c.y && all_wired drawing cs
+abbrev pub all_drawn : Drawing → List Cell → Bool
+all_drawn drawing [] = true
+all_drawn drawing (c ∷ cs) = drawing c.x c.y && all_drawn drawing cs
 
 -- none of the cells is in any of the first n lists after the first k
 abbrev pub dark_in : List Cell → ℕ → ℕ → List (List Cell) → Bool
@@ -42,7 +42,7 @@ run_passes drawing tile want tr =
     && within_list (get_or tr 31 []) want
     && within_list want (get_or tr 31 [])
     && is_nil (get_or tr 32 [])
-    && all_wired drawing want
+    && all_drawn drawing want
 
 abbrev pub law_test : Drawing → Interface → Bool → Bool → Bool
 law_test drawing tile a b =
@@ -66,13 +66,13 @@ within-says (c ∷ cs) hs x y t e =
       | inr later ↦ within-says cs hs x y parts.1 later
     ]
 
-pub wired-says : (drawing : Drawing) (cs : List Cell) (x y : ℤ) → all_wired drawing cs ≡ true → is_among x y cs ≡ true → drawing x y ≡ true
-wired-says drawing [] x y t e = cc
-wired-says drawing (c ∷ cs) x y t e =
+pub all_drawn-says : (drawing : Drawing) (cs : List Cell) (x y : ℤ) → all_drawn drawing cs ≡ true → is_among x y cs ≡ true → drawing x y ≡ true
+all_drawn-says drawing [] x y t e = cc
+all_drawn-says drawing (c ∷ cs) x y t e =
     let parts = and_parts _ _ t in
     elim (or_cases (int_eq x c.x && int_eq y c.y) (is_among x y cs) e) [
       | inl here ↦ let s = same_place x y c.x c.y here in ap₂ drawing s.0 s.1 ∙ parts.0
-      | inr later ↦ wired-says drawing cs x y parts.1 later
+      | inr later ↦ all_drawn-says drawing cs x y parts.1 later
     ]
 
 dark_in-says : (cs : List Cell) (k n : ℕ) (tr : List (List Cell)) (g : ℕ) (x y : ℤ) → dark_in cs k n tr ≡ true → k ≤ g → g < k + n → is_among x y cs ≡ true → is_among x y (get_or tr g []) ≡ false
@@ -119,7 +119,7 @@ pub record Shown (drawing : Drawing) (tile : Interface) (want : List Cell) (tr :
   pub only : within_list (get_or tr 31 []) want ≡ true
   pub every : within_list want (get_or tr 31 []) ≡ true
   pub last : is_nil (get_or tr 32 []) ≡ true
-  pub wired : all_wired drawing want ≡ true
+  pub drawn : all_drawn drawing want ≡ true
 
 shown : (drawing : Drawing) (tile : Interface) (want : List Cell) (tr : List (List Cell)) → run_passes drawing tile want tr ≡ true → Shown drawing tile want tr
 shown drawing tile want tr t =
@@ -128,7 +128,7 @@ shown drawing tile want tr t =
     let p3 = and_parts _ _ p2.0 in
     let p4 = and_parts _ _ p3.0 in
     let p5 = and_parts _ _ p4.0 in
-    record { entries = p5.0; exits = p5.1; only = p4.1; every = p3.1; last = p2.1; wired = p1.1 }
+    record { entries = p5.0; exits = p5.1; only = p4.1; every = p3.1; last = p2.1; drawn = p1.1 }
 
 rest : (drawing : Drawing) (want h31 h32 : List Cell) (x y : ℤ) → h32 ≡ [] → is_among x y h31 ≡ is_among x y want → picture drawing h32 h31 x y ≡ picture drawing [] want x y
 rest drawing want h31 h32 x y e f =
@@ -152,7 +152,7 @@ keeps_time drawing tile a b t =
       entries_stay_dark = λ g x y lo hi e h. both_ways _ (dark_in-says (entry_cells tile) 1 32 tr g x y s.entries lo (omega arith) e) (head_listed drawing 32 g start [] x y hi h);
       exits_answer = λ x y e. (
         (λ h. sym (same x y) ∙ head_listed drawing 32 31 start [] x y (lit≤ tt) h),
-        λ h. ap (λ p. p x y) (evolve_picture drawing 32 30 start [] (lit< tt)) ∙ lit_cases (drawing x y) _ _ (wired-says drawing want x y s.wired h) (same x y ∙ h),
+        λ h. ap (λ p. p x y) (evolve_picture drawing 32 30 start [] (lit< tt)) ∙ lit_cases (drawing x y) _ _ (all_drawn-says drawing want x y s.drawn h) (same x y ∙ h),
       );
       exits_stay_dark = λ g x y le ne e h. both_ways _ (dark_else (exit_cells tile) tr g x y s.exits (none_left _ s.last) le ne e) (head_listed drawing 32 g start [] x y le h);
       ends_at_rest = λ x y. ap (λ p. p x y) (evolve_picture drawing 32 31 start [] (lit< tt)) ∙ rest drawing want (get_or tr 31 []) (get_or tr 32 []) x y (none_left _ s.last) (same x y);

@@ -1,35 +1,16 @@
-use Rattle.std.proofs.Common.{ℤ, pos, negsuc, ◌+ℤ◌, ◌-ℤ◌, ℕ, ◌+◌, ◌*◌, ◌/◌, ◌%◌, ◌<◌, ◌≤◌, ◌≡◌, refl, sym, ap, ap₂, ◌∙◌, cond, List, length, get_or, arith, inl, inr, mod-lt, lit<}
+-- Windows as planes.
+use Rattle.std.proofs.Common.{ℤ, pos, negsuc, ℕ, ◌+◌, ◌*◌, ◌/◌, ◌%◌, ◌<◌, ◌≤◌, ◌≡◌, refl, sym, ap, ap₂, ◌∙◌, cond, List, length, get_or, arith, inl, inr, mod-lt, lit<}
 use Rattle.std.proofs.lemmas.Bool.{cases_lt, lt-ltb, le-ltb}
 use Rattle.std.proofs.lemmas.List.{get_or_past}
 use Rattle.std.proofs.lemmas.Nat.{mod-mul-add, div-mul-add, div-add-mod'}
-use Rattle.std.proofs.Math.IntN.{+ℤ-neg_ℤ_cancel}
 use Rattle.std.proofs.Math.Path.{fun_ext}
 use Rattle.ww_rule.specs.declared.pattern.State.{State}
-use Rattle.ww_rule.specs.declared.pattern.State.TheVariants.{Empty, Head, Tail, Conductor}
-use Rattle.ww_rule.specs.Wireworld.{Plane, next_plane, next_state, heads_around, count_head}
+use Rattle.ww_rule.specs.declared.pattern.State.TheVariants.{Empty, Conductor}
+use Rattle.ww_rule.specs.Wireworld.{Plane, next_plane}
+use Rattle.ww_rule.proofs.Cells.{next_plane_empty}
 use Rattle.tile_timing.specs.Window.{shown}
 use Rattle.tile_core.specs.Drawing.{Cell, is_among}
 use Rattle.tile_timing.specs.Law.{drawing_of, is_filled, marked}
-
-middle : (x : ℕ) → pos (x + 1) -ℤ pos 1 ≡ pos x
-middle x = +ℤ-neg_ℤ_cancel (pos x) (pos 1)
-
-past : (x : ℕ) → pos (x + 2) -ℤ pos 1 ≡ pos x +ℤ pos 1
-past x = let e : x + 2 ≡ x + 1 + 1 = omega arith in ap (λ n. pos n -ℤ pos 1) e ∙ +ℤ-neg_ℤ_cancel (pos (x + 1)) (pos 1)
-
-moved : (p : Plane) (u u' v v' : ℤ) (a : ℕ) → u ≡ u' → v ≡ v' → a ≡ count_head (p u v) → a ≡ count_head (p u' v')
-moved p u u' v v' a e f h = h ∙ ap₂ (λ x y. count_head (p x y)) e f
-
-sum_moved : (a b c d e f g h a' b' c' d' e' f' g' h' : ℕ) → a ≡ a' → b ≡ b' → c ≡ c' → d ≡ d' → e ≡ e' → f ≡ f' → g ≡ g' → h ≡ h' → a + b + c + (d + e) + (f + g + h) ≡ a' + b' + c' + d' + e' + f' + g' + h'
-sum_moved a b c d e f g h a' b' c' d' e' f' g' h' p1 p2 p3 p4 p5 p6 p7 p8 = omega arith
-
--- the eight counts by places that are counted from 1
-pub heads_around_before : (p : Plane) (x y a b c d e f g h : ℕ) → a ≡ count_head (p (pos x -ℤ pos 1) (pos y -ℤ pos 1)) → b ≡ count_head (p (pos (x + 1) -ℤ pos 1) (pos y -ℤ pos 1)) → c ≡ count_head (p (pos (x + 2) -ℤ pos 1) (pos y -ℤ pos 1)) → d ≡ count_head (p (pos x -ℤ pos 1) (pos (y + 1) -ℤ pos 1)) → e ≡ count_head (p (pos (x + 2) -ℤ pos 1) (pos (y + 1) -ℤ pos 1)) → f ≡ count_head (p (pos x -ℤ pos 1) (pos (y + 2) -ℤ pos 1)) → g ≡ count_head (p (pos (x + 1) -ℤ pos 1) (pos (y + 2) -ℤ pos 1)) → h ≡ count_head (p (pos (x + 2) -ℤ pos 1) (pos (y + 2) -ℤ pos 1)) → a + b + c + (d + e) + (f + g + h) ≡ heads_around p (pos x) (pos y)
-heads_around_before p x y a b c d e f g h p1 p2 p3 p4 p5 p6 p7 p8 =
-    sum_moved a b c d e f g h _ _ _ _ _ _ _ _ p1 (moved p _ _ _ _ b (middle x) refl p2) (moved p _ _ _ _ c (past x) refl p3) (moved p _ _ _ _ d refl (middle y) p4) (moved p _ _ _ _ e (past x) (middle y) p5) (moved p _ _ _ _ f refl (past y) p6) (moved p _ _ _ _ g (middle x) (past y) p7) (moved p _ _ _ _ h (past x) (past y) p8)
-
-stays_empty : (p : Plane) (x y : ℤ) → p x y ≡ Empty → next_plane p x y ≡ Empty
-stays_empty p x y e = ap (λ s. next_state s (heads_around p x y)) e
 
 pub beside : (cells : List State) (w x y : ℕ) → w ≤ x → shown cells w (pos x) (pos y) ≡ Empty
 beside cells w x y h = ap (λ b. cond b (get_or cells (y * w + x) Empty) Empty) (le-ltb x w h)
@@ -62,7 +43,7 @@ shown_is q base cells w same out each = fun_ext (λ x. fun_ext (λ y. place x y)
 -- a window whose places hold the rule's answers shows the next plane
 pub shown_next : (old new : List State) (w : ℕ) → length new ≡ length old → ((k : ℕ) → k < length new → get_or new k Empty ≡ next_plane (shown old w) (pos (k % w)) (pos (k / w))) → shown new w ≡ next_plane (shown old w)
 shown_next old new w same each =
-    shown_is (next_plane (shown old w)) old new w same (λ x y e. stays_empty (shown old w) x y e) each
+    shown_is (next_plane (shown old w)) old new w same (λ x y e. next_plane_empty (shown old w) x y e) each
 
 -- a marked drawing of a window is empty where the window is
 pub marked_empty : (base : List State) (cells : List Cell) (mark : State) (x y : ℤ) → shown base 32 x y ≡ Empty → marked (drawing_of base) cells mark x y ≡ Empty

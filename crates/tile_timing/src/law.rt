@@ -8,10 +8,9 @@ ghost use Rattle.tile_core.specs.TimingLaw.{started, KeepsTime, HasPorts};
 ghost use Rattle.tile_timing.specs.Window.{shown};
 ghost use Rattle.tile_timing.specs.Law.{drawing_of, marked, IsDrawingOf, HoldsLaw, is_at, IsClearAt, IsBorderClear, AreDrawn, AreDark, AreLitAs, ExitsInTime, IsInTime};
 
+use crate::window_step;
 use tile_core::Kind;
 use ww_rule::State;
-
-use crate::window_step;
 
 fn is_head_at(cells: &[State], x: u32, y: u32) -> bool
     ensures { IsTrue result ↔ (shown cells.now 32 (pos x) (pos y) ≡ State.Head) }
@@ -64,9 +63,8 @@ fn is_lit_as(cells: &[State], ports: &[(u32, u32)], bits: [bool; 2]) -> bool
     requires few { length ports.now ≤ 2 }
     ensures { IsTrue result ↔ All (λ port. (shown cells.now 32 (pos port.0) (pos port.1) ≡ State.Head) ↔ (is_among (pos port.0) (pos port.1) (chosen (map cell_at ports.now) bits) ≡ true)) ports.now }
 {
-    ports
-        .iter()
-        .all(|(x, y)| is_head_at(cells, *x, *y) == is_lit(ports, bits, *x as usize, *y as usize))
+    ports.iter().all(|(x, y)| is_head_at(cells, *x, *y)
+        == is_lit(ports, bits, *x as usize, *y as usize))
 }
 
 fn entries_are_dark(cells: &[State], kind: Kind) -> bool
@@ -318,9 +316,7 @@ fn has_ports(cells: &[State], kind: Kind) -> bool
 fn is_unlit(cells: &[State]) -> bool
     ensures { IsTrue result ↔ All (λ cell. (cell ≡ State.Empty) ⊎ (cell ≡ State.Conductor)) cells.now }
 {
-    cells
-        .iter()
-        .all(|cell| is_same(*cell, State::Empty) || is_same(*cell, State::Conductor))
+    cells.iter().all(|cell| is_same(*cell, State::Empty) || is_same(*cell, State::Conductor))
 }
 
 /// Whether `cells` are a drawing of `kind` that keeps the timing law: 16 rows of 32 cells for each of the kind's lanes,

@@ -2,8 +2,9 @@
 #![tactic(auto)]
 
 mod law;
+#[cfg(test)]
+mod tests;
 mod window;
-
 
 pub use law::law_holds;
 pub use window::window_step;

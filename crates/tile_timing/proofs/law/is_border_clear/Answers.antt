@@ -1,4 +1,4 @@
-use Rattle.std.proofs.Common.{below_more, get_or, ◌/◌, ◌%◌, ℕ}
+use Rattle.std.proofs.Common.{below_more, get_or, ◌/◌, ◌%◌}
 use Rattle.ww_rule.specs.declared.pattern.State.TheVariants.{Empty}
 use Rattle.tile_timing.specs.Law.{IsClearAt}
 use Rattle.tile_timing.proofs.law.is_border_clear.Goals as goal

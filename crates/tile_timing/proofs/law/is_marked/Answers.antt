@@ -15,8 +15,7 @@ loop-i-preserved c =
 
 pub returns : goal.returns
 returns c =
-    let lit = chosen (map cell_at c.args.ports.now) c.args.bits in
-    (
+    let lit = chosen (map cell_at c.args.ports.now) c.args.bits in (
       λ t. shown_is (marked (drawing_of c.args.base.now) lit c.args.mark) c.args.base.now c.args.cells.now 32 (omega arith) (λ x y e. marked_empty c.args.base.now lit c.args.mark x y e) (λ k h. c.loop-i.invariant k (omega arith)),
       λ e. search rules,
     )

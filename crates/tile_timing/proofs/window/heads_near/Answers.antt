@@ -1,4 +1,4 @@
-use Rattle.tile_timing.proofs.Windows.{heads_around_before}
+use Rattle.ww_rule.proofs.Bridge.{heads_around_before}
 use Rattle.tile_timing.specs.Window.{shown}
 use Rattle.tile_timing.proofs.window.heads_near.Goals as goal
 
