@@ -1,0 +1,24 @@
+-- Cells of the plane, and drawings: the conductors that a tile is made of.
+use Rattle.std.specs.Prelude.{ℤ, Bool, false, ◌&&◌, ◌||◌, cond, List, [], ◌∷◌}
+use Rattle.std.specs.Ordering.{int_eq}
+use Rattle.ww_rule.specs.declared.pattern.State.TheVariants.{Empty, Head, Tail, Conductor}
+use Rattle.ww_rule.specs.Wireworld.{Plane}
+
+-- a cell of the plane: x counts eastward, y downward
+pub record Cell : Type 0 where
+  pub x : ℤ
+  pub y : ℤ
+
+-- is the cell at x, y one of these?
+abbrev pub is_among : ℤ → ℤ → List Cell → Bool
+is_among x y [] = false
+is_among x y (c ∷ cs) = (int_eq x c.x && int_eq y c.y) || is_among x y cs
+
+-- a test on cells: which of them are conductors
+abbrev pub Drawing : Type 0
+Drawing = ℤ → ℤ → Bool
+
+-- the drawing alone on the plane: at its cells the heads and the tails that are listed, and conductors else
+abbrev pub picture : Drawing → List Cell → List Cell → Plane
+picture drawing heads tails x y =
+    cond (drawing x y) (cond (is_among x y heads) Head (cond (is_among x y tails) Tail Conductor)) Empty

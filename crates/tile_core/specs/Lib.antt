@@ -1,0 +1,4 @@
+pub mod Drawing
+pub mod Interface
+pub mod TimingLaw
+pub mod Kinds

@@ -1,0 +1,8 @@
+//! Tiles: their kinds, their ports and answers, and the timing law that every drawing of them keeps.
+#![tactic(auto)]
+
+mod kind;
+mod tile;
+
+pub use kind::Kind;
+pub use tile::{Library, Tile};

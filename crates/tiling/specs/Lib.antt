@@ -1,0 +1,3 @@
+pub mod Tiling
+pub mod Matched
+pub mod MacroStep
