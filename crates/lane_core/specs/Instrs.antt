@@ -1,5 +1,5 @@
 -- What instructions do to bits on lanes.
-use Rattle.std.specs.Prelude.{ℕ, ◌+◌, ◌<◌, nat_lt, Bool, true, false, ◌&&◌, ◌||◌, not, List, [], ◌∷◌, slice_index_or, slice_set, fold, ◌⊎◌}
+use Rattle.std.specs.Prelude.{ℕ, ◌+◌, ◌<◌, ◌==◌, nat_lt, Bool, true, false, ◌&&◌, ◌||◌, not, List, [], ◌∷◌, slice_index_or, slice_set, fold, find, Option, ◌⊎◌}
 use Rattle.std.specs.List.{list_all}
 use Rattle.lane_core.specs.declared.instr.Instr.{Instr}
 use Rattle.lane_core.specs.declared.instr.Instr.TheVariants.{Swap, Fork, Xor, Or, AndNot}
@@ -59,3 +59,11 @@ is_above i j = nat_lt (lane_of i + 1) (lane_of j)
 abbrev pub are_sorted_apart : List Instr → Bool
 are_sorted_apart [] = true
 are_sorted_apart (i ∷ rest) = list_all (is_above i) rest && are_sorted_apart rest
+
+-- the instruction works on the lane
+abbrev pub is_on : ℕ → Instr → Bool
+is_on lane instr = lane_of instr == lane || lane_of instr + 1 == lane
+
+-- the instruction that works on a lane
+abbrev pub instr_on : List Instr → ℕ → Option Instr
+instr_on instrs lane = find (is_on lane) instrs
