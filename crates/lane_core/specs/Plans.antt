@@ -1,6 +1,6 @@
 -- Which plans have a drawing, and where their signals are found in it. A lane is 16 rows high, and its signals run along
 -- its row 8. A column is 32 cells wide, and a signal takes 32 generations through it.
-use Rattle.std.specs.Prelude.{ℕ, ◌+◌, ◌-◌, ◌*◌, ◌^◌, ◌<◌, ◌≤◌, ◌≡◌, ◌==◌, ◌↔◌, cond, List, [], length, All, AllPairs, slice_index, slice_index_or, Option, Some, None}
+use Rattle.std.specs.Prelude.{ℕ, ◌+◌, ◌-◌, ◌*◌, ◌^◌, ◌<◌, ◌≤◌, ◌≡◌, ◌==◌, ◌↔◌, cond, length, All, slice_index, slice_index_or, Option, Some, None}
 use Rattle.lane_core.specs.declared.plan.NetPlace.{NetPlace}
 use Rattle.lane_core.specs.declared.plan.Plan.{Plan}
 use Rattle.lane_core.specs.Columns.{IsColumnOnLanes, IsColumnApart}

@@ -1,6 +1,7 @@
 // What can be done to two neighbouring lanes, and what is done side by side.
-ghost use Rattle.std.specs.Prelude.{◌≡◌, IsTrue};
-ghost use Rattle.lane_core.specs.Instrs.{lane_of, upper_bit, lower_bit, are_sorted_apart};
+ghost use Rattle.std.specs.Prelude.{◌≡◌, ◌+◌, ◌<◌, ◌≤◌, IsTrue, length};
+ghost use Rattle.std.specs.List.{AllWithin};
+ghost use Rattle.lane_core.specs.Instrs.{lane_of, upper_bit, lower_bit, are_sorted_apart, instr_on};
 
 use lists::List;
 
@@ -54,4 +55,29 @@ impl Instr {
 pub struct Column {
     pub instrs: List<Instr>,
     pub ghost sorted_apart: { IsTrue (are_sorted_apart instrs) },
+}
+
+impl Column {
+    /// The instruction that works on a lane.
+    pub fn instr_on(&self, lane: u32) -> Option<Instr>
+        ensures { result ≡ instr_on self.now.instrs lane }
+    {
+        let instrs = self.instrs.as_slice();
+        let instr = *instrs.get(ending_above(instrs, lane))?;
+        if instr.lane() <= lane {
+            Some(instr)
+        } else {
+            None
+        }
+    }
+}
+
+// How many of the instructions, which are sorted, work on lanes above this one only.
+fn ending_above(instrs: &[Instr], lane: u32) -> usize
+    requires { IsTrue (are_sorted_apart instrs.now) }
+    ensures within { result ≤ length instrs.now }
+    ensures above { AllWithin (λ i. lane_of i + 1 < lane) instrs.now 0 result }
+    ensures others { AllWithin (λ i. lane ≤ lane_of i + 1) instrs.now result (length instrs.now) }
+{
+    instrs.partition_point(|instr| instr.lane() as u64 + 1 < lane as u64)
 }

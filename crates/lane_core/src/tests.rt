@@ -149,3 +149,23 @@ fn loops_lengthen_the_period(rt: HostRuntime) -> Result<(), Fail> {
     assert_eq!(rt; out_cell(&plan, 0), (160, 40, 96));
     Ok(())
 }
+
+#[test]
+fn a_column_is_searched_by_lane(rt: HostRuntime) -> Result<(), Fail> {
+    let column = Column {
+        instrs: List::of(vec![in rt.alloc(); Instr::Or(1), Instr::Swap(4)]?),
+    };
+    let table = [
+        (0, None),
+        (1, Some(Instr::Or(1))),
+        (2, Some(Instr::Or(1))),
+        (3, None),
+        (4, Some(Instr::Swap(4))),
+        (5, Some(Instr::Swap(4))),
+        (6, None),
+    ];
+    for (lane, instr) in table {
+        assert_eq!(rt; column.instr_on(lane), instr, "at {lane}");
+    }
+    Ok(())
+}
