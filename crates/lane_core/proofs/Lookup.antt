@@ -16,7 +16,7 @@ and_right true b h = h
 and_right false b h = cc
 
 -- no instruction below works on a lane that is not below the first
-none_below : (i : Instr) (lane : ℕ) (xs : List Instr) → lane ≤ lane_of i + 1 → list_all (is_above i) xs ≡ true → find (is_on lane) xs ≡ None
+pub none_below : (i : Instr) (lane : ℕ) (xs : List Instr) → lane ≤ lane_of i + 1 → list_all (is_above i) xs ≡ true → find (is_on lane) xs ≡ None
 none_below i lane [] low h = refl
 none_below i lane (x ∷ xs) low h =
     let above : is_above i x ≡ true = and_left (is_above i x) (list_all (is_above i) xs) h in

@@ -1,16 +1,14 @@
 -- Small plans, drawn by hand.
-use Rattle.std.proofs.Common.{◌≡◌, refl, ℕ, zero, suc, ◌+◌, ◌-◌, Bool, true, false, List, [], ◌∷◌, map}
-use Rattle.std.specs.Prelude.{codes, Option, None, Some}
+use Rattle.std.proofs.Common.{◌≡◌, refl, ℕ, zero, suc, ◌+◌, ◌-◌, true, List, [], ◌∷◌}
+use Rattle.std.specs.Prelude.{codes}
 use Rattle.tile_core.specs.declared.kind.Kind.{Kind}
 use Rattle.tile_core.specs.declared.kind.Kind.TheVariants.{Swap, Xor, Or, AndNot, Fork, East, South, North, EastSouth, SouthWest, WestNorth, NorthEast, West, WestSwap}
 use Rattle.tiling.specs.Tiling.{Piece, Slot, Tiling}
 use Rattle.tiling.specs.Tiling.Piece.{Tile, Output}
 use Rattle.tiling.specs.Tiling.Slot.{Nothing, Whole, Upper, Lower}
-use Rattle.lane_core.specs.declared.instr.Instr.{Instr}
 use Rattle.lane_core.specs.declared.instr.Instr.TheVariants as instr
 use Rattle.lane_core.specs.declared.instr.Column.{Column}
 use Rattle.lane_core.specs.declared.plan.Plan.{Plan}
-use Rattle.lane_core.specs.Instrs.{are_sorted_apart}
 use Rattle.macro_grid.specs.Layout.{tiling_of}
 
 -- a letter for each kind; the lower half of a pair has the small letter

@@ -1,1 +1,4 @@
 pub mod Examples
+pub mod Sides
+pub mod Halves
+pub mod Matched

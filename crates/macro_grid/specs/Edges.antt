@@ -1,5 +1,5 @@
 -- The edges of a plan that are lit at the beginning, and those that the plan's ports light.
-use Rattle.std.specs.Prelude.{ℕ, ◌+◌, ◌-◌, ◌==◌, nat_le, Bool, false, ◌&&◌, get_or}
+use Rattle.std.specs.Prelude.{ℕ, ◌-◌, ◌==◌, nat_le, false, ◌&&◌, get_or}
 use Rattle.tiling.specs.Tiling.{Lit}
 use Rattle.tiling.specs.Tiling.Edge.{Beside, Above}
 use Rattle.lane_core.specs.declared.plan.Plan.{Plan}

@@ -6,7 +6,7 @@
 -- to enter the body again. The turns lie round each other about the line between the body's lanes and those below.
 -- Of N lanes and k loops, loop s leaves the body on lane N - 1 - s; the turn brings it to lane N + s, the way back to
 -- lane N + k - 1 - s, and the second turn to lane N - k + s.
-use Rattle.std.specs.Prelude.{ℕ, zero, suc, ◌+◌, ◌-◌, ◌*◌, ◌%◌, ◌==◌, nat_lt, Bool, ◌&&◌, ◌||◌, if◌then◌else◌, List, length, slice_index_or, map, Option, Some, None, find, []}
+use Rattle.std.specs.Prelude.{ℕ, ◌+◌, ◌-◌, ◌*◌, ◌%◌, ◌==◌, nat_lt, ◌&&◌, if◌then◌else◌, List, length, slice_index_or, map, Option, Some, None, []}
 use Rattle.std.specs.List.{list_any}
 use Rattle.tile_core.specs.declared.kind.Kind.{Kind}
 use Rattle.tile_core.specs.declared.kind.Kind.TheVariants as kind
@@ -15,7 +15,6 @@ use Rattle.tiling.specs.Tiling.Piece.{Tile, Output}
 use Rattle.tiling.specs.Tiling.Slot.{Nothing, Whole, Upper, Lower}
 use Rattle.lane_core.specs.declared.instr.Instr.{Instr}
 use Rattle.lane_core.specs.declared.instr.Instr.TheVariants.{Swap, Fork, Xor, Or, AndNot}
-use Rattle.lane_core.specs.declared.instr.Column.{Column}
 use Rattle.lane_core.specs.declared.plan.Plan.{Plan}
 use Rattle.lane_core.specs.Instrs.{lane_of, instr_on}
 
@@ -59,31 +58,48 @@ return_slot loops back off =
 abbrev pub end_of_body : Plan → ℕ
 end_of_body plan = plan.latches + length plan.columns
 
--- what stands on a lane of the body, where right of it each output has its cell
-abbrev pub eastward_slot : Plan → ℕ → ℕ → Slot
-eastward_slot plan column lane =
-    if nat_lt column plan.latches
-    then turn_slot plan.latches (plan.latches - 1 - column) (plan.lanes - 1 - lane) kind.East kind.NorthEast kind.North
-    else if nat_lt column (end_of_body plan)
-    then body_slot lane (instr_on (instrs_of plan (column - plan.latches)) lane)
-    else if column == end_of_body plan && list_any (λ out. out == lane) plan.outs
+-- on a lane of the body, left of it
+abbrev pub upper_left : Plan → ℕ → ℕ → Slot
+upper_left plan column lane =
+    turn_slot plan.latches (plan.latches - 1 - column) (plan.lanes - 1 - lane) kind.East kind.NorthEast kind.North
+
+-- in the body
+abbrev pub in_body : Plan → ℕ → ℕ → Slot
+in_body plan column lane = body_slot lane (instr_on (instrs_of plan (column - plan.latches)) lane)
+
+-- on a lane of the body, right of it; next to it each output has its cell
+abbrev pub upper_right : Plan → ℕ → ℕ → Slot
+upper_right plan column lane =
+    if column == end_of_body plan && list_any (λ out. out == lane) plan.outs
     then Whole Output
     else turn_slot plan.latches (column - end_of_body plan) (plan.lanes - 1 - lane) kind.East kind.EastSouth kind.South
 
--- what stands on a lane below the body, `off` lanes below it
-abbrev pub westward_slot : Plan → ℕ → ℕ → Slot
-westward_slot plan column off =
-    if nat_lt column plan.latches
-    then turn_slot plan.latches (plan.latches - 1 - column) off kind.West kind.WestNorth kind.North
-    else if nat_lt column (end_of_body plan)
-    then return_slot plan.latches (end_of_body plan - 1 - column) off
-    else turn_slot plan.latches (column - end_of_body plan) off kind.West kind.SouthWest kind.South
+-- on a lane below those of the body, left of it
+abbrev pub lower_left : Plan → ℕ → ℕ → Slot
+lower_left plan column lane =
+    turn_slot plan.latches (plan.latches - 1 - column) (lane - plan.lanes) kind.West kind.WestNorth kind.North
+
+-- below the body
+abbrev pub on_return : Plan → ℕ → ℕ → Slot
+on_return plan column lane = return_slot plan.latches (end_of_body plan - 1 - column) (lane - plan.lanes)
+
+-- on a lane below those of the body, right of it
+abbrev pub lower_right : Plan → ℕ → ℕ → Slot
+lower_right plan column lane =
+    turn_slot plan.latches (column - end_of_body plan) (lane - plan.lanes) kind.West kind.SouthWest kind.South
+
+-- one of three, by whether a tile column lies left of the body, in line with it, or right of it
+abbrev pub by_column : Plan → ℕ → Slot → Slot → Slot → Slot
+by_column plan column left middle right =
+    if nat_lt column plan.latches then left else if nat_lt column (end_of_body plan) then middle else right
 
 -- the tiles of a plan
 abbrev pub tiling_of : Plan → Tiling
 tiling_of plan column lane =
-    if nat_lt lane plan.lanes then eastward_slot plan column lane
-    else if nat_lt lane (plan.lanes + plan.latches) then westward_slot plan column (lane - plan.lanes)
+    if nat_lt lane plan.lanes
+    then by_column plan column (upper_left plan column lane) (in_body plan column lane) (upper_right plan column lane)
+    else if nat_lt lane (plan.lanes + plan.latches)
+    then by_column plan column (lower_left plan column lane) (on_return plan column lane) (lower_right plan column lane)
     else Nothing
 
 -- width and height of the drawing in cells: a tile is 32 cells wide and a lane 16 high, and the cells of the outputs
