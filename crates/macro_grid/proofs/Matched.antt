@@ -11,16 +11,9 @@ use Rattle.lane_core.specs.declared.instr.Instr.{Instr}
 use Rattle.lane_core.specs.declared.instr.Instr.TheVariants as instr
 use Rattle.lane_core.specs.declared.plan.Plan.{Plan}
 use Rattle.lane_core.specs.Plans.{IsAdmissible}
-use Rattle.macro_grid.specs.Layout.{kind_of, return_slot, instrs_of, end_of_body, upper_left, in_body, upper_right, lower_left, on_return, lower_right, by_column, tiling_of}
+use Rattle.macro_grid.specs.Layout.{kind_of, return_slot, instrs_of, end_of_body, upper_left, in_body, upper_right, lower_left, on_return, lower_right, by_column, upper_part, lower_part, tiling_of}
 use Rattle.macro_grid.proofs.Sides.{either, lane_goes, column_goes, upper_left_has, in_body_has, upper_right_has, lower_left_has, on_return_has, lower_right_has}
 use Rattle.macro_grid.proofs.Halves.{is_upper, is_lower, Joined, joined_apart, body_joined, body_ends, body_begins, instrs_sorted, instrs_on_lanes, return_joined, return_ends, return_begins}
-
--- what stands on a lane of the body, and what stands on a lane below
-abbrev pub upper_part : Plan → ℕ → ℕ → Slot
-upper_part plan q l = by_column plan q (upper_left plan q l) (in_body plan q l) (upper_right plan q l)
-
-abbrev pub lower_part : Plan → ℕ → ℕ → Slot
-lower_part plan q l = by_column plan q (lower_left plan q l) (on_return plan q l) (lower_right plan q l)
 
 -- the parts of the plan by lanes
 pub tiling_of-upper : (plan : Plan) (q l : ℕ) → l < plan.lanes → tiling_of plan q l ≡ upper_part plan q l

@@ -93,13 +93,20 @@ abbrev pub by_column : Plan → ℕ → Slot → Slot → Slot → Slot
 by_column plan column left middle right =
     if nat_lt column plan.latches then left else if nat_lt column (end_of_body plan) then middle else right
 
+-- what stands on a lane of the body, and on a lane below
+abbrev pub upper_part : Plan → ℕ → ℕ → Slot
+upper_part plan column lane =
+    by_column plan column (upper_left plan column lane) (in_body plan column lane) (upper_right plan column lane)
+
+abbrev pub lower_part : Plan → ℕ → ℕ → Slot
+lower_part plan column lane =
+    by_column plan column (lower_left plan column lane) (on_return plan column lane) (lower_right plan column lane)
+
 -- the tiles of a plan
 abbrev pub tiling_of : Plan → Tiling
 tiling_of plan column lane =
-    if nat_lt lane plan.lanes
-    then by_column plan column (upper_left plan column lane) (in_body plan column lane) (upper_right plan column lane)
-    else if nat_lt lane (plan.lanes + plan.latches)
-    then by_column plan column (lower_left plan column lane) (on_return plan column lane) (lower_right plan column lane)
+    if nat_lt lane plan.lanes then upper_part plan column lane
+    else if nat_lt lane (plan.lanes + plan.latches) then lower_part plan column lane
     else Nothing
 
 -- width and height of the drawing in cells: a tile is 32 cells wide and a lane 16 high, and the cells of the outputs

@@ -1,4 +1,8 @@
-//! The tiles of a plan, and the step of 32 generations.
+//! The tiles of a plan, the edges between them, and the step of 32 generations.
 #![tactic(auto)]
 
-pub fn nothing() {}
+mod layout;
+mod slot;
+
+pub use layout::slot_at;
+pub use slot::{Piece, Slot};
