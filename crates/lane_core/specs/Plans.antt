@@ -6,14 +6,18 @@ use Rattle.lane_core.specs.declared.plan.Plan.{Plan}
 use Rattle.lane_core.specs.Columns.{IsColumnOnLanes, IsColumnApart}
 use Rattle.lane_core.specs.Places.{AreDistinctBelow, IsPlaceWithin}
 
--- The plan can be drawn. Without lanes it has no columns, and then the other rules leave each list empty.
-pub record IsAdmissible (plan : Plan) : Type 0 where
+-- how many lanes, columns and loops there may be; without lanes there are no columns
+pub record HasFittingSize (plan : Plan) : Type 0 where
   pub lanes : plan.lanes < 2 ^ 32
   pub columns : length plan.columns < 2 ^ 40
   pub both : (plan.lanes ≡ 0) ↔ (length plan.columns ≡ 0)
   pub loops_on_lanes : plan.latches ≤ plan.lanes
   pub loops_in_columns : plan.latches ≤ length plan.columns
   pub starts : length plan.starts ≡ plan.latches
+
+-- The plan can be drawn. Where it has no lanes, these rules leave each of its lists empty.
+pub record IsAdmissible (plan : Plan) : Type 0 where
+  pub size : HasFittingSize plan
   pub instrs : All (IsColumnOnLanes plan.lanes) plan.columns
   pub apart : All IsColumnApart plan.columns
   pub ins : AreDistinctBelow (plan.lanes - plan.latches) plan.ins
