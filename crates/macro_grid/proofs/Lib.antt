@@ -2,3 +2,4 @@ pub mod Examples
 pub mod Sides
 pub mod Halves
 pub mod Matched
+pub mod Distinct

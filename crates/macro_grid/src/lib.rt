@@ -1,8 +1,10 @@
 //! The tiles of a plan, the edges between them, and the step of 32 generations.
 #![tactic(auto)]
 
+mod rules;
 mod layout;
 mod slot;
 
+pub use rules::admissible;
 pub use layout::slot_at;
 pub use slot::{Piece, Slot};
