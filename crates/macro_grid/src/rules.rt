@@ -4,13 +4,17 @@ ghost use Rattle.lane_core.specs.Columns.{IsColumnOnLanes};
 ghost use Rattle.lane_core.specs.Instrs.{IsOnLanes};
 ghost use Rattle.lane_core.specs.Places.{AreDistinctBelow, IsPlaceWithin};
 ghost use Rattle.lane_core.specs.Plans.{IsAdmissible, HasFittingSize};
+ghost use Rattle.tiling.specs.Matched.{IsMatched};
+ghost use Rattle.macro_grid.specs.Layout.{tiling_of};
 
 use lane_core::{Column, Instr, NetPlace, Plan};
 
 /// Whether a plan keeps the rules that a drawing of it needs. It looks at each lane of a port once for each earlier one
 /// of its list, and at all else once.
 pub fn admissible(plan: &Plan) -> bool
-    ensures { IsTrue result ↔ IsAdmissible plan.now }
+    ensures exact { IsTrue result ↔ IsAdmissible plan.now }
+    // the tiles of such a plan fit together
+    ensures matched { IsTrue result → IsMatched (tiling_of plan.now) }
 {
     if !has_fitting_size(plan) {
         return false;

@@ -1,9 +1,10 @@
 use Rattle.std.proofs.Common.{arith, rules}
 use Rattle.macro_grid.proofs.Distinct.{columns_apart}
+use Rattle.macro_grid.proofs.Matched.{tiling_is_matched}
 use Rattle.macro_grid.proofs.rules.admissible.Goals as goal
 
-pub returns : goal.returns
-returns c =
+pub returns-clause-exact : goal.returns-clause-exact
+returns-clause-exact c =
     (λ yes. record {
         size = search rules;
         instrs = search rules;
@@ -13,3 +14,6 @@ returns c =
         nets = search rules;
       },
      λ h. (let nets = h.nets in search rules))
+
+pub returns-clause-matched : goal.returns-clause-matched
+returns-clause-matched c = λ yes. tiling_is_matched c.args.plan.now ((returns-clause-exact c).0 yes)
