@@ -3,3 +3,4 @@ pub mod Sides
 pub mod Halves
 pub mod Matched
 pub mod Distinct
+pub mod Bits

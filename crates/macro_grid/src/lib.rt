@@ -2,9 +2,11 @@
 #![tactic(auto)]
 
 mod rules;
+mod edges;
 mod layout;
 mod slot;
 
 pub use rules::admissible;
+pub use edges::{Edges, EdgesError};
 pub use layout::slot_at;
 pub use slot::{Piece, Slot};
