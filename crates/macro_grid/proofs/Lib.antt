@@ -4,3 +4,4 @@ pub mod Halves
 pub mod Matched
 pub mod Distinct
 pub mod Bits
+pub mod Steps

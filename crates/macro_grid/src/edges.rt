@@ -22,9 +22,9 @@ pub enum EdgesError {
 /// A bit for each edge of a plan, true where it is lit.
 #[derive(Drop)]
 pub struct Edges {
-    lanes: usize,
-    beside: Vec<bool>,
-    above: Vec<bool>,
+    pub(crate) lanes: usize,
+    pub(crate) beside: Vec<bool>,
+    pub(crate) above: Vec<bool>,
 }
 
 impl From<AllocError> for EdgesError {

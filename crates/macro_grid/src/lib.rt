@@ -5,8 +5,10 @@ mod rules;
 mod edges;
 mod layout;
 mod slot;
+mod step;
 
 pub use rules::admissible;
 pub use edges::{Edges, EdgesError};
 pub use layout::slot_at;
 pub use slot::{Piece, Slot};
+pub use step::macro_step;

@@ -1,4 +1,4 @@
-use Rattle.std.proofs.Common.{arith, rules}
+use Rattle.std.proofs.Common.{rules}
 use Rattle.macro_grid.proofs.Distinct.{columns_apart}
 use Rattle.macro_grid.proofs.Matched.{tiling_is_matched}
 use Rattle.macro_grid.proofs.rules.admissible.Goals as goal

@@ -1,10 +1,8 @@
-use Rattle.std.proofs.Common.{◌≡◌, ℕ, ◌+◌, ◌*◌, ◌/◌, ◌%◌, ◌<◌, ◌&&◌, ◌++◌, Bool, false, ap, ◌∙◌, sym, length, get_or, take, drop, replicate, List, arith, rules}
+use Rattle.std.proofs.Common.{◌≡◌, ◌+◌, ◌*◌, ◌&&◌, Bool, false, ap, ◌∙◌, length, get_or, drop, replicate, List, arith, rules}
 use Rattle.std.specs.Prelude.{nat_lt}
 use Rattle.std.proofs.lemmas.List.{take_at}
-use Rattle.tiling.specs.Tiling.{Edge}
 use Rattle.tiling.specs.Tiling.Edge.{Beside, Above}
-use Rattle.lane_core.specs.declared.plan.Plan.{Plan}
-use Rattle.macro_grid.specs.Edges.{EdgeBits, edge_columns, edge_lanes, lit_of, start_edges}
+use Rattle.macro_grid.specs.Edges.{edge_columns, start_edges}
 use Rattle.macro_grid.proofs.Bits.{bits_read, starts_right, starts_below, dark, and_false}
 use Rattle.macro_grid.proofs.edges.Edges.start.Goals as goal
 
