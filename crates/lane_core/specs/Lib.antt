@@ -1,0 +1,4 @@
+pub mod Instrs
+pub mod Columns
+pub mod Places
+pub mod Plans

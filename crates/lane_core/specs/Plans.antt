@@ -1,0 +1,63 @@
+-- Which plans have a drawing, and where their signals are found in it. A lane is 16 rows high, and its signals run along
+-- its row 8. A column is 32 cells wide, and a signal takes 32 generations through it.
+use Rattle.std.specs.Prelude.{ℕ, ◌+◌, ◌-◌, ◌*◌, ◌^◌, ◌<◌, ◌≤◌, ◌≡◌, ◌==◌, ◌↔◌, cond, length, All, slice_index, slice_index_or, Option, Some, None}
+use Rattle.lane_core.specs.declared.plan.NetPlace.{NetPlace}
+use Rattle.lane_core.specs.declared.plan.Plan.{Plan}
+use Rattle.lane_core.specs.Columns.{IsColumnOnLanes, IsColumnApart}
+use Rattle.lane_core.specs.Places.{AreDistinctBelow, IsPlaceWithin}
+
+-- how many lanes, columns and loops there may be; without lanes there are no columns
+pub record HasFittingSize (plan : Plan) : Type 0 where
+  pub lanes : plan.lanes < 2 ^ 32
+  pub columns : length plan.columns < 2 ^ 40
+  pub both : (plan.lanes ≡ 0) ↔ (length plan.columns ≡ 0)
+  pub loops_on_lanes : plan.latches ≤ plan.lanes
+  pub loops_in_columns : plan.latches ≤ length plan.columns
+  pub starts : length plan.starts ≡ plan.latches
+
+-- The plan can be drawn. Where it has no lanes, these rules leave each of its lists empty.
+pub record IsAdmissible (plan : Plan) : Type 0 where
+  pub size : HasFittingSize plan
+  pub instrs : All (IsColumnOnLanes plan.lanes) plan.columns
+  pub apart : All IsColumnApart plan.columns
+  pub ins : AreDistinctBelow (plan.lanes - plan.latches) plan.ins
+  pub outs : AreDistinctBelow (plan.lanes - plan.latches) plan.outs
+  pub nets : All (IsPlaceWithin plan.lanes (length plan.columns)) plan.nets
+
+-- generations from an input at the entry of the first column to the outputs
+abbrev pub latency_of : Plan → ℕ
+latency_of plan = 32 * length plan.columns
+
+-- generations from cycle to cycle: what a signal takes round a loop, which goes through each column twice and has four
+-- tiles more for each loop; without loops the least that tiles allow
+abbrev pub period_of : Plan → ℕ
+period_of plan = cond (plan.latches == 0) 32 (32 * (2 * length plan.columns + 4 * plan.latches))
+
+-- the row of a lane on which its signals run
+abbrev pub row_of : ℕ → ℕ
+row_of lane = 16 * lane + 8
+
+-- the columns of a plan stand right of the turns of its loops, which take one column of cells for each loop
+abbrev pub left_of : Plan → ℕ → ℕ
+left_of plan column = 32 * (plan.latches + column)
+
+-- x and y of the cell of input i, and 0 generations: the entry of the first column
+abbrev pub in_cell_of : Plan → ℕ → ℕ × ℕ × ℕ
+in_cell_of plan i = (left_of plan 0, row_of (slice_index plan.ins i), 0)
+
+-- x and y of the cell of output i, right of the last column, and the generations from the inputs to it
+abbrev pub out_cell_of : Plan → ℕ → ℕ × ℕ × ℕ
+out_cell_of plan i = (left_of plan (length plan.columns), row_of (slice_index plan.outs i), latency_of plan)
+
+-- x and y of the entry of the first column, or of the exit of a column, and the generations from the inputs to it
+abbrev pub cell_after : Plan → ℕ → Option ℕ → ℕ × ℕ × ℕ
+cell_after plan lane None = (left_of plan 0, row_of lane, 0)
+cell_after plan lane (Some column) = (left_of plan column + 31, row_of lane, 32 * column + 31)
+
+-- the place of net i, counted from 0
+abbrev pub net_place : Plan → ℕ → NetPlace
+net_place plan i = slice_index_or plan.nets i (record { lane = 0; after = None })
+
+-- x and y of the cell of net i, and the generations from the inputs to it
+abbrev pub net_cell_of : Plan → ℕ → ℕ × ℕ × ℕ
+net_cell_of plan i = cell_after plan (net_place plan i).lane (net_place plan i).after

@@ -1,0 +1,16 @@
+//! Lanes: instructions on bits that lie on lanes, columns of instructions, programs and plans, and where the signals of
+//! a plan are found in its drawing.
+#![tactic(auto)]
+
+mod instr;
+mod places;
+mod plan;
+mod run;
+
+pub use instr::{Column, Instr};
+pub use places::{in_cell, latency, net_cell, out_cell, period};
+pub use plan::{NetPlace, Plan, Program};
+pub use run::{run_columns, run_instrs};
+
+#[cfg(test)]
+mod tests;

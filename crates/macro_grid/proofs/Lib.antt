@@ -1,0 +1,7 @@
+pub mod Examples
+pub mod Sides
+pub mod Halves
+pub mod Matched
+pub mod Distinct
+pub mod Bits
+pub mod Steps

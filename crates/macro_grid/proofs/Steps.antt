@@ -1,0 +1,116 @@
+-- The macro step at an edge, by the two blocks that meet there.
+use Rattle.std.proofs.Common.{◌≡◌, refl, ◌∙◌, ap, ℕ, zero, suc, ◌+◌, ◌-◌, ◌≤◌, Bool, true, false, ◌&&◌, ◌||◌, cond, ltb, ⊎_elim, arith}
+use Rattle.std.specs.Prelude.{◌==◌}
+use Rattle.std.specs.List.{list_any}
+use Rattle.std.proofs.lemmas.Bool.{cases_lt}
+use Rattle.std.proofs.lemmas.Bool.Decides.{nat_tests}
+use Rattle.tile_core.specs.declared.kind.Kind.{Kind}
+use Rattle.tile_core.specs.declared.kind.Kind.TheVariants as kind
+use Rattle.tiling.specs.Tiling.Piece.{Tile, Output}
+use Rattle.tiling.specs.Tiling.Slot.{Nothing, Whole}
+use Rattle.lane_core.specs.declared.plan.Plan.{Plan}
+use Rattle.macro_grid.specs.Edges.{edge_columns, edge_lanes}
+use Rattle.macro_grid.specs.Layout.{turn_slot, end_of_body, upper_left, in_body, upper_right, lower_left, on_return, lower_right, by_column, upper_part, lower_part, tiling_of}
+use Rattle.macro_grid.proofs.Matched.{tiling_of-below}
+use Rattle.tiling.specs.Tiling.{Slot, Tiling, Lit}
+use Rattle.tiling.specs.Tiling.Edge.{Beside, Above}
+use Rattle.tiling.specs.MacroStep.{macro_step, slot_answers}
+
+pub beside_first : (tiling : Tiling) (lit : Lit) (q l : ℕ) → q ≡ 0 → macro_step tiling lit (Beside q l) ≡ slot_answers lit q l (tiling q l) 0 8
+beside_first tiling lit zero l h = refl
+beside_first tiling lit (suc q) l h = absurd (omega arith)
+
+pub beside_next : (tiling : Tiling) (lit : Lit) (q l p : ℕ) → p + 1 ≡ q
+    → macro_step tiling lit (Beside q l) ≡ (slot_answers lit p l (tiling p l) 31 8 || slot_answers lit q l (tiling q l) 0 8)
+beside_next tiling lit zero l p h = absurd (omega arith)
+beside_next tiling lit (suc q) l p h =
+    let same : q ≡ p = omega arith in
+    ap (λ n. slot_answers lit n l (tiling n l) 31 8 || slot_answers lit (suc q) l (tiling (suc q) l) 0 8) same
+
+pub above_first : (tiling : Tiling) (lit : Lit) (q l : ℕ) → l ≡ 0 → macro_step tiling lit (Above q l) ≡ slot_answers lit q l (tiling q l) 16 0
+above_first tiling lit q zero h = refl
+above_first tiling lit q (suc l) h = absurd (omega arith)
+
+pub above_next : (tiling : Tiling) (lit : Lit) (q l p : ℕ) → p + 1 ≡ l
+    → macro_step tiling lit (Above q l) ≡ (slot_answers lit q p (tiling q p) 16 15 || slot_answers lit q l (tiling q l) 16 0)
+above_next tiling lit q zero p h = absurd (omega arith)
+above_next tiling lit q (suc l) p h =
+    let same : l ≡ p = omega arith in
+    ap (λ n. slot_answers lit q n (tiling q n) 16 15 || slot_answers lit q (suc l) (tiling q (suc l)) 16 0) same
+
+-- one of two answers, where the first one decides
+pub answered : (r m a b : Bool) → m ≡ (a || b) → r ≡ a → r ≡ true → r ≡ m
+answered r m true b e f g = cc
+answered r m false b e f g = cc
+
+pub not_answered : (r own m a b : Bool) → m ≡ (a || b) → r ≡ a → r ≡ false → own ≡ b → own ≡ m
+not_answered r own m true b e f g h = cc
+not_answered r own m false b e f g h = cc
+
+-- beyond the drawing nothing stands
+either_is : (b : Bool) (s t u : Slot) → s ≡ u → t ≡ u → cond b s t ≡ u
+either_is true s t u e f = e
+either_is false s t u e f = f
+
+turn_slot-far : (loops away off : ℕ) (along corner across : Kind) → loops ≤ away → turn_slot loops away off along corner across ≡ Nothing
+turn_slot-far loops away off along corner across far =
+    let no : ltb away loops ≡ false = grind (arith, nat_tests) in
+    ap (λ b. cond (b && ltb off loops) (Whole (Tile (cond (ltb away off) along (cond (away == off) corner across)))) Nothing) no
+
+by_column-right : (plan : Plan) (q : ℕ) (a b c : Slot) → end_of_body plan ≤ q → by_column plan q a b c ≡ c
+by_column-right plan q a b c far =
+    let no : ltb q plan.latches ≡ false = grind (arith, nat_tests) in
+    let no' : ltb q (end_of_body plan) ≡ false = grind (arith, nat_tests) in
+    ap (λ t. cond t a (cond (ltb q (end_of_body plan)) b c)) no ∙ ap (λ t. cond t b c) no'
+
+upper_right-far : (plan : Plan) (q l : ℕ) → end_of_body plan + plan.latches + 1 ≤ q → upper_right plan q l ≡ Nothing
+upper_right-far plan q l far =
+    let no : (q == end_of_body plan) ≡ false = grind (arith, nat_tests) in
+    let beyond : turn_slot plan.latches (q - end_of_body plan) (plan.lanes - 1 - l) kind.East kind.EastSouth kind.South ≡ Nothing =
+        turn_slot-far plan.latches (q - end_of_body plan) (plan.lanes - 1 - l) kind.East kind.EastSouth kind.South (omega arith) in
+    ap (λ t. cond (t && list_any (λ out. out == l) plan.outs) (Whole Output) (turn_slot plan.latches (q - end_of_body plan) (plan.lanes - 1 - l) kind.East kind.EastSouth kind.South)) no ∙ beyond
+
+pub tiling_of-right : (plan : Plan) (q l : ℕ) → end_of_body plan + plan.latches + 1 ≤ q → tiling_of plan q l ≡ Nothing
+tiling_of-right plan q l far =
+    let above : upper_part plan q l ≡ Nothing =
+        by_column-right plan q (upper_left plan q l) (in_body plan q l) (upper_right plan q l) (omega arith) ∙ upper_right-far plan q l far in
+    let below : lower_part plan q l ≡ Nothing =
+        by_column-right plan q (lower_left plan q l) (on_return plan q l) (lower_right plan q l) (omega arith)
+        ∙ turn_slot-far plan.latches (q - end_of_body plan) (l - plan.lanes) kind.West kind.SouthWest kind.South (omega arith) in
+    either_is (ltb l plan.lanes) (upper_part plan q l) (cond (ltb l (plan.lanes + plan.latches)) (lower_part plan q l) Nothing) Nothing above
+        (either_is (ltb l (plan.lanes + plan.latches)) (lower_part plan q l) Nothing Nothing below refl)
+
+-- between blocks where nothing stands no edge is lit
+beside_dark : (tiling : Tiling) (lit : Lit) (q l p : ℕ) → p + 1 ≡ q → tiling p l ≡ Nothing → tiling q l ≡ Nothing → macro_step tiling lit (Beside q l) ≡ false
+beside_dark tiling lit q l p h e f =
+    beside_next tiling lit q l p h
+    ∙ ap (λ s. slot_answers lit p l s 31 8 || slot_answers lit q l (tiling q l) 0 8) e
+    ∙ ap (λ s. slot_answers lit q l s 0 8) f
+
+above_dark : (tiling : Tiling) (lit : Lit) (q l p : ℕ) → p + 1 ≡ l → tiling q p ≡ Nothing → tiling q l ≡ Nothing → macro_step tiling lit (Above q l) ≡ false
+above_dark tiling lit q l p h e f =
+    above_next tiling lit q l p h
+    ∙ ap (λ s. slot_answers lit q p s 16 15 || slot_answers lit q l (tiling q l) 16 0) e
+    ∙ ap (λ s. slot_answers lit q l s 16 0) f
+
+pub beside_right : (plan : Plan) (lit : Lit) (q l : ℕ) → edge_columns plan ≤ q → macro_step (tiling_of plan) lit (Beside q l) ≡ false
+beside_right plan lit q l far =
+    beside_dark (tiling_of plan) lit q l (q - 1) (omega arith) (tiling_of-right plan (q - 1) l (omega arith)) (tiling_of-right plan q l (omega arith))
+
+pub above_right : (plan : Plan) (lit : Lit) (q l : ℕ) → edge_columns plan ≤ q → macro_step (tiling_of plan) lit (Above q l) ≡ false
+above_right plan lit q l far =
+    ⊎_elim
+        (λ first. above_first (tiling_of plan) lit q l (omega arith) ∙ ap (λ s. slot_answers lit q l s 16 0) (tiling_of-right plan q l (omega arith)))
+        (λ more. above_dark (tiling_of plan) lit q l (l - 1) (omega arith) (tiling_of-right plan q (l - 1) (omega arith)) (tiling_of-right plan q l (omega arith)))
+        (cases_lt l 1)
+
+pub beside_below : (plan : Plan) (lit : Lit) (q l : ℕ) → edge_lanes plan ≤ l → macro_step (tiling_of plan) lit (Beside q l) ≡ false
+beside_below plan lit q l far =
+    ⊎_elim
+        (λ first. beside_first (tiling_of plan) lit q l (omega arith) ∙ ap (λ s. slot_answers lit q l s 0 8) (tiling_of-below plan q l (omega arith)))
+        (λ more. beside_dark (tiling_of plan) lit q l (q - 1) (omega arith) (tiling_of-below plan (q - 1) l (omega arith)) (tiling_of-below plan q l (omega arith)))
+        (cases_lt q 1)
+
+pub above_below : (plan : Plan) (lit : Lit) (q l : ℕ) → edge_lanes plan ≤ l → macro_step (tiling_of plan) lit (Above q l) ≡ false
+above_below plan lit q l far =
+    above_dark (tiling_of plan) lit q l (l - 1) (omega arith) (tiling_of-below plan q (l - 1) (omega arith)) (tiling_of-below plan q l (omega arith))

@@ -1,0 +1,41 @@
+-- Which edges of a plan are lit.
+use Rattle.std.specs.Prelude.{ℕ, ◌+◌, ◌-◌, ◌*◌, ◌==◌, ◌≡◌, nat_le, nat_lt, Bool, false, ◌&&◌, List, length, get_or}
+use Rattle.tiling.specs.Tiling.{Lit}
+use Rattle.tiling.specs.Tiling.Edge.{Beside, Above}
+use Rattle.lane_core.specs.declared.plan.Plan.{Plan}
+use Rattle.macro_grid.specs.Layout.{end_of_body}
+
+-- the lane on which the first loop enters the body; the others follow below
+abbrev pub first_loop_lane : Plan → ℕ
+first_loop_lane plan = plan.lanes - plan.latches
+
+-- the edges that are lit at the beginning: where a loop that starts with 1 enters the body
+abbrev pub start_edges : Plan → Lit
+start_edges plan (Beside column lane) =
+    column == plan.latches && nat_le (first_loop_lane plan) lane && get_or plan.starts (lane - first_loop_lane plan) false
+start_edges plan (Above column lane) = false
+
+-- A bit for each edge. The blocks of a tile column follow one another, `lanes` of them, and the tile columns too; a
+-- block has a bit in `beside` for the edge on its west side, and one in `above` for the edge on its north side.
+pub record EdgeBits : Type 0 where
+  pub lanes : ℕ
+  pub beside : List Bool
+  pub above : List Bool
+
+-- the edges whose bits are true
+abbrev pub lit_of : EdgeBits → Lit
+lit_of bits (Beside column lane) = nat_lt lane bits.lanes && get_or bits.beside (column * bits.lanes + lane) false
+lit_of bits (Above column lane) = nat_lt lane bits.lanes && get_or bits.above (column * bits.lanes + lane) false
+
+-- the tile columns and lanes that have bits: those of the drawing, and some round it, where nothing stands
+abbrev pub edge_columns : Plan → ℕ
+edge_columns plan = end_of_body plan + plan.latches + 2
+
+abbrev pub edge_lanes : Plan → ℕ
+edge_lanes plan = plan.lanes + plan.latches + 1
+
+-- the bits were made for the plan
+pub record IsEdgesOf (plan : Plan) (bits : EdgeBits) : Type 0 where
+  pub lanes : bits.lanes ≡ edge_lanes plan
+  pub beside : length bits.beside ≡ edge_columns plan * edge_lanes plan
+  pub above : length bits.above ≡ edge_columns plan * edge_lanes plan

@@ -1,0 +1,127 @@
+// Which edges of a plan are lit. An edge is a side at which two blocks meet, named by the tile column and the lane of the
+// block east of it (`beside`) or south of it (`above`).
+ghost use Rattle.std.specs.Prelude.{◌≡◌, ℕ, ◌+◌, ◌*◌, ◌/◌, ◌%◌, ◌<◌, ◌&&◌, nat_lt, get_or, false, length, IfOk};
+ghost use Rattle.tiling.specs.Tiling.{Edge};
+ghost use Rattle.tiling.specs.Tiling.Edge.{Beside, Above};
+ghost use Rattle.lane_core.specs.Plans.{IsAdmissible};
+ghost use Rattle.macro_grid.specs.Edges.{IsEdgesOf, edge_columns, edge_lanes, lit_of, start_edges};
+
+use crate::{Piece, Slot, slot_at};
+use lane_core::Plan;
+use std::alloc::{AllocError, Global};
+use std::marker::Model;
+use tile_core::Kind;
+
+/// Why there are no edges.
+#[derive(Clone, Copy, Debug, PartialEq, Eq)]
+pub enum EdgesError {
+    /// There is no memory for them.
+    NoMemory,
+}
+
+/// A bit for each edge of a plan, true where it is lit.
+#[derive(Drop)]
+pub struct Edges {
+    pub(crate) lanes: usize,
+    pub(crate) beside: Vec<bool>,
+    pub(crate) above: Vec<bool>,
+}
+
+impl From<AllocError> for EdgesError {
+    ghost use Rattle.macro_grid.specs.declared.edges.EdgesError.TheVariants.{NoMemory};
+
+    ghost from_gives = { λ _ e. e ≡ NoMemory };
+
+    fn from(_error: AllocError) -> EdgesError {
+        EdgesError::NoMemory
+    }
+}
+
+impl Model for Edges {
+    ghost use Rattle.macro_grid.specs.Edges.{EdgeBits};
+
+    ghost Value = { EdgeBits };
+
+    ghost view = { λ e. record { lanes = e.lanes; beside = e.beside.items; above = e.above.items } };
+}
+
+impl Edges {
+    /// The edges that are lit at the beginning: one for each loop that starts with 1, where it enters the body.
+    pub fn start(alloc: Global, plan: &Plan) -> Result<Edges, EdgesError>
+        requires { IsAdmissible plan.now }
+        ensures made { IfOk result (IsEdgesOf plan.now) }
+        ensures lit { IfOk result (λ e. (edge : Edge) → lit_of e edge ≡ start_edges plan.now edge) }
+    {
+        let lanes = edge_lanes(plan);
+        let Some(count) = edge_columns(plan).checked_mul(lanes) else {
+            return Err(EdgesError::NoMemory);
+        };
+        let mut beside = vec![in alloc; false; count]?;
+        let above = vec![in alloc; false; count]?;
+        light_starts(plan, lanes, &mut beside);
+        Ok(Edges { lanes, beside, above })
+    }
+
+    /// Whether the edge on the west side of a block is lit.
+    pub fn beside(&self, column: u64, lane: u64) -> bool
+        ensures { result ≡ lit_of self.now (Beside column lane) }
+    {
+        is_set(&self.beside, self.lanes, column, lane)
+    }
+
+    /// Whether the edge on the north side of a block is lit.
+    pub fn above(&self, column: u64, lane: u64) -> bool
+        ensures { result ≡ lit_of self.now (Above column lane) }
+    {
+        is_set(&self.above, self.lanes, column, lane)
+    }
+}
+
+fn edge_columns(plan: &Plan) -> usize
+    requires { IsAdmissible plan.now }
+    ensures { result ≡ edge_columns plan.now }
+{
+    2 * plan.latches as usize + plan.columns.len() + 2
+}
+
+fn edge_lanes(plan: &Plan) -> usize
+    ensures { result ≡ edge_lanes plan.now }
+{
+    plan.lanes as usize + plan.latches as usize + 1
+}
+
+// Whether a loop that starts with 1 enters the body on this lane of this tile column.
+fn is_start(plan: &Plan, column: u64, lane: u64) -> bool
+    requires { IsAdmissible plan.now }
+    ensures { result ≡ start_edges plan.now (Beside column lane) }
+{
+    let first = (plan.lanes - plan.latches) as u64;
+    if column != plan.latches as u64 || lane < first || lane - first >= plan.starts.len() as u64 {
+        return false;
+    }
+    *plan.starts.get((lane - first) as usize)
+}
+
+fn light_starts(plan: &Plan, lanes: usize, bits: &mut [bool])
+    requires admissible { IsAdmissible plan.now }
+    requires some { 0 < lanes }
+    ensures { (k : ℕ) → k < length bits.new → get_or bits.new k false ≡ start_edges plan.now (Beside (k / lanes) (k % lanes)) }
+{
+    for (i, lit) in bits.iter_mut().enumerate() {
+        *lit = is_start(plan, (i / lanes) as u64, (i % lanes) as u64);
+    }
+}
+
+// The bit of a block, and false where it has none.
+fn is_set(bits: &[bool], lanes: usize, column: u64, lane: u64) -> bool
+    ensures { result ≡ (nat_lt lane lanes && get_or bits.now (column * lanes + lane) false) }
+{
+    if lane >= lanes as u64 {
+        return false;
+    }
+    let place = column as u128 * lanes as u128 + lane as u128;
+    if place >= bits.len() as u128 {
+        return false;
+    }
+    bits[place as usize]
+}

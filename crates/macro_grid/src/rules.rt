@@ -1,0 +1,85 @@
+// Which plans can be drawn.
+ghost use Rattle.std.specs.Prelude.{◌≡◌, ◌+◌, ◌-◌, ◌<◌, ◌≤◌, ◌^◌, ◌↔◌, IsTrue, All, length};
+ghost use Rattle.lane_core.specs.Columns.{IsColumnOnLanes};
+ghost use Rattle.lane_core.specs.Instrs.{IsOnLanes};
+ghost use Rattle.lane_core.specs.Places.{AreDistinctBelow, IsPlaceWithin};
+ghost use Rattle.lane_core.specs.Plans.{IsAdmissible, HasFittingSize};
+ghost use Rattle.tiling.specs.Matched.{IsMatched};
+ghost use Rattle.macro_grid.specs.Layout.{tiling_of};
+
+use lane_core::{Column, Instr, NetPlace, Plan};
+
+/// Whether a plan keeps the rules that a drawing of it needs. It looks at each lane of a port once for each earlier one
+/// of its list, and at all else once.
+pub fn admissible(plan: &Plan) -> bool
+    ensures exact { IsTrue result ↔ IsAdmissible plan.now }
+    // the tiles of such a plan fit together
+    ensures matched { IsTrue result → IsMatched (tiling_of plan.now) }
+{
+    if !has_fitting_size(plan) {
+        return false;
+    }
+    let free = plan.lanes - plan.latches;
+    if !are_distinct_below(plan.ins.as_slice(), free) {
+        return false;
+    }
+    if !are_distinct_below(plan.outs.as_slice(), free) {
+        return false;
+    }
+    if !are_columns_on_lanes(plan.columns.as_slice(), plan.lanes) {
+        return false;
+    }
+    are_places_within(plan.nets.as_slice(), plan.lanes, plan.columns.len() as u64)
+}
+
+fn are_on_lanes(instrs: &[Instr], lanes: u32) -> bool
+    ensures { IsTrue result ↔ All (IsOnLanes lanes) instrs.now }
+{
+    instrs.iter().all(|instr| (instr.lane() as u64) + 1 < lanes as u64)
+}
+
+fn are_columns_on_lanes(columns: &[Column], lanes: u32) -> bool
+    ensures { IsTrue result ↔ All (IsColumnOnLanes lanes) columns.now }
+{
+    columns.iter().all(|column| are_on_lanes(column.instrs.as_slice(), lanes))
+}
+
+fn are_distinct_below(lanes: &[u32], limit: u32) -> bool
+    ensures { IsTrue result ↔ AreDistinctBelow limit lanes.now }
+{
+    for (i, lane) in lanes.iter().enumerate() {
+        if *lane >= limit || lanes[..i].contains(lane) {
+            return false;
+        }
+    }
+    true
+}
+
+fn is_place_within(place: &NetPlace, lanes: u32, steps: u64) -> bool
+    ensures { IsTrue result ↔ IsPlaceWithin lanes steps place.now }
+{
+    if place.lane >= lanes {
+        return false;
+    }
+    match place.after {
+        None => true,
+        Some(step) => step < steps,
+    }
+}
+
+fn are_places_within(places: &[NetPlace], lanes: u32, steps: u64) -> bool
+    ensures { IsTrue result ↔ All (IsPlaceWithin lanes steps) places.now }
+{
+    places.iter().all(|place| is_place_within(place, lanes, steps))
+}
+
+fn has_fitting_size(plan: &Plan) -> bool
+    ensures { IsTrue result ↔ HasFittingSize plan.now }
+{
+    let columns = plan.columns.len() as u64;
+    columns < 1 << 40
+        && (plan.lanes == 0) == (columns == 0)
+        && plan.latches <= plan.lanes
+        && plan.latches as u64 <= columns
+        && plan.starts.len() == plan.latches as usize
+}
