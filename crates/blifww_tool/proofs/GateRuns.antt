@@ -21,17 +21,14 @@ use Rattle.pattern_reading.specs.declared.ports.Ports.{Ports}
 use Rattle.pattern_reading.specs.PortTable.{ports_of}
 use Rattle.pattern_reading.specs.Spelling.{named_or_forms}
 use Rattle.carries.specs.Carries.{drive, before_injections, MeetsConductors, ShowsBits, ShowsRuns}
-use Rattle.or_gate.specs.OrGate.{DrivesEntries, entries, is_lit}
-use Rattle.or_gate.proofs.Generations.{gate_plane, before_injection, output_head, meets_conductor}
+use Rattle.or_gate.specs.OrGate.{or_grid, gate_plane, DrivesEntries, entries, is_lit}
+use Rattle.or_gate.specs.OrGate as gate
+use Rattle.or_gate.proofs.Generations.{output_head, meets_conductor}
 use Rattle.blifww_tool.specs.Thin.{Names, HasDistinctPorts}
-use Rattle.blifww_tool.specs.Drawing.{or_grid}
 use Rattle.blifww_tool.specs.Gate.{or_design}
 
 abbrev pub gate_ports : Names → Ports
 gate_ports n = ports_of (named_or_forms n.a n.b n.y)
-
-same_plane : gate_plane ≡ plane_of or_grid.rows
-same_plane = refl
 
 abbrev cells : List (ℕ × ℕ)
 cells = (0, 8) ∷ (0, 24) ∷ []
@@ -55,7 +52,7 @@ drives rows =
       at_entries = λ g x y e. let b = (streams_injected 32 cells rows g x y).0 e in ap₂ (λ i j. is_among i j entries) (sym b.column) (sym b.line) ∙ at_entry b.input b.in_cells;
     }
 
-same_before : (due : Due) (g : ℕ) → before_injection due g ≡ before_injections due gate_plane g
+same_before : (due : Due) (g : ℕ) → gate.before_injections due g ≡ before_injections due gate_plane g
 same_before due zero = refl
 same_before due (suc g) = refl
 

@@ -12,7 +12,8 @@ use Rattle.carries.specs.Carries.{Carries}
 use Rattle.blifww_tool.specs.Run.{Reading, Writing, Compiles}
 use Rattle.blifww_tool.specs.Names.{IsName, is_name_byte}
 use Rattle.blifww_tool.specs.Thin.{Names, IsThin}
-use Rattle.blifww_tool.specs.Drawing.{or_grid, or_text}
+use Rattle.blifww_tool.specs.Drawing.{or_text}
+use Rattle.or_gate.specs.OrGate.{or_grid}
 use Rattle.blifww_tool.specs.Gate.{or_design, WritesWhatItRead}
 use Rattle.blifww_tool.proofs.WrittenText.{same_text}
 use Rattle.blifww_tool.proofs.ThinDesign.{is_design}

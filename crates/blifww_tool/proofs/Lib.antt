@@ -1,4 +1,3 @@
-pub mod GateDrawing
 pub mod JoinedPieces
 pub mod ThinNames
 pub mod Shapes

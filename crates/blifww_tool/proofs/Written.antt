@@ -5,7 +5,8 @@ use Rattle.std.specs.Io.KnownBytes.{Appends}
 use Rattle.ww_rule.specs.Grid.{Grid}
 use Rattle.pattern_writing.specs.Writer.{writer_text}
 use Rattle.blifww_tool.specs.Thin.{Names}
-use Rattle.blifww_tool.specs.Drawing.{or_grid, or_lines, or_text}
+use Rattle.blifww_tool.specs.Drawing.{or_lines, or_text}
+use Rattle.or_gate.specs.OrGate.{or_grid}
 
 is_or_text : (grid : Grid) (lines : List (List ℕ)) (n : Names) → grid ≡ or_grid → lines ≡ or_lines n → writer_text grid lines ≡ or_text n
 is_or_text grid lines n g l = ap (λ x. writer_text x lines) g ∙ ap (writer_text or_grid) l

@@ -6,7 +6,8 @@ use Rattle.pattern_reading.specs.Examples.{or_pattern_lines}
 use Rattle.pattern_reading.specs.Examples as reading
 use Rattle.pattern_reading.specs.Spelling.{named_or_text, named_or_forms, spelled_table}
 use Rattle.blifww_tool.specs.Thin.{Names}
-use Rattle.blifww_tool.specs.Drawing.{or_grid, or_lines, or_text}
+use Rattle.blifww_tool.specs.Drawing.{or_lines, or_text}
+use Rattle.or_gate.specs.OrGate.{or_grid}
 
 pub same_grid : or_grid ≡ reading.or_grid
 same_grid = refl

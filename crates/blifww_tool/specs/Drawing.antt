@@ -1,19 +1,8 @@
 -- What is written for an OR gate: its drawing, with lines that say where its ports are.
-use Rattle.std.specs.Prelude.{ℕ, ◌==◌, if◌then◌else◌, List, [], ◌∷◌, ◌++◌, map, codes}
-use Rattle.ww_rule.specs.declared.pattern.State.{State}
-use Rattle.ww_rule.specs.declared.pattern.State.TheVariants.{Empty, Conductor}
-use Rattle.ww_rule.specs.Grid.{Grid}
+use Rattle.std.specs.Prelude.{ℕ, List, [], ◌∷◌, ◌++◌, codes}
 use Rattle.pattern_writing.specs.Writer.{writer_text}
-use Rattle.blifww_tool.specs.declared.drawing.TheConstants.{OR_DRAWING}
+use Rattle.or_gate.specs.OrGate.{or_grid}
 use Rattle.blifww_tool.specs.Thin.{Names}
-
--- a cell as it is drawn: `C` is a conductor
-abbrev pub state_of : ℕ → State
-state_of byte = if byte == 67 then Conductor else Empty
-
--- the gate's box of cells
-abbrev pub or_grid : Grid
-or_grid = record { width = 33; height = 32; rows = map (map state_of) OR_DRAWING }
 
 -- period and latency, 32 generations each; then the cells where the inputs enter, and where the output leaves
 abbrev pub or_lines : Names → List (List ℕ)

@@ -7,9 +7,10 @@ ghost use Rattle.blifww_tool.specs.Drawing.{or_text};
 ghost use Rattle.blifww_tool.specs.Gate.{WritesWhatItRead};
 ghost use Rattle.blifww_tool.specs.Run.{IsShape, text_limit, status_of, line_of, Reading, reading, Writing, writing, Gave, GaveAll, Gained, GainedNothing, WriteFailed, HasReason, Compiles, IsCalm, CutsLine, CutsText};
 
-use crate::drawing::{or_lines, or_pattern};
+use crate::drawing::or_lines;
 use crate::refusals::Refusal;
 use crate::thin::recognise;
+use or_gate::or_pattern;
 use rle_write::write_pattern;
 use std::alloc::Global;
 use ww_base::{Failed, Sink, Source, read_all, write_all};

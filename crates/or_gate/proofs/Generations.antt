@@ -5,14 +5,10 @@ use Rattle.std.proofs.Math.Bool.{or-false}
 use Rattle.ww_rule.specs.declared.pattern.State.TheVariants.{Empty, Head, Tail, Conductor}
 use Rattle.ww_rule.specs.Wireworld.{Plane, Due, injected, driven, next_plane, evolve}
 use Rattle.ww_rule.specs.Grid.{plane_of}
-<<<<<<< HEAD
-use Rattle.or_gate.specs.Pictures.{is_among, picture}
-use Rattle.or_gate.proofs.Sound.{same_place}
-=======
 use Rattle.tile_core.specs.Drawing.{is_among, picture}
 use Rattle.tile_timing.proofs.Sound.{same_place}
->>>>>>> e916b004ee46c54313c47cd3d3eea08deee4868d
-use Rattle.or_gate.specs.OrGate.{DrivesEntries, entries, is_lit, or_text, state_of_tag}
+use Rattle.or_gate.specs.OrGate.{gate_plane, DrivesEntries, entries, is_lit, before_injections, ShowsOr, state_of}
+use Rattle.or_gate.specs.declared.drawing.TheConstants.{OR_DRAWING}
 use Rattle.or_gate.proofs.Machine.{wires_of, begun, lit_output, lit_exit, at_32, dark_between, at_rest, injected_rest, injected_none}
 
 -- whether the output is lit at generation 32 m: whether an entry was, 32 generations before
@@ -22,10 +18,7 @@ out_at due (suc m) = is_lit due m
 
 -- the plane at generation 32 m, with what is injected then
 abbrev pub period_start : Due → ℕ → Plane
-period_start due m = begun (wires_of or_text) (out_at due m) (due (32 * m) (pos 0) (pos 8)) (due (32 * m) (pos 0) (pos 24))
-
-abbrev pub gate_plane : Plane
-gate_plane = plane_of (map (map state_of_tag) or_text)
+period_start due m = begun (wires_of OR_DRAWING) (out_at due m) (due (32 * m) (pos 0) (pos 8)) (due (32 * m) (pos 0) (pos 24))
 
 false_if : (b : Bool) → (b ≡ true → ⊥) → b ≡ false
 false_if true h = absurd (h refl)
@@ -49,20 +42,20 @@ between due d m (suc r) start h =
     ∙ ap next_plane (between due d m r start lt)
 
 -- what a period leaves, before the next injections
-ends : (due : Due) (d : DrivesEntries due) (m : ℕ) → driven due gate_plane (32 * m) ≡ period_start due m → next_plane (driven due gate_plane (32 * m + 31)) ≡ picture (wires_of or_text) (lit_output (is_lit due m)) (lit_exit (is_lit due m))
+ends : (due : Due) (d : DrivesEntries due) (m : ℕ) → driven due gate_plane (32 * m) ≡ period_start due m → next_plane (driven due gate_plane (32 * m + 31)) ≡ picture (wires_of OR_DRAWING) (lit_output (is_lit due m)) (lit_exit (is_lit due m))
 ends due d m start =
     ap next_plane (between due d m 31 start (lit< tt)) ∙ at_32 (out_at due m) (due (32 * m) (pos 0) (pos 8)) (due (32 * m) (pos 0) (pos 24))
 
 pub starts : (due : Due) → DrivesEntries due → (m : ℕ) → driven due gate_plane (32 * m) ≡ period_start due m
-starts due d zero = ap (injected (due 0)) (at_rest or_text) ∙ injected_rest (due 0) false (d.at_entries 0)
+starts due d zero = ap (injected (due 0)) (at_rest OR_DRAWING) ∙ injected_rest (due 0) false (d.at_entries 0)
 starts due d (suc m) =
     let at : 32 * suc m ≡ suc (32 * m + 31) = omega arith in
     ap (driven due gate_plane) at
     ∙ ap (injected (due (suc (32 * m + 31)))) (ends due d m (starts due d m))
-    ∙ ap (λ g. injected (due g) (picture (wires_of or_text) (lit_output (is_lit due m)) (lit_exit (is_lit due m)))) (sym at)
+    ∙ ap (λ g. injected (due g) (picture (wires_of OR_DRAWING) (lit_output (is_lit due m)) (lit_exit (is_lit due m)))) (sym at)
     ∙ injected_rest (due (32 * suc m)) (is_lit due m) (d.at_entries (32 * suc m))
 
-head_at_lit : (out a b : Bool) → (begun (wires_of or_text) out a b (pos 32) (pos 8) ≡ Head) ↔ (out ≡ true)
+head_at_lit : (out a b : Bool) → (begun (wires_of OR_DRAWING) out a b (pos 32) (pos 8) ≡ Head) ↔ (out ≡ true)
 head_at_lit true true true = (λ _. refl, λ _. refl)
 head_at_lit true true false = (λ _. refl, λ _. refl)
 head_at_lit true false true = (λ _. refl, λ _. refl)
@@ -94,30 +87,28 @@ output_head due d g = go (g / 32) (g % 32) (omega arith) (omega arith)
           start (suc m) e ∙ (head_at_lit (is_lit due m) (due (32 * suc m) (pos 0) (pos 8)) (due (32 * suc m) (pos 0) (pos 24))).1 (ap (is_lit due) (sym same) ∙ p.2),
     )
 
--- the plane before the injections of a generation
-abbrev pub before_injection : Due → ℕ → Plane
-before_injection due zero = gate_plane
-before_injection due (suc g) = next_plane (driven due gate_plane g)
-
-conductor_at : (out : Bool) (x y : ℤ) → is_among x y entries ≡ true → picture (wires_of or_text) (lit_output out) (lit_exit out) x y ≡ Conductor
+conductor_at : (out : Bool) (x y : ℤ) → is_among x y entries ≡ true → picture (wires_of OR_DRAWING) (lit_output out) (lit_exit out) x y ≡ Conductor
 conductor_at out x y e =
     elim (or_cases (int_eq x (pos 0) && int_eq y (pos 8)) ((int_eq x (pos 0) && int_eq y (pos 24)) || false) e) [
-      | inl up ↦ let s = same_place x y (pos 0) (pos 8) up in ap₂ (picture (wires_of or_text) (lit_output out) (lit_exit out)) s.0 s.1 ∙ upper out
-      | inr low ↦ let s = same_place x y (pos 0) (pos 24) (sym (or-false (int_eq x (pos 0) && int_eq y (pos 24))) ∙ low) in ap₂ (picture (wires_of or_text) (lit_output out) (lit_exit out)) s.0 s.1 ∙ lower out
+      | inl up ↦ let s = same_place x y (pos 0) (pos 8) up in ap₂ (picture (wires_of OR_DRAWING) (lit_output out) (lit_exit out)) s.0 s.1 ∙ upper out
+      | inr low ↦ let s = same_place x y (pos 0) (pos 24) (sym (or-false (int_eq x (pos 0) && int_eq y (pos 24))) ∙ low) in ap₂ (picture (wires_of OR_DRAWING) (lit_output out) (lit_exit out)) s.0 s.1 ∙ lower out
     ]
   where
-    upper : (out : Bool) → picture (wires_of or_text) (lit_output out) (lit_exit out) (pos 0) (pos 8) ≡ Conductor
+    upper : (out : Bool) → picture (wires_of OR_DRAWING) (lit_output out) (lit_exit out) (pos 0) (pos 8) ≡ Conductor
     upper true = refl
     upper false = refl
-    lower : (out : Bool) → picture (wires_of or_text) (lit_output out) (lit_exit out) (pos 0) (pos 24) ≡ Conductor
+    lower : (out : Bool) → picture (wires_of OR_DRAWING) (lit_output out) (lit_exit out) (pos 0) (pos 24) ≡ Conductor
     lower true = refl
     lower false = refl
 
 -- each injection meets a conductor
-pub meets_conductor : (due : Due) → DrivesEntries due → (g : ℕ) (x y : ℤ) → due g x y ≡ true → before_injection due g x y ≡ Conductor
-meets_conductor due d zero x y e = ap (λ p. p x y) (at_rest or_text) ∙ conductor_at false x y (d.at_entries 0 x y e)
+pub meets_conductor : (due : Due) → DrivesEntries due → (g : ℕ) (x y : ℤ) → due g x y ≡ true → before_injections due g x y ≡ Conductor
+meets_conductor due d zero x y e = ap (λ p. p x y) (at_rest OR_DRAWING) ∙ conductor_at false x y (d.at_entries 0 x y e)
 meets_conductor due d (suc g) x y e =
     let m = g / 32 in
     let on : suc g % 32 ≡ 0 = d.on_time (suc g) x y e in
     let at : g ≡ 32 * m + 31 = omega (arith, on) in
     ap (λ n. next_plane (driven due gate_plane n) x y) at ∙ ap (λ p. p x y) (ends due d m (starts due d m)) ∙ conductor_at (is_lit due m) x y (d.at_entries (suc g) x y e)
+
+pub shows_or : ShowsOr
+shows_or = record { conductors = meets_conductor; heads = output_head }

@@ -8,17 +8,11 @@ use Rattle.ww_rule.specs.declared.pattern.State.{State}
 use Rattle.ww_rule.specs.declared.pattern.State.TheVariants.{Empty, Head, Tail, Conductor}
 use Rattle.ww_rule.specs.Wireworld.{Plane, Due, injected, driven, next_plane, evolve}
 use Rattle.ww_rule.specs.Grid.{plane_of}
-<<<<<<< HEAD
-use Rattle.or_gate.specs.Pictures.{Cell, is_among, picture}
-use Rattle.or_gate.specs.OrGate.{at, entries, DrivesEntries, is_lit, or_text, state_of_tag}
-use Rattle.or_gate.proofs.Lists.{trace}
-use Rattle.or_gate.proofs.Sound.{evolve_picture, same_place}
-=======
 use Rattle.tile_core.specs.Drawing.{Cell, is_among, picture}
-use Rattle.or_gate.specs.OrGate.{at, entries, DrivesEntries, is_lit, or_text, state_of_tag}
+use Rattle.or_gate.specs.OrGate.{at, entries, DrivesEntries, is_lit, state_of}
+use Rattle.or_gate.specs.declared.drawing.TheConstants.{OR_DRAWING}
 use Rattle.tile_timing.proofs.Heads.{trace}
 use Rattle.tile_timing.proofs.Sound.{evolve_picture, same_place}
->>>>>>> e916b004ee46c54313c47cd3d3eea08deee4868d
 
 abbrev pub is_wire : State → Bool
 is_wire Empty = false
@@ -27,7 +21,7 @@ is_wire Tail = true
 is_wire Conductor = true
 
 abbrev pub wires_of : List (List ℕ) → ℤ → ℤ → Bool
-wires_of text x y = is_wire (plane_of (map (map state_of_tag) text) x y)
+wires_of text x y = is_wire (plane_of (map (map state_of) text) x y)
 
 abbrev pub lit_output : Bool → List Cell
 lit_output out = cond out (at 32 8 ∷ []) []
@@ -61,7 +55,7 @@ run_is wires out a b =
     × (get_or (run_of wires out a b) 31 [] ≡ lit_exit (a || b))
     × (dark_from 31 (later (run_of wires out a b)) ≡ true)
 
-pub all_runs : (out a b : Bool) → run_is (wires_of or_text) out a b
+pub all_runs : (out a b : Bool) → run_is (wires_of OR_DRAWING) out a b
 all_runs true true true = (refl, refl, refl)
 all_runs true true false = (refl, refl, refl)
 all_runs true false true = (refl, refl, refl)
@@ -75,10 +69,10 @@ all_runs false false false = (refl, refl, refl)
 pub evolve_begun : (wires : ℤ → ℤ → Bool) (out a b : Bool) (g : ℕ) → g < 32 → evolve (suc g) (begun wires out a b) ≡ picture wires (get_or (run_of wires out a b) (suc g) []) (get_or (run_of wires out a b) g [])
 evolve_begun wires out a b g h = evolve_picture wires 32 g (lit_entries a b ++ lit_output out) (lit_exit out) h
 
-pub at_32 : (out a b : Bool) → evolve 32 (begun (wires_of or_text) out a b) ≡ picture (wires_of or_text) (lit_output (a || b)) (lit_exit (a || b))
+pub at_32 : (out a b : Bool) → evolve 32 (begun (wires_of OR_DRAWING) out a b) ≡ picture (wires_of OR_DRAWING) (lit_output (a || b)) (lit_exit (a || b))
 at_32 out a b =
     let r = all_runs out a b in
-    evolve_begun (wires_of or_text) out a b 31 (lit< tt) ∙ ap₂ (picture (wires_of or_text)) r.0 r.1
+    evolve_begun (wires_of OR_DRAWING) out a b 31 (lit< tt) ∙ ap₂ (picture (wires_of OR_DRAWING)) r.0 r.1
 
 dark_from-says : (n : ℕ) (tr : List (List Cell)) (g : ℕ) → dark_from n tr ≡ true → g < n → is_among (pos 32) (pos 8) (get_or tr g []) ≡ false
 dark_from-says n [] g t h = refl
@@ -96,9 +90,9 @@ not_head true false e = cc
 not_head false t e = cc
 
 -- the output is no head in the generations between
-pub dark_between : (out a b : Bool) (g : ℕ) → g < 31 → evolve (suc g) (begun (wires_of or_text) out a b) (pos 32) (pos 8) ≢ Head
+pub dark_between : (out a b : Bool) (g : ℕ) → g < 31 → evolve (suc g) (begun (wires_of OR_DRAWING) out a b) (pos 32) (pos 8) ≢ Head
 dark_between out a b g h e =
-    let wires = wires_of or_text in
+    let wires = wires_of OR_DRAWING in
     let run = run_of wires out a b in
     let lt : g < 32 = omega arith in
     let dark : is_among (pos 32) (pos 8) (get_or run (suc g) []) ≡ false = ap (is_among (pos 32) (pos 8)) (sym (get_or-later run g)) ∙ dark_from-says 31 (later run) g (all_runs out a b).2 h in
@@ -106,7 +100,7 @@ dark_between out a b g h e =
     not_head (wires (pos 32) (pos 8)) (is_among (pos 32) (pos 8) (get_or run g [])) (ap (λ v. cond (wires (pos 32) (pos 8)) (cond v Head (cond (is_among (pos 32) (pos 8) (get_or run g [])) Tail Conductor)) Empty) (sym dark) ∙ sym plane ∙ e)
 
 -- a cell of the drawing is empty or a conductor
-rest_of_row : (row : List ℕ) (x : ℕ) → get_or (map state_of_tag row) x Empty ≡ cond (is_wire (get_or (map state_of_tag row) x Empty)) Conductor Empty
+rest_of_row : (row : List ℕ) (x : ℕ) → get_or (map state_of row) x Empty ≡ cond (is_wire (get_or (map state_of row) x Empty)) Conductor Empty
 rest_of_row [] x = refl
 rest_of_row (c ∷ row) zero = rest_of_tag (c == 67)
   where
@@ -115,18 +109,18 @@ rest_of_row (c ∷ row) zero = rest_of_tag (c == 67)
     rest_of_tag false = refl
 rest_of_row (c ∷ row) (suc x) = rest_of_row row x
 
-rest_of_rows : (text : List (List ℕ)) (x y : ℕ) → get_or (get_or (map (map state_of_tag) text) y []) x Empty ≡ cond (is_wire (get_or (get_or (map (map state_of_tag) text) y []) x Empty)) Conductor Empty
+rest_of_rows : (text : List (List ℕ)) (x y : ℕ) → get_or (get_or (map (map state_of) text) y []) x Empty ≡ cond (is_wire (get_or (get_or (map (map state_of) text) y []) x Empty)) Conductor Empty
 rest_of_rows [] x y = refl
 rest_of_rows (row ∷ text) x zero = rest_of_row row x
 rest_of_rows (row ∷ text) x (suc y) = rest_of_rows text x y
 
-rest_at : (text : List (List ℕ)) (x y : ℤ) → plane_of (map (map state_of_tag) text) x y ≡ picture (wires_of text) [] [] x y
+rest_at : (text : List (List ℕ)) (x y : ℤ) → plane_of (map (map state_of) text) x y ≡ picture (wires_of text) [] [] x y
 rest_at text (pos x) (pos y) = rest_of_rows text x y
 rest_at text (pos x) (negsuc y) = refl
 rest_at text (negsuc x) y = refl
 
 -- the drawing at rest
-pub at_rest : (text : List (List ℕ)) → plane_of (map (map state_of_tag) text) ≡ picture (wires_of text) [] []
+pub at_rest : (text : List (List ℕ)) → plane_of (map (map state_of) text) ≡ picture (wires_of text) [] []
 at_rest text = fun_ext (λ x. fun_ext (λ y. rest_at text x y))
 
 abbrev is_upper : ℤ → ℤ → Bool
@@ -177,23 +171,23 @@ made_head true true o t h = refl
 made_head true false o t h = absurd (true≢false (sym (h refl)))
 made_head false w o t h = refl
 
-wired_entry : (x y : ℤ) → is_among x y entries ≡ true → wires_of or_text x y ≡ true
+wired_entry : (x y : ℤ) → is_among x y entries ≡ true → wires_of OR_DRAWING x y ≡ true
 wired_entry x y e =
     elim (or_cases (is_upper x y) (is_lower x y || false) e) [
-      | inl up ↦ let s = same_place x y (pos 0) (pos 8) up in ap₂ (wires_of or_text) s.0 s.1
-      | inr low ↦ let s = same_place x y (pos 0) (pos 24) (sym (or-false (is_lower x y)) ∙ low) in ap₂ (wires_of or_text) s.0 s.1
+      | inl up ↦ let s = same_place x y (pos 0) (pos 8) up in ap₂ (wires_of OR_DRAWING) s.0 s.1
+      | inr low ↦ let s = same_place x y (pos 0) (pos 24) (sym (or-false (is_lower x y)) ∙ low) in ap₂ (wires_of OR_DRAWING) s.0 s.1
     ]
 
 -- the injections of one generation on the plane that a period ends with
 pub injected_rest : (due : ℤ → ℤ → Bool) (out : Bool) → ((x y : ℤ) → due x y ≡ true → is_among x y entries ≡ true)
-    → injected due (picture (wires_of or_text) (lit_output out) (lit_exit out)) ≡ begun (wires_of or_text) out (due (pos 0) (pos 8)) (due (pos 0) (pos 24))
+    → injected due (picture (wires_of OR_DRAWING) (lit_output out) (lit_exit out)) ≡ begun (wires_of OR_DRAWING) out (due (pos 0) (pos 8)) (due (pos 0) (pos 24))
 injected_rest due out h = fun_ext (λ x. fun_ext (λ y.
     let a = due (pos 0) (pos 8) in
     let b = due (pos 0) (pos 24) in
     let among : (due x y || is_among x y (lit_output out)) ≡ is_among x y (lit_entries a b ++ lit_output out) =
         ap (λ v. v || is_among x y (lit_output out)) (lit_at due x y (h x y)) ∙ sym (among-append (lit_entries a b) (lit_output out) x y) in
-    made_head (due x y) (wires_of or_text x y) (is_among x y (lit_output out)) (is_among x y (lit_exit out)) (λ d. wired_entry x y (h x y d))
-    ∙ ap (λ v. cond (wires_of or_text x y) (cond v Head (cond (is_among x y (lit_exit out)) Tail Conductor)) Empty) among))
+    made_head (due x y) (wires_of OR_DRAWING x y) (is_among x y (lit_output out)) (is_among x y (lit_exit out)) (λ d. wired_entry x y (h x y d))
+    ∙ ap (λ v. cond (wires_of OR_DRAWING x y) (cond v Head (cond (is_among x y (lit_exit out)) Tail Conductor)) Empty) among))
 
 pub injected_none : (due : ℤ → ℤ → Bool) (p : Plane) → ((x y : ℤ) → due x y ≡ false) → injected due p ≡ p
 injected_none due p h = fun_ext (λ x. fun_ext (λ y. ap (λ v. cond v Head (p x y)) (h x y)))

@@ -1,20 +1,27 @@
--- The drawing of the Or gate with its output cell, and what drives it.
-use Rattle.std.specs.Prelude.{ℤ, pos, ℕ, zero, suc, ◌+◌, ◌*◌, ◌%◌, ◌≡◌, Bool, true, false, ◌||◌, ◌==◌, cond, List, [], ◌∷◌, map, codes}
+-- One OR gate: its drawing with the output cell, and what it shows where it is driven.
+use Rattle.std.specs.Prelude.{ℤ, pos, ℕ, zero, suc, ◌+◌, ◌*◌, ◌%◌, ◌≡◌, ◌↔◌, Bool, true, ◌||◌, ◌==◌, if◌then◌else◌, List, [], ◌∷◌, map}
 use Rattle.ww_rule.specs.declared.pattern.State.{State}
-use Rattle.ww_rule.specs.declared.pattern.State.TheVariants.{Empty, Head, Tail, Conductor}
-use Rattle.ww_rule.specs.Wireworld.{Plane, Due}
-<<<<<<< HEAD
-use Rattle.or_gate.specs.Pictures.{Cell, is_among}
-=======
+use Rattle.ww_rule.specs.declared.pattern.State.TheVariants.{Empty, Head, Conductor}
+use Rattle.ww_rule.specs.Wireworld.{Plane, Due, next_plane, driven}
+use Rattle.ww_rule.specs.Grid.{Grid, plane_of}
 use Rattle.tile_core.specs.Drawing.{Cell, is_among}
->>>>>>> e916b004ee46c54313c47cd3d3eea08deee4868d
+use Rattle.or_gate.specs.declared.drawing.TheConstants.{OR_DRAWING}
 
-abbrev pub state_of_tag : ℕ → State
-state_of_tag tag = cond (tag == 67) Conductor Empty
+-- a cell as it is drawn: `C` is a conductor
+abbrev pub state_of : ℕ → State
+state_of byte = if byte == 67 then Conductor else Empty
+
+-- the gate's box of cells, and its plane
+abbrev pub or_grid : Grid
+or_grid = record { width = 33; height = 32; rows = map (map state_of) OR_DRAWING }
+
+abbrev pub gate_plane : Plane
+gate_plane = plane_of or_grid.rows
 
 abbrev pub at : ℕ → ℕ → Cell
 at x y = record { x = pos x; y = pos y }
 
+-- where the inputs enter
 abbrev pub entries : List Cell
 entries = at 0 8 ∷ at 0 24 ∷ []
 
@@ -27,38 +34,13 @@ pub record DrivesEntries (due : Due) : Type 0 where
 abbrev pub is_lit : Due → ℕ → Bool
 is_lit due m = due (32 * m) (pos 0) (pos 8) || due (32 * m) (pos 0) (pos 24)
 
-abbrev pub or_text : List (List ℕ)
-or_text =
-    codes "................................."
-    ∷ codes "................................."
-    ∷ codes "................................."
-    ∷ codes "................................."
-    ∷ codes "................................."
-    ∷ codes "................................."
-    ∷ codes "................................."
-    ∷ codes "................................."
-    ∷ codes "CCCCC..................CCCCCCCCCC"
-    ∷ codes ".....C................C.........."
-    ∷ codes "......C..............C..........."
-    ∷ codes ".......C............C............"
-    ∷ codes "........C..........C............."
-    ∷ codes ".........C.CC.....C.............."
-    ∷ codes "..........CC.C...C..............."
-    ∷ codes "...........CC.C.C................"
-    ∷ codes "...............C................."
-    ∷ codes "...........CC.C.................."
-    ∷ codes "..........CC.C..................."
-    ∷ codes ".........C.CC...................."
-    ∷ codes "........C........................"
-    ∷ codes ".......C........................."
-    ∷ codes "......C.........................."
-    ∷ codes ".....C..........................."
-    ∷ codes "CCCCC..........................C."
-    ∷ codes "................................."
-    ∷ codes "................................."
-    ∷ codes "................................."
-    ∷ codes "................................."
-    ∷ codes "................................."
-    ∷ codes "................................."
-    ∷ codes "................................."
-    ∷ []
+-- the plane of a generation before that generation's injections
+abbrev pub before_injections : Due → ℕ → Plane
+before_injections due zero = gate_plane
+before_injections due (suc g) = next_plane (driven due gate_plane g)
+
+-- each injection meets a conductor, and the output cell is a head exactly 32 generations after each generation at which an entry
+-- was made a head
+pub record ShowsOr : Type 0 where
+  pub conductors : (due : Due) → DrivesEntries due → (g : ℕ) (x y : ℤ) → due g x y ≡ true → before_injections due g x y ≡ Conductor
+  pub heads : (due : Due) → DrivesEntries due → (g : ℕ) → (driven due gate_plane g (pos 32) (pos 8) ≡ Head) ↔ ((t : ℕ) × (g ≡ 32 + 32 * t) × (is_lit due t ≡ true))

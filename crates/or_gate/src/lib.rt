@@ -1,4 +1,15 @@
-//! The plane of one Or gate with its output cell, at every generation.
+//! One OR gate: its drawing with an output cell, and what the plane of this drawing shows at every generation.
 #![tactic(auto)]
 
-pub fn nothing() {}
+mod drawing;
+
+ghost use Rattle.or_gate.specs.OrGate.{ShowsOr};
+
+pub use drawing::{OR_DRAWING, or_pattern};
+
+/// Where heads are injected at the gate's entries alone, at multiples of 32 generations: each injection meets a
+/// conductor, and the output cell is a head exactly 32 generations after each generation at which an entry was made one.
+pub fn shows_or()
+    ensures { ShowsOr }
+{
+}

@@ -1,10 +1,10 @@
 use Rattle.std.proofs.Common.{rules, map, take, ap, ◌∙◌, ◌≡◌, [], subst, sym, take_all}
 use Rattle.std.proofs.lemmas.List.{map_more}
 use Rattle.ww_rule.specs.Grid.{IsGrid}
-use Rattle.blifww_tool.specs.Drawing.{state_of, or_grid}
-use Rattle.blifww_tool.specs.declared.drawing.TheConstants.{OR_DRAWING}
-use Rattle.blifww_tool.proofs.GateDrawing.{or_is_grid}
-use Rattle.blifww_tool.proofs.drawing.or_pattern.Goals as goal
+use Rattle.or_gate.specs.OrGate.{state_of, or_grid}
+use Rattle.or_gate.specs.declared.drawing.TheConstants.{OR_DRAWING}
+use Rattle.or_gate.proofs.GateBox.{or_is_grid}
+use Rattle.or_gate.proofs.drawing.or_pattern.Goals as goal
 
 pub loop-drawn-preserved : goal.loop-drawn-preserved
 loop-drawn-preserved c = rw (map_more (map state_of) OR_DRAWING c.loop-drawn.drawn-index [] (search rules)) (search rules)

@@ -3,7 +3,7 @@ use Rattle.std.proofs.Common.{rules, ◌≡◌, refl, List, length, arith, true,
 use Rattle.std.proofs.lemmas.List.Sums.{AllPass-from_list_all}
 use Rattle.ww_rule.specs.declared.pattern.State.{State}
 use Rattle.ww_rule.specs.Grid.{IsGrid}
-use Rattle.blifww_tool.specs.Drawing.{or_grid}
+use Rattle.or_gate.specs.OrGate.{or_grid}
 
 same_length : (row : List State) → nat_eq (length row) 33 ≡ true → length row ≡ 33
 same_length row e = search rules
