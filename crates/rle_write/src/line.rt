@@ -56,9 +56,10 @@ impl Line {
         self.used = end;
     }
 
-    /// Sends the line with its line end, and begins another.
+    /// Sends the line with its line end, and begins another; where a write fails, the line stays.
     pub fn end<O: Sink>(&mut self, sink: &mut O) -> Result<(), Failed>
         ensures empty { OnOk result (line_text self.new ≡ []) }
+        ensures kept { OnErr result (line_text self.new ≡ line_text self.old) }
         ensures ok { OnOk result ((rest : List ℕ) →
             Wrote (O.written sink.old) (O.written sink.new) (O.faults sink.old) (O.faults sink.new)
             (line_text self.old ++ (10 ∷ rest)) rest) }
