@@ -1,13 +1,13 @@
 -- The driven plane of the gate at every generation.
-use Rattle.std.proofs.Common.{ℤ, pos, ℕ, zero, suc, ◌+◌, ◌-◌, ◌*◌, ◌%◌, ◌/◌, ◌<◌, ◌≤◌, ◌≢◌, ◌≡◌, ◌↔◌, refl, sym, ap, ap₂, ◌∙◌, subst, Bool, true, false, ◌||◌, ◌&&◌, map, arith, int_eq, lit<, inl, inr, add-one}
+use Rattle.std.proofs.Common.{ℤ, pos, ℕ, zero, suc, ◌+◌, ◌*◌, ◌%◌, ◌/◌, ◌<◌, ◌≢◌, ◌≡◌, ◌↔◌, refl, sym, ap, ap₂, ◌∙◌, Bool, true, false, ◌||◌, ◌&&◌, arith, int_eq, lit<, inl, inr}
 use Rattle.std.proofs.lemmas.Bool.{true≢false, or_cases}
 use Rattle.std.proofs.Math.Bool.{or-false}
-use Rattle.ww_rule.specs.declared.pattern.State.TheVariants.{Empty, Head, Tail, Conductor}
+use Rattle.ww_rule.specs.declared.pattern.State.TheVariants.{Head, Conductor}
 use Rattle.ww_rule.specs.Wireworld.{Plane, Due, injected, driven, next_plane, evolve}
-use Rattle.ww_rule.specs.Grid.{plane_of}
 use Rattle.tile_core.specs.Drawing.{is_among, picture}
 use Rattle.tile_timing.proofs.Sound.{same_place}
-use Rattle.or_gate.specs.OrGate.{gate_plane, DrivesEntries, entries, is_lit, before_injections, ShowsOr, state_of}
+use Rattle.tile_library.specs.Laws.{or_meets}
+use Rattle.or_gate.specs.OrGate.{gate_plane, DrivesEntries, entries, is_lit, before_injections, ShowsOr}
 use Rattle.or_gate.specs.declared.drawing.TheConstants.{OR_DRAWING}
 use Rattle.or_gate.proofs.Machine.{wires_of, begun, lit_output, lit_exit, at_32, dark_between, at_rest, injected_rest, injected_none}
 
@@ -71,6 +71,7 @@ output_head due d g = go (g / 32) (g % 32) (omega arith) (omega arith)
   where
     start : (m : ℕ) → g ≡ 32 * m + 0 → driven due gate_plane g (pos 32) (pos 8) ≡ period_start due m (pos 32) (pos 8)
     start m e = let at : g ≡ 32 * m = omega (arith, e) in ap (λ p. p (pos 32) (pos 8)) (ap (driven due gate_plane) at ∙ starts due d m)
+
     go : (m r : ℕ) → g ≡ 32 * m + r → r < 32 → (driven due gate_plane g (pos 32) (pos 8) ≡ Head) ↔ ((t : ℕ) × (g ≡ 32 + 32 * t) × (is_lit due t ≡ true))
     go m (suc r) e h = (
       λ head. absurd (dark_between (out_at due m) (due (32 * m) (pos 0) (pos 8)) (due (32 * m) (pos 0) (pos 24)) r (omega arith) (sym (ap (λ p. p (pos 32) (pos 8)) (ap (driven due gate_plane) e ∙ between due d m (suc r) (starts due d m) h)) ∙ head)),
@@ -97,6 +98,7 @@ conductor_at out x y e =
     upper : (out : Bool) → picture (wires_of OR_DRAWING) (lit_output out) (lit_exit out) (pos 0) (pos 8) ≡ Conductor
     upper true = refl
     upper false = refl
+
     lower : (out : Bool) → picture (wires_of OR_DRAWING) (lit_output out) (lit_exit out) (pos 0) (pos 24) ≡ Conductor
     lower true = refl
     lower false = refl
@@ -111,4 +113,4 @@ meets_conductor due d (suc g) x y e =
     ap (λ n. next_plane (driven due gate_plane n) x y) at ∙ ap (λ p. p x y) (ends due d m (starts due d m)) ∙ conductor_at (is_lit due m) x y (d.at_entries (suc g) x y e)
 
 pub shows_or : ShowsOr
-shows_or = record { conductors = meets_conductor; heads = output_head }
+shows_or = record { is_tile = or_meets; conductors = meets_conductor; heads = output_head }

@@ -1,15 +1,14 @@
 -- One tile and its output cell: a machine of two states (is the output lit?) and four injections.
-use Rattle.std.proofs.Common.{ℤ, pos, negsuc, ℕ, zero, suc, ◌+◌, ◌*◌, ◌%◌, ◌<◌, ◌≤◌, ◌≢◌, ◌≡◌, refl, sym, ap, ap₂, ◌∙◌, subst, Bool, true, false, ◌||◌, ◌&&◌, not, cond, ◌==◌, List, [], ◌∷◌, ◌++◌, map, get_or, take, drop, arith, int_eq, lit<, lit≤, inl, inr}
+use Rattle.std.proofs.Common.{ℤ, pos, negsuc, ℕ, zero, suc, ◌<◌, ◌≢◌, ◌≡◌, refl, sym, ap, ap₂, ◌∙◌, Bool, true, false, ◌||◌, ◌&&◌, not, cond, ◌==◌, List, [], ◌∷◌, ◌++◌, map, get_or, arith, int_eq, lit<, inl, inr}
 use Rattle.std.proofs.lemmas.Bool.{and_parts, or_cases, true≢false, not-true}
 use Rattle.std.proofs.Math.Bool.{or-false, or_assoc}
-use Rattle.std.proofs.lemmas.Grind.{common_steps}
 use Rattle.std.proofs.Math.Path.{fun_ext}
 use Rattle.ww_rule.specs.declared.pattern.State.{State}
 use Rattle.ww_rule.specs.declared.pattern.State.TheVariants.{Empty, Head, Tail, Conductor}
-use Rattle.ww_rule.specs.Wireworld.{Plane, Due, injected, driven, next_plane, evolve}
+use Rattle.ww_rule.specs.Wireworld.{Plane, injected, evolve}
 use Rattle.ww_rule.specs.Grid.{plane_of}
 use Rattle.tile_core.specs.Drawing.{Cell, is_among, picture}
-use Rattle.or_gate.specs.OrGate.{at, entries, DrivesEntries, is_lit, state_of}
+use Rattle.or_gate.specs.OrGate.{at, entries, state_of}
 use Rattle.or_gate.specs.declared.drawing.TheConstants.{OR_DRAWING}
 use Rattle.tile_timing.proofs.Heads.{trace}
 use Rattle.tile_timing.proofs.Sound.{evolve_picture, same_place}
@@ -185,7 +184,7 @@ injected_rest due out h = fun_ext (λ x. fun_ext (λ y.
     let a = due (pos 0) (pos 8) in
     let b = due (pos 0) (pos 24) in
     let among : (due x y || is_among x y (lit_output out)) ≡ is_among x y (lit_entries a b ++ lit_output out) =
-        ap (λ v. v || is_among x y (lit_output out)) (lit_at due x y (h x y)) ∙ sym (among-append (lit_entries a b) (lit_output out) x y) in
+    ap (λ v. v || is_among x y (lit_output out)) (lit_at due x y (h x y)) ∙ sym (among-append (lit_entries a b) (lit_output out) x y) in
     made_head (due x y) (wires_of OR_DRAWING x y) (is_among x y (lit_output out)) (is_among x y (lit_exit out)) (λ d. wired_entry x y (h x y d))
     ∙ ap (λ v. cond (wires_of OR_DRAWING x y) (cond v Head (cond (is_among x y (lit_exit out)) Tail Conductor)) Empty) among))
 

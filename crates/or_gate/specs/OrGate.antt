@@ -1,10 +1,14 @@
 -- One OR gate: its drawing with the output cell, and what it shows where it is driven.
-use Rattle.std.specs.Prelude.{ℤ, pos, ℕ, zero, suc, ◌+◌, ◌*◌, ◌%◌, ◌≡◌, ◌↔◌, Bool, true, ◌||◌, ◌==◌, if◌then◌else◌, List, [], ◌∷◌, map}
+use Rattle.std.specs.Prelude.{ℤ, pos, ℕ, zero, suc, ◌+◌, ◌*◌, ◌%◌, ◌≡◌, ◌↔◌, Bool, true, ◌||◌, ◌==◌, if◌then◌else◌, List, [], ◌∷◌, map, take}
 use Rattle.ww_rule.specs.declared.pattern.State.{State}
 use Rattle.ww_rule.specs.declared.pattern.State.TheVariants.{Empty, Head, Conductor}
 use Rattle.ww_rule.specs.Wireworld.{Plane, Due, next_plane, driven}
 use Rattle.ww_rule.specs.Grid.{Grid, plane_of}
 use Rattle.tile_core.specs.Drawing.{Cell, is_among}
+use Rattle.tile_core.specs.declared.kind.Kind.TheVariants.{Or}
+use Rattle.tile_core.specs.Kinds.{interface}
+use Rattle.tile_core.specs.TimingLaw.{MeetsTimingLaw}
+use Rattle.tile_library.specs.Drawings.{drawn}
 use Rattle.or_gate.specs.declared.drawing.TheConstants.{OR_DRAWING}
 
 -- a cell as it is drawn: `C` is a conductor
@@ -42,5 +46,7 @@ before_injections due (suc g) = next_plane (driven due gate_plane g)
 -- each injection meets a conductor, and the output cell is a head exactly 32 generations after each generation at which an entry
 -- was made a head
 pub record ShowsOr : Type 0 where
+  -- without the column of the output cell it is a tile that keeps the timing law of Or
+  pub is_tile : MeetsTimingLaw (interface Or) (drawn (map (take 32) OR_DRAWING))
   pub conductors : (due : Due) → DrivesEntries due → (g : ℕ) (x y : ℤ) → due g x y ≡ true → before_injections due g x y ≡ Conductor
   pub heads : (due : Due) → DrivesEntries due → (g : ℕ) → (driven due gate_plane g (pos 32) (pos 8) ≡ Head) ↔ ((t : ℕ) × (g ≡ 32 + 32 * t) × (is_lit due t ≡ true))

@@ -80,4 +80,3 @@ pub fn or_pattern(alloc: Global) -> Result<Pattern, AllocError>
         rows: List::of(rows),
     })
 }
-

@@ -11,5 +11,4 @@ pub use drawing::{OR_DRAWING, or_pattern};
 /// conductor, and the output cell is a head exactly 32 generations after each generation at which an entry was made one.
 pub fn shows_or()
     ensures { ShowsOr }
-{
-}
+{}
