@@ -8,7 +8,7 @@ use Rattle.std.proofs.lemmas.Slice.Eq.{bytes_eq-Decides}
 use Rattle.netlist_core.specs.declared.model.Subckt.{Subckt}
 use Rattle.netlist_core.specs.declared.model.Model.{Model}
 use Rattle.blif_text.specs.Drivers.{is_model_named}
-use Rattle.blif_text.specs.Circles.{Places, Leads, LeadsBack, IsOnCircle}
+use Rattle.blif_text.specs.Circles.{HasSubcktOf, Leads, LeadsBack, IsOnCircle}
 
 -- what passes at each element passes at one of them
 pub passes_at : {X : Type 0} (p : X → Bool) (xs : List X) (x : X) → list_all p xs ≡ true → Contains xs x → p x ≡ true
@@ -42,7 +42,7 @@ module _ (models : List Model) (later : all_place_later models ≡ true) where
   line_later : (m : Model) (s : Subckt) → Contains models m → Contains m.subckts s → rank models m.name < rank models s.model
   line_later m s a b = ltb-true _ _ (passes_at (places_later models m) m.subckts s (passes_at (λ (n : Model). list_all (places_later models n) n.subckts) models m later a) b)
 
-  place_later : (a b : List ℕ) → Places models a b → rank models a < rank models b
+  place_later : (a b : List ℕ) → HasSubcktOf models a b → rank models a < rank models b
   place_later a b p = subst (λ n. rank models n < rank models b) p.is_named_so (subst (λ n. rank models p.model.name < rank models n) p.names_other (line_later p.model p.subckt p.is_model p.is_line))
 
   lead_later : (a : List ℕ) (names : List (List ℕ)) (end : List ℕ) → Leads models a names end → rank models a < rank models end
@@ -89,7 +89,7 @@ are_late models first m = list_all (is_late models first m) m.subckts
 abbrev pub all_late : ℕ → List Model → Bool
 all_late first models = list_all (are_late models first) models
 
-placed : (models : List Model) (a b : List ℕ) → Places models a b → is_placed models b ≡ true
+placed : (models : List Model) (a b : List ℕ) → HasSubcktOf models a b → is_placed models b ≡ true
 placed models a b p = passes_somewhere (λ (m : Model). list_any (names b) m.subckts) models p.model p.is_model
     (passes_somewhere (names b) p.model.subckts p.subckt p.is_line ((bytes_eq-Decides p.subckt.model b).1 p.names_other))
 
@@ -108,7 +108,7 @@ both false b e f = e
 placing_in : (models : List Model) (m : Model) (s : Subckt) → Contains models m → Contains m.subckts s → list_any (is_placing m.name) models ≡ true
 placing_in models m s a b = passes_somewhere (is_placing m.name) models m a (both (bytes_eq m.name m.name) (list_any has_any m.subckts) ((bytes_eq-Decides m.name m.name).1 refl) (passes_somewhere has_any m.subckts s b refl))
 
-placing : (models : List Model) (a b : List ℕ) → Places models a b → list_any (is_placing a) models ≡ true
+placing : (models : List Model) (a b : List ℕ) → HasSubcktOf models a b → list_any (is_placing a) models ≡ true
 placing models a b p = subst (λ n. list_any (is_placing n) models ≡ true) p.is_named_so (placing_in models p.model p.subckt p.is_model p.is_line)
 
 placing_first : (models : List Model) (a : List ℕ) (others : List (List ℕ)) (end : List ℕ) → Leads models a others end → list_any (is_placing a) models ≡ true

@@ -9,7 +9,7 @@ use Rattle.netlist_core.specs.declared.model.Model.{Model}
 use Rattle.blif_text.specs.declared.fault.Fault.{Fault}
 use Rattle.blif_text.specs.declared.fault.FaultKind.TheVariants.{Recursive}
 use Rattle.blif_text.specs.LineFaults.{fault_at}
-use Rattle.blif_text.specs.Circles.{Places, Leads, LeadsBack, IsOnCircle, IsCircleFault}
+use Rattle.blif_text.specs.Circles.{HasSubcktOf, Leads, LeadsBack, IsOnCircle, IsCircleFault}
 use Rattle.blif_text.proofs.CircleLemmas.{names, passes_somewhere}
 use Rattle.blif_text.proofs.Members.{In, in_from, contains_from, in_left, in_right, in_map, in_mapped, in_flat, in_flattened, is_in, Distinct, distinct_from, is_distinct}
 
@@ -54,7 +54,7 @@ abbrev pub reach : List Model → List (List ℕ) → List ℕ → List ℕ → 
 reach models [] a b = list_any (places_as a b) models
 reach models (v ∷ vs) a b = reach models vs a b || (reach models vs a v && reach models vs v b)
 
-places_if : (models : List Model) (a b : List ℕ) → list_any (places_as a b) models ≡ true → Places models a b
+places_if : (models : List Model) (a b : List ℕ) → list_any (places_as a b) models ≡ true → HasSubcktOf models a b
 places_if models a b e =
     let r : (m : Model) × In m models × (places_as a b m ≡ true) = found_in (places_as a b) models e in
     let s : (s : Subckt) × In s r.0.subckts × (names b s ≡ true) = found_in (names b) r.0.subckts (right (bytes_eq r.0.name a) (list_any (names b) r.0.subckts) r.2) in
@@ -67,7 +67,7 @@ places_if models a b e =
       names_other = (bytes_eq-Decides s.0.model b).0 s.2;
     }
 
-if_places : (models : List Model) (a b : List ℕ) → Places models a b → list_any (places_as a b) models ≡ true
+if_places : (models : List Model) (a b : List ℕ) → HasSubcktOf models a b → list_any (places_as a b) models ≡ true
 if_places models a b p = passes_somewhere (places_as a b) models p.model p.is_model
     (both (bytes_eq p.model.name a) (list_any (names b) p.model.subckts) ((bytes_eq-Decides p.model.name a).1 p.is_named_so) (passes_somewhere (names b) p.model.subckts p.subckt p.is_line ((bytes_eq-Decides p.subckt.model b).1 p.names_other)))
 
@@ -134,10 +134,10 @@ tail_of models x xs end a w (inl e) = (xs, subst (λ u. IsSimpleWay models u xs 
 tail_of models x [] end a w (inr i) = absurd i
 tail_of models x (y ∷ ys) end a w (inr i) = tail_of models y ys end a (record { leads = w.leads.1; distinct = (λ j. w.distinct.0 (inr j), w.distinct.1.1) }) i
 
-last_step : (models : List Model) (a end : List ℕ) → a ≢ end → Places models a end → IsSimpleWay models a [] end
+last_step : (models : List Model) (a end : List ℕ) → a ≢ end → HasSubcktOf models a end → IsSimpleWay models a [] end
 last_step models a end n p = record { leads = p; distinct = (λ i. elim i as (λ _. ⊥) [ inl e ↦ n (sym e) | inr j ↦ j ], (λ i. i, tt)) }
 
-longer : (models : List Model) (a next : List ℕ) (xs : List (List ℕ)) (end : List ℕ) → a ≢ end → Places models a next → IsSimpleWay models next xs end → ¬ (In a (next ∷ xs)) → IsSimpleWay models a (next ∷ xs) end
+longer : (models : List Model) (a next : List ℕ) (xs : List (List ℕ)) (end : List ℕ) → a ≢ end → HasSubcktOf models a next → IsSimpleWay models next xs end → ¬ (In a (next ∷ xs)) → IsSimpleWay models a (next ∷ xs) end
 longer models a next xs end n p w new = record {
   leads = (p, w.leads);
   distinct = (λ i. elim i as (λ _. ⊥) [ inl e ↦ n (sym e) | inr j ↦ w.distinct.0 j ], (new, w.distinct.1));
@@ -152,7 +152,7 @@ simple_way models a (next ∷ xs) end n p = by (bytes_eq next end) refl (λ m. s
     join ys w (inr new) = (next ∷ ys, longer models a next ys end n p.0 w new)
 
     by : (b : Bool) → bytes_eq next end ≡ b → (next ≢ end → (ys : List (List ℕ)) × IsSimpleWay models next ys end) → (ys : List (List ℕ)) × IsSimpleWay models a ys end
-    by true h again = ([], last_step models a end n (subst (λ u. Places models a u) ((bytes_eq-Decides next end).0 h) p.0))
+    by true h again = ([], last_step models a end n (subst (λ u. HasSubcktOf models a u) ((bytes_eq-Decides next end).0 h) p.0))
     by false h again =
         let r : (ys : List (List ℕ)) × IsSimpleWay models next ys end = again (λ e. let t : bytes_eq next end ≡ true = (bytes_eq-Decides next end).1 e in cc) in
         join r.0 r.1 (is_in a (next ∷ r.0))
@@ -164,7 +164,7 @@ name_of m = m.name
 abbrev pub all_names : List Model → List (List ℕ)
 all_names models = map name_of models
 
-placing_named : (models : List Model) (a b : List ℕ) → Places models a b → In a (all_names models)
+placing_named : (models : List Model) (a b : List ℕ) → HasSubcktOf models a b → In a (all_names models)
 placing_named models a b p = subst (λ u. In u (all_names models)) p.is_named_so (in_map name_of models p.model (in_from models p.model p.is_model))
 
 leading_named : (models : List Model) (a : List ℕ) (xs : List (List ℕ)) (end : List ℕ) → Leads models a xs end → (x : List ℕ) → In x (a ∷ xs) → In x (all_names models)

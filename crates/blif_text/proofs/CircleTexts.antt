@@ -8,7 +8,7 @@ use Rattle.blif_text.specs.declared.fault.FaultKind.TheVariants.{Recursive}
 use Rattle.blif_text.specs.LogicalLines.{logical_lines}
 use Rattle.blif_text.specs.Models.{models_of}
 use Rattle.blif_text.specs.LineFaults.{line_fault}
-use Rattle.blif_text.specs.Circles.{Places, LeadsBack, IsOnCircle}
+use Rattle.blif_text.specs.Circles.{HasSubcktOf, LeadsBack, IsOnCircle}
 use Rattle.blif_text.specs.ModelFaults.{model_fault}
 use Rattle.blif_text.specs.Faults.HasFault.{of_models}
 use Rattle.blif_text.specs.Instances.{Breaks, CircleInstances, deep_model, subckt}
@@ -27,7 +27,7 @@ circle_by : (text : List ℕ) (names : List (List ℕ)) (line : ℕ) → line_fa
 circle_by text names line a b c late = of_models (record { no_fault = a; are_models = refl }) (inr (b, record { kind = refl; names = names; circle = c; word = refl; is_earliest = no_earlier_circle (models_of (logical_lines text)) line late }))
 
 -- the step from a model to the one that its subckt line names
-step : (models : List Model) (k l : ℕ) (m : Model) (s : Subckt) → k < length models → get_or models k m ≡ m → l < length m.subckts → get_or m.subckts l s ≡ s → Places models m.name s.model
+step : (models : List Model) (k l : ℕ) (m : Model) (s : Subckt) → k < length models → get_or models k m ≡ m → l < length m.subckts → get_or m.subckts l s ≡ s → HasSubcktOf models m.name s.model
 step models k l m s a b c d = record { model = m; is_model = (k, a, b); is_named_so = refl; subckt = s; is_line = (l, c, d); names_other = refl }
 
 -- the circle of a subckt line

@@ -74,6 +74,8 @@ model_fault_instances = record {
   output_twice = of_models (record { no_fault = refl; are_models = refl }) (inl refl);
   input_and_output = of_models (record { no_fault = refl; are_models = refl }) (inl refl);
   output_and_clock = of_models (record { no_fault = refl; are_models = refl }) (inl refl);
+  doubled_both_ways = of_models (record { no_fault = refl; are_models = refl }) (inl refl);
+  output_before_double = of_models (record { no_fault = refl; are_models = refl }) (inl refl);
   second_model = of_models (record { no_fault = refl; are_models = refl }) (inl refl);
   driven_input = of_models (record { no_fault = refl; are_models = refl }) (inl refl);
   input_driven_before = of_models (record { no_fault = refl; are_models = refl }) (inl refl);

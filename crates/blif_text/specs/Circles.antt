@@ -7,7 +7,7 @@ use Rattle.blif_text.specs.declared.fault.Fault.{Fault}
 use Rattle.blif_text.specs.declared.fault.FaultKind.TheVariants.{Recursive}
 
 -- a model of this name has a subckt line that names the other
-pub record Places (models : List Model) (name other : List ℕ) : Type 0 where
+pub record HasSubcktOf (models : List Model) (name other : List ℕ) : Type 0 where
   pub model : Model
   pub is_model : Contains models model
   pub is_named_so : model.name ≡ name
@@ -17,8 +17,8 @@ pub record Places (models : List Model) (name other : List ℕ) : Type 0 where
 
 -- each name places the next, and the last places the one at the end
 abbrev pub Leads : List Model → List ℕ → List (List ℕ) → List ℕ → Type 0
-Leads models name [] end = Places models name end
-Leads models name (next ∷ names) end = Places models name next × Leads models next names end
+Leads models name [] end = HasSubcktOf models name end
+Leads models name (next ∷ names) end = HasSubcktOf models name next × Leads models next names end
 
 -- the names lead on from the model that a subckt line names, back to the model in which the line stands
 abbrev pub LeadsBack : List Model → List ℕ → List (List ℕ) → List ℕ → Type 0

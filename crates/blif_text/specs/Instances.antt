@@ -199,6 +199,8 @@ pub record ModelFaultInstances : Type 0 where
   pub output_twice : Breaks (codes ".model m\n.outputs y y\n") DuplicatePort 2 (codes "y")
   pub input_and_output : Breaks (codes ".model m\n.inputs a\n.outputs a\n") DuplicatePort 3 (codes "a")
   pub output_and_clock : Breaks (codes ".model m\n.outputs c\n.clock c\n.inputs c\n") DuplicatePort 3 (codes "c")
+  pub doubled_both_ways : Breaks (codes ".model m\n.outputs d\n.clock a d a\n") DuplicatePort 3 (codes "d")
+  pub output_before_double : Breaks (codes ".model m\n.outputs b\n.inputs b a a\n") DuplicatePort 3 (codes "b")
   pub second_model : Breaks (codes ".model m\n.outputs y\n.model n\n.inputs a a\n") DuplicatePort 4 (codes "a")
   pub driven_input : Breaks (codes ".model m\n.inputs a\n.names a\n1\n") MultipleDrivers 3 (codes "a")
   pub input_driven_before : Breaks (codes ".model m\n.names a\n1\n.inputs a\n") MultipleDrivers 4 (codes "a")
