@@ -63,8 +63,32 @@ three : IsOnCircle three_models 3 (codes "a" ∷ codes "b" ∷ codes "c" ∷ [])
 unfolding IsDistinct
 three = from three_models 0 1 (bare 1 (codes "a") (places_on 2 (codes "d") ∷ places_on 3 (codes "b") ∷ [])) (places_on 3 (codes "b")) (codes "b" ∷ codes "c" ∷ []) (lit< tt) refl (lit< tt) refl (refl, (step three_models 1 0 (bare 4 (codes "b") (places_on 5 (codes "c") ∷ [])) (places_on 5 (codes "c")) (lit< tt) refl (lit< tt) refl, step three_models 2 0 (bare 6 (codes "c") (places_on 7 (codes "a") ∷ [])) (places_on 7 (codes "a")) (lit< tt) refl (lit< tt) refl)) ((refl, (refl, tt)), ((refl, tt), (tt, tt)))
 
+abbrev pub unreached_models : List Model
+unreached_models = (bare 1 (codes "m") []) ∷ (bare 2 (codes "a") ((places_on 3 (codes "a")) ∷ [])) ∷ []
+
+unreached : IsOnCircle unreached_models 3 ((codes "a") ∷ [])
+unfolding IsDistinct
+unreached = from unreached_models 1 0 (bare 2 (codes "a") ((places_on 3 (codes "a")) ∷ [])) (places_on 3 (codes "a")) ([]) (lit< tt) refl (lit< tt) refl refl (tt, tt)
+
+abbrev pub short_way_models : List Model
+short_way_models = (bare 1 (codes "a") ((places_on 2 (codes "b")) ∷ [])) ∷ (bare 3 (codes "b") ((places_on 4 (codes "a")) ∷ (places_on 5 (codes "c")) ∷ [])) ∷ (bare 6 (codes "c") ((places_on 7 (codes "a")) ∷ [])) ∷ []
+
+short_way : IsOnCircle short_way_models 2 ((codes "a") ∷ (codes "b") ∷ [])
+unfolding IsDistinct
+short_way = from short_way_models 0 0 (bare 1 (codes "a") ((places_on 2 (codes "b")) ∷ [])) (places_on 2 (codes "b")) ((codes "b") ∷ []) (lit< tt) refl (lit< tt) refl (refl, step short_way_models 1 0 (bare 3 (codes "b") ((places_on 4 (codes "a")) ∷ (places_on 5 (codes "c")) ∷ [])) (places_on 4 (codes "a")) (lit< tt) refl (lit< tt) refl) ((refl, tt), (tt, tt))
+
+abbrev pub long_way_models : List Model
+long_way_models = (bare 1 (codes "a") ((places_on 2 (codes "b")) ∷ [])) ∷ (bare 3 (codes "b") ((places_on 4 (codes "a")) ∷ (places_on 5 (codes "c")) ∷ [])) ∷ (bare 6 (codes "c") ((places_on 7 (codes "a")) ∷ [])) ∷ []
+
+long_way : IsOnCircle long_way_models 2 ((codes "a") ∷ (codes "b") ∷ (codes "c") ∷ [])
+unfolding IsDistinct
+long_way = from long_way_models 0 0 (bare 1 (codes "a") ((places_on 2 (codes "b")) ∷ [])) (places_on 2 (codes "b")) ((codes "b") ∷ (codes "c") ∷ []) (lit< tt) refl (lit< tt) refl (refl, (step long_way_models 1 1 (bare 3 (codes "b") ((places_on 4 (codes "a")) ∷ (places_on 5 (codes "c")) ∷ [])) (places_on 5 (codes "c")) (lit< tt) refl (lit< tt) refl, step long_way_models 2 0 (bare 6 (codes "c") ((places_on 7 (codes "a")) ∷ [])) (places_on 7 (codes "a")) (lit< tt) refl (lit< tt) refl)) ((refl, (refl, tt)), ((refl, tt), (tt, tt)))
+
 pub circle_instances : CircleInstances
 circle_instances = record {
+  circle_beside_the_main_model = circle_by (codes ".model m\n.model a\n.subckt a\n") ((codes "a") ∷ []) 3 refl refl unreached refl;
+  on_two_circles = circle_by (codes ".model a\n.subckt b\n.model b\n.subckt a\n.subckt c\n.model c\n.subckt a\n") ((codes "a") ∷ (codes "b") ∷ []) 2 refl refl short_way refl;
+  on_the_other_circle = circle_by (codes ".model a\n.subckt b\n.model b\n.subckt a\n.subckt c\n.model c\n.subckt a\n") ((codes "a") ∷ (codes "b") ∷ (codes "c") ∷ []) 2 refl refl long_way refl;
   places_itself = circle_by (codes ".model m\n.subckt m\n") (codes "m" ∷ []) 2 refl refl itself refl;
   places_each_other = circle_by (codes ".model a\n.subckt b\n.model b\n.subckt a\n") (codes "a" ∷ codes "b" ∷ []) 2 refl refl each_other refl;
   leads_to_circle = circle_by (codes ".model a\n.subckt b\n.end\n.model b\n.subckt b\n") (codes "b" ∷ []) 5 refl refl below refl;
