@@ -10,4 +10,5 @@ pub mod LineNumbers
 pub mod Members
 pub mod OneFault
 pub mod OrGateLemmas
+pub mod Sublists
 pub mod Texts

@@ -86,7 +86,7 @@ on_line line p = at_line line p.name
 abbrev pub missing_pin : List Model → Subckt → List Port
 missing_pin models s = map (on_line s.line) (option_to_list (option_map_or (λ (placed : Model). earliest (unpinned_inputs s placed)) (model_named models s.model) None))
 
--- the words at which a model breaks this rule, with their lines; those of one line stand in its order
+-- the words at which a model breaks this rule, with their lines; those of one line stand in its order, since each list of a model does
 abbrev pub words_at_fault : FaultKind → List Model → Model → List Port
 words_at_fault DuplicatePort models m = duplicate_ports m
 words_at_fault MultipleDrivers models m = second_drivers models m
