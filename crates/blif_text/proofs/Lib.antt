@@ -1,3 +1,4 @@
+pub mod Annotations
 pub mod CircleLemmas
 pub mod CircleSearch
 pub mod CircleTexts

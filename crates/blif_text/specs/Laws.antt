@@ -1,5 +1,5 @@
 -- Laws of the definitions: what the first fault is, that there is at most one, and that a text is a design or has a fault by a rule on lines or models.
-use Rattle.std.specs.Prelude.{◌≡◌, ◌≢◌, ℕ, ◌<◌, ◌⊎◌, ◌↔◌, List, [], ◌∷◌, ◌++◌, reverse, length, get_or, ◌-◌, map, bytes_eq, Contains, flat_map, ◌+◌, true, false, ⊤, ◌≤◌, Some, None}
+use Rattle.std.specs.Prelude.{Bool, ◌≡◌, ◌≢◌, ℕ, ◌<◌, ◌⊎◌, ◌↔◌, List, [], ◌∷◌, ◌++◌, reverse, length, get_or, ◌-◌, map, bytes_eq, Contains, flat_map, ◌+◌, true, false, ⊤, ◌≤◌, Some, None}
 use Rattle.std.specs.List.{AllByRecursion, list_any, list_all, IsDistinct}
 use Rattle.std.specs.Str.Lines.{lines}
 use Rattle.netlist_core.specs.declared.model.Port.{Port}
@@ -13,8 +13,8 @@ use Rattle.blif_text.specs.declared.fault.FaultKind.{FaultKind}
 use Rattle.blif_text.specs.declared.fault.FaultKind.TheVariants.{Recursive}
 use Rattle.blif_text.specs.FaultNames.{number_of}
 use Rattle.blif_text.specs.LogicalLines.{logical_lines, physical_lines, is_newline, is_hash, is_blank, words_of, JoinedLine, joined_line, joined_lines, without_comment, before_backslash}
-use Rattle.blif_text.specs.Models.{models_of, begins_model}
-use Rattle.blif_text.specs.LineFaults.{word_at_fault, line_fault}
+use Rattle.blif_text.specs.Models.{models_of, begins_model, is_row, first_word}
+use Rattle.blif_text.specs.LineFaults.{word_at_fault, line_fault, is_annotation}
 use Rattle.blif_text.specs.Drivers.{at_line, drivers_of, readings_of, repeats}
 use Rattle.blif_text.specs.Circles.{Leads}
 use Rattle.blif_text.specs.ModelFaults.{model_fault, words_at_fault, AreFaultless, HasModelFault, duplicate_ports, second_drivers, undriven_readings, unknown_formals, formals_of}
@@ -163,3 +163,11 @@ pub record WordsKeepOrder : Type 0 where
   pub readings : (models : List Model) (m : Model) → IsSublist (undriven_readings models m) (readings_of models m)
   pub formals : (models : List Model) (s : Subckt) → IsSublist (unknown_formals models s) (formals_of s)
   pub formals_twice : (s : Subckt) → IsSublist (repeats (formals_of s)) (formals_of s)
+
+-- Annotations give nothing: before another directive, or at the end, one may be left out.
+abbrev pub begins_with_row : List Logical → Bool
+begins_with_row [] = false
+begins_with_row (l ∷ lines) = is_row l
+
+abbrev pub AnnotationsGiveNothing : Type 0
+AnnotationsGiveNothing = (before : List Logical) (line : Logical) (after : List Logical) → is_row line ≡ false → is_annotation (first_word line) ≡ true → begins_with_row after ≡ false → models_of (before ++ line ∷ after) ≡ models_of (before ++ after)

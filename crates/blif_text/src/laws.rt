@@ -1,5 +1,5 @@
 // Laws of the definitions.
-ghost use Rattle.blif_text.specs.Laws.{DesignOrFault, FaultlessOrFault, FormalsAreDistinct, LineFaultIsFirst, LinesAreJoined, LinesAreKnown, LinesHaveWords, ModelFaultIsFirst, ModelsAreCut, ModelsAreDistinct, NeverBoth, NoLineFault, NoModelFault, NoModelIsInItself, NoModelNoLine, NumbersAreBounded, OneDesign, OneFault, WordsAreRuns, WordsKeepOrder};
+ghost use Rattle.blif_text.specs.Laws.{AnnotationsGiveNothing, DesignOrFault, FaultlessOrFault, FormalsAreDistinct, LineFaultIsFirst, LinesAreJoined, LinesAreKnown, LinesHaveWords, ModelFaultIsFirst, ModelsAreCut, ModelsAreDistinct, NeverBoth, NoLineFault, NoModelFault, NoModelIsInItself, NoModelNoLine, NumbersAreBounded, OneDesign, OneFault, WordsAreRuns, WordsKeepOrder};
 
 /// The physical lines of a text are those of Rust's `lines`.
 pub fn lines_are_known()
@@ -32,6 +32,11 @@ pub fn numbers_are_bounded()
 /// one line stand as on the line.
 pub fn words_keep_order()
     ensures { WordsKeepOrder }
+{}
+
+/// An annotation gives a model nothing: where no row follows it, it may be left out.
+pub fn annotations_give_nothing()
+    ensures { AnnotationsGiveNothing }
 {}
 
 /// Lines are cut before each `.model`.
