@@ -7,8 +7,9 @@ use Rattle.std.proofs.lemmas.List.Sums.{AllPass-from_list_all}
 use Rattle.std.proofs.lemmas.Slice.Eq.{bytes_eq-Decides}
 use Rattle.netlist_core.specs.declared.model.Subckt.{Subckt}
 use Rattle.netlist_core.specs.declared.model.Model.{Model}
+use Rattle.blif_text.proofs.Members.{leaves, circle_model}
 use Rattle.blif_text.specs.Drivers.{is_model_named}
-use Rattle.blif_text.specs.Circles.{Places, Leads, LeadsBack, IsOnCircle}
+use Rattle.blif_text.specs.Circles.{HasSubcktOf, Leads, LeadsBack, IsOnCircle}
 
 -- what passes at each element passes at one of them
 pub passes_at : {X : Type 0} (p : X → Bool) (xs : List X) (x : X) → list_all p xs ≡ true → Contains xs x → p x ≡ true
@@ -42,8 +43,8 @@ module _ (models : List Model) (later : all_place_later models ≡ true) where
   line_later : (m : Model) (s : Subckt) → Contains models m → Contains m.subckts s → rank models m.name < rank models s.model
   line_later m s a b = ltb-true _ _ (passes_at (places_later models m) m.subckts s (passes_at (λ (n : Model). list_all (places_later models n) n.subckts) models m later a) b)
 
-  place_later : (a b : List ℕ) → Places models a b → rank models a < rank models b
-  place_later a b p = subst (λ n. rank models n < rank models b) p.is_named_so (subst (λ n. rank models p.model.name < rank models n) p.names_other (line_later p.model p.subckt p.is_model p.is_line))
+  place_later : (a b : List ℕ) → HasSubcktOf models a b → rank models a < rank models b
+  place_later a b p = subst (λ n. rank models n < rank models b) (leaves models a b p).1 (subst (λ n. rank models p.model.name < rank models n) p.names_other (line_later p.model p.subckt (leaves models a b p).0 p.is_line))
 
   lead_later : (a : List ℕ) (names : List (List ℕ)) (end : List ℕ) → Leads models a names end → rank models a < rank models end
   lead_later a [] end p = place_later a end p
@@ -61,7 +62,7 @@ module _ (models : List Model) (later : all_place_later models ≡ true) where
   -- then no line lies on a circle
   pub no_circle : (line : ℕ) (names : List (List ℕ)) → ¬ (IsOnCircle models line names)
   no_circle line names c =
-      let up : rank models c.model.name < rank models c.subckt.model = line_later c.model c.subckt c.is_model c.is_subckt in
+      let up : rank models c.model.name < rank models c.subckt.model = line_later c.model c.subckt (circle_model models line names c) c.is_subckt in
       let down : rank models c.subckt.model ≤ rank models c.model.name = lead_back_later c.subckt.model c.others c.model.name c.leads_back in
       absurd (omega arith)
 
@@ -89,8 +90,8 @@ are_late models first m = list_all (is_late models first m) m.subckts
 abbrev pub all_late : ℕ → List Model → Bool
 all_late first models = list_all (are_late models first) models
 
-placed : (models : List Model) (a b : List ℕ) → Places models a b → is_placed models b ≡ true
-placed models a b p = passes_somewhere (λ (m : Model). list_any (names b) m.subckts) models p.model p.is_model
+placed : (models : List Model) (a b : List ℕ) → HasSubcktOf models a b → is_placed models b ≡ true
+placed models a b p = passes_somewhere (λ (m : Model). list_any (names b) m.subckts) models p.model (leaves models a b p).0
     (passes_somewhere (names b) p.model.subckts p.subckt p.is_line ((bytes_eq-Decides p.subckt.model b).1 p.names_other))
 
 placed_at_end : (models : List Model) (a : List ℕ) (others : List (List ℕ)) (end : List ℕ) → Leads models a others end → is_placed models end ≡ true
@@ -108,8 +109,8 @@ both false b e f = e
 placing_in : (models : List Model) (m : Model) (s : Subckt) → Contains models m → Contains m.subckts s → list_any (is_placing m.name) models ≡ true
 placing_in models m s a b = passes_somewhere (is_placing m.name) models m a (both (bytes_eq m.name m.name) (list_any has_any m.subckts) ((bytes_eq-Decides m.name m.name).1 refl) (passes_somewhere has_any m.subckts s b refl))
 
-placing : (models : List Model) (a b : List ℕ) → Places models a b → list_any (is_placing a) models ≡ true
-placing models a b p = subst (λ n. list_any (is_placing n) models ≡ true) p.is_named_so (placing_in models p.model p.subckt p.is_model p.is_line)
+placing : (models : List Model) (a b : List ℕ) → HasSubcktOf models a b → list_any (is_placing a) models ≡ true
+placing models a b p = subst (λ n. list_any (is_placing n) models ≡ true) (leaves models a b p).1 (placing_in models p.model p.subckt (leaves models a b p).0 p.is_line)
 
 placing_first : (models : List Model) (a : List ℕ) (others : List (List ℕ)) (end : List ℕ) → Leads models a others end → list_any (is_placing a) models ≡ true
 placing_first models a [] end p = placing models a end p
@@ -126,9 +127,9 @@ second_holds false b e h = absurd (true≢false (sym e))
 -- then a line on a circle has this number at least
 pub no_earlier_circle : (models : List Model) (first : ℕ) → all_late first models ≡ true → (line : ℕ) (others : List (List ℕ)) → IsOnCircle models line others → first ≤ line
 no_earlier_circle models first late line others c =
-    let is_named : is_placed models c.subckt.model ≡ true = passes_somewhere (λ (m : Model). list_any (names c.subckt.model) m.subckts) models c.model c.is_model
+    let is_named : is_placed models c.subckt.model ≡ true = passes_somewhere (λ (m : Model). list_any (names c.subckt.model) m.subckts) models c.model (circle_model models line others c)
     (passes_somewhere (names c.subckt.model) c.model.subckts c.subckt c.is_subckt ((bytes_eq-Decides c.subckt.model c.subckt.model).1 refl)) in
     let here : is_placed models c.model.name ≡ true = placed_by models c.subckt.model c.others c.model.name is_named c.leads_back in
-    let there : list_any (is_placing c.subckt.model) models ≡ true = placing_by models c.subckt.model c.others c.model.name (placing_in models c.model c.subckt c.is_model c.is_subckt) c.leads_back in
-    let at_line : is_late models first c.model c.subckt ≡ true = passes_at (is_late models first c.model) c.model.subckts c.subckt (passes_at (are_late models first) models c.model late c.is_model) c.is_subckt in
+    let there : list_any (is_placing c.subckt.model) models ≡ true = placing_by models c.subckt.model c.others c.model.name (placing_in models c.model c.subckt (circle_model models line others c) c.is_subckt) c.leads_back in
+    let at_line : is_late models first c.model c.subckt ≡ true = passes_at (is_late models first c.model) c.model.subckts c.subckt (passes_at (are_late models first) models c.model late (circle_model models line others c)) c.is_subckt in
     subst (λ n. first ≤ n) c.at_the_line (leb-true _ _ (second_holds (is_placed models c.model.name && list_any (is_placing c.subckt.model) models) (nat_le first c.subckt.line) (both _ _ here there) at_line))

@@ -1,6 +1,7 @@
 -- Models either have an earliest subckt line on a circle, or no circle.
 use Rattle.std.proofs.Common.{◌≡◌, ◌≢◌, refl, sym, ap, subst, ◌∙◌, ℕ, ◌<◌, ◌≤◌, ◌⊎◌, inl, inr, List, [], ◌∷◌, ◌++◌, map, Bool, true, false, ◌&&◌, ◌||◌, true≢false, arith}
-use Rattle.std.specs.Prelude.{bytes_eq, flat_map, nat_le}
+use Rattle.std.specs.Prelude.{Some, None, Option, filter_map, bytes_eq, flat_map, nat_le}
+use Rattle.std.specs.Option.{option_map_or}
 use Rattle.std.specs.List.{list_any, join_with_byte}
 use Rattle.std.proofs.lemmas.Bool.{leb-true, leb-false}
 use Rattle.std.proofs.lemmas.Slice.Eq.{bytes_eq-Decides}
@@ -9,9 +10,10 @@ use Rattle.netlist_core.specs.declared.model.Model.{Model}
 use Rattle.blif_text.specs.declared.fault.Fault.{Fault}
 use Rattle.blif_text.specs.declared.fault.FaultKind.TheVariants.{Recursive}
 use Rattle.blif_text.specs.LineFaults.{fault_at}
-use Rattle.blif_text.specs.Circles.{Places, Leads, LeadsBack, IsOnCircle, IsCircleFault}
+use Rattle.blif_text.specs.Drivers.{model_named}
+use Rattle.blif_text.specs.Circles.{HasSubcktOf, Leads, LeadsBack, IsOnCircle, IsCircleFault}
 use Rattle.blif_text.proofs.CircleLemmas.{names, passes_somewhere}
-use Rattle.blif_text.proofs.Members.{In, in_from, contains_from, in_left, in_right, in_map, in_mapped, in_flat, in_flattened, is_in, Distinct, distinct_from, is_distinct}
+use Rattle.blif_text.proofs.Members.{leaves, circle_model, model_of_name, in_filtered, filtered_in, In, in_from, contains_from, in_left, in_right, in_map, in_mapped, in_flat, in_flattened, is_in, Distinct, distinct_from, is_distinct}
 
 -- a test that an element passes
 found_in : {X : Type 0} (p : X → Bool) (xs : List X) → list_any p xs ≡ true → (x : X) × In x xs × (p x ≡ true)
@@ -46,30 +48,28 @@ or_right : (a b : Bool) → b ≡ true → (a || b) ≡ true
 or_right true b e = refl
 or_right false b e = e
 
--- whether a model places another, and whether it leads to it by way of these names
-abbrev pub places_as : List ℕ → List ℕ → Model → Bool
-places_as a b m = bytes_eq m.name a && list_any (names b) m.subckts
+-- whether the model of a name places another, and whether it leads to it by way of these names
+abbrev pub has_line_of : List ℕ → Model → Bool
+has_line_of b m = list_any (names b) m.subckts
+
+abbrev pub places_now : List Model → List ℕ → List ℕ → Bool
+places_now models a b = option_map_or (has_line_of b) (model_named models a) false
 
 abbrev pub reach : List Model → List (List ℕ) → List ℕ → List ℕ → Bool
-reach models [] a b = list_any (places_as a b) models
+reach models [] a b = places_now models a b
 reach models (v ∷ vs) a b = reach models vs a b || (reach models vs a v && reach models vs v b)
 
-places_if : (models : List Model) (a b : List ℕ) → list_any (places_as a b) models ≡ true → Places models a b
-places_if models a b e =
-    let r : (m : Model) × In m models × (places_as a b m ≡ true) = found_in (places_as a b) models e in
-    let s : (s : Subckt) × In s r.0.subckts × (names b s ≡ true) = found_in (names b) r.0.subckts (right (bytes_eq r.0.name a) (list_any (names b) r.0.subckts) r.2) in
-    record {
-      model = r.0;
-      is_model = contains_from models r.0 r.1;
-      is_named_so = (bytes_eq-Decides r.0.name a).0 (left (bytes_eq r.0.name a) (list_any (names b) r.0.subckts) r.2);
-      subckt = s.0;
-      is_line = contains_from r.0.subckts s.0 s.1;
-      names_other = (bytes_eq-Decides s.0.model b).0 s.2;
-    }
+places_if : (models : List Model) (a b : List ℕ) → places_now models a b ≡ true → HasSubcktOf models a b
+places_if models a b e = by (model_named models a) refl e
+  where
+    by : (o : Option Model) → model_named models a ≡ o → option_map_or (has_line_of b) o false ≡ true → HasSubcktOf models a b
+    by None h d = absurd (true≢false (sym d))
+    by (Some m) h d =
+        let s : (s : Subckt) × In s m.subckts × (names b s ≡ true) = found_in (names b) m.subckts d in
+        record { model = m; is_model = h; subckt = s.0; is_line = contains_from m.subckts s.0 s.1; names_other = (bytes_eq-Decides s.0.model b).0 s.2 }
 
-if_places : (models : List Model) (a b : List ℕ) → Places models a b → list_any (places_as a b) models ≡ true
-if_places models a b p = passes_somewhere (places_as a b) models p.model p.is_model
-    (both (bytes_eq p.model.name a) (list_any (names b) p.model.subckts) ((bytes_eq-Decides p.model.name a).1 p.is_named_so) (passes_somewhere (names b) p.model.subckts p.subckt p.is_line ((bytes_eq-Decides p.subckt.model b).1 p.names_other)))
+if_places : (models : List Model) (a b : List ℕ) → HasSubcktOf models a b → places_now models a b ≡ true
+if_places models a b p = ap (λ o. option_map_or (has_line_of b) o false) p.is_model ∙ passes_somewhere (names b) p.model.subckts p.subckt p.is_line ((bytes_eq-Decides p.subckt.model b).1 p.names_other)
 
 leads_on : (models : List Model) (a : List ℕ) (xs : List (List ℕ)) (v : List ℕ) (ys : List (List ℕ)) (b : List ℕ) → Leads models a xs v → Leads models v ys b → Leads models a (xs ++ v ∷ ys) b
 leads_on models a [] v ys b p q = (p, q)
@@ -134,10 +134,10 @@ tail_of models x xs end a w (inl e) = (xs, subst (λ u. IsSimpleWay models u xs 
 tail_of models x [] end a w (inr i) = absurd i
 tail_of models x (y ∷ ys) end a w (inr i) = tail_of models y ys end a (record { leads = w.leads.1; distinct = (λ j. w.distinct.0 (inr j), w.distinct.1.1) }) i
 
-last_step : (models : List Model) (a end : List ℕ) → a ≢ end → Places models a end → IsSimpleWay models a [] end
+last_step : (models : List Model) (a end : List ℕ) → a ≢ end → HasSubcktOf models a end → IsSimpleWay models a [] end
 last_step models a end n p = record { leads = p; distinct = (λ i. elim i as (λ _. ⊥) [ inl e ↦ n (sym e) | inr j ↦ j ], (λ i. i, tt)) }
 
-longer : (models : List Model) (a next : List ℕ) (xs : List (List ℕ)) (end : List ℕ) → a ≢ end → Places models a next → IsSimpleWay models next xs end → ¬ (In a (next ∷ xs)) → IsSimpleWay models a (next ∷ xs) end
+longer : (models : List Model) (a next : List ℕ) (xs : List (List ℕ)) (end : List ℕ) → a ≢ end → HasSubcktOf models a next → IsSimpleWay models next xs end → ¬ (In a (next ∷ xs)) → IsSimpleWay models a (next ∷ xs) end
 longer models a next xs end n p w new = record {
   leads = (p, w.leads);
   distinct = (λ i. elim i as (λ _. ⊥) [ inl e ↦ n (sym e) | inr j ↦ w.distinct.0 j ], (new, w.distinct.1));
@@ -152,7 +152,7 @@ simple_way models a (next ∷ xs) end n p = by (bytes_eq next end) refl (λ m. s
     join ys w (inr new) = (next ∷ ys, longer models a next ys end n p.0 w new)
 
     by : (b : Bool) → bytes_eq next end ≡ b → (next ≢ end → (ys : List (List ℕ)) × IsSimpleWay models next ys end) → (ys : List (List ℕ)) × IsSimpleWay models a ys end
-    by true h again = ([], last_step models a end n (subst (λ u. Places models a u) ((bytes_eq-Decides next end).0 h) p.0))
+    by true h again = ([], last_step models a end n (subst (λ u. HasSubcktOf models a u) ((bytes_eq-Decides next end).0 h) p.0))
     by false h again =
         let r : (ys : List (List ℕ)) × IsSimpleWay models next ys end = again (λ e. let t : bytes_eq next end ≡ true = (bytes_eq-Decides next end).1 e in cc) in
         join r.0 r.1 (is_in a (next ∷ r.0))
@@ -164,8 +164,8 @@ name_of m = m.name
 abbrev pub all_names : List Model → List (List ℕ)
 all_names models = map name_of models
 
-placing_named : (models : List Model) (a b : List ℕ) → Places models a b → In a (all_names models)
-placing_named models a b p = subst (λ u. In u (all_names models)) p.is_named_so (in_map name_of models p.model (in_from models p.model p.is_model))
+placing_named : (models : List Model) (a b : List ℕ) → HasSubcktOf models a b → In a (all_names models)
+placing_named models a b p = subst (λ u. In u (all_names models)) (leaves models a b p).1 (in_map name_of models p.model (in_from models p.model (leaves models a b p).0))
 
 leading_named : (models : List Model) (a : List ℕ) (xs : List (List ℕ)) (end : List ℕ) → Leads models a xs end → (x : List ℕ) → In x (a ∷ xs) → In x (all_names models)
 leading_named models a [] end p x (inl e) = subst (λ u. In u (all_names models)) (sym e) (placing_named models a end p)
@@ -177,7 +177,7 @@ leading_named models a (y ∷ ys) end p x (inr i) = leading_named models y ys en
 abbrev pub is_on_circle : List Model → (Model × Subckt) → Bool
 is_on_circle models p = bytes_eq p.1.model p.0.name || reach models (all_names models) p.1.model p.0.name
 
-on_circle : (models : List Model) (p : Model × Subckt) → In p.0 models → In p.1 p.0.subckts → is_on_circle models p ≡ true → (names : List (List ℕ)) × IsOnCircle models p.1.line names
+on_circle : (models : List Model) (p : Model × Subckt) → model_named models p.0.name ≡ Some p.0 → In p.1 p.0.subckts → is_on_circle models p ≡ true → (names : List (List ℕ)) × IsOnCircle models p.1.line names
 on_circle models p i j e = by (bytes_eq p.1.model p.0.name) refl e
   where
     circle : (others : List (List ℕ)) → LeadsBack models p.1.model others p.0.name → Distinct (p.0.name ∷ others) → (names : List (List ℕ)) × IsOnCircle models p.1.line names
@@ -185,7 +185,7 @@ on_circle models p i j e = by (bytes_eq p.1.model p.0.name) refl e
       p.0.name ∷ others,
       record {
         model = p.0;
-        is_model = contains_from models p.0 i;
+        is_model = i;
         subckt = p.1;
         is_subckt = contains_from p.0.subckts p.1 j;
         at_the_line = refl;
@@ -213,8 +213,11 @@ on_circle_reaches models s (x ∷ xs) end p d = or_right (bytes_eq s.model end) 
 abbrev pub lines_in : Model → List (Model × Subckt)
 lines_in m = map (λ (s : Subckt). let p : Model × Subckt = (m, s) in p) m.subckts
 
+abbrev pub own : List Model → Model → Option Model
+own models m = model_named models m.name
+
 abbrev pub all_subckts : List Model → List (Model × Subckt)
-all_subckts models = flat_map lines_in models
+all_subckts models = flat_map lines_in (filter_map (own models) models)
 
 compared : (m n : ℕ) → (m ≤ n) ⊎ (n ≤ m)
 compared m n = by (nat_le m n) refl
@@ -240,18 +243,20 @@ first_of_those {X} test number (z ∷ zs) = by (test z) refl (first_of_those tes
 -- a subckt line on a circle is one of all, and passes the test
 passes : (models : List Model) (line : ℕ) (names : List (List ℕ)) → IsOnCircle models line names → (p : Model × Subckt) × In p (all_subckts models) × (is_on_circle models p ≡ true) × (p.1.line ≡ line)
 passes models line names c =
-    let i : In c.model models = in_from models c.model c.is_model in
+    let i : In c.model (filter_map (own models) models) = filtered_in (own models) models c.model c.model (in_from models c.model (circle_model models line names c)) c.is_model in
     let j : In c.subckt c.model.subckts = in_from c.model.subckts c.subckt c.is_subckt in
     let d : Distinct (c.model.name ∷ c.others) = subst (λ u. Distinct u) c.begins (distinct_from names c.is_simple) in
     let p : Model × Subckt = (c.model, c.subckt) in
-    (p, in_flat lines_in models c.model p i (in_map (λ (s : Subckt). let q : Model × Subckt = (c.model, s) in q) c.model.subckts c.subckt j), on_circle_reaches models c.subckt c.others c.model.name c.leads_back d.1, c.at_the_line)
+    (p, in_flat lines_in (filter_map (own models) models) c.model p i (in_map (λ (s : Subckt). let q : Model × Subckt = (c.model, s) in q) c.model.subckts c.subckt j), on_circle_reaches models c.subckt c.others c.model.name c.leads_back d.1, c.at_the_line)
 
--- where a pair stands among all, its model and line stand in their lists
-stands : (models : List Model) (p : Model × Subckt) → In p (all_subckts models) → In p.0 models × In p.1 p.0.subckts
+-- where a pair stands among all, its model is the one of its name, and its line is one of that
+stands : (models : List Model) (p : Model × Subckt) → In p (all_subckts models) → (model_named models p.0.name ≡ Some p.0) × In p.1 p.0.subckts
 stands models p i =
-    let r : (m : Model) × In m models × In p (lines_in m) = in_flattened lines_in models p i in
+    let r : (m : Model) × In m (filter_map (own models) models) × In p (lines_in m) = in_flattened lines_in (filter_map (own models) models) p i in
+    let f : (m : Model) × In m models × (own models m ≡ Some r.0) = in_filtered (own models) models r.0 r.1 in
+    let n : model_named models r.0.name ≡ Some r.0 = subst (λ v. model_named models v ≡ Some r.0) (sym (model_of_name models f.0.name r.0 f.2).1) f.2 in
     let s : (s : Subckt) × In s r.0.subckts × (p ≡ (let q : Model × Subckt = (r.0, s) in q)) = in_mapped (λ (s : Subckt). let q : Model × Subckt = (r.0, s) in q) r.0.subckts p r.2 in
-    subst (λ (q : Model × Subckt). In q.0 models × In q.1 q.0.subckts) (sym s.2) (r.1, s.1)
+    subst (λ (q : Model × Subckt). (model_named models q.0.name ≡ Some q.0) × In q.1 q.0.subckts) (sym s.2) (n, s.1)
 
 -- models have a fault by the rule on circles, or no circle
 pub circle_or_none : (models : List Model) → ((f : Fault) × IsCircleFault models f) ⊎ ((line : ℕ) (names : List (List ℕ)) → ¬ (IsOnCircle models line names))
@@ -260,7 +265,7 @@ circle_or_none models = by (first_of_those (is_on_circle models) (λ p. p.1.line
     by : ((p : Model × Subckt) → In p (all_subckts models) → is_on_circle models p ≡ false) ⊎ ((p : Model × Subckt) × In p (all_subckts models) × (is_on_circle models p ≡ true) × ((q : Model × Subckt) → In q (all_subckts models) → is_on_circle models q ≡ true → p.1.line ≤ q.1.line)) → ((f : Fault) × IsCircleFault models f) ⊎ ((line : ℕ) (names : List (List ℕ)) → ¬ (IsOnCircle models line names))
     by (inl none) = inr (λ line names c. let r = passes models line names c in let f : is_on_circle models r.0 ≡ false = none r.0 r.1 in let t : is_on_circle models r.0 ≡ true = r.2 in absurd (true≢false (sym t ∙ f)))
     by (inr p) =
-        let w : In p.0.0 models × In p.0.1 p.0.0.subckts = stands models p.0 p.1 in
+        let w : (model_named models p.0.0.name ≡ Some p.0.0) × In p.0.1 p.0.0.subckts = stands models p.0 p.1 in
         let c : (names : List (List ℕ)) × IsOnCircle models p.0.1.line names = on_circle models p.0 w.0 w.1 p.2 in
         inl (
           fault_at Recursive p.0.1.line (join_with_byte 32 c.0),

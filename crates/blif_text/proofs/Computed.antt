@@ -12,6 +12,14 @@ use Rattle.blif_text.specs.Faults.HasFault.{of_no_line, of_line, of_models}
 
 pub line_instances : LineInstances
 line_instances = record {
+  two_returns = refl;
+  return_within = refl;
+  hash_within = refl;
+  two_backslashes = refl;
+  only_backslash = refl;
+  only_hash = refl;
+  other_blanks = refl;
+  lone_return = refl;
   comment = refl;
   continued = refl;
   comment_after_backslash = refl;
@@ -25,6 +33,21 @@ line_instances = record {
 
 pub line_fault_instances : LineFaultInstances
 line_fault_instances = record {
+  end_before_model = of_line refl;
+  row_before_model = of_line refl;
+  annotation_before_model = of_line refl;
+  capital_directive = of_line refl;
+  bare_default = of_line refl;
+  default_dash = of_line refl;
+  active_high_of_none = of_line refl;
+  latch_of_three_words = of_line refl;
+  latch_alone = of_line refl;
+  other_type_of_none = of_line refl;
+  constant_of_two_words = of_line refl;
+  output_of_two_digits = of_line refl;
+  pin_before_model_of_it = of_line refl;
+  row_after_end = of_line refl;
+  annotation_after_end = of_line refl;
   no_text = of_no_line refl;
   only_comments = of_no_line refl;
   before_model = of_line refl;
@@ -68,12 +91,21 @@ line_fault_instances = record {
 
 pub model_fault_instances : ModelFaultInstances
 model_fault_instances = record {
+  lowest_before_earliest = of_models (record { no_fault = refl; are_models = refl }) (inl refl);
+  later_model_lower_rule = of_models (record { no_fault = refl; are_models = refl }) (inl refl);
+  drivers_of_one_line = of_models (record { no_fault = refl; are_models = refl }) (inl refl);
+  formals_of_one_line = of_models (record { no_fault = refl; are_models = refl }) (inl refl);
+  missing_in_text_order = of_models (record { no_fault = refl; are_models = refl }) (inl refl);
+  unknown_pin_is_read = of_models (record { no_fault = refl; are_models = refl }) (inl refl);
+  no_model_before_circle = of_models (record { no_fault = refl; are_models = refl }) (inl refl);
   input_twice = of_models (record { no_fault = refl; are_models = refl }) (inl refl);
   input_twice_on_a_line = of_models (record { no_fault = refl; are_models = refl }) (inl refl);
   clock_twice = of_models (record { no_fault = refl; are_models = refl }) (inl refl);
   output_twice = of_models (record { no_fault = refl; are_models = refl }) (inl refl);
   input_and_output = of_models (record { no_fault = refl; are_models = refl }) (inl refl);
   output_and_clock = of_models (record { no_fault = refl; are_models = refl }) (inl refl);
+  doubled_both_ways = of_models (record { no_fault = refl; are_models = refl }) (inl refl);
+  output_before_double = of_models (record { no_fault = refl; are_models = refl }) (inl refl);
   second_model = of_models (record { no_fault = refl; are_models = refl }) (inl refl);
   driven_input = of_models (record { no_fault = refl; are_models = refl }) (inl refl);
   input_driven_before = of_models (record { no_fault = refl; are_models = refl }) (inl refl);

@@ -16,11 +16,11 @@ use Rattle.blif_text.specs.declared.fault.FaultKind.TheVariants.{DuplicateModel,
 use Rattle.blif_text.specs.LogicalLines.{logical_lines}
 use Rattle.blif_text.specs.Models.{first_operand, begins_model, model_at, models_of}
 use Rattle.blif_text.specs.LineFaults.{word_at_fault, first_broken, fault_after, line_rules, names_same_model}
-use Rattle.blif_text.specs.Drivers.{at_line, stands_earlier, same_name_up_to, repeats_after, repeats}
+use Rattle.blif_text.specs.Drivers.{at_line, stands_earlier, same_name_up_to, repeats_after, repeats, model_named}
 use Rattle.blif_text.specs.ModelFaults.{words_at_fault, formals_of, model_fault, AreFaultless}
-use Rattle.blif_text.specs.Circles.{Places, LeadsBack, IsOnCircle}
+use Rattle.blif_text.specs.Circles.{HasSubcktOf, LeadsBack, IsOnCircle}
 use Rattle.blif_text.specs.Laws.{all_words_at_fault, ModelsAreDistinct, FormalsAreDistinct, NoModelIsInItself}
-use Rattle.blif_text.proofs.Members.{In, in_from, Distinct, is_distinct}
+use Rattle.blif_text.proofs.Members.{leaves, In, in_from, Distinct, is_distinct}
 use Rattle.blif_text.proofs.FirstFaults.{breaks_none}
 use Rattle.blif_text.proofs.FirstModelFaults.{no_model_fault}
 use Rattle.blif_text.proofs.CircleSearch.{simple_way, IsSimpleWay}
@@ -161,17 +161,17 @@ formals_are_distinct models a m s i j =
     is_distinct (map formal_of s.pins) (formals_new s.line [] s.pins in_line).0
 
 -- a first step, and a way back from there, make a circle
-circle : (models : List Model) (name next : List ℕ) (p : Places models name next) (others : List (List ℕ)) → LeadsBack models next others name → Distinct (name ∷ others) → IsOnCircle models p.subckt.line (p.model.name ∷ others)
+circle : (models : List Model) (name next : List ℕ) (p : HasSubcktOf models name next) (others : List (List ℕ)) → LeadsBack models next others name → Distinct (name ∷ others) → IsOnCircle models p.subckt.line (p.model.name ∷ others)
 circle models name next p others back d = record {
   model = p.model;
-  is_model = p.is_model;
+  is_model = subst (λ v. model_named models v ≡ Some p.model) (sym (leaves models name next p).1) p.is_model;
   subckt = p.subckt;
   is_subckt = p.is_line;
   at_the_line = refl;
   others = others;
   begins = refl;
-  leads_back = subst (λ v. LeadsBack models p.subckt.model others v) (sym p.is_named_so) (subst (λ v. LeadsBack models v others name) (sym p.names_other) back);
-  is_simple = is_distinct (p.model.name ∷ others) (subst (λ v. Distinct (v ∷ others)) (sym p.is_named_so) d);
+  leads_back = subst (λ v. LeadsBack models p.subckt.model others v) (sym (leaves models name next p).1) (subst (λ v. LeadsBack models v others name) (sym p.names_other) back);
+  is_simple = is_distinct (p.model.name ∷ others) (subst (λ v. Distinct (v ∷ others)) (sym (leaves models name next p).1) d);
 }
 
 pub no_model_is_in_itself : NoModelIsInItself

@@ -1,3 +1,4 @@
+pub mod Annotations
 pub mod CircleLemmas
 pub mod CircleSearch
 pub mod CircleTexts
@@ -10,4 +11,5 @@ pub mod LineNumbers
 pub mod Members
 pub mod OneFault
 pub mod OrGateLemmas
+pub mod Sublists
 pub mod Texts

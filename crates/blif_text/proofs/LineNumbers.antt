@@ -1,10 +1,10 @@
 -- Logical lines have words without blanks, and their numbers rise.
-use Rattle.std.proofs.Common.{◌≡◌, ◌≢◌, refl, ap, ◌∙◌, ℕ, ◌+◌, ◌≤◌, List, [], ◌∷◌, Bool, true, false, ◌||◌, arith}
+use Rattle.std.proofs.Common.{length, suc, ◌≡◌, ◌≢◌, refl, ap, ◌∙◌, ℕ, ◌+◌, ◌≤◌, List, [], ◌∷◌, Bool, true, false, ◌||◌, arith}
 use Rattle.std.specs.Prelude.{Some, None, Option, filter_map, ⊤}
 use Rattle.std.specs.List.{AllByRecursion, list_any, cons_option}
 use Rattle.blif_text.specs.declared.logical.Logical.{Logical}
 use Rattle.blif_text.specs.LogicalLines.{cut_or_kept, parts_between, physical_lines, is_blank, non_empty, words_of, with_words, logical_line, JoinedLine, joined_to, continued_by, joined_lines, without_comment, before_backslash}
-use Rattle.blif_text.specs.Laws.{HasWords, Rises, LinesHaveWords}
+use Rattle.blif_text.specs.Laws.{HasWords, Rises, LinesHaveWords, NumbersAreBounded}
 
 -- no part has a byte that passes the test
 plain_cut : (p : ℕ → Bool) (b : ℕ) (c : Bool) (parts : List (List ℕ)) → p b ≡ c → AllByRecursion (λ (w : List ℕ). list_any p w ≡ false) parts → AllByRecursion (λ (w : List ℕ). list_any p w ≡ false) (cut_or_kept c b parts)
@@ -59,3 +59,34 @@ lines_rise n (j ∷ js) r =
 
 pub lines_have_words : LinesHaveWords
 lines_have_words text = lines_rise 1 (joined_lines 1 (physical_lines text)) (rising 1 (physical_lines text))
+
+-- no number is past that of the last physical line
+bounded_to : (n last : ℕ) (front : List ℕ) (later : List JoinedLine) → n ≤ last → AllByRecursion (λ (j : JoinedLine). j.line ≤ last) later → AllByRecursion (λ (j : JoinedLine). j.line ≤ last) (joined_to n front later)
+bounded_to n last front [] h a = (h, tt)
+bounded_to n last front (next ∷ later) h a = (h, a.1)
+
+bounded_by : (n last : ℕ) (bytes : List ℕ) (o : Option (List ℕ)) (later : List JoinedLine) → n ≤ last → AllByRecursion (λ (j : JoinedLine). j.line ≤ last) later → AllByRecursion (λ (j : JoinedLine). j.line ≤ last) (continued_by n bytes o later)
+bounded_by n last bytes None later h a = (h, a)
+bounded_by n last bytes (Some front) later h a = bounded_to n last front later h a
+
+bounded : (n last : ℕ) (lines : List (List ℕ)) → n + length lines ≤ last + 1 → AllByRecursion (λ (j : JoinedLine). j.line ≤ last) (joined_lines n lines)
+bounded n last [] h = tt
+bounded n last (line ∷ lines) h =
+    bounded_by n last (without_comment line) (before_backslash (without_comment line)) (joined_lines (n + 1) lines) (first n (length lines) last h) (bounded (n + 1) last lines (second n (length lines) last h))
+  where
+    first : (a k b : ℕ) → a + suc k ≤ b + 1 → a ≤ b
+    first a k b g = omega arith
+
+    second : (a k b : ℕ) → a + suc k ≤ b + 1 → a + 1 + k ≤ b + 1
+    second a k b g = omega arith
+
+bounded_words : (last line : ℕ) (words : List (List ℕ)) (rest : List Logical) → line ≤ last → AllByRecursion (λ (l : Logical). l.line ≤ last) rest → AllByRecursion (λ (l : Logical). l.line ≤ last) (cons_option (with_words line words) rest)
+bounded_words last line [] rest h a = a
+bounded_words last line (w ∷ ws) rest h a = (h, a)
+
+bounded_lines : (last : ℕ) (js : List JoinedLine) → AllByRecursion (λ (j : JoinedLine). j.line ≤ last) js → AllByRecursion (λ (l : Logical). l.line ≤ last) (filter_map logical_line js)
+bounded_lines last [] a = tt
+bounded_lines last (j ∷ js) a = bounded_words last j.line (words_of j.bytes) (filter_map logical_line js) a.0 (bounded_lines last js a.1)
+
+pub numbers_are_bounded : NumbersAreBounded
+numbers_are_bounded text = bounded_lines (length (physical_lines text)) (joined_lines 1 (physical_lines text)) (bounded 1 (length (physical_lines text)) (physical_lines text) (omega arith))

@@ -1,8 +1,11 @@
 -- Membership in lists, by cases.
-use Rattle.std.proofs.Common.{◌≡◌, refl, sym, ap, subst, ℕ, zero, suc, ◌<◌, ◌⊎◌, inl, inr, List, [], ◌∷◌, ◌++◌, map, length, get_or, Bool, true, false, arith}
-use Rattle.std.specs.Prelude.{Contains, bytes_eq, flat_map}
-use Rattle.std.specs.List.{AllByRecursion, IsDistinct}
+use Rattle.std.proofs.Common.{cond, ◌∙◌, ◌≡◌, refl, sym, ap, subst, ℕ, zero, suc, ◌<◌, ◌⊎◌, inl, inr, List, [], ◌∷◌, ◌++◌, map, length, get_or, Bool, true, false, arith}
+use Rattle.std.specs.Prelude.{Contains, bytes_eq, flat_map, filter_map, Option, Some, None}
+use Rattle.std.specs.List.{cons_option, AllByRecursion, IsDistinct}
 use Rattle.std.proofs.lemmas.Slice.Eq.{bytes_eq-Decides}
+use Rattle.netlist_core.specs.declared.model.Model.{Model}
+use Rattle.blif_text.specs.Drivers.{model_named}
+use Rattle.blif_text.specs.Circles.{HasSubcktOf, IsOnCircle}
 
 abbrev pub In : {X : Type 0} → X → List X → Type 0
 In x [] = ⊥
@@ -94,3 +97,38 @@ pub is_distinct : (xs : List (List ℕ)) → Distinct xs → IsDistinct bytes_eq
 unfolding IsDistinct
 is_distinct [] d = tt
 is_distinct (x ∷ xs) d = (differs x xs d.0, is_distinct xs d.1)
+
+-- the model of a name is one of the models, and has the name
+pub model_of_name : (models : List Model) (name : List ℕ) (m : Model) → model_named models name ≡ Some m → In m models × (m.name ≡ name)
+model_of_name [] name m e = absurd (cc)
+model_of_name (x ∷ xs) name m e = by (bytes_eq x.name name) refl e (λ h. model_of_name xs name m h)
+  where
+    by : (b : Bool) → bytes_eq x.name name ≡ b → cond b (Some x) (model_named xs name) ≡ Some m → (model_named xs name ≡ Some m → In m xs × (m.name ≡ name)) → In m (x ∷ xs) × (m.name ≡ name)
+    by true h d again = let same : x ≡ m = cc in (inl (sym same), subst (λ u. u.name ≡ name) same ((bytes_eq-Decides x.name name).0 h))
+    by false h d again = let r : In m xs × (m.name ≡ name) = again d in (inr r.0, r.1)
+
+-- the model that a step leaves from
+pub leaves : (models : List Model) (name other : List ℕ) (p : HasSubcktOf models name other) → Contains models p.model × (p.model.name ≡ name)
+leaves models name other p = let r : In p.model models × (p.model.name ≡ name) = model_of_name models name p.model p.is_model in (contains_from models p.model r.0, r.1)
+
+pub circle_model : (models : List Model) (line : ℕ) (names : List (List ℕ)) (c : IsOnCircle models line names) → Contains models c.model
+circle_model models line names c = contains_from models c.model (model_of_name models c.model.name c.model c.is_model).0
+
+-- what comes of a part of the items
+pub in_filtered : {X Y : Type 0} (f : X → Option Y) (xs : List X) (y : Y) → In y (filter_map f xs) → (x : X) × In x xs × (f x ≡ Some y)
+in_filtered f [] y i = absurd i
+in_filtered f (x ∷ xs) y i = by (f x) refl i (λ j. in_filtered f xs y j)
+  where
+    by : (o : Option _) → f x ≡ o → In y (cons_option o (filter_map f xs)) → (In y (filter_map f xs) → (z : _) × In z xs × (f z ≡ Some y)) → (z : _) × In z (x ∷ xs) × (f z ≡ Some y)
+    by None h j again = let r = again j in (r.0, inr r.1, r.2)
+    by (Some w) h (inl e) again = (x, inl refl, h ∙ ap Some (sym e))
+    by (Some w) h (inr j) again = let r = again j in (r.0, inr r.1, r.2)
+
+pub filtered_in : {X Y : Type 0} (f : X → Option Y) (xs : List X) (x : X) (y : Y) → In x xs → f x ≡ Some y → In y (filter_map f xs)
+filtered_in f [] x y i e = absurd i
+filtered_in f (z ∷ zs) x y (inl same) e = subst (λ o. In y (cons_option o (filter_map f zs))) (sym (ap f (sym same) ∙ e)) (inl refl)
+filtered_in f (z ∷ zs) x y (inr i) e = by (f z) (filtered_in f zs x y i e)
+  where
+    by : (o : Option _) → In y (filter_map f zs) → In y (cons_option o (filter_map f zs))
+    by None j = j
+    by (Some w) j = inr j

@@ -1,12 +1,14 @@
 -- The lines and words of texts that are joined of parts.
-use Rattle.std.proofs.Common.{◌≡◌, ◌≢◌, refl, ap, ◌∙◌, ℕ, suc, ◌+◌, ◌<◌, List, [], ◌∷◌, ◌++◌, length, Bool, true, false, ◌||◌, arith, true≢false, take, get_or, cond, not, zero, ◌-◌, ◌&&◌}
-use Rattle.std.specs.Prelude.{None, filter_map, ◌==◌, if◌then◌else◌}
+use Rattle.std.proofs.Common.{sym, append_assoc, length-append, ◌≡◌, ◌≢◌, refl, ap, ◌∙◌, ℕ, suc, ◌+◌, ◌<◌, List, [], ◌∷◌, ◌++◌, length, Bool, true, false, ◌||◌, arith, true≢false, take, get_or, cond, not, zero, ◌-◌, ◌&&◌}
+use Rattle.std.specs.Prelude.{option_map, Option, Some, None, filter_map, ◌==◌, if◌then◌else◌}
 use Rattle.std.specs.List.{list_any, onto_first, list_all, before_first, cons_option, slice_split}
 use Rattle.std.specs.Str.Lines.{lines_of_parts, strip_carriage_return}
+use Rattle.std.proofs.lemmas.Bool.{eqb-true}
+use Rattle.std.proofs.Math.Seq.{take-append_seam}
 use Rattle.std.proofs.lemmas.List.Sums.{take_while-cons}
 use Rattle.blif_text.specs.declared.logical.Logical.{Logical}
-use Rattle.blif_text.specs.Laws.{LinesAreKnown, WordsAreRuns}
-use Rattle.blif_text.specs.LogicalLines.{cut_or_kept, parts_between, is_newline, physical_lines, is_blank, words_of, joined_lines, JoinedLine, without_comment, before_backslash, is_hash, found_or_later, continued_by, non_empty, logical_line, with_words}
+use Rattle.blif_text.specs.Laws.{LinesAreJoined, LinesAreKnown, WordsAreRuns}
+use Rattle.blif_text.specs.LogicalLines.{cut_or_kept, parts_between, is_newline, physical_lines, is_blank, words_of, joined_lines, JoinedLine, without_comment, before_backslash, is_hash, found_or_later, continued_by, joined_to, non_empty, logical_line, with_words}
 
 -- the parts of a list in which nothing passes the test before the place where it is cut
 or_left : (a b : Bool) → (a || b) ≡ false → a ≡ false
@@ -158,4 +160,117 @@ words_are_runs = record {
   at_the_end = λ word n e. words-whole word (has_byte word n) e;
   after_blank = λ blank rest h. ap (filter_map non_empty) (parts-cut is_blank [] blank rest refl h);
   of_nothing = refl;
+}
+
+-- the last byte of a list that ends with it, and what stands before
+seam : (front : List ℕ) (b : ℕ) → length (front ++ b ∷ []) - 1 ≡ length front
+seam front b = simp length-append (omega arith)
+
+at_seam : (front : List ℕ) (b : ℕ) → get_or (front ++ b ∷ []) (length front) 0 ≡ b
+at_seam [] b = refl
+at_seam (x ∷ xs) b = at_seam xs b
+
+strip_return : (b : Bool) (w front : List ℕ) (n : ℕ) → b ≡ true → take n w ≡ front → (if b then take n w else w) ≡ front
+strip_return true w front n e h = h
+strip_return false w front n e h = absurd (true≢false (sym e))
+
+return_stripped : (front : List ℕ) → strip_carriage_return (front ++ 13 ∷ []) ≡ front
+return_stripped front =
+    let w : List ℕ = front ++ 13 ∷ [] in
+    let byte : get_or w (length w - 1) 0 ≡ 13 = ap (λ n. get_or w n 0) (seam front 13) ∙ at_seam front 13 in
+    let rest : take (length w - 1) w ≡ front = ap (λ n. take n w) (seam front 13) ∙ take-append_seam front (13 ∷ []) in
+    strip_return (get_or w (length w - 1) 0 == 13) w front (length w - 1) (ap (λ b. b == 13) byte) rest
+
+cut_line : (w rest : List ℕ) → list_any is_newline w ≡ false → physical_lines (w ++ 10 ∷ rest) ≡ strip_carriage_return w ∷ physical_lines rest
+cut_line w rest e = let s = some_part is_newline rest in ap lines_of_parts (parts-cut is_newline w 10 rest e refl) ∙ lines_more w (parts_between is_newline rest) s.0 s.1 s.2
+
+apart_from : (b c : ℕ) → b ≢ c → (b == c) ≡ false
+apart_from b c n = by (b == c) refl
+  where
+    by : (d : Bool) → (b == c) ≡ d → d ≡ false
+    by true h = absurd (n (eqb-true b c h))
+    by false h = refl
+
+before_return : (line rest : List ℕ) → list_any is_newline line ≡ false → physical_lines (line ++ 13 ∷ 10 ∷ rest) ≡ line ∷ physical_lines rest
+before_return line rest e =
+    ap physical_lines (sym (append_assoc line (13 ∷ []) (10 ∷ rest)))
+    ∙ cut_line (line ++ 13 ∷ []) rest (none-append is_newline line (13 ∷ []) e refl)
+    ∙ ap (λ v. v ∷ physical_lines rest) (return_stripped line)
+
+line_kept : (c : Bool) (x : List ℕ) → c ≡ false → (if c then [] else x ∷ []) ≡ x ∷ []
+line_kept true x e = absurd (true≢false e)
+line_kept false x e = refl
+
+last_line : (line : List ℕ) → line ≢ [] → list_any is_newline line ≡ false → physical_lines line ≡ line ∷ []
+last_line [] n e = absurd (n refl)
+last_line (b ∷ bs) n e = ap lines_of_parts (parts-whole is_newline (b ∷ bs) e) ∙ line_kept (length (b ∷ bs) == 0) (b ∷ bs) (apart_from (length (b ∷ bs)) 0 (λ h. absurd (omega arith)))
+
+none_passes : (b : Bool) (x : ℕ) (w : List ℕ) → b ≡ true → cond (not b) (x ∷ w) [] ≡ []
+none_passes true x w e = refl
+none_passes false x w e = absurd (true≢false (sym e))
+
+pub before_first-cut : (p : ℕ → Bool) (front : List ℕ) (b : ℕ) (rest : List ℕ) → list_any p front ≡ false → p b ≡ true → before_first p (front ++ b ∷ rest) ≡ front
+before_first-cut p [] b rest e h = take_while-cons (λ c. not (p c)) b rest ∙ none_passes (p b) b (before_first p rest) h
+before_first-cut p (x ∷ w) b rest e h =
+    take_while-cons (λ c. not (p c)) x (w ++ b ∷ rest)
+    ∙ ap (λ v. cond (not (p x)) (x ∷ v) []) (before_first-cut p w b rest (or_right (p x) (list_any p w) e) h)
+    ∙ none_before (p x) x w (or_left (p x) (list_any p w) e)
+
+-- a last `\\`, and other last bytes
+not_all : (p : ℕ → Bool) (xs : List ℕ) (b : ℕ) (ys : List ℕ) → p b ≡ false → list_all p (xs ++ b ∷ ys) ≡ false
+not_all p [] b ys e = ap (λ c. c && list_all p ys) e
+not_all p (x ∷ xs) b ys e = by (p x) (list_all p (xs ++ b ∷ ys)) (not_all p xs b ys e)
+  where
+    by : (c d : Bool) → d ≡ false → (c && d) ≡ false
+    by true d h = h
+    by false d h = refl
+
+later_found : (a b : Bool) (x : ℕ) (o : Option (List ℕ)) → b ≡ false → found_or_later (a && b) x o ≡ option_map (λ front. x ∷ front) o
+later_found true b x o e = ap (λ c. found_or_later c x o) e
+later_found false b x o e = refl
+
+found_here : (b : Bool) (x : ℕ) (o : Option (List ℕ)) → b ≡ true → found_or_later b x o ≡ Some []
+found_here true x o e = refl
+found_here false x o e = absurd (true≢false (sym e))
+
+continued : (front blanks : List ℕ) → list_all is_blank blanks ≡ true → before_backslash (front ++ 92 ∷ blanks) ≡ Some front
+continued [] blanks e = found_here (list_all is_blank blanks) 92 (before_backslash blanks) e
+continued (x ∷ xs) blanks e =
+    later_found (x == 92) (list_all is_blank (xs ++ 92 ∷ blanks)) x (before_backslash (xs ++ 92 ∷ blanks)) (not_all is_blank xs 92 blanks refl)
+    ∙ ap (option_map (λ front. x ∷ front)) (continued xs blanks e)
+
+all_left : (a b : Bool) → (a && b) ≡ true → a ≡ true
+all_left true b e = refl
+all_left false b e = e
+
+all_right : (a b : Bool) → (a && b) ≡ true → b ≡ true
+all_right true b e = e
+all_right false b e = absurd (true≢false (sym e))
+
+blank_line : (blanks : List ℕ) → list_all is_blank blanks ≡ true → before_backslash blanks ≡ None
+blank_line [] e = refl
+blank_line (x ∷ xs) e =
+    ap (found_or_later (x == 92 && list_all is_blank xs) x) (blank_line xs (all_right (is_blank x) (list_all is_blank xs) e))
+    ∙ not_found (x == 92) (list_all is_blank xs) x (apart_from x 92 (λ h. let t : is_blank 92 ≡ true = ap is_blank (sym h) ∙ all_left (is_blank x) (list_all is_blank xs) e in cc))
+
+ended : (front : List ℕ) (byte : ℕ) (blanks : List ℕ) → byte ≢ 92 → is_blank byte ≡ false → list_all is_blank blanks ≡ true → before_backslash (front ++ byte ∷ blanks) ≡ None
+ended [] byte blanks n h e = ap (found_or_later (byte == 92 && list_all is_blank blanks) byte) (blank_line blanks e) ∙ not_found (byte == 92) (list_all is_blank blanks) byte (apart_from byte 92 n)
+ended (x ∷ xs) byte blanks n h e =
+    later_found (x == 92) (list_all is_blank (xs ++ byte ∷ blanks)) x (before_backslash (xs ++ byte ∷ blanks)) (not_all is_blank xs byte blanks h)
+    ∙ ap (option_map (λ front. x ∷ front)) (ended xs byte blanks n h e)
+
+pub lines_are_joined : LinesAreJoined
+lines_are_joined = record {
+  of_nothing = refl;
+  at_the_end = last_line;
+  before_newline = λ line rest e n. cut_line line rest e ∙ ap (λ v. v ∷ physical_lines rest) (strip_by (get_or line (length line - 1) 0 == 13) line (length line - 1) (apart_from (get_or line (length line - 1) 0) 13 n));
+  before_return = before_return;
+  before_comment = λ front comment e. before_first-cut is_hash front 35 comment e refl;
+  no_comment = λ line e. before_first-none is_hash line e;
+  continued = continued;
+  ended = ended;
+  blank = blank_line;
+  alone = λ n line later e. ap (λ o. continued_by n (without_comment line) o (joined_lines (n + 1) later)) e;
+  joined = λ n line front next later m bytes others e h. ap (λ o. continued_by n (without_comment line) o (joined_lines (n + 1) (next ∷ later))) e ∙ ap (joined_to n front) h;
+  joined_to_nothing = λ n line front e. ap (λ o. continued_by n (without_comment line) o []) e;
 }

@@ -41,7 +41,7 @@ abbrev pub firsts_after : List Port → List Port → List Port
 firsts_after before [] = []
 firsts_after before (p ∷ after) = option_to_list (then_some (not (stands_earlier before p after)) p) ++ firsts_after (p ∷ before) after
 
--- the names of a list that stand earlier too; the first of each name
+-- the names of a list that stand earlier in it too; the first of each name
 abbrev pub repeats : List Port → List Port
 repeats ports = repeats_after [] ports
 
@@ -72,6 +72,7 @@ is_input_pin placed pin = option_map_or (has_input pin.formal) placed false
 abbrev pub is_output_pin : Option Model → Pin → Bool
 is_output_pin placed pin = option_map_or (has_output pin.formal) placed false
 
+-- whether the model or the formal of a pin is unknown
 abbrev pub is_unknown_pin : Option Model → Pin → Bool
 is_unknown_pin placed pin = not (is_input_pin placed pin || is_output_pin placed pin)
 

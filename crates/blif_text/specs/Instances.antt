@@ -76,6 +76,21 @@ pub record LineInstances : Type 0 where
   pub skipped : logical_lines (codes "\\\n \t\\\n\n.end\n") ≡ (line_of 4 ((codes ".end") ∷ [])) ∷ []
   -- a line has the number of its first physical line
   pub first_number : logical_lines (codes "\\\n\\\n.end\n") ≡ (line_of 1 ((codes ".end") ∷ [])) ∷ []
+  -- of two bytes 13 before a byte 10 the first is a blank
+  pub two_returns : logical_lines (codes "a\\\r\r\nb\n") ≡ (line_of 1 ((codes "ab") ∷ [])) ∷ []
+  -- a byte 13 within a line is a blank
+  pub return_within : logical_lines (codes "a\rb\n") ≡ (line_of 1 ((codes "a") ∷ (codes "b") ∷ [])) ∷ []
+  -- `#` cuts a word
+  pub hash_within : logical_lines (codes "a#b c\n") ≡ (line_of 1 ((codes "a") ∷ [])) ∷ []
+  -- of two `\` at the end one is dropped
+  pub two_backslashes : logical_lines (codes "a\\\\\nb\n") ≡ (line_of 1 ((codes "a\\b") ∷ [])) ∷ []
+  -- a text of one `\` has no line
+  pub only_backslash : logical_lines (codes "\\") ≡ []
+  -- nor has a text of one `#`
+  pub only_hash : logical_lines (codes "#") ≡ []
+  -- vertical tab and form feed are blanks; a lone byte 13 is no word
+  pub other_blanks : logical_lines (97 ∷ 11 ∷ 98 ∷ 12 ∷ 99 ∷ []) ≡ (line_of 1 ((codes "a") ∷ (codes "b") ∷ (codes "c") ∷ [])) ∷ []
+  pub lone_return : logical_lines (13 ∷ []) ≡ []
 
 -- Models of texts without a fault.
 pub record ModelInstances : Type 0 where
@@ -190,6 +205,21 @@ pub record LineFaultInstances : Type 0 where
   pub same_model : Breaks (codes ".model m\n.end\n.model m\n") DuplicateModel 3 (codes "m")
   pub earliest_line : Breaks (codes ".model m\n.names\n.foo\n") BadCount 2 (codes ".names")
   pub lines_before_models : Breaks (codes ".model m\n.inputs a a\n.latch a\n") BadLatch 3 (codes ".latch")
+  pub end_before_model : Breaks (codes ".end\n") NoModelYet 1 (codes ".end")
+  pub row_before_model : Breaks (codes "1 1\n.model m\n") NoModelYet 1 (codes "1")
+  pub annotation_before_model : Breaks (codes ".area 1\n.model m\n") NoModelYet 1 (codes ".area")
+  pub capital_directive : Breaks (codes ".model m\n.Model n\n") UnknownDirective 2 (codes ".Model")
+  pub bare_default : Breaks (codes ".model m\n.default 1\n") UnknownDirective 2 (codes ".default")
+  pub default_dash : Breaks (codes ".model m\n.default-x 1\n") UnknownDirective 2 (codes ".default-x")
+  pub active_high_of_none : Breaks (codes ".model m\n.latch a q ah NIL\n") Unsupported 2 (codes "ah")
+  pub latch_of_three_words : Breaks (codes ".model m\n.latch a q NIL\n") BadLatch 2 (codes ".latch")
+  pub latch_alone : Breaks (codes ".model m\n.latch\n") BadLatch 2 (codes ".latch")
+  pub other_type_of_none : Breaks (codes ".model m\n.latch a q foo NIL\n") BadLatch 2 (codes ".latch")
+  pub constant_of_two_words : Breaks (codes ".model m\n.names y\n1 1\n") BadRow 3 (codes "1")
+  pub output_of_two_digits : Breaks (codes ".model m\n.inputs a\n.names a y\n1 11\n") BadRow 4 (codes "1")
+  pub pin_before_model_of_it : Breaks (codes ".model m\n.subckt z b=c\n.subckt s a\n") BadPin 3 (codes "a")
+  pub row_after_end : Breaks (codes ".model m\n.names y\n.end\n1\n") AfterEnd 4 (codes "1")
+  pub annotation_after_end : Breaks (codes ".model m\n.end\n.area 2\n") AfterEnd 3 (codes ".area")
 
 -- Texts with a fault of their models.
 pub record ModelFaultInstances : Type 0 where
@@ -199,6 +229,8 @@ pub record ModelFaultInstances : Type 0 where
   pub output_twice : Breaks (codes ".model m\n.outputs y y\n") DuplicatePort 2 (codes "y")
   pub input_and_output : Breaks (codes ".model m\n.inputs a\n.outputs a\n") DuplicatePort 3 (codes "a")
   pub output_and_clock : Breaks (codes ".model m\n.outputs c\n.clock c\n.inputs c\n") DuplicatePort 3 (codes "c")
+  pub doubled_both_ways : Breaks (codes ".model m\n.outputs d\n.clock a d a\n") DuplicatePort 3 (codes "d")
+  pub output_before_double : Breaks (codes ".model m\n.outputs b\n.inputs b a a\n") DuplicatePort 3 (codes "b")
   pub second_model : Breaks (codes ".model m\n.outputs y\n.model n\n.inputs a a\n") DuplicatePort 4 (codes "a")
   pub driven_input : Breaks (codes ".model m\n.inputs a\n.names a\n1\n") MultipleDrivers 3 (codes "a")
   pub input_driven_before : Breaks (codes ".model m\n.names a\n1\n.inputs a\n") MultipleDrivers 4 (codes "a")
@@ -218,6 +250,13 @@ pub record ModelFaultInstances : Type 0 where
   pub pin_twice : Breaks (codes ".model m\n.inputs a\n.subckt s p=a p=a\n.end\n.model s\n.inputs p\n.end\n") PinTwice 3 (codes "p")
   pub pin_missing : Breaks (codes ".model m\n.inputs a\n.subckt s\n.end\n.model s\n.inputs p\n.end\n") PinMissing 3 (codes "p")
   pub first_pin_missing : Breaks (codes ".model m\n.subckt s\n.model s\n.clock c\n.inputs p\n") PinMissing 2 (codes "c")
+  pub lowest_before_earliest : Breaks (codes ".model m\n.outputs y\n.names w\n.names w\n") MultipleDrivers 4 (codes "w")
+  pub later_model_lower_rule : Breaks (codes ".model m\n.outputs y\n.model n\n.inputs a a\n") DuplicatePort 4 (codes "a")
+  pub drivers_of_one_line : Breaks (codes ".model m\n.names x\n.names y\n.subckt s p=y q=x\n.model s\n.outputs q p\n.names q\n.names p\n") MultipleDrivers 4 (codes "y")
+  pub formals_of_one_line : Breaks (codes ".model m\n.inputs n\n.subckt s a=n b=n b=n a=n\n.model s\n.inputs a b\n") PinTwice 3 (codes "b")
+  pub missing_in_text_order : Breaks (codes ".model m\n.inputs n\n.subckt s c=n\n.model s\n.inputs b\n.clock a c\n") PinMissing 3 (codes "b")
+  pub unknown_pin_is_read : Breaks (codes ".model m\n.outputs y\n.names x y\n.subckt z a=x\n") NoSuchModel 4 (codes "z")
+  pub no_model_before_circle : Breaks (codes ".model m\n.subckt m\n.subckt z\n") NoSuchModel 3 (codes "z")
 
 -- Texts with a circle of models.
 pub record CircleInstances : Type 0 where
@@ -225,3 +264,6 @@ pub record CircleInstances : Type 0 where
   pub places_each_other : Breaks (codes ".model a\n.subckt b\n.model b\n.subckt a\n") Recursive 2 (codes "a b")
   pub leads_to_circle : Breaks (codes ".model a\n.subckt b\n.end\n.model b\n.subckt b\n") Recursive 5 (codes "b")
   pub circle_of_three : Breaks (codes ".model a\n.subckt d\n.subckt b\n.model b\n.subckt c\n.model c\n.subckt a\n.model d\n") Recursive 3 (codes "a b c")
+  pub circle_beside_the_main_model : Breaks (codes ".model m\n.model a\n.subckt a\n") Recursive 3 (codes "a")
+  pub on_two_circles : Breaks (codes ".model a\n.subckt b\n.model b\n.subckt a\n.subckt c\n.model c\n.subckt a\n") Recursive 2 (codes "a b")
+  pub on_the_other_circle : Breaks (codes ".model a\n.subckt b\n.model b\n.subckt a\n.subckt c\n.model c\n.subckt a\n") Recursive 2 (codes "a b c")

@@ -1,6 +1,6 @@
--- Laws of the definitions: what the first fault is, that there is at most one, and that a text is a design or has a fault.
-use Rattle.std.specs.Prelude.{◌≡◌, ◌≢◌, ℕ, ◌<◌, ◌⊎◌, ◌↔◌, List, [], ◌∷◌, ◌++◌, reverse, map, bytes_eq, Contains, flat_map, ◌+◌, true, false, ⊤, ◌≤◌, Some, None}
-use Rattle.std.specs.List.{AllByRecursion, list_any, IsDistinct}
+-- Laws of the definitions: what the first fault is, that there is at most one, and that a text is a design or has a fault by a rule on lines or models.
+use Rattle.std.specs.Prelude.{Bool, ◌≡◌, ◌≢◌, ℕ, ◌<◌, ◌⊎◌, ◌↔◌, List, [], ◌∷◌, ◌++◌, reverse, length, get_or, ◌-◌, map, bytes_eq, Contains, flat_map, ◌+◌, true, false, ⊤, ◌≤◌, Some, None}
+use Rattle.std.specs.List.{AllByRecursion, list_any, list_all, IsDistinct}
 use Rattle.std.specs.Str.Lines.{lines}
 use Rattle.netlist_core.specs.declared.model.Port.{Port}
 use Rattle.netlist_core.specs.declared.model.Pin.{Pin}
@@ -12,12 +12,12 @@ use Rattle.blif_text.specs.declared.fault.Fault.{Fault}
 use Rattle.blif_text.specs.declared.fault.FaultKind.{FaultKind}
 use Rattle.blif_text.specs.declared.fault.FaultKind.TheVariants.{Recursive}
 use Rattle.blif_text.specs.FaultNames.{number_of}
-use Rattle.blif_text.specs.LogicalLines.{logical_lines, physical_lines, is_blank, words_of}
-use Rattle.blif_text.specs.Models.{models_of, begins_model}
-use Rattle.blif_text.specs.LineFaults.{word_at_fault, line_fault}
-use Rattle.blif_text.specs.Drivers.{at_line}
+use Rattle.blif_text.specs.LogicalLines.{logical_lines, physical_lines, is_newline, is_hash, is_blank, words_of, JoinedLine, joined_line, joined_lines, without_comment, before_backslash}
+use Rattle.blif_text.specs.Models.{models_of, begins_model, is_row, first_word}
+use Rattle.blif_text.specs.LineFaults.{word_at_fault, line_fault, is_annotation}
+use Rattle.blif_text.specs.Drivers.{at_line, drivers_of, readings_of, repeats}
 use Rattle.blif_text.specs.Circles.{Leads}
-use Rattle.blif_text.specs.ModelFaults.{model_fault, words_at_fault, AreFaultless, HasModelFault}
+use Rattle.blif_text.specs.ModelFaults.{model_fault, words_at_fault, AreFaultless, HasModelFault, duplicate_ports, second_drivers, undriven_readings, unknown_formals, formals_of}
 use Rattle.blif_text.specs.Faults.{HasModels, HasFault, IsDesignOf}
 
 -- the line breaks no rule over the lines before it, the nearest first
@@ -61,11 +61,11 @@ NeverBoth = (text : List ℕ) (d : Design) (f : Fault) → IsDesignOf text d →
 abbrev pub NoModelNoLine : Type 0
 NoModelNoLine = (lines : List Logical) → HasModels lines [] → lines ≡ []
 
--- Models are without a fault, or they have one.
+-- Models break no rule on models, or have a fault by those.
 abbrev pub FaultlessOrFault : Type 0
 FaultlessOrFault = (models : List Model) → AreFaultless models ⊎ ((f : Fault) × HasModelFault models f)
 
--- A text is a design, or has a fault.
+-- A text is a design, or has a fault by a rule on lines or models.
 abbrev pub DesignOrFault : Type 0
 DesignOrFault = (text : List ℕ) → IsDesignOf text (record { models = models_of (logical_lines text) }) ⊎ ((f : Fault) × HasFault (logical_lines text) f)
 
@@ -102,6 +102,21 @@ ModelsAreCut = (before : List Logical) (line : Logical) (after : List Logical) �
 abbrev pub LinesAreKnown : Type 0
 LinesAreKnown = (text : List ℕ) → physical_lines text ≡ lines text
 
+-- A line ends with byte 10, or with bytes 13 and 10; a comment is cut; what stands before a last `\` is joined to the next line.
+pub record LinesAreJoined : Type 0 where
+  pub of_nothing : physical_lines [] ≡ []
+  pub at_the_end : (line : List ℕ) → line ≢ [] → list_any is_newline line ≡ false → physical_lines line ≡ line ∷ []
+  pub before_newline : (line rest : List ℕ) → list_any is_newline line ≡ false → get_or line (length line - 1) 0 ≢ 13 → physical_lines (line ++ 10 ∷ rest) ≡ line ∷ physical_lines rest
+  pub before_return : (line rest : List ℕ) → list_any is_newline line ≡ false → physical_lines (line ++ 13 ∷ 10 ∷ rest) ≡ line ∷ physical_lines rest
+  pub before_comment : (front comment : List ℕ) → list_any is_hash front ≡ false → without_comment (front ++ 35 ∷ comment) ≡ front
+  pub no_comment : (line : List ℕ) → list_any is_hash line ≡ false → without_comment line ≡ line
+  pub continued : (front blanks : List ℕ) → list_all is_blank blanks ≡ true → before_backslash (front ++ 92 ∷ blanks) ≡ Some front
+  pub ended : (front : List ℕ) (byte : ℕ) (blanks : List ℕ) → byte ≢ 92 → is_blank byte ≡ false → list_all is_blank blanks ≡ true → before_backslash (front ++ byte ∷ blanks) ≡ None
+  pub blank : (blanks : List ℕ) → list_all is_blank blanks ≡ true → before_backslash blanks ≡ None
+  pub alone : (n : ℕ) (line : List ℕ) (later : List (List ℕ)) → before_backslash (without_comment line) ≡ None → joined_lines n (line ∷ later) ≡ joined_line n (without_comment line) ∷ joined_lines (n + 1) later
+  pub joined : (n : ℕ) (line front next : List ℕ) (later : List (List ℕ)) (m : ℕ) (bytes : List ℕ) (others : List JoinedLine) → before_backslash (without_comment line) ≡ Some front → joined_lines (n + 1) (next ∷ later) ≡ joined_line m bytes ∷ others → joined_lines n (line ∷ next ∷ later) ≡ joined_line n (front ++ bytes) ∷ others
+  pub joined_to_nothing : (n : ℕ) (line front : List ℕ) → before_backslash (without_comment line) ≡ Some front → joined_lines n (line ∷ []) ≡ joined_line n front ∷ []
+
 -- Each logical line has a word, and each word has a byte and no blank.
 abbrev pub HasWords : Logical → Type 0
 HasWords l = (l.words ≢ []) × AllByRecursion (λ (word : List ℕ). (word ≢ []) × (list_any is_blank word ≡ false)) l.words
@@ -110,6 +125,10 @@ HasWords l = (l.words ≢ []) × AllByRecursion (λ (word : List ℕ). (word ≢
 abbrev pub Rises : ℕ → List Logical → Type 0
 Rises least [] = ⊤
 Rises least (l ∷ lines) = (least ≤ l.line) × Rises (l.line + 1) lines
+
+-- and none is past the number of the physical lines
+abbrev pub NumbersAreBounded : Type 0
+NumbersAreBounded = (text : List ℕ) → AllByRecursion (λ (l : Logical). l.line ≤ length (physical_lines text)) (logical_lines text)
 
 abbrev pub LinesHaveWords : Type 0
 LinesHaveWords = (text : List ℕ) → AllByRecursion HasWords (logical_lines text) × Rises 1 (logical_lines text)
@@ -130,3 +149,25 @@ FormalsAreDistinct = (models : List Model) → AreFaultless models → (m : Mode
 
 abbrev pub NoModelIsInItself : Type 0
 NoModelIsInItself = (models : List Model) → AreFaultless models → (name : List ℕ) (names : List (List ℕ)) → ¬ (Leads models name names name)
+
+-- a list is another one without some of its names, in the same order
+pub data IsSublist : List Port → List Port → Type 0 where
+  nothing : IsSublist [] []
+  without : {p : Port} {some all : List Port} → IsSublist some all → IsSublist some (p ∷ all)
+  with : {p : Port} {some all : List Port} → IsSublist some all → IsSublist (p ∷ some) (p ∷ all)
+
+-- The words at fault stand in the order of the models' own lists, in which the words of one line stand as on the line: so the first of the earliest line is that line's first.
+pub record WordsKeepOrder : Type 0 where
+  pub ports : (m : Model) → IsSublist (duplicate_ports m) (m.ins ++ m.clocks ++ m.outs)
+  pub drivers : (models : List Model) (m : Model) → IsSublist (second_drivers models m) (drivers_of models m)
+  pub readings : (models : List Model) (m : Model) → IsSublist (undriven_readings models m) (readings_of models m)
+  pub formals : (models : List Model) (s : Subckt) → IsSublist (unknown_formals models s) (formals_of s)
+  pub formals_twice : (s : Subckt) → IsSublist (repeats (formals_of s)) (formals_of s)
+
+-- Annotations give nothing: before another directive, or at the end, one may be left out.
+abbrev pub begins_with_row : List Logical → Bool
+begins_with_row [] = false
+begins_with_row (l ∷ lines) = is_row l
+
+abbrev pub AnnotationsGiveNothing : Type 0
+AnnotationsGiveNothing = (before : List Logical) (line : Logical) (after : List Logical) → is_row line ≡ false → is_annotation (first_word line) ≡ true → begins_with_row after ≡ false → models_of (before ++ line ∷ after) ≡ models_of (before ++ after)

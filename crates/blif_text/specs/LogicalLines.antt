@@ -45,13 +45,16 @@ pub record JoinedLine : Type 0 where
   pub line : ℕ
   pub bytes : List ℕ
 
+abbrev pub joined_line : ℕ → List ℕ → JoinedLine
+joined_line n bytes = record { line = n; bytes = bytes }
+
 -- Where a `\` ends the physical line of this number, the next line is joined on, with nothing between; at the end of the text there is nothing to join.
 abbrev pub joined_to : ℕ → List ℕ → List JoinedLine → List JoinedLine
-joined_to n front [] = record { line = n; bytes = front } ∷ []
-joined_to n front (next ∷ later) = record { line = n; bytes = front ++ next.bytes } ∷ later
+joined_to n front [] = joined_line n front ∷ []
+joined_to n front (next ∷ later) = joined_line n (front ++ next.bytes) ∷ later
 
 abbrev pub continued_by : ℕ → List ℕ → Option (List ℕ) → List JoinedLine → List JoinedLine
-continued_by n bytes None later = record { line = n; bytes = bytes } ∷ later
+continued_by n bytes None later = joined_line n bytes ∷ later
 continued_by n bytes (Some front) later = joined_to n front later
 
 -- the lines from number n on, without their comments, each joined to the next where it is continued

@@ -1,5 +1,6 @@
 -- The rules on models, 22 and 12 to 19, which are looked at where no line breaks a rule.
-use Rattle.std.specs.Prelude.{◌≡◌, ℕ, Bool, not, cond, nat_le, List, [], ◌∷◌, ◌++◌, map, codes, ◌⊎◌, Option, Some, None, option_map, option_to_list, filter_map, flat_map}
+use Rattle.std.specs.Prelude.{◌||◌, ◌≡◌, ℕ, Bool, false, not, cond, nat_le, List, [], ◌∷◌, ◌++◌, map, codes, ◌⊎◌, Option, Some, None, option_map, option_to_list, filter_map, flat_map}
+use Rattle.std.specs.List.{list_any}
 use Rattle.std.specs.Bool.{then_some}
 use Rattle.std.specs.Option.{option_or, option_map_or}
 use Rattle.netlist_core.specs.declared.model.Port.{Port}
@@ -10,23 +11,36 @@ use Rattle.blif_text.specs.declared.fault.Fault.{Fault}
 use Rattle.blif_text.specs.declared.fault.FaultKind.{FaultKind}
 use Rattle.blif_text.specs.declared.fault.FaultKind.TheVariants.{DuplicatePort, MultipleDrivers, Undriven, NoSuchModel, NoSuchPin, PinTwice, PinMissing, NoModel}
 use Rattle.blif_text.specs.LineFaults.{fault_at}
-use Rattle.blif_text.specs.Drivers.{at_line, is_named, repeats, inputs_of, model_named, is_unknown_pin, actuals, drivers_of, readings_of}
+use Rattle.blif_text.specs.Drivers.{at_line, is_named, same_name_before, same_name_up_to, stands_earlier, repeats, model_named, has_input, has_output, is_unknown_pin, actuals, drivers_of, readings_of}
 use Rattle.blif_text.specs.Circles.{IsOnCircle, IsCircleFault}
 
--- 12: a name stands twice in `.inputs`, twice in `.clock`, twice in `.outputs`, or among the inputs and in `.outputs`
+-- 12: a name stands twice in `.inputs`, twice in `.clock`, twice in `.outputs`, or among the inputs and in `.outputs`.
+-- Of one of these lists, cut into what stands before and after: the names after that stand earlier in it, or pass the test.
+abbrev pub doubles_after : (Port → Bool) → List Port → List Port → List Port
+doubles_after test before [] = []
+doubles_after test before (p ∷ after) = option_to_list (then_some (stands_earlier before p after || test p) p) ++ doubles_after test (p ∷ before) after
+
+-- whether an input stands in `.outputs` on an earlier line; whether an output stands among the inputs up to its line
+abbrev pub is_output_before : Model → Port → Bool
+is_output_before m p = list_any (same_name_before p) m.outs
+
+abbrev pub is_input_by_then : Model → Port → Bool
+is_input_by_then m p = list_any (same_name_up_to p) (m.ins ++ m.clocks)
+
 abbrev pub duplicate_ports : Model → List Port
-duplicate_ports m = repeats m.ins ++ repeats m.clocks ++ repeats (inputs_of m ++ m.outs)
+duplicate_ports m = doubles_after (is_output_before m) [] m.ins ++ doubles_after (is_output_before m) [] m.clocks ++ doubles_after (is_input_by_then m) [] m.outs
 
 -- 13: a net has two drivers
 abbrev pub second_drivers : List Model → Model → List Port
 second_drivers models m = repeats (drivers_of models m)
 
--- 14: a net is read and has no driver; here a pin whose model or formal is unknown counts as one
-abbrev pub undriven_by : List Port → Port → Option Port
-undriven_by drivers p = then_some (not (is_named drivers p.name)) p
+-- the name, unless it is in the list
+abbrev pub unless_named : List Port → Port → Option Port
+unless_named drivers p = then_some (not (is_named drivers p.name)) p
 
+-- 14: a net is read and has no driver; here a pin whose model or formal is unknown counts as one
 abbrev pub undriven_readings : List Model → Model → List Port
-undriven_readings models m = filter_map (undriven_by (drivers_of models m ++ actuals models is_unknown_pin m)) (readings_of models m)
+undriven_readings models m = filter_map (unless_named (drivers_of models m ++ actuals models is_unknown_pin m)) (readings_of models m)
 
 -- 15: a subckt line names no model
 abbrev pub unplaced : Option Model → Subckt → List Port
@@ -37,11 +51,17 @@ abbrev pub missing_model : List Model → Subckt → List Port
 missing_model models s = unplaced (model_named models s.model) s
 
 -- 16: a formal is no port of its model
+abbrev pub lacks_port : List ℕ → Model → Bool
+lacks_port name m = not (has_input name m || has_output name m)
+
+abbrev pub is_portless : Option Model → Pin → Bool
+is_portless placed pin = option_map_or (lacks_port pin.formal) placed false
+
 abbrev pub formal_if : (Pin → Bool) → ℕ → Pin → Option Port
 formal_if test line pin = then_some (test pin) (at_line line pin.formal)
 
 abbrev pub unknown_formals : List Model → Subckt → List Port
-unknown_formals models s = filter_map (formal_if (is_unknown_pin (model_named models s.model)) s.line) s.pins
+unknown_formals models s = filter_map (formal_if (is_portless (model_named models s.model)) s.line) s.pins
 
 -- 17: a subckt line names a formal twice
 abbrev pub formals_of : Subckt → List Port
@@ -58,7 +78,7 @@ earliest [] = None
 earliest (p ∷ ports) = earlier_of p (earliest ports)
 
 abbrev pub unpinned_inputs : Subckt → Model → List Port
-unpinned_inputs s placed = filter_map (undriven_by (formals_of s)) (placed.ins ++ placed.clocks)
+unpinned_inputs s placed = filter_map (unless_named (formals_of s)) (placed.ins ++ placed.clocks)
 
 abbrev pub on_line : ℕ → Port → Port
 on_line line p = at_line line p.name
@@ -66,7 +86,7 @@ on_line line p = at_line line p.name
 abbrev pub missing_pin : List Model → Subckt → List Port
 missing_pin models s = map (on_line s.line) (option_to_list (option_map_or (λ (placed : Model). earliest (unpinned_inputs s placed)) (model_named models s.model) None))
 
--- the words at which a model breaks this rule, with their lines; those of one line stand in its order
+-- the words at which a model breaks this rule, with their lines; those of one line stand in its order, since each list of a model does
 abbrev pub words_at_fault : FaultKind → List Model → Model → List Port
 words_at_fault DuplicatePort models m = duplicate_ports m
 words_at_fault MultipleDrivers models m = second_drivers models m

@@ -51,9 +51,13 @@ ports_on l = map (λ (name : List ℕ). let port : Port = record { line = l.line
 abbrev pub ports_listed : List ℕ → List Logical → List Port
 ports_listed name lines = flat_map ports_on (lines_with name lines)
 
+-- the last of some words
+abbrev pub last_word : List (List ℕ) → List ℕ
+last_word words = get_or words (length words - 1) []
+
 -- A row ends with the output's character; the word before that has the inputs' characters. A row of a cover without inputs has the output's alone.
 abbrev pub output_part : List (List ℕ) → List ℕ
-output_part words = get_or words (length words - 1) []
+output_part words = last_word words
 
 abbrev pub input_part : List (List ℕ) → List ℕ
 input_part [] = []
@@ -68,7 +72,7 @@ abbrev pub cover_of : Logical → List Logical → Cover
 cover_of l rows = record {
   line = l.line;
   ins = take (length (operands l) - 1) (operands l);
-  out = output_part (operands l);
+  out = last_word (operands l);
   rows = map (λ (row : Logical). input_part row.words) rows;
   on = list_all turns_on rows;
 }

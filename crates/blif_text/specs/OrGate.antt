@@ -1,4 +1,4 @@
--- The text of one OR gate, of seven lines, with any names of letters, digits and `_`.
+-- The text of one OR gate, of seven lines, with names of letters, digits and `_`.
 use Rattle.std.specs.Prelude.{◌≡◌, ◌≢◌, ℕ, Bool, true, ◌<◌, nat_le, ◌&&◌, ◌||◌, ◌==◌, List, [], ◌∷◌, ◌++◌, length, codes}
 use Rattle.std.specs.List.{list_all}
 use Rattle.netlist_core.specs.declared.model.Cover.{Cover}
@@ -27,6 +27,6 @@ or_gate_cover a b y = record { line = 4; ins = a ∷ b ∷ []; out = y; rows = c
 abbrev pub or_gate_model : List ℕ → List ℕ → List ℕ → List ℕ → Model
 or_gate_model m a b y = record { line = 1; name = m; ins = at_line 2 a ∷ at_line 2 b ∷ []; outs = at_line 3 y ∷ []; clocks = []; covers = or_gate_cover a b y ∷ []; latches = []; subckts = [] }
 
--- The text is the design of that one model, whatever the names are.
+-- The text is the design of that one model, whatever such names these are, if the inputs and the output differ.
 abbrev pub OrGateIsRead : Type 0
 OrGateIsRead = (m a b y : List ℕ) → IsPlainName m → IsPlainName a → IsPlainName b → IsPlainName y → a ≢ b → a ≢ y → b ≢ y → IsDesignOf (or_gate_text m a b y) (record { models = or_gate_model m a b y ∷ [] })

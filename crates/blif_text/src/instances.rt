@@ -1,4 +1,4 @@
-// What the definitions give at closed texts, and at the text of an OR gate with any names.
+// What the definitions give at closed texts, and at the text of an OR gate with names of letters, digits and `_`.
 ghost use Rattle.blif_text.specs.Instances.{CircleInstances, FaultlessInstances, LineFaultInstances, LineInstances, ModelFaultInstances, ModelInstances};
 ghost use Rattle.blif_text.specs.OrGate.{OrGateIsRead};
 
@@ -38,7 +38,8 @@ pub fn circles_of_texts()
     ensures { CircleInstances }
 {}
 
-/// The text of one OR gate, with any names of letters, digits and `_`, is that gate's design.
-pub fn or_gate_of_any_names()
+/// The text of one OR gate, with names of letters, digits and `_` of which those of the nets differ, is that
+/// gate's design.
+pub fn or_gate_of_plain_names()
     ensures { OrGateIsRead }
 {}

@@ -1,9 +1,15 @@
 // Laws of the definitions.
-ghost use Rattle.blif_text.specs.Laws.{DesignOrFault, FaultlessOrFault, FormalsAreDistinct, LineFaultIsFirst, LinesAreKnown, LinesHaveWords, ModelFaultIsFirst, ModelsAreCut, ModelsAreDistinct, NeverBoth, NoLineFault, NoModelFault, NoModelIsInItself, NoModelNoLine, OneDesign, OneFault, WordsAreRuns};
+ghost use Rattle.blif_text.specs.Laws.{AnnotationsGiveNothing, DesignOrFault, FaultlessOrFault, FormalsAreDistinct, LineFaultIsFirst, LinesAreJoined, LinesAreKnown, LinesHaveWords, ModelFaultIsFirst, ModelsAreCut, ModelsAreDistinct, NeverBoth, NoLineFault, NoModelFault, NoModelIsInItself, NoModelNoLine, NumbersAreBounded, OneDesign, OneFault, WordsAreRuns, WordsKeepOrder};
 
 /// The physical lines of a text are those of Rust's `lines`.
 pub fn lines_are_known()
     ensures { LinesAreKnown }
+{}
+
+/// A line ends with byte 10, or with bytes 13 and 10; a comment is cut; what stands before a last `\` is
+/// joined to the next line, with nothing between.
+pub fn lines_are_joined()
+    ensures { LinesAreJoined }
 {}
 
 /// Words are the longest runs of bytes that are no blanks.
@@ -15,6 +21,22 @@ pub fn words_are_runs()
 /// Each logical line has a word, each word has a byte and no blank, and the numbers of the lines rise from 1 on.
 pub fn lines_have_words()
     ensures { LinesHaveWords }
+{}
+
+/// No logical line's number is past the number of the physical lines.
+pub fn numbers_are_bounded()
+    ensures { NumbersAreBounded }
+{}
+
+/// The words at which a rule on models is broken stand in the order of their lists, in which the words of
+/// one line stand as on the line.
+pub fn words_keep_order()
+    ensures { WordsKeepOrder }
+{}
+
+/// An annotation gives a model nothing: where no row follows it, it may be left out.
+pub fn annotations_give_nothing()
+    ensures { AnnotationsGiveNothing }
 {}
 
 /// Lines are cut before each `.model`.
@@ -45,7 +67,7 @@ pub fn model_fault_is_first()
     ensures { ModelFaultIsFirst }
 {}
 
-/// Two faults of the same lines have one kind and one line, and but for the models of a circle one word.
+/// Two faults of the same lines or models have one kind and one line, and but for the models of a circle one word.
 #[tactic(auto, using(crate::proofs::OneFault::one_fault))]
 pub fn one_fault()
     ensures { OneFault }
@@ -57,7 +79,7 @@ pub fn one_design()
     ensures { OneDesign }
 {}
 
-/// The text of a design has no fault.
+/// The text of a design has no fault of its lines or models.
 #[tactic(auto, using(crate::proofs::OneFault::never_both))]
 pub fn never_design_and_fault()
     ensures { NeverBoth }
@@ -69,12 +91,12 @@ pub fn no_model_no_line()
     ensures { NoModelNoLine }
 {}
 
-/// Models are without a fault, or they have one.
+/// Models break no rule on models, or have one fault by those.
 pub fn faultless_or_fault()
     ensures { FaultlessOrFault }
 {}
 
-/// A text is a design, or has a fault.
+/// A text is a design, or has a fault of its lines or models.
 pub fn design_or_fault()
     ensures { DesignOrFault }
 {}
