@@ -12,3 +12,5 @@ pub mod Depth
 pub mod CoverValue
 pub mod Roots
 pub mod Delay
+pub mod ClockFaults
+pub mod InNames
