@@ -18,7 +18,7 @@ use Rattle.netlist_meaning.proofs.CoverValue.{both_true, and_true}
 use Rattle.netlist_meaning.proofs.Depth.{weight_is_sum_over_all, or_left, or_right, either}
 
 -- an element that passes is found, and what is found is one that passes
-any_at : {X : Type 0} (test : X → Bool) (xs : List X) (k : ℕ) (x : X) → slice_get xs k ≡ Some x → test x ≡ true → list_any test xs ≡ true
+pub any_at : {X : Type 0} (test : X → Bool) (xs : List X) (k : ℕ) (x : X) → slice_get xs k ≡ Some x → test x ≡ true → list_any test xs ≡ true
 any_at test [] k x e t = absurd (none-some x e)
 any_at test (y ∷ xs) zero x e t = or_left (test y) _ (ap test (same_Some _ _ e) ∙ t)
 any_at test (y ∷ xs) (suc k) x e t = or_right (test y) _ (any_at test xs k x e t)
@@ -59,7 +59,7 @@ top_net-Decides name net = (
 )
 
 -- a net of the main model is its own root
-root_of_top : (design : Design) (name : Name) → root design (net_at [] name) ≡ net_at [] name
+pub root_of_top : (design : Design) (name : Name) → root design (net_at [] name) ≡ net_at [] name
 root_of_top design name = by_main (main_model design)
   where
     by_main : (main : Option Model) → unwrap_or (option_map (root_below design [] name) main) (net_at [] name) ≡ net_at [] name

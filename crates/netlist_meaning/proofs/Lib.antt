@@ -14,3 +14,4 @@ pub mod Roots
 pub mod Delay
 pub mod ClockFaults
 pub mod InNames
+pub mod OnlyNets

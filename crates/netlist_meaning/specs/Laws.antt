@@ -4,12 +4,12 @@ use Rattle.std.specs.Cmp.{IsEquivalence}
 use Rattle.netlist_core.specs.declared.model.Design.{Design}
 use Rattle.netlist_core.specs.declared.model.Model.{Model}
 use Rattle.netlist_meaning.specs.Places.{Name, Place, model_at, IsPlace, IsBefore}
-use Rattle.netlist_meaning.specs.Nets.{Net, IsPinned, Joined, IsClockNet, IsInNames}
+use Rattle.netlist_meaning.specs.Nets.{Net, IsNet, IsPinned, Joined, IsClockNet, IsInNames}
 use Rattle.netlist_meaning.specs.Roots.{NamesFormalsOnce}
-use Rattle.netlist_meaning.specs.Clocks.{IsTwoClocks, IsClockRead}
+use Rattle.netlist_meaning.specs.Clocks.{IsClockUse, IsTwoClocks, IsClockRead}
 use Rattle.netlist_meaning.specs.Weight.{weight, own_weight, of_model}
 use Rattle.netlist_meaning.specs.CoverValue.{cover_value}
-use Rattle.netlist_meaning.specs.Valuation.{Valuation}
+use Rattle.netlist_meaning.specs.Valuation.{Valuation, LatchState, IsValuation, AgreeOnNets, output_bits}
 
 -- joined nets are an equivalence that holds at each pin, and any test that is such an equivalence holds of joined nets
 pub record IsLeastEquivalence (design : Design) : Type 0 where
@@ -91,3 +91,17 @@ ClockReadIsOnOneLine = (design : Design) (line other_line : ℕ) (word other_wor
 -- where no line names a formal with two actuals and no model stands inside a place of itself, there is a list of IN names
 abbrev pub InNamesAreThere : Type 0
 InNamesAreThere = (design : Design) → NamesFormalsOnce design → IsNotRecursive design → (names : List Name) × IsInNames design names
+
+-- each formal is a name of the model that its line places, no line names one with two actuals, and no clock net is read or driven
+pub record IsWired (design : Design) : Type 0 where
+  pub formals_named : (outer inner : Net) → IsPinned design outer inner → IsNet design inner
+  pub formals_once : NamesFormalsOnce design
+  pub clocks_unread : (line position : ℕ) (net : Net) → ¬ IsClockUse design line position net
+
+-- there a valuation is one by its bits at the design's nets alone, and so are the outputs
+pub record OnlyNetsMatter (design : Design) : Type 0 where
+  pub solves : (inputs : List Bool) (state : LatchState) (bits others : Valuation) → AgreeOnNets design bits others → IsValuation design inputs state bits → IsValuation design inputs state others
+  pub outputs : (bits others : Valuation) → AgreeOnNets design bits others → output_bits design bits ≡ output_bits design others
+
+abbrev pub WiredDesignsHaveNets : Type 0
+WiredDesignsHaveNets = (design : Design) → IsWired design → OnlyNetsMatter design

@@ -2,7 +2,7 @@
 
 ghost use Rattle.netlist_core.specs.declared.model.Design.{Design};
 ghost use Rattle.netlist_meaning.specs.Roots.{JoinedIsSameRoot, RootsAreNearest};
-ghost use Rattle.netlist_meaning.specs.Laws.{IsLeastEquivalence, PinsAreEnough, InNamesAreOne, WeightIsSum, PlacesAreShallow, WeightIsSumOverAll, CoversSay, PlacesAreOrdered, TwoClocksAreOne, ClockReadIsOnOneLine, InNamesAreThere};
+ghost use Rattle.netlist_meaning.specs.Laws.{IsLeastEquivalence, PinsAreEnough, InNamesAreOne, WeightIsSum, PlacesAreShallow, WeightIsSumOverAll, CoversSay, PlacesAreOrdered, TwoClocksAreOne, ClockReadIsOnOneLine, InNamesAreThere, WiredDesignsHaveNets};
 
 /// Joined nets are the least equivalence in which each pin joins its actual with its formal.
 pub fn joined_is_the_least_equivalence()
@@ -69,4 +69,10 @@ pub fn clock_read_is_on_one_line()
 /// Where no line names a formal with two actuals and no model stands inside a place of itself, there is a list of IN names.
 pub fn in_names_are_there()
     ensures { InNamesAreThere }
+{}
+
+/// Where each formal is a name of its model, no line names one with two actuals, and no clock net is read or driven, a
+/// valuation is one by its bits at the design's nets alone, and these give the outputs.
+pub fn wired_designs_have_nets()
+    ensures { WiredDesignsHaveNets }
 {}
