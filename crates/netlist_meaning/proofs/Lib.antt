@@ -15,3 +15,4 @@ pub mod Delay
 pub mod ClockFaults
 pub mod InNames
 pub mod OnlyNets
+pub mod SharedClock
