@@ -18,11 +18,11 @@ use Rattle.netlist_meaning.proofs.Flat.{all_in_names}
 use Rattle.netlist_meaning.proofs.Joined.{in_names_are_one, pins_are_enough}
 
 -- a fact of each element
-abbrev Each : {X : Type 0} → (X → Type 0) → List X → Type 0
+abbrev pub Each : {X : Type 0} → (X → Type 0) → List X → Type 0
 Each P [] = Unit {0}
 Each P (x ∷ xs) = P x × Each P xs
 
-each-contains : {X : Type 0} (P : X → Type 0) (xs : List X) (x : X) → Each P xs → Contains xs x → P x
+pub each-contains : {X : Type 0} (P : X → Type 0) (xs : List X) (x : X) → Each P xs → Contains xs x → P x
 each-contains {X = X} P xs x each (k, lt, is) = go xs each k lt is
   where
     go : (ys : List X) → Each P ys → (k : ℕ) → k < length ys → get_or ys k x ≡ x → P x
@@ -87,7 +87,7 @@ bits_of a0 a1 b0 b1 ci (zero ∷ place) = full_adder_bits a0 b0 ci
 bits_of a0 a1 b0 b1 ci (suc number ∷ place) = full_adder_bits a1 b1 (carry_bit a0 b0 ci)
 
 -- a pin's two nets agree where its two names do
-pin_agrees : (design : Design) (bits : Valuation) (outer inner : Net) (h : IsPinned design outer inner) → bits outer.place h.pin.actual ≡ bits (outer.place ++ h.number ∷ []) h.pin.formal → bits outer.place outer.name ≡ bits inner.place inner.name
+pub pin_agrees : (design : Design) (bits : Valuation) (outer inner : Net) (h : IsPinned design outer inner) → bits outer.place h.pin.actual ≡ bits (outer.place ++ h.number ∷ []) h.pin.formal → bits outer.place outer.name ≡ bits inner.place inner.name
 pin_agrees design bits outer inner h e =
     ap (bits outer.place) h.is_actual ∙ e ∙ sym (ap (λ place. bits place inner.name) h.is_deeper ∙ ap (bits (outer.place ++ h.number ∷ [])) h.is_formal)
 

@@ -29,11 +29,11 @@ fits-Decides character false = (
   λ h. (differs-Decides character 49).1 (λ is_1. true≢false (sym (h.0 is_1))),
 )
 
-both_true : (a b : Bool) → (a && b) ≡ true → (a ≡ true) × (b ≡ true)
+pub both_true : (a b : Bool) → (a && b) ≡ true → (a ≡ true) × (b ≡ true)
 both_true true b e = (refl, e)
 both_true false b e = absurd (true≢false (sym e))
 
-and_true : (a b : Bool) → a ≡ true → b ≡ true → (a && b) ≡ true
+pub and_true : (a b : Bool) → a ≡ true → b ≡ true → (a && b) ≡ true
 and_true a b e f = ap (λ t. t && b) e ∙ f
 
 product-Decides : (row : List ℕ) (bits : List Bool) → Decides (product_holds row bits) (HoldsUnder row bits)

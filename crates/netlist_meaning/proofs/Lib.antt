@@ -12,3 +12,7 @@ pub mod Depth
 pub mod CoverValue
 pub mod Roots
 pub mod Delay
+pub mod ClockFaults
+pub mod InNames
+pub mod OnlyNets
+pub mod SharedClock

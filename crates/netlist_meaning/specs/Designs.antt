@@ -292,3 +292,75 @@ buffer =
 
 abbrev pub circle_design : Design
 circle_design = design_of (circle_main ∷ buffer ∷ [])
+
+-- .subckt s x=d k=clk z=r
+abbrev pub shared_line : Subckt
+shared_line = subckt_of 5 (codes "s") (pin_of (codes "x") (codes "d") ∷ pin_of (codes "k") (codes "clk") ∷ pin_of (codes "z") (codes "r") ∷ [])
+
+-- .model m / .inputs d clk / .outputs q r / .latch d q re clk / .subckt s x=d k=clk z=r / .end
+abbrev pub shared_main : Model
+shared_main =
+    record {
+      line = 1;
+      name = codes "m";
+      ins = ports_of 2 (codes "d" ∷ codes "clk" ∷ []);
+      outs = ports_of 3 (codes "q" ∷ codes "r" ∷ []);
+      clocks = [];
+      covers = [];
+      latches = record { line = 4; input = codes "d"; output = codes "q"; kind = Some Rise; control = Some (codes "clk"); init = 3 } ∷ [];
+      subckts = shared_line ∷ [];
+    }
+
+-- .model s / .inputs x k / .outputs z / .latch x z re k / .end
+abbrev pub shared_inner : Model
+shared_inner =
+    record {
+      line = 7;
+      name = codes "s";
+      ins = ports_of 8 (codes "x" ∷ codes "k" ∷ []);
+      outs = ports_of 9 (codes "z" ∷ []);
+      clocks = [];
+      covers = [];
+      latches = record { line = 10; input = codes "x"; output = codes "z"; kind = Some Rise; control = Some (codes "k"); init = 3 } ∷ [];
+      subckts = [];
+    }
+
+abbrev pub shared_design : Design
+shared_design = design_of (shared_main ∷ shared_inner ∷ [])
+
+-- .model m / .inputs d c / .outputs p q / .latch d p re c / .latch d q / .end
+abbrev pub half_clocked_main : Model
+half_clocked_main =
+    record {
+      line = 1;
+      name = codes "m";
+      ins = ports_of 2 (codes "d" ∷ codes "c" ∷ []);
+      outs = ports_of 3 (codes "p" ∷ codes "q" ∷ []);
+      clocks = [];
+      covers = [];
+      latches =
+          record { line = 4; input = codes "d"; output = codes "p"; kind = Some Rise; control = Some (codes "c"); init = 3 }
+          ∷ latch_of 5 (codes "d") (codes "q") 3
+          ∷ [];
+      subckts = [];
+    }
+
+abbrev pub half_clocked_design : Design
+half_clocked_design = design_of (half_clocked_main ∷ [])
+
+-- .model m / .inputs a / .outputs y / .clock e / .names a e y / 11 1 / .end
+abbrev pub read_main_clock_main : Model
+read_main_clock_main =
+    record {
+      line = 1;
+      name = codes "m";
+      ins = ports_of 2 (codes "a" ∷ []);
+      outs = ports_of 3 (codes "y" ∷ []);
+      clocks = ports_of 4 (codes "e" ∷ []);
+      covers = cover_of 5 (codes "a" ∷ codes "e" ∷ []) (codes "y") (codes "11" ∷ []) ∷ [];
+      latches = [];
+      subckts = [];
+    }
+
+abbrev pub read_main_clock_design : Design
+read_main_clock_design = design_of (read_main_clock_main ∷ [])

@@ -7,8 +7,8 @@ use Rattle.netlist_meaning.specs.Places.{Name, port_names}
 use Rattle.netlist_meaning.specs.Nets.{Net, net_at, IsInNames}
 use Rattle.netlist_meaning.specs.CoverValue.{cover_value}
 use Rattle.netlist_meaning.specs.Valuation.{Valuation, IsRun, output_bits}
-use Rattle.netlist_meaning.specs.Designs.{toggle_design, loop_design, adder_design, wide_design, tower_design, clocked_design, read_clock_design, two_clocks_design, latch_design, circle_design}
-use Rattle.netlist_meaning.specs.Clocks.{IsClockRead, IsTwoClocks}
+use Rattle.netlist_meaning.specs.Designs.{toggle_design, loop_design, adder_design, wide_design, tower_design, clocked_design, read_clock_design, two_clocks_design, latch_design, circle_design, shared_design, half_clocked_design, read_main_clock_design}
+use Rattle.netlist_meaning.specs.Clocks.{IsClockRead, IsTwoClocks, HasOneClock}
 use Rattle.netlist_meaning.specs.Loop.{IsCombinationalLoop}
 use Rattle.netlist_meaning.specs.Weight.{weight}
 
@@ -137,3 +137,16 @@ pub record IsLoopThroughPins : Type 0 where
   pub outside : IsCombinationalLoop circle_design (net_at [] (codes "x") ∷ [])
   pub input : IsCombinationalLoop circle_design (net_at (0 ∷ []) (codes "i") ∷ [])
   pub output : IsCombinationalLoop circle_design (net_at (0 ∷ []) (codes "o") ∷ [])
+
+-- latches of two places whose controls are joined by a pin have one clock, and its name at the main model is no IN name
+pub record HasSharedClock : Type 0 where
+  pub one_clock : HasOneClock shared_design
+  pub in_names : IsInNames shared_design (codes "d" ∷ [])
+
+-- a second latch without a control is the fault, with `-` for its control
+abbrev pub LatchHasNoClock : Type 0
+LatchHasNoClock = IsTwoClocks half_clocked_design 5 (codes "-")
+
+-- a `.clock` name of the main model that is no input is a clock net, without any latch
+abbrev pub CoverReadsMainClock : Type 0
+CoverReadsMainClock = IsClockRead read_main_clock_design 5 (codes "e")

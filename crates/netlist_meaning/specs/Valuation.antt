@@ -5,7 +5,7 @@ use Rattle.netlist_core.specs.declared.model.Model.{Model}
 use Rattle.netlist_core.specs.declared.model.Cover.{Cover}
 use Rattle.netlist_core.specs.declared.model.LatchRow.{LatchRow}
 use Rattle.netlist_meaning.specs.Places.{Name, Place, model_at, latch_at, main_outputs}
-use Rattle.netlist_meaning.specs.Nets.{Net, Joined, IsClockNet, IsInNames}
+use Rattle.netlist_meaning.specs.Nets.{Net, IsNet, Joined, IsClockNet, IsInNames}
 use Rattle.netlist_meaning.specs.CoverValue.{cover_value}
 
 -- a bit for each net: for each place and name. What it gives at a clock net, and where there is no net, means nothing
@@ -28,6 +28,10 @@ pub record IsValuation (design : Design) (inputs : List Bool) (state : LatchStat
   pub covers_hold : (place : Place) (model : Model) (cover : Cover) → model_at design place ≡ Some model → Contains model.covers cover → bits place cover.out ≡ cover_value cover.rows cover.on (map (bits place) cover.ins)
   -- each latch output is its state bit
   pub latches_hold : (place : Place) (number : ℕ) (latch : LatchRow) → latch_at design place number ≡ Some latch → bits place latch.output ≡ state place number
+
+-- two valuations are one and the same where they agree on each net of the design that is no clock net
+abbrev pub AgreeOnNets : Design → Valuation → Valuation → Type 0
+AgreeOnNets design bits others = (net : Net) → IsNet design net → ¬ IsClockNet design net → bits net.place net.name ≡ others net.place net.name
 
 -- a latch with init 1 starts as 1, each other as 0
 abbrev pub start_bit : Option LatchRow → Bool

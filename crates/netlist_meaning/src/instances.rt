@@ -2,7 +2,7 @@
 
 ghost use Rattle.std.specs.Prelude.{◌||◌};
 ghost use Rattle.netlist_meaning.specs.Designs.{or_design};
-ghost use Rattle.netlist_meaning.specs.Instances.{Computes, OneCoverComputes, OneCoverComputesOr, OneCoverComputesNand, IsLoopThroughPins, LatchDelays, LatchToggles, LatchBreaksLoop, CoverReadsItself, TowerWeighs, HasWeights, ControlIsNoInput, CoverReadsClock, LatchHasOtherClock, ClockedLatchDelays, AdderAdds};
+ghost use Rattle.netlist_meaning.specs.Instances.{Computes, OneCoverComputes, OneCoverComputesOr, OneCoverComputesNand, IsLoopThroughPins, LatchDelays, LatchToggles, LatchBreaksLoop, CoverReadsItself, TowerWeighs, HasWeights, ControlIsNoInput, CoverReadsClock, LatchHasOtherClock, ClockedLatchDelays, AdderAdds, HasSharedClock, LatchHasNoClock, CoverReadsMainClock};
 
 /// A model of one cover of two inputs has a run on all rows of two bits, and in every run its output is the cover's value.
 pub fn one_cover_computes_its_value()
@@ -82,4 +82,19 @@ pub fn latch_has_other_clock()
 /// The two-bit adder, made of two full adders, has a run on all rows of five bits, and in every run it adds.
 pub fn adder_adds()
     ensures { AdderAdds }
+{}
+
+/// Latches of two places whose controls a pin joins have one clock.
+pub fn pins_share_clock()
+    ensures { HasSharedClock }
+{}
+
+/// A second latch without a control is the fault of two clocks, with `-` for its control.
+pub fn latch_has_no_clock()
+    ensures { LatchHasNoClock }
+{}
+
+/// A cover that reads a `.clock` name of the main model is the fault of a clock net that is read, without any latch.
+pub fn cover_reads_main_clock()
+    ensures { CoverReadsMainClock }
 {}
