@@ -17,3 +17,4 @@ pub mod SpelledHeader
 pub mod Places
 pub mod Large
 pub mod FirstLine
+pub mod Ranges

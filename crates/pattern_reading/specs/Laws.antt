@@ -1,5 +1,5 @@
 -- Laws of the readings: a text says one thing.
-use Rattle.std.specs.Prelude.{false, ◌≡◌, ◌≢◌, ◌⊎◌, ℕ, ◌+◌, true, if◌then◌else◌, List, [], ◌∷◌, ◌++◌, map, length, flat_map}
+use Rattle.std.specs.Prelude.{false, ◌≡◌, ◌≤◌, ◌≢◌, ◌⊎◌, ℕ, ◌+◌, true, if◌then◌else◌, List, [], ◌∷◌, ◌++◌, map, length, flat_map}
 use Rattle.std.specs.List.{All, range_with_len}
 use Rattle.std.specs.Str.Lines.{lines, strip_carriage_return}
 use Rattle.ww_rule.specs.Grid.{Grid}
@@ -7,6 +7,7 @@ use Rattle.pattern_reading.specs.declared.faults.RleFaultKind.{RleFaultKind}
 use Rattle.pattern_reading.specs.declared.faults.PortFaultKind.{PortFaultKind}
 use Rattle.pattern_reading.specs.declared.ports.Ports.{Ports}
 use Rattle.pattern_reading.specs.Lines.{Line, lines_of, with_line_feeds}
+use Rattle.pattern_reading.specs.Numbers.{greatest_number}
 use Rattle.pattern_reading.specs.Items.{Item, Cells, RowEnds, column_after, row_after}
 use Rattle.pattern_reading.specs.Pattern.{ReadsAsPattern, HasRleFault, HasBox, HasLargeBox, HasReaderFault, ReadsWithinLimit}
 use Rattle.pattern_reading.specs.PortTable.{ReadsAsPorts, HasPortFault}
@@ -108,3 +109,7 @@ HasLineThenRest bytes rest =
 
 abbrev pub HasLoneLine : List ℕ → Type 0
 HasLoneLine bytes = All (λ b. b ≢ 10) bytes → bytes ≢ [] → lines_of bytes ≡ record { number = 1; bytes = bytes; is_ended = false } ∷ []
+
+-- The numbers of a header fit 64 bits.
+abbrev pub HasSmallBox : List ℕ → ℕ → ℕ → Type 0
+HasSmallBox text width height = HasBox text width height → (width ≤ greatest_number) × (height ≤ greatest_number)
