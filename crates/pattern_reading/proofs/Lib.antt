@@ -18,3 +18,4 @@ pub mod Places
 pub mod Large
 pub mod FirstLine
 pub mod Ranges
+pub mod PortsInside

@@ -29,6 +29,11 @@ small_front bytes found e =
     some_first : (n : ℕ) (rest : List ℕ) (y : ℕ × List ℕ) → Some (n, rest) ≡ Some y → n ≡ y.0
     some_first n rest y e = let same : (n, rest) ≡ y = cc in ap (λ p. p.0) same
 
+header_parts : (width height : ℕ) (rule : Option (List ℕ)) (header : Header) → Some (record { width = width; height = height; rule = rule }) ≡ Some header → (width ≡ header.width) × (height ≡ header.height)
+header_parts width height rule header e =
+    let is : record { width = width; height = height; rule = rule } ≡ header = cc in
+    (ap (λ x. x.width) is, ap (λ x. x.height) is)
+
 small_header : (bytes : List ℕ) (header : Header) → header_in bytes ≡ Some header → (header.width ≤ greatest_number) × (header.height ≤ greatest_number)
 small_header bytes header e =
     let a = bind_some (after_word (codes "x") bytes) _ header e in
@@ -39,11 +44,8 @@ small_header bytes header e =
     let f = bind_some (after_word (codes "=") d.0) _ header d.2 in
     let h = bind_some (number_at_front f.0) _ header f.2 in
     let r = bind_some (rule_in h.0.1) _ header h.2 in
-    let is : record { width = w.0.0; height = h.0.0; rule = r.0 } ≡ header = some_same _ _ r.2 in
-    (rw (← ap (λ x. x.width) is) (small_front b.0 w.0 w.1), rw (← ap (λ x. x.height) is) (small_front f.0 h.0 h.1))
-  where
-    some_same : (x y : Header) → Some x ≡ Some y → x ≡ y
-    some_same x y e = cc
+    let is = header_parts w.0.0 h.0.0 r.0 header r.2 in
+    (rw (← is.0) (small_front b.0 w.0 w.1), rw (← is.1) (small_front f.0 h.0 h.1))
 
 pub small_box : (text : List ℕ) (width height : ℕ) → HasSmallBox text width height
 small_box text width height box =
