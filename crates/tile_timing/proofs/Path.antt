@@ -1,12 +1,13 @@
 -- A path of conductors in which only consecutive cells touch carries an electron one cell a generation.
-use Rattle.std.proofs.Common.{ℤ, pos, ◌+ℤ◌, ◌-ℤ◌, ℕ, zero, suc, ◌+◌, ◌<◌, ◌≡◌, ◌≢◌, refl, sym, ap, ap₂, ◌∙◌, Bool, true, false, ◌||◌, ◌&&◌, not, cond, ◌==◌, List, [], ◌∷◌, drop, length, arith, int_eq, inl, inr}
+use Rattle.std.proofs.Common.{ℤ, pos, ◌+ℤ◌, ◌-ℤ◌, ℕ, zero, suc, ◌+◌, ◌<◌, ◌≡◌, ◌≢◌, refl, sym, ap, ap₂, ◌∙◌, Bool, true, false, ◌||◌, ◌&&◌, not, cond, ◌==◌, List, [], ◌∷◌, ◌++◌, drop, length, arith, int_eq, inl, inr}
 use Rattle.std.proofs.lemmas.Int.{ints}
-use Rattle.std.proofs.lemmas.Bool.{cases_Bool, false_from_ne_true, true≢false}
+use Rattle.std.proofs.lemmas.Bool.{and_parts, or_cases, cases_Bool, false_from_ne_true, true≢false}
 use Rattle.std.proofs.lemmas.Bool.Decides.{Decides-int_eq}
 use Rattle.std.proofs.Math.Path.{fun_ext}
 use Rattle.ww_rule.specs.declared.pattern.State.TheVariants.{Empty, Head, Tail, Conductor}
 use Rattle.ww_rule.specs.Wireworld.{next_plane, evolve, next_state, heads_around, count_head}
 use Rattle.tile_core.specs.Drawing.{Cell, is_among, Drawing, picture}
+use Rattle.tile_timing.proofs.Traces.{none_of, none_of-says}
 use Rattle.tile_timing.proofs.Sound.{same_place, evolve-front}
 
 -- where a number stands from another: one below it, at it, one above it, or elsewhere
@@ -153,3 +154,72 @@ runs_along drawing zero before (c ∷ cs) p h = goes_on drawing before c (first 
 runs_along drawing (suc g) before (c ∷ cs) p h =
     let h' : g < length cs = omega arith in
     evolve-front (suc g) (picture drawing (c ∷ []) before) ∙ ap (evolve (suc g)) (goes_on drawing before c (first cs) p.0) ∙ runs_along drawing g (c ∷ []) cs p.1 h'
+
+-- a test of a list of cells that computes: each cell's neighbours in the list are the cell before it and the cell after it
+abbrev pub is_same : Bool → Bool → Bool
+is_same true b = b
+is_same false b = not b
+
+abbrev pub sees_only : Cell → List Cell → List Cell → Bool
+sees_only c near [] = true
+sees_only c near (d ∷ ds) = is_same (is_beside d.x d.y c) (is_among d.x d.y near) && sees_only c near ds
+
+abbrev pub is_chordless : List Cell → List Cell → List Cell → Bool
+is_chordless cells before [] = true
+is_chordless cells before (c ∷ cs) =
+    is_among c.x c.y cells
+    && sees_only c (first cs ++ before) cells
+    && none_of (c ∷ []) (first cs)
+    && none_of before (first cs)
+    && is_chordless cells (c ∷ []) cs
+
+same_from_test : (a b : Bool) → is_same a b ≡ true → a ≡ b
+same_from_test true b e = sym e
+same_from_test false true e = absurd (true≢false (sym e))
+same_from_test false false e = refl
+
+sees_only-says : (c : Cell) (near cells : List Cell) (x y : ℤ) → sees_only c near cells ≡ true → is_among x y cells ≡ true → is_beside x y c ≡ is_among x y near
+sees_only-says c near [] x y t e = absurd (true≢false (sym e))
+sees_only-says c near (d ∷ ds) x y t e =
+    let parts = and_parts _ _ t in
+    elim (or_cases (int_eq x d.x && int_eq y d.y) (is_among x y ds) e) [
+      | inl here ↦ let s = same_place x y d.x d.y here in ap₂ (λ u v. is_beside u v c) s.0 s.1 ∙ same_from_test _ _ parts.0 ∙ sym (ap₂ (λ u v. is_among u v near) s.0 s.1)
+      | inr later ↦ sees_only-says c near ds x y parts.1 later
+    ]
+
+among_either : (cs ds : List Cell) (x y : ℤ) → is_among x y (cs ++ ds) ≡ (is_among x y cs || is_among x y ds)
+among_either [] ds x y = refl
+among_either (c ∷ cs) ds x y =
+    ap (λ b. (int_eq x c.x && int_eq y c.y) || b) (among_either cs ds x y) ∙ or_moved (int_eq x c.x && int_eq y c.y) (is_among x y cs) (is_among x y ds)
+  where
+    or_moved : (a b d : Bool) → (a || (b || d)) ≡ ((a || b) || d)
+    or_moved true b d = refl
+    or_moved false b d = refl
+
+apart : (cs ds : List Cell) (x y : ℤ) → none_of cs ds ≡ true → (is_among x y cs && is_among x y ds) ≡ false
+apart cs ds x y t =
+    elim (cases_Bool (is_among x y cs)) [
+      | inl e ↦ ap (λ b. b && is_among x y ds) e ∙ none_of-says cs ds x y t e
+      | inr e ↦ ap (λ b. b && is_among x y ds) e
+    ]
+
+-- a list of cells that passes is a chordless path in the drawing of its cells
+pub chordless_path : (cells before path : List Cell) → is_chordless cells before path ≡ true → IsPath (λ x y. is_among x y cells) before path
+chordless_path cells before [] t = tt
+chordless_path cells before (c ∷ cs) t =
+    let p1 = and_parts _ _ t in
+    let p2 = and_parts _ _ p1.0 in
+    let p3 = and_parts _ _ p2.0 in
+    let p4 = and_parts _ _ p3.0 in (
+      record {
+        drawn = p4.0;
+        beside = λ x y e. sees_only-says c (first cs ++ before) cells x y p4.1 e ∙ among_either (first cs) before x y;
+        not_itself = λ x y. apart (c ∷ []) (first cs) x y p3.1;
+        not_back = λ x y. apart before (first cs) x y p2.1;
+      },
+      chordless_path cells (c ∷ []) cs p1.1,
+    )
+
+-- so it carries an electron from its first cell, one cell a generation
+pub carries : (path : List Cell) (g : ℕ) → is_chordless path [] path ≡ true → g < length path → evolve (suc g) (picture (λ x y. is_among x y path) (first path) []) ≡ picture (λ x y. is_among x y path) (first (drop (suc g) path)) (first (drop g path))
+carries path g t h = runs_along (λ x y. is_among x y path) g [] path (chordless_path path [] path t) h

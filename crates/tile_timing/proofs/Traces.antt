@@ -48,7 +48,7 @@ abbrev pub law_test : Drawing → Interface → Bool → Bool → Bool
 law_test drawing tile a b =
     run_passes drawing tile (lit_exits tile a b) (trace drawing 32 (lit_entries tile a b) [])
 
-none_of-says : (cs hs : List Cell) (x y : ℤ) → none_of cs hs ≡ true → is_among x y cs ≡ true → is_among x y hs ≡ false
+pub none_of-says : (cs hs : List Cell) (x y : ℤ) → none_of cs hs ≡ true → is_among x y cs ≡ true → is_among x y hs ≡ false
 none_of-says [] hs x y t e = cc
 none_of-says (c ∷ cs) hs x y t e =
     let parts = and_parts _ _ t in
