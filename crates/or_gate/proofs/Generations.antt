@@ -5,8 +5,8 @@ use Rattle.std.proofs.Math.Bool.{or-false}
 use Rattle.ww_rule.specs.declared.pattern.State.TheVariants.{Empty, Head, Tail, Conductor}
 use Rattle.ww_rule.specs.Wireworld.{Plane, Due, injected, driven, next_plane, evolve}
 use Rattle.ww_rule.specs.Grid.{plane_of}
-use Rattle.or_gate.specs.Pictures.{is_among, picture}
-use Rattle.or_gate.proofs.Sound.{same_place}
+use Rattle.tile_core.specs.Drawing.{is_among, picture}
+use Rattle.tile_timing.proofs.Sound.{same_place}
 use Rattle.or_gate.specs.OrGate.{DrivesEntries, entries, is_lit, or_text, state_of_tag}
 use Rattle.or_gate.proofs.Machine.{wires_of, begun, lit_output, lit_exit, at_32, dark_between, at_rest, injected_rest, injected_none}
 

@@ -8,10 +8,10 @@ use Rattle.ww_rule.specs.declared.pattern.State.{State}
 use Rattle.ww_rule.specs.declared.pattern.State.TheVariants.{Empty, Head, Tail, Conductor}
 use Rattle.ww_rule.specs.Wireworld.{Plane, Due, injected, driven, next_plane, evolve}
 use Rattle.ww_rule.specs.Grid.{plane_of}
-use Rattle.or_gate.specs.Pictures.{Cell, is_among, picture}
+use Rattle.tile_core.specs.Drawing.{Cell, is_among, picture}
 use Rattle.or_gate.specs.OrGate.{at, entries, DrivesEntries, is_lit, or_text, state_of_tag}
-use Rattle.or_gate.proofs.Lists.{trace}
-use Rattle.or_gate.proofs.Sound.{evolve_picture, same_place}
+use Rattle.tile_timing.proofs.Heads.{trace}
+use Rattle.tile_timing.proofs.Sound.{evolve_picture, same_place}
 
 abbrev pub is_wire : State → Bool
 is_wire Empty = false

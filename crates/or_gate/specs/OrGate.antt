@@ -3,7 +3,7 @@ use Rattle.std.specs.Prelude.{ℤ, pos, ℕ, zero, suc, ◌+◌, ◌*◌, ◌%�
 use Rattle.ww_rule.specs.declared.pattern.State.{State}
 use Rattle.ww_rule.specs.declared.pattern.State.TheVariants.{Empty, Head, Tail, Conductor}
 use Rattle.ww_rule.specs.Wireworld.{Plane, Due}
-use Rattle.or_gate.specs.Pictures.{Cell, is_among}
+use Rattle.tile_core.specs.Drawing.{Cell, is_among}
 
 abbrev pub state_of_tag : ℕ → State
 state_of_tag tag = cond (tag == 67) Conductor Empty

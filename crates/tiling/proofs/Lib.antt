@@ -1,1 +1,19 @@
--- lemmas
+pub mod Region
+pub mod Alone
+pub mod Border
+pub mod Apart
+pub mod Sides
+pub mod Lighting
+pub mod Blocks
+pub mod Facing
+pub mod Roles
+pub mod First
+pub mod Between
+pub mod Front
+pub mod Around
+pub mod HandOver
+pub mod Macro
+pub mod OutputCell
+pub mod LitPieces
+pub mod Driven
+pub mod Shown

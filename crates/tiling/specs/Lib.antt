@@ -1,3 +1,4 @@
 pub mod Tiling
 pub mod Matched
 pub mod MacroStep
+pub mod Steps

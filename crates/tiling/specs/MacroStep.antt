@@ -2,7 +2,7 @@
 use Rattle.std.specs.Prelude.{ℕ, zero, suc, pos, ◌+◌, ◌-◌, Bool, false, ◌||◌}
 use Rattle.tile_core.specs.Drawing.{is_among}
 use Rattle.tile_core.specs.Interface.{lit_exits}
-use Rattle.tiling.specs.Tiling.{Piece, interface_of, Slot, Tiling, Edge, Lit, is_entry_lit}
+use Rattle.tiling.specs.Tiling.{Piece, interface_of, Slot, Tiling, Lit, is_entry_lit}
 use Rattle.tiling.specs.Tiling.Slot.{Nothing, Whole, Upper, Lower}
 use Rattle.tiling.specs.Tiling.Edge.{Beside, Above}
 

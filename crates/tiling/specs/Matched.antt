@@ -1,7 +1,7 @@
 -- Tilings whose pieces fit together.
-use Rattle.std.specs.Prelude.{ℕ, pos, ◌+◌, ◌≡◌, Bool, false, true, ◌&&◌}
+use Rattle.std.specs.Prelude.{ℕ, pos, ◌+◌, ◌≡◌, Bool, false, ◌&&◌}
 use Rattle.tile_core.specs.Drawing.{is_among}
-use Rattle.tile_core.specs.Interface.{Interface, entry_cells, exit_cells}
+use Rattle.tile_core.specs.Interface.{entry_cells, exit_cells}
 use Rattle.tiling.specs.Tiling.{Piece, interface_of, Slot, Tiling}
 use Rattle.tiling.specs.Tiling.Slot.{Nothing, Whole, Upper, Lower}
 

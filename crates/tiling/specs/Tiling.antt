@@ -1,5 +1,5 @@
 -- A plane that is cut into blocks of 32 columns and 16 rows, and what stands in each of them.
-use Rattle.std.specs.Prelude.{ℤ, pos, negsuc, ℕ, ◌+◌, ◌-◌, ◌*◌, ◌/◌, ◌%◌, ◌==◌, Bool, false, ◌&&◌, if◌then◌else◌, ltb, List, [], ◌∷◌, get_or}
+use Rattle.std.specs.Prelude.{pos, negsuc, ℕ, ◌+◌, ◌-◌, ◌/◌, ◌%◌, ◌==◌, Bool, ◌&&◌, if◌then◌else◌, ltb, List, [], ◌∷◌, get_or}
 use Rattle.ww_rule.specs.declared.pattern.State.{State}
 use Rattle.ww_rule.specs.declared.pattern.State.TheVariants.{Empty}
 use Rattle.ww_rule.specs.Wireworld.{Plane}

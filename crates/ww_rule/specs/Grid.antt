@@ -1,5 +1,5 @@
 -- Boxes of cells in rows, and the planes that they stand for.
-use Rattle.std.specs.Prelude.{ℕ, pos, negsuc, ◌≡◌, ◌≢◌, ◌*◌, List, [], length, All, get_or}
+use Rattle.std.specs.Prelude.{ℤ, pos, negsuc, ℕ, Bool, false, ◌&&◌, nat_lt, ◌<◌, ◌≡◌, ◌≢◌, ◌*◌, List, [], length, All, get_or}
 use Rattle.ww_rule.specs.declared.pattern.State.{State}
 use Rattle.ww_rule.specs.declared.pattern.State.TheVariants.{Empty}
 use Rattle.ww_rule.specs.Wireworld.{Plane}
@@ -16,8 +16,26 @@ pub record IsGrid (width height : ℕ) (rows : List (List State)) : Type 0 where
   pub many : width * height ≢ 0 → length rows ≡ height
   pub none : width * height ≡ 0 → rows ≡ []
 
+-- the plane of a look-up by column and row, from 0 eastward and from 0 downward; all else is empty
+abbrev pub framed : (ℕ → ℕ → State) → Plane
+framed look (pos x) (pos y) = look x y
+framed look (pos x) (negsuc y) = Empty
+framed look (negsuc x) y = Empty
+
 -- a pattern is the plane with its cells at x from 0 eastward and y from 0 downward; all else is empty
 abbrev pub plane_of : List (List State) → Plane
-plane_of rows (pos x) (pos y) = get_or (get_or rows y []) x Empty
-plane_of rows (pos x) (negsuc y) = Empty
-plane_of rows (negsuc x) y = Empty
+plane_of rows = framed (λ x y. get_or (get_or rows y []) x Empty)
+
+-- is it a cell of the box of so many columns and rows at the origin?
+abbrev pub in_box : ℕ → ℕ → ℤ → ℤ → Bool
+in_box width height (pos x) (pos y) = nat_lt x width && nat_lt y height
+in_box width height (pos x) (negsuc y) = false
+in_box width height (negsuc x) y = false
+
+-- the plane is empty outside that box
+abbrev pub IsEmptyOutside : ℕ → ℕ → Plane → Type 0
+IsEmptyOutside width height p = (x y : ℤ) → in_box width height x y ≡ false → p x y ≡ Empty
+
+-- these cells lie in that box
+abbrev pub AreInBox : ℕ → ℕ → List (ℕ × ℕ) → Type 0
+AreInBox width height cells = All (λ cell. (cell.0 < width) × (cell.1 < height)) cells

@@ -1,2 +1,5 @@
 pub mod Wireworld
 pub mod Grid
+pub mod Injections
+pub mod Patterns
+pub mod Laws

@@ -1,4 +1,6 @@
-use Rattle.std.specs.Prelude.{ℤ, pos, ◌+ℤ◌, ◌-ℤ◌, ℕ, zero, suc, ◌+◌, ◌||◌, ◌==◌, cond, Bool}
+-- Wireworld, as Brian Silverman defined it: an empty cell stays empty; a head becomes a tail; a tail becomes a
+-- conductor; a conductor becomes a head exactly when one or two of its eight neighbours are heads, else it stays one.
+use Rattle.std.specs.Prelude.{ℤ, pos, ◌+ℤ◌, ◌-ℤ◌, ℕ, zero, suc, ◌+◌, ◌||◌, ◌==◌, cond, Bool, false}
 use Rattle.ww_rule.specs.declared.pattern.State.{State}
 use Rattle.ww_rule.specs.declared.pattern.State.TheVariants.{Empty, Head, Tail, Conductor}
 
@@ -41,11 +43,15 @@ abbrev pub evolve : ℕ → Plane → Plane
 evolve zero p = p
 evolve (suc n) p = next_plane (evolve n p)
 
--- which cells are made heads at a generation
+-- which cells are made heads at a generation: a test of a generation and a cell
 abbrev pub Due : Type 0
 Due = ℕ → ℤ → ℤ → Bool
 
--- the plane with the cells that are due made heads
+-- a pattern that is not driven
+abbrev pub undriven : Due
+undriven g x y = false
+
+-- the plane with the cells that are due made heads, whatever they held
 abbrev pub injected : (ℤ → ℤ → Bool) → Plane → Plane
 injected due p x y = cond (due x y) Head (p x y)
 

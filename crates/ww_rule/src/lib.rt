@@ -1,6 +1,17 @@
 //! Wireworld: states, patterns, planes and the rule.
 #![tactic(auto)]
 
+mod error;
+pub mod laws;
+mod mirror;
 mod pattern;
+mod plane;
+mod rows;
 
-pub use pattern::{Pattern, State};
+pub use error::RuleError;
+pub use mirror::mirror_x;
+pub use pattern::{Injection, Pattern, State};
+pub use plane::{Plane, step_driven, step_plain};
+
+#[cfg(test)]
+mod tests;

@@ -1,4 +1,4 @@
-// The four states, and patterns: boxes of cells in rows.
+// The four states, patterns as boxes of cells in rows, and injections.
 use lists::List;
 
 /// The state of a cell, by Silverman's rule.
@@ -19,4 +19,13 @@ pub struct Pattern {
     pub height: u64,
     pub rows: List<List<State>>,
     ghost in_rows: { IsGrid width height rows },
+}
+
+/// A cell that is made a head from outside, at a generation: its column x is counted from the west and its row y from
+/// the north, each from 0.
+#[derive(Clone, Copy, Debug, PartialEq, Eq)]
+pub struct Injection {
+    pub generation: u128,
+    pub x: u64,
+    pub y: u64,
 }

@@ -1,0 +1,203 @@
+-- The first fault of lines, as a relation and as it is computed.
+use Rattle.std.proofs.Common.{◌≡◌, refl, sym, ap, subst, ◌∙◌, ℕ, ◌<◌, ◌⊎◌, inl, inr, List, [], ◌∷◌, ◌++◌, reverse, Bool, true, false, ◌&&◌, true≢false, arith, append_assoc, append-nil}
+use Rattle.std.specs.Prelude.{Some, None, Option, option_map, nat_lt}
+use Rattle.std.specs.List.{list_all}
+use Rattle.std.specs.Option.{option_or}
+use Rattle.std.proofs.lemmas.List.{reverse-append}
+use Rattle.std.proofs.lemmas.Bool.{ltb-true}
+use Rattle.blif_text.specs.declared.logical.Logical.{Logical}
+use Rattle.blif_text.specs.declared.fault.Fault.{Fault}
+use Rattle.blif_text.specs.declared.fault.FaultKind.{FaultKind}
+use Rattle.blif_text.specs.declared.fault.FaultKind.TheVariants.{NoModelYet, UnknownDirective, Unsupported, BadCount, RowOutside, BadRow, MixedCover, BadLatch, BadPin, AfterEnd, DuplicateModel}
+use Rattle.blif_text.specs.FaultNames.{number_of}
+use Rattle.blif_text.specs.LineFaults.{word_at_fault, fault_at, first_broken, fault_after, line_fault, line_rules}
+use Rattle.blif_text.specs.Laws.{BreaksNone, IsFirstLineFault, LineFaultIsFirst}
+
+-- one of a list
+abbrev pub Member : FaultKind → List FaultKind → Type 0
+Member kind [] = ⊥
+Member kind (k ∷ ks) = (kind ≡ k) ⊎ Member kind ks
+
+-- a list in the order of the numbers
+abbrev pub ascends : List FaultKind → Bool
+ascends [] = true
+ascends (k ∷ ks) = list_all (λ j. nat_lt (number_of k) (number_of j)) ks && ascends ks
+
+pub left : (a b : Bool) → (a && b) ≡ true → a ≡ true
+left true b e = refl
+left false b e = e
+
+pub right : (a b : Bool) → (a && b) ≡ true → b ≡ true
+right true b e = e
+right false b e = absurd (true≢false (sym e))
+
+pub above : (n : ℕ) (ks : List FaultKind) (kind : FaultKind) → list_all (λ j. nat_lt n (number_of j)) ks ≡ true → Member kind ks → n < number_of kind
+above n [] kind e m = absurd m
+above n (k ∷ ks) kind e (inl h) = subst (λ j. n < number_of j) (sym h) (ltb-true n (number_of k) (left (nat_lt n (number_of k)) (list_all (λ j. nat_lt n (number_of j)) ks) e))
+above n (k ∷ ks) kind e (inr m) = above n ks kind (right (nat_lt n (number_of k)) (list_all (λ j. nat_lt n (number_of j)) ks) e) m
+
+-- a rule that no line can break is none of those on lines
+line_rule : (kind : FaultKind) (before : List Logical) (l : Logical) → (word_at_fault kind before l ≡ None) ⊎ Member kind line_rules
+line_rule NoModelYet before l = inr (inl refl)
+line_rule UnknownDirective before l = inr (inr (inl refl))
+line_rule Unsupported before l = inr (inr (inr (inl refl)))
+line_rule BadCount before l = inr (inr (inr (inr (inl refl))))
+line_rule RowOutside before l = inr (inr (inr (inr (inr (inl refl)))))
+line_rule BadRow before l = inr (inr (inr (inr (inr (inr (inl refl))))))
+line_rule MixedCover before l = inr (inr (inr (inr (inr (inr (inr (inl refl)))))))
+line_rule BadLatch before l = inr (inr (inr (inr (inr (inr (inr (inr (inl refl))))))))
+line_rule BadPin before l = inr (inr (inr (inr (inr (inr (inr (inr (inr (inl refl)))))))))
+line_rule AfterEnd before l = inr (inr (inr (inr (inr (inr (inr (inr (inr (inr (inl refl))))))))))
+line_rule DuplicateModel before l = inr (inr (inr (inr (inr (inr (inr (inr (inr (inr (inr (inl refl)))))))))))
+line_rule _ before l = inl refl
+
+module _ (before : List Logical) (l : Logical) where
+  -- what is broken first
+  pub record FirstBroken (rules : List FaultKind) (f : Fault) : Type 0 where
+    pub line : f.line ≡ l.line
+    pub word : word_at_fault f.kind before l ≡ Some f.word
+    pub lowest : (kind : FaultKind) → Member kind rules → number_of kind < number_of f.kind → word_at_fault kind before l ≡ None
+
+  found : (rules : List FaultKind) (f : Fault) → ascends rules ≡ true → first_broken rules before l ≡ Some f → FirstBroken rules f
+  found [] f up e = absurd (cc)
+  found (k ∷ ks) f up e = by (λ d. found ks f (right _ _ up) d) (word_at_fault k before l) refl e
+    where
+      by : (first_broken ks before l ≡ Some f → FirstBroken ks f) → (o : Option (List ℕ)) → word_at_fault k before l ≡ o → option_or (option_map (fault_at k l.line) o) (first_broken ks before l) ≡ Some f → FirstBroken (k ∷ ks) f
+      by again (Some w) h d =
+          let same : fault_at k l.line w ≡ f = cc in
+          subst (λ g. FirstBroken (k ∷ ks) g) same (record {
+            line = refl;
+            word = h;
+            lowest = λ kind m lower. elim m as (λ _. word_at_fault kind before l ≡ None) [
+              | inl same_kind ↦ absurd (let n : number_of kind ≡ number_of k = ap number_of same_kind in omega arith)
+              | inr later ↦ absurd (let n : number_of k < number_of kind = above (number_of k) ks kind (left _ _ up) later in omega arith)
+            ];
+          })
+      by again None h d =
+          let rest : FirstBroken ks f = again d in
+          record {
+            line = rest.line;
+            word = rest.word;
+            lowest = λ kind m lower. elim m as (λ _. word_at_fault kind before l ≡ None) [
+              | inl same_kind ↦ subst (λ j. word_at_fault j before l ≡ None) (sym same_kind) h
+              | inr later ↦ rest.lowest kind later lower
+            ];
+          }
+
+  not_found : (rules : List FaultKind) → first_broken rules before l ≡ None → (kind : FaultKind) → Member kind rules → word_at_fault kind before l ≡ None
+  not_found [] e kind m = absurd m
+  not_found (k ∷ ks) e kind m = by (λ d later. not_found ks d kind later) (word_at_fault k before l) refl e m
+    where
+      by : (first_broken ks before l ≡ None → Member kind ks → word_at_fault kind before l ≡ None) → (o : Option (List ℕ)) → word_at_fault k before l ≡ o → option_or (option_map (fault_at k l.line) o) (first_broken ks before l) ≡ None → Member kind (k ∷ ks) → word_at_fault kind before l ≡ None
+      by again (Some w) h d m = absurd (cc)
+      by again None h d (inl same_kind) = subst (λ j. word_at_fault j before l ≡ None) (sym same_kind) h
+      by again None h d (inr later) = again d later
+
+  pub breaks_none : first_broken line_rules before l ≡ None → BreaksNone before l
+  breaks_none e kind = elim (line_rule kind before l) as (λ _. word_at_fault kind before l ≡ None) [ inl h ↦ h | inr m ↦ not_found line_rules e kind m ]
+
+  finds : (rules : List FaultKind) (f : Fault) → ascends rules ≡ true → f.line ≡ l.line → Member f.kind rules → word_at_fault f.kind before l ≡ Some f.word → ((kind : FaultKind) → number_of kind < number_of f.kind → word_at_fault kind before l ≡ None) → first_broken rules before l ≡ Some f
+  finds [] f up at m w low = absurd m
+  finds (k ∷ ks) f up at (inl h) w low =
+      let here : word_at_fault k before l ≡ Some f.word = subst (λ j. word_at_fault j before l ≡ Some f.word) h w in
+      ap (λ o. option_or (option_map (fault_at k l.line) o) (first_broken ks before l)) here ∙ ap Some (ap (λ j. fault_at j l.line f.word) (sym h) ∙ ap (λ n. fault_at f.kind n f.word) (sym at))
+  finds (k ∷ ks) f up at (inr later) w low =
+      let none : word_at_fault k before l ≡ None = low k (above (number_of k) ks f.kind (left _ _ up) later) in
+      ap (λ o. option_or (option_map (fault_at k l.line) o) (first_broken ks before l)) none ∙ finds ks f (right _ _ up) at later w low
+
+  none_broken : (rules : List FaultKind) → BreaksNone before l → first_broken rules before l ≡ None
+  none_broken [] none = refl
+  none_broken (k ∷ ks) none = ap (λ o. option_or (option_map (fault_at k l.line) o) (first_broken ks before l)) (none k) ∙ none_broken ks none
+
+-- the first fault of a list of lines that follows these, the nearest first
+pub record FirstAfter (before lines : List Logical) (f : Fault) : Type 0 where
+  pub front : List Logical
+  pub line : Logical
+  pub back : List Logical
+  pub are_lines : lines ≡ front ++ line ∷ back
+  pub at_its_line : f.line ≡ line.line
+  pub breaks : word_at_fault f.kind (reverse front ++ before) line ≡ Some f.word
+  pub is_lowest : (kind : FaultKind) → number_of kind < number_of f.kind → word_at_fault kind (reverse front ++ before) line ≡ None
+  pub is_earliest : (a : List Logical) (e : Logical) (b : List Logical) → front ≡ a ++ e ∷ b → BreaksNone (reverse a ++ before) e
+
+turned : (l : Logical) (front before : List Logical) → reverse (l ∷ front) ++ before ≡ reverse front ++ l ∷ before
+turned l front before = ap (λ v. v ++ before) (reverse-append (l ∷ []) front) ∙ append_assoc (reverse front) (l ∷ []) before
+
+here_first : (before : List Logical) (l : Logical) (ls : List Logical) (f : Fault) → first_broken line_rules before l ≡ Some f → FirstAfter before (l ∷ ls) f
+here_first before l ls f e =
+    let b : FirstBroken before l line_rules f = found before l line_rules f refl e in
+    record {
+      front = [];
+      line = l;
+      back = ls;
+      are_lines = refl;
+      at_its_line = b.line;
+      breaks = b.word;
+      is_lowest = λ kind lower. elim (line_rule kind before l) as (λ _. word_at_fault kind before l ≡ None) [ inl h ↦ h | inr m ↦ b.lowest kind m lower ];
+      is_earliest = λ a x c h. empty a x c h;
+    }
+  where
+    empty : (a : List Logical) (x : Logical) (c : List Logical) → [] ≡ a ++ x ∷ c → BreaksNone (reverse a ++ before) x
+    empty [] x c h = absurd (cc)
+    empty (y ∷ ys) x c h = absurd (cc)
+
+later_first : (before : List Logical) (l : Logical) (ls : List Logical) (f : Fault) → first_broken line_rules before l ≡ None → FirstAfter (l ∷ before) ls f → FirstAfter before (l ∷ ls) f
+later_first before l ls f none r = record {
+  front = l ∷ r.front;
+  line = r.line;
+  back = r.back;
+  are_lines = ap (λ v. l ∷ v) r.are_lines;
+  at_its_line = r.at_its_line;
+  breaks = subst (λ v. word_at_fault f.kind v r.line ≡ Some f.word) (sym (turned l r.front before)) r.breaks;
+  is_lowest = λ kind lower. subst (λ v. word_at_fault kind v r.line ≡ None) (sym (turned l r.front before)) (r.is_lowest kind lower);
+  is_earliest = λ a x c h. by a x c h;
+}
+  where
+    by : (a : List Logical) (x : Logical) (c : List Logical) → l ∷ r.front ≡ a ++ x ∷ c → BreaksNone (reverse a ++ before) x
+    by [] x c h = let e : l ≡ x = cc in subst (λ v. BreaksNone before v) e (breaks_none before l none)
+    by (y ∷ ys) x c h =
+        let e : y ≡ l = cc in
+        let rest : r.front ≡ ys ++ x ∷ c = cc in
+        subst (λ v. BreaksNone v x) (sym (turned y ys before)) (subst (λ v. BreaksNone (reverse ys ++ v ∷ before) x) (sym e) (r.is_earliest ys x c rest))
+
+first_after : (before lines : List Logical) (f : Fault) → fault_after before lines ≡ Some f → FirstAfter before lines f
+first_after before [] f e = absurd (cc)
+first_after before (l ∷ ls) f e = by (λ d. first_after (l ∷ before) ls f d) (first_broken line_rules before l) refl e
+  where
+    by : (fault_after (l ∷ before) ls ≡ Some f → FirstAfter (l ∷ before) ls f) → (o : Option Fault) → first_broken line_rules before l ≡ o → option_or o (fault_after (l ∷ before) ls) ≡ Some f → FirstAfter before (l ∷ ls) f
+    by again (Some g) h d = here_first before l ls f (h ∙ d)
+    by again None h d = later_first before l ls f h (again d)
+
+-- and back
+is_found : (before front : List Logical) (line : Logical) (back : List Logical) (f : Fault) → f.line ≡ line.line → word_at_fault f.kind (reverse front ++ before) line ≡ Some f.word
+    → ((kind : FaultKind) → number_of kind < number_of f.kind → word_at_fault kind (reverse front ++ before) line ≡ None)
+    → ((a : List Logical) (e : Logical) (b : List Logical) → front ≡ a ++ e ∷ b → BreaksNone (reverse a ++ before) e) → fault_after before (front ++ line ∷ back) ≡ Some f
+is_found before [] line back f at w low none = elim (line_rule f.kind before line) as (λ _. fault_after before (line ∷ back) ≡ Some f) [
+  | inl h ↦ absurd (cc)
+  | inr m ↦ ap (λ o. option_or o (fault_after (line ∷ before) back)) (finds before line line_rules f refl at m w low)
+]
+is_found before (l ∷ front) line back f at w low none =
+    ap (λ o. option_or o (fault_after (l ∷ before) (front ++ line ∷ back))) (none_broken before l line_rules (none [] l front refl))
+    ∙ is_found (l ∷ before) front line back f at (subst (λ v. word_at_fault f.kind v line ≡ Some f.word) (turned l front before) w) (λ kind lower. subst (λ v. word_at_fault kind v line ≡ None) (turned l front before) (low kind lower))
+    (λ a e b h. subst (λ v. BreaksNone v e) (turned l a before) (none (l ∷ a) e b (ap (λ v. l ∷ v) h)))
+
+pub line_fault_is_first : LineFaultIsFirst
+line_fault_is_first lines fault = (λ e. to e, λ r. from r)
+  where
+    to : line_fault lines ≡ Some fault → IsFirstLineFault lines fault
+    to e = let r : FirstAfter [] lines fault = first_after [] lines fault e in record {
+      before = r.front;
+      line = r.line;
+      after = r.back;
+      are_lines = r.are_lines;
+      at_its_line = r.at_its_line;
+      breaks = subst (λ v. word_at_fault fault.kind v r.line ≡ Some fault.word) (append-nil (reverse r.front)) r.breaks;
+      is_lowest = λ kind lower. subst (λ v. word_at_fault kind v r.line ≡ None) (append-nil (reverse r.front)) (r.is_lowest kind lower);
+      is_earliest = λ a x c h. subst (λ v. BreaksNone v x) (append-nil (reverse a)) (r.is_earliest a x c h);
+    }
+
+    from : IsFirstLineFault lines fault → line_fault lines ≡ Some fault
+    from r = ap line_fault r.are_lines ∙ is_found [] r.before r.line r.after fault r.at_its_line
+        (subst (λ v. word_at_fault fault.kind v r.line ≡ Some fault.word) (sym (append-nil (reverse r.before))) r.breaks)
+        (λ kind lower. subst (λ v. word_at_fault kind v r.line ≡ None) (sym (append-nil (reverse r.before))) (r.is_lowest kind lower))
+        (λ a x c h. subst (λ v. BreaksNone v x) (sym (append-nil (reverse a))) (r.is_earliest a x c h))

@@ -1,0 +1,12 @@
+pub mod CircleLemmas
+pub mod CircleSearch
+pub mod CircleTexts
+pub mod Computed
+pub mod Cuts
+pub mod FirstFaults
+pub mod FirstModelFaults
+pub mod LineNumbers
+pub mod Members
+pub mod OneFault
+pub mod OrGateLemmas
+pub mod Texts

@@ -1,0 +1,32 @@
+-- What a text is: a design, or one fault.
+use Rattle.std.specs.Prelude.{◌≡◌, ℕ, List, [], ◌∷◌, codes, Option, Some, None}
+use Rattle.netlist_core.specs.declared.model.Model.{Model}
+use Rattle.netlist_core.specs.declared.model.Design.{Design}
+use Rattle.blif_text.specs.declared.logical.Logical.{Logical}
+use Rattle.blif_text.specs.declared.fault.Fault.{Fault}
+use Rattle.blif_text.specs.declared.fault.FaultKind.TheVariants.{NoModel}
+use Rattle.blif_text.specs.LogicalLines.{logical_lines}
+use Rattle.blif_text.specs.Models.{models_of}
+use Rattle.blif_text.specs.LineFaults.{fault_at, line_fault}
+use Rattle.blif_text.specs.ModelFaults.{HasModelFault, AreFaultless}
+
+-- 22: there is no logical line
+abbrev pub fault_if_empty : List Logical → Option Fault
+fault_if_empty [] = Some (fault_at NoModel 1 (codes "-"))
+fault_if_empty (l ∷ lines) = None
+
+-- The models of a list of lines that break no rule on lines.
+pub record HasModels (lines : List Logical) (models : List Model) : Type 0 where
+  pub no_fault : line_fault lines ≡ None
+  pub are_models : models ≡ models_of lines
+
+-- The fault of a list of logical lines: there is none of them, or the earliest line that breaks a rule, or a rule on models.
+pub data HasFault : List Logical → Fault → Type 0 where
+  of_no_line : {lines : List Logical} {fault : Fault} → fault_if_empty lines ≡ Some fault → HasFault lines fault
+  of_line : {lines : List Logical} {fault : Fault} → line_fault lines ≡ Some fault → HasFault lines fault
+  of_models : {lines : List Logical} {models : List Model} {fault : Fault} → HasModels lines models → HasModelFault models fault → HasFault lines fault
+
+-- The design of a text: no line and no model of it has a fault, and the models are the design's.
+pub record IsDesignOf (text : List ℕ) (design : Design) : Type 0 where
+  pub models : HasModels (logical_lines text) design.models
+  pub faultless : AreFaultless design.models

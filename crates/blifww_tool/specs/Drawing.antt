@@ -1,0 +1,33 @@
+-- What is written for an OR gate: its drawing, with lines that say where its ports are.
+use Rattle.std.specs.Prelude.{ℕ, ◌==◌, if◌then◌else◌, List, [], ◌∷◌, ◌++◌, map, codes}
+use Rattle.ww_rule.specs.declared.pattern.State.{State}
+use Rattle.ww_rule.specs.declared.pattern.State.TheVariants.{Empty, Conductor}
+use Rattle.ww_rule.specs.Grid.{Grid}
+use Rattle.pattern_writing.specs.Writer.{writer_text}
+use Rattle.blifww_tool.specs.declared.drawing.TheConstants.{OR_DRAWING}
+use Rattle.blifww_tool.specs.Thin.{Names}
+
+-- a cell as it is drawn: `C` is a conductor
+abbrev pub state_of : ℕ → State
+state_of byte = if byte == 67 then Conductor else Empty
+
+-- the gate's box of cells
+abbrev pub or_grid : Grid
+or_grid = record { width = 33; height = 32; rows = map (map state_of) OR_DRAWING }
+
+-- period and latency, 32 generations each; then the cells where the inputs enter, and where the output leaves
+abbrev pub or_lines : Names → List (List ℕ)
+or_lines n =
+    codes "#C BLIFWW 1 P 32 L 32"
+    ∷ (codes "#C BLIFWW IN 0 8 " ++ n.a)
+    ∷ (codes "#C BLIFWW IN 0 24 " ++ n.b)
+    ∷ (codes "#C BLIFWW OUT 32 8 " ++ n.y)
+    ∷ []
+
+-- the text of the gate with these names
+abbrev pub or_text : Names → List ℕ
+or_text n = writer_text or_grid (or_lines n)
+
+-- the names of a gate whose text is written out letter by letter
+abbrev pub sample_names : Names
+sample_names = record { model = codes "or"; a = codes "a"; b = codes "b"; y = codes "y" }

@@ -1,0 +1,142 @@
+// Runs over sources and sinks in memory.
+ghost use Rattle.std.specs.Prelude.{◌≤◌};
+
+use crate::run;
+use std::alloc::Global;
+use std::test::Fail;
+use ww_base::{MemSink, MemSource};
+
+const COMPILE: &[&str] = &["blifww", "compile"];
+
+const GATE: &[u8] = b".model or\n.inputs a b\n.outputs y\n.names a b y\n1- 1\n-1 1\n.end\n";
+
+// What is written for it: 242 bytes.
+const PATTERN: &[u8] =
+    b"#C BLIFWW 1 P 32 L 32\n#C BLIFWW IN 0 8 a\n#C BLIFWW IN 0 24 b\n#C BLIFWW OUT 32 8 y\nx = 33, y = 32, rule = WireWorld\n8$5C18.10C$5.C16.C$6.C14.C$7.C12.C$8.C10.C$9.C.2C5.C$10.2C.C3.C$11.2C.\nC.C$15.C$11.2C.C$10.2C.C$9.C.2C$8.C$7.C$6.C$5.C$5C26.C!\n";
+
+const USAGE: &[u8] = b"usage: blifww compile|simulate|eval|probe|window|make|self\n";
+
+// The status, and what `out` and `err` hold.
+#[derive(Drop)]
+struct Outcome {
+    status: u8,
+    out: Vec<u8>,
+    err: Vec<u8>,
+}
+
+// A run over a source in memory, by its chunk and the calls that fail, and sinks with some room.
+fn run_over(
+    alloc: Global,
+    words: &[&str],
+    text: &[u8],
+    source: (usize, &[u64]),
+    rooms: (usize, usize),
+) -> Result<Outcome, Fail>
+    requires { 1 ≤ source.0 }
+{
+    let mut given = Vec::new(alloc);
+    for word in words {
+        given.push(String::from_str(alloc, word)?)?;
+    }
+    let mut src = MemSource::new(alloc, text, source.0, source.1)?;
+    let mut out = MemSink::new(alloc, rooms.0, 7, &[])?;
+    let mut err = MemSink::new(alloc, rooms.1, 7, &[])?;
+    let status = run(alloc, &given, &mut src, &mut out, &mut err);
+    Ok(Outcome {
+        status,
+        out: out.held().to_vec(alloc)?,
+        err: err.held().to_vec(alloc)?,
+    })
+}
+
+#[test]
+fn an_or_gate_is_compiled_by_its_names(rt: HostRuntime) -> Result<(), Fail> {
+    let alloc = rt.alloc();
+    let got = run_over(alloc, COMPILE, GATE, (16, &[]), (242, 0))?;
+    assert_eq!(rt; got.status, 0);
+    assert_eq!(rt; got.out.as_slice(), PATTERN);
+    assert_eq!(rt; got.err.as_slice(), b"".as_slice());
+
+    let named =
+        b".model X\n.inputs X sum_of_2_inputs_0\n.outputs _9\n.names X sum_of_2_inputs_0 _9\n1- 1\n-1 1\n.end\n";
+    let got = run_over(alloc, COMPILE, named, (16, &[]), (300, 0))?;
+    assert_eq!(rt; got.status, 0);
+    let ports =
+        b"#C BLIFWW 1 P 32 L 32\n#C BLIFWW IN 0 8 X\n#C BLIFWW IN 0 24 sum_of_2_inputs_0\n#C BLIFWW OUT 32 8 _9\nx = 33, y = 32, rule";
+    assert!(rt; got.out.starts_with(ports));
+    assert!(rt; got.out.ends_with(&PATTERN[100..]));
+    Ok(())
+}
+
+#[test]
+fn other_texts_are_not_compiled_yet(rt: HostRuntime) -> Result<(), Fail> {
+    for text in [
+        b".model or\n.inputs a b\n.outputs y\n.names a b y\n10 1\n.end\n".as_slice(),
+        b".model or\n.inputs a b\n.outputs y\n.names a b y\n1- 1\n-1 1\n.end",
+        b".model or\r\n.inputs a b\r\n.outputs y\r\n.names a b y\r\n1- 1\r\n-1 1\r\n.end\r\n",
+        b".model or\n.inputs a  b\n.outputs y\n.names a b y\n1- 1\n-1 1\n.end\n",
+        b".model or\n.inputs a a\n.outputs y\n.names a a y\n1- 1\n-1 1\n.end\n",
+        b".model or\n.inputs a b\n.outputs a\n.names a b a\n1- 1\n-1 1\n.end\n",
+        b".model or\n.inputs a b\n.outputs y\n.names b a y\n1- 1\n-1 1\n.end\n",
+        b".model \n.inputs a b\n.outputs y\n.names a b y\n1- 1\n-1 1\n.end\n",
+        b".model or\n.inputs a b\n.outputs y\n.names a b y\n1- 1\n-1 1\n.end\n\n",
+        b"",
+    ] {
+        let got = run_over(rt.alloc(), COMPILE, text, (16, &[]), (242, 99))?;
+        assert_eq!(rt; got.status, 11);
+        assert_eq!(rt; got.out.as_slice(), b"".as_slice());
+        assert_eq!(rt; got.err.as_slice(), b"not yet\n".as_slice());
+    }
+    Ok(())
+}
+
+#[test]
+fn each_failure_is_told(rt: HostRuntime) -> Result<(), Fail> {
+    for (words, fails, rooms, status, out, err) in [
+        (
+            COMPILE,
+            [9].as_slice(),
+            (100, 99),
+            6,
+            &PATTERN[..100],
+            b"write fault\n".as_slice(),
+        ),
+        (COMPILE, &[9], (100, 5), 6, &PATTERN[..100], b"write"),
+        (COMPILE, &[1], (242, 99), 5, b"", b"read fault\n"),
+        (COMPILE, &[1], (242, 4), 6, b"", b"read"),
+        (&["blifww"], &[0], (242, 99), 2, b"", USAGE),
+        (
+            &["blifww", "compile", "compile"],
+            &[0],
+            (242, 99),
+            2,
+            b"",
+            USAGE,
+        ),
+        (&["blifww", "simulate"], &[0], (242, 99), 2, b"", USAGE),
+        (&["blifww"], &[0], (242, 20), 6, b"", &USAGE[..20]),
+    ] {
+        let got = run_over(rt.alloc(), words, GATE, (16, fails), rooms)?;
+        assert_eq!(rt; got.status, status);
+        assert_eq!(rt; got.out.as_slice(), out);
+        assert_eq!(rt; got.err.as_slice(), err);
+    }
+    assert!(rt; PATTERN[..100].ends_with(b"x = 33, y = 32, ru"));
+    Ok(())
+}
+
+#[test]
+fn a_text_past_the_limit_is_too_long(rt: HostRuntime) -> Result<(), Fail> {
+    let alloc = rt.alloc();
+    for (length, status, line) in [
+        (16_777_216, 11, b"not yet\n".as_slice()),
+        (16_777_217, 4, b"too long: limit 16777216\n"),
+    ] {
+        let text = vec![in alloc; b'a'; length]?;
+        let got = run_over(alloc, COMPILE, &text, (1 << 20, &[]), (242, 99))?;
+        assert_eq!(rt; got.status, status, "{length} bytes");
+        assert_eq!(rt; got.out.as_slice(), b"".as_slice());
+        assert_eq!(rt; got.err.as_slice(), line);
+    }
+    Ok(())
+}

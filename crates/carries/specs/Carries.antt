@@ -1,0 +1,66 @@
+-- What it means that a text carries a design: the pattern that it spells, driven at its input cells, shows the runs of the
+-- design at its output cells, at every generation.
+use Rattle.std.specs.Prelude.{ℤ, pos, ℕ, zero, suc, ◌+◌, ◌*◌, ◌<◌, ◌≡◌, ◌↔◌, List, map, length, Bool, true, Some, slice_get}
+use Rattle.ww_rule.specs.declared.pattern.State.TheVariants.{Head, Conductor}
+use Rattle.ww_rule.specs.Wireworld.{Plane, Due, next_plane, driven}
+use Rattle.ww_rule.specs.Grid.{Grid, plane_of}
+use Rattle.ww_rule.specs.Injections.{due_of_streams}
+use Rattle.pattern_reading.specs.declared.ports.Ports.{Ports}
+use Rattle.pattern_reading.specs.declared.ports.PortLine.{PortLine}
+use Rattle.pattern_reading.specs.Pattern.{ReadsAsPattern}
+use Rattle.pattern_reading.specs.PortTable.{ReadsAsPorts}
+use Rattle.netlist_core.specs.declared.model.Design.{Design}
+use Rattle.netlist_meaning.specs.Places.{Name, main_outputs}
+use Rattle.netlist_meaning.specs.Nets.{IsInNames}
+use Rattle.netlist_meaning.specs.Valuation.{Valuation, AreInputRows, IsRun, output_bit}
+
+-- the names of port lines, and their cells
+abbrev pub names_of : List PortLine → List Name
+names_of lines = map (λ line. line.name) lines
+
+abbrev pub cells_of : List PortLine → List (ℕ × ℕ)
+cells_of lines = map (λ line. (line.x, line.y)) lines
+
+-- the table names the main inputs but the control, and the main outputs, each in order
+pub record NamesPorts (ports : Ports) (design : Design) : Type 0 where
+  pub ins : IsInNames design (names_of ports.ins)
+  pub outs : names_of ports.outs ≡ main_outputs design
+
+-- the drive of rows of input bits, one row a cycle: one injection at generation t P, at the cell of input i, for each cycle t
+-- and input i whose bit is 1, and no other
+abbrev pub drive : Ports → List (List Bool) → Due
+drive ports rows = due_of_streams ports.p (cells_of ports.ins) rows
+
+-- the plane of a generation before that generation's injections
+abbrev pub before_injections : Due → Plane → ℕ → Plane
+before_injections due plane zero = plane
+before_injections due plane (suc g) = next_plane (driven due plane g)
+
+-- each injection meets a cell that is a conductor before that generation's injections
+abbrev pub MeetsConductors : Due → Plane → Type 0
+MeetsConductors due plane = (g : ℕ) (x y : ℤ) → due g x y ≡ true → before_injections due plane g x y ≡ Conductor
+
+-- the cell is a head at generation g exactly when g = L + t P for a cycle t, below the number of cycles, in which the bit is 1
+abbrev pub ShowsBits : Ports → (cycles : ℕ) → (ℕ → Bool) → (g : ℕ) → Plane → PortLine → Type 0
+ShowsBits ports cycles bit g plane cell =
+    (plane (pos cell.x) (pos cell.y) ≡ Head) ↔ ((t : ℕ) × (t < cycles) × (g ≡ ports.l + t * ports.p) × (bit t ≡ true))
+
+-- Driven by any rows of input bits, for any number of cycles N: there is a run of the design on them, and in every such run each
+-- output cell shows the output's bits, at every generation below L + N P
+pub record ShowsRuns (plane : Plane) (ports : Ports) (design : Design) : Type 0 where
+  pub conductors : (rows : List (List Bool)) → AreInputRows design rows → MeetsConductors (drive ports rows) plane
+  pub runs : (rows : List (List Bool)) → AreInputRows design rows → (run : ℕ → Valuation) × IsRun design rows run
+  pub heads : (rows : List (List Bool)) → AreInputRows design rows → (run : ℕ → Valuation) → IsRun design rows run
+      → (output : ℕ) (cell : PortLine) → slice_get ports.outs output ≡ Some cell
+      → (g : ℕ) → g < ports.l + length rows * ports.p
+      → ShowsBits ports (length rows) (λ t. output_bit design (run t) output) g (driven (drive ports rows) plane g) cell
+
+-- A text carries a design: it reads as a pattern and as a port table, the table's names are the design's, and the pattern shows
+-- the design's runs
+pub record Carries (text : List ℕ) (design : Design) : Type 0 where
+  pub grid : Grid
+  pub ports : Ports
+  pub reads : ReadsAsPattern text grid
+  pub table : ReadsAsPorts text grid.width grid.height ports
+  pub names : NamesPorts ports design
+  pub shows : ShowsRuns (plane_of grid.rows) ports design

@@ -1,0 +1,11 @@
+pub mod Joined
+pub mod Names
+pub mod Flat
+pub mod OneCover
+pub mod Toggle
+pub mod Loops
+pub mod Weights
+pub mod Places
+pub mod ClockInstances
+pub mod Adder
+pub mod Depth

@@ -1,0 +1,68 @@
+-- The two faults of clocks: latches with two clocks, and a clock net that is read or driven.
+use Rattle.std.specs.Prelude.{ℕ, ◌<◌, ◌≤◌, ◌≡◌, ◌⊎◌, [], ◌∷◌, ◌++◌, Option, Some, None, slice_get, Contains, codes}
+use Rattle.netlist_core.specs.declared.model.Design.{Design}
+use Rattle.netlist_core.specs.declared.model.Model.{Model}
+use Rattle.netlist_core.specs.declared.model.Cover.{Cover}
+use Rattle.netlist_core.specs.declared.model.LatchRow.{LatchRow}
+use Rattle.netlist_core.specs.declared.model.Port.{Port}
+use Rattle.netlist_meaning.specs.Places.{Name, Place, model_at, latch_at, main_ports, IsBefore}
+use Rattle.netlist_meaning.specs.Nets.{Net, net_at, Joined, IsClockNet}
+
+-- a flat latch: one of the model at a place
+pub record FlatLatch (design : Design) : Type 0 where
+  pub place : Place
+  pub number : ℕ
+  pub latch : LatchRow
+  pub has_latch : latch_at design place number ≡ Some latch
+
+-- the order of flat latches: by their places, and at one place by their lines
+abbrev pub ComesBefore : (design : Design) → FlatLatch design → FlatLatch design → Type 0
+ComesBefore design a b = IsBefore a.place b.place ⊎ ((a.place ≡ b.place) × (a.number < b.number))
+
+-- two controls, each a name at a place or none, are joined nets, or both are none
+abbrev pub HasSameControl : Design → Place → Option Name → Place → Option Name → Type 0
+HasSameControl design p None q None = Unit {0}
+HasSameControl design p None q (Some b) = ⊥
+HasSameControl design p (Some a) q None = ⊥
+HasSameControl design p (Some a) q (Some b) = Joined design (net_at p a) (net_at q b)
+
+-- two latches have the same type and control
+pub record HasSameClock (design : Design) (a b : FlatLatch design) : Type 0 where
+  pub same_type : a.latch.kind ≡ b.latch.kind
+  pub same_control : HasSameControl design a.place a.latch.control b.place b.latch.control
+
+-- the name of a control, or `-` where there is none
+abbrev pub control_word : Option Name → Name
+control_word None = codes "-"
+control_word (Some name) = name
+
+-- B20: a flat latch, the first to do so, differs in type or control from the first of all;
+-- its line, and its control or `-`
+pub record IsTwoClocks (design : Design) (line : ℕ) (word : Name) : Type 0 where
+  pub first : FlatLatch design
+  pub is_first : (other : FlatLatch design) → ¬ ComesBefore design other first
+  pub found : FlatLatch design
+  pub differs : ¬ HasSameClock design first found
+  pub agree_before : (other : FlatLatch design) → ComesBefore design other found → HasSameClock design first other
+  pub is_line : line ≡ found.latch.line
+  pub is_word : word ≡ control_word found.latch.control
+
+-- a word on a line that reads or drives a net as a cover, as a latch's data or as a main output does:
+-- the line's number, a position that rises along the line's words, and the net
+pub data IsUse (design : Design) : ℕ → ℕ → Net → Type 0 where
+  by_cover : {place : Place} {model : Model} {cover : Cover} {position : ℕ} {name : Name} → model_at design place ≡ Some model → Contains model.covers cover → slice_get (cover.ins ++ cover.out ∷ []) position ≡ Some name → IsUse design cover.line position (net_at place name)
+  by_latch : {place : Place} {model : Model} {latch : LatchRow} {position : ℕ} {name : Name} → model_at design place ≡ Some model → Contains model.latches latch → slice_get (latch.input ∷ latch.output ∷ []) position ≡ Some name → IsUse design latch.line position (net_at place name)
+  by_main_output : {port : Port} {position : ℕ} → slice_get (main_ports (λ model. model.outs) design) position ≡ Some port → IsUse design port.line position (net_at [] port.name)
+
+-- a clock net is so used, by that word of the line
+abbrev pub IsClockUse : Design → ℕ → ℕ → Net → Type 0
+IsClockUse design line position net = IsUse design line position net × IsClockNet design net
+
+-- B21: a clock net is read by a cover, a latch's data or a main output, or is driven by a cover or a latch;
+-- the earliest such line, and there the earliest such word
+pub record IsClockRead (design : Design) (line : ℕ) (word : Name) : Type 0 where
+  pub position : ℕ
+  pub net : Net
+  pub is_use : IsClockUse design line position net
+  pub is_earliest : (other_line other_position : ℕ) (other : Net) → IsClockUse design other_line other_position other → (line < other_line) ⊎ ((line ≡ other_line) × (position ≤ other_position))
+  pub is_word : word ≡ net.name

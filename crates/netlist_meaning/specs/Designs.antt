@@ -1,0 +1,246 @@
+-- Single designs, each with its text in a comment, where a slash stands for a line end.
+use Rattle.std.specs.Prelude.{ℕ, zero, suc, ◌+◌, ◌++◌, List, [], ◌∷◌, true, Some, None, codes, decimal, map}
+use Rattle.netlist_core.specs.declared.model.Design.{Design}
+use Rattle.netlist_core.specs.declared.model.Model.{Model}
+use Rattle.netlist_core.specs.declared.model.Cover.{Cover}
+use Rattle.netlist_core.specs.declared.model.Port.{Port}
+use Rattle.netlist_core.specs.declared.model.Pin.{Pin}
+use Rattle.netlist_core.specs.declared.model.Subckt.{Subckt}
+use Rattle.netlist_core.specs.declared.model.LatchRow.{LatchRow}
+use Rattle.netlist_core.specs.declared.model.Trigger.TheVariants.{Rise}
+use Rattle.netlist_meaning.specs.Places.{Name}
+
+-- ports of one line, by their names
+abbrev pub ports_of : ℕ → List Name → List Port
+ports_of line names = map (λ name. record { line = line; name = name }) names
+
+-- a cover of rows that end in `1`
+abbrev pub cover_of : ℕ → List Name → Name → List (List ℕ) → Cover
+cover_of line ins out rows = record { line = line; ins = ins; out = out; rows = rows; on = true }
+
+-- a latch without a control
+abbrev pub latch_of : ℕ → Name → Name → ℕ → LatchRow
+latch_of line input output init = record { line = line; input = input; output = output; kind = None; control = None; init = init }
+
+abbrev pub pin_of : Name → Name → Pin
+pin_of formal actual = record { formal = formal; actual = actual }
+
+abbrev pub subckt_of : ℕ → Name → List Pin → Subckt
+subckt_of line model pins = record { line = line; model = model; pins = pins }
+
+abbrev pub design_of : List Model → Design
+design_of models = record { models = models }
+
+-- .model or / .inputs a b / .outputs y / .names a b y / 1- 1 / -1 1 / .end
+abbrev pub or_main : Model
+or_main =
+    record {
+      line = 1;
+      name = codes "or";
+      ins = ports_of 2 (codes "a" ∷ codes "b" ∷ []);
+      outs = ports_of 3 (codes "y" ∷ []);
+      clocks = [];
+      covers = cover_of 4 (codes "a" ∷ codes "b" ∷ []) (codes "y") (codes "1-" ∷ codes "-1" ∷ []) ∷ [];
+      latches = [];
+      subckts = [];
+    }
+
+abbrev pub or_design : Design
+or_design = design_of (or_main ∷ [])
+
+-- .model t / .outputs q / .latch n q 0 / .names q n / 0 1 / .end, with any names for n and q
+abbrev pub toggle_main : Name → Name → Model
+toggle_main n q =
+    record {
+      line = 1;
+      name = codes "t";
+      ins = [];
+      outs = ports_of 2 (q ∷ []);
+      clocks = [];
+      covers = cover_of 4 (q ∷ []) n (codes "0" ∷ []) ∷ [];
+      latches = latch_of 3 n q 0 ∷ [];
+      subckts = [];
+    }
+
+abbrev pub toggle_design : Name → Name → Design
+toggle_design n q = design_of (toggle_main n q ∷ [])
+
+-- .model m / .inputs a / .outputs x / .names x a x / 11 1 / .end
+abbrev pub loop_main : Model
+loop_main =
+    record {
+      line = 1;
+      name = codes "m";
+      ins = ports_of 2 (codes "a" ∷ []);
+      outs = ports_of 3 (codes "x" ∷ []);
+      clocks = [];
+      covers = cover_of 4 (codes "x" ∷ codes "a" ∷ []) (codes "x") (codes "11" ∷ []) ∷ [];
+      latches = [];
+      subckts = [];
+    }
+
+abbrev pub loop_design : Design
+loop_design = design_of (loop_main ∷ [])
+
+-- .names a b c s / 100 1 / 010 1 / 001 1 / 111 1, and .names a b c co / 11- 1 / 1-1 1 / -11 1
+abbrev pub sum_cover : Cover
+sum_cover = cover_of 10 (codes "a" ∷ codes "b" ∷ codes "c" ∷ []) (codes "s") (codes "100" ∷ codes "010" ∷ codes "001" ∷ codes "111" ∷ [])
+
+abbrev pub carry_cover : Cover
+carry_cover = cover_of 15 (codes "a" ∷ codes "b" ∷ codes "c" ∷ []) (codes "co") (codes "11-" ∷ codes "1-1" ∷ codes "-11" ∷ [])
+
+-- .model fa / .inputs a b c / .outputs s co / .names a b c s / 100 1 / 010 1 / 001 1 / 111 1
+-- / .names a b c co / 11- 1 / 1-1 1 / -11 1 / .end
+abbrev pub full_adder : Model
+full_adder =
+    record {
+      line = 7;
+      name = codes "fa";
+      ins = ports_of 8 (codes "a" ∷ codes "b" ∷ codes "c" ∷ []);
+      outs = ports_of 9 (codes "s" ∷ codes "co" ∷ []);
+      clocks = [];
+      covers = sum_cover ∷ carry_cover ∷ [];
+      latches = [];
+      subckts = [];
+    }
+
+-- .subckt fa a=a0 b=b0 c=ci s=s0 co=k, and .subckt fa a=a1 b=b1 c=k s=s1 co=c
+abbrev pub first_line : Subckt
+first_line = subckt_of 4 (codes "fa") (pin_of (codes "a") (codes "a0") ∷ pin_of (codes "b") (codes "b0") ∷ pin_of (codes "c") (codes "ci") ∷ pin_of (codes "s") (codes "s0") ∷ pin_of (codes "co") (codes "k") ∷ [])
+
+abbrev pub second_line : Subckt
+second_line = subckt_of 5 (codes "fa") (pin_of (codes "a") (codes "a1") ∷ pin_of (codes "b") (codes "b1") ∷ pin_of (codes "c") (codes "k") ∷ pin_of (codes "s") (codes "s1") ∷ pin_of (codes "co") (codes "c") ∷ [])
+
+-- .model add / .inputs a0 a1 b0 b1 ci / .outputs s0 s1 c / .subckt fa a=a0 b=b0 c=ci s=s0 co=k
+-- / .subckt fa a=a1 b=b1 c=k s=s1 co=c / .end, and the full adder
+abbrev pub adder_main : Model
+adder_main =
+    record {
+      line = 1;
+      name = codes "add";
+      ins = ports_of 2 (codes "a0" ∷ codes "a1" ∷ codes "b0" ∷ codes "b1" ∷ codes "ci" ∷ []);
+      outs = ports_of 3 (codes "s0" ∷ codes "s1" ∷ codes "c" ∷ []);
+      clocks = [];
+      covers = [];
+      latches = [];
+      subckts =
+          subckt_of 4 (codes "fa") (pin_of (codes "a") (codes "a0") ∷ pin_of (codes "b") (codes "b0") ∷ pin_of (codes "c") (codes "ci") ∷ pin_of (codes "s") (codes "s0") ∷ pin_of (codes "co") (codes "k") ∷ [])
+          ∷ subckt_of 5 (codes "fa") (pin_of (codes "a") (codes "a1") ∷ pin_of (codes "b") (codes "b1") ∷ pin_of (codes "c") (codes "k") ∷ pin_of (codes "s") (codes "s1") ∷ pin_of (codes "co") (codes "c") ∷ [])
+          ∷ [];
+    }
+
+abbrev pub adder_design : Design
+adder_design = design_of (adder_main ∷ full_adder ∷ [])
+
+-- i0, i1, .. in order, before those that are given
+abbrev pub numbered_inputs : ℕ → List Name → List Name
+numbered_inputs zero names = names
+numbered_inputs (suc n) names = numbered_inputs n ((codes "i" ++ decimal n) ∷ names)
+
+-- .model m / .inputs i0 .. (so many) / .outputs y / .names y / .end
+abbrev pub wide_main : ℕ → Model
+wide_main inputs =
+    record {
+      line = 1;
+      name = codes "m";
+      ins = ports_of 2 (numbered_inputs inputs []);
+      outs = ports_of 3 (codes "y" ∷ []);
+      clocks = [];
+      covers = cover_of 4 [] (codes "y") [] ∷ [];
+      latches = [];
+      subckts = [];
+    }
+
+abbrev pub wide_design : ℕ → Design
+wide_design inputs = design_of (wide_main inputs ∷ [])
+
+-- h0, h1, ..
+abbrev pub storey_name : ℕ → Name
+storey_name n = codes "h" ++ decimal n
+
+-- .model h0 / .names y / .end, and above it .model hj / .subckt h(j-1) / .subckt h(j-1) / .end, from a line on
+abbrev pub storey : ℕ → ℕ → Model
+storey line zero =
+    record {
+      line = line;
+      name = storey_name 0;
+      ins = [];
+      outs = [];
+      clocks = [];
+      covers = cover_of (line + 1) [] (codes "y") [] ∷ [];
+      latches = [];
+      subckts = [];
+    }
+storey line (suc n) =
+    record {
+      line = line;
+      name = storey_name (suc n);
+      ins = [];
+      outs = [];
+      clocks = [];
+      covers = [];
+      latches = [];
+      subckts = subckt_of (line + 1) (storey_name n) [] ∷ subckt_of (line + 2) (storey_name n) [] ∷ [];
+    }
+
+-- the models hn down to h0, from a line on
+abbrev pub storeys : ℕ → ℕ → List Model
+storeys line zero = storey line zero ∷ []
+storeys line (suc n) = storey line (suc n) ∷ storeys (line + 4) n
+
+abbrev pub tower_design : ℕ → Design
+tower_design n = design_of (storeys 1 n)
+
+-- .model m / .inputs d \ / clk # two / .outputs q / .latch d q re clk 2 / .end
+abbrev pub clocked_main : Model
+clocked_main =
+    record {
+      line = 1;
+      name = codes "m";
+      ins = ports_of 2 (codes "d" ∷ codes "clk" ∷ []);
+      outs = ports_of 4 (codes "q" ∷ []);
+      clocks = [];
+      covers = [];
+      latches = record { line = 5; input = codes "d"; output = codes "q"; kind = Some Rise; control = Some (codes "clk"); init = 2 } ∷ [];
+      subckts = [];
+    }
+
+abbrev pub clocked_design : Design
+clocked_design = design_of (clocked_main ∷ [])
+
+-- .model m / .inputs d clk / .outputs q y / .latch d q re clk 2 / .names clk y / 1 1
+abbrev pub read_clock_main : Model
+read_clock_main =
+    record {
+      line = 1;
+      name = codes "m";
+      ins = ports_of 2 (codes "d" ∷ codes "clk" ∷ []);
+      outs = ports_of 3 (codes "q" ∷ codes "y" ∷ []);
+      clocks = [];
+      covers = cover_of 5 (codes "clk" ∷ []) (codes "y") (codes "1" ∷ []) ∷ [];
+      latches = record { line = 4; input = codes "d"; output = codes "q"; kind = Some Rise; control = Some (codes "clk"); init = 2 } ∷ [];
+      subckts = [];
+    }
+
+abbrev pub read_clock_design : Design
+read_clock_design = design_of (read_clock_main ∷ [])
+
+-- .model m / .inputs d / .clock c e / .outputs p q / .latch d p re c / .latch d q re e / .end: latches with two clocks
+abbrev pub two_clocks_main : Model
+two_clocks_main =
+    record {
+      line = 1;
+      name = codes "m";
+      ins = ports_of 2 (codes "d" ∷ []);
+      outs = ports_of 4 (codes "p" ∷ codes "q" ∷ []);
+      clocks = ports_of 3 (codes "c" ∷ codes "e" ∷ []);
+      covers = [];
+      latches =
+          record { line = 5; input = codes "d"; output = codes "p"; kind = Some Rise; control = Some (codes "c"); init = 3 }
+          ∷ record { line = 6; input = codes "d"; output = codes "q"; kind = Some Rise; control = Some (codes "e"); init = 3 }
+          ∷ [];
+      subckts = [];
+    }
+
+abbrev pub two_clocks_design : Design
+two_clocks_design = design_of (two_clocks_main ∷ [])

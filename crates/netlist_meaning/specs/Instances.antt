@@ -1,0 +1,109 @@
+-- What the definitions say of single designs.
+use Rattle.std.specs.Prelude.{ℕ, zero, suc, cond, ◌+◌, ◌*◌, ◌^◌, ◌<◌, ◌≡◌, ◌≢◌, List, [], ◌∷◌, Bool, true, false, not, ◌||◌, length, All, slice_get, Some, codes}
+use Rattle.netlist_core.specs.declared.model.Design.{Design}
+use Rattle.netlist_core.specs.declared.model.Model.{Model}
+use Rattle.netlist_core.specs.declared.model.Cover.{Cover}
+use Rattle.netlist_meaning.specs.Places.{Name, port_names}
+use Rattle.netlist_meaning.specs.Nets.{Net, net_at, IsInNames}
+use Rattle.netlist_meaning.specs.CoverValue.{cover_value}
+use Rattle.netlist_meaning.specs.Valuation.{Valuation, IsRun, output_bits}
+use Rattle.netlist_meaning.specs.Designs.{toggle_design, loop_design, adder_design, wide_design, tower_design, clocked_design, read_clock_design, two_clocks_design}
+use Rattle.netlist_meaning.specs.Clocks.{IsClockRead, IsTwoClocks}
+use Rattle.netlist_meaning.specs.Loop.{IsCombinationalLoop}
+use Rattle.netlist_meaning.specs.Weight.{weight}
+
+-- one model with the inputs a and b, the output y, and one cover of a and b with the output y
+pub record IsOneCover (a b y : Name) (rows : List (List ℕ)) (on : Bool) (design : Design) : Type 0 where
+  pub main : Model
+  pub cover : Cover
+  pub models : design.models ≡ main ∷ []
+  pub inputs : port_names main.ins ≡ a ∷ b ∷ []
+  pub outputs : port_names main.outs ≡ y ∷ []
+  pub clocks : main.clocks ≡ []
+  pub covers : main.covers ≡ cover ∷ []
+  pub cover_ins : cover.ins ≡ a ∷ b ∷ []
+  pub cover_out : cover.out ≡ y
+  pub cover_rows : cover.rows ≡ rows
+  pub cover_on : cover.on ≡ on
+  pub latches : main.latches ≡ []
+  pub subckts : main.subckts ≡ []
+
+-- the rows of an OR
+abbrev pub or_rows : List (List ℕ)
+or_rows = codes "1-" ∷ codes "-1" ∷ []
+
+-- there is a run on every list of rows of two bits, and in every run the one output of each cycle is the function of its two bits
+pub record Computes (design : Design) (function : Bool → Bool → Bool) : Type 0 where
+  pub runs : (rows : List (List Bool)) → All (λ row. length row ≡ 2) rows → (run : ℕ → Valuation) × IsRun design rows run
+  pub gives : (rows : List (List Bool)) (run : ℕ → Valuation) → IsRun design rows run → (cycle : ℕ) (p q : Bool) → slice_get rows cycle ≡ Some (p ∷ q ∷ []) → output_bits design (run cycle) ≡ function p q ∷ []
+
+-- one cover of two inputs computes its cover's value
+abbrev pub OneCoverComputes : Type 0
+OneCoverComputes =
+    (a b y : Name) (rows : List (List ℕ)) (on : Bool) (design : Design) → a ≢ b → a ≢ y → b ≢ y → IsOneCover a b y rows on design
+    → Computes design (λ p q. cover_value rows on (p ∷ q ∷ []))
+
+-- with the rows of an OR it computes `or`
+abbrev pub OneCoverComputesOr : Type 0
+OneCoverComputesOr =
+    (a b y : Name) (design : Design) → a ≢ b → a ≢ y → b ≢ y → IsOneCover a b y or_rows true design
+    → Computes design (λ p q. p || q)
+
+-- 0 in the cycles of even numbers, and 1 in those of odd ones
+abbrev pub is_odd : ℕ → Bool
+is_odd zero = false
+is_odd (suc n) = not (is_odd n)
+
+-- there is a run on every list of rows without bits, and in every run the one output is 0 and 1 in turn
+pub record IsToggle (design : Design) : Type 0 where
+  pub runs : (rows : List (List Bool)) → All (λ row. length row ≡ 0) rows → (run : ℕ → Valuation) × IsRun design rows run
+  pub gives : (rows : List (List Bool)) (run : ℕ → Valuation) → IsRun design rows run → (cycle : ℕ) → cycle < length rows → output_bits design (run cycle) ≡ is_odd cycle ∷ []
+
+-- a latch that starts as 0 and takes the inverse of its output is a toggle
+abbrev pub LatchToggles : Type 0
+LatchToggles = (n q : Name) → n ≢ q → IsToggle (toggle_design n q)
+
+-- a circle through a latch is no loop
+abbrev pub LatchBreaksLoop : Type 0
+LatchBreaksLoop = (n q : Name) → n ≢ q → (nets : List Net) → ¬ IsCombinationalLoop (toggle_design n q) nets
+
+-- a cover that reads its own output is one
+abbrev pub CoverReadsItself : Type 0
+CoverReadsItself = IsCombinationalLoop loop_design (net_at [] (codes "x") ∷ [])
+
+-- models that each place the next one twice
+abbrev pub TowerWeighs : Type 0
+TowerWeighs = (n : ℕ) → n < 2 ^ 64 → weight (tower_design n) + 2 ≡ 3 * 2 ^ n
+
+-- weights
+pub record HasWeights : Type 0 where
+  pub adder : weight adder_design ≡ 74
+  pub widest : weight (wide_design 1022) ≡ 1024
+  pub too_wide : weight (wide_design 1023) ≡ 1025
+  pub tower : weight (tower_design 40) ≡ 3298534883326
+
+-- the latches' control gets no IN name
+abbrev pub ControlIsNoInput : Type 0
+ControlIsNoInput = IsInNames clocked_design (codes "d" ∷ [])
+
+-- a cover that reads the control is the fault, on its line
+abbrev pub CoverReadsClock : Type 0
+CoverReadsClock = IsClockRead read_clock_design 5 (codes "clk")
+
+-- a second latch with another control is the fault, on its line
+abbrev pub LatchHasOtherClock : Type 0
+LatchHasOtherClock = IsTwoClocks two_clocks_design 6 (codes "e")
+
+-- the number of some bits, the lowest first
+abbrev pub number_of : List Bool → ℕ
+number_of [] = 0
+number_of (bit ∷ bits) = cond bit 1 0 + 2 * number_of bits
+
+-- there is a run on every list of rows of five bits a0 a1 b0 b1 ci, and in every run the outputs of each cycle are the sum
+pub record IsAdder (design : Design) : Type 0 where
+  pub runs : (rows : List (List Bool)) → All (λ row. length row ≡ 5) rows → (run : ℕ → Valuation) × IsRun design rows run
+  pub adds : (rows : List (List Bool)) (run : ℕ → Valuation) → IsRun design rows run → (cycle : ℕ) (a0 a1 b0 b1 ci : Bool) → slice_get rows cycle ≡ Some (a0 ∷ a1 ∷ b0 ∷ b1 ∷ ci ∷ [])
+      → number_of (output_bits design (run cycle)) ≡ number_of (a0 ∷ a1 ∷ []) + number_of (b0 ∷ b1 ∷ []) + number_of (ci ∷ [])
+
+abbrev pub AdderAdds : Type 0
+AdderAdds = IsAdder adder_design

@@ -1,0 +1,65 @@
+-- What is proved of the definitions, for every design.
+use Rattle.std.specs.Prelude.{◌≢◌, ◌<◌, ◌++◌, [], Some, ℕ, ◌&&◌, cond, length, nat_lt, is_some, bytes_eq, count_by, sum_by, ◌≡◌, ◌↔◌, Bool, List, IsTrue}
+use Rattle.netlist_core.specs.declared.model.Design.{Design}
+use Rattle.netlist_core.specs.declared.model.Model.{Model}
+use Rattle.netlist_meaning.specs.Places.{Name, Place, model_at, IsPlace}
+use Rattle.netlist_meaning.specs.Nets.{Net, IsPinned, Joined, IsClockNet, IsInNames}
+use Rattle.netlist_meaning.specs.Weight.{weight, own_weight, of_model}
+use Rattle.netlist_meaning.specs.Valuation.{Valuation}
+
+-- an equivalence of nets, as a test
+pub record IsEquivalence (test : Net → Net → Bool) : Type 0 where
+  pub itself : (a : Net) → IsTrue (test a a)
+  pub reversed : (a b : Net) → IsTrue (test a b) → IsTrue (test b a)
+  pub followed : (a b c : Net) → IsTrue (test a b) → IsTrue (test b c) → IsTrue (test a c)
+
+-- joined nets are an equivalence that holds at each pin, and any other such equivalence holds of joined nets
+pub record IsLeastEquivalence (design : Design) : Type 0 where
+  pub holds_at_pins : (outer inner : Net) → IsPinned design outer inner → Joined design outer inner
+  pub itself : (a : Net) → Joined design a a
+  pub reversed : (a b : Net) → Joined design a b → Joined design b a
+  pub followed : (a b c : Net) → Joined design a b → Joined design b c → Joined design a c
+  pub is_least : (test : Net → Net → Bool) → IsEquivalence test → ((outer inner : Net) → IsPinned design outer inner → IsTrue (test outer inner)) → (a b : Net) → Joined design a b → IsTrue (test a b)
+
+-- the bits of each pin's actual and formal agree, where these are no clock nets
+abbrev pub AgreeAtPins : Design → Valuation → Type 0
+AgreeAtPins design bits = (outer inner : Net) → IsPinned design outer inner → ¬ IsClockNet design outer → bits outer.place outer.name ≡ bits inner.place inner.name
+
+-- the bits of joined nets agree, where these are no clock nets
+abbrev pub AgreeWhereJoined : Design → Valuation → Type 0
+AgreeWhereJoined design bits = (a b : Net) → Joined design a b → ¬ IsClockNet design a → bits a.place a.name ≡ bits b.place b.name
+
+-- it is enough that pins agree
+abbrev pub PinsAreEnough : Type 0
+PinsAreEnough = (design : Design) (bits : Valuation) → AgreeAtPins design bits ↔ AgreeWhereJoined design bits
+
+-- a design has at most one list of IN names
+abbrev pub InNamesAreOne : Type 0
+InNamesAreOne = (design : Design) (names others : List Name) → IsInNames design names → IsInNames design others → names ≡ others
+
+-- a list has each place that is fewer than so many lines deep once, and nothing else
+abbrev pub ListsPlaces : Design → ℕ → List Place → Type 0
+ListsPlaces design depth places =
+    (place : Place) → count_by (bytes_eq place) places ≡ cond (is_some (model_at design place) && nat_lt (length place) depth) 1 0
+
+-- the weight is the sum of the own weights of the models at the places that are fewer lines deep than there are models
+abbrev pub WeightIsSum : Type 0
+WeightIsSum =
+    (design : Design) → (places : List Place) × ListsPlaces design (length design.models) places
+    × (weight design ≡ sum_by (λ place. of_model own_weight (model_at design place)) places)
+
+-- no model stands, by its name, inside a place of itself: in a design without a circle of subckt lines
+abbrev pub IsNotRecursive : Design → Type 0
+IsNotRecursive design =
+    (outer inner : Place) (a b : Model) → inner ≢ [] → model_at design outer ≡ Some a → model_at design (outer ++ inner) ≡ Some b → a.name ≢ b.name
+
+-- then each place is fewer lines deep than there are models
+abbrev pub PlacesAreShallow : Type 0
+PlacesAreShallow = (design : Design) → IsNotRecursive design → (place : Place) → IsPlace design place → length place < length design.models
+
+-- and the weight is the sum over a list that has each place once
+abbrev pub WeightIsSumOverAll : Type 0
+WeightIsSumOverAll =
+    (design : Design) → IsNotRecursive design → (places : List Place)
+    × ((place : Place) → count_by (bytes_eq place) places ≡ cond (is_some (model_at design place)) 1 0)
+    × (weight design ≡ sum_by (λ place. of_model own_weight (model_at design place)) places)

@@ -1,0 +1,10 @@
+pub mod Places
+pub mod Nets
+pub mod Clocks
+pub mod Weight
+pub mod CoverValue
+pub mod Valuation
+pub mod Loop
+pub mod Laws
+pub mod Instances
+pub mod Designs

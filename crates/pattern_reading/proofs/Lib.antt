@@ -1,0 +1,13 @@
+pub mod Rows
+pub mod RleVerdict
+pub mod RleExamples
+pub mod PortExamples
+pub mod RleLaws
+pub mod PortLaws
+pub mod LineLaws
+pub mod LineText
+pub mod PortText
+pub mod Later
+pub mod Spelled
+pub mod NamedGate
+pub mod RustLines

@@ -1,0 +1,8 @@
+use Rattle.pattern_reading.proofs.Spelled.{spelled_ports, same_pattern}
+use Rattle.pattern_reading.proofs.laws.spelled_table_laws.Goals as goal
+
+pub returns-clause-ports : goal.returns-clause-ports
+returns-clause-ports c = spelled_ports
+
+pub returns-clause-pattern : goal.returns-clause-pattern
+returns-clause-pattern c = same_pattern

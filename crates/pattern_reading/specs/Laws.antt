@@ -1,0 +1,71 @@
+-- Laws of the readings: a text says one thing.
+use Rattle.std.specs.Prelude.{◌≡◌, ◌≢◌, ◌⊎◌, ℕ, ◌+◌, true, if◌then◌else◌, List, [], ◌∷◌, ◌++◌, map, length, flat_map}
+use Rattle.std.specs.List.{All, range_with_len}
+use Rattle.std.specs.Str.Lines.{lines}
+use Rattle.ww_rule.specs.Grid.{Grid}
+use Rattle.pattern_reading.specs.declared.faults.RleFaultKind.{RleFaultKind}
+use Rattle.pattern_reading.specs.declared.faults.PortFaultKind.{PortFaultKind}
+use Rattle.pattern_reading.specs.declared.ports.Ports.{Ports}
+use Rattle.pattern_reading.specs.Lines.{Line, lines_of, with_line_feeds}
+use Rattle.pattern_reading.specs.Pattern.{ReadsAsPattern, HasRleFault}
+use Rattle.pattern_reading.specs.PortTable.{ReadsAsPorts, HasPortFault}
+
+-- A text reads as at most one pattern.
+abbrev pub HasOnePattern : List ℕ → Type 0
+HasOnePattern text = (a b : Grid) → ReadsAsPattern text a → ReadsAsPattern text b → a ≡ b
+
+-- It has at most one fault that is the first.
+abbrev pub HasOneRleFault : List ℕ → Type 0
+HasOneRleFault text = (k k' : RleFaultKind) (line line' : ℕ) → HasRleFault text k line → HasRleFault text k' line' → (k ≡ k') × (line ≡ line')
+
+-- It never reads and has a fault.
+abbrev pub HasNoFaultIfRead : List ℕ → Type 0
+HasNoFaultIfRead text = (grid : Grid) (kind : RleFaultKind) (line : ℕ) → ReadsAsPattern text grid → HasRleFault text kind line → ⊥
+
+-- It reads or has a fault.
+abbrev pub HasPatternOrFault : List ℕ → Type 0
+HasPatternOrFault text = ((grid : Grid) × ReadsAsPattern text grid) ⊎ ((kind : RleFaultKind) × (line : ℕ) × HasRleFault text kind line)
+
+-- The same of the port table of a text, in a box of this width and height.
+abbrev pub HasOneTable : List ℕ → ℕ → ℕ → Type 0
+HasOneTable text width height = (a b : Ports) → ReadsAsPorts text width height a → ReadsAsPorts text width height b → a ≡ b
+
+abbrev pub HasOnePortFault : List ℕ → ℕ → ℕ → Type 0
+HasOnePortFault text width height =
+    (k k' : PortFaultKind) (line line' : ℕ) → HasPortFault text width height k line → HasPortFault text width height k' line' → (k ≡ k') × (line ≡ line')
+
+abbrev pub HasNoPortFaultIfRead : List ℕ → ℕ → ℕ → Type 0
+HasNoPortFaultIfRead text width height =
+    (ports : Ports) (kind : PortFaultKind) (line : ℕ) → ReadsAsPorts text width height ports → HasPortFault text width height kind line → ⊥
+
+abbrev pub HasTableOrFault : List ℕ → ℕ → ℕ → Type 0
+HasTableOrFault text width height =
+    ((ports : Ports) × ReadsAsPorts text width height ports) ⊎ ((kind : PortFaultKind) × (line : ℕ) × HasPortFault text width height kind line)
+
+-- a line with a line feed for its end, if it has one
+abbrev pub with_end : Line → List ℕ
+with_end line = line.bytes ++ (if line.is_ended then 10 ∷ [] else [])
+
+-- The lines with their ends, joined, are the text with line feeds for its line ends.
+abbrev pub HasAllInLines : List ℕ → Type 0
+HasAllInLines text = flat_map with_end (lines_of text) ≡ with_line_feeds text
+
+-- The lines are numbered from 1 on.
+abbrev pub HasNumberedLines : List ℕ → Type 0
+HasNumberedLines text = map (λ line. line.number) (lines_of text) ≡ range_with_len 1 (length (lines_of text))
+
+-- The lines are those that `lines` of Rust gives.
+abbrev pub HasLinesOfRust : List ℕ → Type 0
+HasLinesOfRust text = map (λ line. line.bytes) (lines_of text) ≡ lines text
+
+-- bytes that can stand in a line
+abbrev pub IsLineText : List ℕ → Type 0
+IsLineText bytes = All (λ b. (b ≢ 10) × (b ≢ 13)) bytes
+
+-- a line whose number is greater by n
+abbrev pub later_by : ℕ → Line → Line
+later_by n line = record line { number = n + line.number }
+
+-- A line before a text is its first line, and the others are the text's.
+abbrev pub HasFirstLine : List ℕ → List ℕ → Type 0
+HasFirstLine bytes rest = lines_of (bytes ++ 10 ∷ rest) ≡ record { number = 1; bytes = bytes; is_ended = true } ∷ map (later_by 1) (lines_of rest)

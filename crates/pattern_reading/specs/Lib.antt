@@ -1,0 +1,10 @@
+pub mod Lines
+pub mod Numbers
+pub mod Header
+pub mod Items
+pub mod Pattern
+pub mod PortLines
+pub mod PortTable
+pub mod Examples
+pub mod Laws
+pub mod Spelling

@@ -1,0 +1,86 @@
+-- The lines of a port table. It stands in comments before the header, in a form of this program's own, so that other readers of
+-- extended RLE pass over it.
+use Rattle.std.specs.Prelude.{ℕ, Bool, ◌&&◌, ◌||◌, not, ◌==◌, if◌then◌else◌, List, [], ◌∷◌, length, slice_index, Option, Some, None, codes, is_some, filter_map}
+use Rattle.std.specs.List.{list_all, slice_split}
+use Rattle.std.specs.Str.{bytes_eq, byte}
+use Rattle.pattern_reading.specs.declared.ports.PortLine.{PortLine}
+use Rattle.pattern_reading.specs.declared.ports.NetLine.{NetLine}
+use Rattle.pattern_reading.specs.Lines.{Line}
+use Rattle.pattern_reading.specs.Numbers.{◌>>=◌, number_in, if_some_bytes, after_prefix}
+use Rattle.pattern_reading.specs.Header.{lines_before_header}
+
+-- what a line of the table says, by its form
+pub data PortForm : Type 0 where
+  -- `1 P p L l`
+  Version : ℕ → ℕ → PortForm
+  -- `IN x y name`
+  In : PortLine → PortForm
+  -- `OUT x y name`
+  Out : PortLine → PortForm
+  -- `NET x y offset name path`
+  Net : NetLine → PortForm
+
+-- a number without leading zeros
+abbrev pub is_path_number : List ℕ → Bool
+is_path_number digits = is_some (number_in digits) && (length digits == 1 || not (slice_index digits 0 == byte "0"))
+
+-- a path is `-`, or numbers without leading zeros, joined by single dots
+abbrev pub path_in : List ℕ → Option (List ℕ)
+path_in field =
+    if bytes_eq field (codes "-") || list_all is_path_number (slice_split (λ b. b == byte ".") field) then Some field else None
+
+-- the period is not 0
+abbrev pub version_in : List ℕ → List ℕ → List ℕ → List ℕ → List ℕ → Option PortForm
+version_in version p_word p l_word l =
+    if bytes_eq version (codes "1") && bytes_eq p_word (codes "P") && bytes_eq l_word (codes "L")
+    then (do
+      period ← number_in p
+      latency ← number_in l
+      if period == 0 then None else Some (Version period latency))
+    else None
+
+-- a name is one or more bytes, and no space, since spaces separate the fields
+abbrev pub port_in : List ℕ → List ℕ → List ℕ → Option PortLine
+port_in x y name = do
+  column ← number_in x
+  row ← number_in y
+  word ← if_some_bytes name
+  Some (record { x = column; y = row; name = word })
+
+abbrev pub net_in : List ℕ → List ℕ → List ℕ → List ℕ → List ℕ → Option NetLine
+net_in x y offset name path = do
+  column ← number_in x
+  row ← number_in y
+  first ← number_in offset
+  word ← if_some_bytes name
+  place ← path_in path
+  Some (record { x = column; y = row; offset = first; name = word; path = place })
+
+-- the form of a line with these fields, if it has one of the four
+abbrev pub form_of_fields : List (List ℕ) → Option PortForm
+form_of_fields (kind ∷ x ∷ y ∷ name ∷ []) =
+    if bytes_eq kind (codes "IN") then (port_in x y name >>= λ port. Some (In port))
+    else if bytes_eq kind (codes "OUT") then (port_in x y name >>= λ port. Some (Out port))
+    else None
+form_of_fields (version ∷ p_word ∷ p ∷ l_word ∷ l ∷ []) = version_in version p_word p l_word l
+form_of_fields (kind ∷ x ∷ y ∷ offset ∷ name ∷ path ∷ []) =
+    if bytes_eq kind (codes "NET") then (net_in x y offset name path >>= λ net. Some (Net net)) else None
+form_of_fields _ = None
+
+-- what follows `#C BLIFWW ` in a line that begins so: such lines before the header are the table
+abbrev pub table_entry : Line → Option (List ℕ)
+table_entry line = after_prefix (codes "#C BLIFWW ") line.bytes
+
+-- a line of the table: its number, and its form, if it has one. The fields of a line are separated by single spaces
+pub record TableLine : Type 0 where
+  pub number : ℕ
+  pub form : Option PortForm
+
+abbrev pub table_line : Line → Option TableLine
+table_line line = do
+  entry ← table_entry line
+  Some (record { number = line.number; form = form_of_fields (slice_split (λ b. b == byte " ") entry) })
+
+-- the lines of a text's table, in order
+abbrev pub table_of : List ℕ → List TableLine
+table_of text = filter_map table_line (lines_before_header text)

@@ -1,0 +1,64 @@
+-- How a port table is spelled: each line in one way, its numbers without leading zeros.
+use Rattle.std.specs.Prelude.{◌≡◌, ◌≢◌, ℕ, ◌^◌, ◌<◌, List, [], ◌∷◌, ◌++◌, flat_map, Option, Some, None, codes, decimal}
+use Rattle.std.specs.List.{All, AllByRecursion, join_with_byte}
+use Rattle.ww_rule.specs.Grid.{Grid}
+use Rattle.pattern_reading.specs.PortLines.{PortForm, Version, In, Out, Net, path_in, table_of}
+use Rattle.pattern_reading.specs.Pattern.{ReadsAsPattern}
+use Rattle.pattern_reading.specs.Examples.{or_grid, or_pattern_lines, port_of}
+use Rattle.pattern_reading.specs.PortTable.{ReadsAsPorts, fault_of_form, ports_of}
+
+-- the fields of a line
+abbrev pub fields_of : PortForm → List (List ℕ)
+fields_of (Version p l) = codes "1" ∷ codes "P" ∷ decimal p ∷ codes "L" ∷ decimal l ∷ []
+fields_of (In port) = codes "IN" ∷ decimal port.x ∷ decimal port.y ∷ port.name ∷ []
+fields_of (Out port) = codes "OUT" ∷ decimal port.x ∷ decimal port.y ∷ port.name ∷ []
+fields_of (Net net) = codes "NET" ∷ decimal net.x ∷ decimal net.y ∷ decimal net.offset ∷ net.name ∷ net.path ∷ []
+
+-- a line, with a space between each two fields, and lines with their line ends
+abbrev pub spelled_line : PortForm → List ℕ
+spelled_line form = codes "#C BLIFWW " ++ join_with_byte 32 (fields_of form)
+
+abbrev pub spelled_table : List PortForm → List ℕ
+spelled_table forms = flat_map (λ form. spelled_line form ++ 10 ∷ []) forms
+
+-- bytes that can stand in a field: no line feed, no carriage return and no space
+abbrev pub IsField : List ℕ → Type 0
+IsField bytes = All (λ b. (b ≢ 10) × (b ≢ 13) × (b ≢ 32)) bytes
+
+-- a name that can stand in a line
+abbrev pub IsPortName : List ℕ → Type 0
+IsPortName name = (name ≢ []) × IsField name
+
+-- a line that can be spelled: its numbers can be written, its period is not 0, and its name and its path are such
+abbrev pub IsSpellable : PortForm → Type 0
+IsSpellable (Version p l) = (p ≢ 0) × (p < 2 ^ 64) × (l < 2 ^ 64)
+IsSpellable (In port) = (port.x < 2 ^ 64) × (port.y < 2 ^ 64) × IsPortName port.name
+IsSpellable (Out port) = (port.x < 2 ^ 64) × (port.y < 2 ^ 64) × IsPortName port.name
+IsSpellable (Net net) = (net.x < 2 ^ 64) × (net.y < 2 ^ 64) × (net.offset < 2 ^ 64) × IsPortName net.name × (path_in net.path ≡ Some net.path)
+
+-- none of these lines is at fault, where lines of these forms stand before them
+abbrev pub IsSoundAfter : ℕ → ℕ → List (Option PortForm) → List PortForm → Type 0
+IsSoundAfter width height before [] = Unit {0}
+IsSoundAfter width height before (form ∷ forms) =
+    (fault_of_form width height before (Some form) ≡ None) × IsSoundAfter width height (before ++ Some form ∷ []) forms
+
+-- A spelled table before a text that has none reads as the table of its lines.
+abbrev pub HasSpelledPorts : List PortForm → List ℕ → Type 0
+HasSpelledPorts forms rest =
+    (width height : ℕ) → AllByRecursion IsSpellable forms → IsSoundAfter width height [] forms → table_of rest ≡ [] → ReadsAsPorts (spelled_table forms ++ rest) width height (ports_of forms)
+
+-- A spelled table before a text changes nothing in the pattern that the text reads as.
+abbrev pub HasSamePattern : List PortForm → List ℕ → Type 0
+HasSamePattern forms rest = (grid : Grid) → AllByRecursion IsSpellable forms → ReadsAsPattern rest grid → ReadsAsPattern (spelled_table forms ++ rest) grid
+
+-- the port lines of an OR gate whose inputs and output have these names
+abbrev pub named_or_forms : List ℕ → List ℕ → List ℕ → List PortForm
+named_or_forms a b y = Version 32 32 ∷ In (port_of 0 8 a) ∷ In (port_of 0 24 b) ∷ Out (port_of 32 8 y) ∷ []
+
+abbrev pub named_or_text : List ℕ → List ℕ → List ℕ → List ℕ
+named_or_text a b y = spelled_table (named_or_forms a b y) ++ or_pattern_lines
+
+-- The text spells the gate's drawing, whatever its names are, and its ports, where the inputs have two names.
+abbrev pub HasNamedGate : List ℕ → List ℕ → List ℕ → Type 0
+HasNamedGate a b y =
+    ReadsAsPattern (named_or_text a b y) or_grid × (a ≢ b → ReadsAsPorts (named_or_text a b y) 33 32 (ports_of (named_or_forms a b y)))

@@ -1,0 +1,39 @@
+// What the definitions of a text's readings imply, proved once for every text.
+
+ghost use Rattle.std.specs.Prelude.{List, ℕ};
+ghost use Rattle.pattern_reading.specs.Laws.{HasOnePattern, HasOneRleFault, HasNoFaultIfRead, HasPatternOrFault};
+ghost use Rattle.pattern_reading.specs.Laws.{HasOneTable, HasOnePortFault, HasNoPortFaultIfRead, HasTableOrFault};
+ghost use Rattle.pattern_reading.specs.Laws.{HasAllInLines, HasNumberedLines, HasLinesOfRust, IsLineText, HasFirstLine};
+ghost use Rattle.pattern_reading.specs.PortLines.{PortForm};
+ghost use Rattle.pattern_reading.specs.Spelling.{HasSpelledPorts, HasSamePattern};
+
+/// Each text of extended RLE reads as exactly one pattern, or has exactly one first fault.
+pub fn pattern_laws()
+    ensures pattern { (text : List ℕ) → HasOnePattern text }
+    ensures fault { (text : List ℕ) → HasOneRleFault text }
+    ensures apart { (text : List ℕ) → HasNoFaultIfRead text }
+    ensures total { (text : List ℕ) → HasPatternOrFault text }
+{}
+
+/// In each box the port table of a text reads as exactly one table, or has exactly one first fault.
+pub fn port_laws()
+    ensures table { (text : List ℕ) (width height : ℕ) → HasOneTable text width height }
+    ensures fault { (text : List ℕ) (width height : ℕ) → HasOnePortFault text width height }
+    ensures apart { (text : List ℕ) (width height : ℕ) → HasNoPortFaultIfRead text width height }
+    ensures total { (text : List ℕ) (width height : ℕ) → HasTableOrFault text width height }
+{}
+
+/// The lines of a text are numbered from 1 on, all of the text is in them, they are those of Rust's `lines`, and a line before a
+/// text is its first line.
+pub fn line_laws()
+    ensures joined { (text : List ℕ) → HasAllInLines text }
+    ensures numbered { (text : List ℕ) → HasNumberedLines text }
+    ensures of_rust { (text : List ℕ) → HasLinesOfRust text }
+    ensures first { (bytes rest : List ℕ) → IsLineText bytes → HasFirstLine bytes rest }
+{}
+
+/// A port table that is spelled before a text is read as it was meant, and changes nothing in the text's pattern.
+pub fn spelled_table_laws()
+    ensures ports { (forms : List PortForm) (rest : List ℕ) → HasSpelledPorts forms rest }
+    ensures pattern { (forms : List PortForm) (rest : List ℕ) → HasSamePattern forms rest }
+{}

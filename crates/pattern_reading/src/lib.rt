@@ -1,0 +1,14 @@
+//! What the text of a pattern, in extended RLE, and the port table in its comments say.
+#![tactic(auto)]
+
+mod examples;
+mod faults;
+mod laws;
+mod ports;
+
+pub use examples::{
+    faults_of_patterns, faults_of_ports, named_gate_reads, or_gate_reads, patterns_read, ports_read,
+};
+pub use faults::{PortFaultKind, RleFaultKind};
+pub use laws::{line_laws, pattern_laws, port_laws, spelled_table_laws};
+pub use ports::{NetLine, PortLine, Ports};

@@ -1,0 +1,32 @@
+// Port tables as values.
+use lists::{Bytes, List};
+
+/// A port: the name of an input or an output, and its cell.
+#[derive(Drop)]
+pub struct PortLine {
+    pub x: u64,
+    pub y: u64,
+    pub name: Bytes,
+}
+
+/// A net: the cell at which it can be seen, the generation at which its first bit is there, its name, and the path
+/// of its model, which is `-` for the main model.
+#[derive(Drop)]
+pub struct NetLine {
+    pub x: u64,
+    pub y: u64,
+    pub offset: u64,
+    pub name: Bytes,
+    pub path: Bytes,
+}
+
+/// A port table: the period `p` and the latency `l` of the pattern, in generations, and its ports and nets in the
+/// order of the text.
+#[derive(Drop)]
+pub struct Ports {
+    pub p: u64,
+    pub l: u64,
+    pub ins: List<PortLine>,
+    pub outs: List<PortLine>,
+    pub nets: List<NetLine>,
+}

@@ -1,0 +1,15 @@
+use Rattle.std.proofs.Common.{◌≤◌, drop}
+use Rattle.pattern_writing.specs.Writer.{item_texts, wrapped}
+use Rattle.rle_write.specs.Left.{rows_left, text_left}
+use Rattle.rle_write.specs.Progress.{Wrote}
+use Rattle.rle_write.proofs.rows.write_rows.Given as goal
+
+abbrev pub invariant-loop-row : goal.invariant-loop-row
+invariant-loop-row g l = record {
+  within : l.at.used ≤ 70;
+  fewer : l.at.ends ≤ l.row-index;
+  wrote :
+      Wrote (g.O.Sink.written l.initial.sink) (g.O.Sink.written l.sink) (g.O.Sink.faults l.initial.sink) (g.O.Sink.faults l.sink)
+      (wrapped 0 (item_texts l.rows))
+      (text_left l.at.used (rows_left l.at.ends (drop l.row-index l.rows)));
+}

@@ -1,0 +1,37 @@
+-- The text that is still to come, where a writer stands somewhere in a pattern.
+use Rattle.std.specs.Prelude.{◌≡◌, ◌≢◌, ℕ, zero, suc, List, [], ◌∷◌, ◌++◌, map, flat_map, replicate, codes}
+use Rattle.ww_rule.specs.declared.pattern.State.{State}
+use Rattle.ww_rule.specs.declared.pattern.State.TheVariants.{Empty}
+use Rattle.pattern_writing.specs.Writer.{Item, tag_of, row_end, without_end, row_tags, runs_of, item_text, wrapped}
+
+-- the tags of rows, where row ends are due before them
+abbrev pub rows_left : ℕ → List (List State) → List ℕ
+rows_left ends rows = without_end row_end (replicate ends row_end ++ flat_map row_tags rows)
+
+-- the tags of the rest of a row and of the rows after it, where row ends are due before them
+abbrev pub row_left : ℕ → List ℕ → List (List State) → List ℕ
+row_left ends tags rows =
+    without_end row_end (replicate ends row_end ++ (without_end (tag_of Empty) tags ++ row_end ∷ flat_map row_tags rows))
+
+-- the item of the row ends that are due
+abbrev pub end_items : ℕ → List Item
+end_items zero = []
+end_items (suc n) = record { count = suc n; tag = row_end } ∷ []
+
+-- the text of items and of the `!` after them, begun on a line that has some bytes
+abbrev pub items_left : ℕ → List Item → List ℕ
+items_left used items = wrapped used (map item_text items ++ codes "!" ∷ [])
+
+-- the same of the items of tags
+abbrev pub text_left : ℕ → List ℕ → List ℕ
+text_left used tags = items_left used (runs_of tags)
+
+-- the tags do not begin with this one
+abbrev pub BeginsOther : ℕ → List ℕ → Type 0
+BeginsOther t [] = Unit {0}
+BeginsOther t (z ∷ zs) = t ≢ z
+
+-- a run of a row's cells that other tags follow: it ends before them, and does not stand at the row's empty end
+pub record IsRunBefore (count tag : ℕ) (tags : List ℕ) : Type 0 where
+  pub other : BeginsOther tag tags
+  pub inside : without_end (tag_of Empty) (replicate count tag ++ tags) ≡ replicate count tag ++ without_end (tag_of Empty) tags

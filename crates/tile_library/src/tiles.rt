@@ -1,0 +1,414 @@
+// A tile for each kind.
+ghost use Rattle.tile_core.specs.Kinds.{entries, exits, answer};
+ghost use Rattle.tile_library.specs.Drawings.{drawing_of};
+
+use tile_core::{Kind, Tile};
+
+use crate::drawings::{AND_NOT, EAST, EAST_SOUTH, FORK, NORTH_EAST, OR, SOUTH, SOUTH_WEST, SWAP, WEST_NORTH, XOR};
+use crate::rows::{is_drawn, is_drawn_mirrored};
+
+/// Two signals from the west side to the east side, where they change places.
+#[derive(Clone, Copy, Debug)]
+pub struct Swap;
+
+impl Tile for Swap {
+    ghost use Rattle.tile_core.specs.declared.kind.Kind.TheVariants.{Swap};
+    ghost use Rattle.tile_library.specs.Laws.{swap_meets};
+
+    const LANES: u32 = 2;
+    const ENTRIES: [(u32, u32); 2] = [(0, 8), (0, 24)];
+    const EXITS: [(u32, u32); 2] = [(31, 8), (31, 24)];
+
+    ghost LANES = { 2 };
+    ghost ENTRIES = { entries Swap };
+    ghost EXITS = { exits Swap };
+    ghost drawing = { drawing_of Swap };
+    ghost answers = { answer Swap };
+
+    fn cell(&self, x: u32, y: u32) -> bool {
+        is_drawn(&SWAP, x, y)
+    }
+
+    fn answer(&self, lit: [bool; 2]) -> [bool; 2] {
+        Kind::Swap.answer(lit)
+    }
+
+    ghost law = { swap_meets };
+}
+
+/// The upper exit is lit where one of the entries is lit and the other is not.
+#[derive(Clone, Copy, Debug)]
+pub struct Xor;
+
+impl Tile for Xor {
+    ghost use Rattle.tile_core.specs.declared.kind.Kind.TheVariants.{Xor};
+    ghost use Rattle.tile_library.specs.Laws.{xor_meets};
+
+    const LANES: u32 = 2;
+    const ENTRIES: [(u32, u32); 2] = [(0, 8), (0, 24)];
+    const EXITS: [(u32, u32); 2] = [(31, 8), (31, 24)];
+
+    ghost LANES = { 2 };
+    ghost ENTRIES = { entries Xor };
+    ghost EXITS = { exits Xor };
+    ghost drawing = { drawing_of Xor };
+    ghost answers = { answer Xor };
+
+    fn cell(&self, x: u32, y: u32) -> bool {
+        is_drawn(&XOR, x, y)
+    }
+
+    fn answer(&self, lit: [bool; 2]) -> [bool; 2] {
+        Kind::Xor.answer(lit)
+    }
+
+    ghost law = { xor_meets };
+}
+
+/// The upper exit is lit where one of the entries is lit, or both.
+#[derive(Clone, Copy, Debug)]
+pub struct Or;
+
+impl Tile for Or {
+    ghost use Rattle.tile_core.specs.declared.kind.Kind.TheVariants.{Or};
+    ghost use Rattle.tile_library.specs.Laws.{or_meets};
+
+    const LANES: u32 = 2;
+    const ENTRIES: [(u32, u32); 2] = [(0, 8), (0, 24)];
+    const EXITS: [(u32, u32); 2] = [(31, 8), (31, 24)];
+
+    ghost LANES = { 2 };
+    ghost ENTRIES = { entries Or };
+    ghost EXITS = { exits Or };
+    ghost drawing = { drawing_of Or };
+    ghost answers = { answer Or };
+
+    fn cell(&self, x: u32, y: u32) -> bool {
+        is_drawn(&OR, x, y)
+    }
+
+    fn answer(&self, lit: [bool; 2]) -> [bool; 2] {
+        Kind::Or.answer(lit)
+    }
+
+    ghost law = { or_meets };
+}
+
+/// The upper exit is lit where the upper entry is lit and the lower one is not.
+#[derive(Clone, Copy, Debug)]
+pub struct AndNot;
+
+impl Tile for AndNot {
+    ghost use Rattle.tile_core.specs.declared.kind.Kind.TheVariants.{AndNot};
+    ghost use Rattle.tile_library.specs.Laws.{and_not_meets};
+
+    const LANES: u32 = 2;
+    const ENTRIES: [(u32, u32); 2] = [(0, 8), (0, 24)];
+    const EXITS: [(u32, u32); 2] = [(31, 8), (31, 24)];
+
+    ghost LANES = { 2 };
+    ghost ENTRIES = { entries AndNot };
+    ghost EXITS = { exits AndNot };
+    ghost drawing = { drawing_of AndNot };
+    ghost answers = { answer AndNot };
+
+    fn cell(&self, x: u32, y: u32) -> bool {
+        is_drawn(&AND_NOT, x, y)
+    }
+
+    fn answer(&self, lit: [bool; 2]) -> [bool; 2] {
+        Kind::AndNot.answer(lit)
+    }
+
+    ghost law = { and_not_meets };
+}
+
+/// Both exits are lit where the upper entry is lit.
+#[derive(Clone, Copy, Debug)]
+pub struct Fork;
+
+impl Tile for Fork {
+    ghost use Rattle.tile_core.specs.declared.kind.Kind.TheVariants.{Fork};
+    ghost use Rattle.tile_library.specs.Laws.{fork_meets};
+
+    const LANES: u32 = 2;
+    const ENTRIES: [(u32, u32); 2] = [(0, 8), (0, 24)];
+    const EXITS: [(u32, u32); 2] = [(31, 8), (31, 24)];
+
+    ghost LANES = { 2 };
+    ghost ENTRIES = { entries Fork };
+    ghost EXITS = { exits Fork };
+    ghost drawing = { drawing_of Fork };
+    ghost answers = { answer Fork };
+
+    fn cell(&self, x: u32, y: u32) -> bool {
+        is_drawn(&FORK, x, y)
+    }
+
+    fn answer(&self, lit: [bool; 2]) -> [bool; 2] {
+        Kind::Fork.answer(lit)
+    }
+
+    ghost law = { fork_meets };
+}
+
+/// One signal from the west side to the east side.
+#[derive(Clone, Copy, Debug)]
+pub struct East;
+
+impl Tile for East {
+    ghost use Rattle.tile_core.specs.declared.kind.Kind.TheVariants.{East};
+    ghost use Rattle.tile_library.specs.Laws.{east_meets};
+
+    const LANES: u32 = 1;
+    const ENTRIES: [(u32, u32); 2] = [(0, 8), (0, 0)];
+    const EXITS: [(u32, u32); 2] = [(31, 8), (0, 0)];
+
+    ghost LANES = { 1 };
+    ghost ENTRIES = { entries East };
+    ghost EXITS = { exits East };
+    ghost drawing = { drawing_of East };
+    ghost answers = { answer East };
+
+    fn cell(&self, x: u32, y: u32) -> bool {
+        is_drawn(&EAST, x, y)
+    }
+
+    fn answer(&self, lit: [bool; 2]) -> [bool; 2] {
+        Kind::East.answer(lit)
+    }
+
+    ghost law = { east_meets };
+}
+
+/// One signal from the north side to the south side.
+#[derive(Clone, Copy, Debug)]
+pub struct South;
+
+impl Tile for South {
+    ghost use Rattle.tile_core.specs.declared.kind.Kind.TheVariants.{South};
+    ghost use Rattle.tile_library.specs.Laws.{south_meets};
+
+    const LANES: u32 = 1;
+    const ENTRIES: [(u32, u32); 2] = [(16, 0), (0, 0)];
+    const EXITS: [(u32, u32); 2] = [(16, 15), (0, 0)];
+
+    ghost LANES = { 1 };
+    ghost ENTRIES = { entries South };
+    ghost EXITS = { exits South };
+    ghost drawing = { drawing_of South };
+    ghost answers = { answer South };
+
+    fn cell(&self, x: u32, y: u32) -> bool {
+        is_drawn(&SOUTH, x, y)
+    }
+
+    fn answer(&self, lit: [bool; 2]) -> [bool; 2] {
+        Kind::South.answer(lit)
+    }
+
+    ghost law = { south_meets };
+}
+
+/// One signal from the south side to the north side.
+#[derive(Clone, Copy, Debug)]
+pub struct North;
+
+impl Tile for North {
+    ghost use Rattle.tile_core.specs.declared.kind.Kind.TheVariants.{North};
+    ghost use Rattle.tile_library.specs.Laws.{north_meets};
+
+    const LANES: u32 = 1;
+    const ENTRIES: [(u32, u32); 2] = [(16, 15), (0, 0)];
+    const EXITS: [(u32, u32); 2] = [(16, 0), (0, 0)];
+
+    ghost LANES = { 1 };
+    ghost ENTRIES = { entries North };
+    ghost EXITS = { exits North };
+    ghost drawing = { drawing_of North };
+    ghost answers = { answer North };
+
+    fn cell(&self, x: u32, y: u32) -> bool {
+        is_drawn(&SOUTH, x, y)
+    }
+
+    fn answer(&self, lit: [bool; 2]) -> [bool; 2] {
+        Kind::North.answer(lit)
+    }
+
+    ghost law = { north_meets };
+}
+
+/// One signal from the west side to the south side.
+#[derive(Clone, Copy, Debug)]
+pub struct EastSouth;
+
+impl Tile for EastSouth {
+    ghost use Rattle.tile_core.specs.declared.kind.Kind.TheVariants.{EastSouth};
+    ghost use Rattle.tile_library.specs.Laws.{east_south_meets};
+
+    const LANES: u32 = 1;
+    const ENTRIES: [(u32, u32); 2] = [(0, 8), (0, 0)];
+    const EXITS: [(u32, u32); 2] = [(16, 15), (0, 0)];
+
+    ghost LANES = { 1 };
+    ghost ENTRIES = { entries EastSouth };
+    ghost EXITS = { exits EastSouth };
+    ghost drawing = { drawing_of EastSouth };
+    ghost answers = { answer EastSouth };
+
+    fn cell(&self, x: u32, y: u32) -> bool {
+        is_drawn(&EAST_SOUTH, x, y)
+    }
+
+    fn answer(&self, lit: [bool; 2]) -> [bool; 2] {
+        Kind::EastSouth.answer(lit)
+    }
+
+    ghost law = { east_south_meets };
+}
+
+/// One signal from the north side to the west side.
+#[derive(Clone, Copy, Debug)]
+pub struct SouthWest;
+
+impl Tile for SouthWest {
+    ghost use Rattle.tile_core.specs.declared.kind.Kind.TheVariants.{SouthWest};
+    ghost use Rattle.tile_library.specs.Laws.{south_west_meets};
+
+    const LANES: u32 = 1;
+    const ENTRIES: [(u32, u32); 2] = [(16, 0), (0, 0)];
+    const EXITS: [(u32, u32); 2] = [(0, 8), (0, 0)];
+
+    ghost LANES = { 1 };
+    ghost ENTRIES = { entries SouthWest };
+    ghost EXITS = { exits SouthWest };
+    ghost drawing = { drawing_of SouthWest };
+    ghost answers = { answer SouthWest };
+
+    fn cell(&self, x: u32, y: u32) -> bool {
+        is_drawn(&SOUTH_WEST, x, y)
+    }
+
+    fn answer(&self, lit: [bool; 2]) -> [bool; 2] {
+        Kind::SouthWest.answer(lit)
+    }
+
+    ghost law = { south_west_meets };
+}
+
+/// One signal from the east side to the north side.
+#[derive(Clone, Copy, Debug)]
+pub struct WestNorth;
+
+impl Tile for WestNorth {
+    ghost use Rattle.tile_core.specs.declared.kind.Kind.TheVariants.{WestNorth};
+    ghost use Rattle.tile_library.specs.Laws.{west_north_meets};
+
+    const LANES: u32 = 1;
+    const ENTRIES: [(u32, u32); 2] = [(31, 8), (0, 0)];
+    const EXITS: [(u32, u32); 2] = [(16, 0), (0, 0)];
+
+    ghost LANES = { 1 };
+    ghost ENTRIES = { entries WestNorth };
+    ghost EXITS = { exits WestNorth };
+    ghost drawing = { drawing_of WestNorth };
+    ghost answers = { answer WestNorth };
+
+    fn cell(&self, x: u32, y: u32) -> bool {
+        is_drawn(&WEST_NORTH, x, y)
+    }
+
+    fn answer(&self, lit: [bool; 2]) -> [bool; 2] {
+        Kind::WestNorth.answer(lit)
+    }
+
+    ghost law = { west_north_meets };
+}
+
+/// One signal from the south side to the east side.
+#[derive(Clone, Copy, Debug)]
+pub struct NorthEast;
+
+impl Tile for NorthEast {
+    ghost use Rattle.tile_core.specs.declared.kind.Kind.TheVariants.{NorthEast};
+    ghost use Rattle.tile_library.specs.Laws.{north_east_meets};
+
+    const LANES: u32 = 1;
+    const ENTRIES: [(u32, u32); 2] = [(16, 15), (0, 0)];
+    const EXITS: [(u32, u32); 2] = [(31, 8), (0, 0)];
+
+    ghost LANES = { 1 };
+    ghost ENTRIES = { entries NorthEast };
+    ghost EXITS = { exits NorthEast };
+    ghost drawing = { drawing_of NorthEast };
+    ghost answers = { answer NorthEast };
+
+    fn cell(&self, x: u32, y: u32) -> bool {
+        is_drawn(&NORTH_EAST, x, y)
+    }
+
+    fn answer(&self, lit: [bool; 2]) -> [bool; 2] {
+        Kind::NorthEast.answer(lit)
+    }
+
+    ghost law = { north_east_meets };
+}
+
+/// One signal from the east side to the west side.
+#[derive(Clone, Copy, Debug)]
+pub struct West;
+
+impl Tile for West {
+    ghost use Rattle.tile_core.specs.declared.kind.Kind.TheVariants.{West};
+    ghost use Rattle.tile_library.specs.Laws.{west_meets};
+
+    const LANES: u32 = 1;
+    const ENTRIES: [(u32, u32); 2] = [(31, 8), (0, 0)];
+    const EXITS: [(u32, u32); 2] = [(0, 8), (0, 0)];
+
+    ghost LANES = { 1 };
+    ghost ENTRIES = { entries West };
+    ghost EXITS = { exits West };
+    ghost drawing = { drawing_of West };
+    ghost answers = { answer West };
+
+    fn cell(&self, x: u32, y: u32) -> bool {
+        is_drawn(&EAST, x, y)
+    }
+
+    fn answer(&self, lit: [bool; 2]) -> [bool; 2] {
+        Kind::West.answer(lit)
+    }
+
+    ghost law = { west_meets };
+}
+
+/// Swap with west and east changed: two signals from the east side to the west side.
+#[derive(Clone, Copy, Debug)]
+pub struct WestSwap;
+
+impl Tile for WestSwap {
+    ghost use Rattle.tile_core.specs.declared.kind.Kind.TheVariants.{WestSwap};
+    ghost use Rattle.tile_library.specs.Laws.{west_swap_meets};
+
+    const LANES: u32 = 2;
+    const ENTRIES: [(u32, u32); 2] = [(31, 8), (31, 24)];
+    const EXITS: [(u32, u32); 2] = [(0, 8), (0, 24)];
+
+    ghost LANES = { 2 };
+    ghost ENTRIES = { entries WestSwap };
+    ghost EXITS = { exits WestSwap };
+    ghost drawing = { drawing_of WestSwap };
+    ghost answers = { answer WestSwap };
+
+    fn cell(&self, x: u32, y: u32) -> bool {
+        is_drawn_mirrored(&SWAP, x, y)
+    }
+
+    fn answer(&self, lit: [bool; 2]) -> [bool; 2] {
+        Kind::WestSwap.answer(lit)
+    }
+
+    ghost law = { west_swap_meets };
+}

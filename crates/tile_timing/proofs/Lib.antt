@@ -1,0 +1,10 @@
+pub mod Windows
+pub mod Heads
+pub mod Sound
+pub mod Ports
+pub mod Borders
+pub mod Runs
+pub mod Traces
+pub mod Path
+pub mod PortTests
+pub mod Mirrors

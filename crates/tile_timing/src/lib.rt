@@ -1,0 +1,9 @@
+//! Tests whether a drawing keeps the timing law, by 32 steps of a small window.
+#![tactic(auto)]
+
+mod law;
+mod window;
+
+
+pub use law::law_holds;
+pub use window::window_step;

@@ -1,0 +1,15 @@
+//! Where a program reads from and writes to: sources and sinks, over the standard streams and in memory, and the calls that read or write all.
+#![tactic(auto)]
+
+mod fakes;
+mod standard;
+mod streams;
+mod whole;
+
+pub use fakes::{FakeError, MemSink, MemSource};
+pub use standard::{StdSink, StdSource};
+pub use streams::{Failed, Sink, Source};
+pub use whole::{ReadAllError, read_all, write_all};
+
+#[cfg(test)]
+mod tests;

@@ -1,0 +1,34 @@
+-- A cell's next state, by its nine cells.
+use Rattle.std.proofs.Common.{ℤ, pos, ◌+ℤ◌, ◌-ℤ◌, ◌≤ℤ◌, ℕ, ◌+◌, ◌≡◌, ap, ap₂, arith}
+use Rattle.std.proofs.lemmas.Int.{ints}
+use Rattle.ww_rule.specs.declared.pattern.State.TheVariants.{Empty}
+use Rattle.ww_rule.specs.Wireworld.{Plane, next_plane, next_state, heads_around, count_head}
+
+sum_same : (a b c d e f g h a' b' c' d' e' f' g' h' : ℕ) → a ≡ a' → b ≡ b' → c ≡ c' → d ≡ d' → e ≡ e' → f ≡ f' → g ≡ g' → h ≡ h' → a + b + c + d + e + f + g + h ≡ a' + b' + c' + d' + e' + f' + g' + h'
+sum_same a b c d e f g h a' b' c' d' e' f' g' h' p1 p2 p3 p4 p5 p6 p7 p8 = omega arith
+
+-- cells whose own states and whose neighbours' are the same have the same next state
+pub next_plane_same : (p q : Plane) (x y u v : ℤ) → p x y ≡ q u v → p (x -ℤ pos 1) (y -ℤ pos 1) ≡ q (u -ℤ pos 1) (v -ℤ pos 1) → p x (y -ℤ pos 1) ≡ q u (v -ℤ pos 1) → p (x +ℤ pos 1) (y -ℤ pos 1) ≡ q (u +ℤ pos 1) (v -ℤ pos 1) → p (x -ℤ pos 1) y ≡ q (u -ℤ pos 1) v → p (x +ℤ pos 1) y ≡ q (u +ℤ pos 1) v → p (x -ℤ pos 1) (y +ℤ pos 1) ≡ q (u -ℤ pos 1) (v +ℤ pos 1) → p x (y +ℤ pos 1) ≡ q u (v +ℤ pos 1) → p (x +ℤ pos 1) (y +ℤ pos 1) ≡ q (u +ℤ pos 1) (v +ℤ pos 1) → next_plane p x y ≡ next_plane q u v
+next_plane_same p q x y u v m nw n ne w e sw s se =
+    ap₂ next_state m (sum_same _ _ _ _ _ _ _ _ _ _ _ _ _ _ _ _ (ap count_head nw) (ap count_head n) (ap count_head ne) (ap count_head w) (ap count_head e) (ap count_head sw) (ap count_head s) (ap count_head se))
+
+-- a cell's next state depends on its own state and on which cells beside it are heads
+pub next_plane_counts : (p q : Plane) (x y : ℤ) → p x y ≡ q x y → ((u v : ℤ) → (x -ℤ pos 1) ≤ℤ u → u ≤ℤ (x +ℤ pos 1) → (y -ℤ pos 1) ≤ℤ v → v ≤ℤ (y +ℤ pos 1) → count_head (p u v) ≡ count_head (q u v)) → next_plane p x y ≡ next_plane q x y
+next_plane_counts p q x y m h =
+    ap₂ next_state m (sum_same _ _ _ _ _ _ _ _ _ _ _ _ _ _ _ _ (h _ _ (same _) (far x) (same _) (far y)) (h _ _ (lo x) (hi x) (same _) (far y)) (h _ _ (far x) (same _) (same _) (far y)) (h _ _ (same _) (far x) (lo y) (hi y)) (h _ _ (far x) (same _) (lo y) (hi y)) (h _ _ (same _) (far x) (far y) (same _)) (h _ _ (lo x) (hi x) (far y) (same _)) (h _ _ (far x) (same _) (far y) (same _)))
+  where
+    same : (z : ℤ) → z ≤ℤ z
+    same z = omega (arith, ints)
+
+    lo : (z : ℤ) → (z -ℤ pos 1) ≤ℤ z
+    lo z = omega (arith, ints)
+
+    hi : (z : ℤ) → z ≤ℤ (z +ℤ pos 1)
+    hi z = omega (arith, ints)
+
+    far : (z : ℤ) → (z -ℤ pos 1) ≤ℤ (z +ℤ pos 1)
+    far z = omega (arith, ints)
+
+-- an empty cell stays empty
+pub next_plane_empty : (p : Plane) (x y : ℤ) → p x y ≡ Empty → next_plane p x y ≡ Empty
+next_plane_empty p x y e = ap (λ s. next_state s (heads_around p x y)) e

@@ -1,0 +1,10 @@
+pub mod Cells
+pub mod Generations
+pub mod Moves
+pub mod Locality
+pub mod Boxes
+pub mod Finite
+pub mod RowLemmas
+pub mod Bridge
+pub mod Injected
+pub mod Streams

@@ -1,0 +1,9 @@
+use Rattle.std.proofs.Common.{◌≡◌, All, length}
+use Rattle.ww_rule.proofs.tests.pattern_of.Given as goal
+
+abbrev pub invariant-loop-west : goal.invariant-loop-west
+invariant-loop-west l =
+    record {
+      many : length l.rows.items ≡ l.west-index;
+      long : All (λ row. length row ≡ 3) l.rows.items;
+    }

@@ -1,0 +1,36 @@
+-- Injections: cells that are made heads from outside, given by a list or by streams of bits.
+use Rattle.std.specs.Prelude.{ℤ, pos, ℕ, ◌+◌, ◌==◌, Bool, ◌&&◌, cond, List, [], ◌∷◌, ◌++◌, map, filter}
+use Rattle.std.specs.List.{list_any}
+use Rattle.std.specs.Ordering.{int_eq}
+use Rattle.ww_rule.specs.declared.pattern.Injection.{Injection}
+use Rattle.ww_rule.specs.Wireworld.{Due}
+
+-- is the cell at x, y one of these?
+abbrev pub is_among : List (ℕ × ℕ) → ℤ → ℤ → Bool
+is_among cells x y = list_any (λ cell. int_eq (pos cell.0) x && int_eq (pos cell.1) y) cells
+
+-- the cells of the injections of a generation
+abbrev pub cells_at : ℕ → List Injection → List (ℕ × ℕ)
+cells_at g injections = map (λ i. (i.x, i.y)) (filter (λ i. i.generation == g) injections)
+
+-- what a list of injections makes due
+abbrev pub due_of_list : List Injection → Due
+due_of_list injections g = is_among (cells_at g injections)
+
+-- the injections of one cycle: at a generation, each cell whose bit is 1
+abbrev pub injections_of_row : ℕ → List (ℕ × ℕ) → List Bool → List Injection
+injections_of_row g [] bits = []
+injections_of_row g (cell ∷ cells) [] = []
+injections_of_row g (cell ∷ cells) (bit ∷ bits) =
+    cond bit (record { generation = g; x = cell.0; y = cell.1 } ∷ []) [] ++ injections_of_row g cells bits
+
+-- the injections of rows of bits, one row a cycle, where the first cycle is at a generation
+-- and each later one `period` generations after the one before
+abbrev pub injections_from : ℕ → ℕ → List (ℕ × ℕ) → List (List Bool) → List Injection
+injections_from g period cells [] = []
+injections_from g period cells (row ∷ rows) =
+    injections_of_row g cells row ++ injections_from (g + period) period cells rows
+
+-- what streams of bits make due: at generation t * period the cells whose bits are 1 in row t
+abbrev pub due_of_streams : ℕ → List (ℕ × ℕ) → List (List Bool) → Due
+due_of_streams period cells rows = due_of_list (injections_from 0 period cells rows)

@@ -1,0 +1,97 @@
+// Planes: boxes of rows on a ground of empty cells, and their next generations.
+ghost use Rattle.std.specs.Prelude.{◌≡◌, IfOk};
+ghost use Rattle.ww_rule.specs.Wireworld.{next_plane, injected};
+ghost use Rattle.ww_rule.specs.Grid.{IsGrid, AreInBox, plane_of};
+ghost use Rattle.ww_rule.specs.Injections.{is_among};
+
+use crate::error::RuleError;
+use crate::pattern::{Pattern, State};
+use crate::rows::{copied, make_head, next_row, row_before};
+use lists::List;
+use std::alloc::Global;
+
+/// A plane with finitely many cells: `height` rows of `width` cells each, from north to south, the first cell at x = 0
+/// and y = 0, and no rows where the box has no cells. All cells outside the box are empty.
+#[derive(Drop)]
+pub struct Plane {
+    pub width: u64,
+    pub height: u64,
+    pub rows: List<List<State>>,
+    ghost in_rows: { IsGrid width height rows },
+}
+
+impl Plane {
+    ghost use Rattle.ww_rule.specs.Patterns.{grid_of, box_of};
+
+    /// The plane that a pattern stands for: its cells in its box, and empty cells outside.
+    pub fn from_pattern(alloc: Global, pattern: &Pattern) -> Result<Plane, RuleError>
+        ensures { IfOk result (λ plane. box_of plane ≡ grid_of pattern.now) }
+    {
+        let rows = copied(alloc, pattern.rows.as_slice())?;
+        Ok(Plane {
+            width: pattern.width,
+            height: pattern.height,
+            rows,
+        })
+    }
+
+    /// The plane with these cells (x, y) of its box made heads, whatever they held: a pattern's generation 0, when it is
+    /// driven.
+    pub fn inject(self, alloc: Global, injections: &[(u64, u64)]) -> Plane
+        requires in_box { AreInBox self.width self.height injections.now }
+        ensures width { result.width ≡ self.width }
+        ensures height { result.height ≡ self.height }
+        ensures cells { plane_of result.rows ≡ injected (is_among injections.now) (plane_of self.rows) }
+    {
+        let Plane {
+            width,
+            height,
+            rows,
+        } = self;
+        let mut rows = rows.into_vec();
+        for (x, y) in injections {
+            make_head(alloc, &mut rows, *x as usize, *y as usize);
+        }
+        Plane {
+            width,
+            height,
+            rows: List::of(rows),
+        }
+    }
+}
+
+/// The next generation of a plane by Silverman's rule: an empty cell stays empty; a head becomes a tail; a tail becomes
+/// a conductor; a conductor becomes a head exactly when one or two of its eight neighbours are heads.
+pub fn step_plain(alloc: Global, plane: &Plane) -> Result<Plane, RuleError>
+    ensures width { IfOk result (λ next. next.width ≡ plane.now.width) }
+    ensures height { IfOk result (λ next. next.height ≡ plane.now.height) }
+    ensures cells { IfOk result (λ next. plane_of next.rows ≡ next_plane (plane_of plane.now.rows)) }
+{
+    let old = plane.rows.as_slice();
+    let mut rows = Vec::with_capacity(alloc, old.len())?;
+    for (y, row) in old.iter().enumerate() {
+        let above = row_before(old, y);
+        let below = row_before(old, y + 2);
+        rows.push(next_row(alloc, above, row.as_slice(), below)?)?;
+    }
+    Ok(Plane {
+        width: plane.width,
+        height: plane.height,
+        rows: List::of(rows),
+    })
+}
+
+/// The next generation of a plane, in which these cells (x, y) of its box are then made heads, whatever they hold.
+pub fn step_driven(
+    alloc: Global,
+    plane: &Plane,
+    injections: &[(u64, u64)],
+) -> Result<Plane, RuleError>
+    requires in_box { AreInBox plane.now.width plane.now.height injections.now }
+    ensures width { IfOk result (λ next. next.width ≡ plane.now.width) }
+    ensures height { IfOk result (λ next. next.height ≡ plane.now.height) }
+    ensures cells { IfOk result (λ next. plane_of next.rows ≡ injected (is_among injections.now) (next_plane (plane_of plane.now.rows))) }
+{
+    let next = step_plain(alloc, plane)?;
+    Ok(next.inject(alloc, injections))
+}

@@ -1,0 +1,117 @@
+// Rows of cells: copies of them, and their next states.
+ghost use Rattle.std.specs.Prelude.{◌≡◌, ◌<◌, ◌≤◌, ◌-ℤ◌, ℕ, pos, [], ◌∷◌, length, get_or, map, reverse, slice_set, ◌-◌, IfOk};
+ghost use Rattle.ww_rule.specs.declared.pattern.State.TheVariants.{Empty, Head};
+ghost use Rattle.ww_rule.specs.Wireworld.{count_head, heads_around, next_plane, next_state};
+ghost use Rattle.ww_rule.specs.Grid.{plane_of};
+
+use crate::error::RuleError;
+use crate::pattern::State;
+use lists::List;
+use std::alloc::Global;
+use std::mem;
+
+impl State {
+    /// What a cell becomes, by its state and the number of its eight neighbours that are heads (Silverman's rule).
+    pub fn next(self, heads: usize) -> State
+        ensures { result ≡ next_state self heads }
+    {
+        match self {
+            State::Empty => State::Empty,
+            State::Head => State::Tail,
+            State::Tail => State::Conductor,
+            State::Conductor => if heads == 1 || heads == 2 {
+                State::Head
+            } else {
+                State::Conductor
+            },
+        }
+    }
+}
+
+// 1 where the cell of a row before column x, counted from 1, is a head.
+fn head_before(row: &[State], x: usize) -> usize
+    ensures counted { result ≡ count_head (plane_of (row.now ∷ []) (pos x -ℤ pos 1) (pos 0)) }
+    ensures few { result ≤ 1 }
+{
+    if x == 0 || x > row.len() {
+        return 0;
+    }
+    match row[x - 1] {
+        State::Head => 1,
+        _ => 0,
+    }
+}
+
+// How many of the eight cells around column x of the middle one of three rows are heads.
+fn heads_near(above: &[State], row: &[State], below: &[State], x: usize) -> usize
+    requires in_row { x < length row.now }
+    ensures counted { result ≡ heads_around (plane_of (above.now ∷ row.now ∷ below.now ∷ [])) (pos x) (pos 1) }
+    ensures few { result ≤ 8 }
+{
+    let over = head_before(above, x) + head_before(above, x + 1) + head_before(above, x + 2);
+    let beside = head_before(row, x) + head_before(row, x + 2);
+    let under = head_before(below, x) + head_before(below, x + 1) + head_before(below, x + 2);
+    over + beside + under
+}
+
+/// The next states of the middle one of three rows that stand alone.
+pub fn next_row(
+    alloc: Global,
+    above: &[State],
+    row: &[State],
+    below: &[State],
+) -> Result<List<State>, RuleError>
+    ensures long { IfOk result (λ next. length next ≡ length row.now) }
+    ensures cells { IfOk result (λ next. (x : ℕ) → x < length row.now →
+        get_or next x Empty ≡ next_plane (plane_of (above.now ∷ row.now ∷ below.now ∷ [])) (pos x) (pos 1)) }
+{
+    let mut next = Vec::with_capacity(alloc, row.len())?;
+    for (x, state) in row.iter().enumerate() {
+        next.push(state.next(heads_near(above, row, below, x)))?;
+    }
+    Ok(List::of(next))
+}
+
+/// The row before row y, counted from 1, or no cells where there is none.
+pub fn row_before(rows: &[List<State>], y: usize) -> &[State]
+    ensures first { y ≡ 0 → result.now ≡ [] }
+    ensures later { 0 < y → result.now ≡ get_or rows.now (y - 1) [] }
+{
+    if y == 0 || y > rows.len() {
+        return &[];
+    }
+    rows[y - 1].as_slice()
+}
+
+/// A copy of rows.
+pub fn copied(alloc: Global, rows: &[List<State>]) -> Result<List<List<State>>, RuleError>
+    ensures { IfOk result (λ copy. copy ≡ rows.now) }
+{
+    let mut copies = Vec::with_capacity(alloc, rows.len())?;
+    for row in rows {
+        copies.push(List::of(row.as_slice().iter().copied().collect(alloc)?))?;
+    }
+    Ok(List::of(copies))
+}
+
+/// The rows, each from its end to its start.
+pub fn reversed(alloc: Global, rows: &[List<State>]) -> Result<List<List<State>>, RuleError>
+    ensures { IfOk result (λ turned. turned ≡ map reverse rows.now) }
+{
+    let mut turned = Vec::with_capacity(alloc, rows.len())?;
+    for row in rows {
+        turned.push(List::of(row.as_slice().iter().rev().copied().collect(alloc)?))?;
+    }
+    Ok(List::of(turned))
+}
+
+/// Makes the cell of column x and row y a head.
+pub fn make_head(alloc: Global, rows: &mut [List<State>], x: usize, y: usize)
+    requires in_rows { y < length rows.old }
+    requires in_row { x < length (get_or rows.old y []) }
+    ensures { rows.new ≡ slice_set rows.old y (slice_set (get_or rows.old y []) x Head) }
+{
+    let mut row = mem::replace(&mut rows[y], List::of(Vec::new(alloc))).into_vec();
+    row[x] = State::Head;
+    rows[y] = List::of(row);
+}
