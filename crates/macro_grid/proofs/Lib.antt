@@ -5,3 +5,4 @@ pub mod Matched
 pub mod Distinct
 pub mod Bits
 pub mod Steps
+pub mod Planes

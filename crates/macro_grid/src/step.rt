@@ -1,6 +1,10 @@
 // Which edges are lit 32 generations later.
 ghost use Rattle.std.specs.Prelude.{◌≡◌, ℕ, ◌+◌, ◌*◌, ◌/◌, ◌%◌, ◌<◌, ◌^◌, get_or, false, length};
+ghost use Rattle.tile_core.specs.declared.kind.Kind.{Kind};
+ghost use Rattle.tile_core.specs.Drawing.{Drawing};
 ghost use Rattle.tile_core.specs.Kinds.{interface};
+ghost use Rattle.tiling.specs.Steps.{KeepsLaw, StepsByMacro};
+ghost use Rattle.macro_grid.specs.Planes.{IsDrawnAfter32};
 ghost use Rattle.tiling.specs.Tiling.{Edge, edge_of, is_entry_lit};
 ghost use Rattle.tiling.specs.Tiling.Edge.{Beside, Above};
 ghost use Rattle.tiling.specs.Tiling.Piece.{Tile};
@@ -137,6 +141,9 @@ pub fn macro_step(plan: &Plan, old: &Edges, new: &mut Edges)
     requires made { IsEdgesOf plan.now new.old }
     ensures made { IsEdgesOf plan.now new.new }
     ensures step { (edge : Edge) → lit_of new.new edge ≡ next_edges (tiling_of plan.now) (lit_of old.now) edge }
+    // whatever the drawings of the tiles, if they keep the timing law
+    ensures plane { (library : Kind → Drawing) → KeepsLaw library → IsDrawnAfter32 library (tiling_of plan.now) (lit_of old.now) (lit_of new.new) }
+    ensures later { (library : Kind → Drawing) → KeepsLaw library → StepsByMacro library (tiling_of plan.now) (lit_of old.now) }
 {
     let lanes = new.lanes;
     step_beside(plan, old, lanes, &mut new.beside);

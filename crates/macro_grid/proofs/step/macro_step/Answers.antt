@@ -7,6 +7,7 @@ use Rattle.macro_grid.specs.Edges.{edge_columns, edge_lanes, lit_of}
 use Rattle.macro_grid.specs.Layout.{tiling_of}
 use Rattle.macro_grid.proofs.Bits.{bits_read}
 use Rattle.macro_grid.proofs.Steps.{beside_right, beside_below, above_right, above_below}
+use Rattle.macro_grid.proofs.Planes.{drawn_after, steps_of}
 use Rattle.macro_grid.proofs.step.macro_step.Goals as goal
 
 pub returns-clause-step : goal.returns-clause-step
@@ -32,3 +33,10 @@ returns-clause-step c (Above q l) =
         long c.step_above.ensures
         (λ x y far. above_right c.args.plan.now (lit_of c.args.old.now) x y far)
         (λ x y far. above_below c.args.plan.now (lit_of c.args.old.now) x y (omega arith)) q l
+
+pub returns-clause-plane : goal.returns-clause-plane
+returns-clause-plane c = λ library law.
+    drawn_after c.args.plan.now c.requires.admissible library law (lit_of c.args.old.now) _ (returns-clause-step c)
+
+pub returns-clause-later : goal.returns-clause-later
+returns-clause-later c = λ library law. steps_of c.args.plan.now c.requires.admissible library law (lit_of c.args.old.now)
