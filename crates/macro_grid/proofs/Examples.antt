@@ -54,7 +54,7 @@ or_plan = record {
   starts = [];
   ins = 0 ∷ 1 ∷ [];
   outs = 0 ∷ [];
-  nets = []
+  nets = [];
 }
 
 or_plan_drawn : rows_from 3 3 0 (tiling_of or_plan) ≡ codes "O*." ∷ codes "o.." ∷ codes "..." ∷ []
@@ -72,7 +72,7 @@ loop_plan = record {
   starts = true ∷ [];
   ins = 0 ∷ [];
   outs = 0 ∷ [];
-  nets = []
+  nets = [];
 }
 
 loop_plan_drawn : rows_from 4 5 0 (tiling_of loop_plan) ≡ codes ".FO*." ∷ codes "rfo7." ∷ codes "L<<J." ∷ codes "....." ∷ []
@@ -113,6 +113,6 @@ walk (suc n) tiling b = walk n tiling (next_block (tiling b.0 b.1) b)
 -- from the body's end round to its beginning: M + 4k tiles
 ways_of_three_loops :
     (let t = tiling_of (bare_plan 3 3 (no_instrs ∷ no_instrs ∷ no_instrs ∷ no_instrs ∷ []) []) in
-     walk 16 t (7, 2) ∷ walk 16 t (7, 1) ∷ walk 16 t (7, 0) ∷ [])
+    walk 16 t (7, 2) ∷ walk 16 t (7, 1) ∷ walk 16 t (7, 0) ∷ [])
     ≡ (3, 0) ∷ (3, 1) ∷ (3, 2) ∷ []
 ways_of_three_loops = refl
