@@ -9,7 +9,11 @@ use tile_core::{Kind, Library, Tile};
 pub struct Shipped;
 
 impl Library for Shipped {
-    ghost use Rattle.tile_library.specs.Laws.{every_kind_meets};
+    ghost use Rattle.std.specs.Prelude.{refl};
+    ghost use Rattle.tile_core.specs.declared.kind.Kind.TheVariants.{Swap, Xor, Or, AndNot, Fork, East, South, North, EastSouth, SouthWest, WestNorth, NorthEast, West, WestSwap};
+    ghost use Rattle.tile_core.specs.Kinds.{interface};
+    ghost use Rattle.tile_library.specs.declared.drawings.TheConstants.{AND_NOT, EAST, EAST_SOUTH, FORK, NORTH_EAST, OR, SOUTH, SOUTH_WEST, SWAP, WEST_NORTH, XOR};
+    ghost use Rattle.tile_library.specs.Laws.{meets_law, west_swap_meets};
 
     ghost drawing = { λ library kind. drawing_of kind };
 
@@ -32,5 +36,20 @@ impl Library for Shipped {
         }
     }
 
-    ghost law = { λ library kind. every_kind_meets kind };
+    ghost law = { λ library. elim [
+      | Swap ↦ meets_law (interface Swap) SWAP refl
+      | Xor ↦ meets_law (interface Xor) XOR refl
+      | Or ↦ meets_law (interface Or) OR refl
+      | AndNot ↦ meets_law (interface AndNot) AND_NOT refl
+      | Fork ↦ meets_law (interface Fork) FORK refl
+      | East ↦ meets_law (interface East) EAST refl
+      | South ↦ meets_law (interface South) SOUTH refl
+      | North ↦ meets_law (interface North) SOUTH refl
+      | EastSouth ↦ meets_law (interface EastSouth) EAST_SOUTH refl
+      | SouthWest ↦ meets_law (interface SouthWest) SOUTH_WEST refl
+      | WestNorth ↦ meets_law (interface WestNorth) WEST_NORTH refl
+      | NorthEast ↦ meets_law (interface NorthEast) NORTH_EAST refl
+      | West ↦ meets_law (interface West) EAST refl
+      | WestSwap ↦ west_swap_meets refl
+    ] };
 }

@@ -1,6 +1,8 @@
 // A tile for each kind.
-ghost use Rattle.tile_core.specs.Kinds.{entries, exits, answer};
+ghost use Rattle.std.specs.Prelude.{refl};
+ghost use Rattle.tile_core.specs.Kinds.{entries, exits, answer, interface};
 ghost use Rattle.tile_library.specs.Drawings.{drawing_of};
+ghost use Rattle.tile_library.specs.declared.drawings.TheConstants.{AND_NOT, EAST, EAST_SOUTH, FORK, NORTH_EAST, OR, SOUTH, SOUTH_WEST, SWAP, WEST_NORTH, XOR};
 
 use crate::drawings::{
     AND_NOT, EAST, EAST_SOUTH, FORK, NORTH_EAST, OR, SOUTH, SOUTH_WEST, SWAP, WEST_NORTH, XOR,
@@ -14,7 +16,7 @@ pub struct Swap;
 
 impl Tile for Swap {
     ghost use Rattle.tile_core.specs.declared.kind.Kind.TheVariants.{Swap};
-    ghost use Rattle.tile_library.specs.Laws.{has_form, swap_meets};
+    ghost use Rattle.tile_library.specs.Laws.{has_form, meets_law};
 
     const LANES: u32 = 2;
 
@@ -42,7 +44,7 @@ impl Tile for Swap {
 
     ghost form = { has_form Swap };
 
-    ghost law = { swap_meets };
+    ghost law = { meets_law (interface Swap) SWAP refl };
 }
 
 /// The upper exit is lit where one of the entries is lit and the other is not.
@@ -51,7 +53,7 @@ pub struct Xor;
 
 impl Tile for Xor {
     ghost use Rattle.tile_core.specs.declared.kind.Kind.TheVariants.{Xor};
-    ghost use Rattle.tile_library.specs.Laws.{has_form, xor_meets};
+    ghost use Rattle.tile_library.specs.Laws.{has_form, meets_law};
 
     const LANES: u32 = 2;
 
@@ -79,7 +81,7 @@ impl Tile for Xor {
 
     ghost form = { has_form Xor };
 
-    ghost law = { xor_meets };
+    ghost law = { meets_law (interface Xor) XOR refl };
 }
 
 /// The upper exit is lit where one of the entries is lit, or both.
@@ -88,7 +90,7 @@ pub struct Or;
 
 impl Tile for Or {
     ghost use Rattle.tile_core.specs.declared.kind.Kind.TheVariants.{Or};
-    ghost use Rattle.tile_library.specs.Laws.{has_form, or_meets};
+    ghost use Rattle.tile_library.specs.Laws.{has_form, meets_law};
 
     const LANES: u32 = 2;
 
@@ -116,7 +118,7 @@ impl Tile for Or {
 
     ghost form = { has_form Or };
 
-    ghost law = { or_meets };
+    ghost law = { meets_law (interface Or) OR refl };
 }
 
 /// The upper exit is lit where the upper entry is lit and the lower one is not.
@@ -125,7 +127,7 @@ pub struct AndNot;
 
 impl Tile for AndNot {
     ghost use Rattle.tile_core.specs.declared.kind.Kind.TheVariants.{AndNot};
-    ghost use Rattle.tile_library.specs.Laws.{has_form, and_not_meets};
+    ghost use Rattle.tile_library.specs.Laws.{has_form, meets_law};
 
     const LANES: u32 = 2;
 
@@ -153,7 +155,7 @@ impl Tile for AndNot {
 
     ghost form = { has_form AndNot };
 
-    ghost law = { and_not_meets };
+    ghost law = { meets_law (interface AndNot) AND_NOT refl };
 }
 
 /// Both exits are lit where the upper entry is lit.
@@ -162,7 +164,7 @@ pub struct Fork;
 
 impl Tile for Fork {
     ghost use Rattle.tile_core.specs.declared.kind.Kind.TheVariants.{Fork};
-    ghost use Rattle.tile_library.specs.Laws.{has_form, fork_meets};
+    ghost use Rattle.tile_library.specs.Laws.{has_form, meets_law};
 
     const LANES: u32 = 2;
 
@@ -190,7 +192,7 @@ impl Tile for Fork {
 
     ghost form = { has_form Fork };
 
-    ghost law = { fork_meets };
+    ghost law = { meets_law (interface Fork) FORK refl };
 }
 
 /// One signal from the west side to the east side.
@@ -199,7 +201,7 @@ pub struct East;
 
 impl Tile for East {
     ghost use Rattle.tile_core.specs.declared.kind.Kind.TheVariants.{East};
-    ghost use Rattle.tile_library.specs.Laws.{has_form, east_meets};
+    ghost use Rattle.tile_library.specs.Laws.{has_form, meets_law};
 
     const LANES: u32 = 1;
 
@@ -227,7 +229,7 @@ impl Tile for East {
 
     ghost form = { has_form East };
 
-    ghost law = { east_meets };
+    ghost law = { meets_law (interface East) EAST refl };
 }
 
 /// One signal from the north side to the south side.
@@ -236,7 +238,7 @@ pub struct South;
 
 impl Tile for South {
     ghost use Rattle.tile_core.specs.declared.kind.Kind.TheVariants.{South};
-    ghost use Rattle.tile_library.specs.Laws.{has_form, south_meets};
+    ghost use Rattle.tile_library.specs.Laws.{has_form, meets_law};
 
     const LANES: u32 = 1;
 
@@ -264,7 +266,7 @@ impl Tile for South {
 
     ghost form = { has_form South };
 
-    ghost law = { south_meets };
+    ghost law = { meets_law (interface South) SOUTH refl };
 }
 
 /// One signal from the south side to the north side.
@@ -273,7 +275,7 @@ pub struct North;
 
 impl Tile for North {
     ghost use Rattle.tile_core.specs.declared.kind.Kind.TheVariants.{North};
-    ghost use Rattle.tile_library.specs.Laws.{has_form, north_meets};
+    ghost use Rattle.tile_library.specs.Laws.{has_form, meets_law};
 
     const LANES: u32 = 1;
 
@@ -301,7 +303,7 @@ impl Tile for North {
 
     ghost form = { has_form North };
 
-    ghost law = { north_meets };
+    ghost law = { meets_law (interface North) SOUTH refl };
 }
 
 /// One signal from the west side to the south side.
@@ -310,7 +312,7 @@ pub struct EastSouth;
 
 impl Tile for EastSouth {
     ghost use Rattle.tile_core.specs.declared.kind.Kind.TheVariants.{EastSouth};
-    ghost use Rattle.tile_library.specs.Laws.{has_form, east_south_meets};
+    ghost use Rattle.tile_library.specs.Laws.{has_form, meets_law};
 
     const LANES: u32 = 1;
 
@@ -338,7 +340,7 @@ impl Tile for EastSouth {
 
     ghost form = { has_form EastSouth };
 
-    ghost law = { east_south_meets };
+    ghost law = { meets_law (interface EastSouth) EAST_SOUTH refl };
 }
 
 /// One signal from the north side to the west side.
@@ -347,7 +349,7 @@ pub struct SouthWest;
 
 impl Tile for SouthWest {
     ghost use Rattle.tile_core.specs.declared.kind.Kind.TheVariants.{SouthWest};
-    ghost use Rattle.tile_library.specs.Laws.{has_form, south_west_meets};
+    ghost use Rattle.tile_library.specs.Laws.{has_form, meets_law};
 
     const LANES: u32 = 1;
 
@@ -375,7 +377,7 @@ impl Tile for SouthWest {
 
     ghost form = { has_form SouthWest };
 
-    ghost law = { south_west_meets };
+    ghost law = { meets_law (interface SouthWest) SOUTH_WEST refl };
 }
 
 /// One signal from the east side to the north side.
@@ -384,7 +386,7 @@ pub struct WestNorth;
 
 impl Tile for WestNorth {
     ghost use Rattle.tile_core.specs.declared.kind.Kind.TheVariants.{WestNorth};
-    ghost use Rattle.tile_library.specs.Laws.{has_form, west_north_meets};
+    ghost use Rattle.tile_library.specs.Laws.{has_form, meets_law};
 
     const LANES: u32 = 1;
 
@@ -412,7 +414,7 @@ impl Tile for WestNorth {
 
     ghost form = { has_form WestNorth };
 
-    ghost law = { west_north_meets };
+    ghost law = { meets_law (interface WestNorth) WEST_NORTH refl };
 }
 
 /// One signal from the south side to the east side.
@@ -421,7 +423,7 @@ pub struct NorthEast;
 
 impl Tile for NorthEast {
     ghost use Rattle.tile_core.specs.declared.kind.Kind.TheVariants.{NorthEast};
-    ghost use Rattle.tile_library.specs.Laws.{has_form, north_east_meets};
+    ghost use Rattle.tile_library.specs.Laws.{has_form, meets_law};
 
     const LANES: u32 = 1;
 
@@ -449,7 +451,7 @@ impl Tile for NorthEast {
 
     ghost form = { has_form NorthEast };
 
-    ghost law = { north_east_meets };
+    ghost law = { meets_law (interface NorthEast) NORTH_EAST refl };
 }
 
 /// One signal from the east side to the west side.
@@ -458,7 +460,7 @@ pub struct West;
 
 impl Tile for West {
     ghost use Rattle.tile_core.specs.declared.kind.Kind.TheVariants.{West};
-    ghost use Rattle.tile_library.specs.Laws.{has_form, west_meets};
+    ghost use Rattle.tile_library.specs.Laws.{has_form, meets_law};
 
     const LANES: u32 = 1;
 
@@ -486,7 +488,7 @@ impl Tile for West {
 
     ghost form = { has_form West };
 
-    ghost law = { west_meets };
+    ghost law = { meets_law (interface West) EAST refl };
 }
 
 /// Swap with west and east changed: two signals from the east side to the west side.
@@ -523,5 +525,5 @@ impl Tile for WestSwap {
 
     ghost form = { has_form WestSwap };
 
-    ghost law = { west_swap_meets };
+    ghost law = { west_swap_meets refl };
 }
