@@ -18,19 +18,19 @@ pub bits_read : (width height : ℕ) (bits : List Bool) (test : ℕ → ℕ → 
     → (q l : ℕ) → (nat_lt l height && get_or bits (q * height + l) false) ≡ test q l
 bits_read width height bits test long each right below q l =
     ⊎_elim
-        (λ low. (let yes : ltb l height ≡ true = grind (arith, nat_tests) in
-            ap (λ b. b && get_or bits (q * height + l) false) yes
-            ∙ ⊎_elim
-                (λ near. (let within : q * height + l < width * height = omega (arith, mul-add-lt q height l width near low, mul_comm width height) in
-                    each (q * height + l) (omega arith)
-                        ∙ ap (λ n. test n ((q * height + l) % height)) (div-mul-add q height l low)
-                        ∙ ap (test q) (mod-mul-add q height l low)))
-                (λ far. (let past : width * height ≤ q * height = mul-le width height q height far (omega arith) in
-                    get_or_past bits (q * height + l) false (omega arith) ∙ sym (right q l far)))
-                (cases_lt q width)))
-        (λ high. (let no : ltb l height ≡ false = grind (arith, nat_tests) in
-            ap (λ b. b && get_or bits (q * height + l) false) no ∙ sym (below q l high)))
-        (cases_lt l height)
+    (λ low. (let yes : ltb l height ≡ true = grind (arith, nat_tests) in
+    ap (λ b. b && get_or bits (q * height + l) false) yes
+    ∙ ⊎_elim
+    (λ near. (let within : q * height + l < width * height = omega (arith, mul-add-lt q height l width near low, mul_comm width height) in
+    each (q * height + l) (omega arith)
+    ∙ ap (λ n. test n ((q * height + l) % height)) (div-mul-add q height l low)
+    ∙ ap (test q) (mod-mul-add q height l low)))
+    (λ far. (let past : width * height ≤ q * height = mul-le width height q height far (omega arith) in
+    get_or_past bits (q * height + l) false (omega arith) ∙ sym (right q l far)))
+    (cases_lt q width)))
+    (λ high. (let no : ltb l height ≡ false = grind (arith, nat_tests) in
+    ap (λ b. b && get_or bits (q * height + l) false) no ∙ sym (below q l high)))
+    (cases_lt l height)
 
 -- no edge round the drawing is lit at the beginning
 pub starts_right : (plan : Plan) (q l : ℕ) → edge_columns plan ≤ q → start_edges plan (Beside q l) ≡ false
@@ -51,6 +51,6 @@ starts_below plan h q l far =
 pub dark : (n i : ℕ) → get_or (replicate n false) i false ≡ false
 dark n i =
     ⊎_elim
-        (λ within. get_or-replicate n i false false within)
-        (λ past. get_or_past (replicate n false) i false (omega (arith, length-replicate n false)))
-        (cases_lt i n)
+    (λ within. get_or-replicate n i false false within)
+    (λ past. get_or_past (replicate n false) i false (omega (arith, length-replicate n false)))
+    (cases_lt i n)

@@ -18,9 +18,9 @@ pub AreDistinctBelow-more : (limit : ℕ) (xs : List ℕ) (i d : ℕ) → i < le
 AreDistinctBelow-more limit xs i d within before low none = record {
   below = All-more (λ x. x < limit) xs i d within before.below low;
   distinct =
-    subst (λ (ys : List ℕ). AllPairs (λ a b. a ≢ b) ys) (sym (take_more xs i d within))
-        (all_pairs_push (λ a b. a ≢ b) (take i xs) (get_or xs i d) before.distinct
-            (λ k e h same. (let some = list_any_at (λ y. eqb y (get_or xs i d)) (take i xs) k e h (eq-eqb _ _ same) in cc)));
+      subst (λ (ys : List ℕ). AllPairs (λ a b. a ≢ b) ys) (sym (take_more xs i d within))
+      (all_pairs_push (λ a b. a ≢ b) (take i xs) (get_or xs i d) before.distinct
+      (λ k e h same. (let some = list_any_at (λ y. eqb y (get_or xs i d)) (take i xs) k e h (eq-eqb _ _ same) in cc)));
 }
 
 pub columns_apart : (columns : List Column) → All IsColumnApart columns

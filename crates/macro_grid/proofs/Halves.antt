@@ -75,10 +75,10 @@ below_fresh x (y ∷ ys) l near h =
     let above : is_above x y ≡ true = and_left (is_above x y) (list_all (is_above x) ys) h in
     let far : lane_of x + 1 < lane_of y = grind (arith, nat_tests) in
     ⊎_elim
-        (λ same. ap is_lower (slot_on-upper y ys l same))
-        (λ other. (let off : is_on l y ≡ false = grind (arith, nat_tests) in
-            ap is_lower (slot_on-other y ys l off) ∙ below_fresh x ys l near (and_right (is_above x y) (list_all (is_above x) ys) h)))
-        (cases_eq l (lane_of y))
+    (λ same. ap is_lower (slot_on-upper y ys l same))
+    (λ other. (let off : is_on l y ≡ false = grind (arith, nat_tests) in
+    ap is_lower (slot_on-other y ys l off) ∙ below_fresh x ys l near (and_right (is_above x y) (list_all (is_above x) ys) h)))
+    (cases_eq l (lane_of y))
 
 at : (s s' t t' : Slot) → s ≡ s' → t ≡ t' → Joined s' t' → Joined s t
 at s s' t t' e f j = subst (λ (v : Slot). Joined v t) (sym e) (subst (λ (v : Slot). Joined s' v) (sym f) j)
@@ -90,20 +90,20 @@ body_joined (x ∷ xs) l h =
     let below : list_all (is_above x) xs ≡ true = and_left (list_all (is_above x) xs) (are_sorted_apart xs) h in
     let rest : IsTrue (are_sorted_apart xs) = and_right (list_all (is_above x) xs) (are_sorted_apart xs) h in
     ⊎_elim
-        (λ same. at _ _ _ _ (slot_on-upper x xs l same) (slot_on-lower x xs (l + 1) (omega arith)) refl)
-        (λ other. ⊎_elim
-            (λ next. (let off : is_on (l + 1) x ≡ false = grind (arith, nat_tests) in
-                at _ _ _ _ (slot_on-lower x xs l next) (slot_on-other x xs (l + 1) off) (below_fresh x xs (l + 1) (omega arith) below)))
-            (λ further. ⊎_elim
-                (λ before. (let off : is_on l x ≡ false = grind (arith, nat_tests) in
-                    let none : slot_on xs l ≡ Whole (Tile kind.East) = ap (body_slot l) (none_below x l xs (omega arith) below) in
-                    at _ _ _ _ (slot_on-other x xs l off ∙ none) (slot_on-upper x xs (l + 1) before) refl))
-                (λ apart. (let off : is_on l x ≡ false = grind (arith, nat_tests) in
-                    let off' : is_on (l + 1) x ≡ false = grind (arith, nat_tests) in
-                    at _ _ _ _ (slot_on-other x xs l off) (slot_on-other x xs (l + 1) off') (body_joined xs l rest)))
-                (cases_eq (l + 1) (lane_of x)))
-            (cases_eq l (lane_of x + 1)))
-        (cases_eq l (lane_of x))
+    (λ same. at _ _ _ _ (slot_on-upper x xs l same) (slot_on-lower x xs (l + 1) (omega arith)) refl)
+    (λ other. ⊎_elim
+    (λ next. (let off : is_on (l + 1) x ≡ false = grind (arith, nat_tests) in
+    at _ _ _ _ (slot_on-lower x xs l next) (slot_on-other x xs (l + 1) off) (below_fresh x xs (l + 1) (omega arith) below)))
+    (λ further. ⊎_elim
+    (λ before. (let off : is_on l x ≡ false = grind (arith, nat_tests) in
+    let none : slot_on xs l ≡ Whole (Tile kind.East) = ap (body_slot l) (none_below x l xs (omega arith) below) in
+    at _ _ _ _ (slot_on-other x xs l off ∙ none) (slot_on-upper x xs (l + 1) before) refl))
+    (λ apart. (let off : is_on l x ≡ false = grind (arith, nat_tests) in
+    let off' : is_on (l + 1) x ≡ false = grind (arith, nat_tests) in
+    at _ _ _ _ (slot_on-other x xs l off) (slot_on-other x xs (l + 1) off') (body_joined xs l rest)))
+    (cases_eq (l + 1) (lane_of x)))
+    (cases_eq l (lane_of x + 1)))
+    (cases_eq l (lane_of x))
 
 -- on the last lane no upper half stands, and on the first no lower half
 pub body_ends : (xs : List Instr) (l lanes : ℕ) → All (IsOnLanes lanes) xs → lanes ≤ l + 1 → is_upper (slot_on xs l) ≡ false
@@ -112,17 +112,17 @@ body_ends (x ∷ xs) l lanes h last =
     let fits : lane_of x + 1 < lanes = All-head (IsOnLanes lanes) x xs h in
     let rest = body_ends xs l lanes (All-tail (IsOnLanes lanes) x xs h) last in
     ⊎_elim
-        (λ low. ap is_upper (slot_on-lower x xs l low))
-        (λ off'. (let off : is_on l x ≡ false = grind (arith, nat_tests) in ap is_upper (slot_on-other x xs l off) ∙ rest))
-        (cases_eq l (lane_of x + 1))
+    (λ low. ap is_upper (slot_on-lower x xs l low))
+    (λ off'. (let off : is_on l x ≡ false = grind (arith, nat_tests) in ap is_upper (slot_on-other x xs l off) ∙ rest))
+    (cases_eq l (lane_of x + 1))
 
 pub body_begins : (xs : List Instr) → is_lower (slot_on xs 0) ≡ false
 body_begins [] = refl
 body_begins (x ∷ xs) =
     ⊎_elim
-        (λ up. ap is_lower (slot_on-upper x xs 0 up))
-        (λ off'. (let off : is_on 0 x ≡ false = grind (arith, nat_tests) in ap is_lower (slot_on-other x xs 0 off) ∙ body_begins xs))
-        (cases_eq 0 (lane_of x))
+    (λ up. ap is_lower (slot_on-upper x xs 0 up))
+    (λ off'. (let off : is_on 0 x ≡ false = grind (arith, nat_tests) in ap is_lower (slot_on-other x xs 0 off) ∙ body_begins xs))
+    (cases_eq 0 (lane_of x))
 
 -- the instructions of a column, past the last one too, are sorted and on the lanes
 pub instrs_sorted : (columns : List Column) (c : ℕ) → IsTrue (are_sorted_apart (get_or (map (λ d. d.instrs) columns) c []))
@@ -138,8 +138,8 @@ instrs_on_lanes lanes (column ∷ columns) (suc c) h = instrs_on_lanes lanes col
 -- the swaps on the way back, by the tests that place them
 swaps_joined : (a e f g h i u v : Bool) → f ≡ not e → g ≡ e → u ≡ true → v ≡ true
     → Joined
-        (cond (a && e && u) (Upper (Tile kind.WestSwap)) (cond (a && f && h) (Lower (Tile kind.WestSwap)) (Whole (Tile kind.West))))
-        (cond (a && f && i) (Upper (Tile kind.WestSwap)) (cond (a && g && v) (Lower (Tile kind.WestSwap)) (Whole (Tile kind.West))))
+    (cond (a && e && u) (Upper (Tile kind.WestSwap)) (cond (a && f && h) (Lower (Tile kind.WestSwap)) (Whole (Tile kind.West))))
+    (cond (a && f && i) (Upper (Tile kind.WestSwap)) (cond (a && g && v) (Lower (Tile kind.WestSwap)) (Whole (Tile kind.West))))
 swaps_joined false e f g h i u v p q r s = refl
 swaps_joined true true true g h i u v p q r s = cc
 swaps_joined true true false false h i u v p q r s = cc
@@ -156,13 +156,13 @@ swaps_joined true false true false true true u v p q r s = refl
 other_parity : (x y z : ℕ) → x + y ≡ 1 → z < 2 → (y == z) ≡ not (x == z)
 other_parity x y z one small =
     ⊎_elim
-        (λ same. (let yes : (x == z) ≡ true = grind (arith, nat_tests) in
-            let no : (y == z) ≡ false = grind (arith, nat_tests) in
-            no ∙ sym (ap not yes)))
-        (λ differ. (let no : (x == z) ≡ false = grind (arith, nat_tests) in
-            let yes : (y == z) ≡ true = grind (arith, nat_tests) in
-            yes ∙ sym (ap not no)))
-        (cases_eq x z)
+    (λ same. (let yes : (x == z) ≡ true = grind (arith, nat_tests) in
+    let no : (y == z) ≡ false = grind (arith, nat_tests) in
+    no ∙ sym (ap not yes)))
+    (λ differ. (let no : (x == z) ≡ false = grind (arith, nat_tests) in
+    let yes : (y == z) ≡ true = grind (arith, nat_tests) in
+    yes ∙ sym (ap not no)))
+    (cases_eq x z)
 
 pub return_joined : (loops back off : ℕ) → off + 1 < loops → Joined (return_slot loops back off) (return_slot loops back (off + 1))
 return_joined loops back off within =
@@ -170,10 +170,10 @@ return_joined loops back off within =
     let two : (off + 1 + 1) % 2 ≡ off % 2 = omega arith in
     let small : back % 2 < 2 = omega arith in
     swaps_joined (ltb back loops) (off % 2 == back % 2) ((off + 1) % 2 == back % 2) ((off + 1 + 1) % 2 == back % 2)
-        (ltb 0 off) (ltb (off + 1 + 1) loops) (ltb (off + 1) loops) (ltb 0 (off + 1))
-        (other_parity (off % 2) ((off + 1) % 2) (back % 2) one small)
-        (ap (λ n. n == back % 2) two)
-        (grind (arith, nat_tests)) (grind (arith, nat_tests))
+    (ltb 0 off) (ltb (off + 1 + 1) loops) (ltb (off + 1) loops) (ltb 0 (off + 1))
+    (other_parity (off % 2) ((off + 1) % 2) (back % 2) one small)
+    (ap (λ n. n == back % 2) two)
+    (grind (arith, nat_tests)) (grind (arith, nat_tests))
 
 -- neither is there an upper half on the last lane of the way back, nor a lower half on the first
 swaps_end : (a b : Bool) → is_upper (cond (a && false) (Upper (Tile kind.WestSwap)) (cond b (Lower (Tile kind.WestSwap)) (Whole (Tile kind.West)))) ≡ false
@@ -186,7 +186,7 @@ pub return_ends : (loops back off : ℕ) → loops ≤ off + 1 → is_upper (ret
 return_ends loops back off last =
     let past : ltb (off + 1) loops ≡ false = grind (arith, nat_tests) in
     ap (λ u. is_upper (cond (ltb back loops && off % 2 == back % 2 && u) (Upper (Tile kind.WestSwap)) (cond (ltb back loops && (off + 1) % 2 == back % 2 && ltb 0 off) (Lower (Tile kind.WestSwap)) (Whole (Tile kind.West))))) past
-        ∙ swaps_end (ltb back loops && off % 2 == back % 2) (ltb back loops && (off + 1) % 2 == back % 2 && ltb 0 off)
+    ∙ swaps_end (ltb back loops && off % 2 == back % 2) (ltb back loops && (off + 1) % 2 == back % 2 && ltb 0 off)
 
 swaps_begin : (a b : Bool) → is_lower (cond a (Upper (Tile kind.WestSwap)) (cond (b && false) (Lower (Tile kind.WestSwap)) (Whole (Tile kind.West)))) ≡ false
 swaps_begin true b = refl
@@ -197,4 +197,4 @@ pub return_begins : (loops back off : ℕ) → off ≡ 0 → is_lower (return_sl
 return_begins loops back off first =
     let none : ltb 0 off ≡ false = grind (arith, nat_tests) in
     ap (λ u. is_lower (cond (ltb back loops && off % 2 == back % 2 && ltb (off + 1) loops) (Upper (Tile kind.WestSwap)) (cond (ltb back loops && (off + 1) % 2 == back % 2 && u) (Lower (Tile kind.WestSwap)) (Whole (Tile kind.West))))) none
-        ∙ swaps_begin (ltb back loops && off % 2 == back % 2 && ltb (off + 1) loops) (ltb back loops && (off + 1) % 2 == back % 2)
+    ∙ swaps_begin (ltb back loops && off % 2 == back % 2 && ltb (off + 1) loops) (ltb back loops && (off + 1) % 2 == back % 2)

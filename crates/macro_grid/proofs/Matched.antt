@@ -26,14 +26,14 @@ tiling_of-lower plan q l above below =
     let no : ltb l plan.lanes ≡ false = grind (arith, nat_tests) in
     let yes : ltb l (plan.lanes + plan.latches) ≡ true = grind (arith, nat_tests) in
     ap (λ b. cond b (upper_part plan q l) (cond (ltb l (plan.lanes + plan.latches)) (lower_part plan q l) Nothing)) no
-        ∙ ap (λ b. cond b (lower_part plan q l) Nothing) yes
+    ∙ ap (λ b. cond b (lower_part plan q l) Nothing) yes
 
 pub tiling_of-below : (plan : Plan) (q l : ℕ) → plan.lanes + plan.latches ≤ l → tiling_of plan q l ≡ Nothing
 tiling_of-below plan q l h =
     let no : ltb l plan.lanes ≡ false = grind (arith, nat_tests) in
     let no' : ltb l (plan.lanes + plan.latches) ≡ false = grind (arith, nat_tests) in
     ap (λ b. cond b (upper_part plan q l) (cond (ltb l (plan.lanes + plan.latches)) (lower_part plan q l) Nothing)) no
-        ∙ ap (λ b. cond b (lower_part plan q l) Nothing) no'
+    ∙ ap (λ b. cond b (lower_part plan q l) Nothing) no'
 
 -- what holds of all kinds of tiles that a plan may have holds of what stands in each block
 pub tiling_has : (P : Slot → Type 0) → P Nothing → P (Whole Output)
@@ -44,12 +44,12 @@ pub tiling_has : (P : Slot → Type 0) → P Nothing → P (Whole Output)
     → (plan : Plan) (q l : ℕ) → P (tiling_of plan q l)
 tiling_has P none out e ne n es s w wn sw u d i plan q l =
     either P (ltb l plan.lanes)
-        (either P (ltb q plan.latches) (upper_left_has P plan q l none e ne n)
-            (either P (ltb q (end_of_body plan)) (in_body_has P plan q l e i) (upper_right_has P plan q l none out e es s)))
-        (either P (ltb l (plan.lanes + plan.latches))
-            (either P (ltb q plan.latches) (lower_left_has P plan q l none w wn n)
-                (either P (ltb q (end_of_body plan)) (on_return_has P plan q l w u d) (lower_right_has P plan q l none w sw s)))
-            none)
+    (either P (ltb q plan.latches) (upper_left_has P plan q l none e ne n)
+    (either P (ltb q (end_of_body plan)) (in_body_has P plan q l e i) (upper_right_has P plan q l none out e es s)))
+    (either P (ltb l (plan.lanes + plan.latches))
+    (either P (ltb q plan.latches) (lower_left_has P plan q l none w wn n)
+    (either P (ltb q (end_of_body plan)) (on_return_has P plan q l w u d) (lower_right_has P plan q l none w sw s)))
+    none)
 
 -- the piece is as high as the block says
 abbrev HasHeight : Slot → Type 0
@@ -92,49 +92,49 @@ whole_right_below plan q l = (lower_right_has (λ s. is_upper s ≡ false) plan 
 upper_joined : (plan : Plan) (q l : ℕ) → Joined (upper_part plan q l) (upper_part plan q (l + 1))
 upper_joined plan q l =
     parts_joined plan q (upper_left plan q l) (in_body plan q l) (upper_right plan q l) (upper_left plan q (l + 1)) (in_body plan q (l + 1)) (upper_right plan q (l + 1))
-        (joined_apart (upper_left plan q l) (upper_left plan q (l + 1)) (whole_left plan q l).0 (whole_left plan q (l + 1)).1)
-        (body_joined (instrs_of plan (q - plan.latches)) l (instrs_sorted plan.columns (q - plan.latches)))
-        (joined_apart (upper_right plan q l) (upper_right plan q (l + 1)) (whole_right plan q l).0 (whole_right plan q (l + 1)).1)
+    (joined_apart (upper_left plan q l) (upper_left plan q (l + 1)) (whole_left plan q l).0 (whole_left plan q (l + 1)).1)
+    (body_joined (instrs_of plan (q - plan.latches)) l (instrs_sorted plan.columns (q - plan.latches)))
+    (joined_apart (upper_right plan q l) (upper_right plan q (l + 1)) (whole_right plan q l).0 (whole_right plan q (l + 1)).1)
 
 lower_joined : (plan : Plan) (q l : ℕ) → plan.lanes ≤ l → l + 1 < plan.lanes + plan.latches → Joined (lower_part plan q l) (lower_part plan q (l + 1))
 lower_joined plan q l above below =
     let next : l + 1 - plan.lanes ≡ l - plan.lanes + 1 = omega arith in
     parts_joined plan q (lower_left plan q l) (on_return plan q l) (lower_right plan q l) (lower_left plan q (l + 1)) (on_return plan q (l + 1)) (lower_right plan q (l + 1))
-        (joined_apart (lower_left plan q l) (lower_left plan q (l + 1)) (whole_left_below plan q l).0 (whole_left_below plan q (l + 1)).1)
-        (subst (λ (off : ℕ). Joined (on_return plan q l) (return_slot plan.latches (end_of_body plan - 1 - q) off)) (sym next)
-            (return_joined plan.latches (end_of_body plan - 1 - q) (l - plan.lanes) (omega arith)))
-        (joined_apart (lower_right plan q l) (lower_right plan q (l + 1)) (whole_right_below plan q l).0 (whole_right_below plan q (l + 1)).1)
+    (joined_apart (lower_left plan q l) (lower_left plan q (l + 1)) (whole_left_below plan q l).0 (whole_left_below plan q (l + 1)).1)
+    (subst (λ (off : ℕ). Joined (on_return plan q l) (return_slot plan.latches (end_of_body plan - 1 - q) off)) (sym next)
+    (return_joined plan.latches (end_of_body plan - 1 - q) (l - plan.lanes) (omega arith)))
+    (joined_apart (lower_right plan q l) (lower_right plan q (l + 1)) (whole_right_below plan q l).0 (whole_right_below plan q (l + 1)).1)
 
 -- no half hangs over the ends
 upper_ends : (plan : Plan) → IsAdmissible plan → (q l : ℕ) → plan.lanes ≤ l + 1 → is_upper (upper_part plan q l) ≡ false
 upper_ends plan h q l last =
     either (λ s. is_upper s ≡ false) (ltb q plan.latches) (whole_left plan q l).0
-        (either (λ s. is_upper s ≡ false) (ltb q (end_of_body plan))
-            (body_ends (instrs_of plan (q - plan.latches)) l plan.lanes (instrs_on_lanes plan.lanes plan.columns (q - plan.latches) h.instrs) last)
-            (whole_right plan q l).0)
+    (either (λ s. is_upper s ≡ false) (ltb q (end_of_body plan))
+    (body_ends (instrs_of plan (q - plan.latches)) l plan.lanes (instrs_on_lanes plan.lanes plan.columns (q - plan.latches) h.instrs) last)
+    (whole_right plan q l).0)
 
 lower_ends : (plan : Plan) (q l : ℕ) → plan.lanes ≤ l → plan.lanes + plan.latches ≤ l + 1 → is_upper (lower_part plan q l) ≡ false
 lower_ends plan q l above last =
     either (λ s. is_upper s ≡ false) (ltb q plan.latches) (whole_left_below plan q l).0
-        (either (λ s. is_upper s ≡ false) (ltb q (end_of_body plan))
-            (return_ends plan.latches (end_of_body plan - 1 - q) (l - plan.lanes) (omega arith))
-            (whole_right_below plan q l).0)
+    (either (λ s. is_upper s ≡ false) (ltb q (end_of_body plan))
+    (return_ends plan.latches (end_of_body plan - 1 - q) (l - plan.lanes) (omega arith))
+    (whole_right_below plan q l).0)
 
 lower_begins : (plan : Plan) (q l : ℕ) → l ≡ plan.lanes → is_lower (tiling_of plan q l) ≡ false
 lower_begins plan q l first =
     ⊎_elim
-        (λ loops. (ap is_lower (tiling_of-lower plan q l (omega arith) (omega arith))
-            ∙ either (λ s. is_lower s ≡ false) (ltb q plan.latches) (whole_left_below plan q l).1
-                (either (λ s. is_lower s ≡ false) (ltb q (end_of_body plan))
-                    (return_begins plan.latches (end_of_body plan - 1 - q) (l - plan.lanes) (omega arith))
-                    (whole_right_below plan q l).1)))
-        (λ none. ap is_lower (tiling_of-below plan q l (omega arith)))
-        (cases_lt 0 plan.latches)
+    (λ loops. (ap is_lower (tiling_of-lower plan q l (omega arith) (omega arith))
+    ∙ either (λ s. is_lower s ≡ false) (ltb q plan.latches) (whole_left_below plan q l).1
+    (either (λ s. is_lower s ≡ false) (ltb q (end_of_body plan))
+    (return_begins plan.latches (end_of_body plan - 1 - q) (l - plan.lanes) (omega arith))
+    (whole_right_below plan q l).1)))
+    (λ none. ap is_lower (tiling_of-below plan q l (omega arith)))
+    (cases_lt 0 plan.latches)
 
 upper_begins : (plan : Plan) (q : ℕ) → is_lower (upper_part plan q 0) ≡ false
 upper_begins plan q =
     either (λ s. is_lower s ≡ false) (ltb q plan.latches) (whole_left plan q 0).1
-        (either (λ s. is_lower s ≡ false) (ltb q (end_of_body plan)) (body_begins (instrs_of plan (q - plan.latches))) (whole_right plan q 0).1)
+    (either (λ s. is_lower s ≡ false) (ltb q (end_of_body plan)) (body_begins (instrs_of plan (q - plan.latches))) (whole_right plan q 0).1)
 
 at : (s s' t t' : Slot) → s ≡ s' → t ≡ t' → Joined s' t' → Joined s t
 at s s' t t' e f j = subst (λ (v : Slot). Joined v t) (sym e) (subst (λ (v : Slot). Joined s' v) (sym f) j)
@@ -142,29 +142,29 @@ at s s' t t' e f j = subst (λ (v : Slot). Joined v t) (sym e) (subst (λ (v : S
 all_joined : (plan : Plan) → IsAdmissible plan → (q l : ℕ) → Joined (tiling_of plan q l) (tiling_of plan q (l + 1))
 all_joined plan h q l =
     ⊎_elim
-        (λ above. ⊎_elim
-            (λ next. at _ _ _ _ (tiling_of-upper plan q l above) (tiling_of-upper plan q (l + 1) next) (upper_joined plan q l))
-            (λ last. joined_apart (tiling_of plan q l) (tiling_of plan q (l + 1))
-                (ap is_upper (tiling_of-upper plan q l above) ∙ upper_ends plan h q l last)
-                (lower_begins plan q (l + 1) (omega arith)))
-            (cases_lt (l + 1) plan.lanes))
-        (λ below. ⊎_elim
-            (λ within. ⊎_elim
-                (λ next. at _ _ _ _ (tiling_of-lower plan q l below within) (tiling_of-lower plan q (l + 1) (omega arith) next) (lower_joined plan q l below next))
-                (λ last. joined_apart (tiling_of plan q l) (tiling_of plan q (l + 1))
-                    (ap is_upper (tiling_of-lower plan q l below within) ∙ lower_ends plan q l below last)
-                    (ap is_lower (tiling_of-below plan q (l + 1) last)))
-                (cases_lt (l + 1) (plan.lanes + plan.latches)))
-            (λ out. at _ _ _ _ (tiling_of-below plan q l out) (tiling_of-below plan q (l + 1) (omega arith)) refl)
-            (cases_lt l (plan.lanes + plan.latches)))
-        (cases_lt l plan.lanes)
+    (λ above. ⊎_elim
+    (λ next. at _ _ _ _ (tiling_of-upper plan q l above) (tiling_of-upper plan q (l + 1) next) (upper_joined plan q l))
+    (λ last. joined_apart (tiling_of plan q l) (tiling_of plan q (l + 1))
+    (ap is_upper (tiling_of-upper plan q l above) ∙ upper_ends plan h q l last)
+    (lower_begins plan q (l + 1) (omega arith)))
+    (cases_lt (l + 1) plan.lanes))
+    (λ below. ⊎_elim
+    (λ within. ⊎_elim
+    (λ next. at _ _ _ _ (tiling_of-lower plan q l below within) (tiling_of-lower plan q (l + 1) (omega arith) next) (lower_joined plan q l below next))
+    (λ last. joined_apart (tiling_of plan q l) (tiling_of plan q (l + 1))
+    (ap is_upper (tiling_of-lower plan q l below within) ∙ lower_ends plan q l below last)
+    (ap is_lower (tiling_of-below plan q (l + 1) last)))
+    (cases_lt (l + 1) (plan.lanes + plan.latches)))
+    (λ out. at _ _ _ _ (tiling_of-below plan q l out) (tiling_of-below plan q (l + 1) (omega arith)) refl)
+    (cases_lt l (plan.lanes + plan.latches)))
+    (cases_lt l plan.lanes)
 
 first_is_whole : (plan : Plan) (q : ℕ) → is_lower (tiling_of plan q 0) ≡ false
 first_is_whole plan q =
     ⊎_elim
-        (λ some. ap is_lower (tiling_of-upper plan q 0 some) ∙ upper_begins plan q)
-        (λ none. lower_begins plan q 0 (omega arith))
-        (cases_lt 0 plan.lanes)
+    (λ some. ap is_lower (tiling_of-upper plan q 0 some) ∙ upper_begins plan q)
+    (λ none. lower_begins plan q 0 (omega arith))
+    (cases_lt 0 plan.lanes)
 
 lower_has_upper : (s t : Slot) (p : Piece) → Joined s t → t ≡ Lower p → s ≡ Upper p
 lower_has_upper Nothing t p j e = cc

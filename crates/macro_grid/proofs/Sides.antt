@@ -46,7 +46,7 @@ pub turn_has : (P : Slot → Type 0) (loops away off : ℕ) (along corner across
     → P (turn_slot loops away off along corner across)
 turn_has P loops away off along corner across none a c x =
     either P (ltb away loops && ltb off loops)
-        (either (λ k. P (Whole (Tile k))) (ltb away off) a (either (λ k. P (Whole (Tile k))) (eqb away off) c x)) none
+    (either (λ k. P (Whole (Tile k))) (ltb away off) a (either (λ k. P (Whole (Tile k))) (eqb away off) c x)) none
 
 pub return_has : (P : Slot → Type 0) (loops back off : ℕ)
     → P (Whole (Tile kind.West)) → P (Upper (Tile kind.WestSwap)) → P (Lower (Tile kind.WestSwap))
@@ -94,7 +94,7 @@ pub upper_right_has : (P : Slot → Type 0) (plan : Plan) (q l : ℕ)
     → P Nothing → P (Whole Output) → P (Whole (Tile kind.East)) → P (Whole (Tile kind.EastSouth)) → P (Whole (Tile kind.South)) → P (upper_right plan q l)
 upper_right_has P plan q l none out e c x =
     either P (q == end_of_body plan && list_any (λ o. o == l) plan.outs) out
-        (turn_has P plan.latches (q - end_of_body plan) (plan.lanes - 1 - l) kind.East kind.EastSouth kind.South none e c x)
+    (turn_has P plan.latches (q - end_of_body plan) (plan.lanes - 1 - l) kind.East kind.EastSouth kind.South none e c x)
 
 pub lower_left_has : (P : Slot → Type 0) (plan : Plan) (q l : ℕ)
     → P Nothing → P (Whole (Tile kind.West)) → P (Whole (Tile kind.WestNorth)) → P (Whole (Tile kind.North)) → P (lower_left plan q l)
@@ -114,20 +114,20 @@ upper_goes_east plan q l =
     let none : IsEastGoing Nothing = record { entered = refl; left = refl } in
     let e : IsEastGoing (Whole (Tile kind.East)) = record { entered = refl; left = refl } in
     either IsEastGoing (ltb q plan.latches)
-        (upper_left_has IsEastGoing plan q l none e (record { entered = refl; left = refl }) (record { entered = refl; left = refl }))
-        (either IsEastGoing (ltb q (end_of_body plan))
-            (in_body_has IsEastGoing plan q l e east_kind)
-            (upper_right_has IsEastGoing plan q l none (record { entered = refl; left = refl }) e (record { entered = refl; left = refl }) (record { entered = refl; left = refl })))
+    (upper_left_has IsEastGoing plan q l none e (record { entered = refl; left = refl }) (record { entered = refl; left = refl }))
+    (either IsEastGoing (ltb q (end_of_body plan))
+    (in_body_has IsEastGoing plan q l e east_kind)
+    (upper_right_has IsEastGoing plan q l none (record { entered = refl; left = refl }) e (record { entered = refl; left = refl }) (record { entered = refl; left = refl })))
 
 lower_goes_west : (plan : Plan) (q l : ℕ) → IsWestGoing (by_column plan q (lower_left plan q l) (on_return plan q l) (lower_right plan q l))
 lower_goes_west plan q l =
     let none : IsWestGoing Nothing = record { entered = refl; left = refl } in
     let w : IsWestGoing (Whole (Tile kind.West)) = record { entered = refl; left = refl } in
     either IsWestGoing (ltb q plan.latches)
-        (lower_left_has IsWestGoing plan q l none w (record { entered = refl; left = refl }) (record { entered = refl; left = refl }))
-        (either IsWestGoing (ltb q (end_of_body plan))
-            (on_return_has IsWestGoing plan q l w (record { entered = refl; left = refl }) (record { entered = refl; left = refl }))
-            (lower_right_has IsWestGoing plan q l none w (record { entered = refl; left = refl }) (record { entered = refl; left = refl })))
+    (lower_left_has IsWestGoing plan q l none w (record { entered = refl; left = refl }) (record { entered = refl; left = refl }))
+    (either IsWestGoing (ltb q (end_of_body plan))
+    (on_return_has IsWestGoing plan q l w (record { entered = refl; left = refl }) (record { entered = refl; left = refl }))
+    (lower_right_has IsWestGoing plan q l none w (record { entered = refl; left = refl }) (record { entered = refl; left = refl })))
 
 -- all of a lane goes one way
 taken : (b : Bool) (first second : ℕ → Slot) → ((q : ℕ) → IsEastGoing (first q)) → ((q : ℕ) → IsWestGoing (second q))
@@ -138,38 +138,39 @@ taken false first second e w = inr w
 pub lane_goes : (plan : Plan) (l : ℕ) → ((q : ℕ) → IsEastGoing (tiling_of plan q l)) ⊎ ((q : ℕ) → IsWestGoing (tiling_of plan q l))
 lane_goes plan l =
     taken (ltb l plan.lanes)
-        (λ q. by_column plan q (upper_left plan q l) (in_body plan q l) (upper_right plan q l))
-        (λ q. cond (ltb l (plan.lanes + plan.latches)) (by_column plan q (lower_left plan q l) (on_return plan q l) (lower_right plan q l)) Nothing)
-        (λ q. upper_goes_east plan q l)
-        (λ q. either IsWestGoing (ltb l (plan.lanes + plan.latches)) (lower_goes_west plan q l) (record { entered = refl; left = refl }))
+    (λ q. by_column plan q (upper_left plan q l) (in_body plan q l) (upper_right plan q l))
+    (λ q. cond (ltb l (plan.lanes + plan.latches)) (by_column plan q (lower_left plan q l) (on_return plan q l) (lower_right plan q l)) Nothing)
+    (λ q. upper_goes_east plan q l)
+    (λ q. either IsWestGoing (ltb l (plan.lanes + plan.latches)) (lower_goes_west plan q l) (record { entered = refl; left = refl }))
 
 -- left of the body signals go up, and elsewhere down
 left_goes_up : (plan : Plan) (q l : ℕ) → IsUpGoing (upper_left plan q l) × IsUpGoing (lower_left plan q l)
 left_goes_up plan q l =
     let none : IsUpGoing Nothing = record { entered = refl; left = refl } in
-    let north : IsUpGoing (Whole (Tile kind.North)) = record { entered = refl; left = refl } in
-    (upper_left_has IsUpGoing plan q l none (record { entered = refl; left = refl }) (record { entered = refl; left = refl }) north,
-     lower_left_has IsUpGoing plan q l none (record { entered = refl; left = refl }) (record { entered = refl; left = refl }) north)
+    let north : IsUpGoing (Whole (Tile kind.North)) = record { entered = refl; left = refl } in (
+      upper_left_has IsUpGoing plan q l none (record { entered = refl; left = refl }) (record { entered = refl; left = refl }) north,
+      lower_left_has IsUpGoing plan q l none (record { entered = refl; left = refl }) (record { entered = refl; left = refl }) north,
+    )
 
 upper_goes_down : (plan : Plan) (q l : ℕ) (b : Bool) → IsDownGoing (cond b (in_body plan q l) (upper_right plan q l))
 upper_goes_down plan q l b =
     let e : IsDownGoing (Whole (Tile kind.East)) = record { entered = refl; left = refl } in
     either IsDownGoing b
-        (in_body_has IsDownGoing plan q l e down_kind)
-        (upper_right_has IsDownGoing plan q l (record { entered = refl; left = refl }) (record { entered = refl; left = refl }) e (record { entered = refl; left = refl }) (record { entered = refl; left = refl }))
+    (in_body_has IsDownGoing plan q l e down_kind)
+    (upper_right_has IsDownGoing plan q l (record { entered = refl; left = refl }) (record { entered = refl; left = refl }) e (record { entered = refl; left = refl }) (record { entered = refl; left = refl }))
 
 lower_goes_down : (plan : Plan) (q l : ℕ) (b : Bool) → IsDownGoing (cond b (on_return plan q l) (lower_right plan q l))
 lower_goes_down plan q l b =
     let w : IsDownGoing (Whole (Tile kind.West)) = record { entered = refl; left = refl } in
     either IsDownGoing b
-        (on_return_has IsDownGoing plan q l w (record { entered = refl; left = refl }) (record { entered = refl; left = refl }))
-        (lower_right_has IsDownGoing plan q l (record { entered = refl; left = refl }) w (record { entered = refl; left = refl }) (record { entered = refl; left = refl }))
+    (on_return_has IsDownGoing plan q l w (record { entered = refl; left = refl }) (record { entered = refl; left = refl }))
+    (lower_right_has IsDownGoing plan q l (record { entered = refl; left = refl }) w (record { entered = refl; left = refl }) (record { entered = refl; left = refl }))
 
 taken_across : (b : Bool) (c d : ℕ → Bool) (up_above up_below down_above down_below : ℕ → Slot)
     → ((l : ℕ) → IsUpGoing (up_above l) × IsUpGoing (up_below l))
     → ((l : ℕ) → IsDownGoing (down_above l)) → ((l : ℕ) → IsDownGoing (down_below l))
     → ((l : ℕ) → IsUpGoing (cond (c l) (cond b (up_above l) (down_above l)) (cond (d l) (cond b (up_below l) (down_below l)) Nothing)))
-        ⊎ ((l : ℕ) → IsDownGoing (cond (c l) (cond b (up_above l) (down_above l)) (cond (d l) (cond b (up_below l) (down_below l)) Nothing)))
+    ⊎ ((l : ℕ) → IsDownGoing (cond (c l) (cond b (up_above l) (down_above l)) (cond (d l) (cond b (up_below l) (down_below l)) Nothing)))
 taken_across true c d ua ub da db up above below =
     inl (λ l. either IsUpGoing (c l) (up l).0 (either IsUpGoing (d l) (up l).1 (record { entered = refl; left = refl })))
 taken_across false c d ua ub da db up above below =
@@ -179,9 +180,9 @@ taken_across false c d ua ub da db up above below =
 pub column_goes : (plan : Plan) (q : ℕ) → ((l : ℕ) → IsUpGoing (tiling_of plan q l)) ⊎ ((l : ℕ) → IsDownGoing (tiling_of plan q l))
 column_goes plan q =
     taken_across (ltb q plan.latches) (λ l. ltb l plan.lanes) (λ l. ltb l (plan.lanes + plan.latches))
-        (upper_left plan q) (lower_left plan q)
-        (λ l. cond (ltb q (end_of_body plan)) (in_body plan q l) (upper_right plan q l))
-        (λ l. cond (ltb q (end_of_body plan)) (on_return plan q l) (lower_right plan q l))
-        (λ l. left_goes_up plan q l)
-        (λ l. upper_goes_down plan q l (ltb q (end_of_body plan)))
-        (λ l. lower_goes_down plan q l (ltb q (end_of_body plan)))
+    (upper_left plan q) (lower_left plan q)
+    (λ l. cond (ltb q (end_of_body plan)) (in_body plan q l) (upper_right plan q l))
+    (λ l. cond (ltb q (end_of_body plan)) (on_return plan q l) (lower_right plan q l))
+    (λ l. left_goes_up plan q l)
+    (λ l. upper_goes_down plan q l (ltb q (end_of_body plan)))
+    (λ l. lower_goes_down plan q l (ltb q (end_of_body plan)))

@@ -67,18 +67,18 @@ upper_right-far : (plan : Plan) (q l : ℕ) → end_of_body plan + plan.latches 
 upper_right-far plan q l far =
     let no : (q == end_of_body plan) ≡ false = grind (arith, nat_tests) in
     let beyond : turn_slot plan.latches (q - end_of_body plan) (plan.lanes - 1 - l) kind.East kind.EastSouth kind.South ≡ Nothing =
-        turn_slot-far plan.latches (q - end_of_body plan) (plan.lanes - 1 - l) kind.East kind.EastSouth kind.South (omega arith) in
+    turn_slot-far plan.latches (q - end_of_body plan) (plan.lanes - 1 - l) kind.East kind.EastSouth kind.South (omega arith) in
     ap (λ t. cond (t && list_any (λ out. out == l) plan.outs) (Whole Output) (turn_slot plan.latches (q - end_of_body plan) (plan.lanes - 1 - l) kind.East kind.EastSouth kind.South)) no ∙ beyond
 
 pub tiling_of-right : (plan : Plan) (q l : ℕ) → end_of_body plan + plan.latches + 1 ≤ q → tiling_of plan q l ≡ Nothing
 tiling_of-right plan q l far =
     let above : upper_part plan q l ≡ Nothing =
-        by_column-right plan q (upper_left plan q l) (in_body plan q l) (upper_right plan q l) (omega arith) ∙ upper_right-far plan q l far in
+    by_column-right plan q (upper_left plan q l) (in_body plan q l) (upper_right plan q l) (omega arith) ∙ upper_right-far plan q l far in
     let below : lower_part plan q l ≡ Nothing =
-        by_column-right plan q (lower_left plan q l) (on_return plan q l) (lower_right plan q l) (omega arith)
-        ∙ turn_slot-far plan.latches (q - end_of_body plan) (l - plan.lanes) kind.West kind.SouthWest kind.South (omega arith) in
+    by_column-right plan q (lower_left plan q l) (on_return plan q l) (lower_right plan q l) (omega arith)
+    ∙ turn_slot-far plan.latches (q - end_of_body plan) (l - plan.lanes) kind.West kind.SouthWest kind.South (omega arith) in
     either_is (ltb l plan.lanes) (upper_part plan q l) (cond (ltb l (plan.lanes + plan.latches)) (lower_part plan q l) Nothing) Nothing above
-        (either_is (ltb l (plan.lanes + plan.latches)) (lower_part plan q l) Nothing Nothing below refl)
+    (either_is (ltb l (plan.lanes + plan.latches)) (lower_part plan q l) Nothing Nothing below refl)
 
 -- between blocks where nothing stands no edge is lit
 beside_dark : (tiling : Tiling) (lit : Lit) (q l p : ℕ) → p + 1 ≡ q → tiling p l ≡ Nothing → tiling q l ≡ Nothing → macro_step tiling lit (Beside q l) ≡ false
@@ -100,16 +100,16 @@ beside_right plan lit q l far =
 pub above_right : (plan : Plan) (lit : Lit) (q l : ℕ) → edge_columns plan ≤ q → macro_step (tiling_of plan) lit (Above q l) ≡ false
 above_right plan lit q l far =
     ⊎_elim
-        (λ first. above_first (tiling_of plan) lit q l (omega arith) ∙ ap (λ s. slot_answers lit q l s 16 0) (tiling_of-right plan q l (omega arith)))
-        (λ more. above_dark (tiling_of plan) lit q l (l - 1) (omega arith) (tiling_of-right plan q (l - 1) (omega arith)) (tiling_of-right plan q l (omega arith)))
-        (cases_lt l 1)
+    (λ first. above_first (tiling_of plan) lit q l (omega arith) ∙ ap (λ s. slot_answers lit q l s 16 0) (tiling_of-right plan q l (omega arith)))
+    (λ more. above_dark (tiling_of plan) lit q l (l - 1) (omega arith) (tiling_of-right plan q (l - 1) (omega arith)) (tiling_of-right plan q l (omega arith)))
+    (cases_lt l 1)
 
 pub beside_below : (plan : Plan) (lit : Lit) (q l : ℕ) → edge_lanes plan ≤ l → macro_step (tiling_of plan) lit (Beside q l) ≡ false
 beside_below plan lit q l far =
     ⊎_elim
-        (λ first. beside_first (tiling_of plan) lit q l (omega arith) ∙ ap (λ s. slot_answers lit q l s 0 8) (tiling_of-below plan q l (omega arith)))
-        (λ more. beside_dark (tiling_of plan) lit q l (q - 1) (omega arith) (tiling_of-below plan (q - 1) l (omega arith)) (tiling_of-below plan q l (omega arith)))
-        (cases_lt q 1)
+    (λ first. beside_first (tiling_of plan) lit q l (omega arith) ∙ ap (λ s. slot_answers lit q l s 0 8) (tiling_of-below plan q l (omega arith)))
+    (λ more. beside_dark (tiling_of plan) lit q l (q - 1) (omega arith) (tiling_of-below plan (q - 1) l (omega arith)) (tiling_of-below plan q l (omega arith)))
+    (cases_lt q 1)
 
 pub above_below : (plan : Plan) (lit : Lit) (q l : ℕ) → edge_lanes plan ≤ l → macro_step (tiling_of plan) lit (Above q l) ≡ false
 above_below plan lit q l far =

@@ -59,7 +59,11 @@ impl Edges {
         let mut beside = vec![in alloc; false; count]?;
         let above = vec![in alloc; false; count]?;
         light_starts(plan, lanes, &mut beside);
-        Ok(Edges { lanes, beside, above })
+        Ok(Edges {
+            lanes,
+            beside,
+            above,
+        })
     }
 
     /// Whether the edge on the west side of a block is lit.

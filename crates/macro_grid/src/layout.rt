@@ -32,13 +32,32 @@ fn upper_slot(plan: &Plan, column: u64, lane: u64) -> Slot
     let end = loops + plan.columns.len() as u64;
     let off = plan.lanes as u64 - 1 - lane;
     if column < loops {
-        turn_slot(loops, loops - 1 - column, off, Kind::East, Kind::NorthEast, Kind::North)
+        turn_slot(
+            loops,
+            loops - 1 - column,
+            off,
+            Kind::East,
+            Kind::NorthEast,
+            Kind::North,
+        )
     } else if column < end {
-        body_slot(lane, plan.columns.get((column - loops) as usize).instr_on(lane as u32))
+        body_slot(
+            lane,
+            plan.columns
+                .get((column - loops) as usize)
+                .instr_on(lane as u32),
+        )
     } else if column == end && plan.outs.as_slice().contains(&(lane as u32)) {
         Slot::Whole(Piece::Output)
     } else {
-        turn_slot(loops, column - end, off, Kind::East, Kind::EastSouth, Kind::South)
+        turn_slot(
+            loops,
+            column - end,
+            off,
+            Kind::East,
+            Kind::EastSouth,
+            Kind::South,
+        )
     }
 }
 
@@ -52,11 +71,25 @@ fn lower_slot(plan: &Plan, column: u64, lane: u64) -> Slot
     let end = loops + plan.columns.len() as u64;
     let off = lane - plan.lanes as u64;
     if column < loops {
-        turn_slot(loops, loops - 1 - column, off, Kind::West, Kind::WestNorth, Kind::North)
+        turn_slot(
+            loops,
+            loops - 1 - column,
+            off,
+            Kind::West,
+            Kind::WestNorth,
+            Kind::North,
+        )
     } else if column < end {
         return_slot(loops, end - 1 - column, off)
     } else {
-        turn_slot(loops, column - end, off, Kind::West, Kind::SouthWest, Kind::South)
+        turn_slot(
+            loops,
+            column - end,
+            off,
+            Kind::West,
+            Kind::SouthWest,
+            Kind::South,
+        )
     }
 }
 

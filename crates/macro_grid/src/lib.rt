@@ -1,14 +1,17 @@
 //! The tiles of a plan, the edges between them, and the step of 32 generations.
 #![tactic(auto)]
 
-mod rules;
 mod edges;
 mod layout;
+mod rules;
 mod slot;
 mod step;
 
-pub use rules::admissible;
 pub use edges::{Edges, EdgesError};
 pub use layout::slot_at;
+pub use rules::admissible;
 pub use slot::{Piece, Slot};
 pub use step::macro_step;
+
+#[cfg(test)]
+mod tests;

@@ -35,13 +35,17 @@ pub fn admissible(plan: &Plan) -> bool
 fn are_on_lanes(instrs: &[Instr], lanes: u32) -> bool
     ensures { IsTrue result ↔ All (IsOnLanes lanes) instrs.now }
 {
-    instrs.iter().all(|instr| (instr.lane() as u64) + 1 < lanes as u64)
+    instrs
+        .iter()
+        .all(|instr| (instr.lane() as u64) + 1 < lanes as u64)
 }
 
 fn are_columns_on_lanes(columns: &[Column], lanes: u32) -> bool
     ensures { IsTrue result ↔ All (IsColumnOnLanes lanes) columns.now }
 {
-    columns.iter().all(|column| are_on_lanes(column.instrs.as_slice(), lanes))
+    columns
+        .iter()
+        .all(|column| are_on_lanes(column.instrs.as_slice(), lanes))
 }
 
 fn are_distinct_below(lanes: &[u32], limit: u32) -> bool
@@ -70,7 +74,9 @@ fn is_place_within(place: &NetPlace, lanes: u32, steps: u64) -> bool
 fn are_places_within(places: &[NetPlace], lanes: u32, steps: u64) -> bool
     ensures { IsTrue result ↔ All (IsPlaceWithin lanes steps) places.now }
 {
-    places.iter().all(|place| is_place_within(place, lanes, steps))
+    places
+        .iter()
+        .all(|place| is_place_within(place, lanes, steps))
 }
 
 fn has_fitting_size(plan: &Plan) -> bool

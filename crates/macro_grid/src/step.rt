@@ -74,8 +74,20 @@ fn is_answered(edges: &Edges, column: u64, lane: u64, slot: Slot, x: u32, y: u32
     ensures { result ≡ slot_answers (lit_of edges.now) column lane (slot_of slot) x y }
 {
     match slot {
-        Slot::Whole(Piece::Tile(kind)) | Slot::Upper(Piece::Tile(kind)) => tile_answers(edges, column, lane, kind, (x, y)),
-        Slot::Lower(Piece::Tile(kind)) => tile_answers(edges, column, lane.saturating_sub(1), kind, (x, y + 16)),
+        Slot::Whole(Piece::Tile(kind)) | Slot::Upper(Piece::Tile(kind)) => tile_answers(
+            edges,
+            column,
+            lane,
+            kind,
+            (x, y),
+        ),
+        Slot::Lower(Piece::Tile(kind)) => tile_answers(
+            edges,
+            column,
+            lane.saturating_sub(1),
+            kind,
+            (x, y + 16),
+        ),
         Slot::Nothing
         | Slot::Whole(Piece::Output)
         | Slot::Upper(Piece::Output)
@@ -94,7 +106,14 @@ fn beside_after(plan: &Plan, old: &Edges, column: u64, lane: u64) -> bool
     if column == 0 {
         return from_east;
     }
-    is_answered(old, column - 1, lane, slot_at(plan, column - 1, lane), 31, 8) || from_east
+    is_answered(
+        old,
+        column - 1,
+        lane,
+        slot_at(plan, column - 1, lane),
+        31,
+        8,
+    ) || from_east
 }
 
 // Whether the edge on the north side of a block is lit by the step.
@@ -108,7 +127,14 @@ fn above_after(plan: &Plan, old: &Edges, column: u64, lane: u64) -> bool
     if lane == 0 {
         return from_below;
     }
-    is_answered(old, column, lane - 1, slot_at(plan, column, lane - 1), 16, 15) || from_below
+    is_answered(
+        old,
+        column,
+        lane - 1,
+        slot_at(plan, column, lane - 1),
+        16,
+        15,
+    ) || from_below
 }
 
 // Writes the edges on the west sides of blocks.

@@ -19,9 +19,9 @@ returns-clause-step c (Beside q l) =
     let long : length bits ≡ edge_columns c.args.plan.now * lanes = search rules in
     ap (λ (v : List Bool). nat_lt l lanes && get_or v (q * lanes + l) false) (take_at bits (drop (length bits) c.new.inside.beside.items) c.new.inside.beside.len same)
     ∙ bits_read (edge_columns c.args.plan.now) lanes bits (λ x y. next_edges (tiling_of c.args.plan.now) (lit_of c.args.old.now) (Beside x y))
-        long c.step_beside.ensures
-        (λ x y far. beside_right c.args.plan.now (lit_of c.args.old.now) x y far)
-        (λ x y far. beside_below c.args.plan.now (lit_of c.args.old.now) x y (omega arith)) q l
+    long c.step_beside.ensures
+    (λ x y far. beside_right c.args.plan.now (lit_of c.args.old.now) x y far)
+    (λ x y far. beside_below c.args.plan.now (lit_of c.args.old.now) x y (omega arith)) q l
 returns-clause-step c (Above q l) =
     let bits = c.step_above.new.bits in
     let lanes = c.new.inside.lanes in
@@ -30,9 +30,9 @@ returns-clause-step c (Above q l) =
     let long : length bits ≡ edge_columns c.args.plan.now * lanes = search rules in
     ap (λ (v : List Bool). nat_lt l lanes && get_or v (q * lanes + l) false) (take_at bits (drop (length bits) c.new.inside.above.items) c.new.inside.above.len same)
     ∙ bits_read (edge_columns c.args.plan.now) lanes bits (λ x y. next_edges (tiling_of c.args.plan.now) (lit_of c.args.old.now) (Above x y))
-        long c.step_above.ensures
-        (λ x y far. above_right c.args.plan.now (lit_of c.args.old.now) x y far)
-        (λ x y far. above_below c.args.plan.now (lit_of c.args.old.now) x y (omega arith)) q l
+    long c.step_above.ensures
+    (λ x y far. above_right c.args.plan.now (lit_of c.args.old.now) x y far)
+    (λ x y far. above_below c.args.plan.now (lit_of c.args.old.now) x y (omega arith)) q l
 
 pub returns-clause-plane : goal.returns-clause-plane
 returns-clause-plane c = λ library law.

@@ -4,5 +4,5 @@ use Rattle.macro_grid.proofs.step.step_above.Goals as goal
 pub loop-i-preserved : goal.loop-i-preserved
 loop-i-preserved c =
     below_more _ _
-        (λ k h. (let ne : k ≢ c.loop-i.i = omega arith in rw get_or-set_other (c.loop-i.invariant k h)))
-        (let lt : c.loop-i.i < length c.loop-i.bits = omega arith in rw get_or-set_same c.above_after.ensures)
+    (λ k h. (let ne : k ≢ c.loop-i.i = omega arith in rw get_or-set_other (c.loop-i.invariant k h)))
+    (let lt : c.loop-i.i < length c.loop-i.bits = omega arith in rw get_or-set_same c.above_after.ensures)

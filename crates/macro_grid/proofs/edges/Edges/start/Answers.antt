@@ -14,9 +14,9 @@ returns-clause-lit c (Beside q l) =
     let long : length bits ≡ edge_columns c.args.plan.now * lanes = search rules in
     ap (λ (v : List Bool). nat_lt l lanes && get_or v (q * lanes + l) false) (take_at bits (drop (length bits) c.in_ok-beside.beside.items) c.in_ok-beside.beside.len same)
     ∙ bits_read (edge_columns c.args.plan.now) lanes bits (λ x y. start_edges c.args.plan.now (Beside x y))
-        long c.light_starts.ensures
-        (λ x y far. starts_right c.args.plan.now x y far)
-        (λ x y far. starts_below c.args.plan.now c.requires x y (omega arith)) q l
+    long c.light_starts.ensures
+    (λ x y far. starts_right c.args.plan.now x y far)
+    (λ x y far. starts_below c.args.plan.now c.requires x y (omega arith)) q l
 returns-clause-lit c (Above q l) =
     let none : c.in_ok-above.above.items ≡ replicate c.in-Some.count false = c.in_ok-above.ensures.items_if_clones_equal (λ y e. search rules) in
     let lanes = c.edge_lanes-lanes.result in
