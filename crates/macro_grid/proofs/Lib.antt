@@ -1,4 +1,3 @@
-pub mod Examples
 pub mod Sides
 pub mod Halves
 pub mod Matched

@@ -12,3 +12,6 @@ pub use layout::slot_at;
 pub use rules::admissible;
 pub use slot::{Piece, Slot};
 pub use step::macro_step;
+
+#[cfg(test)]
+mod tests;
