@@ -1,1 +1,2 @@
--- lemmas
+pub mod OneWay
+pub mod Bare
