@@ -168,6 +168,25 @@ fn dark_edges_stay_dark(rt: HostRuntime) -> Result<(), Fail> {
     Ok(())
 }
 
+// Three columns and three loops: a loop has 2 * 3 + 4 * 3 tiles.
+#[test]
+fn an_electron_goes_round_a_loop(rt: HostRuntime) -> Result<(), Fail> {
+    let plan = bare_plan(rt.alloc())?;
+    assert!(rt; admissible(&plan));
+    let mut current = Edges::start(rt.alloc(), &plan)?;
+    let mut following = Edges::start(rt.alloc(), &plan)?;
+    for step in 0..36 {
+        assert_eq!(rt; current.beside(3, 1), step % 18 == 0, "after {step} steps");
+        assert!(rt;
+            !current.beside(3, 0) && !current.beside(3, 2),
+            "after {step} steps"
+        );
+        macro_step(&plan, &current, &mut following);
+        std::mem::swap(&mut current, &mut following);
+    }
+    Ok(())
+}
+
 #[test]
 fn each_rule_on_ports_and_lanes_is_kept(rt: HostRuntime) -> Result<(), Fail> {
     let table: [(u32, u32, &[u32], &[u32], bool); 7] = [
