@@ -1,12 +1,14 @@
 -- The driven plane of the gate at every generation.
-use Rattle.std.proofs.Common.{ℤ, pos, ℕ, zero, suc, ◌+◌, ◌*◌, ◌%◌, ◌/◌, ◌<◌, ◌≢◌, ◌≡◌, ◌↔◌, refl, sym, ap, ap₂, ◌∙◌, Bool, true, false, ◌||◌, ◌&&◌, arith, int_eq, lit<, inl, inr}
+use Rattle.std.proofs.Common.{ℤ, pos, ℕ, zero, suc, ◌+◌, ◌*◌, ◌%◌, ◌/◌, ◌<◌, ◌≢◌, ◌≡◌, ◌↔◌, refl, sym, ap, ap₂, ◌∙◌, Bool, true, false, ◌||◌, ◌&&◌, map, take, arith, int_eq, lit<, inl, inr}
 use Rattle.std.proofs.lemmas.Bool.{true≢false, or_cases}
 use Rattle.std.proofs.Math.Bool.{or-false}
 use Rattle.ww_rule.specs.declared.pattern.State.TheVariants.{Head, Conductor}
 use Rattle.ww_rule.specs.Wireworld.{Plane, Due, injected, driven, next_plane, evolve}
 use Rattle.tile_core.specs.Drawing.{is_among, picture}
 use Rattle.tile_timing.proofs.Sound.{same_place}
-use Rattle.tile_library.specs.Laws.{or_meets}
+use Rattle.tile_core.specs.declared.kind.Kind.TheVariants.{Or}
+use Rattle.tile_core.specs.Kinds.{interface}
+use Rattle.tile_library.specs.Laws.{meets_law}
 use Rattle.or_gate.specs.OrGate.{gate_plane, DrivesEntries, entries, is_lit, before_injections, ShowsOr}
 use Rattle.or_gate.specs.declared.drawing.TheConstants.{OR_DRAWING}
 use Rattle.or_gate.proofs.Machine.{wires_of, begun, lit_output, lit_exit, at_32, dark_between, at_rest, injected_rest, injected_none}
@@ -113,4 +115,4 @@ meets_conductor due d (suc g) x y e =
     ap (λ n. next_plane (driven due gate_plane n) x y) at ∙ ap (λ p. p x y) (ends due d m (starts due d m)) ∙ conductor_at (is_lit due m) x y (d.at_entries (suc g) x y e)
 
 pub shows_or : ShowsOr
-shows_or = record { is_tile = or_meets; conductors = meets_conductor; heads = output_head }
+shows_or = record { is_tile = meets_law (interface Or) (map (take 32) OR_DRAWING) refl; conductors = meets_conductor; heads = output_head }

@@ -2,6 +2,8 @@
 #![tactic(auto)]
 
 mod drawing;
+#[cfg(test)]
+mod tests;
 
 ghost use Rattle.or_gate.specs.OrGate.{ShowsOr};
 
