@@ -1,0 +1,6 @@
+pub mod Fronts
+pub mod Numerals
+pub mod FirstLines
+pub mod DrawnLines
+pub mod Runs
+pub mod DrawnText
