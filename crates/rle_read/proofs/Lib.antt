@@ -4,3 +4,5 @@ pub mod FirstLines
 pub mod DrawnLines
 pub mod Runs
 pub mod DrawnText
+pub mod HeaderLines
+pub mod ReadText

@@ -2,7 +2,6 @@
 ghost use Rattle.std.specs.Prelude.{◌≡◌, ◌⊎◌, ◌+◌, ◌^◌, ◌<◌, length, MatchResult};
 ghost use Rattle.ww_rule.specs.Grid.{IsGrid};
 ghost use Rattle.pattern_reading.specs.Lines.{lines_from, with_line_feeds};
-ghost use Rattle.pattern_reading.specs.Header.{is_comment};
 ghost use Rattle.pattern_reading.specs.Items.{items_of_line, items_of_lines};
 ghost use Rattle.pattern_reading.specs.declared.faults.RleFaultKind.TheVariants.{NoEnd};
 ghost use Rattle.rle_read.specs.Texts.{line_of};
@@ -22,23 +21,13 @@ pub enum LineEnd {
     OfPattern,
 }
 
-// Whether a line is a comment.
-fn is_comment(line: Line<'_>) -> bool
-    ensures { result ≡ is_comment (line_of line.entry) }
-{
-    match line.bytes {
-        [b'#', ..] => true,
-        _ => false,
-    }
-}
-
 // Draws the items of a line, up to the pattern's end or an item at fault.
 fn draw_line(alloc: Global, drawing: &mut Drawing, line: Line<'_>) -> Result<LineEnd, RleFault>
     requires in_rows { IsGrid drawing.old.width drawing.old.height drawing.old.rows.items }
     ensures drawn { reached_of result (drawn_of drawing.new) ≡ drawn_with (drawn_of drawing.old) (items_of_line (line_of line.entry)) }
     ensures in_rows { IsGrid drawing.new.width drawing.new.height drawing.new.rows.items }
 {
-    if is_comment(line) {
+    if line.is_comment() {
         return Ok(LineEnd::OfLine);
     }
     let mut rest = line.bytes;

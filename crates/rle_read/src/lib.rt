@@ -7,6 +7,8 @@ mod error;
 mod header;
 mod items;
 mod lines;
+mod reader;
 mod words;
 
 pub use error::{RleFault, RleReadError};
+pub use reader::read;

@@ -3,6 +3,7 @@ ghost use Rattle.std.specs.Prelude.{◌≡◌, ◌+◌, ◌^◌, ◌∷◌, ◌<
 ghost use Rattle.std.specs.List.{prefix_len};
 ghost use Rattle.std.specs.Str.Lines.{strip_carriage_return};
 ghost use Rattle.pattern_reading.specs.Lines.{lines_from, with_line_feeds};
+ghost use Rattle.pattern_reading.specs.Header.{is_comment};
 ghost use Rattle.rle_read.specs.Texts.{line_of};
 
 /// A line without its end. Only the last line of a text may lack an end.
@@ -11,6 +12,18 @@ pub struct Line<'a> {
     pub number: usize,
     pub bytes: &'a [u8],
     pub is_ended: bool,
+}
+
+impl Line<'_> {
+    /// Whether the line is a comment: it begins with `#`.
+    pub fn is_comment(self) -> bool
+        ensures { result ≡ is_comment (line_of self.entry) }
+    {
+        match self.bytes {
+            [b'#', ..] => true,
+            _ => false,
+        }
+    }
 }
 
 // The bytes without a carriage return at their end.
