@@ -6,3 +6,4 @@ pub mod Runs
 pub mod DrawnText
 pub mod HeaderLines
 pub mod ReadText
+pub mod OneAnswer

@@ -11,6 +11,7 @@ use Rattle.pattern_reading.specs.Numbers.{◌>>=◌, after_word}
 use Rattle.pattern_reading.specs.Header.{Header, header_in, header_line, is_wireworld, lines_after_header}
 use Rattle.pattern_reading.specs.Items.{items_of_lines}
 use Rattle.pattern_reading.specs.Pattern.{HasBox, HasRleFault, IsGridTooLarge, ReadsAsPattern, RleFaultAt, has_end, item_faults, items_after_header, most_cells}
+use Rattle.pattern_reading.proofs.Ranges.{small_box}
 use Rattle.pattern_reading.proofs.RleVerdict.{IsJudged, items_verdict, rle_judged, rle_verdict}
 use Rattle.rle_read.specs.declared.lines.Line as lent
 use Rattle.rle_read.specs.declared.error.RleFault.{RleFault}
@@ -85,9 +86,15 @@ pub no_line_refused : (text : List ℕ) (fault : RleFault) → header_line text 
 no_line_refused text fault e h = (h, λ large. none-some _ (sym e ∙ large.2.0.first))
 
 -- what is drawn
-module _ (text : List ℕ) (parts : lent.Line × Bor (List ℕ)) (head : IsHeaderAt text parts) (width height : ℕ) (box : HasBox text width height) (small_width : width < 2 ^ 64) (small_height : height < 2 ^ 64) (start : Drawn) (blank : start ≡ blank_drawing width height) where
+module _ (text : List ℕ) (parts : lent.Line × Bor (List ℕ)) (head : IsHeaderAt text parts) (width height : ℕ) (box : HasBox text width height) (start : Drawn) (blank : start ≡ blank_drawing width height) where
   abbrev lines : List Line
   lines = lines_from (parts.0.number + 1) (with_line_feeds parts.1.now)
+
+  small_width : width < 2 ^ 64
+  small_width = omega (arith, (small_box text width height box).0)
+
+  small_height : height < 2 ^ 64
+  small_height = omega (arith, (small_box text width height box).1)
 
   text_said : IsSaid width height small_width small_height [] [] (items_after_header text) (drawn_with (blank_drawing width height) (items_after_header text))
   text_said = said width height small_width small_height (items_after_header text) (blank_drawing width height) [] [] (blank_drawn width height) (lines_counted (lines_after_header text))

@@ -1,12 +1,12 @@
 -- What a reader of extended RLE answers.
-use Rattle.std.specs.Prelude.{◌≡◌, ◌+◌, ◌^◌, ◌<◌, ℕ, List, Option, Some, None, true, false, codes, is_some, length}
+use Rattle.std.specs.Prelude.{◌≡◌, ◌+◌, ◌*◌, ◌^◌, ◌≤◌, ◌<◌, ℕ, List, Option, Some, None, true, false, codes, is_some, length}
 use denote.Ref.{Bor}
 use Rattle.pattern_reading.specs.declared.faults.RleFaultKind.{RleFaultKind}
 use Rattle.pattern_reading.specs.declared.faults.RleFaultKind.TheVariants.{NoHeader, BadHeader, OtherRule, BadItem, CellOutside, NoEnd, GridTooLarge}
 use Rattle.pattern_reading.specs.Lines.{last_line, lines_from, with_line_feeds}
 use Rattle.pattern_reading.specs.Numbers.{after_word}
 use Rattle.pattern_reading.specs.Header.{Header, header_in, header_line, is_wireworld, lines_after_header}
-use Rattle.pattern_reading.specs.Pattern.{HasRleFault, HasLargeBox, IsGridTooLarge}
+use Rattle.pattern_reading.specs.Pattern.{HasBox, HasLargeBox, HasReaderFault, most_cells}
 use Rattle.rle_read.specs.Texts.{line_of}
 use Rattle.rle_read.specs.declared.lines.Line as lent
 use Rattle.rle_read.specs.declared.error.RleReadError.{RleReadError}
@@ -29,9 +29,9 @@ IsHeaderFault bytes CellOutside = ⊥
 IsHeaderFault bytes NoEnd = ⊥
 IsHeaderFault bytes GridTooLarge = ⊥
 
--- Why a reader reads no pattern of a text: the text's first fault, where its box is not too large; a box that is too large; or that there
--- is no memory.
+-- Why a reader reads no pattern of a text: its first fault; a box that is too large; or want of memory, where the header is without
+-- fault and the box is not too large.
 abbrev pub HasReason : List ℕ → RleReadError → Type 0
-HasReason text (Fault fault) = HasRleFault text fault.kind fault.line × ¬ (IsGridTooLarge text)
+HasReason text (Fault fault) = HasReaderFault text fault.kind fault.line
 HasReason text (TooLarge width height) = HasLargeBox text width height
-HasReason text NoMemory = Unit {0}
+HasReason text NoMemory = (width height : ℕ) × HasBox text width height × (width * height ≤ most_cells)

@@ -5,10 +5,10 @@ ghost use Rattle.ww_rule.specs.Patterns.{grid_of};
 ghost use Rattle.pattern_reading.specs.declared.faults.RleFaultKind.{RleFaultKind};
 ghost use Rattle.pattern_reading.specs.Lines.{lines_from, last_line, with_line_feeds};
 ghost use Rattle.pattern_reading.specs.Header.{is_skipped, is_wireworld, header_in, header_line, lines_after_header};
-ghost use Rattle.pattern_reading.specs.Pattern.{ReadsAsPattern, HasRleFault, IsGridTooLarge, HasBox, most_cells};
+ghost use Rattle.pattern_reading.specs.Pattern.{HasRleFault, HasReaderFault, HasLargeBox, ReadsWithinLimit, most_cells};
 ghost use Rattle.rle_read.specs.Texts.{line_of, header_of};
 ghost use Rattle.rle_read.specs.Answers.{IsHeaderAt, IsHeaderFault, HasReason};
-ghost use Rattle.rle_read.specs.declared.error.RleReadError.TheVariants.{Fault, NoMemory};
+ghost use Rattle.rle_read.specs.declared.error.RleReadError.TheVariants.{Fault, TooLarge, NoMemory};
 
 use crate::draw_text::draw_text;
 use crate::drawing::Drawing;
@@ -81,11 +81,9 @@ fn is_too_large(width: u64, height: u64) -> bool
     u128::from(width) * u128::from(height) > MOST_CELLS
 }
 
-/// Reads the text of a pattern in extended RLE, by Golly's description of it: a header such as
-/// `x = 3, y = 1, rule = WireWorld`, and items.
-pub fn read(alloc: Global, text: &[u8]) -> Result<Pattern, RleReadError>
-    ensures pattern { IfOk result (λ pattern. ReadsAsPattern text.now (grid_of pattern)) }
-    ensures small { IfOk result (λ pattern. pattern.width * pattern.height ≤ most_cells) }
+// The pattern of a text, or why there is none.
+fn pattern_in(alloc: Global, text: &[u8]) -> Result<Pattern, RleReadError>
+    ensures pattern { IfOk result (λ pattern. ReadsWithinLimit text.now (grid_of pattern)) }
     ensures refused { IfErr result (HasReason text.now) }
 {
     let (line, rest) = split_header(text)?;
@@ -100,4 +98,22 @@ pub fn read(alloc: Global, text: &[u8]) -> Result<Pattern, RleReadError>
         height,
         rows: List::of(drawing.rows),
     })
+}
+
+/// Reads the text of a pattern in extended RLE, by Golly's description of it: a header such as
+/// `x = 3, y = 1, rule = WireWorld`, and then items such as `3C!`.
+///
+/// The answer is the pattern that the text says, or the text's first fault and its line, counted from 1. A box of more
+/// than 268435456 cells is refused once the header is read, and before any memory is taken.
+pub fn read(alloc: Global, text: &[u8]) -> Result<Pattern, RleReadError>
+    ensures pattern { IfOk result (λ pattern. ReadsWithinLimit text.now (grid_of pattern)) }
+    ensures refused { IfErr result (HasReason text.now) }
+    ensures reads { (grid : Grid) → ReadsWithinLimit text.now grid →
+        MatchResult result (λ pattern. grid_of pattern ≡ grid) (λ e. e ≡ NoMemory) }
+    ensures faulty { (kind : RleFaultKind) (line : ℕ) → HasReaderFault text.now kind line →
+        MatchResult result (λ _. ⊥) (λ e. (e ≡ Fault (record { kind = kind; line = line })) ⊎ (e ≡ NoMemory)) }
+    ensures large { (width height : ℕ) → HasLargeBox text.now width height →
+        MatchResult result (λ _. ⊥) (λ e. e ≡ TooLarge width height) }
+{
+    pattern_in(alloc, text)
 }
