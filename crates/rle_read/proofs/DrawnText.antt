@@ -1,6 +1,6 @@
 -- What is drawn of the items of a text is what they say.
 use Rattle.std.proofs.Common.{ℕ, ◌+◌, ◌-◌, ◌*◌, ◌^◌, ◌<◌, ◌≤◌, ◌≡◌, ◌≢◌, ◌⊎◌, inl, inr, refl, sym, ap, ap₂, ◌∙◌, subst, Bool, true, false, true≢false, cond, not, ◌&&◌, ◌||◌, ◌==◌, List, [], ◌∷◌, ◌++◌, length, get_or, set, map, replicate, zero, suc, arith, append_assoc}
-use Rattle.std.specs.Prelude.{if◌then◌else◌, Option, Some, None, nat_le, nat_lt, slice_get, unwrap_or, take_while, filter_map, min}
+use Rattle.std.specs.Prelude.{if◌then◌else◌, Option, Some, None, nat_le, nat_lt, slice_get, unwrap_or, take_while, filter_map}
 use Rattle.std.specs.List.{AllByRecursion, cons_option, list_any}
 use Rattle.std.proofs.lemmas.Bool.{cases_Bool, cases_eq, cases_lt, and_parts, leb-true, ltb-true, eqb-true}
 use Rattle.std.proofs.lemmas.Bool.Decides.{nat_tests}
@@ -23,7 +23,6 @@ use Rattle.pattern_reading.specs.Pattern.{RleFaultAt, fault_at, item_fault, run_
 use Rattle.pattern_reading.proofs.Places.{next_place}
 use Rattle.rle_read.specs.Drawn.{Drawn, Reached, Fault, Ended, Open, kept, reached_by, drawn_with, drawn_after, rows_with, place_of, with_run, blank_drawing, IsCounted}
 use Rattle.rle_read.proofs.Runs.{run_inside, run_in_rows, run_grid, run_covers, run_spares}
-use Rattle.rle_read.proofs.DrawnLines.{drawn_grid, fault_of_kind}
 
 -- the cells from the next place on
 abbrev pub IsAhead : Drawn → ℕ → ℕ → Type 0
@@ -100,14 +99,14 @@ module _ (width height : ℕ) (small_width : width < 2 ^ 64) (small_height : hei
   -- an item that is no run and ends no row
   still : (item : Item) → drawn_after item d ≡ d → next_column item (column_after before) ≡ column_after before → next_row item (row_after before) ≡ row_after before → ((x y : ℕ) (p : Placed) → state_in x y p item ≡ None) → IsDrawn width height (drawn_after item d) (item ∷ before) (placed ++ here item ∷ [])
   still item same column row none = subst (λ (a : Drawn). IsDrawn width height a (item ∷ before) (placed ++ here item ∷ [])) (sym same) (record {
-      wide = was.wide;
-      high = was.high;
-      column = was.column ∙ ap kept (sym ((next_place item before).0 ∙ column));
-      row = was.row ∙ ap kept (sym ((next_place item before).1 ∙ row));
-      grid = was.grid;
-      cells = λ x y h k. was.cells x y h k ∙ ap state_of (sym (kept_states x y));
-      free = λ x y h k ahead. kept_states x y ∙ was.free x y h k ahead;
-    })
+    wide = was.wide;
+    high = was.high;
+    column = was.column ∙ ap kept (sym ((next_place item before).0 ∙ column));
+    row = was.row ∙ ap kept (sym ((next_place item before).1 ∙ row));
+    grid = was.grid;
+    cells = λ x y h k. was.cells x y h k ∙ ap state_of (sym (kept_states x y));
+    free = λ x y h k ahead. kept_states x y ∙ was.free x y h k ahead;
+  })
     where
       kept_states : (x y : ℕ) → given (placed ++ here item ∷ []) x y ≡ given placed x y
       kept_states x y = given_one placed (here item) x y None (none x y (here item)) ∙ append-nil (given placed x y)
@@ -115,14 +114,14 @@ module _ (width height : ℕ) (small_width : width < 2 ^ 64) (small_height : hei
   -- the end of rows
   rows_end : (n : ℕ) → 0 < n → IsDrawn width height (drawn_after (RowEnds n) d) (RowEnds n ∷ before) (placed ++ here (RowEnds n) ∷ [])
   rows_end n some = record {
-      wide = was.wide;
-      high = was.high;
-      column = ap kept (sym (next_place (RowEnds n) before).0);
-      row = ap (λ y. kept (y + n)) was.row ∙ kept_add (row_after before) n ∙ ap kept (sym (next_place (RowEnds n) before).1);
-      grid = was.grid;
-      cells = λ x y h k. was.cells x y h k ∙ ap state_of (sym (kept_states x y));
-      free = λ x y h k ahead. kept_states x y ∙ was.free x y h k (inl (lower x y k ahead));
-    }
+    wide = was.wide;
+    high = was.high;
+    column = ap kept (sym (next_place (RowEnds n) before).0);
+    row = ap (λ y. kept (y + n)) was.row ∙ kept_add (row_after before) n ∙ ap kept (sym (next_place (RowEnds n) before).1);
+    grid = was.grid;
+    cells = λ x y h k. was.cells x y h k ∙ ap state_of (sym (kept_states x y));
+    free = λ x y h k ahead. kept_states x y ∙ was.free x y h k (inl (lower x y k ahead));
+  }
     where
       kept_states : (x y : ℕ) → given (placed ++ here (RowEnds n) ∷ []) x y ≡ given placed x y
       kept_states x y = given_one placed (here (RowEnds n)) x y None refl ∙ append-nil (given placed x y)
@@ -432,6 +431,7 @@ blank_grid width height = by_width (width == 0) refl
           many = λ _. length-replicate height (replicate width Empty);
           none = λ area. let no : height ≡ 0 = no_height width height some area in ap (λ h. replicate h (replicate width Empty)) no;
         }
+
 blank_cell : (width height x y : ℕ) → x < width → y < height → get_or (get_or (if width == 0 then [] else replicate height (replicate width Empty)) y []) x Empty ≡ Empty
 blank_cell width height x y h k =
     let some : (width == 0) ≡ false = grind (arith, nat_tests) in

@@ -1,13 +1,12 @@
 -- The first line of a text before which other lines stand.
-use Rattle.std.proofs.Common.{ℕ, suc, ◌+◌, ◌-◌, ◌<◌, ◌≤◌, ◌≡◌, ◌≢◌, refl, sym, ap, ◌∙◌, Bool, true, false, true≢false, not, ◌==◌, List, [], ◌∷◌, ◌++◌, length, map, take, drop, get_or, arith, length-drop}
-use Rattle.std.specs.Prelude.{if◌then◌else◌}
+use Rattle.std.proofs.Common.{ℕ, suc, ◌+◌, ◌-◌, ◌<◌, ◌≡◌, ◌≢◌, refl, sym, ap, ◌∙◌, Bool, true, false, true≢false, not, ◌==◌, List, [], ◌∷◌, ◌++◌, length, map, take, drop, arith, length-drop}
 use Rattle.std.specs.List.{All, prefix_len}
 use Rattle.std.specs.Str.Lines.{strip_carriage_return}
 use Rattle.std.proofs.lemmas.Bool.{eqb-true}
 use Rattle.std.proofs.lemmas.List.{take_all}
 use Rattle.std.proofs.lemmas.List.Sums.{prefix_len-le-length}
 use Rattle.std.proofs.lemmas.List.Elements.{All-cons}
-use Rattle.pattern_reading.specs.Lines.{Line, lines_from, lines_of, with_line_feeds}
+use Rattle.pattern_reading.specs.Lines.{lines_from, lines_of, with_line_feeds}
 use Rattle.pattern_reading.specs.Laws.{later_by}
 use Rattle.pattern_reading.proofs.FirstLine.{line_then_rest, lone_line}
 use Rattle.pattern_reading.proofs.LineText.{lines_moved}
@@ -58,7 +57,7 @@ line_after before text h =
     ∙ ap (λ t. map (later_by before) (lines_of t)) (cut_at_feed text h)
     ∙ ap (map (later_by before)) (line_then_rest front rest (front_kept text))
     ∙ ap (λ ls. record { number = before + 1; bytes = strip_carriage_return front; is_ended = true } ∷ ls)
-        (ap (map (later_by before)) (sym (lines_moved 1 1 (with_line_feeds rest))) ∙ sym (lines_moved before (1 + 1) (with_line_feeds rest)) ∙ ap (λ n. lines_from n (with_line_feeds rest)) shifted)
+    (ap (map (later_by before)) (sym (lines_moved 1 1 (with_line_feeds rest))) ∙ sym (lines_moved before (1 + 1) (with_line_feeds rest)) ∙ ap (λ n. lines_from n (with_line_feeds rest)) shifted)
 
 pub line_cut : (before : ℕ) (text bytes : List ℕ) (n : ℕ) → n ≡ prefix_len is_kept text → n ≢ length text → bytes ≡ strip_carriage_return (take n text) → lines_from (before + 1) (with_line_feeds text) ≡ record { number = before + 1; bytes = bytes; is_ended = true } ∷ lines_from (before + 1 + 1) (with_line_feeds (take (length text - (n + 1)) (drop (n + 1) text)))
 line_cut before text bytes n is more front =

@@ -1,6 +1,6 @@
 -- Words, blanks and pieces at the front and at the end of bytes.
-use Rattle.std.proofs.Common.{ℕ, suc, ◌+◌, ◌-◌, ◌<◌, ◌≤◌, ◌≡◌, refl, sym, ap, ◌∙◌, Bool, true, false, true≢false, cond, not, ◌&&◌, ◌==◌, List, [], ◌∷◌, ◌++◌, length, take, drop, get_or, reverse, arith, nat_eq, length-drop, add-zero}
-use Rattle.std.specs.Prelude.{if◌then◌else◌, Option, Some, None, MatchOption, slice_get}
+use Rattle.std.proofs.Common.{ℕ, suc, ◌+◌, ◌-◌, ◌<◌, ◌≤◌, ◌≡◌, refl, sym, ap, ◌∙◌, Bool, true, false, ◌==◌, List, [], ◌∷◌, ◌++◌, length, take, drop, get_or, reverse, arith, nat_eq, length-drop, add-zero}
+use Rattle.std.specs.Prelude.{if◌then◌else◌, Option, Some, None, MatchOption}
 use Rattle.std.specs.List.{prefix_len}
 use Rattle.std.specs.Cmp.Lexicographic.{pointwise}
 use Rattle.std.specs.Option.{option_copied}
@@ -9,7 +9,7 @@ use Rattle.std.proofs.lemmas.List.{reverse-append, take_all, drop_all, drop-drop
 use Rattle.std.proofs.lemmas.List.Sums.{prefix_len-le-length}
 use denote.Ref.{Bor}
 use Rattle.pattern_reading.specs.Numbers.{is_blank, without_leading_blanks, after_prefix}
-use Rattle.pattern_reading.specs.Items.{Piece, pieces_of, onto_first_piece}
+use Rattle.pattern_reading.specs.Items.{pieces_of, onto_first_piece}
 
 -- what stands after a prefix, by a test of the whole front
 prefix_by_test : (word bytes : List ℕ) → after_prefix word bytes ≡ (if pointwise nat_eq (take (length word) bytes) word then Some (drop (length word) bytes) else None)
@@ -45,7 +45,7 @@ blank_first b bs e = rw e (drop_past (prefix_len is_blank bs))
 pub blank_at_end : (xs : List ℕ) → 1 ≤ length xs → is_blank (get_or xs (length xs - 1) 0) ≡ true → without_leading_blanks (reverse (take (length xs - 1) xs)) ≡ without_leading_blanks (reverse xs)
 blank_at_end xs some e =
     let turned : reverse xs ≡ get_or xs (length xs - 1) 0 ∷ reverse (take (length xs - 1) xs) =
-        ap reverse (last_apart xs some) ∙ reverse-append (take (length xs - 1) xs) (get_or xs (length xs - 1) 0 ∷ []) in
+    ap reverse (last_apart xs some) ∙ reverse-append (take (length xs - 1) xs) (get_or xs (length xs - 1) 0 ∷ []) in
     sym (ap without_leading_blanks turned ∙ blank_first (get_or xs (length xs - 1) 0) (reverse (take (length xs - 1) xs)) e)
 
 -- the first piece
@@ -91,5 +91,5 @@ piece_split bytes digits after n is front back some =
     let here : prefix_len is_ascii_digit bytes < length bytes = omega (arith, length-drop n bytes, rest, is) in
     let tag : get_or after 0 0 ≡ get_or bytes n 0 = ap (λ l. get_or l 0 0) back ∙ get_or-drop n bytes 0 0 ∙ ap (λ k. get_or bytes k 0) (add-zero n) in
     let next : take (length after - 1) (drop 1 after) ≡ drop (n + 1) bytes =
-        take_all (length after - 1) (drop 1 after) (omega (arith, length-drop 1 after)) ∙ ap (drop 1) back ∙ drop-drop 1 n bytes in
+    take_all (length after - 1) (drop 1 after) (omega (arith, length-drop 1 after)) ∙ ap (drop 1) back ∙ drop-drop 1 n bytes in
     rw (tag, next, front, is) (piece_before bytes here)

@@ -1,5 +1,5 @@
 -- A reader's answer is the only one.
-use Rattle.std.proofs.Common.{ℕ, ◌*◌, ◌≤◌, ◌≡◌, ◌⊎◌, inl, inr, refl, sym, ap₂, List, arith}
+use Rattle.std.proofs.Common.{ℕ, ◌≡◌, ◌⊎◌, inl, inr, refl, ap₂, List}
 use Rattle.std.specs.Prelude.{Result, Ok, Err, MatchResult, IfOk, IfErr}
 use Rattle.ww_rule.specs.Grid.{Grid}
 use Rattle.ww_rule.specs.Patterns.{grid_of}

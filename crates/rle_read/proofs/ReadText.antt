@@ -1,13 +1,12 @@
 -- What is drawn of a text's items is the pattern that it reads as, or its first fault.
 use Rattle.std.proofs.Common.{ℕ, ◌+◌, ◌*◌, ◌^◌, ◌<◌, ◌≤◌, ◌≡◌, ◌⊎◌, inl, inr, refl, sym, ap, ap₂, ◌∙◌, subst, Bool, true, false, true≢false, List, [], ◌∷◌, length, arith}
-use Rattle.std.specs.Prelude.{Option, Some, None, is_some, codes, slice_get}
+use Rattle.std.specs.Prelude.{Some, None, codes, slice_get}
 use Rattle.std.proofs.lemmas.Option.{none-some}
 use denote.Ref.{Bor}
-use Rattle.ww_rule.specs.Grid.{Grid}
 use Rattle.pattern_reading.specs.declared.faults.RleFaultKind.{RleFaultKind}
 use Rattle.pattern_reading.specs.declared.faults.RleFaultKind.TheVariants.{NoHeader, BadHeader, OtherRule, BadItem, CellOutside, NoEnd, GridTooLarge}
-use Rattle.pattern_reading.specs.Lines.{Line, last_line, lines_from, with_line_feeds}
-use Rattle.pattern_reading.specs.Numbers.{◌>>=◌, after_word}
+use Rattle.pattern_reading.specs.Lines.{Line, lines_from, with_line_feeds}
+use Rattle.pattern_reading.specs.Numbers.{after_word}
 use Rattle.pattern_reading.specs.Header.{Header, header_in, header_line, is_wireworld, lines_after_header}
 use Rattle.pattern_reading.specs.Items.{items_of_lines}
 use Rattle.pattern_reading.specs.Pattern.{HasBox, HasRleFault, IsGridTooLarge, ReadsAsPattern, RleFaultAt, has_end, item_faults, items_after_header, most_cells}
@@ -16,7 +15,6 @@ use Rattle.pattern_reading.proofs.RleVerdict.{IsJudged, items_verdict, rle_judge
 use Rattle.rle_read.specs.declared.lines.Line as lent
 use Rattle.rle_read.specs.declared.error.RleFault.{RleFault}
 use Rattle.rle_read.specs.declared.error.RleReadError.TheVariants as errors
-use Rattle.rle_read.specs.Texts.{line_of}
 use Rattle.rle_read.specs.Answers.{IsHeaderAt, IsHeaderFault, HasReason}
 use Rattle.rle_read.specs.Drawn.{Drawn, Fault, Ended, Open, blank_drawing, drawn_with, fault_of}
 use Rattle.rle_read.proofs.DrawnText.{IsSaid, blank_drawn, lines_counted, said}

@@ -1,6 +1,6 @@
 -- Runs of cells in rows.
-use Rattle.std.proofs.Common.{ℕ, ◌+◌, ◌-◌, ◌*◌, ◌<◌, ◌≤◌, ◌≡◌, ◌≢◌, refl, sym, ap, ◌∙◌, Bool, true, false, true≢false, ◌&&◌, List, [], ◌∷◌, ◌++◌, length, take, drop, get_or, set, replicate, arith, length-drop, length-take, length-append, subst, ◌⊎◌, inl, inr}
-use Rattle.std.specs.Prelude.{if◌then◌else◌, Option, Some, None, nat_le, nat_lt, All}
+use Rattle.std.proofs.Common.{ℕ, ◌+◌, ◌-◌, ◌<◌, ◌≤◌, ◌≡◌, ◌≢◌, refl, sym, ap, ◌∙◌, Bool, true, false, List, [], ◌++◌, length, take, drop, get_or, set, replicate, arith, length-drop, length-take, length-append, ◌⊎◌, inl, inr}
+use Rattle.std.specs.Prelude.{if◌then◌else◌, Some, None}
 use Rattle.std.proofs.lemmas.Bool.{and_parts, leb-true, ltb-true}
 use Rattle.std.proofs.lemmas.Option.{none-some}
 use Rattle.std.proofs.lemmas.Bool.{cases_eq}
@@ -10,11 +10,10 @@ use Rattle.ww_rule.specs.declared.pattern.State.{State}
 use Rattle.ww_rule.specs.declared.pattern.State.TheVariants.{Empty, Head, Tail, Conductor}
 use Rattle.ww_rule.specs.Grid.{IsGrid}
 use Rattle.ww_rule.proofs.RowLemmas.{in_rows, same_grid}
-use Rattle.pattern_reading.specs.declared.faults.RleFaultKind.{RleFaultKind}
 use Rattle.pattern_reading.specs.declared.faults.RleFaultKind.TheVariants.{CellOutside}
 use Rattle.pattern_reading.specs.Items.{Placed}
 use Rattle.pattern_reading.specs.Pattern.{run_fault}
-use Rattle.rle_read.specs.Drawn.{Drawn, with_run}
+use Rattle.rle_read.specs.Drawn.{with_run}
 
 -- a run that is not at fault lies in the box
 inside : (b : Bool) → (if b then None else Some CellOutside) ≡ None → b ≡ true

@@ -1,8 +1,8 @@
 -- Patterns that are drawn item by item.
-use Rattle.std.specs.Prelude.{ℕ, ◌<◌, ◌+◌, ◌-◌, ◌*◌, ◌^◌, ◌==◌, min, Bool, true, false, if◌then◌else◌, List, [], ◌∷◌, ◌++◌, take, drop, replicate, get_or, slice_set, Option, Some, None}
+use Rattle.std.specs.Prelude.{ℕ, ◌<◌, ◌+◌, ◌-◌, ◌^◌, ◌==◌, min, Bool, true, false, if◌then◌else◌, List, [], ◌∷◌, ◌++◌, take, drop, replicate, get_or, slice_set, Option, Some, None}
 use Rattle.ww_rule.specs.declared.pattern.State.{State}
-use Rattle.ww_rule.specs.declared.pattern.State.TheVariants.{Empty, Head, Tail, Conductor}
-use Rattle.pattern_reading.specs.Items.{Item, Cells, RowEnds, End, Blank, CutOff, NoItem, LineItem, Placed, is_end}
+use Rattle.ww_rule.specs.declared.pattern.State.TheVariants.{Empty}
+use Rattle.pattern_reading.specs.Items.{Item, Cells, RowEnds, LineItem, Placed, is_end}
 use Rattle.pattern_reading.specs.Pattern.{RleFaultAt, fault_at}
 use Rattle.std.specs.Prelude.{Result, Ok, Err}
 use Rattle.rle_read.specs.declared.drawing.Drawing.{Drawing}

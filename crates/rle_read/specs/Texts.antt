@@ -1,5 +1,5 @@
 -- What the reader's small parts give, as values: without where they lie in memory.
-use Rattle.std.specs.Prelude.{ℕ, List, Option}
+use Rattle.std.specs.Prelude.{ℕ, List}
 use Rattle.std.specs.Option.{option_copied}
 use denote.Ref.{Bor}
 use Rattle.pattern_reading.specs.Lines.{Line}

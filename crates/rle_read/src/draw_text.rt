@@ -58,13 +58,11 @@ pub fn draw_text(
 ) -> Result<(), RleFault>
     requires room { lines_before + length text.now < 2 ^ 64 }
     requires in_rows { IsGrid drawing.old.width drawing.old.height drawing.old.rows.items }
-    ensures {
-        let lines = lines_from (lines_before + 1) (with_line_feeds text.now) in
+    ensures { let lines = lines_from (lines_before + 1) (with_line_feeds text.now) in
         let reached = drawn_with (drawn_of drawing.old) (items_of_lines lines) in
         MatchResult result
-            (λ _. reached ≡ Ended (drawn_of drawing.new))
-            (λ fault. (reached ≡ Fault (fault_of fault)) ⊎ ((d : Drawn) × (reached ≡ Open d) × (fault.kind ≡ NoEnd) × (fault.line ≡ lines_before + length lines)))
-    }
+        (λ _. reached ≡ Ended (drawn_of drawing.new))
+        (λ fault. (reached ≡ Fault (fault_of fault)) ⊎ ((d : Drawn) × (reached ≡ Open d) × (fault.kind ≡ NoEnd) × (fault.line ≡ lines_before + length lines))) }
 {
     let mut rest = text;
     let mut lines = lines_before;

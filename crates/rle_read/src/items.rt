@@ -87,11 +87,7 @@ pub fn item_in(is_ended: bool, piece: Piece<'_>) -> Item
     ensures counted { IsCounted (item_of result) }
 {
     let Some(tag) = piece.tag else {
-        return if is_ended {
-            Item::NoItem
-        } else {
-            Item::CutOff
-        };
+        return if is_ended { Item::NoItem } else { Item::CutOff };
     };
     if piece.digits.is_empty() {
         return item_without_count(tag);

@@ -12,3 +12,6 @@ mod words;
 
 pub use error::{RleFault, RleReadError};
 pub use reader::read;
+
+#[cfg(test)]
+mod tests;

@@ -1,12 +1,10 @@
-use Rattle.std.proofs.Common.{◌≡◌, ◌≢◌, true, false, ap, sym, ◌∙◌, subst}
-use Rattle.std.specs.Prelude.{Some, None}
+use Rattle.std.proofs.Common.{◌≡◌, sym, ◌∙◌, subst}
+use Rattle.std.specs.Prelude.{None}
 use Rattle.ww_rule.specs.Grid.{IsGrid}
-use Rattle.pattern_reading.specs.Header.{is_comment}
-use Rattle.pattern_reading.specs.Items.{is_end, items_of_line}
 use Rattle.pattern_reading.specs.Pattern.{item_fault}
 use Rattle.rle_read.specs.Texts.{line_of, item_of, piece_of}
-use Rattle.rle_read.specs.Drawn.{Drawn, drawn_of, drawn_with, place_of}
-use Rattle.rle_read.proofs.DrawnLines.{items_from, line_items, next_item, last_item, faulty_item, not_end, drawn_grid}
+use Rattle.rle_read.specs.Drawn.{Drawn, drawn_of, place_of}
+use Rattle.rle_read.proofs.DrawnLines.{next_item, not_end, drawn_grid}
 use Rattle.rle_read.proofs.draw_text.draw_line.Goals as goal
 
 pub loop-rest-preserved : goal.loop-rest-preserved

@@ -1,4 +1,4 @@
-use Rattle.std.proofs.Common.{◌≡◌, map, length}
+use Rattle.std.proofs.Common.{◌≡◌, length}
 use Rattle.ww_rule.specs.Grid.{IsGrid}
 use Rattle.rle_read.specs.Drawn.{drawn_of, drawn_with}
 use Rattle.rle_read.specs.Texts.{line_of}

@@ -1,11 +1,9 @@
-use Rattle.std.proofs.Common.{◌≡◌, ◌≢◌, ◌+◌, ◌<◌, ◌∷◌, ℕ, List, length, true, false, ap, sym, ◌∙◌, subst, inl, inr, arith}
+use Rattle.std.proofs.Common.{◌≡◌, ◌+◌, ◌∷◌, ℕ, List, length, ap, sym, ◌∙◌, inl, arith}
 use Rattle.std.proofs.lemmas.Result.{err_from_is_err_and}
-use Rattle.pattern_reading.specs.Lines.{Line, lines_from, with_line_feeds}
-use Rattle.pattern_reading.specs.Items.{items_of_lines}
+use Rattle.pattern_reading.specs.Lines.{Line}
 use Rattle.rle_read.specs.Texts.{line_of}
-use Rattle.rle_read.specs.Drawn.{Drawn, Reached, drawn_of, drawn_with, Open, Ended, Fault, fault_of, reached_of}
-use Rattle.rle_read.specs.declared.error.RleFault.{RleFault}
-use Rattle.std.specs.Prelude.{Ok, Err}
+use Rattle.rle_read.specs.Drawn.{drawn_of, Open, Ended, Fault, fault_of, reached_of}
+use Rattle.std.specs.Prelude.{Ok}
 use Rattle.rle_read.proofs.DrawnLines.{after_line}
 use Rattle.rle_read.proofs.draw_text.draw_text.Goals as goal
 

@@ -1,4 +1,4 @@
-use Rattle.std.proofs.Common.{◌≡◌, ◌++◌, ◌+◌, ◌-◌, ℕ, List, replicate, take, drop, length, ap, ap₂, ◌∙◌, arith, length-drop, length-take}
+use Rattle.std.proofs.Common.{◌≡◌, ◌++◌, ◌+◌, ◌-◌, List, replicate, take, drop, length, ap, ap₂, ◌∙◌, arith, length-drop, length-take}
 use Rattle.ww_rule.specs.declared.pattern.State.{State}
 use Rattle.std.proofs.lemmas.List.{drop-drop}
 use Rattle.rle_read.proofs.drawing.fill_run.Goals as goal

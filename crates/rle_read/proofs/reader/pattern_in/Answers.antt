@@ -1,4 +1,4 @@
-use Rattle.std.proofs.Common.{◌≡◌, ◌+◌, ◌*◌, ◌^◌, ◌≤◌, ◌<◌, ap, sym, ◌∙◌, subst, List, arith}
+use Rattle.std.proofs.Common.{◌*◌, ◌≤◌, sym, ◌∙◌, subst, List}
 use Rattle.std.proofs.lemmas.Bool.{ltb-false}
 use Rattle.std.proofs.lemmas.Result.{err_from_is_err_and}
 use Rattle.ww_rule.specs.declared.pattern.State.{State}
@@ -7,7 +7,7 @@ use Rattle.pattern_reading.specs.Pattern.{HasBox, ReadsAsPattern, most_cells}
 use Rattle.rle_read.specs.Texts.{line_of, header_of}
 use Rattle.rle_read.specs.Drawn.{Drawn, drawn_of}
 use Rattle.rle_read.proofs.DrawnText.{blank_grid}
-use Rattle.rle_read.proofs.ReadText.{header_box, header_refused, no_line_refused, text_reads, text_refused}
+use Rattle.rle_read.proofs.ReadText.{header_box, text_reads, text_refused}
 use Rattle.rle_read.proofs.reader.pattern_in.Goals as goal
 
 pub draw_text-requires-clause-in_rows : goal.draw_text-requires-clause-in_rows

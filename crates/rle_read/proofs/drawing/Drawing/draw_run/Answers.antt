@@ -1,4 +1,3 @@
-use Rattle.std.proofs.Common.{◌≡◌, ◌≢◌, ap, sym, ◌∙◌, rules}
 use Rattle.rle_read.specs.Drawn.{place_of, drawn_of}
 use Rattle.pattern_reading.specs.Items.{Cells}
 use Rattle.rle_read.proofs.Runs.{run_inside, run_in_rows}
