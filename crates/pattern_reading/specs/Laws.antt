@@ -8,7 +8,7 @@ use Rattle.pattern_reading.specs.declared.faults.PortFaultKind.{PortFaultKind}
 use Rattle.pattern_reading.specs.declared.ports.Ports.{Ports}
 use Rattle.pattern_reading.specs.Lines.{Line, lines_of, with_line_feeds}
 use Rattle.pattern_reading.specs.Items.{Item, Cells, RowEnds, column_after, row_after}
-use Rattle.pattern_reading.specs.Pattern.{ReadsAsPattern, HasRleFault}
+use Rattle.pattern_reading.specs.Pattern.{ReadsAsPattern, HasRleFault, HasBox, HasLargeBox, HasReaderFault, ReadsWithinLimit}
 use Rattle.pattern_reading.specs.PortTable.{ReadsAsPorts, HasPortFault}
 
 -- A text reads as at most one pattern.
@@ -26,6 +26,20 @@ HasNoFaultIfRead text = (grid : Grid) (kind : RleFaultKind) (line : ℕ) → Rea
 -- It reads or has a fault.
 abbrev pub HasPatternOrFault : List ℕ → Type 0
 HasPatternOrFault text = ((grid : Grid) × ReadsAsPattern text grid) ⊎ ((kind : RleFaultKind) × (line : ℕ) × HasRleFault text kind line)
+
+-- A reader answers it in one of three ways: a pattern, a fault and its line, or a box that is too large with its numbers.
+abbrev pub HasReaderAnswer : List ℕ → Type 0
+HasReaderAnswer text =
+    ((grid : Grid) × ReadsWithinLimit text grid)
+    ⊎ ((kind : RleFaultKind) × (line : ℕ) × HasReaderFault text kind line)
+    ⊎ ((width height : ℕ) × HasLargeBox text width height)
+
+-- No two of them are possible, and a box has one width and one height.
+pub record HasOneReaderAnswer (text : List ℕ) : Type 0 where
+  pub reads_or_fault : (grid : Grid) (kind : RleFaultKind) (line : ℕ) → ReadsWithinLimit text grid → HasReaderFault text kind line → ⊥
+  pub reads_or_large : (grid : Grid) (width height : ℕ) → ReadsWithinLimit text grid → HasLargeBox text width height → ⊥
+  pub fault_or_large : (kind : RleFaultKind) (line width height : ℕ) → HasReaderFault text kind line → HasLargeBox text width height → ⊥
+  pub one_box : (width height width' height' : ℕ) → HasBox text width height → HasBox text width' height' → (width ≡ width') × (height ≡ height')
 
 -- The same of the port table of a text, in a box of this width and height.
 abbrev pub HasOneTable : List ℕ → ℕ → ℕ → Type 0

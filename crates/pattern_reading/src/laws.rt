@@ -2,6 +2,7 @@
 
 ghost use Rattle.std.specs.Prelude.{List, ℕ};
 ghost use Rattle.pattern_reading.specs.Laws.{HasOnePattern, HasOneRleFault, HasNoFaultIfRead, HasPatternOrFault};
+ghost use Rattle.pattern_reading.specs.Laws.{HasReaderAnswer, HasOneReaderAnswer};
 ghost use Rattle.pattern_reading.specs.Laws.{HasOneTable, HasOnePortFault, HasNoPortFaultIfRead, HasTableOrFault};
 ghost use Rattle.pattern_reading.specs.Laws.{HasAllInLines, HasNumberedLines, HasLinesOfRust, IsLineText, HasFirstLine, HasLineThenRest, HasLoneLine, HasNextPlace};
 ghost use Rattle.pattern_reading.specs.Items.{Item};
@@ -16,6 +17,12 @@ pub fn pattern_laws()
     ensures fault { (text : List ℕ) → HasOneRleFault text }
     ensures apart { (text : List ℕ) → HasNoFaultIfRead text }
     ensures total { (text : List ℕ) → HasPatternOrFault text }
+{}
+
+/// A reader that refuses boxes past a limit has exactly one answer to each text.
+pub fn reader_laws()
+    ensures answer { (text : List ℕ) → HasReaderAnswer text }
+    ensures one { (text : List ℕ) → HasOneReaderAnswer text }
 {}
 
 /// In each box the port table of a text reads as exactly one table, or has exactly one first fault.
