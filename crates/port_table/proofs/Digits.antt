@@ -1,6 +1,6 @@
 -- The number that digits write is what `parse` reads.
-use Rattle.std.proofs.Common.{ℕ, ◌^◌, ◌<◌, ◌≤◌, ◌≡◌, refl, sym, ap, ◌∙◌, Bool, true, false, true≢false, ◌&&◌, List, [], ◌∷◌, length, Some, None, Ok, Err, Result, arith, rules}
-use Rattle.std.specs.Prelude.{if◌then◌else◌, nat_le}
+use Rattle.std.proofs.Common.{ℕ, ◌^◌, ◌<◌, ◌≤◌, ◌≡◌, refl, sym, ap, ◌∙◌, Bool, true, false, true≢false, List, [], ◌∷◌, length, Some, None, Ok, Err, Result, arith, rules}
+use Rattle.std.specs.Prelude.{nat_le}
 use Rattle.std.specs.List.{list_all}
 use Rattle.std.specs.Char.{is_ascii_digit}
 use Rattle.std.specs.Result.{OkIff, MatchResult, result_ok}
@@ -38,12 +38,15 @@ by_digits (b ∷ bs) r h p = by_bound b bs _ refl r h p
 pub number_in-parse : (bs : List ℕ) {E : Type 0} (r : Result ℕ E) → list_all is_ascii_digit bs ≡ true → ParsesUnsigned 64 10 bs r → result_ok r ≡ number_in bs
 number_in-parse bs r h p = by_digits bs r h (parse_digits numerals 64 bs r p h)
 
+below : (b : ℕ) → b ≤ 57 → b < 128
+below b h = omega (arith, h)
+
 digits_ascii : (bs : List ℕ) → list_all is_ascii_digit bs ≡ true → IsAscii bs
 digits_ascii [] e = IsAscii-nil
 digits_ascii (b ∷ bs) e =
     let parts = and_parts _ _ e in
-    let small : b ≤ 57 = leb-true _ _ (and_parts _ _ parts.0).1 in
-    IsAscii-cons b bs (omega (arith, small)) (digits_ascii bs parts.1)
+    let at_most : b ≤ 57 = leb-true _ _ (and_parts _ _ parts.0).1 in
+    IsAscii-cons b bs (below b at_most) (digits_ascii bs parts.1)
 
 pub digits_are_utf8 : (bs : List ℕ) → list_all is_ascii_digit bs ≡ true → IsUtf8 bs
 digits_are_utf8 bs e = IsUtf8-from_ascii bs (digits_ascii bs e)

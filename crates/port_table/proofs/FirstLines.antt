@@ -1,9 +1,9 @@
 -- The first line of a text whose lines are numbered from any number on.
-use Rattle.std.proofs.Common.{ℕ, suc, ◌+◌, ◌-◌, ◌<◌, ◌≡◌, ◌≢◌, refl, sym, ap, subst, ◌∙◌, Bool, true, false, List, [], ◌∷◌, ◌++◌, map, length, take, drop, get_or, arith}
+use Rattle.std.proofs.Common.{ℕ, suc, ◌+◌, ◌-◌, ◌<◌, ◌≡◌, ◌≢◌, sym, ap, subst, ◌∙◌, true, false, List, [], ◌∷◌, ◌++◌, map, length, take, drop, get_or, arith}
 use Rattle.std.specs.List.{All}
 use Rattle.std.proofs.Math.Seq.{split_at}
 use Rattle.std.specs.Str.Lines.{strip_carriage_return}
-use Rattle.pattern_reading.specs.Lines.{Line, lines_from, with_line_feeds}
+use Rattle.pattern_reading.specs.Lines.{lines_from, with_line_feeds}
 use Rattle.pattern_reading.specs.Laws.{later_by}
 use Rattle.pattern_reading.proofs.LineText.{lines_moved}
 use Rattle.pattern_reading.proofs.FirstLine.{line_then_rest, lone_line}
@@ -11,14 +11,15 @@ use Rattle.port_table.specs.Lent.{HasFirstLine}
 
 moved_line : (k : ℕ) (bytes rest : List ℕ) → All (λ b. b ≢ 10) bytes → HasFirstLine (k + 1) (bytes ++ 10 ∷ rest) (strip_carriage_return bytes) rest
 moved_line k bytes rest h =
-    let feeds = with_line_feeds rest in
-    (true,
-    lines_moved k 1 (with_line_feeds (bytes ++ 10 ∷ rest))
-    ∙ ap (λ ls. map (later_by k) ls) (line_then_rest bytes rest h)
-    ∙ ap (λ ls. record { number = k + 1; bytes = strip_carriage_return bytes; is_ended = true } ∷ ls) (
-      ap (λ ls. map (later_by k) ls) (sym (lines_moved 1 1 feeds))
-      ∙ sym (lines_moved k 2 feeds)
-      ∙ (let e : k + 2 ≡ k + 1 + 1 = omega arith in ap (λ m. lines_from m feeds) e)))
+    let feeds = with_line_feeds rest in (
+      true,
+      lines_moved k 1 (with_line_feeds (bytes ++ 10 ∷ rest))
+          ∙ ap (λ ls. map (later_by k) ls) (line_then_rest bytes rest h)
+          ∙ ap (λ ls. record { number = k + 1; bytes = strip_carriage_return bytes; is_ended = true } ∷ ls) (
+          ap (λ ls. map (later_by k) ls) (sym (lines_moved 1 1 feeds))
+          ∙ sym (lines_moved k 2 feeds)
+          ∙ (let e : k + 2 ≡ k + 1 + 1 = omega arith in ap (λ m. lines_from m feeds) e)),
+    )
 
 moved_lone : (k : ℕ) (bytes : List ℕ) → All (λ b. b ≢ 10) bytes → bytes ≢ [] → HasFirstLine (k + 1) bytes bytes []
 moved_lone k bytes h some =

@@ -1,5 +1,5 @@
 -- What the sets of names have after a line is seen.
-use Rattle.std.proofs.Common.{ℕ, ◌≡◌, refl, sym, ap, ◌∙◌, Bool, true, false, true≢false, cond, ◌&&◌, ◌||◌, List, [], ◌∷◌, ◌++◌}
+use Rattle.std.proofs.Common.{ℕ, ◌≡◌, refl, sym, ap, ◌∙◌, Bool, true, false, cond, ◌&&◌, ◌||◌, List, [], ◌∷◌, ◌++◌}
 use Rattle.std.specs.List.{list_any}
 use Rattle.std.specs.Str.{bytes_eq}
 use Rattle.std.specs.HashSet.{HashSet, contains_by, UpdatesBy}
@@ -85,7 +85,7 @@ pub has_pair : {S : Type 0} (s n : HashSet (Bor (List ℕ) × Bor (List ℕ)) S)
 has_pair s n key before form same had h name path =
     let q : Bor (List ℕ) × Bor (List ℕ) = (record { ref_ptr = (0, 0); now = name }, record { ref_ptr = (0, 0); now = path }) in
     let e : (bytes_eq key.0.now name && bytes_eq key.1.now path) ≡ is_net name path form =
-        ap (λ b. b && bytes_eq key.1.now path) (bytes_eq_symmetric key.0.now name) ∙ ap (λ b. bytes_eq name key.0.now && b) (bytes_eq_symmetric key.1.now path) ∙ sym (same name path) in
+    ap (λ b. b && bytes_eq key.1.now path) (bytes_eq_symmetric key.0.now name) ∙ ap (λ b. bytes_eq name key.0.now && b) (bytes_eq_symmetric key.1.now path) ∙ sym (same name path) in
     h.0 q
     ∙ ap (λ b. cond b true (contains_by (λ k. bytes_eq name k.0.now && bytes_eq path k.1.now) s)) e
     ∙ ap (λ b. cond (is_net name path form) true b) (had name path)

@@ -1,5 +1,5 @@
 -- A text's table line by line, and its faults.
-use Rattle.std.proofs.Common.{true≢false, ℕ, suc, ◌+◌, ◌<◌, ◌≡◌, ◌≢◌, refl, sym, ap, ◌∙◌, subst, Bool, true, false, cond, not, ◌==◌, List, [], ◌∷◌, ◌++◌, length, map, take, drop, get_or, Option, Some, None, arith, add-one, drop-cons}
+use Rattle.std.proofs.Common.{true≢false, ℕ, suc, ◌+◌, ◌<◌, ◌≡◌, refl, sym, ap, ◌∙◌, subst, Bool, true, false, cond, not, ◌==◌, List, [], ◌∷◌, ◌++◌, length, map, take, drop, get_or, Option, Some, None, arith, drop-cons}
 use mathlib.Core.Bool.{beq}
 use Rattle.std.specs.Prelude.{filter_map, option_map, slice_get, take_while, if◌then◌else◌}
 use Rattle.std.specs.List.{cons_option, list_any}
@@ -12,7 +12,7 @@ use Rattle.pattern_reading.specs.Lines.{Line, lines_from, with_line_feeds}
 use Rattle.pattern_reading.specs.Numbers.{◌>>=◌}
 use Rattle.pattern_reading.specs.Header.{is_skipped}
 use Rattle.pattern_reading.specs.PortLines.{PortForm, TableLine, table_line, table_of}
-use Rattle.pattern_reading.specs.PortTable.{PortFaultAt, is_version, is_outside, is_same_port, is_misplaced, fault_of_form, faults_after, port_faults, ports_of, forms_of, ReadsAsPorts}
+use Rattle.pattern_reading.specs.PortTable.{PortFaultAt, is_version, is_outside, is_same_port, is_misplaced, fault_of_form, faults_after, ports_of, ReadsAsPorts}
 use Rattle.pattern_reading.specs.declared.faults.PortFaultKind.{PortFaultKind}
 use Rattle.pattern_reading.specs.declared.faults.PortFaultKind.TheVariants.{Twice}
 use Rattle.pattern_reading.proofs.LineText.{not_equal}

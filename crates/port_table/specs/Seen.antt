@@ -3,7 +3,7 @@ use Rattle.std.specs.Prelude.{◌≡◌, ℕ, Bool, false, ◌&&◌, List}
 use Rattle.std.specs.List.{list_any}
 use Rattle.std.specs.Str.{bytes_eq}
 use Rattle.std.specs.HashSet.{contains_by}
-use Rattle.pattern_reading.specs.PortLines.{PortForm, Version, In, Out, Net}
+use Rattle.pattern_reading.specs.PortLines.{PortForm, In, Out, Net}
 use Rattle.port_table.specs.declared.seen.Seen.{Seen}
 
 -- whether a line is an input of this name

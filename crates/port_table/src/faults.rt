@@ -45,8 +45,10 @@ fn fault_of_form<'a>(
     height: u64,
     form: Option<PortForm<'a>>,
 ) -> Result<Option<PortFaultKind>, AllocError>
-    ensures fault { IfOk result (λ fault. (before : List lines.PortForm) → HasSeen seen.old before → is_first ≡ (length before == 0) → fault ≡ fault_of_form width height (map Some before) (option_map form_of form.entry)) }
-    ensures seen { IfOk result (λ fault. (before : List lines.PortForm) (next : lines.PortForm) → HasSeen seen.old before → fault ≡ None → option_map form_of form.entry ≡ Some next → HasSeen seen.new (before ++ next ∷ [])) }
+    ensures fault { IfOk result (λ fault. (before : List lines.PortForm) → HasSeen seen.old before → is_first ≡ (length before == 0) →
+        fault ≡ fault_of_form width height (map Some before) (option_map form_of form.entry)) }
+    ensures seen { IfOk result (λ fault. (before : List lines.PortForm) (next : lines.PortForm) → HasSeen seen.old before → fault ≡ None →
+        option_map form_of form.entry ≡ Some next → HasSeen seen.new (before ++ next ∷ [])) }
 {
     let Some(form) = form else {
         return Ok(Some(PortFaultKind::BadLine));
@@ -58,7 +60,11 @@ fn fault_of_form<'a>(
         return Ok(Some(PortFaultKind::CellOutside));
     }
     let is_new = seen.insert(form)?;
-    Ok(if is_new { None } else { Some(PortFaultKind::Twice) })
+    Ok(if is_new {
+        None
+    } else {
+        Some(PortFaultKind::Twice)
+    })
 }
 
 /// The first fault of a table's lines in a box of this width and height, if they have one.
@@ -68,7 +74,8 @@ pub fn first_fault(
     width: u64,
     height: u64,
 ) -> Result<Option<PortFault>, AllocError>
-    ensures { IfOk result (λ fault. option_map fault_of fault ≡ slice_get (faults_after width height [] (map line_of lines.now)) 0) }
+    ensures { IfOk result (λ fault.
+        option_map fault_of fault ≡ slice_get (faults_after width height [] (map line_of lines.now)) 0) }
 {
     let mut seen = Seen::new(alloc);
     for (index, line) in lines.iter().enumerate() {

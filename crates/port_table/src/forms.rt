@@ -79,7 +79,13 @@ fn port_in<'a>(x: &[u8], y: &[u8], name: &'a [u8]) -> Option<PortWords<'a>>
     })
 }
 
-fn net_in<'a>(x: &[u8], y: &[u8], offset: &[u8], name: &'a [u8], path: &'a [u8]) -> Option<NetWords<'a>>
+fn net_in<'a>(
+    x: &[u8],
+    y: &[u8],
+    offset: &[u8],
+    name: &'a [u8],
+    path: &'a [u8],
+) -> Option<NetWords<'a>>
     ensures { option_map net_of result ≡ net_in x.now y.now offset.now name.now path.now }
 {
     Some(NetWords {

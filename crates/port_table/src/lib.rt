@@ -13,3 +13,6 @@ mod table;
 pub use faults::PortFault;
 pub use pattern_reading::{NetLine, PortFaultKind, PortLine, Ports};
 pub use reading::{PortReadError, read};
+
+#[cfg(test)]
+mod tests;

@@ -5,7 +5,6 @@ ghost use Rattle.std.specs.List.{All};
 ghost use Rattle.std.specs.Str.Lines.{strip_carriage_return};
 ghost use Rattle.port_table.specs.Lent.{EndsLine, HasFirstLine};
 
-
 // The bytes without a carriage return at their end.
 fn without_carriage_return(bytes: &[u8]) -> &[u8]
     ensures { result.now ≡ strip_carriage_return bytes.now }

@@ -1,6 +1,7 @@
 // The reading of a text's table.
 ghost use Rattle.std.specs.Prelude.{◌≡◌, IfOk};
-ghost use Rattle.std.specs.Result.{IsErrOf};
+ghost use Rattle.std.specs.Result.{IsErrOf, IsOkUnless};
+ghost use Rattle.pattern_reading.specs.declared.ports.Ports.{Ports};
 ghost use Rattle.pattern_reading.specs.PortTable.{ReadsAsPorts, HasPortFault};
 ghost use Rattle.port_table.specs.declared.faults.PortFault.{PortFault};
 ghost use Rattle.port_table.specs.declared.reading.PortReadError.TheVariants.{Fault, NoMemory};
@@ -37,14 +38,11 @@ impl From<AllocError> for PortReadError {
 /// of at least 1, and each later line is `IN x y name`, `OUT x y name` or `NET x y offset name path`.
 ///
 /// `Fault` has the first line that is at fault, and the first fault of that line.
-pub fn read(
-    alloc: Global,
-    text: &[u8],
-    width: u64,
-    height: u64,
-) -> Result<Ports, PortReadError>
+pub fn read(alloc: Global, text: &[u8], width: u64, height: u64) -> Result<Ports, PortReadError>
     ensures table { IfOk result (ReadsAsPorts text.now width height) }
-    ensures fault { (fault : PortFault) → IsErrOf result (Fault fault) → HasPortFault text.now width height fault.kind fault.line }
+    ensures reads { (ports : Ports) → ReadsAsPorts text.now width height ports → IsOkUnless result NoMemory }
+    ensures fault { (fault : PortFault) → IsErrOf result (Fault fault) →
+        HasPortFault text.now width height fault.kind fault.line }
 {
     let lines = table_lines(alloc, text)?;
     if let Some(fault) = first_fault(alloc, &lines, width, height)? {

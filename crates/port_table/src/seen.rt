@@ -32,8 +32,10 @@ impl<'a> Seen<'a> {
 
     /// Adds a line, and answers whether its name was new, and for a net its name and path.
     pub fn insert(&mut self, form: PortForm<'a>) -> Result<bool, AllocError>
-        ensures added { IfOk result (λ added. (before : List lines.PortForm) → HasSeen self.old before → added ≡ not (list_any (is_same_port (form_of form.entry)) before)) }
-        ensures seen { OnOk result ((before : List lines.PortForm) → HasSeen self.old before → HasSeen self.new (before ++ form_of form.entry ∷ [])) }
+        ensures added { IfOk result (λ added. (before : List lines.PortForm) → HasSeen self.old before →
+            added ≡ not (list_any (is_same_port (form_of form.entry)) before)) }
+        ensures seen { OnOk result ((before : List lines.PortForm) → HasSeen self.old before →
+            HasSeen self.new (before ++ form_of form.entry ∷ [])) }
     {
         let is_new = match form {
             PortForm::Version { .. } => true,

@@ -41,11 +41,7 @@ fn table_entry(bytes: &[u8]) -> Option<&[u8]>
 }
 
 // The line as one of the table, if it is one.
-fn table_line(
-    alloc: Global,
-    number: u64,
-    bytes: &[u8],
-) -> Result<Option<TableLine<'_>>, AllocError>
+fn table_line(alloc: Global, number: u64, bytes: &[u8]) -> Result<Option<TableLine<'_>>, AllocError>
     ensures { IfOk result (λ line. (is_ended : Bool) → option_map line_of line ≡ table_line (line_with number bytes.now is_ended)) }
 {
     match table_entry(bytes) {

@@ -1,4 +1,4 @@
-use Rattle.std.proofs.Common.{sym, ap, ◌∙◌}
+use Rattle.std.proofs.Common.{sym, ◌∙◌}
 use Rattle.port_table.specs.Lent.{form_of}
 use Rattle.port_table.proofs.Walking.{twice_or_none, same_bools}
 use Rattle.port_table.proofs.faults.fault_of_form.Goals as goal

@@ -1,4 +1,4 @@
-use Rattle.std.proofs.Common.{sym, ap, ◌∙◌, ◌==◌, ◌+◌, ◌++◌, ◌∷◌, [], length, length-append, refl}
+use Rattle.std.proofs.Common.{sym, ap, ◌∙◌, ◌==◌, ◌+◌, ◌++◌, ◌∷◌, [], length-append}
 use Rattle.port_table.proofs.Walking.{has_form, no_fault_yet}
 use Rattle.port_table.proofs.faults.first_fault.Goals as goal
 

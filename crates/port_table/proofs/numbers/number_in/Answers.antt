@@ -1,4 +1,4 @@
-use Rattle.std.proofs.Common.{sym, ◌∙◌, ap}
+use Rattle.std.proofs.Common.{sym, ◌∙◌}
 use Rattle.std.specs.Str.{IsValidUpTo, valid_up_to}
 use Rattle.port_table.proofs.Digits.{number_in_other, number_in-parse, not_refused, text_is}
 use Rattle.port_table.proofs.numbers.number_in.Goals as goal

@@ -14,19 +14,19 @@ loop-line-preserved c =
     let i = c.loop-line.line-index in
     let so_far = c.loop-line.invariant in
     elim c.match-line.branch [
-      in-Some+in_ok-push w ↦
-        let form = Some (form_of w.in-Some.form) in
-        let is = ap (λ f. option_map form_of f) w.in-Some.is in
-        rw w.lists-is (record {
-          ins_so_far = w.in_ok-push.ensures.ins ∙ ap (λ xs. xs ++ option_to_list (input_of (form_of w.in-Some.form))) so_far.ins_so_far ∙ sym (said_more input_of lines i _ form c.loop-line-test.true is);
-          outs_so_far = w.in_ok-push.ensures.outs ∙ ap (λ xs. xs ++ option_to_list (output_of (form_of w.in-Some.form))) so_far.outs_so_far ∙ sym (said_more output_of lines i _ form c.loop-line-test.true is);
-          nets_so_far = w.in_ok-push.ensures.nets ∙ ap (λ xs. xs ++ option_to_list (net_of (form_of w.in-Some.form))) so_far.nets_so_far ∙ sym (said_more net_of lines i _ form c.loop-line-test.true is);
-        })
-    | in_default w ↦
-        let is = ap (λ f. option_map form_of f) w.in_default.is in
-        rw w.lists-is (record {
-          ins_so_far = so_far.ins_so_far ∙ sym (said_more input_of lines i _ None c.loop-line-test.true is ∙ append-nil _);
-          outs_so_far = so_far.outs_so_far ∙ sym (said_more output_of lines i _ None c.loop-line-test.true is ∙ append-nil _);
-          nets_so_far = so_far.nets_so_far ∙ sym (said_more net_of lines i _ None c.loop-line-test.true is ∙ append-nil _);
-        })
+      | in-Some+in_ok-push w ↦
+          let form = Some (form_of w.in-Some.form) in
+          let is = ap (λ f. option_map form_of f) w.in-Some.is in
+          rw w.lists-is (record {
+            ins_so_far = w.in_ok-push.ensures.ins ∙ ap (λ xs. xs ++ option_to_list (input_of (form_of w.in-Some.form))) so_far.ins_so_far ∙ sym (said_more input_of lines i _ form c.loop-line-test.true is);
+            outs_so_far = w.in_ok-push.ensures.outs ∙ ap (λ xs. xs ++ option_to_list (output_of (form_of w.in-Some.form))) so_far.outs_so_far ∙ sym (said_more output_of lines i _ form c.loop-line-test.true is);
+            nets_so_far = w.in_ok-push.ensures.nets ∙ ap (λ xs. xs ++ option_to_list (net_of (form_of w.in-Some.form))) so_far.nets_so_far ∙ sym (said_more net_of lines i _ form c.loop-line-test.true is);
+          })
+      | in_default w ↦
+          let is = ap (λ f. option_map form_of f) w.in_default.is in
+          rw w.lists-is (record {
+            ins_so_far = so_far.ins_so_far ∙ sym (said_more input_of lines i _ None c.loop-line-test.true is ∙ append-nil _);
+            outs_so_far = so_far.outs_so_far ∙ sym (said_more output_of lines i _ None c.loop-line-test.true is ∙ append-nil _);
+            nets_so_far = so_far.nets_so_far ∙ sym (said_more net_of lines i _ None c.loop-line-test.true is ∙ append-nil _);
+          })
     ]

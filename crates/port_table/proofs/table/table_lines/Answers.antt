@@ -1,4 +1,4 @@
-use Rattle.std.proofs.Common.{sym, ap, ◌∙◌, ◌≡◌, ◌++◌, ◌+◌, arith, List, map, Some, None, Option}
+use Rattle.std.proofs.Common.{sym, ◌∙◌, ◌≡◌, ◌++◌, ◌+◌, arith, map, Some, None, Option}
 use Rattle.std.specs.Option.{option_to_list}
 use Rattle.std.proofs.lemmas.List.{append-nil}
 use Rattle.port_table.specs.Lent.{line_of}
@@ -20,9 +20,9 @@ loop-rest-preserved c =
     let shorter = c.split_line.ensures.shorter in
     let within = c.loop-rest.invariant.within in
     let walked : (found : Option TableLine) → c.in_ok-line.field-0 ≡ found → map line_of (c.loop-rest.lines.items ++ option_to_list found) ++ table_from (c.loop-rest.number + 1) c.split_line.result.1.now ≡ table_of c.args.text.now =
-        walked_on c.loop-rest.number c.loop-rest.rest.now c.split_line.result.0.now c.split_line.result.1.now c.loop-rest.lines.items c.in_ok-line.field-0 (table_of c.args.text.now)
-        first (λ e. sym (c.is_skipped.ensures c.loop-rest.number e) ∙ c.if-not-is_skipped.false) c.in_ok-line.ensures c.loop-rest.invariant.found in
-    elim c.match-branch-2.branch [ 
-      in-Some+in_ok-push w ↦ rw (w.lines-is, w.in_ok-push.ensures.items) (record { positive = omega arith; within = omega (arith, within, shorter); found = walked (Some w.in-Some.line) w.in-Some.is })
-    | in_default w ↦ rw (w.lines-is, ← append-nil c.loop-rest.lines.items) (record { positive = omega arith; within = omega (arith, within, shorter); found = walked None w.in_default.is })
+    walked_on c.loop-rest.number c.loop-rest.rest.now c.split_line.result.0.now c.split_line.result.1.now c.loop-rest.lines.items c.in_ok-line.field-0 (table_of c.args.text.now)
+    first (λ e. sym (c.is_skipped.ensures c.loop-rest.number e) ∙ c.if-not-is_skipped.false) c.in_ok-line.ensures c.loop-rest.invariant.found in
+    elim c.match-branch-2.branch [
+      | in-Some+in_ok-push w ↦ rw (w.lines-is, w.in_ok-push.ensures.items) (record { positive = omega arith; within = omega (arith, within, shorter); found = walked (Some w.in-Some.line) w.in-Some.is })
+      | in_default w ↦ rw (w.lines-is, ← append-nil c.loop-rest.lines.items) (record { positive = omega arith; within = omega (arith, within, shorter); found = walked None w.in_default.is })
     ]

@@ -1,8 +1,6 @@
 use Rattle.std.proofs.Common.{refl, sym, ap, ◌∙◌, not}
-use Rattle.std.specs.List.{list_any}
-use Rattle.pattern_reading.specs.PortLines.{Version, In, Out, Net}
-use Rattle.pattern_reading.specs.PortTable.{is_same_port}
-use Rattle.port_table.specs.Lent.{port_of, net_of, form_of}
+use Rattle.pattern_reading.specs.PortLines.{In, Out, Net}
+use Rattle.port_table.specs.Lent.{port_of, net_of}
 use Rattle.port_table.specs.Seen.{is_input, is_output, is_net}
 use Rattle.port_table.proofs.SeenNames.{any_push, same_as_version, same_as_input, same_as_output, same_as_net, has_name, has_pair}
 use Rattle.port_table.proofs.seen.Seen.insert.Goals as goal
