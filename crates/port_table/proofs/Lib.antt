@@ -1,0 +1,6 @@
+pub mod Digits
+pub mod FirstLines
+pub mod Fields
+pub mod SeenNames
+pub mod Walking
+pub mod Walk

@@ -1,0 +1,92 @@
+-- What the sets of names have after a line is seen.
+use Rattle.std.proofs.Common.{ℕ, ◌≡◌, refl, sym, ap, ◌∙◌, Bool, true, false, cond, ◌&&◌, ◌||◌, List, [], ◌∷◌, ◌++◌}
+use Rattle.std.specs.List.{list_any}
+use Rattle.std.specs.Str.{bytes_eq}
+use Rattle.std.specs.HashSet.{HashSet, contains_by, UpdatesBy}
+use Rattle.std.proofs.lemmas.Slice.Eq.{bytes_eq-Decides}
+use denote.Ref.{Bor}
+use Rattle.pattern_reading.specs.PortLines.{PortForm, Version, In, Out, Net}
+use Rattle.pattern_reading.specs.PortTable.{is_same_port}
+use Rattle.pattern_reading.specs.declared.ports.PortLine.{PortLine}
+use Rattle.pattern_reading.specs.declared.ports.NetLine.{NetLine}
+use Rattle.port_table.specs.Seen.{is_input, is_output, is_net}
+
+same_tests : (t u : Bool) → (t ≡ true → u ≡ true) → (u ≡ true → t ≡ true) → t ≡ u
+same_tests true u f g = sym (f refl)
+same_tests false true f g = g refl
+same_tests false false f g = refl
+
+pub bytes_eq_symmetric : (a b : List ℕ) → bytes_eq a b ≡ bytes_eq b a
+bytes_eq_symmetric a b =
+    same_tests _ _ (λ e. (bytes_eq-Decides b a).1 (sym ((bytes_eq-Decides a b).0 e))) (λ e. (bytes_eq-Decides a b).1 (sym ((bytes_eq-Decides b a).0 e)))
+
+any_same : (t u : PortForm → Bool) → ((form : PortForm) → t form ≡ u form) → (forms : List PortForm) → list_any t forms ≡ list_any u forms
+any_same t u h [] = refl
+any_same t u h (form ∷ forms) = rw (h form, any_same t u h forms) refl
+
+-- one more line
+last_first : (a b : Bool) → (a || (b || false)) ≡ cond b true a
+last_first true true = refl
+last_first true false = refl
+last_first false true = refl
+last_first false false = refl
+
+step_any : (t a b : Bool) → a ≡ cond b true t → (u : Bool) → (u || a) ≡ cond b true (u || t)
+step_any t a true e true = refl
+step_any t a true e false = e
+step_any t a false e true = refl
+step_any t a false e false = e
+
+pub any_push : (t : PortForm → Bool) (forms : List PortForm) (form : PortForm) → list_any t (forms ++ form ∷ []) ≡ cond (t form) true (list_any t forms)
+any_push t [] form = last_first false (t form)
+any_push t (first ∷ forms) form = step_any (list_any t forms) _ (t form) (any_push t forms form) (t first)
+
+-- the tests of a line against others
+pub same_as_version : (p l : ℕ) (forms : List PortForm) → list_any (is_same_port (Version p l)) forms ≡ false
+same_as_version p l [] = refl
+same_as_version p l (form ∷ forms) = same_as_version p l forms
+
+pub same_as_input : (port : PortLine) (forms : List PortForm) → list_any (is_same_port (In port)) forms ≡ list_any (is_input port.name) forms
+same_as_input port forms = any_same _ _ by_form forms
+  where
+    by_form : (form : PortForm) → is_same_port (In port) form ≡ is_input port.name form
+    by_form (Version p l) = refl
+    by_form (In a) = refl
+    by_form (Out a) = refl
+    by_form (Net a) = refl
+
+pub same_as_output : (port : PortLine) (forms : List PortForm) → list_any (is_same_port (Out port)) forms ≡ list_any (is_output port.name) forms
+same_as_output port forms = any_same _ _ by_form forms
+  where
+    by_form : (form : PortForm) → is_same_port (Out port) form ≡ is_output port.name form
+    by_form (Version p l) = refl
+    by_form (In a) = refl
+    by_form (Out a) = refl
+    by_form (Net a) = refl
+
+pub same_as_net : (net : NetLine) (forms : List PortForm) → list_any (is_same_port (Net net)) forms ≡ list_any (is_net net.name net.path) forms
+same_as_net net forms = any_same _ _ by_form forms
+  where
+    by_form : (form : PortForm) → is_same_port (Net net) form ≡ is_net net.name net.path form
+    by_form (Version p l) = refl
+    by_form (In a) = refl
+    by_form (Out a) = refl
+    by_form (Net a) = refl
+
+-- a set of names after one is inserted
+pub has_name : {S : Type 0} (t : List ℕ → PortForm → Bool) (s n : HashSet (Bor (List ℕ)) S) (key : Bor (List ℕ)) (before : List PortForm) (form : PortForm) → ((name : List ℕ) → t name form ≡ bytes_eq name key.now) → ((name : List ℕ) → contains_by (λ k. bytes_eq name k.now) s ≡ list_any (t name) before) → UpdatesBy (λ x y. bytes_eq x.now y.now) (λ k. bytes_eq key.now k.now) s n true → (name : List ℕ) → contains_by (λ k. bytes_eq name k.now) n ≡ list_any (t name) (before ++ form ∷ [])
+has_name t s n key before form same had h name =
+    let q : Bor (List ℕ) = record { ref_ptr = (0, 0); now = name } in
+    let e : bytes_eq key.now name ≡ t name form = bytes_eq_symmetric key.now name ∙ sym (same name) in
+    h.0 q ∙ ap (λ b. cond b true (contains_by (λ k. bytes_eq name k.now) s)) e ∙ ap (λ b. cond (t name form) true b) (had name) ∙ sym (any_push (t name) before form)
+
+-- and a set of pairs
+pub has_pair : {S : Type 0} (s n : HashSet (Bor (List ℕ) × Bor (List ℕ)) S) (key : Bor (List ℕ) × Bor (List ℕ)) (before : List PortForm) (form : PortForm) → ((name path : List ℕ) → is_net name path form ≡ (bytes_eq name key.0.now && bytes_eq path key.1.now)) → ((name path : List ℕ) → contains_by (λ k. bytes_eq name k.0.now && bytes_eq path k.1.now) s ≡ list_any (is_net name path) before) → UpdatesBy (λ x y. bytes_eq x.0.now y.0.now && bytes_eq x.1.now y.1.now) (λ k. bytes_eq key.0.now k.0.now && bytes_eq key.1.now k.1.now) s n true → (name path : List ℕ) → contains_by (λ k. bytes_eq name k.0.now && bytes_eq path k.1.now) n ≡ list_any (is_net name path) (before ++ form ∷ [])
+has_pair s n key before form same had h name path =
+    let q : Bor (List ℕ) × Bor (List ℕ) = (record { ref_ptr = (0, 0); now = name }, record { ref_ptr = (0, 0); now = path }) in
+    let e : (bytes_eq key.0.now name && bytes_eq key.1.now path) ≡ is_net name path form =
+    ap (λ b. b && bytes_eq key.1.now path) (bytes_eq_symmetric key.0.now name) ∙ ap (λ b. bytes_eq name key.0.now && b) (bytes_eq_symmetric key.1.now path) ∙ sym (same name path) in
+    h.0 q
+    ∙ ap (λ b. cond b true (contains_by (λ k. bytes_eq name k.0.now && bytes_eq path k.1.now) s)) e
+    ∙ ap (λ b. cond (is_net name path form) true b) (had name path)
+    ∙ sym (any_push (is_net name path) before form)

@@ -1,0 +1,48 @@
+// The ports and nets of the lines so far.
+ghost use Rattle.std.specs.Prelude.{◌≡◌, not, [], ◌∷◌, ◌++◌, List, IfOk, OnOk};
+ghost use Rattle.std.specs.List.{list_any};
+ghost use Rattle.pattern_reading.specs.PortLines as lines;
+ghost use Rattle.pattern_reading.specs.PortTable.{is_same_port};
+ghost use Rattle.port_table.specs.Lent.{form_of};
+ghost use Rattle.port_table.specs.Seen.{HasSeen};
+
+use crate::forms::PortForm;
+use std::alloc::{AllocError, Global};
+use std::collections::HashSet;
+
+/// The names of the inputs and the outputs, and the names and paths of the nets, of some lines.
+#[derive(Drop)]
+pub struct Seen<'a> {
+    ins: HashSet<&'a [u8]>,
+    outs: HashSet<&'a [u8]>,
+    nets: HashSet<(&'a [u8], &'a [u8])>,
+}
+
+impl<'a> Seen<'a> {
+    /// Of no lines.
+    pub fn new(alloc: Global) -> Seen<'a>
+        ensures { HasSeen result [] }
+    {
+        Seen {
+            ins: HashSet::new(alloc),
+            outs: HashSet::new(alloc),
+            nets: HashSet::new(alloc),
+        }
+    }
+
+    /// Adds a line, and answers whether its name was new, and for a net its name and path.
+    pub fn insert(&mut self, form: PortForm<'a>) -> Result<bool, AllocError>
+        ensures added { IfOk result (λ added. (before : List lines.PortForm) → HasSeen self.old before →
+            added ≡ not (list_any (is_same_port (form_of form.entry)) before)) }
+        ensures seen { OnOk result ((before : List lines.PortForm) → HasSeen self.old before →
+            HasSeen self.new (before ++ form_of form.entry ∷ [])) }
+    {
+        let is_new = match form {
+            PortForm::Version { .. } => true,
+            PortForm::In(port) => self.ins.insert(port.name)?,
+            PortForm::Out(port) => self.outs.insert(port.name)?,
+            PortForm::Net(net) => self.nets.insert((net.name, net.path))?,
+        };
+        Ok(is_new)
+    }
+}
