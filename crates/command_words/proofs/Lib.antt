@@ -1,0 +1,3 @@
+pub mod Found
+pub mod Numerals
+pub mod Walks

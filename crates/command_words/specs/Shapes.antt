@@ -1,0 +1,46 @@
+-- Which lists of words are a command, and what they ask for.
+use Rattle.std.specs.Prelude.{◌≡◌, ℕ, Bool, true, List, [], ◌∷◌, map, Option, Some, None, is_some, option_map, option_and_then, unwrap_or, codes, string_bytes, if◌then◌else◌, length}
+use Rattle.std.specs.List.{AllByRecursion, slice_index}
+use Rattle.std.specs.Str.{bytes_eq}
+use Rattle.clap.specs.Walk.{Row, Text, all_of, first_of}
+use Rattle.clap.specs.Simple.{subcommand_of}
+use Rattle.clap.specs.Takes.{takes}
+use Rattle.command_words.specs.App.{blifww_app}
+use Rattle.command_words.specs.Numbers.{number_between}
+use Rattle.command_words.specs.declared.command.Command.{Command}
+use Rattle.command_words.specs.declared.command.Command.TheVariants.{Compile, Simulate}
+
+-- a command with its values: for `simulate` the number of cycles, and its last words
+pub data CommandValues : Type 0 where
+  compile : CommandValues
+  simulate : ℕ → List Text → CommandValues
+
+abbrev pub values_of : Command → CommandValues
+values_of Compile = compile
+values_of (Simulate cycles streams) = simulate cycles (map string_bytes streams)
+
+abbrev pub simulate_values : Option Text → List Text → Option CommandValues
+simulate_values number streams = option_map (λ cycles. simulate cycles streams) (option_and_then (number_between 1 1048576) number)
+
+-- the values of `simulate` by the matches of its option and its words
+abbrev pub simulate_by : List Row → Option CommandValues
+simulate_by rows = simulate_values (first_of (codes "cycles") rows) (unwrap_or (all_of (codes "streams") rows) [])
+
+-- the values that a command of this name has by the matches of its options and words
+abbrev pub values_by_name : Text → List Row → Option CommandValues
+values_by_name name rows =
+    if bytes_eq name (codes "compile") then Some compile
+    else if bytes_eq name (codes "simulate") then simulate_by rows
+    else None
+
+abbrev pub values_met : Option (Text × List Row) → Option CommandValues
+values_met = option_and_then (λ met. values_by_name met.0 met.1)
+
+-- the command that clap's matches for the words name, with its values, where its numbers lie in their ranges
+abbrev pub command_values : List Text → Option CommandValues
+command_values words = values_met (subcommand_of blifww_app words)
+
+-- The words are a command: a parse of them by clap can fail for want of memory alone, and each number is there in its range.
+pub record IsCommand (words : List Text) : Type 0 where
+  pub taken : takes blifww_app words ≡ true
+  pub in_range : is_some (command_values words) ≡ true
