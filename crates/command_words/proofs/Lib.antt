@@ -1,3 +1,5 @@
+pub mod Answered
 pub mod Found
 pub mod Numerals
 pub mod Walks
+pub mod Written

@@ -23,10 +23,10 @@ compile_taken name = refl
 abbrev pub HasNoHyphen : Text → Type 0
 HasNoHyphen word = strip_byte 45 word ≡ None
 
-abbrev shape : Shape
+abbrev pub shape : Shape
 shape = slice_index_or (built blifww_app).subs 1 (new_shape [])
 
-abbrev cycles_row : Text → Row
+abbrev pub cycles_row : Text → Row
 cycles_row n = record {
   id = codes "cycles";
   values = n ∷ [];
@@ -35,7 +35,7 @@ cycles_row n = record {
   reading = AsWritten;
 }
 
-abbrev streams_row : List Text → Row
+abbrev pub streams_row : List Text → Row
 streams_row ws = record {
   id = codes "streams";
   values = ws;
@@ -157,10 +157,6 @@ end_after n (v ∷ vs) short =
     let least : nat_le 0 (length (v ∷ vs)) ≡ true = search rules in
     rw (fits) (rw (texts) (rw (least) refl))
 
-rows_of_after : (n v : Text) (vs : List Text) → finished shape.rules (after n (v ∷ vs)).held ≡ cycles_row n ∷ streams_row (v ∷ vs) ∷ []
-unfolding clap_on_literals
-rows_of_after n v vs = refl
-
 -- ---- the program's own level
 
 abbrev met_simulate : List Text → Walk
@@ -195,3 +191,31 @@ simulate_entered name rest =
     let names = names_of (built blifww_app) in
     let walks : fold (walked (built blifww_app).top.rules names) (met_simulate []) rest ≡ met_simulate rest = passed_on names [] rest in
     ap (λ (w : Walk). entered (built blifww_app) w.stopped) walks
+
+-- ---- the words of `simulate`, whose option comes first and whose last words begin with no hyphen
+
+abbrev pub rows_for : Text → List Text → List Row
+rows_for n [] = cycles_row n ∷ []
+rows_for n (v ∷ vs) = cycles_row n ∷ streams_row (v ∷ vs) ∷ []
+
+finished_after : (n : Text) (vs : List Text) → finished shape.rules (after n vs).held ≡ rows_for n vs
+unfolding clap_on_literals
+finished_after n [] = refl
+finished_after n (v ∷ vs) = refl
+
+module _ (n : Text) (vs : List Text) (number : HasNoHyphen n) (all : AllByRecursion HasNoHyphen vs) where
+  pub words_taken : (name : Text) → length vs ≤ usize_max → takes blifww_app (name ∷ codes "simulate" ∷ codes "--cycles" ∷ n ∷ vs) ≡ true
+  words_taken name short =
+      simulate_takes name (codes "--cycles" ∷ n ∷ vs)
+      ∙ ap₂ (λ (t : Bool) (w : Walk). t && end_passes w) (all_pass n vs number all) (all_walked n vs number all)
+      ∙ end_after n vs short
+
+  pub words_entered : (name : Text) → subcommand_of blifww_app (name ∷ codes "simulate" ∷ codes "--cycles" ∷ n ∷ vs) ≡ Some (codes "simulate", rows_for n vs)
+  words_entered name =
+      simulate_entered name (codes "--cycles" ∷ n ∷ vs)
+      ∙ ap (λ (w : Walk). Some (codes "simulate", finished shape.rules w.held)) (all_walked n vs number all)
+      ∙ ap (λ (rows : List Row). Some (codes "simulate", rows)) (finished_after n vs)
+
+pub compile_entered : (name : Text) → subcommand_of blifww_app (name ∷ codes "compile" ∷ []) ≡ Some (codes "compile", [])
+unfolding clap_on_literals
+compile_entered name = refl

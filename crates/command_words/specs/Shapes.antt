@@ -1,6 +1,6 @@
 -- Which lists of words are a command, and what they ask for.
-use Rattle.std.specs.Prelude.{◌≡◌, ℕ, Bool, true, List, [], ◌∷◌, map, Option, Some, None, is_some, option_map, option_and_then, unwrap_or, codes, string_bytes, if◌then◌else◌, length}
-use Rattle.std.specs.List.{AllByRecursion, slice_index}
+use Rattle.std.specs.Prelude.{◌≡◌, ℕ, Bool, true, List, [], ◌∷◌, map, Option, Some, None, is_some, option_map, option_and_then, unwrap_or, codes, string_bytes, if◌then◌else◌, false, not, ◌==◌}
+use Rattle.std.specs.List.{list_all}
 use Rattle.std.specs.Str.{bytes_eq}
 use Rattle.clap.specs.Walk.{Row, Text, all_of, first_of}
 use Rattle.clap.specs.Simple.{subcommand_of}
@@ -44,3 +44,16 @@ command_values words = values_met (subcommand_of blifww_app words)
 pub record IsCommand (words : List Text) : Type 0 where
   pub taken : takes blifww_app words ≡ true
   pub in_range : is_some (command_values words) ≡ true
+
+-- a word that is neither empty nor begins with a hyphen (45)
+abbrev pub is_plain_word : Text → Bool
+is_plain_word [] = false
+is_plain_word (b ∷ bs) = not (b == 45)
+
+-- The plainest form of a command with these values: the program's name, the command's, its option as two words with the number
+-- in digits and in its range, and then any words that are neither empty nor begin with a hyphen.
+abbrev pub IsWritten : CommandValues → List Text → Type 0
+IsWritten compile words = (program : Text) × (words ≡ program ∷ codes "compile" ∷ [])
+IsWritten (simulate cycles streams) words =
+    (program : Text) × (number : Text) × (words ≡ program ∷ codes "simulate" ∷ codes "--cycles" ∷ number ∷ streams)
+    × (number_between 1 1048576 number ≡ Some cycles) × (list_all is_plain_word streams ≡ true)

@@ -1,9 +1,10 @@
 // The command that words ask for.
-ghost use Rattle.std.specs.Prelude.{◌≡◌, IfOk, IsErrOf, Some, None, map, string_bytes};
+ghost use Rattle.std.specs.Prelude.{◌≡◌, ◌≤◌, IfOk, IsErrOf, MatchResult, Some, None, length, map, string_bytes};
 ghost use Rattle.clap.specs.Simple.{subcommand_rows_of};
+ghost use Rattle.clap.specs.Lexer.{usize_max};
 ghost use Rattle.clap.specs.Walk.{rows_of};
 ghost use Rattle.clap.specs.Words.{found_of};
-ghost use Rattle.command_words.specs.Shapes.{IsCommand, command_values, simulate_by, values_met, values_of};
+ghost use Rattle.command_words.specs.Shapes.{CommandValues, IsCommand, IsWritten, command_values, simulate_by, values_met, values_of};
 
 use crate::WordsError;
 use crate::app::blifww_command;
@@ -57,12 +58,21 @@ fn command_in(alloc: Global, found: &ArgMatches<'_>) -> Result<Command, WordsErr
     }
 }
 
+// Does nothing: its clause says that a slice has no more items than the machine can count.
+fn length_fits(words: &[String])
+    ensures { length words.now ≤ usize_max }
+{
+    words.len();
+}
+
 /// The command that the words of a command line ask for; the first word is the program's name. `Usage` comes only where
 /// the words are no command, `NoMemory` for want of memory, and nothing is printed.
 pub fn command_of(alloc: Global, words: &[String]) -> Result<Command, WordsError>
     ensures ok { IfOk result (λ c. command_values (map string_bytes words.now) ≡ Some (values_of c)) }
     ensures usage { IsErrOf result WordsError.Usage → IsCommand (map string_bytes words.now) → ⊥ }
+    ensures written { (v : CommandValues) → IsWritten v (map string_bytes words.now) → MatchResult result (λ c. values_of c ≡ v) (λ e. e ≡ WordsError.NoMemory) }
 {
+    length_fits(words);
     let found = blifww_command(alloc)?.try_get_matches_from(words)?;
     command_in(alloc, &found)
 }
