@@ -1,6 +1,6 @@
 -- A command in its plainest form is a command, with the values that it is written with.
-use Rattle.std.proofs.Common.{◌≡◌, ◌∙◌, ◌≤◌, ◌<◌, ◌+◌, ℕ, Bool, List, [], ◌∷◌, ◌==◌, ◌&&◌, length, refl, codes, true, false, not, Some, None, Option, rules, ap, sym, true≢false, arith, suc, option_map, option_and_then, is_some, nat_le}
-use Rattle.std.specs.Prelude.{if◌then◌else◌}
+use Rattle.std.proofs.Common.{◌≡◌, ◌∙◌, ◌≤◌, ◌<◌, ◌+◌, ℕ, Bool, List, [], ◌∷◌, ◌==◌, ◌&&◌, length, refl, codes, true, false, not, Some, None, Option, rules, ap, sym, true≢false, arith, suc, option_map, option_and_then, is_some, nat_le, subst}
+use Rattle.std.specs.Prelude.{IfSome, if◌then◌else◌}
 use Rattle.std.specs.List.{list_all, AllByRecursion}
 use Rattle.std.specs.Char.{is_ascii_digit}
 use Rattle.std.specs.Str.Parse.{digits_value}
@@ -8,10 +8,10 @@ use Rattle.std.proofs.lemmas.Bool.{and_parts, leb-true}
 use Rattle.clap.specs.Lexer.{strip_byte, usize_max}
 use Rattle.clap.specs.Simple.{subcommand_of}
 use Rattle.clap.specs.Takes.{takes}
-use Rattle.clap.specs.Walk.{Row, Text}
+use Rattle.clap.specs.Walk.{Row, Text, first_of}
 use Rattle.command_words.specs.App.{blifww_app}
 use Rattle.command_words.specs.Numbers.{are_digits, number_between}
-use Rattle.command_words.specs.Shapes.{CommandValues, compile, simulate, simulate_by, simulate_values, values_met, command_values, is_plain_word, IsCommand, IsWritten}
+use Rattle.command_words.specs.Shapes.{CommandValues, compile, simulate, simulate_by, simulate_values, values_met, command_values, cycles_of, is_plain_word, IsCommand, IsWritten}
 use Rattle.command_words.proofs.Walks.{HasNoHyphen, compile_entered, compile_taken, rows_for, words_entered, words_taken}
 
 not_hyphen : (b : ℕ) (bs : Text) → (b == 45) ≡ false → HasNoHyphen (b ∷ bs)
@@ -63,9 +63,26 @@ written_taken (simulate cycles streams) words short w =
     ap (takes blifww_app) w.2
     ∙ words_taken number streams (number_plain 1 1048576 number cycles w.3) (plain_words streams w.4) w.0 (omega (arith, long, short))
 
+abbrev IsInRange : Option Text → Type 0
+IsInRange o = IfSome o (λ number. is_some (number_between 1 1048576 number) ≡ true)
+
+written_in_range : (v : CommandValues) (words : List Text) → IsWritten v words → IsInRange (cycles_of words)
+written_in_range compile words w =
+    let none : cycles_of words ≡ None = ap cycles_of w.1 ∙ ap (option_and_then (λ (m : Text × List Row). first_of (codes "cycles") m.1)) (compile_entered w.0) in
+    subst IsInRange (sym none) tt
+written_in_range (simulate cycles streams) words w =
+    let number = w.1 in
+    let met = words_entered number streams (number_plain 1 1048576 number cycles w.3) (plain_words streams w.4) w.0 in
+    let some : cycles_of words ≡ Some number = ap cycles_of w.2 ∙ ap (option_and_then (λ (m : Text × List Row). first_of (codes "cycles") m.1)) met ∙ first_number number streams in
+    subst IsInRange (sym some) (ap (λ (o : Option ℕ). is_some o) w.3)
+  where
+    first_number : (n : Text) (vs : List Text) → first_of (codes "cycles") (rows_for n vs) ≡ Some n
+    first_number n [] = refl
+    first_number n (v ∷ vs) = refl
+
 -- each list of words in the plainest form of a command is a command
 pub written_is_command : (v : CommandValues) (words : List Text) → length words ≤ usize_max → IsWritten v words → IsCommand words
 written_is_command v words short w = record {
   taken = written_taken v words short w;
-  in_range = ap (λ (o : Option CommandValues). is_some o) (written_values v words w);
+  in_range = written_in_range v words w;
 }

@@ -21,12 +21,14 @@ simulate_app = with_rule (with_rule (new_app (codes "simulate")) cycles_option) 
 
 -- the program, which has neither a help nor a version of clap's own
 abbrev pub bare_app : App
-bare_app = let a = new_app (codes "blifww") in record a { top = record a.top {
-  subcommand_required = true;
-  disable_help_flag = true;
-  disable_help_subcommand = true;
-  disable_version_flag = true;
-} }
+bare_app = let a = new_app (codes "blifww") in record a {
+  top = record a.top {
+    subcommand_required = true;
+    disable_help_flag = true;
+    disable_help_subcommand = true;
+    disable_version_flag = true;
+  };
+}
 
 abbrev pub blifww_app : App
 blifww_app = with_subcommand (with_subcommand bare_app compile_app.top) simulate_app.top

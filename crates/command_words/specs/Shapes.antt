@@ -1,5 +1,5 @@
 -- Which lists of words are a command, and what they ask for.
-use Rattle.std.specs.Prelude.{◌≡◌, ℕ, Bool, true, List, [], ◌∷◌, map, Option, Some, None, is_some, option_map, option_and_then, unwrap_or, codes, string_bytes, if◌then◌else◌, false, not, ◌==◌}
+use Rattle.std.specs.Prelude.{◌≡◌, ℕ, Bool, true, List, [], ◌∷◌, map, Option, Some, None, IfSome, is_some, option_map, option_and_then, unwrap_or, codes, string_bytes, if◌then◌else◌, false, not, ◌==◌}
 use Rattle.std.specs.List.{list_all}
 use Rattle.std.specs.Str.{bytes_eq}
 use Rattle.clap.specs.Walk.{Row, Text, all_of, first_of}
@@ -40,10 +40,14 @@ values_met = option_and_then (λ met. values_by_name met.0 met.1)
 abbrev pub command_values : List Text → Option CommandValues
 command_values words = values_met (subcommand_of blifww_app words)
 
--- The words are a command: a parse of them by clap can fail for want of memory alone, and each number is there in its range.
+-- the number of cycles that clap's matches for the words give, as it is written
+abbrev pub cycles_of : List Text → Option Text
+cycles_of words = option_and_then (λ met. first_of (codes "cycles") met.1) (subcommand_of blifww_app words)
+
+-- The words are a command: a parse of them by clap can fail for want of memory alone, and each number lies in its range.
 pub record IsCommand (words : List Text) : Type 0 where
   pub taken : takes blifww_app words ≡ true
-  pub in_range : is_some (command_values words) ≡ true
+  pub in_range : IfSome (cycles_of words) (λ number. is_some (number_between 1 1048576 number) ≡ true)
 
 -- a word that is neither empty nor begins with a hyphen (45)
 abbrev pub is_plain_word : Text → Bool

@@ -18,7 +18,10 @@ use std::alloc::{AllocError, Global};
 pub enum Command {
     Compile,
     /// How many cycles, and the words that give the streams.
-    Simulate { cycles: usize, streams: List<String> },
+    Simulate {
+        cycles: usize,
+        streams: List<String>,
+    },
 }
 
 // The texts, each in a String of its own.

@@ -1,8 +1,8 @@
 // Why words are refused.
 ghost use Rattle.std.specs.Prelude.{◌≡◌};
 
-use clap::error::ErrorKind;
 use clap::Error;
+use clap::error::ErrorKind;
 use std::alloc::AllocError;
 
 /// Why the words of a command line give no command.
