@@ -1,23 +1,22 @@
 -- What clap has found, as the rows of its matches.
-use Rattle.std.proofs.Common.{ℕ, ◌≡◌, refl, sym, ap, ap₂, ◌∙◌, List, [], ◌∷◌, Some, None, Option, codes, map, option_map, option_and_then, unwrap_or, Bor}
+use Rattle.std.proofs.Common.{ℕ, ◌≡◌, refl, sym, ap, ap₂, ◌∙◌, List, [], Some, None, Option, codes, map, option_map, unwrap_or, Bor}
 use Rattle.clap.specs.Matches.{first_value, matched_of, raw_values}
-use Rattle.clap.specs.Walk.{Row, Text, all_of, first_of, rows_of}
+use Rattle.clap.specs.Walk.{Text, all_of, rows_of}
 use Rattle.clap.specs.declared.parser.matches.Found.{Found}
 use Rattle.clap.proofs.WalkLemmas.{first_value-rows, raw_values-rows}
-use Rattle.command_words.specs.Numbers.{number_between}
-use Rattle.command_words.specs.Shapes.{CommandValues, simulate, simulate_by, simulate_values}
+use Rattle.command_words.specs.Shapes.{cycle_count, simulate, simulate_by, simulate_values}
 
 pub no_number : (f : Found) → first_value f (codes "cycles") ≡ None → simulate_by (rows_of f) ≡ None
 no_number f e =
     ap (λ (o : Option Text). simulate_values o (unwrap_or (all_of (codes "streams") (rows_of f)) [])) (sym (first_value-rows f (codes "cycles")) ∙ e)
 
-pub out_of_range : (f : Found) (text : Text) → first_value f (codes "cycles") ≡ Some text → number_between 1 1048576 text ≡ None → simulate_by (rows_of f) ≡ None
+pub out_of_range : (f : Found) (text : Text) → first_value f (codes "cycles") ≡ Some text → cycle_count text ≡ None → simulate_by (rows_of f) ≡ None
 out_of_range f text e none =
     let ws = unwrap_or (all_of (codes "streams") (rows_of f)) [] in
     ap (λ (o : Option Text). simulate_values o ws) (sym (first_value-rows f (codes "cycles")) ∙ e)
     ∙ ap (λ (o : Option ℕ). option_map (λ n. simulate n ws) o) none
 
-pub simulate_found : (f : Found) (text : Text) (n : ℕ) (ws : List Text) → first_value f (codes "cycles") ≡ Some text → number_between 1 1048576 text ≡ Some n
+pub simulate_found : (f : Found) (text : Text) (n : ℕ) (ws : List Text) → first_value f (codes "cycles") ≡ Some text → cycle_count text ≡ Some n
     → ws ≡ unwrap_or (all_of (codes "streams") (rows_of f)) [] → simulate_by (rows_of f) ≡ Some (simulate n ws)
 simulate_found f text n ws e some same =
     ap₂ (λ (o : Option Text) (vs : List Text). simulate_values o vs) (sym (first_value-rows f (codes "cycles")) ∙ e) (sym same)

@@ -1,14 +1,14 @@
 -- Where clap takes the words of `simulate`, the number of cycles has a value.
-use Rattle.std.proofs.Common.{◌≡◌, ◌∙◌, ◌≤◌, ◌<◌, ◌+◌, ◌⊎◌, inl, inr, ℕ, zero, suc, Bool, List, [], ◌∷◌, ◌++◌, ◌==◌, ◌&&◌, ◌||◌, length, refl, codes, true, false, not, Some, None, Option, rules, ap, ap₂, sym, subst, true≢false, arith, option_map, option_and_then, is_some, nat_le}
+use Rattle.std.proofs.Common.{◌≡◌, ◌∙◌, ◌<◌, ◌⊎◌, inl, inr, ℕ, zero, suc, Bool, List, [], ◌∷◌, ◌++◌, ◌&&◌, ◌||◌, length, refl, codes, true, false, not, Some, None, Option, ap, sym, subst, true≢false, arith, option_and_then, is_some}
 use Rattle.std.specs.Prelude.{⊤, if◌then◌else◌, find, fold, slice_get}
-use Rattle.std.specs.List.{AllByRecursion, list_all, slice_index_or}
+use Rattle.std.specs.List.{AllByRecursion, slice_index_or}
 use Rattle.std.specs.Option.{option_map_or}
 use Rattle.std.specs.Str.{bytes_eq, chars}
 use Rattle.std.proofs.lemmas.Bool.{and_parts}
 use Rattle.clap.specs.Facts.{explicit_source}
 use Rattle.clap.specs.Lexer.{long_of, short_of}
 use Rattle.clap.specs.Takes.{use_passes, settle_passes, react_passes, option_passes, long_passes, flag_word_passes, other_passes, word_passes, positional_passes, step_passes, turn_passes, walk_passes, level_passes, is_given}
-use Rattle.clap.specs.Walk.{Held, Outcome, Row, Rule, Step, Text, Waiting, Walk, done, waits, plain, refused, idle, option, positional, next, trailing, subcommand, value, at_row, more_values, with_values, without, used, used_by_id, settled, settled_rows, reacted, pushed, option_met, flag_met, long_met, bundle, bundle_met, bundle_step, option_word, plain_word, after_flag, long_word, short_word, short_or_plain, long_or_other, subcommand_met, subcommand_or_other, word_met, positional_held, to_positional, after_step, walked_from, walked, walk, walk_from, arg_by_id, arg_by_long, arg_by_index, first_of, finished, rows_after, nothing_held, has_row, with_default, takes_values, takes_several, is_pending, has_long}
+use Rattle.clap.specs.Walk.{Held, Outcome, Row, Rule, Step, Text, Waiting, Walk, done, waits, plain, refused, idle, option, positional, next, trailing, subcommand, value, at_row, more_values, without, used, used_by_id, settled, settled_rows, reacted, pushed, option_met, flag_met, long_met, bundle, bundle_met, bundle_step, option_word, plain_word, after_flag, short_or_plain, long_or_other, subcommand_met, subcommand_or_other, word_met, positional_held, to_positional, after_step, walked_from, walked, walk, walk_from, arg_by_id, arg_by_long, arg_by_index, first_of, finished, rows_after, nothing_held, has_row, with_default, takes_values, takes_several, is_pending, has_long}
 use Rattle.clap.specs.Simple.{new_rule}
 use Rattle.clap.specs.declared.parser.matches.ValueSource.TheVariants.{CommandLine}
 use Rattle.command_words.proofs.Walks.{shape}

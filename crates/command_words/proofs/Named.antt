@@ -1,15 +1,14 @@
 -- Where clap takes the words, they name a command, and a command has values.
-use Rattle.std.proofs.Common.{◌≡◌, ◌∙◌, ◌⊎◌, inl, inr, ⊎_elim, ℕ, Bool, List, [], ◌∷◌, ◌&&◌, refl, codes, true, false, Some, None, Option, ap, sym, subst, true≢false, option_map, option_and_then, is_some, unwrap_or}
-use Rattle.std.specs.Prelude.{if◌then◌else◌, find, IfSome, drop}
-use Rattle.std.specs.List.{list_all, slice_index_or}
+use Rattle.std.proofs.Common.{◌≡◌, ◌∙◌, ◌⊎◌, inl, inr, ℕ, Bool, List, [], refl, codes, true, false, Some, None, Option, ap, sym, subst, true≢false, option_map, option_and_then, is_some, unwrap_or}
+use Rattle.std.specs.Prelude.{if◌then◌else◌, IfSome, drop}
+use Rattle.std.specs.List.{slice_index_or}
 use Rattle.std.specs.Option.{option_map_or}
 use Rattle.std.proofs.lemmas.Bool.{and_parts}
 use Rattle.clap.specs.Simple.{Shape, built, entered, label_of, names_of, new_shape, subcommand_of, is_simple}
-use Rattle.clap.specs.Takes.{default_passes, entered_passes, level_passes, settle_passes, takes, walk_passes, built_takes}
-use Rattle.clap.specs.Walk.{Row, Text, all_of, answers_to, first_of, nothing_held, rows_after, stop_after, walk, walk_from}
+use Rattle.clap.specs.Takes.{entered_passes, level_passes, settle_passes, takes, walk_passes}
+use Rattle.clap.specs.Walk.{Row, Text, all_of, answers_to, first_of, nothing_held, rows_after, walk, walk_from}
 use Rattle.command_words.specs.App.{blifww_app}
-use Rattle.command_words.specs.Numbers.{number_between}
-use Rattle.command_words.specs.Shapes.{CommandValues, IsCommand, command_values, cycles_of, simulate, simulate_values, values_met}
+use Rattle.command_words.specs.Shapes.{CommandValues, IsCommand, command_values, cycle_count, simulate, simulate_values, values_met}
 use Rattle.command_words.proofs.Given.{cycles_given}
 use Rattle.command_words.proofs.Walks.{shape}
 
@@ -49,19 +48,19 @@ taken_named words e =
     let valid = (and_parts (settle_passes top.rules top.args_override_self end.held) _ after).1 in
     entered_named end.stopped parts.0 (and_parts (is_some (entered (built blifww_app) end.stopped)) _ valid).0
 
-number_valued : (o : Option Text) (ws : List Text) → is_some o ≡ true → IfSome o (λ number. is_some (number_between 1 1048576 number) ≡ true) → is_some (simulate_values o ws) ≡ true
+number_valued : (o : Option Text) (ws : List Text) → is_some o ≡ true → IfSome o (λ number. is_some (cycle_count number) ≡ true) → is_some (simulate_values o ws) ≡ true
 number_valued None ws e within = absurd (true≢false (sym e))
-number_valued (Some text) ws e within = go (number_between 1 1048576 text) within
+number_valued (Some text) ws e within = go (cycle_count text) within
   where
     go : (o : Option ℕ) → is_some o ≡ true → is_some (option_map (λ n. simulate n ws) o) ≡ true
     go None e = absurd (true≢false (sym e))
     go (Some n) e = refl
 
-met_valued : (met : Option (Text × List Row)) → IsNamed met → IfSome (option_and_then (λ (m : Text × List Row). first_of (codes "cycles") m.1) met) (λ number. is_some (number_between 1 1048576 number) ≡ true) → is_some (values_met met) ≡ true
+met_valued : (met : Option (Text × List Row)) → IsNamed met → IfSome (option_and_then (λ (m : Text × List Row). first_of (codes "cycles") m.1) met) (λ number. is_some (cycle_count number) ≡ true) → is_some (values_met met) ≡ true
 met_valued met (inl named) within = ap (λ (o : Option (Text × List Row)). is_some (values_met o)) named.1
 met_valued met (inr named) within =
     let rows = rows_after shape.rules [] named.0 in
-    let range = subst (λ (o : Option (Text × List Row)). IfSome (option_and_then (λ (m : Text × List Row). first_of (codes "cycles") m.1) o) (λ number. is_some (number_between 1 1048576 number) ≡ true)) named.1 within in
+    let range = subst (λ (o : Option (Text × List Row)). IfSome (option_and_then (λ (m : Text × List Row). first_of (codes "cycles") m.1) o) (λ number. is_some (cycle_count number) ≡ true)) named.1 within in
     ap (λ (o : Option (Text × List Row)). is_some (values_met o)) named.1
     ∙ number_valued (first_of (codes "cycles") rows) (unwrap_or (all_of (codes "streams") rows) []) (cycles_given named.0 named.2) range
 

@@ -1,13 +1,13 @@
 -- The number between two bounds is what `parse` reads.
-use Rattle.std.proofs.Common.{ℕ, ◌^◌, ◌<◌, ◌≤◌, ◌≡◌, refl, sym, ap, ◌∙◌, Bool, true, false, true≢false, ◌&&◌, List, [], ◌∷◌, length, Some, None, Ok, Err, Result, arith, rules}
-use Rattle.std.specs.Prelude.{if◌then◌else◌, nat_le}
+use Rattle.std.proofs.Common.{ℕ, ◌^◌, ◌<◌, ◌≤◌, ◌≡◌, refl, Bool, true, false, ◌&&◌, List, [], ◌∷◌, None, Ok, Err, Result, arith, rules}
+use Rattle.std.specs.Prelude.{nat_le}
 use Rattle.std.specs.List.{list_all}
 use Rattle.std.specs.Char.{is_ascii_digit}
-use Rattle.std.specs.Result.{OkIff, result_ok}
+use Rattle.std.specs.Result.{result_ok}
 use Rattle.std.specs.Str.Parse.{digits_value, ParsesUnsigned}
 use Rattle.std.proofs.lemmas.Str.Parse.{IsNumeralModel, numerals_by_value, parse_digits}
 use Rattle.std.proofs.lemmas.Bool.{leb-false, leb-true, lt-leb}
-use Rattle.command_words.specs.Numbers.{are_digits, number_between}
+use Rattle.command_words.specs.Numbers.{number_between}
 
 abbrev HasDigits : List ℕ → Type 0
 HasDigits bs = list_all is_ascii_digit bs ≡ true

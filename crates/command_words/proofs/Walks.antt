@@ -1,5 +1,5 @@
 -- The walk of clap over a list of words of any length.
-use Rattle.std.proofs.Common.{◌≡◌, ◌∙◌, ◌≤◌, ◌<◌, ◌+◌, ℕ, Bool, List, [], ◌∷◌, ◌++◌, ◌==◌, ◌&&◌, length, refl, codes, true, false, Some, None, Option, rules, ap, ap₂, sym, true≢false, arith, suc, nat_le}
+use Rattle.std.proofs.Common.{◌≡◌, ◌∙◌, ◌≤◌, ℕ, Bool, List, [], ◌∷◌, ◌++◌, ◌==◌, ◌&&◌, length, refl, codes, true, false, Some, None, rules, ap, ap₂, nat_le}
 use Rattle.std.specs.Prelude.{fold, if◌then◌else◌}
 use Rattle.std.specs.List.{slice_index_or, list_all, AllByRecursion}
 use Rattle.std.proofs.lemmas.List.{append_assoc}
@@ -7,7 +7,6 @@ use Rattle.clap.specs.Lexer.{strip_byte, usize_max}
 use Rattle.clap.specs.Takes.{takes, walk_passes, turn_passes, level_passes, values_pass, value_passes, settle_passes, default_passes, is_valid}
 use Rattle.clap.specs.Simple.{Shape, built, is_simple, names_of, new_shape, new_rule, subcommand_of, entered}
 use Rattle.clap.specs.Walk.{Names, Row, Rule, Text, Walk, walked, walk, walk_from, nothing_held, positional, idle, rows_after, finished}
-use Rattle.clap.specs.declared.builder.action.ArgAction.{ArgAction}
 use Rattle.clap.specs.declared.parser.matches.ValueSource.TheVariants.{CommandLine}
 use Rattle.clap.specs.declared.builder.value_parser.Reading.TheVariants.{AsWritten}
 use Rattle.clap.proofs.OnLiterals.{clap_on_literals}

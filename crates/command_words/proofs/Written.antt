@@ -1,17 +1,15 @@
 -- A command in its plainest form is a command, with the values that it is written with.
-use Rattle.std.proofs.Common.{◌≡◌, ◌∙◌, ◌≤◌, ◌<◌, ◌+◌, ℕ, Bool, List, [], ◌∷◌, ◌==◌, ◌&&◌, length, refl, codes, true, false, not, Some, None, Option, rules, ap, sym, true≢false, arith, suc, option_map, option_and_then, is_some, nat_le, subst}
+use Rattle.std.proofs.Common.{◌≡◌, ◌∙◌, ◌≤◌, ℕ, Bool, List, [], ◌∷◌, ◌==◌, length, refl, codes, true, false, not, Some, None, Option, rules, ap, sym, true≢false, arith, suc, option_map, option_and_then, is_some, subst}
 use Rattle.std.specs.Prelude.{IfSome, if◌then◌else◌}
 use Rattle.std.specs.List.{list_all, AllByRecursion}
-use Rattle.std.specs.Char.{is_ascii_digit}
 use Rattle.std.specs.Str.Parse.{digits_value}
 use Rattle.std.proofs.lemmas.Bool.{and_parts, leb-true}
-use Rattle.clap.specs.Lexer.{strip_byte, usize_max}
-use Rattle.clap.specs.Simple.{subcommand_of}
+use Rattle.clap.specs.Lexer.{usize_max}
 use Rattle.clap.specs.Takes.{takes}
 use Rattle.clap.specs.Walk.{Row, Text, first_of}
 use Rattle.command_words.specs.App.{blifww_app}
 use Rattle.command_words.specs.Numbers.{are_digits, number_between}
-use Rattle.command_words.specs.Shapes.{CommandValues, compile, simulate, simulate_by, simulate_values, values_met, command_values, cycles_of, is_plain_word, IsCommand, IsWritten}
+use Rattle.command_words.specs.Shapes.{CommandValues, compile, simulate, simulate_by, values_met, command_values, cycle_count, cycles_of, is_plain_word, IsCommand, IsWritten}
 use Rattle.command_words.proofs.Walks.{HasNoHyphen, compile_entered, compile_taken, rows_for, words_entered, words_taken}
 
 not_hyphen : (b : ℕ) (bs : Text) → (b == 45) ≡ false → HasNoHyphen (b ∷ bs)
@@ -43,7 +41,7 @@ if_taken false x y e = cc
 number_plain : (least most : ℕ) (text : Text) (n : ℕ) → number_between least most text ≡ Some n → HasNoHyphen text
 number_plain least most text n e = digits_plain text (and_parts (are_digits text) _ (if_taken _ (digits_value 10 text) n e)).0
 
-values_of_rows : (number : Text) (cycles : ℕ) (streams : List Text) → number_between 1 1048576 number ≡ Some cycles → simulate_by (rows_for number streams) ≡ Some (simulate cycles streams)
+values_of_rows : (number : Text) (cycles : ℕ) (streams : List Text) → cycle_count number ≡ Some cycles → simulate_by (rows_for number streams) ≡ Some (simulate cycles streams)
 values_of_rows number cycles [] e = ap (option_map (λ n. simulate n [])) e
 values_of_rows number cycles (v ∷ vs) e = ap (option_map (λ n. simulate n (v ∷ vs))) e
 
@@ -64,7 +62,7 @@ written_taken (simulate cycles streams) words short w =
     ∙ words_taken number streams (number_plain 1 1048576 number cycles w.3) (plain_words streams w.4) w.0 (omega (arith, long, short))
 
 abbrev IsInRange : Option Text → Type 0
-IsInRange o = IfSome o (λ number. is_some (number_between 1 1048576 number) ≡ true)
+IsInRange o = IfSome o (λ number. is_some (cycle_count number) ≡ true)
 
 written_in_range : (v : CommandValues) (words : List Text) → IsWritten v words → IsInRange (cycles_of words)
 written_in_range compile words w =

@@ -1,5 +1,4 @@
 -- Why words are refused, by what clap says of them.
-use Rattle.std.specs.Prelude.{Bool}
 use Rattle.clap.specs.Values.{kind_of}
 use Rattle.clap.specs.declared.error.Error.{Error}
 use Rattle.clap.specs.declared.error.kind.ErrorKind.{ErrorKind}

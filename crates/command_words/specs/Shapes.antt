@@ -19,8 +19,12 @@ abbrev pub values_of : Command → CommandValues
 values_of Compile = compile
 values_of (Simulate cycles streams) = simulate cycles (map string_bytes streams)
 
+-- the number of cycles that a text writes, from 1 to 1,048,576
+abbrev pub cycle_count : Text → Option ℕ
+cycle_count = number_between 1 1048576
+
 abbrev pub simulate_values : Option Text → List Text → Option CommandValues
-simulate_values number streams = option_map (λ cycles. simulate cycles streams) (option_and_then (number_between 1 1048576) number)
+simulate_values number streams = option_map (λ cycles. simulate cycles streams) (option_and_then (cycle_count) number)
 
 -- the values of `simulate` by the matches of its option and its words
 abbrev pub simulate_by : List Row → Option CommandValues
@@ -47,7 +51,7 @@ cycles_of words = option_and_then (λ met. first_of (codes "cycles") met.1) (sub
 -- The words are a command: a parse of them by clap can fail for want of memory alone, and each number lies in its range.
 pub record IsCommand (words : List Text) : Type 0 where
   pub taken : takes blifww_app words ≡ true
-  pub in_range : IfSome (cycles_of words) (λ number. is_some (number_between 1 1048576 number) ≡ true)
+  pub in_range : IfSome (cycles_of words) (λ number. is_some (cycle_count number) ≡ true)
 
 -- a word that is neither empty nor begins with a hyphen (45)
 abbrev pub is_plain_word : Text → Bool
@@ -60,4 +64,4 @@ abbrev pub IsWritten : CommandValues → List Text → Type 0
 IsWritten compile words = (program : Text) × (words ≡ program ∷ codes "compile" ∷ [])
 IsWritten (simulate cycles streams) words =
     (program : Text) × (number : Text) × (words ≡ program ∷ codes "simulate" ∷ codes "--cycles" ∷ number ∷ streams)
-    × (number_between 1 1048576 number ≡ Some cycles) × (list_all is_plain_word streams ≡ true)
+    × (cycle_count number ≡ Some cycles) × (list_all is_plain_word streams ≡ true)

@@ -13,6 +13,9 @@ use clap::ArgMatches;
 use lists::List;
 use std::alloc::{AllocError, Global};
 
+// The most cycles that a command may ask for.
+const MOST_CYCLES: u64 = 1_048_576;
+
 /// A command with its values.
 #[derive(Drop)]
 pub enum Command {
@@ -41,7 +44,7 @@ fn simulate_in(alloc: Global, found: &ArgMatches<'_>) -> Result<Command, WordsEr
     ensures usage { IsErrOf result WordsError.Usage → simulate_by (rows_of (found_of found.now)) ≡ None }
 {
     let number = found.get_str("cycles").ok_or(WordsError::Usage)?;
-    let cycles = number_between(number, 1, 1_048_576).ok_or(WordsError::Usage)?;
+    let cycles = number_between(number, 1, MOST_CYCLES).ok_or(WordsError::Usage)?;
     let streams = owned(alloc, found.get_strs("streams").unwrap_or(&[]))?;
     Ok(Command::Simulate {
         cycles: cycles as usize,
@@ -68,8 +71,9 @@ fn length_fits(words: &[String])
     words.len();
 }
 
-/// The command that the words of a command line ask for; the first word is the program's name. `Usage` comes only where
-/// the words are no command, `NoMemory` for want of memory, and nothing is printed.
+/// The command that the words of a command line ask for. The first word is the program's name, and after it stands `compile`,
+/// or `simulate --cycles N` with any words, of which N is in decimal digits, with or without leading zeros, from 1 to 1,048,576.
+/// `Usage` comes only where the words are no command, and each other answer but `NoMemory` only where they have its values.
 pub fn command_of(alloc: Global, words: &[String]) -> Result<Command, WordsError>
     ensures ok { IfOk result (λ c. command_values (map string_bytes words.now) ≡ Some (values_of c)) }
     ensures usage { IsErrOf result WordsError.Usage → IsCommand (map string_bytes words.now) → ⊥ }
