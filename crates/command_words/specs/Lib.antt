@@ -1,0 +1,4 @@
+pub mod App
+pub mod Errors
+pub mod Numbers
+pub mod Shapes

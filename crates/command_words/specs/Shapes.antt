@@ -1,0 +1,67 @@
+-- Which lists of words are a command, and what they ask for.
+use Rattle.std.specs.Prelude.{◌≡◌, ℕ, Bool, true, List, [], ◌∷◌, map, Option, Some, None, IfSome, is_some, option_map, option_and_then, unwrap_or, codes, string_bytes, if◌then◌else◌, false, not, ◌==◌}
+use Rattle.std.specs.List.{list_all}
+use Rattle.std.specs.Str.{bytes_eq}
+use Rattle.clap.specs.Walk.{Row, Text, all_of, first_of}
+use Rattle.clap.specs.Simple.{subcommand_of}
+use Rattle.clap.specs.Takes.{takes}
+use Rattle.command_words.specs.App.{blifww_app}
+use Rattle.command_words.specs.Numbers.{number_between}
+use Rattle.command_words.specs.declared.command.Command.{Command}
+use Rattle.command_words.specs.declared.command.Command.TheVariants.{Compile, Simulate}
+
+-- a command with its values: for `simulate` the number of cycles, and its last words
+pub data CommandValues : Type 0 where
+  compile : CommandValues
+  simulate : ℕ → List Text → CommandValues
+
+abbrev pub values_of : Command → CommandValues
+values_of Compile = compile
+values_of (Simulate cycles streams) = simulate cycles (map string_bytes streams)
+
+-- the number of cycles that a text writes, from 1 to 1,048,576
+abbrev pub cycle_count : Text → Option ℕ
+cycle_count = number_between 1 1048576
+
+abbrev pub simulate_values : Option Text → List Text → Option CommandValues
+simulate_values number streams = option_map (λ cycles. simulate cycles streams) (option_and_then (cycle_count) number)
+
+-- the values of `simulate` by the matches of its option and its words
+abbrev pub simulate_by : List Row → Option CommandValues
+simulate_by rows = simulate_values (first_of (codes "cycles") rows) (unwrap_or (all_of (codes "streams") rows) [])
+
+-- the values that a command of this name has by the matches of its options and words
+abbrev pub values_by_name : Text → List Row → Option CommandValues
+values_by_name name rows =
+    if bytes_eq name (codes "compile") then Some compile
+    else if bytes_eq name (codes "simulate") then simulate_by rows
+    else None
+
+abbrev pub values_met : Option (Text × List Row) → Option CommandValues
+values_met = option_and_then (λ met. values_by_name met.0 met.1)
+
+-- the command that clap's matches for the words name, with its values, where its numbers lie in their ranges
+abbrev pub command_values : List Text → Option CommandValues
+command_values words = values_met (subcommand_of blifww_app words)
+
+-- the number of cycles that clap's matches for the words give, as it is written
+abbrev pub cycles_of : List Text → Option Text
+cycles_of words = option_and_then (λ met. first_of (codes "cycles") met.1) (subcommand_of blifww_app words)
+
+-- The words are a command: a parse of them by clap can fail for want of memory alone, and each number lies in its range.
+pub record IsCommand (words : List Text) : Type 0 where
+  pub taken : takes blifww_app words ≡ true
+  pub in_range : IfSome (cycles_of words) (λ number. is_some (cycle_count number) ≡ true)
+
+-- a word that is neither empty nor begins with a hyphen (45)
+abbrev pub is_plain_word : Text → Bool
+is_plain_word [] = false
+is_plain_word (b ∷ bs) = not (b == 45)
+
+-- The plainest form of a command with these values: the program's name, the command's, its option as two words with the number
+-- in digits and in its range, and then any words that are neither empty nor begin with a hyphen.
+abbrev pub IsWritten : CommandValues → List Text → Type 0
+IsWritten compile words = (program : Text) × (words ≡ program ∷ codes "compile" ∷ [])
+IsWritten (simulate cycles streams) words =
+    (program : Text) × (number : Text) × (words ≡ program ∷ codes "simulate" ∷ codes "--cycles" ∷ number ∷ streams)
+    × (cycle_count number ≡ Some cycles) × (list_all is_plain_word streams ≡ true)

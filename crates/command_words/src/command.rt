@@ -1,0 +1,85 @@
+// The command that words ask for.
+ghost use Rattle.std.specs.Prelude.{◌≡◌, ◌≤◌, IfOk, IsErrOf, MatchResult, Some, None, length, map, string_bytes};
+ghost use Rattle.clap.specs.Simple.{subcommand_rows_of};
+ghost use Rattle.clap.specs.Lexer.{usize_max};
+ghost use Rattle.clap.specs.Walk.{rows_of};
+ghost use Rattle.clap.specs.Words.{found_of};
+ghost use Rattle.command_words.specs.Shapes.{CommandValues, IsCommand, IsWritten, command_values, simulate_by, values_met, values_of};
+
+use crate::WordsError;
+use crate::app::blifww_command;
+use crate::numbers::number_between;
+use clap::ArgMatches;
+use lists::List;
+use std::alloc::{AllocError, Global};
+
+// The most cycles that a command may ask for.
+const MOST_CYCLES: u64 = 1_048_576;
+
+/// A command with its values.
+#[derive(Drop)]
+pub enum Command {
+    Compile,
+    /// How many cycles, and the words that give the streams.
+    Simulate {
+        cycles: usize,
+        streams: List<String>,
+    },
+}
+
+// The texts, each in a String of its own.
+fn owned(alloc: Global, texts: &[&str]) -> Result<List<String>, AllocError>
+    ensures { IfOk result (λ words. map string_bytes words ≡ map (λ t. t.now) texts.now) }
+{
+    let mut words = Vec::new(alloc);
+    'texts: for text in texts {
+        words.push(String::from_str(alloc, text)?)?;
+    }
+    Ok(List::of(words))
+}
+
+// `simulate` with the values that clap has found for it.
+fn simulate_in(alloc: Global, found: &ArgMatches<'_>) -> Result<Command, WordsError>
+    ensures ok { IfOk result (λ c. simulate_by (rows_of (found_of found.now)) ≡ Some (values_of c)) }
+    ensures usage { IsErrOf result WordsError.Usage → simulate_by (rows_of (found_of found.now)) ≡ None }
+{
+    let number = found.get_str("cycles").ok_or(WordsError::Usage)?;
+    let cycles = number_between(number, 1, MOST_CYCLES).ok_or(WordsError::Usage)?;
+    let streams = owned(alloc, found.get_strs("streams").unwrap_or(&[]))?;
+    Ok(Command::Simulate {
+        cycles: cycles as usize,
+        streams,
+    })
+}
+
+// The command that clap has found, with its values.
+fn command_in(alloc: Global, found: &ArgMatches<'_>) -> Result<Command, WordsError>
+    ensures ok { IfOk result (λ c. values_met (subcommand_rows_of found.now) ≡ Some (values_of c)) }
+    ensures usage { IsErrOf result WordsError.Usage → values_met (subcommand_rows_of found.now) ≡ None }
+{
+    match found.subcommand() {
+        Some(("compile", _)) => Ok(Command::Compile),
+        Some(("simulate", inner)) => simulate_in(alloc, inner),
+        _ => Err(WordsError::Usage),
+    }
+}
+
+// Does nothing: its clause says that a slice has no more items than the machine can count.
+fn length_fits(words: &[String])
+    ensures { length words.now ≤ usize_max }
+{
+    words.len();
+}
+
+/// The command that the words of a command line ask for. The first word is the program's name, and after it stands `compile`,
+/// or `simulate --cycles N` with any words, of which N is in decimal digits, with or without leading zeros, from 1 to 1,048,576.
+/// `Usage` comes only where the words are no command, and each other answer but `NoMemory` only where they have its values.
+pub fn command_of(alloc: Global, words: &[String]) -> Result<Command, WordsError>
+    ensures ok { IfOk result (λ c. command_values (map string_bytes words.now) ≡ Some (values_of c)) }
+    ensures usage { IsErrOf result WordsError.Usage → IsCommand (map string_bytes words.now) → ⊥ }
+    ensures written { (v : CommandValues) → IsWritten v (map string_bytes words.now) → MatchResult result (λ c. values_of c ≡ v) (λ e. e ≡ WordsError.NoMemory) }
+{
+    length_fits(words);
+    let found = blifww_command(alloc)?.try_get_matches_from(words)?;
+    command_in(alloc, &found)
+}

@@ -1,0 +1,37 @@
+// Why words are refused.
+ghost use Rattle.std.specs.Prelude.{◌≡◌};
+
+use clap::Error;
+use clap::error::ErrorKind;
+use std::alloc::AllocError;
+
+/// Why the words of a command line give no command.
+#[derive(Clone, Copy, Debug, PartialEq, Eq)]
+pub enum WordsError {
+    /// The words are no command, or a number is out of its range.
+    Usage,
+    NoMemory,
+}
+
+impl From<AllocError> for WordsError {
+    ghost use Rattle.command_words.specs.declared.errors.WordsError.TheVariants.{NoMemory};
+
+    ghost from_gives = { λ _ e. e ≡ NoMemory };
+
+    fn from(_: AllocError) -> Self {
+        WordsError::NoMemory
+    }
+}
+
+impl From<Error> for WordsError {
+    ghost use Rattle.command_words.specs.Errors.{error_of};
+
+    ghost from_gives = { λ e r. r ≡ error_of e };
+
+    fn from(error: Error) -> Self {
+        match error.kind() {
+            ErrorKind::OutOfMemory => WordsError::NoMemory,
+            _ => WordsError::Usage,
+        }
+    }
+}

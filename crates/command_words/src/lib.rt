@@ -1,0 +1,13 @@
+//! The words of the command line: which command they ask for, with which values.
+#![tactic(auto)]
+
+mod app;
+mod command;
+mod errors;
+mod numbers;
+
+pub use command::{Command, command_of};
+pub use errors::WordsError;
+
+#[cfg(test)]
+mod tests;

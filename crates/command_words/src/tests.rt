@@ -1,0 +1,104 @@
+// What lists of words ask for.
+use crate::{Command, WordsError, command_of};
+use std::alloc::Global;
+use std::test::Fail;
+
+// What is asked for, with the stream words.
+#[derive(Clone, Copy, Debug, PartialEq, Eq)]
+enum Asked {
+    Usage,
+    Compile,
+    Simulate(usize, &'static [&'static str]),
+}
+
+const CASES: &[(&[&str], Asked)] = &[
+    (&[], Asked::Usage),
+    (&["blifww"], Asked::Usage),
+    (&["blifww", "compile"], Asked::Compile),
+    (&["blifww", "compile", "x"], Asked::Usage),
+    (&["blifww", "Compile"], Asked::Usage),
+    (&["blifww", "simulate"], Asked::Usage),
+    (&["blifww", "simulate", "a=01"], Asked::Usage),
+    (&["blifww", "simulate", "--cycles"], Asked::Usage),
+    (&["blifww", "simulate", "--cycles", "0"], Asked::Usage),
+    (
+        &["blifww", "simulate", "--cycles", "1"],
+        Asked::Simulate(1, &[]),
+    ),
+    (
+        &["blifww", "simulate", "--cycles", "007", "a=01"],
+        Asked::Simulate(7, &["a=01"]),
+    ),
+    (
+        &[
+            "blifww", "simulate", "--cycles", "2", "a=01", "b=10", "help",
+        ],
+        Asked::Simulate(2, &["a=01", "b=10", "help"]),
+    ),
+    (
+        &["blifww", "simulate", "a=01", "--cycles", "2"],
+        Asked::Simulate(2, &["a=01"]),
+    ),
+    (&["blifww", "simulate", "--cycles", "+7"], Asked::Usage),
+    (&["blifww", "simulate", "--cycles", "7x"], Asked::Usage),
+    (&["blifww", "simulate", "--cycles", ""], Asked::Usage),
+    (
+        &["blifww", "simulate", "--cycles", "1048576"],
+        Asked::Simulate(1_048_576, &[]),
+    ),
+    (&["blifww", "simulate", "--cycles", "1048577"], Asked::Usage),
+    (
+        &["blifww", "simulate", "--cycles", "18446744073709551617"],
+        Asked::Usage,
+    ),
+    (
+        &["blifww", "simulate", "--cycles=3", "a=011"],
+        Asked::Simulate(3, &["a=011"]),
+    ),
+    (
+        &["blifww", "simulate", "--cycles", "3", "--cycles", "3"],
+        Asked::Usage,
+    ),
+    (&["blifww", "simulate", "--rounds", "3"], Asked::Usage),
+    (&["blifww", "--help"], Asked::Usage),
+    (&["blifww", "-h"], Asked::Usage),
+    (&["blifww", "help"], Asked::Usage),
+    (&["blifww", "--version"], Asked::Usage),
+    (&["blifww", "simulate", "--help"], Asked::Usage),
+];
+
+// Whether the command is the one that was asked for.
+fn is_asked(command: &Command, asked: Asked) -> bool {
+    match (command, asked) {
+        (Command::Compile, Asked::Compile) => true,
+        (Command::Simulate { cycles, streams }, Asked::Simulate(count, words)) => {
+            *cycles == count
+                && streams.len() == words.len()
+                && streams
+                    .as_slice()
+                    .iter()
+                    .zip(words)
+                    .all(|(s, w)| s.as_str() == *w)
+        }
+        _ => false,
+    }
+}
+
+#[test]
+fn words_ask_for_commands(rt: HostRuntime) -> Result<(), Fail> {
+    let alloc = rt.alloc();
+    for (words, asked) in CASES {
+        let mut given = Vec::new(alloc);
+        for word in *words {
+            given.push(String::from_str(alloc, word)?)?;
+        }
+        match command_of(alloc, &given) {
+            Ok(command) => assert!(rt; is_asked(&command, *asked), "{words:?}"),
+            Err(error) => {
+                assert_eq!(rt; error, WordsError::Usage);
+                assert_eq!(rt; *asked, Asked::Usage, "{words:?}");
+            }
+        }
+    }
+    Ok(())
+}
