@@ -1,0 +1,17 @@
+//! Streams of bits for the inputs of a pattern, and the pattern's run under them.
+#![tactic(auto)]
+
+mod columns;
+mod driving;
+mod error;
+mod simulation;
+mod streams;
+mod words;
+
+pub use error::{DriveError, SimulateError, StreamError, StreamFault, StreamFaultKind};
+pub use driving::injections;
+pub use simulation::simulate;
+pub use streams::Streams;
+
+// cfg
+// mod tests;
