@@ -4,14 +4,16 @@
 mod columns;
 mod driving;
 mod error;
+mod examples;
 mod simulation;
 mod streams;
 mod words;
 
 pub use error::{DriveError, SimulateError, StreamError, StreamFault, StreamFaultKind};
 pub use driving::injections;
+pub use examples::stream_words_read;
 pub use simulation::simulate;
 pub use streams::Streams;
 
-// cfg
-// mod tests;
+#[cfg(test)]
+mod tests;
