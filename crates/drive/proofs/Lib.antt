@@ -1,0 +1,6 @@
+pub mod Cuts
+pub mod Found
+pub mod Rows
+pub mod Inside
+pub mod Leads
+pub mod Across

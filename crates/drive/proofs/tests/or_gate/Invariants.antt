@@ -1,0 +1,9 @@
+use Rattle.std.proofs.Common.{◌≡◌, All, length}
+use Rattle.drive.proofs.tests.or_gate.Given as goal
+
+abbrev pub invariant-loop-y : goal.invariant-loop-y
+invariant-loop-y l =
+    record {
+      many : length l.rows.items ≡ l.y;
+      long : All (λ row. length row ≡ 33) l.rows.items;
+    }

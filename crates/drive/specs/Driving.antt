@@ -1,0 +1,82 @@
+-- A pattern driven by streams, and the bits that its outputs show.
+use Rattle.std.specs.Prelude.{◌≡◌, ◌<◌, ⊤, ℕ, pos, ◌+◌, ◌*◌, ◌-◌, Bool, true, false, List, length, map, All, slice_get, unwrap_or}
+use Rattle.std.specs.List.{range_with_len}
+use Rattle.ww_rule.specs.declared.pattern.State.{State}
+use Rattle.ww_rule.specs.declared.pattern.State.TheVariants.{Head}
+use Rattle.ww_rule.specs.declared.pattern.Injection.{Injection}
+use Rattle.ww_rule.specs.Wireworld.{Plane, Due, driven}
+use Rattle.ww_rule.specs.Injections.{injections_from, due_of_streams}
+use Rattle.pattern_reading.specs.declared.ports.Ports.{Ports}
+use Rattle.pattern_reading.specs.declared.ports.PortLine.{PortLine}
+use Rattle.drive.specs.declared.streams.Streams.{Streams}
+use Rattle.drive.specs.declared.error.SimulateError.{SimulateError}
+use Rattle.drive.specs.declared.error.SimulateError.TheVariants.{NoMemory, TooFar}
+
+-- one stream for each input of the table, each with a bit for each cycle
+pub record AreFor (ports : Ports) (streams : Streams) : Type 0 where
+  pub many : length streams.bits ≡ length ports.ins
+  pub long : All (λ bits. length bits ≡ streams.cycles) streams.bits
+
+-- the cells of port lines
+abbrev pub cells_of : List PortLine → List (ℕ × ℕ)
+cells_of lines = map (λ line. (line.x, line.y)) lines
+
+-- the bit at a place of each list
+abbrev pub column_of : List (List Bool) → ℕ → List Bool
+column_of lists place = map (λ bits. unwrap_or (slice_get bits place) false) lists
+
+-- the bits of all inputs in a cycle
+abbrev pub row_of : Streams → ℕ → List Bool
+row_of streams cycle = column_of streams.bits cycle
+
+-- a row of input bits for each cycle
+abbrev pub rows_of : Streams → List (List Bool)
+rows_of streams = map (row_of streams) (range_with_len 0 streams.cycles)
+
+-- one injection at generation t P, at the cell of input i, for each cycle t and input i whose bit is 1: cycle after cycle,
+-- and in a cycle in the order of the inputs
+abbrev pub injections_of : Ports → Streams → List Injection
+injections_of ports streams = injections_from 0 ports.p (cells_of ports.ins) (rows_of streams)
+
+-- injections at cells of a box
+abbrev pub AreInside : (width height : ℕ) → List Injection → Type 0
+AreInside width height injections = All (λ i. (i.x < width) × (i.y < height)) injections
+
+-- a driven plane at one generation, and what it has become at another, whatever the start was
+abbrev pub LeadsTo : Due → (from to : ℕ) → Plane → Plane → Type 0
+LeadsTo due from to plane later = (start : Plane) → plane ≡ driven due start from → later ≡ driven due start to
+
+-- the pattern's planes, where those injections drive it
+abbrev pub driven_by : Ports → Streams → Plane → ℕ → Plane
+driven_by ports streams plane = driven (due_of_streams ports.p (cells_of ports.ins) (rows_of streams)) plane
+
+abbrev pub is_head : State → Bool
+is_head Head = true
+is_head _ = false
+
+-- the bits that a plane shows at these port lines: 1 where the cell is a head
+abbrev pub shown_row : Plane → List PortLine → List Bool
+shown_row plane outs = map (λ out. is_head (plane (pos out.x) (pos out.y))) outs
+
+-- the rows of bits that the outputs show: for each cycle t what the plane of generation L + t P shows
+abbrev pub shown_rows : Ports → Streams → Plane → List (List Bool)
+shown_rows ports streams plane =
+    map (λ cycle. shown_row (driven_by ports streams plane (ports.l + cycle * ports.p)) ports.outs) (range_with_len 0 streams.cycles)
+
+-- for each output its bits, cycle after cycle: 1 where its cell is a head at generation L + t P
+abbrev pub shown_bits : Ports → Streams → Plane → List (List Bool)
+shown_bits ports streams plane =
+    map (λ out. map (λ cycle. is_head (driven_by ports streams plane (ports.l + cycle * ports.p) (pos out.x) (pos out.y))) (range_with_len 0 streams.cycles)) ports.outs
+
+-- the most generations that a run may need
+abbrev pub greatest_generation : ℕ
+greatest_generation = 4294967296
+
+-- the generation of the last bits that are shown
+abbrev pub last_generation : Ports → Streams → ℕ
+last_generation ports streams = ports.l + (streams.cycles - 1) * ports.p
+
+-- why a run that needs so many generations gives no bits
+abbrev pub HasCause : ℕ → SimulateError → Type 0
+HasCause needed NoMemory = ⊤
+HasCause needed (TooFar generations) = (generations ≡ needed) × (greatest_generation < needed)

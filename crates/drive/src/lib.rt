@@ -1,0 +1,19 @@
+//! Streams of bits for the inputs of a pattern, and the pattern's run under them.
+#![tactic(auto)]
+
+mod columns;
+mod driving;
+mod error;
+mod examples;
+mod simulation;
+mod streams;
+mod words;
+
+pub use error::{DriveError, SimulateError, StreamError, StreamFault, StreamFaultKind};
+pub use driving::injections;
+pub use examples::stream_words_read;
+pub use simulation::simulate;
+pub use streams::Streams;
+
+#[cfg(test)]
+mod tests;
