@@ -1,12 +1,14 @@
 -- What a text that carries a design shows, cycle by cycle.
 use Rattle.std.proofs.Common.{ℕ, ◌+◌, ◌*◌, ◌<◌, ◌≡◌, ◌≢◌, refl, ap, ◌∙◌, subst, inl, inr, ◌++◌, length, arith}
 use Rattle.std.proofs.lemmas.Bool.{cases_lt}
+use Rattle.std.proofs.lemmas.List.{length-map}
 use Rattle.std.proofs.Math.Nat.{mul-lt-mul_of_pos_right}
 use Rattle.ww_rule.specs.Grid.{plane_of}
 use Rattle.ww_rule.proofs.Lists.{streams_go_on}
 use Rattle.netlist_meaning.specs.Valuation.{output_bit}
 use Rattle.carries.specs.Carries.{ShowsBits, cells_of}
-use Rattle.carries.specs.Shown.{CarriesCycles, CarriesOnward, CarriesEachFront}
+use Rattle.carries.specs.Shown.{CarriesCycles, CarriesOnward, CarriesEachFront, RowsFitPorts}
+use Rattle.netlist_meaning.proofs.Joined.{in_names_are_one}
 use Rattle.carries.proofs.Period.{has_period}
 
 pub carries_cycles : CarriesCycles
@@ -45,3 +47,7 @@ carries_onward text design c rows zeros are_zeros are run is output cell e g lt 
 pub carries_each_front : CarriesEachFront
 carries_each_front text design c rows later g lt =
     (streams_go_on c.ports.p (cells_of c.ports.ins) rows later).before (plane_of c.grid.rows) g lt
+
+pub rows_fit_ports : RowsFitPorts
+rows_fit_ports ports design rows named (names, are, long) =
+    subst (λ n. All (λ row. length row ≡ n) rows) (ap length (in_names_are_one design names (names_of ports.ins) are named.ins) ∙ length-map ports.ins (λ line. line.name)) long

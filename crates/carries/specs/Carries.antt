@@ -27,7 +27,8 @@ pub record NamesPorts (ports : Ports) (design : Design) : Type 0 where
   pub outs : names_of ports.outs ≡ main_outputs design
 
 -- the drive of rows of input bits, one row a cycle: one injection at generation t P, at the cell of input i, for each cycle t
--- and input i whose bit is 1, and no other
+-- and input i whose bit is 1, and no other. Where the table names the design's inputs and the rows are its input rows, each row has
+-- a bit for each IN line (`RowsFitPorts`), so that none is left out.
 abbrev pub drive : Ports → List (List Bool) → Due
 drive ports rows = due_of_streams ports.p (cells_of ports.ins) rows
 

@@ -6,7 +6,14 @@ use Rattle.ww_rule.specs.Grid.{plane_of}
 use Rattle.pattern_reading.specs.declared.ports.PortLine.{PortLine}
 use Rattle.netlist_core.specs.declared.model.Design.{Design}
 use Rattle.netlist_meaning.specs.Valuation.{Valuation, AreInputRows, IsRun, output_bit}
-use Rattle.carries.specs.Carries.{Carries, ShowsBits, drive}
+use Rattle.pattern_reading.specs.declared.ports.Ports.{Ports}
+use Rattle.carries.specs.Carries.{Carries, NamesPorts, ShowsBits, drive}
+
+-- where the table names the design's inputs, input rows have a bit for each IN line
+abbrev pub RowsFitPorts : Type 0
+RowsFitPorts =
+    (ports : Ports) (design : Design) (rows : List (List Bool)) → NamesPorts ports design → AreInputRows design rows
+    → All (λ row. length row ≡ length ports.ins) rows
 
 -- driven by rows of input bits, in a run on them
 pub record ShowsCycles {text : List ℕ} {design : Design} (c : Carries text design) (rows : List (List Bool)) (run : ℕ → Valuation) : Type 0 where

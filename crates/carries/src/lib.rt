@@ -3,7 +3,7 @@
 #![tactic(auto)]
 
 ghost use Rattle.carries.specs.Laws.{CarriesInOneWay, BareIsCarried, GateIsNotBare};
-ghost use Rattle.carries.specs.Shown.{CarriesCycles, CarriesOnward, CarriesEachFront};
+ghost use Rattle.carries.specs.Shown.{CarriesCycles, CarriesOnward, CarriesEachFront, RowsFitPorts};
 
 /// A text that carries a design reads as one pattern and one table.
 pub fn carries_in_one_way()
@@ -27,4 +27,9 @@ pub fn carries_cycles()
 pub fn carries_onward()
     ensures onward { CarriesOnward }
     ensures each_front { CarriesEachFront }
+{}
+
+/// Where a table names a design's inputs, rows of input bits have a bit for each IN line.
+pub fn rows_fit_ports()
+    ensures { RowsFitPorts }
 {}
