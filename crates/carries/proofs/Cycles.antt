@@ -1,14 +1,14 @@
 -- What a text that carries a design shows, cycle by cycle.
-use Rattle.std.proofs.Common.{ℕ, ◌+◌, ◌*◌, ◌<◌, ◌≡◌, ◌≢◌, refl, ap, ◌∙◌, subst, inl, inr, ◌++◌, length, arith}
+use Rattle.std.proofs.Common.{All, ℕ, ◌+◌, ◌*◌, ◌<◌, ◌≡◌, ◌≢◌, refl, ap, ◌∙◌, subst, inl, inr, ◌++◌, length, arith}
 use Rattle.std.proofs.lemmas.Bool.{cases_lt}
 use Rattle.std.proofs.lemmas.List.{length-map}
 use Rattle.std.proofs.Math.Nat.{mul-lt-mul_of_pos_right}
 use Rattle.ww_rule.specs.Grid.{plane_of}
 use Rattle.ww_rule.proofs.Lists.{streams_go_on}
 use Rattle.netlist_meaning.specs.Valuation.{output_bit}
-use Rattle.carries.specs.Carries.{ShowsBits, cells_of}
-use Rattle.carries.specs.Shown.{CarriesCycles, CarriesOnward, CarriesEachFront, RowsFitPorts}
 use Rattle.netlist_meaning.proofs.Joined.{in_names_are_one}
+use Rattle.carries.specs.Carries.{ShowsBits, cells_of, names_of}
+use Rattle.carries.specs.Shown.{CarriesCycles, CarriesOnward, CarriesEachFront, RowsFitPorts}
 use Rattle.carries.proofs.Period.{has_period}
 
 pub carries_cycles : CarriesCycles
