@@ -1,11 +1,10 @@
 -- Texts and designs that are not carried.
-use Rattle.std.proofs.Common.{pos, ◌≡◌, refl, sym, ap, ap₂, ◌∙◌, subst, ℕ, zero, suc, ◌+◌, ◌*◌, ◌<◌, Bool, true, false, ◌||◌, List, [], ◌∷◌, get_or, length, arith, codes}
+use Rattle.std.proofs.Common.{pos, ◌≡◌, refl, sym, ap, ap₂, ◌∙◌, subst, ℕ, zero, suc, ◌+◌, ◌*◌, ◌<◌, Bool, true, false, List, [], ◌∷◌, get_or, length, arith, codes}
 use Rattle.std.specs.Prelude.{All}
 use Rattle.std.specs.List.{AllByRecursion}
 use Rattle.std.proofs.lemmas.Bool.{true≢false}
 use Rattle.ww_rule.specs.declared.pattern.State.TheVariants.{Empty, Head, Tail, Conductor}
-use Rattle.ww_rule.specs.Wireworld.{Plane, Due, driven, next_state, heads_around}
-use Rattle.ww_rule.specs.Grid.{Grid, plane_of}
+use Rattle.ww_rule.specs.Grid.{plane_of}
 use Rattle.ww_rule.specs.Injections.{due_of_streams}
 use Rattle.ww_rule.proofs.Boxes.{driven_empty}
 use Rattle.ww_rule.proofs.Streams.{streams_injected}
@@ -20,7 +19,7 @@ use Rattle.pattern_reading.specs.declared.ports.Ports.{Ports}
 use Rattle.pattern_reading.specs.Examples.{or_ports, or_text_without_nets, port_of}
 use Rattle.pattern_reading.specs.PortTable.{ports_of, forms_of}
 use Rattle.pattern_reading.proofs.RleVerdict.{rle_reading_is, grid_of}
-use Rattle.carries.specs.Carries.{Carries, NamesPorts, ShowsRuns, drive}
+use Rattle.carries.specs.Carries.{Carries, NamesPorts, ShowsRuns}
 use Rattle.or_gate.specs.OrGate.{gate_plane, DrivesEntries, entries, or_grid}
 use Rattle.or_gate.proofs.Generations.{output_head}
 use Rattle.carried_gate.specs.Refused.{RefusesOthers, and_not_design, gate_text, version_line, out_line}
