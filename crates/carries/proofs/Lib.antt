@@ -1,2 +1,4 @@
 pub mod OneWay
 pub mod Bare
+pub mod Period
+pub mod Cycles

@@ -27,7 +27,8 @@ pub record NamesPorts (ports : Ports) (design : Design) : Type 0 where
   pub outs : names_of ports.outs ≡ main_outputs design
 
 -- the drive of rows of input bits, one row a cycle: one injection at generation t P, at the cell of input i, for each cycle t
--- and input i whose bit is 1, and no other
+-- and input i whose bit is 1, and no other. Where the table names the design's inputs and the rows are its input rows, each row has
+-- a bit for each IN line (`RowsFitPorts`), so that none is left out.
 abbrev pub drive : Ports → List (List Bool) → Due
 drive ports rows = due_of_streams ports.p (cells_of ports.ins) rows
 
@@ -40,10 +41,15 @@ before_injections due plane (suc g) = next_plane (driven due plane g)
 abbrev pub MeetsConductors : Due → Plane → Type 0
 MeetsConductors due plane = (g : ℕ) (x y : ℤ) → due g x y ≡ true → before_injections due plane g x y ≡ Conductor
 
--- the cell is a head at generation g exactly when g = L + t P for a cycle t, below the number of cycles, in which the bit is 1
+-- the cell at x, y is a head at generation g exactly when g = first + t period for a cycle t, below the number of cycles, in which
+-- the bit is 1
+abbrev pub ShowsBitsFrom : (first period cycles : ℕ) → (ℕ → Bool) → (g : ℕ) → Plane → (x y : ℕ) → Type 0
+ShowsBitsFrom first period cycles bit g plane x y =
+    (plane (pos x) (pos y) ≡ Head) ↔ ((t : ℕ) × (t < cycles) × (g ≡ first + t * period) × (bit t ≡ true))
+
+-- the cell of an output, with the first cycle at the latency
 abbrev pub ShowsBits : Ports → (cycles : ℕ) → (ℕ → Bool) → (g : ℕ) → Plane → PortLine → Type 0
-ShowsBits ports cycles bit g plane cell =
-    (plane (pos cell.x) (pos cell.y) ≡ Head) ↔ ((t : ℕ) × (t < cycles) × (g ≡ ports.l + t * ports.p) × (bit t ≡ true))
+ShowsBits ports cycles bit g plane cell = ShowsBitsFrom ports.l ports.p cycles bit g plane cell.x cell.y
 
 -- Driven by any rows of input bits, for any number of cycles N: there is a run of the design on them, and in every such run each
 -- output cell shows the output's bits, at every generation below L + N P

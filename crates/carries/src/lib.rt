@@ -3,6 +3,7 @@
 #![tactic(auto)]
 
 ghost use Rattle.carries.specs.Laws.{CarriesInOneWay, BareIsCarried, GateIsNotBare};
+ghost use Rattle.carries.specs.Shown.{CarriesCycles, CarriesOnward, CarriesEachFront, RowsFitPorts};
 
 /// A text that carries a design reads as one pattern and one table.
 pub fn carries_in_one_way()
@@ -13,4 +14,22 @@ pub fn carries_in_one_way()
 pub fn bare_text_carries_bare_model()
     ensures carried { BareIsCarried }
     ensures no_other { GateIsNotBare }
+{}
+
+/// Driven by rows of input bits, a pattern that carries a design has the cell of an output as a head at generation
+/// L + t P, for each cycle t, exactly when the output's bit is 1 in that cycle of a run, and never below L.
+pub fn carries_cycles()
+    ensures { CarriesCycles }
+{}
+
+/// Without further input bits it goes on, without a last generation, to show the run whose further input bits are 0; and
+/// what it shows of the first cycles does not depend on later input bits.
+pub fn carries_onward()
+    ensures onward { CarriesOnward }
+    ensures each_front { CarriesEachFront }
+{}
+
+/// Where a table names a design's inputs, rows of input bits have a bit for each IN line.
+pub fn rows_fit_ports()
+    ensures { RowsFitPorts }
 {}

@@ -4,6 +4,7 @@ use Rattle.tile_core.specs.declared.kind.Kind.{Kind}
 use Rattle.tile_core.specs.declared.kind.Kind.TheVariants.{Swap, Xor, Or, AndNot, Fork, East, South, North, EastSouth, SouthWest, WestNorth, NorthEast, West, WestSwap}
 use Rattle.tile_core.specs.Interface.{Interface}
 
+-- one of two, and not both: exclusive or
 abbrev pub one_of : Bool → Bool → Bool
 one_of a b = (a || b) && not (a && b)
 

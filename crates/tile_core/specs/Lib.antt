@@ -2,3 +2,4 @@ pub mod Drawing
 pub mod Interface
 pub mod TimingLaw
 pub mod Kinds
+pub mod Laws

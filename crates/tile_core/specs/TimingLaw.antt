@@ -9,7 +9,8 @@ use Rattle.tile_core.specs.Interface.{Interface, entry_cells, exit_cells, lit_en
 abbrev pub started : Interface → Drawing → Bool → Bool → Plane
 started tile drawing a b = picture drawing (lit_entries tile a b) []
 
--- what the law says of one choice of entries
+-- What the law says of one choice of entries. A cell is dark where it is no head, though a tail may stand there. A tile of one lane
+-- has one entry, so that b says nothing there.
 pub record KeepsTime (tile : Interface) (drawing : Drawing) (a b : Bool) : Type 0 where
   -- no entry cell is a head at generations 1 to 32
   pub entries_stay_dark : (g : ℕ) (x y : ℤ) → 1 ≤ g → g ≤ 32 → is_among x y (entry_cells tile) ≡ true → evolve g (started tile drawing a b) x y ≢ Head

@@ -2,6 +2,7 @@
 #![tactic(auto)]
 
 mod kind;
+pub mod laws;
 mod tile;
 
 pub use kind::Kind;

@@ -8,3 +8,5 @@ pub mod RowLemmas
 pub mod Bridge
 pub mod Injected
 pub mod Streams
+pub mod DrivenPlanes
+pub mod Lists

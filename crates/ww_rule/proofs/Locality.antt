@@ -10,7 +10,7 @@ pub next_plane_near : (p q : Plane) (x y : ℤ) → AgreeNear 1 p q x y → next
 next_plane_near p q x y agree =
     next_plane_counts p q x y (agree x y (omega (arith, ints)) (omega (arith, ints)) (omega (arith, ints)) (omega (arith, ints))) (λ u v a b c d. ap count_head (agree u v a b c d))
 
-nearer : (n : ℕ) (p q : Plane) (x y x' y' : ℤ) → AgreeNear (suc n) p q x y → (x -ℤ pos 1) ≤ℤ x' → x' ≤ℤ (x +ℤ pos 1) → (y -ℤ pos 1) ≤ℤ y' → y' ≤ℤ (y +ℤ pos 1) → AgreeNear n p q x' y'
+pub nearer : (n : ℕ) (p q : Plane) (x y x' y' : ℤ) → AgreeNear (suc n) p q x y → (x -ℤ pos 1) ≤ℤ x' → x' ≤ℤ (x +ℤ pos 1) → (y -ℤ pos 1) ≤ℤ y' → y' ≤ℤ (y +ℤ pos 1) → AgreeNear n p q x' y'
 nearer n p q x y x' y' agree a b c d u v e f g i =
     agree u v (omega (arith, ints)) (omega (arith, ints)) (omega (arith, ints)) (omega (arith, ints))
 

@@ -9,11 +9,11 @@ use Rattle.ww_rule.specs.Injections.{due_of_list, due_of_streams, injections_of_
 use Rattle.ww_rule.specs.Laws.{IsBitOfStreams}
 use Rattle.ww_rule.proofs.Finite.{due_of_cons}
 
-or_left : (a b : Bool) → a ≡ true → (a || b) ≡ true
+pub or_left : (a b : Bool) → a ≡ true → (a || b) ≡ true
 or_left true b e = refl
 or_left false b e = absurd (true≢false (sym e))
 
-or_right : (a b : Bool) → b ≡ true → (a || b) ≡ true
+pub or_right : (a b : Bool) → b ≡ true → (a || b) ≡ true
 or_right true b e = refl
 or_right false b e = e
 

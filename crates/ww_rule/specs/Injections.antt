@@ -17,7 +17,7 @@ cells_at g injections = map (λ i. (i.x, i.y)) (filter (λ i. i.generation == g)
 abbrev pub due_of_list : List Injection → Due
 due_of_list injections g = is_among (cells_at g injections)
 
--- the injections of one cycle: at a generation, each cell whose bit is 1
+-- the injections of one cycle: at a generation, each cell whose bit is 1; cells without a bit and bits without a cell inject nothing
 abbrev pub injections_of_row : ℕ → List (ℕ × ℕ) → List Bool → List Injection
 injections_of_row g [] bits = []
 injections_of_row g (cell ∷ cells) [] = []

@@ -34,7 +34,7 @@ KeepsTranslations =
     ((a b : ℤ) (p : Plane) → next_plane (moved a b p) ≡ moved a b (next_plane p))
     × ((a b : ℤ) (n : ℕ) (p : Plane) → evolve n (moved a b p) ≡ moved a b (evolve n p))
 
--- and with mirrors
+-- and with mirrors from west to east
 abbrev pub KeepsMirrors : Type 0
 KeepsMirrors =
     ((a : ℤ) (p : Plane) → next_plane (mirrored a p) ≡ mirrored a (next_plane p))

@@ -3,3 +3,4 @@ pub mod Grid
 pub mod Injections
 pub mod Patterns
 pub mod Laws
+pub mod DrivenLaws

@@ -4,7 +4,8 @@ use Rattle.std.specs.Prelude.{ℤ, pos, ◌+ℤ◌, ◌-ℤ◌, ℕ, zero, suc, 
 use Rattle.ww_rule.specs.declared.pattern.State.{State}
 use Rattle.ww_rule.specs.declared.pattern.State.TheVariants.{Empty, Head, Tail, Conductor}
 
--- a state for every pair of integers: x goes east, y goes down
+-- A state for every pair of integers: x goes east, y goes down. It may have infinitely many cells that are not empty; a plane that
+-- begins with finitely many keeps finitely many, under the rule and under lists of injections (`StaysFinite`).
 abbrev pub Plane : Type 0
 Plane = ℤ → ℤ → State
 

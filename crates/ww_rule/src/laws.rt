@@ -1,5 +1,9 @@
 //! Laws of the rule: each function does nothing, and its contract is the law.
+ghost use Rattle.std.specs.Prelude.{Bool, List, ℕ};
+ghost use Rattle.ww_rule.specs.declared.pattern.Injection.{Injection};
+ghost use Rattle.ww_rule.specs.Wireworld.{Plane};
 ghost use Rattle.ww_rule.specs.Laws.{KeepsTranslations, KeepsMirrors, IsUndrivenEvolution, IsLocal, StaysInBox, StaysFinite, StreamsAreInjected};
+ghost use Rattle.ww_rule.specs.DrivenLaws.{KeepsMirrorsDown, DrivesAnywhere, IsCausal, IsDrivenLocally, StepsWithInjections, ListsAreInjected, StreamsGoOn};
 
 /// The rule, and every number of generations of it, commute with translations.
 pub fn keeps_translations()
@@ -9,6 +13,11 @@ pub fn keeps_translations()
 /// The rule, and every number of generations of it, commute with mirrors from west to east.
 pub fn keeps_mirrors()
     ensures { KeepsMirrors }
+{}
+
+/// They commute with mirrors from north to south, too.
+pub fn keeps_mirrors_down()
+    ensures { KeepsMirrorsDown }
 {}
 
 /// A pattern that is not driven evolves by the rule alone.
@@ -36,4 +45,34 @@ pub fn stays_finite()
 /// nowhere else.
 pub fn streams_are_injected()
     ensures { StreamsAreInjected }
+{}
+
+/// A driven evolution commutes with translations and mirrors, where its injections are moved and mirrored with it.
+pub fn drives_anywhere()
+    ensures { DrivesAnywhere }
+{}
+
+/// What is injected after a generation changes nothing at it.
+pub fn is_causal()
+    ensures { IsCausal }
+{}
+
+/// A driven cell's state at generation n depends on the cells and the injections within distance n alone.
+pub fn is_driven_locally()
+    ensures { IsDrivenLocally }
+{}
+
+/// `Plane::inject` and then `step_driven`, generation by generation, are the evolution driven by a list.
+pub fn steps_with_injections()
+    ensures { (injections : List Injection) (p : Plane) → StepsWithInjections injections p }
+{}
+
+/// A list makes due its injections alone; neither their order nor repetition changes what it drives.
+pub fn lists_are_injected()
+    ensures { ListsAreInjected }
+{}
+
+/// Rows of bits behind others change nothing before their own cycles, and rows of 0 bits nothing at all.
+pub fn streams_go_on()
+    ensures { (period : ℕ) (cells : List (ℕ × ℕ)) (rows later : List (List Bool)) → StreamsGoOn period cells rows later }
 {}

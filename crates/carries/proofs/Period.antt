@@ -1,0 +1,85 @@
+-- The period of a table that reads is not 0.
+use Rattle.std.proofs.Common.{ℕ, ◌≡◌, ◌≢◌, refl, sym, ap, ◌∙◌, Bool, true, false, List, [], ◌∷◌, arith}
+use Rattle.std.specs.Prelude.{◌==◌, if◌then◌else◌, Option, Some, None, filter_map, codes, ◌&&◌}
+use Rattle.std.proofs.lemmas.Bool.{eq-eqb, true≢false}
+use Rattle.std.specs.List.{AllByRecursion, cons_option, slice_split}
+use Rattle.std.specs.Str.{bytes_eq, byte}
+use Rattle.pattern_reading.specs.declared.ports.NetLine.{NetLine}
+use Rattle.pattern_reading.specs.declared.ports.PortLine.{PortLine}
+use Rattle.pattern_reading.specs.declared.ports.Ports.{Ports}
+use Rattle.pattern_reading.specs.Lines.{Line}
+use Rattle.pattern_reading.specs.Header.{lines_before_header}
+use Rattle.pattern_reading.specs.Numbers.{◌>>=◌, number_in}
+use Rattle.pattern_reading.specs.PortLines.{PortForm, Version, In, Out, Net, TableLine, form_of_fields, net_in, port_in, table_entry, table_line}
+use Rattle.pattern_reading.specs.PortTable.{ReadsAsPorts, forms_of, period_of}
+
+abbrev HasPeriod : PortForm → Type 0
+HasPeriod (Version p l) = p ≢ 0
+HasPeriod (In port) = Unit {0}
+HasPeriod (Out port) = Unit {0}
+HasPeriod (Net net) = Unit {0}
+
+abbrev MayHavePeriod : Option PortForm → Type 0
+MayHavePeriod None = Unit {0}
+MayHavePeriod (Some form) = HasPeriod form
+
+by_port : (is_in is_out : Bool) (o : Option PortLine) → MayHavePeriod (if is_in then (o >>= λ port. Some (In port)) else if is_out then (o >>= λ port. Some (Out port)) else None)
+by_port true is_out None = tt
+by_port true is_out (Some port) = tt
+by_port false true None = tt
+by_port false true (Some port) = tt
+by_port false false o = tt
+
+by_net : (is_net : Bool) (o : Option NetLine) → MayHavePeriod (if is_net then (o >>= λ net. Some (Net net)) else None)
+by_net true None = tt
+by_net true (Some net) = tt
+by_net false o = tt
+
+by_zero : (p l : ℕ) (b : Bool) → (p == 0) ≡ b → MayHavePeriod (if b then None else Some (Version p l))
+by_zero p l true e = tt
+by_zero p l false e = λ is_zero. true≢false (sym (eq-eqb p 0 is_zero) ∙ e)
+
+by_version : (is_version : Bool) (p l : Option ℕ) → MayHavePeriod (if is_version then (p >>= λ period. l >>= λ latency. if period == 0 then None else Some (Version period latency)) else None)
+by_version true None l = tt
+by_version true (Some p) None = tt
+by_version true (Some p) (Some l) = by_zero p l (p == 0) refl
+by_version false p l = tt
+
+form_period : (fields : List (List ℕ)) → MayHavePeriod (form_of_fields fields)
+form_period [] = tt
+form_period (a ∷ []) = tt
+form_period (a ∷ b ∷ []) = tt
+form_period (a ∷ b ∷ c ∷ []) = tt
+form_period (kind ∷ x ∷ y ∷ name ∷ []) =
+    by_port (bytes_eq kind (codes "IN")) (bytes_eq kind (codes "OUT")) (port_in x y name)
+form_period (version ∷ p_word ∷ p ∷ l_word ∷ l ∷ []) =
+    by_version (bytes_eq version (codes "1") && bytes_eq p_word (codes "P") && bytes_eq l_word (codes "L")) (number_in p) (number_in l)
+form_period (kind ∷ x ∷ y ∷ offset ∷ name ∷ path ∷ []) =
+    by_net (bytes_eq kind (codes "NET")) (net_in x y offset name path)
+form_period (a ∷ b ∷ c ∷ d ∷ e ∷ f ∷ g ∷ fields) = tt
+
+with_form : (o : Option PortForm) (forms : List PortForm) → MayHavePeriod o → AllByRecursion HasPeriod forms → AllByRecursion HasPeriod (cons_option o forms)
+with_form None forms h k = k
+with_form (Some form) forms h k = (h, k)
+
+abbrev table_line_of : Line → List ℕ → TableLine
+table_line_of line entry = record { number = line.number; form = form_of_fields (slice_split (λ b. b == byte " ") entry) }
+
+lines_period : (lines : List Line) → AllByRecursion HasPeriod (filter_map (λ line. line.form) (filter_map table_line lines))
+lines_period [] = tt
+lines_period (line ∷ lines) = by_entry (table_entry line) (lines_period lines)
+  where
+    by_entry : (entry : Option (List ℕ)) → AllByRecursion HasPeriod (filter_map (λ line. line.form) (filter_map table_line lines)) → AllByRecursion HasPeriod (filter_map (λ line. line.form) (cons_option (entry >>= λ entry. Some (table_line_of line entry)) (filter_map table_line lines)))
+    by_entry None rest = rest
+    by_entry (Some entry) rest = with_form _ _ (form_period (slice_split (λ b. b == byte " ") entry)) rest
+
+period_of_forms : (forms : List PortForm) → AllByRecursion HasPeriod forms → period_of forms ≢ 0
+period_of_forms [] h = λ e. omega (arith, e)
+period_of_forms (Version p l ∷ forms) h = h.0
+period_of_forms (In port ∷ forms) h = period_of_forms forms h.1
+period_of_forms (Out port ∷ forms) h = period_of_forms forms h.1
+period_of_forms (Net net ∷ forms) h = period_of_forms forms h.1
+
+pub has_period : (text : List ℕ) (width height : ℕ) (ports : Ports) → ReadsAsPorts text width height ports → ports.p ≢ 0
+has_period text width height ports table e =
+    period_of_forms (forms_of text) (lines_period (lines_before_header text)) (sym (ap (λ ports. ports.p) table.ports_is) ∙ e)
