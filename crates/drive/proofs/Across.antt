@@ -27,10 +27,10 @@ module _ {X : Type 0} where
       let long : length (map column (range_with_len 0 n)) ≡ n = length-map-range_with_len column 0 n in
       same_lists (map column (range_with_len 0 n)) (map own (x ∷ xs)) (long ∙ sym (length-map (x ∷ xs) own))
       (λ k d lt.
-        let in_list : k < n = omega arith in
-        get_or-map-range_with_len column 0 n k k d in_list (omega arith)
-        ∙ column_at f (x ∷ xs) ts k x in_list
-        ∙ sym (get_or-map own (x ∷ xs) k x d in_list))
+      let in_list : k < n = omega arith in
+      get_or-map-range_with_len column 0 n k k d in_list (omega arith)
+      ∙ column_at f (x ∷ xs) ts k x in_list
+      ∙ sym (get_or-map own (x ∷ xs) k x d in_list))
 
   -- and all rows are equally long
   pub rows_long : (f : X → ℕ → Bool) (xs : List X) (ts : List ℕ) → All (λ row. length row ≡ length xs) (map (λ t. map (λ x. f x t) xs) ts)

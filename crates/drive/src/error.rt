@@ -2,8 +2,8 @@
 ghost use Rattle.std.specs.Prelude.{◌≡◌};
 
 use lists::Bytes;
-use ww_rule::RuleError;
 use std::alloc::{AllocError, AllocFailed};
+use ww_rule::RuleError;
 
 /// The faults of stream words, by the names that the program prints. The first word at fault is answered, and of one
 /// word the first of these; `MissingInput` comes where no word is at fault.

@@ -9,8 +9,8 @@ mod simulation;
 mod streams;
 mod words;
 
-pub use error::{DriveError, SimulateError, StreamError, StreamFault, StreamFaultKind};
 pub use driving::injections;
+pub use error::{DriveError, SimulateError, StreamError, StreamFault, StreamFaultKind};
 pub use examples::stream_words_read;
 pub use simulation::simulate;
 pub use streams::Streams;

@@ -2,7 +2,6 @@
 ghost use Rattle.std.specs.Prelude.{◌≡◌, ◌⊎◌, [], All, length, map, string_bytes, slice_get, IfOk, IfErr};
 ghost use Rattle.std.specs.Option.{MatchOption, option_copied};
 ghost use Rattle.drive.specs.Streams.{HasStreams, HasCause, fault_at, faults_after, bits_for, stream_in, streams_of, missing_names, IsMissing};
-
 ghost use Rattle.drive.specs.declared.error.StreamError.TheVariants.{NoMemory, Fault};
 
 use crate::error::{StreamError, StreamFault, StreamFaultKind};

@@ -159,8 +159,18 @@ fn a_wire_shows_what_is_injected(rt: HostRuntime) -> Result<(), Fail> {
         let shown = simulate(alloc, wire(alloc)?, &wire_ports(alloc, p)?, &streams)?;
         assert_eq!(rt; only_bits(shown.as_slice()), want.as_slice(), "period {p}");
     }
-    let far = simulate(alloc, wire(alloc)?, &wire_ports(alloc, 4_294_967_296)?, &streams);
-    let is_too_far = matches!(far, Err(SimulateError::TooFar { generations: 4_294_967_298 }));
+    let far = simulate(
+        alloc,
+        wire(alloc)?,
+        &wire_ports(alloc, 4_294_967_296)?,
+        &streams,
+    );
+    let is_too_far = matches!(
+        far,
+        Err(SimulateError::TooFar {
+            generations: 4_294_967_298
+        })
+    );
     assert!(rt; is_too_far);
     Ok(())
 }
@@ -172,7 +182,10 @@ fn an_or_gate_is_driven(rt: HostRuntime) -> Result<(), Fail> {
         return Err(Fail::new("no streams"));
     };
     let shown = simulate(alloc, or_gate(alloc)?, &or_ports(alloc)?, &streams)?;
-    assert_eq!(rt; only_bits(shown.as_slice()), [false, true, true, true].as_slice());
+    assert_eq!(rt;
+        only_bits(shown.as_slice()),
+        [false, true, true, true].as_slice()
+    );
 
     // one head, and each generation up to 32
     let ports = Ports {
@@ -180,7 +193,10 @@ fn an_or_gate_is_driven(rt: HostRuntime) -> Result<(), Fail> {
         l: 0,
         ..or_ports(alloc)?
     };
-    let words = ["a=100000000000000000000000000000000", "b=000000000000000000000000000000000"];
+    let words = [
+        "a=100000000000000000000000000000000",
+        "b=000000000000000000000000000000000",
+    ];
     let Ok(streams) = read(alloc, &words, &[b"a", b"b"], 33) else {
         return Err(Fail::new("no streams"));
     };
@@ -199,7 +215,11 @@ fn the_first_fault_is_told(rt: HostRuntime) -> Result<(), Fail> {
     let cases: [(&[&str], StreamFaultKind, &[u8]); 9] = [
         (&["a=01", "b=0"], StreamFaultKind::BadLength, b"b=0"),
         (&["a=01"], StreamFaultKind::MissingInput, b"b"),
-        (&["a=01", "a=01", "b=01"], StreamFaultKind::TwiceInput, b"a=01"),
+        (
+            &["a=01", "a=01", "b=01"],
+            StreamFaultKind::TwiceInput,
+            b"a=01",
+        ),
         (&["a01", "b=0"], StreamFaultKind::NoEquals, b"a01"),
         (&["c=2", "b"], StreamFaultKind::UnknownInput, b"c=2"),
         (&["a=012", "b=01"], StreamFaultKind::BadBit, b"a=012"),
@@ -225,6 +245,9 @@ fn a_name_may_have_an_equals_sign(rt: HostRuntime) -> Result<(), Fail> {
     let Ok(streams) = read(alloc, &["a=b=10"], &[b"a=b"], 2) else {
         return Err(Fail::new("no streams"));
     };
-    assert_eq!(rt; only_bits(streams.bits.as_slice()), [true, false].as_slice());
+    assert_eq!(rt;
+        only_bits(streams.bits.as_slice()),
+        [true, false].as_slice()
+    );
     Ok(())
 }

@@ -19,9 +19,9 @@ loop-cycle-preserved c =
     let long : length rows ≡ t = length-map-range_with_len (row_of c.args.streams.now) 0 t in
     let at : t * p ≡ 0 + length rows * p = rw long (omega arith) in
     let items : c.push_row.new.due.items ≡ c.loop-cycle.due.items ++ injections_of_row (t * p) cells row =
-        c.in_ok-push_row.ensures
-        ∙ ap (λ (inputs : List PortLine). c.loop-cycle.due.items ++ injections_of_row (t * p) (cells_of inputs) c.deref.result.now) c.as_slice-in-loop-cycle.ensures
-        ∙ ap (λ (row : List Bool). c.loop-cycle.due.items ++ injections_of_row (t * p) cells row) (c.deref.ensures.value ∙ c.in_ok-row.ensures ∙ ap (map (λ (bits : List Bool). unwrap_or (slice_get bits t) false)) c.as_slice.ensures) in
+    c.in_ok-push_row.ensures
+    ∙ ap (λ (inputs : List PortLine). c.loop-cycle.due.items ++ injections_of_row (t * p) (cells_of inputs) c.deref.result.now) c.as_slice-in-loop-cycle.ensures
+    ∙ ap (λ (row : List Bool). c.loop-cycle.due.items ++ injections_of_row (t * p) cells row) (c.deref.ensures.value ∙ c.in_ok-row.ensures ∙ ap (map (λ (bits : List Bool). unwrap_or (slice_get bits t) false)) c.as_slice.ensures) in
     items
     ∙ ap (λ (due : List Injection). due ++ injections_of_row (t * p) cells row) c.loop-cycle.invariant
     ∙ sym (rows_more 0 p cells rows row (t * p) at)

@@ -43,14 +43,14 @@ loop-cycle-preserved c =
     let shown_at = ports.l + cycle * ports.p in
     let due_is : c.deref-in-loop-cycle.result.now ≡ injections_of ports streams = c.deref-in-loop-cycle.ensures.value ∙ c.in_ok-due.ensures in
     let now : plane_of c.in_ok-plane-2.plane.rows ≡ driven_by ports streams start shown_at =
-        c.in_ok-plane-2.ensures.cells start (c.loop-cycle.invariant.cells ∙ ap (λ (due : List Injection). driven (due_of_list due) start c.loop-cycle.generation) (sym due_is))
-        ∙ ap (λ (due : List Injection). driven (due_of_list due) start shown_at) due_is in
+    c.in_ok-plane-2.ensures.cells start (c.loop-cycle.invariant.cells ∙ ap (λ (due : List Injection). driven (due_of_list due) start c.loop-cycle.generation) (sym due_is))
+    ∙ ap (λ (due : List Injection). driven (due_of_list due) start shown_at) due_is in
     let row = λ (t : ℕ). shown_row (driven_by ports streams start (ports.l + t * ports.p)) ports.outs in
     let last : c.of.result ≡ row cycle =
-        c.of.ensures
-        ∙ c.in_ok-shown_row.ensures
-        ∙ ap (shown_row (plane_of c.in_ok-plane-2.plane.rows)) c.as_slice.ensures
-        ∙ ap (λ (plane : Plane). shown_row plane ports.outs) now in
+    c.of.ensures
+    ∙ c.in_ok-shown_row.ensures
+    ∙ ap (shown_row (plane_of c.in_ok-plane-2.plane.rows)) c.as_slice.ensures
+    ∙ ap (λ (plane : Plane). shown_row plane ports.outs) now in
     record {
       width = c.in_ok-plane-2.ensures.width ∙ c.loop-cycle.invariant.width;
       height = c.in_ok-plane-2.ensures.height ∙ c.loop-cycle.invariant.height;

@@ -29,10 +29,10 @@ loop-name-preserved c =
     let some : bits_for words name ≡ Some c.in-Some.bits.now = ap (bits_for words) (sym c.as_slice.ensures) ∙ sym c.in-Some.ensures in
     let f = λ (name : List ℕ). stream_in (unwrap_or (bits_for words name) []) in
     let new : c.of.result ≡ f (get_or names i name) =
-        c.of.ensures
-        ∙ c.in_ok-stream_in.ensures
-        ∙ ap (λ (o : Option (List ℕ)). stream_in (unwrap_or o [])) (sym some)
-        ∙ ap f c.name-item.is in
+    c.of.ensures
+    ∙ c.in_ok-stream_in.ensures
+    ∙ ap (λ (o : Option (List ℕ)). stream_in (unwrap_or o [])) (sym some)
+    ∙ ap f c.name-item.is in
     record {
       streams =
           c.in_ok-push.ensures.items

@@ -10,8 +10,7 @@ pub returns : goal.returns
 returns c =
     let word = c.args.word.now in
     let count = c.in_ok-count.count in
-    let at = is_cut word count (sym c.bits_after.ensures ∙ c.in_ok-count.was) in
-    (
+    let at = is_cut word count (sym c.bits_after.ensures ∙ c.in_ok-count.was) in (
       at.0,
       ap (λ n. take (length word - n - 1) word) (sym at.1),
       take_rest word (length word - count) ∙ ap (λ n. drop (length word - n) word) (sym at.1),
