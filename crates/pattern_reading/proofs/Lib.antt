@@ -17,3 +17,5 @@ pub mod SpelledHeader
 pub mod Places
 pub mod Large
 pub mod FirstLine
+pub mod Ranges
+pub mod PortsInside

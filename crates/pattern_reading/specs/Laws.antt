@@ -1,14 +1,17 @@
 -- Laws of the readings: a text says one thing.
-use Rattle.std.specs.Prelude.{false, ◌≡◌, ◌≢◌, ◌⊎◌, ℕ, ◌+◌, true, if◌then◌else◌, List, [], ◌∷◌, ◌++◌, map, length, flat_map}
-use Rattle.std.specs.List.{All, range_with_len}
+use Rattle.std.specs.Prelude.{false, ◌≡◌, ◌<◌, ◌≤◌, ◌≢◌, ◌⊎◌, ℕ, ◌+◌, true, if◌then◌else◌, List, [], ◌∷◌, ◌++◌, map, length, flat_map}
+use Rattle.std.specs.List.{All, AllByRecursion, range_with_len}
 use Rattle.std.specs.Str.Lines.{lines, strip_carriage_return}
 use Rattle.ww_rule.specs.Grid.{Grid}
 use Rattle.pattern_reading.specs.declared.faults.RleFaultKind.{RleFaultKind}
 use Rattle.pattern_reading.specs.declared.faults.PortFaultKind.{PortFaultKind}
+use Rattle.pattern_reading.specs.declared.ports.PortLine.{PortLine}
+use Rattle.pattern_reading.specs.declared.ports.NetLine.{NetLine}
 use Rattle.pattern_reading.specs.declared.ports.Ports.{Ports}
 use Rattle.pattern_reading.specs.Lines.{Line, lines_of, with_line_feeds}
+use Rattle.pattern_reading.specs.Numbers.{greatest_number}
 use Rattle.pattern_reading.specs.Items.{Item, Cells, RowEnds, column_after, row_after}
-use Rattle.pattern_reading.specs.Pattern.{ReadsAsPattern, HasRleFault}
+use Rattle.pattern_reading.specs.Pattern.{ReadsAsPattern, HasRleFault, HasBox, HasLargeBox, HasReaderFault, ReadsWithinLimit}
 use Rattle.pattern_reading.specs.PortTable.{ReadsAsPorts, HasPortFault}
 
 -- A text reads as at most one pattern.
@@ -26,6 +29,20 @@ HasNoFaultIfRead text = (grid : Grid) (kind : RleFaultKind) (line : ℕ) → Rea
 -- It reads or has a fault.
 abbrev pub HasPatternOrFault : List ℕ → Type 0
 HasPatternOrFault text = ((grid : Grid) × ReadsAsPattern text grid) ⊎ ((kind : RleFaultKind) × (line : ℕ) × HasRleFault text kind line)
+
+-- A reader answers it in one of three ways: a pattern, a fault and its line, or a box that is too large with its numbers.
+abbrev pub HasReaderAnswer : List ℕ → Type 0
+HasReaderAnswer text =
+    ((grid : Grid) × ReadsWithinLimit text grid)
+    ⊎ ((kind : RleFaultKind) × (line : ℕ) × HasReaderFault text kind line)
+    ⊎ ((width height : ℕ) × HasLargeBox text width height)
+
+-- No two of them are possible, and a box has one width and one height.
+pub record HasOneReaderAnswer (text : List ℕ) : Type 0 where
+  pub reads_or_fault : (grid : Grid) (kind : RleFaultKind) (line : ℕ) → ReadsWithinLimit text grid → HasReaderFault text kind line → ⊥
+  pub reads_or_large : (grid : Grid) (width height : ℕ) → ReadsWithinLimit text grid → HasLargeBox text width height → ⊥
+  pub fault_or_large : (kind : RleFaultKind) (line width height : ℕ) → HasReaderFault text kind line → HasLargeBox text width height → ⊥
+  pub one_box : (width height width' height' : ℕ) → HasBox text width height → HasBox text width' height' → (width ≡ width') × (height ≡ height')
 
 -- The same of the port table of a text, in a box of this width and height.
 abbrev pub HasOneTable : List ℕ → ℕ → ℕ → Type 0
@@ -94,3 +111,23 @@ HasLineThenRest bytes rest =
 
 abbrev pub HasLoneLine : List ℕ → Type 0
 HasLoneLine bytes = All (λ b. b ≢ 10) bytes → bytes ≢ [] → lines_of bytes ≡ record { number = 1; bytes = bytes; is_ended = false } ∷ []
+
+-- The numbers of a header fit 64 bits.
+abbrev pub HasSmallBox : List ℕ → ℕ → ℕ → Type 0
+HasSmallBox text width height = HasBox text width height → (width ≤ greatest_number) × (height ≤ greatest_number)
+
+-- a port and a net in a box
+abbrev pub IsPortInside : ℕ → ℕ → PortLine → Type 0
+IsPortInside width height port = (port.x < width) × (port.y < height)
+
+abbrev pub IsNetInside : ℕ → ℕ → NetLine → Type 0
+IsNetInside width height net = (net.x < width) × (net.y < height)
+
+-- The cells of a table that a text reads as lie in the box.
+pub record HasCellsInside (width height : ℕ) (ports : Ports) : Type 0 where
+  pub ins : AllByRecursion (IsPortInside width height) ports.ins
+  pub outs : AllByRecursion (IsPortInside width height) ports.outs
+  pub nets : AllByRecursion (IsNetInside width height) ports.nets
+
+abbrev pub HasPortsInside : List ℕ → ℕ → ℕ → Type 0
+HasPortsInside text width height = (ports : Ports) → ReadsAsPorts text width height ports → HasCellsInside width height ports

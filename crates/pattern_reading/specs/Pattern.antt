@@ -1,5 +1,5 @@
 -- What a text of extended RLE says: a pattern, or its first fault.
-use Rattle.std.specs.Prelude.{◌≡◌, ◌⊎◌, ℕ, ◌+◌, ◌*◌, ◌<◌, Bool, true, false, ◌&&◌, not, ◌==◌, nat_lt, nat_le, if◌then◌else◌, List, [], Option, Some, None, get_or, slice_get, take_while, filter_map, is_some, codes, unwrap_or}
+use Rattle.std.specs.Prelude.{◌≡◌, ◌⊎◌, ℕ, ◌+◌, ◌*◌, ◌<◌, ◌≤◌, Bool, true, false, ◌&&◌, not, ◌==◌, nat_lt, nat_le, if◌then◌else◌, List, [], Option, Some, None, get_or, slice_get, take_while, filter_map, is_some, codes, unwrap_or}
 use Rattle.std.specs.List.{list_any}
 use Rattle.ww_rule.specs.declared.pattern.State.{State}
 use Rattle.ww_rule.specs.declared.pattern.State.TheVariants.{Empty}
@@ -112,5 +112,16 @@ abbrev pub most_cells : ℕ
 most_cells = 268435456
 
 -- The header is without fault, and its box has more cells than a reader takes, whatever the items are.
+abbrev pub HasLargeBox : List ℕ → ℕ → ℕ → Type 0
+HasLargeBox text width height = HasBox text width height × (most_cells < width * height)
+
 abbrev pub IsGridTooLarge : List ℕ → Type 0
-IsGridTooLarge text = (width height : ℕ) × HasBox text width height × (most_cells < width * height)
+IsGridTooLarge text = (width height : ℕ) × HasLargeBox text width height
+
+-- The fault with a line that a reader answers: a box that is too large it answers in place of what is at fault in the items.
+abbrev pub HasReaderFault : List ℕ → RleFaultKind → ℕ → Type 0
+HasReaderFault text kind line = HasRleFault text kind line × ¬ (IsGridTooLarge text)
+
+-- The pattern that a reader answers.
+abbrev pub ReadsWithinLimit : List ℕ → Grid → Type 0
+ReadsWithinLimit text grid = ReadsAsPattern text grid × (grid.width * grid.height ≤ most_cells)

@@ -2,7 +2,8 @@
 
 ghost use Rattle.std.specs.Prelude.{List, ℕ};
 ghost use Rattle.pattern_reading.specs.Laws.{HasOnePattern, HasOneRleFault, HasNoFaultIfRead, HasPatternOrFault};
-ghost use Rattle.pattern_reading.specs.Laws.{HasOneTable, HasOnePortFault, HasNoPortFaultIfRead, HasTableOrFault};
+ghost use Rattle.pattern_reading.specs.Laws.{HasReaderAnswer, HasOneReaderAnswer, HasSmallBox};
+ghost use Rattle.pattern_reading.specs.Laws.{HasOneTable, HasOnePortFault, HasNoPortFaultIfRead, HasTableOrFault, HasPortsInside};
 ghost use Rattle.pattern_reading.specs.Laws.{HasAllInLines, HasNumberedLines, HasLinesOfRust, IsLineText, HasFirstLine, HasLineThenRest, HasLoneLine, HasNextPlace};
 ghost use Rattle.pattern_reading.specs.Items.{Item};
 ghost use Rattle.ww_rule.specs.Grid.{Grid};
@@ -18,12 +19,20 @@ pub fn pattern_laws()
     ensures total { (text : List ℕ) → HasPatternOrFault text }
 {}
 
-/// In each box the port table of a text reads as exactly one table, or has exactly one first fault.
+/// A reader that refuses boxes past a limit has exactly one answer to each text, and the numbers of a header fit 64 bits.
+pub fn reader_laws()
+    ensures answer { (text : List ℕ) → HasReaderAnswer text }
+    ensures one { (text : List ℕ) → HasOneReaderAnswer text }
+    ensures small { (text : List ℕ) (width height : ℕ) → HasSmallBox text width height }
+{}
+
+/// In each box the port table of a text reads as exactly one table, whose cells lie in the box, or has exactly one first fault.
 pub fn port_laws()
     ensures table { (text : List ℕ) (width height : ℕ) → HasOneTable text width height }
     ensures fault { (text : List ℕ) (width height : ℕ) → HasOnePortFault text width height }
     ensures apart { (text : List ℕ) (width height : ℕ) → HasNoPortFaultIfRead text width height }
     ensures total { (text : List ℕ) (width height : ℕ) → HasTableOrFault text width height }
+    ensures inside { (text : List ℕ) (width height : ℕ) → HasPortsInside text width height }
 {}
 
 /// The lines of a text are numbered from 1 on, all of the text is in them, they are those of Rust's `lines`, and a line before a

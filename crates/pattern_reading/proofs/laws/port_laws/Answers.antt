@@ -1,3 +1,4 @@
+use Rattle.pattern_reading.proofs.PortsInside.{ports_inside}
 use Rattle.pattern_reading.proofs.PortLaws.{one_table, one_port_fault, no_port_fault_if_read, table_or_fault}
 use Rattle.pattern_reading.proofs.laws.port_laws.Goals as goal
 
@@ -12,3 +13,6 @@ returns-clause-apart c = no_port_fault_if_read
 
 pub returns-clause-total : goal.returns-clause-total
 returns-clause-total c = table_or_fault
+
+pub returns-clause-inside : goal.returns-clause-inside
+returns-clause-inside c = ports_inside
