@@ -1,0 +1,48 @@
+// What a reader answers where it reads no pattern.
+ghost use Rattle.std.specs.Prelude.{◌≡◌};
+ghost use Rattle.rle_read.specs.declared.error.RleReadError.TheVariants.{Fault, NoMemory};
+
+use pattern_reading::RleFaultKind;
+use std::alloc::{AllocError, AllocFailed};
+
+/// A fault of a text of extended RLE, and the number of the line that it is on, from 1.
+#[derive(Clone, Copy, Debug, PartialEq, Eq)]
+pub struct RleFault {
+    pub kind: RleFaultKind,
+    pub line: usize,
+}
+
+/// Why no pattern was read.
+#[derive(Clone, Copy, Debug, PartialEq, Eq)]
+pub enum RleReadError {
+    /// The text is at fault, and this is its first fault.
+    Fault(RleFault),
+    /// The header's box has more cells than a reader takes, 268435456.
+    TooLarge { width: u64, height: u64 },
+    /// There was no memory for the pattern.
+    NoMemory,
+}
+
+impl From<RleFault> for RleReadError {
+    ghost from_gives = { λ fault e. e ≡ Fault fault };
+
+    fn from(fault: RleFault) -> Self {
+        RleReadError::Fault(fault)
+    }
+}
+
+impl From<AllocError> for RleReadError {
+    ghost from_gives = { λ _ e. e ≡ NoMemory };
+
+    fn from(_: AllocError) -> Self {
+        RleReadError::NoMemory
+    }
+}
+
+impl<T: Drop> From<AllocFailed<T>> for RleReadError {
+    ghost from_gives = { λ _ e. e ≡ NoMemory };
+
+    fn from(_: AllocFailed<T>) -> Self {
+        RleReadError::NoMemory
+    }
+}

@@ -1,0 +1,17 @@
+//! Reads the text of a pattern, in extended RLE.
+#![tactic(auto)]
+
+mod draw_text;
+mod drawing;
+mod error;
+mod header;
+mod items;
+mod lines;
+mod reader;
+mod words;
+
+pub use error::{RleFault, RleReadError};
+pub use reader::read;
+
+#[cfg(test)]
+mod tests;

@@ -1,0 +1,70 @@
+// The lines of a text.
+ghost use Rattle.std.specs.Prelude.{◌≡◌, ◌+◌, ◌^◌, ◌∷◌, ◌<◌, ◌==◌, not, length};
+ghost use Rattle.std.specs.List.{prefix_len};
+ghost use Rattle.std.specs.Str.Lines.{strip_carriage_return};
+ghost use Rattle.pattern_reading.specs.Lines.{lines_from, with_line_feeds};
+ghost use Rattle.pattern_reading.specs.Header.{is_comment};
+ghost use Rattle.rle_read.specs.Texts.{line_of};
+
+/// A line without its end. Only the last line of a text may lack an end.
+#[derive(Clone, Copy)]
+pub struct Line<'a> {
+    pub number: usize,
+    pub bytes: &'a [u8],
+    pub is_ended: bool,
+}
+
+impl Line<'_> {
+    /// Whether the line is a comment: it begins with `#`.
+    pub fn is_comment(self) -> bool
+        ensures { result ≡ is_comment (line_of self.entry) }
+    {
+        match self.bytes {
+            [b'#', ..] => true,
+            _ => false,
+        }
+    }
+}
+
+// The bytes without a carriage return at their end.
+fn without_carriage_return(bytes: &[u8]) -> &[u8]
+    ensures { result.now ≡ strip_carriage_return bytes.now }
+{
+    match bytes {
+        [before @ .., b'\r'] => before,
+        _ => bytes,
+    }
+}
+
+// How many bytes stand before the first line feed, which are all where there is none.
+fn bytes_before_feed(text: &[u8]) -> usize
+    ensures { result ≡ prefix_len (λ b. not (b == 10)) text.now }
+{
+    text.iter().take_while(|b| **b != b'\n').count()
+}
+
+/// The first line of a text before which stand so many lines, and the text after it.
+pub fn split_line(lines_before: usize, text: &[u8]) -> (Line<'_>, &[u8])
+    requires room { lines_before + length text.now < 2 ^ 64 }
+    requires some { 0 < length text.now }
+    ensures lines { lines_from (lines_before + 1) (with_line_feeds text.now) ≡ line_of result.0 ∷ lines_from (lines_before + 1 + 1) (with_line_feeds result.1.now) }
+    ensures number { result.0.number ≡ lines_before + 1 }
+    ensures shorter { length result.1.now < length text.now }
+{
+    let number = lines_before + 1;
+    let end = bytes_before_feed(text);
+    if end == text.len() {
+        let line = Line {
+            number,
+            bytes: text,
+            is_ended: false,
+        };
+        return (line, &[]);
+    }
+    let line = Line {
+        number,
+        bytes: without_carriage_return(&text[..end]),
+        is_ended: true,
+    };
+    (line, &text[end + 1..])
+}
