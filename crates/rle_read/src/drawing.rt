@@ -1,5 +1,5 @@
 // A pattern that is drawn item by item.
-ghost use Rattle.std.specs.Prelude.{◌≡◌, ◌+◌, ◌≤◌, ◌<◌, ◌&&◌, nat_le, nat_lt, None, List, [], length, get_or, slice_set, replicate, IfOk, IfErr};
+ghost use Rattle.std.specs.Prelude.{◌≡◌, ◌+◌, ◌≤◌, ◌<◌, ◌&&◌, nat_le, nat_lt, None, [], length, get_or, slice_set, replicate, IfOk, IfErr};
 ghost use Rattle.ww_rule.specs.Grid.{IsGrid};
 ghost use Rattle.ww_rule.specs.declared.pattern.State.TheVariants.{Empty};
 ghost use Rattle.pattern_reading.specs.Items.{Cells};

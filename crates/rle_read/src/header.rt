@@ -1,5 +1,5 @@
 // The header of a text of extended RLE.
-ghost use Rattle.std.specs.Prelude.{◌≡◌, option_map, reverse, map, codes};
+ghost use Rattle.std.specs.Prelude.{◌≡◌, option_map, reverse};
 ghost use Rattle.std.specs.Option.{option_copied};
 ghost use Rattle.pattern_reading.specs.Numbers.{without_leading_blanks};
 ghost use Rattle.pattern_reading.specs.Header.{is_wireworld, rule_name_in, rule_in, header_in};

@@ -1,10 +1,9 @@
 // A text of extended RLE, read.
-ghost use Rattle.std.specs.Prelude.{◌≡◌, ◌⊎◌, ◌+◌, ◌*◌, ◌^◌, ◌≤◌, ◌<◌, ◌==◌, ℕ, Ok, Err, Some, None, true, length, nat_lt, IfOk, IfErr, MatchResult};
+ghost use Rattle.std.specs.Prelude.{◌≡◌, ◌⊎◌, ◌*◌, ◌^◌, ◌<◌, ℕ, Some, None, true, length, nat_lt, IfOk, IfErr, MatchResult};
 ghost use Rattle.ww_rule.specs.Grid.{Grid};
 ghost use Rattle.ww_rule.specs.Patterns.{grid_of};
 ghost use Rattle.pattern_reading.specs.declared.faults.RleFaultKind.{RleFaultKind};
-ghost use Rattle.pattern_reading.specs.Lines.{lines_from, last_line, with_line_feeds};
-ghost use Rattle.pattern_reading.specs.Header.{is_skipped, is_wireworld, header_in, header_line, lines_after_header};
+ghost use Rattle.pattern_reading.specs.Header.{is_skipped, is_wireworld, header_in, header_line};
 ghost use Rattle.pattern_reading.specs.Pattern.{HasRleFault, HasReaderFault, HasLargeBox, ReadsWithinLimit, most_cells};
 ghost use Rattle.rle_read.specs.Texts.{line_of, header_of};
 ghost use Rattle.rle_read.specs.Answers.{IsHeaderAt, IsHeaderFault, HasReason};
