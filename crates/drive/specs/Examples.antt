@@ -1,5 +1,5 @@
 -- Stream words whose reading is known, for inputs a and b, or one input `a=b`, and two cycles.
-use Rattle.std.specs.Prelude.{ℕ, Bool, true, false, List, [], ◌∷◌, codes}
+use Rattle.std.specs.Prelude.{ℕ, true, false, List, [], ◌∷◌, codes}
 use Rattle.drive.specs.declared.error.StreamFaultKind.{StreamFaultKind}
 use Rattle.drive.specs.declared.error.StreamFaultKind.TheVariants.{NoEquals, UnknownInput, TwiceInput, BadBit, BadLength, MissingInput}
 use Rattle.drive.specs.Streams.{HasStreams, HasStreamFault, fault_at}
