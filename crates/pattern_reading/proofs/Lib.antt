@@ -19,3 +19,4 @@ pub mod Large
 pub mod FirstLine
 pub mod Ranges
 pub mod PortsInside
+pub mod Whole

@@ -9,3 +9,4 @@ pub mod Examples
 pub mod Laws
 pub mod Spelling
 pub mod SpelledPattern
+pub mod Whole

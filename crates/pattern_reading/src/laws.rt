@@ -4,6 +4,7 @@ ghost use Rattle.std.specs.Prelude.{List, ℕ};
 ghost use Rattle.pattern_reading.specs.Laws.{HasOnePattern, HasOneRleFault, HasNoFaultIfRead, HasPatternOrFault};
 ghost use Rattle.pattern_reading.specs.Laws.{HasReaderAnswer, HasOneReaderAnswer, HasSmallBox};
 ghost use Rattle.pattern_reading.specs.Laws.{HasOneTable, HasOnePortFault, HasNoPortFaultIfRead, HasTableOrFault, HasPortsInside};
+ghost use Rattle.pattern_reading.specs.Whole.{HasAnswer, HasOneAnswer};
 ghost use Rattle.pattern_reading.specs.Laws.{HasAllInLines, HasNumberedLines, HasLinesOfRust, IsLineText, HasFirstLine, HasLineThenRest, HasLoneLine, HasNextPlace};
 ghost use Rattle.pattern_reading.specs.Items.{Item};
 ghost use Rattle.ww_rule.specs.Grid.{Grid};
@@ -33,6 +34,13 @@ pub fn port_laws()
     ensures apart { (text : List ℕ) (width height : ℕ) → HasNoPortFaultIfRead text width height }
     ensures total { (text : List ℕ) (width height : ℕ) → HasTableOrFault text width height }
     ensures inside { (text : List ℕ) (width height : ℕ) → HasPortsInside text width height }
+{}
+
+/// Of each text exactly one holds: it reads as a pattern with its port table, its pattern has a fault, its box is too large, or its
+/// table has a fault in the pattern's box.
+pub fn whole_laws()
+    ensures answer { (text : List ℕ) → HasAnswer text }
+    ensures one { (text : List ℕ) → HasOneAnswer text }
 {}
 
 /// The lines of a text are numbered from 1 on, all of the text is in them, they are those of Rust's `lines`, and a line before a
