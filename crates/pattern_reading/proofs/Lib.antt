@@ -20,3 +20,5 @@ pub mod FirstLine
 pub mod Ranges
 pub mod PortsInside
 pub mod Whole
+pub mod LineBytes
+pub mod SoundTable

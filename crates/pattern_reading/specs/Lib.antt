@@ -10,3 +10,4 @@ pub mod Laws
 pub mod Spelling
 pub mod SpelledPattern
 pub mod Whole
+pub mod SoundTable
