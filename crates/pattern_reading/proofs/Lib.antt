@@ -22,3 +22,4 @@ pub mod PortsInside
 pub mod Whole
 pub mod LineBytes
 pub mod SoundTable
+pub mod PortForms

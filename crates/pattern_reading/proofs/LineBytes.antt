@@ -12,9 +12,9 @@ use Rattle.pattern_reading.specs.Header.{is_skipped, lines_before_header}
 
 pub other_byte : (a b : ℕ) → (a == b) ≡ false → a ≢ b
 other_byte a b e same = elim (eqb_tells a b) as (λ _. ⊥) [
-    | inl equal ↦ true≢false (sym equal.0 ∙ e)
-    | inr other ↦ other.1 same
-  ]
+  | inl equal ↦ true≢false (sym equal.0 ∙ e)
+  | inr other ↦ other.1 same
+]
 
 -- the bytes of a line
 abbrev pub HasNoFeed : List ℕ → Type 0

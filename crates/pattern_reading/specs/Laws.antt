@@ -76,7 +76,7 @@ HasNumberedLines text = map (λ line. line.number) (lines_of text) ≡ range_wit
 abbrev pub HasLinesOfRust : List ℕ → Type 0
 HasLinesOfRust text = map (λ line. line.bytes) (lines_of text) ≡ lines text
 
--- bytes that can stand in a line
+-- bytes without line feeds and carriage returns, which stand in a line whatever follows them
 abbrev pub IsLineText : List ℕ → Type 0
 IsLineText bytes = All (λ b. (b ≢ 10) × (b ≢ 13)) bytes
 

@@ -11,7 +11,8 @@ ghost use Rattle.pattern_reading.specs.Items.{Item};
 ghost use Rattle.ww_rule.specs.Grid.{Grid};
 ghost use Rattle.pattern_reading.specs.PortLines.{PortForm};
 ghost use Rattle.pattern_reading.specs.SpelledPattern.{SpelledItem, HasSpelledPattern, HasSpelledHeader, HasSpelledCount};
-ghost use Rattle.pattern_reading.specs.Spelling.{HasSpelledPorts, HasSamePattern};
+ghost use Rattle.pattern_reading.specs.Spelling.{HasItsForms, HasSpelledPorts, HasSamePattern};
+ghost use Rattle.pattern_reading.specs.declared.ports.Ports.{Ports};
 
 /// Each text of extended RLE reads as exactly one pattern, or has exactly one first fault.
 pub fn pattern_laws()
@@ -66,6 +67,7 @@ pub fn place_laws()
 pub fn spelled_table_laws()
     ensures ports { (forms : List PortForm) (rest : List ℕ) → HasSpelledPorts forms rest }
     ensures pattern { (forms : List PortForm) (rest : List ℕ) → HasSamePattern forms rest }
+    ensures forms { (ports : Ports) → HasItsForms ports }
 {}
 
 /// A header and items that are spelled are read as the pattern that they spell, however the items are cut into lines.

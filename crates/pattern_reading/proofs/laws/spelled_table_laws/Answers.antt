@@ -1,3 +1,4 @@
+use Rattle.pattern_reading.proofs.PortForms.{its_forms}
 use Rattle.pattern_reading.proofs.Spelled.{spelled_ports, same_pattern}
 use Rattle.pattern_reading.proofs.laws.spelled_table_laws.Goals as goal
 
@@ -6,3 +7,6 @@ returns-clause-ports c = spelled_ports
 
 pub returns-clause-pattern : goal.returns-clause-pattern
 returns-clause-pattern c = same_pattern
+
+pub returns-clause-forms : goal.returns-clause-forms
+returns-clause-forms c = its_forms
