@@ -23,3 +23,4 @@ pub mod Whole
 pub mod LineBytes
 pub mod SoundTable
 pub mod PortForms
+pub mod SoundLines

@@ -7,6 +7,8 @@ use Rattle.pattern_reading.specs.declared.ports.Ports.{Ports}
 use Rattle.pattern_reading.specs.Numbers.{greatest_number}
 use Rattle.pattern_reading.specs.PortLines.{path_in}
 use Rattle.pattern_reading.specs.PortTable.{ReadsAsPorts}
+use Rattle.pattern_reading.specs.Laws.{HasCellsInside}
+use Rattle.pattern_reading.specs.Spelling.{IsSoundAfter, IsSpellable, port_forms}
 
 -- a name as a line of the table has it: one or more bytes, none of them a line feed or a space
 pub record IsWord (name : List ℕ) : Type 0 where
@@ -43,3 +45,17 @@ pub record IsSoundTable (ports : Ports) : Type 0 where
 -- Such is a table that a text reads as.
 abbrev pub HasSoundTable : List ℕ → ℕ → ℕ → Type 0
 HasSoundTable text width height = (ports : Ports) → ReadsAsPorts text width height ports → IsSoundTable ports
+
+-- A sound table whose cells lie in a box has lines of which none is at fault there.
+abbrev pub HasSoundLines : ℕ → ℕ → Ports → Type 0
+HasSoundLines width height ports = IsSoundTable ports → HasCellsInside width height ports → IsSoundAfter width height [] (port_forms ports)
+
+-- no carriage return is in a name of the table
+pub record HasNoReturns (ports : Ports) : Type 0 where
+  pub ins : AllByRecursion (λ port. All (λ b. b ≢ 13) port.name) ports.ins
+  pub outs : AllByRecursion (λ port. All (λ b. b ≢ 13) port.name) ports.outs
+  pub nets : AllByRecursion (λ net. All (λ b. b ≢ 13) net.name) ports.nets
+
+-- Where this is so as well, its lines can be spelled.
+abbrev pub HasSpellableLines : Ports → Type 0
+HasSpellableLines ports = IsSoundTable ports → HasNoReturns ports → AllByRecursion IsSpellable (port_forms ports)

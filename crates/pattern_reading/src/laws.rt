@@ -4,7 +4,7 @@ ghost use Rattle.std.specs.Prelude.{List, ℕ};
 ghost use Rattle.pattern_reading.specs.Laws.{HasOnePattern, HasOneRleFault, HasNoFaultIfRead, HasPatternOrFault};
 ghost use Rattle.pattern_reading.specs.Laws.{HasReaderAnswer, HasOneReaderAnswer, HasSmallBox};
 ghost use Rattle.pattern_reading.specs.Laws.{HasOneTable, HasOnePortFault, HasNoPortFaultIfRead, HasTableOrFault, HasPortsInside};
-ghost use Rattle.pattern_reading.specs.SoundTable.{HasSoundTable};
+ghost use Rattle.pattern_reading.specs.SoundTable.{HasSoundLines, HasSoundTable, HasSpellableLines};
 ghost use Rattle.pattern_reading.specs.Whole.{HasAnswer, HasOneAnswer};
 ghost use Rattle.pattern_reading.specs.Laws.{HasAllInLines, HasNumberedLines, HasLinesOfRust, IsLineText, HasFirstLine, HasLineThenRest, HasLoneLine, HasNextPlace};
 ghost use Rattle.pattern_reading.specs.Items.{Item};
@@ -68,6 +68,8 @@ pub fn spelled_table_laws()
     ensures ports { (forms : List PortForm) (rest : List ℕ) → HasSpelledPorts forms rest }
     ensures pattern { (forms : List PortForm) (rest : List ℕ) → HasSamePattern forms rest }
     ensures forms { (ports : Ports) → HasItsForms ports }
+    ensures spellable { (ports : Ports) → HasSpellableLines ports }
+    ensures sound { (width height : ℕ) (ports : Ports) → HasSoundLines width height ports }
 {}
 
 /// A header and items that are spelled are read as the pattern that they spell, however the items are cut into lines.

@@ -16,6 +16,7 @@ use Rattle.pattern_reading.specs.Spelling.{IsSpellable, IsSoundAfter, port_forms
 use Rattle.pattern_reading.specs.SpelledPattern.{SpelledItem, SpellsGrid, items_of_text, lines_text, places_of, spelled_header}
 use Rattle.pattern_reading.specs.declared.ports.Ports.{Ports}
 use Rattle.pattern_reading.proofs.PortForms.{its_forms}
+use Rattle.pattern_reading.proofs.SoundLines.{sound_lines, spellable_lines}
 use Rattle.pattern_reading.proofs.LineText.{first_line}
 use Rattle.pattern_reading.proofs.Spelled.{same_pattern, spelled_ports}
 use Rattle.pattern_reading.proofs.SpelledHeader.{spelled_header_is}
@@ -112,6 +113,8 @@ pub written_ports : (grid : Grid) (forms : List PortForm) → HasWrittenPorts gr
 written_ports grid forms w h sound = ports_read grid w forms h sound
 
 pub written_text : (grid : Grid) (ports : Ports) → HasWrittenText grid ports
-written_text grid ports w h sound =
-    let read : ReadsAsPorts (pattern_text grid ports) grid.width grid.height (ports_of (port_forms ports)) = ports_read grid w (port_forms ports) h sound in
-    (pattern_reads grid w (port_forms ports) h, rw (its_forms ports) at read)
+written_text grid ports w table cells no_returns =
+    let spellable = spellable_lines ports table no_returns in
+    let sound = sound_lines grid.width grid.height ports table cells in
+    let read : ReadsAsPorts (pattern_text grid ports) grid.width grid.height (ports_of (port_forms ports)) = ports_read grid w (port_forms ports) spellable sound in
+    (pattern_reads grid w (port_forms ports) spellable, rw (its_forms ports) at read)
