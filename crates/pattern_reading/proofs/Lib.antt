@@ -24,3 +24,4 @@ pub mod LineBytes
 pub mod SoundTable
 pub mod PortForms
 pub mod SoundLines
+pub mod OneRun

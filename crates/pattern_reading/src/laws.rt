@@ -2,7 +2,7 @@
 
 ghost use Rattle.std.specs.Prelude.{List, ℕ};
 ghost use Rattle.pattern_reading.specs.Laws.{HasOnePattern, HasOneRleFault, HasNoFaultIfRead, HasPatternOrFault};
-ghost use Rattle.pattern_reading.specs.Laws.{HasReaderAnswer, HasOneReaderAnswer, HasSmallBox};
+ghost use Rattle.pattern_reading.specs.Laws.{HasReaderAnswer, HasOneReaderAnswer, HasSmallBox, HasOneRun};
 ghost use Rattle.pattern_reading.specs.Laws.{HasOneTable, HasOnePortFault, HasNoPortFaultIfRead, HasTableOrFault, HasPortsInside};
 ghost use Rattle.pattern_reading.specs.SoundTable.{HasSoundLines, HasSoundTable, HasSpellableLines};
 ghost use Rattle.pattern_reading.specs.Whole.{HasAnswer, HasOneAnswer};
@@ -58,9 +58,10 @@ pub fn line_laws()
     ensures lone { (bytes : List ℕ) → HasLoneLine bytes }
 {}
 
-/// The sums of counts that place an item grow item by item, as a reader keeps them.
+/// The sums of counts that place an item grow item by item, as a reader keeps them, and no two runs of cells overlap.
 pub fn place_laws()
-    ensures { (item : Item) (before : List Item) → HasNextPlace item before }
+    ensures next { (item : Item) (before : List Item) → HasNextPlace item before }
+    ensures one_run { (text : List ℕ) → HasOneRun text }
 {}
 
 /// A port table that is spelled before a text is read as it was meant, and changes nothing in the text's pattern.
