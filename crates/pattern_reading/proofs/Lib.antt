@@ -19,3 +19,9 @@ pub mod Large
 pub mod FirstLine
 pub mod Ranges
 pub mod PortsInside
+pub mod Whole
+pub mod LineBytes
+pub mod SoundTable
+pub mod PortForms
+pub mod SoundLines
+pub mod OneRun

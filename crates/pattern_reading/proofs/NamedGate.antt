@@ -8,7 +8,7 @@ use Rattle.pattern_reading.specs.Spelling.{IsPortName, IsSpellable, IsSoundAfter
 use Rattle.pattern_reading.proofs.Spelled.{same_pattern, spelled_ports}
 use Rattle.pattern_reading.proofs.RleExamples.{or_pattern_reads}
 
-other_name : (a b : List ℕ) → a ≢ b → bytes_eq b a ≡ false
+pub other_name : (a b : List ℕ) → a ≢ b → bytes_eq b a ≡ false
 other_name a b h = by_test (bytes_eq b a) refl
   where
     by_test : (t : Bool) → bytes_eq b a ≡ t → t ≡ false

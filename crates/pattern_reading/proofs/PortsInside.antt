@@ -15,7 +15,7 @@ abbrev IsInside : ℕ → ℕ → PortForm → Type 0
 IsInside width height form = is_outside width height form ≡ false
 
 -- where no fault stands first and none in the rest
-no_first : (number : ℕ) (o : Option PortFaultKind) (faults : List PortFaultAt) → cons_option (o >>= λ kind. Some (record { kind = kind; line = number })) faults ≡ [] → (o ≡ None) × (faults ≡ [])
+pub no_first : (number : ℕ) (o : Option PortFaultKind) (faults : List PortFaultAt) → cons_option (o >>= λ kind. Some (record { kind = kind; line = number })) faults ≡ [] → (o ≡ None) × (faults ≡ [])
 no_first number None faults e = (refl, e)
 no_first number (Some kind) faults e = absurd (cc)
 

@@ -39,7 +39,7 @@ blank_line : (bytes : List ℕ) (header : Header) → header_in bytes ≡ Some h
 blank_line bytes header e false h = refl
 blank_line bytes header e true h = absurd (none-some header (sym (blank_is_none bytes (blanks_alone bytes h)) ∙ e))
 
-not_skipped : (n : ℕ) (bytes : List ℕ) (header : Header) → header_in bytes ≡ Some header → is_skipped (record { number = n; bytes = bytes; is_ended = true }) ≡ false
+pub not_skipped : (n : ℕ) (bytes : List ℕ) (header : Header) → header_in bytes ≡ Some header → is_skipped (record { number = n; bytes = bytes; is_ended = true }) ≡ false
 not_skipped n bytes header e = or_from _ _ (comment_first bytes header e _ refl) (blank_line bytes header e _ refl)
 
 abbrev bare : List LineItem → List Item

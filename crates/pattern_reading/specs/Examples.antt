@@ -192,6 +192,7 @@ header_examples =
     ∷ spells (codes "x=3,y=1,rule=WIREWORLD\n3C!") 3 1 three
     ∷ spells (codes "# one\n\n \t\n#two\r\n\t x\t=  003 ,y = 1,\trule =\tWireWorld \t\r\n3C!") 3 1 three
     ∷ spells (codes "x = 18446744073709551615, y = 0, rule = WireWorld\n!") 18446744073709551615 0 []
+    ∷ spells (codes "x = 0000000000000000000000000000003, y = 1, rule = WireWorld\n3C!") 3 1 three
     ∷ []
 
 abbrev pub header_fault_examples : List RleFaultExample
@@ -222,6 +223,7 @@ header_fault_examples =
     ∷ has (codes "x = 3, y = 1, rule = Wire World\n3C!") rle.OtherRule 1
     ∷ has (codes "x = 3, y = 1, rule = WireWorld, z = 1\n3C!") rle.OtherRule 1
     ∷ has (codes "x = 3, y = 1, rule = WireWorld\r") rle.OtherRule 1
+    ∷ has (codes "x = 3, y = 1, rule = WireWorld\r\r\n3C!") rle.OtherRule 1
     -- what is at fault in the header comes before what is at fault in the items
     ∷ has (codes "x = 3, y = 1, rule = Life\n0C4C") rle.OtherRule 1
     ∷ []
@@ -234,6 +236,7 @@ item_examples =
     ∷ spells (codes "x = 4, y = 3, rule = WireWorld\n.ABC$$bo!") 4 3 (codes ".ABC" ∷ codes "...." ∷ codes ".A.." ∷ [])
     -- leading zeros, blanks and line ends between items, lines with `#`, and what follows the `!`
     ∷ spells (with_items (codes "003C!")) 3 1 three
+    ∷ spells (with_items (codes "0000000000000000000000000000003C!")) 3 1 three
     ∷ spells (with_items (codes "\t2C \r\n\r\n# 4C!\nC\n!0C?\n5C")) 3 1 three
     -- empty cells and row ends may pass the box, and so may their sums pass the greatest number
     ∷ spells (with_items (codes "C99.$7$9b!")) 3 1 (codes "C.." ∷ [])
@@ -248,11 +251,23 @@ item_fault_examples =
     ∷ has (with_items (codes "3C#\n!")) rle.BadItem 2
     ∷ has (with_items (codes "\n #C\n!")) rle.BadItem 3
     ∷ has (with_items (codes "3C\r!")) rle.BadItem 2
+    ∷ has (with_items (codes "3a!")) rle.BadItem 2
+    ∷ has (with_items (codes "3c!")) rle.BadItem 2
+    ∷ has (with_items (0 ∷ codes "3C!")) rle.BadItem 2
+    ∷ has (with_items (11 ∷ codes "3C!")) rle.BadItem 2
+    ∷ has (with_items (12 ∷ codes "3C!")) rle.BadItem 2
+    ∷ has (with_items (200 ∷ codes "3C!")) rle.BadItem 2
+    -- a second header is no item
+    ∷ has (with_items (with_items (codes "3C!"))) rle.BadItem 2
     -- counts that are 0 or too great
     ∷ has (codes "#CXRLE Pos=0,0\nx = 3, y = 1, rule = wireworld\n0C!") rle.BadItem 3
+    ∷ has (with_items (codes "3C0.!")) rle.BadItem 2
+    ∷ has (with_items (codes "3C0$!")) rle.BadItem 2
+    ∷ has (with_items (codes "3C0!")) rle.BadItem 2
     ∷ has (with_items (codes "C18446744073709551616.!")) rle.BadItem 2
     -- counts without a tag directly after them
     ∷ has (with_items (codes "3 C!")) rle.BadItem 2
+    ∷ has (with_items (codes "2\tC!")) rle.BadItem 2
     ∷ has (with_items (codes "3\nC!")) rle.BadItem 2
     ∷ has (with_items (codes "3\r\nC!")) rle.BadItem 2
     ∷ has (with_items (codes "3\n#C\nC!")) rle.BadItem 2
@@ -263,6 +278,8 @@ item_fault_examples =
     ∷ has (with_items (codes "4C!")) rle.CellOutside 2
     ∷ has (with_items (codes "3.\nA!")) rle.CellOutside 3
     ∷ has (with_items (codes "$B!")) rle.CellOutside 2
+    ∷ has (with_items (codes "4C\n!")) rle.CellOutside 2
+    ∷ has (codes "x = 2147483648, y = 0, rule = WireWorld\n2147483648C!") rle.CellOutside 2
     ∷ has (with_items (codes "18446744073709551615$18446744073709551615$C!")) rle.CellOutside 2
     -- the earlier of two comes first
     ∷ has (with_items (codes "4C\n0C!")) rle.CellOutside 2
@@ -318,6 +335,21 @@ ports_examples =
     ∷ record { text = wire_cells ++ wire_in; width = 3; height = 1; ports = empty_ports }
     -- a text without a header
     ∷ reads_as_ports (codes "\n#\n" ++ wire_in) (port_of 0 0 (codes "a") ∷ []) [] []
+    -- the first line that is neither a comment nor blank ends the table, also where it is no good header
+    ∷ reads_as_ports (wire_in ++ codes "x = 3\n" ++ wire_out) (port_of 0 0 (codes "a") ∷ []) [] []
+    ∷ record { text = codes "3C!\n#C BLIFWW 1 P 0 L 0\n"; width = 3; height = 1; ports = empty_ports }
+    -- names with a tab and with a carriage return, which a line end alone takes away
+    ∷ reads_as_ports
+    (codes "#C BLIFWW IN 0 0 a\tb\n#C BLIFWW IN 1 0 a\rb\r\n#C BLIFWW IN 2 0 a\r")
+    (port_of 0 0 (codes "a\tb") ∷ port_of 1 0 (codes "a\rb") ∷ port_of 2 0 (codes "a\r") ∷ [])
+    []
+    []
+    -- paths of one number and of zeros
+    ∷ reads_as_ports
+    (codes "#C BLIFWW NET 1 0 9 a 0\n#C BLIFWW NET 1 0 9 a 0.0\n" ++ wire_cells)
+    []
+    []
+    (net_of 1 0 9 (codes "a") (codes "0") ∷ net_of 1 0 9 (codes "a") (codes "0.0") ∷ [])
     -- both line ends, and leading zeros
     ∷ reads_as_ports (codes "#C BLIFWW IN 002 0 a\r\n#C BLIFWW OUT 0 000 y\r\n" ++ wire_cells) (port_of 2 0 (codes "a") ∷ []) (port_of 0 0 (codes "y") ∷ []) []
     -- one name may stand in two kinds of lines, and a net's name under two paths
@@ -341,6 +373,11 @@ bad_line_examples =
     -- the period is 0
     has_port_fault (wire_text (codes "0")) port.BadLine 1
     ∷ has_port_fault (wire_text (codes "18446744073709551616")) port.BadLine 1
+    ∷ has_port_fault (codes "#C BLIFWW 1 P 4 L 18446744073709551616\n" ++ wire_cells) port.BadLine 1
+    ∷ has_port_fault (version_four ++ codes "#C BLIFWW 1 P 0 L 0\n" ++ wire_cells) port.BadLine 2
+    -- a blank at the end, and small letters
+    ∷ has_port_fault (codes "#C BLIFWW 1 P 4 L 2 \n" ++ wire_cells) port.BadLine 1
+    ∷ has_port_fault (codes "#C BLIFWW 1 p 4 l 2\n" ++ wire_cells) port.BadLine 1
     -- other versions
     ∷ has_port_fault (codes "#C BLIFWW 2 P 4 L 2\n" ++ wire_cells) port.BadLine 1
     ∷ has_port_fault (codes "#C BLIFWW 01 P 4 L 2\n" ++ wire_cells) port.BadLine 1
@@ -353,9 +390,13 @@ bad_line_examples =
     ∷ is_no_port_line (codes "IN  0 0 a")
     ∷ is_no_port_line (codes "OUT 0 0 a b")
     ∷ is_no_port_line (codes "OUT 0 +0 a")
+    ∷ is_no_port_line (codes "IN 18446744073709551616 0 a")
     ∷ is_no_port_line (codes "NET 0 0 0 a")
     ∷ is_no_port_line (codes "NET 0 0 18446744073709551616 a -")
     -- paths that are none
+    ∷ is_no_port_line (codes "NET 0 0 0 a ")
+    ∷ is_no_port_line (codes "NET 0 0 0 a -1")
+    ∷ is_no_port_line (codes "NET 0 0 0 a .1")
     ∷ is_no_port_line (codes "NET 0 0 0 a --")
     ∷ is_no_port_line (codes "NET 0 0 0 a 01")
     ∷ is_no_port_line (codes "NET 0 0 0 a 1..2")

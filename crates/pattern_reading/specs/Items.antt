@@ -25,7 +25,7 @@ pieces_of (b ∷ bs) =
     let of_rest = pieces_of bs in
     if is_ascii_digit b then onto_first_piece b of_rest else record { digits = []; tag = Some b } ∷ of_rest
 
--- what a piece of a line stands for
+-- what a piece of a line stands for: one of the three items, or one of three things that are none
 pub data Item : Type 0 where
   -- so many cells of one state
   Cells : ℕ → State → Item

@@ -1,5 +1,5 @@
 -- Laws of the readings: a text says one thing.
-use Rattle.std.specs.Prelude.{false, ◌≡◌, ◌<◌, ◌≤◌, ◌≢◌, ◌⊎◌, ℕ, ◌+◌, true, if◌then◌else◌, List, [], ◌∷◌, ◌++◌, map, length, flat_map}
+use Rattle.std.specs.Prelude.{false, ◌≡◌, ◌<◌, ◌≤◌, ◌≢◌, ◌⊎◌, ℕ, ◌+◌, true, if◌then◌else◌, List, [], ◌∷◌, ◌++◌, map, length, filter_map, flat_map}
 use Rattle.std.specs.List.{All, AllByRecursion, range_with_len}
 use Rattle.std.specs.Str.Lines.{lines, strip_carriage_return}
 use Rattle.ww_rule.specs.Grid.{Grid}
@@ -11,7 +11,7 @@ use Rattle.pattern_reading.specs.declared.ports.Ports.{Ports}
 use Rattle.pattern_reading.specs.Lines.{Line, lines_of, with_line_feeds}
 use Rattle.pattern_reading.specs.Numbers.{greatest_number}
 use Rattle.pattern_reading.specs.Items.{Item, Cells, RowEnds, column_after, row_after}
-use Rattle.pattern_reading.specs.Pattern.{ReadsAsPattern, HasRleFault, HasBox, HasLargeBox, HasReaderFault, ReadsWithinLimit}
+use Rattle.pattern_reading.specs.Pattern.{ReadsAsPattern, HasRleFault, HasBox, HasLargeBox, HasReaderFault, ReadsWithinLimit, placed_items, state_in}
 use Rattle.pattern_reading.specs.PortTable.{ReadsAsPorts, HasPortFault}
 
 -- A text reads as at most one pattern.
@@ -76,7 +76,7 @@ HasNumberedLines text = map (λ line. line.number) (lines_of text) ≡ range_wit
 abbrev pub HasLinesOfRust : List ℕ → Type 0
 HasLinesOfRust text = map (λ line. line.bytes) (lines_of text) ≡ lines text
 
--- bytes that can stand in a line
+-- bytes without line feeds and carriage returns, which stand in a line whatever follows them
 abbrev pub IsLineText : List ℕ → Type 0
 IsLineText bytes = All (λ b. (b ≢ 10) × (b ≢ 13)) bytes
 
@@ -131,3 +131,7 @@ pub record HasCellsInside (width height : ℕ) (ports : Ports) : Type 0 where
 
 abbrev pub HasPortsInside : List ℕ → ℕ → ℕ → Type 0
 HasPortsInside text width height = (ports : Ports) → ReadsAsPorts text width height ports → HasCellsInside width height ports
+
+-- At most one run of cells covers a cell.
+abbrev pub HasOneRun : List ℕ → Type 0
+HasOneRun text = (x y : ℕ) → length (filter_map (λ p. state_in x y p p.item) (placed_items text)) ≤ 1

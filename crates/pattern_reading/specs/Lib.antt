@@ -9,3 +9,5 @@ pub mod Examples
 pub mod Laws
 pub mod Spelling
 pub mod SpelledPattern
+pub mod Whole
+pub mod SoundTable

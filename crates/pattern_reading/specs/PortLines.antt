@@ -81,6 +81,7 @@ table_line line = do
   entry ← table_entry line
   Some (record { number = line.number; form = form_of_fields (slice_split (λ b. b == byte " ") entry) })
 
--- the lines of a text's table, in order
+-- The lines of a text's table, in order. The header that they stand before is the first line that is neither a comment nor blank,
+-- whatever its form; where there is none, they are looked for in all lines.
 abbrev pub table_of : List ℕ → List TableLine
 table_of text = filter_map table_line (lines_before_header text)

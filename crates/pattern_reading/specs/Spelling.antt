@@ -1,7 +1,8 @@
 -- How a port table is spelled: each line in one way, its numbers without leading zeros.
-use Rattle.std.specs.Prelude.{◌≡◌, ◌≢◌, ℕ, ◌^◌, ◌<◌, List, [], ◌∷◌, ◌++◌, flat_map, Option, Some, None, codes, decimal}
+use Rattle.std.specs.Prelude.{◌≡◌, ◌≢◌, ℕ, ◌^◌, ◌<◌, List, [], ◌∷◌, ◌++◌, flat_map, map, Option, Some, None, codes, decimal}
 use Rattle.std.specs.List.{All, AllByRecursion, join_with_byte}
 use Rattle.ww_rule.specs.Grid.{Grid}
+use Rattle.pattern_reading.specs.declared.ports.Ports.{Ports}
 use Rattle.pattern_reading.specs.PortLines.{PortForm, Version, In, Out, Net, path_in, table_of}
 use Rattle.pattern_reading.specs.Pattern.{ReadsAsPattern}
 use Rattle.pattern_reading.specs.Examples.{or_grid, or_pattern_lines, port_of}
@@ -21,11 +22,22 @@ spelled_line form = codes "#C BLIFWW " ++ join_with_byte 32 (fields_of form)
 abbrev pub spelled_table : List PortForm → List ℕ
 spelled_table forms = flat_map (λ form. spelled_line form ++ 10 ∷ []) forms
 
--- bytes that can stand in a field: no line feed, no carriage return and no space
+-- the lines of a table in the order in which they are written: the version, the inputs, the outputs, the nets
+abbrev pub port_forms : Ports → List PortForm
+port_forms ports = Version ports.p ports.l ∷ (map In ports.ins ++ map Out ports.outs ++ map Net ports.nets)
+
+abbrev pub port_lines : Ports → List (List ℕ)
+port_lines ports = map spelled_line (port_forms ports)
+
+-- These lines make the table.
+abbrev pub HasItsForms : Ports → Type 0
+HasItsForms ports = ports_of (port_forms ports) ≡ ports
+
+-- bytes that stand in a field whatever follows them: no line feed, no carriage return and no space
 abbrev pub IsField : List ℕ → Type 0
 IsField bytes = All (λ b. (b ≢ 10) × (b ≢ 13) × (b ≢ 32)) bytes
 
--- a name that can stand in a line
+-- a name of such bytes
 abbrev pub IsPortName : List ℕ → Type 0
 IsPortName name = (name ≢ []) × IsField name
 

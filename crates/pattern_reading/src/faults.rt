@@ -16,7 +16,8 @@ pub enum RleFaultKind {
     CellOutside,
     /// The text ends without `!`.
     NoEnd,
-    /// The box has more cells than a reader takes.
+    /// The box has more cells than a reader takes. It has no line, and is no fault of the text: the definition `HasLargeBox` says of
+    /// which texts a reader answers so, with the box's width and height.
     GridTooLarge,
 }
 

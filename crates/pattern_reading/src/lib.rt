@@ -13,6 +13,6 @@ pub use examples::{
 pub use faults::{PortFaultKind, RleFaultKind};
 pub use laws::{
     line_laws, pattern_laws, place_laws, port_laws, reader_laws, spelled_pattern_laws,
-    spelled_table_laws,
+    spelled_table_laws, whole_laws,
 };
 pub use ports::{NetLine, PortLine, Ports};

@@ -1,6 +1,7 @@
 -- What holds of the items of every list of tags.
-use Rattle.std.specs.Prelude.{◌≡◌, ◌≢◌, ℕ, List, [], ◌∷◌, ◌==◌, not, filter, flat_map, replicate}
-use Rattle.pattern_writing.specs.Writer.{Item, runs_of, wrapped}
+use Rattle.std.specs.Prelude.{◌≡◌, ◌≢◌, ◌<◌, ◌≤◌, ◌+◌, ℕ, List, [], ◌∷◌, ◌++◌, ◌==◌, not, filter, flat_map, length, map, replicate}
+use Rattle.std.specs.List.{AllByRecursion}
+use Rattle.pattern_writing.specs.Writer.{Item, lines_text, runs_of, wrapped}
 
 -- the tags that items stand for
 abbrev pub spelled : List Item → List ℕ
@@ -32,3 +33,34 @@ without_line_ends bytes = filter (λ b. not (b == 10)) bytes
 abbrev pub WrappingKeepsItems : Type 0
 WrappingKeepsItems = (used : ℕ) (items : List (List ℕ)) →
     without_line_ends (wrapped used items) ≡ without_line_ends (flat_map (λ item. item) items)
+
+-- the bytes of some items side by side
+abbrev pub joined : List (List ℕ) → List ℕ
+joined items = flat_map (λ item. item) items
+
+-- the first item on the lines that follow a line of so many bytes does not fit on it; each of these lines has items
+abbrev pub BreaksAfter : ℕ → List (List (List ℕ)) → Type 0
+BreaksAfter used [] = Unit {0}
+BreaksAfter used ([] ∷ lines) = ⊥
+BreaksAfter used ((item ∷ items) ∷ lines) = 70 < used + length item
+
+-- so it is after each line
+abbrev pub HasNeededBreaks : List (List (List ℕ)) → Type 0
+HasNeededBreaks [] = Unit {0}
+HasNeededBreaks (line ∷ lines) = BreaksAfter (length (joined line)) lines × HasNeededBreaks lines
+
+-- Items stand on these lines, all of them, in order and uncut: the lines are those of their text, each has at most 70 bytes, and no
+-- line ends before an item that it has room for.
+pub record AreOnLines (items : List (List ℕ)) (lines : List (List (List ℕ))) : Type 0 where
+  pub all : flat_map (λ line. line) lines ≡ items
+  pub text : lines_text (map joined lines) ≡ wrapped 0 items ++ 10 ∷ []
+  pub short : AllByRecursion (λ line. length (joined line) ≤ 70) lines
+  pub breaks : HasNeededBreaks lines
+
+-- an item that has room on a line
+abbrev pub IsShort : List ℕ → Type 0
+IsShort item = length item ≤ 70
+
+-- wrapping puts items on such lines
+abbrev pub WrappedIsLines : Type 0
+WrappedIsLines = (items : List (List ℕ)) → AllByRecursion IsShort items → (lines : List (List (List ℕ))) × AreOnLines items lines

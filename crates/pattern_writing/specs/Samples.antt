@@ -1,7 +1,7 @@
--- Two patterns and their texts, letter by letter.
+-- Patterns and their texts, letter by letter.
 use Rattle.std.specs.Prelude.{ℕ, ◌==◌, if◌then◌else◌, List, [], ◌∷◌, ◌++◌, map, codes}
 use Rattle.ww_rule.specs.declared.pattern.State.{State}
-use Rattle.ww_rule.specs.declared.pattern.State.TheVariants.{Empty, Conductor}
+use Rattle.ww_rule.specs.declared.pattern.State.TheVariants.{Empty, Head, Tail, Conductor}
 use Rattle.ww_rule.specs.Grid.{Grid}
 
 -- a row as it is drawn here: a `C` is a conductor
@@ -102,3 +102,27 @@ bare_lines = codes "#C BLIFWW 1 P 32 L 0" ∷ []
 
 abbrev pub bare_text : List ℕ
 bare_text = codes "#C BLIFWW 1 P 32 L 0\nx = 0, y = 0, rule = WireWorld\n!\n"
+
+-- a box of cells of all states, whose empty ends of rows, empty rows and empty last row are left out
+abbrev pub mixed_grid : Grid
+mixed_grid = record {
+  width = 4;
+  height = 5;
+  rows =
+      (Empty ∷ Head ∷ Tail ∷ Conductor ∷ [])
+      ∷ (Empty ∷ Empty ∷ Empty ∷ Empty ∷ [])
+      ∷ (Empty ∷ Empty ∷ Empty ∷ Empty ∷ [])
+      ∷ (Head ∷ Empty ∷ Empty ∷ Empty ∷ [])
+      ∷ (Empty ∷ Empty ∷ Empty ∷ Empty ∷ [])
+      ∷ [];
+}
+
+abbrev pub mixed_text : List ℕ
+mixed_text = codes "x = 4, y = 5, rule = WireWorld\n.ABC3$A!\n"
+
+-- a box of empty cells alone
+abbrev pub empty_grid : Grid
+empty_grid = record { width = 3; height = 1; rows = (Empty ∷ Empty ∷ Empty ∷ []) ∷ [] }
+
+abbrev pub empty_text : List ℕ
+empty_text = codes "x = 3, y = 1, rule = WireWorld\n!\n"

@@ -16,3 +16,13 @@ returns-clause-gate_with_nets c = refl
 pub returns-clause-bare : goal.returns-clause-bare
 unfolding digits
 returns-clause-bare c = refl
+
+-- src/lib.rt:9:1
+pub returns-clause-mixed : goal.returns-clause-mixed
+unfolding digits
+returns-clause-mixed c = refl
+
+-- src/lib.rt:9:1
+pub returns-clause-empty : goal.returns-clause-empty
+unfolding digits
+returns-clause-empty c = refl
