@@ -236,7 +236,7 @@ driven_by_macro library keeps tiling m due d lit =
     let laws = laws_of library keeps in
     record {
       whole = λ k r h. from_start library tiling due d lit k r (starts library laws tiling m due d lit k) h;
-      conductors = λ k x y f. at laws k x y f;
+      conductors = λ k x y f. ap (λ p. p x y) (ap next_plane (from_start library tiling due d lit k 31 (starts library laws tiling m due d lit k) (lit< tt)) ∙ macro library laws tiling m (driven_edges tiling due lit k)) ∙ at laws k x y f;
       first_conductors = λ q l f dark. free_entry library laws tiling m due d 0 lit (32 * q) (16 * l + 8) f (west_edge q l ∙ dark);
     }
   where

@@ -1,7 +1,7 @@
 -- What thirty-two generations do to a matched tiling.
 use Rattle.std.specs.Prelude.{ℤ, pos, ℕ, zero, suc, ◌+◌, ◌-◌, ◌*◌, ◌%◌, ◌/◌, ◌<◌, ◌≡◌, ◌↔◌, ◌⊎◌, Bool, true, false, ◌||◌}
 use Rattle.ww_rule.specs.declared.pattern.State.TheVariants.{Head, Tail, Conductor}
-use Rattle.ww_rule.specs.Wireworld.{Plane, Due, evolve, driven}
+use Rattle.ww_rule.specs.Wireworld.{Plane, Due, next_plane, evolve, driven}
 use Rattle.tile_core.specs.declared.kind.Kind.{Kind}
 use Rattle.tile_core.specs.Drawing.{Drawing}
 use Rattle.tile_core.specs.Kinds.{interface}
@@ -83,10 +83,10 @@ abbrev pub EdgesLaw : Type 0
 EdgesLaw = (library : Kind → Drawing) → KeepsLaw library → (tiling : Tiling) → IsMatched tiling → (lit : Lit) → ShowsEdges library tiling lit
 
 -- a driven tiling: at generation 32 m it is drawn with the edges of m macro steps and of the injections,
--- it runs on for 32 generations, and each injection meets a conductor
+-- it runs on for 32 generations, and each injection meets a cell that is a conductor before that generation's injections
 pub record IsDriven (library : Kind → Drawing) (tiling : Tiling) (due : Due) (lit : Lit) : Type 0 where
   pub whole : (m r : ℕ) → r < 32 → driven due (drawn library tiling lit) (32 * m + r) ≡ evolve r (drawn library tiling (driven_edges tiling due lit m))
-  pub conductors : (m : ℕ) (x y : ℤ) → due (32 * suc m) x y ≡ true → drawn library tiling (macro_step tiling (driven_edges tiling due lit m)) x y ≡ Conductor
+  pub conductors : (m : ℕ) (x y : ℤ) → due (32 * suc m) x y ≡ true → next_plane (driven due (drawn library tiling lit) (32 * m + 31)) x y ≡ Conductor
   pub first_conductors : (q l : ℕ) → due 0 (pos (32 * q)) (pos (16 * l + 8)) ≡ true → lit (Beside q l) ≡ false → drawn library tiling lit (pos (32 * q)) (pos (16 * l + 8)) ≡ Conductor
 
 -- for every library, matched tiling, lit edges and injections at its free entries
