@@ -7,27 +7,14 @@ ghost use Rattle.macro_grid.specs.Slots.{piece_of, slot_of};
 ghost use Rattle.tile_core.specs.Drawing.{is_among};
 ghost use Rattle.tile_core.specs.Kinds.{interface};
 ghost use Rattle.tile_library.specs.Drawings.{drawing_of as shipped};
-ghost use Rattle.tiling.specs.Tiling.{drawing_of, drawn_piece, drawn_slot, edge_of, heads_of, interface_of, is_entry_lit, is_exit_lit, tails_of};
-ghost use Rattle.tiling.specs.Tiling.Edge.{Beside};
+ghost use Rattle.tiling.specs.Tiling.{drawn_piece, drawn_slot, edge_of, heads_of, is_entry_lit, is_exit_lit, tails_of};
 ghost use Rattle.tiling.specs.Tiling.Piece.{Tile, Output};
 
 use lane_core::Plan;
-use macro_grid::{Piece, Slot};
+use macro_grid::{Piece, Slot, is_start};
 use tile_core::{Kind, Library};
 use tile_library::Shipped;
 use ww_rule::State;
-
-// Whether a loop that starts with 1 enters the body at the west side of this block.
-fn is_start(plan: &Plan, column: u64, lane: u64) -> bool
-    requires { IsAdmissible plan.now }
-    ensures { result ≡ start_edges plan.now (Beside column lane) }
-{
-    let first = (plan.lanes - plan.latches) as u64;
-    if column != plan.latches as u64 || lane < first || lane - first >= plan.starts.len() as u64 {
-        return false;
-    }
-    *plan.starts.get((lane - first) as usize)
-}
 
 // Whether the edge at a port is lit at the beginning, by the port's place in the box of a piece whose first block is at
 // this tile column and lane.

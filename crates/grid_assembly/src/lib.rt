@@ -6,3 +6,6 @@ pub mod laws;
 mod rows;
 
 pub use rows::{cell, fill_row, size};
+
+#[cfg(test)]
+mod tests;
