@@ -1,5 +1,5 @@
 -- Instructions that share no lane may be done in either order.
-use Rattle.std.proofs.Common.{◌≡◌, ◌≢◌, sym, ◌∙◌, ap, ap₂, ℕ, ◌+◌, ◌<◌, ◌⊎◌, Bool, false, List, get_or, set, inl, inr, arith}
+use Rattle.std.proofs.Common.{◌≡◌, ◌≢◌, sym, ◌∙◌, ap, ap₂, ℕ, ◌+◌, Bool, false, List, get_or, set, inl, inr, arith}
 use Rattle.std.proofs.lemmas.List.{get_or-set_other, set_comm}
 use Rattle.lane_core.specs.declared.instr.Instr.{Instr}
 use Rattle.lane_core.specs.Instrs.{lane_of, upper_bit, lower_bit, bit_on, after_instr, AreApart}
@@ -28,14 +28,15 @@ changed i l a b = both l (lane_of i) (lane_of i + 1) (upper_bit i a b) (lower_bi
 found : (i j : Instr) → AreApart i j → (l : List Bool) → after_instr (after_instr l i) j ≡ changed j (after_instr l i) (bit_on l (lane_of j)) (bit_on l (lane_of j + 1))
 found i j apart l =
     let upper : bit_on (after_instr l i) (lane_of j) ≡ bit_on l (lane_of j) =
-        kept l (lane_of i) (lane_of i + 1) (lane_of j) _ _ (differ apart).0 (differ apart).1 in
+    kept l (lane_of i) (lane_of i + 1) (lane_of j) _ _ (differ apart).0 (differ apart).1 in
     let lower : bit_on (after_instr l i) (lane_of j + 1) ≡ bit_on l (lane_of j + 1) =
-        kept l (lane_of i) (lane_of i + 1) (lane_of j + 1) _ _ (differ' apart).0 (differ' apart).1 in
+    kept l (lane_of i) (lane_of i + 1) (lane_of j + 1) _ _ (differ' apart).0 (differ' apart).1 in
     ap₂ (changed j (after_instr l i)) upper lower
   where
     differ : AreApart i j → (lane_of j ≢ lane_of i) × (lane_of j ≢ lane_of i + 1)
     differ (inl h) = (omega arith, omega arith)
     differ (inr h) = (omega arith, omega arith)
+
     differ' : AreApart i j → (lane_of j + 1 ≢ lane_of i) × (lane_of j + 1 ≢ lane_of i + 1)
     differ' (inl h) = (omega arith, omega arith)
     differ' (inr h) = (omega arith, omega arith)

@@ -57,7 +57,7 @@ instr_on-found lane (x ∷ xs) (suc n) d within before low high =
     let first : lane_of x + 1 < lane = before zero x (omega arith) in
     let off : is_on lane x ≡ false = grind (arith, nat_tests) in
     ap (λ b. cond b (Some x) (find (is_on lane) xs)) off
-        ∙ instr_on-found lane xs n d (omega arith) (λ k e h. before (suc k) e (omega arith)) low high
+    ∙ instr_on-found lane xs n d (omega arith) (λ k e h. before (suc k) e (omega arith)) low high
 
 -- and if it does begin below it, or there is none, then none works on it
 pub instr_on-none : (lane : ℕ) (xs : List Instr) (n : ℕ) → IsTrue (are_sorted_apart xs)
@@ -69,13 +69,13 @@ instr_on-none lane (x ∷ xs) zero apart before after =
     let first : lane < lane_of x = after x (omega arith) in
     let off : is_on lane x ≡ false = grind (arith, nat_tests) in
     ap (λ b. cond b (Some x) (find (is_on lane) xs)) off
-        ∙ none_below x lane xs (omega arith) (and_left (list_all (is_above x) xs) (are_sorted_apart xs) apart)
+    ∙ none_below x lane xs (omega arith) (and_left (list_all (is_above x) xs) (are_sorted_apart xs) apart)
 instr_on-none lane (x ∷ xs) (suc n) apart before after =
     let first : lane_of x + 1 < lane = before zero x (omega arith) (omega arith) in
     let off : is_on lane x ≡ false = grind (arith, nat_tests) in
     ap (λ b. cond b (Some x) (find (is_on lane) xs)) off
-        ∙ instr_on-none lane xs n (and_right (list_all (is_above x) xs) (are_sorted_apart xs) apart)
-            (λ k e h w. before (suc k) e (omega arith) (omega arith)) (λ e w. after e (omega arith))
+    ∙ instr_on-none lane xs n (and_right (list_all (is_above x) xs) (are_sorted_apart xs) apart)
+    (λ k e h w. before (suc k) e (omega arith) (omega arith)) (λ e w. after e (omega arith))
 
 -- both, as a binary search finds the place n
 pub instr_on-at : (lane : ℕ) (xs : List Instr) (n : ℕ) (x : Instr)
