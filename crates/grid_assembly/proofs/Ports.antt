@@ -1,8 +1,8 @@
 -- The heads and tails of a tile, port by port.
-use Rattle.std.proofs.Common.{◌≡◌, refl, ap, pos, ℤ, ℕ, Bool, true, false, ◌&&◌, ◌||◌, int_eq, List, [], ◌∷◌, get_or}
+use Rattle.std.proofs.Common.{◌≡◌, refl, ap, pos, ℕ, Bool, true, false, ◌&&◌, ◌||◌, int_eq, [], ◌∷◌, get_or}
 use Rattle.tile_core.specs.declared.kind.Kind.{Kind}
 use Rattle.tile_core.specs.declared.kind.Kind.TheVariants.{Swap, Xor, Or, AndNot, Fork, East, South, North, EastSouth, SouthWest, WestNorth, NorthEast, West, WestSwap}
-use Rattle.tile_core.specs.Drawing.{Cell, is_among}
+use Rattle.tile_core.specs.Drawing.{is_among}
 use Rattle.tile_core.specs.Interface.{cell_at, chosen}
 use Rattle.tile_core.specs.Kinds.{interface, entries, exits}
 use Rattle.tiling.specs.Tiling.{Lit, is_entry_lit, is_exit_lit, heads_of, tails_of}

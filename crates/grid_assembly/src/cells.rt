@@ -153,12 +153,6 @@ pub fn slot_cell(plan: &Plan, column: u64, lane: u64, slot: Slot, x: u32, y: u32
     match slot {
         Slot::Nothing => State::Empty,
         Slot::Whole(piece) | Slot::Upper(piece) => piece_cell(plan, column, lane, piece, (x, y)),
-        Slot::Lower(piece) => piece_cell(
-            plan,
-            column,
-            lane.saturating_sub(1),
-            piece,
-            (x, y + 16),
-        ),
+        Slot::Lower(piece) => piece_cell(plan, column, lane.saturating_sub(1), piece, (x, y + 16)),
     }
 }

@@ -103,7 +103,9 @@ fn an_or_stands_in_its_rows(rt: HostRuntime) -> Result<(), Fail> {
             &blank
         };
         assert!(rt;
-            row.iter().zip(letters).all(|(state, letter)| is_letter(*state, *letter)),
+            row.iter()
+                .zip(letters)
+                .all(|(state, letter)| is_letter(*state, *letter)),
             "row {y}"
         );
     }
@@ -237,7 +239,11 @@ fn a_circuit_answers_by_the_rule(rt: HostRuntime) -> Result<(), Fail> {
         let start = with_input(alloc, second, 72, c);
         let end = after_four_columns(alloc, start)?;
         for (lane, bit) in bits.iter().enumerate() {
-            assert_eq!(rt; is_head(&end, 128, 16 * lane as u64 + 8), *bit, "{choice}, lane {lane}");
+            assert_eq!(rt;
+                is_head(&end, 128, 16 * lane as u64 + 8),
+                *bit,
+                "{choice}, lane {lane}"
+            );
         }
     }
     Ok(())

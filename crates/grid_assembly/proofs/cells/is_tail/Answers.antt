@@ -1,4 +1,4 @@
-use Rattle.std.proofs.Common.{rules, ◌≡◌, ◌&&◌, Bool, get_or}
+use Rattle.std.proofs.Common.{rules, ◌≡◌, ◌&&◌, get_or}
 use Rattle.macro_grid.specs.Edges.{start_edges}
 use Rattle.macro_grid.proofs.Steps.{not_answered}
 use Rattle.tile_core.specs.Kinds.{interface, exits}

@@ -1,10 +1,9 @@
-use Rattle.std.proofs.Common.{rules, ◌≡◌, ◌≢◌, ◌∙◌, ap, ℕ, ◌+◌, ◌*◌, ◌^◌, ◌/◌, ◌%◌, ◌<◌, length, arith, get_or-set_other, get_or-set_same, below_more}
-use Rattle.lane_core.specs.declared.plan.Plan.{Plan}
+use Rattle.std.proofs.Common.{rules, ◌≡◌, ◌≢◌, ◌∙◌, ap, ◌+◌, ◌/◌, ◌%◌, ◌<◌, length, arith, get_or-set_other, get_or-set_same, below_more}
 use Rattle.macro_grid.specs.Edges.{start_edges}
 use Rattle.macro_grid.specs.Layout.{tiling_of}
 use Rattle.macro_grid.specs.Slots.{slot_of}
 use Rattle.tile_library.specs.Drawings.{drawing_of as shipped}
-use Rattle.tiling.specs.Tiling.{Slot, drawn_slot}
+use Rattle.tiling.specs.Tiling.{drawn_slot}
 use Rattle.grid_assembly.proofs.rows.fill_row.Goals as goal
 use Rattle.grid_assembly.proofs.rows.fill_row.Goals.{then-place-column, else-place-column}
 
@@ -14,13 +13,13 @@ loop-i-preserved c =
     let lane = c.args.y / 16 in
     let place = c.args.x + c.loop-i.i in
     let here : c.if-place-column.column ≡ place / 32 =
-        elim c.if-place-column.branch [ then-place-column w ↦ search rules | else-place-column w ↦ search rules ] in
+    elim c.if-place-column.branch [ then-place-column w ↦ search rules | else-place-column w ↦ search rules ] in
     let block : slot_of c.if-place-column.slot ≡ tiling_of plan c.if-place-column.column lane =
-        elim c.if-place-column.branch [ then-place-column w ↦ search rules | else-place-column w ↦ search rules ] in
+    elim c.if-place-column.branch [ then-place-column w ↦ search rules | else-place-column w ↦ search rules ] in
     let last =
-        c.slot_cell.ensures
-        ∙ ap (λ s. drawn_slot shipped (start_edges plan) c.if-place-column.column lane s (place % 32) (c.args.y % 16)) block
-        ∙ ap (λ q. drawn_slot shipped (start_edges plan) q lane (tiling_of plan q lane) (place % 32) (c.args.y % 16)) here in
+    c.slot_cell.ensures
+    ∙ ap (λ s. drawn_slot shipped (start_edges plan) c.if-place-column.column lane s (place % 32) (c.args.y % 16)) block
+    ∙ ap (λ q. drawn_slot shipped (start_edges plan) q lane (tiling_of plan q lane) (place % 32) (c.args.y % 16)) here in
     record {
       block = block;
       near = omega (arith, here);

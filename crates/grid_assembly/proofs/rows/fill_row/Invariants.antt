@@ -1,4 +1,4 @@
-use Rattle.std.proofs.Common.{◌≡◌, pos, ℕ, ◌+◌, ◌*◌, ◌^◌, ◌/◌, ◌<◌, get_or}
+use Rattle.std.proofs.Common.{◌≡◌, pos, ℕ, ◌+◌, ◌^◌, ◌<◌, get_or}
 use Rattle.ww_rule.specs.declared.pattern.State.TheVariants.{Empty}
 use Rattle.macro_grid.specs.Layout.{tiling_of}
 use Rattle.macro_grid.specs.Slots.{slot_of}
