@@ -2,3 +2,4 @@ pub mod Instrs
 pub mod Columns
 pub mod Places
 pub mod Plans
+pub mod Laws

@@ -3,6 +3,7 @@
 #![tactic(auto)]
 
 mod instr;
+pub mod laws;
 mod places;
 mod plan;
 mod run;

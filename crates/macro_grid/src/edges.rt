@@ -94,8 +94,8 @@ fn edge_lanes(plan: &Plan) -> usize
     plan.lanes as usize + plan.latches as usize + 1
 }
 
-// Whether a loop that starts with 1 enters the body on this lane of this tile column.
-fn is_start(plan: &Plan, column: u64, lane: u64) -> bool
+/// Whether a loop that starts with 1 enters the body at the west side of this block.
+pub fn is_start(plan: &Plan, column: u64, lane: u64) -> bool
     requires { IsAdmissible plan.now }
     ensures { result ≡ start_edges plan.now (Beside column lane) }
 {

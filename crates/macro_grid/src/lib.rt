@@ -7,7 +7,7 @@ mod rules;
 mod slot;
 mod step;
 
-pub use edges::{Edges, EdgesError};
+pub use edges::{Edges, EdgesError, is_start};
 pub use layout::slot_at;
 pub use rules::admissible;
 pub use slot::{Piece, Slot};

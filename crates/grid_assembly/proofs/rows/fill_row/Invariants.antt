@@ -1,0 +1,15 @@
+use Rattle.std.proofs.Common.{◌≡◌, pos, ℕ, ◌+◌, ◌^◌, ◌<◌, get_or}
+use Rattle.ww_rule.specs.declared.pattern.State.TheVariants.{Empty}
+use Rattle.macro_grid.specs.Layout.{tiling_of}
+use Rattle.macro_grid.specs.Slots.{slot_of}
+use Rattle.grid_assembly.specs.PlanDrawing.{start_plane}
+use Rattle.grid_assembly.proofs.rows.fill_row.Given as goal
+
+-- the slot is that of its block, and the cells up to here are written
+abbrev pub invariant-loop-i : goal.invariant-loop-i
+invariant-loop-i l =
+    record {
+      block : slot_of l.slot ≡ tiling_of l.plan l.column l.lane;
+      near : l.column < 2 ^ 59;
+      cells : (k : ℕ) → k < l.i → get_or l.row k Empty ≡ start_plane l.plan (pos (l.x + k)) (pos l.y);
+    }

@@ -1,0 +1,9 @@
+use Rattle.std.proofs.Common.{◌≡◌, All, length}
+use Rattle.grid_assembly.proofs.tests.drawn.Given as goal
+
+abbrev pub invariant-loop-y : goal.invariant-loop-y
+invariant-loop-y l =
+    record {
+      many : length l.rows.items ≡ l.y;
+      long : All (λ row. length row ≡ 129) l.rows.items;
+    }

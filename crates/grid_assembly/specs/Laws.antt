@@ -1,0 +1,11 @@
+-- What the drawing of a plan does in time.
+use Rattle.tiling.specs.Tiling.{Lit}
+use Rattle.tiling.specs.Steps.{StepsByMacro}
+use Rattle.tile_library.specs.Drawings.{drawing_of}
+use Rattle.lane_core.specs.declared.plan.Plan.{Plan}
+use Rattle.lane_core.specs.Plans.{IsAdmissible}
+use Rattle.macro_grid.specs.Layout.{tiling_of}
+
+-- every admissible plan, whichever edges are lit, goes on by macro steps
+abbrev pub StepsByEdges : Type 0
+StepsByEdges = (plan : Plan) → IsAdmissible plan → (lit : Lit) → StepsByMacro drawing_of (tiling_of plan) lit

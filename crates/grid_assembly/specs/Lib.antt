@@ -1,0 +1,2 @@
+pub mod PlanDrawing
+pub mod Laws

@@ -1,0 +1,23 @@
+-- The plane that a plan is drawn on.
+use Rattle.std.specs.Prelude.{ℕ, pos, ◌+◌, ◌<◌, ◌≡◌, List, length, get_or}
+use Rattle.ww_rule.specs.declared.pattern.State.{State}
+use Rattle.ww_rule.specs.declared.pattern.State.TheVariants.{Empty}
+use Rattle.ww_rule.specs.Wireworld.{Plane}
+use Rattle.tiling.specs.Tiling.{Lit, drawn}
+use Rattle.tile_library.specs.Drawings.{drawing_of}
+use Rattle.lane_core.specs.declared.plan.Plan.{Plan}
+use Rattle.macro_grid.specs.Edges.{start_edges}
+use Rattle.macro_grid.specs.Layout.{tiling_of}
+
+-- the plan's tiles in the shipped drawings, with some edges lit
+abbrev pub plane_with : Plan → Lit → Plane
+plane_with plan lit = drawn drawing_of (tiling_of plan) lit
+
+-- the plan's plane at generation 0, with the edges lit where loops start with 1
+abbrev pub start_plane : Plan → Plane
+start_plane plan = plane_with plan (start_edges plan)
+
+-- the cells of one row of that plane, from a column on eastward
+abbrev pub AreCellsOfRow : Plan → ℕ → ℕ → List State → Type 0
+AreCellsOfRow plan y x cells =
+    (i : ℕ) → i < length cells → get_or cells i Empty ≡ start_plane plan (pos (x + i)) (pos y)

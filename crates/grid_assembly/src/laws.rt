@@ -1,0 +1,20 @@
+//! What the drawing of a plan does in time.
+ghost use Rattle.tiling.specs.Steps.{KeepsLaw};
+ghost use Rattle.grid_assembly.specs.Laws.{StepsByEdges};
+
+use tile_core::Library;
+use tile_library::Shipped;
+
+/// The drawings of every library keep the timing law of their kinds.
+pub fn keeps_law<L: Library>(library: &L)
+    ensures { KeepsLaw (L.drawing library.now) }
+{}
+
+/// Of every admissible plan in the shipped drawings and every set of lit edges: at generation 32 m the plane is drawn
+/// with the edges after m macro steps, and at the generations between each head or tail lies in a tile with a lit entry
+/// edge.
+pub fn steps_by_edges()
+    ensures { StepsByEdges }
+{
+    keeps_law(&Shipped);
+}

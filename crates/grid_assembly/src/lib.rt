@@ -1,0 +1,11 @@
+//! The cells of a plan: its tiles by the shipped drawings, and the electrons of the loops that start with 1.
+#![tactic(auto)]
+
+mod cells;
+pub mod laws;
+mod rows;
+
+pub use rows::{cell, fill_row, size};
+
+#[cfg(test)]
+mod tests;

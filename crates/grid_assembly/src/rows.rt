@@ -1,0 +1,70 @@
+// The size of a plan's drawing, its cells, and its rows.
+ghost use Rattle.std.specs.Prelude.{◌≡◌, ◌≤◌, ◌+◌, ◌^◌, pos, length};
+ghost use Rattle.ww_rule.specs.Grid.{IsEmptyOutside};
+ghost use Rattle.lane_core.specs.Plans.{IsAdmissible};
+ghost use Rattle.macro_grid.specs.Layout.{size_of};
+ghost use Rattle.grid_assembly.specs.PlanDrawing.{start_plane, AreCellsOfRow};
+
+use crate::cells::slot_cell;
+use lane_core::Plan;
+use macro_grid::slot_at;
+use ww_rule::State;
+
+/// Width and height of the drawing in cells, (0, 0) of a plan without lanes.
+pub fn size(plan: &Plan) -> (u64, u64)
+    requires { IsAdmissible plan.now }
+    ensures exact { result ≡ size_of plan.now }
+    ensures outside { IsEmptyOutside result.0 result.1 (start_plane plan.now) }
+{
+    if plan.lanes == 0 {
+        return (0, 0);
+    }
+    let loops = plan.latches as u64;
+    (
+        32 * (plan.columns.len() as u64 + 2 * loops) + 1,
+        16 * (plan.lanes as u64 + loops),
+    )
+}
+
+/// The cell at column `x` and row `y`, both counted from 0 from the north-western corner; past the drawing all cells are
+/// empty.
+pub fn cell(plan: &Plan, x: u64, y: u64) -> State
+    requires { IsAdmissible plan.now }
+    ensures { result ≡ start_plane plan.now (pos x) (pos y) }
+{
+    let (column, lane) = (x / 32, y / 16);
+    slot_cell(
+        plan,
+        column,
+        lane,
+        slot_at(plan, column, lane),
+        (x % 32) as u32,
+        (y % 16) as u32,
+    )
+}
+
+/// Writes the cells of row `y` from column `x` on, as many as `row` has room for.
+pub fn fill_row(plan: &Plan, y: u64, x: u64, row: &mut [State])
+    requires admissible { IsAdmissible plan.now }
+    requires in_range { x + length row.old ≤ 2 ^ 64 }
+    ensures { AreCellsOfRow plan.now y x row.new }
+{
+    let lane = y / 16;
+    let mut column = x / 32;
+    let mut slot = slot_at(plan, column, lane);
+    for (i, cell) in row.iter_mut().enumerate() {
+        let place = x + i as u64;
+        if place / 32 != column {
+            column = place / 32;
+            slot = slot_at(plan, column, lane);
+        }
+        *cell = slot_cell(
+            plan,
+            column,
+            lane,
+            slot,
+            (place % 32) as u32,
+            (y % 16) as u32,
+        );
+    }
+}
