@@ -2,3 +2,4 @@ pub mod Layout
 pub mod Edges
 pub mod Slots
 pub mod Planes
+pub mod Laws

@@ -1,0 +1,7 @@
+use Rattle.tiling.proofs.LitPieces.{steps_by_macro}
+use Rattle.macro_grid.specs.Layout.{tiling_of}
+use Rattle.macro_grid.proofs.Matched.{tiling_is_matched}
+use Rattle.macro_grid.proofs.laws.plans_step_by_macro.Goals as goal
+
+pub returns : goal.returns
+returns c = λ library keeps plan h lit. steps_by_macro library keeps (tiling_of plan) (tiling_is_matched plan h) lit

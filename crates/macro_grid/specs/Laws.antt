@@ -1,0 +1,17 @@
+-- What the plane of a plan does in time, in every library of tiles that keep the timing law.
+use Rattle.ww_rule.specs.Wireworld.{Due}
+use Rattle.tile_core.specs.declared.kind.Kind.{Kind}
+use Rattle.tile_core.specs.Drawing.{Drawing}
+use Rattle.tiling.specs.Tiling.{Lit}
+use Rattle.tiling.specs.Steps.{KeepsLaw, StepsByMacro, DrivesEntries, IsDriven}
+use Rattle.lane_core.specs.declared.plan.Plan.{Plan}
+use Rattle.lane_core.specs.Plans.{IsAdmissible}
+use Rattle.macro_grid.specs.Layout.{tiling_of}
+
+-- every admissible plan, whoever made it and whichever edges are lit, goes on by macro steps of 32 generations
+abbrev pub PlansStepByMacro : Type 0
+PlansStepByMacro = (library : Kind → Drawing) → KeepsLaw library → (plan : Plan) → IsAdmissible plan → (lit : Lit) → StepsByMacro library (tiling_of plan) lit
+
+-- the same where heads are injected at free entries at multiples of 32
+abbrev pub PlansAreDriven : Type 0
+PlansAreDriven = (library : Kind → Drawing) → KeepsLaw library → (plan : Plan) → IsAdmissible plan → (due : Due) → DrivesEntries (tiling_of plan) due → (lit : Lit) → IsDriven library (tiling_of plan) due lit
