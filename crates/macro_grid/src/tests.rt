@@ -63,7 +63,7 @@ fn bare_plan(alloc: Global) -> Result<Plan, AllocError> {
         lanes: 3,
         columns: List::of(vec![in alloc; first, second, third]?),
         latches: 3,
-        starts: List::of(vec![in alloc; false, true, false]?),
+        starts: List::of(vec![in alloc; true, false, false]?),
         ins: List::of(Vec::new(alloc)),
         outs: List::of(Vec::new(alloc)),
         nets: List::of(Vec::new(alloc)),
@@ -168,7 +168,8 @@ fn dark_edges_stay_dark(rt: HostRuntime) -> Result<(), Fail> {
     Ok(())
 }
 
-// Three columns and three loops: a loop has 2 * 3 + 4 * 3 tiles.
+// Three columns and three loops: a loop has 2 * 3 + 4 * 3 tiles, and the return reverses the lanes, so that lane 0 leads to
+// lane 2 and back.
 #[test]
 fn an_electron_goes_round_a_loop(rt: HostRuntime) -> Result<(), Fail> {
     let plan = bare_plan(rt.alloc())?;
@@ -176,14 +177,13 @@ fn an_electron_goes_round_a_loop(rt: HostRuntime) -> Result<(), Fail> {
     let mut current = Edges::start(rt.alloc(), &plan)?;
     let mut following = Edges::start(rt.alloc(), &plan)?;
     for step in 0..36 {
-        assert_eq!(rt; current.beside(3, 1), step % 18 == 0, "after {step} steps");
-        assert!(rt;
-            !current.beside(3, 0) && !current.beside(3, 2),
-            "after {step} steps"
-        );
+        assert_eq!(rt; current.beside(3, 0), step == 0, "after {step} steps");
+        assert_eq!(rt; current.beside(3, 2), step == 18, "after {step} steps");
+        assert!(rt; !current.beside(3, 1), "after {step} steps");
         macro_step(&plan, &current, &mut following);
         std::mem::swap(&mut current, &mut following);
     }
+    assert!(rt; current.beside(3, 0));
     Ok(())
 }
 
