@@ -40,7 +40,7 @@ carries text n h =
       shows = gate_shows n h.ports;
     })
 
-gave_whole : (left after : Option (List ℕ)) (given text : List ℕ) → Consumes left after given → IsAtEnd after → left ≡ Some text → given ≡ text
+pub gave_whole : (left after : Option (List ℕ)) (given text : List ℕ) → Consumes left after given → IsAtEnd after → left ≡ Some text → given ≡ text
 gave_whole None after given text c e s = cc
 gave_whole (Some xs) None given text c e s = absurd c
 gave_whole (Some xs) (Some ys) given text c e s = sym (append-nil given) ∙ ap (λ l. given ++ l) (sym e) ∙ sym c ∙ some_bytes s

@@ -1,7 +1,11 @@
 -- The first of some pieces, and the others.
-use Rattle.std.proofs.Common.{◌≡◌, ℕ, ◌-◌, ◌≤◌, Bool, List, [], ◌∷◌, ◌++◌, length, take, drop, get_or, sym, ap, ◌∙◌, arith, take_all, IsTrue, OnErr, Result, Ok, Err}
+use Rattle.std.proofs.Common.{◌≡◌, ℕ, ◌+◌, ◌-◌, ◌≤◌, min, Bool, List, [], ◌∷◌, ◌++◌, length, take, drop, get_or, sym, ap, ◌∙◌, subst, arith, take_all, IsTrue, OnOk, OnErr, Result, Ok, Err}
+use Rattle.std.specs.declared.option.Option.{Option}
 use Rattle.std.specs.Borrow.{Bor}
-use Rattle.std.proofs.lemmas.List.{append_cancel_left}
+use Rattle.std.specs.Io.KnownBytes.{Appends}
+use Rattle.std.proofs.KnownBytes.{Appends-trans}
+use Rattle.std.proofs.lemmas.List.{append_cancel_left, take-append-le, take_min}
+use Rattle.std.proofs.Math.Seq.{take-append-add}
 use Rattle.blifww_tool.specs.Joined.{joined}
 
 abbrev pub others : List (Bor (List ℕ)) → List (Bor (List ℕ))
@@ -22,3 +26,34 @@ same_after text tail ps d r some e h =
 pub on_err : {T E : Type 0} (r : Result T E) {P : Type 0} → P → OnErr r P
 on_err (Ok x) p = tt
 on_err (Err e) p = p
+
+-- a front of the first piece is a front of all
+pub cut_first : {T E : Type 0} (r : Result T E) (a b : Option (List ℕ)) (ps : List (Bor (List ℕ))) (d : Bor (List ℕ)) → 1 ≤ length ps
+    → (n : ℕ) × Appends a b (take n (get_or ps 0 d).now) → OnErr r ((n : ℕ) × Appends a b (take n (joined ps)))
+cut_first r a b ps d some front =
+    let first : List ℕ = (get_or ps 0 d).now in
+    let n : ℕ = min front.0 (length first) in
+    let e : take front.0 first ≡ take n (joined ps) =
+    sym (ap (take n) (joined_first ps d some) ∙ take-append-le n first (joined (others ps)) (omega arith) ∙ take_min front.0 first) in
+    on_err r (n, subst (Appends a b) e front.1)
+
+-- the first piece and a front of the others are a front of all
+pub cut_later : {T E : Type 0} (r : Result T E) (a b c : Option (List ℕ)) (ps : List (Bor (List ℕ))) (d : Bor (List ℕ)) → 1 ≤ length ps
+    → Appends a b (get_or ps 0 d).now → OnErr r ((n : ℕ) × Appends b c (take n (joined (others ps)))) → OnErr r ((n : ℕ) × Appends a c (take n (joined ps)))
+cut_later (Ok x) a b c ps d some whole front = tt
+cut_later (Err x) a b c ps d some whole front =
+    let first : List ℕ = (get_or ps 0 d).now in
+    let n : ℕ = length first + front.0 in
+    let e : first ++ take front.0 (joined (others ps)) ≡ take n (joined ps) =
+    sym (ap (take n) (joined_first ps d some) ∙ take-append-add first (joined (others ps)) front.0) in
+    (n, subst (Appends a c) e (Appends-trans a b c _ _ whole front.1))
+
+-- what is told of equal texts
+pub told_ok : {T E : Type 0} (r : Result T E) (a b : Option (List ℕ)) {x y : List ℕ} → x ≡ y → OnOk r (Appends a b x) → OnOk r (Appends a b y)
+told_ok (Ok t) a b e h = subst (Appends a b) e h
+told_ok (Err t) a b e h = tt
+
+pub told_front : {T E : Type 0} (r : Result T E) (a b : Option (List ℕ)) {x y : List ℕ} → x ≡ y
+    → OnErr r ((n : ℕ) × Appends a b (take n x)) → OnErr r ((n : ℕ) × Appends a b (take n y))
+told_front (Ok t) a b e h = tt
+told_front (Err t) a b e h = (h.0, subst (λ l. Appends a b (take h.0 l)) e h.1)

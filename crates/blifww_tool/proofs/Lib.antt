@@ -1,8 +1,12 @@
 pub mod JoinedPieces
 pub mod ThinNames
-pub mod Shapes
 pub mod Written
 pub mod WrittenText
 pub mod ThinDesign
 pub mod GateRuns
 pub mod Headline
+pub mod OutputLines
+pub mod Refused
+pub mod Judged
+pub mod CycleCounts
+pub mod Simulated

@@ -1,10 +1,13 @@
-//! The top call of the program: `compile`, for the text of one OR gate.
+//! The top call of the program: `compile`, for the text of one OR gate, and `simulate`, for the text of a pattern.
 #![tactic(auto)]
 
+mod compile;
 mod drawing;
 mod joined;
 mod refusals;
+mod simulate;
 mod thin;
+mod told;
 mod top;
 
 pub use drawing::sample_is_so;

@@ -1,11 +1,15 @@
-// Why a run does not end well, with its status and its line.
+// Why a run does not end well, with its status.
 ghost use Rattle.std.specs.Prelude.{◌≡◌};
 
-use std::alloc::AllocError;
+use command_words::WordsError;
+use drive::{SimulateError, StreamError, StreamFault};
+use port_table::{PortFault, PortReadError};
+use rle_read::{RleFault, RleReadError};
+use std::alloc::{AllocError, AllocFailed};
 use ww_base::{Failed, ReadAllError};
 
 /// Why a run does not end well.
-#[derive(Clone, Copy, Debug, PartialEq, Eq)]
+#[derive(Drop)]
 pub enum Refusal {
     Usage,
     TooLong,
@@ -14,10 +18,33 @@ pub enum Refusal {
     NoMemory,
     /// The text is none that is compiled so far.
     NotYet,
+    /// The text is no pattern's.
+    Pattern(RleFault),
+    /// The pattern's box has more cells than are read.
+    GridTooLarge { width: u64, height: u64 },
+    /// The pattern's port table is at fault.
+    PortTable(PortFault),
+    /// The words say no streams for the pattern's inputs.
+    Streams(StreamFault),
+    /// The simulation needs so many generations, which is over the limit.
+    TooFar { generations: u128 },
+}
+
+impl From<WordsError> for Refusal {
+    ghost use Rattle.blifww_tool.specs.Refusals.{words_refusal};
+
+    ghost from_gives = { λ e r. r ≡ words_refusal e };
+
+    fn from(error: WordsError) -> Self {
+        match error {
+            WordsError::Usage => Refusal::Usage,
+            WordsError::NoMemory => Refusal::NoMemory,
+        }
+    }
 }
 
 impl From<ReadAllError> for Refusal {
-    ghost use Rattle.blifww_tool.specs.ReadRefusals.{refusal_of};
+    ghost use Rattle.blifww_tool.specs.Refusals.{refusal_of};
 
     ghost from_gives = { λ e r. r ≡ refusal_of e };
 
@@ -30,12 +57,75 @@ impl From<ReadAllError> for Refusal {
     }
 }
 
+impl From<RleReadError> for Refusal {
+    ghost use Rattle.blifww_tool.specs.Refusals.{pattern_refusal};
+
+    ghost from_gives = { λ e r. r ≡ pattern_refusal e };
+
+    fn from(error: RleReadError) -> Self {
+        match error {
+            RleReadError::Fault(fault) => Refusal::Pattern(fault),
+            RleReadError::TooLarge { width, height } => Refusal::GridTooLarge { width, height },
+            RleReadError::NoMemory => Refusal::NoMemory,
+        }
+    }
+}
+
+impl From<PortReadError> for Refusal {
+    ghost use Rattle.blifww_tool.specs.Refusals.{table_refusal};
+
+    ghost from_gives = { λ e r. r ≡ table_refusal e };
+
+    fn from(error: PortReadError) -> Self {
+        match error {
+            PortReadError::Fault(fault) => Refusal::PortTable(fault),
+            PortReadError::NoMemory => Refusal::NoMemory,
+        }
+    }
+}
+
+impl From<StreamError> for Refusal {
+    ghost use Rattle.blifww_tool.specs.Refusals.{streams_refusal};
+
+    ghost from_gives = { λ e r. r ≡ streams_refusal e };
+
+    fn from(error: StreamError) -> Self {
+        match error {
+            StreamError::Fault(fault) => Refusal::Streams(fault),
+            StreamError::NoMemory => Refusal::NoMemory,
+        }
+    }
+}
+
+impl From<SimulateError> for Refusal {
+    ghost use Rattle.blifww_tool.specs.Refusals.{simulate_refusal};
+
+    ghost from_gives = { λ e r. r ≡ simulate_refusal e };
+
+    fn from(error: SimulateError) -> Self {
+        match error {
+            SimulateError::TooFar { generations } => Refusal::TooFar { generations },
+            SimulateError::NoMemory => Refusal::NoMemory,
+        }
+    }
+}
+
 impl From<AllocError> for Refusal {
     ghost use Rattle.blifww_tool.specs.declared.refusals.Refusal.TheVariants.{NoMemory};
 
     ghost from_gives = { λ _ r. r ≡ NoMemory };
 
     fn from(_: AllocError) -> Self {
+        Refusal::NoMemory
+    }
+}
+
+impl<T: Drop> From<AllocFailed<T>> for Refusal {
+    ghost use Rattle.blifww_tool.specs.declared.refusals.Refusal.TheVariants.{NoMemory};
+
+    ghost from_gives = { λ _ r. r ≡ NoMemory };
+
+    fn from(_: AllocFailed<T>) -> Self {
         Refusal::NoMemory
     }
 }
@@ -51,33 +141,21 @@ impl From<Failed> for Refusal {
 }
 
 impl Refusal {
-    ghost use Rattle.blifww_tool.specs.Run.{status_of, line_of};
+    ghost use Rattle.blifww_tool.specs.Refusals.{status_of};
 
     /// The exit status.
-    pub fn status(self) -> u8
-        ensures { result ≡ status_of self }
+    pub fn status(&self) -> u8
+        ensures { result ≡ status_of self.now }
     {
         match self {
             Refusal::Usage => 2,
-            Refusal::TooLong => 4,
+            Refusal::TooLong | Refusal::GridTooLarge { .. } | Refusal::TooFar { .. } => 4,
             Refusal::ReadFault => 5,
             Refusal::WriteFault => 6,
             Refusal::NoMemory => 7,
+            Refusal::Pattern(_) | Refusal::PortTable(_) => 8,
+            Refusal::Streams(_) => 9,
             Refusal::NotYet => 11,
-        }
-    }
-
-    /// The line that is told.
-    pub fn line(self) -> &'static [u8]
-        ensures { result.now ≡ line_of self }
-    {
-        match self {
-            Refusal::Usage => b"usage: blifww compile|simulate|eval|probe|window|make|self\n",
-            Refusal::TooLong => b"too long: limit 16777216\n",
-            Refusal::ReadFault => b"read fault\n",
-            Refusal::WriteFault => b"write fault\n",
-            Refusal::NoMemory => b"no memory\n",
-            Refusal::NotYet => b"not yet\n",
         }
     }
 }

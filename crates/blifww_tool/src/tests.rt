@@ -140,3 +140,150 @@ fn a_text_past_the_limit_is_too_long(rt: HostRuntime) -> Result<(), Fail> {
     }
     Ok(())
 }
+
+const OR_STREAMS: &[&str] = &["blifww", "simulate", "--cycles", "4", "a=0011", "b=0101"];
+
+const TWO_CYCLES: &[&str] = &["blifww", "simulate", "--cycles", "2", "a=11"];
+
+const ONE_CYCLE: &[&str] = &["blifww", "simulate", "--cycles", "1"];
+
+// A wire of three cells, with its period.
+fn wire(alloc: Global, period: &[u8]) -> Result<Vec<u8>, Fail> {
+    let mut text = b"#C BLIFWW 1 P ".to_vec(alloc)?;
+    text.extend_from_slice(period)?;
+    text.extend_from_slice(
+        b" L 2\n#C BLIFWW IN 0 0 a\n#C BLIFWW OUT 2 0 y\nx = 3, y = 1, rule = WireWorld\n3C!\n",
+    )?;
+    Ok(text)
+}
+
+#[test]
+fn what_compile_writes_is_simulated(rt: HostRuntime) -> Result<(), Fail> {
+    let alloc = rt.alloc();
+    let compiled = run_over(alloc, COMPILE, GATE, (16, &[]), (242, 0))?;
+    let got = run_over(alloc, OR_STREAMS, &compiled.out, (16, &[]), (7, 0))?;
+    assert_eq!(rt; got.status, 0);
+    assert_eq!(rt; got.out.as_slice(), b"y=0111\n".as_slice());
+    assert_eq!(rt; got.err.as_slice(), b"".as_slice());
+
+    let got = run_over(alloc, OR_STREAMS, &compiled.out, (16, &[]), (4, 99))?;
+    assert_eq!(rt; got.status, 6);
+    assert_eq!(rt; got.out.as_slice(), b"y=01".as_slice());
+    assert_eq!(rt; got.err.as_slice(), b"write fault\n".as_slice());
+    Ok(())
+}
+
+#[test]
+fn a_wire_shows_what_its_period_lets_through(rt: HostRuntime) -> Result<(), Fail> {
+    let alloc = rt.alloc();
+    for (period, out) in [
+        (b"4".as_slice(), b"y=11\n".as_slice()),
+        (b"3", b"y=11\n"),
+        (b"2", b"y=10\n"),
+        (b"1", b"y=10\n"),
+    ] {
+        let text = wire(alloc, period)?;
+        let got = run_over(alloc, TWO_CYCLES, &text, (16, &[]), (99, 0))?;
+        assert_eq!(rt; got.status, 0);
+        assert_eq!(rt; got.out.as_slice(), out);
+        assert_eq!(rt; got.err.as_slice(), b"".as_slice());
+    }
+    let bare = b"#CXRLE Pos=0,0\nx = 3, y = 1, rule = wireworld\n3C$!";
+    let got = run_over(alloc, ONE_CYCLE, bare, (16, &[]), (0, 0))?;
+    assert_eq!(rt; got.status, 0);
+    Ok(())
+}
+
+#[test]
+fn a_text_that_gives_no_simulation_is_refused(rt: HostRuntime) -> Result<(), Fail> {
+    let alloc = rt.alloc();
+    let far = wire(alloc, b"4294967296")?;
+    let zero = wire(alloc, b"0")?;
+    for (words, text, status, line) in [
+        (
+            TWO_CYCLES,
+            far.as_slice(),
+            4,
+            b"too large: generations 4294967298\n".as_slice(),
+        ),
+        (TWO_CYCLES, zero.as_slice(), 8, b"H1 BadLine line 1\n"),
+        (
+            TWO_CYCLES,
+            b"#C BLIFWW IN 0 0 a\n#C BLIFWW OUT 2 0 y\nx = 3, y = 1, rule = WireWorld\n3C!\n",
+            8,
+            b"H2 BadOrder line 1\n",
+        ),
+        (
+            TWO_CYCLES,
+            b"#C BLIFWW 1 P 4 L 2\n#C BLIFWW IN 3 0 a\n#C BLIFWW OUT 2 0 y\nx = 3, y = 1, rule = WireWorld\n3C!\n",
+            8,
+            b"H3 CellOutside line 2\n",
+        ),
+        (
+            TWO_CYCLES,
+            b"#C BLIFWW 1 P 4 L 2\n#C BLIFWW IN 0 0 a\n#C BLIFWW IN 0 0 a\n#C BLIFWW OUT 2 0 y\nx = 3, y = 1, rule = WireWorld\n3C!\n",
+            8,
+            b"H4 Twice line 3\n",
+        ),
+        (
+            ONE_CYCLE,
+            b"#CXRLE Pos=0,0\nx = 3, y = 1, rule = wireworld\n0C!",
+            8,
+            b"G4 BadItem line 3\n",
+        ),
+        (
+            ONE_CYCLE,
+            b"#CXRLE Pos=0,0\nx = 3, y = 1, rule = wireworld\n3C$",
+            8,
+            b"G6 NoEnd line 3\n",
+        ),
+        (
+            ONE_CYCLE,
+            b"#C BLIFWW\nx = 16385, y = 16384, rule = WireWorld\n0C",
+            4,
+            b"too large: grid 16385 by 16384\n",
+        ),
+    ] {
+        let got = run_over(alloc, words, text, (16, &[]), (99, 99))?;
+        assert_eq!(rt; got.status, status);
+        assert_eq!(rt; got.out.as_slice(), b"".as_slice());
+        assert_eq!(rt; got.err.as_slice(), line);
+    }
+    Ok(())
+}
+
+#[test]
+fn words_that_give_no_streams_are_refused(rt: HostRuntime) -> Result<(), Fail> {
+    for (words, status, line) in [
+        (
+            ["blifww", "simulate", "--cycles", "2", "a=01", "b=0"].as_slice(),
+            9,
+            b"stream: BadLength b=0\n".as_slice(),
+        ),
+        (
+            &["blifww", "simulate", "--cycles", "2", "a=01"],
+            9,
+            b"stream: MissingInput b\n",
+        ),
+        (
+            &[
+                "blifww", "simulate", "--cycles", "2", "a=01", "a=01", "b=01",
+            ],
+            9,
+            b"stream: TwiceInput a=01\n",
+        ),
+        (
+            &["blifww", "simulate", "--cycles", "3", "a=011", "b=012"],
+            9,
+            b"stream: BadBit b=012\n",
+        ),
+        (&["blifww", "simulate", "--cycles", "0"], 2, USAGE),
+        (&["blifww", "simulate", "a=01", "b=01"], 2, USAGE),
+    ] {
+        let got = run_over(rt.alloc(), words, PATTERN, (16, &[]), (99, 99))?;
+        assert_eq!(rt; got.status, status);
+        assert_eq!(rt; got.out.as_slice(), b"".as_slice());
+        assert_eq!(rt; got.err.as_slice(), line);
+    }
+    Ok(())
+}

@@ -1,8 +1,7 @@
 use Rattle.std.proofs.Common.{rules}
 use Rattle.blifww_tool.specs.Thin.{Names}
 use Rattle.blifww_tool.proofs.Written.{wrote_all, wrote_front}
-use Rattle.blifww_tool.proofs.Headline.{writes_what_it_read}
-use Rattle.blifww_tool.proofs.top.compile.Goals as goal
+use Rattle.blifww_tool.proofs.compile.compile.Goals as goal
 
 pub returns-in_err-write_pattern-clause-cut : goal.returns-in_err-write_pattern-clause-cut
 returns-in_err-write_pattern-clause-cut g c =
@@ -32,6 +31,3 @@ returns-clause-done g c =
       thin = search rules;
       wrote = wrote_all _ _ _ _ names c.in_ok-pattern.ensures c.in_ok-lines.ensures c.in_ok-write_pattern.ensures.ok;
     }
-
-pub returns-clause-headline : goal.returns-clause-headline
-returns-clause-headline g c = writes_what_it_read _ _ (returns-clause-done g c)

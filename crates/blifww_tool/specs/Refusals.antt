@@ -1,0 +1,116 @@
+-- The statuses and lines of refusals, and the refusal for each error of a part.
+use Rattle.std.specs.Prelude.{ℕ, List, ◌++◌, codes, decimal}
+use Rattle.pattern_reading.specs.declared.faults.RleFaultKind.{RleFaultKind}
+use Rattle.pattern_reading.specs.declared.faults.RleFaultKind.TheVariants as rle
+use Rattle.pattern_reading.specs.declared.faults.PortFaultKind.{PortFaultKind}
+use Rattle.pattern_reading.specs.declared.faults.PortFaultKind.TheVariants as port
+use Rattle.drive.specs.declared.error.StreamFaultKind.{StreamFaultKind}
+use Rattle.drive.specs.declared.error.StreamFaultKind.TheVariants as stream
+use Rattle.ww_base.specs.declared.whole.ReadAllError.{ReadAllError}
+use Rattle.ww_base.specs.declared.whole.ReadAllError.TheVariants as read_all
+use Rattle.command_words.specs.declared.errors.WordsError.{WordsError}
+use Rattle.command_words.specs.declared.errors.WordsError.TheVariants as words_of
+use Rattle.rle_read.specs.declared.error.RleReadError.{RleReadError}
+use Rattle.rle_read.specs.declared.error.RleReadError.TheVariants as pattern_of
+use Rattle.port_table.specs.declared.reading.PortReadError.{PortReadError}
+use Rattle.port_table.specs.declared.reading.PortReadError.TheVariants as ports_of
+use Rattle.drive.specs.declared.error.StreamError.{StreamError}
+use Rattle.drive.specs.declared.error.StreamError.TheVariants as streams_of
+use Rattle.drive.specs.declared.error.SimulateError.{SimulateError}
+use Rattle.drive.specs.declared.error.SimulateError.TheVariants as simulating
+use Rattle.blifww_tool.specs.declared.refusals.Refusal.{Refusal}
+use Rattle.blifww_tool.specs.declared.refusals.Refusal.TheVariants.{Usage, TooLong, ReadFault, WriteFault, NoMemory, NotYet, Pattern, GridTooLarge, PortTable, Streams, TooFar}
+
+-- the exit status of a refusal
+abbrev pub status_of : Refusal → ℕ
+status_of Usage = 2
+status_of TooLong = 4
+status_of ReadFault = 5
+status_of WriteFault = 6
+status_of NoMemory = 7
+status_of NotYet = 11
+status_of (Pattern fault) = 8
+status_of (GridTooLarge width height) = 4
+status_of (PortTable fault) = 8
+status_of (Streams fault) = 9
+status_of (TooFar generations) = 4
+
+-- the faults of a pattern's text as they are printed
+abbrev pub rle_fault_name : RleFaultKind → List ℕ
+rle_fault_name rle.NoHeader = codes "G1 NoHeader"
+rle_fault_name rle.BadHeader = codes "G2 BadHeader"
+rle_fault_name rle.OtherRule = codes "G3 OtherRule"
+rle_fault_name rle.BadItem = codes "G4 BadItem"
+rle_fault_name rle.CellOutside = codes "G5 CellOutside"
+rle_fault_name rle.NoEnd = codes "G6 NoEnd"
+rle_fault_name rle.GridTooLarge = codes "G7 GridTooLarge"
+
+-- those of a port table
+abbrev pub port_fault_name : PortFaultKind → List ℕ
+port_fault_name port.BadLine = codes "H1 BadLine"
+port_fault_name port.BadOrder = codes "H2 BadOrder"
+port_fault_name port.CellOutside = codes "H3 CellOutside"
+port_fault_name port.Twice = codes "H4 Twice"
+
+-- those of streams
+abbrev pub stream_fault_name : StreamFaultKind → List ℕ
+stream_fault_name stream.NoEquals = codes "NoEquals"
+stream_fault_name stream.UnknownInput = codes "UnknownInput"
+stream_fault_name stream.TwiceInput = codes "TwiceInput"
+stream_fault_name stream.BadBit = codes "BadBit"
+stream_fault_name stream.BadLength = codes "BadLength"
+stream_fault_name stream.MissingInput = codes "MissingInput"
+
+-- a fault on a line of a text, as `G4 BadItem line 2`
+abbrev pub fault_line : List ℕ → ℕ → List ℕ
+fault_line name line = name ++ (codes " line " ++ (decimal line ++ codes "\n"))
+
+-- a fault of streams and the word at fault, as `stream: BadLength b=0`
+abbrev pub stream_line : List ℕ → List ℕ → List ℕ
+stream_line name word = codes "stream: " ++ (name ++ (codes " " ++ (word ++ codes "\n")))
+
+-- the one line that tells a refusal
+abbrev pub line_of : Refusal → List ℕ
+line_of Usage = codes "usage: blifww compile|simulate|eval|probe|window|make|self\n"
+line_of TooLong = codes "too long: limit 16777216\n"
+line_of ReadFault = codes "read fault\n"
+line_of WriteFault = codes "write fault\n"
+line_of NoMemory = codes "no memory\n"
+line_of NotYet = codes "not yet\n"
+line_of (Pattern fault) = fault_line (rle_fault_name fault.kind) fault.line
+line_of (GridTooLarge width height) = codes "too large: grid " ++ (decimal width ++ (codes " by " ++ (decimal height ++ codes "\n")))
+line_of (PortTable fault) = fault_line (port_fault_name fault.kind) fault.line
+line_of (Streams fault) = stream_line (stream_fault_name fault.kind) fault.word
+line_of (TooFar generations) = codes "too large: generations " ++ (decimal generations ++ codes "\n")
+
+-- the refusal for each way in which not all is read,
+abbrev pub refusal_of : ReadAllError → Refusal
+refusal_of read_all.ReadFault = ReadFault
+refusal_of read_all.TooLong = TooLong
+refusal_of read_all.NoMemory = NoMemory
+
+-- in which words are no command,
+abbrev pub words_refusal : WordsError → Refusal
+words_refusal words_of.Usage = Usage
+words_refusal words_of.NoMemory = NoMemory
+
+-- a text is no pattern's,
+abbrev pub pattern_refusal : RleReadError → Refusal
+pattern_refusal (pattern_of.Fault fault) = Pattern fault
+pattern_refusal (pattern_of.TooLarge width height) = GridTooLarge width height
+pattern_refusal pattern_of.NoMemory = NoMemory
+
+-- its port table is at fault,
+abbrev pub table_refusal : PortReadError → Refusal
+table_refusal (ports_of.Fault fault) = PortTable fault
+table_refusal ports_of.NoMemory = NoMemory
+
+-- the streams are at fault,
+abbrev pub streams_refusal : StreamError → Refusal
+streams_refusal (streams_of.Fault fault) = Streams fault
+streams_refusal streams_of.NoMemory = NoMemory
+
+-- and a pattern is not run
+abbrev pub simulate_refusal : SimulateError → Refusal
+simulate_refusal (simulating.TooFar generations) = TooFar generations
+simulate_refusal simulating.NoMemory = NoMemory

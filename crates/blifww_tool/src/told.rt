@@ -1,0 +1,146 @@
+// The lines that tell refusals. They are written piece by piece, and take no memory.
+ghost use Rattle.std.specs.Prelude.{◌≡◌, ℕ, take, OnOk, OnErr};
+ghost use Rattle.std.specs.Io.KnownBytes.{Appends};
+ghost use Rattle.ww_base.specs.Faults.{HasCause};
+ghost use Rattle.blifww_tool.specs.Joined.{joined};
+ghost use Rattle.blifww_tool.specs.Refusals.{rle_fault_name, port_fault_name, stream_fault_name, fault_line, stream_line, line_of};
+
+use crate::refusals::Refusal;
+use drive::StreamFaultKind;
+use itoa::Buffer;
+use pattern_reading::{PortFaultKind, RleFaultKind};
+use ww_base::{Failed, Sink, write_all};
+
+// Writes the pieces, one after the other, or a front of them where a write fails.
+fn write_pieces<O: Sink>(sink: &mut O, pieces: &[&[u8]]) -> Result<(), Failed>
+    ensures ok { OnOk result (Appends (O.written sink.old) (O.written sink.new) (joined pieces.now)) }
+    ensures front { OnErr result ((n : ℕ) × Appends (O.written sink.old) (O.written sink.new) (take n (joined pieces.now))) }
+    ensures cause { HasCause (O.faults sink.old) (O.faults sink.new) result }
+{
+    match pieces {
+        [] => Ok(()),
+        [first, rest @ ..] => {
+            write_all(sink, first)?;
+            write_pieces(sink, rest)
+        }
+    }
+}
+
+// A fault of a pattern's text as it is printed.
+fn rle_fault_name(kind: RleFaultKind) -> &'static [u8]
+    ensures { result.now ≡ rle_fault_name kind }
+{
+    match kind {
+        RleFaultKind::NoHeader => b"G1 NoHeader",
+        RleFaultKind::BadHeader => b"G2 BadHeader",
+        RleFaultKind::OtherRule => b"G3 OtherRule",
+        RleFaultKind::BadItem => b"G4 BadItem",
+        RleFaultKind::CellOutside => b"G5 CellOutside",
+        RleFaultKind::NoEnd => b"G6 NoEnd",
+        RleFaultKind::GridTooLarge => b"G7 GridTooLarge",
+    }
+}
+
+// A fault of a port table as it is printed.
+fn port_fault_name(kind: PortFaultKind) -> &'static [u8]
+    ensures { result.now ≡ port_fault_name kind }
+{
+    match kind {
+        PortFaultKind::BadLine => b"H1 BadLine",
+        PortFaultKind::BadOrder => b"H2 BadOrder",
+        PortFaultKind::CellOutside => b"H3 CellOutside",
+        PortFaultKind::Twice => b"H4 Twice",
+    }
+}
+
+// A fault of streams as it is printed.
+fn stream_fault_name(kind: StreamFaultKind) -> &'static [u8]
+    ensures { result.now ≡ stream_fault_name kind }
+{
+    match kind {
+        StreamFaultKind::NoEquals => b"NoEquals",
+        StreamFaultKind::UnknownInput => b"UnknownInput",
+        StreamFaultKind::TwiceInput => b"TwiceInput",
+        StreamFaultKind::BadBit => b"BadBit",
+        StreamFaultKind::BadLength => b"BadLength",
+        StreamFaultKind::MissingInput => b"MissingInput",
+    }
+}
+
+// Tells a fault and its line.
+fn tell_fault<E: Sink>(err: &mut E, name: &[u8], line: u64) -> Result<(), Failed>
+    ensures ok { OnOk result (Appends (E.written err.old) (E.written err.new) (fault_line name.now line)) }
+    ensures front { OnErr result ((n : ℕ) × Appends (E.written err.old) (E.written err.new) (take n (fault_line name.now line))) }
+    ensures cause { HasCause (E.faults err.old) (E.faults err.new) result }
+{
+    let mut digits = Buffer::new();
+    write_pieces(
+        err,
+        &[name, b" line ", digits.format(line).as_bytes(), b"\n"],
+    )
+}
+
+// Tells the box that has too many cells.
+fn tell_grid<E: Sink>(err: &mut E, width: u64, height: u64) -> Result<(), Failed>
+    ensures ok { OnOk result (Appends (E.written err.old) (E.written err.new) (line_of (Refusal.GridTooLarge width height))) }
+    ensures front { OnErr result ((n : ℕ) × Appends (E.written err.old) (E.written err.new) (take n (line_of (Refusal.GridTooLarge width height)))) }
+    ensures cause { HasCause (E.faults err.old) (E.faults err.new) result }
+{
+    let mut columns = Buffer::new();
+    let mut rows = Buffer::new();
+    let x = columns.format(width).as_bytes();
+    let y = rows.format(height).as_bytes();
+    write_pieces(err, &[b"too large: grid ", x, b" by ", y, b"\n"])
+}
+
+// Tells how many generations are too many.
+fn tell_generations<E: Sink>(err: &mut E, generations: u128) -> Result<(), Failed>
+    ensures ok { OnOk result (Appends (E.written err.old) (E.written err.new) (line_of (Refusal.TooFar generations))) }
+    ensures front { OnErr result ((n : ℕ) × Appends (E.written err.old) (E.written err.new) (take n (line_of (Refusal.TooFar generations)))) }
+    ensures cause { HasCause (E.faults err.old) (E.faults err.new) result }
+{
+    let mut digits = Buffer::new();
+    let count = digits.format(generations).as_bytes();
+    write_pieces(err, &[b"too large: generations ", count, b"\n"])
+}
+
+// Tells a fault of streams, and the word at fault.
+fn tell_streams<'a, E: Sink>(err: &mut E, name: &'a [u8], word: &'a [u8]) -> Result<(), Failed>
+    ensures ok { OnOk result (Appends (E.written err.old) (E.written err.new) (stream_line name.now word.now)) }
+    ensures front { OnErr result ((n : ℕ) × Appends (E.written err.old) (E.written err.new) (take n (stream_line name.now word.now))) }
+    ensures cause { HasCause (E.faults err.old) (E.faults err.new) result }
+{
+    write_pieces(err, &[b"stream: ", name, b" ", word, b"\n"])
+}
+
+impl Refusal {
+    /// Writes the one line that tells the refusal, or a front of it where a write fails.
+    pub fn tell<E: Sink>(&self, err: &mut E) -> Result<(), Failed>
+        ensures ok { OnOk result (Appends (E.written err.old) (E.written err.new) (line_of self.now)) }
+        ensures front { OnErr result ((n : ℕ) × Appends (E.written err.old) (E.written err.new) (take n (line_of self.now))) }
+        ensures cause { HasCause (E.faults err.old) (E.faults err.new) result }
+    {
+        match self {
+            Refusal::Usage => write_all(
+                err,
+                b"usage: blifww compile|simulate|eval|probe|window|make|self\n",
+            ),
+            Refusal::TooLong => write_all(err, b"too long: limit 16777216\n"),
+            Refusal::ReadFault => write_all(err, b"read fault\n"),
+            Refusal::WriteFault => write_all(err, b"write fault\n"),
+            Refusal::NoMemory => write_all(err, b"no memory\n"),
+            Refusal::NotYet => write_all(err, b"not yet\n"),
+            Refusal::Pattern(fault) => {
+                tell_fault(err, rle_fault_name(fault.kind), fault.line as u64)
+            }
+            Refusal::GridTooLarge { width, height } => tell_grid(err, *width, *height),
+            Refusal::PortTable(fault) => {
+                tell_fault(err, port_fault_name(fault.kind), fault.line)
+            }
+            Refusal::Streams(fault) => {
+                tell_streams(err, stream_fault_name(fault.kind), fault.word.as_slice())
+            },
+            Refusal::TooFar { generations } => tell_generations(err, *generations),
+        }
+    }
+}
