@@ -1,6 +1,6 @@
 -- A simulation that words ask for has at least one cycle.
-use Rattle.std.proofs.Common.{ℕ, ◌≡◌, ◌≤◌, ◌<◌, sym, ap, ◌∙◌, subst, Bool, true, false, ◌&&◌, nat_le, if◌then◌else◌, List, [], refl, arith, codes}
-use Rattle.std.specs.Prelude.{Option, Some, None, option_map, option_and_then, unwrap_or}
+use Rattle.std.proofs.Common.{ℕ, ◌≡◌, ◌≤◌, ◌<◌, subst, Bool, true, false, ◌&&◌, nat_le, if◌then◌else◌, List, [], refl, codes}
+use Rattle.std.specs.Prelude.{Option, Some, None, option_map, unwrap_or}
 use Rattle.std.specs.Str.{bytes_eq}
 use Rattle.std.specs.Str.Parse.{digits_value}
 use Rattle.std.proofs.lemmas.Bool.{and_parts, leb-true}
@@ -8,7 +8,7 @@ use Rattle.clap.specs.Walk.{Row, Text, all_of, first_of}
 use Rattle.clap.specs.Simple.{subcommand_of}
 use Rattle.command_words.specs.App.{blifww_app}
 use Rattle.command_words.specs.Numbers.{are_digits, number_between}
-use Rattle.command_words.specs.Shapes.{CommandValues, compile, simulate, command_values, values_met, values_by_name, simulate_by, simulate_values}
+use Rattle.command_words.specs.Shapes.{compile, simulate, command_values, values_met, simulate_by, simulate_values}
 
 some_is : {A : Type 0} (a b : A) → Some a ≡ Some b → a ≡ b
 some_is a b e = cc

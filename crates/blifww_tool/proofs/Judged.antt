@@ -1,13 +1,12 @@
 -- What a run in which nothing fails says of the text that its source has.
-use Rattle.std.proofs.Common.{ℕ, ◌≡◌, ◌≢◌, ◌≤◌, ◌<◌, ◌+◌, ◌⊎◌, refl, sym, ap, ◌∙◌, subst, List, ◌++◌, length, take, arith, inl, inr, length-append}
+use Rattle.std.proofs.Common.{ℕ, ◌≡◌, ◌≢◌, ◌≤◌, ◌⊎◌, refl, sym, ap, ◌∙◌, subst, List, length, arith, inl, inr, length-append}
 use Rattle.std.specs.Prelude.{Option, Some, None}
 use Rattle.std.specs.Io.KnownBytes.{Consumes}
 use Rattle.command_words.specs.Shapes.{CommandValues, compile, simulate}
 use Rattle.drive.specs.Driving.{last_generation, greatest_generation}
-use Rattle.blifww_tool.specs.Thin.{Names, IsThin}
 use Rattle.blifww_tool.specs.Simulation.{Simulation, IsSimulation}
 use Rattle.blifww_tool.specs.Refusals.{status_of, line_of}
-use Rattle.blifww_tool.specs.Run.{Asks, Reading, Writing, Gave, GaveAll, Gained, GainedNothing, WriteFailed, text_limit, IsRefused, RefusesText, HasReason, Compiles, Simulates, Writes, Does, IsCalm}
+use Rattle.blifww_tool.specs.Run.{Asks, Reading, Writing, GaveAll, Gained, GainedNothing, WriteFailed, text_limit, IsRefused, RefusesText, HasReason, Writes, Does, IsCalm}
 use Rattle.blifww_tool.proofs.Headline.{gave_whole, writes_what_it_read}
 use Rattle.blifww_tool.specs.Gate.{WritesWhatItRead}
 use Rattle.blifww_tool.proofs.Refused.{simulation_or_refused, one_refusal}

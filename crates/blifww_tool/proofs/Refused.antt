@@ -1,6 +1,6 @@
 -- A text and words give a simulation, or are refused in one way.
-use Rattle.std.proofs.Common.{ℕ, ◌≡◌, ◌≤◌, ◌<◌, ◌+◌, ◌-◌, ◌*◌, refl, sym, ap, ap₂, ◌∙◌, subst, List, map, arith}
-use Rattle.std.specs.Prelude.{Some, None, slice_get}
+use Rattle.std.proofs.Common.{ℕ, ◌≡◌, ◌≤◌, ◌<◌, ◌+◌, ◌-◌, ◌*◌, refl, sym, ap, ap₂, ◌∙◌, subst, List, arith}
+use Rattle.std.specs.Prelude.{Some, slice_get}
 use Rattle.std.proofs.lemmas.Option.{none-some}
 use Rattle.ww_rule.specs.Grid.{Grid}
 use Rattle.pattern_reading.specs.declared.ports.Ports.{Ports}
@@ -8,13 +8,13 @@ use Rattle.pattern_reading.specs.declared.faults.RleFaultKind.{RleFaultKind}
 use Rattle.pattern_reading.specs.declared.faults.PortFaultKind.{PortFaultKind}
 use Rattle.pattern_reading.specs.Pattern.{ReadsWithinLimit, HasReaderFault, HasLargeBox}
 use Rattle.pattern_reading.specs.PortTable.{ReadsAsPorts, HasPortFault}
-use Rattle.pattern_reading.proofs.RleLaws.{one_pattern, one_fault, no_fault_if_read}
-use Rattle.pattern_reading.proofs.PortLaws.{one_table, one_port_fault, no_port_fault_if_read}
+use Rattle.pattern_reading.proofs.RleLaws.{one_pattern, one_fault}
+use Rattle.pattern_reading.proofs.PortLaws.{one_port_fault, no_port_fault_if_read}
 use Rattle.pattern_reading.proofs.Large.{one_reader_answer}
 use Rattle.rle_read.specs.declared.error.RleFault.{RleFault}
 use Rattle.port_table.specs.declared.faults.PortFault.{PortFault}
 use Rattle.drive.specs.declared.error.StreamFault.{StreamFault}
-use Rattle.drive.specs.Streams.{HasStreams, HasStreamFault}
+use Rattle.drive.specs.Streams.{HasStreamFault}
 use Rattle.drive.specs.Driving.{last_generation, greatest_generation}
 use Rattle.blifww_tool.specs.Simulation.{Simulation, IsSimulation, names_of}
 use Rattle.blifww_tool.specs.Run.{IsRefused}

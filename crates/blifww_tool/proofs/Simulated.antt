@@ -1,6 +1,6 @@
 -- What the parts of a simulation give together.
-use Rattle.std.proofs.Common.{ℕ, ◌≡◌, ◌≢◌, ◌≤◌, ◌<◌, ◌⊎◌, refl, sym, ap, ◌∙◌, subst, List, [], ◌∷◌, map, take, inl, inr}
-use Rattle.std.specs.List.{All, AllByRecursion}
+use Rattle.std.proofs.Common.{ℕ, ◌≡◌, ◌≢◌, ◌<◌, ◌⊎◌, refl, sym, subst, List, [], ◌∷◌, take, inl, inr}
+use Rattle.std.specs.List.{AllByRecursion}
 use Rattle.std.proofs.lemmas.List.Elements.{All-from_recursion}
 use Rattle.ww_rule.specs.Grid.{AreInBox}
 use Rattle.pattern_reading.specs.declared.ports.PortLine.{PortLine}
@@ -11,7 +11,7 @@ use Rattle.pattern_reading.proofs.PortsInside.{ports_inside}
 use Rattle.drive.specs.declared.error.SimulateError.{SimulateError}
 use Rattle.drive.specs.declared.error.SimulateError.TheVariants as simulating
 use Rattle.drive.specs.Driving.{HasCause, cells_of, last_generation, greatest_generation}
-use Rattle.command_words.specs.Shapes.{CommandValues, simulate, IsCommand}
+use Rattle.command_words.specs.Shapes.{simulate, IsCommand}
 use Rattle.command_words.specs.declared.errors.WordsError.{WordsError}
 use Rattle.command_words.specs.declared.errors.WordsError.TheVariants as words_error
 use Rattle.blifww_tool.specs.Simulation.{Simulation, IsSimulation}

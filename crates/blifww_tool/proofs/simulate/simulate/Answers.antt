@@ -1,4 +1,4 @@
-use Rattle.std.proofs.Common.{◌≡◌, ◌⊎◌, ap, sym, ◌∙◌, subst, ℕ, List, map, rules, string_bytes}
+use Rattle.std.proofs.Common.{◌≡◌, ◌⊎◌, subst, ℕ, List, map, rules, string_bytes}
 use Rattle.std.proofs.lemmas.Result.{err_from_is_err_and}
 use Rattle.blifww_tool.specs.Run.{IsRefused}
 use Rattle.blifww_tool.specs.declared.refusals.Refusal.TheVariants.{NoMemory}

@@ -1,10 +1,8 @@
-use Rattle.std.proofs.Common.{◌≡◌, ap, ap₂, sym, ◌∙◌, subst, ℕ, List, Bool, length, map, flat_map, zip, rules, string_bytes}
+use Rattle.std.proofs.Common.{◌≡◌, ap, ap₂, sym, ◌∙◌, subst, ℕ, List, Bool, length, map, flat_map, zip, string_bytes}
 use Rattle.std.proofs.lemmas.List.{length-map}
 use Rattle.std.proofs.lemmas.Result.{err_from_is_err_and}
 use Rattle.pattern_reading.specs.declared.ports.PortLine.{PortLine}
 use Rattle.ww_rule.specs.Patterns.{grid_of}
-use Rattle.ww_rule.specs.Grid.{plane_of}
-use Rattle.drive.specs.Driving.{shown_bits}
 use Rattle.drive.specs.Streams.{HasStreams}
 use Rattle.blifww_tool.specs.Simulation.{Simulation, IsSimulation, names_of, output_bits}
 use Rattle.blifww_tool.proofs.OutputLines.{line, lines_by}

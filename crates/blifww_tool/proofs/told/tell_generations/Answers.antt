@@ -1,4 +1,4 @@
-use Rattle.std.proofs.Common.{◌≡◌, ◌++◌, ap, ◌∙◌, codes, decimal}
+use Rattle.std.proofs.Common.{◌++◌, ap, ◌∙◌, codes}
 use Rattle.blifww_tool.proofs.JoinedPieces.{told_ok, told_front}
 use Rattle.blifww_tool.proofs.told.tell_generations.Goals as goal
 
