@@ -69,3 +69,11 @@ has_values words i = met_valued (subcommand_of blifww_app words) (taken_named wo
 
 pub no_command : (words : List Text) → command_values words ≡ None → IsCommand words → ⊥
 no_command words none i = true≢false (sym (has_values words i) ∙ ap (λ (o : Option CommandValues). is_some o) none)
+
+some_of : (found : Option CommandValues) → is_some found ≡ true → (v : CommandValues) × (found ≡ Some v)
+some_of None e = absurd (true≢false (sym e))
+some_of (Some v) e = (v, refl)
+
+-- a command has values
+pub values_given : (words : List Text) → IsCommand words → (v : CommandValues) × (command_values words ≡ Some v)
+values_given words i = some_of (command_values words) (has_values words i)

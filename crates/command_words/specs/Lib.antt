@@ -1,4 +1,5 @@
 pub mod App
 pub mod Errors
+pub mod Laws
 pub mod Numbers
 pub mod Shapes

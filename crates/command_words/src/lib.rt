@@ -4,6 +4,7 @@
 mod app;
 mod command;
 mod errors;
+pub mod laws;
 mod numbers;
 
 pub use command::{Command, command_of};
