@@ -84,7 +84,7 @@ pub record PlacesAreOrdered : Type 0 where
 abbrev pub TwoClocksAreOne : Type 0
 TwoClocksAreOne = (design : Design) (line other_line : ℕ) (word other_word : Name) → IsTwoClocks design line word → IsTwoClocks design other_line other_word → (line ≡ other_line) × (word ≡ other_word)
 
--- and at most one line on which a clock net is read or driven
+-- and at most one line on which a clock net is read or driven (its word is one where each line number is one line's, as in every text)
 abbrev pub ClockReadIsOnOneLine : Type 0
 ClockReadIsOnOneLine = (design : Design) (line other_line : ℕ) (word other_word : Name) → IsClockRead design line word → IsClockRead design other_line other_word → line ≡ other_line
 
