@@ -1,4 +1,4 @@
-//! Compiles the BLIF text on standard input to a Wireworld pattern on standard output.
+//! Compiles the BLIF text on standard input to a Wireworld pattern on standard output, or simulates such a pattern.
 #![tactic(auto)]
 
 ghost use Rattle.std.specs.Prelude.{◌≡◌, ◌≢◌, codes};
