@@ -1,0 +1,5 @@
+pub mod Passing
+pub mod Parts
+pub mod Inputs
+pub mod LaneBits
+pub mod Columns

@@ -1,10 +1,11 @@
-//! Waves: how signals run through the body of a plan and round its loops, macro step by macro step. The functions here
-//! do nothing; their clauses are the laws, of every admissible plan.
+//! Waves: how signals run through the body of a plan, and round its loops, from macro step to macro step. The functions
+//! here do nothing; their clauses are the laws, of every plan, or of every one that is admissible.
 #![tactic(auto)]
 
-ghost use Rattle.plan_waves.specs.Laws.{StepsGoOn, InputsAreEntries, DrivenEdgesGoOn, FreeEntriesGoDark, InputsEnter, ColumnsPass, LoopsReturn, LoopsComeRound};
+mod entries;
+mod waves;
 
-/// The edges after so many macro steps are edges that go on.
-pub fn steps_go_on()
-    ensures { StepsGoOn }
-{}
+pub use entries::{
+    driven_edges_go_on, free_entries_go_dark, inputs_are_entries, inputs_enter, steps_go_on,
+};
+pub use waves::columns_pass;
