@@ -3,3 +3,5 @@ pub mod Parts
 pub mod Inputs
 pub mod LaneBits
 pub mod Columns
+pub mod Paths
+pub mod Turns
