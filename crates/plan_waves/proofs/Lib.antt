@@ -5,3 +5,4 @@ pub mod LaneBits
 pub mod Columns
 pub mod Paths
 pub mod Turns
+pub mod WayBack
