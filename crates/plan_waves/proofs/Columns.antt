@@ -105,7 +105,7 @@ column_answers plan h lit c l within low =
 length-bits_at : (plan : Plan) (c : ℕ) (lit : Lit) → length (bits_at plan c lit) ≡ plan.lanes
 length-bits_at plan c lit = length-map-range_with_len (λ lane. lit (Beside (plan.latches + c) lane)) 0 plan.lanes
 
-bit_on-bits_at : (plan : Plan) (c : ℕ) (lit : Lit) (l : ℕ) → l < plan.lanes → bit_on (bits_at plan c lit) l ≡ lit (Beside (plan.latches + c) l)
+pub bit_on-bits_at : (plan : Plan) (c : ℕ) (lit : Lit) (l : ℕ) → l < plan.lanes → bit_on (bits_at plan c lit) l ≡ lit (Beside (plan.latches + c) l)
 bit_on-bits_at plan c lit l low = get_or-map-range_with_len (λ lane. lit (Beside (plan.latches + c) lane)) 0 plan.lanes l l false low (omega arith)
 
 on_lanes : (n : ℕ) (xs : List Instr) → All (IsOnLanes n) xs → All (λ i. (lane_of i < n) × (lane_of i + 1 < n)) xs

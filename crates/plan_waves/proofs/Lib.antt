@@ -6,3 +6,4 @@ pub mod Columns
 pub mod Paths
 pub mod Turns
 pub mod WayBack
+pub mod Loops

@@ -8,4 +8,4 @@ mod waves;
 pub use entries::{
     driven_edges_go_on, free_entries_go_dark, inputs_are_entries, inputs_enter, steps_go_on,
 };
-pub use waves::columns_pass;
+pub use waves::{columns_pass, loops_come_round, loops_return};

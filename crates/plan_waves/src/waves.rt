@@ -5,3 +5,14 @@ ghost use Rattle.plan_waves.specs.Laws.{ColumnsPass, LoopsReturn, LoopsComeRound
 pub fn columns_pass()
     ensures { ColumnsPass }
 {}
+
+/// What leaves the body on the lane of a loop at any macro time enters it again one macro step later for each tile of the
+/// loop's way back.
+pub fn loops_return()
+    ensures { LoopsReturn }
+{}
+
+/// A period after any macro time, each loop's lane brings what all columns make of the bits that entered the body then.
+pub fn loops_come_round()
+    ensures { LoopsComeRound }
+{}
