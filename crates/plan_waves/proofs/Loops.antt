@@ -17,18 +17,18 @@ use Rattle.plan_waves.proofs.Columns.{bit_on-bits_at, columns_pass}
 
 -- the whole path of a loop outside the body
 pub loop_path : (plan : Plan) → IsAdmissible plan → (edges : ℕ → Lit) → GoesOn plan edges → (loop : ℕ) → loop < plan.latches
-    → Reaches edges (tiles_back plan) (loop_exit plan loop) (loop_entry plan loop)
+    → Reaches plan edges (tiles_back plan) (loop_exit plan loop) (loop_entry plan loop)
 loop_path plan h edges g loop inside =
     let fits = h.size.loops_on_lanes in
     let rest = plan.latches - 1 - loop in
-    renamed edges (4 * loop + 2 + (length plan.columns + (4 * rest + 2))) (tiles_back plan) _ _ _ _ (omega arith) refl
+    renamed plan edges (4 * loop + 2 + (length plan.columns + (4 * rest + 2))) (tiles_back plan) _ _ _ _ (omega arith) refl
     (beside_same plan.latches plan.latches (plan.lanes - 1 - rest) (first_loop_lane plan + loop) refl (omega arith))
-    (joined edges _ _ _ _ _ (right_turn plan h edges g loop inside)
-    (joined edges _ _ _ _ _ (way_back plan h edges g loop inside) (left_turn plan h edges g rest (omega arith))))
+    (joined plan edges _ _ _ _ _ (right_turn plan h edges g loop inside)
+    (joined plan edges _ _ _ _ _ (way_back plan h edges g loop inside) (left_turn plan h edges g rest (omega arith))))
 
 pub loops_return : (plan : Plan) → IsAdmissible plan → (edges : ℕ → Lit) → GoesOn plan edges → (m loop : ℕ) → loop < plan.latches
     → edges (m + tiles_back plan) (loop_entry plan loop) ≡ edges m (loop_exit plan loop)
-loops_return plan h edges g m loop inside = loop_path plan h edges g loop inside m
+loops_return plan h edges g m loop inside = (loop_path plan h edges g loop inside).arrives m
 
 pub loops_come_round : (plan : Plan) → IsAdmissible plan → (edges : ℕ → Lit) → GoesOn plan edges → (m loop : ℕ) → loop < plan.latches
     → edges (m + (length plan.columns + tiles_back plan)) (loop_entry plan loop)

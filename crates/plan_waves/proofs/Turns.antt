@@ -1,5 +1,5 @@
 -- A signal in the turns of its loop.
-use Rattle.std.proofs.Common.{◌≡◌, refl, sym, ◌∙◌, ap, ℕ, ◌+◌, ◌-◌, ◌*◌, ◌<◌, ◌≤◌, arith}
+use Rattle.std.proofs.Common.{◌≡◌, refl, sym, ◌∙◌, ap, ℕ, ◌+◌, ◌-◌, ◌*◌, ◌<◌, ◌≤◌, ◌≢◌, length, arith}
 use Rattle.tiling.specs.Tiling.{Edge, Lit}
 use Rattle.tiling.specs.Tiling.Edge.{Beside, Above}
 use Rattle.lane_core.specs.declared.plan.Plan.{Plan}
@@ -10,36 +10,38 @@ use Rattle.macro_grid.proofs.Matched.{tiling_is_matched}
 use Rattle.plan_waves.specs.Waves.{GoesOn, loop_exit, loop_entry}
 use Rattle.plan_waves.proofs.Passing.{east_south_passes, south_west_passes, west_north_passes, north_east_passes}
 use Rattle.plan_waves.proofs.Parts.{right_along, right_upper_corner, right_across, right_lower_corner, right_back, left_back, left_lower_corner, left_across, left_upper_corner, left_along}
-use Rattle.plan_waves.proofs.Paths.{Reaches, passed_on, loop_lane, once, joined, above_same, beside_same, renamed, east, south, west, north}
+use Rattle.plan_waves.proofs.Paths.{Reaches, passed_on, loop_lane, below_body, other_column, once, joined, above_same, beside_same, renamed, east, south, west, north}
 
 -- from where loop s leaves the body to the beginning of its way back
 pub right_turn : (plan : Plan) → IsAdmissible plan → (edges : ℕ → Lit) → GoesOn plan edges → (loop : ℕ) → loop < plan.latches
-    → Reaches edges (4 * loop + 2) (loop_exit plan loop) (Beside (end_of_body plan) (plan.lanes + loop))
+    → Reaches plan edges (4 * loop + 2) (loop_exit plan loop) (Beside (end_of_body plan) (plan.lanes + loop))
 right_turn plan h edges g loop inside =
     let fits = h.size.loops_on_lanes in
     let m = tiling_is_matched plan h in
     let q = end_of_body plan in
+    let columns : 0 < length plan.columns = omega (arith, h.size.loops_in_columns) in
+    let beside : (t : ℕ) → q + t ≢ plan.latches = λ t e. absurd (omega arith) in
     let upper = plan.lanes - 1 - loop in
     let lower = plan.lanes + loop in
-    let along : Reaches edges loop (Beside q upper) (Beside (q + loop) upper) =
-    east plan h edges g loop q upper (omega arith) (λ t w. right_along plan h loop t inside w) in
-    let down : Reaches edges 1 (Beside (q + loop) upper) (Above (q + loop) (plan.lanes - loop)) =
-    once edges _ _ (passed_on plan edges g (Beside (q + loop) upper) (Above (q + loop) (plan.lanes - loop)) refl
+    let along : Reaches plan edges loop (Beside q upper) (Beside (q + loop) upper) =
+    east plan h edges g loop q upper (omega arith) (λ t w. beside t) (λ t w. right_along plan h loop t inside w) in
+    let down : Reaches plan edges 1 (Beside (q + loop) upper) (Above (q + loop) (plan.lanes - loop)) =
+    once plan edges _ _ (passed_on plan edges g (Beside (q + loop) upper) (Above (q + loop) (plan.lanes - loop)) (other_column plan (q + loop) upper (beside loop)) refl
     (λ lit. east_south_passes (tiling_of plan) m lit (q + loop) upper (plan.lanes - loop) (omega arith) (right_upper_corner plan h loop inside))) in
-    let across : Reaches edges (2 * loop) (Above (q + loop) (plan.lanes - loop)) (Above (q + loop) lower) =
-    renamed edges _ _ _ _ _ _ refl refl (above_same (q + loop) (q + loop) (plan.lanes - loop + 2 * loop) lower refl (omega arith))
+    let across : Reaches plan edges (2 * loop) (Above (q + loop) (plan.lanes - loop)) (Above (q + loop) lower) =
+    renamed plan edges _ _ _ _ _ _ refl refl (above_same (q + loop) (q + loop) (plan.lanes - loop + 2 * loop) lower refl (omega arith))
     (south plan h edges g (2 * loop) (q + loop) (plan.lanes - loop) (λ t w. right_across plan h loop t inside w)) in
-    let out : Reaches edges 1 (Above (q + loop) lower) (Beside (q + loop) lower) =
-    once edges _ _ (passed_on plan edges g (Above (q + loop) lower) (Beside (q + loop) lower) (loop_lane plan (q + loop) lower (omega arith))
+    let out : Reaches plan edges 1 (Above (q + loop) lower) (Beside (q + loop) lower) =
+    once plan edges _ _ (passed_on plan edges g (Above (q + loop) lower) (Beside (q + loop) lower) refl (loop_lane plan (q + loop) lower (omega arith))
     (λ lit. south_west_passes (tiling_of plan) m lit (q + loop) lower (right_lower_corner plan loop inside))) in
-    let back : Reaches edges loop (Beside (q + loop) lower) (Beside q lower) =
+    let back : Reaches plan edges loop (Beside (q + loop) lower) (Beside q lower) =
     west plan h edges g loop q lower (omega arith) (λ t w. right_back plan loop t inside w) in
-    renamed edges (loop + (1 + (2 * loop + (1 + loop)))) (4 * loop + 2) _ _ _ _ (omega arith) refl refl
-    (joined edges _ _ _ _ _ along (joined edges _ _ _ _ _ down (joined edges _ _ _ _ _ across (joined edges _ _ _ _ _ out back))))
+    renamed plan edges (loop + (1 + (2 * loop + (1 + loop)))) (4 * loop + 2) _ _ _ _ (omega arith) refl refl
+    (joined plan edges _ _ _ _ _ along (joined plan edges _ _ _ _ _ down (joined plan edges _ _ _ _ _ across (joined plan edges _ _ _ _ _ out back))))
 
 -- from the end of a way back to the body, in the left turn that has so many others inside it
 pub left_turn : (plan : Plan) → IsAdmissible plan → (edges : ℕ → Lit) → GoesOn plan edges → (inside : ℕ) → inside < plan.latches
-    → Reaches edges (4 * inside + 2) (Beside plan.latches (plan.lanes + inside)) (Beside plan.latches (plan.lanes - 1 - inside))
+    → Reaches plan edges (4 * inside + 2) (Beside plan.latches (plan.lanes + inside)) (Beside plan.latches (plan.lanes - 1 - inside))
 left_turn plan h edges g inside some =
     let fits = h.size.loops_on_lanes in
     let m = tiling_is_matched plan h in
@@ -47,20 +49,20 @@ left_turn plan h edges g inside some =
     let next = plan.latches - inside in
     let upper = plan.lanes - 1 - inside in
     let lower = plan.lanes + inside in
-    let along : Reaches edges inside (Beside plan.latches lower) (Beside next lower) =
-    renamed edges _ _ _ _ _ _ refl (beside_same (next + inside) plan.latches lower lower (omega arith) refl) refl
+    let along : Reaches plan edges inside (Beside plan.latches lower) (Beside next lower) =
+    renamed plan edges _ _ _ _ _ _ refl (beside_same (next + inside) plan.latches lower lower (omega arith) refl) refl
     (west plan h edges g inside next lower (omega arith) (λ t w. left_back plan inside t some w)) in
-    let up : Reaches edges 1 (Beside next lower) (Above q lower) =
-    once edges _ _ (passed_on plan edges g (Beside next lower) (Above q lower) refl
+    let up : Reaches plan edges 1 (Beside next lower) (Above q lower) =
+    once plan edges _ _ (passed_on plan edges g (Beside next lower) (Above q lower) (below_body plan next lower (omega arith)) refl
     (λ lit. west_north_passes (tiling_of plan) m lit q next lower (omega arith) (left_lower_corner plan inside some))) in
-    let across : Reaches edges (2 * inside) (Above q lower) (Above q (plan.lanes - inside)) =
-    renamed edges _ _ _ _ _ _ refl (above_same q q (plan.lanes - inside + 2 * inside) lower refl (omega arith)) refl
+    let across : Reaches plan edges (2 * inside) (Above q lower) (Above q (plan.lanes - inside)) =
+    renamed plan edges _ _ _ _ _ _ refl (above_same q q (plan.lanes - inside + 2 * inside) lower refl (omega arith)) refl
     (north plan h edges g (2 * inside) q (plan.lanes - inside) (λ t w. left_across plan h inside t some w)) in
-    let out : Reaches edges 1 (Above q (plan.lanes - inside)) (Beside next upper) =
-    once edges _ _ (passed_on plan edges g (Above q (plan.lanes - inside)) (Beside next upper) (loop_lane plan next upper (omega arith))
+    let out : Reaches plan edges 1 (Above q (plan.lanes - inside)) (Beside next upper) =
+    once plan edges _ _ (passed_on plan edges g (Above q (plan.lanes - inside)) (Beside next upper) refl (loop_lane plan next upper (omega arith))
     (λ lit. north_east_passes (tiling_of plan) m lit q next upper (plan.lanes - inside) (omega arith) (omega arith) (left_upper_corner plan h inside some))) in
-    let back : Reaches edges inside (Beside next upper) (Beside plan.latches upper) =
-    renamed edges _ _ _ _ _ _ refl refl (beside_same (next + inside) plan.latches upper upper (omega arith) refl)
-    (east plan h edges g inside next upper (omega arith) (λ t w. left_along plan h inside t some w)) in
-    renamed edges (inside + (1 + (2 * inside + (1 + inside)))) (4 * inside + 2) _ _ _ _ (omega arith) refl refl
-    (joined edges _ _ _ _ _ along (joined edges _ _ _ _ _ up (joined edges _ _ _ _ _ across (joined edges _ _ _ _ _ out back))))
+    let back : Reaches plan edges inside (Beside next upper) (Beside plan.latches upper) =
+    renamed plan edges _ _ _ _ _ _ refl refl (beside_same (next + inside) plan.latches upper upper (omega arith) refl)
+    (east plan h edges g inside next upper (omega arith) (λ t w e. absurd (omega arith)) (λ t w. left_along plan h inside t some w)) in
+    renamed plan edges (inside + (1 + (2 * inside + (1 + inside)))) (4 * inside + 2) _ _ _ _ (omega arith) refl refl
+    (joined plan edges _ _ _ _ _ along (joined plan edges _ _ _ _ _ up (joined plan edges _ _ _ _ _ across (joined plan edges _ _ _ _ _ out back))))

@@ -3,7 +3,7 @@
 -- With `back` columns behind it, a signal `off` lanes below the body is moved down one lane by the next column of swaps
 -- where `off` and `back` are both even or both odd, and up else, but stays where there is no lane beyond. So it goes one
 -- way, stays once at the border, and goes the other way, until it has as many columns behind it as there are loops.
-use Rattle.std.proofs.Common.{◌≡◌, ◌≢◌, refl, sym, ◌∙◌, ap, ℕ, ◌+◌, ◌-◌, ◌*◌, ◌%◌, ◌<◌, ◌≤◌, Bool, true, false, ◌&&◌, cond, ltb, ⊎_elim, length, arith}
+use Rattle.std.proofs.Common.{◌≡◌, ◌≢◌, refl, sym, ◌∙◌, ap, subst, ℕ, ◌+◌, ◌-◌, ◌*◌, ◌%◌, ◌<◌, ◌≤◌, Bool, true, false, ◌&&◌, cond, ltb, ⊎_elim, length, arith}
 use Rattle.std.specs.Prelude.{◌==◌}
 use Rattle.std.proofs.lemmas.Bool.{cases_eq, cond-true, cond-false, ne_eqb, and_left, and_right, and_from, eq-eqb}
 use Rattle.std.proofs.lemmas.Bool.Decides.{nat_tests}
@@ -20,7 +20,7 @@ use Rattle.macro_grid.proofs.Matched.{tiling_is_matched}
 use Rattle.plan_waves.specs.Waves.{GoesOn}
 use Rattle.plan_waves.proofs.Passing.{west_passes, upper_swap_passes, lower_swap_passes}
 use Rattle.plan_waves.proofs.Parts.{return_at}
-use Rattle.plan_waves.proofs.Paths.{Reaches, Follows, passed_on, loop_lane, once, joined, beside_same, renamed, chain, west}
+use Rattle.plan_waves.proofs.Paths.{Reaches, Follows, passed_on, loop_lane, below_body, once, joined, beside_same, renamed, chain, west}
 
 -- what stands on the way back, by the two tests
 upper_half : (loops back off : ℕ) → back < loops → off % 2 ≡ back % 2 → off + 1 < loops → return_slot loops back off ≡ Upper (Tile kind.WestSwap)
@@ -69,83 +69,87 @@ block plan back off within low =
 
 -- one column further: down, up, or straight on
 one_down : (plan : Plan) → IsAdmissible plan → (edges : ℕ → Lit) → GoesOn plan edges → (back off : ℕ)
-    → back < plan.latches → off % 2 ≡ back % 2 → off + 1 < plan.latches → Follows edges (way plan back off) (way plan (back + 1) (off + 1))
+    → back < plan.latches → off % 2 ≡ back % 2 → off + 1 < plan.latches → Follows plan edges (way plan back off) (way plan (back + 1) (off + 1))
 one_down plan h edges g back off swaps same within =
     let fits = h.size.loops_in_columns in
-    passed_on plan edges g (way plan back off) (way plan (back + 1) (off + 1)) (loop_lane plan (end_of_body plan - (back + 1)) (plan.lanes + (off + 1)) (omega arith))
+    passed_on plan edges g (way plan back off) (way plan (back + 1) (off + 1)) (below_body plan (end_of_body plan - back) (plan.lanes + off) (omega arith)) (loop_lane plan (end_of_body plan - (back + 1)) (plan.lanes + (off + 1)) (omega arith))
     (λ lit. lower_swap_passes (tiling_of plan) (tiling_is_matched plan h) lit (end_of_body plan - (back + 1)) (end_of_body plan - back) (plan.lanes + (off + 1)) (plan.lanes + off)
     (omega arith) (omega arith) (block plan back (off + 1) (omega arith) within ∙ lower_half plan.latches back (off + 1) swaps (omega arith) (omega arith)))
 
 one_up : (plan : Plan) → IsAdmissible plan → (edges : ℕ → Lit) → GoesOn plan edges → (back off : ℕ)
-    → back < plan.latches → off % 2 ≡ back % 2 → off + 1 < plan.latches → Follows edges (way plan back (off + 1)) (way plan (back + 1) off)
+    → back < plan.latches → off % 2 ≡ back % 2 → off + 1 < plan.latches → Follows plan edges (way plan back (off + 1)) (way plan (back + 1) off)
 one_up plan h edges g back off swaps same within =
     let fits = h.size.loops_in_columns in
-    passed_on plan edges g (way plan back (off + 1)) (way plan (back + 1) off) (loop_lane plan (end_of_body plan - (back + 1)) (plan.lanes + off) (omega arith))
+    passed_on plan edges g (way plan back (off + 1)) (way plan (back + 1) off) (below_body plan (end_of_body plan - back) (plan.lanes + (off + 1)) (omega arith)) (loop_lane plan (end_of_body plan - (back + 1)) (plan.lanes + off) (omega arith))
     (λ lit. upper_swap_passes (tiling_of plan) (tiling_is_matched plan h) lit (end_of_body plan - (back + 1)) (end_of_body plan - back) (plan.lanes + off) (plan.lanes + (off + 1))
     (omega arith) (omega arith) (block plan back off (omega arith) (omega arith) ∙ upper_half plan.latches back off swaps same within))
 
 straight_on : (plan : Plan) → IsAdmissible plan → (edges : ℕ → Lit) → GoesOn plan edges → (back off : ℕ)
-    → back < length plan.columns → off < plan.latches → return_slot plan.latches back off ≡ Whole (Tile kind.West) → Follows edges (way plan back off) (way plan (back + 1) off)
+    → back < length plan.columns → off < plan.latches → return_slot plan.latches back off ≡ Whole (Tile kind.West) → Follows plan edges (way plan back off) (way plan (back + 1) off)
 straight_on plan h edges g back off within low tile =
-    passed_on plan edges g (way plan back off) (way plan (back + 1) off) (loop_lane plan (end_of_body plan - (back + 1)) (plan.lanes + off) (omega arith))
+    passed_on plan edges g (way plan back off) (way plan (back + 1) off) (below_body plan (end_of_body plan - back) (plan.lanes + off) (omega arith)) (loop_lane plan (end_of_body plan - (back + 1)) (plan.lanes + off) (omega arith))
     (λ lit. west_passes (tiling_of plan) (tiling_is_matched plan h) lit (end_of_body plan - (back + 1)) (end_of_body plan - back) (plan.lanes + off)
     (omega arith) (block plan back off within low ∙ tile))
 
 way_same : (plan : Plan) (b b' o o' : ℕ) → b ≡ b' → o ≡ o' → way plan b o ≡ way plan b' o'
 way_same plan b b' o o' e f = ap (λ n. way plan n o) e ∙ ap (way plan b') f
 
+rejoined : (plan : Plan) (edges : ℕ → Lit) (first first' last last' : Edge) → first ≡ first' → last ≡ last' → Follows plan edges first last → Follows plan edges first' last'
+rejoined plan edges first first' last last' e f step = subst (λ (a : Edge). Follows plan edges a last') e (subst (λ (b : Edge). Follows plan edges first b) f step)
+
 -- so many columns down, and up
 down : (plan : Plan) → IsAdmissible plan → (edges : ℕ → Lit) → GoesOn plan edges → (n back off : ℕ)
-    → back + n ≤ plan.latches → off % 2 ≡ back % 2 → off + n < plan.latches → Reaches edges n (way plan back off) (way plan (back + n) (off + n))
+    → back + n ≤ plan.latches → off % 2 ≡ back % 2 → off + n < plan.latches → Reaches plan edges n (way plan back off) (way plan (back + n) (off + n))
 down plan h edges g n back off swaps same within =
-    renamed edges n n (way plan (back + 0) (off + 0)) (way plan back off) _ _ refl (way_same plan (back + 0) back (off + 0) off (omega arith) (omega arith)) refl
-    (chain edges (λ t. way plan (back + t) (off + t)) n (λ t low m.
-    ap (edges _) (way_same plan (back + (t + 1)) (back + t + 1) (off + (t + 1)) (off + t + 1) (omega arith) (omega arith))
-    ∙ one_down plan h edges g (back + t) (off + t) (omega arith) (omega arith) (omega arith) m))
+    renamed plan edges n n (way plan (back + 0) (off + 0)) (way plan back off) _ _ refl (way_same plan (back + 0) back (off + 0) off (omega arith) (omega arith)) refl
+    (chain plan edges (λ t. way plan (back + t) (off + t)) n (λ t low.
+    rejoined plan edges _ _ _ _ refl (way_same plan (back + t + 1) (back + (t + 1)) (off + t + 1) (off + (t + 1)) (omega arith) (omega arith))
+    (one_down plan h edges g (back + t) (off + t) (omega arith) (omega arith) (omega arith))))
 
 up : (plan : Plan) → IsAdmissible plan → (edges : ℕ → Lit) → GoesOn plan edges → (n back off : ℕ)
-    → back + n ≤ plan.latches → (off + n) % 2 ≢ back % 2 → off + n < plan.latches → Reaches edges n (way plan back (off + n)) (way plan (back + n) off)
+    → back + n ≤ plan.latches → (off + n) % 2 ≢ back % 2 → off + n < plan.latches → Reaches plan edges n (way plan back (off + n)) (way plan (back + n) off)
 up plan h edges g n back off swaps differ within =
-    renamed edges n n (way plan (back + 0) (off + (n - 0))) (way plan back (off + n)) (way plan (back + n) (off + (n - n))) (way plan (back + n) off) refl
+    renamed plan edges n n (way plan (back + 0) (off + (n - 0))) (way plan back (off + n)) (way plan (back + n) (off + (n - n))) (way plan (back + n) off) refl
     (way_same plan (back + 0) back (off + (n - 0)) (off + n) (omega arith) (omega arith)) (way_same plan (back + n) (back + n) (off + (n - n)) off refl (omega arith))
-    (chain edges (λ t. way plan (back + t) (off + (n - t))) n (λ t low m.
-    ap (edges _) (way_same plan (back + (t + 1)) (back + t + 1) (off + (n - (t + 1))) (off + (n - (t + 1))) (omega arith) refl)
-    ∙ one_up plan h edges g (back + t) (off + (n - (t + 1))) (omega arith) (omega arith) (omega arith) m
-    ∙ ap (edges m) (way_same plan (back + t) (back + t) (off + (n - (t + 1)) + 1) (off + (n - t)) refl (omega arith))))
+    (chain plan edges (λ t. way plan (back + t) (off + (n - t))) n (λ t low.
+    rejoined plan edges _ _ _ _
+    (way_same plan (back + t) (back + t) (off + (n - (t + 1)) + 1) (off + (n - t)) refl (omega arith))
+    (way_same plan (back + t + 1) (back + (t + 1)) (off + (n - (t + 1))) (off + (n - (t + 1))) (omega arith) refl)
+    (one_up plan h edges g (back + t) (off + (n - (t + 1))) (omega arith) (omega arith) (omega arith))))
 
 -- the columns of swaps bring the lanes into reverse order
 reversed_even : (plan : Plan) → IsAdmissible plan → (edges : ℕ → Lit) → GoesOn plan edges → (loop : ℕ) → loop < plan.latches → loop % 2 ≡ 0
-    → Reaches edges plan.latches (way plan 0 loop) (way plan plan.latches (plan.latches - 1 - loop))
+    → Reaches plan edges plan.latches (way plan 0 loop) (way plan plan.latches (plan.latches - 1 - loop))
 reversed_even plan h edges g loop inside even =
     let fits = h.size.loops_in_columns in
     let rest = plan.latches - 1 - loop in
-    let first : Reaches edges rest (way plan 0 loop) (way plan rest (plan.latches - 1)) =
-    renamed edges _ _ _ _ _ _ refl refl (way_same plan (0 + rest) rest (loop + rest) (plan.latches - 1) (omega arith) (omega arith))
+    let first : Reaches plan edges rest (way plan 0 loop) (way plan rest (plan.latches - 1)) =
+    renamed plan edges _ _ _ _ _ _ refl refl (way_same plan (0 + rest) rest (loop + rest) (plan.latches - 1) (omega arith) (omega arith))
     (down plan h edges g rest 0 loop (omega arith) (omega arith) (omega arith)) in
-    let border : Reaches edges 1 (way plan rest (plan.latches - 1)) (way plan (rest + 1) (plan.latches - 1)) =
-    once edges _ _ (straight_on plan h edges g rest (plan.latches - 1) (omega arith) (omega arith) (lowest plan.latches rest (plan.latches - 1) (omega arith) (omega arith))) in
-    let last : Reaches edges loop (way plan (rest + 1) (plan.latches - 1)) (way plan plan.latches rest) =
-    renamed edges _ _ _ _ _ _ refl (way_same plan (rest + 1) (rest + 1) (rest + loop) (plan.latches - 1) refl (omega arith)) (way_same plan (rest + 1 + loop) plan.latches rest rest (omega arith) refl)
+    let border : Reaches plan edges 1 (way plan rest (plan.latches - 1)) (way plan (rest + 1) (plan.latches - 1)) =
+    once plan edges _ _ (straight_on plan h edges g rest (plan.latches - 1) (omega arith) (omega arith) (lowest plan.latches rest (plan.latches - 1) (omega arith) (omega arith))) in
+    let last : Reaches plan edges loop (way plan (rest + 1) (plan.latches - 1)) (way plan plan.latches rest) =
+    renamed plan edges _ _ _ _ _ _ refl (way_same plan (rest + 1) (rest + 1) (rest + loop) (plan.latches - 1) refl (omega arith)) (way_same plan (rest + 1 + loop) plan.latches rest rest (omega arith) refl)
     (up plan h edges g loop (rest + 1) rest (omega arith) (omega arith) (omega arith)) in
-    renamed edges (rest + (1 + loop)) plan.latches _ _ _ _ (omega arith) refl refl (joined edges _ _ _ _ _ first (joined edges _ _ _ _ _ border last))
+    renamed plan edges (rest + (1 + loop)) plan.latches _ _ _ _ (omega arith) refl refl (joined plan edges _ _ _ _ _ first (joined plan edges _ _ _ _ _ border last))
 
 reversed_odd : (plan : Plan) → IsAdmissible plan → (edges : ℕ → Lit) → GoesOn plan edges → (loop : ℕ) → loop < plan.latches → loop % 2 ≡ 1
-    → Reaches edges plan.latches (way plan 0 loop) (way plan plan.latches (plan.latches - 1 - loop))
+    → Reaches plan edges plan.latches (way plan 0 loop) (way plan plan.latches (plan.latches - 1 - loop))
 reversed_odd plan h edges g loop inside odd =
     let fits = h.size.loops_in_columns in
     let rest = plan.latches - 1 - loop in
-    let first : Reaches edges loop (way plan 0 loop) (way plan loop 0) =
-    renamed edges _ _ _ _ _ _ refl (way_same plan 0 0 (0 + loop) loop refl (omega arith)) (way_same plan (0 + loop) loop 0 0 (omega arith) refl)
+    let first : Reaches plan edges loop (way plan 0 loop) (way plan loop 0) =
+    renamed plan edges _ _ _ _ _ _ refl (way_same plan 0 0 (0 + loop) loop refl (omega arith)) (way_same plan (0 + loop) loop 0 0 (omega arith) refl)
     (up plan h edges g loop 0 0 (omega arith) (omega arith) (omega arith)) in
-    let border : Reaches edges 1 (way plan loop 0) (way plan (loop + 1) 0) =
-    once edges _ _ (straight_on plan h edges g loop 0 (omega arith) (omega arith) (highest plan.latches loop 0 (omega arith) refl)) in
-    let last : Reaches edges rest (way plan (loop + 1) 0) (way plan plan.latches rest) =
-    renamed edges _ _ _ _ _ _ refl refl (way_same plan (loop + 1 + rest) plan.latches (0 + rest) rest (omega arith) (omega arith))
+    let border : Reaches plan edges 1 (way plan loop 0) (way plan (loop + 1) 0) =
+    once plan edges _ _ (straight_on plan h edges g loop 0 (omega arith) (omega arith) (highest plan.latches loop 0 (omega arith) refl)) in
+    let last : Reaches plan edges rest (way plan (loop + 1) 0) (way plan plan.latches rest) =
+    renamed plan edges _ _ _ _ _ _ refl refl (way_same plan (loop + 1 + rest) plan.latches (0 + rest) rest (omega arith) (omega arith))
     (down plan h edges g rest (loop + 1) 0 (omega arith) (omega arith) (omega arith)) in
-    renamed edges (loop + (1 + rest)) plan.latches _ _ _ _ (omega arith) refl refl (joined edges _ _ _ _ _ first (joined edges _ _ _ _ _ border last))
+    renamed plan edges (loop + (1 + rest)) plan.latches _ _ _ _ (omega arith) refl refl (joined plan edges _ _ _ _ _ first (joined plan edges _ _ _ _ _ border last))
 
 reversed : (plan : Plan) → IsAdmissible plan → (edges : ℕ → Lit) → GoesOn plan edges → (loop : ℕ) → loop < plan.latches
-    → Reaches edges plan.latches (way plan 0 loop) (way plan plan.latches (plan.latches - 1 - loop))
+    → Reaches plan edges plan.latches (way plan 0 loop) (way plan plan.latches (plan.latches - 1 - loop))
 reversed plan h edges g loop inside =
     ⊎_elim
     (λ even. reversed_even plan h edges g loop inside even)
@@ -154,16 +158,16 @@ reversed plan h edges g loop inside =
 
 -- the whole way back, from the right turn of a loop to the left turn that has the others inside it
 pub way_back : (plan : Plan) → IsAdmissible plan → (edges : ℕ → Lit) → GoesOn plan edges → (loop : ℕ) → loop < plan.latches
-    → Reaches edges (length plan.columns) (Beside (end_of_body plan) (plan.lanes + loop)) (Beside plan.latches (plan.lanes + (plan.latches - 1 - loop)))
+    → Reaches plan edges (length plan.columns) (Beside (end_of_body plan) (plan.lanes + loop)) (Beside plan.latches (plan.lanes + (plan.latches - 1 - loop)))
 way_back plan h edges g loop inside =
     let fits = h.size.loops_in_columns in
     let rest = plan.latches - 1 - loop in
     let more = length plan.columns - plan.latches in
-    let straight : Reaches edges more (way plan plan.latches rest) (Beside plan.latches (plan.lanes + rest)) =
-    renamed edges _ _ _ _ _ _ refl (beside_same (plan.latches + more) (end_of_body plan - plan.latches) (plan.lanes + rest) (plan.lanes + rest) (omega arith) refl) refl
+    let straight : Reaches plan edges more (way plan plan.latches rest) (Beside plan.latches (plan.lanes + rest)) =
+    renamed plan edges _ _ _ _ _ _ refl (beside_same (plan.latches + more) (end_of_body plan - plan.latches) (plan.lanes + rest) (plan.lanes + rest) (omega arith) refl) refl
     (west plan h edges g more plan.latches (plan.lanes + rest) (omega arith) (λ t w. tile t w)) in
-    renamed edges (plan.latches + more) (length plan.columns) _ _ _ _ (omega arith) (beside_same (end_of_body plan - 0) (end_of_body plan) _ _ (omega arith) refl) refl
-    (joined edges _ _ _ _ _ (reversed plan h edges g loop inside) straight)
+    renamed plan edges (plan.latches + more) (length plan.columns) _ _ _ _ (omega arith) (beside_same (end_of_body plan - 0) (end_of_body plan) _ _ (omega arith) refl) refl
+    (joined plan edges _ _ _ _ _ (reversed plan h edges g loop inside) straight)
   where
     tile : (t : ℕ) → t < length plan.columns - plan.latches → tiling_of plan (plan.latches + t) (plan.lanes + (plan.latches - 1 - loop)) ≡ Whole (Tile kind.West)
     tile t w =

@@ -1,5 +1,5 @@
 -- How signals run through the body of a plan, and round its loops.
-use Rattle.std.specs.Prelude.{pos, ℕ, suc, ◌+◌, ◌-◌, ◌*◌, ◌<◌, ◌≤◌, ◌≡◌, true, false, length, take}
+use Rattle.std.specs.Prelude.{pos, ℕ, suc, ◌+◌, ◌-◌, ◌*◌, ◌<◌, ◌≤◌, ◌≡◌, true, false, length, take, replicate}
 use Rattle.ww_rule.specs.Wireworld.{Due}
 use Rattle.tiling.specs.Tiling.{Edge, Lit}
 use Rattle.tiling.specs.Tiling.Edge.{Beside}
@@ -10,8 +10,8 @@ use Rattle.lane_core.specs.Plans.{IsAdmissible, left_of, row_of}
 use Rattle.lane_core.specs.Instrs.{bit_on}
 use Rattle.lane_core.specs.Columns.{after_columns}
 use Rattle.macro_grid.specs.Layout.{tiling_of}
-use Rattle.macro_grid.specs.Edges.{first_loop_lane}
-use Rattle.plan_waves.specs.Waves.{is_free_entry, GoesOn, bits_at, loop_exit, loop_entry, tiles_back, DrivesInputs}
+use Rattle.macro_grid.specs.Edges.{first_loop_lane, start_edges}
+use Rattle.plan_waves.specs.Waves.{is_free_entry, GoesOn, IsLitAtEntries, bits_at, loop_exit, loop_entry, tiles_back, DrivesInputs, StartsRight}
 
 -- the edges after macro steps go on
 abbrev pub StepsGoOn : Type 0
@@ -35,6 +35,10 @@ InputsEnter =
     (plan : Plan) → IsAdmissible plan → (due : Due) (lit : Lit) (m lane : ℕ) → lane < first_loop_lane plan
     → driven_edges (tiling_of plan) due lit (suc m) (Beside plan.latches lane) ≡ due (32 * suc m) (pos (left_of plan 0)) (pos (row_of lane))
 
+-- the edges of a plan that is driven from its start edges on, at the beginning
+abbrev pub PlansStart : Type 0
+PlansStart = (plan : Plan) → IsAdmissible plan → (due : Due) → DrivesInputs plan due → StartsRight plan due (driven_edges (tiling_of plan) due (start_edges plan) 0)
+
 -- each macro time starts a wave: what enters the body goes through its columns, one column a macro step
 abbrev pub ColumnsPass : Type 0
 ColumnsPass =
@@ -53,3 +57,15 @@ LoopsComeRound =
     (plan : Plan) → IsAdmissible plan → (edges : ℕ → Lit) → GoesOn plan edges → (m loop : ℕ) → loop < plan.latches
     → edges (m + (length plan.columns + tiles_back plan)) (loop_entry plan loop)
     ≡ bit_on (after_columns plan.columns (bits_at plan 0 (edges m))) (plan.lanes - 1 - loop)
+
+-- where entries of the first column alone are lit at first, the body is dark until what enters it arrives
+abbrev pub BodyBeginsDark : Type 0
+BodyBeginsDark =
+    (plan : Plan) → IsAdmissible plan → (edges : ℕ → Lit) → GoesOn plan edges → IsLitAtEntries plan (edges 0)
+    → (m c : ℕ) → m < c → c ≤ length plan.columns → bits_at plan c (edges m) ≡ replicate plan.lanes false
+
+-- and the loops bring nothing after the beginning until a period has passed
+abbrev pub LoopsBeginDark : Type 0
+LoopsBeginDark =
+    (plan : Plan) → IsAdmissible plan → (edges : ℕ → Lit) → GoesOn plan edges → IsLitAtEntries plan (edges 0)
+    → (m loop : ℕ) → loop < plan.latches → 0 < m → m < length plan.columns + tiles_back plan → edges m (loop_entry plan loop) ≡ false
