@@ -102,7 +102,7 @@ column_answers plan h lit c l within low =
     ∙ ap (λ n. answer_on l (instr_on (instrs_of plan n) l) (λ k. lit (Beside q k))) column
 
 -- the bits at the entries of a column
-length-bits_at : (plan : Plan) (c : ℕ) (lit : Lit) → length (bits_at plan c lit) ≡ plan.lanes
+pub length-bits_at : (plan : Plan) (c : ℕ) (lit : Lit) → length (bits_at plan c lit) ≡ plan.lanes
 length-bits_at plan c lit = length-map-range_with_len (λ lane. lit (Beside (plan.latches + c) lane)) 0 plan.lanes
 
 pub bit_on-bits_at : (plan : Plan) (c : ℕ) (lit : Lit) (l : ℕ) → l < plan.lanes → bit_on (bits_at plan c lit) l ≡ lit (Beside (plan.latches + c) l)
@@ -112,7 +112,7 @@ on_lanes : (n : ℕ) (xs : List Instr) → All (IsOnLanes n) xs → All (λ i. (
 on_lanes n xs h k d within = let low = h k d within in (omega (arith, low), low)
 
 -- the bits one column further, one macro step later
-next_bits : (plan : Plan) → IsAdmissible plan → (lit later : Lit) (c : ℕ) → c < length plan.columns
+pub next_bits : (plan : Plan) → IsAdmissible plan → (lit later : Lit) (c : ℕ) → c < length plan.columns
     → ((l : ℕ) → l < plan.lanes → later (Beside (plan.latches + (c + 1)) l) ≡ macro_step (tiling_of plan) lit (Beside (plan.latches + (c + 1)) l))
     → bits_at plan (c + 1) later ≡ after_instrs (instrs_of plan c) (bits_at plan c lit)
 next_bits plan h lit later c within step =
@@ -134,7 +134,7 @@ column_is : (plan : Plan) (c : ℕ) → c < length plan.columns → instrs_of pl
 column_is plan c within = get_or-map (λ column. column.instrs) plan.columns c no_instrs [] within
 
 -- an entry of a later column is no free entry
-not_free : (plan : Plan) (c l : ℕ) → is_free_entry plan (Beside (plan.latches + (c + 1)) l) ≡ false
+pub not_free : (plan : Plan) (c l : ℕ) → is_free_entry plan (Beside (plan.latches + (c + 1)) l) ≡ false
 not_free plan c l = grind (arith, nat_tests)
 
 pub columns_pass : (plan : Plan) → IsAdmissible plan → (edges : ℕ → Lit) → GoesOn plan edges → (m c : ℕ) → c ≤ length plan.columns

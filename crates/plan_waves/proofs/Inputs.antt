@@ -24,7 +24,7 @@ use Rattle.plan_waves.specs.Waves.{is_free_entry, GoesOn, DrivesInputs}
 use Rattle.plan_waves.proofs.Passing.{answers_none}
 use Rattle.plan_waves.proofs.Parts.{some_columns, body_at, nothing_left}
 
-free_place : (plan : Plan) (q l : ℕ) → is_free_entry plan (Beside q l) ≡ true → (q ≡ plan.latches) × (l < first_loop_lane plan)
+pub free_place : (plan : Plan) (q l : ℕ) → is_free_entry plan (Beside q l) ≡ true → (q ≡ plan.latches) × (l < first_loop_lane plan)
 free_place plan q l h =
     let parts = and_parts _ _ h in (eqb-true _ _ parts.0, ltb-true _ _ parts.1)
 
@@ -81,7 +81,7 @@ inputs_are_entries plan h due d = record {
 }
 
 -- no head is injected at another edge
-not_injected : (plan : Plan) (due : Due) → DrivesInputs plan due → (g : ℕ) (edge : Edge) → is_free_entry plan edge ≡ false → injected_edges due g edge ≡ false
+pub not_injected : (plan : Plan) (due : Due) → DrivesInputs plan due → (g : ℕ) (edge : Edge) → is_free_entry plan edge ≡ false → injected_edges due g edge ≡ false
 not_injected plan due d g (Above q l) h = refl
 not_injected plan due d g (Beside q l) h =
     false_from_ne_true _ (λ e. (let f = d.at_free_entries g _ _ e in

@@ -7,3 +7,4 @@ pub mod Paths
 pub mod Turns
 pub mod WayBack
 pub mod Loops
+pub mod Beginning

@@ -1,5 +1,5 @@
 // What comes out of the columns of an admissible plan, and comes back to them.
-ghost use Rattle.plan_waves.specs.Laws.{ColumnsPass, LoopsReturn, LoopsComeRound};
+ghost use Rattle.plan_waves.specs.Laws.{ColumnsPass, LoopsReturn, LoopsComeRound, BodyBeginsDark, LoopsBeginDark};
 
 /// The bits at the entries of the body at any macro time leave its c-th column c macro steps later, as c columns make of them.
 pub fn columns_pass()
@@ -15,4 +15,14 @@ pub fn loops_return()
 /// A period after any macro time, each loop's lane brings what all columns make of the bits that entered the body then.
 pub fn loops_come_round()
     ensures { LoopsComeRound }
+{}
+
+/// Where entries of the body alone are lit at macro time 0, the entries of its c-th column, counted from 0, are dark before macro time c.
+pub fn body_begins_dark()
+    ensures { BodyBeginsDark }
+{}
+
+/// And the entries on the lanes of loops are dark after macro time 0 until a period has passed.
+pub fn loops_begin_dark()
+    ensures { LoopsBeginDark }
 {}
