@@ -1,23 +1,23 @@
 -- A plan at the beginning: its start edges and first injections, and how long everything else stays dark.
-use Rattle.std.proofs.Common.{◌≡◌, ◌≢◌, refl, sym, ◌∙◌, ap, ap₂, subst, pos, ℕ, zero, suc, ◌+◌, ◌-◌, ◌*◌, ◌<◌, ◌≤◌, Bool, true, false, ◌&&◌, ◌||◌, cond, ⊎_elim, List, length, get_or, replicate, Option, Some, None, arith}
+use Rattle.std.proofs.Common.{◌≡◌, refl, sym, ◌∙◌, ap, subst, pos, ℕ, zero, suc, ◌+◌, ◌-◌, ◌*◌, ◌<◌, ◌≤◌, Bool, true, false, ◌&&◌, ◌||◌, cond, ⊎_elim, List, length, get_or, replicate, Option, Some, None, arith}
 use Rattle.std.specs.Prelude.{◌==◌, nat_le, IsTrue, All}
-use Rattle.std.proofs.lemmas.Bool.{cases_lt, cases_eq, false_from_ne_true, true≢false, and_from}
+use Rattle.std.proofs.lemmas.Bool.{cases_lt, false_from_ne_true, true≢false}
 use Rattle.std.proofs.lemmas.Bool.Decides.{nat_tests}
 use Rattle.std.proofs.lemmas.List.{ext_get_or, get_or_past, length-replicate}
 use Rattle.ww_rule.specs.Wireworld.{Due}
 use Rattle.tiling.specs.Tiling.{Edge, Lit}
 use Rattle.tiling.specs.Tiling.Edge.{Beside, Above}
-use Rattle.tiling.specs.Steps.{injected_edges, driven_edges}
+use Rattle.tiling.specs.Steps.{driven_edges}
 use Rattle.lane_core.specs.declared.instr.Instr.{Instr}
 use Rattle.lane_core.specs.declared.instr.Instr.TheVariants as instr
 use Rattle.lane_core.specs.declared.plan.Plan.{Plan}
-use Rattle.lane_core.specs.Instrs.{lane_of, upper_bit, lower_bit, bit_on, after_instrs, IsOnLanes, are_sorted_apart, instr_on}
+use Rattle.lane_core.specs.Instrs.{bit_on, after_instrs, IsOnLanes, are_sorted_apart, instr_on}
 use Rattle.lane_core.specs.Plans.{IsAdmissible, left_of, row_of}
 use Rattle.macro_grid.specs.Layout.{instrs_of, tiling_of}
 use Rattle.macro_grid.specs.Edges.{first_loop_lane, start_edges}
 use Rattle.macro_grid.proofs.Bits.{dark}
 use Rattle.macro_grid.proofs.Halves.{instrs_sorted, instrs_on_lanes}
-use Rattle.plan_waves.specs.Waves.{is_free_entry, GoesOn, is_body_entry, IsLitAtEntries, bits_at, loop_exit, loop_entry, tiles_back, DrivesInputs, StartsRight}
+use Rattle.plan_waves.specs.Waves.{is_free_entry, GoesOn, is_body_entry, IsLitAtEntries, bits_at, loop_entry, tiles_back, DrivesInputs, StartsRight}
 use Rattle.plan_waves.proofs.LaneBits.{answer_on, answers_agree, length-after_instrs, bit_after}
 use Rattle.plan_waves.proofs.Inputs.{free_place, not_injected}
 use Rattle.plan_waves.proofs.Paths.{loop_lane, other_column}

@@ -1,18 +1,16 @@
 -- What enters the body goes through its columns, one column a macro step.
-use Rattle.std.proofs.Common.{◌≡◌, refl, sym, ◌∙◌, ap, ap₂, subst, pos, ℕ, zero, suc, ◌+◌, ◌-◌, ◌<◌, ◌≤◌, Bool, true, false, cond, ◌&&◌, ◌||◌, List, [], ◌∷◌, length, get_or, map, take, Option, Some, None, arith}
+use Rattle.std.proofs.Common.{◌≡◌, refl, sym, ◌∙◌, ap, ap₂, subst, pos, ℕ, zero, suc, ◌+◌, ◌-◌, ◌<◌, ◌≤◌, Bool, true, false, cond, List, [], ◌∷◌, length, get_or, take, Option, Some, None, arith}
 use Rattle.std.specs.Prelude.{◌==◌, All}
-use Rattle.std.specs.List.{range_with_len}
 use Rattle.std.proofs.lemmas.Bool.Decides.{nat_tests}
-use Rattle.std.proofs.lemmas.List.{get_or-map, length-map}
+use Rattle.std.proofs.lemmas.List.{get_or-map}
 use Rattle.std.proofs.lemmas.List.FromFn.{length-map-range_with_len, get_or-map-range_with_len, fill_by_all}
 use Rattle.std.proofs.lemmas.List.Sums.{fold_more}
-use Rattle.tile_core.specs.declared.kind.Kind.TheVariants as kind
 use Rattle.tile_core.specs.Drawing.{is_among}
 use Rattle.tile_core.specs.Interface.{chosen, cell_at}
-use Rattle.tiling.specs.Tiling.{Slot, Lit}
+use Rattle.tiling.specs.Tiling.{Lit}
 use Rattle.tiling.specs.Tiling.Piece.{Tile}
-use Rattle.tiling.specs.Tiling.Slot.{Nothing, Whole, Upper, Lower}
-use Rattle.tiling.specs.Tiling.Edge.{Beside, Above}
+use Rattle.tiling.specs.Tiling.Slot.{Upper, Lower}
+use Rattle.tiling.specs.Tiling.Edge.{Beside}
 use Rattle.tiling.specs.Matched.{is_left}
 use Rattle.tiling.specs.MacroStep.{macro_step, slot_answers}
 use Rattle.lane_core.specs.declared.instr.Instr.{Instr}
@@ -22,8 +20,7 @@ use Rattle.lane_core.specs.declared.plan.Plan.{Plan}
 use Rattle.lane_core.specs.Instrs.{lane_of, upper_bit, lower_bit, bit_on, after_instrs, IsOnLanes, instr_on}
 use Rattle.lane_core.specs.Columns.{after_column, after_columns}
 use Rattle.lane_core.specs.Plans.{IsAdmissible}
-use Rattle.macro_grid.specs.Layout.{kind_of, body_slot, instrs_of, in_body, end_of_body, tiling_of}
-use Rattle.macro_grid.specs.Edges.{first_loop_lane}
+use Rattle.macro_grid.specs.Layout.{kind_of, body_slot, instrs_of, in_body, tiling_of}
 use Rattle.macro_grid.proofs.Sides.{in_body_has}
 use Rattle.macro_grid.proofs.Halves.{instrs_sorted, instrs_on_lanes}
 use Rattle.macro_grid.proofs.Matched.{tiling_is_matched}

@@ -1,13 +1,12 @@
 -- Free entries, and the edges of a plan that is driven at its inputs.
-use Rattle.std.proofs.Common.{◌≡◌, refl, sym, ◌∙◌, ap, ap₂, ℤ, pos, ℕ, zero, suc, ◌+◌, ◌-◌, ◌*◌, ◌%◌, ◌<◌, ◌≤◌, Bool, true, false, ◌&&◌, ◌||◌, ⊎_elim, length, arith}
+use Rattle.std.proofs.Common.{◌≡◌, refl, sym, ◌∙◌, ap, pos, ℕ, suc, ◌-◌, ◌*◌, ◌<◌, Bool, true, false, ◌||◌, ⊎_elim, length, arith}
 use Rattle.std.proofs.lemmas.Bool.{cases_lt, false_from_ne_true, true≢false, or_from, and_parts, eqb-true, ltb-true}
 use Rattle.std.proofs.lemmas.Bool.Decides.{nat_tests}
 use Rattle.std.proofs.lemmas.Int.{ints}
 use Rattle.ww_rule.specs.Wireworld.{Due}
-use Rattle.tile_core.specs.declared.kind.Kind.TheVariants as kind
 use Rattle.tiling.specs.Tiling.{Slot, Edge, Lit}
 use Rattle.tiling.specs.Tiling.Piece.{Tile}
-use Rattle.tiling.specs.Tiling.Slot.{Nothing, Whole, Upper, Lower}
+use Rattle.tiling.specs.Tiling.Slot.{Upper, Lower}
 use Rattle.tiling.specs.Tiling.Edge.{Beside, Above}
 use Rattle.tiling.specs.Matched.{is_entered, is_left}
 use Rattle.tiling.specs.MacroStep.{macro_step, slot_answers}
@@ -97,7 +96,7 @@ or_none false b h = h
 
 -- the edges of a plan that is driven at its inputs go on
 pub driven_edges_go_on : (plan : Plan) (due : Due) → DrivesInputs plan due → (lit : Lit) → GoesOn plan (driven_edges (tiling_of plan) due lit)
-driven_edges_go_on plan due d lit = record { next = λ m edge h. or_none _ _ (not_injected plan due d (32 * suc m) edge h); }
+driven_edges_go_on plan due d lit = record { next = λ m edge h. or_none _ _ (not_injected plan due d (32 * suc m) edge h) }
 
 -- a free entry is lit exactly by injections
 pub inputs_enter : (plan : Plan) → IsAdmissible plan → (due : Due) (lit : Lit) (m lane : ℕ) → lane < first_loop_lane plan

@@ -1,5 +1,5 @@
 -- The bit on a lane after the instructions of a column, by the instruction that works on the lane.
-use Rattle.std.proofs.Common.{◌≡◌, ◌≢◌, refl, sym, ◌∙◌, ap, ap₂, subst, ℕ, zero, suc, ◌+◌, ◌-◌, ◌<◌, ◌≤◌, Bool, true, false, ◌&&◌, ◌||◌, cond, ltb, ⊎_elim, List, [], ◌∷◌, length, get_or, set, Option, Some, None, arith}
+use Rattle.std.proofs.Common.{◌≡◌, ◌≢◌, refl, sym, ◌∙◌, ap, ap₂, subst, ℕ, zero, suc, ◌+◌, ◌-◌, ◌<◌, Bool, true, false, cond, ⊎_elim, List, [], ◌∷◌, length, set, Option, Some, None, arith}
 use Rattle.std.specs.Prelude.{◌==◌, IsTrue, All, find}
 use Rattle.std.specs.List.{list_all}
 use Rattle.std.proofs.lemmas.Bool.{cases_eq, and_parts}

@@ -1,13 +1,11 @@
 -- What leaves the body on the lanes of loops enters it again.
-use Rattle.std.proofs.Common.{◌≡◌, refl, sym, ◌∙◌, ap, ℕ, ◌+◌, ◌-◌, ◌*◌, ◌<◌, ◌≤◌, List, length, take, arith}
+use Rattle.std.proofs.Common.{◌≡◌, refl, sym, ◌∙◌, ap, ℕ, ◌+◌, ◌-◌, ◌*◌, ◌<◌, length, arith}
 use Rattle.std.proofs.lemmas.List.{take_all}
 use Rattle.tiling.specs.Tiling.{Lit}
-use Rattle.tiling.specs.Tiling.Edge.{Beside}
 use Rattle.lane_core.specs.declared.plan.Plan.{Plan}
 use Rattle.lane_core.specs.Plans.{IsAdmissible}
 use Rattle.lane_core.specs.Instrs.{bit_on}
 use Rattle.lane_core.specs.Columns.{after_columns}
-use Rattle.macro_grid.specs.Layout.{end_of_body}
 use Rattle.macro_grid.specs.Edges.{first_loop_lane}
 use Rattle.plan_waves.specs.Waves.{GoesOn, bits_at, loop_exit, loop_entry, tiles_back}
 use Rattle.plan_waves.proofs.Paths.{Reaches, joined, renamed, beside_same}

@@ -1,5 +1,5 @@
 -- What stands in the body of a plan, in its turns and on the way back, each by its place.
-use Rattle.std.proofs.Common.{◌≡◌, refl, sym, ◌∙◌, ap, ℕ, zero, suc, ◌+◌, ◌-◌, ◌*◌, ◌%◌, ◌<◌, ◌≤◌, Bool, true, false, ◌&&◌, ◌||◌, cond, ltb, ⊎_elim, List, [], ◌∷◌, length, arith}
+use Rattle.std.proofs.Common.{◌≡◌, refl, ◌∙◌, ap, ℕ, ◌+◌, ◌-◌, ◌*◌, ◌<◌, ◌≤◌, true, false, ◌&&◌, cond, ltb, ⊎_elim, List, [], ◌∷◌, length, arith}
 use Rattle.std.specs.Prelude.{◌==◌, All}
 use Rattle.std.specs.List.{list_any}
 use Rattle.std.proofs.lemmas.Bool.{cases_lt, and_right, or_from, cond-true, cond-false}
@@ -9,10 +9,10 @@ use Rattle.tile_core.specs.declared.kind.Kind.{Kind}
 use Rattle.tile_core.specs.declared.kind.Kind.TheVariants as kind
 use Rattle.tiling.specs.Tiling.{Slot}
 use Rattle.tiling.specs.Tiling.Piece.{Tile, Output}
-use Rattle.tiling.specs.Tiling.Slot.{Nothing, Whole, Upper, Lower}
+use Rattle.tiling.specs.Tiling.Slot.{Nothing, Whole}
 use Rattle.lane_core.specs.declared.plan.Plan.{Plan}
 use Rattle.lane_core.specs.Plans.{IsAdmissible}
-use Rattle.macro_grid.specs.Layout.{turn_slot, return_slot, end_of_body, upper_left, in_body, upper_right, lower_left, on_return, lower_right, by_column, upper_part, lower_part, tiling_of}
+use Rattle.macro_grid.specs.Layout.{turn_slot, return_slot, end_of_body, upper_left, in_body, upper_right, lower_left, on_return, lower_right, by_column, tiling_of}
 use Rattle.macro_grid.specs.Edges.{first_loop_lane}
 use Rattle.macro_grid.proofs.Matched.{tiling_of-upper, tiling_of-lower}
 

@@ -1,5 +1,5 @@
 -- The macro step at the exits of pieces, in any tiling that fits together, and the tiles that pass a signal on.
-use Rattle.std.proofs.Common.{◌≡◌, refl, sym, ◌∙◌, ap, ap₂, ℤ, pos, ℕ, zero, suc, ◌+◌, ◌-◌, Bool, true, false, ◌&&◌, ◌||◌, List, [], ◌∷◌, ⊎_elim, arith}
+use Rattle.std.proofs.Common.{◌≡◌, refl, sym, ◌∙◌, ap, ap₂, ℤ, pos, ℕ, ◌+◌, ◌-◌, Bool, true, false, ◌&&◌, ◌||◌, List, [], ◌∷◌, ⊎_elim, arith}
 use Rattle.std.proofs.lemmas.Bool.{or_parts, or_from, cases_lt}
 use Rattle.tile_core.specs.declared.kind.Kind.TheVariants as kind
 use Rattle.tile_core.specs.Drawing.{Cell, is_among}
@@ -9,7 +9,7 @@ use Rattle.tiling.specs.Tiling.Piece.{Tile}
 use Rattle.tiling.specs.Tiling.Slot.{Nothing, Whole, Upper, Lower}
 use Rattle.tiling.specs.Tiling.Edge.{Beside, Above}
 use Rattle.tiling.specs.Matched.{IsMatched, is_left}
-use Rattle.tiling.specs.MacroStep.{macro_step, piece_answers, slot_answers}
+use Rattle.tiling.specs.MacroStep.{macro_step, slot_answers}
 use Rattle.macro_grid.proofs.Steps.{beside_first, beside_next, above_first, above_next}
 
 -- where none of the cells lies, none of those that are chosen from them lies

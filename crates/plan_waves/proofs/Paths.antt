@@ -1,6 +1,6 @@
 -- Paths of a signal along the tiles of a plan.
-use Rattle.std.proofs.Common.{◌≡◌, refl, sym, ◌∙◌, ap, ap₂, ℕ, zero, suc, ◌+◌, ◌-◌, ◌<◌, ◌≤◌, Bool, true, false, ◌&&◌, ⊎_elim, arith}
-use Rattle.std.specs.Prelude.{◌==◌, ◌≢◌}
+use Rattle.std.proofs.Common.{◌≡◌, refl, sym, ◌∙◌, ap, ap₂, ℕ, zero, suc, ◌+◌, ◌-◌, ◌<◌, ◌≤◌, false, ⊎_elim, arith}
+use Rattle.std.specs.Prelude.{◌≢◌}
 use Rattle.std.proofs.lemmas.Bool.{cases_lt}
 use Rattle.std.proofs.lemmas.Bool.Decides.{nat_tests}
 use Rattle.tile_core.specs.declared.kind.Kind.TheVariants as kind
@@ -30,7 +30,7 @@ pub record Reaches (plan : Plan) (edges : ℕ → Lit) (n : ℕ) (before after :
 -- a tile passes on what it is given, to an edge that is no free entry
 pub passed_on : (plan : Plan) (edges : ℕ → Lit) → GoesOn plan edges → (before after : Edge) → is_body_entry plan before ≡ false → is_free_entry plan after ≡ false
     → ((lit : Lit) → macro_step (tiling_of plan) lit after ≡ lit before) → Follows plan edges before after
-passed_on plan edges g before after outside free passes = record { next = λ m. g.next m after free ∙ passes (edges m); outside = outside; }
+passed_on plan edges g before after outside free passes = record { next = λ m. g.next m after free ∙ passes (edges m); outside = outside }
 
 -- on the lanes of loops and below there is no free entry
 pub loop_lane : (plan : Plan) (q l : ℕ) → first_loop_lane plan ≤ l → is_free_entry plan (Beside q l) ≡ false
@@ -45,7 +45,7 @@ other_column plan q l other = grind (arith, nat_tests)
 
 -- a path of edges each of which follows the one before
 pub chain : (plan : Plan) (edges : ℕ → Lit) (path : ℕ → Edge) (n : ℕ) → ((t : ℕ) → t < n → Follows plan edges (path t) (path (t + 1))) → Reaches plan edges n (path 0) (path n)
-chain plan edges path n each = record { arrives = arrives n each; dark = λ begins m. dark begins n m each; }
+chain plan edges path n each = record { arrives = arrives n each; dark = λ begins m. dark begins n m each }
   where
     one_more : (n : ℕ) → ((t : ℕ) → t < suc n → Follows plan edges (path t) (path (t + 1))) → (m : ℕ) → edges (suc m) (path (suc n)) ≡ edges m (path n)
     one_more n each m = let one : suc n ≡ n + 1 = omega arith in ap (λ t. edges (suc m) (path t)) one ∙ (each n (omega arith)).next m

@@ -3,19 +3,18 @@
 -- With `back` columns behind it, a signal `off` lanes below the body is moved down one lane by the next column of swaps
 -- where `off` and `back` are both even or both odd, and up else, but stays where there is no lane beyond. So it goes one
 -- way, stays once at the border, and goes the other way, until it has as many columns behind it as there are loops.
-use Rattle.std.proofs.Common.{◌≡◌, ◌≢◌, refl, sym, ◌∙◌, ap, subst, ℕ, ◌+◌, ◌-◌, ◌*◌, ◌%◌, ◌<◌, ◌≤◌, Bool, true, false, ◌&&◌, cond, ltb, ⊎_elim, length, arith}
+use Rattle.std.proofs.Common.{◌≡◌, ◌≢◌, refl, ◌∙◌, ap, subst, ℕ, ◌+◌, ◌-◌, ◌%◌, ◌<◌, ◌≤◌, true, false, ◌&&◌, ltb, ⊎_elim, length, arith}
 use Rattle.std.specs.Prelude.{◌==◌}
-use Rattle.std.proofs.lemmas.Bool.{cases_eq, cond-true, cond-false, ne_eqb, and_left, and_right, and_from, eq-eqb}
+use Rattle.std.proofs.lemmas.Bool.{cases_eq, cond-true, cond-false}
 use Rattle.std.proofs.lemmas.Bool.Decides.{nat_tests}
 use Rattle.tile_core.specs.declared.kind.Kind.TheVariants as kind
-use Rattle.tiling.specs.Tiling.{Slot, Edge, Lit}
+use Rattle.tiling.specs.Tiling.{Edge, Lit}
 use Rattle.tiling.specs.Tiling.Piece.{Tile}
 use Rattle.tiling.specs.Tiling.Slot.{Whole, Upper, Lower}
-use Rattle.tiling.specs.Tiling.Edge.{Beside, Above}
+use Rattle.tiling.specs.Tiling.Edge.{Beside}
 use Rattle.lane_core.specs.declared.plan.Plan.{Plan}
 use Rattle.lane_core.specs.Plans.{IsAdmissible}
 use Rattle.macro_grid.specs.Layout.{return_slot, end_of_body, tiling_of}
-use Rattle.macro_grid.specs.Edges.{first_loop_lane}
 use Rattle.macro_grid.proofs.Matched.{tiling_is_matched}
 use Rattle.plan_waves.specs.Waves.{GoesOn}
 use Rattle.plan_waves.proofs.Passing.{west_passes, upper_swap_passes, lower_swap_passes}
