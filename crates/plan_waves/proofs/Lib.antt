@@ -8,3 +8,4 @@ pub mod Turns
 pub mod WayBack
 pub mod Loops
 pub mod Beginning
+pub mod Machine
