@@ -37,7 +37,7 @@ answer_dark l (Some (instr.Xor i)) = either_dark (l == i)
 answer_dark l (Some (instr.Or i)) = either_dark (l == i)
 answer_dark l (Some (instr.AndNot i)) = either_dark (l == i)
 
-after_dark : (n : ℕ) (xs : List Instr) → IsTrue (are_sorted_apart xs) → All (IsOnLanes n) xs → after_instrs xs (replicate n false) ≡ replicate n false
+pub after_dark : (n : ℕ) (xs : List Instr) → IsTrue (are_sorted_apart xs) → All (IsOnLanes n) xs → after_instrs xs (replicate n false) ≡ replicate n false
 after_dark n xs sorted fit =
     let fit' : All (IsOnLanes (length (replicate n false))) xs = subst (λ (k : ℕ). All (IsOnLanes k) xs) (sym (length-replicate n false)) fit in
     ext_get_or false (after_instrs xs (replicate n false)) (replicate n false) (length-after_instrs xs (replicate n false))

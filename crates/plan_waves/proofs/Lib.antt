@@ -9,3 +9,4 @@ pub mod WayBack
 pub mod Loops
 pub mod Beginning
 pub mod Machine
+pub mod DrivenCycles

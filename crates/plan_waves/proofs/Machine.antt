@@ -49,7 +49,7 @@ turned_round bits lanes loops loop long fit inside =
     ∙ ap (bit_on bits) place
 
 -- the bits that enter the body are those on free lanes and those on lanes of loops
-both_bits : (plan : Plan) (lit : Lit) (l : ℕ) → l < plan.lanes → bit_on (bits_at plan 0 lit) l ≡ lit (Beside plan.latches l)
+pub both_bits : (plan : Plan) (lit : Lit) (l : ℕ) → l < plan.lanes → bit_on (bits_at plan 0 lit) l ≡ lit (Beside plan.latches l)
 both_bits plan lit l low =
     let column : plan.latches + 0 ≡ plan.latches = omega arith in
     bit_on-bits_at plan 0 lit l low ∙ ap (λ q. lit (Beside q l)) column
