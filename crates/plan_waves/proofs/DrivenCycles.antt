@@ -49,7 +49,7 @@ cycle_time plan t =
     ∙ ap (λ n. t * n) (period_is plan)
 
 -- such injections are injections at inputs
-inputs_of : (plan : Plan) (due : Due) → DrivesCycles plan due → DrivesInputs plan due
+pub inputs_of : (plan : Plan) (due : Due) → DrivesCycles plan due → DrivesInputs plan due
 inputs_of plan due d = record {
   on_time = λ g x y e. (let f = d.on_time g x y e in omega (arith, f.1, cycle_time plan f.0));
   at_free_entries = d.at_free_entries;

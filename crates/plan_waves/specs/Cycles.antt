@@ -10,7 +10,7 @@ use Rattle.lane_core.specs.Columns.{after_columns}
 use Rattle.lane_core.specs.Plans.{IsAdmissible, left_of, row_of, period_of}
 use Rattle.macro_grid.specs.Layout.{tiling_of}
 use Rattle.macro_grid.specs.Edges.{first_loop_lane, start_edges}
-use Rattle.plan_waves.specs.Waves.{GoesOn, bits_at, loop_entry, tiles_back}
+use Rattle.plan_waves.specs.Waves.{GoesOn, bits_at, loop_entry, tiles_back, DrivesInputs}
 
 -- macro steps from cycle to cycle: the tiles of a loop, in the body and on the way back; without loops one
 abbrev pub cycle_steps : Plan → ℕ
@@ -42,6 +42,10 @@ EdgesRunByCycles =
 pub record DrivesCycles (plan : Plan) (due : Due) : Type 0 where
   pub on_time : (g : ℕ) (x y : ℤ) → due g x y ≡ true → (t : ℕ) × (g ≡ t * period_of plan)
   pub at_free_entries : (g : ℕ) (x y : ℤ) → due g x y ≡ true → (lane : ℕ) × (lane < first_loop_lane plan) × (x ≡ pos (left_of plan 0)) × (y ≡ pos (row_of lane))
+
+-- as at the inputs of a plan with a period of any number of macro steps
+abbrev pub CyclesAreInputs : Type 0
+CyclesAreInputs = (plan : Plan) (due : Due) → DrivesCycles plan due → DrivesInputs plan due
 
 -- the bits that are injected in a cycle, on the lanes that no loop enters
 abbrev pub injected_bits : Plan → Due → ℕ → List Bool

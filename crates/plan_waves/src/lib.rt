@@ -6,7 +6,7 @@ mod cycles;
 mod entries;
 mod waves;
 
-pub use cycles::{edges_run_by_cycles, plans_run_by_cycles};
+pub use cycles::{cycles_are_inputs, edges_run_by_cycles, plans_run_by_cycles};
 pub use entries::{
     driven_edges_go_on, free_entries_go_dark, inputs_are_entries, inputs_enter, plans_start,
     steps_go_on,
