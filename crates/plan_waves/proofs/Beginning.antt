@@ -97,6 +97,11 @@ starts_are_entries plan h (Beside q l) outside =
     none true e = e
     none false e = refl
 
+pub start_free : (plan : Plan) (lane : ℕ) → lane < first_loop_lane plan → start_edges plan (Beside plan.latches lane) ≡ false
+start_free plan lane low =
+    let none : (plan.latches == plan.latches && nat_le (first_loop_lane plan) lane) ≡ false = grind (arith, nat_tests) in
+    ap (λ b. b && get_or plan.starts (lane - first_loop_lane plan) false) none
+
 free_is_entry : (plan : Plan) (edge : Edge) → is_body_entry plan edge ≡ false → is_free_entry plan edge ≡ false
 free_is_entry plan (Above q l) outside = refl
 free_is_entry plan (Beside q l) outside =
@@ -114,9 +119,8 @@ both_dark false b e f = f
 pub plans_start : (plan : Plan) → IsAdmissible plan → (due : Due) → DrivesInputs plan due → StartsRight plan due (driven_edges (tiling_of plan) due (start_edges plan) 0)
 plans_start plan h due d = record {
   entries = λ edge outside. both_dark _ _ (starts_are_entries plan h edge outside) (not_injected plan due d 0 edge (free_is_entry plan edge outside));
-  inputs = λ lane low. (let none : (plan.latches == plan.latches && nat_le (first_loop_lane plan) lane) ≡ false = grind (arith, nat_tests) in
-      let column : 32 * plan.latches ≡ left_of plan 0 = omega arith in
-      ap (λ b. b && get_or plan.starts (lane - first_loop_lane plan) false || due 0 (pos (32 * plan.latches)) (pos (row_of lane))) none
+  inputs = λ lane low. (let column : 32 * plan.latches ≡ left_of plan 0 = omega arith in
+      ap (λ b. b || due 0 (pos (32 * plan.latches)) (pos (row_of lane))) (start_free plan lane low)
       ∙ ap (λ x. due 0 (pos x) (pos (row_of lane))) column);
   loops = λ loop inside. (let lane = first_loop_lane plan + loop in
       let some : (plan.latches == plan.latches && nat_le (first_loop_lane plan) lane) ≡ true = grind (arith, nat_tests) in

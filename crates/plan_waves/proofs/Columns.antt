@@ -78,7 +78,7 @@ body_answers lit q l (Some i) = half (l == lane_of i)
         let same : l - 1 + 0 ≡ l - 1 = omega arith in
         lower_answers lit q l i ∙ ap (λ n. lower_bit i (lit (Beside q n)) (lit (Beside q (l - 1 + 1)))) same ∙ lower_ignores i _ _ _
 
-east_kind : (i : Instr) → (is_left (Upper (Tile (kind_of i))) 31 8 ≡ true) × (is_left (Lower (Tile (kind_of i))) 31 8 ≡ true)
+pub east_kind : (i : Instr) → (is_left (Upper (Tile (kind_of i))) 31 8 ≡ true) × (is_left (Lower (Tile (kind_of i))) 31 8 ≡ true)
 east_kind (instr.Swap i) = (refl, refl)
 east_kind (instr.Fork i) = (refl, refl)
 east_kind (instr.Xor i) = (refl, refl)

@@ -1,5 +1,5 @@
 -- The cycles of a plan that is driven from its start edges on, at multiples of its period.
-use Rattle.std.proofs.Common.{◌≡◌, ◌≢◌, refl, sym, ◌∙◌, ap, ap₂, pos, ℕ, zero, suc, ◌+◌, ◌-◌, ◌*◌, ◌%◌, ◌<◌, ◌≤◌, Bool, true, false, cond, ⊎_elim, List, [], ◌∷◌, ◌++◌, length, get_or, map, take, drop, reverse, replicate, arith}
+use Rattle.std.proofs.Common.{◌≡◌, ◌≢◌, refl, sym, ◌∙◌, ap, ap₂, pos, ℕ, zero, suc, ◌+◌, ◌-◌, ◌*◌, ◌<◌, ◌≤◌, Bool, true, false, cond, ⊎_elim, List, [], ◌∷◌, ◌++◌, length, take, drop, reverse, replicate, arith}
 use Rattle.std.specs.Prelude.{◌==◌, All}
 use Rattle.std.proofs.lemmas.Bool.{cases_lt, false_from_ne_true}
 use Rattle.std.proofs.lemmas.List.{ext_get_or, length-replicate}
@@ -13,7 +13,7 @@ use Rattle.tiling.specs.Steps.{driven_edges}
 use Rattle.lane_core.specs.declared.instr.Column.{Column}
 use Rattle.lane_core.specs.declared.plan.Plan.{Plan}
 use Rattle.lane_core.specs.Instrs.{bit_on}
-use Rattle.lane_core.specs.Columns.{after_column, after_columns, IsColumnOnLanes}
+use Rattle.lane_core.specs.Columns.{after_columns, IsColumnOnLanes}
 use Rattle.lane_core.specs.Plans.{IsAdmissible, left_of, row_of, period_of}
 use Rattle.macro_grid.specs.Layout.{tiling_of}
 use Rattle.macro_grid.specs.Edges.{first_loop_lane, start_edges}
@@ -43,7 +43,7 @@ period_is plan =
     by_loops true x y h = refl
     by_loops false x y h = h
 
-cycle_time : (plan : Plan) (t : ℕ) → 32 * (t * cycle_steps plan) ≡ t * period_of plan
+pub cycle_time : (plan : Plan) (t : ℕ) → 32 * (t * cycle_steps plan) ≡ t * period_of plan
 cycle_time plan t =
     sym (mul_assoc 32 t (cycle_steps plan)) ∙ ap (λ n. n * cycle_steps plan) (mul_comm 32 t) ∙ mul_assoc t 32 (cycle_steps plan)
     ∙ ap (λ n. t * n) (period_is plan)
@@ -62,7 +62,7 @@ same_entering plan inputs inputs' starts starts' each first (suc t) =
     ap₂ (λ xs bits. xs ++ reverse (drop (first_loop_lane plan) (after_columns plan.columns bits))) (each (suc t)) (same_entering plan inputs inputs' starts starts' each first t)
 
 pub plans_run_by_cycles : (plan : Plan) → IsAdmissible plan → (due : Due) → DrivesCycles plan due → ShowsCycles plan due (driven_edges (tiling_of plan) due (start_edges plan))
-plans_run_by_cycles plan h due d = record { lit = lit; dark = others; }
+plans_run_by_cycles plan h due d = record { lit = lit; dark = others }
   where
     fits : plan.latches ≤ plan.lanes
     fits = h.size.loops_on_lanes

@@ -28,7 +28,7 @@ free_place plan q l h =
     let parts = and_parts _ _ h in (eqb-true _ _ parts.0, ltb-true _ _ parts.1)
 
 -- the body is entered at its west side, and not left there
-record IsEntry (slot : Slot) : Type 0 where
+pub record IsEntry (slot : Slot) : Type 0 where
   pub entered : is_entered slot 0 8 ≡ true
   pub left : is_left slot 0 8 ≡ false
 
@@ -39,7 +39,7 @@ entry_kind (instr.Xor i) = (record { entered = refl; left = refl }, record { ent
 entry_kind (instr.Or i) = (record { entered = refl; left = refl }, record { entered = refl; left = refl })
 entry_kind (instr.AndNot i) = (record { entered = refl; left = refl }, record { entered = refl; left = refl })
 
-body_entry : (plan : Plan) (q l : ℕ) → IsEntry (in_body plan q l)
+pub body_entry : (plan : Plan) (q l : ℕ) → IsEntry (in_body plan q l)
 body_entry plan q l = in_body_has IsEntry plan q l (record { entered = refl; left = refl }) entry_kind
 
 -- the block behind a free entry stands in the body

@@ -10,3 +10,4 @@ pub mod Loops
 pub mod Beginning
 pub mod Machine
 pub mod DrivenCycles
+pub mod Plane

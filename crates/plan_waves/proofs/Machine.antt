@@ -1,23 +1,19 @@
 -- A plan is a machine: its cycles, counted from any macro time on.
-use Rattle.std.proofs.Common.{◌≡◌, ◌≢◌, refl, sym, ◌∙◌, ap, ap₂, pos, ℕ, zero, suc, ◌+◌, ◌-◌, ◌*◌, ◌%◌, ◌<◌, ◌≤◌, Bool, true, false, cond, ⊎_elim, List, [], ◌∷◌, ◌++◌, length, get_or, map, take, drop, reverse, replicate, arith}
-use Rattle.std.specs.Prelude.{◌==◌, All}
-use Rattle.std.proofs.lemmas.Bool.{cases_lt, cases_eq, cond-true, cond-false, eq-eqb, ne_eqb, false_from_ne_true}
+use Rattle.std.proofs.Common.{◌≡◌, refl, sym, ◌∙◌, ap, ap₂, ℕ, zero, suc, ◌+◌, ◌-◌, ◌*◌, ◌<◌, ◌≤◌, Bool, false, ⊎_elim, List, [], ◌∷◌, ◌++◌, length, get_or, take, drop, reverse, arith}
+use Rattle.std.specs.Prelude.{◌==◌}
+use Rattle.std.proofs.lemmas.Bool.{cases_lt, cond-false}
 use Rattle.std.proofs.lemmas.Bool.Decides.{nat_tests}
-use Rattle.std.proofs.lemmas.List.{ext_get_or, get_or_append_left, get_or-append_right, get_or-reverse, get_or-drop, length-reverse, length-drop, length-append, length-replicate, take_all}
+use Rattle.std.proofs.lemmas.List.{ext_get_or, get_or_append_left, get_or-append_right, get_or-reverse, get_or-drop, length-reverse, length-drop, length-append}
 use Rattle.std.proofs.lemmas.List.FromFn.{length-map-range_with_len, get_or-map-range_with_len}
-use Rattle.std.proofs.lemmas.List.Elements.{All-head, All-tail, All-take}
-use Rattle.std.proofs.Math.Nat.{suc-mul, mul_assoc, mul_comm}
-use Rattle.ww_rule.specs.Wireworld.{Due}
+use Rattle.std.proofs.Math.Nat.{suc-mul}
 use Rattle.tiling.specs.Tiling.{Lit}
 use Rattle.tiling.specs.Tiling.Edge.{Beside}
-use Rattle.tiling.specs.Steps.{driven_edges}
 use Rattle.lane_core.specs.declared.instr.Column.{Column}
 use Rattle.lane_core.specs.declared.plan.Plan.{Plan}
 use Rattle.lane_core.specs.Instrs.{bit_on}
-use Rattle.lane_core.specs.Columns.{after_column, after_columns, IsColumnOnLanes}
-use Rattle.lane_core.specs.Plans.{IsAdmissible, left_of, row_of, period_of}
-use Rattle.macro_grid.specs.Layout.{tiling_of}
-use Rattle.macro_grid.specs.Edges.{first_loop_lane, start_edges}
+use Rattle.lane_core.specs.Columns.{after_column, after_columns}
+use Rattle.lane_core.specs.Plans.{IsAdmissible}
+use Rattle.macro_grid.specs.Edges.{first_loop_lane}
 use Rattle.plan_waves.specs.Waves.{GoesOn, bits_at, loop_entry, tiles_back}
 use Rattle.plan_waves.specs.Cycles.{cycle_steps, free_bits, loop_bits, entering_bits}
 use Rattle.plan_waves.proofs.LaneBits.{length-after_instrs}

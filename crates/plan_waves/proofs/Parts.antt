@@ -27,7 +27,7 @@ by_column-middle plan q a b c from to =
     let yes : ltb q (end_of_body plan) ≡ true = grind (arith, nat_tests) in
     cond-false (ltb q plan.latches) a (cond (ltb q (end_of_body plan)) b c) no ∙ cond-true (ltb q (end_of_body plan)) b c yes
 
-by_column-right : (plan : Plan) (q : ℕ) (a b c : Slot) → end_of_body plan ≤ q → by_column plan q a b c ≡ c
+pub by_column-right : (plan : Plan) (q : ℕ) (a b c : Slot) → end_of_body plan ≤ q → by_column plan q a b c ≡ c
 by_column-right plan q a b c far =
     let no : ltb q plan.latches ≡ false = grind (arith, nat_tests) in
     let no' : ltb q (end_of_body plan) ≡ false = grind (arith, nat_tests) in

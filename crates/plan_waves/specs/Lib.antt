@@ -1,3 +1,4 @@
 pub mod Waves
 pub mod Laws
 pub mod Cycles
+pub mod Shown

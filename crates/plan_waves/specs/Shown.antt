@@ -1,0 +1,51 @@
+-- What the plane of a plan shows, which is drawn with any library of tiles that keep the timing law, and driven from its
+-- start edges on.
+use Rattle.std.specs.Prelude.{ℤ, pos, ℕ, suc, ◌+◌, ◌*◌, ◌<◌, ◌≡◌, ◌↔◌, Bool, true, List, length, take, slice_index, Option, Some, None}
+use Rattle.ww_rule.specs.declared.pattern.State.TheVariants.{Head, Conductor}
+use Rattle.ww_rule.specs.Wireworld.{Plane, Due, next_plane, driven}
+use Rattle.tile_core.specs.declared.kind.Kind.{Kind}
+use Rattle.tile_core.specs.Drawing.{Drawing}
+use Rattle.tiling.specs.Tiling.{drawn}
+use Rattle.tiling.specs.Steps.{KeepsLaw}
+use Rattle.lane_core.specs.declared.plan.Plan.{Plan}
+use Rattle.lane_core.specs.Instrs.{bit_on}
+use Rattle.lane_core.specs.Columns.{after_columns}
+use Rattle.lane_core.specs.Plans.{IsAdmissible, period_of, out_cell_of, net_place, net_cell_of}
+use Rattle.macro_grid.specs.Layout.{tiling_of}
+use Rattle.macro_grid.specs.Edges.{start_edges}
+use Rattle.plan_waves.specs.Cycles.{entering_bits, DrivesCycles, injected_bits}
+
+-- the plane of a plan at the beginning, before injections
+abbrev pub start_plane : (Kind → Drawing) → Plan → Plane
+start_plane library plan = drawn library (tiling_of plan) (start_edges plan)
+
+-- A cell, given by x, y and the generations from the beginning of a cycle to it, is a head so many generations after the
+-- beginning of each cycle in which the bit is 1, and at no other generation.
+abbrev pub ShowsEachCycle : ℕ → (ℕ → Plane) → ℕ × ℕ × ℕ → (ℕ → Bool) → Type 0
+ShowsEachCycle period plane cell bit =
+    (g : ℕ) → (plane g (pos cell.0) (pos cell.1) ≡ Head) ↔ ((t : ℕ) × (g ≡ cell.2 + t * period) × (bit t ≡ true))
+
+-- the bits that enter the body in a cycle of a driven plan
+abbrev pub cycle_bits : Plan → Due → ℕ → List Bool
+cycle_bits plan due t = entering_bits plan (injected_bits plan due) plan.starts t
+
+-- the bits at a place of a net: at the entries of the body, or after a column
+abbrev pub bits_after : Plan → Option ℕ → List Bool → List Bool
+bits_after plan None bits = bits
+bits_after plan (Some column) bits = after_columns (take (column + 1) plan.columns) bits
+
+-- Each injection meets a conductor, and the cells of outputs and nets show, cycle by cycle, the bits on their lanes.
+pub record ShowsPlanRun (library : Kind → Drawing) (plan : Plan) (due : Due) : Type 0 where
+  pub first_conductors : (x y : ℤ) → due 0 x y ≡ true → start_plane library plan x y ≡ Conductor
+  pub conductors : (g : ℕ) (x y : ℤ) → due (suc g) x y ≡ true → next_plane (driven due (start_plane library plan) g) x y ≡ Conductor
+  pub outs : (i : ℕ) → i < length plan.outs
+      → ShowsEachCycle (period_of plan) (driven due (start_plane library plan)) (out_cell_of plan i)
+      (λ t. bit_on (after_columns plan.columns (cycle_bits plan due t)) (slice_index plan.outs i))
+  pub nets : (i : ℕ) → i < length plan.nets
+      → ShowsEachCycle (period_of plan) (driven due (start_plane library plan)) (net_cell_of plan i)
+      (λ t. bit_on (bits_after plan (net_place plan i).after (cycle_bits plan due t)) (net_place plan i).lane)
+
+-- of every library, every admissible plan, and every drive of its inputs at multiples of its period
+abbrev pub PlansShowRuns : Type 0
+PlansShowRuns =
+    (library : Kind → Drawing) → KeepsLaw library → (plan : Plan) → IsAdmissible plan → (due : Due) → DrivesCycles plan due → ShowsPlanRun library plan due
