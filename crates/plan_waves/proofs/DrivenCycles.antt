@@ -34,7 +34,7 @@ columns_dark lanes (column ∷ columns) fit =
     ∙ columns_dark lanes columns (All-tail (IsColumnOnLanes lanes) column columns fit)
 
 -- a period is the macro steps of a cycle
-period_is : (plan : Plan) → 32 * cycle_steps plan ≡ period_of plan
+pub period_is : (plan : Plan) → 32 * cycle_steps plan ≡ period_of plan
 period_is plan =
     let loop : 32 * (length plan.columns + tiles_back plan) ≡ 32 * (2 * length plan.columns + 4 * plan.latches) = omega arith in
     by_loops (plan.latches == 0) _ _ loop

@@ -11,3 +11,4 @@ pub mod Beginning
 pub mod Machine
 pub mod DrivenCycles
 pub mod Plane
+pub mod Rows

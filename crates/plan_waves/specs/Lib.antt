@@ -2,3 +2,4 @@ pub mod Waves
 pub mod Laws
 pub mod Cycles
 pub mod Shown
+pub mod InputRows

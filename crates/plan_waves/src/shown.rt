@@ -1,8 +1,14 @@
 // What the plane of a plan shows.
 ghost use Rattle.plan_waves.specs.Shown.{PlansShowRuns};
+ghost use Rattle.plan_waves.specs.InputRows.{RowsAreInjected};
 
 /// Drawn with any library that keeps the timing law, and driven from its start edges on at multiples of its period, an
 /// admissible plan shows at its outputs and nets, cycle by cycle, the bits on their lanes, and each injection meets a conductor.
 pub fn plans_show_runs()
     ensures { PlansShowRuns }
+{}
+
+/// Rows of input bits, one row a cycle, drive an admissible plan so, and inject exactly their bits.
+pub fn rows_are_injected()
+    ensures { RowsAreInjected }
 {}
