@@ -1,7 +1,7 @@
 -- A plan at the beginning: its start edges and first injections, and how long everything else stays dark.
 use Rattle.std.proofs.Common.{◌≡◌, refl, sym, ◌∙◌, ap, subst, pos, ℕ, zero, suc, ◌+◌, ◌-◌, ◌*◌, ◌<◌, ◌≤◌, Bool, true, false, ◌&&◌, ◌||◌, cond, ⊎_elim, List, length, get_or, replicate, Option, Some, None, arith}
 use Rattle.std.specs.Prelude.{◌==◌, nat_le, IsTrue, All}
-use Rattle.std.proofs.lemmas.Bool.{cases_lt, false_from_ne_true, true≢false}
+use Rattle.std.proofs.lemmas.Bool.{or_from, and_right, cases_lt, false_from_ne_true, true≢false}
 use Rattle.std.proofs.lemmas.Bool.Decides.{nat_tests}
 use Rattle.std.proofs.lemmas.List.{ext_get_or, get_or_past, length-replicate}
 use Rattle.ww_rule.specs.Wireworld.{Due}
@@ -19,7 +19,7 @@ use Rattle.macro_grid.proofs.Bits.{dark}
 use Rattle.macro_grid.proofs.Halves.{instrs_sorted, instrs_on_lanes}
 use Rattle.plan_waves.specs.Waves.{is_free_entry, GoesOn, is_body_entry, IsLitAtEntries, bits_at, loop_entry, tiles_back, DrivesInputs, StartsRight}
 use Rattle.plan_waves.proofs.LaneBits.{answer_on, answers_agree, length-after_instrs, bit_after}
-use Rattle.plan_waves.proofs.Inputs.{free_place, not_injected}
+use Rattle.plan_waves.proofs.Inputs.{free_place, not_injected, or_none}
 use Rattle.plan_waves.proofs.Paths.{loop_lane, other_column}
 use Rattle.plan_waves.proofs.Columns.{length-bits_at, bit_on-bits_at, next_bits, not_free}
 use Rattle.plan_waves.proofs.Loops.{loop_path}
@@ -89,13 +89,9 @@ starts_are_entries plan h (Beside q l) outside =
     ⊎_elim
     (λ low. (let other : (q == plan.latches && nat_le (first_loop_lane plan) l) ≡ false = grind (arith, nat_tests) in
     ap (λ b. b && get_or plan.starts (l - first_loop_lane plan) false) other))
-    (λ high. none (q == plan.latches && nat_le (first_loop_lane plan) l)
+    (λ high. and_right (q == plan.latches && nat_le (first_loop_lane plan) l) _
     (get_or_past plan.starts (l - first_loop_lane plan) false (omega (arith, h.size.starts, h.size.loops_on_lanes))))
     (cases_lt l plan.lanes)
-  where
-    none : (b : Bool) {c : Bool} → c ≡ false → (b && c) ≡ false
-    none true e = e
-    none false e = refl
 
 pub start_free : (plan : Plan) (lane : ℕ) → lane < first_loop_lane plan → start_edges plan (Beside plan.latches lane) ≡ false
 start_free plan lane low =
@@ -111,25 +107,17 @@ free_is_entry plan (Beside q l) outside =
     let entry : is_body_entry plan (Beside q l) ≡ true = grind (arith, nat_tests) in
     true≢false (sym entry ∙ outside)))
 
-both_dark : (a b : Bool) → a ≡ false → b ≡ false → (a || b) ≡ false
-both_dark true b e f = e
-both_dark false b e f = f
-
 -- a plan that is driven from its start edges on
 pub plans_start : (plan : Plan) → IsAdmissible plan → (due : Due) → DrivesInputs plan due → StartsRight plan due (driven_edges (tiling_of plan) due (start_edges plan) 0)
 plans_start plan h due d = record {
-  entries = λ edge outside. both_dark _ _ (starts_are_entries plan h edge outside) (not_injected plan due d 0 edge (free_is_entry plan edge outside));
+  entries = λ edge outside. or_from _ _ (starts_are_entries plan h edge outside) (not_injected plan due d 0 edge (free_is_entry plan edge outside));
   inputs = λ lane low. (let column : 32 * plan.latches ≡ left_of plan 0 = omega arith in
       ap (λ b. b || due 0 (pos (32 * plan.latches)) (pos (row_of lane))) (start_free plan lane low)
       ∙ ap (λ x. due 0 (pos x) (pos (row_of lane))) column);
   loops = λ loop inside. (let lane = first_loop_lane plan + loop in
       let some : (plan.latches == plan.latches && nat_le (first_loop_lane plan) lane) ≡ true = grind (arith, nat_tests) in
       let place : lane - first_loop_lane plan ≡ loop = omega arith in
-      first_lit _ _ (not_injected plan due d 0 (loop_entry plan loop) (loop_lane plan plan.latches lane (omega arith)))
+      or_none _ _ (not_injected plan due d 0 (loop_entry plan loop) (loop_lane plan plan.latches lane (omega arith)))
       ∙ ap (λ b. b && get_or plan.starts (lane - first_loop_lane plan) false) some
       ∙ ap (λ n. get_or plan.starts n false) place);
 }
-  where
-    first_lit : (a b : Bool) → b ≡ false → (a || b) ≡ a
-    first_lit true b h = refl
-    first_lit false b h = h

@@ -90,7 +90,7 @@ not_injected plan due d g (Beside q l) h =
     let free : is_free_entry plan (Beside q l) ≡ true = grind (arith, nat_tests) in
     true≢false (sym free ∙ h)))
 
-or_none : (a b : Bool) → b ≡ false → (a || b) ≡ a
+pub or_none : (a b : Bool) → b ≡ false → (a || b) ≡ a
 or_none true b h = refl
 or_none false b h = h
 

@@ -43,7 +43,7 @@ pub record DrivesCycles (plan : Plan) (due : Due) : Type 0 where
   pub on_time : (g : ℕ) (x y : ℤ) → due g x y ≡ true → (t : ℕ) × (g ≡ t * period_of plan)
   pub at_free_entries : (g : ℕ) (x y : ℤ) → due g x y ≡ true → (lane : ℕ) × (lane < first_loop_lane plan) × (x ≡ pos (left_of plan 0)) × (y ≡ pos (row_of lane))
 
--- as at the inputs of a plan with a period of any number of macro steps
+-- a period is a multiple of 32 generations, so that these are injections at inputs
 abbrev pub CyclesAreInputs : Type 0
 CyclesAreInputs = (plan : Plan) (due : Due) → DrivesCycles plan due → DrivesInputs plan due
 

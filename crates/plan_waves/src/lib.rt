@@ -1,5 +1,5 @@
-//! Waves: how signals run through the body of a plan, and round its loops, from macro step to macro step. The functions
-//! here do nothing; their clauses are the laws, of every plan, or of every one that is admissible.
+//! Waves: how signals run through the body of a plan and round its loops, from macro step to macro step and from cycle to
+//! cycle, and what the plane shows of them. The functions here do nothing; their clauses are the laws.
 #![tactic(auto)]
 
 mod cycles;
