@@ -1,6 +1,3 @@
-pub mod Sides
-pub mod Halves
-pub mod Matched
 pub mod Distinct
 pub mod Bits
 pub mod Steps

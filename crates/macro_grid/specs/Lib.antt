@@ -1,5 +1,3 @@
-pub mod Layout
 pub mod Edges
-pub mod Slots
 pub mod Planes
 pub mod Laws

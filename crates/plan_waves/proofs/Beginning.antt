@@ -13,10 +13,10 @@ use Rattle.lane_core.specs.declared.instr.Instr.TheVariants as instr
 use Rattle.lane_core.specs.declared.plan.Plan.{Plan}
 use Rattle.lane_core.specs.Instrs.{bit_on, after_instrs, IsOnLanes, are_sorted_apart, instr_on}
 use Rattle.lane_core.specs.Plans.{IsAdmissible, left_of, row_of}
-use Rattle.macro_grid.specs.Layout.{instrs_of, tiling_of}
-use Rattle.macro_grid.specs.Edges.{first_loop_lane, start_edges}
+use Rattle.plan_layout.specs.Layout.{instrs_of, tiling_of}
+use Rattle.plan_layout.specs.Starts.{first_loop_lane, start_edges}
 use Rattle.macro_grid.proofs.Bits.{dark}
-use Rattle.macro_grid.proofs.Halves.{instrs_sorted, instrs_on_lanes}
+use Rattle.plan_layout.proofs.Halves.{instrs_sorted, instrs_on_lanes}
 use Rattle.plan_waves.specs.Waves.{is_free_entry, GoesOn, is_body_entry, IsLitAtEntries, bits_at, loop_entry, tiles_back, DrivesInputs, StartsRight}
 use Rattle.plan_waves.proofs.LaneBits.{answer_on, answers_agree, length-after_instrs, bit_after}
 use Rattle.plan_waves.proofs.Inputs.{free_place, not_injected, or_none}

@@ -20,10 +20,10 @@ use Rattle.lane_core.specs.declared.plan.Plan.{Plan}
 use Rattle.lane_core.specs.Instrs.{lane_of, upper_bit, lower_bit, bit_on, after_instrs, IsOnLanes, instr_on}
 use Rattle.lane_core.specs.Columns.{after_column, after_columns}
 use Rattle.lane_core.specs.Plans.{IsAdmissible}
-use Rattle.macro_grid.specs.Layout.{kind_of, body_slot, instrs_of, in_body, tiling_of}
-use Rattle.macro_grid.proofs.Sides.{in_body_has}
-use Rattle.macro_grid.proofs.Halves.{instrs_sorted, instrs_on_lanes}
-use Rattle.macro_grid.proofs.Matched.{tiling_is_matched}
+use Rattle.plan_layout.specs.Layout.{kind_of, body_slot, instrs_of, in_body, tiling_of}
+use Rattle.plan_layout.proofs.Sides.{in_body_has}
+use Rattle.plan_layout.proofs.Halves.{instrs_sorted, instrs_on_lanes}
+use Rattle.plan_layout.proofs.Matched.{tiling_is_matched}
 use Rattle.plan_waves.specs.Waves.{is_free_entry, GoesOn, bits_at}
 use Rattle.plan_waves.proofs.Passing.{step_east, chosen_first}
 use Rattle.plan_waves.proofs.Parts.{body_at}

@@ -15,8 +15,8 @@ use Rattle.lane_core.specs.declared.plan.Plan.{Plan}
 use Rattle.lane_core.specs.Instrs.{bit_on}
 use Rattle.lane_core.specs.Columns.{after_columns, IsColumnOnLanes}
 use Rattle.lane_core.specs.Plans.{IsAdmissible, left_of, row_of, period_of}
-use Rattle.macro_grid.specs.Layout.{tiling_of}
-use Rattle.macro_grid.specs.Edges.{first_loop_lane, start_edges}
+use Rattle.plan_layout.specs.Layout.{tiling_of}
+use Rattle.plan_layout.specs.Starts.{first_loop_lane, start_edges}
 use Rattle.macro_grid.proofs.Bits.{dark}
 use Rattle.plan_waves.specs.Waves.{GoesOn, bits_at, loop_entry, tiles_back, DrivesInputs, StartsRight}
 use Rattle.plan_waves.specs.Cycles.{cycle_steps, free_bits, loop_bits, entering_bits, DrivesCycles, injected_bits, ShowsCycles}

@@ -15,9 +15,9 @@ use Rattle.lane_core.specs.declared.instr.Instr.{Instr}
 use Rattle.lane_core.specs.declared.instr.Instr.TheVariants as instr
 use Rattle.lane_core.specs.declared.plan.Plan.{Plan}
 use Rattle.lane_core.specs.Plans.{IsAdmissible, left_of, row_of}
-use Rattle.macro_grid.specs.Layout.{kind_of, in_body, tiling_of}
-use Rattle.macro_grid.specs.Edges.{first_loop_lane}
-use Rattle.macro_grid.proofs.Sides.{in_body_has}
+use Rattle.plan_layout.specs.Layout.{kind_of, in_body, tiling_of}
+use Rattle.plan_layout.specs.Starts.{first_loop_lane}
+use Rattle.plan_layout.proofs.Sides.{in_body_has}
 use Rattle.macro_grid.proofs.Steps.{beside_first, beside_next}
 use Rattle.plan_waves.specs.Waves.{is_free_entry, GoesOn, DrivesInputs}
 use Rattle.plan_waves.proofs.Passing.{answers_none}

@@ -6,7 +6,7 @@ use Rattle.lane_core.specs.declared.plan.Plan.{Plan}
 use Rattle.lane_core.specs.Plans.{IsAdmissible}
 use Rattle.lane_core.specs.Instrs.{bit_on}
 use Rattle.lane_core.specs.Columns.{after_columns}
-use Rattle.macro_grid.specs.Edges.{first_loop_lane}
+use Rattle.plan_layout.specs.Starts.{first_loop_lane}
 use Rattle.plan_waves.specs.Waves.{GoesOn, bits_at, loop_exit, loop_entry, tiles_back}
 use Rattle.plan_waves.proofs.Paths.{Reaches, joined, renamed, beside_same}
 use Rattle.plan_waves.proofs.Turns.{right_turn, left_turn}

@@ -13,7 +13,7 @@ use Rattle.lane_core.specs.declared.plan.Plan.{Plan}
 use Rattle.lane_core.specs.Instrs.{bit_on}
 use Rattle.lane_core.specs.Columns.{after_column, after_columns}
 use Rattle.lane_core.specs.Plans.{IsAdmissible}
-use Rattle.macro_grid.specs.Edges.{first_loop_lane}
+use Rattle.plan_layout.specs.Starts.{first_loop_lane}
 use Rattle.plan_waves.specs.Waves.{GoesOn, bits_at, loop_entry, tiles_back}
 use Rattle.plan_waves.specs.Cycles.{cycle_steps, free_bits, loop_bits, entering_bits}
 use Rattle.plan_waves.proofs.LaneBits.{length-after_instrs}

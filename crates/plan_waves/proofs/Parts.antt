@@ -12,9 +12,9 @@ use Rattle.tiling.specs.Tiling.Piece.{Tile, Output}
 use Rattle.tiling.specs.Tiling.Slot.{Nothing, Whole}
 use Rattle.lane_core.specs.declared.plan.Plan.{Plan}
 use Rattle.lane_core.specs.Plans.{IsAdmissible}
-use Rattle.macro_grid.specs.Layout.{turn_slot, return_slot, end_of_body, upper_left, in_body, upper_right, lower_left, on_return, lower_right, by_column, tiling_of}
-use Rattle.macro_grid.specs.Edges.{first_loop_lane}
-use Rattle.macro_grid.proofs.Matched.{tiling_of-upper, tiling_of-lower}
+use Rattle.plan_layout.specs.Layout.{turn_slot, return_slot, end_of_body, upper_left, in_body, upper_right, lower_left, on_return, lower_right, by_column, tiling_of}
+use Rattle.plan_layout.specs.Starts.{first_loop_lane}
+use Rattle.plan_layout.proofs.Matched.{tiling_of-upper, tiling_of-lower}
 
 by_column-left : (plan : Plan) (q : ℕ) (a b c : Slot) → q < plan.latches → by_column plan q a b c ≡ a
 by_column-left plan q a b c h =

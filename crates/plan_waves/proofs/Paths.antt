@@ -11,9 +11,9 @@ use Rattle.tiling.specs.Tiling.Edge.{Beside, Above}
 use Rattle.tiling.specs.MacroStep.{macro_step}
 use Rattle.lane_core.specs.declared.plan.Plan.{Plan}
 use Rattle.lane_core.specs.Plans.{IsAdmissible}
-use Rattle.macro_grid.specs.Layout.{tiling_of}
-use Rattle.macro_grid.specs.Edges.{first_loop_lane}
-use Rattle.macro_grid.proofs.Matched.{tiling_is_matched}
+use Rattle.plan_layout.specs.Layout.{tiling_of}
+use Rattle.plan_layout.specs.Starts.{first_loop_lane}
+use Rattle.plan_layout.proofs.Matched.{tiling_is_matched}
 use Rattle.plan_waves.specs.Waves.{is_free_entry, GoesOn, is_body_entry, IsLitAtEntries}
 use Rattle.plan_waves.proofs.Passing.{east_passes, south_passes, west_passes, north_passes}
 

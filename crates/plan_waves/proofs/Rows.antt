@@ -9,7 +9,7 @@ use Rattle.std.proofs.Math.Nat.{mul-div_cancel}
 use Rattle.ww_rule.proofs.Streams.{streams_injected}
 use Rattle.lane_core.specs.declared.plan.Plan.{Plan}
 use Rattle.lane_core.specs.Plans.{IsAdmissible, left_of, row_of, period_of}
-use Rattle.macro_grid.specs.Edges.{first_loop_lane}
+use Rattle.plan_layout.specs.Starts.{first_loop_lane}
 use Rattle.plan_waves.specs.Cycles.{DrivesCycles, injected_bits}
 use Rattle.plan_waves.specs.InputRows.{input_cells, drive_of_rows, lane_bit, AreInjected}
 use Rattle.plan_waves.proofs.Machine.{steps_with_loops}

@@ -4,8 +4,8 @@ use Rattle.tiling.specs.Tiling.{Lit}
 use Rattle.tiling.specs.Tiling.Edge.{Beside, Above}
 use Rattle.lane_core.specs.declared.plan.Plan.{Plan}
 use Rattle.lane_core.specs.Plans.{IsAdmissible}
-use Rattle.macro_grid.specs.Layout.{end_of_body, tiling_of}
-use Rattle.macro_grid.proofs.Matched.{tiling_is_matched}
+use Rattle.plan_layout.specs.Layout.{end_of_body, tiling_of}
+use Rattle.plan_layout.proofs.Matched.{tiling_is_matched}
 use Rattle.plan_waves.specs.Waves.{GoesOn, loop_exit}
 use Rattle.plan_waves.proofs.Passing.{east_south_passes, south_west_passes, west_north_passes, north_east_passes}
 use Rattle.plan_waves.proofs.Parts.{right_along, right_upper_corner, right_across, right_lower_corner, right_back, left_back, left_lower_corner, left_across, left_upper_corner, left_along}

@@ -14,8 +14,8 @@ use Rattle.tiling.specs.Tiling.Slot.{Whole, Upper, Lower}
 use Rattle.tiling.specs.Tiling.Edge.{Beside}
 use Rattle.lane_core.specs.declared.plan.Plan.{Plan}
 use Rattle.lane_core.specs.Plans.{IsAdmissible}
-use Rattle.macro_grid.specs.Layout.{return_slot, end_of_body, tiling_of}
-use Rattle.macro_grid.proofs.Matched.{tiling_is_matched}
+use Rattle.plan_layout.specs.Layout.{return_slot, end_of_body, tiling_of}
+use Rattle.plan_layout.proofs.Matched.{tiling_is_matched}
 use Rattle.plan_waves.specs.Waves.{GoesOn}
 use Rattle.plan_waves.proofs.Passing.{west_passes, upper_swap_passes, lower_swap_passes}
 use Rattle.plan_waves.proofs.Parts.{return_at}

@@ -5,7 +5,7 @@ use Rattle.ww_rule.specs.Wireworld.{Due}
 use Rattle.ww_rule.specs.Injections.{due_of_streams}
 use Rattle.lane_core.specs.declared.plan.Plan.{Plan}
 use Rattle.lane_core.specs.Plans.{IsAdmissible, left_of, row_of, period_of}
-use Rattle.macro_grid.specs.Edges.{first_loop_lane}
+use Rattle.plan_layout.specs.Starts.{first_loop_lane}
 use Rattle.plan_waves.specs.Cycles.{DrivesCycles, injected_bits}
 
 -- the cells of a plan's inputs

@@ -9,8 +9,8 @@ use Rattle.lane_core.specs.declared.plan.Plan.{Plan}
 use Rattle.lane_core.specs.Plans.{IsAdmissible, left_of, row_of}
 use Rattle.lane_core.specs.Instrs.{bit_on}
 use Rattle.lane_core.specs.Columns.{after_columns}
-use Rattle.macro_grid.specs.Layout.{tiling_of}
-use Rattle.macro_grid.specs.Edges.{first_loop_lane, start_edges}
+use Rattle.plan_layout.specs.Layout.{tiling_of}
+use Rattle.plan_layout.specs.Starts.{first_loop_lane, start_edges}
 use Rattle.plan_waves.specs.Waves.{is_free_entry, GoesOn, IsLitAtEntries, bits_at, loop_exit, loop_entry, tiles_back, DrivesInputs, StartsRight}
 
 -- the edges after macro steps go on

@@ -11,8 +11,8 @@ use Rattle.lane_core.specs.declared.plan.Plan.{Plan}
 use Rattle.lane_core.specs.Instrs.{bit_on}
 use Rattle.lane_core.specs.Columns.{after_columns}
 use Rattle.lane_core.specs.Plans.{IsAdmissible, period_of, out_cell_of, net_place, net_cell_of}
-use Rattle.macro_grid.specs.Layout.{tiling_of}
-use Rattle.macro_grid.specs.Edges.{start_edges}
+use Rattle.plan_layout.specs.Layout.{tiling_of}
+use Rattle.plan_layout.specs.Starts.{start_edges}
 use Rattle.plan_waves.specs.Cycles.{entering_bits, DrivesCycles, injected_bits}
 
 -- the plane of a plan at the beginning, before injections

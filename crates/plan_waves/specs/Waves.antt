@@ -8,8 +8,8 @@ use Rattle.tiling.specs.MacroStep.{macro_step}
 use Rattle.lane_core.specs.declared.plan.Plan.{Plan}
 use Rattle.lane_core.specs.Plans.{left_of, row_of}
 use Rattle.lane_core.specs.Instrs.{bit_on}
-use Rattle.macro_grid.specs.Layout.{end_of_body, tiling_of}
-use Rattle.macro_grid.specs.Edges.{first_loop_lane}
+use Rattle.plan_layout.specs.Layout.{end_of_body, tiling_of}
+use Rattle.plan_layout.specs.Starts.{first_loop_lane}
 
 -- the free entries: where the lanes that no loop enters enter the body's first column, and heads may be injected
 abbrev pub is_free_entry : Plan → Edge → Bool
