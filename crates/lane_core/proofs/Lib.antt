@@ -1,2 +1,3 @@
 pub mod Lookup
 pub mod Commuting
+pub mod Dark

@@ -1,9 +1,9 @@
 -- Bits in rows of one length are a test on pairs of numbers.
-use Rattle.std.proofs.Common.{◌≡◌, refl, sym, ◌∙◌, ap, ℕ, ◌+◌, ◌-◌, ◌*◌, ◌/◌, ◌%◌, ◌<◌, ◌≤◌, Bool, true, false, ◌&&◌, ltb, ⊎_elim, List, length, get_or, replicate, arith}
+use Rattle.std.proofs.Common.{◌≡◌, refl, sym, ◌∙◌, ap, ℕ, ◌+◌, ◌-◌, ◌*◌, ◌/◌, ◌%◌, ◌<◌, ◌≤◌, Bool, true, false, ◌&&◌, ltb, ⊎_elim, List, length, get_or, arith}
 use Rattle.std.specs.Prelude.{nat_le, nat_lt, ◌==◌}
 use Rattle.std.proofs.lemmas.Bool.{cases_lt}
 use Rattle.std.proofs.lemmas.Bool.Decides.{nat_tests}
-use Rattle.std.proofs.lemmas.List.{get_or_past, get_or-replicate, length-replicate}
+use Rattle.std.proofs.lemmas.List.{get_or_past}
 use Rattle.std.proofs.lemmas.Nat.{mul-add-lt, div-mul-add, mod-mul-add, mul-le}
 use Rattle.std.proofs.Math.Nat.{mul_comm}
 use Rattle.tiling.specs.Tiling.Edge.{Beside}
@@ -47,11 +47,3 @@ pub starts_below : (plan : Plan) → IsAdmissible plan → (q l : ℕ) → edge_
 starts_below plan h q l far =
     let past : get_or plan.starts (l - first_loop_lane plan) false ≡ false = get_or_past plan.starts (l - first_loop_lane plan) false (omega (arith, h.size.starts, h.size.loops_on_lanes)) in
     ap (λ b. q == plan.latches && nat_le (first_loop_lane plan) l && b) past ∙ and_false _
-
--- bits that are all false are false at each place, and beyond
-pub dark : (n i : ℕ) → get_or (replicate n false) i false ≡ false
-dark n i =
-    ⊎_elim
-    (λ within. get_or-replicate n i false false within)
-    (λ past. get_or_past (replicate n false) i false (omega (arith, length-replicate n false)))
-    (cases_lt i n)

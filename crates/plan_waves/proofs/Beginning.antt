@@ -15,7 +15,7 @@ use Rattle.lane_core.specs.Instrs.{bit_on, after_instrs, IsOnLanes, are_sorted_a
 use Rattle.lane_core.specs.Plans.{IsAdmissible, left_of, row_of}
 use Rattle.plan_layout.specs.Layout.{instrs_of, tiling_of}
 use Rattle.plan_layout.specs.Starts.{first_loop_lane, start_edges}
-use Rattle.macro_grid.proofs.Bits.{dark}
+use Rattle.lane_core.proofs.Dark.{dark}
 use Rattle.plan_layout.proofs.Halves.{instrs_sorted, instrs_on_lanes}
 use Rattle.plan_waves.specs.Waves.{is_free_entry, GoesOn, is_body_entry, IsLitAtEntries, bits_at, loop_entry, tiles_back, DrivesInputs, StartsRight}
 use Rattle.plan_waves.proofs.LaneBits.{answer_on, answers_agree, length-after_instrs, bit_after}

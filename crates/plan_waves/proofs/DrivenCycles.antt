@@ -17,7 +17,7 @@ use Rattle.lane_core.specs.Columns.{after_columns, IsColumnOnLanes}
 use Rattle.lane_core.specs.Plans.{IsAdmissible, left_of, row_of, period_of}
 use Rattle.plan_layout.specs.Layout.{tiling_of}
 use Rattle.plan_layout.specs.Starts.{first_loop_lane, start_edges}
-use Rattle.macro_grid.proofs.Bits.{dark}
+use Rattle.lane_core.proofs.Dark.{dark}
 use Rattle.plan_waves.specs.Waves.{GoesOn, bits_at, loop_entry, tiles_back, DrivesInputs, StartsRight}
 use Rattle.plan_waves.specs.Cycles.{cycle_steps, free_bits, loop_bits, entering_bits, DrivesCycles, injected_bits, ShowsCycles}
 use Rattle.plan_waves.proofs.Inputs.{driven_edges_go_on, inputs_enter}

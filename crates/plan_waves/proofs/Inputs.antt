@@ -18,7 +18,7 @@ use Rattle.lane_core.specs.Plans.{IsAdmissible, left_of, row_of}
 use Rattle.plan_layout.specs.Layout.{kind_of, in_body, tiling_of}
 use Rattle.plan_layout.specs.Starts.{first_loop_lane}
 use Rattle.plan_layout.proofs.Sides.{in_body_has}
-use Rattle.macro_grid.proofs.Steps.{beside_first, beside_next}
+use Rattle.tiling.proofs.AtEdges.{beside_first, beside_next}
 use Rattle.plan_waves.specs.Waves.{is_free_entry, GoesOn, DrivesInputs}
 use Rattle.plan_waves.proofs.Passing.{answers_none}
 use Rattle.plan_waves.proofs.Parts.{some_columns, body_at, nothing_left}

@@ -10,7 +10,7 @@ use Rattle.tiling.specs.Tiling.Slot.{Nothing, Whole, Upper, Lower}
 use Rattle.tiling.specs.Tiling.Edge.{Beside, Above}
 use Rattle.tiling.specs.Matched.{IsMatched, is_left}
 use Rattle.tiling.specs.MacroStep.{macro_step, slot_answers}
-use Rattle.macro_grid.proofs.Steps.{beside_first, beside_next, above_first, above_next}
+use Rattle.tiling.proofs.AtEdges.{beside_first, beside_next, above_first, above_next}
 
 -- where none of the cells lies, none of those that are chosen from them lies
 chosen_none : (x y : ℤ) (cs : List Cell) (bs : List Bool) → is_among x y cs ≡ false → is_among x y (chosen cs bs) ≡ false

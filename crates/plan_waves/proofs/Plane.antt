@@ -29,7 +29,7 @@ use Rattle.lane_core.specs.Columns.{after_columns}
 use Rattle.lane_core.specs.Plans.{IsAdmissible, left_of, row_of, latency_of, period_of, cell_after, net_place}
 use Rattle.plan_layout.specs.Layout.{turn_slot, end_of_body, upper_left, in_body, upper_right, tiling_of}
 use Rattle.plan_layout.specs.Starts.{start_edges}
-use Rattle.macro_grid.proofs.Bits.{dark}
+use Rattle.lane_core.proofs.Dark.{dark}
 use Rattle.plan_layout.proofs.Matched.{tiling_is_matched, tiling_of-upper}
 use Rattle.plan_layout.proofs.Sides.{in_body_has}
 use Rattle.plan_waves.specs.Waves.{GoesOn}

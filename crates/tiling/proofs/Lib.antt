@@ -17,3 +17,4 @@ pub mod OutputCell
 pub mod LitPieces
 pub mod Driven
 pub mod Shown
+pub mod AtEdges

@@ -2,7 +2,8 @@ use Rattle.std.proofs.Common.{◌∙◌, ap, ◌-◌, arith}
 use Rattle.tiling.specs.MacroStep.{slot_answers}
 use Rattle.macro_grid.specs.Edges.{lit_of}
 use Rattle.plan_layout.specs.Layout.{tiling_of}
-use Rattle.macro_grid.proofs.Steps.{beside_next, answered, not_answered}
+use Rattle.tiling.proofs.AtEdges.{beside_next}
+use Rattle.macro_grid.proofs.Steps.{answered, not_answered}
 use Rattle.macro_grid.proofs.step.beside_after.Goals as goal
 
 pub returns-then-is_answered : goal.returns-then-is_answered

@@ -4,7 +4,8 @@ use Rattle.std.proofs.lemmas.List.{take_at}
 use Rattle.tiling.specs.Tiling.Edge.{Beside, Above}
 use Rattle.plan_layout.specs.Starts.{start_edges}
 use Rattle.macro_grid.specs.Edges.{edge_columns}
-use Rattle.macro_grid.proofs.Bits.{bits_read, starts_right, starts_below, dark, and_false}
+use Rattle.lane_core.proofs.Dark.{dark}
+use Rattle.macro_grid.proofs.Bits.{bits_read, starts_right, starts_below, and_false}
 use Rattle.macro_grid.proofs.edges.Edges.start.Goals as goal
 
 pub returns-clause-lit : goal.returns-clause-lit
