@@ -1,7 +1,8 @@
 pub mod Sides
 pub mod Halves
 pub mod Matched
-pub mod Distinct
+pub mod Columns
+pub mod Spans
 pub mod Bits
 pub mod Steps
 pub mod Planes

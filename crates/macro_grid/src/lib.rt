@@ -4,6 +4,7 @@
 mod edges;
 mod laws;
 mod layout;
+mod ports;
 mod rules;
 mod slot;
 mod step;
