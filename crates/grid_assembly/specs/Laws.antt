@@ -4,7 +4,7 @@ use Rattle.tiling.specs.Steps.{StepsByMacro}
 use Rattle.tile_library.specs.Drawings.{drawing_of}
 use Rattle.lane_core.specs.declared.plan.Plan.{Plan}
 use Rattle.lane_core.specs.Plans.{IsAdmissible}
-use Rattle.macro_grid.specs.Layout.{tiling_of}
+use Rattle.plan_layout.specs.Layout.{tiling_of}
 
 -- every admissible plan, whichever edges are lit, goes on by macro steps
 abbrev pub StepsByEdges : Type 0

@@ -6,8 +6,8 @@ use Rattle.ww_rule.specs.Wireworld.{Plane}
 use Rattle.tiling.specs.Tiling.{Lit, drawn}
 use Rattle.tile_library.specs.Drawings.{drawing_of}
 use Rattle.lane_core.specs.declared.plan.Plan.{Plan}
-use Rattle.macro_grid.specs.Edges.{start_edges}
-use Rattle.macro_grid.specs.Layout.{tiling_of}
+use Rattle.plan_layout.specs.Starts.{start_edges}
+use Rattle.plan_layout.specs.Layout.{tiling_of}
 
 -- the plan's tiles in the shipped drawings, with some edges lit
 abbrev pub plane_with : Plan → Lit → Plane

@@ -2,8 +2,8 @@
 ghost use Rattle.std.specs.Prelude.{◌≡◌, ◌&&◌, ◌<◌, ◌^◌, pos};
 ghost use Rattle.std.specs.Ordering.{int_eq};
 ghost use Rattle.lane_core.specs.Plans.{IsAdmissible};
-ghost use Rattle.macro_grid.specs.Edges.{start_edges};
-ghost use Rattle.macro_grid.specs.Slots.{piece_of, slot_of};
+ghost use Rattle.plan_layout.specs.Starts.{start_edges};
+ghost use Rattle.plan_layout.specs.Slots.{piece_of, slot_of};
 ghost use Rattle.tile_core.specs.Drawing.{is_among};
 ghost use Rattle.tile_core.specs.Kinds.{interface};
 ghost use Rattle.tile_library.specs.Drawings.{drawing_of as shipped};
@@ -11,7 +11,7 @@ ghost use Rattle.tiling.specs.Tiling.{drawn_piece, drawn_slot, edge_of, heads_of
 ghost use Rattle.tiling.specs.Tiling.Piece.{Tile, Output};
 
 use lane_core::Plan;
-use macro_grid::{Piece, Slot, is_start};
+use plan_layout::{Piece, Slot, is_start};
 use tile_core::{Kind, Library};
 use tile_library::Shipped;
 use ww_rule::State;

@@ -2,12 +2,12 @@
 ghost use Rattle.std.specs.Prelude.{◌≡◌, ◌≤◌, ◌+◌, ◌^◌, pos, length};
 ghost use Rattle.ww_rule.specs.Grid.{IsEmptyOutside};
 ghost use Rattle.lane_core.specs.Plans.{IsAdmissible};
-ghost use Rattle.macro_grid.specs.Layout.{size_of};
+ghost use Rattle.plan_layout.specs.Layout.{size_of};
 ghost use Rattle.grid_assembly.specs.PlanDrawing.{start_plane, AreCellsOfRow};
 
 use crate::cells::slot_cell;
 use lane_core::Plan;
-use macro_grid::slot_at;
+use plan_layout::slot_at;
 use ww_rule::State;
 
 /// Width and height of the drawing in cells, (0, 0) of a plan without lanes.

@@ -2,7 +2,7 @@
 ghost use Rattle.std.specs.Prelude.{◌≡◌, ◌<◌, IfOk};
 ghost use Rattle.lane_core.specs.Plans.{IsAdmissible};
 ghost use Rattle.macro_grid.specs.Edges.{IsEdgesOf, lit_of};
-ghost use Rattle.macro_grid.specs.Layout.{tiling_of};
+ghost use Rattle.plan_layout.specs.Layout.{tiling_of};
 ghost use Rattle.macro_grid.specs.Planes.{IsDrawnAfter32};
 ghost use Rattle.tile_library.specs.Drawings.{drawing_of};
 

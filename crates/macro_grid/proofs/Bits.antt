@@ -9,7 +9,8 @@ use Rattle.std.proofs.Math.Nat.{mul_comm}
 use Rattle.tiling.specs.Tiling.Edge.{Beside}
 use Rattle.lane_core.specs.declared.plan.Plan.{Plan}
 use Rattle.lane_core.specs.Plans.{IsAdmissible}
-use Rattle.macro_grid.specs.Edges.{edge_columns, edge_lanes, first_loop_lane, start_edges}
+use Rattle.plan_layout.specs.Starts.{first_loop_lane, start_edges}
+use Rattle.macro_grid.specs.Edges.{edge_columns, edge_lanes}
 
 -- where the bit at each place is the test's at its row and column, and the test fails beyond, all agree
 pub bits_read : (width height : ℕ) (bits : List Bool) (test : ℕ → ℕ → Bool) → length bits ≡ width * height

@@ -1,6 +1,3 @@
-pub mod Sides
-pub mod Halves
-pub mod Matched
 pub mod Columns
 pub mod Spans
 pub mod Bits

@@ -9,9 +9,9 @@ use Rattle.tiling.specs.Steps.{KeepsLaw, StepsByMacro}
 use Rattle.tiling.proofs.LitPieces.{steps_by_macro}
 use Rattle.lane_core.specs.declared.plan.Plan.{Plan}
 use Rattle.lane_core.specs.Plans.{IsAdmissible}
-use Rattle.macro_grid.specs.Layout.{tiling_of}
+use Rattle.plan_layout.specs.Layout.{tiling_of}
 use Rattle.macro_grid.specs.Planes.{IsDrawnAfter32}
-use Rattle.macro_grid.proofs.Matched.{tiling_is_matched}
+use Rattle.plan_layout.proofs.Matched.{tiling_is_matched}
 
 -- an admissible plan takes macro steps
 pub steps_of : (plan : Plan) → IsAdmissible plan → (library : Kind → Drawing) → KeepsLaw library → (lit : Lit) → StepsByMacro library (tiling_of plan) lit

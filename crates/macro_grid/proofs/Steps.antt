@@ -10,8 +10,8 @@ use Rattle.tiling.specs.Tiling.Piece.{Tile, Output}
 use Rattle.tiling.specs.Tiling.Slot.{Nothing, Whole}
 use Rattle.lane_core.specs.declared.plan.Plan.{Plan}
 use Rattle.macro_grid.specs.Edges.{edge_columns, edge_lanes}
-use Rattle.macro_grid.specs.Layout.{turn_slot, end_of_body, upper_left, in_body, upper_right, lower_left, on_return, lower_right, by_column, upper_part, lower_part, tiling_of}
-use Rattle.macro_grid.proofs.Matched.{tiling_of-below}
+use Rattle.plan_layout.specs.Layout.{turn_slot, end_of_body, upper_left, in_body, upper_right, lower_left, on_return, lower_right, by_column, upper_part, lower_part, tiling_of}
+use Rattle.plan_layout.proofs.Matched.{tiling_of-below}
 use Rattle.tiling.specs.Tiling.{Slot, Tiling, Lit}
 use Rattle.tiling.specs.Tiling.Edge.{Beside, Above}
 use Rattle.tiling.specs.MacroStep.{macro_step, slot_answers}

@@ -6,7 +6,7 @@ use Rattle.tiling.specs.Tiling.{Lit}
 use Rattle.tiling.specs.Steps.{KeepsLaw, StepsByMacro, DrivesEntries, IsDriven}
 use Rattle.lane_core.specs.declared.plan.Plan.{Plan}
 use Rattle.lane_core.specs.Plans.{IsAdmissible}
-use Rattle.macro_grid.specs.Layout.{tiling_of}
+use Rattle.plan_layout.specs.Layout.{tiling_of}
 
 -- every admissible plan, whoever made it and whichever edges are lit, goes on by macro steps of 32 generations
 abbrev pub PlansStepByMacro : Type 0

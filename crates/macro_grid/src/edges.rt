@@ -4,13 +4,13 @@ ghost use Rattle.std.specs.Prelude.{◌≡◌, ℕ, ◌+◌, ◌*◌, ◌/◌, �
 ghost use Rattle.tiling.specs.Tiling.{Edge};
 ghost use Rattle.tiling.specs.Tiling.Edge.{Beside, Above};
 ghost use Rattle.lane_core.specs.Plans.{IsAdmissible};
-ghost use Rattle.macro_grid.specs.Edges.{IsEdgesOf, edge_columns, edge_lanes, lit_of, start_edges};
+ghost use Rattle.plan_layout.specs.Starts.{start_edges};
+ghost use Rattle.macro_grid.specs.Edges.{IsEdgesOf, edge_columns, edge_lanes, lit_of};
 
-use crate::{Piece, Slot, slot_at};
 use lane_core::Plan;
+use plan_layout::is_start;
 use std::alloc::{AllocError, Global};
 use std::marker::Model;
-use tile_core::Kind;
 
 /// Why there are no edges.
 #[derive(Clone, Copy, Debug, PartialEq, Eq)]
@@ -92,18 +92,6 @@ fn edge_lanes(plan: &Plan) -> usize
     ensures { result ≡ edge_lanes plan.now }
 {
     plan.lanes as usize + plan.latches as usize + 1
-}
-
-/// Whether a loop that starts with 1 enters the body at the west side of this block.
-pub fn is_start(plan: &Plan, column: u64, lane: u64) -> bool
-    requires { IsAdmissible plan.now }
-    ensures { result ≡ start_edges plan.now (Beside column lane) }
-{
-    let first = (plan.lanes - plan.latches) as u64;
-    if column != plan.latches as u64 || lane < first || lane - first >= plan.starts.len() as u64 {
-        return false;
-    }
-    *plan.starts.get((lane - first) as usize)
 }
 
 fn light_starts(plan: &Plan, lanes: usize, bits: &mut [bool])

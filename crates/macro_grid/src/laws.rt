@@ -8,7 +8,8 @@ pub fn plans_step_by_macro()
     ensures { PlansStepByMacro }
 {}
 
-/// The same where heads are injected at free entries at multiples of 32 generations: each injection meets a conductor.
+/// The same where heads are injected at free entries at multiples of 32 generations: each injection meets a conductor, at
+/// generation 0 where its edge is not lit.
 pub fn plans_are_driven()
     ensures { PlansAreDriven }
 {}

@@ -5,7 +5,7 @@ ghost use Rattle.lane_core.specs.Instrs.{IsOnLanes};
 ghost use Rattle.lane_core.specs.Places.{IsPlaceWithin};
 ghost use Rattle.lane_core.specs.Plans.{IsAdmissible, HasFittingSize};
 ghost use Rattle.tiling.specs.Matched.{IsMatched};
-ghost use Rattle.macro_grid.specs.Layout.{tiling_of};
+ghost use Rattle.plan_layout.specs.Layout.{tiling_of};
 
 use crate::ports::are_distinct_below;
 use lane_core::{Column, Instr, NetPlace, Plan};

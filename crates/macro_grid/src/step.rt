@@ -11,11 +11,12 @@ ghost use Rattle.tiling.specs.Tiling.Piece.{Tile};
 ghost use Rattle.tiling.specs.MacroStep.{macro_step as next_edges, slot_answers, piece_answers};
 ghost use Rattle.lane_core.specs.Plans.{IsAdmissible};
 ghost use Rattle.macro_grid.specs.Edges.{IsEdgesOf, edge_columns, edge_lanes, lit_of};
-ghost use Rattle.macro_grid.specs.Layout.{tiling_of};
-ghost use Rattle.macro_grid.specs.Slots.{slot_of, piece_of};
+ghost use Rattle.plan_layout.specs.Layout.{tiling_of};
+ghost use Rattle.plan_layout.specs.Slots.{slot_of, piece_of};
 
-use crate::{Edges, Piece, Slot, slot_at};
+use crate::Edges;
 use lane_core::Plan;
+use plan_layout::{Piece, Slot, slot_at};
 use tile_core::Kind;
 
 // Whether the edge at a port is lit, by the port's place in the box of a piece whose first block is at this tile column

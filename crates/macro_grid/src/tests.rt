@@ -1,11 +1,10 @@
-// Small plans, drawn by hand, and signals that go round.
+// Signals of small plans, and the rules of ports.
 
-use crate::{Edges, Piece, Slot, admissible, macro_step, slot_at};
+use crate::{Edges, admissible, macro_step};
 use lane_core::{Column, Instr, Plan};
 use lists::List;
 use std::alloc::{AllocError, Global};
 use std::test::Fail;
-use tile_core::Kind;
 
 // An Or on the first two of some lanes, with these ports.
 fn or_plan(
@@ -25,25 +24,6 @@ fn or_plan(
         starts: List::of(Vec::new(alloc)),
         ins: List::of(Vec::from_slice(alloc, ins)?),
         outs: List::of(Vec::from_slice(alloc, outs)?),
-        nets: List::of(Vec::new(alloc)),
-    })
-}
-
-// Two lanes, two columns and a loop.
-fn loop_plan(alloc: Global) -> Result<Plan, AllocError> {
-    let fork = Column {
-        instrs: List::of(vec![in alloc; Instr::Fork(0)]?),
-    };
-    let or = Column {
-        instrs: List::of(vec![in alloc; Instr::Or(0)]?),
-    };
-    Ok(Plan {
-        lanes: 2,
-        columns: List::of(vec![in alloc; fork, or]?),
-        latches: 1,
-        starts: List::of(vec![in alloc; true]?),
-        ins: List::of(vec![in alloc; 0]?),
-        outs: List::of(vec![in alloc; 0]?),
         nets: List::of(Vec::new(alloc)),
     })
 }
@@ -68,88 +48,6 @@ fn bare_plan(alloc: Global) -> Result<Plan, AllocError> {
         outs: List::of(Vec::new(alloc)),
         nets: List::of(Vec::new(alloc)),
     })
-}
-
-// A letter for each tile, small for the lower half of a pair.
-fn letter(slot: Slot) -> u8 {
-    match slot {
-        Slot::Nothing => b'.',
-        Slot::Whole(Piece::Output) => b'*',
-        Slot::Whole(Piece::Tile(kind)) => match kind {
-            Kind::East => b'>',
-            Kind::West => b'<',
-            Kind::South => b'v',
-            Kind::North => b'^',
-            Kind::EastSouth => b'7',
-            Kind::SouthWest => b'J',
-            Kind::WestNorth => b'L',
-            Kind::NorthEast => b'r',
-            _ => b'?',
-        },
-        Slot::Upper(Piece::Tile(kind)) => pair_letter(kind),
-        Slot::Lower(Piece::Tile(kind)) => pair_letter(kind).to_ascii_lowercase(),
-        _ => b'?',
-    }
-}
-
-fn pair_letter(kind: Kind) -> u8 {
-    match kind {
-        Kind::Swap => b'S',
-        Kind::Xor => b'X',
-        Kind::Or => b'O',
-        Kind::AndNot => b'A',
-        Kind::Fork => b'F',
-        Kind::WestSwap => b'W',
-        _ => b'?',
-    }
-}
-
-// Whether the plan is admissible, and its tiles are those of the rows.
-fn is_drawn(plan: &Plan, rows: &[&[u8]]) -> bool {
-    if !admissible(plan) {
-        return false;
-    }
-    for (lane, row) in rows.iter().enumerate() {
-        for (column, want) in row.iter().enumerate() {
-            if letter(slot_at(plan, column as u64, lane as u64)) != *want {
-                return false;
-            }
-        }
-    }
-    true
-}
-
-#[test]
-fn an_or_stands_as_drawn_by_hand(rt: HostRuntime) -> Result<(), Fail> {
-    let plan = or_plan(rt.alloc(), 2, 0, &[0, 1], &[0])?;
-    assert!(rt; is_drawn(&plan, &[b"O*.", b"o..", b"..."]));
-    Ok(())
-}
-
-#[test]
-fn a_loop_stands_as_drawn_by_hand(rt: HostRuntime) -> Result<(), Fail> {
-    let plan = loop_plan(rt.alloc())?;
-    assert!(rt; is_drawn(&plan, &[b".FO*.", b"rfo7.", b"L<<J.", b"....."]));
-    Ok(())
-}
-
-#[test]
-fn three_loops_stand_as_drawn_by_hand(rt: HostRuntime) -> Result<(), Fail> {
-    let plan = bare_plan(rt.alloc())?;
-    assert!(rt;
-        is_drawn(
-            &plan,
-            &[
-                b"r>>>>>>>7",
-                b"^r>>>>>7v",
-                b"^^r>>>7vv",
-                b"^^LW<WJvv",
-                b"^L<wWw<Jv",
-                b"L<<<w<<<J"
-            ]
-        )
-    );
-    Ok(())
 }
 
 #[test]

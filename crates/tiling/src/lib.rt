@@ -16,7 +16,8 @@ pub fn shows_edges()
     ensures { EdgesLaw }
 {}
 
-/// The plane of a matched tiling where heads are injected at free entries at multiples of 32, and each injection meets a conductor.
+/// The plane of a matched tiling where heads are injected at free entries at multiples of 32: each injection meets a conductor, at
+/// generation 0 where its edge is not lit.
 pub fn is_driven_by_macro()
     ensures { DrivenLaw }
 {}

@@ -1,5 +1,5 @@
 use Rattle.std.proofs.Common.{rules, ◌≡◌, ◌&&◌, get_or}
-use Rattle.macro_grid.specs.Edges.{start_edges}
+use Rattle.plan_layout.specs.Starts.{start_edges}
 use Rattle.macro_grid.proofs.Steps.{not_answered}
 use Rattle.tile_core.specs.Kinds.{interface, entries}
 use Rattle.tiling.specs.Tiling.{is_entry_lit}

@@ -1,7 +1,7 @@
 use Rattle.std.proofs.Common.{rules, ◌≡◌, ◌≢◌, ◌∙◌, ap, ◌+◌, ◌/◌, ◌%◌, ◌<◌, length, arith, get_or-set_other, get_or-set_same, below_more}
-use Rattle.macro_grid.specs.Edges.{start_edges}
-use Rattle.macro_grid.specs.Layout.{tiling_of}
-use Rattle.macro_grid.specs.Slots.{slot_of}
+use Rattle.plan_layout.specs.Starts.{start_edges}
+use Rattle.plan_layout.specs.Layout.{tiling_of}
+use Rattle.plan_layout.specs.Slots.{slot_of}
 use Rattle.tile_library.specs.Drawings.{drawing_of as shipped}
 use Rattle.tiling.specs.Tiling.{drawn_slot}
 use Rattle.grid_assembly.proofs.rows.fill_row.Goals as goal

@@ -1,7 +1,7 @@
 use Rattle.std.proofs.Common.{◌≡◌, pos, ℕ, ◌+◌, ◌^◌, ◌<◌, get_or}
 use Rattle.ww_rule.specs.declared.pattern.State.TheVariants.{Empty}
-use Rattle.macro_grid.specs.Layout.{tiling_of}
-use Rattle.macro_grid.specs.Slots.{slot_of}
+use Rattle.plan_layout.specs.Layout.{tiling_of}
+use Rattle.plan_layout.specs.Slots.{slot_of}
 use Rattle.grid_assembly.specs.PlanDrawing.{start_plane}
 use Rattle.grid_assembly.proofs.rows.fill_row.Given as goal
 

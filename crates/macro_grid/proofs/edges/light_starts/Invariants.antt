@@ -1,6 +1,6 @@
 use Rattle.std.proofs.Common.{◌≡◌, ℕ, ◌/◌, ◌%◌, ◌<◌, false, get_or}
 use Rattle.tiling.specs.Tiling.Edge.{Beside}
-use Rattle.macro_grid.specs.Edges.{start_edges}
+use Rattle.plan_layout.specs.Starts.{start_edges}
 use Rattle.macro_grid.proofs.edges.light_starts.Given as goal
 
 abbrev pub invariant-loop-i : goal.invariant-loop-i

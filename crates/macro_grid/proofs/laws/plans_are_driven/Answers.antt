@@ -1,6 +1,6 @@
 use Rattle.tiling.proofs.Driven.{driven_by_macro}
-use Rattle.macro_grid.specs.Layout.{tiling_of}
-use Rattle.macro_grid.proofs.Matched.{tiling_is_matched}
+use Rattle.plan_layout.specs.Layout.{tiling_of}
+use Rattle.plan_layout.proofs.Matched.{tiling_is_matched}
 use Rattle.macro_grid.proofs.laws.plans_are_driven.Goals as goal
 
 pub returns : goal.returns

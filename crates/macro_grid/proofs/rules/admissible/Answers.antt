@@ -1,6 +1,6 @@
 use Rattle.std.proofs.Common.{rules}
 use Rattle.macro_grid.proofs.Columns.{columns_apart}
-use Rattle.macro_grid.proofs.Matched.{tiling_is_matched}
+use Rattle.plan_layout.proofs.Matched.{tiling_is_matched}
 use Rattle.macro_grid.proofs.rules.admissible.Goals as goal
 
 pub returns-clause-exact : goal.returns-clause-exact

@@ -1,7 +1,7 @@
 use Rattle.std.proofs.Common.{◌∙◌, ap, ◌-◌, arith}
 use Rattle.tiling.specs.MacroStep.{slot_answers}
 use Rattle.macro_grid.specs.Edges.{lit_of}
-use Rattle.macro_grid.specs.Layout.{tiling_of}
+use Rattle.plan_layout.specs.Layout.{tiling_of}
 use Rattle.macro_grid.proofs.Steps.{beside_next, answered, not_answered}
 use Rattle.macro_grid.proofs.step.beside_after.Goals as goal
 

@@ -4,7 +4,7 @@ use Rattle.std.proofs.lemmas.List.{take_at}
 use Rattle.tiling.specs.Tiling.Edge.{Beside, Above}
 use Rattle.tiling.specs.MacroStep.{macro_step as next_edges}
 use Rattle.macro_grid.specs.Edges.{edge_columns, edge_lanes, lit_of}
-use Rattle.macro_grid.specs.Layout.{tiling_of}
+use Rattle.plan_layout.specs.Layout.{tiling_of}
 use Rattle.macro_grid.proofs.Bits.{bits_read}
 use Rattle.macro_grid.proofs.Steps.{beside_right, beside_below, above_right, above_below}
 use Rattle.macro_grid.proofs.Planes.{drawn_after, steps_of}

@@ -2,7 +2,7 @@ use Rattle.std.proofs.Common.{◌≡◌, ℕ, ◌/◌, ◌%◌, ◌<◌, false, 
 use Rattle.tiling.specs.Tiling.Edge.{Above}
 use Rattle.tiling.specs.MacroStep.{macro_step}
 use Rattle.macro_grid.specs.Edges.{lit_of}
-use Rattle.macro_grid.specs.Layout.{tiling_of}
+use Rattle.plan_layout.specs.Layout.{tiling_of}
 use Rattle.macro_grid.proofs.step.step_above.Given as goal
 
 abbrev pub invariant-loop-i : goal.invariant-loop-i

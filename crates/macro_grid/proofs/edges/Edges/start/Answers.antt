@@ -2,7 +2,8 @@ use Rattle.std.proofs.Common.{◌≡◌, ◌+◌, ◌*◌, ◌&&◌, Bool, false
 use Rattle.std.specs.Prelude.{nat_lt}
 use Rattle.std.proofs.lemmas.List.{take_at}
 use Rattle.tiling.specs.Tiling.Edge.{Beside, Above}
-use Rattle.macro_grid.specs.Edges.{edge_columns, start_edges}
+use Rattle.plan_layout.specs.Starts.{start_edges}
+use Rattle.macro_grid.specs.Edges.{edge_columns}
 use Rattle.macro_grid.proofs.Bits.{bits_read, starts_right, starts_below, dark, and_false}
 use Rattle.macro_grid.proofs.edges.Edges.start.Goals as goal
 

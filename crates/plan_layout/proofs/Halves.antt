@@ -13,7 +13,7 @@ use Rattle.lane_core.specs.declared.instr.Instr.{Instr}
 use Rattle.lane_core.specs.declared.instr.Column.{Column}
 use Rattle.lane_core.specs.Instrs.{lane_of, is_above, are_sorted_apart, is_on, instr_on, IsOnLanes}
 use Rattle.lane_core.specs.Columns.{IsColumnOnLanes}
-use Rattle.macro_grid.specs.Layout.{kind_of, body_slot, return_slot}
+use Rattle.plan_layout.specs.Layout.{kind_of, body_slot, return_slot}
 use Rattle.lane_core.proofs.Lookup.{none_below}
 
 abbrev pub is_upper : Slot → Bool

@@ -11,9 +11,9 @@ use Rattle.lane_core.specs.declared.instr.Instr.{Instr}
 use Rattle.lane_core.specs.declared.instr.Instr.TheVariants as instr
 use Rattle.lane_core.specs.declared.plan.Plan.{Plan}
 use Rattle.lane_core.specs.Plans.{IsAdmissible}
-use Rattle.macro_grid.specs.Layout.{kind_of, return_slot, instrs_of, end_of_body, upper_left, in_body, upper_right, lower_left, on_return, lower_right, by_column, upper_part, lower_part, tiling_of}
-use Rattle.macro_grid.proofs.Sides.{either, lane_goes, column_goes, upper_left_has, in_body_has, upper_right_has, lower_left_has, on_return_has, lower_right_has}
-use Rattle.macro_grid.proofs.Halves.{is_upper, is_lower, Joined, joined_apart, body_joined, body_ends, body_begins, instrs_sorted, instrs_on_lanes, return_joined, return_ends, return_begins}
+use Rattle.plan_layout.specs.Layout.{kind_of, return_slot, instrs_of, end_of_body, upper_left, in_body, upper_right, lower_left, on_return, lower_right, by_column, upper_part, lower_part, tiling_of}
+use Rattle.plan_layout.proofs.Sides.{either, lane_goes, column_goes, upper_left_has, in_body_has, upper_right_has, lower_left_has, on_return_has, lower_right_has}
+use Rattle.plan_layout.proofs.Halves.{is_upper, is_lower, Joined, joined_apart, body_joined, body_ends, body_begins, instrs_sorted, instrs_on_lanes, return_joined, return_ends, return_begins}
 
 -- the parts of the plan by lanes
 pub tiling_of-upper : (plan : Plan) (q l : ℕ) → l < plan.lanes → tiling_of plan q l ≡ upper_part plan q l

@@ -13,7 +13,7 @@ use Rattle.lane_core.specs.declared.instr.Instr.{Instr}
 use Rattle.lane_core.specs.declared.instr.Instr.TheVariants as instr
 use Rattle.lane_core.specs.declared.plan.Plan.{Plan}
 use Rattle.lane_core.specs.Instrs.{instr_on}
-use Rattle.macro_grid.specs.Layout.{kind_of, body_slot, turn_slot, return_slot, instrs_of, end_of_body, upper_left, in_body, upper_right, lower_left, on_return, lower_right, by_column, tiling_of}
+use Rattle.plan_layout.specs.Layout.{kind_of, body_slot, turn_slot, return_slot, instrs_of, end_of_body, upper_left, in_body, upper_right, lower_left, on_return, lower_right, by_column, tiling_of}
 
 -- what holds of both holds of the one that is taken
 pub either : {X : Type 0} (P : X → Type 0) (b : Bool) {x y : X} → P x → P y → P (cond b x y)

@@ -1,9 +1,9 @@
 -- What the program's values for pieces and slots stand for.
 use Rattle.tiling.specs.Tiling as tiling
-use Rattle.macro_grid.specs.declared.slot.Piece.{Piece}
-use Rattle.macro_grid.specs.declared.slot.Piece.TheVariants.{Tile, Output}
-use Rattle.macro_grid.specs.declared.slot.Slot.{Slot}
-use Rattle.macro_grid.specs.declared.slot.Slot.TheVariants.{Nothing, Whole, Upper, Lower}
+use Rattle.plan_layout.specs.declared.slot.Piece.{Piece}
+use Rattle.plan_layout.specs.declared.slot.Piece.TheVariants.{Tile, Output}
+use Rattle.plan_layout.specs.declared.slot.Slot.{Slot}
+use Rattle.plan_layout.specs.declared.slot.Slot.TheVariants.{Nothing, Whole, Upper, Lower}
 
 abbrev pub piece_of : Piece → tiling.Piece
 piece_of (Tile kind) = tiling.Piece.Tile kind

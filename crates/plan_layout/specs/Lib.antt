@@ -1,0 +1,4 @@
+pub mod Layout
+pub mod Slots
+pub mod Starts
+pub mod Laws
