@@ -1,4 +1,4 @@
-// An OR gate in letters, and a circuit run by the rule alone.
+// An OR gate in letters, and a circuit and a loop run by the rule alone.
 ghost use Rattle.std.specs.Prelude.{◌≡◌, ◌<◌, IfOk};
 ghost use Rattle.lane_core.specs.Plans.{IsAdmissible};
 ghost use Rattle.macro_grid.specs.Edges.{IsEdgesOf, lit_of};
@@ -8,7 +8,7 @@ ghost use Rattle.tile_library.specs.Drawings.{drawing_of};
 
 use crate::laws::keeps_law;
 use crate::{cell, fill_row, size};
-use lane_core::{Column, Instr, Plan, in_cell, out_cell, run_columns};
+use lane_core::{Column, Instr, Plan, in_cell, out_cell, period, run_columns};
 use lists::List;
 use macro_grid::{Edges, admissible, macro_step};
 use std::alloc::{AllocError, Global};
@@ -159,7 +159,7 @@ fn circuit(alloc: Global) -> Result<Plan, AllocError>
     })
 }
 
-// The 129 columns and 80 rows of the circuit.
+// 129 columns and 80 rows of cells: the circuit's, and more rows than the loop's.
 fn drawn(alloc: Global, plan: &Plan) -> Result<Plane, RuleError>
     requires { IsAdmissible plan.now }
     ensures width { IfOk result (λ plane. plane.width ≡ 129) }
@@ -192,10 +192,10 @@ fn with_input(alloc: Global, plane: Plane, y: u64, bit: bool) -> Plane
     }
 }
 
-// The plane after the 128 generations that four columns take.
-fn after_four_columns(alloc: Global, start: Plane) -> Result<Plane, RuleError> {
+// The plane after some generations by the rule.
+fn evolved(alloc: Global, start: Plane, generations: u32) -> Result<Plane, RuleError> {
     let mut plane = start;
-    for _ in 0..128 {
+    for _ in 0..generations {
         plane = step_driven(alloc, &plane, &[])?;
     }
     Ok(plane)
@@ -237,7 +237,7 @@ fn a_circuit_answers_by_the_rule(rt: HostRuntime) -> Result<(), Fail> {
         let first = with_input(alloc, dark, 8, a);
         let second = with_input(alloc, first, 40, b);
         let start = with_input(alloc, second, 72, c);
-        let end = after_four_columns(alloc, start)?;
+        let end = evolved(alloc, start, 128)?;
         for (lane, bit) in bits.iter().enumerate() {
             assert_eq!(rt;
                 is_head(&end, 128, 16 * lane as u64 + 8),
@@ -245,6 +245,116 @@ fn a_circuit_answers_by_the_rule(rt: HostRuntime) -> Result<(), Fail> {
                 "{choice}, lane {lane}"
             );
         }
+    }
+    Ok(())
+}
+
+// Two lanes and a loop that starts with 1: the Or takes its bit, and the Fork gives it to the output and back to the loop.
+fn loop_plan(alloc: Global) -> Result<Plan, AllocError> {
+    let or = Column {
+        instrs: List::of(vec![in alloc; Instr::Or(0)]?),
+    };
+    let fork = Column {
+        instrs: List::of(vec![in alloc; Instr::Fork(0)]?),
+    };
+    Ok(Plan {
+        lanes: 2,
+        columns: List::of(vec![in alloc; or, fork]?),
+        latches: 1,
+        starts: List::of(vec![in alloc; true]?),
+        ins: List::of(vec![in alloc; 0]?),
+        outs: List::of(vec![in alloc; 0]?),
+        nets: List::of(Vec::new(alloc)),
+    })
+}
+
+// The cells that are heads, row by row.
+fn heads(alloc: Global, plane: &Plane) -> Result<Vec<(u64, u64)>, RuleError> {
+    let mut found = Vec::new(alloc);
+    for y in 0..80 {
+        for x in 0..129 {
+            if is_head(plane, x, y) {
+                found.push((x, y))?;
+            }
+        }
+    }
+    Ok(found)
+}
+
+// Whether one of the two cells at each west side and at each north side is a head just where the edge is lit.
+fn has_heads_of(plane: &Plane, edges: &Edges) -> bool {
+    for column in 0..5 {
+        for lane in 0..4 {
+            let (x, y) = (32 * column, 16 * lane);
+            let beside = is_head(plane, x, y + 8) || x > 0 && is_head(plane, x - 1, y + 8);
+            let above = is_head(plane, x + 16, y) || y > 0 && is_head(plane, x + 16, y - 1);
+            if beside != edges.beside(column, lane) || above != edges.above(column, lane) {
+                return false;
+            }
+        }
+    }
+    true
+}
+
+#[test]
+fn a_loop_has_its_cells(rt: HostRuntime) -> Result<(), Fail> {
+    let plan = loop_plan(rt.alloc())?;
+    assert!(rt; admissible(&plan));
+    assert_eq!(rt; (size(&plan), period(&plan)), ((129, 48), 256));
+    let table = [
+        (32, 24, State::Head),
+        (31, 24, State::Tail),
+        (32, 8, State::Conductor),
+        (96, 8, State::Conductor),
+        (95, 40, State::Conductor),
+        (96, 9, State::Empty),
+    ];
+    for (x, y, state) in table {
+        assert_eq!(rt; cell(&plan, x, y), state, "at {x}, {y}");
+    }
+    Ok(())
+}
+
+// After m times 32 generations the heads are those of m macro steps.
+#[test]
+fn a_loop_goes_round_by_macro_steps(rt: HostRuntime) -> Result<(), Fail> {
+    let alloc = rt.alloc();
+    let plan = loop_plan(alloc)?;
+    assert!(rt; admissible(&plan));
+    let mut plane = drawn(alloc, &plan)?;
+    let mut edges = Edges::start(alloc, &plan)?;
+    let mut following = Edges::start(alloc, &plan)?;
+    for step in 0..9 {
+        assert!(rt; has_heads_of(&plane, &edges), "after {step} steps");
+        plane = evolved(alloc, plane, 32)?;
+        macro_step(&plan, &edges, &mut following);
+        std::mem::swap(&mut edges, &mut following);
+    }
+    Ok(())
+}
+
+// Through the Or and the Fork, to the output and round: the cells were read off the drawing by hand.
+#[test]
+fn a_loop_goes_round_by_the_rule(rt: HostRuntime) -> Result<(), Fail> {
+    let alloc = rt.alloc();
+    let plan = loop_plan(alloc)?;
+    assert!(rt; admissible(&plan));
+    let mut plane = drawn(alloc, &plan)?;
+    let table: [&[(u64, u64)]; 9] = [
+        &[(32, 24)],
+        &[(64, 8)],
+        &[(96, 8), (96, 24)],
+        &[(112, 32)],
+        &[(95, 40)],
+        &[(63, 40)],
+        &[(31, 40)],
+        &[(16, 31)],
+        &[(32, 24)],
+    ];
+    for (step, want) in table.iter().enumerate() {
+        let found = heads(alloc, &plane)?;
+        assert!(rt; found.as_slice() == *want, "after {step} steps");
+        plane = evolved(alloc, plane, 32)?;
     }
     Ok(())
 }

@@ -1,4 +1,5 @@
-pub mod Distinct
+pub mod Columns
+pub mod Spans
 pub mod Bits
 pub mod Steps
 pub mod Planes

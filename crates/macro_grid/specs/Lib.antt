@@ -1,3 +1,4 @@
 pub mod Edges
 pub mod Planes
+pub mod Spans
 pub mod Laws

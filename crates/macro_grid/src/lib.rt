@@ -3,6 +3,7 @@
 
 mod edges;
 mod laws;
+mod ports;
 mod rules;
 mod step;
 

@@ -2,15 +2,17 @@
 ghost use Rattle.std.specs.Prelude.{◌≡◌, ◌+◌, ◌-◌, ◌<◌, ◌≤◌, ◌^◌, ◌↔◌, IsTrue, All, length};
 ghost use Rattle.lane_core.specs.Columns.{IsColumnOnLanes};
 ghost use Rattle.lane_core.specs.Instrs.{IsOnLanes};
-ghost use Rattle.lane_core.specs.Places.{AreDistinctBelow, IsPlaceWithin};
+ghost use Rattle.lane_core.specs.Places.{IsPlaceWithin};
 ghost use Rattle.lane_core.specs.Plans.{IsAdmissible, HasFittingSize};
 ghost use Rattle.tiling.specs.Matched.{IsMatched};
 ghost use Rattle.plan_layout.specs.Layout.{tiling_of};
 
+use crate::ports::are_distinct_below;
 use lane_core::{Column, Instr, NetPlace, Plan};
 
-/// Whether a plan keeps the rules that a drawing of it needs. It looks at each lane of a port once for each earlier one
-/// of its list, and at all else once.
+/// Whether a plan keeps the rules that a drawing of it needs. It takes no memory but 64 KiB of the stack. For each span of
+/// 65,536 lanes that has ports of a list it clears these and goes over the list twice; it goes over the list twice more, and
+/// over all else once.
 pub fn admissible(plan: &Plan) -> bool
     ensures exact { IsTrue result ↔ IsAdmissible plan.now }
     // the tiles of such a plan fit together
@@ -46,17 +48,6 @@ fn are_columns_on_lanes(columns: &[Column], lanes: u32) -> bool
     columns
         .iter()
         .all(|column| are_on_lanes(column.instrs.as_slice(), lanes))
-}
-
-fn are_distinct_below(lanes: &[u32], limit: u32) -> bool
-    ensures { IsTrue result ↔ AreDistinctBelow limit lanes.now }
-{
-    for (i, lane) in lanes.iter().enumerate() {
-        if *lane >= limit || lanes[..i].contains(lane) {
-            return false;
-        }
-    }
-    true
 }
 
 fn is_place_within(place: &NetPlace, lanes: u32, steps: u64) -> bool

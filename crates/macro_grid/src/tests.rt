@@ -87,7 +87,7 @@ fn an_electron_goes_round_a_loop(rt: HostRuntime) -> Result<(), Fail> {
 
 #[test]
 fn each_rule_on_ports_and_lanes_is_kept(rt: HostRuntime) -> Result<(), Fail> {
-    let table: [(u32, u32, &[u32], &[u32], bool); 7] = [
+    let table: [(u32, u32, &[u32], &[u32], bool); 13] = [
         (2, 0, &[0, 1], &[0], true),
         (3, 0, &[0, 2], &[1], true),
         (1, 0, &[0], &[0], false),
@@ -95,6 +95,12 @@ fn each_rule_on_ports_and_lanes_is_kept(rt: HostRuntime) -> Result<(), Fail> {
         (2, 1, &[0], &[0], false),
         (2, 0, &[1, 1], &[0], false),
         (2, 0, &[0, 1], &[2], false),
+        (65_537, 0, &[0, 65_536], &[65_536, 65_535], true),
+        (65_537, 0, &[0, 65_536, 65_536], &[0], false),
+        (65_537, 0, &[0], &[65_535, 0, 65_536, 65_535], false),
+        (u32::MAX, 0, &[u32::MAX - 1, 0], &[u32::MAX - 1], true),
+        (u32::MAX, 0, &[u32::MAX - 1, 0, u32::MAX - 1], &[], false),
+        (u32::MAX, 0, &[u32::MAX], &[], false),
     ];
     for (lanes, latches, ins, outs, want) in table {
         let plan = or_plan(rt.alloc(), lanes, latches, ins, outs)?;

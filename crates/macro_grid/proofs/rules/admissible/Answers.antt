@@ -1,5 +1,5 @@
 use Rattle.std.proofs.Common.{rules}
-use Rattle.macro_grid.proofs.Distinct.{columns_apart}
+use Rattle.macro_grid.proofs.Columns.{columns_apart}
 use Rattle.plan_layout.proofs.Matched.{tiling_is_matched}
 use Rattle.macro_grid.proofs.rules.admissible.Goals as goal
 
