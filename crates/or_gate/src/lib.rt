@@ -7,12 +7,11 @@ mod tests;
 
 ghost use Rattle.or_gate.specs.OrGate.{ShowsOr};
 
+pub use drawing::or_pattern;
 use grid_assembly::laws::{keeps_law, patterns_are_planes};
 use macro_grid::plans_are_driven;
 use tile_library::Shipped;
 use tiling::shows_edges;
-
-pub use drawing::or_pattern;
 
 /// Where heads are injected at the gate's entries alone, at multiples of 32 generations: each injection meets a
 /// conductor, and the output cell is a head exactly 32 generations after each generation at which an entry was made one.
