@@ -21,9 +21,8 @@ use Rattle.pattern_reading.specs.declared.ports.Ports.{Ports}
 use Rattle.pattern_reading.specs.PortTable.{ports_of}
 use Rattle.pattern_reading.specs.Spelling.{named_or_forms}
 use Rattle.carries.specs.Carries.{drive, before_injections, MeetsConductors, ShowsBits, ShowsRuns}
-use Rattle.or_gate.specs.OrGate.{or_grid, gate_plane, DrivesEntries, entries, is_lit}
+use Rattle.or_gate.specs.OrGate.{or_grid, gate_plane, DrivesEntries, entries, is_lit, ShowsOr}
 use Rattle.or_gate.specs.OrGate as gate
-use Rattle.or_gate.proofs.Generations.{output_head, meets_conductor}
 use Rattle.blifww_tool.specs.Thin.{Names, HasDistinctPorts}
 use Rattle.blifww_tool.specs.Gate.{or_design}
 
@@ -56,9 +55,9 @@ same_before : (due : Due) (g : ℕ) → gate.before_injections due g ≡ before_
 same_before due zero = refl
 same_before due (suc g) = refl
 
-conductors : (n : Names) (rows : List (List Bool)) → MeetsConductors (drive (gate_ports n) rows) (plane_of or_grid.rows)
-conductors n rows g x y e =
-    sym (ap (λ p. p x y) (same_before (gate_due rows) g)) ∙ meets_conductor (gate_due rows) (drives rows) g x y e
+conductors : ShowsOr → (n : Names) (rows : List (List Bool)) → MeetsConductors (drive (gate_ports n) rows) (plane_of or_grid.rows)
+conductors s n rows g x y e =
+    sym (ap (λ p. p x y) (same_before (gate_due rows) g)) ∙ s.conductors (gate_due rows) (drives rows) g x y e
 
 same_truth : (a b : Bool) → (a ≡ true → b ≡ true) → (b ≡ true → a ≡ true) → a ≡ b
 same_truth true b p q = sym (p refl)
@@ -143,18 +142,18 @@ output_is n h rows are run is t lt =
     let got : slice_get rows t ≡ Some (get_or row 0 false ∷ get_or row 1 false ∷ []) = slice_get-get_or rows t [] lt ∙ ap Some (two row long) in
     ap (λ bits. get_or bits 0 false) ((gate_computes n h).gives rows run is t (get_or row 0 false) (get_or row 1 false) got)
 
-gate_heads : (n : Names) → HasDistinctPorts n → (rows : List (List Bool)) → AreInputRows (or_design n) rows → (run : ℕ → Valuation) → IsRun (or_design n) rows run
+gate_heads : ShowsOr → (n : Names) → HasDistinctPorts n → (rows : List (List Bool)) → AreInputRows (or_design n) rows → (run : ℕ → Valuation) → IsRun (or_design n) rows run
     → (output : ℕ) (cell : PortLine) → slice_get (gate_ports n).outs output ≡ Some cell → (g : ℕ) → g < 32 + length rows * 32
     → ShowsBits (gate_ports n) (length rows) (λ t. output_bit (or_design n) (run t) output) g (driven (drive (gate_ports n) rows) (plane_of or_grid.rows) g) cell
-gate_heads n h rows are run is zero cell e g lt = (
+gate_heads s n h rows are run is zero cell e g lt = (
   λ head.
-      let found = (output_head (gate_due rows) (drives rows) g).0 (ap (λ c. driven (gate_due rows) gate_plane g (pos c.x) (pos c.y)) (some_is e) ∙ head) in
+      let found = (s.heads (gate_due rows) (drives rows) g).0 (ap (λ c. driven (gate_due rows) gate_plane g (pos c.x) (pos c.y)) (some_is e) ∙ head) in
       let bits = sym (lit_bits rows found.0) ∙ found.2 in
       let in_time : found.0 < length rows = within found.0 bits in
       (found.0, in_time, omega (arith, found.1), output_is n h rows are run is found.0 in_time ∙ bits),
   λ shown.
       ap (λ c. driven (gate_due rows) gate_plane g (pos c.x) (pos c.y)) (sym (some_is e))
-      ∙ (output_head (gate_due rows) (drives rows) g).1 (shown.0, omega (arith, shown.2), lit_bits rows shown.0 ∙ sym (output_is n h rows are run is shown.0 shown.1) ∙ shown.3),
+      ∙ (s.heads (gate_due rows) (drives rows) g).1 (shown.0, omega (arith, shown.2), lit_bits rows shown.0 ∙ sym (output_is n h rows are run is shown.0 shown.1) ∙ shown.3),
 )
   where
     some_is : {a b : PortLine} → Some a ≡ Some b → a ≡ b
@@ -170,13 +169,13 @@ gate_heads n h rows are run is zero cell e g lt = (
           | inl lt ↦ lt
           | inr ge ↦ absurd (true≢false (sym bits ∙ no_row rows t ge))
         ]
-gate_heads n h rows are run is (suc output) cell e g lt = cc
+gate_heads s n h rows are run is (suc output) cell e g lt = cc
 
 -- The drawing shows the runs of the gate's design
-pub gate_shows : (n : Names) → HasDistinctPorts n → ShowsRuns (plane_of or_grid.rows) (gate_ports n) (or_design n)
-gate_shows n h =
+pub gate_shows : ShowsOr → (n : Names) → HasDistinctPorts n → ShowsRuns (plane_of or_grid.rows) (gate_ports n) (or_design n)
+gate_shows s n h =
     record {
-      conductors = λ rows are. conductors n rows;
+      conductors = λ rows are. conductors s n rows;
       runs = λ rows are. (gate_computes n h).runs rows (two_bits n rows are);
-      heads = gate_heads n h;
+      heads = gate_heads s n h;
     }

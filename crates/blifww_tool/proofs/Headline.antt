@@ -13,7 +13,7 @@ use Rattle.blifww_tool.specs.Run.{Reading, Writing, Compiles}
 use Rattle.blifww_tool.specs.Names.{IsName, is_name_byte}
 use Rattle.blifww_tool.specs.Thin.{Names, IsThin}
 use Rattle.blifww_tool.specs.Drawing.{or_text}
-use Rattle.or_gate.specs.OrGate.{or_grid}
+use Rattle.or_gate.specs.OrGate.{or_grid, ShowsOr}
 use Rattle.blifww_tool.specs.Gate.{or_design, WritesWhatItRead}
 use Rattle.blifww_tool.proofs.WrittenText.{same_text}
 use Rattle.blifww_tool.proofs.ThinDesign.{is_design}
@@ -28,8 +28,8 @@ port_name name h = (
       (no_byte 10 refl, no_byte 13 refl, no_byte 32 refl),
 )
 
-pub carries : (text : List ℕ) (n : Names) → IsThin text n → Carries (or_text n) (or_design n)
-carries text n h =
+pub carries : ShowsOr → (text : List ℕ) (n : Names) → IsThin text n → Carries (or_text n) (or_design n)
+carries gate text n h =
     let reads = named_gate n.a n.b n.y (port_name n.a h.a) (port_name n.b h.b) (port_name n.y h.y) in
     subst (λ t. Carries t (or_design n)) (sym (same_text n)) (record {
       grid = or_grid;
@@ -37,7 +37,7 @@ carries text n h =
       reads = reads.0;
       table = reads.1 h.ports.inputs;
       names = record { ins = in_names_are n.a n.b n.y or_rows true (or_design n) (one_cover n); outs = refl };
-      shows = gate_shows n h.ports;
+      shows = gate_shows gate n h.ports;
     })
 
 pub gave_whole : (left after : Option (List ℕ)) (given text : List ℕ) → Consumes left after given → IsAtEnd after → left ≡ Some text → given ≡ text
@@ -62,8 +62,8 @@ gained_whole (Some xs) (Some ys) pattern before a s = ap Some a ∙ ap (λ o. So
     unwrap_or_nil (Some l) = l
 
 -- what is compiled is written as a pattern that carries it
-pub writes_what_it_read : (src : Reading) (out : Writing) → Compiles src out or_text → WritesWhatItRead src out
-writes_what_it_read src out c text before has held =
+pub writes_what_it_read : ShowsOr → (src : Reading) (out : Writing) → Compiles src out or_text → WritesWhatItRead src out
+writes_what_it_read gate src out c text before has held =
     let same = gave_whole src.left src.left_after c.given text c.all.consumed c.all.end has in
     let thin = subst (λ t. IsThin t c.names) same c.thin in
-    (or_text c.names, gained_whole out.written out.written_after (or_text c.names) before c.wrote held, or_design c.names, is_design text c.names thin, carries text c.names thin)
+    (or_text c.names, gained_whole out.written out.written_after (or_text c.names) before c.wrote held, or_design c.names, is_design text c.names thin, carries gate text c.names thin)

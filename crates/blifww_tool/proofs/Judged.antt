@@ -4,6 +4,7 @@ use Rattle.std.specs.Prelude.{Option, Some, None}
 use Rattle.std.specs.Io.KnownBytes.{Consumes}
 use Rattle.command_words.specs.Shapes.{CommandValues, compile, simulate}
 use Rattle.drive.specs.Driving.{last_generation, greatest_generation}
+use Rattle.or_gate.specs.OrGate.{ShowsOr}
 use Rattle.blifww_tool.specs.Simulation.{Simulation, IsSimulation}
 use Rattle.blifww_tool.specs.Refusals.{status_of, line_of}
 use Rattle.blifww_tool.specs.Run.{Asks, Reading, Writing, GaveAll, Gained, GainedNothing, WriteFailed, text_limit, IsRefused, RefusesText, HasReason, Writes, Does, IsCalm}
@@ -121,9 +122,9 @@ simulates words src out err result (told r e reason line) cycles streams text ca
 simulates words src out err result (failed f) cycles streams text calm short s h near = absurd (never_failed words (simulate cycles streams) src out err text calm f)
 
 -- what `compile` has written carries what it read
-pub headline_of : (words : List (List ℕ)) (src : Reading) (out : Writing) → Does words src out (λ text. text) → Asks words compile → WritesWhatItRead src out
-headline_of words src out h asks =
-    writes_what_it_read src out (subst (λ (v : CommandValues). Writes v src out (λ text. text)) (one_command words _ _ h.asks asks) h.writes)
+pub headline_of : ShowsOr → (words : List (List ℕ)) (src : Reading) (out : Writing) → Does words src out (λ text. text) → Asks words compile → WritesWhatItRead src out
+headline_of gate words src out h asks =
+    writes_what_it_read gate src out (subst (λ (v : CommandValues). Writes v src out (λ text. text)) (one_command words _ _ h.asks asks) h.writes)
 
 -- how a run ends where its refusal is told
 pub told_outcome : (words : List (List ℕ)) (src : Reading) (out err : Writing) (result : ℕ) (r : Refusal) → result ≡ status_of r

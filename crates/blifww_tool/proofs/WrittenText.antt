@@ -9,12 +9,16 @@ use Rattle.blifww_tool.specs.Thin.{Names}
 use Rattle.blifww_tool.specs.Drawing.{or_lines, or_text}
 use Rattle.or_gate.specs.OrGate.{or_grid}
 
+-- the plan's drawing is the one that stands written out, cell by cell
 pub same_grid : or_grid ≡ reading.or_grid
 same_grid = refl
 
-same_pattern : header_text 33 32 ++ wrapped 0 (item_texts or_grid.rows) ++ 10 ∷ [] ≡ or_pattern_lines
+written : header_text 33 32 ++ wrapped 0 (item_texts reading.or_grid.rows) ++ 10 ∷ [] ≡ or_pattern_lines
 unfolding digits
-same_pattern = refl
+written = refl
+
+same_pattern : header_text 33 32 ++ wrapped 0 (item_texts or_grid.rows) ++ 10 ∷ [] ≡ or_pattern_lines
+same_pattern = ap (λ grid. header_text 33 32 ++ wrapped 0 (item_texts grid.rows) ++ 10 ∷ []) same_grid ∙ written
 
 same_lines : (n : Names) → lines_text (or_lines n) ≡ spelled_table (named_or_forms n.a n.b n.y)
 unfolding digits

@@ -10,7 +10,6 @@ mod thin;
 mod told;
 mod top;
 
-pub use drawing::sample_is_so;
 pub use top::run;
 
 #[cfg(test)]

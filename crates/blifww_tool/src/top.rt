@@ -14,6 +14,7 @@ use crate::compile::compile;
 use crate::refusals::Refusal;
 use crate::simulate::simulate;
 use command_words::{Command, command_of};
+use or_gate::shows_or;
 use std::alloc::Global;
 use ww_base::{Failed, Sink, Source};
 
@@ -127,6 +128,7 @@ pub fn run<S: Source, O: Sink, E: Sink>(
     ensures refused_unread { result ≡ 2 → src.new ≡ src.old }
     ensures front { (given : List ℕ) × Gave (reading S.left S.faults src.old src.new) given }
 {
+    shows_or();
     match work(alloc, words, src, out) {
         Ok(()) => 0,
         Err(refusal) => match refusal.tell(err) {

@@ -20,8 +20,7 @@ use Rattle.pattern_reading.specs.Examples.{or_ports, or_text_without_nets, port_
 use Rattle.pattern_reading.specs.PortTable.{ports_of, forms_of}
 use Rattle.pattern_reading.proofs.RleVerdict.{rle_reading_is, grid_of}
 use Rattle.carries.specs.Carries.{Carries, NamesPorts, ShowsRuns}
-use Rattle.or_gate.specs.OrGate.{gate_plane, DrivesEntries, entries, or_grid}
-use Rattle.or_gate.proofs.Generations.{output_head}
+use Rattle.or_gate.specs.OrGate.{gate_plane, DrivesEntries, entries, or_grid, ShowsOr}
 use Rattle.carried_gate.specs.Refused.{RefusesOthers, and_not_design, gate_text, version_line, out_line}
 
 -- what is carried by a text of the gate's drawing
@@ -81,13 +80,13 @@ or_rows_of : (rows : List (List Bool)) → AllByRecursion (λ row. length row �
 or_rows_of rows two = (codes "a" ∷ codes "b" ∷ [], in_names_are (codes "a") (codes "b") (codes "y") or_rows true or_design (one_cover or_rows), two_each rows two)
 
 -- The design with the row 10 is 0 where the second input alone is 1, and the gate is not.
-not_and_not : IsShown (record or_ports { nets = [] }) and_not_design → ⊥
-not_and_not s =
+not_and_not : ShowsOr → IsShown (record or_ports { nets = [] }) and_not_design → ⊥
+not_and_not gate s =
     let rows : List (List Bool) = (false ∷ true ∷ []) ∷ [] in
     let are : AreInputRows and_not_design rows = (codes "a" ∷ codes "b" ∷ [], in_names_are (codes "a") (codes "b") (codes "y") (codes "10" ∷ []) true and_not_design (one_cover (codes "10" ∷ [])), two_each rows (refl, tt)) in
     let run = s.shows.runs rows are in
     let gives = (one_cover_computes (codes "a") (codes "b") (codes "y") (codes "10" ∷ []) true and_not_design (apart_by _ _ refl) (apart_by _ _ refl) (apart_by _ _ refl) (one_cover (codes "10" ∷ []))).gives rows run.0 run.1 0 false true refl in
-    let head = (output_head (due_of_streams 32 cells rows) (drives rows) 32).1 (0, refl, refl) in
+    let head = (gate.heads (due_of_streams 32 cells rows) (drives rows) 32).1 (0, refl, refl) in
     let seen = (s.shows.heads rows are run.0 run.1 0 _ refl 32 (omega arith)).0 head in
     no_cycle run.0 (ap (λ bits. get_or bits 0 false) gives) seen.0 seen.1 seen.3
   where
@@ -106,12 +105,12 @@ one_bit : (run : ℕ → Valuation) → IsRun or_design both run → output_bit 
 one_bit run is = ap (λ bits. get_or bits 0 false) (or_design_computes_or.gives both run is 0 true true refl)
 
 -- The gate is a head 32 generations after its inputs, so no latency that is no multiple of 32 is right.
-off_time : (l : ℕ) → ((t : ℕ) → l ≡ 32 + 32 * t → ⊥) → IsShown (record or_ports { l = l; nets = [] }) or_design → ⊥
-off_time l off s =
+off_time : ShowsOr → (l : ℕ) → ((t : ℕ) → l ≡ 32 + 32 * t → ⊥) → IsShown (record or_ports { l = l; nets = [] }) or_design → ⊥
+off_time gate l off s =
     let run = s.shows.runs both both_are in
     let shows = s.shows.heads both both_are run.0 run.1 0 _ refl l (omega arith) in
     let head = shows.1 (0, omega arith, omega arith, one_bit run.0 run.1) in
-    let found = (output_head (due_of_streams 32 cells both) (drives both) l).0 head in
+    let found = (gate.heads (due_of_streams 32 cells both) (drives both) l).0 head in
     off found.0 found.1
 
 -- A cell that is injected in one generation is a tail in the next.
@@ -137,13 +136,13 @@ never_head s =
     let e : Empty ≡ Head = sym dark ∙ head in
     cc
 
-pub refuses_others : RefusesOthers
-refuses_others =
+pub refuses_others : ShowsOr → RefusesOthers
+refuses_others gate =
     record {
       gate = refl;
-      other_rows = λ c. not_and_not (shown or_text_without_nets (record or_ports { nets = [] }) and_not_design refl refl c);
-      late = λ c. off_time 33 (λ t e. omega (arith, e)) (shown (gate_text (codes "#C BLIFWW 1 P 32 L 33\n") out_line) (record or_ports { l = 33; nets = [] }) or_design refl refl c);
-      early = λ c. off_time 31 (λ t e. omega (arith, e)) (shown (gate_text (codes "#C BLIFWW 1 P 32 L 31\n") out_line) (record or_ports { l = 31; nets = [] }) or_design refl refl c);
+      other_rows = λ c. not_and_not gate (shown or_text_without_nets (record or_ports { nets = [] }) and_not_design refl refl c);
+      late = λ c. off_time gate 33 (λ t e. omega (arith, e)) (shown (gate_text (codes "#C BLIFWW 1 P 32 L 33\n") out_line) (record or_ports { l = 33; nets = [] }) or_design refl refl c);
+      early = λ c. off_time gate 31 (λ t e. omega (arith, e)) (shown (gate_text (codes "#C BLIFWW 1 P 32 L 31\n") out_line) (record or_ports { l = 31; nets = [] }) or_design refl refl c);
       fast = λ c. tail_injected (shown (gate_text (codes "#C BLIFWW 1 P 1 L 32\n") out_line) (record or_ports { p = 1; nets = [] }) or_design refl refl c);
       other_name = λ c. not_z (shown (gate_text version_line (codes "#C BLIFWW OUT 32 8 z\n")) (record or_ports { outs = port_of 32 8 (codes "z") ∷ []; nets = [] }) or_design refl refl c);
       empty_cell = λ c. never_head (shown (gate_text version_line (codes "#C BLIFWW OUT 0 0 y\n")) (record or_ports { outs = port_of 0 0 (codes "y") ∷ []; nets = [] }) or_design refl refl c);

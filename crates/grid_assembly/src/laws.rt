@@ -1,6 +1,6 @@
-//! What the drawing of a plan does in time.
+//! What the drawing of a plan is, and what it does in time.
 ghost use Rattle.tiling.specs.Steps.{KeepsLaw};
-ghost use Rattle.grid_assembly.specs.Laws.{StepsByEdges};
+ghost use Rattle.grid_assembly.specs.Laws.{PatternsArePlanes, StepsByEdges};
 
 use tile_core::Library;
 use tile_library::Shipped;
@@ -18,3 +18,9 @@ pub fn steps_by_edges()
 {
     keeps_law(&Shipped);
 }
+
+/// Of every admissible plan: the rows of its drawing are a box of cells, and the plane of this box is the plan's plane at
+/// generation 0.
+pub fn patterns_are_planes()
+    ensures { PatternsArePlanes }
+{}

@@ -1,3 +1,5 @@
-pub mod Machine
-pub mod Generations
-pub mod GateBox
+pub mod Admissible
+pub mod Columns
+pub mod Edges
+pub mod Tile
+pub mod Shows

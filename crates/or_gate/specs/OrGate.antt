@@ -1,23 +1,34 @@
--- One OR gate: its drawing with the output cell, and what it shows where it is driven.
-use Rattle.std.specs.Prelude.{ℤ, pos, ℕ, zero, suc, ◌+◌, ◌*◌, ◌%◌, ◌≡◌, ◌↔◌, Bool, true, ◌||◌, ◌==◌, if◌then◌else◌, List, [], ◌∷◌, map, take}
+-- One OR gate: its plan, its drawing with the output cell, and what it shows where it is driven.
+use Rattle.std.specs.Prelude.{ℤ, pos, ℕ, zero, suc, ◌+◌, ◌*◌, ◌%◌, ◌≡◌, refl, ◌↔◌, Bool, true, false, ◌&&◌, ◌||◌, List, [], ◌∷◌}
 use Rattle.ww_rule.specs.declared.pattern.State.{State}
-use Rattle.ww_rule.specs.declared.pattern.State.TheVariants.{Empty, Head, Conductor}
+use Rattle.ww_rule.specs.declared.pattern.State.TheVariants.{Empty, Head, Tail, Conductor}
 use Rattle.ww_rule.specs.Wireworld.{Plane, Due, next_plane, driven}
 use Rattle.ww_rule.specs.Grid.{Grid, plane_of}
-use Rattle.tile_core.specs.Drawing.{Cell, is_among}
-use Rattle.tile_core.specs.declared.kind.Kind.TheVariants.{Or}
+use Rattle.tile_core.specs.Drawing.{Cell, Drawing, is_among}
+use Rattle.tile_core.specs.Interface.{is_in_box}
+use Rattle.tile_core.specs.declared.kind.Kind.TheVariants as kind
 use Rattle.tile_core.specs.Kinds.{interface}
 use Rattle.tile_core.specs.TimingLaw.{MeetsTimingLaw}
-use Rattle.tile_library.specs.Drawings.{drawn}
-use Rattle.or_gate.specs.declared.drawing.TheConstants.{OR_DRAWING}
+use Rattle.lane_core.specs.declared.instr.Instr.TheVariants.{Or}
+use Rattle.lane_core.specs.declared.plan.Plan.{Plan}
+use Rattle.grid_assembly.specs.PlanDrawing.{start_grid}
 
--- a cell as it is drawn: `C` is a conductor
-abbrev pub state_of : ℕ → State
-state_of byte = if byte == 67 then Conductor else Empty
+-- two lanes with an input each, one column with their OR, and the output on the upper lane
+abbrev pub or_plan : Plan
+or_plan =
+    record {
+      lanes = 2;
+      columns = record { instrs = Or 0 ∷ []; sorted_apart = refl } ∷ [];
+      latches = 0;
+      starts = [];
+      ins = 0 ∷ 1 ∷ [];
+      outs = 0 ∷ [];
+      nets = [];
+    }
 
 -- the gate's box of cells, and its plane
 abbrev pub or_grid : Grid
-or_grid = record { width = 33; height = 32; rows = map (map state_of) OR_DRAWING }
+or_grid = start_grid or_plan
 
 abbrev pub gate_plane : Plane
 gate_plane = plane_of or_grid.rows
@@ -43,10 +54,20 @@ abbrev pub before_injections : Due → ℕ → Plane
 before_injections due zero = gate_plane
 before_injections due (suc g) = next_plane (driven due gate_plane g)
 
+abbrev pub is_conductor : State → Bool
+is_conductor Empty = false
+is_conductor Head = false
+is_conductor Tail = false
+is_conductor Conductor = true
+
+-- the gate without the column of its output cell
+abbrev pub gate_tile : Drawing
+gate_tile x y = is_in_box (interface kind.Or) x y && is_conductor (gate_plane x y)
+
 -- each injection meets a conductor, and the output cell is a head exactly 32 generations after each generation at which an entry
 -- was made a head
 pub record ShowsOr : Type 0 where
   -- without the column of the output cell it is a tile that keeps the timing law of Or
-  pub is_tile : MeetsTimingLaw (interface Or) (drawn (map (take 32) OR_DRAWING))
+  pub is_tile : MeetsTimingLaw (interface kind.Or) gate_tile
   pub conductors : (due : Due) → DrivesEntries due → (g : ℕ) (x y : ℤ) → due g x y ≡ true → before_injections due g x y ≡ Conductor
   pub heads : (due : Due) → DrivesEntries due → (g : ℕ) → (driven due gate_plane g (pos 32) (pos 8) ≡ Head) ↔ ((t : ℕ) × (g ≡ 32 + 32 * t) × (is_lit due t ≡ true))

@@ -1,82 +1,57 @@
-// The drawing of an OR gate with its output cell, and its pattern.
-ghost use Rattle.std.specs.Prelude.{◌≡◌, map, IfOk};
+// The plan of an OR gate, and its pattern.
+ghost use Rattle.std.specs.Prelude.{◌≡◌, IfOk};
 ghost use Rattle.ww_rule.specs.Patterns.{grid_of};
-ghost use Rattle.or_gate.specs.OrGate.{state_of, or_grid};
+ghost use Rattle.lane_core.specs.Plans.{IsAdmissible};
+ghost use Rattle.grid_assembly.specs.PlanDrawing.{start_grid};
+ghost use Rattle.or_gate.specs.OrGate.{or_grid, or_plan};
 
+use grid_assembly::{fill_row, size};
+use lane_core::{Column, Instr, Plan};
 use lists::List;
 use std::alloc::{AllocError, Global};
 use ww_rule::{Pattern, State};
 
-/// An OR gate: two wires that meet behind their diodes, and go on as one. `C` is a conductor. The inputs enter at
-/// (0, 8) and (0, 24), and the output leaves at (32, 8).
-pub const OR_DRAWING: [[u8; 33]; 32] = [
-    *b".................................",
-    *b".................................",
-    *b".................................",
-    *b".................................",
-    *b".................................",
-    *b".................................",
-    *b".................................",
-    *b".................................",
-    *b"CCCCC..................CCCCCCCCCC",
-    *b".....C................C..........",
-    *b"......C..............C...........",
-    *b".......C............C............",
-    *b"........C..........C.............",
-    *b".........C.CC.....C..............",
-    *b"..........CC.C...C...............",
-    *b"...........CC.C.C................",
-    *b"...............C.................",
-    *b"...........CC.C..................",
-    *b"..........CC.C...................",
-    *b".........C.CC....................",
-    *b"........C........................",
-    *b".......C.........................",
-    *b"......C..........................",
-    *b".....C...........................",
-    *b"CCCCC..........................C.",
-    *b".................................",
-    *b".................................",
-    *b".................................",
-    *b".................................",
-    *b".................................",
-    *b".................................",
-    *b".................................",
-];
-
-// A cell as it is drawn.
-fn state_of(byte: u8) -> State
-    ensures { result ≡ state_of byte }
+// Two lanes with an input each, one column with their OR, and the output on the upper lane.
+fn or_plan(alloc: Global) -> Result<Plan, AllocError>
+    ensures { IfOk result (λ plan. plan ≡ or_plan) }
 {
-    if byte == b'C' {
-        State::Conductor
-    } else {
-        State::Empty
-    }
+    let or = Column {
+        instrs: List::of(vec![in alloc; Instr::Or(0)]?),
+    };
+    Ok(Plan {
+        lanes: 2,
+        columns: List::of(vec![in alloc; or]?),
+        latches: 0,
+        starts: List::of(Vec::new(alloc)),
+        ins: List::of(vec![in alloc; 0, 1]?),
+        outs: List::of(vec![in alloc; 0]?),
+        nets: List::of(Vec::new(alloc)),
+    })
 }
 
-// A row as it is drawn.
-fn row_of(alloc: Global, drawn: &[u8]) -> Result<List<State>, AllocError>
-    ensures { IfOk result (λ row. row ≡ map state_of drawn.now) }
+// The pattern of a plan, row by row.
+fn pattern_of(alloc: Global, plan: &Plan) -> Result<Pattern, AllocError>
+    requires { IsAdmissible plan.now }
+    ensures { IfOk result (λ pattern. grid_of pattern ≡ start_grid plan.now) }
 {
-    let mut row = Vec::with_capacity(alloc, drawn.len())?;
-    for byte in drawn {
-        row.push(state_of(*byte))?;
+    let (width, height) = size(plan);
+    let mut rows = Vec::with_capacity(alloc, height as usize)?;
+    for y in 0..height {
+        let mut row = vec![in alloc; State::Empty; width as usize]?;
+        fill_row(plan, y, 0, &mut row);
+        rows.push(List::of(row))?;
     }
-    Ok(List::of(row))
+    Ok(Pattern {
+        width,
+        height,
+        rows: List::of(rows),
+    })
 }
 
 /// The pattern of an OR gate.
 pub fn or_pattern(alloc: Global) -> Result<Pattern, AllocError>
     ensures { IfOk result (λ pattern. grid_of pattern ≡ or_grid) }
 {
-    let mut rows = Vec::with_capacity(alloc, 32)?;
-    for drawn in &OR_DRAWING {
-        rows.push(row_of(alloc, drawn)?)?;
-    }
-    Ok(Pattern {
-        width: 33,
-        height: 32,
-        rows: List::of(rows),
-    })
+    let plan = or_plan(alloc)?;
+    pattern_of(alloc, &plan)
 }

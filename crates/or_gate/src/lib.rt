@@ -1,4 +1,4 @@
-//! One OR gate: its drawing with an output cell, and what the plane of this drawing shows at every generation.
+//! One OR gate: its plan, its drawing with an output cell, and what the plane of this drawing shows at every generation.
 #![tactic(auto)]
 
 mod drawing;
@@ -7,10 +7,19 @@ mod tests;
 
 ghost use Rattle.or_gate.specs.OrGate.{ShowsOr};
 
-pub use drawing::{OR_DRAWING, or_pattern};
+pub use drawing::or_pattern;
+use grid_assembly::laws::{keeps_law, patterns_are_planes};
+use macro_grid::plans_are_driven;
+use tile_library::Shipped;
+use tiling::shows_edges;
 
 /// Where heads are injected at the gate's entries alone, at multiples of 32 generations: each injection meets a
 /// conductor, and the output cell is a head exactly 32 generations after each generation at which an entry was made one.
 pub fn shows_or()
     ensures { ShowsOr }
-{}
+{
+    keeps_law(&Shipped);
+    patterns_are_planes();
+    plans_are_driven();
+    shows_edges();
+}

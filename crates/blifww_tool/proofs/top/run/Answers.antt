@@ -5,7 +5,7 @@ use Rattle.blifww_tool.proofs.Simulated.{cut_told, cut_untold}
 use Rattle.blifww_tool.proofs.top.run.Goals as goal
 
 pub returns-in-Ok-clause-headline : goal.returns-in-Ok-clause-headline
-returns-in-Ok-clause-headline g c = λ e asks. headline_of _ _ _ c.in-Ok.ensures.done asks
+returns-in-Ok-clause-headline g c = λ e asks. headline_of c.shows_or.ensures _ _ _ c.in-Ok.ensures.done asks
 
 pub returns-in-Ok-tell-clause-cut : goal.returns-in-Ok-tell-clause-cut
 returns-in-Ok-tell-clause-cut g c =

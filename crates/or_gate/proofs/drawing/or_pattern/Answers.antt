@@ -1,16 +1,7 @@
-use Rattle.std.proofs.Common.{rules, map, take, ap, ◌∙◌, ◌≡◌, [], subst, sym, take_all}
-use Rattle.std.proofs.lemmas.List.{map_more}
-use Rattle.ww_rule.specs.Grid.{IsGrid}
-use Rattle.or_gate.specs.OrGate.{state_of, or_grid}
-use Rattle.or_gate.specs.declared.drawing.TheConstants.{OR_DRAWING}
-use Rattle.or_gate.proofs.GateBox.{or_is_grid}
+use Rattle.std.proofs.Common.{◌≡◌, subst, IfOk}
+use Rattle.ww_rule.specs.Patterns.{grid_of}
+use Rattle.grid_assembly.specs.PlanDrawing.{start_grid}
 use Rattle.or_gate.proofs.drawing.or_pattern.Goals as goal
 
-pub loop-drawn-preserved : goal.loop-drawn-preserved
-loop-drawn-preserved c = rw (map_more (map state_of) OR_DRAWING c.loop-drawn.drawn-index [] (search rules)) (search rules)
-
-pub invariant_of-result : goal.invariant_of-result
-invariant_of-result c =
-    let whole : take c.loop-drawn.drawn-index OR_DRAWING ≡ OR_DRAWING = take_all c.loop-drawn.drawn-index OR_DRAWING (search rules) in
-    let rows : c.of.result ≡ or_grid.rows = c.of.ensures ∙ c.loop-drawn.invariant ∙ ap (map (map state_of)) whole in
-    record { in_rows = subst (IsGrid 33 32) (sym rows) or_is_grid }
+pub returns : goal.returns
+returns c = subst (λ plan. IfOk c.pattern_of.result (λ pattern. grid_of pattern ≡ start_grid plan)) c.in_ok-plan.ensures c.pattern_of.ensures

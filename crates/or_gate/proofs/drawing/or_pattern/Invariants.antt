@@ -1,7 +1,0 @@
-use Rattle.std.proofs.Common.{◌≡◌, map, take}
-use Rattle.or_gate.specs.OrGate.{state_of}
-use Rattle.or_gate.specs.declared.drawing.TheConstants.{OR_DRAWING}
-use Rattle.or_gate.proofs.drawing.or_pattern.Given as goal
-
-abbrev pub invariant-loop-drawn : goal.invariant-loop-drawn
-invariant-loop-drawn l = l.rows.items ≡ map (map state_of) (take l.drawn-index OR_DRAWING)
