@@ -8,6 +8,7 @@ use Rattle.ww_rule.specs.Wireworld.{Plane, driven}
 use Rattle.ww_rule.specs.Injections.{injections_from, due_of_streams}
 use Rattle.pattern_reading.specs.declared.ports.Ports.{Ports}
 use Rattle.pattern_reading.specs.declared.ports.PortLine.{PortLine}
+use Rattle.pattern_reading.specs.Ports.{cells_of}
 use Rattle.drive.specs.declared.streams.Streams.{Streams}
 use Rattle.drive.specs.declared.error.SimulateError.{SimulateError}
 use Rattle.drive.specs.declared.error.SimulateError.TheVariants.{NoMemory, TooFar}
@@ -16,10 +17,6 @@ use Rattle.drive.specs.declared.error.SimulateError.TheVariants.{NoMemory, TooFa
 pub record AreFor (ports : Ports) (streams : Streams) : Type 0 where
   pub many : length streams.bits ≡ length ports.ins
   pub long : All (λ bits. length bits ≡ streams.cycles) streams.bits
-
--- the cells of port lines
-abbrev pub cells_of : List PortLine → List (ℕ × ℕ)
-cells_of lines = map (λ line. (line.x, line.y)) lines
 
 -- the bit at a place of each list
 abbrev pub column_of : List (List Bool) → ℕ → List Bool

@@ -1,7 +1,8 @@
 // The run of a pattern under streams, by the plain step.
 ghost use Rattle.std.specs.Prelude.{◌≡◌, ◌<◌, ◌≤◌, pos, IfOk, IfErr, OnOk};
 ghost use Rattle.ww_rule.specs.Grid.{AreInBox, plane_of};
-ghost use Rattle.drive.specs.Driving.{AreFor, cells_of, is_head, shown_row, shown_rows, shown_bits, greatest_generation, last_generation, HasCause};
+ghost use Rattle.pattern_reading.specs.Ports.{cells_of};
+ghost use Rattle.drive.specs.Driving.{AreFor, is_head, shown_row, shown_rows, shown_bits, greatest_generation, last_generation, HasCause};
 
 use crate::columns::columns_of;
 use crate::driving::injections;

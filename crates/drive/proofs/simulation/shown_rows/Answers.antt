@@ -4,7 +4,8 @@ use Rattle.std.proofs.lemmas.List.FromFn.{map-range_with_len_more}
 use Rattle.ww_rule.specs.declared.pattern.Injection.{Injection}
 use Rattle.ww_rule.specs.Wireworld.{Plane}
 use Rattle.ww_rule.specs.Grid.{plane_of}
-use Rattle.drive.specs.Driving.{AreInside, cells_of, rows_of, driven_by, shown_row}
+use Rattle.pattern_reading.specs.Ports.{cells_of}
+use Rattle.drive.specs.Driving.{AreInside, rows_of, driven_by, shown_row}
 use Rattle.drive.specs.Runs.{AreInOrderFrom, IsRunOf}
 use Rattle.drive.proofs.Inside.{rows_inside}
 use Rattle.drive.proofs.Left.{rows_in_order}
