@@ -8,5 +8,4 @@ pub mod Headline
 pub mod OutputLines
 pub mod Refused
 pub mod Judged
-pub mod CycleCounts
 pub mod Simulated

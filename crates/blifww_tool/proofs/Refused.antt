@@ -16,7 +16,8 @@ use Rattle.port_table.specs.declared.faults.PortFault.{PortFault}
 use Rattle.drive.specs.declared.error.StreamFault.{StreamFault}
 use Rattle.drive.specs.Streams.{HasStreamFault}
 use Rattle.drive.specs.Driving.{last_generation, greatest_generation}
-use Rattle.blifww_tool.specs.Simulation.{Simulation, IsSimulation, names_of}
+use Rattle.pattern_reading.specs.Ports.{names_of}
+use Rattle.blifww_tool.specs.Simulation.{Simulation, IsSimulation}
 use Rattle.blifww_tool.specs.Run.{IsRefused}
 use Rattle.blifww_tool.specs.declared.refusals.Refusal.{Refusal}
 use Rattle.blifww_tool.specs.declared.refusals.Refusal.TheVariants.{Usage, TooLong, ReadFault, WriteFault, NoMemory, NotYet, Pattern, GridTooLarge, PortTable, Streams, TooFar}

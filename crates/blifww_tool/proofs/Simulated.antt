@@ -10,7 +10,8 @@ use Rattle.pattern_reading.specs.Laws.{IsPortInside}
 use Rattle.pattern_reading.proofs.PortsInside.{ports_inside}
 use Rattle.drive.specs.declared.error.SimulateError.{SimulateError}
 use Rattle.drive.specs.declared.error.SimulateError.TheVariants as simulating
-use Rattle.drive.specs.Driving.{HasCause, cells_of, last_generation, greatest_generation}
+use Rattle.pattern_reading.specs.Ports.{cells_of}
+use Rattle.drive.specs.Driving.{HasCause, last_generation, greatest_generation}
 use Rattle.command_words.specs.Shapes.{simulate, IsCommand}
 use Rattle.command_words.specs.declared.errors.WordsError.{WordsError}
 use Rattle.command_words.specs.declared.errors.WordsError.TheVariants as words_error

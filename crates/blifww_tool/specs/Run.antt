@@ -12,7 +12,8 @@ use Rattle.drive.specs.Driving.{last_generation, greatest_generation}
 use Rattle.command_words.specs.Shapes.{CommandValues, compile, simulate, command_values, IsCommand}
 use Rattle.blifww_tool.specs.Thin.{Names, IsThin}
 use Rattle.blifww_tool.specs.Drawing.{or_text}
-use Rattle.blifww_tool.specs.Simulation.{Simulation, IsSimulation, names_of, simulation_text}
+use Rattle.pattern_reading.specs.Ports.{names_of}
+use Rattle.blifww_tool.specs.Simulation.{Simulation, IsSimulation, simulation_text}
 use Rattle.blifww_tool.specs.Refusals.{line_of}
 use Rattle.blifww_tool.specs.declared.refusals.Refusal.{Refusal}
 use Rattle.blifww_tool.specs.declared.refusals.Refusal.TheVariants.{Usage, TooLong, ReadFault, WriteFault, NoMemory, NotYet, Pattern, GridTooLarge, PortTable, Streams, TooFar}

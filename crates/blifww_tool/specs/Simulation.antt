@@ -6,6 +6,7 @@ use Rattle.ww_rule.specs.Wireworld.{Plane}
 use Rattle.ww_rule.specs.Grid.{Grid, plane_of}
 use Rattle.pattern_reading.specs.declared.ports.PortLine.{PortLine}
 use Rattle.pattern_reading.specs.declared.ports.Ports.{Ports}
+use Rattle.pattern_reading.specs.Ports.{names_of}
 use Rattle.pattern_reading.specs.Pattern.{ReadsWithinLimit}
 use Rattle.pattern_reading.specs.PortTable.{ReadsAsPorts}
 use Rattle.drive.specs.declared.streams.Streams.{Streams}
@@ -17,10 +18,6 @@ pub record Simulation : Type 0 where
   pub grid : Grid
   pub ports : Ports
   pub streams : Streams
-
--- the names of ports
-abbrev pub names_of : List PortLine → List (List ℕ)
-names_of ports = map (λ port. port.name) ports
 
 -- a bit as a digit
 abbrev pub bit_digit : Bool → ℕ

@@ -2,7 +2,8 @@
 ghost use Rattle.std.specs.Prelude.{◌≡◌, ◌≢◌, ◌≤◌, ◌<◌, ◌⊎◌, ℕ, List, ◌++◌, length, take, map, flat_map, zip, string_bytes, IfOk, IfErr, OnOk, IsErrOf};
 ghost use Rattle.drive.specs.Driving.{last_generation, greatest_generation};
 ghost use Rattle.command_words.specs.Shapes.{simulate};
-ghost use Rattle.blifww_tool.specs.Simulation.{Simulation, IsSimulation, names_of, bit_digit, bits_line, simulation_text};
+ghost use Rattle.pattern_reading.specs.Ports.{names_of};
+ghost use Rattle.blifww_tool.specs.Simulation.{Simulation, IsSimulation, bit_digit, bits_line, simulation_text};
 ghost use Rattle.blifww_tool.specs.Run.{Asks, reading, writing, Gave, GainedNothing, WriteFailed, IsRefused, HasReason, Simulates};
 
 use crate::refusals::Refusal;

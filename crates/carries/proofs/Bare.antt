@@ -17,7 +17,8 @@ use Rattle.pattern_reading.specs.Examples.{empty_text, empty_ports}
 use Rattle.pattern_reading.specs.PortTable.{ports_of, forms_of}
 use Rattle.pattern_reading.proofs.RleExamples.{headers_as_said}
 use Rattle.pattern_reading.proofs.PortExamples.{ports_as_said}
-use Rattle.carries.specs.Carries.{names_of, drive, MeetsConductors, ShowsRuns}
+use Rattle.pattern_reading.specs.Ports.{names_of}
+use Rattle.carries.specs.Carries.{drive, MeetsConductors, ShowsRuns}
 use Rattle.carries.specs.Laws.{bare_model, bare_design, BareIsCarried, GateIsNotBare}
 
 flat : IsFlat bare_design bare_model

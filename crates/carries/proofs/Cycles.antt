@@ -7,7 +7,8 @@ use Rattle.ww_rule.specs.Grid.{plane_of}
 use Rattle.ww_rule.proofs.Lists.{streams_go_on}
 use Rattle.netlist_meaning.specs.Valuation.{output_bit}
 use Rattle.netlist_meaning.proofs.Joined.{in_names_are_one}
-use Rattle.carries.specs.Carries.{ShowsBits, cells_of, names_of}
+use Rattle.pattern_reading.specs.Ports.{cells_of, names_of}
+use Rattle.carries.specs.Carries.{ShowsBits}
 use Rattle.carries.specs.Shown.{CarriesCycles, CarriesOnward, CarriesEachFront, RowsFitPorts}
 use Rattle.carries.proofs.Period.{has_period}
 

@@ -1,25 +1,19 @@
 -- What it means that a text carries a design: the pattern that it spells, driven at its input cells, shows the runs of the
 -- design at its output cells, at every generation.
-use Rattle.std.specs.Prelude.{ℤ, pos, ℕ, zero, suc, ◌+◌, ◌*◌, ◌<◌, ◌≡◌, ◌↔◌, List, map, length, Bool, true, Some, slice_get}
+use Rattle.std.specs.Prelude.{ℤ, pos, ℕ, zero, suc, ◌+◌, ◌*◌, ◌<◌, ◌≡◌, ◌↔◌, List, length, Bool, true, Some, slice_get}
 use Rattle.ww_rule.specs.declared.pattern.State.TheVariants.{Head, Conductor}
 use Rattle.ww_rule.specs.Wireworld.{Plane, Due, next_plane, driven}
 use Rattle.ww_rule.specs.Grid.{Grid, plane_of}
 use Rattle.ww_rule.specs.Injections.{due_of_streams}
 use Rattle.pattern_reading.specs.declared.ports.Ports.{Ports}
 use Rattle.pattern_reading.specs.declared.ports.PortLine.{PortLine}
+use Rattle.pattern_reading.specs.Ports.{cells_of, names_of}
 use Rattle.pattern_reading.specs.Pattern.{ReadsAsPattern}
 use Rattle.pattern_reading.specs.PortTable.{ReadsAsPorts}
 use Rattle.netlist_core.specs.declared.model.Design.{Design}
-use Rattle.netlist_meaning.specs.Places.{Name, main_outputs}
+use Rattle.netlist_meaning.specs.Places.{main_outputs}
 use Rattle.netlist_meaning.specs.Nets.{IsInNames}
 use Rattle.netlist_meaning.specs.Valuation.{Valuation, AreInputRows, IsRun, output_bit}
-
--- the names of port lines, and their cells
-abbrev pub names_of : List PortLine → List Name
-names_of lines = map (λ line. line.name) lines
-
-abbrev pub cells_of : List PortLine → List (ℕ × ℕ)
-cells_of lines = map (λ line. (line.x, line.y)) lines
 
 -- the table names the main inputs but the control, and the main outputs, each in order
 pub record NamesPorts (ports : Ports) (design : Design) : Type 0 where

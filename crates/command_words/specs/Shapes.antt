@@ -1,5 +1,5 @@
 -- Which lists of words are a command, and what they ask for.
-use Rattle.std.specs.Prelude.{◌≡◌, ℕ, Bool, true, List, [], ◌∷◌, map, Option, Some, None, IfSome, is_some, option_map, option_and_then, unwrap_or, codes, string_bytes, if◌then◌else◌, false, not, ◌==◌}
+use Rattle.std.specs.Prelude.{◌≡◌, ◌≤◌, ℕ, Bool, true, List, [], ◌∷◌, map, Option, Some, None, IfSome, is_some, option_map, option_and_then, unwrap_or, codes, string_bytes, if◌then◌else◌, false, not, ◌==◌}
 use Rattle.std.specs.List.{list_all}
 use Rattle.std.specs.Str.{bytes_eq}
 use Rattle.clap.specs.Walk.{Row, Text, all_of, first_of}
@@ -18,6 +18,11 @@ pub data CommandValues : Type 0 where
 abbrev pub values_of : Command → CommandValues
 values_of Compile = compile
 values_of (Simulate cycles streams) = simulate cycles (map string_bytes streams)
+
+-- a simulation has from 1 to 1,048,576 cycles
+abbrev pub HasCyclesInRange : CommandValues → Type 0
+HasCyclesInRange compile = Unit {0}
+HasCyclesInRange (simulate cycles streams) = (1 ≤ cycles) × (cycles ≤ 1048576)
 
 -- the number of cycles that a text writes, from 1 to 1,048,576
 abbrev pub cycle_count : Text → Option ℕ

@@ -4,7 +4,7 @@ ghost use Rattle.clap.specs.Simple.{subcommand_rows_of};
 ghost use Rattle.clap.specs.Lexer.{usize_max};
 ghost use Rattle.clap.specs.Walk.{rows_of};
 ghost use Rattle.clap.specs.Words.{found_of};
-ghost use Rattle.command_words.specs.Shapes.{CommandValues, IsCommand, IsWritten, command_values, simulate_by, values_met, values_of};
+ghost use Rattle.command_words.specs.Shapes.{CommandValues, HasCyclesInRange, IsCommand, IsWritten, command_values, simulate_by, values_met, values_of};
 
 use crate::WordsError;
 use crate::app::blifww_command;
@@ -42,6 +42,7 @@ fn owned(alloc: Global, texts: &[&str]) -> Result<List<String>, AllocError>
 fn simulate_in(alloc: Global, found: &ArgMatches<'_>) -> Result<Command, WordsError>
     ensures ok { IfOk result (λ c. simulate_by (rows_of (found_of found.now)) ≡ Some (values_of c)) }
     ensures usage { IsErrOf result WordsError.Usage → simulate_by (rows_of (found_of found.now)) ≡ None }
+    ensures cycles { IfOk result (λ c. HasCyclesInRange (values_of c)) }
 {
     let number = found.get_str("cycles").ok_or(WordsError::Usage)?;
     let cycles = number_between(number, 1, MOST_CYCLES).ok_or(WordsError::Usage)?;
@@ -56,6 +57,7 @@ fn simulate_in(alloc: Global, found: &ArgMatches<'_>) -> Result<Command, WordsEr
 fn command_in(alloc: Global, found: &ArgMatches<'_>) -> Result<Command, WordsError>
     ensures ok { IfOk result (λ c. values_met (subcommand_rows_of found.now) ≡ Some (values_of c)) }
     ensures usage { IsErrOf result WordsError.Usage → values_met (subcommand_rows_of found.now) ≡ None }
+    ensures cycles { IfOk result (λ c. HasCyclesInRange (values_of c)) }
 {
     match found.subcommand() {
         Some(("compile", _)) => Ok(Command::Compile),
@@ -76,6 +78,7 @@ fn length_fits(words: &[String])
 /// `Usage` comes only where the words are no command, and each other answer but `NoMemory` only where they have its values.
 pub fn command_of(alloc: Global, words: &[String]) -> Result<Command, WordsError>
     ensures ok { IfOk result (λ c. command_values (map string_bytes words.now) ≡ Some (values_of c)) }
+    ensures cycles { IfOk result (λ c. HasCyclesInRange (values_of c)) }
     ensures usage { IsErrOf result WordsError.Usage → IsCommand (map string_bytes words.now) → ⊥ }
     ensures written { (v : CommandValues) → IsWritten v (map string_bytes words.now) → MatchResult result (λ c. values_of c ≡ v) (λ e. e ≡ WordsError.NoMemory) }
 {

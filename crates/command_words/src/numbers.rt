@@ -1,5 +1,5 @@
 // Numbers among the words.
-ghost use Rattle.std.specs.Prelude.{◌≡◌};
+ghost use Rattle.std.specs.Prelude.{◌≡◌, ◌≤◌, IfSome};
 ghost use Rattle.std.specs.List.{list_all};
 ghost use Rattle.std.specs.Char.{is_ascii_digit};
 ghost use Rattle.command_words.specs.Numbers.{number_between};
@@ -13,7 +13,8 @@ fn has_only_digits(text: &str) -> bool
 
 /// The number that the text writes in decimal digits, without a sign, if it lies between the bounds.
 pub fn number_between(text: &str, least: u64, most: u64) -> Option<u64>
-    ensures { result ≡ number_between least most text.now }
+    ensures value { result ≡ number_between least most text.now }
+    ensures bounds { IfSome result (λ number. (least ≤ number) × (number ≤ most)) }
 {
     if !has_only_digits(text) {
         return None;

@@ -1,16 +1,25 @@
 -- Injections inside a box.
-use Rattle.std.proofs.Common.{ℕ, ◌<◌, ◌+◌, ◌==◌, Bool, true, false, List, [], ◌∷◌, filter}
-use Rattle.std.proofs.lemmas.List.Elements.{All-nil, All-cons, All-head, All-tail, All-append, All-map, All-filter}
+use Rattle.std.proofs.Common.{ℕ, ◌≡◌, ◌<◌, ◌+◌, sym, subst, Bool, true, false, List, [], ◌∷◌, map, take, drop, All}
+use Rattle.std.proofs.lemmas.List.Elements.{All-nil, All-cons, All-head, All-tail, All-append, All-map, All-take, All-drop}
 use Rattle.ww_rule.specs.declared.pattern.Injection.{Injection}
 use Rattle.ww_rule.specs.Grid.{AreInBox}
-use Rattle.ww_rule.specs.Injections.{cells_at, injections_of_row, injections_from}
+use Rattle.ww_rule.specs.Injections.{injections_of_row, injections_from}
 use Rattle.drive.specs.Driving.{AreInside}
 
--- the cells of any generation are inside
-pub cells_inside : (width height g : ℕ) (injections : List Injection) → AreInside width height injections → AreInBox width height (cells_at g injections)
-cells_inside width height g injections inside =
-    All-map (λ (cell : ℕ × ℕ). (cell.0 < width) × (cell.1 < height)) (λ (i : Injection). (i.x, i.y)) (filter (λ (i : Injection). i.generation == g) injections)
-    (All-filter (λ (i : Injection). i.generation == g) (λ (i : Injection). (i.x < width) × (i.y < height)) injections inside)
+-- the first of injections have cells inside
+pub due_inside : (width height k : ℕ) (injections due : List Injection) → due ≡ take k injections → AreInside width height injections → AreInBox width height (map (λ i. (i.x, i.y)) due)
+due_inside width height k injections due front inside =
+    let Fits : Injection → Type 0 = λ i. (i.x < width) × (i.y < height) in
+    All-map (λ (cell : ℕ × ℕ). (cell.0 < width) × (cell.1 < height)) (λ (i : Injection). (i.x, i.y)) due
+    (subst (All Fits) (sym front) (All-take Fits k injections inside))
+
+-- and the others are inside a box of the same size
+pub left_inside : (width height k w h : ℕ) (injections left : List Injection) → w ≡ width → h ≡ height → left ≡ drop k injections → AreInside width height injections → AreInside w h left
+left_inside width height k w h injections left wide high back inside =
+    let Fits : Injection → Type 0 = λ i. (i.x < width) × (i.y < height) in
+    subst (λ (w : ℕ). AreInside w h left) (sym wide)
+    (subst (λ (h : ℕ). AreInside width h left) (sym high)
+    (subst (All Fits) (sym back) (All-drop Fits k injections inside)))
 
 row_inside : (width height g : ℕ) (cells : List (ℕ × ℕ)) (bits : List Bool) → AreInBox width height cells → AreInside width height (injections_of_row g cells bits)
 row_inside width height g [] bits inside = All-nil (λ (i : Injection). (i.x < width) × (i.y < height))

@@ -2,7 +2,7 @@
 use Rattle.std.proofs.Common.{ℕ, ◌≡◌, ◌<◌, ◌+◌, ◌*◌, sym, ap, ◌∙◌, Bool, cond, List, [], ◌∷◌, ◌++◌, length, take, get_or, arith}
 use Rattle.std.proofs.lemmas.List.{append_assoc, append-nil, length-map, get_or-map, take_more, length-take-le}
 use Rattle.pattern_reading.specs.declared.ports.PortLine.{PortLine}
-use Rattle.drive.specs.Driving.{cells_of}
+use Rattle.pattern_reading.specs.Ports.{cells_of}
 use Rattle.ww_rule.specs.Injections.{injections_of_row, injections_from}
 
 -- one more input, with its bit

@@ -4,10 +4,11 @@ use Rattle.std.specs.List.{range_with_len}
 use Rattle.ww_rule.specs.declared.pattern.State.{State}
 use Rattle.ww_rule.specs.declared.pattern.State.TheVariants.{Head}
 use Rattle.ww_rule.specs.declared.pattern.Injection.{Injection}
-use Rattle.ww_rule.specs.Wireworld.{Plane, Due, driven}
+use Rattle.ww_rule.specs.Wireworld.{Plane, driven}
 use Rattle.ww_rule.specs.Injections.{injections_from, due_of_streams}
 use Rattle.pattern_reading.specs.declared.ports.Ports.{Ports}
 use Rattle.pattern_reading.specs.declared.ports.PortLine.{PortLine}
+use Rattle.pattern_reading.specs.Ports.{cells_of}
 use Rattle.drive.specs.declared.streams.Streams.{Streams}
 use Rattle.drive.specs.declared.error.SimulateError.{SimulateError}
 use Rattle.drive.specs.declared.error.SimulateError.TheVariants.{NoMemory, TooFar}
@@ -16,10 +17,6 @@ use Rattle.drive.specs.declared.error.SimulateError.TheVariants.{NoMemory, TooFa
 pub record AreFor (ports : Ports) (streams : Streams) : Type 0 where
   pub many : length streams.bits ≡ length ports.ins
   pub long : All (λ bits. length bits ≡ streams.cycles) streams.bits
-
--- the cells of port lines
-abbrev pub cells_of : List PortLine → List (ℕ × ℕ)
-cells_of lines = map (λ line. (line.x, line.y)) lines
 
 -- the bit at a place of each list
 abbrev pub column_of : List (List Bool) → ℕ → List Bool
@@ -41,10 +38,6 @@ injections_of ports streams = injections_from 0 ports.p (cells_of ports.ins) (ro
 -- injections at cells of a box
 abbrev pub AreInside : (width height : ℕ) → List Injection → Type 0
 AreInside width height injections = All (λ i. (i.x < width) × (i.y < height)) injections
-
--- a driven plane at one generation, and what it has become at another, whatever the start was
-abbrev pub LeadsTo : Due → (from to : ℕ) → Plane → Plane → Type 0
-LeadsTo due from to plane later = (start : Plane) → plane ≡ driven due start from → later ≡ driven due start to
 
 -- the pattern's planes, where those injections drive it
 abbrev pub driven_by : Ports → Streams → Plane → ℕ → Plane

@@ -1,7 +1,8 @@
 // The injections that streams say.
 ghost use Rattle.std.specs.Prelude.{◌≡◌, ◌++◌, length, IfOk, OnOk};
 ghost use Rattle.ww_rule.specs.Injections.{injections_of_row};
-ghost use Rattle.drive.specs.Driving.{AreFor, cells_of, injections_of};
+ghost use Rattle.pattern_reading.specs.Ports.{cells_of};
+ghost use Rattle.drive.specs.Driving.{AreFor, injections_of};
 
 use crate::columns::column_of;
 use crate::error::DriveError;

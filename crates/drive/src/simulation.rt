@@ -1,18 +1,18 @@
 // The run of a pattern under streams, by the plain step.
 ghost use Rattle.std.specs.Prelude.{◌≡◌, ◌<◌, ◌≤◌, pos, IfOk, IfErr, OnOk};
-ghost use Rattle.ww_rule.specs.Wireworld.{driven};
 ghost use Rattle.ww_rule.specs.Grid.{AreInBox, plane_of};
-ghost use Rattle.ww_rule.specs.Injections.{cells_at, due_of_list};
-ghost use Rattle.drive.specs.Driving.{AreFor, cells_of, AreInside, LeadsTo, is_head, shown_row, shown_rows, shown_bits, greatest_generation, last_generation, HasCause};
+ghost use Rattle.pattern_reading.specs.Ports.{cells_of};
+ghost use Rattle.drive.specs.Driving.{AreFor, is_head, shown_row, shown_rows, shown_bits, greatest_generation, last_generation, HasCause};
 
 use crate::columns::columns_of;
 use crate::driving::injections;
 use crate::error::{DriveError, SimulateError};
+use crate::run::{Run, advance};
 use crate::streams::Streams;
 use lists::List;
 use pattern_reading::{PortLine, Ports};
 use std::alloc::{AllocError, Global};
-use ww_rule::{Injection, Pattern, Plane, State, step_driven};
+use ww_rule::{Pattern, Plane, State};
 
 // The most generations that a run may need.
 const GREATEST_GENERATION: u128 = 4_294_967_296;
@@ -36,64 +36,6 @@ fn shown_row(alloc: Global, plane: &Plane, outs: &[PortLine]) -> Result<Vec<bool
         .collect(alloc)
 }
 
-// The cells that are due at a generation.
-fn cells_at(
-    alloc: Global,
-    generation: u128,
-    injections: &[Injection],
-) -> Result<Vec<(u64, u64)>, AllocError>
-    ensures { IfOk result (λ cells. cells.items ≡ cells_at generation injections.now) }
-{
-    injections
-        .iter()
-        .filter(|injection| injection.generation == generation)
-        .map(|injection| (injection.x, injection.y))
-        .collect(alloc)
-}
-
-// A driven plane at a later generation: a start's plane at one generation gives that start's plane at the other.
-fn advance(
-    alloc: Global,
-    plane: Plane,
-    injections: &[Injection],
-    from: u64,
-    to: u64,
-) -> Result<Plane, DriveError>
-    requires in_box { AreInside plane.width plane.height injections.now }
-    requires order { from ≤ to }
-    ensures width { IfOk result (λ later. later.width ≡ plane.width) }
-    ensures height { IfOk result (λ later. later.height ≡ plane.height) }
-    ensures cells { IfOk result (λ later. LeadsTo (due_of_list injections.now) from to (plane_of plane.rows) (plane_of later.rows)) }
-{
-    let mut plane = plane;
-    for generation in from..to {
-        let cells = cells_at(alloc, generation as u128 + 1, injections)?;
-        plane = step_driven(alloc, &plane, &cells)?;
-    }
-    Ok(plane)
-}
-
-// The plane of a pattern, with the injections of generation 0.
-fn begun(alloc: Global, pattern: Pattern, injections: &[Injection]) -> Result<Plane, DriveError>
-    requires { AreInside pattern.width pattern.height injections.now }
-    ensures width { IfOk result (λ plane. plane.width ≡ pattern.width) }
-    ensures height { IfOk result (λ plane. plane.height ≡ pattern.height) }
-    ensures cells { IfOk result (λ plane. plane_of plane.rows ≡ driven (due_of_list injections.now) (plane_of pattern.rows) 0) }
-{
-    let Pattern {
-        width,
-        height,
-        rows,
-    } = pattern;
-    let cells = cells_at(alloc, 0, injections)?;
-    let plane = Plane {
-        width,
-        height,
-        rows,
-    };
-    Ok(plane.inject(alloc, &cells))
-}
-
 // The bits that the outputs show, one row for each cycle.
 fn shown_rows(
     alloc: Global,
@@ -107,14 +49,11 @@ fn shown_rows(
     ensures { IfOk result (λ rows. rows.items ≡ shown_rows ports.now streams.now (plane_of pattern.rows)) }
 {
     let due = injections(alloc, ports, streams)?;
-    let mut plane = begun(alloc, pattern, &due)?;
-    let mut generation = 0;
+    let mut run = Run::begin(alloc, pattern, &due)?;
     let mut rows = Vec::new(alloc);
     for cycle in 0..streams.cycles {
-        let shown_at = ports.l + cycle as u64 * ports.p;
-        plane = advance(alloc, plane, &due, generation, shown_at)?;
-        generation = shown_at;
-        rows.push(List::of(shown_row(alloc, &plane, ports.outs.as_slice())?))?;
+        run = advance(alloc, run, ports.l + cycle as u64 * ports.p)?;
+        rows.push(List::of(shown_row(alloc, &run.plane, ports.outs.as_slice())?))?;
     }
     Ok(rows)
 }

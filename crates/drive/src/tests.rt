@@ -1,6 +1,6 @@
 // Streams from words, and patterns that streams drive.
 ghost use Rattle.std.specs.Prelude.{◌≡◌, [], ◌∷◌, All, length, IfOk};
-ghost use Rattle.drive.specs.Driving.{cells_of};
+ghost use Rattle.pattern_reading.specs.Ports.{cells_of};
 
 use crate::{SimulateError, StreamError, StreamFaultKind, Streams, simulate};
 use lists::{Bytes, List};

@@ -3,6 +3,7 @@ pub mod Numbers
 pub mod Header
 pub mod Items
 pub mod Pattern
+pub mod Ports
 pub mod PortLines
 pub mod PortTable
 pub mod Examples

@@ -1,5 +1,3 @@
-pub mod Digits
-pub mod FirstLines
 pub mod Fields
 pub mod SeenNames
 pub mod Walking

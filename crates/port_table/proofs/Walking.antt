@@ -17,25 +17,24 @@ use Rattle.pattern_reading.specs.declared.faults.PortFaultKind.{PortFaultKind}
 use Rattle.pattern_reading.specs.declared.faults.PortFaultKind.TheVariants.{Twice}
 use Rattle.pattern_reading.proofs.LineText.{not_equal}
 use Rattle.port_table.specs.declared.table.TableLine as lent
-use Rattle.port_table.specs.Lent.{HasFirstLine, line_with, line_of, form_of, forms_in}
-use Rattle.port_table.proofs.Walk.{table_from}
+use Rattle.port_table.specs.Lent.{table_line_of, form_of, forms_in}
+use Rattle.port_table.proofs.Walk.{BeginsWithLine, table_from}
 
 -- the table ends before a line that is not skipped
-pub table_ends : (n : ℕ) (text bytes rest : List ℕ) → HasFirstLine n text bytes rest → ((e : Bool) → is_skipped (line_with n bytes e) ≡ false) → table_from n text ≡ []
-table_ends n text bytes rest h skipped = rw (h.1, skipped h.0) refl
+table_ends : (n : ℕ) (text rest : List ℕ) (line : Line) → BeginsWithLine n text line rest → is_skipped line ≡ false → table_from n text ≡ []
+table_ends n text rest line first skipped = rw (first, skipped) refl
 
 -- a line that is skipped, and perhaps is one of the table
 by_entry : (t : Option TableLine) (line : Line) (lines : List Line) → table_line line ≡ t → filter_map table_line (line ∷ lines) ≡ cons_option t (filter_map table_line lines)
 by_entry None line lines e = rw e refl
 by_entry (Some x) line lines e = rw e refl
 
-pub table_goes_on : (n : ℕ) (text bytes rest : List ℕ) (t : Option TableLine) → HasFirstLine n text bytes rest → ((e : Bool) → is_skipped (line_with n bytes e) ≡ true) → ((e : Bool) → t ≡ table_line (line_with n bytes e)) → table_from n text ≡ cons_option t (table_from (n + 1) rest)
-table_goes_on n text bytes rest t h skipped is =
-    let line = line_with n bytes h.0 in
+table_goes_on : (n : ℕ) (text rest : List ℕ) (line : Line) (t : Option TableLine) → BeginsWithLine n text line rest → is_skipped line ≡ true → t ≡ table_line line → table_from n text ≡ cons_option t (table_from (n + 1) rest)
+table_goes_on n text rest line t first skipped is =
     let lines = lines_from (n + 1) (with_line_feeds rest) in
-    ap (λ ls. filter_map table_line (take_while is_skipped ls)) h.1
-    ∙ ap (λ ls. filter_map table_line ls) (take_while-cons is_skipped line lines ∙ ap (λ b. cond b (line ∷ take_while is_skipped lines) []) (skipped h.0))
-    ∙ by_entry t line (take_while is_skipped lines) (sym (is h.0))
+    ap (λ ls. filter_map table_line (take_while is_skipped ls)) first
+    ∙ ap (λ ls. filter_map table_line ls) (take_while-cons is_skipped line lines ∙ ap (λ b. cond b (line ∷ take_while is_skipped lines) []) skipped)
+    ∙ by_entry t line (take_while is_skipped lines) (sym is)
 
 -- all of some forms
 pub kept_forms : (forms : List PortForm) → filter_map (λ line. line) (map Some forms) ≡ forms
@@ -54,16 +53,16 @@ map_push [] form = refl
 map_push (first ∷ forms) form = ap (λ fs. Some first ∷ fs) (map_push forms form)
 
 -- lines of the table in the code are those of the definitions
-pub rest_from : (lines : List lent.TableLine) (i : ℕ) (d : lent.TableLine) → i < length lines → map line_of (drop i lines) ≡ line_of (get_or lines i d) ∷ map line_of (drop (i + 1) lines)
+pub rest_from : (lines : List lent.TableLine) (i : ℕ) (d : lent.TableLine) → i < length lines → map table_line_of (drop i lines) ≡ table_line_of (get_or lines i d) ∷ map table_line_of (drop (i + 1) lines)
 rest_from lines i d l =
     let next : suc i ≡ i + 1 = omega arith in
-    ap (λ ls. map line_of ls) (subst (λ n. drop i lines ≡ get_or lines i d ∷ drop n lines) next (drop-cons lines i d l))
+    ap (λ ls. map table_line_of ls) (subst (λ n. drop i lines ≡ get_or lines i d ∷ drop n lines) next (drop-cons lines i d l))
 
-pub forms_are : (lines : List lent.TableLine) → forms_in lines ≡ filter_map (λ line. line.form) (map line_of lines)
+pub forms_are : (lines : List lent.TableLine) → forms_in lines ≡ filter_map (λ line. line.form) (map table_line_of lines)
 forms_are [] = refl
 forms_are (line ∷ lines) = by_form (option_map form_of line.form) (forms_are lines)
   where
-    by_form : (form : Option PortForm) → forms_in lines ≡ filter_map (λ l. l.form) (map line_of lines) → cons_option form (forms_in lines) ≡ cons_option form (filter_map (λ l. l.form) (map line_of lines))
+    by_form : (form : Option PortForm) → forms_in lines ≡ filter_map (λ l. l.form) (map table_line_of lines) → cons_option form (forms_in lines) ≡ cons_option form (filter_map (λ l. l.form) (map table_line_of lines))
     by_form form e = ap (λ fs. cons_option form fs) e
 
 none_first : (faults : List PortFaultAt) → slice_get faults 0 ≡ None → faults ≡ []
@@ -71,7 +70,7 @@ none_first [] e = refl
 none_first (fault ∷ faults) e = absurd (none-some _ (sym e))
 
 -- lines without a fault are read
-pub reads_if_no_fault : (text : List ℕ) (width height : ℕ) (lines : List lent.TableLine) → map line_of lines ≡ table_of text → slice_get (faults_after width height [] (map line_of lines)) 0 ≡ None → ReadsAsPorts text width height (ports_of (forms_in lines))
+pub reads_if_no_fault : (text : List ℕ) (width height : ℕ) (lines : List lent.TableLine) → map table_line_of lines ≡ table_of text → slice_get (faults_after width height [] (map table_line_of lines)) 0 ≡ None → ReadsAsPorts text width height (ports_of (forms_in lines))
 reads_if_no_fault text width height lines e f = record {
   no_fault = none_first _ (subst (λ ls. slice_get (faults_after width height [] ls) 0 ≡ None) e f);
   ports_is = ap ports_of (forms_are lines ∙ ap (λ ls. filter_map (λ line. line.form) ls) e);
@@ -96,31 +95,31 @@ said_more read lines i d form l e =
     ∙ ap (λ xs. filter_map read (forms_in (take i lines)) ++ xs) (one_more read form)
 
 -- the walk over a text's table, one line further
-pub walked_on : (n : ℕ) (text bytes rest : List ℕ) (lines : List lent.TableLine) (t : Option lent.TableLine) (all : List TableLine) → HasFirstLine n text bytes rest → ((e : Bool) → is_skipped (line_with n bytes e) ≡ true) → ((e : Bool) → option_map line_of t ≡ table_line (line_with n bytes e)) → map line_of lines ++ table_from n text ≡ all → (found : Option lent.TableLine) → t ≡ found → map line_of (lines ++ option_to_list found) ++ table_from (n + 1) rest ≡ all
-walked_on n text bytes rest lines t all h skipped is e found same =
+pub walked_on : (n : ℕ) (text rest : List ℕ) (line : Line) (lines : List lent.TableLine) (t : Option lent.TableLine) (all : List TableLine) → BeginsWithLine n text line rest → is_skipped line ≡ true → option_map table_line_of t ≡ table_line line → map table_line_of lines ++ table_from n text ≡ all → (found : Option lent.TableLine) → t ≡ found → map table_line_of (lines ++ option_to_list found) ++ table_from (n + 1) rest ≡ all
+walked_on n text rest line lines t all first skipped is e found same =
     by_found found (table_from (n + 1) rest) lines
-    ∙ ap (λ f. map line_of lines ++ cons_option (option_map line_of f) (table_from (n + 1) rest)) (sym same)
-    ∙ ap (λ ls. map line_of lines ++ ls) (sym (table_goes_on n text bytes rest (option_map line_of t) h skipped is))
+    ∙ ap (λ f. map table_line_of lines ++ cons_option (option_map table_line_of f) (table_from (n + 1) rest)) (sym same)
+    ∙ ap (λ ls. map table_line_of lines ++ ls) (sym (table_goes_on n text rest line (option_map table_line_of t) first skipped is))
     ∙ e
   where
-    by_found : (o : Option lent.TableLine) (more : List TableLine) (ls : List lent.TableLine) → map line_of (ls ++ option_to_list o) ++ more ≡ map line_of ls ++ cons_option (option_map line_of o) more
+    by_found : (o : Option lent.TableLine) (more : List TableLine) (ls : List lent.TableLine) → map table_line_of (ls ++ option_to_list o) ++ more ≡ map table_line_of ls ++ cons_option (option_map table_line_of o) more
     by_found None more [] = refl
     by_found (Some x) more [] = refl
-    by_found o more (l ∷ ls) = ap (λ xs. line_of l ∷ xs) (by_found o more ls)
+    by_found o more (l ∷ ls) = ap (λ xs. table_line_of l ∷ xs) (by_found o more ls)
 
-pub walk_ends : (n : ℕ) (text bytes rest : List ℕ) (lines : List TableLine) (all : List TableLine) → HasFirstLine n text bytes rest → ((e : Bool) → is_skipped (line_with n bytes e) ≡ false) → lines ++ table_from n text ≡ all → lines ≡ all
-walk_ends n text bytes rest lines all h skipped e =
-    sym (append-nil lines) ∙ ap (λ ls. lines ++ ls) (sym (table_ends n text bytes rest h skipped)) ∙ e
+pub walk_ends : (n : ℕ) (text rest : List ℕ) (line : Line) (lines : List TableLine) (all : List TableLine) → BeginsWithLine n text line rest → is_skipped line ≡ false → lines ++ table_from n text ≡ all → lines ≡ all
+walk_ends n text rest line lines all first skipped e =
+    sym (append-nil lines) ∙ ap (λ ls. lines ++ ls) (sym (table_ends n text rest line first skipped)) ∙ e
 
 -- a line with a form and no fault
 pub has_form : (width height : ℕ) (before : List (Option PortForm)) (form : Option PortForm) → None ≡ fault_of_form width height before form → (f : PortForm) × (form ≡ Some f)
 has_form width height before None e = absurd (none-some _ e)
 has_form width height before (Some f) e = (f, refl)
 
-pub no_fault_yet : (width height : ℕ) (lines : List lent.TableLine) (i : ℕ) (d : lent.TableLine) (before : List PortForm) (f : PortForm) (all : List PortFaultAt) → i < length lines → None ≡ fault_of_form width height (map Some before) (option_map form_of (get_or lines i d).form) → option_map form_of (get_or lines i d).form ≡ Some f → faults_after width height (map Some before) (map line_of (drop i lines)) ≡ all → faults_after width height (map Some (before ++ f ∷ [])) (map line_of (drop (i + 1) lines)) ≡ all
+pub no_fault_yet : (width height : ℕ) (lines : List lent.TableLine) (i : ℕ) (d : lent.TableLine) (before : List PortForm) (f : PortForm) (all : List PortFaultAt) → i < length lines → None ≡ fault_of_form width height (map Some before) (option_map form_of (get_or lines i d).form) → option_map form_of (get_or lines i d).form ≡ Some f → faults_after width height (map Some before) (map table_line_of (drop i lines)) ≡ all → faults_after width height (map Some (before ++ f ∷ [])) (map table_line_of (drop (i + 1) lines)) ≡ all
 no_fault_yet width height lines i d before f all l none is e =
-    let line = line_of (get_or lines i d) in
-    let rest = map line_of (drop (i + 1) lines) in
+    let line = table_line_of (get_or lines i d) in
+    let rest = map table_line_of (drop (i + 1) lines) in
     ap (λ fs. faults_after width height fs rest) (map_push before f ∙ ap (λ o. map Some before ++ o ∷ []) (sym is))
     ∙ sym (fault_later width height (map Some before) line rest none)
     ∙ ap (λ ls. faults_after width height (map Some before) ls) (sym (rest_from lines i d l))

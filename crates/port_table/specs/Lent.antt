@@ -1,7 +1,5 @@
 -- The forms of a table's lines as values, without where their bytes lie in memory.
-use Rattle.std.specs.Prelude.{◌≡◌, ◌≢◌, ℕ, ◌+◌, ◌<◌, Bool, List, ◌∷◌, length, take, slice_index, option_map, filter_map}
-use Rattle.std.specs.List.{All}
-use Rattle.pattern_reading.specs.Lines.{Line, lines_from, with_line_feeds}
+use Rattle.std.specs.Prelude.{List, option_map, filter_map}
 use Rattle.pattern_reading.specs.PortLines as lines
 use Rattle.pattern_reading.specs.declared.ports.PortLine.{PortLine}
 use Rattle.pattern_reading.specs.declared.ports.NetLine.{NetLine}
@@ -25,21 +23,8 @@ form_of (In port) = lines.In (port_of port)
 form_of (Out port) = lines.Out (port_of port)
 form_of (Net net) = lines.Net (net_of net)
 
--- The lines of a text, numbered from here, are a line of these bytes and those of the rest.
-abbrev pub HasFirstLine : ℕ → List ℕ → List ℕ → List ℕ → Type 0
-HasFirstLine number text bytes rest =
-    (is_ended : Bool) × (lines_from number (with_line_feeds text) ≡ record { number = number; bytes = bytes; is_ended = is_ended } ∷ lines_from (number + 1) (with_line_feeds rest))
-
--- The first line of a text ends at this place.
-abbrev pub EndsLine : List ℕ → ℕ → Type 0
-EndsLine text end = (end < length text) × All (λ b. b ≢ 10) (take end text) × (slice_index text end ≡ 10)
-
--- a line of these parts
-abbrev pub line_with : ℕ → List ℕ → Bool → Line
-line_with number bytes is_ended = record { number = number; bytes = bytes; is_ended = is_ended }
-
-abbrev pub line_of : TableLine → lines.TableLine
-line_of line = record { number = line.number; form = option_map form_of line.form }
+abbrev pub table_line_of : TableLine → lines.TableLine
+table_line_of line = record { number = line.number; form = option_map form_of line.form }
 
 -- the forms of lines that have one
 abbrev pub forms_in : List TableLine → List lines.PortForm

@@ -7,7 +7,8 @@ ghost use Rattle.pattern_reading.specs.Numbers.{if_some_bytes};
 ghost use Rattle.pattern_reading.specs.PortLines.{form_of_fields, version_in, port_in, net_in};
 ghost use Rattle.port_table.specs.Lent.{form_of, port_of, net_of};
 
-use crate::numbers::{number_in, path_in};
+use crate::numbers::path_in;
+use pattern_lines::number_in;
 use std::alloc::{AllocError, Global};
 
 /// A port, and where its name stands in the text.

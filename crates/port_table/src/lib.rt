@@ -3,7 +3,6 @@
 
 mod faults;
 mod forms;
-mod lines;
 mod numbers;
 mod ports;
 mod reading;

@@ -1,28 +1,11 @@
-// Numbers and paths in the fields of a line.
+// Paths in the fields of a line.
 ghost use Rattle.std.specs.Prelude.{◌≡◌, ◌==◌};
 ghost use Rattle.std.specs.Option.{option_copied};
 ghost use Rattle.std.specs.List.{list_all, slice_split};
-ghost use Rattle.std.specs.Char.{is_ascii_digit};
 ghost use Rattle.std.specs.Str.{byte};
-ghost use Rattle.pattern_reading.specs.Numbers.{number_in};
 ghost use Rattle.pattern_reading.specs.PortLines.{is_path_number, path_in};
 
-// Whether all bytes are decimal digits.
-fn are_digits(bytes: &[u8]) -> bool
-    ensures { result ≡ list_all is_ascii_digit bytes.now }
-{
-    bytes.iter().all(|b| b.is_ascii_digit())
-}
-
-/// The number that bytes write in decimal, if it fits.
-pub fn number_in(digits: &[u8]) -> Option<u64>
-    ensures { result ≡ number_in digits.now }
-{
-    if !are_digits(digits) {
-        return None;
-    }
-    str::from_utf8(digits).ok()?.parse().ok()
-}
+use pattern_lines::number_in;
 
 // Whether bytes write a number without leading zeros.
 fn is_path_number(digits: &[u8]) -> bool

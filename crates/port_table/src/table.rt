@@ -1,15 +1,13 @@
 // The lines of a text's table.
-ghost use Rattle.std.specs.Prelude.{◌≡◌, ◌==◌, map, option_map, IfOk, Bool, ℕ, codes};
-ghost use Rattle.std.specs.List.{list_all};
+ghost use Rattle.std.specs.Prelude.{◌≡◌, map, option_map, IfOk, codes};
 ghost use Rattle.std.specs.Option.{option_copied};
-ghost use Rattle.pattern_reading.specs.Lines.{Line};
-ghost use Rattle.pattern_reading.specs.Numbers.{is_blank, after_prefix};
-ghost use Rattle.pattern_reading.specs.Header.{is_skipped};
+ghost use Rattle.pattern_reading.specs.Numbers.{after_prefix};
 ghost use Rattle.pattern_reading.specs.PortLines.{table_line, table_of};
-ghost use Rattle.port_table.specs.Lent.{line_of, line_with};
+ghost use Rattle.pattern_lines.specs.Lines.{line_of};
+ghost use Rattle.port_table.specs.Lent.{table_line_of};
 
 use crate::forms::{PortForm, form_in};
-use crate::lines::split_line;
+use pattern_lines::{Line, split_line};
 use std::alloc::{AllocError, Global};
 
 /// A line of the table: its number, and its form, if it has one.
@@ -17,20 +15,6 @@ use std::alloc::{AllocError, Global};
 pub struct TableLine<'a> {
     pub number: u64,
     pub form: Option<PortForm<'a>>,
-}
-
-// Whether all bytes are tabs and spaces.
-fn are_blanks(bytes: &[u8]) -> bool
-    ensures { result ≡ list_all is_blank bytes.now }
-{
-    bytes.iter().all(|b| *b == b'\t' || *b == b' ')
-}
-
-// Whether a line before the header is skipped: comments are, and lines of blanks.
-fn is_skipped(bytes: &[u8]) -> bool
-    ensures { (number : ℕ) (is_ended : Bool) → result ≡ is_skipped (line_with number bytes.now is_ended) }
-{
-    matches!(bytes, [b'#', ..]) || are_blanks(bytes)
 }
 
 // What follows the word that each line of the table begins with.
@@ -41,13 +25,13 @@ fn table_entry(bytes: &[u8]) -> Option<&[u8]>
 }
 
 // The line as one of the table, if it is one.
-fn table_line(alloc: Global, number: u64, bytes: &[u8]) -> Result<Option<TableLine<'_>>, AllocError>
-    ensures { IfOk result (λ line. (is_ended : Bool) → option_map line_of line ≡ table_line (line_with number bytes.now is_ended)) }
+fn table_line(alloc: Global, line: Line<'_>) -> Result<Option<TableLine<'_>>, AllocError>
+    ensures { IfOk result (λ found. option_map table_line_of found ≡ table_line (line_of line.entry)) }
 {
-    match table_entry(bytes) {
+    match table_entry(line.bytes) {
         None => Ok(None),
         Some(entry) => Ok(Some(TableLine {
-            number,
+            number: line.number as u64,
             form: form_in(alloc, entry)?,
         })),
     }
@@ -55,21 +39,21 @@ fn table_line(alloc: Global, number: u64, bytes: &[u8]) -> Result<Option<TableLi
 
 /// The lines of a text's table, in order, which are those before its header; all where it has none.
 pub fn table_lines(alloc: Global, text: &[u8]) -> Result<Vec<TableLine<'_>>, AllocError>
-    ensures { IfOk result (λ lines. map line_of lines.items ≡ table_of text.now) }
+    ensures { IfOk result (λ lines. map table_line_of lines.items ≡ table_of text.now) }
 {
-    let mut lines = Vec::new(alloc);
-    let mut number: u64 = 1;
+    let mut table = Vec::new(alloc);
+    let mut lines_before = 0;
     let mut rest = text;
     while !rest.is_empty() {
-        let (bytes, after) = split_line(rest);
-        if !is_skipped(bytes) {
-            return Ok(lines);
+        let (line, after) = split_line(lines_before, rest);
+        if !line.is_skipped() {
+            return Ok(table);
         }
-        if let Some(line) = table_line(alloc, number, bytes)? {
-            lines.push(line)?;
+        if let Some(entry) = table_line(alloc, line)? {
+            table.push(entry)?;
         }
-        number += 1;
+        lines_before += 1;
         rest = after;
     }
-    Ok(lines)
+    Ok(table)
 }

@@ -1,6 +1,4 @@
 pub mod Fronts
-pub mod Numerals
-pub mod FirstLines
 pub mod DrawnLines
 pub mod Runs
 pub mod DrawnText

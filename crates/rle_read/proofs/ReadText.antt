@@ -12,7 +12,7 @@ use Rattle.pattern_reading.specs.Items.{items_of_lines}
 use Rattle.pattern_reading.specs.Pattern.{HasBox, HasRleFault, IsGridTooLarge, ReadsAsPattern, RleFaultAt, has_end, item_faults, items_after_header, most_cells}
 use Rattle.pattern_reading.proofs.Ranges.{small_box}
 use Rattle.pattern_reading.proofs.RleVerdict.{IsJudged, items_verdict, rle_judged, rle_verdict}
-use Rattle.rle_read.specs.declared.lines.Line as lent
+use Rattle.pattern_lines.specs.declared.lines.Line as lent
 use Rattle.rle_read.specs.declared.error.RleFault.{RleFault}
 use Rattle.rle_read.specs.declared.error.RleReadError.TheVariants as errors
 use Rattle.rle_read.specs.Answers.{IsHeaderAt, IsHeaderFault, HasReason}

@@ -7,8 +7,8 @@ use Rattle.pattern_reading.specs.Lines.{last_line, lines_from, with_line_feeds}
 use Rattle.pattern_reading.specs.Numbers.{after_word}
 use Rattle.pattern_reading.specs.Header.{Header, header_in, header_line, is_wireworld, lines_after_header}
 use Rattle.pattern_reading.specs.Pattern.{HasBox, HasLargeBox, HasReaderFault, most_cells}
-use Rattle.rle_read.specs.Texts.{line_of}
-use Rattle.rle_read.specs.declared.lines.Line as lent
+use Rattle.pattern_lines.specs.Lines.{line_of}
+use Rattle.pattern_lines.specs.declared.lines.Line as lent
 use Rattle.rle_read.specs.declared.error.RleReadError.{RleReadError}
 use Rattle.rle_read.specs.declared.error.RleReadError.TheVariants.{Fault, TooLarge, NoMemory}
 

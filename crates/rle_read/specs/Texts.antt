@@ -2,16 +2,11 @@
 use Rattle.std.specs.Prelude.{ℕ, List}
 use Rattle.std.specs.Option.{option_copied}
 use denote.Ref.{Bor}
-use Rattle.pattern_reading.specs.Lines.{Line}
 use Rattle.pattern_reading.specs.Header.{Header}
 use Rattle.pattern_reading.specs.Items.{Piece, Item, Cells, RowEnds, End, Blank, CutOff, NoItem}
-use Rattle.rle_read.specs.declared.lines.Line as lent_line
 use Rattle.rle_read.specs.declared.header.Header as lent_header
 use Rattle.rle_read.specs.declared.items.Piece as lent_piece
 use Rattle.rle_read.specs.declared.items.Item as read_item
-
-abbrev pub line_of : lent_line.Line → Line
-line_of line = record { number = line.number; bytes = line.bytes.now; is_ended = line.is_ended }
 
 abbrev pub header_of : lent_header.Header → Header
 header_of h = record { width = h.width; height = h.height; rule = option_copied h.rule }

@@ -4,13 +4,13 @@ ghost use Rattle.ww_rule.specs.Grid.{IsGrid};
 ghost use Rattle.pattern_reading.specs.Lines.{lines_from, with_line_feeds};
 ghost use Rattle.pattern_reading.specs.Items.{items_of_line, items_of_lines};
 ghost use Rattle.pattern_reading.specs.declared.faults.RleFaultKind.TheVariants.{NoEnd};
-ghost use Rattle.rle_read.specs.Texts.{line_of};
+ghost use Rattle.pattern_lines.specs.Lines.{line_of};
 ghost use Rattle.rle_read.specs.Drawn.{Drawn, drawn_of, drawn_with, Open, Ended, Fault, reached_of, fault_of};
 
 use crate::drawing::Drawing;
 use crate::error::RleFault;
 use crate::items::{Item, item_in, split_piece};
-use crate::lines::{Line, split_line};
+use pattern_lines::{Line, split_line};
 use pattern_reading::RleFaultKind;
 use std::alloc::Global;
 

@@ -5,7 +5,8 @@ ghost use Rattle.pattern_reading.specs.Numbers.{without_leading_blanks};
 ghost use Rattle.pattern_reading.specs.Header.{is_wireworld, rule_name_in, rule_in, header_in};
 ghost use Rattle.rle_read.specs.Texts.{header_of};
 
-use crate::words::{after_word, is_all_blank, is_blank, number_at_front, without_leading_blanks};
+use crate::words::{after_word, number_at_front, without_leading_blanks};
+use pattern_lines::{is_all_blank, is_blank};
 
 /// What a header says; the rule's name may be missing.
 #[derive(Clone, Copy)]

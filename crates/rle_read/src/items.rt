@@ -4,7 +4,8 @@ ghost use Rattle.pattern_reading.specs.Items.{pieces_of, counted_item, item_with
 ghost use Rattle.rle_read.specs.Texts.{piece_of, item_of};
 ghost use Rattle.rle_read.specs.Drawn.{IsCounted};
 
-use crate::words::{digits_at_front, is_blank, number_in};
+use crate::words::digits_at_front;
+use pattern_lines::{is_blank, number_in};
 use ww_rule::State;
 
 /// A byte that is no digit, with the digits directly before it; where a line ends with digits, they are a piece without

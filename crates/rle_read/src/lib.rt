@@ -6,7 +6,6 @@ mod drawing;
 mod error;
 mod header;
 mod items;
-mod lines;
 mod reader;
 mod words;
 

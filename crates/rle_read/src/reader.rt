@@ -3,9 +3,9 @@ ghost use Rattle.std.specs.Prelude.{◌≡◌, ◌⊎◌, ◌*◌, ◌^◌, ◌<
 ghost use Rattle.ww_rule.specs.Grid.{Grid};
 ghost use Rattle.ww_rule.specs.Patterns.{grid_of};
 ghost use Rattle.pattern_reading.specs.declared.faults.RleFaultKind.{RleFaultKind};
-ghost use Rattle.pattern_reading.specs.Header.{is_skipped, is_wireworld, header_in, header_line};
+ghost use Rattle.pattern_reading.specs.Header.{is_wireworld, header_in, header_line};
 ghost use Rattle.pattern_reading.specs.Pattern.{HasRleFault, HasReaderFault, HasLargeBox, ReadsWithinLimit, most_cells};
-ghost use Rattle.rle_read.specs.Texts.{line_of, header_of};
+ghost use Rattle.rle_read.specs.Texts.{header_of};
 ghost use Rattle.rle_read.specs.Answers.{IsHeaderAt, IsHeaderFault, HasReason};
 ghost use Rattle.rle_read.specs.declared.error.RleReadError.TheVariants.{Fault, TooLarge, NoMemory};
 
@@ -13,22 +13,15 @@ use crate::draw_text::draw_text;
 use crate::drawing::Drawing;
 use crate::error::{RleFault, RleReadError};
 use crate::header::{Header, header_in};
-use crate::lines::{Line, split_line};
-use crate::words::{after_word, is_all_blank};
+use crate::words::after_word;
 use lists::List;
+use pattern_lines::{Line, split_line};
 use pattern_reading::RleFaultKind;
 use std::alloc::Global;
 use ww_rule::Pattern;
 
 // The most cells that a pattern's box may have.
 const MOST_CELLS: u128 = 268_435_456;
-
-// Whether a line before the header is skipped.
-fn is_skipped(line: Line<'_>) -> bool
-    ensures { result ≡ is_skipped (line_of line.entry) }
-{
-    line.is_comment() || is_all_blank(line.bytes)
-}
 
 // The line that is to be the header, and the text after it.
 fn split_header(text: &[u8]) -> Result<(Line<'_>, &[u8]), RleFault>
@@ -40,7 +33,7 @@ fn split_header(text: &[u8]) -> Result<(Line<'_>, &[u8]), RleFault>
     let mut lines = 0;
     while !rest.is_empty() {
         let (line, after) = split_line(lines, rest);
-        if !is_skipped(line) {
+        if !line.is_skipped() {
             return Ok((line, after));
         }
         rest = after;

@@ -1,5 +1,5 @@
 use Rattle.std.proofs.Common.{◌≡◌, take}
-use Rattle.blifww_tool.specs.Simulation.{names_of}
+use Rattle.pattern_reading.specs.Ports.{names_of}
 use Rattle.blifww_tool.proofs.simulate.names_of.Given as goal
 
 abbrev pub invariant-loop-port : goal.invariant-loop-port

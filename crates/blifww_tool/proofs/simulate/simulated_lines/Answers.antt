@@ -4,7 +4,8 @@ use Rattle.std.proofs.lemmas.Result.{err_from_is_err_and}
 use Rattle.pattern_reading.specs.declared.ports.PortLine.{PortLine}
 use Rattle.ww_rule.specs.Patterns.{grid_of}
 use Rattle.drive.specs.Streams.{HasStreams}
-use Rattle.blifww_tool.specs.Simulation.{Simulation, IsSimulation, names_of, output_bits}
+use Rattle.pattern_reading.specs.Ports.{names_of}
+use Rattle.blifww_tool.specs.Simulation.{Simulation, IsSimulation, output_bits}
 use Rattle.blifww_tool.proofs.OutputLines.{line, lines_by}
 use Rattle.blifww_tool.proofs.Simulated.{ins_in_box, time_refused}
 use Rattle.blifww_tool.proofs.simulate.simulated_lines.Goals as goal

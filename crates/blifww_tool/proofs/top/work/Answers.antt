@@ -3,16 +3,8 @@ use Rattle.std.proofs.lemmas.Result.{err_from_is_err_and}
 use Rattle.std.specs.Prelude.{Some}
 use Rattle.command_words.specs.Shapes.{simulate, values_of, command_values}
 use Rattle.command_words.specs.declared.command.Command.{Command}
-use Rattle.blifww_tool.proofs.CycleCounts.{some_cycle}
 use Rattle.blifww_tool.proofs.Simulated.{words_reason}
 use Rattle.blifww_tool.proofs.top.work.Goals as goal
-
-pub simulate-requires : goal.simulate-requires
-simulate-requires g c =
-    let words = map string_bytes c.args.words.now in
-    let asks : command_values words ≡ Some (simulate c.in-Simulate.cycles (map string_bytes c.in-Simulate.streams)) =
-    c.in_ok-command_of.ensures.ok ∙ ap (λ (v : Command). Some (values_of v)) c.in-Simulate.is in
-    record { some_cycle = some_cycle words c.in-Simulate.cycles (map string_bytes c.in-Simulate.streams) asks }
 
 pub returns-in-Simulate-clause-cut : goal.returns-in-Simulate-clause-cut
 returns-in-Simulate-clause-cut g c =

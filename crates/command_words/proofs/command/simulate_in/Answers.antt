@@ -12,12 +12,12 @@ pub returns-in_err-cycles-clause-usage : goal.returns-in_err-cycles-clause-usage
 returns-in_err-cycles-clause-usage c =
     let some : c.get_str.result ≡ Some c.in_ok-number.number = search rules in
     let none : c.number_between.result ≡ None = search rules in
-    λ u. out_of_range (found_of c.args.found.now) c.in_ok-number.number.now (sym c.get_str.ensures ∙ ap (option_map (λ s. s.now)) some) (sym c.number_between.ensures ∙ none)
+    λ u. out_of_range (found_of c.args.found.now) c.in_ok-number.number.now (sym c.get_str.ensures ∙ ap (option_map (λ s. s.now)) some) (sym c.number_between.ensures.value ∙ none)
 
 pub returns-clause-ok : goal.returns-clause-ok
 returns-clause-ok c =
     let found = found_of c.args.found.now in
     let some : c.get_str.result ≡ Some c.in_ok-number.number = search rules in
     let cycles : c.number_between.result ≡ Some c.in_ok-cycles.cycles = search rules in
-    simulate_found found c.in_ok-number.number.now _ _ (sym c.get_str.ensures ∙ ap (option_map (λ s. s.now)) some) (sym c.number_between.ensures ∙ cycles)
+    simulate_found found c.in_ok-number.number.now _ _ (sym c.get_str.ensures ∙ ap (option_map (λ s. s.now)) some) (sym c.number_between.ensures.value ∙ cycles)
     (c.in_ok-streams.ensures ∙ streams_found found c.get_strs.result _ c.unwrap_or.result c.unwrap_or.ensures refl c.get_strs.ensures)

@@ -5,7 +5,8 @@ use Rattle.std.specs.Prelude.{unwrap_or, slice_get, false}
 use Rattle.pattern_reading.specs.declared.ports.PortLine.{PortLine}
 use Rattle.ww_rule.specs.declared.pattern.Injection.{Injection}
 use Rattle.ww_rule.specs.Injections.{injections_from, injections_of_row}
-use Rattle.drive.specs.Driving.{cells_of, row_of}
+use Rattle.pattern_reading.specs.Ports.{cells_of}
+use Rattle.drive.specs.Driving.{row_of}
 use Rattle.drive.proofs.Rows.{rows_more}
 use Rattle.drive.proofs.driving.injections.Goals as goal
 

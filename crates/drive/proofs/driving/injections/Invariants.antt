@@ -1,7 +1,8 @@
 use Rattle.std.proofs.Common.{◌≡◌, map}
 use Rattle.std.specs.List.{range_with_len}
 use Rattle.ww_rule.specs.Injections.{injections_from}
-use Rattle.drive.specs.Driving.{cells_of, row_of}
+use Rattle.pattern_reading.specs.Ports.{cells_of}
+use Rattle.drive.specs.Driving.{row_of}
 use Rattle.drive.proofs.driving.injections.Given as goal
 
 abbrev pub invariant-loop-cycle : goal.invariant-loop-cycle

@@ -3,7 +3,7 @@ use Rattle.std.proofs.lemmas.List.{append_assoc, append-nil, length_push}
 use Rattle.std.proofs.lemmas.Slice.Zip.{zip_turn}
 use Rattle.ww_rule.specs.declared.pattern.Injection.{Injection}
 use Rattle.ww_rule.specs.Injections.{injections_of_row}
-use Rattle.drive.specs.Driving.{cells_of}
+use Rattle.pattern_reading.specs.Ports.{cells_of}
 use Rattle.drive.proofs.Rows.{row_turn}
 use Rattle.drive.proofs.driving.push_row.Goals as goal
 

@@ -1,6 +1,6 @@
 use Rattle.std.proofs.Common.{◌≡◌, ◌++◌, take, length}
 use Rattle.ww_rule.specs.Injections.{injections_of_row}
-use Rattle.drive.specs.Driving.{cells_of}
+use Rattle.pattern_reading.specs.Ports.{cells_of}
 use Rattle.drive.proofs.driving.push_row.Given as goal
 
 abbrev pub invariant-loop-input : goal.invariant-loop-input

@@ -2,37 +2,36 @@ use Rattle.std.proofs.Common.{◌≡◌, ◌+◌, ◌*◌, ◌++◌, ◌∷◌, 
 use Rattle.std.specs.List.{range_with_len}
 use Rattle.std.proofs.lemmas.List.FromFn.{map-range_with_len_more}
 use Rattle.ww_rule.specs.declared.pattern.Injection.{Injection}
-use Rattle.ww_rule.specs.Wireworld.{Plane, driven}
+use Rattle.ww_rule.specs.Wireworld.{Plane}
 use Rattle.ww_rule.specs.Grid.{plane_of}
-use Rattle.ww_rule.specs.Injections.{due_of_list}
-use Rattle.drive.specs.Driving.{AreInside, cells_of, rows_of, injections_of, driven_by, shown_row}
+use Rattle.pattern_reading.specs.Ports.{cells_of}
+use Rattle.drive.specs.Driving.{AreInside, rows_of, driven_by, shown_row}
+use Rattle.drive.specs.Runs.{AreInOrderFrom, IsRunOf}
 use Rattle.drive.proofs.Inside.{rows_inside}
+use Rattle.drive.proofs.Left.{rows_in_order}
 use Rattle.drive.proofs.simulation.shown_rows.Goals as goal
 
-pub begun-requires : goal.begun-requires
-begun-requires c =
+pub begin-requires : goal.begin-requires
+begin-requires c =
     let pattern = c.args.pattern in
     let ports = c.args.ports.now in
-    subst (AreInside pattern.width pattern.height) (sym (c.deref.ensures.value ∙ c.in_ok-due.ensures)) (rows_inside pattern.width pattern.height 0 ports.p (cells_of ports.ins) (rows_of c.args.streams.now) c.requires.in_box)
+    let cells = cells_of ports.ins in
+    let rows = rows_of c.args.streams.now in
+    let due = sym (c.deref.ensures.value ∙ c.in_ok-due.ensures) in
+    record {
+      inside = subst (AreInside pattern.width pattern.height) due (rows_inside pattern.width pattern.height 0 ports.p cells rows c.requires.in_box);
+      in_order = subst (AreInOrderFrom 0) due (rows_in_order 0 ports.p cells rows);
+    }
 
 pub loop-cycle-init : goal.loop-cycle-init
 loop-cycle-init c =
+    let start = plane_of c.args.pattern.rows in
     record {
-      width = c.in_ok-plane.ensures.width;
-      height = c.in_ok-plane.ensures.height;
-      before = omega arith;
-      cells = c.in_ok-plane.ensures.cells ∙ ap (λ (due : List Injection). driven (due_of_list due) (plane_of c.args.pattern.rows) 0) (c.deref.ensures.value ∙ c.in_ok-due.ensures);
+      inside = c.in_ok-run.ensures.inside;
+      before = omega (arith, c.in_ok-run.ensures.begun);
+      run = subst (λ (due : List Injection). IsRunOf due start c.in_ok-run.run') (c.deref.ensures.value ∙ c.in_ok-due.ensures) c.in_ok-run.ensures.run;
       rows = c.new-rows.ensures.items;
     }
-
-pub advance-requires-clause-in_box : goal.advance-requires-clause-in_box
-advance-requires-clause-in_box c =
-    let pattern = c.args.pattern in
-    let ports = c.args.ports.now in
-    let due = c.deref-in-loop-cycle.result.now in
-    subst (λ (width : ℕ). AreInside width c.loop-cycle.plane.height due) (sym c.loop-cycle.invariant.width)
-    (subst (λ (height : ℕ). AreInside pattern.width height due) (sym c.loop-cycle.invariant.height)
-    (subst (AreInside pattern.width pattern.height) (sym (c.deref-in-loop-cycle.ensures.value ∙ c.in_ok-due.ensures)) (rows_inside pattern.width pattern.height 0 ports.p (cells_of ports.ins) (rows_of c.args.streams.now) c.requires.in_box)))
 
 pub loop-cycle-preserved : goal.loop-cycle-preserved
 loop-cycle-preserved c =
@@ -41,21 +40,20 @@ loop-cycle-preserved c =
     let start = plane_of c.args.pattern.rows in
     let cycle = c.loop-cycle.cycle in
     let shown_at = ports.l + cycle * ports.p in
-    let due_is : c.deref-in-loop-cycle.result.now ≡ injections_of ports streams = c.deref-in-loop-cycle.ensures.value ∙ c.in_ok-due.ensures in
-    let now : plane_of c.in_ok-plane-2.plane.rows ≡ driven_by ports streams start shown_at =
-    c.in_ok-plane-2.ensures.cells start (c.loop-cycle.invariant.cells ∙ ap (λ (due : List Injection). driven (due_of_list due) start c.loop-cycle.generation) (sym due_is))
-    ∙ ap (λ (due : List Injection). driven (due_of_list due) start shown_at) due_is in
+    let later = c.in_ok-run-2.run' in
+    let leads = c.in_ok-run-2.ensures in
+    let run = leads.same _ start c.loop-cycle.invariant.run in
+    let now : plane_of later.plane.rows ≡ driven_by ports streams start shown_at = run.plane ∙ ap (driven_by ports streams start) leads.comes in
     let row = λ (t : ℕ). shown_row (driven_by ports streams start (ports.l + t * ports.p)) ports.outs in
     let last : c.of.result ≡ row cycle =
     c.of.ensures
     ∙ c.in_ok-shown_row.ensures
-    ∙ ap (shown_row (plane_of c.in_ok-plane-2.plane.rows)) c.as_slice.ensures
+    ∙ ap (shown_row (plane_of later.plane.rows)) c.as_slice.ensures
     ∙ ap (λ (plane : Plane). shown_row plane ports.outs) now in
     record {
-      width = c.in_ok-plane-2.ensures.width ∙ c.loop-cycle.invariant.width;
-      height = c.in_ok-plane-2.ensures.height ∙ c.loop-cycle.invariant.height;
-      before = omega arith;
-      cells = now;
+      inside = leads.inside;
+      before = omega (arith, leads.comes);
+      run = run;
       rows =
           c.in_ok-push.ensures.items
           ∙ ap (λ (rows : List (List Bool)). rows ++ c.of.result ∷ []) c.loop-cycle.invariant.rows

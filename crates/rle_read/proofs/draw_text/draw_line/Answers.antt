@@ -2,7 +2,8 @@ use Rattle.std.proofs.Common.{◌≡◌, sym, ◌∙◌, subst}
 use Rattle.std.specs.Prelude.{None}
 use Rattle.ww_rule.specs.Grid.{IsGrid}
 use Rattle.pattern_reading.specs.Pattern.{item_fault}
-use Rattle.rle_read.specs.Texts.{line_of, item_of, piece_of}
+use Rattle.pattern_lines.specs.Lines.{line_of}
+use Rattle.rle_read.specs.Texts.{item_of, piece_of}
 use Rattle.rle_read.specs.Drawn.{Drawn, drawn_of, place_of}
 use Rattle.rle_read.proofs.DrawnLines.{next_item, not_end, drawn_grid}
 use Rattle.rle_read.proofs.draw_text.draw_line.Goals as goal

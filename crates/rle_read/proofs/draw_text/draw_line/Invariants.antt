@@ -1,7 +1,7 @@
 use Rattle.std.proofs.Common.{◌≡◌, length}
 use Rattle.ww_rule.specs.Grid.{IsGrid}
 use Rattle.rle_read.specs.Drawn.{drawn_of, drawn_with}
-use Rattle.rle_read.specs.Texts.{line_of}
+use Rattle.pattern_lines.specs.Lines.{line_of}
 use Rattle.rle_read.proofs.DrawnLines.{items_from}
 use Rattle.rle_read.proofs.draw_text.draw_line.Given as goal
 

@@ -1,7 +1,7 @@
 use Rattle.std.proofs.Common.{◌≡◌, ◌+◌, ◌∷◌, ℕ, List, length, ap, sym, ◌∙◌, inl, arith}
 use Rattle.std.proofs.lemmas.Result.{err_from_is_err_and}
 use Rattle.pattern_reading.specs.Lines.{Line}
-use Rattle.rle_read.specs.Texts.{line_of}
+use Rattle.pattern_lines.specs.Lines.{line_of}
 use Rattle.rle_read.specs.Drawn.{drawn_of, Open, Ended, Fault, fault_of, reached_of}
 use Rattle.std.specs.Prelude.{Ok}
 use Rattle.rle_read.proofs.DrawnLines.{after_line}

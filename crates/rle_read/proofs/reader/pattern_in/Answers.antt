@@ -4,7 +4,8 @@ use Rattle.std.proofs.lemmas.Result.{err_from_is_err_and}
 use Rattle.ww_rule.specs.declared.pattern.State.{State}
 use Rattle.ww_rule.specs.Grid.{IsGrid}
 use Rattle.pattern_reading.specs.Pattern.{HasBox, ReadsAsPattern, most_cells}
-use Rattle.rle_read.specs.Texts.{line_of, header_of}
+use Rattle.pattern_lines.specs.Lines.{line_of}
+use Rattle.rle_read.specs.Texts.{header_of}
 use Rattle.rle_read.specs.Drawn.{Drawn, drawn_of}
 use Rattle.rle_read.proofs.DrawnText.{blank_grid}
 use Rattle.rle_read.proofs.ReadText.{header_box, text_reads, text_refused}

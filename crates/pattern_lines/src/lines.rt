@@ -3,10 +3,12 @@ ghost use Rattle.std.specs.Prelude.{◌≡◌, ◌+◌, ◌^◌, ◌∷◌, ◌<
 ghost use Rattle.std.specs.List.{prefix_len};
 ghost use Rattle.std.specs.Str.Lines.{strip_carriage_return};
 ghost use Rattle.pattern_reading.specs.Lines.{lines_from, with_line_feeds};
-ghost use Rattle.pattern_reading.specs.Header.{is_comment};
-ghost use Rattle.rle_read.specs.Texts.{line_of};
+ghost use Rattle.pattern_reading.specs.Header.{is_comment, is_skipped};
+ghost use Rattle.pattern_lines.specs.Lines.{line_of};
 
-/// A line without its end. Only the last line of a text may lack an end.
+use crate::blanks::is_all_blank;
+
+/// A line without its end, with its number, which is counted from 1. Only the last line of a text may lack an end.
 #[derive(Clone, Copy)]
 pub struct Line<'a> {
     pub number: usize,
@@ -23,6 +25,13 @@ impl Line<'_> {
             [b'#', ..] => true,
             _ => false,
         }
+    }
+
+    /// Whether the line is skipped where it stands before the header: comments are, and lines of blanks.
+    pub fn is_skipped(self) -> bool
+        ensures { result ≡ is_skipped (line_of self.entry) }
+    {
+        self.is_comment() || is_all_blank(self.bytes)
     }
 }
 

@@ -4,8 +4,8 @@ use Rattle.std.specs.List.{list_all}
 use Rattle.std.specs.Char.{is_ascii_digit}
 use Rattle.std.specs.Str.Parse.{digits_value}
 use Rattle.std.proofs.lemmas.List.{take_all}
-use Rattle.rle_read.proofs.Numerals.{large_more, whole_number, digits_more, one_more}
-use Rattle.rle_read.proofs.words.number_in.Goals as goal
+use Rattle.pattern_lines.proofs.Numerals.{large_more, whole_number, digits_more, one_more}
+use Rattle.pattern_lines.proofs.numbers.number_in.Goals as goal
 
 not_below : (a b : ℕ) → ¬ (a < b) → b ≤ a
 not_below a b h = omega arith
