@@ -1,78 +1,75 @@
--- What the gate shows, from the theorems on plans and tilings.
-use Rattle.std.proofs.Common.{ℤ, pos, ℕ, zero, suc, ◌+◌, ◌*◌, ◌%◌, ◌/◌, ◌<◌, ◌≡◌, ◌↔◌, refl, sym, ap, ap₂, ◌∙◌, true, arith, inl, inr}
-use Rattle.std.proofs.lemmas.Bool.{true≢false}
+-- What the gate shows, from the theorem on what plans show.
+use Rattle.std.proofs.Common.{ℤ, pos, ℕ, zero, suc, ◌+◌, ◌*◌, ◌/◌, ◌≡◌, ◌↔◌, refl, sym, ap, ◌∙◌, true, false, ◌||◌, ◌&&◌, ◌++◌, reverse, drop, arith, int_eq, inl, inr, ◌⊎◌}
+use Rattle.std.proofs.lemmas.Bool.{or_cases}
+use Rattle.std.proofs.Math.Bool.{or-false}
 use Rattle.ww_rule.specs.declared.pattern.State.TheVariants.{Head, Conductor}
 use Rattle.ww_rule.specs.Wireworld.{Due, driven, next_plane}
+use Rattle.tile_timing.proofs.Sound.{same_place}
 use Rattle.tile_library.specs.Drawings.{drawing_of}
-use Rattle.tiling.specs.Tiling.Edge.{Beside}
-use Rattle.tiling.specs.Steps.{KeepsLaw, IsDriven, EdgesLaw}
-use Rattle.plan_layout.specs.Starts.{start_edges}
-use Rattle.macro_grid.specs.Laws.{PlansAreDriven}
-use Rattle.plan_layout.proofs.Matched.{tiling_is_matched}
+use Rattle.tiling.specs.Steps.{KeepsLaw}
+use Rattle.lane_core.specs.Instrs.{bit_on}
+use Rattle.lane_core.specs.Columns.{after_columns}
+use Rattle.plan_waves.specs.Cycles.{DrivesCycles, injected_bits}
+use Rattle.plan_waves.specs.Shown.{cycle_bits, ShowsPlanRun, PlansShowRuns}
 use Rattle.grid_assembly.specs.Laws.{PatternsArePlanes}
 use Rattle.grid_assembly.specs.PlanDrawing.{start_plane}
 use Rattle.or_gate.specs.OrGate.{or_plan, gate_plane, DrivesEntries, is_lit, before_injections, ShowsOr}
 use Rattle.or_gate.proofs.Admissible.{or_is_admissible}
-use Rattle.or_gate.proofs.Edges.{or_tiling, edges_at, at_entry, drives_tiling, output_dark, output_edge}
 use Rattle.or_gate.proofs.Tile.{is_tile}
 
--- the gate as a driven tiling
-abbrev IsDrivenGate : Due → Type 0
-IsDrivenGate due = IsDriven drawing_of or_tiling due (start_edges or_plan)
-
--- the output cell at generation 32 m + r
-output_at : EdgesLaw → KeepsLaw drawing_of → (due : Due) → IsDrivenGate due → (m r : ℕ) → r < 32
-    → (driven due (start_plane or_plan) (32 * m + r) (pos 32) (pos 8) ≡ Head) ↔ ((r ≡ 0) × (edges_at due m (Beside 1 0) ≡ true))
-output_at edges keeps due is m r h =
-    let same = ap (λ p. p (pos 32) (pos 8)) (is.whole m r h) in
-    let entry = (edges drawing_of keeps or_tiling (tiling_is_matched or_plan or_is_admissible) (edges_at due m)).entry 1 0 r h refl in
-    (λ head. entry.0 (sym same ∙ head), λ lit. same ∙ entry.1 lit)
-
-output_head : EdgesLaw → KeepsLaw drawing_of → (due : Due) → DrivesEntries due → IsDrivenGate due → (g m r : ℕ) → g ≡ 32 * m + r → r < 32
-    → (driven due (start_plane or_plan) g (pos 32) (pos 8) ≡ Head) ↔ ((t : ℕ) × (g ≡ 32 + 32 * t) × (is_lit due t ≡ true))
-output_head edges keeps due d is g zero r e h = (
-  λ head. absurd (true≢false (sym ((output_at edges keeps due is 0 r h).0 (sym (ap (λ n. driven due (start_plane or_plan) n (pos 32) (pos 8)) e) ∙ head)).1 ∙ output_dark due d)),
-  λ p. absurd (omega (arith, e, p.1, h)),
-)
-output_head edges keeps due d is g (suc m) r e h = (
-  λ head.
-      let lit = (output_at edges keeps due is (suc m) r h).0 (sym (ap (λ n. driven due (start_plane or_plan) n (pos 32) (pos 8)) e) ∙ head) in
-      (m, omega (arith, e, lit.0), sym (output_edge due d m) ∙ lit.1),
-  λ p.
-      let start : r ≡ 0 = omega (arith, e, p.1, h) in
-      let same : p.0 ≡ m = omega (arith, e, p.1, h) in
-      ap (λ n. driven due (start_plane or_plan) n (pos 32) (pos 8)) e
-      ∙ (output_at edges keeps due is (suc m) r h).1 (start, output_edge due d m ∙ ap (is_lit due) (sym same) ∙ p.2),
-)
-
-first_conductor : (due : Due) → DrivesEntries due → IsDrivenGate due → (x y : ℤ) → due 0 x y ≡ true → start_plane or_plan x y ≡ Conductor
-first_conductor due d is x y e =
-    elim (at_entry due d 0 x y e) [
-      | inl p ↦ ap₂ (start_plane or_plan) p.0 p.1 ∙ is.first_conductors 0 0 (sym (ap₂ (due 0) p.0 p.1) ∙ e) refl
-      | inr p ↦ ap₂ (start_plane or_plan) p.0 p.1 ∙ is.first_conductors 0 1 (sym (ap₂ (due 0) p.0 p.1) ∙ e) refl
+-- a driven cell is one of the two entries
+at_entry : (due : Due) → DrivesEntries due → (g : ℕ) (x y : ℤ) → due g x y ≡ true → ((x ≡ pos 0) × (y ≡ pos 8)) ⊎ ((x ≡ pos 0) × (y ≡ pos 24))
+at_entry due d g x y e =
+    elim (or_cases (int_eq x (pos 0) && int_eq y (pos 8)) ((int_eq x (pos 0) && int_eq y (pos 24)) || false) (d.at_entries g x y e)) [
+      | inl up ↦ inl (same_place x y (pos 0) (pos 8) up)
+      | inr low ↦ inr (same_place x y (pos 0) (pos 24) (sym (or-false (int_eq x (pos 0) && int_eq y (pos 24))) ∙ low))
     ]
 
-later_conductor : (due : Due) → DrivesEntries due → IsDrivenGate due → (g : ℕ) (x y : ℤ) → due (suc g) x y ≡ true → next_plane (driven due (start_plane or_plan) g) x y ≡ Conductor
-later_conductor due d is g x y e =
-    let m = g / 32 in
-    let on : suc g % 32 ≡ 0 = d.on_time (suc g) x y e in
-    let at : g ≡ 32 * m + 31 = omega (arith, on) in
-    let next : suc g ≡ 32 * suc m = omega (arith, at) in
-    ap (λ n. next_plane (driven due (start_plane or_plan) n) x y) at ∙ is.conductors m x y (sym (ap (λ n. due n x y) next) ∙ e)
+-- so the gate is driven as plans are
+drives_cycles : (due : Due) → DrivesEntries due → DrivesCycles or_plan due
+drives_cycles due d =
+    record {
+      on_time = λ g x y e. (let on : g ≡ g / 32 * 32 = omega (arith, d.on_time g x y e) in (g / 32, on));
+      at_free_entries = λ g x y e.
+          elim (at_entry due d g x y e) [
+            | inl p ↦ (0, omega arith, p.0, p.1)
+            | inr p ↦ (1, omega arith, p.0, p.1)
+          ];
+    }
 
-pub shows_or : KeepsLaw drawing_of → PatternsArePlanes → PlansAreDriven → EdgesLaw → ShowsOr
-shows_or keeps patterns plans edges =
+-- what enters its column in a cycle are the bits that are injected
+inputs_alone : (due : Due) (t : ℕ) → cycle_bits or_plan due t ≡ injected_bits or_plan due t
+inputs_alone due zero = refl
+inputs_alone due (suc t) = ap (λ bits. injected_bits or_plan due (suc t) ++ reverse (drop 2 (after_columns or_plan.columns bits))) (inputs_alone due t)
+
+-- and its column makes their OR
+output_bit : (due : Due) (t : ℕ) → bit_on (after_columns or_plan.columns (cycle_bits or_plan due t)) 0 ≡ is_lit due t
+output_bit due t =
+    let time : t * 32 ≡ 32 * t = omega arith in
+    ap (λ bits. bit_on (after_columns or_plan.columns bits) 0) (inputs_alone due t)
+    ∙ ap (λ g. due g (pos 0) (pos 8) || due g (pos 0) (pos 24)) time
+
+heads : (due : Due) → ShowsPlanRun drawing_of or_plan due → (g : ℕ)
+    → (driven due (start_plane or_plan) g (pos 32) (pos 8) ≡ Head) ↔ ((t : ℕ) × (g ≡ 32 + 32 * t) × (is_lit due t ≡ true))
+heads due is g = (
+  λ head. (let shown = (is.outs 0 (omega arith) g).0 head in (shown.0, omega (arith, shown.1), sym (output_bit due shown.0) ∙ shown.2)),
+  λ lit. (let time : g ≡ 32 + lit.0 * 32 = omega (arith, lit.1) in (is.outs 0 (omega arith) g).1 (lit.0, time, output_bit due lit.0 ∙ lit.2)),
+)
+
+conductors : gate_plane ≡ start_plane or_plan → (due : Due) → ShowsPlanRun drawing_of or_plan due → (g : ℕ) (x y : ℤ) → due g x y ≡ true
+    → before_injections due g x y ≡ Conductor
+conductors plane due is zero x y e = ap (λ p. p x y) plane ∙ is.first_conductors x y e
+conductors plane due is (suc g) x y e = ap (λ p. next_plane (driven due p g) x y) plane ∙ is.conductors g x y e
+
+pub shows_or : KeepsLaw drawing_of → PatternsArePlanes → PlansShowRuns → ShowsOr
+shows_or keeps patterns runs =
     let plane : gate_plane ≡ start_plane or_plan = (patterns or_plan or_is_admissible).plane in
-    let is : (due : Due) → DrivesEntries due → IsDrivenGate due = λ due d. plans drawing_of keeps or_plan or_is_admissible due (drives_tiling due d) (start_edges or_plan) in
+    let is : (due : Due) → DrivesEntries due → ShowsPlanRun drawing_of or_plan due = λ due d. runs drawing_of keeps or_plan or_is_admissible due (drives_cycles due d) in
     record {
       is_tile = is_tile keeps plane;
-      conductors = λ due d. conductors plane due d (is due d);
+      conductors = λ due d. conductors plane due (is due d);
       heads = λ due d g.
-          let shown = output_head edges keeps due d (is due d) g (g / 32) (g % 32) (omega arith) (omega arith) in
           let same = ap (λ p. driven due p g (pos 32) (pos 8)) plane in
+          let shown = heads due (is due d) g in
           (λ head. shown.0 (sym same ∙ head), λ lit. same ∙ shown.1 lit);
     }
-  where
-    conductors : gate_plane ≡ start_plane or_plan → (due : Due) → DrivesEntries due → IsDrivenGate due → (g : ℕ) (x y : ℤ) → due g x y ≡ true → before_injections due g x y ≡ Conductor
-    conductors plane due d is zero x y e = ap (λ p. p x y) plane ∙ first_conductor due d is x y e
-    conductors plane due d is (suc g) x y e = ap (λ p. next_plane (driven due p g) x y) plane ∙ later_conductor due d is g x y e

@@ -10,12 +10,15 @@ use Rattle.tile_core.specs.Interface.{is_in_box}
 use Rattle.tile_core.specs.Kinds.{interface}
 use Rattle.tile_core.specs.TimingLaw.{MeetsTimingLaw}
 use Rattle.tile_library.specs.Drawings.{drawing_of}
-use Rattle.tiling.specs.Tiling.{drawn_slot}
+use Rattle.tiling.specs.Tiling.{Tiling, drawn_slot}
 use Rattle.tiling.specs.Steps.{KeepsLaw}
 use Rattle.plan_layout.specs.Starts.{start_edges}
+use Rattle.plan_layout.specs.Layout.{tiling_of}
 use Rattle.grid_assembly.specs.PlanDrawing.{start_plane}
 use Rattle.or_gate.specs.OrGate.{or_plan, gate_plane, gate_tile, is_conductor}
-use Rattle.or_gate.proofs.Edges.{or_tiling}
+
+abbrev or_tiling : Tiling
+or_tiling = tiling_of or_plan
 
 abbrev or_tile : Drawing
 or_tile = drawing_of kind.Or

@@ -9,9 +9,8 @@ ghost use Rattle.or_gate.specs.OrGate.{ShowsOr};
 
 pub use drawing::or_pattern;
 use grid_assembly::laws::{keeps_law, patterns_are_planes};
-use macro_grid::plans_are_driven;
+use plan_waves::plans_show_runs;
 use tile_library::Shipped;
-use tiling::shows_edges;
 
 /// Where heads are injected at the gate's entries alone, at multiples of 32 generations: each injection meets a
 /// conductor, and the output cell is a head exactly 32 generations after each generation at which an entry was made one.
@@ -20,6 +19,5 @@ pub fn shows_or()
 {
     keeps_law(&Shipped);
     patterns_are_planes();
-    plans_are_driven();
-    shows_edges();
+    plans_show_runs();
 }
