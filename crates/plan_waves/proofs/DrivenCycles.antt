@@ -55,7 +55,8 @@ inputs_of plan due d = record {
   at_free_entries = d.at_free_entries;
 }
 
-same_entering : (plan : Plan) (inputs inputs' : ℕ → List Bool) (starts starts' : List Bool) → ((t : ℕ) → inputs t ≡ inputs' t) → starts ≡ starts'
+-- the bits that enter the body depend on those of the inputs and of the start alone
+pub same_entering : (plan : Plan) (inputs inputs' : ℕ → List Bool) (starts starts' : List Bool) → ((t : ℕ) → inputs t ≡ inputs' t) → starts ≡ starts'
     → (t : ℕ) → entering_bits plan inputs starts t ≡ entering_bits plan inputs' starts' t
 same_entering plan inputs inputs' starts starts' each first zero = ap₂ (λ xs ys. xs ++ ys) (each 0) first
 same_entering plan inputs inputs' starts starts' each first (suc t) =

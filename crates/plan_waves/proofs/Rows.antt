@@ -1,19 +1,25 @@
 -- Rows of input bits drive a plan at its inputs.
-use Rattle.std.proofs.Common.{◌≡◌, refl, sym, ◌∙◌, ap, ap₂, ℤ, pos, ℕ, zero, suc, ◌+◌, ◌*◌, ◌/◌, ◌<◌, Bool, true, false, ◌&&◌, ⊎_elim, List, [], ◌∷◌, length, get_or, arith}
+use Rattle.std.proofs.Common.{◌≡◌, refl, sym, ◌∙◌, ap, ap₂, subst, ℤ, pos, ℕ, zero, suc, ◌+◌, ◌*◌, ◌/◌, ◌<◌, Bool, true, false, ◌&&◌, ⊎_elim, List, [], ◌∷◌, length, get_or, arith}
 use Rattle.std.specs.Prelude.{◌==◌}
+use Rattle.std.proofs.Math.Path.{fun_ext}
 use Rattle.std.proofs.lemmas.Bool.{true≢false, or_cases, and_parts, eqb-true, or_left, or_right, and_from, eq-eqb, cases_eq, cond-true}
 use Rattle.std.proofs.lemmas.Int.{ints}
 use Rattle.std.proofs.lemmas.List.{get_or-map, get_or_past, length-map}
 use Rattle.std.proofs.lemmas.List.FromFn.{length-map-range_with_len, get_or-map-range_with_len, fill_by_all}
 use Rattle.std.proofs.Math.Nat.{mul-div_cancel}
 use Rattle.ww_rule.proofs.Streams.{streams_injected}
+use Rattle.tile_core.specs.declared.kind.Kind.{Kind}
+use Rattle.tile_core.specs.Drawing.{Drawing}
+use Rattle.tiling.specs.Steps.{KeepsLaw}
 use Rattle.lane_core.specs.declared.plan.Plan.{Plan}
 use Rattle.lane_core.specs.Plans.{IsAdmissible, left_of, row_of, period_of}
 use Rattle.plan_layout.specs.Starts.{first_loop_lane}
 use Rattle.plan_waves.specs.Cycles.{DrivesCycles, injected_bits}
-use Rattle.plan_waves.specs.InputRows.{input_cells, drive_of_rows, lane_bit, AreInjected}
+use Rattle.plan_waves.specs.Shown.{cycle_bits, ShowsBits}
+use Rattle.plan_waves.specs.InputRows.{input_cells, drive_of_rows, lane_bit, row_bits, AreInjected, bits_of_rows}
 use Rattle.plan_waves.proofs.Machine.{steps_with_loops}
-use Rattle.plan_waves.proofs.DrivenCycles.{period_is}
+use Rattle.plan_waves.proofs.DrivenCycles.{period_is, same_entering}
+use Rattle.plan_waves.proofs.Plane.{plans_show_runs}
 
 -- a lane has a bit exactly where it is that of an input whose bit is 1
 lane_of_input : (lanes : List ℕ) (bits : List Bool) (input : ℕ) → input < length lanes → get_or bits input false ≡ true → lane_bit lanes bits (get_or lanes input 0) ≡ true
@@ -117,3 +123,14 @@ rows_are_injected plan h rows = record {
       (λ k low. get_or-map-range_with_len (λ lane. drive_of_rows plan rows (t * period_of plan) (pos (left_of plan 0)) (pos (row_of lane))) 0 (first_loop_lane plan) k k false low (omega arith)
       ∙ lane_lit plan h rows t k);
 }
+
+-- so what enters the body are the bits of the rows, and what the loops bring
+pub cycles_of_rows : (plan : Plan) → IsAdmissible plan → (rows : List (List Bool)) (t : ℕ) → cycle_bits plan (drive_of_rows plan rows) t ≡ bits_of_rows plan rows t
+cycles_of_rows plan h rows =
+    same_entering plan (injected_bits plan (drive_of_rows plan rows)) (λ i. row_bits plan (get_or rows i [])) plan.starts plan.starts (rows_are_injected plan h rows).bits refl
+
+pub plans_show_rows : (library : Kind → Drawing) → KeepsLaw library → (plan : Plan) → IsAdmissible plan → (rows : List (List Bool))
+    → ShowsBits library plan (drive_of_rows plan rows) (bits_of_rows plan rows)
+plans_show_rows library law plan h rows =
+    subst (ShowsBits library plan (drive_of_rows plan rows)) (fun_ext (cycles_of_rows plan h rows))
+    (plans_show_runs library law plan h (drive_of_rows plan rows) (rows_are_injected plan h rows).drive)

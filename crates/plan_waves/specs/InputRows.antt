@@ -3,10 +3,14 @@ use Rattle.std.specs.Prelude.{ℕ, ◌≡◌, ◌==◌, Bool, false, ◌&&◌, �
 use Rattle.std.specs.List.{range_with_len}
 use Rattle.ww_rule.specs.Wireworld.{Due}
 use Rattle.ww_rule.specs.Injections.{due_of_streams}
+use Rattle.tile_core.specs.declared.kind.Kind.{Kind}
+use Rattle.tile_core.specs.Drawing.{Drawing}
+use Rattle.tiling.specs.Steps.{KeepsLaw}
 use Rattle.lane_core.specs.declared.plan.Plan.{Plan}
 use Rattle.lane_core.specs.Plans.{IsAdmissible, left_of, row_of, period_of}
 use Rattle.plan_layout.specs.Starts.{first_loop_lane}
-use Rattle.plan_waves.specs.Cycles.{DrivesCycles, injected_bits}
+use Rattle.plan_waves.specs.Cycles.{entering_bits, DrivesCycles, injected_bits}
+use Rattle.plan_waves.specs.Shown.{ShowsBits}
 
 -- the cells of a plan's inputs
 abbrev pub input_cells : Plan → List (ℕ × ℕ)
@@ -33,3 +37,13 @@ pub record AreInjected (plan : Plan) (rows : List (List Bool)) : Type 0 where
 
 abbrev pub RowsAreInjected : Type 0
 RowsAreInjected = (plan : Plan) → IsAdmissible plan → (rows : List (List Bool)) → AreInjected plan rows
+
+-- the bits that enter the body in a cycle of a plan that rows drive: those of the cycle's row, and what loops bring
+abbrev pub bits_of_rows : Plan → List (List Bool) → ℕ → List Bool
+bits_of_rows plan rows t = entering_bits plan (λ i. row_bits plan (get_or rows i [])) plan.starts t
+
+-- of every library, every admissible plan, and every list of rows
+abbrev pub PlansShowRows : Type 0
+PlansShowRows =
+    (library : Kind → Drawing) → KeepsLaw library → (plan : Plan) → IsAdmissible plan → (rows : List (List Bool))
+    → ShowsBits library plan (drive_of_rows plan rows) (bits_of_rows plan rows)

@@ -34,16 +34,21 @@ abbrev pub bits_after : Plan → Option ℕ → List Bool → List Bool
 bits_after plan None bits = bits
 bits_after plan (Some column) bits = after_columns (take (column + 1) plan.columns) bits
 
--- Each injection meets a conductor, and the cells of outputs and nets show, cycle by cycle, the bits on their lanes.
-pub record ShowsPlanRun (library : Kind → Drawing) (plan : Plan) (due : Due) : Type 0 where
+-- Each injection meets a conductor, and the cells of outputs and nets show, cycle by cycle, what the columns make on their
+-- lanes of these bits that enter the body.
+pub record ShowsBits (library : Kind → Drawing) (plan : Plan) (due : Due) (entering : ℕ → List Bool) : Type 0 where
   pub first_conductors : (x y : ℤ) → due 0 x y ≡ true → start_plane library plan x y ≡ Conductor
   pub conductors : (g : ℕ) (x y : ℤ) → due (suc g) x y ≡ true → next_plane (driven due (start_plane library plan) g) x y ≡ Conductor
   pub outs : (i : ℕ) → i < length plan.outs
       → ShowsEachCycle (period_of plan) (driven due (start_plane library plan)) (out_cell_of plan i)
-      (λ t. bit_on (after_columns plan.columns (cycle_bits plan due t)) (slice_index plan.outs i))
+      (λ t. bit_on (after_columns plan.columns (entering t)) (slice_index plan.outs i))
   pub nets : (i : ℕ) → i < length plan.nets
       → ShowsEachCycle (period_of plan) (driven due (start_plane library plan)) (net_cell_of plan i)
-      (λ t. bit_on (bits_after plan (net_place plan i).after (cycle_bits plan due t)) (net_place plan i).lane)
+      (λ t. bit_on (bits_after plan (net_place plan i).after (entering t)) (net_place plan i).lane)
+
+-- so they show the bits that enter the body of a driven plan
+abbrev pub ShowsPlanRun : (Kind → Drawing) → Plan → Due → Type 0
+ShowsPlanRun library plan due = ShowsBits library plan due (cycle_bits plan due)
 
 -- of every library, every admissible plan, and every drive of its inputs at multiples of its period
 abbrev pub PlansShowRuns : Type 0
