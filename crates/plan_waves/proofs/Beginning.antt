@@ -17,7 +17,7 @@ use Rattle.plan_layout.specs.Layout.{instrs_of, tiling_of}
 use Rattle.plan_layout.specs.Starts.{first_loop_lane, start_edges}
 use Rattle.lane_core.proofs.Dark.{dark}
 use Rattle.plan_layout.proofs.Halves.{instrs_sorted, instrs_on_lanes}
-use Rattle.plan_waves.specs.Waves.{is_free_entry, GoesOn, is_body_entry, IsLitAtEntries, bits_at, loop_entry, tiles_back, DrivesInputs, StartsRight}
+use Rattle.plan_waves.specs.Waves.{is_free_entry, GoesOn, is_body_entry, IsLitAtEntries, IsDarkInside, bits_at, loop_entry, tiles_back, DrivesInputs, StartsRight}
 use Rattle.plan_waves.proofs.LaneBits.{answer_on, answers_agree, length-after_instrs, bit_after}
 use Rattle.plan_waves.proofs.Inputs.{free_place, not_injected, or_none}
 use Rattle.plan_waves.proofs.Paths.{loop_lane, other_column}
@@ -46,14 +46,18 @@ after_dark n xs sorted fit =
     ∙ answer_dark l (instr_on xs l)
     ∙ sym (dark n l))
 
+-- entries of the body are not inside it
+pub dark_inside : (plan : Plan) (lit : Lit) → IsLitAtEntries plan lit → IsDarkInside plan lit
+dark_inside plan lit begins c lane some within low = begins (Beside (plan.latches + c) lane) (other_column plan (plan.latches + c) lane (λ e. absurd (omega arith)))
+
 -- the body is dark until what enters it arrives
-pub body_begins_dark : (plan : Plan) → IsAdmissible plan → (edges : ℕ → Lit) → GoesOn plan edges → IsLitAtEntries plan (edges 0)
+pub body_begins_dark : (plan : Plan) → IsAdmissible plan → (edges : ℕ → Lit) → GoesOn plan edges → IsDarkInside plan (edges 0)
     → (m c : ℕ) → m < c → c ≤ length plan.columns → bits_at plan c (edges m) ≡ replicate plan.lanes false
 body_begins_dark plan h edges g begins zero c later within =
     ext_get_or false (bits_at plan c (edges 0)) (replicate plan.lanes false) (length-bits_at plan c (edges 0) ∙ sym (length-replicate plan.lanes false))
     (λ l low. (let lane : l < plan.lanes = omega (arith, low, length-bits_at plan c (edges 0)) in
     bit_on-bits_at plan c (edges 0) l lane
-    ∙ begins (Beside (plan.latches + c) l) (other_column plan (plan.latches + c) l (λ e. absurd (omega arith)))
+    ∙ begins c l later within lane
     ∙ sym (dark plan.lanes l)))
 body_begins_dark plan h edges g begins (suc m) zero later within = absurd (omega arith)
 body_begins_dark plan h edges g begins (suc m) (suc c) later within =
@@ -77,7 +81,7 @@ loops_begin_dark plan h edges g begins m loop inside some within =
     ap (λ n. edges n (loop_entry plan loop)) sum
     ∙ path.arrives before
     ∙ sym (bit_on-bits_at plan all (edges before) lane (omega arith))
-    ∙ ap (λ bits. bit_on bits lane) (body_begins_dark plan h edges g begins before all (omega arith) (omega arith))
+    ∙ ap (λ bits. bit_on bits lane) (body_begins_dark plan h edges g (dark_inside plan (edges 0) begins) before all (omega arith) (omega arith))
     ∙ dark plan.lanes lane))
     (λ near. path.dark begins m some near)
     (cases_lt (tiles_back plan) m)

@@ -23,7 +23,7 @@ use Rattle.plan_waves.specs.Cycles.{cycle_steps, free_bits, loop_bits, entering_
 use Rattle.plan_waves.proofs.Inputs.{driven_edges_go_on, inputs_enter}
 use Rattle.plan_waves.proofs.Columns.{length-bits_at, columns_pass}
 use Rattle.plan_waves.proofs.Loops.{loops_come_round}
-use Rattle.plan_waves.proofs.Beginning.{after_dark, body_begins_dark, loops_begin_dark, plans_start}
+use Rattle.plan_waves.proofs.Beginning.{after_dark, dark_inside, body_begins_dark, loops_begin_dark, plans_start}
 use Rattle.plan_waves.proofs.Machine.{steps_with_loops, both_bits, edges_run_by_cycles}
 
 -- columns make nothing of nothing
@@ -143,7 +143,7 @@ plans_run_by_cycles plan h due d = record { lit = lit; dark = others }
     others : (m c : ℕ) → c ≤ length plan.columns → ((t : ℕ) → m ≢ t * cycle_steps plan + c) → bits_at plan c (edges m) ≡ replicate plan.lanes false
     others m c within none =
         ⊎_elim
-        (λ soon. body_begins_dark plan h edges goes_on start.entries m c soon within)
+        (λ soon. body_begins_dark plan h edges goes_on (dark_inside plan (edges 0) start.entries) m c soon within)
         (λ late. (let before = m - c in
         let sum : m ≡ before + c = omega arith in
         ap (λ n. bits_at plan c (edges n)) sum

@@ -11,7 +11,7 @@ use Rattle.lane_core.specs.Instrs.{bit_on}
 use Rattle.lane_core.specs.Columns.{after_columns}
 use Rattle.plan_layout.specs.Layout.{tiling_of}
 use Rattle.plan_layout.specs.Starts.{first_loop_lane, start_edges}
-use Rattle.plan_waves.specs.Waves.{is_free_entry, GoesOn, IsLitAtEntries, bits_at, loop_exit, loop_entry, tiles_back, DrivesInputs, StartsRight}
+use Rattle.plan_waves.specs.Waves.{is_free_entry, GoesOn, IsLitAtEntries, IsDarkInside, bits_at, loop_exit, loop_entry, tiles_back, DrivesInputs, StartsRight}
 
 -- the edges after macro steps go on
 abbrev pub StepsGoOn : Type 0
@@ -58,13 +58,14 @@ LoopsComeRound =
     → edges (m + (length plan.columns + tiles_back plan)) (loop_entry plan loop)
     ≡ bit_on (after_columns plan.columns (bits_at plan 0 (edges m))) (plan.lanes - 1 - loop)
 
--- where entries of the first column alone are lit at first, the body is dark until what enters it arrives
+-- where the body is dark inside at first, it is dark until what enters it arrives; whether its entries are lit, or edges
+-- on the way back, makes no difference
 abbrev pub BodyBeginsDark : Type 0
 BodyBeginsDark =
-    (plan : Plan) → IsAdmissible plan → (edges : ℕ → Lit) → GoesOn plan edges → IsLitAtEntries plan (edges 0)
+    (plan : Plan) → IsAdmissible plan → (edges : ℕ → Lit) → GoesOn plan edges → IsDarkInside plan (edges 0)
     → (m c : ℕ) → m < c → c ≤ length plan.columns → bits_at plan c (edges m) ≡ replicate plan.lanes false
 
--- and the loops bring nothing after the beginning until a period has passed
+-- where entries of the first column alone are lit at first, the loops bring nothing after that until a period has passed
 abbrev pub LoopsBeginDark : Type 0
 LoopsBeginDark =
     (plan : Plan) → IsAdmissible plan → (edges : ℕ → Lit) → GoesOn plan edges → IsLitAtEntries plan (edges 0)

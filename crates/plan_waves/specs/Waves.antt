@@ -1,5 +1,5 @@
 -- The lit edges of a plan from macro step to macro step, where heads are injected at its free entries alone.
-use Rattle.std.specs.Prelude.{ℤ, pos, ℕ, suc, ◌+◌, ◌-◌, ◌*◌, ◌%◌, ◌<◌, ◌≡◌, ◌==◌, nat_lt, Bool, true, false, ◌&&◌, List, length, map}
+use Rattle.std.specs.Prelude.{ℤ, pos, ℕ, suc, ◌+◌, ◌-◌, ◌*◌, ◌%◌, ◌<◌, ◌≤◌, ◌≡◌, ◌==◌, nat_lt, Bool, true, false, ◌&&◌, List, length, map}
 use Rattle.std.specs.List.{range_with_len}
 use Rattle.ww_rule.specs.Wireworld.{Due}
 use Rattle.tiling.specs.Tiling.{Edge, Lit}
@@ -32,6 +32,10 @@ IsLitAtEntries plan lit = (edge : Edge) → is_body_entry plan edge ≡ false �
 -- the bits at the entries of a column of the body, lane by lane; with the number of columns, the bits that leave the body
 abbrev pub bits_at : Plan → ℕ → Lit → List Bool
 bits_at plan column lit = map (λ lane. lit (Beside (plan.latches + column) lane)) (range_with_len 0 plan.lanes)
+
+-- the body is dark inside: at the entries of its columns but the first, and where it is left
+abbrev pub IsDarkInside : Plan → Lit → Type 0
+IsDarkInside plan lit = (c lane : ℕ) → 0 < c → c ≤ length plan.columns → lane < plan.lanes → lit (Beside (plan.latches + c) lane) ≡ false
 
 -- where a loop leaves the body, and where it enters it again
 abbrev pub loop_exit : Plan → ℕ → Edge

@@ -17,12 +17,12 @@ pub fn loops_come_round()
     ensures { LoopsComeRound }
 {}
 
-/// Where entries of the body alone are lit at macro time 0, the entries of its c-th column, counted from 0, are dark before macro time c.
+/// Where no edge inside the body is lit at macro time 0, the entries of its c-th column, counted from 0, are dark before macro time c.
 pub fn body_begins_dark()
     ensures { BodyBeginsDark }
 {}
 
-/// And the entries on the lanes of loops are dark after macro time 0 until a period has passed.
+/// Where entries of the body alone are lit at macro time 0, those on the lanes of loops are dark after that until a period has passed.
 pub fn loops_begin_dark()
     ensures { LoopsBeginDark }
 {}
