@@ -10,5 +10,6 @@ pub mod Loops
 pub mod Beginning
 pub mod Machine
 pub mod DrivenCycles
+pub mod EdgesShown
 pub mod Plane
 pub mod Rows

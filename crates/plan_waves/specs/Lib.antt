@@ -1,5 +1,6 @@
 pub mod Waves
 pub mod Laws
 pub mod Cycles
+pub mod ShownEdges
 pub mod Shown
 pub mod InputRows

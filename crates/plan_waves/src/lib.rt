@@ -12,5 +12,5 @@ pub use entries::{
     driven_edges_go_on, free_entries_go_dark, inputs_are_entries, inputs_enter, plans_start,
     steps_go_on,
 };
-pub use shown::{plans_show_rows, plans_show_runs, rows_are_injected};
+pub use shown::{plans_show_edges, plans_show_rows, plans_show_runs, rows_are_injected};
 pub use waves::{body_begins_dark, columns_pass, loops_begin_dark, loops_come_round, loops_return};
