@@ -21,7 +21,7 @@ use Rattle.pattern_reading.specs.declared.ports.Ports.{Ports}
 use Rattle.pattern_reading.specs.PortTable.{ports_of}
 use Rattle.pattern_reading.specs.Spelling.{named_or_forms}
 use Rattle.carries.specs.Carries.{drive, before_injections, MeetsConductors, ShowsBits, ShowsRuns}
-use Rattle.or_gate.specs.OrGate.{or_grid, gate_plane, DrivesEntries, entries, is_lit, ShowsOr}
+use Rattle.or_gate.specs.OrGate.{or_grid, gate_plane, DrivesGate, entries, is_lit, ShowsOr}
 use Rattle.or_gate.specs.OrGate as gate
 use Rattle.blifww_tool.specs.Thin.{Names, HasDistinctPorts}
 use Rattle.blifww_tool.specs.Gate.{or_design}
@@ -44,7 +44,7 @@ at_entry zero h = refl
 at_entry (suc zero) h = refl
 at_entry (suc (suc input)) h = absurd (omega arith)
 
-drives : (rows : List (List Bool)) → DrivesEntries (gate_due rows)
+drives : (rows : List (List Bool)) → DrivesGate (gate_due rows)
 drives rows =
     record {
       on_time = λ g x y e. let b = (streams_injected 32 cells rows g x y).0 e in let t : b.cycle * 32 ≡ g = b.in_time in omega arith;

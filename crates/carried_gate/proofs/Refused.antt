@@ -20,7 +20,7 @@ use Rattle.pattern_reading.specs.Examples.{or_ports, or_text_without_nets, port_
 use Rattle.pattern_reading.specs.PortTable.{ports_of, forms_of}
 use Rattle.pattern_reading.proofs.RleVerdict.{rle_reading_is, grid_of}
 use Rattle.carries.specs.Carries.{Carries, NamesPorts, ShowsRuns}
-use Rattle.or_gate.specs.OrGate.{gate_plane, DrivesEntries, entries, or_grid, ShowsOr}
+use Rattle.or_gate.specs.OrGate.{gate_plane, DrivesGate, entries, or_grid, ShowsOr}
 use Rattle.carried_gate.specs.Refused.{RefusesOthers, and_not_design, gate_text, version_line, out_line}
 
 -- what is carried by a text of the gate's drawing
@@ -45,7 +45,7 @@ at_entry zero h = refl
 at_entry (suc zero) h = refl
 at_entry (suc (suc input)) h = absurd (omega arith)
 
-drives : (rows : List (List Bool)) → DrivesEntries (due_of_streams 32 cells rows)
+drives : (rows : List (List Bool)) → DrivesGate (due_of_streams 32 cells rows)
 drives rows =
     record {
       on_time = λ g x y e. let b = (streams_injected 32 cells rows g x y).0 e in let t : b.cycle * 32 ≡ g = b.in_time in omega arith;

@@ -13,12 +13,12 @@ use Rattle.plan_waves.specs.Cycles.{DrivesCycles, injected_bits}
 use Rattle.plan_waves.specs.Shown.{cycle_bits, ShowsPlanRun, PlansShowRuns}
 use Rattle.grid_assembly.specs.Laws.{PatternsArePlanes}
 use Rattle.grid_assembly.specs.PlanDrawing.{start_plane}
-use Rattle.or_gate.specs.OrGate.{or_plan, gate_plane, DrivesEntries, is_lit, before_injections, ShowsOr}
+use Rattle.or_gate.specs.OrGate.{or_plan, gate_plane, DrivesGate, is_lit, before_injections, ShowsOr}
 use Rattle.or_gate.proofs.Admissible.{or_is_admissible}
 use Rattle.or_gate.proofs.Tile.{is_tile}
 
 -- a driven cell is one of the two entries
-at_entry : (due : Due) → DrivesEntries due → (g : ℕ) (x y : ℤ) → due g x y ≡ true → ((x ≡ pos 0) × (y ≡ pos 8)) ⊎ ((x ≡ pos 0) × (y ≡ pos 24))
+at_entry : (due : Due) → DrivesGate due → (g : ℕ) (x y : ℤ) → due g x y ≡ true → ((x ≡ pos 0) × (y ≡ pos 8)) ⊎ ((x ≡ pos 0) × (y ≡ pos 24))
 at_entry due d g x y e =
     elim (or_cases (int_eq x (pos 0) && int_eq y (pos 8)) ((int_eq x (pos 0) && int_eq y (pos 24)) || false) (d.at_entries g x y e)) [
       | inl up ↦ inl (same_place x y (pos 0) (pos 8) up)
@@ -26,7 +26,7 @@ at_entry due d g x y e =
     ]
 
 -- so the gate is driven as plans are
-drives_cycles : (due : Due) → DrivesEntries due → DrivesCycles or_plan due
+drives_cycles : (due : Due) → DrivesGate due → DrivesCycles or_plan due
 drives_cycles due d =
     record {
       on_time = λ g x y e. (let on : g ≡ g / 32 * 32 = omega (arith, d.on_time g x y e) in (g / 32, on));
@@ -64,7 +64,7 @@ conductors plane due is (suc g) x y e = ap (λ p. next_plane (driven due p g) x 
 pub shows_or : KeepsLaw drawing_of → PatternsArePlanes → PlansShowRuns → ShowsOr
 shows_or keeps patterns runs =
     let plane : gate_plane ≡ start_plane or_plan = (patterns or_plan or_is_admissible).plane in
-    let is : (due : Due) → DrivesEntries due → ShowsPlanRun drawing_of or_plan due = λ due d. runs drawing_of keeps or_plan or_is_admissible due (drives_cycles due d) in
+    let is : (due : Due) → DrivesGate due → ShowsPlanRun drawing_of or_plan due = λ due d. runs drawing_of keeps or_plan or_is_admissible due (drives_cycles due d) in
     record {
       is_tile = is_tile keeps plane;
       conductors = λ due d. conductors plane due (is due d);

@@ -41,7 +41,7 @@ abbrev pub entries : List Cell
 entries = at 0 8 ∷ at 0 24 ∷ []
 
 -- heads are injected at the two entries alone, every 32 generations at most
-pub record DrivesEntries (due : Due) : Type 0 where
+pub record DrivesGate (due : Due) : Type 0 where
   pub on_time : (g : ℕ) (x y : ℤ) → due g x y ≡ true → g % 32 ≡ 0
   pub at_entries : (g : ℕ) (x y : ℤ) → due g x y ≡ true → is_among x y entries ≡ true
 
@@ -69,5 +69,5 @@ gate_tile x y = is_in_box (interface kind.Or) x y && is_conductor (gate_plane x 
 pub record ShowsOr : Type 0 where
   -- without the column of the output cell it is a tile that keeps the timing law of Or
   pub is_tile : MeetsTimingLaw (interface kind.Or) gate_tile
-  pub conductors : (due : Due) → DrivesEntries due → (g : ℕ) (x y : ℤ) → due g x y ≡ true → before_injections due g x y ≡ Conductor
-  pub heads : (due : Due) → DrivesEntries due → (g : ℕ) → (driven due gate_plane g (pos 32) (pos 8) ≡ Head) ↔ ((t : ℕ) × (g ≡ 32 + 32 * t) × (is_lit due t ≡ true))
+  pub conductors : (due : Due) → DrivesGate due → (g : ℕ) (x y : ℤ) → due g x y ≡ true → before_injections due g x y ≡ Conductor
+  pub heads : (due : Due) → DrivesGate due → (g : ℕ) → (driven due gate_plane g (pos 32) (pos 8) ≡ Head) ↔ ((t : ℕ) × (g ≡ 32 + 32 * t) × (is_lit due t ≡ true))

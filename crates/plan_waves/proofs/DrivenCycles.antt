@@ -19,7 +19,7 @@ use Rattle.plan_layout.specs.Layout.{tiling_of}
 use Rattle.plan_layout.specs.Starts.{first_loop_lane, start_edges}
 use Rattle.lane_core.proofs.Dark.{dark}
 use Rattle.plan_waves.specs.Waves.{GoesOn, bits_at, loop_entry, tiles_back, DrivesInputs, StartsRight}
-use Rattle.plan_waves.specs.Cycles.{cycle_steps, free_bits, loop_bits, entering_bits, DrivesCycles, injected_bits, ShowsCycles}
+use Rattle.plan_waves.specs.Cycles.{cycle_steps, free_bits, loop_bits, entering_bits, DrivesCycles, injected_bits, RunsByCycles}
 use Rattle.plan_waves.proofs.Inputs.{driven_edges_go_on, inputs_enter}
 use Rattle.plan_waves.proofs.Columns.{length-bits_at, columns_pass}
 use Rattle.plan_waves.proofs.Loops.{loops_come_round}
@@ -62,7 +62,7 @@ same_entering plan inputs inputs' starts starts' each first zero = ap₂ (λ xs 
 same_entering plan inputs inputs' starts starts' each first (suc t) =
     ap₂ (λ xs bits. xs ++ reverse (drop (first_loop_lane plan) (after_columns plan.columns bits))) (each (suc t)) (same_entering plan inputs inputs' starts starts' each first t)
 
-pub plans_run_by_cycles : (plan : Plan) → IsAdmissible plan → (due : Due) → DrivesCycles plan due → ShowsCycles plan due (driven_edges (tiling_of plan) due (start_edges plan))
+pub plans_run_by_cycles : (plan : Plan) → IsAdmissible plan → (due : Due) → DrivesCycles plan due → RunsByCycles plan due (driven_edges (tiling_of plan) due (start_edges plan))
 plans_run_by_cycles plan h due d = record { lit = lit; dark = others }
   where
     fits : plan.latches ≤ plan.lanes

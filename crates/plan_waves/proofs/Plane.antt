@@ -20,7 +20,7 @@ use Rattle.lane_core.specs.Plans.{IsAdmissible, left_of, row_of, latency_of, per
 use Rattle.plan_layout.specs.Layout.{tiling_of}
 use Rattle.plan_layout.specs.Starts.{start_edges}
 use Rattle.lane_core.proofs.Dark.{dark}
-use Rattle.plan_waves.specs.Cycles.{cycle_steps, DrivesCycles, ShowsCycles}
+use Rattle.plan_waves.specs.Cycles.{cycle_steps, DrivesCycles, RunsByCycles}
 use Rattle.plan_waves.specs.ShownEdges.{ShowsEachStep, ShowsDrivenEdges}
 use Rattle.plan_waves.specs.Shown.{start_plane, ShowsEachCycle, cycle_bits, bits_after, ShowsPlanRun}
 use Rattle.plan_waves.proofs.Parts.{some_columns}
@@ -54,7 +54,7 @@ plans_show_runs library law plan h due d = record {
     shown : ShowsDrivenEdges library plan due (start_edges plan)
     shown = plans_show_edges library law plan h due (inputs_of plan due d) (start_edges plan)
 
-    cycles : ShowsCycles plan due edges
+    cycles : RunsByCycles plan due edges
     cycles = plans_run_by_cycles plan h due d
 
     plane : ℕ → Plane

@@ -53,7 +53,7 @@ injected_bits plan due t = map (λ lane. due (t * period_of plan) (pos (left_of 
 
 -- The entries of column c, or with c the number of columns the outputs, have the bits of cycle t at the macro time at
 -- which the cycle begins and c more, and are dark at all others.
-pub record ShowsCycles (plan : Plan) (due : Due) (edges : ℕ → Lit) : Type 0 where
+pub record RunsByCycles (plan : Plan) (due : Due) (edges : ℕ → Lit) : Type 0 where
   pub lit : (t c : ℕ) → c ≤ length plan.columns
       → bits_at plan c (edges (t * cycle_steps plan + c)) ≡ after_columns (take c plan.columns) (entering_bits plan (injected_bits plan due) plan.starts t)
   pub dark : (m c : ℕ) → c ≤ length plan.columns → ((t : ℕ) → m ≢ t * cycle_steps plan + c) → bits_at plan c (edges m) ≡ replicate plan.lanes false
@@ -61,4 +61,4 @@ pub record ShowsCycles (plan : Plan) (due : Due) (edges : ℕ → Lit) : Type 0 
 -- so it is of every admissible plan that is driven so from its start edges on
 abbrev pub PlansRunByCycles : Type 0
 PlansRunByCycles =
-    (plan : Plan) → IsAdmissible plan → (due : Due) → DrivesCycles plan due → ShowsCycles plan due (driven_edges (tiling_of plan) due (start_edges plan))
+    (plan : Plan) → IsAdmissible plan → (due : Due) → DrivesCycles plan due → RunsByCycles plan due (driven_edges (tiling_of plan) due (start_edges plan))
