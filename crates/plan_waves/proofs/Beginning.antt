@@ -17,10 +17,10 @@ use Rattle.plan_layout.specs.Layout.{instrs_of, tiling_of}
 use Rattle.plan_layout.specs.Starts.{first_loop_lane, start_edges}
 use Rattle.lane_core.proofs.Dark.{dark}
 use Rattle.plan_layout.proofs.Halves.{instrs_sorted, instrs_on_lanes}
-use Rattle.plan_waves.specs.Waves.{is_free_entry, GoesOn, is_body_entry, IsLitAtEntries, IsDarkInside, bits_at, loop_entry, tiles_back, DrivesInputs, StartsRight}
+use Rattle.plan_waves.specs.Waves.{is_free_entry, GoesOn, is_body_entry, IsLitAtEntries, IsDarkInside, bits_at, loop_exit, loop_entry, tiles_back, DrivesInputs, StartsRight}
 use Rattle.plan_waves.proofs.LaneBits.{answer_on, answers_agree, length-after_instrs, bit_after}
 use Rattle.plan_waves.proofs.Inputs.{free_place, not_injected, or_none}
-use Rattle.plan_waves.proofs.Paths.{loop_lane, other_column}
+use Rattle.plan_waves.proofs.Paths.{arrives, begins_dark, loop_lane, other_column}
 use Rattle.plan_waves.proofs.Columns.{length-bits_at, bit_on-bits_at, next_bits, not_free}
 use Rattle.plan_waves.proofs.Loops.{loop_path}
 
@@ -79,11 +79,11 @@ loops_begin_dark plan h edges g begins m loop inside some within =
     (λ far. (let before = m - tiles_back plan in
     let sum : m ≡ before + tiles_back plan = omega arith in
     ap (λ n. edges n (loop_entry plan loop)) sum
-    ∙ path.arrives before
+    ∙ arrives plan edges (tiles_back plan) (loop_exit plan loop) (loop_entry plan loop) path before
     ∙ sym (bit_on-bits_at plan all (edges before) lane (omega arith))
     ∙ ap (λ bits. bit_on bits lane) (body_begins_dark plan h edges g (dark_inside plan (edges 0) begins) before all (omega arith) (omega arith))
     ∙ dark plan.lanes lane))
-    (λ near. path.dark begins m some near)
+    (λ near. begins_dark plan edges (tiles_back plan) (loop_exit plan loop) (loop_entry plan loop) path begins m some near)
     (cases_lt (tiles_back plan) m)
 
 -- the start edges are entries of the body

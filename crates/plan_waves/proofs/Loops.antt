@@ -1,14 +1,18 @@
 -- What leaves the body on the lanes of loops enters it again.
-use Rattle.std.proofs.Common.{◌≡◌, refl, sym, ◌∙◌, ap, ℕ, ◌+◌, ◌-◌, ◌*◌, ◌<◌, length, arith}
+use Rattle.std.proofs.Common.{◌≡◌, refl, sym, ◌∙◌, ap, ℕ, ◌+◌, ◌-◌, ◌*◌, ◌<◌, false, length, arith}
 use Rattle.std.proofs.lemmas.List.{take_all}
 use Rattle.tiling.specs.Tiling.{Lit}
+use Rattle.tiling.specs.Steps.{after_steps}
 use Rattle.lane_core.specs.declared.plan.Plan.{Plan}
 use Rattle.lane_core.specs.Plans.{IsAdmissible}
 use Rattle.lane_core.specs.Instrs.{bit_on}
 use Rattle.lane_core.specs.Columns.{after_columns}
+use Rattle.plan_layout.specs.Layout.{tiling_of}
 use Rattle.plan_layout.specs.Starts.{first_loop_lane}
 use Rattle.plan_waves.specs.Waves.{GoesOn, bits_at, loop_exit, loop_entry, tiles_back}
-use Rattle.plan_waves.proofs.Paths.{Reaches, joined, renamed, beside_same}
+use Rattle.plan_waves.specs.WaysBack.{HasWayBack}
+use Rattle.plan_waves.proofs.Passing.{beside_same}
+use Rattle.plan_waves.proofs.Paths.{Reaches, joined, renamed}
 use Rattle.plan_waves.proofs.Turns.{right_turn, left_turn}
 use Rattle.plan_waves.proofs.WayBack.{way_back}
 use Rattle.plan_waves.proofs.Columns.{bit_on-bits_at, columns_pass}
@@ -24,9 +28,25 @@ loop_path plan h edges g loop inside =
     (joined plan edges _ _ _ _ _ (right_turn plan h edges g loop inside)
     (joined plan edges _ _ _ _ _ (way_back plan h edges g loop inside) (left_turn plan h edges g rest (omega arith))))
 
+-- it lies so for all edges that go on
+pub ways_back : (plan : Plan) → IsAdmissible plan → (loop : ℕ) → loop < plan.latches → HasWayBack plan loop
+ways_back plan h loop inside = record {
+  begins = any.back;
+  outside = any.outside;
+  enters = λ edges g m j within. (loop_path plan h edges g loop inside).along m j within;
+}
+  where
+    dark : ℕ → Lit
+    dark = after_steps (tiling_of plan) (λ edge. false)
+
+    any : Reaches plan dark (tiles_back plan) (loop_exit plan loop) (loop_entry plan loop)
+    any = loop_path plan h dark (record { next = λ m edge free. refl }) loop inside
+
 pub loops_return : (plan : Plan) → IsAdmissible plan → (edges : ℕ → Lit) → GoesOn plan edges → (m loop : ℕ) → loop < plan.latches
     → edges (m + tiles_back plan) (loop_entry plan loop) ≡ edges m (loop_exit plan loop)
-loops_return plan h edges g m loop inside = (loop_path plan h edges g loop inside).arrives m
+loops_return plan h edges g m loop inside =
+    let way = ways_back plan h loop inside in
+    way.enters edges g m (tiles_back plan) (omega arith) ∙ ap (edges m) way.begins
 
 pub loops_come_round : (plan : Plan) → IsAdmissible plan → (edges : ℕ → Lit) → GoesOn plan edges → (m loop : ℕ) → loop < plan.latches
     → edges (m + (length plan.columns + tiles_back plan)) (loop_entry plan loop)

@@ -1,4 +1,5 @@
 pub mod Waves
+pub mod WaysBack
 pub mod Laws
 pub mod Cycles
 pub mod ShownEdges

@@ -13,4 +13,7 @@ pub use entries::{
     steps_go_on,
 };
 pub use shown::{plans_show_edges, plans_show_rows, plans_show_runs, rows_are_injected};
-pub use waves::{body_begins_dark, columns_pass, loops_begin_dark, loops_come_round, loops_return};
+pub use waves::{
+    body_begins_dark, columns_pass, loops_begin_dark, loops_come_round, loops_have_ways_back,
+    loops_return,
+};

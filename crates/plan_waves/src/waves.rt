@@ -1,9 +1,16 @@
 // What comes out of the columns of an admissible plan, and comes back to them.
+ghost use Rattle.plan_waves.specs.WaysBack.{LoopsHaveWaysBack};
 ghost use Rattle.plan_waves.specs.Laws.{ColumnsPass, LoopsReturn, LoopsComeRound, BodyBeginsDark, LoopsBeginDark};
 
 /// The bits at the entries of the body at any macro time leave its c-th column c macro steps later, as c columns make of them.
 pub fn columns_pass()
     ensures { ColumnsPass }
+{}
+
+/// What is lit on the way back of a loop of an admissible plan enters the body one macro step later for each tile from there;
+/// the way back begins where the loop leaves the body, and meets no entry of the body before its end.
+pub fn loops_have_ways_back()
+    ensures { LoopsHaveWaysBack }
 {}
 
 /// What leaves the body on the lane of a loop at any macro time enters it again one macro step later for each tile of the
