@@ -17,10 +17,10 @@ use Rattle.plan_layout.specs.Layout.{instrs_of, tiling_of}
 use Rattle.plan_layout.specs.Starts.{first_loop_lane, start_edges}
 use Rattle.lane_core.proofs.Dark.{dark}
 use Rattle.plan_layout.proofs.Halves.{instrs_sorted, instrs_on_lanes}
-use Rattle.plan_waves.specs.Waves.{is_free_entry, GoesOn, is_body_entry, IsLitAtEntries, IsDarkInside, bits_at, loop_exit, loop_entry, tiles_back, DrivesInputs, StartsRight}
+use Rattle.plan_waves.specs.Waves.{is_free_entry, GoesOn, is_body_entry, IsLitAtEntries, is_inside, IsDarkInside, bits_at, loop_exit, loop_entry, tiles_back, DrivesInputs, StartsRight}
 use Rattle.plan_waves.proofs.LaneBits.{answer_on, answers_agree, length-after_instrs, bit_after}
 use Rattle.plan_waves.proofs.Inputs.{free_place, not_injected, or_none}
-use Rattle.plan_waves.proofs.Paths.{arrives, begins_dark, loop_lane, other_column}
+use Rattle.plan_waves.proofs.Paths.{arrives, begins_dark, loop_lane, other_column, left_inside}
 use Rattle.plan_waves.proofs.Columns.{length-bits_at, bit_on-bits_at, next_bits, not_free}
 use Rattle.plan_waves.proofs.Loops.{loop_path}
 
@@ -48,7 +48,12 @@ after_dark n xs sorted fit =
 
 -- entries of the body are not inside it
 pub dark_inside : (plan : Plan) (lit : Lit) → IsLitAtEntries plan lit → IsDarkInside plan lit
-dark_inside plan lit begins c lane some within low = begins (Beside (plan.latches + c) lane) (other_column plan (plan.latches + c) lane (λ e. absurd (omega arith)))
+dark_inside plan lit begins (Above q l) inside = absurd (true≢false (sym inside))
+dark_inside plan lit begins (Beside q l) inside =
+    begins (Beside q l) (other_column plan q l (λ first. absurd (true≢false (sym inside ∙ left_inside plan q l (omega arith)))))
+
+inside_body : (plan : Plan) (c l : ℕ) → 0 < c → c ≤ length plan.columns → l < plan.lanes → is_inside plan (Beside (plan.latches + c) l) ≡ true
+inside_body plan c l some within low = grind (arith, nat_tests)
 
 -- the body is dark until what enters it arrives
 pub body_begins_dark : (plan : Plan) → IsAdmissible plan → (edges : ℕ → Lit) → GoesOn plan edges → IsDarkInside plan (edges 0)
@@ -57,7 +62,7 @@ body_begins_dark plan h edges g begins zero c later within =
     ext_get_or false (bits_at plan c (edges 0)) (replicate plan.lanes false) (length-bits_at plan c (edges 0) ∙ sym (length-replicate plan.lanes false))
     (λ l low. (let lane : l < plan.lanes = omega (arith, low, length-bits_at plan c (edges 0)) in
     bit_on-bits_at plan c (edges 0) l lane
-    ∙ begins c l later within lane
+    ∙ begins (Beside (plan.latches + c) l) (inside_body plan c l later within lane)
     ∙ sym (dark plan.lanes l)))
 body_begins_dark plan h edges g begins (suc m) zero later within = absurd (omega arith)
 body_begins_dark plan h edges g begins (suc m) (suc c) later within =

@@ -33,6 +33,7 @@ pub ways_back : (plan : Plan) → IsAdmissible plan → (loop : ℕ) → loop < 
 ways_back plan h loop inside = record {
   begins = any.back;
   outside = any.outside;
+  apart = any.apart;
   enters = λ edges g m j within. (loop_path plan h edges g loop inside).along m j within;
 }
   where

@@ -10,23 +10,26 @@ use Rattle.tiling.specs.Tiling.Slot.{Whole}
 use Rattle.tiling.specs.Tiling.Edge.{Beside, Above}
 use Rattle.lane_core.specs.declared.plan.Plan.{Plan}
 use Rattle.lane_core.specs.Plans.{IsAdmissible}
-use Rattle.plan_layout.specs.Layout.{tiling_of}
+use Rattle.plan_layout.specs.Layout.{end_of_body, tiling_of}
 use Rattle.plan_layout.specs.Starts.{first_loop_lane}
 use Rattle.plan_layout.proofs.Matched.{tiling_is_matched}
-use Rattle.plan_waves.specs.Waves.{is_free_entry, GoesOn, is_body_entry, IsLitAtEntries}
+use Rattle.plan_waves.specs.Waves.{is_free_entry, GoesOn, is_body_entry, IsLitAtEntries, is_inside}
 use Rattle.plan_waves.specs.WaysBack.{tile_before, tiles_before}
 use Rattle.plan_waves.proofs.Passing.{PassesOn, beside_same, above_same, east_passes, south_passes, west_passes, north_passes}
 
--- an edge is lit exactly when another one was, a macro step before; and that one lies a tile before it, and is no entry of the body
+-- an edge is lit exactly when another one was, a macro step before; and that one lies a tile before it, and is no entry of
+-- the body, nor is this one inside it
 pub record Follows (plan : Plan) (edges : ℕ → Lit) (before after : Edge) : Type 0 where
   pub next : (m : ℕ) → edges (suc m) after ≡ edges m before
   pub outside : is_body_entry plan before ≡ false
+  pub apart : is_inside plan after ≡ false
   pub back : tile_before (tiling_of plan) after ≡ before
 
 -- the same of each edge up to so many tiles before it, of which this one is the last
 pub record Reaches (plan : Plan) (edges : ℕ → Lit) (n : ℕ) (before after : Edge) : Type 0 where
   pub along : (m j : ℕ) → j ≤ n → edges (m + j) after ≡ edges m (tiles_before (tiling_of plan) j after)
   pub outside : (j : ℕ) → 0 < j → j ≤ n → is_body_entry plan (tiles_before (tiling_of plan) j after) ≡ false
+  pub apart : (j : ℕ) → j < n → is_inside plan (tiles_before (tiling_of plan) j after) ≡ false
   pub back : tiles_before (tiling_of plan) n after ≡ before
 
 pub arrives : (plan : Plan) (edges : ℕ → Lit) (n : ℕ) (before after : Edge) → Reaches plan edges n before after → (m : ℕ) → edges (m + n) after ≡ edges m before
@@ -40,9 +43,9 @@ begins_dark plan edges n before after r begins m some within =
     ap (λ k. edges k after) now ∙ r.along 0 m within ∙ begins (tiles_before (tiling_of plan) m after) (r.outside m some within)
 
 -- a tile passes on what it is given, to an edge that is no free entry
-pub passed_on : (plan : Plan) (edges : ℕ → Lit) → GoesOn plan edges → (before after : Edge) → is_body_entry plan before ≡ false → is_free_entry plan after ≡ false
+pub passed_on : (plan : Plan) (edges : ℕ → Lit) → GoesOn plan edges → (before after : Edge) → is_body_entry plan before ≡ false → is_free_entry plan after ≡ false → is_inside plan after ≡ false
     → PassesOn (tiling_of plan) before after → Follows plan edges before after
-passed_on plan edges g before after outside free passes = record { next = λ m. g.next m after free ∙ passes.step (edges m); outside = outside; back = passes.back }
+passed_on plan edges g before after outside free apart passes = record { next = λ m. g.next m after free ∙ passes.step (edges m); outside = outside; apart = apart; back = passes.back }
 
 -- on the lanes of loops and below there is no free entry
 pub loop_lane : (plan : Plan) (q l : ℕ) → first_loop_lane plan ≤ l → is_free_entry plan (Beside q l) ≡ false
@@ -55,11 +58,23 @@ below_body plan q l low = grind (arith, nat_tests)
 pub other_column : (plan : Plan) (q l : ℕ) → q ≢ plan.latches → is_body_entry plan (Beside q l) ≡ false
 other_column plan q l other = grind (arith, nat_tests)
 
+-- nor is it inside the body below it, or left or right of it
+pub below_inside : (plan : Plan) (q l : ℕ) → plan.lanes ≤ l → is_inside plan (Beside q l) ≡ false
+below_inside plan q l low = grind (arith, nat_tests)
+
+pub left_inside : (plan : Plan) (q l : ℕ) → q ≤ plan.latches → is_inside plan (Beside q l) ≡ false
+left_inside plan q l left = grind (arith, nat_tests)
+
+pub right_inside : (plan : Plan) (q l : ℕ) → end_of_body plan < q → is_inside plan (Beside q l) ≡ false
+right_inside plan q l right = grind (arith, nat_tests)
+
 -- a path of edges each of which follows the one before
 pub chain : (plan : Plan) (edges : ℕ → Lit) (path : ℕ → Edge) (n : ℕ) → ((t : ℕ) → t < n → Follows plan edges (path t) (path (t + 1))) → Reaches plan edges n (path 0) (path n)
 chain plan edges path n each = record {
   along = λ m j within. passed m j within ∙ ap (edges m) (sym (behind j within));
   outside = λ j some within. ap (is_body_entry plan) (behind j within) ∙ (each (n - j) (omega arith)).outside;
+  apart = λ j within. (let one : n - j ≡ n - suc j + 1 = omega arith in
+      ap (is_inside plan) (behind j (omega arith) ∙ ap path one) ∙ (each (n - suc j) (omega arith)).apart);
   back = (let last : n - n ≡ 0 = omega arith in behind n (omega arith) ∙ ap path last);
 }
   where
@@ -80,7 +95,7 @@ chain plan edges path n each = record {
         ap (λ k. edges k (path n)) later ∙ passed (suc m) j (omega arith) ∙ ap (λ t. edges (suc m) (path t)) one ∙ (each (n - suc j) (omega arith)).next m
 
 pub once : (plan : Plan) (edges : ℕ → Lit) (before after : Edge) → Follows plan edges before after → Reaches plan edges 1 before after
-once plan edges before after f = record { along = along; outside = outside; back = f.back }
+once plan edges before after f = record { along = along; outside = outside; apart = apart; back = f.back }
   where
     along : (m j : ℕ) → j ≤ 1 → edges (m + j) after ≡ edges m (tiles_before (tiling_of plan) j after)
     along m zero within = let now : m + 0 ≡ m = omega arith in ap (λ k. edges k after) now
@@ -92,6 +107,10 @@ once plan edges before after f = record { along = along; outside = outside; back
     outside (suc zero) some within = ap (is_body_entry plan) f.back ∙ f.outside
     outside (suc (suc j)) some within = absurd (omega arith)
 
+    apart : (j : ℕ) → j < 1 → is_inside plan (tiles_before (tiling_of plan) j after) ≡ false
+    apart zero within = f.apart
+    apart (suc j) within = absurd (omega arith)
+
 pub joined : (plan : Plan) (edges : ℕ → Lit) (a b : ℕ) (first middle last : Edge) → Reaches plan edges a first middle → Reaches plan edges b middle last → Reaches plan edges (a + b) first last
 joined plan edges a b first middle last f g = record {
   along = λ m j within. ⊎_elim (λ near. g.along m j (omega arith)) (λ far. further m j within far) (cases_lt j b);
@@ -99,6 +118,10 @@ joined plan edges a b first middle last f g = record {
       (λ far. ap (is_body_entry plan) (beyond j (omega arith)) ∙ f.outside (j - b) (omega arith) (omega arith))
       (λ near. g.outside j some near)
       (cases_lt b j);
+  apart = λ j within. ⊎_elim
+      (λ near. g.apart j near)
+      (λ far. ap (is_inside plan) (beyond j far) ∙ f.apart (j - b) (omega arith))
+      (cases_lt j b);
   back = (let place : a + b - b ≡ a = omega arith in beyond (a + b) (omega arith) ∙ ap (λ i. tiles_before (tiling_of plan) i middle) place ∙ f.back);
 }
   where
@@ -121,11 +144,12 @@ renamed plan edges n n' first first' last last' e f g path =
 
 -- straight on, in each direction, along so many tiles
 pub east : (plan : Plan) → IsAdmissible plan → (edges : ℕ → Lit) → GoesOn plan edges → (n q l : ℕ) → first_loop_lane plan ≤ l → ((t : ℕ) → t < n → q + t ≢ plan.latches)
+    → ((t : ℕ) → t < n → is_inside plan (Beside (q + (t + 1)) l) ≡ false)
     → ((t : ℕ) → t < n → tiling_of plan (q + t) l ≡ Whole (Tile kind.East)) → Reaches plan edges n (Beside q l) (Beside (q + n) l)
-east plan h edges g n q l high beside tiles =
+east plan h edges g n q l high beside apart tiles =
     renamed plan edges n n (Beside (q + 0) l) (Beside q l) (Beside (q + n) l) (Beside (q + n) l) refl (beside_same (q + 0) q l l (omega arith) refl) refl
     (chain plan edges (λ t. Beside (q + t) l) n (λ t within.
-    passed_on plan edges g (Beside (q + t) l) (Beside (q + (t + 1)) l) (other_column plan (q + t) l (beside t within)) (loop_lane plan (q + (t + 1)) l high)
+    passed_on plan edges g (Beside (q + t) l) (Beside (q + (t + 1)) l) (other_column plan (q + t) l (beside t within)) (loop_lane plan (q + (t + 1)) l high) (apart t within)
     (east_passes (tiling_of plan) (tiling_is_matched plan h) (q + t) (q + (t + 1)) l (omega arith) (tiles t within))))
 
 pub south : (plan : Plan) → IsAdmissible plan → (edges : ℕ → Lit) → GoesOn plan edges → (n q l : ℕ)
@@ -133,7 +157,7 @@ pub south : (plan : Plan) → IsAdmissible plan → (edges : ℕ → Lit) → Go
 south plan h edges g n q l tiles =
     renamed plan edges n n (Above q (l + 0)) (Above q l) (Above q (l + n)) (Above q (l + n)) refl (above_same q q (l + 0) l refl (omega arith)) refl
     (chain plan edges (λ t. Above q (l + t)) n (λ t within.
-    passed_on plan edges g (Above q (l + t)) (Above q (l + (t + 1))) refl refl
+    passed_on plan edges g (Above q (l + t)) (Above q (l + (t + 1))) refl refl refl
     (south_passes (tiling_of plan) (tiling_is_matched plan h) q (l + t) (l + (t + 1)) (omega arith) (tiles t within))))
 
 pub west : (plan : Plan) → IsAdmissible plan → (edges : ℕ → Lit) → GoesOn plan edges → (n q l : ℕ) → plan.lanes ≤ l
@@ -141,7 +165,7 @@ pub west : (plan : Plan) → IsAdmissible plan → (edges : ℕ → Lit) → Goe
 west plan h edges g n q l low tiles =
     renamed plan edges n n (Beside (q + (n - 0)) l) (Beside (q + n) l) (Beside (q + (n - n)) l) (Beside q l) refl (beside_same (q + (n - 0)) (q + n) l l (omega arith) refl) (beside_same (q + (n - n)) q l l (omega arith) refl)
     (chain plan edges (λ t. Beside (q + (n - t)) l) n (λ t within.
-    passed_on plan edges g (Beside (q + (n - t)) l) (Beside (q + (n - (t + 1))) l) (below_body plan (q + (n - t)) l low) (loop_lane plan (q + (n - (t + 1))) l (omega arith))
+    passed_on plan edges g (Beside (q + (n - t)) l) (Beside (q + (n - (t + 1))) l) (below_body plan (q + (n - t)) l low) (loop_lane plan (q + (n - (t + 1))) l (omega arith)) (below_inside plan (q + (n - (t + 1))) l low)
     (west_passes (tiling_of plan) (tiling_is_matched plan h) (q + (n - (t + 1))) (q + (n - t)) l (omega arith) (tiles (n - (t + 1)) (omega arith)))))
 
 pub north : (plan : Plan) → IsAdmissible plan → (edges : ℕ → Lit) → GoesOn plan edges → (n q l : ℕ)
@@ -149,5 +173,5 @@ pub north : (plan : Plan) → IsAdmissible plan → (edges : ℕ → Lit) → Go
 north plan h edges g n q l tiles =
     renamed plan edges n n (Above q (l + (n - 0))) (Above q (l + n)) (Above q (l + (n - n))) (Above q l) refl (above_same q q (l + (n - 0)) (l + n) refl (omega arith)) (above_same q q (l + (n - n)) l refl (omega arith))
     (chain plan edges (λ t. Above q (l + (n - t))) n (λ t within.
-    passed_on plan edges g (Above q (l + (n - t))) (Above q (l + (n - (t + 1)))) refl refl
+    passed_on plan edges g (Above q (l + (n - t))) (Above q (l + (n - (t + 1)))) refl refl refl
     (north_passes (tiling_of plan) (tiling_is_matched plan h) q (l + (n - (t + 1))) (l + (n - t)) (omega arith) (tiles (n - (t + 1)) (omega arith)))))

@@ -19,7 +19,7 @@ use Rattle.plan_layout.proofs.Matched.{tiling_is_matched}
 use Rattle.plan_waves.specs.Waves.{GoesOn}
 use Rattle.plan_waves.proofs.Passing.{beside_same, west_passes, upper_swap_passes, lower_swap_passes}
 use Rattle.plan_waves.proofs.Parts.{return_at}
-use Rattle.plan_waves.proofs.Paths.{Reaches, Follows, passed_on, loop_lane, below_body, once, joined, renamed, chain, west}
+use Rattle.plan_waves.proofs.Paths.{Reaches, Follows, passed_on, loop_lane, below_body, below_inside, once, joined, renamed, chain, west}
 
 -- what stands on the way back, by the two tests
 upper_half : (loops back off : ℕ) → back < loops → off % 2 ≡ back % 2 → off + 1 < loops → return_slot loops back off ≡ Upper (Tile kind.WestSwap)
@@ -71,7 +71,7 @@ one_down : (plan : Plan) → IsAdmissible plan → (edges : ℕ → Lit) → Goe
     → back < plan.latches → off % 2 ≡ back % 2 → off + 1 < plan.latches → Follows plan edges (way plan back off) (way plan (back + 1) (off + 1))
 one_down plan h edges g back off swaps same within =
     let fits = h.size.loops_in_columns in
-    passed_on plan edges g (way plan back off) (way plan (back + 1) (off + 1)) (below_body plan (end_of_body plan - back) (plan.lanes + off) (omega arith)) (loop_lane plan (end_of_body plan - (back + 1)) (plan.lanes + (off + 1)) (omega arith))
+    passed_on plan edges g (way plan back off) (way plan (back + 1) (off + 1)) (below_body plan (end_of_body plan - back) (plan.lanes + off) (omega arith)) (loop_lane plan (end_of_body plan - (back + 1)) (plan.lanes + (off + 1)) (omega arith)) (below_inside plan (end_of_body plan - (back + 1)) (plan.lanes + (off + 1)) (omega arith))
     (lower_swap_passes (tiling_of plan) (tiling_is_matched plan h) (end_of_body plan - (back + 1)) (end_of_body plan - back) (plan.lanes + (off + 1)) (plan.lanes + off)
     (omega arith) (omega arith) (block plan back (off + 1) (omega arith) within ∙ lower_half plan.latches back (off + 1) swaps (omega arith) (omega arith)))
 
@@ -79,14 +79,14 @@ one_up : (plan : Plan) → IsAdmissible plan → (edges : ℕ → Lit) → GoesO
     → back < plan.latches → off % 2 ≡ back % 2 → off + 1 < plan.latches → Follows plan edges (way plan back (off + 1)) (way plan (back + 1) off)
 one_up plan h edges g back off swaps same within =
     let fits = h.size.loops_in_columns in
-    passed_on plan edges g (way plan back (off + 1)) (way plan (back + 1) off) (below_body plan (end_of_body plan - back) (plan.lanes + (off + 1)) (omega arith)) (loop_lane plan (end_of_body plan - (back + 1)) (plan.lanes + off) (omega arith))
+    passed_on plan edges g (way plan back (off + 1)) (way plan (back + 1) off) (below_body plan (end_of_body plan - back) (plan.lanes + (off + 1)) (omega arith)) (loop_lane plan (end_of_body plan - (back + 1)) (plan.lanes + off) (omega arith)) (below_inside plan (end_of_body plan - (back + 1)) (plan.lanes + off) (omega arith))
     (upper_swap_passes (tiling_of plan) (tiling_is_matched plan h) (end_of_body plan - (back + 1)) (end_of_body plan - back) (plan.lanes + off) (plan.lanes + (off + 1))
     (omega arith) (omega arith) (block plan back off (omega arith) (omega arith) ∙ upper_half plan.latches back off swaps same within))
 
 straight_on : (plan : Plan) → IsAdmissible plan → (edges : ℕ → Lit) → GoesOn plan edges → (back off : ℕ)
     → back < length plan.columns → off < plan.latches → return_slot plan.latches back off ≡ Whole (Tile kind.West) → Follows plan edges (way plan back off) (way plan (back + 1) off)
 straight_on plan h edges g back off within low tile =
-    passed_on plan edges g (way plan back off) (way plan (back + 1) off) (below_body plan (end_of_body plan - back) (plan.lanes + off) (omega arith)) (loop_lane plan (end_of_body plan - (back + 1)) (plan.lanes + off) (omega arith))
+    passed_on plan edges g (way plan back off) (way plan (back + 1) off) (below_body plan (end_of_body plan - back) (plan.lanes + off) (omega arith)) (loop_lane plan (end_of_body plan - (back + 1)) (plan.lanes + off) (omega arith)) (below_inside plan (end_of_body plan - (back + 1)) (plan.lanes + off) (omega arith))
     (west_passes (tiling_of plan) (tiling_is_matched plan h) (end_of_body plan - (back + 1)) (end_of_body plan - back) (plan.lanes + off)
     (omega arith) (block plan back off within low ∙ tile))
 

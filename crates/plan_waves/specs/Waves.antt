@@ -1,5 +1,5 @@
 -- The lit edges of a plan from macro step to macro step, where heads are injected at its free entries alone.
-use Rattle.std.specs.Prelude.{ℤ, pos, ℕ, suc, ◌+◌, ◌-◌, ◌*◌, ◌%◌, ◌<◌, ◌≤◌, ◌≡◌, ◌==◌, nat_lt, Bool, true, false, ◌&&◌, List, length, map}
+use Rattle.std.specs.Prelude.{ℤ, pos, ℕ, suc, ◌+◌, ◌-◌, ◌*◌, ◌%◌, ◌<◌, ◌≡◌, ◌==◌, nat_lt, nat_le, Bool, true, false, ◌&&◌, List, length, map}
 use Rattle.std.specs.List.{range_with_len}
 use Rattle.ww_rule.specs.Wireworld.{Due}
 use Rattle.tiling.specs.Tiling.{Edge, Lit}
@@ -33,9 +33,14 @@ IsLitAtEntries plan lit = (edge : Edge) → is_body_entry plan edge ≡ false �
 abbrev pub bits_at : Plan → ℕ → Lit → List Bool
 bits_at plan column lit = map (λ lane. lit (Beside (plan.latches + column) lane)) (range_with_len 0 plan.lanes)
 
--- the body is dark inside: at the entries of its columns but the first, and where it is left
+-- the edges inside the body: the entries of its columns but the first, and where it is left
+abbrev pub is_inside : Plan → Edge → Bool
+is_inside plan (Beside column lane) = nat_lt plan.latches column && nat_le column (end_of_body plan) && nat_lt lane plan.lanes
+is_inside plan (Above column lane) = false
+
+-- none of these is lit
 abbrev pub IsDarkInside : Plan → Lit → Type 0
-IsDarkInside plan lit = (c lane : ℕ) → 0 < c → c ≤ length plan.columns → lane < plan.lanes → lit (Beside (plan.latches + c) lane) ≡ false
+IsDarkInside plan lit = (edge : Edge) → is_inside plan edge ≡ true → lit edge ≡ false
 
 -- where a loop leaves the body, and where it enters it again
 abbrev pub loop_exit : Plan → ℕ → Edge

@@ -7,7 +7,7 @@ use Rattle.tiling.specs.Matched.{is_left}
 use Rattle.lane_core.specs.declared.plan.Plan.{Plan}
 use Rattle.lane_core.specs.Plans.{IsAdmissible}
 use Rattle.plan_layout.specs.Layout.{tiling_of}
-use Rattle.plan_waves.specs.Waves.{GoesOn, is_body_entry, loop_exit, loop_entry, tiles_back}
+use Rattle.plan_waves.specs.Waves.{GoesOn, is_body_entry, is_inside, loop_exit, loop_entry, tiles_back}
 
 -- where a signal has entered that leaves the block (q, l) on the way back of a loop: at the one entry of a tile of one
 -- lane, and in a swap at the entry of its other lane
@@ -31,11 +31,12 @@ tiles_before tiling (suc j) edge = tile_before tiling (tiles_before tiling j edg
 abbrev pub before_entry : Plan → ℕ → ℕ → Edge
 before_entry plan loop j = tiles_before (tiling_of plan) j (loop_entry plan loop)
 
--- Where the way back of a loop lies: it begins at the loop's exit, meets no entry of the body before its end, and what is
--- lit on it enters the body one macro step later for each tile from there.
+-- Where the way back of a loop lies: it begins at the loop's exit, meets no edge of the body but this one and the loop's
+-- entry, and what is lit on it enters the body one macro step later for each tile from there.
 pub record HasWayBack (plan : Plan) (loop : ℕ) : Type 0 where
   pub begins : before_entry plan loop (tiles_back plan) ≡ loop_exit plan loop
   pub outside : (j : ℕ) → 0 < j → j ≤ tiles_back plan → is_body_entry plan (before_entry plan loop j) ≡ false
+  pub apart : (j : ℕ) → j < tiles_back plan → is_inside plan (before_entry plan loop j) ≡ false
   pub enters : (edges : ℕ → Lit) → GoesOn plan edges → (m j : ℕ) → j ≤ tiles_back plan → edges (m + j) (loop_entry plan loop) ≡ edges m (before_entry plan loop j)
 
 -- each loop of an admissible plan has its way back

@@ -8,7 +8,7 @@ pub fn columns_pass()
 {}
 
 /// What is lit on the way back of a loop of an admissible plan enters the body one macro step later for each tile from there;
-/// the way back begins where the loop leaves the body, and meets no entry of the body before its end.
+/// the way back begins where the loop leaves the body, and meets the body again at its end alone.
 pub fn loops_have_ways_back()
     ensures { LoopsHaveWaysBack }
 {}
