@@ -4,7 +4,7 @@ use Rattle.std.specs.Prelude.{◌≢◌}
 use Rattle.std.proofs.lemmas.Bool.{cases_lt}
 use Rattle.std.proofs.lemmas.Bool.Decides.{nat_tests}
 use Rattle.tile_core.specs.declared.kind.Kind.TheVariants as kind
-use Rattle.tiling.specs.Tiling.{Edge, Lit}
+use Rattle.tiling.specs.Tiling.{Tiling, Edge, Lit}
 use Rattle.tiling.specs.Tiling.Piece.{Tile}
 use Rattle.tiling.specs.Tiling.Slot.{Whole}
 use Rattle.tiling.specs.Tiling.Edge.{Beside, Above}
@@ -68,6 +68,13 @@ left_inside plan q l left = grind (arith, nat_tests)
 pub right_inside : (plan : Plan) (q l : ℕ) → end_of_body plan < q → is_inside plan (Beside q l) ≡ false
 right_inside plan q l right = grind (arith, nat_tests)
 
+-- so many tiles back, and more
+pub further_back : (tiling : Tiling) (edge : Edge) (j more : ℕ) → tiles_before tiling (j + more) edge ≡ tiles_before tiling more (tiles_before tiling j edge)
+further_back tiling edge j zero = let none : j + 0 ≡ j = omega arith in ap (λ n. tiles_before tiling n edge) none
+further_back tiling edge j (suc more) =
+    let one : j + suc more ≡ suc (j + more) = omega arith in
+    ap (λ n. tiles_before tiling n edge) one ∙ ap (tile_before tiling) (further_back tiling edge j more)
+
 -- a path of edges each of which follows the one before
 pub chain : (plan : Plan) (edges : ℕ → Lit) (path : ℕ → Edge) (n : ℕ) → ((t : ℕ) → t < n → Follows plan edges (path t) (path (t + 1))) → Reaches plan edges n (path 0) (path n)
 chain plan edges path n each = record {
@@ -125,12 +132,10 @@ joined plan edges a b first middle last f g = record {
   back = (let place : a + b - b ≡ a = omega arith in beyond (a + b) (omega arith) ∙ ap (λ i. tiles_before (tiling_of plan) i middle) place ∙ f.back);
 }
   where
-    more : (i : ℕ) → tiles_before (tiling_of plan) (b + i) last ≡ tiles_before (tiling_of plan) i middle
-    more zero = let none : b + 0 ≡ b = omega arith in ap (λ i. tiles_before (tiling_of plan) i last) none ∙ g.back
-    more (suc i) = let one : b + suc i ≡ suc (b + i) = omega arith in ap (λ i. tiles_before (tiling_of plan) i last) one ∙ ap (tile_before (tiling_of plan)) (more i)
-
     beyond : (j : ℕ) → b ≤ j → tiles_before (tiling_of plan) j last ≡ tiles_before (tiling_of plan) (j - b) middle
-    beyond j far = let sum : j ≡ b + (j - b) = omega arith in ap (λ i. tiles_before (tiling_of plan) i last) sum ∙ more (j - b)
+    beyond j far =
+        let sum : j ≡ b + (j - b) = omega arith in
+        ap (λ i. tiles_before (tiling_of plan) i last) sum ∙ further_back (tiling_of plan) last b (j - b) ∙ ap (tiles_before (tiling_of plan) (j - b)) g.back
 
     further : (m j : ℕ) → j ≤ a + b → b ≤ j → edges (m + j) last ≡ edges m (tiles_before (tiling_of plan) j last)
     further m j within far =

@@ -42,3 +42,9 @@ pub record HasWayBack (plan : Plan) (loop : ℕ) : Type 0 where
 -- each loop of an admissible plan has its way back
 abbrev pub LoopsHaveWaysBack : Type 0
 LoopsHaveWaysBack = (plan : Plan) → IsAdmissible plan → (loop : ℕ) → loop < plan.latches → HasWayBack plan loop
+
+-- no edge lies on the ways back of two loops, nor at two places on one
+abbrev pub WaysBackAreApart : Type 0
+WaysBackAreApart =
+    (plan : Plan) → IsAdmissible plan → (loop other j i : ℕ) → loop < plan.latches → other < plan.latches → j ≤ tiles_back plan → i ≤ tiles_back plan
+    → before_entry plan loop j ≡ before_entry plan other i → (loop ≡ other) × (j ≡ i)

@@ -15,5 +15,5 @@ pub use entries::{
 pub use shown::{plans_show_edges, plans_show_rows, plans_show_runs, rows_are_injected};
 pub use waves::{
     body_begins_dark, columns_pass, loops_begin_dark, loops_come_round, loops_have_ways_back,
-    loops_return,
+    loops_return, ways_back_are_apart,
 };

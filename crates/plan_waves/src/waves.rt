@@ -1,5 +1,5 @@
 // What comes out of the columns of an admissible plan, and comes back to them.
-ghost use Rattle.plan_waves.specs.WaysBack.{LoopsHaveWaysBack};
+ghost use Rattle.plan_waves.specs.WaysBack.{LoopsHaveWaysBack, WaysBackAreApart};
 ghost use Rattle.plan_waves.specs.Laws.{ColumnsPass, LoopsReturn, LoopsComeRound, BodyBeginsDark, LoopsBeginDark};
 
 /// The bits at the entries of the body at any macro time leave its c-th column c macro steps later, as c columns make of them.
@@ -11,6 +11,11 @@ pub fn columns_pass()
 /// the way back begins where the loop leaves the body, and meets the body again at its end alone.
 pub fn loops_have_ways_back()
     ensures { LoopsHaveWaysBack }
+{}
+
+/// No edge lies on the ways back of two loops of an admissible plan, nor at two places on one.
+pub fn ways_back_are_apart()
+    ensures { WaysBackAreApart }
 {}
 
 /// What leaves the body on the lane of a loop at any macro time enters it again one macro step later for each tile of the
