@@ -58,7 +58,7 @@ below_body plan q l low = grind (arith, nat_tests)
 pub other_column : (plan : Plan) (q l : ℕ) → q ≢ plan.latches → is_body_entry plan (Beside q l) ≡ false
 other_column plan q l other = grind (arith, nat_tests)
 
--- nor is it inside the body below it, or left or right of it
+-- below the body, and left and right of it, no edge is inside it
 pub below_inside : (plan : Plan) (q l : ℕ) → plan.lanes ≤ l → is_inside plan (Beside q l) ≡ false
 below_inside plan q l low = grind (arith, nat_tests)
 
