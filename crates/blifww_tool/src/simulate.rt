@@ -1,5 +1,5 @@
 // `simulate`: the bits that a pattern's outputs show, as lines.
-ghost use Rattle.std.specs.Prelude.{◌≡◌, ◌≢◌, ◌≤◌, ◌<◌, ◌⊎◌, ℕ, List, ◌++◌, length, take, map, flat_map, zip, string_bytes, IfOk, IfErr, OnOk, IsErrOf};
+ghost use Rattle.std.specs.Prelude.{◌≡◌, ◌≢◌, ◌≤◌, ◌<◌, ◌⊎◌, ℕ, List, ◌++◌, take, map, flat_map, zip, string_bytes, IfOk, IfErr, OnOk, IsErrOf};
 ghost use Rattle.drive.specs.Driving.{last_generation, greatest_generation};
 ghost use Rattle.command_words.specs.Shapes.{simulate};
 ghost use Rattle.pattern_reading.specs.Ports.{names_of};

@@ -30,8 +30,8 @@ entering_bits plan inputs starts zero = inputs zero ++ starts
 entering_bits plan inputs starts (suc t) =
     inputs (suc t) ++ reverse (drop (first_loop_lane plan) (after_columns plan.columns (entering_bits plan inputs starts t)))
 
--- The bits at the entries of each column, in cycles that are counted from any macro time on. Cycles that begin at
--- different times within one cycle have nothing in common.
+-- The bits at the entries of each column, in cycles that are counted from any macro time on: they depend on the free
+-- entries when these cycles begin, and on the loops' entries at the first, alone.
 abbrev pub EdgesRunByCycles : Type 0
 EdgesRunByCycles =
     (plan : Plan) → IsAdmissible plan → (edges : ℕ → Lit) → GoesOn plan edges → (first t c : ℕ) → c ≤ length plan.columns
