@@ -1,9 +1,10 @@
 -- Injections: cells that are made heads from outside, given by a list or by streams of bits.
-use Rattle.std.specs.Prelude.{ℤ, pos, ℕ, ◌+◌, ◌==◌, Bool, ◌&&◌, cond, List, [], ◌∷◌, ◌++◌, map, filter}
+use Rattle.std.specs.Prelude.{ℤ, pos, ℕ, zero, suc, ◌+◌, ◌==◌, ◌≡◌, Bool, true, ◌&&◌, cond, List, [], ◌∷◌, ◌++◌, map, filter}
 use Rattle.std.specs.List.{list_any}
 use Rattle.std.specs.Ordering.{int_eq}
 use Rattle.ww_rule.specs.declared.pattern.Injection.{Injection}
-use Rattle.ww_rule.specs.Wireworld.{Due}
+use Rattle.ww_rule.specs.declared.pattern.State.TheVariants.{Conductor}
+use Rattle.ww_rule.specs.Wireworld.{Plane, Due, next_plane, driven}
 
 -- is the cell at x, y one of these?
 abbrev pub is_among : List (ℕ × ℕ) → ℤ → ℤ → Bool
@@ -34,3 +35,12 @@ injections_from g period cells (row ∷ rows) =
 -- what streams of bits make due: at generation t * period the cells whose bits are 1 in row t
 abbrev pub due_of_streams : ℕ → List (ℕ × ℕ) → List (List Bool) → Due
 due_of_streams period cells rows = due_of_list (injections_from 0 period cells rows)
+
+-- the plane of a generation before that generation's injections
+abbrev pub before_injections : Due → Plane → ℕ → Plane
+before_injections due p zero = p
+before_injections due p (suc g) = next_plane (driven due p g)
+
+-- each injection meets a cell that is a conductor before that generation's injections
+abbrev pub MeetsConductors : Due → Plane → Type 0
+MeetsConductors due p = (g : ℕ) (x y : ℤ) → due g x y ≡ true → before_injections due p g x y ≡ Conductor

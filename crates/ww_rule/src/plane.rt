@@ -60,6 +60,21 @@ impl Plane {
     }
 }
 
+impl From<Pattern> for Plane {
+    ghost use Rattle.ww_rule.specs.Patterns.{grid_of, box_of};
+
+    ghost from_gives = { λ pattern plane. box_of plane ≡ grid_of pattern };
+
+    /// The plane that a pattern stands for, of the pattern's own rows.
+    fn from(pattern: Pattern) -> Plane {
+        Plane {
+            width: pattern.width,
+            height: pattern.height,
+            rows: pattern.rows,
+        }
+    }
+}
+
 /// The next generation of a plane by Silverman's rule: an empty cell stays empty; a head becomes a tail; a tail becomes
 /// a conductor; a conductor becomes a head exactly when one or two of its eight neighbours are heads.
 pub fn step_plain(alloc: Global, plane: &Plane) -> Result<Plane, RuleError>
