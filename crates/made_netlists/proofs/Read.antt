@@ -24,7 +24,8 @@ use Rattle.made_netlists.specs.Design.{made_model, ReadsAsMade, gate_cover, cove
 use Rattle.made_netlists.proofs.Lines.{IsNear, made_lines, made_lines_are}
 use Rattle.made_netlists.proofs.LineRules.{no_line_fault}
 use Rattle.made_netlists.proofs.Models.{made_models}
-use Rattle.blif_text.specs.Drivers.{at_line, cover_output, cover_readings, drivers_of, is_named, readings_of}
+use Rattle.netlist_core.specs.Names.{at_line, is_named}
+use Rattle.blif_text.specs.Drivers.{cover_output, cover_readings, drivers_of, readings_of}
 use Rattle.made_netlists.specs.declared.gate.GateKind.{GateKind}
 use Rattle.made_netlists.specs.declared.gate.GateKind.TheVariants.{And, Or, Xor, Nand}
 use Rattle.made_netlists.specs.declared.gate.Gate.{Gate}

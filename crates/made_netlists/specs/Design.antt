@@ -4,7 +4,7 @@ use Rattle.netlist_core.specs.declared.model.Cover.{Cover}
 use Rattle.netlist_core.specs.declared.model.LatchRow.{LatchRow}
 use Rattle.netlist_core.specs.declared.model.Model.{Model}
 use Rattle.netlist_core.specs.declared.model.Design.{Design}
-use Rattle.blif_text.specs.Drivers.{at_line}
+use Rattle.netlist_core.specs.Names.{at_line}
 use Rattle.blif_text.specs.Faults.{IsDesignOf}
 use Rattle.made_netlists.specs.declared.gate.GateKind.{GateKind}
 use Rattle.made_netlists.specs.declared.gate.GateKind.TheVariants.{And, Or, Xor, Nand}

@@ -1,6 +1,6 @@
 use Rattle.std.proofs.Common.{◌≡◌, min, ◌+◌, ◌-◌, ◌*◌, ◌^◌, length, sum_by, take}
-use Rattle.netlist_meaning.specs.Weight.{port_weight, cover_weight}
-use Rattle.netlist_meaning.proofs.weight.weight_of.Given as goal
+use Rattle.netlist_core.specs.OwnWeight.{port_weight, cover_weight}
+use Rattle.netlist_core.proofs.weight.weight_of.Given as goal
 
 abbrev pub invariant-loop-cover : goal.invariant-loop-cover
 invariant-loop-cover l =

@@ -1,13 +1,14 @@
 //! The part of a design's weight that is one model's own.
 
 ghost use Rattle.std.specs.Prelude.{◌≡◌, min, ◌+◌, length, count_by, sum_by, not};
-ghost use Rattle.netlist_meaning.specs.Weight.{is_among, port_weight, literals, cover_weight, own_weight};
+ghost use Rattle.netlist_core.specs.Names.{is_named};
+ghost use Rattle.netlist_core.specs.OwnWeight.{port_weight, literals, cover_weight, own_weight};
 
-use netlist_core::{Cover, Model, Port};
+use crate::model::{Cover, Model, Port};
 
 // Whether a port has the name.
-fn is_among(ports: &[Port], name: &[u8]) -> bool
-    ensures { result ≡ is_among ports.now name.now }
+fn is_named(ports: &[Port], name: &[u8]) -> bool
+    ensures { result ≡ is_named ports.now name.now }
 {
     ports.iter().any(|port| port.name.as_slice() == name)
 }
@@ -41,7 +42,7 @@ fn port_weight(model: &Model) -> u64
         .clocks
         .as_slice()
         .iter()
-        .filter(|clock| !is_among(ins, clock.name.as_slice()))
+        .filter(|clock| !is_named(ins, clock.name.as_slice()))
         .count();
     (ins.len() as u64)
         .saturating_add(model.outs.len() as u64)
