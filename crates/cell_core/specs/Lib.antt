@@ -1,0 +1,4 @@
+pub mod Sources
+pub mod Meaning
+pub mod Loops
+pub mod Adding

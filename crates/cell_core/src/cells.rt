@@ -1,0 +1,70 @@
+// Cells of two inputs, and what they read.
+ghost use Rattle.std.specs.Prelude.{◌≡◌};
+ghost use Rattle.cell_core.specs.Sources.{is_there, reads_there, is_one, reads_one};
+
+/// What a cell or a port reads: an input, a latch or an earlier cell by its number from 0, or a constant.
+#[derive(Clone, Copy, Debug, PartialEq, Eq, PartialOrd, Ord)]
+pub enum Src {
+    Input(u32),
+    Latch(u32),
+    One,
+    Zero,
+    Cell(u32),
+}
+
+/// A cell of two inputs.
+#[derive(Clone, Copy, Debug, PartialEq, Eq, PartialOrd, Ord)]
+pub enum Cell {
+    /// 1 where one of the two is 1.
+    Or(Src, Src),
+    /// 1 where exactly one of the two is 1.
+    Xor(Src, Src),
+    /// 1 where the first is 1 and the second is not.
+    AndNot(Src, Src),
+}
+
+impl Src {
+    /// Whether the source is there, where there are so many inputs, latches and cells.
+    pub fn is_there(self, inputs: usize, latches: usize, cells: usize) -> bool
+        ensures { result ≡ is_there inputs latches cells self }
+    {
+        match self {
+            Src::Input(i) => (i as usize) < inputs,
+            Src::Latch(i) => (i as usize) < latches,
+            Src::One | Src::Zero => true,
+            Src::Cell(i) => (i as usize) < cells,
+        }
+    }
+
+    /// Whether it is constant 1.
+    pub fn is_one(self) -> bool
+        ensures { result ≡ is_one self }
+    {
+        match self {
+            Src::One => true,
+            Src::Input(_) | Src::Latch(_) | Src::Zero | Src::Cell(_) => false,
+        }
+    }
+}
+
+impl Cell {
+    /// Whether both of its sources are there.
+    pub fn reads_there(self, inputs: usize, latches: usize, cells: usize) -> bool
+        ensures { result ≡ reads_there inputs latches cells self }
+    {
+        match self {
+            Cell::Or(a, b) | Cell::Xor(a, b) | Cell::AndNot(a, b) => {
+                a.is_there(inputs, latches, cells) && b.is_there(inputs, latches, cells)
+            }
+        }
+    }
+
+    /// Whether it reads constant 1.
+    pub fn reads_one(self) -> bool
+        ensures { result ≡ reads_one self }
+    {
+        match self {
+            Cell::Or(a, b) | Cell::Xor(a, b) | Cell::AndNot(a, b) => a.is_one() || b.is_one(),
+        }
+    }
+}

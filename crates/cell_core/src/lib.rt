@@ -1,0 +1,14 @@
+//! Lists of two-input cells: what a circuit computes in one cycle, from the bits of its inputs and of its latches.
+#![tactic(auto)]
+
+mod cells;
+mod error;
+pub mod laws;
+mod list;
+
+pub use cells::{Cell, Src};
+pub use error::CellError;
+pub use list::CellList;
+
+#[cfg(test)]
+mod tests;
