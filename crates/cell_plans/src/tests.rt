@@ -15,7 +15,11 @@ fn plans_do_what_random_lists_do(rt: HostRuntime) -> Result<(), Fail> {
     for turn in 0..2000u32 {
         let list = draw_list(rt.alloc(), &mut draw)?;
         let plan = plan_of(rt.alloc(), &list)?;
-        assert_eq!(rt; agrees(rt.alloc(), &list, &plan, &mut draw)?, true, "list {turn}");
+        assert_eq!(rt;
+            agrees(rt.alloc(), &list, &plan, &mut draw)?,
+            true,
+            "list {turn}"
+        );
     }
     Ok(())
 }

@@ -1,7 +1,6 @@
 // Random lists of cells.
-ghost use Rattle.std.specs.Prelude.{◌≡◌, ◌<◌, ◌^◌, ◌+◌, IsTrue, IfOk, length};
+ghost use Rattle.std.specs.Prelude.{◌≡◌, ◌<◌, ◌^◌, ◌+◌, ◌-◌, IsTrue, IfOk, length};
 ghost use Rattle.cell_core.specs.Sources.{is_there, reads_there, are_there};
-ghost use Rattle.cell_core.specs.Loops.{loop_count};
 
 use cell_core::{Cell, CellList, Src};
 use lists::List;
@@ -9,15 +8,18 @@ use std::alloc::Global;
 use std::test::Fail;
 
 /// A generator of numbers.
+#[derive(Drop)]
 pub struct Draw {
     pub state: u32,
 }
 
 impl Draw {
-    /// A number below `n`, or 0.
-    pub fn below(&mut self, n: u32) -> u32 {
+    /// A number below `n`, or 0, and less than 2 ^ 16.
+    pub fn below(&mut self, n: u32) -> u32
+        ensures { result < 2 ^ 16 }
+    {
         self.state = self.state.wrapping_mul(1664525).wrapping_add(1013904223);
-        (self.state >> 16) % n.max(1)
+        ((self.state >> 16) % n.max(1)) & 0xffff
     }
 
     /// A bit.
@@ -55,17 +57,18 @@ fn draw_sources(
     ensures long { IfOk result (λ v. length v.items ≡ count) }
 {
     let mut sources = Vec::new(alloc);
-    for _ in 0..count {
+    for turn in 0..count {
         sources.push(draw_source(draw, inputs, latches, cells))?;
     }
     Ok(sources)
 }
 
-fn draw_bits(alloc: Global, draw: &mut Draw, count: u32) -> Result<Vec<bool>, Fail>
+/// So many bits.
+pub fn draw_bits(alloc: Global, draw: &mut Draw, count: u32) -> Result<Vec<bool>, Fail>
     ensures { IfOk result (λ v. length v.items ≡ count) }
 {
     let mut bits = Vec::new(alloc);
-    for _ in 0..count {
+    for turn in 0..count {
         bits.push(draw.bit())?;
     }
     Ok(bits)
@@ -83,37 +86,56 @@ fn draw_cell(draw: &mut Draw, inputs: u32, latches: u32, cells: u32) -> Cell
     }
 }
 
-// Without ports, and with the cells still to come.
-fn draw_latches(alloc: Global, draw: &mut Draw, inputs: u32) -> Result<CellList, Fail> {
+// The latches of a list without cells.
+fn draw_latches(alloc: Global, draw: &mut Draw, inputs: u32) -> Result<CellList, Fail>
+    ensures inputs { IfOk result (λ list. list.inputs ≡ inputs) }
+    ensures latches { IfOk result (λ list. length list.starts < 2 ^ 16) }
+    ensures cells { IfOk result (λ list. length list.cells ≡ 0) }
+{
     let latches = draw.below(4);
+    let sources = draw_sources(alloc, draw, inputs, latches, 0, latches)?;
+    let starts = draw_bits(alloc, draw, latches)?;
     Ok(CellList {
         inputs,
         cells: List::of(Vec::new(alloc)),
         outs: List::of(Vec::new(alloc)),
-        latches: List::of(draw_sources(alloc, draw, inputs, latches, 0, latches)?),
-        starts: List::of(draw_bits(alloc, draw, latches)?),
+        latches: List::of(sources),
+        starts: List::of(starts),
         nets: List::of(Vec::new(alloc)),
     })
 }
 
-/// A list of at most 4 inputs, 3 latches, 13 cells, 5 outputs and 9 nets.
-pub fn draw_list(alloc: Global, draw: &mut Draw) -> Result<CellList, Fail>
-    ensures { IfOk result (λ list. list.inputs + loop_count list + length list.outs + length list.cells < 2 ^ 18) }
+// A list without ports and nets.
+fn draw_cells(alloc: Global, draw: &mut Draw, inputs: u32, count: u32) -> Result<CellList, Fail>
+    ensures inputs { IfOk result (λ list. list.inputs ≡ inputs) }
+    ensures latches { IfOk result (λ list. length list.starts < 2 ^ 16) }
+    ensures cells { IfOk result (λ list. length list.cells ≡ count) }
 {
-    let inputs = draw.below(5);
     let mut list = draw_latches(alloc, draw, inputs)?;
     let latches = list.starts.len() as u32;
-    let count = draw.below(14);
     for cells in 0..count {
         list.push(alloc, draw_cell(draw, inputs, latches, cells))?;
     }
-    let (outs, nets) = (draw.below(6), draw.below(10));
+    Ok(list)
+}
+
+/// A list of at most 4 inputs, 3 latches, 13 cells, 5 outputs and 9 nets.
+pub fn draw_list(alloc: Global, draw: &mut Draw) -> Result<CellList, Fail>
+    ensures { IfOk result (λ list. list.inputs + length list.starts + length list.outs + length list.cells < 2 ^ 18 - 1) }
+{
+    let (inputs, count) = (draw.below(5), draw.below(14));
+    let list = draw_cells(alloc, draw, inputs, count)?;
+    let latches = list.starts.len() as u32;
+    let (many, more) = (draw.below(6), draw.below(10));
+    let outs = draw_sources(alloc, draw, inputs, latches, count, many)?;
+    let data = draw_sources(alloc, draw, inputs, latches, count, latches)?;
+    let nets = draw_sources(alloc, draw, inputs, latches, count, more)?;
     Ok(CellList {
         inputs,
-        outs: List::of(draw_sources(alloc, draw, inputs, latches, count, outs)?),
-        latches: List::of(draw_sources(alloc, draw, inputs, latches, count, latches)?),
-        nets: List::of(draw_sources(alloc, draw, inputs, latches, count, nets)?),
         cells: list.cells,
+        outs: List::of(outs),
+        latches: List::of(data),
         starts: list.starts,
+        nets: List::of(nets),
     })
 }
