@@ -8,7 +8,7 @@ use Rattle.std.proofs.lemmas.Slice.Eq.{bytes_eq-Decides}
 use Rattle.netlist_core.specs.declared.model.Subckt.{Subckt}
 use Rattle.netlist_core.specs.declared.model.Model.{Model}
 use Rattle.blif_text.proofs.Members.{leaves, circle_model}
-use Rattle.blif_text.specs.Drivers.{is_model_named}
+use Rattle.netlist_core.specs.Names.{is_model_named}
 use Rattle.blif_text.specs.Circles.{HasSubcktOf, Leads, LeadsBack, IsOnCircle}
 
 -- what passes at each element passes at one of them

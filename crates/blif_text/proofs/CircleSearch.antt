@@ -10,7 +10,7 @@ use Rattle.netlist_core.specs.declared.model.Model.{Model}
 use Rattle.blif_text.specs.declared.fault.Fault.{Fault}
 use Rattle.blif_text.specs.declared.fault.FaultKind.TheVariants.{Recursive}
 use Rattle.blif_text.specs.LineFaults.{fault_at}
-use Rattle.blif_text.specs.Drivers.{model_named}
+use Rattle.netlist_core.specs.Names.{model_named}
 use Rattle.blif_text.specs.Circles.{HasSubcktOf, Leads, LeadsBack, IsOnCircle, IsCircleFault}
 use Rattle.blif_text.proofs.CircleLemmas.{names, passes_somewhere}
 use Rattle.blif_text.proofs.Members.{leaves, circle_model, model_of_name, in_filtered, filtered_in, In, in_from, contains_from, in_left, in_right, in_map, in_mapped, in_flat, in_flattened, is_in, Distinct, distinct_from, is_distinct}

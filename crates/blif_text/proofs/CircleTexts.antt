@@ -8,7 +8,7 @@ use Rattle.blif_text.specs.declared.fault.FaultKind.TheVariants.{Recursive}
 use Rattle.blif_text.specs.LogicalLines.{logical_lines}
 use Rattle.blif_text.specs.Models.{models_of}
 use Rattle.blif_text.specs.LineFaults.{line_fault}
-use Rattle.blif_text.specs.Drivers.{model_named}
+use Rattle.netlist_core.specs.Names.{model_named}
 use Rattle.blif_text.specs.Circles.{HasSubcktOf, LeadsBack, IsOnCircle}
 use Rattle.blif_text.specs.ModelFaults.{model_fault}
 use Rattle.blif_text.specs.Faults.HasFault.{of_models}

@@ -16,7 +16,8 @@ use Rattle.blif_text.specs.declared.fault.FaultKind.TheVariants.{DuplicateModel,
 use Rattle.blif_text.specs.LogicalLines.{logical_lines}
 use Rattle.blif_text.specs.Models.{first_operand, begins_model, model_at, models_of}
 use Rattle.blif_text.specs.LineFaults.{word_at_fault, first_broken, fault_after, line_rules, names_same_model}
-use Rattle.blif_text.specs.Drivers.{at_line, stands_earlier, same_name_up_to, repeats_after, repeats, model_named}
+use Rattle.netlist_core.specs.Names.{at_line, model_named}
+use Rattle.blif_text.specs.Drivers.{stands_earlier, same_name_up_to, repeats_after, repeats}
 use Rattle.blif_text.specs.ModelFaults.{words_at_fault, formals_of, model_fault, AreFaultless}
 use Rattle.blif_text.specs.Circles.{HasSubcktOf, LeadsBack, IsOnCircle}
 use Rattle.blif_text.specs.Laws.{all_words_at_fault, ModelsAreDistinct, FormalsAreDistinct, NoModelIsInItself}

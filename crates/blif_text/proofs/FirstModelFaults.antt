@@ -10,7 +10,7 @@ use Rattle.blif_text.specs.declared.fault.Fault.{Fault}
 use Rattle.blif_text.specs.declared.fault.FaultKind.{FaultKind}
 use Rattle.blif_text.specs.declared.fault.FaultKind.TheVariants.{NoModelYet, UnknownDirective, Unsupported, BadCount, RowOutside, BadRow, MixedCover, BadLatch, BadPin, AfterEnd, DuplicateModel, DuplicatePort, MultipleDrivers, Undriven, NoSuchModel, NoSuchPin, PinTwice, PinMissing, Recursive, TwoClocks, ClockRead, NoModel}
 use Rattle.blif_text.specs.FaultNames.{number_of}
-use Rattle.blif_text.specs.Drivers.{at_line}
+use Rattle.netlist_core.specs.Names.{at_line}
 use Rattle.blif_text.specs.ModelFaults.{earlier_of, earliest, words_at_fault, fault_of_port, first_broken_by, model_rules, model_fault}
 use Rattle.blif_text.specs.Laws.{IsEarliest, all_words_at_fault, IsFirstModelFault, ModelFaultIsFirst, NoModelFault}
 use Rattle.blif_text.proofs.FirstFaults.{Member, ascends, above, left, right}

@@ -4,7 +4,7 @@ use Rattle.std.specs.Prelude.{Contains, bytes_eq, flat_map, filter_map, Option, 
 use Rattle.std.specs.List.{cons_option, AllByRecursion, IsDistinct}
 use Rattle.std.proofs.lemmas.Slice.Eq.{bytes_eq-Decides}
 use Rattle.netlist_core.specs.declared.model.Model.{Model}
-use Rattle.blif_text.specs.Drivers.{model_named}
+use Rattle.netlist_core.specs.Names.{model_named}
 use Rattle.blif_text.specs.Circles.{HasSubcktOf, IsOnCircle}
 
 abbrev pub In : {X : Type 0} → X → List X → Type 0

@@ -5,7 +5,8 @@ use Rattle.std.specs.Bool.{then_some}
 use Rattle.std.specs.List.{cons_option}
 use Rattle.netlist_core.specs.declared.model.Port.{Port}
 use Rattle.netlist_core.specs.declared.model.Pin.{Pin}
-use Rattle.blif_text.specs.Drivers.{at_line, stands_earlier, repeats_after, drivers_of, readings_of, actuals, is_unknown_pin, model_named, is_named}
+use Rattle.netlist_core.specs.Names.{at_line, model_named, is_named}
+use Rattle.blif_text.specs.Drivers.{stands_earlier, repeats_after, drivers_of, readings_of, actuals, is_unknown_pin}
 use Rattle.blif_text.specs.ModelFaults.{doubles_after, is_output_before, is_input_by_then, unless_named, formal_if, formals_of, is_portless}
 use Rattle.blif_text.specs.Laws.{IsSublist, WordsKeepOrder}
 use Rattle.blif_text.specs.Laws.IsSublist.{nothing, without, with}

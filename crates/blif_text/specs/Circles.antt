@@ -3,7 +3,7 @@ use Rattle.std.specs.Prelude.{Some, ◌≡◌, ℕ, ◌≤◌, List, [], ◌∷�
 use Rattle.std.specs.List.{join_with_byte, IsDistinct}
 use Rattle.netlist_core.specs.declared.model.Subckt.{Subckt}
 use Rattle.netlist_core.specs.declared.model.Model.{Model}
-use Rattle.blif_text.specs.Drivers.{model_named}
+use Rattle.netlist_core.specs.Names.{model_named}
 use Rattle.blif_text.specs.declared.fault.Fault.{Fault}
 use Rattle.blif_text.specs.declared.fault.FaultKind.TheVariants.{Recursive}
 

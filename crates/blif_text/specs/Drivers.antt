@@ -1,5 +1,5 @@
 -- What drives the nets of a model, and what reads them, each with its line.
-use Rattle.std.specs.Prelude.{ℕ, Bool, false, not, ◌&&◌, ◌||◌, nat_le, nat_lt, List, [], ◌∷◌, ◌++◌, map, bytes_eq, Option, option_to_list, find, filter_map, flat_map}
+use Rattle.std.specs.Prelude.{ℕ, Bool, false, not, ◌&&◌, ◌||◌, nat_le, nat_lt, List, [], ◌∷◌, ◌++◌, map, bytes_eq, Option, option_to_list, filter_map, flat_map}
 use Rattle.std.specs.Bool.{then_some}
 use Rattle.std.specs.Option.{option_map_or}
 use Rattle.std.specs.List.{list_any}
@@ -9,17 +9,7 @@ use Rattle.netlist_core.specs.declared.model.Cover.{Cover}
 use Rattle.netlist_core.specs.declared.model.LatchRow.{LatchRow}
 use Rattle.netlist_core.specs.declared.model.Subckt.{Subckt}
 use Rattle.netlist_core.specs.declared.model.Model.{Model}
-
--- A name with the number of its line is a `Port`, whatever the name stands for there.
-abbrev pub at_line : ℕ → List ℕ → Port
-at_line line name = record { line = line; name = name }
-
--- whether this is the name; whether the list has it
-abbrev pub has_name : List ℕ → Port → Bool
-has_name name p = bytes_eq p.name name
-
-abbrev pub is_named : List Port → List ℕ → Bool
-is_named ports name = list_any (has_name name) ports
+use Rattle.netlist_core.specs.Names.{at_line, has_name, is_named, model_named}
 
 -- whether q is the same name as p, on a line up to that of p; on a line before it
 abbrev pub same_name_up_to : Port → Port → Bool
@@ -51,13 +41,6 @@ firsts ports = firsts_after [] ports
 -- A `.clock` name counts among the inputs, and a name in `.inputs` and `.clock` is one input, where it first stands.
 abbrev pub inputs_of : Model → List Port
 inputs_of m = firsts (m.ins ++ m.clocks)
-
--- the model of a name, if there is one
-abbrev pub is_model_named : List ℕ → Model → Bool
-is_model_named name m = bytes_eq m.name name
-
-abbrev pub model_named : List Model → List ℕ → Option Model
-model_named models name = find (is_model_named name) models
 
 -- what a formal is in the model that a subckt line names: an input, an output, or unknown
 abbrev pub has_input : List ℕ → Model → Bool

@@ -14,7 +14,7 @@ use Rattle.blif_text.specs.declared.fault.FaultKind.TheVariants.{NoModelYet, Unk
 use Rattle.blif_text.specs.LogicalLines.{logical_lines}
 use Rattle.blif_text.specs.Models.{models_of}
 use Rattle.blif_text.specs.LineFaults.{fault_at}
-use Rattle.blif_text.specs.Drivers.{at_line}
+use Rattle.netlist_core.specs.Names.{at_line}
 use Rattle.blif_text.specs.Faults.{HasFault, IsDesignOf}
 
 -- the text's fault; the text has none

@@ -15,7 +15,8 @@ use Rattle.blif_text.specs.FaultNames.{number_of}
 use Rattle.blif_text.specs.LogicalLines.{logical_lines, physical_lines, is_newline, is_hash, is_blank, words_of, JoinedLine, joined_line, joined_lines, without_comment, before_backslash}
 use Rattle.blif_text.specs.Models.{models_of, begins_model, is_row, first_word}
 use Rattle.blif_text.specs.LineFaults.{word_at_fault, line_fault, is_annotation}
-use Rattle.blif_text.specs.Drivers.{at_line, drivers_of, readings_of, repeats}
+use Rattle.netlist_core.specs.Names.{at_line}
+use Rattle.blif_text.specs.Drivers.{drivers_of, readings_of, repeats}
 use Rattle.blif_text.specs.Circles.{Leads}
 use Rattle.blif_text.specs.ModelFaults.{model_fault, words_at_fault, AreFaultless, HasModelFault, duplicate_ports, second_drivers, undriven_readings, unknown_formals, formals_of}
 use Rattle.blif_text.specs.Faults.{HasModels, HasFault, IsDesignOf}

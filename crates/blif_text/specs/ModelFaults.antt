@@ -11,7 +11,8 @@ use Rattle.blif_text.specs.declared.fault.Fault.{Fault}
 use Rattle.blif_text.specs.declared.fault.FaultKind.{FaultKind}
 use Rattle.blif_text.specs.declared.fault.FaultKind.TheVariants.{DuplicatePort, MultipleDrivers, Undriven, NoSuchModel, NoSuchPin, PinTwice, PinMissing, NoModel}
 use Rattle.blif_text.specs.LineFaults.{fault_at}
-use Rattle.blif_text.specs.Drivers.{at_line, is_named, same_name_before, same_name_up_to, stands_earlier, repeats, model_named, has_input, has_output, is_unknown_pin, actuals, drivers_of, readings_of}
+use Rattle.netlist_core.specs.Names.{at_line, is_named, model_named}
+use Rattle.blif_text.specs.Drivers.{same_name_before, same_name_up_to, stands_earlier, repeats, has_input, has_output, is_unknown_pin, actuals, drivers_of, readings_of}
 use Rattle.blif_text.specs.Circles.{IsOnCircle, IsCircleFault}
 
 -- 12: a name stands twice in `.inputs`, twice in `.clock`, twice in `.outputs`, or among the inputs and in `.outputs`.

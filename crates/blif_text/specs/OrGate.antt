@@ -3,7 +3,7 @@ use Rattle.std.specs.Prelude.{◌≡◌, ◌≢◌, ℕ, Bool, true, ◌<◌, na
 use Rattle.std.specs.List.{list_all}
 use Rattle.netlist_core.specs.declared.model.Cover.{Cover}
 use Rattle.netlist_core.specs.declared.model.Model.{Model}
-use Rattle.blif_text.specs.Drivers.{at_line}
+use Rattle.netlist_core.specs.Names.{at_line}
 use Rattle.blif_text.specs.Faults.{IsDesignOf}
 
 -- a letter, a digit or `_`

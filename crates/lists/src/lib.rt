@@ -1,7 +1,8 @@
 //! A list behind a small type: contracts see the items alone, and not where they lie in memory.
 #![tactic(auto)]
 
-ghost use Rattle.std.specs.Prelude.{◌≡◌, ◌<◌, List, length, slice_get, Some, ℕ};
+ghost use Rattle.std.specs.Prelude.{◌≡◌, ◌<◌, ◌++◌, List, length, take, drop, slice_get, Some, ℕ};
+ghost use Rattle.std.specs.Borrow.{sem, Lends, Array};
 
 use std::marker::Model;
 
@@ -21,6 +22,8 @@ impl<T> Model for List<T> {
 }
 
 impl<T> List<T> {
+    ghost use Rattle.lists.specs.contracts.List.{the_row};
+
     /// The items of the vector.
     pub fn of(items: Vec<T>) -> List<T>
         ensures { result ≡ items.items }
@@ -48,6 +51,14 @@ impl<T> List<T> {
         ensures { result.now ≡ self.now }
     {
         &self.items
+    }
+
+    /// The items, to be changed in their places.
+    pub fn as_mut_slice(&mut self) -> &mut [T]
+        ensures* writes_back { sem 𝓛 (Lends (the_row T.row) (Array T.row 0) self.entry result (λ w. take (length self.entry.now) (w ++ drop (length w) self.entry.now))) }
+        ensures value { result.now ≡ self.old }
+    {
+        &mut self.items
     }
 
     /// The vector of the items.

@@ -1,6 +1,10 @@
-//! Netlists as values: the models of a BLIF text.
+//! Netlists as values: the models of a BLIF text, and the flat netlist without its hierarchy.
 #![tactic(auto)]
 
+mod flat;
 mod model;
+mod weight;
 
+pub use flat::{Flat, FlatLatch, FlatPort, Net, NetId, Node, Order};
 pub use model::{Cover, Design, LatchRow, Model, Name, Pin, Port, Subckt, Trigger};
+pub use weight::weight_of;

@@ -4,7 +4,8 @@ use Rattle.std.proofs.lemmas.Option.{none-some, same_Some, slice_get-map}
 use Rattle.netlist_core.specs.declared.model.Design.{Design}
 use Rattle.netlist_core.specs.declared.model.Model.{Model}
 use Rattle.netlist_core.specs.declared.model.LatchRow.{LatchRow}
-use Rattle.netlist_meaning.specs.Places.{Name, Place, latch_at, IsBefore}
+use Rattle.netlist_core.specs.Names.{Name}
+use Rattle.netlist_meaning.specs.Places.{Place, latch_at, IsBefore}
 use Rattle.netlist_meaning.specs.Nets.{Net, net_at, itself, IsControl, IsClockNet, none, kept, left_out}
 use Rattle.netlist_meaning.specs.Clocks.{IsUse, by_cover, by_latch, by_main_output, FlatLatch, HasSameControl, HasSameClock, IsTwoClocks, control_word}
 use Rattle.netlist_meaning.specs.Designs.{clocked_main, clocked_design, read_clock_main, read_clock_design, two_clocks_main, two_clocks_design, half_clocked_main, half_clocked_design, read_main_clock_main, read_main_clock_design}

@@ -5,7 +5,8 @@ use Rattle.netlist_core.specs.declared.model.Design.{Design}
 use Rattle.netlist_core.specs.declared.model.Model.{Model}
 use Rattle.netlist_core.specs.declared.model.Cover.{Cover}
 use Rattle.netlist_core.specs.declared.model.LatchRow.{LatchRow}
-use Rattle.netlist_meaning.specs.Places.{Name, Place, latch_at, main_outputs}
+use Rattle.netlist_core.specs.Names.{Name}
+use Rattle.netlist_meaning.specs.Places.{Place, latch_at, main_outputs}
 use Rattle.netlist_meaning.specs.Nets.{IsInNames, none, kept}
 use Rattle.netlist_meaning.specs.Valuation.{Valuation, LatchState, IsValuation, IsRun, state_in, start_state, output_bits, start_bit, data_bit}
 use Rattle.netlist_meaning.specs.Designs.{latch_main, latch_design, clocked_main, clocked_design}

@@ -9,7 +9,8 @@ use Rattle.std.proofs.lemmas.Option.{none-some, same_Some}
 use Rattle.std.proofs.lemmas.Bool.Decides.{Decides-ltb}
 use Rattle.netlist_core.specs.declared.model.Design.{Design}
 use Rattle.netlist_core.specs.declared.model.Model.{Model}
-use Rattle.netlist_meaning.specs.Places.{Name, Place, main_model, model_named, model_placed, model_below, model_at}
+use Rattle.netlist_core.specs.Names.{Name, model_named}
+use Rattle.netlist_meaning.specs.Places.{Place, main_model, model_placed, model_below, model_at}
 use Rattle.netlist_meaning.specs.Laws.{PlacesAreShallow, WeightIsSumOverAll}
 use Rattle.netlist_meaning.proofs.Names.{bytes_eq-same, bytes_eq-other, and_then-from}
 use Rattle.netlist_meaning.proofs.Places.{weight_is_sum}
@@ -134,7 +135,7 @@ unfolding has_name
 below-member design [] model b known e = ap (λ m. has_name design m.name) (sym (same_Some _ _ e)) ∙ known
 below-member design (number ∷ place) model b known e =
     let (m, is_placed, is_b) = and_then-from (model_below design place) (model_placed design model number) b e in
-    let (line, is_line, is_named) = and_then-from (λ l. model_named design l.model) (slice_get model.subckts number) m is_placed in
+    let (line, is_line, is_named) = and_then-from (λ l. model_named design.models l.model) (slice_get model.subckts number) m is_placed in
     below-member design place m b (found-member (λ x. bytes_eq x.name line.model) design.models m is_named) is_b
 
 length-along : (design : Design) (place : Place) (model b : Model) → model_below design place model ≡ Some b → length (names_along design place model) ≡ length place + 1

@@ -4,7 +4,8 @@ use Rattle.std.proofs.lemmas.Option.{none-some, same_Some}
 use Rattle.netlist_core.specs.declared.model.Design.{Design}
 use Rattle.netlist_core.specs.declared.model.Model.{Model}
 use Rattle.netlist_core.specs.declared.model.LatchRow.{LatchRow}
-use Rattle.netlist_meaning.specs.Places.{Name, Place, main_model, model_placed, model_below, model_at, latch_at}
+use Rattle.netlist_core.specs.Names.{Name}
+use Rattle.netlist_meaning.specs.Places.{Place, main_model, model_placed, model_below, model_at, latch_at}
 use Rattle.netlist_meaning.specs.Nets.{Net, IsPinned, Joined, IsControl, WithoutControl, none, kept}
 use Rattle.netlist_meaning.proofs.Names.{and_then-from}
 use Rattle.netlist_meaning.proofs.Joined.{joined_gives}
@@ -24,7 +25,7 @@ model_at-main design main flat = ap (option_and_then (model_below design [])) (m
 pub model_at-flat : (design : Design) (main : Model) → IsFlat design main → (place : Place) (model : Model) → model_at design place ≡ Some model → (place ≡ []) × (model ≡ main)
 model_at-flat design main flat [] model h = (refl, same_Some model main (sym h ∙ model_at-main design main flat))
 model_at-flat design main flat (number ∷ place) model h =
-    let nothing : model_placed design main number ≡ None = ap (λ lines. option_and_then (λ line. Rattle.netlist_meaning.specs.Places.model_named design line.model) (slice_get lines number)) flat.subckts in
+    let nothing : model_placed design main number ≡ None = ap (λ lines. option_and_then (λ line. Rattle.netlist_core.specs.Names.model_named design.models line.model) (slice_get lines number)) flat.subckts in
     absurd (none-some model (sym (ap (option_and_then (model_below design (number ∷ place))) (main_is design main flat) ∙ ap (option_and_then (model_below design place)) nothing) ∙ h))
 
 -- no two nets are joined

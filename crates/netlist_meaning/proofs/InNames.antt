@@ -8,7 +8,8 @@ use Rattle.std.proofs.lemmas.Option.{none-some, same_Some}
 use Rattle.netlist_core.specs.declared.model.Design.{Design}
 use Rattle.netlist_core.specs.declared.model.Model.{Model}
 use Rattle.netlist_core.specs.declared.model.LatchRow.{LatchRow}
-use Rattle.netlist_meaning.specs.Places.{Name, Place, main_model, model_at, main_inputs}
+use Rattle.netlist_core.specs.Names.{Name}
+use Rattle.netlist_meaning.specs.Places.{Place, main_model, model_at, main_inputs}
 use Rattle.netlist_meaning.specs.Nets.{Net, net_at, IsControl, WithoutControl, none, kept, left_out}
 use Rattle.netlist_meaning.specs.Roots.{root, root_below, NamesFormalsOnce}
 use Rattle.netlist_meaning.specs.Laws.{InNamesAreThere}

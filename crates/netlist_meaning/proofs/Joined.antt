@@ -1,7 +1,8 @@
 -- Joined nets, clock nets and IN names.
 use Rattle.std.proofs.Common.{◌≡◌, List, [], ◌∷◌, IsTrue, refl, sym, ap, ◌∙◌}
 use Rattle.netlist_core.specs.declared.model.Design.{Design}
-use Rattle.netlist_meaning.specs.Places.{Name, main_inputs}
+use Rattle.netlist_core.specs.Names.{Name}
+use Rattle.netlist_meaning.specs.Places.{main_inputs}
 use Rattle.netlist_meaning.specs.Nets.{Net, IsPinned, Joined, by_pin, itself, reversed, followed, IsClockNet, WithoutControl, none, kept, left_out}
 use Rattle.netlist_meaning.specs.Laws.{IsLeastEquivalence, AgreeAtPins, AgreeWhereJoined, PinsAreEnough, InNamesAreOne}
 

@@ -4,7 +4,8 @@ use Rattle.std.proofs.lemmas.Option.{slice_get_within, get_or_from_slice_get}
 use Rattle.netlist_core.specs.declared.model.Design.{Design}
 use Rattle.netlist_core.specs.declared.model.Model.{Model}
 use Rattle.netlist_core.specs.declared.model.Cover.{Cover}
-use Rattle.netlist_meaning.specs.Places.{Name, Place, model_at, main_inputs, main_outputs}
+use Rattle.netlist_core.specs.Names.{Name}
+use Rattle.netlist_meaning.specs.Places.{Place, model_at, main_inputs, main_outputs}
 use Rattle.netlist_meaning.specs.Nets.{Net, IsControl, IsInNames}
 use Rattle.netlist_meaning.specs.CoverValue.{cover_value}
 use Rattle.netlist_meaning.specs.Valuation.{Valuation, LatchState, IsValuation, IsRun, state_in, start_state, output_bits}

@@ -12,7 +12,8 @@ use Rattle.netlist_core.specs.declared.model.Port.{Port}
 use Rattle.netlist_core.specs.declared.model.Pin.{Pin}
 use Rattle.netlist_core.specs.declared.model.Subckt.{Subckt}
 use Rattle.netlist_core.specs.declared.model.LatchRow.{LatchRow}
-use Rattle.netlist_meaning.specs.Places.{Name, Place, main_model, model_below, model_at, latch_at, port_names, main_ports, main_inputs, main_outputs}
+use Rattle.netlist_core.specs.Names.{Name, port_names}
+use Rattle.netlist_meaning.specs.Places.{Place, main_model, model_below, model_at, latch_at, main_ports, main_inputs, main_outputs}
 use Rattle.netlist_meaning.specs.Nets.{Net, net_at, model_names, IsNet, by_pin, IsControl, IsClockNet, WithoutControl, none, kept, left_out}
 use Rattle.netlist_meaning.specs.CoverValue.{cover_value}
 use Rattle.netlist_meaning.specs.Valuation.{Valuation, LatchState, IsValuation, AgreeOnNets, output_bits}

@@ -9,8 +9,10 @@ use Rattle.std.specs.Bool.{one_answer}
 use Rattle.netlist_core.specs.declared.model.Design.{Design}
 use Rattle.netlist_core.specs.declared.model.Model.{Model}
 use Rattle.netlist_core.specs.declared.model.Subckt.{Subckt}
-use Rattle.netlist_meaning.specs.Places.{Place, main_model, model_named, model_below}
-use Rattle.netlist_meaning.specs.Weight.{weight_below, own_weight, of_model}
+use Rattle.netlist_meaning.specs.Places.{Place, main_model, model_below}
+use Rattle.netlist_core.specs.Names.{model_named}
+use Rattle.netlist_meaning.specs.Weight.{weight_below, of_model}
+use Rattle.netlist_core.specs.OwnWeight.{own_weight}
 use Rattle.netlist_meaning.specs.Laws.{WeightIsSum}
 
 -- the places inside the models of some subckt lines, where each line has a list of its own
@@ -28,12 +30,12 @@ places_of places (Some model) = places model
 
 places_below : Design → ℕ → Model → List Place
 places_below design zero model = []
-places_below design (suc depth) model = [] ∷ inside (λ line. places_of (places_below design depth) (model_named design line.model)) model.subckts
+places_below design (suc depth) model = [] ∷ inside (λ line. places_of (places_below design depth) (model_named design.models line.model)) model.subckts
 
 -- the model at a place inside the models of some subckt lines, and `top` above them
 in_lines : Design → Option Model → List Subckt → Place → Option Model
 in_lines design top lines [] = top
-in_lines design top lines (number ∷ place) = option_and_then (model_below design place) (option_and_then (λ line. model_named design line.model) (slice_get lines number))
+in_lines design top lines (number ∷ place) = option_and_then (model_below design place) (option_and_then (λ line. model_named design.models line.model) (slice_get lines number))
 
 abbrev one_if : Bool → ℕ
 one_if b = cond b 1 0
@@ -65,7 +67,7 @@ weight_at model = of_model own_weight model
 
 -- the own weights inside some lines
 sum_inside : (design : Design) (top : Option Model) (g : Subckt → List Place) (w : Subckt → ℕ)
-    → ((line : Subckt) → sum_by (λ place. weight_at (option_and_then (model_below design place) (model_named design line.model))) (g line) ≡ w line)
+    → ((line : Subckt) → sum_by (λ place. weight_at (option_and_then (model_below design place) (model_named design.models line.model))) (g line) ≡ w line)
     → (lines : List Subckt) → sum_by (λ place. weight_at (in_lines design top lines place)) (inside g lines) ≡ sum_by w lines
 unfolding inside in_lines next_line weight_at
 sum_inside design top g w each [] = refl
@@ -92,16 +94,16 @@ sum_below design zero model = refl
 sum_below design (suc depth) model =
     sum_by-cons at_place [] (inside g model.subckts)
     ∙ both _ _ _ _ refl (sum_by-same at_place (λ place. weight_at (in_lines design (Some model) model.subckts place)) (inside g model.subckts) same
-    ∙ sum_inside design (Some model) g w (λ line. sum_named design depth (sum_below design depth) (model_named design line.model)) model.subckts)
+    ∙ sum_inside design (Some model) g w (λ line. sum_named design depth (sum_below design depth) (model_named design.models line.model)) model.subckts)
   where
     at_place : Place → ℕ
     at_place place = weight_at (model_below design place model)
 
     g : Subckt → List Place
-    g line = places_of (places_below design depth) (model_named design line.model)
+    g line = places_of (places_below design depth) (model_named design.models line.model)
 
     w : Subckt → ℕ
-    w line = of_model (weight_below design depth) (model_named design line.model)
+    w line = of_model (weight_below design depth) (model_named design.models line.model)
 
     same : (place : Place) → at_place place ≡ weight_at (in_lines design (Some model) model.subckts place)
     same [] = refl
@@ -164,11 +166,11 @@ never false n = refl
 never true n = ap one_if (sym (false_from_ne_true (nat_lt n 0) (λ e. let lt : n < 0 = (Decides-ltb n 0).0 e in omega arith)))
 
 at_line : (design : Design) (depth : ℕ) (place : Place) (line : Option Subckt)
-    → unwrap_or (option_map (λ subckt. once_below design depth (model_named design subckt.model) place) line) 0
-    ≡ one_if (is_some (option_and_then (model_below design place) (option_and_then (λ subckt. model_named design subckt.model) line)) && nat_lt (suc (length place)) (suc depth))
+    → unwrap_or (option_map (λ subckt. once_below design depth (model_named design.models subckt.model) place) line) 0
+    ≡ one_if (is_some (option_and_then (model_below design place) (option_and_then (λ subckt. model_named design.models subckt.model) line)) && nat_lt (suc (length place)) (suc depth))
 at_line design depth place None = refl
 at_line design depth place (Some line) =
-    ap (λ t. one_if (is_some (option_and_then (model_below design place) (model_named design line.model)) && t)) (sym (same_order (length place) depth))
+    ap (λ t. one_if (is_some (option_and_then (model_below design place) (model_named design.models line.model)) && t)) (sym (same_order (length place) depth))
 
 -- the places inside a model each stand in the list once
 count_below : (design : Design) (depth : ℕ) (model : Model) (place : Place) → count_by (bytes_eq place) (places_below design depth model) ≡ once_below design depth (Some model) place
@@ -180,18 +182,18 @@ count_below design (suc depth) model [] =
     ∙ ap one_if (sym ((Decides-ltb 0 (suc depth)).1 (omega arith)))
   where
     g : Subckt → List Place
-    g line = places_of (places_below design depth) (model_named design line.model)
+    g line = places_of (places_below design depth) (model_named design.models line.model)
 count_below design (suc depth) model (number ∷ place) =
     sum_by-cons (λ other. one_if (bytes_eq (number ∷ place) other)) [] (inside g model.subckts)
-    ∙ both _ _ 0 _ refl (count_inside g h (λ line. count_named design depth (count_below design depth) (model_named design line.model)) model.subckts number place)
+    ∙ both _ _ 0 _ refl (count_inside g h (λ line. count_named design depth (count_below design depth) (model_named design.models line.model)) model.subckts number place)
     ∙ zero-add _
     ∙ at_line design depth place (slice_get model.subckts number)
   where
     g : Subckt → List Place
-    g line = places_of (places_below design depth) (model_named design line.model)
+    g line = places_of (places_below design depth) (model_named design.models line.model)
 
     h : Subckt → Place → ℕ
-    h line other = once_below design depth (model_named design line.model) other
+    h line other = once_below design depth (model_named design.models line.model) other
 
 pub weight_is_sum : WeightIsSum
 unfolding weight_at

@@ -7,7 +7,8 @@ use Rattle.netlist_core.specs.declared.model.Design.{Design}
 use Rattle.netlist_core.specs.declared.model.Model.{Model}
 use Rattle.netlist_core.specs.declared.model.Subckt.{Subckt}
 use Rattle.netlist_core.specs.declared.model.Pin.{Pin}
-use Rattle.netlist_meaning.specs.Places.{Name, Place, main_model, model_placed, model_below, model_at}
+use Rattle.netlist_core.specs.Names.{Name}
+use Rattle.netlist_meaning.specs.Places.{Place, main_model, model_placed, model_below, model_at}
 use Rattle.netlist_meaning.specs.Nets.{Net, net_at, IsPinned, Joined, by_pin, itself, reversed, followed}
 use Rattle.netlist_meaning.specs.Roots.{pin_named, actual_or_formal, out_of_line, root_below, root, NamesFormalsOnce, JoinedIsSameRoot, RootsAreNearest}
 use Rattle.netlist_meaning.proofs.Names.{and_then-from}

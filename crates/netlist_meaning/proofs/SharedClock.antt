@@ -5,7 +5,8 @@ use Rattle.netlist_core.specs.declared.model.Model.{Model}
 use Rattle.netlist_core.specs.declared.model.LatchRow.{LatchRow}
 use Rattle.netlist_core.specs.declared.model.Subckt.{Subckt}
 use Rattle.netlist_core.specs.declared.model.Pin.{Pin}
-use Rattle.netlist_meaning.specs.Places.{Name, Place, model_at, latch_at}
+use Rattle.netlist_core.specs.Names.{Name}
+use Rattle.netlist_meaning.specs.Places.{Place, model_at, latch_at}
 use Rattle.netlist_meaning.specs.Nets.{Net, net_at, IsPinned, Joined, by_pin, itself, reversed, followed, IsControl, none, kept, left_out}
 use Rattle.netlist_meaning.specs.Roots.{root}
 use Rattle.netlist_meaning.specs.Clocks.{FlatLatch, HasSameControl, HasSameClock}

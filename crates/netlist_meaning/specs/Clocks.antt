@@ -5,7 +5,8 @@ use Rattle.netlist_core.specs.declared.model.Model.{Model}
 use Rattle.netlist_core.specs.declared.model.Cover.{Cover}
 use Rattle.netlist_core.specs.declared.model.LatchRow.{LatchRow}
 use Rattle.netlist_core.specs.declared.model.Port.{Port}
-use Rattle.netlist_meaning.specs.Places.{Name, Place, model_at, latch_at, main_ports, IsBefore}
+use Rattle.netlist_core.specs.Names.{Name}
+use Rattle.netlist_meaning.specs.Places.{Place, model_at, latch_at, main_ports, IsBefore}
 use Rattle.netlist_meaning.specs.Nets.{Net, net_at, Joined, IsClockNet}
 
 -- a flat latch: one of the model at a place

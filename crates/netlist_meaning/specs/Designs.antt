@@ -8,7 +8,7 @@ use Rattle.netlist_core.specs.declared.model.Pin.{Pin}
 use Rattle.netlist_core.specs.declared.model.Subckt.{Subckt}
 use Rattle.netlist_core.specs.declared.model.LatchRow.{LatchRow}
 use Rattle.netlist_core.specs.declared.model.Trigger.TheVariants.{Rise}
-use Rattle.netlist_meaning.specs.Places.{Name}
+use Rattle.netlist_core.specs.Names.{Name}
 
 -- ports of one line, by their names
 abbrev pub ports_of : ℕ → List Name → List Port

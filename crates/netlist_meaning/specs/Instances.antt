@@ -3,7 +3,7 @@ use Rattle.std.specs.Prelude.{ℕ, zero, suc, cond, ◌+◌, ◌*◌, ◌^◌, �
 use Rattle.netlist_core.specs.declared.model.Design.{Design}
 use Rattle.netlist_core.specs.declared.model.Model.{Model}
 use Rattle.netlist_core.specs.declared.model.Cover.{Cover}
-use Rattle.netlist_meaning.specs.Places.{Name, port_names}
+use Rattle.netlist_core.specs.Names.{Name, port_names}
 use Rattle.netlist_meaning.specs.Nets.{Net, net_at, IsInNames}
 use Rattle.netlist_meaning.specs.CoverValue.{cover_value}
 use Rattle.netlist_meaning.specs.Valuation.{Valuation, IsRun, output_bits}

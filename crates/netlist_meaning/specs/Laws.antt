@@ -3,11 +3,13 @@ use Rattle.std.specs.Prelude.{◌⊎◌, slice_get, true, false, Any, ◌≢◌,
 use Rattle.std.specs.Cmp.{IsEquivalence}
 use Rattle.netlist_core.specs.declared.model.Design.{Design}
 use Rattle.netlist_core.specs.declared.model.Model.{Model}
-use Rattle.netlist_meaning.specs.Places.{Name, Place, model_at, IsPlace, IsBefore}
+use Rattle.netlist_core.specs.Names.{Name}
+use Rattle.netlist_meaning.specs.Places.{Place, model_at, IsPlace, IsBefore}
 use Rattle.netlist_meaning.specs.Nets.{Net, IsNet, IsPinned, Joined, IsClockNet, IsInNames}
 use Rattle.netlist_meaning.specs.Roots.{NamesFormalsOnce}
 use Rattle.netlist_meaning.specs.Clocks.{IsClockUse, IsTwoClocks, IsClockRead}
-use Rattle.netlist_meaning.specs.Weight.{weight, own_weight, of_model}
+use Rattle.netlist_meaning.specs.Weight.{weight, of_model}
+use Rattle.netlist_core.specs.OwnWeight.{own_weight}
 use Rattle.netlist_meaning.specs.CoverValue.{cover_value}
 use Rattle.netlist_meaning.specs.Valuation.{Valuation, LatchState, IsValuation, AgreeOnNets, output_bits}
 

@@ -5,7 +5,12 @@ pub mod Weight
 pub mod CoverValue
 pub mod Valuation
 pub mod Loop
+pub mod Roots
 pub mod Laws
+pub mod InOrder
+pub mod Flat
+pub mod FlatOrder
+pub mod FlatValuation
+pub mod FlatOf
 pub mod Instances
 pub mod Designs
-pub mod Roots

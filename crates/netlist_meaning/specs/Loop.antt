@@ -3,7 +3,8 @@ use Rattle.std.specs.Prelude.{◌≡◌, List, [], ◌∷◌, Some, Contains}
 use Rattle.netlist_core.specs.declared.model.Design.{Design}
 use Rattle.netlist_core.specs.declared.model.Model.{Model}
 use Rattle.netlist_core.specs.declared.model.Cover.{Cover}
-use Rattle.netlist_meaning.specs.Places.{Name, Place, model_at}
+use Rattle.netlist_core.specs.Names.{Name}
+use Rattle.netlist_meaning.specs.Places.{Place, model_at}
 use Rattle.netlist_meaning.specs.Nets.{Net, net_at, Joined}
 
 -- a net is read by a cover whose output is the other, where joined nets count as one. A latch makes no such step

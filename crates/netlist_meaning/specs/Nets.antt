@@ -6,7 +6,8 @@ use Rattle.netlist_core.specs.declared.model.Model.{Model}
 use Rattle.netlist_core.specs.declared.model.Subckt.{Subckt}
 use Rattle.netlist_core.specs.declared.model.Pin.{Pin}
 use Rattle.netlist_core.specs.declared.model.LatchRow.{LatchRow}
-use Rattle.netlist_meaning.specs.Places.{Name, Place, model_at, latch_at, port_names, main_inputs, main_clocks}
+use Rattle.netlist_core.specs.Names.{Name, port_names}
+use Rattle.netlist_meaning.specs.Places.{Place, model_at, latch_at, main_inputs, main_clocks}
 
 -- a net: a place and a name
 pub record Net : Type 0 where

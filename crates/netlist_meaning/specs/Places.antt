@@ -1,14 +1,11 @@
 -- Where the models of a design stand. By the BLIF report a `.subckt` line places the model that it names
 -- inside the model in which it stands; the first model of the text is the main one.
-use Rattle.std.specs.Prelude.{ℕ, ◌<◌, ◌≡◌, ◌⊎◌, List, [], ◌∷◌, Option, Some, slice_get, find, option_and_then, option_map, unwrap_or, IsSome, bytes_eq, map}
+use Rattle.std.specs.Prelude.{ℕ, ◌<◌, ◌≡◌, ◌⊎◌, List, [], ◌∷◌, Option, Some, slice_get, option_and_then, option_map, unwrap_or, IsSome}
 use Rattle.netlist_core.specs.declared.model.Design.{Design}
 use Rattle.netlist_core.specs.declared.model.Model.{Model}
 use Rattle.netlist_core.specs.declared.model.Port.{Port}
 use Rattle.netlist_core.specs.declared.model.LatchRow.{LatchRow}
-
--- a name, as the bytes of its word
-abbrev pub Name : Type 0
-Name = List ℕ
+use Rattle.netlist_core.specs.Names.{Name, port_names, model_named}
 
 -- a place: the numbers (from 0, per model, in the order of the text) of the subckt lines that lead to it
 -- from the main model, which stands at the place of no numbers
@@ -19,13 +16,9 @@ Place = List ℕ
 abbrev pub main_model : Design → Option Model
 main_model design = slice_get design.models 0
 
--- a name finds the first model of that name
-abbrev pub model_named : Design → Name → Option Model
-model_named design name = find (λ model. bytes_eq model.name name) design.models
-
 -- the model that a model's subckt line of that number places
 abbrev pub model_placed : Design → Model → ℕ → Option Model
-model_placed design model number = option_and_then (λ line. model_named design line.model) (slice_get model.subckts number)
+model_placed design model number = option_and_then (λ line. model_named design.models line.model) (slice_get model.subckts number)
 
 -- the model that the subckt lines of these numbers lead to from a model
 abbrev pub model_below : Design → Place → Model → Option Model
@@ -43,10 +36,6 @@ IsPlace design place = IsSome (model_at design place)
 -- the latch of that number (from 0, in the order of the text) at a place
 abbrev pub latch_at : Design → Place → ℕ → Option LatchRow
 latch_at design place number = option_and_then (λ model. slice_get model.latches number) (model_at design place)
-
--- the names of a list of ports
-abbrev pub port_names : List Port → List Name
-port_names ports = map (λ port. port.name) ports
 
 -- a list of ports of the main model
 abbrev pub main_ports : (Model → List Port) → Design → List Port

@@ -4,7 +4,8 @@ use Rattle.netlist_core.specs.declared.model.Design.{Design}
 use Rattle.netlist_core.specs.declared.model.Model.{Model}
 use Rattle.netlist_core.specs.declared.model.Subckt.{Subckt}
 use Rattle.netlist_core.specs.declared.model.Pin.{Pin}
-use Rattle.netlist_meaning.specs.Places.{Name, Place, main_model, model_placed, model_at}
+use Rattle.netlist_core.specs.Names.{Name}
+use Rattle.netlist_meaning.specs.Places.{Place, main_model, model_placed, model_at}
 use Rattle.netlist_meaning.specs.Nets.{Net, net_at, Joined}
 
 -- the pin of a line that names the formal

@@ -4,7 +4,8 @@ use Rattle.netlist_core.specs.declared.model.Design.{Design}
 use Rattle.netlist_core.specs.declared.model.Model.{Model}
 use Rattle.netlist_core.specs.declared.model.Cover.{Cover}
 use Rattle.netlist_core.specs.declared.model.LatchRow.{LatchRow}
-use Rattle.netlist_meaning.specs.Places.{Name, Place, model_at, latch_at, main_outputs}
+use Rattle.netlist_core.specs.Names.{Name}
+use Rattle.netlist_meaning.specs.Places.{Place, model_at, latch_at, main_outputs}
 use Rattle.netlist_meaning.specs.Nets.{Net, IsNet, Joined, IsClockNet, IsInNames}
 use Rattle.netlist_meaning.specs.CoverValue.{cover_value}
 

@@ -6,11 +6,9 @@ ghost use Rattle.netlist_meaning.specs.CoverValue.{fits, product_holds, any_hold
 
 pub mod instances;
 pub mod laws;
-mod weight;
 
 use lists::Bytes;
 use netlist_core::Cover;
-pub use weight::weight_of;
 
 // Whether a character of a row takes the bit under it.
 fn fits(character: u8, bit: bool) -> bool

@@ -1,13 +1,14 @@
 -- Injections: cells that are made heads from outside, given by a list or by streams of bits.
-use Rattle.std.specs.Prelude.{ℤ, pos, ℕ, ◌+◌, ◌==◌, Bool, ◌&&◌, cond, List, [], ◌∷◌, ◌++◌, map, filter}
+use Rattle.std.specs.Prelude.{ℤ, pos, ℕ, zero, suc, ◌+◌, ◌==◌, ◌≡◌, Bool, true, ◌&&◌, cond, List, [], ◌∷◌, ◌++◌, map, filter}
 use Rattle.std.specs.List.{list_any}
 use Rattle.std.specs.Ordering.{int_eq}
 use Rattle.ww_rule.specs.declared.pattern.Injection.{Injection}
-use Rattle.ww_rule.specs.Wireworld.{Due}
+use Rattle.ww_rule.specs.declared.pattern.State.TheVariants.{Conductor}
+use Rattle.ww_rule.specs.Wireworld.{Plane, Due, next_plane, driven}
 
 -- is the cell at x, y one of these?
-abbrev pub is_among : List (ℕ × ℕ) → ℤ → ℤ → Bool
-is_among cells x y = list_any (λ cell. int_eq (pos cell.0) x && int_eq (pos cell.1) y) cells
+abbrev pub has_cell : List (ℕ × ℕ) → ℤ → ℤ → Bool
+has_cell cells x y = list_any (λ cell. int_eq (pos cell.0) x && int_eq (pos cell.1) y) cells
 
 -- the cells of the injections of a generation
 abbrev pub cells_at : ℕ → List Injection → List (ℕ × ℕ)
@@ -15,7 +16,7 @@ cells_at g injections = map (λ i. (i.x, i.y)) (filter (λ i. i.generation == g)
 
 -- what a list of injections makes due
 abbrev pub due_of_list : List Injection → Due
-due_of_list injections g = is_among (cells_at g injections)
+due_of_list injections g = has_cell (cells_at g injections)
 
 -- the injections of one cycle: at a generation, each cell whose bit is 1; cells without a bit and bits without a cell inject nothing
 abbrev pub injections_of_row : ℕ → List (ℕ × ℕ) → List Bool → List Injection
@@ -34,3 +35,12 @@ injections_from g period cells (row ∷ rows) =
 -- what streams of bits make due: at generation t * period the cells whose bits are 1 in row t
 abbrev pub due_of_streams : ℕ → List (ℕ × ℕ) → List (List Bool) → Due
 due_of_streams period cells rows = due_of_list (injections_from 0 period cells rows)
+
+-- the plane of a generation before that generation's injections
+abbrev pub before_injections : Due → Plane → ℕ → Plane
+before_injections due p zero = p
+before_injections due p (suc g) = next_plane (driven due p g)
+
+-- each injection meets a cell that is a conductor before that generation's injections
+abbrev pub MeetsConductors : Due → Plane → Type 0
+MeetsConductors due p = (g : ℕ) (x y : ℤ) → due g x y ≡ true → before_injections due p g x y ≡ Conductor

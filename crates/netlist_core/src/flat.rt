@@ -1,0 +1,64 @@
+// A netlist without its hierarchy: nets in classes, and the nodes and latches between them.
+use crate::model::{Name, Trigger};
+use lists::{Bytes, List};
+
+/// A net, by its position in the nets of a flat netlist.
+#[derive(Clone, Copy, Debug, PartialEq, Eq)]
+pub struct NetId(pub u32);
+
+/// A net: its place in the design, its name there, and the number of its class of joined nets.
+#[derive(Drop)]
+pub struct Net {
+    pub place: List<u32>,
+    pub name: Name,
+    pub class: u32,
+}
+
+/// A port of the main model, with the number of its line.
+#[derive(Clone, Copy)]
+pub struct FlatPort {
+    pub line: u64,
+    pub net: NetId,
+}
+
+/// A cover in one of its places.
+#[derive(Drop)]
+pub struct Node {
+    pub line: u64,
+    pub ins: List<NetId>,
+    pub out: NetId,
+    pub rows: List<Bytes>,
+    pub on: bool,
+}
+
+/// A latch in one of its places: `kind` and `control` are `None` where it has no control.
+#[derive(Clone, Copy)]
+pub struct FlatLatch {
+    pub line: u64,
+    pub input: NetId,
+    pub output: NetId,
+    pub kind: Option<Trigger>,
+    pub control: Option<NetId>,
+    pub init: u8,
+}
+
+/// A flat netlist: `ins` are the nets of the IN names, `outs` those of the main outputs, `clocks` those of the main
+/// model's `.clock` names, and `control` is the first latch's. Nets stand by place, and nodes and latches by place and
+/// line.
+#[derive(Drop)]
+pub struct Flat {
+    pub nets: List<Net>,
+    pub ins: List<FlatPort>,
+    pub outs: List<FlatPort>,
+    pub clocks: List<FlatPort>,
+    pub nodes: List<Node>,
+    pub latches: List<FlatLatch>,
+    pub control: Option<NetId>,
+    pub weight: u64,
+}
+
+/// The positions of a flat netlist's nodes, each after those that drive what it reads.
+#[derive(Drop)]
+pub struct Order {
+    pub nodes: List<u32>,
+}
