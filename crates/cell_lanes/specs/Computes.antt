@@ -13,7 +13,7 @@ use Rattle.lane_core.specs.Entering.{first_loop_lane, entry_bits, leaving, bits_
 -- The bits of inputs enter on the lanes `ins`, of the first `free` ones, and those of loops on the lanes below. At the end
 -- of all steps, the outputs have their bits on the lanes `outs`, and the loops leave with theirs; and the nets have theirs
 -- on their lanes after the steps of their places.
-pub record Computes (list : CellList) (free : ℕ) (ins outs : List ℕ) (nets : List NetPlace) (after : Option ℕ → List Bool → List Bool) (end : List Bool → List Bool) : Type 0 where
+pub record ComputeOnLanes (list : CellList) (free : ℕ) (ins outs : List ℕ) (nets : List NetPlace) (after : Option ℕ → List Bool → List Bool) (end : List Bool → List Bool) : Type 0 where
   pub outs_have : (inputs state : List Bool) → Fits list inputs state
       → map (bit_on (end (entry_bits free ins inputs (loop_state list state)))) outs ≡ map (bit_of list inputs state) list.outs
   pub loops_leave : (inputs state : List Bool) → Fits list inputs state
@@ -25,12 +25,12 @@ pub record Computes (list : CellList) (free : ℕ) (ins outs : List ℕ) (nets :
 pub record ComputesByProgram (list : CellList) (program : Program) : Type 0 where
   pub starts : program.latches ≡ loop_state list list.starts
   pub inputs : length program.ins ≡ list.inputs
-  pub bits : Computes list (first_loop_lane program.lanes (length program.latches)) program.ins program.outs program.nets
+  pub bits : ComputeOnLanes list (first_loop_lane program.lanes (length program.latches)) program.ins program.outs program.nets
       (bits_after after_instrs program.instrs) (after_instrs program.instrs)
 
 -- and so does a plan
 pub record ComputesByPlan (list : CellList) (plan : Plan) : Type 0 where
   pub starts : plan.starts ≡ loop_state list list.starts
   pub inputs : length plan.ins ≡ list.inputs
-  pub bits : Computes list (first_loop_lane plan.lanes plan.latches) plan.ins plan.outs plan.nets
+  pub bits : ComputeOnLanes list (first_loop_lane plan.lanes plan.latches) plan.ins plan.outs plan.nets
       (bits_after after_columns plan.columns) (after_columns plan.columns)

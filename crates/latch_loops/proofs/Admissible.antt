@@ -16,10 +16,10 @@ use Rattle.lane_core.specs.Entering.{bits_after}
 use Rattle.lane_core.specs.Places.{AreDistinctBelow, IsPlaceWithin}
 use Rattle.lane_core.specs.Plans.{IsAdmissible}
 use Rattle.lane_core.proofs.Lookup.{apart_from_sorted}
-use Rattle.column_packer.specs.Numbers.{used_by, column_numbers, numbered, column_of}
+use Rattle.column_packer.specs.Numbers.{used_by, column_numbers, numbered, column_instrs}
 use Rattle.column_packer.specs.Packing.{instrs_in, IsPacked}
 use Rattle.column_packer.proofs.Packed.{packed_same}
-use Rattle.latch_loops.specs.Places.{last_of, column_after, closed_place}
+use Rattle.latch_loops.specs.Places.{last_of, column_of_place, closed_place}
 use Rattle.latch_loops.specs.Closed.{IsPadded, least_size, IsClosed, DoesAsProgram}
 use Rattle.latch_loops.proofs.Padding.{IsEmpty, padded_after}
 use Rattle.latch_loops.proofs.Uses.{used_in_columns, place_bits}
@@ -36,7 +36,7 @@ all_numbered P c (n ∷ ns) (x ∷ xs) all = all_of (n == c) P x (numbered c ns 
 columns_on_lanes : (lanes : ℕ) (instrs : List Instr) (columns : List Column) → IsPacked instrs columns → All (IsOnLanes lanes) instrs → All (IsColumnOnLanes lanes) columns
 columns_on_lanes lanes instrs columns p all c d within =
     subst (All (IsOnLanes lanes)) (get_or-map (λ (column : Column). column.instrs) columns c d [] within)
-    (All-permutation (IsOnLanes lanes) (column_of instrs c) (instrs_in columns c) (p.each c) (all_numbered (IsOnLanes lanes) c (column_numbers instrs) instrs all))
+    (All-permutation (IsOnLanes lanes) (column_instrs instrs c) (instrs_in columns c) (p.each c) (all_numbered (IsOnLanes lanes) c (column_numbers instrs) instrs all))
 
 empty_on_lanes : (lanes : ℕ) (columns : List Column) → All IsEmpty columns → All (IsColumnOnLanes lanes) columns
 empty_on_lanes lanes columns empty c d within = subst (All (IsOnLanes lanes)) (sym (empty c d within)) (All-nil (IsOnLanes lanes))
@@ -58,7 +58,7 @@ last_below : (used n : ℕ) → used ≤ n → ForSome (last_of used) (λ c. c <
 last_below zero n low = λ x e. cc
 last_below (suc c) n low = λ x e. (let same : c ≡ x = cc in omega (arith, same, low))
 
-after_below : (instrs : List Instr) (columns : List Column) → IsPacked instrs columns → (lane n : ℕ) → length columns ≤ n → (after : Option ℕ) → ForSome (column_after instrs lane after) (λ c. c < n)
+after_below : (instrs : List Instr) (columns : List Column) → IsPacked instrs columns → (lane n : ℕ) → length columns ≤ n → (after : Option ℕ) → ForSome (column_of_place instrs lane after) (λ c. c < n)
 after_below instrs columns k lane n low None = λ x e. cc
 after_below instrs columns k lane n low (Some m) = last_below (used_by (take (m + 1) instrs) lane) n (omega (arith, used_in_columns instrs columns k (m + 1) lane, low))
 

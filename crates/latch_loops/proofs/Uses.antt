@@ -14,7 +14,7 @@ use Rattle.column_packer.proofs.Uses.{cases_on}
 use Rattle.column_packer.proofs.Numbers.{from_front, number, used_push, past_uses, used_within}
 use Rattle.column_packer.proofs.First.{number_of, used_on, used_off}
 use Rattle.column_packer.proofs.Packed.{packed_front}
-use Rattle.latch_loops.specs.Places.{last_of, column_after, closed_place, PlacesAreLastUses}
+use Rattle.latch_loops.specs.Places.{last_of, column_of_place, closed_place, PlacesAreLastUses}
 use Rattle.latch_loops.specs.Closed.{IsPadded}
 use Rattle.latch_loops.proofs.Padding.{padded_front}
 
@@ -85,7 +85,7 @@ to_last columns (suc c) bits = (let e : c + 1 ≡ suc c = omega arith in ap (λ 
 
 -- a place has the same bit in the program and in the plan
 pub place_bit : (least : ℕ) (instrs : List Instr) (columns padded : List Column) → IsPacked instrs columns → IsPadded least columns padded → (bits : List Bool) (lane : ℕ) (after : Option ℕ)
-    → bit_on (bits_after after_columns padded (column_after instrs lane after) bits) lane ≡ bit_on (bits_after after_instrs instrs after bits) lane
+    → bit_on (bits_after after_columns padded (column_of_place instrs lane after) bits) lane ≡ bit_on (bits_after after_instrs instrs after bits) lane
 place_bit least instrs columns padded k p bits lane None = refl
 place_bit least instrs columns padded k p bits lane (Some n) =
     let used = used_by (take (n + 1) instrs) lane in

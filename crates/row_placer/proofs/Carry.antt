@@ -2,7 +2,7 @@
 use Rattle.std.proofs.Common.{◌≡◌, ◌∙◌, ap, ℕ, ◌+◌, ◌<◌, List, length, get_or, arith}
 use Rattle.lane_core.specs.declared.instr.Instr.{Instr}
 use Rattle.channel_router.specs.Routes.{brought, swapped, distance}
-use Rattle.row_placer.specs.declared.job.Tag.{Tag}
+use Rattle.row_placer.specs.declared.roles.Tag.{Tag}
 use Rattle.row_placer.specs.Told.{SameTags, free_tag}
 
 -- so far the lane has come to this one

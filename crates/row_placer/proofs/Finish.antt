@@ -9,14 +9,14 @@ use Rattle.lane_core.specs.Places.{IsPlaceWithin}
 use Rattle.cell_core.specs.declared.cells.Src.{Src}
 use Rattle.cell_core.specs.declared.cells.Src.TheVariants.{Input, Latch, One, Zero, Cell as Made}
 use Rattle.cell_core.specs.declared.list.CellList.{CellList}
-use Rattle.row_placer.specs.declared.job.Tag.{Tag}
+use Rattle.row_placer.specs.declared.roles.Tag.{Tag}
 use Rattle.row_placer.specs.declared.job.Job.{Job}
 use Rattle.row_placer.specs.Told.{Told, MadeTold}
 use Rattle.row_placer.specs.Ready.{AreSettled}
 use Rattle.cell_core.specs.Loops.{loop_state, loop_count, names_one}
-use Rattle.row_placer.specs.Numbers.{gate_of, IsThere, IsSound}
+use Rattle.row_placer.specs.Numbers.{gate_of, IsThere, ReadsWhatIsThere}
 use Rattle.cell_lanes.specs.Computes.{ComputesByProgram}
-use Rattle.row_placer.specs.Placed.{IsPrepared, AreOuts, AreHomes, place_of}
+use Rattle.row_placer.specs.Placed.{IsPrepared, AreOuts, AreHomes, net_place_of}
 use Rattle.row_placer.proofs.Whole.{computes}
 use Rattle.row_placer.proofs.Homes.{homes_hold}
 use Rattle.row_placer.proofs.Prepared.{length-ports}
@@ -32,10 +32,10 @@ pub record Ends (list : CellList) (job : Job) (tags : List Tag) (made : List Net
   pub settled : AreSettled job (loop_count list) tags
   pub outs : AreOuts job (loop_count list) tags p.outs
   pub outs_long : length p.outs + loop_count list ≡ length job.ports
-  pub nets : p.nets ≡ map (place_of list homes made) list.nets
+  pub nets : p.nets ≡ map (net_place_of list homes made) list.nets
   pub ins : p.ins ≡ take list.inputs homes
 
-pub finish : (list : CellList) (p : Program) (job : Job) (tags : List Tag) (made : List NetPlace) (left homes : List ℕ) → IsSound list → IsPrepared list job left homes → Ends list job tags made homes p → ComputesByProgram list p
+pub finish : (list : CellList) (p : Program) (job : Job) (tags : List Tag) (made : List NetPlace) (left homes : List ℕ) → ReadsWhatIsThere list → IsPrepared list job left homes → Ends list job tags made homes p → ComputesByProgram list p
 finish list p job tags made left homes sound r e =
     computes list job p homes tags made sound
     (record {
@@ -65,7 +65,7 @@ entry_place : (lanes steps lane : ℕ) → lane < lanes → IsPlaceWithin lanes 
 entry_place lanes steps lane low = record { lane = low; after = λ k e. absurd (none-some k e) }
 
 place_within : (list : CellList) (lanes steps : ℕ) (homes : List ℕ) (made : List NetPlace) → All (λ lane. lane < lanes) homes → All (IsPlaceWithin lanes steps) made → list.inputs + loop_count list ≤ length homes
-    → length made ≡ length list.cells → (src : Src) → IsThere list (length list.cells) src → (src ≡ Zero → list.inputs + loop_count list < length homes) → IsPlaceWithin lanes steps (place_of list homes made src)
+    → length made ≡ length list.cells → (src : Src) → IsThere list (length list.cells) src → (src ≡ Zero → list.inputs + loop_count list < length homes) → IsPlaceWithin lanes steps (net_place_of list homes made src)
 place_within list lanes steps homes made low places wide all (Input i) there home = entry_place lanes steps (get_or homes i 0) (low i 0 (omega (arith, there, wide)))
 place_within list lanes steps homes made low places wide all (Latch i) there home = entry_place lanes steps (get_or homes (list.inputs + i) 0) (low (list.inputs + i) 0 (omega (arith, there, wide)))
 place_within list lanes steps homes made low places wide all One there home =
@@ -74,11 +74,11 @@ place_within list lanes steps homes made low places wide all One there home =
 place_within list lanes steps homes made low places wide all Zero there home = entry_place lanes steps (get_or homes (list.inputs + loop_count list) 0) (low (list.inputs + loop_count list) 0 (home refl))
 place_within list lanes steps homes made low places wide all (Made i) there home = places i (record { lane = 0; after = None }) (omega (arith, there, all))
 
-pub nets_within : (list : CellList) (lanes steps : ℕ) (homes : List ℕ) (made nets : List NetPlace) → IsSound list → All (λ lane. lane < lanes) homes → All (IsPlaceWithin lanes steps) made → list.inputs + loop_count list ≤ length homes
-    → length made ≡ length list.cells → All (λ src. src ≡ Zero → list.inputs + loop_count list < length homes) list.nets → nets ≡ map (place_of list homes made) list.nets → All (IsPlaceWithin lanes steps) nets
+pub nets_within : (list : CellList) (lanes steps : ℕ) (homes : List ℕ) (made nets : List NetPlace) → ReadsWhatIsThere list → All (λ lane. lane < lanes) homes → All (IsPlaceWithin lanes steps) made → list.inputs + loop_count list ≤ length homes
+    → length made ≡ length list.cells → All (λ src. src ≡ Zero → list.inputs + loop_count list < length homes) list.nets → nets ≡ map (net_place_of list homes made) list.nets → All (IsPlaceWithin lanes steps) nets
 nets_within list lanes steps homes made nets sound low places wide all zero_home is i d below =
-    let small : i < length list.nets = omega (arith, below, ap length is, length-map list.nets (place_of list homes made)) in
-    subst (IsPlaceWithin lanes steps) (sym (ap (λ ns. get_or ns i d) is ∙ get_or-map (place_of list homes made) list.nets i Zero d small))
+    let small : i < length list.nets = omega (arith, below, ap length is, length-map list.nets (net_place_of list homes made)) in
+    subst (IsPlaceWithin lanes steps) (sym (ap (λ ns. get_or ns i d) is ∙ get_or-map (net_place_of list homes made) list.nets i Zero d small))
     (place_within list lanes steps homes made low places wide all (get_or list.nets i Zero) (sound.nets i Zero small) (zero_home i Zero small))
 
 sums : (c o k n : ℕ) → c * (3 * n) + (k + o) * n + k * n ≡ (3 * c + o + 2 * k) * n

@@ -6,8 +6,9 @@ use Rattle.std.proofs.lemmas.Option.{get_or_from_slice_get}
 use Rattle.std.proofs.lemmas.List.{length-set}
 use Rattle.lane_core.specs.declared.plan.NetPlace.{NetPlace}
 use Rattle.row_placer.specs.Told.{count, tag, free_tag, Exchanged, BothExchanged}
-use Rattle.row_placer.proofs.Uses.{Usable, usable, used, comes, made as gate_made}
-use Rattle.row_placer.specs.declared.job.Tag.{Tag}
+use Rattle.row_placer.proofs.Uses.{first_used, second_used, Usable, usable, used, comes, made as gate_made}
+use Rattle.row_placer.specs.declared.roles.Role.TheVariants.{Kept, First, Second}
+use Rattle.row_placer.specs.declared.roles.Tag.{Tag}
 use Rattle.row_placer.specs.declared.job.Gate.{Gate}
 use Rattle.row_placer.specs.declared.job.Job.{Job}
 use Rattle.row_placer.specs.Uses.{need, owed, owed_ports, uses_of, AreKnown}
@@ -58,23 +59,23 @@ begun job made i n gate tags table len ok got within r =
 pub record Halfway (job : Job) (g : ℕ) (gate : Gate) (tags : List Tag) (table : List ℕ) : Type 0 where
   pub ready : Ready (gate.second ∷ pending job (g + 1)) (job.base + g) (need gate.second (pending job (g + 1)) + (owed job.ports (drop (g + 1) job.gates) - 1)) tags table
   pub usable : Usable gate.second (owed job.ports (drop (g + 1) job.gates) - 1) tags table
-  pub held : 1 ≤ count gate.first 2 tags
+  pub held : 1 ≤ count gate.first First tags
 
 pub halfway : (job : Job) (g : ℕ) (gate : Gate) (tags tags' : List Tag) (table table' : List ℕ) → Begun job g gate tags table
-    → Exchanged tags tags' (cond (get_or table gate.first 0 == 1) (tag gate.first 1) free_tag) (tag gate.first 2) → table' ≡ set table gate.first (get_or table gate.first 0 - 1) → Halfway job g gate tags' table'
+    → Exchanged tags tags' (cond (get_or table gate.first 0 == 1) (tag gate.first Kept) free_tag) (tag gate.first First) → table' ≡ set table gate.first (get_or table gate.first 0 - 1) → Halfway job g gate tags' table'
 halfway job g gate tags tags' table table' b ex is =
-    let ready = used gate.first 2 (gate.second ∷ pending job (g + 1)) (job.base + g) (need gate.second (pending job (g + 1)) + (owed job.ports (drop (g + 1) job.gates) - 1)) tags tags' table table' b.ready b.first (omega arith) ex is in
+    let ready = used gate.first First (gate.second ∷ pending job (g + 1)) (job.base + g) (need gate.second (pending job (g + 1)) + (owed job.ports (drop (g + 1) job.gates) - 1)) tags tags' table table' b.ready b.first first_used ex is in
     record {
       ready = ready;
       usable = usable gate.second (pending job (g + 1)) (job.base + g) (owed job.ports (drop (g + 1) job.gates) - 1) tags' table' ready b.second;
-      held = comes gate.first 2 (get_or table gate.first 0) tags tags' (omega arith) ex;
+      held = comes gate.first First (get_or table gate.first 0) tags tags' first_used ex;
     }
 
 pub whole : (job : Job) (g : ℕ) (gate : Gate) (tags tags' tags'' : List Tag) (table table' : List ℕ) → gate.second < job.base + g → Halfway job g gate tags table
-    → Exchanged tags tags' (cond (get_or table gate.second 0 == 1) (tag gate.second 1) free_tag) (tag gate.second 3) → table' ≡ set table gate.second (get_or table gate.second 0 - 1)
-    → BothExchanged tags' tags'' (tag gate.first 2) (tag gate.second 3) (tag (job.base + g) 1) free_tag → job.base + g < length table → ReadyForGate job (g + 1) tags'' table'
+    → Exchanged tags tags' (cond (get_or table gate.second 0 == 1) (tag gate.second Kept) free_tag) (tag gate.second Second) → table' ≡ set table gate.second (get_or table gate.second 0 - 1)
+    → BothExchanged tags' tags'' (tag gate.first First) (tag gate.second Second) (tag (job.base + g) Kept) free_tag → job.base + g < length table → ReadyForGate job (g + 1) tags'' table'
 whole job g gate tags tags' tags'' table table' low h ex is both wide =
-    let ready = used gate.second 3 (pending job (g + 1)) (job.base + g) (owed job.ports (drop (g + 1) job.gates) - 1) tags tags' table table' h.ready low (omega arith) ex is in
+    let ready = used gate.second Second (pending job (g + 1)) (job.base + g) (owed job.ports (drop (g + 1) job.gates) - 1) tags tags' table table' h.ready low second_used ex is in
     after_gate job g tags'' table'
     (gate_made (pending job (g + 1)) (job.base + g) (owed job.ports (drop (g + 1) job.gates)) gate.first gate.second tags' tags'' table' ready (omega (arith, wide, ap length is, length-set table gate.second (get_or table gate.second 0 - 1))) both)
 

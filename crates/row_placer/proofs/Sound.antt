@@ -11,7 +11,7 @@ use Rattle.cell_core.specs.declared.cells.Cell.TheVariants.{Or, Xor, AndNot}
 use Rattle.cell_core.specs.declared.list.CellList.{CellList}
 use Rattle.cell_core.specs.Sources.{is_there, reads_there, are_in_order, are_there, is_one, reads_one, read_one}
 use Rattle.cell_core.specs.Loops.{names_one}
-use Rattle.row_placer.specs.Numbers.{IsThere, ReadsThere, IsSound}
+use Rattle.row_placer.specs.Numbers.{IsThere, ReadsThere, ReadsWhatIsThere}
 
 all_at : {X : Type 0} (p : X → Bool) (xs : List X) (i : ℕ) (d : X) → i < length xs → list_all p xs ≡ true → p (get_or xs i d) ≡ true
 all_at p [] i d within all = absurd (omega (arith, within))
@@ -49,7 +49,7 @@ all_there list srcs there one i d within =
     src_there list (length list.cells) (get_or srcs i d) (all_at (is_there list.inputs (length list.starts) (length list.cells)) srcs i d within there)
     (λ h. one (list_any_at is_one srcs i d within h))
 
-pub sound : (list : CellList) → IsSound list
+pub sound : (list : CellList) → ReadsWhatIsThere list
 sound list = record {
   fits = sym list.starts_fit;
   cells = λ g d within. cell_there list g (get_or list.cells g d) ((let e : 0 + g ≡ g = omega arith in ap (λ n. reads_there list.inputs (length list.starts) n (get_or list.cells g d)) (sym e)) ∙ order_at list.inputs (length list.starts) 0 list.cells g d within list.in_order)

@@ -13,9 +13,11 @@ use Rattle.lane_core.specs.Entering.{bits_after}
 use Rattle.lane_core.specs.Instrs.{after_instr, after_instrs, bit_on, lane_of, upper_bit, lower_bit, IsOnLanes}
 use Rattle.lane_core.specs.Places.{IsPlaceWithin}
 use Rattle.channel_router.proofs.TwoSet.{two_set}
-use Rattle.row_placer.specs.declared.job.Tag.{Tag}
+use Rattle.row_placer.specs.declared.roles.Role.{Role}
+use Rattle.row_placer.specs.declared.roles.Role.TheVariants.{Kept}
+use Rattle.row_placer.specs.declared.roles.Tag.{Tag}
 use Rattle.row_placer.specs.declared.job.Job.{Job}
-use Rattle.row_placer.specs.Told.{Told, MadeTold, Answers, Tells, free_tag, tag, BothExchanged}
+use Rattle.row_placer.specs.Told.{role_code, Told, MadeTold, PutsTags, Tells, free_tag, tag, BothExchanged}
 
 pub length-after : (xs : List Instr) (bits : List Bool) → length (after_instrs xs bits) ≡ length bits
 length-after [] bits = refl
@@ -28,10 +30,10 @@ pub length-two : {X : Type 0} (xs : List X) (i j : ℕ) (a b : X) → length (se
 length-two xs i j a b = length-set (set xs i a) j b ∙ length-set xs i a
 
 tells : (bit : ℕ → Bool) (t t' : Tag) (b b' : Bool) → t' ≡ t → b' ≡ b → Tells bit t b → Tells bit t' b'
-tells bit t t' b b' et eb h some = eb ∙ h (subst (λ (t : Tag). 0 < t.role) et some) ∙ ap (λ (t : Tag). bit t.value) (sym et)
+tells bit t t' b b' et eb h some = eb ∙ h (subst (λ (t : Tag). 0 < role_code t.role) et some) ∙ ap (λ (t : Tag). bit t.value) (sym et)
 
 pub step_told : (job : Job) (tags : List Tag) (instrs : List Instr) (instr : Instr) (upper lower : Tag) → lane_of instr + 1 < length tags → length job.start ≡ length tags
-    → Answers job tags instr upper lower → Told job tags instrs → Told job (set (set tags (lane_of instr) upper) (lane_of instr + 1) lower) (instrs ++ instr ∷ [])
+    → PutsTags job tags instr upper lower → Told job tags instrs → Told job (set (set tags (lane_of instr) upper) (lane_of instr + 1) lower) (instrs ++ instr ∷ [])
 step_told job tags instrs instr upper lower within long answers told bit agrees bits fits holds lane =
     let i = lane_of instr in
     let x = after_instrs instrs bits in
@@ -88,7 +90,7 @@ counts_step p tags i u l within =
 -- swaps
 -- forks
 -- marks
-pub mark_told : (job : Job) (tags : List Tag) (instrs : List Instr) (i role : ℕ) → i < length tags → 0 < (get_or tags i free_tag).role → Told job tags instrs → Told job (set tags i (tag (get_or tags i free_tag).value role)) instrs
+pub mark_told : (job : Job) (tags : List Tag) (instrs : List Instr) (i : ℕ) (role : Role) → i < length tags → 0 < role_code (get_or tags i free_tag).role → Told job tags instrs → Told job (set tags i (tag (get_or tags i free_tag).value role)) instrs
 mark_told job tags instrs i role within some told bit agrees bits fits holds lane =
     let now = told bit agrees bits fits holds in
     ⊎_elim
@@ -113,7 +115,7 @@ gate_exchanged tags lane t u made turned within upper lower p =
     parts false a b = ap₂ (λ x y. cond {A = ℕ} (p x) 1 0 + cond (p y) 1 0) a b
 
 -- places
-pub note_told : (job : Job) (tags : List Tag) (instrs : List Instr) (made : List NetPlace) (lane n : ℕ) → n + 1 ≡ length instrs → get_or tags lane free_tag ≡ tag (job.base + length made) 1
+pub note_told : (job : Job) (tags : List Tag) (instrs : List Instr) (made : List NetPlace) (lane n : ℕ) → n + 1 ≡ length instrs → get_or tags lane free_tag ≡ tag (job.base + length made) Kept
     → Told job tags instrs → MadeTold job instrs made → MadeTold job instrs (made ++ record { lane = lane; after = Some n } ∷ [])
 note_told job tags instrs made lane n last here told old bit agrees bits fits holds g d within =
     ⊎_elim
@@ -123,7 +125,7 @@ note_told job tags instrs made lane n last here told old bit agrees bits fits ho
     let e : get_or (made ++ place ∷ []) g d ≡ place = ap (λ k. get_or (made ++ place ∷ []) k d) is ∙ get_or_push made place d (length made) refl in
     ap (λ (q : NetPlace). bit_on (bits_after after_instrs instrs q.after bits) q.lane) e
     ∙ ap (λ is. bit_on (after_instrs is bits) lane) (ap (λ k. take k instrs) last ∙ take-length instrs)
-    ∙ now (subst (λ (t : Tag). 0 < t.role) (sym here) (omega arith)) ∙ ap (λ (t : Tag). bit t.value) here ∙ ap (λ k. bit (job.base + k)) (sym is))
+    ∙ now (subst (λ (t : Tag). 0 < role_code t.role) (sym here) (let some : 0 < 1 = omega arith in some)) ∙ ap (λ (t : Tag). bit t.value) here ∙ ap (λ k. bit (job.base + k)) (sym is))
     (cases_lt g (length made))
   where
     place : NetPlace

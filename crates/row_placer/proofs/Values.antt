@@ -12,7 +12,7 @@ use Rattle.row_placer.specs.declared.job.Gate.{Gate}
 use Rattle.row_placer.specs.Told.{Agrees, gate_bit}
 use Rattle.cell_core.specs.Loops.{loop_count, names_one}
 use Rattle.cell_core.specs.Meaning.{source_bit, cell_bit, cell_bits, bit_of}
-use Rattle.row_placer.specs.Numbers.{number, gate_of, IsThere, ReadsThere, IsSound}
+use Rattle.row_placer.specs.Numbers.{number, gate_of, IsThere, ReadsThere, ReadsWhatIsThere}
 use Rattle.cell_core.specs.Meaning.{Fits}
 
 -- the bits of all values, by number
@@ -95,7 +95,7 @@ gate_value list inputs state n (Or a b) f there = sym (ap₂ (λ x y. x || y) (n
 gate_value list inputs state n (Xor a b) f there = sym (ap₂ (λ x y. (x || y) && not (x && y)) (numbered list inputs state n a f there.0) (numbered list inputs state n b f there.1))
 gate_value list inputs state n (AndNot a b) f there = sym (ap₂ (λ x y. x && not y) (numbered list inputs state n a f there.0) (numbered list inputs state n b f there.1))
 
-pub agrees : (list : CellList) (job : Job) (inputs state : List Bool) → IsSound list → job.base ≡ list.inputs + loop_count list + 1 → job.gates ≡ map (gate_of list) list.cells → Fits list inputs state
+pub agrees : (list : CellList) (job : Job) (inputs state : List Bool) → ReadsWhatIsThere list → job.base ≡ list.inputs + loop_count list + 1 → job.gates ≡ map (gate_of list) list.cells → Fits list inputs state
     → Agrees job (value_bit list inputs state)
 agrees list job inputs state sound base gates f g d within =
     let long : length job.gates ≡ length list.cells = ap length gates ∙ length-map list.cells (gate_of list) in

@@ -12,17 +12,19 @@ use Rattle.lane_core.specs.Instrs.{bit_on, after_instrs}
 use Rattle.cell_core.specs.declared.cells.Src.{Src}
 use Rattle.cell_core.specs.declared.cells.Src.TheVariants.{Input, Latch, One, Zero, Cell as Made}
 use Rattle.cell_core.specs.declared.list.CellList.{CellList}
-use Rattle.row_placer.specs.declared.job.Tag.{Tag}
+use Rattle.row_placer.specs.declared.roles.Role.{Role}
+use Rattle.row_placer.specs.declared.roles.Role.TheVariants.{Port}
+use Rattle.row_placer.specs.declared.roles.Tag.{Tag}
 use Rattle.row_placer.specs.declared.job.Job.{Job}
-use Rattle.row_placer.specs.Told.{tag, free_tag, HoldsTags}
+use Rattle.row_placer.specs.Told.{role_code, tag, free_tag, HoldsTags}
 use Rattle.cell_core.specs.Loops.{loop_data, loop_state, loop_count, names_one}
 use Rattle.cell_core.specs.Meaning.{bit_of}
-use Rattle.row_placer.specs.Numbers.{number, IsThere, IsSound}
+use Rattle.row_placer.specs.Numbers.{number, IsThere, ReadsWhatIsThere}
 use Rattle.cell_core.specs.Meaning.{Fits}
 use Rattle.lane_core.specs.Entering.{lane_bit}
 use Rattle.cell_lanes.specs.Computes.{ComputesByProgram}
 use Rattle.row_placer.specs.Programs.{program_bits, free_lanes}
-use Rattle.row_placer.specs.Placed.{IsPlaced, HomesHold, place_of}
+use Rattle.row_placer.specs.Placed.{IsPlaced, HomesHold, net_place_of}
 use Rattle.row_placer.proofs.Steps.{length-after}
 use Rattle.row_placer.proofs.Values.{value_bit, numbered, agrees}
 
@@ -71,13 +73,13 @@ start_holds list job p homes tags made x hold inputs state f lane some =
     ap (bit_on (program_bits list p inputs state)) (sym h.2) ∙ hold inputs state f h.0 h.1 ∙ ap (λ (t : Tag). value_bit list inputs state t.value) (sym h.3)
 
 -- a lane with a port's tag has the port's bit
-port_bit : (list : CellList) (job : Job) (p : Program) (homes : List ℕ) (tags : List Tag) (made : List NetPlace) → IsSound list → IsPlaced list job p homes tags made → HomesHold list p homes (value_bit list)
-    → (inputs state : List Bool) → Fits list inputs state → (src : Src) (lane role : ℕ) → IsThere list (length list.cells) src → 0 < role → get_or tags lane free_tag ≡ tag (number list src) role
+port_bit : (list : CellList) (job : Job) (p : Program) (homes : List ℕ) (tags : List Tag) (made : List NetPlace) → ReadsWhatIsThere list → IsPlaced list job p homes tags made → HomesHold list p homes (value_bit list)
+    → (inputs state : List Bool) → Fits list inputs state → (src : Src) (lane : ℕ) (role : Role) → IsThere list (length list.cells) src → 0 < role_code role → get_or tags lane free_tag ≡ tag (number list src) role
     → bit_on (after_instrs p.instrs (program_bits list p inputs state)) lane ≡ bit_of list inputs state src
 port_bit list job p homes tags made sound x hold inputs state f src lane role there some here =
     let bits = program_bits list p inputs state in
     let all = x.told (value_bit list inputs state) (agrees list job inputs state sound x.job_of.base x.job_of.gates f) bits (wide list p inputs state x.latches x.room f ∙ sym x.start) (start_holds list job p homes tags made x hold inputs state f) in
-    all lane (subst (λ (t : Tag). 0 < t.role) (sym here) some) ∙ ap (λ (t : Tag). value_bit list inputs state t.value) here ∙ numbered list inputs state (length list.cells) src f there
+    all lane (subst (λ (t : Tag). 0 < role_code t.role) (sym here) some) ∙ ap (λ (t : Tag). value_bit list inputs state t.value) here ∙ numbered list inputs state (length list.cells) src f there
 
 -- the ports, in order: loops' data, outputs
 port_value : (list : CellList) (job : Job) (i : ℕ) (all : List Src) → job.ports ≡ map (number list) all → i < length all → get_or job.ports i 0 ≡ number list (get_or all i Zero)
@@ -87,9 +89,9 @@ port_value list job i all is below = ap (λ ps. get_or ps i 0) is ∙ get_or-map
 abbrev net_at : Program → List Bool → NetPlace → Bool
 net_at p bits place = bit_on (bits_after after_instrs p.instrs place.after bits) place.lane
 
-net_bit : (list : CellList) (job : Job) (p : Program) (homes : List ℕ) (tags : List Tag) (made : List NetPlace) → IsSound list → IsPlaced list job p homes tags made → HomesHold list p homes (value_bit list)
+net_bit : (list : CellList) (job : Job) (p : Program) (homes : List ℕ) (tags : List Tag) (made : List NetPlace) → ReadsWhatIsThere list → IsPlaced list job p homes tags made → HomesHold list p homes (value_bit list)
     → (inputs state : List Bool) → Fits list inputs state → (src : Src) → IsThere list (length list.cells) src → (src ≡ Zero → list.inputs + loop_count list < length homes)
-    → net_at p (program_bits list p inputs state) (place_of list homes made src) ≡ bit_of list inputs state src
+    → net_at p (program_bits list p inputs state) (net_place_of list homes made src) ≡ bit_of list inputs state src
 net_bit list job p homes tags made sound x hold inputs state f (Input i) there home =
     hold inputs state f i (omega (arith, there, x.known_home)) ∙ numbered list inputs state (length list.cells) (Input i) f there
 net_bit list job p homes tags made sound x hold inputs state f (Latch i) there home =
@@ -104,7 +106,7 @@ net_bit list job p homes tags made sound x hold inputs state f (Made i) there ho
     (start_holds list job p homes tags made x hold inputs state f) i (record { lane = 0; after = None }) (omega (arith, there, x.all_made))
     ∙ ap (λ b. value_bit list inputs state (b + i)) x.job_of.base ∙ numbered list inputs state (length list.cells) (Made i) f there
 
-pub computes : (list : CellList) (job : Job) (p : Program) (homes : List ℕ) (tags : List Tag) (made : List NetPlace) → IsSound list → IsPlaced list job p homes tags made → HomesHold list p homes (value_bit list)
+pub computes : (list : CellList) (job : Job) (p : Program) (homes : List ℕ) (tags : List Tag) (made : List NetPlace) → ReadsWhatIsThere list → IsPlaced list job p homes tags made → HomesHold list p homes (value_bit list)
     → ComputesByProgram list p
 computes list job p homes tags made sound x hold = record {
   starts = x.latches;
@@ -112,7 +114,7 @@ computes list job p homes tags made sound x hold = record {
   bits = record {
     outs_have = λ inputs state f. ext_get_or false _ _ (length-map p.outs _ ∙ x.outs_long ∙ sym (length-map list.outs _)) (each_out inputs state f);
     loops_leave = λ inputs state f. ext_get_or false _ _ (long inputs state f ∙ sym (length-map (loop_data list) (bit_of list inputs state) ∙ datas)) (each_loop inputs state f) ∙ data_bits list inputs state;
-    nets_have = λ inputs state f. ext_get_or false _ _ (length-map p.nets _ ∙ ap length x.nets ∙ length-map list.nets (place_of list homes made) ∙ sym (length-map list.nets _)) (each_net inputs state f);
+    nets_have = λ inputs state f. ext_get_or false _ _ (length-map p.nets _ ∙ ap length x.nets ∙ length-map list.nets (net_place_of list homes made) ∙ sym (length-map list.nets _)) (each_net inputs state f);
   };
 }
   where
@@ -140,8 +142,8 @@ computes list job p homes tags made sound x hold = record {
         port_value list job (loop_count list + o) (loop_data list ++ list.outs) x.job_of.ports (omega (arith, low', datas, length-append (loop_data list) list.outs))
         ∙ ap (number list) (ap (λ n. get_or (loop_data list ++ list.outs) (n + o) Zero) (sym datas) ∙ get_or-append-add (loop_data list) list.outs o Zero) in
         get_or-map (bit_on (after_instrs p.instrs (program_bits list p inputs state))) p.outs o 0 false low
-        ∙ port_bit list job p homes tags made sound x hold inputs state f (get_or list.outs o Zero) (get_or p.outs o 0) (4 + (loop_count list + o)) (sound.outs o Zero low') (omega arith)
-        (x.outs o low' ∙ ap (λ v. tag v (4 + (loop_count list + o))) value)
+        ∙ port_bit list job p homes tags made sound x hold inputs state f (get_or list.outs o Zero) (get_or p.outs o 0) (Port (loop_count list + o)) (sound.outs o Zero low') (let some : 0 < 4 + (loop_count list + o) = omega arith in some)
+        (x.outs o low' ∙ ap (λ v. tag v (Port (loop_count list + o))) value)
         ∙ sym (get_or-map (bit_of list inputs state) list.outs o Zero false low')
 
     each_loop : (inputs state : List Bool) → Fits list inputs state → (s : ℕ) → s < length (reverse (drop (free_lanes p) (after_instrs p.instrs (program_bits list p inputs state))))
@@ -159,16 +161,16 @@ computes list job p homes tags made sound x hold = record {
         get_or-reverse (drop (free_lanes p) after) s false inside
         ∙ get_or-drop (free_lanes p) after (length (drop (free_lanes p) after) - 1 - s) false
         ∙ ap (bit_on after) lane
-        ∙ port_bit list job p homes tags made sound x hold inputs state f (get_or (loop_data list) s Zero) (length tags - 1 - s) (4 + s) (data_there list sound.latches s Zero (omega (arith, low, datas))) (omega arith)
-        (x.settled s low ∙ ap (λ v. tag v (4 + s)) value)
+        ∙ port_bit list job p homes tags made sound x hold inputs state f (get_or (loop_data list) s Zero) (length tags - 1 - s) (Port s) (data_there list sound.latches s Zero (omega (arith, low, datas))) (omega arith)
+        (x.settled s low ∙ ap (λ v. tag v (Port s)) value)
         ∙ sym (get_or-map (bit_of list inputs state) (loop_data list) s Zero false (omega (arith, low, datas)))
 
     each_net : (inputs state : List Bool) → Fits list inputs state → (i : ℕ) → i < length (map (λ place. bit_on (bits_after after_instrs p.instrs place.after (program_bits list p inputs state)) place.lane) p.nets)
         → get_or (map (λ place. bit_on (bits_after after_instrs p.instrs place.after (program_bits list p inputs state)) place.lane) p.nets) i false ≡ get_or (map (bit_of list inputs state) list.nets) i false
     each_net inputs state f i below =
         let low : i < length p.nets = omega (arith, below, length-map p.nets (net_at p (program_bits list p inputs state))) in
-        let low' : i < length list.nets = omega (arith, low, ap length x.nets, length-map list.nets (place_of list homes made)) in
+        let low' : i < length list.nets = omega (arith, low, ap length x.nets, length-map list.nets (net_place_of list homes made)) in
         get_or-map (net_at p (program_bits list p inputs state)) p.nets i (record { lane = 0; after = None }) false low
-        ∙ ap (net_at p (program_bits list p inputs state)) (ap (λ ns. get_or ns i (record { lane = 0; after = None })) x.nets ∙ get_or-map (place_of list homes made) list.nets i Zero (record { lane = 0; after = None }) low')
+        ∙ ap (net_at p (program_bits list p inputs state)) (ap (λ ns. get_or ns i (record { lane = 0; after = None })) x.nets ∙ get_or-map (net_place_of list homes made) list.nets i Zero (record { lane = 0; after = None }) low')
         ∙ net_bit list job p homes tags made sound x hold inputs state f (get_or list.nets i Zero) (sound.nets i Zero low') (x.zero_home i Zero low')
         ∙ sym (get_or-map (bit_of list inputs state) list.nets i Zero false low')

@@ -35,7 +35,7 @@ ReadsThere list n (Or a b) = IsThere list n a × IsThere list n b
 ReadsThere list n (Xor a b) = IsThere list n a × IsThere list n b
 ReadsThere list n (AndNot a b) = IsThere list n a × IsThere list n b
 
-pub record IsSound (list : CellList) : Type 0 where
+pub record ReadsWhatIsThere (list : CellList) : Type 0 where
   pub fits : length list.latches ≡ length list.starts
   pub cells : (g : ℕ) (d : Cell) → g < length list.cells → ReadsThere list g (get_or list.cells g d)
   pub outs : All (IsThere list (length list.cells)) list.outs

@@ -7,9 +7,10 @@ use Rattle.lane_core.specs.Instrs.{bit_on}
 use Rattle.cell_core.specs.declared.cells.Src.{Src}
 use Rattle.cell_core.specs.declared.cells.Src.TheVariants.{Input, Latch, One, Zero, Cell as Made}
 use Rattle.cell_core.specs.declared.list.CellList.{CellList}
-use Rattle.row_placer.specs.declared.job.Tag.{Tag}
+use Rattle.row_placer.specs.declared.roles.Role.TheVariants.{Free, Kept, Port}
+use Rattle.row_placer.specs.declared.roles.Tag.{Tag}
 use Rattle.row_placer.specs.declared.job.Job.{Job}
-use Rattle.row_placer.specs.Told.{tag, free_tag, count, Told, MadeTold}
+use Rattle.row_placer.specs.Told.{tag, free_tag, count, role_code, Told, MadeTold}
 use Rattle.row_placer.specs.Ready.{AreSettled, ReadyForGate}
 use Rattle.cell_core.specs.Loops.{loop_data, loop_state, loop_count}
 use Rattle.row_placer.specs.Numbers.{number, gate_of}
@@ -24,7 +25,7 @@ pub record IsJobOf (list : CellList) (job : Job) : Type 0 where
 
 -- a lane that tells something at the start is the home of its value
 abbrev pub AreAtHome : List ℕ → List Tag → Type 0
-AreAtHome homes start = (lane : ℕ) → 0 < (get_or start lane free_tag).role → (v : ℕ) × (v < length homes) × (get_or homes v 0 ≡ lane) × (get_or start lane free_tag ≡ tag v 1)
+AreAtHome homes start = (lane : ℕ) → 0 < role_code (get_or start lane free_tag).role → (v : ℕ) × (v < length homes) × (get_or homes v 0 ≡ lane) × (get_or start lane free_tag ≡ tag v Kept)
 
 -- the homes: of the inputs, of the loops on the lowest lanes, and perhaps a dark lane for constant 0
 pub record AreHomes (list : CellList) (lanes : ℕ) (ins homes : List ℕ) : Type 0 where
@@ -37,12 +38,12 @@ pub record AreHomes (list : CellList) (lanes : ℕ) (ins homes : List ℕ) : Typ
   pub dark : list.inputs + loop_count list < length homes
       → (get_or homes (list.inputs + loop_count list) 0 < lanes - loop_count list) × ((i : ℕ) → i < list.inputs → get_or ins i 0 ≢ get_or homes (list.inputs + loop_count list) 0)
 
-abbrev pub place_of : CellList → List ℕ → List NetPlace → Src → NetPlace
-place_of list homes made (Made i) = get_or made i (record { lane = 0; after = None })
-place_of list homes made (Input i) = record { lane = get_or homes i 0; after = None }
-place_of list homes made (Latch i) = record { lane = get_or homes (list.inputs + i) 0; after = None }
-place_of list homes made One = record { lane = get_or homes (list.inputs + length list.starts) 0; after = None }
-place_of list homes made Zero = record { lane = get_or homes (list.inputs + loop_count list) 0; after = None }
+abbrev pub net_place_of : CellList → List ℕ → List NetPlace → Src → NetPlace
+net_place_of list homes made (Made i) = get_or made i (record { lane = 0; after = None })
+net_place_of list homes made (Input i) = record { lane = get_or homes i 0; after = None }
+net_place_of list homes made (Latch i) = record { lane = get_or homes (list.inputs + i) 0; after = None }
+net_place_of list homes made One = record { lane = get_or homes (list.inputs + length list.starts) 0; after = None }
+net_place_of list homes made Zero = record { lane = get_or homes (list.inputs + loop_count list) 0; after = None }
 
 -- a home has its value's bit at the start
 abbrev pub HomesHold : CellList → Program → List ℕ → ((List Bool) → (List Bool) → ℕ → Bool) → Type 0
@@ -61,8 +62,8 @@ pub record IsPlaced (list : CellList) (job : Job) (p : Program) (homes : List �
   pub room : loop_count list ≤ p.lanes
   pub settled : AreSettled job (loop_count list) tags
   pub outs_long : length p.outs ≡ length list.outs
-  pub outs : (o : ℕ) → o < length list.outs → get_or tags (get_or p.outs o 0) free_tag ≡ tag (get_or job.ports (loop_count list + o) 0) (4 + (loop_count list + o))
-  pub nets : p.nets ≡ map (place_of list homes made) list.nets
+  pub outs : (o : ℕ) → o < length list.outs → get_or tags (get_or p.outs o 0) free_tag ≡ tag (get_or job.ports (loop_count list + o) 0) (Port (loop_count list + o))
+  pub nets : p.nets ≡ map (net_place_of list homes made) list.nets
   pub zero_home : All (λ src. src ≡ Zero → list.inputs + loop_count list < length homes) list.nets
   pub known_home : list.inputs + loop_count list ≤ length homes
 
@@ -70,12 +71,12 @@ pub record IsPlaced (list : CellList) (job : Job) (p : Program) (homes : List �
 pub record IsStart (homes left : List ℕ) (lanes : ℕ) (start : List Tag) : Type 0 where
   pub long : length start ≡ lanes
   pub home : AreAtHome homes start
-  pub kept : (v : ℕ) → v < length homes → 1 ≤ get_or left v 0 → get_or start (get_or homes v 0) free_tag ≡ tag v 1
-  pub free : lanes ≤ count 0 0 start + length homes
+  pub kept : (v : ℕ) → v < length homes → 1 ≤ get_or left v 0 → get_or start (get_or homes v 0) free_tag ≡ tag v Kept
+  pub free : lanes ≤ count 0 Free start + length homes
 
 -- the lanes of the outputs
 abbrev pub AreOuts : Job → ℕ → List Tag → List ℕ → Type 0
-AreOuts job loops tags outs = (o : ℕ) → o < length outs → (get_or outs o 0 < length tags) × (get_or tags (get_or outs o 0) free_tag ≡ tag (get_or job.ports (loops + o) 0) (4 + (loops + o)))
+AreOuts job loops tags outs = (o : ℕ) → o < length outs → (get_or outs o 0 < length tags) × (get_or tags (get_or outs o 0) free_tag ≡ tag (get_or job.ports (loops + o) 0) (Port (loops + o)))
 
 -- a job that can begin
 pub record IsPrepared (list : CellList) (job : Job) (left homes : List ℕ) : Type 0 where

@@ -8,24 +8,34 @@ use Rattle.lane_core.specs.Instrs.{after_instrs, bit_on, lane_of, upper_bit, low
 use Rattle.row_placer.specs.declared.job.Kind.{Kind}
 use Rattle.row_placer.specs.declared.job.Kind.TheVariants.{Or, Xor, AndNot}
 use Rattle.row_placer.specs.declared.job.Gate.{Gate}
-use Rattle.row_placer.specs.declared.job.Tag.{Tag}
+use Rattle.row_placer.specs.declared.roles.Role.{Role}
+use Rattle.row_placer.specs.declared.roles.Role.TheVariants.{Free, Kept, First, Second, Port}
+use Rattle.row_placer.specs.declared.roles.Tag.{Tag}
 use Rattle.row_placer.specs.declared.job.Job.{Job}
 
-abbrev pub tag : ℕ → ℕ → Tag
+-- a number for each role, so that they are compared
+abbrev pub role_code : Role → ℕ
+role_code Free = 0
+role_code Kept = 1
+role_code First = 2
+role_code Second = 3
+role_code (Port i) = 4 + i
+
+abbrev pub tag : ℕ → Role → Tag
 tag value role = record { value = value; role = role }
 
 abbrev pub free_tag : Tag
-free_tag = record { value = 0; role = 0 }
+free_tag = record { value = 0; role = Free }
 
 -- a lane that is free tells nothing
 abbrev pub Tells : (ℕ → Bool) → Tag → Bool → Type 0
-Tells bit t b = 0 < t.role → b ≡ bit t.value
+Tells bit t b = 0 < role_code t.role → b ≡ bit t.value
 
 abbrev pub HoldsTags : (ℕ → Bool) → List Tag → List Bool → Type 0
 HoldsTags bit tags bits = (lane : ℕ) → Tells bit (get_or tags lane free_tag) (bit_on bits lane)
 
-abbrev pub is_tag : ℕ → ℕ → Tag → Bool
-is_tag value role t = (t.role == role) && (t.value == value)
+abbrev pub is_tag : ℕ → Role → Tag → Bool
+is_tag value role t = (role_code t.role == role_code role) && (t.value == value)
 
 abbrev pub gate_bit : Kind → Bool → Bool → Bool
 gate_bit Or a b = a || b
@@ -48,13 +58,13 @@ MadeTold job instrs made =
     → (g : ℕ) (d : NetPlace) → g < length made → bit_on (bits_after after_instrs instrs (get_or made g d).after bits) (get_or made g d).lane ≡ bit (job.base + g)
 
 -- an instruction puts the bits of these tags on its lanes
-abbrev pub Answers : Job → List Tag → Instr → Tag → Tag → Type 0
-Answers job tags instr upper lower =
+abbrev pub PutsTags : Job → List Tag → Instr → Tag → Tag → Type 0
+PutsTags job tags instr upper lower =
     (bit : ℕ → Bool) → Agrees job bit → (a b : Bool) → Tells bit (get_or tags (lane_of instr) free_tag) a → Tells bit (get_or tags (lane_of instr + 1) free_tag) b
     → Tells bit upper (upper_bit instr a b) × Tells bit lower (lower_bit instr a b)
 
 -- so many lanes have this tag
-abbrev pub count : ℕ → ℕ → List Tag → ℕ
+abbrev pub count : ℕ → Role → List Tag → ℕ
 count value role tags = count_by (is_tag value role) tags
 
 abbrev pub SameTags : List Tag → List Tag → Type 0

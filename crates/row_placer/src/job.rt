@@ -1,7 +1,8 @@
-// What is placed: gates over numbered values, and the tags of lanes.
+// What is placed: gates over numbered values.
 ghost use Rattle.std.specs.Prelude.{◌+◌, ◌<◌, ◌^◌, length};
 ghost use Rattle.row_placer.specs.Uses.{AreKnown};
 
+use crate::Tag;
 use lists::List;
 
 /// What a gate does.
@@ -18,14 +19,6 @@ pub struct Gate {
     pub kind: Kind,
     pub first: u32,
     pub second: u32,
-}
-
-/// What stands on a lane: a value, by its number, and its role. 0: the lane is free; 1: the value is kept for later uses;
-/// 2, 3: it is the first, the second operand of the gate in hand; from 4 on: it is that of a port.
-#[derive(Clone, Copy, Debug, PartialEq, Eq)]
-pub struct Tag {
-    pub value: u32,
-    pub role: u32,
 }
 
 /// Gate g makes value `base + g`; the lanes stand at first as `start` says; the values of `ports` are wanted at the end.

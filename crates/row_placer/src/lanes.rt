@@ -2,13 +2,14 @@
 ghost use Rattle.std.specs.Prelude.{ℕ, ◌≡◌, ◌==◌, ◌≢◌, ◌≤◌, ◌<◌, ◌+◌, ◌-◌, ◌*◌, ◌^◌, ◌++◌, ◌∷◌, [], length, All, cond, get_or, set, OnOk, IfSome, IfOk, Bool, true, false, List, count_by};
 ghost use Rattle.lane_core.specs.Instrs.{IsOnLanes, lane_of};
 ghost use Rattle.lane_core.specs.Places.{IsPlaceWithin};
-ghost use Rattle.row_placer.specs.Told.{Told, MadeTold, Answers, SameTags, Exchanged, count, free_tag, tag, gate_instr, BothExchanged};
+ghost use Rattle.row_placer.specs.declared.roles.Role.TheVariants.{Free, Kept, First, Second};
+ghost use Rattle.row_placer.specs.Told.{role_code, Told, MadeTold, PutsTags, SameTags, Exchanged, count, free_tag, tag, gate_instr, BothExchanged};
 ghost use Rattle.row_placer.specs.Ready.{ReadyForGate, ReadyForPort, HoldPorts, AreSettled};
 ghost use Rattle.row_placer.specs.Placed.{AreOuts};
 ghost use Rattle.row_placer.specs.declared.job.Kind.TheVariants.{AndNot};
 ghost use Rattle.channel_router.specs.Routes.{swapped, brought, distance};
 
-use crate::{Gate, Job, Kind, PlaceError, Tag};
+use crate::{Gate, Job, Kind, PlaceError, Role, Tag};
 use lane_core::{Instr, NetPlace};
 use std::alloc::Global;
 
@@ -79,7 +80,7 @@ impl<'a> Lanes<'a> {
     /// Does an instruction, after which its two lanes have these tags.
     fn step(&mut self, instr: Instr, upper: Tag, lower: Tag) -> Result<(), PlaceError>
         requires within { lane_of instr + 1 < length self.old.tags.items }
-        requires answers { Answers self.old.job.now self.old.tags.items instr upper lower }
+        requires answers { PutsTags self.old.job.now self.old.tags.items instr upper lower }
         ensures tags { OnOk result (self.new.tags.items ≡ set (set self.old.tags.items (lane_of instr) upper) (lane_of instr + 1) lower) }
         ensures instrs { OnOk result (self.new.instrs.items ≡ self.old.instrs.items ++ instr ∷ []) }
         ensures made { self.new.made.items ≡ self.old.made.items }
@@ -128,9 +129,9 @@ impl<'a> Lanes<'a> {
     }
 
     /// Gives the value on a lane another role.
-    fn mark(&mut self, lane: u32, role: u32)
+    fn mark(&mut self, lane: u32, role: Role)
         requires within { lane < length self.old.tags.items }
-        requires some { 0 < (get_or self.old.tags.items lane free_tag).role }
+        requires some { 0 < role_code (get_or self.old.tags.items lane free_tag).role }
         ensures tags { self.new.tags.items ≡ set self.old.tags.items lane (tag (get_or self.old.tags.items lane free_tag).value role) }
         ensures count { length self.new.instrs.items ≡ length self.old.instrs.items }
         ensures made { self.new.made.items ≡ self.old.made.items }
@@ -141,14 +142,14 @@ impl<'a> Lanes<'a> {
     }
 
     /// A lane with this value in this role.
-    fn find(&self, value: u32, role: u32) -> u32
+    fn find(&self, value: u32, role: Role) -> u32
         requires { 1 ≤ count value role self.now.tags.items }
         ensures within { result < length self.now.tags.items }
         ensures here { get_or self.now.tags.items result free_tag ≡ tag value role }
     {
         let mut lane = 0;
         while (lane as usize) < self.tags.len() {
-            if self.tags[lane as usize].role == role && self.tags[lane as usize].value == value {
+            if self.tags[lane as usize].is(value, role) {
                 return lane;
             }
             lane += 1;
@@ -229,7 +230,7 @@ impl<'a> Lanes<'a> {
         let mut at = lane;
         while at as usize + 1 < self.tags.len() {
             at += 1;
-            if self.tags[at as usize].role == 0 && self.tags[at as usize].value == 0 {
+            if self.tags[at as usize].is(0, Role::Free) {
                 return Some(at);
             }
         }
@@ -245,7 +246,7 @@ impl<'a> Lanes<'a> {
         let mut at = lane;
         while at > 0 {
             at -= 1;
-            if self.tags[at as usize].role == 0 && self.tags[at as usize].value == 0 {
+            if self.tags[at as usize].is(0, Role::Free) {
                 return Some(at);
             }
         }
@@ -269,7 +270,7 @@ impl<'a> Lanes<'a> {
     /// A free lane, the one that the lane can meet first.
     fn choose_free(&self, lane: u32) -> u32
         requires within { lane < length self.now.tags.items }
-        requires free { 1 ≤ count 0 0 self.now.tags.items }
+        requires free { 1 ≤ count 0 Free self.now.tags.items }
         ensures within { result < length self.now.tags.items }
         ensures here { get_or self.now.tags.items result free_tag ≡ free_tag }
     {
@@ -283,15 +284,15 @@ impl<'a> Lanes<'a> {
             }
             (Some(below), None) => below,
             (None, Some(above)) => above,
-            (None, None) => self.find(0, 0),
+            (None, None) => self.find(0, Role::Free),
         }
     }
 
     /// A second copy of what stands on a lane: the upper one of the two lanes that then have it.
     fn copy(&mut self, lane: u32) -> Result<u32, PlaceError>
         requires within { lane < length self.old.tags.items }
-        requires some { 0 < (get_or self.old.tags.items lane free_tag).role }
-        requires free { 1 ≤ count 0 0 self.old.tags.items }
+        requires some { 0 < role_code (get_or self.old.tags.items lane free_tag).role }
+        requires free { 1 ≤ count 0 Free self.old.tags.items }
         ensures within { IfOk result (λ r. r + 1 < length self.old.tags.items) }
         ensures upper { IfOk result (λ r. get_or self.new.tags.items r free_tag ≡ get_or self.old.tags.items lane free_tag) }
         ensures lower { IfOk result (λ r. get_or self.new.tags.items (r + 1) free_tag ≡ get_or self.old.tags.items lane free_tag) }
@@ -317,16 +318,16 @@ impl<'a> Lanes<'a> {
     }
 
     /// Gives a role to a kept value: to its lane, or to a copy, the one on the partner's side.
-    fn fetch(&mut self, value: u32, role: u32, last: bool, partner: u32) -> Result<(), PlaceError>
-        requires has { 1 ≤ count value 1 self.old.tags.items }
-        requires free { last ≡ false → 1 ≤ count 0 0 self.old.tags.items }
-        ensures exchanged { OnOk result (Exchanged self.old.tags.items self.new.tags.items (cond last (tag value 1) free_tag) (tag value role)) }
+    fn fetch(&mut self, value: u32, role: Role, last: bool, partner: u32) -> Result<(), PlaceError>
+        requires has { 1 ≤ count value Kept self.old.tags.items }
+        requires free { last ≡ false → 1 ≤ count 0 Free self.old.tags.items }
+        ensures exchanged { OnOk result (Exchanged self.old.tags.items self.new.tags.items (cond last (tag value Kept) free_tag) (tag value role)) }
         ensures long { OnOk result (length self.new.tags.items ≡ length self.old.tags.items) }
         ensures count { OnOk result (length self.new.instrs.items ≤ length self.old.instrs.items + length self.old.tags.items) }
         ensures made { self.new.made.items ≡ self.old.made.items }
         ensures job { self.new.job ≡ self.old.job }
     {
-        let lane = self.find(value, 1);
+        let lane = self.find(value, Role::Kept);
         if last {
             self.mark(lane, role);
             Ok(())
@@ -345,7 +346,7 @@ impl<'a> Lanes<'a> {
     fn note(&mut self, lane: u32) -> Result<(), PlaceError>
         requires lane { lane < length self.old.tags.items }
         requires some { 0 < length self.old.instrs.items }
-        requires here { get_or self.old.tags.items lane free_tag ≡ tag (self.old.job.now.base + length self.old.made.items) 1 }
+        requires here { get_or self.old.tags.items lane free_tag ≡ tag (self.old.job.now.base + length self.old.made.items) Kept }
         ensures tags { self.new.tags.items ≡ self.old.tags.items }
         ensures instrs { self.new.instrs.items ≡ self.old.instrs.items }
         ensures made { OnOk result (length self.new.made.items ≡ length self.old.made.items + 1) }
@@ -364,11 +365,11 @@ impl<'a> Lanes<'a> {
         requires lane { lane + 1 < length self.old.tags.items }
         requires within { length self.old.made.items < length self.old.job.now.gates }
         requires known { get_or self.old.job.now.gates (length self.old.made.items) gate ≡ gate }
-        requires upper { get_or self.old.tags.items lane free_tag ≡ cond turned (tag gate.second 3) (tag gate.first 2) }
-        requires lower { get_or self.old.tags.items (lane + 1) free_tag ≡ cond turned (tag gate.first 2) (tag gate.second 3) }
+        requires upper { get_or self.old.tags.items lane free_tag ≡ cond turned (tag gate.second Second) (tag gate.first First) }
+        requires lower { get_or self.old.tags.items (lane + 1) free_tag ≡ cond turned (tag gate.first First) (tag gate.second Second) }
         requires order { gate.kind ≡ AndNot → turned ≡ false }
-        ensures exchanged { OnOk result (BothExchanged self.old.tags.items self.new.tags.items (tag gate.first 2) (tag gate.second 3)
-            (tag (self.old.job.now.base + length self.old.made.items) 1) free_tag) }
+        ensures exchanged { OnOk result (BothExchanged self.old.tags.items self.new.tags.items (tag gate.first First) (tag gate.second Second)
+            (tag (self.old.job.now.base + length self.old.made.items) Kept) free_tag) }
         ensures long { OnOk result (length self.new.tags.items ≡ length self.old.tags.items) }
         ensures count { OnOk result (length self.new.instrs.items ≡ length self.old.instrs.items + 1) }
         ensures made { OnOk result (length self.new.made.items ≡ length self.old.made.items + 1) }
@@ -376,7 +377,17 @@ impl<'a> Lanes<'a> {
     {
         let value = self.job.base + self.made.len() as u32;
         let instr = instr_of(gate.kind, lane);
-        self.step(instr, Tag { value, role: 1 }, Tag { value: 0, role: 0 })?;
+        self.step(
+            instr,
+            Tag {
+                value,
+                role: Role::Kept,
+            },
+            Tag {
+                value: 0,
+                role: Role::Free,
+            },
+        )?;
         self.note(lane)?;
         Ok(())
     }
@@ -385,17 +396,17 @@ impl<'a> Lanes<'a> {
     fn gate(&mut self, gate: Gate) -> Result<(), PlaceError>
         requires within { length self.old.made.items < length self.old.job.now.gates }
         requires known { get_or self.old.job.now.gates (length self.old.made.items) gate ≡ gate }
-        requires first { 1 ≤ count gate.first 2 self.old.tags.items }
-        requires second { 1 ≤ count gate.second 3 self.old.tags.items }
-        ensures exchanged { OnOk result (BothExchanged self.old.tags.items self.new.tags.items (tag gate.first 2) (tag gate.second 3)
-            (tag (self.old.job.now.base + length self.old.made.items) 1) free_tag) }
+        requires first { 1 ≤ count gate.first First self.old.tags.items }
+        requires second { 1 ≤ count gate.second Second self.old.tags.items }
+        ensures exchanged { OnOk result (BothExchanged self.old.tags.items self.new.tags.items (tag gate.first First) (tag gate.second Second)
+            (tag (self.old.job.now.base + length self.old.made.items) Kept) free_tag) }
         ensures long { OnOk result (length self.new.tags.items ≡ length self.old.tags.items) }
         ensures count { OnOk result (length self.new.instrs.items ≤ length self.old.instrs.items + length self.old.tags.items) }
         ensures made { OnOk result (length self.new.made.items ≡ length self.old.made.items + 1) }
         ensures job { self.new.job ≡ self.old.job }
     {
-        let x = self.find(gate.first, 2);
-        let y = self.find(gate.second, 3);
+        let x = self.find(gate.first, Role::First);
+        let y = self.find(gate.second, Role::Second);
         if x < y {
             let at = self.meeting(x, y).0;
             self.meet(x, y, at)?;
@@ -419,16 +430,16 @@ impl<'a> Lanes<'a> {
     fn use_value(
         &mut self,
         value: u32,
-        role: u32,
+        role: Role,
         partner: u32,
         left: &mut [u32],
     ) -> Result<(), PlaceError>
-        requires role { 2 ≤ role }
+        requires role { 2 ≤ role_code role }
         requires within { value < length left.old }
-        requires has { 1 ≤ count value 1 self.old.tags.items }
+        requires has { 1 ≤ count value Kept self.old.tags.items }
         requires some { 1 ≤ get_or left.old value 0 }
-        requires free { get_or left.old value 0 ≢ 1 → 1 ≤ count 0 0 self.old.tags.items }
-        ensures exchanged { OnOk result (Exchanged self.old.tags.items self.new.tags.items (cond (get_or left.old value 0 == 1) (tag value 1) free_tag) (tag value role)) }
+        requires free { get_or left.old value 0 ≢ 1 → 1 ≤ count 0 Free self.old.tags.items }
+        ensures exchanged { OnOk result (Exchanged self.old.tags.items self.new.tags.items (cond (get_or left.old value 0 == 1) (tag value Kept) free_tag) (tag value role)) }
         ensures left { left.new ≡ set left.old value (get_or left.old value 0 - 1) }
         ensures long { OnOk result (length self.new.tags.items ≡ length self.old.tags.items) }
         ensures count { OnOk result (length self.new.instrs.items ≤ length self.old.instrs.items + length self.old.tags.items) }
@@ -442,10 +453,10 @@ impl<'a> Lanes<'a> {
     }
 
     // The first lane with this value in this role, if there is one.
-    fn lane_of_partner(&self, value: u32, role: u32) -> u32 {
+    fn lane_of_partner(&self, value: u32, role: Role) -> u32 {
         let mut lane = 0;
         while (lane as usize) < self.tags.len() {
-            if self.tags[lane as usize].role == role && self.tags[lane as usize].value == value {
+            if self.tags[lane as usize].is(value, role) {
                 return lane;
             }
             lane += 1;
@@ -466,10 +477,10 @@ impl<'a> Lanes<'a> {
         ensures left { OnOk result (length left.new ≡ length left.old) }
     {
         let gate = *self.job.gates.get(self.made.len());
-        let partner = self.lane_of_partner(gate.second, 1);
-        self.use_value(gate.first, 2, partner, left)?;
-        let partner = self.lane_of_partner(gate.first, 2);
-        self.use_value(gate.second, 3, partner, left)?;
+        let partner = self.lane_of_partner(gate.second, Role::Kept);
+        self.use_value(gate.first, Role::First, partner, left)?;
+        let partner = self.lane_of_partner(gate.first, Role::First);
+        self.use_value(gate.second, Role::Second, partner, left)?;
         self.gate(gate)?;
         Ok(())
     }
@@ -506,7 +517,7 @@ impl<'a> Lanes<'a> {
         while (port as usize) < self.job.ports.len() {
             let value = *self.job.ports.get(port as usize);
             let partner = if port < loops { u32::MAX } else { 0 };
-            self.use_value(value, 4 + port, partner, left)?;
+            self.use_value(value, Role::Port(port), partner, left)?;
             port += 1;
         }
         Ok(())
@@ -527,7 +538,7 @@ impl<'a> Lanes<'a> {
         let mut port = 0;
         while port < loops {
             let value = *self.job.ports.get(port as usize);
-            let lane = self.find(value, 4 + port);
+            let lane = self.find(value, Role::Port(port));
             let to = self.tags.len() as u32 - 1 - port;
             self.bring(lane, to)?;
             port += 1;
@@ -546,7 +557,7 @@ impl<'a> Lanes<'a> {
         let mut port = loops;
         while (port as usize) < self.job.ports.len() {
             let value = *self.job.ports.get(port as usize);
-            let lane = self.find(value, 4 + port);
+            let lane = self.find(value, Role::Port(port));
             outs.push(lane)?;
             port += 1;
         }

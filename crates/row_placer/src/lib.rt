@@ -7,9 +7,11 @@ mod job;
 mod lanes;
 mod placing;
 mod reading;
+mod roles;
 mod start;
 
 pub use error::PlaceError;
-use job::{Gate, Job, Kind, Tag};
+use job::{Gate, Job, Kind};
 use lanes::Lanes;
 pub use placing::place;
+use roles::{Role, Tag};

@@ -1,7 +1,7 @@
 // The placer.
 ghost use Rattle.std.specs.Prelude.{ℕ, ◌≡◌, ◌≢◌, ◌≤◌, ◌<◌, ◌+◌, ◌-◌, ◌*◌, ◌^◌, ◌++◌, length, All, get_or, map, take, cond, [], ◌∷◌, true, IfOk, OnOk};
 ghost use Rattle.cell_core.specs.Loops.{loop_count, loop_data, loop_state, names_one};
-ghost use Rattle.row_placer.specs.Numbers.{number, gate_of, IsThere, IsSound, NamesZero};
+ghost use Rattle.row_placer.specs.Numbers.{number, gate_of, IsThere, ReadsWhatIsThere, NamesZero};
 ghost use Rattle.row_placer.specs.Placed.{IsPrepared};
 ghost use Rattle.cell_lanes.specs.Computes.{ComputesByProgram};
 ghost use Rattle.cell_core.specs.declared.cells.Src.TheVariants.{One};
@@ -18,7 +18,7 @@ use std::alloc::Global;
 /// The numbers of the ports: of the loops' data, and then of the outputs.
 pub fn ports_of(alloc: Global, list: &CellList, loops: u32) -> Result<Vec<u32>, PlaceError>
     requires loops { loops ≡ loop_count list.now }
-    requires sound { IsSound list.now }
+    requires sound { ReadsWhatIsThere list.now }
     requires small { list.now.inputs + loop_count list.now + 1 + length list.now.cells < 2 ^ 32 }
     ensures { IfOk result (λ v. v.items ≡ map (number list.now) (loop_data list.now ++ list.now.outs)) }
 {
@@ -50,7 +50,7 @@ pub struct Prepared {
 /// The job of a list.
 pub fn prepare(alloc: Global, list: &CellList, loops: u32) -> Result<Prepared, PlaceError>
     requires loops { loops ≡ loop_count list.now }
-    requires sound { IsSound list.now }
+    requires sound { ReadsWhatIsThere list.now }
     requires small { list.now.inputs + loop_count list.now + length list.now.outs + length list.now.cells < 2 ^ 20 }
     ensures { IfOk result (λ r. IsPrepared list.now r.job r.left.items r.homes.items) }
 {

@@ -2,8 +2,8 @@
 ghost use Rattle.std.specs.Prelude.{ℕ, ◌≡◌, ◌≢◌, ◌≤◌, ◌<◌, ◌+◌, ◌-◌, ◌*◌, ◌^◌, ◌++◌, length, All, get_or, map, cond, [], ◌∷◌, true, IfOk, OnOk};
 ghost use Rattle.std.specs.List.{range_with_len};
 ghost use Rattle.cell_core.specs.Loops.{loop_count, loop_data};
-ghost use Rattle.row_placer.specs.Numbers.{number, gate_of, IsThere, IsSound, NamesZero, ReadsThere};
-ghost use Rattle.row_placer.specs.Placed.{place_of};
+ghost use Rattle.row_placer.specs.Numbers.{number, gate_of, IsThere, ReadsWhatIsThere, NamesZero, ReadsThere};
+ghost use Rattle.row_placer.specs.Placed.{net_place_of};
 ghost use Rattle.cell_core.specs.declared.cells.Src.TheVariants.{Zero};
 
 use crate::{Gate, Kind, PlaceError};
@@ -39,7 +39,7 @@ pub fn number_of(list: &CellList, loops: u32, src: Src) -> u32
 /// The gates of the cells.
 pub fn gates_of(alloc: Global, list: &CellList, loops: u32) -> Result<Vec<Gate>, PlaceError>
     requires loops { loops ≡ loop_count list.now }
-    requires sound { IsSound list.now }
+    requires sound { ReadsWhatIsThere list.now }
     requires small { list.now.inputs + loop_count list.now + 1 + length list.now.cells < 2 ^ 32 }
     ensures { IfOk result (λ v. v.items ≡ map (gate_of list.now) list.now.cells) }
 {
@@ -122,12 +122,12 @@ pub fn places_of(
     made: &[NetPlace],
 ) -> Result<Vec<NetPlace>, PlaceError>
     requires loops { loops ≡ loop_count list.now }
-    requires sound { IsSound list.now }
+    requires sound { ReadsWhatIsThere list.now }
     requires small { list.now.inputs + loop_count list.now + 1 + length list.now.cells < 2 ^ 32 }
     requires homes { list.now.inputs + loop_count list.now ≤ length homes.now }
     requires zero { All (λ src. src ≡ Zero → list.now.inputs + loop_count list.now < length homes.now) list.now.nets }
     requires made { length made.now ≡ length list.now.cells }
-    ensures { IfOk result (λ v. v.items ≡ map (place_of list.now homes.now made.now) list.now.nets) }
+    ensures { IfOk result (λ v. v.items ≡ map (net_place_of list.now homes.now made.now) list.now.nets) }
 {
     let mut places = Vec::new(alloc);
     let mut at = 0;
@@ -145,7 +145,7 @@ fn find_place(list: &CellList, loops: u32, homes: &[u32], made: &[NetPlace], src
     requires homes { list.now.inputs + loop_count list.now ≤ length homes.now }
     requires zero { src ≡ Zero → list.now.inputs + loop_count list.now < length homes.now }
     requires made { length made.now ≡ length list.now.cells }
-    ensures { result ≡ place_of list.now homes.now made.now src }
+    ensures { result ≡ net_place_of list.now homes.now made.now src }
 {
     match src {
         Src::Cell(i) => made[i as usize],

@@ -8,7 +8,7 @@ use Rattle.row_placer.specs.Told.{Told, MadeTold}
 use Rattle.row_placer.specs.Ready.{HoldPorts, AreSettled}
 use Rattle.cell_core.specs.Loops.{loop_count}
 use Rattle.row_placer.specs.Numbers.{gate_of}
-use Rattle.row_placer.specs.Placed.{IsPrepared, AreOuts, place_of}
+use Rattle.row_placer.specs.Placed.{IsPrepared, AreOuts, net_place_of}
 use Rattle.row_placer.proofs.Whole.{length-loops}
 use Rattle.row_placer.proofs.Ports.{outs_apart}
 use Rattle.row_placer.proofs.Finish.{finish, nets_within, instr_count}
@@ -35,7 +35,7 @@ invariant_of-result c =
     let settled = subst (λ n. AreSettled L.job.now n L.tags.items) loops (subst (λ (x : Job). AreSettled x c.count_loops-loops.result L.tags.items) (sym le.job) le.settled) in
     let outs = subst (λ n. AreOuts L.job.now n L.tags.items c.of-4.result) loops (subst (AreOuts L.job.now c.count_loops-loops.result L.tags.items) (sym c.of-4.ensures) c.in_ok-outs.ensures.outs) in
     let all : length L.made.items ≡ length L.job.now.gates = le.made ∙ ap (λ (x : Job). length x.gates) (sym le.job) in
-    let nets = c.of-5.ensures ∙ c.in_ok-nets.ensures ∙ ap₂ (λ hs ms. map (place_of list hs ms) list.nets) c.deref.ensures.value c.deref-2.ensures.value in
+    let nets = c.of-5.ensures ∙ c.in_ok-nets.ensures ∙ ap₂ (λ hs ms. map (net_place_of list hs ms) list.nets) c.deref.ensures.value c.deref-2.ensures.value in
     let ins = c.of-2.ensures ∙ c.truncate.ensures.items in
     let latches = c.of-3.ensures ∙ c.in_ok-latches.ensures in
     let few : length c.of-3.result ≡ loop_count list = ap length latches ∙ length-loops list list.starts refl in
@@ -63,7 +63,7 @@ returns-clause-computes c =
     let settled = subst (λ n. AreSettled L.job.now n L.tags.items) loops (subst (λ (x : Job). AreSettled x c.count_loops-loops.result L.tags.items) (sym le.job) le.settled) in
     let outs = subst (λ n. AreOuts L.job.now n L.tags.items c.of-4.result) loops (subst (AreOuts L.job.now c.count_loops-loops.result L.tags.items) (sym c.of-4.ensures) c.in_ok-outs.ensures.outs) in
     let all : length L.made.items ≡ length L.job.now.gates = le.made ∙ ap (λ (x : Job). length x.gates) (sym le.job) in
-    let nets = c.of-5.ensures ∙ c.in_ok-nets.ensures ∙ ap₂ (λ hs ms. map (place_of list hs ms) list.nets) c.deref.ensures.value c.deref-2.ensures.value in
+    let nets = c.of-5.ensures ∙ c.in_ok-nets.ensures ∙ ap₂ (λ hs ms. map (net_place_of list hs ms) list.nets) c.deref.ensures.value c.deref-2.ensures.value in
     let ins = c.of-2.ensures ∙ c.truncate.ensures.items in
     let latches = c.of-3.ensures ∙ c.in_ok-latches.ensures in
     finish list _ L.job.now L.tags.items L.made.items left homes (sound c.args.list.now) r (record {

@@ -2,12 +2,12 @@ use Rattle.std.proofs.Common.{sym, ◌∙◌, ap, ap₂, ◌<◌, ◌++◌, ◌�
 use Rattle.std.proofs.lemmas.List.{map_more}
 use Rattle.std.proofs.lemmas.Option.{get_or_from_slice_get}
 use Rattle.cell_core.specs.declared.cells.Src.TheVariants.{Zero}
-use Rattle.row_placer.specs.Placed.{place_of}
+use Rattle.row_placer.specs.Placed.{net_place_of}
 use Rattle.row_placer.proofs.reading.places_of.Goals as goal
 
 pub loop-at-preserved : goal.loop-at-preserved
 loop-at-preserved c =
-    let f = place_of c.args.list.now c.args.homes.now c.args.made.now in
+    let f = net_place_of c.args.list.now c.args.homes.now c.args.made.now in
     let nets = c.args.list.now.nets in
     let below : c.loop-at.at < length nets = omega (arith, c.loop-at-test.true, c.len.ensures) in
     c.in_ok-push.ensures.items

@@ -3,7 +3,7 @@ use Rattle.std.specs.Prelude.{All}
 use Rattle.std.proofs.lemmas.List.{length-set, get_or_default}
 use Rattle.lane_core.specs.Instrs.{IsOnLanes}
 use Rattle.lane_core.specs.Places.{IsPlaceWithin}
-use Rattle.row_placer.specs.declared.job.Tag.{Tag}
+use Rattle.row_placer.specs.declared.roles.Tag.{Tag}
 use Rattle.row_placer.specs.Told.{Told, tag, free_tag}
 use Rattle.row_placer.proofs.Steps.{mark_told}
 use Rattle.row_placer.proofs.lanes.Lanes.mark.Goals as goal

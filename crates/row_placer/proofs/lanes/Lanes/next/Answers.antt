@@ -2,6 +2,7 @@ use Rattle.std.proofs.Common.{sym, ◌∙◌, ap, ap₂, subst, Bor, ◌+◌, �
 use Rattle.std.proofs.lemmas.List.{length-set}
 use Rattle.row_placer.specs.declared.job.Job.{Job}
 use Rattle.row_placer.specs.Told.{tag, free_tag, BothExchanged}
+use Rattle.row_placer.specs.declared.roles.Role.TheVariants.{Kept, First, Second}
 use Rattle.row_placer.proofs.Gates.{begun, halfway, whole}
 use Rattle.row_placer.proofs.lanes.Lanes.next.Goals as goal
 
@@ -75,6 +76,6 @@ returns-clause-ready c =
     let h = halfway s.job.now (length s.made.items) gate s.tags.items c.use_value.new.self.tags.items c.args.left.now c.use_value.new.left b c.in_ok-use_value.ensures.exchanged c.in_ok-use_value.ensures.left in
     whole s.job.now (length s.made.items) gate c.use_value.new.self.tags.items c.use_value-2.new.self.tags.items c.gate.new.self.tags.items c.use_value.new.left c.use_value-2.new.left b.second h
     c.in_ok-use_value-2.ensures.exchanged c.in_ok-use_value-2.ensures.left
-    (subst (λ n. BothExchanged c.use_value-2.new.self.tags.items c.gate.new.self.tags.items (tag gate.first 2) (tag gate.second 3) (tag n 1) free_tag)
+    (subst (λ n. BothExchanged c.use_value-2.new.self.tags.items c.gate.new.self.tags.items (tag gate.first First) (tag gate.second Second) (tag n Kept) free_tag)
     (ap₂ (λ (j : Bor Job) m. j.now.base + length m) (c.in_ok-use_value-2.ensures.job ∙ c.in_ok-use_value.ensures.job) (c.in_ok-use_value-2.ensures.made ∙ c.in_ok-use_value.ensures.made)) c.in_ok-gate.ensures.exchanged)
     (omega (arith, c.requires.wide, c.requires.within, ap length c.in_ok-use_value.ensures.left, length-set c.args.left.now gate.first (get_or c.args.left.now gate.first 0 - 1)))
