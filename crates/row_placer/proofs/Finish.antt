@@ -35,8 +35,8 @@ pub record Ends (list : CellList) (job : Job) (tags : List Tag) (made : List Net
   pub nets : p.nets ≡ map (net_place_of list homes made) list.nets
   pub ins : p.ins ≡ take list.inputs homes
 
-pub finish : (list : CellList) (p : Program) (job : Job) (tags : List Tag) (made : List NetPlace) (left homes : List ℕ) → ReadsWhatIsThere list → IsPrepared list job left homes → Ends list job tags made homes p → ComputesByProgram list p
-finish list p job tags made left homes sound r e =
+pub finish : (list : CellList) (p : Program) (job : Job) (tags : List Tag) (made : List NetPlace) (spare : ℕ) (left homes : List ℕ) → ReadsWhatIsThere list → IsPrepared list spare job left homes → Ends list job tags made homes p → ComputesByProgram list p
+finish list p job tags made spare left homes sound r e =
     computes list job p homes tags made sound
     (record {
       job_of = r.job_of;

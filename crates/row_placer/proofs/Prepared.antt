@@ -52,7 +52,7 @@ counted_tag tags lane v within here =
 
 pub start_ready : (gates : List Gate) (ports homes left : List ℕ) (inner lanes free base : ℕ) (dark : Bool) (start : List Tag) → IsStart homes left lanes start → All (λ lane. lane < lanes) homes
     → AreCounted left (uses_of gates ++ ports) → base ≡ inner + 1 → length left ≡ base + length gates → length homes ≡ inner + cond dark 1 0 → (1 ≤ get_or left inner 0 → dark ≡ true)
-    → lanes ≡ free + cond dark 1 0 + inner → free ≡ owed ports gates → Ready (uses_of gates ++ ports) (base + 0) (owed ports gates) start left
+    → lanes ≡ free + cond dark 1 0 + inner → owed ports gates ≤ free → Ready (uses_of gates ++ ports) (base + 0) (owed ports gates) start left
 start_ready gates ports homes left inner lanes free base dark start s low counted at wide long zero_used size owes = record {
   kept = λ v below used.
       (let mine = counted v (omega (arith, below, wide)) in

@@ -9,6 +9,7 @@ use Rattle.cell_core.specs.declared.cells.Src.TheVariants.{Input, Latch, One, Ze
 use Rattle.cell_core.specs.declared.list.CellList.{CellList}
 use Rattle.row_placer.specs.declared.roles.Role.TheVariants.{Free, Kept, Port}
 use Rattle.row_placer.specs.declared.roles.Tag.{Tag}
+use Rattle.cell_lanes.specs.Computes.{ComputesByProgram}
 use Rattle.row_placer.specs.declared.job.Job.{Job}
 use Rattle.row_placer.specs.Told.{tag, free_tag, count, role_code, Told, MadeTold}
 use Rattle.row_placer.specs.Ready.{AreSettled, ReadyForGate}
@@ -78,8 +79,8 @@ pub record IsStart (homes left : List ℕ) (lanes : ℕ) (start : List Tag) : Ty
 abbrev pub AreOuts : Job → ℕ → List Tag → List ℕ → Type 0
 AreOuts job loops tags outs = (o : ℕ) → o < length outs → (get_or outs o 0 < length tags) × (get_or tags (get_or outs o 0) free_tag ≡ tag (get_or job.ports (loops + o) 0) (Port (loops + o)))
 
--- a job that can begin
-pub record IsPrepared (list : CellList) (job : Job) (left homes : List ℕ) : Type 0 where
+-- a job that can begin, with so many spare lanes
+pub record IsPrepared (list : CellList) (spare : ℕ) (job : Job) (left homes : List ℕ) : Type 0 where
   pub job_of : IsJobOf list job
   pub ready : ReadyForGate job 0 job.start left
   pub counted : length left ≡ job.base + length job.gates
@@ -89,4 +90,10 @@ pub record IsPrepared (list : CellList) (job : Job) (left homes : List ℕ) : Ty
   pub ports : All (λ v. v < job.base + length job.gates) job.ports
   pub room : loop_count list ≤ length job.start
   pub below : All (λ lane. lane < length job.start) homes
-  pub lanes : length job.start ≤ list.inputs + 2 * loop_count list + length list.outs + length list.cells + 2
+  pub lanes : length job.start ≤ list.inputs + 2 * loop_count list + length list.outs + length list.cells + 2 + spare
+
+-- a program that is placed with no more spare lanes than these
+pub record IsPlacedWithin (list : CellList) (spare : ℕ) (p : Program) : Type 0 where
+  pub computes : ComputesByProgram list p
+  pub instrs : length p.instrs ≤ (3 * length list.cells + length list.outs + 2 * loop_count list) * p.lanes
+  pub lanes : p.lanes ≤ list.inputs + 2 * loop_count list + length list.outs + length list.cells + 2 + spare

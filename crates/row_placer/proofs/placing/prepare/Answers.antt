@@ -51,7 +51,7 @@ start_tags-requires-clause-within c =
     let inner = list.inputs + c.args.loops in
     let first = c.first_home-first.result in
     let homes = c.in_ok-homes.homes.items in
-    let some = dark_first dark c.in_ok-left.free first c.first_home-first.ensures in
+    let some = dark_first dark (c.in_ok-left.free + c.args.spare) first c.first_home-first.ensures in
     let s = sides first inner dark homes c.in_ok-homes.ensures in
     subst (All (λ lane. lane < first + inner)) (sym c.deref-3.ensures.value) (sides_within first inner (first + inner) dark homes s some refl)
 
@@ -72,7 +72,7 @@ start_tags-requires-clause-apart c =
     let inner = list.inputs + c.args.loops in
     let first = c.first_home-first.result in
     let homes = c.in_ok-homes.homes.items in
-    let some = dark_first dark c.in_ok-left.free first c.first_home-first.ensures in
+    let some = dark_first dark (c.in_ok-left.free + c.args.spare) first c.first_home-first.ensures in
     let s = sides first inner dark homes c.in_ok-homes.ensures in
     subst (AllPairs (λ a b. a ≢ b)) (sym c.deref-3.ensures.value) (sides_apart first inner dark homes s some)
 
@@ -93,7 +93,7 @@ start_tags-requires-clause-left c =
     let inner = list.inputs + c.args.loops in
     let first = c.first_home-first.result in
     let homes = c.in_ok-homes.homes.items in
-    let some = dark_first dark c.in_ok-left.free first c.first_home-first.ensures in
+    let some = dark_first dark (c.in_ok-left.free + c.args.spare) first c.first_home-first.ensures in
     let s = sides first inner dark homes c.in_ok-homes.ensures in
     omega (arith, ap length c.deref-3.ensures.value, ap length c.deref-4.ensures.value, s.long, small, wide)
 
@@ -114,7 +114,7 @@ start_tags-requires-clause-few c =
     let inner = list.inputs + c.args.loops in
     let first = c.first_home-first.result in
     let homes = c.in_ok-homes.homes.items in
-    let some = dark_first dark c.in_ok-left.free first c.first_home-first.ensures in
+    let some = dark_first dark (c.in_ok-left.free + c.args.spare) first c.first_home-first.ensures in
     let s = sides first inner dark homes c.in_ok-homes.ensures in
     omega (arith, ap length c.deref-3.ensures.value, s.long, small, at, c.requires.small)
 
@@ -151,14 +151,14 @@ returns c =
     let inner = list.inputs + c.args.loops in
     let first = c.first_home-first.result in
     let homes = c.in_ok-homes.homes.items in
-    let some = dark_first dark c.in_ok-left.free first c.first_home-first.ensures in
+    let some = dark_first dark (c.in_ok-left.free + c.args.spare) first c.first_home-first.ensures in
     let s = sides first inner dark homes c.in_ok-homes.ensures in
     let start = c.in_ok-start.start.items in
     let is : IsStart homes left (first + inner) start = subst (λ hs. IsStart hs left (first + inner) start) c.deref-3.ensures.value (subst (λ l. IsStart c.deref-3.result.now l (first + inner) start) c.deref-4.ensures.value c.in_ok-start.ensures) in
     let counted : AreCounted left (uses_of g ++ ports) = subst (AreCounted left) (ap₂ (λ gs ps. uses_of gs ++ ps) c.deref.ensures.value c.deref-2.ensures.value) c.in_ok-left.ensures.left in
     let owes : c.in_ok-left.free ≡ owed ports g = c.in_ok-left.ensures.owed ∙ ap₂ (λ gs ps. owed ps gs) c.deref.ensures.value c.deref-2.ensures.value in
     let few : c.in_ok-left.free ≤ length g + length ports + 1 = omega (arith, c.in_ok-left.ensures.few, ap length c.deref.ensures.value, ap length c.deref-2.ensures.value) in
-    let ready = start_ready g ports homes left inner (first + inner) c.in_ok-left.free base dark start is (sides_within first inner (first + inner) dark homes s some refl) counted refl wide s.long c.wants_zero-zero.ensures.used (omega (arith, c.first_home-first.ensures)) owes in
+    let ready = start_ready g ports homes left inner (first + inner) (c.in_ok-left.free + c.args.spare) base dark start is (sides_within first inner (first + inner) dark homes s some refl) counted refl wide s.long c.wants_zero-zero.ensures.used (omega (arith, c.first_home-first.ensures)) (omega (arith, owes)) in
     let inner_is : inner ≡ list.inputs + loop_count list = ap (λ n. list.inputs + n) c.requires.loops in
     record {
       job_of = record { base = at; gates = c.of.ensures ∙ c.in_ok-gates.ensures; ports = c.of-2.ensures ∙ c.in_ok-ports.ensures };
