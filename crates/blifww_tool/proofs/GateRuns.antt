@@ -21,7 +21,7 @@ use Rattle.pattern_reading.specs.declared.ports.Ports.{Ports}
 use Rattle.pattern_reading.specs.PortTable.{ports_of}
 use Rattle.pattern_samples.specs.NamedGate.{named_or_forms}
 use Rattle.carries.specs.Carries.{drive, before_injections, MeetsConductors, ShowsBits, ShowsRuns}
-use Rattle.or_gate.specs.OrGate.{or_grid, gate_plane, DrivesGate, entries, is_lit, ShowsOr}
+use Rattle.or_gate.specs.OrGate.{or_grid, gate_plane, DrivesGate, gate_entries as entries, is_lit, ShowsOr}
 use Rattle.or_gate.specs.OrGate as gate
 use Rattle.blifww_tool.specs.Thin.{Names, HasDistinctPorts}
 use Rattle.blifww_tool.specs.Gate.{thin_design}

@@ -21,7 +21,7 @@ use Rattle.pattern_samples.specs.Ports.{or_ports, port_line_at}
 use Rattle.pattern_reading.specs.PortTable.{ports_of, forms_of}
 use Rattle.pattern_reading.proofs.RleVerdict.{rle_reading_is, grid_of}
 use Rattle.carries.specs.Carries.{Carries, NamesPorts, ShowsRuns}
-use Rattle.or_gate.specs.OrGate.{gate_plane, DrivesGate, entries, or_grid, ShowsOr}
+use Rattle.or_gate.specs.OrGate.{gate_plane, DrivesGate, gate_entries as entries, or_grid, ShowsOr}
 use Rattle.carried_gate.specs.Refused.{RefusesOthers, and_not_design, gate_text, version_line, out_line}
 
 -- what is carried by a text of the gate's drawing
