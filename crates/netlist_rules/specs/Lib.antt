@@ -1,0 +1,6 @@
+pub mod FaultNames
+pub mod Drivers
+pub mod Circles
+pub mod ModelFaults
+pub mod Clocks
+pub mod Laws
