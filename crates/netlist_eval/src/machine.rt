@@ -1,5 +1,6 @@
 // A flat netlist, run cycle by cycle.
 ghost use Rattle.std.specs.Prelude.{◌≡◌, ◌==◌, length, map, IfOk};
+ghost use Rattle.netlist_meaning.specs.FlatValuation.{start_bits};
 ghost use Rattle.netlist_meaning.specs.Flat.{IsSound};
 ghost use Rattle.netlist_meaning.specs.FlatOrder.{IsOrder};
 ghost use Rattle.netlist_meaning.specs.FlatValuation.{IsCycle};
@@ -50,7 +51,7 @@ impl<'a> Machine<'a> {
         requires sound { IsSound flat.now }
         requires ordered { IsOrder flat.now order.nodes }
         ensures flat { IfOk result (λ machine. machine.flat ≡ flat.now) }
-        ensures state { IfOk result (λ machine. machine.state ≡ map (λ latch. latch.init == 1) flat.now.latches) }
+        ensures state { IfOk result (λ machine. machine.state ≡ start_bits flat.now) }
     {
         let bits = vec![in alloc; false; flat.nets.len()]?;
         let state = first_state(alloc, flat)?;

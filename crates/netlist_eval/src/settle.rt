@@ -1,5 +1,6 @@
 // The bits of a cycle, by class: those of inputs and latches are put, those of nodes are computed along the order.
 ghost use Rattle.std.specs.Prelude.{◌≡◌, ◌<◌, length, map, All, IfOk, ◌==◌};
+ghost use Rattle.netlist_meaning.specs.FlatValuation.{start_bits};
 ghost use Rattle.netlist_meaning.specs.Flat.{IsInRange, class_of};
 ghost use Rattle.netlist_eval.specs.Eval.{bit_of, with_inputs, with_state, settled, evaluated};
 
@@ -97,7 +98,7 @@ pub fn run_cycle(
 
 /// The first state.
 pub fn first_state(alloc: Global, flat: &Flat) -> Result<Vec<bool>, AllocError>
-    ensures { IfOk result (λ state. state.items ≡ map (λ latch. latch.init == 1) flat.now.latches) }
+    ensures { IfOk result (λ state. state.items ≡ start_bits flat.now) }
 {
     flat.latches
         .as_slice()

@@ -1,7 +1,9 @@
 -- What the definitions say of single designs.
-use Rattle.std.specs.Prelude.{ℕ, zero, suc, cond, ◌+◌, ◌*◌, ◌^◌, ◌<◌, ◌≡◌, ◌≢◌, List, [], ◌∷◌, Bool, false, not, length, All, ◌==◌, slice_get, get_or, Some, codes}
+use Rattle.std.specs.Prelude.{map, ℕ, zero, suc, cond, ◌+◌, ◌*◌, ◌^◌, ◌<◌, ◌≡◌, ◌≢◌, List, [], ◌∷◌, Bool, false, not, length, All, ◌==◌, slice_get, get_or, Some, codes}
 use Rattle.netlist_core.specs.declared.model.Design.{Design}
 use Rattle.netlist_core.specs.Names.{Name}
+use Rattle.netlist_meaning.specs.InOrder.{nets_in_order}
+use Rattle.netlist_meaning.specs.FlatOf.{class_of_net}
 use Rattle.netlist_meaning.specs.Nets.{Net, net_at, IsInNames}
 use Rattle.netlist_meaning.specs.Valuation.{Valuation, IsRun, output_bits}
 use Rattle.netlist_examples.specs.Designs.{toggle_design, loop_design, adder_design, wide_design, tower_design, clocked_design, read_clock_design, two_clocks_design, latch_design, circle_design, shared_design, half_clocked_design, read_main_clock_design}
@@ -104,3 +106,7 @@ LatchHasNoClock = IsTwoClocks half_clocked_design 5 (codes "-")
 -- a `.clock` name of the main model that is no input is a clock net, without any latch
 abbrev pub CoverReadsMainClock : Type 0
 CoverReadsMainClock = IsClockRead read_main_clock_design 5 (codes "e")
+
+-- the classes of the two-bit adder's nets: a0 a1 b0 b1 ci s0 s1 c k, and in each full adder a b c s co
+abbrev pub AdderHasClasses : Type 0
+AdderHasClasses = map (class_of_net adder_design) (nets_in_order adder_design) ≡ 0 ∷ 1 ∷ 2 ∷ 3 ∷ 4 ∷ 5 ∷ 6 ∷ 7 ∷ 8 ∷ 0 ∷ 2 ∷ 4 ∷ 5 ∷ 8 ∷ 1 ∷ 3 ∷ 8 ∷ 6 ∷ 7 ∷ []

@@ -5,7 +5,7 @@ ghost use Rattle.std.specs.Prelude.{[], ◌∷◌};
 ghost use Rattle.netlist_meaning.specs.Flat.{IsSound};
 ghost use Rattle.netlist_meaning.specs.FlatOrder.{IsFlatLoop};
 ghost use Rattle.netlist_examples.specs.FlatInstances.{chained_flat, looped_flat};
-ghost use Rattle.netlist_examples.specs.Instances.{IsLoopThroughPins, LatchDelays, LatchToggles, LatchBreaksLoop, CoverReadsItself, TowerWeighs, HasWeights, ControlIsNoInput, CoverReadsClock, LatchHasOtherClock, ClockedLatchDelays, AdderAdds, HasSharedClock, LatchHasNoClock, CoverReadsMainClock};
+ghost use Rattle.netlist_examples.specs.Instances.{IsLoopThroughPins, LatchDelays, LatchToggles, LatchBreaksLoop, CoverReadsItself, TowerWeighs, HasWeights, ControlIsNoInput, CoverReadsClock, LatchHasOtherClock, ClockedLatchDelays, AdderAdds, HasSharedClock, LatchHasNoClock, CoverReadsMainClock, AdderHasClasses};
 
 /// A latch with init 0 that takes the inverse of its output gives 0 and 1 in turn, in a run that is there.
 pub fn latch_toggles()
@@ -87,4 +87,9 @@ pub fn small_netlists_are_sound()
     ensures chained { IsSound chained_flat }
     ensures looped { IsSound looped_flat }
     ensures has_loop { IsFlatLoop looped_flat (2 ∷ 3 ∷ []) }
+{}
+
+/// The nets of the two-bit adder have these classes.
+pub fn adder_has_classes()
+    ensures { AdderHasClasses }
 {}

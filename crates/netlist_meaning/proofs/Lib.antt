@@ -6,3 +6,4 @@ pub mod Depth
 pub mod Roots
 pub mod InNames
 pub mod SingleModel
+pub mod ClockClasses

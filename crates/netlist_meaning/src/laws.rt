@@ -2,7 +2,7 @@
 
 ghost use Rattle.netlist_core.specs.declared.model.Design.{Design};
 ghost use Rattle.netlist_meaning.specs.Roots.{JoinedIsSameRoot, RootsAreNearest};
-ghost use Rattle.netlist_meaning.specs.Laws.{IsLeastEquivalence, PinsAreEnough, InNamesAreOne, WeightIsSum, PlacesAreShallow, WeightIsSumOverAll, PlacesAreOrdered, InNamesAreThere};
+ghost use Rattle.netlist_meaning.specs.Laws.{IsLeastEquivalence, PinsAreEnough, InNamesAreOne, WeightIsSum, PlacesAreShallow, WeightIsSumOverAll, PlacesAreOrdered, InNamesAreThere, ClockClassesAreTested};
 
 /// Joined nets are the least equivalence in which each pin joins its actual with its formal.
 pub fn joined_is_the_least_equivalence()
@@ -53,4 +53,9 @@ pub fn places_are_ordered()
 /// Where no line names a formal with two actuals and no model stands inside a place of itself, there is a list of IN names.
 pub fn in_names_are_there()
     ensures { InNamesAreThere }
+{}
+
+/// The test of clock classes is right.
+pub fn clock_classes_are_tested()
+    ensures { ClockClassesAreTested }
 {}

@@ -4,3 +4,4 @@ pub mod Circles
 pub mod ModelFaults
 pub mod Clocks
 pub mod Laws
+pub mod FlatClocks
