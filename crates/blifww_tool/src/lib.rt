@@ -1,9 +1,11 @@
 //! The top call of the program: `compile`, for the text of one OR gate, and `simulate`, for the text of a pattern.
 #![tactic(auto)]
 
+pub mod calm;
 mod compile;
 mod drawing;
 mod joined;
+pub mod laws;
 mod refusals;
 mod simulate;
 mod thin;

@@ -131,7 +131,7 @@ impl Refusal {
             Refusal::NoMemory => write_all(err, b"no memory\n"),
             Refusal::NotYet => write_all(err, b"not yet\n"),
             Refusal::Pattern(fault) => {
-                tell_fault(err, rle_fault_name(fault.kind), fault.line as u64)
+                tell_fault(err, rle_fault_name(fault.kind), fault.line)
             }
             Refusal::GridTooLarge { width, height } => tell_grid(err, *width, *height),
             Refusal::PortTable(fault) => {

@@ -3,7 +3,7 @@ ghost use Rattle.std.specs.Prelude.{◌≡◌, ◌≢◌, ◌≤◌, ◌<◌, �
 ghost use Rattle.std.specs.Io.KnownBytes.{Keeps, IsAtEnd};
 ghost use Rattle.ww_base.specs.Faults.{Rose};
 ghost use Rattle.drive.specs.Driving.{last_generation, greatest_generation};
-ghost use Rattle.command_words.specs.Shapes.{CommandValues, compile, simulate, IsCommand};
+ghost use Rattle.command_words.specs.Shapes.{CommandValues, compile, simulate, IsCommand, IsTaken};
 ghost use Rattle.blifww_tool.specs.Thin.{Names, IsThin};
 ghost use Rattle.blifww_tool.specs.Gate.{WritesWhatItRead};
 ghost use Rattle.blifww_tool.specs.Simulation.{Simulation, IsSimulation};
@@ -33,6 +33,8 @@ fn work<S: Source, O: Sink>(
     ensures refused { IfErr result (λ r. (r ≢ Refusal.WriteFault) → GainedNothing (writing O.written O.faults out.old out.new)
         × HasReason (map string_bytes words.now) (reading S.left S.faults src.old src.new) r) }
     ensures asked { IfErr result (λ r. (r ≢ Refusal.Usage) → (r ≢ Refusal.NoMemory) → (command : CommandValues) × Asks (map string_bytes words.now) command) }
+    ensures taken { OnOk result (IsTaken (map string_bytes words.now)) }
+    ensures untaken { IfErr result (λ r. (r ≢ Refusal.Usage) → (r ≢ Refusal.NoMemory) → IsTaken (map string_bytes words.now)) }
     ensures unread { ((command : CommandValues) → Asks (map string_bytes words.now) command → ⊥) → src.new ≡ src.old }
     ensures refused_unread { IsErrOf result Refusal.Usage → src.new ≡ src.old }
     ensures cut { IsErrOf result Refusal.WriteFault → (k : ℕ) × WriteFailed (writing O.written O.faults out.old out.new)
@@ -94,6 +96,7 @@ pub fn run<S: Source, O: Sink, E: Sink>(
     // Each status comes only where its cause is,
     ensures usage { result ≡ 2 → IsCommand (map string_bytes words.now) → ⊥ }
     ensures asked { result ≢ 2 → result ≢ 6 → result ≢ 7 → (command : CommandValues) × Asks (map string_bytes words.now) command }
+    ensures taken { result ≢ 2 → result ≢ 6 → result ≢ 7 → IsTaken (map string_bytes words.now) }
     ensures too_long { result ≡ 4 → Asks (map string_bytes words.now) compile
         → (given : List ℕ) × Gave (reading S.left S.faults src.old src.new) given × (text_limit < length given) }
     ensures not_yet { result ≡ 11 → (given : List ℕ) × GaveAll (reading S.left S.faults src.old src.new) given × ((n : Names) → IsThin given n → ⊥) }

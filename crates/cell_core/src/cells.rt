@@ -3,7 +3,7 @@ ghost use Rattle.std.specs.Prelude.{◌≡◌};
 ghost use Rattle.cell_core.specs.Sources.{is_there, reads_there, is_one, reads_one};
 
 /// What a cell or a port reads: an input, a latch or an earlier cell by its number from 0, or a constant.
-#[derive(Clone, Copy, Debug, PartialEq, Eq)]
+#[derive(Clone, Copy, Debug, PartialEq, Eq, PartialOrd, Ord)]
 pub enum Src {
     Input(u32),
     Latch(u32),
@@ -13,7 +13,7 @@ pub enum Src {
 }
 
 /// A cell of two inputs.
-#[derive(Clone, Copy, Debug, PartialEq, Eq)]
+#[derive(Clone, Copy, Debug, PartialEq, Eq, PartialOrd, Ord)]
 pub enum Cell {
     /// 1 where one of the two is 1.
     Or(Src, Src),

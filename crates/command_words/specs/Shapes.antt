@@ -5,6 +5,7 @@ use Rattle.std.specs.Str.{bytes_eq}
 use Rattle.clap.specs.Walk.{Row, Text, all_of, first_of}
 use Rattle.clap.specs.Simple.{subcommand_of}
 use Rattle.clap.specs.Takes.{takes}
+use Rattle.clap.specs.Faults.{fault_of}
 use Rattle.command_words.specs.App.{blifww_app}
 use Rattle.command_words.specs.Numbers.{number_between}
 use Rattle.command_words.specs.declared.command.Command.{Command}
@@ -57,6 +58,10 @@ cycles_of words = option_and_then (λ met. first_of (codes "cycles") met.1) (sub
 pub record IsCommand (words : List Text) : Type 0 where
   pub taken : takes blifww_app words ≡ true
   pub in_range : IfSome (cycles_of words) (λ number. is_some (cycle_count number) ≡ true)
+
+-- clap finds no fault in the words
+abbrev pub IsTaken : List Text → Type 0
+IsTaken words = fault_of blifww_app words ≡ []
 
 -- a word that is neither empty nor begins with a hyphen (45)
 abbrev pub is_plain_word : Text → Bool

@@ -1,10 +1,10 @@
 // The command that words ask for.
-ghost use Rattle.std.specs.Prelude.{◌≡◌, ◌≤◌, IfOk, IsErrOf, MatchResult, Some, None, length, map, string_bytes};
+ghost use Rattle.std.specs.Prelude.{◌≡◌, ◌≤◌, IfOk, OnOk, IsErrOf, MatchResult, Some, None, length, map, string_bytes};
 ghost use Rattle.clap.specs.Simple.{subcommand_rows_of};
 ghost use Rattle.clap.specs.Lexer.{usize_max};
 ghost use Rattle.clap.specs.Walk.{rows_of};
 ghost use Rattle.clap.specs.Words.{found_of};
-ghost use Rattle.command_words.specs.Shapes.{CommandValues, HasCyclesInRange, IsCommand, IsWritten, command_values, simulate_by, values_met, values_of};
+ghost use Rattle.command_words.specs.Shapes.{CommandValues, HasCyclesInRange, IsCommand, IsTaken, IsWritten, command_values, simulate_by, values_met, values_of};
 
 use crate::WordsError;
 use crate::app::blifww_command;
@@ -78,6 +78,7 @@ fn length_fits(words: &[String])
 /// `Usage` comes only where the words are no command, and each other answer but `NoMemory` only where they have its values.
 pub fn command_of(alloc: Global, words: &[String]) -> Result<Command, WordsError>
     ensures ok { IfOk result (λ c. command_values (map string_bytes words.now) ≡ Some (values_of c)) }
+    ensures taken { OnOk result (IsTaken (map string_bytes words.now)) }
     ensures cycles { IfOk result (λ c. HasCyclesInRange (values_of c)) }
     ensures usage { IsErrOf result WordsError.Usage → IsCommand (map string_bytes words.now) → ⊥ }
     ensures written { (v : CommandValues) → IsWritten v (map string_bytes words.now) → MatchResult result (λ c. values_of c ≡ v) (λ e. e ≡ WordsError.NoMemory) }

@@ -71,7 +71,7 @@ impl<'a> Run<'a> {
             rows,
         };
         Ok(Run {
-            plane: plane.inject(alloc, &cells),
+            plane: plane.inject(&cells),
             generation: 0,
             left,
         })

@@ -179,14 +179,14 @@ fn drawn(alloc: Global, plan: &Plan) -> Result<Plane, RuleError>
 }
 
 // The plane with the head of an input whose bit is 1.
-fn with_input(alloc: Global, plane: Plane, y: u64, bit: bool) -> Plane
+fn with_input(plane: Plane, y: u64, bit: bool) -> Plane
     requires wide { 0 < plane.width }
     requires high { y < plane.height }
     ensures width { result.width ≡ plane.width }
     ensures height { result.height ≡ plane.height }
 {
     if bit {
-        plane.inject(alloc, &[(0, y)])
+        plane.inject(&[(0, y)])
     } else {
         plane
     }
@@ -234,9 +234,9 @@ fn a_circuit_answers_by_the_rule(rt: HostRuntime) -> Result<(), Fail> {
         let mut bits = [a, false, b, false, c];
         run_columns(plan.columns.as_slice(), &mut bits);
         let dark = drawn(alloc, &plan)?;
-        let first = with_input(alloc, dark, 8, a);
-        let second = with_input(alloc, first, 40, b);
-        let start = with_input(alloc, second, 72, c);
+        let first = with_input(dark, 8, a);
+        let second = with_input(first, 40, b);
+        let start = with_input(second, 72, c);
         let end = evolved(alloc, start, 128)?;
         for (lane, bit) in bits.iter().enumerate() {
             assert_eq!(rt;

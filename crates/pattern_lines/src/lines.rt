@@ -11,7 +11,7 @@ use crate::blanks::is_all_blank;
 /// A line without its end, with its number, which is counted from 1. Only the last line of a text may lack an end.
 #[derive(Clone, Copy)]
 pub struct Line<'a> {
-    pub number: usize,
+    pub number: u64,
     pub bytes: &'a [u8],
     pub is_ended: bool,
 }
@@ -53,7 +53,7 @@ fn bytes_before_feed(text: &[u8]) -> usize
 }
 
 /// The first line of a text before which stand so many lines, and the text after it.
-pub fn split_line(lines_before: usize, text: &[u8]) -> (Line<'_>, &[u8])
+pub fn split_line(lines_before: u64, text: &[u8]) -> (Line<'_>, &[u8])
     requires room { lines_before + length text.now < 2 ^ 64 }
     requires some { 0 < length text.now }
     ensures lines { lines_from (lines_before + 1) (with_line_feeds text.now) ≡ line_of result.0 ∷ lines_from (lines_before + 1 + 1) (with_line_feeds result.1.now) }

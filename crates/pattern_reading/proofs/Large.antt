@@ -1,7 +1,6 @@
 -- Boxes at the limit of a reader.
 use Rattle.std.proofs.Common.{ℕ, ◌*◌, ◌<◌, ◌≤◌, ◌≡◌, ◌⊎◌, inl, inr, refl, sym, ap, ◌∙◌, Bool, true, false, true≢false, List, arith}
 use Rattle.std.specs.Prelude.{nat_lt, Option, Some, None}
-use Rattle.std.specs.List.{AllByRecursion}
 use Rattle.std.proofs.lemmas.Bool.{ltb-true, ltb-false}
 use Rattle.std.proofs.lemmas.Option.{none-some}
 use Rattle.ww_rule.specs.Grid.{Grid}
@@ -11,7 +10,6 @@ use Rattle.pattern_reading.specs.Lines.{Line}
 use Rattle.pattern_reading.specs.Numbers.{◌>>=◌}
 use Rattle.pattern_reading.specs.Header.{Header, header_in, header_line, is_wireworld}
 use Rattle.pattern_reading.specs.Pattern.{HasBox, HasLargeBox, IsGridTooLarge, ReadsAsPattern, ReadsWithinLimit, most_cells}
-use Rattle.pattern_reading.specs.Examples.{too_large_texts, large_texts}
 
 some_same : {A : Type 0} (a b : A) → Some a ≡ Some b → a ≡ b
 some_same a b e = cc
@@ -21,7 +19,7 @@ box_header : (text : List ℕ) (width height : ℕ) (box : HasBox text width hei
 box_header text width height box = rw (box.first) box.form
 
 -- whose cells are within the limit
-within : (text : List ℕ) (header : Header) → (header_line text >>= λ line. header_in line.bytes) ≡ Some header → header.width * header.height ≤ most_cells → IsGridTooLarge text → ⊥
+pub within : (text : List ℕ) (header : Header) → (header_line text >>= λ line. header_in line.bytes) ≡ Some header → header.width * header.height ≤ most_cells → IsGridTooLarge text → ⊥
 within text header e small h =
     let same : header ≡ h.2.0.header = some_same _ _ (sym e ∙ box_header text h.0 h.1 h.2.0) in
     let w : header.width ≡ h.0 = ap (λ x. x.width) same ∙ h.2.0.width_is in
@@ -30,12 +28,12 @@ within text header e small h =
     omega (arith, small, large)
 
 -- or which names no rule
-other_rule : (text : List ℕ) (header : Header) → (header_line text >>= λ line. header_in line.bytes) ≡ Some header → is_wireworld header.rule ≡ false → IsGridTooLarge text → ⊥
+pub other_rule : (text : List ℕ) (header : Header) → (header_line text >>= λ line. header_in line.bytes) ≡ Some header → is_wireworld header.rule ≡ false → IsGridTooLarge text → ⊥
 other_rule text header e other h =
     let same : header ≡ h.2.0.header = some_same _ _ (sym e ∙ box_header text h.0 h.1 h.2.0) in
     true≢false (sym h.2.0.rule ∙ ap (λ x. is_wireworld x.rule) (sym same) ∙ other)
 
-beyond : (text : List ℕ) (line : Line) (header : Header) → header_line text ≡ Some line → header_in line.bytes ≡ Some header → is_wireworld header.rule ≡ true → most_cells < header.width * header.height → IsGridTooLarge text
+pub beyond : (text : List ℕ) (line : Line) (header : Header) → header_line text ≡ Some line → header_in line.bytes ≡ Some header → is_wireworld header.rule ≡ true → most_cells < header.width * header.height → IsGridTooLarge text
 beyond text line header e form rule large =
     (header.width, header.height, (record { line = line; first = e; header = header; form = form; width_is = refl; height_is = refl; rule = rule }, large))
 
@@ -102,9 +100,3 @@ reader_answer text = by_large (large_or_not text)
     by_large : IsGridTooLarge text ⊎ (IsGridTooLarge text → ⊥) → HasReaderAnswer text
     by_large (inl h) = inr (inr (h.0, h.1, h.2))
     by_large (inr small) = small_answer text small (pattern_or_fault text)
-
-pub too_large : AllByRecursion IsGridTooLarge too_large_texts
-too_large = (beyond _ _ _ refl refl refl (omega arith), (beyond _ _ _ refl refl refl (omega arith), tt))
-
-pub not_too_large : AllByRecursion (λ text. ¬ (IsGridTooLarge text)) large_texts
-not_too_large = (within _ _ refl (omega arith), (within _ _ refl (omega arith), (other_rule _ _ refl refl, tt)))

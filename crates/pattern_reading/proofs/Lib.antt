@@ -1,15 +1,11 @@
 pub mod Rows
 pub mod RleVerdict
-pub mod RleExamples
-pub mod PortExamples
 pub mod RleLaws
 pub mod PortLaws
-pub mod LineLaws
 pub mod LineText
 pub mod PortText
 pub mod Later
 pub mod Spelled
-pub mod NamedGate
 pub mod RustLines
 pub mod SpelledItems
 pub mod SpelledPattern
@@ -19,9 +15,5 @@ pub mod Large
 pub mod FirstLine
 pub mod Ranges
 pub mod PortsInside
-pub mod Whole
-pub mod LineBytes
-pub mod SoundTable
 pub mod PortForms
 pub mod SoundLines
-pub mod OneRun

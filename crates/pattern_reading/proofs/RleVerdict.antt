@@ -172,3 +172,10 @@ rle_reading_is text grid h =
     let rows = rows_from_cells grid.width grid.height grid.rows (state_at (placed_items text)) h.in_rows h.cells in
     let same : grid ≡ record { width = grid.width; height = grid.height; rows = box_rows grid.width grid.height (state_at (placed_items text)) } = ap (λ r. record grid { rows = r }) rows in
     (box_verdict text grid.width grid.height h.header ∙ rw (h.no_fault, h.ends) refl, same ∙ sym (box_grid text grid.width grid.height h.header))
+
+-- what the verdict of a text gives
+pub verdict_fault : (text : List ℕ) (fault : RleFaultAt) → rle_verdict text ≡ Some fault → HasRleFault text fault.kind fault.line
+verdict_fault text fault e = let h : IsJudged text (rle_verdict text) = rle_judged text in rw e at h
+
+pub verdict_pattern : (text : List ℕ) (grid : Grid) → rle_verdict text ≡ None → grid_of text ≡ grid → ReadsAsPattern text grid
+verdict_pattern text grid e is = rw (← is) (let h : IsJudged text (rle_verdict text) = rle_judged text in rw e at h)

@@ -17,7 +17,7 @@ use Rattle.pattern_reading.specs.PortTable.{fault_of_form, input_of, is_outside,
 use Rattle.pattern_reading.specs.Laws.{IsNetInside, IsPortInside}
 use Rattle.pattern_reading.specs.Spelling.{IsPortName, IsSoundAfter, IsSpellable}
 use Rattle.pattern_reading.specs.SoundTable.{HasSoundLines, HasSpellableLines, IsSoundNet, IsSoundPort, IsWord}
-use Rattle.pattern_reading.proofs.NamedGate.{other_name}
+use Rattle.lists.proofs.Names.{bytes_eq-other}
 use Rattle.pattern_reading.proofs.PortForms.{none_of}
 
 -- the lines can be spelled
@@ -91,7 +91,7 @@ new_input : (port : PortLine) (seen : List PortForm) → All (λ a. a.name ≢ p
 new_input port [] h = refl
 new_input port (Version p l ∷ seen) h = new_input port seen h
 new_input port (In a ∷ seen) h =
-    rw (other_name a.name port.name (All-head (λ a. a.name ≢ port.name) a (filter_map input_of seen) h)) (new_input port seen (All-tail (λ a. a.name ≢ port.name) a (filter_map input_of seen) h))
+    rw (bytes_eq-other port.name a.name (λ e. All-head (λ a. a.name ≢ port.name) a (filter_map input_of seen) h (sym e))) (new_input port seen (All-tail (λ a. a.name ≢ port.name) a (filter_map input_of seen) h))
 new_input port (Out a ∷ seen) h = new_input port seen h
 new_input port (Net a ∷ seen) h = new_input port seen h
 
@@ -100,7 +100,7 @@ new_output port [] h = refl
 new_output port (Version p l ∷ seen) h = new_output port seen h
 new_output port (In a ∷ seen) h = new_output port seen h
 new_output port (Out a ∷ seen) h =
-    rw (other_name a.name port.name (All-head (λ a. a.name ≢ port.name) a (filter_map output_of seen) h)) (new_output port seen (All-tail (λ a. a.name ≢ port.name) a (filter_map output_of seen) h))
+    rw (bytes_eq-other port.name a.name (λ e. All-head (λ a. a.name ≢ port.name) a (filter_map output_of seen) h (sym e))) (new_output port seen (All-tail (λ a. a.name ≢ port.name) a (filter_map output_of seen) h))
 new_output port (Net a ∷ seen) h = new_output port seen h
 
 other_net : (net a : NetLine) → (a.name ≡ net.name → a.path ≢ net.path) → (bytes_eq net.name a.name && bytes_eq net.path a.path) ≡ false
@@ -108,7 +108,7 @@ other_net net a h = by_name (bytes_eq net.name a.name) refl
   where
     by_name : (t : Bool) → bytes_eq net.name a.name ≡ t → (t && bytes_eq net.path a.path) ≡ false
     by_name false e = refl
-    by_name true e = other_name a.path net.path (h (sym ((bytes_eq-Decides net.name a.name).0 e)))
+    by_name true e = bytes_eq-other net.path a.path (λ same. h (sym ((bytes_eq-Decides net.name a.name).0 e)) (sym same))
 
 new_net : (net : NetLine) (seen : List PortForm) → All (λ a. a.name ≡ net.name → a.path ≢ net.path) (filter_map net_of seen) → list_any (is_same_port (Net net)) seen ≡ false
 new_net net [] h = refl

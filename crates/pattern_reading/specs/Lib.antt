@@ -6,9 +6,7 @@ pub mod Pattern
 pub mod Ports
 pub mod PortLines
 pub mod PortTable
-pub mod Examples
 pub mod Laws
 pub mod Spelling
 pub mod SpelledPattern
-pub mod Whole
 pub mod SoundTable

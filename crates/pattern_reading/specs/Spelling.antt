@@ -5,7 +5,6 @@ use Rattle.ww_rule.specs.Grid.{Grid}
 use Rattle.pattern_reading.specs.declared.ports.Ports.{Ports}
 use Rattle.pattern_reading.specs.PortLines.{PortForm, Version, In, Out, Net, path_in, table_of}
 use Rattle.pattern_reading.specs.Pattern.{ReadsAsPattern}
-use Rattle.pattern_reading.specs.Examples.{or_grid, or_pattern_lines, port_of}
 use Rattle.pattern_reading.specs.PortTable.{ReadsAsPorts, fault_of_form, ports_of}
 
 -- the fields of a line
@@ -62,15 +61,3 @@ HasSpelledPorts forms rest =
 -- A spelled table before a text changes nothing in the pattern that the text reads as.
 abbrev pub HasSamePattern : List PortForm → List ℕ → Type 0
 HasSamePattern forms rest = (grid : Grid) → AllByRecursion IsSpellable forms → ReadsAsPattern rest grid → ReadsAsPattern (spelled_table forms ++ rest) grid
-
--- the port lines of an OR gate whose inputs and output have these names
-abbrev pub named_or_forms : List ℕ → List ℕ → List ℕ → List PortForm
-named_or_forms a b y = Version 32 32 ∷ In (port_of 0 8 a) ∷ In (port_of 0 24 b) ∷ Out (port_of 32 8 y) ∷ []
-
-abbrev pub named_or_text : List ℕ → List ℕ → List ℕ → List ℕ
-named_or_text a b y = spelled_table (named_or_forms a b y) ++ or_pattern_lines
-
--- The text spells the gate's drawing, whatever its names are, and its ports, where the inputs have two names.
-abbrev pub HasNamedGate : List ℕ → List ℕ → List ℕ → Type 0
-HasNamedGate a b y =
-    ReadsAsPattern (named_or_text a b y) or_grid × (a ≢ b → ReadsAsPorts (named_or_text a b y) 33 32 (ports_of (named_or_forms a b y)))

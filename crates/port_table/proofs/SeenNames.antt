@@ -2,23 +2,19 @@
 use Rattle.std.proofs.Common.{ℕ, ◌≡◌, refl, sym, ap, ◌∙◌, Bool, true, false, cond, ◌&&◌, ◌||◌, List, [], ◌∷◌, ◌++◌}
 use Rattle.std.specs.List.{list_any}
 use Rattle.std.specs.Str.{bytes_eq}
-use Rattle.std.specs.HashSet.{HashSet, contains_by, UpdatesBy}
-use Rattle.std.proofs.lemmas.Slice.Eq.{bytes_eq-Decides}
+use Rattle.std.specs.declared.cmp.Ordering.{Ordering}
+use Rattle.std.specs.Ordering.{nat_cmp, is_eq, ordering_then}
+use Rattle.std.specs.Cmp.{tied_then}
+use Rattle.std.specs.Cmp.Lexicographic.{slice_cmp}
+use Rattle.std.specs.BTreeSet.{BTreeSet, contains_by, UpdatesBy}
+use Rattle.std.proofs.lemmas.Map.Text.{is_eq-slice_cmp}
+use Rattle.lists.proofs.Names.{bytes_eq-turned}
 use denote.Ref.{Bor}
 use Rattle.pattern_reading.specs.PortLines.{PortForm, Version, In, Out, Net}
 use Rattle.pattern_reading.specs.PortTable.{is_same_port}
 use Rattle.pattern_reading.specs.declared.ports.PortLine.{PortLine}
 use Rattle.pattern_reading.specs.declared.ports.NetLine.{NetLine}
 use Rattle.port_table.specs.Seen.{is_input, is_output, is_net}
-
-same_tests : (t u : Bool) → (t ≡ true → u ≡ true) → (u ≡ true → t ≡ true) → t ≡ u
-same_tests true u f g = sym (f refl)
-same_tests false true f g = g refl
-same_tests false false f g = refl
-
-pub bytes_eq_symmetric : (a b : List ℕ) → bytes_eq a b ≡ bytes_eq b a
-bytes_eq_symmetric a b =
-    same_tests _ _ (λ e. (bytes_eq-Decides b a).1 (sym ((bytes_eq-Decides a b).0 e))) (λ e. (bytes_eq-Decides a b).1 (sym ((bytes_eq-Decides b a).0 e)))
 
 any_same : (t u : PortForm → Bool) → ((form : PortForm) → t form ≡ u form) → (forms : List PortForm) → list_any t forms ≡ list_any u forms
 any_same t u h [] = refl
@@ -73,20 +69,29 @@ same_as_net net forms = any_same _ _ by_form forms
     by_form (Out a) = refl
     by_form (Net a) = refl
 
+-- the orders of names and of pairs of names
+abbrev name_order : Bor (List ℕ) → Bor (List ℕ) → Ordering
+name_order x y = slice_cmp nat_cmp x.now y.now
+
+abbrev pair_order : Bor (List ℕ) × Bor (List ℕ) → Bor (List ℕ) × Bor (List ℕ) → Ordering
+pair_order x y = ordering_then (slice_cmp nat_cmp x.0.now y.0.now) (slice_cmp nat_cmp x.1.now y.1.now)
+
 -- a set of names after one is inserted
-pub has_name : {S : Type 0} (t : List ℕ → PortForm → Bool) (s n : HashSet (Bor (List ℕ)) S) (key : Bor (List ℕ)) (before : List PortForm) (form : PortForm) → ((name : List ℕ) → t name form ≡ bytes_eq name key.now) → ((name : List ℕ) → contains_by (λ k. bytes_eq name k.now) s ≡ list_any (t name) before) → UpdatesBy (λ x y. bytes_eq x.now y.now) (λ k. bytes_eq key.now k.now) s n true → (name : List ℕ) → contains_by (λ k. bytes_eq name k.now) n ≡ list_any (t name) (before ++ form ∷ [])
+pub has_name : (t : List ℕ → PortForm → Bool) (s n : BTreeSet (Bor (List ℕ))) (key : Bor (List ℕ)) (before : List PortForm) (form : PortForm) → ((name : List ℕ) → t name form ≡ bytes_eq name key.now) → ((name : List ℕ) → contains_by (λ k. slice_cmp nat_cmp name k.now) s ≡ list_any (t name) before) → UpdatesBy name_order (name_order key) s n true → (name : List ℕ) → contains_by (λ k. slice_cmp nat_cmp name k.now) n ≡ list_any (t name) (before ++ form ∷ [])
 has_name t s n key before form same had h name =
     let q : Bor (List ℕ) = record { ref_ptr = (0, 0); now = name } in
-    let e : bytes_eq key.now name ≡ t name form = bytes_eq_symmetric key.now name ∙ sym (same name) in
-    h.0 q ∙ ap (λ b. cond b true (contains_by (λ k. bytes_eq name k.now) s)) e ∙ ap (λ b. cond (t name form) true b) (had name) ∙ sym (any_push (t name) before form)
+    let e : is_eq (slice_cmp nat_cmp key.now name) ≡ t name form = is_eq-slice_cmp key.now name ∙ bytes_eq-turned key.now name ∙ sym (same name) in
+    h.0 q ∙ ap (λ b. cond b true (contains_by (λ k. slice_cmp nat_cmp name k.now) s)) e ∙ ap (λ b. cond (t name form) true b) (had name) ∙ sym (any_push (t name) before form)
 
 -- and a set of pairs
-pub has_pair : {S : Type 0} (s n : HashSet (Bor (List ℕ) × Bor (List ℕ)) S) (key : Bor (List ℕ) × Bor (List ℕ)) (before : List PortForm) (form : PortForm) → ((name path : List ℕ) → is_net name path form ≡ (bytes_eq name key.0.now && bytes_eq path key.1.now)) → ((name path : List ℕ) → contains_by (λ k. bytes_eq name k.0.now && bytes_eq path k.1.now) s ≡ list_any (is_net name path) before) → UpdatesBy (λ x y. bytes_eq x.0.now y.0.now && bytes_eq x.1.now y.1.now) (λ k. bytes_eq key.0.now k.0.now && bytes_eq key.1.now k.1.now) s n true → (name path : List ℕ) → contains_by (λ k. bytes_eq name k.0.now && bytes_eq path k.1.now) n ≡ list_any (is_net name path) (before ++ form ∷ [])
+pub has_pair : (s n : BTreeSet (Bor (List ℕ) × Bor (List ℕ))) (key : Bor (List ℕ) × Bor (List ℕ)) (before : List PortForm) (form : PortForm) → ((name path : List ℕ) → is_net name path form ≡ (bytes_eq name key.0.now && bytes_eq path key.1.now)) → ((name path : List ℕ) → contains_by (λ k. ordering_then (slice_cmp nat_cmp name k.0.now) (slice_cmp nat_cmp path k.1.now)) s ≡ list_any (is_net name path) before) → UpdatesBy pair_order (pair_order key) s n true → (name path : List ℕ) → contains_by (λ k. ordering_then (slice_cmp nat_cmp name k.0.now) (slice_cmp nat_cmp path k.1.now)) n ≡ list_any (is_net name path) (before ++ form ∷ [])
 has_pair s n key before form same had h name path =
     let q : Bor (List ℕ) × Bor (List ℕ) = (record { ref_ptr = (0, 0); now = name }, record { ref_ptr = (0, 0); now = path }) in
-    let e : (bytes_eq key.0.now name && bytes_eq key.1.now path) ≡ is_net name path form =
-    ap (λ b. b && bytes_eq key.1.now path) (bytes_eq_symmetric key.0.now name) ∙ ap (λ b. bytes_eq name key.0.now && b) (bytes_eq_symmetric key.1.now path) ∙ sym (same name path) in
+    let one : is_eq (slice_cmp nat_cmp key.0.now name) ≡ bytes_eq name key.0.now = is_eq-slice_cmp key.0.now name ∙ bytes_eq-turned key.0.now name in
+    let other : is_eq (slice_cmp nat_cmp key.1.now path) ≡ bytes_eq path key.1.now = is_eq-slice_cmp key.1.now path ∙ bytes_eq-turned key.1.now path in
+    let e : is_eq (pair_order key q) ≡ is_net name path form =
+    sym (tied_then (slice_cmp nat_cmp key.0.now name) (slice_cmp nat_cmp key.1.now path)) ∙ ap (λ b. b && is_eq (slice_cmp nat_cmp key.1.now path)) one ∙ ap (λ b. bytes_eq name key.0.now && b) other ∙ sym (same name path) in
     h.0 q
-    ∙ ap (λ b. cond b true (contains_by (λ k. bytes_eq name k.0.now && bytes_eq path k.1.now) s)) e
+    ∙ ap (λ b. cond b true (contains_by (pair_order q) s)) e
     ∙ ap (λ b. cond (is_net name path form) true b) (had name path)
     ∙ sym (any_push (is_net name path) before form)

@@ -1,5 +1,5 @@
 // The forms of the table's lines, over the bytes of the text.
-ghost use Rattle.std.specs.Prelude.{◌≡◌, ◌==◌, [], ◌∷◌, map, option_map, IfOk};
+ghost use Rattle.std.specs.Prelude.{◌≡◌, ◌==◌, [], ◌∷◌, take, map, option_map, IfOk};
 ghost use Rattle.std.specs.List.{slice_split};
 ghost use Rattle.std.specs.Option.{option_copied};
 ghost use Rattle.std.specs.Str.{byte};
@@ -140,11 +140,11 @@ fn form_of_fields<'a>(fields: &[&'a [u8]]) -> Option<PortForm<'a>>
     }
 }
 
-// The parts of an entry between its spaces.
+// The first seven parts of an entry between its spaces: no form has more than six.
 fn fields_of(alloc: Global, entry: &[u8]) -> Result<Vec<&[u8]>, AllocError>
-    ensures { IfOk result (λ fields. map (λ f. f.now) fields.items ≡ slice_split (λ b. b == byte " ") entry.now) }
+    ensures { IfOk result (λ fields. map (λ f. f.now) fields.items ≡ take 7 (slice_split (λ b. b == byte " ") entry.now)) }
 {
-    entry.split(|b| *b == b' ').collect(alloc)
+    entry.split(|b| *b == b' ').take(7).collect(alloc)
 }
 
 /// The form of a line with this entry, whose fields are separated by single spaces, if it has one.

@@ -8,14 +8,14 @@ ghost use Rattle.port_table.specs.Seen.{HasSeen};
 
 use crate::forms::PortForm;
 use std::alloc::{AllocError, Global};
-use std::collections::HashSet;
+use std::collections::BTreeSet;
 
 /// The names of the inputs and the outputs, and the names and paths of the nets, of some lines.
 #[derive(Drop)]
 pub struct Seen<'a> {
-    ins: HashSet<&'a [u8]>,
-    outs: HashSet<&'a [u8]>,
-    nets: HashSet<(&'a [u8], &'a [u8])>,
+    ins: BTreeSet<&'a [u8]>,
+    outs: BTreeSet<&'a [u8]>,
+    nets: BTreeSet<(&'a [u8], &'a [u8])>,
 }
 
 impl<'a> Seen<'a> {
@@ -24,9 +24,9 @@ impl<'a> Seen<'a> {
         ensures { HasSeen result [] }
     {
         Seen {
-            ins: HashSet::new(alloc),
-            outs: HashSet::new(alloc),
-            nets: HashSet::new(alloc),
+            ins: BTreeSet::new(alloc),
+            outs: BTreeSet::new(alloc),
+            nets: BTreeSet::new(alloc),
         }
     }
 

@@ -31,7 +31,7 @@ fn table_line(alloc: Global, line: Line<'_>) -> Result<Option<TableLine<'_>>, Al
     match table_entry(line.bytes) {
         None => Ok(None),
         Some(entry) => Ok(Some(TableLine {
-            number: line.number as u64,
+            number: line.number,
             form: form_in(alloc, entry)?,
         })),
     }

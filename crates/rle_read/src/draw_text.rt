@@ -12,7 +12,6 @@ use crate::error::RleFault;
 use crate::items::{Item, item_in, split_piece};
 use pattern_lines::{Line, split_line};
 use pattern_reading::RleFaultKind;
-use std::alloc::Global;
 
 /// What a line of items ends with: its own end, or the end of the pattern.
 #[derive(Clone, Copy)]
@@ -22,7 +21,7 @@ pub enum LineEnd {
 }
 
 // Draws the items of a line, up to the pattern's end or an item at fault.
-fn draw_line(alloc: Global, drawing: &mut Drawing, line: Line<'_>) -> Result<LineEnd, RleFault>
+fn draw_line(drawing: &mut Drawing, line: Line<'_>) -> Result<LineEnd, RleFault>
     requires in_rows { IsGrid drawing.old.width drawing.old.height drawing.old.rows.items }
     ensures drawn { reached_of result (drawn_of drawing.new) ≡ drawn_with (drawn_of drawing.old) (items_of_line (line_of line.entry)) }
     ensures in_rows { IsGrid drawing.new.width drawing.new.height drawing.new.rows.items }
@@ -43,19 +42,14 @@ fn draw_line(alloc: Global, drawing: &mut Drawing, line: Line<'_>) -> Result<Lin
                 line: line.number,
             });
         }
-        drawing.draw(alloc, item);
+        drawing.draw(item);
         rest = after;
     }
     Ok(LineEnd::OfLine)
 }
 
 /// Draws the items of a text before which stand so many lines, up to the pattern's end.
-pub fn draw_text(
-    alloc: Global,
-    drawing: &mut Drawing,
-    lines_before: usize,
-    text: &[u8],
-) -> Result<(), RleFault>
+pub fn draw_text(drawing: &mut Drawing, lines_before: u64, text: &[u8]) -> Result<(), RleFault>
     requires room { lines_before + length text.now < 2 ^ 64 }
     requires in_rows { IsGrid drawing.old.width drawing.old.height drawing.old.rows.items }
     ensures { let lines = lines_from (lines_before + 1) (with_line_feeds text.now) in
@@ -68,7 +62,7 @@ pub fn draw_text(
     let mut lines = lines_before;
     while !rest.is_empty() {
         let (line, after) = split_line(lines, rest);
-        if let LineEnd::OfPattern = draw_line(alloc, drawing, line)? {
+        if let LineEnd::OfPattern = draw_line(drawing, line)? {
             return Ok(());
         }
         rest = after;

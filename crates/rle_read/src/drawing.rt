@@ -13,7 +13,6 @@ use crate::items::Item;
 use lists::List;
 use pattern_reading::RleFaultKind;
 use std::alloc::Global;
-use std::mem;
 use ww_rule::State;
 
 /// A pattern while its items are read: its rows so far, and the column and the row at which the next item begins. A
@@ -36,21 +35,12 @@ fn fill_run(row: &mut [State], x: usize, count: usize, state: State)
 }
 
 // The same of row y.
-fn put_run(
-    alloc: Global,
-    rows: &mut Vec<List<State>>,
-    y: usize,
-    x: usize,
-    count: usize,
-    state: State,
-)
-    requires in_rows { y < length rows.old.items }
-    requires in_row { x + count ≤ length (get_or rows.old.items y []) }
-    ensures { rows.new.items ≡ slice_set rows.old.items y (with_run (get_or rows.old.items y []) x count state) }
+fn put_run(rows: &mut [List<State>], y: usize, x: usize, count: usize, state: State)
+    requires in_rows { y < length rows.old }
+    requires in_row { x + count ≤ length (get_or rows.old y []) }
+    ensures { rows.new ≡ slice_set rows.old y (with_run (get_or rows.old y []) x count state) }
 {
-    let mut row = mem::replace(&mut rows[y], List::of(Vec::new(alloc))).into_vec();
-    fill_run(&mut row, x, count, state);
-    rows[y] = List::of(row);
+    fill_run(rows[y].as_mut_slice(), x, count, state);
 }
 
 // A row of so many empty cells.
@@ -67,11 +57,10 @@ impl Drawing {
         ensures drawn { IfOk result (λ drawing. drawn_of drawing ≡ blank_drawing width height) }
         ensures failed { IfErr result (λ e. e ≡ NoMemory) }
     {
-        let mut rows = Vec::new(alloc);
-        if width != 0 {
-            for _ in 0..height {
-                rows.push(blank_row(alloc, width)?)?;
-            }
+        let row_count = if width == 0 { 0 } else { height };
+        let mut rows = Vec::with_capacity(alloc, row_count as usize)?;
+        for _ in 0..row_count {
+            rows.push(blank_row(alloc, width)?)?;
         }
         Ok(Drawing {
             width,
@@ -106,7 +95,7 @@ impl Drawing {
     }
 
     // Draws a run of cells that is not at fault.
-    fn draw_run(&mut self, alloc: Global, count: u64, state: State)
+    fn draw_run(&mut self, count: u64, state: State)
         requires in_rows { IsGrid self.old.width self.old.height self.old.rows.items }
         requires counted { 0 < count }
         requires sound { run_fault self.old.width self.old.height (place_of 0 (drawn_of self.old) (Cells count state)) count state ≡ None }
@@ -116,21 +105,21 @@ impl Drawing {
             State::Empty => {}
             _ => {
                 let (x, y) = (self.x as usize, self.y as usize);
-                put_run(alloc, &mut self.rows, y, x, count as usize, state);
+                put_run(&mut self.rows, y, x, count as usize, state);
             }
         }
         self.x = self.x.saturating_add(count);
     }
 
     /// Draws an item that is not at fault.
-    pub fn draw(&mut self, alloc: Global, item: Item)
+    pub fn draw(&mut self, item: Item)
         requires in_rows { IsGrid self.old.width self.old.height self.old.rows.items }
         requires counted { IsCounted (item_of item) }
         requires sound { item_fault self.old.width self.old.height (place_of 0 (drawn_of self.old) (item_of item)) (item_of item) ≡ None }
         ensures { drawn_of self.new ≡ drawn_after (item_of item) (drawn_of self.old) }
     {
         match item {
-            Item::Cells(count, state) => self.draw_run(alloc, count, state),
+            Item::Cells(count, state) => self.draw_run(count, state),
             Item::RowEnds(count) => {
                 self.x = 0;
                 self.y = self.y.saturating_add(count);

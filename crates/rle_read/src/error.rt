@@ -9,7 +9,7 @@ use std::alloc::{AllocError, AllocFailed};
 #[derive(Clone, Copy, Debug, PartialEq, Eq)]
 pub struct RleFault {
     pub kind: RleFaultKind,
-    pub line: usize,
+    pub line: u64,
 }
 
 /// Why no pattern was read.

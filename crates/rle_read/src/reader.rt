@@ -84,7 +84,7 @@ fn pattern_in(alloc: Global, text: &[u8]) -> Result<Pattern, RleReadError>
         return Err(RleReadError::TooLarge { width, height });
     }
     let mut drawing = Drawing::new(alloc, width, height)?;
-    draw_text(alloc, &mut drawing, line.number, rest)?;
+    draw_text(&mut drawing, line.number, rest)?;
     Ok(Pattern {
         width,
         height,

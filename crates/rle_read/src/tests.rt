@@ -80,7 +80,7 @@ fn patterns_by_their_texts(rt: HostRuntime) -> Result<(), Fail> {
 #[test]
 fn faults_of_headers(rt: HostRuntime) -> Result<(), Fail> {
     let alloc = rt.alloc();
-    let cases: [(&[u8], RleFaultKind, usize); 14] = [
+    let cases: [(&[u8], RleFaultKind, u64); 14] = [
         (b"", RleFaultKind::NoHeader, 1),
         (
             b"#x = 3, y = 1, rule = WireWorld\n \n",
@@ -134,7 +134,7 @@ fn faults_of_headers(rt: HostRuntime) -> Result<(), Fail> {
 #[test]
 fn faults_of_items(rt: HostRuntime) -> Result<(), Fail> {
     let alloc = rt.alloc();
-    let cases: [(&[u8], RleFaultKind, usize); 20] = [
+    let cases: [(&[u8], RleFaultKind, u64); 20] = [
         (b"3D!", RleFaultKind::BadItem, 2),
         (b"3C#\n!", RleFaultKind::BadItem, 2),
         (b"3C\r!", RleFaultKind::BadItem, 2),

@@ -50,6 +50,13 @@ impl MemSource {
             faults: 0,
         })
     }
+
+    /// How often it has failed.
+    pub fn faults(&self) -> u64
+        ensures { result ≡ source_faults self.now }
+    {
+        self.faults
+    }
 }
 
 impl Source for MemSource {
@@ -123,6 +130,13 @@ impl MemSink {
             call: 0,
             faults: 0,
         })
+    }
+
+    /// How often it has failed.
+    pub fn faults(&self) -> u64
+        ensures { result ≡ sink_faults self.now }
+    {
+        self.faults
     }
 
     /// The bytes taken so far.

@@ -9,7 +9,7 @@ use Rattle.ww_rule.specs.declared.pattern.State.TheVariants.{Empty, Head}
 use Rattle.ww_rule.specs.declared.pattern.Injection.{Injection}
 use Rattle.ww_rule.specs.Wireworld.{Plane, Due, next_plane, evolve, driven}
 use Rattle.ww_rule.specs.Grid.{plane_of}
-use Rattle.ww_rule.specs.Injections.{is_among, due_of_list}
+use Rattle.ww_rule.specs.Injections.{has_cell, due_of_list}
 use Rattle.ww_rule.specs.Laws.{HasFinitelyManyCells}
 use Rattle.ww_rule.proofs.Cells.{next_plane_empty}
 use Rattle.ww_rule.proofs.Boxes.{evolve_empty, plane_of_beside, plane_of_below}
@@ -75,7 +75,7 @@ driven_within Q due p old new (suc g) x y h =
 pub due_of_cons : (i : Injection) (is : List Injection) (g : ℕ) (x y : ℤ) → due_of_list (i ∷ is) g x y ≡ ((i.generation == g && (int_eq (pos i.x) x && int_eq (pos i.y) y)) || due_of_list is g x y)
 due_of_cons i is g x y = picked (i.generation == g)
   where
-    picked : (b : Bool) → is_among (map (λ i. (i.x, i.y)) (cond b (i ∷ filter (λ i. i.generation == g) is) (filter (λ i. i.generation == g) is))) x y ≡ ((b && (int_eq (pos i.x) x && int_eq (pos i.y) y)) || due_of_list is g x y)
+    picked : (b : Bool) → has_cell (map (λ i. (i.x, i.y)) (cond b (i ∷ filter (λ i. i.generation == g) is) (filter (λ i. i.generation == g) is))) x y ≡ ((b && (int_eq (pos i.x) x && int_eq (pos i.y) y)) || due_of_list is g x y)
     picked true = refl
     picked false = refl
 

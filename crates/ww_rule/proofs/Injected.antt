@@ -12,7 +12,7 @@ use Rattle.ww_rule.specs.declared.pattern.State.{State}
 use Rattle.ww_rule.specs.declared.pattern.State.TheVariants.{Empty, Head}
 use Rattle.ww_rule.specs.Wireworld.{Plane, injected}
 use Rattle.ww_rule.specs.Grid.{IsGrid, plane_of}
-use Rattle.ww_rule.specs.Injections.{is_among}
+use Rattle.ww_rule.specs.Injections.{has_cell}
 use Rattle.ww_rule.proofs.RowLemmas.{same_grid}
 
 -- the rows with the cell of column x and row y made a head
@@ -39,15 +39,15 @@ other_number a b n =
       | inr e ↦ e
     ]
 
-pub with_head_shows : (x y : ℕ) (rows : List (List State)) → y < length rows → x < length (get_or rows y []) → plane_of (with_head rows x y) ≡ injected (is_among ((x, y) ∷ [])) (plane_of rows)
+pub with_head_shows : (x y : ℕ) (rows : List (List State)) → y < length rows → x < length (get_or rows y []) → plane_of (with_head rows x y) ≡ injected (has_cell ((x, y) ∷ [])) (plane_of rows)
 with_head_shows x y rows iny inx = fun_ext (λ u. fun_ext (λ v. place u v))
   where
     -- with the test's two answers
-    told : (u v : ℕ) (a b : Bool) → int_eq (pos x) (pos u) ≡ a → int_eq (pos y) (pos v) ≡ b → get_or (get_or (with_head rows x y) v []) u Empty ≡ cond ((a && b) || false) Head (plane_of rows (pos u) (pos v)) → get_or (get_or (with_head rows x y) v []) u Empty ≡ injected (is_among ((x, y) ∷ [])) (plane_of rows) (pos u) (pos v)
+    told : (u v : ℕ) (a b : Bool) → int_eq (pos x) (pos u) ≡ a → int_eq (pos y) (pos v) ≡ b → get_or (get_or (with_head rows x y) v []) u Empty ≡ cond ((a && b) || false) Head (plane_of rows (pos u) (pos v)) → get_or (get_or (with_head rows x y) v []) u Empty ≡ injected (has_cell ((x, y) ∷ [])) (plane_of rows) (pos u) (pos v)
     told u v a b ea eb e =
         e ∙ sym (ap₂ (λ a b. cond ((a && b) || false) Head (plane_of rows (pos u) (pos v))) ea eb)
 
-    cell : (u v : ℕ) → (v ≡ y) ⊎ (v ≡ y → ⊥) → (u ≡ x) ⊎ (u ≡ x → ⊥) → get_or (get_or (with_head rows x y) v []) u Empty ≡ injected (is_among ((x, y) ∷ [])) (plane_of rows) (pos u) (pos v)
+    cell : (u v : ℕ) → (v ≡ y) ⊎ (v ≡ y → ⊥) → (u ≡ x) ⊎ (u ≡ x → ⊥) → get_or (get_or (with_head rows x y) v []) u Empty ≡ injected (has_cell ((x, y) ∷ [])) (plane_of rows) (pos u) (pos v)
     cell u v (inl ev) (inl eu) =
         told u v true true (same_number x u (sym eu)) (same_number y v (sym ev)) (ap (λ row. get_or row u Empty) (get_or-set_at rows y v (slice_set (get_or rows y []) x Head) [] ev iny) ∙ get_or-set_at (get_or rows y []) x u Head Empty eu inx)
     cell u v (inl ev) (inr nu) =
@@ -61,13 +61,13 @@ with_head_shows x y rows iny inx = fun_ext (λ u. fun_ext (λ v. place u v))
     north true = refl
     north false = refl
 
-    place : (u v : ℤ) → plane_of (with_head rows x y) u v ≡ injected (is_among ((x, y) ∷ [])) (plane_of rows) u v
+    place : (u v : ℤ) → plane_of (with_head rows x y) u v ≡ injected (has_cell ((x, y) ∷ [])) (plane_of rows) u v
     place (pos u) (pos v) = cell u v (cases_eq v y) (cases_eq u x)
     place (pos u) (negsuc v) = north (int_eq (pos x) (pos u))
     place (negsuc u) v = refl
 
 -- one more cell, after the others
-pub injected_more : (cells : List (ℕ × ℕ)) (i : ℕ) (d : ℕ × ℕ) (p : Plane) → i < length cells → injected (is_among (get_or cells i d ∷ [])) (injected (is_among (take i cells)) p) ≡ injected (is_among (take (i + 1) cells)) p
+pub injected_more : (cells : List (ℕ × ℕ)) (i : ℕ) (d : ℕ × ℕ) (p : Plane) → i < length cells → injected (has_cell (get_or cells i d ∷ [])) (injected (has_cell (take i cells)) p) ≡ injected (has_cell (take (i + 1) cells)) p
 injected_more cells i d p h = fun_ext (λ x. fun_ext (λ y. place x y))
   where
     either : (a b : Bool) (s : State) → cond (b || false) Head (cond a Head s) ≡ cond (a || b) Head s
@@ -76,8 +76,8 @@ injected_more cells i d p h = fun_ext (λ x. fun_ext (λ y. place x y))
     either false true s = refl
     either false false s = refl
 
-    place : (x y : ℤ) → injected (is_among (get_or cells i d ∷ [])) (injected (is_among (take i cells)) p) x y ≡ injected (is_among (take (i + 1) cells)) p x y
+    place : (x y : ℤ) → injected (has_cell (get_or cells i d ∷ [])) (injected (has_cell (take i cells)) p) x y ≡ injected (has_cell (take (i + 1) cells)) p x y
     place x y =
         let test = λ (cell : ℕ × ℕ). int_eq (pos cell.0) x && int_eq (pos cell.1) y in
-        either (is_among (take i cells) x y) (test (get_or cells i d)) (p x y)
+        either (has_cell (take i cells) x y) (test (get_or cells i d)) (p x y)
         ∙ sym (ap (λ b. cond b Head (p x y)) (list_any_more test cells i d h))

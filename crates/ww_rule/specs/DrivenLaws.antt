@@ -2,7 +2,7 @@
 use Rattle.std.specs.Prelude.{ℤ, pos, ◌+ℤ◌, ◌-ℤ◌, ◌≤ℤ◌, ℕ, suc, ◌*◌, ◌<◌, ◌≤◌, ◌≡◌, ◌↔◌, Bool, true, false, List, ◌++◌, length, All, Contains}
 use Rattle.ww_rule.specs.declared.pattern.Injection.{Injection}
 use Rattle.ww_rule.specs.Wireworld.{Plane, Due, next_plane, evolve, injected, driven}
-use Rattle.ww_rule.specs.Injections.{is_among, cells_at, due_of_list, due_of_streams}
+use Rattle.ww_rule.specs.Injections.{has_cell, cells_at, due_of_list, due_of_streams}
 use Rattle.ww_rule.specs.Laws.{AgreeNear, moved, mirrored}
 
 -- the plane mirrored from north to south: the rows y and b - y change places
@@ -51,8 +51,8 @@ IsDrivenLocally =
 -- driven by a list: at generation 0 the cells of its injections of generation 0 are made heads, and then generation by generation
 -- the rule is followed by the injections of the new generation
 pub record StepsWithInjections (injections : List Injection) (p : Plane) : Type 0 where
-  pub begins : driven (due_of_list injections) p 0 ≡ injected (is_among (cells_at 0 injections)) p
-  pub steps : (g : ℕ) → driven (due_of_list injections) p (suc g) ≡ injected (is_among (cells_at (suc g) injections)) (next_plane (driven (due_of_list injections) p g))
+  pub begins : driven (due_of_list injections) p 0 ≡ injected (has_cell (cells_at 0 injections)) p
+  pub steps : (g : ℕ) → driven (due_of_list injections) p (suc g) ≡ injected (has_cell (cells_at (suc g) injections)) (next_plane (driven (due_of_list injections) p g))
 
 -- an injection of a list, at a generation and a cell
 pub record IsInjectionOf (injections : List Injection) (g : ℕ) (x y : ℤ) : Type 0 where

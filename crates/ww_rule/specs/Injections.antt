@@ -7,8 +7,8 @@ use Rattle.ww_rule.specs.declared.pattern.State.TheVariants.{Conductor}
 use Rattle.ww_rule.specs.Wireworld.{Plane, Due, next_plane, driven}
 
 -- is the cell at x, y one of these?
-abbrev pub is_among : List (ℕ × ℕ) → ℤ → ℤ → Bool
-is_among cells x y = list_any (λ cell. int_eq (pos cell.0) x && int_eq (pos cell.1) y) cells
+abbrev pub has_cell : List (ℕ × ℕ) → ℤ → ℤ → Bool
+has_cell cells x y = list_any (λ cell. int_eq (pos cell.0) x && int_eq (pos cell.1) y) cells
 
 -- the cells of the injections of a generation
 abbrev pub cells_at : ℕ → List Injection → List (ℕ × ℕ)
@@ -16,7 +16,7 @@ cells_at g injections = map (λ i. (i.x, i.y)) (filter (λ i. i.generation == g)
 
 -- what a list of injections makes due
 abbrev pub due_of_list : List Injection → Due
-due_of_list injections g = is_among (cells_at g injections)
+due_of_list injections g = has_cell (cells_at g injections)
 
 -- the injections of one cycle: at a generation, each cell whose bit is 1; cells without a bit and bits without a cell inject nothing
 abbrev pub injections_of_row : ℕ → List (ℕ × ℕ) → List Bool → List Injection

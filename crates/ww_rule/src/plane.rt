@@ -2,7 +2,7 @@
 ghost use Rattle.std.specs.Prelude.{◌≡◌, IfOk};
 ghost use Rattle.ww_rule.specs.Wireworld.{next_plane, injected};
 ghost use Rattle.ww_rule.specs.Grid.{IsGrid, AreInBox, plane_of};
-ghost use Rattle.ww_rule.specs.Injections.{is_among};
+ghost use Rattle.ww_rule.specs.Injections.{has_cell};
 
 use crate::error::RuleError;
 use crate::pattern::{Pattern, State};
@@ -37,25 +37,24 @@ impl Plane {
 
     /// The plane with these cells (x, y) of its box made heads, whatever they held: a pattern's generation 0, when it is
     /// driven.
-    pub fn inject(self, alloc: Global, injections: &[(u64, u64)]) -> Plane
+    pub fn inject(self, injections: &[(u64, u64)]) -> Plane
         requires in_box { AreInBox self.width self.height injections.now }
         ensures width { result.width ≡ self.width }
         ensures height { result.height ≡ self.height }
-        ensures cells { plane_of result.rows ≡ injected (is_among injections.now) (plane_of self.rows) }
+        ensures cells { plane_of result.rows ≡ injected (has_cell injections.now) (plane_of self.rows) }
     {
         let Plane {
             width,
             height,
-            rows,
+            mut rows,
         } = self;
-        let mut rows = rows.into_vec();
         for (x, y) in injections {
-            make_head(alloc, &mut rows, *x as usize, *y as usize);
+            make_head(rows.as_mut_slice(), *x as usize, *y as usize);
         }
         Plane {
             width,
             height,
-            rows: List::of(rows),
+            rows,
         }
     }
 }
@@ -105,8 +104,8 @@ pub fn step_driven(
     requires in_box { AreInBox plane.now.width plane.now.height injections.now }
     ensures width { IfOk result (λ next. next.width ≡ plane.now.width) }
     ensures height { IfOk result (λ next. next.height ≡ plane.now.height) }
-    ensures cells { IfOk result (λ next. plane_of next.rows ≡ injected (is_among injections.now) (next_plane (plane_of plane.now.rows))) }
+    ensures cells { IfOk result (λ next. plane_of next.rows ≡ injected (has_cell injections.now) (next_plane (plane_of plane.now.rows))) }
 {
     let next = step_plain(alloc, plane)?;
-    Ok(next.inject(alloc, injections))
+    Ok(next.inject(injections))
 }

@@ -8,7 +8,6 @@ use crate::error::RuleError;
 use crate::pattern::State;
 use lists::List;
 use std::alloc::Global;
-use std::mem;
 
 impl State {
     /// What a cell becomes, by its state and the number of its eight neighbours that are heads (Silverman's rule).
@@ -106,12 +105,10 @@ pub fn reversed(alloc: Global, rows: &[List<State>]) -> Result<List<List<State>>
 }
 
 /// Makes the cell of column x and row y a head.
-pub fn make_head(alloc: Global, rows: &mut [List<State>], x: usize, y: usize)
+pub fn make_head(rows: &mut [List<State>], x: usize, y: usize)
     requires in_rows { y < length rows.old }
     requires in_row { x < length (get_or rows.old y []) }
     ensures { rows.new ≡ slice_set rows.old y (slice_set (get_or rows.old y []) x Head) }
 {
-    let mut row = mem::replace(&mut rows[y], List::of(Vec::new(alloc))).into_vec();
-    row[x] = State::Head;
-    rows[y] = List::of(row);
+    rows[y].as_mut_slice()[x] = State::Head;
 }

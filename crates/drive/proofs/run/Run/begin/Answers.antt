@@ -1,7 +1,7 @@
 use Rattle.std.proofs.Common.{ap, sym, subst, ◌∙◌, ℕ, List}
 use Rattle.ww_rule.specs.Grid.{AreInBox, plane_of}
 use Rattle.ww_rule.specs.Wireworld.{injected}
-use Rattle.ww_rule.specs.Injections.{is_among}
+use Rattle.ww_rule.specs.Injections.{has_cell}
 use Rattle.drive.specs.Runs.{due_count}
 use Rattle.drive.proofs.Inside.{due_inside}
 use Rattle.drive.proofs.Left.{all_left, front_cells, left_after}
@@ -20,6 +20,6 @@ returns-clause-run c =
     let all = all_left injections c.requires.in_order in
     let cells = c.deref.ensures.value ∙ c.in_ok-cells.ensures ∙ front_cells 0 injections injections all c.split_due.result.0.now c.split_due.ensures.due in
     record {
-      plane = c.inject.ensures.cells ∙ ap (λ (cells : List (ℕ × ℕ)). injected (is_among cells) (plane_of c.args.pattern.rows)) cells;
+      plane = c.inject.ensures.cells ∙ ap (λ (cells : List (ℕ × ℕ)). injected (has_cell cells) (plane_of c.args.pattern.rows)) cells;
       left = left_after 0 injections injections all c.split_due.result.1.now c.split_due.ensures.left;
     }

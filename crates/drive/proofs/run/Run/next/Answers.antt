@@ -1,7 +1,7 @@
 use Rattle.std.proofs.Common.{◌+◌, refl, ap, sym, subst, ◌∙◌, arith, ℕ, List}
 use Rattle.ww_rule.specs.Grid.{AreInBox, plane_of}
 use Rattle.ww_rule.specs.Wireworld.{Plane, injected, next_plane}
-use Rattle.ww_rule.specs.Injections.{is_among, due_of_list}
+use Rattle.ww_rule.specs.Injections.{has_cell, due_of_list}
 use Rattle.drive.specs.Runs.{due_count}
 use Rattle.drive.proofs.Inside.{due_inside, left_inside}
 use Rattle.drive.proofs.Leads.{driven_next}
@@ -33,7 +33,7 @@ returns c =
           record {
             plane =
                 c.in_ok-plane.ensures.cells
-                ∙ ap (λ (cells : List (ℕ × ℕ)). injected (is_among cells) (next_plane now)) cells
+                ∙ ap (λ (cells : List (ℕ × ℕ)). injected (has_cell cells) (next_plane now)) cells
                 ∙ ap (λ (plane : Plane). injected (due (g + 1)) (next_plane plane)) of.plane
                 ∙ driven_next due start g (g + 1) (omega arith);
             left = left_after (g + 1) injections run.left.now of.left left c.split_due.ensures.left;

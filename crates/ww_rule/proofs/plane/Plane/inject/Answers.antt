@@ -2,7 +2,7 @@ use Rattle.std.proofs.Common.{◌≡◌, ◌<◌, [], ◌∷◌, ◌++◌, lengt
 use Rattle.std.proofs.lemmas.List.{take_at, take_all}
 use Rattle.ww_rule.specs.Wireworld.{injected}
 use Rattle.ww_rule.specs.Grid.{plane_of, IsGrid}
-use Rattle.ww_rule.specs.Injections.{is_among}
+use Rattle.ww_rule.specs.Injections.{has_cell}
 use Rattle.ww_rule.proofs.RowLemmas.{in_rows, in_row}
 use Rattle.ww_rule.proofs.Injected.{with_head, with_head_grid, with_head_shows, injected_more}
 use Rattle.ww_rule.proofs.plane.Plane.inject.Goals as goal
@@ -11,33 +11,33 @@ pub make_head-requires-clause-in_rows : goal.make_head-requires-clause-in_rows
 make_head-requires-clause-in_rows c =
     let cell = get_or c.args.injections.now c.loop-x.x-index (0, 0) in
     let box = c.requires.in_box c.loop-x.x-index (0, 0) c.loop-x-test.true in
-    subst (λ rows. cell.1 < length rows) (sym c.deref_mut.ensures.value) (in_rows c.args.self.width c.args.self.height cell.0 cell.1 c.loop-x.rows.items c.loop-x.invariant.grid box.0 box.1)
+    subst (λ rows. cell.1 < length rows) (sym c.as_mut_slice.ensures.value) (in_rows c.args.self.width c.args.self.height cell.0 cell.1 c.loop-x.rows c.loop-x.invariant.grid box.0 box.1)
 
 pub make_head-requires-clause-in_row : goal.make_head-requires-clause-in_row
 make_head-requires-clause-in_row c =
     let cell = get_or c.args.injections.now c.loop-x.x-index (0, 0) in
     let box = c.requires.in_box c.loop-x.x-index (0, 0) c.loop-x-test.true in
-    subst (λ rows. cell.0 < length (get_or rows cell.1 [])) (sym c.deref_mut.ensures.value) (in_row c.args.self.width c.args.self.height cell.0 cell.1 c.loop-x.rows.items c.loop-x.invariant.grid box.0 box.1)
+    subst (λ rows. cell.0 < length (get_or rows cell.1 [])) (sym c.as_mut_slice.ensures.value) (in_row c.args.self.width c.args.self.height cell.0 cell.1 c.loop-x.rows c.loop-x.invariant.grid box.0 box.1)
 
 pub loop-x-preserved : goal.loop-x-preserved
 loop-x-preserved c =
     let i = c.loop-x.x-index in
     let cells = c.args.injections.now in
     let cell = get_or cells i (0, 0) in
-    let rows = c.loop-x.rows.items in
+    let rows = c.loop-x.rows in
     let box = c.requires.in_box i (0, 0) c.loop-x-test.true in
     let iny = in_rows c.args.self.width c.args.self.height cell.0 cell.1 rows c.loop-x.invariant.grid box.0 box.1 in
     let inx = in_row c.args.self.width c.args.self.height cell.0 cell.1 rows c.loop-x.invariant.grid box.0 box.1 in
-    let made : c.make_head.new.rows ≡ with_head rows cell.0 cell.1 = c.make_head.ensures ∙ ap (λ rows. with_head rows cell.0 cell.1) c.deref_mut.ensures.value in
-    let back : take c.loop-x.rows.len (c.make_head.new.rows ++ drop (length c.make_head.new.rows) rows) ≡ with_head rows cell.0 cell.1 = take_at c.make_head.new.rows (drop (length c.make_head.new.rows) rows) c.loop-x.rows.len (omega arith) ∙ made in
+    let made : c.make_head.new.rows ≡ with_head rows cell.0 cell.1 = c.make_head.ensures ∙ ap (λ rows. with_head rows cell.0 cell.1) c.as_mut_slice.ensures.value in
+    let long : length c.as_mut_slice.result.now ≡ length rows = ap length c.as_mut_slice.ensures.value in
+    let back : take (length rows) (c.make_head.new.rows ++ drop (length c.make_head.new.rows) rows) ≡ with_head rows cell.0 cell.1 = take_at c.make_head.new.rows (drop (length c.make_head.new.rows) rows) (length rows) (omega (arith, long)) ∙ made in
     record {
       grid = subst (IsGrid c.args.self.width c.args.self.height) (sym back) (with_head_grid c.args.self.width c.args.self.height cell.0 cell.1 rows c.loop-x.invariant.grid iny);
-      cells = ap plane_of back ∙ with_head_shows cell.0 cell.1 rows iny inx ∙ ap (injected (is_among (cell ∷ []))) c.loop-x.invariant.cells ∙ injected_more cells i (0, 0) (plane_of c.args.self.rows) c.loop-x-test.true;
+      cells = ap plane_of back ∙ with_head_shows cell.0 cell.1 rows iny inx ∙ ap (injected (has_cell (cell ∷ []))) c.loop-x.invariant.cells ∙ injected_more cells i (0, 0) (plane_of c.args.self.rows) c.loop-x-test.true;
     }
 
 pub returns-clause-cells : goal.returns-clause-cells
 returns-clause-cells c =
     let all : take c.loop-x.x-index c.args.injections.now ≡ c.args.injections.now = take_all c.loop-x.x-index c.args.injections.now c.loop-x-test.false in
-    ap plane_of c.of.ensures
-    ∙ c.loop-x.invariant.cells
-    ∙ ap (λ cells. injected (is_among cells) (plane_of c.args.self.rows)) all
+    c.loop-x.invariant.cells
+    ∙ ap (λ cells. injected (has_cell cells) (plane_of c.args.self.rows)) all

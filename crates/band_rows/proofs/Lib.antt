@@ -1,0 +1,3 @@
+pub mod Bands
+pub mod Marks
+pub mod Same

@@ -1,0 +1,85 @@
+// Rows that stand one below the other.
+ghost use Rattle.std.specs.Prelude.{◌≡◌, ◌+◌, ◌-◌, ◌<◌, ◌≤◌, ◌+ℤ◌, ◌-ℤ◌, ℤ, pos, length};
+ghost use Rattle.ww_rule.specs.Wireworld.{Plane, next_plane};
+ghost use Rattle.lane_kernel.specs.Spans.{IsDarkBeyond};
+ghost use Rattle.band_rows.specs.Rows.{row_heads, row_tails, AreLong, IsEmptyWest, ShowRows, ShowsHeads};
+
+use crate::row::Row;
+use crate::span::Span;
+use std::alloc::Global;
+use std::mem;
+
+/// The next generation of rows, where the heads of the rows before and after them are known, and spans beyond which these
+/// have none. The spare rows hold anything.
+pub fn step_band(
+    alloc: Global,
+    rows: &mut [Row],
+    up: &[u64],
+    up_span: Span,
+    down: &[u64],
+    down_span: Span,
+    spare_heads: &mut [u64],
+    spare_wires: &mut [u64],
+)
+    requires long { AreLong (length up.now) rows.old }
+    requires down { length down.now ≡ length up.now }
+    requires up_within { up_span.end ≤ length up.now }
+    requires down_within { down_span.end ≤ length up.now }
+    requires spare_heads { length spare_heads.old ≡ length up.now }
+    requires spare_wires { length spare_wires.old ≡ length up.now }
+    requires dark_up { IsDarkBeyond up_span.first up_span.end up.now }
+    requires dark_down { IsDarkBeyond down_span.first down_span.end down.now }
+    ensures many { length rows.new ≡ length rows.old }
+    ensures long { AreLong (length up.now) rows.new }
+    ensures steps { (p : Plane) (y : ℤ) → IsEmptyWest p → ShowRows rows.old p y → ShowsHeads up.now p (y -ℤ pos 1) → ShowsHeads down.now p (y +ℤ pos (length rows.old)) → ShowRows rows.new (next_plane p) y }
+{
+    for r in 0..rows.len() {
+        let row = mem::replace(&mut rows[r], Row::dark(alloc));
+        let (above, above_span) = above_of(rows, r, up, up_span);
+        let (below, below_span) = below_of(rows, r, down, down_span);
+        rows[r] = row.next(
+            above,
+            above_span,
+            below,
+            below_span,
+            spare_heads,
+            spare_wires,
+        );
+    }
+}
+
+// The heads of the row before row r, which has stepped, and a span beyond which it has none.
+fn above_of<'a>(rows: &'a [Row], r: usize, up: &'a [u64], up_span: Span) -> (&'a [u64], Span)
+    requires place { r < length rows.now }
+    requires long { 0 < r → length (row_heads rows.now (r - 1)) ≡ length up.now }
+    requires within { up_span.end ≤ length up.now }
+    requires dark { IsDarkBeyond up_span.first up_span.end up.now }
+    ensures first { r ≡ 0 → result.0.now ≡ up.now }
+    ensures later { 0 < r → result.0.now ≡ row_tails rows.now (r - 1) }
+    ensures long { length result.0.now ≡ length up.now }
+    ensures within { result.1.end ≤ length up.now }
+    ensures dark { IsDarkBeyond result.1.first result.1.end result.0.now }
+{
+    if r == 0 {
+        return (up, up_span);
+    }
+    (rows[r - 1].tails.as_slice(), rows[r - 1].span)
+}
+
+// The heads of the row after row r, which has not stepped, and a span beyond which it has none.
+fn below_of<'a>(rows: &'a [Row], r: usize, down: &'a [u64], down_span: Span) -> (&'a [u64], Span)
+    requires place { r < length rows.now }
+    requires long { r + 1 < length rows.now → length (row_heads rows.now (r + 1)) ≡ length down.now }
+    requires within { down_span.end ≤ length down.now }
+    requires dark { IsDarkBeyond down_span.first down_span.end down.now }
+    ensures last { r + 1 ≡ length rows.now → result.0.now ≡ down.now }
+    ensures earlier { r + 1 < length rows.now → result.0.now ≡ row_heads rows.now (r + 1) }
+    ensures long { length result.0.now ≡ length down.now }
+    ensures within { result.1.end ≤ length down.now }
+    ensures dark { IsDarkBeyond result.1.first result.1.end result.0.now }
+{
+    if r + 1 == rows.len() {
+        return (down, down_span);
+    }
+    (rows[r + 1].heads.as_slice(), rows[r + 1].span)
+}

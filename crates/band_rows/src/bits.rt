@@ -1,0 +1,92 @@
+// Bits of rows of words.
+ghost use Rattle.std.specs.Prelude.{◌≡◌, ◌≢◌, ◌<◌, ◌≤◌, ◌*◌, ◌/◌, ◌==◌, ◌&&◌, ◌||◌, not, if◌then◌else◌, ℕ, length, get_or};
+ghost use Rattle.ww_rule.specs.declared.pattern.State.TheVariants.{Empty, Head};
+ghost use Rattle.lane_kernel.specs.Rows.{is_set, row_state, AreDisjoint};
+ghost use Rattle.band_rows.specs.Cells.{is_head, is_tail, is_wire};
+
+use ww_rule::State;
+
+/// Whether the bit of a cell is set.
+pub fn is_set(words: &[u64], x: usize) -> bool
+    ensures { result ≡ is_set words.now x }
+{
+    x / 64 < words.len() && (words[x / 64] >> (x % 64)) & 1 == 1
+}
+
+// Sets the bit of a cell.
+fn set_bit(words: &mut [u64], x: usize)
+    requires { x / 64 < length words.old }
+    ensures long { length words.new ≡ length words.old }
+    ensures cells { (k : ℕ) → is_set words.new k ≡ (k == x || is_set words.old k) }
+    ensures others { (j : ℕ) → j ≢ x / 64 → get_or words.new j 0 ≡ get_or words.old j 0 }
+{
+    words[x / 64] |= 1 << (x % 64);
+}
+
+// Clears the bit of a cell.
+fn clear_bit(words: &mut [u64], x: usize)
+    requires { x / 64 < length words.old }
+    ensures long { length words.new ≡ length words.old }
+    ensures cells { (k : ℕ) → is_set words.new k ≡ (not (k == x) && is_set words.old k) }
+    ensures others { (j : ℕ) → j ≢ x / 64 → get_or words.new j 0 ≡ get_or words.old j 0 }
+{
+    words[x / 64] &= !(1 << (x % 64));
+}
+
+// Sets the bit of a cell in the row of its state.
+fn mark(heads: &mut [u64], tails: &mut [u64], wires: &mut [u64], x: usize, state: State)
+    requires heads { x / 64 < length heads.old }
+    requires tails { length tails.old ≡ length heads.old }
+    requires wires { length wires.old ≡ length heads.old }
+    ensures long_heads { length heads.new ≡ length heads.old }
+    ensures long_tails { length tails.new ≡ length heads.old }
+    ensures long_wires { length wires.new ≡ length heads.old }
+    ensures heads { (k : ℕ) → is_set heads.new k ≡ ((k == x && is_head state) || is_set heads.old k) }
+    ensures tails { (k : ℕ) → is_set tails.new k ≡ ((k == x && is_tail state) || is_set tails.old k) }
+    ensures wires { (k : ℕ) → is_set wires.new k ≡ ((k == x && is_wire state) || is_set wires.old k) }
+{
+    match state {
+        State::Empty => {}
+        State::Head => set_bit(heads, x),
+        State::Tail => set_bit(tails, x),
+        State::Conductor => set_bit(wires, x),
+    }
+}
+
+/// Sets the bits of cells, from the first on, in rows that have none set.
+pub fn mark_all(heads: &mut [u64], tails: &mut [u64], wires: &mut [u64], cells: &[State])
+    requires long { length cells.now ≤ 64 * length heads.old }
+    requires long_tails { length tails.old ≡ length heads.old }
+    requires long_wires { length wires.old ≡ length heads.old }
+    requires dark_heads { (j : ℕ) → get_or heads.old j 0 ≡ 0 }
+    requires dark_tails { (j : ℕ) → get_or tails.old j 0 ≡ 0 }
+    requires dark_wires { (j : ℕ) → get_or wires.old j 0 ≡ 0 }
+    ensures long_heads { length heads.new ≡ length heads.old }
+    ensures long_tails { length tails.new ≡ length heads.old }
+    ensures long_wires { length wires.new ≡ length heads.old }
+    ensures apart { AreDisjoint heads.new tails.new wires.new }
+    ensures cells { (x : ℕ) → row_state heads.new tails.new wires.new x ≡ get_or cells.now x Empty }
+{
+    for (x, state) in cells.iter().enumerate() {
+        mark(heads, tails, wires, x, *state);
+    }
+}
+
+/// Makes a cell a head, whatever it held.
+pub fn put_head(heads: &mut [u64], tails: &mut [u64], wires: &mut [u64], x: usize)
+    requires heads { x / 64 < length heads.old }
+    requires tails { length tails.old ≡ length heads.old }
+    requires wires { length wires.old ≡ length heads.old }
+    requires apart { AreDisjoint heads.old tails.old wires.old }
+    ensures long_heads { length heads.new ≡ length heads.old }
+    ensures long_tails { length tails.new ≡ length heads.old }
+    ensures long_wires { length wires.new ≡ length heads.old }
+    ensures apart { AreDisjoint heads.new tails.new wires.new }
+    ensures cells { (k : ℕ) → row_state heads.new tails.new wires.new k ≡ (if k == x then Head else row_state heads.old tails.old wires.old k) }
+    ensures other_heads { (j : ℕ) → j ≢ x / 64 → get_or heads.new j 0 ≡ get_or heads.old j 0 }
+    ensures other_tails { (j : ℕ) → j ≢ x / 64 → get_or tails.new j 0 ≡ get_or tails.old j 0 }
+{
+    set_bit(heads, x);
+    clear_bit(tails, x);
+    clear_bit(wires, x);
+}

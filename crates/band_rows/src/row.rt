@@ -1,0 +1,214 @@
+// Rows that know where their light is.
+ghost use Rattle.std.specs.Prelude.{◌≡◌, ◌+◌, ◌-◌, ◌*◌, ◌/◌, ◌<◌, ◌≤◌, ◌^◌, ◌==◌, if◌then◌else◌, ℕ, List, pos, length, get_or, IfOk};
+ghost use Rattle.ww_rule.specs.declared.pattern.State.TheVariants.{Empty, Head};
+ghost use Rattle.ww_rule.specs.Wireworld.{next_plane};
+ghost use Rattle.lane_kernel.specs.Rows.{row_state, plane_of_rows, AreDisjoint};
+ghost use Rattle.lane_kernel.specs.Spans.{IsDarkBeyond};
+
+use crate::bits::{is_set, mark_all, put_head};
+use crate::span::{Span, hull, trimmed, widened};
+use lane_kernel::{one_after, one_before, step_span};
+use std::alloc::{AllocError, Global};
+use ww_rule::State;
+
+/// A row of heads, tails and wires, and a span beyond which it has no heads and no tails.
+#[derive(Drop)]
+pub struct Row {
+    pub heads: Vec<u64>,
+    pub tails: Vec<u64>,
+    pub wires: Vec<u64>,
+    pub span: Span,
+    ghost within: { span.end ≤ length heads.items },
+    ghost long_tails: { length tails.items ≡ length heads.items },
+    ghost long_wires: { length wires.items ≡ length heads.items },
+    ghost dark_heads: { IsDarkBeyond span.first span.end heads.items },
+    ghost dark_tails: { IsDarkBeyond span.first span.end tails.items },
+    ghost apart: { AreDisjoint heads.items tails.items wires.items },
+}
+
+// Words of a slice are below 2 ^ 64.
+fn all_fit(words: &[u64])
+    ensures { (j : ℕ) → get_or words.now j 0 < 2 ^ 64 }
+{
+    let _long = words.len();
+}
+
+// The next generation of a row in place, and where its light is then.
+fn step_lit(
+    above: &[u64],
+    above_span: Span,
+    heads: &mut [u64],
+    below: &[u64],
+    below_span: Span,
+    tails: &mut [u64],
+    wires: &mut [u64],
+    span: Span,
+    spare_heads: &mut [u64],
+    spare_wires: &mut [u64],
+) -> Span
+    requires above { length above.now ≡ length heads.old }
+    requires below { length below.now ≡ length heads.old }
+    requires tails { length tails.old ≡ length heads.old }
+    requires wires { length wires.old ≡ length heads.old }
+    requires spare_heads { length spare_heads.old ≡ length heads.old }
+    requires spare_wires { length spare_wires.old ≡ length heads.old }
+    requires above_within { above_span.end ≤ length heads.old }
+    requires below_within { below_span.end ≤ length heads.old }
+    requires within { span.end ≤ length heads.old }
+    requires dark_above { IsDarkBeyond above_span.first above_span.end above.now }
+    requires dark_below { IsDarkBeyond below_span.first below_span.end below.now }
+    requires dark_heads { IsDarkBeyond span.first span.end heads.old }
+    requires dark_tails { IsDarkBeyond span.first span.end tails.old }
+    requires apart { AreDisjoint heads.old tails.old wires.old }
+    ensures long_heads { length heads.new ≡ length heads.old }
+    ensures long_tails { length tails.new ≡ length heads.old }
+    ensures long_wires { length wires.new ≡ length heads.old }
+    ensures long_spare_heads { length spare_heads.new ≡ length heads.old }
+    ensures long_spare_wires { length spare_wires.new ≡ length heads.old }
+    ensures within { result.end ≤ length heads.old }
+    ensures dark_heads { IsDarkBeyond result.first result.end heads.new }
+    ensures dark_tails { IsDarkBeyond result.first result.end tails.new }
+    ensures apart { AreDisjoint heads.new tails.new wires.new }
+    ensures tails { (j : ℕ) → get_or tails.new j 0 ≡ get_or heads.old j 0 }
+    ensures cells { (x : ℕ) → row_state heads.new tails.new wires.new x ≡ next_plane (plane_of_rows above.now heads.old below.now tails.old wires.old) (pos x) (pos 1) }
+{
+    all_fit(heads);
+    let near = hull(above_span, hull(span, below_span));
+    if near.first == near.end {
+        return span;
+    }
+    let lo = one_before(near.first);
+    let hi = one_after(near.end, heads.len());
+    step_span(
+        above,
+        heads,
+        below,
+        tails,
+        wires,
+        near.first,
+        near.end,
+        spare_heads,
+        spare_wires,
+    );
+    trimmed(heads, tails, lo, hi)
+}
+
+impl Row {
+    ghost use Rattle.band_rows.specs.Rows.{state_in_row};
+
+    /// A row of cells, in so many words.
+    pub fn of_cells(alloc: Global, cells: &[State], words: usize) -> Result<Row, AllocError>
+        requires { length cells.now ≤ 64 * words }
+        ensures long { IfOk result (λ row. length row.heads.items ≡ words) }
+        ensures cells { IfOk result (λ row. (x : ℕ) → state_in_row row x ≡ get_or cells.now x Empty) }
+    {
+        let mut heads = vec![in alloc; 0; words]?;
+        let mut tails = vec![in alloc; 0; words]?;
+        let mut wires = vec![in alloc; 0; words]?;
+        mark_all(&mut heads, &mut tails, &mut wires, cells);
+        let span = trimmed(&heads, &tails, 0, words);
+        Ok(Row {
+            heads,
+            tails,
+            wires,
+            span,
+        })
+    }
+
+    /// The row with the cell of a column made a head, whatever it held.
+    pub fn with_head(self, x: usize) -> Row
+        requires { x / 64 < length self.heads.items }
+        ensures long { length result.heads.items ≡ length self.heads.items }
+        ensures cells { (k : ℕ) → state_in_row result k ≡ (if k == x then Head else state_in_row self k) }
+    {
+        let Row {
+            mut heads,
+            mut tails,
+            mut wires,
+            span,
+        } = self;
+        put_head(&mut heads, &mut tails, &mut wires, x);
+        Row {
+            heads,
+            tails,
+            wires,
+            span: widened(span, x / 64),
+        }
+    }
+
+    /// The state of the cell of a column.
+    pub fn state(&self, x: usize) -> State
+        ensures { result ≡ state_in_row self.now x }
+    {
+        if is_set(&self.heads, x) {
+            State::Head
+        } else if is_set(&self.tails, x) {
+            State::Tail
+        } else if is_set(&self.wires, x) {
+            State::Conductor
+        } else {
+            State::Empty
+        }
+    }
+
+    /// A row without words.
+    pub fn dark(alloc: Global) -> Row {
+        Row {
+            heads: Vec::new(alloc),
+            tails: Vec::new(alloc),
+            wires: Vec::new(alloc),
+            span: Span { first: 0, end: 0 },
+        }
+    }
+
+    /// The next generation of a row between two others, of which the heads are asked for and spans beyond which they have
+    /// none. The spare rows hold anything.
+    pub fn next(
+        self,
+        above: &[u64],
+        above_span: Span,
+        below: &[u64],
+        below_span: Span,
+        spare_heads: &mut [u64],
+        spare_wires: &mut [u64],
+    ) -> Row
+        requires above { length above.now ≡ length self.heads.items }
+        requires below { length below.now ≡ length self.heads.items }
+        requires above_within { above_span.end ≤ length self.heads.items }
+        requires below_within { below_span.end ≤ length self.heads.items }
+        requires spare_heads { length spare_heads.old ≡ length self.heads.items }
+        requires spare_wires { length spare_wires.old ≡ length self.heads.items }
+        requires dark_above { IsDarkBeyond above_span.first above_span.end above.now }
+        requires dark_below { IsDarkBeyond below_span.first below_span.end below.now }
+        ensures long { length result.heads.items ≡ length self.heads.items }
+        ensures long_spare_heads { length spare_heads.new ≡ length self.heads.items }
+        ensures long_spare_wires { length spare_wires.new ≡ length self.heads.items }
+        ensures tails { (j : ℕ) → get_or result.tails.items j 0 ≡ get_or self.heads.items j 0 }
+        ensures cells { (x : ℕ) → row_state result.heads.items result.tails.items result.wires.items x ≡ next_plane (plane_of_rows above.now self.heads.items below.now self.tails.items self.wires.items) (pos x) (pos 1) }
+    {
+        let Row {
+            mut heads,
+            mut tails,
+            mut wires,
+            span,
+        } = self;
+        let span = step_lit(
+            above,
+            above_span,
+            &mut heads,
+            below,
+            below_span,
+            &mut tails,
+            &mut wires,
+            span,
+            spare_heads,
+            spare_wires,
+        );
+        Row {
+            heads,
+            tails,
+            wires,
+            span,
+        }
+    }
+}

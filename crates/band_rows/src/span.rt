@@ -1,0 +1,86 @@
+// Spans of words.
+ghost use Rattle.std.specs.Prelude.{◌≡◌, ◌+◌, ◌-◌, ◌<◌, ◌≤◌, ◌^◌, ◌≢◌, ℕ, List, length, get_or, true, false, Some, None, IfSome};
+ghost use Rattle.lane_kernel.specs.Rows.{is_set};
+ghost use Rattle.lane_kernel.specs.Spans.{IsDarkBeyond};
+
+/// The words from `first` up to `end`.
+#[derive(Clone, Copy)]
+pub struct Span {
+    pub first: usize,
+    pub end: usize,
+    ghost order: { first ≤ end },
+}
+
+/// A span that has both spans in it.
+pub fn hull(a: Span, b: Span) -> Span
+    ensures first { (words : List ℕ) → IsDarkBeyond a.first a.end words → IsDarkBeyond result.first result.end words }
+    ensures second { (words : List ℕ) → IsDarkBeyond b.first b.end words → IsDarkBeyond result.first result.end words }
+    ensures within { (n : ℕ) → a.end ≤ n → b.end ≤ n → result.end ≤ n }
+{
+    if a.first == a.end {
+        return b;
+    }
+    if b.first == b.end {
+        return a;
+    }
+    Span {
+        first: if a.first < b.first { a.first } else { b.first },
+        end: if a.end < b.end { b.end } else { a.end },
+    }
+}
+
+/// The span of the words that are not 0 in one of two rows.
+pub fn trimmed(heads: &[u64], tails: &[u64], first: usize, end: usize) -> Span
+    requires order { first ≤ end }
+    requires within { end ≤ length heads.now }
+    requires long_tails { length tails.now ≡ length heads.now }
+    requires heads { IsDarkBeyond first end heads.now }
+    requires tails { IsDarkBeyond first end tails.now }
+    ensures within { result.end ≤ length heads.now }
+    ensures heads { IsDarkBeyond result.first result.end heads.now }
+    ensures tails { IsDarkBeyond result.first result.end tails.now }
+{
+    let mut a = first;
+    while a < end && heads[a] | tails[a] == 0 {
+        a += 1;
+    }
+    let mut b = end;
+    while a < b && heads[b - 1] | tails[b - 1] == 0 {
+        b -= 1;
+    }
+    Span { first: a, end: b }
+}
+
+/// A span that has the word j besides.
+pub fn widened(span: Span, j: usize) -> Span
+    requires { j + 1 < 2 ^ 64 }
+    ensures wider { (old new : List ℕ) → ((i : ℕ) → i ≢ j → get_or new i 0 ≡ get_or old i 0) → IsDarkBeyond span.first span.end old → IsDarkBeyond result.first result.end new }
+    ensures within { (n : ℕ) → j < n → span.end ≤ n → result.end ≤ n }
+{
+    if span.first == span.end {
+        return Span {
+            first: j,
+            end: j + 1,
+        };
+    }
+    Span {
+        first: span.first.min(j),
+        end: span.end.max(j + 1),
+    }
+}
+
+/// The place of some bit that is set, among words that are dark beyond a span.
+pub fn first_bit(words: &[u64], span: Span) -> Option<usize>
+    requires within { span.end ≤ length words.now }
+    requires dark { IsDarkBeyond span.first span.end words.now }
+    requires few { length words.now ≤ 2 ^ 58 }
+    ensures found { IfSome result (λ x. is_set words.now x ≡ true) }
+    ensures none { result ≡ None → (x : ℕ) → is_set words.now x ≡ false }
+{
+    for j in span.first..span.end {
+        if words[j] != 0 {
+            return Some(64 * j + words[j].trailing_zeros() as usize);
+        }
+    }
+    None
+}

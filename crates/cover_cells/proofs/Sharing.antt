@@ -1,0 +1,81 @@
+-- Cells that are there already.
+use Rattle.std.proofs.Common.{◌≡◌, refl, sym, ◌∙◌, ap, ap₂, ℕ, ◌+◌, ◌<◌, Bool, true, false, ◌&&◌, ◌||◌, not, List, ◌++◌, take, drop, length, get_or, ◌⊎◌, inl, ⊎_elim, arith}
+use Rattle.std.proofs.lemmas.Bool.{and_parts, lt-ltb, true≢false}
+use Rattle.std.proofs.lemmas.List.{take_more, take-append-drop, length-take-le}
+use Rattle.std.proofs.lemmas.Option.{slice_get_within, get_or_from_slice_get}
+use Rattle.cell_core.specs.declared.cells.Src.{Src}
+use Rattle.cell_core.specs.declared.cells.Src.TheVariants.{One, Cell as Made}
+use Rattle.cell_core.specs.declared.cells.Cell.{Cell}
+use Rattle.cell_core.specs.declared.cells.Cell.TheVariants.{Or, Xor, AndNot}
+use Rattle.cell_core.specs.declared.list.CellList.{CellList}
+use Rattle.cell_core.specs.Sources.{is_there, reads_there, is_one, reads_one}
+use Rattle.cell_core.specs.Meaning.{cell_bit, cell_bits, bit_in}
+use Rattle.cell_core.proofs.Bits.{appending_keeps_bits, pushed_bit}
+use Rattle.cover_cells.specs.Grown.{HasSource, Answers, IsCell}
+use Rattle.cover_cells.proofs.Growing.{grows, grows_refl, answers}
+use Rattle.cover_cells.proofs.Tabled.{cell_in_order}
+
+-- a cell that reads only the first cells has its bit by them
+cell_kept : (inputs state : List Bool) (cells more : List Cell) (count latches : ℕ) (cell : Cell) → reads_there count latches (length cells) cell ≡ true
+    → cell_bit inputs state (cell_bits inputs state (cells ++ more)) cell ≡ cell_bit inputs state (cell_bits inputs state cells) cell
+cell_kept inputs state cells more count latches (Or a b) there =
+    ap₂ (λ x y. x || y) (appending_keeps_bits cells more inputs state latches count a (and_parts _ _ there).0) (appending_keeps_bits cells more inputs state latches count b (and_parts _ _ there).1)
+cell_kept inputs state cells more count latches (Xor a b) there =
+    ap₂ (λ x y. (x || y) && not (x && y)) (appending_keeps_bits cells more inputs state latches count a (and_parts _ _ there).0) (appending_keeps_bits cells more inputs state latches count b (and_parts _ _ there).1)
+cell_kept inputs state cells more count latches (AndNot a b) there =
+    ap₂ (λ x y. x && not y) (appending_keeps_bits cells more inputs state latches count a (and_parts _ _ there).0) (appending_keeps_bits cells more inputs state latches count b (and_parts _ _ there).1)
+
+-- the bit of a cell of a list is what the cell makes of the list's bits
+pub bit_of_cell : (list : CellList) (k : ℕ) (d : Cell) (inputs state : List Bool) → k < length list.cells
+    → bit_in list.cells inputs state (Made k) ≡ cell_bit inputs state (cell_bits inputs state list.cells) (get_or list.cells k d)
+bit_of_cell list k d inputs state within =
+    let cells = list.cells in
+    let cell = get_or cells k d in
+    let front = take k cells in
+    let long : length front ≡ k = length-take-le k cells (omega arith) in
+    let long' : length (take (k + 1) cells) ≡ k + 1 = length-take-le (k + 1) cells (omega arith) in
+    let e : 0 + k ≡ length front = omega arith in
+    let reads : reads_there list.inputs (length list.starts) (length front) cell ≡ true =
+    ap (λ n. reads_there list.inputs (length list.starts) n cell) (sym e) ∙ cell_in_order list.inputs (length list.starts) 0 cells k d within list.in_order in
+    let whole : (n : ℕ) → take n cells ++ drop n cells ≡ cells = λ n. take-append-drop n cells in
+    ap (λ c. bit_in c inputs state (Made k)) (sym (whole (k + 1)))
+    ∙ appending_keeps_bits (take (k + 1) cells) (drop (k + 1) cells) inputs state 0 0 (Made k) (lt-ltb k (length (take (k + 1) cells)) (omega arith))
+    ∙ ap (λ c. bit_in c inputs state (Made k)) (take_more cells k d within)
+    ∙ pushed_bit inputs state front cell k long
+    ∙ sym (cell_kept inputs state front (drop k cells) list.inputs (length list.starts) cell reads)
+    ∙ ap (λ c. cell_bit inputs state (cell_bits inputs state c) cell) (whole k)
+
+pub cell_there : (list : CellList) (src : Src) (cell : Cell) → IsCell list src cell → HasSource list src
+cell_there list src cell (k, is, at) =
+    ap (λ s. is_there list.inputs (length list.starts) (length list.cells) s) is ∙ lt-ltb k (length list.cells) (slice_get_within list.cells k cell at)
+
+pub cell_says : (list : CellList) (src : Src) (cell : Cell) → IsCell list src cell → (inputs state : List Bool) → bit_in list.cells inputs state src ≡ cell_bit inputs state (cell_bits inputs state list.cells) cell
+cell_says list src cell (k, is, at) inputs state =
+    ap (bit_in list.cells inputs state) is ∙ bit_of_cell list k cell inputs state (slice_get_within list.cells k cell at)
+    ∙ ap (cell_bit inputs state (cell_bits inputs state list.cells)) (get_or_from_slice_get list.cells k cell cell at)
+
+pub cell_not_one : (list : CellList) (src : Src) (cell : Cell) → IsCell list src cell → is_one src ≡ true → ⊥
+cell_not_one list src cell (k, is, at) e = true≢false (sym e ∙ ap is_one is)
+
+-- a cell that is there answers
+pub shared : (list : CellList) (src : Src) (cell : Cell) → IsCell list src cell → Answers list list 1 (reads_one cell ≡ true) src (λ inputs state. cell_bit inputs state (cell_bits inputs state list.cells) cell)
+shared list src cell is =
+    record {
+      grows = grows list list list 0 0 1 _ _ _ (grows_refl list (reads_one cell ≡ true)) (grows_refl list (reads_one cell ≡ true)) (λ p. p) (λ p. p) (omega arith);
+      there = cell_there list src cell is;
+      one = λ e. absurd (cell_not_one list src cell is e);
+      bit = cell_says list src cell is;
+    }
+
+-- both, where the second has a negation
+unnegated : (a b n : Bool) → n ≡ (true && not b) → (a && not n) ≡ (a && b)
+unnegated true true n e = ap not e
+unnegated true false n e = ap not e
+unnegated false b n e = refl
+
+pub both_by_negation : (l l' : CellList) (a b negation src : Src) → IsCell l negation (AndNot One b)
+    → Answers l l' 1 ((is_one a ≡ true) ⊎ (is_one negation ≡ true)) src (λ inputs state. bit_in l.cells inputs state a && not (bit_in l.cells inputs state negation))
+    → Answers l l' 2 ((is_one a ≡ true) ⊎ (is_one b ≡ true)) src (λ inputs state. bit_in l.cells inputs state a && bit_in l.cells inputs state b)
+both_by_negation l l' a b negation src is h =
+    answers l l l' 0 1 2 ((is_one a ≡ true) ⊎ (is_one b ≡ true)) _ _ src _ (grows_refl l ((is_one a ≡ true) ⊎ (is_one b ≡ true))) h (λ p. p) (λ q. ⊎_elim inl (λ e. absurd (cell_not_one l negation (AndNot One b) is e)) q) (omega arith)
+    _ (λ inputs state. unnegated (bit_in l.cells inputs state a) (bit_in l.cells inputs state b) (bit_in l.cells inputs state negation) (cell_says l negation (AndNot One b) is inputs state))

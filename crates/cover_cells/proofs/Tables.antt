@@ -1,0 +1,66 @@
+-- A bit of a word operation is the operation on bits, and six bits name a bit of a word.
+use Rattle.std.proofs.Common.{◌≡◌, refl, sym, ◌∙◌, ap, subst, ℕ, suc, zero, ◌+◌, ◌-◌, ◌*◌, ◌/◌, ◌%◌, ◌^◌, ◌<◌, ◌≤◌, ◌==◌, min, max, Bool, true, false, cond, ◌&&◌, ◌||◌, not, List, [], ◌∷◌, length, get_or, ◌⊎◌, inl, inr, ⊎_elim, arith, bit_and, bit_or}
+use Rattle.std.specs.Int.{bit_at, bit_not, w64}
+use Rattle.std.specs.Int.RustNames.{bit_xor}
+use Rattle.std.proofs.lemmas.Bool.{agree_below, agree_below_at}
+use Rattle.std.proofs.lemmas.Nat.Bits.{bit_at-lt, bit_at_and, bit_at_or, bit_at_xor, bit_at_not, bit_at-suc, bit_at_lowest, bit_at-zero}
+use Rattle.cover_cells.specs.Words.{word_bit, number_of, shown}
+
+-- ---- digits
+digit : (x : ℕ) → x < 2 → (x ≡ 0) ⊎ (x ≡ 1)
+digit zero lt = inl refl
+digit (suc zero) lt = inr refl
+digit (suc (suc x)) lt = absurd (omega arith)
+
+pub by_digits : (P : ℕ → ℕ → Type 0) → P 0 0 → P 0 1 → P 1 0 → P 1 1 → (x y : ℕ) → x < 2 → y < 2 → P x y
+by_digits P p00 p01 p10 p11 x y lx ly =
+    ⊎_elim
+    (λ x0. ⊎_elim (λ y0. subst (λ a. P a y) (sym x0) (subst (P 0) (sym y0) p00)) (λ y1. subst (λ a. P a y) (sym x0) (subst (P 0) (sym y1) p01)) (digit y ly))
+    (λ x1. ⊎_elim (λ y0. subst (λ a. P a y) (sym x1) (subst (P 1) (sym y0) p10)) (λ y1. subst (λ a. P a y) (sym x1) (subst (P 1) (sym y1) p11)) (digit y ly))
+    (digit x lx)
+
+pub word_bit_or : (a b n : ℕ) → word_bit (bit_or a b) n ≡ (word_bit a n || word_bit b n)
+word_bit_or a b n = ap (λ x. x == 1) (bit_at_or a b n) ∙ by_digits (λ x y. (max x y == 1) ≡ ((x == 1) || (y == 1))) refl refl refl refl (bit_at a n) (bit_at b n) (bit_at-lt a n) (bit_at-lt b n)
+
+pub word_bit_and : (a b n : ℕ) → word_bit (bit_and a b) n ≡ (word_bit a n && word_bit b n)
+word_bit_and a b n = ap (λ x. x == 1) (bit_at_and a b n) ∙ by_digits (λ x y. (min x y == 1) ≡ ((x == 1) && (y == 1))) refl refl refl refl (bit_at a n) (bit_at b n) (bit_at-lt a n) (bit_at-lt b n)
+
+pub word_bit_xor : (a b n : ℕ) → word_bit (bit_xor a b) n ≡ ((word_bit a n || word_bit b n) && not (word_bit a n && word_bit b n))
+word_bit_xor a b n =
+    ap (λ x. x == 1) (bit_at_xor a b n)
+    ∙ by_digits (λ x y. ((x + y) % 2 == 1) ≡ (((x == 1) || (y == 1)) && not ((x == 1) && (y == 1)))) refl refl refl refl (bit_at a n) (bit_at b n) (bit_at-lt a n) (bit_at-lt b n)
+
+pub word_bit_not : (a n : ℕ) → a < 2 ^ 64 → n < 64 → word_bit (bit_not w64 a) n ≡ not (word_bit a n)
+word_bit_not a n small within =
+    ap (λ x. x == 1) (bit_at_not w64 a n small within) ∙ by_digits (λ x y. (1 - x == 1) ≡ not (x == 1)) refl refl refl refl (bit_at a n) 0 (bit_at-lt a n) (omega arith)
+
+pub word_bit_and_not : (a b n : ℕ) → b < 2 ^ 64 → n < 64 → word_bit (bit_and a (bit_not w64 b)) n ≡ (word_bit a n && not (word_bit b n))
+word_bit_and_not a b n small within = word_bit_and a (bit_not w64 b) n ∙ ap (λ t. word_bit a n && t) (word_bit_not b n small within)
+
+-- ---- the number of bits
+halved : (b : Bool) (n : ℕ) → ((cond b 1 0 + 2 * n) / 2 ≡ n) × (((cond b 1 0 + 2 * n) % 2 == 1) ≡ b)
+halved true n = (omega arith, (let e : (1 + 2 * n) % 2 ≡ 1 = omega arith in ap (λ x. x == 1) e))
+halved false n = (omega arith, (let e : (0 + 2 * n) % 2 ≡ 0 = omega arith in ap (λ x. x == 1) e))
+
+-- bit i of the number is the i-th of the bits
+pub bit_of_number : (bits : List Bool) (i : ℕ) → word_bit (number_of bits) i ≡ get_or bits i false
+bit_of_number [] i = ap (λ x. x == 1) (bit_at-zero i)
+bit_of_number (b ∷ bits) zero = ap (λ x. x == 1) (bit_at_lowest (number_of (b ∷ bits))) ∙ (halved b (number_of bits)).1
+bit_of_number (b ∷ bits) (suc i) = ap (λ x. x == 1) (bit_at-suc (number_of (b ∷ bits)) i ∙ ap (λ n. bit_at n i) (halved b (number_of bits)).0) ∙ bit_of_number bits i
+
+wider : (n m : ℕ) → ((bits : List Bool) → length bits ≤ n → number_of bits < m) → (bits : List Bool) → length bits ≤ n + 1 → number_of bits < 2 * m
+wider n m small [] le = let e : 0 < m = small [] (omega arith) in omega arith
+wider n m small (true ∷ bits) le = let e : number_of bits < m = small bits (omega arith) in omega arith
+wider n m small (false ∷ bits) le = let e : number_of bits < m = small bits (omega arith) in omega arith
+
+none_small : (bits : List Bool) → length bits ≤ 0 → number_of bits < 1
+none_small [] le = omega arith
+none_small (b ∷ bits) le = absurd (omega arith)
+
+pub number_small : (bits : List Bool) → length bits ≤ 6 → number_of bits < 64
+number_small = wider 5 32 (wider 4 16 (wider 3 8 (wider 2 4 (wider 1 2 (wider 0 1 none_small)))))
+
+-- ---- the tables of nets
+-- bit n of the table is bit i of n
+pub net_shown : (word i : ℕ) (bits : List Bool) → length bits ≤ 6 → agree_below (λ n. word_bit word n) (λ n. word_bit n i) 64 ≡ true → shown bits word ≡ get_or bits i false
+net_shown word i bits le agree = agree_below_at (λ n. word_bit word n) (λ n. word_bit n i) 64 (number_of bits) agree (number_small bits le) ∙ bit_of_number bits i

@@ -1,0 +1,50 @@
+-- What is said of the cells of a cover.
+use Rattle.std.specs.Prelude.{ℕ, ◌+◌, ◌*◌, ◌==◌, ◌≡◌, ◌≢◌, ◌⊎◌, Bool, true, false, not, List, [], length, sum_by, take, get_or, nat_lt, cond}
+use Rattle.std.specs.List.{list_any}
+use Rattle.netlist_core.specs.OwnWeight.{literals}
+use Rattle.netlist_meaning.specs.CoverValue.{product_holds, any_holds, cover_value}
+use Rattle.cell_core.specs.declared.cells.Src.{Src}
+use Rattle.cell_core.specs.declared.cells.Src.TheVariants.{One}
+use Rattle.cell_core.specs.declared.list.CellList.{CellList}
+use Rattle.cell_core.specs.Sources.{is_one}
+use Rattle.cover_cells.specs.Grown.{bits_of, Answers}
+
+-- one for the cover, one for each row, and one for each `0` and `1`
+abbrev pub rows_weight : List (List ℕ) → ℕ
+rows_weight rows = 1 + length rows + sum_by literals rows
+
+-- the source at a place, or constant 1 where it is not among the first so many
+abbrev pub start_of : List Src → ℕ → ℕ → Src
+start_of sources first width = cond (nat_lt first width) (get_or sources first One) One
+
+-- the row has a `1` under none of the sources
+abbrev pub has_no_positive : ℕ → List ℕ → Bool
+has_no_positive count row = not (list_any (λ character. character == 49) (take count row))
+
+abbrev pub some_is_one : List Src → Bool
+some_is_one sources = list_any is_one sources
+
+-- constant 1 is needed for a row
+abbrev pub RowNeedsOne : List Src → List ℕ → Type 0
+RowNeedsOne sources row = (some_is_one sources ≡ true) ⊎ (has_no_positive (length sources) row ≡ true)
+
+abbrev pub RowsNeedOne : List Src → List (List ℕ) → Type 0
+RowsNeedOne sources rows = (some_is_one sources ≡ true) ⊎ (list_any (has_no_positive (length sources)) rows ≡ true)
+
+abbrev pub CoverNeedsOne : List Src → List (List ℕ) → Bool → Type 0
+CoverNeedsOne sources rows on = RowsNeedOne sources rows ⊎ ((on ≡ false) × (rows ≢ []))
+
+-- the source has the value of the row, with no more than two cells for each literal
+abbrev pub AnswersRow : CellList → CellList → List Src → List ℕ → Src → Type 0
+AnswersRow old new sources row src =
+    Answers old new (2 * literals row) (RowNeedsOne sources row) src (λ inputs state. product_holds row (bits_of old sources inputs state))
+
+-- the value of some of the rows, with a cell more for each row
+abbrev pub AnswersRows : CellList → CellList → List Src → List (List ℕ) → Src → Type 0
+AnswersRows old new sources rows src =
+    Answers old new (length rows + 2 * sum_by literals rows) (RowsNeedOne sources rows) src (λ inputs state. any_holds rows (bits_of old sources inputs state))
+
+-- the value of the cover, with no more cells than twice its weight
+abbrev pub AnswersCover : CellList → CellList → List Src → List (List ℕ) → Bool → Src → Type 0
+AnswersCover old new sources rows on src =
+    Answers old new (2 * rows_weight rows) (CoverNeedsOne sources rows on) src (λ inputs state. cover_value rows on (bits_of old sources inputs state))

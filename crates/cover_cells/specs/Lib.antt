@@ -1,0 +1,6 @@
+pub mod Grown
+pub mod Covers
+pub mod Singles
+pub mod Words
+pub mod Placed
+pub mod Suits

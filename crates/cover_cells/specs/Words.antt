@@ -1,0 +1,29 @@
+-- Words of 64 bits as tables: the bit at a number is the value where the nets' bits make that number.
+use Rattle.std.specs.Prelude.{ℕ, ◌+◌, ◌*◌, ◌==◌, ◌≡◌, Bool, true, cond, List, [], ◌∷◌, map, length}
+use Rattle.std.specs.Int.{bit_at}
+use Rattle.cell_core.specs.declared.cells.Src.{Src}
+use Rattle.cell_core.specs.declared.cells.Cell.{Cell}
+use Rattle.cell_core.specs.Sources.{is_there, are_in_order}
+use Rattle.cell_core.specs.Meaning.{bit_in}
+
+abbrev pub word_bit : ℕ → ℕ → Bool
+word_bit word n = bit_at word n == 1
+
+-- the number that bits make, the first of them lowest
+abbrev pub number_of : List Bool → ℕ
+number_of [] = 0
+number_of (bit ∷ bits) = cond bit 1 0 + 2 * number_of bits
+
+-- what a word says where the nets have these bits
+abbrev pub shown : List Bool → ℕ → Bool
+shown bits word = word_bit word (number_of bits)
+
+-- the words say these bits
+abbrev pub Show : List Bool → List ℕ → List Bool → Type 0
+Show bits words made = map (shown bits) words ≡ made
+
+-- the cells are in order, and their root has the table's bits
+pub record Computes (cells : List Cell) (root : Src) (nets table : ℕ) : Type 0 where
+  pub in_order : are_in_order nets 0 0 cells ≡ true
+  pub there : is_there nets 0 (length cells) root ≡ true
+  pub bits : (bits : List Bool) → length bits ≡ nets → bit_in cells bits [] root ≡ shown bits table

@@ -1,0 +1,179 @@
+// A cover as cells: one cell, or cells that a search found, or its rows.
+ghost use Rattle.std.specs.Prelude.{◌≡◌, ◌==◌, ◌∷◌, [], ◌⊎◌, ◌≤◌, ◌*◌, min, true, length, IsTrue, IfOk, IfSome, Some};
+ghost use Rattle.std.specs.List.{list_any};
+ghost use Rattle.netlist_core.specs.OwnWeight.{literals};
+ghost use Rattle.cell_core.specs.Meaning.{bit_in};
+ghost use Rattle.cell_core.specs.Sources.{are_there, is_one, reads_one, read_one};
+ghost use Rattle.cover_cells.specs.Grown.{HasSources, bits_of, Answers, IsCell};
+ghost use Rattle.cover_cells.specs.Covers.{rows_weight, has_no_positive, CoverNeedsOne, AnswersCover};
+ghost use Rattle.cover_cells.specs.Placed.{ReadsOne};
+ghost use Rattle.cover_cells.specs.Singles.{single_cell};
+ghost use Rattle.cell_core.specs.declared.cells.Cell.{Cell};
+ghost use Rattle.cover_cells.specs.Suits.{Suits, StandsAlone, ReadsOneRoot};
+
+use crate::placed::{moved, place};
+use crate::rows::map_rows;
+use crate::search::{Found, search};
+use crate::shared::{Places, share};
+use crate::singles::single_cell;
+use crate::words::{computes, rows_word};
+use cell_core::{Cell, CellError, CellList, Src};
+use lists::Bytes;
+use std::alloc::Global;
+
+// How many characters of a row are `0` or `1`.
+fn literals(row: &[u8]) -> usize
+    ensures { result ≡ literals row.now }
+{
+    row.iter()
+        .filter(|character| **character == b'0' || **character == b'1')
+        .count()
+}
+
+// The weight of a cover with these rows, at most the greatest u64.
+fn rows_weight(rows: &[Bytes]) -> u64
+    ensures { result ≡ min (rows_weight rows.now) u64.MAX }
+{
+    let mut weight = (rows.len() as u64).saturating_add(1);
+    for row in rows {
+        weight = weight.saturating_add(literals(row.as_slice()) as u64);
+    }
+    weight
+}
+
+// Whether some of the cells reads constant 1.
+fn read_one(cells: &[Cell]) -> bool
+    ensures { result ≡ read_one cells.now }
+{
+    cells.iter().any(|cell| cell.reads_one())
+}
+
+// Whether the row has a `1`.
+fn has_positive(row: &[u8]) -> bool
+    ensures { result ≡ list_any (λ character. character == 49) row.now }
+{
+    row.iter().any(|character| *character == b'1')
+}
+
+// Whether the row has a `1` under none of the sources.
+fn has_no_positive(count: usize, row: &[u8]) -> bool
+    ensures { result ≡ has_no_positive count row.now }
+{
+    !has_positive(&row[..count.min(row.len())])
+}
+
+// Whether constant 1 may be used for the cover.
+fn needs_one(sources: &[Src], rows: &[Bytes], on: bool) -> bool
+    ensures { IsTrue result → CoverNeedsOne sources.now rows.now on }
+{
+    if sources.iter().any(|src| src.is_one()) {
+        return true;
+    }
+    if rows
+        .iter()
+        .any(|row| has_no_positive(sources.len(), row.as_slice()))
+    {
+        return true;
+    }
+    if on {
+        return false;
+    }
+    !rows.is_empty()
+}
+
+// Whether what was found is no larger than it may be, and uses constant 1 only where it may.
+fn is_small(found: &Found, sources: &[Src], rows: &[Bytes], on: bool) -> bool
+    ensures few { IsTrue result → length found.now.cells ≤ 2 * rows_weight rows.now }
+    ensures one { IsTrue result → ReadsOneRoot found.now → CoverNeedsOne sources.now rows.now on }
+{
+    if found.cells.len() as u64 > rows_weight(rows).saturating_mul(2) {
+        return false;
+    }
+    if read_one(found.cells.as_slice()) {
+        return needs_one(sources, rows, on);
+    }
+    if found.root.is_one() {
+        return needs_one(sources, rows, on);
+    }
+    true
+}
+
+// Cells for a cover of at most six nets, if the search finds what suits.
+fn suiting(
+    alloc: Global,
+    sources: &[Src],
+    rows: &[Bytes],
+    on: bool,
+) -> Result<Option<Found>, CellError>
+    ensures { IfOk result (λ some. IfSome some (Suits sources.now rows.now on)) }
+{
+    let nets = sources.len();
+    if nets > 6 {
+        return Ok(None);
+    }
+    let table = rows_word(rows, on, nets);
+    let found = search(alloc, table)?;
+    if !is_small(&found, sources, rows, on) {
+        return Ok(None);
+    }
+    if !computes(alloc, found.cells.as_slice(), found.root, nets, table)? {
+        return Ok(None);
+    }
+    Ok(Some(found))
+}
+
+// The source of what was found, when it is put into the list.
+fn put(
+    list: &mut CellList,
+    places: &mut Places,
+    alloc: Global,
+    sources: &[Src],
+    found: &Found,
+) -> Result<Src, CellError>
+    requires there { HasSources list.old sources.now }
+    requires alone { StandsAlone (length sources.now) found.now }
+    ensures { IfOk result (λ src. Answers list.old list.new (length found.now.cells) (ReadsOne sources.now found.now.cells ⊎ (is_one found.now.root ≡ true)) src (λ inputs state. bit_in found.now.cells (bits_of list.old sources.now inputs state) [] found.now.root)) }
+{
+    let made = place(list, places, alloc, sources, found.cells.as_slice())?;
+    Ok(moved(found.root, sources, &made))
+}
+
+/// Adds cells for a cover, and says which source has its value.
+pub fn map_cover(
+    list: &mut CellList,
+    places: &mut Places,
+    alloc: Global,
+    sources: &[Src],
+    rows: &[Bytes],
+    on: bool,
+) -> Result<Src, CellError>
+    requires { HasSources list.old sources.now }
+    ensures value { IfOk result (AnswersCover list.old list.new sources.now rows.now on) }
+    ensures single { IfOk result (λ src. (cell : Cell) → single_cell sources.now rows.now on ≡ Some cell → IsCell list.new src cell) }
+{
+    if let Some(cell) = single_cell(sources, rows, on) {
+        return add_single(list, places, alloc, sources, rows, on, cell);
+    }
+    match suiting(alloc, sources, rows, on)? {
+        Some(found) => put(list, places, alloc, sources, &found),
+        None => map_rows(list, places, alloc, sources, rows, on),
+    }
+}
+
+// Adds the one cell of a cover.
+fn add_single(
+    list: &mut CellList,
+    places: &mut Places,
+    alloc: Global,
+    sources: &[Src],
+    rows: &[Bytes],
+    on: bool,
+    cell: Cell,
+) -> Result<Src, CellError>
+    requires there { HasSources list.old sources.now }
+    requires single { single_cell sources.now rows.now on ≡ Some cell }
+    ensures value { IfOk result (AnswersCover list.old list.new sources.now rows.now on) }
+    ensures alone { IfOk result (λ src. IsCell list.new src cell) }
+{
+    share(list, places, alloc, cell)
+}

@@ -1,0 +1,53 @@
+// Cells that stand by themselves, put into a list.
+ghost use Rattle.std.specs.Prelude.{◌≡◌, ◌⊎◌, true, length, get_or, IsTrue, IfOk};
+ghost use Rattle.cell_core.specs.Sources.{is_there, reads_there, are_in_order, is_one, read_one};
+ghost use Rattle.cover_cells.specs.Grown.{HasSources};
+ghost use Rattle.cover_cells.specs.Placed.{moved, moved_cell, ArePlaced};
+
+use crate::shared::{Places, share};
+use cell_core::{Cell, CellError, CellList, Src};
+use std::alloc::Global;
+
+// What a source of the cells is in the list.
+pub fn moved(src: Src, sources: &[Src], made: &[Src]) -> Src
+    requires { IsTrue (is_there (length sources.now) 0 (length made.now) src) }
+    ensures { result ≡ moved sources.now made.now src }
+{
+    match src {
+        Src::Input(i) => sources[i as usize],
+        Src::One => Src::One,
+        Src::Latch(_) | Src::Zero => Src::Zero,
+        Src::Cell(i) => made[i as usize],
+    }
+}
+
+fn moved_cell(cell: Cell, sources: &[Src], made: &[Src]) -> Cell
+    requires { IsTrue (reads_there (length sources.now) 0 (length made.now) cell) }
+    ensures { result ≡ moved_cell sources.now made.now cell }
+{
+    match cell {
+        Cell::Or(a, b) => Cell::Or(moved(a, sources, made), moved(b, sources, made)),
+        Cell::Xor(a, b) => Cell::Xor(moved(a, sources, made), moved(b, sources, made)),
+        Cell::AndNot(a, b) => Cell::AndNot(moved(a, sources, made), moved(b, sources, made)),
+    }
+}
+
+// Puts the cells into the list: where each of them is found there.
+pub fn place(
+    list: &mut CellList,
+    places: &mut Places,
+    alloc: Global,
+    sources: &[Src],
+    cells: &[Cell],
+) -> Result<Vec<Src>, CellError>
+    requires there { HasSources list.old sources.now }
+    requires in_order { IsTrue (are_in_order (length sources.now) 0 0 cells.now) }
+    ensures { IfOk result (λ made. ArePlaced list.old list.new sources.now cells.now (length cells.now) made.items) }
+{
+    let mut made = Vec::new(alloc);
+    for cell in cells {
+        let placed = share(list, places, alloc, moved_cell(*cell, sources, &made))?;
+        made.push(placed)?;
+    }
+    Ok(made)
+}

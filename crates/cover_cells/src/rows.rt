@@ -1,0 +1,97 @@
+// A cover by its rows: products of columns, and their sum.
+ghost use Rattle.std.specs.Prelude.{ℕ, ◌≡◌, ◌≢◌, ◌<◌, ◌≤◌, IfOk, length, slice_index};
+ghost use Rattle.cover_cells.specs.Grown.{HasSources};
+ghost use Rattle.cover_cells.specs.Covers.{start_of, AnswersRow, AnswersRows, AnswersCover};
+
+use crate::gates::{and_not, or, with_column};
+use crate::shared::Places;
+use cell_core::{CellError, CellList, Src};
+use lists::Bytes;
+use std::alloc::Global;
+
+// The place of the first `1`, or the length.
+fn first_positive(row: &[u8]) -> usize
+    ensures within { result ≤ length row.now }
+    ensures before { (k : ℕ) → k < result → slice_index row.now k ≢ 49 }
+    ensures found { result < length row.now → slice_index row.now result ≡ 49 }
+{
+    for (i, character) in row.iter().enumerate() {
+        if *character == b'1' {
+            return i;
+        }
+    }
+    row.len()
+}
+
+// The source at the place, or constant 1 where it is not among the first so many.
+fn start(sources: &[Src], first: usize, width: usize) -> Src
+    requires { width ≤ length sources.now }
+    ensures { result ≡ start_of sources.now first width }
+{
+    if first < width {
+        sources[first]
+    } else {
+        Src::One
+    }
+}
+
+// The product of a row: from its first positive literal, or from constant 1.
+fn product(
+    list: &mut CellList,
+    places: &mut Places,
+    alloc: Global,
+    sources: &[Src],
+    row: &[u8],
+) -> Result<Src, CellError>
+    requires { HasSources list.old sources.now }
+    ensures { IfOk result (AnswersRow list.old list.new sources.now row.now) }
+{
+    let first = first_positive(row);
+    let width = row.len().min(sources.len());
+    let start = start(sources, first, width);
+    let mut product = start;
+    for i in 0..width {
+        if i != first {
+            product = with_column(list, places, alloc, product, sources[i], row[i])?;
+        }
+    }
+    Ok(product)
+}
+
+// The sum of the products of the rows.
+fn sum(
+    list: &mut CellList,
+    places: &mut Places,
+    alloc: Global,
+    sources: &[Src],
+    rows: &[Bytes],
+) -> Result<Src, CellError>
+    requires { HasSources list.old sources.now }
+    ensures { IfOk result (AnswersRows list.old list.new sources.now rows.now) }
+{
+    let mut sum = Src::Zero;
+    for row in rows {
+        let product = product(list, places, alloc, sources, row.as_slice())?;
+        sum = or(list, places, alloc, sum, product)?;
+    }
+    Ok(sum)
+}
+
+/// A source with the value of the cover, row by row.
+pub fn map_rows(
+    list: &mut CellList,
+    places: &mut Places,
+    alloc: Global,
+    sources: &[Src],
+    rows: &[Bytes],
+    on: bool,
+) -> Result<Src, CellError>
+    requires { HasSources list.old sources.now }
+    ensures { IfOk result (AnswersCover list.old list.new sources.now rows.now on) }
+{
+    let sum = sum(list, places, alloc, sources, rows)?;
+    if on || rows.is_empty() {
+        return Ok(sum);
+    }
+    and_not(list, places, alloc, Src::One, sum)
+}

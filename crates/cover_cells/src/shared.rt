@@ -1,0 +1,87 @@
+// Cells that are there already.
+ghost use Rattle.std.specs.Prelude.{◌≡◌, true, length, slice_get, Some, IsTrue, IfOk, IfSome};
+ghost use Rattle.cell_core.specs.Sources.{reads_there, reads_one};
+ghost use Rattle.cell_core.specs.Meaning.{cell_bits, cell_bit};
+ghost use Rattle.cover_cells.specs.Grown.{Answers, IsCell};
+
+use crate::gates::add;
+use cell_core::{Cell, CellError, CellList, Src};
+use std::alloc::Global;
+use std::collections::BTreeMap;
+
+/// Where cells were put. It is a place to look first: what stands there is compared before it is used.
+#[derive(Drop)]
+pub struct Places {
+    by_cell: BTreeMap<Cell, u32>,
+}
+
+impl Places {
+    /// Of no cells.
+    pub fn new(alloc: Global) -> Places {
+        Places {
+            by_cell: BTreeMap::new(alloc),
+        }
+    }
+
+    /// Notes where a cell was put.
+    pub fn note(&mut self, cell: Cell, place: u32) -> Result<(), CellError> {
+        self.by_cell.insert(cell, place)?;
+        Ok(())
+    }
+
+    fn place_of(&self, cell: Cell) -> Option<u32> {
+        self.by_cell.get(&cell).copied()
+    }
+}
+
+fn is_same_src(a: Src, b: Src) -> bool
+    ensures { IsTrue result → a ≡ b }
+{
+    match (a, b) {
+        (Src::Input(i), Src::Input(j)) => i == j,
+        (Src::Latch(i), Src::Latch(j)) => i == j,
+        (Src::Cell(i), Src::Cell(j)) => i == j,
+        (Src::One, Src::One) => true,
+        (Src::Zero, Src::Zero) => true,
+        _ => false,
+    }
+}
+
+fn is_same(a: Cell, b: Cell) -> bool
+    ensures { IsTrue result → a ≡ b }
+{
+    match (a, b) {
+        (Cell::Or(p, q), Cell::Or(r, s)) => is_same_src(p, r) && is_same_src(q, s),
+        (Cell::Xor(p, q), Cell::Xor(r, s)) => is_same_src(p, r) && is_same_src(q, s),
+        (Cell::AndNot(p, q), Cell::AndNot(r, s)) => is_same_src(p, r) && is_same_src(q, s),
+        _ => false,
+    }
+}
+
+// Where the cell stands, if it is known to be there.
+pub fn find_cell(list: &CellList, places: &Places, cell: Cell) -> Option<Src>
+    ensures { IfSome result (λ src. IsCell list.now src cell) }
+{
+    let place = places.place_of(cell)?;
+    match list.cells.as_slice().get(place as usize) {
+        Some(found) if is_same(*found, cell) => Some(Src::Cell(place)),
+        _ => None,
+    }
+}
+
+// The source of a cell, which is added where it is not there yet.
+pub fn share(
+    list: &mut CellList,
+    places: &mut Places,
+    alloc: Global,
+    cell: Cell,
+) -> Result<Src, CellError>
+    requires { IsTrue (reads_there list.old.inputs (length list.old.starts) (length list.old.cells) cell) }
+    ensures value { IfOk result (λ src. Answers list.old list.new 1 (reads_one cell ≡ true) src (λ inputs state. cell_bit inputs state (cell_bits inputs state list.old.cells) cell)) }
+    ensures cell { IfOk result (λ src. IsCell list.new src cell) }
+{
+    match find_cell(list, places, cell) {
+        Some(src) => Ok(src),
+        None => add(list, places, alloc, cell),
+    }
+}

@@ -1,0 +1,52 @@
+// Covers of two nets that are one cell.
+ghost use Rattle.std.specs.Prelude.{◌≡◌};
+ghost use Rattle.cover_cells.specs.Singles.{is_only, are_both, are_pair, cell_of_rows, single_cell};
+
+use cell_core::{Cell, Src};
+use lists::Bytes;
+
+fn is_only(rows: &[Bytes], a: &[u8]) -> bool
+    ensures { result ≡ is_only rows.now a.now }
+{
+    rows.len() == 1 && rows[0].as_slice() == a
+}
+
+fn are_both(rows: &[Bytes], a: &[u8], b: &[u8]) -> bool
+    ensures { result ≡ are_both rows.now a.now b.now }
+{
+    rows.len() == 2 && rows[0].as_slice() == a && rows[1].as_slice() == b
+}
+
+fn are_pair(rows: &[Bytes], a: &[u8], b: &[u8]) -> bool
+    ensures { result ≡ are_pair rows.now a.now b.now }
+{
+    are_both(rows, a, b) || are_both(rows, b, a)
+}
+
+fn cell_of_rows(a: Src, b: Src, rows: &[Bytes]) -> Option<Cell>
+    ensures { result ≡ cell_of_rows a b rows.now }
+{
+    if are_pair(rows, b"1-", b"-1") {
+        return Some(Cell::Or(a, b));
+    }
+    if are_pair(rows, b"10", b"01") {
+        return Some(Cell::Xor(a, b));
+    }
+    if is_only(rows, b"10") {
+        return Some(Cell::AndNot(a, b));
+    }
+    if is_only(rows, b"01") {
+        return Some(Cell::AndNot(b, a));
+    }
+    None
+}
+
+// The one cell of a cover of two nets with the rows of an OR, an XOR or an AND-NOT.
+pub fn single_cell(sources: &[Src], rows: &[Bytes], on: bool) -> Option<Cell>
+    ensures { result ≡ single_cell sources.now rows.now on }
+{
+    let [a, b] = sources else {
+        return None;
+    };
+    if on { cell_of_rows(*a, *b, rows) } else { None }
+}

@@ -1,0 +1,4 @@
+pub mod Rows
+pub mod Words
+pub mod Lanes
+pub mod Spans

@@ -1,0 +1,39 @@
+-- Rows of cells in words of bits: bit i of word j is cell 64 j + i.
+use Rattle.std.specs.Prelude.{ℕ, zero, suc, ◌/◌, ◌%◌, ◌≡◌, Bool, false, ◌&&◌, ◌||◌, ◌==◌, cond, List, get_or}
+use Rattle.std.specs.Int.{bit_at}
+use Rattle.ww_rule.specs.declared.pattern.State.{State}
+use Rattle.ww_rule.specs.declared.pattern.State.TheVariants.{Empty, Head, Tail, Conductor}
+use Rattle.ww_rule.specs.Wireworld.{Plane}
+use Rattle.ww_rule.specs.Grid.{framed}
+
+-- is bit i of a word set?
+abbrev pub bit_of : ℕ → ℕ → Bool
+bit_of word i = bit_at word i == 1
+
+-- is the bit of a cell set? Beyond the words there is none.
+abbrev pub is_set : List ℕ → ℕ → Bool
+is_set words x = bit_of (get_or words (x / 64) 0) (x % 64)
+
+-- what three bits say of a cell
+abbrev pub state_of : Bool → Bool → Bool → State
+state_of head tail wire = cond head Head (cond tail Tail (cond wire Conductor Empty))
+
+-- the state of a cell of a row of heads, tails and wires
+abbrev pub row_state : List ℕ → List ℕ → List ℕ → ℕ → State
+row_state heads tails wires x = state_of (is_set heads x) (is_set tails x) (is_set wires x)
+
+-- three rows by column and row: of the upper and the lower one the heads alone
+abbrev pub three_rows : List ℕ → List ℕ → List ℕ → List ℕ → List ℕ → ℕ → ℕ → State
+three_rows above heads below tails wires x zero = state_of (is_set above x) false false
+three_rows above heads below tails wires x (suc zero) = row_state heads tails wires x
+three_rows above heads below tails wires x (suc (suc zero)) = state_of (is_set below x) false false
+three_rows above heads below tails wires x (suc (suc (suc y))) = Empty
+
+-- the plane of three rows that stand alone
+abbrev pub plane_of_rows : List ℕ → List ℕ → List ℕ → List ℕ → List ℕ → Plane
+plane_of_rows above heads below tails wires = framed (three_rows above heads below tails wires)
+
+-- no cell has its bit in two of the rows
+abbrev pub AreDisjoint : List ℕ → List ℕ → List ℕ → Type 0
+AreDisjoint heads tails wires =
+    (x : ℕ) → ((is_set heads x && is_set tails x) || (is_set heads x && is_set wires x) || (is_set tails x && is_set wires x)) ≡ false

@@ -1,0 +1,13 @@
+//! The rule on rows of cells in words of bits: bit i of word j is cell 64 j + i of a row.
+#![tactic(auto)]
+
+mod lanes;
+mod rows;
+mod spans;
+mod words;
+
+pub use rows::step_rows;
+pub use spans::{one_after, one_before, put_words, step_span};
+
+#[cfg(test)]
+mod tests;

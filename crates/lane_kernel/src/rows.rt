@@ -1,0 +1,101 @@
+// Whole rows.
+ghost use Rattle.std.specs.Prelude.{◌≡◌, ◌+◌, ◌*◌, ◌<◌, ℕ, pos, length, get_or};
+ghost use Rattle.ww_rule.specs.Wireworld.{next_plane};
+ghost use Rattle.lane_kernel.specs.Rows.{row_state, plane_of_rows, AreDisjoint};
+ghost use Rattle.lane_kernel.specs.Words.{heads_word, wires_word};
+
+use crate::lanes::step_four;
+use crate::words::{new_heads, new_wires, words_near};
+
+// The new word of a row at j.
+fn step_one(
+    above: &[u64],
+    heads: &[u64],
+    below: &[u64],
+    tails: &[u64],
+    wires: &[u64],
+    j: usize,
+    next_heads: &mut [u64],
+    next_wires: &mut [u64],
+)
+    requires within { j < length heads.now }
+    requires tails { length tails.now ≡ length heads.now }
+    requires wires { length wires.now ≡ length heads.now }
+    requires new_heads { length next_heads.old ≡ length heads.now }
+    requires new_wires { length next_wires.old ≡ length heads.now }
+    ensures long_heads { length next_heads.new ≡ length heads.now }
+    ensures long_wires { length next_wires.new ≡ length heads.now }
+    ensures heads_before { (k : ℕ) → k < j → get_or next_heads.new k 0 ≡ get_or next_heads.old k 0 }
+    ensures wires_before { (k : ℕ) → k < j → get_or next_wires.new k 0 ≡ get_or next_wires.old k 0 }
+    ensures heads { (k : ℕ) → k < 1 → get_or next_heads.new (j + k) 0 ≡ heads_word above.now heads.now below.now wires.now (j + k) }
+    ensures wires { (k : ℕ) → k < 1 → get_or next_wires.new (j + k) 0 ≡ wires_word above.now heads.now below.now tails.now wires.now (j + k) }
+{
+    let fired = new_heads(
+        words_near(above, j),
+        words_near(heads, j),
+        words_near(below, j),
+        wires[j],
+    );
+    next_heads[j] = fired;
+    next_wires[j] = new_wires(wires[j], tails[j], fired);
+}
+
+// The new words of a row, four at once where there are enough, and else one.
+pub fn step_words(
+    above: &[u64],
+    heads: &[u64],
+    below: &[u64],
+    tails: &[u64],
+    wires: &[u64],
+    next_heads: &mut [u64],
+    next_wires: &mut [u64],
+)
+    requires above { length above.now ≡ length heads.now }
+    requires below { length below.now ≡ length heads.now }
+    requires tails { length tails.now ≡ length heads.now }
+    requires wires { length wires.now ≡ length heads.now }
+    requires new_heads { length next_heads.old ≡ length heads.now }
+    requires new_wires { length next_wires.old ≡ length heads.now }
+    ensures long_heads { length next_heads.new ≡ length heads.now }
+    ensures long_wires { length next_wires.new ≡ length heads.now }
+    ensures heads { (j : ℕ) → j < length heads.now → get_or next_heads.new j 0 ≡ heads_word above.now heads.now below.now wires.now j }
+    ensures wires { (j : ℕ) → j < length heads.now → get_or next_wires.new j 0 ≡ wires_word above.now heads.now below.now tails.now wires.now j }
+{
+    let mut j = 0;
+    while j < heads.len() {
+        if 0 < j && 5 <= heads.len() - j {
+            step_four(above, heads, below, tails, wires, j, next_heads, next_wires);
+            j += 4;
+        } else {
+            step_one(above, heads, below, tails, wires, j, next_heads, next_wires);
+            j += 1;
+        }
+    }
+}
+
+/// The next generation of a row that stands between two others, with nothing beyond the rows' ends: bit i of word j is
+/// cell 64 j + i. A new head stands where a wire has one or two heads among its eight neighbours, a new wire where a wire
+/// gave no head or a tail stood, and the new tails are the old heads.
+pub fn step_rows(
+    above: &[u64],
+    heads: &[u64],
+    below: &[u64],
+    tails: &[u64],
+    wires: &[u64],
+    next_heads: &mut [u64],
+    next_wires: &mut [u64],
+)
+    requires above { length above.now ≡ length heads.now }
+    requires below { length below.now ≡ length heads.now }
+    requires tails { length tails.now ≡ length heads.now }
+    requires wires { length wires.now ≡ length heads.now }
+    requires new_heads { length next_heads.old ≡ length heads.now }
+    requires new_wires { length next_wires.old ≡ length heads.now }
+    requires apart { AreDisjoint heads.now tails.now wires.now }
+    ensures long_heads { length next_heads.new ≡ length heads.now }
+    ensures long_wires { length next_wires.new ≡ length heads.now }
+    ensures apart { AreDisjoint next_heads.new heads.now next_wires.new }
+    ensures cells { (x : ℕ) → row_state next_heads.new heads.now next_wires.new x ≡ next_plane (plane_of_rows above.now heads.now below.now tails.now wires.now) (pos x) (pos 1) }
+{
+    step_words(above, heads, below, tails, wires, next_heads, next_wires);
+}

@@ -1,0 +1,7 @@
+pub mod LineBytes
+pub mod LineLaws
+pub mod OneRun
+pub mod PortExamples
+pub mod RleExamples
+pub mod SoundTable
+pub mod Whole

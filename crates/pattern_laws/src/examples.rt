@@ -1,0 +1,42 @@
+// Texts whose reading is known, and texts that are at fault: the definitions say of each what they should.
+
+ghost use Rattle.std.specs.Prelude.{List, ℕ};
+ghost use Rattle.std.specs.List.{AllByRecursion};
+ghost use Rattle.pattern_laws.specs.Examples.{ReadsAsSaid, HasSaidFault, ReadsAsSaidPorts, HasSaidPortFault};
+ghost use Rattle.pattern_laws.specs.Examples.{header_examples, item_examples};
+ghost use Rattle.pattern_laws.specs.Examples.{header_fault_examples, item_fault_examples, end_fault_examples};
+ghost use Rattle.pattern_laws.specs.Examples.{ports_examples, too_large_texts, large_texts};
+ghost use Rattle.pattern_reading.specs.Pattern.{IsGridTooLarge};
+ghost use Rattle.pattern_laws.specs.Examples.{bad_line_examples, bad_order_examples, outside_port_examples, twice_examples};
+
+/// Patterns by texts of extended RLE, in the forms that a header and items may have.
+pub fn patterns_read()
+    ensures headers { AllByRecursion ReadsAsSaid header_examples }
+    ensures items { AllByRecursion ReadsAsSaid item_examples }
+{}
+
+/// Texts of extended RLE that are at fault, with the fault and its line.
+pub fn faults_of_patterns()
+    ensures headers { AllByRecursion HasSaidFault header_fault_examples }
+    ensures items { AllByRecursion HasSaidFault item_fault_examples }
+    ensures ends { AllByRecursion HasSaidFault end_fault_examples }
+{}
+
+/// Texts whose box is too large for a reader, and texts in which no such box is.
+pub fn large_boxes()
+    ensures too_large { AllByRecursion IsGridTooLarge too_large_texts }
+    ensures not_too_large { AllByRecursion (λ text. ¬ (IsGridTooLarge text)) large_texts }
+{}
+
+/// Port tables by texts, in the forms that their lines may have.
+pub fn ports_read()
+    ensures { AllByRecursion ReadsAsSaidPorts ports_examples }
+{}
+
+/// Texts whose port table is at fault, with the fault and its line.
+pub fn faults_of_ports()
+    ensures bad_line { AllByRecursion HasSaidPortFault bad_line_examples }
+    ensures bad_order { AllByRecursion HasSaidPortFault bad_order_examples }
+    ensures outside { AllByRecursion HasSaidPortFault outside_port_examples }
+    ensures twice { AllByRecursion HasSaidPortFault twice_examples }
+{}

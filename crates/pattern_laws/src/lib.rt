@@ -1,0 +1,14 @@
+//! Laws of what a pattern's text and its port table say, and texts whose reading is known. Nothing stands on this crate, so that
+//! a further law or text proves nothing else anew.
+#![tactic(auto)]
+
+mod examples;
+mod laws;
+
+pub use examples::{
+    faults_of_patterns, faults_of_ports, large_boxes, patterns_read, ports_read,
+};
+pub use laws::{
+    line_laws, pattern_laws, place_laws, port_laws, reader_laws, spelled_pattern_laws,
+    spelled_table_laws, whole_laws,
+};

@@ -1,8 +1,0 @@
-use Rattle.pattern_reading.proofs.Whole.{answer, one_answer}
-use Rattle.pattern_reading.proofs.laws.whole_laws.Goals as goal
-
-pub returns-clause-answer : goal.returns-clause-answer
-returns-clause-answer c = answer
-
-pub returns-clause-one : goal.returns-clause-one
-returns-clause-one c = one_answer

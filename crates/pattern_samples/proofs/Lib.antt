@@ -1,0 +1,2 @@
+pub mod NamedGate
+pub mod Samples

@@ -1,0 +1,8 @@
+use Rattle.pattern_samples.proofs.Samples.{bare_reads, bare_has_ports}
+use Rattle.pattern_samples.proofs.bare_reads.Goals as goal
+
+pub returns-clause-pattern : goal.returns-clause-pattern
+returns-clause-pattern c = bare_reads
+
+pub returns-clause-ports : goal.returns-clause-ports
+returns-clause-ports c = bare_has_ports

@@ -1,0 +1,25 @@
+-- The port tables of known texts.
+use Rattle.std.specs.Prelude.{ℕ, List, [], ◌∷◌, codes}
+use Rattle.pattern_reading.specs.declared.ports.PortLine.{PortLine}
+use Rattle.pattern_reading.specs.declared.ports.NetLine.{NetLine}
+use Rattle.pattern_reading.specs.declared.ports.Ports.{Ports}
+
+abbrev pub port_at : ℕ → ℕ → List ℕ → PortLine
+port_at x y name = record { x = x; y = y; name = name }
+
+abbrev pub net_at : ℕ → ℕ → ℕ → List ℕ → List ℕ → NetLine
+net_at x y offset name path = record { x = x; y = y; offset = offset; name = name; path = path }
+
+-- of an OR gate
+abbrev pub or_ports : Ports
+or_ports = record {
+  p = 32;
+  l = 32;
+  ins = port_at 0 8 (codes "a") ∷ port_at 0 24 (codes "b") ∷ [];
+  outs = port_at 32 8 (codes "y") ∷ [];
+  nets = net_at 0 8 0 (codes "a") (codes "-") ∷ net_at 0 24 0 (codes "b") (codes "-") ∷ net_at 31 8 31 (codes "y") (codes "-") ∷ [];
+}
+
+-- of a circuit without ports
+abbrev pub bare_ports : Ports
+bare_ports = record { p = 32; l = 0; ins = []; outs = []; nets = [] }
