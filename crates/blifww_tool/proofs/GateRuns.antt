@@ -19,12 +19,12 @@ use Rattle.or_gate_text.specs.OrGate.{or_gate_model, or_gate_cover}
 use Rattle.pattern_reading.specs.declared.ports.PortLine.{PortLine}
 use Rattle.pattern_reading.specs.declared.ports.Ports.{Ports}
 use Rattle.pattern_reading.specs.PortTable.{ports_of}
-use Rattle.pattern_reading.specs.Spelling.{named_or_forms}
+use Rattle.pattern_samples.specs.NamedGate.{named_or_forms}
 use Rattle.carries.specs.Carries.{drive, ShowsOutput, ShowsRuns}
 use Rattle.or_gate.specs.OrGate.{or_grid, gate_plane, DrivesGate, entries, is_lit, ShowsOr}
 use Rattle.or_gate.specs.OrGate as gate
 use Rattle.blifww_tool.specs.Thin.{Names, HasDistinctPorts}
-use Rattle.blifww_tool.specs.Gate.{or_design}
+use Rattle.blifww_tool.specs.Gate.{thin_design}
 
 abbrev pub gate_ports : Names → Ports
 gate_ports n = ports_of (named_or_forms n.a n.b n.y)
@@ -102,7 +102,7 @@ lit_bits rows t = ap₂ (λ p q. p || q) (upper_bit rows t) (lower_bit rows t)
 no_row : (rows : List (List Bool)) (t : ℕ) → length rows ≤ t → (bit rows t 0 || bit rows t 1) ≡ false
 no_row rows t h = ap (λ row. get_or row 0 false || get_or row 1 false) (get_or_past rows t [] h)
 
-pub one_cover : (n : Names) → IsOneCover n.a n.b n.y or_cover_rows true (or_design n)
+pub one_cover : (n : Names) → IsOneCover n.a n.b n.y or_cover_rows true (thin_design n)
 one_cover n =
     record {
       main = or_gate_model n.model n.a n.b n.y;
@@ -120,13 +120,13 @@ one_cover n =
       subckts = refl;
     }
 
-gate_computes : (n : Names) → HasDistinctPorts n → Computes (or_design n) (λ p q. p || q)
-gate_computes n h = one_cover_computes_or n.a n.b n.y (or_design n) h.inputs h.first h.second (one_cover n)
+gate_computes : (n : Names) → HasDistinctPorts n → Computes (thin_design n) (λ p q. p || q)
+gate_computes n h = one_cover_computes_or n.a n.b n.y (thin_design n) h.inputs h.first h.second (one_cover n)
 
 -- the rows have two bits each
-two_bits : (n : Names) (rows : List (List Bool)) → AreInputRows (or_design n) rows → All (λ row. length row ≡ 2) rows
+two_bits : (n : Names) (rows : List (List Bool)) → AreInputRows (thin_design n) rows → All (λ row. length row ≡ 2) rows
 two_bits n rows (names, are, long) =
-    let same : names ≡ n.a ∷ n.b ∷ [] = in_names_are_one (or_design n) names (n.a ∷ n.b ∷ []) are (in_names_are n.a n.b n.y or_cover_rows true (or_design n) (one_cover n)) in
+    let same : names ≡ n.a ∷ n.b ∷ [] = in_names_are_one (thin_design n) names (n.a ∷ n.b ∷ []) are (in_names_are n.a n.b n.y or_cover_rows true (thin_design n) (one_cover n)) in
     subst (λ ns. All (λ row. length row ≡ length ns) rows) same long
 
 two : (row : List Bool) → length row ≡ 2 → row ≡ get_or row 0 false ∷ get_or row 1 false ∷ []
@@ -135,16 +135,16 @@ two (p ∷ []) e = absurd (omega (arith, e))
 two (p ∷ q ∷ []) e = refl
 two (p ∷ q ∷ r ∷ row) e = absurd (omega (arith, e))
 
-output_is : (n : Names) → HasDistinctPorts n → (rows : List (List Bool)) → AreInputRows (or_design n) rows → (run : ℕ → Valuation) → IsRun (or_design n) rows run → (t : ℕ) → t < length rows → output_bit (or_design n) (run t) 0 ≡ (bit rows t 0 || bit rows t 1)
+output_is : (n : Names) → HasDistinctPorts n → (rows : List (List Bool)) → AreInputRows (thin_design n) rows → (run : ℕ → Valuation) → IsRun (thin_design n) rows run → (t : ℕ) → t < length rows → output_bit (thin_design n) (run t) 0 ≡ (bit rows t 0 || bit rows t 1)
 output_is n h rows are run is t lt =
     let row = get_or rows t [] in
     let long : length row ≡ 2 = All-get_or (λ row. length row ≡ 2) rows t [] lt (two_bits n rows are) in
     let got : slice_get rows t ≡ Some (get_or row 0 false ∷ get_or row 1 false ∷ []) = slice_get-get_or rows t [] lt ∙ ap Some (two row long) in
     ap (λ bits. get_or bits 0 false) ((gate_computes n h).gives rows run is t (get_or row 0 false) (get_or row 1 false) got)
 
-gate_heads : ShowsOr → (n : Names) → HasDistinctPorts n → (rows : List (List Bool)) → AreInputRows (or_design n) rows → (run : ℕ → Valuation) → IsRun (or_design n) rows run
+gate_heads : ShowsOr → (n : Names) → HasDistinctPorts n → (rows : List (List Bool)) → AreInputRows (thin_design n) rows → (run : ℕ → Valuation) → IsRun (thin_design n) rows run
     → (output : ℕ) (cell : PortLine) → slice_get (gate_ports n).outs output ≡ Some cell → (g : ℕ) → g < 32 + length rows * 32
-    → ShowsOutput (gate_ports n) (length rows) (λ t. output_bit (or_design n) (run t) output) g (driven (drive (gate_ports n) rows) (plane_of or_grid.rows) g) cell
+    → ShowsOutput (gate_ports n) (length rows) (λ t. output_bit (thin_design n) (run t) output) g (driven (drive (gate_ports n) rows) (plane_of or_grid.rows) g) cell
 gate_heads s n h rows are run is zero cell e g lt = (
   λ head.
       let found = (s.heads (gate_due rows) (drives rows) g).0 (ap (λ c. driven (gate_due rows) gate_plane g (pos c.x) (pos c.y)) (some_is e) ∙ head) in
@@ -172,7 +172,7 @@ gate_heads s n h rows are run is zero cell e g lt = (
 gate_heads s n h rows are run is (suc output) cell e g lt = cc
 
 -- The drawing shows the runs of the gate's design
-pub gate_shows : ShowsOr → (n : Names) → HasDistinctPorts n → ShowsRuns (plane_of or_grid.rows) (gate_ports n) (or_design n)
+pub gate_shows : ShowsOr → (n : Names) → HasDistinctPorts n → ShowsRuns (plane_of or_grid.rows) (gate_ports n) (thin_design n)
 gate_shows s n h =
     record {
       conductors = λ rows are. conductors s n rows;

@@ -8,8 +8,8 @@ use Rattle.blifww_tool.specs.Run.{Reading, Writing}
 use Rattle.blifww_tool.specs.Thin.{Names}
 
 -- one model with the two inputs, the output and one cover with the rows of an OR
-abbrev pub or_design : Names → Design
-or_design n = record { models = or_gate_model n.model n.a n.b n.y ∷ [] }
+abbrev pub thin_design : Names → Design
+thin_design n = record { models = or_gate_model n.model n.a n.b n.y ∷ [] }
 
 -- Where the source tells the bytes that it had left, and the output the bytes that it held: the bytes that the output gained carry
 -- the design of the bytes that the source had left.

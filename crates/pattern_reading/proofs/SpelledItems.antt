@@ -9,13 +9,13 @@ use Rattle.std.proofs.lemmas.Simd.{map-map}
 use Rattle.std.proofs.lemmas.List.Elements.{All-append, All-cons}
 use Rattle.std.proofs.lemmas.List.Sums.{AllPass-from_list_all}
 use Rattle.pattern_reading.specs.Lines.{Line, begins_with, lines_of}
-use Rattle.pattern_reading.specs.Items.{Item, LineItem, Piece, item_in, items_of_line, items_of_lines, onto_first_piece, pieces_of}
+use Rattle.pattern_reading.specs.Items.{Item, LineItem, TaggedDigits, item_in, items_of_line, items_of_lines, onto_first_piece, pieces_of}
 use Rattle.pattern_reading.specs.Laws.{IsLineText, later_by}
 use Rattle.pattern_reading.specs.SpelledPattern.{SpelledItem, IsSpelledItem, item_text, line_text, lines_text, items_of_text}
 use Rattle.pattern_reading.proofs.Later.{items_of_later_lines, next}
 use Rattle.pattern_reading.proofs.LineText.{first_line, not_equal}
 
-abbrev piece_of : SpelledItem → Piece
+abbrev piece_of : SpelledItem → TaggedDigits
 piece_of item = record { digits = item.digits; tag = Some item.tag }
 
 tag_piece : (tag : ℕ) (rest : List ℕ) → is_ascii_digit tag ≡ false → pieces_of (tag ∷ rest) ≡ record { digits = []; tag = Some tag } ∷ pieces_of rest

@@ -15,9 +15,10 @@ use Rattle.pattern_reading.proofs.RleVerdict.{IsJudged, items_verdict, rle_judge
 use Rattle.pattern_lines.specs.declared.lines.Line as lent
 use Rattle.rle_read.specs.declared.error.RleFault.{RleFault}
 use Rattle.rle_read.specs.declared.error.RleReadError.TheVariants as errors
-use Rattle.rle_read.specs.Answers.{IsHeaderAt, IsHeaderFault, HasReason}
-use Rattle.rle_read.specs.Drawn.{Drawn, Fault, Ended, Open, blank_drawing, drawn_with, fault_of}
-use Rattle.rle_read.proofs.DrawnText.{IsSaid, blank_drawn, lines_counted, said}
+use Rattle.rle_read.specs.Answers.{IsHeaderAt, IsHeaderFault, HasReadReason}
+use Rattle.rle_read.specs.Drawn.{Drawn, Fault, Ended, Open, blank_drawing, drawn_with, rle_fault_of}
+use Rattle.rle_read.proofs.DrawnText.{IsSaid, blank_drawn, said}
+use Rattle.pattern_reading.proofs.Counted.{lines_counted}
 
 some_same : {A : Type 0} (a b : A) → Some a ≡ Some b → a ≡ b
 some_same a b e = cc
@@ -76,11 +77,11 @@ header_reason text line n e at CellOutside h = absurd h
 header_reason text line n e at NoEnd h = absurd h
 header_reason text line n e at GridTooLarge h = absurd h
 
-pub header_refused : (text : List ℕ) (line : Line) (fault : RleFault) → header_line text ≡ Some line → fault.line ≡ line.number → IsHeaderFault line.bytes fault.kind → HasReason text (errors.Fault fault)
+pub header_refused : (text : List ℕ) (line : Line) (fault : RleFault) → header_line text ≡ Some line → fault.line ≡ line.number → IsHeaderFault line.bytes fault.kind → HasReadReason text (errors.Fault fault)
 header_refused text line fault e at h = header_reason text line fault.line e at fault.kind h
 
 -- a text without a header line has no box
-pub no_line_refused : (text : List ℕ) (fault : RleFault) → header_line text ≡ None → HasRleFault text fault.kind fault.line → HasReason text (errors.Fault fault)
+pub no_line_refused : (text : List ℕ) (fault : RleFault) → header_line text ≡ None → HasRleFault text fault.kind fault.line → HasReadReason text (errors.Fault fault)
 no_line_refused text fault e h = (h, λ large. none-some _ (sym e ∙ large.2.0.first))
 
 -- what is drawn
@@ -105,10 +106,10 @@ module _ (text : List ℕ) (parts : lent.Line × Bor (List ℕ)) (head : IsHeade
       let h = subst (IsSaid width height small_width small_height [] [] (items_after_header text)) (sym same_items ∙ e) text_said in
       record { header = box; no_fault = h.0; ends = h.1; in_rows = h.2.1.grid; cells = h.2.1.cells }
 
-  pub text_refused : width * height ≤ most_cells → (fault : RleFault) → (drawn_with start (items_of_lines lines) ≡ Fault (fault_of fault)) ⊎ ((d : Drawn) × (drawn_with start (items_of_lines lines) ≡ Open d) × (fault.kind ≡ NoEnd) × (fault.line ≡ parts.0.number + length lines)) → HasReason text (errors.Fault fault)
+  pub text_refused : width * height ≤ most_cells → (fault : RleFault) → (drawn_with start (items_of_lines lines) ≡ Fault (rle_fault_of fault)) ⊎ ((d : Drawn) × (drawn_with start (items_of_lines lines) ≡ Open d) × (fault.kind ≡ NoEnd) × (fault.line ≡ parts.0.number + length lines)) → HasReadReason text (errors.Fault fault)
   text_refused small fault (inl e) =
       let h = subst (IsSaid width height small_width small_height [] [] (items_after_header text)) (sym same_items ∙ e) text_said in
-      (item_fault_is text width height box (fault_of fault) h, not_too_large text width height box small)
+      (item_fault_is text width height box (rle_fault_of fault) h, not_too_large text width height box small)
   text_refused small fault (inr u) =
       let h = subst (IsSaid width height small_width small_height [] [] (items_after_header text)) (sym same_items ∙ u.1) text_said in
       let no_end : HasRleFault text NoEnd fault.line = (width, height, box, h.0, h.1, u.3 ∙ head.last) in

@@ -18,10 +18,10 @@ item n RowEnd = RowEnds n
 item n (Of state) = Cells n state
 
 -- a run is not empty
-abbrev pub IsRun : writer.Item → Type 0
+abbrev pub IsRun : writer.TagRun → Type 0
 IsRun run = run.count ≢ 0
 
-abbrev pub item_of : writer.Item → Item
+abbrev pub item_of : writer.TagRun → Item
 item_of run = item run.count (mark_of run.tag)
 
 -- on one line
@@ -105,11 +105,11 @@ after_cells n state before cx cy h = let next = next_place (Cells n state) befor
 pub after_ends : (n : ℕ) (before : List Item) (cx cy : ℕ) → Stands before cx cy → Stands (RowEnds n ∷ before) 0 (cy + n)
 after_ends n before cx cy h = let next = next_place (RowEnds n) before in (next.0, next.1 ∙ ap (λ r. r + n) h.1)
 
-abbrev pub placed : List Item → List writer.Item → List Placed
+abbrev pub placed : List Item → List writer.TagRun → List Placed
 placed before runs = placed_after before (on_one_line (map item_of runs))
 
 -- the states of the runs
-pub run_states : (runs : List writer.Item) (before : List Item) (cx cy x y : ℕ) → AllByRecursion IsRun runs → Stands before cx cy → state_at (placed before runs) x y ≡ look (spelled runs) cx cy x y
+pub run_states : (runs : List writer.TagRun) (before : List Item) (cx cy x y : ℕ) → AllByRecursion IsRun runs → Stands before cx cy → state_at (placed before runs) x y ≡ look (spelled runs) cx cy x y
 run_states [] before cx cy x y h s = refl
 run_states (run ∷ runs) before cx cy x y h s =
     state_first x y (record { line = 0; x = column_after before; y = row_after before; item = item_of run }) (placed (item_of run ∷ before) runs)

@@ -35,17 +35,17 @@ no_end : (n : ℕ) (m : Mark) → is_end (item n m) ≡ false
 no_end n RowEnd = refl
 no_end n (Of state) = refl
 
-before_end : (runs : List writer.Item) → take_while (λ i. not (is_end i)) (map item_of runs ++ End ∷ []) ≡ map item_of runs
+before_end : (runs : List writer.TagRun) → take_while (λ i. not (is_end i)) (map item_of runs ++ End ∷ []) ≡ map item_of runs
 before_end [] = refl
 before_end (run ∷ runs) =
     take_while-cons (λ i. not (is_end i)) (item_of run) (map item_of runs ++ End ∷ []) ∙ rw (no_end run.count (mark_of run.tag)) (ap (λ l. item_of run ∷ l) (before_end runs))
 
-has_end : (runs : List writer.Item) → list_any is_end (map item_of runs ++ End ∷ []) ≡ true
+has_end : (runs : List writer.TagRun) → list_any is_end (map item_of runs ++ End ∷ []) ≡ true
 has_end [] = refl
 has_end (run ∷ runs) = rw (no_end run.count (mark_of run.tag)) (has_end runs)
 
 module _ (grid : Grid) (w : IsWritable grid) where
-  abbrev runs : List writer.Item
+  abbrev runs : List writer.TagRun
   runs = writer.runs_of (writer.grid_tags grid.rows)
 
   tags_are : spelled runs ≡ writer.grid_tags grid.rows
