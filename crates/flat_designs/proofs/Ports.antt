@@ -15,7 +15,8 @@ use Rattle.sound_designs.proofs.Local.{not_any, not_up_to, not_before}
 use Rattle.sound_designs.proofs.Sources.{first_of, none_kept, none_left, none_right}
 use Rattle.sound_designs.proofs.Driven.{clean_of}
 use Rattle.netlist_meaning.specs.FlatOf.{PortsWithoutControl, kept, left_out}
-use Rattle.flat_designs.proofs.Lists.{Pairs, pair_at}
+use Rattle.flat_designs.proofs.Lists.{Pairs, pair_at, pairs_map}
+use Rattle.netlist_core.specs.Names.{Name, port_names}
 use Rattle.flat_designs.proofs.Valuations.{port_kept}
 
 second_of : (a b : Bool) → (a || b) ≡ false → b ≡ false
@@ -49,6 +50,15 @@ inputs_apart models faultless m i =
     (once (is_output_before m) [] m.ins
     (none_left (doubles_after (is_output_before m) [] m.ins) (doubles_after (is_output_before m) [] m.clocks)
     (none_left (doubles_after (is_output_before m) [] m.ins ++ doubles_after (is_output_before m) [] m.clocks) (doubles_after (is_input_by_then m) [] m.outs) (clean_of models faultless DuplicatePort m i)))).apart
+
+pub outputs_apart : (models : List Model) → AreFaultless models → (m : Model) → In m models → Pairs OtherName m.outs
+outputs_apart models faultless m i =
+    (once (is_input_by_then m) [] m.outs
+    (none_right (doubles_after (is_output_before m) [] m.ins ++ doubles_after (is_output_before m) [] m.clocks) (doubles_after (is_input_by_then m) [] m.outs) (clean_of models faultless DuplicatePort m i))).apart
+
+-- so their names differ
+pub names_apart : (ports : List Port) → Pairs OtherName ports → Pairs (λ a b. a ≢ b) (port_names ports)
+names_apart ports a = pairs_map OtherName (λ (a b : Name). a ≢ b) (λ (p : Port). p.name) ports (λ p q other same. other (sym same)) a
 
 pub kept_apart : (design : Design) (ports rest : List Port) → PortsWithoutControl design ports rest → Pairs OtherName ports → Pairs OtherName rest
 kept_apart design [] rest Rattle.netlist_meaning.specs.FlatOf.PortsWithoutControl.none a = tt

@@ -32,7 +32,7 @@ use Rattle.netlist_meaning.specs.Flat.{class_of, node_at, no_node, out_class}
 use Rattle.netlist_meaning.specs.FlatValuation.{IsFlatValuation, node_value}
 use Rattle.netlist_meaning.specs.InOrder.{of_some, places_in_order}
 use Rattle.netlist_meaning.specs.FlatOf.{id_of, class_of_net, flat_node, flat_latch, flat_port, at_places, PortsWithoutControl, IsFlatOf}
-use Rattle.flat_designs.specs.Laws.{bits_from, state_in_order, bit_of_net, class_bits, net_bits, ValuationsAreFlat}
+use Rattle.flat_designs.specs.Laws.{latch_bits_from, state_in_order, bit_of_net, class_bits, net_bits, ValuationsAreFlat}
 use Rattle.flat_designs.proofs.Lists.{map_in, map_flat, flat_same}
 use Rattle.flat_designs.proofs.Listed.{place_is, place_listed}
 use Rattle.flat_designs.proofs.Names.{input_name, cover_name, latch_name, is_net_of, main_port}
@@ -90,18 +90,18 @@ is_node design flat faultless h place m c is_m i =
     (n, slice_get_within flat.nodes n (flat_node design place c) e, get_or_from_slice_get flat.nodes n (flat_node design place c) no_node e)
 
 -- bits of latches in order
-bits_are : (g : LatchRow → Bool) (state : ℕ → Bool) (first : ℕ) (latches : List LatchRow) → ((k number : ℕ) (l : LatchRow) → number ≡ first + k → slice_get latches k ≡ Some l → g l ≡ state number) → map g latches ≡ bits_from state first latches
+bits_are : (g : LatchRow → Bool) (state : ℕ → Bool) (first : ℕ) (latches : List LatchRow) → ((k number : ℕ) (l : LatchRow) → number ≡ first + k → slice_get latches k ≡ Some l → g l ≡ state number) → map g latches ≡ latch_bits_from state first latches
 bits_are g state first [] each = refl
 bits_are g state first (l ∷ latches) each =
     ap₂ (λ b bs. b ∷ bs) (each 0 first l (omega arith) refl)
     (bits_are g state (suc first) latches (λ k number x e is. each (suc k) number x (omega arith) is))
 
-bits_at : (state : ℕ → Bool) (first : ℕ) (latches : List LatchRow) (k number : ℕ) (l : LatchRow) → number ≡ first + k → slice_get latches k ≡ Some l → slice_get (bits_from state first latches) k ≡ Some (state number)
+bits_at : (state : ℕ → Bool) (first : ℕ) (latches : List LatchRow) (k number : ℕ) (l : LatchRow) → number ≡ first + k → slice_get latches k ≡ Some l → slice_get (latch_bits_from state first latches) k ≡ Some (state number)
 bits_at state first [] k number l e is = absurd (none-some l is)
 bits_at state first (x ∷ latches) zero number l e is = let same : first ≡ number = omega arith in ap (λ n. Some (state n)) same
 bits_at state first (x ∷ latches) (suc k) number l e is = bits_at state (suc first) latches k number l (omega arith) is
 
-length_bits : (state : ℕ → Bool) (first : ℕ) (latches : List LatchRow) → length (bits_from state first latches) ≡ length latches
+length_bits : (state : ℕ → Bool) (first : ℕ) (latches : List LatchRow) → length (latch_bits_from state first latches) ≡ length latches
 length_bits state first [] = refl
 length_bits state first (l ∷ latches) = ap suc (length_bits state (suc first) latches)
 
@@ -114,14 +114,14 @@ latch_bits : (design : Design) (flat : Flat) → IsFlatOf design flat → (g : F
     → map g flat.latches ≡ state_in_order design state
 latch_bits design flat h g state each = ap (map g) h.latches ∙ map_flat g _ _ (places_in_order design) at_place
   where
-    of_model : (place : Place) (o : Option Model) → model_at design place ≡ o → map g (map (flat_latch design place) (of_some latches_of o)) ≡ bits_from (state place) 0 (of_some latches_of o)
+    of_model : (place : Place) (o : Option Model) → model_at design place ≡ o → map g (map (flat_latch design place) (of_some latches_of o)) ≡ latch_bits_from (state place) 0 (of_some latches_of o)
     of_model place None e = refl
     of_model place (Some m) e =
         map-map g (flat_latch design place) m.latches
         ∙ bits_are (λ l. g (flat_latch design place l)) (state place) 0 m.latches
         (λ k number l same is. let number_is : k ≡ number = omega arith in subst (λ n. g (flat_latch design place l) ≡ state place n) number_is (each place k l (ap (option_and_then (λ (m : Model). slice_get m.latches k)) e ∙ is)))
 
-    at_place : (place : Place) → In place (places_in_order design) → map g (map (flat_latch design place) (of_some latches_of (model_at design place))) ≡ bits_from (state place) 0 (of_some latches_of (model_at design place))
+    at_place : (place : Place) → In place (places_in_order design) → map g (map (flat_latch design place) (of_some latches_of (model_at design place))) ≡ latch_bits_from (state place) 0 (of_some latches_of (model_at design place))
     at_place place i = of_model place (model_at design place) refl
 
 latch_bit : (design : Design) (flat : Flat) → AreFaultless design.models → IsFlatOf design flat → (g : FlatLatch → Bool) (state : LatchState) → map g flat.latches ≡ state_in_order design state
@@ -130,7 +130,7 @@ latch_bit design flat faultless h g state same place number l is_l =
     let (m, is_m, is_latch) = and_then-from (λ (m : Model). slice_get m.latches number) (model_at design place) l is_l in
     let whole : flat_map mine (places_in_order design) ≡ flat_map theirs (places_in_order design) = sym (map_flat g (λ place. map (flat_latch design place) (of_some latches_of (model_at design place))) mine (places_in_order design) (λ p i. refl)) ∙ sym (ap (map g) h.latches) ∙ same in
     let here : mine place ≡ theirs place = flat_same mine theirs (places_in_order design) as_long whole place (place_listed design (not_recursive design faultless) place m is_m) in
-    let parts : map g (map (flat_latch design place) m.latches) ≡ bits_from (state place) 0 m.latches = sym (ap (λ o. map g (map (flat_latch design place) (of_some latches_of o))) is_m) ∙ here ∙ ap (λ o. bits_from (state place) 0 (of_some latches_of o)) is_m in
+    let parts : map g (map (flat_latch design place) m.latches) ≡ latch_bits_from (state place) 0 m.latches = sym (ap (λ o. map g (map (flat_latch design place) (of_some latches_of o))) is_m) ∙ here ∙ ap (λ o. latch_bits_from (state place) 0 (of_some latches_of o)) is_m in
     same_of (sym (slice_get-map g (map (flat_latch design place) m.latches) number ∙ ap (option_map g) (slice_get-map (flat_latch design place) m.latches number ∙ ap (option_map (flat_latch design place)) is_latch))
     ∙ ap (λ bs. slice_get bs number) parts ∙ bits_at (state place) 0 m.latches number number l (omega arith) is_latch)
   where
@@ -138,7 +138,7 @@ latch_bit design flat faultless h g state same place number l is_l =
     mine place = map g (map (flat_latch design place) (of_some latches_of (model_at design place)))
 
     theirs : Place → List Bool
-    theirs place = bits_from (state place) 0 (of_some latches_of (model_at design place))
+    theirs place = latch_bits_from (state place) 0 (of_some latches_of (model_at design place))
 
     as_long : (place : Place) → length (mine place) ≡ length (theirs place)
     as_long place = length-map (map (flat_latch design place) (of_some latches_of (model_at design place))) g ∙ length-map (of_some latches_of (model_at design place)) (flat_latch design place) ∙ sym (length_bits (state place) 0 (of_some latches_of (model_at design place)))
@@ -255,6 +255,6 @@ flat_length f g (x ∷ xs) same = length-append (f x) (flat_map f xs) ∙ ap₂ 
 
 pub state_length : (design : Design) (flat : Flat) → IsFlatOf design flat → (state : LatchState) → length (state_in_order design state) ≡ length flat.latches
 state_length design flat h state =
-    flat_length (λ place. bits_from (state place) 0 (of_some latches_of (model_at design place))) (λ place. map (flat_latch design place) (of_some latches_of (model_at design place))) (places_in_order design)
+    flat_length (λ place. latch_bits_from (state place) 0 (of_some latches_of (model_at design place))) (λ place. map (flat_latch design place) (of_some latches_of (model_at design place))) (places_in_order design)
     (λ place. length_bits (state place) 0 (of_some latches_of (model_at design place)) ∙ sym (length-map (of_some latches_of (model_at design place)) (flat_latch design place)))
     ∙ sym (ap (λ (ls : List FlatLatch). length ls) h.latches)

@@ -1,29 +1,31 @@
 -- The flat netlist is there, its ports are the main model's, and what follows of orders and cycles.
-use Rattle.std.proofs.Common.{ℕ, ◌≡◌, List, [], ◌∷◌, get_or, map, length, refl, sym, ap, ◌∙◌, subst}
+use Rattle.std.proofs.Common.{ℕ, ◌≡◌, ◌≢◌, List, [], ◌∷◌, Option, Some, None, option_map, unwrap_or, get_or, map, length, refl, sym, ap, ◌∙◌, subst}
+use Rattle.std.specs.Prelude.{AllPairs}
 use Rattle.std.proofs.lemmas.List.{length-map}
 use Rattle.std.proofs.lemmas.Simd.{map-map}
 use Rattle.netlist_core.specs.declared.model.Design.{Design}
 use Rattle.netlist_core.specs.declared.model.Model.{Model}
 use Rattle.netlist_core.specs.declared.model.Port.{Port}
 use Rattle.netlist_core.specs.Names.{Name, port_names}
-use Rattle.netlist_meaning.specs.Places.{main_ports}
+use Rattle.netlist_meaning.specs.Places.{main_model, main_ports}
 use Rattle.netlist_meaning.specs.Nets.{Net, net_at, IsNet, IsClockNet, IsInNames, WithoutControl}
 use Rattle.netlist_meaning.specs.Weight.{weight}
 use Rattle.netlist_meaning.proofs.InNames.{in_names_are_there}
 use Rattle.netlist_meaning.proofs.Joined.{in_names_are_one}
 use Rattle.netlist_rules.specs.ModelFaults.{AreFaultless}
 use Rattle.lists.proofs.Members.{In, in_mapped}
-use Rattle.sound_designs.proofs.Sound.{not_recursive, formals_once}
+use Rattle.sound_designs.proofs.Sound.{not_recursive, formals_once, in_got}
 use Rattle.netlist_core.specs.declared.flat.FlatPort.{FlatPort}
 use Rattle.netlist_core.specs.declared.flat.FlatLatch.{FlatLatch}
 use Rattle.netlist_core.specs.declared.flat.Flat.{Flat}
-use Rattle.netlist_meaning.specs.Flat.{no_net}
+use Rattle.netlist_meaning.specs.Flat.{no_net, AreNamedPorts}
 use Rattle.netlist_eval.proofs.Valuations.{one_valuation}
 use Rattle.netlist_meaning.specs.InOrder.{nets_in_order}
 use Rattle.netlist_meaning.specs.FlatOf.{position_of, id_of, class_of_net, flat_net, flat_node, flat_latch, flat_port, at_places, first_control, PortsWithoutControl, IsFlatOf}
 use Rattle.netlist_core.specs.declared.flat.Net.{Net as FlatNet}
-use Rattle.flat_designs.specs.Laws.{class_bits, net_bits, state_in_order, FlatIsThere, FlatIsOne, names_of_ports, AreMainPorts, HasPorts, PortsAreFlat, DesignsHaveOneValuation, CyclesAreFlat}
-use Rattle.flat_designs.proofs.Lists.{all_of, map_in}
+use Rattle.flat_designs.specs.Laws.{class_bits, net_bits, state_in_order, FlatIsThere, FlatIsOne, names_of_ports, AreMainPorts, HasFlatPorts, PortsAreFlat, DesignsHaveOneValuation, CyclesAreFlat, FlatIsNamed}
+use Rattle.flat_designs.proofs.Lists.{all_of, map_in, Pairs, all_pairs}
+use Rattle.flat_designs.proofs.Ports.{OtherName, inputs_apart, outputs_apart, kept_apart, names_apart}
 use Rattle.flat_designs.proofs.Names.{output_name, clock_name}
 use Rattle.flat_designs.proofs.Classes.{net_there, flat_net_at, class_is}
 use Rattle.flat_designs.proofs.Valuations.{ports_names, in_port_net, is_flat, of_flat, same_bit, state_length, valuations_are_flat}
@@ -75,6 +77,27 @@ ports_are_flat design flat faultless h = record {
   main_outs = are_main design flat faultless h (main_ports (λ (m : Model). m.outs) design) flat.outs h.outs (main_net design (λ (m : Model). m.outs) output_name);
   main_clocks = are_main design flat faultless h (main_ports (λ (m : Model). m.clocks) design) flat.clocks h.clocks (main_net design (λ (m : Model). m.clocks) clock_name);
 }
+
+-- the names of the flat ports differ
+main_outs_apart : (design : Design) → AreFaultless design.models → (o : Option Model) → main_model design ≡ o → Pairs OtherName (unwrap_or (option_map (λ (m : Model). m.outs) o) [])
+main_outs_apart design faultless None e = tt
+main_outs_apart design faultless (Some m) e = outputs_apart design.models faultless m (in_got design.models 0 m e)
+
+main_ins_apart : (design : Design) → AreFaultless design.models → (o : Option Model) → main_model design ≡ o → Pairs OtherName (unwrap_or (option_map (λ (m : Model). m.ins) o) [])
+main_ins_apart design faultless None e = tt
+main_ins_apart design faultless (Some m) e = inputs_apart design.models faultless m (in_got design.models 0 m e)
+
+named : (flat : Flat) (ports : List FlatPort) (own : List Port) → AreMainPorts flat ports → names_of_ports flat ports ≡ port_names own → Pairs OtherName own → AreNamedPorts flat ports
+named flat ports own main same apart = record { main = main; distinct = subst (AllPairs (λ (a b : Name). a ≢ b)) (sym same) (all_pairs (λ (a b : Name). a ≢ b) (port_names own) (names_apart own apart)) }
+
+pub flat_is_named : FlatIsNamed
+flat_is_named design flat faultless h =
+    let p : HasFlatPorts design flat = ports_are_flat design flat faultless h in
+    let ins : Pairs OtherName (main_ports (λ (m : Model). m.ins) design) = main_ins_apart design faultless (main_model design) refl in
+    record {
+      ins = named flat flat.ins h.in_ports p.main_ins (names_are design flat faultless h h.in_ports flat.ins h.ins (in_port_net design flat h)) (kept_apart design (main_ports (λ (m : Model). m.ins) design) h.in_ports h.are_in_ports ins);
+      outs = named flat flat.outs (main_ports (λ (m : Model). m.outs) design) p.main_outs p.outs (main_outs_apart design faultless (main_model design) refl);
+    }
 
 pub designs_have_one_valuation : DesignsHaveOneValuation
 designs_have_one_valuation design flat faultless clean h light order is_order names are_names inputs long state =

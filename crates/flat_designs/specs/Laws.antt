@@ -18,7 +18,7 @@ use Rattle.netlist_core.specs.OwnWeight.{rows_weight}
 use Rattle.netlist_rules.specs.ModelFaults.{AreFaultless}
 use Rattle.netlist_core.specs.declared.flat.Flat.{Flat}
 use Rattle.netlist_core.specs.declared.flat.FlatPort.{FlatPort}
-use Rattle.netlist_meaning.specs.Flat.{IsWeighed, IsSound, class_of, no_net}
+use Rattle.netlist_meaning.specs.Flat.{IsNamed, IsWeighed, IsSound, class_of, no_net}
 use Rattle.netlist_meaning.specs.FlatOrder.{IsFlatLoop, IsFirstOfClass, IsOrder}
 use Rattle.netlist_meaning.specs.FlatValuation.{IsFlatValuation, IsCycle}
 use Rattle.netlist_meaning.specs.InOrder.{of_some, places_in_order, by_line, words_on_line, first_names, names_in_order, nets_in_order}
@@ -80,12 +80,12 @@ FirstsAreRoots = (design : Design) (flat : Flat) → AreFaultless design.models 
     → IsFirstOfClass flat (id_of design net.place net.name) ↔ (root design net ≡ net)
 
 -- the bits of the latches' state, in the order of the flat latches
-abbrev pub bits_from : (ℕ → Bool) → ℕ → List LatchRow → List Bool
-bits_from state number [] = []
-bits_from state number (latch ∷ latches) = state number ∷ bits_from state (suc number) latches
+abbrev pub latch_bits_from : (ℕ → Bool) → ℕ → List LatchRow → List Bool
+latch_bits_from state number [] = []
+latch_bits_from state number (latch ∷ latches) = state number ∷ latch_bits_from state (suc number) latches
 
 abbrev pub state_in_order : Design → LatchState → List Bool
-state_in_order design state = flat_map (λ place. bits_from (state place) 0 (of_some (λ (model : Model). model.latches) (model_at design place))) (places_in_order design)
+state_in_order design state = flat_map (λ place. latch_bits_from (state place) 0 (of_some (λ (model : Model). model.latches) (model_at design place))) (places_in_order design)
 
 -- bits by class, from those of nets; and the other way round
 abbrev pub bit_of_net : Valuation → Net → Bool
@@ -145,7 +145,7 @@ abbrev pub AreMainPorts : Flat → List FlatPort → Type 0
 AreMainPorts flat ports = All (λ port. (get_or flat.nets port.net.0 no_net).place ≡ []) ports
 
 -- the flat ports are the IN names, the main outputs and the main clocks, in order, at the main model
-pub record HasPorts (design : Design) (flat : Flat) : Type 0 where
+pub record HasFlatPorts (design : Design) (flat : Flat) : Type 0 where
   pub ins : IsInNames design (names_of_ports flat flat.ins)
   pub outs : names_of_ports flat flat.outs ≡ main_outputs design
   pub clocks : names_of_ports flat flat.clocks ≡ main_clocks design
@@ -154,7 +154,7 @@ pub record HasPorts (design : Design) (flat : Flat) : Type 0 where
   pub main_clocks : AreMainPorts flat flat.clocks
 
 abbrev pub PortsAreFlat : Type 0
-PortsAreFlat = (design : Design) (flat : Flat) → AreFaultless design.models → IsFlatOf design flat → HasPorts design flat
+PortsAreFlat = (design : Design) (flat : Flat) → AreFaultless design.models → IsFlatOf design flat → HasFlatPorts design flat
 
 -- along an order of the flat nodes the design has exactly one valuation
 abbrev pub DesignsHaveOneValuation : Type 0
@@ -177,6 +177,10 @@ PartsAreFew = (design : Design) (flat : Flat) → IsFlatOf design flat → lengt
 -- so the weight bounds the nets and the parts
 abbrev pub FlatIsWeighed : Type 0
 FlatIsWeighed = (design : Design) (flat : Flat) → AreFaultless design.models → IsFlatOf design flat → weight design < 2 ^ 31 → IsWeighed flat
+
+-- the names of inputs are distinct, and so are those of outputs
+abbrev pub FlatIsNamed : Type 0
+FlatIsNamed = (design : Design) (flat : Flat) → AreFaultless design.models → IsFlatOf design flat → IsNamed flat
 
 -- roots by pins, outermost first: a net of the main model is its own root, a formal that a pin names has its actual's, and one that none names is its own
 pub record HasRootsByPins (design : Design) : Type 0 where

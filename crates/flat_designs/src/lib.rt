@@ -2,7 +2,7 @@
 #![tactic(auto)]
 
 ghost use Rattle.flat_designs.specs.ClockLaws.{ClockClassesAreClockNets, TwoClocksAreFlat, ClockReadIsFlat, ClockFaultsAreFlat};
-ghost use Rattle.flat_designs.specs.Laws.{PlacesAreListed, NamesAreListed, WordsStandByLine, NamesComeWhereFirst, NetsAreListed, ClassesAreJoined, FirstsAreRoots, ValuationsAreFlat, FlatIsSound, LoopsAreFlat, NetsAreFew, PartsAreFew, FlatIsWeighed, FlatIsThere, RootsAreByPins, FlatIsOne, PortsAreFlat, DesignsHaveOneValuation, CyclesAreFlat};
+ghost use Rattle.flat_designs.specs.Laws.{PlacesAreListed, NamesAreListed, WordsStandByLine, NamesComeWhereFirst, NetsAreListed, ClassesAreJoined, FirstsAreRoots, ValuationsAreFlat, FlatIsSound, LoopsAreFlat, NetsAreFew, PartsAreFew, FlatIsWeighed, FlatIsNamed, FlatIsThere, RootsAreByPins, FlatIsOne, PortsAreFlat, DesignsHaveOneValuation, CyclesAreFlat};
 
 /// The list of places has each place once, in order.
 pub fn places_are_listed()
@@ -117,4 +117,9 @@ pub fn clock_faults_are_flat()
 /// The weight bounds the nets and the parts of the flat netlist.
 pub fn flat_is_weighed()
     ensures { FlatIsWeighed }
+{}
+
+/// The flat netlist's inputs have distinct names, and so have its outputs, at the main model.
+pub fn flat_is_named()
+    ensures { FlatIsNamed }
 {}

@@ -10,7 +10,7 @@ use Rattle.netlist_core.specs.declared.flat.FlatPort.{FlatPort}
 use Rattle.netlist_core.specs.declared.flat.FlatLatch.{FlatLatch}
 use Rattle.netlist_core.specs.declared.flat.Flat.{Flat}
 use Rattle.netlist_meaning.specs.Flat.{class_of, out_class, port_classes}
-use Rattle.netlist_eval.specs.Eval.{put, latch_classes, settle_node, bit_of, evaluated}
+use Rattle.netlist_eval.specs.Eval.{put, latch_classes, settle_node, class_bit, evaluated}
 use Rattle.netlist_meaning.specs.FlatValuation.{node_value}
 use Rattle.netlist_eval.proofs.Valuations.{no_port, no_latch}
 
@@ -29,15 +29,15 @@ input_at flat k port l e = ap (λ (p : FlatPort). class_of flat p.net) (sym (get
 pub latch_at : (flat : Flat) (k : ℕ) (it : FlatLatch) → k < length flat.latches → slice_get flat.latches k ≡ Some it → class_of flat it.output ≡ get_or (latch_classes flat flat.latches) k 0
 latch_at flat k it l e = ap (λ (p : FlatLatch). class_of flat p.output) (sym (get_or_from_slice_get flat.latches k it no_latch e)) ∙ sym (get_or-map (λ (p : FlatLatch). class_of flat p.output) flat.latches k no_latch 0 l)
 
-pub settle_more : (flat : Flat) (order : List ℕ) (bits now : List Bool) (i n at : ℕ) (value : Bool) → i < length order → now ≡ fold (settle_node flat) bits (take i order) → n ≡ get_or order i 0 → at ≡ out_class flat n → value ≡ node_value flat (bit_of now) n
+pub settle_more : (flat : Flat) (order : List ℕ) (bits now : List Bool) (i n at : ℕ) (value : Bool) → i < length order → now ≡ fold (settle_node flat) bits (take i order) → n ≡ get_or order i 0 → at ≡ out_class flat n → value ≡ node_value flat (class_bit now) n
     → set now at value ≡ fold (settle_node flat) bits (take (i + 1) order)
 settle_more flat order bits now i n at value l is n_is at_is value_is =
     ap₂ (set now) at_is value_is ∙ ap (settle_node flat now) n_is ∙ ap (λ v. settle_node flat v (get_or order i 0)) is ∙ sym (fold_more (settle_node flat) bits order i 0 l)
 
 -- what is read of the bits of a cycle is told by what they are made of
 pub same_read : {X : Type 0} (net : X → ℕ) (xs : List X) (flat : Flat) (inputs : List Bool) (order order' : List ℕ) (state state' bits bits' : List Bool) → order' ≡ order → state' ≡ state → bits' ≡ bits
-    → map (λ x. bit_of (evaluated flat order' inputs state' bits') (net x)) xs ≡ map (λ x. bit_of (evaluated flat order inputs state bits) (net x)) xs
+    → map (λ x. class_bit (evaluated flat order' inputs state' bits') (net x)) xs ≡ map (λ x. class_bit (evaluated flat order inputs state bits) (net x)) xs
 same_read net xs flat inputs order order' state state' bits bits' e f g =
-    ap (λ v. map (λ x. bit_of (evaluated flat v inputs state' bits') (net x)) xs) e
-    ∙ ap (λ v. map (λ x. bit_of (evaluated flat order inputs v bits') (net x)) xs) f
-    ∙ ap (λ v. map (λ x. bit_of (evaluated flat order inputs state v) (net x)) xs) g
+    ap (λ v. map (λ x. class_bit (evaluated flat v inputs state' bits') (net x)) xs) e
+    ∙ ap (λ v. map (λ x. class_bit (evaluated flat order inputs v bits') (net x)) xs) f
+    ∙ ap (λ v. map (λ x. class_bit (evaluated flat order inputs state v) (net x)) xs) g

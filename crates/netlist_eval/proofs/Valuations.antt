@@ -13,7 +13,7 @@ use Rattle.netlist_core.specs.declared.flat.Flat.{Flat}
 use Rattle.netlist_meaning.specs.Flat.{IsClockClass, class_of, node_at, no_node, in_classes, out_class, FlatDriver, input, latch, node, FlatDrives, IsSound, IsNetId, port_classes}
 use Rattle.netlist_meaning.specs.FlatOrder.{IsDrivenBy, IsOrder}
 use Rattle.netlist_meaning.specs.FlatValuation.{node_value, IsFlatValuation, AgreeWhereDriven}
-use Rattle.netlist_eval.specs.Eval.{OrderedHaveOneValuation, CyclesAreOne, bit_of, put, latch_classes, with_inputs, with_state, settle_node, settled, evaluated}
+use Rattle.netlist_eval.specs.Eval.{OrderedHaveOneValuation, CyclesAreOne, class_bit, put, latch_classes, with_inputs, with_state, settle_node, settled, evaluated}
 use Rattle.netlist_eval.proofs.Writes.{length_written, stable, written}
 
 abbrev pub no_id : NetId
@@ -72,10 +72,10 @@ map_same f g (x ∷ xs) d e = ap₂ (λ b bs. b ∷ bs) (e 0 (omega arith)) (map
 -- bits that are put at places of which no two are one
 put_there : (places : List ℕ) (values bits : List Bool) (k : ℕ) → length values ≡ length places → k < length places → get_or places k 0 < length bits
     → ((i j : ℕ) → i < length places → j < length places → get_or places i 0 ≡ get_or places j 0 → i ≡ j)
-    → bit_of (fold put bits (zip places values)) (get_or places k 0) ≡ get_or values k false
+    → class_bit (fold put bits (zip places values)) (get_or places k 0) ≡ get_or values k false
 put_there places values bits k fit l within apart =
     let pair : get_or (zip places values) k (0, false) ≡ (get_or places k 0, get_or values k false) = get_or-zip places values k (0, false) l (omega arith) in
-    ap (λ v. bit_of (fold put bits (zip places values)) v) (sym (ap (λ (p : ℕ × Bool). p.0) pair))
+    ap (λ v. class_bit (fold put bits (zip places values)) v) (sym (ap (λ (p : ℕ × Bool). p.0) pair))
     ∙ written (λ (p : ℕ × Bool). p.0) (λ bits p. p.1) (zip places values) (0, false) bits k (omega (arith, long)) (subst (λ v. v < length bits) (sym (ap (λ (p : ℕ × Bool). p.0) pair)) within) others
     ∙ ap (λ (p : ℕ × Bool). p.1) pair
   where
@@ -91,7 +91,7 @@ put_there places values bits k fit l within apart =
         let e : i ≡ k = apart i k less' l (sym (first i less') ∙ same ∙ first k l) in
         absurd (omega arith)
 
-put_elsewhere : (places : List ℕ) (values bits : List Bool) (at : ℕ) → length values ≡ length places → ((i : ℕ) → i < length places → get_or places i 0 ≢ at) → bit_of (fold put bits (zip places values)) at ≡ bit_of bits at
+put_elsewhere : (places : List ℕ) (values bits : List Bool) (at : ℕ) → length values ≡ length places → ((i : ℕ) → i < length places → get_or places i 0 ≢ at) → class_bit (fold put bits (zip places values)) at ≡ class_bit bits at
 put_elsewhere places values bits at fit away =
     stable (λ (p : ℕ × Bool). p.0) (λ bits p. p.1) (zip places values) (0, false) bits 0 at (omega arith)
     (λ i a l same. (let long : length (zip places values) ≡ length places = long in let less : i < length places = omega arith in away i less (sym (ap (λ (p : ℕ × Bool). p.0) (get_or-zip places values i (0, false) less (omega arith))) ∙ same)))
@@ -112,12 +112,12 @@ latch_place flat k l = get_or-map (λ (latch : FlatLatch). class_of flat latch.o
 
 -- a node's value does not change once it is computed
 node_settled : (flat : Flat) → IsSound flat → (order : List ℕ) → IsOrder flat order → (bits : List Bool) → length bits ≡ length flat.nets → (n : ℕ) → n < length flat.nodes
-    → bit_of (settled flat order bits) (out_class flat n) ≡ node_value flat (bit_of (settled flat order bits)) n
+    → class_bit (settled flat order bits) (out_class flat n) ≡ node_value flat (class_bit (settled flat order bits)) n
 node_settled flat s order o bits fit n l =
-    ap (λ v. bit_of (settled flat order bits) (out_class flat v)) (sym at)
-    ∙ written (out_class flat) (λ bits n. node_value flat (bit_of bits) n) order 0 bits i less within later
-    ∙ ap (node_value flat (bit_of (fold (settle_node flat) bits (take i order)))) at
-    ∙ ap (cover_value (node_at flat n).rows (node_at flat n).on) (map_same (λ net. bit_of (fold (settle_node flat) bits (take i order)) (class_of flat net)) (λ net. bit_of (settled flat order bits) (class_of flat net)) (node_at flat n).ins no_id reads)
+    ap (λ v. class_bit (settled flat order bits) (out_class flat v)) (sym at)
+    ∙ written (out_class flat) (λ bits n. node_value flat (class_bit bits) n) order 0 bits i less within later
+    ∙ ap (node_value flat (class_bit (fold (settle_node flat) bits (take i order)))) at
+    ∙ ap (cover_value (node_at flat n).rows (node_at flat n).on) (map_same (λ net. class_bit (fold (settle_node flat) bits (take i order)) (class_of flat net)) (λ net. class_bit (settled flat order bits) (class_of flat net)) (node_at flat n).ins no_id reads)
   where
     there : Contains order n
     there = o.all n l
@@ -137,8 +137,8 @@ node_settled flat s order o bits fit n l =
     later : (k : ℕ) → there.0 < k → k < length order → out_class flat (get_or order k 0) ≢ out_class flat (get_or order there.0 0)
     later k more in_k same = o.once there.0 k 0 more in_k (sym (nodes_apart flat s _ _ (o.nodes k 0 in_k) (o.nodes there.0 0 there.1) same))
 
-    reads : (k : ℕ) → k < length (node_at flat n).ins → bit_of (fold (settle_node flat) bits (take there.0 order)) (class_of flat (get_or (node_at flat n).ins k no_id)) ≡ bit_of (settled flat order bits) (class_of flat (get_or (node_at flat n).ins k no_id))
-    reads k in_ins = sym (stable (out_class flat) (λ bits n. node_value flat (bit_of bits) n) order 0 bits there.0 (class_of flat (get_or (node_at flat n).ins k no_id)) (omega (arith, there.1))
+    reads : (k : ℕ) → k < length (node_at flat n).ins → class_bit (fold (settle_node flat) bits (take there.0 order)) (class_of flat (get_or (node_at flat n).ins k no_id)) ≡ class_bit (settled flat order bits) (class_of flat (get_or (node_at flat n).ins k no_id))
+    reads k in_ins = sym (stable (out_class flat) (λ bits n. node_value flat (class_bit bits) n) order 0 bits there.0 (class_of flat (get_or (node_at flat n).ins k no_id)) (omega (arith, there.1))
         (λ j up in_j same. (let class : get_or (in_classes flat n) k 0 ≡ class_of flat (get_or (node_at flat n).ins k no_id) = get_or-map (class_of flat) (node_at flat n).ins k no_id 0 in_ins in
         let r : IsDrivenBy flat n k (get_or order j 0) = (o.nodes j 0 in_j, subst (λ v. k < v) (sym (length-map (node_at flat n).ins (class_of flat))) in_ins, class ∙ sym same) in
         let (before, lower, is) = o.after there.0 k (get_or order j 0) there.1 (subst (λ v. IsDrivenBy flat v k (get_or order j 0)) (sym at) r) in
@@ -146,13 +146,13 @@ node_settled flat s order o bits fit n l =
 
 -- evaluation gives a valuation
 pub evaluated_solves : (flat : Flat) → IsSound flat → (order : List ℕ) → IsOrder flat order → (inputs state bits : List Bool) → length inputs ≡ length flat.ins → length state ≡ length flat.latches → length bits ≡ length flat.nets
-    → IsFlatValuation flat inputs state (bit_of (evaluated flat order inputs state bits))
+    → IsFlatValuation flat inputs state (class_bit (evaluated flat order inputs state bits))
 unfolding in_class latch_class
 evaluated_solves flat s order o inputs state bits ins_fit state_fit fit = record {
-  inputs_given = same_lists (map (λ (port : FlatPort). bit_of (evaluated flat order inputs state bits) (class_of flat port.net)) flat.ins) inputs (length-map flat.ins _ ∙ sym ins_fit)
-      (λ k d l. (let less : k < length flat.ins = subst (λ v. k < v) (length-map flat.ins _) l in get_or-map (λ (port : FlatPort). bit_of (evaluated flat order inputs state bits) (class_of flat port.net)) flat.ins k no_port d less ∙ input_bit k less ∙ get_or_default inputs k false d (omega arith)));
-  latches_hold = same_lists (map (λ (latch : FlatLatch). bit_of (evaluated flat order inputs state bits) (class_of flat latch.output)) flat.latches) state (length-map flat.latches _ ∙ sym state_fit)
-      (λ k d l. (let less : k < length flat.latches = subst (λ v. k < v) (length-map flat.latches _) l in get_or-map (λ (latch : FlatLatch). bit_of (evaluated flat order inputs state bits) (class_of flat latch.output)) flat.latches k no_latch d less ∙ latch_bit k less ∙ get_or_default state k false d (omega arith)));
+  inputs_given = same_lists (map (λ (port : FlatPort). class_bit (evaluated flat order inputs state bits) (class_of flat port.net)) flat.ins) inputs (length-map flat.ins _ ∙ sym ins_fit)
+      (λ k d l. (let less : k < length flat.ins = subst (λ v. k < v) (length-map flat.ins _) l in get_or-map (λ (port : FlatPort). class_bit (evaluated flat order inputs state bits) (class_of flat port.net)) flat.ins k no_port d less ∙ input_bit k less ∙ get_or_default inputs k false d (omega arith)));
+  latches_hold = same_lists (map (λ (latch : FlatLatch). class_bit (evaluated flat order inputs state bits) (class_of flat latch.output)) flat.latches) state (length-map flat.latches _ ∙ sym state_fit)
+      (λ k d l. (let less : k < length flat.latches = subst (λ v. k < v) (length-map flat.latches _) l in get_or-map (λ (latch : FlatLatch). class_bit (evaluated flat order inputs state bits) (class_of flat latch.output)) flat.latches k no_latch d less ∙ latch_bit k less ∙ get_or_default state k false d (omega arith)));
   nodes_hold = node_settled flat s order o (with_state flat state (with_inputs flat inputs bits)) (length_put (zip (latch_classes flat flat.latches) state) (with_inputs flat inputs bits) ∙ length_put (zip (port_classes flat flat.ins) inputs) bits ∙ fit);
 }
   where
@@ -168,17 +168,17 @@ evaluated_solves flat s order o inputs state bits ins_fit state_fit fit = record
     state_apart : (i j : ℕ) → i < length (latch_classes flat flat.latches) → j < length (latch_classes flat flat.latches) → get_or (latch_classes flat flat.latches) i 0 ≡ get_or (latch_classes flat flat.latches) j 0 → i ≡ j
     state_apart i j a b e = let a' : i < length flat.latches = omega (arith, latch_places) in let b' : j < length flat.latches = omega (arith, latch_places) in latches_apart flat s i j a' b' (sym (latch_place flat i a') ∙ e ∙ latch_place flat j b')
 
-    input_bit : (k : ℕ) → k < length flat.ins → bit_of (evaluated flat order inputs state bits) (in_class flat k) ≡ get_or inputs k false
+    input_bit : (k : ℕ) → k < length flat.ins → class_bit (evaluated flat order inputs state bits) (in_class flat k) ≡ get_or inputs k false
     input_bit k l =
-        stable (out_class flat) (λ bits n. node_value flat (bit_of bits) n) order 0 (with_state flat state (with_inputs flat inputs bits)) 0 (in_class flat k) (omega arith) (λ j a in_j same. node_no_input flat s (get_or order j 0) k (o.nodes j 0 in_j) l same)
+        stable (out_class flat) (λ bits n. node_value flat (class_bit bits) n) order 0 (with_state flat state (with_inputs flat inputs bits)) 0 (in_class flat k) (omega arith) (λ j a in_j same. node_no_input flat s (get_or order j 0) k (o.nodes j 0 in_j) l same)
         ∙ put_elsewhere (latch_classes flat flat.latches) state (with_inputs flat inputs bits) (in_class flat k) (state_fit ∙ sym latch_places) (λ i in_i same. (let i' : i < length flat.latches = omega (arith, latch_places) in latch_no_input flat s i k i' l (sym (latch_place flat i i') ∙ same)))
-        ∙ ap (bit_of (with_inputs flat inputs bits)) (sym (in_place flat k l))
+        ∙ ap (class_bit (with_inputs flat inputs bits)) (sym (in_place flat k l))
         ∙ put_there (port_classes flat flat.ins) inputs bits k (ins_fit ∙ sym places) (omega (arith, places)) (subst (λ v. v < length bits) (sym (in_place flat k l)) (subst (λ v. in_class flat k < v) (sym fit) (class_within flat s (get_or flat.ins k no_port).net (s.in_range.ins k no_port l)))) ins_apart
 
-    latch_bit : (k : ℕ) → k < length flat.latches → bit_of (evaluated flat order inputs state bits) (latch_class flat k) ≡ get_or state k false
+    latch_bit : (k : ℕ) → k < length flat.latches → class_bit (evaluated flat order inputs state bits) (latch_class flat k) ≡ get_or state k false
     latch_bit k l =
-        stable (out_class flat) (λ bits n. node_value flat (bit_of bits) n) order 0 (with_state flat state (with_inputs flat inputs bits)) 0 (latch_class flat k) (omega arith) (λ j a in_j same. node_no_latch flat s (get_or order j 0) k (o.nodes j 0 in_j) l same)
-        ∙ ap (bit_of (with_state flat state (with_inputs flat inputs bits))) (sym (latch_place flat k l))
+        stable (out_class flat) (λ bits n. node_value flat (class_bit bits) n) order 0 (with_state flat state (with_inputs flat inputs bits)) 0 (latch_class flat k) (omega arith) (λ j a in_j same. node_no_latch flat s (get_or order j 0) k (o.nodes j 0 in_j) l same)
+        ∙ ap (class_bit (with_state flat state (with_inputs flat inputs bits))) (sym (latch_place flat k l))
         ∙ put_there (latch_classes flat flat.latches) state (with_inputs flat inputs bits) k (state_fit ∙ sym latch_places) (omega (arith, latch_places)) (subst (λ v. v < length (with_inputs flat inputs bits)) (sym (latch_place flat k l)) (subst (λ v. latch_class flat k < v) (sym (length_put (zip (port_classes flat flat.ins) inputs) bits ∙ fit)) (class_within flat s (get_or flat.latches k no_latch).output (s.in_range.latches k no_latch l).1))) state_apart
 
 -- two valuations agree
@@ -260,8 +260,8 @@ agree flat s order o f g t class (node n) (in_n, e) =
 
 pub one_valuation : OrderedHaveOneValuation
 one_valuation flat s order o inputs state ins_fit state_fit =
-    let solves : IsFlatValuation flat inputs state (bit_of (evaluated flat order inputs state (replicate (length flat.nets) false))) = evaluated_solves flat s order o inputs state (replicate (length flat.nets) false) ins_fit state_fit (length-replicate (length flat.nets) false) in
-    (bit_of (evaluated flat order inputs state (replicate (length flat.nets) false)), solves, λ others is. agree flat s order o _ others (record { inputs = inputs; state = state; first = solves; second = is }))
+    let solves : IsFlatValuation flat inputs state (class_bit (evaluated flat order inputs state (replicate (length flat.nets) false))) = evaluated_solves flat s order o inputs state (replicate (length flat.nets) false) ins_fit state_fit (length-replicate (length flat.nets) false) in
+    (class_bit (evaluated flat order inputs state (replicate (length flat.nets) false)), solves, λ others is. agree flat s order o _ others (record { inputs = inputs; state = state; first = solves; second = is }))
 
 pub cycles_are_one : CyclesAreOne
 cycles_are_one flat s order o inputs state outputs next outputs' next' a b = (

@@ -13,8 +13,8 @@ OrderedHaveOneValuation = (flat : Flat) → IsSound flat → (order : List ℕ) 
     → (bits : ℕ → Bool) × IsFlatValuation flat inputs state bits × ((others : ℕ → Bool) → IsFlatValuation flat inputs state others → AgreeWhereDriven flat bits others)
 
 -- bits by class, as they are computed
-abbrev pub bit_of : List Bool → ℕ → Bool
-bit_of bits class = get_or bits class false
+abbrev pub class_bit : List Bool → ℕ → Bool
+class_bit bits class = get_or bits class false
 
 abbrev pub put : List Bool → ℕ × Bool → List Bool
 put bits at = slice_set bits at.0 at.1
@@ -29,7 +29,7 @@ abbrev pub with_state : Flat → List Bool → List Bool → List Bool
 with_state flat state bits = fold put bits (zip (latch_classes flat flat.latches) state)
 
 abbrev pub settle_node : Flat → List Bool → ℕ → List Bool
-settle_node flat bits n = slice_set bits (out_class flat n) (node_value flat (bit_of bits) n)
+settle_node flat bits n = slice_set bits (out_class flat n) (node_value flat (class_bit bits) n)
 
 abbrev pub settled : Flat → List ℕ → List Bool → List Bool
 settled flat order bits = fold (settle_node flat) bits order

@@ -2,7 +2,7 @@
 ghost use Rattle.std.specs.Prelude.{◌≡◌, ◌<◌, length, map, All, IfOk, ◌==◌};
 ghost use Rattle.netlist_meaning.specs.FlatValuation.{start_bits};
 ghost use Rattle.netlist_meaning.specs.Flat.{IsInRange, class_of};
-ghost use Rattle.netlist_eval.specs.Eval.{bit_of, with_inputs, with_state, settled, evaluated};
+ghost use Rattle.netlist_eval.specs.Eval.{class_bit, with_inputs, with_state, settled, evaluated};
 
 use crate::cover::{net_bit, node_bit};
 use netlist_core::Flat;
@@ -52,7 +52,7 @@ pub fn read_outputs(flat: &Flat, bits: &[bool], outputs: &mut [bool])
     requires in_range { IsInRange flat.now }
     requires bits { length bits.now ≡ length flat.now.nets }
     requires outputs { length outputs.old ≡ length flat.now.outs }
-    ensures { outputs.new ≡ map (λ port. bit_of bits.now (class_of flat.now port.net)) flat.now.outs }
+    ensures { outputs.new ≡ map (λ port. class_bit bits.now (class_of flat.now port.net)) flat.now.outs }
 {
     for (k, port) in flat.outs.as_slice().iter().enumerate() {
         outputs[k] = net_bit(flat, bits, port.net);
@@ -64,7 +64,7 @@ pub fn read_state(flat: &Flat, bits: &[bool], state: &mut [bool])
     requires in_range { IsInRange flat.now }
     requires bits { length bits.now ≡ length flat.now.nets }
     requires state { length state.old ≡ length flat.now.latches }
-    ensures { state.new ≡ map (λ latch. bit_of bits.now (class_of flat.now latch.input)) flat.now.latches }
+    ensures { state.new ≡ map (λ latch. class_bit bits.now (class_of flat.now latch.input)) flat.now.latches }
 {
     for (k, latch) in flat.latches.as_slice().iter().enumerate() {
         state[k] = net_bit(flat, bits, latch.input);
@@ -86,8 +86,8 @@ pub fn run_cycle(
     requires state { length state.old ≡ length flat.now.latches }
     requires inputs { length inputs.now ≡ length flat.now.ins }
     requires outputs { length outputs.old ≡ length flat.now.outs }
-    ensures outputs { outputs.new ≡ map (λ port. bit_of (evaluated flat.now order.now inputs.now state.old bits.old) (class_of flat.now port.net)) flat.now.outs }
-    ensures state { state.new ≡ map (λ latch. bit_of (evaluated flat.now order.now inputs.now state.old bits.old) (class_of flat.now latch.input)) flat.now.latches }
+    ensures outputs { outputs.new ≡ map (λ port. class_bit (evaluated flat.now order.now inputs.now state.old bits.old) (class_of flat.now port.net)) flat.now.outs }
+    ensures state { state.new ≡ map (λ latch. class_bit (evaluated flat.now order.now inputs.now state.old bits.old) (class_of flat.now latch.input)) flat.now.latches }
 {
     put_inputs(flat, inputs, bits);
     put_state(flat, state, bits);

@@ -1,5 +1,6 @@
 -- Along an order there is a valuation.
 use Rattle.std.proofs.Common.{◌≡◌, ◌≢◌, refl, sym, ap, subst, ◌∙◌, ℕ, zero, suc, pred, ◌+◌, ◌<◌, ◌≤◌, ◌⊎◌, inl, inr, List, [], ◌∷◌, ◌++◌, map, Bool, true, false, cond, not, ◌||◌, ◌&&◌, ◌==◌, true≢false, arith, length, slice_get, option_and_then}
+use Rattle.std.specs.List.{IsDistinct}
 use Rattle.std.specs.Prelude.{Some, None, Option, bytes_eq, Contains, option_map, unwrap_or, option_to_list, flat_map}
 use Rattle.std.specs.Bool.{then_some}
 use Rattle.std.proofs.lemmas.Slice.Eq.{bytes_eq-Decides}
@@ -26,7 +27,8 @@ use Rattle.netlist_meaning.proofs.Names.{and_then-from}
 use Rattle.netlist_rules.specs.declared.fault.FaultKind.TheVariants.{DuplicatePort}
 use Rattle.netlist_rules.specs.Drivers.{stands_earlier, repeats_after, repeats}
 use Rattle.netlist_rules.specs.ModelFaults.{AreFaultless, doubles_after, is_output_before, is_input_by_then, duplicate_ports}
-use Rattle.lists.proofs.Members.{In, in_from, contains_from, in_left, in_right, in_parts, is_in, in_flat, in_map, Distinct}
+use Rattle.lists.proofs.Members.{is_distinct, In, in_from, contains_from, in_left, in_right, in_parts, is_in, in_flat, in_map, Distinct}
+use Rattle.sound_designs.specs.Laws.{FaultlessHaveDistinctPorts}
 use Rattle.sound_designs.specs.OneDriver.{Driver, Drives}
 use Rattle.sound_designs.specs.OneDriver.Driver.{port, cover, latch}
 use Rattle.sound_designs.specs.OneDriver.Drives.{of_port, of_cover, of_latch}
@@ -309,6 +311,27 @@ named_apart (p ∷ ps) x a (inr i) = named_apart ps x (λ q j. a q (inr j)) i
 distinct_names : (ports : List Port) → Apart ports → Distinct (port_names ports)
 distinct_names [] a = tt
 distinct_names (p ∷ ps) a = (named_apart ps p a.0, distinct_names ps a.1)
+
+pub ports_are_distinct : FaultlessHaveDistinctPorts
+ports_are_distinct models faultless m has = record { ins = distinct (is_output_before m) m.ins ins; clocks = distinct (is_output_before m) m.clocks clocks; outs = distinct (is_input_by_then m) m.outs outs }
+  where
+    distinct : (test : Port → Bool) (ports : List Port) → doubles_after test [] ports ≡ [] → IsDistinct bytes_eq (port_names ports)
+    distinct test ports e = is_distinct (port_names ports) (distinct_names ports (no_repeat ports (no_double test [] ports e)))
+
+    none : duplicate_ports m ≡ []
+    none = clean_of models faultless DuplicatePort m (in_from models m has)
+
+    both : doubles_after (is_output_before m) [] m.ins ++ doubles_after (is_output_before m) [] m.clocks ≡ []
+    both = none_left _ (doubles_after (is_input_by_then m) [] m.outs) none
+
+    ins : doubles_after (is_output_before m) [] m.ins ≡ []
+    ins = none_left _ (doubles_after (is_output_before m) [] m.clocks) both
+
+    clocks : doubles_after (is_output_before m) [] m.clocks ≡ []
+    clocks = none_right (doubles_after (is_output_before m) [] m.ins) _ both
+
+    outs : doubles_after (is_input_by_then m) [] m.outs ≡ []
+    outs = none_right (doubles_after (is_output_before m) [] m.ins ++ doubles_after (is_output_before m) [] m.clocks) _ none
 
 still_in : (design : Design) {names rest : List Name} (name : Name) → WithoutControl design names rest → In name rest → In name names
 still_in design name none i = i

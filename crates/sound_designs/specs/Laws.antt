@@ -1,5 +1,8 @@
 -- What a design without a fault has, in the words of what designs mean.
-use Rattle.std.specs.Prelude.{◌≡◌}
+use Rattle.std.specs.Prelude.{List, bytes_eq, Contains}
+use Rattle.std.specs.List.{IsDistinct}
+use Rattle.netlist_core.specs.declared.model.Model.{Model}
+use Rattle.netlist_core.specs.Names.{port_names}
 use Rattle.netlist_core.specs.declared.model.Design.{Design}
 use Rattle.netlist_meaning.specs.Roots.{NamesFormalsOnce}
 use Rattle.netlist_meaning.specs.Laws.{IsNotRecursive}
@@ -13,6 +16,15 @@ FaultlessAreNotRecursive = (design : Design) → AreFaultless design.models → 
 -- no line names a formal with two actuals
 abbrev pub FaultlessNameFormalsOnce : Type 0
 FaultlessNameFormalsOnce = (design : Design) → AreFaultless design.models → NamesFormalsOnce design
+
+-- no name stands twice in a model's `.inputs`, `.clock` or `.outputs`
+pub record HasDistinctPorts (model : Model) : Type 0 where
+  pub ins : IsDistinct bytes_eq (port_names model.ins)
+  pub clocks : IsDistinct bytes_eq (port_names model.clocks)
+  pub outs : IsDistinct bytes_eq (port_names model.outs)
+
+abbrev pub FaultlessHaveDistinctPorts : Type 0
+FaultlessHaveDistinctPorts = (models : List Model) → AreFaultless models → (model : Model) → Contains models model → HasDistinctPorts model
 
 -- and without a fault of clocks it is wired
 abbrev pub FaultlessAreWired : Type 0

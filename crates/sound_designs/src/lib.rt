@@ -3,7 +3,7 @@
 
 ghost use Rattle.sound_designs.specs.OneDriver.{FaultlessHaveAtMostOneDriver, FaultlessHaveDrivers};
 ghost use Rattle.sound_designs.specs.Order.{OrderedHaveAtMostOneValuation, OrderedHaveNoLoop, OrderedHaveAValuation};
-ghost use Rattle.sound_designs.specs.Laws.{FaultlessAreNotRecursive, FaultlessNameFormalsOnce, FaultlessAreWired};
+ghost use Rattle.sound_designs.specs.Laws.{FaultlessAreNotRecursive, FaultlessNameFormalsOnce, FaultlessHaveDistinctPorts, FaultlessAreWired};
 
 /// No model stands inside a place of itself.
 #[tactic(auto, using(crate::proofs::Sound::not_recursive))]
@@ -45,4 +45,9 @@ pub fn ordered_have_no_loop()
 /// Along an order of its covers a design has a valuation.
 pub fn ordered_have_a_valuation()
     ensures { OrderedHaveAValuation }
+{}
+
+/// No name stands twice in a list of ports of a model.
+pub fn faultless_have_distinct_ports()
+    ensures { FaultlessHaveDistinctPorts }
 {}
