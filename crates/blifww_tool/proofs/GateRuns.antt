@@ -8,19 +8,19 @@ use Rattle.std.proofs.lemmas.Option.{slice_get-get_or}
 use Rattle.std.specs.Prelude.{Option, Some, None, slice_get, All}
 use Rattle.ww_rule.specs.Wireworld.{Due, driven}
 use Rattle.ww_rule.specs.Grid.{plane_of}
-use Rattle.ww_rule.specs.Injections.{due_of_streams}
+use Rattle.ww_rule.specs.Injections.{due_of_streams, before_injections, MeetsConductors}
 use Rattle.ww_rule.proofs.Streams.{streams_injected}
 use Rattle.tile_core.specs.Drawing.{is_among}
 use Rattle.netlist_meaning.specs.Valuation.{Valuation, AreInputRows, IsRun, output_bit}
-use Rattle.netlist_meaning.specs.Instances.{IsOneCover, Computes, or_rows}
-use Rattle.netlist_meaning.proofs.OneCover.{one_cover_computes_or, in_names_are}
+use Rattle.one_cover.specs.OneCover.{IsOneCover, Computes, or_cover_rows}
+use Rattle.one_cover.proofs.OneCover.{one_cover_computes_or, in_names_are}
 use Rattle.netlist_meaning.proofs.Joined.{in_names_are_one}
-use Rattle.blif_text.specs.OrGate.{or_gate_model, or_gate_cover}
+use Rattle.or_gate_text.specs.OrGate.{or_gate_model, or_gate_cover}
 use Rattle.pattern_reading.specs.declared.ports.PortLine.{PortLine}
 use Rattle.pattern_reading.specs.declared.ports.Ports.{Ports}
 use Rattle.pattern_reading.specs.PortTable.{ports_of}
 use Rattle.pattern_samples.specs.NamedGate.{named_or_forms}
-use Rattle.carries.specs.Carries.{drive, before_injections, MeetsConductors, ShowsBits, ShowsRuns}
+use Rattle.carries.specs.Carries.{drive, ShowsOutput, ShowsRuns}
 use Rattle.or_gate.specs.OrGate.{or_grid, gate_plane, DrivesGate, gate_entries as entries, is_lit, ShowsOr}
 use Rattle.or_gate.specs.OrGate as gate
 use Rattle.blifww_tool.specs.Thin.{Names, HasDistinctPorts}
@@ -98,7 +98,7 @@ lit_bits rows t = ap₂ (λ p q. p || q) (upper_bit rows t) (lower_bit rows t)
 no_row : (rows : List (List Bool)) (t : ℕ) → length rows ≤ t → (bit rows t 0 || bit rows t 1) ≡ false
 no_row rows t h = ap (λ row. get_or row 0 false || get_or row 1 false) (get_or_past rows t [] h)
 
-pub one_cover : (n : Names) → IsOneCover n.a n.b n.y or_rows true (thin_design n)
+pub one_cover : (n : Names) → IsOneCover n.a n.b n.y or_cover_rows true (thin_design n)
 one_cover n =
     record {
       main = or_gate_model n.model n.a n.b n.y;
@@ -122,7 +122,7 @@ gate_computes n h = one_cover_computes_or n.a n.b n.y (thin_design n) h.inputs h
 -- the rows have two bits each
 two_bits : (n : Names) (rows : List (List Bool)) → AreInputRows (thin_design n) rows → All (λ row. length row ≡ 2) rows
 two_bits n rows (names, are, long) =
-    let same : names ≡ n.a ∷ n.b ∷ [] = in_names_are_one (thin_design n) names (n.a ∷ n.b ∷ []) are (in_names_are n.a n.b n.y or_rows true (thin_design n) (one_cover n)) in
+    let same : names ≡ n.a ∷ n.b ∷ [] = in_names_are_one (thin_design n) names (n.a ∷ n.b ∷ []) are (in_names_are n.a n.b n.y or_cover_rows true (thin_design n) (one_cover n)) in
     subst (λ ns. All (λ row. length row ≡ length ns) rows) same long
 
 two : (row : List Bool) → length row ≡ 2 → row ≡ get_or row 0 false ∷ get_or row 1 false ∷ []
@@ -140,7 +140,7 @@ output_is n h rows are run is t lt =
 
 gate_heads : ShowsOr → (n : Names) → HasDistinctPorts n → (rows : List (List Bool)) → AreInputRows (thin_design n) rows → (run : ℕ → Valuation) → IsRun (thin_design n) rows run
     → (output : ℕ) (cell : PortLine) → slice_get (gate_ports n).outs output ≡ Some cell → (g : ℕ) → g < 32 + length rows * 32
-    → ShowsBits (gate_ports n) (length rows) (λ t. output_bit (thin_design n) (run t) output) g (driven (drive (gate_ports n) rows) (plane_of or_grid.rows) g) cell
+    → ShowsOutput (gate_ports n) (length rows) (λ t. output_bit (thin_design n) (run t) output) g (driven (drive (gate_ports n) rows) (plane_of or_grid.rows) g) cell
 gate_heads s n h rows are run is zero cell e g lt = (
   λ head.
       let found = (s.heads (gate_due rows) (drives rows) g).0 (ap (λ c. driven (gate_due rows) gate_plane g (pos c.x) (pos c.y)) (some_is e) ∙ head) in

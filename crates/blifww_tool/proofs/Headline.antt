@@ -4,8 +4,8 @@ use Rattle.std.proofs.lemmas.Bool.{true≢false}
 use Rattle.std.proofs.lemmas.List.{append-nil}
 use Rattle.pattern_reading.specs.Spelling.{IsPortName}
 use Rattle.pattern_samples.proofs.NamedGate.{named_gate}
-use Rattle.netlist_meaning.proofs.OneCover.{in_names_are}
-use Rattle.netlist_meaning.specs.Instances.{or_rows}
+use Rattle.one_cover.proofs.OneCover.{in_names_are}
+use Rattle.one_cover.specs.OneCover.{or_cover_rows}
 use Rattle.std.specs.Prelude.{Option, Some, None}
 use Rattle.std.specs.Io.KnownBytes.{Consumes, Appends, IsAtEnd}
 use Rattle.carries.specs.Carries.{Carries}
@@ -36,7 +36,7 @@ carries gate text n h =
       ports = gate_ports n;
       reads = reads.0;
       table = reads.1 h.ports.inputs;
-      names = record { ins = in_names_are n.a n.b n.y or_rows true (thin_design n) (one_cover n); outs = refl };
+      names = record { ins = in_names_are n.a n.b n.y or_cover_rows true (thin_design n) (one_cover n); outs = refl };
       shows = gate_shows gate n h.ports;
     })
 

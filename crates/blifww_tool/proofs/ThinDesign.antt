@@ -1,10 +1,10 @@
 -- The text of an OR gate is the design of its one model.
 use Rattle.std.proofs.Common.{◌≡◌, sym, ap, ◌∙◌, subst, ℕ, List, ◌∷◌, ◌++◌, codes, append_assoc}
 use Rattle.std.proofs.lemmas.List.Sums.{list_all-from_AllPass}
-use Rattle.blif_text.specs.OrGate.{IsPlainName, or_gate_text}
-use Rattle.blif_text.specs.OrGate as read
+use Rattle.or_gate_text.specs.OrGate.{IsPlainName, or_gate_text}
+use Rattle.or_gate_text.specs.OrGate as read
 use Rattle.blif_text.specs.Faults.{IsDesignOf}
-use Rattle.blif_text.proofs.OrGateLemmas.{or_gate_is_read}
+use Rattle.or_gate_text.proofs.OrGateLemmas.{or_gate_is_read}
 use Rattle.blifww_tool.specs.Names.{IsName}
 use Rattle.blifww_tool.specs.Thin.{Names, IsThin, thin_text}
 use Rattle.blifww_tool.specs.Gate.{thin_design}

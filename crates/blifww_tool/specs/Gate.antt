@@ -1,7 +1,7 @@
 -- The design of the text of an OR gate.
 use Rattle.std.specs.Prelude.{◌≡◌, ℕ, List, [], ◌∷◌, ◌++◌, Some}
 use Rattle.netlist_core.specs.declared.model.Design.{Design}
-use Rattle.blif_text.specs.OrGate.{or_gate_model}
+use Rattle.or_gate_text.specs.OrGate.{or_gate_model}
 use Rattle.blif_text.specs.Faults.{IsDesignOf}
 use Rattle.carries.specs.Carries.{Carries}
 use Rattle.blifww_tool.specs.Run.{Reading, Writing}

@@ -11,10 +11,10 @@ use Rattle.ww_rule.proofs.Streams.{streams_injected}
 use Rattle.tile_core.specs.Drawing.{is_among}
 use Rattle.netlist_core.specs.declared.model.Design.{Design}
 use Rattle.netlist_meaning.specs.Valuation.{Valuation, AreInputRows, IsRun, output_bit}
-use Rattle.netlist_meaning.specs.Designs.{or_design, or_main, cover_of}
-use Rattle.netlist_meaning.specs.Instances.{IsOneCover, or_rows}
-use Rattle.netlist_meaning.proofs.Names.{apart_by}
-use Rattle.netlist_meaning.proofs.OneCover.{one_cover_computes, or_design_computes_or, in_names_are}
+use Rattle.one_cover.specs.OneCover.{or_design, or_main, IsOneCover, or_cover_rows}
+use Rattle.one_cover.specs.Parts.{cover_with}
+use Rattle.lists.proofs.Names.{apart_by}
+use Rattle.one_cover.proofs.OneCover.{one_cover_computes, or_design_computes_or, in_names_are}
 use Rattle.pattern_reading.specs.declared.ports.Ports.{Ports}
 use Rattle.pattern_writing.specs.Samples.{or_text}
 use Rattle.pattern_samples.specs.Ports.{or_ports, port_line_at}
@@ -53,11 +53,11 @@ drives rows =
       at_entries = λ g x y e. let b = (streams_injected 32 cells rows g x y).0 e in ap₂ (λ i j. is_among i j entries) (sym b.column) (sym b.line) ∙ at_entry b.input b.in_cells;
     }
 
-one_cover : (rows : List (List ℕ)) → IsOneCover (codes "a") (codes "b") (codes "y") rows true (record { models = record or_main { covers = cover_of 4 (codes "a" ∷ codes "b" ∷ []) (codes "y") rows ∷ [] } ∷ [] })
+one_cover : (rows : List (List ℕ)) → IsOneCover (codes "a") (codes "b") (codes "y") rows true (record { models = record or_main { covers = cover_with 4 (codes "a" ∷ codes "b" ∷ []) (codes "y") rows ∷ [] } ∷ [] })
 one_cover rows =
     record {
-      main = record or_main { covers = cover_of 4 (codes "a" ∷ codes "b" ∷ []) (codes "y") rows ∷ [] };
-      cover = cover_of 4 (codes "a" ∷ codes "b" ∷ []) (codes "y") rows;
+      main = record or_main { covers = cover_with 4 (codes "a" ∷ codes "b" ∷ []) (codes "y") rows ∷ [] };
+      cover = cover_with 4 (codes "a" ∷ codes "b" ∷ []) (codes "y") rows;
       models = refl;
       inputs = refl;
       outputs = refl;
@@ -78,7 +78,7 @@ two_each (row ∷ rows) h (suc k) d lt = two_each rows h.1 k d (omega arith)
 
 -- rows of two bits are input rows of the gate
 or_rows_of : (rows : List (List Bool)) → AllByRecursion (λ row. length row ≡ 2) rows → AreInputRows or_design rows
-or_rows_of rows two = (codes "a" ∷ codes "b" ∷ [], in_names_are (codes "a") (codes "b") (codes "y") or_rows true or_design (one_cover or_rows), two_each rows two)
+or_rows_of rows two = (codes "a" ∷ codes "b" ∷ [], in_names_are (codes "a") (codes "b") (codes "y") or_cover_rows true or_design (one_cover or_cover_rows), two_each rows two)
 
 -- The design with the row 10 is 0 where the second input alone is 1, and the gate is not.
 not_and_not : ShowsOr → IsShown (record or_ports { nets = [] }) and_not_design → ⊥

@@ -1,13 +1,14 @@
 -- Texts and designs that differ little from those of an OR gate, and are not carried.
 use Rattle.std.specs.Prelude.{◌≡◌, ℕ, List, [], ◌∷◌, ◌++◌, codes}
 use Rattle.netlist_core.specs.declared.model.Design.{Design}
-use Rattle.netlist_meaning.specs.Designs.{or_design, or_main, cover_of, design_of}
+use Rattle.one_cover.specs.OneCover.{or_design, or_main}
+use Rattle.one_cover.specs.Parts.{cover_with, design_with}
 use Rattle.pattern_writing.specs.Samples.{or_text, or_items_text}
 use Rattle.carries.specs.Carries.{Carries}
 
 -- .model or / .inputs a b / .outputs y / .names a b y / 10 1 / .end
 abbrev pub and_not_design : Design
-and_not_design = design_of (record or_main { covers = cover_of 4 (codes "a" ∷ codes "b" ∷ []) (codes "y") (codes "10" ∷ []) ∷ [] } ∷ [])
+and_not_design = design_with (record or_main { covers = cover_with 4 (codes "a" ∷ codes "b" ∷ []) (codes "y") (codes "10" ∷ []) ∷ [] } ∷ [])
 
 -- the text of the OR gate's drawing, with these version and OUT lines
 abbrev pub gate_text : (version out : List ℕ) → List ℕ

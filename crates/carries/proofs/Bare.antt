@@ -9,16 +9,17 @@ use Rattle.netlist_core.specs.declared.model.Model.{Model}
 use Rattle.netlist_core.specs.declared.model.Cover.{Cover}
 use Rattle.netlist_meaning.specs.Places.{Place, model_at, main_outputs}
 use Rattle.netlist_meaning.specs.Nets.{Net, IsControl, IsInNames}
-use Rattle.netlist_meaning.specs.Designs.{or_design}
-use Rattle.netlist_meaning.specs.Valuation.{Valuation, LatchState, AreInputRows, IsValuation, IsRun, state_in, start_state}
-use Rattle.netlist_meaning.proofs.Flat.{IsFlat, model_at-flat, no_latch-flat, all_in_names}
+use Rattle.one_cover.specs.OneCover.{or_design}
+use Rattle.netlist_meaning.specs.Valuation.{Valuation, LatchState, AreInputRows, IsValuation, IsRun, latches_in, start_state}
+use Rattle.netlist_meaning.proofs.SingleModel.{IsFlat, model_at-flat, no_latch-flat, all_in_names}
 use Rattle.netlist_meaning.proofs.Joined.{in_names_are_one}
 use Rattle.pattern_writing.specs.Samples.{bare_text}
 use Rattle.pattern_samples.specs.Ports.{bare_ports}
 use Rattle.pattern_reading.specs.PortTable.{ports_of, forms_of}
 use Rattle.pattern_samples.proofs.Samples.{bare_reads, bare_has_ports}
 use Rattle.pattern_reading.specs.Ports.{names_of}
-use Rattle.carries.specs.Carries.{drive, MeetsConductors, ShowsRuns}
+use Rattle.carries.specs.Carries.{drive, ShowsRuns}
+use Rattle.ww_rule.specs.Injections.{MeetsConductors}
 use Rattle.carries.specs.Laws.{bare_model, bare_design, BareIsCarried, GateIsNotBare}
 
 flat : IsFlat bare_design bare_model
@@ -66,7 +67,7 @@ run t place name = false
 
 is_run : (rows : List (List Bool)) → AreInputRows bare_design rows → IsRun bare_design rows run
 unfolding run
-is_run rows are t row e = subst (λ r. IsValuation bare_design r (state_in bare_design (start_state bare_design) run t) (run t)) (sym (no_bits rows are t row e)) (valuation (state_in bare_design (start_state bare_design) run t))
+is_run rows are t row e = subst (λ r. IsValuation bare_design r (latches_in bare_design (start_state bare_design) run t) (run t)) (sym (no_bits rows are t row e)) (valuation (latches_in bare_design (start_state bare_design) run t))
 
 nothing_due : (rows : List (List Bool)) → MeetsConductors (drive bare_ports rows) (plane_of [])
 nothing_due rows g x y e = let b = (streams_injected 32 [] rows g x y).0 e in absurd (omega (arith, b.in_cells))

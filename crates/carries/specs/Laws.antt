@@ -2,7 +2,7 @@
 use Rattle.std.specs.Prelude.{◌≡◌, ℕ, List, [], ◌∷◌, codes}
 use Rattle.netlist_core.specs.declared.model.Design.{Design}
 use Rattle.netlist_core.specs.declared.model.Model.{Model}
-use Rattle.netlist_meaning.specs.Designs.{or_design}
+use Rattle.one_cover.specs.OneCover.{or_design}
 use Rattle.pattern_writing.specs.Samples.{bare_text}
 use Rattle.carries.specs.Carries.{Carries}
 
