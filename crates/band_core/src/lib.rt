@@ -10,3 +10,6 @@ mod moving;
 
 pub use bands::Bands;
 pub use error::{BandsError, NotReady, NotSkipped};
+
+#[cfg(test)]
+mod tests;
