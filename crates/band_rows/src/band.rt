@@ -1,5 +1,5 @@
 // Rows that stand one below the other.
-ghost use Rattle.std.specs.Prelude.{◌≡◌, ◌+◌, ◌-◌, ◌<◌, ◌≤◌, ◌+ℤ◌, ◌-ℤ◌, ℤ, pos, length};
+ghost use Rattle.std.specs.Prelude.{◌≡◌, ◌+◌, ◌-◌, ◌<◌, ◌≤◌, ◌+ℤ◌, ◌-ℤ◌, ℤ, ℕ, pos, length, get_or};
 ghost use Rattle.ww_rule.specs.Wireworld.{Plane, next_plane};
 ghost use Rattle.lane_kernel.specs.Spans.{IsDarkBeyond};
 ghost use Rattle.band_rows.specs.Rows.{row_heads, row_tails, AreLong, IsEmptyWest, ShowRows, ShowsHeads};
@@ -31,6 +31,7 @@ pub fn step_band(
     requires dark_down { IsDarkBeyond down_span.first down_span.end down.now }
     ensures many { length rows.new ≡ length rows.old }
     ensures long { AreLong (length up.now) rows.new }
+    ensures tails { (k j : ℕ) → k < length rows.old → get_or (row_tails rows.new k) j 0 ≡ get_or (row_heads rows.old k) j 0 }
     ensures steps { (p : Plane) (y : ℤ) → IsEmptyWest p → ShowRows rows.old p y → ShowsHeads up.now p (y -ℤ pos 1) → ShowsHeads down.now p (y +ℤ pos (length rows.old)) → ShowRows rows.new (next_plane p) y }
 {
     for r in 0..rows.len() {

@@ -159,12 +159,12 @@ module _ (above heads below tails wires : List ℕ) where
 
     -- rows whose words are the next ones
     module _ (new_heads new_wires : List ℕ) (is_heads : (j : ℕ) → get_or new_heads j 0 ≡ heads_word above heads below wires j) (is_wires : (j : ℕ) → get_or new_wires j 0 ≡ wires_word above heads below tails wires j) where
-      new_head : (x : ℕ) → is_set new_heads x ≡ (is_set wires x && fires_here x)
+      pub new_head : (x : ℕ) → is_set new_heads x ≡ (is_set wires x && fires_here x)
       new_head x =
           let e : x ≡ x / 64 * 64 + x % 64 = omega arith in
           ap (λ w. bit_of w (x % 64)) (is_heads (x / 64)) ∙ head_bit x (x / 64) (x % 64) e (omega arith)
 
-      new_wire : (x : ℕ) → is_set new_wires x ≡ (differ (is_set wires x) (is_set wires x && fires_here x) || is_set tails x)
+      pub new_wire : (x : ℕ) → is_set new_wires x ≡ (differ (is_set wires x) (is_set wires x && fires_here x) || is_set tails x)
       new_wire x =
           let j = x / 64 in
           let i = x % 64 in

@@ -37,3 +37,7 @@ plane_of_rows above heads below tails wires = framed (three_rows above heads bel
 abbrev pub AreDisjoint : List ℕ → List ℕ → List ℕ → Type 0
 AreDisjoint heads tails wires =
     (x : ℕ) → ((is_set heads x && is_set tails x) || (is_set heads x && is_set wires x) || (is_set tails x && is_set wires x)) ≡ false
+
+-- by so many heads around it a conductor becomes a head
+abbrev pub is_one_or_two : ℕ → Bool
+is_one_or_two n = n == 1 || n == 2

@@ -1,7 +1,7 @@
 // Whole rows.
-ghost use Rattle.std.specs.Prelude.{◌≡◌, ◌+◌, ◌*◌, ◌<◌, ℕ, pos, length, get_or};
-ghost use Rattle.ww_rule.specs.Wireworld.{next_plane};
-ghost use Rattle.lane_kernel.specs.Rows.{row_state, plane_of_rows, AreDisjoint};
+ghost use Rattle.std.specs.Prelude.{◌≡◌, ◌+◌, ◌*◌, ◌<◌, ◌&&◌, ◌||◌, not, ℕ, pos, length, get_or};
+ghost use Rattle.ww_rule.specs.Wireworld.{heads_around, next_plane};
+ghost use Rattle.lane_kernel.specs.Rows.{is_one_or_two, is_set, row_state, plane_of_rows, AreDisjoint};
 ghost use Rattle.lane_kernel.specs.Words.{heads_word, wires_word};
 
 use crate::lanes::step_four;
@@ -75,27 +75,27 @@ pub fn step_words(
 
 /// The next generation of a row that stands between two others, with nothing beyond the rows' ends: bit i of word j is
 /// cell 64 j + i. A new head stands where a wire has one or two heads among its eight neighbours, a new wire where a wire
-/// gave no head or a tail stood, and the new tails are the old heads.
+/// gave no head or a tail stood, and the new tails are the old heads. Where no cell has its bit in two rows this is the
+/// rule, and none has it afterwards.
 pub fn step_rows(
     above: &[u64],
     heads: &[u64],
     below: &[u64],
     tails: &[u64],
     wires: &[u64],
-    next_heads: &mut [u64],
-    next_wires: &mut [u64],
+    new_heads: &mut [u64],
+    new_wires: &mut [u64],
 )
     requires above { length above.now ≡ length heads.now }
     requires below { length below.now ≡ length heads.now }
     requires tails { length tails.now ≡ length heads.now }
     requires wires { length wires.now ≡ length heads.now }
-    requires new_heads { length next_heads.old ≡ length heads.now }
-    requires new_wires { length next_wires.old ≡ length heads.now }
-    requires apart { AreDisjoint heads.now tails.now wires.now }
-    ensures long_heads { length next_heads.new ≡ length heads.now }
-    ensures long_wires { length next_wires.new ≡ length heads.now }
-    ensures apart { AreDisjoint next_heads.new heads.now next_wires.new }
-    ensures cells { (x : ℕ) → row_state next_heads.new heads.now next_wires.new x ≡ next_plane (plane_of_rows above.now heads.now below.now tails.now wires.now) (pos x) (pos 1) }
+    requires new_heads { length new_heads.old ≡ length heads.now }
+    requires new_wires { length new_wires.old ≡ length heads.now }
+    ensures heads { (x : ℕ) → is_set new_heads.new x ≡ (is_set wires.now x && is_one_or_two (heads_around (plane_of_rows above.now heads.now below.now tails.now wires.now) (pos x) (pos 1))) }
+    ensures wires { (x : ℕ) → is_set new_wires.new x ≡ ((is_set wires.now x && not (is_set new_heads.new x)) || is_set tails.now x) }
+    ensures apart { AreDisjoint heads.now tails.now wires.now → AreDisjoint new_heads.new heads.now new_wires.new }
+    ensures cells { AreDisjoint heads.now tails.now wires.now → (x : ℕ) → row_state new_heads.new heads.now new_wires.new x ≡ next_plane (plane_of_rows above.now heads.now below.now tails.now wires.now) (pos x) (pos 1) }
 {
-    step_words(above, heads, below, tails, wires, next_heads, next_wires);
+    step_words(above, heads, below, tails, wires, new_heads, new_wires);
 }

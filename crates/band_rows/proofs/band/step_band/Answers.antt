@@ -192,3 +192,9 @@ pub returns-clause-steps : goal.returns-clause-steps
 returns-clause-steps c p y west shown up down k h =
     let many = c.loop-r.invariant.many in
     c.loop-r.invariant.done p y west shown up down k (omega (arith, h, many))
+
+pub returns-clause-tails : goal.returns-clause-tails
+returns-clause-tails c k j h =
+    let many = c.loop-r.invariant.many in
+    let end = c.loop-r-test.false in
+    c.loop-r.invariant.tails k j (omega (arith, h, many, end))

@@ -1,0 +1,206 @@
+-- Rows that face a band, and the neighbours to which they belong.
+use Rattle.std.proofs.Common.{ℤ, pos, negsuc, ◌+ℤ◌, ◌-ℤ◌, ℕ, zero, suc, ◌+◌, ◌-◌, ◌*◌, ◌/◌, ◌%◌, min, ◌<◌, ◌≤◌, ◌≡◌, refl, sym, ap, ap₂, subst, ◌∙◌, inl, inr, Bool, true, false, ◌||◌, ◌&&◌, ◌==◌, nat_lt, Some, None, List, [], length, get_or, slice_set, arith}
+use Rattle.std.specs.Prelude.{◌≢◌, ◌⊎◌, if◌then◌else◌}
+use Rattle.std.specs.declared.option.Option.{Option}
+use Rattle.std.specs.Option.{option_or}
+use Rattle.std.proofs.lemmas.Bool.{cases_lt, eq-eqb, ne_eqb, eqb-true, or_cases, lt-ltb, le-ltb}
+use Rattle.std.proofs.lemmas.Int.{ints}
+use Rattle.std.proofs.lemmas.List.{get_or-set_other, get_or-map, length-map}
+use Rattle.std.proofs.Math.Nat.{suc-mul, mul_comm}
+use Rattle.ww_rule.specs.declared.pattern.State.TheVariants.{Empty}
+use Rattle.ww_rule.specs.Wireworld.{Plane, Due, count_head}
+use Rattle.lane_kernel.specs.Rows.{is_set, state_of}
+use Rattle.lane_kernel.proofs.Counting.{count_is}
+use Rattle.band_rows.specs.Rows.{ShowsHeads, row_heads, row_tails, row_wires}
+use Rattle.band_rows.proofs.Bands.{heads_shown}
+use Rattle.band_rows.proofs.Marks.{none_set}
+use Rattle.band_core.specs.declared.band.Band.{Band}
+use Rattle.band_core.specs.declared.error.NotReady.{NotReady}
+use Rattle.band_core.specs.Bands.{not_ready, upper_not_ready, lower_not_ready, unready_neighbour, bands_in}
+use Rattle.band_core.specs.Band.{IsBand, ShowsBand, IsEvolution, AreBands, AllShow, bottom_at, top_at, generations_of}
+
+-- at a generation, or one before
+abbrev pub IsAtOrAfter : ℕ → ℕ → Type 0
+IsAtOrAfter g h = (h ≡ g) ⊎ (h ≡ g + 1)
+
+pub bottom_shows : (e : ℕ → Plane) (due : Due) (words y many g : ℕ) (band : Band) → IsBand words y many band → ShowsBand e due y many band → IsAtOrAfter g band.generation → ShowsHeads (bottom_at g band) (e g) (pos y +ℤ pos (many - 1))
+bottom_shows e due words y many g band is shows (inl q) =
+    let n = length band.rows.items in
+    let high = is.high in
+    let some = is.some in
+    let last : n - 1 < n = omega (arith, high, some) in
+    let rows = band.rows.items in
+    let heads = row_heads rows (n - 1) in
+    let here : ShowsHeads heads (e band.generation) (pos y +ℤ pos (n - 1)) = heads_shown heads (row_tails rows (n - 1)) (row_wires rows (n - 1)) (e band.generation) (pos y +ℤ pos (n - 1)) (shows.rows (n - 1) last) in
+    subst (λ h. ShowsHeads h (e g) (pos y +ℤ pos (many - 1))) (sym (ap (λ t. if t then heads else band.bottom.heads.items) (eq-eqb band.generation g q)))
+    (subst (λ m. ShowsHeads heads (e g) (pos y +ℤ pos (m - 1))) high (subst (λ g. ShowsHeads heads (e g) (pos y +ℤ pos (n - 1))) q here))
+bottom_shows e due words y many g band is shows (inr q) =
+    subst (λ h. ShowsHeads h (e g) (pos y +ℤ pos (many - 1))) (sym (ap (λ t. if t then row_heads band.rows.items (length band.rows.items - 1) else band.bottom.heads.items) (ne_eqb band.generation g (λ r. omega (arith, q, r)))))
+    (shows.bottom g q)
+
+pub top_shows : (e : ℕ → Plane) (due : Due) (words y many g : ℕ) (band : Band) → IsBand words y many band → ShowsBand e due y many band → IsAtOrAfter g band.generation → ShowsHeads (top_at g band) (e g) (pos y)
+top_shows e due words y many g band is shows (inl q) =
+    let high = is.high in
+    let some = is.some in
+    let first : 0 < length band.rows.items = omega (arith, high, some) in
+    let rows = band.rows.items in
+    let heads = row_heads rows 0 in
+    let here : ShowsHeads heads (e band.generation) (pos y +ℤ pos 0) = heads_shown heads (row_tails rows 0) (row_wires rows 0) (e band.generation) (pos y +ℤ pos 0) (shows.rows 0 first) in
+    let z : pos y +ℤ pos 0 ≡ pos y = omega (arith, ints) in
+    subst (λ h. ShowsHeads h (e g) (pos y)) (sym (ap (λ t. if t then heads else band.top.heads.items) (eq-eqb band.generation g q)))
+    (subst (ShowsHeads heads (e g)) z (subst (λ g. ShowsHeads heads (e g) (pos y +ℤ pos 0)) q here))
+top_shows e due words y many g band is shows (inr q) =
+    subst (λ h. ShowsHeads h (e g) (pos y)) (sym (ap (λ t. if t then row_heads band.rows.items 0 else band.top.heads.items) (ne_eqb band.generation g (λ r. omega (arith, q, r)))))
+    (shows.top g q)
+
+chosen : (t : Bool) (a b : List ℕ) (n : ℕ) → length a ≡ n → length b ≡ n → length (if t then a else b) ≡ n
+chosen true a b n p q = p
+chosen false a b n p q = q
+
+pub bottom_long : (words y many g : ℕ) (band : Band) → IsBand words y many band → length (bottom_at g band) ≡ words
+bottom_long words y many g band is =
+    let high = is.high in
+    let some = is.some in
+    chosen (band.generation == g) _ _ words (is.long (length band.rows.items - 1) (omega (arith, high, some))) is.bottom
+
+pub top_long : (words y many g : ℕ) (band : Band) → IsBand words y many band → length (top_at g band) ≡ words
+top_long words y many g band is =
+    let high = is.high in
+    let some = is.some in
+    chosen (band.generation == g) _ _ words (is.long 0 (omega (arith, high, some))) is.top
+
+-- ---- neighbours that are ready
+
+none_both : (a b : Option NotReady) → option_or a b ≡ None → (a ≡ None) × (b ≡ None)
+none_both None b e = (refl, e)
+none_both (Some x) b e = absurd (some_none x e)
+  where
+    some_none : (x : NotReady) → Some x ≡ None → ⊥
+    some_none x e = cc
+
+abbrev refusal : List ℕ → ℕ → Bool → Option NotReady
+refusal generations n t = if t then None else Some (record { neighbour = n; generation = get_or generations n 0 })
+
+ready_beside : (generations : List ℕ) (b n : ℕ) → not_ready generations b n ≡ None → IsAtOrAfter (get_or generations b 0) (get_or generations n 0)
+ready_beside generations b n e = go (get_or generations n 0 == get_or generations b 0 || get_or generations n 0 == get_or generations b 0 + 1) refl e
+  where
+    go : (t : Bool) → (get_or generations n 0 == get_or generations b 0 || get_or generations n 0 == get_or generations b 0 + 1) ≡ t → refusal generations n t ≡ None → IsAtOrAfter (get_or generations b 0) (get_or generations n 0)
+    go true q r =
+        elim (or_cases (get_or generations n 0 == get_or generations b 0) (get_or generations n 0 == get_or generations b 0 + 1) q) [
+          | inl s ↦ inl (eqb-true (get_or generations n 0) (get_or generations b 0) s)
+          | inr s ↦ inr (eqb-true (get_or generations n 0) (get_or generations b 0 + 1) s)
+        ]
+    go false q r = absurd (cc)
+
+pub upper_ready : (generations : List ℕ) (b : ℕ) → unready_neighbour generations b ≡ None → 0 < b → IsAtOrAfter (get_or generations b 0) (get_or generations (b - 1) 0)
+upper_ready generations zero e lt = absurd (omega arith)
+upper_ready generations (suc b) e lt =
+    let q : suc b - 1 ≡ b = omega arith in
+    subst (λ n. IsAtOrAfter (get_or generations (suc b) 0) (get_or generations n 0)) (sym q)
+    (ready_beside generations (suc b) b (none_both (upper_not_ready generations (suc b)) (lower_not_ready generations (suc b)) e).0)
+
+pub lower_ready : (generations : List ℕ) (b : ℕ) → unready_neighbour generations b ≡ None → b + 1 < length generations → IsAtOrAfter (get_or generations b 0) (get_or generations (b + 1) 0)
+lower_ready generations b e lt =
+    let l = (none_both (upper_not_ready generations b) (lower_not_ready generations b) e).1 in
+    ready_beside generations b (b + 1) (sym (ap (λ t. if t then not_ready generations b (b + 1) else None) (lt-ltb (b + 1) (length generations) lt)) ∙ l)
+
+-- ---- rows of bands
+
+pub after : (b h : ℕ) → (b + 1) * h ≡ b * h + h
+after b h = let s : b + 1 ≡ suc b = omega arith in ap (λ n. n * h) s ∙ suc-mul b h
+
+-- a band that another one follows has the whole height
+pub whole : (words height rows : ℕ) (bands : List Band) (b : ℕ) (d : Band) → AreBands words height rows bands → b + 1 < length bands → min height (rows - b * height) ≡ height
+whole words height rows bands b d are lt =
+    let some = (are.each (b + 1) d lt).some in
+    let m = after b height in
+    omega (arith, some, m)
+
+pub begins : (words height rows : ℕ) (bands : List Band) (b : ℕ) (d : Band) → AreBands words height rows bands → b < length bands → b * height < rows
+begins words height rows bands b d are lt = let some = (are.each b d lt).some in omega (arith, some)
+
+-- the last band reaches to the last row
+pub ends : (words height rows : ℕ) (bands : List Band) (b : ℕ) (d : Band) → 0 < height → AreBands words height rows bands → b + 1 ≡ length bands → b * height + min height (rows - b * height) ≡ rows
+ends words height rows bands b d some are e =
+    let n = rows + (height - 1) in
+    let q : n / height ≡ b + 1 = sym (e ∙ are.many) in
+    let r : n % height < height = omega (arith, some) in
+    let parts : height * (n / height) + n % height ≡ n = omega (arith, some) in
+    let turned : height * (n / height) ≡ (b + 1) * height = ap (λ k. height * k) q ∙ mul_comm height (b + 1) in
+    let m = after b height in
+    let first = begins words height rows bands b d are (omega (arith, e)) in
+    omega (arith, r, parts, turned, m, first, some)
+
+-- the rows beside a band, of its neighbours and at the outer edges
+module _ (words height rows : ℕ) (bands : List Band) (are : AreBands words height rows bands) (b : ℕ) (d z : Band) (inside : b < length bands) (dark : List ℕ) (long : length dark ≡ words) (g : ℕ) where
+  pub above_long : (up : List ℕ) → (b ≡ 0 → up ≡ dark) → ((d : Band) → 0 < b → up ≡ bottom_at g (get_or (slice_set bands b z) (b - 1) d)) → length up ≡ words
+  above_long up first later =
+      elim (cases_lt 0 b) [
+        | inl lt ↦ ap length (later d lt ∙ ap (bottom_at g) (get_or-set_other bands b (b - 1) z d (λ q. omega (arith, q, lt)))) ∙ bottom_long words ((b - 1) * height) (min height (rows - (b - 1) * height)) g (get_or bands (b - 1) d) (are.each (b - 1) d (omega (arith, inside)))
+        | inr ge ↦ ap length (first (omega (arith, ge))) ∙ long
+      ]
+
+  pub below_long : (down : List ℕ) → (b + 1 ≡ length bands → down ≡ dark) → ((d : Band) → b + 1 < length bands → down ≡ top_at g (get_or (slice_set bands b z) (b + 1) d)) → length down ≡ words
+  below_long down last earlier =
+      elim (cases_lt (b + 1) (length bands)) [
+        | inl lt ↦ ap length (earlier d lt ∙ ap (top_at g) (get_or-set_other bands b (b + 1) z d (λ q. omega (arith, q)))) ∙ top_long words ((b + 1) * height) (min height (rows - (b + 1) * height)) g (get_or bands (b + 1) d) (are.each (b + 1) d lt)
+        | inr ge ↦ ap length (last (omega (arith, ge, inside))) ∙ long
+      ]
+
+module _ (e : ℕ → Plane) (due : Due) (words height rows width : ℕ) (some : 0 < height) (evo : IsEvolution e due width rows) (bands : List Band) (are : AreBands words height rows bands) (b : ℕ) (d z : Band) (inside : b < length bands) (dark : List ℕ) (none : (j : ℕ) → get_or dark j 0 ≡ 0) (g : ℕ) where
+  nothing : (p : Plane) (y : ℤ) → ((x : ℕ) → p (pos x) y ≡ Empty) → ShowsHeads dark p y
+  nothing p y empty x = ap (λ h. count_head (state_of h false false)) (none_set 0 dark none x) ∙ sym (ap count_head (empty x))
+
+  module _ (shows : AllShow e due height rows bands) where
+    generation_is : (k : ℕ) → k < length bands → get_or (generations_of bands) k 0 ≡ (get_or bands k d).generation
+    generation_is k lt = get_or-map (λ (band : Band). band.generation) bands k d 0 lt
+
+    pub above_shows : (up : List ℕ) → (b ≡ 0 → up ≡ dark) → ((d : Band) → 0 < b → up ≡ bottom_at g (get_or (slice_set bands b z) (b - 1) d)) → (0 < b → IsAtOrAfter g (get_or (generations_of bands) (b - 1) 0)) → ShowsHeads up (e g) (pos (b * height) -ℤ pos 1)
+    above_shows up first later ready =
+        elim (cases_lt 0 b) [
+          | inr ge ↦
+              let q : b ≡ 0 = omega (arith, ge) in
+              let place : pos (b * height) -ℤ pos 1 ≡ negsuc 0 = let t = ap (λ b. b * height) q in omega (arith, ints, t) in
+              subst (λ up. ShowsHeads up (e g) (pos (b * height) -ℤ pos 1)) (sym (first q))
+              (subst (ShowsHeads dark (e g)) (sym place) (nothing (e g) (negsuc 0) (λ x. evo.empty g (pos x) (negsuc 0) refl)))
+          | inl lt ↦
+              let k = b - 1 in
+              let lk : k < length bands = omega (arith, inside) in
+              let upper = get_or bands k d in
+              let n : k + 1 ≡ b = omega (arith, lt) in
+              let m = after k height in
+              let t : (k + 1) * height ≡ b * height = ap (λ k. k * height) n in
+              let w : min height (rows - k * height) ≡ height = whole words height rows bands k d are (omega (arith, n, inside)) in
+              let place : pos (k * height) +ℤ pos (min height (rows - k * height) - 1) ≡ pos (b * height) -ℤ pos 1 = omega (arith, ints, m, t, w, some) in
+              let at : IsAtOrAfter g upper.generation = subst (IsAtOrAfter g) (generation_is k lk) (ready lt) in
+              let here = bottom_shows e due words (k * height) (min height (rows - k * height)) g upper (are.each k d lk) (shows k d lk) at in
+              subst (λ up. ShowsHeads up (e g) (pos (b * height) -ℤ pos 1)) (sym (later d lt ∙ ap (bottom_at g) (get_or-set_other bands b k z d (λ q. omega (arith, q, lt)))))
+              (subst (ShowsHeads (bottom_at g upper) (e g)) place here)
+        ]
+
+    pub below_shows : (down : List ℕ) → (b + 1 ≡ length bands → down ≡ dark) → ((d : Band) → b + 1 < length bands → down ≡ top_at g (get_or (slice_set bands b z) (b + 1) d)) → (b + 1 < length bands → IsAtOrAfter g (get_or (generations_of bands) (b + 1) 0)) → ShowsHeads down (e g) (pos (b * height) +ℤ pos (min height (rows - b * height)))
+    below_shows down last earlier ready =
+        elim (cases_lt (b + 1) (length bands)) [
+          | inr ge ↦
+              let q : b + 1 ≡ length bands = omega (arith, ge, inside) in
+              let t = ends words height rows bands b d some are q in
+              let place : pos (b * height) +ℤ pos (min height (rows - b * height)) ≡ pos rows = omega (arith, ints, t) in
+              subst (λ down. ShowsHeads down (e g) (pos (b * height) +ℤ pos (min height (rows - b * height)))) (sym (last q))
+              (subst (ShowsHeads dark (e g)) (sym place) (nothing (e g) (pos rows) (λ x. evo.empty g (pos x) (pos rows) (past x))))
+          | inl lt ↦
+              let lower = get_or bands (b + 1) d in
+              let m = after b height in
+              let w = whole words height rows bands b d are lt in
+              let place : pos ((b + 1) * height) ≡ pos (b * height) +ℤ pos (min height (rows - b * height)) = omega (arith, ints, m, w) in
+              let at : IsAtOrAfter g lower.generation = subst (IsAtOrAfter g) (generation_is (b + 1) lt) (ready lt) in
+              let here = top_shows e due words ((b + 1) * height) (min height (rows - (b + 1) * height)) g lower (are.each (b + 1) d lt) (shows (b + 1) d lt) at in
+              subst (λ down. ShowsHeads down (e g) (pos (b * height) +ℤ pos (min height (rows - b * height)))) (sym (earlier d lt ∙ ap (top_at g) (get_or-set_other bands b (b + 1) z d (λ q. omega (arith, q)))))
+              (subst (ShowsHeads (top_at g lower) (e g)) place here)
+        ]
+      where
+        and_none : (t : Bool) → (t && false) ≡ false
+        and_none true = refl
+        and_none false = refl
+
+        past : (x : ℕ) → (nat_lt x width && nat_lt rows rows) ≡ false
+        past x = ap (λ t. nat_lt x width && t) (le-ltb rows rows (omega arith)) ∙ and_none (nat_lt x width)

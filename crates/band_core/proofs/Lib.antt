@@ -1,0 +1,11 @@
+pub mod Asleep
+pub mod Evolution
+pub mod Facing
+pub mod Injecting
+pub mod Left
+pub mod NextRows
+pub mod Options
+pub mod Pushing
+pub mod Putting
+pub mod Resting
+pub mod Waking

@@ -1,0 +1,138 @@
+-- A band in which nothing can change shows the next plane as it is.
+use Rattle.std.proofs.Common.{ℤ, pos, negsuc, ◌+ℤ◌, ◌-ℤ◌, ℕ, zero, suc, ◌+◌, ◌-◌, ◌*◌, ◌/◌, ◌%◌, min, ◌<◌, ◌≤◌, ◌≡◌, refl, sym, ap, ap₂, subst, ◌∙◌, inl, inr, Bool, true, false, cond, List, length, get_or, drop, arith}
+use Rattle.std.specs.Prelude.{◌≢◌}
+use Rattle.std.proofs.lemmas.Int.{ints}
+use Rattle.std.proofs.lemmas.Bool.{cases_lt}
+use Rattle.ww_rule.specs.declared.pattern.State.{State}
+use Rattle.ww_rule.specs.declared.pattern.State.TheVariants.{Empty, Head, Tail, Conductor}
+use Rattle.ww_rule.specs.Wireworld.{Plane, Due, count_head, heads_around, next_plane, next_state, injected}
+use Rattle.ww_rule.specs.Grid.{in_box}
+use Rattle.lane_kernel.specs.Rows.{is_set, row_state, state_of}
+use Rattle.lane_kernel.proofs.Counting.{count_is}
+use Rattle.band_rows.specs.Rows.{AreLong, ShowRows, ShowsHeads, row_heads, row_tails, row_wires}
+use Rattle.band_rows.proofs.Marks.{none_set}
+use Rattle.band_core.specs.declared.band.Band.{Band}
+use Rattle.band_core.specs.Band.{AreDark, AreDueIn, AreInRows, AreLeftAt, HasNoneDue, IsBand, IsEvolution, IsQuiet, ShowsBand, due_count}
+use Rattle.band_core.proofs.Left.{left_after}
+
+pub rests : (words y many : ℕ) (band next : Band) → next.rows ≡ band.rows → next.injections ≡ band.injections → next.done ≡ band.done → length next.top.heads.items ≡ words → length next.bottom.heads.items ≡ words → IsBand words y many band → IsBand words y many next
+rests words y many band next er ei ed lt lb is =
+    let done = is.done in
+    let li = ap (λ v. length v.items) ei in
+    record {
+      high = ap (λ v. length v.items) er ∙ is.high;
+      some = is.some;
+      long = subst (λ v. AreLong words v.items) (sym er) is.long;
+      top = lt;
+      bottom = lb;
+      inside = subst (λ v. AreInRows words y many v.items) (sym ei) is.inside;
+      done = omega (arith, done, li, ed);
+    }
+
+nothing_kept : (kept : List ℕ) (p : Plane) (z : ℤ) → ((j : ℕ) → get_or kept j 0 ≡ 0) → ((x : ℕ) → count_head (p (pos x) z) ≡ 0) → ShowsHeads kept p z
+nothing_kept kept p z none dark x = ap (λ h. count_head (state_of h false false)) (none_set 0 kept none x) ∙ sym (dark x)
+
+pub rest_shows : (e : ℕ → Plane) (due : Due) (width height words y many : ℕ) (band next : Band) → IsEvolution e due width height → IsBand words y many band → ShowsBand e due y many band → IsQuiet e due band.generation y many → HasNoneDue band → next.generation ≡ band.generation + 1 → next.rows ≡ band.rows → next.injections ≡ band.injections → next.done ≡ band.done → ((j : ℕ) → get_or next.top.heads.items j 0 ≡ 0) → ((j : ℕ) → get_or next.bottom.heads.items j 0 ≡ 0) → ShowsBand e due y many next
+rest_shows e due width height words y many band next evo is shows quiet none eg er ei ed top bottom =
+    let g = band.generation in
+    let some = is.some in
+    let high = is.high in
+    let stay : ShowRows band.rows.items (e (g + 1)) (pos y) = λ k lt x.
+    let z = pos y +ℤ pos k in
+    let l : k < many = omega (arith, lt, high) in
+    shows.rows k lt x
+    ∙ sym (quiet.still x k l)
+    ∙ sym (ap (λ t. cond t Head (next_plane (e g) (pos x) z)) (quiet.none x k l))
+    ∙ sym (ap (λ p. p (pos x) z) (evo.next g)) in
+    let own = band.injections.items in
+    let left = drop band.done own in
+    let after : AreLeftAt (g + 1 + 1) own left = left_after (g + 1) own left shows.left left (sym (ap (λ n. drop n left) none)) in
+    record {
+      rows = subst (λ v. ShowRows v.items (e next.generation) (pos y)) (sym er) (subst (λ g. ShowRows band.rows.items (e g) (pos y)) (sym eg) stay);
+      top = λ h q.
+          let r : g ≡ h = omega (arith, q, eg) in
+          let z : pos y +ℤ pos 0 ≡ pos y = omega (arith, ints) in
+          subst (λ g. ShowsHeads next.top.heads.items (e g) (pos y)) r (subst (ShowsHeads next.top.heads.items (e g)) z (nothing_kept next.top.heads.items (e g) (pos y +ℤ pos 0) top (λ x. quiet.dark x 0 some)));
+      bottom = λ h q.
+          let r : g ≡ h = omega (arith, q, eg) in
+          subst (λ g. ShowsHeads next.bottom.heads.items (e g) (pos y +ℤ pos (many - 1))) r (nothing_kept next.bottom.heads.items (e g) (pos y +ℤ pos (many - 1)) bottom (λ x. quiet.dark x (many - 1) (omega (arith, some))));
+      own = subst (λ v. AreDueIn v.items due y many) (sym ei) shows.own;
+      left = subst (λ v. AreLeftAt (next.generation + 1) v.items (drop next.done v.items)) (sym ei)
+          (subst (λ d. AreLeftAt (next.generation + 1) own (drop d own)) (sym ed) (subst (λ g. AreLeftAt (g + 1) own left) (sym eg) after));
+    }
+
+-- ---- rows without a bit
+
+settled : (s : State) → count_head s ≡ 0 → s ≢ Tail → (n : ℕ) → n ≡ 0 → next_state s n ≡ s
+settled Empty c t n e = refl
+settled Head c t n e = absurd (omega (arith, c))
+settled Tail c t n e = absurd (t refl)
+settled Conductor c t n e = ap (λ n. next_state Conductor n) e
+
+-- a row of a plane that has no head
+abbrev HasNoHead : Plane → ℤ → Type 0
+HasNoHead p z = (u : ℤ) → count_head (p u z) ≡ 0
+
+alone : (p : Plane) (x z : ℤ) → HasNoHead p (z -ℤ pos 1) → HasNoHead p z → HasNoHead p (z +ℤ pos 1) → heads_around p x z ≡ 0
+alone p x z a h b =
+    let w = x -ℤ pos 1 in
+    let e = x +ℤ pos 1 in
+    let p1 = a w in
+    let p2 = a x in
+    let p3 = a e in
+    let p4 = h w in
+    let p5 = h e in
+    let p6 = b w in
+    let p7 = b x in
+    let p8 = b e in
+    omega (arith, p1, p2, p3, p4, p5, p6, p7, p8)
+
+headless : (p : Plane) (z : ℤ) → ((x : ℕ) → p (negsuc x) z ≡ Empty) → ((x : ℕ) → count_head (p (pos x) z) ≡ 0) → HasNoHead p z
+headless p z west none (pos x) = none x
+headless p z west none (negsuc x) = ap count_head (west x)
+
+unlit : (w : Bool) → (state_of false false w ≡ Tail → ⊥)
+unlit true e = cc
+unlit false e = cc
+
+pub is_quiet : (e : ℕ → Plane) (due : Due) (width height words y many : ℕ) (band : Band) (up down : List ℕ) → IsEvolution e due width height → IsBand words y many band → ShowsBand e due y many band → ShowsHeads up (e band.generation) (pos y -ℤ pos 1) → ShowsHeads down (e band.generation) (pos y +ℤ pos many) → AreDark band.rows.items y up down → ((x k : ℕ) → k < many → due (band.generation + 1) (pos x) (pos y +ℤ pos k) ≡ false) → IsQuiet e due band.generation y many
+is_quiet e due width height words y many band up down evo is shows above below dark none =
+    let g = band.generation in
+    let p = e g in
+    let rows = band.rows.items in
+    let high = is.high in
+    let state : (x k : ℕ) → k < many → p (pos x) (pos y +ℤ pos k) ≡ state_of false false (is_set (row_wires rows k) x) = λ x k lt.
+    let l : k < length rows = omega (arith, lt, high) in
+    sym (shows.rows k l x) ∙ ap₂ (λ h t. state_of h t (is_set (row_wires rows k) x)) (dark.heads k x l) (dark.tails k x l) in
+    let heads : (x k : ℕ) → k < many → count_head (p (pos x) (pos y +ℤ pos k)) ≡ 0 = λ x k lt. ap count_head (state x k lt) ∙ count_is false false (is_set (row_wires rows k) x) in
+    let over : (x : ℕ) → count_head (p (pos x) (pos y -ℤ pos 1)) ≡ 0 = λ x. upper y refl p x above dark.above (λ z. evo.empty g (pos x) z) in
+    let under : (x : ℕ) → count_head (p (pos x) (pos y +ℤ pos many)) ≡ 0 = λ x. sym (below x) ∙ ap (λ h. count_head (state_of h false false)) (dark.below x) in
+    let west = λ (z : ℤ) (x : ℕ). evo.empty g (negsuc x) z refl in
+    let row : (k : ℕ) → k < many → HasNoHead p (pos y +ℤ pos k) = λ k lt. headless p (pos y +ℤ pos k) (west (pos y +ℤ pos k)) (λ x. heads x k lt) in
+    let row_over = headless p (pos y -ℤ pos 1) (west (pos y -ℤ pos 1)) over in
+    let row_under = headless p (pos y +ℤ pos many) (west (pos y +ℤ pos many)) under in
+    record {
+      still = λ x k lt.
+          let z = pos y +ℤ pos k in
+          let before : HasNoHead p (z -ℤ pos 1) =
+          elim (cases_lt 0 k) [
+            | inl l ↦ let q : pos y +ℤ pos (k - 1) ≡ z -ℤ pos 1 = omega (arith, ints, l) in subst (HasNoHead p) q (row (k - 1) (omega (arith, lt)))
+            | inr ge ↦ let q : pos y -ℤ pos 1 ≡ z -ℤ pos 1 = omega (arith, ints, ge) in subst (HasNoHead p) q row_over
+          ] in
+          let after : HasNoHead p (z +ℤ pos 1) =
+          elim (cases_lt (k + 1) many) [
+            | inl l ↦ let q : pos y +ℤ pos (k + 1) ≡ z +ℤ pos 1 = omega (arith, ints) in subst (HasNoHead p) q (row (k + 1) l)
+            | inr ge ↦ let q : pos y +ℤ pos many ≡ z +ℤ pos 1 = omega (arith, ints, ge, lt) in subst (HasNoHead p) q row_under
+          ] in
+          settled (p (pos x) z) (heads x k lt) (λ q. unlit (is_set (row_wires rows k) x) (sym (state x k lt) ∙ q)) (heads_around p (pos x) z) (alone p (pos x) z before (row k lt) after);
+      dark = heads;
+      above = over;
+      below = under;
+      none = none;
+    }
+  where
+    upper : (n : ℕ) → y ≡ n → (p : Plane) (x : ℕ) → ShowsHeads up p (pos y -ℤ pos 1) → ((x : ℕ) → 0 < y → is_set up x ≡ false) → ((z : ℤ) → in_box width height (pos x) z ≡ false → p (pos x) z ≡ Empty) → count_head (p (pos x) (pos y -ℤ pos 1)) ≡ 0
+    upper zero q p x shown none out =
+        let z : negsuc 0 ≡ pos y -ℤ pos 1 = omega (arith, ints, q) in
+        subst (λ z. count_head (p (pos x) z) ≡ 0) z (ap count_head (out (negsuc 0) refl))
+    upper (suc n) q p x shown none out = sym (shown x) ∙ ap (λ h. count_head (state_of h false false)) (none x (omega (arith, q)))

@@ -1,0 +1,52 @@
+use Rattle.std.proofs.Common.{pos, ◌+ℤ◌, ◌-ℤ◌, ℕ, ◌+◌, ◌-◌, ◌≡◌, refl, sym, ap, ap₂, subst, ◌∙◌, length, take, drop, arith}
+use Rattle.std.proofs.lemmas.Int.{ints}
+use Rattle.std.proofs.lemmas.List.{with_items_is, drop-drop, take_all, length-drop}
+use Rattle.ww_rule.specs.Wireworld.{Plane}
+use Rattle.band_rows.specs.Rows.{ShowRows, ShowsHeads}
+use Rattle.band_core.specs.Band.{AreLeftAt, due_count}
+use Rattle.band_core.proofs.Left.{left_after}
+use Rattle.band_core.proofs.NextRows.{west, rows_move, kept_shows}
+use Rattle.band_core.proofs.band.Band.next.Goals as goal
+
+pub returns-clause-shows : goal.returns-clause-shows
+returns-clause-shows c e due width height evo shows up down =
+    let band = c.args.self in
+    let g = band.generation in
+    let y = c.args.y in
+    let n = length band.rows.items in
+    let own = band.injections.items in
+    let left = drop band.done own in
+    let k = c.due_count-count.result in
+    let s = c.step_rows-top.ensures in
+    let new = c.step_rows-top.new.rows in
+    let old = c.deref_mut.result.now in
+    let value = c.deref_mut.ensures.value in
+    let m = s.many in
+    let rows_is = with_items_is band.rows new (omega (arith, m)) in
+    let lm : length new ≡ n = m ∙ ap length value in
+    let moved =
+    s.shows (e g) (west e due width height evo g) (subst (λ rows. ShowRows rows (e g) (pos y)) (sym value) shows.rows) up
+    (subst (λ rows. ShowsHeads c.args.down.now (e g) (pos y +ℤ pos (length rows))) (sym value) down) in
+    let dn = c.deref.result.now in
+    let count2 : k ≡ due_count (g + 1) left = c.due_count-count.ensures.count ∙ ap (due_count (g + 1)) (take_all (length dn - band.done) (drop band.done dn) (let l = length-drop band.done dn in omega (arith, l))) ∙ ap (λ xs. due_count (g + 1) (drop band.done xs)) c.deref.ensures.value in
+    let value2 = c.deref-2.ensures.value in
+    let size : band.done + k - band.done ≡ due_count (g + 1) left = let z : band.done + k - band.done ≡ k = omega arith in z ∙ count2 in
+    let front = ap₂ (λ n xs. take n (drop band.done xs)) size value2 in
+    record {
+      rows = subst (λ rows. ShowRows rows (e (g + 1)) (pos y)) (sym rows_is)
+          (rows_move e due width height evo g y n own left _ new shows.left front shows.own lm moved);
+      top = λ h q.
+          let r : g ≡ h = omega (arith, q) in
+          subst (λ g. ShowsHeads c.step_rows-top.result.0.heads.items (e g) (pos y)) r
+          (subst (ShowsHeads c.step_rows-top.result.0.heads.items (e g)) (let z : pos y +ℤ pos 0 ≡ pos y = omega (arith, ints) in z)
+          (kept_shows c.step_rows-top.result.0.heads.items old 0 y (e g) (let z = c.requires.is.some in let v = ap length value in omega (arith, v, z)) s.top (subst (λ rows. ShowRows rows (e g) (pos y)) (sym value) shows.rows)));
+      bottom = λ h q.
+          let r : g ≡ h = omega (arith, q) in
+          let v : length old ≡ n = ap length value in
+          let last : pos (length old - 1) ≡ pos (n - 1) = ap (λ k. pos (k - 1)) v in
+          subst (λ g. ShowsHeads c.step_rows-top.result.1.heads.items (e g) (pos y +ℤ pos (n - 1))) r
+          (subst (λ z. ShowsHeads c.step_rows-top.result.1.heads.items (e g) (pos y +ℤ z)) last
+          (kept_shows c.step_rows-top.result.1.heads.items old (length old - 1) y (e g) (let z = c.requires.is.some in omega (arith, v, z)) s.bottom (subst (λ rows. ShowRows rows (e g) (pos y)) (sym value) shows.rows)));
+      own = shows.own;
+      left = left_after (g + 1) own left shows.left (drop (band.done + k) own) (sym (drop-drop k band.done own) ∙ ap (λ n. drop n left) count2);
+    }

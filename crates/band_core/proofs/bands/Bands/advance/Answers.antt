@@ -1,0 +1,41 @@
+use Rattle.std.proofs.Common.{ℕ, ◌≡◌, refl, sym, ap, ap₂, subst, ◌∙◌, length, get_or, arith}
+use Rattle.std.proofs.lemmas.List.{with_items_is}
+use Rattle.ww_rule.specs.Wireworld.{driven}
+use Rattle.ww_rule.specs.Grid.{plane_of}
+use Rattle.ww_rule.specs.Injections.{due_of_list}
+use Rattle.band_core.specs.Band.{AreBands, AllShow, IsEvolution}
+use Rattle.band_core.proofs.Evolution.{evolution}
+use Rattle.band_core.proofs.bands.Bands.advance.Goals as goal
+
+pub invariant_of-self : goal.invariant_of-self
+invariant_of-self c =
+    let s = c.self.inside in
+    let v = c.self.invariant in
+    let e = c.move_band.ensures in
+    let due = due_of_list s.drive.items in
+    let plane = driven due (plane_of s.pattern.rows) in
+    let rows = length s.pattern.rows in
+    let new = c.move_band.new.bands in
+    let dark : c.deref-2.result.now ≡ s.dark.items = c.deref-2.ensures.value in
+    let many : c.len.result ≡ rows = c.len.ensures in
+    let old : c.deref_mut.result.now ≡ s.bands.items = c.deref_mut.ensures.value in
+    let are : AreBands (length s.dark.items) s.height rows new = subst (λ w. AreBands w s.height rows new) (ap length dark) (subst (λ r. AreBands (length c.deref-2.result.now) s.height r new) many e.bands) in
+    let same : length new ≡ length s.bands.items = are.many ∙ sym v.bands.many in
+    let bands_is = with_items_is s.bands new (omega (arith, same)) in
+    let lh = c.move_band.auto.spare_heads in
+    let vh = ap length c.deref_mut-2.ensures.value in
+    let lw = c.move_band.auto.spare_wires in
+    let vw = ap length c.deref_mut-3.ensures.value in
+    let evo = evolution s.pattern.width s.pattern.height s.pattern.rows s.drive.items s.pattern.in_rows v.inside in
+    let shows = e.shows plane due s.pattern.width (subst (IsEvolution plane due s.pattern.width) (sym many) evo) (subst (λ r. AllShow plane due s.height r c.deref_mut.result.now) (sym many) (subst (AllShow plane due s.height rows) (sym old) v.shows)) in
+    record {
+      inside = v.inside;
+      in_order = v.in_order;
+      height = v.height;
+      few = v.few;
+      dark = v.dark;
+      spare_heads = ap length (with_items_is s.spare_heads c.move_band.new.spare_heads (omega (arith, lh, vh))) ∙ lh ∙ vh ∙ v.spare_heads;
+      spare_wires = ap length (with_items_is s.spare_wires c.move_band.new.spare_wires (omega (arith, lw, vw))) ∙ lw ∙ vw ∙ v.spare_wires;
+      bands = subst (AreBands (length s.dark.items) s.height rows) (sym bands_is) are;
+      shows = subst (AllShow plane due s.height rows) (sym bands_is) (subst (λ r. AllShow plane due s.height r new) many shows);
+    }

@@ -1,0 +1,86 @@
+// Cells that keep a band awake.
+ghost use Rattle.std.specs.Prelude.{◌≡◌, ◌+◌, ◌-◌, ◌<◌, ◌≤◌, ◌^◌, ◌⊎◌, ℕ, true, false, List, [], length, get_or, drop, None, IfSome};
+ghost use Rattle.lane_kernel.specs.Rows.{is_set};
+ghost use Rattle.lane_kernel.specs.Spans.{IsDarkBeyond};
+ghost use Rattle.ww_rule.specs.declared.pattern.Injection.{Injection};
+ghost use Rattle.band_rows.specs.Rows.{row_heads, row_tails};
+ghost use Rattle.band_core.specs.Band.{IsLitIn, AreDark, IsNextDue, due_count};
+
+use crate::band::Band;
+use band_rows::{Row, Span, first_bit};
+
+// The column of a head or a tail of a row.
+fn lit_column(row: &Row) -> Option<usize>
+    requires { length row.now.heads.items ≤ 2 ^ 58 }
+    ensures some { IfSome result (λ x. (is_set row.now.heads.items x ≡ true) ⊎ (is_set row.now.tails.items x ≡ true)) }
+    ensures no_head { result ≡ None → (x : ℕ) → is_set row.now.heads.items x ≡ false }
+    ensures no_tail { result ≡ None → (x : ℕ) → is_set row.now.tails.items x ≡ false }
+{
+    match first_bit(row.heads.as_slice(), row.span) {
+        Some(x) => Some(x),
+        None => first_bit(row.tails.as_slice(), row.span),
+    }
+}
+
+/// The column and row of a head or a tail of rows from row y on.
+pub fn lit_cell(rows: &[Row], y: usize) -> Option<(usize, usize)>
+    requires long { (k : ℕ) → k < length rows.now → length (row_heads rows.now k) ≤ 2 ^ 58 }
+    requires room { y + length rows.now < 2 ^ 64 }
+    ensures some { IfSome result (λ cell. IsLitIn rows.now y cell.0 cell.1) }
+    ensures no_head { result ≡ None → (k x : ℕ) → k < length rows.now → is_set (row_heads rows.now k) x ≡ false }
+    ensures no_tail { result ≡ None → (k x : ℕ) → k < length rows.now → is_set (row_tails rows.now k) x ≡ false }
+{
+    for (k, row) in rows.iter().enumerate() {
+        if let Some(x) = lit_column(row) {
+            return Some((x, y + k));
+        }
+    }
+    None
+}
+
+/// The column and row of a head of the rows beside a band's rows, of which the first is row y.
+pub fn faced_cell(
+    y: usize,
+    many: usize,
+    up: &[u64],
+    up_span: Span,
+    down: &[u64],
+    down_span: Span,
+) -> Option<(usize, usize)>
+    requires up_within { up_span.end ≤ length up.now }
+    requires down_within { down_span.end ≤ length down.now }
+    requires dark_up { IsDarkBeyond up_span.first up_span.end up.now }
+    requires dark_down { IsDarkBeyond down_span.first down_span.end down.now }
+    requires few_up { length up.now ≤ 2 ^ 58 }
+    requires few_down { length down.now ≤ 2 ^ 58 }
+    requires room { y + many < 2 ^ 64 }
+    ensures some { IfSome result (λ cell. ((cell.1 + 1 ≡ y) × (is_set up.now cell.0 ≡ true)) ⊎ ((cell.1 ≡ y + many) × (is_set down.now cell.0 ≡ true))) }
+    ensures none_up { result ≡ None → 0 < y → (x : ℕ) → is_set up.now x ≡ false }
+    ensures none_down { result ≡ None → (x : ℕ) → is_set down.now x ≡ false }
+{
+    if y > 0 {
+        if let Some(x) = first_bit(up, up_span) {
+            return Some((x, y - 1));
+        }
+    }
+    match first_bit(down, down_span) {
+        Some(x) => Some((x, y + many)),
+        None => None,
+    }
+}
+
+/// The cell of the band's first injection that is left, where it is due at the next generation.
+pub fn due_cell(band: &Band) -> Option<(u64, u64)>
+    requires room { band.now.generation + 1 < 2 ^ 64 }
+    ensures some { IfSome result (λ cell. IsNextDue band.now cell.0 cell.1) }
+    ensures none { result ≡ None → due_count (band.now.generation + 1) (drop band.now.done band.now.injections.items) ≡ 0 }
+{
+    if band.done >= band.injections.len() {
+        return None;
+    }
+    let injection = band.injections[band.done];
+    if injection.generation == band.generation as u128 + 1 {
+        return Some((injection.x, injection.y));
+    }
+    None
+}

@@ -1,0 +1,253 @@
+// One band.
+ghost use Rattle.std.specs.Prelude.{◌≡◌, ◌+◌, ◌-◌, ◌<◌, ◌≤◌, ◌^◌, ◌+ℤ◌, ◌-ℤ◌, ℕ, pos, length, get_or, drop, take, IfOk, All};
+ghost use Rattle.ww_rule.specs.Wireworld.{Plane, Due, next_plane, injected};
+ghost use Rattle.ww_rule.specs.Injections.{is_among};
+ghost use Rattle.lane_kernel.specs.Spans.{IsDarkBeyond};
+ghost use Rattle.band_rows.specs.Rows.{AreLong, IsEmptyWest, ShowRows, ShowsHeads, row_heads, row_tails};
+ghost use Rattle.band_core.specs.Band.{AreInRows, IsBand, IsEvolution, ShowsBand, AreDark, bottom_at, top_at, cells_of, due_count};
+
+use band_rows::{Kept, Row, Span, step_band};
+use std::alloc::Global;
+use std::mem;
+use ww_rule::Injection;
+
+/// Rows of one generation, the heads of the top and the bottom one a generation ago, and the band's injections, of which
+/// the first ones are done.
+#[derive(Drop)]
+pub struct Band {
+    pub rows: Vec<Row>,
+    pub generation: u64,
+    pub top: Kept,
+    pub bottom: Kept,
+    pub injections: Vec<Injection>,
+    pub done: usize,
+}
+
+/// How many injections at the front are of a generation.
+pub fn due_count(generation: u128, injections: &[Injection]) -> usize
+    ensures count { result ≡ due_count generation injections.now }
+    ensures within { result ≤ length injections.now }
+{
+    injections
+        .iter()
+        .take_while(|injection| injection.generation == generation)
+        .count()
+}
+
+/// Makes the cells of injections heads, in rows from row y on. No memory is taken.
+pub fn inject(alloc: Global, rows: &mut [Row], y: usize, words: usize, due: &[Injection])
+    requires long { AreLong words rows.old }
+    requires inside { AreInRows words y (length rows.old) due.now }
+    ensures many { length rows.new ≡ length rows.old }
+    ensures long { AreLong words rows.new }
+    ensures shows { (p : Plane) → ShowRows rows.old p (pos y) → ShowRows rows.new (injected (is_among (cells_of due.now)) p) (pos y) }
+{
+    for injection in due {
+        let place = injection.y as usize - y;
+        let row = mem::replace(&mut rows[place], Row::dark(alloc));
+        rows[place] = row.with_head(injection.x as usize);
+    }
+}
+
+// The kept rows with the tails of the top and the bottom row, which are the heads that these had.
+fn keep_edges(rows: &[Row], top: Kept, bottom: Kept) -> (Kept, Kept)
+    requires some { 0 < length rows.now }
+    requires top { length (row_heads rows.now 0) ≡ length top.heads.items }
+    requires bottom { length (row_heads rows.now (length rows.now - 1)) ≡ length bottom.heads.items }
+    ensures long_top { length result.0.heads.items ≡ length top.heads.items }
+    ensures long_bottom { length result.1.heads.items ≡ length bottom.heads.items }
+    ensures top { (j : ℕ) → get_or result.0.heads.items j 0 ≡ get_or (row_tails rows.now 0) j 0 }
+    ensures bottom { (j : ℕ) → get_or result.1.heads.items j 0 ≡ get_or (row_tails rows.now (length rows.now - 1)) j 0 }
+{
+    let last = rows.len() - 1;
+    let top = top.keep(rows[0].tails.as_slice(), rows[0].span);
+    let bottom = bottom.keep(rows[last].tails.as_slice(), rows[last].span);
+    (top, bottom)
+}
+
+/// The next generation of rows from row y on, with the injections that are then due, between rows of heads. The kept rows
+/// take the heads that the top and the bottom row had. The spare rows hold anything.
+fn step_rows(
+    alloc: Global,
+    rows: &mut [Row],
+    y: usize,
+    up: &[u64],
+    up_span: Span,
+    down: &[u64],
+    down_span: Span,
+    spare_heads: &mut [u64],
+    spare_wires: &mut [u64],
+    top: Kept,
+    bottom: Kept,
+    due: &[Injection],
+) -> (Kept, Kept)
+    requires some { 0 < length rows.old }
+    requires long { AreLong (length up.now) rows.old }
+    requires down { length down.now ≡ length up.now }
+    requires up_within { up_span.end ≤ length up.now }
+    requires down_within { down_span.end ≤ length up.now }
+    requires spare_heads { length spare_heads.old ≡ length up.now }
+    requires spare_wires { length spare_wires.old ≡ length up.now }
+    requires dark_up { IsDarkBeyond up_span.first up_span.end up.now }
+    requires dark_down { IsDarkBeyond down_span.first down_span.end down.now }
+    requires top { length top.heads.items ≡ length up.now }
+    requires bottom { length bottom.heads.items ≡ length up.now }
+    requires inside { AreInRows (length up.now) y (length rows.old) due.now }
+    ensures many { length rows.new ≡ length rows.old }
+    ensures long { AreLong (length up.now) rows.new }
+    ensures long_top { length result.0.heads.items ≡ length up.now }
+    ensures long_bottom { length result.1.heads.items ≡ length up.now }
+    ensures top { (j : ℕ) → get_or result.0.heads.items j 0 ≡ get_or (row_heads rows.old 0) j 0 }
+    ensures bottom { (j : ℕ) → get_or result.1.heads.items j 0 ≡ get_or (row_heads rows.old (length rows.old - 1)) j 0 }
+    ensures shows { (p : Plane) → IsEmptyWest p → ShowRows rows.old p (pos y) → ShowsHeads up.now p (pos y -ℤ pos 1) → ShowsHeads down.now p (pos y +ℤ pos (length rows.old)) → ShowRows rows.new (injected (is_among (cells_of due.now)) (next_plane p)) (pos y) }
+{
+    step_band(
+        alloc,
+        rows,
+        up,
+        up_span,
+        down,
+        down_span,
+        spare_heads,
+        spare_wires,
+    );
+    let kept = keep_edges(rows, top, bottom);
+    inject(alloc, rows, y, up.len(), due);
+    kept
+}
+
+impl Band {
+    /// A band without rows.
+    pub fn dark(alloc: Global) -> Band {
+        Band {
+            rows: Vec::new(alloc),
+            generation: 0,
+            top: Kept::dark(alloc),
+            bottom: Kept::dark(alloc),
+            injections: Vec::new(alloc),
+            done: 0,
+        }
+    }
+
+    /// The heads of the bottom row at a generation, which is the band's or the one before, and a span beyond which there are
+    /// none.
+    pub fn bottom_heads(&self, generation: u64) -> (&[u64], Span)
+        requires { 0 < length self.now.rows.items }
+        ensures heads { result.0.now ≡ bottom_at generation self.now }
+        ensures within { result.1.end ≤ length result.0.now }
+        ensures dark { IsDarkBeyond result.1.first result.1.end result.0.now }
+    {
+        if self.generation == generation {
+            let row = &self.rows[self.rows.len() - 1];
+            return (row.heads.as_slice(), row.span);
+        }
+        (self.bottom.heads.as_slice(), self.bottom.span)
+    }
+
+    /// The heads of the top row, likewise.
+    pub fn top_heads(&self, generation: u64) -> (&[u64], Span)
+        requires { 0 < length self.now.rows.items }
+        ensures heads { result.0.now ≡ top_at generation self.now }
+        ensures within { result.1.end ≤ length result.0.now }
+        ensures dark { IsDarkBeyond result.1.first result.1.end result.0.now }
+    {
+        if self.generation == generation {
+            let row = &self.rows[0];
+            return (row.heads.as_slice(), row.span);
+        }
+        (self.top.heads.as_slice(), self.top.span)
+    }
+
+    /// The band one generation on, between the heads of the rows beside it at its own generation. The spare rows hold
+    /// anything.
+    pub fn next(
+        self,
+        alloc: Global,
+        y: usize,
+        up: &[u64],
+        up_span: Span,
+        down: &[u64],
+        down_span: Span,
+        spare_heads: &mut [u64],
+        spare_wires: &mut [u64],
+    ) -> Band
+        requires is { IsBand (length up.now) y (length self.rows.items) self }
+        requires room { self.generation + 1 < 2 ^ 64 }
+        requires down { length down.now ≡ length up.now }
+        requires up_within { up_span.end ≤ length up.now }
+        requires down_within { down_span.end ≤ length up.now }
+        requires spare_heads { length spare_heads.old ≡ length up.now }
+        requires spare_wires { length spare_wires.old ≡ length up.now }
+        requires dark_up { IsDarkBeyond up_span.first up_span.end up.now }
+        requires dark_down { IsDarkBeyond down_span.first down_span.end down.now }
+        ensures generation { result.generation ≡ self.generation + 1 }
+        ensures is { IsBand (length up.now) y (length self.rows.items) result }
+        ensures shows { (e : ℕ → Plane) (due : Due) (width height : ℕ) → IsEvolution e due width height → ShowsBand e due y (length self.rows.items) self → ShowsHeads up.now (e self.generation) (pos y -ℤ pos 1) → ShowsHeads down.now (e self.generation) (pos y +ℤ pos (length self.rows.items)) → ShowsBand e due y (length self.rows.items) result }
+    {
+        let Band {
+            mut rows,
+            generation,
+            top,
+            bottom,
+            injections,
+            done,
+        } = self;
+        let generation = generation + 1;
+        let count = due_count(generation as u128, &injections[done..]);
+        let (top, bottom) = step_rows(
+            alloc,
+            &mut rows,
+            y,
+            up,
+            up_span,
+            down,
+            down_span,
+            spare_heads,
+            spare_wires,
+            top,
+            bottom,
+            &injections[done..done + count],
+        );
+        Band {
+            rows,
+            generation,
+            top,
+            bottom,
+            injections,
+            done: done + count,
+        }
+    }
+
+    /// The band one generation on, where it is dark, no head lies beside it and no injection is due: its rows stay.
+    pub fn rest(self, dark: &[u64]) -> Band
+        requires top { length self.top.heads.items ≡ length dark.now }
+        requires bottom { length self.bottom.heads.items ≡ length dark.now }
+        requires room { self.generation + 1 < 2 ^ 64 }
+        requires dark { (j : ℕ) → get_or dark.now j 0 ≡ 0 }
+        ensures generation { result.generation ≡ self.generation + 1 }
+        ensures rows { result.rows ≡ self.rows }
+        ensures done { result.done ≡ self.done }
+        ensures injections { result.injections ≡ self.injections }
+        ensures long_top { length result.top.heads.items ≡ length dark.now }
+        ensures long_bottom { length result.bottom.heads.items ≡ length dark.now }
+        ensures top { (j : ℕ) → get_or result.top.heads.items j 0 ≡ 0 }
+        ensures bottom { (j : ℕ) → get_or result.bottom.heads.items j 0 ≡ 0 }
+    {
+        let Band {
+            rows,
+            generation,
+            top,
+            bottom,
+            injections,
+            done,
+        } = self;
+        Band {
+            rows,
+            generation: generation + 1,
+            top: top.keep(dark, Span { first: 0, end: 0 }),
+            bottom: bottom.keep(dark, Span { first: 0, end: 0 }),
+            injections,
+            done,
+        }
+    }
+}

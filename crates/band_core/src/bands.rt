@@ -1,0 +1,171 @@
+// Bands of rows.
+ghost use Rattle.std.specs.Prelude.{◌≡◌, ◌+◌, ◌*◌, ◌<◌, ◌≤◌, ◌^◌, ◌⊎◌, ℕ, pos, All, length, IfOk, IfErr, OnOk, OnErr, Some, None};
+ghost use Rattle.ww_rule.specs.Patterns.{grid_of};
+ghost use Rattle.band_core.specs.Bands.{AreInOrderFrom, AreInside, IsBandedPattern, IsCellOf, IsAwake, HasReasonToStay, begun, band_at, generation_of, moved_on, unready_neighbour};
+
+use crate::band::Band;
+use crate::error::{BandsError, NotReady, NotSkipped};
+use crate::making::begin_bands;
+use crate::moving::{awake_cell, move_band, rest_band, unready_neighbour};
+use lists::List;
+use std::alloc::Global;
+use std::marker::Model;
+use ww_rule::{Injection, Pattern, State};
+
+/// A pattern that injections drive, in bands of rows from the top down, of one height but for the last one, which may be
+/// shorter. Each band shows its rows of the one driven evolution, at a generation of its own. A pattern without cells has
+/// no band. All memory is taken when the bands are made.
+#[derive(Drop)]
+pub struct Bands {
+    pattern: Pattern,
+    drive: Vec<Injection>,
+    height: usize,
+    bands: Vec<Band>,
+    dark: Vec<u64>,
+    spare_heads: Vec<u64>,
+    spare_wires: Vec<u64>,
+    alloc: Global,
+}
+
+impl Model for Bands {
+    ghost use Rattle.band_core.specs.Bands.{BandedPattern};
+
+    ghost Value = { BandedPattern };
+
+    ghost use Rattle.band_core.specs.Held.{held_pattern, IsHeld};
+
+    ghost view = { held_pattern };
+
+    ghost invariant = { IsHeld };
+}
+
+// How many words a row of cells takes, where all rows are of one length.
+fn words_for(rows: &[List<State>]) -> usize
+    ensures few { result ≤ 2 ^ 58 }
+    ensures wide { (width : ℕ) → All (λ row. length row ≡ width) rows.now → All (λ row. length row ≤ 64 * result) rows.now }
+{
+    if rows.is_empty() {
+        return 0;
+    }
+    let width = rows[0].len();
+    if width % 64 == 0 {
+        width / 64
+    } else {
+        width / 64 + 1
+    }
+}
+
+impl Bands {
+    /// The bands of a pattern at generation 0: bands of `height` rows, from 1 up, for injections at cells of the pattern's
+    /// box, in the order of their generations, of which those of generation 0 are made. `NoMemory` is the one error.
+    pub fn new(
+        alloc: Global,
+        pattern: Pattern,
+        drive: Vec<Injection>,
+        height: u32,
+    ) -> Result<Bands, BandsError>
+        requires height { 0 < height }
+        requires in_order { AreInOrderFrom 0 drive.items }
+        requires inside { AreInside pattern.width pattern.height drive.items }
+        ensures { IfOk result (λ bands. bands ≡ begun (grid_of pattern) drive.items height) }
+    {
+        let height = height as usize;
+        let words = words_for(pattern.rows.as_slice());
+        let bands = begin_bands(alloc, pattern.rows.as_slice(), &drive, height, words)?;
+        let dark = vec![in alloc; 0; words]?;
+        let spare_heads = vec![in alloc; 0; words]?;
+        let spare_wires = vec![in alloc; 0; words]?;
+        Ok(Bands {
+            pattern,
+            drive,
+            height,
+            bands,
+            dark,
+            spare_heads,
+            spare_wires,
+            alloc,
+        })
+    }
+
+    /// How many bands there are.
+    pub fn bands(&self) -> usize
+        ensures count { result ≡ length self.now.generations }
+        ensures whole { IsBandedPattern self.now }
+    {
+        self.bands.len()
+    }
+
+    /// How many generations a band has come.
+    pub fn generation(&self, b: usize) -> u64
+        requires { b < length self.now.generations }
+        ensures { result ≡ generation_of self.now b }
+    {
+        self.bands[b].generation
+    }
+
+    /// The state of a cell of the pattern's box, by its column and row in the pattern, at the generation of the band in
+    /// which it lies.
+    pub fn cell(&self, b: usize, x: u64, y: u64) -> State
+        requires { IsCellOf self.now b x y }
+        ensures { result ≡ band_at self.now b x y }
+    {
+        let band = &self.bands[b];
+        let row = &band.rows[y as usize - b * self.height];
+        row.state(x as usize)
+    }
+
+    /// Moves a band on by one generation. It is refused where a neighbour is neither at the band's generation nor one
+    /// further; the upper one is looked at first.
+    pub fn advance(&mut self, b: usize) -> Result<(), NotReady>
+        requires band { b < length self.old.generations }
+        requires room { generation_of self.old b + 1 < 2 ^ 64 }
+        ensures moved { OnOk result (self.new ≡ moved_on b self.old) }
+        ensures ready { OnOk result (unready_neighbour self.old.generations b ≡ None) }
+        ensures refused { OnErr result (self.new ≡ self.old) }
+        ensures cause { IfErr result (λ refusal. unready_neighbour self.old.generations b ≡ Some refusal) }
+    {
+        if let Some(refusal) = unready_neighbour(&self.bands, b) {
+            return Err(refusal);
+        }
+        move_band(
+            self.alloc,
+            &mut self.bands,
+            b,
+            self.height,
+            self.pattern.rows.len(),
+            &self.dark,
+            &mut self.spare_heads,
+            &mut self.spare_wires,
+        );
+        Ok(())
+    }
+
+    /// Moves a band on by one generation where no cell can change in it. It is refused as `advance` is, which is looked at
+    /// first, and else where a cell keeps the band awake.
+    pub fn skip(&mut self, b: usize) -> Result<(), NotSkipped>
+        requires band { b < length self.old.generations }
+        requires room { generation_of self.old b + 1 < 2 ^ 64 }
+        ensures moved { OnOk result (self.new ≡ moved_on b self.old) }
+        ensures ready { OnOk result (unready_neighbour self.old.generations b ≡ None) }
+        ensures asleep { OnOk result ((x y : ℕ) → ¬ IsAwake self.old b x y) }
+        ensures refused { OnErr result (self.new ≡ self.old) }
+        ensures cause { IfErr result (HasReasonToStay self.old b) }
+    {
+        let rows = self.pattern.rows.len();
+        if let Some(refusal) = unready_neighbour(&self.bands, b) {
+            return Err(NotSkipped::NotReady(refusal));
+        }
+        if let Some((x, y)) = awake_cell(&self.bands, b, self.height, rows, &self.dark) {
+            return Err(NotSkipped::Awake { x, y });
+        }
+        rest_band(
+            self.alloc,
+            &mut self.bands,
+            b,
+            self.height,
+            rows,
+            &self.dark,
+        );
+        Ok(())
+    }
+}

@@ -1,0 +1,132 @@
+// Bands of a pattern at generation 0.
+ghost use Rattle.std.specs.Prelude.{◌≡◌, ◌+◌, ◌-◌, ◌*◌, ◌/◌, ◌<◌, ◌≤◌, ◌^◌, ◌==◌, ℕ, pos, List, [], length, get_or, map, filter, replicate, All, IfOk};
+ghost use Rattle.ww_rule.specs.declared.pattern.State.TheVariants.{Empty};
+ghost use Rattle.ww_rule.specs.Wireworld.{Plane, Due, driven, injected};
+ghost use Rattle.ww_rule.specs.Grid.{plane_of};
+ghost use Rattle.ww_rule.specs.Injections.{due_of_list};
+ghost use Rattle.band_rows.specs.Rows.{AreLong, ShowRows};
+ghost use Rattle.band_core.specs.Bands.{AreInOrderFrom, bands_in};
+ghost use Rattle.band_core.specs.Band.{AllShow, AreBands, AreDueIn, AreInRows, AreShown, CellsShow, IsBand, ShowsBand, generations_of};
+
+use crate::band::{Band, due_count, inject};
+use band_rows::{Kept, Row, Span};
+use lists::List;
+use std::alloc::{AllocError, Global};
+use std::mem;
+use ww_rule::{Injection, State};
+
+// So many empty lists.
+fn empty_lists(alloc: Global, count: usize) -> Result<Vec<List<Injection>>, AllocError>
+    ensures many { IfOk result (λ lists. length lists.items ≡ count) }
+    ensures empty { IfOk result (λ lists. (b : ℕ) → b < count → get_or lists.items b [] ≡ []) }
+{
+    let mut lists = Vec::with_capacity(alloc, count)?;
+    for b in 0..count {
+        lists.push(List::of(Vec::new(alloc)))?;
+    }
+    Ok(lists)
+}
+
+// Each band's injections, in their order, for so many bands of a height.
+fn shares(
+    alloc: Global,
+    drive: &[Injection],
+    height: usize,
+    count: usize,
+) -> Result<Vec<List<Injection>>, AllocError>
+    requires height { 0 < height }
+    requires inside { All (λ i. i.y / height < count) drive.now }
+    ensures many { IfOk result (λ shares. length shares.items ≡ count) }
+    ensures each { IfOk result (λ shares. (b : ℕ) → b < count → get_or shares.items b [] ≡ filter (λ i. i.y / height == b) drive.now) }
+{
+    let mut shares = empty_lists(alloc, count)?;
+    for injection in drive {
+        let b = injection.y as usize / height;
+        let mut share = mem::replace(&mut shares[b], List::of(Vec::new(alloc))).into_vec();
+        share.push(*injection)?;
+        shares[b] = List::of(share);
+    }
+    Ok(shares)
+}
+
+// Rows of cells in so many words.
+fn packed(alloc: Global, cells: &[List<State>], words: usize) -> Result<Vec<Row>, AllocError>
+    requires { All (λ row. length row ≤ 64 * words) cells.now }
+    ensures many { IfOk result (λ rows. length rows.items ≡ length cells.now) }
+    ensures long { IfOk result (λ rows. AreLong words rows.items) }
+    ensures shows { IfOk result (λ rows. AreShown cells.now rows.items) }
+{
+    let mut rows = Vec::with_capacity(alloc, cells.len())?;
+    for row in cells {
+        rows.push(Row::of_cells(alloc, row.as_slice(), words)?)?;
+    }
+    Ok(rows)
+}
+
+// A dark row of so many words, to keep heads in.
+fn dark_row(alloc: Global, words: usize) -> Result<Kept, AllocError>
+    ensures { IfOk result (λ kept. length kept.heads.items ≡ words) }
+{
+    Ok(Kept {
+        heads: vec![in alloc; 0; words]?,
+        span: Span { first: 0, end: 0 },
+    })
+}
+
+// The band of rows of cells from row y on, at generation 0, with its own injections.
+fn begin_band(
+    alloc: Global,
+    cells: &[List<State>],
+    y: usize,
+    words: usize,
+    injections: Vec<Injection>,
+) -> Result<Band, AllocError>
+    requires some { 0 < length cells.now }
+    requires long { All (λ row. length row ≤ 64 * words) cells.now }
+    requires inside { AreInRows words y (length cells.now) injections.items }
+    requires in_order { AreInOrderFrom 0 injections.items }
+    ensures is { IfOk result (λ band. IsBand words y (length cells.now) band) }
+    ensures begun { IfOk result (λ band. band.generation ≡ 0) }
+    ensures shows { IfOk result (λ band. (e : ℕ → Plane) (due : Due) (p : Plane) → e 0 ≡ injected (due 0) p → CellsShow cells.now p y → AreDueIn injections.items due y (length cells.now) → ShowsBand e due y (length cells.now) band) }
+{
+    let mut rows = packed(alloc, cells, words)?;
+    let done = due_count(0, &injections);
+    inject(alloc, &mut rows, y, words, &injections[..done]);
+    Ok(Band {
+        rows,
+        generation: 0,
+        top: dark_row(alloc, words)?,
+        bottom: dark_row(alloc, words)?,
+        injections,
+        done,
+    })
+}
+
+/// The bands of rows of cells at generation 0.
+pub fn begin_bands(
+    alloc: Global,
+    rows: &[List<State>],
+    drive: &[Injection],
+    height: usize,
+    words: usize,
+) -> Result<Vec<Band>, AllocError>
+    requires height { 0 < height }
+    requires low { height < 2 ^ 32 }
+    requires long { All (λ row. length row ≤ 64 * words) rows.now }
+    requires inside { AreInRows words 0 (length rows.now) drive.now }
+    requires in_order { AreInOrderFrom 0 drive.now }
+    ensures bands { IfOk result (λ bands. AreBands words height (length rows.now) bands.items) }
+    ensures begun { IfOk result (λ bands. generations_of bands.items ≡ replicate (bands_in (length rows.now) height) 0) }
+    ensures shows { IfOk result (λ bands. AllShow (driven (due_of_list drive.now) (plane_of rows.now)) (due_of_list drive.now) height (length rows.now) bands.items) }
+{
+    let count = (rows.len() + (height - 1)) / height;
+    let mut shares = shares(alloc, drive, height, count)?;
+    let mut bands = Vec::with_capacity(alloc, count)?;
+    for b in 0..count {
+        let y = b * height;
+        let end = rows.len().min(y + height);
+        let own = mem::replace(&mut shares[b], List::of(Vec::new(alloc))).into_vec();
+        bands.push(begin_band(alloc, &rows[y..end], y, words, own)?)?;
+    }
+    Ok(bands)
+}

@@ -1,0 +1,183 @@
+// Bands that move on beside others.
+ghost use Rattle.std.specs.Prelude.{◌≡◌, ◌+◌, ◌-◌, ◌*◌, ◌<◌, ◌≤◌, ◌^◌, ◌⊎◌, ℕ, length, get_or, min, slice_set, None, IfSome};
+ghost use Rattle.ww_rule.specs.Wireworld.{Plane, Due};
+ghost use Rattle.lane_kernel.specs.Spans.{IsDarkBeyond};
+ghost use Rattle.band_core.specs.declared.band.Band.{Band};
+ghost use Rattle.band_core.specs.Bands.{not_ready, unready_neighbour};
+ghost use Rattle.band_core.specs.Band.{AreBands, AllShow, HasNoneDue, IsEvolution, IsQuiet, IsWaking, bottom_at, generations_of, top_at};
+
+use crate::awake::{due_cell, faced_cell, lit_cell};
+use crate::band::Band;
+use crate::error::NotReady;
+use band_rows::Span;
+use std::alloc::Global;
+use std::mem;
+
+// A neighbour of band b, where its generation is neither the band's nor one more.
+fn not_ready(bands: &[Band], b: usize, neighbour: usize) -> Option<NotReady>
+    requires band { b < length bands.now }
+    requires neighbour { neighbour < length bands.now }
+    requires room { get_or (generations_of bands.now) b 0 + 1 < 2 ^ 64 }
+    ensures { result ≡ not_ready (generations_of bands.now) b neighbour }
+{
+    let own = bands[b].generation;
+    let generation = bands[neighbour].generation;
+    if generation == own || generation == own + 1 {
+        return None;
+    }
+    Some(NotReady {
+        neighbour,
+        generation,
+    })
+}
+
+/// The neighbour beside which band b can't move on; the upper one is looked at first.
+pub fn unready_neighbour(bands: &[Band], b: usize) -> Option<NotReady>
+    requires band { b < length bands.now }
+    requires room { get_or (generations_of bands.now) b 0 + 1 < 2 ^ 64 }
+    ensures { result ≡ unready_neighbour (generations_of bands.now) b }
+{
+    if b > 0 {
+        if let Some(refusal) = not_ready(bands, b, b - 1) {
+            return Some(refusal);
+        }
+    }
+    if b + 1 < bands.len() {
+        return not_ready(bands, b, b + 1);
+    }
+    None
+}
+
+/// The heads of the row above band b at a generation, and a span beyond which it has none.
+pub fn row_above<'a>(
+    bands: &'a [Band],
+    b: usize,
+    generation: u64,
+    dark: &'a [u64],
+) -> (&'a [u64], Span)
+    requires band { b < length bands.now }
+    requires some { (d : Band) → 0 < b → 0 < length (get_or bands.now (b - 1) d).rows.items }
+    requires dark { (j : ℕ) → get_or dark.now j 0 ≡ 0 }
+    ensures first { b ≡ 0 → result.0.now ≡ dark.now }
+    ensures later { (d : Band) → 0 < b → result.0.now ≡ bottom_at generation (get_or bands.now (b - 1) d) }
+    ensures within { result.1.end ≤ length result.0.now }
+    ensures dark { IsDarkBeyond result.1.first result.1.end result.0.now }
+{
+    if b == 0 {
+        return (dark, Span { first: 0, end: 0 });
+    }
+    bands[b - 1].bottom_heads(generation)
+}
+
+/// The heads of the row below band b, likewise.
+pub fn row_below<'a>(
+    bands: &'a [Band],
+    b: usize,
+    generation: u64,
+    dark: &'a [u64],
+) -> (&'a [u64], Span)
+    requires band { b < length bands.now }
+    requires some { (d : Band) → b + 1 < length bands.now → 0 < length (get_or bands.now (b + 1) d).rows.items }
+    requires dark { (j : ℕ) → get_or dark.now j 0 ≡ 0 }
+    ensures last { b + 1 ≡ length bands.now → result.0.now ≡ dark.now }
+    ensures earlier { (d : Band) → b + 1 < length bands.now → result.0.now ≡ top_at generation (get_or bands.now (b + 1) d) }
+    ensures within { result.1.end ≤ length result.0.now }
+    ensures dark { IsDarkBeyond result.1.first result.1.end result.0.now }
+{
+    if b + 1 == bands.len() {
+        return (dark, Span { first: 0, end: 0 });
+    }
+    bands[b + 1].top_heads(generation)
+}
+
+/// Moves band b on by one generation. No memory is taken.
+pub fn move_band(
+    alloc: Global,
+    bands: &mut [Band],
+    b: usize,
+    height: usize,
+    rows: usize,
+    dark: &[u64],
+    spare_heads: &mut [u64],
+    spare_wires: &mut [u64],
+)
+    requires band { b < length bands.old }
+    requires room { get_or (generations_of bands.old) b 0 + 1 < 2 ^ 64 }
+    requires ready { unready_neighbour (generations_of bands.old) b ≡ None }
+    requires bands { AreBands (length dark.now) height rows bands.old }
+    requires dark { (j : ℕ) → get_or dark.now j 0 ≡ 0 }
+    requires spare_heads { length spare_heads.old ≡ length dark.now }
+    requires spare_wires { length spare_wires.old ≡ length dark.now }
+    ensures bands { AreBands (length dark.now) height rows bands.new }
+    ensures generations { generations_of bands.new ≡ slice_set (generations_of bands.old) b (get_or (generations_of bands.old) b 0 + 1) }
+    ensures shows { (e : ℕ → Plane) (due : Due) (width : ℕ) → IsEvolution e due width rows → AllShow e due height rows bands.old → AllShow e due height rows bands.new }
+{
+    let band = mem::replace(&mut bands[b], Band::dark(alloc));
+    let (up, up_span) = row_above(bands, b, band.generation, dark);
+    let (down, down_span) = row_below(bands, b, band.generation, dark);
+    let next = band.next(
+        alloc,
+        b * height,
+        up,
+        up_span,
+        down,
+        down_span,
+        spare_heads,
+        spare_wires,
+    );
+    bands[b] = next;
+}
+
+/// Moves band b on by one generation where nothing can change in it: its rows stay. No memory is taken.
+pub fn rest_band(
+    alloc: Global,
+    bands: &mut [Band],
+    b: usize,
+    height: usize,
+    rows: usize,
+    dark: &[u64],
+)
+    requires band { b < length bands.old }
+    requires room { get_or (generations_of bands.old) b 0 + 1 < 2 ^ 64 }
+    requires bands { AreBands (length dark.now) height rows bands.old }
+    requires dark { (j : ℕ) → get_or dark.now j 0 ≡ 0 }
+    requires none_due { (d : Band) → HasNoneDue (get_or bands.old b d) }
+    ensures bands { AreBands (length dark.now) height rows bands.new }
+    ensures generations { generations_of bands.new ≡ slice_set (generations_of bands.old) b (get_or (generations_of bands.old) b 0 + 1) }
+    ensures shows { (e : ℕ → Plane) (due : Due) (width : ℕ) → IsEvolution e due width rows → AllShow e due height rows bands.old → IsQuiet e due (get_or (generations_of bands.old) b 0) (b * height) (min height (rows - b * height)) → AllShow e due height rows bands.new }
+{
+    let band = mem::replace(&mut bands[b], Band::dark(alloc));
+    bands[b] = band.rest(dark);
+}
+
+/// A cell that keeps band b awake.
+pub fn awake_cell(
+    bands: &[Band],
+    b: usize,
+    height: usize,
+    rows: usize,
+    dark: &[u64],
+) -> Option<(u64, u64)>
+    requires band { b < length bands.now }
+    requires room { get_or (generations_of bands.now) b 0 + 1 < 2 ^ 64 }
+    requires ready { unready_neighbour (generations_of bands.now) b ≡ None }
+    requires bands { AreBands (length dark.now) height rows bands.now }
+    requires dark { (j : ℕ) → get_or dark.now j 0 ≡ 0 }
+    requires few { length dark.now ≤ 2 ^ 58 }
+    ensures some { IfSome result (λ cell. (e : ℕ → Plane) (due : Due) (width : ℕ) → IsEvolution e due width rows → AllShow e due height rows bands.now → IsWaking e due (get_or (generations_of bands.now) b 0) (b * height) (min height (rows - b * height)) cell.0 cell.1) }
+    ensures none_due { result ≡ None → (d : Band) → HasNoneDue (get_or bands.now b d) }
+    ensures quiet { result ≡ None → (e : ℕ → Plane) (due : Due) (width : ℕ) → IsEvolution e due width rows → AllShow e due height rows bands.now → IsQuiet e due (get_or (generations_of bands.now) b 0) (b * height) (min height (rows - b * height)) }
+{
+    let band = &bands[b];
+    let y = b * height;
+    let own = band.rows.as_slice();
+    if let Some((x, z)) = lit_cell(own, y) {
+        return Some((x as u64, z as u64));
+    }
+    let (up, up_span) = row_above(bands, b, band.generation, dark);
+    let (down, down_span) = row_below(bands, b, band.generation, dark);
+    if let Some((x, z)) = faced_cell(y, own.len(), up, up_span, down, down_span) {
+        return Some((x as u64, z as u64));
+    }
+    due_cell(band)
+}
