@@ -8,10 +8,11 @@ use Rattle.std.specs.Cmp.Lexicographic.{slice_cmp}
 use Rattle.std.specs.BTreeSet.{BTreeSet, contains_by}
 use denote.Ref.{Bor}
 use Rattle.blif_text.specs.declared.logical.Logical.{Logical}
-use Rattle.blif_text.specs.declared.fault.Fault.{Fault}
-use Rattle.blif_text.specs.declared.fault.FaultKind.TheVariants.{UnknownDirective, Unsupported, BadCount, RowOutside, BadRow, MixedCover, BadLatch, BadPin, DuplicateModel}
+use Rattle.netlist_rules.specs.declared.fault.Fault.{Fault}
+use Rattle.netlist_rules.specs.declared.fault.FaultKind.TheVariants.{UnknownDirective, Unsupported, BadCount, RowOutside, BadRow, MixedCover, BadLatch, BadPin, DuplicateModel}
 use Rattle.blif_text.specs.Models.{begins_model, first_operand, first_word, has_directive, is_directive, is_row, operands, pin_words}
-use Rattle.blif_text.specs.LineFaults.{fault_at, is_end_or_model, last_directive, first_row, unknown_directive, unsupported, has_bad_count, is_row_of, number_of_inputs, differs_from, is_latch, is_bad_pin}
+use Rattle.netlist_rules.specs.FaultNames.{fault_on}
+use Rattle.blif_text.specs.LineFaults.{is_end_or_model, last_directive, first_row, unknown_directive, unsupported, has_bad_count, is_row_of, number_of_inputs, differs_from, is_latch, is_bad_pin}
 use Rattle.blif_reader.specs.declared.before.Before.{Before}
 use Rattle.blif_reader.specs.declared.faults.Broken.{Broken}
 
@@ -83,16 +84,16 @@ name_word is_named l = then_some (begins_model l && is_named) (first_operand l)
 -- the first of these rules that the line breaks
 abbrev pub inside_fault : Option Logical → Option Logical → Bool → Logical → Option Fault
 inside_fault directive row is_named l =
-    option_or (option_map (fault_at UnknownDirective l.line) (unknown_directive l))
-    (option_or (option_map (fault_at Unsupported l.line) (unsupported l))
-    (option_or (option_map (fault_at BadCount l.line) (count_word l))
-    (option_or (option_map (fault_at RowOutside l.line) (outside_word directive l))
-    (option_or (option_map (fault_at BadRow l.line) (bad_row_word directive l))
-    (option_or (option_map (fault_at MixedCover l.line) (mixed_word directive row l))
-    (option_or (option_map (fault_at BadLatch l.line) (latch_word l))
-    (option_or (option_map (fault_at BadPin l.line) (pin_word l))
-    (option_or (option_map (fault_at DuplicateModel l.line) (name_word is_named l)) None))))))))
+    option_or (option_map (fault_on UnknownDirective l.line) (unknown_directive l))
+    (option_or (option_map (fault_on Unsupported l.line) (unsupported l))
+    (option_or (option_map (fault_on BadCount l.line) (count_word l))
+    (option_or (option_map (fault_on RowOutside l.line) (outside_word directive l))
+    (option_or (option_map (fault_on BadRow l.line) (bad_row_word directive l))
+    (option_or (option_map (fault_on MixedCover l.line) (mixed_word directive row l))
+    (option_or (option_map (fault_on BadLatch l.line) (latch_word l))
+    (option_or (option_map (fault_on BadPin l.line) (pin_word l))
+    (option_or (option_map (fault_on DuplicateModel l.line) (name_word is_named l)) None))))))))
 
 -- the fault of a rule that is broken on a line of this number
 abbrev pub broken_fault : ℕ → Broken → Fault
-broken_fault line broken = fault_at broken.kind line broken.word.now
+broken_fault line broken = fault_on broken.kind line broken.word.now

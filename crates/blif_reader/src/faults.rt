@@ -3,7 +3,8 @@ ghost use Rattle.std.specs.Prelude.{◌≡◌, ℕ, List, option_map, IfOk};
 ghost use Rattle.std.specs.Option.{option_copied, option_or};
 ghost use Rattle.blif_text.specs.declared.logical.Logical.{Logical};
 ghost use Rattle.blif_text.specs.Models.{first_operand};
-ghost use Rattle.blif_text.specs.LineFaults.{fault_at, first_broken, line_fault, line_rules};
+ghost use Rattle.netlist_rules.specs.FaultNames.{fault_on};
+ghost use Rattle.blif_text.specs.LineFaults.{first_broken, line_fault, line_rules};
 ghost use Rattle.blif_reader.specs.Before.{HasRead, holds_name, is_cover, cover_inputs, differs_from_first, count_word, outside_word, bad_row_word, mixed_word, latch_word, pin_word, name_word, inside_fault, broken_fault};
 
 use crate::before::Before;
@@ -137,7 +138,7 @@ fn broken_or<'a>(
     later: Option<Broken<'a>>,
 ) -> Option<Broken<'a>>
     ensures { (line : ℕ) → option_map (broken_fault line) result ≡
-        option_or (option_map (fault_at kind line) (option_copied word.entry)) (option_map (broken_fault line) later.entry) }
+        option_or (option_map (fault_on kind line) (option_copied word.entry)) (option_map (broken_fault line) later.entry) }
 {
     match word {
         None => later,

@@ -1,40 +1,17 @@
 -- The first fault of lines, as a relation and as it is computed.
-use Rattle.std.proofs.Common.{◌≡◌, refl, sym, ap, subst, ◌∙◌, ℕ, ◌<◌, ◌⊎◌, inl, inr, List, [], ◌∷◌, ◌++◌, reverse, Bool, true, false, ◌&&◌, true≢false, arith, append_assoc, append-nil}
-use Rattle.std.specs.Prelude.{Some, None, Option, option_map, nat_lt}
-use Rattle.std.specs.List.{list_all}
+use Rattle.std.proofs.lemmas.Bool.{and_parts}
+use Rattle.netlist_rules.proofs.FaultKinds.{Member, ascends, above}
+use Rattle.std.proofs.Common.{◌≡◌, refl, sym, ap, subst, ◌∙◌, ℕ, ◌<◌, ◌⊎◌, inl, inr, List, [], ◌∷◌, ◌++◌, reverse, true, arith, append_assoc, append-nil}
+use Rattle.std.specs.Prelude.{Some, None, Option, option_map}
 use Rattle.std.specs.Option.{option_or}
 use Rattle.std.proofs.lemmas.List.{reverse-append}
-use Rattle.std.proofs.lemmas.Bool.{ltb-true}
 use Rattle.blif_text.specs.declared.logical.Logical.{Logical}
-use Rattle.blif_text.specs.declared.fault.Fault.{Fault}
-use Rattle.blif_text.specs.declared.fault.FaultKind.{FaultKind}
-use Rattle.blif_text.specs.declared.fault.FaultKind.TheVariants.{NoModelYet, UnknownDirective, Unsupported, BadCount, RowOutside, BadRow, MixedCover, BadLatch, BadPin, AfterEnd, DuplicateModel}
-use Rattle.blif_text.specs.FaultNames.{number_of}
-use Rattle.blif_text.specs.LineFaults.{word_at_fault, fault_at, first_broken, fault_after, line_fault, line_rules}
+use Rattle.netlist_rules.specs.declared.fault.Fault.{Fault}
+use Rattle.netlist_rules.specs.declared.fault.FaultKind.{FaultKind}
+use Rattle.netlist_rules.specs.declared.fault.FaultKind.TheVariants.{NoModelYet, UnknownDirective, Unsupported, BadCount, RowOutside, BadRow, MixedCover, BadLatch, BadPin, AfterEnd, DuplicateModel}
+use Rattle.netlist_rules.specs.FaultNames.{number_of, fault_on}
+use Rattle.blif_text.specs.LineFaults.{word_at_fault, first_broken, fault_after, line_fault, line_rules}
 use Rattle.blif_text.specs.Laws.{BreaksNone, IsFirstLineFault, LineFaultIsFirst, NoLineFault}
-
--- one of a list
-abbrev pub Member : FaultKind → List FaultKind → Type 0
-Member kind [] = ⊥
-Member kind (k ∷ ks) = (kind ≡ k) ⊎ Member kind ks
-
--- a list in the order of the numbers
-abbrev pub ascends : List FaultKind → Bool
-ascends [] = true
-ascends (k ∷ ks) = list_all (λ j. nat_lt (number_of k) (number_of j)) ks && ascends ks
-
-pub left : (a b : Bool) → (a && b) ≡ true → a ≡ true
-left true b e = refl
-left false b e = e
-
-pub right : (a b : Bool) → (a && b) ≡ true → b ≡ true
-right true b e = e
-right false b e = absurd (true≢false (sym e))
-
-pub above : (n : ℕ) (ks : List FaultKind) (kind : FaultKind) → list_all (λ j. nat_lt n (number_of j)) ks ≡ true → Member kind ks → n < number_of kind
-above n [] kind e m = absurd m
-above n (k ∷ ks) kind e (inl h) = subst (λ j. n < number_of j) (sym h) (ltb-true n (number_of k) (left (nat_lt n (number_of k)) (list_all (λ j. nat_lt n (number_of j)) ks) e))
-above n (k ∷ ks) kind e (inr m) = above n ks kind (right (nat_lt n (number_of k)) (list_all (λ j. nat_lt n (number_of j)) ks) e) m
 
 -- a rule that no line can break is none of those on lines
 line_rule : (kind : FaultKind) (before : List Logical) (l : Logical) → (word_at_fault kind before l ≡ None) ⊎ Member kind line_rules
@@ -60,17 +37,17 @@ module _ (before : List Logical) (l : Logical) where
 
   found : (rules : List FaultKind) (f : Fault) → ascends rules ≡ true → first_broken rules before l ≡ Some f → FirstBroken rules f
   found [] f up e = absurd (cc)
-  found (k ∷ ks) f up e = by (λ d. found ks f (right _ _ up) d) (word_at_fault k before l) refl e
+  found (k ∷ ks) f up e = by (λ d. found ks f (and_parts _ _ up).1 d) (word_at_fault k before l) refl e
     where
-      by : (first_broken ks before l ≡ Some f → FirstBroken ks f) → (o : Option (List ℕ)) → word_at_fault k before l ≡ o → option_or (option_map (fault_at k l.line) o) (first_broken ks before l) ≡ Some f → FirstBroken (k ∷ ks) f
+      by : (first_broken ks before l ≡ Some f → FirstBroken ks f) → (o : Option (List ℕ)) → word_at_fault k before l ≡ o → option_or (option_map (fault_on k l.line) o) (first_broken ks before l) ≡ Some f → FirstBroken (k ∷ ks) f
       by again (Some w) h d =
-          let same : fault_at k l.line w ≡ f = cc in
+          let same : fault_on k l.line w ≡ f = cc in
           subst (λ g. FirstBroken (k ∷ ks) g) same (record {
             line = refl;
             word = h;
             lowest = λ kind m lower. elim m as (λ _. word_at_fault kind before l ≡ None) [
               | inl same_kind ↦ absurd (let n : number_of kind ≡ number_of k = ap number_of same_kind in omega arith)
-              | inr later ↦ absurd (let n : number_of k < number_of kind = above (number_of k) ks kind (left _ _ up) later in omega arith)
+              | inr later ↦ absurd (let n : number_of k < number_of kind = above (number_of k) ks kind (and_parts _ _ up).0 later in omega arith)
             ];
           })
       by again None h d =
@@ -88,7 +65,7 @@ module _ (before : List Logical) (l : Logical) where
   not_found [] e kind m = absurd m
   not_found (k ∷ ks) e kind m = by (λ d later. not_found ks d kind later) (word_at_fault k before l) refl e m
     where
-      by : (first_broken ks before l ≡ None → Member kind ks → word_at_fault kind before l ≡ None) → (o : Option (List ℕ)) → word_at_fault k before l ≡ o → option_or (option_map (fault_at k l.line) o) (first_broken ks before l) ≡ None → Member kind (k ∷ ks) → word_at_fault kind before l ≡ None
+      by : (first_broken ks before l ≡ None → Member kind ks → word_at_fault kind before l ≡ None) → (o : Option (List ℕ)) → word_at_fault k before l ≡ o → option_or (option_map (fault_on k l.line) o) (first_broken ks before l) ≡ None → Member kind (k ∷ ks) → word_at_fault kind before l ≡ None
       by again (Some w) h d m = absurd (cc)
       by again None h d (inl same_kind) = subst (λ j. word_at_fault j before l ≡ None) (sym same_kind) h
       by again None h d (inr later) = again d later
@@ -100,14 +77,14 @@ module _ (before : List Logical) (l : Logical) where
   finds [] f up at m w low = absurd m
   finds (k ∷ ks) f up at (inl h) w low =
       let here : word_at_fault k before l ≡ Some f.word = subst (λ j. word_at_fault j before l ≡ Some f.word) h w in
-      ap (λ o. option_or (option_map (fault_at k l.line) o) (first_broken ks before l)) here ∙ ap Some (ap (λ j. fault_at j l.line f.word) (sym h) ∙ ap (λ n. fault_at f.kind n f.word) (sym at))
+      ap (λ o. option_or (option_map (fault_on k l.line) o) (first_broken ks before l)) here ∙ ap Some (ap (λ j. fault_on j l.line f.word) (sym h) ∙ ap (λ n. fault_on f.kind n f.word) (sym at))
   finds (k ∷ ks) f up at (inr later) w low =
-      let none : word_at_fault k before l ≡ None = low k (above (number_of k) ks f.kind (left _ _ up) later) in
-      ap (λ o. option_or (option_map (fault_at k l.line) o) (first_broken ks before l)) none ∙ finds ks f (right _ _ up) at later w low
+      let none : word_at_fault k before l ≡ None = low k (above (number_of k) ks f.kind (and_parts _ _ up).0 later) in
+      ap (λ o. option_or (option_map (fault_on k l.line) o) (first_broken ks before l)) none ∙ finds ks f (and_parts _ _ up).1 at later w low
 
   none_broken : (rules : List FaultKind) → BreaksNone before l → first_broken rules before l ≡ None
   none_broken [] none = refl
-  none_broken (k ∷ ks) none = ap (λ o. option_or (option_map (fault_at k l.line) o) (first_broken ks before l)) (none k) ∙ none_broken ks none
+  none_broken (k ∷ ks) none = ap (λ o. option_or (option_map (fault_on k l.line) o) (first_broken ks before l)) (none k) ∙ none_broken ks none
 
 -- the first fault of a list of lines that follows these, the nearest first
 pub record FirstAfter (before lines : List Logical) (f : Fault) : Type 0 where

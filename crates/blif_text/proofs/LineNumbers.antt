@@ -3,7 +3,7 @@ use Rattle.std.proofs.Common.{length, suc, ◌≡◌, ◌≢◌, refl, ap, ◌�
 use Rattle.std.specs.Prelude.{Some, None, Option, filter_map, ⊤}
 use Rattle.std.specs.List.{AllByRecursion, list_any, cons_option}
 use Rattle.blif_text.specs.declared.logical.Logical.{Logical}
-use Rattle.blif_text.specs.LogicalLines.{cut_or_kept, parts_between, physical_lines, is_blank, non_empty, words_of, with_words, logical_line, JoinedLine, joined_to, continued_by, joined_lines, without_comment, before_backslash}
+use Rattle.blif_text.specs.LogicalLines.{cut_or_kept, parts_between, physical_lines, is_space, non_empty, words_of, with_words, logical_line, JoinedLine, joined_to, continued_by, joined_lines, without_comment, before_backslash}
 use Rattle.blif_text.specs.Laws.{HasWords, Rises, LinesHaveWords, NumbersAreBounded}
 
 -- no part has a byte that passes the test
@@ -16,7 +16,7 @@ plain_parts : (p : ℕ → Bool) (bs : List ℕ) → AllByRecursion (λ (w : Lis
 plain_parts p [] = (refl, tt)
 plain_parts p (b ∷ bs) = plain_cut p b (p b) (parts_between p bs) refl (plain_parts p bs)
 
-words_plain : (parts : List (List ℕ)) → AllByRecursion (λ (w : List ℕ). list_any is_blank w ≡ false) parts → AllByRecursion (λ (word : List ℕ). (word ≢ []) × (list_any is_blank word ≡ false)) (filter_map non_empty parts)
+words_plain : (parts : List (List ℕ)) → AllByRecursion (λ (w : List ℕ). list_any is_space w ≡ false) parts → AllByRecursion (λ (word : List ℕ). (word ≢ []) × (list_any is_space word ≡ false)) (filter_map non_empty parts)
 words_plain [] a = tt
 words_plain ([] ∷ ws) a = words_plain ws a.1
 words_plain ((b ∷ bs) ∷ ws) a = ((λ e. cc, a.0), words_plain ws a.1)
@@ -46,7 +46,7 @@ lower_lines : (a b : ℕ) (ls : List Logical) → b ≤ a → Rises a ls → Ris
 lower_lines a b [] h r = tt
 lower_lines a b (l ∷ ls) h r = (let e : a ≤ l.line = r.0 in omega arith, r.1)
 
-kept_lines : (n : ℕ) (j : JoinedLine) (words : List (List ℕ)) (rest : List Logical) → n ≤ j.line → AllByRecursion (λ (word : List ℕ). (word ≢ []) × (list_any is_blank word ≡ false)) words → AllByRecursion HasWords rest → Rises (j.line + 1) rest
+kept_lines : (n : ℕ) (j : JoinedLine) (words : List (List ℕ)) (rest : List Logical) → n ≤ j.line → AllByRecursion (λ (word : List ℕ). (word ≢ []) × (list_any is_space word ≡ false)) words → AllByRecursion HasWords rest → Rises (j.line + 1) rest
     → AllByRecursion HasWords (cons_option (with_words j.line words) rest) × Rises n (cons_option (with_words j.line words) rest)
 kept_lines n j [] rest h a all r = (all, lower_lines (j.line + 1) n rest (omega arith) r)
 kept_lines n j (w ∷ ws) rest h a all r = (((λ e. cc, a), all), (h, r))
@@ -55,7 +55,7 @@ lines_rise : (n : ℕ) (js : List JoinedLine) → Rising n js → AllByRecursion
 lines_rise n [] r = (tt, tt)
 lines_rise n (j ∷ js) r =
     let later = lines_rise (j.line + 1) js r.1 in
-    kept_lines n j (words_of j.bytes) (filter_map logical_line js) r.0 (words_plain (parts_between is_blank j.bytes) (plain_parts is_blank j.bytes)) later.0 later.1
+    kept_lines n j (words_of j.bytes) (filter_map logical_line js) r.0 (words_plain (parts_between is_space j.bytes) (plain_parts is_space j.bytes)) later.0 later.1
 
 pub lines_have_words : LinesHaveWords
 lines_have_words text = lines_rise 1 (joined_lines 1 (physical_lines text)) (rising 1 (physical_lines text))

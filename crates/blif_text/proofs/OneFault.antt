@@ -1,22 +1,23 @@
 -- A list of lines has one fault at most, and a design has none.
-use Rattle.std.proofs.Common.{◌≡◌, refl, sym, ap, subst, ◌∙◌, ℕ, ◌≤◌, ◌⊎◌, inl, inr, List, [], ◌∷◌, ◌++◌, Bool, true, false, not, ◌||◌, arith, drop}
+use Rattle.netlist_rules.proofs.Faultless.{faultless_or_fault}
+use Rattle.std.proofs.Common.{◌≡◌, refl, sym, ap, subst, ◌∙◌, ◌≤◌, ◌⊎◌, inl, inr, List, [], ◌∷◌, ◌++◌, Bool, true, false, not, ◌||◌, arith, drop}
 use Rattle.std.specs.Prelude.{Some, None, Option, option_map}
 use Rattle.std.specs.Bool.{then_some}
 use Rattle.std.specs.Option.{option_or}
 use Rattle.netlist_core.specs.declared.model.Model.{Model}
 use Rattle.netlist_core.specs.declared.model.Design.{Design}
 use Rattle.blif_text.specs.declared.logical.Logical.{Logical}
-use Rattle.blif_text.specs.declared.fault.Fault.{Fault}
-use Rattle.blif_text.specs.declared.fault.FaultKind.TheVariants.{NoModelYet}
+use Rattle.netlist_rules.specs.declared.fault.Fault.{Fault}
+use Rattle.netlist_rules.specs.declared.fault.FaultKind.TheVariants.{NoModelYet}
 use Rattle.blif_text.specs.LogicalLines.{logical_lines}
-use Rattle.blif_text.specs.Models.{models_of, model_at, begins_model, first_word}
-use Rattle.blif_text.specs.LineFaults.{line_fault, word_at_fault, first_broken, line_rules, fault_at, fault_after}
-use Rattle.blif_text.specs.Circles.{IsOnCircle, IsCircleFault}
-use Rattle.blif_text.specs.ModelFaults.{model_fault, AreFaultless, HasModelFault}
+use Rattle.blif_text.specs.Models.{models_of, model_if, begins_model, first_word}
+use Rattle.blif_text.specs.LineFaults.{line_fault, word_at_fault, first_broken, line_rules, fault_after}
+use Rattle.netlist_rules.specs.FaultNames.{fault_on}
+use Rattle.netlist_rules.specs.Circles.{IsOnCircle, IsCircleFault}
+use Rattle.netlist_rules.specs.ModelFaults.{model_fault, AreFaultless, HasModelFault}
 use Rattle.blif_text.specs.Faults.{HasModels, HasFault, IsDesignOf, fault_if_empty}
 use Rattle.blif_text.specs.Faults.HasFault.{of_no_line, of_line, of_models}
-use Rattle.blif_text.proofs.CircleSearch.{circle_or_none}
-use Rattle.blif_text.specs.Laws.{AreSameFault, OneFault, OneDesign, NeverBoth, NoModelNoLine, FaultlessOrFault, DesignOrFault}
+use Rattle.blif_text.specs.Laws.{AreSameFault, OneFault, OneDesign, NeverBoth, NoModelNoLine, DesignOrFault}
 
 -- the fault by any rule but the one on circles
 abbrev plain_fault : List Logical → Option Fault
@@ -68,23 +69,15 @@ pub one_design : OneDesign
 one_design text d e a b = ap (λ ms. let design : Design = record { models = ms } in design) (a.models.are_models ∙ sym b.models.are_models)
 
 -- a first line that begins no model breaks the first rule
-first_line : (l : Logical) (ls : List Logical) (b : Bool) → begins_model l ≡ b → line_fault (l ∷ ls) ≡ None → [] ≡ model_at b l ls ++ models_of ls → ⊥
+first_line : (l : Logical) (ls : List Logical) (b : Bool) → begins_model l ≡ b → line_fault (l ∷ ls) ≡ None → [] ≡ model_if b l ls ++ models_of ls → ⊥
 first_line l ls true h e m = cc
 first_line l ls false h e m = let w : word_at_fault NoModelYet [] l ≡ Some (first_word l) = ap (λ c. then_some (not (c || false)) (first_word l)) h in
-    let g : line_fault (l ∷ ls) ≡ Some (fault_at NoModelYet l.line (first_word l)) = ap (λ o. option_or (option_or (option_map (fault_at NoModelYet l.line) o) (first_broken (drop 1 line_rules) [] l)) (fault_after (l ∷ []) ls)) w in
+    let g : line_fault (l ∷ ls) ≡ Some (fault_on NoModelYet l.line (first_word l)) = ap (λ o. option_or (option_or (option_map (fault_on NoModelYet l.line) o) (first_broken (drop 1 line_rules) [] l)) (fault_after (l ∷ []) ls)) w in
     cc
 
 pub no_model_no_line : NoModelNoLine
 no_model_no_line [] m = refl
 no_model_no_line (l ∷ ls) m = absurd (first_line l ls (begins_model l) refl m.no_fault m.are_models)
-
-pub faultless_or_fault : FaultlessOrFault
-faultless_or_fault models = by (model_fault models) refl (circle_or_none models)
-  where
-    by : (o : Option Fault) → model_fault models ≡ o → ((f : Fault) × IsCircleFault models f) ⊎ ((line : ℕ) (names : List (List ℕ)) → ¬ (IsOnCircle models line names)) → AreFaultless models ⊎ ((f : Fault) × HasModelFault models f)
-    by (Some f) e c = inr (f, inl e)
-    by None e (inl c) = inr (c.0, inr (e, c.1))
-    by None e (inr none) = inl (record { no_fault = e; no_circle = none })
 
 pub design_or_fault : DesignOrFault
 design_or_fault text = by (line_fault (logical_lines text)) refl (faultless_or_fault (models_of (logical_lines text)))

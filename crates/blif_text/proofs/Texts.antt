@@ -8,7 +8,7 @@ use Rattle.std.proofs.Math.Seq.{take-append_seam}
 use Rattle.std.proofs.lemmas.List.Sums.{take_while-cons}
 use Rattle.blif_text.specs.declared.logical.Logical.{Logical}
 use Rattle.blif_text.specs.Laws.{LinesAreJoined, LinesAreKnown, WordsAreRuns}
-use Rattle.blif_text.specs.LogicalLines.{cut_or_kept, parts_between, is_newline, physical_lines, is_blank, words_of, joined_lines, JoinedLine, without_comment, before_backslash, is_hash, found_or_later, continued_by, joined_to, non_empty, logical_line, with_words}
+use Rattle.blif_text.specs.LogicalLines.{cut_or_kept, parts_between, is_newline, physical_lines, is_space, words_of, joined_lines, JoinedLine, without_comment, before_backslash, is_hash, found_or_later, continued_by, joined_to, non_empty, logical_line, with_words}
 
 -- the parts of a list in which nothing passes the test before the place where it is cut
 or_left : (a b : Bool) → (a || b) ≡ false → a ≡ false
@@ -84,7 +84,7 @@ not_found false b x e = refl
 
 pub no_backslash : (w : List ℕ) → list_any is_backslash w ≡ false → before_backslash w ≡ None
 no_backslash [] e = refl
-no_backslash (x ∷ w) e = ap (found_or_later (x == 92 && list_all is_blank w) x) (no_backslash w (or_right (x == 92) (list_any is_backslash w) e)) ∙ not_found (x == 92) (list_all is_blank w) x (or_left (x == 92) (list_any is_backslash w) e)
+no_backslash (x ∷ w) e = ap (found_or_later (x == 92 && list_all is_space w) x) (no_backslash w (or_right (x == 92) (list_any is_backslash w) e)) ∙ not_found (x == 92) (list_all is_space w) x (or_left (x == 92) (list_any is_backslash w) e)
 
 -- a byte that ends a line, begins a comment or may continue a line
 abbrev pub is_special : ℕ → Bool
@@ -120,13 +120,13 @@ line-cut n w rest e =
     ap (joined_lines n) (lines-cut w rest newline return) ∙ ap (λ v. continued_by n v (before_backslash v) later) hash ∙ ap (λ o. continued_by n w o later) end
 
 -- a word in front of a blank, and a word alone
-pub words-cut : (w : List ℕ) (b : ℕ) (rest : List ℕ) → 0 < length w → list_any is_blank w ≡ false → is_blank b ≡ true → words_of (w ++ b ∷ rest) ≡ w ∷ words_of rest
+pub words-cut : (w : List ℕ) (b : ℕ) (rest : List ℕ) → 0 < length w → list_any is_space w ≡ false → is_space b ≡ true → words_of (w ++ b ∷ rest) ≡ w ∷ words_of rest
 words-cut [] b rest z e h = absurd (omega arith)
-words-cut (x ∷ w) b rest z e h = ap (filter_map non_empty) (parts-cut is_blank (x ∷ w) b rest e h)
+words-cut (x ∷ w) b rest z e h = ap (filter_map non_empty) (parts-cut is_space (x ∷ w) b rest e h)
 
-pub words-whole : (w : List ℕ) → 0 < length w → list_any is_blank w ≡ false → words_of w ≡ w ∷ []
+pub words-whole : (w : List ℕ) → 0 < length w → list_any is_space w ≡ false → words_of w ≡ w ∷ []
 words-whole [] z e = absurd (omega arith)
-words-whole (x ∷ w) z e = ap (filter_map non_empty) (parts-whole is_blank (x ∷ w) e)
+words-whole (x ∷ w) z e = ap (filter_map non_empty) (parts-whole is_space (x ∷ w) e)
 
 -- the logical lines from the physical line of a number on
 abbrev pub lines_from : ℕ → List ℕ → List Logical
@@ -158,7 +158,7 @@ pub words_are_runs : WordsAreRuns
 words_are_runs = record {
   before_blank = λ word blank rest n e h. words-cut word blank rest (has_byte word n) e h;
   at_the_end = λ word n e. words-whole word (has_byte word n) e;
-  after_blank = λ blank rest h. ap (filter_map non_empty) (parts-cut is_blank [] blank rest refl h);
+  after_blank = λ blank rest h. ap (filter_map non_empty) (parts-cut is_space [] blank rest refl h);
   of_nothing = refl;
 }
 
@@ -233,10 +233,10 @@ found_here : (b : Bool) (x : ℕ) (o : Option (List ℕ)) → b ≡ true → fou
 found_here true x o e = refl
 found_here false x o e = absurd (true≢false (sym e))
 
-continued : (front blanks : List ℕ) → list_all is_blank blanks ≡ true → before_backslash (front ++ 92 ∷ blanks) ≡ Some front
-continued [] blanks e = found_here (list_all is_blank blanks) 92 (before_backslash blanks) e
+continued : (front blanks : List ℕ) → list_all is_space blanks ≡ true → before_backslash (front ++ 92 ∷ blanks) ≡ Some front
+continued [] blanks e = found_here (list_all is_space blanks) 92 (before_backslash blanks) e
 continued (x ∷ xs) blanks e =
-    later_found (x == 92) (list_all is_blank (xs ++ 92 ∷ blanks)) x (before_backslash (xs ++ 92 ∷ blanks)) (not_all is_blank xs 92 blanks refl)
+    later_found (x == 92) (list_all is_space (xs ++ 92 ∷ blanks)) x (before_backslash (xs ++ 92 ∷ blanks)) (not_all is_space xs 92 blanks refl)
     ∙ ap (option_map (λ front. x ∷ front)) (continued xs blanks e)
 
 all_left : (a b : Bool) → (a && b) ≡ true → a ≡ true
@@ -247,16 +247,16 @@ all_right : (a b : Bool) → (a && b) ≡ true → b ≡ true
 all_right true b e = e
 all_right false b e = absurd (true≢false (sym e))
 
-blank_line : (blanks : List ℕ) → list_all is_blank blanks ≡ true → before_backslash blanks ≡ None
+blank_line : (blanks : List ℕ) → list_all is_space blanks ≡ true → before_backslash blanks ≡ None
 blank_line [] e = refl
 blank_line (x ∷ xs) e =
-    ap (found_or_later (x == 92 && list_all is_blank xs) x) (blank_line xs (all_right (is_blank x) (list_all is_blank xs) e))
-    ∙ not_found (x == 92) (list_all is_blank xs) x (apart_from x 92 (λ h. let t : is_blank 92 ≡ true = ap is_blank (sym h) ∙ all_left (is_blank x) (list_all is_blank xs) e in cc))
+    ap (found_or_later (x == 92 && list_all is_space xs) x) (blank_line xs (all_right (is_space x) (list_all is_space xs) e))
+    ∙ not_found (x == 92) (list_all is_space xs) x (apart_from x 92 (λ h. let t : is_space 92 ≡ true = ap is_space (sym h) ∙ all_left (is_space x) (list_all is_space xs) e in cc))
 
-ended : (front : List ℕ) (byte : ℕ) (blanks : List ℕ) → byte ≢ 92 → is_blank byte ≡ false → list_all is_blank blanks ≡ true → before_backslash (front ++ byte ∷ blanks) ≡ None
-ended [] byte blanks n h e = ap (found_or_later (byte == 92 && list_all is_blank blanks) byte) (blank_line blanks e) ∙ not_found (byte == 92) (list_all is_blank blanks) byte (apart_from byte 92 n)
+ended : (front : List ℕ) (byte : ℕ) (blanks : List ℕ) → byte ≢ 92 → is_space byte ≡ false → list_all is_space blanks ≡ true → before_backslash (front ++ byte ∷ blanks) ≡ None
+ended [] byte blanks n h e = ap (found_or_later (byte == 92 && list_all is_space blanks) byte) (blank_line blanks e) ∙ not_found (byte == 92) (list_all is_space blanks) byte (apart_from byte 92 n)
 ended (x ∷ xs) byte blanks n h e =
-    later_found (x == 92) (list_all is_blank (xs ++ byte ∷ blanks)) x (before_backslash (xs ++ byte ∷ blanks)) (not_all is_blank xs byte blanks h)
+    later_found (x == 92) (list_all is_space (xs ++ byte ∷ blanks)) x (before_backslash (xs ++ byte ∷ blanks)) (not_all is_space xs byte blanks h)
     ∙ ap (option_map (λ front. x ∷ front)) (ended xs byte blanks n h e)
 
 pub lines_are_joined : LinesAreJoined

@@ -3,16 +3,17 @@ use Rattle.std.specs.Prelude.{◌≡◌, ℕ, List, [], ◌∷◌, codes, Option
 use Rattle.netlist_core.specs.declared.model.Model.{Model}
 use Rattle.netlist_core.specs.declared.model.Design.{Design}
 use Rattle.blif_text.specs.declared.logical.Logical.{Logical}
-use Rattle.blif_text.specs.declared.fault.Fault.{Fault}
-use Rattle.blif_text.specs.declared.fault.FaultKind.TheVariants.{NoModel}
+use Rattle.netlist_rules.specs.declared.fault.Fault.{Fault}
+use Rattle.netlist_rules.specs.declared.fault.FaultKind.TheVariants.{NoModel}
 use Rattle.blif_text.specs.LogicalLines.{logical_lines}
 use Rattle.blif_text.specs.Models.{models_of}
-use Rattle.blif_text.specs.LineFaults.{fault_at, line_fault}
-use Rattle.blif_text.specs.ModelFaults.{HasModelFault, AreFaultless}
+use Rattle.netlist_rules.specs.FaultNames.{fault_on}
+use Rattle.blif_text.specs.LineFaults.{line_fault}
+use Rattle.netlist_rules.specs.ModelFaults.{HasModelFault, AreFaultless}
 
 -- 22: there is no logical line
 abbrev pub fault_if_empty : List Logical → Option Fault
-fault_if_empty [] = Some (fault_at NoModel 1 (codes "-"))
+fault_if_empty [] = Some (fault_on NoModel 1 (codes "-"))
 fault_if_empty (l ∷ lines) = None
 
 -- The models of a list of lines that break no rule on lines.

@@ -1,24 +1,17 @@
 -- Laws of the definitions: what the first fault is, that there is at most one, and that a text is a design or has a fault by a rule on lines or models.
-use Rattle.std.specs.Prelude.{Bool, ◌≡◌, ◌≢◌, ℕ, ◌<◌, ◌⊎◌, ◌↔◌, List, [], ◌∷◌, ◌++◌, reverse, length, get_or, ◌-◌, map, bytes_eq, Contains, flat_map, ◌+◌, true, false, ⊤, ◌≤◌, Some, None}
+use Rattle.std.specs.Prelude.{◌≡◌, ◌≢◌, ℕ, ◌<◌, ◌⊎◌, ◌↔◌, List, [], ◌∷◌, ◌++◌, reverse, length, get_or, ◌-◌, map, bytes_eq, ◌+◌, true, false, ⊤, ◌≤◌, Some, None}
 use Rattle.std.specs.List.{AllByRecursion, list_any, list_all, IsDistinct}
 use Rattle.std.specs.Str.Lines.{lines}
-use Rattle.netlist_core.specs.declared.model.Port.{Port}
-use Rattle.netlist_core.specs.declared.model.Pin.{Pin}
-use Rattle.netlist_core.specs.declared.model.Subckt.{Subckt}
 use Rattle.netlist_core.specs.declared.model.Model.{Model}
 use Rattle.netlist_core.specs.declared.model.Design.{Design}
 use Rattle.blif_text.specs.declared.logical.Logical.{Logical}
-use Rattle.blif_text.specs.declared.fault.Fault.{Fault}
-use Rattle.blif_text.specs.declared.fault.FaultKind.{FaultKind}
-use Rattle.blif_text.specs.declared.fault.FaultKind.TheVariants.{Recursive}
-use Rattle.blif_text.specs.FaultNames.{number_of}
-use Rattle.blif_text.specs.LogicalLines.{logical_lines, physical_lines, is_newline, is_hash, is_blank, words_of, JoinedLine, joined_line, joined_lines, without_comment, before_backslash}
-use Rattle.blif_text.specs.Models.{models_of, begins_model, is_row, first_word}
-use Rattle.blif_text.specs.LineFaults.{word_at_fault, line_fault, is_annotation}
-use Rattle.netlist_core.specs.Names.{at_line}
-use Rattle.blif_text.specs.Drivers.{drivers_of, readings_of, repeats}
-use Rattle.blif_text.specs.Circles.{Leads}
-use Rattle.blif_text.specs.ModelFaults.{model_fault, words_at_fault, AreFaultless, HasModelFault, duplicate_ports, second_drivers, undriven_readings, unknown_formals, formals_of}
+use Rattle.netlist_rules.specs.declared.fault.Fault.{Fault}
+use Rattle.netlist_rules.specs.declared.fault.FaultKind.{FaultKind}
+use Rattle.netlist_rules.specs.declared.fault.FaultKind.TheVariants.{Recursive}
+use Rattle.netlist_rules.specs.FaultNames.{number_of}
+use Rattle.blif_text.specs.LogicalLines.{logical_lines, physical_lines, is_newline, is_hash, is_space, words_of, JoinedLine, joined_line, joined_lines, without_comment, before_backslash}
+use Rattle.blif_text.specs.Models.{models_of}
+use Rattle.blif_text.specs.LineFaults.{word_at_fault, line_fault}
 use Rattle.blif_text.specs.Faults.{HasModels, HasFault, IsDesignOf}
 
 -- the line breaks no rule over the lines before it, the nearest first
@@ -62,42 +55,9 @@ NeverBoth = (text : List ℕ) (d : Design) (f : Fault) → IsDesignOf text d →
 abbrev pub NoModelNoLine : Type 0
 NoModelNoLine = (lines : List Logical) → HasModels lines [] → lines ≡ []
 
--- Models break no rule on models, or have a fault by those.
-abbrev pub FaultlessOrFault : Type 0
-FaultlessOrFault = (models : List Model) → AreFaultless models ⊎ ((f : Fault) × HasModelFault models f)
-
 -- A text is a design, or has a fault by a rule on lines or models.
 abbrev pub DesignOrFault : Type 0
 DesignOrFault = (text : List ℕ) → IsDesignOf text (record { models = models_of (logical_lines text) }) ⊎ ((f : Fault) × HasFault (logical_lines text) f)
-
--- the earliest of a list of names with lines: those in front of it stand on later lines, those behind it on no earlier line
-pub record IsEarliest (ports : List Port) (p : Port) : Type 0 where
-  pub front : List Port
-  pub back : List Port
-  pub are_ports : ports ≡ front ++ p ∷ back
-  pub front_later : AllByRecursion (λ (q : Port). p.line < q.line) front
-  pub back_no_earlier : AllByRecursion (λ (q : Port). p.line ≤ q.line) back
-
--- all words at which the models break a rule
-abbrev pub all_words_at_fault : FaultKind → List Model → List Port
-all_words_at_fault kind models = flat_map (words_at_fault kind models) models
-
--- The fault is by the lowest rule that holds of the models, at its earliest line, there the earliest word.
-pub record IsFirstModelFault (models : List Model) (fault : Fault) : Type 0 where
-  pub some_model : models ≢ []
-  pub is_earliest : IsEarliest (all_words_at_fault fault.kind models) (at_line fault.line fault.word)
-  pub is_lowest : (kind : FaultKind) → number_of kind < number_of fault.kind → all_words_at_fault kind models ≡ []
-
--- Some models have no such fault where they break no rule at any word.
-abbrev pub NoModelFault : Type 0
-NoModelFault = (models : List Model) → models ≢ [] → (model_fault models ≡ None) ↔ ((kind : FaultKind) → all_words_at_fault kind models ≡ [])
-
-abbrev pub ModelFaultIsFirst : Type 0
-ModelFaultIsFirst = (models : List Model) (fault : Fault) → ((model_fault models ≡ Some fault) × (models ≢ [])) ↔ IsFirstModelFault models fault
-
--- Lines are cut before each `.model`: what stands before it and what it begins have their own models.
-abbrev pub ModelsAreCut : Type 0
-ModelsAreCut = (before : List Logical) (line : Logical) (after : List Logical) → begins_model line ≡ true → models_of (before ++ line ∷ after) ≡ models_of before ++ models_of (line ∷ after)
 
 -- The physical lines are those of Rust's `lines`.
 abbrev pub LinesAreKnown : Type 0
@@ -111,16 +71,16 @@ pub record LinesAreJoined : Type 0 where
   pub before_return : (line rest : List ℕ) → list_any is_newline line ≡ false → physical_lines (line ++ 13 ∷ 10 ∷ rest) ≡ line ∷ physical_lines rest
   pub before_comment : (front comment : List ℕ) → list_any is_hash front ≡ false → without_comment (front ++ 35 ∷ comment) ≡ front
   pub no_comment : (line : List ℕ) → list_any is_hash line ≡ false → without_comment line ≡ line
-  pub continued : (front blanks : List ℕ) → list_all is_blank blanks ≡ true → before_backslash (front ++ 92 ∷ blanks) ≡ Some front
-  pub ended : (front : List ℕ) (byte : ℕ) (blanks : List ℕ) → byte ≢ 92 → is_blank byte ≡ false → list_all is_blank blanks ≡ true → before_backslash (front ++ byte ∷ blanks) ≡ None
-  pub blank : (blanks : List ℕ) → list_all is_blank blanks ≡ true → before_backslash blanks ≡ None
+  pub continued : (front blanks : List ℕ) → list_all is_space blanks ≡ true → before_backslash (front ++ 92 ∷ blanks) ≡ Some front
+  pub ended : (front : List ℕ) (byte : ℕ) (blanks : List ℕ) → byte ≢ 92 → is_space byte ≡ false → list_all is_space blanks ≡ true → before_backslash (front ++ byte ∷ blanks) ≡ None
+  pub blank : (blanks : List ℕ) → list_all is_space blanks ≡ true → before_backslash blanks ≡ None
   pub alone : (n : ℕ) (line : List ℕ) (later : List (List ℕ)) → before_backslash (without_comment line) ≡ None → joined_lines n (line ∷ later) ≡ joined_line n (without_comment line) ∷ joined_lines (n + 1) later
   pub joined : (n : ℕ) (line front next : List ℕ) (later : List (List ℕ)) (m : ℕ) (bytes : List ℕ) (others : List JoinedLine) → before_backslash (without_comment line) ≡ Some front → joined_lines (n + 1) (next ∷ later) ≡ joined_line m bytes ∷ others → joined_lines n (line ∷ next ∷ later) ≡ joined_line n (front ++ bytes) ∷ others
   pub joined_to_nothing : (n : ℕ) (line front : List ℕ) → before_backslash (without_comment line) ≡ Some front → joined_lines n (line ∷ []) ≡ joined_line n front ∷ []
 
 -- Each logical line has a word, and each word has a byte and no blank.
 abbrev pub HasWords : Logical → Type 0
-HasWords l = (l.words ≢ []) × AllByRecursion (λ (word : List ℕ). (word ≢ []) × (list_any is_blank word ≡ false)) l.words
+HasWords l = (l.words ≢ []) × AllByRecursion (λ (word : List ℕ). (word ≢ []) × (list_any is_space word ≡ false)) l.words
 
 -- The numbers of the lines rise, from at least this one on.
 abbrev pub Rises : ℕ → List Logical → Type 0
@@ -136,39 +96,11 @@ LinesHaveWords = (text : List ℕ) → AllByRecursion HasWords (logical_lines te
 
 -- Words are the longest runs of bytes that are no blanks: a run before a blank, or at the end, is one word, and a blank belongs to none.
 pub record WordsAreRuns : Type 0 where
-  pub before_blank : (word : List ℕ) (blank : ℕ) (rest : List ℕ) → word ≢ [] → list_any is_blank word ≡ false → is_blank blank ≡ true → words_of (word ++ blank ∷ rest) ≡ word ∷ words_of rest
-  pub at_the_end : (word : List ℕ) → word ≢ [] → list_any is_blank word ≡ false → words_of word ≡ word ∷ []
-  pub after_blank : (blank : ℕ) (rest : List ℕ) → is_blank blank ≡ true → words_of (blank ∷ rest) ≡ words_of rest
+  pub before_blank : (word : List ℕ) (blank : ℕ) (rest : List ℕ) → word ≢ [] → list_any is_space word ≡ false → is_space blank ≡ true → words_of (word ++ blank ∷ rest) ≡ word ∷ words_of rest
+  pub at_the_end : (word : List ℕ) → word ≢ [] → list_any is_space word ≡ false → words_of word ≡ word ∷ []
+  pub after_blank : (blank : ℕ) (rest : List ℕ) → is_space blank ≡ true → words_of (blank ∷ rest) ≡ words_of rest
   pub of_nothing : words_of [] ≡ []
 
 -- What a design without a fault has: models of distinct names, pins of distinct formals, no model that places itself by way of others.
 abbrev pub ModelsAreDistinct : Type 0
 ModelsAreDistinct = (text : List ℕ) (design : Design) → IsDesignOf text design → IsDistinct bytes_eq (map (λ (m : Model). m.name) design.models)
-
-abbrev pub FormalsAreDistinct : Type 0
-FormalsAreDistinct = (models : List Model) → AreFaultless models → (m : Model) (s : Subckt) → Contains models m → Contains m.subckts s → IsDistinct bytes_eq (map (λ (pin : Pin). pin.formal) s.pins)
-
-abbrev pub NoModelIsInItself : Type 0
-NoModelIsInItself = (models : List Model) → AreFaultless models → (name : List ℕ) (names : List (List ℕ)) → ¬ (Leads models name names name)
-
--- a list is another one without some of its names, in the same order
-pub data IsSublist : List Port → List Port → Type 0 where
-  nothing : IsSublist [] []
-  without : {p : Port} {some all : List Port} → IsSublist some all → IsSublist some (p ∷ all)
-  with : {p : Port} {some all : List Port} → IsSublist some all → IsSublist (p ∷ some) (p ∷ all)
-
--- The words at fault stand in the order of the models' own lists, in which the words of one line stand as on the line: so the first of the earliest line is that line's first.
-pub record WordsKeepOrder : Type 0 where
-  pub ports : (m : Model) → IsSublist (duplicate_ports m) (m.ins ++ m.clocks ++ m.outs)
-  pub drivers : (models : List Model) (m : Model) → IsSublist (second_drivers models m) (drivers_of models m)
-  pub readings : (models : List Model) (m : Model) → IsSublist (undriven_readings models m) (readings_of models m)
-  pub formals : (models : List Model) (s : Subckt) → IsSublist (unknown_formals models s) (formals_of s)
-  pub formals_twice : (s : Subckt) → IsSublist (repeats (formals_of s)) (formals_of s)
-
--- Annotations give nothing: before another directive, or at the end, one may be left out.
-abbrev pub begins_with_row : List Logical → Bool
-begins_with_row [] = false
-begins_with_row (l ∷ lines) = is_row l
-
-abbrev pub AnnotationsGiveNothing : Type 0
-AnnotationsGiveNothing = (before : List Logical) (line : Logical) (after : List Logical) → is_row line ≡ false → is_annotation (first_word line) ≡ true → begins_with_row after ≡ false → models_of (before ++ line ∷ after) ≡ models_of (before ++ after)

@@ -1,11 +1,5 @@
-pub mod FaultNames
 pub mod LogicalLines
 pub mod Models
 pub mod LineFaults
-pub mod Drivers
-pub mod Circles
-pub mod ModelFaults
 pub mod Faults
-pub mod Instances
-pub mod OrGate
 pub mod Laws

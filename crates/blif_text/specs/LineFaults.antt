@@ -1,18 +1,15 @@
 -- The rules on lines, 1 to 11. Whether a line breaks one is said over the lines before it, the nearest first.
-use Rattle.std.specs.Prelude.{ℕ, Bool, true, false, not, cond, ◌-◌, ◌==◌, ◌&&◌, ◌||◌, List, [], ◌∷◌, length, codes, bytes_eq, Option, None, option_map, find, take_while}
+use Rattle.netlist_rules.specs.FaultNames.{fault_on}
+use Rattle.lists.specs.Names.{is_among}
+use Rattle.std.specs.Prelude.{ℕ, Bool, true, false, not, cond, ◌-◌, ◌==◌, ◌&&◌, ◌||◌, List, [], ◌∷◌, length, codes, bytes_eq, Option, None, option_map, find, take_while, nat_eq}
 use Rattle.std.specs.Bool.{then_some}
 use Rattle.std.specs.Option.{option_or, option_map_or}
 use Rattle.std.specs.List.{list_any, list_all, before_first, after_first, last_or, starts_with}
-use Rattle.std.specs.Prelude.{nat_eq}
 use Rattle.blif_text.specs.declared.logical.Logical.{Logical}
-use Rattle.blif_text.specs.declared.fault.Fault.{Fault}
-use Rattle.blif_text.specs.declared.fault.FaultKind.{FaultKind}
-use Rattle.blif_text.specs.declared.fault.FaultKind.TheVariants.{NoModelYet, UnknownDirective, Unsupported, BadCount, RowOutside, BadRow, MixedCover, BadLatch, BadPin, AfterEnd, DuplicateModel}
+use Rattle.netlist_rules.specs.declared.fault.Fault.{Fault}
+use Rattle.netlist_rules.specs.declared.fault.FaultKind.{FaultKind}
+use Rattle.netlist_rules.specs.declared.fault.FaultKind.TheVariants.{NoModelYet, UnknownDirective, Unsupported, BadCount, RowOutside, BadRow, MixedCover, BadLatch, BadPin, AfterEnd, DuplicateModel}
 use Rattle.blif_text.specs.Models.{first_word, operands, first_operand, is_directive, is_row, has_directive, begins_model, output_part, is_equals, pin_words}
-
--- whether the word is one of the list
-abbrev pub is_among : List ℕ → List (List ℕ) → Bool
-is_among word words = list_any (bytes_eq word) words
 
 -- the directives that say what a netlist is
 abbrev pub netlist_directives : List (List ℕ)
@@ -76,12 +73,12 @@ is_in_cover before = option_map_or (has_directive (codes ".names")) (last_direct
 abbrev pub is_literal : ℕ → Bool
 is_literal b = b == 48 || b == 49 || b == 45
 
-abbrev pub is_output : List ℕ → Bool
-is_output word = bytes_eq word (codes "0") || bytes_eq word (codes "1")
+abbrev pub is_row_output : List ℕ → Bool
+is_row_output word = bytes_eq word (codes "0") || bytes_eq word (codes "1")
 
 abbrev pub is_row_of : ℕ → List (List ℕ) → Bool
-is_row_of n (output ∷ []) = n == 0 && is_output output
-is_row_of n (inputs ∷ output ∷ []) = not (n == 0) && length inputs == n && list_all is_literal inputs && is_output output
+is_row_of n (output ∷ []) = n == 0 && is_row_output output
+is_row_of n (inputs ∷ output ∷ []) = not (n == 0) && length inputs == n && list_all is_literal inputs && is_row_output output
 is_row_of n _ = false
 
 abbrev pub number_of_inputs : Logical → ℕ
@@ -150,13 +147,10 @@ word_at_fault _ before l = None
 abbrev pub line_rules : List FaultKind
 line_rules = NoModelYet ∷ UnknownDirective ∷ Unsupported ∷ BadCount ∷ RowOutside ∷ BadRow ∷ MixedCover ∷ BadLatch ∷ BadPin ∷ AfterEnd ∷ DuplicateModel ∷ []
 
-abbrev pub fault_at : FaultKind → ℕ → List ℕ → Fault
-fault_at kind line word = record { kind = kind; line = line; word = word }
-
 -- the first of these rules that the line breaks
 abbrev pub first_broken : List FaultKind → List Logical → Logical → Option Fault
 first_broken [] before l = None
-first_broken (kind ∷ kinds) before l = option_or (option_map (fault_at kind l.line) (word_at_fault kind before l)) (first_broken kinds before l)
+first_broken (kind ∷ kinds) before l = option_or (option_map (fault_on kind l.line) (word_at_fault kind before l)) (first_broken kinds before l)
 
 -- The fault of the earliest line that breaks a rule over the lines before it, by the rule of the lowest number.
 abbrev pub fault_after : List Logical → List Logical → Option Fault

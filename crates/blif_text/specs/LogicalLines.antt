@@ -21,8 +21,8 @@ abbrev pub physical_lines : List ℕ → List (List ℕ)
 physical_lines text = lines_of_parts (parts_between is_newline text)
 
 -- Blanks are tab, vertical tab, form feed, carriage return and space.
-abbrev pub is_blank : ℕ → Bool
-is_blank b = b == 9 || b == 11 || b == 12 || b == 13 || b == 32
+abbrev pub is_space : ℕ → Bool
+is_space b = b == 9 || b == 11 || b == 12 || b == 13 || b == 32
 
 -- `#` starts a comment to the end of its physical line
 abbrev pub is_hash : ℕ → Bool
@@ -38,7 +38,7 @@ found_or_later false b later = option_map (λ front. b ∷ front) later
 
 abbrev pub before_backslash : List ℕ → Option (List ℕ)
 before_backslash [] = None
-before_backslash (b ∷ bs) = found_or_later (b == 92 && list_all is_blank bs) b (before_backslash bs)
+before_backslash (b ∷ bs) = found_or_later (b == 92 && list_all is_space bs) b (before_backslash bs)
 
 -- bytes of one or more physical lines, with the number of the first
 pub record JoinedLine : Type 0 where
@@ -68,7 +68,7 @@ non_empty [] = None
 non_empty (b ∷ bs) = Some (b ∷ bs)
 
 abbrev pub words_of : List ℕ → List (List ℕ)
-words_of line = filter_map non_empty (parts_between is_blank line)
+words_of line = filter_map non_empty (parts_between is_space line)
 
 -- a line with these words; one with no word is skipped
 abbrev pub with_words : ℕ → List (List ℕ) → Option Logical

@@ -87,8 +87,8 @@ covers_of [] = []
 covers_of (l ∷ later) = cover_at (has_directive (codes ".names") l) l later ++ covers_of later
 
 -- the edge that a type of latch names: `re` or `fe`
-abbrev pub edge_of : List ℕ → Trigger
-edge_of type = cond (bytes_eq type (codes "re")) Rise Fall
+abbrev pub trigger_of : List ℕ → Trigger
+trigger_of type = cond (bytes_eq type (codes "re")) Rise Fall
 
 -- `NIL` is no control
 abbrev pub is_control : List ℕ → Bool
@@ -105,8 +105,8 @@ latch_row line input output kind control init = record { line = line; input = in
 abbrev pub latch_with : ℕ → List (List ℕ) → List LatchRow
 latch_with line (input ∷ output ∷ []) = latch_row line input output None None 3 ∷ []
 latch_with line (input ∷ output ∷ init ∷ []) = latch_row line input output None None (digit init) ∷ []
-latch_with line (input ∷ output ∷ type ∷ control ∷ []) = latch_row line input output (then_some (is_control control) (edge_of type)) (then_some (is_control control) control) 3 ∷ []
-latch_with line (input ∷ output ∷ type ∷ control ∷ init ∷ []) = latch_row line input output (then_some (is_control control) (edge_of type)) (then_some (is_control control) control) (digit init) ∷ []
+latch_with line (input ∷ output ∷ type ∷ control ∷ []) = latch_row line input output (then_some (is_control control) (trigger_of type)) (then_some (is_control control) control) 3 ∷ []
+latch_with line (input ∷ output ∷ type ∷ control ∷ init ∷ []) = latch_row line input output (then_some (is_control control) (trigger_of type)) (then_some (is_control control) control) (digit init) ∷ []
 latch_with line _ = []
 
 abbrev pub latch_on : Logical → List LatchRow
@@ -140,11 +140,11 @@ model_of l lines = record {
   subckts = map subckt_of (lines_with (codes ".subckt") lines);
 }
 
-abbrev pub model_at : Bool → Logical → List Logical → List Model
-model_at true l later = model_of l (take_while stays_in_model later) ∷ []
-model_at false l later = []
+abbrev pub model_if : Bool → Logical → List Logical → List Model
+model_if true l later = model_of l (take_while stays_in_model later) ∷ []
+model_if false l later = []
 
 -- The models of a list of logical lines, which is cut before each `.model`. The first is the main one.
 abbrev pub models_of : List Logical → List Model
 models_of [] = []
-models_of (l ∷ later) = model_at (begins_model l) l later ++ models_of later
+models_of (l ∷ later) = model_if (begins_model l) l later ++ models_of later

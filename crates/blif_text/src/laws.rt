@@ -1,5 +1,5 @@
 // Laws of the definitions.
-ghost use Rattle.blif_text.specs.Laws.{AnnotationsGiveNothing, DesignOrFault, FaultlessOrFault, FormalsAreDistinct, LineFaultIsFirst, LinesAreJoined, LinesAreKnown, LinesHaveWords, ModelFaultIsFirst, ModelsAreCut, ModelsAreDistinct, NeverBoth, NoLineFault, NoModelFault, NoModelIsInItself, NoModelNoLine, NumbersAreBounded, OneDesign, OneFault, WordsAreRuns, WordsKeepOrder};
+ghost use Rattle.blif_text.specs.Laws.{DesignOrFault, LineFaultIsFirst, LinesAreJoined, LinesAreKnown, LinesHaveWords, ModelsAreDistinct, NeverBoth, NoLineFault, NoModelNoLine, NumbersAreBounded, OneDesign, OneFault, WordsAreRuns};
 
 /// The physical lines of a text are those of Rust's `lines`.
 pub fn lines_are_known()
@@ -28,22 +28,6 @@ pub fn numbers_are_bounded()
     ensures { NumbersAreBounded }
 {}
 
-/// The words at which a rule on models is broken stand in the order of their lists, in which the words of
-/// one line stand as on the line.
-pub fn words_keep_order()
-    ensures { WordsKeepOrder }
-{}
-
-/// An annotation gives a model nothing: where no row follows it, it may be left out.
-pub fn annotations_give_nothing()
-    ensures { AnnotationsGiveNothing }
-{}
-
-/// Lines are cut before each `.model`.
-pub fn models_are_cut()
-    ensures { ModelsAreCut }
-{}
-
 /// The fault of the lines by a rule on lines is that of the earliest line which breaks one over the
 /// lines before it, by the rule of the lowest number.
 pub fn line_fault_is_first()
@@ -53,18 +37,6 @@ pub fn line_fault_is_first()
 /// Lines have no such fault exactly where each of them breaks no rule over the lines before it.
 pub fn no_line_fault()
     ensures { NoLineFault }
-{}
-
-/// Models, of which there is one at least, have no fault by a rule on models, circles aside, exactly where
-/// they break none at any word.
-pub fn no_model_fault()
-    ensures { NoModelFault }
-{}
-
-/// The fault of models by a rule on models is by the lowest rule that holds of them, at its earliest
-/// line, with the earliest word.
-pub fn model_fault_is_first()
-    ensures { ModelFaultIsFirst }
 {}
 
 /// Two faults of the same lines or models have one kind and one line, and but for the models of a circle one word.
@@ -91,11 +63,6 @@ pub fn no_model_no_line()
     ensures { NoModelNoLine }
 {}
 
-/// Models break no rule on models, or have one fault by those.
-pub fn faultless_or_fault()
-    ensures { FaultlessOrFault }
-{}
-
 /// A text is a design, or has a fault of its lines or models.
 pub fn design_or_fault()
     ensures { DesignOrFault }
@@ -104,14 +71,4 @@ pub fn design_or_fault()
 /// The models of a design have distinct names.
 pub fn models_are_distinct()
     ensures { ModelsAreDistinct }
-{}
-
-/// In models without a fault, the pins of a subckt line have distinct formals.
-pub fn formals_are_distinct()
-    ensures { FormalsAreDistinct }
-{}
-
-/// In models without a fault, none leads back to itself by subckt lines.
-pub fn no_model_is_in_itself()
-    ensures { NoModelIsInItself }
 {}

@@ -8,23 +8,24 @@ use Rattle.std.proofs.lemmas.Option.{slice_get-get_or}
 use Rattle.std.specs.Prelude.{Option, Some, None, slice_get, All}
 use Rattle.ww_rule.specs.Wireworld.{Due, driven}
 use Rattle.ww_rule.specs.Grid.{plane_of}
-use Rattle.ww_rule.specs.Injections.{due_of_streams}
+use Rattle.ww_rule.specs.Injections.{due_of_streams, before_injections, MeetsConductors}
 use Rattle.ww_rule.proofs.Streams.{streams_injected}
 use Rattle.tile_core.specs.Drawing.{is_among}
 use Rattle.netlist_meaning.specs.Valuation.{Valuation, AreInputRows, IsRun, output_bit}
-use Rattle.netlist_meaning.specs.Instances.{IsOneCover, Computes, or_rows}
-use Rattle.netlist_meaning.proofs.OneCover.{one_cover_computes_or, in_names_are}
+use Rattle.one_cover.specs.OneCover.{IsOneCover, Computes, or_cover_rows}
+use Rattle.one_cover.proofs.OneCover.{one_cover_computes_or, in_names_are}
 use Rattle.netlist_meaning.proofs.Joined.{in_names_are_one}
-use Rattle.blif_text.specs.OrGate.{or_gate_model, or_gate_cover}
+use Rattle.or_gate_text.specs.OrGate.{or_gate_model, or_gate_cover}
 use Rattle.pattern_reading.specs.declared.ports.PortLine.{PortLine}
 use Rattle.pattern_reading.specs.declared.ports.Ports.{Ports}
 use Rattle.pattern_reading.specs.PortTable.{ports_of}
-use Rattle.pattern_reading.specs.Spelling.{named_or_forms}
-use Rattle.carries.specs.Carries.{drive, before_injections, MeetsConductors, ShowsBits, ShowsRuns}
+use Rattle.pattern_samples.specs.NamedGate.{named_or_forms}
+use Rattle.carries.specs.Carries.{drive, ShowsOutput, ShowsRuns}
 use Rattle.or_gate.specs.OrGate.{or_grid, gate_plane, DrivesGate, gate_entries as entries, is_lit, ShowsOr}
 use Rattle.or_gate.specs.OrGate as gate
 use Rattle.blifww_tool.specs.Thin.{Names, HasDistinctPorts}
-use Rattle.blifww_tool.specs.Gate.{or_design}
+use Rattle.blifww_tool.specs.Gate.{thin_design}
+use Rattle.std.specs.Cmp.{both_ways}
 
 abbrev pub gate_ports : Names → Ports
 gate_ports n = ports_of (named_or_forms n.a n.b n.y)
@@ -59,15 +60,10 @@ conductors : ShowsOr → (n : Names) (rows : List (List Bool)) → MeetsConducto
 conductors s n rows g x y e =
     sym (ap (λ p. p x y) (same_before (gate_due rows) g)) ∙ s.conductors (gate_due rows) (drives rows) g x y e
 
-same_truth : (a b : Bool) → (a ≡ true → b ≡ true) → (b ≡ true → a ≡ true) → a ≡ b
-same_truth true b p q = sym (p refl)
-same_truth false true p q = q refl
-same_truth false false p q = refl
-
 -- an input cell is injected in cycle t exactly where the input's bit is 1
 upper_bit : (rows : List (List Bool)) (t : ℕ) → gate_due rows (32 * t) (pos 0) (pos 8) ≡ bit rows t 0
 upper_bit rows t =
-    same_truth (gate_due rows (32 * t) (pos 0) (pos 8)) (bit rows t 0)
+    both_ways (gate_due rows (32 * t) (pos 0) (pos 8)) (bit rows t 0)
     (λ e.
     let b = (streams_injected 32 cells rows (32 * t) (pos 0) (pos 8)).0 e in
     let cycle : b.cycle ≡ t = omega (arith, b.in_time) in
@@ -82,7 +78,7 @@ upper_bit rows t =
 
 lower_bit : (rows : List (List Bool)) (t : ℕ) → gate_due rows (32 * t) (pos 0) (pos 24) ≡ bit rows t 1
 lower_bit rows t =
-    same_truth (gate_due rows (32 * t) (pos 0) (pos 24)) (bit rows t 1)
+    both_ways (gate_due rows (32 * t) (pos 0) (pos 24)) (bit rows t 1)
     (λ e.
     let b = (streams_injected 32 cells rows (32 * t) (pos 0) (pos 24)).0 e in
     let cycle : b.cycle ≡ t = omega (arith, b.in_time) in
@@ -102,7 +98,7 @@ lit_bits rows t = ap₂ (λ p q. p || q) (upper_bit rows t) (lower_bit rows t)
 no_row : (rows : List (List Bool)) (t : ℕ) → length rows ≤ t → (bit rows t 0 || bit rows t 1) ≡ false
 no_row rows t h = ap (λ row. get_or row 0 false || get_or row 1 false) (get_or_past rows t [] h)
 
-pub one_cover : (n : Names) → IsOneCover n.a n.b n.y or_rows true (or_design n)
+pub one_cover : (n : Names) → IsOneCover n.a n.b n.y or_cover_rows true (thin_design n)
 one_cover n =
     record {
       main = or_gate_model n.model n.a n.b n.y;
@@ -120,13 +116,13 @@ one_cover n =
       subckts = refl;
     }
 
-gate_computes : (n : Names) → HasDistinctPorts n → Computes (or_design n) (λ p q. p || q)
-gate_computes n h = one_cover_computes_or n.a n.b n.y (or_design n) h.inputs h.first h.second (one_cover n)
+gate_computes : (n : Names) → HasDistinctPorts n → Computes (thin_design n) (λ p q. p || q)
+gate_computes n h = one_cover_computes_or n.a n.b n.y (thin_design n) h.inputs h.first h.second (one_cover n)
 
 -- the rows have two bits each
-two_bits : (n : Names) (rows : List (List Bool)) → AreInputRows (or_design n) rows → All (λ row. length row ≡ 2) rows
+two_bits : (n : Names) (rows : List (List Bool)) → AreInputRows (thin_design n) rows → All (λ row. length row ≡ 2) rows
 two_bits n rows (names, are, long) =
-    let same : names ≡ n.a ∷ n.b ∷ [] = in_names_are_one (or_design n) names (n.a ∷ n.b ∷ []) are (in_names_are n.a n.b n.y or_rows true (or_design n) (one_cover n)) in
+    let same : names ≡ n.a ∷ n.b ∷ [] = in_names_are_one (thin_design n) names (n.a ∷ n.b ∷ []) are (in_names_are n.a n.b n.y or_cover_rows true (thin_design n) (one_cover n)) in
     subst (λ ns. All (λ row. length row ≡ length ns) rows) same long
 
 two : (row : List Bool) → length row ≡ 2 → row ≡ get_or row 0 false ∷ get_or row 1 false ∷ []
@@ -135,16 +131,16 @@ two (p ∷ []) e = absurd (omega (arith, e))
 two (p ∷ q ∷ []) e = refl
 two (p ∷ q ∷ r ∷ row) e = absurd (omega (arith, e))
 
-output_is : (n : Names) → HasDistinctPorts n → (rows : List (List Bool)) → AreInputRows (or_design n) rows → (run : ℕ → Valuation) → IsRun (or_design n) rows run → (t : ℕ) → t < length rows → output_bit (or_design n) (run t) 0 ≡ (bit rows t 0 || bit rows t 1)
+output_is : (n : Names) → HasDistinctPorts n → (rows : List (List Bool)) → AreInputRows (thin_design n) rows → (run : ℕ → Valuation) → IsRun (thin_design n) rows run → (t : ℕ) → t < length rows → output_bit (thin_design n) (run t) 0 ≡ (bit rows t 0 || bit rows t 1)
 output_is n h rows are run is t lt =
     let row = get_or rows t [] in
     let long : length row ≡ 2 = All-get_or (λ row. length row ≡ 2) rows t [] lt (two_bits n rows are) in
     let got : slice_get rows t ≡ Some (get_or row 0 false ∷ get_or row 1 false ∷ []) = slice_get-get_or rows t [] lt ∙ ap Some (two row long) in
     ap (λ bits. get_or bits 0 false) ((gate_computes n h).gives rows run is t (get_or row 0 false) (get_or row 1 false) got)
 
-gate_heads : ShowsOr → (n : Names) → HasDistinctPorts n → (rows : List (List Bool)) → AreInputRows (or_design n) rows → (run : ℕ → Valuation) → IsRun (or_design n) rows run
+gate_heads : ShowsOr → (n : Names) → HasDistinctPorts n → (rows : List (List Bool)) → AreInputRows (thin_design n) rows → (run : ℕ → Valuation) → IsRun (thin_design n) rows run
     → (output : ℕ) (cell : PortLine) → slice_get (gate_ports n).outs output ≡ Some cell → (g : ℕ) → g < 32 + length rows * 32
-    → ShowsBits (gate_ports n) (length rows) (λ t. output_bit (or_design n) (run t) output) g (driven (drive (gate_ports n) rows) (plane_of or_grid.rows) g) cell
+    → ShowsOutput (gate_ports n) (length rows) (λ t. output_bit (thin_design n) (run t) output) g (driven (drive (gate_ports n) rows) (plane_of or_grid.rows) g) cell
 gate_heads s n h rows are run is zero cell e g lt = (
   λ head.
       let found = (s.heads (gate_due rows) (drives rows) g).0 (ap (λ c. driven (gate_due rows) gate_plane g (pos c.x) (pos c.y)) (some_is e) ∙ head) in
@@ -172,7 +168,7 @@ gate_heads s n h rows are run is zero cell e g lt = (
 gate_heads s n h rows are run is (suc output) cell e g lt = cc
 
 -- The drawing shows the runs of the gate's design
-pub gate_shows : ShowsOr → (n : Names) → HasDistinctPorts n → ShowsRuns (plane_of or_grid.rows) (gate_ports n) (or_design n)
+pub gate_shows : ShowsOr → (n : Names) → HasDistinctPorts n → ShowsRuns (plane_of or_grid.rows) (gate_ports n) (thin_design n)
 gate_shows s n h =
     record {
       conductors = λ rows are. conductors s n rows;

@@ -6,7 +6,7 @@ use Rattle.command_words.specs.Shapes.{CommandValues, compile, simulate}
 use Rattle.drive.specs.Driving.{last_generation, greatest_generation}
 use Rattle.or_gate.specs.OrGate.{ShowsOr}
 use Rattle.blifww_tool.specs.Simulation.{Simulation, IsSimulation}
-use Rattle.blifww_tool.specs.Refusals.{status_of, line_of}
+use Rattle.blifww_tool.specs.Refusals.{status_of, refusal_line}
 use Rattle.blifww_tool.specs.Run.{Asks, Reading, Writing, GaveAll, Gained, GainedNothing, WriteFailed, text_limit, IsRefused, RefusesText, HasReason, Writes, Does, IsCalm}
 use Rattle.blifww_tool.proofs.Headline.{gave_whole, writes_what_it_read}
 use Rattle.blifww_tool.specs.Gate.{WritesWhatItRead}
@@ -17,7 +17,7 @@ use Rattle.blifww_tool.specs.declared.refusals.Refusal.TheVariants.{Usage, TooLo
 -- How a run ends: all is written, a refusal is told, or a write failed.
 pub data Outcome (words : List (List ℕ)) (src : Reading) (out err : Writing) (result : ℕ) : Type 0 where
   done : result ≡ 0 → Does words src out (λ text. text) → Outcome words src out err result
-  told : (r : Refusal) → result ≡ status_of r → HasReason words src r → Gained err (line_of r) → Outcome words src out err result
+  told : (r : Refusal) → result ≡ status_of r → HasReason words src r → Gained err (refusal_line r) → Outcome words src out err result
   failed : WriteFailed out ⊎ WriteFailed err → Outcome words src out err result
 
 pub one_command : (words : List (List ℕ)) (a b : CommandValues) → Asks words a → Asks words b → a ≡ b
@@ -92,13 +92,13 @@ never_failed : (words : List (List ℕ)) (command : CommandValues) (src : Readin
 never_failed words command src out err text calm (inl h) = calm.writes h
 never_failed words command src out err text calm (inr h) = calm.tells h
 
-told_by : (err : Writing) (result : ℕ) (r r' : Refusal) → r' ≡ r → result ≡ status_of r' → Gained err (line_of r') → (result ≡ status_of r) × Gained err (line_of r)
-told_by err result r r' e s l = (s ∙ ap status_of e, subst (λ (x : Refusal). Gained err (line_of x)) e l)
+told_by : (err : Writing) (result : ℕ) (r r' : Refusal) → r' ≡ r → result ≡ status_of r' → Gained err (refusal_line r') → (result ≡ status_of r) × Gained err (refusal_line r)
+told_by err result r r' e s l = (s ∙ ap status_of e, subst (λ (x : Refusal). Gained err (refusal_line x)) e l)
 
 -- a simulation that is refused is told so
 pub is_refused : (words : List (List ℕ)) (src : Reading) (out err : Writing) (result : ℕ) → Outcome words src out err result
     → (cycles : ℕ) (streams : List (List ℕ)) (text : List ℕ) → IsCalm words (simulate cycles streams) src out err text → length text ≤ text_limit
-    → (r : Refusal) → IsRefused cycles streams text r → ((result ≡ status_of r) × Gained err (line_of r)) ⊎ (result ≡ 7)
+    → (r : Refusal) → IsRefused cycles streams text r → ((result ≡ status_of r) × Gained err (refusal_line r)) ⊎ (result ≡ 7)
 is_refused words src out err result (done e does) cycles streams text calm short r h =
     let s = done_as words cycles streams src out err text calm does in
     absurd (simulation_or_refused cycles streams text s.simulation r s.reads s.near h)
@@ -128,7 +128,7 @@ headline_of gate words src out h asks =
 
 -- how a run ends where its refusal is told
 pub told_outcome : (words : List (List ℕ)) (src : Reading) (out err : Writing) (result : ℕ) (r : Refusal) → result ≡ status_of r
-    → ((r ≢ WriteFault) → GainedNothing out × HasReason words src r) → ((r ≡ WriteFault) → WriteFailed out) → Gained err (line_of r)
+    → ((r ≢ WriteFault) → GainedNothing out × HasReason words src r) → ((r ≡ WriteFault) → WriteFailed out) → Gained err (refusal_line r)
     → Outcome words src out err result
 told_outcome words src out err result WriteFault e other h line = failed (inl (h refl))
 told_outcome words src out err result Usage e other h line = told Usage e (other (λ e. cc)).1 line

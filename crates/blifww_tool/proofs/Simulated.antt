@@ -16,7 +16,7 @@ use Rattle.command_words.specs.Shapes.{simulate, IsCommand}
 use Rattle.command_words.specs.declared.errors.WordsError.{WordsError}
 use Rattle.command_words.specs.declared.errors.WordsError.TheVariants as words_error
 use Rattle.blifww_tool.specs.Simulation.{Simulation, IsSimulation}
-use Rattle.blifww_tool.specs.Refusals.{simulate_refusal, words_refusal, status_of, line_of}
+use Rattle.blifww_tool.specs.Refusals.{simulate_refusal, words_refusal, status_of, refusal_line}
 use Rattle.blifww_tool.specs.Run.{Asks, Reading, Writing, GaveAll, Gained, GainedNothing, WriteFailed, IsRefused, RefusesText, HasReason, Does, CutsLine, CutsText}
 use Rattle.blifww_tool.specs.declared.refusals.Refusal.{Refusal}
 use Rattle.blifww_tool.specs.declared.refusals.Refusal.TheVariants.{Usage, TooLong, ReadFault, WriteFault, NoMemory, NotYet, Pattern, GridTooLarge, PortTable, Streams, TooFar}
@@ -69,7 +69,7 @@ reason_of all cycles words src given (TooFar n) (inr h) whole asks = refuses all
 
 -- what stands where a refusal was told with the status of a failed write
 pub cut_told : (words : List (List ℕ)) (src : Reading) (out err : Writing) (r : Refusal) → status_of r ≡ 6
-    → ((r ≡ WriteFault) → (k : ℕ) × WriteFailed out × Does words src out (λ text. take k text)) → Gained err (line_of r)
+    → ((r ≡ WriteFault) → (k : ℕ) × WriteFailed out × Does words src out (λ text. take k text)) → Gained err (refusal_line r)
     → CutsLine words src out err ⊎ CutsText words src out err
 cut_told words src out err WriteFault s h line =
     let front = h refl in
@@ -91,7 +91,7 @@ words_reason words src words_error.Usage h = h refl
 words_reason words src words_error.NoMemory h = tt
 
 cut_line : (words : List (List ℕ)) (src : Reading) (out err : Writing) (r : Refusal) → GainedNothing out × HasReason words src r
-    → (n : ℕ) × Gained err (take n (line_of r)) → WriteFailed err → CutsLine words src out err ⊎ CutsText words src out err
+    → (n : ℕ) × Gained err (take n (refusal_line r)) → WriteFailed err → CutsLine words src out err ⊎ CutsText words src out err
 cut_line words src out err r reason front failed =
     inl (record { refusal = r; reason = reason.1; nothing = reason.0; size = front.0; front = front.1; failed = failed })
 
@@ -99,7 +99,7 @@ cut_line words src out err r reason front failed =
 pub cut_untold : (words : List (List ℕ)) (src : Reading) (out err : Writing) (r : Refusal)
     → ((r ≢ WriteFault) → GainedNothing out × HasReason words src r)
     → ((r ≡ WriteFault) → (k : ℕ) × WriteFailed out × Does words src out (λ text. take k text))
-    → (n : ℕ) × Gained err (take n (line_of r)) → WriteFailed err → CutsLine words src out err ⊎ CutsText words src out err
+    → (n : ℕ) × Gained err (take n (refusal_line r)) → WriteFailed err → CutsLine words src out err ⊎ CutsText words src out err
 cut_untold words src out err WriteFault other h front failed =
     let cut = h refl in
     inr (record { size = cut.0; front = cut.2; failed = cut.1; line = inr (failed, front) })

@@ -4,7 +4,7 @@ use Rattle.std.specs.List.{AllPass, prefix_len, concat}
 use Rattle.std.proofs.lemmas.List.{drop-drop, take_at, drop_at, get_or-take}
 use Rattle.std.proofs.lemmas.List.Sums.{prefix_len_passes, prefix_len_is, prefix_len-le-length}
 use Rattle.std.proofs.lemmas.Grind.{common_steps}
-use Rattle.blifww_tool.specs.Names.{is_name_byte, name_from}
+use Rattle.blifww_tool.specs.Names.{is_identifier_byte, name_from}
 use Rattle.blifww_tool.specs.Thin.{Names, IsThin, thin_text, HasNames, HasDistinctPorts}
 
 pub front_passes : (p : ℕ → Bool) (xs : List ℕ) → AllPass p (take (prefix_len p xs) xs)
@@ -24,9 +24,9 @@ prefix_len-name p name rest x h stop =
     prefix_len_is p (name ++ (x ∷ rest)) (length name) 0 (omega (arith, length-append name (x ∷ rest)))
     (λ k lt. rw (get_or-front name (x ∷ rest) k 0 lt) (h k 0 lt)) (λ _. rw (get_or-seam name rest x 0) stop)
 
-pub name_is : (text name rest : List ℕ) (x at : ℕ) → drop at text ≡ name ++ (x ∷ rest) → AllPass is_name_byte name → is_name_byte x ≡ false → name_from text at ≡ name
+pub name_is : (text name rest : List ℕ) (x at : ℕ) → drop at text ≡ name ++ (x ∷ rest) → AllPass is_identifier_byte name → is_identifier_byte x ≡ false → name_from text at ≡ name
 name_is text name rest x at e h stop =
-    rw e (take_at name (x ∷ rest) (prefix_len is_name_byte (name ++ (x ∷ rest))) (sym (prefix_len-name is_name_byte name rest x h stop)))
+    rw e (take_at name (x ∷ rest) (prefix_len is_identifier_byte (name ++ (x ∷ rest))) (sym (prefix_len-name is_identifier_byte name rest x h stop)))
 
 pub skipped : (text name word rest : List ℕ) (at next : ℕ) → drop at text ≡ name ++ (word ++ rest) → next ≡ at + (length name + length word) → drop next text ≡ rest
 skipped text name word rest at next e n =
@@ -74,9 +74,9 @@ refused text g c never n h =
 pub found : (text : List ℕ) (g : Names) → IsCandidate text g → text ≡ thin_text g → HasNames g → HasDistinctPorts g → IsThin text g
 found text g c e some ports = record {
   text = e;
-  model = record { some = some.model; bytes = subst (AllPass is_name_byte) (sym c.model) (front_passes is_name_byte (drop 7 text)) };
-  a = record { some = some.a; bytes = subst (AllPass is_name_byte) (sym c.a) (front_passes is_name_byte (drop (length g.model + 16) text)) };
-  b = record { some = some.b; bytes = subst (AllPass is_name_byte) (sym c.b) (front_passes is_name_byte (drop (length g.model + length g.a + 17) text)) };
-  y = record { some = some.y; bytes = subst (AllPass is_name_byte) (sym c.y) (front_passes is_name_byte (drop (length g.model + length g.a + length g.b + 27) text)) };
+  model = record { some = some.model; bytes = subst (AllPass is_identifier_byte) (sym c.model) (front_passes is_identifier_byte (drop 7 text)) };
+  a = record { some = some.a; bytes = subst (AllPass is_identifier_byte) (sym c.a) (front_passes is_identifier_byte (drop (length g.model + 16) text)) };
+  b = record { some = some.b; bytes = subst (AllPass is_identifier_byte) (sym c.b) (front_passes is_identifier_byte (drop (length g.model + length g.a + 17) text)) };
+  y = record { some = some.y; bytes = subst (AllPass is_identifier_byte) (sym c.y) (front_passes is_identifier_byte (drop (length g.model + length g.a + length g.b + 27) text)) };
   ports = ports;
 }

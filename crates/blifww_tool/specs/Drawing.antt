@@ -14,8 +14,8 @@ or_lines n =
     ∷ []
 
 -- the text of the gate with these names
-abbrev pub or_text : Names → List ℕ
-or_text n = writer_text or_grid (or_lines n)
+abbrev pub thin_gate_text : Names → List ℕ
+thin_gate_text n = writer_text or_grid (or_lines n)
 
 -- the names of a gate whose text is written out letter by letter
 abbrev pub sample_names : Names

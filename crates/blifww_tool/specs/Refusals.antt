@@ -70,18 +70,18 @@ abbrev pub stream_line : List ℕ → List ℕ → List ℕ
 stream_line name word = codes "stream: " ++ (name ++ (codes " " ++ (word ++ codes "\n")))
 
 -- the one line that tells a refusal
-abbrev pub line_of : Refusal → List ℕ
-line_of Usage = codes "usage: blifww compile|simulate|eval|probe|window|make|self\n"
-line_of TooLong = codes "too long: limit 16777216\n"
-line_of ReadFault = codes "read fault\n"
-line_of WriteFault = codes "write fault\n"
-line_of NoMemory = codes "no memory\n"
-line_of NotYet = codes "not yet\n"
-line_of (Pattern fault) = fault_line (rle_fault_name fault.kind) fault.line
-line_of (GridTooLarge width height) = codes "too large: grid " ++ (decimal width ++ (codes " by " ++ (decimal height ++ codes "\n")))
-line_of (PortTable fault) = fault_line (port_fault_name fault.kind) fault.line
-line_of (Streams fault) = stream_line (stream_fault_name fault.kind) fault.word
-line_of (TooFar generations) = codes "too large: generations " ++ (decimal generations ++ codes "\n")
+abbrev pub refusal_line : Refusal → List ℕ
+refusal_line Usage = codes "usage: blifww compile|simulate|eval|probe|window|make|self\n"
+refusal_line TooLong = codes "too long: limit 16777216\n"
+refusal_line ReadFault = codes "read fault\n"
+refusal_line WriteFault = codes "write fault\n"
+refusal_line NoMemory = codes "no memory\n"
+refusal_line NotYet = codes "not yet\n"
+refusal_line (Pattern fault) = fault_line (rle_fault_name fault.kind) fault.line
+refusal_line (GridTooLarge width height) = codes "too large: grid " ++ (decimal width ++ (codes " by " ++ (decimal height ++ codes "\n")))
+refusal_line (PortTable fault) = fault_line (port_fault_name fault.kind) fault.line
+refusal_line (Streams fault) = stream_line (stream_fault_name fault.kind) fault.word
+refusal_line (TooFar generations) = codes "too large: generations " ++ (decimal generations ++ codes "\n")
 
 -- the refusal for each way in which not all is read,
 abbrev pub refusal_of : ReadAllError → Refusal

@@ -11,10 +11,10 @@ use Rattle.drive.specs.Streams.{HasStreamFault}
 use Rattle.drive.specs.Driving.{last_generation, greatest_generation}
 use Rattle.command_words.specs.Shapes.{CommandValues, compile, simulate, command_values, IsCommand}
 use Rattle.blifww_tool.specs.Thin.{Names, IsThin}
-use Rattle.blifww_tool.specs.Drawing.{or_text}
+use Rattle.blifww_tool.specs.Drawing.{thin_gate_text}
 use Rattle.pattern_reading.specs.Ports.{names_of}
 use Rattle.blifww_tool.specs.Simulation.{Simulation, IsSimulation, simulation_text}
-use Rattle.blifww_tool.specs.Refusals.{line_of}
+use Rattle.blifww_tool.specs.Refusals.{refusal_line}
 use Rattle.blifww_tool.specs.declared.refusals.Refusal.{Refusal}
 use Rattle.blifww_tool.specs.declared.refusals.Refusal.TheVariants.{Usage, TooLong, ReadFault, WriteFault, NoMemory, NotYet, Pattern, GridTooLarge, PortTable, Streams, TooFar}
 
@@ -124,7 +124,7 @@ pub record Simulates (cycles : ℕ) (words : List (List ℕ)) (src : Reading) (o
 
 -- out gained these bytes of what the command makes of the text that the source gave
 abbrev pub Writes : CommandValues → Reading → Writing → (List ℕ → List ℕ) → Type 0
-Writes compile src out gained = Compiles src out (λ n. gained (or_text n))
+Writes compile src out gained = Compiles src out (λ n. gained (thin_gate_text n))
 Writes (simulate cycles words) src out gained = Simulates cycles words src out gained
 
 -- out gained these bytes of what the words ask for
@@ -139,7 +139,7 @@ pub record CutsLine (words : List (List ℕ)) (src : Reading) (out err : Writing
   pub reason : HasReason words src refusal
   pub nothing : GainedNothing out
   pub size : ℕ
-  pub front : Gained err (take size (line_of refusal))
+  pub front : Gained err (take size (refusal_line refusal))
   pub failed : WriteFailed err
 
 -- the command's text was cut off, and err has the line that tells it, or where err failed too a front of that line
@@ -147,7 +147,7 @@ pub record CutsText (words : List (List ℕ)) (src : Reading) (out err : Writing
   pub size : ℕ
   pub front : Does words src out (take size)
   pub failed : WriteFailed out
-  pub line : Gained err (line_of WriteFault) ⊎ (WriteFailed err × ((k : ℕ) × Gained err (take k (line_of WriteFault))))
+  pub line : Gained err (refusal_line WriteFault) ⊎ (WriteFailed err × ((k : ℕ) × Gained err (take k (refusal_line WriteFault))))
 
 -- the words ask for the command, the source has the text, and nothing failed
 pub record IsCalm (words : List (List ℕ)) (command : CommandValues) (src : Reading) (out err : Writing) (text : List ℕ) : Type 0 where

@@ -32,13 +32,13 @@ abbrev pub plane_at : Simulation → ℕ → Plane
 plane_at s generation = driven_by s.ports s.streams (plane_of s.grid.rows) generation
 
 -- the bits that an output shows: in cycle t whether its cell is a head at generation L + t P
-abbrev pub output_bits : Simulation → PortLine → List Bool
-output_bits s out =
+abbrev pub bits_of_output : Simulation → PortLine → List Bool
+bits_of_output s out =
     map (λ t. is_head (plane_at s (s.ports.l + t * s.ports.p) (pos out.x) (pos out.y))) (range_with_len 0 s.streams.cycles)
 
 -- the lines of the outputs, in the table's order
 abbrev pub simulation_text : Simulation → List ℕ
-simulation_text s = flat_map (λ out. bits_line out.name (output_bits s out)) s.ports.outs
+simulation_text s = flat_map (λ out. bits_line out.name (bits_of_output s out)) s.ports.outs
 
 -- The text reads as this pattern with these ports, and the words say these streams for its inputs.
 pub record IsSimulation (cycles : ℕ) (words : List (List ℕ)) (text : List ℕ) (s : Simulation) : Type 0 where

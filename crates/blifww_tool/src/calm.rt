@@ -1,6 +1,6 @@
 // A caller that uses the completeness of `compile`.
 ghost use Rattle.std.specs.Prelude.{◌≡◌, ◌≤◌, ◌⊎◌, length, map, string_bytes, IfSome};
-ghost use Rattle.ww_base.specs.Fakes.{left_of};
+ghost use Rattle.ww_base.specs.Fakes.{bytes_left};
 ghost use Rattle.command_words.specs.Shapes.{compile, IsCommand};
 ghost use Rattle.blifww_tool.specs.Thin.{Names, IsThin};
 ghost use Rattle.blifww_tool.specs.Run.{Asks, text_limit};
@@ -17,8 +17,8 @@ pub fn calm_status(
     out: &mut MemSink,
     err: &mut MemSink,
 ) -> Option<u8>
-    ensures { (n : Names) → IsCommand (map string_bytes words.now) → Asks (map string_bytes words.now) compile → IsThin (left_of src.old) n
-        → length (left_of src.old) ≤ text_limit → IfSome result (λ s. (s ≡ 0) ⊎ (s ≡ 7)) }
+    ensures { (n : Names) → IsCommand (map string_bytes words.now) → Asks (map string_bytes words.now) compile → IsThin (bytes_left src.old) n
+        → length (bytes_left src.old) ≤ text_limit → IfSome result (λ s. (s ≡ 0) ⊎ (s ≡ 7)) }
 {
     let reads = src.faults();
     let writes = out.faults();

@@ -1,7 +1,7 @@
 // What is written for an OR gate beside its drawing: the lines that say where its ports are.
 ghost use Rattle.std.specs.Prelude.{◌≡◌, ◌++◌, IfOk};
 ghost use Rattle.pattern_writing.specs.Samples as samples;
-ghost use Rattle.blifww_tool.specs.Drawing.{or_lines, or_text, sample_names};
+ghost use Rattle.blifww_tool.specs.Drawing.{or_lines, thin_gate_text, sample_names};
 
 use crate::thin::Gate;
 use lists::Bytes;
@@ -32,7 +32,7 @@ pub fn or_lines(alloc: Global, gate: &Gate) -> Result<[Bytes; 4], AllocError>
 /// Does nothing: its clause says that the text of an OR gate with the names a, b and y is the one that stands written out,
 /// letter by letter, in `pattern_writing`.
 pub fn sample_is_so()
-    ensures { or_text sample_names ≡ samples.or_text }
+    ensures { thin_gate_text sample_names ≡ samples.or_text }
 {
     samples_are_so();
 }

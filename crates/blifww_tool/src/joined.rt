@@ -1,10 +1,10 @@
 // Texts in pieces.
 ghost use Rattle.std.specs.Prelude.{◌≡◌, ◌↔◌, IsTrue};
-ghost use Rattle.blifww_tool.specs.Joined.{joined};
+ghost use Rattle.blifww_tool.specs.Joined.{joined_pieces};
 
 /// Whether the text is these pieces, one after the other.
 pub fn is_joined(text: &[u8], pieces: &[&[u8]]) -> bool
-    ensures { IsTrue result ↔ (text.now ≡ joined pieces.now) }
+    ensures { IsTrue result ↔ (text.now ≡ joined_pieces pieces.now) }
 {
     match pieces {
         [] => text.is_empty(),

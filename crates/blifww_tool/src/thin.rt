@@ -1,7 +1,7 @@
 // The texts that are compiled, and the names in them.
 ghost use Rattle.std.specs.Prelude.{◌≡◌, ◌≤◌, ◌<◌, ◌↔◌, ◌^◌, ◌+◌, ℕ, length, IfSome, IfNone, IsTrue};
 ghost use Rattle.std.specs.List.{prefix_len};
-ghost use Rattle.blifww_tool.specs.Names.{is_name_byte, name_from};
+ghost use Rattle.blifww_tool.specs.Names.{is_identifier_byte, name_from};
 ghost use Rattle.blifww_tool.specs.Thin.{Names, IsThin, HasNames, HasDistinctPorts, thin_text};
 
 use crate::joined::is_joined;
@@ -27,19 +27,19 @@ pub struct Gate<'a> {
     pub y: &'a [u8],
 }
 
-fn is_name_byte(byte: u8) -> bool
-    ensures { result ≡ is_name_byte byte }
+fn is_identifier_byte(byte: u8) -> bool
+    ensures { result ≡ is_identifier_byte byte }
 {
     byte.is_ascii_alphanumeric() || byte == b'_'
 }
 
 // How many bytes of a name stand at the front.
 fn name_len(text: &[u8]) -> usize
-    ensures value { result ≡ prefix_len is_name_byte text.now }
+    ensures value { result ≡ prefix_len is_identifier_byte text.now }
     ensures within { result ≤ length text.now }
 {
     for (i, byte) in text.iter().enumerate() {
-        if !is_name_byte(*byte) {
+        if !is_identifier_byte(*byte) {
             return i;
         }
     }

@@ -2,8 +2,8 @@
 ghost use Rattle.std.specs.Prelude.{◌≡◌, ℕ, take, OnOk, OnErr};
 ghost use Rattle.std.specs.Io.KnownBytes.{Appends};
 ghost use Rattle.ww_base.specs.Faults.{HasCause};
-ghost use Rattle.blifww_tool.specs.Joined.{joined};
-ghost use Rattle.blifww_tool.specs.Refusals.{rle_fault_name, port_fault_name, stream_fault_name, fault_line, stream_line, line_of};
+ghost use Rattle.blifww_tool.specs.Joined.{joined_pieces};
+ghost use Rattle.blifww_tool.specs.Refusals.{rle_fault_name, port_fault_name, stream_fault_name, fault_line, stream_line, refusal_line};
 
 use crate::refusals::Refusal;
 use drive::StreamFaultKind;
@@ -13,8 +13,8 @@ use ww_base::{Failed, Sink, write_all};
 
 // Writes the pieces, one after the other, or a front of them where a write fails.
 fn write_pieces<O: Sink>(sink: &mut O, pieces: &[&[u8]]) -> Result<(), Failed>
-    ensures ok { OnOk result (Appends (O.written sink.old) (O.written sink.new) (joined pieces.now)) }
-    ensures front { OnErr result ((n : ℕ) × Appends (O.written sink.old) (O.written sink.new) (take n (joined pieces.now))) }
+    ensures ok { OnOk result (Appends (O.written sink.old) (O.written sink.new) (joined_pieces pieces.now)) }
+    ensures front { OnErr result ((n : ℕ) × Appends (O.written sink.old) (O.written sink.new) (take n (joined_pieces pieces.now))) }
     ensures cause { HasCause (O.faults sink.old) (O.faults sink.new) result }
 {
     match pieces {
@@ -82,8 +82,8 @@ fn tell_fault<E: Sink>(err: &mut E, name: &[u8], line: u64) -> Result<(), Failed
 
 // Tells the box that has too many cells.
 fn tell_grid<E: Sink>(err: &mut E, width: u64, height: u64) -> Result<(), Failed>
-    ensures ok { OnOk result (Appends (E.written err.old) (E.written err.new) (line_of (Refusal.GridTooLarge width height))) }
-    ensures front { OnErr result ((n : ℕ) × Appends (E.written err.old) (E.written err.new) (take n (line_of (Refusal.GridTooLarge width height)))) }
+    ensures ok { OnOk result (Appends (E.written err.old) (E.written err.new) (refusal_line (Refusal.GridTooLarge width height))) }
+    ensures front { OnErr result ((n : ℕ) × Appends (E.written err.old) (E.written err.new) (take n (refusal_line (Refusal.GridTooLarge width height)))) }
     ensures cause { HasCause (E.faults err.old) (E.faults err.new) result }
 {
     let mut columns = Buffer::new();
@@ -95,8 +95,8 @@ fn tell_grid<E: Sink>(err: &mut E, width: u64, height: u64) -> Result<(), Failed
 
 // Tells how many generations are too many.
 fn tell_generations<E: Sink>(err: &mut E, generations: u128) -> Result<(), Failed>
-    ensures ok { OnOk result (Appends (E.written err.old) (E.written err.new) (line_of (Refusal.TooFar generations))) }
-    ensures front { OnErr result ((n : ℕ) × Appends (E.written err.old) (E.written err.new) (take n (line_of (Refusal.TooFar generations)))) }
+    ensures ok { OnOk result (Appends (E.written err.old) (E.written err.new) (refusal_line (Refusal.TooFar generations))) }
+    ensures front { OnErr result ((n : ℕ) × Appends (E.written err.old) (E.written err.new) (take n (refusal_line (Refusal.TooFar generations)))) }
     ensures cause { HasCause (E.faults err.old) (E.faults err.new) result }
 {
     let mut digits = Buffer::new();
@@ -116,8 +116,8 @@ fn tell_streams<'a, E: Sink>(err: &mut E, name: &'a [u8], word: &'a [u8]) -> Res
 impl Refusal {
     /// Writes the one line that tells the refusal, or a front of it where a write fails.
     pub fn tell<E: Sink>(&self, err: &mut E) -> Result<(), Failed>
-        ensures ok { OnOk result (Appends (E.written err.old) (E.written err.new) (line_of self.now)) }
-        ensures front { OnErr result ((n : ℕ) × Appends (E.written err.old) (E.written err.new) (take n (line_of self.now))) }
+        ensures ok { OnOk result (Appends (E.written err.old) (E.written err.new) (refusal_line self.now)) }
+        ensures front { OnErr result ((n : ℕ) × Appends (E.written err.old) (E.written err.new) (take n (refusal_line self.now))) }
         ensures cause { HasCause (E.faults err.old) (E.faults err.new) result }
     {
         match self {
@@ -130,9 +130,7 @@ impl Refusal {
             Refusal::WriteFault => write_all(err, b"write fault\n"),
             Refusal::NoMemory => write_all(err, b"no memory\n"),
             Refusal::NotYet => write_all(err, b"not yet\n"),
-            Refusal::Pattern(fault) => {
-                tell_fault(err, rle_fault_name(fault.kind), fault.line)
-            }
+            Refusal::Pattern(fault) => { tell_fault(err, rle_fault_name(fault.kind), fault.line) }
             Refusal::GridTooLarge { width, height } => tell_grid(err, *width, *height),
             Refusal::PortTable(fault) => {
                 tell_fault(err, port_fault_name(fault.kind), fault.line)

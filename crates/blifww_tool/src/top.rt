@@ -7,7 +7,7 @@ ghost use Rattle.command_words.specs.Shapes.{CommandValues, compile, simulate, I
 ghost use Rattle.blifww_tool.specs.Thin.{Names, IsThin};
 ghost use Rattle.blifww_tool.specs.Gate.{WritesWhatItRead};
 ghost use Rattle.blifww_tool.specs.Simulation.{Simulation, IsSimulation};
-ghost use Rattle.blifww_tool.specs.Refusals.{status_of, line_of};
+ghost use Rattle.blifww_tool.specs.Refusals.{status_of, refusal_line};
 ghost use Rattle.blifww_tool.specs.Run.{Asks, text_limit, Reading, reading, Writing, writing, Gave, GaveAll, Gained, GainedNothing, WriteFailed, HasReason, IsRefused, Does, IsCalm, CutsLine, CutsText};
 
 use crate::compile::compile;
@@ -58,7 +58,7 @@ fn work<S: Source, O: Sink>(
 /// line `name=bits` for each output, with the bits that its cell shows when the streams of the words drive the inputs.
 ///
 /// 0: all of it is on `out`. 2: the words are no command. 4: the text has more than 16,777,216 bytes, the pattern's box
-/// has more than 268,435,456 cells, or its last bits come after generation 4,294,967,296. 5: `src` failed. 6: `out` or
+/// has more than 268,435,456 cells, or its last cycle comes after generation 4,294,967,296. 5: `src` failed. 6: `out` or
 /// `err` failed. 7: there was not enough memory. 8: the text is no pattern's, or its port table is at fault. 9: the words
 /// are no streams for its inputs. 11: the text is not that of an OR gate. Of several the first in the order 2, 5, 4 (the
 /// text), 11, 8 (the header), 4 (the box), 8 (the items), 8 (the table), 9, 4 (generations), 6 is answered. With each but
@@ -84,7 +84,7 @@ pub fn run<S: Source, O: Sink, E: Sink>(
     ensures refused { result ≢ 0 → result ≢ 6 → (r : Refusal) × (result ≡ status_of r)
         × HasReason (map string_bytes words.now) (reading S.left S.faults src.old src.new) r
         × GainedNothing (writing O.written O.faults out.old out.new)
-        × Gained (writing E.written E.faults err.old err.new) (line_of r) }
+        × Gained (writing E.written E.faults err.old err.new) (refusal_line r) }
 
     // What was written where a write failed.
     ensures cut { result ≡ 6 →
@@ -119,7 +119,7 @@ pub fn run<S: Source, O: Sink, E: Sink>(
         → IsCalm (map string_bytes words.now) (simulate cycles streams) (reading S.left S.faults src.old src.new)
         (writing O.written O.faults out.old out.new) (writing E.written E.faults err.old err.new) text
         → length text ≤ text_limit → (r : Refusal) → IsRefused cycles streams text r
-        → ((result ≡ status_of r) × Gained (writing E.written E.faults err.old err.new) (line_of r)) ⊎ (result ≡ 7) }
+        → ((result ≡ status_of r) × Gained (writing E.written E.faults err.old err.new) (refusal_line r)) ⊎ (result ≡ 7) }
     ensures simulates { (cycles : ℕ) (streams : List (List ℕ)) (text : List ℕ)
         → IsCalm (map string_bytes words.now) (simulate cycles streams) (reading S.left S.faults src.old src.new)
         (writing O.written O.faults out.old out.new) (writing E.written E.faults err.old err.new) text

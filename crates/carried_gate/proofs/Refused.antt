@@ -11,12 +11,13 @@ use Rattle.ww_rule.proofs.Streams.{streams_injected}
 use Rattle.tile_core.specs.Drawing.{is_among}
 use Rattle.netlist_core.specs.declared.model.Design.{Design}
 use Rattle.netlist_meaning.specs.Valuation.{Valuation, AreInputRows, IsRun, output_bit}
-use Rattle.netlist_meaning.specs.Designs.{or_design, or_main, cover_of}
-use Rattle.netlist_meaning.specs.Instances.{IsOneCover, or_rows}
-use Rattle.netlist_meaning.proofs.Names.{apart_by}
-use Rattle.netlist_meaning.proofs.OneCover.{one_cover_computes, or_design_computes_or, in_names_are}
+use Rattle.one_cover.specs.OneCover.{or_design, or_main, IsOneCover, or_cover_rows}
+use Rattle.one_cover.specs.Parts.{cover_with}
+use Rattle.lists.proofs.Names.{apart_by}
+use Rattle.one_cover.proofs.OneCover.{one_cover_computes, or_design_computes_or, in_names_are}
 use Rattle.pattern_reading.specs.declared.ports.Ports.{Ports}
-use Rattle.pattern_reading.specs.Examples.{or_ports, or_text_without_nets, port_of}
+use Rattle.pattern_writing.specs.Samples.{or_text}
+use Rattle.pattern_samples.specs.Ports.{or_ports, port_line_at}
 use Rattle.pattern_reading.specs.PortTable.{ports_of, forms_of}
 use Rattle.pattern_reading.proofs.RleVerdict.{rle_reading_is, grid_of}
 use Rattle.carries.specs.Carries.{Carries, NamesPorts, ShowsRuns}
@@ -52,11 +53,11 @@ drives rows =
       at_entries = λ g x y e. let b = (streams_injected 32 cells rows g x y).0 e in ap₂ (λ i j. is_among i j entries) (sym b.column) (sym b.line) ∙ at_entry b.input b.in_cells;
     }
 
-one_cover : (rows : List (List ℕ)) → IsOneCover (codes "a") (codes "b") (codes "y") rows true (record { models = record or_main { covers = cover_of 4 (codes "a" ∷ codes "b" ∷ []) (codes "y") rows ∷ [] } ∷ [] })
+one_cover : (rows : List (List ℕ)) → IsOneCover (codes "a") (codes "b") (codes "y") rows true (record { models = record or_main { covers = cover_with 4 (codes "a" ∷ codes "b" ∷ []) (codes "y") rows ∷ [] } ∷ [] })
 one_cover rows =
     record {
-      main = record or_main { covers = cover_of 4 (codes "a" ∷ codes "b" ∷ []) (codes "y") rows ∷ [] };
-      cover = cover_of 4 (codes "a" ∷ codes "b" ∷ []) (codes "y") rows;
+      main = record or_main { covers = cover_with 4 (codes "a" ∷ codes "b" ∷ []) (codes "y") rows ∷ [] };
+      cover = cover_with 4 (codes "a" ∷ codes "b" ∷ []) (codes "y") rows;
       models = refl;
       inputs = refl;
       outputs = refl;
@@ -77,7 +78,7 @@ two_each (row ∷ rows) h (suc k) d lt = two_each rows h.1 k d (omega arith)
 
 -- rows of two bits are input rows of the gate
 or_rows_of : (rows : List (List Bool)) → AllByRecursion (λ row. length row ≡ 2) rows → AreInputRows or_design rows
-or_rows_of rows two = (codes "a" ∷ codes "b" ∷ [], in_names_are (codes "a") (codes "b") (codes "y") or_rows true or_design (one_cover or_rows), two_each rows two)
+or_rows_of rows two = (codes "a" ∷ codes "b" ∷ [], in_names_are (codes "a") (codes "b") (codes "y") or_cover_rows true or_design (one_cover or_cover_rows), two_each rows two)
 
 -- The design with the row 10 is 0 where the second input alone is 1, and the gate is not.
 not_and_not : ShowsOr → IsShown (record or_ports { nets = [] }) and_not_design → ⊥
@@ -120,7 +121,7 @@ tail_injected s =
     let e : Tail ≡ Conductor = s.shows.conductors rows (or_rows_of rows (refl, (refl, tt))) 1 (pos 0) (pos 8) refl in
     cc
 
-not_z : IsShown (record or_ports { outs = port_of 32 8 (codes "z") ∷ []; nets = [] }) or_design → ⊥
+not_z : IsShown (record or_ports { outs = port_line_at 32 8 (codes "z") ∷ []; nets = [] }) or_design → ⊥
 not_z s = apart_by (codes "z") (codes "y") refl (ap (λ names. get_or names 0 []) s.names.outs)
 
 not_due : (g : ℕ) (b : Bool) → due_of_streams 32 cells both g (pos 0) (pos 0) ≡ b → b ≡ false
@@ -128,7 +129,7 @@ not_due g false e = refl
 not_due g true e = absurd (true≢false (sym ((drives both).at_entries g (pos 0) (pos 0) e)))
 
 -- An empty cell stays empty.
-never_head : IsShown (record or_ports { outs = port_of 0 0 (codes "y") ∷ []; nets = [] }) or_design → ⊥
+never_head : IsShown (record or_ports { outs = port_line_at 0 0 (codes "y") ∷ []; nets = [] }) or_design → ⊥
 never_head s =
     let run = s.shows.runs both both_are in
     let head = (s.shows.heads both both_are run.0 run.1 0 _ refl 32 (omega arith)).1 (0, omega arith, refl, one_bit run.0 run.1) in
@@ -140,10 +141,10 @@ pub refuses_others : ShowsOr → RefusesOthers
 refuses_others gate =
     record {
       gate = refl;
-      other_rows = λ c. not_and_not gate (shown or_text_without_nets (record or_ports { nets = [] }) and_not_design refl refl c);
+      other_rows = λ c. not_and_not gate (shown or_text (record or_ports { nets = [] }) and_not_design refl refl c);
       late = λ c. off_time gate 33 (λ t e. omega (arith, e)) (shown (gate_text (codes "#C BLIFWW 1 P 32 L 33\n") out_line) (record or_ports { l = 33; nets = [] }) or_design refl refl c);
       early = λ c. off_time gate 31 (λ t e. omega (arith, e)) (shown (gate_text (codes "#C BLIFWW 1 P 32 L 31\n") out_line) (record or_ports { l = 31; nets = [] }) or_design refl refl c);
       fast = λ c. tail_injected (shown (gate_text (codes "#C BLIFWW 1 P 1 L 32\n") out_line) (record or_ports { p = 1; nets = [] }) or_design refl refl c);
-      other_name = λ c. not_z (shown (gate_text version_line (codes "#C BLIFWW OUT 32 8 z\n")) (record or_ports { outs = port_of 32 8 (codes "z") ∷ []; nets = [] }) or_design refl refl c);
-      empty_cell = λ c. never_head (shown (gate_text version_line (codes "#C BLIFWW OUT 0 0 y\n")) (record or_ports { outs = port_of 0 0 (codes "y") ∷ []; nets = [] }) or_design refl refl c);
+      other_name = λ c. not_z (shown (gate_text version_line (codes "#C BLIFWW OUT 32 8 z\n")) (record or_ports { outs = port_line_at 32 8 (codes "z") ∷ []; nets = [] }) or_design refl refl c);
+      empty_cell = λ c. never_head (shown (gate_text version_line (codes "#C BLIFWW OUT 0 0 y\n")) (record or_ports { outs = port_line_at 0 0 (codes "y") ∷ []; nets = [] }) or_design refl refl c);
     }

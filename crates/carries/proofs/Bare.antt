@@ -9,16 +9,17 @@ use Rattle.netlist_core.specs.declared.model.Model.{Model}
 use Rattle.netlist_core.specs.declared.model.Cover.{Cover}
 use Rattle.netlist_meaning.specs.Places.{Place, model_at, main_outputs}
 use Rattle.netlist_meaning.specs.Nets.{Net, IsControl, IsInNames}
-use Rattle.netlist_meaning.specs.Designs.{or_design}
-use Rattle.netlist_meaning.specs.Valuation.{Valuation, LatchState, AreInputRows, IsValuation, IsRun, state_in, start_state}
-use Rattle.netlist_meaning.proofs.Flat.{IsFlat, model_at-flat, no_latch-flat, all_in_names}
+use Rattle.one_cover.specs.OneCover.{or_design}
+use Rattle.netlist_meaning.specs.Valuation.{Valuation, LatchState, AreInputRows, IsValuation, IsRun, latches_in, start_state}
+use Rattle.netlist_meaning.proofs.SingleModel.{IsFlat, model_at-flat, no_latch-flat, all_in_names}
 use Rattle.netlist_meaning.proofs.Joined.{in_names_are_one}
-use Rattle.pattern_reading.specs.Examples.{empty_text, empty_ports}
+use Rattle.pattern_writing.specs.Samples.{bare_text}
+use Rattle.pattern_samples.specs.Ports.{bare_ports}
 use Rattle.pattern_reading.specs.PortTable.{ports_of, forms_of}
-use Rattle.pattern_reading.proofs.RleExamples.{headers_as_said}
-use Rattle.pattern_reading.proofs.PortExamples.{ports_as_said}
+use Rattle.pattern_samples.proofs.Samples.{bare_reads, bare_has_ports}
 use Rattle.pattern_reading.specs.Ports.{names_of}
-use Rattle.carries.specs.Carries.{drive, MeetsConductors, ShowsRuns}
+use Rattle.carries.specs.Carries.{drive, ShowsRuns}
+use Rattle.ww_rule.specs.Injections.{MeetsConductors}
 use Rattle.carries.specs.Laws.{bare_model, bare_design, BareIsCarried, GateIsNotBare}
 
 flat : IsFlat bare_design bare_model
@@ -66,12 +67,12 @@ run t place name = false
 
 is_run : (rows : List (List Bool)) → AreInputRows bare_design rows → IsRun bare_design rows run
 unfolding run
-is_run rows are t row e = subst (λ r. IsValuation bare_design r (state_in bare_design (start_state bare_design) run t) (run t)) (sym (no_bits rows are t row e)) (valuation (state_in bare_design (start_state bare_design) run t))
+is_run rows are t row e = subst (λ r. IsValuation bare_design r (latches_in bare_design (start_state bare_design) run t) (run t)) (sym (no_bits rows are t row e)) (valuation (latches_in bare_design (start_state bare_design) run t))
 
-nothing_due : (rows : List (List Bool)) → MeetsConductors (drive empty_ports rows) (plane_of [])
+nothing_due : (rows : List (List Bool)) → MeetsConductors (drive bare_ports rows) (plane_of [])
 nothing_due rows g x y e = let b = (streams_injected 32 [] rows g x y).0 e in absurd (omega (arith, b.in_cells))
 
-shows : ShowsRuns (plane_of []) empty_ports bare_design
+shows : ShowsRuns (plane_of []) bare_ports bare_design
 shows =
     record {
       conductors = λ rows are. nothing_due rows;
@@ -83,9 +84,9 @@ pub bare_is_carried : BareIsCarried
 bare_is_carried =
     record {
       grid = record { width = 0; height = 0; rows = [] };
-      ports = empty_ports;
-      reads = headers_as_said.1.0;
-      table = ports_as_said.1.0;
+      ports = bare_ports;
+      reads = bare_reads;
+      table = bare_has_ports;
       names = record { ins = in_names; outs = refl };
       shows = shows;
     }
@@ -93,5 +94,5 @@ bare_is_carried =
 pub gate_is_not_bare : GateIsNotBare
 gate_is_not_bare c = nothing_named (sym (ap (λ ports. names_of ports.outs) c.table.ports_is) ∙ c.names.outs)
   where
-    nothing_named : names_of (ports_of (forms_of empty_text)).outs ≡ main_outputs or_design → ⊥
+    nothing_named : names_of (ports_of (forms_of bare_text)).outs ≡ main_outputs or_design → ⊥
     nothing_named e = cc

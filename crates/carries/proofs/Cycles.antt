@@ -8,7 +8,7 @@ use Rattle.ww_rule.proofs.Lists.{streams_go_on}
 use Rattle.netlist_meaning.specs.Valuation.{output_bit}
 use Rattle.netlist_meaning.proofs.Joined.{in_names_are_one}
 use Rattle.pattern_reading.specs.Ports.{cells_of, names_of}
-use Rattle.carries.specs.Carries.{ShowsBits}
+use Rattle.carries.specs.Carries.{ShowsOutput}
 use Rattle.carries.specs.Shown.{CarriesCycles, CarriesOnward, CarriesEachFront, RowsFitPorts}
 use Rattle.carries.proofs.Period.{has_period}
 
@@ -43,7 +43,7 @@ carries_cycles text design c rows are run is =
 
 pub carries_onward : CarriesOnward
 carries_onward text design c rows zeros are_zeros are run is output cell e g lt =
-    subst (λ plane. ShowsBits c.ports (length (rows ++ zeros)) (λ t. output_bit design (run t) output) g plane cell) ((streams_go_on c.ports.p (cells_of c.ports.ins) rows zeros).rest are_zeros (plane_of c.grid.rows) g) (c.shows.heads (rows ++ zeros) are run is output cell e g lt)
+    subst (λ plane. ShowsOutput c.ports (length (rows ++ zeros)) (λ t. output_bit design (run t) output) g plane cell) ((streams_go_on c.ports.p (cells_of c.ports.ins) rows zeros).rest are_zeros (plane_of c.grid.rows) g) (c.shows.heads (rows ++ zeros) are run is output cell e g lt)
 
 pub carries_each_front : CarriesEachFront
 carries_each_front text design c rows later g lt =

@@ -11,7 +11,7 @@ use Rattle.pattern_reading.specs.Lines.{Line}
 use Rattle.pattern_reading.specs.Header.{lines_before_header}
 use Rattle.pattern_reading.specs.Numbers.{◌>>=◌, number_in}
 use Rattle.pattern_reading.specs.PortLines.{PortForm, Version, In, Out, Net, TableLine, form_of_fields, net_in, port_in, table_entry, table_line}
-use Rattle.pattern_reading.specs.PortTable.{ReadsAsPorts, forms_of, period_of}
+use Rattle.pattern_reading.specs.PortTable.{ReadsAsPorts, forms_of, period_in}
 
 abbrev HasPeriod : PortForm → Type 0
 HasPeriod (Version p l) = p ≢ 0
@@ -73,7 +73,7 @@ lines_period (line ∷ lines) = by_entry (table_entry line) (lines_period lines)
     by_entry None rest = rest
     by_entry (Some entry) rest = with_form _ _ (form_period (slice_split (λ b. b == byte " ") entry)) rest
 
-period_of_forms : (forms : List PortForm) → AllByRecursion HasPeriod forms → period_of forms ≢ 0
+period_of_forms : (forms : List PortForm) → AllByRecursion HasPeriod forms → period_in forms ≢ 0
 period_of_forms [] h = λ e. omega (arith, e)
 period_of_forms (Version p l ∷ forms) h = h.0
 period_of_forms (In port ∷ forms) h = period_of_forms forms h.1

@@ -1,10 +1,10 @@
 -- What it means that a text carries a design: the pattern that it spells, driven at its input cells, shows the runs of the
 -- design at its output cells, at every generation.
-use Rattle.std.specs.Prelude.{ℤ, pos, ℕ, zero, suc, ◌+◌, ◌*◌, ◌<◌, ◌≡◌, ◌↔◌, List, length, Bool, true, Some, slice_get}
-use Rattle.ww_rule.specs.declared.pattern.State.TheVariants.{Head, Conductor}
-use Rattle.ww_rule.specs.Wireworld.{Plane, Due, next_plane, driven}
+use Rattle.std.specs.Prelude.{pos, ℕ, ◌+◌, ◌*◌, ◌<◌, ◌≡◌, ◌↔◌, List, length, Bool, true, Some, slice_get}
+use Rattle.ww_rule.specs.declared.pattern.State.TheVariants.{Head}
+use Rattle.ww_rule.specs.Wireworld.{Plane, Due, driven}
 use Rattle.ww_rule.specs.Grid.{Grid, plane_of}
-use Rattle.ww_rule.specs.Injections.{due_of_streams}
+use Rattle.ww_rule.specs.Injections.{due_of_streams, MeetsConductors}
 use Rattle.pattern_reading.specs.declared.ports.Ports.{Ports}
 use Rattle.pattern_reading.specs.declared.ports.PortLine.{PortLine}
 use Rattle.pattern_reading.specs.Ports.{cells_of, names_of}
@@ -26,15 +26,6 @@ pub record NamesPorts (ports : Ports) (design : Design) : Type 0 where
 abbrev pub drive : Ports → List (List Bool) → Due
 drive ports rows = due_of_streams ports.p (cells_of ports.ins) rows
 
--- the plane of a generation before that generation's injections
-abbrev pub before_injections : Due → Plane → ℕ → Plane
-before_injections due plane zero = plane
-before_injections due plane (suc g) = next_plane (driven due plane g)
-
--- each injection meets a cell that is a conductor before that generation's injections
-abbrev pub MeetsConductors : Due → Plane → Type 0
-MeetsConductors due plane = (g : ℕ) (x y : ℤ) → due g x y ≡ true → before_injections due plane g x y ≡ Conductor
-
 -- the cell at x, y is a head at generation g exactly when g = first + t period for a cycle t, below the number of cycles, in which
 -- the bit is 1
 abbrev pub ShowsBitsFrom : (first period cycles : ℕ) → (ℕ → Bool) → (g : ℕ) → Plane → (x y : ℕ) → Type 0
@@ -42,8 +33,8 @@ ShowsBitsFrom first period cycles bit g plane x y =
     (plane (pos x) (pos y) ≡ Head) ↔ ((t : ℕ) × (t < cycles) × (g ≡ first + t * period) × (bit t ≡ true))
 
 -- the cell of an output, with the first cycle at the latency
-abbrev pub ShowsBits : Ports → (cycles : ℕ) → (ℕ → Bool) → (g : ℕ) → Plane → PortLine → Type 0
-ShowsBits ports cycles bit g plane cell = ShowsBitsFrom ports.l ports.p cycles bit g plane cell.x cell.y
+abbrev pub ShowsOutput : Ports → (cycles : ℕ) → (ℕ → Bool) → (g : ℕ) → Plane → PortLine → Type 0
+ShowsOutput ports cycles bit g plane cell = ShowsBitsFrom ports.l ports.p cycles bit g plane cell.x cell.y
 
 -- Driven by any rows of input bits, for any number of cycles N: there is a run of the design on them, and in every such run each
 -- output cell shows the output's bits, at every generation below L + N P
@@ -53,7 +44,7 @@ pub record ShowsRuns (plane : Plane) (ports : Ports) (design : Design) : Type 0 
   pub heads : (rows : List (List Bool)) → AreInputRows design rows → (run : ℕ → Valuation) → IsRun design rows run
       → (output : ℕ) (cell : PortLine) → slice_get ports.outs output ≡ Some cell
       → (g : ℕ) → g < ports.l + length rows * ports.p
-      → ShowsBits ports (length rows) (λ t. output_bit design (run t) output) g (driven (drive ports rows) plane g) cell
+      → ShowsOutput ports (length rows) (λ t. output_bit design (run t) output) g (driven (drive ports rows) plane g) cell
 
 -- A text carries a design: it reads as a pattern and as a port table, the table's names are the design's, and the pattern shows
 -- the design's runs

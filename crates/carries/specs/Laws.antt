@@ -2,8 +2,8 @@
 use Rattle.std.specs.Prelude.{◌≡◌, ℕ, List, [], ◌∷◌, codes}
 use Rattle.netlist_core.specs.declared.model.Design.{Design}
 use Rattle.netlist_core.specs.declared.model.Model.{Model}
-use Rattle.netlist_meaning.specs.Designs.{or_design}
-use Rattle.pattern_reading.specs.Examples.{empty_text}
+use Rattle.one_cover.specs.OneCover.{or_design}
+use Rattle.pattern_writing.specs.Samples.{bare_text}
 use Rattle.carries.specs.Carries.{Carries}
 
 -- a text that carries a design has one grid and one table
@@ -19,8 +19,8 @@ bare_design = record { models = bare_model ∷ [] }
 
 -- a text without ports carries a model without ports
 abbrev pub BareIsCarried : Type 0
-BareIsCarried = Carries empty_text bare_design
+BareIsCarried = Carries bare_text bare_design
 
 -- and no model with an output
 abbrev pub GateIsNotBare : Type 0
-GateIsNotBare = Carries empty_text or_design → ⊥
+GateIsNotBare = Carries bare_text or_design → ⊥

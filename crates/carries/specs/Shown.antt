@@ -7,7 +7,7 @@ use Rattle.pattern_reading.specs.declared.ports.PortLine.{PortLine}
 use Rattle.netlist_core.specs.declared.model.Design.{Design}
 use Rattle.netlist_meaning.specs.Valuation.{Valuation, AreInputRows, IsRun, output_bit}
 use Rattle.pattern_reading.specs.declared.ports.Ports.{Ports}
-use Rattle.carries.specs.Carries.{Carries, NamesPorts, ShowsBits, drive}
+use Rattle.carries.specs.Carries.{Carries, NamesPorts, ShowsOutput, drive}
 
 -- where the table names the design's inputs, input rows have a bit for each IN line
 abbrev pub RowsFitPorts : Type 0
@@ -37,7 +37,7 @@ CarriesOnward =
     → AreInputRows design (rows ++ zeros) → (run : ℕ → Valuation) → IsRun design (rows ++ zeros) run
     → (output : ℕ) (cell : PortLine) → slice_get c.ports.outs output ≡ Some cell
     → (g : ℕ) → g < c.ports.l + length (rows ++ zeros) * c.ports.p
-    → ShowsBits c.ports (length (rows ++ zeros)) (λ t. output_bit design (run t) output) g (driven (drive c.ports rows) (plane_of c.grid.rows) g) cell
+    → ShowsOutput c.ports (length (rows ++ zeros)) (λ t. output_bit design (run t) output) g (driven (drive c.ports rows) (plane_of c.grid.rows) g) cell
 
 -- the first cycles of a longer run are shown whatever the later input bits are
 abbrev pub CarriesEachFront : Type 0

@@ -14,18 +14,18 @@ use Rattle.netlist_core.specs.declared.model.Model.{Model}
 use Rattle.blif_text.specs.LogicalLines.{logical_lines}
 use Rattle.blif_text.specs.Models.{models_of}
 use Rattle.blif_text.specs.LineFaults.{line_fault}
-use Rattle.blif_text.specs.declared.fault.FaultKind.TheVariants.{DuplicatePort, MultipleDrivers, Undriven, NoSuchModel, NoSuchPin, PinTwice, PinMissing}
-use Rattle.blif_text.specs.declared.fault.Fault.{Fault}
-use Rattle.blif_text.specs.declared.fault.FaultKind.{FaultKind}
-use Rattle.blif_text.specs.ModelFaults.{duplicate_ports, earliest, fault_of_port, first_broken_by, model_fault, second_drivers, undriven_readings, unless_named}
-use Rattle.blif_text.proofs.CircleLemmas.{no_circle}
+use Rattle.netlist_rules.specs.declared.fault.FaultKind.TheVariants.{DuplicatePort, MultipleDrivers, Undriven, NoSuchModel, NoSuchPin, PinTwice, PinMissing}
+use Rattle.netlist_rules.specs.declared.fault.Fault.{Fault}
+use Rattle.netlist_rules.specs.declared.fault.FaultKind.{FaultKind}
+use Rattle.netlist_rules.specs.ModelFaults.{duplicate_ports, earliest, fault_of_port, first_broken_by, model_fault, second_drivers, undriven_readings, unless_named}
+use Rattle.netlist_rules.proofs.CircleLemmas.{no_circle}
 use Rattle.made_netlists.specs.Text.{latch_data, made_text, drawn_gate, drawn_gates, net_name, net_of_gate}
 use Rattle.made_netlists.specs.Design.{made_model, ReadsAsMade, gate_cover, covers_from, line_after, model_from}
 use Rattle.made_netlists.proofs.Lines.{IsNear, made_lines, made_lines_are}
 use Rattle.made_netlists.proofs.LineRules.{no_line_fault}
 use Rattle.made_netlists.proofs.Models.{made_models}
 use Rattle.netlist_core.specs.Names.{at_line, is_named}
-use Rattle.blif_text.specs.Drivers.{cover_output, cover_readings, drivers_of, readings_of}
+use Rattle.netlist_rules.specs.Drivers.{cover_output, cover_readings, drivers_of, readings_of}
 use Rattle.made_netlists.specs.declared.gate.GateKind.{GateKind}
 use Rattle.made_netlists.specs.declared.gate.GateKind.TheVariants.{And, Or, Xor, Nand}
 use Rattle.made_netlists.specs.declared.gate.Gate.{Gate}

@@ -14,8 +14,11 @@ abbrev pub literals : List ℕ → ℕ
 literals row = count_by (λ character. (character == 48) || (character == 49)) row
 
 -- one for the cover, one for each row, and one for each `0` and `1` before the output column
+abbrev pub rows_weight : List (List ℕ) → ℕ
+rows_weight rows = 1 + length rows + sum_by literals rows
+
 abbrev pub cover_weight : Cover → ℕ
-cover_weight cover = 1 + length cover.rows + sum_by literals cover.rows
+cover_weight cover = rows_weight cover.rows
 
 -- the part of the weight that is the model's own: its ports, two for each latch, one for each subckt line, its covers
 abbrev pub own_weight : Model → ℕ

@@ -6,7 +6,8 @@ use lists::{Bytes, List};
 #[derive(Clone, Copy, Debug, PartialEq, Eq)]
 pub struct NetId(pub u32);
 
-/// A net: its place in the design, its name there, and the number of its class of joined nets.
+/// A net: its place in the design, its name there, and the number of its class of joined nets. In the flat netlist of a
+/// design that is the position of the net of the class that is nearest the main model.
 #[derive(Drop)]
 pub struct Net {
     pub place: List<u32>,
@@ -43,8 +44,8 @@ pub struct FlatLatch {
 }
 
 /// A flat netlist: `ins` are the nets of the IN names, `outs` those of the main outputs, `clocks` those of the main
-/// model's `.clock` names, and `control` is the first latch's. Nets stand by place, and nodes and latches by place and
-/// line.
+/// model's `.clock` names, and `control` is the first latch's. Nets stand by place, and there by where the name first
+/// stands in the model's text; nodes and latches stand by place and line.
 #[derive(Drop)]
 pub struct Flat {
     pub nets: List<Net>,

@@ -12,7 +12,8 @@ use Rattle.netlist_core.specs.declared.model.Model.{Model}
 use Rattle.netlist_core.specs.Names.{Name, model_named}
 use Rattle.netlist_meaning.specs.Places.{Place, main_model, model_placed, model_below, model_at}
 use Rattle.netlist_meaning.specs.Laws.{PlacesAreShallow, WeightIsSumOverAll}
-use Rattle.netlist_meaning.proofs.Names.{bytes_eq-same, bytes_eq-other, and_then-from}
+use Rattle.lists.proofs.Names.{bytes_eq-same, bytes_eq-other}
+use Rattle.netlist_meaning.proofs.Names.{and_then-from}
 use Rattle.netlist_meaning.proofs.Places.{weight_is_sum}
 
 and_then-append : {X : Type 0} (f g h : X → Option X) → ((x : X) → f x ≡ option_and_then g (h x)) → (o : Option X) → option_and_then f o ≡ option_and_then g (option_and_then h o)

@@ -14,8 +14,8 @@ use Rattle.netlist_meaning.specs.Nets.{Net, net_at, IsControl, WithoutControl, n
 use Rattle.netlist_meaning.specs.Roots.{root, root_below, NamesFormalsOnce}
 use Rattle.netlist_meaning.specs.Laws.{InNamesAreThere}
 use Rattle.netlist_meaning.proofs.Names.{and_then-from}
+use Rattle.std.proofs.lemmas.Bool.{and_parts, and_from}
 use Rattle.netlist_meaning.proofs.Roots.{joined_is_same_root}
-use Rattle.netlist_meaning.proofs.CoverValue.{both_true, and_true}
 use Rattle.netlist_meaning.proofs.Depth.{weight_is_sum_over_all, or_left, or_right, either}
 
 -- an element that passes is found, and what is found is one that passes
@@ -55,8 +55,8 @@ is_top_net name net = bytes_eq net.place [] && bytes_eq net.name name
 top_net-Decides : (name : Name) (net : Net) → Decides (is_top_net name net) (net ≡ net_at [] name)
 unfolding is_top_net
 top_net-Decides name net = (
-  λ e. let (p, n) = both_true _ _ e in ap (λ place. net_at place net.name) ((bytes_eq-Decides net.place []).0 p) ∙ ap (net_at []) ((bytes_eq-Decides net.name name).0 n),
-  λ e. and_true _ _ ((bytes_eq-Decides net.place []).1 (ap (λ x. x.place) e)) ((bytes_eq-Decides net.name name).1 (ap (λ x. x.name) e)),
+  λ e. let (p, n) = and_parts _ _ e in ap (λ place. net_at place net.name) ((bytes_eq-Decides net.place []).0 p) ∙ ap (net_at []) ((bytes_eq-Decides net.name name).0 n),
+  λ e. and_from _ _ ((bytes_eq-Decides net.place []).1 (ap (λ x. x.place) e)) ((bytes_eq-Decides net.name name).1 (ap (λ x. x.name) e)),
 )
 
 -- a net of the main model is its own root

@@ -1,14 +1,6 @@
 -- Names that are one, or two.
-use Rattle.std.proofs.Common.{ℕ, ◌≡◌, ◌≢◌, List, [], ◌∷◌, length, get_or, true, false, Option, Some, None, option_and_then, Contains, refl, sym, ap, ◌∙◌, arith, bytes_eq, true≢false}
-use Rattle.std.proofs.lemmas.Slice.Eq.{bytes_eq-Decides}
+use Rattle.std.proofs.Common.{◌≡◌, List, [], ◌∷◌, length, get_or, Option, Some, None, option_and_then, Contains, refl, sym, ap, ◌∙◌, arith}
 use Rattle.std.proofs.lemmas.Option.{none-some}
-use Rattle.std.proofs.lemmas.Bool.{false_from_ne_true}
-
-pub bytes_eq-same : (x : List ℕ) → bytes_eq x x ≡ true
-bytes_eq-same x = (bytes_eq-Decides x x).1 refl
-
-pub bytes_eq-other : (x y : List ℕ) → x ≢ y → bytes_eq x y ≡ false
-bytes_eq-other x y apart = false_from_ne_true (bytes_eq x y) (λ e. apart ((bytes_eq-Decides x y).0 e))
 
 -- what `and_then` found, it found in something
 pub and_then-from : {X Y : Type 0} (f : X → Option Y) (o : Option X) (y : Y) → option_and_then f o ≡ Some y → (x : X) × (o ≡ Some x) × (f x ≡ Some y)
@@ -21,7 +13,3 @@ contains-one xs y x e (k, lt, is) =
     let one : length xs ≡ 1 = ap length e in
     let at_0 : k ≡ 0 = omega arith in
     sym is ∙ ap (λ j. get_or xs j x) at_0 ∙ ap (λ zs. get_or zs 0 x) e
-
--- names that differ, by computing
-pub apart_by : (x y : List ℕ) → bytes_eq x y ≡ false → x ≢ y
-apart_by x y differs same = true≢false (sym ((bytes_eq-Decides x y).1 same) ∙ differs)

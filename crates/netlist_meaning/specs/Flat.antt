@@ -1,11 +1,15 @@
 -- Flat netlists: what drives and what reads a class of joined nets. Nothing here asks for a design.
-use Rattle.std.specs.Prelude.{ℕ, ◌≡◌, ◌<◌, ◌^◌, ◌⊎◌, List, [], length, map, get_or, slice_get, false, Some, Contains, All, MatchOption, ⊤}
+use Rattle.std.specs.Prelude.{ℕ, ◌≡◌, ◌≢◌, ◌<◌, ◌≤◌, ◌+◌, ◌*◌, ◌^◌, ◌⊎◌, ◌==◌, ◌&&◌, ◌||◌, not, Bool, List, [], length, map, filter, sum_by, get_or, slice_get, false, Some, Contains, All, AllPairs, MatchOption, ⊤}
+use Rattle.std.specs.List.{list_any}
+use Rattle.std.specs.Option.{option_map_or}
 use Rattle.netlist_core.specs.declared.flat.NetId.{NetId}
 use Rattle.netlist_core.specs.declared.flat.Net.{Net as FlatNet}
 use Rattle.netlist_core.specs.declared.flat.FlatPort.{FlatPort}
 use Rattle.netlist_core.specs.declared.flat.FlatLatch.{FlatLatch}
 use Rattle.netlist_core.specs.declared.flat.Node.{Node}
 use Rattle.netlist_core.specs.declared.flat.Flat.{Flat}
+use Rattle.netlist_core.specs.Names.{Name}
+use Rattle.netlist_core.specs.OwnWeight.{rows_weight}
 
 -- what stands where there is no net or node of that number
 abbrev pub no_net : FlatNet
@@ -21,6 +25,10 @@ IsNetId flat id = id.0 < length flat.nets
 -- the class of a net
 abbrev pub class_of : Flat → NetId → ℕ
 class_of flat id = (get_or flat.nets id.0 no_net).class
+
+-- the name of a net at its place
+abbrev pub name_of_net : Flat → NetId → Name
+name_of_net flat id = (get_or flat.nets id.0 no_net).name
 
 abbrev pub node_at : Flat → ℕ → Node
 node_at flat n = get_or flat.nodes n no_node
@@ -51,7 +59,16 @@ FlatDrives flat (node n) class = (n < length flat.nodes) × (out_class flat n �
 abbrev pub IsClockClass : Flat → ℕ → Type 0
 IsClockClass flat class = MatchOption flat.control ⊥ (λ id. class_of flat id ≡ class) ⊎ (Contains (port_classes flat flat.clocks) class × ¬ Contains (port_classes flat flat.ins) class)
 
--- every number is in range. Class numbers are below the number of nets, so that a table of classes is no longer than the nets
+-- the same as a test (`is_clock_class-Decides`), and the nets but the clock nets, in order
+abbrev pub is_clock_class : Flat → ℕ → Bool
+is_clock_class flat class =
+    option_map_or (λ id. class_of flat id == class) flat.control false
+    || (list_any (λ clock. clock == class) (port_classes flat flat.clocks) && not (list_any (λ input. input == class) (port_classes flat flat.ins)))
+
+abbrev pub nets_but_clocks : Flat → List FlatNet
+nets_but_clocks flat = filter (λ net. not (is_clock_class flat net.class)) flat.nets
+
+-- every number is in range, and the numbers of nodes are u32, as an order has them. Class numbers are below the number of nets, so that a table of classes is no longer than the nets
 pub record IsInRange (flat : Flat) : Type 0 where
   pub few : length flat.nodes < 2 ^ 32
   pub classes : All (λ net. net.class < length flat.nets) flat.nets
@@ -65,6 +82,7 @@ pub record IsInRange (flat : Flat) : Type 0 where
   pub node_outs : All (λ node. IsNetId flat node.out) flat.nodes
 
 -- A sound netlist: each class but the clocks' has exactly one driver, and clock classes are neither read nor driven.
+-- Latches may still differ in type or clock.
 pub record IsSound (flat : Flat) : Type 0 where
   pub in_range : IsInRange flat
   pub one_driver : (class : ℕ) (d e : FlatDriver) → FlatDrives flat d class → FlatDrives flat e class → d ≡ e
@@ -73,3 +91,19 @@ pub record IsSound (flat : Flat) : Type 0 where
   pub clocks_unread : (n class : ℕ) → Contains (in_classes flat n) class → ¬ IsClockClass flat class
   pub clocks_no_outs : All (λ port. ¬ IsClockClass flat (class_of flat port.net)) flat.outs
   pub clocks_no_data : All (λ latch. ¬ IsClockClass flat (class_of flat latch.input)) flat.latches
+
+-- The weight bounds the parts: nets, ports, latches and covers. Twice the weight is a u32.
+pub record IsWeighed (flat : Flat) : Type 0 where
+  pub nets : length flat.nets ≤ flat.weight
+  pub parts : length flat.ins + length flat.outs + 2 * length flat.latches + sum_by (λ node. rows_weight node.rows) flat.nodes ≤ flat.weight
+  pub few : flat.weight < 2 ^ 31
+
+-- ports of the main model, with distinct names
+pub record AreNamedPorts (flat : Flat) (ports : List FlatPort) : Type 0 where
+  pub main : All (λ port. (get_or flat.nets port.net.0 no_net).place ≡ []) ports
+  pub distinct : AllPairs (λ a b. a ≢ b) (map (λ port. name_of_net flat port.net) ports)
+
+-- The names of inputs are distinct, and so are those of outputs: so a table of them can be read back.
+pub record IsNamed (flat : Flat) : Type 0 where
+  pub ins : AreNamedPorts flat flat.ins
+  pub outs : AreNamedPorts flat flat.outs

@@ -19,7 +19,7 @@ use Rattle.netlist_meaning.specs.Roots.{root}
 use Rattle.netlist_meaning.specs.Weight.{weight}
 use Rattle.netlist_meaning.specs.InOrder.{of_some, places_in_order, nets_in_order}
 
--- the position of a net among nets, or their number where it is none of them
+-- the position of a net among nets, or the length of the list where it is none of them
 abbrev pub is_same_net : Net → Net → Bool
 is_same_net a b = bytes_eq a.place b.place && bytes_eq a.name b.name
 
@@ -79,8 +79,8 @@ pub data PortsWithoutControl (design : Design) : List Port → List Port → Typ
 abbrev pub first_control : List FlatLatch → Option NetId
 first_control latches = option_and_then (λ latch. latch.control) (slice_get latches 0)
 
--- The inputs leave out what is joined with the control of any latch, and the flat netlist's control is the first latch's:
--- these agree where all latches have one clock.
+-- What is joined with the control of any latch is left out of the inputs, and the flat netlist's control is the first
+-- latch's: these agree where all latches have one clock, and with latches of two clocks no command uses them.
 pub record IsFlatOf (design : Design) (flat : Flat) : Type 0 where
   pub in_ports : List Port
   pub are_in_ports : PortsWithoutControl design (main_ports (λ model. model.ins) design) in_ports

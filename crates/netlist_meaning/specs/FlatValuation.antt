@@ -1,5 +1,5 @@
 -- What a flat netlist means: bits for its classes that solve the equations of its inputs, latches and nodes.
-use Rattle.std.specs.Prelude.{ℕ, ◌≡◌, ◌<◌, List, map, length, Bool}
+use Rattle.std.specs.Prelude.{ℕ, ◌≡◌, ◌<◌, List, map, length, Bool, ◌==◌}
 use Rattle.netlist_core.specs.declared.flat.Flat.{Flat}
 use Rattle.netlist_meaning.specs.CoverValue.{cover_value}
 use Rattle.netlist_meaning.specs.Flat.{class_of, node_at, out_class, FlatDriver, FlatDrives}
@@ -17,6 +17,10 @@ pub record IsFlatValuation (flat : Flat) (inputs state : List Bool) (bits : ℕ 
 -- two such valuations are one and the same where they agree on each class that is driven
 abbrev pub AgreeWhereDriven : Flat → (ℕ → Bool) → (ℕ → Bool) → Type 0
 AgreeWhereDriven flat bits others = (class : ℕ) (d : FlatDriver) → FlatDrives flat d class → bits class ≡ others class
+
+-- the start: a latch with init 1 is 1, each other is 0
+abbrev pub start_bits : Flat → List Bool
+start_bits flat = map (λ latch. latch.init == 1) flat.latches
 
 -- one cycle: from inputs and state to the bits of the main outputs and the next state, which is that of the latches' inputs
 pub record IsCycle (flat : Flat) (inputs state outputs next : List Bool) : Type 0 where

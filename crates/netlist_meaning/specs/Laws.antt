@@ -1,17 +1,17 @@
 -- What is proved of the definitions, for every design.
-use Rattle.std.specs.Prelude.{◌⊎◌, slice_get, true, false, Any, ◌≢◌, ◌<◌, ◌++◌, [], Some, ℕ, ◌&&◌, cond, length, nat_lt, is_some, bytes_eq, count_by, sum_by, ◌≡◌, ◌↔◌, Bool, List, IsTrue}
+use Rattle.std.specs.Prelude.{true, ◌⊎◌, ◌≢◌, ◌<◌, ◌++◌, [], Some, ℕ, ◌&&◌, cond, length, nat_lt, is_some, bytes_eq, count_by, sum_by, ◌≡◌, ◌↔◌, Bool, List, IsTrue}
 use Rattle.std.specs.Cmp.{IsEquivalence}
 use Rattle.netlist_core.specs.declared.model.Design.{Design}
+use Rattle.netlist_core.specs.declared.flat.Flat.{Flat}
+use Rattle.netlist_meaning.specs.Flat.{is_clock_class, IsClockClass}
 use Rattle.netlist_core.specs.declared.model.Model.{Model}
 use Rattle.netlist_core.specs.Names.{Name}
 use Rattle.netlist_meaning.specs.Places.{Place, model_at, IsPlace, IsBefore}
-use Rattle.netlist_meaning.specs.Nets.{Net, IsNet, IsPinned, Joined, IsClockNet, IsInNames}
+use Rattle.netlist_meaning.specs.Nets.{Net, IsPinned, Joined, IsClockNet, IsInNames}
 use Rattle.netlist_meaning.specs.Roots.{NamesFormalsOnce}
-use Rattle.netlist_meaning.specs.Clocks.{IsClockUse, IsTwoClocks, IsClockRead}
 use Rattle.netlist_meaning.specs.Weight.{weight, of_model}
 use Rattle.netlist_core.specs.OwnWeight.{own_weight}
-use Rattle.netlist_meaning.specs.CoverValue.{cover_value}
-use Rattle.netlist_meaning.specs.Valuation.{Valuation, LatchState, IsValuation, AgreeOnNets, output_bits}
+use Rattle.netlist_meaning.specs.Valuation.{Valuation}
 
 -- joined nets are an equivalence that holds at each pin, and any test that is such an equivalence holds of joined nets
 pub record IsLeastEquivalence (design : Design) : Type 0 where
@@ -64,46 +64,16 @@ WeightIsSumOverAll =
     × ((place : Place) → count_by (bytes_eq place) places ≡ cond (is_some (model_at design place)) 1 0)
     × (weight design ≡ sum_by (λ place. of_model own_weight (model_at design place)) places)
 
--- each `1` of a row stands under a bit 1, and each `0` under a bit 0
-abbrev pub HoldsUnder : List ℕ → List Bool → Type 0
-HoldsUnder row bits =
-    (column : ℕ) (bit : Bool) → slice_get bits column ≡ Some bit
-    → (slice_get row column ≡ Some 49 → bit ≡ true) × (slice_get row column ≡ Some 48 → bit ≡ false)
-
--- rows that end in `1`: the value is 1 exactly when a row holds; rows that end in `0`: it is 0 exactly when one holds; no rows: it is 0
-pub record CoversSay : Type 0 where
-  pub on : (rows : List (List ℕ)) (bits : List Bool) → (cover_value rows true bits ≡ true) ↔ Any (λ row. HoldsUnder row bits) rows
-  pub no_rows : (on : Bool) (bits : List Bool) → cover_value [] on bits ≡ false
-  pub off : (rows : List (List ℕ)) (bits : List Bool) → rows ≢ [] → (cover_value rows false bits ≡ false) ↔ Any (λ row. HoldsUnder row bits) rows
-
 -- of two places exactly one is true: the first is before the other, they are one, or it is after it
 pub record PlacesAreOrdered : Type 0 where
   pub one_of_three : (p q : Place) → IsBefore p q ⊎ (p ≡ q) ⊎ IsBefore q p
   pub never_itself : (p : Place) → ¬ IsBefore p p
   pub goes_on : (p q r : Place) → IsBefore p q → IsBefore q r → IsBefore p r
 
--- a design has at most one latch that is named for two clocks
-abbrev pub TwoClocksAreOne : Type 0
-TwoClocksAreOne = (design : Design) (line other_line : ℕ) (word other_word : Name) → IsTwoClocks design line word → IsTwoClocks design other_line other_word → (line ≡ other_line) × (word ≡ other_word)
-
--- and at most one line on which a clock net is read or driven (its word is one where each line number is one line's, as in every text)
-abbrev pub ClockReadIsOnOneLine : Type 0
-ClockReadIsOnOneLine = (design : Design) (line other_line : ℕ) (word other_word : Name) → IsClockRead design line word → IsClockRead design other_line other_word → line ≡ other_line
-
 -- where no line names a formal with two actuals and no model stands inside a place of itself, there is a list of IN names
 abbrev pub InNamesAreThere : Type 0
 InNamesAreThere = (design : Design) → NamesFormalsOnce design → IsNotRecursive design → (names : List Name) × IsInNames design names
 
--- each formal is a name of the model that its line places, no line names one with two actuals, and no clock net is read or driven
-pub record IsWired (design : Design) : Type 0 where
-  pub formals_named : (outer inner : Net) → IsPinned design outer inner → IsNet design inner
-  pub formals_once : NamesFormalsOnce design
-  pub clocks_unread : (line position : ℕ) (net : Net) → ¬ IsClockUse design line position net
-
--- there a valuation is one by its bits at the design's nets alone, and so are the outputs
-pub record OnlyNetsMatter (design : Design) : Type 0 where
-  pub solves : (inputs : List Bool) (state : LatchState) (bits others : Valuation) → AgreeOnNets design bits others → IsValuation design inputs state bits → IsValuation design inputs state others
-  pub outputs : (bits others : Valuation) → AgreeOnNets design bits others → output_bits design bits ≡ output_bits design others
-
-abbrev pub WiredDesignsHaveNets : Type 0
-WiredDesignsHaveNets = (design : Design) → IsWired design → OnlyNetsMatter design
+-- the test of clock classes is right
+abbrev pub ClockClassesAreTested : Type 0
+ClockClassesAreTested = (flat : Flat) (class : ℕ) → (is_clock_class flat class ≡ true) ↔ IsClockClass flat class

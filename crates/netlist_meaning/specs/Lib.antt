@@ -1,6 +1,5 @@
 pub mod Places
 pub mod Nets
-pub mod Clocks
 pub mod Weight
 pub mod CoverValue
 pub mod Valuation
@@ -12,5 +11,3 @@ pub mod Flat
 pub mod FlatOrder
 pub mod FlatValuation
 pub mod FlatOf
-pub mod Instances
-pub mod Designs

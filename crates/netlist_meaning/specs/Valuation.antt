@@ -49,17 +49,17 @@ data_bit bits None = false
 data_bit bits (Some latch) = bits latch.input
 
 -- the next state of a latch is its input net's bit
-abbrev pub next_state : Design → Valuation → LatchState
-next_state design bits place number = data_bit (bits place) (latch_at design place number)
+abbrev pub latches_after : Design → Valuation → LatchState
+latches_after design bits place number = data_bit (bits place) (latch_at design place number)
 
 -- the state of a cycle: at first the given one, and later the next state of the cycle before
-abbrev pub state_in : Design → LatchState → (ℕ → Valuation) → ℕ → LatchState
-state_in design start run zero = start
-state_in design start run (suc cycle) = next_state design (run cycle)
+abbrev pub latches_in : Design → LatchState → (ℕ → Valuation) → ℕ → LatchState
+latches_in design start run zero = start
+latches_in design start run (suc cycle) = latches_after design (run cycle)
 
 -- a valuation for each row of input bits, from a state on
 abbrev pub IsRunFrom : Design → LatchState → List (List Bool) → (ℕ → Valuation) → Type 0
-IsRunFrom design start rows run = (cycle : ℕ) (row : List Bool) → slice_get rows cycle ≡ Some row → IsValuation design row (state_in design start run cycle) (run cycle)
+IsRunFrom design start rows run = (cycle : ℕ) (row : List Bool) → slice_get rows cycle ≡ Some row → IsValuation design row (latches_in design start run cycle) (run cycle)
 
 -- a run: from the start state on. `run cycle` is the valuation of the cycle, from 0; from the number of rows on it means nothing
 abbrev pub IsRun : Design → List (List Bool) → (ℕ → Valuation) → Type 0

@@ -2,7 +2,7 @@
 
 ghost use Rattle.netlist_core.specs.declared.model.Design.{Design};
 ghost use Rattle.netlist_meaning.specs.Roots.{JoinedIsSameRoot, RootsAreNearest};
-ghost use Rattle.netlist_meaning.specs.Laws.{IsLeastEquivalence, PinsAreEnough, InNamesAreOne, WeightIsSum, PlacesAreShallow, WeightIsSumOverAll, CoversSay, PlacesAreOrdered, TwoClocksAreOne, ClockReadIsOnOneLine, InNamesAreThere, WiredDesignsHaveNets};
+ghost use Rattle.netlist_meaning.specs.Laws.{IsLeastEquivalence, PinsAreEnough, InNamesAreOne, WeightIsSum, PlacesAreShallow, WeightIsSumOverAll, PlacesAreOrdered, InNamesAreThere, ClockClassesAreTested};
 
 /// Joined nets are the least equivalence in which each pin joins its actual with its formal.
 pub fn joined_is_the_least_equivalence()
@@ -45,25 +45,9 @@ pub fn weight_is_the_sum_over_all_places()
     ensures { WeightIsSumOverAll }
 {}
 
-/// A cover of rows that end in `1` gives 1 exactly when in one of its rows each `1` stands under a bit 1 and each `0`
-/// under a bit 0; one of rows that end in `0` gives 0 exactly then.
-pub fn covers_say_what_their_rows_say()
-    ensures { CoversSay }
-{}
-
 /// Of two places one is before the other, or they are one; never both; and the order goes on.
 pub fn places_are_ordered()
     ensures { PlacesAreOrdered }
-{}
-
-/// A design has at most one latch that is named for two clocks.
-pub fn two_clocks_are_one()
-    ensures { TwoClocksAreOne }
-{}
-
-/// A design has at most one line that is named for a clock net that is read or driven.
-pub fn clock_read_is_on_one_line()
-    ensures { ClockReadIsOnOneLine }
 {}
 
 /// Where no line names a formal with two actuals and no model stands inside a place of itself, there is a list of IN names.
@@ -71,8 +55,7 @@ pub fn in_names_are_there()
     ensures { InNamesAreThere }
 {}
 
-/// Where each formal is a name of its model, no line names one with two actuals, and no clock net is read or driven, a
-/// valuation is one by its bits at the design's nets alone, and these give the outputs.
-pub fn wired_designs_have_nets()
-    ensures { WiredDesignsHaveNets }
+/// The test of clock classes is right.
+pub fn clock_classes_are_tested()
+    ensures { ClockClassesAreTested }
 {}

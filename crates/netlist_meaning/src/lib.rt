@@ -4,9 +4,10 @@
 ghost use Rattle.std.specs.Prelude.{◌≡◌};
 ghost use Rattle.netlist_meaning.specs.CoverValue.{fits, product_holds, any_holds, cover_value};
 
-pub mod instances;
+mod classes;
 pub mod laws;
 
+pub use classes::class_of;
 use lists::Bytes;
 use netlist_core::Cover;
 

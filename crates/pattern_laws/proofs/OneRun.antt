@@ -1,71 +1,15 @@
 -- No two runs of cells overlap.
-use Rattle.std.proofs.Common.{ℕ, zero, suc, ◌+◌, ◌≡◌, ◌≢◌, ◌<◌, ◌≤◌, inl, inr, ◌⊎◌, refl, sym, Bool, true, false, not, ◌&&◌, ◌==◌, List, [], ◌∷◌, ◌++◌, map, length, take, arith}
-use Rattle.std.specs.Prelude.{if◌then◌else◌, nat_le, nat_lt, Option, Some, None, filter_map, take_while}
-use Rattle.std.specs.List.{AllByRecursion, prefix_len, cons_option}
+use Rattle.std.proofs.Common.{ℕ, zero, suc, ◌+◌, ◌≡◌, ◌≢◌, ◌<◌, ◌≤◌, inl, inr, ◌⊎◌, refl, sym, Bool, true, false, not, ◌&&◌, ◌==◌, List, [], ◌∷◌, length, take, arith}
+use Rattle.std.specs.Prelude.{if◌then◌else◌, nat_le, nat_lt, Some, None, filter_map, take_while}
+use Rattle.std.specs.List.{prefix_len, cons_option}
 use Rattle.std.proofs.lemmas.Bool.{and_parts, eqb-true, leb-true, ltb-true}
 use Rattle.ww_rule.specs.declared.pattern.State.{State}
-use Rattle.ww_rule.specs.declared.pattern.State.TheVariants.{Empty, Head, Tail, Conductor}
-use Rattle.pattern_reading.specs.Lines.{Line}
-use Rattle.pattern_reading.specs.Numbers.{number_in}
-use Rattle.pattern_reading.specs.Header.{is_comment, lines_after_header}
-use Rattle.pattern_reading.specs.Items.{Item, Cells, RowEnds, End, Blank, CutOff, NoItem, LineItem, Piece, column_after, counted_item, is_end, item_in, item_with_count, items_of_line, items_of_lines, pieces_of, placed_after, row_after}
+use Rattle.pattern_reading.specs.Header.{lines_after_header}
+use Rattle.pattern_reading.specs.Items.{Item, Cells, RowEnds, End, Blank, CutOff, NoItem, LineItem, IsCounted, column_after, is_end, placed_after, row_after}
 use Rattle.pattern_reading.specs.Pattern.{items_after_header, state_in}
 use Rattle.pattern_reading.specs.Laws.{HasOneRun}
 use Rattle.pattern_reading.proofs.Places.{next_place}
-
--- an end of rows ends at least one
-abbrev IsCounted : Item → Type 0
-IsCounted (RowEnds n) = n ≢ 0
-IsCounted _ = Unit {0}
-
-choose : (a b c d e : Bool) (n : ℕ) → n ≢ 0 → IsCounted (if a then Cells n Empty else if b then Cells n Head else if c then Cells n Tail else if d then Cells n Conductor else if e then RowEnds n else NoItem)
-choose true b c d e n h = tt
-choose false true c d e n h = tt
-choose false false true d e n h = tt
-choose false false false true e n h = tt
-choose false false false false true n h = h
-choose false false false false false n h = tt
-
-counted_is : (n tag : ℕ) → n ≢ 0 → IsCounted (counted_item n tag)
-counted_is n tag h = choose _ _ _ _ _ n h
-
-with_count : (o : Option ℕ) (tag : ℕ) → IsCounted (item_with_count o tag)
-with_count None tag = tt
-with_count (Some zero) tag = tt
-with_count (Some (suc n)) tag = counted_is (suc n) tag (λ e. omega (arith, e))
-
-without_count : (a b : Bool) (tag : ℕ) → IsCounted (if a then End else if b then Blank else counted_item 1 tag)
-without_count true b tag = tt
-without_count false true tag = tt
-without_count false false tag = counted_is 1 tag (λ e. omega (arith, e))
-
-piece_counted : (is_ended : Bool) (digits : List ℕ) (tag : Option ℕ) → IsCounted (item_in is_ended digits tag)
-piece_counted true digits None = tt
-piece_counted false digits None = tt
-piece_counted is_ended [] (Some tag) = without_count _ _ tag
-piece_counted is_ended (d ∷ ds) (Some tag) = with_count (number_in (d ∷ ds)) tag
-
-abbrev AreCounted : List LineItem → Type 0
-AreCounted items = AllByRecursion (λ i. IsCounted i.item) items
-
-pieces_counted : (line : Line) (pieces : List Piece) → AreCounted (map (λ piece. record { line = line.number; item = item_in line.is_ended piece.digits piece.tag }) pieces)
-pieces_counted line [] = tt
-pieces_counted line (piece ∷ pieces) = (piece_counted line.is_ended piece.digits piece.tag, pieces_counted line pieces)
-
-line_counted : (line : Line) → AreCounted (items_of_line line)
-line_counted line = by_test (is_comment line)
-  where
-    by_test : (b : Bool) → AreCounted (if b then [] else map (λ (piece : Piece). record { line = line.number; item = item_in line.is_ended piece.digits piece.tag }) (pieces_of line.bytes))
-    by_test true = tt
-    by_test false = pieces_counted line (pieces_of line.bytes)
-
-both_counted : (xs ys : List LineItem) → AreCounted xs → AreCounted ys → AreCounted (xs ++ ys)
-both_counted [] ys h k = k
-both_counted (x ∷ xs) ys h k = (h.0, both_counted xs ys h.1 k)
-
-lines_counted : (lines : List Line) → AreCounted (items_of_lines lines)
-lines_counted [] = tt
-lines_counted (line ∷ lines) = both_counted (items_of_line line) (items_of_lines lines) (line_counted line) (lines_counted lines)
+use Rattle.pattern_reading.proofs.Counted.{AreCounted, lines_counted}
 
 front_counted : (n : ℕ) (items : List LineItem) → AreCounted items → AreCounted (take n items)
 front_counted zero items h = tt
@@ -117,7 +61,7 @@ none_before x y (i ∷ items) before h k = by_item i.item h.0 (λ j. none_before
         run_before x y (column_after before) (row_after before) n state _ k (rest (rw (next.0, next.1) (later_column x y (column_after before) (row_after before) n k)))
     by_item (RowEnds n) some rest =
         let next = next_place (RowEnds n) before in
-        rest (rw (next.0, next.1) (later_row x y (column_after before) (row_after before) n some k))
+        rest (rw (next.0, next.1) (later_row x y (column_after before) (row_after before) n (λ e. omega (arith, some, e)) k))
     by_item End some rest = let next = next_place End before in rest (rw (next.0, next.1) k)
     by_item Blank some rest = let next = next_place Blank before in rest (rw (next.0, next.1) k)
     by_item CutOff some rest = let next = next_place CutOff before in rest (rw (next.0, next.1) k)

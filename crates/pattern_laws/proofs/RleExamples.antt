@@ -1,8 +1,7 @@
 -- What the examples claim, by computing the verdict on each text.
-use Rattle.std.proofs.Common.{ℕ, ◌≡◌, refl, List, [], ◌∷◌, arith, rules}
+use Rattle.std.proofs.Common.{◌≡◌, refl, List, [], ◌∷◌, arith, rules}
 use Rattle.std.specs.Prelude.{Some, None}
 use Rattle.std.specs.List.{AllByRecursion}
-use Rattle.ww_rule.specs.Grid.{Grid}
 use Rattle.pattern_reading.specs.Pattern.{IsGridTooLarge}
 use Rattle.pattern_laws.specs.Examples.{PatternExample, RleFaultExample, ReadsAsSaid, HasSaidFault, header_examples, header_fault_examples, item_examples, item_fault_examples, end_fault_examples, too_large_texts, large_texts}
 use Rattle.pattern_reading.proofs.RleVerdict.{rle_verdict, grid_of, verdict_fault, verdict_pattern}

@@ -5,9 +5,7 @@
 mod examples;
 mod laws;
 
-pub use examples::{
-    faults_of_patterns, faults_of_ports, large_boxes, patterns_read, ports_read,
-};
+pub use examples::{faults_of_patterns, faults_of_ports, large_boxes, patterns_read, ports_read};
 pub use laws::{
     line_laws, pattern_laws, place_laws, port_laws, reader_laws, spelled_pattern_laws,
     spelled_table_laws, whole_laws,

@@ -10,7 +10,7 @@ use Rattle.pattern_reading.specs.declared.faults.RleFaultKind.{RleFaultKind}
 use Rattle.pattern_reading.specs.Lines.{Line, lines_of}
 use Rattle.pattern_reading.specs.Numbers.{◌>>=◌}
 use Rattle.pattern_reading.specs.Header.{is_comment, is_skipped, header_line, lines_after_header}
-use Rattle.pattern_reading.specs.Items.{Item, LineItem, Piece, Placed, is_end, item_in, items_of_line, items_of_lines, pieces_of, placed_after}
+use Rattle.pattern_reading.specs.Items.{Item, LineItem, TaggedDigits, Placed, is_end, item_in, items_of_line, items_of_lines, pieces_of, placed_after}
 use Rattle.pattern_reading.specs.Pattern.{HasBox, ReadsAsPattern, RleFaultAt, fault_at, has_end, item_fault, item_faults, items_after_header, placed_items, state_at, state_in}
 use Rattle.pattern_reading.specs.Laws.{later_by}
 
@@ -69,7 +69,7 @@ later_fault k f = record f { line = k f.line }
 items_of_later_line : (k : ℕ → ℕ) (line : Line) → items_of_line (renumbered k line) ≡ map (later_item k) (items_of_line line)
 items_of_later_line k line = by_test (is_comment line)
   where
-    by_test : (b : Bool) → (if b then [] else map (λ (piece : Piece). record { line = k line.number; item = item_in line.is_ended piece.digits piece.tag }) (pieces_of line.bytes)) ≡ map (later_item k) (if b then [] else map (λ (piece : Piece). record { line = line.number; item = item_in line.is_ended piece.digits piece.tag }) (pieces_of line.bytes))
+    by_test : (b : Bool) → (if b then [] else map (λ (piece : TaggedDigits). record { line = k line.number; item = item_in line.is_ended piece.digits piece.tag }) (pieces_of line.bytes)) ≡ map (later_item k) (if b then [] else map (λ (piece : TaggedDigits). record { line = line.number; item = item_in line.is_ended piece.digits piece.tag }) (pieces_of line.bytes))
     by_test true = refl
     by_test false = sym (map-map (later_item k) _ (pieces_of line.bytes))
 
@@ -97,7 +97,7 @@ comment_line bytes = record { number = 1; bytes = 35 ∷ bytes; is_ended = true 
 abbrev pub HasCommentBefore : List ℕ → List ℕ → List ℕ → Type 0
 HasCommentBefore more bytes text = lines_of more ≡ comment_line bytes ∷ map (later_by 1) (lines_of text)
 
-drop_past : (n : ℕ) (line : Line) (lines : List Line) → drop (1 + n + 1) (line ∷ lines) ≡ drop (n + 1) lines
+pub drop_past : (n : ℕ) (line : Line) (lines : List Line) → drop (1 + n + 1) (line ∷ lines) ≡ drop (n + 1) lines
 drop_past n line lines = let shifted : 1 + n + 1 ≡ suc (n + 1) = omega arith in rw shifted refl
 
 module _ (more bytes text : List ℕ) (e : HasCommentBefore more bytes text) where

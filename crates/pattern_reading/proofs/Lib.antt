@@ -17,3 +17,4 @@ pub mod Ranges
 pub mod PortsInside
 pub mod PortForms
 pub mod SoundLines
+pub mod Counted

@@ -1,5 +1,5 @@
 -- The items of extended RLE, by Golly's description: a run of cells, the end of rows, or the end of the pattern.
-use Rattle.std.specs.Prelude.{ℕ, zero, suc, Bool, true, false, ◌||◌, not, ◌==◌, if◌then◌else◌, List, [], ◌∷◌, map, Option, Some, None, sum_by, take_while, flat_map}
+use Rattle.std.specs.Prelude.{ℕ, ◌<◌, zero, suc, Bool, true, false, ◌||◌, not, ◌==◌, if◌then◌else◌, List, [], ◌∷◌, map, Option, Some, None, sum_by, take_while, flat_map}
 use Rattle.std.specs.Str.{byte}
 use Rattle.std.specs.Char.{is_ascii_digit}
 use Rattle.ww_rule.specs.declared.pattern.State.{State}
@@ -9,17 +9,17 @@ use Rattle.pattern_reading.specs.Numbers.{is_blank, number_in}
 use Rattle.pattern_reading.specs.Header.{is_comment}
 
 -- a byte that is no digit, with the digits directly before it; where the line ends with digits, they are a piece without such a byte
-pub record Piece : Type 0 where
+pub record TaggedDigits : Type 0 where
   pub digits : List ℕ
   pub tag : Option ℕ
 
 -- a digit put before the first of these pieces
-abbrev pub onto_first_piece : ℕ → List Piece → List Piece
+abbrev pub onto_first_piece : ℕ → List TaggedDigits → List TaggedDigits
 onto_first_piece d [] = record { digits = d ∷ []; tag = None } ∷ []
 onto_first_piece d (piece ∷ pieces) = record piece { digits = d ∷ piece.digits } ∷ pieces
 
 -- the pieces of a line: each byte that is no digit ends one
-abbrev pub pieces_of : List ℕ → List Piece
+abbrev pub pieces_of : List ℕ → List TaggedDigits
 pieces_of [] = []
 pieces_of (b ∷ bs) =
     let of_rest = pieces_of bs in
@@ -115,3 +115,9 @@ abbrev pub placed_after : List Item → List LineItem → List Placed
 placed_after before [] = []
 placed_after before (i ∷ is) =
     record { line = i.line; x = column_after before; y = row_after before; item = i.item } ∷ placed_after (i.item ∷ before) is
+
+-- a count is at least 1
+abbrev pub IsCounted : Item → Type 0
+IsCounted (Cells n state) = 0 < n
+IsCounted (RowEnds n) = 0 < n
+IsCounted _ = Unit {0}

@@ -66,15 +66,15 @@ abbrev pub port_faults : List ℕ → ℕ → ℕ → List PortFaultAt
 port_faults text width height = faults_after width height [] (table_of text)
 
 -- the period and the latency of the version line; 32 and 0 where there is none
-abbrev pub period_of : List PortForm → ℕ
-period_of [] = 32
-period_of (Version p l ∷ forms) = p
-period_of (_ ∷ forms) = period_of forms
+abbrev pub period_in : List PortForm → ℕ
+period_in [] = 32
+period_in (Version p l ∷ forms) = p
+period_in (_ ∷ forms) = period_in forms
 
-abbrev pub latency_of : List PortForm → ℕ
-latency_of [] = 0
-latency_of (Version p l ∷ forms) = l
-latency_of (_ ∷ forms) = latency_of forms
+abbrev pub latency_in : List PortForm → ℕ
+latency_in [] = 0
+latency_in (Version p l ∷ forms) = l
+latency_in (_ ∷ forms) = latency_in forms
 
 abbrev pub input_of : PortForm → Option PortLine
 input_of (In port) = Some port
@@ -91,8 +91,8 @@ net_of _ = None
 -- the table that lines of these forms make, each kind in the order of the lines
 abbrev pub ports_of : List PortForm → Ports
 ports_of forms = record {
-  p = period_of forms;
-  l = latency_of forms;
+  p = period_in forms;
+  l = latency_in forms;
   ins = filter_map input_of forms;
   outs = filter_map output_of forms;
   nets = filter_map net_of forms;

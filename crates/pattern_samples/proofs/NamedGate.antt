@@ -1,7 +1,6 @@
 -- The text of an OR gate with any names.
-use Rattle.std.proofs.Common.{ℕ, ◌≡◌, ◌≢◌, refl, sym, Bool, true, false, List, [], arith}
+use Rattle.std.proofs.Common.{ℕ, ◌≢◌, refl, sym, List, [], arith}
 use Rattle.std.specs.List.{AllByRecursion}
-use Rattle.std.specs.Str.{bytes_eq}
 use Rattle.lists.proofs.Names.{bytes_eq-other}
 use Rattle.pattern_writing.specs.Samples.{or_items_text}
 use Rattle.pattern_reading.specs.Spelling.{IsPortName, IsSpellable, IsSoundAfter}

@@ -3,7 +3,7 @@ use Rattle.std.proofs.Common.{◌≡◌, ◌≤◌, ◌<◌, ℕ, ◌+◌, Bool,
 use Rattle.std.specs.List.{AllByRecursion}
 use Rattle.std.proofs.lemmas.Bool.{leb-true, leb-false}
 use Rattle.std.proofs.lemmas.List.{length-append}
-use Rattle.pattern_writing.specs.Writer.{fits, lines_text, wrapped}
+use Rattle.pattern_writing.specs.Writer.{fits_after, ended_lines, wrapped}
 use Rattle.pattern_writing.specs.Laws.{AreOnLines, BreaksAfter, HasNeededBreaks, IsShort, WrappedIsLines, joined}
 
 -- how items go on where a line has so many bytes: more of them on this line, and the rest on lines of their own
@@ -11,7 +11,7 @@ record IsFilled (used : ℕ) (items : List (List ℕ)) : Type 0 where
   more : List (List ℕ)
   rest : List (List (List ℕ))
   all : more ++ flat_map (λ line. line) rest ≡ items
-  text : joined more ++ 10 ∷ lines_text (map joined rest) ≡ wrapped used items ++ 10 ∷ []
+  text : joined more ++ 10 ∷ ended_lines (map joined rest) ≡ wrapped used items ++ 10 ∷ []
   room : used + length (joined more) ≤ 70
   short : AllByRecursion (λ line. length (joined line) ≤ 70) rest
   after : BreaksAfter (used + length (joined more)) rest
@@ -21,7 +21,7 @@ record IsFilled (used : ℕ) (items : List (List ℕ)) : Type 0 where
 item_first : (item more rest body : List ℕ) → more ++ 10 ∷ rest ≡ body ++ 10 ∷ [] → (item ++ more) ++ 10 ∷ rest ≡ (item ++ body) ++ 10 ∷ []
 item_first item more rest body e = append_assoc item more (10 ∷ rest) ∙ ap (λ r. item ++ r) e ∙ sym (append_assoc item body (10 ∷ []))
 
-on_line : (used : ℕ) (item : List ℕ) (items : List (List ℕ)) → fits used item ≡ true → IsFilled (used + length item) items → IsFilled used (item ∷ items)
+on_line : (used : ℕ) (item : List ℕ) (items : List (List ℕ)) → fits_after used item ≡ true → IsFilled (used + length item) items → IsFilled used (item ∷ items)
 on_line used item items e h =
     let n : length (item ++ joined h.more) ≡ length item + length (joined h.more) = length-append item (joined h.more) in
     let sum : used + length (item ++ joined h.more) ≡ used + length item + length (joined h.more) = omega (arith, n) in
@@ -29,14 +29,14 @@ on_line used item items e h =
       more = item ∷ h.more;
       rest = h.rest;
       all = ap (λ is. item ∷ is) h.all;
-      text = rw e (item_first item (joined h.more) (lines_text (map joined h.rest)) (wrapped (used + length item) items) h.text);
+      text = rw e (item_first item (joined h.more) (ended_lines (map joined h.rest)) (wrapped (used + length item) items) h.text);
       room = rw sum h.room;
       short = h.short;
       after = rw sum h.after;
       breaks = h.breaks;
     }
 
-on_next_line : (used : ℕ) (item : List ℕ) (items : List (List ℕ)) → used ≤ 70 → fits used item ≡ false → IsFilled (length item) items → IsFilled used (item ∷ items)
+on_next_line : (used : ℕ) (item : List ℕ) (items : List (List ℕ)) → used ≤ 70 → fits_after used item ≡ false → IsFilled (length item) items → IsFilled used (item ∷ items)
 on_next_line used item items small e h =
     let n : length (item ++ joined h.more) ≡ length item + length (joined h.more) = length-append item (joined h.more) in
     let long : 70 < used + length item = leb-false _ _ e in
@@ -44,7 +44,7 @@ on_next_line used item items small e h =
       more = [];
       rest = (item ∷ h.more) ∷ h.rest;
       all = ap (λ is. item ∷ is) h.all;
-      text = rw e (ap (λ r. 10 ∷ r) (append_assoc (item ++ joined h.more) (10 ∷ []) (lines_text (map joined h.rest)) ∙ item_first item (joined h.more) (lines_text (map joined h.rest)) (wrapped (length item) items) h.text));
+      text = rw e (ap (λ r. 10 ∷ r) (append_assoc (item ++ joined h.more) (10 ∷ []) (ended_lines (map joined h.rest)) ∙ item_first item (joined h.more) (ended_lines (map joined h.rest)) (wrapped (length item) items) h.text));
       room = omega (arith, small);
       short = (rw n h.room, h.short);
       after = omega (arith, long);
@@ -53,9 +53,9 @@ on_next_line used item items small e h =
 
 filled : (used : ℕ) (items : List (List ℕ)) → used ≤ 70 → AllByRecursion IsShort items → IsFilled used items
 filled used [] small h = record { more = []; rest = []; all = refl; text = refl; room = omega (arith, small); short = tt; after = tt; breaks = tt }
-filled used (item ∷ items) small h = by_test (fits used item) refl (λ room. filled (used + length item) items room h.1) (filled (length item) items h.0 h.1)
+filled used (item ∷ items) small h = by_test (fits_after used item) refl (λ room. filled (used + length item) items room h.1) (filled (length item) items h.0 h.1)
   where
-    by_test : (t : Bool) → fits used item ≡ t → (used + length item ≤ 70 → IsFilled (used + length item) items) → IsFilled (length item) items → IsFilled used (item ∷ items)
+    by_test : (t : Bool) → fits_after used item ≡ t → (used + length item ≤ 70 → IsFilled (used + length item) items) → IsFilled (length item) items → IsFilled used (item ∷ items)
     by_test true e here next = on_line used item items e (here (leb-true _ _ e))
     by_test false e here next = on_next_line used item items small e next
 
@@ -64,7 +64,7 @@ on_lines items h =
     let sum : length (joined h.more) ≡ 0 + length (joined h.more) = omega arith in
     record {
       all = h.all;
-      text = append_assoc (joined h.more) (10 ∷ []) (lines_text (map joined h.rest)) ∙ h.text;
+      text = append_assoc (joined h.more) (10 ∷ []) (ended_lines (map joined h.rest)) ∙ h.text;
       short = (rw sum h.room, h.short);
       breaks = (rw sum h.after, h.breaks);
     }

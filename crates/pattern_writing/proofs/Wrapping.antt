@@ -1,7 +1,7 @@
 -- What wrapping puts between items.
 use Rattle.std.proofs.Common.{◌≡◌, ℕ, Bool, true, false, if◌then◌else◌, List, [], ◌∷◌, ◌++◌, flat_map, not, ◌==◌, refl, sym, ap, ◌∙◌, append_assoc}
 use Rattle.std.proofs.lemmas.List.Elements.{filter-append}
-use Rattle.pattern_writing.specs.Writer.{fits, line_break, used_after, wrapped}
+use Rattle.pattern_writing.specs.Writer.{fits_after, line_break, used_after, wrapped}
 use Rattle.pattern_writing.specs.Laws.{without_line_ends}
 
 break_left_out : (b : Bool) (rest : List ℕ) → without_line_ends ((if b then [] else 10 ∷ []) ++ rest) ≡ without_line_ends rest
@@ -16,7 +16,7 @@ wrapping_keeps used [] = refl
 wrapping_keeps used (item ∷ items) =
     let rest : List ℕ = wrapped (used_after used item) items in
     ap without_line_ends (append_assoc (line_break used item) item rest)
-    ∙ break_left_out (fits used item) (item ++ rest)
+    ∙ break_left_out (fits_after used item) (item ++ rest)
     ∙ joined item rest
     ∙ ap (λ l. without_line_ends item ++ l) (wrapping_keeps (used_after used item) items)
     ∙ sym (joined item (flat_map (λ i. i) items))

@@ -1,19 +1,19 @@
 -- What holds of the items of every list of tags.
 use Rattle.std.specs.Prelude.{◌≡◌, ◌≢◌, ◌<◌, ◌≤◌, ◌+◌, ℕ, List, [], ◌∷◌, ◌++◌, ◌==◌, not, filter, flat_map, length, map, replicate}
 use Rattle.std.specs.List.{AllByRecursion}
-use Rattle.pattern_writing.specs.Writer.{Item, lines_text, runs_of, wrapped}
+use Rattle.pattern_writing.specs.Writer.{TagRun, ended_lines, runs_of, wrapped}
 
 -- the tags that items stand for
-abbrev pub spelled : List Item → List ℕ
+abbrev pub spelled : List TagRun → List ℕ
 spelled items = flat_map (λ i. replicate i.count i.tag) items
 
 -- the first item, if there is one, has another tag
-abbrev pub BeginsWithAnother : ℕ → List Item → Type 0
+abbrev pub BeginsWithAnother : ℕ → List TagRun → Type 0
 BeginsWithAnother t [] = Unit {0}
 BeginsWithAnother t (i ∷ is) = t ≢ i.tag
 
 -- no two items side by side have one tag
-abbrev pub HasLongestRuns : List Item → Type 0
+abbrev pub HasLongestRuns : List TagRun → Type 0
 HasLongestRuns [] = Unit {0}
 HasLongestRuns (i ∷ is) = BeginsWithAnother i.tag is × HasLongestRuns is
 
@@ -53,7 +53,7 @@ HasNeededBreaks (line ∷ lines) = BreaksAfter (length (joined line)) lines × H
 -- line ends before an item that it has room for.
 pub record AreOnLines (items : List (List ℕ)) (lines : List (List (List ℕ))) : Type 0 where
   pub all : flat_map (λ line. line) lines ≡ items
-  pub text : lines_text (map joined lines) ≡ wrapped 0 items ++ 10 ∷ []
+  pub text : ended_lines (map joined lines) ≡ wrapped 0 items ++ 10 ∷ []
   pub short : AllByRecursion (λ line. length (joined line) ≤ 70) lines
   pub breaks : HasNeededBreaks lines
 

@@ -36,19 +36,19 @@ abbrev pub grid_tags : List (List State) → List ℕ
 grid_tags rows = without_end row_end (flat_map row_tags rows)
 
 -- a tag, and how often it stands
-pub record Item : Type 0 where
+pub record TagRun : Type 0 where
   pub count : ℕ
   pub tag : ℕ
 
 -- one more tag before items: it makes the first item longer, or one of its own
-abbrev pub with_tag : ℕ → List Item → List Item
+abbrev pub with_tag : ℕ → List TagRun → List TagRun
 with_tag t [] = record { count = 1; tag = t } ∷ []
 with_tag t (i ∷ is) =
     if t == i.tag then record { count = i.count + 1; tag = t } ∷ is
     else record { count = 1; tag = t } ∷ i ∷ is
 
 -- the runs of equal tags, each as long as it can be
-abbrev pub runs_of : List ℕ → List Item
+abbrev pub runs_of : List ℕ → List TagRun
 runs_of [] = []
 runs_of (t ∷ ts) = with_tag t (runs_of ts)
 
@@ -57,24 +57,24 @@ abbrev pub count_text : ℕ → List ℕ
 count_text n = if n == 1 then [] else decimal n
 
 -- the count, and the tag
-abbrev pub item_text : Item → List ℕ
-item_text i = count_text i.count ++ i.tag ∷ []
+abbrev pub run_text : TagRun → List ℕ
+run_text i = count_text i.count ++ i.tag ∷ []
 
 -- the items of the rows, with `!` after them
 abbrev pub item_texts : List (List State) → List (List ℕ)
-item_texts rows = map item_text (runs_of (grid_tags rows)) ++ codes "!" ∷ []
+item_texts rows = map run_text (runs_of (grid_tags rows)) ++ codes "!" ∷ []
 
 -- whether an item may stand on a line that has some bytes: a line has at most 70
-abbrev pub fits : ℕ → List ℕ → Bool
-fits used item = nat_le (used + length item) 70
+abbrev pub fits_after : ℕ → List ℕ → Bool
+fits_after used item = nat_le (used + length item) 70
 
 -- a line end, where the item does not fit on the line
 abbrev pub line_break : ℕ → List ℕ → List ℕ
-line_break used item = if fits used item then [] else 10 ∷ []
+line_break used item = if fits_after used item then [] else 10 ∷ []
 
 -- the bytes of the line that the item stands on, up to the item's end
 abbrev pub used_after : ℕ → List ℕ → ℕ
-used_after used item = if fits used item then used + length item else length item
+used_after used item = if fits_after used item then used + length item else length item
 
 -- the items on lines, none of them cut, begun on a line that has some bytes
 abbrev pub wrapped : ℕ → List (List ℕ) → List ℕ
@@ -87,10 +87,10 @@ header_text width height =
     codes "x = " ++ decimal width ++ codes ", y = " ++ decimal height ++ codes ", rule = WireWorld\n"
 
 -- lines, each with its line end
-abbrev pub lines_text : List (List ℕ) → List ℕ
-lines_text lines = flat_map (λ line. line ++ 10 ∷ []) lines
+abbrev pub ended_lines : List (List ℕ) → List ℕ
+ended_lines lines = flat_map (λ line. line ++ 10 ∷ []) lines
 
 -- the writer's text of a box of cells, with lines before it
 abbrev pub writer_text : Grid → List (List ℕ) → List ℕ
 writer_text grid lines =
-    lines_text lines ++ header_text grid.width grid.height ++ wrapped 0 (item_texts grid.rows) ++ 10 ∷ []
+    ended_lines lines ++ header_text grid.width grid.height ++ wrapped 0 (item_texts grid.rows) ++ 10 ∷ []

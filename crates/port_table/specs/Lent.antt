@@ -11,17 +11,17 @@ use Rattle.port_table.specs.declared.forms.NetWords.{NetWords}
 use Rattle.port_table.specs.declared.forms.PortForm.{PortForm}
 use Rattle.port_table.specs.declared.forms.PortForm.TheVariants.{Version, In, Out, Net}
 
-abbrev pub port_of : PortWords → PortLine
-port_of port = record { x = port.x; y = port.y; name = port.name.now }
+abbrev pub lent_port : PortWords → PortLine
+lent_port port = record { x = port.x; y = port.y; name = port.name.now }
 
-abbrev pub net_of : NetWords → NetLine
-net_of net = record { x = net.x; y = net.y; offset = net.offset; name = net.name.now; path = net.path.now }
+abbrev pub lent_net : NetWords → NetLine
+lent_net net = record { x = net.x; y = net.y; offset = net.offset; name = net.name.now; path = net.path.now }
 
 abbrev pub form_of : PortForm → lines.PortForm
 form_of (Version period latency) = lines.Version period latency
-form_of (In port) = lines.In (port_of port)
-form_of (Out port) = lines.Out (port_of port)
-form_of (Net net) = lines.Net (net_of net)
+form_of (In port) = lines.In (lent_port port)
+form_of (Out port) = lines.Out (lent_port port)
+form_of (Net net) = lines.Net (lent_net net)
 
 abbrev pub table_line_of : TableLine → lines.TableLine
 table_line_of line = record { number = line.number; form = option_map form_of line.form }
@@ -30,5 +30,5 @@ table_line_of line = record { number = line.number; form = option_map form_of li
 abbrev pub forms_in : List TableLine → List lines.PortForm
 forms_in ls = filter_map (λ line. option_map form_of line.form) ls
 
-abbrev pub fault_of : PortFault → PortFaultAt
-fault_of fault = record { kind = fault.kind; line = fault.line }
+abbrev pub port_fault_of : PortFault → PortFaultAt
+port_fault_of fault = record { kind = fault.kind; line = fault.line }

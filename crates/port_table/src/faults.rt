@@ -2,7 +2,7 @@
 ghost use Rattle.std.specs.Prelude.{◌≡◌, ◌==◌, ◌<◌, not, Some, None, [], ◌∷◌, ◌++◌, List, map, option_map, length, slice_get, IfOk};
 ghost use Rattle.pattern_reading.specs.PortLines as lines;
 ghost use Rattle.pattern_reading.specs.PortTable.{is_version, is_outside, fault_of_form, faults_after};
-ghost use Rattle.port_table.specs.Lent.{form_of, table_line_of, fault_of};
+ghost use Rattle.port_table.specs.Lent.{form_of, table_line_of, port_fault_of};
 ghost use Rattle.port_table.specs.Seen.{HasSeen};
 
 use crate::forms::PortForm;
@@ -75,7 +75,7 @@ pub fn first_fault(
     height: u64,
 ) -> Result<Option<PortFault>, AllocError>
     ensures { IfOk result (λ fault.
-        option_map fault_of fault ≡ slice_get (faults_after width height [] (map table_line_of lines.now)) 0) }
+        option_map port_fault_of fault ≡ slice_get (faults_after width height [] (map table_line_of lines.now)) 0) }
 {
     let mut seen = Seen::new(alloc);
     for (index, line) in lines.iter().enumerate() {

@@ -5,7 +5,7 @@ ghost use Rattle.std.specs.Option.{option_copied};
 ghost use Rattle.std.specs.Str.{byte};
 ghost use Rattle.pattern_reading.specs.Numbers.{if_some_bytes};
 ghost use Rattle.pattern_reading.specs.PortLines.{form_of_fields, version_in, port_in, net_in};
-ghost use Rattle.port_table.specs.Lent.{form_of, port_of, net_of};
+ghost use Rattle.port_table.specs.Lent.{form_of, lent_port, lent_net};
 
 use crate::numbers::path_in;
 use pattern_lines::number_in;
@@ -71,7 +71,7 @@ fn version_in<'a>(
 }
 
 fn port_in<'a>(x: &[u8], y: &[u8], name: &'a [u8]) -> Option<PortWords<'a>>
-    ensures { option_map port_of result ≡ port_in x.now y.now name.now }
+    ensures { option_map lent_port result ≡ port_in x.now y.now name.now }
 {
     Some(PortWords {
         x: number_in(x)?,
@@ -87,7 +87,7 @@ fn net_in<'a>(
     name: &'a [u8],
     path: &'a [u8],
 ) -> Option<NetWords<'a>>
-    ensures { option_map net_of result ≡ net_in x.now y.now offset.now name.now path.now }
+    ensures { option_map lent_net result ≡ net_in x.now y.now offset.now name.now path.now }
 {
     Some(NetWords {
         x: number_in(x)?,

@@ -1,9 +1,9 @@
 // The table that lines make.
 ghost use Rattle.std.specs.Prelude.{◌≡◌, ◌++◌, IfOk, OnOk};
 ghost use Rattle.std.specs.Option.{option_to_list};
-ghost use Rattle.pattern_reading.specs.PortTable.{input_of, output_of, period_of, latency_of, ports_of};
+ghost use Rattle.pattern_reading.specs.PortTable.{input_of, output_of, period_in, latency_in, ports_of};
 ghost use Rattle.pattern_reading.specs.PortTable as table;
-ghost use Rattle.port_table.specs.Lent.{form_of, port_of, net_of, forms_in};
+ghost use Rattle.port_table.specs.Lent.{form_of, lent_port, lent_net, forms_in};
 
 use crate::forms::{NetWords, PortForm, PortWords};
 use crate::table::TableLine;
@@ -18,7 +18,7 @@ fn copied(alloc: Global, bytes: &[u8]) -> Result<Bytes, AllocError>
 }
 
 fn port_line(alloc: Global, port: PortWords<'_>) -> Result<PortLine, AllocError>
-    ensures { IfOk result (λ line. line ≡ port_of port.entry) }
+    ensures { IfOk result (λ line. line ≡ lent_port port.entry) }
 {
     Ok(PortLine {
         x: port.x,
@@ -28,7 +28,7 @@ fn port_line(alloc: Global, port: PortWords<'_>) -> Result<PortLine, AllocError>
 }
 
 fn net_line(alloc: Global, net: NetWords<'_>) -> Result<NetLine, AllocError>
-    ensures { IfOk result (λ line. line ≡ net_of net.entry) }
+    ensures { IfOk result (λ line. line ≡ lent_net net.entry) }
 {
     Ok(NetLine {
         x: net.x,
@@ -41,8 +41,8 @@ fn net_line(alloc: Global, net: NetWords<'_>) -> Result<NetLine, AllocError>
 
 // The period and the latency of the version line; 32 and 0 where there is none.
 fn version_of(lines: &[TableLine<'_>]) -> (u64, u64)
-    ensures period { result.0 ≡ period_of (forms_in lines.now) }
-    ensures latency { result.1 ≡ latency_of (forms_in lines.now) }
+    ensures period { result.0 ≡ period_in (forms_in lines.now) }
+    ensures latency { result.1 ≡ latency_in (forms_in lines.now) }
 {
     for line in lines {
         if let Some(PortForm::Version { period, latency }) = line.form {

@@ -8,11 +8,11 @@ use Rattle.pattern_reading.specs.declared.faults.RleFaultKind.{RleFaultKind}
 use Rattle.pattern_reading.specs.Lines.{Line}
 use Rattle.pattern_reading.specs.Numbers.{◌>>=◌}
 use Rattle.pattern_reading.specs.Header.{is_comment}
-use Rattle.pattern_reading.specs.Items.{Item, Cells, RowEnds, End, Blank, CutOff, NoItem, LineItem, Piece, item_in, pieces_of, is_end, items_of_line, items_of_lines}
+use Rattle.pattern_reading.specs.Items.{Item, Cells, RowEnds, End, Blank, CutOff, NoItem, LineItem, TaggedDigits, IsCounted, item_in, pieces_of, is_end, items_of_line, items_of_lines}
 use Rattle.pattern_reading.specs.Pattern.{RleFaultAt, fault_at, item_fault, run_fault}
 use Rattle.rle_read.specs.declared.items.Item as read
 use Rattle.rle_read.specs.Texts.{item_of}
-use Rattle.rle_read.specs.Drawn.{Drawn, Reached, Fault, Ended, Open, reached_by, drawn_with, drawn_after, place_of, with_run, IsCounted}
+use Rattle.rle_read.specs.Drawn.{Drawn, Reached, Fault, Ended, Open, reached_by, drawn_with, drawn_after, place_of, with_run}
 use Rattle.rle_read.proofs.Runs.{run_inside, run_in_rows, run_grid}
 
 -- the items of bytes of a line that is no comment
@@ -59,7 +59,7 @@ fault_on width height n d NoItem at = refl
 pub fault_of_kind : (n : ℕ) (d : Drawn) (item : Item) (o : Option RleFaultKind) → item_fault d.width d.height (place_of 0 d item) item ≡ o → fault_at d.width d.height (place_of n d item) ≡ (o >>= λ kind. Some (record { kind = kind; line = n }))
 fault_of_kind n d item o e = ap (λ o. o >>= λ kind. Some (record { kind = kind; line = n })) (fault_on d.width d.height n d item item ∙ e)
 
-module _ (line : Line) (d : Drawn) (bytes rest : List ℕ) (piece : Piece) (item : Item) (e : pieces_of bytes ≡ piece ∷ pieces_of rest) (is : item ≡ item_in line.is_ended piece.digits piece.tag) where
+module _ (line : Line) (d : Drawn) (bytes rest : List ℕ) (piece : TaggedDigits) (item : Item) (e : pieces_of bytes ≡ piece ∷ pieces_of rest) (is : item ≡ item_in line.is_ended piece.digits piece.tag) where
   first_is : items_from line bytes ≡ record { line = line.number; item = item } ∷ items_from line rest
   first_is = ap (map (λ piece. record { line = line.number; item = item_in line.is_ended piece.digits piece.tag })) e ∙ ap (λ i. record { line = line.number; item = i } ∷ items_from line rest) (sym is)
 

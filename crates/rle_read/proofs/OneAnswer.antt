@@ -10,12 +10,12 @@ use Rattle.pattern_reading.proofs.Large.{one_reader_answer}
 use Rattle.pattern_reading.proofs.RleLaws.{one_pattern, one_fault}
 use Rattle.rle_read.specs.declared.error.RleReadError.{RleReadError}
 use Rattle.rle_read.specs.declared.error.RleReadError.TheVariants.{Fault, TooLarge, NoMemory}
-use Rattle.rle_read.specs.Answers.{HasReason}
+use Rattle.rle_read.specs.Answers.{HasReadReason}
 use Rattle.rle_read.proofs.ReadText.{not_too_large}
 
 module _ (text : List ℕ) where
   abbrev pub IsAnswer : Result Pattern RleReadError → Type 0
-  IsAnswer r = MatchResult r (λ pattern. ReadsWithinLimit text (grid_of pattern)) (HasReason text)
+  IsAnswer r = MatchResult r (λ pattern. ReadsWithinLimit text (grid_of pattern)) (HasReadReason text)
 
   pub reads_answer : (r : Result Pattern RleReadError) → IsAnswer r → (grid : Grid) → ReadsWithinLimit text grid → MatchResult r (λ pattern. grid_of pattern ≡ grid) (λ e. e ≡ NoMemory)
   reads_answer (Ok pattern) h grid k = one_pattern text (grid_of pattern) grid h.0 k.0
@@ -39,6 +39,6 @@ module _ (text : List ℕ) where
       ap₂ (λ w h. TooLarge w h) same.0 same.1
   large_answer (Err NoMemory) h width height k = absurd (not_too_large text h.0 h.1 h.2 h.3 (width, height, k))
 
-  pub answer : (r : Result Pattern RleReadError) → IfOk r (λ pattern. ReadsWithinLimit text (grid_of pattern)) → IfErr r (HasReason text) → IsAnswer r
+  pub answer : (r : Result Pattern RleReadError) → IfOk r (λ pattern. ReadsWithinLimit text (grid_of pattern)) → IfErr r (HasReadReason text) → IsAnswer r
   answer (Ok pattern) h k = h
   answer (Err e) h k = k

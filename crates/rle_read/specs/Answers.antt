@@ -31,7 +31,7 @@ IsHeaderFault bytes GridTooLarge = ⊥
 
 -- Why a reader reads no pattern of a text: its first fault; a box that is too large; or want of memory, where the header is without
 -- fault and the box is not too large.
-abbrev pub HasReason : List ℕ → RleReadError → Type 0
-HasReason text (Fault fault) = HasReaderFault text fault.kind fault.line
-HasReason text (TooLarge width height) = HasLargeBox text width height
-HasReason text NoMemory = (width height : ℕ) × HasBox text width height × (width * height ≤ most_cells)
+abbrev pub HasReadReason : List ℕ → RleReadError → Type 0
+HasReadReason text (Fault fault) = HasReaderFault text fault.kind fault.line
+HasReadReason text (TooLarge width height) = HasLargeBox text width height
+HasReadReason text NoMemory = (width height : ℕ) × HasBox text width height × (width * height ≤ most_cells)

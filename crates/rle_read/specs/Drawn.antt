@@ -1,5 +1,5 @@
 -- Patterns that are drawn item by item.
-use Rattle.std.specs.Prelude.{ℕ, ◌<◌, ◌+◌, ◌-◌, ◌^◌, ◌==◌, min, Bool, true, false, if◌then◌else◌, List, [], ◌∷◌, ◌++◌, take, drop, replicate, get_or, slice_set, Option, Some, None}
+use Rattle.std.specs.Prelude.{ℕ, ◌+◌, ◌-◌, ◌^◌, ◌==◌, min, Bool, true, false, if◌then◌else◌, List, [], ◌∷◌, ◌++◌, take, drop, replicate, get_or, slice_set, Option, Some, None}
 use Rattle.ww_rule.specs.declared.pattern.State.{State}
 use Rattle.ww_rule.specs.declared.pattern.State.TheVariants.{Empty}
 use Rattle.pattern_reading.specs.Items.{Item, Cells, RowEnds, LineItem, Placed, is_end}
@@ -67,17 +67,11 @@ drawn_with d [] = Open d
 drawn_with d (i ∷ is) =
     reached_by (is_end i.item) (fault_at d.width d.height (place_of i.line d i.item)) d i.item (λ after. drawn_with after is)
 
--- a count is at least 1
-abbrev pub IsCounted : Item → Type 0
-IsCounted (Cells n state) = 0 < n
-IsCounted (RowEnds n) = 0 < n
-IsCounted _ = Unit {0}
-
-abbrev pub fault_of : RleFault → RleFaultAt
-fault_of fault = record { kind = fault.kind; line = fault.line }
+abbrev pub rle_fault_of : RleFault → RleFaultAt
+rle_fault_of fault = record { kind = fault.kind; line = fault.line }
 
 -- what a line's answer says of the drawing that it leaves
 abbrev pub reached_of : Result LineEnd RleFault → Drawn → Reached
-reached_of (Err fault) d = Fault (fault_of fault)
+reached_of (Err fault) d = Fault (rle_fault_of fault)
 reached_of (Ok OfPattern) d = Ended d
 reached_of (Ok OfLine) d = Open d

@@ -3,7 +3,7 @@ use Rattle.std.specs.Prelude.{ℕ, List}
 use Rattle.std.specs.Option.{option_copied}
 use denote.Ref.{Bor}
 use Rattle.pattern_reading.specs.Header.{Header}
-use Rattle.pattern_reading.specs.Items.{Piece, Item, Cells, RowEnds, End, Blank, CutOff, NoItem}
+use Rattle.pattern_reading.specs.Items.{TaggedDigits, Item, Cells, RowEnds, End, Blank, CutOff, NoItem}
 use Rattle.rle_read.specs.declared.header.Header as lent_header
 use Rattle.rle_read.specs.declared.items.Piece as lent_piece
 use Rattle.rle_read.specs.declared.items.Item as read_item
@@ -14,8 +14,8 @@ header_of h = record { width = h.width; height = h.height; rule = option_copied 
 abbrev pub number_and_rest : ℕ × Bor (List ℕ) → ℕ × List ℕ
 number_and_rest parts = (parts.0, parts.1.now)
 
-abbrev pub piece_of : lent_piece.Piece → Piece
-piece_of piece = record { digits = piece.digits.now; tag = piece.tag }
+abbrev pub tagged_digits_of : lent_piece.Piece → TaggedDigits
+tagged_digits_of piece = record { digits = piece.digits.now; tag = piece.tag }
 
 abbrev pub item_of : read_item.Item → Item
 item_of (read_item.TheVariants.Cells n state) = Cells n state

@@ -5,7 +5,7 @@ ghost use Rattle.pattern_reading.specs.Lines.{lines_from, with_line_feeds};
 ghost use Rattle.pattern_reading.specs.Items.{items_of_line, items_of_lines};
 ghost use Rattle.pattern_reading.specs.declared.faults.RleFaultKind.TheVariants.{NoEnd};
 ghost use Rattle.pattern_lines.specs.Lines.{line_of};
-ghost use Rattle.rle_read.specs.Drawn.{Drawn, drawn_of, drawn_with, Open, Ended, Fault, reached_of, fault_of};
+ghost use Rattle.rle_read.specs.Drawn.{Drawn, drawn_of, drawn_with, Open, Ended, Fault, reached_of, rle_fault_of};
 
 use crate::drawing::Drawing;
 use crate::error::RleFault;
@@ -56,7 +56,7 @@ pub fn draw_text(drawing: &mut Drawing, lines_before: u64, text: &[u8]) -> Resul
         let reached = drawn_with (drawn_of drawing.old) (items_of_lines lines) in
         MatchResult result
         (λ _. reached ≡ Ended (drawn_of drawing.new))
-        (λ fault. (reached ≡ Fault (fault_of fault)) ⊎ ((d : Drawn) × (reached ≡ Open d) × (fault.kind ≡ NoEnd) × (fault.line ≡ lines_before + length lines))) }
+        (λ fault. (reached ≡ Fault (rle_fault_of fault)) ⊎ ((d : Drawn) × (reached ≡ Open d) × (fault.kind ≡ NoEnd) × (fault.line ≡ lines_before + length lines))) }
 {
     let mut rest = text;
     let mut lines = lines_before;

@@ -2,11 +2,11 @@
 ghost use Rattle.std.specs.Prelude.{◌≡◌, ◌+◌, ◌≤◌, ◌<◌, ◌&&◌, nat_le, nat_lt, None, [], length, get_or, slice_set, replicate, IfOk, IfErr};
 ghost use Rattle.ww_rule.specs.Grid.{IsGrid};
 ghost use Rattle.ww_rule.specs.declared.pattern.State.TheVariants.{Empty};
-ghost use Rattle.pattern_reading.specs.Items.{Cells};
+ghost use Rattle.pattern_reading.specs.Items.{Cells, IsCounted};
 ghost use Rattle.pattern_reading.specs.Pattern.{item_fault, run_fault};
 ghost use Rattle.rle_read.specs.Texts.{item_of};
 ghost use Rattle.rle_read.specs.declared.error.RleReadError.TheVariants.{NoMemory};
-ghost use Rattle.rle_read.specs.Drawn.{drawn_of, blank_drawing, with_run, drawn_after, place_of, IsCounted};
+ghost use Rattle.rle_read.specs.Drawn.{drawn_of, blank_drawing, with_run, drawn_after, place_of};
 
 use crate::error::RleReadError;
 use crate::items::Item;

@@ -1,8 +1,7 @@
 // The items of extended RLE: a run of cells, the end of rows, or the end of the pattern.
 ghost use Rattle.std.specs.Prelude.{◌≡◌, ◌∷◌, ◌<◌, length};
-ghost use Rattle.pattern_reading.specs.Items.{pieces_of, counted_item, item_without_count, item_in};
-ghost use Rattle.rle_read.specs.Texts.{piece_of, item_of};
-ghost use Rattle.rle_read.specs.Drawn.{IsCounted};
+ghost use Rattle.pattern_reading.specs.Items.{IsCounted, pieces_of, counted_item, item_without_count, item_in};
+ghost use Rattle.rle_read.specs.Texts.{tagged_digits_of, item_of};
 
 use crate::words::digits_at_front;
 use pattern_lines::{is_blank, number_in};
@@ -36,7 +35,7 @@ pub enum Item {
 /// The first piece of bytes, and the bytes after it.
 pub fn split_piece(bytes: &[u8]) -> (Piece<'_>, &[u8])
     requires { 0 < length bytes.now }
-    ensures pieces { pieces_of bytes.now ≡ piece_of result.0 ∷ pieces_of result.1.now }
+    ensures pieces { pieces_of bytes.now ≡ tagged_digits_of result.0 ∷ pieces_of result.1.now }
     ensures shorter { length result.1.now < length bytes.now }
 {
     let (digits, after) = bytes.split_at(digits_at_front(bytes));

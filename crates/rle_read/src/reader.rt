@@ -6,7 +6,7 @@ ghost use Rattle.pattern_reading.specs.declared.faults.RleFaultKind.{RleFaultKin
 ghost use Rattle.pattern_reading.specs.Header.{is_wireworld, header_in, header_line};
 ghost use Rattle.pattern_reading.specs.Pattern.{HasRleFault, HasReaderFault, HasLargeBox, ReadsWithinLimit, most_cells};
 ghost use Rattle.rle_read.specs.Texts.{header_of};
-ghost use Rattle.rle_read.specs.Answers.{IsHeaderAt, IsHeaderFault, HasReason};
+ghost use Rattle.rle_read.specs.Answers.{IsHeaderAt, IsHeaderFault, HasReadReason};
 ghost use Rattle.rle_read.specs.declared.error.RleReadError.TheVariants.{Fault, TooLarge, NoMemory};
 
 use crate::draw_text::draw_text;
@@ -76,7 +76,7 @@ fn is_too_large(width: u64, height: u64) -> bool
 // The pattern of a text, or why there is none.
 fn pattern_in(alloc: Global, text: &[u8]) -> Result<Pattern, RleReadError>
     ensures pattern { IfOk result (λ pattern. ReadsWithinLimit text.now (grid_of pattern)) }
-    ensures refused { IfErr result (HasReason text.now) }
+    ensures refused { IfErr result (HasReadReason text.now) }
 {
     let (line, rest) = split_header(text)?;
     let Header { width, height, .. } = read_header(line)?;
@@ -99,7 +99,7 @@ fn pattern_in(alloc: Global, text: &[u8]) -> Result<Pattern, RleReadError>
 /// than 268435456 cells is refused once the header is read, and before any memory is taken.
 pub fn read(alloc: Global, text: &[u8]) -> Result<Pattern, RleReadError>
     ensures pattern { IfOk result (λ pattern. ReadsWithinLimit text.now (grid_of pattern)) }
-    ensures refused { IfErr result (HasReason text.now) }
+    ensures refused { IfErr result (HasReadReason text.now) }
     ensures reads { (grid : Grid) → ReadsWithinLimit text.now grid →
         MatchResult result (λ pattern. grid_of pattern ≡ grid) (λ e. e ≡ NoMemory) }
     ensures faulty { (kind : RleFaultKind) (line : ℕ) → HasReaderFault text.now kind line →

@@ -2,7 +2,7 @@
 use Rattle.std.specs.Prelude.{◌≡◌, ◌≢◌, ℕ, zero, suc, List, [], ◌∷◌, ◌++◌, map, flat_map, replicate, length, codes}
 use Rattle.ww_rule.specs.declared.pattern.State.{State}
 use Rattle.ww_rule.specs.declared.pattern.State.TheVariants.{Empty}
-use Rattle.pattern_writing.specs.Writer.{Item, tag_of, row_end, without_end, row_tags, runs_of, item_text, wrapped}
+use Rattle.pattern_writing.specs.Writer.{TagRun, tag_of, row_end, without_end, row_tags, runs_of, run_text, wrapped}
 
 -- the tags of rows, where row ends are due before them
 abbrev pub rows_left : ℕ → List (List State) → List ℕ
@@ -14,7 +14,7 @@ row_left ends tags rows =
     without_end row_end (replicate ends row_end ++ (without_end (tag_of Empty) tags ++ row_end ∷ flat_map row_tags rows))
 
 -- the item of the row ends that are due
-abbrev pub end_items : ℕ → List Item
+abbrev pub end_items : ℕ → List TagRun
 end_items zero = []
 end_items (suc n) = record { count = suc n; tag = row_end } ∷ []
 
@@ -23,8 +23,8 @@ abbrev pub line_left : List ℕ → List (List ℕ) → List ℕ
 line_left line items = line ++ wrapped (length line) items
 
 -- the text of a line that is begun, of items on it and of the `!` after them
-abbrev pub items_left : List ℕ → List Item → List ℕ
-items_left line items = line_left line (map item_text items ++ codes "!" ∷ [])
+abbrev pub items_left : List ℕ → List TagRun → List ℕ
+items_left line items = line_left line (map run_text items ++ codes "!" ∷ [])
 
 -- the same of the items of tags
 abbrev pub text_left : List ℕ → List ℕ → List ℕ

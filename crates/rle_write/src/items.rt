@@ -1,8 +1,8 @@
 // Items on lines.
 ghost use Rattle.std.specs.Prelude.{◌≡◌, ◌≤◌, ◌+◌, ℕ, List, ◌∷◌, ◌++◌, length, OnOk, OnErr};
-ghost use Rattle.pattern_writing.specs.Writer.{count_text, item_text, line_break, used_after};
+ghost use Rattle.pattern_writing.specs.Writer.{count_text, run_text, line_break, used_after};
 ghost use Rattle.rle_write.specs.Left.{line_left};
-ghost use Rattle.rle_write.specs.Lines.{line_text};
+ghost use Rattle.rle_write.specs.Lines.{begun_text};
 ghost use Rattle.rle_write.specs.Progress.{Wrote, Broke};
 
 use crate::line::{LINE, Line};
@@ -23,15 +23,15 @@ fn count_digits(buffer: &mut Buffer, count: usize) -> &str
 // Ends the line, where an item of `size` bytes does not fit on it.
 fn make_room<O: Sink>(sink: &mut O, line: &mut Line, size: usize) -> Result<(), Failed>
     requires { size ≤ 41 }
-    ensures room { OnOk result (length (line_text line.new) + size ≤ 70) }
+    ensures room { OnOk result (length (begun_text line.new) + size ≤ 70) }
     ensures start { OnOk result ((item : List ℕ) → length item ≡ size →
-        length (line_text line.new) + size ≡ used_after (length (line_text line.old)) item) }
+        length (begun_text line.new) + size ≡ used_after (length (begun_text line.old)) item) }
     ensures ok { OnOk result ((item rest : List ℕ) → length item ≡ size →
         Wrote (O.written sink.old) (O.written sink.new) (O.faults sink.old) (O.faults sink.new)
-        (line_text line.old ++ (line_break (length (line_text line.old)) item ++ rest)) (line_text line.new ++ rest)) }
+        (begun_text line.old ++ (line_break (length (begun_text line.old)) item ++ rest)) (begun_text line.new ++ rest)) }
     ensures err { OnErr result ((item rest : List ℕ) → length item ≡ size →
         Broke (O.written sink.old) (O.written sink.new) (O.faults sink.old) (O.faults sink.new)
-        (line_text line.old ++ (line_break (length (line_text line.old)) item ++ rest))) }
+        (begun_text line.old ++ (line_break (length (begun_text line.old)) item ++ rest))) }
 {
     if line.len() + size <= LINE {
         return Ok(());
@@ -48,11 +48,11 @@ pub fn write_item<O: Sink>(
 ) -> Result<(), Failed>
     ensures ok { OnOk result ((items : List (List ℕ)) →
         Wrote (O.written sink.old) (O.written sink.new) (O.faults sink.old) (O.faults sink.new)
-        (line_left (line_text line.old) (item_text (record { count = count; tag = tag }) ∷ items))
-        (line_left (line_text line.new) items)) }
+        (line_left (begun_text line.old) (run_text (record { count = count; tag = tag }) ∷ items))
+        (line_left (begun_text line.new) items)) }
     ensures err { OnErr result ((items : List (List ℕ)) →
         Broke (O.written sink.old) (O.written sink.new) (O.faults sink.old) (O.faults sink.new)
-        (line_left (line_text line.old) (item_text (record { count = count; tag = tag }) ∷ items))) }
+        (line_left (begun_text line.old) (run_text (record { count = count; tag = tag }) ∷ items))) }
 {
     let mut buffer = Buffer::new();
     let digits = count_digits(&mut buffer, count);

@@ -26,11 +26,11 @@ pub struct Line {
 }
 
 impl Line {
-    ghost use Rattle.rle_write.specs.Lines.{line_text};
+    ghost use Rattle.rle_write.specs.Lines.{begun_text};
 
     /// An empty line.
     pub fn new() -> Self
-        ensures { line_text result ≡ [] }
+        ensures { begun_text result ≡ [] }
     {
         Line {
             bytes: [0; LINE + 1],
@@ -40,7 +40,7 @@ impl Line {
 
     /// How many bytes it has.
     pub fn len(&self) -> usize
-        ensures count { result ≡ length (line_text self.now) }
+        ensures count { result ≡ length (begun_text self.now) }
         ensures short { result ≤ 70 }
     {
         self.used
@@ -48,8 +48,8 @@ impl Line {
 
     /// Puts a piece on the line.
     pub fn push(&mut self, piece: &[u8])
-        requires { length (line_text self.old) + length piece.now ≤ 70 }
-        ensures { line_text self.new ≡ line_text self.old ++ piece.now }
+        requires { length (begun_text self.old) + length piece.now ≤ 70 }
+        ensures { begun_text self.new ≡ begun_text self.old ++ piece.now }
     {
         let end = self.used + piece.len();
         self.bytes[self.used..end].copy_from_slice(piece);
@@ -58,14 +58,14 @@ impl Line {
 
     /// Sends the line with its line end, and begins another; where a write fails, the line stays.
     pub fn end<O: Sink>(&mut self, sink: &mut O) -> Result<(), Failed>
-        ensures empty { OnOk result (line_text self.new ≡ []) }
-        ensures kept { OnErr result (line_text self.new ≡ line_text self.old) }
+        ensures empty { OnOk result (begun_text self.new ≡ []) }
+        ensures kept { OnErr result (begun_text self.new ≡ begun_text self.old) }
         ensures ok { OnOk result ((rest : List ℕ) →
             Wrote (O.written sink.old) (O.written sink.new) (O.faults sink.old) (O.faults sink.new)
-            (line_text self.old ++ (10 ∷ rest)) rest) }
+            (begun_text self.old ++ (10 ∷ rest)) rest) }
         ensures err { OnErr result ((rest : List ℕ) →
             Broke (O.written sink.old) (O.written sink.new) (O.faults sink.old) (O.faults sink.new)
-            (line_text self.old ++ (10 ∷ rest))) }
+            (begun_text self.old ++ (10 ∷ rest))) }
     {
         self.bytes[self.used] = b'\n';
         send(sink, &self.bytes[..self.used + 1])?;

@@ -1,8 +1,8 @@
 // Rows, cell by cell: of each run of equal cells the length is kept until it ends, and row ends until a cell follows.
 ghost use Rattle.std.specs.Prelude.{◌≡◌, ◌≢◌, ◌≤◌, ◌<◌, ◌+◌, ◌^◌, ℕ, List, [], ◌∷◌, ◌++◌, replicate, IfOk, OnErr, OnOk};
-ghost use Rattle.pattern_writing.specs.Writer.{Item, tag_of, row_end, item_texts, wrapped};
+ghost use Rattle.pattern_writing.specs.Writer.{TagRun, tag_of, row_end, item_texts, wrapped};
 ghost use Rattle.rle_write.specs.Left.{rows_left, row_left, end_items, items_left, text_left, IsRunBefore};
-ghost use Rattle.rle_write.specs.Lines.{line_text};
+ghost use Rattle.rle_write.specs.Lines.{begun_text};
 ghost use Rattle.rle_write.specs.Progress.{Wrote, Broke};
 
 use crate::items::write_item;
@@ -35,12 +35,12 @@ fn letter(state: State) -> u8
 
 // Writes the row ends that are due.
 fn write_ends<O: Sink>(sink: &mut O, line: &mut Line, ends: usize) -> Result<(), Failed>
-    ensures ok { OnOk result ((items : List Item) →
+    ensures ok { OnOk result ((items : List TagRun) →
         Wrote (O.written sink.old) (O.written sink.new) (O.faults sink.old) (O.faults sink.new)
-        (items_left (line_text line.old) (end_items ends ++ items)) (items_left (line_text line.new) items)) }
-    ensures err { OnErr result ((items : List Item) →
+        (items_left (begun_text line.old) (end_items ends ++ items)) (items_left (begun_text line.new) items)) }
+    ensures err { OnErr result ((items : List TagRun) →
         Broke (O.written sink.old) (O.written sink.new) (O.faults sink.old) (O.faults sink.new)
-        (items_left (line_text line.old) (end_items ends ++ items))) }
+        (items_left (begun_text line.old) (end_items ends ++ items))) }
 {
     if ends == 0 {
         return Ok(());
@@ -54,11 +54,11 @@ fn write_run<O: Sink>(sink: &mut O, line: &mut Line, ends: usize, run: Run) -> R
     ensures fewer { IfOk result (λ after. after ≤ ends) }
     ensures ok { IfOk result (λ after. (tags : List ℕ) (rows : List (List State)) → IsRunBefore run.count run.tag tags →
         Wrote (O.written sink.old) (O.written sink.new) (O.faults sink.old) (O.faults sink.new)
-        (text_left (line_text line.old) (row_left ends (replicate run.count run.tag ++ tags) rows))
-        (text_left (line_text line.new) (row_left after tags rows))) }
+        (text_left (begun_text line.old) (row_left ends (replicate run.count run.tag ++ tags) rows))
+        (text_left (begun_text line.new) (row_left after tags rows))) }
     ensures err { OnErr result ((tags : List ℕ) (rows : List (List State)) → IsRunBefore run.count run.tag tags →
         Broke (O.written sink.old) (O.written sink.new) (O.faults sink.old) (O.faults sink.new)
-        (text_left (line_text line.old) (row_left ends (replicate run.count run.tag ++ tags) rows))) }
+        (text_left (begun_text line.old) (row_left ends (replicate run.count run.tag ++ tags) rows))) }
 {
     if run.count == 0 {
         return Ok(ends);
@@ -74,11 +74,11 @@ fn end_run<O: Sink>(sink: &mut O, line: &mut Line, ends: usize, run: Run) -> Res
     ensures fewer { IfOk result (λ after. after ≤ ends) }
     ensures ok { IfOk result (λ after. (rows : List (List State)) →
         Wrote (O.written sink.old) (O.written sink.new) (O.faults sink.old) (O.faults sink.new)
-        (text_left (line_text line.old) (row_left ends (replicate run.count run.tag ++ []) rows))
-        (text_left (line_text line.new) (row_left after [] rows))) }
+        (text_left (begun_text line.old) (row_left ends (replicate run.count run.tag ++ []) rows))
+        (text_left (begun_text line.new) (row_left after [] rows))) }
     ensures err { OnErr result ((rows : List (List State)) →
         Broke (O.written sink.old) (O.written sink.new) (O.faults sink.old) (O.faults sink.new)
-        (text_left (line_text line.old) (row_left ends (replicate run.count run.tag ++ []) rows))) }
+        (text_left (begun_text line.old) (row_left ends (replicate run.count run.tag ++ []) rows))) }
 {
     if run.tag == EMPTY {
         return Ok(ends);
@@ -97,11 +97,11 @@ fn write_row<O: Sink>(
     ensures one_more { IfOk result (λ after. after ≤ ends + 1) }
     ensures ok { IfOk result (λ after. (rows : List (List State)) →
         Wrote (O.written sink.old) (O.written sink.new) (O.faults sink.old) (O.faults sink.new)
-        (text_left (line_text line.old) (rows_left ends (row.now ∷ rows)))
-        (text_left (line_text line.new) (rows_left after rows))) }
+        (text_left (begun_text line.old) (rows_left ends (row.now ∷ rows)))
+        (text_left (begun_text line.new) (rows_left after rows))) }
     ensures err { OnErr result ((rows : List (List State)) →
         Broke (O.written sink.old) (O.written sink.new) (O.faults sink.old) (O.faults sink.new)
-        (text_left (line_text line.old) (rows_left ends (row.now ∷ rows)))) }
+        (text_left (begun_text line.old) (rows_left ends (row.now ∷ rows)))) }
 {
     let mut due = ends;
     let mut run = Run {

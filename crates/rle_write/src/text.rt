@@ -3,7 +3,7 @@ ghost use Rattle.std.specs.Prelude.{◌≡◌, ℕ, List, [], ◌++◌, length, 
 ghost use Rattle.std.specs.Io.KnownBytes.{Appends};
 ghost use Rattle.ww_base.specs.Faults.{HasCause};
 ghost use Rattle.ww_rule.specs.Patterns.{grid_of};
-ghost use Rattle.pattern_writing.specs.Writer.{lines_text, header_text, writer_text};
+ghost use Rattle.pattern_writing.specs.Writer.{ended_lines, header_text, writer_text};
 ghost use Rattle.rle_write.specs.Progress.{Wrote, Broke};
 
 use crate::line::send;
@@ -16,9 +16,9 @@ use ww_rule::Pattern;
 // Writes lines, each with its line end.
 fn write_lines<O: Sink>(sink: &mut O, lines: &[Bytes]) -> Result<(), Failed>
     ensures ok { OnOk result (
-        Wrote (O.written sink.old) (O.written sink.new) (O.faults sink.old) (O.faults sink.new) (lines_text lines.now) []) }
+        Wrote (O.written sink.old) (O.written sink.new) (O.faults sink.old) (O.faults sink.new) (ended_lines lines.now) []) }
     ensures err { OnErr result (
-        Broke (O.written sink.old) (O.written sink.new) (O.faults sink.old) (O.faults sink.new) (lines_text lines.now)) }
+        Broke (O.written sink.old) (O.written sink.new) (O.faults sink.old) (O.faults sink.new) (ended_lines lines.now)) }
 {
     for line in lines {
         send(sink, line.as_slice())?;

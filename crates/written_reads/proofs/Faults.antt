@@ -15,7 +15,7 @@ use Rattle.written_reads.proofs.Inside.{AreInside, GoesOn}
 use Rattle.written_reads.proofs.Runs.{IsRun, Stands, after_cells, after_ends, item, item_of, placed}
 
 -- a run whose count can be written, of a tag that stands for something
-pub record IsKnown (run : writer.Item) : Type 0 where
+pub record IsKnown (run : writer.TagRun) : Type 0 where
   pub some : run.count ≢ 0
   pub small : run.count < 2 ^ 64
   pub known : run.tag ≡ tag (mark_of run.tag)
@@ -60,7 +60,7 @@ module _ (w h : ℕ) where
   cells_fault p n Conductor a b = rw (le-leb (p.x + n) w a, lt-ltb p.y h b) refl
 
   -- a run at its place, and the place after it
-  record GoesWell (run : writer.Item) (before : List Item) (ts : List ℕ) (cx cy : ℕ) : Type 0 where
+  record GoesWell (run : writer.TagRun) (before : List Item) (ts : List ℕ) (cx cy : ℕ) : Type 0 where
     no_fault : item_fault w h (record { line = 0; x = column_after before; y = row_after before; item = item_of run }) (item_of run) ≡ None
     count : (run.count ≤ w) ⊎ (run.count ≤ h)
     known : run.tag ≡ tag (mark_of run.tag)
@@ -70,7 +70,7 @@ module _ (w h : ℕ) where
     fits : next_x ≤ w
     inside : AreInside w h ts next_x next_y
 
-  goes_well : (run : writer.Item) (before : List Item) (ts : List ℕ) (cx cy : ℕ) → IsRun run → Stands before cx cy → cx ≤ w → AreInside w h (replicate run.count run.tag ++ ts) cx cy → GoesWell run before ts cx cy
+  goes_well : (run : writer.TagRun) (before : List Item) (ts : List ℕ) (cx cy : ℕ) → IsRun run → Stands before cx cy → cx ≤ w → AreInside w h (replicate run.count run.tag ++ ts) cx cy → GoesWell run before ts cx cy
   goes_well run before ts cx cy some s fits k = by_mark (mark_of run.tag) refl
     where
       by_mark : (m : Mark) → mark_of run.tag ≡ m → GoesWell run before ts cx cy
@@ -106,7 +106,7 @@ module _ (w h : ℕ) where
   no_fault_first : (p : Placed) (faults : List RleFaultAt) → item_fault w h p p.item ≡ None → faults ≡ [] → cons_option (fault_at w h p) faults ≡ []
   no_fault_first p faults e k = rw (e, k) refl
 
-  pub run_faults : (runs : List writer.Item) (before : List Item) (cx cy : ℕ) → AllByRecursion IsRun runs → Stands before cx cy → cx ≤ w → AreInside w h (spelled runs) cx cy → filter_map (fault_at w h) (placed before runs) ≡ []
+  pub run_faults : (runs : List writer.TagRun) (before : List Item) (cx cy : ℕ) → AllByRecursion IsRun runs → Stands before cx cy → cx ≤ w → AreInside w h (spelled runs) cx cy → filter_map (fault_at w h) (placed before runs) ≡ []
   run_faults [] before cx cy some s fits k = refl
   run_faults (run ∷ runs) before cx cy some s fits k =
       let well = goes_well run before (spelled runs) cx cy some.0 s fits k in
@@ -116,14 +116,14 @@ module _ (w h : ℕ) where
   small_count n a b (inl c) = omega (arith, a, c)
   small_count n a b (inr c) = omega (arith, b, c)
 
-  pub runs_known : (runs : List writer.Item) (before : List Item) (cx cy : ℕ) → w < 2 ^ 64 → h < 2 ^ 64 → AllByRecursion IsRun runs → Stands before cx cy → cx ≤ w → AreInside w h (spelled runs) cx cy → AllByRecursion IsKnown runs
+  pub runs_known : (runs : List writer.TagRun) (before : List Item) (cx cy : ℕ) → w < 2 ^ 64 → h < 2 ^ 64 → AllByRecursion IsRun runs → Stands before cx cy → cx ≤ w → AreInside w h (spelled runs) cx cy → AllByRecursion IsKnown runs
   runs_known [] before cx cy a b some s fits k = tt
   runs_known (run ∷ runs) before cx cy a b some s fits k =
       let well = goes_well run before (spelled runs) cx cy some.0 s fits k in
       (record { some = some.0; small = small_count run.count a b well.count; known = well.known }, runs_known runs (item_of run ∷ before) well.next_x well.next_y a b some.1 well.stands well.fits well.inside)
 
 -- the runs of tags are not empty
-some_with : (t : ℕ) (runs : List writer.Item) → AllByRecursion IsRun runs → AllByRecursion IsRun (writer.with_tag t runs)
+some_with : (t : ℕ) (runs : List writer.TagRun) → AllByRecursion IsRun runs → AllByRecursion IsRun (writer.with_tag t runs)
 some_with t [] h = (λ e. omega (arith, e), tt)
 some_with t (run ∷ runs) h = elim (eqb_tells t run.tag) as (λ _. AllByRecursion IsRun (writer.with_tag t (run ∷ runs))) [
   | inl same ↦ rw (same.0) (λ e. omega (arith, e), h.1)

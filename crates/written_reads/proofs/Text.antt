@@ -11,7 +11,7 @@ use Rattle.std.proofs.lemmas.Simd.{map-map}
 use Rattle.ww_rule.specs.declared.pattern.State.TheVariants.{Empty, Head, Tail, Conductor}
 use Rattle.ww_rule.specs.Grid.{Grid}
 use Rattle.pattern_reading.specs.PortLines.{PortForm}
-use Rattle.pattern_reading.specs.Items.{Item, End, counted_item, item_in}
+use Rattle.pattern_reading.specs.Items.{End, counted_item, item_in}
 use Rattle.pattern_reading.specs.Spelling.{spelled_line, spelled_table}
 use Rattle.pattern_reading.specs.SpelledPattern.{SpelledItem, IsSpelledItem, item_text, items_of_text, line_text, lines_text, spelled_header}
 use Rattle.pattern_reading.proofs.SpelledHeader.{spelled_count}
@@ -21,21 +21,22 @@ use Rattle.pattern_writing.proofs.Lines.{wrapped_is_lines}
 use Rattle.written_reads.proofs.Look.{Mark, RowEnd, Of, mark_of, tag}
 use Rattle.written_reads.proofs.Runs.{item, item_of}
 use Rattle.written_reads.proofs.Faults.{IsKnown}
+use Rattle.pattern_reading.proofs.SpelledItems.{meaning}
 
 -- a run as an item, and the `!`
-abbrev pub spelled_of : writer.Item → SpelledItem
+abbrev pub spelled_of : writer.TagRun → SpelledItem
 spelled_of run = record { digits = writer.count_text run.count; tag = run.tag }
 
 abbrev pub last_item : SpelledItem
 last_item = record { digits = []; tag = 33 }
 
-abbrev pub spelled_items : List writer.Item → List SpelledItem
+abbrev pub spelled_items : List writer.TagRun → List SpelledItem
 spelled_items runs = map spelled_of runs ++ last_item ∷ []
 
-abbrev pub texts_of : List writer.Item → List (List ℕ)
-texts_of runs = map writer.item_text runs ++ codes "!" ∷ []
+abbrev pub texts_of : List writer.TagRun → List (List ℕ)
+texts_of runs = map writer.run_text runs ++ codes "!" ∷ []
 
-same_texts : (runs : List writer.Item) → texts_of runs ≡ map item_text (spelled_items runs)
+same_texts : (runs : List writer.TagRun) → texts_of runs ≡ map item_text (spelled_items runs)
 same_texts runs =
     ap (λ l. l ++ codes "!" ∷ []) (sym (map-map item_text spelled_of runs)) ∙ sym (map-append item_text (map spelled_of runs) (last_item ∷ []))
 
@@ -61,12 +62,12 @@ same_line : (items : List SpelledItem) → joined (map item_text items) ≡ line
 same_line [] = refl
 same_line (i ∷ items) = ap (λ l. item_text i ++ l) (same_line items)
 
-same_lines : (lines : List (List SpelledItem)) → writer.lines_text (map joined (map (map item_text) lines)) ≡ lines_text lines
+same_lines : (lines : List (List SpelledItem)) → writer.ended_lines (map joined (map (map item_text) lines)) ≡ lines_text lines
 same_lines [] = refl
 same_lines (items ∷ lines) = ap₂ (λ a b. (a ++ 10 ∷ []) ++ b) (same_line items) (same_lines lines)
 
 -- the lines on which the runs of a grid stand
-pub record AreLines (runs : List writer.Item) (lines : List (List SpelledItem)) : Type 0 where
+pub record AreLines (runs : List writer.TagRun) (lines : List (List SpelledItem)) : Type 0 where
   pub all : flat_map (λ line. line) lines ≡ spelled_items runs
   pub text : writer.wrapped 0 (texts_of runs) ++ 10 ∷ [] ≡ lines_text lines
 
@@ -76,18 +77,18 @@ short_count n small = elim (eqb_tells n 1) as (λ _. length (writer.count_text n
   | inr other ↦ rw (other.0) (length-decimal-le 20 n (omega arith) (omega (arith, small)) small)
 ]
 
-short_texts : (runs : List writer.Item) → AllByRecursion IsKnown runs → AllByRecursion IsShort (texts_of runs)
+short_texts : (runs : List writer.TagRun) → AllByRecursion IsKnown runs → AllByRecursion IsShort (texts_of runs)
 short_texts [] h = (omega arith, tt)
 short_texts (run ∷ runs) h =
-    let n : length (writer.item_text run) ≡ length (writer.count_text run.count) + 1 = length-append (writer.count_text run.count) (run.tag ∷ []) in
+    let n : length (writer.run_text run) ≡ length (writer.count_text run.count) + 1 = length-append (writer.count_text run.count) (run.tag ∷ []) in
     let k = short_count run.count h.0.small in
     (omega (arith, n, k), short_texts runs h.1)
 
-pub lines_of_runs : (runs : List writer.Item) → AllByRecursion IsKnown runs → (lines : List (List SpelledItem)) × AreLines runs lines
+pub lines_of_runs : (runs : List writer.TagRun) → AllByRecursion IsKnown runs → (lines : List (List SpelledItem)) × AreLines runs lines
 lines_of_runs runs h =
     let on = wrapped_is_lines (texts_of runs) (short_texts runs h) in
     let parts = cut item_text (spelled_items runs) on.0 (on.1.all ∙ same_texts runs) in
-    (parts.cuts, record { all = parts.all; text = sym on.1.text ∙ ap (λ l. writer.lines_text (map joined l)) (sym parts.images) ∙ same_lines parts.cuts })
+    (parts.cuts, record { all = parts.all; text = sym on.1.text ∙ ap (λ l. writer.ended_lines (map joined l)) (sym parts.images) ∙ same_lines parts.cuts })
 
 -- a header with its line end
 sides : (a b c d e z : List ℕ) → a ++ b ++ c ++ d ++ (e ++ z) ≡ (a ++ (b ++ (c ++ (d ++ e)))) ++ z
@@ -100,15 +101,15 @@ sides a b c d e z =
 header_is : (w h : ℕ) → writer.header_text w h ≡ spelled_header w h ++ 10 ∷ []
 header_is w h = sides (codes "x = ") (decimal w) (codes ", y = ") (decimal h) (codes ", rule = WireWorld") (10 ∷ [])
 
-table_is : (forms : List PortForm) → writer.lines_text (map spelled_line forms) ≡ spelled_table forms
+table_is : (forms : List PortForm) → writer.ended_lines (map spelled_line forms) ≡ spelled_table forms
 table_is [] = refl
 table_is (form ∷ forms) = ap (λ l. (spelled_line form ++ 10 ∷ []) ++ l) (table_is forms)
 
 -- the whole text
 pub text_is : (grid : Grid) (forms : List PortForm) (lines : List (List SpelledItem)) → writer.wrapped 0 (writer.item_texts grid.rows) ++ 10 ∷ [] ≡ lines_text lines → writer.writer_text grid (map spelled_line forms) ≡ spelled_table forms ++ (spelled_header grid.width grid.height ++ 10 ∷ (lines_text lines ++ []))
 text_is grid forms lines e =
-    append_assoc (writer.lines_text (map spelled_line forms) ++ writer.header_text grid.width grid.height) (writer.wrapped 0 (writer.item_texts grid.rows)) (10 ∷ [])
-    ∙ append_assoc (writer.lines_text (map spelled_line forms)) (writer.header_text grid.width grid.height) (writer.wrapped 0 (writer.item_texts grid.rows) ++ 10 ∷ [])
+    append_assoc (writer.ended_lines (map spelled_line forms) ++ writer.header_text grid.width grid.height) (writer.wrapped 0 (writer.item_texts grid.rows)) (10 ∷ [])
+    ∙ append_assoc (writer.ended_lines (map spelled_line forms)) (writer.header_text grid.width grid.height) (writer.wrapped 0 (writer.item_texts grid.rows) ++ 10 ∷ [])
     ∙ ap₂ (λ a b. a ++ b) (table_is forms) (ap₂ (λ a b. a ++ b) (header_is grid.width grid.height) (e ∙ sym (append-nil (lines_text lines))) ∙ append_assoc (spelled_header grid.width grid.height) (10 ∷ []) (lines_text lines ++ []))
 
 -- the items are spelled, and stand for what the runs stand for
@@ -126,7 +127,7 @@ alone (Of Head) = refl
 alone (Of Tail) = refl
 alone (Of Conductor) = refl
 
-pub meaning_is : (run : writer.Item) → IsKnown run → item_in true (writer.count_text run.count) (Some run.tag) ≡ item_of run
+pub meaning_is : (run : writer.TagRun) → IsKnown run → item_in true (writer.count_text run.count) (Some run.tag) ≡ item_of run
 meaning_is run h = ap (λ t. item_in true (writer.count_text run.count) (Some t)) h.known ∙ by_count
   where
     by_count : item_in true (writer.count_text run.count) (Some (tag (mark_of run.tag))) ≡ item_of run
@@ -148,13 +149,13 @@ count_digits n some small = elim (eqb_tells n 1) as (λ _. list_all is_ascii_dig
   | inr other ↦ rw (other.0) (spelled_count n 0 some small).0
 ]
 
-run_spelled : (run : writer.Item) → IsKnown run → IsSpelledItem (spelled_of run)
+run_spelled : (run : writer.TagRun) → IsKnown run → IsSpelledItem (spelled_of run)
 run_spelled run h = rw (h.known) (tag_spelled (writer.count_text run.count) (mark_of run.tag) (count_digits run.count h.some h.small))
 
 last_spelled : IsSpelledItem last_item
 last_spelled = record { digits = refl; tag = refl; in_line = (λ e. omega (arith, e), λ e. omega (arith, e)); no_comment = λ e. omega (arith, e) }
 
-pub items_spelled : (runs : List writer.Item) → AllByRecursion IsKnown runs → AllByRecursion IsSpelledItem (spelled_items runs)
+pub items_spelled : (runs : List writer.TagRun) → AllByRecursion IsKnown runs → AllByRecursion IsSpelledItem (spelled_items runs)
 items_spelled [] h = (last_spelled, tt)
 items_spelled (run ∷ runs) h = (run_spelled run h.0, items_spelled runs h.1)
 
@@ -166,14 +167,11 @@ pub lines_spelled : (lines : List (List SpelledItem)) → AllByRecursion IsSpell
 lines_spelled [] h = tt
 lines_spelled (line ∷ lines) h = let parts = front_and_rest line (flat_map (λ l. l) lines) h in (parts.0, lines_spelled lines parts.1)
 
-abbrev pub meaning : SpelledItem → Item
-meaning i = item_in true i.digits (Some i.tag)
-
 pub meanings_of_lines : (lines : List (List SpelledItem)) → items_of_text lines ≡ map meaning (flat_map (λ line. line) lines)
 meanings_of_lines [] = refl
 meanings_of_lines (line ∷ lines) =
     ap (λ l. map meaning line ++ l) (meanings_of_lines lines) ∙ sym (map-append meaning line (flat_map (λ l. l) lines))
 
-pub meanings : (runs : List writer.Item) → AllByRecursion IsKnown runs → map meaning (spelled_items runs) ≡ map item_of runs ++ End ∷ []
+pub meanings : (runs : List writer.TagRun) → AllByRecursion IsKnown runs → map meaning (spelled_items runs) ≡ map item_of runs ++ End ∷ []
 meanings [] h = refl
 meanings (run ∷ runs) h = ap₂ (λ a b. a ∷ b) (meaning_is run h.0) (meanings runs h.1)

@@ -8,8 +8,8 @@ abbrev pub next_count : ℕ → ℕ
 next_count n = min (n + 1) (2 ^ 64 - 1)
 
 -- the bytes that the source has still to give
-abbrev pub left_of : MemSource → List ℕ
-left_of s = drop s.at s.bytes.items
+abbrev pub bytes_left : MemSource → List ℕ
+bytes_left s = drop s.at s.bytes.items
 
 -- the number of its next call, from 0
 abbrev pub source_call : MemSource → ℕ

@@ -30,12 +30,12 @@ pub struct MemSource {
 }
 
 impl MemSource {
-    ghost use Rattle.ww_base.specs.Fakes.{left_of, source_call, source_fails, source_chunk, source_faults};
+    ghost use Rattle.ww_base.specs.Fakes.{bytes_left, source_call, source_fails, source_chunk, source_faults};
 
     /// A source of these bytes, which gives at most `chunk` a call and fails the calls whose numbers, from 0, are in `fails`.
     pub fn new(alloc: Global, bytes: &[u8], chunk: usize, fails: &[u64]) -> Result<Self, FakeError>
         requires { 1 ≤ chunk }
-        ensures bytes { IfOk result (λ s. left_of s ≡ bytes.now) }
+        ensures bytes { IfOk result (λ s. bytes_left s ≡ bytes.now) }
         ensures fails { IfOk result (λ s. source_fails s ≡ fails.now) }
         ensures chunk { IfOk result (λ s. source_chunk s ≡ chunk) }
         ensures first { IfOk result (λ s. source_call s ≡ 0) }
@@ -51,7 +51,7 @@ impl MemSource {
         })
     }
 
-    /// How often it has failed.
+    /// How often it has failed, up to the greatest number.
     pub fn faults(&self) -> u64
         ensures { result ≡ source_faults self.now }
     {
@@ -63,18 +63,18 @@ impl Source for MemSource {
     ghost use Rattle.std.specs.Io.{ReadsAtMost};
     ghost use Rattle.std.specs.Io.KnownBytes.{ReadConsumes};
     ghost use Rattle.ww_base.specs.Faults.{HasCause};
-    ghost use Rattle.ww_base.specs.Fakes.{left_of, source_call, source_fails, source_chunk, source_faults, next_count};
+    ghost use Rattle.ww_base.specs.Fakes.{bytes_left, source_call, source_fails, source_chunk, source_faults, next_count};
 
-    ghost left = { λ s. Some (left_of s) };
+    ghost left = { λ s. Some (bytes_left s) };
 
     ghost faults = { λ s. source_faults s };
 
     fn read(&mut self, buf: &mut [u8]) -> Result<usize, Failed>
         ensures bound { ReadsAtMost result buf.new }
-        ensures bytes { ReadConsumes (Some (left_of self.old)) (Some (left_of self.new)) result buf.new }
+        ensures bytes { ReadConsumes (Some (bytes_left self.old)) (Some (bytes_left self.new)) result buf.new }
         ensures cause { HasCause (source_faults self.old) (source_faults self.new) result }
         ensures fails { IsErr result ↔ Contains (source_fails self.old) (source_call self.old) }
-        ensures count { IfOk result (λ n. n ≡ min (length (left_of self.old)) (min (source_chunk self.old) (length buf.new))) }
+        ensures count { IfOk result (λ n. n ≡ min (length (bytes_left self.old)) (min (source_chunk self.old) (length buf.new))) }
         ensures call { source_call self.new ≡ next_count (source_call self.old) }
         ensures fails_stay { source_fails self.new ≡ source_fails self.old }
         ensures chunk { source_chunk self.new ≡ source_chunk self.old }
@@ -132,7 +132,7 @@ impl MemSink {
         })
     }
 
-    /// How often it has failed.
+    /// How often it has failed, up to the greatest number.
     pub fn faults(&self) -> u64
         ensures { result ≡ sink_faults self.now }
     {

@@ -21,6 +21,13 @@ impl<R: Read + Drop> StdSource<R> {
     {
         StdSource { stream, faults: 0 }
     }
+
+    /// How often it has failed, up to the greatest number.
+    pub fn faults(&self) -> u64
+        ensures { result ≡ source_faults self.now }
+    {
+        self.faults
+    }
 }
 
 impl<R: Read + Drop> Source for StdSource<R> {
@@ -53,6 +60,13 @@ impl<W: Write + Drop> StdSink<W> {
         ensures faults { sink_faults result ≡ 0 }
     {
         StdSink { stream, faults: 0 }
+    }
+
+    /// How often it has failed, up to the greatest number.
+    pub fn faults(&self) -> u64
+        ensures { result ≡ sink_faults self.now }
+    {
+        self.faults
     }
 }
 

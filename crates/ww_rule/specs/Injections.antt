@@ -1,5 +1,5 @@
 -- Injections: cells that are made heads from outside, given by a list or by streams of bits.
-use Rattle.std.specs.Prelude.{ℤ, pos, ℕ, zero, suc, ◌+◌, ◌==◌, ◌≡◌, Bool, true, ◌&&◌, cond, List, [], ◌∷◌, ◌++◌, map, filter}
+use Rattle.std.specs.Prelude.{ℤ, pos, ℕ, zero, suc, ◌+◌, ◌<◌, ◌==◌, ◌≡◌, Bool, true, ◌&&◌, cond, List, [], ◌∷◌, ◌++◌, map, filter, All}
 use Rattle.std.specs.List.{list_any}
 use Rattle.std.specs.Ordering.{int_eq}
 use Rattle.ww_rule.specs.declared.pattern.Injection.{Injection}
@@ -44,3 +44,7 @@ before_injections due p (suc g) = next_plane (driven due p g)
 -- each injection meets a cell that is a conductor before that generation's injections
 abbrev pub MeetsConductors : Due → Plane → Type 0
 MeetsConductors due p = (g : ℕ) (x y : ℤ) → due g x y ≡ true → before_injections due p g x y ≡ Conductor
+
+-- injections at cells of a box
+abbrev pub AreInside : (width height : ℕ) → List Injection → Type 0
+AreInside width height injections = All (λ i. (i.x < width) × (i.y < height)) injections

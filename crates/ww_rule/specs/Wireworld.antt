@@ -1,6 +1,6 @@
 -- Wireworld, as Brian Silverman defined it: an empty cell stays empty; a head becomes a tail; a tail becomes a
 -- conductor; a conductor becomes a head exactly when one or two of its eight neighbours are heads, else it stays one.
-use Rattle.std.specs.Prelude.{ℤ, pos, ◌+ℤ◌, ◌-ℤ◌, ℕ, zero, suc, ◌+◌, ◌||◌, ◌==◌, cond, Bool, false}
+use Rattle.std.specs.Prelude.{ℤ, pos, ◌+ℤ◌, ◌-ℤ◌, ℕ, zero, suc, ◌+◌, ◌||◌, ◌==◌, cond, Bool, true, false}
 use Rattle.ww_rule.specs.declared.pattern.State.{State}
 use Rattle.ww_rule.specs.declared.pattern.State.TheVariants.{Empty, Head, Tail, Conductor}
 
@@ -15,6 +15,10 @@ count_head Empty = 0
 count_head Head = 1
 count_head Tail = 0
 count_head Conductor = 0
+
+abbrev pub is_head : State → Bool
+is_head Head = true
+is_head _ = false
 
 -- how many of the eight neighbours are heads
 abbrev pub heads_around : Plane → ℤ → ℤ → ℕ

@@ -1,5 +1,5 @@
 use Rattle.std.proofs.Common.{ap, ◌∙◌, refl}
-use Rattle.blif_text.specs.declared.fault.FaultKind.TheVariants.{UnknownDirective, Unsupported, BadCount, RowOutside, BadRow, MixedCover, BadLatch, BadPin, DuplicateModel}
+use Rattle.netlist_rules.specs.declared.fault.FaultKind.TheVariants.{UnknownDirective, Unsupported, BadCount, RowOutside, BadRow, MixedCover, BadLatch, BadPin, DuplicateModel}
 use Rattle.blif_reader.specs.Before.{holds_name, name_word}
 use Rattle.blif_reader.proofs.FirstRules.{rule}
 use Rattle.blif_reader.proofs.faults.broken_inside.Goals as goal

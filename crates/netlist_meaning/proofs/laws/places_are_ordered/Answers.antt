@@ -1,4 +1,4 @@
-use Rattle.netlist_meaning.proofs.ClockFaults.{places_are_ordered}
+use Rattle.netlist_meaning.proofs.PlaceOrder.{places_are_ordered}
 use Rattle.netlist_meaning.proofs.laws.places_are_ordered.Goals as goal
 
 pub returns : goal.returns

@@ -2,7 +2,7 @@ use Rattle.std.proofs.Common.{◌≡◌, ◌+◌, ◌∷◌, ℕ, List, length, 
 use Rattle.std.proofs.lemmas.Result.{err_from_is_err_and}
 use Rattle.pattern_reading.specs.Lines.{Line}
 use Rattle.pattern_lines.specs.Lines.{line_of}
-use Rattle.rle_read.specs.Drawn.{drawn_of, Open, Ended, Fault, fault_of, reached_of}
+use Rattle.rle_read.specs.Drawn.{drawn_of, Open, Ended, Fault, rle_fault_of, reached_of}
 use Rattle.std.specs.Prelude.{Ok}
 use Rattle.rle_read.proofs.DrawnLines.{after_line}
 use Rattle.rle_read.proofs.draw_text.draw_text.Goals as goal
@@ -11,7 +11,7 @@ pub returns-in_err-draw_line : goal.returns-in_err-draw_line
 returns-in_err-draw_line c =
     let p = err_from_is_err_and c.from_residual.result c.from_residual.ensures.1 in
     let d = drawn_of c.loop-rest.drawing in
-    rw (p.1, p.2) (inl (sym c.loop-rest.invariant.drawn ∙ after_line d (line_of c.split_line.result.0) _ _ (Fault (fault_of c.in_err-draw_line.field-0.0)) c.split_line.ensures.lines c.in_err-draw_line.ensures.drawn))
+    rw (p.1, p.2) (inl (sym c.loop-rest.invariant.drawn ∙ after_line d (line_of c.split_line.result.0) _ _ (Fault (rle_fault_of c.in_err-draw_line.field-0.0)) c.split_line.ensures.lines c.in_err-draw_line.ensures.drawn))
 
 pub returns-in-OfPattern : goal.returns-in-OfPattern
 returns-in-OfPattern c =

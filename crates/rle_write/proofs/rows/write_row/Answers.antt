@@ -2,8 +2,9 @@ use Rattle.std.proofs.Common.{◌≡◌, ◌+◌, ◌<◌, ℕ, List, ◌∷◌,
 use Rattle.ww_rule.specs.declared.pattern.State.{State}
 use Rattle.pattern_writing.specs.Writer.{tag_of}
 use Rattle.rle_write.specs.Left.{row_left, text_left}
-use Rattle.rle_write.specs.Lines.{line_text}
-use Rattle.rle_write.proofs.Steps.{on_err, wrote_then, wrote_broke, wrote_as, wrote_to, broke_as}
+use Rattle.rle_write.specs.Lines.{begun_text}
+use Rattle.rle_write.proofs.Steps.{wrote_then, wrote_broke, wrote_as, wrote_to, broke_as}
+use Rattle.lists.proofs.Results.{on_err}
 use Rattle.rle_write.proofs.Tags.{run_before_cell, row_left_end, run_longer, cells_next, cells_none}
 use Rattle.rle_write.proofs.rows.write_row.Goals as goal
 use Rattle.rle_write.proofs.rows.write_row.Goals.{then-tag-run, else-tag-run+in_ok-due}
@@ -15,7 +16,7 @@ left_by line ends count tag rows e = ap (λ l. text_left line (row_left ends (re
 
 pub loop-cell-preserved : goal.loop-cell-preserved
 loop-cell-preserved g c =
-    let line = line_text c.loop-cell.line in
+    let line = begun_text c.loop-cell.line in
     let due : ℕ = c.loop-cell.due in
     let run = c.loop-cell.run in
     let tag : ℕ = c.letter-tag.result in
@@ -48,7 +49,7 @@ loop-cell-preserved g c =
 
 pub returns-in_err-due-clause-err : goal.returns-in_err-due-clause-err
 returns-in_err-due-clause-err g c =
-    let line = line_text c.loop-cell.line in
+    let line = begun_text c.loop-cell.line in
     let due : ℕ = c.loop-cell.due in
     let run = c.loop-cell.run in
     let tag : ℕ = c.letter-tag.result in
@@ -63,7 +64,7 @@ returns-in_err-due-clause-err g c =
 
 pub returns-in_err-last-clause-err : goal.returns-in_err-last-clause-err
 returns-in_err-last-clause-err g c =
-    let line = line_text c.loop-cell.line in
+    let line = begun_text c.loop-cell.line in
     let due : ℕ = c.loop-cell.due in
     let run = c.loop-cell.run in
     let f = λ (rows : List (List State)).
@@ -75,10 +76,10 @@ returns-in_err-last-clause-err g c =
 
 pub returns-clause-ok : goal.returns-clause-ok
 returns-clause-ok g c rows =
-    let line = line_text c.loop-cell.line in
+    let line = begun_text c.loop-cell.line in
     let due : ℕ = c.loop-cell.due in
     let run = c.loop-cell.run in
-    wrote_to (ap (text_left (line_text c.end_run.new.line)) (row_left_end c.in_ok-last.last rows))
+    wrote_to (ap (text_left (begun_text c.end_run.new.line)) (row_left_end c.in_ok-last.last rows))
     (wrote_then (c.loop-cell.invariant.wrote rows)
     (wrote_as
     (left_by line due run.count run.tag rows (cells_none c.args.row.now c.loop-cell.cell-index c.loop-cell-test.false))

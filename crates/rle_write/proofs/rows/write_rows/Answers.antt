@@ -3,8 +3,9 @@ use Rattle.ww_rule.specs.declared.pattern.State.{State}
 use Rattle.rle_write.specs.Left.{rows_left, text_left}
 use Rattle.std.proofs.lemmas.List.{append-nil}
 use Rattle.std.proofs.lemmas.Result.{on_ok_weaker, on_err_weaker}
-use Rattle.rle_write.specs.Lines.{line_text}
-use Rattle.rle_write.proofs.Steps.{wrote_before, broke_before, on_err, wrote_then, wrote_broke, wrote_to}
+use Rattle.rle_write.specs.Lines.{begun_text}
+use Rattle.rle_write.proofs.Steps.{wrote_before, broke_before, wrote_then, wrote_broke, wrote_to}
+use Rattle.lists.proofs.Results.{on_err}
 use Rattle.rle_write.proofs.Tags.{items_next, rows_left_none}
 use Rattle.rle_write.proofs.rows.write_rows.Goals as goal
 
@@ -20,7 +21,7 @@ loop-row-preserved g c =
     record {
       fewer = omega (arith, c.in_ok-ends.ensures.one_more, c.loop-row.invariant.fewer);
       wrote =
-          wrote_then (wrote_to (ap (λ l. text_left (line_text c.loop-row.line) (rows_left c.loop-row.ends l)) next) c.loop-row.invariant.wrote)
+          wrote_then (wrote_to (ap (λ l. text_left (begun_text c.loop-row.line) (rows_left c.loop-row.ends l)) next) c.loop-row.invariant.wrote)
           (c.in_ok-ends.ensures.ok (drop (c.loop-row.row-index + 1) c.args.rows.now));
     }
 
@@ -30,7 +31,7 @@ returns-in_err-ends-clause-err g c =
     items_next c.args.rows.now c.loop-row.row-index c.row-item.result c.as_slice.result.now c.loop-row-test.true c.row-item.is c.as_slice.ensures in
     let f = λ (rest : List ℕ).
     broke_before (10 ∷ rest)
-    (wrote_broke (wrote_to (ap (λ l. text_left (line_text c.loop-row.line) (rows_left c.loop-row.ends l)) next) c.loop-row.invariant.wrote)
+    (wrote_broke (wrote_to (ap (λ l. text_left (begun_text c.loop-row.line) (rows_left c.loop-row.ends l)) next) c.loop-row.invariant.wrote)
     (c.in_err-ends.ensures.err (drop (c.loop-row.row-index + 1) c.args.rows.now))) in
     on_err _ f
 
@@ -38,7 +39,7 @@ pub returns-in_err-write_item-clause-err : goal.returns-in_err-write_item-clause
 returns-in_err-write_item-clause-err g c =
     let f = λ (rest : List ℕ).
     broke_before (10 ∷ rest)
-    (wrote_broke (wrote_to (none_left (line_text c.loop-row.line) c.loop-row.ends c.loop-row.row-index c.args.rows.now c.loop-row-test.false) c.loop-row.invariant.wrote)
+    (wrote_broke (wrote_to (none_left (begun_text c.loop-row.line) c.loop-row.ends c.loop-row.row-index c.args.rows.now c.loop-row-test.false) c.loop-row.invariant.wrote)
     (c.in_err-write_item.ensures.err [])) in
     on_err _ f
 
@@ -46,10 +47,10 @@ pub returns-clause-ok : goal.returns-clause-ok
 returns-clause-ok g c =
     on_ok_weaker c.end.result (λ wrote rest.
     wrote_then
-    (wrote_to (ap (λ l. l ++ (10 ∷ rest)) (append-nil (line_text c.write_item.new.line)))
+    (wrote_to (ap (λ l. l ++ (10 ∷ rest)) (append-nil (begun_text c.write_item.new.line)))
     (wrote_before (10 ∷ rest)
     (wrote_then
-    (wrote_to (none_left (line_text c.loop-row.line) c.loop-row.ends c.loop-row.row-index c.args.rows.now c.loop-row-test.false) c.loop-row.invariant.wrote)
+    (wrote_to (none_left (begun_text c.loop-row.line) c.loop-row.ends c.loop-row.row-index c.args.rows.now c.loop-row-test.false) c.loop-row.invariant.wrote)
     (c.in_ok-write_item.ensures.ok []))))
     (wrote rest))
     c.end.ensures.ok
@@ -58,10 +59,10 @@ pub returns-clause-err : goal.returns-clause-err
 returns-clause-err g c =
     on_err_weaker c.end.result (λ broke rest.
     wrote_broke
-    (wrote_to (ap (λ l. l ++ (10 ∷ rest)) (append-nil (line_text c.write_item.new.line)))
+    (wrote_to (ap (λ l. l ++ (10 ∷ rest)) (append-nil (begun_text c.write_item.new.line)))
     (wrote_before (10 ∷ rest)
     (wrote_then
-    (wrote_to (none_left (line_text c.loop-row.line) c.loop-row.ends c.loop-row.row-index c.args.rows.now c.loop-row-test.false) c.loop-row.invariant.wrote)
+    (wrote_to (none_left (begun_text c.loop-row.line) c.loop-row.ends c.loop-row.row-index c.args.rows.now c.loop-row-test.false) c.loop-row.invariant.wrote)
     (c.in_ok-write_item.ensures.ok []))))
     (broke rest))
     c.end.ensures.err

@@ -1,6 +1,7 @@
 use Rattle.std.proofs.Common.{◌≡◌, ℕ, List, ◌++◌, codes, decimal, append_assoc}
 use Rattle.std.proofs.lemmas.Result.{on_ok_weaker, on_err_weaker}
-use Rattle.rle_write.proofs.Steps.{on_err, wrote_then, wrote_broke, wrote_as, broke_as}
+use Rattle.rle_write.proofs.Steps.{wrote_then, wrote_broke, wrote_as, broke_as}
+use Rattle.lists.proofs.Results.{on_err}
 use Rattle.rle_write.proofs.text.write_header.Goals as goal
 
 joined : (a w b h c rest : List ℕ) → ((((a ++ w) ++ b) ++ h) ++ c) ++ rest ≡ a ++ (w ++ (b ++ (h ++ (c ++ rest))))

@@ -1,8 +1,9 @@
 use Rattle.std.proofs.Common.{◌≡◌, ℕ, List, [], ◌∷◌, ◌++◌, sym, ap, append_assoc, arith}
 use Rattle.std.proofs.lemmas.Result.{on_ok_weaker, on_err_weaker}
 use Rattle.ww_rule.specs.declared.pattern.State.{State}
-use Rattle.pattern_writing.specs.Writer.{lines_text, header_text, item_texts, wrapped}
-use Rattle.rle_write.proofs.Steps.{on_err, wrote_then, wrote_broke, wrote_as, wrote_before, wrote_whole, broke_as, broke_before, front_of, broke_cause, cause_of}
+use Rattle.pattern_writing.specs.Writer.{ended_lines, header_text, item_texts, wrapped}
+use Rattle.rle_write.proofs.Steps.{wrote_then, wrote_broke, wrote_as, wrote_before, wrote_whole, broke_as, broke_before, front_of, broke_cause, cause_of}
+use Rattle.lists.proofs.Results.{on_err}
 use Rattle.rle_write.proofs.text.write_pattern.Goals as goal
 
 joined : (l h w e : List ℕ) → ((l ++ h) ++ w) ++ e ≡ l ++ (h ++ (w ++ e))
@@ -14,7 +15,7 @@ sliced rows slice rest e = ap (λ r. wrapped 0 (item_texts r) ++ rest) (sym e)
 
 pub returns-in_err-write_lines-clause-front : goal.returns-in_err-write_lines-clause-front
 returns-in_err-write_lines-clause-front g c =
-    let l : List ℕ = lines_text c.args.lines.now in
+    let l : List ℕ = ended_lines c.args.lines.now in
     let h : List ℕ = header_text c.args.pattern.now.width c.args.pattern.now.height in
     let w : List ℕ = wrapped 0 (item_texts c.args.pattern.now.rows) in
     let e : List ℕ = 10 ∷ [] in
@@ -22,7 +23,7 @@ returns-in_err-write_lines-clause-front g c =
 
 pub returns-in_err-write_header-clause-front : goal.returns-in_err-write_header-clause-front
 returns-in_err-write_header-clause-front g c =
-    let l : List ℕ = lines_text c.args.lines.now in
+    let l : List ℕ = ended_lines c.args.lines.now in
     let h : List ℕ = header_text c.args.pattern.now.width c.args.pattern.now.height in
     let w : List ℕ = wrapped 0 (item_texts c.args.pattern.now.rows) in
     let e : List ℕ = 10 ∷ [] in
@@ -33,7 +34,7 @@ returns-in_err-write_header-clause-front g c =
 
 pub returns-clause-ok : goal.returns-clause-ok
 returns-clause-ok g c =
-    let l : List ℕ = lines_text c.args.lines.now in
+    let l : List ℕ = ended_lines c.args.lines.now in
     let h : List ℕ = header_text c.args.pattern.now.width c.args.pattern.now.height in
     let w : List ℕ = wrapped 0 (item_texts c.args.pattern.now.rows) in
     let e : List ℕ = 10 ∷ [] in
@@ -47,7 +48,7 @@ returns-clause-ok g c =
 
 pub returns-clause-front : goal.returns-clause-front
 returns-clause-front g c =
-    let l : List ℕ = lines_text c.args.lines.now in
+    let l : List ℕ = ended_lines c.args.lines.now in
     let h : List ℕ = header_text c.args.pattern.now.width c.args.pattern.now.height in
     let w : List ℕ = wrapped 0 (item_texts c.args.pattern.now.rows) in
     let e : List ℕ = 10 ∷ [] in

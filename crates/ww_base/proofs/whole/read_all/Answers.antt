@@ -1,6 +1,6 @@
 use Rattle.std.proofs.Common.{rules, ◌≤◌, ◌++◌, take, length, arith, length-append, length-take-le}
 use Rattle.std.proofs.KnownBytes.{Consumes-trans}
-use Rattle.ww_base.proofs.Moves.{at_err}
+use Rattle.lists.proofs.Results.{on_err}
 use Rattle.ww_base.proofs.whole.read_all.Goals as goal
 
 pub returns-then-count-limit-clause-too_long : goal.returns-then-count-limit-clause-too_long
@@ -22,5 +22,5 @@ returns-then-count-limit-clause-front g c =
 pub returns-in_err-extend_from_slice-clause-front :
     goal.returns-in_err-extend_from_slice-clause-front
 returns-in_err-extend_from_slice-clause-front g c =
-    at_err c.from_residual-in_err-extend_from_slice.result
+    on_err c.from_residual-in_err-extend_from_slice.result
     (c.reads.bytes.items ++ take c.in_ok-count.count c.read.new.buf, Consumes-trans _ _ _ _ _ c.reads.invariant.given c.in_ok-count.ensures.bytes.0)

@@ -1,6 +1,5 @@
-use Rattle.std.proofs.Common.{◌≡◌, [], ◌+◌, ◌<◌, ◌≤◌, ◌++◌, length, get_or, take, drop, arith, ap, sym, subst, ◌∙◌}
-use Rattle.std.proofs.lemmas.List.{take_at}
-use Rattle.rle_read.specs.Drawn.{place_of, drawn_of, with_run}
+use Rattle.std.proofs.Common.{[], ◌+◌, ◌<◌, ◌≤◌, length, get_or, sym, subst}
+use Rattle.rle_read.specs.Drawn.{place_of, drawn_of}
 use Rattle.pattern_reading.specs.Items.{Cells}
 use Rattle.rle_read.proofs.Runs.{run_inside, run_in_rows}
 use Rattle.rle_read.proofs.drawing.Drawing.draw_run.Goals as goal

@@ -1,6 +1,7 @@
 use Rattle.std.proofs.Common.{rules, ◌≡◌, ◌+◌, ◌<◌, ℕ, List, [], ◌∷◌, ◌++◌, length, take, set, sym, ap, ◌∙◌, append_assoc}
 use Rattle.std.proofs.lemmas.List.{take_more_set}
-use Rattle.rle_write.proofs.Steps.{on_err, wrote_as, broke_as}
+use Rattle.rle_write.proofs.Steps.{wrote_as, broke_as}
+use Rattle.lists.proofs.Results.{on_err}
 use Rattle.rle_write.proofs.line.Line.end.Goals as goal
 
 -- the line with its line end

@@ -1,0 +1,5 @@
+use Rattle.flat_designs.proofs.Whole.{flat_is_there}
+use Rattle.flat_designs.proofs.flat_is_there.Goals as goal
+
+pub returns : goal.returns
+returns c = flat_is_there

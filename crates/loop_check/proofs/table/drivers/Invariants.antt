@@ -1,0 +1,5 @@
+use Rattle.loop_check.specs.Walk.{IsTableBefore}
+use Rattle.loop_check.proofs.table.drivers.Given as goal
+
+abbrev pub invariant-loop-n : goal.invariant-loop-n
+invariant-loop-n l = IsTableBefore l.flat l.n l.table.items

@@ -1,0 +1,5 @@
+use Rattle.loop_check.specs.Walk.{AreFirstsBefore}
+use Rattle.loop_check.proofs.table.first_nets.Given as goal
+
+abbrev pub invariant-loop-n : goal.invariant-loop-n
+invariant-loop-n l = AreFirstsBefore l.flat l.n l.firsts.items

@@ -1,0 +1,57 @@
+// An order of the nodes, or a loop.
+ghost use Rattle.std.specs.Prelude.{◌≡◌, IfOk, IfErr, OnOk, List, ℕ};
+ghost use Rattle.netlist_meaning.specs.Flat.{IsSound};
+ghost use Rattle.netlist_meaning.specs.FlatOrder.{IsOrder, IsFlatLoop};
+ghost use Rattle.loop_check.specs.Reasons.{IsOrderRefusal};
+
+use crate::table::drivers;
+use crate::walk::Walk;
+use lists::List;
+use netlist_core::{Flat, NetId, Order};
+use std::alloc::{AllocError, AllocFailed, Global};
+
+/// Why there is no order.
+#[derive(Drop)]
+pub enum OrderError {
+    /// There is no memory for it.
+    NoMemory,
+    /// Nets of which each is read by a node whose output is the next, and the last by one whose output is the first.
+    Loop(List<NetId>),
+}
+
+impl From<AllocError> for OrderError {
+    ghost use Rattle.loop_check.specs.declared.ordering.OrderError.TheVariants.{NoMemory};
+
+    ghost from_gives = { λ _ e. e ≡ NoMemory };
+
+    fn from(_: AllocError) -> Self {
+        OrderError::NoMemory
+    }
+}
+
+impl<T: Drop> From<AllocFailed<T>> for OrderError {
+    ghost use Rattle.loop_check.specs.declared.ordering.OrderError.TheVariants.{NoMemory};
+
+    ghost from_gives = { λ _ e. e ≡ NoMemory };
+
+    fn from(_: AllocFailed<T>) -> Self {
+        OrderError::NoMemory
+    }
+}
+
+/// An order in which each node comes after those that drive what it reads, in a time that grows as nets, nodes and their inputs do.
+pub fn order(alloc: Global, flat: &Flat) -> Result<Order, OrderError>
+    requires { IsSound flat.now }
+    ensures order { IfOk result (λ order. IsOrder flat.now order.nodes) }
+    ensures no_loop { OnOk result ((classes : List ℕ) → ¬ IsFlatLoop flat.now classes) }
+    ensures refused { IfErr result (IsOrderRefusal flat.now) }
+{
+    let table = drivers(alloc, flat)?;
+    let mut walk = Walk::start(alloc, flat)?;
+    for n in 0..flat.nodes.len() {
+        walk.reach(alloc, flat, &table, n)?;
+    }
+    Ok(Order {
+        nodes: List::of(walk.order),
+    })
+}

@@ -1,0 +1,10 @@
+//! A flat netlist run cycle by cycle, along an order of its nodes.
+#![tactic(auto)]
+
+mod cover;
+mod laws;
+mod machine;
+mod settle;
+
+pub use laws::{cycles_are_one, ordered_have_one_valuation};
+pub use machine::{Machine, MachineError};

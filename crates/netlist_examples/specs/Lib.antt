@@ -1,0 +1,3 @@
+pub mod Designs
+pub mod Instances
+pub mod FlatInstances

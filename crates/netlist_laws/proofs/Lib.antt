@@ -1,0 +1,4 @@
+pub mod CoverValue
+pub mod ClockFaults
+pub mod OnlyNets
+pub mod Sublists

@@ -1,0 +1,5 @@
+use Rattle.netlist_laws.proofs.ClockFaults.{clock_read_is_on_one_line}
+use Rattle.netlist_laws.proofs.clock_read_is_on_one_line.Goals as goal
+
+pub returns : goal.returns
+returns c = clock_read_is_on_one_line

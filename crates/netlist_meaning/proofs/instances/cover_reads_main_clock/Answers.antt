@@ -1,5 +1,0 @@
-use Rattle.netlist_meaning.proofs.ClockInstances.{cover_reads_main_clock}
-use Rattle.netlist_meaning.proofs.instances.cover_reads_main_clock.Goals as goal
-
-pub returns : goal.returns
-returns c = cover_reads_main_clock

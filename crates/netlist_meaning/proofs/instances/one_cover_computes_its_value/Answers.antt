@@ -1,5 +1,0 @@
-use Rattle.netlist_meaning.proofs.OneCover.{one_cover_computes}
-use Rattle.netlist_meaning.proofs.instances.one_cover_computes_its_value.Goals as goal
-
-pub returns : goal.returns
-returns c = one_cover_computes

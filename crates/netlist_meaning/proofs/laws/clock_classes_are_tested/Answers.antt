@@ -1,0 +1,5 @@
+use Rattle.netlist_meaning.proofs.ClockClasses.{is_clock_class-Decides}
+use Rattle.netlist_meaning.proofs.laws.clock_classes_are_tested.Goals as goal
+
+pub returns : goal.returns
+returns c = λ flat class. is_clock_class-Decides flat class

@@ -1,0 +1,7 @@
+pub mod FaultKinds
+pub mod Bools
+pub mod ModelSteps
+pub mod CircleLemmas
+pub mod CircleSearch
+pub mod FirstModelFaults
+pub mod Faultless

@@ -1,0 +1,127 @@
+// The faults of a text.
+ghost use Rattle.std.specs.Prelude.{◌≡◌};
+ghost use Rattle.netlist_rules.specs.FaultNames.{name_of, number_of};
+
+use lists::Bytes;
+
+/// The faults, in the order of their numbers, from 1. `TwoClocks` and `ClockRead` are faults of the
+/// netlist with all its places; the others are faults of the lines and the models.
+#[derive(Clone, Copy, Debug, PartialEq, Eq)]
+pub enum FaultKind {
+    NoModelYet,
+    UnknownDirective,
+    Unsupported,
+    BadCount,
+    RowOutside,
+    BadRow,
+    MixedCover,
+    BadLatch,
+    BadPin,
+    AfterEnd,
+    DuplicateModel,
+    DuplicatePort,
+    MultipleDrivers,
+    Undriven,
+    NoSuchModel,
+    NoSuchPin,
+    PinTwice,
+    PinMissing,
+    Recursive,
+    TwoClocks,
+    ClockRead,
+    NoModel,
+}
+
+impl FaultKind {
+    /// The number that stands after `B` on the line of a fault.
+    pub fn number(self) -> u8
+        ensures { result ≡ number_of self }
+    {
+        match self {
+            FaultKind::NoModelYet => 1,
+            FaultKind::UnknownDirective => 2,
+            FaultKind::Unsupported => 3,
+            FaultKind::BadCount => 4,
+            FaultKind::RowOutside => 5,
+            FaultKind::BadRow => 6,
+            FaultKind::MixedCover => 7,
+            FaultKind::BadLatch => 8,
+            FaultKind::BadPin => 9,
+            FaultKind::AfterEnd => 10,
+            FaultKind::DuplicateModel => 11,
+            FaultKind::DuplicatePort => 12,
+            FaultKind::MultipleDrivers => 13,
+            FaultKind::Undriven => 14,
+            FaultKind::NoSuchModel => 15,
+            FaultKind::NoSuchPin => 16,
+            FaultKind::PinTwice => 17,
+            FaultKind::PinMissing => 18,
+            FaultKind::Recursive => 19,
+            FaultKind::TwoClocks => 20,
+            FaultKind::ClockRead => 21,
+            FaultKind::NoModel => 22,
+        }
+    }
+
+    /// The name on the line of a fault, in ASCII.
+    pub fn name(self) -> &'static str
+        ensures { result.now ≡ name_of self }
+    {
+        match self {
+            FaultKind::NoModelYet => "NoModelYet",
+            FaultKind::UnknownDirective => "UnknownDirective",
+            FaultKind::Unsupported => "Unsupported",
+            FaultKind::BadCount => "BadCount",
+            FaultKind::RowOutside => "RowOutside",
+            FaultKind::BadRow => "BadRow",
+            FaultKind::MixedCover => "MixedCover",
+            FaultKind::BadLatch => "BadLatch",
+            FaultKind::BadPin => "BadPin",
+            FaultKind::AfterEnd => "AfterEnd",
+            FaultKind::DuplicateModel => "DuplicateModel",
+            FaultKind::DuplicatePort => "DuplicatePort",
+            FaultKind::MultipleDrivers => "MultipleDrivers",
+            FaultKind::Undriven => "Undriven",
+            FaultKind::NoSuchModel => "NoSuchModel",
+            FaultKind::NoSuchPin => "NoSuchPin",
+            FaultKind::PinTwice => "PinTwice",
+            FaultKind::PinMissing => "PinMissing",
+            FaultKind::Recursive => "Recursive",
+            FaultKind::TwoClocks => "TwoClocks",
+            FaultKind::ClockRead => "ClockRead",
+            FaultKind::NoModel => "NoModel",
+        }
+    }
+}
+
+/// A fault with the number of its line and the word that it names.
+#[derive(Drop)]
+pub struct Fault {
+    pub kind: FaultKind,
+    pub line: u64,
+    pub word: Bytes,
+}
+
+#[cfg(test)]
+mod tests {
+    use crate::FaultKind;
+    use std::test::Fail;
+
+    #[test]
+    fn numbers_and_names_are_those_of_the_printed_lines(rt: HostRuntime) -> Result<(), Fail> {
+        let cases = [
+            (FaultKind::NoModelYet, 1, "NoModelYet"),
+            (FaultKind::RowOutside, 5, "RowOutside"),
+            (FaultKind::AfterEnd, 10, "AfterEnd"),
+            (FaultKind::Undriven, 14, "Undriven"),
+            (FaultKind::Recursive, 19, "Recursive"),
+            (FaultKind::ClockRead, 21, "ClockRead"),
+            (FaultKind::NoModel, 22, "NoModel"),
+        ];
+        for (kind, number, name) in cases.iter() {
+            assert_eq!(rt; kind.number(), *number);
+            assert_eq!(rt; kind.name(), *name);
+        }
+        Ok(())
+    }
+}
