@@ -1,5 +1,5 @@
 -- What tags tell of bits.
-use Rattle.std.specs.Prelude.{ℕ, ◌+◌, ◌<◌, ◌≡◌, ◌==◌, Bool, ◌&&◌, ◌||◌, not, cond, List, length, get_or, take, count_by, Option, Some, None}
+use Rattle.std.specs.Prelude.{ℕ, ◌+◌, ◌<◌, ◌≡◌, ◌==◌, Bool, ◌&&◌, ◌||◌, not, cond, List, length, get_or, count_by}
 use Rattle.lane_core.specs.declared.instr.Instr.{Instr}
 use Rattle.lane_core.specs.declared.instr.Instr.TheVariants as instrs
 use Rattle.lane_core.specs.declared.plan.NetPlace.{NetPlace}
