@@ -12,14 +12,14 @@ use denote.Ref.{Bor}
 use Rattle.blif_text.specs.declared.logical.Logical.{Logical}
 use Rattle.blif_text.specs.Models.{begins_model, first_operand, has_directive, is_directive, is_row}
 use Rattle.blif_text.specs.LineFaults.{is_end_or_model, first_row}
-use Rattle.blif_reader.specs.Before.{is_model_of, holds_name, HasNames, ended_after, first_or, row_after}
+use Rattle.blif_reader.specs.Before.{is_model_of, holds_name, KnowsNames, ended_after, first_or, first_row_after}
 
 named : (b t a : Bool) → b ≡ true → cond t true a ≡ ((b && t) || a)
 named true true a e = refl
 named true false a e = refl
 named false t a e = absurd (true≢false (sym e))
 
-pub name_added : (s n : BTreeSet (Bor (List ℕ))) (key : Bor (List ℕ)) (l : Logical) (before : List Logical) → begins_model l ≡ true → key.now ≡ first_operand l → HasNames s before → UpdatesBy (λ x y. slice_cmp nat_cmp x.now y.now) (λ k. slice_cmp nat_cmp key.now k.now) s n true → HasNames n (l ∷ before)
+pub name_added : (s n : BTreeSet (Bor (List ℕ))) (key : Bor (List ℕ)) (l : Logical) (before : List Logical) → begins_model l ≡ true → key.now ≡ first_operand l → KnowsNames s before → UpdatesBy (λ x y. slice_cmp nat_cmp x.now y.now) (λ k. slice_cmp nat_cmp key.now k.now) s n true → KnowsNames n (l ∷ before)
 name_added s n key l before begins is had updates name =
     let q : Bor (List ℕ) = record { ref_ptr = (0, 0); now = name } in
     updates.0 q
@@ -43,7 +43,7 @@ one_before : (l : Logical) (xs : List Logical) → first_or l (last_or None xs) 
 one_before l [] = refl
 one_before l (y ∷ ys) = sym (stays_first l y ys)
 
-pub row_more : (l : Logical) (before : List Logical) → row_after l (first_row before) ≡ first_row (l ∷ before)
+pub row_more : (l : Logical) (before : List Logical) → first_row_after l (first_row before) ≡ first_row (l ∷ before)
 row_more l before = by (is_directive l) ∙ ap (last_or None) (sym (take_while-cons is_row l before))
   where
     by : (t : Bool) → cond t None (first_or l (first_row before)) ≡ last_or None (cond (not t) (l ∷ take_while is_row before) [])

@@ -25,8 +25,8 @@ abbrev pub holds_name : BTreeSet (Bor (List ℕ)) → List ℕ → Bool
 holds_name names name = contains_by (λ k. slice_cmp nat_cmp name k.now) names
 
 -- A set has the names of the models that lines begin.
-abbrev pub HasNames : BTreeSet (Bor (List ℕ)) → List Logical → Type 0
-HasNames names before = (name : List ℕ) → holds_name names name ≡ list_any (is_model_of name) before
+abbrev pub KnowsNames : BTreeSet (Bor (List ℕ)) → List Logical → Type 0
+KnowsNames names before = (name : List ℕ) → holds_name names name ≡ list_any (is_model_of name) before
 
 -- how each line changes the rest
 abbrev pub ended_after : Logical → Bool → Bool
@@ -39,8 +39,8 @@ abbrev pub first_or : Logical → Option Logical → Option Logical
 first_or l None = Some l
 first_or l (Some row) = Some row
 
-abbrev pub row_after : Logical → Option Logical → Option Logical
-row_after l row = cond (is_directive l) None (first_or l row)
+abbrev pub first_row_after : Logical → Option Logical → Option Logical
+first_row_after l row = cond (is_directive l) None (first_or l row)
 
 -- What is kept is that of these lines.
 pub record HasRead (state : Before) (before : List Logical) : Type 0 where
@@ -48,7 +48,7 @@ pub record HasRead (state : Before) (before : List Logical) : Type 0 where
   pub ended : state.has_ended ≡ option_map_or (has_directive (codes ".end")) (find is_end_or_model before) false
   pub directive : option_copied state.directive ≡ last_directive before
   pub row : option_copied state.row ≡ first_row before
-  pub names : HasNames state.names before
+  pub names : KnowsNames state.names before
 
 -- The words at fault inside a model, over the last directive and the first row after it.
 abbrev pub is_cover : Option Logical → Bool
@@ -60,11 +60,11 @@ count_word l = then_some (has_bad_count l) (first_word l)
 abbrev pub outside_word : Option Logical → Logical → Option (List ℕ)
 outside_word directive l = then_some (is_row l && not (is_cover directive)) (first_word l)
 
-abbrev pub cover_inputs : Option Logical → ℕ
-cover_inputs directive = option_map_or number_of_inputs directive 0
+abbrev pub inputs_of_cover : Option Logical → ℕ
+inputs_of_cover directive = option_map_or number_of_inputs directive 0
 
 abbrev pub bad_row_word : Option Logical → Logical → Option (List ℕ)
-bad_row_word directive l = then_some (is_row l && is_cover directive && not (is_row_of (cover_inputs directive) l.words)) (first_word l)
+bad_row_word directive l = then_some (is_row l && is_cover directive && not (is_row_of (inputs_of_cover directive) l.words)) (first_word l)
 
 abbrev pub differs_from_first : Option Logical → Logical → Bool
 differs_from_first row l = option_map_or (differs_from l) row false

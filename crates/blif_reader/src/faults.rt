@@ -5,7 +5,7 @@ ghost use Rattle.blif_text.specs.declared.logical.Logical.{Logical};
 ghost use Rattle.blif_text.specs.Models.{first_operand};
 ghost use Rattle.netlist_rules.specs.FaultNames.{fault_on};
 ghost use Rattle.blif_text.specs.LineFaults.{first_broken, line_fault, line_rules};
-ghost use Rattle.blif_reader.specs.Before.{HasRead, holds_name, is_cover, cover_inputs, differs_from_first, count_word, outside_word, bad_row_word, mixed_word, latch_word, pin_word, name_word, inside_fault, broken_fault};
+ghost use Rattle.blif_reader.specs.Before.{HasRead, holds_name, is_cover, inputs_of_cover, differs_from_first, count_word, outside_word, bad_row_word, mixed_word, latch_word, pin_word, name_word, inside_fault, broken_fault};
 
 use crate::before::Before;
 use crate::latches::is_latch;
@@ -36,8 +36,8 @@ fn is_cover(directive: Option<&Logical>) -> bool
 }
 
 // How many inputs the cover of the last directive has.
-fn cover_inputs(directive: Option<&Logical>) -> usize
-    ensures { result ≡ cover_inputs (option_copied directive.entry) }
+fn inputs_of_cover(directive: Option<&Logical>) -> usize
+    ensures { result ≡ inputs_of_cover (option_copied directive.entry) }
 {
     match directive {
         None => 0,
@@ -79,7 +79,7 @@ fn bad_row_word<'a>(directive: Option<&'a Logical>, line: &'a Logical) -> Option
 {
     if is_row(line)
         && is_cover(directive)
-        && !is_row_of(cover_inputs(directive), line.words.as_slice())
+        && !is_row_of(inputs_of_cover(directive), line.words.as_slice())
     {
         Some(first_word(line))
     } else {

@@ -10,20 +10,20 @@ use Rattle.netlist_meaning.specs.CoverValue.{fits, product_holds, any_holds, cov
 use Rattle.cell_core.specs.declared.cells.Cell.{Cell}
 use Rattle.cell_core.specs.Sources.{reads_there, are_in_order}
 use Rattle.cell_core.specs.Meaning.{cell_bit, cell_bits}
-use Rattle.cover_cells.specs.Words.{word_bit, number_of, shown, Show}
+use Rattle.cover_cells.specs.Words.{word_bit, bits_number, table_bit, ShowTables}
 use Rattle.cover_cells.proofs.Products.{so_far, so_far_more}
 use Rattle.cover_cells.proofs.Tables.{number_small}
 
-pub ones_shown : (bits : List Bool) (nets : ℕ) → nets ≤ 6 → length bits ≡ nets → shown bits 18446744073709551615 ≡ true
-ones_shown bits nets few long = ap (λ x. x == 1) (bit_at_ones 64 (number_of bits) (number_small bits (omega (arith, long))))
+pub ones_shown : (bits : List Bool) (nets : ℕ) → nets ≤ 6 → length bits ≡ nets → table_bit bits 18446744073709551615 ≡ true
+ones_shown bits nets few long = ap (λ x. x == 1) (bit_at_ones 64 (bits_number bits) (number_small bits (omega (arith, long))))
 
 -- ---- a row
 pub row_more : (bits : List Bool) (row : List ℕ) (i nets word net new : ℕ) → nets ≤ 6 → length bits ≡ nets → i < length row → i < nets
-    → shown bits word ≡ so_far i row bits → shown bits net ≡ get_or bits i false
+    → table_bit bits word ≡ so_far i row bits → table_bit bits net ≡ get_or bits i false
     → ((n : ℕ) → n < 64 → word_bit new n ≡ (word_bit word n && fits (get_or row i 0) (word_bit net n)))
-    → shown bits new ≡ so_far (i + 1) row bits
+    → table_bit bits new ≡ so_far (i + 1) row bits
 row_more bits row i nets word net new few long in_row in_nets before is made =
-    made (number_of bits) (number_small bits (omega (arith, long)))
+    made (bits_number bits) (number_small bits (omega (arith, long)))
     ∙ ap₂ (λ a b. a && fits (get_or row i 0) b) before is
     ∙ sym (so_far_more i row bits in_row (omega (arith, long)))
 
@@ -34,11 +34,11 @@ row_end bits row i nets long end =
 
 -- ---- a cover
 pub off_word : (bits : List Bool) (rows : List (List ℕ)) (i nets word new : ℕ) → nets ≤ 6 → length bits ≡ nets → i ≡ length rows → rows ≢ []
-    → shown bits word ≡ any_holds (take i rows) bits
+    → table_bit bits word ≡ any_holds (take i rows) bits
     → ((n : ℕ) → n < 64 → word_bit new n ≡ (word_bit 18446744073709551615 n && not (word_bit word n)))
-    → shown bits new ≡ cover_value rows false bits
+    → table_bit bits new ≡ cover_value rows false bits
 off_word bits rows i nets word new few long end some before made =
-    made (number_of bits) (number_small bits (omega (arith, long)))
+    made (bits_number bits) (number_small bits (omega (arith, long)))
     ∙ ap₂ (λ a b. a && not b) (ones_shown bits nets few long) (before ∙ ap (λ r. any_holds r bits) (take_all i rows (omega arith)))
     ∙ off rows some
   where
@@ -49,7 +49,7 @@ off_word bits rows i nets word new few long end some before made =
 -- ---- cells
 pub record HasWords (nets : ℕ) (words : List ℕ) (i : ℕ) (cells : List Cell) : Type 0 where
   pub long : length words ≡ i
-  pub shows : (bits : List Bool) → length bits ≡ nets → Show bits words (cell_bits bits [] (take i cells))
+  pub shows : (bits : List Bool) → length bits ≡ nets → ShowTables bits words (cell_bits bits [] (take i cells))
 
 pub cell_in_order : (inputs latches made : ℕ) (cells : List Cell) (i : ℕ) (d : Cell) → i < length cells → are_in_order inputs latches made cells ≡ true
     → reads_there inputs latches (made + i) (get_or cells i d) ≡ true
@@ -66,12 +66,12 @@ cell_bits_more inputs state cells i d within =
     ap (cell_bits inputs state) (take_more cells i d within) ∙ fold_push (λ made c. made ++ cell_bit inputs state made c ∷ []) [] (take i cells) (get_or cells i d)
 
 pub word_added : (nets i word : ℕ) (words new : List ℕ) (cells : List Cell) (d : Cell) → i < length cells → new ≡ words ++ word ∷ [] → HasWords nets words i cells
-    → ((bits made : List Bool) → length bits ≡ nets → Show bits words made → shown bits word ≡ cell_bit bits [] made (get_or cells i d)) → HasWords nets new (i + 1) cells
+    → ((bits made : List Bool) → length bits ≡ nets → ShowTables bits words made → table_bit bits word ≡ cell_bit bits [] made (get_or cells i d)) → HasWords nets new (i + 1) cells
 word_added nets i word words new cells d within is has made =
     record {
       long = ap length is ∙ length_push words word ∙ ap (λ n. n + 1) has.long;
       shows = λ bits long.
-          ap (map (shown bits)) is ∙ map-append (shown bits) words (word ∷ [])
+          ap (map (table_bit bits)) is ∙ map-append (table_bit bits) words (word ∷ [])
           ∙ ap₂ (λ (l : List Bool) (b : Bool). l ++ b ∷ []) (has.shows bits long) (made bits (cell_bits bits [] (take i cells)) long (has.shows bits long))
           ∙ sym (cell_bits_more bits [] cells i d within);
     }

@@ -4,7 +4,7 @@ use Rattle.std.specs.Int.{bit_at, bit_not, w64}
 use Rattle.std.specs.Int.RustNames.{bit_xor}
 use Rattle.std.proofs.lemmas.Bool.{agree_below, agree_below_at}
 use Rattle.std.proofs.lemmas.Nat.Bits.{bit_at-lt, bit_at_and, bit_at_or, bit_at_xor, bit_at_not, bit_at-suc, bit_at_lowest, bit_at-zero}
-use Rattle.cover_cells.specs.Words.{word_bit, number_of, shown}
+use Rattle.cover_cells.specs.Words.{word_bit, bits_number, table_bit}
 
 -- ---- digits
 digit : (x : ℕ) → x < 2 → (x ≡ 0) ⊎ (x ≡ 1)
@@ -43,24 +43,24 @@ halved true n = (omega arith, (let e : (1 + 2 * n) % 2 ≡ 1 = omega arith in ap
 halved false n = (omega arith, (let e : (0 + 2 * n) % 2 ≡ 0 = omega arith in ap (λ x. x == 1) e))
 
 -- bit i of the number is the i-th of the bits
-pub bit_of_number : (bits : List Bool) (i : ℕ) → word_bit (number_of bits) i ≡ get_or bits i false
+pub bit_of_number : (bits : List Bool) (i : ℕ) → word_bit (bits_number bits) i ≡ get_or bits i false
 bit_of_number [] i = ap (λ x. x == 1) (bit_at-zero i)
-bit_of_number (b ∷ bits) zero = ap (λ x. x == 1) (bit_at_lowest (number_of (b ∷ bits))) ∙ (halved b (number_of bits)).1
-bit_of_number (b ∷ bits) (suc i) = ap (λ x. x == 1) (bit_at-suc (number_of (b ∷ bits)) i ∙ ap (λ n. bit_at n i) (halved b (number_of bits)).0) ∙ bit_of_number bits i
+bit_of_number (b ∷ bits) zero = ap (λ x. x == 1) (bit_at_lowest (bits_number (b ∷ bits))) ∙ (halved b (bits_number bits)).1
+bit_of_number (b ∷ bits) (suc i) = ap (λ x. x == 1) (bit_at-suc (bits_number (b ∷ bits)) i ∙ ap (λ n. bit_at n i) (halved b (bits_number bits)).0) ∙ bit_of_number bits i
 
-wider : (n m : ℕ) → ((bits : List Bool) → length bits ≤ n → number_of bits < m) → (bits : List Bool) → length bits ≤ n + 1 → number_of bits < 2 * m
+wider : (n m : ℕ) → ((bits : List Bool) → length bits ≤ n → bits_number bits < m) → (bits : List Bool) → length bits ≤ n + 1 → bits_number bits < 2 * m
 wider n m small [] le = let e : 0 < m = small [] (omega arith) in omega arith
-wider n m small (true ∷ bits) le = let e : number_of bits < m = small bits (omega arith) in omega arith
-wider n m small (false ∷ bits) le = let e : number_of bits < m = small bits (omega arith) in omega arith
+wider n m small (true ∷ bits) le = let e : bits_number bits < m = small bits (omega arith) in omega arith
+wider n m small (false ∷ bits) le = let e : bits_number bits < m = small bits (omega arith) in omega arith
 
-none_small : (bits : List Bool) → length bits ≤ 0 → number_of bits < 1
+none_small : (bits : List Bool) → length bits ≤ 0 → bits_number bits < 1
 none_small [] le = omega arith
 none_small (b ∷ bits) le = absurd (omega arith)
 
-pub number_small : (bits : List Bool) → length bits ≤ 6 → number_of bits < 64
+pub number_small : (bits : List Bool) → length bits ≤ 6 → bits_number bits < 64
 number_small = wider 5 32 (wider 4 16 (wider 3 8 (wider 2 4 (wider 1 2 (wider 0 1 none_small)))))
 
 -- ---- the tables of nets
 -- bit n of the table is bit i of n
-pub net_shown : (word i : ℕ) (bits : List Bool) → length bits ≤ 6 → agree_below (λ n. word_bit word n) (λ n. word_bit n i) 64 ≡ true → shown bits word ≡ get_or bits i false
-net_shown word i bits le agree = agree_below_at (λ n. word_bit word n) (λ n. word_bit n i) 64 (number_of bits) agree (number_small bits le) ∙ bit_of_number bits i
+pub net_shown : (word i : ℕ) (bits : List Bool) → length bits ≤ 6 → agree_below (λ n. word_bit word n) (λ n. word_bit n i) 64 ≡ true → table_bit bits word ≡ get_or bits i false
+net_shown word i bits le agree = agree_below_at (λ n. word_bit word n) (λ n. word_bit n i) 64 (bits_number bits) agree (number_small bits le) ∙ bit_of_number bits i

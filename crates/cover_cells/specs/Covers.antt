@@ -1,17 +1,13 @@
 -- What is said of the cells of a cover.
 use Rattle.std.specs.Prelude.{ℕ, ◌+◌, ◌*◌, ◌==◌, ◌≡◌, ◌≢◌, ◌⊎◌, Bool, true, false, not, List, [], length, sum_by, take, get_or, nat_lt, cond}
 use Rattle.std.specs.List.{list_any}
-use Rattle.netlist_core.specs.OwnWeight.{literals}
+use Rattle.netlist_core.specs.OwnWeight.{literals, rows_weight}
 use Rattle.netlist_meaning.specs.CoverValue.{product_holds, any_holds, cover_value}
 use Rattle.cell_core.specs.declared.cells.Src.{Src}
 use Rattle.cell_core.specs.declared.cells.Src.TheVariants.{One}
 use Rattle.cell_core.specs.declared.list.CellList.{CellList}
 use Rattle.cell_core.specs.Sources.{is_one}
 use Rattle.cover_cells.specs.Grown.{bits_of, Answers}
-
--- one for the cover, one for each row, and one for each `0` and `1`
-abbrev pub rows_weight : List (List ℕ) → ℕ
-rows_weight rows = 1 + length rows + sum_by literals rows
 
 -- the source at a place, or constant 1 where it is not among the first so many
 abbrev pub start_of : List Src → ℕ → ℕ → Src

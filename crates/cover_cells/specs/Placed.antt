@@ -11,17 +11,17 @@ use Rattle.cell_core.specs.Meaning.{cell_bits}
 use Rattle.cover_cells.specs.Grown.{HasSources, bits_of, Grows}
 
 -- input i stands for the i-th source, and cell j for the j-th that was made
-abbrev pub moved : List Src → List Src → Src → Src
-moved sources made (Input i) = get_or sources i Zero
-moved sources made (Latch i) = Zero
-moved sources made One = One
-moved sources made Zero = Zero
-moved sources made (Made i) = get_or made i Zero
+abbrev pub relocated : List Src → List Src → Src → Src
+relocated sources made (Input i) = get_or sources i Zero
+relocated sources made (Latch i) = Zero
+relocated sources made One = One
+relocated sources made Zero = Zero
+relocated sources made (Made i) = get_or made i Zero
 
-abbrev pub moved_cell : List Src → List Src → Cell → Cell
-moved_cell sources made (Or a b) = Or (moved sources made a) (moved sources made b)
-moved_cell sources made (Xor a b) = Xor (moved sources made a) (moved sources made b)
-moved_cell sources made (AndNot a b) = AndNot (moved sources made a) (moved sources made b)
+abbrev pub relocated_cell : List Src → List Src → Cell → Cell
+relocated_cell sources made (Or a b) = Or (relocated sources made a) (relocated sources made b)
+relocated_cell sources made (Xor a b) = Xor (relocated sources made a) (relocated sources made b)
+relocated_cell sources made (AndNot a b) = AndNot (relocated sources made a) (relocated sources made b)
 
 -- constant 1 is read because one of the sources is it, or because one of the cells reads it
 abbrev pub ReadsOne : List Src → List Cell → Type 0

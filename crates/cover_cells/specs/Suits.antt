@@ -5,7 +5,8 @@ use Rattle.cell_core.specs.declared.cells.Src.{Src}
 use Rattle.cell_core.specs.Sources.{is_there, are_in_order, is_one, read_one}
 use Rattle.cell_core.specs.Meaning.{bit_in}
 use Rattle.cover_cells.specs.declared.search.Found.{Found}
-use Rattle.cover_cells.specs.Covers.{rows_weight, CoverNeedsOne}
+use Rattle.netlist_core.specs.OwnWeight.{rows_weight}
+use Rattle.cover_cells.specs.Covers.{CoverNeedsOne}
 
 -- the cells read only so many nets and cells before them
 pub record StandsAlone (nets : ℕ) (found : Found) : Type 0 where

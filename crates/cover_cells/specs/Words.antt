@@ -10,20 +10,20 @@ abbrev pub word_bit : ℕ → ℕ → Bool
 word_bit word n = bit_at word n == 1
 
 -- the number that bits make, the first of them lowest
-abbrev pub number_of : List Bool → ℕ
-number_of [] = 0
-number_of (bit ∷ bits) = cond bit 1 0 + 2 * number_of bits
+abbrev pub bits_number : List Bool → ℕ
+bits_number [] = 0
+bits_number (bit ∷ bits) = cond bit 1 0 + 2 * bits_number bits
 
 -- what a word says where the nets have these bits
-abbrev pub shown : List Bool → ℕ → Bool
-shown bits word = word_bit word (number_of bits)
+abbrev pub table_bit : List Bool → ℕ → Bool
+table_bit bits word = word_bit word (bits_number bits)
 
 -- the words say these bits
-abbrev pub Show : List Bool → List ℕ → List Bool → Type 0
-Show bits words made = map (shown bits) words ≡ made
+abbrev pub ShowTables : List Bool → List ℕ → List Bool → Type 0
+ShowTables bits words made = map (table_bit bits) words ≡ made
 
 -- the cells are in order, and their root has the table's bits
-pub record Computes (cells : List Cell) (root : Src) (nets table : ℕ) : Type 0 where
+pub record HasTable (cells : List Cell) (root : Src) (nets table : ℕ) : Type 0 where
   pub in_order : are_in_order nets 0 0 cells ≡ true
   pub there : is_there nets 0 (length cells) root ≡ true
-  pub bits : (bits : List Bool) → length bits ≡ nets → bit_in cells bits [] root ≡ shown bits table
+  pub bits : (bits : List Bool) → length bits ≡ nets → bit_in cells bits [] root ≡ table_bit bits table

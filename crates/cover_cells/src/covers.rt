@@ -1,17 +1,17 @@
 // A cover as cells: one cell, or cells that a search found, or its rows.
 ghost use Rattle.std.specs.Prelude.{◌≡◌, ◌==◌, ◌∷◌, [], ◌⊎◌, ◌≤◌, ◌*◌, min, true, length, IsTrue, IfOk, IfSome, Some};
 ghost use Rattle.std.specs.List.{list_any};
-ghost use Rattle.netlist_core.specs.OwnWeight.{literals};
+ghost use Rattle.netlist_core.specs.OwnWeight.{literals, rows_weight};
 ghost use Rattle.cell_core.specs.Meaning.{bit_in};
 ghost use Rattle.cell_core.specs.Sources.{are_there, is_one, reads_one, read_one};
 ghost use Rattle.cover_cells.specs.Grown.{HasSources, bits_of, Answers, IsCell};
-ghost use Rattle.cover_cells.specs.Covers.{rows_weight, has_no_positive, CoverNeedsOne, AnswersCover};
+ghost use Rattle.cover_cells.specs.Covers.{has_no_positive, CoverNeedsOne, AnswersCover};
 ghost use Rattle.cover_cells.specs.Placed.{ReadsOne};
 ghost use Rattle.cover_cells.specs.Singles.{single_cell};
 ghost use Rattle.cell_core.specs.declared.cells.Cell.{Cell};
 ghost use Rattle.cover_cells.specs.Suits.{Suits, StandsAlone, ReadsOneRoot};
 
-use crate::placed::{moved, place};
+use crate::placed::{place, relocated};
 use crate::rows::map_rows;
 use crate::search::{Found, search};
 use crate::shared::{Places, share};
@@ -135,7 +135,7 @@ fn put(
     ensures { IfOk result (λ src. Answers list.old list.new (length found.now.cells) (ReadsOne sources.now found.now.cells ⊎ (is_one found.now.root ≡ true)) src (λ inputs state. bit_in found.now.cells (bits_of list.old sources.now inputs state) [] found.now.root)) }
 {
     let made = place(list, places, alloc, sources, found.cells.as_slice())?;
-    Ok(moved(found.root, sources, &made))
+    Ok(relocated(found.root, sources, &made))
 }
 
 /// Adds cells for a cover, and says which source has its value.

@@ -2,16 +2,16 @@
 ghost use Rattle.std.specs.Prelude.{◌≡◌, ◌⊎◌, true, length, get_or, IsTrue, IfOk};
 ghost use Rattle.cell_core.specs.Sources.{is_there, reads_there, are_in_order, is_one, read_one};
 ghost use Rattle.cover_cells.specs.Grown.{HasSources};
-ghost use Rattle.cover_cells.specs.Placed.{moved, moved_cell, ArePlaced};
+ghost use Rattle.cover_cells.specs.Placed.{relocated, relocated_cell, ArePlaced};
 
 use crate::shared::{Places, share};
 use cell_core::{Cell, CellError, CellList, Src};
 use std::alloc::Global;
 
 // What a source of the cells is in the list.
-pub fn moved(src: Src, sources: &[Src], made: &[Src]) -> Src
+pub fn relocated(src: Src, sources: &[Src], made: &[Src]) -> Src
     requires { IsTrue (is_there (length sources.now) 0 (length made.now) src) }
-    ensures { result ≡ moved sources.now made.now src }
+    ensures { result ≡ relocated sources.now made.now src }
 {
     match src {
         Src::Input(i) => sources[i as usize],
@@ -21,14 +21,17 @@ pub fn moved(src: Src, sources: &[Src], made: &[Src]) -> Src
     }
 }
 
-fn moved_cell(cell: Cell, sources: &[Src], made: &[Src]) -> Cell
+fn relocated_cell(cell: Cell, sources: &[Src], made: &[Src]) -> Cell
     requires { IsTrue (reads_there (length sources.now) 0 (length made.now) cell) }
-    ensures { result ≡ moved_cell sources.now made.now cell }
+    ensures { result ≡ relocated_cell sources.now made.now cell }
 {
     match cell {
-        Cell::Or(a, b) => Cell::Or(moved(a, sources, made), moved(b, sources, made)),
-        Cell::Xor(a, b) => Cell::Xor(moved(a, sources, made), moved(b, sources, made)),
-        Cell::AndNot(a, b) => Cell::AndNot(moved(a, sources, made), moved(b, sources, made)),
+        Cell::Or(a, b) => Cell::Or(relocated(a, sources, made), relocated(b, sources, made)),
+        Cell::Xor(a, b) => Cell::Xor(relocated(a, sources, made), relocated(b, sources, made)),
+        Cell::AndNot(a, b) => Cell::AndNot(
+            relocated(a, sources, made),
+            relocated(b, sources, made),
+        ),
     }
 }
 
@@ -46,7 +49,7 @@ pub fn place(
 {
     let mut made = Vec::new(alloc);
     for cell in cells {
-        let placed = share(list, places, alloc, moved_cell(*cell, sources, &made))?;
+        let placed = share(list, places, alloc, relocated_cell(*cell, sources, &made))?;
         made.push(placed)?;
     }
     Ok(made)

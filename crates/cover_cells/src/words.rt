@@ -3,7 +3,7 @@ ghost use Rattle.std.specs.Prelude.{◌≡◌, ◌<◌, ◌≤◌, ◌||◌, ◌
 ghost use Rattle.netlist_meaning.specs.CoverValue.{fits, product_holds, any_holds, cover_value};
 ghost use Rattle.cell_core.specs.Sources.{is_there, reads_there, are_in_order};
 ghost use Rattle.cell_core.specs.Meaning.{source_bit, cell_bit, cell_bits, bit_in};
-ghost use Rattle.cover_cells.specs.Words.{word_bit, number_of, shown, Show, Computes};
+ghost use Rattle.cover_cells.specs.Words.{word_bit, bits_number, table_bit, ShowTables, HasTable};
 
 use cell_core::{Cell, CellError, Src};
 use lists::Bytes;
@@ -46,7 +46,7 @@ fn and_not_words(a: u64, b: u64) -> u64
 // The word of a net, whose bit is at place i.
 fn net_word(i: usize) -> u64
     requires { i < 6 }
-    ensures { (bits : List Bool) → length bits ≤ 6 → shown bits result ≡ get_or bits i false }
+    ensures { (bits : List Bool) → length bits ≤ 6 → table_bit bits result ≡ get_or bits i false }
 {
     NETS[i]
 }
@@ -65,7 +65,7 @@ fn column_word(word: u64, net: u64, character: u8) -> u64
 // The table of a row over so many nets.
 fn row_word(row: &[u8], nets: usize) -> u64
     requires { nets ≤ 6 }
-    ensures { (bits : List Bool) → length bits ≡ nets → shown bits result ≡ product_holds row.now bits }
+    ensures { (bits : List Bool) → length bits ≡ nets → table_bit bits result ≡ product_holds row.now bits }
 {
     let mut word = u64::MAX;
     for i in 0..row.len().min(nets) {
@@ -77,7 +77,7 @@ fn row_word(row: &[u8], nets: usize) -> u64
 // The table of a cover over so many nets.
 pub fn rows_word(rows: &[Bytes], on: bool, nets: usize) -> u64
     requires { nets ≤ 6 }
-    ensures { (bits : List Bool) → length bits ≡ nets → shown bits result ≡ cover_value rows.now on bits }
+    ensures { (bits : List Bool) → length bits ≡ nets → table_bit bits result ≡ cover_value rows.now on bits }
 {
     let mut word = 0;
     for row in rows {
@@ -96,7 +96,7 @@ pub fn rows_word(rows: &[Bytes], on: bool, nets: usize) -> u64
 fn source_word(src: Src, nets: usize, words: &[u64]) -> u64
     requires few { nets ≤ 6 }
     requires there { IsTrue (is_there nets 0 (length words.now) src) }
-    ensures { (bits made : List Bool) → length bits ≡ nets → Show bits words.now made → shown bits result ≡ source_bit bits [] made src }
+    ensures { (bits made : List Bool) → length bits ≡ nets → ShowTables bits words.now made → table_bit bits result ≡ source_bit bits [] made src }
 {
     match src {
         Src::Input(i) => net_word(i as usize),
@@ -109,7 +109,7 @@ fn source_word(src: Src, nets: usize, words: &[u64]) -> u64
 fn cell_word(cell: Cell, nets: usize, words: &[u64]) -> u64
     requires few { nets ≤ 6 }
     requires there { IsTrue (reads_there nets 0 (length words.now) cell) }
-    ensures { (bits made : List Bool) → length bits ≡ nets → Show bits words.now made → shown bits result ≡ cell_bit bits [] made cell }
+    ensures { (bits made : List Bool) → length bits ≡ nets → ShowTables bits words.now made → table_bit bits result ≡ cell_bit bits [] made cell }
 {
     match cell {
         Cell::Or(a, b) => or_words(source_word(a, nets, words), source_word(b, nets, words)),
@@ -125,7 +125,7 @@ fn list_words(alloc: Global, cells: &[Cell], nets: usize) -> Result<Vec<u64>, Ce
     requires few { nets ≤ 6 }
     requires in_order { IsTrue (are_in_order nets 0 0 cells.now) }
     ensures long { IfOk result (λ words. length words.items ≡ length cells.now) }
-    ensures shows { IfOk result (λ words. (bits : List Bool) → length bits ≡ nets → Show bits words.items (cell_bits bits [] cells.now)) }
+    ensures shows { IfOk result (λ words. (bits : List Bool) → length bits ≡ nets → ShowTables bits words.items (cell_bits bits [] cells.now)) }
 {
     let mut words = Vec::new(alloc);
     for cell in cells {
@@ -156,7 +156,7 @@ pub fn computes(
     table: u64,
 ) -> Result<bool, CellError>
     requires { nets ≤ 6 }
-    ensures { IfOk result (λ yes. yes ≡ true → Computes cells.now root nets table) }
+    ensures { IfOk result (λ yes. yes ≡ true → HasTable cells.now root nets table) }
 {
     if !are_in_order(cells, nets) || !root.is_there(nets, 0, cells.len()) {
         return Ok(false);

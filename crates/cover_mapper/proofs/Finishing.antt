@@ -1,22 +1,21 @@
 -- Ports and nets, when all nodes are mapped.
-use Rattle.std.proofs.Common.{◌≡◌, ◌==◌, refl, sym, ◌∙◌, ap, subst, ℕ, zero, suc, ◌*◌, ◌<◌, ◌≤◌, Bool, true, false, cond, not, List, [], ◌∷◌, ◌++◌, map, filter, length, get_or, replicate, Option, Some, None, inl, inr, ⊎_elim, arith}
+use Rattle.std.proofs.Common.{◌≡◌, refl, sym, ◌∙◌, ap, subst, ℕ, zero, suc, ◌*◌, ◌<◌, ◌≤◌, Bool, true, false, cond, not, List, [], ◌∷◌, ◌++◌, map, filter, length, get_or, replicate, Option, Some, None, ⊎_elim, arith}
 use Rattle.std.proofs.lemmas.Grind.{get_or_default_zero}
-use Rattle.std.specs.Prelude.{slice_get, Contains, sum_by, MatchOption}
+use Rattle.std.specs.Prelude.{slice_get, sum_by}
 use Rattle.std.specs.List.{list_any, cons_option}
-use Rattle.std.specs.Option.{option_map_or}
-use Rattle.std.proofs.lemmas.Bool.{true≢false, eqb-true, eq-eqb, or_cases, or_left, or_right, and_parts, and_from}
+use Rattle.std.proofs.lemmas.Bool.{true≢false, or_cases}
 use Rattle.std.proofs.lemmas.Option.{slice_get_within}
 use Rattle.std.proofs.lemmas.List.{get_or-map, length-map}
 use Rattle.std.proofs.lemmas.List.Elements.{All-get_or}
 use Rattle.std.proofs.lemmas.Simd.{map-map}
-use Rattle.lists.proofs.Members.{In, contains_from, passes_somewhere, passes_at}
+use Rattle.netlist_meaning.proofs.ClockClasses.{is_clock_class-Decides}
 use Rattle.netlist_core.specs.declared.flat.NetId.{NetId}
 use Rattle.netlist_core.specs.declared.flat.Net.{Net as FlatNet}
 use Rattle.netlist_core.specs.declared.flat.FlatPort.{FlatPort}
 use Rattle.netlist_core.specs.declared.flat.FlatLatch.{FlatLatch}
 use Rattle.netlist_core.specs.declared.flat.Node.{Node}
 use Rattle.netlist_core.specs.declared.flat.Flat.{Flat}
-use Rattle.netlist_meaning.specs.Flat.{class_of, node_at, no_node, no_net, port_classes, IsNetId, IsClockClass, IsSound, FlatDriver, FlatDrives}
+use Rattle.netlist_meaning.specs.Flat.{class_of, node_at, no_node, no_net, port_classes, is_clock_class, IsNetId, IsClockClass, IsSound, FlatDriver, FlatDrives}
 use Rattle.netlist_meaning.specs.FlatOrder.{IsOrder}
 use Rattle.netlist_meaning.specs.FlatValuation.{IsFlatValuation}
 use Rattle.cell_core.specs.declared.cells.Src.{Src}
@@ -26,9 +25,9 @@ use Rattle.cell_core.specs.declared.cells.Cell.{Cell}
 use Rattle.cell_core.specs.Meaning.{bit_in, bit_of}
 use Rattle.cell_core.specs.Sources.{are_there, is_one, read_one}
 use Rattle.cell_core.specs.Loops.{names_one}
-use Rattle.cover_cells.specs.Covers.{rows_weight}
+use Rattle.netlist_core.specs.OwnWeight.{rows_weight}
 use Rattle.cover_cells.specs.Grown.{Grows}
-use Rattle.cover_mapper.specs.Listed.{is_clock_class, listed_classes}
+use Rattle.cover_mapper.specs.Listed.{listed_classes}
 use Rattle.cover_mapper.specs.Needs.{any_needs_one, covers_weight}
 use Rattle.cover_mapper.specs.Mapped.{IsMapped, HasBits}
 use Rattle.cover_mapper.specs.Sourced.{ClassSources, AreSourced, HasSingle, IsComplete, sources_at, source_at}
@@ -39,37 +38,6 @@ use Rattle.cover_mapper.proofs.Weights.{weigh_at_most}
 pub zeros_there : (inputs latches cells n : ℕ) → are_there inputs latches cells (replicate n Zero) ≡ true
 zeros_there inputs latches cells zero = refl
 zeros_there inputs latches cells (suc n) = zeros_there inputs latches cells n
-
--- ---- clock classes
-has_class : (classes : List ℕ) (class : ℕ) → Contains classes class → list_any (λ c. c == class) classes ≡ true
-has_class classes class has = passes_somewhere (λ c. c == class) classes class has (eq-eqb class class refl)
-
-class_has : (classes : List ℕ) (class : ℕ) → list_any (λ c. c == class) classes ≡ true → Contains classes class
-class_has classes class e = let (x, is_in, same) = passes_at (λ c. c == class) classes e in contains_from classes class (subst (λ y. In y classes) (eqb-true x class same) is_in)
-
-not_true : (b : Bool) → not b ≡ true → b ≡ true → ⊥
-not_true b e f = true≢false (sym e ∙ ap not f)
-
-of_not : (b : Bool) → (b ≡ true → ⊥) → not b ≡ true
-of_not true never = absurd (never refl)
-of_not false never = refl
-
-control_is : (flat : Flat) (class : ℕ) (control : Option NetId) → (option_map_or (λ id. class_of flat id == class) control false ≡ true → MatchOption control ⊥ (λ id. class_of flat id ≡ class))
-    × (MatchOption control ⊥ (λ id. class_of flat id ≡ class) → option_map_or (λ id. class_of flat id == class) control false ≡ true)
-control_is flat class None = ((λ e. absurd (true≢false (sym e))), (λ no. absurd no))
-control_is flat class (Some id) = ((λ e. eqb-true (class_of flat id) class e), (λ e. eq-eqb (class_of flat id) class e))
-
-pub clock_is : (flat : Flat) (class : ℕ) → is_clock_class flat class ≡ true → IsClockClass flat class
-clock_is flat class e =
-    ⊎_elim (λ c. inl ((control_is flat class flat.control).0 c))
-    (λ c. let parts = and_parts _ _ c in inr (class_has (port_classes flat flat.clocks) class parts.0, λ has. not_true _ parts.1 (has_class (port_classes flat flat.ins) class has)))
-    (or_cases _ _ e)
-
-pub is_clock : (flat : Flat) (class : ℕ) → IsClockClass flat class → is_clock_class flat class ≡ true
-is_clock flat class why =
-    ⊎_elim (λ c. or_left _ _ ((control_is flat class flat.control).1 c))
-    (λ c. or_right _ _ (and_from _ _ (has_class (port_classes flat flat.clocks) class c.0) (of_not _ (λ e. c.1 (class_has (port_classes flat flat.ins) class e)))))
-    why
 
 -- ---- each class with a driver has a source
 pub driven_known : (flat : Flat) (order : List ℕ) → IsOrder flat order → (list : CellList) (sources : ClassSources) → AreSourced flat (Made flat order) list sources → (class : ℕ) (d : FlatDriver) → FlatDrives flat d class → IsKnown sources class
@@ -132,10 +100,19 @@ all_told flat sound order ordered list sources first p lt = (dark, known)
     is = get_or-map (λ (net : FlatNet). net.class) flat.nets p no_net 0 lt'
 
     dark : is_clock_class flat (get_or (map (λ (net : FlatNet). net.class) flat.nets) p 0) ≡ true → get_or sources (get_or (map (λ (net : FlatNet). net.class) flat.nets) p 0) None ≡ None
-    dark e = no_source sources _ (λ has. let found = first.only _ has.0 has.1 in sound.clocks_undriven _ found.0 found.1 (clock_is flat _ e))
+    dark e = no_source sources _ (λ has. let found = first.only _ has.0 has.1 in sound.clocks_undriven _ found.0 found.1 ((is_clock_class-Decides flat _).0 e))
 
     known : is_clock_class flat (get_or (map (λ (net : FlatNet). net.class) flat.nets) p 0) ≡ false → IsKnown sources (get_or (map (λ (net : FlatNet). net.class) flat.nets) p 0)
-    known e = subst (IsKnown sources) (sym is) (net_known flat sound order ordered list sources first (record { 0 = p }) lt' (λ clock. true≢false (sym (ap (is_clock_class flat) is ∙ is_clock flat _ clock) ∙ e)))
+    known e = subst (IsKnown sources) (sym is) (net_known flat sound order ordered list sources first (record { 0 = p }) lt' (λ clock. true≢false (sym (ap (is_clock_class flat) is ∙ (is_clock_class-Decides flat _).1 clock) ∙ e)))
+
+-- the classes of filtered nets are filtered classes
+classes_of_filtered : (flat : Flat) (nets : List FlatNet) → map (λ (net : FlatNet). net.class) (filter (λ net. not (is_clock_class flat net.class)) nets) ≡ filter (λ c. not (is_clock_class flat c)) (map (λ (net : FlatNet). net.class) nets)
+classes_of_filtered flat [] = refl
+classes_of_filtered flat (net ∷ nets) = one (is_clock_class flat net.class) _ _ (classes_of_filtered flat nets)
+  where
+    one : (b : Bool) (rest : List FlatNet) (classes : List ℕ) → map (λ (n : FlatNet). n.class) rest ≡ classes → map (λ (n : FlatNet). n.class) (cond (not b) (net ∷ rest) rest) ≡ cond (not b) (net.class ∷ classes) classes
+    one true rest classes e = e
+    one false rest classes e = ap (λ l. net.class ∷ l) e
 
 cons_known : (sources : ClassSources) (class : ℕ) (classes : List ℕ) → IsKnown sources class → AreKnown sources classes → AreKnown sources (class ∷ classes)
 cons_known sources class classes first rest zero lt = first
@@ -177,8 +154,8 @@ ports flat sound list sources whole =
       sourced = whole.mapped.sourced;
       outs_known = outs_known flat sound whole.order whole.ordered list sources whole.mapped.sourced;
       data_known = data_known flat sound whole.order whole.ordered list sources whole.mapped.sourced;
-      nets_known = plain_known flat sources (map (λ (net : FlatNet). net.class) flat.nets) told;
-      nets = plain_gathered flat sources (map (λ (net : FlatNet). net.class) flat.nets) told;
+      nets_known = subst (AreKnown sources) (sym (classes_of_filtered flat flat.nets)) (plain_known flat sources (map (λ (net : FlatNet). net.class) flat.nets) told);
+      nets = plain_gathered flat sources (map (λ (net : FlatNet). net.class) flat.nets) told ∙ ap (map (source_at sources)) (sym (classes_of_filtered flat flat.nets));
     }
 
 -- known classes have sources that are there

@@ -23,7 +23,8 @@ use Rattle.cell_core.specs.declared.cells.Cell.{Cell}
 use Rattle.cell_core.specs.declared.list.CellList.{CellList}
 use Rattle.cell_core.specs.Meaning.{bit_in}
 use Rattle.cell_core.specs.Sources.{is_one}
-use Rattle.cover_cells.specs.Covers.{rows_weight, has_no_positive, CoverNeedsOne, AnswersCover}
+use Rattle.netlist_core.specs.OwnWeight.{rows_weight}
+use Rattle.cover_cells.specs.Covers.{has_no_positive, CoverNeedsOne, AnswersCover}
 use Rattle.cover_cells.specs.Grown.{Grows, IsCell, bits_of}
 use Rattle.cover_cells.specs.Singles.{single_cell}
 use Rattle.cover_cells.proofs.Growing.{grows, grows_refl}

@@ -3,7 +3,8 @@ use Rattle.std.specs.Prelude.{ℕ, ◌==◌, ◌&&◌, ◌||◌, not, Bool, leng
 use Rattle.std.specs.List.{list_any}
 use Rattle.netlist_core.specs.declared.flat.Node.{Node}
 use Rattle.netlist_core.specs.declared.flat.Flat.{Flat}
-use Rattle.cover_cells.specs.Covers.{rows_weight, has_no_positive}
+use Rattle.netlist_core.specs.OwnWeight.{rows_weight}
+use Rattle.cover_cells.specs.Covers.{has_no_positive}
 
 -- a cover needs constant 1: a row has no `1`, or there are rows and they end in `0`
 abbrev pub needs_one : Node → Bool

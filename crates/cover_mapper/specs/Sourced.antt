@@ -12,7 +12,7 @@ use Rattle.cell_core.specs.declared.cells.Cell.{Cell}
 use Rattle.cell_core.specs.declared.list.CellList.{CellList}
 use Rattle.cell_core.specs.Sources.{is_one}
 use Rattle.cell_core.specs.Meaning.{bit_in}
-use Rattle.cover_cells.specs.Covers.{rows_weight}
+use Rattle.netlist_core.specs.OwnWeight.{rows_weight}
 use Rattle.cover_cells.specs.Grown.{HasSource, Grows, IsCell}
 use Rattle.cover_cells.specs.Singles.{single_cell}
 use Rattle.cover_mapper.specs.Needs.{any_needs_one}

@@ -1,6 +1,6 @@
 // A flat netlist as a list of cells.
-ghost use Rattle.std.specs.Prelude.{ℕ, ◌≡◌, Bool, List, None, length, replicate, IfOk};
-ghost use Rattle.netlist_meaning.specs.Flat.{IsSound};
+ghost use Rattle.std.specs.Prelude.{ℕ, ◌≡◌, ◌≤◌, ◌*◌, Bool, List, None, length, replicate, IfOk};
+ghost use Rattle.netlist_meaning.specs.Flat.{IsSound, IsWeighed};
 ghost use Rattle.netlist_meaning.specs.FlatOrder.{IsOrder};
 ghost use Rattle.netlist_meaning.specs.FlatValuation.{IsFlatValuation};
 ghost use Rattle.cover_mapper.specs.Mapped.{HasBits, IsMapped};
@@ -48,14 +48,15 @@ fn map_from(
     sources: &mut [Option<Src>],
 ) -> Result<CellList, MapError>
     requires sound { IsSound flat.now }
+    requires weighed { IsWeighed flat.now }
     requires ordered { IsOrder flat.now order.now.nodes }
     requires none { sources.old ≡ replicate (length flat.now.nets) None }
     ensures mapped { IfOk result (IsMapped flat.now) }
     ensures bits { IfOk result (λ list. (inputs state : List Bool) (bits : ℕ → Bool) → IsFlatValuation flat.now inputs state bits → HasBits flat.now list inputs state bits) }
 {
     let mut list = start_list(alloc, flat)?;
-    source_inputs(flat, &list, sources)?;
-    source_latches(flat, &list, sources)?;
+    source_inputs(flat, &list, sources);
+    source_latches(flat, &list, sources);
     map_nodes(&mut list, alloc, flat, order.nodes.as_slice(), sources)?;
     with_ports(alloc, flat, list, sources)
 }
@@ -63,11 +64,13 @@ fn map_from(
 /// The cells of a sound flat netlist, for an order of its covers in which each comes after those that it reads.
 ///
 /// A cover of two nets that is an OR, an XOR or an AND-NOT is one cell, which other covers may share; how the products
-/// of other covers are formed is free. A list has fewer than 2^32 inputs, latches and cells.
+/// of other covers are formed is free.
 pub fn map(alloc: Global, flat: &Flat, order: &Order) -> Result<CellList, MapError>
     requires sound { IsSound flat.now }
+    requires weighed { IsWeighed flat.now }
     requires ordered { IsOrder flat.now order.now.nodes }
     ensures mapped { IfOk result (IsMapped flat.now) }
+    ensures few { IfOk result (λ list. length list.cells ≤ 2 * flat.now.weight) }
     ensures bits { IfOk result (λ list. (inputs state : List Bool) (bits : ℕ → Bool) → IsFlatValuation flat.now inputs state bits → HasBits flat.now list inputs state bits) }
 {
     let mut sources = vec![in alloc; None; flat.nets.len()]?;

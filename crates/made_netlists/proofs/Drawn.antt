@@ -3,7 +3,7 @@ use Rattle.std.proofs.Common.{◌≡◌, refl, ap, ◌∙◌, ℕ, zero, suc, �
 use Rattle.made_netlists.specs.declared.gate.GateKind.{GateKind}
 use Rattle.made_netlists.specs.declared.gate.Gate.{Gate}
 use Rattle.made_netlists.specs.Draws.{draw_after, next_seed, number_below, state_after}
-use Rattle.made_netlists.specs.Text.{drawn_gate, drawn_gates, gate_text, head_text, drawn_kind, latch_data, made_text, net_of_gate}
+use Rattle.made_netlists.specs.Text.{drawn_gate, drawn_gates, drawn_gate_text, head_text, drawn_kind, latch_data, made_text, net_of_gate}
 
 state_on : (seed a b : ℕ) → state_after (state_after seed a) b ≡ state_after seed (b + a)
 state_on seed a zero = let e : a ≡ 0 + a = omega arith in ap (state_after seed) e
@@ -42,10 +42,10 @@ pub state_drawn : (seed n k state next : ℕ) → state ≡ state_after seed n �
 state_drawn seed n k state next e f g = let more : suc n ≡ k = omega (arith, g) in f ∙ ap next_seed e ∙ ap (state_after seed) more
 
 -- the text by its parts
-pub text_of_parts : (seed size last data0 data1 : ℕ) (gates : List Gate) → last ≡ net_of_gate (size - 1) → data0 ≡ latch_data seed size 0 → data1 ≡ latch_data seed size 1 → gates ≡ drawn_gates seed size → (head_text last data0 data1 ++ flat_map gate_text gates) ++ codes ".end\n" ≡ made_text seed size
+pub text_of_parts : (seed size last data0 data1 : ℕ) (gates : List Gate) → last ≡ net_of_gate (size - 1) → data0 ≡ latch_data seed size 0 → data1 ≡ latch_data seed size 1 → gates ≡ drawn_gates seed size → (head_text last data0 data1 ++ flat_map drawn_gate_text gates) ++ codes ".end\n" ≡ made_text seed size
 text_of_parts seed size last data0 data1 gates e f g h =
-    append_assoc (head_text last data0 data1) (flat_map gate_text gates) (codes ".end\n")
-    ∙ ap (λ n. head_text n data0 data1 ++ (flat_map gate_text gates ++ codes ".end\n")) e
-    ∙ ap (λ n. head_text (net_of_gate (size - 1)) n data1 ++ (flat_map gate_text gates ++ codes ".end\n")) f
-    ∙ ap (λ n. head_text (net_of_gate (size - 1)) (latch_data seed size 0) n ++ (flat_map gate_text gates ++ codes ".end\n")) g
-    ∙ ap (λ gs. head_text (net_of_gate (size - 1)) (latch_data seed size 0) (latch_data seed size 1) ++ (flat_map gate_text gs ++ codes ".end\n")) h
+    append_assoc (head_text last data0 data1) (flat_map drawn_gate_text gates) (codes ".end\n")
+    ∙ ap (λ n. head_text n data0 data1 ++ (flat_map drawn_gate_text gates ++ codes ".end\n")) e
+    ∙ ap (λ n. head_text (net_of_gate (size - 1)) n data1 ++ (flat_map drawn_gate_text gates ++ codes ".end\n")) f
+    ∙ ap (λ n. head_text (net_of_gate (size - 1)) (latch_data seed size 0) n ++ (flat_map drawn_gate_text gates ++ codes ".end\n")) g
+    ∙ ap (λ gs. head_text (net_of_gate (size - 1)) (latch_data seed size 0) (latch_data seed size 1) ++ (flat_map drawn_gate_text gs ++ codes ".end\n")) h

@@ -8,7 +8,7 @@ use Rattle.blif_text.proofs.Texts.{is_special, lines_from, logical, logical-cut,
 use Rattle.made_netlists.specs.declared.gate.GateKind.{GateKind}
 use Rattle.made_netlists.specs.declared.gate.GateKind.TheVariants.{And, Or, Xor, Nand}
 use Rattle.made_netlists.specs.declared.gate.Gate.{Gate}
-use Rattle.made_netlists.specs.Text.{net_name, gate_text, head_text, names_text, kind_rows}
+use Rattle.made_netlists.specs.Text.{net_name, drawn_gate_text, head_text, names_text, kind_rows}
 use Rattle.made_netlists.specs.Design.{line_after}
 use Rattle.made_netlists.proofs.Names.{name_special, name_blank, name_some}
 
@@ -77,17 +77,17 @@ names_cut n a b o rest h i j =
     (plain_before a (net_name b ++ 32 ∷ net_name o) h (plain_before b (net_name o) i (name_special o j)))
     (ap (λ u. codes ".names" ∷ u) (before a (net_name b ++ 32 ∷ net_name o) h ∙ ap (λ u. net_name a ∷ u) (before b (net_name o) i ∙ ap (λ u. net_name b ∷ u) (one o j))))
 
-gate_cut : (n : ℕ) (g : Gate) (rest : List ℕ) → IsNear g → lines_from n (gate_text g ++ rest) ≡ lines_then g.kind n (net_name g.first) (net_name g.second) (net_name g.out) (lines_from (line_after g.kind n) rest)
+gate_cut : (n : ℕ) (g : Gate) (rest : List ℕ) → IsNear g → lines_from n (drawn_gate_text g ++ rest) ≡ lines_then g.kind n (net_name g.first) (net_name g.second) (net_name g.out) (lines_from (line_after g.kind n) rest)
 gate_cut n g rest h =
     ap (lines_from n) (append_assoc (names_text g.first g.second g.out) (kind_rows g.kind) rest)
     ∙ names_cut n g.first g.second g.out (kind_rows g.kind ++ rest) h.0 h.1 h.2
     ∙ ap (λ v. names_line n (net_name g.first) (net_name g.second) (net_name g.out) ∷ v) (rows_cut g.kind n rest)
 
-pub gates_cut : (n : ℕ) (gs : List Gate) → AllByRecursion IsNear gs → lines_from n (flat_map gate_text gs ++ codes ".end\n") ≡ gate_lines n gs
+pub gates_cut : (n : ℕ) (gs : List Gate) → AllByRecursion IsNear gs → lines_from n (flat_map drawn_gate_text gs ++ codes ".end\n") ≡ gate_lines n gs
 gates_cut n [] h = logical-cut n (codes ".end") [] (codes ".end") [] refl refl
 gates_cut n (g ∷ gs) h =
-    ap (lines_from n) (append_assoc (gate_text g) (flat_map gate_text gs) (codes ".end\n"))
-    ∙ gate_cut n g (flat_map gate_text gs ++ codes ".end\n") h.0
+    ap (lines_from n) (append_assoc (drawn_gate_text g) (flat_map drawn_gate_text gs) (codes ".end\n"))
+    ∙ gate_cut n g (flat_map drawn_gate_text gs ++ codes ".end\n") h.0
     ∙ ap (λ v. lines_then g.kind n (net_name g.first) (net_name g.second) (net_name g.out) v) (gates_cut (line_after g.kind n) gs h.1)
 
 outputs_cut : (n a : ℕ) (rest : List ℕ) → a < 134 → lines_from n (codes ".outputs " ++ (net_name a ++ (codes " q0 q1\n" ++ rest))) ≡ logical n (codes ".outputs" ∷ net_name a ∷ codes "q0" ∷ codes "q1" ∷ []) ∷ lines_from (n + 1) rest
@@ -113,9 +113,9 @@ head_joined last data0 data1 rest =
     append_assoc (net_name data0) (codes " q0 0\n.latch " ++ (net_name data1 ++ codes " q1 1\n")) rest
     ∙ ap (λ v. net_name data0 ++ (codes " q0 0\n.latch " ++ v)) (append_assoc (net_name data1) (codes " q1 1\n") rest)))
 
-pub made_lines_are : (last data0 data1 : ℕ) (gs : List Gate) → last < 134 → data0 < 134 → data1 < 134 → AllByRecursion IsNear gs → logical_lines (head_text last data0 data1 ++ (flat_map gate_text gs ++ codes ".end\n")) ≡ made_lines last data0 data1 gs
+pub made_lines_are : (last data0 data1 : ℕ) (gs : List Gate) → last < 134 → data0 < 134 → data1 < 134 → AllByRecursion IsNear gs → logical_lines (head_text last data0 data1 ++ (flat_map drawn_gate_text gs ++ codes ".end\n")) ≡ made_lines last data0 data1 gs
 made_lines_are last data0 data1 gs h i j near =
-    let rest : List ℕ = flat_map gate_text gs ++ codes ".end\n" in
+    let rest : List ℕ = flat_map drawn_gate_text gs ++ codes ".end\n" in
     let after1 : List ℕ = codes ".latch " ++ (net_name data1 ++ (codes " q1 1\n" ++ rest)) in
     let after0 : List ℕ = codes ".latch " ++ (net_name data0 ++ (codes " q0 0\n" ++ after1)) in
     let outputs : List ℕ = codes ".outputs " ++ (net_name last ++ (codes " q0 q1\n" ++ after0)) in

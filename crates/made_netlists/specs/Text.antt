@@ -43,8 +43,8 @@ latch_data seed size l = draw_after seed (3 * size + l) (net_of_gate size)
 abbrev pub names_text : ℕ → ℕ → ℕ → List ℕ
 names_text first second out = codes ".names " ++ (net_name first ++ (codes " " ++ (net_name second ++ (codes " " ++ (net_name out ++ codes "\n")))))
 
-abbrev pub gate_text : Gate → List ℕ
-gate_text gate = names_text gate.first gate.second gate.out ++ kind_rows gate.kind
+abbrev pub drawn_gate_text : Gate → List ℕ
+drawn_gate_text gate = names_text gate.first gate.second gate.out ++ kind_rows gate.kind
 
 -- the lines before the gates: the ports, with the last gate's net among the outputs, and the latches with their data
 abbrev pub head_text : ℕ → ℕ → ℕ → List ℕ
@@ -52,7 +52,7 @@ head_text last data0 data1 = codes ".model made\n.inputs i0 i1 i2 i3\n.outputs "
 
 -- the text of a seed and a number of gates, of at least one
 abbrev pub made_text : ℕ → ℕ → List ℕ
-made_text seed size = head_text (net_of_gate (size - 1)) (latch_data seed size 0) (latch_data seed size 1) ++ (flat_map gate_text (drawn_gates seed size) ++ codes ".end\n")
+made_text seed size = head_text (net_of_gate (size - 1)) (latch_data seed size 0) (latch_data seed size 1) ++ (flat_map drawn_gate_text (drawn_gates seed size) ++ codes ".end\n")
 
 -- the state after it
 abbrev pub made_state : ℕ → ℕ → ℕ

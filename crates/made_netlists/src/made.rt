@@ -1,6 +1,6 @@
 // The text of a made netlist.
 ghost use Rattle.std.specs.Prelude.{◌≡◌, ◌<◌, ◌≤◌, ◌^◌, ◌++◌, IfOk, OnOk, flat_map};
-ghost use Rattle.made_netlists.specs.Text.{gate_text, head_text, made_state, made_text, names_text, net_name};
+ghost use Rattle.made_netlists.specs.Text.{drawn_gate_text, head_text, made_state, made_text, names_text, net_name};
 
 use crate::error::MakeError;
 use crate::gate::{Gate, draw_gates};
@@ -60,7 +60,7 @@ fn push_names(text: &mut Vec<u8>, gate: Gate) -> Result<(), AllocError>
 
 // Puts the lines of gates after a text.
 fn push_gates(text: &mut Vec<u8>, gates: &[Gate]) -> Result<(), AllocError>
-    ensures { OnOk result (text.new.items ≡ text.old.items ++ flat_map gate_text gates.now) }
+    ensures { OnOk result (text.new.items ≡ text.old.items ++ flat_map drawn_gate_text gates.now) }
 {
     for gate in gates {
         push_names(text, *gate)?;

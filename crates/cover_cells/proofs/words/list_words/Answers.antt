@@ -3,7 +3,7 @@ use Rattle.cell_core.specs.declared.cells.Cell.{Cell}
 use Rattle.cell_core.specs.declared.cells.Cell.TheVariants.{Or}
 use Rattle.cell_core.specs.declared.cells.Src.TheVariants.{Input}
 use Rattle.cell_core.specs.Sources.{reads_there}
-use Rattle.cover_cells.specs.Words.{shown}
+use Rattle.cover_cells.specs.Words.{table_bit}
 use Rattle.cover_cells.proofs.Tabled.{cell_in_order, word_added}
 use Rattle.cover_cells.proofs.words.list_words.Goals as goal
 
@@ -22,4 +22,4 @@ pub loop-cell-preserved : goal.loop-cell-preserved
 unfolding none
 loop-cell-preserved c =
     word_added c.args.nets c.loop-cell.cell-index c.cell_word-word.result c.loop-cell.words.items c.push.new.self.items c.args.cells.now none (omega (arith, c.loop-cell-test.true)) c.in_ok-push.ensures.items c.loop-cell.invariant
-    (λ bits made long show. c.cell_word-word.ensures bits made long (ap (map (shown bits)) c.deref.ensures.value ∙ show))
+    (λ bits made long show. c.cell_word-word.ensures bits made long (ap (map (table_bit bits)) c.deref.ensures.value ∙ show))
