@@ -8,14 +8,14 @@ use Rattle.ww_rule.specs.Injections.{is_among, due_of_list}
 use Rattle.band_rows.specs.declared.row.Row.{Row}
 use Rattle.band_rows.specs.Rows.{IsEmptyWest, ShowRows, ShowsHeads, row_heads, row_tails, row_wires}
 use Rattle.band_rows.proofs.Bands.{words_show, heads_shown}
-use Rattle.band_core.specs.Band.{IsEvolution, AreLeftAt, cells_of, due_count}
+use Rattle.band_core.specs.Band.{IsEvolution, AreLeftAt, injected_cells, due_count}
 use Rattle.band_core.proofs.Left.{front_cells}
 
 pub west : (e : ℕ → Plane) (due : Due) (width height : ℕ) → IsEvolution e due width height → (g : ℕ) → IsEmptyWest (e g)
 west e due width height evo g x y = evo.empty g (negsuc x) y refl
 
 -- rows with the injections made heads that are due in them
-pub rows_move : (e : ℕ → Plane) (due : Due) (width height : ℕ) → IsEvolution e due width height → (g y many : ℕ) (own left now : List Injection) (new : List Row) → AreLeftAt (g + 1) own left → now ≡ take (due_count (g + 1) left) left → ((g x k : ℕ) → k < many → due_of_list own g (pos x) (pos y +ℤ pos k) ≡ due g (pos x) (pos y +ℤ pos k)) → length new ≡ many → ShowRows new (injected (is_among (cells_of now)) (next_plane (e g))) (pos y) → ShowRows new (e (g + 1)) (pos y)
+pub rows_move : (e : ℕ → Plane) (due : Due) (width height : ℕ) → IsEvolution e due width height → (g y many : ℕ) (own left now : List Injection) (new : List Row) → AreLeftAt (g + 1) own left → now ≡ take (due_count (g + 1) left) left → ((g x k : ℕ) → k < many → due_of_list own g (pos x) (pos y +ℤ pos k) ≡ due g (pos x) (pos y +ℤ pos k)) → length new ≡ many → ShowRows new (injected (is_among (injected_cells now)) (next_plane (e g))) (pos y) → ShowRows new (e (g + 1)) (pos y)
 rows_move e due width height evo g y many own left now new are_left front same long shown k lt x =
     let z = pos y +ℤ pos k in
     shown k lt x

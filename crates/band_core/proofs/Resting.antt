@@ -12,7 +12,7 @@ use Rattle.lane_kernel.proofs.Counting.{count_is}
 use Rattle.band_rows.specs.Rows.{AreLong, ShowRows, ShowsHeads, row_heads, row_tails, row_wires}
 use Rattle.band_rows.proofs.Marks.{none_set}
 use Rattle.band_core.specs.declared.band.Band.{Band}
-use Rattle.band_core.specs.Band.{AreDark, AreDueIn, AreInRows, AreLeftAt, HasNoneDue, IsBand, IsEvolution, IsQuiet, ShowsBand, due_count}
+use Rattle.band_core.specs.Band.{AreUnlit, AreDueIn, AreInRows, AreLeftAt, HasNoneDue, IsBand, IsEvolution, IsQuiet, ShowsBand, due_count}
 use Rattle.band_core.proofs.Left.{left_after}
 
 pub rests : (words y many : ℕ) (band next : Band) → next.rows ≡ band.rows → next.injections ≡ band.injections → next.done ≡ band.done → length next.top.heads.items ≡ words → length next.bottom.heads.items ≡ words → IsBand words y many band → IsBand words y many next
@@ -95,7 +95,7 @@ unlit : (w : Bool) → (state_of false false w ≡ Tail → ⊥)
 unlit true e = cc
 unlit false e = cc
 
-pub is_quiet : (e : ℕ → Plane) (due : Due) (width height words y many : ℕ) (band : Band) (up down : List ℕ) → IsEvolution e due width height → IsBand words y many band → ShowsBand e due y many band → ShowsHeads up (e band.generation) (pos y -ℤ pos 1) → ShowsHeads down (e band.generation) (pos y +ℤ pos many) → AreDark band.rows.items y up down → ((x k : ℕ) → k < many → due (band.generation + 1) (pos x) (pos y +ℤ pos k) ≡ false) → IsQuiet e due band.generation y many
+pub is_quiet : (e : ℕ → Plane) (due : Due) (width height words y many : ℕ) (band : Band) (up down : List ℕ) → IsEvolution e due width height → IsBand words y many band → ShowsBand e due y many band → ShowsHeads up (e band.generation) (pos y -ℤ pos 1) → ShowsHeads down (e band.generation) (pos y +ℤ pos many) → AreUnlit band.rows.items y up down → ((x k : ℕ) → k < many → due (band.generation + 1) (pos x) (pos y +ℤ pos k) ≡ false) → IsQuiet e due band.generation y many
 is_quiet e due width height words y many band up down evo is shows above below dark none =
     let g = band.generation in
     let p = e g in

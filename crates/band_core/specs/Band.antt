@@ -23,8 +23,8 @@ abbrev pub due_count : ℕ → List Injection → ℕ
 due_count generation injections = prefix_len (λ i. i.generation == generation) injections
 
 -- the cells of injections
-abbrev pub cells_of : List Injection → List (ℕ × ℕ)
-cells_of injections = map (λ i. (i.x, i.y)) injections
+abbrev pub injected_cells : List Injection → List (ℕ × ℕ)
+injected_cells injections = map (λ i. (i.x, i.y)) injections
 
 -- Of a list of injections these are left when a generation comes: all that stand before them are earlier, and they are in order.
 pub record AreLeftAt (generation : ℕ) (injections left : List Injection) : Type 0 where
@@ -86,7 +86,7 @@ pub data IsLitIn (rows : List Row) (y x z : ℕ) : Type 0 where
   tail : (k : ℕ) → k < length rows → z ≡ y + k → is_set (row_tails rows k) x ≡ true → IsLitIn rows y x z
 
 -- no bit is set in any of them; above the first row of all there is none to be asked for
-pub record AreDark (rows : List Row) (y : ℕ) (up down : List ℕ) : Type 0 where
+pub record AreUnlit (rows : List Row) (y : ℕ) (up down : List ℕ) : Type 0 where
   pub heads : (k x : ℕ) → k < length rows → is_set (row_heads rows k) x ≡ false
   pub tails : (k x : ℕ) → k < length rows → is_set (row_tails rows k) x ≡ false
   pub above : (x : ℕ) → 0 < y → is_set up x ≡ false

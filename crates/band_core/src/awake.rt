@@ -4,7 +4,7 @@ ghost use Rattle.lane_kernel.specs.Rows.{is_set};
 ghost use Rattle.lane_kernel.specs.Spans.{IsDarkBeyond};
 ghost use Rattle.ww_rule.specs.declared.pattern.Injection.{Injection};
 ghost use Rattle.band_rows.specs.Rows.{row_heads, row_tails};
-ghost use Rattle.band_core.specs.Band.{IsLitIn, AreDark, IsNextDue, due_count};
+ghost use Rattle.band_core.specs.Band.{IsLitIn, AreUnlit, IsNextDue, due_count};
 
 use crate::band::Band;
 use band_rows::{Row, Span, first_bit};

@@ -6,7 +6,7 @@ use Rattle.std.proofs.lemmas.Int.{ints}
 use Rattle.std.proofs.lemmas.List.{get_or-set_same, get_or-set_other, map-set, get_or-map, length-map}
 use Rattle.ww_rule.specs.Wireworld.{Plane, count_head}
 use Rattle.band_rows.specs.declared.row.Row.{Row}
-use Rattle.lane_kernel.specs.Rows.{is_set, bit_of, state_of, row_state}
+use Rattle.lane_kernel.specs.Rows.{is_set, has_bit, state_of, row_state}
 use Rattle.band_rows.specs.Rows.{Shows, ShowsHeads}
 use Rattle.lane_kernel.proofs.Counting.{num, count_is}
 
@@ -28,7 +28,7 @@ pub other_twice : (f : Row → List ℕ) (rows : List Row) (r k : ℕ) (z w : Ro
 other_twice f rows r k z w ne = other f (slice_set rows r z) r k w ne ∙ other f rows r k z ne
 
 pub words_show : (a b : List ℕ) (p : Plane) (y : ℤ) → ((j : ℕ) → get_or a j 0 ≡ get_or b j 0) → ShowsHeads b p y → ShowsHeads a p y
-words_show a b p y e h x = ap (λ w. count_head (state_of (bit_of w (x % 64)) false false)) (e (x / 64)) ∙ h x
+words_show a b p y e h x = ap (λ w. count_head (state_of (has_bit w (x % 64)) false false)) (e (x / 64)) ∙ h x
 
 pub heads_shown : (h t w : List ℕ) (p : Plane) (y : ℤ) → Shows h t w p y → ShowsHeads h p y
 heads_shown h t w p y shows x = count_is (is_set h x) false false ∙ sym (count_is (is_set h x) (is_set t x) (is_set w x)) ∙ ap count_head (shows x)

@@ -10,15 +10,15 @@ use Rattle.std.proofs.lemmas.List.{get_or-set_other, get_or_past, get_or-replica
 use Rattle.std.proofs.lemmas.Nat.Bits.{bit_at_set_same, bit_at_set_other, bit_at_clear_same, bit_at_clear_other}
 use Rattle.ww_rule.specs.declared.pattern.State.{State}
 use Rattle.ww_rule.specs.declared.pattern.State.TheVariants.{Empty, Head, Tail, Conductor}
-use Rattle.lane_kernel.specs.Rows.{bit_of, is_set, state_of, row_state, AreDisjoint}
+use Rattle.lane_kernel.specs.Rows.{has_bit, is_set, state_of, row_state, AreDisjoint}
 use Rattle.lane_kernel.proofs.Bits.{no_bit}
-use Rattle.band_rows.specs.Cells.{is_head, is_tail, is_wire}
+use Rattle.band_rows.specs.Cells.{marks_head, marks_tail, marks_wire}
 
-same_word : (words : List ℕ) (x k v : ℕ) → x / 64 < length words → k / 64 ≡ x / 64 → is_set (slice_set words (x / 64) v) k ≡ bit_of v (k % 64)
-same_word words x k v lt e = ap (λ w. bit_of w (k % 64)) (get_or-set_at words (x / 64) (k / 64) v 0 e lt)
+same_word : (words : List ℕ) (x k v : ℕ) → x / 64 < length words → k / 64 ≡ x / 64 → is_set (slice_set words (x / 64) v) k ≡ has_bit v (k % 64)
+same_word words x k v lt e = ap (λ w. has_bit w (k % 64)) (get_or-set_at words (x / 64) (k / 64) v 0 e lt)
 
 other_word : (words : List ℕ) (x k v : ℕ) → k / 64 ≢ x / 64 → is_set (slice_set words (x / 64) v) k ≡ is_set words k
-other_word words x k v ne = ap (λ w. bit_of w (k % 64)) (get_or-set_other words (x / 64) (k / 64) v 0 ne)
+other_word words x k v ne = ap (λ w. has_bit w (k % 64)) (get_or-set_other words (x / 64) (k / 64) v 0 ne)
 
 pub set_one : (words : List ℕ) (x k : ℕ) → x / 64 < length words → is_set (slice_set words (x / 64) (bit_or (get_or words (x / 64) 0) (1 * 2 ^ (x % 64) % 2 ^ 64))) k ≡ (k == x || is_set words k)
 set_one words x k lt =
@@ -31,11 +31,11 @@ set_one words x k lt =
           elim (cases_eq (k % 64) (x % 64)) [
             | inl s ↦
                 let q : k ≡ x = omega (arith, e, s) in
-                same_word words x k v lt e ∙ ap (bit_of v) s ∙ ap (λ n. n == 1) (bit_at_set_same w64 w (x % 64) within) ∙ sym (ap (λ t. t || is_set words k) (eq-eqb k x q))
+                same_word words x k v lt e ∙ ap (has_bit v) s ∙ ap (λ n. n == 1) (bit_at_set_same w64 w (x % 64) within) ∙ sym (ap (λ t. t || is_set words k) (eq-eqb k x q))
             | inr ne ↦
                 same_word words x k v lt e
                 ∙ ap (λ n. n == 1) (bit_at_set_other w64 w (x % 64) within (k % 64) ne)
-                ∙ ap (λ j. bit_of (get_or words j 0) (k % 64)) (sym e)
+                ∙ ap (λ j. has_bit (get_or words j 0) (k % 64)) (sym e)
                 ∙ sym (ap (λ t. t || is_set words k) (ne_eqb k x (λ q. ne (ap (λ n. n % 64) q))))
           ]
     ]
@@ -51,11 +51,11 @@ clear_one words x k lt =
           elim (cases_eq (k % 64) (x % 64)) [
             | inl s ↦
                 let q : k ≡ x = omega (arith, e, s) in
-                same_word words x k v lt e ∙ ap (bit_of v) s ∙ ap (λ n. n == 1) (bit_at_clear_same w64 w (x % 64) within) ∙ sym (ap (λ t. not t && is_set words k) (eq-eqb k x q))
+                same_word words x k v lt e ∙ ap (has_bit v) s ∙ ap (λ n. n == 1) (bit_at_clear_same w64 w (x % 64) within) ∙ sym (ap (λ t. not t && is_set words k) (eq-eqb k x q))
             | inr ne ↦
                 same_word words x k v lt e
                 ∙ ap (λ n. n == 1) (bit_at_clear_other w64 w (x % 64) within (k % 64) (omega arith) ne)
-                ∙ ap (λ j. bit_of (get_or words j 0) (k % 64)) (sym e)
+                ∙ ap (λ j. has_bit (get_or words j 0) (k % 64)) (sym e)
                 ∙ sym (ap (λ t. not t && is_set words k) (ne_eqb k x (λ q. ne (ap (λ n. n % 64) q))))
           ]
     ]
@@ -86,13 +86,13 @@ marks_more test cells n state words new m s e =
     or_false true = refl
     or_false false = refl
 
-pub state_is : (s : State) → state_of (is_head s) (is_tail s) (is_wire s) ≡ s
+pub state_is : (s : State) → state_of (marks_head s) (marks_tail s) (marks_wire s) ≡ s
 state_is Empty = refl
 state_is Head = refl
 state_is Tail = refl
 state_is Conductor = refl
 
-apart_is : (s : State) → ((is_head s && is_tail s) || (is_head s && is_wire s) || (is_tail s && is_wire s)) ≡ false
+apart_is : (s : State) → ((marks_head s && marks_tail s) || (marks_head s && marks_wire s) || (marks_tail s && marks_wire s)) ≡ false
 apart_is Empty = refl
 apart_is Head = refl
 apart_is Tail = refl
@@ -108,16 +108,16 @@ marked test cells words none m k =
       | inr ge ↦ m.after k ge ∙ sym none ∙ sym (ap test (get_or_past cells k Empty ge))
     ]
 
-pub shows_cells : (cells : List State) (h t w : List ℕ) → Marks is_head cells (length cells) h → Marks is_tail cells (length cells) t → Marks is_wire cells (length cells) w → (x : ℕ) → row_state h t w x ≡ get_or cells x Empty
+pub shows_cells : (cells : List State) (h t w : List ℕ) → Marks marks_head cells (length cells) h → Marks marks_tail cells (length cells) t → Marks marks_wire cells (length cells) w → (x : ℕ) → row_state h t w x ≡ get_or cells x Empty
 shows_cells cells h t w mh mt mw x =
-    ap₂ (λ a b. state_of a b (is_set w x)) (marked is_head cells h refl mh x) (marked is_tail cells t refl mt x)
-    ∙ ap (state_of (is_head (get_or cells x Empty)) (is_tail (get_or cells x Empty))) (marked is_wire cells w refl mw x)
+    ap₂ (λ a b. state_of a b (is_set w x)) (marked marks_head cells h refl mh x) (marked marks_tail cells t refl mt x)
+    ∙ ap (state_of (marks_head (get_or cells x Empty)) (marks_tail (get_or cells x Empty))) (marked marks_wire cells w refl mw x)
     ∙ state_is (get_or cells x Empty)
 
-pub cells_apart : (cells : List State) (h t w : List ℕ) → Marks is_head cells (length cells) h → Marks is_tail cells (length cells) t → Marks is_wire cells (length cells) w → AreDisjoint h t w
+pub cells_apart : (cells : List State) (h t w : List ℕ) → Marks marks_head cells (length cells) h → Marks marks_tail cells (length cells) t → Marks marks_wire cells (length cells) w → AreDisjoint h t w
 cells_apart cells h t w mh mt mw x =
-    ap₂ (λ a b. (a && b) || (a && is_set w x) || (b && is_set w x)) (marked is_head cells h refl mh x) (marked is_tail cells t refl mt x)
-    ∙ ap (λ c. (is_head (get_or cells x Empty) && is_tail (get_or cells x Empty)) || (is_head (get_or cells x Empty) && c) || (is_tail (get_or cells x Empty) && c)) (marked is_wire cells w refl mw x)
+    ap₂ (λ a b. (a && b) || (a && is_set w x) || (b && is_set w x)) (marked marks_head cells h refl mh x) (marked marks_tail cells t refl mt x)
+    ∙ ap (λ c. (marks_head (get_or cells x Empty) && marks_tail (get_or cells x Empty)) || (marks_head (get_or cells x Empty) && c) || (marks_tail (get_or cells x Empty) && c)) (marked marks_wire cells w refl mw x)
     ∙ apart_is (get_or cells x Empty)
 
 -- a cell made a head
@@ -143,7 +143,7 @@ head_apart h t w h' t' w' x eh et ew apart k =
 
 -- a row without a bit
 pub none_set : (n : ℕ) (words : List ℕ) → ((j : ℕ) → get_or words j 0 ≡ 0) → (k : ℕ) → is_set words k ≡ false
-none_set n words z k = ap (λ w. bit_of w (k % 64)) (z (k / 64)) ∙ no_bit (k % 64)
+none_set n words z k = ap (λ w. has_bit w (k % 64)) (z (k / 64)) ∙ no_bit (k % 64)
 
 pub marks_none : (test : State → Bool) (cells : List State) (words : List ℕ) → ((j : ℕ) → get_or words j 0 ≡ 0) → Marks test cells 0 words
 marks_none test cells words z = record { here = λ k lt. absurd (omega (arith, lt)); after = λ k le. none_set 0 words z k }

@@ -2,7 +2,7 @@
 ghost use Rattle.std.specs.Prelude.{◌≡◌, ◌≢◌, ◌<◌, ◌≤◌, ◌*◌, ◌/◌, ◌==◌, ◌&&◌, ◌||◌, not, if◌then◌else◌, ℕ, length, get_or};
 ghost use Rattle.ww_rule.specs.declared.pattern.State.TheVariants.{Empty, Head};
 ghost use Rattle.lane_kernel.specs.Rows.{is_set, row_state, AreDisjoint};
-ghost use Rattle.band_rows.specs.Cells.{is_head, is_tail, is_wire};
+ghost use Rattle.band_rows.specs.Cells.{marks_head, marks_tail, marks_wire};
 
 use ww_rule::State;
 
@@ -41,9 +41,9 @@ fn mark(heads: &mut [u64], tails: &mut [u64], wires: &mut [u64], x: usize, state
     ensures long_heads { length heads.new ≡ length heads.old }
     ensures long_tails { length tails.new ≡ length heads.old }
     ensures long_wires { length wires.new ≡ length heads.old }
-    ensures heads { (k : ℕ) → is_set heads.new k ≡ ((k == x && is_head state) || is_set heads.old k) }
-    ensures tails { (k : ℕ) → is_set tails.new k ≡ ((k == x && is_tail state) || is_set tails.old k) }
-    ensures wires { (k : ℕ) → is_set wires.new k ≡ ((k == x && is_wire state) || is_set wires.old k) }
+    ensures heads { (k : ℕ) → is_set heads.new k ≡ ((k == x && marks_head state) || is_set heads.old k) }
+    ensures tails { (k : ℕ) → is_set tails.new k ≡ ((k == x && marks_tail state) || is_set tails.old k) }
+    ensures wires { (k : ℕ) → is_set wires.new k ≡ ((k == x && marks_wire state) || is_set wires.old k) }
 {
     match state {
         State::Empty => {}

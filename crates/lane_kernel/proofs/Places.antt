@@ -8,7 +8,7 @@ use Rattle.std.specs.Int.RustNames.{bit_and, bit_or, bit_xor}
 use Rattle.ww_rule.specs.declared.pattern.State.{State}
 use Rattle.ww_rule.specs.declared.pattern.State.TheVariants.{Empty}
 use Rattle.ww_rule.specs.Wireworld.{count_head, heads_around, next_plane, next_state}
-use Rattle.lane_kernel.specs.Rows.{bit_of, is_set, state_of, row_state, plane_of_rows, AreDisjoint}
+use Rattle.lane_kernel.specs.Rows.{has_bit, is_set, state_of, row_state, plane_of_rows, AreDisjoint}
 use Rattle.lane_kernel.specs.Words.{ones_of, twos_of, from_west, from_east, before, new_heads_of, new_wires_of, heads_word, wires_word}
 use Rattle.lane_kernel.proofs.Bits.{differ, odd, most, ones_bit, twos_bit, fires_bit, and_bit, or_bit, xor_bit, no_bit, west_bit, east_bit, west_is, east_is, not_last, fire_bit}
 use Rattle.lane_kernel.proofs.Counting.{num, total, counts, count_is, next_is, no_clash, clash}
@@ -35,11 +35,11 @@ twos_fit a b c p q r =
     (let e = and_le_l a b in omega (arith, e, p))
     (let e = and_le_l (bit_xor a b) c in let x = xor_lt 64 a b p q in omega (arith, e, x))
 
-pub is_set_at : (words : List ℕ) (x j i : ℕ) → x ≡ j * 64 + i → i < 64 → is_set words x ≡ bit_of (get_or words j 0) i
+pub is_set_at : (words : List ℕ) (x j i : ℕ) → x ≡ j * 64 + i → i < 64 → is_set words x ≡ has_bit (get_or words j 0) i
 is_set_at words x j i e h =
     let q : x / 64 ≡ j = omega (arith, e, h) in
     let r : x % 64 ≡ i = omega (arith, e, h) in
-    ap₂ (λ a b. bit_of (get_or words a 0) b) q r
+    ap₂ (λ a b. has_bit (get_or words a 0) b) q r
 
 -- the bit to the west
 west_place : (words : List ℕ) (x j i : ℕ) → x ≡ j * 64 + i → i < 64 → west_bit (before words j) (get_or words j 0) i ≡ row_bit words (pos x -ℤ pos 1)
@@ -59,7 +59,7 @@ east_place words x j i e h =
     elim (cases_lt i 63) [
       | inl lt ↦
           let s : x + 1 ≡ j * 64 + (i + 1) = omega (arith, e) in
-          ap (λ t. cond t (bit_of (get_or words (j + 1) 0) 0) (bit_of (get_or words j 0) (i + 1))) (not_last i lt)
+          ap (λ t. cond t (has_bit (get_or words (j + 1) 0) 0) (has_bit (get_or words j 0) (i + 1))) (not_last i lt)
           ∙ sym (is_set_at words (x + 1) j (i + 1) s (omega (arith, lt)))
       | inr ge ↦
           let l : i ≡ 63 = omega (arith, h, ge) in
@@ -69,14 +69,14 @@ east_place words x j i e h =
     ]
 
 -- a column beside a cell: its three bits
-west_column : (f : ℕ → ℕ → ℕ → ℕ) (g : Bool → Bool → Bool → Bool) → ((a b c i : ℕ) → bit_of (f a b c) i ≡ g (bit_of a i) (bit_of b i) (bit_of c i)) → (a0 a b0 b h0 h i : ℕ) → f a0 b0 h0 < 2 ^ 64 → i < 64 → bit_of (from_west (f a0 b0 h0) (f a b h)) i ≡ g (west_bit a0 a i) (west_bit b0 b i) (west_bit h0 h i)
+west_column : (f : ℕ → ℕ → ℕ → ℕ) (g : Bool → Bool → Bool → Bool) → ((a b c i : ℕ) → has_bit (f a b c) i ≡ g (has_bit a i) (has_bit b i) (has_bit c i)) → (a0 a b0 b h0 h i : ℕ) → f a0 b0 h0 < 2 ^ 64 → i < 64 → has_bit (from_west (f a0 b0 h0) (f a b h)) i ≡ g (west_bit a0 a i) (west_bit b0 b i) (west_bit h0 h i)
 west_column f g is a0 a b0 b h0 h zero fit lt = west_is (f a0 b0 h0) (f a b h) 0 fit lt ∙ is a0 b0 h0 63
 west_column f g is a0 a b0 b h0 h (suc i) fit lt = west_is (f a0 b0 h0) (f a b h) (suc i) fit lt ∙ is a b h i
 
-east_column : (f : ℕ → ℕ → ℕ → ℕ) (g : Bool → Bool → Bool → Bool) → ((a b c i : ℕ) → bit_of (f a b c) i ≡ g (bit_of a i) (bit_of b i) (bit_of c i)) → (a a2 b b2 h h2 i : ℕ) → f a b h < 2 ^ 64 → i < 64 → bit_of (from_east (f a b h) (f a2 b2 h2)) i ≡ g (east_bit a a2 i) (east_bit b b2 i) (east_bit h h2 i)
+east_column : (f : ℕ → ℕ → ℕ → ℕ) (g : Bool → Bool → Bool → Bool) → ((a b c i : ℕ) → has_bit (f a b c) i ≡ g (has_bit a i) (has_bit b i) (has_bit c i)) → (a a2 b b2 h h2 i : ℕ) → f a b h < 2 ^ 64 → i < 64 → has_bit (from_east (f a b h) (f a2 b2 h2)) i ≡ g (east_bit a a2 i) (east_bit b b2 i) (east_bit h h2 i)
 east_column f g is a a2 b b2 h h2 i fit lt = east_is (f a b h) (f a2 b2 h2) i fit lt ∙ go (i == 63)
   where
-    go : (t : Bool) → cond t (bit_of (f a2 b2 h2) 0) (bit_of (f a b h) (i + 1)) ≡ g (cond t (bit_of a2 0) (bit_of a (i + 1))) (cond t (bit_of b2 0) (bit_of b (i + 1))) (cond t (bit_of h2 0) (bit_of h (i + 1)))
+    go : (t : Bool) → cond t (has_bit (f a2 b2 h2) 0) (has_bit (f a b h) (i + 1)) ≡ g (cond t (has_bit a2 0) (has_bit a (i + 1))) (cond t (has_bit b2 0) (has_bit b (i + 1))) (cond t (has_bit h2 0) (has_bit h (i + 1)))
     go true = is a2 b2 h2 0
     go false = is a b h (i + 1)
 
@@ -125,7 +125,7 @@ module _ (above heads below tails wires : List ℕ) where
     abbrev fires_here : ℕ → Bool
     fires_here x = around x == 1 || around x == 2
 
-    head_bit : (x j i : ℕ) → x ≡ j * 64 + i → i < 64 → bit_of (heads_word above heads below wires j) i ≡ (is_set wires x && fires_here x)
+    head_bit : (x j i : ℕ) → x ≡ j * 64 + i → i < 64 → has_bit (heads_word above heads below wires j) i ≡ (is_set wires x && fires_here x)
     head_bit x j i e lt =
         let a0 = before above j in
         let a = get_or above j 0 in
@@ -162,7 +162,7 @@ module _ (above heads below tails wires : List ℕ) where
       pub new_head : (x : ℕ) → is_set new_heads x ≡ (is_set wires x && fires_here x)
       new_head x =
           let e : x ≡ x / 64 * 64 + x % 64 = omega arith in
-          ap (λ w. bit_of w (x % 64)) (is_heads (x / 64)) ∙ head_bit x (x / 64) (x % 64) e (omega arith)
+          ap (λ w. has_bit w (x % 64)) (is_heads (x / 64)) ∙ head_bit x (x / 64) (x % 64) e (omega arith)
 
       pub new_wire : (x : ℕ) → is_set new_wires x ≡ (differ (is_set wires x) (is_set wires x && fires_here x) || is_set tails x)
       new_wire x =
@@ -171,7 +171,7 @@ module _ (above heads below tails wires : List ℕ) where
           let e : x ≡ j * 64 + i = omega arith in
           let w = get_or wires j 0 in
           let n = heads_word above heads below wires j in
-          ap (λ w. bit_of w i) (is_wires j)
+          ap (λ w. has_bit w i) (is_wires j)
           ∙ or_bit (bit_xor w n) (get_or tails j 0) i
           ∙ ap (λ p. p || is_set tails x) (xor_bit w n i ∙ ap (differ (is_set wires x)) (head_bit x j i e (omega arith)))
 
@@ -205,12 +205,12 @@ everywhere_wires above heads below tails wires new_wires lw lt ln h j =
 -- a row that was stepped in place, tails and all
 pub stepped_cells : (above heads below tails wires new_heads new_tails new_wires : List ℕ) → Fit above → Fit heads → Fit below → ((j : ℕ) → get_or new_heads j 0 ≡ heads_word above heads below wires j) → ((j : ℕ) → get_or new_tails j 0 ≡ get_or heads j 0) → ((j : ℕ) → get_or new_wires j 0 ≡ wires_word above heads below tails wires j) → AreDisjoint heads tails wires → (x : ℕ) → row_state new_heads new_tails new_wires x ≡ next_plane (plane_of_rows above heads below tails wires) (pos x) (pos 1)
 stepped_cells above heads below tails wires new_heads new_tails new_wires fa fh fb eh et ew apart x =
-    ap (λ t. state_of (is_set new_heads x) (bit_of t (x % 64)) (is_set new_wires x)) (et (x / 64))
+    ap (λ t. state_of (is_set new_heads x) (has_bit t (x % 64)) (is_set new_wires x)) (et (x / 64))
     ∙ cells above heads below tails wires fa fh fb new_heads new_wires eh ew apart x
 
 pub stepped_apart : (above heads below tails wires new_heads new_tails new_wires : List ℕ) → Fit above → Fit heads → Fit below → ((j : ℕ) → get_or new_heads j 0 ≡ heads_word above heads below wires j) → ((j : ℕ) → get_or new_tails j 0 ≡ get_or heads j 0) → ((j : ℕ) → get_or new_wires j 0 ≡ wires_word above heads below tails wires j) → AreDisjoint heads tails wires → AreDisjoint new_heads new_tails new_wires
 stepped_apart above heads below tails wires new_heads new_tails new_wires fa fh fb eh et ew apart x =
-    ap (λ t. clash (is_set new_heads x) (bit_of t (x % 64)) (is_set new_wires x)) (et (x / 64))
+    ap (λ t. clash (is_set new_heads x) (has_bit t (x % 64)) (is_set new_wires x)) (et (x / 64))
     ∙ stay_apart above heads below tails wires fa fh fb new_heads new_wires eh ew apart x
 
 -- rows whose words have no bit in common are apart
@@ -221,7 +221,7 @@ apart_words h t w none x =
     let b = get_or t (x / 64) 0 in
     let c = get_or w (x / 64) 0 in
     sym (or_bit (bit_or (bit_and a b) (bit_and a c)) (bit_and b c) i ∙ ap₂ (λ p q. p || q) (or_bit (bit_and a b) (bit_and a c) i ∙ ap₂ (λ p q. p || q) (and_bit a b i) (and_bit a c i)) (and_bit b c i))
-    ∙ ap (λ n. bit_of n i) (none (x / 64))
+    ∙ ap (λ n. has_bit n i) (none (x / 64))
     ∙ no_bit i
 
 -- a row of words shows the row y of a plane; its heads show the plane's heads there

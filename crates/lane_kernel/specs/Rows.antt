@@ -7,12 +7,12 @@ use Rattle.ww_rule.specs.Wireworld.{Plane}
 use Rattle.ww_rule.specs.Grid.{framed}
 
 -- is bit i of a word set?
-abbrev pub bit_of : ℕ → ℕ → Bool
-bit_of word i = bit_at word i == 1
+abbrev pub has_bit : ℕ → ℕ → Bool
+has_bit word i = bit_at word i == 1
 
 -- is the bit of a cell set? Beyond the words there is none.
 abbrev pub is_set : List ℕ → ℕ → Bool
-is_set words x = bit_of (get_or words (x / 64) 0) (x % 64)
+is_set words x = has_bit (get_or words (x / 64) 0) (x % 64)
 
 -- what three bits say of a cell
 abbrev pub state_of : Bool → Bool → Bool → State

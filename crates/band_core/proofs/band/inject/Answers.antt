@@ -6,7 +6,7 @@ use Rattle.ww_rule.specs.Injections.{is_among}
 use Rattle.ww_rule.proofs.Injected.{injected_more}
 use Rattle.band_rows.specs.Rows.{ShowRows}
 use Rattle.band_rows.proofs.Bands.{held}
-use Rattle.band_core.specs.Band.{cells_of}
+use Rattle.band_core.specs.Band.{injected_cells}
 use Rattle.band_core.proofs.Injecting.{head_put, long_put}
 use Rattle.band_core.proofs.band.inject.Goals as goal
 
@@ -42,7 +42,7 @@ loop-injection-preserved c =
     let l1 = length-set rows k z in
     let l2 = length-set (slice_set rows k z) k new in
     let place : i.y ≡ c.args.y + k = omega (arith, a) in
-    let cells = cells_of c.args.due.now in
+    let cells = injected_cells c.args.due.now in
     let within : n < length cells = let m = length-map {B = ℕ × ℕ} c.args.due.now (λ (i : Injection). (i.x, i.y)) in omega (arith, m, c.loop-injection-test.true) in
     let cell : get_or cells n (0, 0) ≡ (i.x, i.y) = get_or-map (λ (i : Injection). (i.x, i.y)) c.args.due.now n (record { generation = 0; x = 0; y = 0 }) (0, 0) c.loop-injection-test.true in
     record {
@@ -59,7 +59,7 @@ loop-injection-preserved c =
 pub returns-clause-shows : goal.returns-clause-shows
 returns-clause-shows c p shown =
     let n = c.loop-injection.injection-index in
-    let cells = cells_of c.args.due.now in
+    let cells = injected_cells c.args.due.now in
     let m = length-map {B = ℕ × ℕ} c.args.due.now (λ (i : Injection). (i.x, i.y)) in
     let past : length cells ≤ n = omega (arith, m, c.loop-injection-test.false) in
     subst (λ cells. ShowRows c.loop-injection.rows (injected (is_among cells) p) (pos c.args.y)) (take_all n cells past) (c.loop-injection.invariant.shows p shown)

@@ -6,7 +6,7 @@ use Rattle.lane_kernel.specs.Rows.{is_set}
 use Rattle.band_rows.specs.declared.row.Row.{Row}
 use Rattle.band_rows.specs.Rows.{ShowsHeads, row_heads, row_tails}
 use Rattle.band_core.specs.declared.band.Band.{Band}
-use Rattle.band_core.specs.Band.{AreBands, AreDark, IsLitIn, AllShow, IsEvolution, IsBand, ShowsBand, IsQuiet, IsWaking, bottom_at, top_at, generations_of}
+use Rattle.band_core.specs.Band.{AreBands, AreUnlit, IsLitIn, AllShow, IsEvolution, IsBand, ShowsBand, IsQuiet, IsWaking, bottom_at, top_at, generations_of}
 use Rattle.band_core.specs.Bands.{unready_neighbour}
 use Rattle.band_core.proofs.Facing.{IsAtOrAfter, above_long, below_long, above_shows, below_shows, upper_ready, lower_ready}
 use Rattle.band_core.proofs.Options.{none_of, if_some}
@@ -132,7 +132,7 @@ returns-clause-quiet c q e due width evo shows =
     let unlit = none_of c.lit_cell.result c.in_default.not-Some in
     let unfaced = none_of c.faced_cell.result c.in_default-faced_cell.not-Some in
     let value = c.as_slice-own.ensures.value in
-    let dark : AreDark band.rows.items (b * h) c.row_above.result.0.now c.row_below.result.0.now =
+    let dark : AreUnlit band.rows.items (b * h) c.row_above.result.0.now c.row_below.result.0.now =
     record {
       heads = subst (λ (rows : List Row). (k x : ℕ) → k < length rows → is_set (row_heads rows k) x ≡ false) value (c.lit_cell.ensures.no_head unlit);
       tails = subst (λ (rows : List Row). (k x : ℕ) → k < length rows → is_set (row_tails rows k) x ≡ false) value (c.lit_cell.ensures.no_tail unlit);
