@@ -21,10 +21,11 @@ use Rattle.pattern_reading.specs.declared.ports.Ports.{Ports}
 use Rattle.pattern_reading.specs.PortTable.{ports_of}
 use Rattle.pattern_samples.specs.NamedGate.{named_or_forms}
 use Rattle.carries.specs.Carries.{drive, ShowsOutput, ShowsRuns}
-use Rattle.or_gate.specs.OrGate.{or_grid, gate_plane, DrivesGate, entries, is_lit, ShowsOr}
+use Rattle.or_gate.specs.OrGate.{or_grid, gate_plane, DrivesGate, gate_entries as entries, is_lit, ShowsOr}
 use Rattle.or_gate.specs.OrGate as gate
 use Rattle.blifww_tool.specs.Thin.{Names, HasDistinctPorts}
 use Rattle.blifww_tool.specs.Gate.{thin_design}
+use Rattle.std.specs.Cmp.{both_ways}
 
 abbrev pub gate_ports : Names → Ports
 gate_ports n = ports_of (named_or_forms n.a n.b n.y)
@@ -59,15 +60,10 @@ conductors : ShowsOr → (n : Names) (rows : List (List Bool)) → MeetsConducto
 conductors s n rows g x y e =
     sym (ap (λ p. p x y) (same_before (gate_due rows) g)) ∙ s.conductors (gate_due rows) (drives rows) g x y e
 
-same_truth : (a b : Bool) → (a ≡ true → b ≡ true) → (b ≡ true → a ≡ true) → a ≡ b
-same_truth true b p q = sym (p refl)
-same_truth false true p q = q refl
-same_truth false false p q = refl
-
 -- an input cell is injected in cycle t exactly where the input's bit is 1
 upper_bit : (rows : List (List Bool)) (t : ℕ) → gate_due rows (32 * t) (pos 0) (pos 8) ≡ bit rows t 0
 upper_bit rows t =
-    same_truth (gate_due rows (32 * t) (pos 0) (pos 8)) (bit rows t 0)
+    both_ways (gate_due rows (32 * t) (pos 0) (pos 8)) (bit rows t 0)
     (λ e.
     let b = (streams_injected 32 cells rows (32 * t) (pos 0) (pos 8)).0 e in
     let cycle : b.cycle ≡ t = omega (arith, b.in_time) in
@@ -82,7 +78,7 @@ upper_bit rows t =
 
 lower_bit : (rows : List (List Bool)) (t : ℕ) → gate_due rows (32 * t) (pos 0) (pos 24) ≡ bit rows t 1
 lower_bit rows t =
-    same_truth (gate_due rows (32 * t) (pos 0) (pos 24)) (bit rows t 1)
+    both_ways (gate_due rows (32 * t) (pos 0) (pos 24)) (bit rows t 1)
     (λ e.
     let b = (streams_injected 32 cells rows (32 * t) (pos 0) (pos 24)).0 e in
     let cycle : b.cycle ≡ t = omega (arith, b.in_time) in

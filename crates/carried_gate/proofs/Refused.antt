@@ -17,11 +17,11 @@ use Rattle.lists.proofs.Names.{apart_by}
 use Rattle.one_cover.proofs.OneCover.{one_cover_computes, or_design_computes_or, in_names_are}
 use Rattle.pattern_reading.specs.declared.ports.Ports.{Ports}
 use Rattle.pattern_writing.specs.Samples.{or_text}
-use Rattle.pattern_samples.specs.Ports.{or_ports, port_at}
+use Rattle.pattern_samples.specs.Ports.{or_ports, port_line_at}
 use Rattle.pattern_reading.specs.PortTable.{ports_of, forms_of}
 use Rattle.pattern_reading.proofs.RleVerdict.{rle_reading_is, grid_of}
 use Rattle.carries.specs.Carries.{Carries, NamesPorts, ShowsRuns}
-use Rattle.or_gate.specs.OrGate.{gate_plane, DrivesGate, entries, or_grid, ShowsOr}
+use Rattle.or_gate.specs.OrGate.{gate_plane, DrivesGate, gate_entries as entries, or_grid, ShowsOr}
 use Rattle.carried_gate.specs.Refused.{RefusesOthers, and_not_design, gate_text, version_line, out_line}
 
 -- what is carried by a text of the gate's drawing
@@ -121,7 +121,7 @@ tail_injected s =
     let e : Tail ≡ Conductor = s.shows.conductors rows (or_rows_of rows (refl, (refl, tt))) 1 (pos 0) (pos 8) refl in
     cc
 
-not_z : IsShown (record or_ports { outs = port_at 32 8 (codes "z") ∷ []; nets = [] }) or_design → ⊥
+not_z : IsShown (record or_ports { outs = port_line_at 32 8 (codes "z") ∷ []; nets = [] }) or_design → ⊥
 not_z s = apart_by (codes "z") (codes "y") refl (ap (λ names. get_or names 0 []) s.names.outs)
 
 not_due : (g : ℕ) (b : Bool) → due_of_streams 32 cells both g (pos 0) (pos 0) ≡ b → b ≡ false
@@ -129,7 +129,7 @@ not_due g false e = refl
 not_due g true e = absurd (true≢false (sym ((drives both).at_entries g (pos 0) (pos 0) e)))
 
 -- An empty cell stays empty.
-never_head : IsShown (record or_ports { outs = port_at 0 0 (codes "y") ∷ []; nets = [] }) or_design → ⊥
+never_head : IsShown (record or_ports { outs = port_line_at 0 0 (codes "y") ∷ []; nets = [] }) or_design → ⊥
 never_head s =
     let run = s.shows.runs both both_are in
     let head = (s.shows.heads both both_are run.0 run.1 0 _ refl 32 (omega arith)).1 (0, omega arith, refl, one_bit run.0 run.1) in
@@ -145,6 +145,6 @@ refuses_others gate =
       late = λ c. off_time gate 33 (λ t e. omega (arith, e)) (shown (gate_text (codes "#C BLIFWW 1 P 32 L 33\n") out_line) (record or_ports { l = 33; nets = [] }) or_design refl refl c);
       early = λ c. off_time gate 31 (λ t e. omega (arith, e)) (shown (gate_text (codes "#C BLIFWW 1 P 32 L 31\n") out_line) (record or_ports { l = 31; nets = [] }) or_design refl refl c);
       fast = λ c. tail_injected (shown (gate_text (codes "#C BLIFWW 1 P 1 L 32\n") out_line) (record or_ports { p = 1; nets = [] }) or_design refl refl c);
-      other_name = λ c. not_z (shown (gate_text version_line (codes "#C BLIFWW OUT 32 8 z\n")) (record or_ports { outs = port_at 32 8 (codes "z") ∷ []; nets = [] }) or_design refl refl c);
-      empty_cell = λ c. never_head (shown (gate_text version_line (codes "#C BLIFWW OUT 0 0 y\n")) (record or_ports { outs = port_at 0 0 (codes "y") ∷ []; nets = [] }) or_design refl refl c);
+      other_name = λ c. not_z (shown (gate_text version_line (codes "#C BLIFWW OUT 32 8 z\n")) (record or_ports { outs = port_line_at 32 8 (codes "z") ∷ []; nets = [] }) or_design refl refl c);
+      empty_cell = λ c. never_head (shown (gate_text version_line (codes "#C BLIFWW OUT 0 0 y\n")) (record or_ports { outs = port_line_at 0 0 (codes "y") ∷ []; nets = [] }) or_design refl refl c);
     }

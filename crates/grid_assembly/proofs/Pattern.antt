@@ -11,12 +11,13 @@ use Rattle.ww_rule.specs.declared.pattern.State.TheVariants.{Empty}
 use Rattle.ww_rule.specs.Grid.{IsGrid, IsEmptyOutside, in_box, plane_of}
 use Rattle.ww_rule.proofs.Boxes.{plane_of_outside}
 use Rattle.lane_core.specs.declared.plan.Plan.{Plan}
-use Rattle.lane_core.specs.Plans.{IsAdmissible}
-use Rattle.plan_layout.specs.Layout.{size_of}
-use Rattle.grid_assembly.specs.PlanDrawing.{start_plane, AreCellsOfRow, start_row, start_grid, IsPatternOf}
+use Rattle.lane_core.specs.Plans.{IsAdmissible, size_of}
+use Rattle.tile_library.specs.Drawings.{shipped_drawing}
+use Rattle.plan_layout.specs.Planes.{start_plane}
+use Rattle.grid_assembly.specs.PlanDrawing.{AreCellsOfRow, start_row, start_grid, IsPatternOf}
 
 -- outside its box a plan's plane is empty
-outside : (plan : Plan) → IsAdmissible plan → IsEmptyOutside (size_of plan).0 (size_of plan).1 (start_plane plan)
+outside : (plan : Plan) → IsAdmissible plan → IsEmptyOutside (size_of plan).0 (size_of plan).1 (start_plane shipped_drawing plan)
 outside plan h (pos x) (pos y) out = search rules
 outside plan h (pos x) (negsuc y) out = refl
 outside plan h (negsuc x) y out = refl
@@ -34,14 +35,14 @@ no_rows false columns (suc rows) e =
 row_at : (plan : Plan) (y : ℕ) → y < (size_of plan).1 → get_or (start_grid plan).rows y [] ≡ start_row plan y
 row_at plan y lt = get_or-map-range_with_len (start_row plan) 0 (size_of plan).1 y y [] lt (omega arith)
 
-cell_at : (plan : Plan) (x y : ℕ) → x < (size_of plan).0 → get_or (start_row plan y) x Empty ≡ start_plane plan (pos x) (pos y)
-cell_at plan x y lt = get_or-map-range_with_len (λ x. start_plane plan (pos x) (pos y)) 0 (size_of plan).0 x x Empty lt (omega arith)
+cell_at : (plan : Plan) (x y : ℕ) → x < (size_of plan).0 → get_or (start_row plan y) x Empty ≡ start_plane shipped_drawing plan (pos x) (pos y)
+cell_at plan x y lt = get_or-map-range_with_len (λ x. start_plane shipped_drawing plan (pos x) (pos y)) 0 (size_of plan).0 x x Empty lt (omega arith)
 
 -- a row as long as the drawing is wide, with the plane's cells, is the pattern's row
 pub row_is : (plan : Plan) (y : ℕ) (cells : List State) → length cells ≡ (size_of plan).0 → AreCellsOfRow plan y 0 cells → cells ≡ start_row plan y
 row_is plan y cells long are =
-    ext_get_or Empty cells (start_row plan y) (long ∙ sym (length-map-range_with_len (λ x. start_plane plan (pos x) (pos y)) 0 (size_of plan).0))
-    (λ i lt. let at : 0 + i ≡ i = omega arith in are i lt ∙ ap (λ x. start_plane plan (pos x) (pos y)) at ∙ sym (cell_at plan i y (omega (arith, lt, long))))
+    ext_get_or Empty cells (start_row plan y) (long ∙ sym (length-map-range_with_len (λ x. start_plane shipped_drawing plan (pos x) (pos y)) 0 (size_of plan).0))
+    (λ i lt. let at : 0 + i ≡ i = omega arith in are i lt ∙ ap (λ x. start_plane shipped_drawing plan (pos x) (pos y)) at ∙ sym (cell_at plan i y (omega (arith, lt, long))))
 
 pub is_grid : (plan : Plan) → IsGrid (size_of plan).0 (size_of plan).1 (start_grid plan).rows
 is_grid plan =
@@ -49,12 +50,12 @@ is_grid plan =
     record {
       long = λ y d lt.
           let row : get_or (start_grid plan).rows y d ≡ start_row plan y = get_or-map-range_with_len (start_row plan) 0 (size_of plan).1 y y d (omega (arith, lt, many)) (omega arith) in
-          ap length row ∙ length-map-range_with_len (λ x. start_plane plan (pos x) (pos y)) 0 (size_of plan).0;
+          ap length row ∙ length-map-range_with_len (λ x. start_plane shipped_drawing plan (pos x) (pos y)) 0 (size_of plan).0;
       many = λ _. many;
       none = λ e. ap (λ n. map (start_row plan) (range_with_len 0 n)) (no_rows (plan.lanes == 0) (32 * (length plan.columns + 2 * plan.latches)) (16 * (plan.lanes + plan.latches)) e);
     }
 
-same_cell : (plan : Plan) → IsAdmissible plan → (x y : ℤ) (b : Bool) → in_box (size_of plan).0 (size_of plan).1 x y ≡ b → plane_of (start_grid plan).rows x y ≡ start_plane plan x y
+same_cell : (plan : Plan) → IsAdmissible plan → (x y : ℤ) (b : Bool) → in_box (size_of plan).0 (size_of plan).1 x y ≡ b → plane_of (start_grid plan).rows x y ≡ start_plane shipped_drawing plan x y
 same_cell plan h x y false out = plane_of_outside (size_of plan).0 (size_of plan).1 (start_grid plan).rows (is_grid plan) x y out ∙ sym (outside plan h x y out)
 same_cell plan h (pos x) (pos y) true within =
     let parts = and_parts (nat_lt x (size_of plan).0) (nat_lt y (size_of plan).1) within in
@@ -62,6 +63,6 @@ same_cell plan h (pos x) (pos y) true within =
 same_cell plan h (pos x) (negsuc y) true within = refl
 same_cell plan h (negsuc x) y true within = refl
 
-pub patterns_are_planes : (plan : Plan) → IsAdmissible plan → IsPatternOf (start_grid plan) (start_plane plan)
+pub patterns_are_planes : (plan : Plan) → IsAdmissible plan → IsPatternOf (start_grid plan) (start_plane shipped_drawing plan)
 patterns_are_planes plan h =
     record { box = is_grid plan; plane = fun_ext (λ x. fun_ext (λ y. same_cell plan h x y (in_box (size_of plan).0 (size_of plan).1 x y) refl)) }

@@ -1,16 +1,17 @@
 -- What the drawing of a plan is, and what it does in time.
 use Rattle.tiling.specs.Tiling.{Lit}
 use Rattle.tiling.specs.Steps.{StepsByMacro}
-use Rattle.tile_library.specs.Drawings.{drawing_of}
+use Rattle.tile_library.specs.Drawings.{shipped_drawing}
 use Rattle.lane_core.specs.declared.plan.Plan.{Plan}
 use Rattle.lane_core.specs.Plans.{IsAdmissible}
+use Rattle.plan_layout.specs.Planes.{start_plane}
 use Rattle.plan_layout.specs.Layout.{tiling_of}
-use Rattle.grid_assembly.specs.PlanDrawing.{start_plane, start_grid, IsPatternOf}
+use Rattle.grid_assembly.specs.PlanDrawing.{start_grid, IsPatternOf}
 
 -- every admissible plan, whichever edges are lit, goes on by macro steps
 abbrev pub StepsByEdges : Type 0
-StepsByEdges = (plan : Plan) → IsAdmissible plan → (lit : Lit) → StepsByMacro drawing_of (tiling_of plan) lit
+StepsByEdges = (plan : Plan) → IsAdmissible plan → (lit : Lit) → StepsByMacro shipped_drawing (tiling_of plan) lit
 
 -- every admissible plan's pattern is the plan's plane at generation 0
 abbrev pub PatternsArePlanes : Type 0
-PatternsArePlanes = (plan : Plan) → IsAdmissible plan → IsPatternOf (start_grid plan) (start_plane plan)
+PatternsArePlanes = (plan : Plan) → IsAdmissible plan → IsPatternOf (start_grid plan) (start_plane shipped_drawing plan)

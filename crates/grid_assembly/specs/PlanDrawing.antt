@@ -5,28 +5,19 @@ use Rattle.ww_rule.specs.declared.pattern.State.{State}
 use Rattle.ww_rule.specs.declared.pattern.State.TheVariants.{Empty}
 use Rattle.ww_rule.specs.Wireworld.{Plane}
 use Rattle.ww_rule.specs.Grid.{Grid, IsGrid, plane_of}
-use Rattle.tiling.specs.Tiling.{Lit, drawn}
-use Rattle.tile_library.specs.Drawings.{drawing_of}
+use Rattle.tile_library.specs.Drawings.{shipped_drawing}
 use Rattle.lane_core.specs.declared.plan.Plan.{Plan}
-use Rattle.plan_layout.specs.Starts.{start_edges}
-use Rattle.plan_layout.specs.Layout.{tiling_of, size_of}
+use Rattle.lane_core.specs.Plans.{size_of}
+use Rattle.plan_layout.specs.Planes.{start_plane}
 
--- the plan's tiles in the shipped drawings, with some edges lit
-abbrev pub plane_with : Plan → Lit → Plane
-plane_with plan lit = drawn drawing_of (tiling_of plan) lit
-
--- the plan's plane at generation 0, with the edges lit where loops start with 1
-abbrev pub start_plane : Plan → Plane
-start_plane plan = plane_with plan (start_edges plan)
-
--- the cells of one row of that plane, from a column on eastward
+-- the cells of one row of the plan's plane at generation 0, in the shipped drawings, from a column on eastward
 abbrev pub AreCellsOfRow : Plan → ℕ → ℕ → List State → Type 0
 AreCellsOfRow plan y x cells =
-    (i : ℕ) → i < length cells → get_or cells i Empty ≡ start_plane plan (pos (x + i)) (pos y)
+    (i : ℕ) → i < length cells → get_or cells i Empty ≡ start_plane shipped_drawing plan (pos (x + i)) (pos y)
 
 -- row y of that plane, as wide as the drawing
 abbrev pub start_row : Plan → ℕ → List State
-start_row plan y = map (λ x. start_plane plan (pos x) (pos y)) (range_with_len 0 (size_of plan).0)
+start_row plan y = map (λ x. start_plane shipped_drawing plan (pos x) (pos y)) (range_with_len 0 (size_of plan).0)
 
 -- the plan's pattern: the rows of the drawing
 abbrev pub start_grid : Plan → Grid

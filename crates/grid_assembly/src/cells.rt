@@ -6,7 +6,7 @@ ghost use Rattle.plan_layout.specs.Starts.{start_edges};
 ghost use Rattle.plan_layout.specs.Slots.{piece_of, slot_of};
 ghost use Rattle.tile_core.specs.Drawing.{is_among};
 ghost use Rattle.tile_core.specs.Kinds.{interface};
-ghost use Rattle.tile_library.specs.Drawings.{drawing_of as shipped};
+ghost use Rattle.tile_library.specs.Drawings.{shipped_drawing};
 ghost use Rattle.tiling.specs.Tiling.{drawn_piece, drawn_slot, edge_of, heads_of, is_entry_lit, is_exit_lit, tails_of};
 ghost use Rattle.tiling.specs.Tiling.Piece.{Tile, Output};
 
@@ -102,7 +102,7 @@ fn tile_cell(plan: &Plan, column: u64, lane: u64, kind: Kind, place: (u32, u32))
     requires admissible { IsAdmissible plan.now }
     requires far { column < 2 ^ 63 }
     requires low { lane < 2 ^ 62 }
-    ensures { result ≡ drawn_piece shipped (start_edges plan.now) column lane (Tile kind) place.0 place.1 }
+    ensures { result ≡ drawn_piece shipped_drawing (start_edges plan.now) column lane (Tile kind) place.0 place.1 }
 {
     if !Shipped.cell(kind, place.0, place.1) {
         State::Empty
@@ -120,7 +120,7 @@ fn piece_cell(plan: &Plan, column: u64, lane: u64, piece: Piece, place: (u32, u3
     requires admissible { IsAdmissible plan.now }
     requires far { column < 2 ^ 63 }
     requires low { lane < 2 ^ 62 }
-    ensures { result ≡ drawn_piece shipped (start_edges plan.now) column lane (piece_of piece) place.0 place.1 }
+    ensures { result ≡ drawn_piece shipped_drawing (start_edges plan.now) column lane (piece_of piece) place.0 place.1 }
 {
     match piece {
         Piece::Tile(kind) => tile_cell(plan, column, lane, kind, place),
@@ -131,7 +131,7 @@ fn piece_cell(plan: &Plan, column: u64, lane: u64, piece: Piece, place: (u32, u3
 // A cell of a block where an output cell stands.
 fn output_cell(plan: &Plan, column: u64, lane: u64, place: (u32, u32)) -> State
     requires admissible { IsAdmissible plan.now }
-    ensures { result ≡ drawn_piece shipped (start_edges plan.now) column lane Output place.0 place.1 }
+    ensures { result ≡ drawn_piece shipped_drawing (start_edges plan.now) column lane Output place.0 place.1 }
 {
     if place != (0, 8) {
         State::Empty
@@ -148,7 +148,7 @@ pub fn slot_cell(plan: &Plan, column: u64, lane: u64, slot: Slot, x: u32, y: u32
     requires far { column < 2 ^ 63 }
     requires low { lane < 2 ^ 62 }
     requires in_block { y < 16 }
-    ensures { result ≡ drawn_slot shipped (start_edges plan.now) column lane (slot_of slot) x y }
+    ensures { result ≡ drawn_slot shipped_drawing (start_edges plan.now) column lane (slot_of slot) x y }
 {
     match slot {
         Slot::Nothing => State::Empty,

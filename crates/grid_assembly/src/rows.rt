@@ -1,9 +1,10 @@
 // The size of a plan's drawing, its cells, and its rows.
 ghost use Rattle.std.specs.Prelude.{◌≡◌, ◌≤◌, ◌+◌, ◌^◌, pos, length};
 ghost use Rattle.ww_rule.specs.Grid.{IsEmptyOutside};
-ghost use Rattle.lane_core.specs.Plans.{IsAdmissible};
-ghost use Rattle.plan_layout.specs.Layout.{size_of};
-ghost use Rattle.grid_assembly.specs.PlanDrawing.{start_plane, AreCellsOfRow};
+ghost use Rattle.lane_core.specs.Plans.{IsAdmissible, size_of};
+ghost use Rattle.tile_library.specs.Drawings.{shipped_drawing};
+ghost use Rattle.plan_layout.specs.Planes.{start_plane};
+ghost use Rattle.grid_assembly.specs.PlanDrawing.{AreCellsOfRow};
 
 use crate::cells::slot_cell;
 use lane_core::Plan;
@@ -14,7 +15,7 @@ use ww_rule::State;
 pub fn size(plan: &Plan) -> (u64, u64)
     requires { IsAdmissible plan.now }
     ensures exact { result ≡ size_of plan.now }
-    ensures outside { IsEmptyOutside result.0 result.1 (start_plane plan.now) }
+    ensures outside { IsEmptyOutside result.0 result.1 (start_plane shipped_drawing plan.now) }
 {
     if plan.lanes == 0 {
         return (0, 0);
@@ -30,7 +31,7 @@ pub fn size(plan: &Plan) -> (u64, u64)
 /// empty.
 pub fn cell(plan: &Plan, x: u64, y: u64) -> State
     requires { IsAdmissible plan.now }
-    ensures { result ≡ start_plane plan.now (pos x) (pos y) }
+    ensures { result ≡ start_plane shipped_drawing plan.now (pos x) (pos y) }
 {
     let (column, lane) = (x / 32, y / 16);
     slot_cell(

@@ -2,4 +2,5 @@ pub mod Instrs
 pub mod Columns
 pub mod Places
 pub mod Plans
+pub mod Entering
 pub mod Laws

@@ -1,6 +1,6 @@
 -- Which plans have a drawing, and where their signals are found in it. A lane is 16 rows high, and its signals run along
 -- its row 8. A column is 32 cells wide, and a signal takes 32 generations through it.
-use Rattle.std.specs.Prelude.{ℕ, ◌+◌, ◌-◌, ◌*◌, ◌^◌, ◌<◌, ◌≤◌, ◌≡◌, ◌==◌, ◌↔◌, cond, length, All, slice_index, slice_index_or, Option, Some, None}
+use Rattle.std.specs.Prelude.{ℕ, ◌+◌, ◌-◌, ◌*◌, ◌^◌, ◌<◌, ◌≤◌, ◌≡◌, ◌==◌, ◌↔◌, cond, length, All, slice_index, slice_index_or, Option, Some, None, List, map, if◌then◌else◌}
 use Rattle.lane_core.specs.declared.plan.NetPlace.{NetPlace}
 use Rattle.lane_core.specs.declared.plan.Plan.{Plan}
 use Rattle.lane_core.specs.Columns.{IsColumnOnLanes, IsColumnApart}
@@ -61,3 +61,22 @@ net_place plan i = slice_index_or plan.nets i (record { lane = 0; after = None }
 -- x and y of the cell of net i, and the generations from the inputs to it
 abbrev pub net_cell_of : Plan → ℕ → ℕ × ℕ × ℕ
 net_cell_of plan i = cell_after plan (net_place plan i).lane (net_place plan i).after
+
+-- x and y of the cells of all inputs
+abbrev pub input_cells : Plan → List (ℕ × ℕ)
+input_cells plan = map (λ lane. (left_of plan 0, row_of lane)) plan.ins
+
+-- x and y of the cells of all outputs
+abbrev pub output_cells : Plan → List (ℕ × ℕ)
+output_cells plan = map (λ lane. (left_of plan (length plan.columns), row_of lane)) plan.outs
+
+-- x and y of the cells of all nets, and the generations from the inputs to them
+abbrev pub net_cells : Plan → List (ℕ × ℕ × ℕ)
+net_cells plan = map (λ place. cell_after plan place.lane place.after) plan.nets
+
+-- width and height of the drawing in cells: a tile is 32 cells wide and a lane 16 high, and the cells of the outputs
+-- stand one column further out; a plan without lanes has no cells
+abbrev pub size_of : Plan → ℕ × ℕ
+size_of plan =
+    if plan.lanes == 0 then (0, 0)
+    else (32 * (length plan.columns + 2 * plan.latches) + 1, 16 * (plan.lanes + plan.latches))

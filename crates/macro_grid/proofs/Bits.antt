@@ -9,7 +9,8 @@ use Rattle.std.proofs.Math.Nat.{mul_comm}
 use Rattle.tiling.specs.Tiling.Edge.{Beside}
 use Rattle.lane_core.specs.declared.plan.Plan.{Plan}
 use Rattle.lane_core.specs.Plans.{IsAdmissible}
-use Rattle.plan_layout.specs.Starts.{first_loop_lane, start_edges}
+use Rattle.lane_core.specs.Entering.{first_loop_lane}
+use Rattle.plan_layout.specs.Starts.{start_edges}
 use Rattle.macro_grid.specs.Edges.{edge_columns, edge_lanes}
 
 -- where the bit at each place is the test's at its row and column, and the test fails beyond, all agree
@@ -37,7 +38,7 @@ bits_read width height bits test long each right below q l =
 pub starts_right : (plan : Plan) (q l : ℕ) → edge_columns plan ≤ q → start_edges plan (Beside q l) ≡ false
 starts_right plan q l far =
     let no : (q == plan.latches) ≡ false = grind (arith, nat_tests) in
-    ap (λ b. b && nat_le (first_loop_lane plan) l && get_or plan.starts (l - first_loop_lane plan) false) no
+    ap (λ b. b && nat_le (first_loop_lane plan.lanes plan.latches) l && get_or plan.starts (l - first_loop_lane plan.lanes plan.latches) false) no
 
 pub and_false : (b : Bool) → (b && false) ≡ false
 and_false true = refl
@@ -45,5 +46,5 @@ and_false false = refl
 
 pub starts_below : (plan : Plan) → IsAdmissible plan → (q l : ℕ) → edge_lanes plan ≤ l → start_edges plan (Beside q l) ≡ false
 starts_below plan h q l far =
-    let past : get_or plan.starts (l - first_loop_lane plan) false ≡ false = get_or_past plan.starts (l - first_loop_lane plan) false (omega (arith, h.size.starts, h.size.loops_on_lanes)) in
-    ap (λ b. q == plan.latches && nat_le (first_loop_lane plan) l && b) past ∙ and_false _
+    let past : get_or plan.starts (l - first_loop_lane plan.lanes plan.latches) false ≡ false = get_or_past plan.starts (l - first_loop_lane plan.lanes plan.latches) false (omega (arith, h.size.starts, h.size.loops_on_lanes)) in
+    ap (λ b. q == plan.latches && nat_le (first_loop_lane plan.lanes plan.latches) l && b) past ∙ and_false _

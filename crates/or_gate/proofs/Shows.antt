@@ -5,19 +5,19 @@ use Rattle.std.proofs.Math.Bool.{or-false}
 use Rattle.ww_rule.specs.declared.pattern.State.TheVariants.{Head, Conductor}
 use Rattle.ww_rule.specs.Wireworld.{Due, driven, next_plane}
 use Rattle.tile_timing.proofs.Sound.{same_place}
-use Rattle.tile_library.specs.Drawings.{drawing_of}
+use Rattle.tile_library.specs.Drawings.{shipped_drawing}
 use Rattle.tiling.specs.Steps.{KeepsLaw}
 use Rattle.lane_core.specs.Instrs.{bit_on}
 use Rattle.lane_core.specs.Columns.{after_columns}
+use Rattle.plan_layout.specs.Planes.{start_plane}
 use Rattle.plan_waves.specs.Cycles.{DrivesCycles, injected_bits}
 use Rattle.plan_waves.specs.Shown.{cycle_bits, ShowsPlanRun, PlansShowRuns}
 use Rattle.grid_assembly.specs.Laws.{PatternsArePlanes}
-use Rattle.grid_assembly.specs.PlanDrawing.{start_plane}
 use Rattle.or_gate.specs.OrGate.{or_plan, gate_plane, DrivesGate, is_lit, before_injections, ShowsOr}
 use Rattle.or_gate.proofs.Admissible.{or_is_admissible}
 use Rattle.or_gate.proofs.Tile.{is_tile}
 
--- a driven cell is one of the two entries
+-- a driven cell is one of the two gate_entries
 at_entry : (due : Due) → DrivesGate due → (g : ℕ) (x y : ℤ) → due g x y ≡ true → ((x ≡ pos 0) × (y ≡ pos 8)) ⊎ ((x ≡ pos 0) × (y ≡ pos 24))
 at_entry due d g x y e =
     elim (or_cases (int_eq x (pos 0) && int_eq y (pos 8)) ((int_eq x (pos 0) && int_eq y (pos 24)) || false) (d.at_entries g x y e)) [
@@ -49,22 +49,22 @@ output_bit due t =
     ap (λ bits. bit_on (after_columns or_plan.columns bits) 0) (inputs_alone due t)
     ∙ ap (λ g. due g (pos 0) (pos 8) || due g (pos 0) (pos 24)) time
 
-heads : (due : Due) → ShowsPlanRun drawing_of or_plan due → (g : ℕ)
-    → (driven due (start_plane or_plan) g (pos 32) (pos 8) ≡ Head) ↔ ((t : ℕ) × (g ≡ 32 + 32 * t) × (is_lit due t ≡ true))
+heads : (due : Due) → ShowsPlanRun shipped_drawing or_plan due → (g : ℕ)
+    → (driven due (start_plane shipped_drawing or_plan) g (pos 32) (pos 8) ≡ Head) ↔ ((t : ℕ) × (g ≡ 32 + 32 * t) × (is_lit due t ≡ true))
 heads due is g = (
   λ head. (let shown = (is.outs 0 (omega arith) g).0 head in (shown.0, omega (arith, shown.1), sym (output_bit due shown.0) ∙ shown.2)),
   λ lit. (let time : g ≡ 32 + lit.0 * 32 = omega (arith, lit.1) in (is.outs 0 (omega arith) g).1 (lit.0, time, output_bit due lit.0 ∙ lit.2)),
 )
 
-conductors : gate_plane ≡ start_plane or_plan → (due : Due) → ShowsPlanRun drawing_of or_plan due → (g : ℕ) (x y : ℤ) → due g x y ≡ true
+conductors : gate_plane ≡ start_plane shipped_drawing or_plan → (due : Due) → ShowsPlanRun shipped_drawing or_plan due → (g : ℕ) (x y : ℤ) → due g x y ≡ true
     → before_injections due g x y ≡ Conductor
 conductors plane due is zero x y e = ap (λ p. p x y) plane ∙ is.first_conductors x y e
 conductors plane due is (suc g) x y e = ap (λ p. next_plane (driven due p g) x y) plane ∙ is.conductors g x y e
 
-pub shows_or : KeepsLaw drawing_of → PatternsArePlanes → PlansShowRuns → ShowsOr
+pub shows_or : KeepsLaw shipped_drawing → PatternsArePlanes → PlansShowRuns → ShowsOr
 shows_or keeps patterns runs =
-    let plane : gate_plane ≡ start_plane or_plan = (patterns or_plan or_is_admissible).plane in
-    let is : (due : Due) → DrivesGate due → ShowsPlanRun drawing_of or_plan due = λ due d. runs drawing_of keeps or_plan or_is_admissible due (drives_cycles due d) in
+    let plane : gate_plane ≡ start_plane shipped_drawing or_plan = (patterns or_plan or_is_admissible).plane in
+    let is : (due : Due) → DrivesGate due → ShowsPlanRun shipped_drawing or_plan due = λ due d. runs shipped_drawing keeps or_plan or_is_admissible due (drives_cycles due d) in
     record {
       is_tile = is_tile keeps plane;
       conductors = λ due d. conductors plane due (is due d);

@@ -37,13 +37,13 @@ abbrev pub at : ℕ → ℕ → Cell
 at x y = record { x = pos x; y = pos y }
 
 -- where the inputs enter
-abbrev pub entries : List Cell
-entries = at 0 8 ∷ at 0 24 ∷ []
+abbrev pub gate_entries : List Cell
+gate_entries = at 0 8 ∷ at 0 24 ∷ []
 
--- heads are injected at the two entries alone, every 32 generations at most
+-- heads are injected at the two gate_entries alone, every 32 generations at most
 pub record DrivesGate (due : Due) : Type 0 where
   pub on_time : (g : ℕ) (x y : ℤ) → due g x y ≡ true → g % 32 ≡ 0
-  pub at_entries : (g : ℕ) (x y : ℤ) → due g x y ≡ true → is_among x y entries ≡ true
+  pub at_entries : (g : ℕ) (x y : ℤ) → due g x y ≡ true → is_among x y gate_entries ≡ true
 
 -- whether an entry is injected at generation 32 m
 abbrev pub is_lit : Due → ℕ → Bool

@@ -6,7 +6,7 @@ use std::alloc::Global;
 use std::test::Fail;
 use ww_rule::{Plane, RuleError, State, step_driven};
 
-// One generation, and then heads at the entries whose bits are set.
+// One generation, and then heads at the gate_entries whose bits are set.
 fn next(alloc: Global, plane: &Plane, a: bool, b: bool) -> Result<Plane, RuleError>
     requires width { plane.now.width ≡ 33 }
     requires height { plane.now.height ≡ 32 }

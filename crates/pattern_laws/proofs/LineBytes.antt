@@ -9,6 +9,7 @@ use Rattle.std.proofs.lemmas.Option.{none-some}
 use Rattle.pattern_reading.specs.Lines.{Line, lines_from, lines_of, onto_first_line, with_line_feeds}
 use Rattle.pattern_reading.specs.Numbers.{after_prefix}
 use Rattle.pattern_reading.specs.Header.{is_skipped, lines_before_header}
+use Rattle.pattern_reading.proofs.FirstLine.{HasNoFeed}
 
 pub other_byte : (a b : ℕ) → (a == b) ≡ false → a ≢ b
 other_byte a b e same = elim (eqb_tells a b) as (λ _. ⊥) [
@@ -17,9 +18,6 @@ other_byte a b e same = elim (eqb_tells a b) as (λ _. ⊥) [
 ]
 
 -- the bytes of a line
-abbrev pub HasNoFeed : List ℕ → Type 0
-HasNoFeed bytes = All (λ b. b ≢ 10) bytes
-
 abbrev pub IsFeedless : Line → Type 0
 IsFeedless line = HasNoFeed line.bytes
 

@@ -18,9 +18,11 @@ use Rattle.pattern_reading.specs.Header.{lines_before_header}
 use Rattle.pattern_reading.specs.PortLines.{PortForm, Version, In, Out, Net, TableLine, form_of_fields, net_in, path_in, port_in, table_entry, table_line, table_of}
 use Rattle.pattern_reading.specs.PortTable.{fault_of_form, faults_after, forms_of, input_of, is_same_port, latency_in, net_of, output_of, period_in}
 use Rattle.pattern_reading.specs.SoundTable.{HasSoundTable, IsSoundNet, IsSoundPort, IsWord}
-use Rattle.pattern_laws.proofs.LineBytes.{HasNoFeed, IsFeedless, IsFieldText, feedless_after, feedless_before_header, fields_are, other_byte}
+use Rattle.pattern_laws.proofs.LineBytes.{IsFeedless, IsFieldText, feedless_after, feedless_before_header, fields_are, other_byte}
+use Rattle.pattern_reading.proofs.FirstLine.{HasNoFeed}
 use Rattle.pattern_reading.proofs.PortsInside.{no_first}
 use Rattle.pattern_reading.proofs.Ranges.{bind_some, small_number}
+use Rattle.pattern_reading.proofs.SoundLines.{forms_in}
 
 -- the values of a line
 abbrev IsSoundForm : PortForm → Type 0
@@ -156,9 +158,6 @@ not_twice true outside twice e = absurd (none-some _ (sym e))
 not_twice false true twice e = absurd (none-some _ (sym e))
 not_twice false false true e = absurd (none-some _ (sym e))
 not_twice false false false e = refl
-
-abbrev forms_in : List (Option PortForm) → List PortForm
-forms_in before = filter_map (λ line. line) before
 
 form_new : (width height : ℕ) (before : List (Option PortForm)) (o : Option PortForm) (forms : List PortForm) → fault_of_form width height before o ≡ None → IsNew (forms_in (before ++ o ∷ [])) forms → IsNew (forms_in before) (cons_option o forms)
 form_new width height before None forms e h = absurd (none-some _ (sym e))

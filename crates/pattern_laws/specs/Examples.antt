@@ -14,7 +14,7 @@ use Rattle.pattern_reading.specs.declared.ports.Ports.{Ports}
 use Rattle.pattern_reading.specs.Pattern.{ReadsAsPattern, HasRleFault}
 use Rattle.pattern_reading.specs.PortTable.{ReadsAsPorts, HasPortFault}
 use Rattle.pattern_writing.specs.Samples.{bare_text}
-use Rattle.pattern_samples.specs.Ports.{port_at, net_at, bare_ports}
+use Rattle.pattern_samples.specs.Ports.{port_line_at, net_line_at, bare_ports}
 
 -- a text that reads as a pattern
 pub record PatternExample : Type 0 where
@@ -89,7 +89,7 @@ abbrev pub wire_text : List ℕ → List ℕ
 wire_text p = wire_version p ++ wire_in ++ wire_out ++ wire_cells
 
 abbrev pub wire_ports : ℕ → Ports
-wire_ports p = record { p = p; l = 2; ins = port_at 0 0 (codes "a") ∷ []; outs = port_at 2 0 (codes "y") ∷ []; nets = [] }
+wire_ports p = record { p = p; l = 2; ins = port_line_at 0 0 (codes "a") ∷ []; outs = port_line_at 2 0 (codes "y") ∷ []; nets = [] }
 
 abbrev pub three : List (List ℕ)
 three = codes "CCC" ∷ []
@@ -246,14 +246,14 @@ ports_examples =
     ∷ record { text = codes "#C BLIFWW\n#C BLIFWWW 2\n #C BLIFWW 2\n"; width = 0; height = 0; ports = bare_ports }
     ∷ record { text = wire_cells ++ wire_in; width = 3; height = 1; ports = bare_ports }
     -- a text without a header
-    ∷ reads_as_ports (codes "\n#\n" ++ wire_in) (port_at 0 0 (codes "a") ∷ []) [] []
+    ∷ reads_as_ports (codes "\n#\n" ++ wire_in) (port_line_at 0 0 (codes "a") ∷ []) [] []
     -- the first line that is neither a comment nor blank ends the table, also where it is no good header
-    ∷ reads_as_ports (wire_in ++ codes "x = 3\n" ++ wire_out) (port_at 0 0 (codes "a") ∷ []) [] []
+    ∷ reads_as_ports (wire_in ++ codes "x = 3\n" ++ wire_out) (port_line_at 0 0 (codes "a") ∷ []) [] []
     ∷ record { text = codes "3C!\n#C BLIFWW 1 P 0 L 0\n"; width = 3; height = 1; ports = bare_ports }
     -- names with a tab and with a carriage return, which a line end alone takes away
     ∷ reads_as_ports
     (codes "#C BLIFWW IN 0 0 a\tb\n#C BLIFWW IN 1 0 a\rb\r\n#C BLIFWW IN 2 0 a\r")
-    (port_at 0 0 (codes "a\tb") ∷ port_at 1 0 (codes "a\rb") ∷ port_at 2 0 (codes "a\r") ∷ [])
+    (port_line_at 0 0 (codes "a\tb") ∷ port_line_at 1 0 (codes "a\rb") ∷ port_line_at 2 0 (codes "a\r") ∷ [])
     []
     []
     -- paths of one number and of zeros
@@ -261,15 +261,15 @@ ports_examples =
     (codes "#C BLIFWW NET 1 0 9 a 0\n#C BLIFWW NET 1 0 9 a 0.0\n" ++ wire_cells)
     []
     []
-    (net_at 1 0 9 (codes "a") (codes "0") ∷ net_at 1 0 9 (codes "a") (codes "0.0") ∷ [])
+    (net_line_at 1 0 9 (codes "a") (codes "0") ∷ net_line_at 1 0 9 (codes "a") (codes "0.0") ∷ [])
     -- both line ends, and leading zeros
-    ∷ reads_as_ports (codes "#C BLIFWW IN 002 0 a\r\n#C BLIFWW OUT 0 000 y\r\n" ++ wire_cells) (port_at 2 0 (codes "a") ∷ []) (port_at 0 0 (codes "y") ∷ []) []
+    ∷ reads_as_ports (codes "#C BLIFWW IN 002 0 a\r\n#C BLIFWW OUT 0 000 y\r\n" ++ wire_cells) (port_line_at 2 0 (codes "a") ∷ []) (port_line_at 0 0 (codes "y") ∷ []) []
     -- one name may stand in two kinds of lines, and a net's name under two paths
     ∷ reads_as_ports
     (codes "#C BLIFWW NET 1 0 9 a -\n#C BLIFWW OUT 0 0 a\n#C BLIFWW IN 2 0 a\n#C BLIFWW NET 1 0 18446744073709551615 a 0.12.3\n" ++ wire_cells)
-    (port_at 2 0 (codes "a") ∷ [])
-    (port_at 0 0 (codes "a") ∷ [])
-    (net_at 1 0 9 (codes "a") (codes "-") ∷ net_at 1 0 18446744073709551615 (codes "a") (codes "0.12.3") ∷ [])
+    (port_line_at 2 0 (codes "a") ∷ [])
+    (port_line_at 0 0 (codes "a") ∷ [])
+    (net_line_at 1 0 9 (codes "a") (codes "-") ∷ net_line_at 1 0 18446744073709551615 (codes "a") (codes "0.12.3") ∷ [])
     ∷ []
 
 -- a text whose table has a fault, in the box of the wire

@@ -1,5 +1,5 @@
 -- Numbers that bytes write.
-use Rattle.std.proofs.Common.{ℕ, ◌+◌, ◌-◌, ◌*◌, ◌^◌, ◌<◌, ◌≤◌, ◌≡◌, refl, sym, ◌∙◌, Bool, true, false, ◌&&◌, List, [], ◌∷◌, length, take, get_or, arith}
+use Rattle.std.proofs.Common.{ℕ, ◌+◌, ◌-◌, ◌*◌, ◌^◌, ◌<◌, ◌≤◌, ◌≡◌, refl, sym, ◌∙◌, true, false, List, [], ◌∷◌, length, take, get_or, arith}
 use Rattle.std.specs.Prelude.{Some, None, nat_le}
 use Rattle.std.specs.List.{list_all}
 use Rattle.std.specs.Char.{is_ascii_digit, digit_value}
@@ -10,14 +10,11 @@ use Rattle.std.proofs.lemmas.Bool.Decides.{nat_tests}
 use Rattle.std.proofs.lemmas.Int.Digits.{digits_value_more}
 use Rattle.std.proofs.lemmas.List.Folds.{list_all_more}
 use Rattle.pattern_reading.specs.Numbers.{number_in, greatest_number}
+use Rattle.std.proofs.lemmas.Bool.{and_right}
 
 pub no_number : (ds : List ℕ) → list_all is_ascii_digit ds ≡ false → number_in ds ≡ None
 no_number [] e = refl
 no_number (b ∷ bs) e = rw e refl
-
-and_false : (t u : Bool) → u ≡ false → (t && u) ≡ false
-and_false true u e = e
-and_false false u e = refl
 
 past_greatest : (v : ℕ) → 2 ^ 64 ≤ v → nat_le v greatest_number ≡ false
 past_greatest v h = grind (arith, nat_tests)
@@ -30,7 +27,7 @@ large_number [] i h = refl
 large_number (b ∷ bs) i h =
     let more : digits_value 10 (take i (b ∷ bs)) ≤ digits_value 10 (b ∷ bs) = digits_value-take-le 10 (b ∷ bs) i (omega arith) in
     let large : 2 ^ 64 ≤ digits_value 10 (b ∷ bs) = omega (arith, h, more) in
-    rw (and_false (list_all is_ascii_digit (b ∷ bs)) _ (past_greatest _ large)) refl
+    rw (and_right (list_all is_ascii_digit (b ∷ bs)) _ (past_greatest _ large)) refl
 
 pub whole_number : (ds : List ℕ) → 0 < length ds → list_all is_ascii_digit ds ≡ true → digits_value 10 ds < 2 ^ 64 → number_in ds ≡ Some (digits_value 10 ds)
 whole_number [] some e h = absurd (omega (arith, some))

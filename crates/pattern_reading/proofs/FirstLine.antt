@@ -1,27 +1,26 @@
 -- The first line of any text.
-use Rattle.std.proofs.Common.{ℕ, ◌+◌, ◌-◌, ◌≡◌, ◌≢◌, refl, sym, ap, ◌∙◌, Bool, true, false, ◌&&◌, ◌==◌, List, [], ◌∷◌, ◌++◌, length, take}
+use Rattle.std.proofs.Common.{ℕ, ◌+◌, ◌-◌, ◌≡◌, ◌≢◌, refl, sym, ap, ◌∙◌, Bool, true, false, ◌==◌, List, [], ◌∷◌, ◌++◌, length, take}
 use Rattle.std.specs.Prelude.{if◌then◌else◌, slice_index}
 use Rattle.std.specs.List.{All}
 use Rattle.std.specs.Str.Lines.{strip_carriage_return}
 use Rattle.std.proofs.lemmas.List.Elements.{All-head, All-tail, All-take}
 use Rattle.pattern_reading.specs.Lines.{lines_from, onto_first_line, with_line_feeds}
 use Rattle.pattern_reading.specs.Laws.{HasLineThenRest, HasLoneLine}
-use Rattle.pattern_reading.proofs.LineText.{not_equal, lines_moved}
+use Rattle.pattern_reading.proofs.LineText.{lines_moved}
+use Rattle.std.proofs.lemmas.Bool.{ne_eqb}
 use Rattle.pattern_reading.proofs.RustLines.{strip_onto}
+use Rattle.std.proofs.lemmas.Bool.{and_right}
+use Rattle.pattern_reading.proofs.LineText.{byte_before}
 
-abbrev HasNoFeed : List ℕ → Type 0
+abbrev pub HasNoFeed : List ℕ → Type 0
 HasNoFeed bytes = All (λ b. b ≢ 10) bytes
 
 lone_before : (b : ℕ) (rest : List ℕ) (t : Bool) → (b == 13) ≡ t → with_line_feeds (b ∷ 10 ∷ rest) ≡ strip_carriage_return (b ∷ []) ++ (10 ∷ with_line_feeds rest)
 lone_before b rest true e = rw e refl
 lone_before b rest false e = rw e refl
 
-and_false : (t u : Bool) → u ≡ false → (t && u) ≡ false
-and_false true u e = e
-and_false false u e = refl
-
 kept_byte : (b c : ℕ) (cs : List ℕ) → c ≢ 10 → with_line_feeds (b ∷ c ∷ cs) ≡ b ∷ with_line_feeds (c ∷ cs)
-kept_byte b c cs h = rw (and_false (b == 13) (c == 10) (not_equal c 10 h)) refl
+kept_byte b c cs h = rw (and_right (b == 13) (c == 10) (ne_eqb c 10 h)) refl
 
 feeds_before : (bytes rest : List ℕ) → HasNoFeed bytes → with_line_feeds (bytes ++ (10 ∷ rest)) ≡ strip_carriage_return bytes ++ (10 ∷ with_line_feeds rest)
 feeds_before [] rest h = refl
@@ -37,13 +36,10 @@ feeds_before (b ∷ c ∷ cs) rest h =
 
 feeds_alone : (bytes : List ℕ) → HasNoFeed bytes → with_line_feeds bytes ≡ bytes
 feeds_alone [] h = refl
-feeds_alone (b ∷ []) h = rw (and_false (b == 13) false refl) refl
+feeds_alone (b ∷ []) h = rw (and_right (b == 13) false refl) refl
 feeds_alone (b ∷ c ∷ cs) h =
     let tail = All-tail (λ d. d ≢ 10) b (c ∷ cs) h in
     kept_byte b c cs (All-head (λ d. d ≢ 10) c cs tail) ∙ ap (λ t. b ∷ t) (feeds_alone (c ∷ cs) tail)
-
-byte_before : (n b : ℕ) (bs : List ℕ) → b ≢ 10 → lines_from n (b ∷ bs) ≡ onto_first_line n b (lines_from n bs)
-byte_before n b bs h = rw (not_equal b 10 h) refl
 
 cut_before : (n : ℕ) (bytes rest : List ℕ) → HasNoFeed bytes → lines_from n (bytes ++ (10 ∷ rest)) ≡ record { number = n; bytes = bytes; is_ended = true } ∷ lines_from (n + 1) rest
 cut_before n [] rest h = refl

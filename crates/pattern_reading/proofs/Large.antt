@@ -10,9 +10,7 @@ use Rattle.pattern_reading.specs.Lines.{Line}
 use Rattle.pattern_reading.specs.Numbers.{◌>>=◌}
 use Rattle.pattern_reading.specs.Header.{Header, header_in, header_line, is_wireworld}
 use Rattle.pattern_reading.specs.Pattern.{HasBox, HasLargeBox, IsGridTooLarge, ReadsAsPattern, ReadsWithinLimit, most_cells}
-
-some_same : {A : Type 0} (a b : A) → Some a ≡ Some b → a ≡ b
-some_same a b e = cc
+use Rattle.std.proofs.lemmas.Option.{same_Some}
 
 -- a text has one header
 box_header : (text : List ℕ) (width height : ℕ) (box : HasBox text width height) → (header_line text >>= λ line. header_in line.bytes) ≡ Some box.header
@@ -21,7 +19,7 @@ box_header text width height box = rw (box.first) box.form
 -- whose cells are within the limit
 pub within : (text : List ℕ) (header : Header) → (header_line text >>= λ line. header_in line.bytes) ≡ Some header → header.width * header.height ≤ most_cells → IsGridTooLarge text → ⊥
 within text header e small h =
-    let same : header ≡ h.2.0.header = some_same _ _ (sym e ∙ box_header text h.0 h.1 h.2.0) in
+    let same : header ≡ h.2.0.header = same_Some _ _ (sym e ∙ box_header text h.0 h.1 h.2.0) in
     let w : header.width ≡ h.0 = ap (λ x. x.width) same ∙ h.2.0.width_is in
     let k : header.height ≡ h.1 = ap (λ x. x.height) same ∙ h.2.0.height_is in
     let large : most_cells < header.width * header.height = rw (w, k) h.2.1 in
@@ -30,7 +28,7 @@ within text header e small h =
 -- or which names no rule
 pub other_rule : (text : List ℕ) (header : Header) → (header_line text >>= λ line. header_in line.bytes) ≡ Some header → is_wireworld header.rule ≡ false → IsGridTooLarge text → ⊥
 other_rule text header e other h =
-    let same : header ≡ h.2.0.header = some_same _ _ (sym e ∙ box_header text h.0 h.1 h.2.0) in
+    let same : header ≡ h.2.0.header = same_Some _ _ (sym e ∙ box_header text h.0 h.1 h.2.0) in
     true≢false (sym h.2.0.rule ∙ ap (λ x. is_wireworld x.rule) (sym same) ∙ other)
 
 pub beyond : (text : List ℕ) (line : Line) (header : Header) → header_line text ≡ Some line → header_in line.bytes ≡ Some header → is_wireworld header.rule ≡ true → most_cells < header.width * header.height → IsGridTooLarge text
@@ -66,7 +64,7 @@ large_or_not text = by_line text _ refl
 -- the answers of a reader
 one_box : (text : List ℕ) (width height width' height' : ℕ) → HasBox text width height → HasBox text width' height' → (width ≡ width') × (height ≡ height')
 one_box text width height width' height' a b =
-    let same : a.header ≡ b.header = some_same _ _ (sym (box_header text width height a) ∙ box_header text width' height' b) in
+    let same : a.header ≡ b.header = same_Some _ _ (sym (box_header text width height a) ∙ box_header text width' height' b) in
     (sym a.width_is ∙ ap (λ x. x.width) same ∙ b.width_is, sym a.height_is ∙ ap (λ x. x.height) same ∙ b.height_is)
 
 reads_or_large : (text : List ℕ) (grid : Grid) (width height : ℕ) → ReadsWithinLimit text grid → HasLargeBox text width height → ⊥

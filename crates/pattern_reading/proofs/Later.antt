@@ -97,7 +97,7 @@ comment_line bytes = record { number = 1; bytes = 35 ∷ bytes; is_ended = true 
 abbrev pub HasCommentBefore : List ℕ → List ℕ → List ℕ → Type 0
 HasCommentBefore more bytes text = lines_of more ≡ comment_line bytes ∷ map (later_by 1) (lines_of text)
 
-drop_past : (n : ℕ) (line : Line) (lines : List Line) → drop (1 + n + 1) (line ∷ lines) ≡ drop (n + 1) lines
+pub drop_past : (n : ℕ) (line : Line) (lines : List Line) → drop (1 + n + 1) (line ∷ lines) ≡ drop (n + 1) lines
 drop_past n line lines = let shifted : 1 + n + 1 ≡ suc (n + 1) = omega arith in rw shifted refl
 
 module _ (more bytes text : List ℕ) (e : HasCommentBefore more bytes text) where

@@ -1,24 +1,17 @@
 -- A line that stands before a text.
-use Rattle.std.proofs.Common.{ℕ, ◌+◌, ◌≡◌, ◌≢◌, inl, inr, ◌⊎◌, refl, ap, ◌∙◌, Bool, true, false, ◌==◌, List, [], ◌∷◌, ◌++◌, map, arith}
+use Rattle.std.proofs.Common.{ℕ, ◌+◌, ◌≡◌, ◌≢◌, refl, ap, ◌∙◌, Bool, true, false, ◌==◌, List, [], ◌∷◌, ◌++◌, map, arith}
 use Rattle.std.specs.Prelude.{if◌then◌else◌}
-use Rattle.std.proofs.lemmas.Bool.Decides.{eqb_tells}
 use Rattle.std.proofs.lemmas.List.Elements.{All-head, All-tail}
 use Rattle.pattern_reading.specs.Lines.{Line, lines_from, onto_first_line, with_line_feeds}
 use Rattle.pattern_reading.specs.Laws.{IsLineText, HasFirstLine, later_by}
-
-pub not_equal : (a b : ℕ) → a ≢ b → (a == b) ≡ false
-not_equal a b h = by_test (eqb_tells a b)
-  where
-    by_test : (((a == b) ≡ true) × (a ≡ b)) ⊎ (((a == b) ≡ false) × (a ≢ b)) → (a == b) ≡ false
-    by_test (inl e) = absurd (h e.1)
-    by_test (inr e) = e.0
+use Rattle.std.proofs.lemmas.Bool.{ne_eqb}
 
 -- the lines of a line feed before a text, of another byte, and of a line
 feed_before : (b : ℕ) (bs : List ℕ) → b ≢ 13 → with_line_feeds (b ∷ bs) ≡ b ∷ with_line_feeds bs
-feed_before b bs h = rw (not_equal b 13 h) refl
+feed_before b bs h = rw (ne_eqb b 13 h) refl
 
-byte_before : (n b : ℕ) (bs : List ℕ) → b ≢ 10 → lines_from n (b ∷ bs) ≡ onto_first_line n b (lines_from n bs)
-byte_before n b bs h = rw (not_equal b 10 h) refl
+pub byte_before : (n b : ℕ) (bs : List ℕ) → b ≢ 10 → lines_from n (b ∷ bs) ≡ onto_first_line n b (lines_from n bs)
+byte_before n b bs h = rw (ne_eqb b 10 h) refl
 
 -- a line before a text whose lines are numbered from n
 pub line_before : (n : ℕ) (bytes rest : List ℕ) → IsLineText bytes → lines_from n (with_line_feeds (bytes ++ 10 ∷ rest)) ≡ record { number = n; bytes = bytes; is_ended = true } ∷ lines_from (n + 1) (with_line_feeds rest)

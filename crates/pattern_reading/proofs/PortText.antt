@@ -19,7 +19,7 @@ use Rattle.pattern_reading.specs.Numbers.{greatest_number, number_in, if_some_by
 use Rattle.pattern_reading.specs.PortLines.{PortForm, Version, In, Out, Net, table_line, form_of_fields, path_in, is_path_number}
 use Rattle.pattern_reading.specs.Laws.{IsLineText}
 use Rattle.pattern_reading.specs.Spelling.{IsField, IsSpellable, fields_of, spelled_line}
-use Rattle.pattern_reading.proofs.LineText.{not_equal}
+use Rattle.std.proofs.lemmas.Bool.{ne_eqb}
 
 digit_in_range : (ds : List ℕ) → AllDigits 10 ds → (k d : ℕ) → k < length ds → IsInRange 48 57 (get_or ds k d)
 digit_in_range ds h k d l = rw (get_or_default_zero ds k d l) (digit_at ds k h l)
@@ -73,7 +73,7 @@ abbrev words_in : List ℕ → List (List ℕ)
 words_in bytes = slice_split (λ b. b == 32) bytes
 
 no_space : (word : List ℕ) → IsField word → All (λ b. (b == 32) ≡ false) word
-no_space word h k d l = not_equal _ 32 (h k d l).2
+no_space word h k d l = ne_eqb _ 32 (h k d l).2
 
 split_words : (word : List ℕ) (words : List (List ℕ)) → IsField word → AllByRecursion IsField words → words_in (join_with_byte 32 (word ∷ words)) ≡ word ∷ words
 split_words word [] h hs = slice_split_none (λ b. b == 32) word (no_space word h)
@@ -136,7 +136,7 @@ some_bytes (b ∷ bs) h = refl
 
 -- are read as its form
 form_spelled : (form : PortForm) → IsSpellable form → form_of_fields (fields_of form) ≡ Some form
-form_spelled (Version p l) h = rw (number_in-decimal p h.1, number_in-decimal l h.2, not_equal p 0 h.0) refl
+form_spelled (Version p l) h = rw (number_in-decimal p h.1, number_in-decimal l h.2, ne_eqb p 0 h.0) refl
 form_spelled (In port) h = rw (number_in-decimal port.x h.0, number_in-decimal port.y h.1, some_bytes port.name h.2.0) refl
 form_spelled (Out port) h = rw (number_in-decimal port.x h.0, number_in-decimal port.y h.1, some_bytes port.name h.2.0) refl
 form_spelled (Net net) h = rw (number_in-decimal net.x h.0, number_in-decimal net.y h.1, number_in-decimal net.offset h.2, some_bytes net.name h.3.0, h.4) refl

@@ -148,11 +148,11 @@ box_verdict text width height box = rw (box.first, box.form, box.rule, box.width
 box_grid : (text : List ℕ) (width height : ℕ) → HasBox text width height → grid_of text ≡ record { width = width; height = height; rows = box_rows width height (state_at (placed_items text)) }
 box_grid text width height box = rw (box.first, box.form, box.width_is, box.height_is) refl
 
-first_fault : (text : List ℕ) (faults : List RleFaultAt) (fault : RleFaultAt) (ends : Bool) → slice_get faults 0 ≡ Some fault → items_verdict text faults ends ≡ Some fault
+pub first_fault : (text : List ℕ) (faults : List RleFaultAt) (fault : RleFaultAt) (ends : Bool) → slice_get faults 0 ≡ Some fault → items_verdict text faults ends ≡ Some fault
 first_fault text [] fault ends e = absurd (none-some _ e)
 first_fault text (first ∷ faults) fault ends e = e
 
-no_form : (bytes : List ℕ) → after_word (codes "x") bytes ≡ None → header_in bytes ≡ None
+pub no_form : (bytes : List ℕ) → after_word (codes "x") bytes ≡ None → header_in bytes ≡ None
 no_form bytes e = rw e refl
 
 -- a fault of a text is the verdict on it

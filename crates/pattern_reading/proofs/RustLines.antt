@@ -7,7 +7,7 @@ use Rattle.std.proofs.lemmas.Bool.{eqb-true, and_parts}
 use Rattle.std.proofs.lemmas.List.Splits.{length-slice_split, slice_split-cons_yes, slice_split-cons_no}
 use Rattle.pattern_reading.specs.Lines.{Line, begins_with, lines_from, onto_first_line, with_line_feeds}
 use Rattle.pattern_reading.specs.Laws.{HasLinesOfRust}
-use Rattle.pattern_reading.proofs.LineText.{not_equal}
+use Rattle.std.proofs.lemmas.Bool.{ne_eqb}
 
 abbrev parts_of : List ℕ → List (List ℕ)
 parts_of bs = slice_split (λ b. b == 10) bs
@@ -36,7 +36,7 @@ strip_onto b (c ∷ cs) h =
 
 lone_part : (b : ℕ) (part : List ℕ) → lines_of_parts ((b ∷ part) ∷ []) ≡ onto_first b (lines_of_parts (part ∷ []))
 lone_part b [] = refl
-lone_part b (c ∷ cs) = rw (not_equal (suc (length cs)) 0 (λ e. omega (arith, e)), not_equal (suc (suc (length cs))) 0 (λ e. omega (arith, e))) refl
+lone_part b (c ∷ cs) = rw (ne_eqb (suc (length cs)) 0 (λ e. omega (arith, e)), ne_eqb (suc (suc (length cs))) 0 (λ e. omega (arith, e))) refl
 
 part_onto : (b : ℕ) (parts : List (List ℕ)) → ((next : List ℕ) (more : List (List ℕ)) → parts ≡ [] ∷ next ∷ more → (b == 13) ≡ false) → 0 < length parts → lines_of_parts (onto_first b parts) ≡ onto_first b (lines_of_parts parts)
 part_onto b [] h some = absurd (omega (arith, some))

@@ -53,7 +53,7 @@ spellable_lines ports h k = (
 )
 
 -- none is at fault
-abbrev forms_in : List (Option PortForm) → List PortForm
+abbrev pub forms_in : List (Option PortForm) → List PortForm
 forms_in before = filter_map (λ line. line) before
 
 -- what is apart from all later ones is apart from one after it

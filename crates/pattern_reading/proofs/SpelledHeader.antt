@@ -13,7 +13,7 @@ use Rattle.pattern_reading.specs.Header.{Header, header_in, rule_in}
 use Rattle.pattern_reading.specs.Items.{counted_item, item_in}
 use Rattle.pattern_reading.specs.Laws.{IsLineText}
 use Rattle.pattern_reading.specs.SpelledPattern.{HasSpelledHeader, HasSpelledCount, spelled_header}
-use Rattle.pattern_reading.proofs.LineText.{not_equal}
+use Rattle.std.proofs.lemmas.Bool.{ne_eqb}
 use Rattle.pattern_reading.proofs.PortText.{digits_pass, number_in-decimal, decimal_field, letters_line, line_part}
 
 decimal_digits : (n : ℕ) → n < 2 ^ 64 → list_all is_ascii_digit (decimal n) ≡ true
@@ -42,7 +42,7 @@ drop_before (x ∷ xs) ys = drop_before xs ys
 no_blank : (d : ℕ) → is_ascii_digit d ≡ true → is_blank d ≡ false
 no_blank d e =
     let low : 48 ≤ d = leb-true _ _ (and_parts _ _ e).0 in
-    rw (not_equal d 9 (λ h. omega (arith, low, h)), not_equal d 32 (λ h. omega (arith, low, h))) refl
+    rw (ne_eqb d 9 (λ h. omega (arith, low, h)), ne_eqb d 32 (λ h. omega (arith, low, h))) refl
 
 blank_before : (ds rest : List ℕ) → 0 < length ds → list_all is_ascii_digit ds ≡ true → without_leading_blanks (32 ∷ (ds ++ rest)) ≡ ds ++ rest
 blank_before [] rest some h = absurd (omega (arith, some))

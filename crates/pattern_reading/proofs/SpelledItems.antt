@@ -13,7 +13,8 @@ use Rattle.pattern_reading.specs.Items.{Item, LineItem, TaggedDigits, item_in, i
 use Rattle.pattern_reading.specs.Laws.{IsLineText, later_by}
 use Rattle.pattern_reading.specs.SpelledPattern.{SpelledItem, IsSpelledItem, item_text, line_text, lines_text, items_of_text}
 use Rattle.pattern_reading.proofs.Later.{items_of_later_lines, next}
-use Rattle.pattern_reading.proofs.LineText.{first_line, not_equal}
+use Rattle.pattern_reading.proofs.LineText.{first_line}
+use Rattle.std.proofs.lemmas.Bool.{ne_eqb}
 
 abbrev piece_of : SpelledItem → TaggedDigits
 piece_of item = record { digits = item.digits; tag = Some item.tag }
@@ -49,17 +50,17 @@ items_part (item ∷ items) h = All-append (λ b. (b ≢ 10) × (b ≢ 13)) (ite
 
 -- no line of items is a comment
 first_byte : (digits : List ℕ) (tag : ℕ) (rest : List ℕ) → list_all is_ascii_digit digits ≡ true → tag ≢ 35 → begins_with 35 (digits ++ (tag ∷ rest)) ≡ false
-first_byte [] tag rest h k = not_equal tag 35 k
-first_byte (d ∷ ds) tag rest h k = let low : 48 ≤ d = leb-true _ _ (and_parts _ _ (and_parts _ _ h).0).0 in not_equal d 35 (λ e. omega (arith, low, e))
+first_byte [] tag rest h k = ne_eqb tag 35 k
+first_byte (d ∷ ds) tag rest h k = let low : 48 ≤ d = leb-true _ _ (and_parts _ _ (and_parts _ _ h).0).0 in ne_eqb d 35 (λ e. omega (arith, low, e))
 
 no_comment : (items : List SpelledItem) → AllByRecursion IsSpelledItem items → begins_with 35 (line_text items) ≡ false
 no_comment [] h = refl
 no_comment (item ∷ items) h = rw (append_assoc item.digits (item.tag ∷ []) (line_text items)) (first_byte item.digits item.tag (line_text items) h.0.digits h.0.no_comment)
 
-abbrev meaning : SpelledItem → Item
+abbrev pub meaning : SpelledItem → Item
 meaning item = item_in true item.digits (Some item.tag)
 
-abbrev bare : List LineItem → List Item
+abbrev pub bare : List LineItem → List Item
 bare is = map (λ i. i.item) is
 
 -- the items of a line

@@ -18,6 +18,7 @@ use Rattle.pattern_reading.specs.SpelledPattern.{HasSpelledPattern, SpelledItem,
 use Rattle.pattern_reading.proofs.Later.{any_mapped, fault_later, filter_map_later, filter_map_mapped, later_fault, later_item, later_placed, placed_later, take_while_mapped}
 use Rattle.pattern_reading.proofs.LineText.{first_line}
 use Rattle.pattern_reading.proofs.SpelledItems.{items_before, bare_later}
+use Rattle.pattern_reading.proofs.SpelledItems.{bare}
 
 -- a header is not skipped
 blanks_alone : (bytes : List ℕ) → list_all is_blank bytes ≡ true → without_leading_blanks bytes ≡ []
@@ -42,14 +43,11 @@ blank_line bytes header e true h = absurd (none-some header (sym (blank_is_none 
 pub not_skipped : (n : ℕ) (bytes : List ℕ) (header : Header) → header_in bytes ≡ Some header → is_skipped (record { number = n; bytes = bytes; is_ended = true }) ≡ false
 not_skipped n bytes header e = or_from _ _ (comment_first bytes header e _ refl) (blank_line bytes header e _ refl)
 
-abbrev bare : List LineItem → List Item
-bare is = map (λ i. i.item) is
-
 -- on one line
 abbrev none : ℕ → ℕ
 none n = 0
 
-abbrev on_one_line : List Item → List LineItem
+abbrev pub on_one_line : List Item → List LineItem
 on_one_line items = map (λ item. record { line = 0; item = item }) items
 
 erased : (is : List LineItem) → map (later_item none) is ≡ on_one_line (bare is)

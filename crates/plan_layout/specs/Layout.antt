@@ -6,7 +6,7 @@
 -- to enter the body again. The turns lie round each other about the line between the body's lanes and those below.
 -- Of N lanes and k loops, loop s leaves the body on lane N - 1 - s; the turn brings it to lane N + s, the way back to
 -- lane N + k - 1 - s, and the second turn to lane N - k + s.
-use Rattle.std.specs.Prelude.{ℕ, ◌+◌, ◌-◌, ◌*◌, ◌%◌, ◌==◌, nat_lt, ◌&&◌, if◌then◌else◌, List, length, slice_index_or, map, Option, Some, None, []}
+use Rattle.std.specs.Prelude.{ℕ, ◌+◌, ◌-◌, ◌%◌, ◌==◌, nat_lt, ◌&&◌, if◌then◌else◌, List, length, slice_index_or, map, Option, Some, None, []}
 use Rattle.std.specs.List.{list_any}
 use Rattle.tile_core.specs.declared.kind.Kind.{Kind}
 use Rattle.tile_core.specs.declared.kind.Kind.TheVariants as kind
@@ -108,10 +108,3 @@ tiling_of plan column lane =
     if nat_lt lane plan.lanes then upper_part plan column lane
     else if nat_lt lane (plan.lanes + plan.latches) then lower_part plan column lane
     else Nothing
-
--- width and height of the drawing in cells: a tile is 32 cells wide and a lane 16 high, and the cells of the outputs
--- stand one column further out; a plan without lanes has no cells
-abbrev pub size_of : Plan → ℕ × ℕ
-size_of plan =
-    if plan.lanes == 0 then (0, 0)
-    else (32 * (length plan.columns + 2 * plan.latches) + 1, 16 * (plan.lanes + plan.latches))

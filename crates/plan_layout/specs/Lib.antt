@@ -1,4 +1,5 @@
 pub mod Layout
 pub mod Slots
 pub mod Starts
+pub mod Planes
 pub mod Laws

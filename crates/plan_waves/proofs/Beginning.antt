@@ -14,8 +14,9 @@ use Rattle.lane_core.specs.declared.plan.Plan.{Plan}
 use Rattle.lane_core.specs.Instrs.{bit_on, after_instrs, IsOnLanes, are_sorted_apart, instr_on}
 use Rattle.lane_core.specs.Plans.{IsAdmissible, left_of, row_of}
 use Rattle.plan_layout.specs.Layout.{instrs_of, tiling_of}
-use Rattle.plan_layout.specs.Starts.{first_loop_lane, start_edges}
+use Rattle.plan_layout.specs.Starts.{start_edges}
 use Rattle.lane_core.proofs.Dark.{dark}
+use Rattle.lane_core.specs.Entering.{first_loop_lane}
 use Rattle.plan_layout.proofs.Halves.{instrs_sorted, instrs_on_lanes}
 use Rattle.plan_waves.specs.Waves.{is_free_entry, GoesOn, is_body_entry, IsLitAtEntries, is_inside, IsDarkInside, bits_at, loop_exit, loop_entry, tiles_back, DrivesInputs, StartsRight}
 use Rattle.plan_waves.proofs.LaneBits.{answer_on, answers_agree, length-after_instrs, bit_after}
@@ -96,16 +97,16 @@ starts_are_entries : (plan : Plan) → IsAdmissible plan → (edge : Edge) → i
 starts_are_entries plan h (Above q l) outside = refl
 starts_are_entries plan h (Beside q l) outside =
     ⊎_elim
-    (λ low. (let other : (q == plan.latches && nat_le (first_loop_lane plan) l) ≡ false = grind (arith, nat_tests) in
-    ap (λ b. b && get_or plan.starts (l - first_loop_lane plan) false) other))
-    (λ high. and_right (q == plan.latches && nat_le (first_loop_lane plan) l) _
-    (get_or_past plan.starts (l - first_loop_lane plan) false (omega (arith, h.size.starts, h.size.loops_on_lanes))))
+    (λ low. (let other : (q == plan.latches && nat_le (first_loop_lane plan.lanes plan.latches) l) ≡ false = grind (arith, nat_tests) in
+    ap (λ b. b && get_or plan.starts (l - first_loop_lane plan.lanes plan.latches) false) other))
+    (λ high. and_right (q == plan.latches && nat_le (first_loop_lane plan.lanes plan.latches) l) _
+    (get_or_past plan.starts (l - first_loop_lane plan.lanes plan.latches) false (omega (arith, h.size.starts, h.size.loops_on_lanes))))
     (cases_lt l plan.lanes)
 
-pub start_free : (plan : Plan) (lane : ℕ) → lane < first_loop_lane plan → start_edges plan (Beside plan.latches lane) ≡ false
+pub start_free : (plan : Plan) (lane : ℕ) → lane < first_loop_lane plan.lanes plan.latches → start_edges plan (Beside plan.latches lane) ≡ false
 start_free plan lane low =
-    let none : (plan.latches == plan.latches && nat_le (first_loop_lane plan) lane) ≡ false = grind (arith, nat_tests) in
-    ap (λ b. b && get_or plan.starts (lane - first_loop_lane plan) false) none
+    let none : (plan.latches == plan.latches && nat_le (first_loop_lane plan.lanes plan.latches) lane) ≡ false = grind (arith, nat_tests) in
+    ap (λ b. b && get_or plan.starts (lane - first_loop_lane plan.lanes plan.latches) false) none
 
 free_is_entry : (plan : Plan) (edge : Edge) → is_body_entry plan edge ≡ false → is_free_entry plan edge ≡ false
 free_is_entry plan (Above q l) outside = refl
@@ -123,10 +124,10 @@ plans_start plan h due d = record {
   inputs = λ lane low. (let column : 32 * plan.latches ≡ left_of plan 0 = omega arith in
       ap (λ b. b || due 0 (pos (32 * plan.latches)) (pos (row_of lane))) (start_free plan lane low)
       ∙ ap (λ x. due 0 (pos x) (pos (row_of lane))) column);
-  loops = λ loop inside. (let lane = first_loop_lane plan + loop in
-      let some : (plan.latches == plan.latches && nat_le (first_loop_lane plan) lane) ≡ true = grind (arith, nat_tests) in
-      let place : lane - first_loop_lane plan ≡ loop = omega arith in
+  loops = λ loop inside. (let lane = first_loop_lane plan.lanes plan.latches + loop in
+      let some : (plan.latches == plan.latches && nat_le (first_loop_lane plan.lanes plan.latches) lane) ≡ true = grind (arith, nat_tests) in
+      let place : lane - first_loop_lane plan.lanes plan.latches ≡ loop = omega arith in
       or_none _ _ (not_injected plan due d 0 (loop_entry plan loop) (loop_lane plan plan.latches lane (omega arith)))
-      ∙ ap (λ b. b && get_or plan.starts (lane - first_loop_lane plan) false) some
+      ∙ ap (λ b. b && get_or plan.starts (lane - first_loop_lane plan.lanes plan.latches) false) some
       ∙ ap (λ n. get_or plan.starts n false) place);
 }

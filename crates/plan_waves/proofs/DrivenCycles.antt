@@ -16,10 +16,11 @@ use Rattle.lane_core.specs.Instrs.{bit_on}
 use Rattle.lane_core.specs.Columns.{after_columns, IsColumnOnLanes}
 use Rattle.lane_core.specs.Plans.{IsAdmissible, left_of, row_of, period_of}
 use Rattle.plan_layout.specs.Layout.{tiling_of}
-use Rattle.plan_layout.specs.Starts.{first_loop_lane, start_edges}
+use Rattle.plan_layout.specs.Starts.{start_edges}
 use Rattle.lane_core.proofs.Dark.{dark}
+use Rattle.lane_core.specs.Entering.{first_loop_lane, entering_bits}
 use Rattle.plan_waves.specs.Waves.{GoesOn, bits_at, loop_entry, tiles_back, DrivesInputs, StartsRight}
-use Rattle.plan_waves.specs.Cycles.{cycle_steps, free_bits, loop_bits, entering_bits, DrivesCycles, injected_bits, RunsByCycles}
+use Rattle.plan_waves.specs.Cycles.{cycle_steps, free_bits, loop_bits, DrivesCycles, injected_bits, RunsByCycles}
 use Rattle.plan_waves.proofs.Inputs.{driven_edges_go_on, inputs_enter}
 use Rattle.plan_waves.proofs.Columns.{length-bits_at, columns_pass}
 use Rattle.plan_waves.proofs.Loops.{loops_come_round}
@@ -57,10 +58,10 @@ inputs_of plan due d = record {
 
 -- the bits that enter the body depend on those of the inputs and of the start alone
 pub same_entering : (plan : Plan) (inputs inputs' : ℕ → List Bool) (starts starts' : List Bool) → ((t : ℕ) → inputs t ≡ inputs' t) → starts ≡ starts'
-    → (t : ℕ) → entering_bits plan inputs starts t ≡ entering_bits plan inputs' starts' t
+    → (t : ℕ) → entering_bits (first_loop_lane plan.lanes plan.latches) plan.columns inputs starts t ≡ entering_bits (first_loop_lane plan.lanes plan.latches) plan.columns inputs' starts' t
 same_entering plan inputs inputs' starts starts' each first zero = ap₂ (λ xs ys. xs ++ ys) (each 0) first
 same_entering plan inputs inputs' starts starts' each first (suc t) =
-    ap₂ (λ xs bits. xs ++ reverse (drop (first_loop_lane plan) (after_columns plan.columns bits))) (each (suc t)) (same_entering plan inputs inputs' starts starts' each first t)
+    ap₂ (λ xs bits. xs ++ reverse (drop (first_loop_lane plan.lanes plan.latches) (after_columns plan.columns bits))) (each (suc t)) (same_entering plan inputs inputs' starts starts' each first t)
 
 pub plans_run_by_cycles : (plan : Plan) → IsAdmissible plan → (due : Due) → DrivesCycles plan due → RunsByCycles plan due (driven_edges (tiling_of plan) due (start_edges plan))
 plans_run_by_cycles plan h due d = record { lit = lit; dark = others }
@@ -78,7 +79,7 @@ plans_run_by_cycles plan h due d = record { lit = lit; dark = others }
     start = plans_start plan h due (inputs_of plan due d)
 
     -- a free entry is lit by injections, at each macro time
-    driven_at : (m lane : ℕ) → lane < first_loop_lane plan → edges m (Beside plan.latches lane) ≡ due (32 * m) (pos (left_of plan 0)) (pos (row_of lane))
+    driven_at : (m lane : ℕ) → lane < first_loop_lane plan.lanes plan.latches → edges m (Beside plan.latches lane) ≡ due (32 * m) (pos (left_of plan 0)) (pos (row_of lane))
     driven_at zero lane low = start.inputs lane low
     driven_at (suc m) lane low = inputs_enter plan h due (start_edges plan) m lane low
 
@@ -86,9 +87,9 @@ plans_run_by_cycles plan h due d = record { lit = lit; dark = others }
     injected t =
         let time : 32 * (0 + t * cycle_steps plan) ≡ t * period_of plan = omega (arith, cycle_time plan t) in
         fill_by_all (λ lane. due (t * period_of plan) (pos (left_of plan 0)) (pos (row_of lane)))
-        (free_bits plan (edges (0 + t * cycle_steps plan))) (first_loop_lane plan) false
-        (length-map-range_with_len (λ lane. edges (0 + t * cycle_steps plan) (Beside plan.latches lane)) 0 (first_loop_lane plan))
-        (λ k low. get_or-map-range_with_len (λ lane. edges (0 + t * cycle_steps plan) (Beside plan.latches lane)) 0 (first_loop_lane plan) k k false low (omega arith)
+        (free_bits plan (edges (0 + t * cycle_steps plan))) (first_loop_lane plan.lanes plan.latches) false
+        (length-map-range_with_len (λ lane. edges (0 + t * cycle_steps plan) (Beside plan.latches lane)) 0 (first_loop_lane plan.lanes plan.latches))
+        (λ k low. get_or-map-range_with_len (λ lane. edges (0 + t * cycle_steps plan) (Beside plan.latches lane)) 0 (first_loop_lane plan.lanes plan.latches) k k false low (omega arith)
         ∙ driven_at (0 + t * cycle_steps plan) k low
         ∙ ap (λ g. due g (pos (left_of plan 0)) (pos (row_of k))) time)
 
@@ -96,7 +97,7 @@ plans_run_by_cycles plan h due d = record { lit = lit; dark = others }
     starts = sym (fill_by_all (λ loop. edges 0 (loop_entry plan loop)) plan.starts plan.latches false h.size.starts (λ k inside. sym (start.loops k inside)))
 
     lit : (t c : ℕ) → c ≤ length plan.columns
-        → bits_at plan c (edges (t * cycle_steps plan + c)) ≡ after_columns (take c plan.columns) (entering_bits plan (injected_bits plan due) plan.starts t)
+        → bits_at plan c (edges (t * cycle_steps plan + c)) ≡ after_columns (take c plan.columns) (entering_bits (first_loop_lane plan.lanes plan.latches) plan.columns (injected_bits plan due) plan.starts t)
     lit t c within =
         let now : t * cycle_steps plan + c ≡ 0 + t * cycle_steps plan + c = omega arith in
         ap (λ m. bits_at plan c (edges m)) now
@@ -133,11 +134,11 @@ plans_run_by_cycles plan h due d = record { lit = lit; dark = others }
         both_bits plan (edges m) l low
         ∙ ⊎_elim
         (λ free. driven_at m l free ∙ not_due m l none)
-        (λ loops. (let loop = l - first_loop_lane plan in
-        let lane : l ≡ first_loop_lane plan + loop = omega arith in
+        (λ loops. (let loop = l - first_loop_lane plan.lanes plan.latches in
+        let lane : l ≡ first_loop_lane plan.lanes plan.latches + loop = omega arith in
         ap (λ n. edges m (Beside plan.latches n)) lane
         ∙ no_loop m loop (omega arith) none (λ before earlier. nothing_enters fuel before (omega arith))))
-        (cases_lt l (first_loop_lane plan))
+        (cases_lt l (first_loop_lane plan.lanes plan.latches))
         ∙ sym (dark plan.lanes l)))
 
     others : (m c : ℕ) → c ≤ length plan.columns → ((t : ℕ) → m ≢ t * cycle_steps plan + c) → bits_at plan c (edges m) ≡ replicate plan.lanes false

@@ -22,10 +22,11 @@ use Rattle.lane_core.specs.declared.plan.Plan.{Plan}
 use Rattle.lane_core.specs.Plans.{IsAdmissible, left_of, row_of}
 use Rattle.plan_layout.specs.Layout.{turn_slot, end_of_body, upper_left, in_body, upper_right, tiling_of}
 use Rattle.lane_core.proofs.Dark.{dark}
+use Rattle.plan_layout.specs.Planes.{plane_with}
 use Rattle.plan_layout.proofs.Matched.{tiling_is_matched, tiling_of-upper}
 use Rattle.plan_layout.proofs.Sides.{in_body_has}
 use Rattle.plan_waves.specs.Waves.{GoesOn, DrivesInputs}
-use Rattle.plan_waves.specs.ShownEdges.{plane_of_edges, ShowsEachStep, ShowsDrivenEdges}
+use Rattle.plan_waves.specs.ShownEdges.{ShowsEachStep, ShowsDrivenEdges}
 use Rattle.plan_waves.proofs.Passing.{step_east}
 use Rattle.plan_waves.proofs.Parts.{body_at, by_column-right}
 use Rattle.plan_waves.proofs.Inputs.{body_entry, inputs_are_entries, driven_edges_go_on}
@@ -75,13 +76,13 @@ plans_show_edges library law plan h due d lit = record {
     runs = driven_by_macro library law (tiling_of plan) m_is due (inputs_are_entries plan h due d) lit
 
     plane : ℕ → Plane
-    plane = driven due (plane_of_edges library plan lit)
+    plane = driven due (plane_with library plan lit)
 
     first_conductors : (lane : ℕ) → due 0 (pos (left_of plan 0)) (pos (row_of lane)) ≡ true → lit (Beside plan.latches lane) ≡ false
-        → plane_of_edges library plan lit (pos (left_of plan 0)) (pos (row_of lane)) ≡ Conductor
+        → plane_with library plan lit (pos (left_of plan 0)) (pos (row_of lane)) ≡ Conductor
     first_conductors lane e dark =
         let column : left_of plan 0 ≡ 32 * plan.latches = omega arith in
-        ap (λ x. plane_of_edges library plan lit (pos x) (pos (row_of lane))) column
+        ap (λ x. plane_with library plan lit (pos x) (pos (row_of lane))) column
         ∙ runs.first_conductors plan.latches lane (ap (λ x. due 0 (pos x) (pos (row_of lane))) (sym column) ∙ e) dark
 
     -- a generation of the driven plane, by the macro time before it

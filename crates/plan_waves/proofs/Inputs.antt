@@ -15,15 +15,15 @@ use Rattle.lane_core.specs.declared.instr.Instr.{Instr}
 use Rattle.lane_core.specs.declared.instr.Instr.TheVariants as instr
 use Rattle.lane_core.specs.declared.plan.Plan.{Plan}
 use Rattle.lane_core.specs.Plans.{IsAdmissible, left_of, row_of}
+use Rattle.lane_core.specs.Entering.{first_loop_lane}
 use Rattle.plan_layout.specs.Layout.{kind_of, in_body, tiling_of}
-use Rattle.plan_layout.specs.Starts.{first_loop_lane}
 use Rattle.plan_layout.proofs.Sides.{in_body_has}
 use Rattle.tiling.proofs.AtEdges.{beside_first, beside_next}
 use Rattle.plan_waves.specs.Waves.{is_free_entry, GoesOn, DrivesInputs}
 use Rattle.plan_waves.proofs.Passing.{answers_none}
 use Rattle.plan_waves.proofs.Parts.{some_columns, body_at, nothing_left}
 
-pub free_place : (plan : Plan) (q l : ℕ) → is_free_entry plan (Beside q l) ≡ true → (q ≡ plan.latches) × (l < first_loop_lane plan)
+pub free_place : (plan : Plan) (q l : ℕ) → is_free_entry plan (Beside q l) ≡ true → (q ≡ plan.latches) × (l < first_loop_lane plan.lanes plan.latches)
 free_place plan q l h =
     let parts = and_parts _ _ h in (eqb-true _ _ parts.0, ltb-true _ _ parts.1)
 
@@ -43,7 +43,7 @@ pub body_entry : (plan : Plan) (q l : ℕ) → IsEntry (in_body plan q l)
 body_entry plan q l = in_body_has IsEntry plan q l (record { entered = refl; left = refl }) entry_kind
 
 -- the block behind a free entry stands in the body
-entry_at : (plan : Plan) → IsAdmissible plan → (l : ℕ) → l < first_loop_lane plan → tiling_of plan plan.latches l ≡ in_body plan plan.latches l
+entry_at : (plan : Plan) → IsAdmissible plan → (l : ℕ) → l < first_loop_lane plan.lanes plan.latches → tiling_of plan plan.latches l ≡ in_body plan plan.latches l
 entry_at plan h l low =
     let some : 0 < length plan.columns = some_columns plan h (omega arith) in
     body_at plan plan.latches l (omega arith) (omega arith) (omega arith)
@@ -55,11 +55,11 @@ free_entries_go_dark plan h lit (Beside q l) f =
     let place = free_place plan q l f in
     ap (λ n. macro_step (tiling_of plan) lit (Beside n l)) place.0 ∙ dark l place.1
   where
-    behind : (l : ℕ) → l < first_loop_lane plan → slot_answers lit plan.latches l (tiling_of plan plan.latches l) 0 8 ≡ false
+    behind : (l : ℕ) → l < first_loop_lane plan.lanes plan.latches → slot_answers lit plan.latches l (tiling_of plan plan.latches l) 0 8 ≡ false
     behind l low =
         answers_none lit plan.latches l (tiling_of plan plan.latches l) 0 8 (ap (λ s. is_left s 0 8) (entry_at plan h l low) ∙ (body_entry plan plan.latches l).left)
 
-    dark : (l : ℕ) → l < first_loop_lane plan → macro_step (tiling_of plan) lit (Beside plan.latches l) ≡ false
+    dark : (l : ℕ) → l < first_loop_lane plan.lanes plan.latches → macro_step (tiling_of plan) lit (Beside plan.latches l) ≡ false
     dark l low =
         ⊎_elim
         (λ none. beside_first (tiling_of plan) lit plan.latches l (omega arith) ∙ behind l low)
@@ -86,7 +86,7 @@ not_injected plan due d g (Beside q l) h =
     false_from_ne_true _ (λ e. (let f = d.at_free_entries g _ _ e in
     let column : q ≡ plan.latches = omega (arith, ints, f.2) in
     let lane : l ≡ f.0 = omega (arith, ints, f.3) in
-    let low : l < first_loop_lane plan = omega (arith, f.1) in
+    let low : l < first_loop_lane plan.lanes plan.latches = omega (arith, f.1) in
     let free : is_free_entry plan (Beside q l) ≡ true = grind (arith, nat_tests) in
     true≢false (sym free ∙ h)))
 
@@ -99,7 +99,7 @@ pub driven_edges_go_on : (plan : Plan) (due : Due) → DrivesInputs plan due →
 driven_edges_go_on plan due d lit = record { next = λ m edge h. or_none _ _ (not_injected plan due d (32 * suc m) edge h) }
 
 -- a free entry is lit exactly by injections
-pub inputs_enter : (plan : Plan) → IsAdmissible plan → (due : Due) (lit : Lit) (m lane : ℕ) → lane < first_loop_lane plan
+pub inputs_enter : (plan : Plan) → IsAdmissible plan → (due : Due) (lit : Lit) (m lane : ℕ) → lane < first_loop_lane plan.lanes plan.latches
     → driven_edges (tiling_of plan) due lit (suc m) (Beside plan.latches lane) ≡ due (32 * suc m) (pos (left_of plan 0)) (pos (row_of lane))
 inputs_enter plan h due lit m lane low =
     let free : is_free_entry plan (Beside plan.latches lane) ≡ true = grind (arith, nat_tests) in

@@ -10,8 +10,8 @@ use Rattle.lane_core.specs.declared.plan.Plan.{Plan}
 use Rattle.lane_core.specs.Plans.{IsAdmissible}
 use Rattle.lane_core.specs.Instrs.{bit_on}
 use Rattle.lane_core.specs.Columns.{after_columns}
+use Rattle.lane_core.specs.Entering.{first_loop_lane}
 use Rattle.plan_layout.specs.Layout.{tiling_of}
-use Rattle.plan_layout.specs.Starts.{first_loop_lane}
 use Rattle.plan_waves.specs.Waves.{GoesOn, is_inside, bits_at, loop_exit, loop_entry, tiles_back}
 use Rattle.plan_waves.specs.WaysBack.{tiles_before, before_entry, HasWayBack}
 use Rattle.plan_waves.proofs.Passing.{beside_same}
@@ -27,7 +27,7 @@ loop_path plan h edges g loop inside =
     let fits = h.size.loops_on_lanes in
     let rest = plan.latches - 1 - loop in
     renamed plan edges (4 * loop + 2 + (length plan.columns + (4 * rest + 2))) (tiles_back plan) _ _ _ _ (omega arith) refl
-    (beside_same plan.latches plan.latches (plan.lanes - 1 - rest) (first_loop_lane plan + loop) refl (omega arith))
+    (beside_same plan.latches plan.latches (plan.lanes - 1 - rest) (first_loop_lane plan.lanes plan.latches + loop) refl (omega arith))
     (joined plan edges _ _ _ _ _ (right_turn plan h edges g loop inside)
     (joined plan edges _ _ _ _ _ (way_back plan h edges g loop inside) (left_turn plan h edges g rest (omega arith))))
 

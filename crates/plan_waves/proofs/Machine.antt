@@ -13,9 +13,9 @@ use Rattle.lane_core.specs.declared.plan.Plan.{Plan}
 use Rattle.lane_core.specs.Instrs.{bit_on}
 use Rattle.lane_core.specs.Columns.{after_column, after_columns}
 use Rattle.lane_core.specs.Plans.{IsAdmissible}
-use Rattle.plan_layout.specs.Starts.{first_loop_lane}
+use Rattle.lane_core.specs.Entering.{first_loop_lane, entering_bits}
 use Rattle.plan_waves.specs.Waves.{GoesOn, bits_at, loop_entry, tiles_back}
-use Rattle.plan_waves.specs.Cycles.{cycle_steps, free_bits, loop_bits, entering_bits}
+use Rattle.plan_waves.specs.Cycles.{cycle_steps, free_bits, loop_bits}
 use Rattle.plan_waves.proofs.LaneBits.{length-after_instrs}
 use Rattle.plan_waves.proofs.Columns.{length-bits_at, bit_on-bits_at, columns_pass}
 use Rattle.plan_waves.proofs.Loops.{loops_come_round}
@@ -50,19 +50,19 @@ both_bits plan lit l low =
     let column : plan.latches + 0 ≡ plan.latches = omega arith in
     bit_on-bits_at plan 0 lit l low ∙ ap (λ q. lit (Beside q l)) column
 
-length-entering : (plan : Plan) → IsAdmissible plan → (inputs : ℕ → List Bool) (starts : List Bool) → ((t : ℕ) → length (inputs t) ≡ first_loop_lane plan) → length starts ≡ plan.latches
-    → (t : ℕ) → length (entering_bits plan inputs starts t) ≡ plan.lanes
+length-entering : (plan : Plan) → IsAdmissible plan → (inputs : ℕ → List Bool) (starts : List Bool) → ((t : ℕ) → length (inputs t) ≡ first_loop_lane plan.lanes plan.latches) → length starts ≡ plan.latches
+    → (t : ℕ) → length (entering_bits (first_loop_lane plan.lanes plan.latches) plan.columns inputs starts t) ≡ plan.lanes
 length-entering plan h inputs starts wide long zero =
     omega (arith, length-append (inputs zero) starts, wide zero, long, h.size.loops_on_lanes)
 length-entering plan h inputs starts wide long (suc t) =
-    let out = after_columns plan.columns (entering_bits plan inputs starts t) in
-    let back = drop (first_loop_lane plan) out in
-    omega (arith, length-append (inputs (suc t)) (reverse back), wide (suc t), length-reverse back, length-drop (first_loop_lane plan) out, length-after_columns plan.columns (entering_bits plan inputs starts t), length-entering plan h inputs starts wide long t, h.size.loops_on_lanes)
+    let out = after_columns plan.columns (entering_bits (first_loop_lane plan.lanes plan.latches) plan.columns inputs starts t) in
+    let back = drop (first_loop_lane plan.lanes plan.latches) out in
+    omega (arith, length-append (inputs (suc t)) (reverse back), wide (suc t), length-reverse back, length-drop (first_loop_lane plan.lanes plan.latches) out, length-after_columns plan.columns (entering_bits (first_loop_lane plan.lanes plan.latches) plan.columns inputs starts t), length-entering plan h inputs starts wide long t, h.size.loops_on_lanes)
 
 -- the bits that enter the body at the beginning of a cycle
 entering : (plan : Plan) → IsAdmissible plan → (edges : ℕ → Lit) → GoesOn plan edges → (first t : ℕ)
     → bits_at plan 0 (edges (first + t * cycle_steps plan))
-    ≡ entering_bits plan (λ i. free_bits plan (edges (first + i * cycle_steps plan))) (loop_bits plan (edges first)) t
+    ≡ entering_bits (first_loop_lane plan.lanes plan.latches) plan.columns (λ i. free_bits plan (edges (first + i * cycle_steps plan))) (loop_bits plan (edges first)) t
 entering plan h edges g first = go
   where
     fits : plan.latches ≤ plan.lanes
@@ -74,61 +74,61 @@ entering plan h edges g first = go
     starts : List Bool
     starts = loop_bits plan (edges first)
 
-    wide : (t : ℕ) → length (inputs t) ≡ first_loop_lane plan
-    wide t = length-map-range_with_len (λ lane. edges (first + t * cycle_steps plan) (Beside plan.latches lane)) 0 (first_loop_lane plan)
+    wide : (t : ℕ) → length (inputs t) ≡ first_loop_lane plan.lanes plan.latches
+    wide t = length-map-range_with_len (λ lane. edges (first + t * cycle_steps plan) (Beside plan.latches lane)) 0 (first_loop_lane plan.lanes plan.latches)
 
     long : length starts ≡ plan.latches
     long = length-map-range_with_len (λ loop. edges first (loop_entry plan loop)) 0 plan.latches
 
-    same_lengths : (t : ℕ) → length (bits_at plan 0 (edges (first + t * cycle_steps plan))) ≡ length (entering_bits plan inputs starts t)
+    same_lengths : (t : ℕ) → length (bits_at plan 0 (edges (first + t * cycle_steps plan))) ≡ length (entering_bits (first_loop_lane plan.lanes plan.latches) plan.columns inputs starts t)
     same_lengths t = length-bits_at plan 0 (edges (first + t * cycle_steps plan)) ∙ sym (length-entering plan h inputs starts wide long t)
 
     -- on a free lane
-    free : (t l : ℕ) (rest : List Bool) → l < first_loop_lane plan → bit_on (bits_at plan 0 (edges (first + t * cycle_steps plan))) l ≡ get_or (inputs t ++ rest) l false
+    free : (t l : ℕ) (rest : List Bool) → l < first_loop_lane plan.lanes plan.latches → bit_on (bits_at plan 0 (edges (first + t * cycle_steps plan))) l ≡ get_or (inputs t ++ rest) l false
     free t l rest low =
         both_bits plan (edges (first + t * cycle_steps plan)) l (omega arith)
-        ∙ sym (get_or-map-range_with_len (λ lane. edges (first + t * cycle_steps plan) (Beside plan.latches lane)) 0 (first_loop_lane plan) l l false low (omega arith))
-        ∙ sym (front_of (inputs t) rest (first_loop_lane plan) l (wide t) low)
+        ∙ sym (get_or-map-range_with_len (λ lane. edges (first + t * cycle_steps plan) (Beside plan.latches lane)) 0 (first_loop_lane plan.lanes plan.latches) l l false low (omega arith))
+        ∙ sym (front_of (inputs t) rest (first_loop_lane plan.lanes plan.latches) l (wide t) low)
 
     -- on a loop's lane, at first
-    start : (l : ℕ) → first_loop_lane plan ≤ l → l < plan.lanes → bit_on (bits_at plan 0 (edges (first + 0 * cycle_steps plan))) l ≡ get_or (inputs 0 ++ starts) l false
+    start : (l : ℕ) → first_loop_lane plan.lanes plan.latches ≤ l → l < plan.lanes → bit_on (bits_at plan 0 (edges (first + 0 * cycle_steps plan))) l ≡ get_or (inputs 0 ++ starts) l false
     start l high low =
-        let loop = l - first_loop_lane plan in
+        let loop = l - first_loop_lane plan.lanes plan.latches in
         let now : first + 0 * cycle_steps plan ≡ first = omega arith in
-        let lane : l ≡ first_loop_lane plan + loop = omega arith in
+        let lane : l ≡ first_loop_lane plan.lanes plan.latches + loop = omega arith in
         both_bits plan (edges (first + 0 * cycle_steps plan)) l low
         ∙ ap₂ (λ m n. edges m (Beside plan.latches n)) now lane
         ∙ sym (get_or-map-range_with_len (λ s. edges first (loop_entry plan s)) 0 plan.latches loop loop false (omega arith) (omega arith))
-        ∙ sym (get_or-append_right (inputs 0) starts (first_loop_lane plan) l false (wide 0) high)
+        ∙ sym (get_or-append_right (inputs 0) starts (first_loop_lane plan.lanes plan.latches) l false (wide 0) high)
 
     -- and in each later cycle
-    later : (t l : ℕ) → bits_at plan 0 (edges (first + t * cycle_steps plan)) ≡ entering_bits plan inputs starts t → first_loop_lane plan ≤ l → l < plan.lanes
-        → bit_on (bits_at plan 0 (edges (first + suc t * cycle_steps plan))) l ≡ get_or (entering_bits plan inputs starts (suc t)) l false
+    later : (t l : ℕ) → bits_at plan 0 (edges (first + t * cycle_steps plan)) ≡ entering_bits (first_loop_lane plan.lanes plan.latches) plan.columns inputs starts t → first_loop_lane plan.lanes plan.latches ≤ l → l < plan.lanes
+        → bit_on (bits_at plan 0 (edges (first + suc t * cycle_steps plan))) l ≡ get_or (entering_bits (first_loop_lane plan.lanes plan.latches) plan.columns inputs starts (suc t)) l false
     later t l before high low =
-        let loop = l - first_loop_lane plan in
+        let loop = l - first_loop_lane plan.lanes plan.latches in
         let now : first + suc t * cycle_steps plan ≡ first + t * cycle_steps plan + (length plan.columns + tiles_back plan) = omega (arith, suc-mul t (cycle_steps plan), steps_with_loops plan (omega arith)) in
-        let lane : l ≡ first_loop_lane plan + loop = omega arith in
-        let out = after_columns plan.columns (entering_bits plan inputs starts t) in
+        let lane : l ≡ first_loop_lane plan.lanes plan.latches + loop = omega arith in
+        let out = after_columns plan.columns (entering_bits (first_loop_lane plan.lanes plan.latches) plan.columns inputs starts t) in
         both_bits plan (edges (first + suc t * cycle_steps plan)) l low
         ∙ ap₂ (λ m n. edges m (Beside plan.latches n)) now lane
         ∙ loops_come_round plan h edges g (first + t * cycle_steps plan) loop (omega arith)
         ∙ ap (λ bits. bit_on (after_columns plan.columns bits) (plan.lanes - 1 - loop)) before
-        ∙ sym (turned_round out plan.lanes plan.latches loop (length-after_columns plan.columns (entering_bits plan inputs starts t) ∙ length-entering plan h inputs starts wide long t) fits (omega arith))
-        ∙ sym (get_or-append_right (inputs (suc t)) (reverse (drop (first_loop_lane plan) out)) (first_loop_lane plan) l false (wide (suc t)) high)
+        ∙ sym (turned_round out plan.lanes plan.latches loop (length-after_columns plan.columns (entering_bits (first_loop_lane plan.lanes plan.latches) plan.columns inputs starts t) ∙ length-entering plan h inputs starts wide long t) fits (omega arith))
+        ∙ sym (get_or-append_right (inputs (suc t)) (reverse (drop (first_loop_lane plan.lanes plan.latches) out)) (first_loop_lane plan.lanes plan.latches) l false (wide (suc t)) high)
 
-    go : (t : ℕ) → bits_at plan 0 (edges (first + t * cycle_steps plan)) ≡ entering_bits plan inputs starts t
+    go : (t : ℕ) → bits_at plan 0 (edges (first + t * cycle_steps plan)) ≡ entering_bits (first_loop_lane plan.lanes plan.latches) plan.columns inputs starts t
     go zero =
         ext_get_or false _ _ (same_lengths 0)
         (λ l within. (let low : l < plan.lanes = omega (arith, within, length-bits_at plan 0 (edges (first + 0 * cycle_steps plan))) in
-        ⊎_elim (λ left. free 0 l starts left) (λ right. start l right low) (cases_lt l (first_loop_lane plan))))
+        ⊎_elim (λ left. free 0 l starts left) (λ right. start l right low) (cases_lt l (first_loop_lane plan.lanes plan.latches))))
     go (suc t) =
         ext_get_or false _ _ (same_lengths (suc t))
         (λ l within. (let low : l < plan.lanes = omega (arith, within, length-bits_at plan 0 (edges (first + suc t * cycle_steps plan))) in
-        ⊎_elim (λ left. free (suc t) l _ left) (λ right. later t l (go t) right low) (cases_lt l (first_loop_lane plan))))
+        ⊎_elim (λ left. free (suc t) l _ left) (λ right. later t l (go t) right low) (cases_lt l (first_loop_lane plan.lanes plan.latches))))
 
 pub edges_run_by_cycles : (plan : Plan) → IsAdmissible plan → (edges : ℕ → Lit) → GoesOn plan edges → (first t c : ℕ) → c ≤ length plan.columns
     → bits_at plan c (edges (first + t * cycle_steps plan + c))
-    ≡ after_columns (take c plan.columns) (entering_bits plan (λ i. free_bits plan (edges (first + i * cycle_steps plan))) (loop_bits plan (edges first)) t)
+    ≡ after_columns (take c plan.columns) (entering_bits (first_loop_lane plan.lanes plan.latches) plan.columns (λ i. free_bits plan (edges (first + i * cycle_steps plan))) (loop_bits plan (edges first)) t)
 edges_run_by_cycles plan h edges g first t c within =
     columns_pass plan h edges g (first + t * cycle_steps plan) c within
     ∙ ap (after_columns (take c plan.columns)) (entering plan h edges g first t)

@@ -12,8 +12,8 @@ use Rattle.tiling.specs.Tiling.Piece.{Tile, Output}
 use Rattle.tiling.specs.Tiling.Slot.{Nothing, Whole}
 use Rattle.lane_core.specs.declared.plan.Plan.{Plan}
 use Rattle.lane_core.specs.Plans.{IsAdmissible}
+use Rattle.lane_core.specs.Entering.{first_loop_lane}
 use Rattle.plan_layout.specs.Layout.{turn_slot, return_slot, end_of_body, upper_left, in_body, upper_right, lower_left, on_return, lower_right, by_column, tiling_of}
-use Rattle.plan_layout.specs.Starts.{first_loop_lane}
 use Rattle.plan_layout.proofs.Matched.{tiling_of-upper, tiling_of-lower}
 
 by_column-left : (plan : Plan) (q : ℕ) (a b c : Slot) → q < plan.latches → by_column plan q a b c ≡ a
@@ -81,7 +81,7 @@ turn_beyond loops away off along corner across far =
     cond-false (ltb away loops && ltb off loops) (Whole (Tile (cond (ltb away off) along (cond (away == off) corner across)))) Nothing no
 
 -- left of the body nothing stands on the lanes that no loop enters
-pub nothing_left : (plan : Plan) → IsAdmissible plan → (q l : ℕ) → q < plan.latches → l < first_loop_lane plan → tiling_of plan q l ≡ Nothing
+pub nothing_left : (plan : Plan) → IsAdmissible plan → (q l : ℕ) → q < plan.latches → l < first_loop_lane plan.lanes plan.latches → tiling_of plan q l ≡ Nothing
 nothing_left plan h q l left low =
     tiling_of-upper plan q l (omega arith)
     ∙ by_column-left plan q (upper_left plan q l) (in_body plan q l) (upper_right plan q l) left
@@ -96,10 +96,10 @@ no_output (out ∷ outs) limit l high below =
     or_from _ _ other (no_output outs limit l high (All-tail (λ lane. lane < limit) out outs below))
 
 -- right of the body, on the lanes of loops and below
-right_at : (plan : Plan) → IsAdmissible plan → (q l : ℕ) → end_of_body plan ≤ q → first_loop_lane plan ≤ l → l < plan.lanes
+right_at : (plan : Plan) → IsAdmissible plan → (q l : ℕ) → end_of_body plan ≤ q → first_loop_lane plan.lanes plan.latches ≤ l → l < plan.lanes
     → tiling_of plan q l ≡ turn_slot plan.latches (q - end_of_body plan) (plan.lanes - 1 - l) kind.East kind.EastSouth kind.South
 right_at plan h q l right high low =
-    let none : list_any (λ out. out == l) plan.outs ≡ false = no_output plan.outs (first_loop_lane plan) l high h.outs.below in
+    let none : list_any (λ out. out == l) plan.outs ≡ false = no_output plan.outs (first_loop_lane plan.lanes plan.latches) l high h.outs.below in
     tiling_of-upper plan q l low
     ∙ by_column-right plan q (upper_left plan q l) (in_body plan q l) (upper_right plan q l) right
     ∙ cond-false (q == end_of_body plan && list_any (λ out. out == l) plan.outs) (Whole Output)

@@ -10,8 +10,8 @@ use Rattle.tiling.specs.Tiling.Slot.{Whole}
 use Rattle.tiling.specs.Tiling.Edge.{Beside, Above}
 use Rattle.lane_core.specs.declared.plan.Plan.{Plan}
 use Rattle.lane_core.specs.Plans.{IsAdmissible}
+use Rattle.lane_core.specs.Entering.{first_loop_lane}
 use Rattle.plan_layout.specs.Layout.{end_of_body, tiling_of}
-use Rattle.plan_layout.specs.Starts.{first_loop_lane}
 use Rattle.plan_layout.proofs.Matched.{tiling_is_matched}
 use Rattle.plan_waves.specs.Waves.{is_free_entry, GoesOn, is_body_entry, IsLitAtEntries, is_inside}
 use Rattle.plan_waves.specs.WaysBack.{tile_before, tiles_before}
@@ -48,7 +48,7 @@ pub passed_on : (plan : Plan) (edges : ℕ → Lit) → GoesOn plan edges → (b
 passed_on plan edges g before after outside free apart passes = record { next = λ m. g.next m after free ∙ passes.step (edges m); outside = outside; apart = apart; back = passes.back }
 
 -- on the lanes of loops and below there is no free entry
-pub loop_lane : (plan : Plan) (q l : ℕ) → first_loop_lane plan ≤ l → is_free_entry plan (Beside q l) ≡ false
+pub loop_lane : (plan : Plan) (q l : ℕ) → first_loop_lane plan.lanes plan.latches ≤ l → is_free_entry plan (Beside q l) ≡ false
 loop_lane plan q l high = grind (arith, nat_tests)
 
 -- below the body, and beside its first column, no edge is an entry of the body
@@ -148,7 +148,7 @@ renamed plan edges n n' first first' last last' e f g path =
     subst (λ (k : ℕ). Reaches plan edges k first' last') e (subst (λ (a : Edge). Reaches plan edges n a last') f (subst (λ (b : Edge). Reaches plan edges n first b) g path))
 
 -- straight on, in each direction, along so many tiles
-pub east : (plan : Plan) → IsAdmissible plan → (edges : ℕ → Lit) → GoesOn plan edges → (n q l : ℕ) → first_loop_lane plan ≤ l → ((t : ℕ) → t < n → q + t ≢ plan.latches)
+pub east : (plan : Plan) → IsAdmissible plan → (edges : ℕ → Lit) → GoesOn plan edges → (n q l : ℕ) → first_loop_lane plan.lanes plan.latches ≤ l → ((t : ℕ) → t < n → q + t ≢ plan.latches)
     → ((t : ℕ) → t < n → is_inside plan (Beside (q + (t + 1)) l) ≡ false)
     → ((t : ℕ) → t < n → tiling_of plan (q + t) l ≡ Whole (Tile kind.East)) → Reaches plan edges n (Beside q l) (Beside (q + n) l)
 east plan h edges g n q l high beside apart tiles =

@@ -20,9 +20,11 @@ use Rattle.lane_core.specs.Plans.{IsAdmissible, left_of, row_of, latency_of, per
 use Rattle.plan_layout.specs.Layout.{tiling_of}
 use Rattle.plan_layout.specs.Starts.{start_edges}
 use Rattle.lane_core.proofs.Dark.{dark}
+use Rattle.lane_core.specs.Entering.{bits_after}
+use Rattle.plan_layout.specs.Planes.{start_plane}
 use Rattle.plan_waves.specs.Cycles.{cycle_steps, DrivesCycles, RunsByCycles}
 use Rattle.plan_waves.specs.ShownEdges.{ShowsEachStep, ShowsDrivenEdges}
-use Rattle.plan_waves.specs.Shown.{start_plane, ShowsEachCycle, cycle_bits, bits_after, ShowsPlanRun}
+use Rattle.plan_waves.specs.Shown.{ShowsEachCycle, cycle_bits, ShowsPlanRun}
 use Rattle.plan_waves.proofs.Parts.{some_columns}
 use Rattle.plan_waves.proofs.Columns.{bit_on-bits_at}
 use Rattle.plan_waves.proofs.Beginning.{start_free}
@@ -112,7 +114,7 @@ plans_show_runs library law plan h due d = record {
         (edge_shows (length plan.columns) l (omega arith) low (left_of plan (length plan.columns), row_of l) (shown.outs i within))
 
     net : (lane : ℕ) (after : Option ℕ) → lane < plan.lanes → ForSome after (λ step. step < length plan.columns)
-        → ShowsEachCycle (period_of plan) plane (cell_after plan lane after) (λ t. bit_on (bits_after plan after (cycle_bits plan due t)) lane)
+        → ShowsEachCycle (period_of plan) plane (cell_after plan lane after) (λ t. bit_on (bits_after after_columns plan.columns after (cycle_bits plan due t)) lane)
     net lane None low place = edge_shows 0 lane (omega arith) low (left_of plan 0, row_of lane) (shown.entries 0 lane (some_columns plan h (omega arith)) low)
     net lane (Some column) low place = exit_shows column lane (place column refl) low
 

@@ -12,11 +12,11 @@ use Rattle.tile_core.specs.declared.kind.Kind.{Kind}
 use Rattle.tile_core.specs.Drawing.{Drawing}
 use Rattle.tiling.specs.Steps.{KeepsLaw}
 use Rattle.lane_core.specs.declared.plan.Plan.{Plan}
-use Rattle.lane_core.specs.Plans.{IsAdmissible, left_of, row_of, period_of}
-use Rattle.plan_layout.specs.Starts.{first_loop_lane}
+use Rattle.lane_core.specs.Plans.{IsAdmissible, left_of, row_of, period_of, input_cells}
+use Rattle.lane_core.specs.Entering.{first_loop_lane, lane_bit, row_bits}
 use Rattle.plan_waves.specs.Cycles.{DrivesCycles, injected_bits}
 use Rattle.plan_waves.specs.Shown.{cycle_bits, ShowsBits}
-use Rattle.plan_waves.specs.InputRows.{input_cells, drive_of_rows, lane_bit, row_bits, AreInjected, bits_of_rows}
+use Rattle.plan_waves.specs.InputRows.{drive_of_rows, AreInjected, bits_of_rows}
 use Rattle.plan_waves.proofs.Machine.{steps_with_loops}
 use Rattle.plan_waves.proofs.DrivenCycles.{period_is, same_entering}
 use Rattle.plan_waves.proofs.Plane.{plans_show_runs}
@@ -118,16 +118,16 @@ lane_lit plan h rows t lane = same_bit _ _ to from
 pub rows_are_injected : (plan : Plan) → IsAdmissible plan → (rows : List (List Bool)) → AreInjected plan rows
 rows_are_injected plan h rows = record {
   drive = rows_drive plan h rows;
-  bits = λ t. fill_by_all (lane_bit plan.ins (get_or rows t [])) (injected_bits plan (drive_of_rows plan rows) t) (first_loop_lane plan) false
-      (length-map-range_with_len (λ lane. drive_of_rows plan rows (t * period_of plan) (pos (left_of plan 0)) (pos (row_of lane))) 0 (first_loop_lane plan))
-      (λ k low. get_or-map-range_with_len (λ lane. drive_of_rows plan rows (t * period_of plan) (pos (left_of plan 0)) (pos (row_of lane))) 0 (first_loop_lane plan) k k false low (omega arith)
+  bits = λ t. fill_by_all (lane_bit plan.ins (get_or rows t [])) (injected_bits plan (drive_of_rows plan rows) t) (first_loop_lane plan.lanes plan.latches) false
+      (length-map-range_with_len (λ lane. drive_of_rows plan rows (t * period_of plan) (pos (left_of plan 0)) (pos (row_of lane))) 0 (first_loop_lane plan.lanes plan.latches))
+      (λ k low. get_or-map-range_with_len (λ lane. drive_of_rows plan rows (t * period_of plan) (pos (left_of plan 0)) (pos (row_of lane))) 0 (first_loop_lane plan.lanes plan.latches) k k false low (omega arith)
       ∙ lane_lit plan h rows t k);
 }
 
 -- so what enters the body are the bits of the rows, and what the loops bring
 pub cycles_of_rows : (plan : Plan) → IsAdmissible plan → (rows : List (List Bool)) (t : ℕ) → cycle_bits plan (drive_of_rows plan rows) t ≡ bits_of_rows plan rows t
 cycles_of_rows plan h rows =
-    same_entering plan (injected_bits plan (drive_of_rows plan rows)) (λ i. row_bits plan (get_or rows i [])) plan.starts plan.starts (rows_are_injected plan h rows).bits refl
+    same_entering plan (injected_bits plan (drive_of_rows plan rows)) (λ i. row_bits (first_loop_lane plan.lanes plan.latches) plan.ins (get_or rows i [])) plan.starts plan.starts (rows_are_injected plan h rows).bits refl
 
 pub plans_show_rows : (library : Kind → Drawing) → KeepsLaw library → (plan : Plan) → IsAdmissible plan → (rows : List (List Bool))
     → ShowsBits library plan (drive_of_rows plan rows) (bits_of_rows plan rows)

@@ -1,5 +1,5 @@
 -- What a plan does from cycle to cycle: it is a machine whose state lies on the lanes of its loops.
-use Rattle.std.specs.Prelude.{ℤ, pos, ℕ, zero, suc, ◌+◌, ◌*◌, ◌<◌, ◌≤◌, ◌≡◌, ◌≢◌, ◌==◌, cond, Bool, true, false, List, ◌++◌, length, map, take, drop, reverse, replicate}
+use Rattle.std.specs.Prelude.{ℤ, pos, ℕ, ◌+◌, ◌*◌, ◌<◌, ◌≤◌, ◌≡◌, ◌≢◌, ◌==◌, cond, Bool, true, false, List, length, map, take, replicate}
 use Rattle.std.specs.List.{range_with_len}
 use Rattle.ww_rule.specs.Wireworld.{Due}
 use Rattle.tiling.specs.Tiling.{Lit}
@@ -8,8 +8,9 @@ use Rattle.tiling.specs.Steps.{driven_edges}
 use Rattle.lane_core.specs.declared.plan.Plan.{Plan}
 use Rattle.lane_core.specs.Columns.{after_columns}
 use Rattle.lane_core.specs.Plans.{IsAdmissible, left_of, row_of, period_of}
+use Rattle.lane_core.specs.Entering.{first_loop_lane, entering_bits}
 use Rattle.plan_layout.specs.Layout.{tiling_of}
-use Rattle.plan_layout.specs.Starts.{first_loop_lane, start_edges}
+use Rattle.plan_layout.specs.Starts.{start_edges}
 use Rattle.plan_waves.specs.Waves.{GoesOn, bits_at, loop_entry, tiles_back, DrivesInputs}
 
 -- macro steps from cycle to cycle: the tiles of a loop, in the body and on the way back; without loops one
@@ -18,17 +19,10 @@ cycle_steps plan = cond (plan.latches == 0) 1 (length plan.columns + tiles_back 
 
 -- the bits that enter the body on the lanes that no loop enters, and on those of loops
 abbrev pub free_bits : Plan → Lit → List Bool
-free_bits plan lit = map (λ lane. lit (Beside plan.latches lane)) (range_with_len 0 (first_loop_lane plan))
+free_bits plan lit = map (λ lane. lit (Beside plan.latches lane)) (range_with_len 0 (first_loop_lane plan.lanes plan.latches))
 
 abbrev pub loop_bits : Plan → Lit → List Bool
 loop_bits plan lit = map (λ loop. lit (loop_entry plan loop)) (range_with_len 0 plan.latches)
-
--- the bits that enter the body in a cycle, from the inputs of each cycle and the start of the loops: after the first
--- cycle loops bring what left the body in the cycle before, in reverse order
-abbrev pub entering_bits : Plan → (ℕ → List Bool) → List Bool → ℕ → List Bool
-entering_bits plan inputs starts zero = inputs zero ++ starts
-entering_bits plan inputs starts (suc t) =
-    inputs (suc t) ++ reverse (drop (first_loop_lane plan) (after_columns plan.columns (entering_bits plan inputs starts t)))
 
 -- The bits at the entries of each column, in cycles that are counted from any macro time on: they depend on the free
 -- entries when these cycles begin, and on the loops' entries at the first, alone.
@@ -36,12 +30,12 @@ abbrev pub EdgesRunByCycles : Type 0
 EdgesRunByCycles =
     (plan : Plan) → IsAdmissible plan → (edges : ℕ → Lit) → GoesOn plan edges → (first t c : ℕ) → c ≤ length plan.columns
     → bits_at plan c (edges (first + t * cycle_steps plan + c))
-    ≡ after_columns (take c plan.columns) (entering_bits plan (λ i. free_bits plan (edges (first + i * cycle_steps plan))) (loop_bits plan (edges first)) t)
+    ≡ after_columns (take c plan.columns) (entering_bits (first_loop_lane plan.lanes plan.latches) plan.columns (λ i. free_bits plan (edges (first + i * cycle_steps plan))) (loop_bits plan (edges first)) t)
 
 -- heads are injected at multiples of the period, and in the cells of free entries alone
 pub record DrivesCycles (plan : Plan) (due : Due) : Type 0 where
   pub on_time : (g : ℕ) (x y : ℤ) → due g x y ≡ true → (t : ℕ) × (g ≡ t * period_of plan)
-  pub at_free_entries : (g : ℕ) (x y : ℤ) → due g x y ≡ true → (lane : ℕ) × (lane < first_loop_lane plan) × (x ≡ pos (left_of plan 0)) × (y ≡ pos (row_of lane))
+  pub at_free_entries : (g : ℕ) (x y : ℤ) → due g x y ≡ true → (lane : ℕ) × (lane < first_loop_lane plan.lanes plan.latches) × (x ≡ pos (left_of plan 0)) × (y ≡ pos (row_of lane))
 
 -- a period is a multiple of 32 generations, so that these are injections at inputs
 abbrev pub CyclesAreInputs : Type 0
@@ -49,13 +43,13 @@ CyclesAreInputs = (plan : Plan) (due : Due) → DrivesCycles plan due → Drives
 
 -- the bits that are injected in a cycle, on the lanes that no loop enters
 abbrev pub injected_bits : Plan → Due → ℕ → List Bool
-injected_bits plan due t = map (λ lane. due (t * period_of plan) (pos (left_of plan 0)) (pos (row_of lane))) (range_with_len 0 (first_loop_lane plan))
+injected_bits plan due t = map (λ lane. due (t * period_of plan) (pos (left_of plan 0)) (pos (row_of lane))) (range_with_len 0 (first_loop_lane plan.lanes plan.latches))
 
 -- The entries of column c, or with c the number of columns the outputs, have the bits of cycle t at the macro time at
 -- which the cycle begins and c more, and are dark at all others.
 pub record RunsByCycles (plan : Plan) (due : Due) (edges : ℕ → Lit) : Type 0 where
   pub lit : (t c : ℕ) → c ≤ length plan.columns
-      → bits_at plan c (edges (t * cycle_steps plan + c)) ≡ after_columns (take c plan.columns) (entering_bits plan (injected_bits plan due) plan.starts t)
+      → bits_at plan c (edges (t * cycle_steps plan + c)) ≡ after_columns (take c plan.columns) (entering_bits (first_loop_lane plan.lanes plan.latches) plan.columns (injected_bits plan due) plan.starts t)
   pub dark : (m c : ℕ) → c ≤ length plan.columns → ((t : ℕ) → m ≢ t * cycle_steps plan + c) → bits_at plan c (edges m) ≡ replicate plan.lanes false
 
 -- so it is of every admissible plan that is driven so from its start edges on

@@ -9,8 +9,9 @@ use Rattle.lane_core.specs.declared.plan.Plan.{Plan}
 use Rattle.lane_core.specs.Plans.{IsAdmissible, left_of, row_of}
 use Rattle.lane_core.specs.Instrs.{bit_on}
 use Rattle.lane_core.specs.Columns.{after_columns}
+use Rattle.lane_core.specs.Entering.{first_loop_lane}
 use Rattle.plan_layout.specs.Layout.{tiling_of}
-use Rattle.plan_layout.specs.Starts.{first_loop_lane, start_edges}
+use Rattle.plan_layout.specs.Starts.{start_edges}
 use Rattle.plan_waves.specs.Waves.{is_free_entry, GoesOn, IsLitAtEntries, IsDarkInside, bits_at, loop_exit, loop_entry, tiles_back, DrivesInputs, StartsRight}
 
 -- the edges after macro steps go on
@@ -32,7 +33,7 @@ FreeEntriesGoDark = (plan : Plan) → IsAdmissible plan → (lit : Lit) (edge : 
 -- so that after the beginning a free entry is lit exactly when a head is injected in its cell
 abbrev pub InputsEnter : Type 0
 InputsEnter =
-    (plan : Plan) → IsAdmissible plan → (due : Due) (lit : Lit) (m lane : ℕ) → lane < first_loop_lane plan
+    (plan : Plan) → IsAdmissible plan → (due : Due) (lit : Lit) (m lane : ℕ) → lane < first_loop_lane plan.lanes plan.latches
     → driven_edges (tiling_of plan) due lit (suc m) (Beside plan.latches lane) ≡ due (32 * suc m) (pos (left_of plan 0)) (pos (row_of lane))
 
 -- the edges of a plan that is driven from its start edges on, at the beginning

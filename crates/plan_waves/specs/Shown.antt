@@ -1,23 +1,18 @@
 -- What the plane of a plan shows, which is drawn with any library of tiles that keep the timing law, and driven from its
 -- start edges on.
-use Rattle.std.specs.Prelude.{ℤ, pos, ℕ, suc, ◌+◌, ◌*◌, ◌<◌, ◌≡◌, ◌↔◌, Bool, true, List, length, take, slice_index, Option, Some, None}
+use Rattle.std.specs.Prelude.{ℤ, pos, ℕ, suc, ◌+◌, ◌*◌, ◌<◌, ◌≡◌, ◌↔◌, Bool, true, List, length, slice_index}
 use Rattle.ww_rule.specs.declared.pattern.State.TheVariants.{Head, Conductor}
 use Rattle.ww_rule.specs.Wireworld.{Plane, Due, next_plane, driven}
 use Rattle.tile_core.specs.declared.kind.Kind.{Kind}
 use Rattle.tile_core.specs.Drawing.{Drawing}
-use Rattle.tiling.specs.Tiling.{drawn}
 use Rattle.tiling.specs.Steps.{KeepsLaw}
 use Rattle.lane_core.specs.declared.plan.Plan.{Plan}
 use Rattle.lane_core.specs.Instrs.{bit_on}
 use Rattle.lane_core.specs.Columns.{after_columns}
 use Rattle.lane_core.specs.Plans.{IsAdmissible, period_of, out_cell_of, net_place, net_cell_of}
-use Rattle.plan_layout.specs.Layout.{tiling_of}
-use Rattle.plan_layout.specs.Starts.{start_edges}
-use Rattle.plan_waves.specs.Cycles.{entering_bits, DrivesCycles, injected_bits}
-
--- the plane of a plan at the beginning, before injections
-abbrev pub start_plane : (Kind → Drawing) → Plan → Plane
-start_plane library plan = drawn library (tiling_of plan) (start_edges plan)
+use Rattle.lane_core.specs.Entering.{entering_bits, first_loop_lane, bits_after}
+use Rattle.plan_layout.specs.Planes.{start_plane}
+use Rattle.plan_waves.specs.Cycles.{DrivesCycles, injected_bits}
 
 -- A cell, given by x, y and the generations from the beginning of a cycle to it, is a head so many generations after the
 -- beginning of each cycle in which the bit is 1, and at no other generation.
@@ -27,12 +22,7 @@ ShowsEachCycle period plane cell bit =
 
 -- the bits that enter the body in a cycle of a driven plan
 abbrev pub cycle_bits : Plan → Due → ℕ → List Bool
-cycle_bits plan due t = entering_bits plan (injected_bits plan due) plan.starts t
-
--- the bits at a place of a net: at the entries of the body, or after a column
-abbrev pub bits_after : Plan → Option ℕ → List Bool → List Bool
-bits_after plan None bits = bits
-bits_after plan (Some column) bits = after_columns (take (column + 1) plan.columns) bits
+cycle_bits plan due t = entering_bits (first_loop_lane plan.lanes plan.latches) plan.columns (injected_bits plan due) plan.starts t
 
 -- Each injection meets a conductor, and the cells of outputs and nets show, cycle by cycle, what the columns make on their
 -- lanes of these bits that enter the body.
@@ -44,7 +34,7 @@ pub record ShowsBits (library : Kind → Drawing) (plan : Plan) (due : Due) (ent
       (λ t. bit_on (after_columns plan.columns (entering t)) (slice_index plan.outs i))
   pub nets : (i : ℕ) → i < length plan.nets
       → ShowsEachCycle (period_of plan) (driven due (start_plane library plan)) (net_cell_of plan i)
-      (λ t. bit_on (bits_after plan (net_place plan i).after (entering t)) (net_place plan i).lane)
+      (λ t. bit_on (bits_after after_columns plan.columns (net_place plan i).after (entering t)) (net_place plan i).lane)
 
 -- so they show the bits that enter the body of a driven plan
 abbrev pub ShowsPlanRun : (Kind → Drawing) → Plan → Due → Type 0

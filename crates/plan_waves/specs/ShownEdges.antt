@@ -5,17 +5,14 @@ use Rattle.ww_rule.specs.declared.pattern.State.TheVariants.{Head, Conductor}
 use Rattle.ww_rule.specs.Wireworld.{Plane, Due, next_plane, driven}
 use Rattle.tile_core.specs.declared.kind.Kind.{Kind}
 use Rattle.tile_core.specs.Drawing.{Drawing}
-use Rattle.tiling.specs.Tiling.{Lit, drawn}
+use Rattle.tiling.specs.Tiling.{Lit}
 use Rattle.tiling.specs.Tiling.Edge.{Beside}
 use Rattle.tiling.specs.Steps.{KeepsLaw, driven_edges}
 use Rattle.lane_core.specs.declared.plan.Plan.{Plan}
 use Rattle.lane_core.specs.Plans.{IsAdmissible, left_of, row_of}
+use Rattle.plan_layout.specs.Planes.{plane_with}
 use Rattle.plan_layout.specs.Layout.{end_of_body, tiling_of}
 use Rattle.plan_waves.specs.Waves.{DrivesInputs}
-
--- the plane of a plan whose edges are lit so at the beginning, before injections
-abbrev pub plane_of_edges : (Kind → Drawing) → Plan → Lit → Plane
-plane_of_edges library plan lit = drawn library (tiling_of plan) lit
 
 -- A cell, given by x and y, is a head so many generations after each macro time at which the bit is 1, and at no other
 -- generation.
@@ -28,16 +25,16 @@ ShowsEachStep plane cell late bit =
 -- column at the next macro time; and the cell of an output shows the edge at which it is entered.
 pub record ShowsDrivenEdges (library : Kind → Drawing) (plan : Plan) (due : Due) (lit : Lit) : Type 0 where
   pub first_conductors : (lane : ℕ) → due 0 (pos (left_of plan 0)) (pos (row_of lane)) ≡ true → lit (Beside plan.latches lane) ≡ false
-      → plane_of_edges library plan lit (pos (left_of plan 0)) (pos (row_of lane)) ≡ Conductor
-  pub conductors : (g : ℕ) (x y : ℤ) → due (suc g) x y ≡ true → next_plane (driven due (plane_of_edges library plan lit) g) x y ≡ Conductor
+      → plane_with library plan lit (pos (left_of plan 0)) (pos (row_of lane)) ≡ Conductor
+  pub conductors : (g : ℕ) (x y : ℤ) → due (suc g) x y ≡ true → next_plane (driven due (plane_with library plan lit) g) x y ≡ Conductor
   pub entries : (c lane : ℕ) → c < length plan.columns → lane < plan.lanes
-      → ShowsEachStep (driven due (plane_of_edges library plan lit)) (left_of plan c, row_of lane) 0
+      → ShowsEachStep (driven due (plane_with library plan lit)) (left_of plan c, row_of lane) 0
       (λ m. driven_edges (tiling_of plan) due lit m (Beside (plan.latches + c) lane))
   pub exits : (c lane : ℕ) → c < length plan.columns → lane < plan.lanes
-      → ShowsEachStep (driven due (plane_of_edges library plan lit)) (left_of plan c + 31, row_of lane) 31
+      → ShowsEachStep (driven due (plane_with library plan lit)) (left_of plan c + 31, row_of lane) 31
       (λ m. driven_edges (tiling_of plan) due lit (suc m) (Beside (plan.latches + (c + 1)) lane))
   pub outs : (i : ℕ) → i < length plan.outs
-      → ShowsEachStep (driven due (plane_of_edges library plan lit)) (left_of plan (length plan.columns), row_of (slice_index plan.outs i)) 0
+      → ShowsEachStep (driven due (plane_with library plan lit)) (left_of plan (length plan.columns), row_of (slice_index plan.outs i)) 0
       (λ m. driven_edges (tiling_of plan) due lit m (Beside (end_of_body plan) (slice_index plan.outs i)))
 
 -- of every library, every admissible plan, every drive of its inputs at multiples of 32, and all edges at the beginning

@@ -8,12 +8,12 @@ use Rattle.tiling.specs.MacroStep.{macro_step}
 use Rattle.lane_core.specs.declared.plan.Plan.{Plan}
 use Rattle.lane_core.specs.Plans.{left_of, row_of}
 use Rattle.lane_core.specs.Instrs.{bit_on}
+use Rattle.lane_core.specs.Entering.{first_loop_lane}
 use Rattle.plan_layout.specs.Layout.{end_of_body, tiling_of}
-use Rattle.plan_layout.specs.Starts.{first_loop_lane}
 
 -- the free entries: where the lanes that no loop enters enter the body's first column, and heads may be injected
 abbrev pub is_free_entry : Plan → Edge → Bool
-is_free_entry plan (Beside column lane) = column == plan.latches && nat_lt lane (first_loop_lane plan)
+is_free_entry plan (Beside column lane) = column == plan.latches && nat_lt lane (first_loop_lane plan.lanes plan.latches)
 is_free_entry plan (Above column lane) = false
 
 -- The lit edges at each macro time. Free entries may be lit at any time; all other edges go on by macro steps.
@@ -47,7 +47,7 @@ abbrev pub loop_exit : Plan → ℕ → Edge
 loop_exit plan loop = Beside (end_of_body plan) (plan.lanes - 1 - loop)
 
 abbrev pub loop_entry : Plan → ℕ → Edge
-loop_entry plan loop = Beside plan.latches (first_loop_lane plan + loop)
+loop_entry plan loop = Beside plan.latches (first_loop_lane plan.lanes plan.latches + loop)
 
 -- the tiles from a loop's exit to its entry: one in each column of the way back, and four for each loop in the two turns
 abbrev pub tiles_back : Plan → ℕ
@@ -56,11 +56,11 @@ tiles_back plan = length plan.columns + 4 * plan.latches
 -- heads are injected at multiples of 32 generations, and in the cells of free entries alone
 pub record DrivesInputs (plan : Plan) (due : Due) : Type 0 where
   pub on_time : (g : ℕ) (x y : ℤ) → due g x y ≡ true → g % 32 ≡ 0
-  pub at_free_entries : (g : ℕ) (x y : ℤ) → due g x y ≡ true → (lane : ℕ) × (lane < first_loop_lane plan) × (x ≡ pos (left_of plan 0)) × (y ≡ pos (row_of lane))
+  pub at_free_entries : (g : ℕ) (x y : ℤ) → due g x y ≡ true → (lane : ℕ) × (lane < first_loop_lane plan.lanes plan.latches) × (x ≡ pos (left_of plan 0)) × (y ≡ pos (row_of lane))
 
 -- the edges of a plan at the beginning, its start edges and the injections of generation 0: a free entry is lit by an
 -- injection, and a loop's entry by the bit that the loop starts with
 pub record StartsRight (plan : Plan) (due : Due) (lit : Lit) : Type 0 where
   pub entries : IsLitAtEntries plan lit
-  pub inputs : (lane : ℕ) → lane < first_loop_lane plan → lit (Beside plan.latches lane) ≡ due 0 (pos (left_of plan 0)) (pos (row_of lane))
+  pub inputs : (lane : ℕ) → lane < first_loop_lane plan.lanes plan.latches → lit (Beside plan.latches lane) ≡ due 0 (pos (left_of plan 0)) (pos (row_of lane))
   pub loops : (loop : ℕ) → loop < plan.latches → lit (loop_entry plan loop) ≡ bit_on plan.starts loop

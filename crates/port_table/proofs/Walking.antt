@@ -15,7 +15,7 @@ use Rattle.pattern_reading.specs.PortLines.{PortForm, TableLine, table_line, tab
 use Rattle.pattern_reading.specs.PortTable.{PortFaultAt, is_version, is_outside, is_same_port, is_misplaced, fault_of_form, faults_after, ports_of, ReadsAsPorts}
 use Rattle.pattern_reading.specs.declared.faults.PortFaultKind.{PortFaultKind}
 use Rattle.pattern_reading.specs.declared.faults.PortFaultKind.TheVariants.{Twice}
-use Rattle.pattern_reading.proofs.LineText.{not_equal}
+use Rattle.std.proofs.lemmas.Bool.{ne_eqb}
 use Rattle.port_table.specs.declared.table.TableLine as lent
 use Rattle.port_table.specs.Lent.{table_line_of, form_of, forms_in}
 use Rattle.port_table.proofs.Walk.{BeginsWithLine, table_from}
@@ -128,7 +128,7 @@ no_fault_yet width height lines i d before f all l none is e =
 -- what is at fault in a line that stands where it may
 placed : (before : List PortForm) (form : PortForm) → is_version form ≡ (length before == 0) → is_misplaced (map Some before) form ≡ false
 placed [] form e = ap not e
-placed (first ∷ before) form e = e ∙ not_equal (length (first ∷ before)) 0 (λ z. omega (arith, z))
+placed (first ∷ before) form e = e ∙ ne_eqb (length (first ∷ before)) 0 (λ z. omega (arith, z))
 
 pub twice_or_none : (width height : ℕ) (before : List PortForm) (form : PortForm) (is_new : Bool) → is_version form ≡ (length before == 0) → is_outside width height form ≡ false → is_new ≡ not (list_any (is_same_port form) before) → (if is_new then None else Some Twice) ≡ fault_of_form width height (map Some before) (Some form)
 twice_or_none width height before form is_new here inside new =

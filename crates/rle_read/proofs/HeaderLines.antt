@@ -1,15 +1,13 @@
 -- The header line of a text, found line by line.
-use Rattle.std.proofs.Common.{ℕ, suc, ◌+◌, ◌≡◌, refl, ap, ◌∙◌, Bool, true, false, cond, not, List, ◌∷◌, drop, arith}
+use Rattle.std.proofs.Common.{◌+◌, ◌≡◌, ap, ◌∙◌, Bool, true, false, cond, not, List, ◌∷◌, drop}
 use Rattle.std.specs.Prelude.{Some, find}
 use Rattle.std.specs.List.{prefix_len, after_first}
 use Rattle.pattern_reading.specs.Lines.{Line}
 use Rattle.pattern_reading.specs.Header.{is_skipped}
+use Rattle.pattern_reading.proofs.Later.{drop_past}
 
 abbrev pub is_header : Line → Bool
 is_header line = not (is_skipped line)
-
-drop_past : (n : ℕ) (line : Line) (lines : List Line) → drop (1 + n + 1) (line ∷ lines) ≡ drop (n + 1) lines
-drop_past n line lines = let shifted : 1 + n + 1 ≡ suc (n + 1) = omega arith in rw shifted refl
 
 pub skipped_first : (line : Line) (all more : List Line) → all ≡ line ∷ more → is_skipped line ≡ true → (find is_header all ≡ find is_header more) × (after_first is_header all ≡ after_first is_header more)
 skipped_first line all more e skipped = (

@@ -1,12 +1,11 @@
 -- What is drawn of a text's items is the pattern that it reads as, or its first fault.
-use Rattle.std.proofs.Common.{ℕ, ◌+◌, ◌*◌, ◌^◌, ◌<◌, ◌≤◌, ◌≡◌, ◌⊎◌, inl, inr, refl, sym, ap, ap₂, ◌∙◌, subst, Bool, true, false, true≢false, List, [], ◌∷◌, length, arith}
-use Rattle.std.specs.Prelude.{Some, None, codes, slice_get}
+use Rattle.std.proofs.Common.{ℕ, ◌+◌, ◌*◌, ◌^◌, ◌<◌, ◌≤◌, ◌≡◌, ◌⊎◌, inl, inr, refl, sym, ap, ap₂, ◌∙◌, subst, true, false, true≢false, List, [], length, arith}
+use Rattle.std.specs.Prelude.{Some, None, slice_get}
 use Rattle.std.proofs.lemmas.Option.{none-some}
 use denote.Ref.{Bor}
 use Rattle.pattern_reading.specs.declared.faults.RleFaultKind.{RleFaultKind}
 use Rattle.pattern_reading.specs.declared.faults.RleFaultKind.TheVariants.{NoHeader, BadHeader, OtherRule, BadItem, CellOutside, NoEnd, GridTooLarge}
 use Rattle.pattern_reading.specs.Lines.{Line, lines_from, with_line_feeds}
-use Rattle.pattern_reading.specs.Numbers.{after_word}
 use Rattle.pattern_reading.specs.Header.{Header, header_in, header_line, is_wireworld, lines_after_header}
 use Rattle.pattern_reading.specs.Items.{items_of_lines}
 use Rattle.pattern_reading.specs.Pattern.{HasBox, HasRleFault, IsGridTooLarge, ReadsAsPattern, RleFaultAt, has_end, item_faults, items_after_header, most_cells}
@@ -19,24 +18,23 @@ use Rattle.rle_read.specs.Answers.{IsHeaderAt, IsHeaderFault, HasReadReason}
 use Rattle.rle_read.specs.Drawn.{Drawn, Fault, Ended, Open, blank_drawing, drawn_with, rle_fault_of}
 use Rattle.rle_read.proofs.DrawnText.{IsSaid, blank_drawn, said}
 use Rattle.pattern_reading.proofs.Counted.{lines_counted}
-
-some_same : {A : Type 0} (a b : A) → Some a ≡ Some b → a ≡ b
-some_same a b e = cc
+use Rattle.std.proofs.lemmas.Option.{same_Some}
+use Rattle.pattern_reading.proofs.RleVerdict.{first_fault, no_form}
 
 -- a text has one header
 module _ (text : List ℕ) (width height : ℕ) (box : HasBox text width height) where
   box_line : (line : Line) → header_line text ≡ Some line → box.line ≡ line
-  box_line line e = some_same _ _ (sym box.first ∙ e)
+  box_line line e = same_Some _ _ (sym box.first ∙ e)
 
   box_form : (line : Line) → header_line text ≡ Some line → header_in line.bytes ≡ Some box.header
   box_form line e = ap (λ l. header_in l.bytes) (sym (box_line line e)) ∙ box.form
 
   box_header : (line : Line) (header : Header) → header_line text ≡ Some line → header_in line.bytes ≡ Some header → box.header ≡ header
-  box_header line header e form = some_same _ _ (sym (box_form line e) ∙ form)
+  box_header line header e form = same_Some _ _ (sym (box_form line e) ∙ form)
 
   pub not_too_large : width * height ≤ most_cells → IsGridTooLarge text → ⊥
   not_too_large small large =
-      let same : large.2.0.header ≡ box.header = some_same _ _ (sym large.2.0.form ∙ box_form large.2.0.line large.2.0.first) in
+      let same : large.2.0.header ≡ box.header = same_Some _ _ (sym large.2.0.form ∙ box_form large.2.0.line large.2.0.first) in
       let w : large.0 ≡ width = sym large.2.0.width_is ∙ ap (λ x. x.width) same ∙ box.width_is in
       let h : large.1 ≡ height = sym large.2.0.height_is ∙ ap (λ x. x.height) same ∙ box.height_is in
       let area : large.0 * large.1 ≡ width * height = ap₂ (λ a b. a * b) w h in
@@ -45,10 +43,6 @@ module _ (text : List ℕ) (width height : ℕ) (box : HasBox text width height)
   verdict : rle_verdict text ≡ items_verdict text (item_faults text width height) (has_end text)
   verdict = rw (box.first, box.form, box.rule, box.width_is, box.height_is) refl
 
-first_fault : (text : List ℕ) (faults : List RleFaultAt) (fault : RleFaultAt) (ends : Bool) → slice_get faults 0 ≡ Some fault → items_verdict text faults ends ≡ Some fault
-first_fault text [] fault ends e = absurd (none-some _ e)
-first_fault text (first ∷ faults) fault ends e = e
-
 item_fault_is : (text : List ℕ) (width height : ℕ) → HasBox text width height → (fault : RleFaultAt) → slice_get (item_faults text width height) 0 ≡ Some fault → HasRleFault text fault.kind fault.line
 item_fault_is text width height box fault e =
     subst (IsJudged text) (verdict text width height box ∙ first_fault text (item_faults text width height) fault (has_end text) e) (rle_judged text)
@@ -56,9 +50,6 @@ item_fault_is text width height box fault e =
 -- a header without fault is a box
 pub header_box : (text : List ℕ) (line : Line) (header : Header) → header_line text ≡ Some line → header_in line.bytes ≡ Some header → is_wireworld header.rule ≡ true → HasBox text header.width header.height
 header_box text line header e form rule = record { line = line; first = e; header = header; form = form; width_is = refl; height_is = refl; rule = rule }
-
-no_form : (bytes : List ℕ) → after_word (codes "x") bytes ≡ None → header_in bytes ≡ None
-no_form bytes e = rw e refl
 
 -- and one at fault is none
 no_box : (text : List ℕ) (line : Line) → header_line text ≡ Some line → header_in line.bytes ≡ None → IsGridTooLarge text → ⊥

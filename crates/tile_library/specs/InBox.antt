@@ -3,7 +3,7 @@ use Rattle.std.proofs.Common.{ℤ, pos, negsuc, ℕ, zero, suc, ◌*◌, ◌<◌
 use Rattle.std.proofs.lemmas.Bool.{and_parts, and_from, true≢false, cases_lt, lt-ltb, leb-true}
 use Rattle.std.proofs.lemmas.List.{get_or_past}
 use Rattle.tile_core.specs.Interface.{Interface, is_in_box}
-use Rattle.tile_library.specs.Drawings.{drawn}
+use Rattle.tile_library.specs.Drawings.{drawn_rows}
 
 -- each row is at most n long
 abbrev pub is_narrow : ℕ → List (List ℕ) → Bool
@@ -19,7 +19,7 @@ is_narrow-says n (row ∷ rows) (suc y) t = is_narrow-says n rows y (and_parts (
 abbrev pub fits_box : Interface → List (List ℕ) → Bool
 fits_box tile rows = leb (length rows) (16 * tile.lanes) && is_narrow 32 rows
 
-drawn_within : (rows : List (List ℕ)) (m x y : ℕ) → length rows ≤ m → is_narrow 32 rows ≡ true → drawn rows (pos x) (pos y) ≡ true → (x < 32) × (y < m)
+drawn_within : (rows : List (List ℕ)) (m x y : ℕ) → length rows ≤ m → is_narrow 32 rows ≡ true → drawn_rows rows (pos x) (pos y) ≡ true → (x < 32) × (y < m)
 drawn_within rows m x y h t e = (
   elim (cases_lt x 32) [
     | inl lt ↦ lt
@@ -32,7 +32,7 @@ drawn_within rows m x y h t e = (
 )
 
 -- what they draw lies in the box
-pub drawn_in_box : (tile : Interface) (rows : List (List ℕ)) → fits_box tile rows ≡ true → (x y : ℤ) → drawn rows x y ≡ true → is_in_box tile x y ≡ true
+pub drawn_in_box : (tile : Interface) (rows : List (List ℕ)) → fits_box tile rows ≡ true → (x y : ℤ) → drawn_rows rows x y ≡ true → is_in_box tile x y ≡ true
 drawn_in_box tile rows fits (pos x) (pos y) e =
     let parts = and_parts _ _ fits in
     let w = drawn_within rows (16 * tile.lanes) x y (leb-true _ _ parts.0) parts.1 e in

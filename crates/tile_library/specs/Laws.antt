@@ -8,11 +8,11 @@ use Rattle.tile_core.specs.Interface.{Interface, IsInterface, AreSidePorts, side
 use Rattle.tile_core.specs.Kinds.{interface, one, west_side, east_side, north_side, south_side, west_sides, east_sides}
 use Rattle.tile_core.specs.TimingLaw.{KeepsTime, MeetsTimingLaw}
 use Rattle.tile_timing.proofs.Traces.{law_test, keeps_time}
-use Rattle.tile_timing.specs.Mirror.{mirrored}
+use Rattle.tile_timing.specs.Mirror.{mirrored_drawing}
 use Rattle.tile_timing.proofs.Mirrors.{law_mirrored}
 use Rattle.tile_timing.proofs.PortTests.{ports_test, has_ports}
 use Rattle.tile_library.specs.declared.drawings.TheConstants.{SWAP}
-use Rattle.tile_library.specs.Drawings.{drawn}
+use Rattle.tile_library.specs.Drawings.{drawn_rows}
 use Rattle.tile_library.specs.InBox.{fits_box, drawn_in_box}
 
 pair_form : (kind : Kind) → (interface kind).lanes ≡ 2 → length (interface kind).entries ≡ 2 → length (interface kind).exits ≡ 2 → ((a b : Bool) → length ((interface kind).answer a b) ≡ 2) → AreSidePorts (interface kind).lanes (interface kind).entries → AreSidePorts (interface kind).lanes (interface kind).exits → IsInterface (interface kind)
@@ -71,14 +71,14 @@ has_form WestSwap = pair_form WestSwap refl refl refl (λ a b. refl) easts wests
 -- what computes for rows of text that keep the law: a run of 32 generations for each choice of entries, and the ports
 abbrev pub passes : Interface → List (List ℕ) → Bool
 passes tile rows =
-    law_test (drawn rows) tile false false
-    && law_test (drawn rows) tile false true
-    && law_test (drawn rows) tile true false
-    && law_test (drawn rows) tile true true
+    law_test (drawn_rows rows) tile false false
+    && law_test (drawn_rows rows) tile false true
+    && law_test (drawn_rows rows) tile true false
+    && law_test (drawn_rows rows) tile true true
     && fits_box tile rows
-    && ports_test tile (drawn rows)
+    && ports_test tile (drawn_rows rows)
 
-pub meets_law : (tile : Interface) (rows : List (List ℕ)) → passes tile rows ≡ true → MeetsTimingLaw tile (drawn rows)
+pub meets_law : (tile : Interface) (rows : List (List ℕ)) → passes tile rows ≡ true → MeetsTimingLaw tile (drawn_rows rows)
 meets_law tile rows t =
     let p1 = and_parts _ _ t in
     let p2 = and_parts _ _ p1.0 in
@@ -87,16 +87,16 @@ meets_law tile rows t =
     let p5 = and_parts _ _ p4.0 in
     record {
       keeps_time = choices p5.0 p5.1 p4.1 p3.1;
-      has_ports = has_ports tile (drawn rows) (drawn_in_box tile rows p2.1) p1.1;
+      has_ports = has_ports tile (drawn_rows rows) (drawn_in_box tile rows p2.1) p1.1;
     }
   where
-    choices : law_test (drawn rows) tile false false ≡ true → law_test (drawn rows) tile false true ≡ true → law_test (drawn rows) tile true false ≡ true → law_test (drawn rows) tile true true ≡ true → (a b : Bool) → KeepsTime tile (drawn rows) a b
-    choices dark lower upper both false false = keeps_time (drawn rows) tile false false dark
-    choices dark lower upper both false true = keeps_time (drawn rows) tile false true lower
-    choices dark lower upper both true false = keeps_time (drawn rows) tile true false upper
-    choices dark lower upper both true true = keeps_time (drawn rows) tile true true both
+    choices : law_test (drawn_rows rows) tile false false ≡ true → law_test (drawn_rows rows) tile false true ≡ true → law_test (drawn_rows rows) tile true false ≡ true → law_test (drawn_rows rows) tile true true ≡ true → (a b : Bool) → KeepsTime tile (drawn_rows rows) a b
+    choices dark lower upper both false false = keeps_time (drawn_rows rows) tile false false dark
+    choices dark lower upper both false true = keeps_time (drawn_rows rows) tile false true lower
+    choices dark lower upper both true false = keeps_time (drawn_rows rows) tile true false upper
+    choices dark lower upper both true true = keeps_time (drawn_rows rows) tile true true both
 
 -- the West Swap by the law of Swap
-pub west_swap_meets : passes (interface Swap) SWAP ≡ true → MeetsTimingLaw (interface WestSwap) (mirrored (drawn SWAP))
+pub west_swap_meets : passes (interface Swap) SWAP ≡ true → MeetsTimingLaw (interface WestSwap) (mirrored_drawing (drawn_rows SWAP))
 west_swap_meets t =
-    law_mirrored (interface Swap) (interface WestSwap) (drawn SWAP) (record { lanes = refl; entries = refl; exits = refl; answer = λ a b. refl }) (meets_law (interface Swap) SWAP t)
+    law_mirrored (interface Swap) (interface WestSwap) (drawn_rows SWAP) (record { lanes = refl; entries = refl; exits = refl; answer = λ a b. refl }) (meets_law (interface Swap) SWAP t)

@@ -1,5 +1,5 @@
 // The library of the shipped drawings.
-ghost use Rattle.tile_library.specs.Drawings.{drawing_of};
+ghost use Rattle.tile_library.specs.Drawings.{shipped_drawing};
 
 use crate::tiles;
 use tile_core::{Kind, Library, Tile};
@@ -15,7 +15,7 @@ impl Library for Shipped {
     ghost use Rattle.tile_library.specs.declared.drawings.TheConstants.{AND_NOT, EAST, EAST_SOUTH, FORK, NORTH_EAST, OR, SOUTH, SOUTH_WEST, SWAP, WEST_NORTH, XOR};
     ghost use Rattle.tile_library.specs.Laws.{meets_law, west_swap_meets};
 
-    ghost drawing = { λ library kind. drawing_of kind };
+    ghost drawing = { λ library kind. shipped_drawing kind };
 
     fn cell(&self, kind: Kind, x: u32, y: u32) -> bool {
         match kind {

@@ -1,7 +1,7 @@
 // A tile for each kind.
 ghost use Rattle.std.specs.Prelude.{refl};
 ghost use Rattle.tile_core.specs.Kinds.{entries, exits, answer, interface};
-ghost use Rattle.tile_library.specs.Drawings.{drawing_of};
+ghost use Rattle.tile_library.specs.Drawings.{shipped_drawing};
 ghost use Rattle.tile_library.specs.declared.drawings.TheConstants.{AND_NOT, EAST, EAST_SOUTH, FORK, NORTH_EAST, OR, SOUTH, SOUTH_WEST, SWAP, WEST_NORTH, XOR};
 
 use crate::drawings::{
@@ -30,7 +30,7 @@ impl Tile for Swap {
 
     ghost EXITS = { exits Swap };
 
-    ghost drawing = { drawing_of Swap };
+    ghost drawing = { shipped_drawing Swap };
 
     ghost answers = { answer Swap };
 
@@ -67,7 +67,7 @@ impl Tile for Xor {
 
     ghost EXITS = { exits Xor };
 
-    ghost drawing = { drawing_of Xor };
+    ghost drawing = { shipped_drawing Xor };
 
     ghost answers = { answer Xor };
 
@@ -104,7 +104,7 @@ impl Tile for Or {
 
     ghost EXITS = { exits Or };
 
-    ghost drawing = { drawing_of Or };
+    ghost drawing = { shipped_drawing Or };
 
     ghost answers = { answer Or };
 
@@ -141,7 +141,7 @@ impl Tile for AndNot {
 
     ghost EXITS = { exits AndNot };
 
-    ghost drawing = { drawing_of AndNot };
+    ghost drawing = { shipped_drawing AndNot };
 
     ghost answers = { answer AndNot };
 
@@ -178,7 +178,7 @@ impl Tile for Fork {
 
     ghost EXITS = { exits Fork };
 
-    ghost drawing = { drawing_of Fork };
+    ghost drawing = { shipped_drawing Fork };
 
     ghost answers = { answer Fork };
 
@@ -215,7 +215,7 @@ impl Tile for East {
 
     ghost EXITS = { exits East };
 
-    ghost drawing = { drawing_of East };
+    ghost drawing = { shipped_drawing East };
 
     ghost answers = { answer East };
 
@@ -252,7 +252,7 @@ impl Tile for South {
 
     ghost EXITS = { exits South };
 
-    ghost drawing = { drawing_of South };
+    ghost drawing = { shipped_drawing South };
 
     ghost answers = { answer South };
 
@@ -289,7 +289,7 @@ impl Tile for North {
 
     ghost EXITS = { exits North };
 
-    ghost drawing = { drawing_of North };
+    ghost drawing = { shipped_drawing North };
 
     ghost answers = { answer North };
 
@@ -326,7 +326,7 @@ impl Tile for EastSouth {
 
     ghost EXITS = { exits EastSouth };
 
-    ghost drawing = { drawing_of EastSouth };
+    ghost drawing = { shipped_drawing EastSouth };
 
     ghost answers = { answer EastSouth };
 
@@ -363,7 +363,7 @@ impl Tile for SouthWest {
 
     ghost EXITS = { exits SouthWest };
 
-    ghost drawing = { drawing_of SouthWest };
+    ghost drawing = { shipped_drawing SouthWest };
 
     ghost answers = { answer SouthWest };
 
@@ -400,7 +400,7 @@ impl Tile for WestNorth {
 
     ghost EXITS = { exits WestNorth };
 
-    ghost drawing = { drawing_of WestNorth };
+    ghost drawing = { shipped_drawing WestNorth };
 
     ghost answers = { answer WestNorth };
 
@@ -437,7 +437,7 @@ impl Tile for NorthEast {
 
     ghost EXITS = { exits NorthEast };
 
-    ghost drawing = { drawing_of NorthEast };
+    ghost drawing = { shipped_drawing NorthEast };
 
     ghost answers = { answer NorthEast };
 
@@ -474,7 +474,7 @@ impl Tile for West {
 
     ghost EXITS = { exits West };
 
-    ghost drawing = { drawing_of West };
+    ghost drawing = { shipped_drawing West };
 
     ghost answers = { answer West };
 
@@ -511,7 +511,7 @@ impl Tile for WestSwap {
 
     ghost EXITS = { exits WestSwap };
 
-    ghost drawing = { drawing_of WestSwap };
+    ghost drawing = { shipped_drawing WestSwap };
 
     ghost answers = { answer WestSwap };
 

@@ -13,7 +13,7 @@ use Rattle.ww_rule.proofs.Moves.{evolve_mirrored}
 use Rattle.tile_core.specs.Drawing.{Cell, is_among, Drawing, picture}
 use Rattle.tile_core.specs.Interface.{Interface, chosen, entry_cells, exit_cells, lit_entries, lit_exits, is_in_box, is_on_border}
 use Rattle.tile_core.specs.TimingLaw.{started, KeepsTime, HasPorts, MeetsTimingLaw}
-use Rattle.tile_timing.specs.Mirror.{mirrored, mirrored_cell, IsMirrorOf}
+use Rattle.tile_timing.specs.Mirror.{mirrored_drawing, mirrored_cell, IsMirrorOf}
 
 back : (x : ℤ) → pos 31 -ℤ (pos 31 -ℤ x) ≡ x
 back x = omega (arith, ints)
@@ -34,22 +34,22 @@ chosen_mirrored (c ∷ cs) [] = refl
 chosen_mirrored (c ∷ cs) (false ∷ bits) = chosen_mirrored cs bits
 chosen_mirrored (c ∷ cs) (true ∷ bits) = ap (λ ds. mirrored_cell c ∷ ds) (chosen_mirrored cs bits)
 
-picture_mirrored : (drawing : Drawing) (hs ts : List Cell) → picture (mirrored drawing) (map mirrored_cell hs) (map mirrored_cell ts) ≡ mirrored_plane (pos 31) (picture drawing hs ts)
+picture_mirrored : (drawing : Drawing) (hs ts : List Cell) → picture (mirrored_drawing drawing) (map mirrored_cell hs) (map mirrored_cell ts) ≡ mirrored_plane (pos 31) (picture drawing hs ts)
 picture_mirrored drawing hs ts =
     fun_ext (λ x. fun_ext (λ y. ap₂ (λ h t. cond (drawing (pos 31 -ℤ x) y) (cond h Head (cond t Tail Conductor)) Empty) (among_mirrored x y hs) (among_mirrored x y ts)))
 
 lit_mirrored : (tile mirror : Interface) (m : IsMirrorOf tile mirror) (a b : Bool) → lit_exits mirror a b ≡ map mirrored_cell (lit_exits tile a b)
 lit_mirrored tile mirror m a b = ap₂ chosen m.exits (m.answer a b) ∙ chosen_mirrored (exit_cells tile) (tile.answer a b)
 
-run_mirrored : (tile mirror : Interface) (m : IsMirrorOf tile mirror) (drawing : Drawing) (a b : Bool) (n : ℕ) (x y : ℤ) → evolve n (started mirror (mirrored drawing) a b) x y ≡ evolve n (started tile drawing a b) (pos 31 -ℤ x) y
+run_mirrored : (tile mirror : Interface) (m : IsMirrorOf tile mirror) (drawing : Drawing) (a b : Bool) (n : ℕ) (x y : ℤ) → evolve n (started mirror (mirrored_drawing drawing) a b) x y ≡ evolve n (started tile drawing a b) (pos 31 -ℤ x) y
 run_mirrored tile mirror m drawing a b n x y =
     let bits = a ∷ b ∷ [] in
-    ap (λ p. p x y) (ap (evolve n) (ap (λ hs. picture (mirrored drawing) hs []) (ap (λ cs. chosen cs bits) m.entries ∙ chosen_mirrored (entry_cells tile) bits) ∙ picture_mirrored drawing (lit_entries tile a b) []) ∙ evolve_mirrored (pos 31) n (started tile drawing a b))
+    ap (λ p. p x y) (ap (evolve n) (ap (λ hs. picture (mirrored_drawing drawing) hs []) (ap (λ cs. chosen cs bits) m.entries ∙ chosen_mirrored (entry_cells tile) bits) ∙ picture_mirrored drawing (lit_entries tile a b) []) ∙ evolve_mirrored (pos 31) n (started tile drawing a b))
 
 port_mirrored : (x y : ℤ) (cells mirror : List Cell) → mirror ≡ map mirrored_cell cells → is_among x y mirror ≡ is_among (pos 31 -ℤ x) y cells
 port_mirrored x y cells mirror e = ap (is_among x y) e ∙ among_mirrored x y cells
 
-keeps_time_mirrored : (tile mirror : Interface) (m : IsMirrorOf tile mirror) (drawing : Drawing) (a b : Bool) → KeepsTime tile drawing a b → KeepsTime mirror (mirrored drawing) a b
+keeps_time_mirrored : (tile mirror : Interface) (m : IsMirrorOf tile mirror) (drawing : Drawing) (a b : Bool) → KeepsTime tile drawing a b → KeepsTime mirror (mirrored_drawing drawing) a b
 keeps_time_mirrored tile mirror m drawing a b law =
     let run = run_mirrored tile mirror m drawing a b in
     let entry = λ (x y : ℤ). port_mirrored x y (entry_cells tile) (entry_cells mirror) m.entries in
@@ -133,7 +133,7 @@ border_of_lanes tile mirror (pos x) (pos y) e h =
 border_of_lanes tile mirror (pos x) (negsuc y) e h = absurd (true≢false (sym h))
 border_of_lanes tile mirror (negsuc x) y e h = absurd (true≢false (sym h))
 
-has_ports_mirrored : (tile mirror : Interface) (m : IsMirrorOf tile mirror) (drawing : Drawing) → HasPorts tile drawing → HasPorts mirror (mirrored drawing)
+has_ports_mirrored : (tile mirror : Interface) (m : IsMirrorOf tile mirror) (drawing : Drawing) → HasPorts tile drawing → HasPorts mirror (mirrored_drawing drawing)
 has_ports_mirrored tile mirror m drawing ports =
     record {
       in_box = λ x y e. box_of_lanes tile mirror x y m.lanes (ap (λ u. is_in_box tile u y) (sym (back x)) ∙ box_mirrored tile (pos 31 -ℤ x) y (ports.in_box (pos 31 -ℤ x) y e));
@@ -143,7 +143,7 @@ has_ports_mirrored tile mirror m drawing ports =
     }
 
 -- a mirrored drawing keeps the law of the mirrored tile
-pub law_mirrored : (tile mirror : Interface) (drawing : Drawing) → IsMirrorOf tile mirror → MeetsTimingLaw tile drawing → MeetsTimingLaw mirror (mirrored drawing)
+pub law_mirrored : (tile mirror : Interface) (drawing : Drawing) → IsMirrorOf tile mirror → MeetsTimingLaw tile drawing → MeetsTimingLaw mirror (mirrored_drawing drawing)
 law_mirrored tile mirror drawing m law =
     record {
       keeps_time = λ a b. keeps_time_mirrored tile mirror m drawing a b (law.keeps_time a b);

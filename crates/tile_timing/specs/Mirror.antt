@@ -4,8 +4,8 @@ use Rattle.tile_core.specs.Drawing.{Cell, Drawing}
 use Rattle.tile_core.specs.Interface.{Interface, entry_cells, exit_cells}
 
 -- the columns x and 31 - x change places
-abbrev pub mirrored : Drawing → Drawing
-mirrored drawing x y = drawing (pos 31 -ℤ x) y
+abbrev pub mirrored_drawing : Drawing → Drawing
+mirrored_drawing drawing x y = drawing (pos 31 -ℤ x) y
 
 abbrev pub mirrored_cell : Cell → Cell
 mirrored_cell c = record { x = pos 31 -ℤ c.x; y = c.y }

@@ -10,23 +10,23 @@ use Rattle.ww_rule.proofs.Boxes.{evolve_empty}
 use Rattle.tile_core.specs.declared.kind.Kind.{Kind}
 use Rattle.tile_core.specs.Drawing.{Cell, Drawing, picture, is_among}
 use Rattle.tile_core.specs.TimingLaw.{started, MeetsTimingLaw}
-use Rattle.tiling.specs.Tiling.{Piece, interface_of, drawing_of, Tiling, Lit, is_entry_lit}
+use Rattle.tiling.specs.Tiling.{Piece, interface_of, piece_drawing, Tiling, Lit, is_entry_lit}
 use Rattle.tiling.proofs.Region.{Placed, face, tile_at, InBox, in_box_test}
 
 -- every piece keeps the timing law
 abbrev pub Laws : (Kind → Drawing) → Type 0
-Laws library = (p : Piece) → MeetsTimingLaw (interface_of p) (drawing_of library p)
+Laws library = (p : Piece) → MeetsTimingLaw (interface_of p) (piece_drawing library p)
 
 -- the drawing of a placed piece, at a cell of the plane
 abbrev pub wires : (Kind → Drawing) → Placed → ℤ → ℤ → Bool
-wires library t u v = drawing_of library t.piece (u -ℤ pos (32 * t.column)) (v -ℤ pos (16 * t.lane))
+wires library t u v = piece_drawing library t.piece (u -ℤ pos (32 * t.column)) (v -ℤ pos (16 * t.lane))
 
 abbrev pub bit : Lit → Placed → ℕ → Bool
 bit lit t n = is_entry_lit lit t.column t.lane (face t) n
 
 -- the piece alone in its own box, with its lit entries as heads
 abbrev pub begun : (Kind → Drawing) → Lit → Placed → Plane
-begun library lit t = started (face t) (drawing_of library t.piece) (bit lit t 0) (bit lit t 1)
+begun library lit t = started (face t) (piece_drawing library t.piece) (bit lit t 0) (bit lit t 1)
 
 -- and where it stands
 abbrev pub alone : (Kind → Drawing) → Lit → Option Placed → Plane
@@ -47,7 +47,7 @@ picture_undrawn drawing hs ts x y e =
 pub undrawn : (library : Kind → Drawing) (lit : Lit) (t : Placed) (g : ℕ) (u v : ℤ) → wires library t u v ≡ false → evolve g (alone library lit (Some t)) u v ≡ Empty
 undrawn library lit t g u v e =
     alone_at library lit t g u v
-    ∙ evolve_empty g (begun library lit t) (u -ℤ pos (32 * t.column)) (v -ℤ pos (16 * t.lane)) (picture_undrawn (drawing_of library t.piece) _ [] _ _ e)
+    ∙ evolve_empty g (begun library lit t) (u -ℤ pos (32 * t.column)) (v -ℤ pos (16 * t.lane)) (picture_undrawn (piece_drawing library t.piece) _ [] _ _ e)
 
 -- the plane in which each cell is that of its own piece, alone, after g generations
 abbrev pub glue : (Kind → Drawing) → Tiling → Lit → ℕ → Plane

@@ -9,7 +9,7 @@ use Rattle.ww_rule.specs.Wireworld.{Plane, Due, next_plane, evolve, injected, dr
 use Rattle.tile_core.specs.declared.kind.Kind.{Kind}
 use Rattle.tile_core.specs.Drawing.{Drawing, is_among}
 use Rattle.tile_core.specs.Interface.{entry_cells, exit_cells}
-use Rattle.tiling.specs.Tiling.{Tiling, Lit, drawn, drawing_of, edge_of}
+use Rattle.tiling.specs.Tiling.{Tiling, Lit, drawn, piece_drawing, edge_of}
 use Rattle.tiling.specs.Tiling.Edge.{Beside}
 use Rattle.tiling.specs.Matched.{IsMatched, is_entered, is_left}
 use Rattle.tiling.specs.MacroStep.{macro_step}
@@ -107,7 +107,7 @@ injected_drawn library laws tiling m due d g lit = fun_ext (λ x. fun_ext (λ y.
         let b = (belongs tiling m.pieces t (pos X) (pos Y) e).inside in
         let here = at_local tiling t (pos X) (pos Y) b in
         let entry = entry_of t X Y e b f in
-        let wired : wires library t (pos X) (pos Y) ≡ true = ap₂ (drawing_of library t.piece) here.0 here.1 ∙ (laws t.piece).has_ports.has_entries (pos b.x) (pos b.y) entry in
+        let wired : wires library t (pos X) (pos Y) ≡ true = ap₂ (piece_drawing library t.piece) here.0 here.1 ∙ (laws t.piece).has_ports.has_entries (pos b.x) (pos b.y) entry in
         let w = west_cell tiling due d g X Y f in
         let q : X / 32 ≡ w.q = omega (arith, w.x_is) in
         let l : Y / 16 ≡ w.l = omega (arith, w.y_is) in
@@ -166,7 +166,7 @@ free_entry library laws tiling m due d g lit X Y f dark = go (tile_at tiling (po
         let b = (belongs tiling m.pieces t (pos X) (pos Y) e).inside in
         let here = at_local tiling t (pos X) (pos Y) b in
         let entry : is_among (pos b.x) (pos b.y) (entry_cells (face t)) ≡ true = sym (entered_is tiling m.pieces t X Y e b) ∙ (west_cell tiling due d g X Y f).entered in
-        let wired : wires library t (pos X) (pos Y) ≡ true = ap₂ (drawing_of library t.piece) here.0 here.1 ∙ (laws t.piece).has_ports.has_entries (pos b.x) (pos b.y) entry in
+        let wired : wires library t (pos X) (pos Y) ≡ true = ap₂ (piece_drawing library t.piece) here.0 here.1 ∙ (laws t.piece).has_ports.has_entries (pos b.x) (pos b.y) entry in
         let off : place_lit lit t b.x b.y ≡ false = ap lit (port_edge tiling t X Y b (entry_side t.piece b.x b.y entry)) ∙ dark in
         drawn_cell library tiling m.pieces lit t (pos X) (pos Y) e b wired
         ∙ ap₂ (λ h k. cond h Head (cond k Tail Conductor)) (and_right _ _ off) (and_right _ _ off)

@@ -11,7 +11,7 @@ use Rattle.ww_rule.proofs.Cells.{next_plane_counts, next_plane_empty}
 use Rattle.tile_core.specs.declared.kind.Kind.{Kind}
 use Rattle.tile_core.specs.Drawing.{Drawing, picture, is_among}
 use Rattle.tile_core.specs.Interface.{entry_cells, exit_cells}
-use Rattle.tiling.specs.Tiling.{Tiling, Lit, drawing_of, drawn, heads_of, tails_of, edge_of}
+use Rattle.tiling.specs.Tiling.{Tiling, Lit, piece_drawing, drawn, heads_of, tails_of, edge_of}
 use Rattle.tiling.specs.Matched.{HasWholePieces, IsMatched}
 use Rattle.tiling.proofs.Region.{Placed, face, tile_at, InBox, belongs}
 use Rattle.tiling.proofs.Alone.{Laws, wires, alone, alone_at, bit, glue, undrawn, nothing_stays, picture_undrawn}
@@ -41,7 +41,7 @@ drawn_counts library tiling h lit u v = go (tile_at tiling u v) refl
     go (Some t) e =
         let b = (belongs tiling h t u v e).inside in
         let at = at_local tiling t u v b in
-        let D = drawing_of library t.piece in
+        let D = piece_drawing library t.piece in
         let hs = heads_of lit t.column t.lane (face t) in
         let ts = tails_of lit t.column t.lane (face t) in
         ap count_head (drawn_some library tiling h lit t u v e b)
@@ -121,7 +121,7 @@ pub drawn_cell : (library : Kind → Drawing) (tiling : Tiling) → HasWholePiec
     → drawn library tiling lit x y ≡ cond (is_among (pos b.x) (pos b.y) (entry_cells (face t)) && place_lit lit t b.x b.y) Head (cond (is_among (pos b.x) (pos b.y) (exit_cells (face t)) && place_lit lit t b.x b.y) Tail Conductor)
 drawn_cell library tiling h lit t x y e b w =
     let at = at_local tiling t x y b in
-    let D = drawing_of library t.piece in
+    let D = piece_drawing library t.piece in
     let wired : D (pos b.x) (pos b.y) ≡ true = ap₂ D (sym at.0) (sym at.1) ∙ w in
     drawn_some library tiling h lit t x y e b
     ∙ ap (λ v. cond v (cond (is_among (pos b.x) (pos b.y) (heads_of lit t.column t.lane (face t))) Head (cond (is_among (pos b.x) (pos b.y) (tails_of lit t.column t.lane (face t))) Tail Conductor)) Empty) wired
@@ -130,7 +130,7 @@ drawn_cell library tiling h lit t x y e b w =
 pub undrawn_cell : (library : Kind → Drawing) (tiling : Tiling) → HasWholePieces tiling → (lit : Lit) (t : Placed) (x y : ℤ) → tile_at tiling x y ≡ Some t → (b : InBox tiling t x y) → wires library t x y ≡ false → drawn library tiling lit x y ≡ Empty
 undrawn_cell library tiling h lit t x y e b w =
     let at = at_local tiling t x y b in
-    let D = drawing_of library t.piece in
+    let D = piece_drawing library t.piece in
     drawn_some library tiling h lit t x y e b
     ∙ picture_undrawn D (heads_of lit t.column t.lane (face t)) (tails_of lit t.column t.lane (face t)) (pos b.x) (pos b.y) (ap₂ D (sym at.0) (sym at.1) ∙ w)
 
@@ -163,7 +163,7 @@ first_step library laws tiling m lit = fun_ext (λ x. fun_ext (λ y. at x y (til
     other : (x y : ℤ) (t : Placed) → tile_at tiling x y ≡ Some t → (b : InBox tiling t x y) → wires library t x y ≡ true → (is_among (pos b.x) (pos b.y) (exit_cells (face t)) && place_lit lit t b.x b.y) ≡ false → next_plane P x y ≡ evolve 1 (alone library lit (Some t)) x y
     other x y t e b w dark =
         let here = at_local tiling t x y b in
-        let D = drawing_of library t.piece in
+        let D = piece_drawing library t.piece in
         let hs = heads_of lit t.column t.lane (face t) in
         let same : P x y ≡ alone library lit (Some t) x y =
         drawn_cell library tiling m.pieces lit t x y e b w

@@ -9,7 +9,7 @@ use Rattle.tile_core.specs.declared.kind.Kind.{Kind}
 use Rattle.tile_core.specs.Drawing.{Cell, Drawing, picture}
 use Rattle.tile_core.specs.Interface.{chosen, entry_cells}
 use Rattle.tile_timing.proofs.Sound.{step_picture}
-use Rattle.tiling.specs.Tiling.{Slot, Tiling, Lit, drawing_of, drawn}
+use Rattle.tiling.specs.Tiling.{Slot, Tiling, Lit, piece_drawing, drawn}
 use Rattle.tiling.specs.Tiling.Slot.{Nothing, Whole, Upper, Lower}
 use Rattle.tiling.specs.Matched.{IsMatched}
 use Rattle.tiling.specs.Steps.{KeepsLaw, after_steps, piece_is_lit, slot_is_lit, LiesInLitPieces, StepsByMacro}
@@ -33,9 +33,9 @@ rests drawing zero = refl
 rests drawing (suc g) = ap next_plane (rests drawing g) ∙ step_picture drawing [] []
 
 -- a piece without a lit entry stays at rest
-dark_rests : (library : Kind → Drawing) (lit : Lit) (t : Placed) (g : ℕ) (x y : ℤ) → bit lit t 0 ≡ false → bit lit t 1 ≡ false → evolve g (alone library lit (Some t)) x y ≡ picture (drawing_of library t.piece) [] [] (local_x t x) (local_y t y)
+dark_rests : (library : Kind → Drawing) (lit : Lit) (t : Placed) (g : ℕ) (x y : ℤ) → bit lit t 0 ≡ false → bit lit t 1 ≡ false → evolve g (alone library lit (Some t)) x y ≡ picture (piece_drawing library t.piece) [] [] (local_x t x) (local_y t y)
 dark_rests library lit t g x y a b =
-    let D = drawing_of library t.piece in
+    let D = piece_drawing library t.piece in
     let start : begun library lit t ≡ picture D [] [] = ap (λ hs. picture D hs []) (ap₂ (λ i j. chosen (entry_cells (face t)) (i ∷ j ∷ [])) a b ∙ none_chosen (entry_cells (face t))) in
     alone_at library lit t g x y ∙ ap (λ p. evolve g p (local_x t x) (local_y t y)) start ∙ ap (λ p. p (local_x t x) (local_y t y)) (rests D g)
 
@@ -50,7 +50,7 @@ lit_if library lit t g x y e true h = refl
 lit_if library lit t g x y e false h =
     let parts = or_parts (bit lit t 0) (bit lit t 1) h in
     let rest = dark_rests library lit t g x y parts.0 parts.1 in
-    absurd (no_electron (drawing_of library t.piece (local_x t x) (local_y t y)) (both rest e))
+    absurd (no_electron (piece_drawing library t.piece (local_x t x) (local_y t y)) (both rest e))
   where
     both : {s r : State} → s ≡ r → (s ≡ Head) ⊎ (s ≡ Tail) → (r ≡ Head) ⊎ (r ≡ Tail)
     both f (inl e) = inl (sym f ∙ e)

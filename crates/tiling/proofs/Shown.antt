@@ -7,7 +7,7 @@ use Rattle.ww_rule.specs.Wireworld.{evolve}
 use Rattle.tile_core.specs.declared.kind.Kind.{Kind}
 use Rattle.tile_core.specs.Drawing.{Drawing, is_among}
 use Rattle.tile_core.specs.Interface.{entry_cells, exit_cells}
-use Rattle.tiling.specs.Tiling.{Tiling, Lit, drawn, drawing_of}
+use Rattle.tiling.specs.Tiling.{Tiling, Lit, drawn, piece_drawing}
 use Rattle.tiling.specs.Tiling.Edge.{Beside}
 use Rattle.tiling.specs.Matched.{IsMatched, is_entered, is_left}
 use Rattle.tiling.specs.MacroStep.{slot_answers}
@@ -45,7 +45,7 @@ entry_at_start library laws tiling m lit X Y f = go (tile_at tiling (pos X) (pos
         let b = (belongs tiling m.pieces t (pos X) (pos Y) e).inside in
         let here = at_local tiling t (pos X) (pos Y) b in
         let entry : is_among (pos b.x) (pos b.y) (entry_cells (face t)) ≡ true = sym (entered_is tiling m.pieces t X Y e b) ∙ f in
-        let wired : wires library t (pos X) (pos Y) ≡ true = ap₂ (drawing_of library t.piece) here.0 here.1 ∙ (laws t.piece).has_ports.has_entries (pos b.x) (pos b.y) entry in
+        let wired : wires library t (pos X) (pos Y) ≡ true = ap₂ (piece_drawing library t.piece) here.0 here.1 ∙ (laws t.piece).has_ports.has_entries (pos b.x) (pos b.y) entry in
         let cell = drawn_cell library tiling m.pieces lit t (pos X) (pos Y) e b wired in
         let edge = ap lit (port_edge tiling t X Y b (entry_side t.piece b.x b.y entry)) in
         let both = lit_cell (is_among (pos b.x) (pos b.y) (entry_cells (face t))) (is_among (pos b.x) (pos b.y) (exit_cells (face t))) (place_lit lit t b.x b.y) entry in
@@ -60,7 +60,7 @@ exit_at_start library laws tiling m lit X Y f head = go (tile_at tiling (pos X) 
         let b = (belongs tiling m.pieces t (pos X) (pos Y) e).inside in
         let here = at_local tiling t (pos X) (pos Y) b in
         let exit : is_among (pos b.x) (pos b.y) (exit_cells (face t)) ≡ true = sym (left_is tiling m.pieces t X Y e b) ∙ f in
-        let wired : wires library t (pos X) (pos Y) ≡ true = ap₂ (drawing_of library t.piece) here.0 here.1 ∙ (laws t.piece).has_ports.has_exits (pos b.x) (pos b.y) exit in
+        let wired : wires library t (pos X) (pos Y) ≡ true = ap₂ (piece_drawing library t.piece) here.0 here.1 ∙ (laws t.piece).has_ports.has_exits (pos b.x) (pos b.y) exit in
         let no_entry : is_among (pos b.x) (pos b.y) (entry_cells (face t)) ≡ false = false_from_ne_true _ (λ h. true≢false (sym exit ∙ entry_no_exit t.piece b.x b.y h)) in
         exit_cell _ (is_among (pos b.x) (pos b.y) (exit_cells (face t))) (place_lit lit t b.x b.y) no_entry (sym (drawn_cell library tiling m.pieces lit t (pos X) (pos Y) e b wired) ∙ head)
 

@@ -24,9 +24,9 @@ abbrev pub interface_of : Piece → Interface
 interface_of (Tile kind) = interface kind
 interface_of Output = output_interface
 
-abbrev pub drawing_of : (Kind → Drawing) → Piece → Drawing
-drawing_of library (Tile kind) = library kind
-drawing_of library Output = output_drawing
+abbrev pub piece_drawing : (Kind → Drawing) → Piece → Drawing
+piece_drawing library (Tile kind) = library kind
+piece_drawing library Output = output_drawing
 
 -- what stands in a block: nothing, a piece of one lane, or the upper or the lower lane of a piece of two
 pub data Slot : Type 0 where
@@ -78,7 +78,7 @@ tails_of lit q l tile = chosen (exit_cells tile) (is_exit_lit lit q l tile 0 ∷
 -- a cell of a piece whose first block is (q, l), by its place in the piece's box
 abbrev pub drawn_piece : (Kind → Drawing) → Lit → ℕ → ℕ → Piece → ℕ → ℕ → State
 drawn_piece library lit q l piece x y =
-    picture (drawing_of library piece) (heads_of lit q l (interface_of piece)) (tails_of lit q l (interface_of piece)) (pos x) (pos y)
+    picture (piece_drawing library piece) (heads_of lit q l (interface_of piece)) (tails_of lit q l (interface_of piece)) (pos x) (pos y)
 
 -- a cell of the block (q, l), by its place in the block
 abbrev pub drawn_slot : (Kind → Drawing) → Lit → ℕ → ℕ → Slot → ℕ → ℕ → State

@@ -6,6 +6,7 @@ use Rattle.std.proofs.lemmas.Bool.Decides.{eqb_tells}
 use Rattle.ww_rule.specs.declared.pattern.State.{State}
 use Rattle.ww_rule.specs.declared.pattern.State.TheVariants.{Empty, Head, Tail, Conductor}
 use Rattle.pattern_writing.specs.Writer.{grid_tags, row_end, row_tags, tag_of, unless_last, without_end}
+use Rattle.std.proofs.lemmas.Bool.{ne_eqb, eq-eqb}
 
 -- what a tag stands for: the end of a row, or a cell
 pub data Mark : Type 0 where
@@ -35,22 +36,10 @@ abbrev pub look : List ℕ → ℕ → ℕ → ℕ → ℕ → State
 look [] cx cy x y = Empty
 look (t ∷ ts) cx cy x y = seen (mark_of t) cx cy x y (look ts 0 (cy + 1) x y) (look ts (cx + 1) cy x y)
 
-pub apart : (a b : ℕ) → a ≢ b → (a == b) ≡ false
-apart a b h = elim (eqb_tells a b) as (λ _. (a == b) ≡ false) [
-  | inl same ↦ absurd (h same.1)
-  | inr other ↦ other.0
-]
-
-pub alike : (a : ℕ) → (a == a) ≡ true
-alike a = elim (eqb_tells a a) as (λ _. (a == a) ≡ true) [
-  | inl same ↦ same.0
-  | inr other ↦ absurd (other.1 refl)
-]
-
 -- nothing is spelled in the rows before
 seen_above : (m : Mark) (cx cy x y : ℕ) (below on : State) → y < cy → below ≡ Empty → on ≡ Empty → seen m cx cy x y below on ≡ Empty
 seen_above RowEnd cx cy x y below on l e k = e
-seen_above (Of state) cx cy x y below on l e k = rw (apart cy y (λ h. omega (arith, l, h))) k
+seen_above (Of state) cx cy x y below on l e k = rw (ne_eqb cy y (λ h. omega (arith, l, h))) k
 
 pub look_above : (ts : List ℕ) (cx cy x y : ℕ) → y < cy → look ts cx cy x y ≡ Empty
 look_above [] cx cy x y l = refl
@@ -92,16 +81,16 @@ look_row_trimmed (t ∷ ts) rest cx cy x y =
 -- a row of cells, for the cells of other rows and for its own
 other_row : (row : List State) (rest : List ℕ) (cx cy x y : ℕ) → cy ≢ y → look (map tag_of row ++ (36 ∷ rest)) cx cy x y ≡ look rest 0 (cy + 1) x y
 other_row [] rest cx cy x y h = refl
-other_row (state ∷ row) rest cx cy x y h = rw (mark_of_cell state, apart cy y h) (other_row row rest (cx + 1) cy x y h)
+other_row (state ∷ row) rest cx cy x y h = rw (mark_of_cell state, ne_eqb cy y h) (other_row row rest (cx + 1) cy x y h)
 
 own_row : (row : List State) (rest : List ℕ) (cx cy k : ℕ) → look (map tag_of row ++ (36 ∷ rest)) cx cy (cx + k) cy ≡ get_or row k Empty
 own_row [] rest cx cy k = look_above rest 0 (cy + 1) (cx + k) cy (omega arith)
 own_row (state ∷ row) rest cx cy zero =
     let here : cx ≡ cx + 0 = omega arith in
-    rw (mark_of_cell state, alike cy, ← here, alike cx) refl
+    rw (mark_of_cell state, eq-eqb cy cy refl, ← here, eq-eqb cx cx refl) refl
 own_row (state ∷ row) rest cx cy (suc k) =
     let there : cx + suc k ≡ cx + 1 + k = omega arith in
-    rw (mark_of_cell state, alike cy, there, apart cx (cx + 1 + k) (λ h. omega (arith, h))) (own_row row rest (cx + 1) cy k)
+    rw (mark_of_cell state, eq-eqb cy cy refl, there, ne_eqb cx (cx + 1 + k) (λ h. omega (arith, h))) (own_row row rest (cx + 1) cy k)
 
 row_first : (row : List State) (rows : List (List State)) (cx cy x y : ℕ) → look (flat_map row_tags (row ∷ rows)) cx cy x y ≡ look (map tag_of row ++ (36 ∷ flat_map row_tags rows)) cx cy x y
 row_first row rows cx cy x y =

@@ -5,12 +5,14 @@ use Rattle.std.specs.List.{AllByRecursion, cons_option}
 use Rattle.std.proofs.lemmas.Bool.{and_from, and_parts, eqb-true, le-leb, leb-true, lt-ltb, ltb-true}
 use Rattle.ww_rule.specs.declared.pattern.State.{State}
 use Rattle.ww_rule.specs.declared.pattern.State.TheVariants.{Empty}
-use Rattle.pattern_reading.specs.Items.{Item, Cells, RowEnds, LineItem, Placed, column_after, placed_after, row_after}
+use Rattle.pattern_reading.specs.Items.{Item, Cells, RowEnds, Placed, column_after, placed_after, row_after}
 use Rattle.pattern_reading.specs.Pattern.{state_at, state_in}
 use Rattle.pattern_reading.proofs.Places.{next_place}
 use Rattle.pattern_writing.specs.Writer as writer
 use Rattle.pattern_writing.specs.Laws.{spelled}
-use Rattle.written_reads.proofs.Look.{Mark, RowEnd, Of, alike, apart, look, mark_of}
+use Rattle.written_reads.proofs.Look.{Mark, RowEnd, Of, look, mark_of}
+use Rattle.pattern_reading.proofs.SpelledPattern.{on_one_line}
+use Rattle.std.proofs.lemmas.Bool.{ne_eqb, eq-eqb}
 
 -- what a run of a mark stands for
 abbrev pub item : ℕ → Mark → Item
@@ -25,9 +27,6 @@ abbrev pub item_of : writer.TagRun → Item
 item_of run = item run.count (mark_of run.tag)
 
 -- on one line
-abbrev pub on_one_line : List Item → List LineItem
-on_one_line items = map (λ i. record { line = 0; item = i }) items
-
 -- the state by the first of some items, or by the rest
 abbrev first_or : Option State → State → State
 first_or None rest = rest
@@ -46,10 +45,10 @@ module _ (t : ℕ) (state : State) (e : mark_of t ≡ Of state) where
   in_run zero ts cx cy k l = absurd (omega (arith, l))
   in_run (suc n) ts cx cy zero l =
       let here : cx ≡ cx + 0 = omega arith in
-      rw (e, alike cy, ← here, alike cx) refl
+      rw (e, eq-eqb cy cy refl, ← here, eq-eqb cx cx refl) refl
   in_run (suc n) ts cx cy (suc k) l =
       let there : cx + suc k ≡ cx + 1 + k = omega arith in
-      rw (e, alike cy, there, apart cx (cx + 1 + k) (λ h. omega (arith, h))) (in_run n ts (cx + 1) cy k (omega (arith, l)))
+      rw (e, eq-eqb cy cy refl, there, ne_eqb cx (cx + 1 + k) (λ h. omega (arith, h))) (in_run n ts (cx + 1) cy k (omega (arith, l)))
 
   out_of_run : (n : ℕ) (ts : List ℕ) (cx cy x y : ℕ) → (cy ≡ y → cx ≤ x → x < cx + n → ⊥) → look (replicate n t ++ ts) cx cy x y ≡ look ts (cx + n) cy x y
   out_of_run zero ts cx cy x y h = let here : cx ≡ cx + 0 = omega arith in ap (λ c. look ts c cy x y) here
@@ -71,7 +70,7 @@ module _ (t : ℕ) (state : State) (e : mark_of t ≡ Of state) where
     where
       by_test : (b : Bool) → (cy == y && nat_le cx x && nat_lt x (cx + n)) ≡ b → first_or (if b then Some state else None) (look ts (cx + n) cy x y) ≡ look (replicate n t ++ ts) cx cy x y
       by_test false k =
-          sym (out_of_run n ts cx cy x y (λ a b c. true≢false (sym (and_from (cy == y && nat_le cx x) (nat_lt x (cx + n)) (and_from (cy == y) (nat_le cx x) (ap (λ r. cy == r) (sym a) ∙ alike cy) (le-leb cx x b)) (lt-ltb x (cx + n) c)) ∙ k)))
+          sym (out_of_run n ts cx cy x y (λ a b c. true≢false (sym (and_from (cy == y && nat_le cx x) (nat_lt x (cx + n)) (and_from (cy == y) (nat_le cx x) (ap (λ r. cy == r) (sym a) ∙ eq-eqb cy cy refl) (le-leb cx x b)) (lt-ltb x (cx + n) c)) ∙ k)))
       by_test true k =
           let parts = and_parts (cy == y && nat_le cx x) (nat_lt x (cx + n)) k in
           let place = and_parts (cy == y) (nat_le cx x) parts.0 in

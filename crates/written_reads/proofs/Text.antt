@@ -11,7 +11,7 @@ use Rattle.std.proofs.lemmas.Simd.{map-map}
 use Rattle.ww_rule.specs.declared.pattern.State.TheVariants.{Empty, Head, Tail, Conductor}
 use Rattle.ww_rule.specs.Grid.{Grid}
 use Rattle.pattern_reading.specs.PortLines.{PortForm}
-use Rattle.pattern_reading.specs.Items.{Item, End, counted_item, item_in}
+use Rattle.pattern_reading.specs.Items.{End, counted_item, item_in}
 use Rattle.pattern_reading.specs.Spelling.{spelled_line, spelled_table}
 use Rattle.pattern_reading.specs.SpelledPattern.{SpelledItem, IsSpelledItem, item_text, items_of_text, line_text, lines_text, spelled_header}
 use Rattle.pattern_reading.proofs.SpelledHeader.{spelled_count}
@@ -21,6 +21,7 @@ use Rattle.pattern_writing.proofs.Lines.{wrapped_is_lines}
 use Rattle.written_reads.proofs.Look.{Mark, RowEnd, Of, mark_of, tag}
 use Rattle.written_reads.proofs.Runs.{item, item_of}
 use Rattle.written_reads.proofs.Faults.{IsKnown}
+use Rattle.pattern_reading.proofs.SpelledItems.{meaning}
 
 -- a run as an item, and the `!`
 abbrev pub spelled_of : writer.TagRun → SpelledItem
@@ -165,9 +166,6 @@ front_and_rest (x ∷ xs) ys h = let rest = front_and_rest xs ys h.1 in ((h.0, r
 pub lines_spelled : (lines : List (List SpelledItem)) → AllByRecursion IsSpelledItem (flat_map (λ line. line) lines) → AllByRecursion (AllByRecursion IsSpelledItem) lines
 lines_spelled [] h = tt
 lines_spelled (line ∷ lines) h = let parts = front_and_rest line (flat_map (λ l. l) lines) h in (parts.0, lines_spelled lines parts.1)
-
-abbrev pub meaning : SpelledItem → Item
-meaning i = item_in true i.digits (Some i.tag)
 
 pub meanings_of_lines : (lines : List (List SpelledItem)) → items_of_text lines ≡ map meaning (flat_map (λ line. line) lines)
 meanings_of_lines [] = refl

@@ -15,8 +15,10 @@ use Rattle.ww_rule.specs.Injections.{due_of_list, due_of_streams}
 use Rattle.ww_rule.specs.Laws.{IsBitOfStreams}
 use Rattle.ww_rule.specs.DrivenLaws.{IsInjectionOf, ListsAreInjected, StepsWithInjections, StreamsGoOn}
 use Rattle.ww_rule.proofs.Finite.{due_of_cons}
-use Rattle.ww_rule.proofs.Streams.{or_left, or_right, streams_injected}
+use Rattle.ww_rule.proofs.Streams.{streams_injected}
+use Rattle.std.proofs.lemmas.Bool.{or_left, or_right}
 use Rattle.ww_rule.proofs.DrivenPlanes.{is_causal}
+use Rattle.std.specs.Cmp.{both_ways}
 
 pub steps_with_injections : (injections : List Injection) (p : Plane) → StepsWithInjections injections p
 steps_with_injections injections p = record { begins = refl; steps = λ g. refl }
@@ -48,11 +50,6 @@ of_injection : (is : List Injection) (g : ℕ) (x y : ℤ) → IsInjectionOf is 
 of_injection is g x y h =
     is_due is g x y h.injection h.is_in.0 h.is_in.1 (h.is_in.2) h.in_time h.column h.row
 
-same_truth : (a b : Bool) → (a ≡ true → b ≡ true) → (b ≡ true → a ≡ true) → a ≡ b
-same_truth true b p q = sym (p refl)
-same_truth false true p q = q refl
-same_truth false false p q = refl
-
 other_list : (is js : List Injection) → ((i : Injection) → Contains is i → Contains js i) → (g : ℕ) (x y : ℤ) → due_of_list is g x y ≡ true → due_of_list js g x y ≡ true
 other_list is js all g x y e =
     let h = is_injection is g x y e in
@@ -63,7 +60,7 @@ lists_are_injected =
     record {
       exactly = λ is g x y. (is_injection is g x y, of_injection is g x y);
       in_any_order = λ is js same p g.
-          is_causal (due_of_list is) (due_of_list js) p g (λ h x y le. same_truth (due_of_list is h x y) (due_of_list js h x y) (other_list is js (λ i. (same i).0) h x y) (other_list js is (λ i. (same i).1) h x y));
+          is_causal (due_of_list is) (due_of_list js) p g (λ h x y le. both_ways (due_of_list is h x y) (due_of_list js h x y) (other_list is js (λ i. (same i).0) h x y) (other_list js is (λ i. (same i).1) h x y));
     }
 
 -- a bit of rows that stand before others, and one of the others
@@ -85,7 +82,7 @@ with_row period cells rows others g x y h e =
 -- where each bit that is due by the rows and the later ones stands in the rows, the later ones change nothing
 due_of_front : (period : ℕ) (cells : List (ℕ × ℕ)) (rows later : List (List Bool)) (g : ℕ) (x y : ℤ) → ((h : IsBitOfStreams period cells (rows ++ later) g x y) → h.cycle < length rows) → due_of_streams period cells (rows ++ later) g x y ≡ due_of_streams period cells rows g x y
 due_of_front period cells rows later g x y in_front =
-    same_truth (due_of_streams period cells (rows ++ later) g x y) (due_of_streams period cells rows g x y)
+    both_ways (due_of_streams period cells (rows ++ later) g x y) (due_of_streams period cells rows g x y)
     (λ e. let h = (streams_injected period cells (rows ++ later) g x y).0 e in (streams_injected period cells rows g x y).1 (with_row period cells (rows ++ later) rows g x y h (sym (front_row rows later h.cycle (in_front h)))))
     (λ e. let h = (streams_injected period cells rows g x y).0 e in (streams_injected period cells (rows ++ later) g x y).1 (with_row period cells rows (rows ++ later) g x y h (front_row rows later h.cycle (row_of_bit rows h.cycle h.input h.one))))
 

@@ -8,14 +8,7 @@ use Rattle.ww_rule.specs.declared.pattern.Injection.{Injection}
 use Rattle.ww_rule.specs.Injections.{due_of_list, due_of_streams, injections_of_row, injections_from}
 use Rattle.ww_rule.specs.Laws.{IsBitOfStreams}
 use Rattle.ww_rule.proofs.Finite.{due_of_cons}
-
-pub or_left : (a b : Bool) → a ≡ true → (a || b) ≡ true
-or_left true b e = refl
-or_left false b e = absurd (true≢false (sym e))
-
-pub or_right : (a b : Bool) → b ≡ true → (a || b) ≡ true
-or_right true b e = refl
-or_right false b e = e
+use Rattle.std.proofs.lemmas.Bool.{or_left, or_right}
 
 or_assoc : (a b c : Bool) → ((a || b) || c) ≡ (a || (b || c))
 or_assoc true b c = refl

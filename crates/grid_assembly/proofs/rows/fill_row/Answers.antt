@@ -2,7 +2,7 @@ use Rattle.std.proofs.Common.{rules, ◌≡◌, ◌≢◌, ◌∙◌, ap, ◌+�
 use Rattle.plan_layout.specs.Starts.{start_edges}
 use Rattle.plan_layout.specs.Layout.{tiling_of}
 use Rattle.plan_layout.specs.Slots.{slot_of}
-use Rattle.tile_library.specs.Drawings.{drawing_of as shipped}
+use Rattle.tile_library.specs.Drawings.{shipped_drawing}
 use Rattle.tiling.specs.Tiling.{drawn_slot}
 use Rattle.grid_assembly.proofs.rows.fill_row.Goals as goal
 use Rattle.grid_assembly.proofs.rows.fill_row.Goals.{then-place-column, else-place-column}
@@ -18,8 +18,8 @@ loop-i-preserved c =
     elim c.if-place-column.branch [ then-place-column w ↦ search rules | else-place-column w ↦ search rules ] in
     let last =
     c.slot_cell.ensures
-    ∙ ap (λ s. drawn_slot shipped (start_edges plan) c.if-place-column.column lane s (place % 32) (c.args.y % 16)) block
-    ∙ ap (λ q. drawn_slot shipped (start_edges plan) q lane (tiling_of plan q lane) (place % 32) (c.args.y % 16)) here in
+    ∙ ap (λ s. drawn_slot shipped_drawing (start_edges plan) c.if-place-column.column lane s (place % 32) (c.args.y % 16)) block
+    ∙ ap (λ q. drawn_slot shipped_drawing (start_edges plan) q lane (tiling_of plan q lane) (place % 32) (c.args.y % 16)) here in
     record {
       block = block;
       near = omega (arith, here);

@@ -2,8 +2,9 @@ use Rattle.std.proofs.Common.{◌≡◌, pos, ℕ, ◌+◌, ◌^◌, ◌<◌, ge
 use Rattle.ww_rule.specs.declared.pattern.State.TheVariants.{Empty}
 use Rattle.plan_layout.specs.Layout.{tiling_of}
 use Rattle.plan_layout.specs.Slots.{slot_of}
-use Rattle.grid_assembly.specs.PlanDrawing.{start_plane}
 use Rattle.grid_assembly.proofs.rows.fill_row.Given as goal
+use Rattle.plan_layout.specs.Planes.{start_plane}
+use Rattle.tile_library.specs.Drawings.{shipped_drawing}
 
 -- the slot is that of its block, and the cells up to here are written
 abbrev pub invariant-loop-i : goal.invariant-loop-i
@@ -11,5 +12,5 @@ invariant-loop-i l =
     record {
       block : slot_of l.slot ≡ tiling_of l.plan l.column l.lane;
       near : l.column < 2 ^ 59;
-      cells : (k : ℕ) → k < l.i → get_or l.row k Empty ≡ start_plane l.plan (pos (l.x + k)) (pos l.y);
+      cells : (k : ℕ) → k < l.i → get_or l.row k Empty ≡ start_plane shipped_drawing l.plan (pos (l.x + k)) (pos l.y);
     }

@@ -1,0 +1,36 @@
+// What is answered where no plan is made.
+use column_packer::PackError;
+use latch_loops::CloseError;
+use row_placer::PlaceError;
+use thiserror::Error;
+
+/// Why no plan was made.
+#[derive(Clone, Copy, Debug, PartialEq, Eq, Error)]
+pub enum PlanError {
+    #[error("out of memory")]
+    NoMemory,
+}
+
+impl From<PlaceError> for PlanError {
+    fn from(error: PlaceError) -> Self {
+        match error {
+            PlaceError::NoMemory => PlanError::NoMemory,
+        }
+    }
+}
+
+impl From<PackError> for PlanError {
+    fn from(error: PackError) -> Self {
+        match error {
+            PackError::NoMemory => PlanError::NoMemory,
+        }
+    }
+}
+
+impl From<CloseError> for PlanError {
+    fn from(error: CloseError) -> Self {
+        match error {
+            CloseError::NoMemory => PlanError::NoMemory,
+        }
+    }
+}

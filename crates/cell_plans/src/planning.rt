@@ -1,0 +1,29 @@
+// The plan of a list of cells.
+ghost use Rattle.std.specs.Prelude.{◌≤◌, ◌<◌, ◌+◌, ◌*◌, ◌^◌, max, length, IfOk};
+ghost use Rattle.cell_core.specs.Loops.{loop_count};
+ghost use Rattle.cell_lanes.specs.Computes.{ComputesByPlan};
+ghost use Rattle.lane_core.specs.Plans.{IsAdmissible};
+
+use crate::PlanError;
+use cell_core::CellList;
+use column_packer::pack;
+use lane_core::Plan;
+use latch_loops::close;
+use latch_loops::laws::closing_keeps_cells;
+use row_placer::place;
+use std::alloc::Global;
+
+/// A plan that computes the list: in each cycle its outputs, its loops and its nets have the bits of their sources.
+pub fn plan_of(alloc: Global, list: &CellList) -> Result<Plan, PlanError>
+    requires small { list.now.inputs + loop_count list.now + length list.now.outs + length list.now.cells < 2 ^ 18 }
+    ensures admissible { IfOk result IsAdmissible }
+    ensures computes { IfOk result (ComputesByPlan list.now) }
+    ensures lanes { IfOk result (λ plan. plan.lanes ≤ list.now.inputs + 2 * loop_count list.now + length list.now.outs + length list.now.cells + 2 + max list.now.inputs (length list.now.outs)) }
+    ensures columns { IfOk result (λ plan. length plan.columns ≤ (3 * length list.now.cells + length list.now.outs + 2 * loop_count list.now + 1) * (plan.lanes + 1)) }
+{
+    let program = place(alloc, list)?;
+    let columns = pack(alloc, &program)?;
+    closing_keeps_cells();
+    let plan = close(alloc, columns, &program)?;
+    Ok(plan)
+}

@@ -1,0 +1,2 @@
+pub mod TwoSet
+pub mod Swaps

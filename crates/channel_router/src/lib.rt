@@ -1,0 +1,11 @@
+//! Routes: swaps that bring the bit of one lane to another lane.
+#![tactic(auto)]
+
+mod error;
+mod route;
+
+pub use error::RouteError;
+pub use route::bring;
+
+#[cfg(test)]
+mod tests;

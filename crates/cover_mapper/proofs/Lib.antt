@@ -1,0 +1,7 @@
+mod Sourcing
+mod Gathering
+mod Starting
+mod Known
+mod NextNode
+mod Weights
+mod Finishing

@@ -1,0 +1,59 @@
+use Rattle.std.proofs.Common.{◌≡◌, ◌==◌, refl, sym, ◌∙◌, ap, List, map, length}
+use Rattle.std.proofs.lemmas.List.{length-map}
+use Rattle.netlist_core.specs.declared.flat.FlatPort.{FlatPort}
+use Rattle.netlist_core.specs.declared.flat.FlatLatch.{FlatLatch}
+use Rattle.netlist_core.specs.declared.flat.Net.{Net as FlatNet}
+use Rattle.netlist_meaning.specs.Flat.{class_of, port_classes}
+use Rattle.cover_mapper.specs.Listed.{listed_classes}
+use Rattle.cover_mapper.specs.Sourced.{sources_at, source_at}
+use Rattle.cover_mapper.proofs.Known.{all_gathered}
+use Rattle.cover_mapper.proofs.Finishing.{Ports, ports, gathered_there, finished, with_bits}
+use Rattle.cover_mapper.proofs.mapping.with_ports.Goals as goal
+
+pub invariant_of-result : goal.invariant_of-result
+invariant_of-result c =
+    let flat = c.args.flat.now in
+    let sources = c.args.sources.now in
+    let at : Ports flat c.args.list sources = ports flat c.requires.sound c.args.list sources c.requires.complete in
+    let outs : c.of.result ≡ map (source_at sources) (port_classes flat flat.outs) =
+    c.of.ensures ∙ c.in_ok-outs.ensures ∙ ap (λ (l : List FlatPort). sources_at sources (port_classes flat l)) c.as_slice.ensures ∙ all_gathered sources _ at.outs_known in
+    let read : c.of-2.result ≡ map (source_at sources) (map (λ (latch : FlatLatch). class_of flat latch.input) flat.latches) =
+    c.of-2.ensures ∙ c.in_ok-latches.ensures ∙ ap (λ (l : List FlatLatch). sources_at sources (map (λ (latch : FlatLatch). class_of flat latch.input) l)) c.as_slice-2.ensures ∙ all_gathered sources _ at.data_known in
+    let nets : c.of-3.result ≡ map (source_at sources) (listed_classes flat) =
+    c.of-3.ensures ∙ c.in_ok-nets.ensures ∙ ap (λ (l : List FlatNet). sources_at sources (map (λ (net : FlatNet). net.class) l)) c.as_slice-3.ensures ∙ at.nets in
+    record {
+      in_order = c.args.list.in_order;
+      outs_there = gathered_there flat _ c.args.list sources _ c.of.result at.sourced at.outs_known outs;
+      latches_there = gathered_there flat _ c.args.list sources _ c.of-2.result at.sourced at.data_known read;
+      nets_there = gathered_there flat _ c.args.list sources _ c.of-3.result at.sourced at.nets_known nets;
+      starts_fit = ap length (c.requires.complete.mapped.grows.adds.starts ∙ c.requires.complete.starts) ∙ length-map flat.latches (λ latch. latch.init == 1)
+          ∙ sym (ap length read ∙ length-map (map (λ (latch : FlatLatch). class_of flat latch.input) flat.latches) (source_at sources) ∙ length-map flat.latches (λ (latch : FlatLatch). class_of flat latch.input));
+    }
+
+pub returns-clause-mapped : goal.returns-clause-mapped
+returns-clause-mapped c =
+    let flat = c.args.flat.now in
+    let sources = c.args.sources.now in
+    finished flat c.requires.sound c.args.list _ sources c.requires.complete
+    (record {
+      inputs = refl;
+      cells = refl;
+      starts = refl;
+      outs = c.of.ensures ∙ c.in_ok-outs.ensures ∙ ap (λ (l : List FlatPort). sources_at sources (port_classes flat l)) c.as_slice.ensures;
+      latches = c.of-2.ensures ∙ c.in_ok-latches.ensures ∙ ap (λ (l : List FlatLatch). sources_at sources (map (λ (latch : FlatLatch). class_of flat latch.input) l)) c.as_slice-2.ensures;
+      nets = c.of-3.ensures ∙ c.in_ok-nets.ensures ∙ ap (λ (l : List FlatNet). sources_at sources (map (λ (net : FlatNet). net.class) l)) c.as_slice-3.ensures;
+    })
+
+pub returns-clause-bits : goal.returns-clause-bits
+returns-clause-bits c =
+    let flat = c.args.flat.now in
+    let sources = c.args.sources.now in
+    with_bits flat c.requires.sound c.args.list _ sources c.requires.complete
+    (record {
+      inputs = refl;
+      cells = refl;
+      starts = refl;
+      outs = c.of.ensures ∙ c.in_ok-outs.ensures ∙ ap (λ (l : List FlatPort). sources_at sources (port_classes flat l)) c.as_slice.ensures;
+      latches = c.of-2.ensures ∙ c.in_ok-latches.ensures ∙ ap (λ (l : List FlatLatch). sources_at sources (map (λ (latch : FlatLatch). class_of flat latch.input) l)) c.as_slice-2.ensures;
+      nets = c.of-3.ensures ∙ c.in_ok-nets.ensures ∙ ap (λ (l : List FlatNet). sources_at sources (map (λ (net : FlatNet). net.class) l)) c.as_slice-3.ensures;
+    })

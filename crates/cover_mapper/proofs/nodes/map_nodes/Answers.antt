@@ -1,0 +1,48 @@
+use Rattle.std.proofs.Common.{◌≡◌, refl, sym, ◌∙◌, ap, subst, ℕ, List, map, get_or, Some, arith}
+use Rattle.std.proofs.lemmas.Option.{get_or_from_slice_get}
+use Rattle.netlist_core.specs.declared.flat.Node.{Node}
+use Rattle.netlist_core.specs.declared.flat.NetId.{NetId}
+use Rattle.netlist_meaning.specs.Flat.{class_of, node_at, no_node, in_classes}
+use Rattle.cell_core.specs.declared.cells.Src.{Src}
+use Rattle.cell_core.specs.declared.cells.Cell.{Cell}
+use Rattle.cover_cells.specs.Covers.{AnswersCover}
+use Rattle.cover_cells.specs.Grown.{HasSources, IsCell}
+use Rattle.cover_cells.specs.Singles.{single_cell}
+use Rattle.cover_mapper.specs.Sourced.{sources_at, source_at}
+use Rattle.cover_mapper.proofs.Known.{AreKnown, all_gathered, all_there}
+use Rattle.cover_mapper.proofs.NextNode.{reads_known, node_mapped, first_mapped}
+use Rattle.cover_mapper.proofs.nodes.map_nodes.Goals as goal
+
+pub loop-n-init : goal.loop-n-init
+loop-n-init c = first_mapped c.args.flat.now c.args.list.now c.args.sources.now c.requires.ports
+
+pub map_cover-requires : goal.map_cover-requires
+map_cover-requires c =
+    let flat = c.args.flat.now in
+    let order = c.args.order.now in
+    let sources = c.loop-n.sources in
+    let n : ℕ = get_or order c.loop-n.n-index 0 in
+    let at : c.get-node.result.now ≡ node_at flat n = sym (get_or_from_slice_get flat.nodes n c.get-node.result.now no_node c.get-node.ensures) in
+    let known : AreKnown sources (in_classes flat n) = reads_known flat c.requires.sound order c.requires.ordered c.loop-n.list sources c.loop-n.n-index c.loop-n.n-index (omega arith) (omega (arith, c.loop-n-test.true)) (omega (arith, c.loop-n-test.true)) c.loop-n.invariant.sourced in
+    let are : c.in_ok-ins.ins.items ≡ map (source_at sources) (in_classes flat n) =
+    c.in_ok-ins.ensures ∙ ap (λ (ids : List NetId). sources_at sources (map (class_of flat) ids)) (c.as_slice.ensures ∙ ap (λ (m : Node). m.ins) at) ∙ all_gathered sources (in_classes flat n) known in
+    subst (HasSources c.loop-n.list) (sym (c.deref.ensures.value ∙ are)) (all_there flat _ c.loop-n.list sources (in_classes flat n) c.loop-n.invariant.sourced known)
+
+pub loop-n-preserved : goal.loop-n-preserved
+loop-n-preserved c =
+    let flat = c.args.flat.now in
+    let order = c.args.order.now in
+    let sources = c.loop-n.sources in
+    let node = c.get-node.result.now in
+    let n : ℕ = get_or order c.loop-n.n-index 0 in
+    let at : node ≡ node_at flat n = sym (get_or_from_slice_get flat.nodes n node no_node c.get-node.ensures) in
+    let known : AreKnown sources (in_classes flat n) = reads_known flat c.requires.sound order c.requires.ordered c.loop-n.list sources c.loop-n.n-index c.loop-n.n-index (omega arith) (omega (arith, c.loop-n-test.true)) (omega (arith, c.loop-n-test.true)) c.loop-n.invariant.sourced in
+    let are : c.in_ok-ins.ins.items ≡ map (source_at sources) (in_classes flat n) =
+    c.in_ok-ins.ensures ∙ ap (λ (ids : List NetId). sources_at sources (map (class_of flat) ids)) (c.as_slice.ensures ∙ ap (λ (m : Node). m.ins) at) ∙ all_gathered sources (in_classes flat n) known in
+    let answer : AnswersCover c.loop-n.list c.map_cover.new.list c.in_ok-ins.ins.items node.rows node.on c.in_ok-source.source =
+    subst (λ (g : List Src). AnswersCover c.loop-n.list c.map_cover.new.list g node.rows node.on c.in_ok-source.source) c.deref.ensures.value
+    (subst (λ (rows : List (List ℕ)). AnswersCover c.loop-n.list c.map_cover.new.list c.deref.result.now rows node.on c.in_ok-source.source) c.as_slice-in-loop-n.ensures c.in_ok-source.ensures.value) in
+    let single : (cell : Cell) → single_cell c.in_ok-ins.ins.items node.rows node.on ≡ Some cell → IsCell c.map_cover.new.list c.in_ok-source.source cell =
+    λ cell e. c.in_ok-source.ensures.single cell (ap (λ (g : List Src). single_cell g c.as_slice-in-loop-n.result.now node.on) c.deref.ensures.value ∙ ap (λ (rows : List (List ℕ)). single_cell c.in_ok-ins.ins.items rows node.on) c.as_slice-in-loop-n.ensures ∙ e) in
+    node_mapped flat c.requires.sound order c.requires.ordered c.args.list.now c.loop-n.list c.map_cover.new.list sources c.loop-n.n-index n c.class_of.result node c.in_ok-ins.ins.items c.in_ok-source.source
+    (omega (arith, c.loop-n-test.true)) refl at (c.class_of.ensures ∙ ap (λ (m : Node). class_of flat m.out) at) c.loop-n.invariant are answer single

@@ -1,0 +1,4 @@
+pub mod Listed
+pub mod Needs
+pub mod Sourced
+pub mod Mapped

@@ -1,0 +1,34 @@
+-- A list of cells that computes a flat netlist.
+use Rattle.std.specs.Prelude.{ℕ, ◌*◌, ◌≤◌, ◌<◌, ◌≡◌, ◌==◌, Bool, true, List, length, map, Some}
+use Rattle.netlist_core.specs.declared.flat.Flat.{Flat}
+use Rattle.netlist_meaning.specs.Flat.{class_of, node_at, in_classes, out_class, port_classes, FlatDriver, FlatDrives}
+use Rattle.cover_mapper.specs.Listed.{listed_classes}
+use Rattle.netlist_meaning.specs.FlatValuation.{IsFlatValuation}
+use Rattle.cell_core.specs.declared.cells.Src.{Src}
+use Rattle.cell_core.specs.declared.cells.Cell.{Cell}
+use Rattle.cell_core.specs.declared.list.CellList.{CellList}
+use Rattle.cell_core.specs.Meaning.{bit_of}
+use Rattle.cell_core.specs.Loops.{names_one}
+use Rattle.cover_cells.specs.Grown.{IsCell}
+use Rattle.cover_cells.specs.Singles.{single_cell}
+use Rattle.cover_mapper.specs.Needs.{any_needs_one, covers_weight}
+
+-- under the bits of a valuation the sources of outputs, of latches' data and of the nets but the clock nets have theirs
+pub record HasBits (flat : Flat) (list : CellList) (inputs state : List Bool) (bits : ℕ → Bool) : Type 0 where
+  pub outs : map (bit_of list inputs state) list.outs ≡ map bits (port_classes flat flat.outs)
+  pub latches : map (bit_of list inputs state) list.latches ≡ map (λ latch. bits (class_of flat latch.input)) flat.latches
+  pub nets : map (bit_of list inputs state) list.nets ≡ map bits (listed_classes flat)
+
+-- each class of nets that is driven has one source, which has its bit in each valuation
+pub record IsMapped (flat : Flat) (list : CellList) : Type 0 where
+  pub sources : ℕ → Src
+  pub inputs : list.inputs ≡ length flat.ins
+  pub starts : list.starts ≡ map (λ latch. latch.init == 1) flat.latches
+  pub outs : list.outs ≡ map sources (port_classes flat flat.outs)
+  pub latches : list.latches ≡ map (λ latch. sources (class_of flat latch.input)) flat.latches
+  pub nets : list.nets ≡ map sources (listed_classes flat)
+  pub bits : (inputs state : List Bool) (bits : ℕ → Bool) → IsFlatValuation flat inputs state bits
+      → (class : ℕ) (d : FlatDriver) → FlatDrives flat d class → bit_of list inputs state (sources class) ≡ bits class
+  pub single : (n : ℕ) (cell : Cell) → n < length flat.nodes → single_cell (map sources (in_classes flat n)) (node_at flat n).rows (node_at flat n).on ≡ Some cell → IsCell list (sources (out_class flat n)) cell
+  pub few : length list.cells ≤ 2 * covers_weight flat
+  pub one : names_one list ≡ true → any_needs_one flat ≡ true

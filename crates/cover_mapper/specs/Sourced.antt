@@ -1,0 +1,67 @@
+-- The sources of classes of nets, while covers are mapped in an order.
+use Rattle.std.specs.Prelude.{ℕ, ◌*◌, ◌<◌, ◌≡◌, ◌==◌, Bool, true, List, [], length, map, get_or, sum_by, Option, Some, None, Contains}
+use Rattle.std.specs.List.{filter_map}
+use Rattle.std.specs.Option.{unwrap_or}
+use Rattle.netlist_core.specs.declared.flat.Flat.{Flat}
+use Rattle.netlist_meaning.specs.Flat.{FlatDriver, FlatDrives, node_at, in_classes, out_class}
+use Rattle.netlist_meaning.specs.FlatOrder.{IsOrder}
+use Rattle.netlist_meaning.specs.FlatValuation.{IsFlatValuation}
+use Rattle.cell_core.specs.declared.cells.Src.{Src}
+use Rattle.cell_core.specs.declared.cells.Src.TheVariants.{Zero}
+use Rattle.cell_core.specs.declared.cells.Cell.{Cell}
+use Rattle.cell_core.specs.declared.list.CellList.{CellList}
+use Rattle.cell_core.specs.Sources.{is_one}
+use Rattle.cell_core.specs.Meaning.{bit_in}
+use Rattle.cover_cells.specs.Covers.{rows_weight}
+use Rattle.cover_cells.specs.Grown.{HasSource, Grows, IsCell}
+use Rattle.cover_cells.specs.Singles.{single_cell}
+use Rattle.cover_mapper.specs.Needs.{any_needs_one}
+
+-- a source for each class that has one
+abbrev pub ClassSources : Type 0
+ClassSources = List (Option Src)
+
+-- the sources of those classes that have one, in order
+abbrev pub sources_at : ClassSources → List ℕ → List Src
+sources_at sources classes = filter_map (λ class. get_or sources class None) classes
+
+-- the source of a class that has one
+abbrev pub source_at : ClassSources → ℕ → Src
+source_at sources class = unwrap_or (get_or sources class None) Zero
+
+-- the driver is among the first inputs, the first latches, or these nodes
+abbrev pub IsAmongFirst : ℕ → ℕ → List ℕ → FlatDriver → Type 0
+IsAmongFirst inputs latches nodes (FlatDriver.input i) = i < inputs
+IsAmongFirst inputs latches nodes (FlatDriver.latch i) = i < latches
+IsAmongFirst inputs latches nodes (FlatDriver.node n) = Contains nodes n
+
+-- the classes with such a driver, and no others, have a source, which is there and has their bit
+pub record AreSourced (flat : Flat) (made : FlatDriver → Type 0) (list : CellList) (sources : ClassSources) : Type 0 where
+  pub long : length sources ≡ length flat.nets
+  pub all : (class : ℕ) (d : FlatDriver) → FlatDrives flat d class → made d → (src : Src) × (get_or sources class None ≡ Some src)
+  pub only : (class : ℕ) (src : Src) → get_or sources class None ≡ Some src → (d : FlatDriver) × FlatDrives flat d class × made d
+  pub there : (class : ℕ) (src : Src) → get_or sources class None ≡ Some src → HasSource list src
+  pub one : (class : ℕ) (src : Src) → get_or sources class None ≡ Some src → is_one src ≡ true → any_needs_one flat ≡ true
+  pub bits : (inputs state : List Bool) (bits : ℕ → Bool) → IsFlatValuation flat inputs state bits
+      → (class : ℕ) (src : Src) → get_or sources class None ≡ Some src → bit_in list.cells inputs state src ≡ bits class
+
+-- the cover of a node that is a single cell has it as its source
+abbrev pub HasSingle : Flat → CellList → ClassSources → ℕ → Type 0
+HasSingle flat list sources n =
+    (cell : Cell) → single_cell (map (source_at sources) (in_classes flat n)) (node_at flat n).rows (node_at flat n).on ≡ Some cell → IsCell list (source_at sources (out_class flat n)) cell
+
+-- these nodes are mapped
+pub record AreMapped (flat : Flat) (old new : CellList) (sources : ClassSources) (nodes : List ℕ) : Type 0 where
+  pub sourced : AreSourced flat (IsAmongFirst (length flat.ins) (length flat.latches) nodes) new sources
+  pub grows : Grows old new (2 * sum_by (λ n. rows_weight (node_at flat n).rows) nodes) (any_needs_one flat ≡ true)
+  pub single : (j : ℕ) → j < length nodes → HasSingle flat new sources (get_or nodes j 0)
+
+-- all nodes are mapped, from a list of no cells on
+pub record IsComplete (flat : Flat) (list : CellList) (sources : ClassSources) : Type 0 where
+  pub start : CellList
+  pub inputs : start.inputs ≡ length flat.ins
+  pub starts : start.starts ≡ map (λ latch. latch.init == 1) flat.latches
+  pub cells : start.cells ≡ []
+  pub order : List ℕ
+  pub ordered : IsOrder flat order
+  pub mapped : AreMapped flat start list sources order

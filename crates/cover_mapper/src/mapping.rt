@@ -1,0 +1,75 @@
+// A flat netlist as a list of cells.
+ghost use Rattle.std.specs.Prelude.{ℕ, ◌≡◌, Bool, List, None, length, replicate, IfOk};
+ghost use Rattle.netlist_meaning.specs.Flat.{IsSound};
+ghost use Rattle.netlist_meaning.specs.FlatOrder.{IsOrder};
+ghost use Rattle.netlist_meaning.specs.FlatValuation.{IsFlatValuation};
+ghost use Rattle.cover_mapper.specs.Mapped.{HasBits, IsMapped};
+ghost use Rattle.cover_mapper.specs.Sourced.{IsComplete};
+
+use crate::classes::{sources_of_all, sources_of_data, sources_of_ports};
+use crate::error::MapError;
+use crate::nodes::map_nodes;
+use crate::start::{source_inputs, source_latches, start_list};
+use cell_core::{CellList, Src};
+use lists::List;
+use netlist_core::{Flat, Order};
+use std::alloc::Global;
+
+// The list with its ports and nets.
+fn with_ports(
+    alloc: Global,
+    flat: &Flat,
+    list: CellList,
+    sources: &[Option<Src>],
+) -> Result<CellList, MapError>
+    requires sound { IsSound flat.now }
+    requires complete { IsComplete flat.now list sources.now }
+    ensures mapped { IfOk result (IsMapped flat.now) }
+    ensures bits { IfOk result (λ list. (inputs state : List Bool) (bits : ℕ → Bool) → IsFlatValuation flat.now inputs state bits → HasBits flat.now list inputs state bits) }
+{
+    let outs = sources_of_ports(alloc, flat, sources, flat.outs.as_slice())?;
+    let latches = sources_of_data(alloc, flat, sources, flat.latches.as_slice())?;
+    let nets = sources_of_all(alloc, sources, flat.nets.as_slice())?;
+    Ok(CellList {
+        inputs: list.inputs,
+        cells: list.cells,
+        outs: List::of(outs),
+        latches: List::of(latches),
+        starts: list.starts,
+        nets: List::of(nets),
+    })
+}
+
+// The cells, where no class has a source yet.
+fn map_from(
+    alloc: Global,
+    flat: &Flat,
+    order: &Order,
+    sources: &mut [Option<Src>],
+) -> Result<CellList, MapError>
+    requires sound { IsSound flat.now }
+    requires ordered { IsOrder flat.now order.now.nodes }
+    requires none { sources.old ≡ replicate (length flat.now.nets) None }
+    ensures mapped { IfOk result (IsMapped flat.now) }
+    ensures bits { IfOk result (λ list. (inputs state : List Bool) (bits : ℕ → Bool) → IsFlatValuation flat.now inputs state bits → HasBits flat.now list inputs state bits) }
+{
+    let mut list = start_list(alloc, flat)?;
+    source_inputs(flat, &list, sources)?;
+    source_latches(flat, &list, sources)?;
+    map_nodes(&mut list, alloc, flat, order.nodes.as_slice(), sources)?;
+    with_ports(alloc, flat, list, sources)
+}
+
+/// The cells of a sound flat netlist, for an order of its covers in which each comes after those that it reads.
+///
+/// A cover of two nets that is an OR, an XOR or an AND-NOT is one cell, which other covers may share; how the products
+/// of other covers are formed is free. A list has fewer than 2^32 inputs, latches and cells.
+pub fn map(alloc: Global, flat: &Flat, order: &Order) -> Result<CellList, MapError>
+    requires sound { IsSound flat.now }
+    requires ordered { IsOrder flat.now order.now.nodes }
+    ensures mapped { IfOk result (IsMapped flat.now) }
+    ensures bits { IfOk result (λ list. (inputs state : List Bool) (bits : ℕ → Bool) → IsFlatValuation flat.now inputs state bits → HasBits flat.now list inputs state bits) }
+{
+    let mut sources = vec![in alloc; None; flat.nets.len()]?;
+    map_from(alloc, flat, order, &mut sources)
+}

@@ -1,0 +1,4 @@
+pub mod Padding
+pub mod Uses
+pub mod Admissible
+pub mod Cells

@@ -1,0 +1,46 @@
+-- Plans made of columns and programs.
+use Rattle.std.specs.Prelude.{ℕ, ◌≡◌, max, min, Bool, List, [], ◌++◌, map, length, All}
+use Rattle.lane_core.specs.declared.instr.Column.{Column}
+use Rattle.lane_core.specs.declared.plan.Program.{Program}
+use Rattle.lane_core.specs.declared.plan.Plan.{Plan}
+use Rattle.lane_core.specs.Instrs.{bit_on, after_instrs}
+use Rattle.lane_core.specs.Columns.{after_columns}
+use Rattle.lane_core.specs.Entering.{bits_after}
+use Rattle.cell_core.specs.declared.list.CellList.{CellList}
+use Rattle.cell_lanes.specs.Computes.{ComputesByProgram, ComputesByPlan}
+use Rattle.latch_loops.specs.Places.{closed_place}
+
+-- columns without instructions were added, where there were fewer than this many
+pub record IsPadded (size : ℕ) (columns padded : List Column) : Type 0 where
+  pub more : List Column
+  pub is : padded ≡ columns ++ more
+  pub empty : All (λ column. column.instrs ≡ []) more
+  pub count : length padded ≡ max size (length columns)
+
+-- the greatest of the number of loops and, where there are lanes, 1
+abbrev pub least_size : Program → ℕ
+least_size program = max (length program.latches) (min program.lanes 1)
+
+-- The plan has the program's lanes, loops, ports and nets, and these columns, which are at least as many as loops, and at
+-- least 1 where there are lanes.
+pub record IsClosed (program : Program) (columns : List Column) (plan : Plan) : Type 0 where
+  pub lanes : plan.lanes ≡ program.lanes
+  pub latches : plan.latches ≡ length program.latches
+  pub starts : plan.starts ≡ program.latches
+  pub ins : plan.ins ≡ program.ins
+  pub outs : plan.outs ≡ program.outs
+  pub padded : IsPadded (least_size program) columns plan.columns
+  pub nets : plan.nets ≡ map (closed_place program.instrs) program.nets
+
+-- the plan does what the program does: at the end, and at each place of a net
+pub record DoesAsProgram (program : Program) (plan : Plan) : Type 0 where
+  pub end : (bits : List Bool) → after_columns plan.columns bits ≡ after_instrs program.instrs bits
+  pub nets : (bits : List Bool)
+      → map (λ place. bit_on (bits_after after_columns plan.columns place.after bits) place.lane) plan.nets
+      ≡ map (λ place. bit_on (bits_after after_instrs program.instrs place.after bits) place.lane) program.nets
+
+-- so it computes what the program computes
+abbrev pub ClosingKeepsCells : Type 0
+ClosingKeepsCells =
+    (list : CellList) (program : Program) (columns : List Column) (plan : Plan) → IsClosed program columns plan → DoesAsProgram program plan
+    → ComputesByProgram list program → ComputesByPlan list plan

@@ -1,0 +1,15 @@
+pub mod Steps
+pub mod Carry
+pub mod Uses
+pub mod Gates
+pub mod Ports
+pub mod Counts
+pub mod Values
+pub mod Whole
+pub mod Homes
+pub mod Starts
+pub mod There
+pub mod Sides
+pub mod Prepared
+pub mod Finish
+pub mod Sound

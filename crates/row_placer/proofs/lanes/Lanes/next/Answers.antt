@@ -1,0 +1,81 @@
+use Rattle.std.proofs.Common.{sym, ◌∙◌, ap, ap₂, subst, Bor, ◌+◌, ◌-◌, length, get_or, arith}
+use Rattle.std.proofs.lemmas.List.{length-set}
+use Rattle.row_placer.specs.declared.job.Job.{Job}
+use Rattle.row_placer.specs.Told.{tag, free_tag, BothExchanged}
+use Rattle.row_placer.specs.declared.roles.Role.TheVariants.{Kept, First, Second}
+use Rattle.row_placer.proofs.Gates.{begun, halfway, whole}
+use Rattle.row_placer.proofs.lanes.Lanes.next.Goals as goal
+
+pub use_value-requires-clause-has : goal.use_value-requires-clause-has
+use_value-requires-clause-has c =
+    let s = c.args.self.now in
+    let gate = c.get-gate.result.now in
+    let b = begun s.job.now s.made.items c.len.result s.made.len gate s.tags.items c.args.left.now c.len.ensures (sym s.made.ok.0) c.get-gate.ensures c.requires.within c.requires.ready in
+    b.usable.has
+
+pub use_value-requires-clause-some : goal.use_value-requires-clause-some
+use_value-requires-clause-some c =
+    let s = c.args.self.now in
+    let gate = c.get-gate.result.now in
+    let b = begun s.job.now s.made.items c.len.result s.made.len gate s.tags.items c.args.left.now c.len.ensures (sym s.made.ok.0) c.get-gate.ensures c.requires.within c.requires.ready in
+    b.usable.some
+
+pub use_value-requires-clause-free : goal.use_value-requires-clause-free
+use_value-requires-clause-free c =
+    let s = c.args.self.now in
+    let gate = c.get-gate.result.now in
+    let b = begun s.job.now s.made.items c.len.result s.made.len gate s.tags.items c.args.left.now c.len.ensures (sym s.made.ok.0) c.get-gate.ensures c.requires.within c.requires.ready in
+    b.usable.dark
+
+pub use_value-requires-2-clause-within : goal.use_value-requires-2-clause-within
+use_value-requires-2-clause-within c =
+    let s = c.args.self.now in
+    let gate = c.get-gate.result.now in
+    let b = begun s.job.now s.made.items c.len.result s.made.len gate s.tags.items c.args.left.now c.len.ensures (sym s.made.ok.0) c.get-gate.ensures c.requires.within c.requires.ready in
+    let h = halfway s.job.now (length s.made.items) gate s.tags.items c.use_value.new.self.tags.items c.args.left.now c.use_value.new.left b c.in_ok-use_value.ensures.exchanged c.in_ok-use_value.ensures.left in
+    h.usable.within
+
+pub use_value-requires-2-clause-has : goal.use_value-requires-2-clause-has
+use_value-requires-2-clause-has c =
+    let s = c.args.self.now in
+    let gate = c.get-gate.result.now in
+    let b = begun s.job.now s.made.items c.len.result s.made.len gate s.tags.items c.args.left.now c.len.ensures (sym s.made.ok.0) c.get-gate.ensures c.requires.within c.requires.ready in
+    let h = halfway s.job.now (length s.made.items) gate s.tags.items c.use_value.new.self.tags.items c.args.left.now c.use_value.new.left b c.in_ok-use_value.ensures.exchanged c.in_ok-use_value.ensures.left in
+    h.usable.has
+
+pub use_value-requires-2-clause-some : goal.use_value-requires-2-clause-some
+use_value-requires-2-clause-some c =
+    let s = c.args.self.now in
+    let gate = c.get-gate.result.now in
+    let b = begun s.job.now s.made.items c.len.result s.made.len gate s.tags.items c.args.left.now c.len.ensures (sym s.made.ok.0) c.get-gate.ensures c.requires.within c.requires.ready in
+    let h = halfway s.job.now (length s.made.items) gate s.tags.items c.use_value.new.self.tags.items c.args.left.now c.use_value.new.left b c.in_ok-use_value.ensures.exchanged c.in_ok-use_value.ensures.left in
+    h.usable.some
+
+pub use_value-requires-2-clause-free : goal.use_value-requires-2-clause-free
+use_value-requires-2-clause-free c =
+    let s = c.args.self.now in
+    let gate = c.get-gate.result.now in
+    let b = begun s.job.now s.made.items c.len.result s.made.len gate s.tags.items c.args.left.now c.len.ensures (sym s.made.ok.0) c.get-gate.ensures c.requires.within c.requires.ready in
+    let h = halfway s.job.now (length s.made.items) gate s.tags.items c.use_value.new.self.tags.items c.args.left.now c.use_value.new.left b c.in_ok-use_value.ensures.exchanged c.in_ok-use_value.ensures.left in
+    h.usable.dark
+
+pub gate-requires-clause-known : goal.gate-requires-clause-known
+gate-requires-clause-known c =
+    let s = c.args.self.now in
+    let gate = c.get-gate.result.now in
+    let b = begun s.job.now s.made.items c.len.result s.made.len gate s.tags.items c.args.left.now c.len.ensures (sym s.made.ok.0) c.get-gate.ensures c.requires.within c.requires.ready in
+    let jobs = c.in_ok-use_value-2.ensures.job ∙ c.in_ok-use_value.ensures.job in
+    let mades = c.in_ok-use_value-2.ensures.made ∙ c.in_ok-use_value.ensures.made in
+    ap₂ (λ (j : Bor Job) m. get_or j.now.gates (length m) gate) jobs mades ∙ b.known
+
+pub returns-clause-ready : goal.returns-clause-ready
+returns-clause-ready c =
+    let s = c.args.self.now in
+    let gate = c.get-gate.result.now in
+    let b = begun s.job.now s.made.items c.len.result s.made.len gate s.tags.items c.args.left.now c.len.ensures (sym s.made.ok.0) c.get-gate.ensures c.requires.within c.requires.ready in
+    let h = halfway s.job.now (length s.made.items) gate s.tags.items c.use_value.new.self.tags.items c.args.left.now c.use_value.new.left b c.in_ok-use_value.ensures.exchanged c.in_ok-use_value.ensures.left in
+    whole s.job.now (length s.made.items) gate c.use_value.new.self.tags.items c.use_value-2.new.self.tags.items c.gate.new.self.tags.items c.use_value.new.left c.use_value-2.new.left b.second h
+    c.in_ok-use_value-2.ensures.exchanged c.in_ok-use_value-2.ensures.left
+    (subst (λ n. BothExchanged c.use_value-2.new.self.tags.items c.gate.new.self.tags.items (tag gate.first First) (tag gate.second Second) (tag n Kept) free_tag)
+    (ap₂ (λ (j : Bor Job) m. j.now.base + length m) (c.in_ok-use_value-2.ensures.job ∙ c.in_ok-use_value.ensures.job) (c.in_ok-use_value-2.ensures.made ∙ c.in_ok-use_value.ensures.made)) c.in_ok-gate.ensures.exchanged)
+    (omega (arith, c.requires.wide, c.requires.within, ap length c.in_ok-use_value.ensures.left, length-set c.args.left.now gate.first (get_or c.args.left.now gate.first 0 - 1)))

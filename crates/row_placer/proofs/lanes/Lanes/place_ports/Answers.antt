@@ -1,0 +1,56 @@
+use Rattle.std.proofs.Common.{◌≡◌, ◌∙◌, ap, subst, Bor, ◌<◌, length, arith}
+use Rattle.std.specs.Prelude.{slice_get, Some}
+use Rattle.row_placer.specs.declared.job.Job.{Job}
+use Rattle.row_placer.specs.Ready.{HoldPorts}
+use Rattle.row_placer.proofs.Ports.{ported, port_used, port_held, more_count}
+use Rattle.row_placer.proofs.lanes.Lanes.place_ports.Goals as goal
+
+pub use_value-requires-clause-has : goal.use_value-requires-clause-has
+use_value-requires-clause-has c =
+    let s = c.loop-port.self in
+    let i = c.loop-port.invariant in
+    let job = c.args.self.now.job.now in
+    let less : c.loop-port.port < length job.ports = omega (arith, c.loop-port-test.true, c.len.ensures, ap (λ (j : Bor Job). length j.now.ports) i.6) in
+    let p = ported job c.loop-port.port c.get-value.result.now s.tags.items c.loop-port.left (subst (λ (j : Bor Job). slice_get j.now.ports c.loop-port.port ≡ Some c.get-value.result.now) i.6 c.get-value.ensures) less c.requires.known i.0 in
+    p.usable.has
+
+pub use_value-requires-clause-some : goal.use_value-requires-clause-some
+use_value-requires-clause-some c =
+    let s = c.loop-port.self in
+    let i = c.loop-port.invariant in
+    let job = c.args.self.now.job.now in
+    let less : c.loop-port.port < length job.ports = omega (arith, c.loop-port-test.true, c.len.ensures, ap (λ (j : Bor Job). length j.now.ports) i.6) in
+    let p = ported job c.loop-port.port c.get-value.result.now s.tags.items c.loop-port.left (subst (λ (j : Bor Job). slice_get j.now.ports c.loop-port.port ≡ Some c.get-value.result.now) i.6 c.get-value.ensures) less c.requires.known i.0 in
+    p.usable.some
+
+pub use_value-requires-clause-free : goal.use_value-requires-clause-free
+use_value-requires-clause-free c =
+    let s = c.loop-port.self in
+    let i = c.loop-port.invariant in
+    let job = c.args.self.now.job.now in
+    let less : c.loop-port.port < length job.ports = omega (arith, c.loop-port-test.true, c.len.ensures, ap (λ (j : Bor Job). length j.now.ports) i.6) in
+    let p = ported job c.loop-port.port c.get-value.result.now s.tags.items c.loop-port.left (subst (λ (j : Bor Job). slice_get j.now.ports c.loop-port.port ≡ Some c.get-value.result.now) i.6 c.get-value.ensures) less c.requires.known i.0 in
+    p.usable.dark
+
+pub loop-port-preserved : goal.loop-port-preserved
+loop-port-preserved c =
+    let s = c.loop-port.self in
+    let i = c.loop-port.invariant in
+    let job = c.args.self.now.job.now in
+    let less : c.loop-port.port < length job.ports = omega (arith, c.loop-port-test.true, c.len.ensures, ap (λ (j : Bor Job). length j.now.ports) i.6) in
+    let p = ported job c.loop-port.port c.get-value.result.now s.tags.items c.loop-port.left (subst (λ (j : Bor Job). slice_get j.now.ports c.loop-port.port ≡ Some c.get-value.result.now) i.6 c.get-value.ensures) less c.requires.known i.0 in
+    let e = c.in_ok-use_value.ensures in (
+      port_used job c.loop-port.port c.get-value.result.now s.tags.items c.use_value.new.self.tags.items c.loop-port.left c.use_value.new.left p e.exchanged e.left,
+      port_held job c.loop-port.port c.get-value.result.now s.tags.items c.use_value.new.self.tags.items c.loop-port.left p e.exchanged i.1,
+      e.long ∙ i.2,
+      more_count (length c.args.self.now.instrs.items) (length s.instrs.items) (length c.use_value.new.self.instrs.items) c.loop-port.port (length c.args.self.now.tags.items) i.3 (omega (arith, e.count, i.2)),
+      omega (arith, less),
+      e.made ∙ i.5,
+      e.job ∙ i.6,
+    )
+
+pub returns-clause-held : goal.returns-clause-held
+returns-clause-held c =
+    let i = c.loop-port.invariant in
+    let same : c.loop-port.port ≡ length c.args.self.now.job.now.ports = omega (arith, c.loop-port-test.false, c.len.ensures, ap (λ (j : Bor Job). length j.now.ports) i.6, i.4) in
+    subst (λ n. HoldPorts c.args.self.now.job.now n c.loop-port.self.tags.items) same i.1

@@ -1,0 +1,21 @@
+use Rattle.std.proofs.Common.{sym, subst, ⊎_elim, max, length, arith}
+use Rattle.row_placer.specs.declared.placing.Placed.{Placed}
+use Rattle.row_placer.specs.Placed.{IsPlacedWithin}
+use Rattle.row_placer.proofs.placing.place.Goals as goal
+
+pub loop-spare-init : goal.loop-spare-init
+loop-spare-init c =
+    let e = c.in_ok-best.ensures in
+    record { computes = e.computes; instrs = e.instrs; lanes = omega (arith, e.lanes) }
+
+pub loop-spare-preserved : goal.loop-spare-preserved
+loop-spare-preserved c =
+    let list = c.args.list.now in
+    let most = max list.inputs (length list.outs) in
+    let e = c.in_ok-next.ensures in
+    let next : IsPlacedWithin list most c.in_ok-next.next.program =
+    record { computes = e.computes; instrs = e.instrs; lanes = omega (arith, e.lanes, c.most_spare-spare-end.ensures.ports, c.loop-spare-test.true) } in
+    ⊎_elim
+    (λ old. subst (λ (x : Placed). IsPlacedWithin list most x.program) (sym old) c.loop-spare.invariant)
+    (λ new. subst (λ (x : Placed). IsPlacedWithin list most x.program) (sym new) next)
+    c.smaller-best.ensures

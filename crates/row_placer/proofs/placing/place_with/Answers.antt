@@ -1,0 +1,98 @@
+use Rattle.std.proofs.Common.{◌≡◌, refl, sym, ◌∙◌, ap, ap₂, subst, ◌+◌, ◌-◌, ◌*◌, ◌<◌, ◌≤◌, length, map, arith}
+use Rattle.std.specs.Prelude.{All}
+use Rattle.row_placer.specs.declared.job.Job.{Job}
+use Rattle.std.proofs.lemmas.List.{length-map}
+use Rattle.lane_core.specs.Instrs.{IsOnLanes}
+use Rattle.lane_core.specs.Places.{AreDistinctBelow, IsPlaceWithin}
+use Rattle.row_placer.specs.Told.{Told, MadeTold}
+use Rattle.row_placer.specs.Ready.{HoldPorts, AreSettled}
+use Rattle.cell_core.specs.Loops.{loop_count}
+use Rattle.row_placer.specs.Numbers.{gate_of}
+use Rattle.row_placer.specs.Placed.{IsPrepared, AreOuts, net_place_of}
+use Rattle.row_placer.proofs.Whole.{length-loops}
+use Rattle.row_placer.proofs.Ports.{outs_apart}
+use Rattle.row_placer.proofs.Finish.{finish, nets_within, instr_count}
+use Rattle.row_placer.proofs.Prepared.{length-ports}
+use Rattle.row_placer.proofs.Sound.{sound}
+use Rattle.row_placer.proofs.placing.place_with.Goals as goal
+
+pub run-requires-clause-lanes : goal.run-requires-clause-lanes
+run-requires-clause-lanes c = omega (arith, c.in_ok-job.ensures.room, c.requires.loops)
+
+pub find_outs-requires-clause-held : goal.find_outs-requires-clause-held
+find_outs-requires-clause-held c = subst (λ (j : Job). HoldPorts j (length j.ports) c.in_ok-lanes.lanes.tags.items) (sym c.in_ok-lanes.ensures.job) c.in_ok-lanes.ensures.held
+
+pub invariant_of-program : goal.invariant_of-program
+invariant_of-program c =
+    let list = c.args.list.now in
+    let L = c.in_ok-lanes.lanes in
+    let le = c.in_ok-lanes.ensures in
+    let left = c.in_ok-job.field-0.left.items in
+    let homes = c.in_ok-job.field-0.homes.items in
+    let loops = c.requires.loops in
+    let r = subst (λ (x : Job). IsPrepared list c.args.spare x left homes) (sym le.job) c.in_ok-job.ensures in
+    let count : length L.tags.items ≡ c.len-count.result = sym (c.len-count.ensures ∙ L.tags.ok.0) in
+    let settled = subst (λ n. AreSettled L.job.now n L.tags.items) loops (subst (λ (x : Job). AreSettled x c.args.loops L.tags.items) (sym le.job) le.settled) in
+    let outs = subst (λ n. AreOuts L.job.now n L.tags.items c.of-4.result) loops (subst (AreOuts L.job.now c.args.loops L.tags.items) (sym c.of-4.ensures) c.in_ok-outs.ensures.outs) in
+    let all : length L.made.items ≡ length L.job.now.gates = le.made ∙ ap (λ (x : Job). length x.gates) (sym le.job) in
+    let nets = c.of-5.ensures ∙ c.in_ok-nets.ensures ∙ ap₂ (λ hs ms. map (net_place_of list hs ms) list.nets) c.deref.ensures.value c.deref-2.ensures.value in
+    let ins = c.of-2.ensures ∙ c.truncate.ensures.items in
+    let latches = c.of-3.ensures ∙ c.in_ok-latches.ensures in
+    let few : length c.of-3.result ≡ loop_count list = ap length latches ∙ length-loops list list.starts refl in
+    record {
+      loops_fit = omega (arith, few, r.room, L.long, count);
+      instrs_fit = subst (λ n. All (IsOnLanes n) c.of.result) count (subst (All (IsOnLanes (length L.tags.items))) (sym c.of.ensures) L.on_lanes);
+      ins_fit = subst (λ n. AreDistinctBelow n c.of-2.result) (ap₂ (λ a b. a - b) (L.long ∙ count) (sym few)) (subst (AreDistinctBelow (length L.job.now.start - loop_count list)) (sym ins) r.homes_of.ins_apart);
+      outs_fit = subst (λ n. AreDistinctBelow n c.of-4.result) (ap₂ (λ a b. a - b) count (sym few)) (outs_apart L.job.now (loop_count list) L.tags.items c.of-4.result outs settled);
+      nets_fit = subst (λ n. All (IsPlaceWithin n (length c.of.result)) c.of-5.result) count
+          (nets_within list (length L.tags.items) (length c.of.result) homes L.made.items c.of-5.result (sound c.args.list.now) (subst (λ n. All (λ lane. lane < n) homes) L.long r.below)
+          (subst (λ is. All (IsPlaceWithin (length L.tags.items) (length is)) L.made.items) (sym c.of.ensures) L.places) r.homes_of.least
+          (all ∙ ap length r.job_of.gates ∙ length-map list.cells (gate_of list)) r.zero nets);
+    }
+
+pub returns-clause-computes : goal.returns-clause-computes
+returns-clause-computes c =
+    let list = c.args.list.now in
+    let L = c.in_ok-lanes.lanes in
+    let le = c.in_ok-lanes.ensures in
+    let left = c.in_ok-job.field-0.left.items in
+    let homes = c.in_ok-job.field-0.homes.items in
+    let loops = c.requires.loops in
+    let r = subst (λ (x : Job). IsPrepared list c.args.spare x left homes) (sym le.job) c.in_ok-job.ensures in
+    let count : length L.tags.items ≡ c.len-count.result = sym (c.len-count.ensures ∙ L.tags.ok.0) in
+    let settled = subst (λ n. AreSettled L.job.now n L.tags.items) loops (subst (λ (x : Job). AreSettled x c.args.loops L.tags.items) (sym le.job) le.settled) in
+    let outs = subst (λ n. AreOuts L.job.now n L.tags.items c.of-4.result) loops (subst (AreOuts L.job.now c.args.loops L.tags.items) (sym c.of-4.ensures) c.in_ok-outs.ensures.outs) in
+    let all : length L.made.items ≡ length L.job.now.gates = le.made ∙ ap (λ (x : Job). length x.gates) (sym le.job) in
+    let nets = c.of-5.ensures ∙ c.in_ok-nets.ensures ∙ ap₂ (λ hs ms. map (net_place_of list hs ms) list.nets) c.deref.ensures.value c.deref-2.ensures.value in
+    let ins = c.of-2.ensures ∙ c.truncate.ensures.items in
+    let latches = c.of-3.ensures ∙ c.in_ok-latches.ensures in
+    finish list _ L.job.now L.tags.items L.made.items c.args.spare left homes (sound c.args.list.now) r (record {
+      lanes = count;
+      start = L.long;
+      told = subst (Told L.job.now L.tags.items) (sym c.of.ensures) L.told;
+      made_told = subst (λ is. MadeTold L.job.now is L.made.items) (sym c.of.ensures) L.made_told;
+      all_made = all;
+      latches = latches;
+      settled = settled;
+      outs = outs;
+      outs_long = omega (arith, ap length c.of-4.ensures, c.in_ok-outs.ensures.long, loops);
+      nets = nets;
+      ins = ins;
+    })
+
+pub returns-clause-instrs : goal.returns-clause-instrs
+returns-clause-instrs c =
+    let list = c.args.list.now in
+    let L = c.in_ok-lanes.lanes in
+    let r = c.in_ok-job.ensures in
+    let job = c.in_ok-job.field-0.job in
+    let count : length L.tags.items ≡ c.len-count.result = sym (c.len-count.ensures ∙ L.tags.ok.0) in
+    let most = instr_count (length L.instrs.items) (length job.gates) (length job.ports) c.args.loops (length job.start) (length list.cells) (length list.outs) (loop_count list) c.len-count.result
+    c.in_ok-lanes.ensures.count (ap length r.job_of.gates ∙ length-map list.cells (gate_of list)) (length-ports list job.ports (sound c.args.list.now) r.job_of.ports) c.requires.loops (sym c.in_ok-lanes.ensures.long ∙ count) in
+    subst (λ is. length is ≤ (3 * length list.cells + length list.outs + 2 * loop_count list) * c.len-count.result) (sym c.of.ensures) most
+
+pub prepare-requires-clause-sound : goal.prepare-requires-clause-sound
+prepare-requires-clause-sound c = sound c.args.list.now
+
+pub places_of-requires-clause-sound : goal.places_of-requires-clause-sound
+places_of-requires-clause-sound c = sound c.args.list.now

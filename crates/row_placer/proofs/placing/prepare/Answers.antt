@@ -1,0 +1,176 @@
+use Rattle.std.proofs.Common.{◌≡◌, ◌≢◌, refl, sym, ◌∙◌, ap, ap₂, subst, ℕ, ◌+◌, ◌<◌, ◌≤◌, ◌++◌, cond, length, arith}
+use Rattle.std.specs.Prelude.{All, AllPairs}
+use Rattle.std.proofs.lemmas.List.{length-map}
+use Rattle.row_placer.specs.Uses.{uses_of, owed, AreCounted, ReadsBelow, AreKnown}
+use Rattle.row_placer.specs.Ready.{Ready}
+use Rattle.cell_core.specs.Loops.{loop_count}
+use Rattle.row_placer.specs.Numbers.{gate_of}
+use Rattle.row_placer.specs.Placed.{IsStart, AreAtHome}
+use Rattle.row_placer.proofs.Prepared.{gates_known, gates_below, ports_below, length-ports, start_ready, flag_small, dark_first}
+use Rattle.row_placer.proofs.Sides.{AreSides, sides, sides_apart, sides_within, sides_homes}
+use Rattle.row_placer.proofs.placing.prepare.Goals as goal
+
+pub count_uses-requires-clause-gates : goal.count_uses-requires-clause-gates
+count_uses-requires-clause-gates c =
+    let list = c.args.list.now in
+    let g = c.in_ok-gates.gates.items in
+    let ports = c.in_ok-ports.ports.items in
+    let base = list.inputs + c.args.loops + 1 in
+    let at : base ≡ list.inputs + loop_count list + 1 = ap (λ n. list.inputs + n + 1) c.requires.loops in
+    let len : c.len.result ≡ length g = omega (arith, c.len.ensures, c.in_ok-gates.gates.ok.0) in
+    let cells : length g ≡ length list.cells = ap length c.in_ok-gates.ensures ∙ length-map list.cells (gate_of list) in
+    let known = gates_known list g base c.requires.sound c.in_ok-gates.ensures at in
+    subst (All (ReadsBelow (base + c.len.result))) (sym c.deref.ensures.value) (gates_below base (base + c.len.result) g known (ap (λ n. base + n) len))
+
+pub count_uses-requires-clause-ports : goal.count_uses-requires-clause-ports
+count_uses-requires-clause-ports c =
+    let list = c.args.list.now in
+    let g = c.in_ok-gates.gates.items in
+    let ports = c.in_ok-ports.ports.items in
+    let base = list.inputs + c.args.loops + 1 in
+    let at : base ≡ list.inputs + loop_count list + 1 = ap (λ n. list.inputs + n + 1) c.requires.loops in
+    let len : c.len.result ≡ length g = omega (arith, c.len.ensures, c.in_ok-gates.gates.ok.0) in
+    let cells : length g ≡ length list.cells = ap length c.in_ok-gates.ensures ∙ length-map list.cells (gate_of list) in
+    let known = gates_known list g base c.requires.sound c.in_ok-gates.ensures at in
+    subst (All (λ v. v < base + c.len.result)) (sym c.deref-2.ensures.value) (ports_below list ports (base + c.len.result) c.requires.sound c.in_ok-ports.ensures (omega (arith, at, len, cells)))
+
+pub start_tags-requires-clause-within : goal.start_tags-requires-clause-within
+start_tags-requires-clause-within c =
+    let list = c.args.list.now in
+    let g = c.in_ok-gates.gates.items in
+    let ports = c.in_ok-ports.ports.items in
+    let base = list.inputs + c.args.loops + 1 in
+    let at : base ≡ list.inputs + loop_count list + 1 = ap (λ n. list.inputs + n + 1) c.requires.loops in
+    let len : c.len.result ≡ length g = omega (arith, c.len.ensures, c.in_ok-gates.gates.ok.0) in
+    let cells : length g ≡ length list.cells = ap length c.in_ok-gates.ensures ∙ length-map list.cells (gate_of list) in
+    let known = gates_known list g base c.requires.sound c.in_ok-gates.ensures at in
+    let left = c.in_ok-left.left.items in
+    let wide : length left ≡ base + length g = omega (arith, c.in_ok-left.ensures.long, len) in
+    let dark = c.wants_zero-zero.result in
+    let small = flag_small dark in
+    let inner = list.inputs + c.args.loops in
+    let first = c.first_home-first.result in
+    let homes = c.in_ok-homes.homes.items in
+    let some = dark_first dark (c.in_ok-left.free + c.args.spare) first c.first_home-first.ensures in
+    let s = sides first inner dark homes c.in_ok-homes.ensures in
+    subst (All (λ lane. lane < first + inner)) (sym c.deref-3.ensures.value) (sides_within first inner (first + inner) dark homes s some refl)
+
+pub start_tags-requires-clause-apart : goal.start_tags-requires-clause-apart
+start_tags-requires-clause-apart c =
+    let list = c.args.list.now in
+    let g = c.in_ok-gates.gates.items in
+    let ports = c.in_ok-ports.ports.items in
+    let base = list.inputs + c.args.loops + 1 in
+    let at : base ≡ list.inputs + loop_count list + 1 = ap (λ n. list.inputs + n + 1) c.requires.loops in
+    let len : c.len.result ≡ length g = omega (arith, c.len.ensures, c.in_ok-gates.gates.ok.0) in
+    let cells : length g ≡ length list.cells = ap length c.in_ok-gates.ensures ∙ length-map list.cells (gate_of list) in
+    let known = gates_known list g base c.requires.sound c.in_ok-gates.ensures at in
+    let left = c.in_ok-left.left.items in
+    let wide : length left ≡ base + length g = omega (arith, c.in_ok-left.ensures.long, len) in
+    let dark = c.wants_zero-zero.result in
+    let small = flag_small dark in
+    let inner = list.inputs + c.args.loops in
+    let first = c.first_home-first.result in
+    let homes = c.in_ok-homes.homes.items in
+    let some = dark_first dark (c.in_ok-left.free + c.args.spare) first c.first_home-first.ensures in
+    let s = sides first inner dark homes c.in_ok-homes.ensures in
+    subst (AllPairs (λ a b. a ≢ b)) (sym c.deref-3.ensures.value) (sides_apart first inner dark homes s some)
+
+pub start_tags-requires-clause-left : goal.start_tags-requires-clause-left
+start_tags-requires-clause-left c =
+    let list = c.args.list.now in
+    let g = c.in_ok-gates.gates.items in
+    let ports = c.in_ok-ports.ports.items in
+    let base = list.inputs + c.args.loops + 1 in
+    let at : base ≡ list.inputs + loop_count list + 1 = ap (λ n. list.inputs + n + 1) c.requires.loops in
+    let len : c.len.result ≡ length g = omega (arith, c.len.ensures, c.in_ok-gates.gates.ok.0) in
+    let cells : length g ≡ length list.cells = ap length c.in_ok-gates.ensures ∙ length-map list.cells (gate_of list) in
+    let known = gates_known list g base c.requires.sound c.in_ok-gates.ensures at in
+    let left = c.in_ok-left.left.items in
+    let wide : length left ≡ base + length g = omega (arith, c.in_ok-left.ensures.long, len) in
+    let dark = c.wants_zero-zero.result in
+    let small = flag_small dark in
+    let inner = list.inputs + c.args.loops in
+    let first = c.first_home-first.result in
+    let homes = c.in_ok-homes.homes.items in
+    let some = dark_first dark (c.in_ok-left.free + c.args.spare) first c.first_home-first.ensures in
+    let s = sides first inner dark homes c.in_ok-homes.ensures in
+    omega (arith, ap length c.deref-3.ensures.value, ap length c.deref-4.ensures.value, s.long, small, wide)
+
+pub start_tags-requires-clause-few : goal.start_tags-requires-clause-few
+start_tags-requires-clause-few c =
+    let list = c.args.list.now in
+    let g = c.in_ok-gates.gates.items in
+    let ports = c.in_ok-ports.ports.items in
+    let base = list.inputs + c.args.loops + 1 in
+    let at : base ≡ list.inputs + loop_count list + 1 = ap (λ n. list.inputs + n + 1) c.requires.loops in
+    let len : c.len.result ≡ length g = omega (arith, c.len.ensures, c.in_ok-gates.gates.ok.0) in
+    let cells : length g ≡ length list.cells = ap length c.in_ok-gates.ensures ∙ length-map list.cells (gate_of list) in
+    let known = gates_known list g base c.requires.sound c.in_ok-gates.ensures at in
+    let left = c.in_ok-left.left.items in
+    let wide : length left ≡ base + length g = omega (arith, c.in_ok-left.ensures.long, len) in
+    let dark = c.wants_zero-zero.result in
+    let small = flag_small dark in
+    let inner = list.inputs + c.args.loops in
+    let first = c.first_home-first.result in
+    let homes = c.in_ok-homes.homes.items in
+    let some = dark_first dark (c.in_ok-left.free + c.args.spare) first c.first_home-first.ensures in
+    let s = sides first inner dark homes c.in_ok-homes.ensures in
+    omega (arith, ap length c.deref-3.ensures.value, s.long, small, at, c.requires.small)
+
+pub invariant_of-job : goal.invariant_of-job
+invariant_of-job c =
+    let list = c.args.list.now in
+    let g = c.in_ok-gates.gates.items in
+    let ports = c.in_ok-ports.ports.items in
+    let base = list.inputs + c.args.loops + 1 in
+    let at : base ≡ list.inputs + loop_count list + 1 = ap (λ n. list.inputs + n + 1) c.requires.loops in
+    let len : c.len.result ≡ length g = omega (arith, c.len.ensures, c.in_ok-gates.gates.ok.0) in
+    let cells : length g ≡ length list.cells = ap length c.in_ok-gates.ensures ∙ length-map list.cells (gate_of list) in
+    let known = gates_known list g base c.requires.sound c.in_ok-gates.ensures at in
+    record {
+      known = subst (AreKnown base) (sym c.of.ensures) known;
+      few_ports = omega (arith, ap length c.of-2.ensures, length-ports list ports c.requires.sound c.in_ok-ports.ensures, c.requires.small);
+      few = omega (arith, ap length c.of.ensures, cells, at, c.requires.small);
+    }
+
+pub returns : goal.returns
+returns c =
+    let list = c.args.list.now in
+    let g = c.in_ok-gates.gates.items in
+    let ports = c.in_ok-ports.ports.items in
+    let base = list.inputs + c.args.loops + 1 in
+    let at : base ≡ list.inputs + loop_count list + 1 = ap (λ n. list.inputs + n + 1) c.requires.loops in
+    let len : c.len.result ≡ length g = omega (arith, c.len.ensures, c.in_ok-gates.gates.ok.0) in
+    let cells : length g ≡ length list.cells = ap length c.in_ok-gates.ensures ∙ length-map list.cells (gate_of list) in
+    let known = gates_known list g base c.requires.sound c.in_ok-gates.ensures at in
+    let left = c.in_ok-left.left.items in
+    let wide : length left ≡ base + length g = omega (arith, c.in_ok-left.ensures.long, len) in
+    let dark = c.wants_zero-zero.result in
+    let small = flag_small dark in
+    let inner = list.inputs + c.args.loops in
+    let first = c.first_home-first.result in
+    let homes = c.in_ok-homes.homes.items in
+    let some = dark_first dark (c.in_ok-left.free + c.args.spare) first c.first_home-first.ensures in
+    let s = sides first inner dark homes c.in_ok-homes.ensures in
+    let start = c.in_ok-start.start.items in
+    let is : IsStart homes left (first + inner) start = subst (λ hs. IsStart hs left (first + inner) start) c.deref-3.ensures.value (subst (λ l. IsStart c.deref-3.result.now l (first + inner) start) c.deref-4.ensures.value c.in_ok-start.ensures) in
+    let counted : AreCounted left (uses_of g ++ ports) = subst (AreCounted left) (ap₂ (λ gs ps. uses_of gs ++ ps) c.deref.ensures.value c.deref-2.ensures.value) c.in_ok-left.ensures.left in
+    let owes : c.in_ok-left.free ≡ owed ports g = c.in_ok-left.ensures.owed ∙ ap₂ (λ gs ps. owed ps gs) c.deref.ensures.value c.deref-2.ensures.value in
+    let few : c.in_ok-left.free ≤ length g + length ports + 1 = omega (arith, c.in_ok-left.ensures.few, ap length c.deref.ensures.value, ap length c.deref-2.ensures.value) in
+    let ready = start_ready g ports homes left inner (first + inner) (c.in_ok-left.free + c.args.spare) base dark start is (sides_within first inner (first + inner) dark homes s some refl) counted refl wide s.long c.wants_zero-zero.ensures.used (omega (arith, c.first_home-first.ensures)) (omega (arith, owes)) in
+    let inner_is : inner ≡ list.inputs + loop_count list = ap (λ n. list.inputs + n) c.requires.loops in
+    record {
+      job_of = record { base = at; gates = c.of.ensures ∙ c.in_ok-gates.ensures; ports = c.of-2.ensures ∙ c.in_ok-ports.ensures };
+      ready = subst (λ st. Ready (uses_of c.of.result ++ c.of-2.result) (base + 0) (owed c.of-2.result c.of.result) st left) (sym c.of-3.ensures)
+          (subst (λ ps. Ready (uses_of c.of.result ++ ps) (base + 0) (owed ps c.of.result) start left) (sym c.of-2.ensures)
+          (subst (λ gs. Ready (uses_of gs ++ ports) (base + 0) (owed ports gs) start left) (sym c.of.ensures) ready));
+      counted = wide ∙ ap (λ n. base + n) (sym (ap length c.of.ensures));
+      home = subst (AreAtHome homes) (sym c.of-3.ensures) is.home;
+      homes_of = sides_homes list first (length c.of-3.result) dark homes (subst (λ n. AreSides first n dark homes) inner_is s) some (ap length c.of-3.ensures ∙ is.long ∙ ap (λ n. first + n) inner_is);
+      zero = λ k d below e. (let one : cond {A = ℕ} dark 1 0 ≡ 1 = ap (λ b. cond {A = ℕ} b 1 0) (c.wants_zero-zero.ensures.nets k d below e) in omega (arith, one, s.long, inner_is));
+      ports = subst (All (λ v. v < base + length c.of.result)) (sym c.of-2.ensures) (ports_below list ports (base + length c.of.result) c.requires.sound c.in_ok-ports.ensures (omega (arith, at, ap length c.of.ensures, cells)));
+      room = omega (arith, ap length c.of-3.ensures, is.long, inner_is);
+      below = subst (λ n. All (λ lane. lane < n) homes) (sym (ap length c.of-3.ensures ∙ is.long)) (sides_within first inner (first + inner) dark homes s some refl);
+      lanes = omega (arith, ap length c.of-3.ensures, is.long, c.first_home-first.ensures, small, few, cells, length-ports list ports c.requires.sound c.in_ok-ports.ensures, inner_is);
+    }

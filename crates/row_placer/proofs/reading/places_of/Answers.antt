@@ -1,0 +1,15 @@
+use Rattle.std.proofs.Common.{sym, ◌∙◌, ap, ap₂, ◌<◌, ◌++◌, ◌∷◌, [], length, arith}
+use Rattle.std.proofs.lemmas.List.{map_more}
+use Rattle.std.proofs.lemmas.Option.{get_or_from_slice_get}
+use Rattle.cell_core.specs.declared.cells.Src.TheVariants.{Zero}
+use Rattle.row_placer.specs.Placed.{net_place_of}
+use Rattle.row_placer.proofs.reading.places_of.Goals as goal
+
+pub loop-at-preserved : goal.loop-at-preserved
+loop-at-preserved c =
+    let f = net_place_of c.args.list.now c.args.homes.now c.args.made.now in
+    let nets = c.args.list.now.nets in
+    let below : c.loop-at.at < length nets = omega (arith, c.loop-at-test.true, c.len.ensures) in
+    c.in_ok-push.ensures.items
+    ∙ ap₂ (λ xs p. xs ++ p ∷ []) c.loop-at.invariant (c.find_place.ensures ∙ ap f (sym (get_or_from_slice_get nets c.loop-at.at c.get.result.now Zero c.get.ensures)))
+    ∙ sym (map_more f nets c.loop-at.at Zero below)

@@ -1,0 +1,6 @@
+pub mod Told
+pub mod Uses
+pub mod Ready
+pub mod Numbers
+pub mod Programs
+pub mod Placed

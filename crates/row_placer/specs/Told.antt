@@ -1,0 +1,86 @@
+-- What tags tell of bits.
+use Rattle.std.specs.Prelude.{ℕ, ◌+◌, ◌<◌, ◌≡◌, ◌==◌, Bool, ◌&&◌, ◌||◌, not, cond, List, length, get_or, take, count_by, Option, Some, None}
+use Rattle.lane_core.specs.declared.instr.Instr.{Instr}
+use Rattle.lane_core.specs.declared.instr.Instr.TheVariants as instrs
+use Rattle.lane_core.specs.declared.plan.NetPlace.{NetPlace}
+use Rattle.lane_core.specs.Entering.{bits_after}
+use Rattle.lane_core.specs.Instrs.{after_instrs, bit_on, lane_of, upper_bit, lower_bit}
+use Rattle.row_placer.specs.declared.job.Kind.{Kind}
+use Rattle.row_placer.specs.declared.job.Kind.TheVariants.{Or, Xor, AndNot}
+use Rattle.row_placer.specs.declared.job.Gate.{Gate}
+use Rattle.row_placer.specs.declared.roles.Role.{Role}
+use Rattle.row_placer.specs.declared.roles.Role.TheVariants.{Free, Kept, First, Second, Port}
+use Rattle.row_placer.specs.declared.roles.Tag.{Tag}
+use Rattle.row_placer.specs.declared.job.Job.{Job}
+
+-- a number for each role, so that they are compared
+abbrev pub role_code : Role → ℕ
+role_code Free = 0
+role_code Kept = 1
+role_code First = 2
+role_code Second = 3
+role_code (Port i) = 4 + i
+
+abbrev pub tag : ℕ → Role → Tag
+tag value role = record { value = value; role = role }
+
+abbrev pub free_tag : Tag
+free_tag = record { value = 0; role = Free }
+
+-- a lane that is free tells nothing
+abbrev pub Tells : (ℕ → Bool) → Tag → Bool → Type 0
+Tells bit t b = 0 < role_code t.role → b ≡ bit t.value
+
+abbrev pub HoldsTags : (ℕ → Bool) → List Tag → List Bool → Type 0
+HoldsTags bit tags bits = (lane : ℕ) → Tells bit (get_or tags lane free_tag) (bit_on bits lane)
+
+abbrev pub is_tag : ℕ → Role → Tag → Bool
+is_tag value role t = (role_code t.role == role_code role) && (t.value == value)
+
+abbrev pub gate_bit : Kind → Bool → Bool → Bool
+gate_bit Or a b = a || b
+gate_bit Xor a b = (a || b) && not (a && b)
+gate_bit AndNot a b = a && not b
+
+-- the bits of values are those that the gates make
+abbrev pub Agrees : Job → (ℕ → Bool) → Type 0
+Agrees job bit = (g : ℕ) (d : Gate) → g < length job.gates → bit (job.base + g) ≡ gate_bit (get_or job.gates g d).kind (bit (get_or job.gates g d).first) (bit (get_or job.gates g d).second)
+
+-- whatever bits values have, if the gates make them and the lanes begin with those of their tags, the tags go on to tell the bits
+abbrev pub Told : Job → List Tag → List Instr → Type 0
+Told job tags instrs =
+    (bit : ℕ → Bool) → Agrees job bit → (bits : List Bool) → length bits ≡ length job.start → HoldsTags bit job.start bits → HoldsTags bit tags (after_instrs instrs bits)
+
+-- and the places of the gates that are made have their values
+abbrev pub MadeTold : Job → List Instr → List NetPlace → Type 0
+MadeTold job instrs made =
+    (bit : ℕ → Bool) → Agrees job bit → (bits : List Bool) → length bits ≡ length job.start → HoldsTags bit job.start bits
+    → (g : ℕ) (d : NetPlace) → g < length made → bit_on (bits_after after_instrs instrs (get_or made g d).after bits) (get_or made g d).lane ≡ bit (job.base + g)
+
+-- an instruction puts the bits of these tags on its lanes
+abbrev pub PutsTags : Job → List Tag → Instr → Tag → Tag → Type 0
+PutsTags job tags instr upper lower =
+    (bit : ℕ → Bool) → Agrees job bit → (a b : Bool) → Tells bit (get_or tags (lane_of instr) free_tag) a → Tells bit (get_or tags (lane_of instr + 1) free_tag) b
+    → Tells bit upper (upper_bit instr a b) × Tells bit lower (lower_bit instr a b)
+
+-- so many lanes have this tag
+abbrev pub count : ℕ → Role → List Tag → ℕ
+count value role tags = count_by (is_tag value role) tags
+
+abbrev pub SameTags : List Tag → List Tag → Type 0
+SameTags old new = (p : Tag → Bool) → count_by p new ≡ count_by p old
+
+-- a lane with one tag has got another
+abbrev pub Exchanged : List Tag → List Tag → Tag → Tag → Type 0
+Exchanged old new gone come = (p : Tag → Bool) → count_by p new + cond (p gone) 1 0 ≡ count_by p old + cond (p come) 1 0
+
+-- two lanes with tags have got others
+abbrev pub BothExchanged : List Tag → List Tag → Tag → Tag → Tag → Tag → Type 0
+BothExchanged old new gone gone' come come' =
+    (p : Tag → Bool) → count_by p new + (cond (p gone) 1 0 + cond (p gone') 1 0) ≡ count_by p old + (cond (p come) 1 0 + cond (p come') 1 0)
+
+-- the instruction of a gate
+abbrev pub gate_instr : Kind → ℕ → Instr
+gate_instr Or lane = instrs.Or lane
+gate_instr Xor lane = instrs.Xor lane
+gate_instr AndNot lane = instrs.AndNot lane

@@ -1,0 +1,51 @@
+// Uses of values are counted from the last to the first, and with them the lanes that copies need.
+ghost use Rattle.std.specs.Prelude.{ℕ, ◌≡◌, ◌==◌, ◌≤◌, ◌<◌, ◌+◌, ◌-◌, ◌*◌, ◌^◌, ◌++◌, length, All, cond, get_or, set, IfOk};
+ghost use Rattle.row_placer.specs.Uses.{uses_of, owed, AreCounted, ReadsBelow};
+
+use crate::{Gate, PlaceError};
+use std::alloc::Global;
+
+// One use more; 1 where there were uses.
+fn add_use(left: &mut Vec<u32>, value: u32) -> u32
+    requires within { value < length left.old.items }
+    requires few { get_or left.old.items value 0 < 2 ^ 32 - 1 }
+    ensures need { result ≡ cond (get_or left.old.items value 0 == 0) 0 1 }
+    ensures left { left.new.items ≡ set left.old.items value (get_or left.old.items value 0 + 1) }
+{
+    let before = left[value as usize];
+    left[value as usize] = before + 1;
+    if before == 0 { 0 } else { 1 }
+}
+
+/// How often each value is used, and how many free lanes are enough.
+pub fn count_uses(
+    alloc: Global,
+    gates: &[Gate],
+    ports: &[u32],
+    values: u32,
+) -> Result<(Vec<u32>, u32), PlaceError>
+    requires gates { All (ReadsBelow values) gates.now }
+    requires ports { All (λ v. v < values) ports.now }
+    requires few { 2 * length gates.now + length ports.now < 2 ^ 32 - 1 }
+    ensures left { IfOk result (λ r. AreCounted r.0.items (uses_of gates.now ++ ports.now)) }
+    ensures long { IfOk result (λ r. length r.0.items ≡ values) }
+    ensures owed { IfOk result (λ r. r.1 ≡ owed ports.now gates.now) }
+    ensures few { IfOk result (λ r. r.1 ≤ length gates.now + length ports.now + 1) }
+{
+    let mut left = vec![in alloc; 0; values as usize]?;
+    let mut free = 0;
+    let mut port = ports.len();
+    while port > 0 {
+        port -= 1;
+        free += add_use(&mut left, ports[port]);
+    }
+    let mut at = gates.len();
+    while at > 0 {
+        at -= 1;
+        let gate = gates[at];
+        let second = add_use(&mut left, gate.second);
+        let first = add_use(&mut left, gate.first);
+        free = first + (second + free.saturating_sub(1));
+    }
+    Ok((left, free))
+}

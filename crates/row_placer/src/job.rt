@@ -1,0 +1,34 @@
+// What is placed: gates over numbered values.
+ghost use Rattle.std.specs.Prelude.{◌+◌, ◌<◌, ◌^◌, length};
+ghost use Rattle.row_placer.specs.Uses.{AreKnown};
+
+use crate::Tag;
+use lists::List;
+
+/// What a gate does.
+#[derive(Clone, Copy, Debug, PartialEq, Eq)]
+pub enum Kind {
+    Or,
+    Xor,
+    AndNot,
+}
+
+/// A gate over two values, by their numbers.
+#[derive(Clone, Copy, Debug, PartialEq, Eq)]
+pub struct Gate {
+    pub kind: Kind,
+    pub first: u32,
+    pub second: u32,
+}
+
+/// Gate g makes value `base + g`; the lanes stand at first as `start` says; the values of `ports` are wanted at the end.
+#[derive(Drop)]
+pub struct Job {
+    pub gates: List<Gate>,
+    pub base: u32,
+    pub ports: List<u32>,
+    pub start: List<Tag>,
+    pub ghost known: { AreKnown base gates },
+    pub ghost few_ports: { length ports + 4 < 2 ^ 32 },
+    pub ghost few: { base + length gates < 2 ^ 32 },
+}

@@ -1,0 +1,586 @@
+// Lanes, with their tags and clocks, and the instructions so far.
+ghost use Rattle.std.specs.Prelude.{ℕ, ◌≡◌, ◌==◌, ◌≢◌, ◌≤◌, ◌<◌, ◌+◌, ◌-◌, ◌*◌, ◌^◌, ◌++◌, ◌∷◌, [], length, All, cond, get_or, set, OnOk, IfSome, IfOk, Bool, true, false, List, count_by};
+ghost use Rattle.lane_core.specs.Instrs.{IsOnLanes, lane_of};
+ghost use Rattle.lane_core.specs.Places.{IsPlaceWithin};
+ghost use Rattle.row_placer.specs.declared.roles.Role.TheVariants.{Free, Kept, First, Second};
+ghost use Rattle.row_placer.specs.Told.{role_code, Told, MadeTold, PutsTags, SameTags, Exchanged, count, free_tag, tag, gate_instr, BothExchanged};
+ghost use Rattle.row_placer.specs.Ready.{ReadyForGate, ReadyForPort, HoldPorts, AreSettled};
+ghost use Rattle.row_placer.specs.Placed.{AreOuts};
+ghost use Rattle.row_placer.specs.declared.job.Kind.TheVariants.{AndNot};
+ghost use Rattle.channel_router.specs.Routes.{swapped, brought, distance};
+
+use crate::{Gate, Job, Kind, PlaceError, Role, Tag};
+use lane_core::{Instr, NetPlace};
+use std::alloc::Global;
+
+/// Every tag tells the bit on its lane after the instructions, and every place of a gate has its value.
+#[derive(Drop)]
+pub struct Lanes<'a> {
+    pub job: &'a Job,
+    pub tags: Vec<Tag>,
+    pub clocks: Vec<u64>,
+    pub instrs: Vec<Instr>,
+    pub made: Vec<NetPlace>,
+    pub ghost few: { length tags.items < 2 ^ 32 },
+    pub ghost long: { length job.now.start ≡ length tags.items },
+    pub ghost clocked: { length clocks.items ≡ length tags.items },
+    pub ghost on_lanes: { All (IsOnLanes (length tags.items)) instrs.items },
+    pub ghost told: { Told job.now tags.items instrs.items },
+    pub ghost places: { All (IsPlaceWithin (length tags.items) (length instrs.items)) made.items },
+    pub ghost made_told: { MadeTold job.now instrs.items made.items },
+}
+
+impl<'a> Lanes<'a> {
+    /// The lanes as they are at the start.
+    pub fn new(alloc: Global, job: &'a Job) -> Result<Lanes<'a>, PlaceError>
+        requires few { length job.now.start < 2 ^ 32 }
+        ensures tags { IfOk result (λ r. r.tags.items ≡ job.now.start) }
+        ensures none { IfOk result (λ r. (length r.instrs.items ≡ 0) × (length r.made.items ≡ 0)) }
+        ensures job { IfOk result (λ r. r.job.now ≡ job.now) }
+    {
+        let mut tags = Vec::new(alloc);
+        tags.extend_from_slice(job.start.as_slice())?;
+        let clocks = vec![in alloc; 0; tags.len()]?;
+        Ok(Lanes {
+            job,
+            tags,
+            clocks,
+            instrs: Vec::new(alloc),
+            made: Vec::new(alloc),
+        })
+    }
+
+    /// Places all that the job asks for.
+    pub fn run(
+        alloc: Global,
+        job: &'a Job,
+        loops: u32,
+        left: &mut [u32],
+    ) -> Result<Lanes<'a>, PlaceError>
+        requires few { length job.now.start < 2 ^ 32 }
+        requires ready { ReadyForGate job.now 0 job.now.start left.old }
+        requires wide { job.now.base + length job.now.gates ≤ length left.old }
+        requires known { All (λ v. v < job.now.base + length job.now.gates) job.now.ports }
+        requires loops { loops ≤ length job.now.ports }
+        requires lanes { loops ≤ length job.now.start }
+        ensures held { IfOk result (λ r. HoldPorts job.now (length job.now.ports) r.tags.items) }
+        ensures settled { IfOk result (λ r. AreSettled job.now loops r.tags.items) }
+        ensures long { IfOk result (λ r. length r.tags.items ≡ length job.now.start) }
+        ensures made { IfOk result (λ r. length r.made.items ≡ length job.now.gates) }
+        ensures job { IfOk result (λ r. r.job.now ≡ job.now) }
+        ensures count { IfOk result (λ r. length r.instrs.items ≤ length job.now.gates * (3 * length job.now.start) + length job.now.ports * length job.now.start + loops * length job.now.start) }
+    {
+        let mut lanes = Lanes::new(alloc, job)?;
+        lanes.place_gates(left)?;
+        lanes.place_ports(loops, left)?;
+        lanes.settle_loops(loops)?;
+        Ok(lanes)
+    }
+
+    /// Does an instruction, after which its two lanes have these tags.
+    fn step(&mut self, instr: Instr, upper: Tag, lower: Tag) -> Result<(), PlaceError>
+        requires within { lane_of instr + 1 < length self.old.tags.items }
+        requires answers { PutsTags self.old.job.now self.old.tags.items instr upper lower }
+        ensures tags { OnOk result (self.new.tags.items ≡ set (set self.old.tags.items (lane_of instr) upper) (lane_of instr + 1) lower) }
+        ensures instrs { OnOk result (self.new.instrs.items ≡ self.old.instrs.items ++ instr ∷ []) }
+        ensures made { self.new.made.items ≡ self.old.made.items }
+        ensures job { self.new.job ≡ self.old.job }
+    {
+        self.instrs.push(instr)?;
+        let at = instr.lane() as usize;
+        let time = self.clocks[at].max(self.clocks[at + 1]).saturating_add(1);
+        self.clocks[at] = time;
+        self.clocks[at + 1] = time;
+        self.tags[at] = upper;
+        self.tags[at + 1] = lower;
+        Ok(())
+    }
+
+    /// Exchanges two neighbouring lanes.
+    fn swap(&mut self, lane: u32) -> Result<(), PlaceError>
+        requires { lane + 1 < length self.old.tags.items }
+        ensures lanes { OnOk result ((l : ℕ) → get_or self.new.tags.items l free_tag ≡ get_or self.old.tags.items (swapped lane l) free_tag) }
+        ensures long { OnOk result (length self.new.tags.items ≡ length self.old.tags.items) }
+        ensures same { OnOk result (SameTags self.old.tags.items self.new.tags.items) }
+        ensures count { OnOk result (length self.new.instrs.items ≡ length self.old.instrs.items + 1) }
+        ensures made { self.new.made.items ≡ self.old.made.items }
+        ensures job { self.new.job ≡ self.old.job }
+    {
+        let upper = self.tags[lane as usize + 1];
+        let lower = self.tags[lane as usize];
+        self.step(Instr::Swap(lane), upper, lower)?;
+        Ok(())
+    }
+
+    /// Copies a lane to the next one.
+    fn fork(&mut self, lane: u32) -> Result<(), PlaceError>
+        requires { lane + 1 < length self.old.tags.items }
+        ensures upper { OnOk result (get_or self.new.tags.items lane free_tag ≡ get_or self.old.tags.items lane free_tag) }
+        ensures lower { OnOk result (get_or self.new.tags.items (lane + 1) free_tag ≡ get_or self.old.tags.items lane free_tag) }
+        ensures exchanged { OnOk result (Exchanged self.old.tags.items self.new.tags.items (get_or self.old.tags.items (lane + 1) free_tag) (get_or self.old.tags.items lane free_tag)) }
+        ensures long { OnOk result (length self.new.tags.items ≡ length self.old.tags.items) }
+        ensures count { OnOk result (length self.new.instrs.items ≡ length self.old.instrs.items + 1) }
+        ensures made { self.new.made.items ≡ self.old.made.items }
+        ensures job { self.new.job ≡ self.old.job }
+    {
+        let both = self.tags[lane as usize];
+        self.step(Instr::Fork(lane), both, both)?;
+        Ok(())
+    }
+
+    /// Gives the value on a lane another role.
+    fn mark(&mut self, lane: u32, role: Role)
+        requires within { lane < length self.old.tags.items }
+        requires some { 0 < role_code (get_or self.old.tags.items lane free_tag).role }
+        ensures tags { self.new.tags.items ≡ set self.old.tags.items lane (tag (get_or self.old.tags.items lane free_tag).value role) }
+        ensures count { length self.new.instrs.items ≡ length self.old.instrs.items }
+        ensures made { self.new.made.items ≡ self.old.made.items }
+        ensures job { self.new.job ≡ self.old.job }
+    {
+        let value = self.tags[lane as usize].value;
+        self.tags[lane as usize] = Tag { value, role };
+    }
+
+    /// A lane with this value in this role.
+    fn find(&self, value: u32, role: Role) -> u32
+        requires { 1 ≤ count value role self.now.tags.items }
+        ensures within { result < length self.now.tags.items }
+        ensures here { get_or self.now.tags.items result free_tag ≡ tag value role }
+    {
+        let mut lane = 0;
+        while (lane as usize) < self.tags.len() {
+            if self.tags[lane as usize].is(value, role) {
+                return lane;
+            }
+            lane += 1;
+        }
+        unreachable!()
+    }
+
+    /// Brings a lane to another one; the others keep their order.
+    fn bring(&mut self, from: u32, to: u32) -> Result<(), PlaceError>
+        requires from { from < length self.old.tags.items }
+        requires to { to < length self.old.tags.items }
+        ensures lanes { OnOk result ((l : ℕ) → get_or self.new.tags.items l free_tag ≡ get_or self.old.tags.items (brought from to l) free_tag) }
+        ensures long { OnOk result (length self.new.tags.items ≡ length self.old.tags.items) }
+        ensures same { OnOk result (SameTags self.old.tags.items self.new.tags.items) }
+        ensures count { OnOk result (length self.new.instrs.items ≡ length self.old.instrs.items + distance from to) }
+        ensures made { self.new.made.items ≡ self.old.made.items }
+        ensures job { self.new.job ≡ self.old.job }
+    {
+        let mut at = from;
+        while at < to {
+            self.swap(at)?;
+            at += 1;
+        }
+        while at > to {
+            at -= 1;
+            self.swap(at)?;
+        }
+        Ok(())
+    }
+
+    /// Where two lanes meet first by their clocks: the upper of the two lanes that they come to.
+    fn meeting(&self, upper: u32, lower: u32) -> (u32, u64)
+        requires order { upper < lower }
+        requires within { lower < length self.now.tags.items }
+        ensures low { upper ≤ result.0 }
+        ensures high { result.0 < lower }
+    {
+        let (mut i, mut j) = (upper, lower);
+        let mut time_i = self.clocks[i as usize];
+        let mut time_j = self.clocks[j as usize];
+        while i + 1 < j {
+            let next_i = time_i.max(self.clocks[i as usize + 1]);
+            let next_j = time_j.max(self.clocks[j as usize - 1]);
+            if next_i <= next_j {
+                time_i = next_i.saturating_add(1);
+                i += 1;
+            } else {
+                time_j = next_j.saturating_add(1);
+                j -= 1;
+            }
+        }
+        (i, time_i.max(time_j).saturating_add(1))
+    }
+
+    /// Brings two lanes side by side, the upper one to `at`.
+    fn meet(&mut self, upper: u32, lower: u32, at: u32) -> Result<(), PlaceError>
+        requires low { upper ≤ at }
+        requires high { at < lower }
+        requires within { lower < length self.old.tags.items }
+        ensures first { OnOk result (get_or self.new.tags.items at free_tag ≡ get_or self.old.tags.items upper free_tag) }
+        ensures second { OnOk result (get_or self.new.tags.items (at + 1) free_tag ≡ get_or self.old.tags.items lower free_tag) }
+        ensures long { OnOk result (length self.new.tags.items ≡ length self.old.tags.items) }
+        ensures same { OnOk result (SameTags self.old.tags.items self.new.tags.items) }
+        ensures count { OnOk result (length self.new.instrs.items + 1 ≡ length self.old.instrs.items + (lower - upper)) }
+        ensures made { self.new.made.items ≡ self.old.made.items }
+        ensures job { self.new.job ≡ self.old.job }
+    {
+        self.bring(upper, at)?;
+        self.bring(lower, at + 1)?;
+        Ok(())
+    }
+
+    /// The nearest free lane below.
+    fn free_below(&self, lane: u32) -> Option<u32>
+        ensures within { IfSome result (λ r. r < length self.now.tags.items) }
+        ensures here { IfSome result (λ r. get_or self.now.tags.items r free_tag ≡ free_tag) }
+    {
+        let mut at = lane;
+        while at as usize + 1 < self.tags.len() {
+            at += 1;
+            if self.tags[at as usize].is(0, Role::Free) {
+                return Some(at);
+            }
+        }
+        None
+    }
+
+    /// The nearest free lane above.
+    fn free_above(&self, lane: u32) -> Option<u32>
+        requires { lane < length self.now.tags.items }
+        ensures within { IfSome result (λ r. r < length self.now.tags.items) }
+        ensures here { IfSome result (λ r. get_or self.now.tags.items r free_tag ≡ free_tag) }
+    {
+        let mut at = lane;
+        while at > 0 {
+            at -= 1;
+            if self.tags[at as usize].is(0, Role::Free) {
+                return Some(at);
+            }
+        }
+        None
+    }
+
+    // When a lane could meet another one.
+    fn time_to(&self, lane: u32, other: u32) -> u64
+        requires lane { lane < length self.now.tags.items }
+        requires other { other < length self.now.tags.items }
+    {
+        if lane < other {
+            self.meeting(lane, other).1
+        } else if other < lane {
+            self.meeting(other, lane).1.saturating_add(1)
+        } else {
+            0
+        }
+    }
+
+    /// A free lane, the one that the lane can meet first.
+    fn choose_free(&self, lane: u32) -> u32
+        requires within { lane < length self.now.tags.items }
+        requires free { 1 ≤ count 0 Free self.now.tags.items }
+        ensures within { result < length self.now.tags.items }
+        ensures here { get_or self.now.tags.items result free_tag ≡ free_tag }
+    {
+        match (self.free_below(lane), self.free_above(lane)) {
+            (Some(below), Some(above)) => {
+                if self.time_to(lane, below) <= self.time_to(lane, above) {
+                    below
+                } else {
+                    above
+                }
+            }
+            (Some(below), None) => below,
+            (None, Some(above)) => above,
+            (None, None) => self.find(0, Role::Free),
+        }
+    }
+
+    /// A second copy of what stands on a lane: the upper one of the two lanes that then have it.
+    fn copy(&mut self, lane: u32) -> Result<u32, PlaceError>
+        requires within { lane < length self.old.tags.items }
+        requires some { 0 < role_code (get_or self.old.tags.items lane free_tag).role }
+        requires free { 1 ≤ count 0 Free self.old.tags.items }
+        ensures within { IfOk result (λ r. r + 1 < length self.old.tags.items) }
+        ensures upper { IfOk result (λ r. get_or self.new.tags.items r free_tag ≡ get_or self.old.tags.items lane free_tag) }
+        ensures lower { IfOk result (λ r. get_or self.new.tags.items (r + 1) free_tag ≡ get_or self.old.tags.items lane free_tag) }
+        ensures exchanged { OnOk result (Exchanged self.old.tags.items self.new.tags.items free_tag (get_or self.old.tags.items lane free_tag)) }
+        ensures long { OnOk result (length self.new.tags.items ≡ length self.old.tags.items) }
+        ensures count { OnOk result (length self.new.instrs.items ≤ length self.old.instrs.items + length self.old.tags.items) }
+        ensures made { self.new.made.items ≡ self.old.made.items }
+        ensures job { self.new.job ≡ self.old.job }
+    {
+        let free = self.choose_free(lane);
+        if lane < free {
+            let at = self.meeting(lane, free).0;
+            self.meet(lane, free, at)?;
+            self.fork(at)?;
+            Ok(at)
+        } else {
+            let at = self.meeting(free, lane).0;
+            self.meet(free, lane, at)?;
+            self.swap(at)?;
+            self.fork(at)?;
+            Ok(at)
+        }
+    }
+
+    /// Gives a role to a kept value: to its lane, or to a copy, the one on the partner's side.
+    fn fetch(&mut self, value: u32, role: Role, last: bool, partner: u32) -> Result<(), PlaceError>
+        requires has { 1 ≤ count value Kept self.old.tags.items }
+        requires free { last ≡ false → 1 ≤ count 0 Free self.old.tags.items }
+        ensures exchanged { OnOk result (Exchanged self.old.tags.items self.new.tags.items (cond last (tag value Kept) free_tag) (tag value role)) }
+        ensures long { OnOk result (length self.new.tags.items ≡ length self.old.tags.items) }
+        ensures count { OnOk result (length self.new.instrs.items ≤ length self.old.instrs.items + length self.old.tags.items) }
+        ensures made { self.new.made.items ≡ self.old.made.items }
+        ensures job { self.new.job ≡ self.old.job }
+    {
+        let lane = self.find(value, Role::Kept);
+        if last {
+            self.mark(lane, role);
+            Ok(())
+        } else {
+            let at = self.copy(lane)?;
+            if partner > at {
+                self.mark(at + 1, role);
+            } else {
+                self.mark(at, role);
+            }
+            Ok(())
+        }
+    }
+
+    /// Names the lane of the last instruction as the place of the next gate.
+    fn note(&mut self, lane: u32) -> Result<(), PlaceError>
+        requires lane { lane < length self.old.tags.items }
+        requires some { 0 < length self.old.instrs.items }
+        requires here { get_or self.old.tags.items lane free_tag ≡ tag (self.old.job.now.base + length self.old.made.items) Kept }
+        ensures tags { self.new.tags.items ≡ self.old.tags.items }
+        ensures instrs { self.new.instrs.items ≡ self.old.instrs.items }
+        ensures made { OnOk result (length self.new.made.items ≡ length self.old.made.items + 1) }
+        ensures job { self.new.job ≡ self.old.job }
+    {
+        let after = self.instrs.len() as u64 - 1;
+        self.made.push(NetPlace {
+            lane,
+            after: Some(after),
+        })?;
+        Ok(())
+    }
+
+    /// Makes the next gate of two neighbouring lanes; `turned` where the second operand is on the upper one.
+    fn make(&mut self, lane: u32, gate: Gate, turned: bool) -> Result<(), PlaceError>
+        requires lane { lane + 1 < length self.old.tags.items }
+        requires within { length self.old.made.items < length self.old.job.now.gates }
+        requires known { get_or self.old.job.now.gates (length self.old.made.items) gate ≡ gate }
+        requires upper { get_or self.old.tags.items lane free_tag ≡ cond turned (tag gate.second Second) (tag gate.first First) }
+        requires lower { get_or self.old.tags.items (lane + 1) free_tag ≡ cond turned (tag gate.first First) (tag gate.second Second) }
+        requires order { gate.kind ≡ AndNot → turned ≡ false }
+        ensures exchanged { OnOk result (BothExchanged self.old.tags.items self.new.tags.items (tag gate.first First) (tag gate.second Second)
+            (tag (self.old.job.now.base + length self.old.made.items) Kept) free_tag) }
+        ensures long { OnOk result (length self.new.tags.items ≡ length self.old.tags.items) }
+        ensures count { OnOk result (length self.new.instrs.items ≡ length self.old.instrs.items + 1) }
+        ensures made { OnOk result (length self.new.made.items ≡ length self.old.made.items + 1) }
+        ensures job { self.new.job ≡ self.old.job }
+    {
+        let value = self.job.base + self.made.len() as u32;
+        let instr = instr_of(gate.kind, lane);
+        self.step(
+            instr,
+            Tag {
+                value,
+                role: Role::Kept,
+            },
+            Tag {
+                value: 0,
+                role: Role::Free,
+            },
+        )?;
+        self.note(lane)?;
+        Ok(())
+    }
+
+    /// Makes the next gate of its operands.
+    fn gate(&mut self, gate: Gate) -> Result<(), PlaceError>
+        requires within { length self.old.made.items < length self.old.job.now.gates }
+        requires known { get_or self.old.job.now.gates (length self.old.made.items) gate ≡ gate }
+        requires first { 1 ≤ count gate.first First self.old.tags.items }
+        requires second { 1 ≤ count gate.second Second self.old.tags.items }
+        ensures exchanged { OnOk result (BothExchanged self.old.tags.items self.new.tags.items (tag gate.first First) (tag gate.second Second)
+            (tag (self.old.job.now.base + length self.old.made.items) Kept) free_tag) }
+        ensures long { OnOk result (length self.new.tags.items ≡ length self.old.tags.items) }
+        ensures count { OnOk result (length self.new.instrs.items ≤ length self.old.instrs.items + length self.old.tags.items) }
+        ensures made { OnOk result (length self.new.made.items ≡ length self.old.made.items + 1) }
+        ensures job { self.new.job ≡ self.old.job }
+    {
+        let x = self.find(gate.first, Role::First);
+        let y = self.find(gate.second, Role::Second);
+        if x < y {
+            let at = self.meeting(x, y).0;
+            self.meet(x, y, at)?;
+            self.make(at, gate, false)?;
+            Ok(())
+        } else {
+            let at = self.meeting(y, x).0;
+            self.meet(y, x, at)?;
+            if is_and_not(gate.kind) {
+                self.swap(at)?;
+                self.make(at, gate, false)?;
+                Ok(())
+            } else {
+                self.make(at, gate, true)?;
+                Ok(())
+            }
+        }
+    }
+
+    /// One use of a kept value: it gets a role, or a copy of it does where there are later uses.
+    fn use_value(
+        &mut self,
+        value: u32,
+        role: Role,
+        partner: u32,
+        left: &mut [u32],
+    ) -> Result<(), PlaceError>
+        requires role { 2 ≤ role_code role }
+        requires within { value < length left.old }
+        requires has { 1 ≤ count value Kept self.old.tags.items }
+        requires some { 1 ≤ get_or left.old value 0 }
+        requires free { get_or left.old value 0 ≢ 1 → 1 ≤ count 0 Free self.old.tags.items }
+        ensures exchanged { OnOk result (Exchanged self.old.tags.items self.new.tags.items (cond (get_or left.old value 0 == 1) (tag value Kept) free_tag) (tag value role)) }
+        ensures left { left.new ≡ set left.old value (get_or left.old value 0 - 1) }
+        ensures long { OnOk result (length self.new.tags.items ≡ length self.old.tags.items) }
+        ensures count { OnOk result (length self.new.instrs.items ≤ length self.old.instrs.items + length self.old.tags.items) }
+        ensures made { self.new.made.items ≡ self.old.made.items }
+        ensures job { self.new.job ≡ self.old.job }
+    {
+        left[value as usize] -= 1;
+        let last = left[value as usize] == 0;
+        self.fetch(value, role, last, partner)?;
+        Ok(())
+    }
+
+    // The first lane with this value in this role, if there is one.
+    fn lane_of_partner(&self, value: u32, role: Role) -> u32 {
+        let mut lane = 0;
+        while (lane as usize) < self.tags.len() {
+            if self.tags[lane as usize].is(value, role) {
+                return lane;
+            }
+            lane += 1;
+        }
+        0
+    }
+
+    /// Places the next gate.
+    fn next(&mut self, left: &mut [u32]) -> Result<(), PlaceError>
+        requires within { length self.old.made.items < length self.old.job.now.gates }
+        requires ready { ReadyForGate self.old.job.now (length self.old.made.items) self.old.tags.items left.old }
+        requires wide { self.old.job.now.base + length self.old.job.now.gates ≤ length left.old }
+        ensures ready { OnOk result (ReadyForGate self.old.job.now (length self.old.made.items + 1) self.new.tags.items left.new) }
+        ensures long { OnOk result (length self.new.tags.items ≡ length self.old.tags.items) }
+        ensures count { OnOk result (length self.new.instrs.items ≤ length self.old.instrs.items + 3 * length self.old.tags.items) }
+        ensures made { OnOk result (length self.new.made.items ≡ length self.old.made.items + 1) }
+        ensures job { self.new.job ≡ self.old.job }
+        ensures left { OnOk result (length left.new ≡ length left.old) }
+    {
+        let gate = *self.job.gates.get(self.made.len());
+        let partner = self.lane_of_partner(gate.second, Role::Kept);
+        self.use_value(gate.first, Role::First, partner, left)?;
+        let partner = self.lane_of_partner(gate.first, Role::First);
+        self.use_value(gate.second, Role::Second, partner, left)?;
+        self.gate(gate)?;
+        Ok(())
+    }
+
+    /// Places all gates.
+    fn place_gates(&mut self, left: &mut [u32]) -> Result<(), PlaceError>
+        requires none { length self.old.made.items ≡ 0 }
+        requires ready { ReadyForGate self.old.job.now 0 self.old.tags.items left.old }
+        requires wide { self.old.job.now.base + length self.old.job.now.gates ≤ length left.old }
+        ensures ready { OnOk result (ReadyForPort self.old.job.now 0 self.new.tags.items left.new) }
+        ensures long { OnOk result (length self.new.tags.items ≡ length self.old.tags.items) }
+        ensures count { OnOk result (length self.new.instrs.items ≤ length self.old.instrs.items + length self.old.job.now.gates * (3 * length self.old.tags.items)) }
+        ensures made { OnOk result (length self.new.made.items ≡ length self.old.job.now.gates) }
+        ensures job { self.new.job ≡ self.old.job }
+        ensures left { OnOk result (length left.new ≡ length left.old) }
+    {
+        while self.made.len() < self.job.gates.len() {
+            self.next(left)?;
+        }
+        Ok(())
+    }
+
+    /// Gives each port a lane of its own.
+    fn place_ports(&mut self, loops: u32, left: &mut [u32]) -> Result<(), PlaceError>
+        requires ready { ReadyForPort self.old.job.now 0 self.old.tags.items left.old }
+        requires known { All (λ v. v < self.old.job.now.base + length self.old.job.now.gates) self.old.job.now.ports }
+        ensures held { OnOk result (HoldPorts self.old.job.now (length self.old.job.now.ports) self.new.tags.items) }
+        ensures long { OnOk result (length self.new.tags.items ≡ length self.old.tags.items) }
+        ensures count { OnOk result (length self.new.instrs.items ≤ length self.old.instrs.items + length self.old.job.now.ports * length self.old.tags.items) }
+        ensures made { self.new.made.items ≡ self.old.made.items }
+        ensures job { self.new.job ≡ self.old.job }
+    {
+        let mut port = 0;
+        while (port as usize) < self.job.ports.len() {
+            let value = *self.job.ports.get(port as usize);
+            let partner = if port < loops { u32::MAX } else { 0 };
+            self.use_value(value, Role::Port(port), partner, left)?;
+            port += 1;
+        }
+        Ok(())
+    }
+
+    /// Brings the first ports to the lowest lanes, the first one to the lowest.
+    fn settle_loops(&mut self, loops: u32) -> Result<(), PlaceError>
+        requires loops { loops ≤ length self.old.job.now.ports }
+        requires lanes { loops ≤ length self.old.tags.items }
+        requires held { HoldPorts self.old.job.now (length self.old.job.now.ports) self.old.tags.items }
+        ensures held { OnOk result (HoldPorts self.old.job.now (length self.old.job.now.ports) self.new.tags.items) }
+        ensures settled { OnOk result (AreSettled self.old.job.now loops self.new.tags.items) }
+        ensures long { OnOk result (length self.new.tags.items ≡ length self.old.tags.items) }
+        ensures count { OnOk result (length self.new.instrs.items ≤ length self.old.instrs.items + loops * length self.old.tags.items) }
+        ensures made { self.new.made.items ≡ self.old.made.items }
+        ensures job { self.new.job ≡ self.old.job }
+    {
+        let mut port = 0;
+        while port < loops {
+            let value = *self.job.ports.get(port as usize);
+            let lane = self.find(value, Role::Port(port));
+            let to = self.tags.len() as u32 - 1 - port;
+            self.bring(lane, to)?;
+            port += 1;
+        }
+        Ok(())
+    }
+
+    /// The lanes of the ports that are no loops.
+    pub fn find_outs(&self, alloc: Global, loops: u32) -> Result<Vec<u32>, PlaceError>
+        requires loops { loops ≤ length self.now.job.now.ports }
+        requires held { HoldPorts self.now.job.now (length self.now.job.now.ports) self.now.tags.items }
+        ensures long { IfOk result (λ v. length v.items + loops ≡ length self.now.job.now.ports) }
+        ensures outs { IfOk result (λ v. AreOuts self.now.job.now loops self.now.tags.items v.items) }
+    {
+        let mut outs = Vec::new(alloc);
+        let mut port = loops;
+        while (port as usize) < self.job.ports.len() {
+            let value = *self.job.ports.get(port as usize);
+            let lane = self.find(value, Role::Port(port));
+            outs.push(lane)?;
+            port += 1;
+        }
+        Ok(outs)
+    }
+}
+
+fn is_and_not(kind: Kind) -> bool
+    ensures yes { kind ≡ AndNot → result ≡ true }
+{
+    match kind {
+        Kind::AndNot => true,
+        _ => false,
+    }
+}
+
+fn instr_of(kind: Kind, lane: u32) -> Instr
+    ensures value { result ≡ gate_instr kind lane }
+    ensures lane { lane_of result ≡ lane }
+{
+    match kind {
+        Kind::Or => Instr::Or(lane),
+        Kind::Xor => Instr::Xor(lane),
+        Kind::AndNot => Instr::AndNot(lane),
+    }
+}

@@ -1,0 +1,17 @@
+//! The placer: lists of cells become programs on lanes.
+#![tactic(auto)]
+
+mod counting;
+mod error;
+mod job;
+mod lanes;
+mod placing;
+mod reading;
+mod roles;
+mod start;
+
+pub use error::PlaceError;
+use job::{Gate, Job, Kind};
+use lanes::Lanes;
+pub use placing::place;
+use roles::{Role, Tag};

@@ -1,0 +1,198 @@
+// The placer.
+ghost use Rattle.std.specs.Prelude.{ℕ, ◌≡◌, ◌≢◌, ◌≤◌, ◌<◌, ◌+◌, ◌-◌, ◌*◌, ◌^◌, ◌++◌, length, All, get_or, map, max, take, cond, [], ◌∷◌, true, ◌⊎◌, IfOk, OnOk};
+ghost use Rattle.cell_core.specs.Loops.{loop_count, loop_data, loop_state, names_one};
+ghost use Rattle.row_placer.specs.Numbers.{number, gate_of, IsThere, ReadsWhatIsThere, NamesZero};
+ghost use Rattle.row_placer.specs.Placed.{IsPrepared};
+ghost use Rattle.cell_lanes.specs.Computes.{ComputesByProgram};
+ghost use Rattle.cell_core.specs.declared.cells.Src.TheVariants.{One};
+
+use crate::counting::count_uses;
+use crate::reading::{count_loops, gates_of, homes_of, names_zero, places_of, push_numbers};
+use crate::start::start_tags;
+use crate::{Job, Lanes, PlaceError};
+use cell_core::CellList;
+use lane_core::Program;
+use lists::List;
+use std::alloc::Global;
+
+/// The numbers of the ports: of the loops' data, and then of the outputs.
+pub fn ports_of(alloc: Global, list: &CellList, loops: u32) -> Result<Vec<u32>, PlaceError>
+    requires loops { loops ≡ loop_count list.now }
+    requires sound { ReadsWhatIsThere list.now }
+    requires small { list.now.inputs + loop_count list.now + 1 + length list.now.cells < 2 ^ 32 }
+    ensures { IfOk result (λ v. v.items ≡ map (number list.now) (loop_data list.now ++ list.now.outs)) }
+{
+    let mut ports = Vec::new(alloc);
+    push_numbers(list, loops, list.latches.as_slice(), &mut ports)?;
+    push_one(list, &mut ports)?;
+    push_numbers(list, loops, list.outs.as_slice(), &mut ports)?;
+    Ok(ports)
+}
+
+fn push_one(list: &CellList, ports: &mut Vec<u32>) -> Result<(), PlaceError>
+    requires small { list.now.inputs + loop_count list.now + 1 + length list.now.cells < 2 ^ 32 }
+    ensures { OnOk result (ports.new.items ≡ ports.old.items ++ map (number list.now) (cond (names_one list.now) (One ∷ []) [])) }
+{
+    if list.names_one() {
+        ports.push(list.inputs + list.starts.len() as u32)?;
+    }
+    Ok(())
+}
+
+/// A job, with what was found out on the way.
+#[derive(Drop)]
+pub struct Prepared {
+    pub job: Job,
+    pub left: Vec<u32>,
+    pub homes: Vec<u32>,
+}
+
+/// The job of a list, with some spare lanes.
+pub fn prepare(
+    alloc: Global,
+    list: &CellList,
+    loops: u32,
+    spare: u32,
+) -> Result<Prepared, PlaceError>
+    requires loops { loops ≡ loop_count list.now }
+    requires spare { spare < 2 ^ 20 }
+    requires sound { ReadsWhatIsThere list.now }
+    requires small { list.now.inputs + loop_count list.now + length list.now.outs + length list.now.cells < 2 ^ 20 }
+    ensures { IfOk result (λ r. IsPrepared list.now spare r.job r.left.items r.homes.items) }
+{
+    let inner = list.inputs + loops;
+    let gates = gates_of(alloc, list, loops)?;
+    let ports = ports_of(alloc, list, loops)?;
+    let (left, free) = count_uses(alloc, &gates, &ports, inner + 1 + gates.len() as u32)?;
+    let zero = wants_zero(list, &left, inner);
+    let first = first_home(free + spare, zero);
+    let homes = homes_of(alloc, first, inner, zero)?;
+    let start = start_tags(alloc, &homes, &left, first + inner)?;
+    let job = Job {
+        gates: List::of(gates),
+        base: inner + 1,
+        ports: List::of(ports),
+        start: List::of(start),
+    };
+    Ok(Prepared { job, left, homes })
+}
+
+fn first_home(free: u32, zero: bool) -> u32
+    requires { free < 2 ^ 32 - 1 }
+    ensures { result ≡ free + cond zero 1 0 }
+{
+    if zero { free + 1 } else { free }
+}
+
+// Whether constant 0 is used, or shown by a net.
+fn wants_zero(list: &CellList, left: &Vec<u32>, zero: u32) -> bool
+    requires { zero < length left.now.items }
+    ensures used { 1 ≤ get_or left.now.items zero 0 → result ≡ true }
+    ensures nets { NamesZero list.now.nets result }
+{
+    if left[zero as usize] > 0 {
+        return true;
+    }
+    names_zero(list.nets.as_slice())
+}
+
+/// A program, and how many columns it has when it is packed.
+#[derive(Drop)]
+pub struct Placed {
+    pub program: Program,
+    pub columns: u64,
+}
+
+impl Placed {
+    // The cells of its drawing, in tiles.
+    fn area(&self) -> u64 {
+        let loops = self.program.latches.len() as u64;
+        let width = self.columns.saturating_add(loops).saturating_add(loops);
+        width.saturating_mul((self.program.lanes as u64).saturating_add(loops))
+    }
+}
+
+// The one with the smaller drawing; the first where they are equal.
+fn smaller(best: Placed, next: Placed) -> Placed
+    ensures { (result ≡ best) ⊎ (result ≡ next) }
+{
+    if next.area() < best.area() {
+        next
+    } else {
+        best
+    }
+}
+
+fn latest(clocks: &Vec<u64>) -> u64 {
+    let mut latest = 0;
+    for clock in clocks.iter() {
+        latest = *clock.max(&latest);
+    }
+    latest
+}
+
+// A program with so many spare lanes that computes the list.
+fn place_with(alloc: Global, list: &CellList, loops: u32, spare: u32) -> Result<Placed, PlaceError>
+    requires loops { loops ≡ loop_count list.now }
+    requires small { list.now.inputs + loop_count list.now + length list.now.outs + length list.now.cells < 2 ^ 20 }
+    requires spare { spare < 2 ^ 20 }
+    ensures computes { IfOk result (λ r. ComputesByProgram list.now r.program) }
+    ensures instrs { IfOk result (λ r. length r.program.instrs ≤ (3 * length list.now.cells + length list.now.outs + 2 * loop_count list.now) * r.program.lanes) }
+    ensures lanes { IfOk result (λ r. r.program.lanes ≤ list.now.inputs + 2 * loop_count list.now + length list.now.outs + length list.now.cells + 2 + spare) }
+{
+    let Prepared { job, left, homes } = prepare(alloc, list, loops, spare)?;
+    let mut left = left;
+    let lanes = Lanes::run(alloc, &job, loops, left.as_mut_slice())?;
+    let columns = latest(&lanes.clocks);
+    let outs = lanes.find_outs(alloc, loops)?;
+    let nets = places_of(alloc, list, loops, &homes, &lanes.made)?;
+    let latches = latches_of(alloc, list)?;
+    let mut ins = homes;
+    ins.truncate(list.inputs as usize);
+    let count = lanes.tags.len() as u32;
+    let program = Program {
+        lanes: count,
+        instrs: List::of(lanes.instrs),
+        ins: List::of(ins),
+        latches: List::of(latches),
+        outs: List::of(outs),
+        nets: List::of(nets),
+    };
+    Ok(Placed { program, columns })
+}
+
+// How many spare lanes are tried: at most 4, and no more than there are inputs or outputs.
+fn most_spare(list: &CellList) -> u32
+    ensures few { result ≤ 4 }
+    ensures ports { result ≤ max list.now.inputs (length list.now.outs) }
+{
+    (list.inputs as usize).max(list.outs.len()).min(4) as u32
+}
+
+/// A program that computes the list: of those with up to 4 spare lanes, the one whose packed columns have the smallest
+/// drawing.
+pub fn place(alloc: Global, list: &CellList) -> Result<Program, PlaceError>
+    requires small { list.now.inputs + loop_count list.now + length list.now.outs + length list.now.cells < 2 ^ 20 }
+    ensures computes { IfOk result (λ p. ComputesByProgram list.now p) }
+    ensures instrs { IfOk result (λ p. length p.instrs ≤ (3 * length list.now.cells + length list.now.outs + 2 * loop_count list.now) * p.lanes) }
+    ensures lanes { IfOk result (λ p. p.lanes ≤ list.now.inputs + 2 * loop_count list.now + length list.now.outs + length list.now.cells + 2 + max list.now.inputs (length list.now.outs)) }
+{
+    let loops = count_loops(list);
+    let mut best = place_with(alloc, list, loops, 0)?;
+    for spare in 0..most_spare(list) {
+        let next = place_with(alloc, list, loops, spare + 1)?;
+        best = smaller(best, next);
+    }
+    Ok(best.program)
+}
+
+fn latches_of(alloc: Global, list: &CellList) -> Result<Vec<bool>, PlaceError>
+    ensures { IfOk result (λ v. v.items ≡ loop_state list.now list.now.starts) }
+{
+    let mut latches = Vec::new(alloc);
+    latches.extend_from_slice(list.starts.as_slice())?;
+    if list.names_one() {
+        latches.push(true)?;
+    }
+    Ok(latches)
+}

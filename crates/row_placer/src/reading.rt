@@ -1,0 +1,174 @@
+// A list of cells by numbers of values.
+ghost use Rattle.std.specs.Prelude.{ℕ, ◌≡◌, ◌≢◌, ◌≤◌, ◌<◌, ◌+◌, ◌-◌, ◌*◌, ◌^◌, ◌++◌, length, All, get_or, map, cond, [], ◌∷◌, true, IfOk, OnOk};
+ghost use Rattle.std.specs.List.{range_with_len};
+ghost use Rattle.cell_core.specs.Loops.{loop_count, loop_data};
+ghost use Rattle.row_placer.specs.Numbers.{number, gate_of, IsThere, ReadsWhatIsThere, NamesZero, ReadsThere};
+ghost use Rattle.row_placer.specs.Placed.{net_place_of};
+ghost use Rattle.cell_core.specs.declared.cells.Src.TheVariants.{Zero};
+
+use crate::{Gate, Kind, PlaceError};
+use cell_core::{Cell, CellList, Src};
+use lane_core::NetPlace;
+use std::alloc::Global;
+
+/// How many loops there are: one for each latch, and one for constant 1 where it is named.
+pub fn count_loops(list: &CellList) -> u32
+    requires { loop_count list.now < 2 ^ 32 }
+    ensures { result ≡ loop_count list.now }
+{
+    let one = if list.names_one() { 1 } else { 0 };
+    list.starts.len() as u32 + one
+}
+
+/// The number of a source, of a list with so many loops.
+pub fn number_of(list: &CellList, loops: u32, src: Src) -> u32
+    requires loops { loops ≡ loop_count list.now }
+    requires small { list.now.inputs + loop_count list.now < 2 ^ 32 }
+    requires fits { number list.now src < 2 ^ 32 }
+    ensures { result ≡ number list.now src }
+{
+    match src {
+        Src::Input(i) => i,
+        Src::Latch(i) => list.inputs + i,
+        Src::One => list.inputs + list.starts.len() as u32,
+        Src::Zero => list.inputs + loops,
+        Src::Cell(i) => list.inputs + loops + 1 + i,
+    }
+}
+
+/// The gates of the cells.
+pub fn gates_of(alloc: Global, list: &CellList, loops: u32) -> Result<Vec<Gate>, PlaceError>
+    requires loops { loops ≡ loop_count list.now }
+    requires sound { ReadsWhatIsThere list.now }
+    requires small { list.now.inputs + loop_count list.now + 1 + length list.now.cells < 2 ^ 32 }
+    ensures { IfOk result (λ v. v.items ≡ map (gate_of list.now) list.now.cells) }
+{
+    let mut gates = Vec::new(alloc);
+    let mut at = 0;
+    while at < list.cells.len() {
+        gates.push(find_gate(list, loops, *list.cells.get(at)))?;
+        at += 1;
+    }
+    Ok(gates)
+}
+
+fn find_gate(list: &CellList, loops: u32, cell: Cell) -> Gate
+    requires loops { loops ≡ loop_count list.now }
+    requires small { list.now.inputs + loop_count list.now + 1 + length list.now.cells < 2 ^ 32 }
+    requires there { ReadsThere list.now (length list.now.cells) cell }
+    ensures { result ≡ gate_of list.now cell }
+{
+    let (kind, a, b) = match cell {
+        Cell::Or(a, b) => (Kind::Or, a, b),
+        Cell::Xor(a, b) => (Kind::Xor, a, b),
+        Cell::AndNot(a, b) => (Kind::AndNot, a, b),
+    };
+    Gate {
+        kind,
+        first: number_of(list, loops, a),
+        second: number_of(list, loops, b),
+    }
+}
+
+/// The numbers of sources, after those that are there.
+pub fn push_numbers(
+    list: &CellList,
+    loops: u32,
+    srcs: &[Src],
+    numbers: &mut Vec<u32>,
+) -> Result<(), PlaceError>
+    requires loops { loops ≡ loop_count list.now }
+    requires there { All (IsThere list.now (length list.now.cells)) srcs.now }
+    requires small { list.now.inputs + loop_count list.now + 1 + length list.now.cells < 2 ^ 32 }
+    ensures { OnOk result (numbers.new.items ≡ numbers.old.items ++ map (number list.now) srcs.now) }
+{
+    let mut at = 0;
+    while at < srcs.len() {
+        numbers.push(number_of(list, loops, srcs[at]))?;
+        at += 1;
+    }
+    Ok(())
+}
+
+/// Whether constant 0 is among the sources.
+pub fn names_zero(srcs: &[Src]) -> bool
+    ensures { NamesZero srcs.now result }
+{
+    let mut at = 0;
+    while at < srcs.len() {
+        if is_zero(srcs[at]) {
+            return true;
+        }
+        at += 1;
+    }
+    false
+}
+
+fn is_zero(src: Src) -> bool
+    ensures { src ≡ Zero → result ≡ true }
+{
+    match src {
+        Src::Zero => true,
+        _ => false,
+    }
+}
+
+/// The places of nets.
+pub fn places_of(
+    alloc: Global,
+    list: &CellList,
+    loops: u32,
+    homes: &[u32],
+    made: &[NetPlace],
+) -> Result<Vec<NetPlace>, PlaceError>
+    requires loops { loops ≡ loop_count list.now }
+    requires sound { ReadsWhatIsThere list.now }
+    requires small { list.now.inputs + loop_count list.now + 1 + length list.now.cells < 2 ^ 32 }
+    requires homes { list.now.inputs + loop_count list.now ≤ length homes.now }
+    requires zero { All (λ src. src ≡ Zero → list.now.inputs + loop_count list.now < length homes.now) list.now.nets }
+    requires made { length made.now ≡ length list.now.cells }
+    ensures { IfOk result (λ v. v.items ≡ map (net_place_of list.now homes.now made.now) list.now.nets) }
+{
+    let mut places = Vec::new(alloc);
+    let mut at = 0;
+    while at < list.nets.len() {
+        places.push(find_place(list, loops, homes, made, *list.nets.get(at)))?;
+        at += 1;
+    }
+    Ok(places)
+}
+
+fn find_place(list: &CellList, loops: u32, homes: &[u32], made: &[NetPlace], src: Src) -> NetPlace
+    requires loops { loops ≡ loop_count list.now }
+    requires there { IsThere list.now (length list.now.cells) src }
+    requires small { list.now.inputs + loop_count list.now + 1 + length list.now.cells < 2 ^ 32 }
+    requires homes { list.now.inputs + loop_count list.now ≤ length homes.now }
+    requires zero { src ≡ Zero → list.now.inputs + loop_count list.now < length homes.now }
+    requires made { length made.now ≡ length list.now.cells }
+    ensures { result ≡ net_place_of list.now homes.now made.now src }
+{
+    match src {
+        Src::Cell(i) => made[i as usize],
+        src => NetPlace {
+            lane: homes[number_of(list, loops, src) as usize],
+            after: None,
+        },
+    }
+}
+
+/// Homes side by side: the inputs, the loops below them, and lane 0 for constant 0 where it is wanted.
+pub fn homes_of(alloc: Global, first: u32, count: u32, zero: bool) -> Result<Vec<u32>, PlaceError>
+    requires { first + count < 2 ^ 32 }
+    ensures { IfOk result (λ v. v.items ≡ map (λ i. first + i) (range_with_len 0 count) ++ cond zero (0 ∷ []) []) }
+{
+    let mut homes = Vec::new(alloc);
+    let mut at = 0;
+    while at < count {
+        homes.push(first + at)?;
+        at += 1;
+    }
+    if zero {
+        homes.push(0)?;
+    }
+    Ok(homes)
+}
