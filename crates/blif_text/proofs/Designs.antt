@@ -25,7 +25,7 @@ name_of m = m.name
 abbrev names_model : List ℕ → Logical → Bool
 names_model name l = begins_model l && bytes_eq (first_operand l) name
 
-none_given : (b : Bool) (word : List ℕ) → then_some b word ≡ None → b ≡ false
+pub none_given : (b : Bool) (word : List ℕ) → then_some b word ≡ None → b ≡ false
 none_given true word e = absurd (cc)
 none_given false word e = refl
 
@@ -61,11 +61,11 @@ named_at true l ls before h e n = record {
   ];
 }
 
-none_left : (o p : Option Fault) → option_or o p ≡ None → o ≡ None
+pub none_left : (o p : Option Fault) → option_or o p ≡ None → o ≡ None
 none_left None p e = refl
 none_left (Some f) p e = absurd (cc)
 
-none_right : (o p : Option Fault) → option_or o p ≡ None → p ≡ None
+pub none_right : (o p : Option Fault) → option_or o p ≡ None → p ≡ None
 none_right None p e = e
 none_right (Some f) p e = absurd (cc)
 
