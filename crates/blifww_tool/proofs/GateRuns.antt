@@ -8,9 +8,9 @@ use Rattle.std.proofs.lemmas.Option.{slice_get-get_or}
 use Rattle.std.specs.Prelude.{Option, Some, None, slice_get, All}
 use Rattle.ww_rule.specs.Wireworld.{Due, driven}
 use Rattle.ww_rule.specs.Grid.{plane_of}
-use Rattle.ww_rule.specs.Injections.{due_of_streams, before_injections, MeetsConductors}
+use Rattle.ww_rule.specs.Injections.{due_of_streams, MeetsConductors}
 use Rattle.ww_rule.proofs.Streams.{streams_injected}
-use Rattle.tile_core.specs.Drawing.{is_among}
+use Rattle.tile_core.specs.Drawing.{is_cell_of}
 use Rattle.netlist_meaning.specs.Valuation.{Valuation, AreInputRows, IsRun, output_bit}
 use Rattle.one_cover.specs.OneCover.{IsOneCover, Computes, or_cover_rows}
 use Rattle.one_cover.proofs.OneCover.{one_cover_computes_or, in_names_are}
@@ -21,8 +21,7 @@ use Rattle.pattern_reading.specs.declared.ports.Ports.{Ports}
 use Rattle.pattern_reading.specs.PortTable.{ports_of}
 use Rattle.pattern_samples.specs.NamedGate.{named_or_forms}
 use Rattle.carries.specs.Carries.{drive, ShowsOutput, ShowsRuns}
-use Rattle.or_gate.specs.OrGate.{or_grid, gate_plane, DrivesGate, gate_entries as entries, is_lit, ShowsOr}
-use Rattle.or_gate.specs.OrGate as gate
+use Rattle.or_gate.specs.OrGate.{gate_grid, gate_plane, DrivesGate, gate_entries as entries, is_lit, ShowsOr}
 use Rattle.blifww_tool.specs.Thin.{Names, HasDistinctPorts}
 use Rattle.blifww_tool.specs.Gate.{thin_design}
 use Rattle.std.specs.Cmp.{both_ways}
@@ -40,7 +39,7 @@ gate_due rows = due_of_streams 32 cells rows
 abbrev bit : List (List Bool) → ℕ → ℕ → Bool
 bit rows t input = get_or (get_or rows t []) input false
 
-at_entry : (input : ℕ) → input < 2 → is_among (pos (get_or cells input (0, 0)).0) (pos (get_or cells input (0, 0)).1) entries ≡ true
+at_entry : (input : ℕ) → input < 2 → is_cell_of (pos (get_or cells input (0, 0)).0) (pos (get_or cells input (0, 0)).1) entries ≡ true
 at_entry zero h = refl
 at_entry (suc zero) h = refl
 at_entry (suc (suc input)) h = absurd (omega arith)
@@ -49,16 +48,12 @@ drives : (rows : List (List Bool)) → DrivesGate (gate_due rows)
 drives rows =
     record {
       on_time = λ g x y e. let b = (streams_injected 32 cells rows g x y).0 e in let t : b.cycle * 32 ≡ g = b.in_time in omega arith;
-      at_entries = λ g x y e. let b = (streams_injected 32 cells rows g x y).0 e in ap₂ (λ i j. is_among i j entries) (sym b.column) (sym b.line) ∙ at_entry b.input b.in_cells;
+      at_entries = λ g x y e. let b = (streams_injected 32 cells rows g x y).0 e in ap₂ (λ i j. is_cell_of i j entries) (sym b.column) (sym b.line) ∙ at_entry b.input b.in_cells;
     }
 
-same_before : (due : Due) (g : ℕ) → gate.before_injections due g ≡ before_injections due gate_plane g
-same_before due zero = refl
-same_before due (suc g) = refl
-
-conductors : ShowsOr → (n : Names) (rows : List (List Bool)) → MeetsConductors (drive (gate_ports n) rows) (plane_of or_grid.rows)
+conductors : ShowsOr → (n : Names) (rows : List (List Bool)) → MeetsConductors (drive (gate_ports n) rows) (plane_of gate_grid.rows)
 conductors s n rows g x y e =
-    sym (ap (λ p. p x y) (same_before (gate_due rows) g)) ∙ s.conductors (gate_due rows) (drives rows) g x y e
+    s.conductors (gate_due rows) (drives rows) g x y e
 
 -- an input cell is injected in cycle t exactly where the input's bit is 1
 upper_bit : (rows : List (List Bool)) (t : ℕ) → gate_due rows (32 * t) (pos 0) (pos 8) ≡ bit rows t 0
@@ -140,7 +135,7 @@ output_is n h rows are run is t lt =
 
 gate_heads : ShowsOr → (n : Names) → HasDistinctPorts n → (rows : List (List Bool)) → AreInputRows (thin_design n) rows → (run : ℕ → Valuation) → IsRun (thin_design n) rows run
     → (output : ℕ) (cell : PortLine) → slice_get (gate_ports n).outs output ≡ Some cell → (g : ℕ) → g < 32 + length rows * 32
-    → ShowsOutput (gate_ports n) (length rows) (λ t. output_bit (thin_design n) (run t) output) g (driven (drive (gate_ports n) rows) (plane_of or_grid.rows) g) cell
+    → ShowsOutput (gate_ports n) (length rows) (λ t. output_bit (thin_design n) (run t) output) g (driven (drive (gate_ports n) rows) (plane_of gate_grid.rows) g) cell
 gate_heads s n h rows are run is zero cell e g lt = (
   λ head.
       let found = (s.heads (gate_due rows) (drives rows) g).0 (ap (λ c. driven (gate_due rows) gate_plane g (pos c.x) (pos c.y)) (some_is e) ∙ head) in
@@ -168,7 +163,7 @@ gate_heads s n h rows are run is zero cell e g lt = (
 gate_heads s n h rows are run is (suc output) cell e g lt = cc
 
 -- The drawing shows the runs of the gate's design
-pub gate_shows : ShowsOr → (n : Names) → HasDistinctPorts n → ShowsRuns (plane_of or_grid.rows) (gate_ports n) (thin_design n)
+pub gate_shows : ShowsOr → (n : Names) → HasDistinctPorts n → ShowsRuns (plane_of gate_grid.rows) (gate_ports n) (thin_design n)
 gate_shows s n h =
     record {
       conductors = λ rows are. conductors s n rows;

@@ -13,7 +13,7 @@ use Rattle.blifww_tool.specs.Run.{Reading, Writing, Compiles}
 use Rattle.blifww_tool.specs.Names.{IsName, is_identifier_byte}
 use Rattle.blifww_tool.specs.Thin.{Names, IsThin}
 use Rattle.blifww_tool.specs.Drawing.{thin_gate_text}
-use Rattle.or_gate.specs.OrGate.{or_grid, ShowsOr}
+use Rattle.or_gate.specs.OrGate.{gate_grid, ShowsOr}
 use Rattle.blifww_tool.specs.Gate.{thin_design, WritesWhatItRead}
 use Rattle.blifww_tool.proofs.WrittenText.{same_text}
 use Rattle.blifww_tool.proofs.ThinDesign.{is_design}
@@ -32,7 +32,7 @@ pub carries : ShowsOr → (text : List ℕ) (n : Names) → IsThin text n → Ca
 carries gate text n h =
     let reads = named_gate n.a n.b n.y (port_name n.a h.a) (port_name n.b h.b) (port_name n.y h.y) in
     subst (λ t. Carries t (thin_design n)) (sym (same_text n)) (record {
-      grid = or_grid;
+      grid = gate_grid;
       ports = gate_ports n;
       reads = reads.0;
       table = reads.1 h.ports.inputs;

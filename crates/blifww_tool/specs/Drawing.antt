@@ -1,7 +1,7 @@
 -- What is written for an OR gate: its drawing, with lines that say where its ports are.
 use Rattle.std.specs.Prelude.{ℕ, List, [], ◌∷◌, ◌++◌, codes}
 use Rattle.pattern_writing.specs.Writer.{writer_text}
-use Rattle.or_gate.specs.OrGate.{or_grid}
+use Rattle.or_gate.specs.OrGate.{gate_grid}
 use Rattle.blifww_tool.specs.Thin.{Names}
 
 -- period and latency, 32 generations each; then the cells where the inputs enter, and where the output leaves
@@ -15,7 +15,7 @@ or_lines n =
 
 -- the text of the gate with these names
 abbrev pub thin_gate_text : Names → List ℕ
-thin_gate_text n = writer_text or_grid (or_lines n)
+thin_gate_text n = writer_text gate_grid (or_lines n)
 
 -- the names of a gate whose text is written out letter by letter
 abbrev pub sample_names : Names

@@ -8,7 +8,7 @@ use Rattle.ww_rule.specs.Grid.{plane_of}
 use Rattle.ww_rule.specs.Injections.{due_of_streams}
 use Rattle.ww_rule.proofs.Boxes.{driven_empty}
 use Rattle.ww_rule.proofs.Streams.{streams_injected}
-use Rattle.tile_core.specs.Drawing.{is_among}
+use Rattle.tile_core.specs.Drawing.{is_cell_of}
 use Rattle.netlist_core.specs.declared.model.Design.{Design}
 use Rattle.netlist_meaning.specs.Valuation.{Valuation, AreInputRows, IsRun, output_bit}
 use Rattle.one_cover.specs.OneCover.{or_design, or_main, IsOneCover, or_cover_rows}
@@ -21,7 +21,7 @@ use Rattle.pattern_samples.specs.Ports.{or_ports, port_line_at}
 use Rattle.pattern_reading.specs.PortTable.{ports_of, forms_of}
 use Rattle.pattern_reading.proofs.RleVerdict.{rle_reading_is, grid_of}
 use Rattle.carries.specs.Carries.{Carries, NamesPorts, ShowsRuns}
-use Rattle.or_gate.specs.OrGate.{gate_plane, DrivesGate, gate_entries as entries, or_grid, ShowsOr}
+use Rattle.or_gate.specs.OrGate.{gate_plane, DrivesGate, gate_entries as entries, gate_grid, ShowsOr}
 use Rattle.carried_gate.specs.Refused.{RefusesOthers, and_not_design, gate_text, version_line, out_line}
 
 -- what is carried by a text of the gate's drawing
@@ -29,9 +29,9 @@ record IsShown (ports : Ports) (design : Design) : Type 0 where
   names : NamesPorts ports design
   shows : ShowsRuns gate_plane ports design
 
-shown : (text : List ℕ) (ports : Ports) (design : Design) → grid_of text ≡ or_grid → ports_of (forms_of text) ≡ ports → Carries text design → IsShown ports design
+shown : (text : List ℕ) (ports : Ports) (design : Design) → grid_of text ≡ gate_grid → ports_of (forms_of text) ≡ ports → Carries text design → IsShown ports design
 shown text ports design grid table c =
-    let same_grid : c.grid ≡ or_grid = (rle_reading_is text c.grid c.reads).1 ∙ grid in
+    let same_grid : c.grid ≡ gate_grid = (rle_reading_is text c.grid c.reads).1 ∙ grid in
     let same_ports : c.ports ≡ ports = c.table.ports_is ∙ table in
     record {
       names = subst (λ ports. NamesPorts ports design) same_ports c.names;
@@ -41,7 +41,7 @@ shown text ports design grid table c =
 abbrev cells : List (ℕ × ℕ)
 cells = (0, 8) ∷ (0, 24) ∷ []
 
-at_entry : (input : ℕ) → input < 2 → is_among (pos (get_or cells input (0, 0)).0) (pos (get_or cells input (0, 0)).1) entries ≡ true
+at_entry : (input : ℕ) → input < 2 → is_cell_of (pos (get_or cells input (0, 0)).0) (pos (get_or cells input (0, 0)).1) entries ≡ true
 at_entry zero h = refl
 at_entry (suc zero) h = refl
 at_entry (suc (suc input)) h = absurd (omega arith)
@@ -50,7 +50,7 @@ drives : (rows : List (List Bool)) → DrivesGate (due_of_streams 32 cells rows)
 drives rows =
     record {
       on_time = λ g x y e. let b = (streams_injected 32 cells rows g x y).0 e in let t : b.cycle * 32 ≡ g = b.in_time in omega arith;
-      at_entries = λ g x y e. let b = (streams_injected 32 cells rows g x y).0 e in ap₂ (λ i j. is_among i j entries) (sym b.column) (sym b.line) ∙ at_entry b.input b.in_cells;
+      at_entries = λ g x y e. let b = (streams_injected 32 cells rows g x y).0 e in ap₂ (λ i j. is_cell_of i j entries) (sym b.column) (sym b.line) ∙ at_entry b.input b.in_cells;
     }
 
 one_cover : (rows : List (List ℕ)) → IsOneCover (codes "a") (codes "b") (codes "y") rows true (record { models = record or_main { covers = cover_with 4 (codes "a" ∷ codes "b" ∷ []) (codes "y") rows ∷ [] } ∷ [] })

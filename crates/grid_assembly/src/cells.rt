@@ -4,7 +4,7 @@ ghost use Rattle.std.specs.Ordering.{int_eq};
 ghost use Rattle.lane_core.specs.Plans.{IsAdmissible};
 ghost use Rattle.plan_layout.specs.Starts.{start_edges};
 ghost use Rattle.plan_layout.specs.Slots.{piece_of, slot_of};
-ghost use Rattle.tile_core.specs.Drawing.{is_among};
+ghost use Rattle.tile_core.specs.Drawing.{is_cell_of};
 ghost use Rattle.tile_core.specs.Kinds.{interface};
 ghost use Rattle.tile_library.specs.Drawings.{shipped_drawing};
 ghost use Rattle.tiling.specs.Tiling.{drawn_piece, drawn_slot, edge_of, heads_of, is_entry_lit, is_exit_lit, tails_of};
@@ -75,7 +75,7 @@ fn is_head(plan: &Plan, column: u64, lane: u64, kind: Kind, place: (u32, u32)) -
     requires admissible { IsAdmissible plan.now }
     requires far { column < 2 ^ 63 }
     requires low { lane < 2 ^ 62 }
-    ensures { result ≡ is_among (pos place.0) (pos place.1) (heads_of (start_edges plan.now) column lane (interface kind)) }
+    ensures { result ≡ is_cell_of (pos place.0) (pos place.1) (heads_of (start_edges plan.now) column lane (interface kind)) }
 {
     let upper = is_entry_lit(plan, column, lane, kind, 0);
     let lower = is_entry_lit(plan, column, lane, kind, 1);
@@ -89,7 +89,7 @@ fn is_tail(plan: &Plan, column: u64, lane: u64, kind: Kind, place: (u32, u32)) -
     requires admissible { IsAdmissible plan.now }
     requires far { column < 2 ^ 63 }
     requires low { lane < 2 ^ 62 }
-    ensures { result ≡ is_among (pos place.0) (pos place.1) (tails_of (start_edges plan.now) column lane (interface kind)) }
+    ensures { result ≡ is_cell_of (pos place.0) (pos place.1) (tails_of (start_edges plan.now) column lane (interface kind)) }
 {
     let upper = is_exit_lit(plan, column, lane, kind, 0);
     let lower = is_exit_lit(plan, column, lane, kind, 1);

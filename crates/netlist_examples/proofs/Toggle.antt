@@ -11,7 +11,7 @@ use Rattle.netlist_meaning.specs.CoverValue.{cover_value}
 use Rattle.netlist_meaning.specs.Valuation.{Valuation, LatchState, IsValuation, IsRun, latches_in, start_state}
 use Rattle.netlist_meaning.specs.Loop.{Feeds, FeedsThrough}
 use Rattle.netlist_examples.specs.Designs.{toggle_main, toggle_design}
-use Rattle.one_cover.specs.Parts.{cover_with, latch_with}
+use Rattle.one_cover.specs.Parts.{cover_with, plain_latch}
 use Rattle.netlist_examples.specs.Instances.{is_odd, LatchToggles, LatchBreaksLoop}
 use Rattle.lists.proofs.Names.{bytes_eq-same, bytes_eq-other}
 use Rattle.netlist_meaning.proofs.Names.{contains-one}
@@ -38,14 +38,14 @@ unfolding bits_of
 bits_at_n n q value place apart = ap (λ t. cond t value (not value)) (bytes_eq-other n q apart)
 
 -- a latch is the one of the main model
-latch_is : (n q : Name) (place : Place) (number : ℕ) (latch : LatchRow) → latch_at (toggle_design n q) place number ≡ Some latch → (place ≡ []) × (number ≡ 0) × (latch ≡ latch_with 3 n q 0)
+latch_is : (n q : Name) (place : Place) (number : ℕ) (latch : LatchRow) → latch_at (toggle_design n q) place number ≡ Some latch → (place ≡ []) × (number ≡ 0) × (latch ≡ plain_latch 3 n q 0)
 latch_is n q place number latch h =
     let (is_top, is_latch) = latch_at-flat (toggle_design n q) (toggle_main n q) (flat n q) place number latch h in
     let (is_first, is_it) = only number is_latch in
     (is_top, is_first, is_it)
   where
-    only : (number : ℕ) → slice_get (latch_with 3 n q 0 ∷ []) number ≡ Some latch → (number ≡ 0) × (latch ≡ latch_with 3 n q 0)
-    only zero e = (refl, same_Some latch (latch_with 3 n q 0) (sym e))
+    only : (number : ℕ) → slice_get (plain_latch 3 n q 0 ∷ []) number ≡ Some latch → (number ≡ 0) × (latch ≡ plain_latch 3 n q 0)
+    only zero e = (refl, same_Some latch (plain_latch 3 n q 0) (sym e))
     only (suc number) e = absurd (none-some latch e)
 
 -- the run
@@ -90,7 +90,7 @@ solves n q apart cycle row empty =
     at_q : run_of q cycle [] q ≡ state [] 0
     at_q = bits_at_q q (is_odd cycle) [] ∙ sym (state_is n q apart cycle)
 
-    latched : (place : Place) (number : ℕ) (latch : LatchRow) → (place ≡ []) × (number ≡ 0) × (latch ≡ latch_with 3 n q 0) → run_of q cycle place latch.output ≡ state place number
+    latched : (place : Place) (number : ℕ) (latch : LatchRow) → (place ≡ []) × (number ≡ 0) × (latch ≡ plain_latch 3 n q 0) → run_of q cycle place latch.output ≡ state place number
     latched place number latch (is_top, is_first, is_it) =
         subst (λ p. run_of q cycle p latch.output ≡ state p number) (sym is_top)
         (subst (λ k. run_of q cycle [] latch.output ≡ state [] k) (sym is_first)
@@ -104,7 +104,7 @@ alternates n q rows run is_run = go
     valued cycle lt = is_run cycle (get_or rows cycle []) (slice_get-get_or rows cycle [] lt)
 
     at_q : (cycle : ℕ) → cycle < length rows → run cycle [] q ≡ latches_in (toggle_design n q) (start_state (toggle_design n q)) run cycle [] 0
-    at_q cycle lt = (valued cycle lt).latches_hold [] 0 (latch_with 3 n q 0) refl
+    at_q cycle lt = (valued cycle lt).latches_hold [] 0 (plain_latch 3 n q 0) refl
 
     at_n : (cycle : ℕ) → cycle < length rows → run cycle [] n ≡ not (run cycle [] q)
     at_n cycle lt = (valued cycle lt).covers_hold [] (toggle_main n q) (cover_with 4 (q ∷ []) n (codes "0" ∷ [])) refl (0, omega arith, refl) ∙ inverts (run cycle [] q)

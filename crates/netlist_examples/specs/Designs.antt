@@ -1,5 +1,5 @@
 -- Single designs, each with its text in a comment, where a slash stands for a line end.
-use Rattle.one_cover.specs.Parts.{ports_with, cover_with, latch_with, pin_with, subckt_with, design_with}
+use Rattle.one_cover.specs.Parts.{ports_with, cover_with, plain_latch, pin_with, subckt_with, design_with}
 use Rattle.std.specs.Prelude.{ℕ, zero, suc, ◌+◌, ◌++◌, List, [], ◌∷◌, Some, codes, decimal}
 use Rattle.netlist_core.specs.declared.model.Design.{Design}
 use Rattle.netlist_core.specs.declared.model.Model.{Model}
@@ -18,7 +18,7 @@ toggle_main n q =
       outs = ports_with 2 (q ∷ []);
       clocks = [];
       covers = cover_with 4 (q ∷ []) n (codes "0" ∷ []) ∷ [];
-      latches = latch_with 3 n q 0 ∷ [];
+      latches = plain_latch 3 n q 0 ∷ [];
       subckts = [];
     }
 
@@ -212,7 +212,7 @@ latch_main init =
       outs = ports_with 3 (codes "q" ∷ []);
       clocks = [];
       covers = [];
-      latches = latch_with 4 (codes "d") (codes "q") init ∷ [];
+      latches = plain_latch 4 (codes "d") (codes "q") init ∷ [];
       subckts = [];
     }
 
@@ -300,7 +300,7 @@ half_clocked_main =
       covers = [];
       latches =
           record { line = 4; input = codes "d"; output = codes "p"; kind = Some Rise; control = Some (codes "c"); init = 3 }
-          ∷ latch_with 5 (codes "d") (codes "q") 3
+          ∷ plain_latch 5 (codes "d") (codes "q") 3
           ∷ [];
       subckts = [];
     }

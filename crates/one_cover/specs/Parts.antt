@@ -18,8 +18,8 @@ abbrev pub cover_with : ℕ → List Name → Name → List (List ℕ) → Cover
 cover_with line ins out rows = record { line = line; ins = ins; out = out; rows = rows; on = true }
 
 -- a latch without a control
-abbrev pub latch_with : ℕ → Name → Name → ℕ → LatchRow
-latch_with line input output init = record { line = line; input = input; output = output; kind = None; control = None; init = init }
+abbrev pub plain_latch : ℕ → Name → Name → ℕ → LatchRow
+plain_latch line input output init = record { line = line; input = input; output = output; kind = None; control = None; init = init }
 
 abbrev pub pin_with : Name → Name → Pin
 pin_with formal actual = record { formal = formal; actual = actual }

@@ -4,6 +4,7 @@ use Rattle.std.proofs.lemmas.Bool.{or_cases}
 use Rattle.std.proofs.Math.Bool.{or-false}
 use Rattle.ww_rule.specs.declared.pattern.State.TheVariants.{Head, Conductor}
 use Rattle.ww_rule.specs.Wireworld.{Due, driven, next_plane}
+use Rattle.ww_rule.specs.Injections.{MeetsConductors}
 use Rattle.tile_timing.proofs.Sound.{same_place}
 use Rattle.tile_library.specs.Drawings.{shipped_drawing}
 use Rattle.tiling.specs.Steps.{KeepsLaw}
@@ -13,7 +14,7 @@ use Rattle.plan_layout.specs.Planes.{start_plane}
 use Rattle.plan_waves.specs.Cycles.{DrivesCycles, injected_bits}
 use Rattle.plan_waves.specs.Shown.{cycle_bits, ShowsPlanRun, PlansShowRuns}
 use Rattle.grid_assembly.specs.Laws.{PatternsArePlanes}
-use Rattle.or_gate.specs.OrGate.{or_plan, gate_plane, DrivesGate, is_lit, before_injections, ShowsOr}
+use Rattle.or_gate.specs.OrGate.{or_plan, gate_plane, DrivesGate, is_lit, ShowsOr}
 use Rattle.or_gate.proofs.Admissible.{or_is_admissible}
 use Rattle.or_gate.proofs.Tile.{is_tile}
 
@@ -56,8 +57,7 @@ heads due is g = (
   λ lit. (let time : g ≡ 32 + lit.0 * 32 = omega (arith, lit.1) in (is.outs 0 (omega arith) g).1 (lit.0, time, output_bit due lit.0 ∙ lit.2)),
 )
 
-conductors : gate_plane ≡ start_plane shipped_drawing or_plan → (due : Due) → ShowsPlanRun shipped_drawing or_plan due → (g : ℕ) (x y : ℤ) → due g x y ≡ true
-    → before_injections due g x y ≡ Conductor
+conductors : gate_plane ≡ start_plane shipped_drawing or_plan → (due : Due) → ShowsPlanRun shipped_drawing or_plan due → MeetsConductors due gate_plane
 conductors plane due is zero x y e = ap (λ p. p x y) plane ∙ is.first_conductors x y e
 conductors plane due is (suc g) x y e = ap (λ p. next_plane (driven due p g) x y) plane ∙ is.conductors g x y e
 

@@ -3,7 +3,7 @@ ghost use Rattle.std.specs.Prelude.{◌≡◌, IfOk};
 ghost use Rattle.ww_rule.specs.Patterns.{grid_of};
 ghost use Rattle.lane_core.specs.Plans.{IsAdmissible};
 ghost use Rattle.grid_assembly.specs.PlanDrawing.{start_grid};
-ghost use Rattle.or_gate.specs.OrGate.{or_grid, or_plan};
+ghost use Rattle.or_gate.specs.OrGate.{gate_grid, or_plan};
 
 use grid_assembly::{fill_row, size};
 use lane_core::{Column, Instr, Plan};
@@ -50,7 +50,7 @@ fn pattern_of(alloc: Global, plan: &Plan) -> Result<Pattern, AllocError>
 
 /// The pattern of an OR gate.
 pub fn or_pattern(alloc: Global) -> Result<Pattern, AllocError>
-    ensures { IfOk result (λ pattern. grid_of pattern ≡ or_grid) }
+    ensures { IfOk result (λ pattern. grid_of pattern ≡ gate_grid) }
 {
     let plan = or_plan(alloc)?;
     pattern_of(alloc, &plan)

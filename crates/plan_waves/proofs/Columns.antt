@@ -5,7 +5,7 @@ use Rattle.std.proofs.lemmas.Bool.Decides.{nat_tests}
 use Rattle.std.proofs.lemmas.List.{get_or-map}
 use Rattle.std.proofs.lemmas.List.FromFn.{length-map-range_with_len, get_or-map-range_with_len, fill_by_all}
 use Rattle.std.proofs.lemmas.List.Sums.{fold_more}
-use Rattle.tile_core.specs.Drawing.{is_among}
+use Rattle.tile_core.specs.Drawing.{is_cell_of}
 use Rattle.tile_core.specs.Interface.{chosen, cell_at}
 use Rattle.tiling.specs.Tiling.{Lit}
 use Rattle.tiling.specs.Tiling.Piece.{Tile}
@@ -30,12 +30,12 @@ use Rattle.plan_waves.proofs.Parts.{body_at}
 use Rattle.plan_waves.proofs.LaneBits.{answer_on, answers_agree, length-after_instrs, bit_after}
 
 -- the upper and the lower one of two cells in the east
-upper_east : (a b : Bool) → is_among (pos 31) (pos 8) (chosen (cell_at (31, 8) ∷ cell_at (31, 24) ∷ []) (a ∷ b ∷ [])) ≡ a
+upper_east : (a b : Bool) → is_cell_of (pos 31) (pos 8) (chosen (cell_at (31, 8) ∷ cell_at (31, 24) ∷ []) (a ∷ b ∷ [])) ≡ a
 upper_east true b = refl
 upper_east false true = refl
 upper_east false false = refl
 
-lower_east : (a b : Bool) → is_among (pos 31) (pos 24) (chosen (cell_at (31, 8) ∷ cell_at (31, 24) ∷ []) (a ∷ b ∷ [])) ≡ b
+lower_east : (a b : Bool) → is_cell_of (pos 31) (pos 24) (chosen (cell_at (31, 8) ∷ cell_at (31, 24) ∷ []) (a ∷ b ∷ [])) ≡ b
 lower_east true true = refl
 lower_east true false = refl
 lower_east false true = refl

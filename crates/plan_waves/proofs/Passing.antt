@@ -2,7 +2,7 @@
 use Rattle.std.proofs.Common.{◌≡◌, refl, sym, ◌∙◌, ap, ap₂, ℤ, pos, ℕ, ◌+◌, ◌-◌, Bool, true, false, ◌&&◌, ◌||◌, List, [], ◌∷◌, ⊎_elim, arith}
 use Rattle.std.proofs.lemmas.Bool.{or_parts, or_from, cases_lt, cond-true, cond-false}
 use Rattle.tile_core.specs.declared.kind.Kind.TheVariants as kind
-use Rattle.tile_core.specs.Drawing.{Cell, is_among}
+use Rattle.tile_core.specs.Drawing.{Cell, is_cell_of}
 use Rattle.tile_core.specs.Interface.{chosen, cell_at, exit_cells}
 use Rattle.tiling.specs.Tiling.{interface_of, is_entry_lit, Slot, Tiling, Edge, Lit}
 use Rattle.tiling.specs.Tiling.Piece.{Tile}
@@ -14,7 +14,7 @@ use Rattle.tiling.proofs.AtEdges.{beside_first, beside_next, above_first, above_
 use Rattle.plan_waves.specs.WaysBack.{way_in, tile_before}
 
 -- where none of the cells lies, none of those that are chosen from them lies
-chosen_none : (x y : ℤ) (cs : List Cell) (bs : List Bool) → is_among x y cs ≡ false → is_among x y (chosen cs bs) ≡ false
+chosen_none : (x y : ℤ) (cs : List Cell) (bs : List Bool) → is_cell_of x y cs ≡ false → is_cell_of x y (chosen cs bs) ≡ false
 chosen_none x y [] bs h = h
 chosen_none x y (c ∷ cs) [] h = refl
 chosen_none x y (c ∷ cs) (true ∷ bs) h = or_from _ _ (or_parts _ _ h).0 (chosen_none x y cs bs (or_parts _ _ h).1)
@@ -80,16 +80,16 @@ step_up tiling m lit q l h =
     (cases_lt l 1)
 
 -- a cell is chosen by its bit
-pub chosen_first : (x y : ℤ) (c : Cell) (b : Bool) (bs : List Bool) → is_among x y (c ∷ []) ≡ true → is_among x y (chosen (c ∷ []) (b ∷ bs)) ≡ b
+pub chosen_first : (x y : ℤ) (c : Cell) (b : Bool) (bs : List Bool) → is_cell_of x y (c ∷ []) ≡ true → is_cell_of x y (chosen (c ∷ []) (b ∷ bs)) ≡ b
 chosen_first x y c true bs h = h
 chosen_first x y c false bs h = refl
 
-upper_west : (a b : Bool) → is_among (pos 0) (pos 8) (chosen (cell_at (0, 8) ∷ cell_at (0, 24) ∷ []) (a ∷ b ∷ [])) ≡ a
+upper_west : (a b : Bool) → is_cell_of (pos 0) (pos 8) (chosen (cell_at (0, 8) ∷ cell_at (0, 24) ∷ []) (a ∷ b ∷ [])) ≡ a
 upper_west true b = refl
 upper_west false true = refl
 upper_west false false = refl
 
-lower_west : (a b : Bool) → is_among (pos 0) (pos 24) (chosen (cell_at (0, 8) ∷ cell_at (0, 24) ∷ []) (a ∷ b ∷ [])) ≡ b
+lower_west : (a b : Bool) → is_cell_of (pos 0) (pos 24) (chosen (cell_at (0, 8) ∷ cell_at (0, 24) ∷ []) (a ∷ b ∷ [])) ≡ b
 lower_west true true = refl
 lower_west true false = refl
 lower_west false true = refl

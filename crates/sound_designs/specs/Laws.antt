@@ -18,13 +18,13 @@ abbrev pub FaultlessNameFormalsOnce : Type 0
 FaultlessNameFormalsOnce = (design : Design) → AreFaultless design.models → NamesFormalsOnce design
 
 -- no name stands twice in a model's `.inputs`, `.clock` or `.outputs`
-pub record HasDistinctPorts (model : Model) : Type 0 where
+pub record HasApartPorts (model : Model) : Type 0 where
   pub ins : IsDistinct bytes_eq (port_names model.ins)
   pub clocks : IsDistinct bytes_eq (port_names model.clocks)
   pub outs : IsDistinct bytes_eq (port_names model.outs)
 
 abbrev pub FaultlessHaveDistinctPorts : Type 0
-FaultlessHaveDistinctPorts = (models : List Model) → AreFaultless models → (model : Model) → Contains models model → HasDistinctPorts model
+FaultlessHaveDistinctPorts = (models : List Model) → AreFaultless models → (model : Model) → Contains models model → HasApartPorts model
 
 -- and without a fault of clocks it is wired
 abbrev pub FaultlessAreWired : Type 0

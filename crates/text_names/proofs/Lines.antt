@@ -13,7 +13,7 @@ use Rattle.blif_text.specs.LineFaults.{is_before_models, follows_end, has_bad_co
 use Rattle.blif_text.specs.Laws.{BreaksNone, HasWords}
 use Rattle.blif_text.proofs.FirstFaults.{breaks_none}
 use Rattle.blif_text.proofs.Designs.{none_given, none_left, none_right}
-use Rattle.text_names.specs.TextNames.{IsWord}
+use Rattle.text_names.specs.TextNames.{IsNameWord}
 
 -- parts of lists
 pub all_in : {X : Type 0} (P : X → Type 0) (xs : List X) (x : X) → AllByRecursion P xs → In x xs → P x
@@ -53,7 +53,7 @@ none_dropped p (suc n) (x ∷ xs) e = none_dropped p n xs (or_parts (p x) (list_
 
 -- its words, its net after `.names`, and its pins
 pub record Clean (l : Logical) : Type 0 where
-  pub words : (word : List ℕ) → In word l.words → IsWord word
+  pub words : (word : List ℕ) → In word l.words → IsNameWord word
   pub counted : has_directive (codes ".names") l ≡ true → operands l ≢ []
   pub pins : has_directive (codes ".subckt") l ≡ true → (word : List ℕ) → In word (pin_words l) → is_bad_pin word ≡ false
 

@@ -9,14 +9,14 @@ use Rattle.blif_text.specs.LogicalLines.{is_space}
 use Rattle.blif_text.specs.Faults.{IsDesignOf}
 
 -- a word: at least one byte, and none of them a blank
-pub record IsWord (name : Name) : Type 0 where
+pub record IsNameWord (name : Name) : Type 0 where
   pub some : name ≢ []
   pub plain : list_any is_space name ≡ false
 
 -- the names that the lines of a model name are words
 abbrev pub NamesAreWords : Type 0
-NamesAreWords = (text : List ℕ) (design : Design) → IsDesignOf text design → (model : Model) → Contains design.models model → (name : Name) → Contains (model_names model) name → IsWord name
+NamesAreWords = (text : List ℕ) (design : Design) → IsDesignOf text design → (model : Model) → Contains design.models model → (name : Name) → Contains (model_names model) name → IsNameWord name
 
 -- and so are those of the nets
 abbrev pub NetsAreWords : Type 0
-NetsAreWords = (text : List ℕ) (design : Design) → IsDesignOf text design → (net : Net) → IsNet design net → IsWord net.name
+NetsAreWords = (text : List ℕ) (design : Design) → IsDesignOf text design → (net : Net) → IsNet design net → IsNameWord net.name

@@ -10,9 +10,9 @@ pub record Cell : Type 0 where
   pub y : ℤ
 
 -- is the cell at x, y one of these?
-abbrev pub is_among : ℤ → ℤ → List Cell → Bool
-is_among x y [] = false
-is_among x y (c ∷ cs) = (int_eq x c.x && int_eq y c.y) || is_among x y cs
+abbrev pub is_cell_of : ℤ → ℤ → List Cell → Bool
+is_cell_of x y [] = false
+is_cell_of x y (c ∷ cs) = (int_eq x c.x && int_eq y c.y) || is_cell_of x y cs
 
 -- a test on cells: which of them are conductors
 abbrev pub Drawing : Type 0
@@ -21,4 +21,4 @@ Drawing = ℤ → ℤ → Bool
 -- the drawing alone on the plane: at its cells the heads and the tails that are listed, and conductors else
 abbrev pub picture : Drawing → List Cell → List Cell → Plane
 picture drawing heads tails x y =
-    cond (drawing x y) (cond (is_among x y heads) Head (cond (is_among x y tails) Tail Conductor)) Empty
+    cond (drawing x y) (cond (is_cell_of x y heads) Head (cond (is_cell_of x y tails) Tail Conductor)) Empty

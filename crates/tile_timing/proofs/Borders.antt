@@ -6,7 +6,7 @@ use Rattle.std.proofs.lemmas.Nat.{mod-mul-add, div-mul-add}
 use Rattle.ww_rule.specs.declared.pattern.State.{State}
 use Rattle.ww_rule.specs.declared.pattern.State.TheVariants.{Empty}
 use Rattle.tile_core.specs.declared.kind.Kind.{Kind}
-use Rattle.tile_core.specs.Drawing.{is_among}
+use Rattle.tile_core.specs.Drawing.{is_cell_of}
 use Rattle.tile_core.specs.Interface.{entry_cells, exit_cells, is_in_box, is_on_border}
 use Rattle.tile_core.specs.Kinds.{lanes, interface}
 use Rattle.tile_core.specs.TimingLaw.{HasPorts}
@@ -34,14 +34,14 @@ in_box kind cells size (pos x) (negsuc y) e = absurd (true≢false (sym e))
 in_box kind cells size (negsuc x) y e = absurd (true≢false (sym e))
 
 -- the border is clear, cell by cell of the slice and cell by cell of the plane
-border_clear : (kind : Kind) (cells : List State) → IsBorderClear kind cells → (x y : ℤ) → is_on_border (interface kind) x y ≡ true → drawing_of cells x y ≡ true → is_among x y (entry_cells (interface kind) ++ exit_cells (interface kind)) ≡ true
+border_clear : (kind : Kind) (cells : List State) → IsBorderClear kind cells → (x y : ℤ) → is_on_border (interface kind) x y ≡ true → drawing_of cells x y ≡ true → is_cell_of x y (entry_cells (interface kind) ++ exit_cells (interface kind)) ≡ true
 border_clear kind cells clear (pos x) (pos y) on e =
     let inside = filled_inside cells x y e in
     let k = y * 32 + x in
     let column : k % 32 ≡ x = mod-mul-add y 32 x inside.0 in
     let row : k / 32 ≡ y = div-mul-add y 32 x inside.0 in
     let port = clear k inside.1 (ap₂ (λ u v. is_on_border (interface kind) (pos u) (pos v)) column row ∙ on) (ap is_filled (sym (at_place cells 32 x y inside.0)) ∙ e) in
-    ap₂ (λ u v. is_among (pos u) (pos v) (entry_cells (interface kind) ++ exit_cells (interface kind))) (sym column) (sym row) ∙ port
+    ap₂ (λ u v. is_cell_of (pos u) (pos v) (entry_cells (interface kind) ++ exit_cells (interface kind))) (sym column) (sym row) ∙ port
 border_clear kind cells clear (pos x) (negsuc y) on e = absurd (true≢false (sym e))
 border_clear kind cells clear (negsuc x) y on e = absurd (true≢false (sym e))
 

@@ -3,7 +3,7 @@ use Rattle.std.proofs.Common.{ℤ, pos, ℕ, ◌≡◌, ap, ◌∙◌, ◌||◌,
 use Rattle.ww_rule.specs.Wireworld.{evolve}
 use Rattle.ww_rule.specs.Laws.{moved}
 use Rattle.ww_rule.proofs.Moves.{evolve_moved}
-use Rattle.tile_core.specs.Drawing.{Cell, is_among, Drawing, picture}
+use Rattle.tile_core.specs.Drawing.{Cell, is_cell_of, Drawing, picture}
 use Rattle.tile_timing.proofs.Heads.{cell}
 use Rattle.tile_timing.proofs.Sound.{evolve_picture}
 
@@ -16,8 +16,8 @@ at x y = cell (pos x) (pos y)
 --     .....CC.....
 abbrev pub diode_wire : Drawing
 diode_wire x y =
-    is_among x y (at 5 0 ∷ at 6 0 ∷ at 5 2 ∷ at 6 2 ∷ [])
-    || is_among x y (at 0 1 ∷ at 1 1 ∷ at 2 1 ∷ at 3 1 ∷ at 4 1 ∷ at 5 1 ∷ at 7 1 ∷ at 8 1 ∷ at 9 1 ∷ at 10 1 ∷ at 11 1 ∷ [])
+    is_cell_of x y (at 5 0 ∷ at 6 0 ∷ at 5 2 ∷ at 6 2 ∷ [])
+    || is_cell_of x y (at 0 1 ∷ at 1 1 ∷ at 2 1 ∷ at 3 1 ∷ at 4 1 ∷ at 5 1 ∷ at 7 1 ∷ at 8 1 ∷ at 9 1 ∷ at 10 1 ∷ at 11 1 ∷ [])
 
 -- an electron before the diode is behind it four generations later: its head takes three from column 4 to column 7
 pub passes_eastward : evolve 4 (picture diode_wire (at 4 1 ∷ []) (at 3 1 ∷ [])) ≡ picture diode_wire (at 8 1 ∷ []) (at 7 1 ∷ [])

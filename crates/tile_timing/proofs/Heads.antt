@@ -3,7 +3,7 @@ use Rattle.std.proofs.Common.{ℤ, pos, ◌+ℤ◌, ◌-ℤ◌, ℕ, zero, suc, 
 use Rattle.ww_rule.specs.declared.pattern.State.{State}
 use Rattle.ww_rule.specs.declared.pattern.State.TheVariants.{Empty, Head, Tail, Conductor}
 use Rattle.ww_rule.specs.Wireworld.{Plane, next_plane}
-use Rattle.tile_core.specs.Drawing.{Cell, is_among, Drawing, picture}
+use Rattle.tile_core.specs.Drawing.{Cell, is_cell_of, Drawing, picture}
 
 abbrev pub cell : ℤ → ℤ → Cell
 cell x y = record { x = x; y = y }
@@ -35,7 +35,7 @@ is_head Conductor = false
 abbrev pub collect : Plane → List Cell → List Cell → List Cell
 collect p [] found = found
 collect p (c ∷ cs) found =
-    collect p cs (cond (is_head (next_plane p c.x c.y) && not (is_among c.x c.y found)) (c ∷ found) found)
+    collect p cs (cond (is_head (next_plane p c.x c.y) && not (is_cell_of c.x c.y found)) (c ∷ found) found)
 
 abbrev pub next_heads : Drawing → List Cell → List Cell → List Cell
 next_heads drawing heads tails = collect (picture drawing heads tails) (all_around heads) []

@@ -10,7 +10,7 @@ use Rattle.ww_rule.specs.declared.pattern.State.TheVariants.{Empty, Head, Tail, 
 use Rattle.ww_rule.specs.Wireworld.{evolve}
 use Rattle.ww_rule.specs.Laws.{mirrored as mirrored_plane}
 use Rattle.ww_rule.proofs.Moves.{evolve_mirrored}
-use Rattle.tile_core.specs.Drawing.{Cell, is_among, Drawing, picture}
+use Rattle.tile_core.specs.Drawing.{Cell, is_cell_of, Drawing, picture}
 use Rattle.tile_core.specs.Interface.{Interface, chosen, entry_cells, exit_cells, lit_entries, lit_exits, is_in_box, is_on_border}
 use Rattle.tile_core.specs.TimingLaw.{started, KeepsTime, HasPorts, MeetsTimingLaw}
 use Rattle.tile_timing.specs.Mirror.{mirrored_drawing, mirrored_cell, IsMirrorOf}
@@ -23,7 +23,7 @@ eq_mirrored x a =
     same_from_decides _ _ (Decides-int_eq x (pos 31 -ℤ a))
     (Decides-like _ (λ e. sym (back x) ∙ ap (λ z. pos 31 -ℤ z) e) (λ e. ap (λ z. pos 31 -ℤ z) e ∙ back a) (Decides-int_eq (pos 31 -ℤ x) a))
 
-among_mirrored : (x y : ℤ) (cs : List Cell) → is_among x y (map mirrored_cell cs) ≡ is_among (pos 31 -ℤ x) y cs
+among_mirrored : (x y : ℤ) (cs : List Cell) → is_cell_of x y (map mirrored_cell cs) ≡ is_cell_of (pos 31 -ℤ x) y cs
 among_mirrored x y [] = refl
 among_mirrored x y (c ∷ cs) =
     ap₂ (λ here later. (here && int_eq y c.y) || later) (eq_mirrored x c.x) (among_mirrored x y cs)
@@ -46,8 +46,8 @@ run_mirrored tile mirror m drawing a b n x y =
     let bits = a ∷ b ∷ [] in
     ap (λ p. p x y) (ap (evolve n) (ap (λ hs. picture (mirrored_drawing drawing) hs []) (ap (λ cs. chosen cs bits) m.entries ∙ chosen_mirrored (entry_cells tile) bits) ∙ picture_mirrored drawing (lit_entries tile a b) []) ∙ evolve_mirrored (pos 31) n (started tile drawing a b))
 
-port_mirrored : (x y : ℤ) (cells mirror : List Cell) → mirror ≡ map mirrored_cell cells → is_among x y mirror ≡ is_among (pos 31 -ℤ x) y cells
-port_mirrored x y cells mirror e = ap (is_among x y) e ∙ among_mirrored x y cells
+port_mirrored : (x y : ℤ) (cells mirror : List Cell) → mirror ≡ map mirrored_cell cells → is_cell_of x y mirror ≡ is_cell_of (pos 31 -ℤ x) y cells
+port_mirrored x y cells mirror e = ap (is_cell_of x y) e ∙ among_mirrored x y cells
 
 keeps_time_mirrored : (tile mirror : Interface) (m : IsMirrorOf tile mirror) (drawing : Drawing) (a b : Bool) → KeepsTime tile drawing a b → KeepsTime mirror (mirrored_drawing drawing) a b
 keeps_time_mirrored tile mirror m drawing a b law =

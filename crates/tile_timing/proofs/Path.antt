@@ -6,7 +6,7 @@ use Rattle.std.proofs.lemmas.Bool.Decides.{Decides-int_eq}
 use Rattle.std.proofs.Math.Path.{fun_ext}
 use Rattle.ww_rule.specs.declared.pattern.State.TheVariants.{Empty, Head, Tail, Conductor}
 use Rattle.ww_rule.specs.Wireworld.{next_plane, evolve, next_state, heads_around, count_head}
-use Rattle.tile_core.specs.Drawing.{Cell, is_among, Drawing, picture}
+use Rattle.tile_core.specs.Drawing.{Cell, is_cell_of, Drawing, picture}
 use Rattle.tile_timing.proofs.Traces.{none_of, none_of-says}
 use Rattle.tile_timing.proofs.Sound.{same_place, evolve-front}
 
@@ -102,7 +102,7 @@ hit_cases false false b t h = refl
 
 hit_at : (drawing : Drawing) (c : Cell) (ts : List Cell) (u v : ℤ) → drawing c.x c.y ≡ true → count_head (picture drawing (c ∷ []) ts u v) ≡ hit (int_eq u c.x) (int_eq v c.y)
 hit_at drawing c ts u v w =
-    hit_cases (drawing u v) (int_eq u c.x) (int_eq v c.y) (is_among u v ts) (λ e. let s = same_place u v c.x c.y e in ap₂ drawing s.0 s.1 ∙ w)
+    hit_cases (drawing u v) (int_eq u c.x) (int_eq v c.y) (is_cell_of u v ts) (λ e. let s = same_place u v c.x c.y e in ap₂ drawing s.0 s.1 ∙ w)
 
 sum_is : (a b c d e f g h a' b' c' d' e' f' g' h' : ℕ) → a ≡ a' → b ≡ b' → c ≡ c' → d ≡ d' → e ≡ e' → f ≡ f' → g ≡ g' → h ≡ h' → a + b + c + d + e + f + g + h ≡ a' + b' + c' + d' + e' + f' + g' + h'
 sum_is a b c d e f g h a' b' c' d' e' f' g' h' p1 p2 p3 p4 p5 p6 p7 p8 = omega arith
@@ -120,9 +120,9 @@ one_head drawing c ts x y w =
 -- on the drawing, the cells beside c are those before it and those after it, and these are apart
 pub record Follows (drawing : Drawing) (before : List Cell) (c : Cell) (after : List Cell) : Type 0 where
   pub drawn : drawing c.x c.y ≡ true
-  pub beside : (x y : ℤ) → drawing x y ≡ true → is_beside x y c ≡ (is_among x y after || is_among x y before)
-  pub not_itself : (x y : ℤ) → (is_among x y (c ∷ []) && is_among x y after) ≡ false
-  pub not_back : (x y : ℤ) → (is_among x y before && is_among x y after) ≡ false
+  pub beside : (x y : ℤ) → drawing x y ≡ true → is_beside x y c ≡ (is_cell_of x y after || is_cell_of x y before)
+  pub not_itself : (x y : ℤ) → (is_cell_of x y (c ∷ []) && is_cell_of x y after) ≡ false
+  pub not_back : (x y : ℤ) → (is_cell_of x y before && is_cell_of x y after) ≡ false
 
 path_rule : (w a b c : Bool) (n : ℕ) → (w ≡ true → n ≡ cond (c || b) 1 0) → (a && c) ≡ false → (b && c) ≡ false → next_state (cond w (cond a Head (cond b Tail Conductor)) Empty) n ≡ cond w (cond c Head (cond a Tail Conductor)) Empty
 path_rule false a b c n e p q = refl
@@ -136,7 +136,7 @@ path_rule true false false false n e p q = ap (λ k. cond (k == 1 || k == 2) Hea
 -- an electron at c goes on to the cell after it
 pub goes_on : (drawing : Drawing) (before : List Cell) (c : Cell) (after : List Cell) → Follows drawing before c after → next_plane (picture drawing (c ∷ []) before) ≡ picture drawing after (c ∷ [])
 goes_on drawing before c after f =
-    fun_ext (λ x. fun_ext (λ y. path_rule (drawing x y) (is_among x y (c ∷ [])) (is_among x y before) (is_among x y after) (heads_around (picture drawing (c ∷ []) before) x y) (λ w. one_head drawing c before x y f.drawn ∙ ap (λ b. cond b 1 0) (f.beside x y w)) (f.not_itself x y) (f.not_back x y)))
+    fun_ext (λ x. fun_ext (λ y. path_rule (drawing x y) (is_cell_of x y (c ∷ [])) (is_cell_of x y before) (is_cell_of x y after) (heads_around (picture drawing (c ∷ []) before) x y) (λ w. one_head drawing c before x y f.drawn ∙ ap (λ b. cond b 1 0) (f.beside x y w)) (f.not_itself x y) (f.not_back x y)))
 
 abbrev pub first : List Cell → List Cell
 first [] = []
@@ -162,12 +162,12 @@ is_same false b = not b
 
 abbrev pub sees_only : Cell → List Cell → List Cell → Bool
 sees_only c near [] = true
-sees_only c near (d ∷ ds) = is_same (is_beside d.x d.y c) (is_among d.x d.y near) && sees_only c near ds
+sees_only c near (d ∷ ds) = is_same (is_beside d.x d.y c) (is_cell_of d.x d.y near) && sees_only c near ds
 
 abbrev pub is_chordless : List Cell → List Cell → List Cell → Bool
 is_chordless cells before [] = true
 is_chordless cells before (c ∷ cs) =
-    is_among c.x c.y cells
+    is_cell_of c.x c.y cells
     && sees_only c (first cs ++ before) cells
     && none_of (c ∷ []) (first cs)
     && none_of before (first cs)
@@ -178,33 +178,33 @@ same_from_test true b e = sym e
 same_from_test false true e = absurd (true≢false (sym e))
 same_from_test false false e = refl
 
-sees_only-says : (c : Cell) (near cells : List Cell) (x y : ℤ) → sees_only c near cells ≡ true → is_among x y cells ≡ true → is_beside x y c ≡ is_among x y near
+sees_only-says : (c : Cell) (near cells : List Cell) (x y : ℤ) → sees_only c near cells ≡ true → is_cell_of x y cells ≡ true → is_beside x y c ≡ is_cell_of x y near
 sees_only-says c near [] x y t e = absurd (true≢false (sym e))
 sees_only-says c near (d ∷ ds) x y t e =
     let parts = and_parts _ _ t in
-    elim (or_cases (int_eq x d.x && int_eq y d.y) (is_among x y ds) e) [
-      | inl here ↦ let s = same_place x y d.x d.y here in ap₂ (λ u v. is_beside u v c) s.0 s.1 ∙ same_from_test _ _ parts.0 ∙ sym (ap₂ (λ u v. is_among u v near) s.0 s.1)
+    elim (or_cases (int_eq x d.x && int_eq y d.y) (is_cell_of x y ds) e) [
+      | inl here ↦ let s = same_place x y d.x d.y here in ap₂ (λ u v. is_beside u v c) s.0 s.1 ∙ same_from_test _ _ parts.0 ∙ sym (ap₂ (λ u v. is_cell_of u v near) s.0 s.1)
       | inr later ↦ sees_only-says c near ds x y parts.1 later
     ]
 
-among_either : (cs ds : List Cell) (x y : ℤ) → is_among x y (cs ++ ds) ≡ (is_among x y cs || is_among x y ds)
+among_either : (cs ds : List Cell) (x y : ℤ) → is_cell_of x y (cs ++ ds) ≡ (is_cell_of x y cs || is_cell_of x y ds)
 among_either [] ds x y = refl
 among_either (c ∷ cs) ds x y =
-    ap (λ b. (int_eq x c.x && int_eq y c.y) || b) (among_either cs ds x y) ∙ or_moved (int_eq x c.x && int_eq y c.y) (is_among x y cs) (is_among x y ds)
+    ap (λ b. (int_eq x c.x && int_eq y c.y) || b) (among_either cs ds x y) ∙ or_moved (int_eq x c.x && int_eq y c.y) (is_cell_of x y cs) (is_cell_of x y ds)
   where
     or_moved : (a b d : Bool) → (a || (b || d)) ≡ ((a || b) || d)
     or_moved true b d = refl
     or_moved false b d = refl
 
-apart : (cs ds : List Cell) (x y : ℤ) → none_of cs ds ≡ true → (is_among x y cs && is_among x y ds) ≡ false
+apart : (cs ds : List Cell) (x y : ℤ) → none_of cs ds ≡ true → (is_cell_of x y cs && is_cell_of x y ds) ≡ false
 apart cs ds x y t =
-    elim (cases_Bool (is_among x y cs)) [
-      | inl e ↦ ap (λ b. b && is_among x y ds) e ∙ none_of-says cs ds x y t e
-      | inr e ↦ ap (λ b. b && is_among x y ds) e
+    elim (cases_Bool (is_cell_of x y cs)) [
+      | inl e ↦ ap (λ b. b && is_cell_of x y ds) e ∙ none_of-says cs ds x y t e
+      | inr e ↦ ap (λ b. b && is_cell_of x y ds) e
     ]
 
 -- a list of cells that passes is a chordless path in the drawing of its cells
-pub chordless_path : (cells before path : List Cell) → is_chordless cells before path ≡ true → IsPath (λ x y. is_among x y cells) before path
+pub chordless_path : (cells before path : List Cell) → is_chordless cells before path ≡ true → IsPath (λ x y. is_cell_of x y cells) before path
 chordless_path cells before [] t = tt
 chordless_path cells before (c ∷ cs) t =
     let p1 = and_parts _ _ t in
@@ -221,5 +221,5 @@ chordless_path cells before (c ∷ cs) t =
     )
 
 -- so it carries an electron from its first cell, one cell a generation
-pub carries : (path : List Cell) (g : ℕ) → is_chordless path [] path ≡ true → g < length path → evolve (suc g) (picture (λ x y. is_among x y path) (first path) []) ≡ picture (λ x y. is_among x y path) (first (drop (suc g) path)) (first (drop g path))
-carries path g t h = runs_along (λ x y. is_among x y path) g [] path (chordless_path path [] path t) h
+pub carries : (path : List Cell) (g : ℕ) → is_chordless path [] path ≡ true → g < length path → evolve (suc g) (picture (λ x y. is_cell_of x y path) (first path) []) ≡ picture (λ x y. is_cell_of x y path) (first (drop (suc g) path)) (first (drop g path))
+carries path g t h = runs_along (λ x y. is_cell_of x y path) g [] path (chordless_path path [] path t) h

@@ -1,7 +1,7 @@
 -- The ports and the border of a drawing, by tests that compute.
 use Rattle.std.proofs.Common.{ℤ, pos, negsuc, ℕ, zero, suc, ◌*◌, ◌<◌, ◌≡◌, sym, ap, ◌∙◌, Bool, true, false, ◌||◌, ◌&&◌, not, ◌++◌, arith, inl, inr}
 use Rattle.std.proofs.lemmas.Bool.{and_parts, true≢false, cases_lt, ltb-true}
-use Rattle.tile_core.specs.Drawing.{is_among, Drawing}
+use Rattle.tile_core.specs.Drawing.{is_cell_of, Drawing}
 use Rattle.tile_core.specs.Interface.{Interface, entry_cells, exit_cells, is_in_box, is_on_border}
 use Rattle.tile_core.specs.TimingLaw.{HasPorts}
 use Rattle.tile_timing.proofs.Traces.{all_drawn, all_drawn-says}
@@ -22,7 +22,7 @@ below-says f (suc n) k t lt =
 -- a cell on the border that is no port is empty
 abbrev pub is_clear : Interface → Drawing → ℕ → ℕ → Bool
 is_clear tile drawing y x =
-    not (is_on_border tile (pos x) (pos y) && drawing (pos x) (pos y)) || is_among (pos x) (pos y) (entry_cells tile ++ exit_cells tile)
+    not (is_on_border tile (pos x) (pos y) && drawing (pos x) (pos y)) || is_cell_of (pos x) (pos y) (entry_cells tile ++ exit_cells tile)
 
 abbrev pub ports_test : Interface → Drawing → Bool
 ports_test tile drawing =
@@ -35,7 +35,7 @@ port_if true true p t h k = t
 port_if true false p t h k = absurd (true≢false (sym k))
 port_if false w p t h k = absurd (true≢false (sym h))
 
-border : (tile : Interface) (drawing : Drawing) → below (λ y. below (is_clear tile drawing y) 32) (16 * tile.lanes) ≡ true → (x y : ℤ) → is_on_border tile x y ≡ true → drawing x y ≡ true → is_among x y (entry_cells tile ++ exit_cells tile) ≡ true
+border : (tile : Interface) (drawing : Drawing) → below (λ y. below (is_clear tile drawing y) 32) (16 * tile.lanes) ≡ true → (x y : ℤ) → is_on_border tile x y ≡ true → drawing x y ≡ true → is_cell_of x y (entry_cells tile ++ exit_cells tile) ≡ true
 border tile drawing t (pos x) (pos y) on e =
     let box = and_parts _ _ (and_parts _ _ on).0 in
     port_if _ _ _ (below-says (is_clear tile drawing y) 32 x (below-says (λ y. below (is_clear tile drawing y) 32) (16 * tile.lanes) y t (ltb-true y _ box.1)) (ltb-true x 32 box.0)) on e

@@ -6,12 +6,12 @@ use Rattle.std.proofs.lemmas.Bool.Decides.{Decides-int_eq}
 use Rattle.std.proofs.lemmas.List.Elements.{All-nil, All-cons, All-head, All-tail}
 use Rattle.ww_rule.specs.declared.pattern.State.TheVariants.{Head}
 use Rattle.ww_rule.specs.Wireworld.{Plane}
-use Rattle.tile_core.specs.Drawing.{Cell, is_among}
+use Rattle.tile_core.specs.Drawing.{Cell, is_cell_of}
 use Rattle.tile_core.specs.Interface.{cell_at, chosen}
 use Rattle.tile_timing.specs.Law.{is_at, AreLitAs}
 use Rattle.tile_timing.proofs.Sound.{same_place}
 
-among_cond : (a : Bool) (c : Cell) (cs : List Cell) (x y : ℤ) → is_among x y (cond a (c ∷ cs) cs) ≡ ((a && (int_eq x c.x && int_eq y c.y)) || is_among x y cs)
+among_cond : (a : Bool) (c : Cell) (cs : List Cell) (x y : ℤ) → is_cell_of x y (cond a (c ∷ cs) cs) ≡ ((a && (int_eq x c.x && int_eq y c.y)) || is_cell_of x y cs)
 among_cond true c cs x y = refl
 among_cond false c cs x y = refl
 
@@ -29,7 +29,7 @@ no_bits true false = refl
 no_bits true true = refl
 
 -- which of two ports are lit, by one test for each of them
-pub lit_of_two : (ports : List (ℕ × ℕ)) (bits : List Bool) (x y : ℕ) → length ports ≤ 2 → length bits ≡ 2 → is_among (pos x) (pos y) (chosen (map cell_at ports) bits) ≡ ((get_or bits 0 false && list_any (λ port. is_at port x y) (take 1 (drop 0 ports))) || (get_or bits 1 false && list_any (λ port. is_at port x y) (take 1 (drop 1 ports))))
+pub lit_of_two : (ports : List (ℕ × ℕ)) (bits : List Bool) (x y : ℕ) → length ports ≤ 2 → length bits ≡ 2 → is_cell_of (pos x) (pos y) (chosen (map cell_at ports) bits) ≡ ((get_or bits 0 false && list_any (λ port. is_at port x y) (take 1 (drop 0 ports))) || (get_or bits 1 false && list_any (λ port. is_at port x y) (take 1 (drop 1 ports))))
 lit_of_two ports [] x y few two = absurd (omega (arith, two))
 lit_of_two ports (a ∷ []) x y few two = absurd (omega (arith, two))
 lit_of_two ports (a ∷ b ∷ c ∷ bits) x y few two = absurd (omega (arith, two))
@@ -47,7 +47,7 @@ lit_of_two (p ∷ q ∷ []) (a ∷ b ∷ []) x y few two =
 lit_of_two (p ∷ q ∷ r ∷ ports) (a ∷ b ∷ []) x y few two = absurd (omega (arith, few))
 
 -- what holds at each port holds at each cell that is a port
-pub at_port_cells : (P : ℤ → ℤ → Type 0) (ports : List (ℕ × ℕ)) → All (λ port. P (pos port.0) (pos port.1)) ports → (x y : ℤ) → is_among x y (map cell_at ports) ≡ true → P x y
+pub at_port_cells : (P : ℤ → ℤ → Type 0) (ports : List (ℕ × ℕ)) → All (λ port. P (pos port.0) (pos port.1)) ports → (x y : ℤ) → is_cell_of x y (map cell_at ports) ≡ true → P x y
 at_port_cells P [] all x y e = absurd (true≢false (sym e))
 at_port_cells P (p ∷ ps) all x y e =
     elim (or_cases _ _ e) [
@@ -63,7 +63,7 @@ later_true true c e = refl
 later_true false c e = e
 
 -- and the other way
-pub at_ports : (P : ℤ → ℤ → Type 0) (ports : List (ℕ × ℕ)) → ((x y : ℤ) → is_among x y (map cell_at ports) ≡ true → P x y) → All (λ port. P (pos port.0) (pos port.1)) ports
+pub at_ports : (P : ℤ → ℤ → Type 0) (ports : List (ℕ × ℕ)) → ((x y : ℤ) → is_cell_of x y (map cell_at ports) ≡ true → P x y) → All (λ port. P (pos port.0) (pos port.1)) ports
 at_ports P [] each = All-nil (λ port. P (pos port.0) (pos port.1))
 at_ports P (p ∷ ps) each =
     All-cons (λ port. P (pos port.0) (pos port.1)) p ps
@@ -71,18 +71,18 @@ at_ports P (p ∷ ps) each =
     (at_ports P ps (λ x y e. each x y (later_true _ _ e)))
 
 -- a test of each port, as a test of each cell that is a port
-pub each_port_cell : (P : ℤ → ℤ → Type 0) (ports listed : List (ℕ × ℕ)) (r : Bool) → listed ≡ ports → IsTrue r ↔ All (λ port. P (pos port.0) (pos port.1)) listed → IsTrue r ↔ ((x y : ℤ) → is_among x y (map cell_at ports) ≡ true → P x y)
+pub each_port_cell : (P : ℤ → ℤ → Type 0) (ports listed : List (ℕ × ℕ)) (r : Bool) → listed ≡ ports → IsTrue r ↔ All (λ port. P (pos port.0) (pos port.1)) listed → IsTrue r ↔ ((x y : ℤ) → is_cell_of x y (map cell_at ports) ≡ true → P x y)
 each_port_cell P ports listed r e says = (
   λ t. at_port_cells P ports (subst (λ ps. All (λ port. P (pos port.0) (pos port.1)) ps) e (says.0 t)),
-  λ each. says.1 (at_ports P listed (λ x y h. each x y (ap (λ ps. is_among x y (map cell_at ps)) (sym e) ∙ h))),
+  λ each. says.1 (at_ports P listed (λ x y h. each x y (ap (λ ps. is_cell_of x y (map cell_at ps)) (sym e) ∙ h))),
 )
 
 -- the same of the ports that are heads
-pub each_port_lit : (p : Plane) (ports listed : List (ℕ × ℕ)) (bits wanted : List Bool) (r : Bool) → listed ≡ ports → wanted ≡ bits → IsTrue r ↔ All (λ port. (p (pos port.0) (pos port.1) ≡ Head) ↔ (is_among (pos port.0) (pos port.1) (chosen (map cell_at listed) wanted) ≡ true)) listed → IsTrue r ↔ AreLitAs (map cell_at ports) (chosen (map cell_at ports) bits) p
+pub each_port_lit : (p : Plane) (ports listed : List (ℕ × ℕ)) (bits wanted : List Bool) (r : Bool) → listed ≡ ports → wanted ≡ bits → IsTrue r ↔ All (λ port. (p (pos port.0) (pos port.1) ≡ Head) ↔ (is_cell_of (pos port.0) (pos port.1) (chosen (map cell_at listed) wanted) ≡ true)) listed → IsTrue r ↔ AreLitAs (map cell_at ports) (chosen (map cell_at ports) bits) p
 each_port_lit p ports listed bits wanted r e f says =
     subst (λ bs. IsTrue r ↔ AreLitAs (map cell_at ports) (chosen (map cell_at ports) bs) p) f
     (subst (λ ps. IsTrue r ↔ AreLitAs (map cell_at ps) (chosen (map cell_at ps) wanted) p) e
-    (each_port_cell (λ x y. (p x y ≡ Head) ↔ (is_among x y (chosen (map cell_at listed) wanted) ≡ true)) listed listed r refl says))
+    (each_port_cell (λ x y. (p x y ≡ Head) ↔ (is_cell_of x y (chosen (map cell_at listed) wanted) ≡ true)) listed listed r refl says))
 
 pub two_bits : (bits : List Bool) → length bits ≡ 2 → bits ≡ get_or bits 0 false ∷ get_or bits 1 false ∷ []
 two_bits [] e = absurd (omega (arith, e))

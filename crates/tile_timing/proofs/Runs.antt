@@ -4,7 +4,7 @@ use Rattle.std.proofs.lemmas.Bool.{cases_lt}
 use Rattle.std.proofs.Math.Path.{fun_ext}
 use Rattle.ww_rule.specs.declared.pattern.State.TheVariants.{Head}
 use Rattle.ww_rule.specs.Wireworld.{Plane, next_plane, evolve}
-use Rattle.tile_core.specs.Drawing.{is_among, Drawing, picture}
+use Rattle.tile_core.specs.Drawing.{is_cell_of, Drawing, picture}
 use Rattle.tile_core.specs.Interface.{Interface, lit_exits}
 use Rattle.tile_core.specs.TimingLaw.{started, KeepsTime}
 use Rattle.tile_timing.specs.Law.{IsInTime}
@@ -35,7 +35,7 @@ in_time_by_law tile drawing a b law g hi =
       exits =
           record {
             dark = λ ne x y. law.exits_stay_dark g x y hi ne;
-            answer = λ e x y h. subst (λ k. (evolve k (started tile drawing a b) x y ≡ Head) ↔ (is_among x y (lit_exits tile a b) ≡ true)) (sym e) (law.exits_answer x y h);
+            answer = λ e x y h. subst (λ k. (evolve k (started tile drawing a b) x y ≡ Head) ↔ (is_cell_of x y (lit_exits tile a b) ≡ true)) (sym e) (law.exits_answer x y h);
           };
     }
 

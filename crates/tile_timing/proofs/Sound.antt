@@ -6,7 +6,7 @@ use Rattle.std.proofs.Math.IntN.{+ℤ-neg_ℤ_cancel, -ℤ-+ℤ_cancel}
 use Rattle.std.proofs.Math.Path.{fun_ext}
 use Rattle.ww_rule.specs.declared.pattern.State.TheVariants.{Empty, Head, Tail, Conductor}
 use Rattle.ww_rule.specs.Wireworld.{Plane, next_plane, evolve, next_state, heads_around, count_head}
-use Rattle.tile_core.specs.Drawing.{Cell, is_among, Drawing, picture}
+use Rattle.tile_core.specs.Drawing.{Cell, is_cell_of, Drawing, picture}
 use Rattle.tile_timing.proofs.Heads.{all_around, is_head, collect, next_heads, trace}
 
 pub eq_down : (x a : ℤ) → int_eq (x -ℤ pos 1) a ≡ int_eq x (a +ℤ pos 1)
@@ -21,19 +21,19 @@ eq_up x a =
 
 -- no neighbour of x, y is in the list
 pub record IsFar (x y : ℤ) (cs : List Cell) : Type 0 where
-  pub nw : is_among (x -ℤ pos 1) (y -ℤ pos 1) cs ≡ false
-  pub n : is_among x (y -ℤ pos 1) cs ≡ false
-  pub ne : is_among (x +ℤ pos 1) (y -ℤ pos 1) cs ≡ false
-  pub w : is_among (x -ℤ pos 1) y cs ≡ false
-  pub e : is_among (x +ℤ pos 1) y cs ≡ false
-  pub sw : is_among (x -ℤ pos 1) (y +ℤ pos 1) cs ≡ false
-  pub s : is_among x (y +ℤ pos 1) cs ≡ false
-  pub se : is_among (x +ℤ pos 1) (y +ℤ pos 1) cs ≡ false
+  pub nw : is_cell_of (x -ℤ pos 1) (y -ℤ pos 1) cs ≡ false
+  pub n : is_cell_of x (y -ℤ pos 1) cs ≡ false
+  pub ne : is_cell_of (x +ℤ pos 1) (y -ℤ pos 1) cs ≡ false
+  pub w : is_cell_of (x -ℤ pos 1) y cs ≡ false
+  pub e : is_cell_of (x +ℤ pos 1) y cs ≡ false
+  pub sw : is_cell_of (x -ℤ pos 1) (y +ℤ pos 1) cs ≡ false
+  pub s : is_cell_of x (y +ℤ pos 1) cs ≡ false
+  pub se : is_cell_of (x +ℤ pos 1) (y +ℤ pos 1) cs ≡ false
 
 both : (a b c d : Bool) → a ≡ c → b ≡ d → (c && d) ≡ false → (a && b) ≡ false
 both a b c d p q h = cc
 
-pub far : (x y : ℤ) (cs : List Cell) → is_among x y (all_around cs) ≡ false → IsFar x y cs
+pub far : (x y : ℤ) (cs : List Cell) → is_cell_of x y (all_around cs) ≡ false → IsFar x y cs
 far x y [] h = record { nw = refl; n = refl; ne = refl; w = refl; e = refl; sw = refl; s = refl; se = refl }
 far x y (c ∷ cs) h =
     let h1 = or_parts _ _ h in
@@ -62,13 +62,13 @@ dark_cases true true b3 h = cc
 dark_cases true false true h = refl
 dark_cases true false false h = refl
 
-count_dark : (drawing : Drawing) (hs ts : List Cell) (x y : ℤ) → is_among x y hs ≡ false → count_head (picture drawing hs ts x y) ≡ 0
-count_dark drawing hs ts x y h = dark_cases (drawing x y) (is_among x y hs) (is_among x y ts) h
+count_dark : (drawing : Drawing) (hs ts : List Cell) (x y : ℤ) → is_cell_of x y hs ≡ false → count_head (picture drawing hs ts x y) ≡ 0
+count_dark drawing hs ts x y h = dark_cases (drawing x y) (is_cell_of x y hs) (is_cell_of x y ts) h
 
 sum_of_none : (a b c d e f g h : ℕ) → a ≡ 0 → b ≡ 0 → c ≡ 0 → d ≡ 0 → e ≡ 0 → f ≡ 0 → g ≡ 0 → h ≡ 0 → a + b + c + d + e + f + g + h ≡ 0
 sum_of_none a b c d e f g h p1 p2 p3 p4 p5 p6 p7 p8 = omega arith
 
-pub none_around : (drawing : Drawing) (hs ts : List Cell) (x y : ℤ) → is_among x y (all_around hs) ≡ false → heads_around (picture drawing hs ts) x y ≡ 0
+pub none_around : (drawing : Drawing) (hs ts : List Cell) (x y : ℤ) → is_cell_of x y (all_around hs) ≡ false → heads_around (picture drawing hs ts) x y ≡ 0
 none_around drawing hs ts x y h =
     let f = far x y hs h in
     sum_of_none _ _ _ _ _ _ _ _ (count_dark drawing hs ts _ _ f.nw) (count_dark drawing hs ts _ _ f.n) (count_dark drawing hs ts _ _ f.ne) (count_dark drawing hs ts _ _ f.w) (count_dark drawing hs ts _ _ f.e) (count_dark drawing hs ts _ _ f.sw) (count_dark drawing hs ts _ _ f.s) (count_dark drawing hs ts _ _ f.se)
@@ -106,7 +106,7 @@ or_none : (b : Bool) → b ≡ (b || false)
 or_none true = refl
 or_none false = refl
 
-among_cond : (t : Bool) (c : Cell) (found : List Cell) (x y : ℤ) → is_among x y (cond t (c ∷ found) found) ≡ cond t ((int_eq x c.x && int_eq y c.y) || is_among x y found) (is_among x y found)
+among_cond : (t : Bool) (c : Cell) (found : List Cell) (x y : ℤ) → is_cell_of x y (cond t (c ∷ found) found) ≡ cond t ((int_eq x c.x && int_eq y c.y) || is_cell_of x y found) (is_cell_of x y found)
 among_cond true c found x y = refl
 among_cond false c found x y = refl
 
@@ -115,18 +115,18 @@ same_place x y a b h =
     let parts = and_parts (int_eq x a) (int_eq y b) h in
     ((Decides-int_eq x a).0 parts.0, (Decides-int_eq y b).0 parts.1)
 
-pub among_collect : (p : Plane) (cs found : List Cell) (x y : ℤ) → is_among x y (collect p cs found) ≡ (is_among x y found || (is_among x y cs && is_head (next_plane p x y)))
-among_collect p [] found x y = or_none (is_among x y found)
+pub among_collect : (p : Plane) (cs found : List Cell) (x y : ℤ) → is_cell_of x y (collect p cs found) ≡ (is_cell_of x y found || (is_cell_of x y cs && is_head (next_plane p x y)))
+among_collect p [] found x y = or_none (is_cell_of x y found)
 among_collect p (c ∷ cs) found x y =
-    let t = is_head (next_plane p c.x c.y) && not (is_among c.x c.y found) in
+    let t = is_head (next_plane p c.x c.y) && not (is_cell_of c.x c.y found) in
     among_collect p cs (cond t (c ∷ found) found) x y
-    ∙ ap (λ v. v || (is_among x y cs && is_head (next_plane p x y))) (among_cond t c found x y)
-    ∙ merges (int_eq x c.x && int_eq y c.y) (is_among x y found) (is_among x y cs) (is_head (next_plane p x y)) (is_head (next_plane p c.x c.y)) (is_among c.x c.y found) (λ e. let s = same_place x y c.x c.y e in sym (ap₂ (λ u v. is_head (next_plane p u v)) s.0 s.1)) (λ e. let s = same_place x y c.x c.y e in sym (ap₂ (λ u v. is_among u v found) s.0 s.1))
+    ∙ ap (λ v. v || (is_cell_of x y cs && is_head (next_plane p x y))) (among_cond t c found x y)
+    ∙ merges (int_eq x c.x && int_eq y c.y) (is_cell_of x y found) (is_cell_of x y cs) (is_head (next_plane p x y)) (is_head (next_plane p c.x c.y)) (is_cell_of c.x c.y found) (λ e. let s = same_place x y c.x c.y e in sym (ap₂ (λ u v. is_head (next_plane p u v)) s.0 s.1)) (λ e. let s = same_place x y c.x c.y e in sym (ap₂ (λ u v. is_cell_of u v found) s.0 s.1))
 
 -- one generation of the lists is one generation of the plane
 pub step_picture : (drawing : Drawing) (hs ts : List Cell) → next_plane (picture drawing hs ts) ≡ picture drawing (next_heads drawing hs ts) hs
 step_picture drawing hs ts =
-    fun_ext (λ x. fun_ext (λ y. rule_cases (drawing x y) (is_among x y hs) (is_among x y ts) (is_among x y (all_around hs)) (is_among x y (next_heads drawing hs ts)) (heads_around (picture drawing hs ts) x y) (among_collect (picture drawing hs ts) (all_around hs) [] x y) (none_around drawing hs ts x y)))
+    fun_ext (λ x. fun_ext (λ y. rule_cases (drawing x y) (is_cell_of x y hs) (is_cell_of x y ts) (is_cell_of x y (all_around hs)) (is_cell_of x y (next_heads drawing hs ts)) (heads_around (picture drawing hs ts) x y) (among_collect (picture drawing hs ts) (all_around hs) [] x y) (none_around drawing hs ts x y)))
 
 pub evolve-front : (n : ℕ) (p : Plane) → evolve (suc n) p ≡ evolve n (next_plane p)
 evolve-front zero p = refl

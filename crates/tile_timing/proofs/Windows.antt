@@ -9,7 +9,7 @@ use Rattle.ww_rule.specs.declared.pattern.State.TheVariants.{Empty, Conductor}
 use Rattle.ww_rule.specs.Wireworld.{Plane, next_plane}
 use Rattle.ww_rule.proofs.Cells.{next_plane_empty}
 use Rattle.tile_timing.specs.Window.{shown}
-use Rattle.tile_core.specs.Drawing.{Cell, is_among}
+use Rattle.tile_core.specs.Drawing.{Cell, is_cell_of}
 use Rattle.tile_timing.specs.Law.{drawing_of, is_filled, marked}
 
 pub beside : (cells : List State) (w x y : ℕ) → w ≤ x → shown cells w (pos x) (pos y) ≡ Empty
@@ -47,7 +47,7 @@ shown_next old new w same each =
 
 -- a marked drawing of a window is empty where the window is
 pub marked_empty : (base : List State) (cells : List Cell) (mark : State) (x y : ℤ) → shown base 32 x y ≡ Empty → marked (drawing_of base) cells mark x y ≡ Empty
-marked_empty base cells mark x y e = ap (λ s. cond (is_filled s) (cond (is_among x y cells) mark Conductor) Empty) e
+marked_empty base cells mark x y e = ap (λ s. cond (is_filled s) (cond (is_cell_of x y cells) mark Conductor) Empty) e
 
 pub shown_gives : (q : Plane) (cells : List State) (k : ℕ) → shown cells 32 ≡ q → get_or cells k Empty ≡ q (pos (k % 32)) (pos (k / 32))
 shown_gives q cells k e =

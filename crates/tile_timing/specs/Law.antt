@@ -5,7 +5,7 @@ use Rattle.ww_rule.specs.declared.pattern.State.{State}
 use Rattle.ww_rule.specs.declared.pattern.State.TheVariants.{Empty, Head, Tail, Conductor}
 use Rattle.ww_rule.specs.Wireworld.{Plane}
 use Rattle.tile_core.specs.declared.kind.Kind.{Kind}
-use Rattle.tile_core.specs.Drawing.{Cell, is_among, Drawing}
+use Rattle.tile_core.specs.Drawing.{Cell, is_cell_of, Drawing}
 use Rattle.tile_core.specs.Interface.{Interface, entry_cells, exit_cells, lit_exits, is_on_border}
 use Rattle.tile_core.specs.Kinds.{lanes, interface}
 use Rattle.tile_core.specs.TimingLaw.{MeetsTimingLaw}
@@ -36,15 +36,15 @@ is_at port x y = int_eq (pos x) (pos port.0) && int_eq (pos y) (pos port.1)
 
 -- the drawing alone on the plane, with some of its cells in another state than conductor
 abbrev pub marked : Drawing → List Cell → State → Plane
-marked drawing cells mark x y = cond (drawing x y) (cond (is_among x y cells) mark Conductor) Empty
+marked drawing cells mark x y = cond (drawing x y) (cond (is_cell_of x y cells) mark Conductor) Empty
 
 -- none of the cells is a head
 abbrev pub AreDark : List Cell → Plane → Type 0
-AreDark cells p = (x y : ℤ) → is_among x y cells ≡ true → p x y ≢ Head
+AreDark cells p = (x y : ℤ) → is_cell_of x y cells ≡ true → p x y ≢ Head
 
 -- of these cells those are heads that are lit
 abbrev pub AreLitAs : List Cell → List Cell → Plane → Type 0
-AreLitAs cells lit p = (x y : ℤ) → is_among x y cells ≡ true → (p x y ≡ Head) ↔ (is_among x y lit ≡ true)
+AreLitAs cells lit p = (x y : ℤ) → is_cell_of x y cells ≡ true → (p x y ≡ Head) ↔ (is_cell_of x y lit ≡ true)
 
 -- what the timing law says of the exits at generation g
 pub record ExitsInTime (tile : Interface) (a b : Bool) (g : ℕ) (p : Plane) : Type 0 where
@@ -58,12 +58,12 @@ pub record IsInTime (tile : Interface) (a b : Bool) (g : ℕ) (p : Plane) : Type
 
 -- all of the cells are the drawing's
 abbrev pub AreDrawn : List Cell → Drawing → Type 0
-AreDrawn cells drawing = (x y : ℤ) → is_among x y cells ≡ true → drawing x y ≡ true
+AreDrawn cells drawing = (x y : ℤ) → is_cell_of x y cells ≡ true → drawing x y ≡ true
 
 -- a cell that is on the border and not empty is a port
 abbrev pub IsClearAt : Kind → State → ℕ → ℕ → Type 0
 IsClearAt kind cell x y =
-    is_on_border (interface kind) (pos x) (pos y) ≡ true → is_filled cell ≡ true → is_among (pos x) (pos y) (entry_cells (interface kind) ++ exit_cells (interface kind)) ≡ true
+    is_on_border (interface kind) (pos x) (pos y) ≡ true → is_filled cell ≡ true → is_cell_of (pos x) (pos y) (entry_cells (interface kind) ++ exit_cells (interface kind)) ≡ true
 
 abbrev pub IsBorderClear : Kind → List State → Type 0
 IsBorderClear kind cells = (k : ℕ) → k < length cells → IsClearAt kind (get_or cells k Empty) (k % 32) (k / 32)

@@ -1,7 +1,7 @@
 // The timing law of a slice of cells, tried out choice by choice.
 ghost use Rattle.std.specs.Prelude.{◌⊎◌, [], Bool, ◌++◌, ◌≡◌, ℕ, ◌*◌, ◌/◌, ◌%◌, ◌<◌, ◌≤◌, ◌↔◌, pos, length, IsTrue, true, false, map, get_or, All, take, drop, ◌≢◌};
 ghost use Rattle.std.specs.List.{list_any};
-ghost use Rattle.tile_core.specs.Drawing.{is_among, picture};
+ghost use Rattle.tile_core.specs.Drawing.{is_cell_of, picture};
 ghost use Rattle.tile_core.specs.Interface.{cell_at, chosen, entry_cells, exit_cells, lit_exits, is_on_border};
 ghost use Rattle.tile_core.specs.Kinds.{lanes, interface};
 ghost use Rattle.tile_core.specs.TimingLaw.{started, KeepsTime, HasPorts};
@@ -45,7 +45,7 @@ fn is_port_number(ports: &[(u32, u32)], number: usize, x: usize, y: usize) -> bo
 #[tactic(auto, using(crate::proofs::Ports::lit_of_two))]
 fn is_lit(ports: &[(u32, u32)], bits: [bool; 2], x: usize, y: usize) -> bool
     requires few { length ports.now ≤ 2 }
-    ensures { result ≡ is_among (pos x) (pos y) (chosen (map cell_at ports.now) bits) }
+    ensures { result ≡ is_cell_of (pos x) (pos y) (chosen (map cell_at ports.now) bits) }
 {
     let [first, second] = bits;
     let is_first = is_port_number(ports, 0, x, y);
@@ -61,7 +61,7 @@ fn are_dark(cells: &[State], ports: &[(u32, u32)]) -> bool
 
 fn is_lit_as(cells: &[State], ports: &[(u32, u32)], bits: [bool; 2]) -> bool
     requires few { length ports.now ≤ 2 }
-    ensures { IsTrue result ↔ All (λ port. (shown cells.now 32 (pos port.0) (pos port.1) ≡ State.Head) ↔ (is_among (pos port.0) (pos port.1) (chosen (map cell_at ports.now) bits) ≡ true)) ports.now }
+    ensures { IsTrue result ↔ All (λ port. (shown cells.now 32 (pos port.0) (pos port.1) ≡ State.Head) ↔ (is_cell_of (pos port.0) (pos port.1) (chosen (map cell_at ports.now) bits) ≡ true)) ports.now }
 {
     ports.iter().all(|(x, y)| is_head_at(cells, *x, *y)
         == is_lit(ports, bits, *x as usize, *y as usize))
@@ -260,7 +260,7 @@ fn is_on_border(kind: Kind, x: usize, y: usize) -> bool
 
 // Whether the cell is an entry or an exit.
 fn is_any_port(kind: Kind, x: usize, y: usize) -> bool
-    ensures { result ≡ is_among (pos x) (pos y) (entry_cells (interface kind) ++ exit_cells (interface kind)) }
+    ensures { result ≡ is_cell_of (pos x) (pos y) (entry_cells (interface kind) ++ exit_cells (interface kind)) }
 {
     let lanes = kind.lanes() as usize;
     let entries = kind.entries();

@@ -8,7 +8,7 @@ use Rattle.ww_rule.specs.Laws.{moved}
 use Rattle.ww_rule.proofs.Moves.{evolve_moved}
 use Rattle.ww_rule.proofs.Boxes.{evolve_empty}
 use Rattle.tile_core.specs.declared.kind.Kind.{Kind}
-use Rattle.tile_core.specs.Drawing.{Cell, Drawing, picture, is_among}
+use Rattle.tile_core.specs.Drawing.{Cell, Drawing, picture, is_cell_of}
 use Rattle.tile_core.specs.TimingLaw.{started, MeetsTimingLaw}
 use Rattle.tiling.specs.Tiling.{Piece, interface_of, piece_drawing, Tiling, Lit, is_entry_lit}
 use Rattle.tiling.proofs.Region.{Placed, face, tile_at, InBox, in_box_test}
@@ -41,7 +41,7 @@ nothing_stays library lit g u v = evolve_empty g (alone library lit None) u v re
 
 pub picture_undrawn : (drawing : Drawing) (hs ts : List Cell) (x y : ℤ) → drawing x y ≡ false → picture drawing hs ts x y ≡ Empty
 picture_undrawn drawing hs ts x y e =
-    ap (λ v. cond v (cond (is_among x y hs) Head (cond (is_among x y ts) Tail Conductor)) Empty) e
+    ap (λ v. cond v (cond (is_cell_of x y hs) Head (cond (is_cell_of x y ts) Tail Conductor)) Empty) e
 
 -- where the drawing has no cell there never is one
 pub undrawn : (library : Kind → Drawing) (lit : Lit) (t : Placed) (g : ℕ) (u v : ℤ) → wires library t u v ≡ false → evolve g (alone library lit (Some t)) u v ≡ Empty

@@ -4,7 +4,7 @@ use Rattle.std.proofs.lemmas.Int.{ints}
 use Rattle.std.specs.Prelude.{Some, None}
 use Rattle.ww_rule.specs.declared.pattern.State.TheVariants.{Empty}
 use Rattle.tile_core.specs.declared.kind.Kind.{Kind}
-use Rattle.tile_core.specs.Drawing.{Drawing, is_among}
+use Rattle.tile_core.specs.Drawing.{Drawing, is_cell_of}
 use Rattle.tile_core.specs.Interface.{entry_cells, exit_cells}
 use Rattle.tiling.specs.Tiling.{Piece, interface_of, Slot, Tiling, Lit, drawn, drawn_slot, drawn_piece}
 use Rattle.tiling.specs.Tiling.Slot.{Nothing, Whole, Upper, Lower}
@@ -93,10 +93,10 @@ abbrev pub left_at : Tiling → ℕ → ℕ → Bool
 left_at tiling X Y = is_left (tiling (X / 32) (Y / 16)) (X % 32) (Y % 16)
 
 abbrev entry_place : ℕ → ℕ → Piece → ℕ → ℕ → Bool
-entry_place q l p x y = is_among (pos x) (pos y) (entry_cells (interface_of p))
+entry_place q l p x y = is_cell_of (pos x) (pos y) (entry_cells (interface_of p))
 
 abbrev exit_place : ℕ → ℕ → Piece → ℕ → ℕ → Bool
-exit_place q l p x y = is_among (pos x) (pos y) (exit_cells (interface_of p))
+exit_place q l p x y = is_cell_of (pos x) (pos y) (exit_cells (interface_of p))
 
 entered_by_slot : (q l : ℕ) (s : Slot) (x y : ℕ) → is_entered s x y ≡ by_slot entry_place false q l s x y
 entered_by_slot q l Nothing x y = refl
@@ -110,7 +110,7 @@ left_by_slot q l (Whole p) x y = refl
 left_by_slot q l (Upper p) x y = refl
 left_by_slot q l (Lower p) x y = refl
 
-pub entered_is : (tiling : Tiling) → HasWholePieces tiling → (t : Placed) (X Y : ℕ) → tile_at tiling (pos X) (pos Y) ≡ Some t → (b : InBox tiling t (pos X) (pos Y)) → entered_at tiling X Y ≡ is_among (pos b.x) (pos b.y) (entry_cells (face t))
+pub entered_is : (tiling : Tiling) → HasWholePieces tiling → (t : Placed) (X Y : ℕ) → tile_at tiling (pos X) (pos Y) ≡ Some t → (b : InBox tiling t (pos X) (pos Y)) → entered_at tiling X Y ≡ is_cell_of (pos b.x) (pos b.y) (entry_cells (face t))
 entered_is tiling h t X Y e b =
     entered_by_slot (X / 32) (Y / 16) (tiling (X / 32) (Y / 16)) (X % 32) (Y % 16) ∙ slot_some entry_place false tiling h t X Y e b
 
@@ -122,7 +122,7 @@ pub left_none : (tiling : Tiling) (X Y : ℕ) → tile_at tiling (pos X) (pos Y)
 left_none tiling X Y e =
     left_by_slot (X / 32) (Y / 16) (tiling (X / 32) (Y / 16)) (X % 32) (Y % 16) ∙ slot_none exit_place false tiling X Y e
 
-pub left_is : (tiling : Tiling) → HasWholePieces tiling → (t : Placed) (X Y : ℕ) → tile_at tiling (pos X) (pos Y) ≡ Some t → (b : InBox tiling t (pos X) (pos Y)) → left_at tiling X Y ≡ is_among (pos b.x) (pos b.y) (exit_cells (face t))
+pub left_is : (tiling : Tiling) → HasWholePieces tiling → (t : Placed) (X Y : ℕ) → tile_at tiling (pos X) (pos Y) ≡ Some t → (b : InBox tiling t (pos X) (pos Y)) → left_at tiling X Y ≡ is_cell_of (pos b.x) (pos b.y) (exit_cells (face t))
 left_is tiling h t X Y e b =
     left_by_slot (X / 32) (Y / 16) (tiling (X / 32) (Y / 16)) (X % 32) (Y % 16) ∙ slot_some exit_place false tiling h t X Y e b
 

@@ -3,7 +3,7 @@ use Rattle.std.proofs.Common.{ℤ, pos, negsuc, ◌+ℤ◌, ◌-ℤ◌, ◌≤�
 use Rattle.std.proofs.lemmas.Bool.{and_from, or_parts, or_cases, or_left, or_right, lt-ltb, eqb-false, true_from_ne_false}
 use Rattle.std.proofs.lemmas.Int.{ints}
 use Rattle.tile_core.specs.declared.kind.Kind.{Kind}
-use Rattle.tile_core.specs.Drawing.{Cell, Drawing, is_among}
+use Rattle.tile_core.specs.Drawing.{Cell, Drawing, is_cell_of}
 use Rattle.tile_core.specs.Interface.{entry_cells, exit_cells, is_in_box, is_on_border}
 use Rattle.tiling.specs.Tiling.{Tiling}
 use Rattle.tiling.proofs.Region.{Placed, face, InBox, local}
@@ -71,19 +71,19 @@ abbrev pub local_y : Placed → ℤ → ℤ
 local_y t v = v -ℤ pos (16 * t.lane)
 
 abbrev pub is_entry : Placed → ℤ → ℤ → Bool
-is_entry t u v = is_among (local_x t u) (local_y t v) (entry_cells (face t))
+is_entry t u v = is_cell_of (local_x t u) (local_y t v) (entry_cells (face t))
 
 abbrev pub is_exit : Placed → ℤ → ℤ → Bool
-is_exit t u v = is_among (local_x t u) (local_y t v) (exit_cells (face t))
+is_exit t u v = is_cell_of (local_x t u) (local_y t v) (exit_cells (face t))
 
 pub at_local : (tiling : Tiling) (t : Placed) (u v : ℤ) (b : InBox tiling t u v) → (local_x t u ≡ pos b.x) × (local_y t v ≡ pos b.y)
 at_local tiling t u v b =
     (ap (local_x t) b.u_is ∙ local (32 * t.column) b.x, ap (local_y t) b.v_is ∙ local (16 * t.lane) b.y)
 
-pub among-append : (x y : ℤ) (cs ds : List Cell) → is_among x y (cs ++ ds) ≡ true → (is_among x y cs ≡ true) ⊎ (is_among x y ds ≡ true)
+pub among-append : (x y : ℤ) (cs ds : List Cell) → is_cell_of x y (cs ++ ds) ≡ true → (is_cell_of x y cs ≡ true) ⊎ (is_cell_of x y ds ≡ true)
 among-append x y [] ds e = inr e
 among-append x y (c ∷ cs) ds e =
-    elim (or_cases (int_eq x c.x && int_eq y c.y) (is_among x y (cs ++ ds)) e) [
+    elim (or_cases (int_eq x c.x && int_eq y c.y) (is_cell_of x y (cs ++ ds)) e) [
       | inl here ↦ inl (or_left _ _ here)
       | inr later ↦ elim (among-append x y cs ds later) [ inl l ↦ inl (or_right (int_eq x c.x && int_eq y c.y) _ l) | inr r ↦ inr r ]
     ]

@@ -7,7 +7,7 @@ use Rattle.std.specs.Prelude.{Option, Some, None}
 use Rattle.ww_rule.specs.declared.pattern.State.TheVariants.{Head, Tail, Conductor}
 use Rattle.ww_rule.specs.Wireworld.{Plane, Due, next_plane, evolve, injected, driven}
 use Rattle.tile_core.specs.declared.kind.Kind.{Kind}
-use Rattle.tile_core.specs.Drawing.{Drawing, is_among}
+use Rattle.tile_core.specs.Drawing.{Drawing, is_cell_of}
 use Rattle.tile_core.specs.Interface.{entry_cells, exit_cells}
 use Rattle.tiling.specs.Tiling.{Tiling, Lit, drawn, piece_drawing, edge_of}
 use Rattle.tiling.specs.Tiling.Edge.{Beside}
@@ -61,10 +61,10 @@ with_none true true i h = refl
 with_none true false i h = h refl
 with_none false l i h = refl
 
-entered_place : (tiling : Tiling) → IsMatched tiling → (t : Placed) (X Y : ℕ) → tile_at tiling (pos X) (pos Y) ≡ Some t → (b : InBox tiling t (pos X) (pos Y)) → is_among (pos b.x) (pos b.y) (entry_cells (face t)) ≡ true → entered_at tiling X Y ≡ true
+entered_place : (tiling : Tiling) → IsMatched tiling → (t : Placed) (X Y : ℕ) → tile_at tiling (pos X) (pos Y) ≡ Some t → (b : InBox tiling t (pos X) (pos Y)) → is_cell_of (pos b.x) (pos b.y) (entry_cells (face t)) ≡ true → entered_at tiling X Y ≡ true
 entered_place tiling m t X Y e b f = entered_is tiling m.pieces t X Y e b ∙ f
 
-left_place : (tiling : Tiling) → IsMatched tiling → (t : Placed) (X Y : ℕ) → tile_at tiling (pos X) (pos Y) ≡ Some t → (b : InBox tiling t (pos X) (pos Y)) → is_among (pos b.x) (pos b.y) (exit_cells (face t)) ≡ true → left_at tiling X Y ≡ true
+left_place : (tiling : Tiling) → IsMatched tiling → (t : Placed) (X Y : ℕ) → tile_at tiling (pos X) (pos Y) ≡ Some t → (b : InBox tiling t (pos X) (pos Y)) → is_cell_of (pos b.x) (pos b.y) (exit_cells (face t)) ≡ true → left_at tiling X Y ≡ true
 left_place tiling m t X Y e b f = left_is tiling m.pieces t X Y e b ∙ f
 
 -- the block at whose west side a cell lies
@@ -97,7 +97,7 @@ injected_drawn library laws tiling m due d g lit = fun_ext (λ x. fun_ext (λ y.
     lit' : Lit
     lit' = with_injected due g lit
 
-    entry_of : (t : Placed) (X Y : ℕ) → tile_at tiling (pos X) (pos Y) ≡ Some t → (b : InBox tiling t (pos X) (pos Y)) → due g (pos X) (pos Y) ≡ true → is_among (pos b.x) (pos b.y) (entry_cells (face t)) ≡ true
+    entry_of : (t : Placed) (X Y : ℕ) → tile_at tiling (pos X) (pos Y) ≡ Some t → (b : InBox tiling t (pos X) (pos Y)) → due g (pos X) (pos Y) ≡ true → is_cell_of (pos b.x) (pos b.y) (entry_cells (face t)) ≡ true
     entry_of t X Y e b f = sym (entered_is tiling m.pieces t X Y e b) ∙ (west_cell tiling due d g X Y f).entered
 
     -- an injected cell
@@ -120,7 +120,7 @@ injected_drawn library laws tiling m due d g lit = fun_ext (λ x. fun_ext (λ y.
         ∙ f in
         let on : place_lit lit' t b.x b.y ≡ true = ap (λ i. lit (edge_of t.column t.lane (b.x, b.y)) || i) edge ∙ or_true _ in
         sym (drawn_cell library tiling m.pieces lit' t (pos X) (pos Y) e b wired
-        ∙ ap (λ v. cond v Head (cond (is_among (pos b.x) (pos b.y) (exit_cells (face t)) && place_lit lit' t b.x b.y) Tail Conductor)) (and_from _ _ entry on))
+        ∙ ap (λ v. cond v Head (cond (is_cell_of (pos b.x) (pos b.y) (exit_cells (face t)) && place_lit lit' t b.x b.y) Tail Conductor)) (and_from _ _ entry on))
 
     -- a drawn cell at which nothing is injected
     kept_drawn : (X Y : ℕ) → due g (pos X) (pos Y) ≡ false → (t : Placed) → tile_at tiling (pos X) (pos Y) ≡ Some t → (b : InBox tiling t (pos X) (pos Y)) → wires library t (pos X) (pos Y) ≡ true → drawn library tiling lit (pos X) (pos Y) ≡ drawn library tiling lit' (pos X) (pos Y)
@@ -128,8 +128,8 @@ injected_drawn library laws tiling m due d g lit = fun_ext (λ x. fun_ext (λ y.
         let inj = injected_edges due g (edge_of t.column t.lane (b.x, b.y)) in
         let by_side : (side : IsAtSide b.x b.y) → (entered_at tiling X Y ≡ true) ⊎ (left_at tiling X Y ≡ true) → inj ≡ false =
         λ side port. ap (injected_edges due g) (port_edge tiling t X Y b side) ∙ no_injection tiling m due d g X Y f port (side_at tiling t X Y b side) in
-        let heads = with_none (is_among (pos b.x) (pos b.y) (entry_cells (face t))) (place_lit lit t b.x b.y) inj (λ p. by_side (entry_side t.piece b.x b.y p) (inl (entered_place tiling m t X Y e b p))) in
-        let tails = with_none (is_among (pos b.x) (pos b.y) (exit_cells (face t))) (place_lit lit t b.x b.y) inj (λ p. by_side (exit_side t.piece b.x b.y p) (inr (left_place tiling m t X Y e b p))) in
+        let heads = with_none (is_cell_of (pos b.x) (pos b.y) (entry_cells (face t))) (place_lit lit t b.x b.y) inj (λ p. by_side (entry_side t.piece b.x b.y p) (inl (entered_place tiling m t X Y e b p))) in
+        let tails = with_none (is_cell_of (pos b.x) (pos b.y) (exit_cells (face t))) (place_lit lit t b.x b.y) inj (λ p. by_side (exit_side t.piece b.x b.y p) (inr (left_place tiling m t X Y e b p))) in
         drawn_cell library tiling m.pieces lit t (pos X) (pos Y) e b w
         ∙ sym (ap₂ (λ h k. cond h Head (cond k Tail Conductor)) heads tails)
         ∙ sym (drawn_cell library tiling m.pieces lit' t (pos X) (pos Y) e b w)
@@ -165,7 +165,7 @@ free_entry library laws tiling m due d g lit X Y f dark = go (tile_at tiling (po
     go (Some t) e =
         let b = (belongs tiling m.pieces t (pos X) (pos Y) e).inside in
         let here = at_local tiling t (pos X) (pos Y) b in
-        let entry : is_among (pos b.x) (pos b.y) (entry_cells (face t)) ≡ true = sym (entered_is tiling m.pieces t X Y e b) ∙ (west_cell tiling due d g X Y f).entered in
+        let entry : is_cell_of (pos b.x) (pos b.y) (entry_cells (face t)) ≡ true = sym (entered_is tiling m.pieces t X Y e b) ∙ (west_cell tiling due d g X Y f).entered in
         let wired : wires library t (pos X) (pos Y) ≡ true = ap₂ (piece_drawing library t.piece) here.0 here.1 ∙ (laws t.piece).has_ports.has_entries (pos b.x) (pos b.y) entry in
         let off : place_lit lit t b.x b.y ≡ false = ap lit (port_edge tiling t X Y b (entry_side t.piece b.x b.y entry)) ∙ dark in
         drawn_cell library tiling m.pieces lit t (pos X) (pos Y) e b wired

@@ -2,7 +2,7 @@
 use Rattle.std.proofs.Common.{ℤ, pos, ℕ, ◌+◌, ◌*◌, ◌/◌, ◌%◌, ◌≤◌, ◌≡◌, sym, ap, ap₂, ◌∙◌, subst, arith, inl, inr}
 use Rattle.std.proofs.lemmas.Int.{ints}
 use Rattle.tile_core.specs.declared.kind.Kind.{Kind}
-use Rattle.tile_core.specs.Drawing.{Drawing, is_among}
+use Rattle.tile_core.specs.Drawing.{Drawing, is_cell_of}
 use Rattle.tile_core.specs.Interface.{entry_cells, exit_cells}
 use Rattle.tiling.specs.Tiling.{Tiling}
 use Rattle.tiling.specs.Tiling.Edge.{Beside, Above}
@@ -71,10 +71,10 @@ block_side q l x y (inr (inr (inr a))) = inr (inr (inr (omega (arith, a.0), omeg
 pub port_side : (tiling : Tiling) (t : Placed) (u v : ℤ) (b : InBox tiling t u v) → IsPortAt t u v → IsAtSide b.x b.y
 port_side tiling t u v b (inl e) =
     let at = at_local tiling t u v b in
-    entry_side t.piece b.x b.y (ap₂ (λ i j. is_among i j (entry_cells (face t))) (sym at.0) (sym at.1) ∙ e)
+    entry_side t.piece b.x b.y (ap₂ (λ i j. is_cell_of i j (entry_cells (face t))) (sym at.0) (sym at.1) ∙ e)
 port_side tiling t u v b (inr e) =
     let at = at_local tiling t u v b in
-    exit_side t.piece b.x b.y (ap₂ (λ i j. is_among i j (exit_cells (face t))) (sym at.0) (sym at.1) ∙ e)
+    exit_side t.piece b.x b.y (ap₂ (λ i j. is_cell_of i j (exit_cells (face t))) (sym at.0) (sym at.1) ∙ e)
 
 -- cells of pieces that touch face each other
 pub contact_faces : (library : Kind → Drawing) (tiling : Tiling) → HasWholePieces tiling → (t s : Placed) (X Y U V : ℕ) → Contact library tiling t s (pos X) (pos Y) (pos U) (pos V) → Facing X Y U V

@@ -9,7 +9,7 @@ use Rattle.ww_rule.specs.declared.pattern.State.TheVariants.{Empty, Head, Tail, 
 use Rattle.ww_rule.specs.Wireworld.{Plane, next_plane, next_state, heads_around, evolve, count_head}
 use Rattle.ww_rule.proofs.Cells.{next_plane_counts, next_plane_empty}
 use Rattle.tile_core.specs.declared.kind.Kind.{Kind}
-use Rattle.tile_core.specs.Drawing.{Drawing, picture, is_among}
+use Rattle.tile_core.specs.Drawing.{Drawing, picture, is_cell_of}
 use Rattle.tile_core.specs.Interface.{entry_cells, exit_cells}
 use Rattle.tiling.specs.Tiling.{Tiling, Lit, piece_drawing, drawn, heads_of, tails_of, edge_of}
 use Rattle.tiling.specs.Matched.{HasWholePieces, IsMatched}
@@ -45,7 +45,7 @@ drawn_counts library tiling h lit u v = go (tile_at tiling u v) refl
         let hs = heads_of lit t.column t.lane (face t) in
         let ts = tails_of lit t.column t.lane (face t) in
         ap count_head (drawn_some library tiling h lit t u v e b)
-        ∙ count_untailed (D (pos b.x) (pos b.y)) (is_among (pos b.x) (pos b.y) hs) (is_among (pos b.x) (pos b.y) ts)
+        ∙ count_untailed (D (pos b.x) (pos b.y)) (is_cell_of (pos b.x) (pos b.y) hs) (is_cell_of (pos b.x) (pos b.y) ts)
         ∙ ap₂ (λ i j. count_head (picture D hs [] i j)) (sym at.0) (sym at.1)
         ∙ sym (ap (λ o. count_head (alone library lit o u v)) e)
 
@@ -64,7 +64,7 @@ rests false h e n = absurd (true≢false (sym e))
 -- a port that is dark at generations 0 and 1 is a conductor at generation 1
 dark_port : (library : Kind → Drawing) (lit : Lit) (t : Placed) (x y : ℤ) → wires library t x y ≡ true → evolve 0 (alone library lit (Some t)) x y ≢ Head → evolve 1 (alone library lit (Some t)) x y ≢ Head → evolve 1 (alone library lit (Some t)) x y ≡ Conductor
 dark_port library lit t x y w none after =
-    conductor_next (alone library lit (Some t) x y) (heads_around (alone library lit (Some t)) x y) (rests (wires library t x y) (is_among (local_x t x) (local_y t y) (heads_of lit t.column t.lane (face t))) w none) after
+    conductor_next (alone library lit (Some t) x y) (heads_around (alone library lit (Some t)) x y) (rests (wires library t x y) (is_cell_of (local_x t x) (local_y t y) (heads_of lit t.column t.lane (face t))) w none) after
 
 pub none_some : {A : Type 0} {a : A} → None ≡ Some a → ⊥
 none_some e = cc
@@ -92,24 +92,24 @@ shared_edge library tiling h t s X Y U V k b d =
 
 -- a piece that touches another has no lit entry there, unless the other has a lit exit
 pub quiet_first : (library : Kind → Drawing) (tiling : Tiling) → IsMatched tiling → (lit : Lit) (t s : Placed) (x y u v : ℤ) → Contact library tiling t s x y u v → (b : InBox tiling t x y)
-    → (is_among (pos b.x) (pos b.y) (exit_cells (face t)) && place_lit lit t b.x b.y) ≡ false
+    → (is_cell_of (pos b.x) (pos b.y) (exit_cells (face t)) && place_lit lit t b.x b.y) ≡ false
     → evolve 0 (alone library lit (Some s)) u v ≢ Head
 quiet_first library tiling m lit t s (pos X) (pos Y) (pos U) (pos V) k b dark head =
     let h = m.pieces in
     let d = (belongs tiling h s (pos U) (pos V) k.there).inside in
     let at = at_local tiling s (pos U) (pos V) d in
     let hs = heads_of lit s.column s.lane (face s) in
-    let listed : is_among (pos d.x) (pos d.y) hs ≡ true =
-    ap₂ (λ i j. is_among i j hs) (sym at.0) (sym at.1) ∙ head_shade (wires library s (pos U) (pos V)) (is_among (local_x s (pos U)) (local_y s (pos V)) hs) head in
-    let parts = and_parts (is_among (pos d.x) (pos d.y) (entry_cells (face s))) (place_lit lit s d.x d.y) (sym (head_listed lit s.column s.lane s.piece d.x d.y) ∙ listed) in
+    let listed : is_cell_of (pos d.x) (pos d.y) hs ≡ true =
+    ap₂ (λ i j. is_cell_of i j hs) (sym at.0) (sym at.1) ∙ head_shade (wires library s (pos U) (pos V)) (is_cell_of (local_x s (pos U)) (local_y s (pos V)) hs) head in
+    let parts = and_parts (is_cell_of (pos d.x) (pos d.y) (entry_cells (face s))) (place_lit lit s d.x d.y) (sym (head_listed lit s.column s.lane s.piece d.x d.y) ∙ listed) in
     let entered : entered_at tiling U V ≡ true =
-    sym (entry_at tiling h s U V k.there d) ∙ ap₂ (λ i j. is_among i j (entry_cells (face s))) at.0 at.1 ∙ parts.0 in
+    sym (entry_at tiling h s U V k.there d) ∙ ap₂ (λ i j. is_cell_of i j (entry_cells (face s))) at.0 at.1 ∙ parts.0 in
     let edge : place_lit lit t b.x b.y ≡ true = ap lit (shared_edge library tiling h t s X Y U V k b d) ∙ parts.1 in
     let faces = contact_faces library tiling h t s X Y U V k in
     let here = at_local tiling t (pos X) (pos Y) b in
     elim k.port_here [
       | inl entry ↦ true≢false (entries_apart tiling m X Y U V faces (sym (entry_at tiling h t X Y k.here b) ∙ entry) entered)
-      | inr exit ↦ true≢false (sym (and_from _ _ (ap₂ (λ i j. is_among i j (exit_cells (face t))) (sym here.0) (sym here.1) ∙ exit) edge) ∙ dark)
+      | inr exit ↦ true≢false (sym (and_from _ _ (ap₂ (λ i j. is_cell_of i j (exit_cells (face t))) (sym here.0) (sym here.1) ∙ exit) edge) ∙ dark)
     ]
 quiet_first library tiling m lit t s (pos X) (pos Y) (pos U) (negsuc V) k b dark head = none_some k.there
 quiet_first library tiling m lit t s (pos X) (pos Y) (negsuc U) v k b dark head = none_some k.there
@@ -118,13 +118,13 @@ quiet_first library tiling m lit t s (negsuc X) y u v k b dark head = none_some 
 
 -- a drawn cell of the drawn plane
 pub drawn_cell : (library : Kind → Drawing) (tiling : Tiling) → HasWholePieces tiling → (lit : Lit) (t : Placed) (x y : ℤ) → tile_at tiling x y ≡ Some t → (b : InBox tiling t x y) → wires library t x y ≡ true
-    → drawn library tiling lit x y ≡ cond (is_among (pos b.x) (pos b.y) (entry_cells (face t)) && place_lit lit t b.x b.y) Head (cond (is_among (pos b.x) (pos b.y) (exit_cells (face t)) && place_lit lit t b.x b.y) Tail Conductor)
+    → drawn library tiling lit x y ≡ cond (is_cell_of (pos b.x) (pos b.y) (entry_cells (face t)) && place_lit lit t b.x b.y) Head (cond (is_cell_of (pos b.x) (pos b.y) (exit_cells (face t)) && place_lit lit t b.x b.y) Tail Conductor)
 drawn_cell library tiling h lit t x y e b w =
     let at = at_local tiling t x y b in
     let D = piece_drawing library t.piece in
     let wired : D (pos b.x) (pos b.y) ≡ true = ap₂ D (sym at.0) (sym at.1) ∙ w in
     drawn_some library tiling h lit t x y e b
-    ∙ ap (λ v. cond v (cond (is_among (pos b.x) (pos b.y) (heads_of lit t.column t.lane (face t))) Head (cond (is_among (pos b.x) (pos b.y) (tails_of lit t.column t.lane (face t))) Tail Conductor)) Empty) wired
+    ∙ ap (λ v. cond v (cond (is_cell_of (pos b.x) (pos b.y) (heads_of lit t.column t.lane (face t))) Head (cond (is_cell_of (pos b.x) (pos b.y) (tails_of lit t.column t.lane (face t))) Tail Conductor)) Empty) wired
     ∙ ap₂ (λ h t. cond h Head (cond t Tail Conductor)) (head_listed lit t.column t.lane t.piece b.x b.y) (tail_listed lit t.column t.lane t.piece b.x b.y)
 
 pub undrawn_cell : (library : Kind → Drawing) (tiling : Tiling) → HasWholePieces tiling → (lit : Lit) (t : Placed) (x y : ℤ) → tile_at tiling x y ≡ Some t → (b : InBox tiling t x y) → wires library t x y ≡ false → drawn library tiling lit x y ≡ Empty
@@ -148,11 +148,11 @@ first_step library laws tiling m lit = fun_ext (λ x. fun_ext (λ y. at x y (til
     P : Plane
     P = drawn library tiling lit
 
-    lit_exit : (x y : ℤ) (t : Placed) → tile_at tiling x y ≡ Some t → (b : InBox tiling t x y) → wires library t x y ≡ true → (is_among (pos b.x) (pos b.y) (exit_cells (face t)) && place_lit lit t b.x b.y) ≡ true → next_plane P x y ≡ evolve 1 (alone library lit (Some t)) x y
+    lit_exit : (x y : ℤ) (t : Placed) → tile_at tiling x y ≡ Some t → (b : InBox tiling t x y) → wires library t x y ≡ true → (is_cell_of (pos b.x) (pos b.y) (exit_cells (face t)) && place_lit lit t b.x b.y) ≡ true → next_plane P x y ≡ evolve 1 (alone library lit (Some t)) x y
     lit_exit x y t e b w tail =
-        let exit = (and_parts (is_among (pos b.x) (pos b.y) (exit_cells (face t))) (place_lit lit t b.x b.y) tail).0 in
+        let exit = (and_parts (is_cell_of (pos b.x) (pos b.y) (exit_cells (face t))) (place_lit lit t b.x b.y) tail).0 in
         let here = at_local tiling t x y b in
-        let port : is_exit t x y ≡ true = ap₂ (λ i j. is_among i j (exit_cells (face t))) here.0 here.1 ∙ exit in
+        let port : is_exit t x y ≡ true = ap₂ (λ i j. is_cell_of i j (exit_cells (face t))) here.0 here.1 ∙ exit in
         let time = (laws t.piece).keeps_time (bit lit t 0) (bit lit t 1) in
         ap (λ s. next_state s (heads_around P x y)) (drawn_cell library tiling m.pieces lit t x y e b w)
         ∙ tail_next _ _ _ (heads_around P x y) (entry_no_exit t.piece b.x b.y) tail
@@ -160,22 +160,22 @@ first_step library laws tiling m lit = fun_ext (λ x. fun_ext (λ y. at x y (til
         (λ head. time.exits_stay_dark 0 (local_x t x) (local_y t y) (lit≤ tt) (λ z. absurd (omega (arith, z))) port (sym (alone_at library lit t 0 x y) ∙ head))
         (λ head. time.exits_stay_dark 1 (local_x t x) (local_y t y) (lit≤ tt) (λ z. absurd (omega (arith, z))) port (sym (alone_at library lit t 1 x y) ∙ head)))
 
-    other : (x y : ℤ) (t : Placed) → tile_at tiling x y ≡ Some t → (b : InBox tiling t x y) → wires library t x y ≡ true → (is_among (pos b.x) (pos b.y) (exit_cells (face t)) && place_lit lit t b.x b.y) ≡ false → next_plane P x y ≡ evolve 1 (alone library lit (Some t)) x y
+    other : (x y : ℤ) (t : Placed) → tile_at tiling x y ≡ Some t → (b : InBox tiling t x y) → wires library t x y ≡ true → (is_cell_of (pos b.x) (pos b.y) (exit_cells (face t)) && place_lit lit t b.x b.y) ≡ false → next_plane P x y ≡ evolve 1 (alone library lit (Some t)) x y
     other x y t e b w dark =
         let here = at_local tiling t x y b in
         let D = piece_drawing library t.piece in
         let hs = heads_of lit t.column t.lane (face t) in
         let same : P x y ≡ alone library lit (Some t) x y =
         drawn_cell library tiling m.pieces lit t x y e b w
-        ∙ ap (λ v. cond (is_among (pos b.x) (pos b.y) (entry_cells (face t)) && place_lit lit t b.x b.y) Head (cond v Tail Conductor)) dark
+        ∙ ap (λ v. cond (is_cell_of (pos b.x) (pos b.y) (entry_cells (face t)) && place_lit lit t b.x b.y) Head (cond v Tail Conductor)) dark
         ∙ ap (λ v. cond v Head Conductor) (sym (head_listed lit t.column t.lane t.piece b.x b.y))
-        ∙ sym (ap (λ v. cond v (cond (is_among (pos b.x) (pos b.y) hs) Head Conductor) Empty) (ap₂ D (sym here.0) (sym here.1) ∙ w))
+        ∙ sym (ap (λ v. cond v (cond (is_cell_of (pos b.x) (pos b.y) hs) Head Conductor) Empty) (ap₂ D (sym here.0) (sym here.1) ∙ w))
         ∙ ap₂ (picture D hs []) (sym here.0) (sym here.1) in
         next_plane_counts P (alone library lit (Some t)) x y same (λ u v a b' c d.
         drawn_counts library tiling m.pieces lit u v
         ∙ counts library laws tiling m.pieces lit 0 t x y u v e w (record { west = a; east = b'; north = c; south = d }) (λ s k. quiet_first library tiling m lit t s x y u v k b dark))
 
-    by_tail : (x y : ℤ) (t : Placed) → tile_at tiling x y ≡ Some t → (b : InBox tiling t x y) → wires library t x y ≡ true → (v : Bool) → (is_among (pos b.x) (pos b.y) (exit_cells (face t)) && place_lit lit t b.x b.y) ≡ v → next_plane P x y ≡ evolve 1 (alone library lit (Some t)) x y
+    by_tail : (x y : ℤ) (t : Placed) → tile_at tiling x y ≡ Some t → (b : InBox tiling t x y) → wires library t x y ≡ true → (v : Bool) → (is_cell_of (pos b.x) (pos b.y) (exit_cells (face t)) && place_lit lit t b.x b.y) ≡ v → next_plane P x y ≡ evolve 1 (alone library lit (Some t)) x y
     by_tail x y t e b w true tail = lit_exit x y t e b w tail
     by_tail x y t e b w false dark = other x y t e b w dark
 

@@ -7,7 +7,7 @@ use Rattle.ww_rule.specs.declared.pattern.State.{State}
 use Rattle.ww_rule.specs.declared.pattern.State.TheVariants.{Empty, Head, Tail, Conductor}
 use Rattle.ww_rule.specs.Wireworld.{Plane, next_state, heads_around, evolve}
 use Rattle.tile_core.specs.declared.kind.Kind.{Kind}
-use Rattle.tile_core.specs.Drawing.{Cell, Drawing, is_among}
+use Rattle.tile_core.specs.Drawing.{Cell, Drawing, is_cell_of}
 use Rattle.tile_core.specs.Interface.{entry_cells, exit_cells, lit_exits, chosen}
 use Rattle.tiling.specs.Tiling.{Tiling, Lit}
 use Rattle.tiling.proofs.Region.{Placed, face, InBox}
@@ -17,19 +17,19 @@ use Rattle.tiling.proofs.Sides.{IsAtSide, entry_side, exit_side}
 use Rattle.tiling.proofs.Roles.{entry_no_exit}
 
 -- a chosen cell is one of the cells
-chosen_among : (x y : ℤ) (cs : List Cell) (bs : List Bool) → is_among x y (chosen cs bs) ≡ true → is_among x y cs ≡ true
+chosen_among : (x y : ℤ) (cs : List Cell) (bs : List Bool) → is_cell_of x y (chosen cs bs) ≡ true → is_cell_of x y cs ≡ true
 chosen_among x y [] bs e = e
 chosen_among x y (c ∷ cs) [] e = cc
 chosen_among x y (c ∷ cs) (true ∷ bs) e =
     elim (or_cases (int_eq x c.x && int_eq y c.y) _ e) [ inl h ↦ or_left _ _ h | inr l ↦ or_right (int_eq x c.x && int_eq y c.y) _ (chosen_among x y cs bs l) ]
 chosen_among x y (c ∷ cs) (false ∷ bs) e = or_right (int_eq x c.x && int_eq y c.y) _ (chosen_among x y cs bs e)
 
-pub lit_exit_is : (lit : Lit) (t : Placed) (x y : ℤ) → is_among x y (lit_exits (face t) (bit lit t 0) (bit lit t 1)) ≡ true → is_among x y (exit_cells (face t)) ≡ true
+pub lit_exit_is : (lit : Lit) (t : Placed) (x y : ℤ) → is_cell_of x y (lit_exits (face t) (bit lit t 0) (bit lit t 1)) ≡ true → is_cell_of x y (exit_cells (face t)) ≡ true
 lit_exit_is lit t x y = chosen_among x y (exit_cells (face t)) ((face t).answer (bit lit t 0) (bit lit t 1))
 
 -- which of the piece's cells are answered
 abbrev pub answered : Lit → Placed → ℤ → ℤ → Bool
-answered lit t u v = is_among (local_x t u) (local_y t v) (lit_exits (face t) (bit lit t 0) (bit lit t 1))
+answered lit t u v = is_cell_of (local_x t u) (local_y t v) (lit_exits (face t) (bit lit t 0) (bit lit t 1))
 
 pub at_32 : (library : Kind → Drawing) → Laws library → (lit : Lit) (t : Placed) (x y : ℤ) → wires library t x y ≡ true → evolve 32 (alone library lit (Some t)) x y ≡ cond (answered lit t x y) Tail Conductor
 at_32 library laws lit t x y w =
@@ -75,18 +75,18 @@ same_place x y u v (inr (inr (inr a))) (inr (inr (inl b))) e f g h = absurd (ome
 same_place x y u v (inr (inr (inr a))) (inr (inr (inr b))) e f g h = (omega (arith, a.0, b.0), omega (arith, a.1, b.1))
 
 -- beside an entry no cell of the same piece is a head at generation 31
-pub own_quiet : (library : Kind → Drawing) → Laws library → (tiling : Tiling) (lit : Lit) (t : Placed) (x y u v : ℤ) (b : InBox tiling t x y) → is_among (pos b.x) (pos b.y) (entry_cells (face t)) ≡ true → Near x y u v → evolve 31 (alone library lit (Some t)) u v ≢ Head
+pub own_quiet : (library : Kind → Drawing) → Laws library → (tiling : Tiling) (lit : Lit) (t : Placed) (x y u v : ℤ) (b : InBox tiling t x y) → is_cell_of (pos b.x) (pos b.y) (entry_cells (face t)) ≡ true → Near x y u v → evolve 31 (alone library lit (Some t)) u v ≢ Head
 own_quiet library laws tiling lit t x y u v b entry n head =
     let h = head_31 library laws lit t u v head in
     let d = drawn_in_box library laws tiling t u v h.0 in
     let at = at_local tiling t u v d in
-    let exit : is_among (pos d.x) (pos d.y) (exit_cells (face t)) ≡ true = ap₂ (λ i j. is_among i j (exit_cells (face t))) (sym at.0) (sym at.1) ∙ lit_exit_is lit t (local_x t u) (local_y t v) h.1 in
+    let exit : is_cell_of (pos d.x) (pos d.y) (exit_cells (face t)) ≡ true = ap₂ (λ i j. is_cell_of i j (exit_cells (face t))) (sym at.0) (sym at.1) ∙ lit_exit_is lit t (local_x t u) (local_y t v) h.1 in
     let same = same_place b.x b.y d.x d.y (entry_side t.piece b.x b.y entry) (exit_side t.piece d.x d.y exit)
     (omega (arith, ints, n.west, b.u_is, d.u_is)) (omega (arith, ints, n.east, b.u_is, d.u_is)) (omega (arith, ints, n.north, b.v_is, d.v_is)) (omega (arith, ints, n.south, b.v_is, d.v_is)) in
-    true≢false (sym exit ∙ ap₂ (λ i j. is_among (pos i) (pos j) (exit_cells (face t))) same.0 same.1 ∙ entry_no_exit t.piece b.x b.y entry)
+    true≢false (sym exit ∙ ap₂ (λ i j. is_cell_of (pos i) (pos j) (exit_cells (face t))) same.0 same.1 ∙ entry_no_exit t.piece b.x b.y entry)
 
 -- an entry is a conductor at generation 31
-pub entry_31 : (library : Kind → Drawing) → Laws library → (tiling : Tiling) (lit : Lit) (t : Placed) (x y : ℤ) (b : InBox tiling t x y) → wires library t x y ≡ true → is_among (pos b.x) (pos b.y) (entry_cells (face t)) ≡ true → evolve 31 (alone library lit (Some t)) x y ≡ Conductor
+pub entry_31 : (library : Kind → Drawing) → Laws library → (tiling : Tiling) (lit : Lit) (t : Placed) (x y : ℤ) (b : InBox tiling t x y) → wires library t x y ≡ true → is_cell_of (pos b.x) (pos b.y) (entry_cells (face t)) ≡ true → evolve 31 (alone library lit (Some t)) x y ≡ Conductor
 entry_31 library laws tiling lit t x y b w entry = go (evolve 31 A x y) refl
   where
     A : Plane
@@ -96,14 +96,14 @@ entry_31 library laws tiling lit t x y b w entry = go (evolve 31 A x y) refl
     at = at_local tiling t x y b
 
     port : is_entry t x y ≡ true
-    port = ap₂ (λ i j. is_among i j (entry_cells (face t))) at.0 at.1 ∙ entry
+    port = ap₂ (λ i j. is_cell_of i j (entry_cells (face t))) at.0 at.1 ∙ entry
 
     dark : (g : ℕ) → 1 ≤ g → g ≤ 32 → evolve g A x y ≢ Head
     dark g lo hi head =
         ((laws t.piece).keeps_time (bit lit t 0) (bit lit t 1)).entries_stay_dark g (local_x t x) (local_y t y) lo hi port (sym (alone_at library lit t g x y) ∙ head)
 
     no_answer : answered lit t x y ≡ false
-    no_answer = false_from_ne_true _ (λ e. true≢false (sym (ap₂ (λ i j. is_among i j (exit_cells (face t))) (sym at.0) (sym at.1) ∙ lit_exit_is lit t (local_x t x) (local_y t y) e) ∙ entry_no_exit t.piece b.x b.y entry))
+    no_answer = false_from_ne_true _ (λ e. true≢false (sym (ap₂ (λ i j. is_cell_of i j (exit_cells (face t))) (sym at.0) (sym at.1) ∙ lit_exit_is lit t (local_x t x) (local_y t y) e) ∙ entry_no_exit t.piece b.x b.y entry))
 
     after : next_state (evolve 31 A x y) (heads_around (evolve 31 A) x y) ≡ Conductor
     after = at_32 library laws lit t x y w ∙ ap (λ v. cond v Tail Conductor) no_answer

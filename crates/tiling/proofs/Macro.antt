@@ -10,7 +10,7 @@ use Rattle.ww_rule.specs.declared.pattern.State.TheVariants.{Empty, Head, Tail, 
 use Rattle.ww_rule.specs.Wireworld.{Plane, next_plane, next_state, heads_around, evolve, count_head}
 use Rattle.ww_rule.proofs.Cells.{next_plane_counts, next_plane_empty}
 use Rattle.tile_core.specs.declared.kind.Kind.{Kind}
-use Rattle.tile_core.specs.Drawing.{Drawing, is_among}
+use Rattle.tile_core.specs.Drawing.{Drawing, is_cell_of}
 use Rattle.tile_core.specs.Interface.{entry_cells, exit_cells, lit_exits}
 use Rattle.tiling.specs.Tiling.{Tiling, Lit, drawn, edge_of}
 use Rattle.tiling.specs.Matched.{HasWholePieces, IsMatched}
@@ -34,7 +34,7 @@ answered_at tiling h lit t X Y e =
     let b = (belongs tiling h t (pos X) (pos Y) e).inside in
     let at = at_local tiling t (pos X) (pos Y) b in
     answers_some tiling h lit t X Y e b
-    ∙ ap₂ (λ i j. is_among i j (lit_exits (face t) (bit lit t 0) (bit lit t 1))) (sym at.0) (sym at.1)
+    ∙ ap₂ (λ i j. is_cell_of i j (lit_exits (face t) (bit lit t 0) (bit lit t 1))) (sym at.0) (sym at.1)
 
 -- the heads of generation 31 are the exits that are answered
 pub is_answered : (library : Kind → Drawing) → Laws library → (tiling : Tiling) → HasWholePieces tiling → (lit : Lit) (U V : ℕ) → glue library tiling lit 31 (pos U) (pos V) ≡ Head → answers_at tiling lit U V ≡ true
@@ -108,7 +108,7 @@ shown_other false false m a e f g = ap (λ v. cond v Tail Conductor) (f refl)
 
 -- generation 32, at a cell that is an entry
 at_entry : (library : Kind → Drawing) → Laws library → (tiling : Tiling) → IsMatched tiling → (lit : Lit) (t : Placed) (X Y : ℕ) → tile_at tiling (pos X) (pos Y) ≡ Some t → (b : InBox tiling t (pos X) (pos Y)) → wires library t (pos X) (pos Y) ≡ true
-    → is_among (pos b.x) (pos b.y) (entry_cells (face t)) ≡ true → next_plane (glue library tiling lit 31) (pos X) (pos Y) ≡ drawn library tiling (macro_step tiling lit) (pos X) (pos Y)
+    → is_cell_of (pos b.x) (pos b.y) (entry_cells (face t)) ≡ true → next_plane (glue library tiling lit 31) (pos X) (pos Y) ≡ drawn library tiling (macro_step tiling lit) (pos X) (pos Y)
 at_entry library laws tiling m lit t X Y e b w entry = go (edge_after tiling lit X Y (side_at tiling t X Y b side))
   where
     P : Plane
@@ -117,14 +117,14 @@ at_entry library laws tiling m lit t X Y e b w entry = go (edge_after tiling lit
     side : IsAtSide b.x b.y
     side = entry_side t.piece b.x b.y entry
 
-    no_exit : is_among (pos b.x) (pos b.y) (exit_cells (face t)) ≡ false
+    no_exit : is_cell_of (pos b.x) (pos b.y) (exit_cells (face t)) ≡ false
     no_exit = entry_no_exit t.piece b.x b.y entry
 
     silent : answers_at tiling lit X Y ≡ false
     silent = false_from_ne_true _ (λ a. true≢false (sym (sym exit_place ∙ exit_at tiling m.pieces t X Y e b ∙ answered_exit tiling m.pieces lit X Y a) ∙ no_exit))
       where
-        exit_place : is_exit t (pos X) (pos Y) ≡ is_among (pos b.x) (pos b.y) (exit_cells (face t))
-        exit_place = let at = at_local tiling t (pos X) (pos Y) b in ap₂ (λ i j. is_among i j (exit_cells (face t))) at.0 at.1
+        exit_place : is_exit t (pos X) (pos Y) ≡ is_cell_of (pos b.x) (pos b.y) (exit_cells (face t))
+        exit_place = let at = at_local tiling t (pos X) (pos Y) b in ap₂ (λ i j. is_cell_of i j (exit_cells (face t))) at.0 at.1
 
     conductor : P (pos X) (pos Y) ≡ Conductor
     conductor = ap (λ o. evolve 31 (alone library lit o) (pos X) (pos Y)) e ∙ entry_31 library laws tiling lit t (pos X) (pos Y) b w entry
@@ -160,12 +160,12 @@ at_entry library laws tiling m lit t X Y e b w entry = go (edge_after tiling lit
 
 -- at a cell that is no entry
 at_other : (library : Kind → Drawing) → Laws library → (tiling : Tiling) → IsMatched tiling → (lit : Lit) (t : Placed) (X Y : ℕ) → tile_at tiling (pos X) (pos Y) ≡ Some t → (b : InBox tiling t (pos X) (pos Y)) → wires library t (pos X) (pos Y) ≡ true
-    → is_among (pos b.x) (pos b.y) (entry_cells (face t)) ≡ false → next_plane (glue library tiling lit 31) (pos X) (pos Y) ≡ drawn library tiling (macro_step tiling lit) (pos X) (pos Y)
+    → is_cell_of (pos b.x) (pos b.y) (entry_cells (face t)) ≡ false → next_plane (glue library tiling lit 31) (pos X) (pos Y) ≡ drawn library tiling (macro_step tiling lit) (pos X) (pos Y)
 at_other library laws tiling m lit t X Y e b w no_entry =
     next_plane_counts P (evolve 31 (alone library lit (Some t))) (pos X) (pos Y) (ap (λ o. evolve 31 (alone library lit o) (pos X) (pos Y)) e)
     (λ u v a c d f. counts library laws tiling m.pieces lit 31 t (pos X) (pos Y) u v e w (record { west = a; east = c; north = d; south = f }) (λ s k head. quiet s u v k head))
     ∙ at_32 library laws lit t (pos X) (pos Y) w
-    ∙ shown_other (is_among (pos b.x) (pos b.y) (entry_cells (face t))) (is_among (pos b.x) (pos b.y) (exit_cells (face t))) (place_lit (macro_step tiling lit) t b.x b.y) (answered lit t (pos X) (pos Y)) no_entry no_answer exit_answer
+    ∙ shown_other (is_cell_of (pos b.x) (pos b.y) (entry_cells (face t))) (is_cell_of (pos b.x) (pos b.y) (exit_cells (face t))) (place_lit (macro_step tiling lit) t b.x b.y) (answered lit t (pos X) (pos Y)) no_entry no_answer exit_answer
     ∙ sym (drawn_cell library tiling m.pieces (macro_step tiling lit) t (pos X) (pos Y) e b w)
   where
     P : Plane
@@ -174,10 +174,10 @@ at_other library laws tiling m lit t X Y e b w no_entry =
     at : (local_x t (pos X) ≡ pos b.x) × (local_y t (pos Y) ≡ pos b.y)
     at = at_local tiling t (pos X) (pos Y) b
 
-    exit_place : is_exit t (pos X) (pos Y) ≡ is_among (pos b.x) (pos b.y) (exit_cells (face t))
-    exit_place = ap₂ (λ i j. is_among i j (exit_cells (face t))) at.0 at.1
+    exit_place : is_exit t (pos X) (pos Y) ≡ is_cell_of (pos b.x) (pos b.y) (exit_cells (face t))
+    exit_place = ap₂ (λ i j. is_cell_of i j (exit_cells (face t))) at.0 at.1
 
-    left_place : is_among (pos b.x) (pos b.y) (exit_cells (face t)) ≡ left_at tiling X Y
+    left_place : is_cell_of (pos b.x) (pos b.y) (exit_cells (face t)) ≡ left_at tiling X Y
     left_place = sym exit_place ∙ exit_at tiling m.pieces t X Y e b
 
     quiet : (s : Placed) (u v : ℤ) → Contact library tiling t s (pos X) (pos Y) u v → evolve 31 (alone library lit (Some s)) u v ≡ Head → ⊥
@@ -188,14 +188,14 @@ at_other library laws tiling m lit t X Y e b w no_entry =
         let exit = lit_exit_is lit s (local_x s (pos U)) (local_y s (pos V)) (head_31 library laws lit s (pos U) (pos V) head).1 in
         let left_there : left_at tiling U V ≡ true = sym (exit_at tiling m.pieces s U V k.there there) ∙ exit in
         elim k.port_here [
-          | inl entry ↦ true≢false (sym entry ∙ ap₂ (λ i j. is_among i j (entry_cells (face t))) at.0 at.1 ∙ no_entry)
+          | inl entry ↦ true≢false (sym entry ∙ ap₂ (λ i j. is_cell_of i j (entry_cells (face t))) at.0 at.1 ∙ no_entry)
           | inr here ↦ true≢false (exits_apart tiling m X Y U V (contact_faces library tiling m.pieces t s X Y U V k) (sym (exit_at tiling m.pieces t X Y e b) ∙ here) left_there)
         ]
 
-    no_answer : is_among (pos b.x) (pos b.y) (exit_cells (face t)) ≡ false → answered lit t (pos X) (pos Y) ≡ false
+    no_answer : is_cell_of (pos b.x) (pos b.y) (exit_cells (face t)) ≡ false → answered lit t (pos X) (pos Y) ≡ false
     no_answer f = false_from_ne_true _ (λ a. true≢false (sym (sym exit_place ∙ lit_exit_is lit t (local_x t (pos X)) (local_y t (pos Y)) a) ∙ f))
 
-    exit_answer : is_among (pos b.x) (pos b.y) (exit_cells (face t)) ≡ true → place_lit (macro_step tiling lit) t b.x b.y ≡ answered lit t (pos X) (pos Y)
+    exit_answer : is_cell_of (pos b.x) (pos b.y) (exit_cells (face t)) ≡ true → place_lit (macro_step tiling lit) t b.x b.y ≡ answered lit t (pos X) (pos Y)
     exit_answer f =
         let side = exit_side t.piece b.x b.y f in
         ap (macro_step tiling lit) (port_edge tiling t X Y b side) ∙ go (edge_after tiling lit X Y (side_at tiling t X Y b side)) ∙ answered_at tiling m.pieces lit t X Y e
@@ -215,7 +215,7 @@ last_step library laws tiling m lit = fun_ext (λ x. fun_ext (λ y. at x y (tile
     Q : Plane
     Q = drawn library tiling (macro_step tiling lit)
 
-    by_entry : (X Y : ℕ) (t : Placed) → tile_at tiling (pos X) (pos Y) ≡ Some t → (b : InBox tiling t (pos X) (pos Y)) → wires library t (pos X) (pos Y) ≡ true → (v : Bool) → is_among (pos b.x) (pos b.y) (entry_cells (face t)) ≡ v → next_plane P (pos X) (pos Y) ≡ Q (pos X) (pos Y)
+    by_entry : (X Y : ℕ) (t : Placed) → tile_at tiling (pos X) (pos Y) ≡ Some t → (b : InBox tiling t (pos X) (pos Y)) → wires library t (pos X) (pos Y) ≡ true → (v : Bool) → is_cell_of (pos b.x) (pos b.y) (entry_cells (face t)) ≡ v → next_plane P (pos X) (pos Y) ≡ Q (pos X) (pos Y)
     by_entry X Y t e b w true v = at_entry library laws tiling m lit t X Y e b w v
     by_entry X Y t e b w false v = at_other library laws tiling m lit t X Y e b w v
 

@@ -3,7 +3,7 @@ use Rattle.std.proofs.Common.{pos, ℕ, ◌+◌, ◌/◌, ◌%◌, ◌≡◌, re
 use Rattle.std.proofs.lemmas.Bool.{and_parts, and_from, or_cases, not-true}
 use Rattle.std.specs.Prelude.{Some}
 use Rattle.tile_core.specs.declared.kind.Kind.TheVariants.{Swap, Xor, Or, AndNot, Fork, East, South, North, EastSouth, SouthWest, WestNorth, NorthEast, West, WestSwap}
-use Rattle.tile_core.specs.Drawing.{Cell, is_among}
+use Rattle.tile_core.specs.Drawing.{Cell, is_cell_of}
 use Rattle.tile_core.specs.Interface.{cell_at, entry_cells, exit_cells}
 use Rattle.tiling.specs.Tiling.{Piece, interface_of, Slot, Tiling}
 use Rattle.tiling.specs.Tiling.Piece.{Tile, Output}
@@ -62,16 +62,16 @@ exits_apart tiling m = not_both tiling is_left m.exits_beside m.exits_above
 pub entry_at : (tiling : Tiling) → HasWholePieces tiling → (t : Placed) (X Y : ℕ) → tile_at tiling (pos X) (pos Y) ≡ Some t → (b : InBox tiling t (pos X) (pos Y)) → is_entry t (pos X) (pos Y) ≡ entered_at tiling X Y
 entry_at tiling h t X Y e b =
     let at = at_local tiling t (pos X) (pos Y) b in
-    ap₂ (λ i j. is_among i j (entry_cells (face t))) at.0 at.1 ∙ sym (entered_is tiling h t X Y e b)
+    ap₂ (λ i j. is_cell_of i j (entry_cells (face t))) at.0 at.1 ∙ sym (entered_is tiling h t X Y e b)
 
 pub exit_at : (tiling : Tiling) → HasWholePieces tiling → (t : Placed) (X Y : ℕ) → tile_at tiling (pos X) (pos Y) ≡ Some t → (b : InBox tiling t (pos X) (pos Y)) → is_exit t (pos X) (pos Y) ≡ left_at tiling X Y
 exit_at tiling h t X Y e b =
     let at = at_local tiling t (pos X) (pos Y) b in
-    ap₂ (λ i j. is_among i j (exit_cells (face t))) at.0 at.1 ∙ sym (left_is tiling h t X Y e b)
+    ap₂ (λ i j. is_cell_of i j (exit_cells (face t))) at.0 at.1 ∙ sym (left_is tiling h t X Y e b)
 
 abbrev none_among : List Cell → List Cell → Bool
 none_among [] ds = true
-none_among (c ∷ cs) ds = not (is_among c.x c.y ds) && none_among cs ds
+none_among (c ∷ cs) ds = not (is_cell_of c.x c.y ds) && none_among cs ds
 
 disjoint_test : (p : Piece) → none_among (entry_cells (interface_of p)) (exit_cells (interface_of p)) ≡ true
 disjoint_test (Tile Swap) = refl
@@ -90,15 +90,15 @@ disjoint_test (Tile West) = refl
 disjoint_test (Tile WestSwap) = refl
 disjoint_test Output = refl
 
-among_none : (x y : ℕ) (ps : List (ℕ × ℕ)) (ds : List Cell) → none_among (map cell_at ps) ds ≡ true → is_among (pos x) (pos y) (map cell_at ps) ≡ true → is_among (pos x) (pos y) ds ≡ false
+among_none : (x y : ℕ) (ps : List (ℕ × ℕ)) (ds : List Cell) → none_among (map cell_at ps) ds ≡ true → is_cell_of (pos x) (pos y) (map cell_at ps) ≡ true → is_cell_of (pos x) (pos y) ds ≡ false
 among_none x y [] ds n e = cc
 among_none x y (p ∷ ps) ds n e =
     let parts = and_parts _ _ n in
     elim (or_cases (int_eq (pos x) (pos p.0) && int_eq (pos y) (pos p.1)) _ e) [
-      | inl here ↦ let s = same_cell x y p.0 p.1 here in ap₂ (λ i j. is_among (pos i) (pos j) ds) s.0 s.1 ∙ not-true _ parts.0
+      | inl here ↦ let s = same_cell x y p.0 p.1 here in ap₂ (λ i j. is_cell_of (pos i) (pos j) ds) s.0 s.1 ∙ not-true _ parts.0
       | inr later ↦ among_none x y ps ds parts.1 later
     ]
 
 -- an entry is no exit
-pub entry_no_exit : (p : Piece) (x y : ℕ) → is_among (pos x) (pos y) (entry_cells (interface_of p)) ≡ true → is_among (pos x) (pos y) (exit_cells (interface_of p)) ≡ false
+pub entry_no_exit : (p : Piece) (x y : ℕ) → is_cell_of (pos x) (pos y) (entry_cells (interface_of p)) ≡ true → is_cell_of (pos x) (pos y) (exit_cells (interface_of p)) ≡ false
 entry_no_exit p x y = among_none x y (take (interface_of p).lanes (interface_of p).entries) (exit_cells (interface_of p)) (disjoint_test p)

@@ -5,7 +5,7 @@ use Rattle.std.specs.Prelude.{Option, Some, None}
 use Rattle.ww_rule.specs.declared.pattern.State.TheVariants.{Head, Tail, Conductor}
 use Rattle.ww_rule.specs.Wireworld.{evolve}
 use Rattle.tile_core.specs.declared.kind.Kind.{Kind}
-use Rattle.tile_core.specs.Drawing.{Drawing, is_among}
+use Rattle.tile_core.specs.Drawing.{Drawing, is_cell_of}
 use Rattle.tile_core.specs.Interface.{entry_cells, exit_cells}
 use Rattle.tiling.specs.Tiling.{Tiling, Lit, drawn, piece_drawing}
 use Rattle.tiling.specs.Tiling.Edge.{Beside}
@@ -44,11 +44,11 @@ entry_at_start library laws tiling m lit X Y f = go (tile_at tiling (pos X) (pos
     go (Some t) e =
         let b = (belongs tiling m.pieces t (pos X) (pos Y) e).inside in
         let here = at_local tiling t (pos X) (pos Y) b in
-        let entry : is_among (pos b.x) (pos b.y) (entry_cells (face t)) ≡ true = sym (entered_is tiling m.pieces t X Y e b) ∙ f in
+        let entry : is_cell_of (pos b.x) (pos b.y) (entry_cells (face t)) ≡ true = sym (entered_is tiling m.pieces t X Y e b) ∙ f in
         let wired : wires library t (pos X) (pos Y) ≡ true = ap₂ (piece_drawing library t.piece) here.0 here.1 ∙ (laws t.piece).has_ports.has_entries (pos b.x) (pos b.y) entry in
         let cell = drawn_cell library tiling m.pieces lit t (pos X) (pos Y) e b wired in
         let edge = ap lit (port_edge tiling t X Y b (entry_side t.piece b.x b.y entry)) in
-        let both = lit_cell (is_among (pos b.x) (pos b.y) (entry_cells (face t))) (is_among (pos b.x) (pos b.y) (exit_cells (face t))) (place_lit lit t b.x b.y) entry in
+        let both = lit_cell (is_cell_of (pos b.x) (pos b.y) (entry_cells (face t))) (is_cell_of (pos b.x) (pos b.y) (exit_cells (face t))) (place_lit lit t b.x b.y) entry in
         (λ h. sym edge ∙ both.0 (sym cell ∙ h), λ h. cell ∙ both.1 (edge ∙ h))
 
 exit_at_start : (library : Kind → Drawing) → Laws library → (tiling : Tiling) → IsMatched tiling → (lit : Lit) (X Y : ℕ) → left_at tiling X Y ≡ true → drawn library tiling lit (pos X) (pos Y) ≢ Head
@@ -59,10 +59,10 @@ exit_at_start library laws tiling m lit X Y f head = go (tile_at tiling (pos X) 
     go (Some t) e =
         let b = (belongs tiling m.pieces t (pos X) (pos Y) e).inside in
         let here = at_local tiling t (pos X) (pos Y) b in
-        let exit : is_among (pos b.x) (pos b.y) (exit_cells (face t)) ≡ true = sym (left_is tiling m.pieces t X Y e b) ∙ f in
+        let exit : is_cell_of (pos b.x) (pos b.y) (exit_cells (face t)) ≡ true = sym (left_is tiling m.pieces t X Y e b) ∙ f in
         let wired : wires library t (pos X) (pos Y) ≡ true = ap₂ (piece_drawing library t.piece) here.0 here.1 ∙ (laws t.piece).has_ports.has_exits (pos b.x) (pos b.y) exit in
-        let no_entry : is_among (pos b.x) (pos b.y) (entry_cells (face t)) ≡ false = false_from_ne_true _ (λ h. true≢false (sym exit ∙ entry_no_exit t.piece b.x b.y h)) in
-        exit_cell _ (is_among (pos b.x) (pos b.y) (exit_cells (face t))) (place_lit lit t b.x b.y) no_entry (sym (drawn_cell library tiling m.pieces lit t (pos X) (pos Y) e b wired) ∙ head)
+        let no_entry : is_cell_of (pos b.x) (pos b.y) (entry_cells (face t)) ≡ false = false_from_ne_true _ (λ h. true≢false (sym exit ∙ entry_no_exit t.piece b.x b.y h)) in
+        exit_cell _ (is_cell_of (pos b.x) (pos b.y) (exit_cells (face t))) (place_lit lit t b.x b.y) no_entry (sym (drawn_cell library tiling m.pieces lit t (pos X) (pos Y) e b wired) ∙ head)
 
 -- the cell of a port at the generations between
 entry_later : (library : Kind → Drawing) → Laws library → (tiling : Tiling) → IsMatched tiling → (lit : Lit) (g X Y : ℕ) → g ≤ 30 → entered_at tiling X Y ≡ true → glue library tiling lit (suc g) (pos X) (pos Y) ≢ Head
@@ -73,7 +73,7 @@ entry_later library laws tiling m lit g X Y h f head = go (tile_at tiling (pos X
     go (Some t) e =
         let b = (belongs tiling m.pieces t (pos X) (pos Y) e).inside in
         let here = at_local tiling t (pos X) (pos Y) b in
-        let entry = ap₂ (λ i j. is_among i j (entry_cells (face t))) here.0 here.1 ∙ sym (entered_is tiling m.pieces t X Y e b) ∙ f in
+        let entry = ap₂ (λ i j. is_cell_of i j (entry_cells (face t))) here.0 here.1 ∙ sym (entered_is tiling m.pieces t X Y e b) ∙ f in
         ((laws t.piece).keeps_time (bit lit t 0) (bit lit t 1)).entries_stay_dark (suc g) (local_x t (pos X)) (local_y t (pos Y)) (omega arith) (omega arith) entry
         (sym (ap (λ o. evolve (suc g) (alone library lit o) (pos X) (pos Y)) e ∙ alone_at library lit t (suc g) (pos X) (pos Y)) ∙ head)
 
@@ -85,7 +85,7 @@ exit_between library laws tiling m lit g X Y h f head = go (tile_at tiling (pos 
     go (Some t) e =
         let b = (belongs tiling m.pieces t (pos X) (pos Y) e).inside in
         let here = at_local tiling t (pos X) (pos Y) b in
-        let exit = ap₂ (λ i j. is_among i j (exit_cells (face t))) here.0 here.1 ∙ sym (left_is tiling m.pieces t X Y e b) ∙ f in
+        let exit = ap₂ (λ i j. is_cell_of i j (exit_cells (face t))) here.0 here.1 ∙ sym (left_is tiling m.pieces t X Y e b) ∙ f in
         ((laws t.piece).keeps_time (bit lit t 0) (bit lit t 1)).exits_stay_dark (suc g) (local_x t (pos X)) (local_y t (pos Y)) (omega arith) (λ z. omega (arith, z, h)) exit
         (sym (ap (λ o. evolve (suc g) (alone library lit o) (pos X) (pos Y)) e ∙ alone_at library lit t (suc g) (pos X) (pos Y)) ∙ head)
 

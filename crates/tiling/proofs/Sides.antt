@@ -5,7 +5,7 @@ use Rattle.std.proofs.lemmas.Bool.Decides.{Decides-int_eq}
 use Rattle.std.proofs.lemmas.Int.{ints}
 use Rattle.std.specs.Prelude.{if◌then◌else◌}
 use Rattle.tile_core.specs.declared.kind.Kind.TheVariants.{Swap, Xor, Or, AndNot, Fork, East, South, North, EastSouth, SouthWest, WestNorth, NorthEast, West, WestSwap}
-use Rattle.tile_core.specs.Drawing.{is_among}
+use Rattle.tile_core.specs.Drawing.{is_cell_of}
 use Rattle.tile_core.specs.Interface.{cell_at, entry_cells, exit_cells}
 use Rattle.tiling.specs.Tiling.{Piece, interface_of, Edge, edge_of}
 use Rattle.tiling.specs.Tiling.Piece.{Tile, Output}
@@ -57,7 +57,7 @@ abbrev all_sides : List (ℕ × ℕ) → Bool
 all_sides [] = true
 all_sides (p ∷ ps) = side_test p && all_sides ps
 
-side_among : (x y : ℕ) (ps : List (ℕ × ℕ)) → all_sides ps ≡ true → is_among (pos x) (pos y) (map cell_at ps) ≡ true → side_test (x, y) ≡ true
+side_among : (x y : ℕ) (ps : List (ℕ × ℕ)) → all_sides ps ≡ true → is_cell_of (pos x) (pos y) (map cell_at ps) ≡ true → side_test (x, y) ≡ true
 side_among x y [] s e = cc
 side_among x y (p ∷ ps) s e =
     let parts = and_parts _ _ s in
@@ -102,10 +102,10 @@ exits_test (Tile West) = refl
 exits_test (Tile WestSwap) = refl
 exits_test Output = refl
 
-pub entry_side : (p : Piece) (x y : ℕ) → is_among (pos x) (pos y) (entry_cells (interface_of p)) ≡ true → IsAtSide x y
+pub entry_side : (p : Piece) (x y : ℕ) → is_cell_of (pos x) (pos y) (entry_cells (interface_of p)) ≡ true → IsAtSide x y
 entry_side p x y e = side_is x y (side_among x y (take (interface_of p).lanes (interface_of p).entries) (entries_test p) e)
 
-pub exit_side : (p : Piece) (x y : ℕ) → is_among (pos x) (pos y) (exit_cells (interface_of p)) ≡ true → IsAtSide x y
+pub exit_side : (p : Piece) (x y : ℕ) → is_cell_of (pos x) (pos y) (exit_cells (interface_of p)) ≡ true → IsAtSide x y
 exit_side p x y e = side_is x y (side_among x y (take (interface_of p).lanes (interface_of p).exits) (exits_test p) e)
 
 -- the edge at a cell in the middle of a side, by its block and its place there

@@ -1,6 +1,6 @@
 -- Which edges are lit 32 generations later.
 use Rattle.std.specs.Prelude.{ℕ, zero, suc, pos, ◌+◌, ◌-◌, Bool, false, ◌||◌}
-use Rattle.tile_core.specs.Drawing.{is_among}
+use Rattle.tile_core.specs.Drawing.{is_cell_of}
 use Rattle.tile_core.specs.Interface.{lit_exits}
 use Rattle.tiling.specs.Tiling.{Piece, interface_of, Slot, Tiling, Lit, is_entry_lit}
 use Rattle.tiling.specs.Tiling.Slot.{Nothing, Whole, Upper, Lower}
@@ -9,7 +9,7 @@ use Rattle.tiling.specs.Tiling.Edge.{Beside, Above}
 -- the piece whose first block is (q, l) has an exit at this place of its box, and its answer to its entry edges gives 1 there
 abbrev pub piece_answers : Lit → ℕ → ℕ → Piece → ℕ → ℕ → Bool
 piece_answers lit q l piece x y =
-    is_among (pos x) (pos y) (lit_exits (interface_of piece) (is_entry_lit lit q l (interface_of piece) 0) (is_entry_lit lit q l (interface_of piece) 1))
+    is_cell_of (pos x) (pos y) (lit_exits (interface_of piece) (is_entry_lit lit q l (interface_of piece) 0) (is_entry_lit lit q l (interface_of piece) 1))
 
 -- the same of what stands in the block (q, l), by the place in the block
 abbrev pub slot_answers : Lit → ℕ → ℕ → Slot → ℕ → ℕ → Bool

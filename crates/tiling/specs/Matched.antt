@@ -1,6 +1,6 @@
 -- Tilings whose pieces fit together.
 use Rattle.std.specs.Prelude.{ℕ, pos, ◌+◌, ◌≡◌, Bool, false, ◌&&◌}
-use Rattle.tile_core.specs.Drawing.{is_among}
+use Rattle.tile_core.specs.Drawing.{is_cell_of}
 use Rattle.tile_core.specs.Interface.{entry_cells, exit_cells}
 use Rattle.tiling.specs.Tiling.{Piece, interface_of, Slot, Tiling}
 use Rattle.tiling.specs.Tiling.Slot.{Nothing, Whole, Upper, Lower}
@@ -8,16 +8,16 @@ use Rattle.tiling.specs.Tiling.Slot.{Nothing, Whole, Upper, Lower}
 -- whether the block's piece is entered at this place of the block
 abbrev pub is_entered : Slot → ℕ → ℕ → Bool
 is_entered Nothing x y = false
-is_entered (Whole piece) x y = is_among (pos x) (pos y) (entry_cells (interface_of piece))
-is_entered (Upper piece) x y = is_among (pos x) (pos y) (entry_cells (interface_of piece))
-is_entered (Lower piece) x y = is_among (pos x) (pos (y + 16)) (entry_cells (interface_of piece))
+is_entered (Whole piece) x y = is_cell_of (pos x) (pos y) (entry_cells (interface_of piece))
+is_entered (Upper piece) x y = is_cell_of (pos x) (pos y) (entry_cells (interface_of piece))
+is_entered (Lower piece) x y = is_cell_of (pos x) (pos (y + 16)) (entry_cells (interface_of piece))
 
 -- whether it is left there
 abbrev pub is_left : Slot → ℕ → ℕ → Bool
 is_left Nothing x y = false
-is_left (Whole piece) x y = is_among (pos x) (pos y) (exit_cells (interface_of piece))
-is_left (Upper piece) x y = is_among (pos x) (pos y) (exit_cells (interface_of piece))
-is_left (Lower piece) x y = is_among (pos x) (pos (y + 16)) (exit_cells (interface_of piece))
+is_left (Whole piece) x y = is_cell_of (pos x) (pos y) (exit_cells (interface_of piece))
+is_left (Upper piece) x y = is_cell_of (pos x) (pos y) (exit_cells (interface_of piece))
+is_left (Lower piece) x y = is_cell_of (pos x) (pos (y + 16)) (exit_cells (interface_of piece))
 
 -- a piece of one lane stands alone, and those of two lanes in two blocks, one above the other
 pub record HasWholePieces (tiling : Tiling) : Type 0 where

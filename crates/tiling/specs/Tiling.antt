@@ -4,7 +4,7 @@ use Rattle.ww_rule.specs.declared.pattern.State.{State}
 use Rattle.ww_rule.specs.declared.pattern.State.TheVariants.{Empty}
 use Rattle.ww_rule.specs.Wireworld.{Plane}
 use Rattle.tile_core.specs.declared.kind.Kind.{Kind}
-use Rattle.tile_core.specs.Drawing.{Cell, Drawing, picture, is_among}
+use Rattle.tile_core.specs.Drawing.{Cell, Drawing, picture, is_cell_of}
 use Rattle.tile_core.specs.Interface.{Interface, exit_cells, lit_entries, chosen, cell_at}
 use Rattle.tile_core.specs.Kinds.{interface}
 
@@ -18,7 +18,7 @@ abbrev pub output_interface : Interface
 output_interface = record { lanes = 1; entries = (0, 8) ∷ []; exits = []; answer = λ a b. [] }
 
 abbrev pub output_drawing : Drawing
-output_drawing x y = is_among x y (cell_at (0, 8) ∷ [])
+output_drawing x y = is_cell_of x y (cell_at (0, 8) ∷ [])
 
 abbrev pub interface_of : Piece → Interface
 interface_of (Tile kind) = interface kind
