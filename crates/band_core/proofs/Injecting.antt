@@ -8,7 +8,7 @@ use Rattle.std.proofs.lemmas.Int.{ints}
 use Rattle.std.proofs.lemmas.List.{length-set}
 use Rattle.ww_rule.specs.declared.pattern.State.TheVariants.{Head}
 use Rattle.ww_rule.specs.Wireworld.{Plane, injected}
-use Rattle.ww_rule.specs.Injections.{is_among}
+use Rattle.ww_rule.specs.Injections.{has_cell}
 use Rattle.band_rows.specs.declared.row.Row.{Row}
 use Rattle.band_rows.specs.Rows.{AreLong, ShowRows, Shows, state_in_row, row_heads, row_tails, row_wires}
 use Rattle.band_rows.proofs.Bands.{other_twice, same, held, shows_same}
@@ -30,7 +30,7 @@ column_is x u =
       | inr n ↦ int_other (pos x) (pos u) (λ q. n (let r : u ≡ x = omega (arith, ints, q) in r)) ∙ sym (ne_eqb u x n)
     ]
 
-among_hit : (x v u : ℕ) (z : ℤ) → pos v ≡ z → is_among ((x, v) ∷ []) (pos u) z ≡ (u == x)
+among_hit : (x v u : ℕ) (z : ℤ) → pos v ≡ z → has_cell ((x, v) ∷ []) (pos u) z ≡ (u == x)
 among_hit x v u z e =
     ap₂ (λ a b. (a && b) || false) (column_is x u) (int_same (pos v) z e) ∙ simplest (u == x)
   where
@@ -38,7 +38,7 @@ among_hit x v u z e =
     simplest true = refl
     simplest false = refl
 
-among_miss : (x v u : ℕ) (z : ℤ) → (pos v ≡ z → ⊥) → is_among ((x, v) ∷ []) (pos u) z ≡ false
+among_miss : (x v u : ℕ) (z : ℤ) → (pos v ≡ z → ⊥) → has_cell ((x, v) ∷ []) (pos u) z ≡ false
 among_miss x v u z n =
     ap (λ b. (int_eq (pos x) (pos u) && b) || false) (int_other (pos v) z n) ∙ none (int_eq (pos x) (pos u))
   where
@@ -47,7 +47,7 @@ among_miss x v u z n =
     none false = refl
 
 -- one row of which a cell was made a head
-pub head_put : (rows : List Row) (k : ℕ) (z row d new : Row) (x v y : ℕ) (p : Plane) → k < length rows → v ≡ y + k → row ≡ get_or rows k d → ((u : ℕ) → state_in_row new u ≡ cond (u == x) Head (state_in_row row u)) → ShowRows rows p (pos y) → ShowRows (slice_set (slice_set rows k z) k new) (injected (is_among ((x, v) ∷ [])) p) (pos y)
+pub head_put : (rows : List Row) (k : ℕ) (z row d new : Row) (x v y : ℕ) (p : Plane) → k < length rows → v ≡ y + k → row ≡ get_or rows k d → ((u : ℕ) → state_in_row new u ≡ cond (u == x) Head (state_in_row row u)) → ShowRows rows p (pos y) → ShowRows (slice_set (slice_set rows k z) k new) (injected (has_cell ((x, v) ∷ [])) p) (pos y)
 head_put rows k z row d new x v y p lt e is cells shows j jlt =
     let long = length-set rows k z in
     let long2 = length-set (slice_set rows k z) k new in
@@ -64,9 +64,9 @@ head_put rows k z row d new x v y p lt e is cells shows j jlt =
           (sym (held (λ row. row.heads.items) rows k row d lt is) ∙ ap (row_heads rows) (sym q)) (sym (held (λ row. row.tails.items) rows k row d lt is) ∙ ap (row_tails rows) (sym q)) (sym (held (λ row. row.wires.items) rows k row d lt is) ∙ ap (row_wires rows) (sym q))
           (shows j (omega (arith, jlt, long, long2))) in
           let rows2 = slice_set (slice_set rows k z) k new in
-          let here : Shows new.heads.items new.tails.items new.wires.items (injected (is_among ((x, v) ∷ [])) p) (pos y +ℤ pos j) =
+          let here : Shows new.heads.items new.tails.items new.wires.items (injected (has_cell ((x, v) ∷ [])) p) (pos y +ℤ pos j) =
           λ u. cells u ∙ ap (cond (u == x) Head) (was u) ∙ sym (ap (λ t. cond t Head (p (pos u) (pos y +ℤ pos j))) (among_hit x v u (pos y +ℤ pos j) hit)) in
-          shows_same (injected (is_among ((x, v) ∷ [])) p) (pos y +ℤ pos j)
+          shows_same (injected (has_cell ((x, v) ∷ [])) p) (pos y +ℤ pos j)
           (ap (row_heads rows2) q ∙ same (λ row. row.heads.items) (slice_set rows k z) k new lt2)
           (ap (row_tails rows2) q ∙ same (λ row. row.tails.items) (slice_set rows k z) k new lt2)
           (ap (row_wires rows2) q ∙ same (λ row. row.wires.items) (slice_set rows k z) k new lt2)

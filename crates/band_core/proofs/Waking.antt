@@ -11,7 +11,7 @@ use Rattle.ww_rule.specs.declared.pattern.State.{State}
 use Rattle.ww_rule.specs.declared.pattern.State.TheVariants.{Empty, Head, Tail, Conductor}
 use Rattle.ww_rule.specs.declared.pattern.Injection.{Injection}
 use Rattle.ww_rule.specs.Wireworld.{Plane, Due, count_head}
-use Rattle.ww_rule.specs.Injections.{is_among, due_of_list}
+use Rattle.ww_rule.specs.Injections.{has_cell, due_of_list}
 use Rattle.ww_rule.proofs.Lists.{lists_are_injected}
 use Rattle.lane_kernel.specs.Rows.{is_set, state_of}
 use Rattle.band_rows.specs.Rows.{ShowsHeads, row_heads, row_tails, row_wires}
@@ -82,4 +82,4 @@ module _ (e : ℕ → Plane) (test : Due) (words y many : ℕ) (band : Band) (is
       let left = drop band.done own in
       let front : [] ≡ take _ left = sym (ap (λ n. take n left) none) in
       sym (shows.own (band.generation + 1) x k lt)
-      ∙ sym (ap (λ cells. is_among cells (pos x) (pos y +ℤ pos k)) (front_cells (band.generation + 1) own left shows.left [] front))
+      ∙ sym (ap (λ cells. has_cell cells (pos x) (pos y +ℤ pos k)) (front_cells (band.generation + 1) own left shows.left [] front))

@@ -1,7 +1,7 @@
 // One band.
 ghost use Rattle.std.specs.Prelude.{◌≡◌, ◌+◌, ◌-◌, ◌<◌, ◌≤◌, ◌^◌, ◌+ℤ◌, ◌-ℤ◌, ℕ, pos, length, get_or, drop, take, IfOk, All};
 ghost use Rattle.ww_rule.specs.Wireworld.{Plane, Due, next_plane, injected};
-ghost use Rattle.ww_rule.specs.Injections.{is_among};
+ghost use Rattle.ww_rule.specs.Injections.{has_cell};
 ghost use Rattle.lane_kernel.specs.Spans.{IsDarkBeyond};
 ghost use Rattle.band_rows.specs.Rows.{AreLong, IsEmptyWest, ShowRows, ShowsHeads, row_heads, row_tails};
 ghost use Rattle.band_core.specs.Band.{AreInRows, IsBand, IsEvolution, ShowsBand, AreUnlit, bottom_at, top_at, injected_cells, due_count};
@@ -40,7 +40,7 @@ pub fn inject(alloc: Global, rows: &mut [Row], y: usize, words: usize, due: &[In
     requires inside { AreInRows words y (length rows.old) due.now }
     ensures many { length rows.new ≡ length rows.old }
     ensures long { AreLong words rows.new }
-    ensures shows { (p : Plane) → ShowRows rows.old p (pos y) → ShowRows rows.new (injected (is_among (injected_cells due.now)) p) (pos y) }
+    ensures shows { (p : Plane) → ShowRows rows.old p (pos y) → ShowRows rows.new (injected (has_cell (injected_cells due.now)) p) (pos y) }
 {
     for injection in due {
         let place = injection.y as usize - y;
@@ -99,7 +99,7 @@ fn step_rows(
     ensures long_bottom { length result.1.heads.items ≡ length up.now }
     ensures top { (j : ℕ) → get_or result.0.heads.items j 0 ≡ get_or (row_heads rows.old 0) j 0 }
     ensures bottom { (j : ℕ) → get_or result.1.heads.items j 0 ≡ get_or (row_heads rows.old (length rows.old - 1)) j 0 }
-    ensures shows { (p : Plane) → IsEmptyWest p → ShowRows rows.old p (pos y) → ShowsHeads up.now p (pos y -ℤ pos 1) → ShowsHeads down.now p (pos y +ℤ pos (length rows.old)) → ShowRows rows.new (injected (is_among (injected_cells due.now)) (next_plane p)) (pos y) }
+    ensures shows { (p : Plane) → IsEmptyWest p → ShowRows rows.old p (pos y) → ShowsHeads up.now p (pos y -ℤ pos 1) → ShowsHeads down.now p (pos y +ℤ pos (length rows.old)) → ShowRows rows.new (injected (has_cell (injected_cells due.now)) (next_plane p)) (pos y) }
 {
     step_band(
         alloc,

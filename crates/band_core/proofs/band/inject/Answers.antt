@@ -2,7 +2,7 @@ use Rattle.std.proofs.Common.{ℕ, pos, ◌+◌, ◌-◌, ◌≡◌, ◌<◌, �
 use Rattle.std.proofs.lemmas.List.{length-set, length-map, get_or-map, take_all}
 use Rattle.ww_rule.specs.declared.pattern.Injection.{Injection}
 use Rattle.ww_rule.specs.Wireworld.{Plane, injected}
-use Rattle.ww_rule.specs.Injections.{is_among}
+use Rattle.ww_rule.specs.Injections.{has_cell}
 use Rattle.ww_rule.proofs.Injected.{injected_more}
 use Rattle.band_rows.specs.Rows.{ShowRows}
 use Rattle.band_rows.proofs.Bands.{held}
@@ -49,9 +49,9 @@ loop-injection-preserved c =
       many = l2 ∙ l1 ∙ many;
       long = long_put c.args.words rows k z c.replace-row.result c.index-rows-place.result new lt c.replace-row.ensures.value c.with_head.ensures.long v.long;
       shows = λ p shown.
-          let q = injected (is_among (take n cells)) p in
-          let after : injected (is_among ((i.x, i.y) ∷ [])) q ≡ injected (is_among (take (n + 1) cells)) p =
-          ap (λ cell. injected (is_among (cell ∷ [])) q) (sym cell) ∙ injected_more cells n (0, 0) p within in
+          let q = injected (has_cell (take n cells)) p in
+          let after : injected (has_cell ((i.x, i.y) ∷ [])) q ≡ injected (has_cell (take (n + 1) cells)) p =
+          ap (λ cell. injected (has_cell (cell ∷ [])) q) (sym cell) ∙ injected_more cells n (0, 0) p within in
           subst (λ q. ShowRows (slice_set (slice_set rows k z) k new) q (pos c.args.y)) after
           (head_put rows k z c.replace-row.result c.index-rows-place.result new i.x i.y c.args.y q lt place c.replace-row.ensures.value c.with_head.ensures.cells (v.shows p shown));
     }
@@ -62,4 +62,4 @@ returns-clause-shows c p shown =
     let cells = injected_cells c.args.due.now in
     let m = length-map {B = ℕ × ℕ} c.args.due.now (λ (i : Injection). (i.x, i.y)) in
     let past : length cells ≤ n = omega (arith, m, c.loop-injection-test.false) in
-    subst (λ cells. ShowRows c.loop-injection.rows (injected (is_among cells) p) (pos c.args.y)) (take_all n cells past) (c.loop-injection.invariant.shows p shown)
+    subst (λ cells. ShowRows c.loop-injection.rows (injected (has_cell cells) p) (pos c.args.y)) (take_all n cells past) (c.loop-injection.invariant.shows p shown)

@@ -1,6 +1,6 @@
 use Rattle.std.proofs.Common.{ℤ, pos, ◌+ℤ◌, ℕ, ◌+◌, ◌-◌, ◌<◌, ◌≤◌, ◌≡◌, refl, sym, ap, ap₂, subst, ◌∙◌, cond, length, get_or, take, drop, arith}
 use Rattle.ww_rule.specs.declared.pattern.State.TheVariants.{Head}
-use Rattle.ww_rule.specs.Injections.{is_among}
+use Rattle.ww_rule.specs.Injections.{has_cell}
 use Rattle.std.proofs.lemmas.List.{with_items_is}
 use Rattle.band_rows.specs.Rows.{ShowRows}
 use Rattle.band_core.specs.Band.{due_count}
@@ -30,7 +30,7 @@ returns-clause-shows c e due p starts shown same =
           (λ k lt x.
           let z = pos y +ℤ pos k in
           moved k lt x
-          ∙ ap (λ t. cond t Head (p (pos x) z)) (ap (λ cells. is_among cells (pos x) z) (front_cells 0 own own left _ front) ∙ same 0 x k (omega (arith, lt, lm)))
+          ∙ ap (λ t. cond t Head (p (pos x) z)) (ap (λ cells. has_cell cells (pos x) z) (front_cells 0 own own left _ front) ∙ same 0 x k (omega (arith, lt, lm)))
           ∙ sym (ap (λ p. p (pos x) z) starts));
       top = λ h q. absurd (omega (arith, q));
       bottom = λ h q. absurd (omega (arith, q));
