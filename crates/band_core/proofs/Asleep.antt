@@ -1,16 +1,16 @@
 -- Cells that keep a band awake, as callers see them.
-use Rattle.std.proofs.Common.{ℤ, pos, ◌+ℤ◌, ◌-ℤ◌, ℕ, ◌+◌, ◌-◌, ◌*◌, min, ◌<◌, ◌≤◌, ◌≡◌, refl, sym, ap, ap₂, subst, ◌∙◌, inl, inr, Bool, true, false, ◌&&◌, nat_lt, length, get_or, arith}
-use Rattle.std.specs.Prelude.{◌≢◌, ◌⊎◌}
+use Rattle.std.proofs.Common.{pos, ◌+ℤ◌, ◌-ℤ◌, ℕ, ◌+◌, ◌-◌, ◌*◌, min, ◌<◌, ◌≤◌, ◌≡◌, refl, sym, ap, subst, ◌∙◌, inl, inr, Bool, true, false, ◌&&◌, nat_lt, length, arith}
+use Rattle.std.specs.Prelude.{◌≢◌}
 use Rattle.std.proofs.lemmas.Bool.{cases_lt, le-ltb, true≢false}
 use Rattle.std.proofs.lemmas.Int.{ints}
 use Rattle.ww_rule.specs.declared.pattern.State.{State}
 use Rattle.ww_rule.specs.declared.pattern.State.TheVariants.{Empty, Head, Tail, Conductor}
 use Rattle.ww_rule.specs.Wireworld.{Plane, Due, count_head, heads_around, next_plane, next_state, driven}
 use Rattle.ww_rule.specs.Grid.{IsGrid, in_box, plane_of}
-use Rattle.ww_rule.specs.Injections.{due_of_list}
-use Rattle.band_core.specs.Bands.{BandedPattern, AreInside, IsAwake, IsCellOf, IsFacing, generation_of}
+use Rattle.ww_rule.specs.Injections.{due_of_list, AreInside}
+use Rattle.band_core.specs.Bands.{BandedPattern, IsAwake, IsCellOf, generation_of}
 use Rattle.band_core.specs.Bands.IsAwake.{head, tail, faced, due}
-use Rattle.band_core.specs.Band.{IsEvolution, IsQuiet, IsWaking}
+use Rattle.band_core.specs.Band.{IsQuiet, IsWaking}
 use Rattle.band_core.specs.Band.IsWaking.{head as w_head, tail as w_tail, above as w_above, below as w_below, due as w_due}
 use Rattle.band_core.proofs.Evolution.{evolution, due_outside}
 

@@ -1,23 +1,22 @@
 -- The driven evolution of a pattern, in its box.
-use Rattle.std.proofs.Common.{ℤ, pos, negsuc, ◌+ℤ◌, ℕ, zero, suc, ◌+◌, ◌-◌, ◌*◌, ◌/◌, ◌%◌, min, ◌<◌, ◌≤◌, ◌≡◌, refl, sym, ap, ap₂, subst, ◌∙◌, inl, inr, Bool, true, false, ◌&&◌, ◌||◌, ◌==◌, nat_lt, cond, List, [], ◌∷◌, length, get_or, filter, All, arith}
-use Rattle.std.specs.Prelude.{◌≢◌}
+use Rattle.ww_rule.specs.Due.{AreInOrderFrom}
+use Rattle.std.proofs.Common.{ℤ, pos, negsuc, ◌+ℤ◌, ℕ, suc, ◌+◌, ◌-◌, ◌*◌, ◌/◌, ◌%◌, min, ◌<◌, ◌≤◌, ◌≡◌, refl, sym, ap, ap₂, subst, ◌∙◌, inl, inr, Bool, true, false, ◌&&◌, ◌||◌, ◌==◌, nat_lt, cond, List, [], ◌∷◌, length, get_or, filter, All, arith}
 use Rattle.std.specs.Ordering.{int_eq}
-use Rattle.std.proofs.lemmas.Bool.{cases_Bool, cases_lt, cases_eq, and_cases, ltb-false, lt-ltb, true≢false, eq-eqb, ne_eqb, eqb-true, eqb-false}
+use Rattle.std.proofs.lemmas.Bool.{cases_Bool, cases_lt, and_cases, ltb-false, lt-ltb, true≢false, eqb-true, eqb-false}
 use Rattle.std.proofs.lemmas.Bool.Decides.{Decides-int_eq}
 use Rattle.std.proofs.lemmas.Int.{ints}
 use Rattle.std.proofs.lemmas.Nat.{div-mul-add}
 use Rattle.std.proofs.lemmas.List.Elements.{All-contains, All-head, All-tail, All-nil, All-cons}
 use Rattle.ww_rule.specs.declared.pattern.State.{State}
-use Rattle.ww_rule.specs.declared.pattern.State.TheVariants.{Empty}
 use Rattle.ww_rule.specs.declared.pattern.Injection.{Injection}
-use Rattle.ww_rule.specs.Wireworld.{Plane, Due, next_plane, injected, driven}
+use Rattle.ww_rule.specs.Wireworld.{next_plane, injected, driven}
 use Rattle.ww_rule.specs.Grid.{IsGrid, IsEmptyOutside, in_box, plane_of}
-use Rattle.ww_rule.specs.Injections.{due_of_list}
+use Rattle.ww_rule.specs.Injections.{due_of_list, AreInside}
 use Rattle.ww_rule.proofs.Boxes.{plane_of_beside, plane_of_below, driven_outside}
 use Rattle.ww_rule.proofs.Finite.{due_of_cons}
 use Rattle.ww_rule.proofs.Lists.{lists_are_injected}
 use Rattle.ww_rule.proofs.RowLemmas.{in_rows}
-use Rattle.band_core.specs.Bands.{AreInside, AreInOrderFrom, bands_in}
+use Rattle.band_core.specs.Bands.{bands_in}
 use Rattle.band_core.specs.Band.{AreInRows, IsEvolution}
 use Rattle.band_core.proofs.Left.{from_earlier}
 use Rattle.std.proofs.Math.Nat.{mul-le-mul_right, mul_comm, suc-mul}

@@ -1,22 +1,21 @@
 -- Rows that face a band, and the neighbours to which they belong.
-use Rattle.std.proofs.Common.{ℤ, pos, negsuc, ◌+ℤ◌, ◌-ℤ◌, ℕ, zero, suc, ◌+◌, ◌-◌, ◌*◌, ◌/◌, ◌%◌, min, ◌<◌, ◌≤◌, ◌≡◌, refl, sym, ap, ap₂, subst, ◌∙◌, inl, inr, Bool, true, false, ◌||◌, ◌&&◌, ◌==◌, nat_lt, Some, None, List, [], length, get_or, slice_set, arith}
-use Rattle.std.specs.Prelude.{◌≢◌, ◌⊎◌, if◌then◌else◌}
+use Rattle.std.proofs.Common.{ℤ, pos, negsuc, ◌+ℤ◌, ◌-ℤ◌, ℕ, zero, suc, ◌+◌, ◌-◌, ◌*◌, ◌/◌, ◌%◌, min, ◌<◌, ◌≡◌, refl, sym, ap, subst, ◌∙◌, inl, inr, Bool, true, false, ◌||◌, ◌&&◌, ◌==◌, nat_lt, Some, None, List, length, get_or, slice_set, arith}
+use Rattle.std.specs.Prelude.{◌⊎◌, if◌then◌else◌}
 use Rattle.std.specs.declared.option.Option.{Option}
 use Rattle.std.specs.Option.{option_or}
 use Rattle.std.proofs.lemmas.Bool.{cases_lt, eq-eqb, ne_eqb, eqb-true, or_cases, lt-ltb, le-ltb}
 use Rattle.std.proofs.lemmas.Int.{ints}
-use Rattle.std.proofs.lemmas.List.{get_or-set_other, get_or-map, length-map}
+use Rattle.std.proofs.lemmas.List.{get_or-set_other, get_or-map}
 use Rattle.std.proofs.Math.Nat.{suc-mul, mul_comm}
 use Rattle.ww_rule.specs.declared.pattern.State.TheVariants.{Empty}
 use Rattle.ww_rule.specs.Wireworld.{Plane, Due, count_head}
-use Rattle.lane_kernel.specs.Rows.{is_set, state_of}
-use Rattle.lane_kernel.proofs.Counting.{count_is}
+use Rattle.lane_kernel.specs.Rows.{state_of}
 use Rattle.band_rows.specs.Rows.{ShowsHeads, row_heads, row_tails, row_wires}
 use Rattle.band_rows.proofs.Bands.{heads_shown}
 use Rattle.band_rows.proofs.Marks.{none_set}
 use Rattle.band_core.specs.declared.band.Band.{Band}
 use Rattle.band_core.specs.declared.error.NotReady.{NotReady}
-use Rattle.band_core.specs.Bands.{not_ready, upper_not_ready, lower_not_ready, unready_neighbour, bands_in}
+use Rattle.band_core.specs.Bands.{not_ready, upper_not_ready, lower_not_ready, unready_neighbour}
 use Rattle.band_core.specs.Band.{IsBand, ShowsBand, IsEvolution, AreBands, AllShow, bottom_at, top_at, generations_of}
 
 -- at a generation, or one before

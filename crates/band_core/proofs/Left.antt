@@ -1,12 +1,11 @@
 -- Injections in the order of their generations, and those that are left when a generation comes.
+use Rattle.ww_rule.specs.Due.{AreInOrderFrom, AreLeftAt, due_count}
 use Rattle.std.proofs.Common.{ℕ, suc, ◌≡◌, ◌≤◌, ◌<◌, ◌+◌, ◌==◌, refl, sym, ap, subst, ◌∙◌, Bool, true, false, cond, List, [], ◌∷◌, ◌++◌, map, filter, take, drop, All, arith}
 use Rattle.std.proofs.lemmas.Bool.{eqb-true, eqb-false, ne_eqb}
 use Rattle.std.proofs.lemmas.List.{append_assoc, map-append, take-append-drop}
 use Rattle.std.proofs.lemmas.List.Elements.{All-nil, All-cons, All-head, All-tail, All-append, filter-append}
 use Rattle.ww_rule.specs.declared.pattern.Injection.{Injection}
 use Rattle.ww_rule.specs.Injections.{cells_at}
-use Rattle.band_core.specs.Bands.{AreInOrderFrom}
-use Rattle.band_core.specs.Band.{AreLeftAt, due_count}
 
 abbrev cell : Injection → ℕ × ℕ
 cell i = (i.x, i.y)

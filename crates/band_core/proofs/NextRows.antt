@@ -1,6 +1,6 @@
 -- A band that moves on shows the next planes.
-use Rattle.std.proofs.Common.{ℤ, pos, negsuc, ◌+ℤ◌, ◌-ℤ◌, ℕ, ◌+◌, ◌-◌, ◌<◌, ◌≤◌, ◌≡◌, refl, sym, ap, ap₂, subst, ◌∙◌, cond, Bool, List, length, get_or, take, drop, arith}
-use Rattle.std.proofs.lemmas.Int.{ints}
+use Rattle.ww_rule.specs.Due.{AreLeftAt, due_count}
+use Rattle.std.proofs.Common.{pos, negsuc, ◌+ℤ◌, ℕ, ◌+◌, ◌<◌, ◌≡◌, refl, sym, ap, ◌∙◌, cond, List, length, get_or, take, arith}
 use Rattle.ww_rule.specs.declared.pattern.State.TheVariants.{Head}
 use Rattle.ww_rule.specs.declared.pattern.Injection.{Injection}
 use Rattle.ww_rule.specs.Wireworld.{Plane, Due, next_plane, injected}
@@ -8,7 +8,7 @@ use Rattle.ww_rule.specs.Injections.{has_cell, due_of_list}
 use Rattle.band_rows.specs.declared.row.Row.{Row}
 use Rattle.band_rows.specs.Rows.{IsEmptyWest, ShowRows, ShowsHeads, row_heads, row_tails, row_wires}
 use Rattle.band_rows.proofs.Bands.{words_show, heads_shown}
-use Rattle.band_core.specs.Band.{IsEvolution, AreLeftAt, injected_cells, due_count}
+use Rattle.band_core.specs.Band.{IsEvolution, injected_cells}
 use Rattle.band_core.proofs.Left.{front_cells}
 
 pub west : (e : ℕ → Plane) (due : Due) (width height : ℕ) → IsEvolution e due width height → (g : ℕ) → IsEmptyWest (e g)

@@ -1,12 +1,12 @@
 -- Rows pushed at the end.
-use Rattle.std.proofs.Common.{ℕ, ◌+◌, ◌-◌, ◌<◌, ◌≡◌, refl, sym, ap, ap₂, subst, ◌∙◌, inl, inr, List, [], ◌∷◌, ◌++◌, length, get_or, map, arith}
+use Rattle.std.proofs.Common.{ℕ, ◌-◌, ◌<◌, ◌≡◌, sym, ap, ◌∙◌, inl, inr, List, [], ◌∷◌, ◌++◌, length, get_or, map, arith}
 use Rattle.std.proofs.lemmas.Bool.{cases_lt}
 use Rattle.std.proofs.lemmas.List.{map-append, length-append, length-map, get_or-append_right}
 use Rattle.std.proofs.Math.ListN.{get_or-append}
 use Rattle.ww_rule.specs.declared.pattern.State.{State}
 use Rattle.ww_rule.specs.declared.pattern.State.TheVariants.{Empty}
 use Rattle.band_rows.specs.declared.row.Row.{Row}
-use Rattle.band_rows.specs.Rows.{AreLong, row_heads, row_tails, row_wires, state_in_row}
+use Rattle.band_rows.specs.Rows.{AreLong, state_in_row}
 use Rattle.band_rows.proofs.Bands.{field}
 use Rattle.band_rows.proofs.Same.{same_state}
 use Rattle.band_core.specs.Band.{AreShown}

@@ -1,18 +1,19 @@
 -- A band in which nothing can change shows the next plane as it is.
-use Rattle.std.proofs.Common.{ℤ, pos, negsuc, ◌+ℤ◌, ◌-ℤ◌, ℕ, zero, suc, ◌+◌, ◌-◌, ◌*◌, ◌/◌, ◌%◌, min, ◌<◌, ◌≤◌, ◌≡◌, refl, sym, ap, ap₂, subst, ◌∙◌, inl, inr, Bool, true, false, cond, List, length, get_or, drop, arith}
+use Rattle.ww_rule.specs.Due.{AreLeftAt}
+use Rattle.std.proofs.Common.{ℤ, pos, negsuc, ◌+ℤ◌, ◌-ℤ◌, ℕ, zero, suc, ◌+◌, ◌-◌, ◌<◌, ◌≡◌, refl, sym, ap, ap₂, subst, ◌∙◌, inl, inr, Bool, true, false, cond, List, length, get_or, drop, arith}
 use Rattle.std.specs.Prelude.{◌≢◌}
 use Rattle.std.proofs.lemmas.Int.{ints}
 use Rattle.std.proofs.lemmas.Bool.{cases_lt}
 use Rattle.ww_rule.specs.declared.pattern.State.{State}
 use Rattle.ww_rule.specs.declared.pattern.State.TheVariants.{Empty, Head, Tail, Conductor}
-use Rattle.ww_rule.specs.Wireworld.{Plane, Due, count_head, heads_around, next_plane, next_state, injected}
+use Rattle.ww_rule.specs.Wireworld.{Plane, Due, count_head, heads_around, next_plane, next_state}
 use Rattle.ww_rule.specs.Grid.{in_box}
-use Rattle.lane_kernel.specs.Rows.{is_set, row_state, state_of}
+use Rattle.lane_kernel.specs.Rows.{is_set, state_of}
 use Rattle.lane_kernel.proofs.Counting.{count_is}
-use Rattle.band_rows.specs.Rows.{AreLong, ShowRows, ShowsHeads, row_heads, row_tails, row_wires}
+use Rattle.band_rows.specs.Rows.{AreLong, ShowRows, ShowsHeads, row_wires}
 use Rattle.band_rows.proofs.Marks.{none_set}
 use Rattle.band_core.specs.declared.band.Band.{Band}
-use Rattle.band_core.specs.Band.{AreUnlit, AreDueIn, AreInRows, AreLeftAt, HasNoneDue, IsBand, IsEvolution, IsQuiet, ShowsBand, due_count}
+use Rattle.band_core.specs.Band.{AreUnlit, AreDueIn, AreInRows, HasNoneDue, IsBand, IsEvolution, IsQuiet, ShowsBand}
 use Rattle.band_core.proofs.Left.{left_after}
 
 pub rests : (words y many : ℕ) (band next : Band) → next.rows ≡ band.rows → next.injections ≡ band.injections → next.done ≡ band.done → length next.top.heads.items ≡ words → length next.bottom.heads.items ≡ words → IsBand words y many band → IsBand words y many next

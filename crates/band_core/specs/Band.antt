@@ -1,6 +1,6 @@
 -- One band: its rows, the rows of heads that it keeps for its neighbours, and its own injections.
-use Rattle.std.specs.Prelude.{ℤ, pos, ◌+ℤ◌, ◌-ℤ◌, ℕ, suc, ◌+◌, ◌-◌, ◌/◌, ◌≤◌, ◌<◌, ◌≡◌, ◌==◌, true, false, if◌then◌else◌, List, [], ◌∷◌, ◌++◌, length, get_or, map, filter, drop, All, min, ◌*◌}
-use Rattle.std.specs.List.{prefix_len}
+use Rattle.ww_rule.specs.Due.{AreLeftAt, due_count}
+use Rattle.std.specs.Prelude.{pos, ◌+ℤ◌, ◌-ℤ◌, ℕ, ◌+◌, ◌-◌, ◌/◌, ◌≤◌, ◌<◌, ◌≡◌, ◌==◌, true, false, if◌then◌else◌, List, [], ◌∷◌, length, get_or, map, drop, All, min, ◌*◌}
 use Rattle.ww_rule.specs.declared.pattern.Injection.{Injection}
 use Rattle.ww_rule.specs.Wireworld.{Plane, Due, count_head, next_plane, injected}
 use Rattle.ww_rule.specs.Grid.{IsEmptyOutside}
@@ -11,27 +11,16 @@ use Rattle.lane_kernel.specs.Rows.{is_set, row_state}
 use Rattle.band_rows.specs.declared.row.Row.{Row}
 use Rattle.band_rows.specs.Rows.{AreLong, ShowRows, ShowsHeads, row_heads, row_tails, row_wires}
 use Rattle.band_core.specs.declared.band.Band.{Band}
-use Rattle.band_core.specs.Bands.{AreInOrderFrom, bands_in}
+use Rattle.band_core.specs.Bands.{bands_in}
 
 -- planes that follow the rule and are driven, in a box
 pub record IsEvolution (e : ℕ → Plane) (due : Due) (width rows : ℕ) : Type 0 where
   pub next : (g : ℕ) → e (g + 1) ≡ injected (due (g + 1)) (next_plane (e g))
   pub empty : (g : ℕ) → IsEmptyOutside width rows (e g)
 
--- how many injections at the front are of a generation
-abbrev pub due_count : ℕ → List Injection → ℕ
-due_count generation injections = prefix_len (λ i. i.generation == generation) injections
-
 -- the cells of injections
 abbrev pub injected_cells : List Injection → List (ℕ × ℕ)
 injected_cells injections = map (λ i. (i.x, i.y)) injections
-
--- Of a list of injections these are left when a generation comes: all that stand before them are earlier, and they are in order.
-pub record AreLeftAt (generation : ℕ) (injections left : List Injection) : Type 0 where
-  pub used : List Injection
-  pub parts : injections ≡ used ++ left
-  pub earlier : All (λ i. i.generation < generation) used
-  pub in_order : AreInOrderFrom generation left
 
 -- injections at cells of `many` rows from row y on, within so many words
 abbrev pub AreInRows : (words y many : ℕ) → List Injection → Type 0

@@ -1,13 +1,14 @@
 -- A driven pattern in bands of rows, each at a generation of its own.
-use Rattle.std.specs.Prelude.{ℤ, pos, ℕ, zero, suc, ◌+◌, ◌-◌, ◌*◌, ◌/◌, ◌≤◌, ◌<◌, ◌≡◌, ◌⊎◌, ⊤, true, ◌||◌, ◌==◌, nat_lt, if◌then◌else◌, List, [], ◌∷◌, length, get_or, slice_set, replicate, All, Some, None}
+use Rattle.std.specs.Prelude.{pos, ℕ, zero, suc, ◌+◌, ◌-◌, ◌*◌, ◌/◌, ◌≤◌, ◌<◌, ◌≡◌, ◌⊎◌, true, ◌||◌, ◌==◌, nat_lt, if◌then◌else◌, List, length, get_or, slice_set, replicate, Some, None}
 use Rattle.std.specs.declared.option.Option.{Option}
 use Rattle.std.specs.Option.{option_or}
+use Rattle.ww_rule.specs.Due.{AreInOrderFrom}
 use Rattle.ww_rule.specs.declared.pattern.State.{State}
 use Rattle.ww_rule.specs.declared.pattern.State.TheVariants.{Head, Tail}
 use Rattle.ww_rule.specs.declared.pattern.Injection.{Injection}
 use Rattle.ww_rule.specs.Wireworld.{driven}
 use Rattle.ww_rule.specs.Grid.{Grid, IsGrid, plane_of}
-use Rattle.ww_rule.specs.Injections.{due_of_list}
+use Rattle.ww_rule.specs.Injections.{AreInside, due_of_list}
 use Rattle.band_core.specs.declared.error.NotReady.{NotReady}
 use Rattle.band_core.specs.declared.error.NotSkipped.{NotSkipped}
 use Rattle.band_core.specs.declared.error.NotSkipped.TheVariants as not_skipped
@@ -19,15 +20,6 @@ pub record BandedPattern : Type 0 where
   pub injections : List Injection
   pub height : ℕ
   pub generations : List ℕ
-
--- injections in the order of their generations, none of them before a generation
-abbrev pub AreInOrderFrom : ℕ → List Injection → Type 0
-AreInOrderFrom generation [] = ⊤
-AreInOrderFrom generation (injection ∷ later) = (generation ≤ injection.generation) × AreInOrderFrom injection.generation later
-
--- injections at cells of a box
-abbrev pub AreInside : (width height : ℕ) → List Injection → Type 0
-AreInside width height injections = All (λ i. (i.x < width) × (i.y < height)) injections
 
 -- how many bands of a height so many rows make; the last one may be short
 abbrev pub bands_in : (rows height : ℕ) → ℕ

@@ -1,11 +1,12 @@
 -- What `Bands` hold, and what their callers see of it.
+use Rattle.ww_rule.specs.Due.{AreInOrderFrom}
 use Rattle.std.specs.Prelude.{ℕ, ◌≤◌, ◌<◌, ◌^◌, ◌≡◌, length, get_or}
 use Rattle.ww_rule.specs.Wireworld.{driven}
 use Rattle.ww_rule.specs.Grid.{plane_of}
 use Rattle.ww_rule.specs.Patterns.{grid_of}
-use Rattle.ww_rule.specs.Injections.{due_of_list}
+use Rattle.ww_rule.specs.Injections.{due_of_list, AreInside}
 use Rattle.band_core.specs.declared.bands.Bands.TheInside.{Inside}
-use Rattle.band_core.specs.Bands.{BandedPattern, AreInside, AreInOrderFrom}
+use Rattle.band_core.specs.Bands.{BandedPattern}
 use Rattle.band_core.specs.Band.{AreBands, AllShow, generations_of}
 
 abbrev pub held_pattern : Inside → BandedPattern

@@ -1,10 +1,11 @@
 // One band.
+ghost use Rattle.ww_rule.specs.Due.{due_count};
 ghost use Rattle.std.specs.Prelude.{◌≡◌, ◌+◌, ◌-◌, ◌<◌, ◌≤◌, ◌^◌, ◌+ℤ◌, ◌-ℤ◌, ℕ, pos, length, get_or, drop, take, IfOk, All};
 ghost use Rattle.ww_rule.specs.Wireworld.{Plane, Due, next_plane, injected};
 ghost use Rattle.ww_rule.specs.Injections.{has_cell};
 ghost use Rattle.lane_kernel.specs.Spans.{IsDarkBeyond};
 ghost use Rattle.band_rows.specs.Rows.{AreLong, IsEmptyWest, ShowRows, ShowsHeads, row_heads, row_tails};
-ghost use Rattle.band_core.specs.Band.{AreInRows, IsBand, IsEvolution, ShowsBand, AreUnlit, bottom_at, top_at, injected_cells, due_count};
+ghost use Rattle.band_core.specs.Band.{AreInRows, IsBand, IsEvolution, ShowsBand, AreUnlit, bottom_at, top_at, injected_cells};
 
 use band_rows::{Kept, Row, Span, step_band};
 use std::alloc::Global;

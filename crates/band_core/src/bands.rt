@@ -1,7 +1,9 @@
 // Bands of rows.
+ghost use Rattle.ww_rule.specs.Injections.{AreInside};
+ghost use Rattle.ww_rule.specs.Due.{AreInOrderFrom};
 ghost use Rattle.std.specs.Prelude.{◌≡◌, ◌+◌, ◌*◌, ◌<◌, ◌≤◌, ◌^◌, ◌⊎◌, ℕ, pos, All, length, IfOk, IfErr, OnOk, OnErr, Some, None};
 ghost use Rattle.ww_rule.specs.Patterns.{grid_of};
-ghost use Rattle.band_core.specs.Bands.{AreInOrderFrom, AreInside, IsBandedPattern, IsCellOf, IsAwake, HasReasonToStay, begun, band_at, generation_of, moved_on, unready_neighbour};
+ghost use Rattle.band_core.specs.Bands.{IsBandedPattern, IsCellOf, IsAwake, HasReasonToStay, begun, band_at, generation_of, moved_on, unready_neighbour};
 
 use crate::band::Band;
 use crate::error::{BandsError, NotReady, NotSkipped};

@@ -11,7 +11,7 @@ use Rattle.pattern_reading.proofs.PortsInside.{ports_inside}
 use Rattle.drive.specs.declared.error.SimulateError.{SimulateError}
 use Rattle.drive.specs.declared.error.SimulateError.TheVariants as simulating
 use Rattle.pattern_reading.specs.Ports.{cells_of}
-use Rattle.drive.specs.Driving.{HasCause, last_generation, greatest_generation}
+use Rattle.drive.specs.Driving.{HasSimulateCause, last_generation, greatest_generation}
 use Rattle.command_words.specs.Shapes.{simulate, IsCommand}
 use Rattle.command_words.specs.declared.errors.WordsError.{WordsError}
 use Rattle.command_words.specs.declared.errors.WordsError.TheVariants as words_error
@@ -33,7 +33,7 @@ ins_in_box text width height ports h =
 
 -- a simulation that is not run
 pub time_refused : (cycles : ℕ) (words : List (List ℕ)) (text : List ℕ) (s : Simulation) (e : SimulateError) → IsSimulation cycles words text s
-    → HasCause (last_generation s.ports s.streams) e → (simulate_refusal e ≡ NoMemory) ⊎ IsRefused cycles words text (simulate_refusal e)
+    → HasSimulateCause (last_generation s.ports s.streams) e → (simulate_refusal e ≡ NoMemory) ⊎ IsRefused cycles words text (simulate_refusal e)
 time_refused cycles words text s simulating.NoMemory h cause = inl refl
 time_refused cycles words text s (simulating.TooFar generations) h cause =
     inr (s, h, cause.0, subst (λ (n : ℕ). greatest_generation < n) (sym cause.0) cause.1)

@@ -2,7 +2,7 @@
 use Rattle.std.specs.Prelude.{◌≡◌, ◌+◌, ◌*◌, pos, ℕ, Bool, if◌then◌else◌, List, ◌++◌, map, flat_map, codes}
 use Rattle.std.specs.List.{range_with_len}
 use Rattle.std.specs.Str.{byte}
-use Rattle.ww_rule.specs.Wireworld.{Plane}
+use Rattle.ww_rule.specs.Wireworld.{Plane, is_head}
 use Rattle.ww_rule.specs.Grid.{Grid, plane_of}
 use Rattle.pattern_reading.specs.declared.ports.PortLine.{PortLine}
 use Rattle.pattern_reading.specs.declared.ports.Ports.{Ports}
@@ -11,7 +11,7 @@ use Rattle.pattern_reading.specs.Pattern.{ReadsWithinLimit}
 use Rattle.pattern_reading.specs.PortTable.{ReadsAsPorts}
 use Rattle.drive.specs.declared.streams.Streams.{Streams}
 use Rattle.drive.specs.Streams.{HasStreams}
-use Rattle.drive.specs.Driving.{driven_by, is_head}
+use Rattle.drive.specs.Driving.{driven_by}
 
 -- a pattern, its ports, and streams for its inputs
 pub record Simulation : Type 0 where

@@ -5,7 +5,7 @@ use Rattle.std.specs.List.{list_any, position_or_len, position}
 use Rattle.std.proofs.lemmas.List.{reverse-append}
 use Rattle.std.proofs.lemmas.Bool.Decides.{nat_tests}
 use Rattle.std.proofs.lemmas.List.Folds.{list_any-append}
-use Rattle.drive.specs.Words.{is_equals}
+use Rattle.drive.specs.Words.{is_equals_sign}
 
 or_flip : (a b : Bool) → (a || (b || false)) ≡ (b || a)
 or_flip true true = refl
@@ -39,16 +39,16 @@ place_some true m n e = (refl, cc)
 place_some false m n e = cc
 
 -- a word without the byte
-pub not_cut : (word : List ℕ) → position is_equals (reverse word) ≡ None → list_any is_equals word ≡ false
+pub not_cut : (word : List ℕ) → position is_equals_sign (reverse word) ≡ None → list_any is_equals_sign word ≡ false
 not_cut word e =
     let back = reverse word in
-    sym (any_reversed is_equals word)
-    ∙ any_place is_equals back
-    ∙ place_none (nat_lt (position_or_len is_equals back) (length back)) (position_or_len is_equals back) e
+    sym (any_reversed is_equals_sign word)
+    ∙ any_place is_equals_sign back
+    ∙ place_none (nat_lt (position_or_len is_equals_sign back) (length back)) (position_or_len is_equals_sign back) e
 
 -- a word with it: the place of the last one, counted from the end
-pub is_cut : (word : List ℕ) (count : ℕ) → position is_equals (reverse word) ≡ Some count → (list_any is_equals word ≡ true) × (position_or_len is_equals (reverse word) ≡ count)
+pub is_cut : (word : List ℕ) (count : ℕ) → position is_equals_sign (reverse word) ≡ Some count → (list_any is_equals_sign word ≡ true) × (position_or_len is_equals_sign (reverse word) ≡ count)
 is_cut word count e =
     let back = reverse word in
-    let parts = place_some (nat_lt (position_or_len is_equals back) (length back)) (position_or_len is_equals back) count e in
-    (sym (any_reversed is_equals word) ∙ any_place is_equals back ∙ parts.0, parts.1)
+    let parts = place_some (nat_lt (position_or_len is_equals_sign back) (length back)) (position_or_len is_equals_sign back) count e in
+    (sym (any_reversed is_equals_sign word) ∙ any_place is_equals_sign back ∙ parts.0, parts.1)

@@ -7,18 +7,18 @@ use Rattle.std.specs.Str.{bytes_eq}
 use Rattle.std.proofs.lemmas.Bool.{eqb-true}
 use Rattle.std.proofs.lemmas.List.{length-map, drop_more}
 use Rattle.drive.specs.declared.error.StreamFaultKind.TheVariants.{NoEquals, UnknownInput, TwiceInput, BadBit, BadLength, MissingInput}
-use Rattle.drive.specs.Words.{has_name, is_equals, is_bit, name_in, bits_in, fault_of_word}
-use Rattle.drive.specs.Streams.{fault_at, faults_after, bits_for, stream_in, streams_of, missing_names}
+use Rattle.drive.specs.Words.{word_has_name, is_equals_sign, is_bit, name_in, bits_in, fault_of_word}
+use Rattle.drive.specs.Streams.{stream_fault, stream_faults_after, bits_for, stream_in, streams_of, missing_names}
 
 abbrev is_some_bits : Option (List ℕ) → Bool
 is_some_bits None = false
 is_some_bits (Some bits) = true
 
 -- a name has bits exactly when a word has it
-pub any_bits : (words : List (List ℕ)) (name : List ℕ) → is_some_bits (bits_for words name) ≡ list_any (has_name name) words
+pub any_bits : (words : List (List ℕ)) (name : List ℕ) → is_some_bits (bits_for words name) ≡ list_any (word_has_name name) words
 any_bits [] name = refl
 any_bits (word ∷ words) name =
-    elim (has_name name word) as (λ b. is_some_bits (option_map bits_in (cond b (Some word) (find (has_name name) words))) ≡ (b || list_any (has_name name) words)) [
+    elim (word_has_name name word) as (λ b. is_some_bits (option_map bits_in (cond b (Some word) (find (word_has_name name) words))) ≡ (b || list_any (word_has_name name) words)) [
       | true ↦ refl
       | false ↦ any_bits words name
     ]
@@ -43,8 +43,8 @@ missing_more words names i name lt at e =
     ap (missing_names words) d ∙ missing_at words (drop (i + 1) names) name e
 
 -- a missing name is answered as such
-pub is_missing : (words names : List (List ℕ)) (name : List ℕ) (rest : List (List ℕ)) → missing_names words names ≡ name ∷ rest → slice_get (map (λ name. fault_at name MissingInput) (missing_names words names)) 0 ≡ Some (fault_at name MissingInput)
-is_missing words names name rest e = ap (λ names. slice_get (map (λ name. fault_at name MissingInput) names) 0) e
+pub is_missing : (words names : List (List ℕ)) (name : List ℕ) (rest : List (List ℕ)) → missing_names words names ≡ name ∷ rest → slice_get (map (λ name. stream_fault name MissingInput) (missing_names words names)) 0 ≡ Some (stream_fault name MissingInput)
+is_missing words names name rest e = ap (λ names. slice_get (map (λ name. stream_fault name MissingInput) names) 0) e
 
 -- a word without fault has as many bits as there are cycles
 last_holds : (a b c d e : Bool) → (if a then Some NoEquals else if b then Some UnknownInput else if c then Some TwiceInput else if d then Some BadBit else if not e then Some BadLength else None) ≡ None → e ≡ true
@@ -57,16 +57,16 @@ last_holds false false false false false h = cc
 
 has_all_bits : (names : List (List ℕ)) (cycles : ℕ) (before : List (List ℕ)) (word : List ℕ) → fault_of_word names cycles before word ≡ None → length (bits_in word) ≡ cycles
 has_all_bits names cycles before word h =
-    eqb-true (length (bits_in word)) cycles (last_holds (not (list_any is_equals word)) (not (list_any (bytes_eq (name_in word)) names)) (list_any (has_name (name_in word)) before) (not (list_all is_bit (bits_in word))) (length (bits_in word) == cycles) h)
+    eqb-true (length (bits_in word)) cycles (last_holds (not (list_any is_equals_sign word)) (not (list_any (bytes_eq (name_in word)) names)) (list_any (word_has_name (name_in word)) before) (not (list_all is_bit (bits_in word))) (length (bits_in word) == cycles) h)
 
 -- where no word is at fault, each name's bits are as many
-pub bits_long : (names : List (List ℕ)) (cycles : ℕ) (before words : List (List ℕ)) → faults_after names cycles before words ≡ [] → (name bits : List ℕ) → bits_for words name ≡ Some bits → length bits ≡ cycles
+pub bits_long : (names : List (List ℕ)) (cycles : ℕ) (before words : List (List ℕ)) → stream_faults_after names cycles before words ≡ [] → (name bits : List ℕ) → bits_for words name ≡ Some bits → length bits ≡ cycles
 bits_long names cycles before [] h name bits e = cc
 bits_long names cycles before (word ∷ words) h name bits e =
-    elim (fault_of_word names cycles before word) as (λ f. fault_of_word names cycles before word ≡ f → cons_option (option_map (fault_at word) f) (faults_after names cycles (before ++ word ∷ []) words) ≡ [] → length bits ≡ cycles) [
+    elim (fault_of_word names cycles before word) as (λ f. fault_of_word names cycles before word ≡ f → cons_option (option_map (stream_fault word) f) (stream_faults_after names cycles (before ++ word ∷ []) words) ≡ [] → length bits ≡ cycles) [
       | Some kind ↦ λ is h. cc
       | None ↦ λ is h.
-          elim (has_name name word) as (λ b. option_map bits_in (cond b (Some word) (find (has_name name) words)) ≡ Some bits → length bits ≡ cycles) [
+          elim (word_has_name name word) as (λ b. option_map bits_in (cond b (Some word) (find (word_has_name name) words)) ≡ Some bits → length bits ≡ cycles) [
             | true ↦ λ e. let same : bits_in word ≡ bits = cc in sym (ap length same) ∙ has_all_bits names cycles before word is
             | false ↦ λ e. bits_long names cycles (before ++ word ∷ []) words h name bits e
           ] e

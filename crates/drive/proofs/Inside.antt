@@ -3,8 +3,7 @@ use Rattle.std.proofs.Common.{ℕ, ◌≡◌, ◌<◌, ◌+◌, sym, subst, Bool
 use Rattle.std.proofs.lemmas.List.Elements.{All-nil, All-cons, All-head, All-tail, All-append, All-map, All-take, All-drop}
 use Rattle.ww_rule.specs.declared.pattern.Injection.{Injection}
 use Rattle.ww_rule.specs.Grid.{AreInBox}
-use Rattle.ww_rule.specs.Injections.{injections_of_row, injections_from}
-use Rattle.drive.specs.Driving.{AreInside}
+use Rattle.ww_rule.specs.Injections.{injections_of_row, injections_from, AreInside}
 
 -- the first of injections have cells inside
 pub due_inside : (width height k : ℕ) (injections due : List Injection) → due ≡ take k injections → AreInside width height injections → AreInBox width height (map (λ i. (i.x, i.y)) due)

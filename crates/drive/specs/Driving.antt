@@ -1,10 +1,8 @@
 -- A pattern driven by streams, and the bits that its outputs show.
-use Rattle.std.specs.Prelude.{◌≡◌, ◌<◌, ⊤, ℕ, pos, ◌+◌, ◌*◌, ◌-◌, Bool, true, false, List, length, map, All, slice_get, unwrap_or}
+use Rattle.std.specs.Prelude.{◌≡◌, ◌<◌, ⊤, ℕ, pos, ◌+◌, ◌*◌, ◌-◌, Bool, false, List, length, map, All, slice_get, unwrap_or}
 use Rattle.std.specs.List.{range_with_len}
-use Rattle.ww_rule.specs.declared.pattern.State.{State}
-use Rattle.ww_rule.specs.declared.pattern.State.TheVariants.{Head}
 use Rattle.ww_rule.specs.declared.pattern.Injection.{Injection}
-use Rattle.ww_rule.specs.Wireworld.{Plane, driven}
+use Rattle.ww_rule.specs.Wireworld.{Plane, driven, is_head}
 use Rattle.ww_rule.specs.Injections.{injections_from, due_of_streams}
 use Rattle.pattern_reading.specs.declared.ports.Ports.{Ports}
 use Rattle.pattern_reading.specs.declared.ports.PortLine.{PortLine}
@@ -23,29 +21,21 @@ abbrev pub column_of : List (List Bool) → ℕ → List Bool
 column_of lists place = map (λ bits. unwrap_or (slice_get bits place) false) lists
 
 -- the bits of all inputs in a cycle
-abbrev pub row_of : Streams → ℕ → List Bool
-row_of streams cycle = column_of streams.bits cycle
+abbrev pub stream_row : Streams → ℕ → List Bool
+stream_row streams cycle = column_of streams.bits cycle
 
 -- a row of input bits for each cycle
 abbrev pub rows_of : Streams → List (List Bool)
-rows_of streams = map (row_of streams) (range_with_len 0 streams.cycles)
+rows_of streams = map (stream_row streams) (range_with_len 0 streams.cycles)
 
 -- one injection at generation t P, at the cell of input i, for each cycle t and input i whose bit is 1: cycle after cycle,
 -- and in a cycle in the order of the inputs
 abbrev pub injections_of : Ports → Streams → List Injection
 injections_of ports streams = injections_from 0 ports.p (cells_of ports.ins) (rows_of streams)
 
--- injections at cells of a box
-abbrev pub AreInside : (width height : ℕ) → List Injection → Type 0
-AreInside width height injections = All (λ i. (i.x < width) × (i.y < height)) injections
-
 -- the pattern's planes, where those injections drive it
 abbrev pub driven_by : Ports → Streams → Plane → ℕ → Plane
 driven_by ports streams plane = driven (due_of_streams ports.p (cells_of ports.ins) (rows_of streams)) plane
-
-abbrev pub is_head : State → Bool
-is_head Head = true
-is_head _ = false
 
 -- the bits that a plane shows at these port lines: 1 where the cell is a head
 abbrev pub shown_row : Plane → List PortLine → List Bool
@@ -70,6 +60,6 @@ abbrev pub last_generation : Ports → Streams → ℕ
 last_generation ports streams = ports.l + (streams.cycles - 1) * ports.p
 
 -- why a run that needs so many generations gives no bits
-abbrev pub HasCause : ℕ → SimulateError → Type 0
-HasCause needed NoMemory = ⊤
-HasCause needed (TooFar generations) = (generations ≡ needed) × (greatest_generation < needed)
+abbrev pub HasSimulateCause : ℕ → SimulateError → Type 0
+HasSimulateCause needed NoMemory = ⊤
+HasSimulateCause needed (TooFar generations) = (generations ≡ needed) × (greatest_generation < needed)

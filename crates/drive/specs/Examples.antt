@@ -2,7 +2,7 @@
 use Rattle.std.specs.Prelude.{ℕ, true, false, List, [], ◌∷◌, codes}
 use Rattle.drive.specs.declared.error.StreamFaultKind.{StreamFaultKind}
 use Rattle.drive.specs.declared.error.StreamFaultKind.TheVariants.{NoEquals, UnknownInput, TwiceInput, BadBit, BadLength, MissingInput}
-use Rattle.drive.specs.Streams.{HasStreams, HasStreamFault, fault_at}
+use Rattle.drive.specs.Streams.{HasStreams, HasStreamFault, stream_fault}
 
 -- words, and what is said of them: the fault, and the word at fault or the missing name
 pub record FaultExample : Type 0 where
@@ -13,8 +13,8 @@ pub record FaultExample : Type 0 where
 abbrev pub said : List (List ℕ) → StreamFaultKind → List ℕ → FaultExample
 said words kind at = record { words = words; kind = kind; at = at }
 
-abbrev pub HasSaidFault : FaultExample → Type 0
-HasSaidFault e = HasStreamFault e.words (codes "a" ∷ codes "b" ∷ []) 2 (fault_at e.at e.kind)
+abbrev pub SaysStreamFault : FaultExample → Type 0
+SaysStreamFault e = HasStreamFault e.words (codes "a" ∷ codes "b" ∷ []) 2 (stream_fault e.at e.kind)
 
 abbrev pub fault_examples : List FaultExample
 fault_examples =

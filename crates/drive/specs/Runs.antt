@@ -1,28 +1,11 @@
 -- A pattern's run under a list of injections, and which of them are still to come.
-use Rattle.std.specs.Prelude.{◌≡◌, ◌≤◌, ◌<◌, ◌+◌, ◌==◌, ⊤, ℕ, List, [], ◌∷◌, ◌++◌, All}
-use Rattle.std.specs.List.{prefix_len}
+use Rattle.std.specs.Prelude.{◌≡◌, ◌+◌, ℕ, List}
 use Rattle.ww_rule.specs.declared.pattern.Injection.{Injection}
 use Rattle.ww_rule.specs.Wireworld.{Plane, driven}
 use Rattle.ww_rule.specs.Grid.{plane_of}
-use Rattle.ww_rule.specs.Injections.{due_of_list}
+use Rattle.ww_rule.specs.Due.{AreLeftAt}
+use Rattle.ww_rule.specs.Injections.{due_of_list, AreInside}
 use Rattle.drive.specs.declared.run.Run.{Run}
-use Rattle.drive.specs.Driving.{AreInside}
-
--- injections in the order of their generations, none of them before a generation
-abbrev pub AreInOrderFrom : ℕ → List Injection → Type 0
-AreInOrderFrom generation [] = ⊤
-AreInOrderFrom generation (injection ∷ later) = (generation ≤ injection.generation) × AreInOrderFrom injection.generation later
-
--- how many injections at the front are of a generation
-abbrev pub due_count : ℕ → List Injection → ℕ
-due_count generation injections = prefix_len (λ i. i.generation == generation) injections
-
--- Of a list of injections these are left when a generation comes: all that stand before them are earlier, and they are in order.
-pub record AreLeftAt (generation : ℕ) (injections left : List Injection) : Type 0 where
-  pub used : List Injection
-  pub parts : injections ≡ used ++ left
-  pub earlier : All (λ i. i.generation < generation) used
-  pub in_order : AreInOrderFrom generation left
 
 -- the injections that a run has left lie in its box
 abbrev pub IsInside : Run → Type 0

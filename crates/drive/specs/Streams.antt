@@ -9,26 +9,26 @@ use Rattle.drive.specs.declared.error.StreamFaultKind.{StreamFaultKind}
 use Rattle.drive.specs.declared.error.StreamFaultKind.TheVariants.{MissingInput}
 use Rattle.drive.specs.declared.error.StreamError.{StreamError}
 use Rattle.drive.specs.declared.error.StreamError.TheVariants.{NoMemory, Fault}
-use Rattle.drive.specs.Words.{has_name, bits_in, fault_of_word}
+use Rattle.drive.specs.Words.{word_has_name, bits_in, fault_of_word}
 
-abbrev pub fault_at : List ℕ → StreamFaultKind → StreamFault
-fault_at word kind = record { kind = kind; word = word }
+abbrev pub stream_fault : List ℕ → StreamFaultKind → StreamFault
+stream_fault word kind = record { kind = kind; word = word }
 
 -- the words at fault among the later ones, in order, where others stand before them
-abbrev pub faults_after : (names : List (List ℕ)) → (cycles : ℕ) → (before later : List (List ℕ)) → List StreamFault
-faults_after names cycles before [] = []
-faults_after names cycles before (word ∷ words) =
-    cons_option (option_map (fault_at word) (fault_of_word names cycles before word))
-    (faults_after names cycles (before ++ word ∷ []) words)
+abbrev pub stream_faults_after : (names : List (List ℕ)) → (cycles : ℕ) → (before later : List (List ℕ)) → List StreamFault
+stream_faults_after names cycles before [] = []
+stream_faults_after names cycles before (word ∷ words) =
+    cons_option (option_map (stream_fault word) (fault_of_word names cycles before word))
+    (stream_faults_after names cycles (before ++ word ∷ []) words)
 
 -- the names that no word has, in order
 abbrev pub missing_names : List (List ℕ) → List (List ℕ) → List (List ℕ)
-missing_names words names = filter (λ name. not (list_any (has_name name) words)) names
+missing_names words names = filter (λ name. not (list_any (word_has_name name) words)) names
 
 -- the faults of the words, from left to right, and then the missing inputs
 abbrev pub stream_faults : (words names : List (List ℕ)) → (cycles : ℕ) → List StreamFault
 stream_faults words names cycles =
-    faults_after names cycles [] words ++ map (λ name. fault_at name MissingInput) (missing_names words names)
+    stream_faults_after names cycles [] words ++ map (λ name. stream_fault name MissingInput) (missing_names words names)
 
 -- This is the first fault.
 abbrev pub HasStreamFault : (words names : List (List ℕ)) → (cycles : ℕ) → StreamFault → Type 0
@@ -36,7 +36,7 @@ HasStreamFault words names cycles fault = slice_get (stream_faults words names c
 
 -- the bits that the words say for the input of a name, if one of them has it
 abbrev pub bits_for : List (List ℕ) → List ℕ → Option (List ℕ)
-bits_for words name = option_map bits_in (find (has_name name) words)
+bits_for words name = option_map bits_in (find (word_has_name name) words)
 
 -- the stream that bits spell: `1` is 1
 abbrev pub stream_in : List ℕ → List Bool
@@ -52,12 +52,12 @@ pub record HasStreams (words names : List (List ℕ)) (cycles : ℕ) (bits : Lis
   pub bits_is : bits ≡ streams_of words names
 
 -- why the words give no streams
-abbrev pub HasCause : (words names : List (List ℕ)) → (cycles : ℕ) → StreamError → Type 0
-HasCause words names cycles NoMemory = ⊤
-HasCause words names cycles (Fault fault) = HasStreamFault words names cycles fault
+abbrev pub HasStreamCause : (words names : List (List ℕ)) → (cycles : ℕ) → StreamError → Type 0
+HasStreamCause words names cycles NoMemory = ⊤
+HasStreamCause words names cycles (Fault fault) = HasStreamFault words names cycles fault
 
 -- why not each name has a word
 abbrev pub IsMissing : (words names : List (List ℕ)) → StreamError → Type 0
 IsMissing words names NoMemory = ⊤
 IsMissing words names (Fault fault) =
-    slice_get (map (λ name. fault_at name MissingInput) (missing_names words names)) 0 ≡ Some fault
+    slice_get (map (λ name. stream_fault name MissingInput) (missing_names words names)) 0 ≡ Some fault

@@ -1,8 +1,9 @@
 // A pattern's run under injections, generation after generation.
+ghost use Rattle.ww_rule.specs.Due.{AreInOrderFrom, due_count};
+ghost use Rattle.ww_rule.specs.Injections.{AreInside};
 ghost use Rattle.std.specs.Prelude.{◌≡◌, ◌≤◌, ◌<◌, ◌+◌, ◌^◌, IfOk, drop, length, map, take};
 ghost use Rattle.ww_rule.specs.Grid.{plane_of};
-ghost use Rattle.drive.specs.Driving.{AreInside};
-ghost use Rattle.drive.specs.Runs.{AreInOrderFrom, IsInside, IsRunOf, LeadsTo, due_count};
+ghost use Rattle.drive.specs.Runs.{IsInside, IsRunOf, LeadsTo};
 
 use crate::error::DriveError;
 use std::alloc::{AllocError, Global};

@@ -1,8 +1,9 @@
 // The run of a pattern under streams, by the plain step.
+ghost use Rattle.ww_rule.specs.Wireworld.{is_head};
 ghost use Rattle.std.specs.Prelude.{◌≡◌, ◌<◌, ◌≤◌, pos, IfOk, IfErr, OnOk};
 ghost use Rattle.ww_rule.specs.Grid.{AreInBox, plane_of};
 ghost use Rattle.pattern_reading.specs.Ports.{cells_of};
-ghost use Rattle.drive.specs.Driving.{AreFor, is_head, shown_row, shown_rows, shown_bits, greatest_generation, last_generation, HasCause};
+ghost use Rattle.drive.specs.Driving.{AreFor, shown_row, shown_rows, shown_bits, greatest_generation, last_generation, HasSimulateCause};
 
 use crate::columns::columns_of;
 use crate::driving::injections;
@@ -73,7 +74,7 @@ pub fn simulate(
     requires in_box { AreInBox pattern.width pattern.height (cells_of ports.now.ins) }
     ensures near { OnOk result (last_generation ports.now streams.now ≤ greatest_generation) }
     ensures bits { IfOk result (λ bits. bits ≡ shown_bits ports.now streams.now (plane_of pattern.rows)) }
-    ensures refused { IfErr result (HasCause (last_generation ports.now streams.now)) }
+    ensures refused { IfErr result (HasSimulateCause (last_generation ports.now streams.now)) }
 {
     let generations = ports.l as u128 + (streams.cycles as u128 - 1) * ports.p as u128;
     if generations > GREATEST_GENERATION {

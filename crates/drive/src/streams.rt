@@ -1,7 +1,7 @@
 // Streams of bits for the inputs, read from words.
 ghost use Rattle.std.specs.Prelude.{◌≡◌, ◌⊎◌, [], All, length, map, string_bytes, slice_get, IfOk, IfErr};
 ghost use Rattle.std.specs.Option.{MatchOption, option_copied};
-ghost use Rattle.drive.specs.Streams.{HasStreams, HasCause, fault_at, faults_after, bits_for, stream_in, streams_of, missing_names, IsMissing};
+ghost use Rattle.drive.specs.Streams.{HasStreams, HasStreamCause, stream_fault, stream_faults_after, bits_for, stream_in, streams_of, missing_names, IsMissing};
 ghost use Rattle.drive.specs.declared.error.StreamError.TheVariants.{NoMemory, Fault};
 
 use crate::error::{StreamError, StreamFault, StreamFaultKind};
@@ -22,8 +22,8 @@ fn first_fault<'a>(
     names: &[Bytes],
     cycles: usize,
 ) -> Option<(StreamFaultKind, &'a [u8])>
-    ensures { MatchOption result (faults_after names.now cycles [] (map string_bytes words.now) ≡ [])
-        (λ f. slice_get (faults_after names.now cycles [] (map string_bytes words.now)) 0 ≡ Some (fault_at f.1.now f.0)) }
+    ensures { MatchOption result (stream_faults_after names.now cycles [] (map string_bytes words.now) ≡ [])
+        (λ f. slice_get (stream_faults_after names.now cycles [] (map string_bytes words.now)) 0 ≡ Some (stream_fault f.1.now f.0)) }
 {
     for (i, word) in words.iter().enumerate() {
         if let Some(kind) = fault_of_word(names, cycles, &words[..i], word.as_bytes()) {
@@ -35,7 +35,7 @@ fn first_fault<'a>(
 
 // The answer where a word is at fault: the fault, with a copy of the word.
 fn refusal(alloc: Global, kind: StreamFaultKind, word: &[u8]) -> StreamError
-    ensures { (result ≡ NoMemory) ⊎ (result ≡ Fault (fault_at word.now kind)) }
+    ensures { (result ≡ NoMemory) ⊎ (result ≡ Fault (stream_fault word.now kind)) }
 {
     match word.to_vec(alloc) {
         Ok(bytes) => StreamError::Fault(StreamFault {
@@ -97,7 +97,7 @@ impl Streams {
         ensures streams { IfOk result (λ streams. HasStreams (map string_bytes words.now) names.now cycles streams.bits) }
         ensures many { IfOk result (λ streams. length streams.bits ≡ length names.now) }
         ensures long { IfOk result (λ streams. All (λ bits. length bits ≡ cycles) streams.bits) }
-        ensures fault { IfErr result (HasCause (map string_bytes words.now) names.now cycles) }
+        ensures fault { IfErr result (HasStreamCause (map string_bytes words.now) names.now cycles) }
     {
         if let Some((kind, word)) = first_fault(words, names, cycles) {
             return Err(refusal(alloc, kind, word));

@@ -39,7 +39,7 @@ fn state_of(letter: u8) -> State {
 }
 
 // A row of cells as it is drawn.
-fn row_of(alloc: Global, drawn: &[u8]) -> Result<List<State>, AllocError>
+fn stream_row(alloc: Global, drawn: &[u8]) -> Result<List<State>, AllocError>
     ensures { IfOk result (λ row. length row ≡ length drawn.now) }
 {
     let row = drawn.iter().map(|letter| state_of(*letter)).collect(alloc)?;
@@ -54,7 +54,7 @@ fn wire(alloc: Global) -> Result<Pattern, AllocError>
     Ok(Pattern {
         width: 3,
         height: 1,
-        rows: List::of(Vec::from_array(alloc, [row_of(alloc, b"CCC")?])?),
+        rows: List::of(Vec::from_array(alloc, [stream_row(alloc, b"CCC")?])?),
     })
 }
 
@@ -66,9 +66,9 @@ fn or_gate(alloc: Global) -> Result<Pattern, AllocError>
     let mut rows = Vec::new(alloc);
     for y in 0..32 {
         if 8 <= y && y < 25 {
-            rows.push(row_of(alloc, &OR_ROWS[y - 8])?)?;
+            rows.push(stream_row(alloc, &OR_ROWS[y - 8])?)?;
         } else {
-            rows.push(row_of(alloc, &[b'.'; 33])?)?;
+            rows.push(stream_row(alloc, &[b'.'; 33])?)?;
         }
     }
     Ok(Pattern {

@@ -3,22 +3,22 @@ ghost use Rattle.std.specs.Prelude.{◌≡◌, ◌==◌, map, string_bytes, true
 ghost use Rattle.std.specs.List.{list_any, list_all};
 ghost use Rattle.std.specs.Option.{MatchOption, option_copied};
 ghost use Rattle.std.specs.Str.{bytes_eq};
-ghost use Rattle.drive.specs.Words.{is_equals, name_in, bits_in, has_name, is_bit, fault_of_word};
+ghost use Rattle.drive.specs.Words.{is_equals_sign, name_in, bits_in, word_has_name, is_bit, fault_of_word};
 
 use crate::error::StreamFaultKind;
 use lists::Bytes;
 
 // How many bytes stand after the last `=`.
 fn bits_after(word: &[u8]) -> Option<usize>
-    ensures { result ≡ position is_equals (reverse word.now) }
+    ensures { result ≡ position is_equals_sign (reverse word.now) }
 {
     word.iter().rev().position(|b| *b == b'=')
 }
 
 // The name before the last `=` of a word, and the bits after it.
 fn cut(word: &[u8]) -> Option<(&[u8], &[u8])>
-    ensures { MatchOption result (list_any is_equals word.now ≡ false)
-        (λ parts. (list_any is_equals word.now ≡ true) × (parts.0.now ≡ name_in word.now) × (parts.1.now ≡ bits_in word.now)) }
+    ensures { MatchOption result (list_any is_equals_sign word.now ≡ false)
+        (λ parts. (list_any is_equals_sign word.now ≡ true) × (parts.0.now ≡ name_in word.now) × (parts.1.now ≡ bits_in word.now)) }
 {
     let count = bits_after(word)?;
     let start = word.len() - count;
@@ -27,15 +27,15 @@ fn cut(word: &[u8]) -> Option<(&[u8], &[u8])>
 
 /// The bits of a word that has a name.
 pub fn bits_named<'a>(name: &[u8], word: &'a [u8]) -> Option<&'a [u8]>
-    ensures { option_copied result ≡ (if has_name name.now word.now then Some (bits_in word.now) else None) }
+    ensures { option_copied result ≡ (if word_has_name name.now word.now then Some (bits_in word.now) else None) }
 {
     let (own, bits) = cut(word)?;
     if own == name { Some(bits) } else { None }
 }
 
 // Whether a word has a name.
-fn has_name(name: &[u8], word: &[u8]) -> bool
-    ensures { result ≡ has_name name.now word.now }
+fn word_has_name(name: &[u8], word: &[u8]) -> bool
+    ensures { result ≡ word_has_name name.now word.now }
 {
     bits_named(name, word).is_some()
 }
@@ -56,14 +56,16 @@ fn is_input(names: &[Bytes], name: &[u8]) -> bool
 
 // The same, over the words as they are.
 fn has_one(words: &[String], name: &[u8]) -> bool
-    ensures { result ≡ list_any (λ word. has_name name.now (string_bytes word)) words.now }
+    ensures { result ≡ list_any (λ word. word_has_name name.now (string_bytes word)) words.now }
 {
-    words.iter().any(|word| has_name(name, word.as_bytes()))
+    words
+        .iter()
+        .any(|word| word_has_name(name, word.as_bytes()))
 }
 
 // Whether one of the words has that name.
 fn is_taken(words: &[String], name: &[u8]) -> bool
-    ensures { result ≡ list_any (has_name name.now) (map string_bytes words.now) }
+    ensures { result ≡ list_any (word_has_name name.now) (map string_bytes words.now) }
 {
     has_one(words, name)
 }

@@ -185,11 +185,7 @@ fn with_input(plane: Plane, y: u64, bit: bool) -> Plane
     ensures width { result.width ≡ plane.width }
     ensures height { result.height ≡ plane.height }
 {
-    if bit {
-        plane.inject(&[(0, y)])
-    } else {
-        plane
-    }
+    if bit { plane.inject(&[(0, y)]) } else { plane }
 }
 
 // The plane after some generations by the rule.

@@ -2,7 +2,7 @@
 use Rattle.std.proofs.Common.{ℤ, pos, ℕ, zero, suc, ◌+◌, ◌*◌, ◌/◌, ◌≡◌, ◌↔◌, refl, sym, ap, ◌∙◌, true, false, ◌||◌, ◌&&◌, ◌++◌, reverse, drop, arith, int_eq, inl, inr, ◌⊎◌}
 use Rattle.std.proofs.lemmas.Bool.{or_cases}
 use Rattle.std.proofs.Math.Bool.{or-false}
-use Rattle.ww_rule.specs.declared.pattern.State.TheVariants.{Head, Conductor}
+use Rattle.ww_rule.specs.declared.pattern.State.TheVariants.{Head}
 use Rattle.ww_rule.specs.Wireworld.{Due, driven, next_plane}
 use Rattle.ww_rule.specs.Injections.{MeetsConductors}
 use Rattle.tile_timing.proofs.Sound.{same_place}

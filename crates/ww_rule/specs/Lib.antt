@@ -4,3 +4,4 @@ pub mod Injections
 pub mod Patterns
 pub mod Laws
 pub mod DrivenLaws
+pub mod Due

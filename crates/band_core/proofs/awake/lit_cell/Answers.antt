@@ -1,11 +1,9 @@
-use Rattle.std.proofs.Common.{ℕ, ◌+◌, ◌<◌, ◌≤◌, ◌≡◌, refl, sym, ap, subst, ◌∙◌, inl, inr, false, Some, None, List, length, get_or, arith}
-use Rattle.std.specs.declared.option.Option.{Option}
+use Rattle.std.proofs.Common.{ℕ, ◌+◌, ◌<◌, ◌≤◌, ◌≡◌, refl, ap, subst, ◌∙◌, inl, inr, false, List, length, arith}
 use Rattle.std.proofs.lemmas.Bool.{cases_lt}
 use Rattle.lane_kernel.specs.Rows.{is_set}
 use Rattle.band_rows.specs.declared.row.Row.{Row}
 use Rattle.band_rows.specs.Rows.{row_heads, row_tails}
 use Rattle.band_rows.proofs.Bands.{held}
-use Rattle.band_core.specs.Band.{IsLitIn}
 use Rattle.band_core.specs.Band.IsLitIn.{head, tail}
 use Rattle.band_core.proofs.Options.{none_of}
 use Rattle.band_core.proofs.awake.lit_cell.Goals as goal

@@ -1,7 +1,7 @@
-use Rattle.std.proofs.Common.{ℕ, pos, ◌+◌, ◌-◌, ◌≡◌, ◌<◌, ◌≤◌, sym, ap, subst, ◌∙◌, [], ◌∷◌, length, get_or, take, map, slice_set, arith}
+use Rattle.std.proofs.Common.{ℕ, pos, ◌+◌, ◌-◌, ◌≡◌, ◌<◌, ◌≤◌, sym, ap, subst, ◌∙◌, [], ◌∷◌, length, get_or, take, slice_set, arith}
 use Rattle.std.proofs.lemmas.List.{length-set, length-map, get_or-map, take_all}
 use Rattle.ww_rule.specs.declared.pattern.Injection.{Injection}
-use Rattle.ww_rule.specs.Wireworld.{Plane, injected}
+use Rattle.ww_rule.specs.Wireworld.{injected}
 use Rattle.ww_rule.specs.Injections.{has_cell}
 use Rattle.ww_rule.proofs.Injected.{injected_more}
 use Rattle.band_rows.specs.Rows.{ShowRows}

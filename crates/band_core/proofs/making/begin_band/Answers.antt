@@ -1,9 +1,9 @@
-use Rattle.std.proofs.Common.{ℤ, pos, ◌+ℤ◌, ℕ, ◌+◌, ◌-◌, ◌<◌, ◌≤◌, ◌≡◌, refl, sym, ap, ap₂, subst, ◌∙◌, cond, length, get_or, take, drop, arith}
+use Rattle.ww_rule.specs.Due.{due_count}
+use Rattle.std.proofs.Common.{pos, ◌+ℤ◌, ◌≡◌, sym, ap, ap₂, subst, ◌∙◌, cond, length, take, drop, arith}
 use Rattle.ww_rule.specs.declared.pattern.State.TheVariants.{Head}
 use Rattle.ww_rule.specs.Injections.{has_cell}
 use Rattle.std.proofs.lemmas.List.{with_items_is}
 use Rattle.band_rows.specs.Rows.{ShowRows}
-use Rattle.band_core.specs.Band.{due_count}
 use Rattle.band_core.proofs.Left.{all_left, front_cells, left_after}
 use Rattle.band_core.proofs.making.begin_band.Goals as goal
 

@@ -1,4 +1,5 @@
-use Rattle.std.proofs.Common.{ℤ, pos, ◌+ℤ◌, ℕ, ◌+◌, ◌-◌, ◌*◌, ◌/◌, ◌==◌, min, ◌<◌, ◌≤◌, ◌≡◌, refl, sym, ap, ap₂, subst, ◌∙◌, inl, inr, Bool, List, [], ◌∷◌, ◌++◌, length, get_or, take, drop, filter, slice_set, arith}
+use Rattle.ww_rule.specs.Due.{AreInOrderFrom}
+use Rattle.std.proofs.Common.{pos, ◌+ℤ◌, ℕ, ◌+◌, ◌-◌, ◌*◌, ◌/◌, ◌==◌, min, ◌<◌, ◌≡◌, refl, sym, ap, ap₂, subst, ◌∙◌, Bool, List, [], ◌∷◌, ◌++◌, length, get_or, take, drop, filter, arith}
 use Rattle.std.proofs.lemmas.List.{length-set, length-take, length-drop, length-append, get_or-set_other, get_or-take, get_or-drop, map-append, replicate_more}
 use Rattle.ww_rule.specs.declared.pattern.State.TheVariants.{Empty}
 use Rattle.ww_rule.specs.declared.pattern.Injection.{Injection}
@@ -7,7 +8,6 @@ use Rattle.ww_rule.specs.Grid.{plane_of}
 use Rattle.ww_rule.specs.Injections.{due_of_list}
 use Rattle.ww_rule.proofs.RowLemmas.{get_or_any, pushed}
 use Rattle.band_core.specs.declared.band.Band.{Band}
-use Rattle.band_core.specs.Bands.{AreInOrderFrom}
 use Rattle.band_core.specs.Band.{AreInRows, AreDueIn, CellsShow, IsBand, ShowsBand, generations_of}
 use Rattle.band_core.proofs.Evolution.{share_inside, share_in_order, share_due, starts}
 use Rattle.band_core.proofs.making.begin_bands.Goals as goal

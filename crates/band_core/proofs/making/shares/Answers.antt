@@ -1,4 +1,4 @@
-use Rattle.std.proofs.Common.{ℕ, ◌+◌, ◌/◌, ◌==◌, ◌<◌, ◌≡◌, refl, sym, ap, subst, ◌∙◌, inl, inr, cond, List, [], ◌∷◌, ◌++◌, length, get_or, take, filter, slice_set, arith}
+use Rattle.std.proofs.Common.{◌+◌, ◌/◌, ◌==◌, ◌<◌, ◌≡◌, sym, ap, ◌∙◌, inl, inr, cond, [], ◌∷◌, ◌++◌, length, get_or, take, filter, slice_set, arith}
 use Rattle.std.proofs.lemmas.Bool.{cases_eq, eq-eqb, ne_eqb}
 use Rattle.std.proofs.lemmas.Grind.{take_at_read, get_or-set_at}
 use Rattle.std.proofs.lemmas.List.{length-set, get_or-set_other, append-nil}

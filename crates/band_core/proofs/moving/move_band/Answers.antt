@@ -1,8 +1,5 @@
-use Rattle.std.proofs.Common.{ℤ, pos, ◌+ℤ◌, ◌-ℤ◌, ℕ, ◌+◌, ◌-◌, ◌*◌, min, ◌<◌, ◌≤◌, ◌≡◌, refl, sym, ap, ap₂, subst, ◌∙◌, inl, inr, List, length, get_or, slice_set, arith}
-use Rattle.std.proofs.lemmas.Bool.{cases_eq}
-use Rattle.std.proofs.lemmas.Grind.{get_or-set_at}
-use Rattle.std.proofs.lemmas.List.{length-set, get_or-set_other, set-set, map-set, get_or-map, length-map}
-use Rattle.ww_rule.proofs.RowLemmas.{get_or_any}
+use Rattle.std.proofs.Common.{pos, ◌+ℤ◌, ℕ, ◌+◌, ◌-◌, ◌*◌, min, ◌<◌, ◌≡◌, refl, sym, ap, subst, ◌∙◌, length, get_or, slice_set, arith}
+use Rattle.std.proofs.lemmas.List.{length-set, set-set, map-set, get_or-map, length-map}
 use Rattle.band_rows.specs.Rows.{ShowsHeads}
 use Rattle.band_core.specs.declared.band.Band.{Band}
 use Rattle.band_core.specs.Band.{IsBand, ShowsBand, generations_of}

@@ -1,4 +1,4 @@
-use Rattle.std.proofs.Common.{ℕ, ◌+◌, ◌-◌, ◌*◌, min, ◌≡◌, refl, sym, ap, subst, ◌∙◌, length, get_or, slice_set}
+use Rattle.std.proofs.Common.{◌+◌, ◌-◌, ◌*◌, min, ◌≡◌, sym, ap, subst, ◌∙◌, length, get_or, slice_set}
 use Rattle.std.proofs.lemmas.List.{length-set, set-set, map-set, get_or-map}
 use Rattle.band_core.specs.declared.band.Band.{Band}
 use Rattle.band_core.specs.Band.{HasNoneDue, IsBand, IsQuiet, ShowsBand, generations_of}

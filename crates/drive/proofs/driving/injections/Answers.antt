@@ -6,7 +6,7 @@ use Rattle.pattern_reading.specs.declared.ports.PortLine.{PortLine}
 use Rattle.ww_rule.specs.declared.pattern.Injection.{Injection}
 use Rattle.ww_rule.specs.Injections.{injections_from, injections_of_row}
 use Rattle.pattern_reading.specs.Ports.{cells_of}
-use Rattle.drive.specs.Driving.{row_of}
+use Rattle.drive.specs.Driving.{stream_row}
 use Rattle.drive.proofs.Rows.{rows_more}
 use Rattle.drive.proofs.driving.injections.Goals as goal
 
@@ -15,9 +15,9 @@ loop-cycle-preserved c =
     let t = c.loop-cycle.cycle in
     let p = c.args.ports.now.p in
     let cells = cells_of c.args.ports.now.ins in
-    let rows = map (row_of c.args.streams.now) (range_with_len 0 t) in
-    let row = row_of c.args.streams.now t in
-    let long : length rows ≡ t = length-map-range_with_len (row_of c.args.streams.now) 0 t in
+    let rows = map (stream_row c.args.streams.now) (range_with_len 0 t) in
+    let row = stream_row c.args.streams.now t in
+    let long : length rows ≡ t = length-map-range_with_len (stream_row c.args.streams.now) 0 t in
     let at : t * p ≡ 0 + length rows * p = rw long (omega arith) in
     let items : c.push_row.new.due.items ≡ c.loop-cycle.due.items ++ injections_of_row (t * p) cells row =
     c.in_ok-push_row.ensures
@@ -26,4 +26,4 @@ loop-cycle-preserved c =
     items
     ∙ ap (λ (due : List Injection). due ++ injections_of_row (t * p) cells row) c.loop-cycle.invariant
     ∙ sym (rows_more 0 p cells rows row (t * p) at)
-    ∙ ap (injections_from 0 p cells) (sym (map-range_with_len_more (row_of c.args.streams.now) 0 t t (omega arith)))
+    ∙ ap (injections_from 0 p cells) (sym (map-range_with_len_more (stream_row c.args.streams.now) 0 t t (omega arith)))

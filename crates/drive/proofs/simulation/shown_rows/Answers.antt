@@ -1,3 +1,5 @@
+use Rattle.ww_rule.specs.Due.{AreInOrderFrom}
+use Rattle.ww_rule.specs.Injections.{AreInside}
 use Rattle.std.proofs.Common.{◌≡◌, ◌+◌, ◌*◌, ◌++◌, ◌∷◌, [], ap, sym, subst, ◌∙◌, map, arith, ℕ, List, Bool}
 use Rattle.std.specs.List.{range_with_len}
 use Rattle.std.proofs.lemmas.List.FromFn.{map-range_with_len_more}
@@ -5,8 +7,8 @@ use Rattle.ww_rule.specs.declared.pattern.Injection.{Injection}
 use Rattle.ww_rule.specs.Wireworld.{Plane}
 use Rattle.ww_rule.specs.Grid.{plane_of}
 use Rattle.pattern_reading.specs.Ports.{cells_of}
-use Rattle.drive.specs.Driving.{AreInside, rows_of, driven_by, shown_row}
-use Rattle.drive.specs.Runs.{AreInOrderFrom, IsRunOf}
+use Rattle.drive.specs.Driving.{rows_of, driven_by, shown_row}
+use Rattle.drive.specs.Runs.{IsRunOf}
 use Rattle.drive.proofs.Inside.{rows_inside}
 use Rattle.drive.proofs.Left.{rows_in_order}
 use Rattle.drive.proofs.simulation.shown_rows.Goals as goal

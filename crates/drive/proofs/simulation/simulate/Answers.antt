@@ -1,8 +1,9 @@
+use Rattle.ww_rule.specs.Wireworld.{is_head}
 use Rattle.std.proofs.Common.{◌≡◌, ◌+◌, ◌*◌, ap, sym, subst, ◌∙◌, All, map, length, pos, ℕ, List, Bool}
 use Rattle.std.specs.List.{range_with_len}
 use Rattle.ww_rule.specs.Grid.{plane_of}
 use Rattle.pattern_reading.specs.declared.ports.PortLine.{PortLine}
-use Rattle.drive.specs.Driving.{column_of, driven_by, is_head}
+use Rattle.drive.specs.Driving.{column_of, driven_by}
 use Rattle.drive.proofs.Across.{columns_are, rows_long}
 use Rattle.drive.proofs.simulation.simulate.Goals as goal
 

@@ -1,9 +1,8 @@
-use Rattle.std.proofs.Common.{pos, ◌+ℤ◌, ◌-ℤ◌, ℕ, ◌+◌, ◌-◌, ◌≡◌, refl, sym, ap, ap₂, subst, ◌∙◌, length, take, drop, arith}
+use Rattle.ww_rule.specs.Due.{due_count}
+use Rattle.std.proofs.Common.{pos, ◌+ℤ◌, ◌+◌, ◌-◌, ◌≡◌, sym, ap, ap₂, subst, ◌∙◌, length, take, drop, arith}
 use Rattle.std.proofs.lemmas.Int.{ints}
 use Rattle.std.proofs.lemmas.List.{with_items_is, drop-drop, take_all, length-drop}
-use Rattle.ww_rule.specs.Wireworld.{Plane}
 use Rattle.band_rows.specs.Rows.{ShowRows, ShowsHeads}
-use Rattle.band_core.specs.Band.{AreLeftAt, due_count}
 use Rattle.band_core.proofs.Left.{left_after}
 use Rattle.band_core.proofs.NextRows.{west, rows_move, kept_shows}
 use Rattle.band_core.proofs.band.Band.next.Goals as goal

@@ -1,4 +1,4 @@
-use Rattle.std.proofs.Common.{ℕ, ◌*◌, ◌≤◌, ◌≡◌, refl, sym, ap, subst, ◌∙◌, List, length, get_or, All, arith}
+use Rattle.std.proofs.Common.{◌*◌, ◌≤◌, ◌≡◌, sym, ap, subst, ◌∙◌, List, length, get_or, All, arith}
 use Rattle.std.proofs.lemmas.List.{length-replicate}
 use Rattle.ww_rule.specs.declared.pattern.State.{State}
 use Rattle.ww_rule.specs.Wireworld.{driven}

@@ -1,4 +1,4 @@
-use Rattle.std.proofs.Common.{ℤ, pos, ◌+ℤ◌, ◌-ℤ◌, ℕ, ◌+◌, ◌-◌, ◌*◌, min, ◌<◌, ◌≤◌, ◌≡◌, refl, sym, ap, ap₂, subst, ◌∙◌, inl, inr, None, List, [], ◌∷◌, length, get_or, arith}
+use Rattle.std.proofs.Common.{◌-◌, ◌*◌, min, ◌<◌, ◌≡◌, sym, ap, subst, ◌∙◌, None, List, [], ◌∷◌, length, get_or, arith}
 use Rattle.std.proofs.lemmas.List.{with_items_is, length-map}
 use Rattle.ww_rule.specs.Wireworld.{driven}
 use Rattle.ww_rule.specs.Grid.{plane_of}

@@ -1,8 +1,8 @@
+use Rattle.ww_rule.specs.Due.{due_count}
 use Rattle.std.proofs.Common.{ap, sym, subst, ◌∙◌, ℕ, List}
 use Rattle.ww_rule.specs.Grid.{AreInBox, plane_of}
 use Rattle.ww_rule.specs.Wireworld.{injected}
 use Rattle.ww_rule.specs.Injections.{has_cell}
-use Rattle.drive.specs.Runs.{due_count}
 use Rattle.drive.proofs.Inside.{due_inside}
 use Rattle.drive.proofs.Left.{all_left, front_cells, left_after}
 use Rattle.drive.proofs.run.Run.begin.Goals as goal

@@ -1,8 +1,8 @@
+use Rattle.ww_rule.specs.Due.{due_count}
 use Rattle.std.proofs.Common.{◌+◌, refl, ap, sym, subst, ◌∙◌, arith, ℕ, List}
 use Rattle.ww_rule.specs.Grid.{AreInBox, plane_of}
 use Rattle.ww_rule.specs.Wireworld.{Plane, injected, next_plane}
 use Rattle.ww_rule.specs.Injections.{has_cell, due_of_list}
-use Rattle.drive.specs.Runs.{due_count}
 use Rattle.drive.proofs.Inside.{due_inside, left_inside}
 use Rattle.drive.proofs.Leads.{driven_next}
 use Rattle.drive.proofs.Left.{front_cells, left_after}
