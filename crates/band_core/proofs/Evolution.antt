@@ -18,7 +18,7 @@ use Rattle.ww_rule.proofs.Lists.{lists_are_injected}
 use Rattle.ww_rule.proofs.RowLemmas.{in_rows}
 use Rattle.band_core.specs.Bands.{bands_in}
 use Rattle.band_core.specs.Band.{AreInRows, IsEvolution}
-use Rattle.band_core.proofs.Left.{from_earlier}
+use Rattle.ww_rule.proofs.Due.{from_earlier}
 use Rattle.std.proofs.Math.Nat.{mul-le-mul_right, mul_comm, suc-mul}
 
 -- the box of the rows that are there

@@ -2,7 +2,6 @@ pub mod Asleep
 pub mod Evolution
 pub mod Facing
 pub mod Injecting
-pub mod Left
 pub mod NextRows
 pub mod Options
 pub mod Pushing

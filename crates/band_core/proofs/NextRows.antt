@@ -9,7 +9,7 @@ use Rattle.band_rows.specs.declared.row.Row.{Row}
 use Rattle.band_rows.specs.Rows.{IsEmptyWest, ShowRows, ShowsHeads, row_heads, row_tails, row_wires}
 use Rattle.band_rows.proofs.Bands.{words_show, heads_shown}
 use Rattle.band_core.specs.Band.{IsEvolution, injected_cells}
-use Rattle.band_core.proofs.Left.{front_cells}
+use Rattle.ww_rule.proofs.Due.{front_cells}
 
 pub west : (e : ℕ → Plane) (due : Due) (width height : ℕ) → IsEvolution e due width height → (g : ℕ) → IsEmptyWest (e g)
 west e due width height evo g x y = evo.empty g (negsuc x) y refl

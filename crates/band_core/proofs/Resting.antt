@@ -14,7 +14,7 @@ use Rattle.band_rows.specs.Rows.{AreLong, ShowRows, ShowsHeads, row_wires}
 use Rattle.band_rows.proofs.Marks.{none_set}
 use Rattle.band_core.specs.declared.band.Band.{Band}
 use Rattle.band_core.specs.Band.{AreUnlit, AreDueIn, AreInRows, HasNoneDue, IsBand, IsEvolution, IsQuiet, ShowsBand}
-use Rattle.band_core.proofs.Left.{left_after}
+use Rattle.ww_rule.proofs.Due.{left_after}
 
 pub rests : (words y many : ℕ) (band next : Band) → next.rows ≡ band.rows → next.injections ≡ band.injections → next.done ≡ band.done → length next.top.heads.items ≡ words → length next.bottom.heads.items ≡ words → IsBand words y many band → IsBand words y many next
 rests words y many band next er ei ed lt lb is =

@@ -18,7 +18,7 @@ use Rattle.band_core.specs.declared.band.Band.{Band}
 use Rattle.band_core.specs.Band.{HasNoneDue, IsBand, IsLitIn, IsNextDue, IsWaking, ShowsBand}
 use Rattle.band_core.specs.Band.IsLitIn.{head as lit_head, tail as lit_tail}
 use Rattle.band_core.specs.Band.IsWaking.{head, tail, above, below, due}
-use Rattle.band_core.proofs.Left.{front_cells}
+use Rattle.ww_rule.proofs.Due.{front_cells}
 
 one_is_head : (s : State) → 1 ≡ count_head s → s ≡ Head
 one_is_head Empty e = absurd (omega (arith, e))

@@ -1,5 +1,5 @@
 -- Laws of the models that lines describe, on which nothing else stands.
-use Rattle.std.specs.Prelude.{Bool, ◌≡◌, List, [], ◌∷◌, ◌++◌, ◌+◌, true, false}
+use Rattle.std.specs.Prelude.{Bool, ◌≡◌, List, [], ◌∷◌, ◌++◌, true, false}
 use Rattle.std.specs.Str.Lines.{lines}
 use Rattle.blif_text.specs.declared.logical.Logical.{Logical}
 use Rattle.blif_text.specs.Models.{models_of, begins_model, is_row, first_word}

@@ -1,7 +1,7 @@
 -- What a design without a fault has.
 use Rattle.std.proofs.lemmas.Bool.{or_parts}
-use Rattle.netlist_rules.proofs.Bools.{other_fails}
-use Rattle.std.proofs.Common.{◌≡◌, ◌≢◌, refl, sym, subst, ℕ, inl, inr, List, [], ◌∷◌, ◌++◌, map, Bool, true, false, not, ◌&&◌, ◌||◌, true≢false, cond}
+use Rattle.lists.proofs.Bools.{and_false_right as other_fails}
+use Rattle.std.proofs.Common.{◌≡◌, refl, sym, subst, ℕ, inl, inr, List, [], ◌∷◌, ◌++◌, map, Bool, true, false, not, ◌&&◌, ◌||◌, true≢false, cond}
 use Rattle.std.specs.Prelude.{Some, None, Option, bytes_eq}
 use Rattle.std.specs.Bool.{then_some}
 use Rattle.std.specs.Option.{option_or}

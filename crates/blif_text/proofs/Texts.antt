@@ -9,15 +9,7 @@ use Rattle.std.proofs.lemmas.List.Sums.{take_while-cons}
 use Rattle.blif_text.specs.declared.logical.Logical.{Logical}
 use Rattle.blif_text.specs.Laws.{LinesAreJoined, LinesAreKnown, WordsAreRuns}
 use Rattle.blif_text.specs.LogicalLines.{cut_or_kept, parts_between, is_newline, physical_lines, is_space, words_of, joined_lines, JoinedLine, without_comment, before_backslash, is_hash, found_or_later, continued_by, joined_to, non_empty, logical_line, with_words}
-
--- the parts of a list in which nothing passes the test before the place where it is cut
-or_left : (a b : Bool) → (a || b) ≡ false → a ≡ false
-or_left true b e = e
-or_left false b e = refl
-
-or_right : (a b : Bool) → (a || b) ≡ false → b ≡ false
-or_right true b e = absurd (true≢false e)
-or_right false b e = e
+use Rattle.lists.proofs.Bools.{or_false_left as or_left, or_false_right as or_right, and_true_left as all_left, and_true_right as all_right}
 
 kept : (b : Bool) (x : ℕ) (w : List ℕ) (parts : List (List ℕ)) → b ≡ false → cut_or_kept b x (w ∷ parts) ≡ (x ∷ w) ∷ parts
 kept true x w parts e = absurd (true≢false e)
@@ -238,14 +230,6 @@ continued [] blanks e = found_here (list_all is_space blanks) 92 (before_backsla
 continued (x ∷ xs) blanks e =
     later_found (x == 92) (list_all is_space (xs ++ 92 ∷ blanks)) x (before_backslash (xs ++ 92 ∷ blanks)) (not_all is_space xs 92 blanks refl)
     ∙ ap (option_map (λ front. x ∷ front)) (continued xs blanks e)
-
-all_left : (a b : Bool) → (a && b) ≡ true → a ≡ true
-all_left true b e = refl
-all_left false b e = e
-
-all_right : (a b : Bool) → (a && b) ≡ true → b ≡ true
-all_right true b e = e
-all_right false b e = absurd (true≢false (sym e))
 
 blank_line : (blanks : List ℕ) → list_all is_space blanks ≡ true → before_backslash blanks ≡ None
 blank_line [] e = refl

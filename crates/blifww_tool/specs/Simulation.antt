@@ -1,17 +1,14 @@
 -- What a text of a pattern shows under streams of bits, as lines.
-use Rattle.std.specs.Prelude.{◌≡◌, ◌+◌, ◌*◌, pos, ℕ, Bool, if◌then◌else◌, List, ◌++◌, map, flat_map, codes}
-use Rattle.std.specs.List.{range_with_len}
+use Rattle.std.specs.Prelude.{◌≡◌, ℕ, Bool, if◌then◌else◌, List, ◌++◌, map, flat_map, codes}
 use Rattle.std.specs.Str.{byte}
-use Rattle.ww_rule.specs.Wireworld.{Plane, is_head}
 use Rattle.ww_rule.specs.Grid.{Grid, plane_of}
-use Rattle.pattern_reading.specs.declared.ports.PortLine.{PortLine}
 use Rattle.pattern_reading.specs.declared.ports.Ports.{Ports}
 use Rattle.pattern_reading.specs.Ports.{names_of}
 use Rattle.pattern_reading.specs.Pattern.{ReadsWithinLimit}
 use Rattle.pattern_reading.specs.PortTable.{ReadsAsPorts}
 use Rattle.drive.specs.declared.streams.Streams.{Streams}
 use Rattle.drive.specs.Streams.{HasStreams}
-use Rattle.drive.specs.Driving.{driven_by}
+use Rattle.drive.specs.Driving.{shown_at}
 
 -- a pattern, its ports, and streams for its inputs
 pub record Simulation : Type 0 where
@@ -27,18 +24,9 @@ bit_digit bit = if bit then byte "1" else byte "0"
 abbrev pub bits_line : List ℕ → List Bool → List ℕ
 bits_line name bits = name ++ (codes "=" ++ (map bit_digit bits ++ codes "\n"))
 
--- the pattern's planes, driven by the streams
-abbrev pub plane_at : Simulation → ℕ → Plane
-plane_at s generation = driven_by s.ports s.streams (plane_of s.grid.rows) generation
-
--- the bits that an output shows: in cycle t whether its cell is a head at generation L + t P
-abbrev pub bits_of_output : Simulation → PortLine → List Bool
-bits_of_output s out =
-    map (λ t. is_head (plane_at s (s.ports.l + t * s.ports.p) (pos out.x) (pos out.y))) (range_with_len 0 s.streams.cycles)
-
 -- the lines of the outputs, in the table's order
 abbrev pub simulation_text : Simulation → List ℕ
-simulation_text s = flat_map (λ out. bits_line out.name (bits_of_output s out)) s.ports.outs
+simulation_text s = flat_map (λ out. bits_line out.name (shown_at s.ports s.streams (plane_of s.grid.rows) out)) s.ports.outs
 
 -- The text reads as this pattern with these ports, and the words say these streams for its inputs.
 pub record IsSimulation (cycles : ℕ) (words : List (List ℕ)) (text : List ℕ) (s : Simulation) : Type 0 where

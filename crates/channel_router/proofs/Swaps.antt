@@ -1,6 +1,6 @@
 -- What swaps do to bits.
-use Rattle.std.proofs.Common.{◌≡◌, ◌≢◌, refl, sym, ◌∙◌, ap, ap₂, subst, ℕ, zero, suc, ◌+◌, ◌-◌, ◌<◌, ◌≤◌, Bool, true, false, ⊎_elim, List, [], ◌∷◌, ◌++◌, length, get_or, set, arith}
-use Rattle.std.specs.Prelude.{◌==◌, nat_lt, nat_le, ◌&&◌, if◌then◌else◌, All}
+use Rattle.std.proofs.Common.{◌≡◌, ◌≢◌, refl, sym, ◌∙◌, ap, ℕ, zero, suc, ◌+◌, ◌<◌, ◌≤◌, Bool, false, ⊎_elim, List, [], ◌∷◌, ◌++◌, length, get_or, set, arith}
+use Rattle.std.specs.Prelude.{All}
 use Rattle.std.proofs.lemmas.Bool.{cases_eq}
 use Rattle.std.proofs.lemmas.Bool.Decides.{nat_tests}
 use Rattle.std.proofs.lemmas.List.{length-set, length-append}
@@ -8,7 +8,7 @@ use Rattle.std.proofs.lemmas.List.Elements.{All-append}
 use Rattle.std.proofs.lemmas.List.Sums.{fold_push}
 use Rattle.lane_core.specs.declared.instr.Instr.{Instr}
 use Rattle.lane_core.specs.declared.instr.Instr.TheVariants.{Swap}
-use Rattle.lane_core.specs.Instrs.{bit_on, after_instr, after_instrs, IsOnLanes, lane_of}
+use Rattle.lane_core.specs.Instrs.{bit_on, after_instr, after_instrs, IsOnLanes}
 use Rattle.channel_router.specs.Routes.{brought, swapped, distance, IsSwap, Brings}
 use Rattle.channel_router.proofs.TwoSet.{two_set}
 

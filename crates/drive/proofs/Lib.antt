@@ -3,5 +3,5 @@ pub mod Found
 pub mod Rows
 pub mod Inside
 pub mod Leads
-pub mod Left
+pub mod Streamed
 pub mod Across

@@ -46,10 +46,13 @@ abbrev pub shown_rows : Ports → Streams → Plane → List (List Bool)
 shown_rows ports streams plane =
     map (λ cycle. shown_row (driven_by ports streams plane (ports.l + cycle * ports.p)) ports.outs) (range_with_len 0 streams.cycles)
 
--- for each output its bits, cycle after cycle: 1 where its cell is a head at generation L + t P
+-- the bits of an output, cycle after cycle: 1 where its cell is a head at generation L + t P
+abbrev pub shown_at : Ports → Streams → Plane → PortLine → List Bool
+shown_at ports streams plane out = map (λ cycle. is_head (driven_by ports streams plane (ports.l + cycle * ports.p) (pos out.x) (pos out.y))) (range_with_len 0 streams.cycles)
+
+-- those of each output
 abbrev pub shown_bits : Ports → Streams → Plane → List (List Bool)
-shown_bits ports streams plane =
-    map (λ out. map (λ cycle. is_head (driven_by ports streams plane (ports.l + cycle * ports.p) (pos out.x) (pos out.y))) (range_with_len 0 streams.cycles)) ports.outs
+shown_bits ports streams plane = map (shown_at ports streams plane) ports.outs
 
 -- the most generations that a run may need
 abbrev pub greatest_generation : ℕ

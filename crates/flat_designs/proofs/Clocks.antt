@@ -9,7 +9,7 @@ use Rattle.netlist_core.specs.declared.model.Design.{Design}
 use Rattle.netlist_core.specs.declared.model.Model.{Model}
 use Rattle.netlist_core.specs.declared.model.Port.{Port}
 use Rattle.netlist_core.specs.declared.model.LatchRow.{LatchRow}
-use Rattle.netlist_core.specs.Names.{Name, port_names}
+use Rattle.netlist_core.specs.Names.{Name}
 use Rattle.netlist_meaning.specs.Places.{Place, model_at, latch_at, main_ports, main_inputs, main_clocks}
 use Rattle.netlist_meaning.specs.Nets.{Net, net_at, IsNet, Joined, followed, IsControl, IsClockNet}
 use Rattle.netlist_meaning.specs.Roots.{root}

@@ -1,5 +1,5 @@
 -- The inputs of a model without a fault have different names.
-use Rattle.std.proofs.Common.{ℕ, zero, suc, ◌≡◌, ◌≢◌, ◌<◌, ◌≤◌, ◌⊎◌, inl, inr, List, [], ◌∷◌, ◌++◌, Bool, true, false, ◌||◌, Some, slice_get, refl, sym, ap, ◌∙◌, subst, arith}
+use Rattle.std.proofs.Common.{ℕ, ◌≡◌, ◌≢◌, ◌<◌, ◌≤◌, ◌⊎◌, inl, inr, List, [], ◌∷◌, ◌++◌, Bool, false, ◌||◌, Some, slice_get, refl, sym, ap, ◌∙◌, subst, arith}
 use Rattle.std.specs.Prelude.{option_to_list}
 use Rattle.std.specs.Bool.{then_some}
 use Rattle.std.specs.List.{list_any}
@@ -12,16 +12,14 @@ use Rattle.netlist_rules.specs.Drivers.{same_name_up_to, same_name_before, stand
 use Rattle.netlist_rules.specs.ModelFaults.{AreFaultless, doubles_after, is_output_before, is_input_by_then}
 use Rattle.lists.proofs.Members.{In}
 use Rattle.sound_designs.proofs.Local.{not_any, not_up_to, not_before}
-use Rattle.sound_designs.proofs.Sources.{first_of, none_kept, none_left, none_right}
+use Rattle.sound_designs.proofs.Sources.{none_kept}
+use Rattle.lists.proofs.Bools.{or_false_left as first_of, or_false_right as second_of}
+use Rattle.lists.proofs.Appends.{append_nil_left as none_left, append_nil_right as none_right}
 use Rattle.sound_designs.proofs.Driven.{clean_of}
 use Rattle.netlist_meaning.specs.FlatOf.{PortsWithoutControl, kept, left_out}
 use Rattle.flat_designs.proofs.Lists.{Pairs, pair_at, pairs_map}
 use Rattle.netlist_core.specs.Names.{Name, port_names}
 use Rattle.flat_designs.proofs.Valuations.{port_kept}
-
-second_of : (a b : Bool) → (a || b) ≡ false → b ≡ false
-second_of true b e = absurd (Rattle.std.proofs.Common.true≢false e)
-second_of false b e = e
 
 abbrev pub OtherName : Port → Port → Type 0
 OtherName p q = q.name ≢ p.name

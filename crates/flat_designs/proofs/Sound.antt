@@ -43,6 +43,7 @@ use Rattle.flat_designs.proofs.Ports.{OtherName, inputs_apart, kept_apart, kept_
 use Rattle.flat_designs.proofs.Weights.{nodes_within}
 use Rattle.netlist_meaning.specs.Weight.{weight}
 use Rattle.flat_designs.proofs.Clocks.{latches_of, control_class, clock_class, has_port_class, in_port_no_clock}
+use Rattle.lists.proofs.Appends.{slice_get_push as at_end}
 
 abbrev DesignNet : Design → Net → Type 0
 DesignNet design net = Rattle.netlist_meaning.specs.Nets.IsNet design net
@@ -322,10 +323,6 @@ unused design flat faultless clean h line position net n use_ c = (wired design 
 
 unused_id : (design : Design) (flat : Flat) → AreFaultless design.models → HasNoClockFault design → IsFlatOf design flat → (line position : ℕ) (net : Net) → DesignNet design net → IsUse design line position net → ¬ IsClockClass flat (class_of flat (id_of design net.place net.name))
 unused_id design flat faultless clean h line position net n use_ c = unused design flat faultless clean h line position net n use_ (subst (IsClockClass flat) (class_is design flat faultless h net n) c)
-
-at_end : {X : Type 0} (xs : List X) (x : X) → slice_get (xs ++ x ∷ []) (length xs) ≡ Some x
-at_end [] x = refl
-at_end (y ∷ xs) x = at_end xs x
 
 undriven : (design : Design) (flat : Flat) → AreFaultless design.models → HasNoClockFault design → IsFlatOf design flat → (class : ℕ) (d : FlatDriver) → FlatDrives flat d class → ¬ IsClockClass flat class
 undriven design flat faultless clean h class (input i) (x, is_x, is_class) c =

@@ -37,6 +37,7 @@ use Rattle.flat_designs.proofs.Lists.{map_in, map_flat, flat_same}
 use Rattle.flat_designs.proofs.Listed.{place_is, place_listed}
 use Rattle.flat_designs.proofs.Names.{input_name, cover_name, latch_name, is_net_of, main_port}
 use Rattle.flat_designs.proofs.Classes.{net_there, class_is, joined_class, joined_nets, root_joined, root_is_net}
+use Rattle.lists.proofs.Appends.{slice_get_push as at_end}
 
 -- IN ports have the IN names
 pub ports_names : (design : Design) (ports rest : List Port) → PortsWithoutControl design ports rest → WithoutControl design (port_names ports) (port_names rest)
@@ -161,10 +162,6 @@ pub same_bit : (design : Design) (flat : Flat) → AreFaultless design.models �
     → (net : Net) → IsNet design net → ¬ IsClockNet design net → net_bits design flat (class_bits design bits) net.place net.name ≡ bits net.place net.name
 same_bit design flat faultless h inputs state bits v net n away =
     root_bit design flat faultless h bits net n ∙ sym (v.joined_agree net (root design net) (root_joined design faultless net) away)
-
-at_end : {X : Type 0} (xs : List X) (x : X) → slice_get (xs ++ x ∷ []) (length xs) ≡ Some x
-at_end [] x = refl
-at_end (y ∷ xs) x = at_end xs x
 
 pub is_flat : (design : Design) (flat : Flat) → AreFaultless design.models → HasNoClockFault design → IsFlatOf design flat → (inputs : List Bool) (state : LatchState) (bits : Valuation) → IsValuation design inputs state bits
     → IsFlatValuation flat inputs (state_in_order design state) (class_bits design bits)

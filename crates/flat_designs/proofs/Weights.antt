@@ -1,13 +1,10 @@
 -- A design has no more nets, and no more covers, than its weight.
 use Rattle.std.proofs.Common.{ℕ, zero, suc, ◌≡◌, ◌≢◌, ◌<◌, ◌≤◌, ◌+◌, ◌*◌, ◌^◌, ◌⊎◌, inl, inr, List, [], ◌∷◌, ◌++◌, Bool, true, false, not, cond, Option, Some, None, slice_get, map, flat_map, length, find, option_and_then, option_map, unwrap_or, bytes_eq, is_some, sum_by, count_by, refl, sym, ap, ◌∙◌, subst, arith, true≢false}
 use Rattle.std.specs.List.{list_any}
-use Rattle.std.specs.Cmp.{IsEquivalence}
-use Rattle.std.specs.Bool.{one_answer}
 use Rattle.std.proofs.lemmas.Slice.Eq.{bytes_eq-Decides}
 use Rattle.std.proofs.lemmas.Option.{slice_get_within}
 use Rattle.std.proofs.lemmas.List.{length-map, length-append}
 use Rattle.std.proofs.lemmas.List.Sums.{sum_by-cons, sum_by-append}
-use Rattle.std.proofs.lemmas.List.Folds.{fold-map}
 use Rattle.std.proofs.lemmas.List.Concat.{length-flat_map}
 use Rattle.std.proofs.lemmas.Map.Made.{length-le_from_is_member, IsDistinct-from_AllPairs}
 use Rattle.std.proofs.lemmas.Map.Views.{Contains-from_any}
@@ -23,7 +20,7 @@ use Rattle.netlist_meaning.specs.Places.{Place, main_model, model_below, model_a
 use Rattle.netlist_meaning.specs.Nets.{net_at}
 use Rattle.netlist_core.specs.OwnWeight.{port_weight, literals, cover_weight, own_weight}
 use Rattle.netlist_meaning.specs.Weight.{of_model, weight_below, weight}
-use Rattle.lists.proofs.Names.{bytes_eq-same}
+use Rattle.lists.proofs.Names.{bytes_eq-same, names_are_equal}
 use Rattle.netlist_meaning.proofs.InNames.{any_at}
 use Rattle.netlist_meaning.proofs.Depth.{places_are_shallow}
 use Rattle.netlist_rules.specs.Drivers.{is_output_pin}
@@ -42,23 +39,16 @@ use Rattle.netlist_core.specs.declared.flat.Flat.{Flat}
 use Rattle.netlist_meaning.specs.InOrder.{of_some, places_in_lines, places_below, places_in_order, names_in_order, nets_at, nets_in_order}
 use Rattle.netlist_core.specs.declared.flat.Net.{Net as FlatNet}
 use Rattle.netlist_meaning.specs.FlatOf.{flat_net, flat_node, flat_latch, flat_port, at_places, PortsWithoutControl, kept, left_out, IsFlatOf}
-use Rattle.netlist_meaning.specs.Flat.{IsWeighed}
 use Rattle.netlist_core.specs.OwnWeight.{rows_weight}
 use Rattle.flat_designs.specs.Laws.{NetsAreFew, PartsAreFew, FlatIsWeighed}
 use Rattle.flat_designs.proofs.Lists.{all_pairs}
 use Rattle.flat_designs.proofs.Listed.{name_is, names_once}
 use Rattle.flat_designs.proofs.Indices.{row}
+use Rattle.lists.proofs.Sums.{sum_by-map, sum_by-same}
 
 -- sums
 both : (a b c d : ℕ) → a ≡ c → b ≡ d → a + b ≡ c + d
 both a b c d e f = omega arith
-
-sum_by-map : {A B : Type 0} (f : B → ℕ) (h : A → B) (xs : List A) → sum_by f (map h xs) ≡ sum_by (λ x. f (h x)) xs
-sum_by-map f h xs = fold-map (λ a x. a + f x) h 0 xs
-
-sum_by-same : {A : Type 0} (f g : A → ℕ) (xs : List A) → ((x : A) → f x ≡ g x) → sum_by f xs ≡ sum_by g xs
-sum_by-same f g [] same = refl
-sum_by-same f g (x ∷ xs) same = sum_by-cons f x xs ∙ both _ _ _ _ (same x) (sum_by-same f g xs same) ∙ sym (sum_by-cons g x xs)
 
 -- the sum of a number of models, over a model and all those below it
 total : Design → (Model → ℕ) → ℕ → Model → ℕ
@@ -261,14 +251,6 @@ name_sourced design faultless m i name (by_output n s pin is j t e) =
         let one : other ≡ pin = one_pin s.pins other pin (distinct_from (map (λ (pin : Pin). pin.formal) s.pins) d) l j same in
         let actual : actual_of s pin.formal ≡ name = ap (λ (o : Option Pin). unwrap_or (option_map (λ (p : Pin). p.actual) o) []) is_other ∙ ap (λ (p : Pin). p.actual) one ∙ e in
         subst (λ v. In v (map (actual_of s) (port_names placed.outs))) actual (in_map (actual_of s) (port_names placed.outs) pin.formal k)
-
-names_are_equal : IsEquivalence bytes_eq
-names_are_equal =
-    record {
-      refl = bytes_eq-same;
-      symm = λ x y. one_answer _ _ (bytes_eq-Decides x y) ((λ e. sym ((bytes_eq-Decides y x).0 e)), λ e. (bytes_eq-Decides y x).1 (sym e));
-      congr = λ x y z e. ap (λ t. bytes_eq t z) ((bytes_eq-Decides x y).0 e);
-    }
 
 any_in : (xs : List Name) (name : Name) → list_any (bytes_eq name) xs ≡ true → In name xs
 any_in xs name e = in_from xs name (Contains-from_any (λ x y t. (bytes_eq-Decides x y).0 t) name xs e)

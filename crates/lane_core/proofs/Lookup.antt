@@ -1,19 +1,12 @@
 -- Where the instruction on a lane stands among sorted instructions.
-use Rattle.std.proofs.Common.{◌≡◌, refl, sym, ◌∙◌, ap, ℕ, zero, suc, ◌+◌, ◌<◌, ◌≤◌, Bool, true, false, ◌&&◌, cond, List, [], ◌∷◌, length, get_or, Some, None, inl, arith}
+use Rattle.std.proofs.Common.{◌≡◌, refl, sym, ◌∙◌, ap, ℕ, zero, suc, ◌+◌, ◌<◌, ◌≤◌, true, false, cond, List, [], ◌∷◌, length, get_or, Some, None, inl, arith}
 use Rattle.std.specs.Prelude.{IsTrue, find, AllPairs}
 use Rattle.std.specs.List.{list_all, AllWithin}
 use Rattle.std.specs.List.Sorted.{IsNonDecreasingBy}
 use Rattle.std.proofs.lemmas.Bool.Decides.{nat_tests}
 use Rattle.lane_core.specs.declared.instr.Instr.{Instr}
 use Rattle.lane_core.specs.Instrs.{lane_of, is_above, are_sorted_apart, is_on, instr_on, AreApart}
-
-and_left : (a b : Bool) → (a && b) ≡ true → a ≡ true
-and_left true b h = refl
-and_left false b h = h
-
-and_right : (a b : Bool) → (a && b) ≡ true → b ≡ true
-and_right true b h = h
-and_right false b h = cc
+use Rattle.lists.proofs.Bools.{and_true_left as and_left, and_true_right as and_right}
 
 -- no instruction below works on a lane that is not below the first
 pub none_below : (i : Instr) (lane : ℕ) (xs : List Instr) → lane ≤ lane_of i + 1 → list_all (is_above i) xs ≡ true → find (is_on lane) xs ≡ None

@@ -1,8 +1,8 @@
 -- That names are compared by their bytes: an equivalence, and membership.
-use Rattle.std.proofs.Common.{ℕ, ◌≡◌, ◌≢◌, ◌∙◌, refl, sym, subst, List, true, false}
-use Rattle.std.specs.Cmp.{both_ways}
+use Rattle.std.proofs.Common.{ℕ, ◌≡◌, ◌≢◌, ◌∙◌, refl, sym, ap, subst, List, true, false}
+use Rattle.std.specs.Cmp.{both_ways, IsEquivalence}
 use Rattle.std.specs.Prelude.{Contains, bytes_eq}
-use Rattle.std.specs.Bool.{Decides}
+use Rattle.std.specs.Bool.{Decides, one_answer}
 use Rattle.std.proofs.lemmas.Slice.Eq.{bytes_eq-Decides}
 use Rattle.std.proofs.lemmas.Bool.{false_from_ne_true, true≢false}
 use Rattle.lists.specs.Names.{is_among}
@@ -33,3 +33,11 @@ is_among-Decides name names = (found, λ has. passes_somewhere (bytes_eq name) n
     found e =
         let at = passes_at (bytes_eq name) names e in
         contains_from names name (subst (λ x. In x names) (sym ((bytes_eq-Decides name at.0).0 at.2)) at.1)
+
+pub names_are_equal : IsEquivalence bytes_eq
+names_are_equal =
+    record {
+      refl = bytes_eq-same;
+      symm = λ x y. one_answer _ _ (bytes_eq-Decides x y) ((λ e. sym ((bytes_eq-Decides y x).0 e)), λ e. (bytes_eq-Decides y x).1 (sym e));
+      congr = λ x y z e. ap (λ t. bytes_eq t z) ((bytes_eq-Decides x y).0 e);
+    }

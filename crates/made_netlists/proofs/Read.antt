@@ -5,7 +5,7 @@ use Rattle.std.specs.Bool.{then_some}
 use Rattle.std.specs.Option.{option_or, option_map}
 use Rattle.std.specs.List.{list_any, range_with_len, AllByRecursion, cons_option}
 use Rattle.std.specs.Fmt.{digits}
-use Rattle.std.proofs.lemmas.Bool.{eq-eqb, eqb-true}
+use Rattle.std.proofs.lemmas.Bool.{eq-eqb, eqb-true, or_right as or_true}
 use Rattle.std.proofs.lemmas.List.{append-nil}
 use Rattle.std.proofs.lemmas.Nat.{mod_below}
 use Rattle.std.proofs.lemmas.Slice.Eq.{bytes_eq-Decides}
@@ -100,11 +100,6 @@ fresh size h =
 no_second : (seed size last data0 data1 : ℕ) → size ≤ 128 → second_drivers (model seed size last data0 data1 ∷ []) (model seed size last data0 data1) ≡ []
 no_second seed size last data0 data1 h =
     no_repeats [] (drivers seed size last data0 data1) (subst (λ ns. IsFresh [] ns) (sym (drivers_are seed size last data0 data1)) (names_fresh [] (nets size) (fresh size h)))
-
--- all nets below the bound are driven
-or_true : (a b : Bool) → b ≡ true → (a || b) ≡ true
-or_true true b e = refl
-or_true false b e = e
 
 abbrev is_here : ℕ → ℕ → Bool
 is_here r m = m == r

@@ -23,10 +23,11 @@ use Rattle.netlist_meaning.specs.Laws.{AgreeAtPins}
 use Rattle.netlist_laws.specs.Laws.{WiredDesignsHaveNets}
 use Rattle.netlist_meaning.proofs.Names.{and_then-from}
 use Rattle.lists.proofs.Names.{bytes_eq-same}
-use Rattle.netlist_meaning.proofs.Depth.{or_left, or_right}
+use Rattle.std.proofs.lemmas.Bool.{or_left, or_right}
 use Rattle.netlist_meaning.proofs.InNames.{any_at, root_of_top}
 use Rattle.netlist_meaning.proofs.Joined.{pins_are_enough, no_clock_net-joined}
 use Rattle.netlist_meaning.proofs.Roots.{joined_is_same_root}
+use Rattle.lists.proofs.Appends.{slice_get_push as at_end}
 
 -- is the name one of these?
 has : List Name → Name → Bool
@@ -108,10 +109,6 @@ at_before : {X : Type 0} (xs ys : List X) (k : ℕ) (x : X) → slice_get xs k �
 at_before [] ys k x e = absurd (none-some x e)
 at_before (y ∷ xs) ys zero x e = e
 at_before (y ∷ xs) ys (suc k) x e = at_before xs ys k x e
-
-at_end : {X : Type 0} (xs : List X) (x : X) → slice_get (xs ++ x ∷ []) (length xs) ≡ Some x
-at_end [] x = refl
-at_end (y ∷ xs) x = at_end xs x
 
 -- a clock net of the main model that is among its inputs is the control
 clock_input : (design : Design) → NamesFormalsOnce design → (name : Name) → has (main_inputs design) name ≡ true → IsClockNet design (net_at [] name) → IsControl design (net_at [] name)

@@ -1,5 +1,5 @@
 -- Laws of what designs mean and of the rules on them, on which nothing else stands.
-use Rattle.std.specs.Prelude.{Bool, ◌≡◌, ◌≢◌, ℕ, ◌↔◌, List, [], ◌∷◌, ◌++◌, ◌+◌, true, false, Some, slice_get, Any}
+use Rattle.std.specs.Prelude.{Bool, ◌≡◌, ◌≢◌, ℕ, ◌↔◌, List, [], ◌∷◌, ◌++◌, true, false, Some, slice_get, Any}
 use Rattle.netlist_core.specs.declared.model.Port.{Port}
 use Rattle.netlist_core.specs.declared.model.Subckt.{Subckt}
 use Rattle.netlist_core.specs.declared.model.Model.{Model}

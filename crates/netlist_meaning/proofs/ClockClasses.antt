@@ -1,5 +1,5 @@
 -- Whether a class is a clock's, by a test.
-use Rattle.std.proofs.Common.{ℕ, ◌≡◌, ◌==◌, List, Bool, true, false, not, ◌&&◌, ◌||◌, Option, Some, None, ◌⊎◌, inl, inr, sym, subst, ap, ◌∙◌, true≢false, refl}
+use Rattle.std.proofs.Common.{ℕ, ◌≡◌, ◌==◌, List, true, false, not, Option, Some, None, inl, inr, sym, subst, ap, ◌∙◌, true≢false, refl}
 use Rattle.std.specs.Prelude.{Contains, MatchOption}
 use Rattle.std.specs.Bool.{Decides}
 use Rattle.std.specs.List.{list_any}

@@ -1,8 +1,6 @@
 -- How deep places are in a design whose models do not stand inside themselves.
-use Rattle.std.proofs.Common.{ℕ, suc, ◌≡◌, ◌≢◌, ◌≤◌, ◌+◌, ◌⊎◌, List, [], ◌∷◌, ◌++◌, Bool, true, false, cond, ◌||◌, ◌&&◌, Option, Some, None, slice_get, map, find, length, is_some, option_and_then, refl, sym, ap, ◌∙◌, arith, bytes_eq, nat_lt, true≢false, inl, inr}
+use Rattle.std.proofs.Common.{ℕ, suc, ◌≡◌, ◌≢◌, ◌≤◌, ◌+◌, List, [], ◌∷◌, ◌++◌, Bool, true, false, cond, ◌||◌, ◌&&◌, Option, Some, None, slice_get, map, find, length, is_some, option_and_then, refl, sym, ap, ◌∙◌, arith, bytes_eq, nat_lt, true≢false, inl, inr}
 use Rattle.std.specs.List.{list_any, AllByRecursion, IsDistinct}
-use Rattle.std.specs.Cmp.{IsEquivalence}
-use Rattle.std.specs.Bool.{one_answer}
 use Rattle.std.proofs.lemmas.Slice.Eq.{bytes_eq-Decides}
 use Rattle.std.proofs.lemmas.Map.Made.{length-le_from_is_member}
 use Rattle.std.proofs.lemmas.Option.{none-some, same_Some}
@@ -12,9 +10,10 @@ use Rattle.netlist_core.specs.declared.model.Model.{Model}
 use Rattle.netlist_core.specs.Names.{Name, model_named}
 use Rattle.netlist_meaning.specs.Places.{Place, main_model, model_placed, model_below, model_at}
 use Rattle.netlist_meaning.specs.Laws.{PlacesAreShallow, WeightIsSumOverAll}
-use Rattle.lists.proofs.Names.{bytes_eq-same, bytes_eq-other}
+use Rattle.lists.proofs.Names.{bytes_eq-same, bytes_eq-other, names_are_equal}
 use Rattle.netlist_meaning.proofs.Names.{and_then-from}
 use Rattle.netlist_meaning.proofs.Places.{weight_is_sum}
+use Rattle.std.proofs.lemmas.Bool.{or_cases as either, or_left, or_right}
 
 and_then-append : {X : Type 0} (f g h : X → Option X) → ((x : X) → f x ≡ option_and_then g (h x)) → (o : Option X) → option_and_then f o ≡ option_and_then g (option_and_then h o)
 and_then-append f g h same None = refl
@@ -29,26 +28,6 @@ model_below-append design (number ∷ outer) inner model =
 pub model_at-append : (design : Design) (outer inner : Place) → model_at design (outer ++ inner) ≡ option_and_then (model_below design inner) (model_at design outer)
 model_at-append design outer inner =
     and_then-append (model_below design (outer ++ inner)) (model_below design inner) (model_below design outer) (model_below-append design outer inner) (main_model design)
-
-names_are_equal : IsEquivalence bytes_eq
-names_are_equal =
-    record {
-      refl = bytes_eq-same;
-      symm = λ x y. one_answer _ _ (bytes_eq-Decides x y) ((λ e. sym ((bytes_eq-Decides y x).0 e)), λ e. (bytes_eq-Decides y x).1 (sym e));
-      congr = λ x y z e. ap (λ t. bytes_eq t z) ((bytes_eq-Decides x y).0 e);
-    }
-
--- either test holds
-pub either : (a b : Bool) → (a || b) ≡ true → (a ≡ true) ⊎ (b ≡ true)
-either true b e = inl refl
-either false b e = inr e
-
-pub or_left : (a b : Bool) → a ≡ true → (a || b) ≡ true
-or_left a b e = ap (λ t. t || b) e
-
-pub or_right : (a b : Bool) → b ≡ true → (a || b) ≡ true
-or_right true b e = refl
-or_right false b e = e
 
 all_members : (P : Name → Type 0) (xs : List Name) → ((q : Name) → list_any (bytes_eq q) xs ≡ true → P q) → AllByRecursion P xs
 all_members P [] each = tt

@@ -14,9 +14,9 @@ use Rattle.netlist_meaning.specs.Nets.{Net, net_at, IsControl, WithoutControl, n
 use Rattle.netlist_meaning.specs.Roots.{root, root_below, NamesFormalsOnce}
 use Rattle.netlist_meaning.specs.Laws.{InNamesAreThere}
 use Rattle.netlist_meaning.proofs.Names.{and_then-from}
-use Rattle.std.proofs.lemmas.Bool.{and_parts, and_from}
+use Rattle.std.proofs.lemmas.Bool.{and_parts, and_from, or_left, or_right, or_cases as either}
 use Rattle.netlist_meaning.proofs.Roots.{joined_is_same_root}
-use Rattle.netlist_meaning.proofs.Depth.{weight_is_sum_over_all, or_left, or_right, either}
+use Rattle.netlist_meaning.proofs.Depth.{weight_is_sum_over_all}
 
 -- an element that passes is found, and what is found is one that passes
 pub any_at : {X : Type 0} (test : X → Bool) (xs : List X) (k : ℕ) (x : X) → slice_get xs k ≡ Some x → test x ≡ true → list_any test xs ≡ true

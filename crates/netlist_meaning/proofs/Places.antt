@@ -1,7 +1,6 @@
 -- The places of a design as a list, and sums over them.
 use Rattle.std.proofs.Common.{ℕ, zero, suc, ◌≡◌, ◌<◌, ◌+◌, List, [], ◌∷◌, ◌++◌, Bool, true, false, cond, ◌&&◌, Option, Some, None, slice_get, map, length, is_some, option_and_then, option_map, unwrap_or, pred, ◌==◌, add-zero, zero-add, refl, sym, ap, ◌∙◌, arith, bytes_eq, nat_lt, sum_by, count_by}
 use Rattle.std.proofs.lemmas.List.Sums.{sum_by-cons, sum_by-append}
-use Rattle.std.proofs.lemmas.List.Folds.{fold-map}
 use Rattle.std.proofs.lemmas.Bool.{false_from_ne_true}
 use Rattle.std.proofs.lemmas.Bool.Decides.{Decides-ltb, Decides-eqb}
 use Rattle.std.proofs.Math.Dec.{eqb-zero-suc, eqb-suc-zero}
@@ -14,6 +13,7 @@ use Rattle.netlist_core.specs.Names.{model_named}
 use Rattle.netlist_meaning.specs.Weight.{weight_below, of_model}
 use Rattle.netlist_core.specs.OwnWeight.{own_weight}
 use Rattle.netlist_meaning.specs.Laws.{WeightIsSum}
+use Rattle.lists.proofs.Sums.{sum_by-map, sum_by-same}
 
 -- the places inside the models of some subckt lines, where each line has a list of its own
 next_line : Place → Place
@@ -40,15 +40,8 @@ in_lines design top lines (number ∷ place) = option_and_then (model_below desi
 abbrev one_if : Bool → ℕ
 one_if b = cond b 1 0
 
-sum_by-map : {A B : Type 0} (f : B → ℕ) (h : A → B) (xs : List A) → sum_by f (map h xs) ≡ sum_by (λ x. f (h x)) xs
-sum_by-map f h xs = fold-map (λ a x. a + f x) h 0 xs
-
 both : (a b c d : ℕ) → a ≡ c → b ≡ d → a + b ≡ c + d
 both a b c d e f = omega arith
-
-sum_by-same : {A : Type 0} (f g : A → ℕ) (xs : List A) → ((x : A) → f x ≡ g x) → sum_by f xs ≡ sum_by g xs
-sum_by-same f g [] same = refl
-sum_by-same f g (x ∷ xs) same = sum_by-cons f x xs ∙ both _ _ _ _ (same x) (sum_by-same f g xs same) ∙ sym (sum_by-cons g x xs)
 
 sum_by-none : {A : Type 0} (f : A → ℕ) (xs : List A) → ((x : A) → f x ≡ 0) → sum_by f xs ≡ 0
 sum_by-none f [] none = refl

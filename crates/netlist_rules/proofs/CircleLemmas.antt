@@ -3,7 +3,7 @@ use Rattle.lists.proofs.Members.{passes_somewhere}
 use Rattle.std.proofs.Common.{◌≡◌, refl, sym, subst, ℕ, ◌<◌, ◌≤◌, List, [], ◌∷◌, Bool, true, false, not, ◌&&◌, ◌||◌, arith, true≢false}
 use Rattle.std.specs.Prelude.{Contains, nat_lt, nat_le, bytes_eq}
 use Rattle.std.specs.List.{list_all, list_any, position_or_len}
-use Rattle.std.proofs.lemmas.Bool.{ltb-true, leb-true}
+use Rattle.std.proofs.lemmas.Bool.{ltb-true, leb-true, and_from as both}
 use Rattle.std.proofs.lemmas.List.Sums.{AllPass-from_list_all}
 use Rattle.std.proofs.lemmas.Slice.Eq.{bytes_eq-Decides}
 use Rattle.netlist_core.specs.declared.model.Subckt.{Subckt}
@@ -89,10 +89,6 @@ placed_at_end models a (next ∷ others) end p = placed_at_end models next other
 placed_by : (models : List Model) (a : List ℕ) (others : List (List ℕ)) (end : List ℕ) → is_placed models a ≡ true → LeadsBack models a others end → is_placed models end ≡ true
 placed_by models a [] end e p = subst (λ n. is_placed models n ≡ true) p e
 placed_by models a (next ∷ others) end e p = placed_at_end models next others end p.1
-
-both : (a b : Bool) → a ≡ true → b ≡ true → (a && b) ≡ true
-both true b e f = f
-both false b e f = e
 
 placing_in : (models : List Model) (m : Model) (s : Subckt) → Contains models m → Contains m.subckts s → list_any (is_placing m.name) models ≡ true
 placing_in models m s a b = passes_somewhere (is_placing m.name) models m a (both (bytes_eq m.name m.name) (list_any has_any m.subckts) ((bytes_eq-Decides m.name m.name).1 refl) (passes_somewhere has_any m.subckts s b refl))

@@ -3,7 +3,7 @@ use Rattle.std.proofs.Common.{◌≡◌, ◌≢◌, refl, sym, ap, subst, ◌∙
 use Rattle.std.specs.Prelude.{Some, None, Option, filter_map, bytes_eq, flat_map, nat_le}
 use Rattle.std.specs.Option.{option_map_or}
 use Rattle.std.specs.List.{list_any, join_with_byte}
-use Rattle.std.proofs.lemmas.Bool.{leb-true, leb-false}
+use Rattle.std.proofs.lemmas.Bool.{leb-true, leb-false, and_from as both, or_cases as one, or_left, or_right}
 use Rattle.std.proofs.lemmas.Slice.Eq.{bytes_eq-Decides}
 use Rattle.netlist_core.specs.declared.model.Subckt.{Subckt}
 use Rattle.netlist_core.specs.declared.model.Model.{Model}
@@ -13,41 +13,9 @@ use Rattle.netlist_rules.specs.FaultNames.{fault_on}
 use Rattle.netlist_core.specs.Names.{model_named}
 use Rattle.netlist_rules.specs.Circles.{HasSubcktOf, Leads, LeadsBack, IsOnCircle, IsCircleFault}
 use Rattle.netlist_rules.proofs.CircleLemmas.{names}
-use Rattle.lists.proofs.Members.{passes_somewhere, in_filtered, filtered_in, In, in_from, contains_from, in_left, in_right, in_map, in_mapped, in_flat, in_flattened, is_in, Distinct, distinct_from, is_distinct}
+use Rattle.lists.proofs.Members.{passes_somewhere, in_filtered, filtered_in, In, in_from, contains_from, in_left, in_right, in_map, in_mapped, in_flat, in_flattened, is_in, Distinct, distinct_from, is_distinct, passes_at as found_in}
 use Rattle.netlist_rules.proofs.ModelSteps.{leaves, circle_model, model_of_name}
-
--- a test that an element passes
-found_in : {X : Type 0} (p : X → Bool) (xs : List X) → list_any p xs ≡ true → (x : X) × In x xs × (p x ≡ true)
-found_in p [] e = absurd (true≢false (sym e))
-found_in p (x ∷ xs) e = by (p x) refl e (λ d. found_in p xs d)
-  where
-    by : (b : Bool) → p x ≡ b → (b || list_any p xs) ≡ true → (list_any p xs ≡ true → (y : _) × In y xs × (p y ≡ true)) → (y : _) × In y (x ∷ xs) × (p y ≡ true)
-    by true h d again = (x, inl refl, h)
-    by false h d again = let r = again d in (r.0, inr r.1, r.2)
-
-both : (a b : Bool) → a ≡ true → b ≡ true → (a && b) ≡ true
-both true b e f = f
-both false b e f = e
-
-left : (a b : Bool) → (a && b) ≡ true → a ≡ true
-left true b e = refl
-left false b e = e
-
-right : (a b : Bool) → (a && b) ≡ true → b ≡ true
-right true b e = e
-right false b e = absurd (true≢false (sym e))
-
-one : (a b : Bool) → (a || b) ≡ true → (a ≡ true) ⊎ (b ≡ true)
-one true b e = inl refl
-one false b e = inr e
-
-or_left : (a b : Bool) → a ≡ true → (a || b) ≡ true
-or_left true b e = refl
-or_left false b e = absurd (true≢false (sym e))
-
-or_right : (a b : Bool) → b ≡ true → (a || b) ≡ true
-or_right true b e = refl
-or_right false b e = e
+use Rattle.lists.proofs.Bools.{and_true_left as left, and_true_right as right}
 
 -- whether the model of a name places another, and whether it leads to it by way of these names
 abbrev pub has_line_of : List ℕ → Model → Bool

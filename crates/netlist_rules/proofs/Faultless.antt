@@ -1,7 +1,7 @@
 -- What models without a fault have.
 use Rattle.std.proofs.lemmas.Bool.{or_parts, leb-false}
-use Rattle.netlist_rules.proofs.Bools.{other_fails}
-use Rattle.std.proofs.Common.{◌≡◌, ◌≢◌, refl, sym, ap, subst, ◌∙◌, ℕ, ◌<◌, inl, inr, List, [], ◌∷◌, ◌++◌, map, Bool, true, false, ◌&&◌, arith, ◌⊎◌}
+use Rattle.lists.proofs.Bools.{and_false_right as other_fails}
+use Rattle.std.proofs.Common.{◌≡◌, ◌≢◌, refl, sym, ap, subst, ◌∙◌, ℕ, ◌<◌, inl, inr, List, [], ◌∷◌, map, Bool, true, false, ◌&&◌, arith, ◌⊎◌}
 use Rattle.std.specs.Prelude.{Some, None, Option, bytes_eq, flat_map, nat_le, option_to_list}
 use Rattle.std.specs.Bool.{then_some}
 use Rattle.std.specs.List.{list_any}
@@ -21,15 +21,7 @@ use Rattle.netlist_rules.proofs.ModelSteps.{leaves}
 use Rattle.lists.proofs.Members.{In, in_from, Distinct, is_distinct}
 use Rattle.netlist_rules.proofs.FirstModelFaults.{no_model_fault}
 use Rattle.netlist_rules.proofs.CircleSearch.{simple_way, IsSimpleWay, circle_or_none}
-
--- nothing comes of an element where nothing comes of the list
-nothing_left : {X : Type 0} (xs ys : List X) → xs ++ ys ≡ [] → xs ≡ []
-nothing_left [] ys e = refl
-nothing_left (x ∷ xs) ys e = absurd (cc)
-
-nothing_right : {X : Type 0} (xs ys : List X) → xs ++ ys ≡ [] → ys ≡ []
-nothing_right [] ys e = e
-nothing_right (x ∷ xs) ys e = absurd (cc)
+use Rattle.lists.proofs.Appends.{append_nil_left as nothing_left, append_nil_right as nothing_right}
 
 nothing_of : {X Y : Type 0} (f : X → List Y) (xs : List X) (x : X) → flat_map f xs ≡ [] → In x xs → f x ≡ []
 nothing_of f [] x e i = absurd i

@@ -3,8 +3,8 @@ use Rattle.std.proofs.Common.{ℤ, pos, ℕ, zero, suc, ◌+◌, ◌*◌, ◌/�
 use Rattle.std.proofs.lemmas.Bool.{or_cases}
 use Rattle.std.proofs.Math.Bool.{or-false}
 use Rattle.ww_rule.specs.declared.pattern.State.TheVariants.{Head}
-use Rattle.ww_rule.specs.Wireworld.{Due, driven, next_plane}
-use Rattle.ww_rule.specs.Injections.{MeetsConductors}
+use Rattle.ww_rule.specs.Wireworld.{Due, driven}
+use Rattle.ww_rule.specs.Injections.{MeetsConductors, before_injections}
 use Rattle.tile_timing.proofs.Sound.{same_place}
 use Rattle.tile_library.specs.Drawings.{shipped_drawing}
 use Rattle.tiling.specs.Steps.{KeepsLaw}
@@ -58,8 +58,7 @@ heads due is g = (
 )
 
 conductors : gate_plane ≡ start_plane shipped_drawing or_plan → (due : Due) → ShowsPlanRun shipped_drawing or_plan due → MeetsConductors due gate_plane
-conductors plane due is zero x y e = ap (λ p. p x y) plane ∙ is.first_conductors x y e
-conductors plane due is (suc g) x y e = ap (λ p. next_plane (driven due p g) x y) plane ∙ is.conductors g x y e
+conductors plane due is g x y e = ap (λ p. before_injections due p g x y) plane ∙ is.conductors g x y e
 
 pub shows_or : KeepsLaw shipped_drawing → PatternsArePlanes → PlansShowRuns → ShowsOr
 shows_or keeps patterns runs =

@@ -1,8 +1,8 @@
 -- The text of one OR gate, with any names: its lines, its model, and that it has no fault.
-use Rattle.std.proofs.Common.{◌≡◌, ◌≢◌, refl, sym, ap, ◌∙◌, ℕ, List, [], ◌∷◌, ◌++◌, Bool, true, false, ◌||◌, ◌&&◌, true≢false}
+use Rattle.std.proofs.Common.{◌≡◌, ◌≢◌, refl, sym, ap, ◌∙◌, ℕ, List, [], ◌∷◌, ◌++◌, Bool, true, false, true≢false}
 use Rattle.std.specs.Prelude.{codes, None, bytes_eq, ◌==◌}
 use Rattle.std.specs.List.{list_any, list_all}
-use Rattle.std.proofs.lemmas.Bool.{eqb-true}
+use Rattle.std.proofs.lemmas.Bool.{eqb-true, or_from as neither}
 use Rattle.std.proofs.lemmas.Slice.Eq.{bytes_eq-Decides}
 use Rattle.blif_text.specs.declared.logical.Logical.{Logical}
 use Rattle.blif_text.specs.LogicalLines.{is_space, words_of, logical_lines}
@@ -12,6 +12,7 @@ use Rattle.netlist_rules.specs.ModelFaults.{model_fault}
 use Rattle.or_gate_text.specs.OrGate.{IsPlainName, is_name_byte, or_gate_text, or_gate_model, OrGateIsRead}
 use Rattle.blif_text.proofs.Texts.{is_special, lines_from, logical, logical-cut, none-append, words-cut, words-whole}
 use Rattle.netlist_rules.proofs.CircleLemmas.{no_circle}
+use Rattle.lists.proofs.Bools.{and_true_left as and_left, and_true_right as and_right}
 
 abbrev pub or_lines : List ℕ → List ℕ → List ℕ → List ℕ → List Logical
 or_lines m a b y = logical 1 (codes ".model" ∷ m ∷ []) ∷ logical 2 (codes ".inputs" ∷ a ∷ b ∷ []) ∷ logical 3 (codes ".outputs" ∷ y ∷ []) ∷ logical 4 (codes ".names" ∷ a ∷ b ∷ y ∷ [])
@@ -25,10 +26,6 @@ differs p b c e f = by (b == c) refl
     by true h = absurd (true≢false (sym e ∙ ap p (eqb-true b c h) ∙ f))
     by false h = refl
 
-neither : (a b : Bool) → a ≡ false → b ≡ false → (a || b) ≡ false
-neither true b e f = e
-neither false b e f = f
-
 -- no byte of a name is a blank or ends a line, begins a comment or continues a line
 name_byte_special : (b : ℕ) → is_name_byte b ≡ true → is_special b ≡ false
 name_byte_special b e =
@@ -39,14 +36,6 @@ name_byte_blank : (b : ℕ) → is_name_byte b ≡ true → is_space b ≡ false
 name_byte_blank b e =
     let d : (c : ℕ) → is_name_byte c ≡ false → (b == c) ≡ false = λ c. differs is_name_byte b c e in
     neither _ _ (neither _ _ (neither _ _ (neither _ _ (d 9 refl) (d 11 refl)) (d 12 refl)) (d 13 refl)) (d 32 refl)
-
-and_left : (a b : Bool) → (a && b) ≡ true → a ≡ true
-and_left true b e = refl
-and_left false b e = e
-
-and_right : (a b : Bool) → (a && b) ≡ true → b ≡ true
-and_right true b e = e
-and_right false b e = absurd (true≢false (sym e))
 
 -- a test that fails where another passes fails at each byte of a list that passes
 pub none-from-all : (p q : ℕ → Bool) (w : List ℕ) → ((b : ℕ) → p b ≡ true → q b ≡ false) → list_all p w ≡ true → list_any q w ≡ false

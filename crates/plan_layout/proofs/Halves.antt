@@ -15,6 +15,7 @@ use Rattle.lane_core.specs.Instrs.{lane_of, is_above, are_sorted_apart, is_on, i
 use Rattle.lane_core.specs.Columns.{IsColumnOnLanes}
 use Rattle.plan_layout.specs.Layout.{kind_of, body_slot, return_slot}
 use Rattle.lane_core.proofs.Lookup.{none_below}
+use Rattle.lists.proofs.Bools.{and_true_left as and_left, and_true_right as and_right}
 
 abbrev pub is_upper : Slot → Bool
 is_upper Nothing = false
@@ -40,14 +41,6 @@ joined_apart Nothing t u h = h
 joined_apart (Whole p) t u h = h
 joined_apart (Upper p) t u h = cc
 joined_apart (Lower p) t u h = h
-
-and_left : (a b : Bool) → (a && b) ≡ true → a ≡ true
-and_left true b h = refl
-and_left false b h = h
-
-and_right : (a b : Bool) → (a && b) ≡ true → b ≡ true
-and_right true b h = h
-and_right false b h = cc
 
 -- what stands on a lane of a column, by its instructions
 abbrev slot_on : List Instr → ℕ → Slot

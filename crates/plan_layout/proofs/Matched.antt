@@ -1,7 +1,7 @@
 -- The tiles of a plan fit together.
 use Rattle.std.proofs.Common.{◌≡◌, refl, sym, ◌∙◌, ap, subst, ℕ, ◌+◌, ◌-◌, ◌<◌, ◌≤◌, Bool, true, false, ◌&&◌, cond, ltb, ⊎_elim, arith}
 use Rattle.std.proofs.lemmas.Bool.Decides.{nat_tests}
-use Rattle.std.proofs.lemmas.Bool.{cases_lt}
+use Rattle.std.proofs.lemmas.Bool.{cases_lt, and_left as none_left}
 use Rattle.tile_core.specs.declared.kind.Kind.TheVariants as kind
 use Rattle.tiling.specs.Tiling.{Piece, interface_of, Slot}
 use Rattle.tiling.specs.Tiling.Piece.{Tile, Output}
@@ -180,10 +180,6 @@ whole_pieces plan h = record {
   above = λ q l p e. lower_has_upper (tiling_of plan q l) (tiling_of plan q (l + 1)) p (all_joined plan h q l) e;
   first = λ q p e. (let w = first_is_whole plan q in cc);
 }
-
-none_left : (a b : Bool) → a ≡ false → (a && b) ≡ false
-none_left true b h = cc
-none_left false b h = refl
 
 none_right : (a b : Bool) → b ≡ false → (a && b) ≡ false
 none_right true b h = h

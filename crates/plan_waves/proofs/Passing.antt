@@ -12,6 +12,7 @@ use Rattle.tiling.specs.Matched.{IsMatched, is_left}
 use Rattle.tiling.specs.MacroStep.{macro_step, slot_answers}
 use Rattle.tiling.proofs.AtEdges.{beside_first, beside_next, above_first, above_next}
 use Rattle.plan_waves.specs.WaysBack.{way_in, tile_before}
+use Rattle.lists.proofs.Bools.{and_false_right as not_both}
 
 -- where none of the cells lies, none of those that are chosen from them lies
 chosen_none : (x y : ℤ) (cs : List Cell) (bs : List Bool) → is_cell_of x y cs ≡ false → is_cell_of x y (chosen cs bs) ≡ false
@@ -105,11 +106,6 @@ above_is lit q l l' f = ap (λ j. lit (Above q j)) f
 pub record PassesOn (tiling : Tiling) (before after : Edge) : Type 0 where
   pub step : (lit : Lit) → macro_step tiling lit after ≡ lit before
   pub back : tile_before tiling after ≡ before
-
--- one tile back, by the side at which the tile is left
-not_both : (a b : Bool) → a ≡ true → (a && b) ≡ false → b ≡ false
-not_both true b h w = w
-not_both false b h w = cc
 
 back_east : (tiling : Tiling) → IsMatched tiling → (q next l : ℕ) → q + 1 ≡ next → is_left (tiling q l) 31 8 ≡ true → tile_before tiling (Beside next l) ≡ way_in q l (tiling q l)
 back_east tiling m q next l e h =

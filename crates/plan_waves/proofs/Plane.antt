@@ -1,12 +1,12 @@
 -- The cells of the plane of a plan that is driven at multiples of its period, cycle by cycle.
-use Rattle.std.proofs.Common.{◌≡◌, ◌≢◌, refl, sym, ◌∙◌, ap, ap₂, subst, ℤ, ℕ, suc, ◌+◌, ◌-◌, ◌*◌, ◌/◌, ◌%◌, ◌<◌, ◌≤◌, Bool, true, ◌⊎◌, ⊎_elim, inl, inr, length, take, Option, Some, None, arith}
+use Rattle.std.proofs.Common.{◌≡◌, ◌≢◌, refl, sym, ◌∙◌, ap, ap₂, subst, ℕ, zero, suc, ◌+◌, ◌-◌, ◌*◌, ◌/◌, ◌%◌, ◌<◌, ◌≤◌, Bool, true, ◌⊎◌, ⊎_elim, inl, inr, length, take, Option, Some, None, arith}
 use Rattle.std.specs.Prelude.{slice_index}
 use Rattle.std.specs.Option.{ForSome}
 use Rattle.std.proofs.lemmas.Bool.{cases_lt, cases_eq, true≢false}
 use Rattle.std.proofs.lemmas.List.{take_all}
 use Rattle.std.proofs.lemmas.Nat.{div-add-mod'}
 use Rattle.std.proofs.Math.Nat.{mul-mod_left}
-use Rattle.ww_rule.specs.declared.pattern.State.TheVariants.{Conductor}
+use Rattle.ww_rule.specs.Injections.{MeetsConductors}
 use Rattle.ww_rule.specs.Wireworld.{Plane, Due, driven}
 use Rattle.tile_core.specs.declared.kind.Kind.{Kind}
 use Rattle.tile_core.specs.Drawing.{Drawing}
@@ -44,8 +44,7 @@ find_cycle m steps c =
 
 pub plans_show_runs : (library : Kind → Drawing) → KeepsLaw library → (plan : Plan) → IsAdmissible plan → (due : Due) → DrivesCycles plan due → ShowsPlanRun library plan due
 plans_show_runs library law plan h due d = record {
-  first_conductors = first_conductors;
-  conductors = shown.conductors;
+  conductors = conductors;
   outs = outs;
   nets = λ i within. (let place = h.nets i (record { lane = 0; after = None }) within in net (net_place plan i).lane (net_place plan i).after place.lane place.after);
 }
@@ -118,7 +117,8 @@ plans_show_runs library law plan h due d = record {
     net lane None low place = edge_shows 0 lane (omega arith) low (left_of plan 0, row_of lane) (shown.entries 0 lane (some_columns plan h (omega arith)) low)
     net lane (Some column) low place = exit_shows column lane (place column refl) low
 
-    first_conductors : (x y : ℤ) → due 0 x y ≡ true → start_plane library plan x y ≡ Conductor
-    first_conductors x y e =
+    conductors : MeetsConductors due (start_plane library plan)
+    conductors zero x y e =
         let at = d.at_free_entries 0 x y e in
         ap₂ (start_plane library plan) at.2 at.3 ∙ shown.first_conductors at.0 (ap₂ (due 0) (sym at.2) (sym at.3) ∙ e) (start_free plan at.0 at.1)
+    conductors (suc g) x y e = shown.conductors g x y e

@@ -1,8 +1,9 @@
 -- What the plane of a plan shows, which is drawn with any library of tiles that keep the timing law, and driven from its
 -- start edges on.
-use Rattle.std.specs.Prelude.{ℤ, pos, ℕ, suc, ◌+◌, ◌*◌, ◌<◌, ◌≡◌, ◌↔◌, Bool, true, List, length, slice_index}
-use Rattle.ww_rule.specs.declared.pattern.State.TheVariants.{Head, Conductor}
-use Rattle.ww_rule.specs.Wireworld.{Plane, Due, next_plane, driven}
+use Rattle.std.specs.Prelude.{pos, ℕ, ◌+◌, ◌*◌, ◌<◌, ◌≡◌, ◌↔◌, Bool, true, List, length, slice_index}
+use Rattle.ww_rule.specs.declared.pattern.State.TheVariants.{Head}
+use Rattle.ww_rule.specs.Wireworld.{Plane, Due, driven}
+use Rattle.ww_rule.specs.Injections.{MeetsConductors}
 use Rattle.tile_core.specs.declared.kind.Kind.{Kind}
 use Rattle.tile_core.specs.Drawing.{Drawing}
 use Rattle.tiling.specs.Steps.{KeepsLaw}
@@ -27,8 +28,7 @@ cycle_bits plan due t = entering_bits (first_loop_lane plan.lanes plan.latches) 
 -- Each injection meets a conductor, and the cells of outputs and nets show, cycle by cycle, what the columns make on their
 -- lanes of these bits that enter the body.
 pub record ShowsBits (library : Kind → Drawing) (plan : Plan) (due : Due) (entering : ℕ → List Bool) : Type 0 where
-  pub first_conductors : (x y : ℤ) → due 0 x y ≡ true → start_plane library plan x y ≡ Conductor
-  pub conductors : (g : ℕ) (x y : ℤ) → due (suc g) x y ≡ true → next_plane (driven due (start_plane library plan) g) x y ≡ Conductor
+  pub conductors : MeetsConductors due (start_plane library plan)
   pub outs : (i : ℕ) → i < length plan.outs
       → ShowsEachCycle (period_of plan) (driven due (start_plane library plan)) (out_cell_of plan i)
       (λ t. bit_on (after_columns plan.columns (entering t)) (slice_index plan.outs i))

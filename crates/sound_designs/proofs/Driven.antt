@@ -1,9 +1,7 @@
 -- Each net has a driver.
-use Rattle.std.proofs.Common.{◌≡◌, ◌≢◌, refl, sym, ap, subst, ◌∙◌, ℕ, zero, suc, ◌+◌, ◌<◌, ◌≤◌, ◌⊎◌, inl, inr, List, [], ◌∷◌, ◌++◌, map, Bool, true, false, not, ◌||◌, ◌&&◌, true≢false, arith, length, slice_get, get_or, drop, option_and_then}
-use Rattle.std.specs.Prelude.{Some, None, Option, bytes_eq, Contains, flat_map, filter_map, option_to_list, nat_le, nat_lt}
+use Rattle.std.proofs.Common.{◌≡◌, refl, sym, ap, subst, ◌∙◌, ℕ, suc, ◌⊎◌, inl, inr, List, [], ◌∷◌, ◌++◌, map, Bool, true, false, not, ◌||◌, true≢false, slice_get}
+use Rattle.std.specs.Prelude.{Some, Option, flat_map, option_to_list}
 use Rattle.std.specs.Bool.{then_some}
-use Rattle.std.specs.List.{list_any}
-use Rattle.std.proofs.lemmas.Slice.Eq.{bytes_eq-Decides}
 use Rattle.std.proofs.lemmas.Option.{none-some}
 use Rattle.netlist_core.specs.declared.model.Port.{Port}
 use Rattle.netlist_core.specs.declared.model.Pin.{Pin}
@@ -11,18 +9,15 @@ use Rattle.netlist_core.specs.declared.model.Cover.{Cover}
 use Rattle.netlist_core.specs.declared.model.LatchRow.{LatchRow}
 use Rattle.netlist_core.specs.declared.model.Subckt.{Subckt}
 use Rattle.netlist_core.specs.declared.model.Model.{Model}
-use Rattle.netlist_core.specs.declared.model.Design.{Design}
-use Rattle.netlist_core.specs.Names.{Name, port_names, at_line, has_name, is_named, model_named}
-use Rattle.netlist_meaning.specs.Places.{Place, main_model, model_placed, model_below, model_at}
-use Rattle.netlist_meaning.specs.Nets.{Net, net_at, IsNet, IsPinned, Joined, model_names}
+use Rattle.netlist_core.specs.Names.{Name, port_names, at_line, is_named, model_named}
+use Rattle.netlist_meaning.specs.Nets.{model_names}
 use Rattle.netlist_rules.specs.declared.fault.FaultKind.{FaultKind}
-use Rattle.netlist_rules.specs.declared.fault.FaultKind.TheVariants.{DuplicatePort, MultipleDrivers, Undriven, NoSuchModel, NoSuchPin, PinMissing}
-use Rattle.netlist_rules.specs.Drivers.{has_input, has_output, is_input_pin, is_output_pin, is_unknown_pin, stands_earlier, firsts_after, firsts, inputs_of, cover_output, latch_output, cover_readings, latch_readings, actual_if, actuals_on, actuals, drivers_of, readings_of}
-use Rattle.netlist_rules.specs.ModelFaults.{AreFaultless, words_at_fault, missing_model, unknown_formals, is_portless, lacks_port, unless_named, undriven_readings}
-use Rattle.netlist_rules.specs.Laws.{all_words_at_fault}
+use Rattle.netlist_rules.specs.declared.fault.FaultKind.TheVariants.{Undriven, NoSuchModel, NoSuchPin}
+use Rattle.netlist_rules.specs.Drivers.{has_input, has_output, is_input_pin, is_output_pin, is_unknown_pin, stands_earlier, firsts_after, inputs_of, cover_output, latch_output, cover_readings, latch_readings, actual_if, actuals_on, actuals, drivers_of, readings_of}
+use Rattle.netlist_rules.specs.ModelFaults.{AreFaultless, words_at_fault, missing_model, unknown_formals, is_portless, lacks_port, unless_named}
 use Rattle.netlist_rules.proofs.FirstModelFaults.{no_model_fault}
-use Rattle.lists.proofs.Members.{In, in_from, contains_from, in_left, in_right, in_parts, in_mapped, in_map, in_flat, in_flattened, in_filtered, filtered_in}
-use Rattle.sound_designs.proofs.Sound.{same_of, none_of, in_got, some_models, in_models, is_placed, named_in, not_portless, in_names_append}
+use Rattle.lists.proofs.Members.{In, in_left, in_right, in_parts, in_mapped, in_map, in_flat, in_flattened, in_filtered, filtered_in}
+use Rattle.sound_designs.proofs.Sound.{same_of, none_of, in_got, some_models, is_placed, named_in, not_portless}
 use Rattle.sound_designs.proofs.OneDriver.{Local}
 use Rattle.sound_designs.proofs.OneDriver.Local.{by_input, by_cover, by_latch, by_output}
 

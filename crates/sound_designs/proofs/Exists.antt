@@ -1,7 +1,7 @@
 -- Along an order there is a valuation.
-use Rattle.std.proofs.Common.{◌≡◌, ◌≢◌, refl, sym, ap, subst, ◌∙◌, ℕ, zero, suc, pred, ◌+◌, ◌<◌, ◌≤◌, ◌⊎◌, inl, inr, List, [], ◌∷◌, ◌++◌, map, Bool, true, false, cond, not, ◌||◌, ◌&&◌, ◌==◌, true≢false, arith, length, slice_get, option_and_then}
+use Rattle.std.proofs.Common.{◌≡◌, ◌≢◌, refl, sym, ap, subst, ◌∙◌, ℕ, pred, ◌⊎◌, inl, inr, List, [], ◌∷◌, ◌++◌, map, Bool, true, false, cond, ◌||◌, ◌&&◌, ◌==◌, true≢false, length, slice_get, option_and_then}
 use Rattle.std.specs.List.{IsDistinct}
-use Rattle.std.specs.Prelude.{Some, None, Option, bytes_eq, Contains, option_map, unwrap_or, option_to_list, flat_map}
+use Rattle.std.specs.Prelude.{Some, None, Option, bytes_eq, option_map, unwrap_or, option_to_list, flat_map}
 use Rattle.std.specs.Bool.{then_some}
 use Rattle.std.proofs.lemmas.Slice.Eq.{bytes_eq-Decides}
 use Rattle.std.proofs.lemmas.Bool.Decides.{Decides-eqb}
@@ -15,29 +15,31 @@ use Rattle.netlist_core.specs.declared.model.LatchRow.{LatchRow}
 use Rattle.netlist_core.specs.declared.model.Model.{Model}
 use Rattle.netlist_core.specs.declared.model.Design.{Design}
 use Rattle.netlist_core.specs.Names.{Name, port_names}
-use Rattle.netlist_meaning.specs.Places.{Place, main_model, main_inputs, model_at, latch_at}
-use Rattle.netlist_meaning.specs.Nets.{Net, net_at, IsNet, IsPinned, Joined, IsControl, IsClockNet, WithoutControl, IsInNames, model_names}
+use Rattle.netlist_meaning.specs.Places.{Place, main_model, main_inputs, model_at}
+use Rattle.netlist_meaning.specs.Nets.{Net, net_at, IsNet, Joined, WithoutControl, model_names}
 use Rattle.netlist_meaning.specs.Nets.WithoutControl.{none, kept, left_out}
 use Rattle.netlist_meaning.specs.Nets.Joined.{by_pin, itself, reversed, followed}
-use Rattle.netlist_rules.specs.Clocks.{HasNoClockFault, IsWired}
+use Rattle.netlist_rules.specs.Clocks.{HasNoClockFault}
 use Rattle.netlist_meaning.specs.CoverValue.{cover_value}
-use Rattle.netlist_meaning.specs.Valuation.{Valuation, LatchState, IsValuation}
+use Rattle.netlist_meaning.specs.Valuation.{LatchState}
 use Rattle.lists.proofs.Names.{bytes_eq-same}
 use Rattle.netlist_meaning.proofs.Names.{and_then-from}
 use Rattle.netlist_rules.specs.declared.fault.FaultKind.TheVariants.{DuplicatePort}
-use Rattle.netlist_rules.specs.Drivers.{stands_earlier, repeats_after, repeats}
+use Rattle.netlist_rules.specs.Drivers.{stands_earlier, repeats_after}
 use Rattle.netlist_rules.specs.ModelFaults.{AreFaultless, doubles_after, is_output_before, is_input_by_then, duplicate_ports}
-use Rattle.lists.proofs.Members.{is_distinct, In, in_from, contains_from, in_left, in_right, in_parts, is_in, in_flat, in_map, Distinct}
+use Rattle.lists.proofs.Members.{is_distinct, In, in_from, contains_from, in_left, in_right, is_in, in_flat, in_map, Distinct}
 use Rattle.sound_designs.specs.Laws.{FaultlessHaveDistinctPorts}
 use Rattle.sound_designs.specs.OneDriver.{Driver, Drives}
 use Rattle.sound_designs.specs.OneDriver.Driver.{port, cover, latch}
 use Rattle.sound_designs.specs.OneDriver.Drives.{of_port, of_cover, of_latch}
 use Rattle.sound_designs.specs.Order.{CoverAt, IsCoverAt, IsCoverOrder, OrderedHaveAValuation}
-use Rattle.sound_designs.proofs.Sound.{in_got, in_models, wired, same_of, formals_named}
+use Rattle.sound_designs.proofs.Sound.{in_got, in_models, same_of, formals_named}
 use Rattle.sound_designs.proofs.Local.{Apart, no_repeat}
 use Rattle.sound_designs.proofs.OneDriver.{at_most_one_driver}
 use Rattle.sound_designs.proofs.Driven.{got_from, clean_of, names_left}
-use Rattle.sound_designs.proofs.Sources.{have_drivers, first_of, none_kept, none_left, none_right}
+use Rattle.sound_designs.proofs.Sources.{have_drivers, none_kept}
+use Rattle.lists.proofs.Bools.{or_false_left as first_of}
+use Rattle.lists.proofs.Appends.{append_nil_left as none_left, append_nil_right as none_right}
 use Rattle.sound_designs.proofs.Ordered.{same_map, in_covers}
 use Rattle.sound_designs.proofs.NoLoop.{split_at}
 

@@ -1,41 +1,21 @@
 -- The drivers of one model.
-use Rattle.std.proofs.Common.{◌≡◌, ◌≢◌, refl, sym, ap, subst, ◌∙◌, ℕ, zero, suc, ◌<◌, ◌≤◌, ◌⊎◌, inl, inr, List, [], ◌∷◌, ◌++◌, map, Bool, true, false, not, ◌||◌, ◌&&◌, true≢false, arith, length, slice_get}
-use Rattle.std.specs.Prelude.{Some, None, Option, bytes_eq, flat_map, filter_map, option_to_list, nat_le, nat_lt}
+use Rattle.std.proofs.Common.{◌≡◌, ◌≢◌, refl, sym, ap, subst, ◌∙◌, ℕ, zero, suc, ◌<◌, ◌≤◌, inl, inr, List, [], ◌∷◌, ◌++◌, map, Bool, true, false, ◌&&◌, true≢false, arith, slice_get}
+use Rattle.std.specs.Prelude.{Some, None, Option, flat_map, filter_map, option_to_list, nat_le, nat_lt}
 use Rattle.std.specs.Bool.{then_some}
 use Rattle.std.specs.List.{list_any, cons_option}
 use Rattle.std.proofs.lemmas.Slice.Eq.{bytes_eq-Decides}
 use Rattle.std.proofs.lemmas.Option.{none-some}
 use Rattle.std.proofs.lemmas.Bool.{leb-false, ltb-false}
 use Rattle.netlist_core.specs.declared.model.Port.{Port}
-use Rattle.netlist_core.specs.declared.model.Pin.{Pin}
-use Rattle.netlist_core.specs.declared.model.Cover.{Cover}
-use Rattle.netlist_core.specs.declared.model.LatchRow.{LatchRow}
-use Rattle.netlist_core.specs.declared.model.Subckt.{Subckt}
-use Rattle.netlist_core.specs.declared.model.Model.{Model}
-use Rattle.netlist_core.specs.Names.{at_line, has_name}
-use Rattle.netlist_rules.specs.Drivers.{same_name_up_to, same_name_before, stands_earlier, repeats_after, repeats, firsts_after, firsts}
-use Rattle.lists.proofs.Members.{In, in_left, in_right, in_parts}
+use Rattle.netlist_rules.specs.Drivers.{same_name_up_to, same_name_before, stands_earlier, repeats_after, repeats}
+use Rattle.lists.proofs.Members.{In, in_left, in_right, filtered_in as in_filter}
 use Rattle.sound_designs.proofs.Sound.{same_of}
-
-first_of : (a b : Bool) → (a || b) ≡ false → a ≡ false
-first_of true b e = e
-first_of false b e = refl
-
-second_of : (a b : Bool) → (a || b) ≡ false → b ≡ false
-second_of true b e = absurd (true≢false e)
-second_of false b e = e
+use Rattle.lists.proofs.Bools.{or_false_left as first_of, or_false_right as second_of}
+use Rattle.lists.proofs.Appends.{append_nil_left as none_left, append_nil_right as none_right}
 
 none_kept : (b : Bool) (p : Port) → option_to_list (then_some b p) ≡ [] → b ≡ false
 none_kept true p e = absurd (cc)
 none_kept false p e = refl
-
-none_left : {X : Type 0} (xs ys : List X) → xs ++ ys ≡ [] → xs ≡ []
-none_left [] ys e = refl
-none_left (x ∷ xs) ys e = absurd (cc)
-
-none_right : {X : Type 0} (xs ys : List X) → xs ++ ys ≡ [] → ys ≡ []
-none_right [] ys e = e
-none_right (x ∷ xs) ys e = absurd (cc)
 
 pub not_any : {X : Type 0} (test : X → Bool) (xs : List X) (x : X) → list_any test xs ≡ false → In x xs → test x ≡ false
 not_any test [] x e i = absurd i
@@ -127,15 +107,6 @@ pub apart_at : {X : Type 0} (f : X → List Port) (xs : List X) (i : ℕ) (x : X
 apart_at f [] i x a e = absurd (none-some x e)
 apart_at f (z ∷ zs) zero x a e = subst (λ v. Apart (f v)) (same_of e) (apart_left (f z) (flat_map f zs) a)
 apart_at f (z ∷ zs) (suc i) x a e = apart_at f zs i x (apart_right (f z) (flat_map f zs) a) e
-
-in_filter : {X Y : Type 0} (f : X → Option Y) (xs : List X) (x : X) (y : Y) → In x xs → f x ≡ Some y → In y (filter_map f xs)
-in_filter f [] x y i e = absurd i
-in_filter f (z ∷ zs) x y (inl same) e = subst (λ o. In y (cons_option o (filter_map f zs))) (sym (ap f (sym same) ∙ e)) (inl refl)
-in_filter f (z ∷ zs) x y (inr i) e = by (f z) (in_filter f zs x y i e)
-  where
-    by : (o : Option _) → In y (filter_map f zs) → In y (cons_option o (filter_map f zs))
-    by None j = j
-    by (Some w) j = inr j
 
 apart_cons : (o : Option Port) (ps : List Port) → Apart (cons_option o ps) → Apart ps
 apart_cons None ps a = a

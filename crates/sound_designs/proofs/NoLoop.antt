@@ -1,13 +1,13 @@
 -- Along an order there is no loop.
-use Rattle.std.proofs.Common.{◌≡◌, ◌≢◌, refl, sym, ap, subst, ◌∙◌, ℕ, zero, suc, ◌+◌, ◌<◌, ◌≤◌, ◌⊎◌, inl, inr, List, [], ◌∷◌, ◌++◌, arith, length, slice_get}
-use Rattle.std.specs.Prelude.{Some, Contains}
+use Rattle.std.proofs.Common.{◌≡◌, refl, sym, ap, subst, ◌∙◌, ℕ, zero, suc, ◌+◌, ◌<◌, ◌⊎◌, inl, inr, List, [], ◌∷◌, ◌++◌, arith, length}
+use Rattle.std.specs.Prelude.{Contains}
 use Rattle.std.proofs.lemmas.List.{append_assoc, length-append}
 use Rattle.netlist_core.specs.declared.model.Cover.{Cover}
 use Rattle.netlist_core.specs.declared.model.Design.{Design}
 use Rattle.netlist_core.specs.Names.{Name}
 use Rattle.netlist_meaning.specs.Nets.{Net, net_at, Joined}
-use Rattle.netlist_meaning.specs.Nets.Joined.{itself, reversed, followed}
-use Rattle.netlist_meaning.specs.Loop.{Feeds, FeedsThrough, IsCombinationalLoop}
+use Rattle.netlist_meaning.specs.Nets.Joined.{followed}
+use Rattle.netlist_meaning.specs.Loop.{Feeds, FeedsThrough}
 use Rattle.lists.proofs.Members.{In, in_from, contains_from}
 use Rattle.sound_designs.specs.Order.{CoverAt, IsCoverAt, IsCoverOrder, OrderedHaveNoLoop}
 use Rattle.sound_designs.proofs.Driven.{got_from}

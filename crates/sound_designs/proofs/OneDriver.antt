@@ -1,11 +1,10 @@
 -- Joined nets have at most one driver.
-use Rattle.std.proofs.Common.{◌≡◌, ◌≢◌, refl, sym, ap, subst, ◌∙◌, ℕ, zero, suc, ◌<◌, ◌≤◌, ◌⊎◌, inl, inr, List, [], ◌∷◌, ◌++◌, map, Bool, true, false, not, ◌||◌, ◌&&◌, true≢false, arith, length, slice_get, get_or, drop, option_and_then}
-use Rattle.std.specs.Prelude.{Some, None, Option, bytes_eq, Contains, flat_map, filter_map, option_to_list, nat_le, nat_lt}
+use Rattle.std.proofs.Common.{◌≡◌, ◌≢◌, refl, sym, ap, subst, ◌∙◌, ℕ, ◌<◌, ◌≤◌, ◌⊎◌, inl, inr, List, [], ◌∷◌, ◌++◌, map, Bool, true, false, not, ◌||◌, ◌&&◌, true≢false, arith, length, slice_get, get_or, drop, option_and_then}
+use Rattle.std.specs.Prelude.{Some, None, Option, bytes_eq, Contains, option_to_list, nat_le, nat_lt}
 use Rattle.std.specs.Bool.{then_some}
 use Rattle.std.specs.List.{list_any}
 use Rattle.std.proofs.lemmas.Slice.Eq.{bytes_eq-Decides}
-use Rattle.std.proofs.lemmas.Option.{none-some}
-use Rattle.std.proofs.lemmas.Bool.{ltb-false, ltb-true, leb-true}
+use Rattle.std.proofs.lemmas.Bool.{ltb-false, ltb-true, leb-true, or_from as or_false}
 use Rattle.netlist_core.specs.declared.model.Port.{Port}
 use Rattle.netlist_core.specs.declared.model.Pin.{Pin}
 use Rattle.netlist_core.specs.declared.model.Cover.{Cover}
@@ -13,17 +12,17 @@ use Rattle.netlist_core.specs.declared.model.LatchRow.{LatchRow}
 use Rattle.netlist_core.specs.declared.model.Subckt.{Subckt}
 use Rattle.netlist_core.specs.declared.model.Model.{Model}
 use Rattle.netlist_core.specs.declared.model.Design.{Design}
-use Rattle.netlist_core.specs.Names.{Name, port_names, at_line, has_name, model_named}
-use Rattle.netlist_meaning.specs.Places.{Place, main_model, model_placed, model_below, model_at}
+use Rattle.netlist_core.specs.Names.{port_names, at_line, model_named}
+use Rattle.netlist_meaning.specs.Places.{Place, model_below, model_at}
 use Rattle.netlist_meaning.specs.Nets.{Net, net_at, IsPinned, Joined}
 use Rattle.netlist_meaning.specs.Nets.Joined.{by_pin, itself, reversed, followed}
 use Rattle.netlist_meaning.proofs.Depth.{model_at-append}
 use Rattle.netlist_rules.specs.declared.fault.FaultKind.TheVariants.{MultipleDrivers, NoSuchModel, NoSuchPin}
-use Rattle.netlist_rules.specs.Drivers.{has_input, has_output, is_input_pin, is_output_pin, same_name_up_to, same_name_before, stands_earlier, firsts_after, firsts, inputs_of, cover_output, latch_output, actual_if, actuals_on, actuals, drivers_of, repeats}
+use Rattle.netlist_rules.specs.Drivers.{has_input, has_output, is_input_pin, is_output_pin, same_name_up_to, same_name_before, stands_earlier, firsts_after, inputs_of, cover_output, latch_output, actual_if, actuals_on, actuals, drivers_of}
 use Rattle.netlist_rules.specs.ModelFaults.{AreFaultless, words_at_fault, missing_model, unknown_formals, is_portless, lacks_port}
 use Rattle.netlist_rules.proofs.FirstModelFaults.{no_model_fault}
-use Rattle.lists.proofs.Members.{In, in_from, contains_from, in_left, in_right, in_parts, in_mapped, in_map, filtered_in}
-use Rattle.sound_designs.specs.OneDriver.{Driver, Drives, AtMostOneDriver, FaultlessHaveAtMostOneDriver}
+use Rattle.lists.proofs.Members.{In, in_from, in_left, in_right, in_mapped, filtered_in}
+use Rattle.sound_designs.specs.OneDriver.{Driver, Drives, FaultlessHaveAtMostOneDriver}
 use Rattle.sound_designs.specs.OneDriver.Driver.{port, cover, latch}
 use Rattle.sound_designs.specs.OneDriver.Drives.{of_port, of_cover, of_latch}
 use Rattle.sound_designs.proofs.Sound.{same_of, none_of, in_got, some_models, in_models, is_placed, named_in, not_portless, formals_once}
@@ -44,9 +43,6 @@ any_in test (x ∷ xs) e = by (test x) refl (λ t. any_in test xs t) e
 pub none_any : {X : Type 0} (test : X → Bool) (xs : List X) → ((x : X) → In x xs → test x ≡ false) → list_any test xs ≡ false
 none_any test [] f = refl
 none_any test (x ∷ xs) f = ap (λ b. b || list_any test xs) (f x (inl refl)) ∙ none_any test xs (λ y i. f y (inr i))
-
-or_false : (a b : Bool) → a ≡ false → b ≡ false → (a || b) ≡ false
-or_false a b e f = ap (λ c. c || b) e ∙ f
 
 keep_front : (b : Bool) (x : Port) (rest : List Port) → b ≡ false → In x.name (port_names (option_to_list (then_some (not b) x) ++ rest))
 keep_front true x rest e = absurd (true≢false e)

@@ -1,29 +1,26 @@
 -- Along an order there is at most one valuation.
-use Rattle.std.proofs.Common.{◌≡◌, ◌≢◌, refl, sym, ap, subst, ◌∙◌, ℕ, zero, suc, ◌+◌, ◌<◌, ◌≤◌, ◌⊎◌, inl, inr, List, [], ◌∷◌, ◌++◌, map, Bool, true, false, not, ◌||◌, true≢false, arith, length, slice_get, get_or, drop, option_and_then}
-use Rattle.std.specs.Prelude.{Some, None, Option, bytes_eq, Contains, option_map, unwrap_or}
-use Rattle.std.proofs.lemmas.Slice.Eq.{bytes_eq-Decides}
+use Rattle.std.proofs.Common.{◌≡◌, refl, sym, ap, subst, ◌∙◌, ℕ, zero, suc, inl, inr, List, [], ◌∷◌, ◌++◌, map, Bool, false, slice_get, get_or, drop, option_and_then}
+use Rattle.std.specs.Prelude.{Some, Contains, option_map, unwrap_or}
 use Rattle.std.proofs.lemmas.List.{append_assoc}
-use Rattle.netlist_core.specs.declared.model.Port.{Port}
 use Rattle.netlist_core.specs.declared.model.Cover.{Cover}
-use Rattle.netlist_core.specs.declared.model.LatchRow.{LatchRow}
 use Rattle.netlist_core.specs.declared.model.Model.{Model}
 use Rattle.netlist_core.specs.declared.model.Design.{Design}
 use Rattle.netlist_core.specs.Names.{Name, port_names}
-use Rattle.netlist_meaning.specs.Places.{Place, main_model, main_inputs, main_clocks, model_at, latch_at}
-use Rattle.netlist_meaning.specs.Nets.{Net, net_at, IsNet, Joined, IsControl, IsClockNet, IsLatchControl, IsMainClock, WithoutControl, IsInNames, model_names}
+use Rattle.netlist_meaning.specs.Places.{main_model, main_inputs, main_clocks, latch_at}
+use Rattle.netlist_meaning.specs.Nets.{Net, net_at, IsNet, Joined, IsControl, IsClockNet, WithoutControl, model_names}
 use Rattle.netlist_meaning.specs.Nets.WithoutControl.{none, kept, left_out}
-use Rattle.netlist_meaning.specs.Nets.Joined.{by_pin, itself, reversed, followed}
-use Rattle.netlist_rules.specs.Clocks.{HasNoClockFault, IsWired}
+use Rattle.netlist_meaning.specs.Nets.Joined.{itself, reversed}
+use Rattle.netlist_rules.specs.Clocks.{HasNoClockFault}
 use Rattle.netlist_rules.specs.Clocks.IsUse.{by_cover}
 use Rattle.netlist_meaning.specs.CoverValue.{cover_value}
-use Rattle.netlist_meaning.specs.Valuation.{Valuation, LatchState, IsValuation, AgreeOnNets}
+use Rattle.netlist_meaning.specs.Valuation.{Valuation, LatchState, IsValuation}
 use Rattle.netlist_meaning.proofs.Joined.{in_names_are_one, no_clock_net-joined}
 use Rattle.netlist_rules.specs.ModelFaults.{AreFaultless}
 use Rattle.lists.proofs.Members.{In, in_from, contains_from, in_left, in_right, in_parts, is_in, in_flat}
 use Rattle.sound_designs.specs.OneDriver.{Driver, Drives}
 use Rattle.sound_designs.specs.OneDriver.Drives.{of_port, of_cover, of_latch}
 use Rattle.sound_designs.specs.Order.{CoverAt, IsCoverAt, IsCoverOrder, OrderedHaveAtMostOneValuation}
-use Rattle.sound_designs.proofs.Sound.{in_got, wired, same_of, in_names_append}
+use Rattle.sound_designs.proofs.Sound.{in_got, wired, in_names_append}
 use Rattle.sound_designs.proofs.Driven.{got_from}
 use Rattle.sound_designs.proofs.Sources.{have_drivers}
 

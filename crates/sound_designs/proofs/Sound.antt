@@ -1,6 +1,6 @@
 -- Designs without a fault.
-use Rattle.std.proofs.Common.{◌≡◌, ◌≢◌, refl, sym, ap, subst, ◌∙◌, ℕ, zero, suc, ◌<◌, ◌≤◌, ◌⊎◌, inl, inr, List, [], ◌∷◌, ◌++◌, map, Bool, true, false, not, ◌||◌, true≢false, arith, cond, length, slice_get, option_and_then, arith}
-use Rattle.std.specs.Prelude.{Some, None, Option, bytes_eq, Contains, find, flat_map, option_to_list, filter_map}
+use Rattle.std.proofs.Common.{◌≡◌, ◌≢◌, refl, sym, ap, subst, ◌∙◌, ℕ, zero, suc, ◌<◌, ◌≤◌, ◌⊎◌, inl, inr, List, [], ◌∷◌, ◌++◌, map, Bool, true, false, not, ◌||◌, true≢false, arith, cond, slice_get, option_and_then, arith}
+use Rattle.std.specs.Prelude.{Some, None, Option, bytes_eq, flat_map, filter_map}
 use Rattle.std.specs.Bool.{then_some}
 use Rattle.std.specs.List.{list_any}
 use Rattle.std.proofs.lemmas.Slice.Eq.{bytes_eq-Decides}
@@ -11,7 +11,7 @@ use Rattle.netlist_core.specs.declared.model.Subckt.{Subckt}
 use Rattle.netlist_core.specs.declared.model.Model.{Model}
 use Rattle.netlist_core.specs.declared.model.Design.{Design}
 use Rattle.netlist_meaning.specs.Nets.{Net, IsNet, IsPinned, model_names}
-use Rattle.netlist_rules.specs.Clocks.{IsClockUse, IsClockRead, HasOneClock, HasNoClockFault}
+use Rattle.netlist_rules.specs.Clocks.{IsClockUse, IsClockRead}
 use Rattle.netlist_rules.specs.Clocks.IsClockFault.{two_clocks, clock_read}
 use Rattle.netlist_rules.specs.FaultNames.{fault_on}
 use Rattle.netlist_meaning.specs.Places.{Place, main_model, model_placed, model_below, model_at}
@@ -22,13 +22,13 @@ use Rattle.netlist_meaning.proofs.Depth.{model_at-append}
 use Rattle.netlist_rules.specs.declared.fault.FaultKind.TheVariants.{NoSuchModel, NoSuchPin, TwoClocks, ClockRead}
 use Rattle.netlist_rules.specs.Drivers.{has_input, has_output}
 use Rattle.netlist_rules.specs.ModelFaults.{AreFaultless, model_fault, words_at_fault, missing_model, unplaced, unknown_formals, is_portless, lacks_port, formal_if}
-use Rattle.netlist_rules.specs.Laws.{all_words_at_fault}
 use Rattle.netlist_rules.proofs.FirstModelFaults.{no_model_fault}
 use Rattle.netlist_rules.specs.Circles.{HasSubcktOf, Leads}
-use Rattle.lists.proofs.Members.{In, in_from, contains_from, Distinct, distinct_from, in_map, in_left, in_right, in_parts, filtered_in}
+use Rattle.lists.proofs.Members.{In, in_from, contains_from, Distinct, distinct_from, in_map, in_left, in_right, filtered_in}
 use Rattle.netlist_rules.proofs.ModelSteps.{model_of_name}
 use Rattle.netlist_rules.proofs.Faultless.{no_model_is_in_itself, formals_are_distinct}
 use Rattle.sound_designs.specs.Laws.{FaultlessAreNotRecursive, FaultlessNameFormalsOnce, FaultlessAreWired}
+use Rattle.lists.proofs.Appends.{append_nil_left as none_left, append_nil_right as none_right}
 
 pub same_of : {X : Type 0} {x y : X} → Some x ≡ Some y → x ≡ y
 same_of {x = x} {y = y} e = same_Some x y e
@@ -116,15 +116,6 @@ pub formals_once : FaultlessNameFormalsOnce
 formals_once design faultless place number model line p q is_model is_line p_in q_in same =
     let d = formals_are_distinct design.models faultless model line (contains_from design.models model (in_models design place model is_model)) (contains_from model.subckts line (in_got model.subckts number line is_line)) in
     ap (λ (pin : Pin). pin.actual) (one_pin line.pins p q (distinct_from (map (λ (pin : Pin). pin.formal) line.pins) d) (in_from line.pins p p_in) (in_from line.pins q q_in) same)
-
--- nothing comes of an element where nothing comes of the list
-none_left : {X : Type 0} (xs ys : List X) → xs ++ ys ≡ [] → xs ≡ []
-none_left [] ys e = refl
-none_left (x ∷ xs) ys e = absurd (cc)
-
-none_right : {X : Type 0} (xs ys : List X) → xs ++ ys ≡ [] → ys ≡ []
-none_right [] ys e = e
-none_right (x ∷ xs) ys e = absurd (cc)
 
 pub none_of : {X Y : Type 0} (f : X → List Y) (xs : List X) (x : X) → flat_map f xs ≡ [] → In x xs → f x ≡ []
 none_of f [] x e i = absurd i

@@ -1,6 +1,6 @@
 -- The driver of a net is found, up through inputs and down through outputs.
-use Rattle.std.proofs.Common.{◌≡◌, ◌≢◌, refl, sym, ap, subst, ◌∙◌, ℕ, zero, suc, ◌+◌, ◌<◌, ◌≤◌, ◌⊎◌, inl, inr, List, [], ◌∷◌, ◌++◌, map, Bool, true, false, not, ◌||◌, ◌&&◌, true≢false, arith, length, slice_get, get_or, drop, option_and_then, is_some}
-use Rattle.std.specs.Prelude.{Some, None, Option, bytes_eq, Contains, flat_map, option_to_list}
+use Rattle.std.proofs.Common.{◌≡◌, refl, sym, ap, subst, ◌∙◌, ℕ, zero, suc, ◌+◌, ◌<◌, ◌≤◌, inl, inr, List, [], ◌∷◌, ◌++◌, map, Bool, true, false, not, ◌||◌, true≢false, arith, length, slice_get, option_and_then, is_some}
+use Rattle.std.specs.Prelude.{Some, None, Option, flat_map, option_to_list}
 use Rattle.std.specs.Option.{option_map_or}
 use Rattle.std.specs.Bool.{then_some}
 use Rattle.std.specs.List.{list_any}
@@ -9,54 +9,37 @@ use Rattle.std.proofs.lemmas.Option.{none-some}
 use Rattle.std.proofs.lemmas.List.{length_push}
 use Rattle.netlist_core.specs.declared.model.Port.{Port}
 use Rattle.netlist_core.specs.declared.model.Pin.{Pin}
-use Rattle.netlist_core.specs.declared.model.Cover.{Cover}
-use Rattle.netlist_core.specs.declared.model.LatchRow.{LatchRow}
 use Rattle.netlist_core.specs.declared.model.Subckt.{Subckt}
 use Rattle.netlist_core.specs.declared.model.Model.{Model}
 use Rattle.netlist_core.specs.declared.model.Design.{Design}
-use Rattle.netlist_core.specs.Names.{Name, port_names, at_line, has_name, is_named, model_named}
+use Rattle.netlist_core.specs.Names.{port_names, at_line, has_name, is_named, model_named}
 use Rattle.netlist_meaning.specs.Places.{Place, main_model, model_placed, model_below, model_at}
-use Rattle.netlist_meaning.specs.Nets.{Net, net_at, IsNet, IsPinned, Joined, model_names}
+use Rattle.netlist_meaning.specs.Nets.{Net, net_at, IsPinned, Joined, model_names}
 use Rattle.netlist_meaning.specs.Nets.Joined.{by_pin, itself, reversed, followed}
 use Rattle.netlist_meaning.proofs.Names.{and_then-from}
-use Rattle.lists.proofs.Names.{bytes_eq-same}
 use Rattle.netlist_meaning.proofs.Depth.{model_at-append, places_are_shallow}
 use Rattle.netlist_rules.specs.declared.fault.FaultKind.TheVariants.{DuplicatePort, PinMissing}
-use Rattle.netlist_rules.specs.Drivers.{has_input, has_output, is_input_pin, is_output_pin, same_name_up_to, same_name_before, stands_earlier}
+use Rattle.netlist_rules.specs.Drivers.{is_input_pin, is_output_pin, same_name_up_to, same_name_before, stands_earlier}
 use Rattle.netlist_rules.specs.ModelFaults.{AreFaultless, unless_named, doubles_after, is_output_before, is_input_by_then, duplicate_ports, formals_of, unpinned_inputs, earlier_of, earliest, missing_pin, on_line}
 use Rattle.lists.proofs.Members.{In, in_from, contains_from, in_left, in_right, in_parts, in_mapped, in_map, in_flat, filtered_in}
 use Rattle.sound_designs.specs.OneDriver.{Driver, Drives, FaultlessHaveDrivers}
 use Rattle.sound_designs.specs.OneDriver.Driver.{port, cover, latch}
 use Rattle.sound_designs.specs.OneDriver.Drives.{of_port, of_cover, of_latch}
-use Rattle.sound_designs.proofs.Sound.{same_of, none_of, in_got, in_models, named_in, not_recursive}
+use Rattle.sound_designs.proofs.Sound.{none_of, in_got, in_models, named_in, not_recursive}
 use Rattle.sound_designs.proofs.Local.{not_any, not_up_to, not_before}
-use Rattle.sound_designs.proofs.OneDriver.{Local, Reaches, drivers_apart, input_pin, not_nil}
+use Rattle.sound_designs.proofs.OneDriver.{Local, Reaches, drivers_apart, input_pin}
 use Rattle.sound_designs.proofs.OneDriver.Local.{by_input, by_cover, by_latch, by_output}
 use Rattle.sound_designs.proofs.OneDriver.Reaches.{here, up, down}
-use Rattle.sound_designs.proofs.Driven.{clean_of, name_local, names_left, names_right}
+use Rattle.sound_designs.proofs.Driven.{clean_of, name_local}
+use Rattle.lists.proofs.Bools.{or_false_right as second_of}
+use Rattle.lists.proofs.Appends.{append_nil_left as none_left, append_nil_right as none_right}
 
 abbrev named : Port → List ℕ
 named p = p.name
 
-pub first_of : (a b : Bool) → (a || b) ≡ false → a ≡ false
-first_of true b e = e
-first_of false b e = refl
-
-second_of : (a b : Bool) → (a || b) ≡ false → b ≡ false
-second_of true b e = absurd (true≢false e)
-second_of false b e = e
-
 pub none_kept : (b : Bool) (p : Port) → option_to_list (then_some b p) ≡ [] → b ≡ false
 none_kept true p e = absurd (cc)
 none_kept false p e = refl
-
-pub none_left : {X : Type 0} (xs ys : List X) → xs ++ ys ≡ [] → xs ≡ []
-none_left [] ys e = refl
-none_left (x ∷ xs) ys e = absurd (cc)
-
-pub none_right : {X : Type 0} (xs ys : List X) → xs ++ ys ≡ [] → ys ≡ []
-none_right [] ys e = e
-none_right (x ∷ xs) ys e = absurd (cc)
 
 -- no name is an input and an output
 none_doubles : (test : Port → Bool) (before ports : List Port) (p : Port) → doubles_after test before ports ≡ [] → In p ports → test p ≡ false

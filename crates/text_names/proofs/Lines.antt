@@ -6,7 +6,7 @@ use Rattle.std.proofs.lemmas.Bool.{or_parts, or_left}
 use Rattle.std.proofs.lemmas.List.{get_or_default}
 use Rattle.lists.proofs.Members.{In, in_from}
 use Rattle.netlist_rules.specs.declared.fault.FaultKind.TheVariants.{NoModelYet, BadCount, BadPin, AfterEnd}
-use Rattle.netlist_rules.proofs.Bools.{other_fails}
+use Rattle.lists.proofs.Bools.{and_false_right as other_fails}
 use Rattle.blif_text.specs.declared.logical.Logical.{Logical}
 use Rattle.blif_text.specs.Models.{first_word, operands, has_directive, last_word, pin_words}
 use Rattle.blif_text.specs.LineFaults.{is_before_models, follows_end, has_bad_count, is_bad_pin, first_broken, line_rules, fault_after}

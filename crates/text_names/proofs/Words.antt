@@ -1,6 +1,6 @@
 -- Names of models are words of their lines.
 use Rattle.std.proofs.Common.{ℕ, ◌≡◌, ◌≢◌, refl, sym, ap, subst, ◌∙◌, inl, inr, List, [], ◌∷◌, ◌++◌, Bool, true, false, ◌-◌, length, take, map, codes, true≢false}
-use Rattle.std.specs.Prelude.{Some, flat_map, option_to_list, take_while, ◌+◌}
+use Rattle.std.specs.Prelude.{Some, flat_map, option_to_list, take_while}
 use Rattle.std.specs.Bool.{then_some}
 use Rattle.std.specs.List.{AllByRecursion, after_first, before_first}
 use Rattle.std.proofs.lemmas.Bool.{or_parts}

@@ -1,7 +1,7 @@
 -- A mirrored drawing keeps the timing law of the mirrored tile.
 use Rattle.std.proofs.Common.{ℤ, pos, negsuc, ◌-ℤ◌, ℕ, ◌+◌, ◌-◌, ◌*◌, ◌<◌, ◌≡◌, refl, sym, ap, ap₂, ◌∙◌, Bool, true, false, ◌||◌, ◌&&◌, ◌==◌, ltb, cond, List, [], ◌∷◌, ◌++◌, map, arith, int_eq}
 use Rattle.std.proofs.lemmas.Int.{ints}
-use Rattle.std.proofs.lemmas.Bool.{and_parts, and_from, true≢false, ltb-true, lt-ltb}
+use Rattle.std.proofs.lemmas.Bool.{and_parts, and_from, true≢false, ltb-true, lt-ltb, eq-eqb as is_of}
 use Rattle.std.proofs.lemmas.Bool.Decides.{Decides-int_eq, Decides-eqb, same_from_decides, Decides-like}
 use Rattle.std.proofs.lemmas.List.{map-append}
 use Rattle.std.proofs.Math.IntN.{+ℤ-neg_ℤ_cancel}
@@ -92,9 +92,6 @@ box_mirrored tile x y e =
     let narrow : 31 - at.column < 32 = omega arith in
     ap₂ (λ u v. is_in_box tile u v) (column_mirrored x at.column at.x_is at.narrow) at.y_is
     ∙ and_from _ _ (lt-ltb (31 - at.column) 32 narrow) (lt-ltb at.row (16 * tile.lanes) at.low)
-
-is_of : (a b : ℕ) → a ≡ b → (a == b) ≡ true
-is_of a b e = (Decides-eqb a b).1 e
 
 sides : (a b c d a' b' : Bool) → (a ≡ true → b' ≡ true) → (b ≡ true → a' ≡ true) → (a || b || c || d) ≡ true → (a' || b' || c || d) ≡ true
 sides true b c d a' b' p q e = rw (p refl) (any a' c d)

@@ -10,3 +10,4 @@ pub mod Injected
 pub mod Streams
 pub mod DrivenPlanes
 pub mod Lists
+pub mod Due

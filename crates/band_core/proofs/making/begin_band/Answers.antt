@@ -4,7 +4,7 @@ use Rattle.ww_rule.specs.declared.pattern.State.TheVariants.{Head}
 use Rattle.ww_rule.specs.Injections.{has_cell}
 use Rattle.std.proofs.lemmas.List.{with_items_is}
 use Rattle.band_rows.specs.Rows.{ShowRows}
-use Rattle.band_core.proofs.Left.{all_left, front_cells, left_after}
+use Rattle.ww_rule.proofs.Due.{all_left, front_cells, left_after}
 use Rattle.band_core.proofs.making.begin_band.Goals as goal
 
 pub returns-clause-shows : goal.returns-clause-shows

@@ -5,7 +5,9 @@ use Rattle.pattern_reading.specs.declared.ports.PortLine.{PortLine}
 use Rattle.ww_rule.specs.Patterns.{grid_of}
 use Rattle.drive.specs.Streams.{HasStreams}
 use Rattle.pattern_reading.specs.Ports.{names_of}
-use Rattle.blifww_tool.specs.Simulation.{Simulation, IsSimulation, bits_of_output}
+use Rattle.blifww_tool.specs.Simulation.{Simulation, IsSimulation}
+use Rattle.drive.specs.Driving.{shown_at}
+use Rattle.ww_rule.specs.Grid.{plane_of}
 use Rattle.blifww_tool.proofs.OutputLines.{line, lines_by}
 use Rattle.blifww_tool.proofs.Simulated.{ins_in_box, time_refused}
 use Rattle.blifww_tool.proofs.simulate.simulated_lines.Goals as goal
@@ -48,5 +50,5 @@ returns-clause-shown c =
       c.in_ok-bits.ensures.near,
       c.in_ok-output_lines.ensures
           ∙ ap₂ (λ (outs : List PortLine) (bits : List (List Bool)). flat_map line (zip outs bits)) c.as_slice-2.ensures (c.as_slice-3.ensures ∙ c.in_ok-bits.ensures.bits)
-          ∙ lines_by (bits_of_output s) c.in_ok-ports.ports.outs,
+          ∙ lines_by (shown_at s.ports s.streams (plane_of s.grid.rows)) c.in_ok-ports.ports.outs,
     )

@@ -1,6 +1,4 @@
-use Rattle.std.proofs.Common.{◌<◌, ◌≡◌, ℕ, ◌+◌, ◌-◌, ◌≤◌, List, [], ◌∷◌, ◌++◌, sym, subst, arith}
-use Rattle.lane_core.specs.declared.instr.Instr.{Instr}
-use Rattle.lane_core.specs.declared.instr.Instr.TheVariants.{Swap}
+use Rattle.std.proofs.Common.{◌<◌, ◌≡◌, ◌+◌, ◌-◌, ◌≤◌, sym, subst, arith}
 use Rattle.channel_router.specs.Routes.{Brings}
 use Rattle.channel_router.proofs.Swaps.{grown, shrunk}
 use Rattle.channel_router.proofs.route.bring.Goals as goal

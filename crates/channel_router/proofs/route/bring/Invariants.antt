@@ -1,4 +1,4 @@
-use Rattle.std.proofs.Common.{◌-◌, ◌<◌, ◌≡◌, ℕ, ◌+◌, ◌≤◌}
+use Rattle.std.proofs.Common.{◌-◌, ◌<◌, ℕ, ◌≤◌}
 use Rattle.channel_router.specs.Routes.{Brings}
 use Rattle.channel_router.proofs.route.bring.Given as goal
 

@@ -10,7 +10,7 @@ use Rattle.pattern_reading.specs.Ports.{cells_of}
 use Rattle.drive.specs.Driving.{rows_of, driven_by, shown_row}
 use Rattle.drive.specs.Runs.{IsRunOf}
 use Rattle.drive.proofs.Inside.{rows_inside}
-use Rattle.drive.proofs.Left.{rows_in_order}
+use Rattle.drive.proofs.Streamed.{rows_in_order}
 use Rattle.drive.proofs.simulation.shown_rows.Goals as goal
 
 pub begin-requires : goal.begin-requires

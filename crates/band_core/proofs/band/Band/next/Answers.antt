@@ -3,7 +3,7 @@ use Rattle.std.proofs.Common.{pos, ◌+ℤ◌, ◌+◌, ◌-◌, ◌≡◌, sym,
 use Rattle.std.proofs.lemmas.Int.{ints}
 use Rattle.std.proofs.lemmas.List.{with_items_is, drop-drop, take_all, length-drop}
 use Rattle.band_rows.specs.Rows.{ShowRows, ShowsHeads}
-use Rattle.band_core.proofs.Left.{left_after}
+use Rattle.ww_rule.proofs.Due.{left_after}
 use Rattle.band_core.proofs.NextRows.{west, rows_move, kept_shows}
 use Rattle.band_core.proofs.band.Band.next.Goals as goal
 

@@ -4,7 +4,7 @@ use Rattle.ww_rule.specs.Grid.{AreInBox, plane_of}
 use Rattle.ww_rule.specs.Wireworld.{injected}
 use Rattle.ww_rule.specs.Injections.{has_cell}
 use Rattle.drive.proofs.Inside.{due_inside}
-use Rattle.drive.proofs.Left.{all_left, front_cells, left_after}
+use Rattle.ww_rule.proofs.Due.{all_left, front_cells, left_after}
 use Rattle.drive.proofs.run.Run.begin.Goals as goal
 
 pub inject-requires : goal.inject-requires

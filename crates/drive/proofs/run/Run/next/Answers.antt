@@ -5,7 +5,7 @@ use Rattle.ww_rule.specs.Wireworld.{Plane, injected, next_plane}
 use Rattle.ww_rule.specs.Injections.{has_cell, due_of_list}
 use Rattle.drive.proofs.Inside.{due_inside, left_inside}
 use Rattle.drive.proofs.Leads.{driven_next}
-use Rattle.drive.proofs.Left.{front_cells, left_after}
+use Rattle.ww_rule.proofs.Due.{front_cells, left_after}
 use Rattle.drive.proofs.run.Run.next.Goals as goal
 
 pub step_driven-requires : goal.step_driven-requires
