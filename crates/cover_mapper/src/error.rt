@@ -6,7 +6,7 @@ use cell_core::CellError;
 use std::alloc::{AllocError, AllocFailed};
 use thiserror::Error;
 
-/// Why there are no cells. Each sound netlist with an order has some.
+/// Why there is no list of cells. Each sound netlist with an order has one.
 #[derive(Clone, Copy, Debug, PartialEq, Eq, Error)]
 pub enum MapError {
     #[error("out of memory")]

@@ -52,6 +52,6 @@ made_model seed size = model_from (net_of_gate (size - 1)) (latch_data seed size
 abbrev pub made_design : ℕ → ℕ → Design
 made_design seed size = record { models = made_model seed size ∷ [] }
 
--- The text of every seed and size reads as that design, without a fault.
+-- The text of every seed and size is that design, and breaks no rule on lines or models.
 abbrev pub ReadsAsMade : Type 0
 ReadsAsMade = (seed size : ℕ) → 1 ≤ size → size ≤ 128 → IsDesignOf (made_text seed size) (made_design seed size)

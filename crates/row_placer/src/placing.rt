@@ -169,8 +169,7 @@ fn most_spare(list: &CellList) -> u32
     (list.inputs as usize).max(list.outs.len()).min(4) as u32
 }
 
-/// A program that computes the list: of those with up to 4 spare lanes, the one whose packed columns have the smallest
-/// drawing.
+/// A program that computes the list. It is tried with up to 4 spare lanes; which of the programs is kept is free.
 pub fn place(alloc: Global, list: &CellList) -> Result<Program, PlaceError>
     requires small { list.now.inputs + loop_count list.now + length list.now.outs + length list.now.cells < 2 ^ 20 }
     ensures computes { IfOk result (λ p. ComputesByProgram list.now p) }
