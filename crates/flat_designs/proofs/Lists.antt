@@ -109,7 +109,7 @@ pub map_flat : {X Y Z : Type 0} (g : Y → Z) (f : X → List Y) (h : X → List
 map_flat g f h [] same = refl
 map_flat g f h (x ∷ xs) same = map-append g (f x) (flat_map f xs) ∙ ap₂ (λ a b. a ++ b) (same x (inl refl)) (map_flat g f h xs (λ y i. same y (inr i)))
 
-tail : {X : Type 0} → List X → List X
+pub tail : {X : Type 0} → List X → List X
 tail [] = []
 tail (x ∷ xs) = xs
 

@@ -12,7 +12,7 @@ use Rattle.sound_designs.proofs.Sound.{same_of}
 use Rattle.sound_designs.proofs.Driven.{got_from}
 use Rattle.netlist_meaning.specs.InOrder.{put_by_line, by_line, cons_when, words_on_line, cons_unless, without_name, first_names}
 use Rattle.flat_designs.specs.Laws.{StandByLine, WordsStandByLine, append_unless, NamesComeWhereFirst}
-use Rattle.flat_designs.proofs.Lists.{Pairs, all_pairs}
+use Rattle.flat_designs.proofs.Lists.{Pairs, all_pairs, tail}
 use Rattle.flat_designs.proofs.Listed.{in_put}
 
 pairs_of_all : {X : Type 0} (R : X → X → Type 0) (xs : List X) → AllPairs R xs → Pairs R xs
@@ -89,10 +89,6 @@ same_line p = (Decides-eqb p.line p.line).1 refl
 
 head_on_line : (p : Port) (words : List Port) → words_on_line p.line (p ∷ words) ≡ p ∷ words_on_line p.line words
 head_on_line p words = ap (λ b. cons_when b p (words_on_line p.line words)) (same_line p)
-
-tail : {X : Type 0} → List X → List X
-tail [] = []
-tail (x ∷ xs) = xs
 
 first_up_to : (x : Port) (xs : List Port) → Pairs UpTo (x ∷ xs) → (p : Port) → In p (x ∷ xs) → x.line ≤ p.line
 first_up_to x xs h p (inl e) = let s : p.line ≡ x.line = ap (λ (v : Port). v.line) e in omega arith
