@@ -96,7 +96,6 @@ first_up_to x xs h p (inr i) = h.0 p i
 
 -- lists by line with the same words on each line are one
 one_by_line : (xs ys : List Port) → Pairs UpTo xs → Pairs UpTo ys → ((line : ℕ) → words_on_line line xs ≡ words_on_line line ys) → xs ≡ ys
-unfolding tail
 one_by_line [] [] h k same = refl
 one_by_line [] (y ∷ ys) h k same = let e : [] ≡ y ∷ words_on_line y.line ys = same y.line ∙ head_on_line y ys in absurd (cc)
 one_by_line (x ∷ xs) [] h k same = let e : x ∷ words_on_line x.line xs ≡ [] = sym (head_on_line x xs) ∙ same x.line in absurd (cc)
