@@ -17,10 +17,9 @@ use Rattle.drive.specs.declared.error.StreamFault.{StreamFault}
 use Rattle.drive.specs.Streams.{HasStreamFault}
 use Rattle.drive.specs.Driving.{last_generation, greatest_generation}
 use Rattle.pattern_reading.specs.Ports.{names_of}
-use Rattle.blifww_tool.specs.Simulation.{Simulation, IsSimulation}
-use Rattle.blifww_tool.specs.Run.{IsRefused}
-use Rattle.blifww_tool.specs.declared.refusals.Refusal.{Refusal}
-use Rattle.blifww_tool.specs.declared.refusals.Refusal.TheVariants.{Usage, TooLong, ReadFault, WriteFault, NoMemory, NotYet, Pattern, GridTooLarge, PortTable, Streams, TooFar}
+use Rattle.blifww_tool.specs.Simulation.{Simulation, IsSimulation, Simulates, HasNoSimulation}
+use Rattle.blifww_tool.specs.declared.causes.Cause.{Cause}
+use Rattle.blifww_tool.specs.declared.causes.Cause.TheVariants.{NotYet, Pattern, GridTooLarge, PortTable, Streams, TooFar}
 
 -- a pattern with ports, as a text has them
 pub record IsRead (text : List ℕ) (grid : Grid) (ports : Ports) : Type 0 where
@@ -28,25 +27,20 @@ pub record IsRead (text : List ℕ) (grid : Grid) (ports : Ports) : Type 0 where
   pub table : ReadsAsPorts text grid.width grid.height ports
 
 -- the ways to be refused
-pub data Cause (cycles : ℕ) (words : List (List ℕ)) (text : List ℕ) (r : Refusal) : Type 0 where
-  by_pattern : (fault : RleFault) → r ≡ Pattern fault → HasReaderFault text fault.kind fault.line → Cause cycles words text r
-  by_box : (width height : ℕ) → r ≡ GridTooLarge width height → HasLargeBox text width height → Cause cycles words text r
-  by_table : (fault : PortFault) → r ≡ PortTable fault → (grid : Grid) → ReadsWithinLimit text grid → HasPortFault text grid.width grid.height fault.kind fault.line → Cause cycles words text r
-  by_streams : (fault : StreamFault) → r ≡ Streams fault → (grid : Grid) → (ports : Ports) → IsRead text grid ports → HasStreamFault words (names_of ports.ins) cycles fault → Cause cycles words text r
-  by_time : (generations : ℕ) → r ≡ TooFar generations → (s : Simulation) → IsSimulation cycles words text s → generations ≡ last_generation s.ports s.streams → greatest_generation < generations → Cause cycles words text r
+pub data Reason (cycles : ℕ) (words : List (List ℕ)) (text : List ℕ) (r : Cause) : Type 0 where
+  by_pattern : (fault : RleFault) → r ≡ Pattern fault → HasReaderFault text fault.kind fault.line → Reason cycles words text r
+  by_box : (width height : ℕ) → r ≡ GridTooLarge width height → HasLargeBox text width height → Reason cycles words text r
+  by_table : (fault : PortFault) → r ≡ PortTable fault → (grid : Grid) → ReadsWithinLimit text grid → HasPortFault text grid.width grid.height fault.kind fault.line → Reason cycles words text r
+  by_streams : (fault : StreamFault) → r ≡ Streams fault → (grid : Grid) → (ports : Ports) → IsRead text grid ports → HasStreamFault words (names_of ports.ins) cycles fault → Reason cycles words text r
+  by_time : (generations : ℕ) → r ≡ TooFar generations → (s : Simulation) → IsSimulation cycles words text s → generations ≡ last_generation s.ports s.streams → greatest_generation < generations → Reason cycles words text r
 
-cause_of : (cycles : ℕ) (words : List (List ℕ)) (text : List ℕ) (r : Refusal) → IsRefused cycles words text r → Cause cycles words text r
-cause_of cycles words text Usage h = absurd h
-cause_of cycles words text TooLong h = absurd h
-cause_of cycles words text ReadFault h = absurd h
-cause_of cycles words text WriteFault h = absurd h
-cause_of cycles words text NoMemory h = absurd h
-cause_of cycles words text NotYet h = absurd h
-cause_of cycles words text (Pattern fault) h = by_pattern fault refl h
-cause_of cycles words text (GridTooLarge width height) h = by_box width height refl h
-cause_of cycles words text (PortTable fault) h = by_table fault refl h.0 h.1 h.2
-cause_of cycles words text (Streams fault) h = by_streams fault refl h.0 h.1 record { pattern = h.2; table = h.3 } h.4
-cause_of cycles words text (TooFar generations) h = by_time generations refl h.0 h.1 h.2 h.3
+reason_of : (cycles : ℕ) (words : List (List ℕ)) (text : List ℕ) (r : Cause) → HasNoSimulation cycles words text r → Reason cycles words text r
+reason_of cycles words text NotYet h = absurd h
+reason_of cycles words text (Pattern fault) h = by_pattern fault refl h
+reason_of cycles words text (GridTooLarge width height) h = by_box width height refl h
+reason_of cycles words text (PortTable fault) h = by_table fault refl h.0 h.1 h.2
+reason_of cycles words text (Streams fault) h = by_streams fault refl h.0 h.1 record { pattern = h.2; table = h.3 } h.4
+reason_of cycles words text (TooFar generations) h = by_time generations refl h.0 h.1 h.2 h.3
 
 read_of : (cycles : ℕ) (words : List (List ℕ)) (text : List ℕ) (s : Simulation) → IsSimulation cycles words text s → IsRead text s.grid s.ports
 read_of cycles words text s h = record { pattern = h.pattern; table = h.table }
@@ -95,8 +89,8 @@ same_stream_fault : (a b : StreamFault) → Some a ≡ Some b → a ≡ b
 same_stream_fault a b e = cc
 
 -- a simulation that is near enough is not refused
-not_refused : (cycles : ℕ) (words : List (List ℕ)) (text : List ℕ) (s : Simulation) (r : Refusal) → IsSimulation cycles words text s
-    → last_generation s.ports s.streams ≤ greatest_generation → Cause cycles words text r → ⊥
+not_refused : (cycles : ℕ) (words : List (List ℕ)) (text : List ℕ) (s : Simulation) (r : Cause) → IsSimulation cycles words text s
+    → last_generation s.ports s.streams ≤ greatest_generation → Reason cycles words text r → ⊥
 not_refused cycles words text s r h near (by_pattern fault e k) = fault_or_read text fault.kind fault.line s.grid k h.pattern
 not_refused cycles words text s r h near (by_box width height e k) = box_or_read text width height s.grid k h.pattern
 not_refused cycles words text s r h near (by_table fault e grid reads k) = table_or_read text fault.kind fault.line grid s.grid s.ports reads k (read_of cycles words text s h)
@@ -105,9 +99,8 @@ not_refused cycles words text s r h near (by_time generations e t k is far) =
     let same = same_last cycles words text t s k h in
     omega (arith, near, same, is, far)
 
-pub simulation_or_refused : (cycles : ℕ) (words : List (List ℕ)) (text : List ℕ) (s : Simulation) (r : Refusal) → IsSimulation cycles words text s
-    → last_generation s.ports s.streams ≤ greatest_generation → IsRefused cycles words text r → ⊥
-simulation_or_refused cycles words text s r h near k = not_refused cycles words text s r h near (cause_of cycles words text r k)
+pub simulates_or_not : (cycles : ℕ) (words : List (List ℕ)) (text : List ℕ) (s : Simulation) (r : Cause) → Simulates cycles words text s → HasNoSimulation cycles words text r → ⊥
+simulates_or_not cycles words text s r h k = not_refused cycles words text s r h.is h.near (reason_of cycles words text r k)
 
 same_pattern : (text : List ℕ) (a b : RleFault) → HasReaderFault text a.kind a.line → HasReaderFault text b.kind b.line → a ≡ b
 same_pattern text a b h k =
@@ -127,35 +120,35 @@ same_streams cycles words p q a b same h k =
     same_stream_fault a b (sym (subst (λ (x : Ports). HasStreamFault words (names_of x.ins) cycles a) same h) ∙ k)
 
 -- each stage's refusal is one
-one_cause : (cycles : ℕ) (words : List (List ℕ)) (text : List ℕ) (r r' : Refusal) → Cause cycles words text r → Cause cycles words text r' → r ≡ r'
-one_cause cycles words text r r' (by_pattern f e h) (by_pattern f' e' h') = e ∙ ap Pattern (same_pattern text f f' h h') ∙ sym e'
-one_cause cycles words text r r' (by_pattern f e h) (by_box x y e' h') = absurd (fault_or_box text f.kind f.line x y h h')
-one_cause cycles words text r r' (by_pattern f e h) (by_table f' e' g reads h') = absurd (fault_or_read text f.kind f.line g h reads)
-one_cause cycles words text r r' (by_pattern f e h) (by_streams f' e' g p reads h') = absurd (fault_or_read text f.kind f.line g h reads.pattern)
-one_cause cycles words text r r' (by_pattern f e h) (by_time n e' s k is far) = absurd (fault_or_read text f.kind f.line s.grid h k.pattern)
-one_cause cycles words text r r' (by_box x y e h) (by_pattern f e' h') = absurd (fault_or_box text f.kind f.line x y h' h)
-one_cause cycles words text r r' (by_box x y e h) (by_box x' y' e' h') =
+one_reason : (cycles : ℕ) (words : List (List ℕ)) (text : List ℕ) (r r' : Cause) → Reason cycles words text r → Reason cycles words text r' → r ≡ r'
+one_reason cycles words text r r' (by_pattern f e h) (by_pattern f' e' h') = e ∙ ap Pattern (same_pattern text f f' h h') ∙ sym e'
+one_reason cycles words text r r' (by_pattern f e h) (by_box x y e' h') = absurd (fault_or_box text f.kind f.line x y h h')
+one_reason cycles words text r r' (by_pattern f e h) (by_table f' e' g reads h') = absurd (fault_or_read text f.kind f.line g h reads)
+one_reason cycles words text r r' (by_pattern f e h) (by_streams f' e' g p reads h') = absurd (fault_or_read text f.kind f.line g h reads.pattern)
+one_reason cycles words text r r' (by_pattern f e h) (by_time n e' s k is far) = absurd (fault_or_read text f.kind f.line s.grid h k.pattern)
+one_reason cycles words text r r' (by_box x y e h) (by_pattern f e' h') = absurd (fault_or_box text f.kind f.line x y h' h)
+one_reason cycles words text r r' (by_box x y e h) (by_box x' y' e' h') =
     let same = (one_reader_answer text).one_box x y x' y' h.0 h'.0 in e ∙ ap₂ GridTooLarge same.0 same.1 ∙ sym e'
-one_cause cycles words text r r' (by_box x y e h) (by_table f' e' g reads h') = absurd (box_or_read text x y g h reads)
-one_cause cycles words text r r' (by_box x y e h) (by_streams f' e' g p reads h') = absurd (box_or_read text x y g h reads.pattern)
-one_cause cycles words text r r' (by_box x y e h) (by_time n e' s k is far) = absurd (box_or_read text x y s.grid h k.pattern)
-one_cause cycles words text r r' (by_table f e g reads h) (by_pattern f' e' h') = absurd (fault_or_read text f'.kind f'.line g h' reads)
-one_cause cycles words text r r' (by_table f e g reads h) (by_box x y e' h') = absurd (box_or_read text x y g h' reads)
-one_cause cycles words text r r' (by_table f e g reads h) (by_table f' e' g' reads' h') = e ∙ ap PortTable (same_table text f f' g g' reads h reads' h') ∙ sym e'
-one_cause cycles words text r r' (by_table f e g reads h) (by_streams f' e' g' p reads' h') = absurd (table_or_read text f.kind f.line g g' p reads h reads')
-one_cause cycles words text r r' (by_table f e g reads h) (by_time n e' s k is far) = absurd (table_or_read text f.kind f.line g s.grid s.ports reads h (read_of cycles words text s k))
-one_cause cycles words text r r' (by_streams f e g p reads h) (by_pattern f' e' h') = absurd (fault_or_read text f'.kind f'.line g h' reads.pattern)
-one_cause cycles words text r r' (by_streams f e g p reads h) (by_box x y e' h') = absurd (box_or_read text x y g h' reads.pattern)
-one_cause cycles words text r r' (by_streams f e g p reads h) (by_table f' e' g' reads' h') = absurd (table_or_read text f'.kind f'.line g' g p reads' h' reads)
-one_cause cycles words text r r' (by_streams f e g p reads h) (by_streams f' e' g' p' reads' h') =
+one_reason cycles words text r r' (by_box x y e h) (by_table f' e' g reads h') = absurd (box_or_read text x y g h reads)
+one_reason cycles words text r r' (by_box x y e h) (by_streams f' e' g p reads h') = absurd (box_or_read text x y g h reads.pattern)
+one_reason cycles words text r r' (by_box x y e h) (by_time n e' s k is far) = absurd (box_or_read text x y s.grid h k.pattern)
+one_reason cycles words text r r' (by_table f e g reads h) (by_pattern f' e' h') = absurd (fault_or_read text f'.kind f'.line g h' reads)
+one_reason cycles words text r r' (by_table f e g reads h) (by_box x y e' h') = absurd (box_or_read text x y g h' reads)
+one_reason cycles words text r r' (by_table f e g reads h) (by_table f' e' g' reads' h') = e ∙ ap PortTable (same_table text f f' g g' reads h reads' h') ∙ sym e'
+one_reason cycles words text r r' (by_table f e g reads h) (by_streams f' e' g' p reads' h') = absurd (table_or_read text f.kind f.line g g' p reads h reads')
+one_reason cycles words text r r' (by_table f e g reads h) (by_time n e' s k is far) = absurd (table_or_read text f.kind f.line g s.grid s.ports reads h (read_of cycles words text s k))
+one_reason cycles words text r r' (by_streams f e g p reads h) (by_pattern f' e' h') = absurd (fault_or_read text f'.kind f'.line g h' reads.pattern)
+one_reason cycles words text r r' (by_streams f e g p reads h) (by_box x y e' h') = absurd (box_or_read text x y g h' reads.pattern)
+one_reason cycles words text r r' (by_streams f e g p reads h) (by_table f' e' g' reads' h') = absurd (table_or_read text f'.kind f'.line g' g p reads' h' reads)
+one_reason cycles words text r r' (by_streams f e g p reads h) (by_streams f' e' g' p' reads' h') =
     e ∙ ap Streams (same_streams cycles words p p' f f' (same_ports text g g' p p' reads reads') h h') ∙ sym e'
-one_cause cycles words text r r' (by_streams f e g p reads h) (by_time n e' s k is far) = absurd (streams_or_not cycles words text f g p s reads h k)
-one_cause cycles words text r r' (by_time n e s k is far) (by_pattern f' e' h') = absurd (fault_or_read text f'.kind f'.line s.grid h' k.pattern)
-one_cause cycles words text r r' (by_time n e s k is far) (by_box x y e' h') = absurd (box_or_read text x y s.grid h' k.pattern)
-one_cause cycles words text r r' (by_time n e s k is far) (by_table f' e' g' reads' h') = absurd (table_or_read text f'.kind f'.line g' s.grid s.ports reads' h' (read_of cycles words text s k))
-one_cause cycles words text r r' (by_time n e s k is far) (by_streams f' e' g' p' reads' h') = absurd (streams_or_not cycles words text f' g' p' s reads' h' k)
-one_cause cycles words text r r' (by_time n e s k is far) (by_time n' e' s' k' is' far') =
+one_reason cycles words text r r' (by_streams f e g p reads h) (by_time n e' s k is far) = absurd (streams_or_not cycles words text f g p s reads h k)
+one_reason cycles words text r r' (by_time n e s k is far) (by_pattern f' e' h') = absurd (fault_or_read text f'.kind f'.line s.grid h' k.pattern)
+one_reason cycles words text r r' (by_time n e s k is far) (by_box x y e' h') = absurd (box_or_read text x y s.grid h' k.pattern)
+one_reason cycles words text r r' (by_time n e s k is far) (by_table f' e' g' reads' h') = absurd (table_or_read text f'.kind f'.line g' s.grid s.ports reads' h' (read_of cycles words text s k))
+one_reason cycles words text r r' (by_time n e s k is far) (by_streams f' e' g' p' reads' h') = absurd (streams_or_not cycles words text f' g' p' s reads' h' k)
+one_reason cycles words text r r' (by_time n e s k is far) (by_time n' e' s' k' is' far') =
     e ∙ ap TooFar (is ∙ same_last cycles words text s s' k k' ∙ sym is') ∙ sym e'
 
-pub one_refusal : (cycles : ℕ) (words : List (List ℕ)) (text : List ℕ) (r r' : Refusal) → IsRefused cycles words text r → IsRefused cycles words text r' → r ≡ r'
-one_refusal cycles words text r r' h k = one_cause cycles words text r r' (cause_of cycles words text r h) (cause_of cycles words text r' k)
+pub one_cause : (cycles : ℕ) (words : List (List ℕ)) (text : List ℕ) (r r' : Cause) → HasNoSimulation cycles words text r → HasNoSimulation cycles words text r' → r ≡ r'
+one_cause cycles words text r r' h k = one_reason cycles words text r r' (reason_of cycles words text r h) (reason_of cycles words text r' k)
