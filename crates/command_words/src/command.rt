@@ -1,10 +1,10 @@
 // The command that words ask for.
-ghost use Rattle.std.specs.Prelude.{◌≡◌, ◌≤◌, IfOk, OnOk, IsErrOf, MatchResult, Some, None, length, map, string_bytes};
+ghost use Rattle.std.specs.Prelude.{◌≡◌, ◌≤◌, ℕ, List, IfOk, OnOk, IsErrOf, MatchResult, Some, None, length, map, string_bytes};
 ghost use Rattle.clap.specs.Simple.{subcommand_rows_of};
 ghost use Rattle.clap.specs.Lexer.{usize_max};
-ghost use Rattle.clap.specs.Walk.{rows_of};
+ghost use Rattle.clap.specs.Walk.{Text, rows_of};
 ghost use Rattle.clap.specs.Words.{found_of};
-ghost use Rattle.command_words.specs.Shapes.{CommandValues, HasCyclesInRange, IsCommand, IsTaken, IsWritten, command_values, simulate_by, values_met, values_of};
+ghost use Rattle.command_words.specs.Shapes.{CommandValues, HasCyclesInRange, IsCommand, IsTaken, IsWritten, command_values, driven_by, values_met, values_of};
 
 use crate::WordsError;
 use crate::app::blifww_command;
@@ -25,6 +25,17 @@ pub enum Command {
         cycles: usize,
         streams: List<String>,
     },
+    Eval {
+        cycles: usize,
+        streams: List<String>,
+    },
+}
+
+// The values of a command that is driven by streams.
+#[derive(Drop)]
+struct Driven {
+    cycles: usize,
+    streams: List<String>,
 }
 
 // The texts, each in a String of its own.
@@ -38,16 +49,16 @@ fn owned(alloc: Global, texts: &[&str]) -> Result<List<String>, AllocError>
     Ok(List::of(words))
 }
 
-// `simulate` with the values that clap has found for it.
-fn simulate_in(alloc: Global, found: &ArgMatches<'_>) -> Result<Command, WordsError>
-    ensures ok { IfOk result (λ c. simulate_by (rows_of (found_of found.now)) ≡ Some (values_of c)) }
-    ensures usage { IsErrOf result WordsError.Usage → simulate_by (rows_of (found_of found.now)) ≡ None }
-    ensures cycles { IfOk result (λ c. HasCyclesInRange (values_of c)) }
+// The number of cycles and the words that clap has found for a command.
+fn driven_in(alloc: Global, found: &ArgMatches<'_>) -> Result<Driven, WordsError>
+    ensures ok { IfOk result (λ d. (command : ℕ → List Text → CommandValues) → driven_by command (rows_of (found_of found.now)) ≡ Some (command d.cycles (map string_bytes d.streams))) }
+    ensures usage { IsErrOf result WordsError.Usage → (command : ℕ → List Text → CommandValues) → driven_by command (rows_of (found_of found.now)) ≡ None }
+    ensures cycles { IfOk result (λ d. (1 ≤ d.cycles) × (d.cycles ≤ 1048576)) }
 {
     let number = found.get_str("cycles").ok_or(WordsError::Usage)?;
     let cycles = number_between(number, 1, MOST_CYCLES).ok_or(WordsError::Usage)?;
     let streams = owned(alloc, found.get_strs("streams").unwrap_or(&[]))?;
-    Ok(Command::Simulate {
+    Ok(Driven {
         cycles: cycles as usize,
         streams,
     })
@@ -61,7 +72,14 @@ fn command_in(alloc: Global, found: &ArgMatches<'_>) -> Result<Command, WordsErr
 {
     match found.subcommand() {
         Some(("compile", _)) => Ok(Command::Compile),
-        Some(("simulate", inner)) => simulate_in(alloc, inner),
+        Some(("simulate", inner)) => {
+            let Driven { cycles, streams } = driven_in(alloc, inner)?;
+            Ok(Command::Simulate { cycles, streams })
+        }
+        Some(("eval", inner)) => {
+            let Driven { cycles, streams } = driven_in(alloc, inner)?;
+            Ok(Command::Eval { cycles, streams })
+        }
         _ => Err(WordsError::Usage),
     }
 }
@@ -74,7 +92,7 @@ fn length_fits(words: &[String])
 }
 
 /// The command that the words of a command line ask for. The first word is the program's name, and after it stands `compile`,
-/// or `simulate --cycles N` with any words, of which N is in decimal digits, with or without leading zeros, from 1 to 1,048,576.
+/// or `simulate --cycles N` or `eval --cycles N` with any words, of which N is in decimal digits, with or without leading zeros, from 1 to 1,048,576.
 /// `Usage` comes only where the words are no command, and each other answer but `NoMemory` only where they have its values.
 pub fn command_of(alloc: Global, words: &[String]) -> Result<Command, WordsError>
     ensures ok { IfOk result (λ c. command_values (map string_bytes words.now) ≡ Some (values_of c)) }
