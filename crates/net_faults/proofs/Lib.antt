@@ -1,2 +1,3 @@
 pub mod NamedLines
 pub mod Passing
+pub mod EachModel

@@ -1,2 +1,3 @@
 pub mod FirstLines
 pub mod Repeats
+pub mod Elsewhere
