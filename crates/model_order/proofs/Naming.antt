@@ -1,8 +1,9 @@
 -- What a subckt line that names a model has, by numbers and by names.
-use Rattle.std.proofs.Common.{◌≡◌, refl, sym, ap, subst, ◌∙◌, ℕ, ◌+◌, ◌<◌, ◌≤◌, List, [], ◌∷◌, length, map, Option, Some, None, MatchOption, slice_get, option_and_then, position, get_or}
+use Rattle.std.proofs.Common.{◌⊎◌, inl, inr, true, true≢false, arith, ◌≡◌, refl, sym, ap, subst, ◌∙◌, ℕ, ◌+◌, ◌<◌, ◌≤◌, List, [], ◌∷◌, length, map, Option, Some, None, MatchOption, slice_get, option_and_then, position, get_or}
 use Rattle.std.specs.Prelude.{Contains, IfSome}
 use Rattle.std.specs.Option.{option_map_or}
 use Rattle.std.proofs.lemmas.Option.{none-some, same_Some, slice_get_within, get_or_from_slice_get, slice_get_read, slice_get_past}
+use Rattle.std.proofs.lemmas.Slice.Eq.{bytes_eq-Decides}
 use Rattle.netlist_core.specs.declared.model.Model.{Model}
 use Rattle.netlist_core.specs.declared.model.Subckt.{Subckt}
 use Rattle.netlist_core.specs.Names.{Name, is_model_named, model_named}
@@ -11,6 +12,11 @@ use Rattle.named_models.proofs.Numbered.{number_found}
 use Rattle.netlist_rules.specs.Circles.{HasSubcktOf, Leads}
 use Rattle.netlist_rules.proofs.ModelSteps.{model_of_name}
 use Rattle.model_order.specs.Numbers.{first_named, name_at, subckts_of, number_placed, Places, PlacesSomewhere, LeadsBy}
+
+-- a name finds no model, or the first of that name has a number
+pub numbered : (models : List Model) (name : Name) → MatchOption (first_named models name) (model_named models name ≡ None) (IsNumberOf models name)
+unfolding first_named
+numbered models name = number_found models name
 
 -- the first model of a name has a number, and the name
 pub number_of : (models : List Model) (name : Name) (n : ℕ) → first_named models name ≡ Some n → IsNumberOf models name n
@@ -93,3 +99,32 @@ found_within models name = by (position (is_model_named name) models) (number_fo
     by : (o : Option ℕ) → MatchOption o (model_named models name ≡ None) (IsNumberOf models name) → IfSome o (λ n. n < length models)
     by None f = tt
     by (Some n) f = number_within models name n f
+
+-- the number of a name is found by it
+pub number_named : (models : List Model) (name : Name) (n : ℕ) → IsNumberOf models name n → first_named models name ≡ Some n
+unfolding first_named
+number_named models name n is = by (position (is_model_named name) models) refl (number_found models name)
+  where
+    by : (o : Option ℕ) → position (is_model_named name) models ≡ o → MatchOption o (model_named models name ≡ None) (IsNumberOf models name) → position (is_model_named name) models ≡ Some n
+    by None e none = absurd (none-some is.model (sym none ∙ is.is_named))
+    by (Some m) e number = e ∙ ap Some (same number (three m n))
+      where
+        three : (a b : ℕ) → ((a < b) ⊎ (b < a)) ⊎ (a ≡ b)
+        three a b = grind arith
+
+        has_it : (n : ℕ) (is : IsNumberOf models name n) → is_model_named name is.model ≡ true
+        has_it n is = (bytes_eq-Decides is.model.name name).1 (model_of_name models name is.model is.is_named).1
+
+        same : IsNumberOf models name m → ((m < n) ⊎ (n < m)) ⊎ (m ≡ n) → m ≡ n
+        same number (inl (inl less)) = absurd (true≢false (sym (has_it m number) ∙ is.is_first m number.model less number.is_there))
+        same number (inl (inr more)) = absurd (true≢false (sym (has_it n is) ∙ number.is_first n is.model more is.is_there))
+        same number (inr e) = e
+
+pub places_by : (models : List Model) (n k inner : ℕ) (m : Model) (line : Subckt) → slice_get models n ≡ Some m → slice_get m.subckts k ≡ Some line → first_named models line.model ≡ Some inner → Places models n k inner
+unfolding number_placed
+places_by models n k inner m line there at e =
+    ap (λ o. option_and_then (λ (line : Subckt). first_named models line.model) (slice_get (option_map_or (λ (m : Model). m.subckts) o []) k)) there
+    ∙ ap (option_and_then (λ (line : Subckt). first_named models line.model)) at ∙ e
+
+pub name_read : (models : List Model) (n : ℕ) (m : Model) → n < length models → m ≡ get_or models n m → m.name ≡ name_at models n
+name_read models n m l e = sym (ap (λ o. option_map_or (λ (m : Model). m.name) o []) (slice_get_read models (length models) n m refl l e))

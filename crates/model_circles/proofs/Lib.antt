@@ -1,0 +1,5 @@
+pub mod Naming
+pub mod Ordered
+pub mod Trails
+pub mod Finding
+pub mod Words

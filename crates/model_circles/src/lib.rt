@@ -1,0 +1,8 @@
+//! The earliest subckt line on a circle of models, each of which places the next.
+#![tactic(auto)]
+
+mod circle;
+mod fault;
+mod search;
+
+pub use fault::circle_fault;
