@@ -2,7 +2,9 @@
 ghost use Rattle.std.specs.Prelude.{◌≡◌, ◌<◌, ◌+◌, ◌↔◌, IsTrue, length, IfOk};
 ghost use Rattle.model_order.specs.Numbers.{subckts_of};
 ghost use Rattle.model_circles.specs.Earliest.{IsNoLater, IsLookedAt, IsEarliestBefore, IsEarliest};
+ghost use Rattle.model_circles.specs.Ranks.{AreRanks};
 
+use crate::ranking::ranks;
 use crate::search::Search;
 use lists::List;
 use model_order::placed;
@@ -34,11 +36,13 @@ fn look_at(
     alloc: Global,
     models: &[Model],
     named: &NamedModels,
+    ranks: &[usize],
     n: usize,
     k: usize,
     best: Option<Circle>,
 ) -> Result<Option<Circle>, AllocError>
     requires index { named.now ≡ models.now }
+    requires ranks { AreRanks models.now ranks.now }
     requires model { n < length models.now }
     requires line { k < length (subckts_of models.now n) }
     ensures { IfOk result (IsLookedAt models.now n k best) }
@@ -50,6 +54,9 @@ fn look_at(
     let Some(inner) = placed(models, named, n, k) else {
         return Ok(best);
     };
+    if ranks[inner] != ranks[n] {
+        return Ok(best);
+    }
     let search = Search::from(alloc, models, named, inner)?;
     match search.way_to(alloc, models, inner, n)? {
         None => Ok(best),
@@ -66,17 +73,19 @@ fn look_in(
     alloc: Global,
     models: &[Model],
     named: &NamedModels,
+    ranks: &[usize],
     n: usize,
     best: Option<Circle>,
 ) -> Result<Option<Circle>, AllocError>
     requires index { named.now ≡ models.now }
+    requires ranks { AreRanks models.now ranks.now }
     requires model { n < length models.now }
     requires best { IsEarliestBefore models.now n best }
     ensures { IfOk result (IsEarliestBefore models.now (n + 1)) }
 {
     let mut best = best;
     for k in 0..models[n].subckts.len() {
-        best = look_at(alloc, models, named, n, k, best)?;
+        best = look_at(alloc, models, named, ranks, n, k, best)?;
     }
     Ok(best)
 }
@@ -90,9 +99,10 @@ pub fn earliest(
     requires { named.now ≡ models.now }
     ensures { IfOk result (IsEarliest models.now) }
 {
+    let ranks = ranks(alloc, models, named)?;
     let mut best = None;
     for n in 0..models.len() {
-        best = look_in(alloc, models, named, n, best)?;
+        best = look_in(alloc, models, named, &ranks, n, best)?;
     }
     Ok(best)
 }

@@ -2,7 +2,9 @@
 #![tactic(auto)]
 
 mod circle;
+mod components;
 mod fault;
+mod ranking;
 mod search;
 
 pub use fault::circle_fault;
