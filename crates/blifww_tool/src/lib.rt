@@ -20,4 +20,6 @@ mod top;
 pub use top::run;
 
 #[cfg(test)]
+mod eval_tests;
+#[cfg(test)]
 mod tests;

@@ -4,16 +4,14 @@ ghost use Rattle.std.specs.Prelude.{ℕ, ◌≡◌, ◌<◌, ◌≤◌, min, IfO
 ghost use Rattle.netlist_meaning.specs.FlatOf.{IsFlatOf};
 ghost use Rattle.netlist_meaning.specs.Weight.{weight};
 ghost use Rattle.netlist_rules.specs.ModelFaults.{AreFaultless};
-ghost use Rattle.netlist_flatten.specs.declared.FlattenError.TheVariants.{TooLarge, NoMemory};
+ghost use Rattle.netlist_flatten.specs.declared.error.FlattenError.TheVariants.{TooLarge, NoMemory};
 
 use netlist_core::{Design, Flat};
 use std::alloc::Global;
 
-#[derive(Clone, Copy, Debug, PartialEq, Eq)]
-pub enum FlattenError {
-    TooLarge { weight: u64 },
-    NoMemory,
-}
+mod error;
+pub use error::FlattenError;
+
 
 pub fn flatten(alloc: Global, design: &Design) -> Result<Flat, FlattenError>
     requires faultless { AreFaultless design.now.models }

@@ -1,5 +1,5 @@
 -- A run, cycle by cycle.
-use Rattle.std.proofs.Common.{ℕ, zero, suc, ◌≡◌, ◌<◌, ◌≤◌, ◌+◌, ◌==◌, ◌⊎◌, inl, inr, refl, sym, ap, ap₂, ◌∙◌, subst, Bool, true, false, List, [], ◌∷◌, ◌++◌, length, map, get_or, slice_get, Some, arith}
+use Rattle.std.proofs.Common.{ℕ, zero, suc, ◌≡◌, ◌<◌, ◌≤◌, ◌+◌, ◌==◌, ◌⊎◌, inl, inr, refl, sym, ap, ap₂, ◌∙◌, subst, Bool, true, false, List, [], ◌∷◌, ◌++◌, length, map, arith}
 use Rattle.std.specs.Prelude.{if◌then◌else◌, All}
 use Rattle.std.specs.List.{range_with_len}
 use Rattle.std.proofs.lemmas.List.{ext_get_or, length-map}
@@ -10,12 +10,13 @@ use Rattle.netlist_core.specs.declared.flat.Flat.{Flat}
 use Rattle.netlist_meaning.specs.Valuation.{Valuation, LatchState, IsValuation, IsRun, start_state, latches_after, latches_in, output_bits}
 use Rattle.netlist_meaning.specs.FlatValuation.{IsCycle, start_bits}
 use Rattle.flat_designs.specs.Laws.{state_in_order}
-use Rattle.flat_designs.proofs.Whole.{cycles_are_flat}
+use Rattle.flat_designs.proofs.Whole.{cycles_are_flat, ports_are_flat}
 use Rattle.flat_designs.proofs.Valuations.{valuations_are_flat}
-use Rattle.flat_designs.proofs.Ports.{ports_are_flat}
 use Rattle.netlist_core.specs.Names.{Name}
 use Rattle.netlist_meaning.specs.Places.{main_outputs}
-use Rattle.netlist_meaning.specs.Flat.{name_of_net}
+use Rattle.netlist_meaning.specs.Flat.{name_of_net, IsSound}
+use Rattle.netlist_meaning.specs.Weight.{weight}
+use Rattle.flat_designs.proofs.Sound.{flat_is_sound}
 use Rattle.drive.proofs.Across.{columns_are, rows_long}
 use Rattle.drive.specs.declared.streams.Streams.{Streams}
 use Rattle.drive.specs.Driving.{column_of, stream_row, rows_of}
@@ -38,10 +39,10 @@ same_on_range f g n same =
     ext_get_or (f 0) _ _ (length-map-range_with_len f 0 n ∙ sym (length-map-range_with_len g 0 n))
     (λ i lt.
     let less : i < n = subst (λ (m : ℕ). i < m) (length-map-range_with_len f 0 n) lt in
-    get_or-map-range_with_len f 0 n i i (f 0) less refl ∙ same i less ∙ sym (get_or-map-range_with_len g 0 n i i (f 0) less refl))
+    get_or-map-range_with_len f 0 n i i (f 0) less (omega arith) ∙ same i less ∙ sym (get_or-map-range_with_len g 0 n i i (f 0) less (omega arith)))
 
 -- one more cycle
-with_cycle : (ℕ → Valuation) → ℕ → Valuation → ℕ → Valuation
+abbrev with_cycle : (ℕ → Valuation) → ℕ → Valuation → ℕ → Valuation
 with_cycle run n bits t = if t == n then bits else run t
 
 at_cycle : (run : ℕ → Valuation) (n : ℕ) (bits : Valuation) → with_cycle run n bits n ≡ bits
@@ -68,7 +69,7 @@ module _ (design : Design) (streams : Streams) (n : ℕ) (run : ℕ → Valuatio
   abbrev start : LatchState
   start = start_state design
 
-  longer : ℕ → Valuation
+  abbrev longer : ℕ → Valuation
   longer = with_cycle run n bits
 
   abbrev Holds : (ℕ → Valuation) → ℕ → Type 0
@@ -104,7 +105,7 @@ one_more design flat order streams n rows inputs state outputs next p is_row cyc
       holds = all_hold design streams n ran.run bits ran.holds here;
       are_rows = ap₂ (λ (rs : List (List Bool)) (os : List Bool). rs ++ os ∷ []) (ran.are_rows ∙ same_on_range _ _ n (λ t less. ap (output_bits design) (sym (before_cycle ran.run n bits t less))))
           (found.2 ∙ ap (output_bits design) (sym (at_cycle ran.run n bits)))
-          ∙ sym (map-range_with_len_more (λ t. output_bits design (run t)) 0 n n refl);
+          ∙ sym (map-range_with_len_more (λ t. output_bits design (run t)) 0 n n (omega arith));
       state_is = found.3 ∙ ap (state_in_order design) (ap (latches_after design) (sym (at_cycle ran.run n bits)) ∙ sym (next_state design start run n));
     }
 
@@ -141,5 +142,9 @@ all_run design flat order streams rows shown state n p ran many columns = record
     is_run t row found =
         let given = rows_of streams in
         let less : t < streams.cycles = subst (λ (m : ℕ). t < m) (length-map-range_with_len (stream_row streams) 0 streams.cycles) (slice_get_within given t row found) in
-        let same : stream_row streams t ≡ row = sym (get_or-map-range_with_len (stream_row streams) 0 streams.cycles t t [] less refl) ∙ get_or_from_slice_get given t row [] found in
+        let same : stream_row streams t ≡ row = sym (get_or-map-range_with_len (stream_row streams) 0 streams.cycles t t [] less (omega arith)) ∙ get_or_from_slice_get given t row [] found in
         subst (λ (r : List Bool). IsValuation design r (latches_in design (start_state design) ran.run t) (ran.run t)) same (ran.holds t less)
+
+-- a machine's netlist is sound
+pub parts_sound : (design : Design) (flat : Flat) (order : List ℕ) → AreParts design flat order → IsSound flat
+parts_sound design flat order p = flat_is_sound design flat p.faultless p.clocks p.is_flat (let light : weight design ≤ 1024 = p.light in omega (arith, light))

@@ -2,7 +2,7 @@
 #![tactic(auto)]
 
 mod error;
-mod run;
+mod running;
 
 pub use error::RunError;
-pub use run::run;
+pub use running::run;

@@ -89,9 +89,9 @@ named_loop text design flat nets is clean h l =
       nets = map (net_of_class design) classes;
       is_loop = (loops_are_flat design flat faultless h).of_flat classes l.is_loop;
       are_roots = All-map (λ net. root design net ≡ net) (net_of_class design) classes
-      (All-map (λ class. root design (net_of_class design class) ≡ net_of_class design class) (class_of flat) nets (λ k d lt. (firsts k d lt).own));
+          (All-map (λ class. root design (net_of_class design class) ≡ net_of_class design class) (class_of flat) nets (λ k d lt. (firsts k d lt).own));
       are_distinct = distinct_map (net_of_class design) (class_of_net design) classes
-      (All-map (λ class. class_of_net design (net_of_class design class) ≡ class) (class_of flat) nets (λ k d lt. (firsts k d lt).class)) l.is_simple;
+          (All-map (λ class. class_of_net design (net_of_class design class) ≡ class) (class_of flat) nets (λ k d lt. (firsts k d lt).class)) l.is_simple;
       are_names = sym (ap (map (λ (n : Net). n.name)) (map-map (net_of_class design) (class_of flat) nets)
           ∙ same_names (λ (n : Net). n.name) (λ id. net_of_class design (class_of flat id)) (name_of_net flat) nets (λ k d lt. (firsts k d lt).name));
     }

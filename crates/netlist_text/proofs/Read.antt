@@ -23,12 +23,12 @@ use Rattle.flat_designs.proofs.ClockFaults.{clock_faults_are_flat}
 use Rattle.flat_designs.proofs.Loops.{loops_are_flat}
 use Rattle.blif_reader.specs.declared.error.ReadError.{ReadError}
 use Rattle.blif_reader.specs.declared.error.ReadError.TheVariants as read
-use Rattle.blif_check.specs.declared.CheckError.{CheckError}
-use Rattle.blif_check.specs.declared.CheckError.TheVariants as check
-use Rattle.netlist_flatten.specs.declared.FlattenError.{FlattenError}
-use Rattle.netlist_flatten.specs.declared.FlattenError.TheVariants as flatten
-use Rattle.clock_check.specs.declared.CheckError.{CheckError as ClockError}
-use Rattle.clock_check.specs.declared.CheckError.TheVariants as clock
+use Rattle.blif_check.specs.declared.error.CheckError.{CheckError}
+use Rattle.blif_check.specs.declared.error.CheckError.TheVariants as check
+use Rattle.netlist_flatten.specs.declared.error.FlattenError.{FlattenError}
+use Rattle.netlist_flatten.specs.declared.error.FlattenError.TheVariants as flatten
+use Rattle.clock_check.specs.declared.error.CheckError.{CheckError as ClockError}
+use Rattle.clock_check.specs.declared.error.CheckError.TheVariants as clock
 use Rattle.netlist_text.specs.Errors.{read_error, check_error, flatten_error, clock_error}
 use Rattle.netlist_text.specs.Causes.{HasNetlistCause}
 use Rattle.netlist_text.specs.NetlistText.{weight_limit, IsLight, IsNetlist, of_text, of_clocks}
@@ -44,8 +44,8 @@ pub unchecked : (text : List ℕ) (models : List Model) (e : CheckError) → Has
 unchecked text models (check.Fault fault) m h = of_text (of_models m (h fault refl))
 unchecked text models check.NoMemory m h = tt
 
-pub design_is : (text : List ℕ) (models : List Model) (design : Design) → HasModels (logical_lines text) models → design.models ≡ models → AreFaultless design.models → IsDesignOf text design
-design_is text models design m same faultless = record { models = subst (λ (ms : List Model). HasModels (logical_lines text) ms) (sym same) m; faultless = faultless }
+pub design_is : (text : List ℕ) (models : List Model) (design : Design) → HasModels (logical_lines text) models → design.models ≡ models → AreFaultless models → IsDesignOf text design
+design_is text models design m same faultless = record { models = subst (λ (ms : List Model). HasModels (logical_lines text) ms) (sym same) m; faultless = subst AreFaultless (sym same) faultless }
 
 -- the design over the limit,
 pub unflattened : (text : List ℕ) (design : Design) (e : FlattenError) → IsDesignOf text design → ((w : ℕ) → (e ≡ flatten.TooLarge w) → (w ≡ min (weight design) (2 ^ 64 - 1)) × (weight_limit < weight design))

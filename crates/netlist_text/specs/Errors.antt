@@ -3,12 +3,12 @@ use Rattle.blif_lex.specs.declared.error.LexError.{LexError}
 use Rattle.blif_lex.specs.declared.error.LexError.TheVariants as lex
 use Rattle.blif_reader.specs.declared.error.ReadError.{ReadError}
 use Rattle.blif_reader.specs.declared.error.ReadError.TheVariants as read
-use Rattle.blif_check.specs.declared.CheckError.{CheckError}
-use Rattle.blif_check.specs.declared.CheckError.TheVariants as check
-use Rattle.netlist_flatten.specs.declared.FlattenError.{FlattenError}
-use Rattle.netlist_flatten.specs.declared.FlattenError.TheVariants as flatten
-use Rattle.clock_check.specs.declared.CheckError.{CheckError as ClockError}
-use Rattle.clock_check.specs.declared.CheckError.TheVariants as clock
+use Rattle.blif_check.specs.declared.error.CheckError.{CheckError}
+use Rattle.blif_check.specs.declared.error.CheckError.TheVariants as check
+use Rattle.netlist_flatten.specs.declared.error.FlattenError.{FlattenError}
+use Rattle.netlist_flatten.specs.declared.error.FlattenError.TheVariants as flatten
+use Rattle.clock_check.specs.declared.error.CheckError.{CheckError as ClockError}
+use Rattle.clock_check.specs.declared.error.CheckError.TheVariants as clock
 use Rattle.netlist_text.specs.declared.error.NetlistError.{NetlistError}
 use Rattle.netlist_text.specs.declared.error.NetlistError.TheVariants.{NoMemory, Fault, TooLarge}
 

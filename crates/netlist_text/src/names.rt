@@ -32,11 +32,7 @@ pub fn names_of(alloc: Global, flat: &Flat, nets: &[NetId]) -> Result<List<Name>
 }
 
 // The names of ports.
-fn names_of_ports(
-    alloc: Global,
-    flat: &Flat,
-    ports: &[FlatPort],
-) -> Result<List<Name>, AllocError>
+fn names_of_ports(alloc: Global, flat: &Flat, ports: &[FlatPort]) -> Result<List<Name>, AllocError>
     requires { All (λ port. IsNetId flat.now port.net) ports.now }
     ensures { IfOk result (λ names. names ≡ names_of_ports flat.now ports.now) }
 {

@@ -5,6 +5,7 @@ use Rattle.netlist_core.specs.declared.model.Model.{Model}
 use Rattle.netlist_core.specs.declared.flat.NetId.{NetId}
 use Rattle.netlist_meaning.specs.FlatOrder.{IsNetLoop}
 use Rattle.netlist_rules.specs.Clocks.{HasNoClockFault}
+use Rattle.netlist_rules.specs.ModelFaults.{AreFaultless}
 use Rattle.blif_text.specs.declared.logical.Logical.{Logical}
 use Rattle.blif_text.specs.LogicalLines.{logical_lines}
 use Rattle.blif_text.specs.LineFaults.{line_fault}
@@ -36,7 +37,7 @@ check_clock-requires c =
     let text = c.args.text.now in
     let lines : c.as_slice.result.now ≡ logical_lines text = c.as_slice.ensures ∙ c.in_ok-lines.ensures in
     let models = subst (λ (ls : List Logical). HasModels ls c.in_ok-models.models) lines c.in_ok-models.ensures.models in
-    let is : IsDesignOf text c.in_ok-design.design = design_is text c.in_ok-models.models c.in_ok-design.design models c.in_ok-design.ensures.design c.in_ok-design.ensures.faultless in
+    let is : IsDesignOf text c.in_ok-design.design = design_is text c.in_ok-models.models c.in_ok-design.design models c.in_ok-design.ensures.design (c.in_ok-design.ensures.faultless).1 in
     let light : IsLight text c.in_ok-design.design = record { design_of = is; light = c.in_ok-flat.ensures.within } in
     record { in_range = in_range text c.in_ok-design.design c.in_ok-flat.flat light c.in_ok-flat.ensures.flat }
 
@@ -46,7 +47,7 @@ returns-in_err-check_clock-clause-refused c =
     let text = c.args.text.now in
     let lines : c.as_slice.result.now ≡ logical_lines text = c.as_slice.ensures ∙ c.in_ok-lines.ensures in
     let models = subst (λ (ls : List Logical). HasModels ls c.in_ok-models.models) lines c.in_ok-models.ensures.models in
-    let is : IsDesignOf text c.in_ok-design.design = design_is text c.in_ok-models.models c.in_ok-design.design models c.in_ok-design.ensures.design c.in_ok-design.ensures.faultless in
+    let is : IsDesignOf text c.in_ok-design.design = design_is text c.in_ok-models.models c.in_ok-design.design models c.in_ok-design.ensures.design (c.in_ok-design.ensures.faultless).1 in
     let light : IsLight text c.in_ok-design.design = record { design_of = is; light = c.in_ok-flat.ensures.within } in
     rw (p.1, p.2) (unclocked text c.in_ok-design.design c.in_ok-flat.flat c.in_err-check_clock.field-0.0 light c.in_ok-flat.ensures.flat (λ fault e. c.in_err-check_clock.ensures.fault fault (ap Err e)))
 
@@ -55,38 +56,40 @@ order-requires c =
     let text = c.args.text.now in
     let lines : c.as_slice.result.now ≡ logical_lines text = c.as_slice.ensures ∙ c.in_ok-lines.ensures in
     let models = subst (λ (ls : List Logical). HasModels ls c.in_ok-models.models) lines c.in_ok-models.ensures.models in
-    let is : IsDesignOf text c.in_ok-design.design = design_is text c.in_ok-models.models c.in_ok-design.design models c.in_ok-design.ensures.design c.in_ok-design.ensures.faultless in
+    let is : IsDesignOf text c.in_ok-design.design = design_is text c.in_ok-models.models c.in_ok-design.design models c.in_ok-design.ensures.design (c.in_ok-design.ensures.faultless).1 in
     let light : IsLight text c.in_ok-design.design = record { design_of = is; light = c.in_ok-flat.ensures.within } in
     sound text c.in_ok-design.design c.in_ok-flat.flat light
-    (no_clock_fault c.in_ok-design.design c.in_ok-flat.flat c.in_ok-design.ensures.faultless c.in_ok-flat.ensures.flat c.in_ok-check_clock.ensures.clean) c.in_ok-flat.ensures.flat
+    (no_clock_fault c.in_ok-design.design c.in_ok-flat.flat is.faultless c.in_ok-flat.ensures.flat c.in_ok-check_clock.ensures.none) c.in_ok-flat.ensures.flat
 
 pub returns-in-Ok-clause-netlist : goal.returns-in-Ok-clause-netlist
 returns-in-Ok-clause-netlist c =
     let text = c.args.text.now in
     let lines : c.as_slice.result.now ≡ logical_lines text = c.as_slice.ensures ∙ c.in_ok-lines.ensures in
     let models = subst (λ (ls : List Logical). HasModels ls c.in_ok-models.models) lines c.in_ok-models.ensures.models in
-    let is : IsDesignOf text c.in_ok-design.design = design_is text c.in_ok-models.models c.in_ok-design.design models c.in_ok-design.ensures.design c.in_ok-design.ensures.faultless in
+    let is : IsDesignOf text c.in_ok-design.design = design_is text c.in_ok-models.models c.in_ok-design.design models c.in_ok-design.ensures.design (c.in_ok-design.ensures.faultless).1 in
     let light : IsLight text c.in_ok-design.design = record { design_of = is; light = c.in_ok-flat.ensures.within } in
     netlist_is text c.in_ok-design.design c.in_ok-flat.flat light
-    (no_clock_fault c.in_ok-design.design c.in_ok-flat.flat c.in_ok-design.ensures.faultless c.in_ok-flat.ensures.flat c.in_ok-check_clock.ensures.clean) c.in_ok-flat.ensures.flat c.in-Ok.ensures.no_loop
+    (no_clock_fault c.in_ok-design.design c.in_ok-flat.flat is.faultless c.in_ok-flat.ensures.flat c.in_ok-check_clock.ensures.none) c.in_ok-flat.ensures.flat c.in-Ok.ensures.no_loop
 
 pub returns-in-Ok-clause-parts : goal.returns-in-Ok-clause-parts
-returns-in-Ok-clause-parts c = record {
-  faultless = c.in_ok-design.ensures.faultless;
-  clocks = no_clock_fault c.in_ok-design.design c.in_ok-flat.flat c.in_ok-design.ensures.faultless c.in_ok-flat.ensures.flat c.in_ok-check_clock.ensures.clean;
-  light = c.in_ok-flat.ensures.within;
-  is_flat = c.in_ok-flat.ensures.flat;
-  is_order = c.in-Ok.ensures.order;
-}
+returns-in-Ok-clause-parts c =
+    let faultless : AreFaultless c.in_ok-design.design.models = subst AreFaultless (sym c.in_ok-design.ensures.design) (c.in_ok-design.ensures.faultless).1 in
+    record {
+      faultless = faultless;
+      clocks = no_clock_fault c.in_ok-design.design c.in_ok-flat.flat faultless c.in_ok-flat.ensures.flat c.in_ok-check_clock.ensures.none;
+      light = c.in_ok-flat.ensures.within;
+      is_flat = c.in_ok-flat.ensures.flat;
+      is_order = c.in-Ok.ensures.order;
+    }
 
 pub returns-in-Err-Loop-clause-refused : goal.returns-in-Err-Loop-clause-refused
 returns-in-Err-Loop-clause-refused c =
     let text = c.args.text.now in
     let lines : c.as_slice.result.now ≡ logical_lines text = c.as_slice.ensures ∙ c.in_ok-lines.ensures in
     let models = subst (λ (ls : List Logical). HasModels ls c.in_ok-models.models) lines c.in_ok-models.ensures.models in
-    let is : IsDesignOf text c.in_ok-design.design = design_is text c.in_ok-models.models c.in_ok-design.design models c.in_ok-design.ensures.design c.in_ok-design.ensures.faultless in
+    let is : IsDesignOf text c.in_ok-design.design = design_is text c.in_ok-models.models c.in_ok-design.design models c.in_ok-design.ensures.design (c.in_ok-design.ensures.faultless).1 in
     let light : IsLight text c.in_ok-design.design = record { design_of = is; light = c.in_ok-flat.ensures.within } in
-    let clean : HasNoClockFault c.in_ok-design.design = no_clock_fault c.in_ok-design.design c.in_ok-flat.flat c.in_ok-design.ensures.faultless c.in_ok-flat.ensures.flat c.in_ok-check_clock.ensures.clean in
+    let clean : HasNoClockFault c.in_ok-design.design = no_clock_fault c.in_ok-design.design c.in_ok-flat.flat is.faultless c.in_ok-flat.ensures.flat c.in_ok-check_clock.ensures.none in
     let refused : IsOrderRefusal c.in_ok-flat.flat (Loop c.in-Err-Loop.nets) = subst (IsOrderRefusal c.in_ok-flat.flat) c.in-Err-Loop.field-0-is c.in-Err-Loop.ensures.refused in
     let loop : IsNetLoop c.in_ok-flat.flat c.as_slice-in-Err-Loop.result.now = subst (λ (ns : List NetId). IsNetLoop c.in_ok-flat.flat ns) (sym c.as_slice-in-Err-Loop.ensures) refused in
     rw (c.in_ok-names-in-Err-Loop.ensures) (named_loop text c.in_ok-design.design c.in_ok-flat.flat c.as_slice-in-Err-Loop.result.now light clean c.in_ok-flat.ensures.flat loop)

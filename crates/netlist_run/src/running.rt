@@ -33,11 +33,13 @@ pub fn run(alloc: Global, netlist: Netlist, streams: &Streams) -> Result<List<Li
     let mut machine = Machine::new(alloc, &flat, order)?;
     let mut inputs = vec![in alloc; false; flat.ins.len()]?;
     let mut outputs = vec![in alloc; false; flat.outs.len()]?;
+    let row = inputs.as_mut_slice();
+    let shown = outputs.as_mut_slice();
     let mut rows = Vec::with_capacity(alloc, streams.cycles)?;
     for cycle in 0..streams.cycles {
-        put_column(streams.bits.as_slice(), cycle, &mut inputs);
-        machine.cycle(&inputs, &mut outputs);
-        rows.push(List::of(outputs.to_vec(alloc)?))?;
+        put_column(streams.bits.as_slice(), cycle, row);
+        machine.cycle(row, shown);
+        rows.push(List::of(shown.to_vec(alloc)?))?;
     }
     Ok(columns_of(alloc, &rows, flat.outs.len())?)
 }

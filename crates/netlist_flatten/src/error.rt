@@ -1,0 +1,6 @@
+// STUB.
+#[derive(Clone, Copy, Debug, PartialEq, Eq)]
+pub enum FlattenError {
+    TooLarge { weight: u64 },
+    NoMemory,
+}
