@@ -23,9 +23,9 @@ of_one None = refl
 of_one (Some y) = refl
 
 -- an item is pushed where a test says so
-pub filtered_more : {X Y : Type 0} (f : X → Option Y) (start had new : List Y) (xs : List X) (i : ℕ) (x : X) (test : Bool) (y : Y) → i < length xs → x ≡ get_or xs i x →
+pub kept_more : {X Y : Type 0} (f : X → Option Y) (start had new : List Y) (xs : List X) (i : ℕ) (x : X) (test : Bool) (y : Y) → i < length xs → x ≡ get_or xs i x →
     f x ≡ then_some test y → had ≡ start ++ filter_map f (take i xs) → new ≡ cond test (had ++ y ∷ []) had → new ≡ start ++ filter_map f (take (i + 1) xs)
-filtered_more f start had new xs i x test y within is gives before pushed =
+kept_more f start had new xs i x test y within is gives before pushed =
     pushed
     ∙ by test
     ∙ ap (λ ys. ys ++ option_to_list (then_some test y)) before
