@@ -18,6 +18,10 @@ flat_more f start had new xs i x within is before pushed =
     ∙ flat_map_more f start (take i xs) x
     ∙ ap (λ ys. start ++ flat_map f ys) (sym (taken xs i x within is))
 
+pub put_in_front : {Y : Type 0} (o : Option Y) (rest : List Y) → option_to_list o ++ rest ≡ cons_option o rest
+put_in_front None rest = refl
+put_in_front (Some y) rest = refl
+
 of_one : {Y : Type 0} (o : Option Y) → cons_option o [] ≡ option_to_list o
 of_one None = refl
 of_one (Some y) = refl
