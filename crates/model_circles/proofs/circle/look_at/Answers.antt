@@ -1,4 +1,4 @@
-use Rattle.std.proofs.Common.{true≢false, ◌≡◌, ◌∙◌, sym, ap, subst, slice_get, Some, MatchOption, List, ℕ, Vec, Global}
+use Rattle.std.proofs.Common.{true≢false, ◌≡◌, ◌∙◌, sym, ap, subst, slice_get, MatchOption, List, ℕ, Vec, Global}
 use Rattle.netlist_core.specs.declared.model.Model.{Model}
 use Rattle.model_order.specs.Numbers.{subckts_of}
 use Rattle.model_order.proofs.Naming.{lines_at}
