@@ -1,0 +1,81 @@
+// The classes of clock nets.
+ghost use Rattle.std.specs.Prelude.{◌≡◌, ◌<◌, ◌==◌, cond, false, replicate, length, get_or, map, take, ℕ, All, IfOk};
+ghost use Rattle.std.specs.List.{list_any};
+ghost use Rattle.netlist_meaning.specs.Flat.{IsInRange, IsNetId, class_of, port_classes, is_clock_class};
+ghost use Rattle.clock_check.specs.Marks.{MarksClocks};
+
+use netlist_core::{Flat, FlatPort, NetId};
+use netlist_meaning::class_of;
+use std::alloc::{AllocError, Global};
+
+/// A flat netlist with a mark for each class, whether it is a clock's. Contracts see the netlist.
+#[derive(Drop)]
+pub struct ClockClasses<'a> {
+    flat: &'a Flat,
+    marks: Vec<bool>,
+}
+
+impl<'a> std::marker::Model for ClockClasses<'a> {
+    ghost use Rattle.netlist_core.specs.declared.flat.Flat.{Flat};
+    ghost use Rattle.netlist_meaning.specs.Flat.{IsInRange};
+    ghost use Rattle.clock_check.specs.Marks.{MarksClocks};
+
+    ghost Value = { Flat };
+
+    ghost view = { λ clocks. clocks.flat.now };
+
+    ghost invariant = { λ clocks. IsInRange clocks.flat.now × MarksClocks clocks.flat.now clocks.marks.items };
+}
+
+// Marks the classes of ports.
+fn mark_ports(flat: &Flat, marks: &mut [bool], ports: &[FlatPort], mark: bool)
+    requires in_range { IsInRange flat.now }
+    requires marks { length marks.old ≡ length flat.now.nets }
+    requires ports { All (λ port. IsNetId flat.now port.net) ports.now }
+    ensures { (class : ℕ) → class < length flat.now.nets → get_or marks.new class false ≡ cond (list_any (λ marked. marked == class) (port_classes flat.now ports.now)) mark (get_or marks.old class false) }
+{
+    for port in ports {
+        marks[class_of(flat, port.net)] = mark;
+    }
+}
+
+// The marks of all classes: clocks that are no inputs, and the control.
+fn mark_clocks(flat: &Flat, marks: &mut [bool])
+    requires in_range { IsInRange flat.now }
+    requires marks { marks.old ≡ replicate (length flat.now.nets) false }
+    ensures { MarksClocks flat.now marks.new }
+{
+    mark_ports(flat, marks, flat.clocks.as_slice(), true);
+    mark_ports(flat, marks, flat.ins.as_slice(), false);
+    if let Some(control) = flat.control {
+        marks[class_of(flat, control)] = true;
+    }
+}
+
+impl<'a> ClockClasses<'a> {
+    /// The clock classes of a netlist.
+    pub fn new(alloc: Global, flat: &'a Flat) -> Result<ClockClasses<'a>, AllocError>
+        requires { IsInRange flat.now }
+        ensures { IfOk result (λ clocks. clocks ≡ flat.now) }
+    {
+        let mut marks = vec![in alloc; false; flat.nets.len()]?;
+        mark_clocks(flat, &mut marks);
+        Ok(ClockClasses { flat, marks })
+    }
+
+    /// The netlist.
+    pub fn flat(&self) -> &'a Flat
+        ensures flat { result.now ≡ self.now }
+        ensures in_range { IsInRange self.now }
+    {
+        self.flat
+    }
+
+    /// Whether a net is a clock's.
+    pub fn is_clock(&self, net: NetId) -> bool
+        requires { IsNetId self.now net }
+        ensures { result ≡ is_clock_class self.now (class_of self.now net) }
+    {
+        self.marks[class_of(self.flat, net)]
+    }
+}

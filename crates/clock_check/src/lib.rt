@@ -1,0 +1,13 @@
+//! The rules on clocks, in a flat netlist: latches of one clock, and clock nets that nothing else reads or drives.
+#![tactic(auto)]
+
+mod check;
+mod clocks;
+mod control;
+mod error;
+#[cfg(test)]
+mod tests;
+mod uses;
+
+pub use check::check_clock;
+pub use error::CheckError;
