@@ -181,8 +181,12 @@ fn dark_generations_are_not_run(rt: HostRuntime) -> Result<(), Fail> {
     let Ok(once) = read(alloc, &["a=10"], &[b"a"], 2) else {
         return Err(Fail::new("no streams"));
     };
-    let far = wire_ports(alloc, 4_294_967_294)?;
-    let shown = simulate(alloc, wire(alloc)?, &far, &once)?;
+    let shown = simulate(
+        alloc,
+        wire(alloc)?,
+        &wire_ports(alloc, 4_294_967_294)?,
+        &once,
+    )?;
     assert_eq!(rt; only_bits(shown.as_slice()), [true, false].as_slice());
 
     let Ok(twice) = read(alloc, &["a=11"], &[b"a"], 2) else {
@@ -190,7 +194,7 @@ fn dark_generations_are_not_run(rt: HostRuntime) -> Result<(), Fail> {
     };
     let unseen = Ports {
         outs: List::of(Vec::new(alloc)),
-        ..far
+        ..wire_ports(alloc, 4_294_967_294)?
     };
     let shown = simulate(alloc, wire(alloc)?, &unseen, &twice)?;
     assert!(rt; shown.as_slice().is_empty());
