@@ -1,4 +1,5 @@
 pub mod Asleep
+pub mod Cells
 pub mod Evolution
 pub mod Facing
 pub mod Injecting

@@ -50,6 +50,13 @@ band_at pattern b x y = driven (due_of_list pattern.injections) (plane_of patter
 abbrev pub moved_on : ℕ → BandedPattern → BandedPattern
 moved_on b pattern = record pattern { generations = slice_set pattern.generations b (generation_of pattern b + 1) }
 
+-- the same pattern under the same injections, in the same bands
+pub record IsSamePattern (old new : BandedPattern) : Type 0 where
+  pub grid : new.grid ≡ old.grid
+  pub injections : new.injections ≡ old.injections
+  pub height : new.height ≡ old.height
+  pub many : length new.generations ≡ length old.generations
+
 -- the cell of column x and row y lies in band b
 pub record IsCellOf (pattern : BandedPattern) (b x y : ℕ) : Type 0 where
   pub column : x < pattern.grid.width

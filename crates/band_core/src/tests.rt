@@ -1,8 +1,13 @@
-// Bands of one row each, of a pattern of one column and three rows, moved in given orders.
+// Bands of small patterns, moved in given orders.
 ghost use Rattle.std.specs.Prelude.{◌≡◌, [], All, length, IfOk};
+ghost use Rattle.band_core.specs.Bands.{IsSamePattern};
+
+mod orders;
+mod shown;
 
 use crate::{Bands, NotReady, NotSkipped};
 use lists::List;
+use shown::shown_row;
 use std::alloc::{AllocError, Global};
 use std::test::Fail;
 use ww_rule::{Pattern, State};
@@ -11,6 +16,7 @@ use ww_rule::{Pattern, State};
 fn column(alloc: Global, cells: [State; 3]) -> Result<Pattern, AllocError>
     ensures width { IfOk result (λ pattern. pattern.width ≡ 1) }
     ensures height { IfOk result (λ pattern. pattern.height ≡ 3) }
+    ensures rows { IfOk result (λ pattern. length pattern.rows ≡ 3) }
 {
     let [top, middle, bottom] = cells;
     let top = List::of(Vec::from_array(alloc, [top])?);
@@ -32,7 +38,9 @@ enum Answer {
     NoSuchBand,
 }
 
-fn advanced(bands: &mut Bands, b: usize) -> Answer {
+fn advanced(bands: &mut Bands, b: usize) -> Answer
+    ensures { IsSamePattern bands.old bands.new }
+{
     if b >= bands.bands() || bands.generation(b) == u64::MAX {
         return Answer::NoSuchBand;
     }
@@ -82,30 +90,107 @@ const A: State = State::Head;
 
 const C: State = State::Conductor;
 
+const E: State = State::Empty;
+
+// Makes calls of `advance`, and tells whether they answered these.
+fn answers_are_right(bands: &mut Bands, calls: &[(usize, Answer)]) -> bool
+    ensures { IsSamePattern bands.old bands.new }
+{
+    let mut are_right = true;
+    for (b, answer) in calls {
+        are_right &= advanced(bands, *b) == *answer;
+    }
+    are_right
+}
+
 #[test]
 fn bands_advance_in_any_order(rt: HostRuntime) -> Result<(), Fail> {
     let alloc = rt.alloc();
     let ok = Answer::Moved;
-    let cases: [&[(usize, Answer)]; 4] = [
-        &[(2, ok), (2, behind(1, 0)), (3, Answer::NoSuchBand)],
-        &[(1, ok), (0, ok), (2, ok), (2, ok)],
-        &[(2, ok), (1, ok), (0, ok), (2, ok)],
-        &[
-            (0, ok),
-            (0, behind(1, 0)),
-            (1, ok),
-            (1, behind(2, 0)),
-            (2, ok),
-            (2, ok),
-            (0, ok),
-            (1, ok),
-            (2, ok),
-        ],
+    let cases: [(&[(usize, Answer)], &[u8; 3]); 4] = [
+        (
+            &[(2, ok), (2, behind(1, 0)), (3, Answer::NoSuchBand)],
+            b"ACC",
+        ),
+        (&[(1, ok), (0, ok), (2, ok), (2, ok)], b"BAA"),
+        (&[(2, ok), (1, ok), (0, ok), (2, ok)], b"BAA"),
+        (
+            &[
+                (0, ok),
+                (0, behind(1, 0)),
+                (1, ok),
+                (1, behind(2, 0)),
+                (2, ok),
+                (2, ok),
+                (0, ok),
+                (1, ok),
+                (2, ok),
+            ],
+            b"CBB",
+        ),
     ];
-    for calls in cases {
+    for (calls, [top, middle, bottom]) in cases {
         let mut bands = Bands::new(alloc, column(alloc, [A, C, C])?, Vec::new(alloc), 1)?;
-        for (b, answer) in calls {
-            assert_eq!(rt; advanced(&mut bands, *b), *answer, "band {b}");
+        assert!(rt; answers_are_right(&mut bands, calls));
+        assert_eq!(rt;
+            shown_row(alloc, &bands, 1, 1, 0)?.as_slice(),
+            [*top].as_slice()
+        );
+        assert_eq!(rt;
+            shown_row(alloc, &bands, 1, 1, 1)?.as_slice(),
+            [*middle].as_slice()
+        );
+        assert_eq!(rt;
+            shown_row(alloc, &bands, 1, 1, 2)?.as_slice(),
+            [*bottom].as_slice()
+        );
+    }
+    Ok(())
+}
+
+// A pattern of two rows of three cells.
+fn two_rows(alloc: Global, rows: [[State; 3]; 2]) -> Result<Pattern, AllocError>
+    ensures width { IfOk result (λ pattern. pattern.width ≡ 3) }
+    ensures height { IfOk result (λ pattern. pattern.height ≡ 2) }
+    ensures rows { IfOk result (λ pattern. length pattern.rows ≡ 2) }
+{
+    let [top, bottom] = rows;
+    let top = List::of(Vec::from_array(alloc, top)?);
+    let bottom = List::of(Vec::from_array(alloc, bottom)?);
+    Ok(Pattern {
+        width: 3,
+        height: 2,
+        rows: List::of(Vec::from_array(alloc, [top, bottom])?),
+    })
+}
+
+// One generation of all bands, from the top down.
+fn advance_all(bands: &mut Bands)
+    ensures { IsSamePattern bands.old bands.new }
+{
+    for b in 0..bands.bands() {
+        let _answer = advanced(bands, b);
+    }
+}
+
+#[test]
+fn two_heads_light_a_conductor_and_three_do_not(rt: HostRuntime) -> Result<(), Fail> {
+    let alloc = rt.alloc();
+    let below = [E, C, E];
+    let cases = [([A, A, A], b"BBB", b".C."), ([A, A, E], b"BB.", b".A.")];
+    for (above, top, bottom) in cases {
+        for height in [1, 2] {
+            let pattern = two_rows(alloc, [above, below])?;
+            let mut bands = Bands::new(alloc, pattern, Vec::new(alloc), height)?;
+            advance_all(&mut bands);
+            assert_eq!(rt;
+                shown_row(alloc, &bands, height, 3, 0)?.as_slice(),
+                top.as_slice()
+            );
+            assert_eq!(rt;
+                shown_row(alloc, &bands, height, 3, 1)?.as_slice(),
+                bottom.as_slice()
+            );
         }
     }
     Ok(())

@@ -1,5 +1,5 @@
 -- The fault of clocks.
-use Rattle.std.proofs.Common.{ℕ, zero, suc, ◌≡◌, refl, sym, ap, ◌∙◌, subst, ◌+◌, ◌⊎◌, inl, inr, List, [], ◌∷◌, ◌++◌, flat_map, Some, None, slice_get, Err, true≢false, arith}
+use Rattle.std.proofs.Common.{ℕ, zero, suc, ◌≡◌, refl, sym, ap, ◌∙◌, subst, ◌+◌, ◌⊎◌, inl, inr, List, [], ◌∷◌, ◌++◌, flat_map, Some, None, Contains, slice_get, Err, true≢false, arith}
 use Rattle.std.specs.Prelude.{All}
 use Rattle.std.specs.Result.{IsErrOf}
 use Rattle.std.proofs.lemmas.List.Elements.{All-contains}
@@ -132,21 +132,16 @@ use_is_listed flat line position net (by_output {port = port} is) =
     in_right (node_uses flat ++ latch_uses flat) (uses_of_outs 0 flat.outs) _ (subst (λ (n : ℕ). In (record { line = port.line; position = n; net = port.net }) (uses_of_outs 0 flat.outs)) at (outs_on 0 position flat.outs port is))
 
 -- a net that is used is there
-all_at : {X : Type 0} (P : X → Type 0) (xs : List X) (k : ℕ) (x : X) → All P xs → slice_get xs k ≡ Some x → P x
-all_at P xs k x all e = subst P (get_or_from_slice_get xs k x x e) (all k x (slice_get_within xs k x e))
-
-got_in : {X : Type 0} (xs : List X) (k : ℕ) (x : X) → slice_get xs k ≡ Some x → In x xs
-got_in [] k x e = absurd (none-some x e)
-got_in (y ∷ xs) zero x e = inl (sym (same_Some y x e))
-got_in (y ∷ xs) (suc k) x e = inr (got_in xs k x e)
+has_at : {X : Type 0} (xs : List X) (k : ℕ) (x : X) → slice_get xs k ≡ Some x → Contains xs x
+has_at xs k x e = (k, slice_get_within xs k x e, get_or_from_slice_get xs k x x e)
 
 used_is_net : (flat : Flat) (line position : ℕ) (net : NetId) → IsInRange flat → IsFlatUse flat line position net → IsNetId flat net
 used_is_net flat line position net range (by_node {node = node} has is) =
-    elim (in_parts node.ins (node.out ∷ []) net (got_in (node.ins ++ node.out ∷ []) position net is)) as (λ _. IsNetId flat net) [
+    elim (in_parts node.ins (node.out ∷ []) net (in_from (node.ins ++ node.out ∷ []) net (has_at (node.ins ++ node.out ∷ []) position net is))) as (λ _. IsNetId flat net) [
       | inl i ↦ All-contains (IsNetId flat) node.ins net (All-contains (λ (n : Node). All (IsNetId flat) n.ins) flat.nodes node range.node_ins has) (contains_from node.ins net i)
       | inr i ↦ elim i as (λ _. IsNetId flat net) [ inl same ↦ subst (IsNetId flat) (sym same) (All-contains (λ (n : Node). IsNetId flat n.out) flat.nodes node range.node_outs has) | inr j ↦ absurd j ]
     ]
-used_is_net flat line position net range (by_data {latch = latch} has is) = by (got_in (latch.input ∷ latch.output ∷ []) position net is)
+used_is_net flat line position net range (by_data {latch = latch} has is) = by (in_from (latch.input ∷ latch.output ∷ []) net (has_at (latch.input ∷ latch.output ∷ []) position net is))
   where
     both : IsNetId flat latch.input × IsNetId flat latch.output
     both = All-contains (λ (l : FlatLatch). IsNetId flat l.input × IsNetId flat l.output) flat.latches latch range.latches has
@@ -155,7 +150,7 @@ used_is_net flat line position net range (by_data {latch = latch} has is) = by (
     by (inl same) = subst (IsNetId flat) (sym same) both.0
     by (inr (inl same)) = subst (IsNetId flat) (sym same) both.1
     by (inr (inr i)) = absurd i
-used_is_net flat line position net range (by_output {port = port} is) = all_at (λ (p : FlatPort). IsNetId flat p.net) flat.outs position port range.outs is
+used_is_net flat line position net range (by_output {port = port} is) = All-contains (λ (p : FlatPort). IsNetId flat p.net) flat.outs port range.outs (has_at flat.outs position port is)
 
 -- the earliest use of a clock
 found : (flat : Flat) (first : NetUse) → earliest_among flat None (uses_of flat) ≡ Some first → IsEarliest flat (uses_of flat) (Some first)

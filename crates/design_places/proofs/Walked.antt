@@ -13,7 +13,8 @@ use Rattle.netlist_meaning.specs.InOrder.{of_some, places_in_lines, places_below
 use Rattle.netlist_meaning.specs.Laws.{IsNotRecursive}
 use Rattle.netlist_meaning.proofs.Depth.{model_at-append, places_are_shallow}
 use Rattle.netlist_rules.specs.ModelFaults.{AreFaultless}
-use Rattle.sound_designs.proofs.Sound.{not_recursive, some_models, same_of, in_got}
+use Rattle.netlist_rules.proofs.Faultless.{some_models}
+use Rattle.sound_designs.proofs.Sound.{not_recursive, same_of, in_got}
 use Rattle.named_models.specs.Numbers.{IsNumberOf}
 use Rattle.named_models.proofs.Numbered.{number_found}
 use Rattle.design_places.specs.declared.placed.Parent.{Parent}

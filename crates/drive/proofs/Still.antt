@@ -14,7 +14,7 @@ use Rattle.ww_rule.specs.Injections.{due_of_list}
 use Rattle.ww_rule.proofs.Lists.{lists_are_injected}
 use Rattle.band_core.specs.Bands.{BandedPattern, IsBandedPattern, IsAwake, IsCellOf, generation_of}
 use Rattle.band_core.specs.Bands.IsAwake.{head, tail}
-use Rattle.band_core.proofs.Evolution.{in_bands}
+use Rattle.band_core.proofs.Cells.{is_cell, is_band}
 use Rattle.band_core.proofs.Evolution as bands
 use Rattle.drive.specs.Runs.{AreAt, evolution}
 
@@ -77,17 +77,9 @@ asleep_is_dark p g whole at asleep x y = (unlit Head (λ e. cc) (λ b x y cell i
 
     inside : (s : State) → wakes s → (x y : ℕ) → x < p.grid.width → y < rows → evolution p g (pos x) (pos y) ≢ s
     inside s wakes x y column row e =
-        let h = p.height in
-        let some = whole.height in
-        let b = y / h in
-        let r : y % h < h = omega (arith, some) in
-        let parts : h * (y / h) + y % h ≡ y = omega (arith, some) in
-        let turned = mul_comm h (y / h) in
-        let from : b * h ≤ y = omega (arith, parts, turned) in
-        let band : b < length p.generations = subst (λ n. b < n) (sym whole.many) (in_bands b h y rows some from row) in
-        asleep b x y band
-        (wakes b x y (record { column = column; from = from; below = omega (arith, r, parts, turned); within = row })
-        (ap (λ n. evolution p n (pos x) (pos y)) (at b band) ∙ e))
+        let b = y / p.height in
+        let band = is_band p whole y row in
+        asleep b x y band (wakes b x y (is_cell p whole y x column row) (ap (λ n. evolution p n (pos x) (pos y)) (at b band) ∙ e))
 
     unlit : (s : State) → s ≢ Empty → wakes s → (x y : ℤ) → evolution p g x y ≢ s
     unlit s lit wakes (pos x) (pos y) =

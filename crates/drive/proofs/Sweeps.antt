@@ -9,9 +9,9 @@ use Rattle.ww_rule.specs.Wireworld.{driven}
 use Rattle.ww_rule.specs.Grid.{Grid, IsGrid, plane_of}
 use Rattle.ww_rule.specs.Injections.{AreInside, due_of_list}
 use Rattle.ww_rule.specs.declared.pattern.Injection.{Injection}
-use Rattle.band_core.specs.Bands.{BandedPattern, IsBandedPattern, bands_in, IsAwake, IsCellOf, IsFacing, band_at, generation_of, moved_on, not_ready, upper_not_ready, unready_neighbour}
+use Rattle.band_core.specs.Bands.{BandedPattern, IsBandedPattern, IsSamePattern, bands_in, IsAwake, IsCellOf, IsFacing, band_at, generation_of, moved_on, not_ready, upper_not_ready, unready_neighbour}
 use Rattle.band_core.specs.Bands.IsAwake.{head, tail, faced, due}
-use Rattle.drive.specs.Runs.{AreAt, IsSamePattern}
+use Rattle.drive.specs.Runs.{AreAt}
 
 -- the first b bands have moved on from a generation
 pub record AreMoved (g b : ℕ) (old now : BandedPattern) : Type 0 where

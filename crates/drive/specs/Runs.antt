@@ -10,13 +10,6 @@ use Rattle.drive.specs.declared.run.Run.{Run}
 abbrev pub AreAt : ℕ → BandedPattern → Type 0
 AreAt g pattern = (b : ℕ) → b < length pattern.generations → generation_of pattern b ≡ g
 
--- the same pattern under the same injections, in the same bands
-pub record IsSamePattern (old new : BandedPattern) : Type 0 where
-  pub grid : new.grid ≡ old.grid
-  pub injections : new.injections ≡ old.injections
-  pub height : new.height ≡ old.height
-  pub many : length new.generations ≡ length old.generations
-
 -- the pattern's planes, where the injections drive it
 abbrev pub evolution : BandedPattern → ℕ → Plane
 evolution pattern = driven (due_of_list pattern.injections) (plane_of pattern.grid.rows)

@@ -1,7 +1,7 @@
 // Bands that move on, from the top down.
 ghost use Rattle.std.specs.Prelude.{◌≡◌, ◌+◌, ◌<◌, ◌^◌, ℕ, true, length, None};
-ghost use Rattle.band_core.specs.Bands.{IsAwake, generation_of, moved_on, unready_neighbour};
-ghost use Rattle.drive.specs.Runs.{AreAt, IsSamePattern};
+ghost use Rattle.band_core.specs.Bands.{IsAwake, IsSamePattern, generation_of, moved_on, unready_neighbour};
+ghost use Rattle.drive.specs.Runs.{AreAt};
 
 use band_core::Bands;
 

@@ -176,6 +176,32 @@ fn a_wire_shows_what_is_injected(rt: HostRuntime) -> Result<(), Fail> {
 }
 
 #[test]
+fn dark_generations_are_not_run(rt: HostRuntime) -> Result<(), Fail> {
+    let alloc = rt.alloc();
+    let Ok(once) = read(alloc, &["a=10"], &[b"a"], 2) else {
+        return Err(Fail::new("no streams"));
+    };
+    let shown = simulate(
+        alloc,
+        wire(alloc)?,
+        &wire_ports(alloc, 4_294_967_294)?,
+        &once,
+    )?;
+    assert_eq!(rt; only_bits(shown.as_slice()), [true, false].as_slice());
+
+    let Ok(twice) = read(alloc, &["a=11"], &[b"a"], 2) else {
+        return Err(Fail::new("no streams"));
+    };
+    let unseen = Ports {
+        outs: List::of(Vec::new(alloc)),
+        ..wire_ports(alloc, 4_294_967_294)?
+    };
+    let shown = simulate(alloc, wire(alloc)?, &unseen, &twice)?;
+    assert!(rt; shown.as_slice().is_empty());
+    Ok(())
+}
+
+#[test]
 fn an_or_gate_is_driven(rt: HostRuntime) -> Result<(), Fail> {
     let alloc = rt.alloc();
     let Ok(streams) = read(alloc, &["b=0101", "a=0011"], &[b"a", b"b"], 4) else {

@@ -14,10 +14,7 @@ use netlist_core::{Cover, LatchRow, Model};
 use std::alloc::{AllocError, Global};
 
 // Adds the outputs of some covers.
-fn push_cover_outputs<'a>(
-    words: &mut Vec<Word<'a>>,
-    covers: &'a [Cover],
-) -> Result<(), AllocError>
+fn push_cover_outputs<'a>(words: &mut Vec<Word<'a>>, covers: &'a [Cover]) -> Result<(), AllocError>
     ensures { OnOk result (word_ports words.new.items ≡ word_ports words.old.items ++ map cover_output covers.now) }
 {
     for cover in covers {
@@ -49,7 +46,7 @@ fn push_latch_outputs<'a>(
 pub fn driver_words<'a>(
     alloc: Global,
     model: &'a Model,
-    placed: &PlacedPorts<'a>,
+    placed: &PlacedPorts<'_, 'a>,
 ) -> Result<Vec<Word<'a>>, AllocError>
     ensures { IfOk result (λ words. (models : List Model) → KnowsPorts placed.now models → word_ports words.items ≡ drivers_of models model.now) }
 {

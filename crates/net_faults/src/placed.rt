@@ -7,6 +7,7 @@ ghost use Rattle.net_faults.specs.Placed.{HasPorts, IsPlaced, KnowsPorts};
 
 use crate::first_lines::FirstLines;
 use crate::words::{input_words, port_words};
+use lists::List;
 use named_models::NamedModels;
 use netlist_core::Model;
 use std::alloc::{AllocError, Global};
@@ -20,9 +21,9 @@ pub struct PortNames<'a> {
 
 /// The names of the ports of each model, and the models by name.
 #[derive(Drop)]
-pub struct PlacedPorts<'a> {
-    named: &'a NamedModels<'a>,
-    ports: Vec<PortNames<'a>>,
+pub struct PlacedPorts<'n, 'a> {
+    named: &'n NamedModels<'a>,
+    ports: List<PortNames<'a>>,
 }
 
 // The names of a model's ports.
@@ -37,13 +38,13 @@ fn port_names<'a>(alloc: Global, model: &'a Model) -> Result<PortNames<'a>, Allo
     })
 }
 
-impl<'a> PlacedPorts<'a> {
+impl<'n, 'a> PlacedPorts<'n, 'a> {
     /// Of these models.
     pub fn new(
         alloc: Global,
         models: &'a [Model],
-        named: &'a NamedModels<'a>,
-    ) -> Result<PlacedPorts<'a>, AllocError>
+        named: &'n NamedModels<'a>,
+    ) -> Result<PlacedPorts<'n, 'a>, AllocError>
         requires { named.now ≡ models.now }
         ensures { IfOk result (λ placed. KnowsPorts placed models.now) }
     {
@@ -51,7 +52,10 @@ impl<'a> PlacedPorts<'a> {
         for model in models {
             ports.push(port_names(alloc, model)?)?;
         }
-        Ok(PlacedPorts { named, ports })
+        Ok(PlacedPorts {
+            named,
+            ports: List::of(ports),
+        })
     }
 
     /// Of the first model of this name.
@@ -59,6 +63,6 @@ impl<'a> PlacedPorts<'a> {
         ensures { (models : List Model) → KnowsPorts self.now models → IsPlaced (model_named models name.now) (option_copied result) }
     {
         let number = self.named.find(name)?;
-        self.ports.get(number)
+        self.ports.as_slice().get(number)
     }
 }

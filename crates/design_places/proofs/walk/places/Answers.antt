@@ -10,7 +10,7 @@ use Rattle.design_places.proofs.walk.places.Goals as goal
 pub loop-placed-init : goal.loop-placed-init
 loop-placed-init c =
     let place : c.of.result ≡ [] = c.of.ensures ∙ c.new.ensures.items in
-    let stack = c.in_ok-push.ensures.items ∙ ap₂ (λ (ps : List PlacedModel) (p : Place). ps ++ record { place = p; model = 0; parent = None } ∷ []) c.new-to_come.ensures.items place in
+    let stack : c.push.new.self.items ≡ record { place = []; model = 0; parent = None } ∷ [] = c.in_ok-push.ensures.items ∙ ap₂ (λ (ps : List PlacedModel) (p : Place). ps ++ record { place = p; model = 0; parent = None } ∷ []) c.new-to_come.ensures.items place in
     subst (λ (ps : List PlacedModel). IsWalk c.args.design.now ps c.push.new.self.items) (sym c.new-listed.ensures.items)
     (subst (λ (ps : List PlacedModel). IsWalk c.args.design.now [] ps) (sym stack) (walk_starts c.args.design.now c.requires.faultless))
 

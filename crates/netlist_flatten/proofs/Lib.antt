@@ -1,0 +1,8 @@
+pub mod Cuts
+pub mod Numbering
+pub mod Parents
+pub mod Tabling
+pub mod Joining
+pub mod Listing
+pub mod Controls
+pub mod MainPorts

@@ -1,0 +1,7 @@
+use Rattle.std.proofs.Common.{◌≡◌, map}
+use Rattle.netlist_meaning.specs.FlatOf.{flat_net}
+use Rattle.netlist_flatten.specs.Numbered.{nets_before}
+use Rattle.netlist_flatten.proofs.nets.nets_of.Given as goal
+
+abbrev pub invariant-loop-at : goal.invariant-loop-at
+invariant-loop-at l = l.nets.items ≡ map (flat_net l.numbers) (nets_before l.numbers l.at)

@@ -1,0 +1,5 @@
+pub mod Numbered
+pub mod Tables
+pub mod Inputs
+pub mod Joins
+pub mod Listed

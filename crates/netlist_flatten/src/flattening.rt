@@ -1,0 +1,66 @@
+// The flat netlist.
+ghost use Rattle.std.specs.Prelude.{ℕ, ◌≡◌, ◌<◌, ◌≤◌, min, IfOk, OnOk, IsErrOf, IsOkUnless};
+ghost use Rattle.netlist_meaning.specs.FlatOf.{IsFlatOf};
+ghost use Rattle.netlist_meaning.specs.Weight.{weight};
+ghost use Rattle.netlist_rules.specs.ModelFaults.{AreFaultless};
+ghost use Rattle.netlist_flatten.specs.declared.error.FlattenError.TheVariants.{TooLarge, NoMemory};
+
+use crate::classes::classes_of;
+use crate::error::FlattenError;
+use crate::latches::{first_control, latches_of};
+use crate::nets::nets_of;
+use crate::nodes::nodes_of;
+use crate::numbers::Numbers;
+use crate::ports::{inputs_of, ports_of};
+use design_weight::weight;
+use lists::List;
+use netlist_core::{Design, Flat};
+use std::alloc::{AllocError, Global};
+
+/// The greatest weight of a netlist.
+pub const WEIGHT_LIMIT: u64 = 1024;
+
+// The flat netlist of a design of a known weight.
+fn flat_of(alloc: Global, design: &Design, found: u64) -> Result<Flat, AllocError>
+    requires faultless { AreFaultless design.now.models }
+    requires few { weight design.now ≤ 1024 }
+    requires weight { found ≡ weight design.now }
+    ensures { IfOk result (IsFlatOf design.now) }
+{
+    let numbers = Numbers::new(alloc, design)?;
+    let classes = classes_of(alloc, &numbers)?;
+    let latches = latches_of(alloc, &numbers)?;
+    let main = numbers.model(0);
+    let ins = inputs_of(alloc, &numbers, main.ins.as_slice(), &classes, &latches)?;
+    let outs = ports_of(alloc, &numbers, main.outs.as_slice())?;
+    let clocks = ports_of(alloc, &numbers, main.clocks.as_slice())?;
+    let nets = nets_of(alloc, &numbers, &classes)?;
+    let nodes = nodes_of(alloc, &numbers)?;
+    Ok(Flat {
+        nets: List::of(nets),
+        ins: List::of(ins),
+        outs: List::of(outs),
+        clocks: List::of(clocks),
+        nodes: List::of(nodes),
+        control: first_control(&latches),
+        latches: List::of(latches),
+        weight: found,
+    })
+}
+
+/// The flat netlist of a design without a fault, whose weight is looked at before any place is made.
+///
+/// `TooLarge` has the design's weight, or the greatest u64 where it weighs more.
+pub fn flatten(alloc: Global, design: &Design) -> Result<Flat, FlattenError>
+    requires faultless { AreFaultless design.now.models }
+    ensures flat { IfOk result (IsFlatOf design.now) }
+    ensures within { OnOk result (weight design.now ≤ 1024) }
+    ensures flattens { weight design.now ≤ 1024 → IsOkUnless result NoMemory }
+    ensures too_large { (w : ℕ) → IsErrOf result (TooLarge w) → (w ≡ min (weight design.now) u64.MAX) × (1024 < weight design.now) }
+{
+    let found = weight(alloc, design)?;
+    if found > WEIGHT_LIMIT {
+        return Err(FlattenError::TooLarge { weight: found });
+    }
+    Ok(flat_of(alloc, design, found)?)
+}

@@ -1,0 +1,16 @@
+//! The flat netlist of a design.
+#![tactic(auto)]
+
+mod classes;
+mod copies;
+mod error;
+mod flattening;
+mod latches;
+mod nets;
+mod nodes;
+mod numbers;
+mod ports;
+mod tables;
+
+pub use error::FlattenError;
+pub use flattening::{WEIGHT_LIMIT, flatten};

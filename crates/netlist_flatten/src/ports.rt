@@ -1,0 +1,95 @@
+// The ports of the main model.
+ghost use Rattle.std.specs.Prelude.{ℕ, ◌≡◌, ◌<◌, ◌↔◌, [], All, length, map, false, true, get_or, ⊤, IfOk, MatchOption};
+ghost use Rattle.netlist_meaning.specs.Nets.{net_at, IsNet, IsControl};
+ghost use Rattle.netlist_meaning.specs.InOrder.{nets_in_order};
+ghost use Rattle.netlist_meaning.specs.FlatOf.{class_of_net, flat_latch, flat_port, at_places};
+ghost use Rattle.netlist_rules.specs.ModelFaults.{AreFaultless};
+ghost use Rattle.netlist_flatten.specs.Inputs.{AreInputs, HasControlClass};
+
+use crate::numbers::Numbers;
+use netlist_core::{FlatLatch, FlatPort, Port};
+use std::alloc::{AllocError, Global};
+
+// A port of the main model.
+fn port_of(numbers: &Numbers<'_>, port: &Port) -> FlatPort
+    requires faultless { AreFaultless numbers.now.models }
+    requires net { IsNet numbers.now (net_at [] port.now.name) }
+    ensures { result ≡ flat_port numbers.now port.now }
+{
+    FlatPort {
+        line: port.line,
+        net: numbers.id(0, port.name.as_slice()),
+    }
+}
+
+/// The ports of a list of the main model.
+pub fn ports_of(
+    alloc: Global,
+    numbers: &Numbers<'_>,
+    ports: &[Port],
+) -> Result<Vec<FlatPort>, AllocError>
+    requires faultless { AreFaultless numbers.now.models }
+    requires nets { All (λ port. IsNet numbers.now (net_at [] port.name)) ports.now }
+    ensures { IfOk result (λ flat. flat.items ≡ map (flat_port numbers.now) ports.now) }
+{
+    let mut flat = Vec::with_capacity(alloc, ports.len())?;
+    for port in ports {
+        flat.push(port_of(numbers, port))?;
+    }
+    Ok(flat)
+}
+
+// Which classes the controls of the latches have.
+fn control_classes(
+    alloc: Global,
+    classes: &[u32],
+    latches: &[FlatLatch],
+) -> Result<Vec<bool>, AllocError>
+    requires classes { All (λ class. class < length classes.now) classes.now }
+    requires latches { All (λ latch. MatchOption latch.control ⊤ (λ id. id.0 < length classes.now)) latches.now }
+    ensures many { IfOk result (λ marks. length marks.items ≡ length classes.now) }
+    ensures marked { IfOk result (λ marks. (class : ℕ) → (get_or marks.items class false ≡ true) ↔ HasControlClass classes.now latches.now class) }
+{
+    let mut marks = vec![in alloc; false; classes.len()]?;
+    for latch in latches {
+        if let Some(id) = latch.control {
+            marks[classes[id.0 as usize] as usize] = true;
+        }
+    }
+    Ok(marks)
+}
+
+// Whether the net of a port is of a control's class.
+fn is_control(classes: &[u32], marks: &[bool], port: FlatPort) -> bool
+    requires port { port.net.0 < length classes.now }
+    requires marks { length marks.now ≡ length classes.now }
+    requires classes { All (λ class. class < length classes.now) classes.now }
+    ensures { result ≡ get_or marks.now (get_or classes.now port.net.0 0) false }
+{
+    marks[classes[port.net.0 as usize] as usize]
+}
+
+/// The inputs: the ports of the main model's inputs that are not joined with a latch's control.
+pub fn inputs_of(
+    alloc: Global,
+    numbers: &Numbers<'_>,
+    ports: &[Port],
+    classes: &[u32],
+    latches: &[FlatLatch],
+) -> Result<Vec<FlatPort>, AllocError>
+    requires faultless { AreFaultless numbers.now.models }
+    requires nets { All (λ port. IsNet numbers.now (net_at [] port.name)) ports.now }
+    requires classes { classes.now ≡ map (class_of_net numbers.now) (nets_in_order numbers.now) }
+    requires latches { latches.now ≡ at_places numbers.now (λ model. model.latches) (flat_latch numbers.now) }
+    ensures { IfOk result (λ inputs. AreInputs numbers.now ports.now inputs.items) }
+{
+    let marks = control_classes(alloc, classes, latches)?;
+    let mut inputs = Vec::new(alloc);
+    for port in ports {
+        let flat = port_of(numbers, port);
+        if !is_control(classes, &marks, flat) {
+            inputs.push(flat)?;
+        }
+    }
+    Ok(inputs)
+}
