@@ -27,6 +27,7 @@ abbrev IsNamed : Option (Text × List Row) → Type 0
 IsNamed met = ((rows : List Row) × (met ≡ Some (codes "compile", rows))) ⊎ IsDrivenBy (codes "simulate") met ⊎ IsDrivenBy (codes "eval") met
 
 entered_named : (stop : Option (Text × List Text)) → entered_passes (built blifww_app) stop ≡ true → is_some (entered (built blifww_app) stop) ≡ true → IsNamed (entered (built blifww_app) stop)
+unfolding walk_passes
 entered_named None passes met = absurd (true≢false (sym met))
 entered_named (Some p) passes met = go (answers_to p.0 (label_of compile_shape)) (answers_to p.0 (label_of shape)) (answers_to p.0 (label_of eval_shape)) passes met
   where

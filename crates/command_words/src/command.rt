@@ -1,9 +1,10 @@
 // The command that words ask for.
-ghost use Rattle.std.specs.Prelude.{◌≡◌, ◌≤◌, ℕ, List, IfOk, OnOk, IsErrOf, MatchResult, Some, None, length, map, string_bytes};
+ghost use Rattle.std.specs.Prelude.{◌≡◌, ◌≤◌, IfOk, OnOk, IsErrOf, MatchResult, Some, None, length, map, string_bytes};
 ghost use Rattle.clap.specs.Simple.{subcommand_rows_of};
 ghost use Rattle.clap.specs.Lexer.{usize_max};
-ghost use Rattle.clap.specs.Walk.{Text, rows_of};
+ghost use Rattle.clap.specs.Walk.{rows_of};
 ghost use Rattle.clap.specs.Words.{found_of};
+ghost use Rattle.command_words.specs.Driven.{values_by};
 ghost use Rattle.command_words.specs.Shapes.{CommandValues, HasCyclesInRange, IsCommand, IsTaken, IsWritten, command_values, driven_by, values_met, values_of};
 
 use crate::WordsError;
@@ -31,11 +32,23 @@ pub enum Command {
     },
 }
 
-// The values of a command that is driven by streams.
-#[derive(Drop)]
-struct Driven {
-    cycles: usize,
-    streams: List<String>,
+// A command that is driven by streams.
+#[derive(Clone, Copy)]
+enum Driven {
+    Simulate,
+    Eval,
+}
+
+impl Driven {
+    // The command with its values.
+    fn with(self, cycles: usize, streams: List<String>) -> Command
+        ensures { values_of result ≡ values_by self cycles (map string_bytes streams) }
+    {
+        match self {
+            Driven::Simulate => Command::Simulate { cycles, streams },
+            Driven::Eval => Command::Eval { cycles, streams },
+        }
+    }
 }
 
 // The texts, each in a String of its own.
@@ -49,19 +62,16 @@ fn owned(alloc: Global, texts: &[&str]) -> Result<List<String>, AllocError>
     Ok(List::of(words))
 }
 
-// The number of cycles and the words that clap has found for a command.
-fn driven_in(alloc: Global, found: &ArgMatches<'_>) -> Result<Driven, WordsError>
-    ensures ok { IfOk result (λ d. (command : ℕ → List Text → CommandValues) → driven_by command (rows_of (found_of found.now)) ≡ Some (command d.cycles (map string_bytes d.streams))) }
-    ensures usage { IsErrOf result WordsError.Usage → (command : ℕ → List Text → CommandValues) → driven_by command (rows_of (found_of found.now)) ≡ None }
-    ensures cycles { IfOk result (λ d. (1 ≤ d.cycles) × (d.cycles ≤ 1048576)) }
+// A command that is driven by streams, with the values that clap has found for it.
+fn driven_in(alloc: Global, driven: Driven, found: &ArgMatches<'_>) -> Result<Command, WordsError>
+    ensures ok { IfOk result (λ c. driven_by (values_by driven) (rows_of (found_of found.now)) ≡ Some (values_of c)) }
+    ensures usage { IsErrOf result WordsError.Usage → driven_by (values_by driven) (rows_of (found_of found.now)) ≡ None }
+    ensures cycles { IfOk result (λ c. HasCyclesInRange (values_of c)) }
 {
     let number = found.get_str("cycles").ok_or(WordsError::Usage)?;
     let cycles = number_between(number, 1, MOST_CYCLES).ok_or(WordsError::Usage)?;
     let streams = owned(alloc, found.get_strs("streams").unwrap_or(&[]))?;
-    Ok(Driven {
-        cycles: cycles as usize,
-        streams,
-    })
+    Ok(driven.with(cycles as usize, streams))
 }
 
 // The command that clap has found, with its values.
@@ -72,14 +82,8 @@ fn command_in(alloc: Global, found: &ArgMatches<'_>) -> Result<Command, WordsErr
 {
     match found.subcommand() {
         Some(("compile", _)) => Ok(Command::Compile),
-        Some(("simulate", inner)) => {
-            let Driven { cycles, streams } = driven_in(alloc, inner)?;
-            Ok(Command::Simulate { cycles, streams })
-        }
-        Some(("eval", inner)) => {
-            let Driven { cycles, streams } = driven_in(alloc, inner)?;
-            Ok(Command::Eval { cycles, streams })
-        }
+        Some(("simulate", inner)) => driven_in(alloc, Driven::Simulate, inner),
+        Some(("eval", inner)) => driven_in(alloc, Driven::Eval, inner),
         _ => Err(WordsError::Usage),
     }
 }
