@@ -26,10 +26,10 @@ fn no_model(alloc: Global, models: &[Model]) -> Result<Option<Fault>, AllocError
 }
 
 // The fault by the first rule that the models break, the one on circles aside.
-fn broken_rule(
+fn broken_rule<'a>(
     alloc: Global,
-    models: &[Model],
-    named: &NamedModels<'_>,
+    models: &'a [Model],
+    named: &'a NamedModels<'a>,
 ) -> Result<Option<Fault>, AllocError>
     requires { named.now ≡ models.now }
     ensures { IfOk result (λ found. found ≡ first_broken_by model_rules models.now) }
@@ -63,8 +63,9 @@ pub fn first_fault(alloc: Global, models: &[Model]) -> Result<Option<Fault>, All
         return Ok(Some(fault));
     }
     let named = NamedModels::new(alloc, models)?;
-    if let Some(fault) = broken_rule(alloc, models, &named)? {
+    let index: &NamedModels<'_> = &named;
+    if let Some(fault) = broken_rule(alloc, models, index)? {
         return Ok(Some(fault));
     }
-    circle_fault(alloc, models, &named)
+    circle_fault(alloc, models, index)
 }
