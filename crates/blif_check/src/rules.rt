@@ -29,7 +29,7 @@ fn no_model(alloc: Global, models: &[Model]) -> Result<Option<Fault>, AllocError
 fn broken_rule<'a>(
     alloc: Global,
     models: &'a [Model],
-    named: &'a NamedModels<'a>,
+    named: &NamedModels<'a>,
 ) -> Result<Option<Fault>, AllocError>
     requires { named.now ≡ models.now }
     ensures { IfOk result (λ found. found ≡ first_broken_by model_rules models.now) }
@@ -63,9 +63,8 @@ pub fn first_fault(alloc: Global, models: &[Model]) -> Result<Option<Fault>, All
         return Ok(Some(fault));
     }
     let named = NamedModels::new(alloc, models)?;
-    let index: &NamedModels<'_> = &named;
-    if let Some(fault) = broken_rule(alloc, models, index)? {
+    if let Some(fault) = broken_rule(alloc, models, &named)? {
         return Ok(Some(fault));
     }
-    circle_fault(alloc, models, index)
+    circle_fault(alloc, models, &named)
 }

@@ -49,7 +49,7 @@ fn push_latch_outputs<'a>(
 pub fn driver_words<'a>(
     alloc: Global,
     model: &'a Model,
-    placed: &PlacedPorts<'a>,
+    placed: &PlacedPorts<'_, 'a>,
 ) -> Result<Vec<Word<'a>>, AllocError>
     ensures { IfOk result (λ words. (models : List Model) → KnowsPorts placed.now models → word_ports words.items ≡ drivers_of models model.now) }
 {

@@ -75,7 +75,7 @@ pub fn push_actuals<'a>(
     words: &mut Vec<Word<'a>>,
     kind: PinKind,
     model: &'a Model,
-    placed: &PlacedPorts<'a>,
+    placed: &PlacedPorts<'_, 'a>,
 ) -> Result<(), AllocError>
     ensures { OnOk result ((models : List Model) → KnowsPorts placed.now models →
         word_ports words.new.items ≡ word_ports words.old.items ++ actuals models (is_pin_of kind) model.now) }

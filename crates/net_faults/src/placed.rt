@@ -20,8 +20,8 @@ pub struct PortNames<'a> {
 
 /// The names of the ports of each model, and the models by name.
 #[derive(Drop)]
-pub struct PlacedPorts<'a> {
-    named: &'a NamedModels<'a>,
+pub struct PlacedPorts<'n, 'a> {
+    named: &'n NamedModels<'a>,
     ports: Vec<PortNames<'a>>,
 }
 
@@ -37,13 +37,13 @@ fn port_names<'a>(alloc: Global, model: &'a Model) -> Result<PortNames<'a>, Allo
     })
 }
 
-impl<'a> PlacedPorts<'a> {
+impl<'n, 'a> PlacedPorts<'n, 'a> {
     /// Of these models.
     pub fn new(
         alloc: Global,
         models: &'a [Model],
-        named: &'a NamedModels<'a>,
-    ) -> Result<PlacedPorts<'a>, AllocError>
+        named: &'n NamedModels<'a>,
+    ) -> Result<PlacedPorts<'n, 'a>, AllocError>
         requires { named.now ≡ models.now }
         ensures { IfOk result (λ placed. KnowsPorts placed models.now) }
     {

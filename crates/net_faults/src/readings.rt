@@ -66,7 +66,7 @@ fn push_latches<'a>(words: &mut Vec<Word<'a>>, latches: &'a [LatchRow]) -> Resul
 pub fn reading_words<'a>(
     alloc: Global,
     model: &'a Model,
-    placed: &PlacedPorts<'a>,
+    placed: &PlacedPorts<'_, 'a>,
 ) -> Result<Vec<Word<'a>>, AllocError>
     ensures { IfOk result (λ words. (models : List Model) → KnowsPorts placed.now models → word_ports words.items ≡ readings_of models model.now) }
 {

@@ -19,7 +19,7 @@ use std::alloc::{AllocError, Global};
 fn offer_second_drivers<'a>(
     alloc: Global,
     model: &'a Model,
-    placed: &PlacedPorts<'a>,
+    placed: &PlacedPorts<'_, 'a>,
     earliest: &mut Earliest<'a>,
 ) -> Result<(), AllocError>
     ensures { OnOk result ((models : List Model) → KnowsPorts placed.now models →
@@ -34,7 +34,7 @@ fn offer_second_drivers<'a>(
 pub fn second_driver<'a>(
     alloc: Global,
     models: &'a [Model],
-    named: &'a NamedModels<'a>,
+    named: &NamedModels<'a>,
 ) -> Result<Option<Fault>, AllocError>
     requires { named.now ≡ models.now }
     ensures { IfOk result (λ found. found ≡ first_broken MultipleDrivers models.now) }

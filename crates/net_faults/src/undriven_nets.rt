@@ -35,7 +35,7 @@ fn offer_unnamed<'a>(words: &[Word<'a>], drivers: &FirstLines<'a>, earliest: &mu
 fn offer_undriven<'a>(
     alloc: Global,
     model: &'a Model,
-    placed: &PlacedPorts<'a>,
+    placed: &PlacedPorts<'_, 'a>,
     earliest: &mut Earliest<'a>,
 ) -> Result<(), AllocError>
     ensures { OnOk result ((models : List Model) → KnowsPorts placed.now models →
@@ -53,7 +53,7 @@ fn offer_undriven<'a>(
 pub fn undriven<'a>(
     alloc: Global,
     models: &'a [Model],
-    named: &'a NamedModels<'a>,
+    named: &NamedModels<'a>,
 ) -> Result<Option<Fault>, AllocError>
     requires { named.now ≡ models.now }
     ensures { IfOk result (λ found. found ≡ first_broken Undriven models.now) }
