@@ -1,9 +1,12 @@
 -- Loops over models that offer the words at fault of each.
-use Rattle.std.proofs.Common.{◌≡◌, refl, sym, ap, ◌∙◌, ℕ, ◌+◌, ◌<◌, List, [], ◌∷◌, ◌++◌, length, take, get_or, flat_map}
-use Rattle.std.specs.Prelude.{Option}
+use Rattle.std.proofs.Common.{◌≡◌, refl, sym, ap, ◌∙◌, ℕ, ◌+◌, ◌<◌, ◌≤◌, List, [], ◌++◌, length, take, get_or, flat_map}
+use Rattle.std.specs.Prelude.{Option, option_map, Result, Ok, Err, IfOk}
+use Rattle.std.proofs.lemmas.List.{take_all}
 use Rattle.netlist_core.specs.declared.model.Port.{Port}
 use Rattle.netlist_core.specs.declared.model.Model.{Model}
-use Rattle.netlist_rules.specs.ModelFaults.{earliest}
+use Rattle.netlist_rules.specs.ModelFaults.{earliest, fault_of_port}
+use Rattle.netlist_rules.specs.declared.fault.Fault.{Fault}
+use Rattle.netlist_rules.specs.declared.fault.FaultKind.{FaultKind}
 use Rattle.earliest_words.specs.Words.{earliest_after}
 use Rattle.earliest_words.proofs.EarliestWords.{earliest-append, earliest_after-append}
 use Rattle.net_faults.proofs.Pushed.{flat_more}
@@ -24,3 +27,9 @@ offered_thrice start first second third xs ys zs one two three =
     three
     ∙ ap (λ o. earliest_after o zs) (two ∙ ap (λ o. earliest_after o ys) one ∙ earliest_after-append start xs ys)
     ∙ earliest_after-append start (xs ++ ys) zs
+
+-- and at the end of the models: the fault at the earliest word of all
+pub found_of_all : {E : Type 0} (kind : FaultKind) (words : Model → List Port) (models : List Model) (i : ℕ) (found : Option Port) (result : Result (Option Fault) E) → length models ≤ i →
+    found ≡ earliest (flat_map words (take i models)) → IfOk result (λ fault. fault ≡ option_map (fault_of_port kind) found) → IfOk result (λ fault. fault ≡ option_map (fault_of_port kind) (earliest (flat_map words models)))
+found_of_all kind words models i found (Err e) past is ok = ok
+found_of_all kind words models i found (Ok fault) past is ok = ok ∙ ap (option_map (fault_of_port kind)) (is ∙ ap (λ ms. earliest (flat_map words ms)) (take_all i models past))

@@ -2,4 +2,4 @@ pub mod NamedLines
 pub mod Passing
 pub mod Pushed
 pub mod EachModel
-pub mod LookUps
+pub mod NumberedPorts

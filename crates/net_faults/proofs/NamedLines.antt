@@ -1,22 +1,19 @@
 -- The earliest lines of names, with one more word.
-use Rattle.std.proofs.Common.{◌≡◌, refl, sym, ap, ap₂, ◌∙◌, subst, ℕ, ◌≤◌, ◌<◌, ◌⊎◌, inl, inr, min, Bool, true, false, ◌&&◌, ◌||◌, cond, List, [], ◌∷◌, ◌++◌, arith}
+use Rattle.std.proofs.Common.{◌≡◌, refl, ap, ap₂, ◌∙◌, ℕ, ◌≤◌, ◌<◌, inl, inr, min, Bool, true, false, ◌&&◌, ◌||◌, cond, List, ◌∷◌, arith}
 use Rattle.std.specs.Prelude.{Option, Some, None, nat_le, nat_lt, bytes_eq}
 use Rattle.std.specs.BTreeMap.{BTreeMap, UpdatesBy}
 use Rattle.std.specs.Cmp.{both_ways}
 use Rattle.std.specs.Cmp.Lexicographic.{slice_cmp}
-use Rattle.std.specs.List.{list_any}
 use Rattle.std.specs.Option.{option_map_or}
 use Rattle.std.specs.Ordering.{nat_cmp}
 use Rattle.std.proofs.lemmas.Bool.{leb-true, le-leb, ltb-true, lt-ltb, or_cases, or_left, or_right, cases_lt}
-use Rattle.std.proofs.lemmas.List.Folds.{list_any-append}
 use Rattle.std.proofs.lemmas.Map.Text.{btree_map_updates_str}
 use Rattle.std.proofs.lemmas.Slice.Eq.{bytes_eq-Decides}
 use denote.Ref.{Bor}
 use Rattle.netlist_core.specs.declared.model.Port.{Port}
-use Rattle.netlist_core.specs.Names.{Name, at_line, has_name}
-use Rattle.netlist_rules.specs.Drivers.{same_name_before, same_name_up_to}
+use Rattle.netlist_core.specs.Names.{Name, at_line}
 use Rattle.net_faults.specs.declared.first_lines.FirstLines.{FirstLines}
-use Rattle.net_faults.specs.FirstLines.{line_in, has_line, AreFirstLines}
+use Rattle.net_faults.specs.FirstLines.{line_in, AreFirstLines}
 
 -- the lesser of two lines is early where one of them is
 least_le : (c a b : ℕ) → nat_le (min a b) c ≡ (nat_le a c || nat_le b c)

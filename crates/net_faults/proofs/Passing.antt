@@ -1,13 +1,12 @@
 -- Loops over the words of a list that ask of each whether its name stands earlier.
-use Rattle.std.proofs.Common.{◌≡◌, refl, sym, ap, ◌∙◌, subst, ℕ, ◌+◌, ◌<◌, ◌≤◌, Bool, true, false, cond, not, List, [], ◌∷◌, ◌++◌, map, length, drop, get_or}
+use Rattle.std.proofs.Common.{◌≡◌, sym, ap, ◌∙◌, subst, ℕ, ◌+◌, ◌<◌, ◌≤◌, Bool, true, false, cond, not, List, [], ◌∷◌, ◌++◌, length, drop, get_or}
 use Rattle.std.specs.Prelude.{Option, option_to_list}
 use Rattle.std.specs.Bool.{then_some}
-use Rattle.std.proofs.lemmas.List.{append-nil, append_assoc, drop_more, drop_all, get_or_read, map_push}
+use Rattle.std.proofs.lemmas.List.{append_assoc, drop_more, drop_all}
 use Rattle.netlist_core.specs.declared.model.Port.{Port}
-use Rattle.netlist_rules.specs.Drivers.{stands_earlier, firsts_after, repeats_after}
 use Rattle.earliest_words.specs.declared.word.Word.{Word}
 use Rattle.earliest_words.specs.Words.{word_port, word_ports, earliest_after}
-use Rattle.earliest_words.proofs.EarliestWords.{earliest_after-none, earliest_after-append}
+use Rattle.earliest_words.proofs.EarliestWords.{earliest_after-append}
 use Rattle.net_faults.specs.declared.repeats.Repeats.{Repeats}
 use Rattle.net_faults.specs.Repeats.{IsBetween}
 

@@ -18,14 +18,18 @@ flat_more f start had new xs i x within is before pushed =
     ∙ flat_map_more f start (take i xs) x
     ∙ ap (λ ys. start ++ flat_map f ys) (sym (taken xs i x within is))
 
+pub put_in_front : {Y : Type 0} (o : Option Y) (rest : List Y) → option_to_list o ++ rest ≡ cons_option o rest
+put_in_front None rest = refl
+put_in_front (Some y) rest = refl
+
 of_one : {Y : Type 0} (o : Option Y) → cons_option o [] ≡ option_to_list o
 of_one None = refl
 of_one (Some y) = refl
 
 -- an item is pushed where a test says so
-pub filtered_more : {X Y : Type 0} (f : X → Option Y) (start had new : List Y) (xs : List X) (i : ℕ) (x : X) (test : Bool) (y : Y) → i < length xs → x ≡ get_or xs i x →
+pub kept_more : {X Y : Type 0} (f : X → Option Y) (start had new : List Y) (xs : List X) (i : ℕ) (x : X) (test : Bool) (y : Y) → i < length xs → x ≡ get_or xs i x →
     f x ≡ then_some test y → had ≡ start ++ filter_map f (take i xs) → new ≡ cond test (had ++ y ∷ []) had → new ≡ start ++ filter_map f (take (i + 1) xs)
-filtered_more f start had new xs i x test y within is gives before pushed =
+kept_more f start had new xs i x test y within is gives before pushed =
     pushed
     ∙ by test
     ∙ ap (λ ys. ys ++ option_to_list (then_some test y)) before

@@ -18,7 +18,7 @@ pub record HasPorts (names : PortNames) (m : Model) : Type 0 where
 -- each of these models has its ports' names
 pub record KnowsPorts (placed : PlacedPorts) (models : List Model) : Type 0 where
   pub named : placed.named.now ≡ models
-  pub ports : AllZip HasPorts placed.ports.items models
+  pub ports : AllZip HasPorts placed.ports models
 
 -- the names of a model that is placed, where there is one
 abbrev pub IsPlaced : Option Model → Option PortNames → Type 0

@@ -7,6 +7,7 @@ ghost use Rattle.net_faults.specs.Placed.{HasPorts, IsPlaced, KnowsPorts};
 
 use crate::first_lines::FirstLines;
 use crate::words::{input_words, port_words};
+use lists::List;
 use named_models::NamedModels;
 use netlist_core::Model;
 use std::alloc::{AllocError, Global};
@@ -22,7 +23,7 @@ pub struct PortNames<'a> {
 #[derive(Drop)]
 pub struct PlacedPorts<'n, 'a> {
     named: &'n NamedModels<'a>,
-    ports: Vec<PortNames<'a>>,
+    ports: List<PortNames<'a>>,
 }
 
 // The names of a model's ports.
@@ -51,7 +52,10 @@ impl<'n, 'a> PlacedPorts<'n, 'a> {
         for model in models {
             ports.push(port_names(alloc, model)?)?;
         }
-        Ok(PlacedPorts { named, ports })
+        Ok(PlacedPorts {
+            named,
+            ports: List::of(ports),
+        })
     }
 
     /// Of the first model of this name.
@@ -59,6 +63,6 @@ impl<'n, 'a> PlacedPorts<'n, 'a> {
         ensures { (models : List Model) → KnowsPorts self.now models → IsPlaced (model_named models name.now) (option_copied result) }
     {
         let number = self.named.find(name)?;
-        self.ports.get(number)
+        self.ports.as_slice().get(number)
     }
 }

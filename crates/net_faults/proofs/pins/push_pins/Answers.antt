@@ -6,7 +6,7 @@ use Rattle.netlist_core.specs.Names.{at_line}
 use Rattle.netlist_rules.specs.Drivers.{actual_if}
 use Rattle.earliest_words.specs.Words.{word_port, word_ports}
 use Rattle.net_faults.specs.Placed.{is_pin_of}
-use Rattle.net_faults.proofs.Pushed.{filtered_more}
+use Rattle.net_faults.proofs.Pushed.{kept_more}
 use Rattle.net_faults.proofs.pins.push_pins.Goals as goal
 use Rattle.net_faults.proofs.pins.push_pins.Goals.{then-is_of_kind+in_ok-push, else-is_of_kind}
 
@@ -26,7 +26,7 @@ loop-pin-preserved c = λ model placed.
           ∙ sym (cond-true test (had ++ p ∷ []) had w.if-is_of_kind.true)
       | else-is_of_kind w ↦ ap (λ (v : _). word_ports v.items) w.words-is ∙ sym (cond-false test (had ++ p ∷ []) had w.if-is_of_kind.false)
     ] in
-    filtered_more (actual_if (is_pin_of c.args.kind model) line) (word_ports c.args.words.now.items) had (word_ports c.if-is_of_kind.words.items) c.as_slice-pin-items.result.now c.loop-pin.pin-index pin test p (omega arith) c.pin-item.is
-        (ap (λ t. then_some t p) (sym (c.is_of_kind.ensures model placed)))
-        (c.loop-pin.invariant model placed)
-        chosen
+    kept_more (actual_if (is_pin_of c.args.kind model) line) (word_ports c.args.words.now.items) had (word_ports c.if-is_of_kind.words.items) c.as_slice-pin-items.result.now c.loop-pin.pin-index pin test p (omega arith) c.pin-item.is
+    (ap (λ t. then_some t p) (sym (c.is_of_kind.ensures model placed)))
+    (c.loop-pin.invariant model placed)
+    chosen

@@ -1,4 +1,4 @@
-use Rattle.std.proofs.Common.{ap, sym, refl, ◌∙◌, ◌≡◌, Some}
+use Rattle.std.proofs.Common.{ap, sym, ◌∙◌, ◌≡◌}
 use Rattle.net_faults.specs.FirstLines.{line_in}
 use Rattle.std.specs.Option.{option_copied}
 use Rattle.net_faults.proofs.NamedLines.{least_of, lines_more}
