@@ -1,5 +1,5 @@
 -- The weight of a model by the weights of those that its lines place.
-use Rattle.std.proofs.Common.{◌≡◌, ◌≢◌, refl, sym, ap, subst, ◌∙◌, ℕ, zero, suc, ◌+◌, ◌-◌, ◌^◌, ◌<◌, ◌≤◌, ◌⊎◌, inl, inr, min, List, [], ◌∷◌, set, length, get_or, sum_by, position, Option, Some, None, MatchOption, slice_get, arith}
+use Rattle.std.proofs.Common.{◌≡◌, refl, sym, ap, subst, ◌∙◌, ℕ, zero, suc, ◌+◌, ◌-◌, ◌^◌, ◌<◌, ◌≤◌, ◌⊎◌, inl, inr, min, List, [], ◌∷◌, set, length, get_or, sum_by, position, Option, Some, None, MatchOption, slice_get, arith}
 use Rattle.std.specs.Option.{option_map_or}
 use Rattle.std.proofs.lemmas.List.{get_or-set_same, get_or-set_other, get_or_past, length-set}
 use Rattle.std.proofs.lemmas.List.Sums.{sum_by-cons}
@@ -10,10 +10,9 @@ use Rattle.netlist_core.specs.declared.model.Design.{Design}
 use Rattle.netlist_core.specs.Names.{is_model_named, model_named}
 use Rattle.netlist_core.specs.OwnWeight.{own_weight}
 use Rattle.netlist_meaning.specs.Weight.{of_model, weight_below, weight}
-use Rattle.netlist_meaning.specs.Places.{main_model}
 use Rattle.named_models.specs.Numbers.{IsNumberOf}
 use Rattle.named_models.proofs.Numbered.{number_found}
-use Rattle.model_order.specs.Numbers.{first_named, Places}
+use Rattle.model_order.specs.Numbers.{Places}
 use Rattle.model_order.specs.Order.{IsModelOrder}
 use Rattle.model_order.proofs.Naming.{places_by, number_named}
 use Rattle.design_weight.specs.Weights.{line_weight, WeighsBeyond, AreWeights}

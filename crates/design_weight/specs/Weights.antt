@@ -1,5 +1,5 @@
 -- Weights of models by their numbers.
-use Rattle.std.specs.Prelude.{ℕ, ◌≡◌, ◌<◌, ◌+◌, ◌-◌, ◌^◌, min, List, length, get_or, position, Some, slice_get}
+use Rattle.std.specs.Prelude.{ℕ, ◌≡◌, ◌<◌, ◌-◌, ◌^◌, min, List, length, get_or, position, Some, slice_get}
 use Rattle.std.specs.Option.{option_map_or}
 use Rattle.netlist_core.specs.declared.model.Model.{Model}
 use Rattle.netlist_core.specs.declared.model.Subckt.{Subckt}

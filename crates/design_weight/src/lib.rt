@@ -4,3 +4,6 @@
 mod weights;
 
 pub use weights::weight;
+
+#[cfg(test)]
+mod tests;

@@ -1,9 +1,10 @@
 // Weights of models with all that they place, each after those of the models that its lines place.
-ghost use Rattle.std.specs.Prelude.{◌≡◌, ◌+◌, ◌<◌, min, length, get_or, sum_by, IfOk};
+ghost use Rattle.std.specs.Prelude.{◌≡◌, ◌+◌, ◌<◌, min, length, get_or, sum_by, IfOk, IfErr};
 ghost use Rattle.netlist_core.specs.OwnWeight.{own_weight};
 ghost use Rattle.netlist_meaning.specs.Weight.{weight};
 ghost use Rattle.netlist_rules.specs.ModelFaults.{AreFaultless};
 ghost use Rattle.model_order.specs.Order.{IsModelOrder};
+ghost use Rattle.model_order.specs.Reasons.{IsOrderRefusal};
 ghost use Rattle.design_weight.specs.Weights.{line_weight, AreWeights};
 
 use model_order::{OrderError, order};
@@ -51,19 +52,27 @@ fn weights(
     Ok(weights)
 }
 
+// The weight of a design, at most the greatest u64, where no model leads back to itself.
+pub fn weight_or_circle(alloc: Global, design: &Design) -> Result<u64, OrderError>
+    ensures weight { IfOk result (λ w. w ≡ min (weight design.now) u64.MAX) }
+    ensures refused { IfErr result (IsOrderRefusal design.now.models) }
+{
+    let models = design.models.as_slice();
+    let named = NamedModels::new(alloc, models)?;
+    let order = order(alloc, models, &named)?;
+    let weights = weights(alloc, design, &named, order.as_slice())?;
+    Ok(weights.first().copied().unwrap_or(0))
+}
+
 /// The weight of a design without a fault, at most the greatest u64, in a time that grows as its text does, times the
 /// look-up of a name.
 pub fn weight(alloc: Global, design: &Design) -> Result<u64, AllocError>
     requires { AreFaultless design.now.models }
     ensures { IfOk result (λ w. w ≡ min (weight design.now) u64.MAX) }
 {
-    let models = design.models.as_slice();
-    let named = NamedModels::new(alloc, models)?;
-    let order = match order(alloc, models, &named) {
-        Ok(order) => order,
-        Err(OrderError::NoMemory) => return Err(AllocError),
+    match weight_or_circle(alloc, design) {
+        Ok(weight) => Ok(weight),
+        Err(OrderError::NoMemory) => Err(AllocError),
         Err(OrderError::Circle) => unreachable!(),
-    };
-    let weights = weights(alloc, design, &named, order.as_slice())?;
-    Ok(weights.first().copied().unwrap_or(0))
+    }
 }

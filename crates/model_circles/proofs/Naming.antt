@@ -1,5 +1,5 @@
 -- Circles by number are circles by name.
-use Rattle.std.proofs.Common.{◌≡◌, ◌≢◌, refl, sym, ap, subst, ◌∙◌, ℕ, zero, suc, ◌+◌, ◌<◌, ◌≤◌, ◌⊎◌, inl, inr, List, [], ◌∷◌, length, map, get_or, Option, Some, None, MatchOption, slice_get, option_and_then, arith}
+use Rattle.std.proofs.Common.{◌≡◌, refl, sym, ap, subst, ◌∙◌, ℕ, zero, suc, ◌<◌, ◌≤◌, inl, inr, List, [], ◌∷◌, length, map, Option, Some, None, MatchOption, slice_get, arith}
 use Rattle.std.specs.Prelude.{All}
 use Rattle.std.specs.Option.{option_map_or}
 use Rattle.std.proofs.lemmas.Option.{none-some, same_Some, slice_get_within, get_or_from_slice_get, slice_get-get_or}
@@ -10,11 +10,11 @@ use Rattle.netlist_core.specs.Names.{Name, model_named}
 use Rattle.netlist_rules.specs.Circles.{HasSubcktOf, Leads, LeadsBack, IsOnCircle, IsCircleFault}
 use Rattle.netlist_rules.specs.declared.fault.Fault.{Fault}
 use Rattle.named_models.specs.Numbers.{IsNumberOf}
-use Rattle.model_order.specs.Numbers.{first_named, name_at, subckts_of, number_placed, Places, PlacesSomewhere, LeadsBy}
+use Rattle.model_order.specs.Numbers.{first_named, name_at, subckts_of, Places, PlacesSomewhere, LeadsBy}
 use Rattle.model_order.proofs.Naming.{numbered, number_named, name_is, placing, placed_named, number_within, leads_named, places_by}
 use Rattle.model_circles.specs.declared.circle.Circle.{Circle}
 use Rattle.model_circles.specs.Earliest.{IsCircle, IsCircleIfAny, IsFaultOf, IsNoLater, IsEarliest}
-use Rattle.model_circles.specs.Ways.{LeadsBackBy, Stands, AreApart, IsWayBack, LiesOnCircle}
+use Rattle.model_circles.specs.Ways.{LeadsBackBy, Stands, AreApart, LiesOnCircle}
 
 -- each is the first of its name
 abbrev AreNumbers : List Model → List ℕ → Type 0
@@ -63,7 +63,7 @@ on_circle models circle c =
       others = map (name_at models) circle.others;
       begins = ap (λ v. v ∷ map (name_at models) circle.others) named;
       leads_back = subst (λ v. LeadsBack models v (map (name_at models) circle.others) is.model.name) (name_is models p.line.model c.inner p.is_number ∙ ap (λ (s : Subckt). s.model) (sym same))
-      (subst (λ v. LeadsBack models (name_at models c.inner) (map (name_at models) circle.others) v) named (back c.inner circle.others circle.first (placed_named models circle.first c.k c.inner c.placed) c.way.leads));
+          (subst (λ v. LeadsBack models (name_at models c.inner) (map (name_at models) circle.others) v) named (back c.inner circle.others circle.first (placed_named models circle.first c.k c.inner c.placed) c.way.leads));
       is_simple = is_distinct (map (name_at models) (circle.first ∷ circle.others)) (names_apart models (circle.first ∷ circle.others) are c.way.apart);
     }
   where

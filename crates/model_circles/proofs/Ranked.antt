@@ -1,9 +1,9 @@
 -- The models of a circle have one rank.
-use Rattle.std.proofs.Common.{◌≡◌, ◌≢◌, refl, None, sym, ap, subst, ◌∙◌, ℕ, ◌+◌, ◌<◌, ◌≤◌, List, [], ◌∷◌, length, get_or, Option, Some, slice_get, arith}
+use Rattle.std.proofs.Common.{◌≡◌, ◌≢◌, refl, None, sym, ap, subst, ◌∙◌, ℕ, ◌<◌, ◌≤◌, List, [], ◌∷◌, length, get_or, Option, Some, slice_get, arith}
 use Rattle.std.proofs.lemmas.Option.{same_Some}
 use Rattle.netlist_core.specs.declared.model.Model.{Model}
 use Rattle.netlist_core.specs.declared.model.Subckt.{Subckt}
-use Rattle.model_order.specs.Numbers.{subckts_of, Places, PlacesSomewhere, LeadsBy}
+use Rattle.model_order.specs.Numbers.{subckts_of, Places, LeadsBy}
 use Rattle.model_order.proofs.Naming.{placed_within}
 use Rattle.model_circles.specs.declared.circle.Circle.{Circle}
 use Rattle.model_circles.specs.Earliest.{IsLookedAt, IsNoLater}

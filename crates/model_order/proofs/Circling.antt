@@ -1,14 +1,13 @@
 -- A path of the walk that comes back to an open model is a circle.
-use Rattle.std.proofs.Common.{◌≡◌, refl, sym, ap, subst, ◌∙◌, ℕ, suc, ◌+◌, ◌-◌, ◌<◌, ◌≤◌, List, [], ◌∷◌, length, map, get_or, drop, arith}
+use Rattle.std.proofs.Common.{◌≡◌, sym, ap, subst, ◌∙◌, ℕ, suc, ◌+◌, ◌-◌, ◌<◌, List, [], ◌∷◌, length, map, get_or, drop, arith}
 use Rattle.std.proofs.lemmas.List.{get_or-drop, length-drop}
 use Rattle.std.proofs.Math.Seq.{drop-cons}
 use Rattle.netlist_core.specs.declared.model.Model.{Model}
 use Rattle.model_order.specs.declared.walk.Mark.{Mark}
-use Rattle.model_order.specs.declared.walk.Mark.TheVariants.{Unseen, Open, Done}
 use Rattle.model_order.specs.declared.walk.Met.TheVariants.{Again}
 use Rattle.model_order.specs.Numbers.{name_at, Places, PlacesSomewhere, LeadsBy}
 use Rattle.model_order.specs.Reasons.{IsCircular}
-use Rattle.model_order.specs.Walk.{mark_of, IsWalk, IsMet, IsTop}
+use Rattle.model_order.specs.Walk.{IsWalk, IsMet, IsTop}
 use Rattle.model_order.proofs.Naming.{placed_named, leads_named}
 
 -- numbers of which each places the next lead on to what the last places

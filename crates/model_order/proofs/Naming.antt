@@ -1,8 +1,8 @@
 -- What a subckt line that names a model has, by numbers and by names.
-use Rattle.std.proofs.Common.{◌⊎◌, inl, inr, true, true≢false, arith, ◌≡◌, refl, sym, ap, subst, ◌∙◌, ℕ, ◌+◌, ◌<◌, ◌≤◌, List, [], ◌∷◌, length, map, Option, Some, None, MatchOption, slice_get, option_and_then, position, get_or}
-use Rattle.std.specs.Prelude.{Contains, IfSome}
+use Rattle.std.proofs.Common.{◌⊎◌, inl, inr, true, true≢false, arith, ◌≡◌, refl, sym, ap, subst, ◌∙◌, ℕ, ◌<◌, ◌≤◌, List, [], ◌∷◌, length, map, Option, Some, None, MatchOption, slice_get, option_and_then, position, get_or}
+use Rattle.std.specs.Prelude.{IfSome}
 use Rattle.std.specs.Option.{option_map_or}
-use Rattle.std.proofs.lemmas.Option.{none-some, same_Some, slice_get_within, get_or_from_slice_get, slice_get_read, slice_get_past}
+use Rattle.std.proofs.lemmas.Option.{none-some, slice_get_within, get_or_from_slice_get, slice_get_read, slice_get_past}
 use Rattle.std.proofs.lemmas.Slice.Eq.{bytes_eq-Decides}
 use Rattle.netlist_core.specs.declared.model.Model.{Model}
 use Rattle.netlist_core.specs.declared.model.Subckt.{Subckt}

@@ -1,12 +1,11 @@
 -- Walks that have seen all are orders, and the walk before its first step.
-use Rattle.std.proofs.Common.{◌≡◌, ◌≢◌, refl, sym, ap, subst, ◌∙◌, ℕ, zero, suc, ◌+◌, ◌-◌, ◌<◌, ◌≤◌, ◌⊎◌, inl, inr, List, [], ◌∷◌, length, get_or, arith, replicate, count_by, cond}
+use Rattle.std.proofs.Common.{◌≡◌, ◌≢◌, refl, sym, ap, subst, ◌∙◌, ℕ, zero, suc, ◌<◌, ◌≤◌, ◌⊎◌, inl, inr, List, [], length, get_or, arith, replicate, count_by, cond}
 use Rattle.std.specs.Prelude.{Contains, AllPairs}
 use Rattle.std.proofs.lemmas.List.Sums.{sum_by-cons}
 use Rattle.std.proofs.lemmas.List.{get_or_past, get_or_default}
 use Rattle.netlist_core.specs.declared.model.Model.{Model}
 use Rattle.model_order.specs.declared.walk.Mark.{Mark}
 use Rattle.model_order.specs.declared.walk.Mark.TheVariants.{Unseen, Open, Done}
-use Rattle.model_order.specs.Numbers.{Places}
 use Rattle.model_order.specs.Order.{IsModelOrder}
 use Rattle.model_order.specs.Walk.{mark_of, is_unseen, IsWalk}
 

@@ -1,11 +1,11 @@
 -- A step of the walk, by what the inputs of the node on top meet.
-use Rattle.std.proofs.Common.{◌≡◌, ◌≢◌, sym, ap, subst, ◌∙◌, ℕ, ◌+◌, ◌-◌, ◌<◌, ◌≤◌, ◌⊎◌, inl, inr, List, [], ◌∷◌, ◌++◌, map, reverse, drop, take, set, length, get_or, arith, Result, Ok, Err}
+use Rattle.std.proofs.Common.{◌≡◌, ◌≢◌, sym, ap, subst, ◌∙◌, ℕ, ◌+◌, ◌-◌, ◌<◌, ◌≤◌, ◌⊎◌, inl, inr, List, [], ◌∷◌, ◌++◌, take, set, length, get_or, arith, Result, Ok, Err}
 use Rattle.std.specs.Prelude.{OnOk}
 use Rattle.std.proofs.lemmas.List.{get_or-set_same, get_or-set_other, get_or_default}
 use Rattle.netlist_core.specs.declared.model.Model.{Model}
 use Rattle.model_order.specs.declared.walk.Mark.{Mark}
 use Rattle.model_order.specs.declared.walk.Mark.TheVariants.{Unseen, Open, Done}
-use Rattle.model_order.specs.declared.walk.Met.TheVariants.{Nothing, Fresh, Again}
+use Rattle.model_order.specs.declared.walk.Met.TheVariants.{Nothing, Fresh}
 use Rattle.model_order.specs.Numbers.{Places}
 use Rattle.model_order.specs.Walk.{AreDoneWithin, IsDone, mark_of, IsWalk, IsMet, IsTop, AreStillSeen}
 use Rattle.model_order.proofs.Walks.{opened, passed, closed, walk_same}

@@ -1,5 +1,5 @@
 -- Why there is no order.
-use Rattle.std.specs.Prelude.{ℕ, List}
+use Rattle.std.specs.Prelude.{List}
 use Rattle.netlist_core.specs.declared.model.Model.{Model}
 use Rattle.netlist_core.specs.Names.{Name}
 use Rattle.netlist_rules.specs.Circles.{Leads}

@@ -1,4 +1,4 @@
-use Rattle.std.proofs.Common.{◌≡◌, ◌∙◌, refl, sym, ap, subst, slice_get, Some, get_or, length, ◌<◌, min, ◌+◌, ◌-◌, ◌^◌, sum_by, List, ℕ, arith}
+use Rattle.std.proofs.Common.{◌≡◌, ◌∙◌, refl, ap, get_or, length, ◌<◌, min, ◌+◌, ◌-◌, ◌^◌, sum_by, List, ℕ, arith}
 use Rattle.std.proofs.lemmas.Option.{slice_get_read}
 use Rattle.netlist_core.specs.declared.model.Model.{Model}
 use Rattle.netlist_core.specs.OwnWeight.{own_weight}

@@ -1,4 +1,4 @@
-use Rattle.std.proofs.Common.{◌≡◌, ◌∙◌, sym, ap, ap₂, ◌++◌, [], ◌∷◌, get_or, arith}
+use Rattle.std.proofs.Common.{◌∙◌, sym, ap, ap₂, ◌++◌, [], ◌∷◌, get_or, arith}
 use Rattle.netlist_core.specs.declared.model.Model.{Model}
 use Rattle.model_order.specs.Numbers.{name_at}
 use Rattle.model_order.proofs.Naming.{name_read}

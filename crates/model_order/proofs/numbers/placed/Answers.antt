@@ -1,4 +1,4 @@
-use Rattle.std.proofs.Common.{◌≡◌, ◌∙◌, sym, ap, subst, ◌<◌, ◌≤◌, length, get_or, position, List}
+use Rattle.std.proofs.Common.{◌≡◌, ◌∙◌, sym, ap, subst, ◌<◌, ◌≤◌, length, get_or, position}
 use Rattle.std.specs.Prelude.{IfSome}
 use Rattle.netlist_core.specs.Names.{is_model_named}
 use Rattle.model_order.proofs.Naming.{no_model, no_line, line_placed, found_within}

@@ -1,4 +1,4 @@
-use Rattle.std.proofs.Common.{◌≡◌, sym, ap, subst, length, ◌<◌, arith}
+use Rattle.std.proofs.Common.{◌≡◌, ap, subst, length, ◌<◌, arith}
 use Rattle.netlist_core.specs.declared.model.Model.{Model}
 use Rattle.model_order.specs.Numbers.{subckts_of}
 use Rattle.model_order.proofs.Naming.{line_within, lines_at}

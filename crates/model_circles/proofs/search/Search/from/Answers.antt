@@ -1,4 +1,4 @@
-use Rattle.std.proofs.Common.{◌≡◌, ◌<◌, length, arith}
+use Rattle.std.proofs.Common.{◌<◌, length, arith}
 use Rattle.model_circles.proofs.Finding.{closed_more, stays}
 use Rattle.model_circles.proofs.search.Search.from.Goals as goal
 

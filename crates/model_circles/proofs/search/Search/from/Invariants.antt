@@ -1,4 +1,4 @@
-use Rattle.std.proofs.Common.{ℕ, ◌≤◌, ◌-◌, length}
+use Rattle.std.proofs.Common.{◌≤◌, ◌-◌, length}
 use Rattle.model_circles.specs.Search.{IsSearchOf, AreMetBefore}
 use Rattle.model_circles.proofs.search.Search.from.Given as goal
 

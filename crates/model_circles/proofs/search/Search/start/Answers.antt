@@ -1,4 +1,4 @@
-use Rattle.std.proofs.Common.{◌≡◌, ap, set, Some, rules}
+use Rattle.std.proofs.Common.{ap, set, Some, rules}
 use Rattle.model_circles.proofs.Finding.{begun, search_same}
 use Rattle.model_circles.proofs.search.Search.start.Goals as goal
 

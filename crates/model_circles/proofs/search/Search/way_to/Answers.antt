@@ -1,4 +1,4 @@
-use Rattle.std.proofs.Common.{◌≡◌, ◌∙◌, arith}
+use Rattle.std.proofs.Common.{◌∙◌}
 use Rattle.model_circles.proofs.Finding.{read_at, not_led}
 use Rattle.model_circles.proofs.search.Search.way_to.Goals as goal
 

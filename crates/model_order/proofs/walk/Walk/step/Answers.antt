@@ -1,4 +1,4 @@
-use Rattle.std.proofs.Common.{sym, subst, length, ◌<◌}
+use Rattle.std.proofs.Common.{subst}
 use Rattle.model_order.specs.Walk.{IsMet}
 use Rattle.model_order.specs.declared.walk.Met.TheVariants.{Nothing, Fresh, Again}
 use Rattle.model_order.proofs.Steps.{met_nothing, met_fresh, on_ok, from_is}
