@@ -1,5 +1,5 @@
 -- Models do not break a rule and break none.
-use Rattle.std.proofs.Common.{◌≡◌, ◌⊎◌, inl, inr, sym, ap, ◌∙◌, ℕ, List, Option, Some, None, Result, IfOk, MatchOption}
+use Rattle.std.proofs.Common.{◌≡◌, inl, inr, sym, ap, ◌∙◌, ℕ, List, Option, Some, None, Result, IfOk, MatchOption}
 use Rattle.std.proofs.lemmas.Result.{IfOk-weaker}
 use Rattle.std.specs.Option.{option_or}
 use Rattle.netlist_core.specs.declared.model.Model.{Model}
@@ -17,6 +17,7 @@ circle_or_none models r some_model none = IfOk-weaker r _ _ by_found
   where
     no_fault : model_fault models ≡ None
     no_fault = ap (λ o. option_or o (first_broken_by model_rules models)) some_model ∙ none
+
     by_found : (found : Option Fault) → MatchOption found ((line : ℕ) (names : List (List ℕ)) → ¬ IsOnCircle models line names) (IsCircleFault models) → MatchOption found (AreFaultless models) (HasModelFault models)
     by_found None no_circle = record { no_fault = no_fault; no_circle = no_circle }
     by_found (Some fault) circle = inr (no_fault, circle)
