@@ -1,4 +1,4 @@
-// Ranks of models that do not rise along subckt lines, so that the models of a circle have one rank.
+// Ranks of models by strongly connected components. Nothing is proved of the ranks here: whoever uses them checks them.
 ghost use Rattle.std.specs.Prelude.{◌≡◌, ◌<◌, length, All, IfOk, OnOk};
 ghost use Rattle.model_circles.specs.Ranks.{AreWithin};
 
@@ -17,8 +17,7 @@ struct Note {
     rank: Option<usize>,
 }
 
-// A walk over the models, depth first, that ranks strongly connected components as it leaves them, so that each is
-// ranked after those to which it leads (Tarjan).
+// A walk over the models, depth first, that ranks components as it leaves them (Tarjan's).
 #[derive(Drop)]
 struct Components {
     notes: Vec<Note>,
