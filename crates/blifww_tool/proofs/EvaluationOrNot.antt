@@ -20,7 +20,7 @@ use Rattle.blifww_tool.specs.declared.causes.Cause.TheVariants.{NotYet, NetlistF
 -- a netlist with its IN names, as a text has them
 pub record IsRead (text : List ℕ) (design : Design) (names : List Name) : Type 0 where
   pub netlist : IsNetlist text design
-  pub names : IsInNames design names
+  pub are_names : IsInNames design names
 
 -- the ways to be refused
 pub data Reason (cycles : ℕ) (words : List (List ℕ)) (text : List ℕ) (r : Cause) : Type 0 where
@@ -37,19 +37,19 @@ reason_of cycles words text (Loop names) h = by_loop names refl h
 reason_of cycles words text (Pattern fault) h = absurd h
 reason_of cycles words text (GridTooLarge width height) h = absurd h
 reason_of cycles words text (PortTable fault) h = absurd h
-reason_of cycles words text (Streams fault) h = by_streams fault refl h.0 h.1 (record { netlist = h.2; names = h.3 }) h.4
+reason_of cycles words text (Streams fault) h = by_streams fault refl h.0 h.1 (record { netlist = h.2; are_names = h.3 }) h.4
 reason_of cycles words text (TooFar generations) h = absurd h
 
 -- the IN names of a text are one list
 same_names : (text : List ℕ) (a b : Design) (ns ms : List Name) → IsRead text a ns → IsRead text b ms → ns ≡ ms
 same_names text a b ns ms h k =
     let same : a ≡ b = (texts_are_decided text).one_design a b h.netlist k.netlist in
-    in_names_are_one b ns ms (subst (λ (d : Design). IsInNames d ns) same h.names) k.names
+    in_names_are_one b ns ms (subst (λ (d : Design). IsInNames d ns) same h.are_names) k.are_names
 
 streams_or_not : (cycles : ℕ) (words : List (List ℕ)) (text : List ℕ) (fault : StreamFault) (design : Design) (names : List Name) (e : Evaluation)
     → IsRead text design names → HasStreamFault words names cycles fault → IsEvaluation cycles words text e → ⊥
 streams_or_not cycles words text fault design names e h bad k =
-    let same : names ≡ e.in_names = same_names text design e.design names e.in_names h (record { netlist = k.netlist; names = k.names }) in
+    let same : names ≡ e.in_names = same_names text design e.design names e.in_names h (record { netlist = k.netlist; are_names = k.names }) in
     let here : HasStreamFault words e.in_names cycles fault = subst (λ (ns : List Name). HasStreamFault words ns cycles fault) same bad in
     none-some _ (ap (λ faults. slice_get faults 0) (sym k.streams.no_fault) ∙ here)
 

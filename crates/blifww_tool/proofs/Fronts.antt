@@ -1,5 +1,5 @@
 -- Texts that are told one after the other.
-use Rattle.std.proofs.Common.{ℕ, ◌≡◌, ◌+◌, ◌<◌, ◌≤◌, min, List, [], ◌∷◌, ◌++◌, length, take, drop, get_or, sym, ap, ◌∙◌, subst, arith}
+use Rattle.std.proofs.Common.{ℕ, ◌≡◌, ◌+◌, ◌<◌, ◌≤◌, min, List, [], ◌∷◌, ◌++◌, length, take, drop, get_or, sym, ap, ◌∙◌, subst, arith, OnErr, Result, Ok, Err}
 use Rattle.std.specs.declared.option.Option.{Option}
 use Rattle.std.specs.Io.KnownBytes.{Appends}
 use Rattle.std.proofs.KnownBytes.{Appends-trans}
@@ -23,6 +23,11 @@ front_of_first a b first rest h =
 pub front_of_rest : (a b c : Option (List ℕ)) (first rest : List ℕ) → Appends a b first → AppendsFront b c rest → AppendsFront a c (first ++ rest)
 front_of_rest a b c first rest whole h =
     (length first + h.0, subst (Appends a c) (sym (take-append-add first rest h.0)) (Appends-trans a b c _ _ whole h.1))
+
+-- and so are two whole texts with a front of the last
+pub rest_cut : {T E : Type 0} (r : Result T E) (a b c d : Option (List ℕ)) (first second last : List ℕ) → Appends a b first → Appends b c second → OnErr r (AppendsFront c d last) → OnErr r (AppendsFront a d (first ++ (second ++ last)))
+rest_cut (Ok x) a b c d first second last h k front = tt
+rest_cut (Err x) a b c d first second last h k front = front_of_rest a b d first (second ++ last) h (front_of_rest b c d second last k front)
 
 -- one more name after a blank
 pub spaced_more : (names : List (List ℕ)) (k : ℕ) (name : List ℕ) → k < length names → name ≡ get_or names k name → spaced (take (k + 1) names) ≡ spaced (take k names) ++ (32 ∷ name)

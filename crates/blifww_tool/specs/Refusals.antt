@@ -85,10 +85,13 @@ fault_line name line = name ++ (codes " line " ++ (decimal line ++ codes "\n"))
 abbrev pub stream_line : List ℕ → List ℕ → List ℕ
 stream_line name word = codes "stream: " ++ (name ++ (codes " " ++ (word ++ codes "\n")))
 
--- a fault of a netlist's text: its number and name, its line, and the word at fault, as `B21 ClockRead line 5: clk`
+-- a fault of a netlist's text by its number, its name, its line and the word at fault, as `B21 ClockRead line 5: clk`
+abbrev pub fault_text : (number name line word : List ℕ) → List ℕ
+fault_text number name line word =
+    codes "B" ++ (number ++ (codes " " ++ (name ++ (codes " line " ++ (line ++ (codes ": " ++ (word ++ codes "\n")))))))
+
 abbrev pub netlist_line : Fault → List ℕ
-netlist_line fault =
-    codes "B" ++ (decimal (number_of fault.kind) ++ (codes " " ++ (name_of fault.kind ++ (codes " line " ++ (decimal fault.line ++ (codes ": " ++ (fault.word ++ codes "\n")))))))
+netlist_line fault = fault_text (decimal (number_of fault.kind)) (name_of fault.kind) (decimal fault.line) fault.word
 
 -- each name after a blank
 abbrev pub spaced : List Name → List ℕ

@@ -3,7 +3,7 @@ ghost use Rattle.std.specs.Prelude.{◌≡◌, ℕ, take, OnOk, OnErr};
 ghost use Rattle.std.specs.Io.KnownBytes.{Appends};
 ghost use Rattle.ww_base.specs.Faults.{HasCause};
 ghost use Rattle.blifww_tool.specs.Joined.{joined_pieces};
-ghost use Rattle.blifww_tool.specs.Refusals.{rle_fault_name, port_fault_name, stream_fault_name, fault_line, stream_line, netlist_line, spaced, loop_line, cause_line, refusal_line};
+ghost use Rattle.blifww_tool.specs.Refusals.{rle_fault_name, port_fault_name, stream_fault_name, fault_line, stream_line, fault_text, netlist_line, spaced, loop_line, cause_line, refusal_line};
 
 use crate::causes::Cause;
 use crate::refusals::Refusal;
@@ -116,22 +116,36 @@ fn tell_streams<'a, E: Sink>(err: &mut E, name: &'a [u8], word: &'a [u8]) -> Res
     write_pieces(err, &[b"stream: ", name, b" ", word, b"\n"])
 }
 
+// Writes a fault of a netlist's text, by its parts.
+fn write_fault<'a, E: Sink>(
+    err: &mut E,
+    number: &'a [u8],
+    name: &'a [u8],
+    line: &'a [u8],
+    word: &'a [u8],
+) -> Result<(), Failed>
+    ensures ok { OnOk result (Appends (E.written err.old) (E.written err.new) (fault_text number.now name.now line.now word.now)) }
+    ensures front { OnErr result ((n : ℕ) × Appends (E.written err.old) (E.written err.new) (take n (fault_text number.now name.now line.now word.now))) }
+    ensures cause { HasCause (E.faults err.old) (E.faults err.new) result }
+{
+    write_pieces(
+        err,
+        &[b"B", number, b" ", name, b" line ", line, b": ", word, b"\n"],
+    )
+}
+
 // Tells a fault of a netlist's text.
 fn tell_netlist_fault<E: Sink>(err: &mut E, fault: &Fault) -> Result<(), Failed>
     ensures ok { OnOk result (Appends (E.written err.old) (E.written err.new) (netlist_line fault.now)) }
     ensures front { OnErr result ((n : ℕ) × Appends (E.written err.old) (E.written err.new) (take n (netlist_line fault.now))) }
     ensures cause { HasCause (E.faults err.old) (E.faults err.new) result }
 {
-    let mut number = Buffer::new();
-    let mut line = Buffer::new();
-    let rule = number.format(fault.kind.number()).as_bytes();
+    let mut digits = Buffer::new();
+    let mut lines = Buffer::new();
+    let number = digits.format(fault.kind.number()).as_bytes();
+    let line = lines.format(fault.line).as_bytes();
     let name = fault.kind.name().as_bytes();
-    let at = line.format(fault.line).as_bytes();
-    let word = fault.word.as_slice();
-    write_pieces(
-        err,
-        &[b"B", rule, b" ", name, b" line ", at, b": ", word, b"\n"],
-    )
+    write_fault(err, number, name, line, fault.word.as_slice())
 }
 
 // Tells that a netlist weighs too much.

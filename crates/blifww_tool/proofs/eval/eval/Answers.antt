@@ -20,7 +20,7 @@ run-requires-clause-long c = λ k d lt. c.in_ok-streams.ensures.long k d lt ∙ 
 pub returns-in_err-netlist-clause-refused : goal.returns-in_err-netlist-clause-refused
 returns-in_err-netlist-clause-refused c =
     let p = err_from_is_err_and c.from_residual.result c.from_residual.ensures.1 in
-    rw (p.1, p.2) (netlist_refused c.args.cycles _ c.args.text.now c.in_err-netlist.field-0.0 c.in_err-netlist.ensures.refused)
+    rw (p.1, p.2) (netlist_refused c.args.cycles (map string_bytes c.args.words.now) c.args.text.now c.in_err-netlist.field-0.0 c.in_err-netlist.ensures.refused)
 
 pub returns-in_err-streams-clause-refused : goal.returns-in_err-streams-clause-refused
 returns-in_err-streams-clause-refused c =

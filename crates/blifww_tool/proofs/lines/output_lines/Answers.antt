@@ -22,4 +22,4 @@ returns c =
     let outs = c.args.names.now in
     let bits = c.args.bits.now in
     let end = zip_end outs bits c.loop-name.yielded c.into_iter-name-iterator.result c.loop-name.name-iterator c.next.new.self c.next.result (cc) (cc) c.loop-name.yielded_by c.in-None.is c.next.ensures.steps in
-    c.loop-name.invariant ∙ all_pairs outs bits (length c.loop-name.yielded) (omega (arith, end, length-zip outs bits))
+    c.of.ensures ∙ c.loop-name.invariant ∙ all_pairs outs bits (length c.loop-name.yielded) (omega (arith, end, length-zip outs bits))
