@@ -64,6 +64,11 @@ fn a_text_that_is_no_netlist_is_refused(rt: HostRuntime) -> Result<(), Fail> {
         ),
         (b".model m\n.subckt m\n", 1, b"B19 Recursive line 2: m\n"),
         (
+            b".model m\n.inputs d c e\n.outputs q r\n.latch d q re c 0\n.latch d r re e 0\n.end\n",
+            1,
+            b"B20 TwoClocks line 5: e\n",
+        ),
+        (
             b".model m\n.inputs d clk\n.outputs q y\n.latch d q re clk 2\n.names clk y\n1 1\n",
             1,
             b"B21 ClockRead line 5: clk\n",
@@ -153,6 +158,16 @@ fn a_netlist_past_the_limit_is_too_large(rt: HostRuntime) -> Result<(), Fail> {
             deep(alloc, 40)?,
             4,
             b"too large: weight 3298534883326 limit 1024\n",
+        ),
+        (
+            deep(alloc, 62)?,
+            4,
+            b"too large: weight 13835058055282163710 limit 1024\n",
+        ),
+        (
+            deep(alloc, 63)?,
+            4,
+            b"too large: weight 18446744073709551615 limit 1024\n",
         ),
     ] {
         let got = run_over(alloc, ONE_CYCLE, &text, (4096, &[]), (99, 99))?;

@@ -130,7 +130,9 @@ fn write_fault<'a, E: Sink>(
 {
     write_pieces(
         err,
-        &[b"B", number, b" ", name, b" line ", line, b": ", word, b"\n"],
+        &[
+            b"B", number, b" ", name, b" line ", line, b": ", word, b"\n",
+        ],
     )
 }
 
