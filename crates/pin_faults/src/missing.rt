@@ -70,8 +70,7 @@ fn is_up_to(fault: &Option<Fault>, line: u64) -> bool
     }
 }
 
-// The earlier of the first fault so far and that of a line. A line that does not stand before the first is not looked at, so
-// that a line's fault is sought on few lines but those without one.
+// The earlier of the first fault so far and that of a line. A line that does not stand before the first is not looked at.
 fn earlier_fault(
     alloc: Global,
     named: &NamedModels<'_>,
