@@ -6,7 +6,8 @@ use Rattle.std.proofs.lemmas.Int.{ints}
 use Rattle.std.proofs.lemmas.List.{get_or-set_same, get_or-set_other, map-set, get_or-map, length-map}
 use Rattle.ww_rule.specs.Wireworld.{Plane, count_head}
 use Rattle.band_rows.specs.declared.row.Row.{Row}
-use Rattle.lane_kernel.specs.Rows.{is_set, has_bit, state_of, row_state}
+use Rattle.lane_kernel.specs.Rows.{is_set, state_of, row_state}
+use Rattle.lists.specs.Bits.{has_bit}
 use Rattle.band_rows.specs.Rows.{Shows, ShowsHeads}
 use Rattle.lane_kernel.proofs.Counting.{num, count_is}
 

@@ -10,7 +10,8 @@ use Rattle.std.proofs.lemmas.List.{get_or-set_other, get_or_past, get_or-replica
 use Rattle.std.proofs.lemmas.Nat.Bits.{bit_at_set_same, bit_at_set_other, bit_at_clear_same, bit_at_clear_other}
 use Rattle.ww_rule.specs.declared.pattern.State.{State}
 use Rattle.ww_rule.specs.declared.pattern.State.TheVariants.{Empty, Head, Tail, Conductor}
-use Rattle.lane_kernel.specs.Rows.{has_bit, is_set, state_of, row_state, AreDisjoint}
+use Rattle.lane_kernel.specs.Rows.{is_set, state_of, row_state, AreDisjoint}
+use Rattle.lists.specs.Bits.{has_bit}
 use Rattle.lane_kernel.proofs.Bits.{no_bit}
 use Rattle.band_rows.specs.Cells.{marks_head, marks_tail, marks_wire}
 

@@ -12,7 +12,7 @@ use Rattle.netlist_core.specs.Names.{model_named}
 use Rattle.netlist_rules.specs.Circles.{HasSubcktOf, LeadsBack, IsOnCircle}
 use Rattle.netlist_rules.specs.ModelFaults.{model_fault}
 use Rattle.blif_text.specs.Faults.HasFault.{of_models}
-use Rattle.blif_examples.specs.Instances.{Breaks, CircleInstances, deep_model, subckt}
+use Rattle.blif_examples.specs.Examples.{Breaks, CircleExamples, deep_model, subckt}
 use Rattle.netlist_rules.proofs.CircleLemmas.{all_late, no_earlier_circle}
 
 -- a model without ports, with lines that place these models without pins
@@ -85,8 +85,8 @@ long_way : IsOnCircle long_way_models 2 ((codes "a") ∷ (codes "b") ∷ (codes 
 unfolding IsDistinct
 long_way = from long_way_models 0 (bare 1 (codes "a") ((places_on 2 (codes "b")) ∷ [])) (places_on 2 (codes "b")) ((codes "b") ∷ (codes "c") ∷ []) refl (lit< tt) refl (refl, (step long_way_models 1 (bare 3 (codes "b") ((places_on 4 (codes "a")) ∷ (places_on 5 (codes "c")) ∷ [])) (places_on 5 (codes "c")) refl (lit< tt) refl, step long_way_models 0 (bare 6 (codes "c") ((places_on 7 (codes "a")) ∷ [])) (places_on 7 (codes "a")) refl (lit< tt) refl)) ((refl, (refl, tt)), ((refl, tt), (tt, tt)))
 
-pub circle_instances : CircleInstances
-circle_instances = record {
+pub circle_examples : CircleExamples
+circle_examples = record {
   circle_beside_the_main_model = circle_by (codes ".model m\n.model a\n.subckt a\n") ((codes "a") ∷ []) 3 refl refl unreached refl;
   on_two_circles = circle_by (codes ".model a\n.subckt b\n.model b\n.subckt a\n.subckt c\n.model c\n.subckt a\n") ((codes "a") ∷ (codes "b") ∷ []) 2 refl refl short_way refl;
   on_the_other_circle = circle_by (codes ".model a\n.subckt b\n.model b\n.subckt a\n.subckt c\n.model c\n.subckt a\n") ((codes "a") ∷ (codes "b") ∷ (codes "c") ∷ []) 2 refl refl long_way refl;

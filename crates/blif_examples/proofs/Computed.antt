@@ -7,11 +7,11 @@ use Rattle.blif_text.specs.Models.{models_of}
 use Rattle.blif_text.specs.LineFaults.{line_fault}
 use Rattle.netlist_rules.specs.ModelFaults.{model_fault}
 use Rattle.netlist_rules.proofs.CircleLemmas.{all_place_later, no_circle}
-use Rattle.blif_examples.specs.Instances.{LineInstances, LineFaultInstances, ModelFaultInstances, ModelInstances, FaultlessInstances, IsDesignWith}
+use Rattle.blif_examples.specs.Examples.{LineExamples, LineFaultExamples, ModelFaultExamples, ModelExamples, FaultlessExamples, IsDesignWith}
 use Rattle.blif_text.specs.Faults.HasFault.{of_no_line, of_line, of_models}
 
-pub line_instances : LineInstances
-line_instances = record {
+pub line_examples : LineExamples
+line_examples = record {
   two_returns = refl;
   return_within = refl;
   hash_within = refl;
@@ -31,8 +31,8 @@ line_instances = record {
   first_number = refl;
 }
 
-pub line_fault_instances : LineFaultInstances
-line_fault_instances = record {
+pub line_fault_examples : LineFaultExamples
+line_fault_examples = record {
   end_before_model = of_line refl;
   row_before_model = of_line refl;
   annotation_before_model = of_line refl;
@@ -94,8 +94,8 @@ line_fault_instances = record {
   lines_before_models = of_line refl;
 }
 
-pub model_fault_instances : ModelFaultInstances
-model_fault_instances = record {
+pub model_fault_examples : ModelFaultExamples
+model_fault_examples = record {
   lowest_before_earliest = of_models (record { no_fault = refl; are_models = refl }) (inl refl);
   later_model_lower_rule = of_models (record { no_fault = refl; are_models = refl }) (inl refl);
   drivers_of_one_line = of_models (record { no_fault = refl; are_models = refl }) (inl refl);
@@ -137,8 +137,8 @@ model_fault_instances = record {
 design_by : (text : List ℕ) (models : List Model) → line_fault (logical_lines text) ≡ None → models ≡ models_of (logical_lines text) → model_fault models ≡ None → all_place_later models ≡ true → IsDesignWith text models
 design_by text models a b c later = record { models = record { no_fault = a; are_models = b }; faultless = record { no_fault = c; no_circle = no_circle models later } }
 
-pub model_instances : ModelInstances
-model_instances = record {
+pub model_examples : ModelExamples
+model_examples = record {
   inverter = design_by _ _ refl refl refl refl;
   nand_gate = design_by _ _ refl refl refl refl;
   constant_one = design_by _ _ refl refl refl refl;
@@ -159,8 +159,8 @@ model_instances = record {
   pins = design_by _ _ refl refl refl refl;
 }
 
-pub faultless_instances : FaultlessInstances
-faultless_instances = record {
+pub faultless_examples : FaultlessExamples
+faultless_examples = record {
   clock_read = design_by _ _ refl refl refl refl;
   begun = design_by _ _ refl refl refl refl;
   default_directive = design_by _ _ refl refl refl refl;

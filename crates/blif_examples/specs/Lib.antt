@@ -1,1 +1,1 @@
-pub mod Instances
+pub mod Examples

@@ -1,40 +1,40 @@
 //! What the definitions of BLIF texts give at single texts. The functions do nothing: each has what is computed as its contract.
 #![tactic(auto)]
 
-ghost use Rattle.blif_examples.specs.Instances.{CircleInstances, FaultlessInstances, LineFaultInstances, LineInstances, ModelFaultInstances, ModelInstances};
+ghost use Rattle.blif_examples.specs.Examples.{CircleExamples, FaultlessExamples, LineFaultExamples, LineExamples, ModelFaultExamples, ModelExamples};
 
 /// The logical lines of texts with comments, continued lines and carriage returns.
-#[tactic(auto, using(crate::proofs::Computed::line_instances))]
+#[tactic(auto, using(crate::proofs::Computed::line_examples))]
 pub fn lines_of_texts()
-    ensures { LineInstances }
+    ensures { LineExamples }
 {}
 
 /// The models of texts without a fault.
-#[tactic(auto, using(crate::proofs::Computed::model_instances))]
+#[tactic(auto, using(crate::proofs::Computed::model_examples))]
 pub fn models_of_texts()
-    ensures { ModelInstances }
+    ensures { ModelExamples }
 {}
 
 /// Texts that stand beside those with a fault, and have none.
-#[tactic(auto, using(crate::proofs::Computed::faultless_instances))]
+#[tactic(auto, using(crate::proofs::Computed::faultless_examples))]
 pub fn faultless_texts()
-    ensures { FaultlessInstances }
+    ensures { FaultlessExamples }
 {}
 
 /// Texts with a fault of their lines, or without a line, each with its line and word.
-#[tactic(auto, using(crate::proofs::Computed::line_fault_instances))]
+#[tactic(auto, using(crate::proofs::Computed::line_fault_examples))]
 pub fn line_faults_of_texts()
-    ensures { LineFaultInstances }
+    ensures { LineFaultExamples }
 {}
 
 /// Texts with a fault of their models, each with its line and word.
-#[tactic(auto, using(crate::proofs::Computed::model_fault_instances))]
+#[tactic(auto, using(crate::proofs::Computed::model_fault_examples))]
 pub fn model_faults_of_texts()
-    ensures { ModelFaultInstances }
+    ensures { ModelFaultExamples }
 {}
 
 /// Texts with models that place each other in a circle.
-#[tactic(auto, using(crate::proofs::CircleTexts::circle_instances))]
+#[tactic(auto, using(crate::proofs::CircleTexts::circle_examples))]
 pub fn circles_of_texts()
-    ensures { CircleInstances }
+    ensures { CircleExamples }
 {}

@@ -3,7 +3,8 @@ use Rattle.std.proofs.Common.{length, suc, ◌≡◌, ◌≢◌, refl, ap, ◌�
 use Rattle.std.specs.Prelude.{Some, None, Option, filter_map, ⊤}
 use Rattle.std.specs.List.{AllByRecursion, list_any, cons_option}
 use Rattle.blif_text.specs.declared.logical.Logical.{Logical}
-use Rattle.blif_text.specs.LogicalLines.{cut_or_kept, parts_between, physical_lines, is_space, non_empty, words_of, with_words, logical_line, JoinedLine, joined_to, continued_by, joined_lines, without_comment, before_backslash}
+use Rattle.blif_text.specs.LogicalLines.{cut_or_kept, parts_between, physical_lines, is_space, words_of, with_words, logical_line, JoinedLine, joined_to, continued_by, joined_lines, without_comment, before_backslash}
+use Rattle.lists.specs.Bytes.{non_empty}
 use Rattle.blif_text.specs.Laws.{HasWords, Rises, LinesHaveWords, NumbersAreBounded}
 
 -- no part has a byte that passes the test

@@ -8,8 +8,10 @@ use Rattle.std.proofs.Math.Seq.{take-append_seam}
 use Rattle.std.proofs.lemmas.List.Sums.{take_while-cons}
 use Rattle.blif_text.specs.declared.logical.Logical.{Logical}
 use Rattle.blif_text.specs.Laws.{LinesAreJoined, LinesAreKnown, WordsAreRuns}
-use Rattle.blif_text.specs.LogicalLines.{cut_or_kept, parts_between, is_newline, physical_lines, is_space, words_of, joined_lines, JoinedLine, without_comment, before_backslash, is_hash, found_or_later, continued_by, joined_to, non_empty, logical_line, with_words}
+use Rattle.blif_text.specs.LogicalLines.{cut_or_kept, parts_between, is_newline, physical_lines, is_space, words_of, joined_lines, JoinedLine, without_comment, before_backslash, is_hash, found_or_later, continued_by, joined_to, logical_line, with_words}
+use Rattle.lists.specs.Bytes.{non_empty}
 use Rattle.lists.proofs.Bools.{or_false_left as or_left, or_false_right as or_right, and_true_left as all_left, and_true_right as all_right}
+use Rattle.std.proofs.lemmas.Bool.{ne_eqb as apart_from}
 
 kept : (b : Bool) (x : ℕ) (w : List ℕ) (parts : List (List ℕ)) → b ≡ false → cut_or_kept b x (w ∷ parts) ≡ (x ∷ w) ∷ parts
 kept true x w parts e = absurd (true≢false e)
@@ -41,7 +43,7 @@ stripped : (w : List ℕ) → list_any is_return w ≡ false → strip_carriage_
 stripped w e = strip_by (get_or w (length w - 1) 0 == 13) w (length w - 1) (at-none is_return w (length w - 1) e refl)
 
 -- there is always a part
-some_part : (p : ℕ → Bool) (bs : List ℕ) → (part : List ℕ) × (parts : List (List ℕ)) × (parts_between p bs ≡ part ∷ parts)
+pub some_part : (p : ℕ → Bool) (bs : List ℕ) → (part : List ℕ) × (parts : List (List ℕ)) × (parts_between p bs ≡ part ∷ parts)
 some_part p [] = ([], [], refl)
 some_part p (b ∷ bs) = by (p b) (some_part p bs)
   where
@@ -49,7 +51,7 @@ some_part p (b ∷ bs) = by (p b) (some_part p bs)
     by true s = ([], parts_between p bs, refl)
     by false s = (b ∷ s.0, s.1, ap (onto_first b) s.2)
 
-lines_more : (w : List ℕ) (ps : List (List ℕ)) (part : List ℕ) (parts : List (List ℕ)) → ps ≡ part ∷ parts → lines_of_parts (w ∷ ps) ≡ strip_carriage_return w ∷ lines_of_parts ps
+pub lines_more : (w : List ℕ) (ps : List (List ℕ)) (part : List ℕ) (parts : List (List ℕ)) → ps ≡ part ∷ parts → lines_of_parts (w ∷ ps) ≡ strip_carriage_return w ∷ lines_of_parts ps
 lines_more w ps part parts e = rw e refl
 
 -- a line that ends with byte 10, before the rest of a text
@@ -173,15 +175,8 @@ return_stripped front =
     let rest : take (length w - 1) w ≡ front = ap (λ n. take n w) (seam front 13) ∙ take-append_seam front (13 ∷ []) in
     strip_return (get_or w (length w - 1) 0 == 13) w front (length w - 1) (ap (λ b. b == 13) byte) rest
 
-cut_line : (w rest : List ℕ) → list_any is_newline w ≡ false → physical_lines (w ++ 10 ∷ rest) ≡ strip_carriage_return w ∷ physical_lines rest
+pub cut_line : (w rest : List ℕ) → list_any is_newline w ≡ false → physical_lines (w ++ 10 ∷ rest) ≡ strip_carriage_return w ∷ physical_lines rest
 cut_line w rest e = let s = some_part is_newline rest in ap lines_of_parts (parts-cut is_newline w 10 rest e refl) ∙ lines_more w (parts_between is_newline rest) s.0 s.1 s.2
-
-apart_from : (b c : ℕ) → b ≢ c → (b == c) ≡ false
-apart_from b c n = by (b == c) refl
-  where
-    by : (d : Bool) → (b == c) ≡ d → d ≡ false
-    by true h = absurd (n (eqb-true b c h))
-    by false h = refl
 
 before_return : (line rest : List ℕ) → list_any is_newline line ≡ false → physical_lines (line ++ 13 ∷ 10 ∷ rest) ≡ line ∷ physical_lines rest
 before_return line rest e =

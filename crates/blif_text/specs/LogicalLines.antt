@@ -3,6 +3,7 @@ use Rattle.std.specs.Prelude.{ℕ, Bool, true, false, ◌+◌, ◌==◌, ◌&&�
 use Rattle.std.specs.List.{list_all, before_first, onto_first}
 use Rattle.std.specs.Str.Lines.{lines_of_parts}
 use Rattle.blif_text.specs.declared.logical.Logical.{Logical}
+use Rattle.lists.specs.Bytes.{non_empty}
 
 -- the parts of a list of bytes that stand before, between and after those that pass the test
 abbrev pub cut_or_kept : Bool → ℕ → List (List ℕ) → List (List ℕ)
@@ -63,10 +64,6 @@ joined_lines n [] = []
 joined_lines n (line ∷ lines) = continued_by n (without_comment line) (before_backslash (without_comment line)) (joined_lines (n + 1) lines)
 
 -- Words are the longest runs of bytes that are no blanks.
-abbrev pub non_empty : List ℕ → Option (List ℕ)
-non_empty [] = None
-non_empty (b ∷ bs) = Some (b ∷ bs)
-
 abbrev pub words_of : List ℕ → List (List ℕ)
 words_of line = filter_map non_empty (parts_between is_space line)
 

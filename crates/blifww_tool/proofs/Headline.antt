@@ -1,15 +1,16 @@
 -- What is written for the text of an OR gate carries the text's design.
-use Rattle.std.proofs.Common.{◌≡◌, refl, sym, ap, ◌∙◌, subst, ℕ, true, false, List, [], ◌++◌, get_or, length, arith}
+use Rattle.std.proofs.Common.{◌≡◌, refl, sym, ap, ◌∙◌, subst, ℕ, true, false, List, ◌++◌, get_or, length, arith}
 use Rattle.std.proofs.lemmas.Bool.{true≢false}
-use Rattle.std.proofs.lemmas.List.{append-nil}
 use Rattle.pattern_reading.specs.Spelling.{IsPortName}
 use Rattle.pattern_samples.proofs.NamedGate.{named_gate}
 use Rattle.one_cover.proofs.OneCover.{in_names_are}
 use Rattle.one_cover.specs.OneCover.{or_cover_rows}
-use Rattle.std.specs.Prelude.{Option, Some, None}
-use Rattle.std.specs.Io.KnownBytes.{Consumes, Appends, IsAtEnd}
+use Rattle.std.specs.Prelude.{Some}
 use Rattle.carries.specs.Carries.{Carries}
-use Rattle.blifww_tool.specs.Run.{Reading, Writing, Compiles}
+use Rattle.command_words.specs.Shapes.{CommandValues, compile}
+use Rattle.blifww_tool.specs.Commands.{Prints}
+use Rattle.blifww_tool.specs.Run.{Asks, Reading, Writing, Does}
+use Rattle.blifww_tool.proofs.Given.{gave_whole, gained_whole, one_command}
 use Rattle.blifww_tool.specs.Names.{IsName, is_identifier_byte}
 use Rattle.blifww_tool.specs.Thin.{Names, IsThin}
 use Rattle.blifww_tool.specs.Drawing.{thin_gate_text}
@@ -40,30 +41,15 @@ carries gate text n h =
       shows = gate_shows gate n h.ports;
     })
 
-pub gave_whole : (left after : Option (List ℕ)) (given text : List ℕ) → Consumes left after given → IsAtEnd after → left ≡ Some text → given ≡ text
-gave_whole None after given text c e s = cc
-gave_whole (Some xs) None given text c e s = absurd c
-gave_whole (Some xs) (Some ys) given text c e s = sym (append-nil given) ∙ ap (λ l. given ++ l) (sym e) ∙ sym c ∙ some_bytes s
-  where
-    some_bytes : Some xs ≡ Some text → xs ≡ text
-    some_bytes s = ap (unwrap_or_nil) s
-      where
-        unwrap_or_nil : Option (List ℕ) → List ℕ
-        unwrap_or_nil None = []
-        unwrap_or_nil (Some l) = l
-
-gained_whole : (old new : Option (List ℕ)) (pattern before : List ℕ) → Appends old new pattern → old ≡ Some before → new ≡ Some (before ++ pattern)
-gained_whole None new pattern before a s = cc
-gained_whole (Some xs) None pattern before a s = absurd a
-gained_whole (Some xs) (Some ys) pattern before a s = ap Some a ∙ ap (λ o. Some (unwrap_or_nil o ++ pattern)) s
-  where
-    unwrap_or_nil : Option (List ℕ) → List ℕ
-    unwrap_or_nil None = []
-    unwrap_or_nil (Some l) = l
-
--- what is compiled is written as a pattern that carries it
-pub writes_what_it_read : ShowsOr → (src : Reading) (out : Writing) → Compiles src out thin_gate_text → WritesWhatItRead src out
-writes_what_it_read gate src out c text before has held =
-    let same = gave_whole src.left src.left_after c.given text c.all.consumed c.all.end has in
-    let thin = subst (λ t. IsThin t c.names) same c.thin in
-    (thin_gate_text c.names, gained_whole out.written out.written_after (thin_gate_text c.names) before c.wrote held, thin_design c.names, is_design text c.names thin, carries gate text c.names thin)
+-- what `compile` has written carries what it read
+pub headline : ShowsOr → (words : List (List ℕ)) (src : Reading) (out : Writing) → Does words src out (λ output. output) → Asks words compile → WritesWhatItRead src out
+headline gate words src out d asks text before has held =
+    let prints : Prints compile d.text d.output = subst (λ (v : CommandValues). Prints v d.text d.output) (one_command words d.command compile d.asked.asks asks) d.prints in
+    let thin : IsThin text prints.0 = subst (λ (t : List ℕ). IsThin t prints.0) (gave_whole src.left src.left_after d.text text d.given.consumed d.given.end has) prints.1 in
+    let gained = gained_whole out.written out.written_after d.output before d.wrote held in (
+      thin_gate_text prints.0,
+      subst (λ (o : List ℕ). out.written_after ≡ Some (before ++ o)) prints.2 gained,
+      thin_design prints.0,
+      is_design text prints.0 thin,
+      carries gate text prints.0 thin,
+    )

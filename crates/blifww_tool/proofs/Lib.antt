@@ -1,11 +1,14 @@
 pub mod JoinedPieces
 pub mod ThinNames
-pub mod Written
 pub mod WrittenText
 pub mod ThinDesign
 pub mod GateRuns
+pub mod Given
 pub mod Headline
 pub mod OutputLines
-pub mod Refused
-pub mod Judged
+pub mod SimulationOrNot
 pub mod Simulated
+pub mod Decided
+pub mod Ended
+pub mod Stopped
+pub mod Statuses

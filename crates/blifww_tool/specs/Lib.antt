@@ -4,5 +4,8 @@ pub mod Thin
 pub mod Drawing
 pub mod Refusals
 pub mod Simulation
+pub mod Commands
 pub mod Run
+pub mod Statuses
 pub mod Gate
+pub mod Answer

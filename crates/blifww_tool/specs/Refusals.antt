@@ -18,8 +18,21 @@ use Rattle.drive.specs.declared.error.StreamError.{StreamError}
 use Rattle.drive.specs.declared.error.StreamError.TheVariants as streams_of
 use Rattle.drive.specs.declared.error.SimulateError.{SimulateError}
 use Rattle.drive.specs.declared.error.SimulateError.TheVariants as simulating
+use Rattle.blifww_tool.specs.declared.causes.Cause.{Cause}
+use Rattle.blifww_tool.specs.declared.causes.Cause.TheVariants.{NotYet, Pattern, GridTooLarge, PortTable, Streams, TooFar}
+use Rattle.blifww_tool.specs.declared.causes.TextError.{TextError}
+use Rattle.blifww_tool.specs.declared.causes.TextError.TheVariants as text
 use Rattle.blifww_tool.specs.declared.refusals.Refusal.{Refusal}
-use Rattle.blifww_tool.specs.declared.refusals.Refusal.TheVariants.{Usage, TooLong, ReadFault, WriteFault, NoMemory, NotYet, Pattern, GridTooLarge, PortTable, Streams, TooFar}
+use Rattle.blifww_tool.specs.declared.refusals.Refusal.TheVariants.{Usage, TooLong, ReadFault, WriteFault, NoMemory, Text}
+
+-- the exit status for a cause that lies in a text
+abbrev pub status_of_cause : Cause → ℕ
+status_of_cause NotYet = 11
+status_of_cause (Pattern fault) = 8
+status_of_cause (GridTooLarge width height) = 4
+status_of_cause (PortTable fault) = 8
+status_of_cause (Streams fault) = 9
+status_of_cause (TooFar generations) = 4
 
 -- the exit status of a refusal
 abbrev pub status_of : Refusal → ℕ
@@ -28,12 +41,7 @@ status_of TooLong = 4
 status_of ReadFault = 5
 status_of WriteFault = 6
 status_of NoMemory = 7
-status_of NotYet = 11
-status_of (Pattern fault) = 8
-status_of (GridTooLarge width height) = 4
-status_of (PortTable fault) = 8
-status_of (Streams fault) = 9
-status_of (TooFar generations) = 4
+status_of (Text cause) = status_of_cause cause
 
 -- the faults of a pattern's text as they are printed
 abbrev pub rle_fault_name : RleFaultKind → List ℕ
@@ -69,6 +77,15 @@ fault_line name line = name ++ (codes " line " ++ (decimal line ++ codes "\n"))
 abbrev pub stream_line : List ℕ → List ℕ → List ℕ
 stream_line name word = codes "stream: " ++ (name ++ (codes " " ++ (word ++ codes "\n")))
 
+-- the one line that tells such a cause
+abbrev pub cause_line : Cause → List ℕ
+cause_line NotYet = codes "not yet\n"
+cause_line (Pattern fault) = fault_line (rle_fault_name fault.kind) fault.line
+cause_line (GridTooLarge width height) = codes "too large: grid " ++ (decimal width ++ (codes " by " ++ (decimal height ++ codes "\n")))
+cause_line (PortTable fault) = fault_line (port_fault_name fault.kind) fault.line
+cause_line (Streams fault) = stream_line (stream_fault_name fault.kind) fault.word
+cause_line (TooFar generations) = codes "too large: generations " ++ (decimal generations ++ codes "\n")
+
 -- the one line that tells a refusal
 abbrev pub refusal_line : Refusal → List ℕ
 refusal_line Usage = codes "usage: blifww compile|simulate|eval|probe|window|make|self\n"
@@ -76,41 +93,41 @@ refusal_line TooLong = codes "too long: limit 16777216\n"
 refusal_line ReadFault = codes "read fault\n"
 refusal_line WriteFault = codes "write fault\n"
 refusal_line NoMemory = codes "no memory\n"
-refusal_line NotYet = codes "not yet\n"
-refusal_line (Pattern fault) = fault_line (rle_fault_name fault.kind) fault.line
-refusal_line (GridTooLarge width height) = codes "too large: grid " ++ (decimal width ++ (codes " by " ++ (decimal height ++ codes "\n")))
-refusal_line (PortTable fault) = fault_line (port_fault_name fault.kind) fault.line
-refusal_line (Streams fault) = stream_line (stream_fault_name fault.kind) fault.word
-refusal_line (TooFar generations) = codes "too large: generations " ++ (decimal generations ++ codes "\n")
+refusal_line (Text cause) = cause_line cause
 
--- the refusal for each way in which not all is read,
-abbrev pub refusal_of : ReadAllError → Refusal
-refusal_of read_all.ReadFault = ReadFault
-refusal_of read_all.TooLong = TooLong
-refusal_of read_all.NoMemory = NoMemory
-
--- in which words are no command,
+-- the refusal for each way in which words are no command,
 abbrev pub words_refusal : WordsError → Refusal
 words_refusal words_of.Usage = Usage
 words_refusal words_of.NoMemory = NoMemory
 
--- a text is no pattern's,
-abbrev pub pattern_refusal : RleReadError → Refusal
-pattern_refusal (pattern_of.Fault fault) = Pattern fault
-pattern_refusal (pattern_of.TooLarge width height) = GridTooLarge width height
-pattern_refusal pattern_of.NoMemory = NoMemory
+-- not all is read,
+abbrev pub read_refusal : ReadAllError → Refusal
+read_refusal read_all.ReadFault = ReadFault
+read_refusal read_all.TooLong = TooLong
+read_refusal read_all.NoMemory = NoMemory
+
+-- and a text gives no output
+abbrev pub text_refusal : TextError → Refusal
+text_refusal (text.Refused cause) = Text cause
+text_refusal text.NoMemory = NoMemory
+
+-- a text gives no output: it is no pattern's,
+abbrev pub pattern_error : RleReadError → TextError
+pattern_error (pattern_of.Fault fault) = text.Refused (Pattern fault)
+pattern_error (pattern_of.TooLarge width height) = text.Refused (GridTooLarge width height)
+pattern_error pattern_of.NoMemory = text.NoMemory
 
 -- its port table is at fault,
-abbrev pub table_refusal : PortReadError → Refusal
-table_refusal (ports_of.Fault fault) = PortTable fault
-table_refusal ports_of.NoMemory = NoMemory
+abbrev pub table_error : PortReadError → TextError
+table_error (ports_of.Fault fault) = text.Refused (PortTable fault)
+table_error ports_of.NoMemory = text.NoMemory
 
 -- the streams are at fault,
-abbrev pub streams_refusal : StreamError → Refusal
-streams_refusal (streams_of.Fault fault) = Streams fault
-streams_refusal streams_of.NoMemory = NoMemory
+abbrev pub streams_error : StreamError → TextError
+streams_error (streams_of.Fault fault) = text.Refused (Streams fault)
+streams_error streams_of.NoMemory = text.NoMemory
 
--- and a pattern is not run
-abbrev pub simulate_refusal : SimulateError → Refusal
-simulate_refusal (simulating.TooFar generations) = TooFar generations
-simulate_refusal simulating.NoMemory = NoMemory
+-- or the pattern is not run
+abbrev pub simulate_error : SimulateError → TextError
+simulate_error (simulating.TooFar generations) = text.Refused (TooFar generations)
+simulate_error simulating.NoMemory = text.NoMemory

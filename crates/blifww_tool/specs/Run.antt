@@ -1,26 +1,28 @@
--- What a run does, by its words, and by what its source, its output and its errors hold before and after.
-use Rattle.std.specs.Prelude.{◌≡◌, ◌≤◌, ◌<◌, ◌⊎◌, ℕ, List, length, take, ⊤, Some}
+-- What a run does, by its words, and by what its source, its output and its errors hold before and after. It is said once for all
+-- commands: what each of them prints, and why it refuses, stands in `Commands`.
+use Rattle.std.specs.Prelude.{◌≡◌, ◌≢◌, ◌≤◌, ◌<◌, ◌⊎◌, ℕ, List, length, take, ⊤, Some}
 use Rattle.std.specs.declared.option.Option.{Option}
 use Rattle.std.specs.Io.KnownBytes.{Consumes, Appends, Keeps, IsAtEnd}
 use Rattle.ww_base.specs.Faults.{Rose}
-use Rattle.ww_rule.specs.Grid.{Grid}
-use Rattle.pattern_reading.specs.declared.ports.Ports.{Ports}
-use Rattle.pattern_reading.specs.Pattern.{ReadsWithinLimit, HasReaderFault, HasLargeBox}
-use Rattle.pattern_reading.specs.PortTable.{ReadsAsPorts, HasPortFault}
-use Rattle.drive.specs.Streams.{HasStreamFault}
-use Rattle.drive.specs.Driving.{last_generation, greatest_generation}
-use Rattle.command_words.specs.Shapes.{CommandValues, compile, simulate, command_values, IsCommand}
-use Rattle.blifww_tool.specs.Thin.{Names, IsThin}
-use Rattle.blifww_tool.specs.Drawing.{thin_gate_text}
-use Rattle.pattern_reading.specs.Ports.{names_of}
-use Rattle.blifww_tool.specs.Simulation.{Simulation, IsSimulation, simulation_text}
-use Rattle.blifww_tool.specs.Refusals.{refusal_line}
+use Rattle.command_words.specs.Shapes.{CommandValues, command_values, IsCommand, IsTaken}
+use Rattle.blifww_tool.specs.Commands.{Accepts, Prints, Refuses}
+use Rattle.blifww_tool.specs.Refusals.{status_of, refusal_line}
+use Rattle.blifww_tool.specs.declared.causes.Cause.{Cause}
 use Rattle.blifww_tool.specs.declared.refusals.Refusal.{Refusal}
-use Rattle.blifww_tool.specs.declared.refusals.Refusal.TheVariants.{Usage, TooLong, ReadFault, WriteFault, NoMemory, NotYet, Pattern, GridTooLarge, PortTable, Streams, TooFar}
+use Rattle.blifww_tool.specs.declared.refusals.Refusal.TheVariants.{Usage, TooLong, ReadFault, WriteFault, NoMemory, Text}
 
 -- the words ask for this command, with these values
 abbrev pub Asks : List (List ℕ) → CommandValues → Type 0
 Asks words command = command_values words ≡ Some command
+
+-- the words ask for no command
+abbrev pub AsksNothing : List (List ℕ) → Type 0
+AsksNothing words = (command : CommandValues) → Asks words command → ⊥
+
+-- they ask for it, and clap finds no fault in them
+pub record IsAsked (words : List (List ℕ)) (command : CommandValues) : Type 0 where
+  pub asks : Asks words command
+  pub taken : IsTaken words
 
 -- the most bytes that are read
 abbrev pub text_limit : ℕ
@@ -46,15 +48,25 @@ pub record Writing : Type 0 where
 abbrev pub writing : {A : Type 0} → (A → Option (List ℕ)) → (A → ℕ) → A → A → Writing
 writing written faults old new = record { written = written old; written_after = written new; faults = faults old; faults_after = faults new }
 
+-- a run: its words, and what it did to its source, its output and its errors
+pub record Call : Type 0 where
+  pub words : List (List ℕ)
+  pub src : Reading
+  pub out : Writing
+  pub err : Writing
+
+abbrev pub call : List (List ℕ) → Reading → (out err : Writing) → Call
+call words src out err = record { words = words; src = src; out = out; err = err }
+
 -- the source gave these bytes
 abbrev pub Gave : Reading → List ℕ → Type 0
 Gave src given = Consumes src.left src.left_after given
 
--- the source gave these bytes, which are not too many, and is at its end
-pub record GaveAll (src : Reading) (given : List ℕ) : Type 0 where
-  pub consumed : Gave src given
+-- the source gave this text, which is not too long, and is at its end
+pub record GaveAll (src : Reading) (text : List ℕ) : Type 0 where
+  pub consumed : Gave src text
   pub end : IsAtEnd src.left_after
-  pub within : length given ≤ text_limit
+  pub within : length text ≤ text_limit
 
 -- the sink gained these bytes
 abbrev pub Gained : Writing → List ℕ → Type 0
@@ -72,88 +84,102 @@ ReadFailed src = Rose src.faults src.faults_after
 abbrev pub WriteFailed : Writing → Type 0
 WriteFailed sink = Rose sink.faults sink.faults_after
 
--- why words and a text give no simulation: the text is no pattern's, or its box is too large; its port table is at fault; the streams
--- are; or the last bits are shown too late
-abbrev pub IsRefused : ℕ → List (List ℕ) → List ℕ → Refusal → Type 0
-IsRefused cycles words text (Pattern fault) = HasReaderFault text fault.kind fault.line
-IsRefused cycles words text (GridTooLarge width height) = HasLargeBox text width height
-IsRefused cycles words text (PortTable fault) =
-    (grid : Grid) × ReadsWithinLimit text grid × HasPortFault text grid.width grid.height fault.kind fault.line
-IsRefused cycles words text (Streams fault) =
-    (grid : Grid) × (ports : Ports) × ReadsWithinLimit text grid × ReadsAsPorts text grid.width grid.height ports
-    × HasStreamFault words (names_of ports.ins) cycles fault
-IsRefused cycles words text (TooFar generations) =
-    (s : Simulation) × IsSimulation cycles words text s × (generations ≡ last_generation s.ports s.streams) × (greatest_generation < generations)
-IsRefused cycles words text _ = ⊥
+-- the words ask for a command, the source gave all of a text, and out gained this part of what the command prints of it
+pub record Does (words : List (List ℕ)) (src : Reading) (out : Writing) (part : List ℕ → List ℕ) : Type 0 where
+  pub command : CommandValues
+  pub asked : IsAsked words command
+  pub text : List ℕ
+  pub given : GaveAll src text
+  pub output : List ℕ
+  pub prints : Prints command text output
+  pub wrote : Gained out (part output)
 
--- the source gave all of a text that gives no simulation
-pub record RefusesText (all : List (List ℕ)) (src : Reading) (refusal : Refusal) : Type 0 where
-  pub cycles : ℕ
-  pub words : List (List ℕ)
-  pub asks : Asks all (simulate cycles words)
+-- the words ask for a command, and the source gave all of a text that the command refuses for this cause
+pub record RefusesText (words : List (List ℕ)) (src : Reading) (cause : Cause) : Type 0 where
+  pub command : CommandValues
+  pub asked : IsAsked words command
+  pub text : List ℕ
+  pub given : GaveAll src text
+  pub refused : Refuses command text cause
+
+-- the words ask for a command, and the source gave too many bytes
+pub record GaveTooMany (words : List (List ℕ)) (src : Reading) : Type 0 where
+  pub command : CommandValues
+  pub asked : IsAsked words command
   pub given : List ℕ
-  pub whole : GaveAll src given
-  pub refused : IsRefused cycles words given refusal
+  pub gave : Gave src given
+  pub many : text_limit < length given
+
+-- the words ask for a command, and a read failed
+pub record FailedToRead (words : List (List ℕ)) (src : Reading) : Type 0 where
+  pub command : CommandValues
+  pub asked : IsAsked words command
+  pub failed : ReadFailed src
 
 -- why a run is refused before it writes
 abbrev pub HasReason : List (List ℕ) → Reading → Refusal → Type 0
 HasReason words src Usage = IsCommand words → ⊥
-HasReason words src TooLong = (given : List ℕ) × Gave src given × (text_limit < length given)
-HasReason words src ReadFault = ReadFailed src
+HasReason words src TooLong = GaveTooMany words src
+HasReason words src ReadFault = FailedToRead words src
 HasReason words src WriteFault = ⊥
 HasReason words src NoMemory = ⊤
-HasReason words src NotYet = Asks words compile × ((given : List ℕ) × GaveAll src given × ((n : Names) → IsThin given n → ⊥))
-HasReason words src refusal = RefusesText words src refusal
+HasReason words src (Text cause) = RefusesText words src cause
 
--- the source gave an OR gate's text, and out gained these bytes of what is written for it
-pub record Compiles (src : Reading) (out : Writing) (gained : Names → List ℕ) : Type 0 where
-  pub given : List ℕ
-  pub names : Names
-  pub all : GaveAll src given
-  pub thin : IsThin given names
-  pub wrote : Gained out (gained names)
+-- the status and the errors tell this refusal
+pub record Tells (err : Writing) (status : ℕ) (refusal : Refusal) : Type 0 where
+  pub status_is : status ≡ status_of refusal
+  pub line : Gained err (refusal_line refusal)
 
--- the source gave a pattern's text, the words say streams for it, and out gained these bytes of its outputs' lines
-pub record Simulates (cycles : ℕ) (words : List (List ℕ)) (src : Reading) (out : Writing) (gained : List ℕ → List ℕ) : Type 0 where
-  pub given : List ℕ
-  pub simulation : Simulation
-  pub all : GaveAll src given
-  pub reads : IsSimulation cycles words given simulation
-  pub near : last_generation simulation.ports simulation.streams ≤ greatest_generation
-  pub wrote : Gained out (gained (simulation_text simulation))
+-- all is on out, and nothing on err
+pub record IsDone (c : Call) : Type 0 where
+  pub done : Does c.words c.src c.out (λ output. output)
+  pub silent : GainedNothing c.err
 
--- out gained these bytes of what the command makes of the text that the source gave
-abbrev pub Writes : CommandValues → Reading → Writing → (List ℕ → List ℕ) → Type 0
-Writes compile src out gained = Compiles src out (λ n. gained (thin_gate_text n))
-Writes (simulate cycles words) src out gained = Simulates cycles words src out gained
-
--- out gained these bytes of what the words ask for
-pub record Does (words : List (List ℕ)) (src : Reading) (out : Writing) (gained : List ℕ → List ℕ) : Type 0 where
-  pub command : CommandValues
-  pub asks : Asks words command
-  pub writes : Writes command src out gained
+-- a refusal that has its reason is told, and nothing is on out
+pub record IsRefused (c : Call) (status : ℕ) : Type 0 where
+  pub refusal : Refusal
+  pub reason : HasReason c.words c.src refusal
+  pub nothing : GainedNothing c.out
+  pub told : Tells c.err status refusal
 
 -- a refusal's line was cut off, and out gained nothing
-pub record CutsLine (words : List (List ℕ)) (src : Reading) (out err : Writing) : Type 0 where
+pub record CutsLine (c : Call) : Type 0 where
   pub refusal : Refusal
-  pub reason : HasReason words src refusal
-  pub nothing : GainedNothing out
+  pub reason : HasReason c.words c.src refusal
+  pub nothing : GainedNothing c.out
   pub size : ℕ
-  pub front : Gained err (take size (refusal_line refusal))
-  pub failed : WriteFailed err
+  pub front : Gained c.err (take size (refusal_line refusal))
+  pub failed : WriteFailed c.err
 
--- the command's text was cut off, and err has the line that tells it, or where err failed too a front of that line
-pub record CutsText (words : List (List ℕ)) (src : Reading) (out err : Writing) : Type 0 where
+-- the output was cut off, and err has the line that tells it, or where err failed too a front of that line
+pub record CutsOutput (c : Call) : Type 0 where
   pub size : ℕ
-  pub front : Does words src out (take size)
-  pub failed : WriteFailed out
-  pub line : Gained err (refusal_line WriteFault) ⊎ (WriteFailed err × ((k : ℕ) × Gained err (take k (refusal_line WriteFault))))
+  pub front : Does c.words c.src c.out (take size)
+  pub failed : WriteFailed c.out
+  pub line : Gained c.err (refusal_line WriteFault) ⊎ (WriteFailed c.err × ((k : ℕ) × Gained c.err (take k (refusal_line WriteFault))))
 
 -- the words ask for the command, the source has the text, and nothing failed
-pub record IsCalm (words : List (List ℕ)) (command : CommandValues) (src : Reading) (out err : Writing) (text : List ℕ) : Type 0 where
-  pub shape : IsCommand words
-  pub asks : Asks words command
-  pub has : src.left ≡ Some text
-  pub reads : ReadFailed src → ⊥
-  pub writes : WriteFailed out → ⊥
-  pub tells : WriteFailed err → ⊥
+pub record IsCalm (c : Call) (command : CommandValues) (text : List ℕ) : Type 0 where
+  pub shape : IsCommand c.words
+  pub asks : Asks c.words command
+  pub has : c.src.left ≡ Some text
+  pub reads : ReadFailed c.src → ⊥
+  pub writes : WriteFailed c.out → ⊥
+  pub tells : WriteFailed c.err → ⊥
+
+-- the refusal is told, but for want of memory
+abbrev pub TellsOr7 : Call → ℕ → Refusal → Type 0
+TellsOr7 c status refusal = Tells c.err status refusal ⊎ (status ≡ 7)
+
+-- How a run ends. By its status it is done, refused or cut off;
+pub record Ends (c : Call) (status : ℕ) : Type 0 where
+  pub done : status ≡ 0 → IsDone c
+  pub refused : status ≢ 0 → status ≢ 6 → IsRefused c status
+  pub cut : status ≡ 6 → CutsLine c ⊎ CutsOutput c
+  pub front : (given : List ℕ) × Gave c.src given
+  -- and but for failed reads and writes and want of memory: a text that the command accepts is printed, one that it refuses is refused for its cause,
+  pub accepted : (command : CommandValues) (text : List ℕ) → IsCalm c command text → length text ≤ text_limit → Accepts command text → (status ≡ 0) ⊎ (status ≡ 7)
+  pub caused : (command : CommandValues) (text : List ℕ) → IsCalm c command text → length text ≤ text_limit → (cause : Cause) → Refuses command text cause → TellsOr7 c status (Text cause)
+  -- one that is too long is told so, and words that ask for nothing are
+  pub too_long : (command : CommandValues) (text : List ℕ) → IsCalm c command text → text_limit < length text → TellsOr7 c status TooLong
+  pub nothing_asked : AsksNothing c.words → TellsOr7 c status Usage ⊎ ((status ≡ 6) × WriteFailed c.err × GainedNothing c.out)

@@ -1,14 +1,16 @@
 -- What a text of a pattern shows under streams of bits, as lines.
-use Rattle.std.specs.Prelude.{◌≡◌, ℕ, Bool, if◌then◌else◌, List, ◌++◌, map, flat_map, codes}
+use Rattle.std.specs.Prelude.{◌≡◌, ◌≤◌, ◌<◌, ℕ, Bool, if◌then◌else◌, List, ◌++◌, map, flat_map, codes}
 use Rattle.std.specs.Str.{byte}
 use Rattle.ww_rule.specs.Grid.{Grid, plane_of}
 use Rattle.pattern_reading.specs.declared.ports.Ports.{Ports}
 use Rattle.pattern_reading.specs.Ports.{names_of}
-use Rattle.pattern_reading.specs.Pattern.{ReadsWithinLimit}
-use Rattle.pattern_reading.specs.PortTable.{ReadsAsPorts}
+use Rattle.pattern_reading.specs.Pattern.{ReadsWithinLimit, HasReaderFault, HasLargeBox}
+use Rattle.pattern_reading.specs.PortTable.{ReadsAsPorts, HasPortFault}
 use Rattle.drive.specs.declared.streams.Streams.{Streams}
-use Rattle.drive.specs.Streams.{HasStreams}
-use Rattle.drive.specs.Driving.{shown_at}
+use Rattle.drive.specs.Streams.{HasStreams, HasStreamFault}
+use Rattle.drive.specs.Driving.{shown_at, last_generation, greatest_generation}
+use Rattle.blifww_tool.specs.declared.causes.Cause.{Cause}
+use Rattle.blifww_tool.specs.declared.causes.Cause.TheVariants.{Pattern, GridTooLarge, PortTable, Streams as OfStreams, TooFar}
 
 -- a pattern, its ports, and streams for its inputs
 pub record Simulation : Type 0 where
@@ -34,3 +36,26 @@ pub record IsSimulation (cycles : ℕ) (words : List (List ℕ)) (text : List �
   pub table : ReadsAsPorts text s.grid.width s.grid.height s.ports
   pub many : s.streams.cycles ≡ cycles
   pub streams : HasStreams words (names_of s.ports.ins) cycles s.streams.bits
+
+-- the generation of its last bits
+abbrev pub last_shown : Simulation → ℕ
+last_shown s = last_generation s.ports s.streams
+
+-- the text and the words are a simulation whose last bits are shown in time
+pub record Simulates (cycles : ℕ) (words : List (List ℕ)) (text : List ℕ) (s : Simulation) : Type 0 where
+  pub is : IsSimulation cycles words text s
+  pub near : last_shown s ≤ greatest_generation
+
+-- why they are none: the text is no pattern's, or its box is too large; its port table is at fault; the streams are; or the last bits
+-- are shown too late
+abbrev pub HasNoSimulation : ℕ → List (List ℕ) → List ℕ → Cause → Type 0
+HasNoSimulation cycles words text (Pattern fault) = HasReaderFault text fault.kind fault.line
+HasNoSimulation cycles words text (GridTooLarge width height) = HasLargeBox text width height
+HasNoSimulation cycles words text (PortTable fault) =
+    (grid : Grid) × ReadsWithinLimit text grid × HasPortFault text grid.width grid.height fault.kind fault.line
+HasNoSimulation cycles words text (OfStreams fault) =
+    (grid : Grid) × (ports : Ports) × ReadsWithinLimit text grid × ReadsAsPorts text grid.width grid.height ports
+    × HasStreamFault words (names_of ports.ins) cycles fault
+HasNoSimulation cycles words text (TooFar generations) =
+    (s : Simulation) × IsSimulation cycles words text s × (generations ≡ last_shown s) × (greatest_generation < generations)
+HasNoSimulation cycles words text _ = ⊥

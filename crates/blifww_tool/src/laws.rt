@@ -1,10 +1,11 @@
-//! What is proved of the texts that are compiled and written.
+//! What is proved of the texts that are compiled and written, and of statuses.
 ghost use Rattle.std.specs.Prelude.{List, ℕ};
 ghost use Rattle.blif_text.specs.Faults.{IsDesignOf};
 ghost use Rattle.carries.specs.Carries.{Carries};
 ghost use Rattle.blifww_tool.specs.Thin.{Names, IsThin};
 ghost use Rattle.blifww_tool.specs.Drawing.{thin_gate_text};
 ghost use Rattle.blifww_tool.specs.Gate.{thin_design};
+ghost use Rattle.blifww_tool.specs.Statuses.{StatusesHaveCauses};
 
 use or_gate::shows_or;
 
@@ -14,3 +15,8 @@ pub fn written_text_carries()
 {
     shows_or();
 }
+
+/// Each status of a run comes only where its cause is.
+pub fn statuses_have_causes()
+    ensures { StatusesHaveCauses }
+{}

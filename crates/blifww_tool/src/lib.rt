@@ -2,10 +2,12 @@
 #![tactic(auto)]
 
 pub mod calm;
+mod causes;
 mod compile;
 mod drawing;
 mod joined;
 pub mod laws;
+mod output;
 mod refusals;
 mod simulate;
 mod thin;

@@ -1,11 +1,8 @@
 // Why a run does not end well, with its status.
 ghost use Rattle.std.specs.Prelude.{◌≡◌};
 
+use crate::causes::{Cause, TextError};
 use command_words::WordsError;
-use drive::{SimulateError, StreamError, StreamFault};
-use port_table::{PortFault, PortReadError};
-use rle_read::{RleFault, RleReadError};
-use std::alloc::{AllocError, AllocFailed};
 use ww_base::{Failed, ReadAllError};
 
 /// Why a run does not end well.
@@ -16,18 +13,8 @@ pub enum Refusal {
     ReadFault,
     WriteFault,
     NoMemory,
-    /// The text is none that is compiled so far.
-    NotYet,
-    /// The text is no pattern's.
-    Pattern(RleFault),
-    /// The pattern's box has more cells than are read.
-    GridTooLarge { width: u64, height: u64 },
-    /// The pattern's port table is at fault.
-    PortTable(PortFault),
-    /// The words say no streams for the pattern's inputs.
-    Streams(StreamFault),
-    /// The simulation needs so many generations, which is over the limit.
-    TooFar { generations: u128 },
+    /// The command refuses the text.
+    Text(Cause),
 }
 
 impl From<WordsError> for Refusal {
@@ -44,9 +31,9 @@ impl From<WordsError> for Refusal {
 }
 
 impl From<ReadAllError> for Refusal {
-    ghost use Rattle.blifww_tool.specs.Refusals.{refusal_of};
+    ghost use Rattle.blifww_tool.specs.Refusals.{read_refusal};
 
-    ghost from_gives = { λ e r. r ≡ refusal_of e };
+    ghost from_gives = { λ e r. r ≡ read_refusal e };
 
     fn from(error: ReadAllError) -> Self {
         match error {
@@ -57,76 +44,16 @@ impl From<ReadAllError> for Refusal {
     }
 }
 
-impl From<RleReadError> for Refusal {
-    ghost use Rattle.blifww_tool.specs.Refusals.{pattern_refusal};
+impl From<TextError> for Refusal {
+    ghost use Rattle.blifww_tool.specs.Refusals.{text_refusal};
 
-    ghost from_gives = { λ e r. r ≡ pattern_refusal e };
+    ghost from_gives = { λ e r. r ≡ text_refusal e };
 
-    fn from(error: RleReadError) -> Self {
+    fn from(error: TextError) -> Self {
         match error {
-            RleReadError::Fault(fault) => Refusal::Pattern(fault),
-            RleReadError::TooLarge { width, height } => Refusal::GridTooLarge { width, height },
-            RleReadError::NoMemory => Refusal::NoMemory,
+            TextError::Refused(cause) => Refusal::Text(cause),
+            TextError::NoMemory => Refusal::NoMemory,
         }
-    }
-}
-
-impl From<PortReadError> for Refusal {
-    ghost use Rattle.blifww_tool.specs.Refusals.{table_refusal};
-
-    ghost from_gives = { λ e r. r ≡ table_refusal e };
-
-    fn from(error: PortReadError) -> Self {
-        match error {
-            PortReadError::Fault(fault) => Refusal::PortTable(fault),
-            PortReadError::NoMemory => Refusal::NoMemory,
-        }
-    }
-}
-
-impl From<StreamError> for Refusal {
-    ghost use Rattle.blifww_tool.specs.Refusals.{streams_refusal};
-
-    ghost from_gives = { λ e r. r ≡ streams_refusal e };
-
-    fn from(error: StreamError) -> Self {
-        match error {
-            StreamError::Fault(fault) => Refusal::Streams(fault),
-            StreamError::NoMemory => Refusal::NoMemory,
-        }
-    }
-}
-
-impl From<SimulateError> for Refusal {
-    ghost use Rattle.blifww_tool.specs.Refusals.{simulate_refusal};
-
-    ghost from_gives = { λ e r. r ≡ simulate_refusal e };
-
-    fn from(error: SimulateError) -> Self {
-        match error {
-            SimulateError::TooFar { generations } => Refusal::TooFar { generations },
-            SimulateError::NoMemory => Refusal::NoMemory,
-        }
-    }
-}
-
-impl From<AllocError> for Refusal {
-    ghost use Rattle.blifww_tool.specs.declared.refusals.Refusal.TheVariants.{NoMemory};
-
-    ghost from_gives = { λ _ r. r ≡ NoMemory };
-
-    fn from(_: AllocError) -> Self {
-        Refusal::NoMemory
-    }
-}
-
-impl<T: Drop> From<AllocFailed<T>> for Refusal {
-    ghost use Rattle.blifww_tool.specs.declared.refusals.Refusal.TheVariants.{NoMemory};
-
-    ghost from_gives = { λ _ r. r ≡ NoMemory };
-
-    fn from(_: AllocFailed<T>) -> Self {
-        Refusal::NoMemory
     }
 }
 
@@ -149,13 +76,11 @@ impl Refusal {
     {
         match self {
             Refusal::Usage => 2,
-            Refusal::TooLong | Refusal::GridTooLarge { .. } | Refusal::TooFar { .. } => 4,
+            Refusal::TooLong => 4,
             Refusal::ReadFault => 5,
             Refusal::WriteFault => 6,
             Refusal::NoMemory => 7,
-            Refusal::Pattern(_) | Refusal::PortTable(_) => 8,
-            Refusal::Streams(_) => 9,
-            Refusal::NotYet => 11,
+            Refusal::Text(cause) => cause.status(),
         }
     }
 }

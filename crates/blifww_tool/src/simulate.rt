@@ -1,18 +1,17 @@
 // `simulate`: the bits that a pattern's outputs show, as lines.
-ghost use Rattle.std.specs.Prelude.{◌≡◌, ◌≢◌, ◌≤◌, ◌<◌, ◌⊎◌, ℕ, List, ◌++◌, take, map, flat_map, zip, string_bytes, IfOk, IfErr, OnOk, IsErrOf};
-ghost use Rattle.drive.specs.Driving.{last_generation, greatest_generation};
+ghost use Rattle.std.specs.Prelude.{◌≡◌, ◌<◌, ◌++◌, map, flat_map, zip, string_bytes, IfOk, IfErr, OnOk};
 ghost use Rattle.command_words.specs.Shapes.{simulate};
 ghost use Rattle.pattern_reading.specs.Ports.{names_of};
-ghost use Rattle.blifww_tool.specs.Simulation.{Simulation, IsSimulation, bit_digit, bits_line, simulation_text};
-ghost use Rattle.blifww_tool.specs.Run.{Asks, reading, writing, Gave, GainedNothing, WriteFailed, IsRefused, HasReason, Simulates};
+ghost use Rattle.blifww_tool.specs.Answer.{output_text};
+ghost use Rattle.blifww_tool.specs.Commands.{Prints, HasTextCause};
+ghost use Rattle.blifww_tool.specs.Simulation.{bit_digit, bits_line};
 
-use crate::refusals::Refusal;
-use crate::top::TEXT_LIMIT;
+use crate::causes::TextError;
+use crate::output::Output;
 use drive::Streams;
 use lists::{Bytes, List};
 use pattern_reading::PortLine;
 use std::alloc::{AllocError, Global};
-use ww_base::{Sink, Source, read_all, write_all};
 
 // The names of ports.
 fn names_of(alloc: Global, ports: &[PortLine]) -> Result<Vec<Bytes>, AllocError>
@@ -61,50 +60,22 @@ fn output_lines(
     Ok(lines)
 }
 
-// The lines that a text's pattern shows under the streams of words.
-fn simulated_lines(
+/// A line for each output of the text's pattern, with the bits that it shows, where the words are the streams of the inputs.
+pub fn simulate(
     alloc: Global,
     cycles: usize,
     words: &[String],
     text: &[u8],
-) -> Result<Vec<u8>, Refusal>
+) -> Result<Output, TextError>
     requires some_cycle { 0 < cycles }
-    ensures shown { IfOk result (λ lines. (s : Simulation) × IsSimulation cycles (map string_bytes words.now) text.now s
-        × (last_generation s.ports s.streams ≤ greatest_generation) × (lines.items ≡ simulation_text s)) }
-    ensures refused { IfErr result (λ r. (r ≡ Refusal.NoMemory) ⊎ IsRefused cycles (map string_bytes words.now) text.now r) }
+    ensures printed { IfOk result (λ output. Prints (simulate cycles (map string_bytes words.now)) text.now (output_text output)) }
+    ensures refused { IfErr result (λ e. HasTextCause (simulate cycles (map string_bytes words.now)) text.now e) }
 {
     let pattern = rle_read::read(alloc, text)?;
     let ports = port_table::read(alloc, text, pattern.width, pattern.height)?;
     let names = names_of(alloc, ports.ins.as_slice())?;
     let streams = Streams::read(alloc, words, &names, cycles)?;
     let bits = drive::simulate(alloc, pattern, &ports, &streams)?;
-    Ok(output_lines(alloc, ports.outs.as_slice(), bits.as_slice())?)
-}
-
-/// Reads the text of a pattern with ports, and writes a line for each output with the bits that it shows, where the
-/// words are the streams of the inputs. All memory is taken before the first byte is written.
-pub fn simulate<S: Source, O: Sink>(
-    alloc: Global,
-    cycles: usize,
-    words: &[String],
-    src: &mut S,
-    out: &mut O,
-) -> Result<(), Refusal>
-    requires some_cycle { 0 < cycles }
-    ensures done { OnOk result (Simulates cycles (map string_bytes words.now) (reading S.left S.faults src.old src.new)
-        (writing O.written O.faults out.old out.new) (λ text. text)) }
-    ensures refused { IfErr result (λ r. (r ≢ Refusal.WriteFault) → GainedNothing (writing O.written O.faults out.old out.new)
-        × ((all : List (List ℕ)) → Asks all (simulate cycles (map string_bytes words.now)) → HasReason all (reading S.left S.faults src.old src.new) r)) }
-    ensures known { IsErrOf result Refusal.Usage → ⊥ }
-    ensures cut { IsErrOf result Refusal.WriteFault → (k : ℕ) × WriteFailed (writing O.written O.faults out.old out.new)
-        × Simulates cycles (map string_bytes words.now) (reading S.left S.faults src.old src.new)
-        (writing O.written O.faults out.old out.new) (take k) }
-    ensures front { (given : List ℕ) × Gave (reading S.left S.faults src.old src.new) given }
-    ensures read_later { S.faults src.old ≤ S.faults src.new }
-    ensures written_later { O.faults out.old ≤ O.faults out.new }
-{
-    let text = read_all(alloc, src, TEXT_LIMIT)?;
-    let lines = simulated_lines(alloc, cycles, words, text.as_slice())?;
-    write_all(out, &lines)?;
-    Ok(())
+    let lines = output_lines(alloc, ports.outs.as_slice(), bits.as_slice())?;
+    Ok(Output::Lines(Bytes::of(lines)))
 }

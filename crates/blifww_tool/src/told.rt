@@ -3,8 +3,9 @@ ghost use Rattle.std.specs.Prelude.{◌≡◌, ℕ, take, OnOk, OnErr};
 ghost use Rattle.std.specs.Io.KnownBytes.{Appends};
 ghost use Rattle.ww_base.specs.Faults.{HasCause};
 ghost use Rattle.blifww_tool.specs.Joined.{joined_pieces};
-ghost use Rattle.blifww_tool.specs.Refusals.{rle_fault_name, port_fault_name, stream_fault_name, fault_line, stream_line, refusal_line};
+ghost use Rattle.blifww_tool.specs.Refusals.{rle_fault_name, port_fault_name, stream_fault_name, fault_line, stream_line, cause_line, refusal_line};
 
+use crate::causes::Cause;
 use crate::refusals::Refusal;
 use drive::StreamFaultKind;
 use itoa::Buffer;
@@ -82,8 +83,8 @@ fn tell_fault<E: Sink>(err: &mut E, name: &[u8], line: u64) -> Result<(), Failed
 
 // Tells the box that has too many cells.
 fn tell_grid<E: Sink>(err: &mut E, width: u64, height: u64) -> Result<(), Failed>
-    ensures ok { OnOk result (Appends (E.written err.old) (E.written err.new) (refusal_line (Refusal.GridTooLarge width height))) }
-    ensures front { OnErr result ((n : ℕ) × Appends (E.written err.old) (E.written err.new) (take n (refusal_line (Refusal.GridTooLarge width height)))) }
+    ensures ok { OnOk result (Appends (E.written err.old) (E.written err.new) (cause_line (Cause.GridTooLarge width height))) }
+    ensures front { OnErr result ((n : ℕ) × Appends (E.written err.old) (E.written err.new) (take n (cause_line (Cause.GridTooLarge width height)))) }
     ensures cause { HasCause (E.faults err.old) (E.faults err.new) result }
 {
     let mut columns = Buffer::new();
@@ -95,8 +96,8 @@ fn tell_grid<E: Sink>(err: &mut E, width: u64, height: u64) -> Result<(), Failed
 
 // Tells how many generations are too many.
 fn tell_generations<E: Sink>(err: &mut E, generations: u128) -> Result<(), Failed>
-    ensures ok { OnOk result (Appends (E.written err.old) (E.written err.new) (refusal_line (Refusal.TooFar generations))) }
-    ensures front { OnErr result ((n : ℕ) × Appends (E.written err.old) (E.written err.new) (take n (refusal_line (Refusal.TooFar generations)))) }
+    ensures ok { OnOk result (Appends (E.written err.old) (E.written err.new) (cause_line (Cause.TooFar generations))) }
+    ensures front { OnErr result ((n : ℕ) × Appends (E.written err.old) (E.written err.new) (take n (cause_line (Cause.TooFar generations)))) }
     ensures cause { HasCause (E.faults err.old) (E.faults err.new) result }
 {
     let mut digits = Buffer::new();
@@ -111,6 +112,26 @@ fn tell_streams<'a, E: Sink>(err: &mut E, name: &'a [u8], word: &'a [u8]) -> Res
     ensures cause { HasCause (E.faults err.old) (E.faults err.new) result }
 {
     write_pieces(err, &[b"stream: ", name, b" ", word, b"\n"])
+}
+
+impl Cause {
+    // Writes the one line that tells the cause, or a front of it where a write fails.
+    fn tell<E: Sink>(&self, err: &mut E) -> Result<(), Failed>
+        ensures ok { OnOk result (Appends (E.written err.old) (E.written err.new) (cause_line self.now)) }
+        ensures front { OnErr result ((n : ℕ) × Appends (E.written err.old) (E.written err.new) (take n (cause_line self.now))) }
+        ensures cause { HasCause (E.faults err.old) (E.faults err.new) result }
+    {
+        match self {
+            Cause::NotYet => write_all(err, b"not yet\n"),
+            Cause::Pattern(fault) => tell_fault(err, rle_fault_name(fault.kind), fault.line),
+            Cause::GridTooLarge { width, height } => tell_grid(err, *width, *height),
+            Cause::PortTable(fault) => tell_fault(err, port_fault_name(fault.kind), fault.line),
+            Cause::Streams(fault) => {
+                tell_streams(err, stream_fault_name(fault.kind), fault.word.as_slice())
+            }
+            Cause::TooFar { generations } => tell_generations(err, *generations),
+        }
+    }
 }
 
 impl Refusal {
@@ -129,16 +150,7 @@ impl Refusal {
             Refusal::ReadFault => write_all(err, b"read fault\n"),
             Refusal::WriteFault => write_all(err, b"write fault\n"),
             Refusal::NoMemory => write_all(err, b"no memory\n"),
-            Refusal::NotYet => write_all(err, b"not yet\n"),
-            Refusal::Pattern(fault) => { tell_fault(err, rle_fault_name(fault.kind), fault.line) }
-            Refusal::GridTooLarge { width, height } => tell_grid(err, *width, *height),
-            Refusal::PortTable(fault) => {
-                tell_fault(err, port_fault_name(fault.kind), fault.line)
-            }
-            Refusal::Streams(fault) => {
-                tell_streams(err, stream_fault_name(fault.kind), fault.word.as_slice())
-            },
-            Refusal::TooFar { generations } => tell_generations(err, *generations),
+            Refusal::Text(cause) => cause.tell(err),
         }
     }
 }

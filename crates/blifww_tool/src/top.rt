@@ -1,25 +1,36 @@
 // The top call.
-ghost use Rattle.std.specs.Prelude.{◌≡◌, ◌≢◌, ◌≤◌, ◌<◌, ◌⊎◌, ℕ, List, length, take, map, string_bytes, OnOk, IfErr, IsErrOf};
-ghost use Rattle.std.specs.Io.KnownBytes.{Keeps, IsAtEnd};
-ghost use Rattle.ww_base.specs.Faults.{Rose};
-ghost use Rattle.drive.specs.Driving.{last_generation, greatest_generation};
-ghost use Rattle.command_words.specs.Shapes.{CommandValues, compile, simulate, IsCommand, IsTaken};
-ghost use Rattle.blifww_tool.specs.Thin.{Names, IsThin};
+ghost use Rattle.std.specs.Prelude.{◌≡◌, ◌≤◌, ◌^◌, ℕ, List, length, map, string_bytes, IfOk, IfErr, OnOk, IsErrOf};
+ghost use Rattle.command_words.specs.Shapes.{compile, values_of, HasCyclesInRange};
 ghost use Rattle.blifww_tool.specs.Gate.{WritesWhatItRead};
-ghost use Rattle.blifww_tool.specs.Simulation.{Simulation, IsSimulation};
-ghost use Rattle.blifww_tool.specs.Refusals.{status_of, refusal_line};
-ghost use Rattle.blifww_tool.specs.Run.{Asks, text_limit, Reading, reading, Writing, writing, Gave, GaveAll, Gained, GainedNothing, WriteFailed, HasReason, IsRefused, Does, IsCalm, CutsLine, CutsText};
+ghost use Rattle.blifww_tool.specs.Commands.{Prints, HasTextCause};
+ghost use Rattle.blifww_tool.specs.Answer.{output_text, HasStopped};
+ghost use Rattle.blifww_tool.specs.Run.{Asks, AsksNothing, reading, writing, call, Gave, Does, Ends};
 
+use crate::causes::TextError;
 use crate::compile::compile;
+use crate::output::Output;
 use crate::refusals::Refusal;
 use crate::simulate::simulate;
 use command_words::{Command, command_of};
 use or_gate::shows_or;
 use std::alloc::Global;
-use ww_base::{Failed, Sink, Source};
+use ww_base::{Failed, Sink, Source, read_all};
 
 /// The most bytes that are read.
 pub const TEXT_LIMIT: usize = 16_777_216;
+
+// What a command prints of a text. All memory that the command needs is taken here.
+fn answer(alloc: Global, command: &Command, text: &[u8]) -> Result<Output, TextError>
+    requires short { length text.now ≤ 2 ^ 32 }
+    requires cycles { HasCyclesInRange (values_of command.now) }
+    ensures printed { IfOk result (λ output. Prints (values_of command.now) text.now (output_text output)) }
+    ensures refused { IfErr result (λ e. HasTextCause (values_of command.now) text.now e) }
+{
+    match command {
+        Command::Compile => compile(alloc, text),
+        Command::Simulate { cycles, streams } => simulate(alloc, *cycles, streams.as_slice(), text),
+    }
+}
 
 // Does what the words say.
 fn work<S: Source, O: Sink>(
@@ -29,26 +40,18 @@ fn work<S: Source, O: Sink>(
     out: &mut O,
 ) -> Result<(), Refusal>
     ensures done { OnOk result (Does (map string_bytes words.now) (reading S.left S.faults src.old src.new)
-        (writing O.written O.faults out.old out.new) (λ text. text)) }
-    ensures refused { IfErr result (λ r. (r ≢ Refusal.WriteFault) → GainedNothing (writing O.written O.faults out.old out.new)
-        × HasReason (map string_bytes words.now) (reading S.left S.faults src.old src.new) r) }
-    ensures asked { IfErr result (λ r. (r ≢ Refusal.Usage) → (r ≢ Refusal.NoMemory) → (command : CommandValues) × Asks (map string_bytes words.now) command) }
-    ensures taken { OnOk result (IsTaken (map string_bytes words.now)) }
-    ensures untaken { IfErr result (λ r. (r ≢ Refusal.Usage) → (r ≢ Refusal.NoMemory) → IsTaken (map string_bytes words.now)) }
-    ensures unread { ((command : CommandValues) → Asks (map string_bytes words.now) command → ⊥) → src.new ≡ src.old }
-    ensures refused_unread { IsErrOf result Refusal.Usage → src.new ≡ src.old }
-    ensures cut { IsErrOf result Refusal.WriteFault → (k : ℕ) × WriteFailed (writing O.written O.faults out.old out.new)
-        × Does (map string_bytes words.now) (reading S.left S.faults src.old src.new) (writing O.written O.faults out.old out.new) (take k) }
+        (writing O.written O.faults out.old out.new) (λ output. output)) }
+    ensures stopped { IfErr result (λ r. HasStopped (map string_bytes words.now) (reading S.left S.faults src.old src.new)
+        (writing O.written O.faults out.old out.new) r) }
     ensures front { (given : List ℕ) × Gave (reading S.left S.faults src.old src.new) given }
-    ensures read_later { S.faults src.old ≤ S.faults src.new }
-    ensures written_later { O.faults out.old ≤ O.faults out.new }
+    ensures unread { AsksNothing (map string_bytes words.now) → src.new ≡ src.old }
+    ensures refused_unread { IsErrOf result Refusal.Usage → src.new ≡ src.old }
 {
-    match command_of(alloc, words)? {
-        Command::Compile => compile(alloc, src, out),
-        Command::Simulate { cycles, streams } => {
-            simulate(alloc, cycles, streams.as_slice(), src, out)
-        }
-    }
+    let command = command_of(alloc, words)?;
+    let text = read_all(alloc, src, TEXT_LIMIT)?;
+    let output = answer(alloc, &command, text.as_slice())?;
+    output.write(out)?;
+    Ok(())
 }
 
 /// Does what the words say, and answers the exit status. `words` begins with the program's name.
@@ -74,62 +77,13 @@ pub fn run<S: Source, O: Sink, E: Sink>(
     ensures headline { result ≡ 0 → Asks (map string_bytes words.now) compile
         → WritesWhatItRead (reading S.left S.faults src.old src.new) (writing O.written O.faults out.old out.new) }
 
-    // What was read and written, and that nothing else was.
-    ensures done { result ≡ 0 → Does (map string_bytes words.now) (reading S.left S.faults src.old src.new)
-        (writing O.written O.faults out.old out.new) (λ text. text) }
-    ensures silent { result ≡ 0 → GainedNothing (writing E.written E.faults err.old err.new) }
-    ensures end { result ≡ 0 → IsAtEnd (S.left src.new) }
+    // How the run ends, for every command: done, refused or cut off, each status only where its cause is and wherever it is.
+    ensures ends { Ends (call (map string_bytes words.now) (reading S.left S.faults src.old src.new)
+        (writing O.written O.faults out.old out.new) (writing E.written E.faults err.old err.new)) result }
 
-    // A run that is refused has written nothing but the refusal's one line.
-    ensures refused { result ≢ 0 → result ≢ 6 → (r : Refusal) × (result ≡ status_of r)
-        × HasReason (map string_bytes words.now) (reading S.left S.faults src.old src.new) r
-        × GainedNothing (writing O.written O.faults out.old out.new)
-        × Gained (writing E.written E.faults err.old err.new) (refusal_line r) }
-
-    // What was written where a write failed.
-    ensures cut { result ≡ 6 →
-        CutsLine (map string_bytes words.now) (reading S.left S.faults src.old src.new)
-        (writing O.written O.faults out.old out.new) (writing E.written E.faults err.old err.new)
-        ⊎ CutsText (map string_bytes words.now) (reading S.left S.faults src.old src.new)
-        (writing O.written O.faults out.old out.new) (writing E.written E.faults err.old err.new) }
-
-    // Each status comes only where its cause is,
-    ensures usage { result ≡ 2 → IsCommand (map string_bytes words.now) → ⊥ }
-    ensures asked { result ≢ 2 → result ≢ 6 → result ≢ 7 → (command : CommandValues) × Asks (map string_bytes words.now) command }
-    ensures taken { result ≢ 2 → result ≢ 6 → result ≢ 7 → IsTaken (map string_bytes words.now) }
-    ensures too_long { result ≡ 4 → Asks (map string_bytes words.now) compile
-        → (given : List ℕ) × Gave (reading S.left S.faults src.old src.new) given × (text_limit < length given) }
-    ensures not_yet { result ≡ 11 → (given : List ℕ) × GaveAll (reading S.left S.faults src.old src.new) given × ((n : Names) → IsThin given n → ⊥) }
-    ensures read_fault { result ≡ 5 → Rose (S.faults src.old) (S.faults src.new) }
-    ensures write_fault { result ≡ 6 → Rose (O.faults out.old) (O.faults out.new) ⊎ Rose (E.faults err.old) (E.faults err.new) }
-
-    // and wherever it is, but for failed reads and writes and want of memory.
-    ensures no_command { ((command : CommandValues) → Asks (map string_bytes words.now) command → ⊥) → (result ≡ 2) ⊎ (result ≡ 7)
-        ⊎ ((result ≡ 6) × Rose (E.faults err.old) (E.faults err.new) × Keeps (O.written out.old) (O.written out.new)) }
-    ensures is_too_long { (command : CommandValues) (text : List ℕ) → IsCalm (map string_bytes words.now) command (reading S.left S.faults src.old src.new)
-        (writing O.written O.faults out.old out.new) (writing E.written E.faults err.old err.new) text
-        → text_limit < length text → (result ≡ 4) ⊎ (result ≡ 7) }
-    ensures is_not_thin { (text : List ℕ) → IsCalm (map string_bytes words.now) compile (reading S.left S.faults src.old src.new)
-        (writing O.written O.faults out.old out.new) (writing E.written E.faults err.old err.new) text
-        → length text ≤ text_limit → ((n : Names) → IsThin text n → ⊥) → (result ≡ 11) ⊎ (result ≡ 7) }
-    ensures compiles { (text : List ℕ) → IsCalm (map string_bytes words.now) compile (reading S.left S.faults src.old src.new)
-        (writing O.written O.faults out.old out.new) (writing E.written E.faults err.old err.new) text
-        → length text ≤ text_limit → (n : Names) → IsThin text n → (result ≡ 0) ⊎ (result ≡ 7) }
-    ensures is_refused { (cycles : ℕ) (streams : List (List ℕ)) (text : List ℕ)
-        → IsCalm (map string_bytes words.now) (simulate cycles streams) (reading S.left S.faults src.old src.new)
-        (writing O.written O.faults out.old out.new) (writing E.written E.faults err.old err.new) text
-        → length text ≤ text_limit → (r : Refusal) → IsRefused cycles streams text r
-        → ((result ≡ status_of r) × Gained (writing E.written E.faults err.old err.new) (refusal_line r)) ⊎ (result ≡ 7) }
-    ensures simulates { (cycles : ℕ) (streams : List (List ℕ)) (text : List ℕ)
-        → IsCalm (map string_bytes words.now) (simulate cycles streams) (reading S.left S.faults src.old src.new)
-        (writing O.written O.faults out.old out.new) (writing E.written E.faults err.old err.new) text
-        → length text ≤ text_limit → (s : Simulation) → IsSimulation cycles streams text s
-        → last_generation s.ports s.streams ≤ greatest_generation → (result ≡ 0) ⊎ (result ≡ 7) }
-
-    // Words that are no command leave the source alone; else it has given a front of its bytes.
-    ensures unread { ((command : CommandValues) → Asks (map string_bytes words.now) command → ⊥) → src.new ≡ src.old }
+    // Words that are no command leave the source alone.
+    ensures unread { AsksNothing (map string_bytes words.now) → src.new ≡ src.old }
     ensures refused_unread { result ≡ 2 → src.new ≡ src.old }
-    ensures front { (given : List ℕ) × Gave (reading S.left S.faults src.old src.new) given }
 {
     shows_or();
     match work(alloc, words, src, out) {

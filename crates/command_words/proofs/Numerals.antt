@@ -8,6 +8,7 @@ use Rattle.std.specs.Str.Parse.{digits_value, ParsesUnsigned}
 use Rattle.std.proofs.lemmas.Str.Parse.{IsNumeralModel, numerals_by_value, parse_digits}
 use Rattle.std.proofs.lemmas.Bool.{leb-false, leb-true, lt-leb}
 use Rattle.command_words.specs.Numbers.{number_between}
+use Rattle.std.proofs.Math.Bool.{and-false as and_false}
 
 abbrev HasDigits : List ℕ → Type 0
 HasDigits bs = list_all is_ascii_digit bs ≡ true
@@ -18,10 +19,6 @@ numerals = numerals_by_value HasDigits (search rules)
 pub no_digits : (least most : ℕ) (bs : List ℕ) → list_all is_ascii_digit bs ≡ false → number_between least most bs ≡ None
 no_digits least most [] e = refl
 no_digits least most (b ∷ bs) e = rw e refl
-
-and_false : (a : Bool) → (a && false) ≡ false
-and_false true = refl
-and_false false = refl
 
 too_great : (least most n : ℕ) → most < n → (nat_le least n && nat_le n most) ≡ false
 too_great least most n above = let e : nat_le n most ≡ false = lt-leb n most above in rw (e) (and_false _)

@@ -12,6 +12,7 @@ use Rattle.cell_core.specs.Adding.{Adds}
 use Rattle.cell_core.proofs.Bits.{appending_keeps_bits, pushed_bit}
 use Rattle.cell_core.proofs.Order.{there_more, all_there_more}
 use Rattle.cover_cells.specs.Grown.{HasSource, HasSources, bits_of, Grows, Answers}
+use Rattle.std.proofs.lemmas.Bool.{or_right as or_right'}
 
 -- ---- some cell of two lists reads constant 1
 any-append : (cells more : List Cell) → read_one (cells ++ more) ≡ true → (read_one cells ≡ true) ⊎ (read_one more ≡ true)
@@ -21,10 +22,6 @@ any-append (cell ∷ cells) more h =
     (λ here. inl (ap (λ b. b || read_one cells) here))
     (λ rest. ⊎_elim (λ left. inl (or_right' (reads_one cell) (read_one cells) left)) inr (any-append cells more rest))
     (or_cases (reads_one cell) (read_one (cells ++ more)) h)
-  where
-    or_right' : (a b : Bool) → b ≡ true → (a || b) ≡ true
-    or_right' true b e = refl
-    or_right' false b e = e
 
 -- ---- a list grows by what is added and then added
 pub grows_refl : (list : CellList) (reason : Type 0) → Grows list list 0 reason

@@ -10,7 +10,8 @@ use Rattle.netlist_meaning.specs.CoverValue.{fits, product_holds, any_holds, cov
 use Rattle.cell_core.specs.declared.cells.Cell.{Cell}
 use Rattle.cell_core.specs.Sources.{reads_there, are_in_order}
 use Rattle.cell_core.specs.Meaning.{cell_bit, cell_bits}
-use Rattle.cover_cells.specs.Words.{word_bit, bits_number, table_bit, ShowTables}
+use Rattle.cover_cells.specs.Words.{bits_number, table_bit, ShowTables}
+use Rattle.lists.specs.Bits.{has_bit}
 use Rattle.cover_cells.proofs.Products.{so_far, so_far_more}
 use Rattle.cover_cells.proofs.Tables.{number_small}
 
@@ -20,7 +21,7 @@ ones_shown bits nets few long = ap (λ x. x == 1) (bit_at_ones 64 (bits_number b
 -- ---- a row
 pub row_more : (bits : List Bool) (row : List ℕ) (i nets word net new : ℕ) → nets ≤ 6 → length bits ≡ nets → i < length row → i < nets
     → table_bit bits word ≡ so_far i row bits → table_bit bits net ≡ get_or bits i false
-    → ((n : ℕ) → n < 64 → word_bit new n ≡ (word_bit word n && fits (get_or row i 0) (word_bit net n)))
+    → ((n : ℕ) → n < 64 → has_bit new n ≡ (has_bit word n && fits (get_or row i 0) (has_bit net n)))
     → table_bit bits new ≡ so_far (i + 1) row bits
 row_more bits row i nets word net new few long in_row in_nets before is made =
     made (bits_number bits) (number_small bits (omega (arith, long)))
@@ -35,7 +36,7 @@ row_end bits row i nets long end =
 -- ---- a cover
 pub off_word : (bits : List Bool) (rows : List (List ℕ)) (i nets word new : ℕ) → nets ≤ 6 → length bits ≡ nets → i ≡ length rows → rows ≢ []
     → table_bit bits word ≡ any_holds (take i rows) bits
-    → ((n : ℕ) → n < 64 → word_bit new n ≡ (word_bit 18446744073709551615 n && not (word_bit word n)))
+    → ((n : ℕ) → n < 64 → has_bit new n ≡ (has_bit 18446744073709551615 n && not (has_bit word n)))
     → table_bit bits new ≡ cover_value rows false bits
 off_word bits rows i nets word new few long end some before made =
     made (bits_number bits) (number_small bits (omega (arith, long)))

@@ -4,7 +4,8 @@ use Rattle.std.specs.Int.{bit_at, bit_not, w64}
 use Rattle.std.specs.Int.RustNames.{bit_xor}
 use Rattle.std.proofs.lemmas.Bool.{agree_below, agree_below_at}
 use Rattle.std.proofs.lemmas.Nat.Bits.{bit_at-lt, bit_at_and, bit_at_or, bit_at_xor, bit_at_not, bit_at-suc, bit_at_lowest, bit_at-zero}
-use Rattle.cover_cells.specs.Words.{word_bit, bits_number, table_bit}
+use Rattle.cover_cells.specs.Words.{bits_number, table_bit}
+use Rattle.lists.specs.Bits.{has_bit}
 
 -- ---- digits
 digit : (x : ℕ) → x < 2 → (x ≡ 0) ⊎ (x ≡ 1)
@@ -19,23 +20,23 @@ by_digits P p00 p01 p10 p11 x y lx ly =
     (λ x1. ⊎_elim (λ y0. subst (λ a. P a y) (sym x1) (subst (P 1) (sym y0) p10)) (λ y1. subst (λ a. P a y) (sym x1) (subst (P 1) (sym y1) p11)) (digit y ly))
     (digit x lx)
 
-pub word_bit_or : (a b n : ℕ) → word_bit (bit_or a b) n ≡ (word_bit a n || word_bit b n)
+pub word_bit_or : (a b n : ℕ) → has_bit (bit_or a b) n ≡ (has_bit a n || has_bit b n)
 word_bit_or a b n = ap (λ x. x == 1) (bit_at_or a b n) ∙ by_digits (λ x y. (max x y == 1) ≡ ((x == 1) || (y == 1))) refl refl refl refl (bit_at a n) (bit_at b n) (bit_at-lt a n) (bit_at-lt b n)
 
-pub word_bit_and : (a b n : ℕ) → word_bit (bit_and a b) n ≡ (word_bit a n && word_bit b n)
+pub word_bit_and : (a b n : ℕ) → has_bit (bit_and a b) n ≡ (has_bit a n && has_bit b n)
 word_bit_and a b n = ap (λ x. x == 1) (bit_at_and a b n) ∙ by_digits (λ x y. (min x y == 1) ≡ ((x == 1) && (y == 1))) refl refl refl refl (bit_at a n) (bit_at b n) (bit_at-lt a n) (bit_at-lt b n)
 
-pub word_bit_xor : (a b n : ℕ) → word_bit (bit_xor a b) n ≡ ((word_bit a n || word_bit b n) && not (word_bit a n && word_bit b n))
+pub word_bit_xor : (a b n : ℕ) → has_bit (bit_xor a b) n ≡ ((has_bit a n || has_bit b n) && not (has_bit a n && has_bit b n))
 word_bit_xor a b n =
     ap (λ x. x == 1) (bit_at_xor a b n)
     ∙ by_digits (λ x y. ((x + y) % 2 == 1) ≡ (((x == 1) || (y == 1)) && not ((x == 1) && (y == 1)))) refl refl refl refl (bit_at a n) (bit_at b n) (bit_at-lt a n) (bit_at-lt b n)
 
-pub word_bit_not : (a n : ℕ) → a < 2 ^ 64 → n < 64 → word_bit (bit_not w64 a) n ≡ not (word_bit a n)
+pub word_bit_not : (a n : ℕ) → a < 2 ^ 64 → n < 64 → has_bit (bit_not w64 a) n ≡ not (has_bit a n)
 word_bit_not a n small within =
     ap (λ x. x == 1) (bit_at_not w64 a n small within) ∙ by_digits (λ x y. (1 - x == 1) ≡ not (x == 1)) refl refl refl refl (bit_at a n) 0 (bit_at-lt a n) (omega arith)
 
-pub word_bit_and_not : (a b n : ℕ) → b < 2 ^ 64 → n < 64 → word_bit (bit_and a (bit_not w64 b)) n ≡ (word_bit a n && not (word_bit b n))
-word_bit_and_not a b n small within = word_bit_and a (bit_not w64 b) n ∙ ap (λ t. word_bit a n && t) (word_bit_not b n small within)
+pub word_bit_and_not : (a b n : ℕ) → b < 2 ^ 64 → n < 64 → has_bit (bit_and a (bit_not w64 b)) n ≡ (has_bit a n && not (has_bit b n))
+word_bit_and_not a b n small within = word_bit_and a (bit_not w64 b) n ∙ ap (λ t. has_bit a n && t) (word_bit_not b n small within)
 
 -- ---- the number of bits
 halved : (b : Bool) (n : ℕ) → ((cond b 1 0 + 2 * n) / 2 ≡ n) × (((cond b 1 0 + 2 * n) % 2 == 1) ≡ b)
@@ -43,7 +44,7 @@ halved true n = (omega arith, (let e : (1 + 2 * n) % 2 ≡ 1 = omega arith in ap
 halved false n = (omega arith, (let e : (0 + 2 * n) % 2 ≡ 0 = omega arith in ap (λ x. x == 1) e))
 
 -- bit i of the number is the i-th of the bits
-pub bit_of_number : (bits : List Bool) (i : ℕ) → word_bit (bits_number bits) i ≡ get_or bits i false
+pub bit_of_number : (bits : List Bool) (i : ℕ) → has_bit (bits_number bits) i ≡ get_or bits i false
 bit_of_number [] i = ap (λ x. x == 1) (bit_at-zero i)
 bit_of_number (b ∷ bits) zero = ap (λ x. x == 1) (bit_at_lowest (bits_number (b ∷ bits))) ∙ (halved b (bits_number bits)).1
 bit_of_number (b ∷ bits) (suc i) = ap (λ x. x == 1) (bit_at-suc (bits_number (b ∷ bits)) i ∙ ap (λ n. bit_at n i) (halved b (bits_number bits)).0) ∙ bit_of_number bits i
@@ -62,5 +63,5 @@ number_small = wider 5 32 (wider 4 16 (wider 3 8 (wider 2 4 (wider 1 2 (wider 0 
 
 -- ---- the tables of nets
 -- bit n of the table is bit i of n
-pub net_shown : (word i : ℕ) (bits : List Bool) → length bits ≤ 6 → agree_below (λ n. word_bit word n) (λ n. word_bit n i) 64 ≡ true → table_bit bits word ≡ get_or bits i false
-net_shown word i bits le agree = agree_below_at (λ n. word_bit word n) (λ n. word_bit n i) 64 (bits_number bits) agree (number_small bits le) ∙ bit_of_number bits i
+pub net_shown : (word i : ℕ) (bits : List Bool) → length bits ≤ 6 → agree_below (λ n. has_bit word n) (λ n. has_bit n i) 64 ≡ true → table_bit bits word ≡ get_or bits i false
+net_shown word i bits le agree = agree_below_at (λ n. has_bit word n) (λ n. has_bit n i) 64 (bits_number bits) agree (number_small bits le) ∙ bit_of_number bits i

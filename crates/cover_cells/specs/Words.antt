@@ -1,13 +1,10 @@
 -- Words of 64 bits as tables: the bit at a number is the value where the nets' bits make that number.
 use Rattle.std.specs.Prelude.{ℕ, ◌+◌, ◌*◌, ◌==◌, ◌≡◌, Bool, true, cond, List, [], ◌∷◌, map, length}
-use Rattle.std.specs.Int.{bit_at}
 use Rattle.cell_core.specs.declared.cells.Src.{Src}
 use Rattle.cell_core.specs.declared.cells.Cell.{Cell}
 use Rattle.cell_core.specs.Sources.{is_there, are_in_order}
 use Rattle.cell_core.specs.Meaning.{bit_in}
-
-abbrev pub word_bit : ℕ → ℕ → Bool
-word_bit word n = bit_at word n == 1
+use Rattle.lists.specs.Bits.{has_bit}
 
 -- the number that bits make, the first of them lowest
 abbrev pub bits_number : List Bool → ℕ
@@ -16,7 +13,7 @@ bits_number (bit ∷ bits) = cond bit 1 0 + 2 * bits_number bits
 
 -- what a word says where the nets have these bits
 abbrev pub table_bit : List Bool → ℕ → Bool
-table_bit bits word = word_bit word (bits_number bits)
+table_bit bits word = has_bit word (bits_number bits)
 
 -- the words say these bits
 abbrev pub ShowTables : List Bool → List ℕ → List Bool → Type 0

@@ -3,7 +3,8 @@ ghost use Rattle.std.specs.Prelude.{◌≡◌, ◌<◌, ◌≤◌, ◌||◌, ◌
 ghost use Rattle.netlist_meaning.specs.CoverValue.{fits, product_holds, any_holds, cover_value};
 ghost use Rattle.cell_core.specs.Sources.{is_there, reads_there, are_in_order};
 ghost use Rattle.cell_core.specs.Meaning.{source_bit, cell_bit, cell_bits, bit_in};
-ghost use Rattle.cover_cells.specs.Words.{word_bit, bits_number, table_bit, ShowTables, HasTable};
+ghost use Rattle.cover_cells.specs.Words.{bits_number, table_bit, ShowTables, HasTable};
+ghost use Rattle.lists.specs.Bits.{has_bit};
 
 use cell_core::{Cell, CellError, Src};
 use lists::Bytes;
@@ -20,25 +21,25 @@ pub const NETS: [u64; 6] = [
 ];
 
 fn or_words(a: u64, b: u64) -> u64
-    ensures { (n : ℕ) → word_bit result n ≡ (word_bit a n || word_bit b n) }
+    ensures { (n : ℕ) → has_bit result n ≡ (has_bit a n || has_bit b n) }
 {
     a | b
 }
 
 fn xor_words(a: u64, b: u64) -> u64
-    ensures { (n : ℕ) → word_bit result n ≡ ((word_bit a n || word_bit b n) && not (word_bit a n && word_bit b n)) }
+    ensures { (n : ℕ) → has_bit result n ≡ ((has_bit a n || has_bit b n) && not (has_bit a n && has_bit b n)) }
 {
     a ^ b
 }
 
 fn and_words(a: u64, b: u64) -> u64
-    ensures { (n : ℕ) → word_bit result n ≡ (word_bit a n && word_bit b n) }
+    ensures { (n : ℕ) → has_bit result n ≡ (has_bit a n && has_bit b n) }
 {
     a & b
 }
 
 fn and_not_words(a: u64, b: u64) -> u64
-    ensures { (n : ℕ) → n < 64 → word_bit result n ≡ (word_bit a n && not (word_bit b n)) }
+    ensures { (n : ℕ) → n < 64 → has_bit result n ≡ (has_bit a n && not (has_bit b n)) }
 {
     a & !b
 }
@@ -53,7 +54,7 @@ fn net_word(i: usize) -> u64
 
 // A product with one more column.
 fn column_word(word: u64, net: u64, character: u8) -> u64
-    ensures { (n : ℕ) → n < 64 → word_bit result n ≡ (word_bit word n && fits character (word_bit net n)) }
+    ensures { (n : ℕ) → n < 64 → has_bit result n ≡ (has_bit word n && fits character (has_bit net n)) }
 {
     match character {
         b'0' => and_not_words(word, net),

@@ -2,6 +2,8 @@ pub mod Cuts
 pub mod Found
 pub mod Rows
 pub mod Inside
-pub mod Leads
 pub mod Streamed
 pub mod Across
+pub mod Sweeps
+pub mod Still
+pub mod Last

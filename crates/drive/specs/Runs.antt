@@ -1,23 +1,37 @@
--- A pattern's run under a list of injections, and which of them are still to come.
-use Rattle.std.specs.Prelude.{◌≡◌, ◌+◌, ℕ, List}
-use Rattle.ww_rule.specs.declared.pattern.Injection.{Injection}
+-- A pattern's run in bands that are all at one generation.
+use Rattle.std.specs.Prelude.{◌≡◌, ◌≤◌, ◌<◌, ℕ, true, length, All}
 use Rattle.ww_rule.specs.Wireworld.{Plane, driven}
 use Rattle.ww_rule.specs.Grid.{plane_of}
-use Rattle.ww_rule.specs.Due.{AreLeftAt}
-use Rattle.ww_rule.specs.Injections.{due_of_list, AreInside}
+use Rattle.ww_rule.specs.Injections.{due_of_list}
+use Rattle.band_core.specs.Bands.{BandedPattern, IsBandedPattern, generation_of}
 use Rattle.drive.specs.declared.run.Run.{Run}
 
--- the injections that a run has left lie in its box
-abbrev pub IsInside : Run → Type 0
-IsInside run = AreInside run.plane.width run.plane.height run.left.now
+-- all bands have come to a generation
+abbrev pub AreAt : ℕ → BandedPattern → Type 0
+AreAt g pattern = (b : ℕ) → b < length pattern.generations → generation_of pattern b ≡ g
 
--- It is the run of a start under a list of injections.
-pub record IsRunOf (injections : List Injection) (start : Plane) (run : Run) : Type 0 where
-  pub plane : plane_of run.plane.rows ≡ driven (due_of_list injections) start run.generation
-  pub left : AreLeftAt (run.generation + 1) injections run.left.now
+-- the same pattern under the same injections, in the same bands
+pub record IsSamePattern (old new : BandedPattern) : Type 0 where
+  pub grid : new.grid ≡ old.grid
+  pub injections : new.injections ≡ old.injections
+  pub height : new.height ≡ old.height
+  pub many : length new.generations ≡ length old.generations
 
--- A run has come to a generation, whatever its start and its injections are.
-pub record LeadsTo (generation : ℕ) (run later : Run) : Type 0 where
-  pub comes : later.generation ≡ generation
-  pub inside : IsInside later
-  pub same : (injections : List Injection) (start : Plane) → IsRunOf injections start run → IsRunOf injections start later
+-- the pattern's planes, where the injections drive it
+abbrev pub evolution : BandedPattern → ℕ → Plane
+evolution pattern = driven (due_of_list pattern.injections) (plane_of pattern.grid.rows)
+
+-- What holds of each run. One that is still shows at each later generation what it shows now.
+pub record IsRun (run : Run) : Type 0 where
+  pub whole : IsBandedPattern run.bands
+  pub at : AreAt run.generation run.bands
+  pub height : run.bands.height ≡ 16
+  pub width : run.width ≡ run.bands.grid.width
+  pub rows : run.rows ≡ length run.bands.grid.rows
+  pub last : All (λ i. i.generation ≤ run.last_injection) run.bands.injections
+  pub still : run.is_still ≡ true → (g : ℕ) → run.generation ≤ g → evolution run.bands g ≡ evolution run.bands run.generation
+
+-- the same pattern under the same injections
+pub record IsSameRun (old new : Run) : Type 0 where
+  pub grid : new.bands.grid ≡ old.bands.grid
+  pub injections : new.bands.injections ≡ old.bands.injections

@@ -1,9 +1,9 @@
 // What a call answers where it gives no streams, no injections or no bits.
 ghost use Rattle.std.specs.Prelude.{◌≡◌};
 
+use band_core::BandsError;
 use lists::Bytes;
 use std::alloc::{AllocError, AllocFailed};
-use ww_rule::RuleError;
 
 /// The faults of stream words, by the names that the program prints. The first word at fault is answered, and of one
 /// word the first of these; `MissingInput` comes where no word is at fault.
@@ -91,10 +91,10 @@ impl<T: Drop> From<AllocFailed<T>> for DriveError {
     }
 }
 
-impl From<RuleError> for DriveError {
+impl From<BandsError> for DriveError {
     ghost from_gives = { λ _ e. e ≡ driving.NoMemory };
 
-    fn from(_: RuleError) -> Self {
+    fn from(_: BandsError) -> Self {
         DriveError::NoMemory
     }
 }

@@ -5,6 +5,7 @@ mod columns;
 mod driving;
 mod error;
 mod examples;
+mod moving;
 mod run;
 mod simulation;
 mod streams;

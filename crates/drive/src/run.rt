@@ -1,110 +1,108 @@
-// A pattern's run under injections, generation after generation.
-ghost use Rattle.ww_rule.specs.Due.{AreInOrderFrom, due_count};
+// A pattern's run under injections, in bands of rows that are all at one generation.
+ghost use Rattle.std.specs.Prelude.{◌≡◌, ◌≤◌, ◌<◌, ◌+◌, ◌^◌, All, IfOk, pos};
+ghost use Rattle.ww_rule.specs.Due.{AreInOrderFrom};
 ghost use Rattle.ww_rule.specs.Injections.{AreInside};
-ghost use Rattle.std.specs.Prelude.{◌≡◌, ◌≤◌, ◌<◌, ◌+◌, ◌^◌, IfOk, drop, length, map, take};
-ghost use Rattle.ww_rule.specs.Grid.{plane_of};
-ghost use Rattle.drive.specs.Runs.{IsInside, IsRunOf, LeadsTo};
+ghost use Rattle.ww_rule.specs.Patterns.{grid_of};
+ghost use Rattle.ww_rule.specs.Wireworld.{is_head};
+ghost use Rattle.drive.specs.Runs.{IsRun, IsSameRun, evolution};
 
 use crate::error::DriveError;
-use std::alloc::{AllocError, Global};
-use ww_rule::{Injection, Pattern, Plane, step_driven};
+use crate::moving::move_all;
+use band_core::Bands;
+use std::alloc::Global;
+use ww_rule::{Injection, Pattern, State};
 
-/// The plane of a generation, and the injections of the later ones, in the order of their generations.
+/// How many rows a band has.
+const BAND_ROWS: u32 = 16;
+
+/// A driven pattern in bands, how many columns and rows it has, and the generation of its bands. No injection comes after
+/// the last one's generation; where the run is still, no cell changes any more.
 #[derive(Drop)]
-pub struct Run<'a> {
-    pub plane: Plane,
+pub struct Run {
+    pub bands: Bands,
+    pub width: u64,
+    pub rows: usize,
+    pub last_injection: u128,
     pub generation: u64,
-    pub left: &'a [Injection],
+    pub is_still: bool,
 }
 
-// How many injections at the front are of a generation.
-fn due_count(generation: u128, injections: &[Injection]) -> usize
-    ensures count { result ≡ due_count generation injections.now }
-    ensures within { result ≤ length injections.now }
+// The generation of the last of injections in the order of their generations, and 0 where there are none.
+fn last_generation(injections: &[Injection]) -> u128
+    requires { AreInOrderFrom 0 injections.now }
+    ensures { All (λ i. i.generation ≤ result) injections.now }
 {
-    injections
-        .iter()
-        .take_while(|injection| injection.generation == generation)
-        .count()
+    match injections.last() {
+        Some(injection) => injection.generation,
+        None => 0,
+    }
 }
 
-// The injections at the front that are of a generation, and those after them.
-fn split_due(generation: u128, injections: &[Injection]) -> (&[Injection], &[Injection])
-    ensures due { result.0.now ≡ take (due_count generation injections.now) injections.now }
-    ensures left { result.1.now ≡ drop (due_count generation injections.now) injections.now }
-{
-    injections.split_at(due_count(generation, injections))
-}
-
-// The cells of injections.
-fn cells_of(alloc: Global, injections: &[Injection]) -> Result<Vec<(u64, u64)>, AllocError>
-    ensures { IfOk result (λ cells. cells.items ≡ map (λ i. (i.x, i.y)) injections.now) }
-{
-    injections
-        .iter()
-        .map(|injection| (injection.x, injection.y))
-        .collect(alloc)
-}
-
-impl<'a> Run<'a> {
+impl Run {
     /// The run of a pattern at generation 0.
     pub fn begin(
         alloc: Global,
         pattern: Pattern,
-        injections: &'a [Injection],
-    ) -> Result<Run<'a>, DriveError>
-        requires inside { AreInside pattern.width pattern.height injections.now }
-        requires in_order { AreInOrderFrom 0 injections.now }
+        injections: Vec<Injection>,
+    ) -> Result<Run, DriveError>
+        requires inside { AreInside pattern.width pattern.height injections.items }
+        requires in_order { AreInOrderFrom 0 injections.items }
+        ensures run { IfOk result IsRun }
         ensures begun { IfOk result (λ run. run.generation ≡ 0) }
-        ensures inside { IfOk result IsInside }
-        ensures run { IfOk result (IsRunOf injections.now (plane_of pattern.rows)) }
+        ensures grid { IfOk result (λ run. run.bands.grid ≡ grid_of pattern) }
+        ensures injections { IfOk result (λ run. run.bands.injections ≡ injections.items) }
     {
-        let Pattern {
-            width,
-            height,
-            rows,
-        } = pattern;
-        let (due, left) = split_due(0, injections);
-        let cells = cells_of(alloc, due)?;
-        let plane = Plane {
-            width,
-            height,
-            rows,
-        };
+        let width = pattern.width;
+        let rows = pattern.rows.len();
+        let last_injection = last_generation(&injections);
+        let bands = Bands::new(alloc, pattern, injections, BAND_ROWS)?;
         Ok(Run {
-            plane: plane.inject(&cells),
+            bands,
+            width,
+            rows,
+            last_injection,
             generation: 0,
-            left,
+            is_still: false,
         })
     }
 
-    // The next generation, in which the injections that are due then are the first of those that are left.
-    fn next(&self, alloc: Global) -> Result<Run<'a>, DriveError>
-        requires inside { IsInside self.now }
-        requires room { self.now.generation + 1 < 2 ^ 64 }
-        ensures { IfOk result (LeadsTo (self.now.generation + 1) self.now) }
+    // Goes on by one generation.
+    fn next(&mut self)
+        requires run { IsRun self.old }
+        requires room { self.old.generation + 1 < 2 ^ 64 }
+        ensures run { IsRun self.new }
+        ensures same { IsSameRun self.old self.new }
+        ensures comes { self.new.generation ≡ self.old.generation + 1 }
     {
-        let generation = self.generation + 1;
-        let (due, left) = split_due(generation as u128, self.left);
-        let cells = cells_of(alloc, due)?;
-        let plane = step_driven(alloc, &self.plane, &cells)?;
-        Ok(Run {
-            plane,
-            generation,
-            left,
-        })
+        let is_past = self.last_injection <= self.generation as u128;
+        let is_asleep = move_all(&mut self.bands, self.generation);
+        self.is_still = is_past & is_asleep;
+        self.generation += 1;
     }
-}
 
-/// The run at a generation that is not before its own.
-pub fn advance<'a>(alloc: Global, run: Run<'a>, generation: u64) -> Result<Run<'a>, DriveError>
-    requires inside { IsInside run }
-    requires order { run.generation ≤ generation }
-    ensures { IfOk result (LeadsTo generation run.entry) }
-{
-    let mut run = run;
-    while run.generation < generation {
-        run = run.next(alloc)?;
+    /// Goes on to a generation that is not before the run's own, or to an earlier one from which on no cell changes.
+    pub fn go_on(&mut self, generation: u64)
+        requires run { IsRun self.old }
+        requires order { self.old.generation ≤ generation }
+        ensures run { IsRun self.new }
+        ensures same { IsSameRun self.old self.new }
+        ensures order { self.new.generation ≤ generation }
+        ensures shows { evolution self.new.bands self.new.generation ≡ evolution self.new.bands generation }
+    {
+        while self.generation < generation && !self.is_still {
+            self.next();
+        }
     }
-    Ok(run)
+
+    /// Whether a cell is a head.
+    pub fn is_head(&self, x: u64, y: u64) -> bool
+        requires { IsRun self.now }
+        ensures { result ≡ is_head (evolution self.now.bands self.now.generation (pos x) (pos y)) }
+    {
+        if x >= self.width || y as usize >= self.rows {
+            return false;
+        }
+        let b = y as usize / BAND_ROWS as usize;
+        matches!(self.bands.cell(b, x, y), State::Head)
+    }
 }

@@ -1,40 +1,33 @@
-// The run of a pattern under streams, by the plain step.
-ghost use Rattle.ww_rule.specs.Wireworld.{is_head};
-ghost use Rattle.std.specs.Prelude.{◌≡◌, ◌<◌, ◌≤◌, pos, IfOk, IfErr, OnOk};
+// The bits that a pattern's outputs show under streams.
+ghost use Rattle.std.specs.Prelude.{◌≡◌, ◌<◌, ◌≤◌, IfOk, IfErr, OnOk};
 ghost use Rattle.ww_rule.specs.Grid.{AreInBox, plane_of};
 ghost use Rattle.pattern_reading.specs.Ports.{cells_of};
 ghost use Rattle.drive.specs.Driving.{AreFor, shown_row, shown_rows, shown_bits, greatest_generation, last_generation, HasSimulateCause};
+ghost use Rattle.drive.specs.Runs.{IsRun, evolution};
 
 use crate::columns::columns_of;
 use crate::driving::injections;
 use crate::error::{DriveError, SimulateError};
-use crate::run::{Run, advance};
+use crate::run::Run;
 use crate::streams::Streams;
 use lists::List;
 use pattern_reading::{PortLine, Ports};
 use std::alloc::{AllocError, Global};
-use ww_rule::{Pattern, Plane, State};
+use ww_rule::Pattern;
 
 // The most generations that a run may need.
 const GREATEST_GENERATION: u128 = 4_294_967_296;
 
-// Whether a cell is a head.
-fn is_head(plane: &Plane, x: u64, y: u64) -> bool
-    ensures { result ≡ is_head (plane_of plane.now.rows (pos x) (pos y)) }
-{
-    match plane.rows.as_slice().get(y as usize) {
-        Some(row) => matches!(row.as_slice().get(x as usize), Some(State::Head)),
-        None => false,
-    }
-}
-
 // The bits that the outputs show.
-fn shown_row(alloc: Global, plane: &Plane, outs: &[PortLine]) -> Result<Vec<bool>, AllocError>
-    ensures { IfOk result (λ row. row.items ≡ shown_row (plane_of plane.now.rows) outs.now) }
+fn shown_row(alloc: Global, run: &Run, outs: &[PortLine]) -> Result<Vec<bool>, AllocError>
+    requires { IsRun run.now }
+    ensures { IfOk result (λ row. row.items ≡ shown_row (evolution run.now.bands run.now.generation) outs.now) }
 {
-    outs.iter()
-        .map(|out| is_head(plane, out.x, out.y))
-        .collect(alloc)
+    let mut row = Vec::with_capacity(alloc, outs.len())?;
+    for out in outs {
+        row.push(run.is_head(out.x, out.y))?;
+    }
+    Ok(row)
 }
 
 // The bits that the outputs show, one row for each cycle.
@@ -50,11 +43,11 @@ fn shown_rows(
     ensures { IfOk result (λ rows. rows.items ≡ shown_rows ports.now streams.now (plane_of pattern.rows)) }
 {
     let due = injections(alloc, ports, streams)?;
-    let mut run = Run::begin(alloc, pattern, &due)?;
+    let mut run = Run::begin(alloc, pattern, due)?;
     let mut rows = Vec::new(alloc);
     for cycle in 0..streams.cycles {
-        run = advance(alloc, run, ports.l + cycle as u64 * ports.p)?;
-        rows.push(List::of(shown_row(alloc, &run.plane, ports.outs.as_slice())?))?;
+        run.go_on(ports.l + cycle as u64 * ports.p);
+        rows.push(List::of(shown_row(alloc, &run, ports.outs.as_slice())?))?;
     }
     Ok(rows)
 }
@@ -80,6 +73,10 @@ pub fn simulate(
     if generations > GREATEST_GENERATION {
         return Err(SimulateError::TooFar { generations });
     }
+    let outputs = ports.outs.len();
+    if outputs == 0 {
+        return Ok(List::of(Vec::new(alloc)));
+    }
     let rows = shown_rows(alloc, pattern, ports, streams)?;
-    Ok(columns_of(alloc, &rows, ports.outs.len())?)
+    Ok(columns_of(alloc, &rows, outputs)?)
 }

@@ -15,6 +15,7 @@ use Rattle.netlist_meaning.proofs.Roots.{joined_is_same_root}
 use Rattle.lists.proofs.Members.{In, contains_from}
 use Rattle.sound_designs.proofs.Sound.{same_of, formals_once}
 use Rattle.flat_designs.specs.Laws.{RootsAreByPins}
+use Rattle.sound_designs.proofs.OneDriver.{not_nil}
 
 -- the pin that is found names the formal
 is_found : (formal : Name) (pins : List Pin) (pin : Pin) → find (λ (p : Pin). bytes_eq p.formal formal) pins ≡ Some pin → In pin pins × (pin.formal ≡ formal)
@@ -29,10 +30,6 @@ is_found formal (first ∷ pins) pin e = by (bytes_eq first.formal formal) refl 
 goes_on : (line : Option Subckt) (n : ℕ) (p : Place) (name : Name) → p ≢ [] → out_of_line line n p name ≡ net_at (n ∷ p) name
 goes_on line n [] name some = absurd (some refl)
 goes_on line n (first ∷ p) name some = refl
-
-not_nil : (p : Place) (n : ℕ) → p ++ n ∷ [] ≢ []
-not_nil [] n e = cc
-not_nil (m ∷ p) n e = cc
 
 -- a formal that no pin names stays
 stays : (design : Design) (outer : Place) (number : ℕ) (name : Name) (model : Model) → ((inner : Model) (line : Subckt) → model_below design outer model ≡ Some inner → slice_get inner.subckts number ≡ Some line → pin_named name line ≡ None)

@@ -62,23 +62,6 @@ net_joined design faultless a b h = (joined_gives design (BothNets design) (λ x
     pinned : (outer inner : Net) → IsPinned design outer inner → BothNets design outer inner
     pinned outer inner h = ((λ n. formals_named design faultless outer inner h), (λ n. pin_outer design outer inner h))
 
--- joined nets are one, or both are nets of the design
-pub joined_nets : (design : Design) → AreFaultless design.models → (a b : Net) → Joined design a b → (a ≡ b) ⊎ (IsNet design a × IsNet design b)
-joined_nets design faultless a b h = joined_gives design (λ x y. (x ≡ y) ⊎ (IsNet design x × IsNet design y)) (λ x. inl refl) turn on pinned h
-  where
-    turn : (x y : Net) → (x ≡ y) ⊎ (IsNet design x × IsNet design y) → (y ≡ x) ⊎ (IsNet design y × IsNet design x)
-    turn x y (inl e) = inl (sym e)
-    turn x y (inr b) = inr (b.1, b.0)
-
-    on : (x y z : Net) → (x ≡ y) ⊎ (IsNet design x × IsNet design y) → (y ≡ z) ⊎ (IsNet design y × IsNet design z) → (x ≡ z) ⊎ (IsNet design x × IsNet design z)
-    on x y z (inl e) (inl f) = inl (e ∙ f)
-    on x y z (inl e) (inr b) = inr (subst (IsNet design) (sym e) b.0, b.1)
-    on x y z (inr b) (inl f) = inr (b.0, subst (IsNet design) f b.1)
-    on x y z (inr b) (inr c) = inr (b.0, c.1)
-
-    pinned : (outer inner : Net) → IsPinned design outer inner → (outer ≡ inner) ⊎ (IsNet design outer × IsNet design inner)
-    pinned outer inner h = inr (pin_outer design outer inner h, formals_named design faultless outer inner h)
-
 pub root_joined : (design : Design) → AreFaultless design.models → (net : Net) → Joined design net (root design net)
 root_joined design faultless net = (roots_are_nearest design (formals_once design faultless)).joined net
 

@@ -34,9 +34,9 @@ use Rattle.netlist_rules.specs.FlatClocks.{IsFlatClockFault, by_node, by_data, b
 use Rattle.flat_designs.proofs.Lists.{in_some_map}
 use Rattle.flat_designs.proofs.Names.{output_name, clock_name, cover_name, latch_name, is_net_of}
 use Rattle.flat_designs.proofs.Classes.{net_there, flat_net_at, class_is, class_joined, joined_class}
-use Rattle.flat_designs.proofs.Valuations.{is_placed, in_port_net, port_kept}
+use Rattle.flat_designs.proofs.Valuations.{is_placed, in_port_net, port_kept, latches_of}
 use Rattle.flat_designs.proofs.Indices.{IsIndex, At, at_of, index_of, index_less, one_index}
-use Rattle.flat_designs.proofs.Clocks.{latches_of, latch_is, latch_here, control_net, control_class, clock_class, port_class, has_port_class, SameClock}
+use Rattle.flat_designs.proofs.Clocks.{latch_is, latch_here, control_net, control_class, clock_class, port_class, has_port_class, SameClock}
 use Rattle.flat_designs.proofs.Sound.{main_net, LatchIs, latch_of, CoverIs, cover_of}
 
 -- a clock net is of a clock class

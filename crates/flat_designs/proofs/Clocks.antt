@@ -28,12 +28,9 @@ use Rattle.netlist_meaning.specs.Flat.{class_of, IsClockClass, port_classes}
 use Rattle.netlist_meaning.specs.FlatOf.{id_of, class_of_net, flat_latch, flat_port, IsFlatOf}
 use Rattle.flat_designs.proofs.Names.{latch_name, clock_name, is_net_of, main_port}
 use Rattle.flat_designs.proofs.Classes.{class_is, class_joined, joined_class}
-use Rattle.flat_designs.proofs.Valuations.{port_kept}
+use Rattle.flat_designs.proofs.Valuations.{port_kept, latches_of}
 use Rattle.flat_designs.proofs.Indices.{IsIndex, At, at_of, index_of, index_less}
 use Rattle.flat_designs.proofs.Ports.{not_control, kept_or_control}
-
-abbrev pub latches_of : Model → List LatchRow
-latches_of m = m.latches
 
 -- a latch of a place
 pub latch_is : (design : Design) (place : Place) (number : ℕ) (l : LatchRow) → latch_at design place number ≡ Some l → (m : Model) × (model_at design place ≡ Some m) × (slice_get m.latches number ≡ Some l)

@@ -109,13 +109,12 @@ pub map_flat : {X Y Z : Type 0} (g : Y → Z) (f : X → List Y) (h : X → List
 map_flat g f h [] same = refl
 map_flat g f h (x ∷ xs) same = map-append g (f x) (flat_map f xs) ∙ ap₂ (λ a b. a ++ b) (same x (inl refl)) (map_flat g f h xs (λ y i. same y (inr i)))
 
-tail : {X : Type 0} → List X → List X
+abbrev pub tail : {X : Type 0} → List X → List X
 tail [] = []
 tail (x ∷ xs) = xs
 
 -- joined lists of equal lengths are equal part by part
 append_same : {X : Type 0} (xs ys zs ws : List X) → length xs ≡ length zs → xs ++ ys ≡ zs ++ ws → (xs ≡ zs) × (ys ≡ ws)
-unfolding tail
 append_same [] ys [] ws l e = (refl, e)
 append_same [] ys (z ∷ zs) ws l e = absurd (omega arith)
 append_same (x ∷ xs) ys [] ws l e = absurd (omega arith)

@@ -12,7 +12,7 @@ use Rattle.sound_designs.proofs.Sound.{same_of}
 use Rattle.sound_designs.proofs.Driven.{got_from}
 use Rattle.netlist_meaning.specs.InOrder.{put_by_line, by_line, cons_when, words_on_line, cons_unless, without_name, first_names}
 use Rattle.flat_designs.specs.Laws.{StandByLine, WordsStandByLine, append_unless, NamesComeWhereFirst}
-use Rattle.flat_designs.proofs.Lists.{Pairs, all_pairs}
+use Rattle.flat_designs.proofs.Lists.{Pairs, all_pairs, tail}
 use Rattle.flat_designs.proofs.Listed.{in_put}
 
 pairs_of_all : {X : Type 0} (R : X → X → Type 0) (xs : List X) → AllPairs R xs → Pairs R xs
@@ -90,17 +90,12 @@ same_line p = (Decides-eqb p.line p.line).1 refl
 head_on_line : (p : Port) (words : List Port) → words_on_line p.line (p ∷ words) ≡ p ∷ words_on_line p.line words
 head_on_line p words = ap (λ b. cons_when b p (words_on_line p.line words)) (same_line p)
 
-tail : {X : Type 0} → List X → List X
-tail [] = []
-tail (x ∷ xs) = xs
-
 first_up_to : (x : Port) (xs : List Port) → Pairs UpTo (x ∷ xs) → (p : Port) → In p (x ∷ xs) → x.line ≤ p.line
 first_up_to x xs h p (inl e) = let s : p.line ≡ x.line = ap (λ (v : Port). v.line) e in omega arith
 first_up_to x xs h p (inr i) = h.0 p i
 
 -- lists by line with the same words on each line are one
 one_by_line : (xs ys : List Port) → Pairs UpTo xs → Pairs UpTo ys → ((line : ℕ) → words_on_line line xs ≡ words_on_line line ys) → xs ≡ ys
-unfolding tail
 one_by_line [] [] h k same = refl
 one_by_line [] (y ∷ ys) h k same = let e : [] ≡ y ∷ words_on_line y.line ys = same y.line ∙ head_on_line y ys in absurd (cc)
 one_by_line (x ∷ xs) [] h k same = let e : x ∷ words_on_line x.line xs ≡ [] = sym (head_on_line x xs) ∙ same x.line in absurd (cc)

@@ -12,7 +12,6 @@ use Rattle.netlist_rules.specs.Drivers.{same_name_up_to, same_name_before, stand
 use Rattle.netlist_rules.specs.ModelFaults.{AreFaultless, doubles_after, is_output_before, is_input_by_then}
 use Rattle.lists.proofs.Members.{In}
 use Rattle.sound_designs.proofs.Local.{not_any, not_up_to, not_before}
-use Rattle.sound_designs.proofs.Sources.{none_kept}
 use Rattle.lists.proofs.Bools.{or_false_left as first_of, or_false_right as second_of}
 use Rattle.lists.proofs.Appends.{append_nil_left as none_left, append_nil_right as none_right}
 use Rattle.sound_designs.proofs.Driven.{clean_of}
@@ -20,6 +19,7 @@ use Rattle.netlist_meaning.specs.FlatOf.{PortsWithoutControl, kept, left_out}
 use Rattle.flat_designs.proofs.Lists.{Pairs, pair_at, pairs_map}
 use Rattle.netlist_core.specs.Names.{Name, port_names}
 use Rattle.flat_designs.proofs.Valuations.{port_kept}
+use Rattle.netlist_rules.proofs.Faultless.{none_kept}
 
 abbrev pub OtherName : Port → Port → Type 0
 OtherName p q = q.name ≢ p.name

@@ -37,12 +37,12 @@ use Rattle.flat_designs.proofs.Lists.{Pairs, all_of, in_some_map}
 use Rattle.flat_designs.proofs.Listed.{net_is}
 use Rattle.flat_designs.proofs.Names.{output_name, clock_name, cover_name, latch_name, is_net_of, main_port}
 use Rattle.flat_designs.proofs.Classes.{net_there, flat_net_at, class_is, class_joined, joined_class, root_is_net}
-use Rattle.flat_designs.proofs.Valuations.{port_kept, in_port_net, placed, NodeIs, node_is, is_node}
+use Rattle.flat_designs.proofs.Valuations.{port_kept, in_port_net, placed, NodeIs, node_is, is_node, latches_of}
 use Rattle.flat_designs.proofs.Indices.{IsIndex, At, at_of, one_index, index_of}
 use Rattle.flat_designs.proofs.Ports.{OtherName, inputs_apart, kept_apart, kept_or_control, one_port}
 use Rattle.flat_designs.proofs.Weights.{nodes_within}
 use Rattle.netlist_meaning.specs.Weight.{weight}
-use Rattle.flat_designs.proofs.Clocks.{latches_of, control_class, clock_class, has_port_class, in_port_no_clock}
+use Rattle.flat_designs.proofs.Clocks.{control_class, clock_class, has_port_class, in_port_no_clock}
 use Rattle.lists.proofs.Appends.{slice_get_push as at_end}
 
 abbrev DesignNet : Design → Net → Type 0

@@ -36,8 +36,9 @@ use Rattle.flat_designs.specs.Laws.{latch_bits_from, state_in_order, bit_of_net,
 use Rattle.flat_designs.proofs.Lists.{map_in, map_flat, flat_same}
 use Rattle.flat_designs.proofs.Listed.{place_is, place_listed}
 use Rattle.flat_designs.proofs.Names.{input_name, cover_name, latch_name, is_net_of, main_port}
-use Rattle.flat_designs.proofs.Classes.{net_there, class_is, joined_class, joined_nets, root_joined, root_is_net}
+use Rattle.flat_designs.proofs.Classes.{net_there, class_is, joined_class, root_joined, root_is_net}
 use Rattle.lists.proofs.Appends.{slice_get_push as at_end}
+use Rattle.sound_designs.proofs.Exists.{joined_nets}
 
 -- IN ports have the IN names
 pub ports_names : (design : Design) (ports rest : List Port) → PortsWithoutControl design ports rest → WithoutControl design (port_names ports) (port_names rest)
@@ -106,7 +107,7 @@ length_bits : (state : ℕ → Bool) (first : ℕ) (latches : List LatchRow) →
 length_bits state first [] = refl
 length_bits state first (l ∷ latches) = ap suc (length_bits state (suc first) latches)
 
-abbrev latches_of : Model → List LatchRow
+abbrev pub latches_of : Model → List LatchRow
 latches_of m = m.latches
 
 -- a bit for each flat latch is that for each latch of each place

@@ -21,7 +21,6 @@ use Rattle.netlist_meaning.specs.Nets.{net_at}
 use Rattle.netlist_core.specs.OwnWeight.{port_weight, literals, cover_weight, own_weight}
 use Rattle.netlist_meaning.specs.Weight.{of_model, weight_below, weight}
 use Rattle.lists.proofs.Names.{bytes_eq-same, names_are_equal}
-use Rattle.netlist_meaning.proofs.InNames.{any_at}
 use Rattle.netlist_meaning.proofs.Depth.{places_are_shallow}
 use Rattle.netlist_rules.specs.Drivers.{is_output_pin}
 use Rattle.netlist_rules.specs.ModelFaults.{AreFaultless}
@@ -45,10 +44,9 @@ use Rattle.flat_designs.proofs.Lists.{all_pairs}
 use Rattle.flat_designs.proofs.Listed.{name_is, names_once}
 use Rattle.flat_designs.proofs.Indices.{row}
 use Rattle.lists.proofs.Sums.{sum_by-map, sum_by-same}
-
--- sums
-both : (a b c d : ℕ) → a ≡ c → b ≡ d → a + b ≡ c + d
-both a b c d e f = omega arith
+use Rattle.std.proofs.lemmas.Map.Keys.{any_passes_from_place as any_at}
+use Rattle.sound_designs.proofs.Sound.{one_pin}
+use Rattle.netlist_meaning.proofs.Places.{both}
 
 -- the sum of a number of models, over a model and all those below it
 total : Design → (Model → ℕ) → ℕ → Model → ℕ
@@ -204,13 +202,6 @@ output_count design line = of_model (λ (m : Model). length m.outs) (model_named
 
 sources : Design → Model → List Name
 sources design m = port_names m.ins ++ port_names (other_clocks m.ins m.clocks) ++ map (λ (c : Cover). c.out) m.covers ++ map (λ (l : LatchRow). l.output) m.latches ++ flat_map (λ line. outputs_on line (model_named design.models line.model)) m.subckts
-
-one_pin : (pins : List Pin) (p q : Pin) → Distinct (map (λ (pin : Pin). pin.formal) pins) → In p pins → In q pins → p.formal ≡ q.formal → p ≡ q
-one_pin [] p q d i j e = absurd i
-one_pin (x ∷ xs) p q d (inl a) (inl b) e = a ∙ sym b
-one_pin (x ∷ xs) p q d (inl a) (inr b) e = absurd (d.0 (subst (λ v. In v (map (λ (pin : Pin). pin.formal) xs)) (sym e ∙ ap (λ (pin : Pin). pin.formal) a) (in_map (λ (pin : Pin). pin.formal) xs q b)))
-one_pin (x ∷ xs) p q d (inr a) (inl b) e = absurd (d.0 (subst (λ v. In v (map (λ (pin : Pin). pin.formal) xs)) (e ∙ ap (λ (pin : Pin). pin.formal) b) (in_map (λ (pin : Pin). pin.formal) xs p a)))
-one_pin (x ∷ xs) p q d (inr a) (inr b) e = one_pin xs p q d.1 a b e
 
 found : (formal : Name) (pins : List Pin) (pin : Pin) → In pin pins → pin.formal ≡ formal → (other : Pin) × (find (λ (p : Pin). bytes_eq p.formal formal) pins ≡ Some other) × In other pins × (other.formal ≡ formal)
 found formal [] pin i same = absurd i

@@ -23,7 +23,8 @@ use Rattle.netlist_eval.proofs.Valuations.{one_valuation}
 use Rattle.netlist_meaning.specs.InOrder.{nets_in_order}
 use Rattle.netlist_meaning.specs.FlatOf.{position_of, id_of, class_of_net, flat_net, flat_node, flat_latch, flat_port, at_places, first_control, PortsWithoutControl, IsFlatOf}
 use Rattle.netlist_core.specs.declared.flat.Net.{Net as FlatNet}
-use Rattle.flat_designs.specs.Laws.{class_bits, net_bits, state_in_order, FlatIsThere, FlatIsOne, names_of_ports, AreMainPorts, HasFlatPorts, PortsAreFlat, DesignsHaveOneValuation, CyclesAreFlat, FlatIsNamed}
+use Rattle.flat_designs.specs.Laws.{class_bits, net_bits, state_in_order, FlatIsThere, FlatIsOne, AreMainPorts, HasFlatPorts, PortsAreFlat, DesignsHaveOneValuation, CyclesAreFlat, FlatIsNamed}
+use Rattle.netlist_meaning.specs.Flat.{names_of_ports}
 use Rattle.flat_designs.proofs.Lists.{all_of, map_in, Pairs, all_pairs}
 use Rattle.flat_designs.proofs.Ports.{OtherName, inputs_apart, outputs_apart, kept_apart, names_apart}
 use Rattle.flat_designs.proofs.Names.{output_name, clock_name}

@@ -18,7 +18,7 @@ use Rattle.netlist_core.specs.OwnWeight.{rows_weight}
 use Rattle.netlist_rules.specs.ModelFaults.{AreFaultless}
 use Rattle.netlist_core.specs.declared.flat.Flat.{Flat}
 use Rattle.netlist_core.specs.declared.flat.FlatPort.{FlatPort}
-use Rattle.netlist_meaning.specs.Flat.{IsNamed, IsWeighed, IsSound, class_of, no_net}
+use Rattle.netlist_meaning.specs.Flat.{names_of_ports, IsNamed, IsWeighed, IsSound, class_of, no_net}
 use Rattle.netlist_meaning.specs.FlatOrder.{IsFlatLoop, IsFirstOfClass, IsOrder}
 use Rattle.netlist_meaning.specs.FlatValuation.{IsFlatValuation, IsCycle}
 use Rattle.netlist_meaning.specs.InOrder.{of_some, places_in_order, by_line, words_on_line, first_names, names_in_order, nets_in_order}
@@ -136,10 +136,6 @@ FlatIsThere = (design : Design) → AreFaultless design.models → (flat : Flat)
 -- and is one
 abbrev pub FlatIsOne : Type 0
 FlatIsOne = (design : Design) (flat other : Flat) → IsFlatOf design flat → IsFlatOf design other → flat ≡ other
-
--- ports by the names and places of their nets
-abbrev pub names_of_ports : Flat → List FlatPort → List Name
-names_of_ports flat ports = map (λ port. (get_or flat.nets port.net.0 no_net).name) ports
 
 abbrev pub AreMainPorts : Flat → List FlatPort → Type 0
 AreMainPorts flat ports = All (λ port. (get_or flat.nets port.net.0 no_net).place ≡ []) ports

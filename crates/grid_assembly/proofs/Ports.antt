@@ -6,14 +6,11 @@ use Rattle.tile_core.specs.Drawing.{is_cell_of}
 use Rattle.tile_core.specs.Interface.{cell_at, chosen}
 use Rattle.tile_core.specs.Kinds.{interface, entries, exits}
 use Rattle.tiling.specs.Tiling.{Lit, is_entry_lit, is_exit_lit, heads_of, tails_of}
+use Rattle.std.proofs.Math.Bool.{or-false as or_false}
 
 -- a place is that of a port
 abbrev pub is_at : ℕ → ℕ → ℕ × ℕ → Bool
 is_at x y port = int_eq (pos x) (pos port.0) && int_eq (pos y) (pos port.1)
-
-or_false : (b : Bool) → (b || false) ≡ b
-or_false true = refl
-or_false false = refl
 
 pair : (x y : ℕ) (c d : ℕ × ℕ) (a b : Bool) → is_cell_of (pos x) (pos y) (chosen (cell_at c ∷ cell_at d ∷ []) (a ∷ b ∷ [])) ≡ ((a && is_at x y c) || (b && is_at x y d))
 pair x y c d true true = ap (λ v. is_at x y c || v) (or_false (is_at x y d))

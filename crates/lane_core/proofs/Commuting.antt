@@ -41,7 +41,7 @@ found i j apart l =
     differ' (inl h) = (omega arith, omega arith)
     differ' (inr h) = (omega arith, omega arith)
 
-turned : (i j : Instr) → AreApart i j → AreApart j i
+pub turned : (i j : Instr) → AreApart i j → AreApart j i
 turned i j (inl h) = inr h
 turned i j (inr h) = inl h
 

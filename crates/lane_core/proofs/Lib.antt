@@ -1,3 +1,4 @@
 pub mod Lookup
 pub mod Commuting
 pub mod Dark
+pub mod Lengths

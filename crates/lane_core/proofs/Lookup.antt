@@ -1,10 +1,12 @@
 -- Where the instruction on a lane stands among sorted instructions.
 use Rattle.std.proofs.Common.{◌≡◌, refl, sym, ◌∙◌, ap, ℕ, zero, suc, ◌+◌, ◌<◌, ◌≤◌, true, false, cond, List, [], ◌∷◌, length, get_or, Some, None, inl, arith}
-use Rattle.std.specs.Prelude.{IsTrue, find, AllPairs}
+use Rattle.std.specs.Prelude.{IsTrue, find, All, AllPairs}
 use Rattle.std.specs.List.{list_all, AllWithin}
 use Rattle.std.specs.List.Sorted.{IsNonDecreasingBy}
 use Rattle.std.proofs.lemmas.Bool.Decides.{nat_tests}
 use Rattle.lane_core.specs.declared.instr.Instr.{Instr}
+use Rattle.lane_core.specs.declared.instr.Column.{Column}
+use Rattle.lane_core.specs.Columns.{IsColumnApart}
 use Rattle.lane_core.specs.Instrs.{lane_of, is_above, are_sorted_apart, is_on, instr_on, AreApart}
 use Rattle.lists.proofs.Bools.{and_true_left as and_left, and_true_right as and_right}
 
@@ -93,3 +95,7 @@ apart_from_sorted (x ∷ xs) h zero (suc j) d order within =
 apart_from_sorted (x ∷ xs) h (suc i) zero d order within = absurd (omega arith)
 apart_from_sorted (x ∷ xs) h (suc i) (suc j) d order within =
     apart_from_sorted xs (and_right (list_all (is_above x) xs) (are_sorted_apart xs) h) i j d (omega arith) (omega arith)
+
+-- the instructions of a column share no lane, by its type
+pub columns_apart : (columns : List Column) → All IsColumnApart columns
+columns_apart columns k d h = apart_from_sorted (get_or columns k d).instrs (get_or columns k d).sorted_apart

@@ -8,7 +8,8 @@ use Rattle.std.specs.Int.RustNames.{bit_and, bit_or, bit_xor}
 use Rattle.ww_rule.specs.declared.pattern.State.{State}
 use Rattle.ww_rule.specs.declared.pattern.State.TheVariants.{Empty}
 use Rattle.ww_rule.specs.Wireworld.{count_head, heads_around, next_plane, next_state}
-use Rattle.lane_kernel.specs.Rows.{has_bit, is_set, state_of, row_state, plane_of_rows, AreDisjoint}
+use Rattle.lane_kernel.specs.Rows.{is_set, state_of, row_state, plane_of_rows, AreDisjoint}
+use Rattle.lists.specs.Bits.{has_bit}
 use Rattle.lane_kernel.specs.Words.{ones_of, twos_of, from_west, from_east, before, new_heads_of, new_wires_of, heads_word, wires_word}
 use Rattle.lane_kernel.proofs.Bits.{differ, odd, most, ones_bit, twos_bit, fires_bit, and_bit, or_bit, xor_bit, no_bit, west_bit, east_bit, west_is, east_is, not_last, fire_bit}
 use Rattle.lane_kernel.proofs.Counting.{num, total, counts, count_is, next_is, no_clash, clash}

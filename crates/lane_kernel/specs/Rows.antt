@@ -5,10 +5,7 @@ use Rattle.ww_rule.specs.declared.pattern.State.{State}
 use Rattle.ww_rule.specs.declared.pattern.State.TheVariants.{Empty, Head, Tail, Conductor}
 use Rattle.ww_rule.specs.Wireworld.{Plane}
 use Rattle.ww_rule.specs.Grid.{framed}
-
--- is bit i of a word set?
-abbrev pub has_bit : ℕ → ℕ → Bool
-has_bit word i = bit_at word i == 1
+use Rattle.lists.specs.Bits.{has_bit}
 
 -- is the bit of a cell set? Beyond the words there is none.
 abbrev pub is_set : List ℕ → ℕ → Bool

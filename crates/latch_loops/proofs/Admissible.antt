@@ -23,6 +23,7 @@ use Rattle.latch_loops.specs.Places.{last_of, column_of_place, closed_place}
 use Rattle.latch_loops.specs.Closed.{IsPadded, least_size, IsClosed, DoesAsProgram}
 use Rattle.latch_loops.proofs.Padding.{IsEmpty, padded_after}
 use Rattle.latch_loops.proofs.Uses.{used_in_columns, place_bits}
+use Rattle.lane_core.proofs.Lookup.{columns_apart as all_apart}
 
 all_of : (b : Bool) (P : Instr → Type 0) (x : Instr) (rest : List Instr) → P x → All P rest → All P (cond b (x ∷ rest) rest)
 all_of true P x rest p all = All-cons P x rest p all
@@ -45,9 +46,6 @@ padded_on_lanes : (lanes least : ℕ) (instrs : List Instr) (columns padded : Li
 padded_on_lanes lanes least instrs columns padded k p all =
     subst (All (IsColumnOnLanes lanes)) (sym p.is)
     (All-append (IsColumnOnLanes lanes) columns p.more (columns_on_lanes lanes instrs columns k all) (empty_on_lanes lanes p.more p.empty))
-
-all_apart : (columns : List Column) → All IsColumnApart columns
-all_apart columns c d within = apart_from_sorted (get_or columns c d).instrs (get_or columns c d).sorted_apart
 
 -- without lanes there are no instructions, and so no columns
 no_columns : (instrs : List Instr) (columns : List Column) → IsPacked instrs columns → All (IsOnLanes 0) instrs → length columns ≡ 0

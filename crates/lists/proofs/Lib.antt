@@ -4,3 +4,4 @@ pub mod Results
 pub mod Bools
 pub mod Appends
 pub mod Sums
+pub mod Ends

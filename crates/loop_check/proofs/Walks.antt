@@ -6,13 +6,11 @@ use Rattle.loop_check.specs.declared.walk.Mark.{Mark}
 use Rattle.loop_check.specs.declared.walk.Mark.TheVariants.{Unseen, Open, Done}
 use Rattle.netlist_meaning.specs.FlatOrder.{IsDrivenBy}
 use Rattle.loop_check.specs.Walk.{AreDoneWithin, IsDone, mark_of, IsWalk}
+use Rattle.std.proofs.lemmas.Bool.{cases_eq as equal_or_not}
 
 -- a mark is the new one, or as before
 MarkAfter : List Mark → ℕ → Mark → ℕ → Type 0
 MarkAfter marks n mark m = ((m ≡ n) × (mark_of (set marks n mark) m ≡ mark)) ⊎ ((m ≢ n) × (mark_of (set marks n mark) m ≡ mark_of marks m))
-
-equal_or_not : (a b : ℕ) → (a ≡ b) ⊎ (a ≢ b)
-equal_or_not a b = grind arith
 
 mark_after : (marks : List Mark) (n : ℕ) (mark : Mark) (m : ℕ) → n < length marks → MarkAfter marks n mark m
 unfolding MarkAfter

@@ -12,6 +12,7 @@ use Rattle.lane_core.specs.Plans.{IsAdmissible}
 use Rattle.lane_core.specs.Entering.{first_loop_lane}
 use Rattle.plan_layout.specs.Starts.{start_edges}
 use Rattle.macro_grid.specs.Edges.{edge_columns, edge_lanes}
+use Rattle.std.proofs.Math.Bool.{and-false as and_false}
 
 -- where the bit at each place is the test's at its row and column, and the test fails beyond, all agree
 pub bits_read : (width height : ℕ) (bits : List Bool) (test : ℕ → ℕ → Bool) → length bits ≡ width * height
@@ -39,10 +40,6 @@ pub starts_right : (plan : Plan) (q l : ℕ) → edge_columns plan ≤ q → sta
 starts_right plan q l far =
     let no : (q == plan.latches) ≡ false = grind (arith, nat_tests) in
     ap (λ b. b && nat_le (first_loop_lane plan.lanes plan.latches) l && get_or plan.starts (l - first_loop_lane plan.lanes plan.latches) false) no
-
-pub and_false : (b : Bool) → (b && false) ≡ false
-and_false true = refl
-and_false false = refl
 
 pub starts_below : (plan : Plan) → IsAdmissible plan → (q l : ℕ) → edge_lanes plan ≤ l → start_edges plan (Beside q l) ≡ false
 starts_below plan h q l far =

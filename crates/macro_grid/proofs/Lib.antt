@@ -1,4 +1,3 @@
-pub mod Columns
 pub mod Spans
 pub mod Bits
 pub mod Steps

@@ -16,6 +16,7 @@ use Rattle.tiling.specs.Tiling.{Slot, Tiling, Lit}
 use Rattle.tiling.specs.Tiling.Edge.{Beside, Above}
 use Rattle.tiling.specs.MacroStep.{macro_step, slot_answers}
 use Rattle.tiling.proofs.AtEdges.{beside_first, beside_next, above_first, above_next}
+use Rattle.plan_layout.proofs.Columns.{by_column-right}
 
 -- one of two answers, where the first one decides
 pub answered : (r m a b : Bool) → m ≡ (a || b) → r ≡ a → r ≡ true → r ≡ m
@@ -35,12 +36,6 @@ turn_slot-far : (loops away off : ℕ) (along corner across : Kind) → loops �
 turn_slot-far loops away off along corner across far =
     let no : ltb away loops ≡ false = grind (arith, nat_tests) in
     ap (λ b. cond (b && ltb off loops) (Whole (Tile (cond (ltb away off) along (cond (away == off) corner across)))) Nothing) no
-
-by_column-right : (plan : Plan) (q : ℕ) (a b c : Slot) → end_of_body plan ≤ q → by_column plan q a b c ≡ c
-by_column-right plan q a b c far =
-    let no : ltb q plan.latches ≡ false = grind (arith, nat_tests) in
-    let no' : ltb q (end_of_body plan) ≡ false = grind (arith, nat_tests) in
-    ap (λ t. cond t a (cond (ltb q (end_of_body plan)) b c)) no ∙ ap (λ t. cond t b c) no'
 
 upper_right-far : (plan : Plan) (q l : ℕ) → end_of_body plan + plan.latches + 1 ≤ q → upper_right plan q l ≡ Nothing
 upper_right-far plan q l far =

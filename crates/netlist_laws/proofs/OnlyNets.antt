@@ -24,10 +24,11 @@ use Rattle.netlist_laws.specs.Laws.{WiredDesignsHaveNets}
 use Rattle.netlist_meaning.proofs.Names.{and_then-from}
 use Rattle.lists.proofs.Names.{bytes_eq-same}
 use Rattle.std.proofs.lemmas.Bool.{or_left, or_right}
-use Rattle.netlist_meaning.proofs.InNames.{any_at, root_of_top}
+use Rattle.netlist_meaning.proofs.InNames.{root_of_top}
 use Rattle.netlist_meaning.proofs.Joined.{pins_are_enough, no_clock_net-joined}
 use Rattle.netlist_meaning.proofs.Roots.{joined_is_same_root}
 use Rattle.lists.proofs.Appends.{slice_get_push as at_end}
+use Rattle.std.proofs.lemmas.Map.Keys.{any_passes_from_place as any_at}
 
 -- is the name one of these?
 has : List Name → Name → Bool

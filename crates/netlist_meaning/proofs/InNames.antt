@@ -17,12 +17,7 @@ use Rattle.netlist_meaning.proofs.Names.{and_then-from}
 use Rattle.std.proofs.lemmas.Bool.{and_parts, and_from, or_left, or_right, or_cases as either}
 use Rattle.netlist_meaning.proofs.Roots.{joined_is_same_root}
 use Rattle.netlist_meaning.proofs.Depth.{weight_is_sum_over_all}
-
--- an element that passes is found, and what is found is one that passes
-pub any_at : {X : Type 0} (test : X → Bool) (xs : List X) (k : ℕ) (x : X) → slice_get xs k ≡ Some x → test x ≡ true → list_any test xs ≡ true
-any_at test [] k x e t = absurd (none-some x e)
-any_at test (y ∷ xs) zero x e t = or_left (test y) _ (ap test (same_Some _ _ e) ∙ t)
-any_at test (y ∷ xs) (suc k) x e t = or_right (test y) _ (any_at test xs k x e t)
+use Rattle.std.proofs.lemmas.Map.Keys.{any_passes_from_place as any_at}
 
 any_gives : {X : Type 0} (test : X → Bool) (xs : List X) → list_any test xs ≡ true → (k : ℕ) × (x : X) × (slice_get xs k ≡ Some x) × (test x ≡ true)
 any_gives test [] e = absurd (true≢false (sym e))

@@ -40,7 +40,7 @@ in_lines design top lines (number ∷ place) = option_and_then (model_below desi
 abbrev one_if : Bool → ℕ
 one_if b = cond b 1 0
 
-both : (a b c d : ℕ) → a ≡ c → b ≡ d → a + b ≡ c + d
+pub both : (a b c d : ℕ) → a ≡ c → b ≡ d → a + b ≡ c + d
 both a b c d e f = omega arith
 
 sum_by-none : {A : Type 0} (f : A → ℕ) (xs : List A) → ((x : A) → f x ≡ 0) → sum_by f xs ≡ 0

@@ -98,10 +98,14 @@ pub record IsWeighed (flat : Flat) : Type 0 where
   pub parts : length flat.ins + length flat.outs + 2 * length flat.latches + sum_by (λ node. rows_weight node.rows) flat.nodes ≤ flat.weight
   pub few : flat.weight < 2 ^ 31
 
+-- the names of ports, in order
+abbrev pub names_of_ports : Flat → List FlatPort → List Name
+names_of_ports flat ports = map (λ port. name_of_net flat port.net) ports
+
 -- ports of the main model, with distinct names
 pub record AreNamedPorts (flat : Flat) (ports : List FlatPort) : Type 0 where
   pub main : All (λ port. (get_or flat.nets port.net.0 no_net).place ≡ []) ports
-  pub distinct : AllPairs (λ a b. a ≢ b) (map (λ port. name_of_net flat port.net) ports)
+  pub distinct : AllPairs (λ a b. a ≢ b) (names_of_ports flat ports)
 
 -- The names of inputs are distinct, and so are those of outputs: so a table of them can be read back.
 pub record IsNamed (flat : Flat) : Type 0 where

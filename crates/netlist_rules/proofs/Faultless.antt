@@ -23,12 +23,12 @@ use Rattle.netlist_rules.proofs.FirstModelFaults.{no_model_fault}
 use Rattle.netlist_rules.proofs.CircleSearch.{simple_way, IsSimpleWay, circle_or_none}
 use Rattle.lists.proofs.Appends.{append_nil_left as nothing_left, append_nil_right as nothing_right}
 
-nothing_of : {X Y : Type 0} (f : X → List Y) (xs : List X) (x : X) → flat_map f xs ≡ [] → In x xs → f x ≡ []
+pub nothing_of : {X Y : Type 0} (f : X → List Y) (xs : List X) (x : X) → flat_map f xs ≡ [] → In x xs → f x ≡ []
 nothing_of f [] x e i = absurd i
 nothing_of f (z ∷ zs) x e (inl same) = ap f same ∙ nothing_left (f z) (flat_map f zs) e
 nothing_of f (z ∷ zs) x e (inr later) = nothing_of f zs x (nothing_right (f z) (flat_map f zs) e) later
 
-none_kept : (b : Bool) (p : Port) → option_to_list (then_some b p) ≡ [] → b ≡ false
+pub none_kept : (b : Bool) (p : Port) → option_to_list (then_some b p) ≡ [] → b ≡ false
 none_kept true p e = absurd (cc)
 none_kept false p e = refl
 
@@ -64,7 +64,7 @@ formals_new line names (pin ∷ pins) e =
       λ name i. elim i as (λ _. ¬ (In name names)) [ inl same ↦ subst (λ v. ¬ (In v names)) (sym same) new | inr later ↦ (λ j. rest.1 name later (inr j)) ],
     )
 
-some_models : (models : List Model) → AreFaultless models → models ≢ []
+pub some_models : (models : List Model) → AreFaultless models → models ≢ []
 some_models [] a e = let h : model_fault [] ≡ None = a.no_fault in cc
 some_models (m ∷ ms) a e = cc
 

@@ -28,7 +28,7 @@ joined : (P : Port → Type 0) (xs : List Port) (x : Port) (ys : List Port) → 
 joined P [] x ys a h b = (h, b)
 joined P (z ∷ zs) x ys a h b = (a.0, joined P zs x ys a.1 h b)
 
-none_empty : (ports : List Port) → earliest ports ≡ None → ports ≡ []
+pub none_empty : (ports : List Port) → earliest ports ≡ None → ports ≡ []
 none_empty [] e = refl
 none_empty (p ∷ ports) e = by (earliest ports) e
   where

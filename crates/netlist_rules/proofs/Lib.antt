@@ -1,5 +1,4 @@
 pub mod FaultKinds
-pub mod Bools
 pub mod ModelSteps
 pub mod CircleLemmas
 pub mod CircleSearch

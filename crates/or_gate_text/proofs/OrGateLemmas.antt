@@ -13,6 +13,8 @@ use Rattle.or_gate_text.specs.OrGate.{IsPlainName, is_name_byte, or_gate_text, o
 use Rattle.blif_text.proofs.Texts.{is_special, lines_from, logical, logical-cut, none-append, words-cut, words-whole}
 use Rattle.netlist_rules.proofs.CircleLemmas.{no_circle}
 use Rattle.lists.proofs.Bools.{and_true_left as and_left, and_true_right as and_right}
+use Rattle.lists.proofs.Names.{bytes_eq-other as apart}
+use Rattle.lists.proofs.Names.{bytes_eq-same as same}
 
 abbrev pub or_lines : List ℕ → List ℕ → List ℕ → List ℕ → List Logical
 or_lines m a b y = logical 1 (codes ".model" ∷ m ∷ []) ∷ logical 2 (codes ".inputs" ∷ a ∷ b ∷ []) ∷ logical 3 (codes ".outputs" ∷ y ∷ []) ∷ logical 4 (codes ".names" ∷ a ∷ b ∷ y ∷ [])
@@ -83,16 +85,6 @@ or_lines-models m a b y = refl
 
 or_model-fault : (m a b y : List ℕ) → bytes_eq a b ≡ false → bytes_eq b a ≡ false → bytes_eq a y ≡ false → bytes_eq y a ≡ false → bytes_eq b y ≡ false → bytes_eq y b ≡ false → bytes_eq a a ≡ true → bytes_eq b b ≡ true → bytes_eq y y ≡ true → model_fault (or_gate_model m a b y ∷ []) ≡ None
 or_model-fault m a b y ab ba ay ya by yb aa bb yy = simp (ab, ba, ay, ya, by, yb, aa, bb, yy)
-
-apart : (v w : List ℕ) → v ≢ w → bytes_eq v w ≡ false
-apart v w n = by (bytes_eq v w) refl
-  where
-    by : (d : Bool) → bytes_eq v w ≡ d → d ≡ false
-    by true h = absurd (n ((bytes_eq-Decides v w).0 h))
-    by false h = refl
-
-same : (v : List ℕ) → bytes_eq v v ≡ true
-same v = (bytes_eq-Decides v v).1 refl
 
 pub or_gate_is_read : OrGateIsRead
 or_gate_is_read m a b y pm pa pb py ab ay by =

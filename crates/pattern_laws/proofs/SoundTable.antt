@@ -13,7 +13,8 @@ use Rattle.pattern_reading.specs.declared.faults.PortFaultKind.TheVariants.{BadO
 use Rattle.pattern_reading.specs.declared.ports.PortLine.{PortLine}
 use Rattle.pattern_reading.specs.declared.ports.NetLine.{NetLine}
 use Rattle.pattern_reading.specs.Lines.{Line}
-use Rattle.pattern_reading.specs.Numbers.{◌>>=◌, greatest_number, number_in, if_some_bytes}
+use Rattle.pattern_reading.specs.Numbers.{◌>>=◌, greatest_number, number_in}
+use Rattle.lists.specs.Bytes.{non_empty}
 use Rattle.pattern_reading.specs.Header.{lines_before_header}
 use Rattle.pattern_reading.specs.PortLines.{PortForm, Version, In, Out, Net, TableLine, form_of_fields, net_in, path_in, port_in, table_entry, table_line, table_of}
 use Rattle.pattern_reading.specs.PortTable.{fault_of_form, faults_after, forms_of, input_of, is_same_port, latency_in, net_of, output_of, period_in}
@@ -31,7 +32,7 @@ IsSoundForm (In port) = IsSoundPort port
 IsSoundForm (Out port) = IsSoundPort port
 IsSoundForm (Net net) = IsSoundNet net
 
-word_is : (bytes word : List ℕ) → if_some_bytes bytes ≡ Some word → IsFieldText bytes → IsWord word
+word_is : (bytes word : List ℕ) → non_empty bytes ≡ Some word → IsFieldText bytes → IsWord word
 word_is [] word e h = absurd (none-some word e)
 word_is (b ∷ bs) word e h = let same : (b ∷ bs) ≡ word = cc in rw (← same) (record { not_empty = λ k. cc; bytes = h })
 
@@ -42,7 +43,7 @@ port_is : (x y name : List ℕ) (port : PortLine) → IsFieldText name → port_
 port_is x y name port h e =
     let a = bind_some (number_in x) _ port e in
     let b = bind_some (number_in y) _ port a.2 in
-    let c = bind_some (if_some_bytes name) _ port b.2 in
+    let c = bind_some (non_empty name) _ port b.2 in
     let same : record { x = a.0; y = b.0; name = c.0 } ≡ port = cc in
     rw (← same) (record { x = small_number x a.0 a.1; y = small_number y b.0 b.1; name = word_is name c.0 c.1 h })
 
@@ -51,7 +52,7 @@ net_is x y offset name path net h e =
     let a = bind_some (number_in x) _ net e in
     let b = bind_some (number_in y) _ net a.2 in
     let o = bind_some (number_in offset) _ net b.2 in
-    let c = bind_some (if_some_bytes name) _ net o.2 in
+    let c = bind_some (non_empty name) _ net o.2 in
     let d = bind_some (path_in path) _ net c.2 in
     let same : record { x = a.0; y = b.0; offset = o.0; name = c.0; path = d.0 } ≡ net = cc in
     rw (← same) (record { x = small_number x a.0 a.1; y = small_number y b.0 b.1; offset = small_number offset o.0 o.1; name = word_is name c.0 c.1 h; path = path_kept path d.0 d.1 })

@@ -15,7 +15,8 @@ use Rattle.std.proofs.lemmas.Fmt.{decimal_is_IsNumeral}
 use Rattle.std.specs.Str.{byte, bytes_eq}
 use Rattle.std.proofs.lemmas.Slice.Eq.{bytes_eq-Decides}
 use Rattle.std.proofs.lemmas.Option.{cond_some}
-use Rattle.pattern_reading.specs.Numbers.{greatest_number, number_in, if_some_bytes}
+use Rattle.pattern_reading.specs.Numbers.{greatest_number, number_in}
+use Rattle.lists.specs.Bytes.{non_empty}
 use Rattle.pattern_reading.specs.PortLines.{PortForm, Version, In, Out, Net, table_line, form_of_fields, path_in, is_path_number}
 use Rattle.pattern_reading.specs.Laws.{IsLineText}
 use Rattle.pattern_reading.specs.Spelling.{IsField, IsSpellable, fields_of, spelled_line}
@@ -130,7 +131,7 @@ fields_fit (Out port) h = (letters_field (codes "OUT") refl, (decimal_field port
 fields_fit (Net net) h =
     (letters_field (codes "NET") refl, (decimal_field net.x h.0, (decimal_field net.y h.1, (decimal_field net.offset h.2, (h.3.1, (path_field net.path h.4, tt))))))
 
-some_bytes : (bytes : List ℕ) → bytes ≢ [] → if_some_bytes bytes ≡ Some bytes
+some_bytes : (bytes : List ℕ) → bytes ≢ [] → non_empty bytes ≡ Some bytes
 some_bytes [] h = absurd (h refl)
 some_bytes (b ∷ bs) h = refl
 

@@ -3,7 +3,8 @@ use Rattle.std.specs.Prelude.{ℕ, Bool, false, ◌||◌, not, if◌then◌else�
 use Rattle.std.specs.List.{list_all, after_first}
 use Rattle.std.specs.Str.{byte, str_eq_ignore_ascii_case}
 use Rattle.pattern_reading.specs.Lines.{Line, begins_with, lines_of}
-use Rattle.pattern_reading.specs.Numbers.{◌>>=◌, is_blank, after_word, number_at_front, if_some_bytes, without_blanks_around}
+use Rattle.pattern_reading.specs.Numbers.{◌>>=◌, is_blank, after_word, number_at_front, without_blanks_around}
+use Rattle.lists.specs.Bytes.{non_empty}
 
 -- what a header says; the rule's name may be missing
 pub record Header : Type 0 where
@@ -18,7 +19,7 @@ rule_name_in bytes = do
   after_comma ← after_word (codes ",") bytes
   after_rule ← after_word (codes "rule") after_comma
   after_equals ← after_word (codes "=") after_rule
-  if_some_bytes (without_blanks_around after_equals)
+  non_empty (without_blanks_around after_equals)
 
 abbrev pub rule_in : List ℕ → Option (Option (List ℕ))
 rule_in bytes = if list_all is_blank bytes then Some None else (rule_name_in bytes >>= λ name. Some (Some name))

@@ -27,11 +27,6 @@ without_leading_blanks bytes = drop (prefix_len is_blank bytes) bytes
 abbrev pub without_blanks_around : List ℕ → List ℕ
 without_blanks_around bytes = reverse (without_leading_blanks (reverse (without_leading_blanks bytes)))
 
--- the bytes, if there is at least one
-abbrev pub if_some_bytes : List ℕ → Option (List ℕ)
-if_some_bytes [] = None
-if_some_bytes (b ∷ bs) = Some (b ∷ bs)
-
 -- One reading after the other, as long as each finds what it looks for.
 infixl 10 ◌>>=◌
 abbrev pub ◌>>=◌ : {A B : Type 0} → Option A → (A → Option B) → Option B

@@ -6,7 +6,8 @@ use Rattle.std.specs.Str.{bytes_eq, byte}
 use Rattle.pattern_reading.specs.declared.ports.PortLine.{PortLine}
 use Rattle.pattern_reading.specs.declared.ports.NetLine.{NetLine}
 use Rattle.pattern_reading.specs.Lines.{Line}
-use Rattle.pattern_reading.specs.Numbers.{◌>>=◌, number_in, if_some_bytes, after_prefix}
+use Rattle.pattern_reading.specs.Numbers.{◌>>=◌, number_in, after_prefix}
+use Rattle.lists.specs.Bytes.{non_empty}
 use Rattle.pattern_reading.specs.Header.{lines_before_header}
 
 -- what a line of the table says, by its form
@@ -44,7 +45,7 @@ abbrev pub port_in : List ℕ → List ℕ → List ℕ → Option PortLine
 port_in x y name = do
   column ← number_in x
   row ← number_in y
-  word ← if_some_bytes name
+  word ← non_empty name
   Some (record { x = column; y = row; name = word })
 
 abbrev pub net_in : List ℕ → List ℕ → List ℕ → List ℕ → List ℕ → Option NetLine
@@ -52,7 +53,7 @@ net_in x y offset name path = do
   column ← number_in x
   row ← number_in y
   first ← number_in offset
-  word ← if_some_bytes name
+  word ← non_empty name
   place ← path_in path
   Some (record { x = column; y = row; offset = first; name = word; path = place })
 

@@ -14,6 +14,7 @@ use Rattle.lane_core.specs.Plans.{IsAdmissible}
 use Rattle.plan_layout.specs.Layout.{kind_of, return_slot, instrs_of, end_of_body, upper_left, in_body, upper_right, lower_left, on_return, lower_right, by_column, upper_part, lower_part, tiling_of}
 use Rattle.plan_layout.proofs.Sides.{either, lane_goes, column_goes, upper_left_has, in_body_has, upper_right_has, lower_left_has, on_return_has, lower_right_has}
 use Rattle.plan_layout.proofs.Halves.{is_upper, is_lower, Joined, joined_apart, body_joined, body_ends, body_begins, instrs_sorted, instrs_on_lanes, return_joined, return_ends, return_begins}
+use Rattle.std.proofs.lemmas.Bool.{and_right as none_right}
 
 -- the parts of the plan by lanes
 pub tiling_of-upper : (plan : Plan) (q l : ℕ) → l < plan.lanes → tiling_of plan q l ≡ upper_part plan q l
@@ -180,10 +181,6 @@ whole_pieces plan h = record {
   above = λ q l p e. lower_has_upper (tiling_of plan q l) (tiling_of plan q (l + 1)) p (all_joined plan h q l) e;
   first = λ q p e. (let w = first_is_whole plan q in cc);
 }
-
-none_right : (a b : Bool) → b ≡ false → (a && b) ≡ false
-none_right true b h = h
-none_right false b h = refl
 
 -- the tiles of an admissible plan fit together
 pub tiling_is_matched : (plan : Plan) → IsAdmissible plan → IsMatched (tiling_of plan)

@@ -19,11 +19,12 @@ use Rattle.lane_core.proofs.Dark.{dark}
 use Rattle.lane_core.specs.Entering.{first_loop_lane}
 use Rattle.plan_layout.proofs.Halves.{instrs_sorted, instrs_on_lanes}
 use Rattle.plan_waves.specs.Waves.{is_free_entry, GoesOn, is_body_entry, IsLitAtEntries, is_inside, IsDarkInside, bits_at, loop_exit, loop_entry, tiles_back, DrivesInputs, StartsRight}
-use Rattle.plan_waves.proofs.LaneBits.{answer_on, answers_agree, length-after_instrs, bit_after}
+use Rattle.plan_waves.proofs.LaneBits.{answer_on, answers_agree, bit_after}
 use Rattle.plan_waves.proofs.Inputs.{free_place, not_injected, or_none}
 use Rattle.plan_waves.proofs.Paths.{arrives, begins_dark, loop_lane, other_column, left_inside}
 use Rattle.plan_waves.proofs.Columns.{length-bits_at, bit_on-bits_at, next_bits, not_free}
 use Rattle.plan_waves.proofs.Loops.{loop_path}
+use Rattle.lane_core.proofs.Lengths.{length-after_instrs}
 
 -- instructions make nothing of nothing
 either_dark : (b : Bool) → cond b false false ≡ false

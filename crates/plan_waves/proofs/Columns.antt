@@ -27,7 +27,8 @@ use Rattle.plan_layout.proofs.Matched.{tiling_is_matched}
 use Rattle.plan_waves.specs.Waves.{is_free_entry, GoesOn, bits_at}
 use Rattle.plan_waves.proofs.Passing.{step_east, chosen_first}
 use Rattle.plan_waves.proofs.Parts.{body_at}
-use Rattle.plan_waves.proofs.LaneBits.{answer_on, answers_agree, length-after_instrs, bit_after}
+use Rattle.plan_waves.proofs.LaneBits.{answer_on, answers_agree, bit_after}
+use Rattle.lane_core.proofs.Lengths.{length-after_instrs}
 
 -- the upper and the lower one of two cells in the east
 upper_east : (a b : Bool) → is_cell_of (pos 31) (pos 8) (chosen (cell_at (31, 8) ∷ cell_at (31, 24) ∷ []) (a ∷ b ∷ [])) ≡ a

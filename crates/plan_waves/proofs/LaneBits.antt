@@ -10,6 +10,7 @@ use Rattle.std.proofs.lemmas.List.Elements.{All-head, All-tail}
 use Rattle.lane_core.specs.declared.instr.Instr.{Instr}
 use Rattle.lane_core.specs.Instrs.{lane_of, upper_bit, lower_bit, bit_on, after_instr, after_instrs, IsOnLanes, is_above, are_sorted_apart, is_on, instr_on}
 use Rattle.lane_core.proofs.Lookup.{none_below}
+use Rattle.lane_core.proofs.Lengths.{length-after_instr}
 
 -- what the instruction on a lane, or none, makes of the bits before it
 abbrev pub answer_on : ℕ → Option Instr → (ℕ → Bool) → Bool
@@ -81,13 +82,6 @@ lower_after bits x l here fits =
 kept_after : (bits : List Bool) (x : Instr) (l : ℕ) → l ≢ lane_of x → l ≢ lane_of x + 1 → bit_on (after_instr bits x) l ≡ bit_on bits l
 kept_after bits x l not_upper not_lower =
     get_or-set_other (set bits (lane_of x) _) (lane_of x + 1) l _ false not_lower ∙ get_or-set_other bits (lane_of x) l _ false not_upper
-
-pub length-after_instr : (bits : List Bool) (x : Instr) → length (after_instr bits x) ≡ length bits
-length-after_instr bits x = length-set (set bits (lane_of x) _) (lane_of x + 1) _ ∙ length-set bits (lane_of x) _
-
-pub length-after_instrs : (xs : List Instr) (bits : List Bool) → length (after_instrs xs bits) ≡ length bits
-length-after_instrs [] bits = refl
-length-after_instrs (x ∷ xs) bits = length-after_instrs xs (after_instr bits x) ∙ length-after_instr bits x
 
 -- the lanes of instructions below x are none of its own
 abbrev IsOff : Instr → ℕ → Type 0

@@ -16,9 +16,9 @@ use Rattle.lane_core.specs.Plans.{IsAdmissible}
 use Rattle.lane_core.specs.Entering.{first_loop_lane, entering_bits}
 use Rattle.plan_waves.specs.Waves.{GoesOn, bits_at, loop_entry, tiles_back}
 use Rattle.plan_waves.specs.Cycles.{cycle_steps, free_bits, loop_bits}
-use Rattle.plan_waves.proofs.LaneBits.{length-after_instrs}
 use Rattle.plan_waves.proofs.Columns.{length-bits_at, bit_on-bits_at, columns_pass}
 use Rattle.plan_waves.proofs.Loops.{loops_come_round}
+use Rattle.lane_core.proofs.Lengths.{length-after_instrs}
 
 pub length-after_columns : (columns : List Column) (bits : List Bool) → length (after_columns columns bits) ≡ length bits
 length-after_columns [] bits = refl

@@ -15,23 +15,9 @@ use Rattle.lane_core.specs.Plans.{IsAdmissible}
 use Rattle.lane_core.specs.Entering.{first_loop_lane}
 use Rattle.plan_layout.specs.Layout.{turn_slot, return_slot, end_of_body, upper_left, in_body, upper_right, lower_left, on_return, lower_right, by_column, tiling_of}
 use Rattle.plan_layout.proofs.Matched.{tiling_of-upper, tiling_of-lower}
-
-by_column-left : (plan : Plan) (q : ℕ) (a b c : Slot) → q < plan.latches → by_column plan q a b c ≡ a
-by_column-left plan q a b c h =
-    let yes : ltb q plan.latches ≡ true = grind (arith, nat_tests) in
-    cond-true (ltb q plan.latches) a (cond (ltb q (end_of_body plan)) b c) yes
-
-by_column-middle : (plan : Plan) (q : ℕ) (a b c : Slot) → plan.latches ≤ q → q < end_of_body plan → by_column plan q a b c ≡ b
-by_column-middle plan q a b c from to =
-    let no : ltb q plan.latches ≡ false = grind (arith, nat_tests) in
-    let yes : ltb q (end_of_body plan) ≡ true = grind (arith, nat_tests) in
-    cond-false (ltb q plan.latches) a (cond (ltb q (end_of_body plan)) b c) no ∙ cond-true (ltb q (end_of_body plan)) b c yes
-
-pub by_column-right : (plan : Plan) (q : ℕ) (a b c : Slot) → end_of_body plan ≤ q → by_column plan q a b c ≡ c
-by_column-right plan q a b c far =
-    let no : ltb q plan.latches ≡ false = grind (arith, nat_tests) in
-    let no' : ltb q (end_of_body plan) ≡ false = grind (arith, nat_tests) in
-    cond-false (ltb q plan.latches) a (cond (ltb q (end_of_body plan)) b c) no ∙ cond-false (ltb q (end_of_body plan)) b c no'
+use Rattle.plan_layout.proofs.Columns.{by_column-left}
+use Rattle.plan_layout.proofs.Columns.{by_column-middle}
+use Rattle.plan_layout.proofs.Columns.{by_column-right}
 
 -- a plan with a lane has a column
 pub some_columns : (plan : Plan) → IsAdmissible plan → 0 < plan.lanes → 0 < length plan.columns

@@ -20,6 +20,7 @@ use Rattle.plan_waves.specs.InputRows.{drive_of_rows, AreInjected, bits_of_rows}
 use Rattle.plan_waves.proofs.Machine.{steps_with_loops}
 use Rattle.plan_waves.proofs.DrivenCycles.{period_is, same_entering}
 use Rattle.plan_waves.proofs.Plane.{plans_show_runs}
+use Rattle.std.specs.Cmp.{both_ways as same_bit}
 
 -- a lane has a bit exactly where it is that of an input whose bit is 1
 lane_of_input : (lanes : List ℕ) (bits : List Bool) (input : ℕ) → input < length lanes → get_or bits input false ≡ true → lane_bit lanes bits (get_or lanes input 0) ≡ true
@@ -37,11 +38,6 @@ input_of_lane (first ∷ lanes) (bit ∷ bits) lane lit =
     (λ here. (let parts = and_parts (first == lane) bit here in (0, omega arith, eqb-true first lane parts.0, parts.1)))
     (λ later. (let rest = input_of_lane lanes bits lane later in (suc rest.0, omega (arith, rest.1), rest.2, rest.3)))
     (or_cases (first == lane && bit) (lane_bit lanes bits lane) lit)
-
-same_bit : (a b : Bool) → (a ≡ true → b ≡ true) → (b ≡ true → a ≡ true) → a ≡ b
-same_bit true b to from = sym (to refl)
-same_bit false true to from = from refl
-same_bit false false to from = refl
 
 some_period : (plan : Plan) → IsAdmissible plan → 0 < period_of plan
 some_period plan h =

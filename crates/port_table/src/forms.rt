@@ -3,7 +3,7 @@ ghost use Rattle.std.specs.Prelude.{◌≡◌, ◌==◌, [], ◌∷◌, take, ma
 ghost use Rattle.std.specs.List.{slice_split};
 ghost use Rattle.std.specs.Option.{option_copied};
 ghost use Rattle.std.specs.Str.{byte};
-ghost use Rattle.pattern_reading.specs.Numbers.{if_some_bytes};
+ghost use Rattle.lists.specs.Bytes.{non_empty};
 ghost use Rattle.pattern_reading.specs.PortLines.{form_of_fields, version_in, port_in, net_in};
 ghost use Rattle.port_table.specs.Lent.{form_of, lent_port, lent_net};
 
@@ -43,8 +43,8 @@ pub enum PortForm<'a> {
 }
 
 // The bytes, if there is at least one.
-fn if_some_bytes(bytes: &[u8]) -> Option<&[u8]>
-    ensures { option_copied result ≡ if_some_bytes bytes.now }
+fn non_empty(bytes: &[u8]) -> Option<&[u8]>
+    ensures { option_copied result ≡ non_empty bytes.now }
 {
     if bytes.is_empty() { None } else { Some(bytes) }
 }
@@ -76,7 +76,7 @@ fn port_in<'a>(x: &[u8], y: &[u8], name: &'a [u8]) -> Option<PortWords<'a>>
     Some(PortWords {
         x: number_in(x)?,
         y: number_in(y)?,
-        name: if_some_bytes(name)?,
+        name: non_empty(name)?,
     })
 }
 
@@ -93,7 +93,7 @@ fn net_in<'a>(
         x: number_in(x)?,
         y: number_in(y)?,
         offset: number_in(offset)?,
-        name: if_some_bytes(name)?,
+        name: non_empty(name)?,
         path: path_in(path)?,
     })
 }

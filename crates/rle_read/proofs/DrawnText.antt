@@ -20,6 +20,8 @@ use Rattle.pattern_reading.specs.Pattern.{RleFaultAt, fault_at, item_fault, run_
 use Rattle.pattern_reading.proofs.Places.{next_place}
 use Rattle.rle_read.specs.Drawn.{Drawn, Reached, Fault, Ended, Open, kept, reached_by, drawn_with, drawn_after, rows_with, place_of, with_run, blank_drawing}
 use Rattle.rle_read.proofs.Runs.{run_inside, run_in_rows, run_grid, run_covers, run_spares}
+use Rattle.std.proofs.lemmas.List.Elements.{filter_map-append as filter_map_append}
+use Rattle.std.proofs.Math.Bool.{and-false as and_none}
 
 -- the cells from the next place on
 abbrev pub IsAhead : Drawn → ℕ → ℕ → Type 0
@@ -74,14 +76,6 @@ covers_kept px py n x y h k = by_column (cases_lt px (2 ^ 64 - 1)) (cases_lt py 
     by_column (inl a) (inr b) = past_row px py (omega (arith, k, b)) ∙ sym (past_row (kept px) (kept py) (omega (arith, k, b)))
 
 -- one more item
-
-filter_map_append : {A B : Type 0} (f : A → Option B) (xs ys : List A) → filter_map f (xs ++ ys) ≡ filter_map f xs ++ filter_map f ys
-filter_map_append f [] ys = refl
-filter_map_append {A = A} {B = B} f (x ∷ xs) ys = ap (cons_option (f x)) (filter_map_append f xs ys) ∙ by_found (f x)
-  where
-    by_found : (o : Option B) → cons_option o (filter_map f xs ++ filter_map f ys) ≡ cons_option o (filter_map f xs) ++ filter_map f ys
-    by_found None = refl
-    by_found (Some y) = refl
 
 abbrev state_of : List State → State
 state_of states = unwrap_or (slice_get states 0) Empty
@@ -208,10 +202,6 @@ module _ (width height : ℕ) (small_width : width < 2 ^ 64) (small_height : hei
         let right : d.x + n ≤ x = (below_kept (d.x + n) x (omega (arith, h, small_width))).0 at.1 in
         (inr (at.0, omega (arith, right)), uncovered (nat_lt x (d.x + n)) refl right)
       where
-        and_none : (a : Bool) → (a && false) ≡ false
-        and_none true = refl
-        and_none false = refl
-
         uncovered : (b : Bool) → nat_lt x (d.x + n) ≡ b → d.x + n ≤ x → covers d.x d.y n x y ≡ false
         uncovered true e right = absurd (let l : x < d.x + n = ltb-true _ _ e in omega (arith, l, right))
         uncovered false e right = rw e (and_none (d.y == y && nat_le d.x x))
@@ -232,10 +222,6 @@ module _ (width height : ℕ) (small_width : width < 2 ^ 64) (small_height : hei
 room_same : (px py n width height : ℕ) → width < 2 ^ 64 → height < 2 ^ 64 → 0 < n → (nat_le (px + n) width && nat_lt py height) ≡ (nat_le (kept px + n) width && nat_lt (kept py) height)
 room_same px py n width height h k some = by_place (cases_lt px (2 ^ 64 - 1)) (cases_lt py (2 ^ 64 - 1))
   where
-    and_none : (a : Bool) → (a && false) ≡ false
-    and_none true = refl
-    and_none false = refl
-
     no_column : (q qy : ℕ) → width < q → (nat_le q width && nat_lt qy height) ≡ false
     no_column q qy l = let e : nat_le q width ≡ false = grind (arith, nat_tests) in rw e refl
 

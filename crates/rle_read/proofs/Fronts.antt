@@ -10,6 +10,7 @@ use Rattle.std.proofs.lemmas.List.Sums.{prefix_len-le-length}
 use denote.Ref.{Bor}
 use Rattle.pattern_reading.specs.Numbers.{is_blank, without_leading_blanks, after_prefix}
 use Rattle.pattern_reading.specs.Items.{pieces_of, onto_first_piece}
+use Rattle.lists.proofs.Ends.{last_apart}
 
 -- what stands after a prefix, by a test of the whole front
 prefix_by_test : (word bytes : List ℕ) → after_prefix word bytes ≡ (if pointwise nat_eq (take (length word) bytes) word then Some (drop (length word) bytes) else None)
@@ -27,14 +28,6 @@ IsStripped word bytes r = MatchOption r (pointwise nat_eq (take (length word) by
 pub stripped_prefix : (word bytes : List ℕ) (r : Option (Bor (List ℕ))) → IsStripped word bytes r → option_copied r ≡ after_prefix word bytes
 stripped_prefix word bytes None h = sym (prefix_by_test word bytes ∙ rw h refl)
 stripped_prefix word bytes (Some x) h = ap Some h.1 ∙ sym (prefix_by_test word bytes ∙ rw (h.0) refl)
-
--- blanks at the end
-last_apart : (xs : List ℕ) → 1 ≤ length xs → xs ≡ take (length xs - 1) xs ++ get_or xs (length xs - 1) 0 ∷ []
-last_apart [] h = absurd (omega (arith, h))
-last_apart (x ∷ []) h = refl
-last_apart (x ∷ y ∷ xs) h =
-    let e : length (x ∷ y ∷ xs) - 1 ≡ suc (length (y ∷ xs) - 1) = omega arith in
-    rw e (ap (λ l. x ∷ l) (last_apart (y ∷ xs) (omega arith)))
 
 blank_first : (b : ℕ) (bs : List ℕ) → is_blank b ≡ true → without_leading_blanks (b ∷ bs) ≡ without_leading_blanks bs
 blank_first b bs e = rw e (drop_past (prefix_len is_blank bs))

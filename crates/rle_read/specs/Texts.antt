@@ -5,7 +5,7 @@ use denote.Ref.{Bor}
 use Rattle.pattern_reading.specs.Header.{Header}
 use Rattle.pattern_reading.specs.Items.{TaggedDigits, Item, Cells, RowEnds, End, Blank, CutOff, NoItem}
 use Rattle.rle_read.specs.declared.header.Header as lent_header
-use Rattle.rle_read.specs.declared.items.Piece as lent_piece
+use Rattle.rle_read.specs.declared.items.TaggedDigits as lent_digits
 use Rattle.rle_read.specs.declared.items.Item as read_item
 
 abbrev pub header_of : lent_header.Header → Header
@@ -14,7 +14,7 @@ header_of h = record { width = h.width; height = h.height; rule = option_copied 
 abbrev pub number_and_rest : ℕ × Bor (List ℕ) → ℕ × List ℕ
 number_and_rest parts = (parts.0, parts.1.now)
 
-abbrev pub tagged_digits_of : lent_piece.Piece → TaggedDigits
+abbrev pub tagged_digits_of : lent_digits.TaggedDigits → TaggedDigits
 tagged_digits_of piece = record { digits = piece.digits.now; tag = piece.tag }
 
 abbrev pub item_of : read_item.Item → Item

@@ -10,7 +10,7 @@ use ww_rule::State;
 /// A byte that is no digit, with the digits directly before it; where a line ends with digits, they are a piece without
 /// such a byte.
 #[derive(Clone, Copy)]
-pub struct Piece<'a> {
+pub struct TaggedDigits<'a> {
     pub digits: &'a [u8],
     pub tag: Option<u8>,
 }
@@ -33,16 +33,16 @@ pub enum Item {
 }
 
 /// The first piece of bytes, and the bytes after it.
-pub fn split_piece(bytes: &[u8]) -> (Piece<'_>, &[u8])
+pub fn split_piece(bytes: &[u8]) -> (TaggedDigits<'_>, &[u8])
     requires { 0 < length bytes.now }
     ensures pieces { pieces_of bytes.now ≡ tagged_digits_of result.0 ∷ pieces_of result.1.now }
     ensures shorter { length result.1.now < length bytes.now }
 {
     let (digits, after) = bytes.split_at(digits_at_front(bytes));
     match after {
-        [] => (Piece { digits, tag: None }, after),
+        [] => (TaggedDigits { digits, tag: None }, after),
         [tag, rest @ ..] => (
-            Piece {
+            TaggedDigits {
                 digits,
                 tag: Some(*tag),
             },
@@ -82,7 +82,7 @@ fn item_without_count(tag: u8) -> Item
 }
 
 /// What a piece stands for, in a line that has an end or none.
-pub fn item_in(is_ended: bool, piece: Piece<'_>) -> Item
+pub fn item_in(is_ended: bool, piece: TaggedDigits<'_>) -> Item
     ensures item { item_of result ≡ item_in is_ended piece.entry.digits.now piece.entry.tag }
     ensures counted { IsCounted (item_of result) }
 {

@@ -5,7 +5,7 @@ use Rattle.std.proofs.lemmas.Bool.{cases_eq}
 use Rattle.std.proofs.lemmas.List.{length-set, get_or-set_same, get_or-set_other, length-append, length-drop}
 use Rattle.std.proofs.lemmas.List.Sums.{count_by-le-length}
 use Rattle.std.proofs.Math.Seq.{drop-cons}
-use Rattle.row_placer.specs.declared.job.Gate.{Gate}
+use Rattle.row_placer.specs.declared.job.NumberedCell.{NumberedCell}
 use Rattle.row_placer.specs.Uses.{times, need, owed, uses_of, AreCounted}
 use Rattle.row_placer.proofs.Uses.{times_head, times_other}
 
@@ -32,7 +32,7 @@ need_small v us = by (times v us == 0)
     by true = omega arith
     by false = omega arith
 
-pub length-uses : (gates : List Gate) → length (uses_of gates) ≡ 2 * length gates
+pub length-uses : (gates : List NumberedCell) → length (uses_of gates) ≡ 2 * length gates
 length-uses [] = refl
 length-uses (q ∷ qs) = let e = length-uses qs in omega (arith, e)
 
@@ -42,10 +42,10 @@ few_uses left us v within counted =
     let most = count_by-le-length (λ u. u == v) us in
     omega (arith, e, most)
 
-pub length-pending : (gates : List Gate) (ports : List ℕ) (n : ℕ) → n ≤ length gates → length (uses_of (drop n gates) ++ ports) + 2 * n ≡ 2 * length gates + length ports
+pub length-pending : (gates : List NumberedCell) (ports : List ℕ) (n : ℕ) → n ≤ length gates → length (uses_of (drop n gates) ++ ports) + 2 * n ≡ 2 * length gates + length ports
 length-pending gates ports n within = omega (arith, within, length-append (uses_of (drop n gates)) ports, length-uses (drop n gates), length-drop n gates)
 
-pub owed_more : (ports : List ℕ) (gates : List Gate) (i n free a b s : ℕ) (d : Gate) → i + 1 ≡ n → n ≤ length gates → free ≡ owed ports (drop n gates) → s ≡ free - 1
+pub owed_more : (ports : List ℕ) (gates : List NumberedCell) (i n free a b s : ℕ) (d : NumberedCell) → i + 1 ≡ n → n ≤ length gates → free ≡ owed ports (drop n gates) → s ≡ free - 1
     → a ≡ need (get_or gates i d).first ((get_or gates i d).second ∷ (uses_of (drop n gates) ++ ports)) → b ≡ need (get_or gates i d).second (uses_of (drop n gates) ++ ports)
     → a + (b + s) ≡ owed ports (drop i gates)
 owed_more ports gates i n free a b s d is within e se ea eb =

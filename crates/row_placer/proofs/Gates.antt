@@ -9,7 +9,7 @@ use Rattle.row_placer.specs.Told.{count, tag, free_tag, Exchanged, BothExchanged
 use Rattle.row_placer.proofs.Uses.{first_used, second_used, Usable, usable, used, comes, made as gate_made}
 use Rattle.row_placer.specs.declared.roles.Role.TheVariants.{Kept, First, Second}
 use Rattle.row_placer.specs.declared.roles.Tag.{Tag}
-use Rattle.row_placer.specs.declared.job.Gate.{Gate}
+use Rattle.row_placer.specs.declared.job.NumberedCell.{NumberedCell}
 use Rattle.row_placer.specs.declared.job.Job.{Job}
 use Rattle.row_placer.specs.Uses.{need, owed, owed_ports, uses_of, AreKnown}
 use Rattle.row_placer.specs.Ready.{Ready, ReadyForGate, ReadyForPort}
@@ -17,10 +17,10 @@ use Rattle.row_placer.specs.Ready.{Ready, ReadyForGate, ReadyForPort}
 abbrev pub pending : Job → ℕ → List ℕ
 pending job g = uses_of (drop g job.gates) ++ job.ports
 
-front_gate : (gates : List Gate) (g : ℕ) (gate : Gate) → g < length gates → get_or gates g gate ≡ gate → drop g gates ≡ gate ∷ drop (g + 1) gates
+front_gate : (gates : List NumberedCell) (g : ℕ) (gate : NumberedCell) → g < length gates → get_or gates g gate ≡ gate → drop g gates ≡ gate ∷ drop (g + 1) gates
 front_gate gates g gate within known = drop-cons gates g gate within ∙ ap (λ q. q ∷ drop (suc g) gates) known ∙ (let e : suc g ≡ g + 1 = omega arith in ap (λ n. gate ∷ drop n gates) e)
 
-pub before_gate : (job : Job) (g : ℕ) (gate : Gate) (tags : List Tag) (table : List ℕ) → g < length job.gates → get_or job.gates g gate ≡ gate → ReadyForGate job g tags table
+pub before_gate : (job : Job) (g : ℕ) (gate : NumberedCell) (tags : List Tag) (table : List ℕ) → g < length job.gates → get_or job.gates g gate ≡ gate → ReadyForGate job g tags table
     → Ready (gate.first ∷ gate.second ∷ pending job (g + 1)) (job.base + g)
     (need gate.first (gate.second ∷ pending job (g + 1)) + (need gate.second (pending job (g + 1)) + (owed job.ports (drop (g + 1) job.gates) - 1))) tags table
 before_gate job g gate tags table within known r =
@@ -29,11 +29,11 @@ before_gate job g gate tags table within known r =
 pub after_gate : (job : Job) (g : ℕ) (tags : List Tag) (table : List ℕ) → Ready (pending job (g + 1)) (job.base + g + 1) (owed job.ports (drop (g + 1) job.gates)) tags table → ReadyForGate job (g + 1) tags table
 after_gate job g tags table r = let e : job.base + g + 1 ≡ job.base + (g + 1) = omega arith in subst (λ n. Ready (pending job (g + 1)) n (owed job.ports (drop (g + 1) job.gates)) tags table) e r
 
-pub known_gate : (base : ℕ) (gates : List Gate) (g : ℕ) (gate : Gate) → AreKnown base gates → g < length gates → get_or gates g gate ≡ gate → (gate.first < base + g) × (gate.second < base + g)
-known_gate base gates g gate known within is = subst (λ (q : Gate). (q.first < base + g) × (q.second < base + g)) is (known g gate within)
+pub known_gate : (base : ℕ) (gates : List NumberedCell) (g : ℕ) (gate : NumberedCell) → AreKnown base gates → g < length gates → get_or gates g gate ≡ gate → (gate.first < base + g) × (gate.second < base + g)
+known_gate base gates g gate known within is = subst (λ (q : NumberedCell). (q.first < base + g) × (q.second < base + g)) is (known g gate within)
 
 -- a gate that is begun
-pub record Begun (job : Job) (g : ℕ) (gate : Gate) (tags : List Tag) (table : List ℕ) : Type 0 where
+pub record Begun (job : Job) (g : ℕ) (gate : NumberedCell) (tags : List Tag) (table : List ℕ) : Type 0 where
   pub known : get_or job.gates g gate ≡ gate
   pub first : gate.first < job.base + g
   pub second : gate.second < job.base + g
@@ -41,7 +41,7 @@ pub record Begun (job : Job) (g : ℕ) (gate : Gate) (tags : List Tag) (table : 
       (need gate.first (gate.second ∷ pending job (g + 1)) + (need gate.second (pending job (g + 1)) + (owed job.ports (drop (g + 1) job.gates) - 1))) tags table
   pub usable : Usable gate.first (need gate.second (pending job (g + 1)) + (owed job.ports (drop (g + 1) job.gates) - 1)) tags table
 
-pub begun : (job : Job) (made : List NetPlace) (i count : ℕ) (gate : Gate) (tags : List Tag) (table : List ℕ) → i ≡ count → length made ≡ count → slice_get job.gates i ≡ Some gate → length made < length job.gates
+pub begun : (job : Job) (made : List NetPlace) (i count : ℕ) (gate : NumberedCell) (tags : List Tag) (table : List ℕ) → i ≡ count → length made ≡ count → slice_get job.gates i ≡ Some gate → length made < length job.gates
     → ReadyForGate job (length made) tags table → Begun job (length made) gate tags table
 begun job made i n gate tags table len ok got within r =
     let known : get_or job.gates (length made) gate ≡ gate = get_or_from_slice_get job.gates (length made) gate gate (subst (λ k. slice_get job.gates k ≡ Some gate) (len ∙ sym ok) got) in
@@ -56,12 +56,12 @@ begun job made i n gate tags table len ok got within r =
     }
 
 -- and one whose first operand is held
-pub record Halfway (job : Job) (g : ℕ) (gate : Gate) (tags : List Tag) (table : List ℕ) : Type 0 where
+pub record Halfway (job : Job) (g : ℕ) (gate : NumberedCell) (tags : List Tag) (table : List ℕ) : Type 0 where
   pub ready : Ready (gate.second ∷ pending job (g + 1)) (job.base + g) (need gate.second (pending job (g + 1)) + (owed job.ports (drop (g + 1) job.gates) - 1)) tags table
   pub usable : Usable gate.second (owed job.ports (drop (g + 1) job.gates) - 1) tags table
   pub held : 1 ≤ count gate.first First tags
 
-pub halfway : (job : Job) (g : ℕ) (gate : Gate) (tags tags' : List Tag) (table table' : List ℕ) → Begun job g gate tags table
+pub halfway : (job : Job) (g : ℕ) (gate : NumberedCell) (tags tags' : List Tag) (table table' : List ℕ) → Begun job g gate tags table
     → Exchanged tags tags' (cond (get_or table gate.first 0 == 1) (tag gate.first Kept) free_tag) (tag gate.first First) → table' ≡ set table gate.first (get_or table gate.first 0 - 1) → Halfway job g gate tags' table'
 halfway job g gate tags tags' table table' b ex is =
     let ready = used gate.first First (gate.second ∷ pending job (g + 1)) (job.base + g) (need gate.second (pending job (g + 1)) + (owed job.ports (drop (g + 1) job.gates) - 1)) tags tags' table table' b.ready b.first first_used ex is in
@@ -71,7 +71,7 @@ halfway job g gate tags tags' table table' b ex is =
       held = comes gate.first First (get_or table gate.first 0) tags tags' first_used ex;
     }
 
-pub whole : (job : Job) (g : ℕ) (gate : Gate) (tags tags' tags'' : List Tag) (table table' : List ℕ) → gate.second < job.base + g → Halfway job g gate tags table
+pub whole : (job : Job) (g : ℕ) (gate : NumberedCell) (tags tags' tags'' : List Tag) (table table' : List ℕ) → gate.second < job.base + g → Halfway job g gate tags table
     → Exchanged tags tags' (cond (get_or table gate.second 0 == 1) (tag gate.second Kept) free_tag) (tag gate.second Second) → table' ≡ set table gate.second (get_or table gate.second 0 - 1)
     → BothExchanged tags' tags'' (tag gate.first First) (tag gate.second Second) (tag (job.base + g) Kept) free_tag → job.base + g < length table → ReadyForGate job (g + 1) tags'' table'
 whole job g gate tags tags' tags'' table table' low h ex is both wide =

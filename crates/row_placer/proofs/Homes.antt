@@ -19,13 +19,8 @@ use Rattle.row_placer.specs.Programs.{program_bits, free_lanes}
 use Rattle.row_placer.specs.Placed.{AreHomes, HomesHold}
 use Rattle.row_placer.proofs.Values.{value_bit, numbered}
 use Rattle.row_placer.proofs.Whole.{length-loops}
-
-eq_no : (a b : ℕ) → a ≢ b → (a == b) ≡ false
-eq_no a b e = grind (arith, nat_tests)
-
-or_false : (b : Bool) → (b || false) ≡ b
-or_false true = refl
-or_false false = refl
+use Rattle.std.proofs.lemmas.Bool.{ne_eqb as eq_no}
+use Rattle.std.proofs.Math.Bool.{or-false as or_false}
 
 lane_bit_none : (ins : List ℕ) (bits : List Bool) (lane : ℕ) → ((i : ℕ) → i < length ins → get_or ins i 0 ≢ lane) → lane_bit ins bits lane ≡ false
 lane_bit_none [] bits lane apart = refl

@@ -8,7 +8,7 @@ use Rattle.cell_core.specs.declared.cells.Src.TheVariants.{Zero}
 use Rattle.cell_core.specs.declared.cells.Cell.TheVariants.{Or}
 use Rattle.cell_core.specs.declared.list.CellList.{CellList}
 use Rattle.row_placer.specs.declared.roles.Tag.{Tag}
-use Rattle.row_placer.specs.declared.job.Gate.{Gate}
+use Rattle.row_placer.specs.declared.job.NumberedCell.{NumberedCell}
 use Rattle.row_placer.specs.Told.{tag, free_tag, count, is_tag}
 use Rattle.row_placer.specs.declared.roles.Role.TheVariants.{Kept}
 use Rattle.row_placer.specs.Uses.{uses_of, owed, AreCounted, ReadsBelow, AreKnown}
@@ -21,15 +21,15 @@ use Rattle.row_placer.proofs.Uses.{this_tag}
 use Rattle.row_placer.proofs.There.{number_low, gate_low}
 use Rattle.row_placer.proofs.Whole.{length-data, data_there}
 
-pub gates_known : (list : CellList) (gates : List Gate) (base : ℕ) → ReadsWhatIsThere list → gates ≡ map (gate_of list) list.cells → base ≡ list.inputs + loop_count list + 1 → AreKnown base gates
+pub gates_known : (list : CellList) (gates : List NumberedCell) (base : ℕ) → ReadsWhatIsThere list → gates ≡ map (gate_of list) list.cells → base ≡ list.inputs + loop_count list + 1 → AreKnown base gates
 gates_known list gates base sound is at g d below =
     let low : g < length list.cells = omega (arith, below, ap length is, length-map list.cells (gate_of list)) in
     let c = get_or list.cells g (Or Zero Zero) in
     let reads = gate_low list g c (sound.cells g (Or Zero Zero) low) in
     let same : get_or gates g d ≡ gate_of list c = ap (λ gs. get_or gs g d) is ∙ get_or-map (gate_of list) list.cells g (Or Zero Zero) d low in
-    subst (λ (q : Gate). (q.first < base + g) × (q.second < base + g)) (sym same) (subst (λ b. ReadsBelow (b + g) (gate_of list c)) (sym at) reads)
+    subst (λ (q : NumberedCell). (q.first < base + g) × (q.second < base + g)) (sym same) (subst (λ b. ReadsBelow (b + g) (gate_of list c)) (sym at) reads)
 
-pub gates_below : (base n : ℕ) (gates : List Gate) → AreKnown base gates → n ≡ base + length gates → All (ReadsBelow n) gates
+pub gates_below : (base n : ℕ) (gates : List NumberedCell) → AreKnown base gates → n ≡ base + length gates → All (ReadsBelow n) gates
 gates_below base n gates known is g d below = let k = known g d below in (omega (arith, k.0, is, below), omega (arith, k.1, is, below))
 
 pub ports_below : (list : CellList) (ports : List ℕ) (n : ℕ) → ReadsWhatIsThere list → ports ≡ map (number list) (loop_data list ++ list.outs) → n ≡ list.inputs + loop_count list + 1 + length list.cells → All (λ v. v < n) ports
@@ -50,7 +50,7 @@ counted_tag tags lane v within here =
     let one : cond {A = ℕ} (is_tag v Kept (get_or tags lane free_tag)) 1 0 ≡ 1 = ap (λ t. cond {A = ℕ} (is_tag v Kept t) 1 0) here ∙ this_tag v Kept in
     omega (arith, e, one)
 
-pub start_ready : (gates : List Gate) (ports homes left : List ℕ) (inner lanes free base : ℕ) (dark : Bool) (start : List Tag) → IsStart homes left lanes start → All (λ lane. lane < lanes) homes
+pub start_ready : (gates : List NumberedCell) (ports homes left : List ℕ) (inner lanes free base : ℕ) (dark : Bool) (start : List Tag) → IsStart homes left lanes start → All (λ lane. lane < lanes) homes
     → AreCounted left (uses_of gates ++ ports) → base ≡ inner + 1 → length left ≡ base + length gates → length homes ≡ inner + cond dark 1 0 → (1 ≤ get_or left inner 0 → dark ≡ true)
     → lanes ≡ free + cond dark 1 0 + inner → owed ports gates ≤ free → Ready (uses_of gates ++ ports) (base + 0) (owed ports gates) start left
 start_ready gates ports homes left inner lanes free base dark start s low counted at wide long zero_used size owes = record {

@@ -18,13 +18,7 @@ use Rattle.row_placer.specs.declared.roles.Role.TheVariants.{Kept}
 use Rattle.row_placer.specs.declared.roles.Tag.{Tag}
 use Rattle.row_placer.specs.declared.job.Job.{Job}
 use Rattle.row_placer.specs.Told.{role_code, Told, MadeTold, PutsTags, Tells, free_tag, tag, BothExchanged}
-
-pub length-after : (xs : List Instr) (bits : List Bool) → length (after_instrs xs bits) ≡ length bits
-length-after [] bits = refl
-length-after (x ∷ xs) bits =
-    length-after xs (after_instr bits x)
-    ∙ length-set (set bits (lane_of x) (upper_bit x (bit_on bits (lane_of x)) (bit_on bits (lane_of x + 1)))) (lane_of x + 1) (lower_bit x (bit_on bits (lane_of x)) (bit_on bits (lane_of x + 1)))
-    ∙ length-set bits (lane_of x) (upper_bit x (bit_on bits (lane_of x)) (bit_on bits (lane_of x + 1)))
+use Rattle.lane_core.proofs.Lengths.{length-after_instrs as length-after}
 
 pub length-two : {X : Type 0} (xs : List X) (i j : ℕ) (a b : X) → length (set (set xs i a) j b) ≡ length xs
 length-two xs i j a b = length-set (set xs i a) j b ∙ length-set xs i a

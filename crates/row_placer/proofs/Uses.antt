@@ -11,9 +11,7 @@ use Rattle.row_placer.specs.declared.roles.Tag.{Tag}
 use Rattle.row_placer.specs.Told.{role_code, count, is_tag, tag, free_tag, Exchanged, BothExchanged}
 use Rattle.row_placer.specs.Uses.{times, need}
 use Rattle.row_placer.specs.Ready.{Ready}
-
-eq_no : (a b : ℕ) → a ≢ b → (a == b) ≡ false
-eq_no a b e = grind (arith, nat_tests)
+use Rattle.std.proofs.lemmas.Bool.{ne_eqb as eq_no}
 
 pub times_head : (v w : ℕ) (us : List ℕ) → v ≡ w → times w (v ∷ us) ≡ 1 + times w us
 times_head v w us e = sum_by-cons (λ u. cond (u == w) 1 0) v us ∙ ap (λ b. cond {A = ℕ} b 1 0 + times w us) (eq_yes v w e)

@@ -8,7 +8,7 @@ use Rattle.cell_core.specs.declared.cells.Cell.{Cell}
 use Rattle.cell_core.specs.declared.cells.Cell.TheVariants.{Or, Xor, AndNot}
 use Rattle.cell_core.specs.declared.list.CellList.{CellList}
 use Rattle.row_placer.specs.declared.job.Job.{Job}
-use Rattle.row_placer.specs.declared.job.Gate.{Gate}
+use Rattle.row_placer.specs.declared.job.NumberedCell.{NumberedCell}
 use Rattle.row_placer.specs.Told.{Agrees, gate_bit}
 use Rattle.cell_core.specs.Loops.{loop_count, names_one}
 use Rattle.cell_core.specs.Meaning.{source_bit, cell_bit, cell_bits, bit_of}
@@ -107,4 +107,4 @@ agrees list job inputs state sound base gates f g d within =
     ∙ numbered list inputs state (g + 1) (Made g) f (omega arith)
     ∙ cell_is list inputs state list.cells [] g g (Or Zero Zero) low (omega arith) there
     ∙ gate_value list inputs state g c f there
-    ∙ ap (λ (q : Gate). gate_bit q.kind (value_bit list inputs state q.first) (value_bit list inputs state q.second)) (sym gate)
+    ∙ ap (λ (q : NumberedCell). gate_bit q.kind (value_bit list inputs state q.first) (value_bit list inputs state q.second)) (sym gate)

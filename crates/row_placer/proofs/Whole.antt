@@ -25,8 +25,8 @@ use Rattle.lane_core.specs.Entering.{lane_bit}
 use Rattle.cell_lanes.specs.Computes.{ComputesByProgram}
 use Rattle.row_placer.specs.Programs.{program_bits, free_lanes}
 use Rattle.row_placer.specs.Placed.{IsPlaced, HomesHold, net_place_of}
-use Rattle.row_placer.proofs.Steps.{length-after}
 use Rattle.row_placer.proofs.Values.{value_bit, numbered, agrees}
+use Rattle.lane_core.proofs.Lengths.{length-after_instrs as length-after}
 
 pub length-loops : (list : CellList) (state : List Bool) → length state ≡ length list.starts → length (loop_state list state) ≡ loop_count list
 length-loops list state long = length-append state (cond (names_one list) (true ∷ []) []) ∙ ap₂ (λ a b. a + b) long (by (names_one list))

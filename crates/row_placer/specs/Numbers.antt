@@ -6,8 +6,8 @@ use Rattle.cell_core.specs.declared.cells.Cell.{Cell}
 use Rattle.cell_core.specs.declared.cells.Cell.TheVariants.{Or, Xor, AndNot}
 use Rattle.cell_core.specs.declared.list.CellList.{CellList}
 use Rattle.cell_core.specs.Loops.{names_one, loop_count}
-use Rattle.row_placer.specs.declared.job.Kind.TheVariants as kind
-use Rattle.row_placer.specs.declared.job.Gate.{Gate}
+use Rattle.row_placer.specs.declared.job.CellKind.TheVariants as kind
+use Rattle.row_placer.specs.declared.job.NumberedCell.{NumberedCell}
 
 -- the number of a source
 abbrev pub number : CellList → Src → ℕ
@@ -17,7 +17,7 @@ number list One = list.inputs + length list.starts
 number list Zero = list.inputs + loop_count list
 number list (Made i) = list.inputs + loop_count list + 1 + i
 
-abbrev pub gate_of : CellList → Cell → Gate
+abbrev pub gate_of : CellList → Cell → NumberedCell
 gate_of list (Or a b) = record { kind = kind.Or; first = number list a; second = number list b }
 gate_of list (Xor a b) = record { kind = kind.Xor; first = number list a; second = number list b }
 gate_of list (AndNot a b) = record { kind = kind.AndNot; first = number list a; second = number list b }

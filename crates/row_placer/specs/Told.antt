@@ -5,9 +5,9 @@ use Rattle.lane_core.specs.declared.instr.Instr.TheVariants as instrs
 use Rattle.lane_core.specs.declared.plan.NetPlace.{NetPlace}
 use Rattle.lane_core.specs.Entering.{bits_after}
 use Rattle.lane_core.specs.Instrs.{after_instrs, bit_on, lane_of, upper_bit, lower_bit}
-use Rattle.row_placer.specs.declared.job.Kind.{Kind}
-use Rattle.row_placer.specs.declared.job.Kind.TheVariants.{Or, Xor, AndNot}
-use Rattle.row_placer.specs.declared.job.Gate.{Gate}
+use Rattle.row_placer.specs.declared.job.CellKind.{CellKind}
+use Rattle.row_placer.specs.declared.job.CellKind.TheVariants.{Or, Xor, AndNot}
+use Rattle.row_placer.specs.declared.job.NumberedCell.{NumberedCell}
 use Rattle.row_placer.specs.declared.roles.Role.{Role}
 use Rattle.row_placer.specs.declared.roles.Role.TheVariants.{Free, Kept, First, Second, Port}
 use Rattle.row_placer.specs.declared.roles.Tag.{Tag}
@@ -37,14 +37,14 @@ HoldsTags bit tags bits = (lane : ℕ) → Tells bit (get_or tags lane free_tag)
 abbrev pub is_tag : ℕ → Role → Tag → Bool
 is_tag value role t = (role_code t.role == role_code role) && (t.value == value)
 
-abbrev pub gate_bit : Kind → Bool → Bool → Bool
+abbrev pub gate_bit : CellKind → Bool → Bool → Bool
 gate_bit Or a b = a || b
 gate_bit Xor a b = (a || b) && not (a && b)
 gate_bit AndNot a b = a && not b
 
 -- the bits of values are those that the gates make
 abbrev pub Agrees : Job → (ℕ → Bool) → Type 0
-Agrees job bit = (g : ℕ) (d : Gate) → g < length job.gates → bit (job.base + g) ≡ gate_bit (get_or job.gates g d).kind (bit (get_or job.gates g d).first) (bit (get_or job.gates g d).second)
+Agrees job bit = (g : ℕ) (d : NumberedCell) → g < length job.gates → bit (job.base + g) ≡ gate_bit (get_or job.gates g d).kind (bit (get_or job.gates g d).first) (bit (get_or job.gates g d).second)
 
 -- whatever bits values have, if the gates make them and the lanes begin with those of their tags, the tags go on to tell the bits
 abbrev pub Told : Job → List Tag → List Instr → Type 0
@@ -80,7 +80,7 @@ BothExchanged old new gone gone' come come' =
     (p : Tag → Bool) → count_by p new + (cond (p gone) 1 0 + cond (p gone') 1 0) ≡ count_by p old + (cond (p come) 1 0 + cond (p come') 1 0)
 
 -- the instruction of a gate
-abbrev pub gate_instr : Kind → ℕ → Instr
+abbrev pub gate_instr : CellKind → ℕ → Instr
 gate_instr Or lane = instrs.Or lane
 gate_instr Xor lane = instrs.Xor lane
 gate_instr AndNot lane = instrs.AndNot lane

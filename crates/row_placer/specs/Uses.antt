@@ -1,8 +1,8 @@
 -- Uses of values: of gates and of ports, in order.
 use Rattle.std.specs.Prelude.{ℕ, ◌+◌, ◌-◌, ◌<◌, ◌≡◌, ◌==◌, cond, List, [], ◌∷◌, ◌++◌, length, get_or, count_by}
-use Rattle.row_placer.specs.declared.job.Gate.{Gate}
+use Rattle.row_placer.specs.declared.job.NumberedCell.{NumberedCell}
 
-abbrev pub uses_of : List Gate → List ℕ
+abbrev pub uses_of : List NumberedCell → List ℕ
 uses_of [] = []
 uses_of (q ∷ qs) = q.first ∷ q.second ∷ uses_of qs
 
@@ -20,17 +20,17 @@ owed_ports [] = 0
 owed_ports (v ∷ vs) = need v vs + owed_ports vs
 
 -- and for gates and then these ports: a gate leaves one lane free
-abbrev pub owed : List ℕ → List Gate → ℕ
+abbrev pub owed : List ℕ → List NumberedCell → ℕ
 owed ports [] = owed_ports ports
 owed ports (q ∷ qs) = need q.first (q.second ∷ (uses_of qs ++ ports)) + (need q.second (uses_of qs ++ ports) + (owed ports qs - 1))
 
 -- a gate reads values that are there before it
-abbrev pub AreKnown : ℕ → List Gate → Type 0
-AreKnown base gates = (g : ℕ) (d : Gate) → g < length gates → ((get_or gates g d).first < base + g) × ((get_or gates g d).second < base + g)
+abbrev pub AreKnown : ℕ → List NumberedCell → Type 0
+AreKnown base gates = (g : ℕ) (d : NumberedCell) → g < length gates → ((get_or gates g d).first < base + g) × ((get_or gates g d).second < base + g)
 
 -- the table says how often each value is used
 abbrev pub AreCounted : List ℕ → List ℕ → Type 0
 AreCounted left us = (v : ℕ) → v < length left → get_or left v 0 ≡ times v us
 
-abbrev pub ReadsBelow : ℕ → Gate → Type 0
+abbrev pub ReadsBelow : ℕ → NumberedCell → Type 0
 ReadsBelow values q = (q.first < values) × (q.second < values)

@@ -2,7 +2,7 @@
 ghost use Rattle.std.specs.Prelude.{ℕ, ◌≡◌, ◌==◌, ◌≤◌, ◌<◌, ◌+◌, ◌-◌, ◌*◌, ◌^◌, ◌++◌, length, All, cond, get_or, set, IfOk};
 ghost use Rattle.row_placer.specs.Uses.{uses_of, owed, AreCounted, ReadsBelow};
 
-use crate::{Gate, PlaceError};
+use crate::{NumberedCell, PlaceError};
 use std::alloc::Global;
 
 // One use more; 1 where there were uses.
@@ -20,7 +20,7 @@ fn add_use(left: &mut Vec<u32>, value: u32) -> u32
 /// How often each value is used, and how many free lanes are enough.
 pub fn count_uses(
     alloc: Global,
-    gates: &[Gate],
+    gates: &[NumberedCell],
     ports: &[u32],
     values: u32,
 ) -> Result<(Vec<u32>, u32), PlaceError>

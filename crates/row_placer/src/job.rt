@@ -7,7 +7,7 @@ use lists::List;
 
 /// What a gate does.
 #[derive(Clone, Copy, Debug, PartialEq, Eq)]
-pub enum Kind {
+pub enum CellKind {
     Or,
     Xor,
     AndNot,
@@ -15,8 +15,8 @@ pub enum Kind {
 
 /// A gate over two values, by their numbers.
 #[derive(Clone, Copy, Debug, PartialEq, Eq)]
-pub struct Gate {
-    pub kind: Kind,
+pub struct NumberedCell {
+    pub kind: CellKind,
     pub first: u32,
     pub second: u32,
 }
@@ -24,7 +24,7 @@ pub struct Gate {
 /// Gate g makes value `base + g`; the lanes stand at first as `start` says; the values of `ports` are wanted at the end.
 #[derive(Drop)]
 pub struct Job {
-    pub gates: List<Gate>,
+    pub gates: List<NumberedCell>,
     pub base: u32,
     pub ports: List<u32>,
     pub start: List<Tag>,

@@ -6,10 +6,10 @@ ghost use Rattle.row_placer.specs.declared.roles.Role.TheVariants.{Free, Kept, F
 ghost use Rattle.row_placer.specs.Told.{role_code, Told, MadeTold, PutsTags, SameTags, Exchanged, count, free_tag, tag, gate_instr, BothExchanged};
 ghost use Rattle.row_placer.specs.Ready.{ReadyForGate, ReadyForPort, HoldPorts, AreSettled};
 ghost use Rattle.row_placer.specs.Placed.{AreOuts};
-ghost use Rattle.row_placer.specs.declared.job.Kind.TheVariants.{AndNot};
+ghost use Rattle.row_placer.specs.declared.job.CellKind.TheVariants.{AndNot};
 ghost use Rattle.channel_router.specs.Routes.{swapped, brought, distance};
 
-use crate::{Gate, Job, Kind, PlaceError, Role, Tag};
+use crate::{NumberedCell, Job, CellKind, PlaceError, Role, Tag};
 use lane_core::{Instr, NetPlace};
 use std::alloc::Global;
 
@@ -361,7 +361,7 @@ impl<'a> Lanes<'a> {
     }
 
     /// Makes the next gate of two neighbouring lanes; `turned` where the second operand is on the upper one.
-    fn make(&mut self, lane: u32, gate: Gate, turned: bool) -> Result<(), PlaceError>
+    fn make(&mut self, lane: u32, gate: NumberedCell, turned: bool) -> Result<(), PlaceError>
         requires lane { lane + 1 < length self.old.tags.items }
         requires within { length self.old.made.items < length self.old.job.now.gates }
         requires known { get_or self.old.job.now.gates (length self.old.made.items) gate ≡ gate }
@@ -393,7 +393,7 @@ impl<'a> Lanes<'a> {
     }
 
     /// Makes the next gate of its operands.
-    fn gate(&mut self, gate: Gate) -> Result<(), PlaceError>
+    fn gate(&mut self, gate: NumberedCell) -> Result<(), PlaceError>
         requires within { length self.old.made.items < length self.old.job.now.gates }
         requires known { get_or self.old.job.now.gates (length self.old.made.items) gate ≡ gate }
         requires first { 1 ≤ count gate.first First self.old.tags.items }
@@ -565,22 +565,22 @@ impl<'a> Lanes<'a> {
     }
 }
 
-fn is_and_not(kind: Kind) -> bool
+fn is_and_not(kind: CellKind) -> bool
     ensures yes { kind ≡ AndNot → result ≡ true }
 {
     match kind {
-        Kind::AndNot => true,
+        CellKind::AndNot => true,
         _ => false,
     }
 }
 
-fn instr_of(kind: Kind, lane: u32) -> Instr
+fn instr_of(kind: CellKind, lane: u32) -> Instr
     ensures value { result ≡ gate_instr kind lane }
     ensures lane { lane_of result ≡ lane }
 {
     match kind {
-        Kind::Or => Instr::Or(lane),
-        Kind::Xor => Instr::Xor(lane),
-        Kind::AndNot => Instr::AndNot(lane),
+        CellKind::Or => Instr::Or(lane),
+        CellKind::Xor => Instr::Xor(lane),
+        CellKind::AndNot => Instr::AndNot(lane),
     }
 }

@@ -6,7 +6,7 @@ ghost use Rattle.row_placer.specs.Numbers.{number, gate_of, IsThere, ReadsWhatIs
 ghost use Rattle.row_placer.specs.Placed.{net_place_of};
 ghost use Rattle.cell_core.specs.declared.cells.Src.TheVariants.{Zero};
 
-use crate::{Gate, Kind, PlaceError};
+use crate::{NumberedCell, CellKind, PlaceError};
 use cell_core::{Cell, CellList, Src};
 use lane_core::NetPlace;
 use std::alloc::Global;
@@ -37,7 +37,7 @@ pub fn number_of(list: &CellList, loops: u32, src: Src) -> u32
 }
 
 /// The gates of the cells.
-pub fn gates_of(alloc: Global, list: &CellList, loops: u32) -> Result<Vec<Gate>, PlaceError>
+pub fn gates_of(alloc: Global, list: &CellList, loops: u32) -> Result<Vec<NumberedCell>, PlaceError>
     requires loops { loops ≡ loop_count list.now }
     requires sound { ReadsWhatIsThere list.now }
     requires small { list.now.inputs + loop_count list.now + 1 + length list.now.cells < 2 ^ 32 }
@@ -52,18 +52,18 @@ pub fn gates_of(alloc: Global, list: &CellList, loops: u32) -> Result<Vec<Gate>,
     Ok(gates)
 }
 
-fn find_gate(list: &CellList, loops: u32, cell: Cell) -> Gate
+fn find_gate(list: &CellList, loops: u32, cell: Cell) -> NumberedCell
     requires loops { loops ≡ loop_count list.now }
     requires small { list.now.inputs + loop_count list.now + 1 + length list.now.cells < 2 ^ 32 }
     requires there { ReadsThere list.now (length list.now.cells) cell }
     ensures { result ≡ gate_of list.now cell }
 {
     let (kind, a, b) = match cell {
-        Cell::Or(a, b) => (Kind::Or, a, b),
-        Cell::Xor(a, b) => (Kind::Xor, a, b),
-        Cell::AndNot(a, b) => (Kind::AndNot, a, b),
+        Cell::Or(a, b) => (CellKind::Or, a, b),
+        Cell::Xor(a, b) => (CellKind::Xor, a, b),
+        Cell::AndNot(a, b) => (CellKind::AndNot, a, b),
     };
-    Gate {
+    NumberedCell {
         kind,
         first: number_of(list, loops, a),
         second: number_of(list, loops, b),

@@ -17,9 +17,11 @@ use Rattle.netlist_rules.specs.Drivers.{has_input, has_output, is_input_pin, is_
 use Rattle.netlist_rules.specs.ModelFaults.{AreFaultless, words_at_fault, missing_model, unknown_formals, is_portless, lacks_port, unless_named}
 use Rattle.netlist_rules.proofs.FirstModelFaults.{no_model_fault}
 use Rattle.lists.proofs.Members.{In, in_left, in_right, in_parts, in_mapped, in_map, in_flat, in_flattened, in_filtered, filtered_in}
-use Rattle.sound_designs.proofs.Sound.{same_of, none_of, in_got, some_models, is_placed, named_in, not_portless}
+use Rattle.sound_designs.proofs.Sound.{same_of, in_got, is_placed, named_in, not_portless}
 use Rattle.sound_designs.proofs.OneDriver.{Local}
 use Rattle.sound_designs.proofs.OneDriver.Local.{by_input, by_cover, by_latch, by_output}
+use Rattle.netlist_rules.proofs.Faultless.{nothing_of as none_of}
+use Rattle.netlist_rules.proofs.Faultless.{some_models}
 
 abbrev named : Port → List ℕ
 named p = p.name

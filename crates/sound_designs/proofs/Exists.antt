@@ -37,11 +37,14 @@ use Rattle.sound_designs.proofs.Sound.{in_got, in_models, same_of, formals_named
 use Rattle.sound_designs.proofs.Local.{Apart, no_repeat}
 use Rattle.sound_designs.proofs.OneDriver.{at_most_one_driver}
 use Rattle.sound_designs.proofs.Driven.{got_from, clean_of, names_left}
-use Rattle.sound_designs.proofs.Sources.{have_drivers, none_kept}
+use Rattle.sound_designs.proofs.Sources.{have_drivers}
 use Rattle.lists.proofs.Bools.{or_false_left as first_of}
 use Rattle.lists.proofs.Appends.{append_nil_left as none_left, append_nil_right as none_right}
 use Rattle.sound_designs.proofs.Ordered.{same_map, in_covers}
 use Rattle.sound_designs.proofs.NoLoop.{split_at}
+use Rattle.std.proofs.lemmas.Bool.{and_parts as both_true}
+use Rattle.netlist_rules.proofs.Faultless.{none_kept}
+use Rattle.std.proofs.Math.Bool.{or-false as or_nil}
 
 -- the driver of a net
 record DrivenBy (design : Design) (net : Net) (d : Driver) : Type 0 where
@@ -183,10 +186,6 @@ own_key : (at : CoverAt) (bit : Bool) → is_key (record { at = at; bit = bit })
 unfolding is_key
 own_key at bit = ap (λ b. b && (at.number == at.number)) (bytes_eq-same at.place) ∙ (Decides-eqb at.number at.number).1 refl
 
-both_true : (a b : Bool) → (a && b) ≡ true → (a ≡ true) × (b ≡ true)
-both_true true b e = (refl, e)
-both_true false b e = absurd (true≢false (sym e))
-
 key_is : (k : Known) (at : CoverAt) → is_key k at.place at.number ≡ true → k.at ≡ at
 unfolding is_key
 key_is k at e =
@@ -209,10 +208,6 @@ step_key : (design : Design) (g : Given design) (ks : List Known) (x at : CoverA
 unfolding step_with has_key
 step_key design g ks x at None e = absurd (true≢false (sym e))
 step_key design g ks x at (Some c) e = sym (key_is (record { at = x; bit = cover_value c.rows c.on (map (bit_of g ks x.place) c.ins) }) at (sym (or_nil (is_key (record { at = x; bit = cover_value c.rows c.on (map (bit_of g ks x.place) c.ins) }) at.place at.number)) ∙ e))
-  where
-    or_nil : (b : Bool) → (b || false) ≡ b
-    or_nil true = refl
-    or_nil false = refl
 
 keys_in : (design : Design) (g : Given design) (ks : List Known) (xs : List CoverAt) (at : CoverAt) → has_key (run g ks xs) at.place at.number ≡ true → (has_key ks at.place at.number ≡ true) ⊎ In at xs
 unfolding run
@@ -289,7 +284,7 @@ cover_holds design g order o at c is_c =
 actual_named : (m : Model) (l : Subckt) (pin : Pin) → In l m.subckts → In pin l.pins → In pin.actual (model_names m)
 actual_named m l pin i j = in_right _ (flat_map (λ (l : Subckt). map (λ (q : Pin). q.actual) l.pins) m.subckts) pin.actual (in_flat (λ (l : Subckt). map (λ (q : Pin). q.actual) l.pins) m.subckts l pin.actual i (in_map (λ (q : Pin). q.actual) l.pins pin j))
 
-joined_nets : (design : Design) → AreFaultless design.models → (a b : Net) → Joined design a b → (a ≡ b) ⊎ (IsNet design a × IsNet design b)
+pub joined_nets : (design : Design) → AreFaultless design.models → (a b : Net) → Joined design a b → (a ≡ b) ⊎ (IsNet design a × IsNet design b)
 joined_nets design f a b (by_pin h) = inr ((h.model, h.has_model, contains_from (model_names h.model) a.name (subst (λ v. In v (model_names h.model)) (sym h.is_actual) (actual_named h.model h.line h.pin (in_got h.model.subckts h.number h.line h.has_line) (in_from h.line.pins h.pin h.has_pin)))), formals_named design f a b h)
 joined_nets design f a b itself = inl refl
 joined_nets design f a b (reversed j) = elim (joined_nets design f b a j) as (λ _. (a ≡ b) ⊎ (IsNet design a × IsNet design b)) [ inl e ↦ inl (sym e) | inr n ↦ inr (n.1, n.0) ]

@@ -12,10 +12,7 @@ use Rattle.lists.proofs.Members.{In, in_left, in_right, filtered_in as in_filter
 use Rattle.sound_designs.proofs.Sound.{same_of}
 use Rattle.lists.proofs.Bools.{or_false_left as first_of, or_false_right as second_of}
 use Rattle.lists.proofs.Appends.{append_nil_left as none_left, append_nil_right as none_right}
-
-none_kept : (b : Bool) (p : Port) → option_to_list (then_some b p) ≡ [] → b ≡ false
-none_kept true p e = absurd (cc)
-none_kept false p e = refl
+use Rattle.netlist_rules.proofs.Faultless.{none_kept}
 
 pub not_any : {X : Type 0} (test : X → Bool) (xs : List X) (x : X) → list_any test xs ≡ false → In x xs → test x ≡ false
 not_any test [] x e i = absurd i

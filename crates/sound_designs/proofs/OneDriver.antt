@@ -25,20 +25,15 @@ use Rattle.lists.proofs.Members.{In, in_from, in_left, in_right, in_mapped, filt
 use Rattle.sound_designs.specs.OneDriver.{Driver, Drives, FaultlessHaveAtMostOneDriver}
 use Rattle.sound_designs.specs.OneDriver.Driver.{port, cover, latch}
 use Rattle.sound_designs.specs.OneDriver.Drives.{of_port, of_cover, of_latch}
-use Rattle.sound_designs.proofs.Sound.{same_of, none_of, in_got, some_models, in_models, is_placed, named_in, not_portless, formals_once}
+use Rattle.sound_designs.proofs.Sound.{same_of, in_got, in_models, is_placed, named_in, not_portless, formals_once}
 use Rattle.sound_designs.proofs.Local.{Apart, no_repeat, apart_left, apart_right, apart_cross, same_place, same_line, apart_at, same_kept, got_mapped, got_flat}
+use Rattle.std.proofs.lemmas.Bool.{and_parts as two_true}
+use Rattle.lists.proofs.Members.{passes_at as any_in}
+use Rattle.netlist_rules.proofs.Faultless.{nothing_of as none_of}
+use Rattle.netlist_rules.proofs.Faultless.{some_models}
 
 abbrev named : Port → List ℕ
 named p = p.name
-
--- each name of a list of ports has a first
-any_in : {X : Type 0} (test : X → Bool) (xs : List X) → list_any test xs ≡ true → (x : X) × In x xs × (test x ≡ true)
-any_in test [] e = absurd (true≢false (sym e))
-any_in test (x ∷ xs) e = by (test x) refl (λ t. any_in test xs t) e
-  where
-    by : (b : Bool) → test x ≡ b → (list_any test xs ≡ true → (y : _) × In y xs × (test y ≡ true)) → (b || list_any test xs) ≡ true → (y : _) × In y (x ∷ xs) × (test y ≡ true)
-    by true h later t = (x, inl refl, h)
-    by false h later t = let r = later t in (r.0, inr r.1, r.2)
 
 pub none_any : {X : Type 0} (test : X → Bool) (xs : List X) → ((x : X) → In x xs → test x ≡ false) → list_any test xs ≡ false
 none_any test [] f = refl
@@ -51,10 +46,6 @@ keep_front false x rest e = inl refl
 keep_rest : (b : Bool) (x : Port) (rest : List Port) (name : List ℕ) → In name (port_names rest) → In name (port_names (option_to_list (then_some (not b) x) ++ rest))
 keep_rest true x rest name i = i
 keep_rest false x rest name i = inr i
-
-two_true : (a b : Bool) → (a && b) ≡ true → (a ≡ true) × (b ≡ true)
-two_true true b e = (refl, e)
-two_true false b e = absurd (true≢false (sym e))
 
 below : (m n : ℕ) (b : Bool) → nat_lt m n ≡ b → (m < n) ⊎ (n ≤ m)
 below m n true h = inl (ltb-true m n h)

@@ -29,6 +29,8 @@ use Rattle.netlist_rules.proofs.ModelSteps.{model_of_name}
 use Rattle.netlist_rules.proofs.Faultless.{no_model_is_in_itself, formals_are_distinct}
 use Rattle.sound_designs.specs.Laws.{FaultlessAreNotRecursive, FaultlessNameFormalsOnce, FaultlessAreWired}
 use Rattle.lists.proofs.Appends.{append_nil_left as none_left, append_nil_right as none_right}
+use Rattle.netlist_rules.proofs.Faultless.{nothing_of as none_of}
+use Rattle.netlist_rules.proofs.Faultless.{some_models}
 
 pub same_of : {X : Type 0} {x y : X} → Some x ≡ Some y → x ≡ y
 same_of {x = x} {y = y} e = same_Some x y e
@@ -102,7 +104,7 @@ not_recursive design faultless outer (number ∷ inner) a b some is_a is_b same 
     no_model_is_in_itself design.models faultless a.name names (subst (λ v. Leads design.models a.name names v) (sym same) way)
 
 -- of pins with distinct formals, two of one formal are one
-one_pin : (pins : List Pin) (p q : Pin) → Distinct (map (λ (pin : Pin). pin.formal) pins) → In p pins → In q pins → p.formal ≡ q.formal → p ≡ q
+pub one_pin : (pins : List Pin) (p q : Pin) → Distinct (map (λ (pin : Pin). pin.formal) pins) → In p pins → In q pins → p.formal ≡ q.formal → p ≡ q
 one_pin [] p q d i j e = absurd i
 one_pin (x ∷ xs) p q d (inl a) (inl b) e = a ∙ sym b
 one_pin (x ∷ xs) p q d (inl a) (inr b) e = absurd (d.0 (subst (λ v. In v (map (λ (pin : Pin). pin.formal) xs)) (sym e ∙ ap (λ (pin : Pin). pin.formal) a) (in_map (λ (pin : Pin). pin.formal) xs q b)))
@@ -116,15 +118,6 @@ pub formals_once : FaultlessNameFormalsOnce
 formals_once design faultless place number model line p q is_model is_line p_in q_in same =
     let d = formals_are_distinct design.models faultless model line (contains_from design.models model (in_models design place model is_model)) (contains_from model.subckts line (in_got model.subckts number line is_line)) in
     ap (λ (pin : Pin). pin.actual) (one_pin line.pins p q (distinct_from (map (λ (pin : Pin). pin.formal) line.pins) d) (in_from line.pins p p_in) (in_from line.pins q q_in) same)
-
-pub none_of : {X Y : Type 0} (f : X → List Y) (xs : List X) (x : X) → flat_map f xs ≡ [] → In x xs → f x ≡ []
-none_of f [] x e i = absurd i
-none_of f (z ∷ zs) x e (inl same) = ap f same ∙ none_left (f z) (flat_map f zs) e
-none_of f (z ∷ zs) x e (inr later) = none_of f zs x (none_right (f z) (flat_map f zs) e) later
-
-pub some_models : (models : List Model) → AreFaultless models → models ≢ []
-some_models [] a e = let h : model_fault [] ≡ None = a.no_fault in cc
-some_models (m ∷ ms) a e = cc
 
 pub is_placed : (o : Option Model) (s : Subckt) → unplaced o s ≡ [] → (placed : Model) × (o ≡ Some placed)
 is_placed None s e = absurd (cc)

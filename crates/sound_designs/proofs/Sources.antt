@@ -25,7 +25,7 @@ use Rattle.lists.proofs.Members.{In, in_from, contains_from, in_left, in_right, 
 use Rattle.sound_designs.specs.OneDriver.{Driver, Drives, FaultlessHaveDrivers}
 use Rattle.sound_designs.specs.OneDriver.Driver.{port, cover, latch}
 use Rattle.sound_designs.specs.OneDriver.Drives.{of_port, of_cover, of_latch}
-use Rattle.sound_designs.proofs.Sound.{none_of, in_got, in_models, named_in, not_recursive}
+use Rattle.sound_designs.proofs.Sound.{in_got, in_models, named_in, not_recursive}
 use Rattle.sound_designs.proofs.Local.{not_any, not_up_to, not_before}
 use Rattle.sound_designs.proofs.OneDriver.{Local, Reaches, drivers_apart, input_pin}
 use Rattle.sound_designs.proofs.OneDriver.Local.{by_input, by_cover, by_latch, by_output}
@@ -33,13 +33,12 @@ use Rattle.sound_designs.proofs.OneDriver.Reaches.{here, up, down}
 use Rattle.sound_designs.proofs.Driven.{clean_of, name_local}
 use Rattle.lists.proofs.Bools.{or_false_right as second_of}
 use Rattle.lists.proofs.Appends.{append_nil_left as none_left, append_nil_right as none_right}
+use Rattle.netlist_rules.proofs.Faultless.{nothing_of as none_of}
+use Rattle.netlist_rules.proofs.Faultless.{none_kept}
+use Rattle.netlist_rules.proofs.FirstModelFaults.{none_empty as none_earliest}
 
 abbrev named : Port → List ℕ
 named p = p.name
-
-pub none_kept : (b : Bool) (p : Port) → option_to_list (then_some b p) ≡ [] → b ≡ false
-none_kept true p e = absurd (cc)
-none_kept false p e = refl
 
 -- no name is an input and an output
 none_doubles : (test : Port → Bool) (before ports : List Port) (p : Port) → doubles_after test before ports ≡ [] → In p ports → test p ≡ false
@@ -61,15 +60,6 @@ input_no_output m name e i o =
     ] in
     let more : p.line ≤ q.line = not_before p q (not_any (same_name_before p) m.outs q not_out y) (sym is_q ∙ is_p) in
     absurd (omega arith)
-
--- an input formal has a pin
-none_earliest : (ports : List Port) → earliest ports ≡ None → ports ≡ []
-none_earliest [] e = refl
-none_earliest (p ∷ ps) e = absurd (by (earliest ps) e)
-  where
-    by : (o : Option Port) → earlier_of p o ≡ None → ⊥
-    by None f = none-some p (sym f)
-    by (Some q) f = none-some _ (sym f)
 
 none_mapped : (f : Port → Port) (o : Option Port) → map f (option_to_list o) ≡ [] → o ≡ None
 none_mapped f None e = refl

@@ -9,6 +9,7 @@ use Rattle.ww_rule.specs.Wireworld.{next_plane, evolve, next_state, heads_around
 use Rattle.tile_core.specs.Drawing.{Cell, is_cell_of, Drawing, picture}
 use Rattle.tile_timing.proofs.Traces.{none_of, none_of-says}
 use Rattle.tile_timing.proofs.Sound.{same_place, evolve-front}
+use Rattle.ww_rule.proofs.Cells.{sum_same as sum_is}
 
 -- where a number stands from another: one below it, at it, one above it, or elsewhere
 pub data Side : Type 0 where
@@ -103,9 +104,6 @@ hit_cases false false b t h = refl
 hit_at : (drawing : Drawing) (c : Cell) (ts : List Cell) (u v : ℤ) → drawing c.x c.y ≡ true → count_head (picture drawing (c ∷ []) ts u v) ≡ hit (int_eq u c.x) (int_eq v c.y)
 hit_at drawing c ts u v w =
     hit_cases (drawing u v) (int_eq u c.x) (int_eq v c.y) (is_cell_of u v ts) (λ e. let s = same_place u v c.x c.y e in ap₂ drawing s.0 s.1 ∙ w)
-
-sum_is : (a b c d e f g h a' b' c' d' e' f' g' h' : ℕ) → a ≡ a' → b ≡ b' → c ≡ c' → d ≡ d' → e ≡ e' → f ≡ f' → g ≡ g' → h ≡ h' → a + b + c + d + e + f + g + h ≡ a' + b' + c' + d' + e' + f' + g' + h'
-sum_is a b c d e f g h a' b' c' d' e' f' g' h' p1 p2 p3 p4 p5 p6 p7 p8 = omega arith
 
 -- one head alone counts once beside it, and nowhere else
 pub one_head : (drawing : Drawing) (c : Cell) (ts : List Cell) (x y : ℤ) → drawing c.x c.y ≡ true → heads_around (picture drawing (c ∷ []) ts) x y ≡ cond (is_beside x y c) 1 0

@@ -10,6 +10,7 @@ use Rattle.tile_core.specs.Drawing.{Cell, is_cell_of}
 use Rattle.tile_core.specs.Interface.{cell_at, chosen}
 use Rattle.tile_timing.specs.Law.{is_at, AreLitAs}
 use Rattle.tile_timing.proofs.Sound.{same_place}
+use Rattle.std.proofs.lemmas.Bool.{or_right as later_true}
 
 among_cond : (a : Bool) (c : Cell) (cs : List Cell) (x y : ℤ) → is_cell_of x y (cond a (c ∷ cs) cs) ≡ ((a && (int_eq x c.x && int_eq y c.y)) || is_cell_of x y cs)
 among_cond true c cs x y = refl
@@ -57,10 +58,6 @@ at_port_cells P (p ∷ ps) all x y e =
 
 here_true : (a b c : Bool) → a ≡ true → b ≡ true → ((a && b) || c) ≡ true
 here_true a b c e f = cc
-
-later_true : (a c : Bool) → c ≡ true → (a || c) ≡ true
-later_true true c e = refl
-later_true false c e = e
 
 -- and the other way
 pub at_ports : (P : ℤ → ℤ → Type 0) (ports : List (ℕ × ℕ)) → ((x y : ℤ) → is_cell_of x y (map cell_at ports) ≡ true → P x y) → All (λ port. P (pos port.0) (pos port.1)) ports

@@ -8,6 +8,7 @@ use Rattle.ww_rule.specs.declared.pattern.State.TheVariants.{Empty, Head, Tail, 
 use Rattle.ww_rule.specs.Wireworld.{Plane, next_plane, evolve, next_state, heads_around, count_head}
 use Rattle.tile_core.specs.Drawing.{Cell, is_cell_of, Drawing, picture}
 use Rattle.tile_timing.proofs.Heads.{all_around, is_head, collect, next_heads, trace}
+use Rattle.ww_rule.proofs.Cells.{sum_none as sum_of_none}
 
 pub eq_down : (x a : ℤ) → int_eq (x -ℤ pos 1) a ≡ int_eq x (a +ℤ pos 1)
 eq_down x a =
@@ -64,9 +65,6 @@ dark_cases true false false h = refl
 
 count_dark : (drawing : Drawing) (hs ts : List Cell) (x y : ℤ) → is_cell_of x y hs ≡ false → count_head (picture drawing hs ts x y) ≡ 0
 count_dark drawing hs ts x y h = dark_cases (drawing x y) (is_cell_of x y hs) (is_cell_of x y ts) h
-
-sum_of_none : (a b c d e f g h : ℕ) → a ≡ 0 → b ≡ 0 → c ≡ 0 → d ≡ 0 → e ≡ 0 → f ≡ 0 → g ≡ 0 → h ≡ 0 → a + b + c + d + e + f + g + h ≡ 0
-sum_of_none a b c d e f g h p1 p2 p3 p4 p5 p6 p7 p8 = omega arith
 
 pub none_around : (drawing : Drawing) (hs ts : List Cell) (x y : ℤ) → is_cell_of x y (all_around hs) ≡ false → heads_around (picture drawing hs ts) x y ≡ 0
 none_around drawing hs ts x y h =

@@ -8,6 +8,7 @@ use Rattle.tile_core.specs.Interface.{Interface, entry_cells, exit_cells, lit_en
 use Rattle.tile_core.specs.TimingLaw.{KeepsTime}
 use Rattle.tile_timing.proofs.Heads.{trace}
 use Rattle.tile_timing.proofs.Sound.{evolve_picture, same_place}
+use Rattle.std.specs.Cmp.{both_ways as same_both_ways}
 
 -- none of the cells is in the list
 abbrev pub none_of : List Cell → List Cell → Bool
@@ -102,11 +103,6 @@ lit_cases w h t p q = rw (p, q) refl
 
 rest_cases : (w t t' : Bool) → t ≡ t' → cond w (cond false Head (cond t Tail Conductor)) Empty ≡ cond w (cond false Head (cond t' Tail Conductor)) Empty
 rest_cases w t t' e = ap (λ v. cond w (cond v Tail Conductor) Empty) e
-
-same_both_ways : (a b : Bool) → (a ≡ true → b ≡ true) → (b ≡ true → a ≡ true) → a ≡ b
-same_both_ways true b p q = sym (p refl)
-same_both_ways false true p q = q refl
-same_both_ways false false p q = refl
 
 none_left : (hs : List Cell) → is_nil hs ≡ true → hs ≡ []
 none_left [] e = refl

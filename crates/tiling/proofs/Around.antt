@@ -4,6 +4,7 @@ use Rattle.std.proofs.lemmas.Int.{ints}
 use Rattle.ww_rule.specs.Wireworld.{Plane, heads_around, count_head}
 use Rattle.tiling.proofs.Border.{Near}
 use Rattle.tiling.proofs.Facing.{Facing, East_of, West_of, South_of, North_of}
+use Rattle.ww_rule.proofs.Cells.{sum_none}
 
 -- no cell beside this one is a head, but those for which the premise Q does not hold
 abbrev pub QuietBut : Plane → ℤ → ℤ → (ℤ → ℤ → Type 0) → Type 0
@@ -50,9 +51,6 @@ eight p x y Q h =
       s = h x (y +ℤ pos 1) (near_by x y _ _ (lo x) (hi x) (far y) (more y));
       se = h (x +ℤ pos 1) (y +ℤ pos 1) (near_by x y _ _ (far x) (more x) (far y) (more y));
     }
-
-sum_none : (a b c d e f g h : ℕ) → a ≡ 0 → b ≡ 0 → c ≡ 0 → d ≡ 0 → e ≡ 0 → f ≡ 0 → g ≡ 0 → h ≡ 0 → a + b + c + d + e + f + g + h ≡ 0
-sum_none a b c d e f g h p1 p2 p3 p4 p5 p6 p7 p8 = omega arith
 
 pub none_around : (p : Plane) (x y : ℤ) → QuietBut p x y (λ u v. ⊥) → heads_around p x y ≡ 0
 none_around p x y q =

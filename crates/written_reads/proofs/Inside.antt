@@ -8,6 +8,7 @@ use Rattle.ww_rule.specs.declared.pattern.State.TheVariants.{Empty}
 use Rattle.ww_rule.specs.Grid.{IsGrid}
 use Rattle.pattern_writing.specs.Writer.{grid_tags, row_tags, tag_of, unless_last, without_end}
 use Rattle.written_reads.proofs.Look.{Mark, RowEnd, Of, mark_of, mark_of_cell, tag}
+use Rattle.ww_rule.proofs.Boxes.{rows_within as few_rows}
 
 -- a tag that goes on in its row stands in the box, and so does the rest
 abbrev pub GoesOn : Mark → Type 0 → Type 0 → Type 0 → Type 0
@@ -70,13 +71,6 @@ module _ (w h : ℕ) where
       let rest = rows_inside rows (cy + 1) (All-tail (λ row. length row ≡ w) row rows long) (omega (arith, fits)) in
       rw (append_assoc (without_end 46 (map tag_of row)) (36 ∷ []) (flat_map row_tags rows)) (
       row_trimmed (map tag_of row) (flat_map row_tags rows) 0 cy (row_inside row (flat_map row_tags rows) 0 cy (omega (arith, wide)) (omega (arith, fits)) rest))
-
--- no more rows than the box is high
-few_rows : (w h : ℕ) (rows : List (List State)) → IsGrid w h rows → length rows ≤ h
-few_rows w h rows grid = elim (eqb_tells (w * h) 0) as (λ _. length rows ≤ h) [
-  | inl same ↦ let none : rows ≡ [] = grid.none same.1 in rw none (omega arith)
-  | inr other ↦ let many : length rows ≡ h = grid.many other.1 in omega (arith, many)
-]
 
 pub grid_inside : (w h : ℕ) (rows : List (List State)) → IsGrid w h rows → AreInside w h (grid_tags rows) 0 0
 grid_inside w h rows grid =

@@ -29,7 +29,7 @@ plane_of_below rows x y h =
     let e : get_or rows y [] ≡ [] = get_or_past rows y [] h in ap (λ row. get_or row x Empty) e
 
 -- a box without cells has no rows, and any other has no more than its height
-rows_within : (width height : ℕ) (rows : List (List State)) → IsGrid width height rows → length rows ≤ height
+pub rows_within : (width height : ℕ) (rows : List (List State)) → IsGrid width height rows → length rows ≤ height
 rows_within width height rows grid =
     elim (cases_eq (width * height) 0) [
       | inl e ↦ let n : length rows ≡ 0 = ap length (grid.none e) in omega arith

@@ -12,7 +12,7 @@ columns_of-requires c =
     let ports = c.args.ports.now in
     let streams = c.args.streams.now in
     let bit = λ (out : PortLine) (t : ℕ). is_head (driven_by ports streams (plane_of c.args.pattern.rows) (ports.l + t * ports.p) (pos out.x) (pos out.y)) in
-    subst (λ (n : ℕ). All (λ (row : List Bool). length row ≡ n) c.deref.result.now) (sym c.len.ensures)
+    subst (λ (n : ℕ). All (λ (row : List Bool). length row ≡ n) c.deref.result.now) (sym c.len-outputs.ensures)
     (subst (λ (rows : List (List Bool)). All (λ (row : List Bool). length row ≡ length ports.outs) rows) (sym (c.deref.ensures.value ∙ c.in_ok-rows.ensures))
     (rows_long bit ports.outs (range_with_len 0 streams.cycles)))
 
@@ -23,6 +23,6 @@ returns-clause-bits c =
     let start = plane_of c.args.pattern.rows in
     let bit = λ (out : PortLine) (t : ℕ). is_head (driven_by ports streams start (ports.l + t * ports.p) (pos out.x) (pos out.y)) in
     c.in_ok-columns_of.ensures
-    ∙ ap (λ (n : ℕ). map (column_of c.deref.result.now) (range_with_len 0 n)) c.len.ensures
+    ∙ ap (λ (n : ℕ). map (column_of c.deref.result.now) (range_with_len 0 n)) c.len-outputs.ensures
     ∙ ap (λ (rows : List (List Bool)). map (column_of rows) (range_with_len 0 (length ports.outs))) (c.deref.ensures.value ∙ c.in_ok-rows.ensures)
     ∙ columns_are bit ports.outs (range_with_len 0 streams.cycles)

@@ -1,7 +1,7 @@
 use Rattle.std.proofs.Common.{rules}
-use Rattle.macro_grid.proofs.Columns.{columns_apart}
 use Rattle.plan_layout.proofs.Matched.{tiling_is_matched}
 use Rattle.macro_grid.proofs.rules.admissible.Goals as goal
+use Rattle.lane_core.proofs.Lookup.{columns_apart}
 
 pub returns-clause-exact : goal.returns-clause-exact
 returns-clause-exact c = (

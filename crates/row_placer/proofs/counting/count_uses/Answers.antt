@@ -1,12 +1,12 @@
 use Rattle.std.proofs.Common.{◌≡◌, sym, ◌∙◌, ap, subst, ◌+◌, ◌-◌, ◌<◌, ◌++◌, ◌∷◌, length, get_or, drop, arith}
 use Rattle.std.proofs.lemmas.List.{length-set}
-use Rattle.row_placer.specs.declared.job.Gate.{Gate}
-use Rattle.row_placer.specs.declared.job.Kind.TheVariants.{Or}
+use Rattle.row_placer.specs.declared.job.NumberedCell.{NumberedCell}
+use Rattle.row_placer.specs.declared.job.CellKind.TheVariants.{Or}
 use Rattle.row_placer.specs.Uses.{need, owed_ports, uses_of, AreCounted}
 use Rattle.row_placer.proofs.Counts.{counted_more, needed, need_small, few_uses, length-pending, owed_more, front}
 use Rattle.row_placer.proofs.counting.count_uses.Goals as goal
 
-abbrev none : Gate
+abbrev none : NumberedCell
 none = record { kind = Or; first = 0; second = 0 }
 
 pub loop-port-preserved : goal.loop-port-preserved

@@ -29,9 +29,3 @@ returns-in-NoMemory-clause-ok g c = told_ok _ _ _ (sym (ap refusal_line c.in-NoM
 
 pub returns-in-NoMemory-clause-front : goal.returns-in-NoMemory-clause-front
 returns-in-NoMemory-clause-front g c = told_front _ _ _ (sym (ap refusal_line c.in-NoMemory.is)) c.write_all-in-NoMemory.ensures.front
-
-pub returns-in-NotYet-clause-ok : goal.returns-in-NotYet-clause-ok
-returns-in-NotYet-clause-ok g c = told_ok _ _ _ (sym (ap refusal_line c.in-NotYet.is)) c.write_all-in-NotYet.ensures.ok
-
-pub returns-in-NotYet-clause-front : goal.returns-in-NotYet-clause-front
-returns-in-NotYet-clause-front g c = told_front _ _ _ (sym (ap refusal_line c.in-NotYet.is)) c.write_all-in-NotYet.ensures.front

@@ -1,25 +1,30 @@
-use Rattle.ww_rule.specs.Due.{due_count}
-use Rattle.std.proofs.Common.{ap, sym, subst, ◌∙◌, ℕ, List}
-use Rattle.ww_rule.specs.Grid.{AreInBox, plane_of}
-use Rattle.ww_rule.specs.Wireworld.{injected}
-use Rattle.ww_rule.specs.Injections.{has_cell}
-use Rattle.drive.proofs.Inside.{due_inside}
-use Rattle.ww_rule.proofs.Due.{all_left, front_cells, left_after}
+use Rattle.std.proofs.Common.{◌≤◌, ◌<◌, refl, sym, subst, false, arith, length, ℕ, All}
+use Rattle.std.proofs.lemmas.List.{length-replicate, get_or-replicate}
+use Rattle.ww_rule.specs.declared.pattern.Injection.{Injection}
+use Rattle.band_core.specs.Bands.{BandedPattern, bands_in}
+use Rattle.drive.specs.Runs.{IsRun}
 use Rattle.drive.proofs.run.Run.begin.Goals as goal
-
-pub inject-requires : goal.inject-requires
-inject-requires c =
-    let pattern = c.args.pattern in
-    let injections = c.args.injections.now in
-    let inside = due_inside pattern.width pattern.height (due_count 0 injections) injections c.split_due.result.0.now c.split_due.ensures.due c.requires.inside in
-    record { in_box = subst (AreInBox pattern.width pattern.height) (sym (c.deref.ensures.value ∙ c.in_ok-cells.ensures)) inside }
 
 pub returns-clause-run : goal.returns-clause-run
 returns-clause-run c =
-    let injections = c.args.injections.now in
-    let all = all_left injections c.requires.in_order in
-    let cells = c.deref.ensures.value ∙ c.in_ok-cells.ensures ∙ front_cells 0 injections injections all c.split_due.result.0.now c.split_due.ensures.due in
-    record {
-      plane = c.inject.ensures.cells ∙ ap (λ (cells : List (ℕ × ℕ)). injected (has_cell cells) (plane_of c.args.pattern.rows)) cells;
-      left = left_after 0 injections injections all c.split_due.result.1.now c.split_due.ensures.left;
-    }
+    let pattern = c.args.pattern in
+    let injections = c.args.injections.items in
+    let last = c.last_generation-last_injection.result in
+    let many = bands_in (length pattern.rows) 16 in
+    let begun = c.in_ok-bands.ensures in
+    subst (λ (bands : BandedPattern). IsRun (record { bands = bands; width = pattern.width; rows = c.len-rows.result; last_injection = last; generation = 0; is_still = false })) (sym begun)
+    (record {
+      whole = record {
+        grid = pattern.in_rows;
+        inside = c.requires.inside;
+        in_order = c.requires.in_order;
+        height = omega arith;
+        many = length-replicate many 0;
+      };
+      at = λ b lt. get_or-replicate many b 0 0 (subst (λ (n : ℕ). b < n) (length-replicate many 0) lt);
+      height = refl;
+      width = refl;
+      rows = c.len-rows.ensures;
+      last = subst (All (λ (i : Injection). i.generation ≤ last)) c.deref.ensures.value c.last_generation-last_injection.ensures;
+      still = λ e g le. cc;
+    })

@@ -1,41 +1,33 @@
-use Rattle.ww_rule.specs.Due.{due_count}
-use Rattle.std.proofs.Common.{◌+◌, refl, ap, sym, subst, ◌∙◌, arith, ℕ, List}
-use Rattle.ww_rule.specs.Grid.{AreInBox, plane_of}
-use Rattle.ww_rule.specs.Wireworld.{Plane, injected, next_plane}
-use Rattle.ww_rule.specs.Injections.{has_cell, due_of_list}
-use Rattle.drive.proofs.Inside.{due_inside, left_inside}
-use Rattle.drive.proofs.Leads.{driven_next}
-use Rattle.ww_rule.proofs.Due.{front_cells, left_after}
+use Rattle.std.proofs.Common.{◌≡◌, ◌+◌, ◌≤◌, ◌∙◌, ap, ap₂, sym, subst, arith, leb, length, ℕ, List, All}
+use Rattle.std.proofs.lemmas.Bool.{and_parts, leb-true}
+use Rattle.ww_rule.specs.declared.pattern.Injection.{Injection}
+use Rattle.ww_rule.specs.Grid.{Grid, plane_of}
+use Rattle.ww_rule.specs.Injections.{due_of_list}
+use Rattle.ww_rule.specs.Wireworld.{Plane, driven}
+use Rattle.drive.specs.Runs.{evolution}
+use Rattle.drive.proofs.Still.{stays_still}
+use Rattle.drive.proofs.Sweeps.{whole_too}
 use Rattle.drive.proofs.run.Run.next.Goals as goal
 
-pub step_driven-requires : goal.step_driven-requires
-step_driven-requires c =
-    let run = c.args.self.now in
-    let k = due_count (run.generation + 1) run.left.now in
-    let inside = due_inside run.plane.width run.plane.height k run.left.now c.split_due.result.0.now c.split_due.ensures.due c.requires.inside in
-    record { in_box = subst (AreInBox run.plane.width run.plane.height) (sym (c.deref.ensures.value ∙ c.in_ok-cells.ensures)) inside }
-
-pub returns : goal.returns
-returns c =
+pub returns-clause-run : goal.returns-clause-run
+returns-clause-run c =
     let run = c.args.self.now in
     let g = run.generation in
-    let now = plane_of run.plane.rows in
-    let later = c.in_ok-plane.plane in
-    let left = c.split_due.result.1.now in
+    let new = c.move_all-is_asleep.new.bands in
+    let is = c.requires.run in
+    let same = c.move_all-is_asleep.ensures.same in
+    let shows : evolution new ≡ evolution run.bands =
+    ap₂ (λ (grid : Grid) (injections : List Injection). driven (due_of_list injections) (plane_of grid.rows)) same.grid same.injections in
+    let now = λ (h : ℕ). ap (λ (e : ℕ → Plane). e h) shows in
     record {
-      comes = refl;
-      inside =
-          left_inside run.plane.width run.plane.height (due_count (g + 1) run.left.now) later.width later.height run.left.now left
-          c.in_ok-plane.ensures.width c.in_ok-plane.ensures.height c.split_due.ensures.left c.requires.inside;
-      same = λ injections start of.
-          let due = due_of_list injections in
-          let cells = c.deref.ensures.value ∙ c.in_ok-cells.ensures ∙ front_cells (g + 1) injections run.left.now of.left c.split_due.result.0.now c.split_due.ensures.due in
-          record {
-            plane =
-                c.in_ok-plane.ensures.cells
-                ∙ ap (λ (cells : List (ℕ × ℕ)). injected (has_cell cells) (next_plane now)) cells
-                ∙ ap (λ (plane : Plane). injected (due (g + 1)) (next_plane plane)) of.plane
-                ∙ driven_next due start g (g + 1) (omega arith);
-            left = left_after (g + 1) injections run.left.now of.left left c.split_due.ensures.left;
-          };
+      whole = whole_too run.bands new same is.whole;
+      at = c.move_all-is_asleep.ensures.at;
+      height = same.height ∙ is.height;
+      width = is.width ∙ sym (ap (λ (grid : Grid). grid.width) same.grid);
+      rows = is.rows ∙ sym (ap (λ (grid : Grid). length grid.rows) same.grid);
+      last = subst (All (λ (i : Injection). i.generation ≤ run.last_injection)) (sym same.injections) is.last;
+      still = λ e h le.
+          let parts = and_parts (leb run.last_injection g) c.move_all-is_asleep.result e in
+          let stays = stays_still run.bands g run.last_injection is.whole is.at (c.move_all-is_asleep.ensures.asleep parts.1) is.last (leb-true run.last_injection g parts.0) in
+          now h ∙ stays h (omega (arith, le)) ∙ sym (stays (g + 1) (omega arith)) ∙ sym (now (g + 1));
     }

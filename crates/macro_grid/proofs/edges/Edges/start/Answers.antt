@@ -5,8 +5,9 @@ use Rattle.tiling.specs.Tiling.Edge.{Beside, Above}
 use Rattle.plan_layout.specs.Starts.{start_edges}
 use Rattle.macro_grid.specs.Edges.{edge_columns}
 use Rattle.lane_core.proofs.Dark.{dark}
-use Rattle.macro_grid.proofs.Bits.{bits_read, starts_right, starts_below, and_false}
+use Rattle.macro_grid.proofs.Bits.{bits_read, starts_right, starts_below}
 use Rattle.macro_grid.proofs.edges.Edges.start.Goals as goal
+use Rattle.std.proofs.Math.Bool.{and-false as and_false}
 
 pub returns-clause-lit : goal.returns-clause-lit
 returns-clause-lit c (Beside q l) =

@@ -1,0 +1,41 @@
+-- A command never both accepts and refuses a text, and refuses it for one cause.
+use Rattle.std.proofs.Common.{ℕ, ◌≡◌, refl, sym, ◌∙◌, List}
+use Rattle.command_words.specs.Shapes.{CommandValues, compile, simulate}
+use Rattle.blifww_tool.specs.Thin.{Names, IsThin}
+use Rattle.blifww_tool.specs.Commands.{Accepts, Prints, Refuses, IsNotThin}
+use Rattle.blifww_tool.specs.declared.causes.Cause.{Cause}
+use Rattle.blifww_tool.specs.declared.causes.Cause.TheVariants.{NotYet, Pattern, GridTooLarge, PortTable, Streams, TooFar}
+use Rattle.blifww_tool.proofs.SimulationOrNot.{simulates_or_not, one_cause as one_cause_of_simulation}
+
+pub printed_is_accepted : (command : CommandValues) (text output : List ℕ) → Prints command text output → Accepts command text
+printed_is_accepted compile text output h = (h.0, h.1)
+printed_is_accepted (simulate cycles words) text output h = (h.0, h.1)
+
+not_thin : (text : List ℕ) (names : Names) (cause : Cause) → IsThin text names → IsNotThin text cause → ⊥
+not_thin text names NotYet h k = k names h
+not_thin text names (Pattern f) h k = k
+not_thin text names (GridTooLarge x y) h k = k
+not_thin text names (PortTable f) h k = k
+not_thin text names (Streams f) h k = k
+not_thin text names (TooFar n) h k = k
+
+pub only_not_yet : (text : List ℕ) (cause : Cause) → IsNotThin text cause → cause ≡ NotYet
+only_not_yet text NotYet k = refl
+only_not_yet text (Pattern f) k = absurd k
+only_not_yet text (GridTooLarge x y) k = absurd k
+only_not_yet text (PortTable f) k = absurd k
+only_not_yet text (Streams f) k = absurd k
+only_not_yet text (TooFar n) k = absurd k
+
+pub accepted_or_refused : (command : CommandValues) (text : List ℕ) (cause : Cause) → Accepts command text → Refuses command text cause → ⊥
+accepted_or_refused compile text cause h k = not_thin text h.0 cause h.1 k
+accepted_or_refused (simulate cycles words) text cause h k = simulates_or_not cycles words text h.0 cause h.1 k
+
+pub one_cause : (command : CommandValues) (text : List ℕ) (a b : Cause) → Refuses command text a → Refuses command text b → a ≡ b
+one_cause compile text a b h k = only_not_yet text a h ∙ sym (only_not_yet text b k)
+one_cause (simulate cycles words) text a b h k = one_cause_of_simulation cycles words text a b h k
+
+-- the cause that a text is not compiled yet is one of `compile` alone
+pub not_yet_is_not_thin : (command : CommandValues) (text : List ℕ) → Refuses command text NotYet → (names : Names) → IsThin text names → ⊥
+not_yet_is_not_thin compile text h = h
+not_yet_is_not_thin (simulate cycles words) text h = absurd h

@@ -1,0 +1,154 @@
+-- A text and words give a simulation, or are refused in one way.
+use Rattle.std.proofs.Common.{ℕ, ◌≡◌, ◌≤◌, ◌<◌, ◌+◌, ◌-◌, ◌*◌, refl, sym, ap, ap₂, ◌∙◌, subst, List, arith}
+use Rattle.std.specs.Prelude.{Some, slice_get}
+use Rattle.std.proofs.lemmas.Option.{none-some}
+use Rattle.ww_rule.specs.Grid.{Grid}
+use Rattle.pattern_reading.specs.declared.ports.Ports.{Ports}
+use Rattle.pattern_reading.specs.declared.faults.RleFaultKind.{RleFaultKind}
+use Rattle.pattern_reading.specs.declared.faults.PortFaultKind.{PortFaultKind}
+use Rattle.pattern_reading.specs.Pattern.{ReadsWithinLimit, HasReaderFault, HasLargeBox}
+use Rattle.pattern_reading.specs.PortTable.{ReadsAsPorts, HasPortFault}
+use Rattle.pattern_reading.proofs.RleLaws.{one_pattern, one_fault}
+use Rattle.pattern_reading.proofs.PortLaws.{one_port_fault, no_port_fault_if_read}
+use Rattle.pattern_reading.proofs.Large.{one_reader_answer}
+use Rattle.rle_read.specs.declared.error.RleFault.{RleFault}
+use Rattle.port_table.specs.declared.faults.PortFault.{PortFault}
+use Rattle.drive.specs.declared.error.StreamFault.{StreamFault}
+use Rattle.drive.specs.Streams.{HasStreamFault}
+use Rattle.drive.specs.Driving.{last_generation, greatest_generation}
+use Rattle.pattern_reading.specs.Ports.{names_of}
+use Rattle.blifww_tool.specs.Simulation.{Simulation, IsSimulation, Simulates, HasNoSimulation}
+use Rattle.blifww_tool.specs.declared.causes.Cause.{Cause}
+use Rattle.blifww_tool.specs.declared.causes.Cause.TheVariants.{NotYet, Pattern, GridTooLarge, PortTable, Streams, TooFar}
+
+-- a pattern with ports, as a text has them
+pub record IsRead (text : List ℕ) (grid : Grid) (ports : Ports) : Type 0 where
+  pub pattern : ReadsWithinLimit text grid
+  pub table : ReadsAsPorts text grid.width grid.height ports
+
+-- the ways to be refused
+pub data Reason (cycles : ℕ) (words : List (List ℕ)) (text : List ℕ) (r : Cause) : Type 0 where
+  by_pattern : (fault : RleFault) → r ≡ Pattern fault → HasReaderFault text fault.kind fault.line → Reason cycles words text r
+  by_box : (width height : ℕ) → r ≡ GridTooLarge width height → HasLargeBox text width height → Reason cycles words text r
+  by_table : (fault : PortFault) → r ≡ PortTable fault → (grid : Grid) → ReadsWithinLimit text grid → HasPortFault text grid.width grid.height fault.kind fault.line → Reason cycles words text r
+  by_streams : (fault : StreamFault) → r ≡ Streams fault → (grid : Grid) → (ports : Ports) → IsRead text grid ports → HasStreamFault words (names_of ports.ins) cycles fault → Reason cycles words text r
+  by_time : (generations : ℕ) → r ≡ TooFar generations → (s : Simulation) → IsSimulation cycles words text s → generations ≡ last_generation s.ports s.streams → greatest_generation < generations → Reason cycles words text r
+
+reason_of : (cycles : ℕ) (words : List (List ℕ)) (text : List ℕ) (r : Cause) → HasNoSimulation cycles words text r → Reason cycles words text r
+reason_of cycles words text NotYet h = absurd h
+reason_of cycles words text (Pattern fault) h = by_pattern fault refl h
+reason_of cycles words text (GridTooLarge width height) h = by_box width height refl h
+reason_of cycles words text (PortTable fault) h = by_table fault refl h.0 h.1 h.2
+reason_of cycles words text (Streams fault) h = by_streams fault refl h.0 h.1 record { pattern = h.2; table = h.3 } h.4
+reason_of cycles words text (TooFar generations) h = by_time generations refl h.0 h.1 h.2 h.3
+
+read_of : (cycles : ℕ) (words : List (List ℕ)) (text : List ℕ) (s : Simulation) → IsSimulation cycles words text s → IsRead text s.grid s.ports
+read_of cycles words text s h = record { pattern = h.pattern; table = h.table }
+
+-- no two stages of the reading fail at once
+fault_or_box : (text : List ℕ) (kind : RleFaultKind) (line width height : ℕ) → HasReaderFault text kind line → HasLargeBox text width height → ⊥
+fault_or_box text = (one_reader_answer text).fault_or_large
+
+fault_or_read : (text : List ℕ) (kind : RleFaultKind) (line : ℕ) (grid : Grid) → HasReaderFault text kind line → ReadsWithinLimit text grid → ⊥
+fault_or_read text kind line grid h k = (one_reader_answer text).reads_or_fault grid kind line k h
+
+box_or_read : (text : List ℕ) (width height : ℕ) (grid : Grid) → HasLargeBox text width height → ReadsWithinLimit text grid → ⊥
+box_or_read text width height grid h k = (one_reader_answer text).reads_or_large grid width height k h
+
+same_grid : (text : List ℕ) (a b : Grid) → ReadsWithinLimit text a → ReadsWithinLimit text b → a ≡ b
+same_grid text a b h k = one_pattern text a b h.0 k.0
+
+same_ports : (text : List ℕ) (a b : Grid) (p q : Ports) → IsRead text a p → IsRead text b q → p ≡ q
+same_ports text a b p q h k = h.table.ports_is ∙ sym k.table.ports_is
+
+table_or_read : (text : List ℕ) (kind : PortFaultKind) (line : ℕ) (a b : Grid) (ports : Ports) → ReadsWithinLimit text a → HasPortFault text a.width a.height kind line → IsRead text b ports → ⊥
+table_or_read text kind line a b ports h fault k =
+    no_port_fault_if_read text b.width b.height ports kind line k.table
+    (subst (λ (g : Grid). HasPortFault text g.width g.height kind line) (same_grid text a b h k.pattern) fault)
+
+streams_or_not : (cycles : ℕ) (words : List (List ℕ)) (text : List ℕ) (fault : StreamFault) (grid : Grid) (ports : Ports) (s : Simulation)
+    → IsRead text grid ports → HasStreamFault words (names_of ports.ins) cycles fault → IsSimulation cycles words text s → ⊥
+streams_or_not cycles words text fault grid ports s h bad k =
+    let same = same_ports text grid s.grid ports s.ports h (read_of cycles words text s k) in
+    let here = subst (λ (p : Ports). HasStreamFault words (names_of p.ins) cycles fault) same bad in
+    none-some _ (ap (λ faults. slice_get faults 0) (sym k.streams.no_fault) ∙ here)
+
+same_last : (cycles : ℕ) (words : List (List ℕ)) (text : List ℕ) (s t : Simulation) → IsSimulation cycles words text s → IsSimulation cycles words text t
+    → last_generation s.ports s.streams ≡ last_generation t.ports t.streams
+same_last cycles words text s t h k =
+    let ports = same_ports text s.grid t.grid s.ports t.ports (read_of cycles words text s h) (read_of cycles words text t k) in
+    ap₂ (λ (p : Ports) (n : ℕ). p.l + (n - 1) * p.p) ports (h.many ∙ sym k.many)
+
+abbrev rle_fault : RleFaultKind → ℕ → RleFault
+rle_fault k l = record { kind = k; line = l }
+
+abbrev port_fault : PortFaultKind → ℕ → PortFault
+port_fault k l = record { kind = k; line = l }
+
+same_stream_fault : (a b : StreamFault) → Some a ≡ Some b → a ≡ b
+same_stream_fault a b e = cc
+
+-- a simulation that is near enough is not refused
+not_refused : (cycles : ℕ) (words : List (List ℕ)) (text : List ℕ) (s : Simulation) (r : Cause) → IsSimulation cycles words text s
+    → last_generation s.ports s.streams ≤ greatest_generation → Reason cycles words text r → ⊥
+not_refused cycles words text s r h near (by_pattern fault e k) = fault_or_read text fault.kind fault.line s.grid k h.pattern
+not_refused cycles words text s r h near (by_box width height e k) = box_or_read text width height s.grid k h.pattern
+not_refused cycles words text s r h near (by_table fault e grid reads k) = table_or_read text fault.kind fault.line grid s.grid s.ports reads k (read_of cycles words text s h)
+not_refused cycles words text s r h near (by_streams fault e grid ports reads k) = streams_or_not cycles words text fault grid ports s reads k h
+not_refused cycles words text s r h near (by_time generations e t k is far) =
+    let same = same_last cycles words text t s k h in
+    omega (arith, near, same, is, far)
+
+pub simulates_or_not : (cycles : ℕ) (words : List (List ℕ)) (text : List ℕ) (s : Simulation) (r : Cause) → Simulates cycles words text s → HasNoSimulation cycles words text r → ⊥
+simulates_or_not cycles words text s r h k = not_refused cycles words text s r h.is h.near (reason_of cycles words text r k)
+
+same_pattern : (text : List ℕ) (a b : RleFault) → HasReaderFault text a.kind a.line → HasReaderFault text b.kind b.line → a ≡ b
+same_pattern text a b h k =
+    let same = one_fault text a.kind b.kind a.line b.line h.0 k.0 in
+    let e : rle_fault a.kind a.line ≡ rle_fault b.kind b.line = ap₂ rle_fault same.0 same.1 in e
+
+same_table : (text : List ℕ) (a b : PortFault) (g k : Grid) → ReadsWithinLimit text g → HasPortFault text g.width g.height a.kind a.line
+    → ReadsWithinLimit text k → HasPortFault text k.width k.height b.kind b.line → a ≡ b
+same_table text a b g k reads h reads' h' =
+    let here = subst (λ (x : Grid). HasPortFault text x.width x.height b.kind b.line) (same_grid text k g reads' reads) h' in
+    let same = one_port_fault text g.width g.height a.kind b.kind a.line b.line h here in
+    let e : port_fault a.kind a.line ≡ port_fault b.kind b.line = ap₂ port_fault same.0 same.1 in e
+
+same_streams : (cycles : ℕ) (words : List (List ℕ)) (p q : Ports) (a b : StreamFault) → p ≡ q → HasStreamFault words (names_of p.ins) cycles a
+    → HasStreamFault words (names_of q.ins) cycles b → a ≡ b
+same_streams cycles words p q a b same h k =
+    same_stream_fault a b (sym (subst (λ (x : Ports). HasStreamFault words (names_of x.ins) cycles a) same h) ∙ k)
+
+-- each stage's refusal is one
+one_reason : (cycles : ℕ) (words : List (List ℕ)) (text : List ℕ) (r r' : Cause) → Reason cycles words text r → Reason cycles words text r' → r ≡ r'
+one_reason cycles words text r r' (by_pattern f e h) (by_pattern f' e' h') = e ∙ ap Pattern (same_pattern text f f' h h') ∙ sym e'
+one_reason cycles words text r r' (by_pattern f e h) (by_box x y e' h') = absurd (fault_or_box text f.kind f.line x y h h')
+one_reason cycles words text r r' (by_pattern f e h) (by_table f' e' g reads h') = absurd (fault_or_read text f.kind f.line g h reads)
+one_reason cycles words text r r' (by_pattern f e h) (by_streams f' e' g p reads h') = absurd (fault_or_read text f.kind f.line g h reads.pattern)
+one_reason cycles words text r r' (by_pattern f e h) (by_time n e' s k is far) = absurd (fault_or_read text f.kind f.line s.grid h k.pattern)
+one_reason cycles words text r r' (by_box x y e h) (by_pattern f e' h') = absurd (fault_or_box text f.kind f.line x y h' h)
+one_reason cycles words text r r' (by_box x y e h) (by_box x' y' e' h') =
+    let same = (one_reader_answer text).one_box x y x' y' h.0 h'.0 in e ∙ ap₂ GridTooLarge same.0 same.1 ∙ sym e'
+one_reason cycles words text r r' (by_box x y e h) (by_table f' e' g reads h') = absurd (box_or_read text x y g h reads)
+one_reason cycles words text r r' (by_box x y e h) (by_streams f' e' g p reads h') = absurd (box_or_read text x y g h reads.pattern)
+one_reason cycles words text r r' (by_box x y e h) (by_time n e' s k is far) = absurd (box_or_read text x y s.grid h k.pattern)
+one_reason cycles words text r r' (by_table f e g reads h) (by_pattern f' e' h') = absurd (fault_or_read text f'.kind f'.line g h' reads)
+one_reason cycles words text r r' (by_table f e g reads h) (by_box x y e' h') = absurd (box_or_read text x y g h' reads)
+one_reason cycles words text r r' (by_table f e g reads h) (by_table f' e' g' reads' h') = e ∙ ap PortTable (same_table text f f' g g' reads h reads' h') ∙ sym e'
+one_reason cycles words text r r' (by_table f e g reads h) (by_streams f' e' g' p reads' h') = absurd (table_or_read text f.kind f.line g g' p reads h reads')
+one_reason cycles words text r r' (by_table f e g reads h) (by_time n e' s k is far) = absurd (table_or_read text f.kind f.line g s.grid s.ports reads h (read_of cycles words text s k))
+one_reason cycles words text r r' (by_streams f e g p reads h) (by_pattern f' e' h') = absurd (fault_or_read text f'.kind f'.line g h' reads.pattern)
+one_reason cycles words text r r' (by_streams f e g p reads h) (by_box x y e' h') = absurd (box_or_read text x y g h' reads.pattern)
+one_reason cycles words text r r' (by_streams f e g p reads h) (by_table f' e' g' reads' h') = absurd (table_or_read text f'.kind f'.line g' g p reads' h' reads)
+one_reason cycles words text r r' (by_streams f e g p reads h) (by_streams f' e' g' p' reads' h') =
+    e ∙ ap Streams (same_streams cycles words p p' f f' (same_ports text g g' p p' reads reads') h h') ∙ sym e'
+one_reason cycles words text r r' (by_streams f e g p reads h) (by_time n e' s k is far) = absurd (streams_or_not cycles words text f g p s reads h k)
+one_reason cycles words text r r' (by_time n e s k is far) (by_pattern f' e' h') = absurd (fault_or_read text f'.kind f'.line s.grid h' k.pattern)
+one_reason cycles words text r r' (by_time n e s k is far) (by_box x y e' h') = absurd (box_or_read text x y s.grid h' k.pattern)
+one_reason cycles words text r r' (by_time n e s k is far) (by_table f' e' g' reads' h') = absurd (table_or_read text f'.kind f'.line g' s.grid s.ports reads' h' (read_of cycles words text s k))
+one_reason cycles words text r r' (by_time n e s k is far) (by_streams f' e' g' p' reads' h') = absurd (streams_or_not cycles words text f' g' p' s reads' h' k)
+one_reason cycles words text r r' (by_time n e s k is far) (by_time n' e' s' k' is' far') =
+    e ∙ ap TooFar (is ∙ same_last cycles words text s s' k k' ∙ sym is') ∙ sym e'
+
+pub one_cause : (cycles : ℕ) (words : List (List ℕ)) (text : List ℕ) (r r' : Cause) → HasNoSimulation cycles words text r → HasNoSimulation cycles words text r' → r ≡ r'
+one_cause cycles words text r r' h k = one_reason cycles words text r r' (reason_of cycles words text r h) (reason_of cycles words text r' k)

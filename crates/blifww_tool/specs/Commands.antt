@@ -1,0 +1,35 @@
+-- For each command the texts that it accepts, what it prints of them, and why it refuses the others.
+use Rattle.std.specs.Prelude.{◌≡◌, ℕ, List, ⊤}
+use Rattle.command_words.specs.Shapes.{CommandValues, compile, simulate}
+use Rattle.blifww_tool.specs.Thin.{Names, IsThin}
+use Rattle.blifww_tool.specs.Drawing.{thin_gate_text}
+use Rattle.blifww_tool.specs.Simulation.{Simulation, Simulates, simulation_text, HasNoSimulation}
+use Rattle.blifww_tool.specs.declared.causes.Cause.{Cause}
+use Rattle.blifww_tool.specs.declared.causes.Cause.TheVariants.{NotYet}
+use Rattle.blifww_tool.specs.declared.causes.TextError.{TextError}
+use Rattle.blifww_tool.specs.declared.causes.TextError.TheVariants.{Refused, NoMemory}
+
+-- the command accepts the text: it is that of an OR gate; or with the words a simulation in time
+abbrev pub Accepts : CommandValues → List ℕ → Type 0
+Accepts compile text = (names : Names) × IsThin text names
+Accepts (simulate cycles words) text = (s : Simulation) × Simulates cycles words text s
+
+-- of such a text it prints this output: the gate's pattern; or a line for each of the pattern's outputs
+abbrev pub Prints : CommandValues → (text output : List ℕ) → Type 0
+Prints compile text output = (names : Names) × IsThin text names × (output ≡ thin_gate_text names)
+Prints (simulate cycles words) text output = (s : Simulation) × Simulates cycles words text s × (output ≡ simulation_text s)
+
+-- the text is not that of an OR gate
+abbrev pub IsNotThin : List ℕ → Cause → Type 0
+IsNotThin text NotYet = (names : Names) → IsThin text names → ⊥
+IsNotThin text _ = ⊥
+
+-- the command refuses the text for this cause
+abbrev pub Refuses : CommandValues → List ℕ → Cause → Type 0
+Refuses compile text cause = IsNotThin text cause
+Refuses (simulate cycles words) text cause = HasNoSimulation cycles words text cause
+
+-- why a text gives no output: the command refuses it, or there is not enough memory
+abbrev pub HasTextCause : CommandValues → List ℕ → TextError → Type 0
+HasTextCause command text (Refused cause) = Refuses command text cause
+HasTextCause command text NoMemory = ⊤

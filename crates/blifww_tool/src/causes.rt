@@ -1,0 +1,114 @@
+// Why a text gives no output.
+ghost use Rattle.std.specs.Prelude.{◌≡◌};
+
+use drive::{SimulateError, StreamError, StreamFault};
+use port_table::{PortFault, PortReadError};
+use rle_read::{RleFault, RleReadError};
+use std::alloc::AllocError;
+
+/// Why a command refuses a text.
+#[derive(Drop)]
+pub enum Cause {
+    /// The text is none that is compiled so far.
+    NotYet,
+    /// The text is no pattern's.
+    Pattern(RleFault),
+    /// The pattern's box has more cells than are read.
+    GridTooLarge { width: u64, height: u64 },
+    /// The pattern's port table is at fault.
+    PortTable(PortFault),
+    /// The words say no streams for the inputs.
+    Streams(StreamFault),
+    /// The simulation needs so many generations, which is over the limit.
+    TooFar { generations: u128 },
+}
+
+impl Cause {
+    ghost use Rattle.blifww_tool.specs.Refusals.{status_of_cause};
+
+    /// The exit status.
+    pub fn status(&self) -> u8
+        ensures { result ≡ status_of_cause self.now }
+    {
+        match self {
+            Cause::GridTooLarge { .. } | Cause::TooFar { .. } => 4,
+            Cause::Pattern(_) | Cause::PortTable(_) => 8,
+            Cause::Streams(_) => 9,
+            Cause::NotYet => 11,
+        }
+    }
+}
+
+/// Why a text gives no output.
+#[derive(Drop)]
+pub enum TextError {
+    Refused(Cause),
+    NoMemory,
+}
+
+impl From<RleReadError> for TextError {
+    ghost use Rattle.blifww_tool.specs.Refusals.{pattern_error};
+
+    ghost from_gives = { λ e r. r ≡ pattern_error e };
+
+    fn from(error: RleReadError) -> Self {
+        match error {
+            RleReadError::Fault(fault) => TextError::Refused(Cause::Pattern(fault)),
+            RleReadError::TooLarge { width, height } => {
+                TextError::Refused(Cause::GridTooLarge { width, height })
+            }
+            RleReadError::NoMemory => TextError::NoMemory,
+        }
+    }
+}
+
+impl From<PortReadError> for TextError {
+    ghost use Rattle.blifww_tool.specs.Refusals.{table_error};
+
+    ghost from_gives = { λ e r. r ≡ table_error e };
+
+    fn from(error: PortReadError) -> Self {
+        match error {
+            PortReadError::Fault(fault) => TextError::Refused(Cause::PortTable(fault)),
+            PortReadError::NoMemory => TextError::NoMemory,
+        }
+    }
+}
+
+impl From<StreamError> for TextError {
+    ghost use Rattle.blifww_tool.specs.Refusals.{streams_error};
+
+    ghost from_gives = { λ e r. r ≡ streams_error e };
+
+    fn from(error: StreamError) -> Self {
+        match error {
+            StreamError::Fault(fault) => TextError::Refused(Cause::Streams(fault)),
+            StreamError::NoMemory => TextError::NoMemory,
+        }
+    }
+}
+
+impl From<SimulateError> for TextError {
+    ghost use Rattle.blifww_tool.specs.Refusals.{simulate_error};
+
+    ghost from_gives = { λ e r. r ≡ simulate_error e };
+
+    fn from(error: SimulateError) -> Self {
+        match error {
+            SimulateError::TooFar { generations } => {
+                TextError::Refused(Cause::TooFar { generations })
+            }
+            SimulateError::NoMemory => TextError::NoMemory,
+        }
+    }
+}
+
+impl From<AllocError> for TextError {
+    ghost use Rattle.blifww_tool.specs.declared.causes.TextError.TheVariants.{NoMemory};
+
+    ghost from_gives = { λ _ r. r ≡ NoMemory };
+
+    fn from(_: AllocError) -> Self {
+        TextError::NoMemory
+    }
+}

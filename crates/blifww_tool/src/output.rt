@@ -1,0 +1,34 @@
+// What a command prints.
+ghost use Rattle.std.specs.Prelude.{◌≡◌, ℕ, take, OnOk, OnErr};
+ghost use Rattle.std.specs.Io.KnownBytes.{Appends};
+ghost use Rattle.ww_base.specs.Faults.{HasCause};
+
+use lists::Bytes;
+use rle_write::write_pattern;
+use ww_base::{Failed, Sink, write_all};
+use ww_rule::Pattern;
+
+/// The output of a command, made in memory.
+#[derive(Drop)]
+pub enum Output {
+    /// All its bytes.
+    Lines(Bytes),
+    /// A pattern, with the lines before it.
+    Drawing { pattern: Pattern, lines: [Bytes; 4] },
+}
+
+impl Output {
+    ghost use Rattle.blifww_tool.specs.Answer.{output_text};
+
+    /// Writes it, or a front of it where a write fails. It takes no memory.
+    pub fn write<O: Sink>(&self, out: &mut O) -> Result<(), Failed>
+        ensures ok { OnOk result (Appends (O.written out.old) (O.written out.new) (output_text self.now)) }
+        ensures front { OnErr result ((n : ℕ) × Appends (O.written out.old) (O.written out.new) (take n (output_text self.now))) }
+        ensures cause { HasCause (O.faults out.old) (O.faults out.new) result }
+    {
+        match self {
+            Output::Lines(text) => write_all(out, text.as_slice()),
+            Output::Drawing { pattern, lines } => write_pattern(pattern, lines, out),
+        }
+    }
+}

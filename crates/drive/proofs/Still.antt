@@ -1,0 +1,125 @@
+-- A pattern that is dark, with no injection to come, stays as it is.
+use Rattle.std.proofs.Common.{ℤ, pos, negsuc, ◌+ℤ◌, ◌-ℤ◌, ℕ, zero, suc, ◌+◌, ◌-◌, ◌*◌, ◌/◌, ◌%◌, ◌<◌, ◌≤◌, ◌≡◌, refl, sym, ap, subst, ◌∙◌, inl, inr, Bool, true, false, ◌&&◌, cond, nat_lt, List, length, All, arith}
+use Rattle.std.specs.Prelude.{◌≢◌, ◌⊎◌}
+use Rattle.std.proofs.Math.Path.{fun_ext}
+use Rattle.std.proofs.Math.Nat.{mul_comm}
+use Rattle.std.proofs.lemmas.Bool.{cases_Bool, and_parts, ltb-true, le-ltb}
+use Rattle.std.proofs.lemmas.List.Elements.{All-contains}
+use Rattle.ww_rule.specs.declared.pattern.State.{State}
+use Rattle.ww_rule.specs.declared.pattern.State.TheVariants.{Empty, Head, Tail, Conductor}
+use Rattle.ww_rule.specs.declared.pattern.Injection.{Injection}
+use Rattle.ww_rule.specs.Wireworld.{Plane, count_head, heads_around, next_state, next_plane, injected, driven}
+use Rattle.ww_rule.specs.Grid.{in_box, plane_of}
+use Rattle.ww_rule.specs.Injections.{due_of_list}
+use Rattle.ww_rule.proofs.Lists.{lists_are_injected}
+use Rattle.band_core.specs.Bands.{BandedPattern, IsBandedPattern, IsAwake, IsCellOf, generation_of}
+use Rattle.band_core.specs.Bands.IsAwake.{head, tail}
+use Rattle.band_core.proofs.Evolution.{in_bands}
+use Rattle.band_core.proofs.Evolution as bands
+use Rattle.drive.specs.Runs.{AreAt, evolution}
+
+-- no head and no tail
+abbrev IsDark : Plane → Type 0
+IsDark p = (x y : ℤ) → (p x y ≢ Head) × (p x y ≢ Tail)
+
+not_counted : (s : State) → s ≢ Head → count_head s ≡ 0
+not_counted Empty dark = refl
+not_counted Head dark = absurd (dark refl)
+not_counted Tail dark = refl
+not_counted Conductor dark = refl
+
+stays : (s : State) (n : ℕ) → s ≢ Head → s ≢ Tail → n ≡ 0 → next_state s n ≡ s
+stays Empty n no_head no_tail e = refl
+stays Head n no_head no_tail e = absurd (no_head refl)
+stays Tail n no_head no_tail e = absurd (no_tail refl)
+stays Conductor n no_head no_tail e = ap (next_state Conductor) e
+
+dark_around : (p : Plane) (x y : ℤ) → IsDark p → heads_around p x y ≡ 0
+dark_around p x y dark =
+    let none = λ (u v : ℤ). not_counted (p u v) (dark u v).0 in
+    let a = none (x -ℤ pos 1) (y -ℤ pos 1) in
+    let b = none x (y -ℤ pos 1) in
+    let c = none (x +ℤ pos 1) (y -ℤ pos 1) in
+    let d = none (x -ℤ pos 1) y in
+    let e = none (x +ℤ pos 1) y in
+    let f = none (x -ℤ pos 1) (y +ℤ pos 1) in
+    let g = none x (y +ℤ pos 1) in
+    let h = none (x +ℤ pos 1) (y +ℤ pos 1) in
+    omega (arith, a, b, c, d, e, f, g, h)
+
+dark_stays : (p : Plane) → IsDark p → next_plane p ≡ p
+dark_stays p dark = fun_ext (λ x. fun_ext (λ y. stays (p x y) (heads_around p x y) (dark x y).0 (dark x y).1 (dark_around p x y dark)))
+
+-- after the last one no injection is due
+none_due : (injections : List Injection) (last g : ℕ) (x y : ℤ) → All (λ i. i.generation ≤ last) injections → last < g → due_of_list injections g x y ≡ false
+none_due injections last g x y all later =
+    elim (cases_Bool (due_of_list injections g x y)) [
+      | inr e ↦ e
+      | inl e ↦
+          let is = (lists_are_injected.exactly injections g x y).0 e in
+          let at = is.in_time in
+          let most = All-contains (λ (i : Injection). i.generation ≤ last) injections is.injection all is.is_in in
+          absurd (omega (arith, at, most, later))
+    ]
+
+-- cells of bands that are asleep are neither heads nor tails
+asleep_is_dark : (p : BandedPattern) (g : ℕ) → IsBandedPattern p → AreAt g p → ((b x y : ℕ) → b < length p.generations → IsAwake p b x y → ⊥) → IsDark (evolution p g)
+asleep_is_dark p g whole at asleep x y = (unlit Head (λ e. cc) (λ b x y cell is. head cell is) x y, unlit Tail (λ e. cc) (λ b x y cell is. tail cell is) x y)
+  where
+    rows : ℕ
+    rows = length p.grid.rows
+
+    wakes : State → Type 0
+    wakes s = (b x y : ℕ) → IsCellOf p b x y → driven (due_of_list p.injections) (plane_of p.grid.rows) (generation_of p b) (pos x) (pos y) ≡ s → IsAwake p b x y
+
+    outside : (s : State) → s ≢ Empty → (x y : ℤ) → in_box p.grid.width rows x y ≡ false → evolution p g x y ≢ s
+    outside s lit x y out e = lit (sym e ∙ (bands.evolution p.grid.width p.grid.height p.grid.rows p.injections whole.grid whole.inside).empty g x y out)
+
+    inside : (s : State) → wakes s → (x y : ℕ) → x < p.grid.width → y < rows → evolution p g (pos x) (pos y) ≢ s
+    inside s wakes x y column row e =
+        let h = p.height in
+        let some = whole.height in
+        let b = y / h in
+        let r : y % h < h = omega (arith, some) in
+        let parts : h * (y / h) + y % h ≡ y = omega (arith, some) in
+        let turned = mul_comm h (y / h) in
+        let from : b * h ≤ y = omega (arith, parts, turned) in
+        let band : b < length p.generations = subst (λ n. b < n) (sym whole.many) (in_bands b h y rows some from row) in
+        asleep b x y band
+        (wakes b x y (record { column = column; from = from; below = omega (arith, r, parts, turned); within = row })
+        (ap (λ n. evolution p n (pos x) (pos y)) (at b band) ∙ e))
+
+    unlit : (s : State) → s ≢ Empty → wakes s → (x y : ℤ) → evolution p g x y ≢ s
+    unlit s lit wakes (pos x) (pos y) =
+        elim (cases_Bool (in_box p.grid.width rows (pos x) (pos y))) [
+          | inl e ↦ let parts = and_parts (nat_lt x p.grid.width) (nat_lt y rows) e in inside s wakes x y (ltb-true x p.grid.width parts.0) (ltb-true y rows parts.1)
+          | inr e ↦ outside s lit (pos x) (pos y) e
+        ]
+    unlit s lit wakes (pos x) (negsuc y) = outside s lit (pos x) (negsuc y) refl
+    unlit s lit wakes (negsuc x) y = outside s lit (negsuc x) y refl
+
+-- beside the rows there is nothing
+pub empty_outside : (p : BandedPattern) (g x y : ℕ) → IsBandedPattern p → (p.grid.width ≤ x) ⊎ (length p.grid.rows ≤ y) → evolution p g (pos x) (pos y) ≡ Empty
+empty_outside p g x y whole out = (bands.evolution p.grid.width p.grid.height p.grid.rows p.injections whole.grid whole.inside).empty g (pos x) (pos y) (outside out)
+  where
+    none : (t : Bool) → (t && false) ≡ false
+    none true = refl
+    none false = refl
+
+    outside : (p.grid.width ≤ x) ⊎ (length p.grid.rows ≤ y) → in_box p.grid.width (length p.grid.rows) (pos x) (pos y) ≡ false
+    outside (inl le) = ap (λ (t : Bool). t && nat_lt y (length p.grid.rows)) (le-ltb x p.grid.width le)
+    outside (inr le) = ap (λ (t : Bool). nat_lt x p.grid.width && t) (le-ltb y (length p.grid.rows) le) ∙ none (nat_lt x p.grid.width)
+
+-- where all bands are asleep and no injection is to come, each later generation is this one
+pub stays_still : (p : BandedPattern) (g last : ℕ) → IsBandedPattern p → AreAt g p → ((b x y : ℕ) → b < length p.generations → IsAwake p b x y → ⊥) → All (λ i. i.generation ≤ last) p.injections → last ≤ g → (h : ℕ) → g ≤ h → evolution p h ≡ evolution p g
+stays_still p g last whole at asleep all past h le = let k : h ≡ g + (h - g) = omega (arith, le) in ap (evolution p) k ∙ go (h - g)
+  where
+    go : (k : ℕ) → evolution p (g + k) ≡ evolution p g
+    go zero = ap (evolution p) (let e : g + 0 ≡ g = omega arith in e)
+    go (suc k) =
+        let due = due_of_list p.injections in
+        let e : g + suc k ≡ suc (g + k) = omega arith in
+        ap (evolution p) e
+        ∙ ap (λ (q : Plane). injected (due (suc (g + k))) (next_plane q)) (go k)
+        ∙ ap (injected (due (suc (g + k)))) (dark_stays (evolution p g) (asleep_is_dark p g whole at asleep))
+        ∙ fun_ext (λ x. fun_ext (λ y. ap (λ (t : Bool). cond t Head (evolution p g x y)) (none_due p.injections last (suc (g + k)) x y all (omega (arith, past)))))

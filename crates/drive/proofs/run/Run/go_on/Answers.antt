@@ -1,0 +1,20 @@
+use Rattle.std.proofs.Common.{refl, sym, ◌∙◌, arith}
+use Rattle.drive.proofs.run.Run.go_on.Goals as goal
+
+pub loop-self-init : goal.loop-self-init
+loop-self-init c = record { run = c.requires.run; same = record { grid = refl; injections = refl }; order = c.requires.order }
+
+pub loop-self-preserved : goal.loop-self-preserved
+loop-self-preserved c =
+    let before = c.loop-self.invariant.same in
+    let next = c.next.ensures in
+    let comes = next.comes in
+    let further = c.loop-self-test.true in
+    record {
+      run = next.run;
+      same = record { grid = next.same.grid ∙ before.grid; injections = next.same.injections ∙ before.injections };
+      order = omega (arith, comes, further);
+    }
+
+pub returns-else-not-self-clause-shows : goal.returns-else-not-self-clause-shows
+returns-else-not-self-clause-shows c = sym (c.loop-self.invariant.run.still c.if-not-self.false c.args.generation c.loop-self.invariant.order)

@@ -1,0 +1,14 @@
+use Rattle.std.proofs.Common.{◌≤◌, ◌-◌}
+use Rattle.drive.specs.Runs.{IsRun, IsSameRun}
+use Rattle.drive.proofs.run.Run.go_on.Given as goal
+
+abbrev pub invariant-loop-self : goal.invariant-loop-self
+invariant-loop-self l =
+    record {
+      run : IsRun l.self;
+      same : IsSameRun l.fn.self l.self;
+      order : l.self.generation ≤ l.generation;
+    }
+
+abbrev pub decreases-loop-self : goal.decreases-loop-self
+decreases-loop-self l = l.generation - l.self.generation

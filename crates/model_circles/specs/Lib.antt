@@ -1,0 +1,4 @@
+pub mod Ways
+pub mod Ranks
+pub mod Search
+pub mod Earliest

@@ -1,0 +1,48 @@
+-- What a search among models keeps.
+use Rattle.model_circles.specs.declared.search.Search.{Search}
+use Rattle.std.specs.Prelude.{ℕ, ◌≡◌, ◌<◌, ◌+◌, List, [], ◌∷◌, ◌++◌, Bool, length, get_or, slice_set, Option, Some, None, MatchOption, is_none, count_by}
+use Rattle.netlist_core.specs.declared.model.Model.{Model}
+use Rattle.model_order.specs.Numbers.{Places, PlacesSomewhere}
+
+-- a model was found
+abbrev pub IsFound : List (Option ℕ) → ℕ → Type 0
+IsFound places n = (p : ℕ) × (get_or places n None ≡ Some p)
+
+-- where models stand among those found, and of each but the first the place of one before it that places it
+pub record IsSearch (models : List Model) (first : ℕ) (places : List (Option ℕ)) (found parents : List ℕ) : Type 0 where
+  pub fit : length places ≡ length models
+  pub parents_fit : length parents ≡ length found
+  pub counted : count_by is_none places + length found ≡ length models
+  pub some : 0 < length found
+  pub is_first : get_or found 0 0 ≡ first
+  pub numbers : (i : ℕ) → i < length found → get_or found i 0 < length models
+  pub at_place : (i : ℕ) → i < length found → get_or places (get_or found i 0) None ≡ Some i
+  pub place_of : (n i : ℕ) → get_or places n None ≡ Some i → (i < length found) × (get_or found i 0 ≡ n)
+  pub before : (i : ℕ) → 0 < i → i < length found → (get_or parents i 0 < i) × PlacesSomewhere models (get_or found (get_or parents i 0) 0) (get_or found i 0)
+
+abbrev pub IsSearchOf : List Model → ℕ → Search → Type 0
+IsSearchOf models first search = IsSearch models first search.places.items search.found.items search.parents.items
+
+-- what was found keeps its place
+abbrev pub StillFound : List (Option ℕ) → List (Option ℕ) → Type 0
+StillFound before after = (n p : ℕ) → get_or before n None ≡ Some p → get_or after n None ≡ Some p
+
+-- what the models found before a place place is found
+abbrev pub AreMetBefore : List Model → List (Option ℕ) → List ℕ → ℕ → Type 0
+AreMetBefore models places found at = (i inner : ℕ) → i < at → PlacesSomewhere models (get_or found i 0) inner → IsFound places inner
+
+-- all that the first leads to is found
+pub record IsWholeSearch (models : List Model) (first : ℕ) (search : Search) : Type 0 where
+  pub is_search : IsSearchOf models first search
+  pub closed : AreMetBefore models search.places.items search.found.items (length search.found.items)
+
+-- a model that is met has a place, the next one where it had none
+abbrev pub IsMetAs : Option ℕ → Search → ℕ → ℕ → Search → Type 0
+IsMetAs (Some p) old inner at new = (new.places.items ≡ old.places.items) × (new.found.items ≡ old.found.items) × (new.parents.items ≡ old.parents.items)
+IsMetAs None old inner at new =
+    (new.places.items ≡ slice_set old.places.items inner (Some (length old.found.items)))
+    × (new.found.items ≡ old.found.items ++ inner ∷ [])
+    × (new.parents.items ≡ old.parents.items ++ at ∷ [])
+
+abbrev pub Meets : Search → ℕ → ℕ → Search → Type 0
+Meets old inner at new = IsMetAs (get_or old.places.items inner None) old inner at new

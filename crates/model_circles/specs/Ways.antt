@@ -1,0 +1,30 @@
+-- Ways among models by number.
+use Rattle.std.specs.Prelude.{ℕ, ◌≡◌, ◌⊎◌, List, [], ◌∷◌}
+use Rattle.netlist_core.specs.declared.model.Model.{Model}
+use Rattle.model_order.specs.Numbers.{Places, LeadsBy}
+
+-- the models lead on from one that is placed, back to the one at the end
+abbrev pub LeadsBackBy : List Model → ℕ → List ℕ → ℕ → Type 0
+LeadsBackBy models inner [] end = inner ≡ end
+LeadsBackBy models inner (next ∷ numbers) end = (inner ≡ next) × LeadsBy models next numbers end
+
+-- no number stands twice
+abbrev pub Stands : ℕ → List ℕ → Type 0
+Stands n [] = ⊥
+Stands n (m ∷ ms) = (n ≡ m) ⊎ Stands n ms
+
+abbrev pub AreApart : List ℕ → Type 0
+AreApart [] = Unit {0}
+AreApart (n ∷ ns) = ¬ Stands n ns × AreApart ns
+
+-- a way back on which no model stands twice
+pub record IsWayBack (models : List Model) (inner end : ℕ) (numbers : List ℕ) : Type 0 where
+  pub leads : LeadsBackBy models inner numbers end
+  pub apart : AreApart (end ∷ numbers)
+
+-- the k-th subckt line of a model lies on a circle
+pub record LiesOnCircle (models : List Model) (n k : ℕ) : Type 0 where
+  pub inner : ℕ
+  pub placed : Places models n k inner
+  pub numbers : List ℕ
+  pub leads : LeadsBackBy models inner numbers n

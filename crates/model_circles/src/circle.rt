@@ -1,0 +1,108 @@
+// The earliest line on a circle.
+ghost use Rattle.std.specs.Prelude.{◌≡◌, ◌<◌, ◌+◌, ◌↔◌, IsTrue, length, IfOk};
+ghost use Rattle.model_order.specs.Numbers.{subckts_of};
+ghost use Rattle.model_circles.specs.Earliest.{IsNoLater, IsLookedAt, IsEarliestBefore, IsEarliest};
+ghost use Rattle.model_circles.specs.Ranks.{AreRanks};
+
+use crate::ranking::ranks;
+use crate::search::Search;
+use lists::List;
+use model_order::placed;
+use named_models::NamedModels;
+use netlist_core::Model;
+use std::alloc::{AllocError, Global};
+
+/// A circle of models by their numbers: the one in which the line stands, and the others, of which the line places the
+/// first and the last places the one in which it stands.
+#[derive(Drop)]
+pub struct Circle {
+    pub line: u64,
+    pub first: usize,
+    pub others: List<usize>,
+}
+
+// Whether a circle's line is this one or an earlier one.
+fn is_no_later(best: &Option<Circle>, line: u64) -> bool
+    ensures { IsTrue result ↔ IsNoLater best.now line }
+{
+    match best {
+        Some(circle) => circle.line <= line,
+        None => false,
+    }
+}
+
+// The earlier of a circle, and one of the k-th line of a model.
+fn look_at(
+    alloc: Global,
+    models: &[Model],
+    named: &NamedModels,
+    ranks: &[usize],
+    n: usize,
+    k: usize,
+    best: Option<Circle>,
+) -> Result<Option<Circle>, AllocError>
+    requires index { named.now ≡ models.now }
+    requires ranks { AreRanks models.now ranks.now }
+    requires model { n < length models.now }
+    requires line { k < length (subckts_of models.now n) }
+    ensures { IfOk result (IsLookedAt models.now n k best) }
+{
+    let line = models[n].subckts.get(k).line;
+    if is_no_later(&best, line) {
+        return Ok(best);
+    }
+    let Some(inner) = placed(models, named, n, k) else {
+        return Ok(best);
+    };
+    if ranks[inner] != ranks[n] {
+        return Ok(best);
+    }
+    let search = Search::from(alloc, models, named, inner)?;
+    match search.way_to(alloc, models, inner, n)? {
+        None => Ok(best),
+        Some(others) => Ok(Some(Circle {
+            line,
+            first: n,
+            others: List::of(others),
+        })),
+    }
+}
+
+// The earliest of a circle, and those of the lines of a model.
+fn look_in(
+    alloc: Global,
+    models: &[Model],
+    named: &NamedModels,
+    ranks: &[usize],
+    n: usize,
+    best: Option<Circle>,
+) -> Result<Option<Circle>, AllocError>
+    requires index { named.now ≡ models.now }
+    requires ranks { AreRanks models.now ranks.now }
+    requires model { n < length models.now }
+    requires best { IsEarliestBefore models.now n best }
+    ensures { IfOk result (IsEarliestBefore models.now (n + 1)) }
+{
+    let mut best = best;
+    for k in 0..models[n].subckts.len() {
+        best = look_at(alloc, models, named, ranks, n, k, best)?;
+    }
+    Ok(best)
+}
+
+/// The circle of the earliest line that is on one, where a line is on a circle.
+pub fn earliest(
+    alloc: Global,
+    models: &[Model],
+    named: &NamedModels,
+) -> Result<Option<Circle>, AllocError>
+    requires { named.now ≡ models.now }
+    ensures { IfOk result (IsEarliest models.now) }
+{
+    let ranks = ranks(alloc, models, named)?;
+    let mut best = None;
+    for n in 0..models.len() {
+        best = look_in(alloc, models, named, &ranks, n, best)?;
+    }
+    Ok(best)
+}

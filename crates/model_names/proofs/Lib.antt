@@ -1,0 +1,2 @@
+pub mod Positioned
+pub mod Sorted

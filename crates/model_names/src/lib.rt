@@ -1,0 +1,9 @@
+//! The names of a model, by where they first stand in its text.
+#![tactic(auto)]
+
+mod names;
+#[cfg(test)]
+mod tests;
+mod words;
+
+pub use names::{ModelNames, names_of};

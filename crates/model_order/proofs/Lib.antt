@@ -1,0 +1,5 @@
+pub mod Naming
+pub mod Walks
+pub mod Orders
+pub mod Circling
+pub mod Steps

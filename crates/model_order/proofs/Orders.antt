@@ -1,0 +1,75 @@
+-- Walks that have seen all are orders, and the walk before its first step.
+use Rattle.std.proofs.Common.{◌≡◌, ◌≢◌, refl, sym, ap, subst, ◌∙◌, ℕ, zero, suc, ◌+◌, ◌-◌, ◌<◌, ◌≤◌, ◌⊎◌, inl, inr, List, [], ◌∷◌, length, get_or, arith, replicate, count_by, cond}
+use Rattle.std.specs.Prelude.{Contains}
+use Rattle.std.proofs.lemmas.List.Sums.{sum_by-cons}
+use Rattle.std.proofs.lemmas.List.{get_or_past, get_or_default}
+use Rattle.netlist_core.specs.declared.model.Model.{Model}
+use Rattle.model_order.specs.declared.walk.Mark.{Mark}
+use Rattle.model_order.specs.declared.walk.Mark.TheVariants.{Unseen, Open, Done}
+use Rattle.model_order.specs.Numbers.{Places}
+use Rattle.model_order.specs.Order.{IsModelOrder}
+use Rattle.model_order.specs.Walk.{mark_of, is_unseen, IsWalk}
+
+-- a number with a mark is that of a model
+pub open_within : (models : List Model) (marks : List Mark) (n i : ℕ) → length marks ≡ length models → mark_of marks n ≡ Open i → n < length models
+open_within models marks n i fit e = by (cases n (length marks))
+  where
+    cases : (a b : ℕ) → (a < b) ⊎ (b ≤ a)
+    cases a b = grind arith
+
+    by : (n < length marks) ⊎ (length marks ≤ n) → n < length models
+    by (inl l) = subst (λ v. n < v) fit l
+    by (inr l) = let past : mark_of marks n ≡ Unseen = get_or_past marks n Unseen l in absurd (cc (past, e))
+
+done_within : (models : List Model) (marks : List Mark) (n i : ℕ) → length marks ≡ length models → mark_of marks n ≡ Done i → n < length models
+done_within models marks n i fit e = by (cases n (length marks))
+  where
+    cases : (a b : ℕ) → (a < b) ⊎ (b ≤ a)
+    cases a b = grind arith
+
+    by : (n < length marks) ⊎ (length marks ≤ n) → n < length models
+    by (inl l) = subst (λ v. n < v) fit l
+    by (inr l) = let past : mark_of marks n ≡ Unseen = get_or_past marks n Unseen l in absurd (cc (past, e))
+
+-- a walk that has seen all, and has nothing open, is an order
+pub is_order : (models : List Model) (marks : List Mark) (next order : List ℕ) → IsWalk models marks next [] order → ((n : ℕ) → n < length models → mark_of marks n ≢ Unseen) → IsModelOrder models order
+is_order models marks next order w seen = record {
+  numbers = λ i d l. subst (λ v. v < length models) (get_or_default order i 0 d l) (done_within models marks (get_or order i 0) i w.marks_fit (w.done_at i l));
+  few = (let c = w.counted in omega arith);
+  all = λ n l. all n (mark_of marks n) refl (seen n l);
+  after = λ i k b l r. (let (j, less, d) = w.before (get_or order i 0) i k b (w.done_at i l) r in (j, less, (w.at_done b j d).1));
+}
+  where
+    all : (n : ℕ) (mark : Mark) → mark_of marks n ≡ mark → mark_of marks n ≢ Unseen → Contains order n
+    all n Unseen e s = absurd (s e)
+    all n (Open i) e s = absurd (let l : i < 0 = (w.at_open n i e).0 in omega arith)
+    all n (Done i) e s = let (l, at) = w.at_done n i e in (i, l, get_or_default order i n 0 l ∙ at)
+
+-- the walk before its first step
+pub begun : (models : List Model) → IsWalk models (replicate (length models) Unseen) (replicate (length models) 0) [] []
+begun models = record {
+  marks_fit = Rattle.std.proofs.lemmas.List.length-replicate (length models) Unseen;
+  next_fit = Rattle.std.proofs.lemmas.List.length-replicate (length models) 0;
+  counted = (let e = all_unseen (length models) in omega arith);
+  open_at = λ i l. absurd (omega arith);
+  at_open = λ n i e. absurd (cc (unseen (length models) n, e));
+  done_at = λ i l. absurd (omega arith);
+  at_done = λ n i e. absurd (cc (unseen (length models) n, e));
+  passed = λ n k b l r. absurd (omega (arith, none (length models) n, l));
+  before = λ n i k b e r. absurd (cc (unseen (length models) n, e));
+  path = λ i l. absurd (omega arith);
+}
+  where
+    unseen : (m n : ℕ) → mark_of (replicate m Unseen) n ≡ Unseen
+    unseen zero n = refl
+    unseen (suc m) zero = refl
+    unseen (suc m) (suc n) = unseen m n
+
+    none : (m n : ℕ) → ◌≡◌ {A = ℕ} (get_or (replicate m 0) n 0) 0
+    none zero n = refl
+    none (suc m) zero = refl
+    none (suc m) (suc n) = none m n
+
+    all_unseen : (m : ℕ) → count_by is_unseen (replicate m Unseen) ≡ m
+    all_unseen zero = refl
+    all_unseen (suc m) = let e = sum_by-cons (λ x. cond (is_unseen x) 1 0) Unseen (replicate m Unseen) in let r = all_unseen m in omega arith

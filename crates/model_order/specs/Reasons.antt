@@ -1,0 +1,16 @@
+-- Why there is no order.
+use Rattle.std.specs.Prelude.{ℕ, List}
+use Rattle.netlist_core.specs.declared.model.Model.{Model}
+use Rattle.netlist_core.specs.Names.{Name}
+use Rattle.netlist_rules.specs.Circles.{Leads}
+use Rattle.model_order.specs.declared.error.OrderError.{OrderError}
+use Rattle.model_order.specs.declared.error.OrderError.TheVariants.{NoMemory, Circle}
+
+-- the model of some name leads back to itself
+abbrev pub IsCircular : List Model → Type 0
+IsCircular models = (name : Name) × (names : List Name) × Leads models name names name
+
+-- a refusal for another reason than memory is right
+abbrev pub IsOrderRefusal : List Model → OrderError → Type 0
+IsOrderRefusal models NoMemory = Unit {0}
+IsOrderRefusal models Circle = IsCircular models

@@ -1,0 +1,5 @@
+pub mod NamedLines
+pub mod Passing
+pub mod Pushed
+pub mod EachModel
+pub mod LookUps

@@ -1,0 +1,9 @@
+use Rattle.std.proofs.Common.{drop}
+use Rattle.netlist_rules.specs.Drivers.{repeats, repeats_after}
+use Rattle.earliest_words.specs.Words.{word_ports, earliest_word, earliest_after}
+use Rattle.net_faults.proofs.Passing.{IsLeft}
+use Rattle.net_faults.proofs.repeats.offer_repeats.Given as goal
+
+abbrev pub invariant-loop-word : goal.invariant-loop-word
+invariant-loop-word l =
+    IsLeft l.repeats (drop l.word-index l.words) (λ before left. earliest_after (earliest_word l.earliest) (repeats_after before left)) (earliest_after (earliest_word l.initial.earliest) (repeats (word_ports l.words)))

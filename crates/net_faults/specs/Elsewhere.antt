@@ -1,0 +1,18 @@
+-- The other list in which a port's name makes it a double.
+use Rattle.std.specs.Prelude.{Bool, List}
+use Rattle.std.specs.List.{list_any}
+use Rattle.netlist_core.specs.declared.model.Port.{Port}
+use Rattle.netlist_rules.specs.Drivers.{same_name_before, same_name_up_to}
+use Rattle.net_faults.specs.declared.duplicates.Elsewhere.{Elsewhere}
+use Rattle.net_faults.specs.declared.duplicates.Elsewhere.TheVariants.{Before, UpTo}
+use Rattle.net_faults.specs.FirstLines.{AreFirstLines}
+
+-- it has the lines of these words
+abbrev pub KnowsOthers : Elsewhere → List Port → Type 0
+KnowsOthers (Before lines) others = AreFirstLines lines.now others
+KnowsOthers (UpTo lines) others = AreFirstLines lines.now others
+
+-- whether the name stands there, on a line before, or on a line up to that of the port
+abbrev pub stands_elsewhere : Elsewhere → List Port → Port → Bool
+stands_elsewhere (Before lines) others p = list_any (same_name_before p) others
+stands_elsewhere (UpTo lines) others p = list_any (same_name_up_to p) others

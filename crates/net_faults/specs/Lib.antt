@@ -1,0 +1,4 @@
+pub mod FirstLines
+pub mod Repeats
+pub mod Elsewhere
+pub mod Placed

@@ -1,0 +1,62 @@
+// What drives the nets of a model.
+ghost use Rattle.std.specs.Prelude.{◌≡◌, ◌++◌, List, map, IfOk, OnOk};
+ghost use Rattle.netlist_core.specs.declared.model.Model.{Model};
+ghost use Rattle.netlist_rules.specs.Drivers.{cover_output, latch_output, drivers_of};
+ghost use Rattle.earliest_words.specs.Words.{word_ports};
+ghost use Rattle.net_faults.specs.Placed.{KnowsPorts};
+
+use crate::pins::{PinKind, push_actuals};
+use crate::placed::PlacedPorts;
+use crate::repeats::firsts;
+use crate::words::input_words;
+use earliest_words::Word;
+use netlist_core::{Cover, LatchRow, Model};
+use std::alloc::{AllocError, Global};
+
+// Adds the outputs of some covers.
+fn push_cover_outputs<'a>(
+    words: &mut Vec<Word<'a>>,
+    covers: &'a [Cover],
+) -> Result<(), AllocError>
+    ensures { OnOk result (word_ports words.new.items ≡ word_ports words.old.items ++ map cover_output covers.now) }
+{
+    for cover in covers {
+        words.push(Word {
+            line: cover.line,
+            name: cover.out.as_slice(),
+        })?;
+    }
+    Ok(())
+}
+
+// Adds the outputs of some latches.
+fn push_latch_outputs<'a>(
+    words: &mut Vec<Word<'a>>,
+    latches: &'a [LatchRow],
+) -> Result<(), AllocError>
+    ensures { OnOk result (word_ports words.new.items ≡ word_ports words.old.items ++ map latch_output latches.now) }
+{
+    for latch in latches {
+        words.push(Word {
+            line: latch.line,
+            name: latch.output.as_slice(),
+        })?;
+    }
+    Ok(())
+}
+
+/// The drivers of a model's nets.
+pub fn driver_words<'a>(
+    alloc: Global,
+    model: &'a Model,
+    placed: &PlacedPorts<'a>,
+) -> Result<Vec<Word<'a>>, AllocError>
+    ensures { IfOk result (λ words. (models : List Model) → KnowsPorts placed.now models → word_ports words.items ≡ drivers_of models model.now) }
+{
+    let inputs = input_words(alloc, model)?;
+    let mut words = firsts(alloc, inputs.as_slice())?;
+    push_cover_outputs(&mut words, model.covers.as_slice())?;
+    push_latch_outputs(&mut words, model.latches.as_slice())?;
+    push_actuals(&mut words, PinKind::Output, model, placed)?;
+    Ok(words)
+}

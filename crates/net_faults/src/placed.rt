@@ -1,0 +1,64 @@
+// The ports of the models that subckt lines name.
+ghost use Rattle.std.specs.Prelude.{◌≡◌, List, IfOk};
+ghost use Rattle.std.specs.Option.{option_copied};
+ghost use Rattle.netlist_core.specs.declared.model.Model.{Model};
+ghost use Rattle.netlist_core.specs.Names.{model_named};
+ghost use Rattle.net_faults.specs.Placed.{HasPorts, IsPlaced, KnowsPorts};
+
+use crate::first_lines::FirstLines;
+use crate::words::{input_words, port_words};
+use named_models::NamedModels;
+use netlist_core::Model;
+use std::alloc::{AllocError, Global};
+
+/// The names of a model's inputs, among which its clocks count, and of its outputs.
+#[derive(Drop)]
+pub struct PortNames<'a> {
+    pub inputs: FirstLines<'a>,
+    pub outputs: FirstLines<'a>,
+}
+
+/// The names of the ports of each model, and the models by name.
+#[derive(Drop)]
+pub struct PlacedPorts<'a> {
+    named: &'a NamedModels<'a>,
+    ports: Vec<PortNames<'a>>,
+}
+
+// The names of a model's ports.
+fn port_names<'a>(alloc: Global, model: &'a Model) -> Result<PortNames<'a>, AllocError>
+    ensures { IfOk result (λ names. HasPorts names model.now) }
+{
+    let inputs = input_words(alloc, model)?;
+    let outputs = port_words(alloc, model.outs.as_slice())?;
+    Ok(PortNames {
+        inputs: FirstLines::of(alloc, inputs.as_slice())?,
+        outputs: FirstLines::of(alloc, outputs.as_slice())?,
+    })
+}
+
+impl<'a> PlacedPorts<'a> {
+    /// Of these models.
+    pub fn new(
+        alloc: Global,
+        models: &'a [Model],
+        named: &'a NamedModels<'a>,
+    ) -> Result<PlacedPorts<'a>, AllocError>
+        requires { named.now ≡ models.now }
+        ensures { IfOk result (λ placed. KnowsPorts placed models.now) }
+    {
+        let mut ports = Vec::new(alloc);
+        for model in models {
+            ports.push(port_names(alloc, model)?)?;
+        }
+        Ok(PlacedPorts { named, ports })
+    }
+
+    /// Of the first model of this name.
+    pub fn find(&self, name: &[u8]) -> Option<&PortNames<'a>>
+        ensures { (models : List Model) → KnowsPorts self.now models → IsPlaced (model_named models name.now) (option_copied result) }
+    {
+        let number = self.named.find(name)?;
+        self.ports.get(number)
+    }
+}

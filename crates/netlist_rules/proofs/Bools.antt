@@ -1,1 +1,0 @@
--- Bools that fail together.

@@ -1,0 +1,8 @@
+use Rattle.std.proofs.Common.{◌≡◌, flat_map, take}
+use Rattle.netlist_rules.specs.ModelFaults.{earliest, missing_model}
+use Rattle.earliest_words.specs.Words.{earliest_word}
+use Rattle.pin_faults.specs.SubcktLines.{lines_now}
+use Rattle.pin_faults.proofs.placed.missing_model.Given as goal
+
+abbrev pub invariant-loop-line : goal.invariant-loop-line
+invariant-loop-line l = earliest_word l.earliest ≡ earliest (flat_map (missing_model l.named) (lines_now (take l.line-index l.line-items)))

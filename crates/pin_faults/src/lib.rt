@@ -1,0 +1,18 @@
+//! The rules on subckt lines and their pins: for each, the fault at the earliest word that breaks it.
+#![tactic(auto)]
+
+mod formals;
+mod lines;
+mod missing;
+mod names;
+mod offers;
+mod placed;
+mod repeated;
+
+pub use earliest_words::{Fault, FaultKind};
+pub use formals::unknown_formal;
+pub use missing::pin_missing;
+pub use named_models::NamedModels;
+pub use netlist_core::Model;
+pub use placed::missing_model;
+pub use repeated::pin_twice;

@@ -1,0 +1,16 @@
+// Words that are offered where they break a rule.
+ghost use Rattle.std.specs.Prelude.{◌≡◌};
+ghost use Rattle.std.specs.Bool.{then_some};
+ghost use Rattle.std.specs.Option.{option_to_list};
+ghost use Rattle.earliest_words.specs.Words.{earliest_word, earliest_after, word_port};
+
+use earliest_words::{Earliest, Word};
+
+/// Offers a word, if it breaks the rule.
+pub fn offer_if<'a>(earliest: &mut Earliest<'a>, breaks: bool, word: Word<'a>)
+    ensures { earliest_word earliest.new ≡ earliest_after (earliest_word earliest.old) (option_to_list (then_some breaks (word_port word.entry))) }
+{
+    if breaks {
+        earliest.offer(word);
+    }
+}
