@@ -1,5 +1,4 @@
 -- What is compiled of a design shows the design's runs.
-use Rattle.std.specs.Prelude.{ℕ}
 use Rattle.tile_core.specs.declared.kind.Kind.{Kind}
 use Rattle.tile_core.specs.Drawing.{Drawing}
 use Rattle.tiling.specs.Steps.{KeepsLaw}

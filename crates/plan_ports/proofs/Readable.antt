@@ -10,7 +10,7 @@ use Rattle.lane_core.specs.Plans.{IsAdmissible, left_of, row_of, period_of, size
 use Rattle.lane_core.specs.Places.{AreDistinctBelow}
 use Rattle.netlist_core.specs.declared.flat.FlatPort.{FlatPort}
 use Rattle.netlist_core.specs.declared.flat.Flat.{Flat}
-use Rattle.netlist_meaning.specs.Flat.{IsNetId, no_net, name_of_net}
+use Rattle.netlist_meaning.specs.Flat.{IsNetId, no_net, name_of_net, names_of_ports}
 use Rattle.pattern_reading.specs.declared.ports.PortLine.{PortLine}
 use Rattle.pattern_reading.specs.declared.ports.NetLine.{NetLine}
 use Rattle.pattern_reading.specs.Numbers.{greatest_number}
@@ -18,7 +18,7 @@ use Rattle.pattern_reading.specs.Ports.{cells_of, names_of}
 use Rattle.pattern_reading.specs.Spelling.{IsPortName}
 use Rattle.pattern_reading.specs.SoundTable.{IsSoundPort, IsSoundNet}
 use Rattle.pattern_reading.specs.Laws.{IsPortInside, IsNetInside}
-use Rattle.plan_ports.specs.Tables.{port_names, HasPortNames}
+use Rattle.plan_ports.specs.Tables.{HasPortNames}
 use Rattle.plan_ports.specs.Laws.{TablesAreReadable}
 
 -- lines have what their cells and their names give
@@ -74,7 +74,7 @@ period_fits plan h =
 
 -- The names of ports.
 
-names_are : (flat : Flat) → HasPortNames flat → (ports : List FlatPort) → All (λ port. IsNetId flat port.net) ports → All IsPortName (port_names flat ports)
+names_are : (flat : Flat) → HasPortNames flat → (ports : List FlatPort) → All (λ port. IsNetId flat port.net) ports → All IsPortName (names_of_ports flat ports)
 names_are flat names ports there = All-map IsPortName (λ port. name_of_net flat port.net) ports (λ k d lt. names (get_or ports k d).net.0 no_net (there k d lt))
 
 distinct : (lines : List PortLine) → AllPairs (λ a b. a ≢ b) (names_of lines) → AllPairs (λ a b. a.name ≢ b.name) lines
@@ -86,7 +86,7 @@ distinct lines h i j d before within =
 -- Port lines with such cells and names.
 module _ (flat : Flat) (plan : Plan) (h : IsAdmissible plan) (names : HasPortNames flat) (ports : List FlatPort) (there : All (λ port. IsNetId flat port.net) ports)
     (lines : List PortLine) (column : ℕ) (lanes : List ℕ) (below : AreDistinctBelow (plan.lanes - plan.latches) lanes) (near : column ≤ length plan.columns)
-    (cells : cells_of lines ≡ map (λ lane. (left_of plan column, row_of lane)) lanes) (named : names_of lines ≡ port_names flat ports) where
+    (cells : cells_of lines ≡ map (λ lane. (left_of plan column, row_of lane)) lanes) (named : names_of lines ≡ names_of_ports flat ports) where
   abbrev Each : (PortLine → Type 0) → Type 0
   Each R = ((line : PortLine) → Inside (size_of plan) (line.x, line.y) → IsPortName line.name → R line) → AllByRecursion R lines
 
