@@ -32,7 +32,7 @@ use Rattle.netlist_meaning.specs.Flat.{class_of, node_at, no_node, in_classes, F
 use Rattle.netlist_meaning.specs.InOrder.{nets_in_order}
 use Rattle.netlist_meaning.specs.FlatOf.{position_of, id_of, class_of_net, flat_net, flat_node, flat_latch, flat_port, first_control, IsFlatOf}
 use Rattle.netlist_core.specs.declared.flat.Net.{Net as FlatNet}
-use Rattle.flat_designs.specs.Laws.{FlatIsSound}
+use Rattle.flat_designs.specs.Laws.{FlatIsSound, FlatIsInRange}
 use Rattle.flat_designs.proofs.Lists.{Pairs, all_of, in_some_map}
 use Rattle.flat_designs.proofs.Listed.{net_is}
 use Rattle.flat_designs.proofs.Names.{output_name, clock_name, cover_name, latch_name, is_net_of, main_port}
@@ -370,9 +370,12 @@ data_unclocked design flat faultless clean h = all_of (λ (l : FlatLatch). ¬ Is
     subst (λ (v : FlatLatch). ¬ IsClockClass flat (class_of flat v.input)) (sym r.is_value)
     (unused_id design flat faultless clean h r.latch.line 0 (net_at r.place r.latch.input) (data_net design r.place r.model r.latch r.has_model r.has_latch) (by_latch r.has_model (contains_from r.model.latches r.latch r.has_latch) refl)))
 
+pub flat_is_in_range : FlatIsInRange
+flat_is_in_range design flat faultless h light = in_range design flat faultless h (let l : length flat.nodes ≤ weight design = nodes_within design flat h in omega arith)
+
 pub flat_is_sound : FlatIsSound
 flat_is_sound design flat faultless clean h light = record {
-  in_range = in_range design flat faultless h (let l : length flat.nodes ≤ weight design = nodes_within design flat h in omega arith);
+  in_range = flat_is_in_range design flat faultless h light;
   one_driver = one_driver design flat faultless h;
   driven = net_driver design flat faultless clean h;
   clocks_undriven = undriven design flat faultless clean h;

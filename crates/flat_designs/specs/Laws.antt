@@ -18,7 +18,7 @@ use Rattle.netlist_core.specs.OwnWeight.{rows_weight}
 use Rattle.netlist_rules.specs.ModelFaults.{AreFaultless}
 use Rattle.netlist_core.specs.declared.flat.Flat.{Flat}
 use Rattle.netlist_core.specs.declared.flat.FlatPort.{FlatPort}
-use Rattle.netlist_meaning.specs.Flat.{names_of_ports, IsNamed, IsWeighed, IsSound, class_of, no_net}
+use Rattle.netlist_meaning.specs.Flat.{IsInRange, names_of_ports, IsNamed, IsWeighed, IsSound, class_of, no_net}
 use Rattle.netlist_meaning.specs.FlatOrder.{IsFlatLoop, IsFirstOfClass, IsOrder}
 use Rattle.netlist_meaning.specs.FlatValuation.{IsFlatValuation, IsCycle}
 use Rattle.netlist_meaning.specs.InOrder.{of_some, places_in_order, by_line, words_on_line, first_names, names_in_order, nets_in_order}
@@ -111,6 +111,10 @@ ValuationsAreFlat = (design : Design) (flat : Flat) → AreFaultless design.mode
 
 abbrev pub FlatIsSound : Type 0
 FlatIsSound = (design : Design) (flat : Flat) → AreFaultless design.models → HasNoClockFault design → IsFlatOf design flat → weight design < 2 ^ 32 → IsSound flat
+
+-- its numbers are in range, whatever its clocks are
+abbrev pub FlatIsInRange : Type 0
+FlatIsInRange = (design : Design) (flat : Flat) → AreFaultless design.models → IsFlatOf design flat → weight design < 2 ^ 32 → IsInRange flat
 
 -- the net at a position
 abbrev pub net_of_class : Design → ℕ → Net

@@ -2,7 +2,7 @@
 #![tactic(auto)]
 
 ghost use Rattle.flat_designs.specs.ClockLaws.{ClockClassesAreClockNets, TwoClocksAreFlat, ClockReadIsFlat, ClockFaultsAreFlat};
-ghost use Rattle.flat_designs.specs.Laws.{PlacesAreListed, NamesAreListed, WordsStandByLine, NamesComeWhereFirst, NetsAreListed, ClassesAreJoined, FirstsAreRoots, ValuationsAreFlat, FlatIsSound, LoopsAreFlat, NetsAreFew, PartsAreFew, FlatIsWeighed, FlatIsNamed, FlatIsThere, RootsAreByPins, FlatIsOne, PortsAreFlat, DesignsHaveOneValuation, CyclesAreFlat};
+ghost use Rattle.flat_designs.specs.Laws.{PlacesAreListed, NamesAreListed, WordsStandByLine, NamesComeWhereFirst, NetsAreListed, ClassesAreJoined, FirstsAreRoots, ValuationsAreFlat, FlatIsSound, FlatIsInRange, LoopsAreFlat, NetsAreFew, PartsAreFew, FlatIsWeighed, FlatIsNamed, FlatIsThere, RootsAreByPins, FlatIsOne, PortsAreFlat, DesignsHaveOneValuation, CyclesAreFlat};
 
 /// The list of places has each place once, in order.
 pub fn places_are_listed()
@@ -42,6 +42,11 @@ pub fn loops_are_flat()
 /// The flat netlist is sound: each class but the clock nets' has one driver, and clock nets are neither read nor driven.
 pub fn flat_is_sound()
     ensures { FlatIsSound }
+{}
+
+/// The numbers of a flat netlist are in range, whatever its clocks are.
+pub fn flat_is_in_range()
+    ensures { FlatIsInRange }
 {}
 
 /// A design without a fault has no more nets than its weight.

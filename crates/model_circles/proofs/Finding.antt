@@ -105,20 +105,18 @@ met_new models first places found parents inner at s less here places_it new = r
     before : (i : ℕ) → 0 < i → (i < length found) ⊎ (i ≡ length found) → (get_or (parents ++ at ∷ []) i 0 < i) × PlacesSomewhere models (get_or (found ++ inner ∷ []) (get_or (parents ++ at ∷ []) i 0) 0) (get_or (found ++ inner ∷ []) i 0)
     before i some (inl l) =
         let (up, step) = s.before i some l in
-        let same : get_or (parents ++ at ∷ []) i 0 ≡ get_or parents i 0 = get_or_append_left parents (at ∷ []) 0 i (subst (λ v. i < v) (sym s.parents_fit) l) in
-        (
+        let same : get_or (parents ++ at ∷ []) i 0 ≡ get_or parents i 0 = get_or_append_left parents (at ∷ []) 0 i (subst (λ v. i < v) (sym s.parents_fit) l) in (
           subst (λ v. v < i) (sym same) up,
           subst (λ v. PlacesSomewhere models (get_or (found ++ inner ∷ []) v 0) (get_or (found ++ inner ∷ []) i 0)) (sym same)
-          (subst (λ v. PlacesSomewhere models v (get_or (found ++ inner ∷ []) i 0)) (sym (get_or_append_left found (inner ∷ []) 0 (get_or parents i 0) (omega arith)))
-          (subst (λ v. PlacesSomewhere models (get_or found (get_or parents i 0) 0) v) (sym (get_or_append_left found (inner ∷ []) 0 i l)) step)),
+              (subst (λ v. PlacesSomewhere models v (get_or (found ++ inner ∷ []) i 0)) (sym (get_or_append_left found (inner ∷ []) 0 (get_or parents i 0) (omega arith)))
+              (subst (λ v. PlacesSomewhere models (get_or found (get_or parents i 0) 0) v) (sym (get_or_append_left found (inner ∷ []) 0 i l)) step)),
         )
     before i some (inr e) =
-        let last : get_or (parents ++ at ∷ []) i 0 ≡ at = get_or_push parents at 0 i (s.parents_fit ∙ sym e) in
-        (
+        let last : get_or (parents ++ at ∷ []) i 0 ≡ at = get_or_push parents at 0 i (s.parents_fit ∙ sym e) in (
           subst (λ v. v < i) (sym last) (omega arith),
           subst (λ v. PlacesSomewhere models (get_or (found ++ inner ∷ []) v 0) (get_or (found ++ inner ∷ []) i 0)) (sym last)
-          (subst (λ v. PlacesSomewhere models v (get_or (found ++ inner ∷ []) i 0)) (sym (get_or_append_left found (inner ∷ []) 0 at here))
-          (subst (λ v. PlacesSomewhere models (get_or found at 0) v) (sym (get_or_push found inner 0 i (sym e))) places_it)),
+              (subst (λ v. PlacesSomewhere models v (get_or (found ++ inner ∷ []) i 0)) (sym (get_or_append_left found (inner ∷ []) 0 at here))
+              (subst (λ v. PlacesSomewhere models (get_or found at 0) v) (sym (get_or_push found inner 0 i (sym e))) places_it)),
         )
 
 pub search_same : (models : List Model) (first : ℕ) (places places' : List (Option ℕ)) (found found' parents parents' : List ℕ) → IsSearch models first places found parents → places' ≡ places → found' ≡ found → parents' ≡ parents → IsSearch models first places' found' parents'

@@ -63,7 +63,7 @@ on_circle models circle c =
       others = map (name_at models) circle.others;
       begins = ap (λ v. v ∷ map (name_at models) circle.others) named;
       leads_back = subst (λ v. LeadsBack models v (map (name_at models) circle.others) is.model.name) (name_is models p.line.model c.inner p.is_number ∙ ap (λ (s : Subckt). s.model) (sym same))
-      (subst (λ v. LeadsBack models (name_at models c.inner) (map (name_at models) circle.others) v) named (back c.inner circle.others circle.first (placed_named models circle.first c.k c.inner c.placed) c.way.leads));
+          (subst (λ v. LeadsBack models (name_at models c.inner) (map (name_at models) circle.others) v) named (back c.inner circle.others circle.first (placed_named models circle.first c.k c.inner c.placed) c.way.leads));
       is_simple = is_distinct (map (name_at models) (circle.first ∷ circle.others)) (names_apart models (circle.first ∷ circle.others) are c.way.apart);
     }
   where

@@ -118,12 +118,7 @@ impl Components {
     }
 
     // One step, at the model on top of the path: its next line, or it is left.
-    fn step(
-        &mut self,
-        models: &[Model],
-        named: &NamedModels,
-        n: usize,
-    ) -> Result<(), AllocError>
+    fn step(&mut self, models: &[Model], named: &NamedModels, n: usize) -> Result<(), AllocError>
         requires index { named.now ≡ models.now }
         requires within { AreWithin (length models.now) self.old }
         requires model { n < length models.now }

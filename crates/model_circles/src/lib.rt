@@ -8,3 +8,6 @@ mod ranking;
 mod search;
 
 pub use fault::circle_fault;
+
+#[cfg(test)]
+mod tests;

@@ -40,11 +40,7 @@ fn never_rise(models: &[Model], named: &NamedModels, ranks: &[usize]) -> bool
 }
 
 /// Ranks of which none rises along a line, by components, so that lines on no circle mostly lead to a lower rank.
-pub fn ranks(
-    alloc: Global,
-    models: &[Model],
-    named: &NamedModels,
-) -> Result<Vec<usize>, AllocError>
+pub fn ranks(alloc: Global, models: &[Model], named: &NamedModels) -> Result<Vec<usize>, AllocError>
     requires { named.now ≡ models.now }
     ensures { IfOk result (λ ranks. AreRanks models.now ranks.items) }
 {

@@ -1,6 +1,6 @@
 -- Walks that have seen all are orders, and the walk before its first step.
 use Rattle.std.proofs.Common.{◌≡◌, ◌≢◌, refl, sym, ap, subst, ◌∙◌, ℕ, zero, suc, ◌+◌, ◌-◌, ◌<◌, ◌≤◌, ◌⊎◌, inl, inr, List, [], ◌∷◌, length, get_or, arith, replicate, count_by, cond}
-use Rattle.std.specs.Prelude.{Contains}
+use Rattle.std.specs.Prelude.{Contains, AllPairs}
 use Rattle.std.proofs.lemmas.List.Sums.{sum_by-cons}
 use Rattle.std.proofs.lemmas.List.{get_or_past, get_or_default}
 use Rattle.netlist_core.specs.declared.model.Model.{Model}
@@ -35,11 +35,19 @@ done_within models marks n i fit e = by (cases n (length marks))
 pub is_order : (models : List Model) (marks : List Mark) (next order : List ℕ) → IsWalk models marks next [] order → ((n : ℕ) → n < length models → mark_of marks n ≢ Unseen) → IsModelOrder models order
 is_order models marks next order w seen = record {
   numbers = λ i d l. subst (λ v. v < length models) (get_or_default order i 0 d l) (done_within models marks (get_or order i 0) i w.marks_fit (w.done_at i l));
+  once = once;
   few = (let c = w.counted in omega arith);
   all = λ n l. all n (mark_of marks n) refl (seen n l);
   after = λ i k b l r. (let (j, less, d) = w.before (get_or order i 0) i k b (w.done_at i l) r in (j, less, (w.at_done b j d).1));
 }
   where
+    once : AllPairs (λ a b. a ≢ b) order
+    once i j d less l same =
+        let e : get_or order i 0 ≡ get_or order j 0 = get_or_default order i 0 d (omega arith) ∙ same ∙ get_or_default order j d 0 l in
+        let o : Done i ≡ Done j = sym (w.done_at i (omega arith)) ∙ ap (mark_of marks) e ∙ w.done_at j l in
+        let p : i ≡ j = cc in
+        absurd (omega arith)
+
     all : (n : ℕ) (mark : Mark) → mark_of marks n ≡ mark → mark_of marks n ≢ Unseen → Contains order n
     all n Unseen e s = absurd (s e)
     all n (Open i) e s = absurd (let l : i < 0 = (w.at_open n i e).0 in omega arith)

@@ -2,10 +2,10 @@
 #![tactic(auto)]
 
 mod error;
-mod ordering;
 mod numbers;
+mod ordering;
 mod walk;
 
 pub use error::OrderError;
-pub use ordering::order;
 pub use numbers::placed;
+pub use ordering::order;

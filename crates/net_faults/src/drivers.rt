@@ -14,10 +14,7 @@ use netlist_core::{Cover, LatchRow, Model};
 use std::alloc::{AllocError, Global};
 
 // Adds the outputs of some covers.
-fn push_cover_outputs<'a>(
-    words: &mut Vec<Word<'a>>,
-    covers: &'a [Cover],
-) -> Result<(), AllocError>
+fn push_cover_outputs<'a>(words: &mut Vec<Word<'a>>, covers: &'a [Cover]) -> Result<(), AllocError>
     ensures { OnOk result (word_ports words.new.items ≡ word_ports words.old.items ++ map cover_output covers.now) }
 {
     for cover in covers {

@@ -66,7 +66,12 @@ fn offer_duplicates<'a>(
     let inputs = FirstLines::of(alloc, input_words(alloc, model)?.as_slice())?;
     let outputs = FirstLines::of(alloc, outs.as_slice())?;
     offer_doubles(alloc, ins.as_slice(), Elsewhere::Before(&outputs), earliest)?;
-    offer_doubles(alloc, clocks.as_slice(), Elsewhere::Before(&outputs), earliest)?;
+    offer_doubles(
+        alloc,
+        clocks.as_slice(),
+        Elsewhere::Before(&outputs),
+        earliest,
+    )?;
     offer_doubles(alloc, outs.as_slice(), Elsewhere::UpTo(&inputs), earliest)?;
     Ok(())
 }

@@ -9,7 +9,7 @@ ghost use Rattle.row_placer.specs.Placed.{AreOuts};
 ghost use Rattle.row_placer.specs.declared.job.CellKind.TheVariants.{AndNot};
 ghost use Rattle.channel_router.specs.Routes.{swapped, brought, distance};
 
-use crate::{NumberedCell, Job, CellKind, PlaceError, Role, Tag};
+use crate::{CellKind, Job, NumberedCell, PlaceError, Role, Tag};
 use lane_core::{Instr, NetPlace};
 use std::alloc::Global;
 

@@ -11,7 +11,7 @@ mod roles;
 mod start;
 
 pub use error::PlaceError;
-use job::{NumberedCell, Job, CellKind};
+use job::{CellKind, Job, NumberedCell};
 use lanes::Lanes;
 pub use placing::place;
 use roles::{Role, Tag};

@@ -6,7 +6,7 @@ ghost use Rattle.row_placer.specs.Numbers.{number, gate_of, IsThere, ReadsWhatIs
 ghost use Rattle.row_placer.specs.Placed.{net_place_of};
 ghost use Rattle.cell_core.specs.declared.cells.Src.TheVariants.{Zero};
 
-use crate::{NumberedCell, CellKind, PlaceError};
+use crate::{CellKind, NumberedCell, PlaceError};
 use cell_core::{Cell, CellList, Src};
 use lane_core::NetPlace;
 use std::alloc::Global;

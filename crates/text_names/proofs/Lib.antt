@@ -1,2 +1,3 @@
+mod Newlines
 pub mod Lines
 pub mod Words

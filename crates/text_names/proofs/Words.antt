@@ -22,6 +22,7 @@ use Rattle.blif_text.specs.LineFaults.{is_empty}
 use Rattle.blif_text.proofs.LineNumbers.{lines_have_words}
 use Rattle.text_names.specs.TextNames.{IsNameWord, NamesAreWords, NetsAreWords}
 use Rattle.text_names.proofs.Lines.{Clean, all_in, all_taken, in_drop, in_take, in_last, none_dropped, clean_after}
+use Rattle.text_names.proofs.Newlines.{lines_have_one_line_words}
 
 some_given : {X : Type 0} (b : Bool) (x y : X) → then_some b x ≡ Some y → (b ≡ true) × (x ≡ y)
 some_given true x y e = (refl, same_Some x y e)
@@ -109,7 +110,7 @@ actual_word l clean subckt name i =
     let (word, k, is) = in_mapped pin_of (pin_words l) pin j in
     let w : IsNameWord word = clean.words word (in_drop 2 l.words word k) in
     let some : is_empty (after_first is_equals word) ≡ false = (or_parts (is_empty (before_first is_equals word)) (is_empty (after_first is_equals word)) (clean.pins subckt word k)).1 in
-    subst IsNameWord (sym (e ∙ ap (λ (p : Pin). p.actual) is)) (record { some = not_empty (after_first is_equals word) some; plain = none_dropped is_space _ word w.plain })
+    subst IsNameWord (sym (e ∙ ap (λ (p : Pin). p.actual) is)) (record { some = not_empty (after_first is_equals word) some; plain = none_dropped is_space _ word w.plain; one_line = none_dropped Rattle.blif_text.specs.LogicalLines.is_newline _ word w.one_line })
 
 abbrev inputs_in : List Logical → List Name
 inputs_in lines = port_names (ports_listed (codes ".inputs") lines)
@@ -179,7 +180,7 @@ models_words (l ∷ ls) clean m i name j =
 
 pub names_are_words : NamesAreWords
 names_are_words text design is model has name named =
-    models_words (logical_lines text) (clean_after [] (logical_lines text) is.models.no_fault (lines_have_words text).0) model
+    models_words (logical_lines text) (clean_after [] (logical_lines text) is.models.no_fault (lines_have_words text).0 (lines_have_one_line_words text)) model
     (subst (λ ms. In model ms) is.models.are_models (in_from design.models model has)) name (in_from (model_names model) name named)
 
 pub nets_are_words : NetsAreWords

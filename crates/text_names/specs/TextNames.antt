@@ -5,13 +5,14 @@ use Rattle.netlist_core.specs.declared.model.Design.{Design}
 use Rattle.netlist_core.specs.declared.model.Model.{Model}
 use Rattle.netlist_core.specs.Names.{Name}
 use Rattle.netlist_meaning.specs.Nets.{Net, IsNet, model_names}
-use Rattle.blif_text.specs.LogicalLines.{is_space}
+use Rattle.blif_text.specs.LogicalLines.{is_space, is_newline}
 use Rattle.blif_text.specs.Faults.{IsDesignOf}
 
--- a word: at least one byte, and none of them a blank
+-- a word: at least one byte, and none of them a blank or the end of a line
 pub record IsNameWord (name : Name) : Type 0 where
   pub some : name ≢ []
   pub plain : list_any is_space name ≡ false
+  pub one_line : list_any is_newline name ≡ false
 
 -- the names that the lines of a model name are words
 abbrev pub NamesAreWords : Type 0

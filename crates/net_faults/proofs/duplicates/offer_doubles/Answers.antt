@@ -29,7 +29,7 @@ loop-word-preserved c = λ others knows.
           ap earliest_word w.earliest-is ∙ sym (cond-false (repeat || test p) offered found fails)
     ] in
     left_after c.loop-word.repeats c.pass.new.self c.args.words.now (λ before left. earliest_after found (doubles_after test before left)) (λ before left. earliest_after (earliest_word c.if-branch.earliest) (doubles_after test before left)) _ c.loop-word.word-index within
-        c.in_ok-pass.ensures.passed
-        (λ before after at. offered_if (repeat || test p) found (earliest_word c.if-branch.earliest) p (doubles_after test (p ∷ before) after) chosen
-            ∙ ap (λ t. earliest_after found (option_to_list (then_some (t || test p) p) ++ doubles_after test (p ∷ before) after)) (c.in_ok-pass.ensures.told before after at))
-        (c.loop-word.invariant others knows)
+    c.in_ok-pass.ensures.passed
+    (λ before after at. offered_if (repeat || test p) found (earliest_word c.if-branch.earliest) p (doubles_after test (p ∷ before) after) chosen
+    ∙ ap (λ t. earliest_after found (option_to_list (then_some (t || test p) p) ++ doubles_after test (p ∷ before) after)) (c.in_ok-pass.ensures.told before after at))
+    (c.loop-word.invariant others knows)

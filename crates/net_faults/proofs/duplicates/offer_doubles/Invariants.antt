@@ -9,4 +9,4 @@ use Rattle.net_faults.proofs.duplicates.offer_doubles.Given as goal
 abbrev pub invariant-loop-word : goal.invariant-loop-word
 invariant-loop-word l = (others : List Port) → KnowsOthers l.elsewhere others →
     IsLeft l.repeats (drop l.word-index l.words) (λ before left. earliest_after (earliest_word l.earliest) (doubles_after (stands_elsewhere l.elsewhere others) before left))
-        (earliest_after (earliest_word l.initial.earliest) (doubles_after (stands_elsewhere l.elsewhere others) [] (word_ports l.words)))
+    (earliest_after (earliest_word l.initial.earliest) (doubles_after (stands_elsewhere l.elsewhere others) [] (word_ports l.words)))

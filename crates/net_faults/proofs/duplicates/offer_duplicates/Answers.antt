@@ -17,9 +17,9 @@ returns c =
     let first = earliest_word c.offer_doubles.new.earliest in
     let second = earliest_word c.offer_doubles-2.new.earliest in
     offered_thrice start first second (earliest_word c.offer_doubles-3.new.earliest)
-        (doubles_after (is_output_before m) [] m.ins)
-        (doubles_after (is_output_before m) [] m.clocks)
-        (doubles_after (is_input_by_then m) [] m.outs)
-        (c.in_ok-offer_doubles.ensures m.outs outputs ∙ ap (λ ps. earliest_after start (doubles_after (is_output_before m) [] ps)) (ap word_ports c.as_slice-6.ensures.value ∙ ins))
-        (c.in_ok-offer_doubles-2.ensures m.outs outputs ∙ ap (λ ps. earliest_after first (doubles_after (is_output_before m) [] ps)) (ap word_ports c.as_slice-7.ensures.value ∙ clocks))
-        (c.in_ok-offer_doubles-3.ensures _ inputs ∙ ap (λ ps. earliest_after second (doubles_after (is_input_by_then m) [] ps)) (ap word_ports c.as_slice-8.ensures.value ∙ outs))
+    (doubles_after (is_output_before m) [] m.ins)
+    (doubles_after (is_output_before m) [] m.clocks)
+    (doubles_after (is_input_by_then m) [] m.outs)
+    (c.in_ok-offer_doubles.ensures m.outs outputs ∙ ap (λ ps. earliest_after start (doubles_after (is_output_before m) [] ps)) (ap word_ports c.as_slice-6.ensures.value ∙ ins))
+    (c.in_ok-offer_doubles-2.ensures m.outs outputs ∙ ap (λ ps. earliest_after first (doubles_after (is_output_before m) [] ps)) (ap word_ports c.as_slice-7.ensures.value ∙ clocks))
+    (c.in_ok-offer_doubles-3.ensures _ inputs ∙ ap (λ ps. earliest_after second (doubles_after (is_input_by_then m) [] ps)) (ap word_ports c.as_slice-8.ensures.value ∙ outs))

@@ -11,5 +11,5 @@ pub loop-subckt-preserved : goal.loop-subckt-preserved
 loop-subckt-preserved c = λ models knows.
     let subckt = c.subckt-item.result in
     flat_more (actuals_on models (is_pin_of c.args.kind)) (word_ports c.args.words.now.items) (word_ports c.loop-subckt.words.items) (word_ports c.push_pins.new.words.items) c.as_slice-subckt-items.result.now c.loop-subckt.subckt-index subckt (omega arith) c.subckt-item.is
-        (c.loop-subckt.invariant models knows)
-        (c.in_ok-push_pins.ensures (model_named models subckt.model) (subst (λ name. IsPlaced (model_named models name) (option_copied c.find.result)) c.as_slice.ensures (c.find.ensures models knows)))
+    (c.loop-subckt.invariant models knows)
+    (c.in_ok-push_pins.ensures (model_named models subckt.model) (subst (λ name. IsPlaced (model_named models name) (option_copied c.find.result)) c.as_slice.ensures (c.find.ensures models knows)))

@@ -27,6 +27,6 @@ loop-pin-preserved c = λ model placed.
       | else-is_of_kind w ↦ ap (λ (v : _). word_ports v.items) w.words-is ∙ sym (cond-false test (had ++ p ∷ []) had w.if-is_of_kind.false)
     ] in
     filtered_more (actual_if (is_pin_of c.args.kind model) line) (word_ports c.args.words.now.items) had (word_ports c.if-is_of_kind.words.items) c.as_slice-pin-items.result.now c.loop-pin.pin-index pin test p (omega arith) c.pin-item.is
-        (ap (λ t. then_some t p) (sym (c.is_of_kind.ensures model placed)))
-        (c.loop-pin.invariant model placed)
-        chosen
+    (ap (λ t. then_some t p) (sym (c.is_of_kind.ensures model placed)))
+    (c.loop-pin.invariant model placed)
+    chosen

@@ -21,7 +21,7 @@ loop-word-preserved c =
       | else-not-branch w ↦ ap (λ (v : _). word_ports v.items) w.found-is ∙ sym (cond-true c.in_ok-pass.field-0 kept (kept ++ p ∷ []) w.if-not-branch.false)
     ] in
     left_after c.loop-word.repeats c.pass.new.self c.args.words.now (λ before left. kept ++ firsts_after before left) (λ before left. word_ports c.if-not-branch.found.items ++ firsts_after before left) _ c.loop-word.word-index within
-        c.in_ok-pass.ensures.passed
-        (λ before after at. kept_unless c.in_ok-pass.field-0 kept (word_ports c.if-not-branch.found.items) p (firsts_after (p ∷ before) after) chosen
-            ∙ ap (λ t. kept ++ (option_to_list (then_some (not t) p) ++ firsts_after (p ∷ before) after)) (c.in_ok-pass.ensures.told before after at))
-        c.loop-word.invariant
+    c.in_ok-pass.ensures.passed
+    (λ before after at. kept_unless c.in_ok-pass.field-0 kept (word_ports c.if-not-branch.found.items) p (firsts_after (p ∷ before) after) chosen
+    ∙ ap (λ t. kept ++ (option_to_list (then_some (not t) p) ++ firsts_after (p ∷ before) after)) (c.in_ok-pass.ensures.told before after at))
+    c.loop-word.invariant

@@ -18,7 +18,7 @@ loop-word-preserved c =
       | else-branch w ↦ ap earliest_word w.earliest-is ∙ sym (cond-false c.in_ok-pass.field-0 (earliest_after found (p ∷ [])) found w.if-branch.false)
     ] in
     left_after c.loop-word.repeats c.pass.new.self c.args.words.now (λ before left. earliest_after found (repeats_after before left)) (λ before left. earliest_after (earliest_word c.if-branch.earliest) (repeats_after before left)) _ c.loop-word.word-index within
-        c.in_ok-pass.ensures.passed
-        (λ before after at. offered_if c.in_ok-pass.field-0 found (earliest_word c.if-branch.earliest) p (repeats_after (p ∷ before) after) chosen
-            ∙ ap (λ t. earliest_after found (option_to_list (then_some t p) ++ repeats_after (p ∷ before) after)) (c.in_ok-pass.ensures.told before after at))
-        c.loop-word.invariant
+    c.in_ok-pass.ensures.passed
+    (λ before after at. offered_if c.in_ok-pass.field-0 found (earliest_word c.if-branch.earliest) p (repeats_after (p ∷ before) after) chosen
+    ∙ ap (λ t. earliest_after found (option_to_list (then_some t p) ++ repeats_after (p ∷ before) after)) (c.in_ok-pass.ensures.told before after at))
+    c.loop-word.invariant

@@ -12,4 +12,4 @@ loop-model-preserved c =
     let model = c.model-item.result in
     let names = c.in_ok-port_names.field-0 in
     subst (AllZip HasPorts c.push.new.self.items) (sym (taken models i model (omega arith) c.model-item.is))
-        (subst (λ ns. AllZip HasPorts ns (take i models ++ model ∷ [])) (sym c.in_ok-push.ensures.items) (zipped_push HasPorts c.loop-model.ports.items (take i models) names model c.loop-model.invariant c.in_ok-port_names.ensures))
+    (subst (λ ns. AllZip HasPorts ns (take i models ++ model ∷ [])) (sym c.in_ok-push.ensures.items) (zipped_push HasPorts c.loop-model.ports.items (take i models) names model c.loop-model.invariant c.in_ok-port_names.ensures))
