@@ -1,1 +1,2 @@
 pub mod OneOrNone
+pub mod RulesInOrder

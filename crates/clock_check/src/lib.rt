@@ -5,8 +5,6 @@ mod check;
 mod clocks;
 mod control;
 mod error;
-#[cfg(test)]
-mod tests;
 mod uses;
 
 pub use check::check_clock;

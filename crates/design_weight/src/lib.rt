@@ -4,6 +4,3 @@
 mod weights;
 
 pub use weights::weight;
-
-#[cfg(test)]
-mod tests;

@@ -57,39 +57,3 @@ impl<'a> Earliest<'a> {
         }
     }
 }
-
-#[cfg(test)]
-mod tests {
-    use crate::{Earliest, FaultKind, Word};
-    use std::test::Fail;
-
-    #[test]
-    fn the_first_word_on_the_earliest_line_is_the_one(rt: HostRuntime) -> Result<(), Fail> {
-        let words = [
-            Word {
-                line: 3,
-                name: b"a",
-            },
-            Word {
-                line: 2,
-                name: b"b",
-            },
-            Word {
-                line: 2,
-                name: b"c",
-            },
-        ];
-        let mut earliest = Earliest::new();
-        assert!(rt; earliest.fault(rt.alloc(), FaultKind::Undriven)?.is_none());
-        for word in words.iter() {
-            earliest.offer(*word);
-        }
-        let fault = earliest
-            .fault(rt.alloc(), FaultKind::Undriven)?
-            .ok_or("no fault")?;
-        assert_eq!(rt; fault.kind, FaultKind::Undriven);
-        assert_eq!(rt; fault.line, 2);
-        assert_eq!(rt; fault.word.as_slice(), b"b".as_slice());
-        Ok(())
-    }
-}

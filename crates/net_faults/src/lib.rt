@@ -18,6 +18,3 @@ pub use named_models::NamedModels;
 pub use netlist_core::Model;
 pub use second_drivers::second_driver;
 pub use undriven_nets::undriven;
-
-#[cfg(test)]
-mod tests;

@@ -1,8 +1,8 @@
 -- The classes of controls, and the inputs among ports.
-use Rattle.std.proofs.Common.{ℕ, zero, suc, ◌≡◌, ◌≢◌, ◌<◌, ◌≤◌, ◌+◌, ◌⊎◌, ◌↔◌, inl, inr, List, [], ◌∷◌, ◌++◌, Bool, true, false, Option, Some, None, slice_get, get_or, length, map, take, set, replicate, option_map, option_and_then, refl, sym, ap, ◌∙◌, subst, arith, true≢false, length-set, get_or-set_same, get_or-set_other}
-use Rattle.std.specs.Prelude.{Contains, All, MatchOption, ⊤, option_to_list}
-use Rattle.std.proofs.lemmas.List.{map-append, take_more, length-replicate}
-use Rattle.std.proofs.lemmas.Option.{none-some, slice_get-map, slice_get-get_or, slice_get_within, slice_get_read, get_or_from_slice_get}
+use Rattle.std.proofs.Common.{ℕ, ◌≡◌, ◌≢◌, ◌<◌, ◌≤◌, ◌+◌, ◌⊎◌, ◌↔◌, inl, inr, List, [], ◌∷◌, ◌++◌, Bool, true, false, Option, Some, None, slice_get, get_or, length, map, take, set, option_map, option_and_then, refl, sym, ap, ◌∙◌, subst, arith, length-set, get_or-set_same, get_or-set_other}
+use Rattle.std.specs.Prelude.{All, MatchOption, ⊤, option_to_list}
+use Rattle.std.proofs.lemmas.List.{map-append, take_more}
+use Rattle.std.proofs.lemmas.Option.{none-some, slice_get-map, slice_get_within, get_or_from_slice_get}
 use Rattle.netlist_core.specs.declared.flat.FlatLatch.{FlatLatch}
 use Rattle.netlist_core.specs.declared.flat.FlatPort.{FlatPort}
 use Rattle.netlist_core.specs.declared.flat.NetId.{NetId}
@@ -11,8 +11,8 @@ use Rattle.netlist_core.specs.declared.model.LatchRow.{LatchRow}
 use Rattle.netlist_core.specs.declared.model.Model.{Model}
 use Rattle.netlist_core.specs.declared.model.Port.{Port}
 use Rattle.netlist_core.specs.Names.{Name}
-use Rattle.netlist_meaning.specs.Places.{Place, model_at, latch_at}
-use Rattle.netlist_meaning.specs.Nets.{Net, net_at, IsNet, IsLatchControl, IsControl, Joined}
+use Rattle.netlist_meaning.specs.Places.{Place, model_at}
+use Rattle.netlist_meaning.specs.Nets.{Net, net_at, IsNet, IsControl}
 use Rattle.netlist_meaning.specs.InOrder.{nets_in_order}
 use Rattle.netlist_meaning.specs.FlatOf.{position_of, id_of, class_of_net, flat_latch, flat_port, at_places, PortsWithoutControl, none, kept, left_out}
 use Rattle.netlist_meaning.specs.Roots.{root}
@@ -53,8 +53,7 @@ has_control design net classes latches faultless is_net known listed (latch, id,
     let (name, is_name, is_id) = in_some_map (id_of design r.place) r.item.control id (ap (λ (l : FlatLatch). l.control) r.is_value ∙ is_control) in
     let source : IsNet design (net_at r.place name) = control_net design r.place r.model r.item r.number name r.has_model r.has_item is_name in
     let class : class_of_net design (net_at r.place name) ≡ class_of_net design net =
-    sym (class_got design (net_at r.place name) classes faultless source known) ∙ ap (λ (k : NetId). get_or classes k.0 0) is_id ∙ same ∙ class_got design net classes faultless is_net known in
-    (
+    sym (class_got design (net_at r.place name) classes faultless source known) ∙ ap (λ (k : NetId). get_or classes k.0 0) is_id ∙ same ∙ class_got design net classes faultless is_net known in (
       net_at r.place name,
       record { number = r.number; latch = r.item; has_latch = ap (option_and_then (λ (m : Model). slice_get m.latches r.number)) r.has_model ∙ r.has_item; has_control = is_name },
       class_joined design faultless (net_at r.place name) net source is_net class,
@@ -65,8 +64,7 @@ pub control_has : (design : Design) (net : Net) (classes : List ℕ) (latches : 
 control_has design net classes latches faultless is_net known listed (source, h, joined) =
     let (m, is_m, is_row) = and_then-from (λ (m : Model). slice_get m.latches h.number) (model_at design source.place) h.latch h.has_latch in
     let (n, at, is_n) = index_of design faultless (λ (model : Model). model.latches) (flat_latch design) source.place m h.number h.latch is_m is_row in
-    let is_source : IsNet design source = control_net design source.place m h.latch h.number source.name is_m is_row h.has_control in
-    (
+    let is_source : IsNet design source = control_net design source.place m h.latch h.number source.name is_m is_row h.has_control in (
       flat_latch design source.place h.latch,
       id_of design source.place source.name,
       contains_from latches (flat_latch design source.place h.latch) (in_got latches n (flat_latch design source.place h.latch) (ap (λ (xs : List FlatLatch). slice_get xs n) listed ∙ is_n)),
@@ -89,18 +87,6 @@ pub record MarkedBefore (classes : List ℕ) (latches : List FlatLatch) (count :
   pub many : length marks ≡ length classes
   pub marked : (class : ℕ) → get_or marks class false ≡ true → HasControlBefore classes latches count class
   pub marks_all : (class : ℕ) → HasControlBefore classes latches count class → get_or marks class false ≡ true
-
-no_mark : (n class : ℕ) → get_or (replicate n false) class false ≡ false
-no_mark zero class = refl
-no_mark (suc n) zero = refl
-no_mark (suc n) (suc class) = no_mark n class
-
-pub marked_start : (classes : List ℕ) (latches : List FlatLatch) (marks : List Bool) → marks ≡ replicate (length classes) false → MarkedBefore classes latches 0 marks
-marked_start classes latches marks e = record {
-  many = ap length e ∙ length-replicate (length classes) false;
-  marked = λ class is. absurd (true≢false (sym is ∙ ap (λ (xs : List Bool). get_or xs class false) e ∙ no_mark (length classes) class));
-  marks_all = λ class h. absurd (let l : h.number < 0 = h.earlier in omega arith);
-}
 
 has_later : (classes : List ℕ) (latches : List FlatLatch) (count class : ℕ) → HasControlBefore classes latches count class → HasControlBefore classes latches (count + 1) class
 has_later classes latches count class h = record { number = h.number; latch = h.latch; id = h.id; earlier = (let l : h.number < count = h.earlier in omega arith); is_latch = h.is_latch; is_control = h.is_control; is_class = h.is_class }

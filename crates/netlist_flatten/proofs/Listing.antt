@@ -1,5 +1,5 @@
 -- What is listed place by place.
-use Rattle.std.proofs.Common.{ℕ, zero, suc, ◌≡◌, ◌<◌, ◌≤◌, ◌+◌, inl, inr, List, [], ◌∷◌, ◌++◌, Option, Some, None, slice_get, get_or, length, map, flat_map, take, refl, sym, ap, ◌∙◌, subst, arith}
+use Rattle.std.proofs.Common.{ℕ, ◌≡◌, ◌<◌, inl, inr, List, [], ◌∷◌, Option, Some, get_or, length, map, flat_map, take, refl, sym, subst}
 use Rattle.std.specs.Prelude.{All, option_to_list}
 use Rattle.std.proofs.lemmas.Option.{slice_get_within, slice_get_read, get_or_from_slice_get}
 use Rattle.netlist_core.specs.declared.model.Design.{Design}
@@ -10,29 +10,16 @@ use Rattle.netlist_core.specs.Names.{Name}
 use Rattle.netlist_meaning.specs.Places.{Place, model_at}
 use Rattle.netlist_meaning.specs.Nets.{net_at, IsNet}
 use Rattle.netlist_meaning.specs.InOrder.{of_some, places_in_order}
-use Rattle.netlist_meaning.specs.FlatOf.{at_places}
 use Rattle.lists.proofs.Members.{In, in_left, in_right}
 use Rattle.sound_designs.proofs.Sound.{in_got}
 use Rattle.sound_designs.proofs.Driven.{got_from}
 use Rattle.flat_designs.proofs.Lists.{all_of}
 use Rattle.flat_designs.proofs.Names.{cover_name, latch_name, is_net_of}
-use Rattle.netlist_flatten.specs.Numbered.{place_at}
 use Rattle.netlist_flatten.specs.Listed.{cover_names, latch_names}
-use Rattle.netlist_flatten.proofs.Cuts.{flat_next, take_all}
-use Rattle.netlist_flatten.proofs.Numbering.{got_place}
 
 -- what is listed at the places before one
 abbrev pub listed_before : {X Y : Type 0} → Design → (Model → List X) → (Place → X → Y) → ℕ → List Y
 listed_before design items f k = flat_map (λ place. map (f place) (of_some items (model_at design place))) (take k (places_in_order design))
-
-pub listed_next : {X Y : Type 0} (design : Design) (items : Model → List X) (f : Place → X → Y) (k : ℕ) → k < length (places_in_order design)
-    → listed_before design items f (k + 1) ≡ listed_before design items f k ++ map (f (place_at design k)) (of_some items (model_at design (place_at design k)))
-listed_next design items f k l =
-    let one : k + 1 ≡ suc k = omega arith in
-    ap (listed_before design items f) one ∙ flat_next (λ place. map (f place) (of_some items (model_at design place))) (places_in_order design) k (place_at design k) (got_place design k l)
-
-pub listed_all : {X Y : Type 0} (design : Design) (items : Model → List X) (f : Place → X → Y) (k : ℕ) → length (places_in_order design) ≤ k → listed_before design items f k ≡ at_places design items f
-listed_all design items f k l = ap (flat_map (λ place. map (f place) (of_some items (model_at design place)))) (take_all (places_in_order design) k l)
 
 -- the names of a cover and of a latch are nets at its place
 pub cover_nets : (design : Design) (place : Place) (m : Model) (c : Cover) → model_at design place ≡ Some m → In c m.covers → All (λ (name : Name). IsNet design (net_at place name)) (cover_names c)

@@ -1,12 +1,12 @@
 -- The ports of the main model, and the flat netlist from its parts.
-use Rattle.std.proofs.Common.{ℕ, zero, suc, ◌≡◌, List, [], Option, Some, None, get_or, length, map, option_and_then, option_map, refl, sym, ap, ◌∙◌, subst}
+use Rattle.std.proofs.Common.{ℕ, zero, suc, ◌≡◌, List, [], Option, Some, None, get_or, length, option_map, refl, sym, ap, ◌∙◌, subst}
 use Rattle.std.specs.Prelude.{All, unwrap_or}
 use Rattle.netlist_core.specs.declared.model.Design.{Design}
 use Rattle.netlist_core.specs.declared.model.Model.{Model}
 use Rattle.netlist_core.specs.declared.model.Port.{Port}
-use Rattle.netlist_meaning.specs.Places.{Place, main_model, main_ports, model_at, model_below}
+use Rattle.netlist_meaning.specs.Places.{main_model, main_ports, model_at, model_below}
 use Rattle.netlist_meaning.specs.Nets.{net_at, model_names, IsNet}
-use Rattle.netlist_meaning.specs.InOrder.{of_some, places_below, places_in_order}
+use Rattle.netlist_meaning.specs.InOrder.{of_some, places_below}
 use Rattle.netlist_meaning.proofs.Names.{and_then-from}
 use Rattle.lists.proofs.Members.{In}
 use Rattle.flat_designs.proofs.Lists.{all_of}

@@ -1,8 +1,8 @@
 -- The numbers of places and of their nets.
-use Rattle.std.proofs.Common.{ℕ, ◌≡◌, ◌<◌, ◌≤◌, ◌+◌, ◌^◌, List, [], ◌∷◌, ◌++◌, Option, Some, None, slice_get, get_or, map, flat_map, length, take, option_map, refl, sym, ap, ◌∙◌, subst, arith}
+use Rattle.std.proofs.Common.{ℕ, ◌≡◌, ◌<◌, ◌≤◌, ◌+◌, ◌^◌, List, [], ◌++◌, Option, Some, None, slice_get, map, length, option_map, sym, ap, ◌∙◌, subst, arith}
 use Rattle.std.proofs.lemmas.List.{length-map}
 use Rattle.std.proofs.lemmas.Simd.{map-map}
-use Rattle.std.proofs.lemmas.Option.{none-some, slice_get-map, slice_get-get_or, slice_get_within, get_or_from_slice_get}
+use Rattle.std.proofs.lemmas.Option.{slice_get-map, slice_get-get_or, slice_get_within, get_or_from_slice_get}
 use denote.Ref.{Bor}
 use Rattle.std.specs.Prelude.{MatchOption, Contains, unwrap_or}
 use Rattle.netlist_core.specs.declared.model.Design.{Design}
@@ -16,7 +16,6 @@ use Rattle.netlist_meaning.specs.Weight.{weight}
 use Rattle.netlist_rules.specs.ModelFaults.{AreFaultless}
 use Rattle.lists.proofs.Members.{In, in_from, contains_from}
 use Rattle.sound_designs.proofs.Sound.{same_of, in_got}
-use Rattle.sound_designs.proofs.Driven.{got_from}
 use Rattle.flat_designs.proofs.Lists.{one_place}
 use Rattle.flat_designs.proofs.Listed.{place_is, nets_once, name_listed}
 use Rattle.flat_designs.proofs.Classes.{position_at}
@@ -95,9 +94,6 @@ place_held design inside placed names firsts k at same t e = at_place design pla
 
 pub own_names : {names : List (Option (List Name))} {design : Design} {k : ℕ} {at : PlacedModel} (h : AtPlace design names k at) (own : Option (List Name)) → slice_get names at.model ≡ Some own → own ≡ Some (names_in_order h.model)
 own_names h own e = same_of (sym e ∙ h.has_names)
-
-pub some_names : {names : List (Option (List Name))} {design : Design} {k : ℕ} {at : PlacedModel} → AtPlace design names k at → slice_get names at.model ≡ Some None → ⊥
-some_names h e = none-some _ (same_of (sym e ∙ h.has_names))
 
 -- where a name stands among the names of the model, its net stands among the nets at the place
 pub position_there : (design : Design) (place : Place) (m : Model) (name : Name) (found : Option ℕ) → model_at design place ≡ Some m → IsNet design (net_at place name)

@@ -1,13 +1,13 @@
 -- The tables of names and of first numbers, place by place.
-use Rattle.std.proofs.Common.{ℕ, zero, suc, ◌≡◌, ◌≢◌, ◌<◌, ◌≤◌, ◌+◌, ◌^◌, ◌⊎◌, inl, inr, List, [], ◌∷◌, ◌++◌, Option, Some, None, slice_get, get_or, true, true≢false, ap₂, length, take, set, replicate, map, flat_map, refl, sym, ap, ◌∙◌, subst, arith, length-append, length-set}
+use Rattle.std.proofs.Common.{ℕ, zero, suc, ◌≡◌, ◌≢◌, ◌<◌, ◌≤◌, ◌+◌, ◌^◌, ◌⊎◌, inl, inr, List, [], ◌∷◌, ◌++◌, Option, Some, None, slice_get, get_or, true, true≢false, ap₂, length, set, replicate, refl, sym, ap, ◌∙◌, subst, arith, length-append, length-set}
 use Rattle.std.specs.Prelude.{is_some}
 use Rattle.std.proofs.lemmas.List.{length-replicate, length-map}
 use Rattle.std.proofs.lemmas.Option.{none-some, slice_get_within, slice_get_read}
 use Rattle.netlist_core.specs.declared.model.Design.{Design}
 use Rattle.netlist_core.specs.declared.model.Model.{Model}
 use Rattle.netlist_core.specs.Names.{Name}
-use Rattle.netlist_meaning.specs.Places.{Place, model_at}
-use Rattle.netlist_meaning.specs.Nets.{Net, net_at}
+use Rattle.netlist_meaning.specs.Places.{model_at}
+use Rattle.netlist_meaning.specs.Nets.{net_at}
 use Rattle.netlist_meaning.specs.InOrder.{places_in_order, names_in_order, nets_at, nets_in_order}
 use Rattle.netlist_meaning.specs.Weight.{weight}
 use Rattle.netlist_rules.specs.ModelFaults.{AreFaultless}
@@ -104,17 +104,13 @@ pub record FirstsBefore (design : Design) (count first : ℕ) (firsts : List ℕ
   pub many : length firsts ≡ count
   pub firsts_are : (k : ℕ) → k < count → slice_get firsts k ≡ Some (length (nets_before design k))
 
-
 -- the same, where what stands in the table is some
 pub known_some : (design : Design) (placed : List PlacedModel) (count : ℕ) (names : List (Option (List Name))) (at : PlacedModel) (own : Option (List Name)) → KnownBefore design placed count names → slice_get placed count ≡ Some at
     → at.model < length names → own ≡ get_or names at.model own → is_some own ≡ true → KnownBefore design placed (count + 1) names
 known_some design placed count names at None before e l is some = absurd (true≢false (sym some))
 known_some design placed count names at (Some own) before e l is some = known_same design placed count names at own before e (slice_get_read names (length names) at.model (Some own) refl l is)
 
--- where the first numbers begin, and go on
-pub firsts_start : (design : Design) (firsts : List ℕ) → firsts ≡ [] → FirstsBefore design 0 0 firsts
-firsts_start design firsts e = record { is_first = refl; many = ap length e; firsts_are = λ k l. absurd (omega arith) }
-
+-- where the first numbers go on
 next_nets : (design : Design) (k : ℕ) → k < length (places_in_order design) → length (nets_before design (k + 1)) ≡ length (nets_before design k) + length (nets_at design (place_at design k))
 next_nets design k l =
     let one : k + 1 ≡ suc k = omega arith in

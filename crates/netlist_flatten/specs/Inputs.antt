@@ -1,5 +1,5 @@
 -- The inputs among ports, and the classes of controls.
-use Rattle.std.specs.Prelude.{ℕ, ◌≡◌, ◌<◌, ◌↔◌, List, map, Bool, false, IsTrue, get_or, Some, Contains}
+use Rattle.std.specs.Prelude.{ℕ, ◌≡◌, List, map, get_or, Some, Contains}
 use Rattle.netlist_core.specs.declared.model.Design.{Design}
 use Rattle.netlist_core.specs.declared.model.Port.{Port}
 use Rattle.netlist_core.specs.declared.flat.NetId.{NetId}

@@ -48,7 +48,7 @@ fn flat_of(alloc: Global, design: &Design, found: u64) -> Result<Flat, AllocErro
     })
 }
 
-/// The flat netlist of a design without a fault, whose weight is looked at before any place is made.
+/// The flat netlist of a design without a fault.
 ///
 /// `TooLarge` has the design's weight, or the greatest u64 where it weighs more.
 pub fn flatten(alloc: Global, design: &Design) -> Result<Flat, FlattenError>

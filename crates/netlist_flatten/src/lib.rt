@@ -14,3 +14,6 @@ mod tables;
 
 pub use error::FlattenError;
 pub use flattening::{WEIGHT_LIMIT, flatten};
+
+#[cfg(test)]
+mod tests;

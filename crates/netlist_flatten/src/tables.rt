@@ -23,7 +23,7 @@ fn no_names<'a>(alloc: Global, count: usize) -> Result<Vec<Option<ModelNames<'a>
     Ok(names)
 }
 
-/// The names of each model that is placed, taken once a model, by the model's number.
+/// The names of each model that is placed, by the model's number.
 pub fn names_by_model<'a>(
     alloc: Global,
     design: &'a Design,

@@ -1,2 +1,5 @@
+pub mod ItemBytes
 pub mod Steps
 pub mod Tags
+pub mod Lefts
+pub mod PortLines

@@ -1,5 +1,5 @@
 -- The text that is still to come, where a writer stands somewhere in a pattern.
-use Rattle.std.specs.Prelude.{◌≡◌, ◌≢◌, ℕ, zero, suc, List, [], ◌∷◌, ◌++◌, map, flat_map, replicate, length, codes}
+use Rattle.std.specs.Prelude.{◌≡◌, ◌≢◌, ℕ, zero, suc, List, [], ◌∷◌, ◌++◌, map, flat_map, replicate, codes}
 use Rattle.ww_rule.specs.declared.pattern.State.{State}
 use Rattle.ww_rule.specs.declared.pattern.State.TheVariants.{Empty}
 use Rattle.pattern_writing.specs.Writer.{TagRun, tag_of, row_end, without_end, row_tags, runs_of, run_text, wrapped}
@@ -18,17 +18,17 @@ abbrev pub end_items : ℕ → List TagRun
 end_items zero = []
 end_items (suc n) = record { count = suc n; tag = row_end } ∷ []
 
--- the text of a line that is begun and of items on it
-abbrev pub line_left : List ℕ → List (List ℕ) → List ℕ
-line_left line items = line ++ wrapped (length line) items
+-- what is held, and the text of items on a line that has some bytes
+abbrev pub line_left : List ℕ → ℕ → List (List ℕ) → List ℕ
+line_left held column items = held ++ wrapped column items
 
--- the text of a line that is begun, of items on it and of the `!` after them
-abbrev pub items_left : List ℕ → List TagRun → List ℕ
-items_left line items = line_left line (map run_text items ++ codes "!" ∷ [])
+-- the same of items and of the `!` after them
+abbrev pub items_left : List ℕ → ℕ → List TagRun → List ℕ
+items_left held column items = line_left held column (map run_text items ++ codes "!" ∷ [])
 
 -- the same of the items of tags
-abbrev pub text_left : List ℕ → List ℕ → List ℕ
-text_left line tags = items_left line (runs_of tags)
+abbrev pub text_left : List ℕ → ℕ → List ℕ → List ℕ
+text_left held column tags = items_left held column (runs_of tags)
 
 -- the tags do not begin with this one
 abbrev pub BeginsOther : ℕ → List ℕ → Type 0

@@ -1,3 +1,4 @@
 pub mod Left
 pub mod Lines
+pub mod Pages
 pub mod Progress

@@ -1,7 +1,8 @@
--- What a line holds.
-use Rattle.std.specs.Prelude.{ℕ, List, take}
-use Rattle.rle_write.specs.declared.line.Line.{Line}
+-- The line of an input or an output.
+use Rattle.std.specs.Prelude.{ℕ, List, [], ◌∷◌, ◌++◌, codes, decimal}
+use Rattle.std.specs.List.{join_with_byte}
+use Rattle.pattern_reading.specs.declared.ports.PortLine.{PortLine}
 
--- the bytes of the line
-abbrev pub begun_text : Line → List ℕ
-begun_text line = take line.used line.bytes
+-- with this word for its kind
+abbrev pub port_text : List ℕ → PortLine → List ℕ
+port_text kind port = codes "#C BLIFWW " ++ join_with_byte 32 (kind ∷ decimal port.x ∷ decimal port.y ∷ port.name ∷ [])

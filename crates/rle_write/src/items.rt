@@ -2,10 +2,10 @@
 ghost use Rattle.std.specs.Prelude.{◌≡◌, ◌≤◌, ◌+◌, ℕ, List, ◌∷◌, ◌++◌, length, OnOk, OnErr};
 ghost use Rattle.pattern_writing.specs.Writer.{count_text, run_text, line_break, used_after};
 ghost use Rattle.rle_write.specs.Left.{line_left};
-ghost use Rattle.rle_write.specs.Lines.{begun_text};
+ghost use Rattle.rle_write.specs.Pages.{held, column_of};
 ghost use Rattle.rle_write.specs.Progress.{Wrote, Broke};
 
-use crate::line::{LINE, Line};
+use crate::page::{LINE, Page};
 use itoa::Buffer;
 use ww_base::{Failed, Sink};
 
@@ -21,43 +21,47 @@ fn count_digits(buffer: &mut Buffer, count: usize) -> &str
 }
 
 // Ends the line, where an item of `size` bytes does not fit on it.
-fn make_room<O: Sink>(sink: &mut O, line: &mut Line, size: usize) -> Result<(), Failed>
+fn break_line<O: Sink>(sink: &mut O, page: &mut Page, size: usize) -> Result<(), Failed>
     requires { size ≤ 41 }
-    ensures room { OnOk result (length (begun_text line.new) + size ≤ 70) }
+    ensures room { OnOk result (column_of page.new + size ≤ 70) }
     ensures start { OnOk result ((item : List ℕ) → length item ≡ size →
-        length (begun_text line.new) + size ≡ used_after (length (begun_text line.old)) item) }
+        column_of page.new + size ≡ used_after (column_of page.old) item) }
     ensures ok { OnOk result ((item rest : List ℕ) → length item ≡ size →
         Wrote (O.written sink.old) (O.written sink.new) (O.faults sink.old) (O.faults sink.new)
-        (begun_text line.old ++ (line_break (length (begun_text line.old)) item ++ rest)) (begun_text line.new ++ rest)) }
+        (held page.old ++ (line_break (column_of page.old) item ++ rest)) (held page.new ++ rest)) }
     ensures err { OnErr result ((item rest : List ℕ) → length item ≡ size →
         Broke (O.written sink.old) (O.written sink.new) (O.faults sink.old) (O.faults sink.new)
-        (begun_text line.old ++ (line_break (length (begun_text line.old)) item ++ rest))) }
+        (held page.old ++ (line_break (column_of page.old) item ++ rest))) }
 {
-    if line.len() + size <= LINE {
+    if page.column() + size <= LINE {
         return Ok(());
     }
-    line.end(sink)
+    page.put(sink, b"\n")?;
+    page.begin_line();
+    Ok(())
 }
 
 /// Puts an item on the line, or on the next where it does not fit.
 pub fn write_item<O: Sink>(
     sink: &mut O,
-    line: &mut Line,
+    page: &mut Page,
     count: usize,
     tag: u8,
 ) -> Result<(), Failed>
     ensures ok { OnOk result ((items : List (List ℕ)) →
         Wrote (O.written sink.old) (O.written sink.new) (O.faults sink.old) (O.faults sink.new)
-        (line_left (begun_text line.old) (run_text (record { count = count; tag = tag }) ∷ items))
-        (line_left (begun_text line.new) items)) }
+        (line_left (held page.old) (column_of page.old) (run_text (record { count = count; tag = tag }) ∷ items))
+        (line_left (held page.new) (column_of page.new) items)) }
     ensures err { OnErr result ((items : List (List ℕ)) →
         Broke (O.written sink.old) (O.written sink.new) (O.faults sink.old) (O.faults sink.new)
-        (line_left (begun_text line.old) (run_text (record { count = count; tag = tag }) ∷ items))) }
+        (line_left (held page.old) (column_of page.old) (run_text (record { count = count; tag = tag }) ∷ items))) }
 {
     let mut buffer = Buffer::new();
     let digits = count_digits(&mut buffer, count);
-    make_room(sink, line, digits.len() + 1)?;
-    line.push(digits.as_bytes());
-    line.push(&[tag]);
+    let size = digits.len() + 1;
+    break_line(sink, page, size)?;
+    page.put(sink, digits.as_bytes())?;
+    page.put(sink, &[tag])?;
+    page.advance(size);
     Ok(())
 }

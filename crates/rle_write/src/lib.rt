@@ -1,12 +1,15 @@
-//! Writes a pattern as a text in extended RLE, cell by cell, and takes no memory for it.
+//! Writes the pattern of a plan as a text in extended RLE, and takes no memory for it.
 #![tactic(auto)]
 
 mod items;
-mod line;
+mod page;
+mod pattern_rows;
+mod plan_rows;
 mod rows;
+mod table;
 mod text;
 
-pub use text::write_pattern;
+pub use text::{write, write_pattern};
 
 #[cfg(test)]
 mod tests;

@@ -1,63 +1,101 @@
 // The whole text: lines, the header, and the items.
-ghost use Rattle.std.specs.Prelude.{◌≡◌, ℕ, List, [], ◌++◌, length, take, decimal, IfOk, OnOk, OnErr};
+ghost use Rattle.std.specs.Prelude.{◌≡◌, ℕ, List, ◌++◌, take, decimal, IfOk, OnOk, OnErr};
 ghost use Rattle.std.specs.Io.KnownBytes.{Appends};
 ghost use Rattle.ww_base.specs.Faults.{HasCause};
 ghost use Rattle.ww_rule.specs.Patterns.{grid_of};
+ghost use Rattle.lane_core.specs.Plans.{IsAdmissible};
+ghost use Rattle.grid_assembly.specs.PlanDrawing.{start_grid};
+ghost use Rattle.pattern_reading.specs.Spelling.{port_lines};
 ghost use Rattle.pattern_writing.specs.Writer.{ended_lines, header_text, writer_text};
+ghost use Rattle.rle_write.specs.Pages.{held, column_of};
 ghost use Rattle.rle_write.specs.Progress.{Wrote, Broke};
 
-use crate::line::send;
-use crate::rows::write_rows;
+use crate::page::Page;
+use crate::pattern_rows::write_rows;
+use crate::plan_rows::write_plan_rows;
+use crate::table::write_table;
+use grid_assembly::size;
 use itoa::Buffer;
+use lane_core::Plan;
 use lists::Bytes;
+use pattern_reading::Ports;
 use ww_base::{Failed, Sink};
 use ww_rule::Pattern;
 
 // Writes lines, each with its line end.
-fn write_lines<O: Sink>(sink: &mut O, lines: &[Bytes]) -> Result<(), Failed>
-    ensures ok { OnOk result (
-        Wrote (O.written sink.old) (O.written sink.new) (O.faults sink.old) (O.faults sink.new) (ended_lines lines.now) []) }
-    ensures err { OnErr result (
-        Broke (O.written sink.old) (O.written sink.new) (O.faults sink.old) (O.faults sink.new) (ended_lines lines.now)) }
+fn write_lines<O: Sink>(sink: &mut O, page: &mut Page, lines: &[Bytes]) -> Result<(), Failed>
+    ensures column { column_of page.new ≡ column_of page.old }
+    ensures ok { OnOk result ((rest : List ℕ) →
+        Wrote (O.written sink.old) (O.written sink.new) (O.faults sink.old) (O.faults sink.new)
+        (held page.old ++ (ended_lines lines.now ++ rest)) (held page.new ++ rest)) }
+    ensures err { OnErr result ((rest : List ℕ) →
+        Broke (O.written sink.old) (O.written sink.new) (O.faults sink.old) (O.faults sink.new)
+        (held page.old ++ (ended_lines lines.now ++ rest))) }
 {
     for line in lines {
-        send(sink, line.as_slice())?;
-        send(sink, b"\n")?;
+        page.put(sink, line.as_slice())?;
+        page.put(sink, b"\n")?;
     }
     Ok(())
 }
 
 // Writes the digits of a number.
-fn write_number<O: Sink>(sink: &mut O, number: u64) -> Result<(), Failed>
+fn write_number<O: Sink>(sink: &mut O, page: &mut Page, number: u64) -> Result<(), Failed>
+    ensures column { column_of page.new ≡ column_of page.old }
     ensures ok { OnOk result ((rest : List ℕ) →
-        Wrote (O.written sink.old) (O.written sink.new) (O.faults sink.old) (O.faults sink.new) (decimal number ++ rest) rest) }
+        Wrote (O.written sink.old) (O.written sink.new) (O.faults sink.old) (O.faults sink.new)
+        (held page.old ++ (decimal number ++ rest)) (held page.new ++ rest)) }
     ensures err { OnErr result ((rest : List ℕ) →
-        Broke (O.written sink.old) (O.written sink.new) (O.faults sink.old) (O.faults sink.new) (decimal number ++ rest)) }
+        Broke (O.written sink.old) (O.written sink.new) (O.faults sink.old) (O.faults sink.new)
+        (held page.old ++ (decimal number ++ rest))) }
 {
     let mut buffer = Buffer::new();
     let digits = buffer.format(number);
-    send(sink, digits.as_bytes())
+    page.put(sink, digits.as_bytes())
 }
 
 // Writes the line with the size of the box and the rule.
-fn write_header<O: Sink>(sink: &mut O, width: u64, height: u64) -> Result<(), Failed>
+fn write_header<O: Sink>(
+    sink: &mut O,
+    page: &mut Page,
+    width: u64,
+    height: u64,
+) -> Result<(), Failed>
+    ensures column { column_of page.new ≡ column_of page.old }
     ensures ok { OnOk result ((rest : List ℕ) →
         Wrote (O.written sink.old) (O.written sink.new) (O.faults sink.old) (O.faults sink.new)
-        (header_text width height ++ rest) rest) }
+        (held page.old ++ (header_text width height ++ rest)) (held page.new ++ rest)) }
     ensures err { OnErr result ((rest : List ℕ) →
         Broke (O.written sink.old) (O.written sink.new) (O.faults sink.old) (O.faults sink.new)
-        (header_text width height ++ rest)) }
+        (held page.old ++ (header_text width height ++ rest))) }
 {
-    send(sink, b"x = ")?;
-    write_number(sink, width)?;
-    send(sink, b", y = ")?;
-    write_number(sink, height)?;
-    send(sink, b", rule = WireWorld\n")
+    page.put(sink, b"x = ")?;
+    write_number(sink, page, width)?;
+    page.put(sink, b", y = ")?;
+    write_number(sink, page, height)?;
+    page.put(sink, b", rule = WireWorld\n")
 }
 
-/// Writes a pattern in extended RLE (`.`, `A`, `B` and `C` for the states, as Golly describes it for rules of several
-/// states), after the lines, to each of which a line end is given. Where a write fails, a front of the text stands
-/// written. It takes no memory.
+/// Writes the pattern of an admissible plan in extended RLE (`.`, `A`, `B` and `C` for the states, as Golly describes it
+/// for rules of several states), after the lines of its port table. Where a write fails, a front of the text stands
+/// written. It takes no memory, and no pattern is held.
+pub fn write<O: Sink>(plan: &Plan, ports: &Ports, sink: &mut O) -> Result<(), Failed>
+    requires { IsAdmissible plan.now }
+    ensures ok { OnOk result (
+        Appends (O.written sink.old) (O.written sink.new) (writer_text (start_grid plan.now) (port_lines ports.now))) }
+    ensures front { OnErr result ((n : ℕ) ×
+        Appends (O.written sink.old) (O.written sink.new) (take n (writer_text (start_grid plan.now) (port_lines ports.now)))) }
+    ensures cause { HasCause (O.faults sink.old) (O.faults sink.new) result }
+{
+    let mut page = Page::new();
+    let (width, height) = size(plan);
+    write_table(sink, &mut page, ports)?;
+    write_header(sink, &mut page, width, height)?;
+    write_plan_rows(sink, &mut page, plan, width, height)?;
+    page.flush(sink)
+}
+
+/// Writes a pattern that is held in the same way, after the lines, to each of which a line end is given.
 pub fn write_pattern<O: Sink>(
     pattern: &Pattern,
     lines: &[Bytes],
@@ -69,7 +107,9 @@ pub fn write_pattern<O: Sink>(
         Appends (O.written sink.old) (O.written sink.new) (take n (writer_text (grid_of pattern.now) lines.now))) }
     ensures cause { HasCause (O.faults sink.old) (O.faults sink.new) result }
 {
-    write_lines(sink, lines)?;
-    write_header(sink, pattern.width, pattern.height)?;
-    write_rows(sink, pattern.rows.as_slice())
+    let mut page = Page::new();
+    write_lines(sink, &mut page, lines)?;
+    write_header(sink, &mut page, pattern.width, pattern.height)?;
+    write_rows(sink, &mut page, pattern.rows.as_slice())?;
+    page.flush(sink)
 }

@@ -1,4 +1,3 @@
-use Rattle.std.proofs.Common.{◌≡◌, ◌<◌, ◌∙◌, length, List, ℕ, map, slice_get, Some, sym, ap}
 use Rattle.std.proofs.lemmas.Option.{slice_get_within}
 use Rattle.netlist_flatten.proofs.Numbering.{model_there}
 use Rattle.netlist_flatten.proofs.Joining.{main_all, line_to}

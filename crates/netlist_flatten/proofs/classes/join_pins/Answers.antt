@@ -1,4 +1,4 @@
-use Rattle.std.proofs.Common.{ℕ, ◌≡◌, ◌<◌, ◌∙◌, List, Some, slice_get, length, refl, sym, ap, subst, arith}
+use Rattle.std.proofs.Common.{◌≡◌, ◌<◌, ◌∙◌, Some, length, ap, arith}
 use Rattle.std.proofs.lemmas.Option.{slice_get_within, get_or_from_slice_get}
 use Rattle.netlist_meaning.specs.Nets.{net_at}
 use Rattle.netlist_core.specs.Names.{Name}
@@ -24,8 +24,8 @@ pub bounds-settled-actual : goal.bounds-settled-actual
 bounds-settled-actual c =
     slice_get_within c.args.settled.now c.id-actual.result.0 _
     (actual_class c.args.numbers.now c.args.parent c.args.at c.loop-pin.pin-index c.args.line.now c.pin-item.result c.as_slice-in-loop-pin.result.now c.id-actual.result c.args.settled.now c.requires.faultless c.requires.line
-      (pin_at c.as_slice-pin-items.result.now c.args.line.now.pins c.loop-pin.pin-index c.pin-item.result c.as_slice-pin-items.ensures c.loop-pin-test.true c.pin-item.is) c.as_slice-in-loop-pin.ensures
-      c.requires.earlier c.requires.place c.requires.settled c.id-actual.ensures)
+    (pin_at c.as_slice-pin-items.result.now c.args.line.now.pins c.loop-pin.pin-index c.pin-item.result c.as_slice-pin-items.ensures c.loop-pin-test.true c.pin-item.is) c.as_slice-in-loop-pin.ensures
+    c.requires.earlier c.requires.place c.requires.settled c.id-actual.ensures)
 
 pub bounds-own-formal : goal.bounds-own-formal
 bounds-own-formal c =
@@ -39,9 +39,9 @@ loop-pin-preserved c =
     (pin_at c.as_slice-pin-items.result.now c.args.line.now.pins c.loop-pin.pin-index c.pin-item.result c.as_slice-pin-items.ensures c.loop-pin-test.true c.pin-item.is)
     (c.position-formal.ensures ∙ ap (λ (n : Name). Some (net_at (place_at c.args.numbers.now c.args.at) n)) c.as_slice.ensures)
     (get_or_from_slice_get c.args.settled.now c.id-actual.result.0 _ 0
-      (actual_class c.args.numbers.now c.args.parent c.args.at c.loop-pin.pin-index c.args.line.now c.pin-item.result c.as_slice-in-loop-pin.result.now c.id-actual.result c.args.settled.now c.requires.faultless c.requires.line
-        (pin_at c.as_slice-pin-items.result.now c.args.line.now.pins c.loop-pin.pin-index c.pin-item.result c.as_slice-pin-items.ensures c.loop-pin-test.true c.pin-item.is) c.as_slice-in-loop-pin.ensures
-        c.requires.earlier c.requires.place c.requires.settled c.id-actual.ensures))
+    (actual_class c.args.numbers.now c.args.parent c.args.at c.loop-pin.pin-index c.args.line.now c.pin-item.result c.as_slice-in-loop-pin.result.now c.id-actual.result c.args.settled.now c.requires.faultless c.requires.line
+    (pin_at c.as_slice-pin-items.result.now c.args.line.now.pins c.loop-pin.pin-index c.pin-item.result c.as_slice-pin-items.ensures c.loop-pin-test.true c.pin-item.is) c.as_slice-in-loop-pin.ensures
+    c.requires.earlier c.requires.place c.requires.settled c.id-actual.ensures))
     c.loop-pin.invariant
 
 pub returns : goal.returns

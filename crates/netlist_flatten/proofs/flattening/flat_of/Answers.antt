@@ -1,9 +1,8 @@
-use Rattle.std.proofs.Common.{◌≡◌, ◌∙◌, List, map, sym, ap, subst}
+use Rattle.std.proofs.Common.{◌∙◌, List, map, sym, ap, subst}
 use Rattle.netlist_core.specs.declared.model.Design.{Design}
 use Rattle.netlist_core.specs.declared.model.Model.{Model}
 use Rattle.netlist_core.specs.declared.model.Port.{Port}
 use Rattle.netlist_core.specs.declared.flat.Flat.{Flat}
-use Rattle.netlist_core.specs.declared.flat.FlatLatch.{FlatLatch}
 use Rattle.netlist_meaning.specs.FlatOf.{PortsWithoutControl, IsFlatOf, flat_port, first_control}
 use Rattle.netlist_meaning.specs.Weight.{weight}
 use Rattle.netlist_flatten.proofs.MainPorts.{main_ports_are, input_ports, output_ports, clock_ports}

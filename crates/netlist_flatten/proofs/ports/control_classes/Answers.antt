@@ -10,8 +10,8 @@ loop-latch-preserved c =
       | in-Some w ↦
           subst (λ (v : Vec Bool _). MarkedBefore c.args.classes.now c.args.latches.now (c.loop-latch.latch-index + 1) v.items) (sym w.marks-is)
           (marked_some c.args.classes.now c.args.latches.now c.loop-latch.latch-index c.loop-latch.marks.items _ w.in-Some.id (get_or c.args.classes.now w.in-Some.id.0 0)
-            (slice_get-get_or c.args.latches.now c.loop-latch.latch-index _ c.loop-latch-test.true) w.in-Some.is refl
-            (mark_there c.args.classes.now c.args.latches.now c.loop-latch.latch-index _ w.in-Some.id c.requires.classes c.requires.latches (slice_get-get_or c.args.latches.now c.loop-latch.latch-index _ c.loop-latch-test.true) w.in-Some.is) c.loop-latch.invariant)
+          (slice_get-get_or c.args.latches.now c.loop-latch.latch-index _ c.loop-latch-test.true) w.in-Some.is refl
+          (mark_there c.args.classes.now c.args.latches.now c.loop-latch.latch-index _ w.in-Some.id c.requires.classes c.requires.latches (slice_get-get_or c.args.latches.now c.loop-latch.latch-index _ c.loop-latch-test.true) w.in-Some.is) c.loop-latch.invariant)
       | in_default w ↦
           subst (λ (v : Vec Bool _). MarkedBefore c.args.classes.now c.args.latches.now (c.loop-latch.latch-index + 1) v.items) (sym w.marks-is)
           (marked_none c.args.classes.now c.args.latches.now c.loop-latch.latch-index c.loop-latch.marks.items _ (slice_get-get_or c.args.latches.now c.loop-latch.latch-index _ c.loop-latch-test.true) (none_where _ w.in_default.not-Some) c.loop-latch.invariant)

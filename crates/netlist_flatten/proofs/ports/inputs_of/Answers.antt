@@ -1,4 +1,4 @@
-use Rattle.std.proofs.Common.{ℕ, ◌≡◌, ◌<◌, [], ◌+◌, ◌↔◌, Vec, Bool, true, true≢false, ◌∙◌, take, length, refl, sym, subst, ap}
+use Rattle.std.proofs.Common.{◌≡◌, ◌<◌, [], ◌+◌, ◌↔◌, Vec, true, true≢false, ◌∙◌, take, length, refl, sym, subst}
 use Rattle.netlist_core.specs.declared.model.Port.{Port}
 use Rattle.netlist_core.specs.declared.flat.FlatPort.{FlatPort}
 use Rattle.netlist_meaning.specs.Nets.{net_at, IsNet, IsControl}
@@ -25,7 +25,7 @@ pub is_control-requires-clause-port : goal.is_control-requires-clause-port
 is_control-requires-clause-port c =
     subst (λ (p : FlatPort). p.net.0 < length c.args.classes.now) (sym c.port_of-flat.ensures)
     (number_there c.args.numbers.now (net_at [] c.port-item.result.name) c.args.classes.now c.requires.faultless
-      (all_at (λ (port : Port). IsNet c.args.numbers.now (net_at [] port.name)) c.args.ports.now c.port-item.result c.requires.nets (item_in c.args.ports.now c.args.ports.now c.loop-port.port-index c.port-item.result refl c.loop-port-test.true c.port-item.is)) c.requires.classes)
+    (all_at (λ (port : Port). IsNet c.args.numbers.now (net_at [] port.name)) c.args.ports.now c.port-item.result c.requires.nets (item_in c.args.ports.now c.args.ports.now c.loop-port.port-index c.port-item.result refl c.loop-port-test.true c.port-item.is)) c.requires.classes)
 
 pub is_control-requires-clause-classes : goal.is_control-requires-clause-classes
 is_control-requires-clause-classes c = classes_there c.args.numbers.now c.args.classes.now c.requires.faultless c.requires.classes
@@ -44,7 +44,7 @@ loop-port-preserved c =
       | then-not-is_control+in_ok-push w ↦
           subst (λ (v : Vec FlatPort _). AreInputs c.args.numbers.now (take (c.loop-port.port-index + 1) c.args.ports.now) v.items) (sym w.inputs-is)
           (inputs_kept c.args.numbers.now c.args.ports.now c.loop-port.port-index c.port-item.result c.loop-port.inputs.items _ c.port_of-flat.result c.loop-port-test.true c.port-item.is c.port_of-flat.ensures (w.in_ok-push.ensures {u = tt}).items
-            (λ control. true≢false (sym ((told c).1 control) ∙ w.if-not-is_control.true)) c.loop-port.invariant)
+          (λ control. true≢false (sym ((told c).1 control) ∙ w.if-not-is_control.true)) c.loop-port.invariant)
       | else-not-is_control w ↦
           subst (λ (v : Vec FlatPort _). AreInputs c.args.numbers.now (take (c.loop-port.port-index + 1) c.args.ports.now) v.items) (sym w.inputs-is)
           (inputs_left c.args.numbers.now c.args.ports.now c.loop-port.port-index c.port-item.result c.loop-port.inputs.items c.loop-port-test.true c.port-item.is ((told c).0 w.if-not-is_control.false) c.loop-port.invariant)

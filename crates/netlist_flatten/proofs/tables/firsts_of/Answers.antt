@@ -1,4 +1,4 @@
-use Rattle.std.proofs.Common.{◌<◌, ◌≡◌, ◌+◌, ◌∙◌, ◌^◌, ap, sym, subst, refl, slice_get, Some, List, ℕ, length, arith}
+use Rattle.std.proofs.Common.{◌<◌, ◌≡◌, ◌+◌, ◌^◌, sym, subst, refl, slice_get, Some, List, ℕ, length, arith}
 use Rattle.std.proofs.lemmas.Option.{slice_get_read}
 use Rattle.netlist_meaning.specs.InOrder.{places_in_order, nets_at}
 use Rattle.netlist_flatten.specs.Numbered.{place_at}

@@ -1,6 +1,5 @@
-use Rattle.std.proofs.Common.{◌<◌, ◌≡◌, ◌+◌, ◌∙◌, ap, sym, subst, refl, slice_get, Some, Vec, Option, List, ℕ, length, arith}
+use Rattle.std.proofs.Common.{◌<◌, ◌≡◌, ◌+◌, sym, subst, refl, slice_get, Some, Vec, Option, List, ℕ, length, arith}
 use Rattle.std.proofs.lemmas.Option.{slice_get_read}
-use Rattle.design_places.specs.declared.placed.PlacedModel.{PlacedModel}
 use Rattle.netlist_flatten.proofs.Tabling.{KnownBefore, known_start, known_some, known_new, known_all}
 use Rattle.netlist_flatten.proofs.tables.names_by_model.Goals as goal
 use Rattle.netlist_flatten.proofs.tables.names_by_model.Goals.{then-is_none+in_ok-names_of+in-Some-1, then-is_none+in_ok-names_of+in-None-1, else-is_none}
@@ -34,7 +33,7 @@ loop-at-preserved c =
       | else-is_none w ↦
           subst (λ (v : Vec (Option (List (List ℕ))) _). KnownBefore c.args.design.now c.args.placed.now (c.loop-at.at-index + 1) v.items) (sym w.names-is)
           (known_some c.args.design.now c.args.placed.now c.loop-at.at-index c.loop-at.names.items c.at-item.result c.index.result.now c.loop-at.invariant at
-            (let many : length c.loop-at.names.items ≡ length c.args.design.now.models = c.loop-at.invariant.many in omega arith) c.index.ensures (w.if-is_none.ensures {u = tt}))
+          (let many : length c.loop-at.names.items ≡ length c.args.design.now.models = c.loop-at.invariant.many in omega arith) c.index.ensures (w.if-is_none.ensures {u = tt}))
     ]
 
 pub returns : goal.returns

@@ -1,4 +1,4 @@
-use Rattle.std.proofs.Common.{◌<◌, ◌≡◌, ◌+◌, ◌^◌, ◌∙◌, length, sym, ap, ap₂, subst, arith}
+use Rattle.std.proofs.Common.{◌<◌, ◌≡◌, ◌+◌, ◌^◌, ◌∙◌, length, sym, ap, subst, arith}
 use Rattle.netlist_core.specs.declared.flat.NetId.{NetId}
 use Rattle.netlist_core.specs.declared.model.Design.{Design}
 use Rattle.netlist_meaning.specs.InOrder.{nets_in_order}

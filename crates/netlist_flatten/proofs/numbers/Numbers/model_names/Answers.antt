@@ -1,4 +1,4 @@
-use Rattle.std.proofs.Common.{◌<◌, ◌∙◌, Some, ap, sym, subst}
+use Rattle.std.proofs.Common.{◌<◌, ◌∙◌, ap, sym, subst}
 use Rattle.sound_designs.proofs.Sound.{same_of}
 use Rattle.netlist_meaning.specs.InOrder.{names_in_order}
 use Rattle.netlist_flatten.proofs.Numbering.{place_held, own_names}

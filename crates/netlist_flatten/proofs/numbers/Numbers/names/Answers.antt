@@ -1,4 +1,4 @@
-use Rattle.std.proofs.Common.{◌∙◌, sym}
+use Rattle.std.proofs.Common.{◌∙◌}
 use Rattle.netlist_flatten.specs.Numbered.{place_at}
 use Rattle.netlist_flatten.proofs.Numbering.{model_there, named_nets}
 use Rattle.netlist_flatten.proofs.numbers.Numbers.names.Goals as goal

@@ -1,4 +1,4 @@
-use Rattle.std.proofs.Common.{List, ℕ, Some, slice_get, ◌≡◌, ◌∙◌, sym, ap, subst}
+use Rattle.std.proofs.Common.{List, ℕ, Some, slice_get, ◌≡◌, sym, subst}
 use Rattle.std.specs.Prelude.{MatchOption, Contains}
 use Rattle.netlist_flatten.proofs.Numbering.{model_there, position_there}
 use Rattle.netlist_flatten.specs.Numbered.{place_at}
@@ -12,4 +12,4 @@ returns c =
     let place = place_at c.args.self.now c.args.at in
     subst (λ (n : ℕ). slice_get (nets_at c.args.self.now place) n ≡ Some (net_at place c.args.name.now)) (sym c.unwrap_or.ensures)
     (position_there c.args.self.now place m c.args.name.now c.position.result is_m c.requires.net
-      (subst (λ (names : List (List ℕ)). MatchOption c.position.result (¬ Contains names c.args.name.now) (λ position. slice_get names position ≡ Some c.args.name.now)) (c.model_names.ensures m is_m) c.position.ensures))
+    (subst (λ (names : List (List ℕ)). MatchOption c.position.result (¬ Contains names c.args.name.now) (λ position. slice_get names position ≡ Some c.args.name.now)) (c.model_names.ensures m is_m) c.position.ensures))

@@ -1,0 +1,75 @@
+-- How small a plan is, by the weight of the flat netlist.
+use Rattle.std.proofs.Common.{◌≡◌, refl, sym, ◌∙◌, ap, ℕ, ◌+◌, ◌*◌, ◌<◌, ◌≤◌, Bool, true, false, true≢false, cond, [], ◌∷◌, length, arith}
+use Rattle.std.specs.Prelude.{◌==◌, ◌^◌, max}
+use Rattle.std.proofs.lemmas.List.{length-map, length-append}
+use Rattle.std.proofs.Math.Nat.{mul-le-mul, mul-mul-mul_comm}
+use Rattle.lane_core.specs.declared.plan.Plan.{Plan}
+use Rattle.lane_core.specs.Plans.{IsAdmissible, period_of}
+use Rattle.netlist_core.specs.declared.flat.Flat.{Flat}
+use Rattle.netlist_core.specs.declared.flat.FlatPort.{FlatPort}
+use Rattle.netlist_meaning.specs.Flat.{IsWeighed, class_of, port_classes}
+use Rattle.cell_core.specs.declared.list.CellList.{CellList}
+use Rattle.cell_core.specs.Loops.{names_one, loop_count}
+use Rattle.cell_lanes.specs.Computes.{ComputesByPlan}
+use Rattle.cover_mapper.specs.Mapped.{IsMapped}
+use Rattle.cover_mapper.specs.Needs.{any_needs_one}
+use Rattle.netlist_plans.specs.Planned.{IsSmall}
+
+abbrev extra : Bool → ℕ
+extra b = cond b 1 0
+
+at_most_one : (b : Bool) → extra b ≤ 1
+at_most_one true = omega arith
+at_most_one false = omega arith
+
+square : (a b s : ℕ) → a ≤ 6 * s → b ≤ 6 * s → a * b ≤ 256 * (s * s)
+square a b s low few =
+    let all : a * b ≤ (6 * s) * (6 * s) = mul-le-mul low few in
+    omega (arith, all, mul-mul-mul_comm 6 s 6 s)
+
+module _ (flat : Flat) (list : CellList) (m : IsMapped flat list) (w : IsWeighed flat) where
+  outs_many : length list.outs ≡ length flat.outs
+  outs_many = ap length m.outs ∙ length-map (port_classes flat flat.outs) m.sources ∙ length-map flat.outs (λ (port : FlatPort). class_of flat port.net)
+
+  starts_many : length list.starts ≡ length flat.latches
+  starts_many = ap length m.starts ∙ length-map flat.latches _
+
+  pub list_fits : flat.weight < 2 ^ 16 → list.inputs + loop_count list + length list.outs + length list.cells < 2 ^ 18
+  list_fits small = omega (arith, small, m.inputs, outs_many, starts_many, at_most_one (names_one list), m.few, w.parts)
+
+  none_named : any_needs_one flat ≡ false → names_one list ≡ false
+  none_named e = by (names_one list) refl
+    where
+      by : (b : Bool) → names_one list ≡ b → b ≡ false
+      by true n = absurd (true≢false (sym (m.one n) ∙ e))
+      by false n = refl
+
+  module _ (plan : Plan) (h : IsAdmissible plan) (c : ComputesByPlan list plan) where
+    loops_many : plan.latches ≡ length list.starts + cond (names_one list) 1 0
+    loops_many = sym h.size.starts ∙ ap length c.starts ∙ length-append list.starts _ ∙ ap (λ n. length list.starts + n) (by (names_one list))
+      where
+        by : (b : Bool) → length (cond b (true ∷ []) []) ≡ cond b 1 0
+        by true = refl
+        by false = refl
+
+    no_more : any_needs_one flat ≡ false → plan.latches ≡ length flat.latches
+    no_more e =
+        let none : extra (names_one list) ≡ 0 = ap extra (none_named e) in
+        omega (arith, loops_many, starts_many, none)
+
+    pub is_small : plan.lanes ≤ list.inputs + 2 * loop_count list + length list.outs + length list.cells + 2 + max list.inputs (length list.outs)
+        → length plan.columns ≤ (3 * length list.cells + length list.outs + 2 * loop_count list + 1) * (plan.lanes + 1) → IsSmall flat plan
+    is_small lanes columns =
+        let wide : plan.lanes ≤ 2 * flat.weight + 4 = omega (arith, lanes, m.inputs, outs_many, starts_many, at_most_one (names_one list), m.few, w.parts) in
+        let long : 3 * length list.cells + length list.outs + 2 * loop_count list + 1 ≤ 6 * (flat.weight + 1) =
+        omega (arith, m.inputs, outs_many, starts_many, at_most_one (names_one list), m.few, w.parts) in
+        let all = square (3 * length list.cells + length list.outs + 2 * loop_count list + 1) (plan.lanes + 1) (flat.weight + 1) long (omega (arith, wide)) in
+        record {
+          lanes = omega (arith, wide);
+          columns = omega (arith, columns, all);
+          loops = omega (arith, loops_many, starts_many, at_most_one (names_one list));
+          no_more_loops = no_more;
+        }
+
+    pub short_period : length flat.latches ≡ 0 → any_needs_one flat ≡ false → period_of plan ≡ 32
+    short_period none e = ap (λ n. cond (n == 0) 32 (32 * (2 * length plan.columns + 4 * n))) (no_more e ∙ none)

@@ -1,0 +1,26 @@
+-- What a plan and a port table of a flat netlist are.
+use Rattle.std.specs.Prelude.{ℕ, ◌+◌, ◌*◌, ◌≤◌, ◌≡◌, false, List, length}
+use Rattle.lane_core.specs.declared.plan.Plan.{Plan}
+use Rattle.grid_assembly.specs.PlanDrawing.{start_grid}
+use Rattle.pattern_reading.specs.declared.ports.Ports.{Ports}
+use Rattle.written_reads.specs.Laws.{pattern_text}
+use Rattle.netlist_core.specs.declared.model.Design.{Design}
+use Rattle.netlist_core.specs.declared.flat.Flat.{Flat}
+use Rattle.netlist_meaning.specs.FlatOf.{IsFlatOf}
+use Rattle.netlist_rules.specs.Clocks.{HasNoClockFault}
+use Rattle.blif_text.specs.Faults.{IsDesignOf}
+use Rattle.carries.specs.Carries.{Carries}
+use Rattle.cover_mapper.specs.Needs.{any_needs_one}
+
+-- the text that is written of them carries the design of every text that the flat netlist is of
+abbrev pub CarriesDesigns : Flat → Plan → Ports → Type 0
+CarriesDesigns flat plan ports =
+    (text : List ℕ) (design : Design) → IsDesignOf text design → HasNoClockFault design → IsFlatOf design flat → Carries (pattern_text (start_grid plan) ports) design
+
+-- The plan is small, by the weight w: at most 4 w + 4 lanes and 256 (w + 1) (w + 1) columns. It has a loop for each latch, and at
+-- most one more, where covers need constant 1.
+pub record IsSmall (flat : Flat) (plan : Plan) : Type 0 where
+  pub lanes : plan.lanes ≤ 4 * flat.weight + 4
+  pub columns : length plan.columns ≤ 256 * ((flat.weight + 1) * (flat.weight + 1))
+  pub loops : plan.latches ≤ length flat.latches + 1
+  pub no_more_loops : any_needs_one flat ≡ false → plan.latches ≡ length flat.latches

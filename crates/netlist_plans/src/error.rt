@@ -1,0 +1,36 @@
+// What is answered where no plan is made.
+use cell_plans::PlanError;
+use cover_mapper::MapError;
+use plan_ports::PortsError;
+use thiserror::Error;
+
+/// Why there is no plan. Each sound netlist with an order has one.
+#[derive(Clone, Copy, Debug, PartialEq, Eq, Error)]
+pub enum NetlistPlanError {
+    #[error("out of memory")]
+    NoMemory,
+}
+
+impl From<MapError> for NetlistPlanError {
+    fn from(error: MapError) -> Self {
+        match error {
+            MapError::NoMemory => NetlistPlanError::NoMemory,
+        }
+    }
+}
+
+impl From<PlanError> for NetlistPlanError {
+    fn from(error: PlanError) -> Self {
+        match error {
+            PlanError::NoMemory => NetlistPlanError::NoMemory,
+        }
+    }
+}
+
+impl From<PortsError> for NetlistPlanError {
+    fn from(error: PortsError) -> Self {
+        match error {
+            PortsError::NoMemory => NetlistPlanError::NoMemory,
+        }
+    }
+}

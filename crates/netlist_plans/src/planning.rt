@@ -1,0 +1,46 @@
+// The plan of a flat netlist, by its list of cells.
+ghost use Rattle.std.specs.Prelude.{◌≡◌, ◌<◌, ◌^◌, false, length, IfOk};
+ghost use Rattle.lane_core.specs.Plans.{IsAdmissible};
+ghost use Rattle.netlist_meaning.specs.Flat.{IsSound, IsWeighed};
+ghost use Rattle.netlist_meaning.specs.FlatOrder.{IsOrder};
+ghost use Rattle.cover_mapper.specs.Needs.{any_needs_one};
+ghost use Rattle.plan_ports.specs.Tables.{IsTableOf};
+ghost use Rattle.netlist_plans.specs.Planned.{CarriesDesigns, IsSmall};
+
+use crate::{NetlistPlanError, texts_have_port_names};
+use cell_plans::plan_of;
+use cover_mapper::map;
+use lane_core::Plan;
+use netlist_core::{Flat, Order};
+use pattern_reading::Ports;
+use plan_carries::{plans_have_ports, texts_carry};
+use plan_ports::of_plan;
+use std::alloc::Global;
+
+/// A plan, and where its ports are.
+#[derive(Drop)]
+pub struct Planned {
+    pub plan: Plan,
+    pub ports: Ports,
+}
+
+/// A plan of a sound flat netlist, for an order of its covers in which each comes after those that it reads.
+pub fn plan_netlist(alloc: Global, flat: &Flat, order: &Order) -> Result<Planned, NetlistPlanError>
+    requires sound { IsSound flat.now }
+    requires weighed { IsWeighed flat.now }
+    requires small { flat.now.weight < 2 ^ 16 }
+    requires ordered { IsOrder flat.now order.now.nodes }
+    ensures admissible { IfOk result (λ p. IsAdmissible p.plan) }
+    ensures table { IfOk result (λ p. IsTableOf flat.now p.plan p.ports) }
+    ensures carries { IfOk result (λ p. CarriesDesigns flat.now p.plan p.ports) }
+    ensures small { IfOk result (λ p. IsSmall flat.now p.plan) }
+    ensures period { IfOk result (λ p. length flat.now.latches ≡ 0 → any_needs_one flat.now ≡ false → p.ports.p ≡ 32) }
+{
+    let list = map(alloc, flat, order)?;
+    let plan = plan_of(alloc, &list)?;
+    plans_have_ports();
+    let ports = of_plan(alloc, flat, &plan)?;
+    texts_carry();
+    texts_have_port_names();
+    Ok(Planned { plan, ports })
+}

@@ -1,0 +1,4 @@
+mod Alike
+mod Designs
+mod Carried
+mod Written

@@ -1,0 +1,31 @@
+//! What is compiled of a design carries it: a plan that computes a list of cells, which computes the flat netlist of the
+//! design. The functions here do nothing; their clauses are the laws.
+#![tactic(auto)]
+
+ghost use Rattle.plan_carries.specs.Laws.{PlansHavePorts, PlanesShowRuns, TextsCarry};
+
+use grid_assembly::laws::{keeps_law, patterns_are_planes};
+use plan_ports::tables_are_readable;
+use tile_library::Shipped;
+use written_reads::written_text_reads;
+
+/// A plan that computes the cells of a flat netlist has its inputs and outputs.
+pub fn plans_have_ports()
+    ensures { PlansHavePorts }
+{}
+
+/// The plane of the plan shows the design's runs.
+pub fn planes_show_runs()
+    ensures { PlanesShowRuns }
+{}
+
+/// The text that is written of the plan and its table carries the design.
+pub fn texts_carry()
+    ensures { TextsCarry }
+{
+    keeps_law(&Shipped);
+    patterns_are_planes();
+    written_text_reads();
+    tables_are_readable();
+    planes_show_runs();
+}

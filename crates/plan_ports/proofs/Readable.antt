@@ -1,0 +1,134 @@
+-- The port table of an admissible plan can be written, and read back.
+use Rattle.std.proofs.Common.{◌≡◌, ◌≢◌, refl, sym, ◌∙◌, subst, ℕ, ◌+◌, ◌-◌, ◌*◌, ◌<◌, ◌≤◌, ◌^◌, Bool, true, false, cond, List, [], ◌∷◌, length, map, get_or, arith}
+use Rattle.std.specs.Prelude.{◌==◌, if◌then◌else◌}
+use Rattle.std.specs.List.{All, AllByRecursion, AllPairs}
+use Rattle.std.proofs.lemmas.Bool.{eqb-true, eqb-false}
+use Rattle.std.proofs.lemmas.List.{get_or-map, length-map}
+use Rattle.std.proofs.lemmas.List.Elements.{All-head, All-tail, All-map}
+use Rattle.lane_core.specs.declared.plan.Plan.{Plan}
+use Rattle.lane_core.specs.Plans.{IsAdmissible, left_of, row_of, period_of, size_of}
+use Rattle.lane_core.specs.Places.{AreDistinctBelow}
+use Rattle.netlist_core.specs.declared.flat.FlatPort.{FlatPort}
+use Rattle.netlist_core.specs.declared.flat.Flat.{Flat}
+use Rattle.netlist_meaning.specs.Flat.{IsNetId, no_net, name_of_net, names_of_ports}
+use Rattle.pattern_reading.specs.declared.ports.PortLine.{PortLine}
+use Rattle.pattern_reading.specs.declared.ports.NetLine.{NetLine}
+use Rattle.pattern_reading.specs.Numbers.{greatest_number}
+use Rattle.pattern_reading.specs.Ports.{cells_of, names_of}
+use Rattle.pattern_reading.specs.Spelling.{IsPortName}
+use Rattle.pattern_reading.specs.SoundTable.{IsSoundPort, IsSoundNet}
+use Rattle.pattern_reading.specs.Laws.{IsPortInside, IsNetInside}
+use Rattle.plan_ports.specs.Tables.{HasPortNames}
+use Rattle.plan_ports.specs.Laws.{TablesAreReadable}
+
+-- lines have what their cells and their names give
+each_line : (P : ℕ × ℕ → Type 0) (Q : List ℕ → Type 0) (R : PortLine → Type 0) → ((line : PortLine) → P (line.x, line.y) → Q line.name → R line)
+    → (lines : List PortLine) → All P (cells_of lines) → All Q (names_of lines) → AllByRecursion R lines
+each_line P Q R both [] p q = tt
+each_line P Q R both (line ∷ lines) p q =
+    (both line (All-head P (line.x, line.y) (cells_of lines) p) (All-head Q line.name (names_of lines) q), each_line P Q R both lines (All-tail P (line.x, line.y) (cells_of lines) p) (All-tail Q line.name (names_of lines) q))
+
+-- The cells of ports.
+
+abbrev Inside : ℕ × ℕ → ℕ × ℕ → Type 0
+Inside size cell = (cell.0 < size.0) × (cell.1 < size.1)
+
+box : (empty : Bool) (lanes loops columns x lane : ℕ) → (empty ≡ true → lanes ≡ 0) → lane < lanes - loops → x ≤ columns + loops
+    → Inside (if empty then (0, 0) else (32 * (columns + 2 * loops) + 1, 16 * (lanes + loops))) (32 * x, 16 * lane + 8)
+box true lanes loops columns x lane none low near = absurd (omega (arith, none refl, low))
+box false lanes loops columns x lane none low near = (omega (arith, near), omega (arith, low))
+
+inside : (plan : Plan) (x lane : ℕ) → lane < plan.lanes - plan.latches → x ≤ length plan.columns + plan.latches → Inside (size_of plan) (32 * x, row_of lane)
+inside plan x lane low near = box (plan.lanes == 0) plan.lanes plan.latches (length plan.columns) x lane (eqb-true plan.lanes 0) low near
+
+lanes_inside : (plan : Plan) (column : ℕ) (lanes : List ℕ) → AreDistinctBelow (plan.lanes - plan.latches) lanes → column ≤ length plan.columns
+    → All (Inside (size_of plan)) (map (λ lane. (left_of plan column, row_of lane)) lanes)
+lanes_inside plan column lanes d near =
+    All-map (Inside (size_of plan)) (λ lane. (left_of plan column, row_of lane)) lanes
+    (λ k e lt. inside plan (plan.latches + column) (get_or lanes k e) (d.below k e lt) (omega (arith, near)))
+
+abbrev Small : ℕ × ℕ → Type 0
+Small size = (size.0 ≤ greatest_number) × (size.1 ≤ greatest_number)
+
+small_box : (none : Bool) (size : ℕ × ℕ) → Small size → Small (if none then (0, 0) else size)
+small_box true size s = (omega arith, omega arith)
+small_box false size s = s
+
+small : (plan : Plan) → IsAdmissible plan → Small (size_of plan)
+small plan h =
+    small_box (plan.lanes == 0) (32 * (length plan.columns + 2 * plan.latches) + 1, 16 * (plan.lanes + plan.latches))
+    (omega (arith, h.size.lanes, h.size.columns, h.size.loops_on_lanes), omega (arith, h.size.lanes, h.size.loops_on_lanes))
+
+-- The period.
+
+abbrev FitsPeriod : ℕ → Type 0
+FitsPeriod p = (p ≢ 0) × (p ≤ greatest_number)
+
+cycle_fits : (none : Bool) (columns loops : ℕ) → (none ≡ false → loops ≢ 0) → columns < 2 ^ 40 → loops < 2 ^ 32 → FitsPeriod (cond none 32 (32 * (2 * columns + 4 * loops)))
+cycle_fits true columns loops some low few = (λ e. omega (arith, e), omega arith)
+cycle_fits false columns loops some low few = (λ e. some refl (omega (arith, e)), omega (arith, low, few))
+
+period_fits : (plan : Plan) → IsAdmissible plan → FitsPeriod (period_of plan)
+period_fits plan h =
+    cycle_fits (plan.latches == 0) (length plan.columns) plan.latches (eqb-false plan.latches 0) h.size.columns (omega (arith, h.size.lanes, h.size.loops_on_lanes))
+
+-- The names of ports.
+
+names_are : (flat : Flat) → HasPortNames flat → (ports : List FlatPort) → All (λ port. IsNetId flat port.net) ports → All IsPortName (names_of_ports flat ports)
+names_are flat names ports there = All-map IsPortName (λ port. name_of_net flat port.net) ports (λ k d lt. names (get_or ports k d).net.0 no_net (there k d lt))
+
+distinct : (lines : List PortLine) → AllPairs (λ a b. a ≢ b) (names_of lines) → AllPairs (λ a b. a.name ≢ b.name) lines
+distinct lines h i j d before within =
+    let first = get_or-map (λ (line : PortLine). line.name) lines i d d.name (omega (arith, before, within)) in
+    let second = get_or-map (λ (line : PortLine). line.name) lines j d d.name within in
+    λ same. h i j d.name before (omega (arith, within, length-map lines (λ (line : PortLine). line.name))) (first ∙ same ∙ sym second)
+
+-- Port lines with such cells and names.
+module _ (flat : Flat) (plan : Plan) (h : IsAdmissible plan) (names : HasPortNames flat) (ports : List FlatPort) (there : All (λ port. IsNetId flat port.net) ports)
+    (lines : List PortLine) (column : ℕ) (lanes : List ℕ) (below : AreDistinctBelow (plan.lanes - plan.latches) lanes) (near : column ≤ length plan.columns)
+    (cells : cells_of lines ≡ map (λ lane. (left_of plan column, row_of lane)) lanes) (named : names_of lines ≡ names_of_ports flat ports) where
+  abbrev Each : (PortLine → Type 0) → Type 0
+  Each R = ((line : PortLine) → Inside (size_of plan) (line.x, line.y) → IsPortName line.name → R line) → AllByRecursion R lines
+
+  each : (R : PortLine → Type 0) → Each R
+  each R both =
+      each_line (Inside (size_of plan)) IsPortName R both lines (subst (All (Inside (size_of plan))) (sym cells) (lanes_inside plan column lanes below near))
+      (subst (All IsPortName) (sym named) (names_are flat names ports there))
+
+  lines_sound : AllByRecursion IsSoundPort lines
+  lines_sound = each IsSoundPort (λ line at name. record {
+    x = omega (arith, at.0, (small plan h).0);
+    y = omega (arith, at.1, (small plan h).1);
+    name = record { not_empty = name.0; bytes = λ k d lt. ((name.1 k d lt).0, (name.1 k d lt).2) };
+  })
+
+  lines_inside : AllByRecursion (IsPortInside (size_of plan).0 (size_of plan).1) lines
+  lines_inside = each (IsPortInside (size_of plan).0 (size_of plan).1) (λ line at name. at)
+
+  lines_plain : AllByRecursion (λ line. All (λ b. b ≢ 13) line.name) lines
+  lines_plain = each (λ line. All (λ b. b ≢ 13) line.name) (λ line at name k d lt. (name.1 k d lt).1)
+
+pub tables_are_readable : TablesAreReadable
+tables_are_readable flat plan ports range named names h t = record {
+  sound = record {
+    period = λ e. (period_fits plan h).0 (sym t.period ∙ e);
+    p = subst (λ n. n ≤ greatest_number) (sym t.period) (period_fits plan h).1;
+    l = subst (λ n. n ≤ greatest_number) (sym t.latency) (omega (arith, h.size.columns));
+    ins = lines_sound flat plan h names flat.ins range.ins ports.ins 0 plan.ins h.ins (omega arith) t.in_cells t.in_names;
+    outs = lines_sound flat plan h names flat.outs range.outs ports.outs (length plan.columns) plan.outs h.outs (omega arith) t.out_cells t.out_names;
+    nets = subst (AllByRecursion IsSoundNet) (sym t.nets) tt;
+    one_input = distinct ports.ins (subst (AllPairs (λ a b. a ≢ b)) (sym t.in_names) named.ins.distinct);
+    one_output = distinct ports.outs (subst (AllPairs (λ a b. a ≢ b)) (sym t.out_names) named.outs.distinct);
+    one_net = subst (AllPairs (λ (a b : NetLine). a.name ≡ b.name → a.path ≢ b.path)) (sym t.nets) (λ i j d before within. absurd (omega (arith, within)));
+  };
+  inside = record {
+    ins = lines_inside flat plan h names flat.ins range.ins ports.ins 0 plan.ins h.ins (omega arith) t.in_cells t.in_names;
+    outs = lines_inside flat plan h names flat.outs range.outs ports.outs (length plan.columns) plan.outs h.outs (omega arith) t.out_cells t.out_names;
+    nets = subst (AllByRecursion (IsNetInside (size_of plan).0 (size_of plan).1)) (sym t.nets) tt;
+  };
+  no_returns = record {
+    ins = lines_plain flat plan h names flat.ins range.ins ports.ins 0 plan.ins h.ins (omega arith) t.in_cells t.in_names;
+    outs = lines_plain flat plan h names flat.outs range.outs ports.outs (length plan.columns) plan.outs h.outs (omega arith) t.out_cells t.out_names;
+    nets = subst (AllByRecursion (λ (net : NetLine). All (λ b. b ≢ 13) net.name)) (sym t.nets) tt;
+  };
+}

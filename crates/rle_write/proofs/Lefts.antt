@@ -1,0 +1,64 @@
+-- What is left to write, by pieces of a row and by the rows of a plan.
+use Rattle.std.proofs.Common.{◌≡◌, ℕ, ◌+◌, ◌≤◌, ◌<◌, pos, List, [], ◌∷◌, ◌++◌, map, drop, take, length, replicate, get_or, sym, ap, ◌∙◌, arith, drop_of_length-le, length-drop, length-take-le, take-append-drop}
+use Rattle.std.proofs.lemmas.List.{ext_get_or, get_or-take, get_or-drop, drop-drop, drop_more, map-append}
+use Rattle.std.proofs.lemmas.List.FromFn.{length-map-range_with_len, get_or-map-range_with_len}
+use Rattle.ww_rule.specs.declared.pattern.State.{State}
+use Rattle.ww_rule.specs.declared.pattern.State.TheVariants.{Empty}
+use Rattle.lane_core.specs.declared.plan.Plan.{Plan}
+use Rattle.lane_core.specs.Plans.{size_of}
+use Rattle.tile_library.specs.Drawings.{shipped_drawing}
+use Rattle.plan_layout.specs.Planes.{start_plane}
+use Rattle.grid_assembly.specs.PlanDrawing.{AreCellsOfRow, start_row, start_grid}
+use Rattle.pattern_writing.specs.Writer.{tag_of}
+use Rattle.rle_write.specs.Left.{rows_left, row_left, text_left}
+use Rattle.rle_write.proofs.Tags.{rows_left_none}
+
+-- the text that is left, by the rest of the row
+pub left_by : (held : List ℕ) (column ends count tag : ℕ) (rows : List (List State)) {l l' : List ℕ} → l ≡ l'
+    → text_left held column (row_left ends (replicate count tag ++ l) rows) ≡ text_left held column (row_left ends (replicate count tag ++ l') rows)
+left_by held column ends count tag rows e = ap (λ l. text_left held column (row_left ends (replicate count tag ++ l) rows)) e
+
+row_long : (plan : Plan) (y : ℕ) → length (start_row plan y) ≡ (size_of plan).0
+row_long plan y = length-map-range_with_len (λ x. start_plane shipped_drawing plan (pos x) (pos y)) 0 (size_of plan).0
+
+cell_at : (plan : Plan) (x y : ℕ) → x < (size_of plan).0 → get_or (start_row plan y) x Empty ≡ start_plane shipped_drawing plan (pos x) (pos y)
+cell_at plan x y lt = get_or-map-range_with_len (λ x. start_plane shipped_drawing plan (pos x) (pos y)) 0 (size_of plan).0 x x Empty lt (omega arith)
+
+-- the rest of a row begins with a piece that has its cells
+piece_next : (plan : Plan) (y x : ℕ) (cells : List State) → AreCellsOfRow plan y x cells → x + length cells ≤ (size_of plan).0
+    → drop x (start_row plan y) ≡ cells ++ drop (x + length cells) (start_row plan y)
+piece_next plan y x cells are within =
+    let row : List State = start_row plan y in
+    let n : ℕ = length cells in
+    let room : n ≤ length (drop x row) = omega (arith, length-drop x row, row_long plan y, within) in
+    let front : cells ≡ take n (drop x row) =
+    ext_get_or Empty cells (take n (drop x row)) (sym (length-take-le n (drop x row) room))
+    (λ i lt.
+    are i lt ∙ sym (get_or-take n (drop x row) i Empty lt ∙ get_or-drop x row i Empty ∙ cell_at plan (x + i) y (omega (arith, lt, within)))) in
+    sym (take-append-drop n (drop x row)) ∙ ap (λ l. l ++ drop n (drop x row)) (sym front) ∙ ap (λ l. cells ++ l) (drop-drop n x row)
+
+pub tags_next : (plan : Plan) (y x n : ℕ) (cells : List State) → AreCellsOfRow plan y x cells → length cells ≡ n → x + n ≤ (size_of plan).0
+    → map tag_of (drop x (start_row plan y)) ≡ map tag_of cells ++ map tag_of (drop (x + n) (start_row plan y))
+tags_next plan y x n cells are long within =
+    ap (map tag_of) (piece_next plan y x cells are (omega (arith, long, within)))
+    ∙ map-append tag_of cells (drop (x + length cells) (start_row plan y))
+    ∙ ap (λ k. map tag_of cells ++ map tag_of (drop (x + k) (start_row plan y))) long
+
+pub tags_none : (plan : Plan) (y x : ℕ) → (size_of plan).0 ≤ x → map tag_of (drop x (start_row plan y)) ≡ []
+tags_none plan y x h = ap (map tag_of) (drop_of_length-le (start_row plan y) (omega (arith, row_long plan y, h)))
+
+rows_long : (plan : Plan) → length (start_grid plan).rows ≡ (size_of plan).1
+rows_long plan = length-map-range_with_len (start_row plan) 0 (size_of plan).1
+
+-- the rest of the rows begins with the row that is next
+pub row_next : (plan : Plan) (y : ℕ) → y < (size_of plan).1 → drop y (start_grid plan).rows ≡ start_row plan y ∷ drop (y + 1) (start_grid plan).rows
+row_next plan y lt =
+    drop_more (start_grid plan).rows y [] (omega (arith, rows_long plan, lt))
+    ∙ ap (λ r. r ∷ drop (y + 1) (start_grid plan).rows) (get_or-map-range_with_len (start_row plan) 0 (size_of plan).1 y y [] lt (omega arith))
+
+-- after the rows only the `!` is left
+pub rows_none : (plan : Plan) (held : List ℕ) (column ends y : ℕ) → (size_of plan).1 ≤ y
+    → text_left held column (rows_left ends (drop y (start_grid plan).rows)) ≡ text_left held column []
+rows_none plan held column ends y h =
+    ap (λ l. text_left held column (rows_left ends l)) (drop_of_length-le (start_grid plan).rows (omega (arith, rows_long plan, h)))
+    ∙ ap (text_left held column) (rows_left_none ends)

@@ -1,0 +1,84 @@
+// The rows of a plan's drawing, of which a piece at a time stands on the stack.
+ghost use Rattle.std.specs.Prelude.{◌≡◌, ◌≤◌, ◌<◌, ◌+◌, ◌^◌, ℕ, List, [], ◌∷◌, ◌++◌, IfOk, OnErr, OnOk};
+ghost use Rattle.ww_rule.specs.declared.pattern.State.{State};
+ghost use Rattle.lane_core.specs.Plans.{IsAdmissible};
+ghost use Rattle.lane_core.specs.Plans.{size_of};
+ghost use Rattle.grid_assembly.specs.PlanDrawing.{start_row, start_grid};
+ghost use Rattle.pattern_writing.specs.Writer.{item_texts, wrapped};
+ghost use Rattle.rle_write.specs.Left.{rows_left, text_left};
+ghost use Rattle.rle_write.specs.Pages.{held, column_of};
+ghost use Rattle.rle_write.specs.Progress.{Wrote, Broke};
+
+use crate::items::write_item;
+use crate::page::Page;
+use crate::rows::{Kept, end_row, write_cells};
+use grid_assembly::fill_row;
+use lane_core::Plan;
+use ww_base::{Failed, Sink};
+use ww_rule::State;
+
+/// How many cells a piece of a row has.
+const PIECE: usize = 256;
+
+// Writes row `y` up to its last cell that is not empty, and answers how many row ends are due then, its own among them.
+fn write_plan_row<O: Sink>(
+    sink: &mut O,
+    page: &mut Page,
+    ends: usize,
+    plan: &Plan,
+    width: u64,
+    y: u64,
+) -> Result<usize, Failed>
+    requires admissible { IsAdmissible plan.now }
+    requires wide { width ≡ (size_of plan.now).0 }
+    requires few { ends + 1 < 2 ^ 64 }
+    ensures one_more { IfOk result (λ after. after ≤ ends + 1) }
+    ensures ok { IfOk result (λ after. (rows : List (List State)) →
+        Wrote (O.written sink.old) (O.written sink.new) (O.faults sink.old) (O.faults sink.new)
+        (text_left (held page.old) (column_of page.old) (rows_left ends (start_row plan.now y ∷ rows)))
+        (text_left (held page.new) (column_of page.new) (rows_left after rows))) }
+    ensures err { OnErr result ((rows : List (List State)) →
+        Broke (O.written sink.old) (O.written sink.new) (O.faults sink.old) (O.faults sink.new)
+        (text_left (held page.old) (column_of page.old) (rows_left ends (start_row plan.now y ∷ rows)))) }
+{
+    let mut cells = [State::Empty; PIECE];
+    let mut kept = Kept::begin(ends);
+    let mut x = 0;
+    'pieces: while x < width {
+        let count = (width - x).min(PIECE as u64) as usize;
+        let piece = &mut cells[..count];
+        fill_row(plan, y, x, piece);
+        kept = write_cells(sink, page, kept, piece)?;
+        x += count as u64;
+    }
+    end_row(sink, page, kept)
+}
+
+/// Writes the items of a plan's rows, the `!` after them and a line end on the page.
+pub fn write_plan_rows<O: Sink>(
+    sink: &mut O,
+    page: &mut Page,
+    plan: &Plan,
+    width: u64,
+    height: u64,
+) -> Result<(), Failed>
+    requires admissible { IsAdmissible plan.now }
+    requires wide { width ≡ (size_of plan.now).0 }
+    requires high { height ≡ (size_of plan.now).1 }
+    requires begun { column_of page.old ≡ 0 }
+    ensures ok { OnOk result ((rest : List ℕ) →
+        Wrote (O.written sink.old) (O.written sink.new) (O.faults sink.old) (O.faults sink.new)
+        (held page.old ++ (wrapped 0 (item_texts (start_grid plan.now).rows) ++ (10 ∷ rest))) (held page.new ++ rest)) }
+    ensures err { OnErr result ((rest : List ℕ) →
+        Broke (O.written sink.old) (O.written sink.new) (O.faults sink.old) (O.faults sink.new)
+        (held page.old ++ (wrapped 0 (item_texts (start_grid plan.now).rows) ++ (10 ∷ rest)))) }
+{
+    let mut ends = 0;
+    let mut y = 0;
+    'rows: while y < height {
+        ends = write_plan_row(sink, page, ends, plan, width, y)?;
+        y += 1;
+    }
+    write_item(sink, page, 1, b'!')?;
+    page.put(sink, b"\n")
+}
