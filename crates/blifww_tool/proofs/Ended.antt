@@ -4,11 +4,11 @@ use Rattle.command_words.specs.Shapes.{CommandValues}
 use Rattle.blifww_tool.specs.Commands.{Accepts, Prints, Refuses}
 use Rattle.blifww_tool.specs.Refusals.{status_of, status_of_cause, refusal_line}
 use Rattle.blifww_tool.specs.Answer.{HasStopped}
-use Rattle.blifww_tool.specs.Run.{AsksNothing, Reading, Writing, Call, Gave, GaveAll, Gained, GainedNothing, WriteFailed, text_limit, Does, RefusesText, GaveTooMany, HasReason, Tells, TellsOr7, IsDone, IsRefused, CutsLine, CutsOutput, IsCalm, Ends}
+use Rattle.blifww_tool.specs.Run.{AsksNothing, Reading, Writing, Call, Gave, GaveAll, Gained, GainedNothing, WriteFailed, text_limit, Does, RefusesText, GaveTooMany, HasReason, Tells, TellsLike, TellsOr7, IsDone, IsRefused, CutsLine, CutsOutput, IsCalm, Ends}
 use Rattle.blifww_tool.proofs.Given.{gave_whole, no_more, one_command}
 use Rattle.blifww_tool.proofs.Decided.{printed_is_accepted, accepted_or_refused, one_cause}
 use Rattle.blifww_tool.specs.declared.causes.Cause.{Cause}
-use Rattle.blifww_tool.specs.declared.causes.Cause.TheVariants.{NotYet, Pattern, GridTooLarge, PortTable, Streams, TooFar}
+use Rattle.blifww_tool.specs.declared.causes.Cause.TheVariants.{NotYet, NetlistFault, WeightTooLarge, Loop, Pattern, GridTooLarge, PortTable, Streams, TooFar}
 use Rattle.blifww_tool.specs.declared.refusals.Refusal.{Refusal}
 use Rattle.blifww_tool.specs.declared.refusals.Refusal.TheVariants.{Usage, TooLong, ReadFault, WriteFault, NoMemory, Text}
 
@@ -70,16 +70,18 @@ accepted c status (cut e k) command text calm short h = absurd (never_cut c comm
 told_as : (err : Writing) (status : ℕ) (r r' : Refusal) → r ≡ r' → Tells err status r → Tells err status r'
 told_as err status r r' e h = subst (λ (x : Refusal). Tells err status x) e h
 
--- one that it refuses is refused for its cause
-caused : (c : Call) (status : ℕ) → Ending c status → (command : CommandValues) (text : List ℕ) → IsCalm c command text → length text ≤ text_limit → (cause : Cause) → Refuses command text cause → TellsOr7 c status (Text cause)
+-- one that it refuses is refused for its cause, or one like it
+caused : (c : Call) (status : ℕ) → Ending c status → (command : CommandValues) (text : List ℕ) → IsCalm c command text → length text ≤ text_limit → (cause : Cause) → Refuses command text cause
+    → TellsLike c status command text cause ⊎ (status ≡ 7)
 caused c status (done e d) command text calm short cause h =
     absurd (accepted_or_refused command text cause (printed_is_accepted command text d.done.output (printed_of c command text (λ output. output) calm d.done)) h)
 caused c status (refused e e' r) command text calm short cause h = by_why (why c command text r.refusal calm r.reason)
   where
-    by_why : Why c command text r.refusal → TellsOr7 c status (Text cause)
+    by_why : Why c command text r.refusal → TellsLike c status command text cause ⊎ (status ≡ 7)
     by_why (no_memory is) = inr (r.told.status_is ∙ ap status_of is)
     by_why (too_long is long) = absurd (omega (arith, short, long))
-    by_why (by_text cause' is s k) = inl (told_as c.err status r.refusal (Text cause) (is ∙ ap Text (one_cause command text cause' cause k h)) r.told)
+    by_why (by_text cause' is s k) =
+        inl (record { told = cause'; refused = k; alike = one_cause command text cause' cause k h; tells = told_as c.err status r.refusal (Text cause') is r.told })
 caused c status (cut e k) command text calm short cause h = absurd (never_cut c command text calm k)
 
 -- one that is too long is told so
@@ -144,6 +146,9 @@ ends c status e front = record {
 -- a refusal's status is never that of a run that is done, and that of a cause in a text never that of a failed write
 cause_is : (cause : Cause) → (status_of_cause cause ≢ 0) × (status_of_cause cause ≢ 6)
 cause_is NotYet = (λ e. cc, λ e. cc)
+cause_is (NetlistFault f) = (λ e. cc, λ e. cc)
+cause_is (WeightTooLarge w) = (λ e. cc, λ e. cc)
+cause_is (Loop names) = (λ e. cc, λ e. cc)
 cause_is (Pattern f) = (λ e. cc, λ e. cc)
 cause_is (GridTooLarge x y) = (λ e. cc, λ e. cc)
 cause_is (PortTable f) = (λ e. cc, λ e. cc)

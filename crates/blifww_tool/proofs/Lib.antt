@@ -1,4 +1,5 @@
 pub mod JoinedPieces
+pub mod Fronts
 pub mod ThinNames
 pub mod WrittenText
 pub mod ThinDesign
@@ -7,6 +8,8 @@ pub mod Given
 pub mod Headline
 pub mod OutputLines
 pub mod SimulationOrNot
+pub mod EvaluationOrNot
+pub mod Evaluated
 pub mod Simulated
 pub mod Decided
 pub mod Ended

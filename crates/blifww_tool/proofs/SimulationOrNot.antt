@@ -19,7 +19,7 @@ use Rattle.drive.specs.Driving.{last_generation, greatest_generation}
 use Rattle.pattern_reading.specs.Ports.{names_of}
 use Rattle.blifww_tool.specs.Simulation.{Simulation, IsSimulation, Simulates, HasNoSimulation}
 use Rattle.blifww_tool.specs.declared.causes.Cause.{Cause}
-use Rattle.blifww_tool.specs.declared.causes.Cause.TheVariants.{NotYet, Pattern, GridTooLarge, PortTable, Streams, TooFar}
+use Rattle.blifww_tool.specs.declared.causes.Cause.TheVariants.{NotYet, NetlistFault, WeightTooLarge, Loop, Pattern, GridTooLarge, PortTable, Streams, TooFar}
 
 -- a pattern with ports, as a text has them
 pub record IsRead (text : List ℕ) (grid : Grid) (ports : Ports) : Type 0 where
@@ -36,6 +36,9 @@ pub data Reason (cycles : ℕ) (words : List (List ℕ)) (text : List ℕ) (r : 
 
 reason_of : (cycles : ℕ) (words : List (List ℕ)) (text : List ℕ) (r : Cause) → HasNoSimulation cycles words text r → Reason cycles words text r
 reason_of cycles words text NotYet h = absurd h
+reason_of cycles words text (NetlistFault fault) h = absurd h
+reason_of cycles words text (WeightTooLarge weight) h = absurd h
+reason_of cycles words text (Loop names) h = absurd h
 reason_of cycles words text (Pattern fault) h = by_pattern fault refl h
 reason_of cycles words text (GridTooLarge width height) h = by_box width height refl h
 reason_of cycles words text (PortTable fault) h = by_table fault refl h.0 h.1 h.2

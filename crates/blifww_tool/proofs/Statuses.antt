@@ -9,12 +9,15 @@ use Rattle.blifww_tool.specs.Statuses.{StatusesHaveCauses}
 use Rattle.blifww_tool.proofs.Given.{one_command}
 use Rattle.blifww_tool.proofs.Decided.{only_not_yet, not_yet_is_not_thin}
 use Rattle.blifww_tool.specs.declared.causes.Cause.{Cause}
-use Rattle.blifww_tool.specs.declared.causes.Cause.TheVariants.{NotYet, Pattern, GridTooLarge, PortTable, Streams, TooFar}
+use Rattle.blifww_tool.specs.declared.causes.Cause.TheVariants.{NotYet, NetlistFault, WeightTooLarge, Loop, Pattern, GridTooLarge, PortTable, Streams, TooFar}
 use Rattle.blifww_tool.specs.declared.refusals.Refusal.{Refusal}
 use Rattle.blifww_tool.specs.declared.refusals.Refusal.TheVariants.{Usage, TooLong, ReadFault, WriteFault, NoMemory, Text}
 
 not_cause : (cause : Cause) → (status_of_cause cause ≢ 2) × (status_of_cause cause ≢ 5)
 not_cause NotYet = (λ e. cc, λ e. cc)
+not_cause (NetlistFault f) = (λ e. cc, λ e. cc)
+not_cause (WeightTooLarge w) = (λ e. cc, λ e. cc)
+not_cause (Loop names) = (λ e. cc, λ e. cc)
 not_cause (Pattern f) = (λ e. cc, λ e. cc)
 not_cause (GridTooLarge x y) = (λ e. cc, λ e. cc)
 not_cause (PortTable f) = (λ e. cc, λ e. cc)
@@ -23,6 +26,9 @@ not_cause (TooFar n) = (λ e. cc, λ e. cc)
 
 not_yet_by : (cause : Cause) → status_of_cause cause ≡ 11 → cause ≡ NotYet
 not_yet_by NotYet e = refl
+not_yet_by (NetlistFault f) e = cc
+not_yet_by (WeightTooLarge w) e = cc
+not_yet_by (Loop names) e = cc
 not_yet_by (Pattern f) e = cc
 not_yet_by (GridTooLarge x y) e = cc
 not_yet_by (PortTable f) e = cc

@@ -3,8 +3,8 @@ use Rattle.std.proofs.Common.{ℕ, ◌≡◌, ◌<◌, refl, List, length}
 use Rattle.std.specs.Prelude.{Option, Some, None}
 use Rattle.std.specs.Io.KnownBytes.{Keeps}
 use Rattle.command_words.specs.Shapes.{CommandValues, IsCommand}
-use Rattle.command_words.specs.declared.errors.WordsError.{WordsError}
-use Rattle.command_words.specs.declared.errors.WordsError.TheVariants as words_error
+use Rattle.command_words.specs.declared.error.WordsError.{WordsError}
+use Rattle.command_words.specs.declared.error.WordsError.TheVariants as words_error
 use Rattle.ww_base.specs.declared.whole.ReadAllError.{ReadAllError}
 use Rattle.ww_base.specs.declared.whole.ReadAllError.TheVariants as read_error
 use Rattle.blifww_tool.specs.declared.causes.TextError.{TextError}

@@ -1,23 +1,27 @@
 -- For each command the texts that it accepts, what it prints of them, and why it refuses the others.
 use Rattle.std.specs.Prelude.{◌≡◌, ℕ, List, ⊤}
-use Rattle.command_words.specs.Shapes.{CommandValues, compile, simulate}
+use Rattle.command_words.specs.Shapes.{CommandValues, compile, simulate, eval}
 use Rattle.blifww_tool.specs.Thin.{Names, IsThin}
 use Rattle.blifww_tool.specs.Drawing.{thin_gate_text}
 use Rattle.blifww_tool.specs.Simulation.{Simulation, Simulates, simulation_text, HasNoSimulation}
+use Rattle.blifww_tool.specs.Evaluation.{Evaluation, IsEvaluation, Evaluates, HasNoEvaluation}
 use Rattle.blifww_tool.specs.declared.causes.Cause.{Cause}
-use Rattle.blifww_tool.specs.declared.causes.Cause.TheVariants.{NotYet}
+use Rattle.blifww_tool.specs.declared.causes.Cause.TheVariants.{NotYet, NetlistFault, Loop}
+use Rattle.netlist_text.specs.Laws.{AreAlike as AreAlikeFaults}
 use Rattle.blifww_tool.specs.declared.causes.TextError.{TextError}
 use Rattle.blifww_tool.specs.declared.causes.TextError.TheVariants.{Refused, NoMemory}
 
--- the command accepts the text: it is that of an OR gate; or with the words a simulation in time
+-- the command accepts the text: it is that of an OR gate; with the words a simulation in time; or with the words an evaluation
 abbrev pub Accepts : CommandValues → List ℕ → Type 0
 Accepts compile text = (names : Names) × IsThin text names
 Accepts (simulate cycles words) text = (s : Simulation) × Simulates cycles words text s
+Accepts (eval cycles words) text = (e : Evaluation) × IsEvaluation cycles words text e
 
--- of such a text it prints this output: the gate's pattern; or a line for each of the pattern's outputs
+-- of such a text it prints this output: the gate's pattern; or a line for each output of the pattern, or of the netlist
 abbrev pub Prints : CommandValues → (text output : List ℕ) → Type 0
 Prints compile text output = (names : Names) × IsThin text names × (output ≡ thin_gate_text names)
 Prints (simulate cycles words) text output = (s : Simulation) × Simulates cycles words text s × (output ≡ simulation_text s)
+Prints (eval cycles words) text output = Evaluates cycles words text output
 
 -- the text is not that of an OR gate
 abbrev pub IsNotThin : List ℕ → Cause → Type 0
@@ -28,6 +32,13 @@ IsNotThin text _ = ⊥
 abbrev pub Refuses : CommandValues → List ℕ → Cause → Type 0
 Refuses compile text cause = IsNotThin text cause
 Refuses (simulate cycles words) text cause = HasNoSimulation cycles words text cause
+Refuses (eval cycles words) text cause = HasNoEvaluation cycles words text cause
+
+-- Two causes are of one kind, and the same, but that there may be several loops, and on one line several words at fault.
+abbrev pub AreAlike : Cause → Cause → Type 0
+AreAlike (NetlistFault a) (NetlistFault b) = AreAlikeFaults a b
+AreAlike (Loop a) (Loop b) = ⊤
+AreAlike a b = a ≡ b
 
 -- why a text gives no output: the command refuses it, or there is not enough memory
 abbrev pub HasTextCause : CommandValues → List ℕ → TextError → Type 0

@@ -3,7 +3,9 @@ pub mod Joined
 pub mod Thin
 pub mod Drawing
 pub mod Refusals
+pub mod Lines
 pub mod Simulation
+pub mod Evaluation
 pub mod Commands
 pub mod Run
 pub mod Statuses

@@ -1,5 +1,10 @@
 -- The statuses and lines of refusals, and the refusal for each error of a part.
-use Rattle.std.specs.Prelude.{ℕ, List, ◌++◌, codes, decimal}
+use Rattle.std.specs.Prelude.{ℕ, List, ◌++◌, flat_map, codes, decimal}
+use Rattle.netlist_core.specs.Names.{Name}
+use Rattle.netlist_rules.specs.declared.fault.Fault.{Fault}
+use Rattle.netlist_rules.specs.FaultNames.{number_of, name_of}
+use Rattle.netlist_text.specs.declared.error.NetlistError.{NetlistError}
+use Rattle.netlist_text.specs.declared.error.NetlistError.TheVariants as netlist_of
 use Rattle.pattern_reading.specs.declared.faults.RleFaultKind.{RleFaultKind}
 use Rattle.pattern_reading.specs.declared.faults.RleFaultKind.TheVariants as rle
 use Rattle.pattern_reading.specs.declared.faults.PortFaultKind.{PortFaultKind}
@@ -8,8 +13,8 @@ use Rattle.drive.specs.declared.error.StreamFaultKind.{StreamFaultKind}
 use Rattle.drive.specs.declared.error.StreamFaultKind.TheVariants as stream
 use Rattle.ww_base.specs.declared.whole.ReadAllError.{ReadAllError}
 use Rattle.ww_base.specs.declared.whole.ReadAllError.TheVariants as read_all
-use Rattle.command_words.specs.declared.errors.WordsError.{WordsError}
-use Rattle.command_words.specs.declared.errors.WordsError.TheVariants as words_of
+use Rattle.command_words.specs.declared.error.WordsError.{WordsError}
+use Rattle.command_words.specs.declared.error.WordsError.TheVariants as words_of
 use Rattle.rle_read.specs.declared.error.RleReadError.{RleReadError}
 use Rattle.rle_read.specs.declared.error.RleReadError.TheVariants as pattern_of
 use Rattle.port_table.specs.declared.reading.PortReadError.{PortReadError}
@@ -19,7 +24,7 @@ use Rattle.drive.specs.declared.error.StreamError.TheVariants as streams_of
 use Rattle.drive.specs.declared.error.SimulateError.{SimulateError}
 use Rattle.drive.specs.declared.error.SimulateError.TheVariants as simulating
 use Rattle.blifww_tool.specs.declared.causes.Cause.{Cause}
-use Rattle.blifww_tool.specs.declared.causes.Cause.TheVariants.{NotYet, Pattern, GridTooLarge, PortTable, Streams, TooFar}
+use Rattle.blifww_tool.specs.declared.causes.Cause.TheVariants.{NotYet, NetlistFault, WeightTooLarge, Loop, Pattern, GridTooLarge, PortTable, Streams, TooFar}
 use Rattle.blifww_tool.specs.declared.causes.TextError.{TextError}
 use Rattle.blifww_tool.specs.declared.causes.TextError.TheVariants as text
 use Rattle.blifww_tool.specs.declared.refusals.Refusal.{Refusal}
@@ -28,6 +33,9 @@ use Rattle.blifww_tool.specs.declared.refusals.Refusal.TheVariants.{Usage, TooLo
 -- the exit status for a cause that lies in a text
 abbrev pub status_of_cause : Cause → ℕ
 status_of_cause NotYet = 11
+status_of_cause (NetlistFault fault) = 1
+status_of_cause (WeightTooLarge weight) = 4
+status_of_cause (Loop names) = 3
 status_of_cause (Pattern fault) = 8
 status_of_cause (GridTooLarge width height) = 4
 status_of_cause (PortTable fault) = 8
@@ -77,9 +85,28 @@ fault_line name line = name ++ (codes " line " ++ (decimal line ++ codes "\n"))
 abbrev pub stream_line : List ℕ → List ℕ → List ℕ
 stream_line name word = codes "stream: " ++ (name ++ (codes " " ++ (word ++ codes "\n")))
 
+-- a fault of a netlist's text by its number, its name, its line and the word at fault, as `B21 ClockRead line 5: clk`
+abbrev pub fault_text : (number name line word : List ℕ) → List ℕ
+fault_text number name line word =
+    codes "B" ++ (number ++ (codes " " ++ (name ++ (codes " line " ++ (line ++ (codes ": " ++ (word ++ codes "\n")))))))
+
+abbrev pub netlist_line : Fault → List ℕ
+netlist_line fault = fault_text (decimal (number_of fault.kind)) (name_of fault.kind) (decimal fault.line) fault.word
+
+-- each name after a blank
+abbrev pub spaced : List Name → List ℕ
+spaced names = flat_map (λ name. codes " " ++ name) names
+
+-- a loop, by the names of its nets, as `loop: x y`
+abbrev pub loop_line : List Name → List ℕ
+loop_line names = codes "loop:" ++ (spaced names ++ codes "\n")
+
 -- the one line that tells such a cause
 abbrev pub cause_line : Cause → List ℕ
 cause_line NotYet = codes "not yet\n"
+cause_line (NetlistFault fault) = netlist_line fault
+cause_line (WeightTooLarge weight) = codes "too large: weight " ++ (decimal weight ++ codes " limit 1024\n")
+cause_line (Loop names) = loop_line names
 cause_line (Pattern fault) = fault_line (rle_fault_name fault.kind) fault.line
 cause_line (GridTooLarge width height) = codes "too large: grid " ++ (decimal width ++ (codes " by " ++ (decimal height ++ codes "\n")))
 cause_line (PortTable fault) = fault_line (port_fault_name fault.kind) fault.line
@@ -111,7 +138,14 @@ abbrev pub text_refusal : TextError → Refusal
 text_refusal (text.Refused cause) = Text cause
 text_refusal text.NoMemory = NoMemory
 
--- a text gives no output: it is no pattern's,
+-- a text gives no output: it is no netlist's,
+abbrev pub netlist_error : NetlistError → TextError
+netlist_error (netlist_of.Fault fault) = text.Refused (NetlistFault fault)
+netlist_error (netlist_of.TooLarge weight) = text.Refused (WeightTooLarge weight)
+netlist_error (netlist_of.Loop names) = text.Refused (Loop names)
+netlist_error netlist_of.NoMemory = text.NoMemory
+
+-- no pattern's,
 abbrev pub pattern_error : RleReadError → TextError
 pattern_error (pattern_of.Fault fault) = text.Refused (Pattern fault)
 pattern_error (pattern_of.TooLarge width height) = text.Refused (GridTooLarge width height)

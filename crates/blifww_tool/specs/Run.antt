@@ -5,7 +5,7 @@ use Rattle.std.specs.declared.option.Option.{Option}
 use Rattle.std.specs.Io.KnownBytes.{Consumes, Appends, Keeps, IsAtEnd}
 use Rattle.ww_base.specs.Faults.{Rose}
 use Rattle.command_words.specs.Shapes.{CommandValues, command_values, IsCommand, IsTaken}
-use Rattle.blifww_tool.specs.Commands.{Accepts, Prints, Refuses}
+use Rattle.blifww_tool.specs.Commands.{Accepts, Prints, Refuses, AreAlike}
 use Rattle.blifww_tool.specs.Refusals.{status_of, refusal_line}
 use Rattle.blifww_tool.specs.declared.causes.Cause.{Cause}
 use Rattle.blifww_tool.specs.declared.refusals.Refusal.{Refusal}
@@ -167,6 +167,13 @@ pub record IsCalm (c : Call) (command : CommandValues) (text : List ℕ) : Type 
   pub writes : WriteFailed c.out → ⊥
   pub tells : WriteFailed c.err → ⊥
 
+-- a cause like this one is told, and it is one why the command refuses the text
+pub record TellsLike (c : Call) (status : ℕ) (command : CommandValues) (text : List ℕ) (cause : Cause) : Type 0 where
+  pub told : Cause
+  pub refused : Refuses command text told
+  pub alike : AreAlike told cause
+  pub tells : Tells c.err status (Text told)
+
 -- the refusal is told, but for want of memory
 abbrev pub TellsOr7 : Call → ℕ → Refusal → Type 0
 TellsOr7 c status refusal = Tells c.err status refusal ⊎ (status ≡ 7)
@@ -177,9 +184,9 @@ pub record Ends (c : Call) (status : ℕ) : Type 0 where
   pub refused : status ≢ 0 → status ≢ 6 → IsRefused c status
   pub cut : status ≡ 6 → CutsLine c ⊎ CutsOutput c
   pub front : (given : List ℕ) × Gave c.src given
-  -- and but for failed reads and writes and want of memory: a text that the command accepts is printed, one that it refuses is refused for its cause,
+  -- and but for failed reads and writes and want of memory: a text that the command accepts is printed, one that it refuses is refused for its cause or one like it,
   pub accepted : (command : CommandValues) (text : List ℕ) → IsCalm c command text → length text ≤ text_limit → Accepts command text → (status ≡ 0) ⊎ (status ≡ 7)
-  pub caused : (command : CommandValues) (text : List ℕ) → IsCalm c command text → length text ≤ text_limit → (cause : Cause) → Refuses command text cause → TellsOr7 c status (Text cause)
+  pub caused : (command : CommandValues) (text : List ℕ) → IsCalm c command text → length text ≤ text_limit → (cause : Cause) → Refuses command text cause → TellsLike c status command text cause ⊎ (status ≡ 7)
   -- one that is too long is told so, and words that ask for nothing are
   pub too_long : (command : CommandValues) (text : List ℕ) → IsCalm c command text → text_limit < length text → TellsOr7 c status TooLong
   pub nothing_asked : AsksNothing c.words → TellsOr7 c status Usage ⊎ ((status ≡ 6) × WriteFailed c.err × GainedNothing c.out)

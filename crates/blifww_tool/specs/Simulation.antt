@@ -1,6 +1,5 @@
 -- What a text of a pattern shows under streams of bits, as lines.
-use Rattle.std.specs.Prelude.{◌≡◌, ◌≤◌, ◌<◌, ℕ, Bool, if◌then◌else◌, List, ◌++◌, map, flat_map, codes}
-use Rattle.std.specs.Str.{byte}
+use Rattle.std.specs.Prelude.{◌≡◌, ◌≤◌, ◌<◌, ℕ, List, flat_map}
 use Rattle.ww_rule.specs.Grid.{Grid, plane_of}
 use Rattle.pattern_reading.specs.declared.ports.Ports.{Ports}
 use Rattle.pattern_reading.specs.Ports.{names_of}
@@ -9,6 +8,7 @@ use Rattle.pattern_reading.specs.PortTable.{ReadsAsPorts, HasPortFault}
 use Rattle.drive.specs.declared.streams.Streams.{Streams}
 use Rattle.drive.specs.Streams.{HasStreams, HasStreamFault}
 use Rattle.drive.specs.Driving.{shown_at, last_generation, greatest_generation}
+use Rattle.blifww_tool.specs.Lines.{bits_line}
 use Rattle.blifww_tool.specs.declared.causes.Cause.{Cause}
 use Rattle.blifww_tool.specs.declared.causes.Cause.TheVariants.{Pattern, GridTooLarge, PortTable, Streams as OfStreams, TooFar}
 
@@ -17,14 +17,6 @@ pub record Simulation : Type 0 where
   pub grid : Grid
   pub ports : Ports
   pub streams : Streams
-
--- a bit as a digit
-abbrev pub bit_digit : Bool → ℕ
-bit_digit bit = if bit then byte "1" else byte "0"
-
--- an output's line: its name, and its bits
-abbrev pub bits_line : List ℕ → List Bool → List ℕ
-bits_line name bits = name ++ (codes "=" ++ (map bit_digit bits ++ codes "\n"))
 
 -- the lines of the outputs, in the table's order
 abbrev pub simulation_text : Simulation → List ℕ

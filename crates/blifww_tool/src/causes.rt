@@ -1,7 +1,12 @@
 // Why a text gives no output.
 ghost use Rattle.std.specs.Prelude.{◌≡◌};
 
+use blif_text::Fault;
 use drive::{SimulateError, StreamError, StreamFault};
+use lists::List;
+use netlist_core::Name;
+use netlist_run::RunError;
+use netlist_text::NetlistError;
 use port_table::{PortFault, PortReadError};
 use rle_read::{RleFault, RleReadError};
 use std::alloc::AllocError;
@@ -11,6 +16,12 @@ use std::alloc::AllocError;
 pub enum Cause {
     /// The text is none that is compiled so far.
     NotYet,
+    /// The netlist's text breaks a rule.
+    NetlistFault(Fault),
+    /// The netlist weighs more than the limit.
+    WeightTooLarge { weight: u64 },
+    /// Covers read each other in a circle, whose nets have these names.
+    Loop(List<Name>),
     /// The text is no pattern's.
     Pattern(RleFault),
     /// The pattern's box has more cells than are read.
@@ -31,7 +42,9 @@ impl Cause {
         ensures { result ≡ status_of_cause self.now }
     {
         match self {
-            Cause::GridTooLarge { .. } | Cause::TooFar { .. } => 4,
+            Cause::NetlistFault(_) => 1,
+            Cause::Loop(_) => 3,
+            Cause::WeightTooLarge { .. } | Cause::GridTooLarge { .. } | Cause::TooFar { .. } => 4,
             Cause::Pattern(_) | Cause::PortTable(_) => 8,
             Cause::Streams(_) => 9,
             Cause::NotYet => 11,
@@ -44,6 +57,35 @@ impl Cause {
 pub enum TextError {
     Refused(Cause),
     NoMemory,
+}
+
+impl From<NetlistError> for TextError {
+    ghost use Rattle.blifww_tool.specs.Refusals.{netlist_error};
+
+    ghost from_gives = { λ e r. r ≡ netlist_error e };
+
+    fn from(error: NetlistError) -> Self {
+        match error {
+            NetlistError::Fault(fault) => TextError::Refused(Cause::NetlistFault(fault)),
+            NetlistError::TooLarge { weight } => {
+                TextError::Refused(Cause::WeightTooLarge { weight })
+            }
+            NetlistError::Loop(names) => TextError::Refused(Cause::Loop(names)),
+            NetlistError::NoMemory => TextError::NoMemory,
+        }
+    }
+}
+
+impl From<RunError> for TextError {
+    ghost use Rattle.blifww_tool.specs.declared.causes.TextError.TheVariants.{NoMemory};
+
+    ghost from_gives = { λ _ r. r ≡ NoMemory };
+
+    fn from(error: RunError) -> Self {
+        match error {
+            RunError::NoMemory => TextError::NoMemory,
+        }
+    }
 }
 
 impl From<RleReadError> for TextError {

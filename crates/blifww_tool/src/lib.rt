@@ -1,12 +1,15 @@
-//! The top call of the program: `compile`, for the text of one OR gate, and `simulate`, for the text of a pattern.
+//! The top call of the program: `compile`, for the text of one OR gate, `simulate`, for the text of a pattern, and `eval`, for that of a
+//! netlist.
 #![tactic(auto)]
 
 pub mod calm;
 mod causes;
 mod compile;
 mod drawing;
+mod eval;
 mod joined;
 pub mod laws;
+mod lines;
 mod output;
 mod refusals;
 mod simulate;
@@ -16,5 +19,7 @@ mod top;
 
 pub use top::run;
 
+#[cfg(test)]
+mod eval_tests;
 #[cfg(test)]
 mod tests;

@@ -16,16 +16,16 @@ const PATTERN: &[u8] =
 
 const USAGE: &[u8] = b"usage: blifww compile|simulate|eval|probe|window|make|self\n";
 
-// The status, and what `out` and `err` hold.
+/// The status, and what `out` and `err` hold.
 #[derive(Drop)]
-struct Outcome {
-    status: u8,
-    out: Vec<u8>,
-    err: Vec<u8>,
+pub struct Outcome {
+    pub status: u8,
+    pub out: Vec<u8>,
+    pub err: Vec<u8>,
 }
 
-// A run over a source in memory, by its chunk and the calls that fail, and sinks with some room.
-fn run_over(
+/// A run over a source in memory, by its chunk and the calls that fail, and sinks with some room.
+pub fn run_over(
     alloc: Global,
     words: &[&str],
     text: &[u8],

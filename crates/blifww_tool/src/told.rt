@@ -3,12 +3,14 @@ ghost use Rattle.std.specs.Prelude.{◌≡◌, ℕ, take, OnOk, OnErr};
 ghost use Rattle.std.specs.Io.KnownBytes.{Appends};
 ghost use Rattle.ww_base.specs.Faults.{HasCause};
 ghost use Rattle.blifww_tool.specs.Joined.{joined_pieces};
-ghost use Rattle.blifww_tool.specs.Refusals.{rle_fault_name, port_fault_name, stream_fault_name, fault_line, stream_line, cause_line, refusal_line};
+ghost use Rattle.blifww_tool.specs.Refusals.{rle_fault_name, port_fault_name, stream_fault_name, fault_line, stream_line, fault_text, netlist_line, spaced, loop_line, cause_line, refusal_line};
 
 use crate::causes::Cause;
 use crate::refusals::Refusal;
+use blif_text::Fault;
 use drive::StreamFaultKind;
 use itoa::Buffer;
+use lists::Bytes;
 use pattern_reading::{PortFaultKind, RleFaultKind};
 use ww_base::{Failed, Sink, write_all};
 
@@ -114,6 +116,74 @@ fn tell_streams<'a, E: Sink>(err: &mut E, name: &'a [u8], word: &'a [u8]) -> Res
     write_pieces(err, &[b"stream: ", name, b" ", word, b"\n"])
 }
 
+// Writes a fault of a netlist's text, by its parts.
+fn write_fault<'a, E: Sink>(
+    err: &mut E,
+    number: &'a [u8],
+    name: &'a [u8],
+    line: &'a [u8],
+    word: &'a [u8],
+) -> Result<(), Failed>
+    ensures ok { OnOk result (Appends (E.written err.old) (E.written err.new) (fault_text number.now name.now line.now word.now)) }
+    ensures front { OnErr result ((n : ℕ) × Appends (E.written err.old) (E.written err.new) (take n (fault_text number.now name.now line.now word.now))) }
+    ensures cause { HasCause (E.faults err.old) (E.faults err.new) result }
+{
+    write_pieces(
+        err,
+        &[
+            b"B", number, b" ", name, b" line ", line, b": ", word, b"\n",
+        ],
+    )
+}
+
+// Tells a fault of a netlist's text.
+fn tell_netlist_fault<E: Sink>(err: &mut E, fault: &Fault) -> Result<(), Failed>
+    ensures ok { OnOk result (Appends (E.written err.old) (E.written err.new) (netlist_line fault.now)) }
+    ensures front { OnErr result ((n : ℕ) × Appends (E.written err.old) (E.written err.new) (take n (netlist_line fault.now))) }
+    ensures cause { HasCause (E.faults err.old) (E.faults err.new) result }
+{
+    let mut digits = Buffer::new();
+    let mut lines = Buffer::new();
+    let number = digits.format(fault.kind.number()).as_bytes();
+    let line = lines.format(fault.line).as_bytes();
+    let name = fault.kind.name().as_bytes();
+    write_fault(err, number, name, line, fault.word.as_slice())
+}
+
+// Tells that a netlist weighs too much.
+fn tell_weight<E: Sink>(err: &mut E, weight: u64) -> Result<(), Failed>
+    ensures ok { OnOk result (Appends (E.written err.old) (E.written err.new) (cause_line (Cause.WeightTooLarge weight))) }
+    ensures front { OnErr result ((n : ℕ) × Appends (E.written err.old) (E.written err.new) (take n (cause_line (Cause.WeightTooLarge weight)))) }
+    ensures cause { HasCause (E.faults err.old) (E.faults err.new) result }
+{
+    let mut digits = Buffer::new();
+    let count = digits.format(weight).as_bytes();
+    write_pieces(err, &[b"too large: weight ", count, b" limit 1024\n"])
+}
+
+// Writes each name after a blank.
+fn write_spaced<E: Sink>(err: &mut E, names: &[Bytes]) -> Result<(), Failed>
+    ensures ok { OnOk result (Appends (E.written err.old) (E.written err.new) (spaced names.now)) }
+    ensures front { OnErr result ((n : ℕ) × Appends (E.written err.old) (E.written err.new) (take n (spaced names.now))) }
+    ensures cause { HasCause (E.faults err.old) (E.faults err.new) result }
+{
+    for name in names {
+        write_pieces(err, &[b" ", name.as_slice()])?;
+    }
+    Ok(())
+}
+
+// Tells a loop by the names of its nets.
+fn tell_loop<E: Sink>(err: &mut E, names: &[Bytes]) -> Result<(), Failed>
+    ensures ok { OnOk result (Appends (E.written err.old) (E.written err.new) (loop_line names.now)) }
+    ensures front { OnErr result ((n : ℕ) × Appends (E.written err.old) (E.written err.new) (take n (loop_line names.now))) }
+    ensures cause { HasCause (E.faults err.old) (E.faults err.new) result }
+{
+    write_all(err, b"loop:")?;
+    write_spaced(err, names)?;
+    write_all(err, b"\n")
+}
+
 impl Cause {
     // Writes the one line that tells the cause, or a front of it where a write fails.
     fn tell<E: Sink>(&self, err: &mut E) -> Result<(), Failed>
@@ -123,6 +193,9 @@ impl Cause {
     {
         match self {
             Cause::NotYet => write_all(err, b"not yet\n"),
+            Cause::NetlistFault(fault) => tell_netlist_fault(err, fault),
+            Cause::WeightTooLarge { weight } => tell_weight(err, *weight),
+            Cause::Loop(names) => tell_loop(err, names.as_slice()),
             Cause::Pattern(fault) => tell_fault(err, rle_fault_name(fault.kind), fault.line),
             Cause::GridTooLarge { width, height } => tell_grid(err, *width, *height),
             Cause::PortTable(fault) => tell_fault(err, port_fault_name(fault.kind), fault.line),

@@ -8,6 +8,7 @@ ghost use Rattle.blifww_tool.specs.Run.{Asks, AsksNothing, reading, writing, cal
 
 use crate::causes::TextError;
 use crate::compile::compile;
+use crate::eval::eval;
 use crate::output::Output;
 use crate::refusals::Refusal;
 use crate::simulate::simulate;
@@ -29,6 +30,7 @@ fn answer(alloc: Global, command: &Command, text: &[u8]) -> Result<Output, TextE
     match command {
         Command::Compile => compile(alloc, text),
         Command::Simulate { cycles, streams } => simulate(alloc, *cycles, streams.as_slice(), text),
+        Command::Eval { cycles, streams } => eval(alloc, *cycles, streams.as_slice(), text),
     }
 }
 

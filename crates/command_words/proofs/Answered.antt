@@ -5,8 +5,8 @@ use Rattle.clap.specs.Lexer.{usize_max}
 use Rattle.clap.specs.Walk.{Text}
 use Rattle.command_words.specs.Shapes.{CommandValues, IsCommand, IsWritten, command_values, values_of}
 use Rattle.command_words.specs.declared.command.Command.{Command}
-use Rattle.command_words.specs.declared.errors.WordsError.{WordsError}
-use Rattle.command_words.specs.declared.errors.WordsError.TheVariants.{NoMemory, Usage}
+use Rattle.command_words.specs.declared.error.WordsError.{WordsError}
+use Rattle.command_words.specs.declared.error.WordsError.TheVariants.{NoMemory, Usage}
 use Rattle.command_words.proofs.Written.{written_is_command, written_values}
 
 pub answered : (r : Result Command WordsError) (words : List Text) (v : CommandValues) → IfOk r (λ c. command_values words ≡ Some (values_of c)) → (IsErrOf r Usage → IsCommand words → ⊥)

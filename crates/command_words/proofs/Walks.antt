@@ -158,40 +158,55 @@ end_after n (v ∷ vs) short =
 
 -- ---- the program's own level
 
-abbrev met_simulate : List Text → Walk
-met_simulate words = record { held = nothing_held; waiting = idle; position = 1; is_trailing = false; stopped = Some (codes "simulate", words) }
+abbrev met_named : Text → List Text → Walk
+met_named command words = record { held = nothing_held; waiting = idle; position = 1; is_trailing = false; stopped = Some (command, words) }
 
-passed_on : (names : Names) (ws vs : List Text) → fold (walked (built blifww_app).top.rules names) (met_simulate ws) vs ≡ met_simulate (ws ++ vs)
+passed_on : (command : Text) (names : Names) (ws vs : List Text) → fold (walked (built blifww_app).top.rules names) (met_named command ws) vs ≡ met_named command (ws ++ vs)
 unfolding walked
-passed_on names ws [] = ap met_simulate (search rules)
-passed_on names ws (v ∷ vs) = passed_on names (ws ++ v ∷ []) vs ∙ ap met_simulate (append_assoc ws (v ∷ []) vs)
+passed_on command names ws [] = ap (met_named command) (search rules)
+passed_on command names ws (v ∷ vs) = passed_on command names (ws ++ v ∷ []) vs ∙ ap (met_named command) (append_assoc ws (v ∷ []) vs)
 
-passed_pass : (names : Names) (ws vs : List Text) → walk_passes (built blifww_app).top names (met_simulate ws) vs ≡ true
+passed_pass : (command : Text) (names : Names) (ws vs : List Text) → walk_passes (built blifww_app).top names (met_named command ws) vs ≡ true
 unfolding walk_passes walked
-passed_pass names ws [] = refl
-passed_pass names ws (v ∷ vs) = passed_pass names (ws ++ v ∷ []) vs
+passed_pass command names ws [] = refl
+passed_pass command names ws (v ∷ vs) = passed_pass command names (ws ++ v ∷ []) vs
 
 and_true : (b : Bool) → (b && true) ≡ b
 and_true true = refl
 and_true false = refl
 
--- after its name, the words of `simulate` are its own
+-- after its name, the words of `simulate` are its own, and so are those of `eval`
 pub simulate_takes : (name : Text) (rest : List Text) → takes blifww_app (name ∷ codes "simulate" ∷ rest) ≡ level_passes shape [] nothing_held rest false
 unfolding clap_on_literals
 simulate_takes name rest =
     let names = names_of (built blifww_app) in
-    let walks : fold (walked (built blifww_app).top.rules names) (met_simulate []) rest ≡ met_simulate rest = passed_on names [] rest in
-    let passes : walk_passes (built blifww_app).top names (met_simulate []) rest ≡ true = passed_pass names [] rest in
+    let walks : fold (walked (built blifww_app).top.rules names) (met_named (codes "simulate") []) rest ≡ met_named (codes "simulate") rest = passed_on (codes "simulate") names [] rest in
+    let passes : walk_passes (built blifww_app).top names (met_named (codes "simulate") []) rest ≡ true = passed_pass (codes "simulate") names [] rest in
     rw (walks) (rw (passes) (and_true _))
 
 pub simulate_entered : (name : Text) (rest : List Text) → subcommand_of blifww_app (name ∷ codes "simulate" ∷ rest) ≡ Some (codes "simulate", rows_after shape.rules [] rest)
 unfolding clap_on_literals
 simulate_entered name rest =
     let names = names_of (built blifww_app) in
-    let walks : fold (walked (built blifww_app).top.rules names) (met_simulate []) rest ≡ met_simulate rest = passed_on names [] rest in
+    let walks : fold (walked (built blifww_app).top.rules names) (met_named (codes "simulate") []) rest ≡ met_named (codes "simulate") rest = passed_on (codes "simulate") names [] rest in
     ap (λ (w : Walk). entered (built blifww_app) w.stopped) walks
 
--- ---- the words of `simulate`, whose option comes first and whose last words begin with no hyphen
+pub eval_takes : (name : Text) (rest : List Text) → takes blifww_app (name ∷ codes "eval" ∷ rest) ≡ level_passes shape [] nothing_held rest false
+unfolding clap_on_literals
+eval_takes name rest =
+    let names = names_of (built blifww_app) in
+    let walks : fold (walked (built blifww_app).top.rules names) (met_named (codes "eval") []) rest ≡ met_named (codes "eval") rest = passed_on (codes "eval") names [] rest in
+    let passes : walk_passes (built blifww_app).top names (met_named (codes "eval") []) rest ≡ true = passed_pass (codes "eval") names [] rest in
+    rw (walks) (rw (passes) (and_true _))
+
+pub eval_entered : (name : Text) (rest : List Text) → subcommand_of blifww_app (name ∷ codes "eval" ∷ rest) ≡ Some (codes "eval", rows_after shape.rules [] rest)
+unfolding clap_on_literals
+eval_entered name rest =
+    let names = names_of (built blifww_app) in
+    let walks : fold (walked (built blifww_app).top.rules names) (met_named (codes "eval") []) rest ≡ met_named (codes "eval") rest = passed_on (codes "eval") names [] rest in
+    ap (λ (w : Walk). entered (built blifww_app) w.stopped) walks
+
+-- ---- the words of `simulate` and `eval`, whose option comes first and whose last words begin with no hyphen
 
 abbrev pub rows_for : Text → List Text → List Row
 rows_for n [] = cycles_row n ∷ []
@@ -202,18 +217,21 @@ unfolding clap_on_literals
 finished_after n [] = refl
 finished_after n (v ∷ vs) = refl
 
-module _ (n : Text) (vs : List Text) (number : HasNoHyphen n) (all : AllByRecursion HasNoHyphen vs) where
-  pub words_taken : (name : Text) → length vs ≤ usize_max → takes blifww_app (name ∷ codes "simulate" ∷ codes "--cycles" ∷ n ∷ vs) ≡ true
-  words_taken name short =
-      simulate_takes name (codes "--cycles" ∷ n ∷ vs)
+-- words that a command takes on its own level are taken, and have their rows
+module _ (command n : Text) (vs : List Text) (number : HasNoHyphen n) (all : AllByRecursion HasNoHyphen vs) where
+  pub words_taken : (name : Text) → takes blifww_app (name ∷ command ∷ codes "--cycles" ∷ n ∷ vs) ≡ level_passes shape [] nothing_held (codes "--cycles" ∷ n ∷ vs) false
+      → length vs ≤ usize_max → takes blifww_app (name ∷ command ∷ codes "--cycles" ∷ n ∷ vs) ≡ true
+  words_taken name own short =
+      own
       ∙ ap₂ (λ (t : Bool) (w : Walk). t && end_passes w) (all_pass n vs number all) (all_walked n vs number all)
       ∙ end_after n vs short
 
-  pub words_entered : (name : Text) → subcommand_of blifww_app (name ∷ codes "simulate" ∷ codes "--cycles" ∷ n ∷ vs) ≡ Some (codes "simulate", rows_for n vs)
-  words_entered name =
-      simulate_entered name (codes "--cycles" ∷ n ∷ vs)
-      ∙ ap (λ (w : Walk). Some (codes "simulate", finished shape.rules w.held)) (all_walked n vs number all)
-      ∙ ap (λ (rows : List Row). Some (codes "simulate", rows)) (finished_after n vs)
+  pub words_entered : (name : Text) → subcommand_of blifww_app (name ∷ command ∷ codes "--cycles" ∷ n ∷ vs) ≡ Some (command, rows_after shape.rules [] (codes "--cycles" ∷ n ∷ vs))
+      → subcommand_of blifww_app (name ∷ command ∷ codes "--cycles" ∷ n ∷ vs) ≡ Some (command, rows_for n vs)
+  words_entered name own =
+      own
+      ∙ ap (λ (w : Walk). Some (command, finished shape.rules w.held)) (all_walked n vs number all)
+      ∙ ap (λ (rows : List Row). Some (command, rows)) (finished_after n vs)
 
 pub compile_entered : (name : Text) → subcommand_of blifww_app (name ∷ codes "compile" ∷ []) ≡ Some (codes "compile", [])
 unfolding clap_on_literals

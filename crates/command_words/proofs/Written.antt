@@ -5,12 +5,13 @@ use Rattle.std.specs.List.{list_all, AllByRecursion}
 use Rattle.std.specs.Str.Parse.{digits_value}
 use Rattle.std.proofs.lemmas.Bool.{and_parts, leb-true}
 use Rattle.clap.specs.Lexer.{usize_max}
-use Rattle.clap.specs.Takes.{takes}
-use Rattle.clap.specs.Walk.{Row, Text, first_of}
+use Rattle.clap.specs.Takes.{takes, level_passes}
+use Rattle.clap.specs.Walk.{Row, Text, first_of, rows_after, nothing_held}
+use Rattle.clap.specs.Simple.{subcommand_of}
 use Rattle.command_words.specs.App.{blifww_app}
 use Rattle.command_words.specs.Numbers.{are_digits, number_between}
-use Rattle.command_words.specs.Shapes.{CommandValues, compile, simulate, simulate_by, values_met, command_values, cycle_count, cycles_of, is_plain_word, IsCommand, IsWritten}
-use Rattle.command_words.proofs.Walks.{HasNoHyphen, compile_entered, compile_taken, rows_for, words_entered, words_taken}
+use Rattle.command_words.specs.Shapes.{CommandValues, compile, simulate, eval, driven_by, values_met, command_values, cycle_count, cycles_of, is_plain_word, IsDriven, IsCommand, IsWritten}
+use Rattle.command_words.proofs.Walks.{HasNoHyphen, compile_entered, compile_taken, rows_for, shape, simulate_takes, simulate_entered, eval_takes, eval_entered, words_entered, words_taken}
 
 not_hyphen : (b : ℕ) (bs : Text) → (b == 45) ≡ false → HasNoHyphen (b ∷ bs)
 not_hyphen b bs e = rw (e) refl
@@ -41,42 +42,59 @@ if_taken false x y e = cc
 number_plain : (least most : ℕ) (text : Text) (n : ℕ) → number_between least most text ≡ Some n → HasNoHyphen text
 number_plain least most text n e = digits_plain text (and_parts (are_digits text) _ (if_taken _ (digits_value 10 text) n e)).0
 
-values_of_rows : (number : Text) (cycles : ℕ) (streams : List Text) → cycle_count number ≡ Some cycles → simulate_by (rows_for number streams) ≡ Some (simulate cycles streams)
-values_of_rows number cycles [] e = ap (option_map (λ n. simulate n [])) e
-values_of_rows number cycles (v ∷ vs) e = ap (option_map (λ n. simulate n (v ∷ vs))) e
+values_of_rows : (command : ℕ → List Text → CommandValues) (number : Text) (cycles : ℕ) (streams : List Text) → cycle_count number ≡ Some cycles → driven_by command (rows_for number streams) ≡ Some (command cycles streams)
+values_of_rows command number cycles [] e = ap (option_map (λ n. command n [])) e
+values_of_rows command number cycles (v ∷ vs) e = ap (option_map (λ n. command n (v ∷ vs))) e
+
+-- what clap meets in such words
+entered_by : (command : Text) (cycles : ℕ) (streams words : List Text) → (w : IsDriven command cycles streams words)
+    → ((name : Text) (rest : List Text) → subcommand_of blifww_app (name ∷ command ∷ rest) ≡ Some (command, rows_after shape.rules [] rest))
+    → subcommand_of blifww_app words ≡ Some (command, rows_for w.1 streams)
+entered_by command cycles streams words w own =
+    let number = w.1 in
+    ap (subcommand_of blifww_app) w.2
+    ∙ words_entered command number streams (number_plain 1 1048576 number cycles w.3) (plain_words streams w.4) w.0 (own w.0 (codes "--cycles" ∷ number ∷ streams))
 
 pub written_values : (v : CommandValues) (words : List Text) → IsWritten v words → command_values words ≡ Some v
 written_values compile words w = ap command_values w.1 ∙ ap values_met (compile_entered w.0)
 written_values (simulate cycles streams) words w =
-    let number = w.1 in
-    ap command_values w.2
-    ∙ ap values_met (words_entered number streams (number_plain 1 1048576 number cycles w.3) (plain_words streams w.4) w.0)
-    ∙ values_of_rows number cycles streams w.3
+    ap values_met (entered_by (codes "simulate") cycles streams words w simulate_entered) ∙ values_of_rows simulate w.1 cycles streams w.3
+written_values (eval cycles streams) words w =
+    ap values_met (entered_by (codes "eval") cycles streams words w eval_entered) ∙ values_of_rows eval w.1 cycles streams w.3
 
-pub written_taken : (v : CommandValues) (words : List Text) → length words ≤ usize_max → IsWritten v words → takes blifww_app words ≡ true
-written_taken compile words short w = ap (takes blifww_app) w.1 ∙ compile_taken w.0
-written_taken (simulate cycles streams) words short w =
+taken_by : (command : Text) (cycles : ℕ) (streams words : List Text) → length words ≤ usize_max → IsDriven command cycles streams words
+    → ((name : Text) (rest : List Text) → takes blifww_app (name ∷ command ∷ rest) ≡ level_passes shape [] nothing_held rest false)
+    → takes blifww_app words ≡ true
+taken_by command cycles streams words short w own =
     let number = w.1 in
     let long : length words ≡ suc (suc (suc (suc (length streams)))) = ap (λ (l : List Text). length l) w.2 in
     ap (takes blifww_app) w.2
-    ∙ words_taken number streams (number_plain 1 1048576 number cycles w.3) (plain_words streams w.4) w.0 (omega (arith, long, short))
+    ∙ words_taken command number streams (number_plain 1 1048576 number cycles w.3) (plain_words streams w.4) w.0 (own w.0 (codes "--cycles" ∷ number ∷ streams)) (omega (arith, long, short))
+
+pub written_taken : (v : CommandValues) (words : List Text) → length words ≤ usize_max → IsWritten v words → takes blifww_app words ≡ true
+written_taken compile words short w = ap (takes blifww_app) w.1 ∙ compile_taken w.0
+written_taken (simulate cycles streams) words short w = taken_by (codes "simulate") cycles streams words short w simulate_takes
+written_taken (eval cycles streams) words short w = taken_by (codes "eval") cycles streams words short w eval_takes
 
 abbrev IsInRange : Option Text → Type 0
 IsInRange o = IfSome o (λ number. is_some (cycle_count number) ≡ true)
+
+first_number : (n : Text) (vs : List Text) → first_of (codes "cycles") (rows_for n vs) ≡ Some n
+first_number n [] = refl
+first_number n (v ∷ vs) = refl
+
+in_range_by : (command : Text) (cycles : ℕ) (streams words : List Text) → (w : IsDriven command cycles streams words)
+    → subcommand_of blifww_app words ≡ Some (command, rows_for w.1 streams) → IsInRange (cycles_of words)
+in_range_by command cycles streams words w met =
+    let some : cycles_of words ≡ Some w.1 = ap (option_and_then (λ (m : Text × List Row). first_of (codes "cycles") m.1)) met ∙ first_number w.1 streams in
+    subst IsInRange (sym some) (ap (λ (o : Option ℕ). is_some o) w.3)
 
 written_in_range : (v : CommandValues) (words : List Text) → IsWritten v words → IsInRange (cycles_of words)
 written_in_range compile words w =
     let none : cycles_of words ≡ None = ap cycles_of w.1 ∙ ap (option_and_then (λ (m : Text × List Row). first_of (codes "cycles") m.1)) (compile_entered w.0) in
     subst IsInRange (sym none) tt
-written_in_range (simulate cycles streams) words w =
-    let number = w.1 in
-    let met = words_entered number streams (number_plain 1 1048576 number cycles w.3) (plain_words streams w.4) w.0 in
-    let some : cycles_of words ≡ Some number = ap cycles_of w.2 ∙ ap (option_and_then (λ (m : Text × List Row). first_of (codes "cycles") m.1)) met ∙ first_number number streams in
-    subst IsInRange (sym some) (ap (λ (o : Option ℕ). is_some o) w.3)
-  where
-    first_number : (n : Text) (vs : List Text) → first_of (codes "cycles") (rows_for n vs) ≡ Some n
-    first_number n [] = refl
-    first_number n (v ∷ vs) = refl
+written_in_range (simulate cycles streams) words w = in_range_by (codes "simulate") cycles streams words w (entered_by (codes "simulate") cycles streams words w simulate_entered)
+written_in_range (eval cycles streams) words w = in_range_by (codes "eval") cycles streams words w (entered_by (codes "eval") cycles streams words w eval_entered)
 
 -- each list of words in the plainest form of a command is a command
 pub written_is_command : (v : CommandValues) (words : List Text) → length words ≤ usize_max → IsWritten v words → IsCommand words

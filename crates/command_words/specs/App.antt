@@ -1,5 +1,5 @@
 -- The command line as clap sees it: one required subcommand, each with its options of one value, and its last words.
-use Rattle.std.specs.Prelude.{Some, codes, true}
+use Rattle.std.specs.Prelude.{ℕ, List, Some, codes, true}
 use Rattle.clap.specs.Walk.{Rule}
 use Rattle.clap.specs.Simple.{App, new_app, new_rule, with_rule, with_subcommand}
 use Rattle.clap.specs.Lexer.{usize_max}
@@ -16,8 +16,9 @@ stream_words = record (new_rule (codes "streams")) { range = Some record { start
 abbrev pub compile_app : App
 compile_app = new_app (codes "compile")
 
-abbrev pub simulate_app : App
-simulate_app = with_rule (with_rule (new_app (codes "simulate")) cycles_option) stream_words
+-- a command of this name with a number of cycles and words
+abbrev pub driven_app : List ℕ → App
+driven_app name = with_rule (with_rule (new_app name) cycles_option) stream_words
 
 -- the program, which has neither a help nor a version of clap's own
 abbrev pub bare_app : App
@@ -31,4 +32,6 @@ bare_app = let a = new_app (codes "blifww") in record a {
 }
 
 abbrev pub blifww_app : App
-blifww_app = with_subcommand (with_subcommand bare_app compile_app.top) simulate_app.top
+blifww_app =
+    with_subcommand (with_subcommand (with_subcommand bare_app compile_app.top) (driven_app (codes "simulate")).top)
+    (driven_app (codes "eval")).top

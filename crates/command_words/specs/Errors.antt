@@ -3,8 +3,8 @@ use Rattle.clap.specs.Values.{kind_of}
 use Rattle.clap.specs.declared.error.Error.{Error}
 use Rattle.clap.specs.declared.error.kind.ErrorKind.{ErrorKind}
 use Rattle.clap.specs.declared.error.kind.ErrorKind.TheVariants.{OutOfMemory}
-use Rattle.command_words.specs.declared.errors.WordsError.{WordsError}
-use Rattle.command_words.specs.declared.errors.WordsError.TheVariants.{Usage, NoMemory}
+use Rattle.command_words.specs.declared.error.WordsError.{WordsError}
+use Rattle.command_words.specs.declared.error.WordsError.TheVariants.{Usage, NoMemory}
 
 abbrev pub error_of_kind : ErrorKind → WordsError
 error_of_kind OutOfMemory = NoMemory

@@ -9,38 +9,43 @@ use Rattle.clap.specs.Faults.{fault_of}
 use Rattle.command_words.specs.App.{blifww_app}
 use Rattle.command_words.specs.Numbers.{number_between}
 use Rattle.command_words.specs.declared.command.Command.{Command}
-use Rattle.command_words.specs.declared.command.Command.TheVariants.{Compile, Simulate}
+use Rattle.command_words.specs.declared.command.Command.TheVariants.{Compile, Simulate, Eval}
 
--- a command with its values: for `simulate` the number of cycles, and its last words
+-- a command with its values: for `simulate` and `eval` the number of cycles, and the last words
 pub data CommandValues : Type 0 where
   compile : CommandValues
   simulate : ℕ → List Text → CommandValues
+  eval : ℕ → List Text → CommandValues
 
 abbrev pub values_of : Command → CommandValues
 values_of Compile = compile
 values_of (Simulate cycles streams) = simulate cycles (map string_bytes streams)
+values_of (Eval cycles streams) = eval cycles (map string_bytes streams)
 
--- a simulation has from 1 to 1,048,576 cycles
+-- such a command has from 1 to 1,048,576 cycles
 abbrev pub HasCyclesInRange : CommandValues → Type 0
 HasCyclesInRange compile = Unit {0}
 HasCyclesInRange (simulate cycles streams) = (1 ≤ cycles) × (cycles ≤ 1048576)
+HasCyclesInRange (eval cycles streams) = (1 ≤ cycles) × (cycles ≤ 1048576)
 
 -- the number of cycles that a text writes, from 1 to 1,048,576
 abbrev pub cycle_count : Text → Option ℕ
 cycle_count = number_between 1 1048576
 
-abbrev pub simulate_values : Option Text → List Text → Option CommandValues
-simulate_values number streams = option_map (λ cycles. simulate cycles streams) (option_and_then (cycle_count) number)
+-- the values of a command that is driven by streams, by the text of its number and its words
+abbrev pub driven_values : (ℕ → List Text → CommandValues) → Option Text → List Text → Option CommandValues
+driven_values command number streams = option_map (λ cycles. command cycles streams) (option_and_then (cycle_count) number)
 
--- the values of `simulate` by the matches of its option and its words
-abbrev pub simulate_by : List Row → Option CommandValues
-simulate_by rows = simulate_values (first_of (codes "cycles") rows) (unwrap_or (all_of (codes "streams") rows) [])
+-- and by the matches of its option and its words
+abbrev pub driven_by : (ℕ → List Text → CommandValues) → List Row → Option CommandValues
+driven_by command rows = driven_values command (first_of (codes "cycles") rows) (unwrap_or (all_of (codes "streams") rows) [])
 
 -- the values that a command of this name has by the matches of its options and words
 abbrev pub values_by_name : Text → List Row → Option CommandValues
 values_by_name name rows =
     if bytes_eq name (codes "compile") then Some compile
-    else if bytes_eq name (codes "simulate") then simulate_by rows
+    else if bytes_eq name (codes "simulate") then driven_by simulate rows
+    else if bytes_eq name (codes "eval") then driven_by eval rows
     else None
 
 abbrev pub values_met : Option (Text × List Row) → Option CommandValues
@@ -68,10 +73,16 @@ abbrev pub is_plain_word : Text → Bool
 is_plain_word [] = false
 is_plain_word (b ∷ bs) = not (b == 45)
 
+-- the words are this command with its number of cycles, written in digits, and then any words that are neither empty nor begin with
+-- a hyphen
+abbrev pub IsDriven : Text → ℕ → List Text → List Text → Type 0
+IsDriven command cycles streams words =
+    (program : Text) × (number : Text) × (words ≡ program ∷ command ∷ codes "--cycles" ∷ number ∷ streams)
+    × (cycle_count number ≡ Some cycles) × (list_all is_plain_word streams ≡ true)
+
 -- The plainest form of a command with these values: the program's name, the command's, its option as two words with the number
--- in digits and in its range, and then any words that are neither empty nor begin with a hyphen.
+-- in digits and in its range, and then its words.
 abbrev pub IsWritten : CommandValues → List Text → Type 0
 IsWritten compile words = (program : Text) × (words ≡ program ∷ codes "compile" ∷ [])
-IsWritten (simulate cycles streams) words =
-    (program : Text) × (number : Text) × (words ≡ program ∷ codes "simulate" ∷ codes "--cycles" ∷ number ∷ streams)
-    × (cycle_count number ≡ Some cycles) × (list_all is_plain_word streams ≡ true)
+IsWritten (simulate cycles streams) words = IsDriven (codes "simulate") cycles streams words
+IsWritten (eval cycles streams) words = IsDriven (codes "eval") cycles streams words

@@ -2,14 +2,14 @@
 ghost use Rattle.std.specs.Prelude.{◌≡◌, IfOk, false};
 ghost use Rattle.clap.specs.Words.{app_of};
 ghost use Rattle.clap.specs.declared.builder.command.Command.TheViews.{out-Command as fields_of};
-ghost use Rattle.command_words.specs.App.{blifww_app, simulate_app};
+ghost use Rattle.command_words.specs.App.{blifww_app, driven_app};
 
 use clap::{Arg, ArgAction, Command};
 use std::alloc::{AllocError, Global};
 
-// `simulate --cycles N`, and any words.
-fn simulate_command<'a>(alloc: Global) -> Result<Command<'a>, AllocError>
-    ensures app { IfOk result (λ c. app_of c ≡ simulate_app) }
+// A command of this name with `--cycles N`, and any words.
+fn driven_command<'a>(alloc: Global, name: &'static str) -> Result<Command<'a>, AllocError>
+    ensures app { IfOk result (λ c. app_of c ≡ driven_app name.now) }
     ensures plain { IfOk result (λ c. (fields_of c).has_globals ≡ false) }
 {
     let cycles = Arg::new(alloc, "cycles")
@@ -19,7 +19,7 @@ fn simulate_command<'a>(alloc: Global) -> Result<Command<'a>, AllocError>
     let streams = Arg::new(alloc, "streams")
         .num_args(0..)
         .action(ArgAction::Append);
-    Command::new(alloc, "simulate").arg(cycles)?.arg(streams)
+    Command::new(alloc, name).arg(cycles)?.arg(streams)
 }
 
 /// The program's command line, with one subcommand for each command.
@@ -27,12 +27,14 @@ pub fn blifww_command<'a>(alloc: Global) -> Result<Command<'a>, AllocError>
     ensures { IfOk result (λ c. app_of c ≡ blifww_app) }
 {
     let compile = Command::new(alloc, "compile");
-    let simulate = simulate_command(alloc)?;
+    let simulate = driven_command(alloc, "simulate")?;
+    let eval = driven_command(alloc, "eval")?;
     Command::new(alloc, "blifww")
         .subcommand_required(true)
         .disable_help_flag(true)
         .disable_help_subcommand(true)
         .disable_version_flag(true)
         .subcommand(compile)?
-        .subcommand(simulate)
+        .subcommand(simulate)?
+        .subcommand(eval)
 }

@@ -4,7 +4,8 @@ ghost use Rattle.clap.specs.Simple.{subcommand_rows_of};
 ghost use Rattle.clap.specs.Lexer.{usize_max};
 ghost use Rattle.clap.specs.Walk.{rows_of};
 ghost use Rattle.clap.specs.Words.{found_of};
-ghost use Rattle.command_words.specs.Shapes.{CommandValues, HasCyclesInRange, IsCommand, IsTaken, IsWritten, command_values, simulate_by, values_met, values_of};
+ghost use Rattle.command_words.specs.Driven.{values_by};
+ghost use Rattle.command_words.specs.Shapes.{CommandValues, HasCyclesInRange, IsCommand, IsTaken, IsWritten, command_values, driven_by, values_met, values_of};
 
 use crate::WordsError;
 use crate::app::blifww_command;
@@ -25,6 +26,29 @@ pub enum Command {
         cycles: usize,
         streams: List<String>,
     },
+    Eval {
+        cycles: usize,
+        streams: List<String>,
+    },
+}
+
+// A command that is driven by streams.
+#[derive(Clone, Copy)]
+enum Driven {
+    Simulate,
+    Eval,
+}
+
+impl Driven {
+    // The command with its values.
+    fn with(self, cycles: usize, streams: List<String>) -> Command
+        ensures { values_of result ≡ values_by self cycles (map string_bytes streams) }
+    {
+        match self {
+            Driven::Simulate => Command::Simulate { cycles, streams },
+            Driven::Eval => Command::Eval { cycles, streams },
+        }
+    }
 }
 
 // The texts, each in a String of its own.
@@ -38,19 +62,16 @@ fn owned(alloc: Global, texts: &[&str]) -> Result<List<String>, AllocError>
     Ok(List::of(words))
 }
 
-// `simulate` with the values that clap has found for it.
-fn simulate_in(alloc: Global, found: &ArgMatches<'_>) -> Result<Command, WordsError>
-    ensures ok { IfOk result (λ c. simulate_by (rows_of (found_of found.now)) ≡ Some (values_of c)) }
-    ensures usage { IsErrOf result WordsError.Usage → simulate_by (rows_of (found_of found.now)) ≡ None }
+// A command that is driven by streams, with the values that clap has found for it.
+fn driven_in(alloc: Global, driven: Driven, found: &ArgMatches<'_>) -> Result<Command, WordsError>
+    ensures ok { IfOk result (λ c. driven_by (values_by driven) (rows_of (found_of found.now)) ≡ Some (values_of c)) }
+    ensures usage { IsErrOf result WordsError.Usage → driven_by (values_by driven) (rows_of (found_of found.now)) ≡ None }
     ensures cycles { IfOk result (λ c. HasCyclesInRange (values_of c)) }
 {
     let number = found.get_str("cycles").ok_or(WordsError::Usage)?;
     let cycles = number_between(number, 1, MOST_CYCLES).ok_or(WordsError::Usage)?;
     let streams = owned(alloc, found.get_strs("streams").unwrap_or(&[]))?;
-    Ok(Command::Simulate {
-        cycles: cycles as usize,
-        streams,
-    })
+    Ok(driven.with(cycles as usize, streams))
 }
 
 // The command that clap has found, with its values.
@@ -61,7 +82,8 @@ fn command_in(alloc: Global, found: &ArgMatches<'_>) -> Result<Command, WordsErr
 {
     match found.subcommand() {
         Some(("compile", _)) => Ok(Command::Compile),
-        Some(("simulate", inner)) => simulate_in(alloc, inner),
+        Some(("simulate", inner)) => driven_in(alloc, Driven::Simulate, inner),
+        Some(("eval", inner)) => driven_in(alloc, Driven::Eval, inner),
         _ => Err(WordsError::Usage),
     }
 }
@@ -74,7 +96,7 @@ fn length_fits(words: &[String])
 }
 
 /// The command that the words of a command line ask for. The first word is the program's name, and after it stands `compile`,
-/// or `simulate --cycles N` with any words, of which N is in decimal digits, with or without leading zeros, from 1 to 1,048,576.
+/// or `simulate --cycles N` or `eval --cycles N` with any words, of which N is in decimal digits, with or without leading zeros, from 1 to 1,048,576.
 /// `Usage` comes only where the words are no command, and each other answer but `NoMemory` only where they have its values.
 pub fn command_of(alloc: Global, words: &[String]) -> Result<Command, WordsError>
     ensures ok { IfOk result (λ c. command_values (map string_bytes words.now) ≡ Some (values_of c)) }

@@ -3,12 +3,12 @@
 
 mod app;
 mod command;
-mod errors;
+mod error;
 pub mod laws;
 mod numbers;
 
 pub use command::{Command, command_of};
-pub use errors::WordsError;
+pub use error::WordsError;
 
 #[cfg(test)]
 mod tests;

@@ -9,6 +9,7 @@ enum Asked {
     Usage,
     Compile,
     Simulate(usize, &'static [&'static str]),
+    Eval(usize, &'static [&'static str]),
 }
 
 const CASES: &[(&[&str], Asked)] = &[
@@ -60,6 +61,12 @@ const CASES: &[(&[&str], Asked)] = &[
         Asked::Usage,
     ),
     (&["blifww", "simulate", "--rounds", "3"], Asked::Usage),
+    (&["blifww", "eval"], Asked::Usage),
+    (&["blifww", "eval", "--cycles", "0"], Asked::Usage),
+    (
+        &["blifww", "eval", "--cycles", "2", "a=01", "b=10"],
+        Asked::Eval(2, &["a=01", "b=10"]),
+    ),
     (&["blifww", "--help"], Asked::Usage),
     (&["blifww", "-h"], Asked::Usage),
     (&["blifww", "help"], Asked::Usage),
@@ -67,18 +74,18 @@ const CASES: &[(&[&str], Asked)] = &[
     (&["blifww", "simulate", "--help"], Asked::Usage),
 ];
 
+// Whether the words are these.
+fn are_words(streams: &[String], words: &[&str]) -> bool {
+    streams.len() == words.len() && streams.iter().zip(words).all(|(s, w)| s.as_str() == *w)
+}
+
 // Whether the command is the one that was asked for.
 fn is_asked(command: &Command, asked: Asked) -> bool {
     match (command, asked) {
         (Command::Compile, Asked::Compile) => true,
-        (Command::Simulate { cycles, streams }, Asked::Simulate(count, words)) => {
-            *cycles == count
-                && streams.len() == words.len()
-                && streams
-                    .as_slice()
-                    .iter()
-                    .zip(words)
-                    .all(|(s, w)| s.as_str() == *w)
+        (Command::Simulate { cycles, streams }, Asked::Simulate(count, words))
+        | (Command::Eval { cycles, streams }, Asked::Eval(count, words)) => {
+            *cycles == count && are_words(streams.as_slice(), words)
         }
         _ => false,
     }

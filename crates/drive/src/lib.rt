@@ -11,6 +11,7 @@ mod simulation;
 mod streams;
 mod words;
 
+pub use columns::columns_of;
 pub use driving::injections;
 pub use error::{DriveError, SimulateError, StreamError, StreamFault, StreamFaultKind};
 pub use examples::stream_words_read;

@@ -47,8 +47,8 @@ returns-clause-printed c =
     record { pattern = c.in_ok-pattern.ensures.pattern; table = c.in_ok-ports.ensures.table; many = c.in_ok-streams.ensures.cycles; streams = streams } in (
       s,
       record { is = is; near = c.in_ok-bits.ensures.near },
-      c.of.ensures
-          ∙ c.in_ok-lines.ensures
-          ∙ ap₂ (λ (outs : List PortLine) (bits : List (List Bool)). flat_map line (zip outs bits)) c.as_slice-2.ensures (c.as_slice-3.ensures ∙ c.in_ok-bits.ensures.bits)
-          ∙ lines_by (shown_at s.ports s.streams (plane_of s.grid.rows)) c.in_ok-ports.ports.outs,
+      c.in_ok-output_lines.ensures
+          ∙ ap₂ (λ (outs : List (List ℕ)) (bits : List (List Bool)). flat_map line (zip outs bits)) (c.deref-2.ensures.value ∙ c.in_ok-outs.ensures ∙ ap names_of c.as_slice-2.ensures)
+          (c.as_slice-3.ensures ∙ c.in_ok-bits.ensures.bits)
+          ∙ lines_by (λ (p : PortLine). p.name) (shown_at s.ports s.streams (plane_of s.grid.rows)) c.in_ok-ports.ports.outs,
     )

@@ -2,7 +2,7 @@ use Rattle.std.proofs.Common.{rules, ◌≡◌, ◌≤◌, Some, None, length, m
 use Rattle.std.proofs.lemmas.List.{length-map}
 use Rattle.clap.specs.Lexer.{usize_max}
 use Rattle.command_words.specs.Shapes.{IsCommand, command_values, values_of}
-use Rattle.command_words.specs.declared.errors.WordsError.TheVariants.{Usage}
+use Rattle.command_words.specs.declared.error.WordsError.TheVariants.{Usage}
 use Rattle.command_words.proofs.Answered.{answered}
 use Rattle.command_words.proofs.Named.{no_command}
 use Rattle.command_words.proofs.command.command_of.Goals as goal

@@ -7,7 +7,7 @@ use Rattle.clap.specs.Simple.{with_rule, new_rule}
 use Rattle.clap.specs.declared.builder.range.ValueRange.{ValueRange}
 use Rattle.clap.specs.declared.builder.action.ArgAction.TheVariants.{Append}
 use Rattle.command_words.specs.App.{cycles_option, stream_words}
-use Rattle.command_words.proofs.app.simulate_command.Goals as goal
+use Rattle.command_words.proofs.app.driven_command.Goals as goal
 
 is_value : (o : Option ValueRange) (v : ValueRange) → IsSomeAnd o (λ r. r ≡ v) → o ≡ Some v
 is_value None v h = absurd h

@@ -14,7 +14,7 @@ pub enum WordsError {
 }
 
 impl From<AllocError> for WordsError {
-    ghost use Rattle.command_words.specs.declared.errors.WordsError.TheVariants.{NoMemory};
+    ghost use Rattle.command_words.specs.declared.error.WordsError.TheVariants.{NoMemory};
 
     ghost from_gives = { λ _ e. e ≡ NoMemory };
 

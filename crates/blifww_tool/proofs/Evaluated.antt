@@ -1,0 +1,36 @@
+-- What the parts of an evaluation give together.
+use Rattle.std.proofs.Common.{ℕ, ◌≡◌, ◌∙◌, sym, ap, List, length}
+use Rattle.std.proofs.lemmas.List.{length-map}
+use Rattle.netlist_core.specs.declared.model.Design.{Design}
+use Rattle.netlist_core.specs.declared.flat.Flat.{Flat}
+use Rattle.netlist_core.specs.declared.flat.FlatPort.{FlatPort}
+use Rattle.netlist_core.specs.Names.{Name}
+use Rattle.netlist_meaning.specs.Flat.{names_of_ports, name_of_net}
+use Rattle.netlist_meaning.specs.Nets.{IsInNames}
+use Rattle.netlist_text.specs.NetlistText.{IsNetlist}
+use Rattle.netlist_text.specs.Causes.{HasNetlistCause}
+use Rattle.netlist_text.specs.declared.error.NetlistError.{NetlistError}
+use Rattle.netlist_text.specs.declared.error.NetlistError.TheVariants as netlist_of
+use Rattle.drive.specs.declared.error.StreamError.{StreamError}
+use Rattle.drive.specs.declared.error.StreamError.TheVariants as streams_of
+use Rattle.drive.specs.Streams.{HasStreamCause}
+use Rattle.command_words.specs.Shapes.{eval}
+use Rattle.blifww_tool.specs.Commands.{HasTextCause}
+use Rattle.blifww_tool.specs.Refusals.{netlist_error, streams_error}
+
+-- a text that gives no netlist,
+pub netlist_refused : (cycles : ℕ) (words : List (List ℕ)) (text : List ℕ) (e : NetlistError) → HasNetlistCause text e → HasTextCause (eval cycles words) text (netlist_error e)
+netlist_refused cycles words text (netlist_of.Fault fault) h = h
+netlist_refused cycles words text (netlist_of.TooLarge weight) h = h
+netlist_refused cycles words text (netlist_of.Loop names) h = h
+netlist_refused cycles words text netlist_of.NoMemory h = tt
+
+-- and words that give no streams
+pub streams_refused : (cycles : ℕ) (words : List (List ℕ)) (text : List ℕ) (design : Design) (names : List Name) (e : StreamError) → IsNetlist text design → IsInNames design names
+    → HasStreamCause words names cycles e → HasTextCause (eval cycles words) text (streams_error e)
+streams_refused cycles words text design names (streams_of.Fault fault) is are h = (design, names, is, are, h)
+streams_refused cycles words text design names streams_of.NoMemory is are h = tt
+
+-- as many names as ports
+pub names_are_many : (flat : Flat) (ports : List FlatPort) (names : List Name) → names ≡ names_of_ports flat ports → length names ≡ length ports
+names_are_many flat ports names e = ap (λ (ns : List Name). length ns) e ∙ length-map ports (λ port. name_of_net flat port.net)

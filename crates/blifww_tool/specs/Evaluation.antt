@@ -1,0 +1,50 @@
+-- What the text of a netlist gives under streams of bits, as lines.
+use Rattle.std.specs.Prelude.{◌≡◌, ℕ, List, flat_map}
+use Rattle.netlist_core.specs.declared.model.Design.{Design}
+use Rattle.netlist_core.specs.Names.{Name}
+use Rattle.netlist_meaning.specs.Nets.{IsInNames}
+use Rattle.netlist_meaning.specs.Places.{main_outputs}
+use Rattle.netlist_meaning.specs.Valuation.{Valuation, IsRun}
+use Rattle.netlist_text.specs.NetlistText.{IsNetlist, IsAtFault, IsTooHeavy, HasLoop}
+use Rattle.drive.specs.declared.streams.Streams.{Streams}
+use Rattle.drive.specs.Streams.{HasStreams, HasStreamFault}
+use Rattle.drive.specs.Driving.{rows_of}
+use Rattle.netlist_run.specs.Runs.{bits_in_run}
+use Rattle.blifww_tool.specs.Lines.{bits_line}
+use Rattle.blifww_tool.specs.declared.causes.Cause.{Cause}
+use Rattle.blifww_tool.specs.declared.causes.Cause.TheVariants.{NetlistFault, WeightTooLarge, Loop, Streams as OfStreams}
+
+-- a netlist, its IN names, and streams for them
+pub record Evaluation : Type 0 where
+  pub design : Design
+  pub in_names : List Name
+  pub streams : Streams
+
+-- The text is this netlist with these IN names, and the words say these streams for them.
+pub record IsEvaluation (cycles : ℕ) (words : List (List ℕ)) (text : List ℕ) (e : Evaluation) : Type 0 where
+  pub netlist : IsNetlist text e.design
+  pub names : IsInNames e.design e.in_names
+  pub many : e.streams.cycles ≡ cycles
+  pub streams : HasStreams words e.in_names cycles e.streams.bits
+
+-- the lines of the main outputs, in order
+abbrev pub evaluation_text : Evaluation → (ℕ → Valuation) → List ℕ
+evaluation_text e run = flat_map (λ name. bits_line name (bits_in_run run e.streams.cycles name)) (main_outputs e.design)
+
+-- the lines are those of a run of the netlist on the streams
+pub record Evaluates (cycles : ℕ) (words : List (List ℕ)) (text output : List ℕ) : Type 0 where
+  pub evaluation : Evaluation
+  pub is : IsEvaluation cycles words text evaluation
+  pub run : ℕ → Valuation
+  pub is_run : IsRun evaluation.design (rows_of evaluation.streams) run
+  pub lines : output ≡ evaluation_text evaluation run
+
+-- why the text and the words are none: the text is at fault, or too heavy; its covers read each other in a circle; the streams are at
+-- fault
+abbrev pub HasNoEvaluation : ℕ → List (List ℕ) → List ℕ → Cause → Type 0
+HasNoEvaluation cycles words text (NetlistFault fault) = IsAtFault text fault
+HasNoEvaluation cycles words text (WeightTooLarge weight) = IsTooHeavy text weight
+HasNoEvaluation cycles words text (Loop names) = HasLoop text names
+HasNoEvaluation cycles words text (OfStreams fault) =
+    (design : Design) × (names : List Name) × IsNetlist text design × IsInNames design names × HasStreamFault words names cycles fault
+HasNoEvaluation cycles words text _ = ⊥

@@ -1,0 +1,179 @@
+// Runs of `eval`.
+use crate::tests::run_over;
+use itoa::Buffer;
+use std::alloc::Global;
+use std::test::Fail;
+
+const ONE_CYCLE: &[&str] = &["blifww", "eval", "--cycles", "1"];
+
+const FOUR_CYCLES: &[&str] = &["blifww", "eval", "--cycles", "4"];
+
+const GATE: &[u8] = b".model or\n.inputs a b\n.outputs y\n.names a b y\n1- 1\n-1 1\n.end\n";
+
+const ADDER: &[u8] =
+    b".model add\n.inputs a0 a1 b0 b1 ci\n.outputs s0 s1 c\n.subckt fa a=a0 b=b0 c=ci s=s0 co=k\n.subckt fa a=a1 b=b1 c=k s=s1 co=c\n.end\n.model fa\n.inputs a b c\n.outputs s co\n.names a b c s\n100 1\n010 1\n001 1\n111 1\n.names a b c co\n11- 1\n1-1 1\n-11 1\n.end\n";
+
+#[test]
+fn a_netlist_shows_its_run(rt: HostRuntime) -> Result<(), Fail> {
+    for (words, text, out) in [
+        (
+            FOUR_CYCLES,
+            b".model t\n.outputs q\n.latch n q 0\n.names q n\n0 1\n.end\n".as_slice(),
+            b"q=0101\n".as_slice(),
+        ),
+        (
+            &["blifww", "eval", "--cycles", "4", "d=0010"],
+            b".model r\n.inputs d\n.outputs q\n.latch d q 1\n.end\n",
+            b"q=1001\n",
+        ),
+        (
+            &["blifww", "eval", "--cycles", "2", "d=10"],
+            b".model m\n.inputs d \\\nclk # two\n.outputs q\n.latch d q re clk 2\n.end\n",
+            b"q=01\n",
+        ),
+        (
+            &[
+                "blifww", "eval", "--cycles", "1", "a0=1", "a1=1", "b0=1", "b1=0", "ci=0",
+            ],
+            ADDER,
+            b"s0=0\ns1=0\nc=1\n",
+        ),
+    ] {
+        let got = run_over(rt.alloc(), words, text, (16, &[]), (99, 0))?;
+        assert_eq!(rt; got.status, 0);
+        assert_eq!(rt; got.out.as_slice(), out);
+        assert_eq!(rt; got.err.as_slice(), b"".as_slice());
+    }
+    Ok(())
+}
+
+#[test]
+fn a_text_that_is_no_netlist_is_refused(rt: HostRuntime) -> Result<(), Fail> {
+    for (text, status, line) in [
+        (b"".as_slice(), 1, b"B22 NoModel line 1: -\n".as_slice()),
+        (b".inputs a\n", 1, b"B1 NoModelYet line 1: .inputs\n"),
+        (
+            b".model m\n.end\n.names y\n",
+            1,
+            b"B10 AfterEnd line 3: .names\n",
+        ),
+        (
+            b".model m\n.outputs y\n.names z y\n1 1\n",
+            1,
+            b"B14 Undriven line 3: z\n",
+        ),
+        (b".model m\n.subckt m\n", 1, b"B19 Recursive line 2: m\n"),
+        (
+            b".model m\n.inputs d c e\n.outputs q r\n.latch d q re c 0\n.latch d r re e 0\n.end\n",
+            1,
+            b"B20 TwoClocks line 5: e\n",
+        ),
+        (
+            b".model m\n.inputs d clk\n.outputs q y\n.latch d q re clk 2\n.names clk y\n1 1\n",
+            1,
+            b"B21 ClockRead line 5: clk\n",
+        ),
+        (
+            b".model m\n.inputs a\n.outputs x\n.names x a x\n11 1\n.end\n",
+            3,
+            b"loop: x\n",
+        ),
+    ] {
+        let got = run_over(rt.alloc(), ONE_CYCLE, text, (16, &[]), (99, 99))?;
+        assert_eq!(rt; got.status, status);
+        assert_eq!(rt; got.out.as_slice(), b"".as_slice());
+        assert_eq!(rt; got.err.as_slice(), line);
+    }
+    Ok(())
+}
+
+#[test]
+fn words_that_give_a_netlist_no_streams_are_refused(rt: HostRuntime) -> Result<(), Fail> {
+    for (words, line) in [
+        (
+            ["blifww", "eval", "--cycles", "2", "a=01", "b=0"].as_slice(),
+            b"stream: BadLength b=0\n".as_slice(),
+        ),
+        (
+            &["blifww", "eval", "--cycles", "2", "a=01"],
+            b"stream: MissingInput b\n",
+        ),
+        (
+            &["blifww", "eval", "--cycles", "2", "a=01", "a=01", "b=01"],
+            b"stream: TwiceInput a=01\n",
+        ),
+    ] {
+        let got = run_over(rt.alloc(), words, GATE, (16, &[]), (99, 99))?;
+        assert_eq!(rt; got.status, 9);
+        assert_eq!(rt; got.out.as_slice(), b"".as_slice());
+        assert_eq!(rt; got.err.as_slice(), line);
+    }
+    Ok(())
+}
+
+// A model with so many inputs and one output.
+fn wide(alloc: Global, inputs: usize) -> Result<Vec<u8>, Fail> {
+    let mut text = b".model m\n.inputs".to_vec(alloc)?;
+    let mut digits = Buffer::new();
+    for i in 0..inputs {
+        text.extend_from_slice(b" i")?;
+        text.extend_from_slice(digits.format(i).as_bytes())?;
+    }
+    text.extend_from_slice(b"\n.outputs y\n.names y\n.end\n")?;
+    Ok(text)
+}
+
+// Models each of which places the next one twice.
+fn deep(alloc: Global, models: usize) -> Result<Vec<u8>, Fail> {
+    let mut text = Vec::new(alloc);
+    let mut digits = Buffer::new();
+    for k in 0..models {
+        text.extend_from_slice(b".model h")?;
+        text.extend_from_slice(digits.format(models - k).as_bytes())?;
+        for _ in 0..2 {
+            text.extend_from_slice(b"\n.subckt h")?;
+            text.extend_from_slice(digits.format(models - k - 1).as_bytes())?;
+        }
+        text.extend_from_slice(b"\n.end\n")?;
+    }
+    text.extend_from_slice(b".model h0\n.names y\n.end\n")?;
+    Ok(text)
+}
+
+#[test]
+fn a_netlist_past_the_limit_is_too_large(rt: HostRuntime) -> Result<(), Fail> {
+    let alloc = rt.alloc();
+    for (text, status, line) in [
+        (
+            wide(alloc, 1022)?,
+            9,
+            b"stream: MissingInput i0\n".as_slice(),
+        ),
+        (
+            wide(alloc, 1023)?,
+            4,
+            b"too large: weight 1025 limit 1024\n",
+        ),
+        (
+            deep(alloc, 40)?,
+            4,
+            b"too large: weight 3298534883326 limit 1024\n",
+        ),
+        (
+            deep(alloc, 62)?,
+            4,
+            b"too large: weight 13835058055282163710 limit 1024\n",
+        ),
+        (
+            deep(alloc, 63)?,
+            4,
+            b"too large: weight 18446744073709551615 limit 1024\n",
+        ),
+    ] {
+        let got = run_over(alloc, ONE_CYCLE, &text, (4096, &[]), (99, 99))?;
+        assert_eq!(rt; got.status, status);
+        assert_eq!(rt; got.out.as_slice(), b"".as_slice());
+        assert_eq!(rt; got.err.as_slice(), line);
+    }
+    Ok(())
+}

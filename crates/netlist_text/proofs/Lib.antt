@@ -1,0 +1,5 @@
+pub mod OneClockFault
+pub mod Decided
+pub mod Loops
+pub mod Read
+pub mod Ports

@@ -1,0 +1,5 @@
+pub mod NetlistText
+pub mod Causes
+pub mod Errors
+pub mod Laws
+pub mod Parts

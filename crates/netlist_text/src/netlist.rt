@@ -1,0 +1,51 @@
+// From the bytes of a text to its netlist.
+ghost use Rattle.std.specs.Prelude.{IfOk, IfErr};
+ghost use Rattle.netlist_text.specs.Causes.{HasNetlistCause};
+ghost use Rattle.netlist_text.specs.NetlistText.{IsNetlist};
+ghost use Rattle.netlist_text.specs.Parts.{AreParts};
+
+use crate::error::NetlistError;
+use crate::names::names_of;
+use blif_check::check;
+use blif_lex::lines;
+use blif_reader::read;
+use clock_check::check_clock;
+use loop_check::{OrderError, order};
+use netlist_core::{Design, Flat, Order};
+use netlist_flatten::flatten;
+use std::alloc::Global;
+
+/// The netlist of a text.
+#[derive(Drop)]
+pub struct Netlist {
+    pub design: Design,
+    pub flat: Flat,
+    /// Each cover comes after those that drive what it reads.
+    pub order: Order,
+}
+
+/// The netlist of a BLIF text. Of several causes why there is none the first in this order is answered: a fault of its lines or
+/// models, too great a weight, a fault of its clocks, a loop.
+pub fn netlist_of(alloc: Global, text: &[u8]) -> Result<Netlist, NetlistError>
+    ensures netlist { IfOk result (λ n. IsNetlist text.now n.design) }
+    ensures parts { IfOk result (λ n. AreParts n.design n.flat n.order.nodes) }
+    ensures refused { IfErr result (HasNetlistCause text.now) }
+{
+    let lines = lines(alloc, text)?;
+    let models = read(alloc, lines.as_slice())?;
+    let design = check(alloc, models)?;
+    let flat = flatten(alloc, &design)?;
+    check_clock(alloc, &flat)?;
+    match order(alloc, &flat) {
+        Ok(order) => Ok(Netlist {
+            design,
+            flat,
+            order,
+        }),
+        Err(OrderError::Loop(nets)) => {
+            let names = names_of(alloc, &flat, nets.as_slice())?;
+            Err(NetlistError::Loop(names))
+        }
+        Err(OrderError::NoMemory) => Err(NetlistError::NoMemory),
+    }
+}
