@@ -1,42 +1,19 @@
 -- A command never both accepts and refuses a text, and refuses it for one cause, or for causes that are alike.
-use Rattle.std.proofs.Common.{ℕ, ◌≡◌, refl, sym, ◌∙◌, subst, List}
+use Rattle.std.proofs.Common.{ℕ, ◌≡◌, refl, subst, List}
 use Rattle.command_words.specs.Shapes.{CommandValues, compile, simulate, eval}
-use Rattle.blifww_tool.specs.Thin.{Names, IsThin}
-use Rattle.blifww_tool.specs.Commands.{Accepts, Prints, Refuses, IsNotThin, AreAlike}
+use Rattle.blifww_tool.specs.Commands.{Accepts, Prints, Refuses, AreAlike}
 use Rattle.blifww_tool.specs.declared.causes.Cause.{Cause}
-use Rattle.blifww_tool.specs.declared.causes.Cause.TheVariants.{NotYet, NetlistFault, WeightTooLarge, Loop, Pattern, GridTooLarge, PortTable, Streams, TooFar}
+use Rattle.blifww_tool.specs.declared.causes.Cause.TheVariants.{NetlistFault, WeightTooLarge, Loop, Pattern, GridTooLarge, PortTable, Streams, TooFar}
 use Rattle.blifww_tool.proofs.SimulationOrNot.{simulates_or_not, one_cause as one_cause_of_simulation}
-use Rattle.blifww_tool.proofs.EvaluationOrNot.{evaluates_or_not, one_cause as one_cause_of_evaluation}
+use Rattle.blifww_tool.proofs.EvaluationOrNot.{netlist_or_not, one_cause_of_netlist, evaluates_or_not, one_cause as one_cause_of_evaluation}
 
 pub printed_is_accepted : (command : CommandValues) (text output : List ℕ) → Prints command text output → Accepts command text
-printed_is_accepted compile text output h = (h.0, h.1)
+printed_is_accepted compile text output h = (h.design, h.netlist)
 printed_is_accepted (simulate cycles words) text output h = (h.0, h.1)
 printed_is_accepted (eval cycles words) text output h = (h.evaluation, h.is)
 
-not_thin : (text : List ℕ) (names : Names) (cause : Cause) → IsThin text names → IsNotThin text cause → ⊥
-not_thin text names NotYet h k = k names h
-not_thin text names (NetlistFault f) h k = k
-not_thin text names (WeightTooLarge w) h k = k
-not_thin text names (Loop nets) h k = k
-not_thin text names (Pattern f) h k = k
-not_thin text names (GridTooLarge x y) h k = k
-not_thin text names (PortTable f) h k = k
-not_thin text names (Streams f) h k = k
-not_thin text names (TooFar n) h k = k
-
-pub only_not_yet : (text : List ℕ) (cause : Cause) → IsNotThin text cause → cause ≡ NotYet
-only_not_yet text NotYet k = refl
-only_not_yet text (NetlistFault f) k = absurd k
-only_not_yet text (WeightTooLarge w) k = absurd k
-only_not_yet text (Loop nets) k = absurd k
-only_not_yet text (Pattern f) k = absurd k
-only_not_yet text (GridTooLarge x y) k = absurd k
-only_not_yet text (PortTable f) k = absurd k
-only_not_yet text (Streams f) k = absurd k
-only_not_yet text (TooFar n) k = absurd k
-
 pub accepted_or_refused : (command : CommandValues) (text : List ℕ) (cause : Cause) → Accepts command text → Refuses command text cause → ⊥
-accepted_or_refused compile text cause h k = not_thin text h.0 cause h.1 k
+accepted_or_refused compile text cause h k = netlist_or_not text h.0 cause h.1 k
 accepted_or_refused (simulate cycles words) text cause h k = simulates_or_not cycles words text h.0 cause h.1 k
 accepted_or_refused (eval cycles words) text cause h k = evaluates_or_not cycles words text h.0 cause h.1 k
 
@@ -45,7 +22,6 @@ alike_if_same : (a b : Cause) → a ≡ b → AreAlike a b
 alike_if_same a b e = subst (AreAlike a) e (itself a)
   where
     itself : (a : Cause) → AreAlike a a
-    itself NotYet = refl
     itself (NetlistFault f) = record { kind = refl; line = refl; whole = λ c r. refl }
     itself (WeightTooLarge w) = refl
     itself (Loop names) = tt
@@ -56,12 +32,6 @@ alike_if_same a b e = subst (AreAlike a) e (itself a)
     itself (TooFar n) = refl
 
 pub one_cause : (command : CommandValues) (text : List ℕ) (a b : Cause) → Refuses command text a → Refuses command text b → AreAlike a b
-one_cause compile text a b h k = alike_if_same a b (only_not_yet text a h ∙ sym (only_not_yet text b k))
+one_cause compile text a b h k = one_cause_of_netlist text a b h k
 one_cause (simulate cycles words) text a b h k = alike_if_same a b (one_cause_of_simulation cycles words text a b h k)
 one_cause (eval cycles words) text a b h k = one_cause_of_evaluation cycles words text a b h k
-
--- the cause that a text is not compiled yet is one of `compile` alone
-pub not_yet_is_not_thin : (command : CommandValues) (text : List ℕ) → Refuses command text NotYet → (names : Names) → IsThin text names → ⊥
-not_yet_is_not_thin compile text h = h
-not_yet_is_not_thin (simulate cycles words) text h = absurd h
-not_yet_is_not_thin (eval cycles words) text h = absurd h

@@ -8,7 +8,7 @@ use Rattle.blifww_tool.specs.Run.{AsksNothing, Reading, Writing, Call, Gave, Gav
 use Rattle.blifww_tool.proofs.Given.{gave_whole, no_more, one_command}
 use Rattle.blifww_tool.proofs.Decided.{printed_is_accepted, accepted_or_refused, one_cause}
 use Rattle.blifww_tool.specs.declared.causes.Cause.{Cause}
-use Rattle.blifww_tool.specs.declared.causes.Cause.TheVariants.{NotYet, NetlistFault, WeightTooLarge, Loop, Pattern, GridTooLarge, PortTable, Streams, TooFar}
+use Rattle.blifww_tool.specs.declared.causes.Cause.TheVariants.{NetlistFault, WeightTooLarge, Loop, Pattern, GridTooLarge, PortTable, Streams, TooFar}
 use Rattle.blifww_tool.specs.declared.refusals.Refusal.{Refusal}
 use Rattle.blifww_tool.specs.declared.refusals.Refusal.TheVariants.{Usage, TooLong, ReadFault, WriteFault, NoMemory, Text}
 
@@ -145,7 +145,6 @@ ends c status e front = record {
 
 -- a refusal's status is never that of a run that is done, and that of a cause in a text never that of a failed write
 cause_is : (cause : Cause) → (status_of_cause cause ≢ 0) × (status_of_cause cause ≢ 6)
-cause_is NotYet = (λ e. cc, λ e. cc)
 cause_is (NetlistFault f) = (λ e. cc, λ e. cc)
 cause_is (WeightTooLarge w) = (λ e. cc, λ e. cc)
 cause_is (Loop names) = (λ e. cc, λ e. cc)

@@ -1,5 +1,5 @@
 -- A text and words give an evaluation, or are refused in one way.
-use Rattle.std.proofs.Common.{ℕ, ◌≡◌, refl, sym, ap, ◌∙◌, subst, List}
+use Rattle.std.proofs.Common.{ℕ, ◌≡◌, refl, sym, ap, ◌∙◌, subst, List, []}
 use Rattle.std.specs.Prelude.{Some, slice_get}
 use Rattle.std.proofs.lemmas.Option.{none-some}
 use Rattle.netlist_core.specs.declared.model.Design.{Design}
@@ -13,9 +13,10 @@ use Rattle.netlist_text.proofs.Decided.{texts_are_decided}
 use Rattle.drive.specs.declared.error.StreamFault.{StreamFault}
 use Rattle.drive.specs.Streams.{HasStreamFault}
 use Rattle.blifww_tool.specs.Commands.{AreAlike}
+use Rattle.blifww_tool.specs.Compilation.{HasNoNetlist}
 use Rattle.blifww_tool.specs.Evaluation.{Evaluation, IsEvaluation, HasNoEvaluation}
 use Rattle.blifww_tool.specs.declared.causes.Cause.{Cause}
-use Rattle.blifww_tool.specs.declared.causes.Cause.TheVariants.{NotYet, NetlistFault, WeightTooLarge, Loop, Pattern, GridTooLarge, PortTable, Streams, TooFar}
+use Rattle.blifww_tool.specs.declared.causes.Cause.TheVariants.{NetlistFault, WeightTooLarge, Loop, Pattern, GridTooLarge, PortTable, Streams, TooFar}
 
 -- a netlist with its IN names, as a text has them
 pub record IsRead (text : List ℕ) (design : Design) (names : List Name) : Type 0 where
@@ -30,7 +31,6 @@ pub data Reason (cycles : ℕ) (words : List (List ℕ)) (text : List ℕ) (r : 
   by_streams : (fault : StreamFault) → r ≡ Streams fault → (design : Design) (names : List Name) → IsRead text design names → HasStreamFault words names cycles fault → Reason cycles words text r
 
 reason_of : (cycles : ℕ) (words : List (List ℕ)) (text : List ℕ) (r : Cause) → HasNoEvaluation cycles words text r → Reason cycles words text r
-reason_of cycles words text NotYet h = absurd h
 reason_of cycles words text (NetlistFault fault) h = by_fault fault refl h
 reason_of cycles words text (WeightTooLarge weight) h = by_weight weight refl h
 reason_of cycles words text (Loop names) h = by_loop names refl h
@@ -90,3 +90,27 @@ one_reason cycles words text r r' (by_streams f e d ns read h) (by_streams g e' 
 
 pub one_cause : (cycles : ℕ) (words : List (List ℕ)) (text : List ℕ) (r r' : Cause) → HasNoEvaluation cycles words text r → HasNoEvaluation cycles words text r' → AreAlike r r'
 one_cause cycles words text r r' h k = one_reason cycles words text r r' (reason_of cycles words text r h) (reason_of cycles words text r' k)
+
+-- a text is a netlist, or is refused in one way
+pub netlist_or_not : (text : List ℕ) (design : Design) (r : Cause) → IsNetlist text design → HasNoNetlist text r → ⊥
+netlist_or_not text design (NetlistFault fault) h k = (texts_are_decided text).not_at_fault design fault h k
+netlist_or_not text design (WeightTooLarge weight) h k = (texts_are_decided text).not_heavy design weight h k
+netlist_or_not text design (Loop names) h k = (texts_are_decided text).not_a_loop design names h k
+netlist_or_not text design (Pattern fault) h k = k
+netlist_or_not text design (GridTooLarge width height) h k = k
+netlist_or_not text design (PortTable fault) h k = k
+netlist_or_not text design (Streams fault) h k = k
+netlist_or_not text design (TooFar generations) h k = k
+
+no_evaluation : (text : List ℕ) (r : Cause) → HasNoNetlist text r → HasNoEvaluation 1 [] text r
+no_evaluation text (NetlistFault fault) h = h
+no_evaluation text (WeightTooLarge weight) h = h
+no_evaluation text (Loop names) h = h
+no_evaluation text (Pattern fault) h = absurd h
+no_evaluation text (GridTooLarge width height) h = absurd h
+no_evaluation text (PortTable fault) h = absurd h
+no_evaluation text (Streams fault) h = absurd h
+no_evaluation text (TooFar generations) h = absurd h
+
+pub one_cause_of_netlist : (text : List ℕ) (r r' : Cause) → HasNoNetlist text r → HasNoNetlist text r' → AreAlike r r'
+one_cause_of_netlist text r r' h k = one_cause 1 [] text r r' (no_evaluation text r h) (no_evaluation text r' k)

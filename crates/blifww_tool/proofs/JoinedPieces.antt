@@ -16,14 +16,6 @@ pub joined_first : (ps : List (Bor (List ℕ))) (d : Bor (List ℕ)) → 1 ≤ l
 joined_first [] d h = absurd (omega arith)
 joined_first (p ∷ ps) d h = ap (λ l. p.now ++ joined_pieces l) (sym (take_all (length (p ∷ ps) - 1) ps (omega arith)))
 
-pub same_after : (text tail : List ℕ) (ps : List (Bor (List ℕ))) (d : Bor (List ℕ)) (r : Bool) → 1 ≤ length ps → text ≡ (get_or ps 0 d).now ++ tail
-    → (IsTrue r → tail ≡ joined_pieces (others ps)) × (tail ≡ joined_pieces (others ps) → IsTrue r)
-    → (IsTrue r → text ≡ joined_pieces ps) × (text ≡ joined_pieces ps → IsTrue r)
-same_after text tail ps d r some e h =
-    let first = (get_or ps 0 d).now in
-    let all = joined_first ps d some in
-    (λ t. e ∙ ap (λ l. first ++ l) (h.0 t) ∙ sym all, λ t. h.1 (append_cancel_left first tail (joined_pieces (others ps)) (sym e ∙ t ∙ all)))
-
 -- a front of the first piece is a front of all
 pub cut_first : {T E : Type 0} (r : Result T E) (a b : Option (List ℕ)) (ps : List (Bor (List ℕ))) (d : Bor (List ℕ)) → 1 ≤ length ps
     → (n : ℕ) × Appends a b (take n (get_or ps 0 d).now) → OnErr r ((n : ℕ) × Appends a b (take n (joined_pieces ps)))

@@ -1,15 +1,12 @@
 pub mod JoinedPieces
 pub mod Fronts
-pub mod ThinNames
-pub mod WrittenText
-pub mod ThinDesign
-pub mod GateRuns
 pub mod Given
 pub mod Headline
 pub mod OutputLines
 pub mod SimulationOrNot
 pub mod EvaluationOrNot
 pub mod Evaluated
+pub mod Compiled
 pub mod Simulated
 pub mod Decided
 pub mod Ended

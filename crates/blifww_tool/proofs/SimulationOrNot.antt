@@ -19,7 +19,7 @@ use Rattle.drive.specs.Driving.{last_generation, greatest_generation}
 use Rattle.pattern_reading.specs.Ports.{names_of}
 use Rattle.blifww_tool.specs.Simulation.{Simulation, IsSimulation, Simulates, HasNoSimulation}
 use Rattle.blifww_tool.specs.declared.causes.Cause.{Cause}
-use Rattle.blifww_tool.specs.declared.causes.Cause.TheVariants.{NotYet, NetlistFault, WeightTooLarge, Loop, Pattern, GridTooLarge, PortTable, Streams, TooFar}
+use Rattle.blifww_tool.specs.declared.causes.Cause.TheVariants.{NetlistFault, WeightTooLarge, Loop, Pattern, GridTooLarge, PortTable, Streams, TooFar}
 
 -- a pattern with ports, as a text has them
 pub record IsRead (text : List ℕ) (grid : Grid) (ports : Ports) : Type 0 where
@@ -35,7 +35,6 @@ pub data Reason (cycles : ℕ) (words : List (List ℕ)) (text : List ℕ) (r : 
   by_time : (generations : ℕ) → r ≡ TooFar generations → (s : Simulation) → IsSimulation cycles words text s → generations ≡ last_generation s.ports s.streams → greatest_generation < generations → Reason cycles words text r
 
 reason_of : (cycles : ℕ) (words : List (List ℕ)) (text : List ℕ) (r : Cause) → HasNoSimulation cycles words text r → Reason cycles words text r
-reason_of cycles words text NotYet h = absurd h
 reason_of cycles words text (NetlistFault fault) h = absurd h
 reason_of cycles words text (WeightTooLarge weight) h = absurd h
 reason_of cycles words text (Loop names) h = absurd h

@@ -1,20 +1,20 @@
 -- Each status of a run comes only where its cause is.
 use Rattle.std.proofs.Common.{ℕ, zero, suc, ◌≡◌, ◌≢◌, ◌⊎◌, refl, sym, ap, ◌∙◌, subst, List, inl, inr, arith}
 use Rattle.command_words.specs.Shapes.{CommandValues, compile, IsCommand}
-use Rattle.blifww_tool.specs.Thin.{Names, IsThin}
+use Rattle.netlist_core.specs.Names.{Name}
+use Rattle.netlist_rules.specs.declared.fault.Fault.{Fault}
+use Rattle.netlist_text.specs.NetlistText.{IsAtFault, IsTooHeavy, HasLoop}
 use Rattle.blifww_tool.specs.Commands.{Refuses}
 use Rattle.blifww_tool.specs.Refusals.{status_of, status_of_cause}
 use Rattle.blifww_tool.specs.Run.{Call, Reading, Asks, IsAsked, GaveTooMany, GaveAll, ReadFailed, WriteFailed, HasReason, IsRefused, CutsLine, CutsOutput, Ends}
 use Rattle.blifww_tool.specs.Statuses.{StatusesHaveCauses}
 use Rattle.blifww_tool.proofs.Given.{one_command}
-use Rattle.blifww_tool.proofs.Decided.{only_not_yet, not_yet_is_not_thin}
 use Rattle.blifww_tool.specs.declared.causes.Cause.{Cause}
-use Rattle.blifww_tool.specs.declared.causes.Cause.TheVariants.{NotYet, NetlistFault, WeightTooLarge, Loop, Pattern, GridTooLarge, PortTable, Streams, TooFar}
+use Rattle.blifww_tool.specs.declared.causes.Cause.TheVariants.{NetlistFault, WeightTooLarge, Loop, Pattern, GridTooLarge, PortTable, Streams, TooFar}
 use Rattle.blifww_tool.specs.declared.refusals.Refusal.{Refusal}
 use Rattle.blifww_tool.specs.declared.refusals.Refusal.TheVariants.{Usage, TooLong, ReadFault, WriteFault, NoMemory, Text}
 
 not_cause : (cause : Cause) → (status_of_cause cause ≢ 2) × (status_of_cause cause ≢ 5)
-not_cause NotYet = (λ e. cc, λ e. cc)
 not_cause (NetlistFault f) = (λ e. cc, λ e. cc)
 not_cause (WeightTooLarge w) = (λ e. cc, λ e. cc)
 not_cause (Loop names) = (λ e. cc, λ e. cc)
@@ -24,16 +24,56 @@ not_cause (PortTable f) = (λ e. cc, λ e. cc)
 not_cause (Streams f) = (λ e. cc, λ e. cc)
 not_cause (TooFar n) = (λ e. cc, λ e. cc)
 
-not_yet_by : (cause : Cause) → status_of_cause cause ≡ 11 → cause ≡ NotYet
-not_yet_by NotYet e = refl
-not_yet_by (NetlistFault f) e = cc
-not_yet_by (WeightTooLarge w) e = cc
-not_yet_by (Loop names) e = cc
-not_yet_by (Pattern f) e = cc
-not_yet_by (GridTooLarge x y) e = cc
-not_yet_by (PortTable f) e = cc
-not_yet_by (Streams f) e = cc
-not_yet_by (TooFar n) e = cc
+-- by its status a cause is a fault, a loop, or too great a weight where the text is a netlist's
+at_fault_by : (command : CommandValues) (text : List ℕ) (cause : Cause) → status_of_cause cause ≡ 1 → Refuses command text cause → (fault : Fault) × IsAtFault text fault
+at_fault_by compile text (NetlistFault f) e h = (f, h)
+at_fault_by (simulate cycles words) text (NetlistFault f) e h = absurd h
+at_fault_by (eval cycles words) text (NetlistFault f) e h = (f, h)
+at_fault_by command text (WeightTooLarge w) e h = absurd (omega (arith, e))
+at_fault_by command text (Loop names) e h = absurd (omega (arith, e))
+at_fault_by command text (Pattern f) e h = absurd (omega (arith, e))
+at_fault_by command text (GridTooLarge x y) e h = absurd (omega (arith, e))
+at_fault_by command text (PortTable f) e h = absurd (omega (arith, e))
+at_fault_by command text (Streams f) e h = absurd (omega (arith, e))
+at_fault_by command text (TooFar n) e h = absurd (omega (arith, e))
+
+a_loop_by : (command : CommandValues) (text : List ℕ) (cause : Cause) → status_of_cause cause ≡ 3 → Refuses command text cause → (names : List Name) × HasLoop text names
+a_loop_by command text (NetlistFault f) e h = absurd (omega (arith, e))
+a_loop_by command text (WeightTooLarge w) e h = absurd (omega (arith, e))
+a_loop_by compile text (Loop names) e h = (names, h)
+a_loop_by (simulate cycles words) text (Loop names) e h = absurd h
+a_loop_by (eval cycles words) text (Loop names) e h = (names, h)
+a_loop_by command text (Pattern f) e h = absurd (omega (arith, e))
+a_loop_by command text (GridTooLarge x y) e h = absurd (omega (arith, e))
+a_loop_by command text (PortTable f) e h = absurd (omega (arith, e))
+a_loop_by command text (Streams f) e h = absurd (omega (arith, e))
+a_loop_by command text (TooFar n) e h = absurd (omega (arith, e))
+
+too_heavy_by : (text : List ℕ) (cause : Cause) → status_of_cause cause ≡ 4 → Refuses compile text cause → (weight : ℕ) × IsTooHeavy text weight
+too_heavy_by text (NetlistFault f) e h = absurd (omega (arith, e))
+too_heavy_by text (WeightTooLarge w) e h = (w, h)
+too_heavy_by text (Loop names) e h = absurd (omega (arith, e))
+too_heavy_by text (Pattern f) e h = absurd h
+too_heavy_by text (GridTooLarge x y) e h = absurd h
+too_heavy_by text (PortTable f) e h = absurd h
+too_heavy_by text (Streams f) e h = absurd h
+too_heavy_by text (TooFar n) e h = absurd h
+
+at_fault : (words : List (List ℕ)) (src : Reading) (r : Refusal) → HasReason words src r → status_of r ≡ 1 → (text : List ℕ) × (fault : Fault) × GaveAll src text × IsAtFault text fault
+at_fault words src Usage h e = absurd (omega (arith, e))
+at_fault words src TooLong h e = absurd (omega (arith, e))
+at_fault words src ReadFault h e = absurd (omega (arith, e))
+at_fault words src WriteFault h e = absurd h
+at_fault words src NoMemory h e = absurd (omega (arith, e))
+at_fault words src (Text cause) h e = let f = at_fault_by h.command h.text cause e h.refused in (h.text, f.0, h.given, f.1)
+
+a_loop : (words : List (List ℕ)) (src : Reading) (r : Refusal) → HasReason words src r → status_of r ≡ 3 → (text : List ℕ) × (names : List Name) × GaveAll src text × HasLoop text names
+a_loop words src Usage h e = absurd (omega (arith, e))
+a_loop words src TooLong h e = absurd (omega (arith, e))
+a_loop words src ReadFault h e = absurd (omega (arith, e))
+a_loop words src WriteFault h e = absurd h
+a_loop words src NoMemory h e = absurd (omega (arith, e))
+a_loop words src (Text cause) h e = let f = a_loop_by h.command h.text cause e h.refused in (h.text, f.0, h.given, f.1)
 
 usage : (words : List (List ℕ)) (src : Reading) (r : Refusal) → HasReason words src r → status_of r ≡ 2 → IsCommand words → ⊥
 usage words src Usage h e = h
@@ -51,25 +91,17 @@ asked words src WriteFault h two seven = absurd h
 asked words src NoMemory h two seven = absurd (seven refl)
 asked words src (Text cause) h two seven = (h.command, h.asked)
 
-too_long : (words : List (List ℕ)) (src : Reading) (r : Refusal) → HasReason words src r → status_of r ≡ 4 → Asks words compile → GaveTooMany words src
-too_long words src Usage h e asks = cc
-too_long words src TooLong h e asks = h
-too_long words src ReadFault h e asks = cc
-too_long words src WriteFault h e asks = absurd h
-too_long words src NoMemory h e asks = cc
-too_long words src (Text cause) h e asks =
+too_large : (words : List (List ℕ)) (src : Reading) (r : Refusal) → HasReason words src r → status_of r ≡ 4 → Asks words compile
+    → GaveTooMany words src ⊎ ((text : List ℕ) × (weight : ℕ) × GaveAll src text × IsTooHeavy text weight)
+too_large words src Usage h e asks = absurd (omega (arith, e))
+too_large words src TooLong h e asks = inl h
+too_large words src ReadFault h e asks = absurd (omega (arith, e))
+too_large words src WriteFault h e asks = absurd h
+too_large words src NoMemory h e asks = absurd (omega (arith, e))
+too_large words src (Text cause) h e asks =
     let refused : Refuses compile h.text cause = subst (λ (v : CommandValues). Refuses v h.text cause) (one_command words h.command compile h.asked.asks asks) h.refused in
-    let eleven : status_of_cause cause ≡ 11 = ap status_of_cause (only_not_yet h.text cause refused) in
-    absurd (omega (arith, eleven, e))
-
-not_yet : (words : List (List ℕ)) (src : Reading) (r : Refusal) → HasReason words src r → status_of r ≡ 11 → (text : List ℕ) × GaveAll src text × ((names : Names) → IsThin text names → ⊥)
-not_yet words src Usage h e = cc
-not_yet words src TooLong h e = cc
-not_yet words src ReadFault h e = cc
-not_yet words src WriteFault h e = absurd h
-not_yet words src NoMemory h e = cc
-not_yet words src (Text cause) h e =
-    (h.text, h.given, not_yet_is_not_thin h.command h.text (subst (λ (x : Cause). Refuses h.command h.text x) (not_yet_by cause e) h.refused))
+    let heavy = too_heavy_by h.text cause e refused in
+    inr (h.text, heavy.0, h.given, heavy.1)
 
 read_fault : (words : List (List ℕ)) (src : Reading) (r : Refusal) → HasReason words src r → status_of r ≡ 5 → ReadFailed src
 read_fault words src Usage h e = cc
@@ -108,11 +140,14 @@ refused c status n h not_zero not_six e = by_refusal c status n e (h.refused (λ
 usage_of : (c : Call) → Refused c 2 → IsCommand c.words → ⊥
 usage_of c r = usage c.words c.src r.refusal r.reason r.status_is
 
-too_long_of : (c : Call) → Refused c 4 → Asks c.words compile → GaveTooMany c.words c.src
-too_long_of c r = too_long c.words c.src r.refusal r.reason r.status_is
+too_large_of : (c : Call) → Refused c 4 → Asks c.words compile → GaveTooMany c.words c.src ⊎ ((text : List ℕ) × (weight : ℕ) × GaveAll c.src text × IsTooHeavy text weight)
+too_large_of c r = too_large c.words c.src r.refusal r.reason r.status_is
 
-not_yet_of : (c : Call) → Refused c 11 → (text : List ℕ) × GaveAll c.src text × ((names : Names) → IsThin text names → ⊥)
-not_yet_of c r = not_yet c.words c.src r.refusal r.reason r.status_is
+at_fault_of : (c : Call) → Refused c 1 → (text : List ℕ) × (fault : Fault) × GaveAll c.src text × IsAtFault text fault
+at_fault_of c r = at_fault c.words c.src r.refusal r.reason r.status_is
+
+a_loop_of : (c : Call) → Refused c 3 → (text : List ℕ) × (names : List Name) × GaveAll c.src text × HasLoop text names
+a_loop_of c r = a_loop c.words c.src r.refusal r.reason r.status_is
 
 read_fault_of : (c : Call) → Refused c 5 → ReadFailed c.src
 read_fault_of c r = read_fault c.words c.src r.refusal r.reason r.status_is
@@ -121,8 +156,9 @@ pub statuses_have_causes : StatusesHaveCauses
 statuses_have_causes c status h = record {
   usage = λ e. usage_of c (refused c status 2 h (λ z. cc) (λ z. cc) e);
   asked = λ two six seven. asked_by c status h two six seven (zero_or_not status);
-  too_long = λ e. too_long_of c (refused c status 4 h (λ z. cc) (λ z. cc) e);
-  not_yet = λ e. not_yet_of c (refused c status 11 h (λ z. cc) (λ z. cc) e);
+  at_fault = λ e. at_fault_of c (refused c status 1 h (λ z. cc) (λ z. cc) e);
+  a_loop = λ e. a_loop_of c (refused c status 3 h (λ z. cc) (λ z. cc) e);
+  too_large = λ e. too_large_of c (refused c status 4 h (λ z. cc) (λ z. cc) e);
   read_fault = λ e. read_fault_of c (refused c status 5 h (λ z. cc) (λ z. cc) e);
   write_fault = λ e. write_fault c (h.cut e);
 }

@@ -1,7 +1,8 @@
 -- The output of a command, and how the part of a run that reads and writes ends.
-use Rattle.std.specs.Prelude.{ℕ, List, take}
-use Rattle.ww_rule.specs.Patterns.{grid_of}
-use Rattle.pattern_writing.specs.Writer.{writer_text}
+use Rattle.std.specs.Prelude.{ℕ, List, take, ⊤}
+use Rattle.lane_core.specs.Plans.{IsAdmissible}
+use Rattle.grid_assembly.specs.PlanDrawing.{start_grid}
+use Rattle.written_reads.specs.Laws.{pattern_text}
 use Rattle.blifww_tool.specs.Run.{Reading, Writing, GainedNothing, WriteFailed, Does, HasReason}
 use Rattle.blifww_tool.specs.declared.output.Output.{Output}
 use Rattle.blifww_tool.specs.declared.output.Output.TheVariants.{Lines, Drawing}
@@ -11,7 +12,12 @@ use Rattle.blifww_tool.specs.declared.refusals.Refusal.TheVariants.{WriteFault}
 -- its bytes
 abbrev pub output_text : Output → List ℕ
 output_text (Lines text) = text
-output_text (Drawing pattern lines) = writer_text (grid_of pattern) lines
+output_text (Drawing planned) = pattern_text (start_grid planned.plan) planned.ports
+
+-- it can be written: a plan is admissible
+abbrev pub IsWritable : Output → Type 0
+IsWritable (Lines text) = ⊤
+IsWritable (Drawing planned) = IsAdmissible planned.plan
 
 -- out was cut off, or gained nothing where there is another reason
 abbrev pub HasStopped : List (List ℕ) → Reading → Writing → Refusal → Type 0

@@ -1,36 +1,32 @@
 -- For each command the texts that it accepts, what it prints of them, and why it refuses the others.
 use Rattle.std.specs.Prelude.{◌≡◌, ℕ, List, ⊤}
 use Rattle.command_words.specs.Shapes.{CommandValues, compile, simulate, eval}
-use Rattle.blifww_tool.specs.Thin.{Names, IsThin}
-use Rattle.blifww_tool.specs.Drawing.{thin_gate_text}
+use Rattle.netlist_core.specs.declared.model.Design.{Design}
+use Rattle.netlist_text.specs.NetlistText.{IsNetlist}
+use Rattle.blifww_tool.specs.Compilation.{Compiles, HasNoNetlist}
 use Rattle.blifww_tool.specs.Simulation.{Simulation, Simulates, simulation_text, HasNoSimulation}
 use Rattle.blifww_tool.specs.Evaluation.{Evaluation, IsEvaluation, Evaluates, HasNoEvaluation}
 use Rattle.blifww_tool.specs.declared.causes.Cause.{Cause}
-use Rattle.blifww_tool.specs.declared.causes.Cause.TheVariants.{NotYet, NetlistFault, Loop}
+use Rattle.blifww_tool.specs.declared.causes.Cause.TheVariants.{NetlistFault, Loop}
 use Rattle.netlist_text.specs.Laws.{AreAlike as AreAlikeFaults}
 use Rattle.blifww_tool.specs.declared.causes.TextError.{TextError}
 use Rattle.blifww_tool.specs.declared.causes.TextError.TheVariants.{Refused, NoMemory}
 
--- the command accepts the text: it is that of an OR gate; with the words a simulation in time; or with the words an evaluation
+-- the command accepts the text: it is a netlist; with the words a simulation in time; or with the words an evaluation
 abbrev pub Accepts : CommandValues → List ℕ → Type 0
-Accepts compile text = (names : Names) × IsThin text names
+Accepts compile text = (design : Design) × IsNetlist text design
 Accepts (simulate cycles words) text = (s : Simulation) × Simulates cycles words text s
 Accepts (eval cycles words) text = (e : Evaluation) × IsEvaluation cycles words text e
 
--- of such a text it prints this output: the gate's pattern; or a line for each output of the pattern, or of the netlist
+-- of such a text it prints this output: a pattern that carries the netlist; or a line for each output of the pattern, or of the netlist
 abbrev pub Prints : CommandValues → (text output : List ℕ) → Type 0
-Prints compile text output = (names : Names) × IsThin text names × (output ≡ thin_gate_text names)
+Prints compile text output = Compiles text output
 Prints (simulate cycles words) text output = (s : Simulation) × Simulates cycles words text s × (output ≡ simulation_text s)
 Prints (eval cycles words) text output = Evaluates cycles words text output
 
--- the text is not that of an OR gate
-abbrev pub IsNotThin : List ℕ → Cause → Type 0
-IsNotThin text NotYet = (names : Names) → IsThin text names → ⊥
-IsNotThin text _ = ⊥
-
 -- the command refuses the text for this cause
 abbrev pub Refuses : CommandValues → List ℕ → Cause → Type 0
-Refuses compile text cause = IsNotThin text cause
+Refuses compile text cause = HasNoNetlist text cause
 Refuses (simulate cycles words) text cause = HasNoSimulation cycles words text cause
 Refuses (eval cycles words) text cause = HasNoEvaluation cycles words text cause
 

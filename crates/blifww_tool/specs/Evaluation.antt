@@ -5,14 +5,15 @@ use Rattle.netlist_core.specs.Names.{Name}
 use Rattle.netlist_meaning.specs.Nets.{IsInNames}
 use Rattle.netlist_meaning.specs.Places.{main_outputs}
 use Rattle.netlist_meaning.specs.Valuation.{Valuation, IsRun}
-use Rattle.netlist_text.specs.NetlistText.{IsNetlist, IsAtFault, IsTooHeavy, HasLoop}
+use Rattle.netlist_text.specs.NetlistText.{IsNetlist}
 use Rattle.drive.specs.declared.streams.Streams.{Streams}
 use Rattle.drive.specs.Streams.{HasStreams, HasStreamFault}
 use Rattle.drive.specs.Driving.{rows_of}
 use Rattle.netlist_run.specs.Runs.{bits_in_run}
+use Rattle.blifww_tool.specs.Compilation.{HasNoNetlist}
 use Rattle.blifww_tool.specs.Lines.{bits_line}
 use Rattle.blifww_tool.specs.declared.causes.Cause.{Cause}
-use Rattle.blifww_tool.specs.declared.causes.Cause.TheVariants.{NetlistFault, WeightTooLarge, Loop, Streams as OfStreams}
+use Rattle.blifww_tool.specs.declared.causes.Cause.TheVariants.{Streams as OfStreams}
 
 -- a netlist, its IN names, and streams for them
 pub record Evaluation : Type 0 where
@@ -39,12 +40,8 @@ pub record Evaluates (cycles : ℕ) (words : List (List ℕ)) (text output : Lis
   pub is_run : IsRun evaluation.design (rows_of evaluation.streams) run
   pub lines : output ≡ evaluation_text evaluation run
 
--- why the text and the words are none: the text is at fault, or too heavy; its covers read each other in a circle; the streams are at
--- fault
+-- why the text and the words are none: the text is no netlist, or the streams are at fault
 abbrev pub HasNoEvaluation : ℕ → List (List ℕ) → List ℕ → Cause → Type 0
-HasNoEvaluation cycles words text (NetlistFault fault) = IsAtFault text fault
-HasNoEvaluation cycles words text (WeightTooLarge weight) = IsTooHeavy text weight
-HasNoEvaluation cycles words text (Loop names) = HasLoop text names
 HasNoEvaluation cycles words text (OfStreams fault) =
     (design : Design) × (names : List Name) × IsNetlist text design × IsInNames design names × HasStreamFault words names cycles fault
-HasNoEvaluation cycles words text _ = ⊥
+HasNoEvaluation cycles words text cause = HasNoNetlist text cause

@@ -1,13 +1,11 @@
-pub mod Names
 pub mod Joined
-pub mod Thin
-pub mod Drawing
 pub mod Refusals
 pub mod Lines
 pub mod Simulation
+pub mod Compilation
 pub mod Evaluation
 pub mod Commands
 pub mod Run
 pub mod Statuses
-pub mod Gate
+pub mod Headline
 pub mod Answer

@@ -24,7 +24,7 @@ use Rattle.drive.specs.declared.error.StreamError.TheVariants as streams_of
 use Rattle.drive.specs.declared.error.SimulateError.{SimulateError}
 use Rattle.drive.specs.declared.error.SimulateError.TheVariants as simulating
 use Rattle.blifww_tool.specs.declared.causes.Cause.{Cause}
-use Rattle.blifww_tool.specs.declared.causes.Cause.TheVariants.{NotYet, NetlistFault, WeightTooLarge, Loop, Pattern, GridTooLarge, PortTable, Streams, TooFar}
+use Rattle.blifww_tool.specs.declared.causes.Cause.TheVariants.{NetlistFault, WeightTooLarge, Loop, Pattern, GridTooLarge, PortTable, Streams, TooFar}
 use Rattle.blifww_tool.specs.declared.causes.TextError.{TextError}
 use Rattle.blifww_tool.specs.declared.causes.TextError.TheVariants as text
 use Rattle.blifww_tool.specs.declared.refusals.Refusal.{Refusal}
@@ -32,7 +32,6 @@ use Rattle.blifww_tool.specs.declared.refusals.Refusal.TheVariants.{Usage, TooLo
 
 -- the exit status for a cause that lies in a text
 abbrev pub status_of_cause : Cause → ℕ
-status_of_cause NotYet = 11
 status_of_cause (NetlistFault fault) = 1
 status_of_cause (WeightTooLarge weight) = 4
 status_of_cause (Loop names) = 3
@@ -103,7 +102,6 @@ loop_line names = codes "loop:" ++ (spaced names ++ codes "\n")
 
 -- the one line that tells such a cause
 abbrev pub cause_line : Cause → List ℕ
-cause_line NotYet = codes "not yet\n"
 cause_line (NetlistFault fault) = netlist_line fault
 cause_line (WeightTooLarge weight) = codes "too large: weight " ++ (decimal weight ++ codes " limit 1024\n")
 cause_line (Loop names) = loop_line names

@@ -2,7 +2,8 @@
 ghost use Rattle.std.specs.Prelude.{◌≡◌, ◌≤◌, ◌⊎◌, length, map, string_bytes, IfSome};
 ghost use Rattle.ww_base.specs.Fakes.{bytes_left};
 ghost use Rattle.command_words.specs.Shapes.{compile, IsCommand};
-ghost use Rattle.blifww_tool.specs.Thin.{Names, IsThin};
+ghost use Rattle.netlist_core.specs.declared.model.Design.{Design};
+ghost use Rattle.netlist_text.specs.NetlistText.{IsNetlist};
 ghost use Rattle.blifww_tool.specs.Run.{Asks, text_limit};
 
 use crate::top::run;
@@ -17,7 +18,7 @@ pub fn calm_status(
     out: &mut MemSink,
     err: &mut MemSink,
 ) -> Option<u8>
-    ensures { (n : Names) → IsCommand (map string_bytes words.now) → Asks (map string_bytes words.now) compile → IsThin (bytes_left src.old) n
+    ensures { (design : Design) → IsCommand (map string_bytes words.now) → Asks (map string_bytes words.now) compile → IsNetlist (bytes_left src.old) design
         → length (bytes_left src.old) ≤ text_limit → IfSome result (λ s. (s ≡ 0) ⊎ (s ≡ 7)) }
 {
     let reads = src.faults();

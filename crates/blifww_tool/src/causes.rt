@@ -5,6 +5,7 @@ use blif_text::Fault;
 use drive::{SimulateError, StreamError, StreamFault};
 use lists::List;
 use netlist_core::Name;
+use netlist_plans::NetlistPlanError;
 use netlist_run::RunError;
 use netlist_text::NetlistError;
 use port_table::{PortFault, PortReadError};
@@ -14,8 +15,6 @@ use std::alloc::AllocError;
 /// Why a command refuses a text.
 #[derive(Drop)]
 pub enum Cause {
-    /// The text is none that is compiled so far.
-    NotYet,
     /// The netlist's text breaks a rule.
     NetlistFault(Fault),
     /// The netlist weighs more than the limit.
@@ -47,7 +46,6 @@ impl Cause {
             Cause::WeightTooLarge { .. } | Cause::GridTooLarge { .. } | Cause::TooFar { .. } => 4,
             Cause::Pattern(_) | Cause::PortTable(_) => 8,
             Cause::Streams(_) => 9,
-            Cause::NotYet => 11,
         }
     }
 }
@@ -72,6 +70,18 @@ impl From<NetlistError> for TextError {
             }
             NetlistError::Loop(names) => TextError::Refused(Cause::Loop(names)),
             NetlistError::NoMemory => TextError::NoMemory,
+        }
+    }
+}
+
+impl From<NetlistPlanError> for TextError {
+    ghost use Rattle.blifww_tool.specs.declared.causes.TextError.TheVariants.{NoMemory};
+
+    ghost from_gives = { λ _ r. r ≡ NoMemory };
+
+    fn from(error: NetlistPlanError) -> Self {
+        match error {
+            NetlistPlanError::NoMemory => TextError::NoMemory,
         }
     }
 }

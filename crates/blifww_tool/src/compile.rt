@@ -1,26 +1,26 @@
 // `compile`: the pattern of a netlist.
-ghost use Rattle.std.specs.Prelude.{◌≤◌, ◌^◌, length, IfOk, IfErr};
+ghost use Rattle.std.specs.Prelude.{IfOk, IfErr};
 ghost use Rattle.command_words.specs.Shapes.{compile};
-ghost use Rattle.blifww_tool.specs.Answer.{output_text};
+ghost use Rattle.blifww_tool.specs.Answer.{output_text, IsWritable};
 ghost use Rattle.blifww_tool.specs.Commands.{Prints, HasTextCause};
 
-use crate::causes::{Cause, TextError};
-use crate::drawing::or_lines;
+use crate::causes::TextError;
 use crate::output::Output;
-use crate::thin::recognise;
-use or_gate::or_pattern;
+use flat_designs::{flat_is_one, flat_is_sound, flat_is_weighed};
+use netlist_plans::plan_netlist;
+use netlist_text::netlist_of;
 use std::alloc::Global;
 
-/// The pattern of the OR gate whose text this is.
+/// The pattern of the netlist whose text this is, with the lines that say where its ports are.
 pub fn compile(alloc: Global, text: &[u8]) -> Result<Output, TextError>
-    requires { length text.now ≤ 2 ^ 32 }
     ensures printed { IfOk result (λ output. Prints compile text.now (output_text output)) }
+    ensures writable { IfOk result IsWritable }
     ensures refused { IfErr result (λ e. HasTextCause compile text.now e) }
 {
-    let Some(gate) = recognise(text) else {
-        return Err(TextError::Refused(Cause::NotYet));
-    };
-    let pattern = or_pattern(alloc)?;
-    let lines = or_lines(alloc, &gate)?;
-    Ok(Output::Drawing { pattern, lines })
+    let netlist = netlist_of(alloc, text)?;
+    flat_is_sound();
+    flat_is_weighed();
+    flat_is_one();
+    let planned = plan_netlist(alloc, &netlist.flat, &netlist.order)?;
+    Ok(Output::Drawing(planned))
 }

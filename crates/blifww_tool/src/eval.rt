@@ -1,7 +1,7 @@
 // `eval`: the bits of a netlist's outputs, as lines.
 ghost use Rattle.std.specs.Prelude.{map, string_bytes, IfOk, IfErr};
 ghost use Rattle.command_words.specs.Shapes.{eval};
-ghost use Rattle.blifww_tool.specs.Answer.{output_text};
+ghost use Rattle.blifww_tool.specs.Answer.{output_text, IsWritable};
 ghost use Rattle.blifww_tool.specs.Commands.{Prints, HasTextCause};
 
 use crate::causes::TextError;
@@ -20,6 +20,7 @@ pub fn eval(
     text: &[u8],
 ) -> Result<Output, TextError>
     ensures printed { IfOk result (λ output. Prints (eval cycles (map string_bytes words.now)) text.now (output_text output)) }
+    ensures writable { IfOk result IsWritable }
     ensures refused { IfErr result (λ e. HasTextCause (eval cycles (map string_bytes words.now)) text.now e) }
 {
     let netlist = netlist_of(alloc, text)?;

@@ -1,24 +1,22 @@
-//! The top call of the program: `compile`, for the text of one OR gate, `simulate`, for the text of a pattern, and `eval`, for that of a
-//! netlist.
+//! The top call of the program: `compile` and `eval`, for the text of a netlist, and `simulate`, for the text of a pattern.
 #![tactic(auto)]
 
 pub mod calm;
 mod causes;
 mod compile;
-mod drawing;
 mod eval;
-mod joined;
 pub mod laws;
 mod lines;
 mod output;
 mod refusals;
 mod simulate;
-mod thin;
 mod told;
 mod top;
 
 pub use top::run;
 
+#[cfg(test)]
+mod compile_tests;
 #[cfg(test)]
 mod eval_tests;
 #[cfg(test)]

@@ -4,31 +4,31 @@ ghost use Rattle.std.specs.Io.KnownBytes.{Appends};
 ghost use Rattle.ww_base.specs.Faults.{HasCause};
 
 use lists::Bytes;
-use rle_write::write_pattern;
+use netlist_plans::Planned;
 use ww_base::{Failed, Sink, write_all};
-use ww_rule::Pattern;
 
 /// The output of a command, made in memory.
 #[derive(Drop)]
 pub enum Output {
     /// All its bytes.
     Lines(Bytes),
-    /// A pattern, with the lines before it.
-    Drawing { pattern: Pattern, lines: [Bytes; 4] },
+    /// A plan and its port table, whose text is written row by row.
+    Drawing(Planned),
 }
 
 impl Output {
-    ghost use Rattle.blifww_tool.specs.Answer.{output_text};
+    ghost use Rattle.blifww_tool.specs.Answer.{output_text, IsWritable};
 
     /// Writes it, or a front of it where a write fails. It takes no memory.
     pub fn write<O: Sink>(&self, out: &mut O) -> Result<(), Failed>
+        requires { IsWritable self.now }
         ensures ok { OnOk result (Appends (O.written out.old) (O.written out.new) (output_text self.now)) }
         ensures front { OnErr result ((n : ℕ) × Appends (O.written out.old) (O.written out.new) (take n (output_text self.now))) }
         ensures cause { HasCause (O.faults out.old) (O.faults out.new) result }
     {
         match self {
             Output::Lines(text) => write_all(out, text.as_slice()),
-            Output::Drawing { pattern, lines } => write_pattern(pattern, lines, out),
+            Output::Drawing(planned) => rle_write::write(&planned.plan, &planned.ports, out),
         }
     }
 }

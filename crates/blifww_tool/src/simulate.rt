@@ -2,7 +2,7 @@
 ghost use Rattle.std.specs.Prelude.{◌≡◌, ◌<◌, map, string_bytes, IfOk, IfErr};
 ghost use Rattle.command_words.specs.Shapes.{simulate};
 ghost use Rattle.pattern_reading.specs.Ports.{names_of};
-ghost use Rattle.blifww_tool.specs.Answer.{output_text};
+ghost use Rattle.blifww_tool.specs.Answer.{output_text, IsWritable};
 ghost use Rattle.blifww_tool.specs.Commands.{Prints, HasTextCause};
 
 use crate::causes::TextError;
@@ -33,6 +33,7 @@ pub fn simulate(
 ) -> Result<Output, TextError>
     requires some_cycle { 0 < cycles }
     ensures printed { IfOk result (λ output. Prints (simulate cycles (map string_bytes words.now)) text.now (output_text output)) }
+    ensures writable { IfOk result IsWritable }
     ensures refused { IfErr result (λ e. HasTextCause (simulate cycles (map string_bytes words.now)) text.now e) }
 {
     let pattern = rle_read::read(alloc, text)?;

@@ -69,28 +69,6 @@ fn an_or_gate_is_compiled_by_its_names(rt: HostRuntime) -> Result<(), Fail> {
 }
 
 #[test]
-fn other_texts_are_not_compiled_yet(rt: HostRuntime) -> Result<(), Fail> {
-    for text in [
-        b".model or\n.inputs a b\n.outputs y\n.names a b y\n10 1\n.end\n".as_slice(),
-        b".model or\n.inputs a b\n.outputs y\n.names a b y\n1- 1\n-1 1\n.end",
-        b".model or\r\n.inputs a b\r\n.outputs y\r\n.names a b y\r\n1- 1\r\n-1 1\r\n.end\r\n",
-        b".model or\n.inputs a  b\n.outputs y\n.names a b y\n1- 1\n-1 1\n.end\n",
-        b".model or\n.inputs a a\n.outputs y\n.names a a y\n1- 1\n-1 1\n.end\n",
-        b".model or\n.inputs a b\n.outputs a\n.names a b a\n1- 1\n-1 1\n.end\n",
-        b".model or\n.inputs a b\n.outputs y\n.names b a y\n1- 1\n-1 1\n.end\n",
-        b".model \n.inputs a b\n.outputs y\n.names a b y\n1- 1\n-1 1\n.end\n",
-        b".model or\n.inputs a b\n.outputs y\n.names a b y\n1- 1\n-1 1\n.end\n\n",
-        b"",
-    ] {
-        let got = run_over(rt.alloc(), COMPILE, text, (16, &[]), (242, 99))?;
-        assert_eq!(rt; got.status, 11);
-        assert_eq!(rt; got.out.as_slice(), b"".as_slice());
-        assert_eq!(rt; got.err.as_slice(), b"not yet\n".as_slice());
-    }
-    Ok(())
-}
-
-#[test]
 fn each_failure_is_told(rt: HostRuntime) -> Result<(), Fail> {
     for (words, fails, rooms, status, out, err) in [
         (
@@ -129,10 +107,10 @@ fn each_failure_is_told(rt: HostRuntime) -> Result<(), Fail> {
 fn a_text_past_the_limit_is_too_long(rt: HostRuntime) -> Result<(), Fail> {
     let alloc = rt.alloc();
     for (length, status, line) in [
-        (16_777_216, 11, b"not yet\n".as_slice()),
+        (16_777_216, 1, b"B22 NoModel line 1: -\n".as_slice()),
         (16_777_217, 4, b"too long: limit 16777216\n"),
     ] {
-        let text = vec![in alloc; b'a'; length]?;
+        let text = vec![in alloc; b'#'; length]?;
         let got = run_over(alloc, COMPILE, &text, (1 << 20, &[]), (242, 99))?;
         assert_eq!(rt; got.status, status, "{length} bytes");
         assert_eq!(rt; got.out.as_slice(), b"".as_slice());

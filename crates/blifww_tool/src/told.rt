@@ -192,7 +192,6 @@ impl Cause {
         ensures cause { HasCause (E.faults err.old) (E.faults err.new) result }
     {
         match self {
-            Cause::NotYet => write_all(err, b"not yet\n"),
             Cause::NetlistFault(fault) => tell_netlist_fault(err, fault),
             Cause::WeightTooLarge { weight } => tell_weight(err, *weight),
             Cause::Loop(names) => tell_loop(err, names.as_slice()),

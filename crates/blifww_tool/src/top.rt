@@ -1,9 +1,9 @@
 // The top call.
-ghost use Rattle.std.specs.Prelude.{◌≡◌, ◌≤◌, ◌^◌, ℕ, List, length, map, string_bytes, IfOk, IfErr, OnOk, IsErrOf};
+ghost use Rattle.std.specs.Prelude.{◌≡◌, ℕ, List, map, string_bytes, IfOk, IfErr, OnOk, IsErrOf};
 ghost use Rattle.command_words.specs.Shapes.{compile, values_of, HasCyclesInRange};
-ghost use Rattle.blifww_tool.specs.Gate.{WritesWhatItRead};
+ghost use Rattle.blifww_tool.specs.Headline.{WritesWhatItRead};
 ghost use Rattle.blifww_tool.specs.Commands.{Prints, HasTextCause};
-ghost use Rattle.blifww_tool.specs.Answer.{output_text, HasStopped};
+ghost use Rattle.blifww_tool.specs.Answer.{output_text, IsWritable, HasStopped};
 ghost use Rattle.blifww_tool.specs.Run.{Asks, AsksNothing, reading, writing, call, Gave, Does, Ends};
 
 use crate::causes::TextError;
@@ -13,7 +13,6 @@ use crate::output::Output;
 use crate::refusals::Refusal;
 use crate::simulate::simulate;
 use command_words::{Command, command_of};
-use or_gate::shows_or;
 use std::alloc::Global;
 use ww_base::{Failed, Sink, Source, read_all};
 
@@ -22,9 +21,9 @@ pub const TEXT_LIMIT: usize = 16_777_216;
 
 // What a command prints of a text. All memory that the command needs is taken here.
 fn answer(alloc: Global, command: &Command, text: &[u8]) -> Result<Output, TextError>
-    requires short { length text.now ≤ 2 ^ 32 }
     requires cycles { HasCyclesInRange (values_of command.now) }
     ensures printed { IfOk result (λ output. Prints (values_of command.now) text.now (output_text output)) }
+    ensures writable { IfOk result IsWritable }
     ensures refused { IfErr result (λ e. HasTextCause (values_of command.now) text.now e) }
 {
     match command {
@@ -58,16 +57,18 @@ fn work<S: Source, O: Sink>(
 
 /// Does what the words say, and answers the exit status. `words` begins with the program's name.
 ///
-/// `compile` reads the BLIF text of an OR gate from `src` and writes its pattern to `out` as extended RLE, with lines
+/// `compile` reads the BLIF text of a netlist from `src` and writes a pattern that carries it to `out` as extended RLE, with lines
 /// that say where its ports are. `simulate --cycles N name=bits..` reads such a pattern, with any ports, and writes a
 /// line `name=bits` for each output, with the bits that its cell shows when the streams of the words drive the inputs.
+/// `eval --cycles N name=bits..` reads a netlist and writes such lines with the bits of its run on the streams.
 ///
-/// 0: all of it is on `out`. 2: the words are no command. 4: the text has more than 16,777,216 bytes, the pattern's box
-/// has more than 268,435,456 cells, or its last cycle comes after generation 4,294,967,296. 5: `src` failed. 6: `out` or
-/// `err` failed. 7: there was not enough memory. 8: the text is no pattern's, or its port table is at fault. 9: the words
-/// are no streams for its inputs. 11: the text is not that of an OR gate. Of several the first in the order 2, 5, 4 (the
-/// text), 11, 8 (the header), 4 (the box), 8 (the items), 8 (the table), 9, 4 (generations), 6 is answered. With each but
-/// 0 and 6 one line on `err` tells it, and nothing is on `out`.
+/// 0: all of it is on `out`. 1: the netlist's text breaks a rule. 2: the words are no command. 3: covers read each other in a
+/// circle. 4: the text has more than 16,777,216 bytes, the netlist weighs more than 1,024, the pattern's box has more than
+/// 268,435,456 cells, or its last cycle comes after generation 4,294,967,296. 5: `src` failed. 6: `out` or `err` failed. 7: there
+/// was not enough memory. 8: the text is no pattern's, or its port table is at fault. 9: the words are no streams for the inputs. Of
+/// several the first is answered: 2, 5, 4 (the text); then of a netlist 1 (lines and models), 4 (the weight), 1 (clocks), 3, and of a
+/// pattern 8 (the header), 4 (the box), 8 (the items), 8 (the table); then 9, 4 (generations), 6. With each but 0 and 6 one line on
+/// `err` tells it, and nothing is on `out`.
 pub fn run<S: Source, O: Sink, E: Sink>(
     alloc: Global,
     words: &[String],
@@ -87,7 +88,6 @@ pub fn run<S: Source, O: Sink, E: Sink>(
     ensures unread { AsksNothing (map string_bytes words.now) → src.new ≡ src.old }
     ensures refused_unread { result ≡ 2 → src.new ≡ src.old }
 {
-    shows_or();
     match work(alloc, words, src, out) {
         Ok(()) => 0,
         Err(refusal) => match refusal.tell(err) {

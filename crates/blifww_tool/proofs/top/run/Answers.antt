@@ -5,7 +5,7 @@ use Rattle.blifww_tool.proofs.Stopped.{kept}
 use Rattle.blifww_tool.proofs.top.run.Goals as goal
 
 pub returns-in-Ok-clause-headline : goal.returns-in-Ok-clause-headline
-returns-in-Ok-clause-headline g c = λ e asks. headline c.shows_or.ensures _ _ _ c.in-Ok.ensures.done asks
+returns-in-Ok-clause-headline g c = λ e asks. headline _ _ _ c.in-Ok.ensures.done asks
 
 pub returns-in-Ok-clause-ends : goal.returns-in-Ok-clause-ends
 returns-in-Ok-clause-ends g c = ends _ 0 (done refl (record { done = c.in-Ok.ensures.done; silent = kept _ })) c.work.ensures.front

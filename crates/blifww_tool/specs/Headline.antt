@@ -1,15 +1,9 @@
--- The design of the text of an OR gate.
-use Rattle.std.specs.Prelude.{◌≡◌, ℕ, List, [], ◌∷◌, ◌++◌, Some}
+-- The headline.
+use Rattle.std.specs.Prelude.{◌≡◌, ℕ, List, ◌++◌, Some}
 use Rattle.netlist_core.specs.declared.model.Design.{Design}
-use Rattle.or_gate_text.specs.OrGate.{or_gate_model}
 use Rattle.blif_text.specs.Faults.{IsDesignOf}
 use Rattle.carries.specs.Carries.{Carries}
 use Rattle.blifww_tool.specs.Run.{Reading, Writing}
-use Rattle.blifww_tool.specs.Thin.{Names}
-
--- one model with the two inputs, the output and one cover with the rows of an OR
-abbrev pub thin_design : Names → Design
-thin_design n = record { models = or_gate_model n.model n.a n.b n.y ∷ [] }
 
 -- Where the source tells the bytes that it had left, and the output the bytes that it held: the bytes that the output gained carry
 -- the design of the bytes that the source had left.

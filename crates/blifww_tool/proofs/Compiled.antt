@@ -1,0 +1,62 @@
+-- What the parts of a compilation give together.
+use Rattle.std.proofs.Common.{ℕ, ◌≡◌, ◌≤◌, ◌<◌, ◌+◌, ◌*◌, ◌^◌, refl, sym, ap, ◌∙◌, subst, List, length, false, arith}
+use Rattle.lane_core.specs.declared.plan.Plan.{Plan}
+use Rattle.lane_core.specs.Plans.{IsAdmissible}
+use Rattle.grid_assembly.specs.PlanDrawing.{start_grid}
+use Rattle.pattern_reading.specs.declared.ports.Ports.{Ports}
+use Rattle.written_reads.specs.Laws.{pattern_text}
+use Rattle.cover_mapper.specs.Needs.{any_needs_one}
+use Rattle.netlist_core.specs.declared.model.Design.{Design}
+use Rattle.netlist_core.specs.declared.flat.Flat.{Flat}
+use Rattle.netlist_meaning.specs.Weight.{weight}
+use Rattle.netlist_meaning.specs.Flat.{IsSound, IsWeighed}
+use Rattle.netlist_meaning.specs.FlatOf.{IsFlatOf}
+use Rattle.flat_designs.specs.Laws.{FlatIsSound, FlatIsWeighed, FlatIsOne}
+use Rattle.netlist_text.specs.NetlistText.{IsNetlist}
+use Rattle.netlist_text.specs.Parts.{AreParts}
+use Rattle.netlist_text.specs.Causes.{HasNetlistCause}
+use Rattle.netlist_text.specs.declared.error.NetlistError.{NetlistError}
+use Rattle.netlist_text.specs.declared.error.NetlistError.TheVariants as netlist_of
+use Rattle.netlist_plans.specs.Planned.{CarriesDesigns, IsSmall}
+use Rattle.command_words.specs.Shapes.{compile}
+use Rattle.blifww_tool.specs.Commands.{HasTextCause}
+use Rattle.blifww_tool.specs.Compilation.{Compiles}
+use Rattle.blifww_tool.specs.Refusals.{netlist_error}
+
+-- a text that gives no netlist
+pub netlist_refused : (text : List ℕ) (e : NetlistError) → HasNetlistCause text e → HasTextCause compile text (netlist_error e)
+netlist_refused text (netlist_of.Fault fault) h = h
+netlist_refused text (netlist_of.TooLarge weight) h = h
+netlist_refused text (netlist_of.Loop names) h = h
+netlist_refused text netlist_of.NoMemory h = tt
+
+-- what a plan asks of the flat netlist
+pub sound : FlatIsSound → (design : Design) (flat : Flat) (order : List ℕ) → AreParts design flat order → IsSound flat
+sound law design flat order p = law design flat p.faultless p.clocks p.is_flat (let light : weight design ≤ 1024 = p.light in omega (arith, light))
+
+pub weighed : FlatIsWeighed → (design : Design) (flat : Flat) (order : List ℕ) → AreParts design flat order → IsWeighed flat
+weighed law design flat order p = law design flat p.faultless p.is_flat (let light : weight design ≤ 1024 = p.light in omega (arith, light))
+
+pub small : (design : Design) (flat : Flat) (order : List ℕ) → AreParts design flat order → flat.weight < 2 ^ 16
+small design flat order p =
+    let light : weight design ≤ 1024 = p.light in
+    let same : flat.weight ≡ weight design = p.is_flat.weight in
+    omega (arith, light, same)
+
+-- and what it gives
+pub compiles : FlatIsOne → (text : List ℕ) (design : Design) (flat : Flat) (order : List ℕ) (plan : Plan) (ports : Ports) → IsNetlist text design → AreParts design flat order
+    → IsAdmissible plan → CarriesDesigns flat plan ports → IsSmall flat plan → (length flat.latches ≡ 0 → any_needs_one flat ≡ false → ports.p ≡ 32)
+    → Compiles text (pattern_text (start_grid plan) ports)
+compiles one text design flat order plan ports is p admissible carries few period = record {
+  design = design;
+  netlist = is;
+  plan = plan;
+  ports = ports;
+  admissible = admissible;
+  written = refl;
+  carries = carries text design is.is.design_of is.clocks p.is_flat;
+  lanes = subst (λ (w : ℕ). plan.lanes ≤ 4 * w + 4) p.is_flat.weight few.lanes;
+  columns = subst (λ (w : ℕ). length plan.columns ≤ 256 * ((w + 1) * (w + 1))) p.is_flat.weight few.columns;
+  loops = λ other h. subst (λ (f : Flat). plan.latches ≤ length f.latches + 1) (one design flat other p.is_flat h) few.loops;
+  period = λ other h. subst (λ (f : Flat). length f.latches ≡ 0 → any_needs_one f ≡ false → ports.p ≡ 32) (one design flat other p.is_flat h) period;
+}

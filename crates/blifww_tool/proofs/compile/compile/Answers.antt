@@ -1,0 +1,26 @@
+use Rattle.std.proofs.Common.{◌≡◌}
+use Rattle.std.proofs.lemmas.Result.{err_from_is_err_and}
+use Rattle.blifww_tool.proofs.Compiled.{netlist_refused, sound, weighed, small, compiles}
+use Rattle.blifww_tool.proofs.compile.compile.Goals as goal
+
+pub plan_netlist-requires-clause-sound : goal.plan_netlist-requires-clause-sound
+plan_netlist-requires-clause-sound c = sound c.flat_is_sound.ensures c.in_ok-netlist.netlist.design c.in_ok-netlist.netlist.flat _ c.in_ok-netlist.ensures.parts
+
+pub plan_netlist-requires-clause-weighed : goal.plan_netlist-requires-clause-weighed
+plan_netlist-requires-clause-weighed c = weighed c.flat_is_weighed.ensures c.in_ok-netlist.netlist.design c.in_ok-netlist.netlist.flat _ c.in_ok-netlist.ensures.parts
+
+pub plan_netlist-requires-clause-small : goal.plan_netlist-requires-clause-small
+plan_netlist-requires-clause-small c = small c.in_ok-netlist.netlist.design c.in_ok-netlist.netlist.flat _ c.in_ok-netlist.ensures.parts
+
+pub plan_netlist-requires-clause-ordered : goal.plan_netlist-requires-clause-ordered
+plan_netlist-requires-clause-ordered c = c.in_ok-netlist.ensures.parts.is_order
+
+pub returns-in_err-netlist-clause-refused : goal.returns-in_err-netlist-clause-refused
+returns-in_err-netlist-clause-refused c =
+    let p = err_from_is_err_and c.from_residual.result c.from_residual.ensures.1 in
+    rw (p.1, p.2) (netlist_refused c.args.text.now c.in_err-netlist.field-0.0 c.in_err-netlist.ensures.refused)
+
+pub returns-clause-printed : goal.returns-clause-printed
+returns-clause-printed c =
+    compiles c.flat_is_one.ensures c.args.text.now c.in_ok-netlist.netlist.design c.in_ok-netlist.netlist.flat _ c.in_ok-planned.planned.plan c.in_ok-planned.planned.ports
+    c.in_ok-netlist.ensures.netlist c.in_ok-netlist.ensures.parts c.in_ok-planned.ensures.admissible c.in_ok-planned.ensures.carries c.in_ok-planned.ensures.small c.in_ok-planned.ensures.period
