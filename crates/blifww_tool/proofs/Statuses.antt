@@ -1,6 +1,6 @@
 -- Each status of a run comes only where its cause is.
 use Rattle.std.proofs.Common.{ℕ, zero, suc, ◌≡◌, ◌≢◌, ◌⊎◌, refl, sym, ap, ◌∙◌, subst, List, inl, inr, arith}
-use Rattle.command_words.specs.Shapes.{CommandValues, compile, IsCommand}
+use Rattle.command_words.specs.Shapes.{CommandValues, compile, simulate, eval, IsCommand}
 use Rattle.netlist_core.specs.Names.{Name}
 use Rattle.netlist_rules.specs.declared.fault.Fault.{Fault}
 use Rattle.netlist_text.specs.NetlistText.{IsAtFault, IsTooHeavy, HasLoop}
