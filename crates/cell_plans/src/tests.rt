@@ -1,6 +1,8 @@
-// Random lists of cells against their plans, cycle by cycle.
+// Lists of cells against their plans, cycle by cycle.
 mod drawing;
+mod rows;
 mod running;
+mod written;
 
 ghost use Rattle.std.specs.Prelude.{◌<◌, ◌^◌, ◌+◌, ◌-◌, IfOk, length};
 
