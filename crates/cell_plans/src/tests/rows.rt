@@ -8,7 +8,7 @@ use std::test::Fail;
 // A list, and for streams of input bits, a letter for each cycle, the streams of its outputs.
 struct Case {
     name: &'static str,
-    list: Written,
+    list: Written<'static>,
     cycles: usize,
     ins: &'static [&'static [u8]],
     outs: &'static [&'static [u8]],

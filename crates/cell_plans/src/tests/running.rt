@@ -151,10 +151,10 @@ fn next_state(alloc: Global, list: &CellList, cycle: &Cycle) -> Result<Vec<bool>
     Ok(bits)
 }
 
-// The bits that loops bring for the bits of latches: the last one brings constant 1, where the list names it.
-fn loops_of(alloc: Global, list: &CellList, state: &[bool]) -> Result<Vec<bool>, Fail> {
+// The bits that loops bring for the bits of latches, the last one for constant 1 where there is one for it.
+fn loops_of(alloc: Global, state: &[bool], one: bool) -> Result<Vec<bool>, Fail> {
     let mut bits = state.to_vec(alloc)?;
-    if list.names_one() {
+    if one {
         bits.push(true)?;
     }
     Ok(bits)
@@ -164,18 +164,19 @@ fn loops_of(alloc: Global, list: &CellList, state: &[bool]) -> Result<Vec<bool>,
 fn agrees_in(alloc: Global, list: &CellList, plan: &Plan, cycle: &Cycle) -> Result<bool, Fail>
     requires { IsAdmissible plan.now }
 {
-    let loops = loops_of(alloc, list, &cycle.state)?;
+    let one = list.names_one();
+    let loops = loops_of(alloc, &cycle.state, one)?;
     let entry = entry(alloc, plan, &cycle.inputs, &loops)?;
     let end = leave(alloc, plan, plan.columns.len(), &entry)?;
     let state = next_state(alloc, list, cycle)?;
-    let next = loops_of(alloc, list, &state)?;
+    let next = loops_of(alloc, &state, one)?;
     let brought = brought(alloc, plan, &end)?;
     let nets = nets_agree(alloc, list, plan, cycle, &entry)?;
     Ok(nets && outs_agree(list, plan, cycle, &end) && brought.as_slice() == next.as_slice())
 }
 
 fn starts_agree(alloc: Global, list: &CellList, plan: &Plan) -> Result<bool, Fail> {
-    let starts = loops_of(alloc, list, list.starts.as_slice())?;
+    let starts = loops_of(alloc, list.starts.as_slice(), list.names_one())?;
     Ok(starts.as_slice() == plan.starts.as_slice())
 }
 
@@ -220,15 +221,18 @@ pub fn agrees_for_all(alloc: Global, list: &CellList, plan: &Plan) -> Result<boo
     Ok(same)
 }
 
+fn is_one(stream: &[u8], cycle: usize) -> bool {
+    match stream.get(cycle) {
+        Some(b'1') => true,
+        _ => false,
+    }
+}
+
 // The bits of streams in a cycle, one letter of each stream.
 fn letters(alloc: Global, streams: &[&[u8]], cycle: usize) -> Result<Vec<bool>, Fail> {
     let mut bits = Vec::new(alloc);
     for stream in streams {
-        let bit = match stream.get(cycle) {
-            Some(letter) => *letter == b'1',
-            None => false,
-        };
-        bits.push(bit)?;
+        bits.push(is_one(stream, cycle))?;
     }
     Ok(bits)
 }
