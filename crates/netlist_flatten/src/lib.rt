@@ -14,6 +14,3 @@ mod tables;
 
 pub use error::FlattenError;
 pub use flattening::{WEIGHT_LIMIT, flatten};
-
-#[cfg(test)]
-mod tests;

@@ -151,13 +151,33 @@ fn next_state(alloc: Global, list: &CellList, cycle: &Cycle) -> Result<Vec<bool>
     Ok(bits)
 }
 
-fn loops_agree(list: &CellList, state: &[bool], loops: &[bool]) -> bool {
-    let one = if list.names_one() { 1 } else { 0 };
-    let mut same = loops.len() == list.starts.len().saturating_add(one);
-    for (bit, brought) in state.iter().zip(loops.iter()) {
-        same = same && *brought == *bit;
+// The bits that loops bring for the bits of latches, the last one for constant 1 where there is one for it.
+fn loops_of(alloc: Global, state: &[bool], one: bool) -> Result<Vec<bool>, Fail> {
+    let mut bits = state.to_vec(alloc)?;
+    if one {
+        bits.push(true)?;
     }
-    same && (!list.names_one() || bit_or_dark(loops, list.starts.len()))
+    Ok(bits)
+}
+
+// Whether the plan does in a cycle what the list does.
+fn agrees_in(alloc: Global, list: &CellList, plan: &Plan, cycle: &Cycle) -> Result<bool, Fail>
+    requires { IsAdmissible plan.now }
+{
+    let one = list.names_one();
+    let loops = loops_of(alloc, &cycle.state, one)?;
+    let entry = entry(alloc, plan, &cycle.inputs, &loops)?;
+    let end = leave(alloc, plan, plan.columns.len(), &entry)?;
+    let state = next_state(alloc, list, cycle)?;
+    let next = loops_of(alloc, &state, one)?;
+    let brought = brought(alloc, plan, &end)?;
+    let nets = nets_agree(alloc, list, plan, cycle, &entry)?;
+    Ok(nets && outs_agree(list, plan, cycle, &end) && brought.as_slice() == next.as_slice())
+}
+
+fn starts_agree(alloc: Global, list: &CellList, plan: &Plan) -> Result<bool, Fail> {
+    let starts = loops_of(alloc, list.starts.as_slice(), list.names_one())?;
+    Ok(starts.as_slice() == plan.starts.as_slice())
 }
 
 /// Whether the plan does what the list does, in four cycles of random inputs.
@@ -165,18 +185,86 @@ pub fn agrees(alloc: Global, list: &CellList, plan: &Plan, draw: &mut Draw) -> R
     requires { IsAdmissible plan.now }
 {
     let mut state = list.starts.as_slice().to_vec(alloc)?;
-    let mut loops = plan.starts.as_slice().to_vec(alloc)?;
-    let mut same = loops_agree(list, &state, &loops);
+    let mut same = starts_agree(alloc, list, plan)?;
     for _ in 0..4u32 {
         let inputs = draw_bits(alloc, draw, list.inputs)?;
         let cycle = run_list(alloc, list, inputs, state)?;
-        let entry = entry(alloc, plan, &cycle.inputs, &loops)?;
-        let end = leave(alloc, plan, plan.columns.len(), &entry)?;
-        same = same && outs_agree(list, plan, &cycle, &end);
-        same = same && nets_agree(alloc, list, plan, &cycle, &entry)?;
+        same = same && agrees_in(alloc, list, plan, &cycle)?;
         state = next_state(alloc, list, &cycle)?;
+    }
+    Ok(same)
+}
+
+// The last bits of a number, the last one first.
+fn bits_of(alloc: Global, number: u32, count: usize) -> Result<Vec<bool>, Fail> {
+    let mut bits = Vec::new(alloc);
+    let mut rest = number;
+    for _ in 0..count {
+        bits.push(rest % 2 == 1)?;
+        rest /= 2;
+    }
+    Ok(bits)
+}
+
+/// Whether the plan does what the list does, for all bits of at most eight inputs and latches.
+pub fn agrees_for_all(alloc: Global, list: &CellList, plan: &Plan) -> Result<bool, Fail>
+    requires { IsAdmissible plan.now }
+{
+    let latches = list.starts.len();
+    let mut same = starts_agree(alloc, list, plan)?;
+    for number in 0..256u32 {
+        let state = bits_of(alloc, number, latches)?;
+        let inputs = bits_of(alloc, number >> latches.min(8), list.inputs as usize)?;
+        let cycle = run_list(alloc, list, inputs, state)?;
+        same = same && agrees_in(alloc, list, plan, &cycle)?;
+    }
+    Ok(same)
+}
+
+fn is_one(stream: &[u8], cycle: usize) -> bool {
+    match stream.get(cycle) {
+        Some(b'1') => true,
+        _ => false,
+    }
+}
+
+// The bits of streams in a cycle, one letter of each stream.
+fn letters(alloc: Global, streams: &[&[u8]], cycle: usize) -> Result<Vec<bool>, Fail> {
+    let mut bits = Vec::new(alloc);
+    for stream in streams {
+        bits.push(is_one(stream, cycle))?;
+    }
+    Ok(bits)
+}
+
+fn outs_of(alloc: Global, plan: &Plan, end: &[bool]) -> Result<Vec<bool>, Fail> {
+    let mut bits = Vec::new(alloc);
+    for lane in plan.outs.as_slice() {
+        bits.push(bit_at(end, *lane))?;
+    }
+    Ok(bits)
+}
+
+/// Whether the plan, from its starts on, makes the streams `outs` of the streams `ins`.
+pub fn plays(
+    alloc: Global,
+    plan: &Plan,
+    cycles: usize,
+    ins: &[&[u8]],
+    outs: &[&[u8]],
+) -> Result<bool, Fail>
+    requires { IsAdmissible plan.now }
+{
+    let mut loops = plan.starts.as_slice().to_vec(alloc)?;
+    let mut same = true;
+    for cycle in 0..cycles {
+        let inputs = letters(alloc, ins, cycle)?;
+        let entry = entry(alloc, plan, &inputs, &loops)?;
+        let end = leave(alloc, plan, plan.columns.len(), &entry)?;
+        let wanted = letters(alloc, outs, cycle)?;
+        let made = outs_of(alloc, plan, &end)?;
+        same = same && made.as_slice() == wanted.as_slice();
         loops = brought(alloc, plan, &end)?;
-        same = same && loops_agree(list, &state, &loops);
     }
     Ok(same)
 }

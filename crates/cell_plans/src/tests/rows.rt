@@ -1,0 +1,194 @@
+// Small circuits as lists of cells, with streams of bits that they make.
+use super::running::{agrees_for_all, plays};
+use super::written::{Written, list_of};
+use crate::plan_of;
+use cell_core::{Cell, Src};
+use std::test::Fail;
+
+// A list, and for streams of input bits, a letter for each cycle, the streams of its outputs.
+struct Case {
+    name: &'static str,
+    list: Written<'static>,
+    cycles: usize,
+    ins: &'static [&'static [u8]],
+    outs: &'static [&'static [u8]],
+}
+
+const CASES: [Case; 8] = [
+    Case {
+        name: "an OR",
+        list: Written {
+            inputs: 2,
+            cells: &[Cell::Or(Src::Input(0), Src::Input(1))],
+            outs: &[Src::Cell(0)],
+            latches: &[],
+            starts: &[],
+            nets: &[Src::Input(0), Src::Input(1), Src::Cell(0)],
+        },
+        cycles: 4,
+        ins: &[b"0011", b"0101"],
+        outs: &[b"0111"],
+    },
+    Case {
+        name: "one and not the other",
+        list: Written {
+            inputs: 2,
+            cells: &[Cell::AndNot(Src::Input(0), Src::Input(1))],
+            outs: &[Src::Cell(0)],
+            latches: &[],
+            starts: &[],
+            nets: &[Src::Input(0), Src::Input(1), Src::Cell(0)],
+        },
+        cycles: 4,
+        ins: &[b"0011", b"0101"],
+        outs: &[b"0010"],
+    },
+    Case {
+        name: "constant 0",
+        list: Written {
+            inputs: 0,
+            cells: &[],
+            outs: &[Src::Zero],
+            latches: &[],
+            starts: &[],
+            nets: &[Src::Zero],
+        },
+        cycles: 3,
+        ins: &[],
+        outs: &[b"000"],
+    },
+    Case {
+        name: "a crossing",
+        list: Written {
+            inputs: 2,
+            cells: &[],
+            outs: &[Src::Input(1), Src::Input(0)],
+            latches: &[],
+            starts: &[],
+            nets: &[Src::Input(0), Src::Input(1), Src::Input(1), Src::Input(0)],
+        },
+        cycles: 4,
+        ins: &[b"0011", b"0101"],
+        outs: &[b"0101", b"0011"],
+    },
+    Case {
+        name: "five copies",
+        list: Written {
+            inputs: 1,
+            cells: &[],
+            outs: &[
+                Src::Input(0),
+                Src::Input(0),
+                Src::Input(0),
+                Src::Input(0),
+                Src::Input(0),
+            ],
+            latches: &[],
+            starts: &[],
+            nets: &[
+                Src::Input(0),
+                Src::Input(0),
+                Src::Input(0),
+                Src::Input(0),
+                Src::Input(0),
+                Src::Input(0),
+            ],
+        },
+        cycles: 2,
+        ins: &[b"01"],
+        outs: &[b"01", b"01", b"01", b"01", b"01"],
+    },
+    Case {
+        name: "a toggle",
+        list: Written {
+            inputs: 0,
+            cells: &[Cell::AndNot(Src::One, Src::Latch(0))],
+            outs: &[Src::Latch(0)],
+            latches: &[Src::Cell(0)],
+            starts: &[false],
+            nets: &[Src::Latch(0), Src::Cell(0)],
+        },
+        cycles: 4,
+        ins: &[],
+        outs: &[b"0101"],
+    },
+    Case {
+        name: "a counter of two bits",
+        list: Written {
+            inputs: 0,
+            cells: &[
+                Cell::AndNot(Src::One, Src::Latch(0)),
+                Cell::Xor(Src::Latch(0), Src::Latch(1)),
+            ],
+            outs: &[Src::Latch(0), Src::Latch(1)],
+            latches: &[Src::Cell(0), Src::Cell(1)],
+            starts: &[false, false],
+            nets: &[Src::Latch(0), Src::Latch(1), Src::Cell(0), Src::Cell(1)],
+        },
+        cycles: 5,
+        ins: &[],
+        outs: &[b"01010", b"00110"],
+    },
+    Case {
+        name: "an adder of two bits",
+        list: Written {
+            inputs: 5,
+            cells: &[
+                Cell::Xor(Src::Input(0), Src::Input(2)),
+                Cell::AndNot(Src::Input(0), Src::Cell(0)),
+                Cell::Xor(Src::Cell(0), Src::Input(4)),
+                Cell::AndNot(Src::Input(4), Src::Cell(2)),
+                Cell::Or(Src::Cell(1), Src::Cell(3)),
+                Cell::Xor(Src::Input(1), Src::Input(3)),
+                Cell::AndNot(Src::Input(1), Src::Cell(5)),
+                Cell::Xor(Src::Cell(5), Src::Cell(4)),
+                Cell::AndNot(Src::Cell(4), Src::Cell(7)),
+                Cell::Or(Src::Cell(6), Src::Cell(8)),
+            ],
+            outs: &[Src::Cell(2), Src::Cell(7), Src::Cell(9)],
+            latches: &[],
+            starts: &[],
+            nets: &[
+                Src::Input(0),
+                Src::Input(1),
+                Src::Input(2),
+                Src::Input(3),
+                Src::Input(4),
+                Src::Cell(4),
+                Src::Cell(2),
+                Src::Cell(7),
+                Src::Cell(9),
+            ],
+        },
+        cycles: 32,
+        ins: &[
+            b"01010101010101010101010101010101",
+            b"00110011001100110011001100110011",
+            b"00001111000011110000111100001111",
+            b"00000000111111110000000011111111",
+            b"00000000000000001111111111111111",
+        ],
+        outs: &[
+            b"01011010010110101010010110100101",
+            b"00110110110010010110110010010011",
+            b"00000001001101110001001101111111",
+        ],
+    },
+];
+
+#[test]
+fn small_circuits_do_what_they_say(rt: HostRuntime) -> Result<(), Fail> {
+    let alloc = rt.alloc();
+    for case in &CASES {
+        let list = list_of(alloc, &case.list)?;
+        let plan = plan_of(alloc, &list)?;
+        assert_eq!(rt; agrees_for_all(alloc, &list, &plan)?, true, "{}", case.name);
+        assert_eq!(rt;
+            plays(alloc, &plan, case.cycles, case.ins, case.outs)?,
+            true,
+            "{}",
+            case.name
+        );
+    }
+    Ok(())
+}
