@@ -1,4 +1,4 @@
--- A text is one netlist, or has one cause why it is none.
+-- A text is at most one of a netlist and the causes why it is none.
 use Rattle.std.proofs.Common.{ℕ, ◌≡◌, ◌≤◌, ◌<◌, ◌^◌, ◌-◌, refl, sym, ap, ◌∙◌, subst, List, arith, min}
 use Rattle.netlist_core.specs.declared.model.Design.{Design}
 use Rattle.netlist_core.specs.Names.{Name}
