@@ -13,10 +13,9 @@ use crate::latches::is_latch;
 use crate::pins::{first_bad_pin, pin_words};
 use crate::rows::{differs_from, is_row_of};
 use crate::rules::{has_bad_count, unknown_directive, unsupported};
-use crate::words::{
-    begins_model, copied, first_operand, first_word, has_directive, is_row, operands,
-};
+use crate::words::{begins_model, first_operand, first_word, has_directive, is_row, operands};
 use blif_text::{Fault, FaultKind, Logical};
+use lists::copied;
 use std::alloc::{AllocError, Global};
 
 /// A rule that a line breaks, and the word that it names.

@@ -51,7 +51,7 @@ met_again links marks next stack order n from k place w top (b, leads, is_open) 
         let i_in : place + i < length stack = omega (arith, long, less, l) in
         let j_in : place + j < length stack = omega (arith, long, l) in
         let e : get_or stack (place + i) 0 ≡ get_or stack (place + j) 0 =
-            sym (at i) ∙ get_or_default (drop place stack) i 0 d (omega (arith, less, l)) ∙ same ∙ get_or_default (drop place stack) j d 0 l ∙ at j in
+        sym (at i) ∙ get_or_default (drop place stack) i 0 d (omega (arith, less, l)) ∙ same ∙ get_or_default (drop place stack) j d 0 l ∙ at j in
         let o : Open (place + i) ≡ Open (place + j) = sym (w.open_at (place + i) i_in) ∙ ap (mark_of marks) e ∙ w.open_at (place + j) j_in in
         let p : place + i ≡ place + j = cc in
         absurd (omega arith)

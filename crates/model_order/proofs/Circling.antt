@@ -24,9 +24,12 @@ pub circular : (models : List Model) (links : Links) (circle : List ℕ) → Are
 circular models links [] are c = absurd (let some : 0 < length {A = ℕ} [] = c.some in omega arith)
 circular models links (x ∷ xs) are c =
     let (k, closing) = c.closes in
-    let placed = placed_by models links are (get_or (x ∷ xs) (length (x ∷ xs) - 1) 0) k x closing in
-    (name_at models x, map (name_at models) xs, leads_named models (name_at models x) x xs x (placed_named models (get_or (x ∷ xs) (length (x ∷ xs) - 1) 0) k x placed)
-    (leads_along models x xs x (λ i l. along i (c.steps i l)) (k, placed)))
+    let placed = placed_by models links are (get_or (x ∷ xs) (length (x ∷ xs) - 1) 0) k x closing in (
+      name_at models x,
+      map (name_at models) xs,
+      leads_named models (name_at models x) x xs x (placed_named models (get_or (x ∷ xs) (length (x ∷ xs) - 1) 0) k x placed)
+          (leads_along models x xs x (λ i l. along i (c.steps i l)) (k, placed)),
+    )
   where
     along : (i : ℕ) → LeadsOnTo links (get_or (x ∷ xs) i 0) (get_or (x ∷ xs) (i + 1) 0) → PlacesSomewhere models (get_or (x ∷ xs) i 0) (get_or (x ∷ xs) (i + 1) 0)
     along i (k, step) = (k, placed_by models links are (get_or (x ∷ xs) i 0) k (get_or (x ∷ xs) (i + 1) 0) step)
