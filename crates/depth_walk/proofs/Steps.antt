@@ -6,7 +6,7 @@ use Rattle.depth_walk.specs.declared.walk.Mark.{Mark}
 use Rattle.depth_walk.specs.declared.walk.Mark.TheVariants.{Unseen, Open, Done}
 use Rattle.depth_walk.specs.declared.walk.Met.TheVariants.{Nothing, Fresh}
 use Rattle.depth_walk.specs.Links.{Links, LeadsTo}
-use Rattle.depth_walk.specs.Walk.{AreDoneWithin, IsDone, mark_of, IsWalk, IsMet, IsTop, AreStillSeen}
+use Rattle.depth_walk.specs.Walk.{AreDoneWithin, IsMarkedDone, mark_of, IsWalk, IsMet, IsTop, AreStillSeen}
 use Rattle.depth_walk.proofs.Walks.{opened, passed, closed, walk_same}
 use Rattle.depth_walk.proofs.Orders.{open_within}
 
@@ -25,7 +25,7 @@ met_nothing links marks next stack order n from w top is met =
     cases : (a b : ℕ) → (a < b) ⊎ (b ≤ a)
     cases a b = grind arith
 
-    by : (k b : ℕ) → LeadsTo links n k b → (k < from) ⊎ (from ≤ k) → IsDone (mark_of marks b)
+    by : (k b : ℕ) → LeadsTo links n k b → (k < from) ⊎ (from ≤ k) → IsMarkedDone (mark_of marks b)
     by k b r (inl less) = w.passed n k b (subst (λ v. k < v) is less) r
     by k b r (inr more) = met k b more r
 

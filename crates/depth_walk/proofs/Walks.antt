@@ -5,7 +5,7 @@ use Rattle.std.proofs.lemmas.List.Sums.{sum_by-set}
 use Rattle.depth_walk.specs.declared.walk.Mark.{Mark}
 use Rattle.depth_walk.specs.declared.walk.Mark.TheVariants.{Unseen, Open, Done}
 use Rattle.depth_walk.specs.Links.{Links, LeadsTo}
-use Rattle.depth_walk.specs.Walk.{AreDoneWithin, IsDone, mark_of, is_unseen, IsWalk}
+use Rattle.depth_walk.specs.Walk.{AreDoneWithin, IsMarkedDone, mark_of, is_unseen, IsWalk}
 
 -- a mark is the new one, or as before
 MarkAfter : List Mark → ℕ → Mark → ℕ → Type 0
@@ -148,18 +148,18 @@ passed links marks next stack order n k w less some top within = record {
     lower_or_not : (i j : ℕ) → (i < j) ⊎ (j ≤ i)
     lower_or_not i j = grind arith
 
-    read_here : (i b : ℕ) → i < k → LeadsTo links n i b → (i < get_or next n 0) ⊎ (get_or next n 0 ≤ i) → IsDone (mark_of marks b)
+    read_here : (i b : ℕ) → i < k → LeadsTo links n i b → (i < get_or next n 0) ⊎ (get_or next n 0 ≤ i) → IsMarkedDone (mark_of marks b)
     read_here i b l r (inl old) = w.passed n i b old r
     read_here i b l r (inr new) = within i b new l r
 
-    read : (m i b : ℕ) → i < get_or (set next n k) m 0 → LeadsTo links m i b → (m ≡ n) ⊎ (m ≢ n) → IsDone (mark_of marks b)
+    read : (m i b : ℕ) → i < get_or (set next n k) m 0 → LeadsTo links m i b → (m ≡ n) ⊎ (m ≢ n) → IsMarkedDone (mark_of marks b)
     read m i b l r (inl same) =
         let value : get_or (set next n k) m 0 ≡ k = ap (λ v. get_or (set next n k) v 0) same ∙ get_or-set_same next n k 0 (subst (λ v. n < v) (sym w.next_fit) less) in
         read_here i b (subst (λ v. i < v) value l) (subst (λ v. LeadsTo links v i b) same r) (lower_or_not i (get_or next n 0))
     read m i b l r (inr other) = w.passed m i b (subst (λ v. i < v) (get_or-set_other next n m k 0 other) l) r
 
 pub closed : (links : Links) (marks : List Mark) (next stack order : List ℕ) (n : ℕ) → IsWalk links marks next stack order → n < length links → 0 < length stack → get_or stack (length stack - 1) 0 ≡ n
-    → ((k b : ℕ) → LeadsTo links n k b → IsDone (mark_of marks b))
+    → ((k b : ℕ) → LeadsTo links n k b → IsMarkedDone (mark_of marks b))
     → IsWalk links (set marks n (Done (length order))) next (take (length stack - 1) stack) (order ++ n ∷ [])
 unfolding MarkAfter
 closed links marks next stack order n w less some top done = record {

@@ -10,8 +10,8 @@ use Rattle.depth_walk.specs.Links.{Links, LeadsTo}
 abbrev pub mark_of : List Mark → ℕ → Mark
 mark_of marks n = get_or marks n Unseen
 
-abbrev pub IsDone : Mark → Type 0
-IsDone mark = (i : ℕ) × (mark ≡ Done i)
+abbrev pub IsMarkedDone : Mark → Type 0
+IsMarkedDone mark = (i : ℕ) × (mark ≡ Done i)
 
 abbrev pub is_unseen : Mark → Bool
 is_unseen Unseen = true
@@ -28,7 +28,7 @@ pub record IsWalk (links : Links) (marks : List Mark) (next stack order : List �
   pub at_open : (n i : ℕ) → mark_of marks n ≡ Open i → (i < length stack) × (get_or stack i 0 ≡ n)
   pub done_at : (i : ℕ) → i < length order → mark_of marks (get_or order i 0) ≡ Done i
   pub at_done : (n i : ℕ) → mark_of marks n ≡ Done i → (i < length order) × (get_or order i 0 ≡ n)
-  pub passed : (n k b : ℕ) → k < get_or next n 0 → LeadsTo links n k b → IsDone (mark_of marks b)
+  pub passed : (n k b : ℕ) → k < get_or next n 0 → LeadsTo links n k b → IsMarkedDone (mark_of marks b)
   pub before : (n i k b : ℕ) → mark_of marks n ≡ Done i → LeadsTo links n k b → (j : ℕ) × (j < i) × (mark_of marks b ≡ Done j)
   pub path : (i : ℕ) → i + 1 < length stack → LeadsTo links (get_or stack i 0) (get_or next (get_or stack i 0) 0) (get_or stack (i + 1) 0)
 
@@ -38,11 +38,11 @@ work marks stack = 2 * count_by is_unseen marks + length stack
 
 -- what the steps from a number lead to, from one on and below another, is done
 abbrev pub AreDoneWithin : Links → List Mark → ℕ → ℕ → ℕ → Type 0
-AreDoneWithin links marks n from to = (k b : ℕ) → from ≤ k → k < to → LeadsTo links n k b → IsDone (mark_of marks b)
+AreDoneWithin links marks n from to = (k b : ℕ) → from ≤ k → k < to → LeadsTo links n k b → IsMarkedDone (mark_of marks b)
 
 -- the first step from a number, from one on, that leads to one which is not done
 abbrev pub IsMet : Links → List Mark → ℕ → ℕ → Met → Type 0
-IsMet links marks n from Nothing = (k b : ℕ) → from ≤ k → LeadsTo links n k b → IsDone (mark_of marks b)
+IsMet links marks n from Nothing = (k b : ℕ) → from ≤ k → LeadsTo links n k b → IsMarkedDone (mark_of marks b)
 IsMet links marks n from (Fresh k b) = (from ≤ k) × AreDoneWithin links marks n from k × LeadsTo links n k b × (b < length links) × (mark_of marks b ≡ Unseen)
 IsMet links marks n from (Again k place) = (b : ℕ) × LeadsTo links n k b × (mark_of marks b ≡ Open place)
 
