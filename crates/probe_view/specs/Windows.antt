@@ -1,7 +1,6 @@
 -- A part of a plane as text.
 use Rattle.std.specs.Prelude.{ℕ, pos, List, [], ◌∷◌, ◌++◌, map, flat_map}
 use Rattle.std.specs.List.{range_with_len}
-use Rattle.std.specs.Str.{byte}
 use Rattle.ww_rule.specs.Wireworld.{Plane}
 use Rattle.pattern_writing.specs.Writer.{tag_of}
 

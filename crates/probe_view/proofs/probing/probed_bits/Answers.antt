@@ -4,7 +4,6 @@ use Rattle.std.proofs.lemmas.List.FromFn.{map-range_with_len_more}
 use Rattle.ww_rule.specs.Grid.{plane_of}
 use Rattle.ww_rule.specs.Wireworld.{Plane, is_head}
 use Rattle.drive.specs.Driving.{driven_by}
-use Rattle.drive.specs.Runs.{planes_of}
 use Rattle.probe_view.proofs.probing.probed_bits.Goals as goal
 
 pub loop-cycle-preserved : goal.loop-cycle-preserved

@@ -1,7 +1,6 @@
 use Rattle.std.proofs.Common.{ℕ, ◌+◌, ◌++◌, ◌∷◌, [], sym, ap, ◌∙◌, refl, List, pos}
 use Rattle.std.proofs.lemmas.List.{append_assoc}
 use Rattle.std.proofs.lemmas.List.FromFn.{map-range_with_len_more}
-use Rattle.ww_rule.specs.declared.pattern.State.{State}
 use Rattle.pattern_writing.specs.Writer.{tag_of}
 use Rattle.drive.specs.Runs.{planes_of}
 use Rattle.probe_view.specs.Windows.{window_tags}
