@@ -1,4 +1,4 @@
-use Rattle.std.proofs.Common.{◌≡◌, ap₂, sym, subst, ◌∙◌, ℕ, List, Result, Ok, Err, IfOk}
+use Rattle.std.proofs.Common.{◌≡◌, ap₂, sym, subst, ◌∙◌, List, Result, Ok, Err, IfOk}
 use Rattle.ww_rule.specs.declared.pattern.Injection.{Injection}
 use Rattle.ww_rule.specs.Due.{AreInOrderFrom}
 use Rattle.ww_rule.specs.Grid.{Grid, plane_of}
@@ -7,7 +7,7 @@ use Rattle.ww_rule.specs.Patterns.{grid_of}
 use Rattle.ww_rule.specs.Wireworld.{driven}
 use Rattle.pattern_reading.specs.Ports.{cells_of}
 use Rattle.drive.specs.declared.run.Run.{Run}
-use Rattle.drive.specs.Driving.{rows_of, driven_by}
+use Rattle.drive.specs.Driving.{rows_of}
 use Rattle.drive.specs.Runs.{planes_of}
 use Rattle.drive.proofs.Inside.{rows_inside}
 use Rattle.drive.proofs.Streamed.{rows_in_order}
