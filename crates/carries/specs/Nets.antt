@@ -4,7 +4,7 @@ use Rattle.ww_rule.specs.Wireworld.{Plane, driven}
 use Rattle.ww_rule.specs.Grid.{plane_of}
 use Rattle.pattern_reading.specs.declared.ports.Ports.{Ports}
 use Rattle.pattern_reading.specs.declared.ports.NetLine.{NetLine}
-use Rattle.place_paths.specs.Paths.{path_of}
+use Rattle.place_paths.specs.Paths.{name_and_path, names_and_paths}
 use Rattle.netlist_core.specs.declared.model.Design.{Design}
 use Rattle.netlist_meaning.specs.Nets.{Net, IsClockNet}
 use Rattle.netlist_meaning.specs.InOrder.{nets_in_order}
@@ -23,7 +23,7 @@ AreSeenNets design nets = WithoutClocks design (nets_in_order design) nets
 
 -- the lines of the table name these nets, each by its name and by the path of its place, one line a net, in order
 abbrev pub NamesNets : Ports → List Net → Type 0
-NamesNets ports nets = map (λ (line : NetLine). (line.name, line.path)) ports.nets ≡ map (λ (net : Net). (net.name, path_of net.place)) nets
+NamesNets ports nets = names_and_paths ports.nets ≡ map (λ net. name_and_path net.place net.name) nets
 
 -- Driven by any rows of input bits, for any number of cycles N: in every run of the design on them, the cell of each net's line
 -- shows the net's bits, from the line's offset on, at every generation below offset + N P

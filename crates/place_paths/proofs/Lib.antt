@@ -1,1 +1,1 @@
-mod Paths
+pub mod Paths

@@ -10,7 +10,7 @@ use Rattle.pattern_reading.specs.declared.ports.NetLine.{NetLine}
 use Rattle.pattern_reading.specs.declared.ports.Ports.{Ports}
 use Rattle.pattern_reading.specs.Ports.{cells_of, names_of}
 use Rattle.pattern_reading.specs.Spelling.{IsPortName}
-use Rattle.place_paths.specs.Paths.{path_of, HasTableNumbers}
+use Rattle.place_paths.specs.Paths.{name_and_path, names_and_paths, HasTableNumbers}
 
 -- the plan has an input and an output for each of the netlist's, and a net for each but the clock nets
 pub record HasPortsOf (flat : Flat) (plan : Plan) : Type 0 where
@@ -22,12 +22,9 @@ pub record HasPortsOf (flat : Flat) (plan : Plan) : Type 0 where
 abbrev pub net_cells_of : List NetLine → List (ℕ × ℕ × ℕ)
 net_cells_of lines = map (λ line. (line.x, line.y, line.offset)) lines
 
--- their names, each with the path of its place
-abbrev pub net_names_of : List NetLine → List (Name × List ℕ)
-net_names_of lines = map (λ line. (line.name, line.path)) lines
-
+-- the names of nets, each with the path of its place
 abbrev pub named_paths : List FlatNet → List (Name × List ℕ)
-named_paths nets = map (λ net. (net.name, path_of net.place)) nets
+named_paths nets = map (λ net. name_and_path net.place net.name) nets
 
 -- The period, the latency, the cells of ports, and the cells and the offsets of nets are the plan's. The names of ports, and the
 -- names and places of nets, are the netlist's, in order: the nets are those that are no clock nets.
@@ -39,7 +36,7 @@ pub record IsTableOf (flat : Flat) (plan : Plan) (ports : Ports) : Type 0 where
   pub out_cells : cells_of ports.outs ≡ output_cells plan
   pub out_names : names_of ports.outs ≡ names_of_ports flat flat.outs
   pub net_cells : net_cells_of ports.nets ≡ net_cells plan
-  pub net_names : net_names_of ports.nets ≡ named_paths (nets_but_clocks flat)
+  pub net_names : names_and_paths ports.nets ≡ named_paths (nets_but_clocks flat)
 
 -- the names of all nets can stand in a port table
 abbrev pub HasPortNames : Flat → Type 0

@@ -4,7 +4,7 @@ ghost use Rattle.lane_core.specs.Plans.{IsAdmissible, net_cells, net_cell_of};
 ghost use Rattle.netlist_core.specs.declared.flat.Net as flat_net;
 ghost use Rattle.netlist_meaning.specs.Flat.{IsInRange, nets_but_clocks};
 ghost use Rattle.place_paths.specs.Paths as paths;
-ghost use Rattle.plan_ports.specs.Tables.{HasPortsOf, named_paths, net_cells_of, net_names_of};
+ghost use Rattle.plan_ports.specs.Tables.{HasPortsOf, named_paths, net_cells_of};
 
 use crate::PortsError;
 use clock_check::ClockClasses;
@@ -20,7 +20,8 @@ fn net_line(alloc: Global, plan: &Plan, i: usize, net: &Net) -> Result<NetLine, 
     requires admissible { IsAdmissible plan.now }
     requires known { i < length plan.now.nets }
     ensures cell { IfOk result (λ line. (line.x, line.y, line.offset) ≡ net_cell_of plan.now i) }
-    ensures named { IfOk result (λ line. (line.name, line.path) ≡ (net.now.name, paths.path_of net.now.place)) }
+    ensures name { IfOk result (λ line. line.name ≡ net.now.name) }
+    ensures path { IfOk result (λ line. line.path ≡ paths.path_of net.now.place) }
 {
     let (x, y, offset) = net_cell(plan, i);
     let name = Bytes::of(net.name.as_slice().to_vec(alloc)?);
@@ -40,7 +41,7 @@ pub fn net_lines(alloc: Global, flat: &Flat, plan: &Plan) -> Result<Vec<NetLine>
     requires admissible { IsAdmissible plan.now }
     requires ports { HasPortsOf flat.now plan.now }
     ensures cells { IfOk result (λ lines. net_cells_of lines.items ≡ net_cells plan.now) }
-    ensures names { IfOk result (λ lines. net_names_of lines.items ≡ named_paths (nets_but_clocks flat.now)) }
+    ensures names { IfOk result (λ lines. paths.names_and_paths lines.items ≡ named_paths (nets_but_clocks flat.now)) }
 {
     let clocks = ClockClasses::new(alloc, flat)?;
     let mut lines = Vec::with_capacity(alloc, plan.nets.len())?;
