@@ -60,10 +60,10 @@ planes_show_nets library law design flat list plan ports c rows are run is numbe
     let bits : ℕ → Bool = λ t. run t net.place net.name in
     let soon : g < cell.2 + length rows * period_of plan = subst (λ n. g < n) (ap₂ (λ at p. at + length rows * p) (ap (λ c. c.2) place.1) c.table.period) early in
     let shown = in_cycles (period_of plan) cell.2 (length rows) g
-        (driven (drive_of_rows plan rows) (start_plane library plan) g (pos cell.0) (pos cell.1) ≡ Head)
-        (λ t. bit_on (bits_after after_columns plan.columns (net_place plan number).after (bits_of_rows plan rows t)) (net_place plan number).lane) bits
-        (λ t lt. net_shown design list plan (seen_nets design flat) (computes_design design flat c.faultless c.no_clock_fault c.is_flat list c.list_computes) c.plan_computes rows are run is number t net place.0 lt is_net)
-        soon ((plans_show_rows library law plan c.admissible rows).nets number place.0 g) in
+    (driven (drive_of_rows plan rows) (start_plane library plan) g (pos cell.0) (pos cell.1) ≡ Head)
+    (λ t. bit_on (bits_after after_columns plan.columns (net_place plan number).after (bits_of_rows plan rows t)) (net_place plan number).lane) bits
+    (λ t lt. net_shown design list plan (seen_nets design flat) (computes_design design flat c.faultless c.no_clock_fault c.is_flat list c.list_computes) c.plan_computes rows are run is number t net place.0 lt is_net)
+    soon ((plans_show_rows library law plan c.admissible rows).nets number place.0 g) in
     subst (λ due. ShowsBitsFrom line.offset ports.p (length rows) bits g (driven due (start_plane library plan) g) line.x line.y) (sym (same_drive flat plan ports c.table rows))
     (subst (λ p. ShowsBitsFrom line.offset p (length rows) bits g (driven (drive_of_rows plan rows) (start_plane library plan) g) line.x line.y) (sym c.table.period)
     (subst (λ (at : ℕ × ℕ × ℕ). ShowsBitsFrom at.2 (period_of plan) (length rows) bits g (driven (drive_of_rows plan rows) (start_plane library plan) g) at.0 at.1) (sym place.1) shown))

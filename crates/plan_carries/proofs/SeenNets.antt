@@ -48,7 +48,7 @@ numbers_fit design faultless small outer (number ∷ place) m b at below =
     let within : number < length m.subckts = slice_get_within m.subckts number line is_line in
     let most : length m.subckts ≤ weight design = lines_are_few design faultless outer m at in
     let deeper : model_at design (outer ++ number ∷ []) ≡ Some inner =
-        model_at-append design outer (number ∷ []) ∙ ap (option_and_then (model_below design (number ∷ []))) at ∙ ap (option_and_then (model_below design [])) is_inner in
+    model_at-append design outer (number ∷ []) ∙ ap (option_and_then (model_below design (number ∷ []))) at ∙ ap (option_and_then (model_below design [])) is_inner in
     All-cons (λ n. n < 2 ^ 64) number place (omega (arith, within, most, small)) (numbers_fit design faultless small (outer ++ number ∷ []) place inner b deeper is_b)
 
 place_fits : (design : Design) → AreFaultless design.models → weight design < 2 ^ 31 → (net : Net) → IsNet design net → HasTableNumbers net.place
@@ -139,7 +139,7 @@ seen_have_bits design flat faultless clean h inputs state bits v =
     ∙ ap (map (class_bits design bits)) (map-map (λ (net : FlatNet). net.class) (flat_net design) (seen_nets design flat))
     ∙ map-map (class_bits design bits) (class_of_net design) (seen_nets design flat)
     ∙ map_in (λ net. class_bits design bits (class_of_net design net)) (bit_of_net bits) (seen_nets design flat) (λ net i.
-      let (listed, passes) = kept_in (is_seen design flat) (nets_in_order design) net i in
-      let n = net_is design net listed in
-      ap (class_bits design bits) (sym (class_is design flat faultless h net n))
-      ∙ same_bit design flat faultless h inputs state bits v net n (seen design flat faultless clean h net n (shown_false (is_clock_class flat (class_of_net design net)) passes)))
+    let (listed, passes) = kept_in (is_seen design flat) (nets_in_order design) net i in
+    let n = net_is design net listed in
+    ap (class_bits design bits) (sym (class_is design flat faultless h net n))
+    ∙ same_bit design flat faultless h inputs state bits v net n (seen design flat faultless clean h net n (shown_false (is_clock_class flat (class_of_net design net)) passes)))

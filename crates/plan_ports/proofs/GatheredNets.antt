@@ -34,7 +34,7 @@ count flat plan i lines g = sym (length-map lines _) ∙ ap length g.names ∙ l
 few : {X : Type 0} (p : X → Bool) (xs : List X) (k : ℕ) → length (filter p (take k xs)) ≤ length (filter p xs)
 few p xs k =
     let all : length (filter p xs) ≡ length (filter p (take k xs)) + length (filter p (drop k xs)) =
-        ap (λ ys. length (filter p ys)) (sym (take-append-drop k xs)) ∙ ap length (filter-append p (take k xs) (drop k xs)) ∙ length-append (filter p (take k xs)) (filter p (drop k xs)) in
+    ap (λ ys. length (filter p ys)) (sym (take-append-drop k xs)) ∙ ap length (filter-append p (take k xs) (drop k xs)) ∙ length-append (filter p (take k xs)) (filter p (drop k xs)) in
     omega (arith, all)
 
 filtered : (flat : Flat) (i : ℕ) (net : FlatNet) (b : Bool) → i < length flat.nets → net ≡ get_or flat.nets i net → is_seen flat net ≡ b
@@ -49,7 +49,7 @@ pub one_more_there : (flat : Flat) (plan : Plan) (i : ℕ) (lines : List NetLine
     → length lines < length plan.nets
 one_more_there flat plan i lines net ports g within is seen =
     let more : length (filter (is_seen flat) (take (i + 1) flat.nets)) ≡ length (filter (is_seen flat) (take i flat.nets)) + 1 =
-        ap length (filtered flat i net true within is seen) ∙ length-append (filter (is_seen flat) (take i flat.nets)) (net ∷ []) in
+    ap length (filtered flat i net true within is seen) ∙ length-append (filter (is_seen flat) (take i flat.nets)) (net ∷ []) in
     omega (arith, count flat plan i lines g, more, few (is_seen flat) flat.nets (i + 1), ports.nets)
 
 -- with its line
@@ -93,5 +93,5 @@ without_line flat plan i lines net g within is unseen = record {
 pub all_lines : (flat : Flat) (plan : Plan) (lines : List NetLine) → HasPortsOf flat plan → AreNetLines flat plan (length flat.nets) lines → net_cells_of lines ≡ net_cells plan
 all_lines flat plan lines ports g =
     let long : length lines ≡ length (net_cells plan) =
-        count flat plan (length flat.nets) lines g ∙ ap (λ nets. length (filter (is_seen flat) nets)) (take-length flat.nets) ∙ sym ports.nets ∙ sym (length-map {B = ℕ × ℕ × ℕ} plan.nets _) in
+    count flat plan (length flat.nets) lines g ∙ ap (λ nets. length (filter (is_seen flat) nets)) (take-length flat.nets) ∙ sym ports.nets ∙ sym (length-map {B = ℕ × ℕ × ℕ} plan.nets _) in
     g.cells ∙ ap (λ n. take n (net_cells plan)) long ∙ take-length (net_cells plan)

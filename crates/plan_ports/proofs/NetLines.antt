@@ -29,9 +29,10 @@ use Rattle.plan_ports.specs.Tables.{HasPortNames, HasTablePlaces, named_paths, n
 each_line : (P : ℕ × ℕ × ℕ → Type 0) (Q : Name × List ℕ → Type 0) (R : NetLine → Type 0) → ((line : NetLine) → P (line.x, line.y, line.offset) → Q (line.name, line.path) → R line)
     → (lines : List NetLine) → All P (net_cells_of lines) → All Q (names_and_paths lines) → AllByRecursion R lines
 each_line P Q R both [] p q = tt
-each_line P Q R both (line ∷ lines) p q =
-    (both line (All-head P (line.x, line.y, line.offset) (net_cells_of lines) p) (All-head Q (line.name, line.path) (names_and_paths lines) q),
-    each_line P Q R both lines (All-tail P (line.x, line.y, line.offset) (net_cells_of lines) p) (All-tail Q (line.name, line.path) (names_and_paths lines) q))
+each_line P Q R both (line ∷ lines) p q = (
+  both line (All-head P (line.x, line.y, line.offset) (net_cells_of lines) p) (All-head Q (line.name, line.path) (names_and_paths lines) q),
+  each_line P Q R both lines (All-tail P (line.x, line.y, line.offset) (net_cells_of lines) p) (All-tail Q (line.name, line.path) (names_and_paths lines) q),
+)
 
 abbrev line_words : NetLine → Name × List ℕ
 line_words line = (line.name, line.path)
