@@ -5,3 +5,4 @@ pub mod Numbers
 pub mod Programs
 pub mod Placed
 pub mod Empty
+pub mod Entries

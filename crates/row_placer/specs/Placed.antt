@@ -16,6 +16,7 @@ use Rattle.row_placer.specs.Ready.{AreSettled, ReadyForGate}
 use Rattle.cell_core.specs.Loops.{loop_data, loop_state, loop_count}
 use Rattle.row_placer.specs.Numbers.{number, gate_of}
 use Rattle.row_placer.specs.Empty.{IsEmpty}
+use Rattle.row_placer.specs.Entries.{AreAtEntries}
 use Rattle.cell_core.specs.Meaning.{Fits}
 use Rattle.row_placer.specs.Programs.{program_bits}
 
@@ -100,3 +101,4 @@ pub record IsPlacedWithin (list : CellList) (spare : ℕ) (p : Program) : Type 0
   pub instrs : length p.instrs ≤ (3 * length list.cells + length list.outs + 2 * loop_count list) * p.lanes
   pub lanes : p.lanes ≤ list.inputs + 2 * loop_count list + length list.outs + length list.cells + 2 + spare
   pub empty : IsEmpty list → p.lanes ≡ 0
+  pub entries : AreAtEntries list p.lanes p.ins p.nets

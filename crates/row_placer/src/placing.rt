@@ -4,6 +4,7 @@ ghost use Rattle.cell_core.specs.Loops.{loop_count, loop_data, loop_state, names
 ghost use Rattle.row_placer.specs.Numbers.{number, gate_of, IsThere, ReadsWhatIsThere, NamesZero};
 ghost use Rattle.row_placer.specs.Placed.{IsPrepared};
 ghost use Rattle.row_placer.specs.Empty.{IsEmpty};
+ghost use Rattle.row_placer.specs.Entries.{AreAtEntries};
 ghost use Rattle.cell_lanes.specs.Computes.{ComputesByProgram};
 ghost use Rattle.cell_core.specs.declared.cells.Src.TheVariants.{One};
 
@@ -142,6 +143,7 @@ fn place_with(alloc: Global, list: &CellList, loops: u32, spare: u32) -> Result<
     ensures instrs { IfOk result (λ r. length r.program.instrs ≤ (3 * length list.now.cells + length list.now.outs + 2 * loop_count list.now) * r.program.lanes) }
     ensures lanes { IfOk result (λ r. r.program.lanes ≤ list.now.inputs + 2 * loop_count list.now + length list.now.outs + length list.now.cells + 2 + spare) }
     ensures empty { IfOk result (λ r. IsEmpty list.now → spare ≡ 0 → r.program.lanes ≡ 0) }
+    ensures entries { IfOk result (λ r. AreAtEntries list.now r.program.lanes r.program.ins r.program.nets) }
 {
     let Prepared { job, left, homes } = prepare(alloc, list, loops, spare)?;
     let mut left = left;
@@ -179,6 +181,7 @@ pub fn place(alloc: Global, list: &CellList) -> Result<Program, PlaceError>
     ensures instrs { IfOk result (λ p. length p.instrs ≤ (3 * length list.now.cells + length list.now.outs + 2 * loop_count list.now) * p.lanes) }
     ensures lanes { IfOk result (λ p. p.lanes ≤ list.now.inputs + 2 * loop_count list.now + length list.now.outs + length list.now.cells + 2 + max list.now.inputs (length list.now.outs)) }
     ensures empty { IfOk result (λ p. IsEmpty list.now → p.lanes ≡ 0) }
+    ensures entries { IfOk result (λ p. AreAtEntries list.now p.lanes p.ins p.nets) }
 {
     let loops = count_loops(list);
     let mut best = place_with(alloc, list, loops, 0)?;
