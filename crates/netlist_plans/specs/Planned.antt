@@ -11,6 +11,7 @@ use Rattle.netlist_meaning.specs.FlatOf.{IsFlatOf}
 use Rattle.netlist_rules.specs.Clocks.{HasNoClockFault}
 use Rattle.blif_text.specs.Faults.{IsDesignOf}
 use Rattle.carries.specs.Carries.{Carries}
+use Rattle.carries.specs.Nets.{CarriesNets}
 use Rattle.cell_core.specs.declared.list.CellList.{CellList}
 use Rattle.cell_core.specs.Loops.{names_one}
 use Rattle.cell_lanes.specs.Computes.{ComputesByPlan}
@@ -22,6 +23,11 @@ use Rattle.cover_mapper.specs.Needs.{any_needs_one}
 abbrev pub CarriesDesigns : Flat → Plan → Ports → Type 0
 CarriesDesigns flat plan ports =
     (text : List ℕ) (design : Design) → IsDesignOf text design → HasNoClockFault design → IsFlatOf design flat → Carries (pattern_text (start_grid plan) ports) design
+
+-- and its nets
+abbrev pub CarriesNetsOfDesigns : Flat → Plan → Ports → Type 0
+CarriesNetsOfDesigns flat plan ports =
+    (text : List ℕ) (design : Design) → IsDesignOf text design → HasNoClockFault design → IsFlatOf design flat → CarriesNets (pattern_text (start_grid plan) ports) design
 
 -- The plan is small, by the weight w: at most 4 w + 4 lanes, and at most 256 (w + 1) (w + 1) columns, which have at most as many
 -- instructions. It has a loop for each latch, and at most one more, where covers need constant 1.
