@@ -14,6 +14,3 @@ mod words;
 
 pub use covers::map_cover;
 pub use shared::Places;
-
-#[cfg(test)]
-mod tests;
