@@ -5,6 +5,7 @@ mod covers;
 mod gates;
 pub mod laws;
 mod placed;
+mod reduced;
 mod rows;
 mod search;
 mod shared;

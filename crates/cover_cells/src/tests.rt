@@ -35,9 +35,20 @@ fn are_there(list: &CellList, sources: &[Src]) -> bool
     })
 }
 
+// How many cells a cover of these sources takes, in a list of eight inputs.
+fn count_of(alloc: Global, sources: &[Src], rows: &[&[u8]], on: bool) -> Result<usize, CellError> {
+    let mut list = empty(alloc, 8);
+    if !are_there(&list, sources) {
+        return Ok(99);
+    }
+    let rows = rows_of(alloc, rows)?;
+    let mut places = Places::new(alloc);
+    let _ = map_cover(&mut list, &mut places, alloc, sources, &rows, on)?;
+    Ok(list.cells.len())
+}
+
 // How many cells a cover of the first so many of eight inputs takes.
 fn count(alloc: Global, nets: usize, rows: &[&[u8]], on: bool) -> Result<usize, CellError> {
-    let mut list = empty(alloc, 8);
     let all = [
         Src::Input(0),
         Src::Input(1),
@@ -48,14 +59,7 @@ fn count(alloc: Global, nets: usize, rows: &[&[u8]], on: bool) -> Result<usize, 
         Src::Input(6),
         Src::Input(7),
     ];
-    let rows = rows_of(alloc, rows)?;
-    let sources = &all[..nets.min(8)];
-    if !are_there(&list, sources) {
-        return Ok(99);
-    }
-    let mut places = Places::new(alloc);
-    let _ = map_cover(&mut list, &mut places, alloc, sources, &rows, on)?;
-    Ok(list.cells.len())
+    count_of(alloc, &all[..nets.min(8)], rows, on)
 }
 
 #[test]
@@ -77,6 +81,22 @@ fn covers_take_few_cells(rt: HostRuntime) -> Result<(), Fail> {
     ];
     for (nets, rows, on, want) in table {
         let took = count(alloc, nets, rows, on).expect(&rt, "ample memory");
+        assert_eq!(rt; took, want);
+    }
+    Ok(())
+}
+
+// A cover that reads one net twice, or constant 0.
+#[test]
+fn operands_that_are_one_spare_cells(rt: HostRuntime) -> Result<(), Fail> {
+    let alloc = rt.alloc();
+    let table: [(&[Src], &[&[u8]], bool, usize); 3] = [
+        (&[Src::Input(0), Src::Input(0)], &[b"11"], true, 0),
+        (&[Src::Input(0), Src::Input(0)], &[b"11"], false, 1),
+        (&[Src::Input(0), Src::Zero], &[b"11"], true, 0),
+    ];
+    for (sources, rows, on, want) in table {
+        let took = count_of(alloc, sources, rows, on).expect(&rt, "ample memory");
         assert_eq!(rt; took, want);
     }
     Ok(())

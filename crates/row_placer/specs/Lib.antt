@@ -4,3 +4,4 @@ pub mod Ready
 pub mod Numbers
 pub mod Programs
 pub mod Placed
+pub mod Empty

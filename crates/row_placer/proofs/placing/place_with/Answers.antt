@@ -96,3 +96,9 @@ prepare-requires-clause-sound c = sound c.args.list.now
 
 pub places_of-requires-clause-sound : goal.places_of-requires-clause-sound
 places_of-requires-clause-sound c = sound c.args.list.now
+
+pub returns-clause-empty : goal.returns-clause-empty
+returns-clause-empty c =
+    let L = c.in_ok-lanes.lanes in
+    let count : length L.tags.items ≡ c.len-count.result = sym (c.len-count.ensures ∙ L.tags.ok.0) in
+    λ h e. (let none = c.in_ok-job.ensures.empty h e in omega (arith, none, c.in_ok-lanes.ensures.long, count))
