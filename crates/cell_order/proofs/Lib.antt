@@ -1,2 +1,2 @@
 mod Moves
-mod Planned
+pub mod Planned

@@ -1,8 +1,10 @@
 -- A plan that computes a list computes each that computes alike.
-use Rattle.std.proofs.Common.{◌≡◌, sym, ◌∙◌, ap, true, cond, Bool, List, [], ◌∷◌, ◌++◌, length, map}
+use Rattle.std.proofs.Common.{◌≡◌, sym, ◌∙◌, ap, ap₂, ◌+◌, true, cond, Bool, List, [], ◌∷◌, ◌++◌, length, map}
 use Rattle.cell_core.specs.declared.list.CellList.{CellList}
 use Rattle.cell_core.specs.Meaning.{bit_of, Fits}
-use Rattle.cell_core.specs.Loops.{loop_state}
+use Rattle.cell_core.specs.Loops.{loop_state, loop_count}
+use Rattle.cell_core.specs.declared.cells.Src.{Src}
+use Rattle.std.proofs.lemmas.List.{length-map}
 use Rattle.lane_core.specs.Instrs.{bit_on}
 use Rattle.lane_core.specs.Columns.{after_columns}
 use Rattle.lane_core.specs.Entering.{first_loop_lane, entry_bits, leaving, bits_after}
@@ -31,4 +33,22 @@ alike_is_planned a b plan alike by =
             ap (λ loops. map (λ place. bit_on (bits_after after_columns plan.columns place.after (entry_bits free plan.ins inputs loops)) place.lane) plan.nets) (same_loops a b alike state)
             ∙ by.bits.nets_have inputs state (fits inputs state f) ∙ alike.nets inputs state;
       };
+    }
+
+-- ---- what is counted of a list
+pub record CountAlike (a b : CellList) : Type 0 where
+  pub loops : loop_count b ≡ loop_count a
+  pub outs : length b.outs ≡ length a.outs
+  pub nets : length b.nets ≡ length a.nets
+
+-- sources whose bits are the same list are as many
+as_many : (b a : List Src) (f g : Src → Bool) → map f b ≡ map g a → length b ≡ length a
+as_many b a f g e = sym (length-map b f) ∙ ap length e ∙ length-map a g
+
+pub count_alike : (a b : CellList) → ComputeAlike a b → CountAlike a b
+count_alike a b alike =
+    record {
+      loops = ap₂ (λ (s : List Bool) (one : Bool). length s + cond one 1 0) alike.starts alike.one;
+      outs = as_many b.outs a.outs (bit_of b [] []) (bit_of a [] []) (alike.outs [] []);
+      nets = as_many b.nets a.nets (bit_of b [] []) (bit_of a [] []) (alike.nets [] []);
     }
