@@ -1,21 +1,44 @@
 -- A command never both accepts and refuses a text, and refuses it for one cause, or for causes that are alike.
 use Rattle.std.proofs.Common.{ℕ, ◌≡◌, refl, subst, List}
-use Rattle.command_words.specs.Shapes.{CommandValues, compile, simulate, eval}
-use Rattle.blifww_tool.specs.Commands.{Accepts, Prints, Refuses, AreAlike}
+use Rattle.command_words.specs.Shapes.{CommandValues, compile, simulate, eval, probe, window, make, self_}
+use Rattle.blifww_tool.specs.Commands.{Accepts, Prints, Refuses, MustRefuse, AreAlike}
 use Rattle.blifww_tool.specs.declared.causes.Cause.{Cause}
-use Rattle.blifww_tool.specs.declared.causes.Cause.TheVariants.{NetlistFault, WeightTooLarge, Loop, Pattern, GridTooLarge, PortTable, Streams, TooFar}
-use Rattle.blifww_tool.proofs.SimulationOrNot.{simulates_or_not, one_cause as one_cause_of_simulation}
+use Rattle.blifww_tool.specs.declared.causes.Cause.TheVariants.{NetlistFault, WeightTooLarge, Loop, Pattern, GridTooLarge, PortTable, Streams, NoSuchNet, TooFar}
+use Rattle.made_run.proofs.InTime.{few_cycles_are_in_time}
+use Rattle.blifww_tool.proofs.SimulationOrNot.{simulation_or_not, one_streams_cause, simulates_or_not, one_cause as one_cause_of_simulation}
+use Rattle.blifww_tool.proofs.ProbeOrNot.{probes_or_not, one_cause as one_cause_of_probe}
 use Rattle.blifww_tool.proofs.EvaluationOrNot.{netlist_or_not, one_cause_of_netlist, evaluates_or_not, one_cause as one_cause_of_evaluation}
 
-pub printed_is_accepted : (command : CommandValues) (text output : List ℕ) → Prints command text output → Accepts command text
-printed_is_accepted compile text output h = (h.design, h.netlist)
-printed_is_accepted (simulate cycles words) text output h = (h.0, h.1)
-printed_is_accepted (eval cycles words) text output h = (h.evaluation, h.is)
+-- a made netlist whose plans all run in time is not refused
+in_time_or_not : (seed size cycles : ℕ) (text : List ℕ) (cause : Cause) → Accepts (self_ seed size cycles) text → Refuses (self_ seed size cycles) text cause → ⊥
+in_time_or_not seed size cycles text (NetlistFault f) h k = k
+in_time_or_not seed size cycles text (WeightTooLarge w) h k = k
+in_time_or_not seed size cycles text (Loop names) h k = k
+in_time_or_not seed size cycles text (Pattern f) h k = k
+in_time_or_not seed size cycles text (GridTooLarge x y) h k = k
+in_time_or_not seed size cycles text (PortTable f) h k = k
+in_time_or_not seed size cycles text (Streams f) h k = k
+in_time_or_not seed size cycles text (NoSuchNet name) h k = k
+in_time_or_not seed size cycles text (TooFar n) h k = few_cycles_are_in_time seed size cycles n h k
 
 pub accepted_or_refused : (command : CommandValues) (text : List ℕ) (cause : Cause) → Accepts command text → Refuses command text cause → ⊥
 accepted_or_refused compile text cause h k = netlist_or_not text h.0 cause h.1 k
 accepted_or_refused (simulate cycles words) text cause h k = simulates_or_not cycles words text h.0 cause h.1 k
 accepted_or_refused (eval cycles words) text cause h k = evaluates_or_not cycles words text h.0 cause h.1 k
+accepted_or_refused (probe cycles net path words) text cause h k = probes_or_not cycles net path words text h.0 cause h.1 k
+accepted_or_refused (window view words) text cause h k = simulation_or_not _ words text h.0 cause h.1 k
+accepted_or_refused (make seed size) text cause h k = k
+accepted_or_refused (self_ seed size cycles) text cause h k = in_time_or_not seed size cycles text cause h k
+
+-- what is printed is of a text that the command need not refuse
+pub printed_or_refused : (command : CommandValues) (text output : List ℕ) (cause : Cause) → Prints command text output → MustRefuse command text cause → ⊥
+printed_or_refused compile text output cause h k = netlist_or_not text h.design cause h.netlist k
+printed_or_refused (simulate cycles words) text output cause h k = simulates_or_not cycles words text h.0 cause h.1 k
+printed_or_refused (eval cycles words) text output cause h k = evaluates_or_not cycles words text h.evaluation cause h.is k
+printed_or_refused (probe cycles net path words) text output cause h k = probes_or_not cycles net path words text h.0 cause h.1 k
+printed_or_refused (window view words) text output cause h k = simulation_or_not _ words text h.simulation cause h.is k
+printed_or_refused (make seed size) text output cause h k = k
+printed_or_refused (self_ seed size cycles) text output cause h k = k
 
 -- equal causes are alike
 alike_if_same : (a b : Cause) → a ≡ b → AreAlike a b
@@ -29,9 +52,14 @@ alike_if_same a b e = subst (AreAlike a) e (itself a)
     itself (GridTooLarge x y) = refl
     itself (PortTable f) = refl
     itself (Streams f) = refl
+    itself (NoSuchNet name) = refl
     itself (TooFar n) = refl
 
-pub one_cause : (command : CommandValues) (text : List ℕ) (a b : Cause) → Refuses command text a → Refuses command text b → AreAlike a b
+pub one_cause : (command : CommandValues) (text : List ℕ) (a b : Cause) → Refuses command text a → MustRefuse command text b → AreAlike a b
 one_cause compile text a b h k = one_cause_of_netlist text a b h k
 one_cause (simulate cycles words) text a b h k = alike_if_same a b (one_cause_of_simulation cycles words text a b h k)
 one_cause (eval cycles words) text a b h k = one_cause_of_evaluation cycles words text a b h k
+one_cause (probe cycles net path words) text a b h k = alike_if_same a b (one_cause_of_probe cycles net path words text a b h k)
+one_cause (window view words) text a b h k = alike_if_same a b (one_streams_cause _ words text a b h k)
+one_cause (make seed size) text a b h k = absurd k
+one_cause (self_ seed size cycles) text a b h k = absurd k

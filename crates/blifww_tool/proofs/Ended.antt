@@ -1,14 +1,14 @@
 -- How a run ends says of a run in which nothing fails what it does with the text that its source has.
-use Rattle.std.proofs.Common.{ℕ, ◌≡◌, ◌≢◌, ◌≤◌, ◌<◌, ◌⊎◌, refl, sym, ap, ◌∙◌, subst, List, length, take, arith, inl, inr}
+use Rattle.std.proofs.Common.{ℕ, Bool, true, false, ◌≡◌, ◌≢◌, ◌≤◌, ◌<◌, ◌⊎◌, refl, sym, ap, ◌∙◌, subst, List, length, take, arith, inl, inr}
 use Rattle.command_words.specs.Shapes.{CommandValues}
-use Rattle.blifww_tool.specs.Commands.{Accepts, Prints, Refuses}
+use Rattle.blifww_tool.specs.Commands.{reads_text, Accepts, Prints, Refuses, MustRefuse}
 use Rattle.blifww_tool.specs.Refusals.{status_of, status_of_cause, refusal_line}
 use Rattle.blifww_tool.specs.Answer.{HasStopped}
-use Rattle.blifww_tool.specs.Run.{AsksNothing, Reading, Writing, Call, Gave, GaveAll, Gained, GainedNothing, WriteFailed, text_limit, Does, RefusesText, GaveTooMany, HasReason, Tells, TellsLike, TellsOr7, IsDone, IsRefused, CutsLine, CutsOutput, IsCalm, Ends}
+use Rattle.blifww_tool.specs.Run.{Asks, AsksNothing, Reading, Writing, Call, Gave, GaveIfRead, HasText, HoldsIfRead, Gained, GainedNothing, WriteFailed, text_limit, Does, RefusesText, GaveTooMany, HasReason, Tells, TellsCause, TellsLike, TellsOr7, IsDone, IsRefused, CutsLine, CutsOutput, IsCalm, Ends}
 use Rattle.blifww_tool.proofs.Given.{gave_whole, no_more, one_command}
-use Rattle.blifww_tool.proofs.Decided.{printed_is_accepted, accepted_or_refused, one_cause}
+use Rattle.blifww_tool.proofs.Decided.{printed_or_refused, accepted_or_refused, one_cause}
 use Rattle.blifww_tool.specs.declared.causes.Cause.{Cause}
-use Rattle.blifww_tool.specs.declared.causes.Cause.TheVariants.{NetlistFault, WeightTooLarge, Loop, Pattern, GridTooLarge, PortTable, Streams, TooFar}
+use Rattle.blifww_tool.specs.declared.causes.Cause.TheVariants.{NetlistFault, WeightTooLarge, Loop, Pattern, GridTooLarge, PortTable, Streams, NoSuchNet, TooFar}
 use Rattle.blifww_tool.specs.declared.refusals.Refusal.{Refusal}
 use Rattle.blifww_tool.specs.declared.refusals.Refusal.TheVariants.{Usage, TooLong, ReadFault, WriteFault, NoMemory, Text}
 
@@ -22,24 +22,43 @@ never_cut : (c : Call) (command : CommandValues) (text : List ℕ) → IsCalm c 
 never_cut c command text calm (inl h) = calm.tells h.failed
 never_cut c command text calm (inr h) = calm.writes h.failed
 
--- the text that the source gave is the one that it had
-given_is : (c : Call) (command : CommandValues) (text given : List ℕ) → IsCalm c command text → GaveAll c.src given → given ≡ text
-given_is c command text given calm all = gave_whole c.src.left c.src.left_after given text all.consumed all.end calm.has
+-- the text that a command has is the one that the source had for it, and is not too long,
+given_by : (reads : Bool) (src : Reading) (text given : List ℕ) → HoldsIfRead reads src text → GaveIfRead reads src given → given ≡ text
+given_by true src text given has all = gave_whole src.left src.left_after given text all.consumed all.end has.0
+given_by false src text given has all = all.1 ∙ sym has
+
+short_by : (reads : Bool) (src : Reading) (given : List ℕ) → GaveIfRead reads src given → length given ≤ text_limit
+short_by true src given all = all.within
+short_by false src given all = omega (arith, ap length all.1)
+
+given_is : (c : Call) (command other : CommandValues) (text given : List ℕ) → IsCalm c command text → Asks c.words other → HasText other c.src given → given ≡ text
+given_is c command other text given calm asks all =
+    given_by (reads_text command) c.src text given calm.has (subst (λ (v : CommandValues). HasText v c.src given) (one_command c.words other command asks calm.asks) all)
+
+short_is : (c : Call) (command other : CommandValues) (text given : List ℕ) → IsCalm c command text → Asks c.words other → HasText other c.src given → length text ≤ text_limit
+short_is c command other text given calm asks all =
+    subst (λ (t : List ℕ). length t ≤ text_limit) (given_is c command other text given calm asks all) (short_by (reads_text other) c.src given all)
+
+-- where the command reads, the source has the text, and no read failed
+held_by : (c : Call) (command other : CommandValues) (text : List ℕ) → IsCalm c command text → Asks c.words other → reads_text other ≡ true → HoldsIfRead true c.src text
+held_by c command other text calm asks reads =
+    subst (λ (b : Bool). HoldsIfRead b c.src text) (ap reads_text (one_command c.words command other calm.asks asks) ∙ reads) calm.has
 
 too_many : (c : Call) (command : CommandValues) (text : List ℕ) → IsCalm c command text → GaveTooMany c.words c.src → text_limit < length text
-too_many c command text calm h = omega (arith, no_more c.src.left c.src.left_after h.given text h.gave calm.has, h.many)
+too_many c command text calm h =
+    omega (arith, no_more c.src.left c.src.left_after h.given text h.gave (held_by c command h.command text calm h.asked.asks h.reads).0, h.many)
 
 -- what was printed is of that text,
 printed_of : (c : Call) (command : CommandValues) (text : List ℕ) (part : List ℕ → List ℕ) → IsCalm c command text → (d : Does c.words c.src c.out part) → Prints command text d.output
 printed_of c command text part calm d =
     subst (λ (v : CommandValues). Prints v text d.output) (one_command c.words d.command command d.asked.asks calm.asks)
-    (subst (λ (t : List ℕ). Prints d.command t d.output) (given_is c command text d.text calm d.given) d.prints)
+    (subst (λ (t : List ℕ). Prints d.command t d.output) (given_is c command d.command text d.text calm d.asked.asks d.given) d.prints)
 
 -- and so is the cause
 refused_of : (c : Call) (command : CommandValues) (text : List ℕ) (cause : Cause) → IsCalm c command text → RefusesText c.words c.src cause → Refuses command text cause
 refused_of c command text cause calm h =
     subst (λ (v : CommandValues). Refuses v text cause) (one_command c.words h.command command h.asked.asks calm.asks)
-    (subst (λ (t : List ℕ). Refuses h.command t cause) (given_is c command text h.text calm h.given) h.refused)
+    (subst (λ (t : List ℕ). Refuses h.command t cause) (given_is c command h.command text h.text calm h.asked.asks h.given) h.refused)
 
 -- why a run in which nothing fails is refused
 data Why (c : Call) (command : CommandValues) (text : List ℕ) (r : Refusal) : Type 0 where
@@ -50,11 +69,26 @@ data Why (c : Call) (command : CommandValues) (text : List ℕ) (r : Refusal) : 
 why : (c : Call) (command : CommandValues) (text : List ℕ) (r : Refusal) → IsCalm c command text → HasReason c.words c.src r → Why c command text r
 why c command text Usage calm h = absurd (h calm.shape)
 why c command text TooLong calm h = too_long refl (too_many c command text calm h)
-why c command text ReadFault calm h = absurd (calm.reads h.failed)
+why c command text ReadFault calm h = absurd ((held_by c command h.command text calm h.asked.asks h.reads).1 h.failed)
 why c command text WriteFault calm h = absurd h
 why c command text NoMemory calm h = no_memory refl
 why c command text (Text cause) calm h =
-    by_text cause refl (subst (λ (t : List ℕ). length t ≤ text_limit) (given_is c command text h.text calm h.given) h.given.within) (refused_of c command text cause calm h)
+    by_text cause refl (short_is c command h.command text h.text calm h.asked.asks h.given) (refused_of c command text cause calm h)
+
+told_as : (err : Writing) (status : ℕ) (r r' : Refusal) → r ≡ r' → Tells err status r → Tells err status r'
+told_as err status r r' e h = subst (λ (x : Refusal). Tells err status x) e h
+
+-- a text is printed, or a cause is told
+answered : (c : Call) (status : ℕ) → Ending c status → (command : CommandValues) (text : List ℕ) → IsCalm c command text → length text ≤ text_limit
+    → (status ≡ 0) ⊎ (TellsCause c status command text ⊎ (status ≡ 7))
+answered c status (done e d) command text calm short = inl e
+answered c status (refused e e' r) command text calm short = by_why (why c command text r.refusal calm r.reason)
+  where
+    by_why : Why c command text r.refusal → (status ≡ 0) ⊎ (TellsCause c status command text ⊎ (status ≡ 7))
+    by_why (no_memory is) = inr (inr (r.told.status_is ∙ ap status_of is))
+    by_why (too_long is long) = absurd (omega (arith, short, long))
+    by_why (by_text cause is s k) = inr (inl (record { told = cause; refused = k; tells = told_as c.err status r.refusal (Text cause) is r.told }))
+answered c status (cut e k) command text calm short = absurd (never_cut c command text calm k)
 
 -- a text that the command accepts is printed
 accepted : (c : Call) (status : ℕ) → Ending c status → (command : CommandValues) (text : List ℕ) → IsCalm c command text → length text ≤ text_limit → Accepts command text → (status ≡ 0) ⊎ (status ≡ 7)
@@ -67,14 +101,11 @@ accepted c status (refused e e' r) command text calm short h = by_why (why c com
     by_why (by_text cause is s k) = absurd (accepted_or_refused command text cause h k)
 accepted c status (cut e k) command text calm short h = absurd (never_cut c command text calm k)
 
-told_as : (err : Writing) (status : ℕ) (r r' : Refusal) → r ≡ r' → Tells err status r → Tells err status r'
-told_as err status r r' e h = subst (λ (x : Refusal). Tells err status x) e h
-
--- one that it refuses is refused for its cause, or one like it
-caused : (c : Call) (status : ℕ) → Ending c status → (command : CommandValues) (text : List ℕ) → IsCalm c command text → length text ≤ text_limit → (cause : Cause) → Refuses command text cause
+-- one that it must refuse is refused for its cause, or one like it
+caused : (c : Call) (status : ℕ) → Ending c status → (command : CommandValues) (text : List ℕ) → IsCalm c command text → length text ≤ text_limit → (cause : Cause) → MustRefuse command text cause
     → TellsLike c status command text cause ⊎ (status ≡ 7)
 caused c status (done e d) command text calm short cause h =
-    absurd (accepted_or_refused command text cause (printed_is_accepted command text d.done.output (printed_of c command text (λ output. output) calm d.done)) h)
+    absurd (printed_or_refused command text d.done.output cause (printed_of c command text (λ output. output) calm d.done) h)
 caused c status (refused e e' r) command text calm short cause h = by_why (why c command text r.refusal calm r.reason)
   where
     by_why : Why c command text r.refusal → TellsLike c status command text cause ⊎ (status ≡ 7)
@@ -87,7 +118,7 @@ caused c status (cut e k) command text calm short cause h = absurd (never_cut c 
 -- one that is too long is told so
 long_is_told : (c : Call) (status : ℕ) → Ending c status → (command : CommandValues) (text : List ℕ) → IsCalm c command text → text_limit < length text → TellsOr7 c status TooLong
 long_is_told c status (done e d) command text calm long =
-    let short = subst (λ (t : List ℕ). length t ≤ text_limit) (given_is c command text d.done.text calm d.done.given) d.done.given.within in
+    let short = short_is c command d.done.command text d.done.text calm d.done.asked.asks d.done.given in
     absurd (omega (arith, short, long))
 long_is_told c status (refused e e' r) command text calm long = by_why (why c command text r.refusal calm r.reason)
   where
@@ -137,6 +168,7 @@ ends c status e front = record {
   refused = is_refused c status e;
   cut = is_cut c status e;
   front = front;
+  answered = answered c status e;
   accepted = accepted c status e;
   caused = caused c status e;
   too_long = long_is_told c status e;
@@ -152,6 +184,7 @@ cause_is (Pattern f) = (λ e. cc, λ e. cc)
 cause_is (GridTooLarge x y) = (λ e. cc, λ e. cc)
 cause_is (PortTable f) = (λ e. cc, λ e. cc)
 cause_is (Streams f) = (λ e. cc, λ e. cc)
+cause_is (NoSuchNet name) = (λ e. cc, λ e. cc)
 cause_is (TooFar n) = (λ e. cc, λ e. cc)
 
 refused_as : (c : Call) (status : ℕ) (r : Refusal) → status ≡ status_of r → status_of r ≢ 0 → status_of r ≢ 6 → GainedNothing c.out × HasReason c.words c.src r → Gained c.err (refusal_line r) → Ending c status

@@ -16,7 +16,7 @@ use Rattle.blifww_tool.specs.Commands.{AreAlike}
 use Rattle.blifww_tool.specs.Compilation.{HasNoNetlist}
 use Rattle.blifww_tool.specs.Evaluation.{Evaluation, IsEvaluation, HasNoEvaluation}
 use Rattle.blifww_tool.specs.declared.causes.Cause.{Cause}
-use Rattle.blifww_tool.specs.declared.causes.Cause.TheVariants.{NetlistFault, WeightTooLarge, Loop, Pattern, GridTooLarge, PortTable, Streams, TooFar}
+use Rattle.blifww_tool.specs.declared.causes.Cause.TheVariants.{NetlistFault, WeightTooLarge, Loop, Pattern, GridTooLarge, PortTable, Streams, NoSuchNet, TooFar}
 
 -- a netlist with its IN names, as a text has them
 pub record IsRead (text : List ℕ) (design : Design) (names : List Name) : Type 0 where
@@ -38,6 +38,7 @@ reason_of cycles words text (Pattern fault) h = absurd h
 reason_of cycles words text (GridTooLarge width height) h = absurd h
 reason_of cycles words text (PortTable fault) h = absurd h
 reason_of cycles words text (Streams fault) h = by_streams fault refl h.0 h.1 (record { netlist = h.2; are_names = h.3 }) h.4
+reason_of cycles words text (NoSuchNet name) h = absurd h
 reason_of cycles words text (TooFar generations) h = absurd h
 
 -- the IN names of a text are one list
@@ -100,6 +101,7 @@ netlist_or_not text design (Pattern fault) h k = k
 netlist_or_not text design (GridTooLarge width height) h k = k
 netlist_or_not text design (PortTable fault) h k = k
 netlist_or_not text design (Streams fault) h k = k
+netlist_or_not text design (NoSuchNet name) h k = k
 netlist_or_not text design (TooFar generations) h k = k
 
 no_evaluation : (text : List ℕ) (r : Cause) → HasNoNetlist text r → HasNoEvaluation 1 [] text r
@@ -110,6 +112,7 @@ no_evaluation text (Pattern fault) h = absurd h
 no_evaluation text (GridTooLarge width height) h = absurd h
 no_evaluation text (PortTable fault) h = absurd h
 no_evaluation text (Streams fault) h = absurd h
+no_evaluation text (NoSuchNet name) h = absurd h
 no_evaluation text (TooFar generations) h = absurd h
 
 pub one_cause_of_netlist : (text : List ℕ) (r r' : Cause) → HasNoNetlist text r → HasNoNetlist text r' → AreAlike r r'

@@ -4,11 +4,15 @@ pub mod Given
 pub mod Headline
 pub mod OutputLines
 pub mod SimulationOrNot
+pub mod ProbeOrNot
 pub mod EvaluationOrNot
 pub mod Evaluated
 pub mod Compiled
 pub mod Simulated
+pub mod Probed
+pub mod Viewed
 pub mod Decided
 pub mod Ended
 pub mod Stopped
 pub mod Statuses
+pub mod PrintsAlike

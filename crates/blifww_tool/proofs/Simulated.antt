@@ -15,7 +15,11 @@ use Rattle.drive.specs.Driving.{HasSimulateCause, greatest_generation}
 use Rattle.command_words.specs.Shapes.{simulate}
 use Rattle.blifww_tool.specs.Commands.{HasTextCause}
 use Rattle.blifww_tool.specs.Refusals.{simulate_error}
-use Rattle.blifww_tool.specs.Simulation.{Simulation, IsSimulation, last_shown}
+use Rattle.blifww_tool.specs.Simulation.{Simulation, IsSimulation, last_shown, HasNoStreams, HasNoSimulation, HasStreamsCause}
+use Rattle.blifww_tool.specs.declared.causes.Cause.{Cause}
+use Rattle.blifww_tool.specs.declared.causes.Cause.TheVariants.{NetlistFault, WeightTooLarge, Loop, Pattern, GridTooLarge, PortTable, Streams, NoSuchNet, TooFar}
+use Rattle.blifww_tool.specs.declared.causes.TextError.{TextError}
+use Rattle.blifww_tool.specs.declared.causes.TextError.TheVariants.{Refused, NoMemory}
 
 cells_inside : (width height : ℕ) (ports : List PortLine) → AllByRecursion (IsPortInside width height) ports
     → AllByRecursion (λ (cell : ℕ × ℕ). (cell.0 < width) × (cell.1 < height)) (cells_of ports)
@@ -26,6 +30,22 @@ cells_inside width height (port ∷ ports) h = (h.0, cells_inside width height p
 pub ins_in_box : (text : List ℕ) (width height : ℕ) (ports : Ports) → ReadsAsPorts text width height ports → AreInBox width height (cells_of ports.ins)
 ins_in_box text width height ports h =
     All-from_recursion (λ (cell : ℕ × ℕ). (cell.0 < width) × (cell.1 < height)) (cells_of ports.ins) (cells_inside width height ports.ins (ports_inside text width height ports h).ins)
+
+cause_of : (cycles : ℕ) (words : List (List ℕ)) (text : List ℕ) (cause : Cause) → HasNoStreams cycles words text cause → HasNoSimulation cycles words text cause
+cause_of cycles words text (NetlistFault f) h = h
+cause_of cycles words text (WeightTooLarge w) h = h
+cause_of cycles words text (Loop names) h = h
+cause_of cycles words text (Pattern f) h = h
+cause_of cycles words text (GridTooLarge x y) h = h
+cause_of cycles words text (PortTable f) h = h
+cause_of cycles words text (Streams f) h = h
+cause_of cycles words text (NoSuchNet name) h = h
+cause_of cycles words text (TooFar n) h = absurd h
+
+-- a text and words that are no simulation
+pub simulation_refused : (cycles : ℕ) (words : List (List ℕ)) (text : List ℕ) (e : TextError) → HasStreamsCause cycles words text e → HasTextCause (simulate cycles words) text e
+simulation_refused cycles words text (Refused cause) h = cause_of cycles words text cause h
+simulation_refused cycles words text NoMemory h = tt
 
 -- a simulation that is not run
 pub time_refused : (cycles : ℕ) (words : List (List ℕ)) (text : List ℕ) (s : Simulation) (e : SimulateError) → IsSimulation cycles words text s

@@ -1,5 +1,5 @@
 -- A text and words give a simulation, or are refused in one way.
-use Rattle.std.proofs.Common.{ℕ, ◌≡◌, ◌≤◌, ◌<◌, ◌+◌, ◌-◌, ◌*◌, refl, sym, ap, ap₂, ◌∙◌, subst, List, arith}
+use Rattle.std.proofs.Common.{ℕ, ◌≡◌, ◌<◌, ◌+◌, ◌-◌, ◌*◌, refl, sym, ap, ap₂, ◌∙◌, subst, List, arith}
 use Rattle.std.specs.Prelude.{Some, slice_get}
 use Rattle.std.proofs.lemmas.Option.{none-some}
 use Rattle.ww_rule.specs.Grid.{Grid}
@@ -17,24 +17,23 @@ use Rattle.drive.specs.declared.error.StreamFault.{StreamFault}
 use Rattle.drive.specs.Streams.{HasStreamFault}
 use Rattle.drive.specs.Driving.{last_generation, greatest_generation}
 use Rattle.pattern_reading.specs.Ports.{names_of}
-use Rattle.blifww_tool.specs.Simulation.{Simulation, IsSimulation, Simulates, HasNoSimulation}
+use Rattle.blifww_tool.specs.Simulation.{Simulation, IsSimulation, Simulates, HasNoStreams, HasNoSimulation}
 use Rattle.blifww_tool.specs.declared.causes.Cause.{Cause}
-use Rattle.blifww_tool.specs.declared.causes.Cause.TheVariants.{NetlistFault, WeightTooLarge, Loop, Pattern, GridTooLarge, PortTable, Streams, TooFar}
+use Rattle.blifww_tool.specs.declared.causes.Cause.TheVariants.{NetlistFault, WeightTooLarge, Loop, Pattern, GridTooLarge, PortTable, Streams, NoSuchNet, TooFar}
 
 -- a pattern with ports, as a text has them
 pub record IsRead (text : List ℕ) (grid : Grid) (ports : Ports) : Type 0 where
   pub pattern : ReadsWithinLimit text grid
   pub table : ReadsAsPorts text grid.width grid.height ports
 
--- the ways to be refused
+-- the ways to be no simulation
 pub data Reason (cycles : ℕ) (words : List (List ℕ)) (text : List ℕ) (r : Cause) : Type 0 where
   by_pattern : (fault : RleFault) → r ≡ Pattern fault → HasReaderFault text fault.kind fault.line → Reason cycles words text r
   by_box : (width height : ℕ) → r ≡ GridTooLarge width height → HasLargeBox text width height → Reason cycles words text r
   by_table : (fault : PortFault) → r ≡ PortTable fault → (grid : Grid) → ReadsWithinLimit text grid → HasPortFault text grid.width grid.height fault.kind fault.line → Reason cycles words text r
   by_streams : (fault : StreamFault) → r ≡ Streams fault → (grid : Grid) → (ports : Ports) → IsRead text grid ports → HasStreamFault words (names_of ports.ins) cycles fault → Reason cycles words text r
-  by_time : (generations : ℕ) → r ≡ TooFar generations → (s : Simulation) → IsSimulation cycles words text s → generations ≡ last_generation s.ports s.streams → greatest_generation < generations → Reason cycles words text r
 
-reason_of : (cycles : ℕ) (words : List (List ℕ)) (text : List ℕ) (r : Cause) → HasNoSimulation cycles words text r → Reason cycles words text r
+reason_of : (cycles : ℕ) (words : List (List ℕ)) (text : List ℕ) (r : Cause) → HasNoStreams cycles words text r → Reason cycles words text r
 reason_of cycles words text (NetlistFault fault) h = absurd h
 reason_of cycles words text (WeightTooLarge weight) h = absurd h
 reason_of cycles words text (Loop names) h = absurd h
@@ -42,9 +41,10 @@ reason_of cycles words text (Pattern fault) h = by_pattern fault refl h
 reason_of cycles words text (GridTooLarge width height) h = by_box width height refl h
 reason_of cycles words text (PortTable fault) h = by_table fault refl h.0 h.1 h.2
 reason_of cycles words text (Streams fault) h = by_streams fault refl h.0 h.1 record { pattern = h.2; table = h.3 } h.4
-reason_of cycles words text (TooFar generations) h = by_time generations refl h.0 h.1 h.2 h.3
+reason_of cycles words text (NoSuchNet name) h = absurd h
+reason_of cycles words text (TooFar generations) h = absurd h
 
-read_of : (cycles : ℕ) (words : List (List ℕ)) (text : List ℕ) (s : Simulation) → IsSimulation cycles words text s → IsRead text s.grid s.ports
+pub read_of : (cycles : ℕ) (words : List (List ℕ)) (text : List ℕ) (s : Simulation) → IsSimulation cycles words text s → IsRead text s.grid s.ports
 read_of cycles words text s h = record { pattern = h.pattern; table = h.table }
 
 -- no two stages of the reading fail at once
@@ -60,7 +60,7 @@ box_or_read text width height grid h k = (one_reader_answer text).reads_or_large
 same_grid : (text : List ℕ) (a b : Grid) → ReadsWithinLimit text a → ReadsWithinLimit text b → a ≡ b
 same_grid text a b h k = one_pattern text a b h.0 k.0
 
-same_ports : (text : List ℕ) (a b : Grid) (p q : Ports) → IsRead text a p → IsRead text b q → p ≡ q
+pub same_ports : (text : List ℕ) (a b : Grid) (p q : Ports) → IsRead text a p → IsRead text b q → p ≡ q
 same_ports text a b p q h k = h.table.ports_is ∙ sym k.table.ports_is
 
 table_or_read : (text : List ℕ) (kind : PortFaultKind) (line : ℕ) (a b : Grid) (ports : Ports) → ReadsWithinLimit text a → HasPortFault text a.width a.height kind line → IsRead text b ports → ⊥
@@ -90,19 +90,15 @@ port_fault k l = record { kind = k; line = l }
 same_stream_fault : (a b : StreamFault) → Some a ≡ Some b → a ≡ b
 same_stream_fault a b e = cc
 
--- a simulation that is near enough is not refused
-not_refused : (cycles : ℕ) (words : List (List ℕ)) (text : List ℕ) (s : Simulation) (r : Cause) → IsSimulation cycles words text s
-    → last_generation s.ports s.streams ≤ greatest_generation → Reason cycles words text r → ⊥
-not_refused cycles words text s r h near (by_pattern fault e k) = fault_or_read text fault.kind fault.line s.grid k h.pattern
-not_refused cycles words text s r h near (by_box width height e k) = box_or_read text width height s.grid k h.pattern
-not_refused cycles words text s r h near (by_table fault e grid reads k) = table_or_read text fault.kind fault.line grid s.grid s.ports reads k (read_of cycles words text s h)
-not_refused cycles words text s r h near (by_streams fault e grid ports reads k) = streams_or_not cycles words text fault grid ports s reads k h
-not_refused cycles words text s r h near (by_time generations e t k is far) =
-    let same = same_last cycles words text t s k h in
-    omega (arith, near, same, is, far)
+-- a simulation is not refused
+not_refused : (cycles : ℕ) (words : List (List ℕ)) (text : List ℕ) (s : Simulation) (r : Cause) → IsSimulation cycles words text s → Reason cycles words text r → ⊥
+not_refused cycles words text s r h (by_pattern fault e k) = fault_or_read text fault.kind fault.line s.grid k h.pattern
+not_refused cycles words text s r h (by_box width height e k) = box_or_read text width height s.grid k h.pattern
+not_refused cycles words text s r h (by_table fault e grid reads k) = table_or_read text fault.kind fault.line grid s.grid s.ports reads k (read_of cycles words text s h)
+not_refused cycles words text s r h (by_streams fault e grid ports reads k) = streams_or_not cycles words text fault grid ports s reads k h
 
-pub simulates_or_not : (cycles : ℕ) (words : List (List ℕ)) (text : List ℕ) (s : Simulation) (r : Cause) → Simulates cycles words text s → HasNoSimulation cycles words text r → ⊥
-simulates_or_not cycles words text s r h k = not_refused cycles words text s r h.is h.near (reason_of cycles words text r k)
+pub simulation_or_not : (cycles : ℕ) (words : List (List ℕ)) (text : List ℕ) (s : Simulation) (r : Cause) → IsSimulation cycles words text s → HasNoStreams cycles words text r → ⊥
+simulation_or_not cycles words text s r h k = not_refused cycles words text s r h (reason_of cycles words text r k)
 
 same_pattern : (text : List ℕ) (a b : RleFault) → HasReaderFault text a.kind a.line → HasReaderFault text b.kind b.line → a ≡ b
 same_pattern text a b h k =
@@ -127,30 +123,55 @@ one_reason cycles words text r r' (by_pattern f e h) (by_pattern f' e' h') = e �
 one_reason cycles words text r r' (by_pattern f e h) (by_box x y e' h') = absurd (fault_or_box text f.kind f.line x y h h')
 one_reason cycles words text r r' (by_pattern f e h) (by_table f' e' g reads h') = absurd (fault_or_read text f.kind f.line g h reads)
 one_reason cycles words text r r' (by_pattern f e h) (by_streams f' e' g p reads h') = absurd (fault_or_read text f.kind f.line g h reads.pattern)
-one_reason cycles words text r r' (by_pattern f e h) (by_time n e' s k is far) = absurd (fault_or_read text f.kind f.line s.grid h k.pattern)
 one_reason cycles words text r r' (by_box x y e h) (by_pattern f e' h') = absurd (fault_or_box text f.kind f.line x y h' h)
 one_reason cycles words text r r' (by_box x y e h) (by_box x' y' e' h') =
     let same = (one_reader_answer text).one_box x y x' y' h.0 h'.0 in e ∙ ap₂ GridTooLarge same.0 same.1 ∙ sym e'
 one_reason cycles words text r r' (by_box x y e h) (by_table f' e' g reads h') = absurd (box_or_read text x y g h reads)
 one_reason cycles words text r r' (by_box x y e h) (by_streams f' e' g p reads h') = absurd (box_or_read text x y g h reads.pattern)
-one_reason cycles words text r r' (by_box x y e h) (by_time n e' s k is far) = absurd (box_or_read text x y s.grid h k.pattern)
 one_reason cycles words text r r' (by_table f e g reads h) (by_pattern f' e' h') = absurd (fault_or_read text f'.kind f'.line g h' reads)
 one_reason cycles words text r r' (by_table f e g reads h) (by_box x y e' h') = absurd (box_or_read text x y g h' reads)
 one_reason cycles words text r r' (by_table f e g reads h) (by_table f' e' g' reads' h') = e ∙ ap PortTable (same_table text f f' g g' reads h reads' h') ∙ sym e'
 one_reason cycles words text r r' (by_table f e g reads h) (by_streams f' e' g' p reads' h') = absurd (table_or_read text f.kind f.line g g' p reads h reads')
-one_reason cycles words text r r' (by_table f e g reads h) (by_time n e' s k is far) = absurd (table_or_read text f.kind f.line g s.grid s.ports reads h (read_of cycles words text s k))
 one_reason cycles words text r r' (by_streams f e g p reads h) (by_pattern f' e' h') = absurd (fault_or_read text f'.kind f'.line g h' reads.pattern)
 one_reason cycles words text r r' (by_streams f e g p reads h) (by_box x y e' h') = absurd (box_or_read text x y g h' reads.pattern)
 one_reason cycles words text r r' (by_streams f e g p reads h) (by_table f' e' g' reads' h') = absurd (table_or_read text f'.kind f'.line g' g p reads' h' reads)
 one_reason cycles words text r r' (by_streams f e g p reads h) (by_streams f' e' g' p' reads' h') =
     e ∙ ap Streams (same_streams cycles words p p' f f' (same_ports text g g' p p' reads reads') h h') ∙ sym e'
-one_reason cycles words text r r' (by_streams f e g p reads h) (by_time n e' s k is far) = absurd (streams_or_not cycles words text f g p s reads h k)
-one_reason cycles words text r r' (by_time n e s k is far) (by_pattern f' e' h') = absurd (fault_or_read text f'.kind f'.line s.grid h' k.pattern)
-one_reason cycles words text r r' (by_time n e s k is far) (by_box x y e' h') = absurd (box_or_read text x y s.grid h' k.pattern)
-one_reason cycles words text r r' (by_time n e s k is far) (by_table f' e' g' reads' h') = absurd (table_or_read text f'.kind f'.line g' s.grid s.ports reads' h' (read_of cycles words text s k))
-one_reason cycles words text r r' (by_time n e s k is far) (by_streams f' e' g' p' reads' h') = absurd (streams_or_not cycles words text f' g' p' s reads' h' k)
-one_reason cycles words text r r' (by_time n e s k is far) (by_time n' e' s' k' is' far') =
-    e ∙ ap TooFar (is ∙ same_last cycles words text s s' k k' ∙ sym is') ∙ sym e'
+
+pub one_streams_cause : (cycles : ℕ) (words : List (List ℕ)) (text : List ℕ) (r r' : Cause) → HasNoStreams cycles words text r → HasNoStreams cycles words text r' → r ≡ r'
+one_streams_cause cycles words text r r' h k = one_reason cycles words text r r' (reason_of cycles words text r h) (reason_of cycles words text r' k)
+
+-- the ways to be not simulated
+data Late (cycles : ℕ) (words : List (List ℕ)) (text : List ℕ) (r : Cause) : Type 0 where
+  early : HasNoStreams cycles words text r → Late cycles words text r
+  late : (generations : ℕ) → r ≡ TooFar generations → (s : Simulation) → IsSimulation cycles words text s → generations ≡ last_generation s.ports s.streams → greatest_generation < generations → Late cycles words text r
+
+late_of : (cycles : ℕ) (words : List (List ℕ)) (text : List ℕ) (r : Cause) → HasNoSimulation cycles words text r → Late cycles words text r
+late_of cycles words text (NetlistFault fault) h = early h
+late_of cycles words text (WeightTooLarge weight) h = early h
+late_of cycles words text (Loop names) h = early h
+late_of cycles words text (Pattern fault) h = early h
+late_of cycles words text (GridTooLarge width height) h = early h
+late_of cycles words text (PortTable fault) h = early h
+late_of cycles words text (Streams fault) h = early h
+late_of cycles words text (NoSuchNet name) h = early h
+late_of cycles words text (TooFar generations) h = late generations refl h.0 h.1 h.2 h.3
+
+-- a simulation that is near enough is not refused
+near_or_late : (cycles : ℕ) (words : List (List ℕ)) (text : List ℕ) (s : Simulation) (r : Cause) → Simulates cycles words text s → Late cycles words text r → ⊥
+near_or_late cycles words text s r h (early k) = simulation_or_not cycles words text s r h.is k
+near_or_late cycles words text s r h (late generations e t k is far) =
+    let same = same_last cycles words text t s k h.is in
+    omega (arith, h.near, same, is, far)
+
+pub simulates_or_not : (cycles : ℕ) (words : List (List ℕ)) (text : List ℕ) (s : Simulation) (r : Cause) → Simulates cycles words text s → HasNoSimulation cycles words text r → ⊥
+simulates_or_not cycles words text s r h k = near_or_late cycles words text s r h (late_of cycles words text r k)
+
+one_late : (cycles : ℕ) (words : List (List ℕ)) (text : List ℕ) (r r' : Cause) → Late cycles words text r → Late cycles words text r' → r ≡ r'
+one_late cycles words text r r' (early h) (early k) = one_streams_cause cycles words text r r' h k
+one_late cycles words text r r' (early h) (late n e s k is far) = absurd (simulation_or_not cycles words text s r k h)
+one_late cycles words text r r' (late n e s k is far) (early h) = absurd (simulation_or_not cycles words text s r' k h)
+one_late cycles words text r r' (late n e s k is far) (late n' e' s' k' is' far') = e ∙ ap TooFar (is ∙ same_last cycles words text s s' k k' ∙ sym is') ∙ sym e'
 
 pub one_cause : (cycles : ℕ) (words : List (List ℕ)) (text : List ℕ) (r r' : Cause) → HasNoSimulation cycles words text r → HasNoSimulation cycles words text r' → r ≡ r'
-one_cause cycles words text r r' h k = one_reason cycles words text r r' (reason_of cycles words text r h) (reason_of cycles words text r' k)
+one_cause cycles words text r r' h k = one_late cycles words text r r' (late_of cycles words text r h) (late_of cycles words text r' k)

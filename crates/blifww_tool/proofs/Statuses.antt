@@ -1,16 +1,16 @@
 -- Each status of a run comes only where its cause is.
 use Rattle.std.proofs.Common.{ℕ, zero, suc, ◌≡◌, ◌≢◌, ◌⊎◌, refl, sym, ap, ◌∙◌, subst, List, inl, inr, arith}
-use Rattle.command_words.specs.Shapes.{CommandValues, compile, simulate, eval, IsCommand}
+use Rattle.command_words.specs.Shapes.{CommandValues, compile, simulate, eval, probe, window, make, self_, IsCommand}
 use Rattle.netlist_core.specs.Names.{Name}
 use Rattle.netlist_rules.specs.declared.fault.Fault.{Fault}
 use Rattle.netlist_text.specs.NetlistText.{IsAtFault, IsTooHeavy, HasLoop}
 use Rattle.blifww_tool.specs.Commands.{Refuses}
 use Rattle.blifww_tool.specs.Refusals.{status_of, status_of_cause}
-use Rattle.blifww_tool.specs.Run.{Call, Reading, Asks, IsAsked, GaveTooMany, GaveAll, ReadFailed, WriteFailed, HasReason, IsRefused, CutsLine, CutsOutput, Ends}
+use Rattle.blifww_tool.specs.Run.{Call, Reading, Asks, IsAsked, GaveTooMany, GaveAll, HasText, ReadFailed, WriteFailed, HasReason, IsRefused, CutsLine, CutsOutput, Ends}
 use Rattle.blifww_tool.specs.Statuses.{StatusesHaveCauses}
 use Rattle.blifww_tool.proofs.Given.{one_command}
 use Rattle.blifww_tool.specs.declared.causes.Cause.{Cause}
-use Rattle.blifww_tool.specs.declared.causes.Cause.TheVariants.{NetlistFault, WeightTooLarge, Loop, Pattern, GridTooLarge, PortTable, Streams, TooFar}
+use Rattle.blifww_tool.specs.declared.causes.Cause.TheVariants.{NetlistFault, WeightTooLarge, Loop, Pattern, GridTooLarge, PortTable, Streams, NoSuchNet, TooFar}
 use Rattle.blifww_tool.specs.declared.refusals.Refusal.{Refusal}
 use Rattle.blifww_tool.specs.declared.refusals.Refusal.TheVariants.{Usage, TooLong, ReadFault, WriteFault, NoMemory, Text}
 
@@ -22,32 +22,45 @@ not_cause (Pattern f) = (λ e. cc, λ e. cc)
 not_cause (GridTooLarge x y) = (λ e. cc, λ e. cc)
 not_cause (PortTable f) = (λ e. cc, λ e. cc)
 not_cause (Streams f) = (λ e. cc, λ e. cc)
+not_cause (NoSuchNet name) = (λ e. cc, λ e. cc)
 not_cause (TooFar n) = (λ e. cc, λ e. cc)
 
 -- by its status a cause is a fault, a loop, or too great a weight where the text is a netlist's
-at_fault_by : (command : CommandValues) (text : List ℕ) (cause : Cause) → status_of_cause cause ≡ 1 → Refuses command text cause → (fault : Fault) × IsAtFault text fault
-at_fault_by compile text (NetlistFault f) e h = (f, h)
-at_fault_by (simulate cycles words) text (NetlistFault f) e h = absurd h
-at_fault_by (eval cycles words) text (NetlistFault f) e h = (f, h)
-at_fault_by command text (WeightTooLarge w) e h = absurd (omega (arith, e))
-at_fault_by command text (Loop names) e h = absurd (omega (arith, e))
-at_fault_by command text (Pattern f) e h = absurd (omega (arith, e))
-at_fault_by command text (GridTooLarge x y) e h = absurd (omega (arith, e))
-at_fault_by command text (PortTable f) e h = absurd (omega (arith, e))
-at_fault_by command text (Streams f) e h = absurd (omega (arith, e))
-at_fault_by command text (TooFar n) e h = absurd (omega (arith, e))
+at_fault_by : (command : CommandValues) (src : Reading) (text : List ℕ) (cause : Cause) → status_of_cause cause ≡ 1 → HasText command src text → Refuses command text cause
+    → (read : List ℕ) × (fault : Fault) × GaveAll src read × IsAtFault read fault
+at_fault_by compile src text (NetlistFault f) e given h = (text, f, given, h)
+at_fault_by (simulate cycles words) src text (NetlistFault f) e given h = absurd h
+at_fault_by (eval cycles words) src text (NetlistFault f) e given h = (text, f, given, h)
+at_fault_by (probe cycles net path words) src text (NetlistFault f) e given h = absurd h
+at_fault_by (window view words) src text (NetlistFault f) e given h = absurd h
+at_fault_by (make seed size) src text (NetlistFault f) e given h = absurd h
+at_fault_by (self_ seed size cycles) src text (NetlistFault f) e given h = absurd h
+at_fault_by command src text (WeightTooLarge w) e given h = absurd (omega (arith, e))
+at_fault_by command src text (Loop names) e given h = absurd (omega (arith, e))
+at_fault_by command src text (Pattern f) e given h = absurd (omega (arith, e))
+at_fault_by command src text (GridTooLarge x y) e given h = absurd (omega (arith, e))
+at_fault_by command src text (PortTable f) e given h = absurd (omega (arith, e))
+at_fault_by command src text (Streams f) e given h = absurd (omega (arith, e))
+at_fault_by command src text (NoSuchNet name) e given h = absurd (omega (arith, e))
+at_fault_by command src text (TooFar n) e given h = absurd (omega (arith, e))
 
-a_loop_by : (command : CommandValues) (text : List ℕ) (cause : Cause) → status_of_cause cause ≡ 3 → Refuses command text cause → (names : List Name) × HasLoop text names
-a_loop_by command text (NetlistFault f) e h = absurd (omega (arith, e))
-a_loop_by command text (WeightTooLarge w) e h = absurd (omega (arith, e))
-a_loop_by compile text (Loop names) e h = (names, h)
-a_loop_by (simulate cycles words) text (Loop names) e h = absurd h
-a_loop_by (eval cycles words) text (Loop names) e h = (names, h)
-a_loop_by command text (Pattern f) e h = absurd (omega (arith, e))
-a_loop_by command text (GridTooLarge x y) e h = absurd (omega (arith, e))
-a_loop_by command text (PortTable f) e h = absurd (omega (arith, e))
-a_loop_by command text (Streams f) e h = absurd (omega (arith, e))
-a_loop_by command text (TooFar n) e h = absurd (omega (arith, e))
+a_loop_by : (command : CommandValues) (src : Reading) (text : List ℕ) (cause : Cause) → status_of_cause cause ≡ 3 → HasText command src text → Refuses command text cause
+    → (read : List ℕ) × (names : List Name) × GaveAll src read × HasLoop read names
+a_loop_by command src text (NetlistFault f) e given h = absurd (omega (arith, e))
+a_loop_by command src text (WeightTooLarge w) e given h = absurd (omega (arith, e))
+a_loop_by compile src text (Loop names) e given h = (text, names, given, h)
+a_loop_by (simulate cycles words) src text (Loop names) e given h = absurd h
+a_loop_by (eval cycles words) src text (Loop names) e given h = (text, names, given, h)
+a_loop_by (probe cycles net path words) src text (Loop names) e given h = absurd h
+a_loop_by (window view words) src text (Loop names) e given h = absurd h
+a_loop_by (make seed size) src text (Loop names) e given h = absurd h
+a_loop_by (self_ seed size cycles) src text (Loop names) e given h = absurd h
+a_loop_by command src text (Pattern f) e given h = absurd (omega (arith, e))
+a_loop_by command src text (GridTooLarge x y) e given h = absurd (omega (arith, e))
+a_loop_by command src text (PortTable f) e given h = absurd (omega (arith, e))
+a_loop_by command src text (Streams f) e given h = absurd (omega (arith, e))
+a_loop_by command src text (NoSuchNet name) e given h = absurd (omega (arith, e))
+a_loop_by command src text (TooFar n) e given h = absurd (omega (arith, e))
 
 too_heavy_by : (text : List ℕ) (cause : Cause) → status_of_cause cause ≡ 4 → Refuses compile text cause → (weight : ℕ) × IsTooHeavy text weight
 too_heavy_by text (NetlistFault f) e h = absurd (omega (arith, e))
@@ -57,6 +70,7 @@ too_heavy_by text (Pattern f) e h = absurd h
 too_heavy_by text (GridTooLarge x y) e h = absurd h
 too_heavy_by text (PortTable f) e h = absurd h
 too_heavy_by text (Streams f) e h = absurd h
+too_heavy_by text (NoSuchNet name) e h = absurd h
 too_heavy_by text (TooFar n) e h = absurd h
 
 at_fault : (words : List (List ℕ)) (src : Reading) (r : Refusal) → HasReason words src r → status_of r ≡ 1 → (text : List ℕ) × (fault : Fault) × GaveAll src text × IsAtFault text fault
@@ -65,7 +79,7 @@ at_fault words src TooLong h e = absurd (omega (arith, e))
 at_fault words src ReadFault h e = absurd (omega (arith, e))
 at_fault words src WriteFault h e = absurd h
 at_fault words src NoMemory h e = absurd (omega (arith, e))
-at_fault words src (Text cause) h e = let f = at_fault_by h.command h.text cause e h.refused in (h.text, f.0, h.given, f.1)
+at_fault words src (Text cause) h e = at_fault_by h.command src h.text cause e h.given h.refused
 
 a_loop : (words : List (List ℕ)) (src : Reading) (r : Refusal) → HasReason words src r → status_of r ≡ 3 → (text : List ℕ) × (names : List Name) × GaveAll src text × HasLoop text names
 a_loop words src Usage h e = absurd (omega (arith, e))
@@ -73,7 +87,7 @@ a_loop words src TooLong h e = absurd (omega (arith, e))
 a_loop words src ReadFault h e = absurd (omega (arith, e))
 a_loop words src WriteFault h e = absurd h
 a_loop words src NoMemory h e = absurd (omega (arith, e))
-a_loop words src (Text cause) h e = let f = a_loop_by h.command h.text cause e h.refused in (h.text, f.0, h.given, f.1)
+a_loop words src (Text cause) h e = a_loop_by h.command src h.text cause e h.given h.refused
 
 usage : (words : List (List ℕ)) (src : Reading) (r : Refusal) → HasReason words src r → status_of r ≡ 2 → IsCommand words → ⊥
 usage words src Usage h e = h
@@ -99,9 +113,10 @@ too_large words src ReadFault h e asks = absurd (omega (arith, e))
 too_large words src WriteFault h e asks = absurd h
 too_large words src NoMemory h e asks = absurd (omega (arith, e))
 too_large words src (Text cause) h e asks =
-    let refused : Refuses compile h.text cause = subst (λ (v : CommandValues). Refuses v h.text cause) (one_command words h.command compile h.asked.asks asks) h.refused in
-    let heavy = too_heavy_by h.text cause e refused in
-    inr (h.text, heavy.0, h.given, heavy.1)
+    let same : h.command ≡ compile = one_command words h.command compile h.asked.asks asks in
+    let given : GaveAll src h.text = subst (λ (v : CommandValues). HasText v src h.text) same h.given in
+    let heavy = too_heavy_by h.text cause e (subst (λ (v : CommandValues). Refuses v h.text cause) same h.refused) in
+    inr (h.text, heavy.0, given, heavy.1)
 
 read_fault : (words : List (List ℕ)) (src : Reading) (r : Refusal) → HasReason words src r → status_of r ≡ 5 → ReadFailed src
 read_fault words src Usage h e = cc

@@ -1,5 +1,5 @@
 -- How the part of a run that reads and writes stops.
-use Rattle.std.proofs.Common.{ℕ, ◌≡◌, ◌<◌, refl, List, length}
+use Rattle.std.proofs.Common.{ℕ, true, ◌≡◌, ◌<◌, refl, List, length}
 use Rattle.std.specs.Prelude.{Option, Some, None}
 use Rattle.std.specs.Io.KnownBytes.{Keeps}
 use Rattle.command_words.specs.Shapes.{CommandValues, IsCommand}
@@ -10,9 +10,9 @@ use Rattle.ww_base.specs.declared.whole.ReadAllError.TheVariants as read_error
 use Rattle.blifww_tool.specs.declared.causes.TextError.{TextError}
 use Rattle.blifww_tool.specs.declared.causes.TextError.TheVariants as text_error
 use Rattle.blifww_tool.specs.Answer.{HasStopped}
-use Rattle.blifww_tool.specs.Commands.{HasTextCause}
+use Rattle.blifww_tool.specs.Commands.{reads_text, HasTextCause}
 use Rattle.blifww_tool.specs.Refusals.{words_refusal, read_refusal, text_refusal}
-use Rattle.blifww_tool.specs.Run.{Reading, Writing, IsAsked, Gave, GaveAll, GainedNothing, ReadFailed, text_limit}
+use Rattle.blifww_tool.specs.Run.{Reading, Writing, IsAsked, Gave, HasText, GainedNothing, ReadFailed, text_limit}
 
 -- what is not written to stays
 pub kept : (held : Option (List ℕ)) → Keeps held held
@@ -25,15 +25,15 @@ by_words words src out words_error.Usage nothing h = (nothing, h refl)
 by_words words src out words_error.NoMemory nothing h = (nothing, tt)
 
 -- at a source that gives no text,
-pub by_read : (words : List (List ℕ)) (src : Reading) (out : Writing) (command : CommandValues) (e : ReadAllError) → GainedNothing out → IsAsked words command
+pub by_read : (words : List (List ℕ)) (src : Reading) (out : Writing) (command : CommandValues) (e : ReadAllError) → GainedNothing out → IsAsked words command → reads_text command ≡ true
     → ((e ≡ read_error.ReadFault) → ReadFailed src) → ((e ≡ read_error.TooLong) → (given : List ℕ) × Gave src given × (text_limit < length given)) → HasStopped words src out (read_refusal e)
-by_read words src out command read_error.ReadFault nothing asked failed long = (nothing, record { command = command; asked = asked; failed = failed refl })
-by_read words src out command read_error.TooLong nothing asked failed long =
-    let l = long refl in (nothing, record { command = command; asked = asked; given = l.0; gave = l.1; many = l.2 })
-by_read words src out command read_error.NoMemory nothing asked failed long = (nothing, tt)
+by_read words src out command read_error.ReadFault nothing asked reads failed long = (nothing, record { command = command; asked = asked; reads = reads; failed = failed refl })
+by_read words src out command read_error.TooLong nothing asked reads failed long =
+    let l = long refl in (nothing, record { command = command; asked = asked; reads = reads; given = l.0; gave = l.1; many = l.2 })
+by_read words src out command read_error.NoMemory nothing asked reads failed long = (nothing, tt)
 
 -- and at a text that gives no output
-pub by_text : (words : List (List ℕ)) (src : Reading) (out : Writing) (command : CommandValues) (text : List ℕ) (e : TextError) → GainedNothing out → IsAsked words command → GaveAll src text
+pub by_text : (words : List (List ℕ)) (src : Reading) (out : Writing) (command : CommandValues) (text : List ℕ) (e : TextError) → GainedNothing out → IsAsked words command → HasText command src text
     → HasTextCause command text e → HasStopped words src out (text_refusal e)
 by_text words src out command text (text_error.Refused cause) nothing asked given h = (nothing, record { command = command; asked = asked; text = text; given = given; refused = h })
 by_text words src out command text text_error.NoMemory nothing asked given h = (nothing, tt)

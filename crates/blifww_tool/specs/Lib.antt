@@ -2,10 +2,15 @@ pub mod Joined
 pub mod Refusals
 pub mod Lines
 pub mod Simulation
+pub mod Driven
+pub mod Probing
+pub mod Viewing
 pub mod Compilation
 pub mod Evaluation
+pub mod Summary
 pub mod Commands
 pub mod Run
 pub mod Statuses
 pub mod Headline
 pub mod Answer
+pub mod PrintsAlike

@@ -23,8 +23,12 @@ use Rattle.drive.specs.declared.error.StreamError.{StreamError}
 use Rattle.drive.specs.declared.error.StreamError.TheVariants as streams_of
 use Rattle.drive.specs.declared.error.SimulateError.{SimulateError}
 use Rattle.drive.specs.declared.error.SimulateError.TheVariants as simulating
+use Rattle.probe_view.specs.declared.error.ProbeError.{ProbeError}
+use Rattle.probe_view.specs.declared.error.ProbeError.TheVariants as probing
+use Rattle.made_run.specs.declared.error.SummaryError.{SummaryError}
+use Rattle.made_run.specs.declared.error.SummaryError.TheVariants as summarizing
 use Rattle.blifww_tool.specs.declared.causes.Cause.{Cause}
-use Rattle.blifww_tool.specs.declared.causes.Cause.TheVariants.{NetlistFault, WeightTooLarge, Loop, Pattern, GridTooLarge, PortTable, Streams, TooFar}
+use Rattle.blifww_tool.specs.declared.causes.Cause.TheVariants.{NetlistFault, WeightTooLarge, Loop, Pattern, GridTooLarge, PortTable, Streams, NoSuchNet, TooFar}
 use Rattle.blifww_tool.specs.declared.causes.TextError.{TextError}
 use Rattle.blifww_tool.specs.declared.causes.TextError.TheVariants as text
 use Rattle.blifww_tool.specs.declared.refusals.Refusal.{Refusal}
@@ -39,6 +43,7 @@ status_of_cause (Pattern fault) = 8
 status_of_cause (GridTooLarge width height) = 4
 status_of_cause (PortTable fault) = 8
 status_of_cause (Streams fault) = 9
+status_of_cause (NoSuchNet name) = 9
 status_of_cause (TooFar generations) = 4
 
 -- the exit status of a refusal
@@ -109,6 +114,7 @@ cause_line (Pattern fault) = fault_line (rle_fault_name fault.kind) fault.line
 cause_line (GridTooLarge width height) = codes "too large: grid " ++ (decimal width ++ (codes " by " ++ (decimal height ++ codes "\n")))
 cause_line (PortTable fault) = fault_line (port_fault_name fault.kind) fault.line
 cause_line (Streams fault) = stream_line (stream_fault_name fault.kind) fault.word
+cause_line (NoSuchNet name) = stream_line (codes "NoSuchNet") name
 cause_line (TooFar generations) = codes "too large: generations " ++ (decimal generations ++ codes "\n")
 
 -- the one line that tells a refusal
@@ -159,7 +165,18 @@ abbrev pub streams_error : StreamError → TextError
 streams_error (streams_of.Fault fault) = text.Refused (Streams fault)
 streams_error streams_of.NoMemory = text.NoMemory
 
--- or the pattern is not run
+-- the pattern is not run,
 abbrev pub simulate_error : SimulateError → TextError
 simulate_error (simulating.TooFar generations) = text.Refused (TooFar generations)
 simulate_error simulating.NoMemory = text.NoMemory
+
+-- its net is not shown,
+abbrev pub probe_error : List ℕ → ProbeError → TextError
+probe_error name probing.NoSuchNet = text.Refused (NoSuchNet name)
+probe_error name (probing.TooFar generations) = text.Refused (TooFar generations)
+probe_error name probing.NoMemory = text.NoMemory
+
+-- or a made netlist is not
+abbrev pub summary_error : SummaryError → TextError
+summary_error (summarizing.TooFar generations) = text.Refused (TooFar generations)
+summary_error summarizing.NoMemory = text.NoMemory

@@ -1,11 +1,11 @@
 -- What a run does, by its words, and by what its source, its output and its errors hold before and after. It is said once for all
 -- commands: what each of them prints, and why it refuses, stands in `Commands`.
-use Rattle.std.specs.Prelude.{◌≡◌, ◌≢◌, ◌≤◌, ◌<◌, ◌⊎◌, ℕ, List, length, take, ⊤, Some}
+use Rattle.std.specs.Prelude.{◌≡◌, ◌≢◌, ◌≤◌, ◌<◌, ◌⊎◌, ℕ, Bool, true, false, List, [], length, take, ⊤, Some}
 use Rattle.std.specs.declared.option.Option.{Option}
 use Rattle.std.specs.Io.KnownBytes.{Consumes, Appends, Keeps, IsAtEnd}
 use Rattle.ww_base.specs.Faults.{Rose}
 use Rattle.command_words.specs.Shapes.{CommandValues, command_values, IsCommand, IsTaken}
-use Rattle.blifww_tool.specs.Commands.{Accepts, Prints, Refuses, AreAlike}
+use Rattle.blifww_tool.specs.Commands.{reads_text, Accepts, Prints, Refuses, MustRefuse, AreAlike}
 use Rattle.blifww_tool.specs.Refusals.{status_of, refusal_line}
 use Rattle.blifww_tool.specs.declared.causes.Cause.{Cause}
 use Rattle.blifww_tool.specs.declared.refusals.Refusal.{Refusal}
@@ -18,6 +18,10 @@ Asks words command = command_values words ≡ Some command
 -- the words ask for no command
 abbrev pub AsksNothing : List (List ℕ) → Type 0
 AsksNothing words = (command : CommandValues) → Asks words command → ⊥
+
+-- whatever they ask for reads nothing
+abbrev pub AsksForNoText : List (List ℕ) → Type 0
+AsksForNoText words = (command : CommandValues) → Asks words command → reads_text command ≡ false
 
 -- they ask for it, and clap finds no fault in them
 pub record IsAsked (words : List (List ℕ)) (command : CommandValues) : Type 0 where
@@ -68,6 +72,20 @@ pub record GaveAll (src : Reading) (text : List ℕ) : Type 0 where
   pub end : IsAtEnd src.left_after
   pub within : length text ≤ text_limit
 
+-- the source is as it was
+pub record IsUntouched (src : Reading) : Type 0 where
+  pub left : src.left_after ≡ src.left
+  pub faults : src.faults_after ≡ src.faults
+
+-- where the source is read, it gave this text; else it is as it was, and the text is the empty one
+abbrev pub GaveIfRead : Bool → Reading → List ℕ → Type 0
+GaveIfRead true src text = GaveAll src text
+GaveIfRead false src text = IsUntouched src × (text ≡ [])
+
+-- the command has this text from the source
+abbrev pub HasText : CommandValues → Reading → List ℕ → Type 0
+HasText command src text = GaveIfRead (reads_text command) src text
+
 -- the sink gained these bytes
 abbrev pub Gained : Writing → List ℕ → Type 0
 Gained sink bytes = Appends sink.written sink.written_after bytes
@@ -84,36 +102,38 @@ ReadFailed src = Rose src.faults src.faults_after
 abbrev pub WriteFailed : Writing → Type 0
 WriteFailed sink = Rose sink.faults sink.faults_after
 
--- the words ask for a command, the source gave all of a text, and out gained this part of what the command prints of it
+-- the words ask for a command, it has a text from the source, and out gained this part of what the command prints of it
 pub record Does (words : List (List ℕ)) (src : Reading) (out : Writing) (part : List ℕ → List ℕ) : Type 0 where
   pub command : CommandValues
   pub asked : IsAsked words command
   pub text : List ℕ
-  pub given : GaveAll src text
+  pub given : HasText command src text
   pub output : List ℕ
   pub prints : Prints command text output
   pub wrote : Gained out (part output)
 
--- the words ask for a command, and the source gave all of a text that the command refuses for this cause
+-- the words ask for a command, and it has a text from the source that it refuses for this cause
 pub record RefusesText (words : List (List ℕ)) (src : Reading) (cause : Cause) : Type 0 where
   pub command : CommandValues
   pub asked : IsAsked words command
   pub text : List ℕ
-  pub given : GaveAll src text
+  pub given : HasText command src text
   pub refused : Refuses command text cause
 
--- the words ask for a command, and the source gave too many bytes
+-- the words ask for a command that reads, and the source gave too many bytes
 pub record GaveTooMany (words : List (List ℕ)) (src : Reading) : Type 0 where
   pub command : CommandValues
   pub asked : IsAsked words command
+  pub reads : reads_text command ≡ true
   pub given : List ℕ
   pub gave : Gave src given
   pub many : text_limit < length given
 
--- the words ask for a command, and a read failed
+-- the words ask for a command that reads, and a read failed
 pub record FailedToRead (words : List (List ℕ)) (src : Reading) : Type 0 where
   pub command : CommandValues
   pub asked : IsAsked words command
+  pub reads : reads_text command ≡ true
   pub failed : ReadFailed src
 
 -- why a run is refused before it writes
@@ -158,14 +178,24 @@ pub record CutsOutput (c : Call) : Type 0 where
   pub failed : WriteFailed c.out
   pub line : Gained c.err (refusal_line WriteFault) ⊎ (WriteFailed c.err × ((k : ℕ) × Gained c.err (take k (refusal_line WriteFault))))
 
--- the words ask for the command, the source has the text, and nothing failed
+-- where the source is read, it has this text and no read failed; else the text is the empty one
+abbrev pub HoldsIfRead : Bool → Reading → List ℕ → Type 0
+HoldsIfRead true src text = (src.left ≡ Some text) × (ReadFailed src → ⊥)
+HoldsIfRead false src text = text ≡ []
+
+-- the words ask for the command, the source has the text for it, and nothing failed
 pub record IsCalm (c : Call) (command : CommandValues) (text : List ℕ) : Type 0 where
   pub shape : IsCommand c.words
   pub asks : Asks c.words command
-  pub has : c.src.left ≡ Some text
-  pub reads : ReadFailed c.src → ⊥
+  pub has : HoldsIfRead (reads_text command) c.src text
   pub writes : WriteFailed c.out → ⊥
   pub tells : WriteFailed c.err → ⊥
+
+-- a cause is told, and the command refuses the text for it
+pub record TellsCause (c : Call) (status : ℕ) (command : CommandValues) (text : List ℕ) : Type 0 where
+  pub told : Cause
+  pub refused : Refuses command text told
+  pub tells : Tells c.err status (Text told)
 
 -- a cause like this one is told, and it is one why the command refuses the text
 pub record TellsLike (c : Call) (status : ℕ) (command : CommandValues) (text : List ℕ) (cause : Cause) : Type 0 where
@@ -184,9 +214,10 @@ pub record Ends (c : Call) (status : ℕ) : Type 0 where
   pub refused : status ≢ 0 → status ≢ 6 → IsRefused c status
   pub cut : status ≡ 6 → CutsLine c ⊎ CutsOutput c
   pub front : (given : List ℕ) × Gave c.src given
-  -- and but for failed reads and writes and want of memory: a text that the command accepts is printed, one that it refuses is refused for its cause or one like it,
+  -- and but for failed reads and writes and want of memory: of a text the output is printed or a cause is told; one that the command accepts is printed, one that it must refuse is refused for its cause or one like it,
+  pub answered : (command : CommandValues) (text : List ℕ) → IsCalm c command text → length text ≤ text_limit → (status ≡ 0) ⊎ (TellsCause c status command text ⊎ (status ≡ 7))
   pub accepted : (command : CommandValues) (text : List ℕ) → IsCalm c command text → length text ≤ text_limit → Accepts command text → (status ≡ 0) ⊎ (status ≡ 7)
-  pub caused : (command : CommandValues) (text : List ℕ) → IsCalm c command text → length text ≤ text_limit → (cause : Cause) → Refuses command text cause → TellsLike c status command text cause ⊎ (status ≡ 7)
+  pub caused : (command : CommandValues) (text : List ℕ) → IsCalm c command text → length text ≤ text_limit → (cause : Cause) → MustRefuse command text cause → TellsLike c status command text cause ⊎ (status ≡ 7)
   -- one that is too long is told so, and words that ask for nothing are
   pub too_long : (command : CommandValues) (text : List ℕ) → IsCalm c command text → text_limit < length text → TellsOr7 c status TooLong
   pub nothing_asked : AsksNothing c.words → TellsOr7 c status Usage ⊎ ((status ≡ 6) × WriteFailed c.err × GainedNothing c.out)

@@ -1,5 +1,5 @@
 -- What a text of a pattern shows under streams of bits, as lines.
-use Rattle.std.specs.Prelude.{◌≡◌, ◌≤◌, ◌<◌, ℕ, List, flat_map}
+use Rattle.std.specs.Prelude.{◌≡◌, ◌≤◌, ◌<◌, ℕ, List, flat_map, ⊤}
 use Rattle.ww_rule.specs.Grid.{Grid, plane_of}
 use Rattle.pattern_reading.specs.declared.ports.Ports.{Ports}
 use Rattle.pattern_reading.specs.Ports.{names_of}
@@ -11,6 +11,8 @@ use Rattle.drive.specs.Driving.{shown_at, last_generation, greatest_generation}
 use Rattle.blifww_tool.specs.Lines.{bits_line}
 use Rattle.blifww_tool.specs.declared.causes.Cause.{Cause}
 use Rattle.blifww_tool.specs.declared.causes.Cause.TheVariants.{Pattern, GridTooLarge, PortTable, Streams as OfStreams, TooFar}
+use Rattle.blifww_tool.specs.declared.causes.TextError.{TextError}
+use Rattle.blifww_tool.specs.declared.causes.TextError.TheVariants.{Refused, NoMemory}
 
 -- a pattern, its ports, and streams for its inputs
 pub record Simulation : Type 0 where
@@ -38,16 +40,25 @@ pub record Simulates (cycles : ℕ) (words : List (List ℕ)) (text : List ℕ) 
   pub is : IsSimulation cycles words text s
   pub near : last_shown s ≤ greatest_generation
 
--- why they are none: the text is no pattern's, or its box is too large; its port table is at fault; the streams are; or the last bits
--- are shown too late
-abbrev pub HasNoSimulation : ℕ → List (List ℕ) → List ℕ → Cause → Type 0
-HasNoSimulation cycles words text (Pattern fault) = HasReaderFault text fault.kind fault.line
-HasNoSimulation cycles words text (GridTooLarge width height) = HasLargeBox text width height
-HasNoSimulation cycles words text (PortTable fault) =
+-- why the text and the words are no simulation: the text is no pattern's, or its box is too large; its port table is at fault; or the
+-- streams are
+abbrev pub HasNoStreams : ℕ → List (List ℕ) → List ℕ → Cause → Type 0
+HasNoStreams cycles words text (Pattern fault) = HasReaderFault text fault.kind fault.line
+HasNoStreams cycles words text (GridTooLarge width height) = HasLargeBox text width height
+HasNoStreams cycles words text (PortTable fault) =
     (grid : Grid) × ReadsWithinLimit text grid × HasPortFault text grid.width grid.height fault.kind fault.line
-HasNoSimulation cycles words text (OfStreams fault) =
+HasNoStreams cycles words text (OfStreams fault) =
     (grid : Grid) × (ports : Ports) × ReadsWithinLimit text grid × ReadsAsPorts text grid.width grid.height ports
     × HasStreamFault words (names_of ports.ins) cycles fault
+HasNoStreams cycles words text _ = ⊥
+
+-- why they are not simulated: they are no simulation, or its last bits are shown too late
+abbrev pub HasNoSimulation : ℕ → List (List ℕ) → List ℕ → Cause → Type 0
 HasNoSimulation cycles words text (TooFar generations) =
     (s : Simulation) × IsSimulation cycles words text s × (generations ≡ last_shown s) × (greatest_generation < generations)
-HasNoSimulation cycles words text _ = ⊥
+HasNoSimulation cycles words text cause = HasNoStreams cycles words text cause
+
+-- why no simulation is read: they are none, or there is not enough memory
+abbrev pub HasStreamsCause : ℕ → List (List ℕ) → List ℕ → TextError → Type 0
+HasStreamsCause cycles words text (Refused cause) = HasNoStreams cycles words text cause
+HasStreamsCause cycles words text NoMemory = ⊤

@@ -4,11 +4,14 @@ ghost use Rattle.std.specs.Prelude.{◌≡◌};
 use blif_text::Fault;
 use drive::{SimulateError, StreamError, StreamFault};
 use lists::List;
+use made_netlists::MakeError;
+use made_run::SummaryError;
 use netlist_core::Name;
 use netlist_plans::NetlistPlanError;
 use netlist_run::RunError;
 use netlist_text::NetlistError;
 use port_table::{PortFault, PortReadError};
+use probe_view::WindowError;
 use rle_read::{RleFault, RleReadError};
 use std::alloc::AllocError;
 
@@ -29,6 +32,8 @@ pub enum Cause {
     PortTable(PortFault),
     /// The words say no streams for the inputs.
     Streams(StreamFault),
+    /// No net of the pattern's port table has this name, which is asked for, and the path.
+    NoSuchNet(Name),
     /// The simulation needs so many generations, which is over the limit.
     TooFar { generations: u128 },
 }
@@ -45,7 +50,7 @@ impl Cause {
             Cause::Loop(_) => 3,
             Cause::WeightTooLarge { .. } | Cause::GridTooLarge { .. } | Cause::TooFar { .. } => 4,
             Cause::Pattern(_) | Cause::PortTable(_) => 8,
-            Cause::Streams(_) => 9,
+            Cause::Streams(_) | Cause::NoSuchNet(_) => 9,
         }
     }
 }
@@ -151,6 +156,45 @@ impl From<SimulateError> for TextError {
                 TextError::Refused(Cause::TooFar { generations })
             }
             SimulateError::NoMemory => TextError::NoMemory,
+        }
+    }
+}
+
+impl From<WindowError> for TextError {
+    ghost use Rattle.blifww_tool.specs.declared.causes.TextError.TheVariants.{NoMemory};
+
+    ghost from_gives = { λ _ r. r ≡ NoMemory };
+
+    fn from(error: WindowError) -> Self {
+        match error {
+            WindowError::NoMemory => TextError::NoMemory,
+        }
+    }
+}
+
+impl From<MakeError> for TextError {
+    ghost use Rattle.blifww_tool.specs.declared.causes.TextError.TheVariants.{NoMemory};
+
+    ghost from_gives = { λ _ r. r ≡ NoMemory };
+
+    fn from(error: MakeError) -> Self {
+        match error {
+            MakeError::NoMemory => TextError::NoMemory,
+        }
+    }
+}
+
+impl From<SummaryError> for TextError {
+    ghost use Rattle.blifww_tool.specs.Refusals.{summary_error};
+
+    ghost from_gives = { λ e r. r ≡ summary_error e };
+
+    fn from(error: SummaryError) -> Self {
+        match error {
+            SummaryError::TooFar { generations } => {
+                TextError::Refused(Cause::TooFar { generations })
+            }
+            SummaryError::NoMemory => TextError::NoMemory,
         }
     }
 }

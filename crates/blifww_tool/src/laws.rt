@@ -1,7 +1,22 @@
-//! What is proved of statuses.
+//! What is proved of statuses, and of what commands print.
+ghost use Rattle.blifww_tool.specs.PrintsAlike.{CarriersPrintAlike, CompiledPrintAlike};
 ghost use Rattle.blifww_tool.specs.Statuses.{StatusesHaveCauses};
+
+use netlist_text::laws::texts_are_decided;
+use shown_runs::{carriers_show_runs, streams_match};
 
 /// Each status of a run comes only where its cause is.
 pub fn statuses_have_causes()
     ensures { StatusesHaveCauses }
 {}
+
+/// What `simulate` prints of a text that carries a netlist, as what `compile` writes does, is what `eval` prints of the netlist under
+/// the same words.
+pub fn carriers_print_alike()
+    ensures carriers { CarriersPrintAlike }
+    ensures compiled { CompiledPrintAlike }
+{
+    carriers_show_runs();
+    streams_match();
+    texts_are_decided();
+}

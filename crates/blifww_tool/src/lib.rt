@@ -1,17 +1,24 @@
-//! The top call of the program: `compile` and `eval`, for the text of a netlist, and `simulate`, for the text of a pattern.
+//! The top call of the program: `compile` and `eval`, for the text of a netlist, `simulate`, `probe` and `window`, for the text of a
+//! pattern, and `make` and `self`, for netlists that are made.
 #![tactic(auto)]
 
 pub mod calm;
 mod causes;
 mod compile;
+mod driven;
 mod eval;
+mod input;
 pub mod laws;
 mod lines;
+mod make;
 mod output;
+mod probe;
 mod refusals;
 mod simulate;
+mod summary;
 mod told;
 mod top;
+mod window;
 
 pub use top::run;
 

@@ -15,8 +15,8 @@ fn push_bits(line: &mut Vec<u8>, bits: &[bool]) -> Result<(), AllocError>
     Ok(())
 }
 
-// Puts an output's line at the end.
-fn push_line(lines: &mut Vec<u8>, name: &[u8], bits: &[bool]) -> Result<(), AllocError>
+/// Puts an output's line at the end.
+pub fn push_line(lines: &mut Vec<u8>, name: &[u8], bits: &[bool]) -> Result<(), AllocError>
     ensures { OnOk result (lines.new.items ≡ lines.old.items ++ bits_line name.now bits.now) }
 {
     lines.extend_from_slice(name)?;
@@ -24,6 +24,15 @@ fn push_line(lines: &mut Vec<u8>, name: &[u8], bits: &[bool]) -> Result<(), Allo
     push_bits(lines, bits)?;
     lines.push(b'\n')?;
     Ok(())
+}
+
+/// The line of one.
+pub fn output_line(alloc: Global, name: &[u8], bits: &[bool]) -> Result<Bytes, AllocError>
+    ensures { IfOk result (λ line. line ≡ bits_line name.now bits.now) }
+{
+    let mut line = Vec::new(alloc);
+    push_line(&mut line, name, bits)?;
+    Ok(Bytes::of(line))
 }
 
 /// A line for each output, by their names and bits.

@@ -93,6 +93,15 @@ fn each_failure_is_told(rt: HostRuntime) -> Result<(), Fail> {
         ),
         (&["blifww", "simulate"], &[0], (317, 99), 2, b"", USAGE),
         (&["blifww"], &[0], (317, 20), 6, b"", &USAGE[..20]),
+        (CORNER, &[0], (317, 99), 5, b"", b"read fault\n"),
+        (
+            &["blifww", "make", "--seed", "1", "--size", "2"],
+            &[0],
+            (0, 99),
+            6,
+            b"",
+            b"write fault\n",
+        ),
     ] {
         let got = run_over(rt.alloc(), words, GATE, (16, fails), rooms)?;
         assert_eq!(rt; got.status, status);
@@ -263,5 +272,87 @@ fn words_that_give_no_streams_are_refused(rt: HostRuntime) -> Result<(), Fail> {
         assert_eq!(rt; got.out.as_slice(), b"".as_slice());
         assert_eq!(rt; got.err.as_slice(), line);
     }
+    Ok(())
+}
+
+const CORNER: &[&str] = &[
+    "blifww", "window", "--gen", "1", "--x", "0", "--y", "0", "--width", "3", "--height", "2",
+];
+
+const OUTSIDE: &[&str] = &[
+    "blifww", "window", "--gen", "1", "--x", "3", "--y", "9", "--width", "2", "--height", "1",
+];
+
+#[test]
+fn a_net_and_a_part_of_the_plane_are_shown(rt: HostRuntime) -> Result<(), Fail> {
+    let heads = b"x = 3, y = 2, rule = WireWorld\n3A$.C!\n".as_slice();
+    for (words, text, status, out, err) in [
+        (
+            [
+                "blifww", "probe", "--cycles", "2", "--net", "y", "a=01", "b=00",
+            ]
+            .as_slice(),
+            PATTERN,
+            0,
+            b"y=01\n".as_slice(),
+            b"".as_slice(),
+        ),
+        (
+            &[
+                "blifww", "probe", "--cycles", "1", "--net", "z", "a=0", "b=0",
+            ],
+            PATTERN,
+            9,
+            b"",
+            b"stream: NoSuchNet z\n",
+        ),
+        (CORNER, heads, 0, b"BBB\n.C.\n", b""),
+        (
+            CORNER,
+            b"x = 3, y = 2, rule = WireWorld\n2A$.C!\n",
+            0,
+            b"BB.\n.A.\n",
+            b"",
+        ),
+        (OUTSIDE, heads, 0, b"..\n", b""),
+        (
+            &["blifww", "probe", "--cycles", "2", "--net", "y", "a=11"],
+            b"#C BLIFWW 1 P 4294967296 L 2\n#C BLIFWW IN 0 0 a\n#C BLIFWW NET 2 0 2 y -\nx = 3, y = 1, rule = WireWorld\n3C!\n",
+            4,
+            b"",
+            b"too large: generations 4294967298\n",
+        ),
+    ] {
+        let got = run_over(rt.alloc(), words, text, (16, &[]), (99, 99))?;
+        assert_eq!(rt; got.status, status);
+        assert_eq!(rt; got.out.as_slice(), out);
+        assert_eq!(rt; got.err.as_slice(), err);
+    }
+    Ok(())
+}
+
+const MADE: &[u8] =
+    b".model made\n.inputs i0 i1 i2 i3\n.outputs g1 q0 q1\n.latch i2 q0 0\n.latch i3 q1 1\n.names q0 i3 g0\n10 1\n01 1\n.names g0 g0 g1\n11 0\n.end\n";
+
+#[test]
+fn what_is_made_is_written_and_told(rt: HostRuntime) -> Result<(), Fail> {
+    let alloc = rt.alloc();
+    // The source's first call would fail: nothing is read.
+    let make = ["blifww", "make", "--seed", "1", "--size", "2"];
+    let got = run_over(alloc, &make, b"", (1, &[0]), (999, 0))?;
+    assert_eq!(rt; got.status, 0);
+    assert_eq!(rt; got.out.as_slice(), MADE);
+
+    let told = [
+        "blifww", "self", "--seed", "1", "--size", "2", "--cycles", "4",
+    ];
+    let got = run_over(alloc, &told, b"", (1, &[0]), (999, 0))?;
+    assert_eq!(rt; got.status, 0);
+    assert!(rt; got.out.starts_with(b"weight 22\nlanes "));
+    assert!(rt;
+        got.out.ends_with(
+            b"\nsim g1=1011\neval g1=1011\nsim q0=0111\neval q0=0111\nsim q1=1001\neval q1=1001\n"
+        )
+    );
     Ok(())
 }

@@ -201,6 +201,7 @@ impl Cause {
             Cause::Streams(fault) => {
                 tell_streams(err, stream_fault_name(fault.kind), fault.word.as_slice())
             }
+            Cause::NoSuchNet(name) => tell_streams(err, b"NoSuchNet", name.as_slice()),
             Cause::TooFar { generations } => tell_generations(err, *generations),
         }
     }

@@ -1,27 +1,29 @@
 // The top call.
 ghost use Rattle.std.specs.Prelude.{◌≡◌, ℕ, List, map, string_bytes, IfOk, IfErr, OnOk, IsErrOf};
-ghost use Rattle.command_words.specs.Shapes.{compile, values_of, HasCyclesInRange};
+ghost use Rattle.command_words.specs.Shapes.{compile, values_of, HasNumbersInRange};
 ghost use Rattle.blifww_tool.specs.Headline.{WritesWhatItRead};
 ghost use Rattle.blifww_tool.specs.Commands.{Prints, HasTextCause};
 ghost use Rattle.blifww_tool.specs.Answer.{output_text, IsWritable, HasStopped};
-ghost use Rattle.blifww_tool.specs.Run.{Asks, AsksNothing, reading, writing, call, Gave, Does, Ends};
+ghost use Rattle.blifww_tool.specs.Run.{Asks, AsksForNoText, reading, writing, call, Gave, Does, Ends};
 
 use crate::causes::TextError;
 use crate::compile::compile;
 use crate::eval::eval;
+use crate::input::text_for;
+use crate::make::make;
 use crate::output::Output;
+use crate::probe::probe;
 use crate::refusals::Refusal;
 use crate::simulate::simulate;
+use crate::summary::summary;
+use crate::window::window;
 use command_words::{Command, command_of};
 use std::alloc::Global;
-use ww_base::{Failed, Sink, Source, read_all};
-
-/// The most bytes that are read.
-pub const TEXT_LIMIT: usize = 16_777_216;
+use ww_base::{Failed, Sink, Source};
 
 // What a command prints of a text. All memory that the command needs is taken here.
 fn answer(alloc: Global, command: &Command, text: &[u8]) -> Result<Output, TextError>
-    requires cycles { HasCyclesInRange (values_of command.now) }
+    requires numbers { HasNumbersInRange (values_of command.now) }
     ensures printed { IfOk result (λ output. Prints (values_of command.now) text.now (output_text output)) }
     ensures writable { IfOk result IsWritable }
     ensures refused { IfErr result (λ e. HasTextCause (values_of command.now) text.now e) }
@@ -30,6 +32,22 @@ fn answer(alloc: Global, command: &Command, text: &[u8]) -> Result<Output, TextE
         Command::Compile => compile(alloc, text),
         Command::Simulate { cycles, streams } => simulate(alloc, *cycles, streams.as_slice(), text),
         Command::Eval { cycles, streams } => eval(alloc, *cycles, streams.as_slice(), text),
+        Command::Probe {
+            cycles,
+            net,
+            path,
+            streams,
+        } => probe(
+            alloc,
+            *cycles,
+            net.as_bytes(),
+            path.as_bytes(),
+            streams.as_slice(),
+            text,
+        ),
+        Command::Window { view, streams } => window(alloc, *view, streams.as_slice(), text),
+        Command::Make { seed, size } => make(alloc, *seed, *size),
+        Command::Self_ { seed, size, cycles } => summary(alloc, *seed, *size, *cycles),
     }
 }
 
@@ -45,11 +63,11 @@ fn work<S: Source, O: Sink>(
     ensures stopped { IfErr result (λ r. HasStopped (map string_bytes words.now) (reading S.left S.faults src.old src.new)
         (writing O.written O.faults out.old out.new) r) }
     ensures front { (given : List ℕ) × Gave (reading S.left S.faults src.old src.new) given }
-    ensures unread { AsksNothing (map string_bytes words.now) → src.new ≡ src.old }
+    ensures unread { AsksForNoText (map string_bytes words.now) → src.new ≡ src.old }
     ensures refused_unread { IsErrOf result Refusal.Usage → src.new ≡ src.old }
 {
     let command = command_of(alloc, words)?;
-    let text = read_all(alloc, src, TEXT_LIMIT)?;
+    let text = text_for(alloc, &command, src)?;
     let output = answer(alloc, &command, text.as_slice())?;
     output.write(out)?;
     Ok(())
@@ -61,14 +79,18 @@ fn work<S: Source, O: Sink>(
 /// that say where its ports are. `simulate --cycles N name=bits..` reads such a pattern, with any ports, and writes a
 /// line `name=bits` for each output, with the bits that its cell shows when the streams of the words drive the inputs.
 /// `eval --cycles N name=bits..` reads a netlist and writes such lines with the bits of its run on the streams.
+/// `probe --cycles N --net NAME [--path PATH] name=bits..` reads a pattern and writes such a line for a net of its port table, and
+/// `window --gen G --x X --y Y --width W --height H name=bits..` the cells of a part of its plane at a generation.
+/// `make --seed S --size K` and `self --seed S --size K --cycles N` read nothing: the first writes the text of a netlist that is made from
+/// the seed, and the second what is told of it, compiled, simulated and evaluated.
 ///
 /// 0: all of it is on `out`. 1: the netlist's text breaks a rule. 2: the words are no command. 3: covers read each other in a
 /// circle. 4: the text has more than 16,777,216 bytes, the netlist weighs more than 1,024, the pattern's box has more than
-/// 268,435,456 cells, or its last cycle comes after generation 4,294,967,296. 5: `src` failed. 6: `out` or `err` failed. 7: there
-/// was not enough memory. 8: the text is no pattern's, or its port table is at fault. 9: the words are no streams for the inputs. Of
-/// several the first is answered: 2, 5, 4 (the text); then of a netlist 1 (lines and models), 4 (the weight), 1 (clocks), 3, and of a
-/// pattern 8 (the header), 4 (the box), 8 (the items), 8 (the table); then 9, 4 (generations), 6. With each but 0 and 6 one line on
-/// `err` tells it, and nothing is on `out`.
+/// 268,435,456 cells, or its last bits come after generation 4,294,967,296. 5: `src` failed. 6: `out` or `err` failed. 7: there
+/// was not enough memory. 8: the text is no pattern's, or its port table is at fault. 9: the words are no streams for the inputs, or
+/// the table has no net as asked for. Of several the first is answered: 2, 5, 4 (the text); then of a netlist 1 (lines and models),
+/// 4 (the weight), 1 (clocks), 3, and of a pattern 8 (the header), 4 (the box), 8 (the items), 8 (the table); then 9 (words),
+/// 9 (the net), 4 (generations), 6. With each but 0 and 6 one line on `err` tells it, and nothing is on `out`.
 pub fn run<S: Source, O: Sink, E: Sink>(
     alloc: Global,
     words: &[String],
@@ -84,8 +106,8 @@ pub fn run<S: Source, O: Sink, E: Sink>(
     ensures ends { Ends (call (map string_bytes words.now) (reading S.left S.faults src.old src.new)
         (writing O.written O.faults out.old out.new) (writing E.written E.faults err.old err.new)) result }
 
-    // Words that are no command leave the source alone.
-    ensures unread { AsksNothing (map string_bytes words.now) → src.new ≡ src.old }
+    // Words that are no command, and those of a command that reads nothing, leave the source alone.
+    ensures unread { AsksForNoText (map string_bytes words.now) → src.new ≡ src.old }
     ensures refused_unread { result ≡ 2 → src.new ≡ src.old }
 {
     match work(alloc, words, src, out) {

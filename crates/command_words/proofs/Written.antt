@@ -10,7 +10,7 @@ use Rattle.clap.specs.Walk.{Row, Text, first_of, rows_after, nothing_held}
 use Rattle.clap.specs.Simple.{subcommand_of}
 use Rattle.command_words.specs.App.{blifww_app}
 use Rattle.command_words.specs.Numbers.{are_digits, number_between}
-use Rattle.command_words.specs.Shapes.{CommandValues, compile, simulate, eval, driven_by, values_met, command_values, cycle_count, cycles_of, is_plain_word, IsDriven, IsCommand, IsWritten}
+use Rattle.command_words.specs.Shapes.{CommandValues, compile, simulate, eval, probe, window, make, self_, driven_by, values_met, command_values, cycle_count, cycles_of, is_plain_word, IsDriven, IsCommand, IsWritten}
 use Rattle.command_words.proofs.Walks.{HasNoHyphen, compile_entered, compile_taken, rows_for, shape, simulate_takes, simulate_entered, eval_takes, eval_entered, words_entered, words_taken}
 
 not_hyphen : (b : ℕ) (bs : Text) → (b == 45) ≡ false → HasNoHyphen (b ∷ bs)
@@ -61,6 +61,10 @@ written_values (simulate cycles streams) words w =
     ap values_met (entered_by (codes "simulate") cycles streams words w simulate_entered) ∙ values_of_rows simulate w.1 cycles streams w.3
 written_values (eval cycles streams) words w =
     ap values_met (entered_by (codes "eval") cycles streams words w eval_entered) ∙ values_of_rows eval w.1 cycles streams w.3
+written_values (probe n m p s) words w = absurd w
+written_values (window v s) words w = absurd w
+written_values (make m n) words w = absurd w
+written_values (self_ m n c) words w = absurd w
 
 taken_by : (command : Text) (cycles : ℕ) (streams words : List Text) → length words ≤ usize_max → IsDriven command cycles streams words
     → ((name : Text) (rest : List Text) → takes blifww_app (name ∷ command ∷ rest) ≡ level_passes shape [] nothing_held rest false)
@@ -75,26 +79,34 @@ pub written_taken : (v : CommandValues) (words : List Text) → length words ≤
 written_taken compile words short w = ap (takes blifww_app) w.1 ∙ compile_taken w.0
 written_taken (simulate cycles streams) words short w = taken_by (codes "simulate") cycles streams words short w simulate_takes
 written_taken (eval cycles streams) words short w = taken_by (codes "eval") cycles streams words short w eval_takes
+written_taken (probe n m p s) words short w = absurd w
+written_taken (window v s) words short w = absurd w
+written_taken (make m n) words short w = absurd w
+written_taken (self_ m n c) words short w = absurd w
 
-abbrev IsInRange : Option Text → Type 0
-IsInRange o = IfSome o (λ number. is_some (cycle_count number) ≡ true)
+abbrev HasCyclesInRange : Option Text → Type 0
+HasCyclesInRange o = IfSome o (λ number. is_some (cycle_count number) ≡ true)
 
 first_number : (n : Text) (vs : List Text) → first_of (codes "cycles") (rows_for n vs) ≡ Some n
 first_number n [] = refl
 first_number n (v ∷ vs) = refl
 
 in_range_by : (command : Text) (cycles : ℕ) (streams words : List Text) → (w : IsDriven command cycles streams words)
-    → subcommand_of blifww_app words ≡ Some (command, rows_for w.1 streams) → IsInRange (cycles_of words)
+    → subcommand_of blifww_app words ≡ Some (command, rows_for w.1 streams) → HasCyclesInRange (cycles_of words)
 in_range_by command cycles streams words w met =
     let some : cycles_of words ≡ Some w.1 = ap (option_and_then (λ (m : Text × List Row). first_of (codes "cycles") m.1)) met ∙ first_number w.1 streams in
-    subst IsInRange (sym some) (ap (λ (o : Option ℕ). is_some o) w.3)
+    subst HasCyclesInRange (sym some) (ap (λ (o : Option ℕ). is_some o) w.3)
 
-written_in_range : (v : CommandValues) (words : List Text) → IsWritten v words → IsInRange (cycles_of words)
+written_in_range : (v : CommandValues) (words : List Text) → IsWritten v words → HasCyclesInRange (cycles_of words)
 written_in_range compile words w =
     let none : cycles_of words ≡ None = ap cycles_of w.1 ∙ ap (option_and_then (λ (m : Text × List Row). first_of (codes "cycles") m.1)) (compile_entered w.0) in
-    subst IsInRange (sym none) tt
+    subst HasCyclesInRange (sym none) tt
 written_in_range (simulate cycles streams) words w = in_range_by (codes "simulate") cycles streams words w (entered_by (codes "simulate") cycles streams words w simulate_entered)
 written_in_range (eval cycles streams) words w = in_range_by (codes "eval") cycles streams words w (entered_by (codes "eval") cycles streams words w eval_entered)
+written_in_range (probe n m p s) words w = absurd w
+written_in_range (window v s) words w = absurd w
+written_in_range (make m n) words w = absurd w
+written_in_range (self_ m n c) words w = absurd w
 
 -- each list of words in the plainest form of a command is a command
 pub written_is_command : (v : CommandValues) (words : List Text) → length words ≤ usize_max → IsWritten v words → IsCommand words

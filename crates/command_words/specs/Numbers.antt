@@ -1,5 +1,5 @@
 -- Numbers among the words of the command line.
-use Rattle.std.specs.Prelude.{ℕ, Bool, ◌&&◌, nat_le, if◌then◌else◌, List, [], ◌∷◌, Option, Some, None, false}
+use Rattle.std.specs.Prelude.{◌≤◌, ℕ, Bool, ◌&&◌, nat_le, if◌then◌else◌, List, [], ◌∷◌, Option, Some, None, false, codes}
 use Rattle.std.specs.List.{list_all}
 use Rattle.std.specs.Char.{is_ascii_digit}
 use Rattle.std.specs.Str.Parse.{digits_value}
@@ -15,3 +15,41 @@ number_between least most text =
     if are_digits text && (nat_le least (digits_value 10 text) && nat_le (digits_value 10 text) most)
     then Some (digits_value 10 text)
     else None
+
+-- the name of an option that takes a number, and the least and the greatest that it takes
+pub record NumberRange : Type 0 where
+  pub name : List ℕ
+  pub least : ℕ
+  pub most : ℕ
+
+abbrev pub cycles_range : NumberRange
+cycles_range = record { name = codes "cycles"; least = 1; most = 1048576 }
+
+abbrev pub generation_range : NumberRange
+generation_range = record { name = codes "gen"; least = 0; most = 4294967296 }
+
+abbrev pub x_range : NumberRange
+x_range = record { name = codes "x"; least = 0; most = 4294967295 }
+
+abbrev pub y_range : NumberRange
+y_range = record { name = codes "y"; least = 0; most = 4294967295 }
+
+abbrev pub width_range : NumberRange
+width_range = record { name = codes "width"; least = 1; most = 4096 }
+
+abbrev pub height_range : NumberRange
+height_range = record { name = codes "height"; least = 1; most = 4096 }
+
+abbrev pub seed_range : NumberRange
+seed_range = record { name = codes "seed"; least = 0; most = 2147483647 }
+
+abbrev pub size_range : NumberRange
+size_range = record { name = codes "size"; least = 1; most = 128 }
+
+-- the options that take numbers
+abbrev pub number_ranges : List NumberRange
+number_ranges = cycles_range ∷ generation_range ∷ x_range ∷ y_range ∷ width_range ∷ height_range ∷ seed_range ∷ size_range ∷ []
+
+-- the option takes this number
+abbrev pub IsInRange : NumberRange → ℕ → Type 0
+IsInRange range number = (range.least ≤ number) × (number ≤ range.most)

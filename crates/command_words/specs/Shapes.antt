@@ -1,5 +1,5 @@
 -- Which lists of words are a command, and what they ask for.
-use Rattle.std.specs.Prelude.{◌≡◌, ◌≤◌, ℕ, Bool, true, List, [], ◌∷◌, map, Option, Some, None, IfSome, is_some, option_map, option_and_then, unwrap_or, codes, string_bytes, if◌then◌else◌, false, not, ◌==◌}
+use Rattle.std.specs.Prelude.{⊤, ◌≡◌, ℕ, Bool, true, List, [], ◌∷◌, map, Option, Some, None, IfSome, is_some, option_map, option_and_then, unwrap_or, codes, string_bytes, if◌then◌else◌, false, not, ◌==◌}
 use Rattle.std.specs.List.{list_all}
 use Rattle.std.specs.Str.{bytes_eq}
 use Rattle.clap.specs.Walk.{Row, Text, all_of, first_of}
@@ -7,26 +7,45 @@ use Rattle.clap.specs.Simple.{subcommand_of}
 use Rattle.clap.specs.Takes.{takes}
 use Rattle.clap.specs.Faults.{fault_of}
 use Rattle.command_words.specs.App.{blifww_app}
-use Rattle.command_words.specs.Numbers.{number_between}
+use Rattle.command_words.specs.Numbers.{number_between, IsInRange, cycles_range, generation_range, x_range, y_range, width_range, height_range, seed_range, size_range}
+use Rattle.command_words.specs.declared.command.View.{View}
 use Rattle.command_words.specs.declared.command.Command.{Command}
-use Rattle.command_words.specs.declared.command.Command.TheVariants.{Compile, Simulate, Eval}
+use Rattle.command_words.specs.declared.command.Command.TheVariants.{Compile, Simulate, Eval, Probe, Window, Make, Self_}
 
--- a command with its values: for `simulate` and `eval` the number of cycles, and the last words
+-- a command with its values, of which the words that give the streams stand last
 pub data CommandValues : Type 0 where
   compile : CommandValues
-  simulate : ℕ → List Text → CommandValues
-  eval : ℕ → List Text → CommandValues
+  simulate : (cycles : ℕ) → (streams : List Text) → CommandValues
+  eval : (cycles : ℕ) → (streams : List Text) → CommandValues
+  probe : (cycles : ℕ) → (net path : Text) → (streams : List Text) → CommandValues
+  window : View → (streams : List Text) → CommandValues
+  make : (seed size : ℕ) → CommandValues
+  self_ : (seed size cycles : ℕ) → CommandValues
 
 abbrev pub values_of : Command → CommandValues
 values_of Compile = compile
 values_of (Simulate cycles streams) = simulate cycles (map string_bytes streams)
 values_of (Eval cycles streams) = eval cycles (map string_bytes streams)
+values_of (Probe cycles net path streams) = probe cycles (string_bytes net) (string_bytes path) (map string_bytes streams)
+values_of (Window view streams) = window view (map string_bytes streams)
+values_of (Make seed size) = make seed size
+values_of (Self_ seed size cycles) = self_ seed size cycles
 
--- such a command has from 1 to 1,048,576 cycles
-abbrev pub HasCyclesInRange : CommandValues → Type 0
-HasCyclesInRange compile = Unit {0}
-HasCyclesInRange (simulate cycles streams) = (1 ≤ cycles) × (cycles ≤ 1048576)
-HasCyclesInRange (eval cycles streams) = (1 ≤ cycles) × (cycles ≤ 1048576)
+-- each number of the view is one that its option takes
+abbrev pub HasViewInRange : View → Type 0
+HasViewInRange view =
+    IsInRange generation_range view.generation × IsInRange x_range view.x × IsInRange y_range view.y
+    × IsInRange width_range view.width × IsInRange height_range view.height
+
+-- each number of the command is one that its option takes
+abbrev pub HasNumbersInRange : CommandValues → Type 0
+HasNumbersInRange compile = ⊤
+HasNumbersInRange (simulate cycles streams) = IsInRange cycles_range cycles
+HasNumbersInRange (eval cycles streams) = IsInRange cycles_range cycles
+HasNumbersInRange (probe cycles net path streams) = IsInRange cycles_range cycles
+HasNumbersInRange (window view streams) = HasViewInRange view
+HasNumbersInRange (make seed size) = IsInRange seed_range seed × IsInRange size_range size
+HasNumbersInRange (self_ seed size cycles) = IsInRange seed_range seed × IsInRange size_range size × IsInRange cycles_range cycles
 
 -- the number of cycles that a text writes, from 1 to 1,048,576
 abbrev pub cycle_count : Text → Option ℕ
@@ -86,3 +105,4 @@ abbrev pub IsWritten : CommandValues → List Text → Type 0
 IsWritten compile words = (program : Text) × (words ≡ program ∷ codes "compile" ∷ [])
 IsWritten (simulate cycles streams) words = IsDriven (codes "simulate") cycles streams words
 IsWritten (eval cycles streams) words = IsDriven (codes "eval") cycles streams words
+IsWritten _ words = ⊥

@@ -5,7 +5,7 @@ ghost use Rattle.clap.specs.Lexer.{usize_max};
 ghost use Rattle.clap.specs.Walk.{rows_of};
 ghost use Rattle.clap.specs.Words.{found_of};
 ghost use Rattle.command_words.specs.Driven.{values_by};
-ghost use Rattle.command_words.specs.Shapes.{CommandValues, HasCyclesInRange, IsCommand, IsTaken, IsWritten, command_values, driven_by, values_met, values_of};
+ghost use Rattle.command_words.specs.Shapes.{CommandValues, HasNumbersInRange, IsCommand, IsTaken, IsWritten, command_values, driven_by, values_met, values_of};
 
 use crate::WordsError;
 use crate::app::blifww_command;
@@ -17,11 +17,20 @@ use std::alloc::{AllocError, Global};
 // The most cycles that a command may ask for.
 const MOST_CYCLES: u64 = 1_048_576;
 
-/// A command with its values.
+/// A part of the plane at a generation: `width` cells of each of `height` rows, the first of which is the cell `x`, `y`.
+#[derive(Clone, Copy, Debug, PartialEq, Eq)]
+pub struct View {
+    pub generation: u64,
+    pub x: u64,
+    pub y: u64,
+    pub width: u64,
+    pub height: u64,
+}
+
+/// A command with its values. `cycles` says how many, and `streams` are the words that give the streams.
 #[derive(Drop)]
 pub enum Command {
     Compile,
-    /// How many cycles, and the words that give the streams.
     Simulate {
         cycles: usize,
         streams: List<String>,
@@ -29,6 +38,26 @@ pub enum Command {
     Eval {
         cycles: usize,
         streams: List<String>,
+    },
+    /// `path` is `-` where the words give none.
+    Probe {
+        cycles: usize,
+        net: String,
+        path: String,
+        streams: List<String>,
+    },
+    Window {
+        view: View,
+        streams: List<String>,
+    },
+    Make {
+        seed: u32,
+        size: u32,
+    },
+    Self_ {
+        seed: u32,
+        size: u32,
+        cycles: usize,
     },
 }
 
@@ -66,7 +95,7 @@ fn owned(alloc: Global, texts: &[&str]) -> Result<List<String>, AllocError>
 fn driven_in(alloc: Global, driven: Driven, found: &ArgMatches<'_>) -> Result<Command, WordsError>
     ensures ok { IfOk result (λ c. driven_by (values_by driven) (rows_of (found_of found.now)) ≡ Some (values_of c)) }
     ensures usage { IsErrOf result WordsError.Usage → driven_by (values_by driven) (rows_of (found_of found.now)) ≡ None }
-    ensures cycles { IfOk result (λ c. HasCyclesInRange (values_of c)) }
+    ensures numbers { IfOk result (λ c. HasNumbersInRange (values_of c)) }
 {
     let number = found.get_str("cycles").ok_or(WordsError::Usage)?;
     let cycles = number_between(number, 1, MOST_CYCLES).ok_or(WordsError::Usage)?;
@@ -78,7 +107,7 @@ fn driven_in(alloc: Global, driven: Driven, found: &ArgMatches<'_>) -> Result<Co
 fn command_in(alloc: Global, found: &ArgMatches<'_>) -> Result<Command, WordsError>
     ensures ok { IfOk result (λ c. values_met (subcommand_rows_of found.now) ≡ Some (values_of c)) }
     ensures usage { IsErrOf result WordsError.Usage → values_met (subcommand_rows_of found.now) ≡ None }
-    ensures cycles { IfOk result (λ c. HasCyclesInRange (values_of c)) }
+    ensures numbers { IfOk result (λ c. HasNumbersInRange (values_of c)) }
 {
     match found.subcommand() {
         Some(("compile", _)) => Ok(Command::Compile),
@@ -101,7 +130,7 @@ fn length_fits(words: &[String])
 pub fn command_of(alloc: Global, words: &[String]) -> Result<Command, WordsError>
     ensures ok { IfOk result (λ c. command_values (map string_bytes words.now) ≡ Some (values_of c)) }
     ensures taken { OnOk result (IsTaken (map string_bytes words.now)) }
-    ensures cycles { IfOk result (λ c. HasCyclesInRange (values_of c)) }
+    ensures numbers { IfOk result (λ c. HasNumbersInRange (values_of c)) }
     ensures usage { IsErrOf result WordsError.Usage → IsCommand (map string_bytes words.now) → ⊥ }
     ensures written { (v : CommandValues) → IsWritten v (map string_bytes words.now) → MatchResult result (λ c. values_of c ≡ v) (λ e. e ≡ WordsError.NoMemory) }
 {

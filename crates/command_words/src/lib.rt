@@ -7,7 +7,7 @@ mod error;
 pub mod laws;
 mod numbers;
 
-pub use command::{Command, command_of};
+pub use command::{Command, View, command_of};
 pub use error::WordsError;
 
 #[cfg(test)]

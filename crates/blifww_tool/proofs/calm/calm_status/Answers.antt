@@ -4,4 +4,4 @@ use Rattle.blifww_tool.proofs.calm.calm_status.Goals as goal
 
 pub returns : goal.returns
 returns c = λ design shape asks netlist short.
-    c.run-status.ensures.ends.accepted compile _ (record { shape = shape; asks = asks; has = search rules; reads = search rules; writes = search rules; tells = search rules }) short (design, netlist)
+    c.run-status.ensures.ends.accepted compile _ (record { shape = shape; asks = asks; has = (search rules, search rules); writes = search rules; tells = search rules }) short (design, netlist)

@@ -14,7 +14,7 @@ pub returns-in_err-text-clause-stopped : goal.returns-in_err-text-clause-stopped
 returns-in_err-text-clause-stopped g c =
     let p = err_from_is_err_and c.from_residual-in_err-text.result c.from_residual-in_err-text.ensures.1 in
     rw (p.1, p.2) (by_read _ _ _ (values_of c.in_ok-command.command) c.in_err-text.field-0.0 (kept _)
-    (record { asks = c.in_ok-command.ensures.ok; taken = c.in_ok-command.ensures.taken })
+    (record { asks = c.in_ok-command.ensures.ok; taken = c.in_ok-command.ensures.taken }) c.in_err-text.ensures.read
     (λ w. c.in_err-text.ensures.fault (ap Err w)) (λ w. c.in_err-text.ensures.too_long (ap Err w)))
 
 pub returns-in_err-output-clause-stopped : goal.returns-in_err-output-clause-stopped
@@ -23,5 +23,5 @@ returns-in_err-output-clause-stopped g c =
     let command = values_of c.in_ok-command.command in
     rw (p.1, p.2) (by_text _ _ _ command c.in_ok-text.text c.in_err-output.field-0.0 (kept _)
     (record { asks = c.in_ok-command.ensures.ok; taken = c.in_ok-command.ensures.taken })
-    (record { consumed = c.in_ok-text.ensures.all; end = c.in_ok-text.ensures.end; within = c.in_ok-text.ensures.within })
+    c.in_ok-text.ensures.given
     (subst (λ (t : List ℕ). HasTextCause command t c.in_err-output.field-0.0) c.as_slice.ensures c.in_err-output.ensures.refused))

@@ -1,0 +1,55 @@
+-- What `simulate` prints of a text that carries a netlist is what `eval` prints of the netlist.
+use Rattle.std.proofs.Common.{ℕ, ◌≡◌, sym, ap, ap₂, ◌∙◌, subst, List, flat_map}
+use Rattle.ww_rule.specs.Grid.{Grid, plane_of}
+use Rattle.pattern_reading.specs.declared.ports.Ports.{Ports}
+use Rattle.pattern_reading.specs.Ports.{names_of}
+use Rattle.pattern_reading.specs.PortTable.{ReadsAsPorts}
+use Rattle.pattern_reading.proofs.RleLaws.{one_pattern}
+use Rattle.pattern_reading.proofs.PortLaws.{one_table}
+use Rattle.netlist_core.specs.declared.model.Design.{Design}
+use Rattle.netlist_core.specs.Names.{Name}
+use Rattle.netlist_meaning.specs.Places.{main_outputs}
+use Rattle.netlist_meaning.specs.Valuation.{Valuation, IsRun}
+use Rattle.netlist_text.specs.Laws.{TextsAreDecided}
+use Rattle.carries.specs.Carries.{Carries}
+use Rattle.drive.specs.declared.streams.Streams.{Streams}
+use Rattle.drive.specs.Streams.{HasStreams}
+use Rattle.drive.specs.Driving.{rows_of, shown_at}
+use Rattle.netlist_run.specs.Runs.{bits_in_run}
+use Rattle.shown_runs.specs.ShownRuns.{CarriersShowRuns, StreamsMatch}
+use Rattle.blifww_tool.specs.Lines.{bits_line}
+use Rattle.blifww_tool.specs.Simulation.{Simulation, IsSimulation, simulation_text}
+use Rattle.blifww_tool.specs.Evaluation.{Evaluation, IsEvaluation, evaluation_text}
+use Rattle.blifww_tool.specs.PrintsAlike.{CarriersPrintAlike, CompiledPrintAlike}
+
+-- the lines of a pattern with a table
+abbrev lines_shown : Streams → Ports → Grid → List ℕ
+lines_shown streams ports grid = flat_map (λ out. bits_line out.name (shown_at ports streams (plane_of grid.rows) out)) ports.outs
+
+same_lines : CarriersShowRuns → StreamsMatch → (text netlist : List ℕ) (cycles : ℕ) (words : List (List ℕ)) (s : Simulation) (e : Evaluation)
+    → IsSimulation cycles words text s → IsEvaluation cycles words netlist e → Carries text e.design → (run : ℕ → Valuation) → IsRun e.design (rows_of e.streams) run
+    → simulation_text s ≡ evaluation_text e run
+same_lines law match text netlist cycles words s e simulated evaluated c run is_run =
+    let grid : c.grid ≡ s.grid = one_pattern text c.grid s.grid c.reads simulated.pattern.0 in
+    let ports : c.ports ≡ s.ports =
+    one_table text c.grid.width c.grid.height c.ports s.ports c.table (subst (λ (g : Grid). ReadsAsPorts text g.width g.height s.ports) (sym grid) simulated.table) in
+    let of_table : HasStreams words (names_of c.ports.ins) s.streams.cycles s.streams.bits =
+    subst (λ (n : ℕ). HasStreams words (names_of c.ports.ins) n s.streams.bits) (sym simulated.many)
+    (subst (λ (p : Ports). HasStreams words (names_of p.ins) cycles s.streams.bits) (sym ports) simulated.streams) in
+    let of_design : HasStreams words e.in_names e.streams.cycles e.streams.bits = subst (λ (n : ℕ). HasStreams words e.in_names n e.streams.bits) (sym evaluated.many) evaluated.streams in
+    let same = match text e.design c words e.in_names s.streams e.streams evaluated.names (simulated.many ∙ sym evaluated.many) of_table of_design in
+    let shown = (law text e.design c s.streams same.1).shown run (subst (λ (streams : Streams). IsRun e.design (rows_of streams) run) (sym same.0) is_run) in
+    ap₂ (lines_shown s.streams) (sym ports) (sym grid) ∙ shown.lines bits_line
+    ∙ ap (λ (streams : Streams). flat_map (λ (name : Name). bits_line name (bits_in_run run streams.cycles name)) (main_outputs e.design)) same.0
+
+pub carriers_print_alike : CarriersShowRuns → StreamsMatch → TextsAreDecided → CarriersPrintAlike
+carriers_print_alike law match decided text netlist design is carried cycles words shown evaluated simulated evaluates =
+    let e = evaluates.evaluation in
+    let same : design ≡ e.design = (decided netlist).one_design design e.design is evaluates.is.netlist in
+    simulated.2
+    ∙ same_lines law match text netlist cycles words simulated.0 e simulated.1.is evaluates.is (subst (λ (d : Design). Carries text d) same carried) evaluates.run evaluates.is_run
+    ∙ sym evaluates.lines
+
+pub compiled_print_alike : CarriersShowRuns → StreamsMatch → TextsAreDecided → CompiledPrintAlike
+compiled_print_alike law match decided text netlist compiled cycles words shown evaluated simulated evaluates =
+    carriers_print_alike law match decided text netlist compiled.design compiled.netlist compiled.carries cycles words shown evaluated simulated evaluates

@@ -1,0 +1,25 @@
+use Rattle.std.proofs.Common.{◌≡◌, ap, sym, ◌∙◌, subst, ℕ, List, length, map, string_bytes}
+use Rattle.std.proofs.lemmas.List.{length-map}
+use Rattle.pattern_reading.specs.declared.ports.PortLine.{PortLine}
+use Rattle.pattern_reading.specs.Ports.{names_of}
+use Rattle.drive.specs.Streams.{HasStreams}
+use Rattle.blifww_tool.proofs.Simulated.{ins_in_box}
+use Rattle.blifww_tool.proofs.driven.driven_by.Goals as goal
+
+pub returns-clause-is : goal.returns-clause-is
+returns-clause-is c =
+    let words = map string_bytes c.args.words.now in
+    let ins = names_of c.in_ok-ports.ports.ins in
+    let names : c.deref.result.now ≡ ins = c.deref.ensures.value ∙ c.in_ok-names.ensures ∙ ap names_of c.as_slice.ensures in
+    let streams : HasStreams words ins c.args.cycles c.in_ok-streams.streams.bits =
+    subst (λ (ns : List (List ℕ)). HasStreams words ns c.args.cycles c.in_ok-streams.streams.bits) names c.in_ok-streams.ensures.streams in
+    record { pattern = c.in_ok-pattern.ensures.pattern; table = c.in_ok-ports.ensures.table; many = c.in_ok-streams.ensures.cycles; streams = streams }
+
+pub returns-clause-streams : goal.returns-clause-streams
+returns-clause-streams c = record {
+  many = c.in_ok-streams.ensures.many ∙ ap length (c.deref.ensures.value ∙ c.in_ok-names.ensures ∙ ap names_of c.as_slice.ensures) ∙ length-map c.in_ok-ports.ports.ins (λ (p : PortLine). p.name);
+  long = λ k d lt. c.in_ok-streams.ensures.long k d lt ∙ sym c.in_ok-streams.ensures.cycles;
+}
+
+pub returns-clause-in_box : goal.returns-clause-in_box
+returns-clause-in_box c = ins_in_box c.args.text.now c.in_ok-pattern.pattern.width c.in_ok-pattern.pattern.height c.in_ok-ports.ports c.in_ok-ports.ensures.table

@@ -1,0 +1,56 @@
+// A text's pattern, and the streams that drive it.
+ghost use Rattle.std.specs.Prelude.{◌≡◌, map, string_bytes, IfOk, IfErr};
+ghost use Rattle.ww_rule.specs.Grid.{AreInBox};
+ghost use Rattle.pattern_reading.specs.Ports.{cells_of, names_of};
+ghost use Rattle.drive.specs.Driving.{AreFor};
+ghost use Rattle.blifww_tool.specs.Simulation.{IsSimulation, HasStreamsCause};
+ghost use Rattle.blifww_tool.specs.Driven.{simulation_of};
+
+use crate::causes::TextError;
+use drive::Streams;
+use lists::Bytes;
+use pattern_reading::{PortLine, Ports};
+use std::alloc::{AllocError, Global};
+use ww_rule::Pattern;
+
+/// A pattern, its ports, and streams for its inputs.
+#[derive(Drop)]
+pub struct Driven {
+    pub pattern: Pattern,
+    pub ports: Ports,
+    pub streams: Streams,
+}
+
+/// The names of ports.
+pub fn names_of(alloc: Global, ports: &[PortLine]) -> Result<Vec<Bytes>, AllocError>
+    ensures { IfOk result (λ names. names.items ≡ names_of ports.now) }
+{
+    let mut names = Vec::new(alloc);
+    for port in ports {
+        names.push(Bytes::of(port.name.as_slice().to_vec(alloc)?))?;
+    }
+    Ok(names)
+}
+
+/// The text's pattern and ports, where the words are the streams of the inputs.
+pub fn driven_by(
+    alloc: Global,
+    cycles: usize,
+    words: &[String],
+    text: &[u8],
+) -> Result<Driven, TextError>
+    ensures is { IfOk result (λ d. IsSimulation cycles (map string_bytes words.now) text.now (simulation_of d)) }
+    ensures streams { IfOk result (λ d. AreFor d.ports d.streams) }
+    ensures in_box { IfOk result (λ d. AreInBox d.pattern.width d.pattern.height (cells_of d.ports.ins)) }
+    ensures refused { IfErr result (HasStreamsCause cycles (map string_bytes words.now) text.now) }
+{
+    let pattern = rle_read::read(alloc, text)?;
+    let ports = port_table::read(alloc, text, pattern.width, pattern.height)?;
+    let names = names_of(alloc, ports.ins.as_slice())?;
+    let streams = Streams::read(alloc, words, &names, cycles)?;
+    Ok(Driven {
+        pattern,
+        ports,
+        streams,
+    })
+}

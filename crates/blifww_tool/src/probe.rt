@@ -1,0 +1,56 @@
+// `probe`: the bits that a net of a pattern shows, as a line.
+ghost use Rattle.std.specs.Prelude.{◌≡◌, ◌<◌, ◌⊎◌, map, string_bytes, IfOk, IfErr};
+ghost use Rattle.command_words.specs.Shapes.{probe};
+ghost use Rattle.blifww_tool.specs.Answer.{output_text, IsWritable};
+ghost use Rattle.blifww_tool.specs.Commands.{Prints, HasTextCause};
+ghost use Rattle.blifww_tool.specs.Refusals.{probe_error};
+
+use crate::causes::{Cause, TextError};
+use crate::driven::driven_by;
+use crate::lines::output_line;
+use crate::output::Output;
+use lists::Bytes;
+use probe_view::ProbeError;
+use std::alloc::Global;
+
+// The answer where the net is not shown: where there is no such net, with a copy of its name.
+fn refusal(alloc: Global, error: ProbeError, name: &[u8]) -> TextError
+    ensures { (result ≡ TextError.NoMemory) ⊎ (result ≡ probe_error name.now error) }
+{
+    match error {
+        ProbeError::NoSuchNet => match name.to_vec(alloc) {
+            Ok(bytes) => TextError::Refused(Cause::NoSuchNet(Bytes::of(bytes))),
+            Err(_) => TextError::NoMemory,
+        },
+        ProbeError::TooFar { generations } => TextError::Refused(Cause::TooFar { generations }),
+        ProbeError::NoMemory => TextError::NoMemory,
+    }
+}
+
+/// The line of a net of the text's pattern, with the bits that its cell shows, where the words are the streams of the inputs.
+pub fn probe(
+    alloc: Global,
+    cycles: usize,
+    name: &[u8],
+    path: &[u8],
+    words: &[String],
+    text: &[u8],
+) -> Result<Output, TextError>
+    requires some_cycle { 0 < cycles }
+    ensures printed { IfOk result (λ output. Prints (probe cycles name.now path.now (map string_bytes words.now)) text.now (output_text output)) }
+    ensures writable { IfOk result IsWritable }
+    ensures refused { IfErr result (λ e. HasTextCause (probe cycles name.now path.now (map string_bytes words.now)) text.now e) }
+{
+    let driven = driven_by(alloc, cycles, words, text)?;
+    match probe_view::probe(
+        alloc,
+        driven.pattern,
+        &driven.ports,
+        &driven.streams,
+        name,
+        path,
+    ) {
+        Ok(bits) => Ok(Output::Lines(output_line(alloc, name, bits.as_slice())?)),
+        Err(error) => Err(refusal(alloc, error, name)),
+    }
+}

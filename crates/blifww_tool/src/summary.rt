@@ -1,0 +1,66 @@
+// `self`: what is told of a netlist that is made from a seed, as lines.
+ghost use Rattle.std.specs.Prelude.{◌≡◌, ◌++◌, List, ℕ, IfOk, IfErr, OnOk, flat_map};
+ghost use Rattle.command_words.specs.Shapes.{self_, HasNumbersInRange};
+ghost use Rattle.blifww_tool.specs.Answer.{output_text, IsWritable};
+ghost use Rattle.blifww_tool.specs.Commands.{HasTextCause};
+ghost use Rattle.blifww_tool.specs.Summary.{number_line, output_lines, summary_text, TellsSummary};
+
+use crate::causes::TextError;
+use crate::lines::push_line;
+use crate::output::Output;
+use itoa::Buffer;
+use lists::Bytes;
+use made_run::{OutputBits, Summary, summarize};
+use std::alloc::{AllocError, Global};
+
+// Puts a number's line at the end.
+fn push_number(lines: &mut Vec<u8>, name: &[u8], number: u64) -> Result<(), AllocError>
+    ensures { OnOk result (lines.new.items ≡ lines.old.items ++ number_line name.now number) }
+{
+    let mut digits = Buffer::new();
+    lines.extend_from_slice(name)?;
+    lines.push(b' ')?;
+    lines.extend_from_slice(digits.format(number).as_bytes())?;
+    lines.push(b'\n')?;
+    Ok(())
+}
+
+// Puts the two lines of each output at the end.
+fn push_outputs(lines: &mut Vec<u8>, outputs: &[OutputBits]) -> Result<(), AllocError>
+    ensures { OnOk result (lines.new.items ≡ lines.old.items ++ flat_map output_lines outputs.now) }
+{
+    for output in outputs {
+        lines.extend_from_slice(b"sim ")?;
+        push_line(lines, output.name.as_slice(), output.simulated.as_slice())?;
+        lines.extend_from_slice(b"eval ")?;
+        push_line(lines, output.name.as_slice(), output.evaluated.as_slice())?;
+    }
+    Ok(())
+}
+
+// The lines of a summary.
+fn summary_lines(alloc: Global, summary: &Summary) -> Result<Bytes, AllocError>
+    ensures { IfOk result (λ lines. lines ≡ summary_text summary.now) }
+{
+    let mut lines = Vec::new(alloc);
+    push_number(&mut lines, b"weight", summary.weight)?;
+    push_number(&mut lines, b"lanes", summary.lanes)?;
+    push_number(&mut lines, b"columns", summary.columns)?;
+    push_number(&mut lines, b"P", summary.p)?;
+    push_number(&mut lines, b"L", summary.l)?;
+    push_outputs(&mut lines, summary.outputs.as_slice())?;
+    Ok(Bytes::of(lines))
+}
+
+/// What is told of the netlist of a seed and a number of gates under so many cycles of bits that are drawn after it: its weight, the lanes
+/// and columns of its plan, the period and latency of its pattern, and of each output the bits that the pattern shows and those that the
+/// netlist gives. It reads nothing.
+pub fn summary(alloc: Global, seed: u32, size: u32, cycles: usize) -> Result<Output, TextError>
+    requires numbers { HasNumbersInRange (self_ seed size cycles) }
+    ensures printed { IfOk result (λ output. TellsSummary seed size cycles (output_text output)) }
+    ensures writable { IfOk result IsWritable }
+    ensures refused { IfErr result (λ e. (text : List ℕ) → HasTextCause (self_ seed size cycles) text e) }
+{
+    let summary = summarize(alloc, seed, size, cycles)?;
+    Ok(Output::Lines(summary_lines(alloc, &summary)?))
+}

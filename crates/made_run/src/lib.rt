@@ -1,0 +1,9 @@
+//! The run of a made netlist, as its pattern shows it and as the netlist gives it.
+#![tactic(auto)]
+
+mod error;
+pub mod laws;
+mod summarizing;
+
+pub use error::SummaryError;
+pub use summarizing::{OutputBits, Summary, summarize};

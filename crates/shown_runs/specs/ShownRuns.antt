@@ -1,0 +1,37 @@
+-- What a text that carries a design shows under streams of bits.
+use Rattle.std.specs.Prelude.{ℕ, ◌≡◌, Bool, List, map, flat_map, All}
+use Rattle.ww_rule.specs.Grid.{plane_of}
+use Rattle.pattern_reading.specs.Ports.{names_of}
+use Rattle.netlist_core.specs.declared.model.Design.{Design}
+use Rattle.netlist_core.specs.Names.{Name}
+use Rattle.netlist_meaning.specs.Nets.{IsInNames}
+use Rattle.netlist_meaning.specs.Places.{main_outputs}
+use Rattle.netlist_meaning.specs.Valuation.{Valuation, IsRun}
+use Rattle.carries.specs.Carries.{Carries}
+use Rattle.drive.specs.declared.streams.Streams.{Streams}
+use Rattle.drive.specs.Streams.{HasStreams}
+use Rattle.drive.specs.Driving.{AreFor, rows_of, shown_at, shown_bits}
+use Rattle.netlist_run.specs.Runs.{bits_in_run}
+
+-- Driven by the streams, each output of the pattern shows the bits of the main output of its name in the run; and so, output by output,
+-- the pattern shows what the netlist gives, and lines of names and bits, whatever their form, are the same.
+pub record ShowsTheRun {text : List ℕ} {design : Design} (c : Carries text design) (streams : Streams) (run : ℕ → Valuation) : Type 0 where
+  pub each : All (λ out. shown_at c.ports streams (plane_of c.grid.rows) out ≡ bits_in_run run streams.cycles out.name) c.ports.outs
+  pub all : shown_bits c.ports streams (plane_of c.grid.rows) ≡ map (bits_in_run run streams.cycles) (main_outputs design)
+  pub lines : (line : Name → List Bool → List ℕ)
+      → flat_map (λ out. line out.name (shown_at c.ports streams (plane_of c.grid.rows) out)) c.ports.outs ≡ flat_map (λ name. line name (bits_in_run run streams.cycles name)) (main_outputs design)
+
+-- under streams for the table's inputs the design has a run, and each of its runs is so shown
+pub record ShowsEachRun {text : List ℕ} {design : Design} (c : Carries text design) (streams : Streams) : Type 0 where
+  pub run : ℕ → Valuation
+  pub is_run : IsRun design (rows_of streams) run
+  pub shown : (other : ℕ → Valuation) → IsRun design (rows_of streams) other → ShowsTheRun c streams other
+
+abbrev pub CarriersShowRuns : Type 0
+CarriersShowRuns = (text : List ℕ) (design : Design) (c : Carries text design) (streams : Streams) → AreFor c.ports streams → ShowsEachRun c streams
+
+-- Words say the same streams for the inputs of the table and for the IN names of the design, one for each input.
+abbrev pub StreamsMatch : Type 0
+StreamsMatch =
+    (text : List ℕ) (design : Design) (c : Carries text design) (words names : List (List ℕ)) (streams others : Streams) → IsInNames design names → streams.cycles ≡ others.cycles
+    → HasStreams words (names_of c.ports.ins) streams.cycles streams.bits → HasStreams words names others.cycles others.bits → (streams ≡ others) × AreFor c.ports streams
