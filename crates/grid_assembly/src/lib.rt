@@ -5,7 +5,7 @@ mod cells;
 pub mod laws;
 mod rows;
 
-pub use rows::{cell, fill_row, size};
+pub use rows::{cell, fill_row, pattern_of, size};
 
 #[cfg(test)]
 mod tests;

@@ -3,6 +3,7 @@
 
 mod error;
 pub mod laws;
+mod streams;
 mod summarizing;
 
 pub use error::SummaryError;

@@ -1,11 +1,26 @@
 // What is told of a made netlist.
-ghost use Rattle.std.specs.Prelude.{◌<◌, ◌≤◌, ◌^◌, IfOk, IfErr};
-ghost use Rattle.made_run.specs.Summaries.{HasSummaryCause, Summarizes};
+ghost use Rattle.std.specs.Prelude.{◌≡◌, ◌<◌, ◌≤◌, ◌^◌, ◌×◌, length, IfOk, IfErr};
+ghost use Rattle.netlist_core.specs.declared.model.Design.{Design};
+ghost use Rattle.netlist_text.specs.NetlistText.{IsNetlist};
+ghost use Rattle.netlist_text.specs.Parts.{AreParts};
+ghost use Rattle.made_run.specs.Summaries.{HasSummaryCause, Summarizes, outputs_by_name};
 
 use crate::error::SummaryError;
+use crate::laws::written_plans_read;
+use crate::streams::draw_streams;
+use drive::simulate;
+use flat_designs::{flat_is_sound, flat_is_weighed};
+use grid_assembly::pattern_of;
 use lists::List;
+use made_laws::{made_are_netlists, made_have_sizes};
+use made_netlists::make;
 use netlist_core::Name;
-use std::alloc::Global;
+use netlist_plans::plan_netlist;
+use netlist_run::run;
+use netlist_text::laws::texts_are_decided;
+use netlist_text::{Netlist, NetlistError, netlist_of};
+use shown_runs::carriers_show_runs;
+use std::alloc::{AllocError, Global};
 
 /// An output's bits, cycle after cycle: those that the pattern shows at the output's cell, and those that the netlist gives.
 #[derive(Drop)]
@@ -27,6 +42,44 @@ pub struct Summary {
     pub outputs: List<OutputBits>,
 }
 
+// The netlist of a text that is one.
+fn netlist_in(alloc: Global, text: &[u8]) -> Result<Netlist, AllocError>
+    requires { (design : Design) × IsNetlist text.now design }
+    ensures netlist { IfOk result (λ n. IsNetlist text.now n.design) }
+    ensures parts { IfOk result (λ n. AreParts n.design n.flat n.order.nodes) }
+{
+    texts_are_decided();
+    match netlist_of(alloc, text) {
+        Ok(netlist) => Ok(netlist),
+        Err(NetlistError::NoMemory) => Err(AllocError),
+        Err(NetlistError::Fault(_)) => unreachable!(),
+        Err(NetlistError::TooLarge { .. }) => unreachable!(),
+        Err(NetlistError::Loop(_)) => unreachable!(),
+    }
+}
+
+// The outputs of these names, with their bits.
+fn outputs_by_name(
+    alloc: Global,
+    names: &[Name],
+    simulated: &[List<bool>],
+    evaluated: &[List<bool>],
+) -> Result<List<OutputBits>, AllocError>
+    requires simulated { length simulated.now ≡ length names.now }
+    requires evaluated { length evaluated.now ≡ length names.now }
+    ensures { IfOk result (λ outputs. outputs ≡ outputs_by_name names.now simulated.now evaluated.now) }
+{
+    let mut outputs = Vec::with_capacity(alloc, names.len())?;
+    for k in 0..names.len() {
+        outputs.push(OutputBits {
+            name: List::of(names[k].as_slice().to_vec(alloc)?),
+            simulated: List::of(simulated[k].as_slice().to_vec(alloc)?),
+            evaluated: List::of(evaluated[k].as_slice().to_vec(alloc)?),
+        })?;
+    }
+    Ok(List::of(outputs))
+}
+
 /// The netlist of a seed and a number of gates, made, compiled, simulated and evaluated under so many cycles of bits that are drawn on
 /// after it. `TooFar` comes once the netlist is compiled, where the pattern would show the last bits after generation 4,294,967,296.
 pub fn summarize(
@@ -42,5 +95,33 @@ pub fn summarize(
     ensures summary { IfOk result (Summarizes seed size cycles) }
     ensures refused { IfErr result (HasSummaryCause seed size cycles) }
 {
-    Err(SummaryError::NoMemory)
+    made_are_netlists();
+    made_have_sizes();
+    written_plans_read();
+    carriers_show_runs();
+    flat_is_sound();
+    flat_is_weighed();
+    let made = make(alloc, seed, size)?;
+    let netlist = netlist_in(alloc, made.text.as_slice())?;
+    let planned = plan_netlist(alloc, &netlist.flat, &netlist.order)?;
+    let streams = draw_streams(alloc, made.state, cycles)?;
+    let pattern = pattern_of(alloc, &planned.plan)?;
+    let simulated = simulate(alloc, pattern, &planned.ports, &streams)?;
+    let weight = netlist.flat.weight;
+    let names = netlist.out_names(alloc)?;
+    let evaluated = run(alloc, netlist, &streams)?;
+    let outputs = outputs_by_name(
+        alloc,
+        names.as_slice(),
+        simulated.as_slice(),
+        evaluated.as_slice(),
+    )?;
+    Ok(Summary {
+        weight,
+        lanes: u64::from(planned.plan.lanes),
+        columns: planned.plan.columns.len() as u64,
+        p: planned.ports.p,
+        l: planned.ports.l,
+        outputs,
+    })
 }

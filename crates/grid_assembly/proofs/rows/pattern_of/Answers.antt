@@ -5,7 +5,7 @@ use Rattle.std.proofs.lemmas.List.FromFn.{map-range_with_len_more}
 use Rattle.ww_rule.specs.Grid.{IsGrid}
 use Rattle.grid_assembly.specs.PlanDrawing.{start_row, start_grid}
 use Rattle.grid_assembly.proofs.Pattern.{row_is, is_grid}
-use Rattle.or_gate.proofs.drawing.pattern_of.Goals as goal
+use Rattle.grid_assembly.proofs.rows.pattern_of.Goals as goal
 use Rattle.lane_core.specs.Plans.{size_of}
 
 pub loop-y-preserved : goal.loop-y-preserved

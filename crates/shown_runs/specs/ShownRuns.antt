@@ -1,0 +1,25 @@
+-- What a text that carries a design shows under streams of bits.
+use Rattle.std.specs.Prelude.{ℕ, ◌≡◌, List, map, All}
+use Rattle.ww_rule.specs.Grid.{plane_of}
+use Rattle.netlist_core.specs.declared.model.Design.{Design}
+use Rattle.netlist_meaning.specs.Places.{main_outputs}
+use Rattle.netlist_meaning.specs.Valuation.{Valuation, IsRun}
+use Rattle.carries.specs.Carries.{Carries}
+use Rattle.drive.specs.declared.streams.Streams.{Streams}
+use Rattle.drive.specs.Driving.{AreFor, rows_of, shown_at, shown_bits}
+use Rattle.netlist_run.specs.Runs.{bits_in_run}
+
+-- Driven by the streams, each output of the pattern shows the bits of the main output of its name in the run; and so, output by output,
+-- the pattern shows what the netlist gives.
+pub record ShowsTheRun {text : List ℕ} {design : Design} (c : Carries text design) (streams : Streams) (run : ℕ → Valuation) : Type 0 where
+  pub each : All (λ out. shown_at c.ports streams (plane_of c.grid.rows) out ≡ bits_in_run run streams.cycles out.name) c.ports.outs
+  pub all : shown_bits c.ports streams (plane_of c.grid.rows) ≡ map (bits_in_run run streams.cycles) (main_outputs design)
+
+-- under streams for the table's inputs the design has a run, and each of its runs is so shown
+pub record ShowsEachRun {text : List ℕ} {design : Design} (c : Carries text design) (streams : Streams) : Type 0 where
+  pub run : ℕ → Valuation
+  pub is_run : IsRun design (rows_of streams) run
+  pub shown : (other : ℕ → Valuation) → IsRun design (rows_of streams) other → ShowsTheRun c streams other
+
+abbrev pub CarriersShowRuns : Type 0
+CarriersShowRuns = (text : List ℕ) (design : Design) (c : Carries text design) (streams : Streams) → AreFor c.ports streams → ShowsEachRun c streams
