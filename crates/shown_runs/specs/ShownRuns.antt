@@ -1,11 +1,14 @@
 -- What a text that carries a design shows under streams of bits.
 use Rattle.std.specs.Prelude.{ℕ, ◌≡◌, List, map, All}
 use Rattle.ww_rule.specs.Grid.{plane_of}
+use Rattle.pattern_reading.specs.Ports.{names_of}
 use Rattle.netlist_core.specs.declared.model.Design.{Design}
+use Rattle.netlist_meaning.specs.Nets.{IsInNames}
 use Rattle.netlist_meaning.specs.Places.{main_outputs}
 use Rattle.netlist_meaning.specs.Valuation.{Valuation, IsRun}
 use Rattle.carries.specs.Carries.{Carries}
 use Rattle.drive.specs.declared.streams.Streams.{Streams}
+use Rattle.drive.specs.Streams.{HasStreams}
 use Rattle.drive.specs.Driving.{AreFor, rows_of, shown_at, shown_bits}
 use Rattle.netlist_run.specs.Runs.{bits_in_run}
 
@@ -23,3 +26,9 @@ pub record ShowsEachRun {text : List ℕ} {design : Design} (c : Carries text de
 
 abbrev pub CarriersShowRuns : Type 0
 CarriersShowRuns = (text : List ℕ) (design : Design) (c : Carries text design) (streams : Streams) → AreFor c.ports streams → ShowsEachRun c streams
+
+-- Words say the same streams for the inputs of the table and for the IN names of the design, one for each input.
+abbrev pub StreamsMatch : Type 0
+StreamsMatch =
+    (text : List ℕ) (design : Design) (c : Carries text design) (words names : List (List ℕ)) (streams others : Streams) → IsInNames design names → streams.cycles ≡ others.cycles
+    → HasStreams words (names_of c.ports.ins) streams.cycles streams.bits → HasStreams words names others.cycles others.bits → (streams ≡ others) × AreFor c.ports streams

@@ -1,11 +1,16 @@
-//! What a pattern shows under streams of bits is what its netlist gives under them. The function here does nothing; its clause is the
-//! law.
+//! What a pattern shows under streams of bits is what its netlist gives under them. The functions here do nothing; their clauses are
+//! the laws.
 #![tactic(auto)]
 
-ghost use Rattle.shown_runs.specs.ShownRuns.{CarriersShowRuns};
+ghost use Rattle.shown_runs.specs.ShownRuns.{CarriersShowRuns, StreamsMatch};
 
 /// Of a text that carries a design: under streams for its inputs there is a run of the design, and the bits that each output of the
 /// pattern shows are those of the main output of its name in every such run.
 pub fn carriers_show_runs()
     ensures { CarriersShowRuns }
+{}
+
+/// Of a text that carries a design: what words say for the inputs of its table they say for the inputs of the design.
+pub fn streams_match()
+    ensures { StreamsMatch }
 {}
