@@ -22,8 +22,7 @@ one_drawn start cycle state next number at step is =
     let e : cycle + 1 ≡ cycle + 1 = refl in
     let now : next ≡ state_after start (cycle + 1) = step ∙ ap next_seed at ∙ state_after_both start cycle 1 (cycle + 1) e in
     let zeroth : 0 + cycle ≡ cycle = omega arith in
-    let bit : number ≡ draw_after start (0 + cycle) 2 = is ∙ ap (number_below 2) now ∙ ap (λ n. draw_after start n 2) (sym zeroth) in
-    (
+    let bit : number ≡ draw_after start (0 + cycle) 2 = is ∙ ap (number_below 2) now ∙ ap (λ n. draw_after start n 2) (sym zeroth) in (
       ap (λ n. stream_after start 0 cycle ++ (n == 1) ∷ []) bit ∙ sym (map-range_with_len_more (λ t. draw_after start (0 + t) 2 == 1) 0 cycle cycle zeroth),
       now,
     )
@@ -32,8 +31,7 @@ one_drawn start cycle state next number at step is =
 pub one_stream : (start input cycles state next : ℕ) (stream : List Bool) → state ≡ state_after start (input * cycles) → next ≡ state_after state cycles → stream ≡ stream_after state 0 cycles
     → (stream ≡ stream_after start (input * cycles) cycles) × (next ≡ state_after start ((input + 1) * cycles))
 one_stream start input cycles state next stream at step is =
-    let e : input * cycles + cycles ≡ (input + 1) * cycles = omega arith in
-    (
+    let e : input * cycles + cycles ≡ (input + 1) * cycles = omega arith in (
       is ∙ ap (λ s. stream_after s 0 cycles) at ∙ stream_from start (input * cycles) cycles,
       step ∙ ap (λ s. state_after s cycles) at ∙ state_after_both start (input * cycles) cycles ((input + 1) * cycles) e,
     )

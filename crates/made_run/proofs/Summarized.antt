@@ -10,6 +10,7 @@ use Rattle.lane_core.specs.Plans.{IsAdmissible}
 use Rattle.grid_assembly.specs.PlanDrawing.{start_grid}
 use Rattle.pattern_reading.specs.declared.ports.PortLine.{PortLine}
 use Rattle.pattern_reading.specs.declared.ports.Ports.{Ports}
+use Rattle.pattern_reading.specs.Ports.{names_of}
 use Rattle.pattern_reading.specs.PortTable.{ReadsAsPorts}
 use Rattle.pattern_reading.proofs.RleLaws.{one_pattern}
 use Rattle.pattern_reading.proofs.PortLaws.{one_table}
@@ -24,9 +25,11 @@ use Rattle.netlist_meaning.specs.Places.{main_outputs}
 use Rattle.netlist_meaning.specs.Valuation.{Valuation, IsRun}
 use Rattle.netlist_meaning.specs.Weight.{weight}
 use Rattle.flat_designs.specs.Laws.{FlatIsSound, FlatIsWeighed}
+use Rattle.netlist_text.specs.declared.netlist.Netlist.{Netlist}
 use Rattle.netlist_text.specs.NetlistText.{IsNetlist}
 use Rattle.netlist_text.specs.Parts.{AreParts}
 use Rattle.netlist_text.specs.Laws.{TextsAreDecided}
+use Rattle.netlist_plans.specs.declared.planning.Planned.{Planned}
 use Rattle.netlist_plans.specs.Planned.{CarriesDesigns, IsSmall}
 use Rattle.plan_ports.specs.Tables.{IsTableOf}
 use Rattle.carries.specs.Carries.{Carries}
@@ -36,11 +39,12 @@ use Rattle.drive.specs.declared.error.SimulateError.TheVariants as simulating
 use Rattle.drive.specs.Driving.{AreFor, rows_of, shown_bits, last_generation, greatest_generation, HasSimulateCause}
 use Rattle.netlist_run.specs.Runs.{bits_in_run, ShowsRun}
 use Rattle.shown_runs.specs.ShownRuns.{CarriersShowRuns}
-use Rattle.made_netlists.specs.Text.{made_text}
+use Rattle.made_netlists.specs.Text.{made_text, made_state}
 use Rattle.made_netlists.specs.Design.{made_design}
 use Rattle.made_laws.specs.Laws.{MadeAreNetlists, MadeHaveSizes}
 use Rattle.made_run.specs.Streams.{streams_after, drawn_streams}
 use Rattle.made_run.specs.Errors.{summary_error}
+use Rattle.made_run.specs.Plans.{IsPlanned}
 use Rattle.made_run.specs.Laws.{ReadsAsPlan, WrittenPlansRead}
 use Rattle.made_run.specs.Summaries.{IsMadePlan, Summarizes, HasSummaryCause, output_at, outputs_by_name, output_in_run}
 use Rattle.made_run.specs.declared.summarizing.Summary.{Summary}
@@ -61,24 +65,24 @@ module _ (design : Design) (flat : Flat) (order : List ℕ) (p : AreParts design
   pub small : flat.weight < 2 ^ 16
   small = let few : weight design ≤ 1024 = p.light in let same : flat.weight ≡ weight design = p.is_flat.weight in omega (arith, few, same)
 
--- a made netlist that is planned
-pub record IsPlanned (seed size : ℕ) (design : Design) (plan : Plan) (ports : Ports) : Type 0 where
-  pub design_is : design ≡ made_design seed size
-  pub is_plan : IsMadePlan seed size plan ports
-  pub reads : ReadsAsPlan plan ports
-  pub ins : length ports.ins ≡ 4
-
-pub is_planned : MadeAreNetlists → MadeHaveSizes → TextsAreDecided → WrittenPlansRead → (seed size : ℕ) → 1 ≤ size → size ≤ 128
-    → (design : Design) (flat : Flat) (order : List ℕ) (plan : Plan) (ports : Ports) → IsNetlist (made_text seed size) design → AreParts design flat order
-    → IsAdmissible plan → IsTableOf flat plan ports → CarriesDesigns flat plan ports → IsSmall flat plan → IsPlanned seed size design plan ports
-is_planned netlists sizes decided read seed size some few design flat order plan ports is p admissible table carries slight =
-    let made = netlists seed size some few in
+pub is_planned : MadeAreNetlists → MadeHaveSizes → TextsAreDecided → WrittenPlansRead → (seed size : ℕ) → 0 < size → size ≤ 128
+    → (netlist : Netlist) (planned : Planned) → IsNetlist (made_text seed size) netlist.design → AreParts netlist.design netlist.flat netlist.order.nodes
+    → IsAdmissible planned.plan → IsTableOf netlist.flat planned.plan planned.ports → CarriesDesigns netlist.flat planned.plan planned.ports → IsSmall netlist.flat planned.plan
+    → IsPlanned seed size netlist planned
+is_planned netlists sizes decided read seed size some few netlist planned is p admissible table carries slight =
+    let design = netlist.design in
+    let flat = netlist.flat in
+    let plan = planned.plan in
+    let ports = planned.ports in
+    let made = netlists seed size (omega (arith, some)) few in
     let same : design ≡ made_design seed size = (decided (made_text seed size)).one_design design (made_design seed size) is made in
     let of_made : IsFlatOf (made_design seed size) flat = subst (λ (d : Design). IsFlatOf d flat) same p.is_flat in
     let has = sizes seed size flat of_made in
     let weighs : flat.weight ≡ weight (made_design seed size) = p.is_flat.weight ∙ ap weight same in
     record {
-      design_is = same;
+      design = same;
+      parts = p;
+      sizes = has;
       is_plan = record {
         admissible = admissible;
         carries = carries (made_text seed size) (made_design seed size) made.is.design_of made.clocks of_made;
@@ -88,40 +92,47 @@ is_planned netlists sizes decided read seed size some few design flat order plan
         columns = subst (λ (w : ℕ). length plan.columns ≤ 256 * ((w + 1) * (w + 1))) weighs slight.columns;
         loops = omega (arith, slight.loops, has.latches);
       };
-      reads = read (made_text seed size) design flat plan ports is.is.design_of (light design flat order p) p.is_flat admissible table;
+      reads = read (made_text seed size) design flat plan ports is.is.design_of (light design flat _ p) p.is_flat admissible table;
       ins = sym (length-map ports.ins (λ (line : PortLine). line.name)) ∙ ap (λ (names : List Name). length names) table.in_names ∙ length-map flat.ins (λ (port : FlatPort). name_of_net flat port.net) ∙ has.ins;
     }
 
 -- the drawn streams are for the inputs
-pub streams_fit : (state cycles : ℕ) (streams : Streams) (n : ℕ) → streams ≡ streams_after state cycles → n ≡ 4
-    → (length streams.bits ≡ n) × All (λ bits. length bits ≡ streams.cycles) streams.bits
-streams_fit state cycles streams n are many =
+many_and_long : (state cycles n : ℕ) (streams : Streams) → streams ≡ streams_after state cycles → n ≡ 4 → (length streams.bits ≡ n) × All (λ bits. length bits ≡ streams.cycles) streams.bits
+many_and_long state cycles n streams are many =
     subst (λ (s : Streams). (length s.bits ≡ n) × All (λ bits. length bits ≡ s.cycles) s.bits) (sym are) (streams_many state cycles ∙ sym many, streams_long state cycles)
 
+pub streams_fit : (seed size cycles : ℕ) (netlist : Netlist) (planned : Planned) (streams : Streams) → IsPlanned seed size netlist planned → streams ≡ drawn_streams seed size cycles → AreFor planned.ports streams
+streams_fit seed size cycles netlist planned streams is are =
+    let both = many_and_long (made_state seed size) cycles (length planned.ports.ins) streams are is.ins in
+    record { many = both.0; long = both.1 }
+
+pub streams_feed : (seed size cycles : ℕ) (netlist : Netlist) (planned : Planned) (streams : Streams) → IsPlanned seed size netlist planned → streams ≡ drawn_streams seed size cycles
+    → (length streams.bits ≡ length netlist.flat.ins) × All (λ bits. length bits ≡ streams.cycles) streams.bits
+streams_feed seed size cycles netlist planned streams is are = many_and_long (made_state seed size) cycles (length netlist.flat.ins) streams are is.sizes.ins
+
 -- a simulation that is not run
-pub not_run : (seed size cycles : ℕ) (design : Design) (plan : Plan) (ports : Ports) (streams : Streams) → IsPlanned seed size design plan ports → streams ≡ drawn_streams seed size cycles
-    → (e : SimulateError) → HasSimulateCause (last_generation ports streams) e → HasSummaryCause seed size cycles (summary_error e)
-not_run seed size cycles design plan ports streams is are simulating.NoMemory cause = tt
-not_run seed size cycles design plan ports streams is are (simulating.TooFar generations) cause =
-    (plan, ports, is.is_plan, cause.0 ∙ ap (last_generation ports) are, subst (λ (n : ℕ). greatest_generation < n) (sym cause.0) cause.1)
+pub not_run : (seed size cycles : ℕ) (netlist : Netlist) (planned : Planned) (streams : Streams) → IsPlanned seed size netlist planned → streams ≡ drawn_streams seed size cycles
+    → (e : SimulateError) → HasSimulateCause (last_generation planned.ports streams) e → HasSummaryCause seed size cycles (summary_error e)
+not_run seed size cycles netlist planned streams is are simulating.NoMemory cause = tt
+not_run seed size cycles netlist planned streams is are (simulating.TooFar generations) cause =
+    (planned.plan, planned.ports, is.is_plan, cause.0 ∙ ap (last_generation planned.ports) are, subst (λ (n : ℕ). greatest_generation < n) (sym cause.0) cause.1)
 
 -- the one reading of the text is that of the plan
-same_reading : (seed size : ℕ) (design : Design) (plan : Plan) (ports : Ports) (is : IsPlanned seed size design plan ports)
-    → (is.is_plan.carries.grid ≡ start_grid plan) × (is.is_plan.carries.ports ≡ ports)
-same_reading seed size design plan ports is =
-    let c = is.is_plan.carries in
+same_reading : (seed size : ℕ) (plan : Plan) (ports : Ports) (is : IsMadePlan seed size plan ports) → ReadsAsPlan plan ports → (is.carries.grid ≡ start_grid plan) × (is.carries.ports ≡ ports)
+same_reading seed size plan ports is reads =
+    let c = is.carries in
     let text = pattern_text (start_grid plan) ports in
-    let same = one_pattern text c.grid (start_grid plan) c.reads is.reads.pattern in
-    let table = subst (λ (grid : Grid). ReadsAsPorts text grid.width grid.height ports) (sym same) is.reads.table in
+    let same = one_pattern text c.grid (start_grid plan) c.reads reads.pattern in
+    let table = subst (λ (grid : Grid). ReadsAsPorts text grid.width grid.height ports) (sym same) reads.table in
     (same, one_table text c.grid.width c.grid.height c.ports ports c.table table)
 
 -- what the pattern shows in each run
-shown_is : CarriersShowRuns → (seed size : ℕ) (design : Design) (plan : Plan) (ports : Ports) (streams : Streams) (is : IsPlanned seed size design plan ports) → AreFor ports streams
+shown_is : CarriersShowRuns → (seed size : ℕ) (plan : Plan) (ports : Ports) (streams : Streams) → IsMadePlan seed size plan ports → ReadsAsPlan plan ports → AreFor ports streams
     → (run : ℕ → Valuation) → IsRun (made_design seed size) (rows_of streams) run
     → shown_bits ports streams (plane_of (start_grid plan).rows) ≡ map (bits_in_run run streams.cycles) (main_outputs (made_design seed size))
-shown_is law seed size design plan ports streams is are run is_run =
-    let c = is.is_plan.carries in
-    let same = same_reading seed size design plan ports is in
+shown_is law seed size plan ports streams is reads are run is_run =
+    let c = is.carries in
+    let same = same_reading seed size plan ports is reads in
     let each = law (pattern_text (start_grid plan) ports) (made_design seed size) c streams (subst (λ (p : Ports). AreFor p streams) (sym same.1) are) in
     ap₂ (λ (p : Ports) (grid : Grid). shown_bits p streams (plane_of grid.rows)) (sym same.1) (sym same.0) ∙ (each.shown run is_run).all
 
@@ -139,24 +150,24 @@ all_outputs run cycles names =
     output : ℕ → OutputBits
     output = output_at names (map (bits_in_run run cycles) names) (map (bits_in_run run cycles) names)
 
-pub summarizes : CarriersShowRuns → (seed size cycles : ℕ) (design : Design) (plan : Plan) (ports : Ports) (streams : Streams) (names : List Name) (simulated evaluated : List (List Bool)) (summary : Summary)
-    → IsPlanned seed size design plan ports → streams ≡ drawn_streams seed size cycles → AreFor ports streams
-    → names ≡ main_outputs design → simulated ≡ shown_bits ports streams (plane_of (start_grid plan).rows) → ShowsRun design streams evaluated
-    → summary.weight ≡ weight design → summary.lanes ≡ plan.lanes → summary.columns ≡ length plan.columns → summary.p ≡ ports.p → summary.l ≡ ports.l
+pub summarizes : CarriersShowRuns → (seed size cycles : ℕ) (netlist : Netlist) (planned : Planned) (streams : Streams) (names : List Name) (simulated evaluated : List (List Bool)) (summary : Summary)
+    → IsPlanned seed size netlist planned → streams ≡ drawn_streams seed size cycles
+    → names ≡ main_outputs netlist.design → simulated ≡ shown_bits planned.ports streams (plane_of (start_grid planned.plan).rows) → ShowsRun netlist.design streams evaluated
+    → summary.weight ≡ netlist.flat.weight → summary.lanes ≡ planned.plan.lanes → summary.columns ≡ length planned.plan.columns → summary.p ≡ planned.ports.p → summary.l ≡ planned.ports.l
     → summary.outputs ≡ outputs_by_name names simulated evaluated → Summarizes seed size cycles summary
-summarizes law seed size cycles design plan ports streams names simulated evaluated summary is are fit named shown ran weighs lanes columns p l outputs =
+summarizes law seed size cycles netlist planned streams names simulated evaluated summary is are named shown ran weighs lanes columns p l outputs =
     let made = made_design seed size in
     let outs = main_outputs made in
-    let runs : ShowsRun made streams evaluated = subst (λ (d : Design). ShowsRun d streams evaluated) is.design_is ran in
+    let runs : ShowsRun made streams evaluated = subst (λ (d : Design). ShowsRun d streams evaluated) is.design ran in
     let run = runs.run in
-    let bits = map (bits_in_run run streams.cycles) outs in
-    let same_names : names ≡ outs = named ∙ ap main_outputs is.design_is in
-    let same_shown : simulated ≡ bits = shown ∙ shown_is law seed size design plan ports streams is fit run runs.is_run in
+    let fit = streams_fit seed size cycles netlist planned streams is are in
+    let same_names : names ≡ outs = named ∙ ap main_outputs is.design in
+    let same_shown : simulated ≡ map (bits_in_run run streams.cycles) outs = shown ∙ shown_is law seed size planned.plan planned.ports streams is.is_plan is.reads fit run runs.is_run in
     let many : streams.cycles ≡ cycles = ap (λ (s : Streams). s.cycles) are in
     record {
-      weight = weighs ∙ ap weight is.design_is;
-      plan = plan;
-      ports = ports;
+      weight = weighs ∙ is.parts.is_flat.weight ∙ ap weight is.design;
+      plan = planned.plan;
+      ports = planned.ports;
       is_plan = is.is_plan;
       lanes = lanes;
       columns = columns;
@@ -170,3 +181,16 @@ summarizes law seed size cycles design plan ports streams names simulated evalua
           ∙ all_outputs run streams.cycles outs
           ∙ ap (λ (n : ℕ). map (output_in_run run n) outs) many;
     }
+
+-- there are as many rows of bits as outputs
+pub shown_many : (seed size : ℕ) (netlist : Netlist) (planned : Planned) (streams : Streams) (names : List Name) (rows : List (List Bool)) → IsPlanned seed size netlist planned
+    → names ≡ main_outputs netlist.design → rows ≡ shown_bits planned.ports streams (plane_of (start_grid planned.plan).rows) → length rows ≡ length names
+shown_many seed size netlist planned streams names rows is named shown =
+    let same = same_reading seed size planned.plan planned.ports is.is_plan is.reads in
+    let outs : names_of planned.ports.outs ≡ main_outputs (made_design seed size) = ap (λ (p : Ports). names_of p.outs) (sym same.1) ∙ is.is_plan.carries.names.outs in
+    ap (λ (bits : List (List Bool)). length bits) shown ∙ length-map planned.ports.outs _ ∙ sym (length-map planned.ports.outs (λ (line : PortLine). line.name))
+    ∙ ap (λ (n : List Name). length n) (outs ∙ ap main_outputs (sym is.design) ∙ sym named)
+
+pub evaluated_many : (design : Design) (streams : Streams) (names : List Name) (rows : List (List Bool)) → names ≡ main_outputs design → ShowsRun design streams rows → length rows ≡ length names
+evaluated_many design streams names rows named ran =
+    ap (λ (bits : List (List Bool)). length bits) ran.bits ∙ length-map (main_outputs design) (bits_in_run ran.run streams.cycles) ∙ ap (λ (n : List Name). length n) (sym named)

@@ -3,6 +3,7 @@
 
 mod error;
 pub mod laws;
+mod plans;
 mod streams;
 mod summarizing;
 

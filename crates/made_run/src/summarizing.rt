@@ -1,24 +1,15 @@
 // What is told of a made netlist.
-ghost use Rattle.std.specs.Prelude.{◌≡◌, ◌<◌, ◌≤◌, ◌^◌, ◌×◌, length, IfOk, IfErr};
-ghost use Rattle.netlist_core.specs.declared.model.Design.{Design};
-ghost use Rattle.netlist_text.specs.NetlistText.{IsNetlist};
-ghost use Rattle.netlist_text.specs.Parts.{AreParts};
+ghost use Rattle.std.specs.Prelude.{◌≡◌, ◌<◌, ◌≤◌, ◌^◌, length, IfOk, IfErr};
 ghost use Rattle.made_run.specs.Summaries.{HasSummaryCause, Summarizes, outputs_by_name};
 
 use crate::error::SummaryError;
-use crate::laws::written_plans_read;
+use crate::plans::{MadePlan, plan_made};
 use crate::streams::draw_streams;
 use drive::simulate;
-use flat_designs::{flat_is_sound, flat_is_weighed};
 use grid_assembly::pattern_of;
 use lists::List;
-use made_laws::{made_are_netlists, made_have_sizes};
-use made_netlists::make;
 use netlist_core::Name;
-use netlist_plans::plan_netlist;
 use netlist_run::run;
-use netlist_text::laws::texts_are_decided;
-use netlist_text::{Netlist, NetlistError, netlist_of};
 use shown_runs::carriers_show_runs;
 use std::alloc::{AllocError, Global};
 
@@ -40,22 +31,6 @@ pub struct Summary {
     pub p: u64,
     pub l: u64,
     pub outputs: List<OutputBits>,
-}
-
-// The netlist of a text that is one.
-fn netlist_in(alloc: Global, text: &[u8]) -> Result<Netlist, AllocError>
-    requires { (design : Design) × IsNetlist text.now design }
-    ensures netlist { IfOk result (λ n. IsNetlist text.now n.design) }
-    ensures parts { IfOk result (λ n. AreParts n.design n.flat n.order.nodes) }
-{
-    texts_are_decided();
-    match netlist_of(alloc, text) {
-        Ok(netlist) => Ok(netlist),
-        Err(NetlistError::NoMemory) => Err(AllocError),
-        Err(NetlistError::Fault(_)) => unreachable!(),
-        Err(NetlistError::TooLarge { .. }) => unreachable!(),
-        Err(NetlistError::Loop(_)) => unreachable!(),
-    }
 }
 
 // The outputs of these names, with their bits.
@@ -95,16 +70,13 @@ pub fn summarize(
     ensures summary { IfOk result (Summarizes seed size cycles) }
     ensures refused { IfErr result (HasSummaryCause seed size cycles) }
 {
-    made_are_netlists();
-    made_have_sizes();
-    written_plans_read();
     carriers_show_runs();
-    flat_is_sound();
-    flat_is_weighed();
-    let made = make(alloc, seed, size)?;
-    let netlist = netlist_in(alloc, made.text.as_slice())?;
-    let planned = plan_netlist(alloc, &netlist.flat, &netlist.order)?;
-    let streams = draw_streams(alloc, made.state, cycles)?;
+    let MadePlan {
+        netlist,
+        planned,
+        state,
+    } = plan_made(alloc, seed, size)?;
+    let streams = draw_streams(alloc, state, cycles)?;
     let pattern = pattern_of(alloc, &planned.plan)?;
     let simulated = simulate(alloc, pattern, &planned.ports, &streams)?;
     let weight = netlist.flat.weight;

@@ -1,5 +1,5 @@
 -- The bits that a pattern shows are those of a run of its design.
-use Rattle.std.proofs.Common.{ℕ, ◌≡◌, ◌+◌, ◌*◌, ◌<◌, zero, suc, refl, sym, ap, ap₂, ◌∙◌, subst, Bool, true, false, true≢false, List, [], ◌∷◌, length, map, get_or, arith}
+use Rattle.std.proofs.Common.{ℕ, ◌≡◌, ◌+◌, ◌*◌, ◌<◌, zero, suc, refl, sym, ap, ap₂, ◌∙◌, subst, Bool, true, false, true≢false, List, [], ◌∷◌, ◌++◌, length, map, flat_map, get_or, arith}
 use Rattle.std.specs.Prelude.{◌↔◌, All, pos}
 use Rattle.std.specs.List.{range_with_len}
 use Rattle.std.proofs.lemmas.List.{ext_get_or, length-map, get_or-map}
@@ -45,13 +45,18 @@ same_in : (f : PortLine → List Bool) (g : Name → List Bool) (outs : List Por
 same_in f g [] h = refl
 same_in f g (out ∷ outs) h = ap₂ (λ (bits : List Bool) (rest : List (List Bool)). bits ∷ rest) (h 0 out (omega arith)) (same_in f g outs (λ k d lt. h (suc k) d (omega (arith, lt))))
 
+same_lines : (line : Name → List Bool → List ℕ) (f : PortLine → List Bool) (g : Name → List Bool) (outs : List PortLine) → All (λ out. f out ≡ g out.name) outs
+    → flat_map (λ out. line out.name (f out)) outs ≡ flat_map (λ name. line name (g name)) (names_of outs)
+same_lines line f g [] h = refl
+same_lines line f g (out ∷ outs) h = ap₂ (λ (bits : List Bool) (rest : List ℕ). line out.name bits ++ rest) (h 0 out (omega arith)) (same_lines line f g outs (λ k d lt. h (suc k) d (omega (arith, lt))))
+
 -- streams for a table's inputs are rows of input bits
 pub input_rows : (design : Design) (ports : Ports) (streams : Streams) → NamesPorts ports design → AreFor ports streams → AreInputRows design (rows_of streams)
 input_rows design ports streams named are = (
   names_of ports.ins,
   named.ins,
   All-map (λ (row : List Bool). length row ≡ length (names_of ports.ins)) (stream_row streams) (range_with_len 0 streams.cycles)
-  (λ k d lt. length-map streams.bits _ ∙ are.many ∙ sym (length-map ports.ins (λ (line : PortLine). line.name))),
+      (λ k d lt. length-map streams.bits _ ∙ are.many ∙ sym (length-map ports.ins (λ (line : PortLine). line.name))),
 )
 
 module _ (text : List ℕ) (design : Design) (c : Carries text design) (streams : Streams) (are : AreFor c.ports streams) (run : ℕ → Valuation) (is : IsRun design (rows_of streams) run) where
@@ -75,10 +80,16 @@ module _ (text : List ℕ) (design : Design) (c : Carries text design) (streams 
   each k d lt = same_on_range _ _ streams.cycles (shown_in k d lt)
 
   pub shows_the_run : ShowsTheRun c streams run
-  shows_the_run = record { each = each; all = all }
+  shows_the_run = record { each = each; all = all; lines = lines }
     where
       all : shown_bits c.ports streams (plane_of c.grid.rows) ≡ map (bits_in_run run streams.cycles) (main_outputs design)
       all = same_in (shown_at c.ports streams (plane_of c.grid.rows)) (bits_in_run run streams.cycles) c.ports.outs each ∙ ap (map (bits_in_run run streams.cycles)) c.names.outs
+
+      lines : (line : Name → List Bool → List ℕ)
+          → flat_map (λ out. line out.name (shown_at c.ports streams (plane_of c.grid.rows) out)) c.ports.outs ≡ flat_map (λ name. line name (bits_in_run run streams.cycles name)) (main_outputs design)
+      lines line =
+          same_lines line (shown_at c.ports streams (plane_of c.grid.rows)) (bits_in_run run streams.cycles) c.ports.outs each
+          ∙ ap (flat_map (λ name. line name (bits_in_run run streams.cycles name))) c.names.outs
 
 pub carriers_show_runs : CarriersShowRuns
 carriers_show_runs text design c streams are =

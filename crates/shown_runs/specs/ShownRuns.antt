@@ -1,8 +1,9 @@
 -- What a text that carries a design shows under streams of bits.
-use Rattle.std.specs.Prelude.{ℕ, ◌≡◌, List, map, All}
+use Rattle.std.specs.Prelude.{ℕ, ◌≡◌, Bool, List, map, flat_map, All}
 use Rattle.ww_rule.specs.Grid.{plane_of}
 use Rattle.pattern_reading.specs.Ports.{names_of}
 use Rattle.netlist_core.specs.declared.model.Design.{Design}
+use Rattle.netlist_core.specs.Names.{Name}
 use Rattle.netlist_meaning.specs.Nets.{IsInNames}
 use Rattle.netlist_meaning.specs.Places.{main_outputs}
 use Rattle.netlist_meaning.specs.Valuation.{Valuation, IsRun}
@@ -13,10 +14,12 @@ use Rattle.drive.specs.Driving.{AreFor, rows_of, shown_at, shown_bits}
 use Rattle.netlist_run.specs.Runs.{bits_in_run}
 
 -- Driven by the streams, each output of the pattern shows the bits of the main output of its name in the run; and so, output by output,
--- the pattern shows what the netlist gives.
+-- the pattern shows what the netlist gives, and lines of names and bits, whatever their form, are the same.
 pub record ShowsTheRun {text : List ℕ} {design : Design} (c : Carries text design) (streams : Streams) (run : ℕ → Valuation) : Type 0 where
   pub each : All (λ out. shown_at c.ports streams (plane_of c.grid.rows) out ≡ bits_in_run run streams.cycles out.name) c.ports.outs
   pub all : shown_bits c.ports streams (plane_of c.grid.rows) ≡ map (bits_in_run run streams.cycles) (main_outputs design)
+  pub lines : (line : Name → List Bool → List ℕ)
+      → flat_map (λ out. line out.name (shown_at c.ports streams (plane_of c.grid.rows) out)) c.ports.outs ≡ flat_map (λ name. line name (bits_in_run run streams.cycles name)) (main_outputs design)
 
 -- under streams for the table's inputs the design has a run, and each of its runs is so shown
 pub record ShowsEachRun {text : List ℕ} {design : Design} (c : Carries text design) (streams : Streams) : Type 0 where
