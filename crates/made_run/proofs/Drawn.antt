@@ -6,14 +6,14 @@ use Rattle.std.proofs.lemmas.List.FromFn.{map-range_with_len_more, length-map-ra
 use Rattle.std.proofs.lemmas.List.Elements.{All-map}
 use Rattle.std.proofs.Math.Path.{fun_ext}
 use Rattle.made_netlists.specs.Draws.{draw_after, next_seed, number_below, state_after}
-use Rattle.made_netlists.proofs.Drawn.{draw_after_both, state_after_both}
+use Rattle.made_netlists.proofs.Drawn.{state_after_both}
 use Rattle.made_run.specs.Streams.{stream_after, streams_after}
 
 -- the bits of a stream that is drawn from the state after others
 pub stream_from : (state before cycles : ℕ) → stream_after (state_after state before) 0 cycles ≡ stream_after state before cycles
 stream_from state before cycles =
     ap (λ (bit : ℕ → Bool). map bit (range_with_len 0 cycles))
-    (fun_ext (λ cycle. let e : before + (0 + cycle) ≡ before + cycle = omega arith in ap (λ n. n == 1) (draw_after_both state before (0 + cycle) (before + cycle) 2 e)))
+    (fun_ext (λ cycle. let e : before + ((0 + cycle) + 1) ≡ (before + cycle) + 1 = omega arith in ap (λ s. number_below 2 s == 1) (state_after_both state before ((0 + cycle) + 1) ((before + cycle) + 1) e)))
 
 -- one more draw
 pub one_drawn : (start cycle state next number : ℕ) → state ≡ state_after start cycle → next ≡ next_seed state → number ≡ number_below 2 next

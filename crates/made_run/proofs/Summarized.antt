@@ -5,6 +5,7 @@ use Rattle.std.specs.List.{range_with_len}
 use Rattle.std.proofs.lemmas.List.{ext_get_or, length-map, get_or-map}
 use Rattle.std.proofs.lemmas.List.FromFn.{length-map-range_with_len, get_or-map-range_with_len}
 use Rattle.ww_rule.specs.Grid.{Grid, AreInBox, plane_of}
+use Rattle.ww_rule.proofs.RowLemmas.{get_or_any}
 use Rattle.lane_core.specs.declared.plan.Plan.{Plan}
 use Rattle.lane_core.specs.Plans.{IsAdmissible}
 use Rattle.grid_assembly.specs.PlanDrawing.{start_grid}
@@ -135,6 +136,17 @@ shown_is law seed size plan ports streams is reads are run is_run =
     let same = same_reading seed size plan ports is reads in
     let each = law (pattern_text (start_grid plan) ports) (made_design seed size) c streams (subst (λ (p : Ports). AreFor p streams) (sym same.1) are) in
     ap₂ (λ (p : Ports) (grid : Grid). shown_bits p streams (plane_of grid.rows)) (sym same.1) (sym same.0) ∙ (each.shown run is_run).all
+
+-- an output, by what its parts are
+pub output_is : (names : List Name) (simulated evaluated : List (List Bool)) (k : ℕ) (name : Name) (shown given : List Bool) (output : OutputBits) → k < length names
+    → length simulated ≡ length names → length evaluated ≡ length names → name ≡ get_or names k name → shown ≡ get_or simulated k shown → given ≡ get_or evaluated k given
+    → output.name ≡ name → output.simulated ≡ shown → output.evaluated ≡ given → output ≡ output_at names simulated evaluated k
+output_is names simulated evaluated k name shown given output less many all first second third is_name is_shown is_given =
+    let at_name = is_name ∙ first ∙ get_or_any names k name [] less in
+    let at_shown = is_shown ∙ second ∙ get_or_any simulated k shown [] (subst (λ (n : ℕ). k < n) (sym many) less) in
+    let at_given = is_given ∙ third ∙ get_or_any evaluated k given [] (subst (λ (n : ℕ). k < n) (sym all) less) in
+    ap₂ (λ (n : Name) (s : List Bool). record { name = n; simulated = s; evaluated = output.evaluated }) at_name at_shown
+    ∙ ap (λ (e : List Bool). record { name = get_or names k []; simulated = get_or simulated k []; evaluated = e }) at_given
 
 -- outputs with their bits in a run
 all_outputs : (run : ℕ → Valuation) (cycles : ℕ) (names : List Name)

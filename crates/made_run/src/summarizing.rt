@@ -3,7 +3,7 @@ ghost use Rattle.std.specs.Prelude.{◌≡◌, ◌<◌, ◌≤◌, ◌^◌, leng
 ghost use Rattle.made_run.specs.Summaries.{HasSummaryCause, Summarizes, outputs_by_name};
 
 use crate::error::SummaryError;
-use crate::plans::{MadePlan, plan_made};
+use crate::plans::plan_made;
 use crate::streams::draw_streams;
 use drive::simulate;
 use grid_assembly::pattern_of;
@@ -33,6 +33,27 @@ pub struct Summary {
     pub outputs: List<OutputBits>,
 }
 
+// An output, with copies of its name and its bits.
+fn output_of(
+    alloc: Global,
+    name: &[u8],
+    simulated: &[bool],
+    evaluated: &[bool],
+) -> Result<OutputBits, AllocError>
+    ensures name { IfOk result (λ output. output.name ≡ name.now) }
+    ensures simulated { IfOk result (λ output. output.simulated ≡ simulated.now) }
+    ensures evaluated { IfOk result (λ output. output.evaluated ≡ evaluated.now) }
+{
+    let name = List::of(name.to_vec(alloc)?);
+    let simulated = List::of(simulated.to_vec(alloc)?);
+    let evaluated = List::of(evaluated.to_vec(alloc)?);
+    Ok(OutputBits {
+        name,
+        simulated,
+        evaluated,
+    })
+}
+
 // The outputs of these names, with their bits.
 fn outputs_by_name(
     alloc: Global,
@@ -46,11 +67,10 @@ fn outputs_by_name(
 {
     let mut outputs = Vec::with_capacity(alloc, names.len())?;
     for k in 0..names.len() {
-        outputs.push(OutputBits {
-            name: List::of(names[k].as_slice().to_vec(alloc)?),
-            simulated: List::of(simulated[k].as_slice().to_vec(alloc)?),
-            evaluated: List::of(evaluated[k].as_slice().to_vec(alloc)?),
-        })?;
+        let name = names[k].as_slice();
+        let shown = simulated[k].as_slice();
+        let given = evaluated[k].as_slice();
+        outputs.push(output_of(alloc, name, shown, given)?)?;
     }
     Ok(List::of(outputs))
 }
@@ -71,17 +91,13 @@ pub fn summarize(
     ensures refused { IfErr result (HasSummaryCause seed size cycles) }
 {
     carriers_show_runs();
-    let MadePlan {
-        netlist,
-        planned,
-        state,
-    } = plan_made(alloc, seed, size)?;
-    let streams = draw_streams(alloc, state, cycles)?;
-    let pattern = pattern_of(alloc, &planned.plan)?;
-    let simulated = simulate(alloc, pattern, &planned.ports, &streams)?;
-    let weight = netlist.flat.weight;
-    let names = netlist.out_names(alloc)?;
-    let evaluated = run(alloc, netlist, &streams)?;
+    let made = plan_made(alloc, seed, size)?;
+    let streams = draw_streams(alloc, made.state, cycles)?;
+    let pattern = pattern_of(alloc, &made.planned.plan)?;
+    let simulated = simulate(alloc, pattern, &made.planned.ports, &streams)?;
+    let weight = made.netlist.flat.weight;
+    let names = made.netlist.out_names(alloc)?;
+    let evaluated = run(alloc, made.netlist, &streams)?;
     let outputs = outputs_by_name(
         alloc,
         names.as_slice(),
@@ -90,10 +106,10 @@ pub fn summarize(
     )?;
     Ok(Summary {
         weight,
-        lanes: u64::from(planned.plan.lanes),
-        columns: planned.plan.columns.len() as u64,
-        p: planned.ports.p,
-        l: planned.ports.l,
+        lanes: u64::from(made.planned.plan.lanes),
+        columns: made.planned.plan.columns.len() as u64,
+        p: made.planned.ports.p,
+        l: made.planned.ports.l,
         outputs,
     })
 }
