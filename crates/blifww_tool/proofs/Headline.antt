@@ -13,4 +13,4 @@ headline words src out d asks text before has held =
     let prints : Prints compile d.text d.output = subst (λ (v : CommandValues). Prints v d.text d.output) (one_command words d.command compile d.asked.asks asks) d.prints in
     let is : IsDesignOf text prints.design =
     subst (λ (t : List ℕ). IsDesignOf t prints.design) (gave_whole src.left src.left_after d.text text d.given.consumed d.given.end has) prints.netlist.is.design_of in
-    (d.output, gained_whole out.written out.written_after d.output before d.wrote held, prints.design, is, prints.carries)
+    (d.output, gained_whole out.written out.written_after d.output before d.wrote held, prints.design, is, prints.carries, prints.nets)

@@ -8,7 +8,7 @@ use Rattle.blifww_tool.specs.Simulation.{Simulation, Simulates, simulation_text,
 use Rattle.blifww_tool.specs.Evaluation.{Evaluation, IsEvaluation, Evaluates, HasNoEvaluation}
 use Rattle.blifww_tool.specs.declared.causes.Cause.{Cause}
 use Rattle.blifww_tool.specs.declared.causes.Cause.TheVariants.{NetlistFault, Loop}
-use Rattle.netlist_text.specs.Laws.{AreAlike as AreAlikeFaults}
+use Rattle.netlist_text.specs.Laws.{AreAlikeFaults}
 use Rattle.blifww_tool.specs.declared.causes.TextError.{TextError}
 use Rattle.blifww_tool.specs.declared.causes.TextError.TheVariants.{Refused, NoMemory}
 

@@ -6,6 +6,7 @@ use Rattle.grid_assembly.specs.PlanDrawing.{start_grid}
 use Rattle.pattern_reading.specs.declared.ports.Ports.{Ports}
 use Rattle.written_reads.specs.Laws.{pattern_text}
 use Rattle.carries.specs.Carries.{Carries}
+use Rattle.carries.specs.Nets.{CarriesNets}
 use Rattle.cover_mapper.specs.Needs.{any_needs_one}
 use Rattle.netlist_core.specs.declared.model.Design.{Design}
 use Rattle.netlist_core.specs.declared.flat.Flat.{Flat}
@@ -15,8 +16,8 @@ use Rattle.netlist_text.specs.NetlistText.{IsNetlist, IsAtFault, IsTooHeavy, Has
 use Rattle.blifww_tool.specs.declared.causes.Cause.{Cause}
 use Rattle.blifww_tool.specs.declared.causes.Cause.TheVariants.{NetlistFault, WeightTooLarge, Loop}
 
--- The text is a netlist, and the output is the written text of an admissible plan and its table that carries the design. The plan is
--- small, by the design's weight, and has a loop for each latch and at most one more; where there is no latch and no cover needs
+-- The text is a netlist, and the output is the written text of an admissible plan and its table that carries the design and its nets.
+-- The plan is small, by the design's weight, and has a loop for each latch and at most one more; where there is no latch and no cover needs
 -- constant 1 the period is 32.
 pub record Compiles (text output : List ℕ) : Type 0 where
   pub design : Design
@@ -26,6 +27,7 @@ pub record Compiles (text output : List ℕ) : Type 0 where
   pub admissible : IsAdmissible plan
   pub written : output ≡ pattern_text (start_grid plan) ports
   pub carries : Carries output design
+  pub nets : CarriesNets output design
   pub lanes : plan.lanes ≤ 4 * weight design + 4
   pub columns : length plan.columns ≤ 256 * ((weight design + 1) * (weight design + 1))
   pub loops : (flat : Flat) → IsFlatOf design flat → plan.latches ≤ length flat.latches + 1

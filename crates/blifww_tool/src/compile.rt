@@ -11,7 +11,7 @@ use netlist_plans::plan_netlist;
 use netlist_text::netlist_of;
 use std::alloc::Global;
 
-/// The pattern of the netlist whose text this is, with the lines that say where its ports are.
+/// The pattern of the netlist whose text this is, with the lines that say where its ports and nets are.
 pub fn compile(alloc: Global, text: &[u8]) -> Result<Output, TextError>
     ensures printed { IfOk result (λ output. Prints compile text.now (output_text output)) }
     ensures writable { IfOk result IsWritable }

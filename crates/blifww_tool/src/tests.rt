@@ -10,9 +10,9 @@ const COMPILE: &[&str] = &["blifww", "compile"];
 
 const GATE: &[u8] = b".model or\n.inputs a b\n.outputs y\n.names a b y\n1- 1\n-1 1\n.end\n";
 
-// What is written for it: 242 bytes.
+// What is written for it: 317 bytes.
 const PATTERN: &[u8] =
-    b"#C BLIFWW 1 P 32 L 32\n#C BLIFWW IN 0 8 a\n#C BLIFWW IN 0 24 b\n#C BLIFWW OUT 32 8 y\nx = 33, y = 32, rule = WireWorld\n8$5C18.10C$5.C16.C$6.C14.C$7.C12.C$8.C10.C$9.C.2C5.C$10.2C.C3.C$11.2C.\nC.C$15.C$11.2C.C$10.2C.C$9.C.2C$8.C$7.C$6.C$5.C$5C26.C!\n";
+    b"#C BLIFWW 1 P 32 L 32\n#C BLIFWW IN 0 8 a\n#C BLIFWW IN 0 24 b\n#C BLIFWW OUT 32 8 y\n#C BLIFWW NET 0 8 0 a -\n#C BLIFWW NET 0 24 0 b -\n#C BLIFWW NET 31 8 31 y -\nx = 33, y = 32, rule = WireWorld\n8$5C18.10C$5.C16.C$6.C14.C$7.C12.C$8.C10.C$9.C.2C5.C$10.2C.C3.C$11.2C.\nC.C$15.C$11.2C.C$10.2C.C$9.C.2C$8.C$7.C$6.C$5.C$5C26.C!\n";
 
 const USAGE: &[u8] = b"usage: blifww compile|simulate|eval|probe|window|make|self\n";
 
@@ -52,19 +52,19 @@ pub fn run_over(
 #[test]
 fn an_or_gate_is_compiled_by_its_names(rt: HostRuntime) -> Result<(), Fail> {
     let alloc = rt.alloc();
-    let got = run_over(alloc, COMPILE, GATE, (16, &[]), (242, 0))?;
+    let got = run_over(alloc, COMPILE, GATE, (16, &[]), (317, 0))?;
     assert_eq!(rt; got.status, 0);
     assert_eq!(rt; got.out.as_slice(), PATTERN);
     assert_eq!(rt; got.err.as_slice(), b"".as_slice());
 
     let named =
         b".model X\n.inputs X sum_of_2_inputs_0\n.outputs _9\n.names X sum_of_2_inputs_0 _9\n1- 1\n-1 1\n.end\n";
-    let got = run_over(alloc, COMPILE, named, (16, &[]), (300, 0))?;
+    let got = run_over(alloc, COMPILE, named, (16, &[]), (400, 0))?;
     assert_eq!(rt; got.status, 0);
     let ports =
-        b"#C BLIFWW 1 P 32 L 32\n#C BLIFWW IN 0 8 X\n#C BLIFWW IN 0 24 sum_of_2_inputs_0\n#C BLIFWW OUT 32 8 _9\nx = 33, y = 32, rule";
+        b"#C BLIFWW 1 P 32 L 32\n#C BLIFWW IN 0 8 X\n#C BLIFWW IN 0 24 sum_of_2_inputs_0\n#C BLIFWW OUT 32 8 _9\n#C BLIFWW NET 0 8 0 X -\n#C BLIFWW NET 0 24 0 sum_of_2_inputs_0 -\n#C BLIFWW NET 31 8 31 _9 -\nx = 33, y = 32, rule";
     assert!(rt; got.out.starts_with(ports));
-    assert!(rt; got.out.ends_with(&PATTERN[100..]));
+    assert!(rt; got.out.ends_with(&PATTERN[175..]));
     Ok(())
 }
 
@@ -74,32 +74,32 @@ fn each_failure_is_told(rt: HostRuntime) -> Result<(), Fail> {
         (
             COMPILE,
             [9].as_slice(),
-            (100, 99),
+            (175, 99),
             6,
-            &PATTERN[..100],
+            &PATTERN[..175],
             b"write fault\n".as_slice(),
         ),
-        (COMPILE, &[9], (100, 5), 6, &PATTERN[..100], b"write"),
-        (COMPILE, &[1], (242, 99), 5, b"", b"read fault\n"),
-        (COMPILE, &[1], (242, 4), 6, b"", b"read"),
-        (&["blifww"], &[0], (242, 99), 2, b"", USAGE),
+        (COMPILE, &[9], (175, 5), 6, &PATTERN[..175], b"write"),
+        (COMPILE, &[1], (317, 99), 5, b"", b"read fault\n"),
+        (COMPILE, &[1], (317, 4), 6, b"", b"read"),
+        (&["blifww"], &[0], (317, 99), 2, b"", USAGE),
         (
             &["blifww", "compile", "compile"],
             &[0],
-            (242, 99),
+            (317, 99),
             2,
             b"",
             USAGE,
         ),
-        (&["blifww", "simulate"], &[0], (242, 99), 2, b"", USAGE),
-        (&["blifww"], &[0], (242, 20), 6, b"", &USAGE[..20]),
+        (&["blifww", "simulate"], &[0], (317, 99), 2, b"", USAGE),
+        (&["blifww"], &[0], (317, 20), 6, b"", &USAGE[..20]),
     ] {
         let got = run_over(rt.alloc(), words, GATE, (16, fails), rooms)?;
         assert_eq!(rt; got.status, status);
         assert_eq!(rt; got.out.as_slice(), out);
         assert_eq!(rt; got.err.as_slice(), err);
     }
-    assert!(rt; PATTERN[..100].ends_with(b"x = 33, y = 32, ru"));
+    assert!(rt; PATTERN[..175].ends_with(b"x = 33, y = 32, ru"));
     Ok(())
 }
 
@@ -111,7 +111,7 @@ fn a_text_past_the_limit_is_too_long(rt: HostRuntime) -> Result<(), Fail> {
         (16_777_217, 4, b"too long: limit 16777216\n"),
     ] {
         let text = vec![in alloc; b'#'; length]?;
-        let got = run_over(alloc, COMPILE, &text, (1 << 20, &[]), (242, 99))?;
+        let got = run_over(alloc, COMPILE, &text, (1 << 20, &[]), (317, 99))?;
         assert_eq!(rt; got.status, status, "{length} bytes");
         assert_eq!(rt; got.out.as_slice(), b"".as_slice());
         assert_eq!(rt; got.err.as_slice(), line);
@@ -138,7 +138,7 @@ fn wire(alloc: Global, period: &[u8]) -> Result<Vec<u8>, Fail> {
 #[test]
 fn what_compile_writes_is_simulated(rt: HostRuntime) -> Result<(), Fail> {
     let alloc = rt.alloc();
-    let compiled = run_over(alloc, COMPILE, GATE, (16, &[]), (242, 0))?;
+    let compiled = run_over(alloc, COMPILE, GATE, (16, &[]), (317, 0))?;
     let got = run_over(alloc, OR_STREAMS, &compiled.out, (16, &[]), (7, 0))?;
     assert_eq!(rt; got.status, 0);
     assert_eq!(rt; got.out.as_slice(), b"y=0111\n".as_slice());

@@ -1,3 +1,4 @@
 pub mod Carries
+pub mod Nets
 pub mod Shown
 pub mod Laws

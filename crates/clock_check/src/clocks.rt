@@ -71,6 +71,14 @@ impl<'a> ClockClasses<'a> {
         self.flat
     }
 
+    /// Whether a class of nets is a clock's.
+    pub fn is_clock_class(&self, class: usize) -> bool
+        requires { class < length self.now.nets }
+        ensures { result ≡ is_clock_class self.now class }
+    {
+        self.marks[class]
+    }
+
     /// Whether a net is a clock's.
     pub fn is_clock(&self, net: NetId) -> bool
         requires { IsNetId self.now net }

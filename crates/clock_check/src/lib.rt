@@ -8,4 +8,5 @@ mod error;
 mod uses;
 
 pub use check::check_clock;
+pub use clocks::ClockClasses;
 pub use error::CheckError;

@@ -5,7 +5,7 @@ use Rattle.std.specs.List.{range_with_len}
 use Rattle.std.proofs.lemmas.List.{length-map, get_or-map, same_lists}
 use Rattle.std.proofs.lemmas.List.Elements.{All-map}
 use Rattle.std.proofs.lemmas.List.FromFn.{length-map-range_with_len, get_or-map-range_with_len}
-use Rattle.drive.specs.Driving.{column_of}
+use Rattle.drive.specs.Driving.{bits_across}
 
 module _ {X : Type 0} where
   bit_at : (f : X → Bool) (xs : List X) (k : ℕ) (d : X) → k < length xs → unwrap_or (slice_get (map f xs) k) false ≡ f (get_or xs k d)
@@ -13,15 +13,15 @@ module _ {X : Type 0} where
   bit_at f (x ∷ xs) zero d lt = refl
   bit_at f (x ∷ xs) (suc k) d lt = bit_at f xs k d (omega arith)
 
-  column_at : (f : X → ℕ → Bool) (xs : List X) (ts : List ℕ) (k : ℕ) (d : X) → k < length xs → column_of (map (λ t. map (λ x. f x t) xs) ts) k ≡ map (f (get_or xs k d)) ts
+  column_at : (f : X → ℕ → Bool) (xs : List X) (ts : List ℕ) (k : ℕ) (d : X) → k < length xs → bits_across (map (λ t. map (λ x. f x t) xs) ts) k ≡ map (f (get_or xs k d)) ts
   column_at f xs [] k d lt = refl
   column_at f xs (t ∷ ts) k d lt = ap₂ (λ (b : Bool) (bs : List Bool). b ∷ bs) (bit_at (λ x. f x t) xs k d lt) (column_at f xs ts k d lt)
 
   -- the columns of the rows are the bits of each
-  pub columns_are : (f : X → ℕ → Bool) (xs : List X) (ts : List ℕ) → map (column_of (map (λ t. map (λ x. f x t) xs) ts)) (range_with_len 0 (length xs)) ≡ map (λ x. map (f x) ts) xs
+  pub columns_are : (f : X → ℕ → Bool) (xs : List X) (ts : List ℕ) → map (bits_across (map (λ t. map (λ x. f x t) xs) ts)) (range_with_len 0 (length xs)) ≡ map (λ x. map (f x) ts) xs
   columns_are f [] ts = refl
   columns_are f (x ∷ xs) ts =
-      let column = column_of (map (λ t. map (λ x. f x t) (x ∷ xs)) ts) in
+      let column = bits_across (map (λ t. map (λ x. f x t) (x ∷ xs)) ts) in
       let own = λ (x : X). map (f x) ts in
       let n = length (x ∷ xs) in
       let long : length (map column (range_with_len 0 n)) ≡ n = length-map-range_with_len column 0 n in

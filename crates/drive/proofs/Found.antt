@@ -1,8 +1,8 @@
 -- The words that have an input's name.
 use Rattle.std.proofs.Common.{ℕ, ◌≡◌, ◌<◌, ◌+◌, ◌==◌, refl, sym, ap, ◌∙◌, Bool, true, false, ◌||◌, not, cond, List, [], ◌∷◌, ◌++◌, length, drop, map, get_or, arith, zero, suc}
-use Rattle.std.specs.Prelude.{Option, Some, None, unwrap_or, if◌then◌else◌, slice_get}
+use Rattle.std.specs.Prelude.{Some, None, unwrap_or, if◌then◌else◌, slice_get}
 use Rattle.std.specs.List.{list_any, list_all, find, cons_option}
-use Rattle.std.specs.Option.{option_map}
+use Rattle.std.specs.Option.{option_map, is_some}
 use Rattle.std.specs.Str.{bytes_eq}
 use Rattle.std.proofs.lemmas.Bool.{eqb-true}
 use Rattle.std.proofs.lemmas.List.{length-map, drop_more}
@@ -10,26 +10,22 @@ use Rattle.drive.specs.declared.error.StreamFaultKind.TheVariants.{NoEquals, Unk
 use Rattle.drive.specs.Words.{word_has_name, is_equals_sign, is_bit, name_in, bits_in, fault_of_word}
 use Rattle.drive.specs.Streams.{stream_fault, stream_faults_after, bits_for, stream_in, streams_of, missing_names}
 
-abbrev is_some_bits : Option (List ℕ) → Bool
-is_some_bits None = false
-is_some_bits (Some bits) = true
-
 -- a name has bits exactly when a word has it
-pub any_bits : (words : List (List ℕ)) (name : List ℕ) → is_some_bits (bits_for words name) ≡ list_any (word_has_name name) words
+pub any_bits : (words : List (List ℕ)) (name : List ℕ) → is_some (bits_for words name) ≡ list_any (word_has_name name) words
 any_bits [] name = refl
 any_bits (word ∷ words) name =
-    elim (word_has_name name word) as (λ b. is_some_bits (option_map bits_in (cond b (Some word) (find (word_has_name name) words))) ≡ (b || list_any (word_has_name name) words)) [
+    elim (word_has_name name word) as (λ b. is_some (option_map bits_in (cond b (Some word) (find (word_has_name name) words))) ≡ (b || list_any (word_has_name name) words)) [
       | true ↦ refl
       | false ↦ any_bits words name
     ]
 
 pub missing_at : (words names : List (List ℕ)) (name : List ℕ) → bits_for words name ≡ None → missing_names words (name ∷ names) ≡ name ∷ missing_names words names
 missing_at words names name e =
-    ap (λ b. cond (not b) (name ∷ missing_names words names) (missing_names words names)) (sym (any_bits words name) ∙ ap is_some_bits e)
+    ap (λ b. cond (not b) (name ∷ missing_names words names) (missing_names words names)) (sym (any_bits words name) ∙ ap is_some e)
 
 pub found_at : (words names : List (List ℕ)) (name bits : List ℕ) → bits_for words name ≡ Some bits → missing_names words (name ∷ names) ≡ missing_names words names
 found_at words names name bits e =
-    ap (λ b. cond (not b) (name ∷ missing_names words names) (missing_names words names)) (sym (any_bits words name) ∙ ap is_some_bits e)
+    ap (λ b. cond (not b) (name ∷ missing_names words names) (missing_names words names)) (sym (any_bits words name) ∙ ap is_some e)
 
 -- the same at the first of the names that are left
 pub found_more : (words names : List (List ℕ)) (i : ℕ) (name bits : List ℕ) → i < length names → name ≡ get_or names i name → bits_for words name ≡ Some bits → missing_names words (drop (i + 1) names) ≡ missing_names words (drop i names)

@@ -1,5 +1,6 @@
 pub mod Cuts
 pub mod Found
+pub mod GivenWords
 pub mod Rows
 pub mod Inside
 pub mod Streamed

@@ -17,12 +17,12 @@ pub record AreFor (ports : Ports) (streams : Streams) : Type 0 where
   pub long : All (λ bits. length bits ≡ streams.cycles) streams.bits
 
 -- the bit at a place of each list
-abbrev pub column_of : List (List Bool) → ℕ → List Bool
-column_of lists place = map (λ bits. unwrap_or (slice_get bits place) false) lists
+abbrev pub bits_across : List (List Bool) → ℕ → List Bool
+bits_across lists place = map (λ bits. unwrap_or (slice_get bits place) false) lists
 
 -- the bits of all inputs in a cycle
 abbrev pub stream_row : Streams → ℕ → List Bool
-stream_row streams cycle = column_of streams.bits cycle
+stream_row streams cycle = bits_across streams.bits cycle
 
 -- a row of input bits for each cycle
 abbrev pub rows_of : Streams → List (List Bool)

@@ -14,8 +14,12 @@ AreAt g pattern = (b : ℕ) → b < length pattern.generations → generation_of
 abbrev pub evolution : BandedPattern → ℕ → Plane
 evolution pattern = driven (due_of_list pattern.injections) (plane_of pattern.grid.rows)
 
+-- the planes that a run shows, generation after generation
+abbrev pub planes_of : Run → ℕ → Plane
+planes_of run = evolution run.bands
+
 -- What holds of each run. One that is still shows at each later generation what it shows now.
-pub record IsRun (run : Run) : Type 0 where
+pub record IsBandRun (run : Run) : Type 0 where
   pub whole : IsBandedPattern run.bands
   pub at : AreAt run.generation run.bands
   pub height : run.bands.height ≡ 16
@@ -23,8 +27,3 @@ pub record IsRun (run : Run) : Type 0 where
   pub rows : run.rows ≡ length run.bands.grid.rows
   pub last : All (λ i. i.generation ≤ run.last_injection) run.bands.injections
   pub still : run.is_still ≡ true → (g : ℕ) → run.generation ≤ g → evolution run.bands g ≡ evolution run.bands run.generation
-
--- the same pattern under the same injections
-pub record IsSameRun (old new : Run) : Type 0 where
-  pub grid : new.bands.grid ≡ old.bands.grid
-  pub injections : new.bands.injections ≡ old.bands.injections

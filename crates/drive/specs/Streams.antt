@@ -61,3 +61,8 @@ abbrev pub IsMissing : (words names : List (List ℕ)) → StreamError → Type 
 IsMissing words names NoMemory = ⊤
 IsMissing words names (Fault fault) =
     slice_get (map (λ name. stream_fault name MissingInput) (missing_names words names)) 0 ≡ Some fault
+
+-- why words give no bits, by their faults in order
+abbrev pub HasWordFault : List StreamFault → StreamError → Type 0
+HasWordFault faults NoMemory = ⊤
+HasWordFault faults (Fault fault) = slice_get faults 0 ≡ Some fault

@@ -1,16 +1,20 @@
 // Lists of bits, read across.
 ghost use Rattle.std.specs.Prelude.{◌≡◌, ◌<◌, All, length, map, IfOk};
 ghost use Rattle.std.specs.List.{range_with_len};
-ghost use Rattle.drive.specs.Driving.{column_of};
+ghost use Rattle.drive.specs.Driving.{bits_across};
 
 use crate::error::DriveError;
 use lists::List;
 use std::alloc::Global;
 
 /// The bit at a place of each list.
-pub fn column_of(alloc: Global, lists: &[List<bool>], place: usize) -> Result<Vec<bool>, DriveError>
+pub fn bits_across(
+    alloc: Global,
+    lists: &[List<bool>],
+    place: usize,
+) -> Result<Vec<bool>, DriveError>
     requires { All (λ bits. place < length bits) lists.now }
-    ensures { IfOk result (λ column. column.items ≡ column_of lists.now place) }
+    ensures { IfOk result (λ column. column.items ≡ bits_across lists.now place) }
 {
     let mut column = Vec::with_capacity(alloc, lists.len())?;
     for bits in lists {
@@ -26,11 +30,11 @@ pub fn columns_of(
     long: usize,
 ) -> Result<List<List<bool>>, DriveError>
     requires { All (λ bits. length bits ≡ long) lists.now }
-    ensures { IfOk result (λ columns. columns ≡ map (column_of lists.now) (range_with_len 0 long)) }
+    ensures { IfOk result (λ columns. columns ≡ map (bits_across lists.now) (range_with_len 0 long)) }
 {
     let mut columns = Vec::with_capacity(alloc, long)?;
     for place in 0..long {
-        columns.push(List::of(column_of(alloc, lists, place)?))?;
+        columns.push(List::of(bits_across(alloc, lists, place)?))?;
     }
     Ok(List::of(columns))
 }

@@ -4,7 +4,7 @@ ghost use Rattle.ww_rule.specs.Injections.{injections_of_row};
 ghost use Rattle.pattern_reading.specs.Ports.{cells_of};
 ghost use Rattle.drive.specs.Driving.{AreFor, injections_of};
 
-use crate::columns::column_of;
+use crate::columns::bits_across;
 use crate::error::DriveError;
 use crate::streams::Streams;
 use pattern_reading::{PortLine, Ports};
@@ -46,7 +46,7 @@ pub fn injections(
 {
     let mut due = Vec::new(alloc);
     for cycle in 0..streams.cycles {
-        let row = column_of(alloc, streams.bits.as_slice(), cycle)?;
+        let row = bits_across(alloc, streams.bits.as_slice(), cycle)?;
         let generation = cycle as u128 * ports.p as u128;
         push_row(&mut due, generation, ports.ins.as_slice(), &row)?;
     }

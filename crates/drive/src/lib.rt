@@ -8,6 +8,7 @@ mod examples;
 mod moving;
 mod run;
 mod simulation;
+mod stream_words;
 mod streams;
 mod words;
 
@@ -15,7 +16,8 @@ pub use columns::columns_of;
 pub use driving::injections;
 pub use error::{DriveError, SimulateError, StreamError, StreamFault, StreamFaultKind};
 pub use examples::stream_words_read;
-pub use simulation::simulate;
+pub use run::Run;
+pub use simulation::{GREATEST_GENERATION, simulate};
 pub use streams::Streams;
 
 #[cfg(test)]

@@ -3,12 +3,18 @@ ghost use Rattle.std.specs.Prelude.{◌≡◌, ◌≤◌, ◌<◌, ◌+◌, ◌^
 ghost use Rattle.ww_rule.specs.Due.{AreInOrderFrom};
 ghost use Rattle.ww_rule.specs.Injections.{AreInside};
 ghost use Rattle.ww_rule.specs.Patterns.{grid_of};
+ghost use Rattle.ww_rule.specs.Grid.{AreInBox, plane_of};
 ghost use Rattle.ww_rule.specs.Wireworld.{is_head};
-ghost use Rattle.drive.specs.Runs.{IsRun, IsSameRun, evolution};
+ghost use Rattle.pattern_reading.specs.Ports.{cells_of};
+ghost use Rattle.drive.specs.Driving.{AreFor, driven_by};
+ghost use Rattle.drive.specs.Runs.{IsBandRun, planes_of};
 
+use crate::driving::injections;
 use crate::error::DriveError;
 use crate::moving::move_all;
+use crate::streams::Streams;
 use band_core::Bands;
+use pattern_reading::Ports;
 use std::alloc::Global;
 use ww_rule::{Injection, Pattern, State};
 
@@ -19,12 +25,12 @@ const BAND_ROWS: u32 = 16;
 /// the last one's generation; where the run is still, no cell changes any more.
 #[derive(Drop)]
 pub struct Run {
-    pub bands: Bands,
-    pub width: u64,
-    pub rows: usize,
-    pub last_injection: u128,
-    pub generation: u64,
-    pub is_still: bool,
+    bands: Bands,
+    width: u64,
+    rows: usize,
+    last_injection: u128,
+    generation: u64,
+    is_still: bool,
 }
 
 // The generation of the last of injections in the order of their generations, and 0 where there are none.
@@ -39,15 +45,11 @@ fn last_generation(injections: &[Injection]) -> u128
 }
 
 impl Run {
-    /// The run of a pattern at generation 0.
-    pub fn begin(
-        alloc: Global,
-        pattern: Pattern,
-        injections: Vec<Injection>,
-    ) -> Result<Run, DriveError>
+    // The run of a pattern under injections, at generation 0.
+    fn begin(alloc: Global, pattern: Pattern, injections: Vec<Injection>) -> Result<Run, DriveError>
         requires inside { AreInside pattern.width pattern.height injections.items }
         requires in_order { AreInOrderFrom 0 injections.items }
-        ensures run { IfOk result IsRun }
+        ensures run { IfOk result IsBandRun }
         ensures begun { IfOk result (λ run. run.generation ≡ 0) }
         ensures grid { IfOk result (λ run. run.bands.grid ≡ grid_of pattern) }
         ensures injections { IfOk result (λ run. run.bands.injections ≡ injections.items) }
@@ -66,12 +68,30 @@ impl Run {
         })
     }
 
+    /// The run of a pattern that streams drive, at generation 0. A call asks for one stream for each input, of any number of
+    /// cycles, and for inputs inside the pattern's box. `NoMemory` is the one error.
+    pub fn of_streams(
+        alloc: Global,
+        pattern: Pattern,
+        ports: &Ports,
+        streams: &Streams,
+    ) -> Result<Run, DriveError>
+        requires streams { AreFor ports.now streams.now }
+        requires in_box { AreInBox pattern.width pattern.height (cells_of ports.now.ins) }
+        ensures run { IfOk result IsBandRun }
+        ensures begun { IfOk result (λ run. run.generation ≡ 0) }
+        ensures planes { IfOk result (λ run. planes_of run ≡ driven_by ports.now streams.now (plane_of pattern.rows)) }
+    {
+        let due = injections(alloc, ports, streams)?;
+        Run::begin(alloc, pattern, due)
+    }
+
     // Goes on by one generation.
     fn next(&mut self)
-        requires run { IsRun self.old }
+        requires run { IsBandRun self.old }
         requires room { self.old.generation + 1 < 2 ^ 64 }
-        ensures run { IsRun self.new }
-        ensures same { IsSameRun self.old self.new }
+        ensures run { IsBandRun self.new }
+        ensures planes { planes_of self.new ≡ planes_of self.old }
         ensures comes { self.new.generation ≡ self.old.generation + 1 }
     {
         let is_past = self.last_injection <= self.generation as u128;
@@ -82,27 +102,35 @@ impl Run {
 
     /// Goes on to a generation that is not before the run's own, or to an earlier one from which on no cell changes.
     pub fn go_on(&mut self, generation: u64)
-        requires run { IsRun self.old }
+        requires run { IsBandRun self.old }
         requires order { self.old.generation ≤ generation }
-        ensures run { IsRun self.new }
-        ensures same { IsSameRun self.old self.new }
+        ensures run { IsBandRun self.new }
         ensures order { self.new.generation ≤ generation }
-        ensures shows { evolution self.new.bands self.new.generation ≡ evolution self.new.bands generation }
+        ensures planes { planes_of self.new ≡ planes_of self.old }
+        ensures shows { planes_of self.new self.new.generation ≡ planes_of self.new generation }
     {
         while self.generation < generation && !self.is_still {
             self.next();
         }
     }
 
-    /// Whether a cell is a head.
-    pub fn is_head(&self, x: u64, y: u64) -> bool
-        requires { IsRun self.now }
-        ensures { result ≡ is_head (evolution self.now.bands self.now.generation (pos x) (pos y)) }
+    /// The state of a cell, by its column and row in the pattern. All cells beyond the pattern's box are empty.
+    pub fn state(&self, x: u128, y: u128) -> State
+        requires { IsBandRun self.now }
+        ensures { result ≡ planes_of self.now self.now.generation (pos x) (pos y) }
     {
-        if x >= self.width || y as usize >= self.rows {
-            return false;
+        if x >= self.width as u128 || y >= self.rows as u128 {
+            return State::Empty;
         }
         let b = y as usize / BAND_ROWS as usize;
-        matches!(self.bands.cell(b, x, y), State::Head)
+        self.bands.cell(b, x as u64, y as u64)
+    }
+
+    /// Whether a cell is a head.
+    pub fn is_head(&self, x: u64, y: u64) -> bool
+        requires { IsBandRun self.now }
+        ensures { result ≡ is_head (planes_of self.now self.now.generation (pos x) (pos y)) }
+    {
+        matches!(self.state(x as u128, y as u128), State::Head)
     }
 }

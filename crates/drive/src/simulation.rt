@@ -3,10 +3,9 @@ ghost use Rattle.std.specs.Prelude.{◌≡◌, ◌<◌, ◌≤◌, IfOk, IfErr, 
 ghost use Rattle.ww_rule.specs.Grid.{AreInBox, plane_of};
 ghost use Rattle.pattern_reading.specs.Ports.{cells_of};
 ghost use Rattle.drive.specs.Driving.{AreFor, shown_row, shown_rows, shown_bits, greatest_generation, last_generation, HasSimulateCause};
-ghost use Rattle.drive.specs.Runs.{IsRun, evolution};
+ghost use Rattle.drive.specs.Runs.{IsBandRun, planes_of};
 
 use crate::columns::columns_of;
-use crate::driving::injections;
 use crate::error::{DriveError, SimulateError};
 use crate::run::Run;
 use crate::streams::Streams;
@@ -15,13 +14,13 @@ use pattern_reading::{PortLine, Ports};
 use std::alloc::{AllocError, Global};
 use ww_rule::Pattern;
 
-// The most generations that a run may need.
-const GREATEST_GENERATION: u128 = 4_294_967_296;
+/// The most generations that a run may need.
+pub const GREATEST_GENERATION: u128 = 4_294_967_296;
 
 // The bits that the outputs show.
 fn shown_row(alloc: Global, run: &Run, outs: &[PortLine]) -> Result<Vec<bool>, AllocError>
-    requires { IsRun run.now }
-    ensures { IfOk result (λ row. row.items ≡ shown_row (evolution run.now.bands run.now.generation) outs.now) }
+    requires { IsBandRun run.now }
+    ensures { IfOk result (λ row. row.items ≡ shown_row (planes_of run.now run.now.generation) outs.now) }
 {
     let mut row = Vec::with_capacity(alloc, outs.len())?;
     for out in outs {
@@ -42,8 +41,7 @@ fn shown_rows(
     requires near { last_generation ports.now streams.now ≤ greatest_generation }
     ensures { IfOk result (λ rows. rows.items ≡ shown_rows ports.now streams.now (plane_of pattern.rows)) }
 {
-    let due = injections(alloc, ports, streams)?;
-    let mut run = Run::begin(alloc, pattern, due)?;
+    let mut run = Run::of_streams(alloc, pattern, ports, streams)?;
     let mut rows = Vec::new(alloc);
     for cycle in 0..streams.cycles {
         run.go_on(ports.l + cycle as u64 * ports.p);

@@ -1,12 +1,13 @@
 // One stream word: the name of an input and its bits, or what is at fault in it.
-ghost use Rattle.std.specs.Prelude.{◌≡◌, ◌==◌, map, string_bytes, true, false, position, reverse, if◌then◌else◌};
+ghost use Rattle.std.specs.Prelude.{◌≡◌, ℕ, List, true, false, Some, None, position, reverse, IfOk, IfErr};
 ghost use Rattle.std.specs.List.{list_any, list_all};
-ghost use Rattle.std.specs.Option.{MatchOption, option_copied};
-ghost use Rattle.std.specs.Str.{bytes_eq};
+ghost use Rattle.std.specs.Option.{MatchOption};
 ghost use Rattle.drive.specs.Words.{is_equals_sign, name_in, bits_in, word_has_name, is_bit, fault_of_word};
+ghost use Rattle.drive.specs.GivenBits.{AreNamesOf, AreBitsOf};
+ghost use Rattle.lists.specs.Names.{is_among};
 
 use crate::error::StreamFaultKind;
-use lists::Bytes;
+use std::collections::{BTreeMap, BTreeSet};
 
 // How many bytes stand after the last `=`.
 fn bits_after(word: &[u8]) -> Option<usize>
@@ -25,21 +26,6 @@ fn cut(word: &[u8]) -> Option<(&[u8], &[u8])>
     Some((&word[..start - 1], &word[start..]))
 }
 
-/// The bits of a word that has a name.
-pub fn bits_named<'a>(name: &[u8], word: &'a [u8]) -> Option<&'a [u8]>
-    ensures { option_copied result ≡ (if word_has_name name.now word.now then Some (bits_in word.now) else None) }
-{
-    let (own, bits) = cut(word)?;
-    if own == name { Some(bits) } else { None }
-}
-
-// Whether a word has a name.
-fn word_has_name(name: &[u8], word: &[u8]) -> bool
-    ensures { result ≡ word_has_name name.now word.now }
-{
-    bits_named(name, word).is_some()
-}
-
 // Whether all bytes are `0` or `1`.
 fn are_bits(bytes: &[u8]) -> bool
     ensures { result ≡ list_all is_bit bytes.now }
@@ -48,51 +34,47 @@ fn are_bits(bytes: &[u8]) -> bool
 }
 
 // Whether there is an input of that name.
-fn is_input(names: &[Bytes], name: &[u8]) -> bool
-    ensures { result ≡ list_any (bytes_eq name.now) names.now }
+fn is_input(known: &BTreeSet<&[u8]>, name: &[u8]) -> bool
+    ensures { (names : List (List ℕ)) → AreNamesOf known.now names → result ≡ is_among name.now names }
 {
-    names.iter().any(|known| name == known.as_slice())
+    known.contains(name)
 }
 
-// The same, over the words as they are.
-fn has_one(words: &[String], name: &[u8]) -> bool
-    ensures { result ≡ list_any (λ word. word_has_name name.now (string_bytes word)) words.now }
+// Whether a word has given this name its bits.
+fn is_taken(given: &BTreeMap<&[u8], &[u8]>, name: &[u8]) -> bool
+    ensures { (before : List (List ℕ)) → AreBitsOf given.now before → result ≡ list_any (word_has_name name.now) before }
 {
-    words
-        .iter()
-        .any(|word| word_has_name(name, word.as_bytes()))
+    given.contains_key(name)
 }
 
-// Whether one of the words has that name.
-fn is_taken(words: &[String], name: &[u8]) -> bool
-    ensures { result ≡ list_any (word_has_name name.now) (map string_bytes words.now) }
-{
-    has_one(words, name)
-}
-
-/// What is at fault in a word that stands after these others, if anything is.
-pub fn fault_of_word(
-    names: &[Bytes],
+/// The name and the bits of a word that stands after those that gave their bits, or what is at fault in it.
+pub fn cut_sound<'a>(
+    known: &BTreeSet<&[u8]>,
+    given: &BTreeMap<&[u8], &[u8]>,
     cycles: usize,
-    before: &[String],
-    word: &[u8],
-) -> Option<StreamFaultKind>
-    ensures { result ≡ fault_of_word names.now cycles (map string_bytes before.now) word.now }
+    word: &'a [u8],
+) -> Result<(&'a [u8], &'a [u8]), StreamFaultKind>
+    ensures sound { IfOk result (λ parts. (names before : List (List ℕ)) → AreNamesOf known.now names → AreBitsOf given.now before → fault_of_word names cycles before word.now ≡ None) }
+    ensures untaken { IfOk result (λ parts. (before : List (List ℕ)) → AreBitsOf given.now before → list_any (word_has_name (name_in word.now)) before ≡ false) }
+    ensures is_cut { IfOk result (λ parts. list_any is_equals_sign word.now ≡ true) }
+    ensures name { IfOk result (λ parts. parts.0.now ≡ name_in word.now) }
+    ensures bits { IfOk result (λ parts. parts.1.now ≡ bits_in word.now) }
+    ensures fault { IfErr result (λ kind. (names before : List (List ℕ)) → AreNamesOf known.now names → AreBitsOf given.now before → fault_of_word names cycles before word.now ≡ Some kind) }
 {
     let Some((name, bits)) = cut(word) else {
-        return Some(StreamFaultKind::NoEquals);
+        return Err(StreamFaultKind::NoEquals);
     };
-    if !is_input(names, name) {
-        return Some(StreamFaultKind::UnknownInput);
+    if !is_input(known, name) {
+        return Err(StreamFaultKind::UnknownInput);
     }
-    if is_taken(before, name) {
-        return Some(StreamFaultKind::TwiceInput);
+    if is_taken(given, name) {
+        return Err(StreamFaultKind::TwiceInput);
     }
     if !are_bits(bits) {
-        return Some(StreamFaultKind::BadBit);
+        return Err(StreamFaultKind::BadBit);
     }
     if bits.len() != cycles {
-        return Some(StreamFaultKind::BadLength);
+        return Err(StreamFaultKind::BadLength);
     }
-    None
+    Ok((name, bits))
 }

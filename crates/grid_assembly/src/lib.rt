@@ -6,6 +6,3 @@ pub mod laws;
 mod rows;
 
 pub use rows::{cell, fill_row, pattern_of, size};
-
-#[cfg(test)]
-mod tests;

@@ -1,13 +1,13 @@
 -- Its latches have no clock, and it has no other.
-use Rattle.std.proofs.Common.{◌≡◌, refl, sym, ap, ◌∙◌, subst, ℕ, zero, suc, ◌<◌, inl, inr, List, [], ◌∷◌, Option, Some, None, slice_get}
+use Rattle.std.proofs.Common.{◌≡◌, refl, sym, ◌∙◌, subst, ℕ, zero, suc, inl, inr, [], ◌∷◌, Option, Some, None, slice_get}
 use Rattle.std.proofs.lemmas.Option.{none-some, same_Some}
 use Rattle.netlist_core.specs.declared.model.Design.{Design}
 use Rattle.netlist_core.specs.declared.model.LatchRow.{LatchRow}
 use Rattle.netlist_core.specs.Names.{Name}
 use Rattle.netlist_meaning.specs.Places.{Place, latch_at}
-use Rattle.netlist_meaning.specs.Nets.{Net, IsControl, IsLatchControl, IsMainClock, IsClockNet}
+use Rattle.netlist_meaning.specs.Nets.{Net, IsControl, IsLatchControl, IsClockNet}
 use Rattle.netlist_meaning.proofs.SingleModel.{IsFlat, latch_at-flat}
-use Rattle.netlist_rules.specs.Clocks.{HasNoClockFault, HasSameClock, HasSameControl, IsClockFault, PlacedLatch}
+use Rattle.netlist_rules.specs.Clocks.{HasNoClockFault, HasSameControl}
 use Rattle.netlist_rules.specs.Clocks.IsClockFault.{two_clocks, clock_read}
 use Rattle.lists.proofs.Members.{in_from}
 use Rattle.made_netlists.specs.Text.{latch_data}

@@ -1,14 +1,11 @@
 -- Each gate reads nets before its own, so no gates read each other in a circle.
-use Rattle.std.proofs.Common.{◌≡◌, ◌≢◌, refl, sym, ap, ◌∙◌, subst, ℕ, zero, suc, ◌+◌, ◌*◌, ◌<◌, ◌≤◌, ◌/◌, ◌⊎◌, inl, inr, List, [], ◌∷◌, map, arith, true≢false}
-use Rattle.std.specs.Prelude.{bytes_eq, Contains, ◌==◌}
+use Rattle.std.proofs.Common.{◌≡◌, ◌≢◌, refl, sym, ap, ◌∙◌, subst, ℕ, zero, suc, ◌+◌, ◌*◌, ◌<◌, ◌≤◌, ◌/◌, inl, inr, List, [], ◌∷◌, map, arith, true≢false}
 use Rattle.std.specs.List.{range_with_len}
 use Rattle.std.proofs.lemmas.Nat.{mod_below}
 use Rattle.std.proofs.lemmas.Slice.Eq.{bytes_eq-Decides}
 use Rattle.netlist_core.specs.declared.model.Cover.{Cover}
 use Rattle.netlist_core.specs.declared.model.Model.{Model}
-use Rattle.netlist_core.specs.declared.model.Design.{Design}
 use Rattle.netlist_core.specs.Names.{Name}
-use Rattle.netlist_meaning.specs.Places.{Place, model_at}
 use Rattle.netlist_meaning.specs.Nets.{Net, net_at}
 use Rattle.netlist_meaning.specs.Loop.{Feeds, FeedsThrough, IsCombinationalLoop}
 use Rattle.netlist_meaning.proofs.SingleModel.{model_at-flat, joined-flat}
@@ -17,7 +14,7 @@ use Rattle.made_netlists.specs.declared.gate.GateKind.{GateKind}
 use Rattle.made_netlists.specs.declared.gate.GateKind.TheVariants.{And, Or, Xor, Nand}
 use Rattle.made_netlists.specs.declared.gate.Gate.{Gate}
 use Rattle.made_netlists.specs.Draws.{draw_after, state_after}
-use Rattle.made_netlists.specs.Text.{drawn_gate, drawn_gates, net_name, net_of_gate}
+use Rattle.made_netlists.specs.Text.{drawn_gate, net_name, net_of_gate}
 use Rattle.made_netlists.specs.Design.{covers_from, gate_cover, line_after, made_design, made_model}
 use Rattle.made_netlists.proofs.Names.{names_apart}
 use Rattle.made_laws.proofs.Clocks.{is_flat}

@@ -1,22 +1,20 @@
 -- Names and sizes.
-use Rattle.std.proofs.Common.{◌≡◌, refl, sym, ap, ◌∙◌, subst, ℕ, suc, List, [], ◌∷◌, ◌++◌, length, map}
+use Rattle.std.proofs.Common.{◌≡◌, refl, ap, ◌∙◌, subst, ℕ, suc, List, [], ◌∷◌, length, map}
 use Rattle.std.specs.Fmt.{digits}
 use Rattle.std.proofs.lemmas.List.{length-map, append-nil}
 use Rattle.netlist_core.specs.declared.model.Design.{Design}
 use Rattle.netlist_core.specs.declared.model.Model.{Model}
 use Rattle.netlist_core.specs.declared.model.Port.{Port}
-use Rattle.netlist_core.specs.declared.flat.Flat.{Flat}
-use Rattle.netlist_core.specs.Names.{Name}
-use Rattle.netlist_meaning.specs.Places.{main_inputs, main_outputs, main_ports}
+use Rattle.netlist_meaning.specs.Places.{main_inputs, main_outputs}
 use Rattle.netlist_meaning.specs.Nets.{Net, IsControl, IsInNames}
-use Rattle.netlist_meaning.specs.FlatOf.{IsFlatOf, PortsWithoutControl, flat_port, flat_node, flat_latch}
+use Rattle.netlist_meaning.specs.FlatOf.{PortsWithoutControl, flat_port, flat_node}
 use Rattle.netlist_meaning.specs.FlatOf.PortsWithoutControl.{none, kept, left_out}
 use Rattle.netlist_meaning.proofs.SingleModel.{all_in_names}
 use Rattle.netlist_meaning.proofs.Joined.{in_names_are_one}
 use Rattle.made_netlists.specs.declared.gate.Gate.{Gate}
 use Rattle.made_netlists.specs.Text.{drawn_gates}
 use Rattle.made_netlists.specs.Design.{covers_from, line_after, made_design, made_model}
-use Rattle.made_laws.specs.Laws.{made_in_names, made_out_names, HasMadeNames, HasMadeSizes, MadeHaveNames, MadeHaveSizes}
+use Rattle.made_laws.specs.Laws.{made_in_names, made_out_names, MadeHaveNames, MadeHaveSizes}
 use Rattle.made_laws.proofs.Clocks.{no_control}
 use Rattle.made_laws.proofs.Weights.{how_many}
 

@@ -1,15 +1,15 @@
 -- What so many gates weigh.
-use Rattle.std.proofs.Common.{◌≡◌, refl, sym, ap, ◌∙◌, subst, ℕ, suc, ◌+◌, ◌*◌, ◌≤◌, List, [], ◌∷◌, length, arith, sum_by}
+use Rattle.std.proofs.Common.{◌≡◌, refl, sym, subst, ℕ, suc, ◌+◌, ◌*◌, ◌≤◌, List, [], ◌∷◌, length, arith, sum_by}
 use Rattle.std.proofs.lemmas.List.Sums.{sum_by-cons}
 use Rattle.std.proofs.lemmas.List.FromFn.{length-map-range_with_len}
-use Rattle.netlist_core.specs.OwnWeight.{cover_weight, own_weight}
+use Rattle.netlist_core.specs.OwnWeight.{cover_weight}
 use Rattle.netlist_meaning.specs.Weight.{weight}
 use Rattle.made_netlists.specs.declared.gate.GateKind.{GateKind}
 use Rattle.made_netlists.specs.declared.gate.GateKind.TheVariants.{And, Or, Xor, Nand}
 use Rattle.made_netlists.specs.declared.gate.Gate.{Gate}
 use Rattle.made_netlists.specs.Text.{drawn_gate, drawn_gates, net_name}
-use Rattle.made_netlists.specs.Design.{covers_from, gate_cover, line_after, made_design, made_model}
-use Rattle.made_laws.specs.Laws.{MadeAreLight}
+use Rattle.made_netlists.specs.Design.{covers_from, gate_cover, line_after, made_design}
+use Rattle.made_laws.specs.Laws.{MadeHaveWeights}
 
 gate_weight : (k : GateKind) (n : ℕ) (a b o : List ℕ) → cover_weight (gate_cover k n a b o) ≤ 7
 gate_weight And n a b o = let e : 4 ≤ 7 = omega arith in e
@@ -34,8 +34,8 @@ how_many seed size = length-map-range_with_len (drawn_gate seed) 0 size
 weight_is : (seed size : ℕ) → weight (made_design seed size) ≡ 11 + sum_by cover_weight (covers_from 6 (drawn_gates seed size)) + 0
 weight_is seed size = refl
 
-pub are_light : MadeAreLight
-are_light seed size =
+pub have_weights : MadeHaveWeights
+have_weights seed size =
     let sum : ℕ = sum_by cover_weight (covers_from 6 (drawn_gates seed size)) in
     let few : sum ≤ 7 * size = subst (λ n. sum ≤ 7 * n) (how_many seed size) (covers_weight 6 (drawn_gates seed size)) in
     let whole : 11 + sum + 0 ≤ 11 + 7 * size = omega (arith, few) in

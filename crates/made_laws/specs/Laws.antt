@@ -31,8 +31,8 @@ abbrev pub MadeAreNetlists : Type 0
 MadeAreNetlists = (seed size : ℕ) → 1 ≤ size → size ≤ 128 → IsNetlist (made_text seed size) (made_design seed size)
 
 -- Inputs, outputs and latches weigh 11, and a gate weighs at most 7.
-abbrev pub MadeAreLight : Type 0
-MadeAreLight = (seed size : ℕ) → weight (made_design seed size) ≤ 11 + 7 * size
+abbrev pub MadeHaveWeights : Type 0
+MadeHaveWeights = (seed size : ℕ) → weight (made_design seed size) ≤ 11 + 7 * size
 
 -- Its IN names are those, and no others.
 pub record HasMadeNames (seed size : ℕ) : Type 0 where

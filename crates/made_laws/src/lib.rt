@@ -1,7 +1,7 @@
 //! Laws of made netlists. The functions here do nothing; their clauses are laws.
 #![tactic(auto)]
 
-ghost use Rattle.made_laws.specs.Laws.{MadeAreNetlists, MadeAreLight, MadeHaveNames, MadeHaveSizes};
+ghost use Rattle.made_laws.specs.Laws.{MadeAreNetlists, MadeHaveWeights, MadeHaveNames, MadeHaveSizes};
 
 /// The text of every seed and of 1 to 128 gates is a netlist, which is its design.
 pub fn made_are_netlists()
@@ -9,8 +9,8 @@ pub fn made_are_netlists()
 {}
 
 /// The weight of so many gates.
-pub fn made_are_light()
-    ensures { MadeAreLight }
+pub fn made_have_weights()
+    ensures { MadeHaveWeights }
 {}
 
 /// The names of inputs and outputs.

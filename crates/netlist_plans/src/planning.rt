@@ -5,7 +5,7 @@ ghost use Rattle.netlist_meaning.specs.Flat.{IsSound, IsWeighed};
 ghost use Rattle.netlist_meaning.specs.FlatOrder.{IsOrder};
 ghost use Rattle.cover_mapper.specs.Needs.{any_needs_one};
 ghost use Rattle.plan_ports.specs.Tables.{IsTableOf};
-ghost use Rattle.netlist_plans.specs.Planned.{CarriesDesigns, IsSmall};
+ghost use Rattle.netlist_plans.specs.Planned.{CarriesDesigns, CarriesNetsOfDesigns, ComputesCells, HasLanes, IsSmall};
 
 use crate::{NetlistPlanError, texts_have_port_names};
 use cell_plans::plan_of;
@@ -13,11 +13,11 @@ use cover_mapper::map;
 use lane_core::Plan;
 use netlist_core::{Flat, Order};
 use pattern_reading::Ports;
-use plan_carries::{plans_have_ports, texts_carry};
+use plan_carries::{plans_have_ports, texts_carry, texts_carry_nets};
 use plan_ports::of_plan;
 use std::alloc::Global;
 
-/// A plan, and where its ports are.
+/// A plan, and where its ports and nets are.
 #[derive(Drop)]
 pub struct Planned {
     pub plan: Plan,
@@ -33,7 +33,10 @@ pub fn plan_netlist(alloc: Global, flat: &Flat, order: &Order) -> Result<Planned
     ensures admissible { IfOk result (λ p. IsAdmissible p.plan) }
     ensures table { IfOk result (λ p. IsTableOf flat.now p.plan p.ports) }
     ensures carries { IfOk result (λ p. CarriesDesigns flat.now p.plan p.ports) }
+    ensures nets { IfOk result (λ p. CarriesNetsOfDesigns flat.now p.plan p.ports) }
     ensures small { IfOk result (λ p. IsSmall flat.now p.plan) }
+    ensures cells { IfOk result (λ p. ComputesCells flat.now p.plan) }
+    ensures lanes { IfOk result (λ p. HasLanes flat.now p.plan) }
     ensures period { IfOk result (λ p. length flat.now.latches ≡ 0 → any_needs_one flat.now ≡ false → p.ports.p ≡ 32) }
 {
     let list = map(alloc, flat, order)?;
@@ -41,6 +44,7 @@ pub fn plan_netlist(alloc: Global, flat: &Flat, order: &Order) -> Result<Planned
     plans_have_ports();
     let ports = of_plan(alloc, flat, &plan)?;
     texts_carry();
+    texts_carry_nets();
     texts_have_port_names();
     Ok(Planned { plan, ports })
 }

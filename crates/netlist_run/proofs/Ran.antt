@@ -19,7 +19,7 @@ use Rattle.netlist_meaning.specs.Weight.{weight}
 use Rattle.flat_designs.proofs.Sound.{flat_is_sound}
 use Rattle.drive.proofs.Across.{columns_are, rows_long}
 use Rattle.drive.specs.declared.streams.Streams.{Streams}
-use Rattle.drive.specs.Driving.{column_of, stream_row, rows_of}
+use Rattle.drive.specs.Driving.{bits_across, stream_row, rows_of}
 use Rattle.netlist_text.specs.Parts.{AreParts}
 use Rattle.netlist_run.specs.Runs.{bits_in_run, ShowsRun}
 
@@ -128,14 +128,14 @@ rows_are_long design flat order streams cycles rows state p ran =
 
 -- all cycles
 pub all_run : (design : Design) (flat : Flat) (order : List ℕ) (streams : Streams) (rows shown : List (List Bool)) (state : List Bool) (n : ℕ) → AreParts design flat order
-    → Ran design streams streams.cycles rows state → n ≡ length flat.outs → shown ≡ map (column_of rows) (range_with_len 0 n) → ShowsRun design streams shown
+    → Ran design streams streams.cycles rows state → n ≡ length flat.outs → shown ≡ map (bits_across rows) (range_with_len 0 n) → ShowsRun design streams shown
 all_run design flat order streams rows shown state n p ran many columns = record { run = ran.run; is_run = is_run; bits = bits }
   where
     bits : shown ≡ map (bits_in_run ran.run streams.cycles) (main_outputs design)
     bits =
         let outs : n ≡ length (main_outputs design) = many ∙ sym (length-map flat.outs (λ port. name_of_net flat port.net)) ∙ ap (λ (names : List Name). length names) (ports_are_flat design flat p.faultless p.is_flat).outs in
         columns
-        ∙ ap₂ (λ (rs : List (List Bool)) (m : ℕ). map (column_of rs) (range_with_len 0 m)) ran.are_rows outs
+        ∙ ap₂ (λ (rs : List (List Bool)) (m : ℕ). map (bits_across rs) (range_with_len 0 m)) ran.are_rows outs
         ∙ columns_are (λ name t. ran.run t [] name) (main_outputs design) (range_with_len 0 streams.cycles)
 
     is_run : IsRun design (rows_of streams) ran.run

@@ -1,6 +1,6 @@
 // A netlist run cycle by cycle.
 ghost use Rattle.std.specs.Prelude.{◌≡◌, ◌<◌, ℕ, All, length, IfOk};
-ghost use Rattle.drive.specs.Driving.{column_of};
+ghost use Rattle.drive.specs.Driving.{bits_across};
 ghost use Rattle.netlist_run.specs.Runs.{ShowsRun};
 ghost use Rattle.netlist_text.specs.Parts.{AreParts};
 
@@ -15,7 +15,7 @@ use std::alloc::Global;
 fn put_column(lists: &[List<bool>], place: usize, row: &mut [bool])
     requires long { All (λ bits. place < length bits) lists.now }
     requires many { length row.old ≡ length lists.now }
-    ensures { row.new ≡ column_of lists.now place }
+    ensures { row.new ≡ bits_across lists.now place }
 {
     for (k, bits) in lists.iter().enumerate() {
         row[k] = *bits.get(place);

@@ -8,7 +8,7 @@ use Rattle.netlist_core.specs.declared.model.Design.{Design}
 use Rattle.netlist_core.specs.declared.flat.Flat.{Flat}
 use Rattle.netlist_core.specs.declared.flat.FlatPort.{FlatPort}
 use Rattle.netlist_core.specs.Names.{Name}
-use Rattle.netlist_meaning.specs.Nets.{IsInNames}
+use Rattle.netlist_meaning.specs.Nets.{Net, IsInNames}
 use Rattle.netlist_meaning.specs.Weight.{weight}
 use Rattle.netlist_meaning.specs.Flat.{class_of, names_of_ports, name_of_net}
 use Rattle.netlist_meaning.specs.FlatOf.{IsFlatOf}
@@ -17,7 +17,7 @@ use Rattle.netlist_meaning.specs.Valuation.{Valuation, LatchState, IsValuation, 
 use Rattle.netlist_meaning.proofs.Joined.{in_names_are_one}
 use Rattle.netlist_rules.specs.ModelFaults.{AreFaultless}
 use Rattle.netlist_rules.specs.Clocks.{HasNoClockFault}
-use Rattle.flat_designs.specs.Laws.{state_in_order, class_bits, net_bits, HasValuations}
+use Rattle.flat_designs.specs.Laws.{state_in_order, bit_of_net, class_bits, net_bits, HasValuations}
 use Rattle.flat_designs.proofs.Valuations.{valuations_are_flat, state_length}
 use Rattle.flat_designs.proofs.Whole.{ports_are_flat, designs_have_one_valuation}
 use Rattle.cell_core.specs.declared.list.CellList.{CellList}
@@ -25,9 +25,10 @@ use Rattle.cell_core.specs.Meaning.{bit_of}
 use Rattle.cover_mapper.specs.Mapped.{HasBits}
 use Rattle.plan_carries.specs.Compiled.{ComputesFlat}
 use Rattle.plan_carries.proofs.Alike.{outputs_alike, latches_alike}
+use Rattle.plan_carries.proofs.SeenNets.{seen_nets, seen_have_bits}
 
--- the list computes the design: its state is that of the latches in order
-pub record ComputesDesign (list : CellList) (design : Design) : Type 0 where
+-- the list computes the design, with the bits of these nets: its state is that of the latches in order
+pub record ComputesDesign (list : CellList) (design : Design) (nets : List Net) : Type 0 where
   pub inputs : (names : List Name) → IsInNames design names → length names ≡ list.inputs
   pub starts : list.starts ≡ state_in_order design (start_state design)
   pub state : (state : LatchState) → length (state_in_order design state) ≡ length list.starts
@@ -35,12 +36,14 @@ pub record ComputesDesign (list : CellList) (design : Design) : Type 0 where
       → map (bit_of list inputs (state_in_order design state)) list.outs ≡ output_bits design bits
   pub latch_data : (inputs : List Bool) (state : LatchState) (bits : Valuation) → IsValuation design inputs state bits
       → map (bit_of list inputs (state_in_order design state)) list.latches ≡ state_in_order design (latches_after design bits)
+  pub net_bits : (inputs : List Bool) (state : LatchState) (bits : Valuation) → IsValuation design inputs state bits
+      → map (bit_of list inputs (state_in_order design state)) list.nets ≡ map (bit_of_net bits) nets
 
 module _ (design : Design) (flat : Flat) (faultless : AreFaultless design.models) (clean : HasNoClockFault design) (h : IsFlatOf design flat) where
   have : HasValuations design flat
   have = valuations_are_flat design flat faultless clean h
 
-  pub computes_design : (list : CellList) → ComputesFlat flat list → ComputesDesign list design
+  pub computes_design : (list : CellList) → ComputesFlat flat list → ComputesDesign list design (seen_nets design flat)
   computes_design list c = record {
     inputs = λ names are.
         ap length (in_names_are_one design names (names_of_ports flat flat.ins) are (ports_are_flat design flat faultless h).ins)
@@ -58,6 +61,7 @@ module _ (design : Design) (flat : Flat) (faultless : AreFaultless design.models
         (has inputs state bits v).latches
         ∙ have.next own
         ∙ latches_alike design faultless clean (net_bits design flat own) bits (have.same_bits inputs state bits v);
+    net_bits = λ inputs state bits v. (has inputs state bits v).nets ∙ seen_have_bits design flat faultless clean h inputs state bits v;
   }
     where
       has : (inputs : List Bool) (state : LatchState) (bits : Valuation) → IsValuation design inputs state bits → HasBits flat list inputs (state_in_order design state) (class_bits design bits)

@@ -1,4 +1,6 @@
 mod Alike
+mod SeenNets
 mod Designs
 mod Carried
+mod NetsCarried
 mod Written

@@ -11,6 +11,7 @@ use Rattle.netlist_core.specs.declared.flat.Flat.{Flat}
 use Rattle.pattern_reading.specs.declared.ports.Ports.{Ports}
 use Rattle.written_reads.specs.Laws.{pattern_text}
 use Rattle.carries.specs.Carries.{Carries, ShowsRuns}
+use Rattle.carries.specs.Nets.{CarriesNets}
 use Rattle.cell_lanes.specs.Computes.{ComputesByPlan}
 use Rattle.plan_ports.specs.Tables.{HasPortsOf}
 use Rattle.plan_carries.specs.Compiled.{ComputesFlat, IsCompiled}
@@ -30,3 +31,9 @@ abbrev pub TextsCarry : Type 0
 TextsCarry =
     (design : Design) (flat : Flat) (list : CellList) (plan : Plan) (ports : Ports)
     → IsCompiled design flat list plan ports → Carries (pattern_text (start_grid plan) ports) design
+
+-- and its nets
+abbrev pub TextsCarryNets : Type 0
+TextsCarryNets =
+    (design : Design) (flat : Flat) (list : CellList) (plan : Plan) (ports : Ports)
+    → IsCompiled design flat list plan ports → CarriesNets (pattern_text (start_grid plan) ports) design

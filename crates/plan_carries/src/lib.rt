@@ -2,7 +2,7 @@
 //! design. The functions here do nothing; their clauses are the laws.
 #![tactic(auto)]
 
-ghost use Rattle.plan_carries.specs.Laws.{PlansHavePorts, PlanesShowRuns, TextsCarry};
+ghost use Rattle.plan_carries.specs.Laws.{PlansHavePorts, PlanesShowRuns, TextsCarry, TextsCarryNets};
 
 use grid_assembly::laws::{keeps_law, patterns_are_planes};
 use plan_ports::tables_are_readable;
@@ -22,6 +22,17 @@ pub fn planes_show_runs()
 /// The text that is written of the plan and its table carries the design.
 pub fn texts_carry()
     ensures { TextsCarry }
+{
+    keeps_law(&Shipped);
+    patterns_are_planes();
+    written_text_reads();
+    tables_are_readable();
+    planes_show_runs();
+}
+
+/// And its nets.
+pub fn texts_carry_nets()
+    ensures { TextsCarryNets }
 {
     keeps_law(&Shipped);
     patterns_are_planes();

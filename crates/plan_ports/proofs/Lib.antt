@@ -1,2 +1,4 @@
 pub mod Gathered
+pub mod GatheredNets
 pub mod Readable
+pub mod NetLines

@@ -19,6 +19,7 @@ use Rattle.pattern_reading.specs.Spelling.{IsPortName}
 use Rattle.pattern_reading.specs.SoundTable.{IsSoundPort, IsSoundNet}
 use Rattle.pattern_reading.specs.Laws.{IsPortInside, IsNetInside}
 use Rattle.plan_ports.specs.Tables.{HasPortNames}
+use Rattle.plan_ports.proofs.NetLines.{nets_sound, nets_inside, nets_plain, one_net}
 use Rattle.plan_ports.specs.Laws.{TablesAreReadable}
 
 -- lines have what their cells and their names give
@@ -109,26 +110,26 @@ module _ (flat : Flat) (plan : Plan) (h : IsAdmissible plan) (names : HasPortNam
   lines_plain = each (λ line. All (λ b. b ≢ 13) line.name) (λ line at name k d lt. (name.1 k d lt).1)
 
 pub tables_are_readable : TablesAreReadable
-tables_are_readable flat plan ports range named names h t = record {
+tables_are_readable flat plan ports range named names places h t = record {
   sound = record {
     period = λ e. (period_fits plan h).0 (sym t.period ∙ e);
     p = subst (λ n. n ≤ greatest_number) (sym t.period) (period_fits plan h).1;
     l = subst (λ n. n ≤ greatest_number) (sym t.latency) (omega (arith, h.size.columns));
     ins = lines_sound flat plan h names flat.ins range.ins ports.ins 0 plan.ins h.ins (omega arith) t.in_cells t.in_names;
     outs = lines_sound flat plan h names flat.outs range.outs ports.outs (length plan.columns) plan.outs h.outs (omega arith) t.out_cells t.out_names;
-    nets = subst (AllByRecursion IsSoundNet) (sym t.nets) tt;
+    nets = nets_sound flat plan h names places ports.nets t.net_cells t.net_names (small plan h).0 (small plan h).1;
     one_input = distinct ports.ins (subst (AllPairs (λ a b. a ≢ b)) (sym t.in_names) named.ins.distinct);
     one_output = distinct ports.outs (subst (AllPairs (λ a b. a ≢ b)) (sym t.out_names) named.outs.distinct);
-    one_net = subst (AllPairs (λ (a b : NetLine). a.name ≡ b.name → a.path ≢ b.path)) (sym t.nets) (λ i j d before within. absurd (omega (arith, within)));
+    one_net = one_net flat plan h names places ports.nets t.net_cells t.net_names;
   };
   inside = record {
     ins = lines_inside flat plan h names flat.ins range.ins ports.ins 0 plan.ins h.ins (omega arith) t.in_cells t.in_names;
     outs = lines_inside flat plan h names flat.outs range.outs ports.outs (length plan.columns) plan.outs h.outs (omega arith) t.out_cells t.out_names;
-    nets = subst (AllByRecursion (IsNetInside (size_of plan).0 (size_of plan).1)) (sym t.nets) tt;
+    nets = nets_inside flat plan h names places ports.nets t.net_cells t.net_names;
   };
   no_returns = record {
     ins = lines_plain flat plan h names flat.ins range.ins ports.ins 0 plan.ins h.ins (omega arith) t.in_cells t.in_names;
     outs = lines_plain flat plan h names flat.outs range.outs ports.outs (length plan.columns) plan.outs h.outs (omega arith) t.out_cells t.out_names;
-    nets = subst (AllByRecursion (λ (net : NetLine). All (λ b. b ≢ 13) net.name)) (sym t.nets) tt;
+    nets = nets_plain flat plan h names places ports.nets t.net_cells t.net_names;
   };
 }

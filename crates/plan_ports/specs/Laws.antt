@@ -7,7 +7,7 @@ use Rattle.netlist_meaning.specs.Flat.{IsInRange, IsNamed}
 use Rattle.pattern_reading.specs.declared.ports.Ports.{Ports}
 use Rattle.pattern_reading.specs.SoundTable.{IsSoundTable, HasNoReturns}
 use Rattle.pattern_reading.specs.Laws.{HasCellsInside}
-use Rattle.plan_ports.specs.Tables.{IsTableOf, HasPortNames}
+use Rattle.plan_ports.specs.Tables.{IsTableOf, HasPortNames, HasTablePlaces}
 
 -- what the law that a written text reads back asks of a table beside a pattern of this size
 pub record IsReadable (width height : ℕ) (ports : Ports) : Type 0 where
@@ -15,8 +15,9 @@ pub record IsReadable (width height : ℕ) (ports : Ports) : Type 0 where
   pub inside : HasCellsInside width height ports
   pub no_returns : HasNoReturns ports
 
--- it holds of the table of every admissible plan, where ports have distinct names that can stand in a table
+-- it holds of the table of every admissible plan, where ports have distinct names, nets distinct names at each place, and all names
+-- and places can stand in a table
 abbrev pub TablesAreReadable : Type 0
 TablesAreReadable =
-    (flat : Flat) (plan : Plan) (ports : Ports) → IsInRange flat → IsNamed flat → HasPortNames flat → IsAdmissible plan → IsTableOf flat plan ports
+    (flat : Flat) (plan : Plan) (ports : Ports) → IsInRange flat → IsNamed flat → HasPortNames flat → HasTablePlaces flat → IsAdmissible plan → IsTableOf flat plan ports
     → IsReadable (size_of plan).0 (size_of plan).1 ports

@@ -1,20 +1,33 @@
 -- The port table of a plan that was made of a flat netlist.
-use Rattle.std.specs.Prelude.{◌≡◌, [], length, All}
+use Rattle.std.specs.Prelude.{ℕ, ◌≡◌, ◌≢◌, List, length, map, All, AllPairs}
 use Rattle.lane_core.specs.declared.plan.Plan.{Plan}
-use Rattle.lane_core.specs.Plans.{period_of, latency_of, input_cells, output_cells}
+use Rattle.lane_core.specs.Plans.{period_of, latency_of, input_cells, output_cells, net_cells}
 use Rattle.netlist_core.specs.declared.flat.Net.{Net as FlatNet}
 use Rattle.netlist_core.specs.declared.flat.Flat.{Flat}
-use Rattle.netlist_meaning.specs.Flat.{names_of_ports}
+use Rattle.netlist_core.specs.Names.{Name}
+use Rattle.netlist_meaning.specs.Flat.{names_of_ports, nets_but_clocks}
+use Rattle.pattern_reading.specs.declared.ports.NetLine.{NetLine}
 use Rattle.pattern_reading.specs.declared.ports.Ports.{Ports}
 use Rattle.pattern_reading.specs.Ports.{cells_of, names_of}
 use Rattle.pattern_reading.specs.Spelling.{IsPortName}
+use Rattle.place_paths.specs.Paths.{name_and_path, names_and_paths, HasTableNumbers}
 
--- the plan has an input and an output for each of the netlist's
+-- the plan has an input and an output for each of the netlist's, and a net for each but the clock nets
 pub record HasPortsOf (flat : Flat) (plan : Plan) : Type 0 where
   pub ins : length plan.ins ≡ length flat.ins
   pub outs : length plan.outs ≡ length flat.outs
+  pub nets : length plan.nets ≡ length (nets_but_clocks flat)
 
--- the period, the latency and the cells of ports are the plan's, and their names the netlist's
+-- the cells of nets, each with its offset
+abbrev pub net_cells_of : List NetLine → List (ℕ × ℕ × ℕ)
+net_cells_of lines = map (λ line. (line.x, line.y, line.offset)) lines
+
+-- the names of nets, each with the path of its place
+abbrev pub named_paths : List FlatNet → List (Name × List ℕ)
+named_paths nets = map (λ net. name_and_path net.place net.name) nets
+
+-- The period, the latency, the cells of ports, and the cells and the offsets of nets are the plan's. The names of ports, and the
+-- names and places of nets, are the netlist's, in order: the nets are those that are no clock nets.
 pub record IsTableOf (flat : Flat) (plan : Plan) (ports : Ports) : Type 0 where
   pub period : ports.p ≡ period_of plan
   pub latency : ports.l ≡ latency_of plan
@@ -22,8 +35,14 @@ pub record IsTableOf (flat : Flat) (plan : Plan) (ports : Ports) : Type 0 where
   pub in_names : names_of ports.ins ≡ names_of_ports flat flat.ins
   pub out_cells : cells_of ports.outs ≡ output_cells plan
   pub out_names : names_of ports.outs ≡ names_of_ports flat flat.outs
-  pub nets : ports.nets ≡ []
+  pub net_cells : net_cells_of ports.nets ≡ net_cells plan
+  pub net_names : names_and_paths ports.nets ≡ named_paths (nets_but_clocks flat)
 
 -- the names of all nets can stand in a port table
 abbrev pub HasPortNames : Flat → Type 0
 HasPortNames flat = All (λ (net : FlatNet). IsPortName net.name) flat.nets
+
+-- so can their places, and no two nets of one name are at one place
+pub record HasTablePlaces (flat : Flat) : Type 0 where
+  pub numbers : All (λ (net : FlatNet). HasTableNumbers net.place) flat.nets
+  pub apart : AllPairs (λ (a b : FlatNet). a.name ≡ b.name → a.place ≢ b.place) flat.nets

@@ -2,6 +2,7 @@
 #![tactic(auto)]
 
 mod error;
+mod nets;
 mod table;
 
 ghost use Rattle.plan_ports.specs.Laws.{TablesAreReadable};

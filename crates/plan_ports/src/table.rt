@@ -6,6 +6,7 @@ ghost use Rattle.pattern_reading.specs.Ports.{cells_of, names_of};
 ghost use Rattle.plan_ports.specs.Tables.{HasPortsOf, IsTableOf};
 
 use crate::PortsError;
+use crate::nets::net_lines;
 use lane_core::{Plan, in_cell, latency, out_cell, period};
 use lists::{Bytes, List};
 use netlist_core::{Flat, FlatPort};
@@ -60,7 +61,7 @@ fn output_lines(alloc: Global, flat: &Flat, plan: &Plan) -> Result<Vec<PortLine>
     Ok(lines)
 }
 
-/// The port table of a plan that has an input and an output for each of the netlist's.
+/// The port table of a plan that has an input and an output for each of the netlist's, and a net for each but the clock nets.
 pub fn of_plan(alloc: Global, flat: &Flat, plan: &Plan) -> Result<Ports, PortsError>
     requires in_range { IsInRange flat.now }
     requires admissible { IsAdmissible plan.now }
@@ -69,11 +70,12 @@ pub fn of_plan(alloc: Global, flat: &Flat, plan: &Plan) -> Result<Ports, PortsEr
 {
     let ins = input_lines(alloc, flat, plan)?;
     let outs = output_lines(alloc, flat, plan)?;
+    let nets = net_lines(alloc, flat, plan)?;
     Ok(Ports {
         p: period(plan),
         l: latency(plan),
         ins: List::of(ins),
         outs: List::of(outs),
-        nets: List::of(Vec::new(alloc)),
+        nets: List::of(nets),
     })
 }

@@ -1,14 +1,14 @@
 use Rattle.std.proofs.Common.{◌++◌, ◌∷◌, [], ap, sym, ◌∙◌, map, arith, List, Bool}
 use Rattle.std.specs.List.{range_with_len}
 use Rattle.std.proofs.lemmas.List.FromFn.{map-range_with_len_more}
-use Rattle.drive.specs.Driving.{column_of}
+use Rattle.drive.specs.Driving.{bits_across}
 use Rattle.drive.proofs.columns.columns_of.Goals as goal
 
 pub loop-place-preserved : goal.loop-place-preserved
 loop-place-preserved c =
     let place = c.loop-place.place in
-    let column = column_of c.args.lists.now in
+    let column = bits_across c.args.lists.now in
     c.in_ok-push.ensures.items
     ∙ ap (λ (columns : List (List Bool)). columns ++ c.of.result ∷ []) c.loop-place.invariant
-    ∙ ap (λ (last : List Bool). map column (range_with_len 0 place) ++ last ∷ []) (c.of.ensures ∙ c.in_ok-column_of.ensures)
+    ∙ ap (λ (last : List Bool). map column (range_with_len 0 place) ++ last ∷ []) (c.of.ensures ∙ c.in_ok-bits_across.ensures)
     ∙ sym (map-range_with_len_more column 0 place place (omega arith))

@@ -3,7 +3,7 @@ use Rattle.std.proofs.Common.{◌≡◌, ◌+◌, ◌*◌, ap, sym, subst, ◌�
 use Rattle.std.specs.List.{range_with_len}
 use Rattle.ww_rule.specs.Grid.{plane_of}
 use Rattle.pattern_reading.specs.declared.ports.PortLine.{PortLine}
-use Rattle.drive.specs.Driving.{column_of, driven_by}
+use Rattle.drive.specs.Driving.{bits_across, driven_by}
 use Rattle.drive.proofs.Across.{columns_are, rows_long}
 use Rattle.drive.proofs.simulation.simulate.Goals as goal
 
@@ -23,6 +23,6 @@ returns-clause-bits c =
     let start = plane_of c.args.pattern.rows in
     let bit = λ (out : PortLine) (t : ℕ). is_head (driven_by ports streams start (ports.l + t * ports.p) (pos out.x) (pos out.y)) in
     c.in_ok-columns_of.ensures
-    ∙ ap (λ (n : ℕ). map (column_of c.deref.result.now) (range_with_len 0 n)) c.len-outputs.ensures
-    ∙ ap (λ (rows : List (List Bool)). map (column_of rows) (range_with_len 0 (length ports.outs))) (c.deref.ensures.value ∙ c.in_ok-rows.ensures)
+    ∙ ap (λ (n : ℕ). map (bits_across c.deref.result.now) (range_with_len 0 n)) c.len-outputs.ensures
+    ∙ ap (λ (rows : List (List Bool)). map (bits_across rows) (range_with_len 0 (length ports.outs))) (c.deref.ensures.value ∙ c.in_ok-rows.ensures)
     ∙ columns_are bit ports.outs (range_with_len 0 streams.cycles)

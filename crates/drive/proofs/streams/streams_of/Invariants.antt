@@ -1,10 +1,11 @@
-use Rattle.std.proofs.Common.{◌≡◌, map, take, drop, string_bytes}
+use Rattle.std.proofs.Common.{◌≡◌, take, drop, List, ℕ}
 use Rattle.drive.specs.Streams.{streams_of, missing_names}
+use Rattle.drive.specs.GivenBits.{AreBitsOf}
 use Rattle.drive.proofs.streams.streams_of.Given as goal
 
 abbrev pub invariant-loop-name : goal.invariant-loop-name
 invariant-loop-name l =
     record {
-      streams : l.streams.items ≡ streams_of (map string_bytes l.words) (take l.name-index l.names);
-      missing : missing_names (map string_bytes l.words) (drop l.name-index l.names) ≡ missing_names (map string_bytes l.words) l.names;
+      streams : (words : List (List ℕ)) → AreBitsOf l.given words → l.streams.items ≡ streams_of words (take l.name-index l.names);
+      missing : (words : List (List ℕ)) → AreBitsOf l.given words → missing_names words (drop l.name-index l.names) ≡ missing_names words l.names;
     }

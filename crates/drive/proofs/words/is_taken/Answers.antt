@@ -1,9 +1,15 @@
-use Rattle.std.proofs.Common.{refl, sym, ◌∙◌, string_bytes}
-use Rattle.pattern_reading.proofs.Later.{any_mapped}
-use Rattle.drive.specs.Words.{word_has_name}
+use Rattle.std.proofs.Common.{ap, ◌∙◌}
+use Rattle.std.specs.BTreeMap.{get_by}
+use Rattle.std.specs.Cmp.Lexicographic.{slice_cmp}
+use Rattle.std.specs.Option.{is_some}
+use Rattle.std.specs.Ordering.{nat_cmp}
+use Rattle.drive.proofs.Found.{any_bits}
+use Rattle.drive.proofs.GivenWords.{is_given}
 use Rattle.drive.proofs.words.is_taken.Goals as goal
 
 pub returns : goal.returns
-returns c =
-    c.has_one.ensures
-    ∙ sym (any_mapped string_bytes (word_has_name c.args.name.now) (λ word. word_has_name c.args.name.now (string_bytes word)) (λ x. refl) c.args.words.now)
+returns c = λ before are.
+    c.contains_key.ensures
+    ∙ is_given (get_by (λ k. slice_cmp nat_cmp c.args.name.now k.now) c.args.given.now)
+    ∙ ap is_some (are c.args.name.now)
+    ∙ any_bits before c.args.name.now

@@ -1,25 +1,31 @@
-use Rattle.std.proofs.Common.{subst, ◌<◌}
-use Rattle.std.specs.Prelude.{◌^◌}
-use Rattle.netlist_plans.proofs.Bounds.{is_small}
+use Rattle.netlist_plans.proofs.Bounds.{is_small, computes_cells}
+use Rattle.netlist_plans.proofs.Compiled.{are_compiled}
+use Rattle.netlist_plans.proofs.Lanes.{has_lanes}
 use Rattle.netlist_plans.proofs.planning.plan_netlist.Goals as goal
 
 pub returns-clause-carries : goal.returns-clause-carries
 returns-clause-carries c text design of_text clean h =
-    c.texts_carry.ensures design c.args.flat.now c.in_ok-list.list c.in_ok-plan.plan c.in_ok-ports.ports (record {
-      faultless = of_text.faultless;
-      no_clock_fault = clean;
-      small = subst (λ n. n < 2 ^ 31) h.weight c.requires.weighed.few;
-      is_flat = h;
-      order = c.args.order.now.nodes;
-      ordered = c.requires.ordered;
-      names = c.texts_have_port_names.ensures text design c.args.flat.now of_text h;
-      list_computes = record { mapped = c.in_ok-list.ensures.mapped; bits = c.in_ok-list.ensures.bits };
-      admissible = c.in_ok-plan.ensures.admissible;
-      plan_computes = c.in_ok-plan.ensures.computes;
-      table = c.in_ok-ports.ensures;
-    })
+    c.texts_carry.ensures design c.args.flat.now c.in_ok-list.list c.in_ok-plan.plan c.in_ok-ports.ports
+    (are_compiled c.args.flat.now c.args.order.now.nodes c.in_ok-list.list c.in_ok-plan.plan c.in_ok-ports.ports c.requires.weighed c.requires.ordered
+    (record { mapped = c.in_ok-list.ensures.mapped; bits = c.in_ok-list.ensures.bits }) c.in_ok-plan.ensures.admissible c.in_ok-plan.ensures.computes
+    c.in_ok-ports.ensures c.texts_have_port_names.ensures text design of_text clean h)
+
+pub returns-clause-nets : goal.returns-clause-nets
+returns-clause-nets c text design of_text clean h =
+    c.texts_carry_nets.ensures design c.args.flat.now c.in_ok-list.list c.in_ok-plan.plan c.in_ok-ports.ports
+    (are_compiled c.args.flat.now c.args.order.now.nodes c.in_ok-list.list c.in_ok-plan.plan c.in_ok-ports.ports c.requires.weighed c.requires.ordered
+    (record { mapped = c.in_ok-list.ensures.mapped; bits = c.in_ok-list.ensures.bits }) c.in_ok-plan.ensures.admissible c.in_ok-plan.ensures.computes
+    c.in_ok-ports.ensures c.texts_have_port_names.ensures text design of_text clean h)
 
 pub returns-clause-small : goal.returns-clause-small
 returns-clause-small c =
     is_small c.args.flat.now c.in_ok-list.list c.in_ok-list.ensures.mapped c.requires.weighed c.in_ok-plan.plan c.in_ok-plan.ensures.admissible c.in_ok-plan.ensures.computes
-    c.in_ok-plan.ensures.lanes c.in_ok-plan.ensures.columns
+    c.in_ok-plan.ensures.lanes c.in_ok-plan.ensures.columns c.in_ok-plan.ensures.instrs
+
+pub returns-clause-cells : goal.returns-clause-cells
+returns-clause-cells c =
+    computes_cells c.args.flat.now c.in_ok-list.list c.in_ok-list.ensures.mapped c.requires.weighed c.in_ok-plan.plan c.in_ok-plan.ensures.admissible c.in_ok-plan.ensures.computes
+
+pub returns-clause-lanes : goal.returns-clause-lanes
+returns-clause-lanes c =
+    has_lanes c.args.flat.now c.in_ok-list.list c.in_ok-list.ensures.mapped c.in_ok-plan.plan c.in_ok-plan.ensures.admissible c.in_ok-plan.ensures.computes c.requires.sound c.requires.weighed c.in_ok-plan.ensures.empty

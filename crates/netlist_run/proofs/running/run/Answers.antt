@@ -3,7 +3,7 @@ use Rattle.std.specs.Prelude.{All}
 use Rattle.std.specs.List.{range_with_len}
 use Rattle.netlist_core.specs.declared.flat.Flat.{Flat}
 use Rattle.netlist_meaning.specs.FlatValuation.{IsCycle}
-use Rattle.drive.specs.Driving.{column_of, stream_row}
+use Rattle.drive.specs.Driving.{bits_across, stream_row}
 use Rattle.netlist_run.proofs.Ran.{Ran, one_more, none_yet, all_run, rows_are_long, parts_sound}
 use Rattle.netlist_run.proofs.running.run.Goals as goal
 
@@ -30,7 +30,7 @@ loop-cycle-preserved c =
     let kept = c.loop-cycle.invariant in
     let inputs = c.put_column.new.row in
     let outputs = c.cycle.new.outputs in
-    let is_row : inputs ≡ stream_row streams n = c.put_column.ensures ∙ ap (λ (lists : List (List Bool)). column_of lists n) c.as_slice.ensures in
+    let is_row : inputs ≡ stream_row streams n = c.put_column.ensures ∙ ap (λ (lists : List (List Bool)). bits_across lists n) c.as_slice.ensures in
     let cycle : IsCycle flat inputs c.loop-cycle.machine.state outputs c.cycle.new.self.state =
     subst (λ (f : Flat). IsCycle f inputs c.loop-cycle.machine.state outputs c.cycle.new.self.state) kept.0 c.cycle.ensures.cycle in
     let more : c.push.new.self.items ≡ rows ++ outputs ∷ [] = search rules in
@@ -59,6 +59,6 @@ returns c =
     let all : c.loop-cycle.cycle ≡ streams.cycles = search rules in
     let ran : Ran design streams streams.cycles rows state = subst (λ (n : ℕ). Ran design streams n rows state) all c.loop-cycle.invariant.3 in
     let count : c.len-3.result ≡ length flat.outs = search rules in
-    let columns : c.in_ok-columns_of.field-0 ≡ map (column_of rows) (range_with_len 0 c.len-3.result) =
-    c.in_ok-columns_of.ensures ∙ ap (λ (rs : List (List Bool)). map (column_of rs) (range_with_len 0 c.len-3.result)) c.deref.ensures.value in
+    let columns : c.in_ok-columns_of.field-0 ≡ map (bits_across rows) (range_with_len 0 c.len-3.result) =
+    c.in_ok-columns_of.ensures ∙ ap (λ (rs : List (List Bool)). map (bits_across rs) (range_with_len 0 c.len-3.result)) c.deref.ensures.value in
     all_run design flat _ streams rows c.in_ok-columns_of.field-0 state c.len-3.result c.requires.parts ran count columns

@@ -2,7 +2,7 @@ use Rattle.std.proofs.Common.{◌≤◌, ◌<◌, refl, sym, subst, false, arith
 use Rattle.std.proofs.lemmas.List.{length-replicate, get_or-replicate}
 use Rattle.ww_rule.specs.declared.pattern.Injection.{Injection}
 use Rattle.band_core.specs.Bands.{BandedPattern, bands_in}
-use Rattle.drive.specs.Runs.{IsRun}
+use Rattle.drive.specs.Runs.{IsBandRun}
 use Rattle.drive.proofs.run.Run.begin.Goals as goal
 
 pub returns-clause-run : goal.returns-clause-run
@@ -12,7 +12,7 @@ returns-clause-run c =
     let last = c.last_generation-last_injection.result in
     let many = bands_in (length pattern.rows) 16 in
     let begun = c.in_ok-bands.ensures in
-    subst (λ (bands : BandedPattern). IsRun (record { bands = bands; width = pattern.width; rows = c.len-rows.result; last_injection = last; generation = 0; is_still = false })) (sym begun)
+    subst (λ (bands : BandedPattern). IsBandRun (record { bands = bands; width = pattern.width; rows = c.len-rows.result; last_injection = last; generation = 0; is_still = false })) (sym begun)
     (record {
       whole = record {
         grid = pattern.in_rows;

@@ -2,17 +2,16 @@ use Rattle.std.proofs.Common.{refl, sym, ◌∙◌, arith}
 use Rattle.drive.proofs.run.Run.go_on.Goals as goal
 
 pub loop-self-init : goal.loop-self-init
-loop-self-init c = record { run = c.requires.run; same = record { grid = refl; injections = refl }; order = c.requires.order }
+loop-self-init c = record { run = c.requires.run; planes = refl; order = c.requires.order }
 
 pub loop-self-preserved : goal.loop-self-preserved
 loop-self-preserved c =
-    let before = c.loop-self.invariant.same in
     let next = c.next.ensures in
     let comes = next.comes in
     let further = c.loop-self-test.true in
     record {
       run = next.run;
-      same = record { grid = next.same.grid ∙ before.grid; injections = next.same.injections ∙ before.injections };
+      planes = next.planes ∙ c.loop-self.invariant.planes;
       order = omega (arith, comes, further);
     }
 

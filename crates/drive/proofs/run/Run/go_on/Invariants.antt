@@ -1,12 +1,12 @@
-use Rattle.std.proofs.Common.{◌≤◌, ◌-◌}
-use Rattle.drive.specs.Runs.{IsRun, IsSameRun}
+use Rattle.std.proofs.Common.{◌≡◌, ◌≤◌, ◌-◌}
+use Rattle.drive.specs.Runs.{IsBandRun, planes_of}
 use Rattle.drive.proofs.run.Run.go_on.Given as goal
 
 abbrev pub invariant-loop-self : goal.invariant-loop-self
 invariant-loop-self l =
     record {
-      run : IsRun l.self;
-      same : IsSameRun l.fn.self l.self;
+      run : IsBandRun l.self;
+      planes : planes_of l.self ≡ planes_of l.fn.self;
       order : l.self.generation ≤ l.generation;
     }
 

@@ -9,6 +9,11 @@ use Rattle.drive.proofs.Still.{stays_still}
 use Rattle.drive.proofs.Sweeps.{whole_too}
 use Rattle.drive.proofs.run.Run.next.Goals as goal
 
+pub returns-clause-planes : goal.returns-clause-planes
+returns-clause-planes c =
+    let same = c.move_all-is_asleep.ensures.same in
+    ap₂ (λ (grid : Grid) (injections : List Injection). driven (due_of_list injections) (plane_of grid.rows)) same.grid same.injections
+
 pub returns-clause-run : goal.returns-clause-run
 returns-clause-run c =
     let run = c.args.self.now in

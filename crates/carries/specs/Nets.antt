@@ -1,0 +1,44 @@
+-- What it means that a text carries the nets of a design: each can be seen in the pattern at a cell that the port table names.
+use Rattle.std.specs.Prelude.{ℕ, ◌+◌, ◌*◌, ◌<◌, ◌≡◌, List, [], ◌∷◌, length, map, Bool, Some, slice_get}
+use Rattle.ww_rule.specs.Wireworld.{Plane, driven}
+use Rattle.ww_rule.specs.Grid.{plane_of}
+use Rattle.pattern_reading.specs.declared.ports.Ports.{Ports}
+use Rattle.pattern_reading.specs.declared.ports.NetLine.{NetLine}
+use Rattle.place_paths.specs.Paths.{name_and_path, names_and_paths}
+use Rattle.netlist_core.specs.declared.model.Design.{Design}
+use Rattle.netlist_meaning.specs.Nets.{Net, IsClockNet}
+use Rattle.netlist_meaning.specs.InOrder.{nets_in_order}
+use Rattle.netlist_meaning.specs.Valuation.{Valuation, AreInputRows, IsRun}
+use Rattle.carries.specs.Carries.{Carries, drive, ShowsBitsFrom}
+
+-- the nets of a list that are no clock nets, in order
+pub data WithoutClocks (design : Design) : List Net → List Net → Type 0 where
+  none : WithoutClocks design [] []
+  kept : {net : Net} {nets rest : List Net} → ¬ IsClockNet design net → WithoutClocks design nets rest → WithoutClocks design (net ∷ nets) (net ∷ rest)
+  left_out : {net : Net} {nets rest : List Net} → IsClockNet design net → WithoutClocks design nets rest → WithoutClocks design (net ∷ nets) rest
+
+-- the nets of a design but the clock nets: by place, and at a place by where the name first stands in the model's text
+abbrev pub AreSeenNets : Design → List Net → Type 0
+AreSeenNets design nets = WithoutClocks design (nets_in_order design) nets
+
+-- the lines of the table name these nets, each by its name and by the path of its place, one line a net, in order
+abbrev pub NamesNets : Ports → List Net → Type 0
+NamesNets ports nets = names_and_paths ports.nets ≡ map (λ net. name_and_path net.place net.name) nets
+
+-- Driven by any rows of input bits, for any number of cycles N: in every run of the design on them, the cell of each net's line
+-- shows the net's bits, from the line's offset on, at every generation below offset + N P
+abbrev pub ShowsNets : Plane → Ports → Design → List Net → Type 0
+ShowsNets plane ports design nets =
+    (rows : List (List Bool)) → AreInputRows design rows → (run : ℕ → Valuation) → IsRun design rows run
+    → (number : ℕ) (net : Net) (line : NetLine) → slice_get nets number ≡ Some net → slice_get ports.nets number ≡ Some line
+    → (g : ℕ) → g < line.offset + length rows * ports.p
+    → ShowsBitsFrom line.offset ports.p (length rows) (λ t. run t net.place net.name) g (driven (drive ports rows) plane g) line.x line.y
+
+-- A text carries the nets of a design: it carries the design, and in the same table each net but the clock nets has its line, and in
+-- the same pattern its cell
+pub record CarriesNets (text : List ℕ) (design : Design) : Type 0 where
+  pub carried : Carries text design
+  pub nets : List Net
+  pub are_nets : AreSeenNets design nets
+  pub names : NamesNets carried.ports nets
+  pub shows : ShowsNets (plane_of carried.grid.rows) carried.ports design nets

@@ -1,0 +1,11 @@
+use Rattle.std.proofs.Common.{ℕ, ap, ◌∙◌}
+use Rattle.ww_rule.specs.Wireworld.{Plane}
+use Rattle.probe_view.specs.Windows.{window_text}
+use Rattle.probe_view.proofs.viewing.window.Goals as goal
+
+pub returns : goal.returns
+returns c =
+    let planes = c.go_on.ensures.planes ∙ c.in_ok-run.ensures.planes in
+    c.of.ensures
+    ∙ c.in_ok-text.ensures
+    ∙ ap (λ (plane : Plane). window_text plane c.args.x c.args.y c.args.width c.args.height) (c.go_on.ensures.shows ∙ ap (λ (e : ℕ → Plane). e c.args.generation) planes)

@@ -1,0 +1,77 @@
+// Why a net or a part of a pattern is not shown.
+ghost use Rattle.std.specs.Prelude.{◌≡◌};
+
+use drive::DriveError;
+use std::alloc::{AllocError, AllocFailed};
+use thiserror::Error;
+
+/// Why a net's bits are not shown.
+#[derive(Clone, Copy, Debug, PartialEq, Eq, Error)]
+pub enum ProbeError {
+    #[error("out of memory")]
+    NoMemory,
+    /// No net of the table has the name and the path. This is looked at first.
+    #[error("there is no such net")]
+    NoSuchNet,
+    /// The run needs so many generations, which is over the limit of 4,294,967,296.
+    #[error("the run needs {generations} generations")]
+    TooFar { generations: u128 },
+}
+
+/// Why a part of a plane is not shown.
+#[derive(Clone, Copy, Debug, PartialEq, Eq, Error)]
+pub enum WindowError {
+    #[error("out of memory")]
+    NoMemory,
+}
+
+ghost use Rattle.probe_view.specs.declared.error.ProbeError.TheVariants as probing;
+ghost use Rattle.probe_view.specs.declared.error.WindowError.TheVariants as viewing;
+
+impl From<AllocError> for ProbeError {
+    ghost from_gives = { λ _ e. e ≡ probing.NoMemory };
+
+    fn from(_: AllocError) -> Self {
+        ProbeError::NoMemory
+    }
+}
+
+impl<T: Drop> From<AllocFailed<T>> for ProbeError {
+    ghost from_gives = { λ _ e. e ≡ probing.NoMemory };
+
+    fn from(_: AllocFailed<T>) -> Self {
+        ProbeError::NoMemory
+    }
+}
+
+impl From<DriveError> for ProbeError {
+    ghost from_gives = { λ _ e. e ≡ probing.NoMemory };
+
+    fn from(_: DriveError) -> Self {
+        ProbeError::NoMemory
+    }
+}
+
+impl From<AllocError> for WindowError {
+    ghost from_gives = { λ _ e. e ≡ viewing.NoMemory };
+
+    fn from(_: AllocError) -> Self {
+        WindowError::NoMemory
+    }
+}
+
+impl<T: Drop> From<AllocFailed<T>> for WindowError {
+    ghost from_gives = { λ _ e. e ≡ viewing.NoMemory };
+
+    fn from(_: AllocFailed<T>) -> Self {
+        WindowError::NoMemory
+    }
+}
+
+impl From<DriveError> for WindowError {
+    ghost from_gives = { λ _ e. e ≡ viewing.NoMemory };
+
+    fn from(_: DriveError) -> Self {
+        WindowError::NoMemory
+    }
+}
