@@ -5,4 +5,4 @@ mod cells;
 pub mod laws;
 mod rows;
 
-pub use rows::{cell, fill_row, size};
+pub use rows::{cell, fill_row, pattern_of, size};

@@ -1,15 +1,18 @@
-// The size of a plan's drawing, its cells, and its rows.
-ghost use Rattle.std.specs.Prelude.{◌≡◌, ◌≤◌, ◌+◌, ◌^◌, pos, length};
+// The size of a plan's drawing, its cells, its rows, and its pattern.
+ghost use Rattle.std.specs.Prelude.{◌≡◌, ◌≤◌, ◌+◌, ◌^◌, pos, length, IfOk};
 ghost use Rattle.ww_rule.specs.Grid.{IsEmptyOutside};
+ghost use Rattle.ww_rule.specs.Patterns.{grid_of};
 ghost use Rattle.lane_core.specs.Plans.{IsAdmissible, size_of};
 ghost use Rattle.tile_library.specs.Drawings.{shipped_drawing};
 ghost use Rattle.plan_layout.specs.Planes.{start_plane};
-ghost use Rattle.grid_assembly.specs.PlanDrawing.{AreCellsOfRow};
+ghost use Rattle.grid_assembly.specs.PlanDrawing.{AreCellsOfRow, start_grid};
 
 use crate::cells::slot_cell;
 use lane_core::Plan;
+use lists::List;
 use plan_layout::slot_at;
-use ww_rule::State;
+use std::alloc::{AllocError, Global};
+use ww_rule::{Pattern, State};
 
 /// Width and height of the drawing in cells, (0, 0) of a plan without lanes.
 pub fn size(plan: &Plan) -> (u64, u64)
@@ -68,4 +71,23 @@ pub fn fill_row(plan: &Plan, y: u64, x: u64, row: &mut [State])
             (y % 16) as u32,
         );
     }
+}
+
+/// The pattern of a plan, of `size`.
+pub fn pattern_of(alloc: Global, plan: &Plan) -> Result<Pattern, AllocError>
+    requires { IsAdmissible plan.now }
+    ensures { IfOk result (λ pattern. grid_of pattern ≡ start_grid plan.now) }
+{
+    let (width, height) = size(plan);
+    let mut rows = Vec::with_capacity(alloc, height as usize)?;
+    for y in 0..height {
+        let mut row = vec![in alloc; State::Empty; width as usize]?;
+        fill_row(plan, y, 0, &mut row);
+        rows.push(List::of(row))?;
+    }
+    Ok(Pattern {
+        width,
+        height,
+        rows: List::of(rows),
+    })
 }

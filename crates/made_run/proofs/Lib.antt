@@ -1,0 +1,4 @@
+pub mod InTime
+pub mod Read
+pub mod Drawn
+pub mod Summarized

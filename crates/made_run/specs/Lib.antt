@@ -1,3 +1,5 @@
 pub mod Streams
+pub mod Errors
 pub mod Summaries
 pub mod Laws
+pub mod Plans

@@ -5,14 +5,14 @@ use Rattle.made_netlists.specs.Draws.{draw_after}
 use Rattle.made_netlists.specs.Text.{made_state}
 use Rattle.drive.specs.declared.streams.Streams.{Streams}
 
--- After the text come draws below 2: one for each cycle of i0, and then as many for i1, for i2 and for i3. This is the bit of an input in
--- a cycle.
-abbrev pub drawn_bit : (seed size cycles : ℕ) → (input cycle : ℕ) → Bool
-drawn_bit seed size cycles input cycle = draw_after (made_state seed size) (input * cycles + cycle) 2 == 1
+-- The bits of an input are draws below 2, one for each cycle, that come from a state after so many others.
+abbrev pub stream_after : (state before cycles : ℕ) → List Bool
+stream_after state before cycles = map (λ cycle. draw_after state (before + cycle) 2 == 1) (range_with_len 0 cycles)
 
-abbrev pub drawn_stream : (seed size cycles : ℕ) → (input : ℕ) → List Bool
-drawn_stream seed size cycles input = map (drawn_bit seed size cycles input) (range_with_len 0 cycles)
+-- From a state come the bits of i0, and then as many of i1, of i2 and of i3.
+abbrev pub streams_after : (state cycles : ℕ) → Streams
+streams_after state cycles = record { cycles = cycles; bits = map (λ input. stream_after state (input * cycles) cycles) (range_with_len 0 4) }
 
--- the streams of the four inputs
+-- those that come after the text of a seed and a number of gates
 abbrev pub drawn_streams : (seed size cycles : ℕ) → Streams
-drawn_streams seed size cycles = record { cycles = cycles; bits = map (drawn_stream seed size cycles) (range_with_len 0 4) }
+drawn_streams seed size cycles = streams_after (made_state seed size) cycles

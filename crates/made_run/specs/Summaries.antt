@@ -1,5 +1,6 @@
 -- What is told of a made netlist, its plan and its run.
-use Rattle.std.specs.Prelude.{ℕ, ◌≡◌, ◌≤◌, ◌<◌, ◌+◌, ◌*◌, List, length, map, ⊤}
+use Rattle.std.specs.Prelude.{ℕ, ◌≡◌, ◌≤◌, ◌<◌, ◌+◌, ◌*◌, Bool, List, [], length, get_or, map, ⊤}
+use Rattle.std.specs.List.{range_with_len}
 use Rattle.lane_core.specs.declared.plan.Plan.{Plan}
 use Rattle.lane_core.specs.Plans.{IsAdmissible, period_of, latency_of}
 use Rattle.grid_assembly.specs.PlanDrawing.{start_grid}
@@ -29,6 +30,13 @@ pub record IsMadePlan (seed size : ℕ) (plan : Plan) (ports : Ports) : Type 0 w
   pub lanes : plan.lanes ≤ 4 * weight (made_design seed size) + 4
   pub columns : length plan.columns ≤ 256 * ((weight (made_design seed size) + 1) * (weight (made_design seed size) + 1))
   pub loops : plan.latches ≤ 3
+
+-- the outputs of these names, each with what is simulated and what is evaluated of it
+abbrev pub output_at : (names : List Name) → (simulated evaluated : List (List Bool)) → ℕ → OutputBits
+output_at names simulated evaluated k = record { name = get_or names k []; simulated = get_or simulated k []; evaluated = get_or evaluated k [] }
+
+abbrev pub outputs_by_name : (names : List Name) → (simulated evaluated : List (List Bool)) → List OutputBits
+outputs_by_name names simulated evaluated = map (output_at names simulated evaluated) (range_with_len 0 (length names))
 
 -- an output with its bits in a run, which are those that the pattern shows and those that the netlist gives
 abbrev pub output_in_run : (ℕ → Valuation) → ℕ → Name → OutputBits

@@ -3,6 +3,8 @@
 
 mod error;
 pub mod laws;
+mod plans;
+mod streams;
 mod summarizing;
 
 pub use error::SummaryError;

@@ -1,11 +1,17 @@
 // What is told of a made netlist.
-ghost use Rattle.std.specs.Prelude.{◌<◌, ◌≤◌, ◌^◌, IfOk, IfErr};
-ghost use Rattle.made_run.specs.Summaries.{HasSummaryCause, Summarizes};
+ghost use Rattle.std.specs.Prelude.{◌≡◌, ◌<◌, ◌≤◌, ◌^◌, length, IfOk, IfErr};
+ghost use Rattle.made_run.specs.Summaries.{HasSummaryCause, Summarizes, outputs_by_name};
 
 use crate::error::SummaryError;
+use crate::plans::plan_made;
+use crate::streams::draw_streams;
+use drive::simulate;
+use grid_assembly::pattern_of;
 use lists::List;
 use netlist_core::Name;
-use std::alloc::Global;
+use netlist_run::run;
+use shown_runs::carriers_show_runs;
+use std::alloc::{AllocError, Global};
 
 /// An output's bits, cycle after cycle: those that the pattern shows at the output's cell, and those that the netlist gives.
 #[derive(Drop)]
@@ -27,6 +33,48 @@ pub struct Summary {
     pub outputs: List<OutputBits>,
 }
 
+// An output, with copies of its name and its bits.
+fn output_of(
+    alloc: Global,
+    name: &[u8],
+    simulated: &[bool],
+    evaluated: &[bool],
+) -> Result<OutputBits, AllocError>
+    ensures name { IfOk result (λ output. output.name ≡ name.now) }
+    ensures simulated { IfOk result (λ output. output.simulated ≡ simulated.now) }
+    ensures evaluated { IfOk result (λ output. output.evaluated ≡ evaluated.now) }
+{
+    let name = List::of(name.to_vec(alloc)?);
+    let simulated = List::of(simulated.to_vec(alloc)?);
+    let evaluated = List::of(evaluated.to_vec(alloc)?);
+    Ok(OutputBits {
+        name,
+        simulated,
+        evaluated,
+    })
+}
+
+// The outputs of these names, with their bits.
+fn outputs_by_name(
+    alloc: Global,
+    names: &[Name],
+    simulated: &[List<bool>],
+    evaluated: &[List<bool>],
+) -> Result<List<OutputBits>, AllocError>
+    requires simulated { length simulated.now ≡ length names.now }
+    requires evaluated { length evaluated.now ≡ length names.now }
+    ensures { IfOk result (λ outputs. outputs ≡ outputs_by_name names.now simulated.now evaluated.now) }
+{
+    let mut outputs = Vec::with_capacity(alloc, names.len())?;
+    for k in 0..names.len() {
+        let name = names[k].as_slice();
+        let shown = simulated[k].as_slice();
+        let given = evaluated[k].as_slice();
+        outputs.push(output_of(alloc, name, shown, given)?)?;
+    }
+    Ok(List::of(outputs))
+}
+
 /// The netlist of a seed and a number of gates, made, compiled, simulated and evaluated under so many cycles of bits that are drawn on
 /// after it. `TooFar` comes once the netlist is compiled, where the pattern would show the last bits after generation 4,294,967,296.
 pub fn summarize(
@@ -42,5 +90,26 @@ pub fn summarize(
     ensures summary { IfOk result (Summarizes seed size cycles) }
     ensures refused { IfErr result (HasSummaryCause seed size cycles) }
 {
-    Err(SummaryError::NoMemory)
+    carriers_show_runs();
+    let made = plan_made(alloc, seed, size)?;
+    let streams = draw_streams(alloc, made.state, cycles)?;
+    let pattern = pattern_of(alloc, &made.planned.plan)?;
+    let simulated = simulate(alloc, pattern, &made.planned.ports, &streams)?;
+    let weight = made.netlist.flat.weight;
+    let names = made.netlist.out_names(alloc)?;
+    let evaluated = run(alloc, made.netlist, &streams)?;
+    let outputs = outputs_by_name(
+        alloc,
+        names.as_slice(),
+        simulated.as_slice(),
+        evaluated.as_slice(),
+    )?;
+    Ok(Summary {
+        weight,
+        lanes: u64::from(made.planned.plan.lanes),
+        columns: made.planned.plan.columns.len() as u64,
+        p: made.planned.ports.p,
+        l: made.planned.ports.l,
+        outputs,
+    })
 }

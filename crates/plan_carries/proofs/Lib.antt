@@ -1,5 +1,5 @@
 mod Alike
-mod SeenNets
+pub mod SeenNets
 mod Designs
 mod Carried
 mod NetsCarried

@@ -7,7 +7,6 @@ use Rattle.pattern_reading.specs.declared.ports.PortLine.{PortLine}
 use Rattle.pattern_reading.specs.Ports.{names_of}
 use Rattle.netlist_meaning.proofs.Joined.{in_names_are_one}
 use Rattle.drive.specs.declared.streams.Streams.{Streams}
-use Rattle.drive.specs.declared.error.StreamFault.{StreamFault}
 use Rattle.drive.specs.declared.error.StreamFaultKind.TheVariants.{MissingInput}
 use Rattle.drive.specs.Streams.{HasStreams, stream_fault, stream_faults_after, missing_names, streams_of}
 use Rattle.drive.specs.Driving.{AreFor}

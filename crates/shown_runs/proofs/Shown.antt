@@ -1,5 +1,5 @@
 -- The bits that a pattern shows are those of a run of its design.
-use Rattle.std.proofs.Common.{ℕ, ◌≡◌, ◌+◌, ◌*◌, ◌<◌, zero, suc, refl, sym, ap, ap₂, ◌∙◌, subst, Bool, true, false, true≢false, List, [], ◌∷◌, ◌++◌, length, map, flat_map, get_or, arith}
+use Rattle.std.proofs.Common.{ℕ, ◌≡◌, ◌+◌, ◌*◌, ◌<◌, suc, refl, sym, ap, ap₂, ◌∙◌, subst, Bool, true, false, true≢false, List, [], ◌∷◌, ◌++◌, length, map, flat_map, get_or, arith}
 use Rattle.std.specs.Prelude.{◌↔◌, All, pos}
 use Rattle.std.specs.List.{range_with_len}
 use Rattle.std.proofs.lemmas.List.{ext_get_or, length-map, get_or-map}
@@ -8,7 +8,7 @@ use Rattle.std.proofs.lemmas.List.FromFn.{length-map-range_with_len, get_or-map-
 use Rattle.std.proofs.lemmas.Option.{slice_get-get_or}
 use Rattle.ww_rule.specs.declared.pattern.State.{State}
 use Rattle.ww_rule.specs.declared.pattern.State.TheVariants.{Empty, Head, Tail, Conductor}
-use Rattle.ww_rule.specs.Wireworld.{is_head, driven}
+use Rattle.ww_rule.specs.Wireworld.{is_head}
 use Rattle.ww_rule.specs.Grid.{plane_of}
 use Rattle.pattern_reading.specs.declared.ports.Ports.{Ports}
 use Rattle.pattern_reading.specs.declared.ports.PortLine.{PortLine}
@@ -17,13 +17,13 @@ use Rattle.netlist_core.specs.declared.model.Design.{Design}
 use Rattle.netlist_core.specs.Names.{Name}
 use Rattle.netlist_meaning.specs.Places.{main_outputs}
 use Rattle.netlist_meaning.specs.Valuation.{Valuation, AreInputRows, IsRun, output_bit}
-use Rattle.carries.specs.Carries.{Carries, NamesPorts, drive}
+use Rattle.carries.specs.Carries.{Carries, NamesPorts}
 use Rattle.carries.specs.Shown.{ShowsCycles}
 use Rattle.carries.proofs.Cycles.{carries_cycles}
 use Rattle.drive.specs.declared.streams.Streams.{Streams}
 use Rattle.drive.specs.Driving.{AreFor, stream_row, rows_of, driven_by, shown_at, shown_bits}
 use Rattle.netlist_run.specs.Runs.{bits_in_run}
-use Rattle.shown_runs.specs.ShownRuns.{ShowsTheRun, ShowsEachRun, CarriersShowRuns}
+use Rattle.shown_runs.specs.ShownRuns.{ShowsTheRun, CarriersShowRuns}
 
 same_on_range : {X : Type 0} (f g : ℕ → X) (n : ℕ) → ((t : ℕ) → t < n → f t ≡ g t) → map f (range_with_len 0 n) ≡ map g (range_with_len 0 n)
 same_on_range f g n same =

@@ -1,0 +1,32 @@
+use Rattle.std.proofs.Common.{ℕ, ◌≡◌, ◌≤◌, ◌<◌, ◌∙◌, sym, ap, subst, List, arith}
+use Rattle.netlist_text.specs.NetlistText.{IsNetlist}
+use Rattle.made_netlists.specs.Design.{made_design}
+use Rattle.made_run.proofs.Summarized.{is_planned, sound, weighed, small}
+use Rattle.made_run.proofs.plans.plan_made.Goals as goal
+
+pub netlist_in-requires : goal.netlist_in-requires
+netlist_in-requires c =
+    let some : 0 < c.args.size = c.requires.some_gate in (
+      made_design c.args.seed c.args.size,
+      subst (λ (text : List ℕ). IsNetlist text (made_design c.args.seed c.args.size)) (sym (c.as_slice.ensures ∙ c.in_ok-made.ensures.text))
+          (c.made_are_netlists.ensures c.args.seed c.args.size (omega (arith, some)) c.requires.few_gates),
+    )
+
+pub plan_netlist-requires-clause-sound : goal.plan_netlist-requires-clause-sound
+plan_netlist-requires-clause-sound c = sound c.in_ok-netlist.netlist.design c.in_ok-netlist.netlist.flat _ c.in_ok-netlist.ensures.parts c.flat_is_sound.ensures
+
+pub plan_netlist-requires-clause-weighed : goal.plan_netlist-requires-clause-weighed
+plan_netlist-requires-clause-weighed c = weighed c.in_ok-netlist.netlist.design c.in_ok-netlist.netlist.flat _ c.in_ok-netlist.ensures.parts c.flat_is_weighed.ensures
+
+pub plan_netlist-requires-clause-small : goal.plan_netlist-requires-clause-small
+plan_netlist-requires-clause-small c = small c.in_ok-netlist.netlist.design c.in_ok-netlist.netlist.flat _ c.in_ok-netlist.ensures.parts
+
+pub plan_netlist-requires-clause-ordered : goal.plan_netlist-requires-clause-ordered
+plan_netlist-requires-clause-ordered c = c.in_ok-netlist.ensures.parts.is_order
+
+pub returns-clause-plan : goal.returns-clause-plan
+returns-clause-plan c =
+    let text = c.as_slice.ensures ∙ c.in_ok-made.ensures.text in
+    is_planned c.made_are_netlists.ensures c.made_have_sizes.ensures c.texts_are_decided.ensures c.written_plans_read.ensures c.args.seed c.args.size c.requires.some_gate c.requires.few_gates
+    c.in_ok-netlist.netlist c.in_ok-planned.planned (subst (λ (t : List ℕ). IsNetlist t c.in_ok-netlist.netlist.design) text c.in_ok-netlist.ensures.netlist) c.in_ok-netlist.ensures.parts
+    c.in_ok-planned.ensures.admissible c.in_ok-planned.ensures.table c.in_ok-planned.ensures.carries c.in_ok-planned.ensures.small
