@@ -1,5 +1,6 @@
 pub mod Answered
 pub mod Entered
+pub mod Found
 pub mod Given
 pub mod Named
 pub mod Numerals

@@ -37,7 +37,7 @@ fn streams<'a>(alloc: Global) -> Arg<'a>
 }
 
 // A command of this name with these options, which are required.
-fn with_options<'a>(
+pub fn with_options<'a>(
     alloc: Global,
     name: &'static str,
     options: &[&'static str],
@@ -53,14 +53,14 @@ fn with_options<'a>(
 }
 
 // A command of this name with `--cycles N`, and any words.
-fn driven_command<'a>(alloc: Global, name: &'static str) -> Result<Command<'a>, AllocError>
+pub fn driven_command<'a>(alloc: Global, name: &'static str) -> Result<Command<'a>, AllocError>
     ensures app { IfOk result (λ c. app_of c ≡ driven_app name.now) }
     ensures plain { IfOk result (λ c. (fields_of c).has_globals ≡ false) }
 {
     with_options(alloc, name, &["cycles"])?.arg(streams(alloc))
 }
 
-fn probe_command<'a>(alloc: Global) -> Result<Command<'a>, AllocError>
+pub fn probe_command<'a>(alloc: Global) -> Result<Command<'a>, AllocError>
     ensures app { IfOk result (λ c. app_of c ≡ probe_app) }
     ensures plain { IfOk result (λ c. (fields_of c).has_globals ≡ false) }
 {
@@ -69,34 +69,9 @@ fn probe_command<'a>(alloc: Global) -> Result<Command<'a>, AllocError>
         .arg(streams(alloc))
 }
 
-fn window_command<'a>(alloc: Global) -> Result<Command<'a>, AllocError>
+pub fn window_command<'a>(alloc: Global) -> Result<Command<'a>, AllocError>
     ensures app { IfOk result (λ c. app_of c ≡ window_app) }
     ensures plain { IfOk result (λ c. (fields_of c).has_globals ≡ false) }
 {
     with_options(alloc, "window", &["gen", "x", "y", "width", "height"])?.arg(streams(alloc))
-}
-
-/// The program's command line, with one subcommand for each command.
-pub fn blifww_command<'a>(alloc: Global) -> Result<Command<'a>, AllocError>
-    ensures { IfOk result (λ c. app_of c ≡ blifww_app) }
-{
-    let compile = Command::new(alloc, "compile");
-    let simulate = driven_command(alloc, "simulate")?;
-    let eval = driven_command(alloc, "eval")?;
-    let probe = probe_command(alloc)?;
-    let window = window_command(alloc)?;
-    let make = with_options(alloc, "make", &["seed", "size"])?;
-    let made = with_options(alloc, "self", &["seed", "size", "cycles"])?;
-    Command::new(alloc, "blifww")
-        .subcommand_required(true)
-        .disable_help_flag(true)
-        .disable_help_subcommand(true)
-        .disable_version_flag(true)
-        .subcommand(compile)?
-        .subcommand(simulate)?
-        .subcommand(eval)?
-        .subcommand(probe)?
-        .subcommand(window)?
-        .subcommand(make)?
-        .subcommand(made)
 }

@@ -9,8 +9,8 @@ ghost use Rattle.command_words.specs.Numbers.{IsInRange, cycles_range, seed_rang
 ghost use Rattle.command_words.specs.Shapes.{CommandValues, HasNumbersInRange, HasViewInRange, IsCommand, IsTaken, IsWritten, command_values, driven_by, make_by, number_met, probe_by, self_by, streams_met, values_met, values_of, view_met, window_by};
 
 use crate::WordsError;
-use crate::app::blifww_command;
 use crate::numbers::number_between;
+use crate::program::blifww_command;
 use clap::ArgMatches;
 use lists::List;
 use std::alloc::{AllocError, Global};
