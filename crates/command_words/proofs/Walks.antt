@@ -1,66 +1,21 @@
--- The walk of clap over a list of words of any length.
-use Rattle.std.proofs.Common.{◌≡◌, ◌∙◌, ◌≤◌, ℕ, Bool, List, [], ◌∷◌, ◌++◌, ◌==◌, ◌&&◌, length, refl, codes, true, false, Some, None, rules, ap, ap₂, nat_le}
-use Rattle.std.specs.Prelude.{fold, if◌then◌else◌}
-use Rattle.std.specs.List.{slice_index_or, list_all, AllByRecursion}
+-- The walk of clap over the words of a command in its plainest form: its options, each as two words, and then words of any number.
+use Rattle.std.proofs.Common.{◌≡◌, ◌∙◌, ℕ, Bool, List, [], ◌∷◌, ◌++◌, ◌==◌, ◌&&◌, ◌||◌, length, refl, codes, true, false, Some, None, Option, rules, ap, ap₂, nat_le, sym}
+use Rattle.std.specs.Prelude.{⊤, fold, if◌then◌else◌, nat_lt}
+use Rattle.std.specs.List.{list_all, AllByRecursion}
+use Rattle.std.specs.Option.{option_map_or}
+use Rattle.std.specs.Str.{bytes_eq}
 use Rattle.std.proofs.lemmas.List.{append_assoc}
-use Rattle.clap.specs.Lexer.{strip_byte, usize_max}
-use Rattle.clap.specs.Takes.{takes, walk_passes, turn_passes, level_passes, values_pass, value_passes, settle_passes, default_passes, is_valid}
-use Rattle.clap.specs.Simple.{Shape, built, is_simple, names_of, new_shape, new_rule, subcommand_of, entered}
-use Rattle.clap.specs.Walk.{Names, Row, Rule, Text, Walk, walked, walk, walk_from, nothing_held, positional, idle, rows_after, finished}
-use Rattle.clap.specs.declared.parser.matches.ValueSource.TheVariants.{CommandLine}
-use Rattle.clap.specs.declared.builder.value_parser.Reading.TheVariants.{AsWritten}
+use Rattle.std.proofs.lemmas.Bool.{and_parts}
+use Rattle.clap.specs.Lexer.{strip_byte, usize_max, long_of, short_of}
+use Rattle.clap.specs.Takes.{walk_passes, turn_passes, values_pass, value_passes, settle_passes, long_passes, flag_word_passes, word_passes, step_passes, positional_passes}
+use Rattle.clap.specs.Simple.{Shape}
+use Rattle.clap.specs.Walk.{Held, Row, Rule, Step, Text, Waiting, Walk, walked, walk_from, nothing_held, idle, option, positional, next, value, trailing, after_flag, after_step, long_met, long_or_other, plain_word, option_word, pushed, settled_rows, subcommand_or_other, to_positional, positional_held, is_pending, word_met, arg_by_id, arg_by_index, arg_by_long}
 use Rattle.clap.proofs.OnLiterals.{clap_on_literals}
-use Rattle.command_words.specs.App.{blifww_app}
-
-pub simple : is_simple blifww_app ≡ true
-simple = refl
-
-pub compile_taken : (name : List ℕ) → takes blifww_app (name ∷ codes "compile" ∷ []) ≡ true
-unfolding clap_on_literals
-compile_taken name = refl
+use Rattle.command_words.specs.Shapes.{option_words}
+use Rattle.command_words.proofs.Rules.{leaf, option_rule, words_rule}
 
 abbrev pub HasNoHyphen : Text → Type 0
 HasNoHyphen word = strip_byte 45 word ≡ None
-
-abbrev pub shape : Shape
-shape = slice_index_or (built blifww_app).subs 1 (new_shape [])
-
-abbrev pub cycles_row : Text → Row
-cycles_row n = record {
-  id = codes "cycles";
-  values = n ∷ [];
-  count = None;
-  source = Some CommandLine;
-  reading = AsWritten;
-}
-
-abbrev pub streams_row : List Text → Row
-streams_row ws = record {
-  id = codes "streams";
-  values = ws;
-  count = None;
-  source = Some CommandLine;
-  reading = AsWritten;
-}
-
--- the walk after the number, and after some stream words
-abbrev counted : Text → Walk
-counted n = record {
-  held = record { rows = []; pending = Some (codes "cycles", n ∷ []); skip = 0 };
-  waiting = idle;
-  position = 1;
-  is_trailing = false;
-  stopped = None;
-}
-
-abbrev streaming : Text → List Text → Walk
-streaming n ws = record {
-  held = record { rows = cycles_row n ∷ []; pending = Some (codes "streams", ws); skip = 0 };
-  waiting = positional;
-  position = 1;
-  is_trailing = false;
-  stopped = None;
-}
 
 no_hyphen : (b : ℕ) (bs : Text) → HasNoHyphen (b ∷ bs) → (b == 45) ≡ false
 no_hyphen b bs e = go (b == 45) e
@@ -69,170 +24,195 @@ no_hyphen b bs e = go (b == 45) e
     go true e = cc
     go false e = refl
 
--- ---- one word
+-- the rules have an option of this name
+pub record IsOption (rules : List Rule) (name : Text) : Type 0 where
+  pub required : Bool
+  pub by_long : arg_by_long rules name ≡ Some (option_rule name required)
+  pub by_id : arg_by_id rules name ≡ Some (option_rule name required)
+  pub long : long_of (45 ∷ 45 ∷ name) ≡ Some (name, None)
+  pub whole : bytes_eq (45 ∷ 45 ∷ name) (45 ∷ 45 ∷ []) ≡ false
+  pub same : bytes_eq name name ≡ true
+  pub other : bytes_eq name (codes "streams") ≡ false
 
-cycles_walked : (n : Text) → HasNoHyphen n → fold (walked shape.rules []) (walk_from nothing_held) (codes "--cycles" ∷ n ∷ []) ≡ counted n
-unfolding clap_on_literals
-cycles_walked [] e = refl
-cycles_walked (b ∷ bs) e = rw (no_hyphen b bs e) (rw (no_hyphen b bs e) refl)
+-- an option of the rules, with a value that is no flag
+abbrev pub IsGiven : List Rule → Text × Text → Type 0
+IsGiven rules given = IsOption rules given.0 × HasNoHyphen given.1
 
-first_walked : (n w : Text) → HasNoHyphen w → walked shape.rules [] (counted n) w ≡ streaming n (w ∷ [])
-unfolding clap_on_literals
-first_walked n [] e = refl
-first_walked n (b ∷ bs) e = rw (no_hyphen b bs e) (rw (no_hyphen b bs e) refl)
+-- the rules have last words, where there are any
+abbrev pub HaveWords : List Rule → List Text → Type 0
+HaveWords rules [] = ⊤
+HaveWords rules (v ∷ vs) = arg_by_index rules 1 ≡ Some words_rule
 
-next_walked : (n : Text) (ws : List Text) (w : Text) → HasNoHyphen w → walked shape.rules [] (streaming n ws) w ≡ streaming n (ws ++ w ∷ [])
-unfolding clap_on_literals
-next_walked n ws [] e = refl
-next_walked n ws (b ∷ bs) e = rw (no_hyphen b bs e) (rw (no_hyphen b bs e) refl)
+abbrev pub Pending : Type 0
+Pending = Option (Text × List Text)
 
-cycles_pass : (n : Text) (rest : List Text) → HasNoHyphen n → walk_passes shape [] (walk_from nothing_held) (codes "--cycles" ∷ n ∷ rest) ≡ walk_passes shape [] (counted n) rest
-unfolding clap_on_literals
-cycles_pass [] rest e = refl
-cycles_pass (b ∷ bs) rest e = rw (no_hyphen b bs e) (rw (no_hyphen b bs e) refl)
+abbrev held_with : List Row → Pending → Held
+held_with rows pending = record { rows = rows; pending = pending; skip = 0 }
 
-first_passes : (n w : Text) → HasNoHyphen w → turn_passes shape [] (counted n) w ≡ true
-unfolding clap_on_literals
-first_passes n [] e = refl
-first_passes n (b ∷ bs) e = rw (no_hyphen b bs e) (rw (no_hyphen b bs e) refl)
+abbrev pub standing : List Row → Pending → Waiting → Walk
+standing rows pending waiting = record { held = held_with rows pending; waiting = waiting; position = 1; is_trailing = false; stopped = None }
 
-next_passes : (n : Text) (ws : List Text) (w : Text) → HasNoHyphen w → turn_passes shape [] (streaming n ws) w ≡ true
-unfolding clap_on_literals
-next_passes n ws [] e = refl
-next_passes n ws (b ∷ bs) e = rw (no_hyphen b bs e) (rw (no_hyphen b bs e) refl)
+append_none : (ws : List Text) → ws ≡ ws ++ []
+append_none ws = search rules
 
--- ---- words of any number
+module _ (rules : List Rule) where
+  -- ---- one word
 
-streams_walked : (n : Text) (ws vs : List Text) → AllByRecursion HasNoHyphen vs → fold (walked shape.rules []) (streaming n ws) vs ≡ streaming n (ws ++ vs)
-streams_walked n ws [] all = ap (streaming n) (search rules)
-streams_walked n ws (v ∷ vs) all =
-    ap (λ (w : Walk). fold (walked shape.rules []) w vs) (next_walked n ws v all.0) ∙ streams_walked n (ws ++ v ∷ []) vs all.1 ∙ ap (streaming n) (append_assoc ws (v ∷ []) vs)
+  plain_met : (waiting : Waiting) (v : Text) (h : Held) → HasNoHyphen v → subcommand_or_other rules None waiting 1 v h ≡ plain_word rules waiting v h
+  plain_met waiting [] h e = refl
+  plain_met waiting (b ∷ bs) h e = rw (no_hyphen b bs e) (rw (no_hyphen b bs e) refl)
 
-streams_pass : (n : Text) (ws vs : List Text) → AllByRecursion HasNoHyphen vs → walk_passes shape [] (streaming n ws) vs ≡ true
-unfolding walk_passes
-streams_pass n ws [] all = refl
-streams_pass n ws (v ∷ vs) all =
-    ap₂ (λ (t : Bool) (w : Walk). t && walk_passes shape [] w vs) (next_passes n ws v all.0) (next_walked n ws v all.0) ∙ streams_pass n (ws ++ v ∷ []) vs all.1
+  plain_passes : (v : Text) (h : Held) → HasNoHyphen v → (bytes_eq v (45 ∷ 45 ∷ []) || flag_word_passes rules false (long_of v) v h) ≡ true
+  plain_passes [] h e = refl
+  plain_passes (b ∷ bs) h e = rw (no_hyphen b bs e) (rw (no_hyphen b bs e) refl)
 
--- the walk after the number and these stream words
-abbrev after : Text → List Text → Walk
-after n [] = counted n
-after n (v ∷ vs) = streaming n (v ∷ vs)
+  abbrev named : List Row → Pending → Text → Held × Step
+  named rows pending name = (held_with (settled_rows rules pending rows) (Some (name, [])), next (option name))
 
-all_walked : (n : Text) (vs : List Text) → HasNoHyphen n → AllByRecursion HasNoHyphen vs → walk shape.rules [] nothing_held (codes "--cycles" ∷ n ∷ vs) ≡ after n vs
-all_walked n [] number all = cycles_walked n number
-all_walked n (v ∷ vs) number all =
-    ap (λ (w : Walk). fold (walked shape.rules []) (walked shape.rules [] w v) vs) (cycles_walked n number)
-    ∙ ap (λ (w : Walk). fold (walked shape.rules []) w vs) (first_walked n v all.0)
-    ∙ streams_walked n (v ∷ []) vs all.1
+  name_met : (rows : List Row) (pending : Pending) (name : Text) → IsOption rules name → word_met rules [] false idle 1 (45 ∷ 45 ∷ name) (held_with rows pending) ≡ named rows pending name
+  name_met rows pending name o =
+      let word = 45 ∷ 45 ∷ name in
+      let h = held_with rows pending in
+      ap (λ (t : Bool). if t then (h, trailing 1) else long_or_other rules idle word (long_of word) h) o.whole
+      ∙ ap (λ (p : Option (Text × Option Text)). long_or_other rules idle word p h) o.long
+      ∙ ap (λ (a : Option Rule). after_flag rules idle word (long_met rules a None h).0 (long_met rules a None h).1) o.by_long
 
-all_pass : (n : Text) (vs : List Text) → HasNoHyphen n → AllByRecursion HasNoHyphen vs → walk_passes shape [] (walk_from nothing_held) (codes "--cycles" ∷ n ∷ vs) ≡ true
-unfolding walk_passes
-all_pass n [] number all = cycles_pass n [] number
-all_pass n (v ∷ vs) number all =
-    cycles_pass n (v ∷ vs) number
-    ∙ ap₂ (λ (t : Bool) (w : Walk). t && walk_passes shape [] w vs) (first_passes n v all.0) (first_walked n v all.0)
-    ∙ streams_pass n (v ∷ []) vs all.1
+  name_walked : (rows : List Row) (pending : Pending) (name : Text) → IsOption rules name
+      → walked rules [] (standing rows pending idle) (45 ∷ 45 ∷ name) ≡ standing (settled_rows rules pending rows) (Some (name, [])) (option name)
+  unfolding walked
+  name_walked rows pending name o =
+      ap (λ (m : Held × Step). after_step rules (45 ∷ 45 ∷ name) (standing rows pending idle) m.0 m.1) (name_met rows pending name o)
 
--- ---- after the walk
+  name_passes : (command : Text) (rows : List Row) (pending : Pending) (name : Text) → IsOption rules name → settle_passes rules false (held_with rows pending) ≡ true
+      → turn_passes (leaf command rules) [] (standing rows pending idle) (45 ∷ 45 ∷ name) ≡ true
+  name_passes command rows pending name o settles =
+      let word = 45 ∷ 45 ∷ name in
+      let h = held_with rows pending in
+      ap₂ (λ (s t : Bool). s && t)
+      (ap (λ (t : Bool). t || flag_word_passes rules false (long_of word) word h) o.whole
+      ∙ ap (λ (p : Option (Text × Option Text)). flag_word_passes rules false p word h) o.long
+      ∙ ap (λ (a : Option Rule). long_passes rules false a None h) o.by_long
+      ∙ settles)
+      (ap (λ (m : Held × Step). step_passes (leaf command rules) 1 m.0 m.1) (name_met rows pending name o))
 
--- a parser of text takes any text
-texts_pass : (r : Rule) (vs : List Text) → ((v : Text) → value_passes r v ≡ true) → values_pass r vs ≡ true
-texts_pass r [] each = refl
-texts_pass r (v ∷ vs) each = ap₂ (λ (a b : Bool). a && b) (each v) (texts_pass r vs each)
+  value_met : (rows : List Row) (name v : Text) → IsOption rules name → HasNoHyphen v
+      → word_met rules [] false (option name) 1 v (held_with rows (Some (name, []))) ≡ (held_with rows (Some (name, v ∷ [])), next idle)
+  value_met rows name v o e =
+      let h = held_with rows (Some (name, [])) in
+      plain_met (option name) v h e
+      ∙ ap (λ (a : Option Rule). ((option_word a name v h).0, next (option_word a name v h).1)) o.by_id
+      ∙ ap (λ (t : Bool). (held_with rows (Some (name, v ∷ [])), next (if nat_lt (if t then 1 else 0) 1 then option name else idle))) o.same
 
-abbrev end_passes : Walk → Bool
-end_passes w = settle_passes shape.rules shape.args_override_self w.held && (list_all default_passes shape.rules && is_valid shape (finished shape.rules w.held) false)
+  value_walked : (rows : List Row) (name v : Text) → IsOption rules name → HasNoHyphen v
+      → walked rules [] (standing rows (Some (name, [])) (option name)) v ≡ standing rows (Some (name, v ∷ [])) idle
+  unfolding walked
+  value_walked rows name v o e =
+      ap (λ (m : Held × Step). after_step rules v (standing rows (Some (name, [])) (option name)) m.0 m.1) (value_met rows name v o e)
 
-abbrev streams_rule : Rule
-streams_rule = slice_index_or shape.rules 1 (new_rule [])
+  value_passed : (command : Text) (rows : List Row) (name v : Text) → IsOption rules name → HasNoHyphen v
+      → turn_passes (leaf command rules) [] (standing rows (Some (name, [])) (option name)) v ≡ true
+  value_passed command rows name v o e =
+      ap₂ (λ (s t : Bool). s && t) (plain_passes v (held_with rows (Some (name, []))) e)
+      (ap (λ (m : Held × Step). step_passes (leaf command rules) 1 m.0 m.1) (value_met rows name v o e))
 
-end_after : (n : Text) (vs : List Text) → length vs ≤ usize_max → end_passes (after n vs) ≡ true
-unfolding clap_on_literals
-end_after n [] short = refl
-end_after n (v ∷ vs) short =
-    let fits : nat_le (length (v ∷ vs)) usize_max ≡ true = search rules in
-    let texts : values_pass streams_rule (v ∷ vs) ≡ true = texts_pass streams_rule (v ∷ vs) (λ t. refl) in
-    let least : nat_le 0 (length (v ∷ vs)) ≡ true = search rules in
-    rw (fits) (rw (texts) (rw (least) refl))
+  first_met : (waiting : Waiting) (rows : List Row) (pending : Pending) (v : Text) → plain_word rules waiting v (held_with rows pending) ≡ (held_with rows pending, value) → HasNoHyphen v
+      → subcommand_or_other rules None waiting 1 v (held_with rows pending) ≡ (held_with rows pending, value)
+  first_met waiting rows pending v is e = plain_met waiting v (held_with rows pending) e ∙ is
 
--- ---- the program's own level
+  first_walked : (rows : List Row) (pending : Pending) (v : Text) → arg_by_index rules 1 ≡ Some words_rule → is_pending words_rule pending ≡ false → HasNoHyphen v
+      → walked rules [] (standing rows pending idle) v ≡ standing (settled_rows rules pending rows) (Some (codes "streams", v ∷ [])) positional
+  unfolding walked
+  first_walked rows pending v words fresh e =
+      let h = held_with rows pending in
+      let w = standing rows pending idle in
+      ap (λ (m : Held × Step). after_step rules v w m.0 m.1) (first_met idle rows pending v refl e)
+      ∙ ap (λ (a : Option Rule). to_positional rules a v w h) words
+      ∙ ap (λ (t : Bool). record w { held = pushed (codes "streams") v (if t && true then h else held_with (settled_rows rules pending rows) None); waiting = positional }) fresh
 
-abbrev met_named : Text → List Text → Walk
-met_named command words = record { held = nothing_held; waiting = idle; position = 1; is_trailing = false; stopped = Some (command, words) }
+  first_passes : (command : Text) (rows : List Row) (pending : Pending) (v : Text) → arg_by_index rules 1 ≡ Some words_rule → is_pending words_rule pending ≡ false → HasNoHyphen v
+      → settle_passes rules false (held_with rows pending) ≡ true → turn_passes (leaf command rules) [] (standing rows pending idle) v ≡ true
+  first_passes command rows pending v words fresh e settles =
+      let h = held_with rows pending in
+      ap₂ (λ (s t : Bool). s && t) (plain_passes v h e)
+      (ap (λ (m : Held × Step). step_passes (leaf command rules) 1 m.0 m.1) (first_met idle rows pending v refl e)
+      ∙ ap (λ (o : Option Rule). option_map_or (λ (a : Rule). positional_passes rules false a h) o false) words
+      ∙ ap (λ (t : Bool). (t && true) || settle_passes rules false h) fresh
+      ∙ settles)
 
-passed_on : (command : Text) (names : Names) (ws vs : List Text) → fold (walked (built blifww_app).top.rules names) (met_named command ws) vs ≡ met_named command (ws ++ vs)
-unfolding walked
-passed_on command names ws [] = ap (met_named command) (search rules)
-passed_on command names ws (v ∷ vs) = passed_on command names (ws ++ v ∷ []) vs ∙ ap (met_named command) (append_assoc ws (v ∷ []) vs)
+  next_walked : (rows : List Row) (ws : List Text) (v : Text) → arg_by_index rules 1 ≡ Some words_rule → HasNoHyphen v
+      → walked rules [] (standing rows (Some (codes "streams", ws)) positional) v ≡ standing rows (Some (codes "streams", ws ++ v ∷ [])) positional
+  unfolding walked
+  next_walked rows ws v words e =
+      let pending = Some (codes "streams", ws) in
+      let w = standing rows pending positional in
+      ap (λ (m : Held × Step). after_step rules v w m.0 m.1) (first_met positional rows pending v refl e)
+      ∙ ap (λ (a : Option Rule). to_positional rules a v w (held_with rows pending)) words
 
-passed_pass : (command : Text) (names : Names) (ws vs : List Text) → walk_passes (built blifww_app).top names (met_named command ws) vs ≡ true
-unfolding walk_passes walked
-passed_pass command names ws [] = refl
-passed_pass command names ws (v ∷ vs) = passed_pass command names (ws ++ v ∷ []) vs
+  next_passes : (command : Text) (rows : List Row) (ws : List Text) (v : Text) → arg_by_index rules 1 ≡ Some words_rule → HasNoHyphen v
+      → turn_passes (leaf command rules) [] (standing rows (Some (codes "streams", ws)) positional) v ≡ true
+  next_passes command rows ws v words e =
+      let h = held_with rows (Some (codes "streams", ws)) in
+      ap₂ (λ (s t : Bool). s && t) (plain_passes v h e)
+      (ap (λ (m : Held × Step). step_passes (leaf command rules) 1 m.0 m.1) (first_met positional rows (Some (codes "streams", ws)) v refl e)
+      ∙ ap (λ (o : Option Rule). option_map_or (λ (a : Rule). positional_passes rules false a h) o false) words)
 
-and_true : (b : Bool) → (b && true) ≡ b
-and_true true = refl
-and_true false = refl
+  -- ---- words of any number
 
--- after its name, the words of `simulate` are its own, and so are those of `eval`
-pub simulate_takes : (name : Text) (rest : List Text) → takes blifww_app (name ∷ codes "simulate" ∷ rest) ≡ level_passes shape [] nothing_held rest false
-unfolding clap_on_literals
-simulate_takes name rest =
-    let names = names_of (built blifww_app) in
-    let walks : fold (walked (built blifww_app).top.rules names) (met_named (codes "simulate") []) rest ≡ met_named (codes "simulate") rest = passed_on (codes "simulate") names [] rest in
-    let passes : walk_passes (built blifww_app).top names (met_named (codes "simulate") []) rest ≡ true = passed_pass (codes "simulate") names [] rest in
-    rw (walks) (rw (passes) (and_true _))
+  streams_walked : (rows : List Row) (ws vs : List Text) → arg_by_index rules 1 ≡ Some words_rule → AllByRecursion HasNoHyphen vs
+      → fold (walked rules []) (standing rows (Some (codes "streams", ws)) positional) vs ≡ standing rows (Some (codes "streams", ws ++ vs)) positional
+  streams_walked rows ws [] words all = ap (λ (l : List Text). standing rows (Some (codes "streams", l)) positional) (append_none ws)
+  streams_walked rows ws (v ∷ vs) words all =
+      ap (λ (w : Walk). fold (walked rules []) w vs) (next_walked rows ws v words all.0)
+      ∙ streams_walked rows (ws ++ v ∷ []) vs words all.1
+      ∙ ap (λ (l : List Text). standing rows (Some (codes "streams", l)) positional) (append_assoc ws (v ∷ []) vs)
 
-pub simulate_entered : (name : Text) (rest : List Text) → subcommand_of blifww_app (name ∷ codes "simulate" ∷ rest) ≡ Some (codes "simulate", rows_after shape.rules [] rest)
-unfolding clap_on_literals
-simulate_entered name rest =
-    let names = names_of (built blifww_app) in
-    let walks : fold (walked (built blifww_app).top.rules names) (met_named (codes "simulate") []) rest ≡ met_named (codes "simulate") rest = passed_on (codes "simulate") names [] rest in
-    ap (λ (w : Walk). entered (built blifww_app) w.stopped) walks
+  streams_pass : (command : Text) (rows : List Row) (ws vs : List Text) → arg_by_index rules 1 ≡ Some words_rule → AllByRecursion HasNoHyphen vs
+      → walk_passes (leaf command rules) [] (standing rows (Some (codes "streams", ws)) positional) vs ≡ true
+  unfolding walk_passes
+  streams_pass command rows ws [] words all = refl
+  streams_pass command rows ws (v ∷ vs) words all =
+      ap₂ (λ (t : Bool) (w : Walk). t && walk_passes (leaf command rules) [] w vs) (next_passes command rows ws v words all.0) (next_walked rows ws v words all.0)
+      ∙ streams_pass command rows (ws ++ v ∷ []) vs words all.1
 
-pub eval_takes : (name : Text) (rest : List Text) → takes blifww_app (name ∷ codes "eval" ∷ rest) ≡ level_passes shape [] nothing_held rest false
-unfolding clap_on_literals
-eval_takes name rest =
-    let names = names_of (built blifww_app) in
-    let walks : fold (walked (built blifww_app).top.rules names) (met_named (codes "eval") []) rest ≡ met_named (codes "eval") rest = passed_on (codes "eval") names [] rest in
-    let passes : walk_passes (built blifww_app).top names (met_named (codes "eval") []) rest ≡ true = passed_pass (codes "eval") names [] rest in
-    rw (walks) (rw (passes) (and_true _))
+  -- the walk after these options and words
+  abbrev pub plain_walk : List Row → Pending → List (Text × Text) → List Text → Walk
+  plain_walk rows pending [] [] = standing rows pending idle
+  plain_walk rows pending [] (v ∷ vs) = standing (settled_rows rules pending rows) (Some (codes "streams", v ∷ vs)) positional
+  plain_walk rows pending (given ∷ options) streams = plain_walk (settled_rows rules pending rows) (Some (given.0, given.1 ∷ [])) options streams
 
-pub eval_entered : (name : Text) (rest : List Text) → subcommand_of blifww_app (name ∷ codes "eval" ∷ rest) ≡ Some (codes "eval", rows_after shape.rules [] rest)
-unfolding clap_on_literals
-eval_entered name rest =
-    let names = names_of (built blifww_app) in
-    let walks : fold (walked (built blifww_app).top.rules names) (met_named (codes "eval") []) rest ≡ met_named (codes "eval") rest = passed_on (codes "eval") names [] rest in
-    ap (λ (w : Walk). entered (built blifww_app) w.stopped) walks
+  -- each option is used once at most
+  abbrev pub options_pass : List Row → Pending → List (Text × Text) → Bool
+  options_pass rows pending [] = settle_passes rules false (held_with rows pending)
+  options_pass rows pending (given ∷ options) =
+      settle_passes rules false (held_with rows pending) && options_pass (settled_rows rules pending rows) (Some (given.0, given.1 ∷ [])) options
 
--- ---- the words of `simulate` and `eval`, whose option comes first and whose last words begin with no hyphen
+  pub all_walked : (rows : List Row) (pending : Pending) (options : List (Text × Text)) (streams : List Text) → is_pending words_rule pending ≡ false
+      → AllByRecursion (IsGiven rules) options → HaveWords rules streams → AllByRecursion HasNoHyphen streams
+      → fold (walked rules []) (standing rows pending idle) (option_words options ++ streams) ≡ plain_walk rows pending options streams
+  all_walked rows pending [] [] fresh given words all = refl
+  all_walked rows pending [] (v ∷ vs) fresh given words all =
+      ap (λ (w : Walk). fold (walked rules []) w vs) (first_walked rows pending v words fresh all.0) ∙ streams_walked (settled_rows rules pending rows) (v ∷ []) vs words all.1
+  all_walked rows pending (p ∷ options) streams fresh given words all =
+      let later = option_words options ++ streams in
+      let settled = settled_rows rules pending rows in
+      ap (λ (w : Walk). fold (walked rules []) (walked rules [] w p.1) later) (name_walked rows pending p.0 given.0.0)
+      ∙ ap (λ (w : Walk). fold (walked rules []) w later) (value_walked settled p.0 p.1 given.0.0 given.0.1)
+      ∙ all_walked settled (Some (p.0, p.1 ∷ [])) options streams given.0.0.other given.1 words all
 
-abbrev pub rows_for : Text → List Text → List Row
-rows_for n [] = cycles_row n ∷ []
-rows_for n (v ∷ vs) = cycles_row n ∷ streams_row (v ∷ vs) ∷ []
-
-finished_after : (n : Text) (vs : List Text) → finished shape.rules (after n vs).held ≡ rows_for n vs
-unfolding clap_on_literals
-finished_after n [] = refl
-finished_after n (v ∷ vs) = refl
-
--- words that a command takes on its own level are taken, and have their rows
-module _ (command n : Text) (vs : List Text) (number : HasNoHyphen n) (all : AllByRecursion HasNoHyphen vs) where
-  pub words_taken : (name : Text) → takes blifww_app (name ∷ command ∷ codes "--cycles" ∷ n ∷ vs) ≡ level_passes shape [] nothing_held (codes "--cycles" ∷ n ∷ vs) false
-      → length vs ≤ usize_max → takes blifww_app (name ∷ command ∷ codes "--cycles" ∷ n ∷ vs) ≡ true
-  words_taken name own short =
-      own
-      ∙ ap₂ (λ (t : Bool) (w : Walk). t && end_passes w) (all_pass n vs number all) (all_walked n vs number all)
-      ∙ end_after n vs short
-
-  pub words_entered : (name : Text) → subcommand_of blifww_app (name ∷ command ∷ codes "--cycles" ∷ n ∷ vs) ≡ Some (command, rows_after shape.rules [] (codes "--cycles" ∷ n ∷ vs))
-      → subcommand_of blifww_app (name ∷ command ∷ codes "--cycles" ∷ n ∷ vs) ≡ Some (command, rows_for n vs)
-  words_entered name own =
-      own
-      ∙ ap (λ (w : Walk). Some (command, finished shape.rules w.held)) (all_walked n vs number all)
-      ∙ ap (λ (rows : List Row). Some (command, rows)) (finished_after n vs)
-
-pub compile_entered : (name : Text) → subcommand_of blifww_app (name ∷ codes "compile" ∷ []) ≡ Some (codes "compile", [])
-unfolding clap_on_literals
-compile_entered name = refl
+  pub all_pass : (command : Text) (rows : List Row) (pending : Pending) (options : List (Text × Text)) (streams : List Text) → is_pending words_rule pending ≡ false
+      → AllByRecursion (IsGiven rules) options → HaveWords rules streams → AllByRecursion HasNoHyphen streams → options_pass rows pending options ≡ true
+      → walk_passes (leaf command rules) [] (standing rows pending idle) (option_words options ++ streams) ≡ true
+  unfolding walk_passes
+  all_pass command rows pending [] [] fresh given words all settles = refl
+  all_pass command rows pending [] (v ∷ vs) fresh given words all settles =
+      ap₂ (λ (t : Bool) (w : Walk). t && walk_passes (leaf command rules) [] w vs) (first_passes command rows pending v words fresh all.0 settles) (first_walked rows pending v words fresh all.0)
+      ∙ streams_pass command (settled_rows rules pending rows) (v ∷ []) vs words all.1
+  all_pass command rows pending (p ∷ options) streams fresh given words all settles =
+      let later = option_words options ++ streams in
+      let settled = settled_rows rules pending rows in
+      let parts = and_parts (settle_passes rules false (held_with rows pending)) _ settles in
+      ap₂ (λ (t : Bool) (w : Walk). t && (turn_passes (leaf command rules) [] w p.1 && walk_passes (leaf command rules) [] (walked rules [] w p.1) later))
+      (name_passes command rows pending p.0 given.0.0 parts.0) (name_walked rows pending p.0 given.0.0)
+      ∙ ap₂ (λ (t : Bool) (w : Walk). t && walk_passes (leaf command rules) [] w later)
+      (value_passed command settled p.0 p.1 given.0.0 given.0.1) (value_walked settled p.0 p.1 given.0.0 given.0.1)
+      ∙ all_pass command settled (Some (p.0, p.1 ∷ [])) options streams given.0.0.other given.1 words all parts.1

@@ -1,24 +1,49 @@
 -- The command line as clap sees it: one required subcommand, each with its options of one value, and its last words.
-use Rattle.std.specs.Prelude.{ℕ, List, Some, codes, true}
-use Rattle.clap.specs.Walk.{Rule}
+use Rattle.std.specs.Prelude.{ℕ, List, [], ◌∷◌, Some, codes, true}
+use Rattle.clap.specs.Walk.{Rule, Text}
 use Rattle.clap.specs.Simple.{App, new_app, new_rule, with_rule, with_subcommand}
 use Rattle.clap.specs.Lexer.{usize_max}
 use Rattle.clap.specs.declared.builder.action.ArgAction.TheVariants.{Set, Append}
 
--- `--cycles N`, which is required
-abbrev pub cycles_option : Rule
-cycles_option = record (new_rule (codes "cycles")) { long = Some (codes "cycles"); required = true; action = Some Set }
+-- `--name VALUE`, which may be missing
+abbrev pub free_option : Text → Rule
+free_option name = record (new_rule name) { long = Some name; action = Some Set }
+
+-- `--name VALUE`, which is required
+abbrev pub required_option : Text → Rule
+required_option name = record (new_rule name) { long = Some name; required = true; action = Some Set }
 
 -- zero or more words, last
 abbrev pub stream_words : Rule
 stream_words = record (new_rule (codes "streams")) { range = Some record { start_inclusive = 0; end_inclusive = usize_max }; action = Some Append }
 
+-- the command with these options too, which are required
+abbrev pub with_required : App → List Text → App
+with_required a [] = a
+with_required a (name ∷ names) = with_required (with_rule a (required_option name)) names
+
 abbrev pub compile_app : App
 compile_app = new_app (codes "compile")
 
--- a command of this name with a number of cycles and words
-abbrev pub driven_app : List ℕ → App
-driven_app name = with_rule (with_rule (new_app name) cycles_option) stream_words
+-- `simulate` or `eval`, by its name
+abbrev pub driven_app : Text → App
+driven_app name = with_rule (with_required (new_app name) (codes "cycles" ∷ [])) stream_words
+
+abbrev pub probe_app : App
+probe_app =
+    with_rule (with_rule (with_required (new_app (codes "probe")) (codes "cycles" ∷ codes "net" ∷ []))
+    (free_option (codes "path"))) stream_words
+
+abbrev pub window_app : App
+window_app =
+    with_rule (with_required (new_app (codes "window")) (codes "gen" ∷ codes "x" ∷ codes "y" ∷ codes "width" ∷ codes "height" ∷ []))
+    stream_words
+
+abbrev pub make_app : App
+make_app = with_required (new_app (codes "make")) (codes "seed" ∷ codes "size" ∷ [])
+
+abbrev pub self_app : App
+self_app = with_required (new_app (codes "self")) (codes "seed" ∷ codes "size" ∷ codes "cycles" ∷ [])
 
 -- the program, which has neither a help nor a version of clap's own
 abbrev pub bare_app : App
@@ -31,7 +56,12 @@ bare_app = let a = new_app (codes "blifww") in record a {
   };
 }
 
+-- the command with these as its subcommands too
+abbrev pub with_subcommands : App → List App → App
+with_subcommands a [] = a
+with_subcommands a (sub ∷ subs) = with_subcommands (with_subcommand a sub.top) subs
+
 abbrev pub blifww_app : App
 blifww_app =
-    with_subcommand (with_subcommand (with_subcommand bare_app compile_app.top) (driven_app (codes "simulate")).top)
-    (driven_app (codes "eval")).top
+    with_subcommands bare_app
+    (compile_app ∷ driven_app (codes "simulate") ∷ driven_app (codes "eval") ∷ probe_app ∷ window_app ∷ make_app ∷ self_app ∷ [])

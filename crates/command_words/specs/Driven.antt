@@ -1,11 +1,20 @@
--- The commands that are driven by streams.
-use Rattle.std.specs.Prelude.{ℕ, List}
+-- What the commands are read as.
+use Rattle.std.specs.Prelude.{◌≡◌, ⊤, ℕ, List, Option, Some, None, Ok, Err, Result}
 use Rattle.clap.specs.Walk.{Text}
-use Rattle.command_words.specs.Shapes.{CommandValues, simulate, eval}
+use Rattle.command_words.specs.Shapes.{CommandValues, HasNumbersInRange, values_of, simulate, eval}
+use Rattle.command_words.specs.declared.command.Command.{Command}
 use Rattle.command_words.specs.declared.command.Driven.{Driven}
 use Rattle.command_words.specs.declared.command.Driven.TheVariants.{Simulate, Eval}
+use Rattle.command_words.specs.declared.error.WordsError.{WordsError}
+use Rattle.command_words.specs.declared.error.WordsError.TheVariants.{Usage, NoMemory}
 
 -- with a number of cycles and words
 abbrev pub values_by : Driven → ℕ → List Text → CommandValues
 values_by Simulate cycles streams = simulate cycles streams
 values_by Eval cycles streams = eval cycles streams
+
+-- a command has the values that were met, with numbers in their ranges, and where words are refused as none there are no values
+abbrev pub Reads : Option CommandValues → Result Command WordsError → Type 0
+Reads values (Ok command) = (values ≡ Some (values_of command)) × HasNumbersInRange (values_of command)
+Reads values (Err Usage) = values ≡ None
+Reads values (Err NoMemory) = ⊤

@@ -2,5 +2,6 @@ pub mod App
 pub mod Errors
 pub mod Laws
 pub mod Numbers
+pub mod Program
 pub mod Shapes
 pub mod Driven

@@ -22,6 +22,10 @@ pub record NumberRange : Type 0 where
   pub least : ℕ
   pub most : ℕ
 
+-- the number that the text writes in digits, where the option takes it
+abbrev pub number_in : NumberRange → List ℕ → Option ℕ
+number_in range text = number_between range.least range.most text
+
 abbrev pub cycles_range : NumberRange
 cycles_range = record { name = codes "cycles"; least = 1; most = 1048576 }
 

@@ -1,13 +1,13 @@
 -- Which lists of words are a command, and what they ask for.
-use Rattle.std.specs.Prelude.{⊤, ◌≡◌, ℕ, Bool, true, List, [], ◌∷◌, map, Option, Some, None, IfSome, is_some, option_map, option_and_then, unwrap_or, codes, string_bytes, if◌then◌else◌, false, not, ◌==◌}
-use Rattle.std.specs.List.{list_all}
+use Rattle.std.specs.Prelude.{⊤, ◌≡◌, ℕ, Bool, true, List, [], ◌∷◌, map, Option, Some, None, IfSome, is_some, option_map, option_and_then, unwrap_or, ◌++◌, codes, string_bytes, if◌then◌else◌, false, not, ◌==◌}
+use Rattle.std.specs.List.{list_all, AllByRecursion}
 use Rattle.std.specs.Str.{bytes_eq}
 use Rattle.clap.specs.Walk.{Row, Text, all_of, first_of}
 use Rattle.clap.specs.Simple.{subcommand_of}
 use Rattle.clap.specs.Takes.{takes}
 use Rattle.clap.specs.Faults.{fault_of}
 use Rattle.command_words.specs.App.{blifww_app}
-use Rattle.command_words.specs.Numbers.{number_between, IsInRange, cycles_range, generation_range, x_range, y_range, width_range, height_range, seed_range, size_range}
+use Rattle.command_words.specs.Numbers.{NumberRange, number_in, number_ranges, IsInRange, cycles_range, generation_range, x_range, y_range, width_range, height_range, seed_range, size_range}
 use Rattle.command_words.specs.declared.command.View.{View}
 use Rattle.command_words.specs.declared.command.Command.{Command}
 use Rattle.command_words.specs.declared.command.Command.TheVariants.{Compile, Simulate, Eval, Probe, Window, Make, Self_}
@@ -47,17 +47,39 @@ HasNumbersInRange (window view streams) = HasViewInRange view
 HasNumbersInRange (make seed size) = IsInRange seed_range seed × IsInRange size_range size
 HasNumbersInRange (self_ seed size cycles) = IsInRange seed_range seed × IsInRange size_range size × IsInRange cycles_range cycles
 
--- the number of cycles that a text writes, from 1 to 1,048,576
-abbrev pub cycle_count : Text → Option ℕ
-cycle_count = number_between 1 1048576
+-- the number that the matches give an option, where it is in its range
+abbrev pub number_met : NumberRange → List Row → Option ℕ
+number_met range rows = option_and_then (number_in range) (first_of range.name rows)
 
--- the values of a command that is driven by streams, by the text of its number and its words
-abbrev pub driven_values : (ℕ → List Text → CommandValues) → Option Text → List Text → Option CommandValues
-driven_values command number streams = option_map (λ cycles. command cycles streams) (option_and_then (cycle_count) number)
+-- the last words
+abbrev pub streams_met : List Row → List Text
+streams_met rows = unwrap_or (all_of (codes "streams") rows) []
 
--- and by the matches of its option and its words
+-- for each command its values by the matches of its options and words
 abbrev pub driven_by : (ℕ → List Text → CommandValues) → List Row → Option CommandValues
-driven_by command rows = driven_values command (first_of (codes "cycles") rows) (unwrap_or (all_of (codes "streams") rows) [])
+driven_by command rows = option_map (λ cycles. command cycles (streams_met rows)) (number_met cycles_range rows)
+
+abbrev pub probe_by : List Row → Option CommandValues
+probe_by rows =
+    option_and_then (λ cycles. option_map (λ net. probe cycles net (unwrap_or (first_of (codes "path") rows) (codes "-")) (streams_met rows))
+    (first_of (codes "net") rows)) (number_met cycles_range rows)
+
+abbrev pub view_met : List Row → Option View
+view_met rows =
+    option_and_then (λ generation. option_and_then (λ x. option_and_then (λ y. option_and_then (λ width. option_map (λ height.
+    record { generation = generation; x = x; y = y; width = width; height = height })
+    (number_met height_range rows)) (number_met width_range rows)) (number_met y_range rows)) (number_met x_range rows)) (number_met generation_range rows)
+
+abbrev pub window_by : List Row → Option CommandValues
+window_by rows = option_map (λ view. window view (streams_met rows)) (view_met rows)
+
+abbrev pub make_by : List Row → Option CommandValues
+make_by rows = option_and_then (λ seed. option_map (λ size. make seed size) (number_met size_range rows)) (number_met seed_range rows)
+
+abbrev pub self_by : List Row → Option CommandValues
+self_by rows =
+    option_and_then (λ seed. option_and_then (λ size. option_map (λ cycles. self_ seed size cycles)
+    (number_met cycles_range rows)) (number_met size_range rows)) (number_met seed_range rows)
 
 -- the values that a command of this name has by the matches of its options and words
 abbrev pub values_by_name : Text → List Row → Option CommandValues
@@ -65,6 +87,10 @@ values_by_name name rows =
     if bytes_eq name (codes "compile") then Some compile
     else if bytes_eq name (codes "simulate") then driven_by simulate rows
     else if bytes_eq name (codes "eval") then driven_by eval rows
+    else if bytes_eq name (codes "probe") then probe_by rows
+    else if bytes_eq name (codes "window") then window_by rows
+    else if bytes_eq name (codes "make") then make_by rows
+    else if bytes_eq name (codes "self") then self_by rows
     else None
 
 abbrev pub values_met : Option (Text × List Row) → Option CommandValues
@@ -74,14 +100,18 @@ values_met = option_and_then (λ met. values_by_name met.0 met.1)
 abbrev pub command_values : List Text → Option CommandValues
 command_values words = values_met (subcommand_of blifww_app words)
 
--- the number of cycles that clap's matches for the words give, as it is written
-abbrev pub cycles_of : List Text → Option Text
-cycles_of words = option_and_then (λ met. first_of (codes "cycles") met.1) (subcommand_of blifww_app words)
+-- the text that clap's matches give an option of this name
+abbrev pub text_met : Text → Option (Text × List Row) → Option Text
+text_met name = option_and_then (λ met. first_of name met.1)
+
+-- each number that the matches give is in its range
+abbrev pub MeetsRanges : Option (Text × List Row) → Type 0
+MeetsRanges met = AllByRecursion (λ range. IfSome (text_met range.name met) (λ text. is_some (number_in range text) ≡ true)) number_ranges
 
 -- The words are a command: a parse of them by clap can fail for want of memory alone, and each number lies in its range.
 pub record IsCommand (words : List Text) : Type 0 where
   pub taken : takes blifww_app words ≡ true
-  pub in_range : IfSome (cycles_of words) (λ number. is_some (cycle_count number) ≡ true)
+  pub in_range : MeetsRanges (subcommand_of blifww_app words)
 
 -- clap finds no fault in the words
 abbrev pub IsTaken : List Text → Type 0
@@ -92,17 +122,47 @@ abbrev pub is_plain_word : Text → Bool
 is_plain_word [] = false
 is_plain_word (b ∷ bs) = not (b == 45)
 
--- the words are this command with its number of cycles, written in digits, and then any words that are neither empty nor begin with
--- a hyphen
-abbrev pub IsDriven : Text → ℕ → List Text → List Text → Type 0
-IsDriven command cycles streams words =
-    (program : Text) × (number : Text) × (words ≡ program ∷ command ∷ codes "--cycles" ∷ number ∷ streams)
-    × (cycle_count number ≡ Some cycles) × (list_all is_plain_word streams ≡ true)
+-- options with their values, `--name value`, each as two words
+abbrev pub option_words : List (Text × Text) → List Text
+option_words [] = []
+option_words (given ∷ options) = (45 ∷ 45 ∷ given.0) ∷ given.1 ∷ option_words options
 
--- The plainest form of a command with these values: the program's name, the command's, its option as two words with the number
--- in digits and in its range, and then its words.
+-- the words are the program's name, a command's, these options, and then these words, none of which is empty or begins with a hyphen
+pub record IsPlain (command : Text) (options : List (Text × Text)) (streams words : List Text) : Type 0 where
+  pub program : Text
+  pub words_are : words ≡ program ∷ command ∷ option_words options ++ streams
+  pub plain : list_all is_plain_word streams ≡ true
+
+-- the text writes the number in digits, and it is in its range
+abbrev pub Writes : NumberRange → Text → ℕ → Type 0
+Writes range text number = number_in range text ≡ Some number
+
+-- these options give this path: there is none, and it is `-`, or one
+abbrev pub GivesPath : List (Text × Text) → Text → Type 0
+GivesPath [] path = path ≡ codes "-"
+GivesPath (given ∷ []) path = (given ≡ (codes "path", path)) × (is_plain_word path ≡ true)
+GivesPath _ path = ⊥
+
+-- `simulate` or `eval`
+abbrev pub IsDriven : Text → ℕ → List Text → List Text → Type 0
+IsDriven command cycles streams words = (n : Text) × IsPlain command ((codes "cycles", n) ∷ []) streams words × Writes cycles_range n cycles
+
+-- The plainest form of a command with these values: the program's name, the command's, its options in the order of the table, each as
+-- two words with numbers in digits and in their ranges, and then its words. Of `probe` the path may be missing.
 abbrev pub IsWritten : CommandValues → List Text → Type 0
-IsWritten compile words = (program : Text) × (words ≡ program ∷ codes "compile" ∷ [])
+IsWritten compile words = IsPlain (codes "compile") [] [] words
 IsWritten (simulate cycles streams) words = IsDriven (codes "simulate") cycles streams words
 IsWritten (eval cycles streams) words = IsDriven (codes "eval") cycles streams words
-IsWritten _ words = ⊥
+IsWritten (probe cycles net path streams) words =
+    (n : Text) × (options : List (Text × Text)) × IsPlain (codes "probe") ((codes "cycles", n) ∷ (codes "net", net) ∷ options) streams words
+    × Writes cycles_range n cycles × (is_plain_word net ≡ true) × GivesPath options path
+IsWritten (window view streams) words =
+    (g x y w h : Text)
+    × IsPlain (codes "window") ((codes "gen", g) ∷ (codes "x", x) ∷ (codes "y", y) ∷ (codes "width", w) ∷ (codes "height", h) ∷ []) streams words
+    × Writes generation_range g view.generation × Writes x_range x view.x × Writes y_range y view.y
+    × Writes width_range w view.width × Writes height_range h view.height
+IsWritten (make seed size) words =
+    (s k : Text) × IsPlain (codes "make") ((codes "seed", s) ∷ (codes "size", k) ∷ []) [] words × Writes seed_range s seed × Writes size_range k size
+IsWritten (self_ seed size cycles) words =
+    (s k n : Text) × IsPlain (codes "self") ((codes "seed", s) ∷ (codes "size", k) ∷ (codes "cycles", n) ∷ []) [] words
+    × Writes seed_range s seed × Writes size_range k size × Writes cycles_range n cycles

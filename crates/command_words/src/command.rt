@@ -1,21 +1,19 @@
 // The command that words ask for.
-ghost use Rattle.std.specs.Prelude.{◌≡◌, ◌≤◌, IfOk, OnOk, IsErrOf, MatchResult, Some, None, length, map, string_bytes};
+ghost use Rattle.std.specs.Prelude.{◌≡◌, ◌≤◌, IfOk, IfSome, OnOk, IsErrOf, MatchResult, Some, length, map, option_map, string_bytes};
 ghost use Rattle.clap.specs.Simple.{subcommand_rows_of};
 ghost use Rattle.clap.specs.Lexer.{usize_max};
-ghost use Rattle.clap.specs.Walk.{rows_of};
+ghost use Rattle.clap.specs.Walk.{first_of, rows_of};
 ghost use Rattle.clap.specs.Words.{found_of};
-ghost use Rattle.command_words.specs.Driven.{values_by};
-ghost use Rattle.command_words.specs.Shapes.{CommandValues, HasNumbersInRange, IsCommand, IsTaken, IsWritten, command_values, driven_by, values_met, values_of};
+ghost use Rattle.command_words.specs.Driven.{Reads, values_by};
+ghost use Rattle.command_words.specs.Numbers.{IsInRange, cycles_range, seed_range, size_range};
+ghost use Rattle.command_words.specs.Shapes.{CommandValues, HasNumbersInRange, HasViewInRange, IsCommand, IsTaken, IsWritten, command_values, driven_by, make_by, number_met, probe_by, self_by, streams_met, values_met, values_of, view_met, window_by};
 
 use crate::WordsError;
-use crate::app::blifww_command;
 use crate::numbers::number_between;
+use crate::program::blifww_command;
 use clap::ArgMatches;
 use lists::List;
 use std::alloc::{AllocError, Global};
-
-// The most cycles that a command may ask for.
-const MOST_CYCLES: u64 = 1_048_576;
 
 /// A part of the plane at a generation: `width` cells of each of `height` rows, the first of which is the cell `x`, `y`.
 #[derive(Clone, Copy, Debug, PartialEq, Eq)]
@@ -91,28 +89,130 @@ fn owned(alloc: Global, texts: &[&str]) -> Result<List<String>, AllocError>
     Ok(List::of(words))
 }
 
-// A command that is driven by streams, with the values that clap has found for it.
-fn driven_in(alloc: Global, driven: Driven, found: &ArgMatches<'_>) -> Result<Command, WordsError>
-    ensures ok { IfOk result (λ c. driven_by (values_by driven) (rows_of (found_of found.now)) ≡ Some (values_of c)) }
-    ensures usage { IsErrOf result WordsError.Usage → driven_by (values_by driven) (rows_of (found_of found.now)) ≡ None }
-    ensures numbers { IfOk result (λ c. HasNumbersInRange (values_of c)) }
+// The last words.
+fn streams_in(alloc: Global, found: &ArgMatches<'_>) -> Result<List<String>, AllocError>
+    ensures { IfOk result (λ streams. map string_bytes streams ≡ streams_met (rows_of (found_of found.now))) }
 {
-    let number = found.get_str("cycles").ok_or(WordsError::Usage)?;
-    let cycles = number_between(number, 1, MOST_CYCLES).ok_or(WordsError::Usage)?;
-    let streams = owned(alloc, found.get_strs("streams").unwrap_or(&[]))?;
-    Ok(driven.with(cycles as usize, streams))
+    owned(alloc, found.get_strs("streams").unwrap_or(&[]))
+}
+
+// The text that is given for an option of this name.
+fn text_in<'a>(found: &ArgMatches<'a>, name: &str) -> Option<&'a str>
+    ensures { option_map (λ t. t.now) result ≡ first_of name.now (rows_of (found_of found.now)) }
+{
+    found.get_str(name)
+}
+
+// The number that is given for an option of this name, if it lies between the bounds.
+fn number_in(found: &ArgMatches<'_>, name: &str, least: u64, most: u64) -> Option<u64>
+    ensures value { result ≡ number_met (record { name = name.now; least = least; most = most }) (rows_of (found_of found.now)) }
+    ensures bounds { IfSome result (λ number. (least ≤ number) × (number ≤ most)) }
+{
+    number_between(text_in(found, name)?, least, most)
+}
+
+fn cycles_in(found: &ArgMatches<'_>) -> Option<usize>
+    ensures value { result ≡ number_met cycles_range (rows_of (found_of found.now)) }
+    ensures bounds { IfSome result (IsInRange cycles_range) }
+{
+    Some(number_in(found, "cycles", 1, 1_048_576)? as usize)
+}
+
+fn seed_in(found: &ArgMatches<'_>) -> Option<u32>
+    ensures value { result ≡ number_met seed_range (rows_of (found_of found.now)) }
+    ensures bounds { IfSome result (IsInRange seed_range) }
+{
+    Some(number_in(found, "seed", 0, 2_147_483_647)? as u32)
+}
+
+fn size_in(found: &ArgMatches<'_>) -> Option<u32>
+    ensures value { result ≡ number_met size_range (rows_of (found_of found.now)) }
+    ensures bounds { IfSome result (IsInRange size_range) }
+{
+    Some(number_in(found, "size", 1, 128)? as u32)
+}
+
+fn view_in(found: &ArgMatches<'_>) -> Option<View>
+    ensures value { result ≡ view_met (rows_of (found_of found.now)) }
+    ensures bounds { IfSome result HasViewInRange }
+{
+    let generation = number_in(found, "gen", 0, 4_294_967_296)?;
+    let x = number_in(found, "x", 0, 4_294_967_295)?;
+    let y = number_in(found, "y", 0, 4_294_967_295)?;
+    let width = number_in(found, "width", 1, 4_096)?;
+    let height = number_in(found, "height", 1, 4_096)?;
+    Some(View {
+        generation,
+        x,
+        y,
+        width,
+        height,
+    })
+}
+
+// Each command by what clap has found for its options and words.
+fn driven_in(alloc: Global, driven: Driven, found: &ArgMatches<'_>) -> Result<Command, WordsError>
+    ensures { Reads (driven_by (values_by driven) (rows_of (found_of found.now))) result }
+{
+    let cycles = cycles_in(found).ok_or(WordsError::Usage)?;
+    let streams = streams_in(alloc, found)?;
+    Ok(driven.with(cycles, streams))
+}
+
+fn probe_in(alloc: Global, found: &ArgMatches<'_>) -> Result<Command, WordsError>
+    ensures { Reads (probe_by (rows_of (found_of found.now))) result }
+{
+    let cycles = cycles_in(found).ok_or(WordsError::Usage)?;
+    let net = text_in(found, "net").ok_or(WordsError::Usage)?;
+    let path = text_in(found, "path").unwrap_or("-");
+    let net = String::from_str(alloc, net)?;
+    let path = String::from_str(alloc, path)?;
+    let streams = streams_in(alloc, found)?;
+    Ok(Command::Probe {
+        cycles,
+        net,
+        path,
+        streams,
+    })
+}
+
+fn window_in(alloc: Global, found: &ArgMatches<'_>) -> Result<Command, WordsError>
+    ensures { Reads (window_by (rows_of (found_of found.now))) result }
+{
+    let view = view_in(found).ok_or(WordsError::Usage)?;
+    let streams = streams_in(alloc, found)?;
+    Ok(Command::Window { view, streams })
+}
+
+fn make_in(found: &ArgMatches<'_>) -> Result<Command, WordsError>
+    ensures { Reads (make_by (rows_of (found_of found.now))) result }
+{
+    let seed = seed_in(found).ok_or(WordsError::Usage)?;
+    let size = size_in(found).ok_or(WordsError::Usage)?;
+    Ok(Command::Make { seed, size })
+}
+
+fn self_in(found: &ArgMatches<'_>) -> Result<Command, WordsError>
+    ensures { Reads (self_by (rows_of (found_of found.now))) result }
+{
+    let seed = seed_in(found).ok_or(WordsError::Usage)?;
+    let size = size_in(found).ok_or(WordsError::Usage)?;
+    let cycles = cycles_in(found).ok_or(WordsError::Usage)?;
+    Ok(Command::Self_ { seed, size, cycles })
 }
 
 // The command that clap has found, with its values.
 fn command_in(alloc: Global, found: &ArgMatches<'_>) -> Result<Command, WordsError>
-    ensures ok { IfOk result (λ c. values_met (subcommand_rows_of found.now) ≡ Some (values_of c)) }
-    ensures usage { IsErrOf result WordsError.Usage → values_met (subcommand_rows_of found.now) ≡ None }
-    ensures numbers { IfOk result (λ c. HasNumbersInRange (values_of c)) }
+    ensures { Reads (values_met (subcommand_rows_of found.now)) result }
 {
     match found.subcommand() {
         Some(("compile", _)) => Ok(Command::Compile),
         Some(("simulate", inner)) => driven_in(alloc, Driven::Simulate, inner),
         Some(("eval", inner)) => driven_in(alloc, Driven::Eval, inner),
+        Some(("probe", inner)) => probe_in(alloc, inner),
+        Some(("window", inner)) => window_in(alloc, inner),
+        Some(("make", inner)) => make_in(inner),
+        Some(("self", inner)) => self_in(inner),
         _ => Err(WordsError::Usage),
     }
 }
@@ -124,8 +224,11 @@ fn length_fits(words: &[String])
     words.len();
 }
 
-/// The command that the words of a command line ask for. The first word is the program's name, and after it stands `compile`,
-/// or `simulate --cycles N` or `eval --cycles N` with any words, of which N is in decimal digits, with or without leading zeros, from 1 to 1,048,576.
+/// The command that the words of a command line ask for. The first word is the program's name, and after it stands one of
+/// `compile`, `simulate --cycles N word..`, `eval --cycles N word..`, `probe --cycles N --net NAME [--path PATH] word..`,
+/// `window --gen G --x X --y Y --width W --height H word..`, `make --seed S --size K`, `self --seed S --size K --cycles N`.
+/// Numbers are in decimal digits, with or without leading zeros: N from 1 to 1,048,576, G to 4,294,967,296, X and Y to 4,294,967,295,
+/// W and H from 1 to 4,096, S to 2,147,483,647, K from 1 to 128.
 /// `Usage` comes only where the words are no command, and each other answer but `NoMemory` only where they have its values.
 pub fn command_of(alloc: Global, words: &[String]) -> Result<Command, WordsError>
     ensures ok { IfOk result (λ c. command_values (map string_bytes words.now) ≡ Some (values_of c)) }

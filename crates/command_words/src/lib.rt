@@ -6,6 +6,7 @@ mod command;
 mod error;
 pub mod laws;
 mod numbers;
+mod program;
 
 pub use command::{Command, View, command_of};
 pub use error::WordsError;

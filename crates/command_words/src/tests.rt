@@ -1,5 +1,5 @@
 // What lists of words ask for.
-use crate::{Command, WordsError, command_of};
+use crate::{Command, View, WordsError, command_of};
 use std::alloc::Global;
 use std::test::Fail;
 
@@ -10,6 +10,10 @@ enum Asked {
     Compile,
     Simulate(usize, &'static [&'static str]),
     Eval(usize, &'static [&'static str]),
+    Probe(usize, &'static str, &'static str, &'static [&'static str]),
+    Window(View, &'static [&'static str]),
+    Make(u32, u32),
+    OfMade(u32, u32, usize),
 }
 
 const CASES: &[(&[&str], Asked)] = &[
@@ -67,6 +71,60 @@ const CASES: &[(&[&str], Asked)] = &[
         &["blifww", "eval", "--cycles", "2", "a=01", "b=10"],
         Asked::Eval(2, &["a=01", "b=10"]),
     ),
+    (
+        &[
+            "blifww", "probe", "--cycles", "1", "--net", "co", "--path", "0", "a=1",
+        ],
+        Asked::Probe(1, "co", "0", &["a=1"]),
+    ),
+    (
+        &["blifww", "probe", "--cycles", "1", "--net", "co"],
+        Asked::Probe(1, "co", "-", &[]),
+    ),
+    (&["blifww", "probe", "--cycles", "1", "a=1"], Asked::Usage),
+    (
+        &[
+            "blifww", "window", "--gen", "1", "--x", "0", "--y", "0", "--width", "3", "--height", "2", "a=1",
+        ],
+        Asked::Window(
+            View {
+                generation: 1,
+                x: 0,
+                y: 0,
+                width: 3,
+                height: 2,
+            },
+            &["a=1"],
+        ),
+    ),
+    (
+        &[
+            "blifww", "window", "--gen", "1", "--x", "0", "--y", "0", "--width", "0", "--height", "2",
+        ],
+        Asked::Usage,
+    ),
+    (
+        &["blifww", "make", "--seed", "007", "--size", "2"],
+        Asked::Make(7, 2),
+    ),
+    (
+        &["blifww", "make", "--seed", "+1", "--size", "2"],
+        Asked::Usage,
+    ),
+    (
+        &["blifww", "make", "--seed", "1", "--size", "129"],
+        Asked::Usage,
+    ),
+    (
+        &["blifww", "make", "--seed", "1", "--size", "2", "x"],
+        Asked::Usage,
+    ),
+    (
+        &[
+            "blifww", "self", "--seed", "1", "--size", "2", "--cycles", "4",
+        ],
+        Asked::OfMade(1, 2, 4),
+    ),
     (&["blifww", "--help"], Asked::Usage),
     (&["blifww", "-h"], Asked::Usage),
     (&["blifww", "help"], Asked::Usage),
@@ -86,6 +144,27 @@ fn is_asked(command: &Command, asked: Asked) -> bool {
         (Command::Simulate { cycles, streams }, Asked::Simulate(count, words))
         | (Command::Eval { cycles, streams }, Asked::Eval(count, words)) => {
             *cycles == count && are_words(streams.as_slice(), words)
+        }
+        (
+            Command::Probe {
+                cycles,
+                net,
+                path,
+                streams,
+            },
+            Asked::Probe(count, name, place, words),
+        ) => {
+            *cycles == count
+                && net.as_str() == name
+                && path.as_str() == place
+                && are_words(streams.as_slice(), words)
+        }
+        (Command::Window { view, streams }, Asked::Window(asked, words)) => {
+            *view == asked && are_words(streams.as_slice(), words)
+        }
+        (Command::Make { seed, size }, Asked::Make(first, count)) => *seed == first && *size == count,
+        (Command::Self_ { seed, size, cycles }, Asked::OfMade(first, count, many)) => {
+            *seed == first && *size == count && *cycles == many
         }
         _ => false,
     }

@@ -1,9 +1,10 @@
 use Rattle.std.proofs.Common.{rules, ◌≡◌, ◌≤◌, Some, None, length, map, string_bytes, IfOk, IsErrOf}
 use Rattle.std.proofs.lemmas.List.{length-map}
 use Rattle.clap.specs.Lexer.{usize_max}
-use Rattle.command_words.specs.Shapes.{IsCommand, command_values, values_of}
+use Rattle.clap.specs.Simple.{subcommand_rows_of}
+use Rattle.command_words.specs.Shapes.{IsCommand, command_values, values_met, values_of}
 use Rattle.command_words.specs.declared.error.WordsError.TheVariants.{Usage}
-use Rattle.command_words.proofs.Answered.{answered}
+use Rattle.command_words.proofs.Answered.{answered, read_numbers, read_ok, read_usage}
 use Rattle.command_words.proofs.Named.{no_command}
 use Rattle.command_words.proofs.command.command_of.Goals as goal
 
@@ -15,15 +16,23 @@ returns-in_err-found-clause-written c =
     let short : length words ≤ usize_max = search (rules, length-map) in
     λ v w. answered c.from_residual-in_err-found.result words v ok usage short w
 
+pub returns-clause-ok : goal.returns-clause-ok
+returns-clause-ok c =
+    let ok = read_ok (values_met (subcommand_rows_of c.in_ok-found.found)) c.command_in.result c.command_in.ensures in
+    search (rules, ok)
+
+pub returns-clause-numbers : goal.returns-clause-numbers
+returns-clause-numbers c = read_numbers (values_met (subcommand_rows_of c.in_ok-found.found)) c.command_in.result c.command_in.ensures
+
 pub returns-clause-usage : goal.returns-clause-usage
 returns-clause-usage c e i =
     let words = map string_bytes c.args.words.now in
-    let none : command_values words ≡ None = search (rules, c.command_in.ensures.usage e) in
+    let no = read_usage (values_met (subcommand_rows_of c.in_ok-found.found)) c.command_in.result c.command_in.ensures e in
+    let none : command_values words ≡ None = search (rules, no) in
     no_command words none i
 
 pub returns-clause-written : goal.returns-clause-written
 returns-clause-written c =
     let words = map string_bytes c.args.words.now in
-    let ok : IfOk c.command_in.result (λ d. command_values words ≡ Some (values_of d)) = search rules in
     let short : length words ≤ usize_max = search (rules, length-map) in
-    λ v w. answered c.command_in.result words v ok (returns-clause-usage c) short w
+    λ v w. answered c.command_in.result words v (returns-clause-ok c) (returns-clause-usage c) short w
