@@ -1,5 +1,5 @@
 use Rattle.std.proofs.Common.{◌≡◌, length}
-use Rattle.band_core.proofs.tests.orders.random_row.Given as goal
+use Rattle.pattern_tests.proofs.bands.orders.random_row.Given as goal
 
 abbrev pub invariant-loop-x : goal.invariant-loop-x
 invariant-loop-x l = length l.row.items ≡ l.x

@@ -1,5 +1,5 @@
 use Rattle.std.proofs.Common.{◌≡◌, All, length}
-use Rattle.ww_rule.proofs.tests.pattern_of.Given as goal
+use Rattle.pattern_tests.proofs.rule.pattern_of.Given as goal
 
 abbrev pub invariant-loop-west : goal.invariant-loop-west
 invariant-loop-west l =

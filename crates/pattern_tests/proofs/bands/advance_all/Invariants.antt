@@ -1,5 +1,5 @@
 use Rattle.band_core.specs.Bands.{IsSamePattern}
-use Rattle.band_core.proofs.tests.advance_all.Given as goal
+use Rattle.pattern_tests.proofs.bands.advance_all.Given as goal
 
 abbrev pub invariant-loop-b : goal.invariant-loop-b
 invariant-loop-b l = IsSamePattern l.fn.bands l.bands
