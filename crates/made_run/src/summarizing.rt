@@ -9,6 +9,7 @@ use drive::simulate;
 use grid_assembly::pattern_of;
 use lists::List;
 use netlist_core::Name;
+use netlist_plans::Planned;
 use netlist_run::run;
 use shown_runs::carriers_show_runs;
 use std::alloc::{AllocError, Global};
@@ -75,6 +76,25 @@ fn outputs_by_name(
     Ok(List::of(outputs))
 }
 
+// What is told of a plan, with the weight of its netlist and its outputs.
+fn told(weight: u64, planned: &Planned, outputs: List<OutputBits>) -> Summary
+    ensures weight { result.weight ≡ weight }
+    ensures lanes { result.lanes ≡ planned.now.plan.lanes }
+    ensures columns { result.columns ≡ length planned.now.plan.columns }
+    ensures period { result.p ≡ planned.now.ports.p }
+    ensures latency { result.l ≡ planned.now.ports.l }
+    ensures outputs { result.outputs ≡ outputs }
+{
+    Summary {
+        weight,
+        lanes: u64::from(planned.plan.lanes),
+        columns: planned.plan.columns.len() as u64,
+        p: planned.ports.p,
+        l: planned.ports.l,
+        outputs,
+    }
+}
+
 /// The netlist of a seed and a number of gates, made, compiled, simulated and evaluated under so many cycles of bits that are drawn on
 /// after it. `TooFar` comes once the netlist is compiled, where the pattern would show the last bits after generation 4,294,967,296.
 pub fn summarize(
@@ -104,12 +124,5 @@ pub fn summarize(
         simulated.as_slice(),
         evaluated.as_slice(),
     )?;
-    Ok(Summary {
-        weight,
-        lanes: u64::from(made.planned.plan.lanes),
-        columns: made.planned.plan.columns.len() as u64,
-        p: made.planned.ports.p,
-        l: made.planned.ports.l,
-        outputs,
-    })
+    Ok(told(weight, &made.planned, outputs))
 }

@@ -1,4 +1,4 @@
-use Rattle.std.proofs.Common.{rules, ℕ, ◌≡◌, ◌<◌, ◌∙◌, sym, ap, subst, List, Bool, length, arith}
+use Rattle.std.proofs.Common.{ℕ, ◌≡◌, ◌<◌, ◌∙◌, sym, ap, subst, List, Bool, length, arith}
 use Rattle.std.proofs.lemmas.Result.{err_from_is_err_and}
 use Rattle.ww_rule.specs.Grid.{Grid, AreInBox, plane_of}
 use Rattle.pattern_reading.specs.Ports.{cells_of}
@@ -71,4 +71,37 @@ returns-clause-summary c =
     ∙ ap (λ (rows : List (List Bool)). outputs_by_name c.in_ok-names.names c.in_ok-simulated.simulated rows) c.as_slice-3.ensures in
     summarizes c.carriers_show_runs.ensures c.args.seed c.args.size c.args.cycles c.in_ok-made.made.netlist c.in_ok-made.made.planned c.in_ok-streams.streams
     c.in_ok-names.names c.in_ok-simulated.simulated c.in_ok-evaluated.evaluated _ c.in_ok-made.ensures.plan are c.in_ok-names.ensures shown c.in_ok-evaluated.ensures
-    (search rules) (search rules) (search rules) (search rules) (search rules) outputs
+    c.told.ensures.weight c.told.ensures.lanes c.told.ensures.columns c.told.ensures.period c.told.ensures.latency (c.told.ensures.outputs ∙ outputs)
+
+pub draw_streams-requires : goal.draw_streams-requires
+draw_streams-requires c = c.in_ok-made.ensures.range
+
+pub returns-in_err-made-clause-refused : goal.returns-in_err-made-clause-refused
+returns-in_err-made-clause-refused c =
+    let p = err_from_is_err_and c.from_residual.result c.from_residual.ensures.1 in
+    rw (p.1, p.2, c.in_err-made.ensures.refused) tt
+
+pub returns-in_err-streams-clause-refused : goal.returns-in_err-streams-clause-refused
+returns-in_err-streams-clause-refused c =
+    let p = err_from_is_err_and c.from_residual.result c.from_residual.ensures.1 in
+    rw (p.1, p.2) tt
+
+pub returns-in_err-pattern-clause-refused : goal.returns-in_err-pattern-clause-refused
+returns-in_err-pattern-clause-refused c =
+    let p = err_from_is_err_and c.from_residual.result c.from_residual.ensures.1 in
+    rw (p.1, p.2) tt
+
+pub returns-in_err-names-clause-refused : goal.returns-in_err-names-clause-refused
+returns-in_err-names-clause-refused c =
+    let p = err_from_is_err_and c.from_residual.result c.from_residual.ensures.1 in
+    rw (p.1, p.2) tt
+
+pub returns-in_err-evaluated-clause-refused : goal.returns-in_err-evaluated-clause-refused
+returns-in_err-evaluated-clause-refused c =
+    let p = err_from_is_err_and c.from_residual.result c.from_residual.ensures.1 in
+    rw (p.1, p.2) tt
+
+pub returns-in_err-outputs-clause-refused : goal.returns-in_err-outputs-clause-refused
+returns-in_err-outputs-clause-refused c =
+    let p = err_from_is_err_and c.from_residual.result c.from_residual.ensures.1 in
+    rw (p.1, p.2) tt
