@@ -10,6 +10,3 @@ mod moving;
 
 pub use bands::Bands;
 pub use error::{BandsError, NotReady, NotSkipped};
-
-#[cfg(test)]
-mod tests;

@@ -9,6 +9,3 @@ pub use checking::check;
 pub use error::CheckError;
 pub use netlist_core::{Design, Model};
 pub use netlist_rules::{Fault, FaultKind};
-
-#[cfg(test)]
-mod tests;

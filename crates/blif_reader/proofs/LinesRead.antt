@@ -7,12 +7,12 @@ use Rattle.std.specs.Ordering.{nat_cmp}
 use Rattle.std.specs.Cmp.Lexicographic.{slice_cmp}
 use Rattle.std.specs.BTreeSet.{BTreeSet, UpdatesBy}
 use Rattle.std.proofs.lemmas.List.Sums.{take_while-cons}
-use Rattle.std.proofs.lemmas.Map.Text.{is_eq-slice_cmp}
 use denote.Ref.{Bor}
 use Rattle.blif_text.specs.declared.logical.Logical.{Logical}
 use Rattle.blif_text.specs.Models.{begins_model, first_operand, has_directive, is_directive, is_row}
 use Rattle.blif_text.specs.LineFaults.{is_end_or_model, first_row}
-use Rattle.blif_reader.specs.Before.{is_model_of, holds_name, KnowsNames, ended_after, first_or, first_row_after}
+use Rattle.blif_reader.specs.Before.{is_model_of, KnowsNames, ended_after, first_or, first_row_after}
+use Rattle.lists.proofs.NameSets.{inserted}
 
 named : (b t a : Bool) → b ≡ true → cond t true a ≡ ((b && t) || a)
 named true true a e = refl
@@ -21,9 +21,7 @@ named false t a e = absurd (true≢false (sym e))
 
 pub name_added : (s n : BTreeSet (Bor (List ℕ))) (key : Bor (List ℕ)) (l : Logical) (before : List Logical) → begins_model l ≡ true → key.now ≡ first_operand l → KnowsNames s before → UpdatesBy (λ x y. slice_cmp nat_cmp x.now y.now) (λ k. slice_cmp nat_cmp key.now k.now) s n true → KnowsNames n (l ∷ before)
 name_added s n key l before begins is had updates name =
-    let q : Bor (List ℕ) = record { ref_ptr = (0, 0); now = name } in
-    updates.0 q
-    ∙ ap (λ b. cond b true (holds_name s name)) (is_eq-slice_cmp key.now name)
+    inserted s n key name updates
     ∙ ap (λ b. cond (bytes_eq key.now name) true b) (had name)
     ∙ ap (λ k. cond (bytes_eq k name) true (list_any (is_model_of name) before)) is
     ∙ named (begins_model l) (bytes_eq (first_operand l) name) (list_any (is_model_of name) before) begins

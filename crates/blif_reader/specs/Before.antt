@@ -3,10 +3,9 @@ use Rattle.std.specs.Prelude.{◌≡◌, ℕ, Bool, false, cond, not, ◌&&◌, 
 use Rattle.std.specs.Bool.{then_some}
 use Rattle.std.specs.List.{list_any}
 use Rattle.std.specs.Option.{option_copied, option_map_or, option_or}
-use Rattle.std.specs.Ordering.{nat_cmp}
-use Rattle.std.specs.Cmp.Lexicographic.{slice_cmp}
-use Rattle.std.specs.BTreeSet.{BTreeSet, contains_by}
+use Rattle.std.specs.BTreeSet.{BTreeSet}
 use denote.Ref.{Bor}
+use Rattle.lists.specs.Names.{holds_name}
 use Rattle.blif_text.specs.declared.logical.Logical.{Logical}
 use Rattle.netlist_rules.specs.declared.fault.Fault.{Fault}
 use Rattle.netlist_rules.specs.declared.fault.FaultKind.TheVariants.{UnknownDirective, Unsupported, BadCount, RowOutside, BadRow, MixedCover, BadLatch, BadPin, DuplicateModel}
@@ -19,10 +18,6 @@ use Rattle.blif_reader.specs.declared.faults.Broken.{Broken}
 -- whether a line begins the model of this name
 abbrev pub is_model_of : List ℕ → Logical → Bool
 is_model_of name l = begins_model l && bytes_eq (first_operand l) name
-
--- whether a set of names has one
-abbrev pub holds_name : BTreeSet (Bor (List ℕ)) → List ℕ → Bool
-holds_name names name = contains_by (λ k. slice_cmp nat_cmp name k.now) names
 
 -- A set has the names of the models that lines begin.
 abbrev pub KnowsNames : BTreeSet (Bor (List ℕ)) → List Logical → Type 0

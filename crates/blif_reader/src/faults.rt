@@ -5,17 +5,17 @@ ghost use Rattle.blif_text.specs.declared.logical.Logical.{Logical};
 ghost use Rattle.blif_text.specs.Models.{first_operand};
 ghost use Rattle.netlist_rules.specs.FaultNames.{fault_on};
 ghost use Rattle.blif_text.specs.LineFaults.{first_broken, line_fault, line_rules};
-ghost use Rattle.blif_reader.specs.Before.{HasRead, holds_name, is_cover, inputs_of_cover, differs_from_first, count_word, outside_word, bad_row_word, mixed_word, latch_word, pin_word, name_word, inside_fault, broken_fault};
+ghost use Rattle.blif_reader.specs.Before.{HasRead, is_cover, inputs_of_cover, differs_from_first, count_word, outside_word, bad_row_word, mixed_word, latch_word, pin_word, name_word, inside_fault, broken_fault};
+ghost use Rattle.lists.specs.Names.{holds_name};
 
 use crate::before::Before;
 use crate::latches::is_latch;
 use crate::pins::{first_bad_pin, pin_words};
 use crate::rows::{differs_from, is_row_of};
 use crate::rules::{has_bad_count, unknown_directive, unsupported};
-use crate::words::{
-    begins_model, copied, first_operand, first_word, has_directive, is_row, operands,
-};
+use crate::words::{begins_model, first_operand, first_word, has_directive, is_row, operands};
 use blif_text::{Fault, FaultKind, Logical};
+use lists::copied;
 use std::alloc::{AllocError, Global};
 
 /// A rule that a line breaks, and the word that it names.

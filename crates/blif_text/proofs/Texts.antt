@@ -3,7 +3,6 @@ use Rattle.std.proofs.Common.{sym, append_assoc, length-append, ◌≡◌, ◌�
 use Rattle.std.specs.Prelude.{option_map, Option, Some, None, filter_map, ◌==◌, if◌then◌else◌}
 use Rattle.std.specs.List.{list_any, onto_first, list_all, before_first, cons_option, slice_split}
 use Rattle.std.specs.Str.Lines.{lines_of_parts, strip_carriage_return}
-use Rattle.std.proofs.lemmas.Bool.{eqb-true}
 use Rattle.std.proofs.Math.Seq.{take-append_seam}
 use Rattle.std.proofs.lemmas.List.Sums.{take_while-cons}
 use Rattle.blif_text.specs.declared.logical.Logical.{Logical}

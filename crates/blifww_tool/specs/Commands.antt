@@ -19,7 +19,7 @@ use Rattle.blifww_tool.specs.Evaluation.{Evaluation, IsEvaluation, Evaluates, Ha
 use Rattle.blifww_tool.specs.Summary.{TellsSummary}
 use Rattle.blifww_tool.specs.declared.causes.Cause.{Cause}
 use Rattle.blifww_tool.specs.declared.causes.Cause.TheVariants.{NetlistFault, Loop, TooFar}
-use Rattle.netlist_text.specs.Laws.{AreAlike as AreAlikeFaults}
+use Rattle.netlist_text.specs.Laws.{AreAlikeFaults}
 use Rattle.blifww_tool.specs.declared.causes.TextError.{TextError}
 use Rattle.blifww_tool.specs.declared.causes.TextError.TheVariants.{Refused, NoMemory}
 

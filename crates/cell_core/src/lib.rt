@@ -9,6 +9,3 @@ mod list;
 pub use cells::{Cell, Src};
 pub use error::CellError;
 pub use list::CellList;
-
-#[cfg(test)]
-mod tests;

@@ -1,4 +1,5 @@
 // What is answered where no plan is made.
+use cell_order::OrderError;
 use column_packer::PackError;
 use latch_loops::CloseError;
 use row_placer::PlaceError;
@@ -31,6 +32,14 @@ impl From<CloseError> for PlanError {
     fn from(error: CloseError) -> Self {
         match error {
             CloseError::NoMemory => PlanError::NoMemory,
+        }
+    }
+}
+
+impl From<OrderError> for PlanError {
+    fn from(error: OrderError) -> Self {
+        match error {
+            OrderError::NoMemory => PlanError::NoMemory,
         }
     }
 }

@@ -6,6 +6,3 @@ mod route;
 
 pub use error::RouteError;
 pub use route::bring;
-
-#[cfg(test)]
-mod tests;

@@ -12,7 +12,7 @@ use Rattle.netlist_core.specs.declared.flat.FlatLatch.{FlatLatch}
 use Rattle.netlist_core.specs.declared.flat.Flat.{Flat}
 use Rattle.netlist_meaning.specs.Flat.{class_of, is_clock_class}
 use Rattle.clock_check.specs.declared.uses.NetUse.{NetUse}
-use Rattle.clock_check.specs.Uses.{uses_on, uses_of_node, uses_of_latch, uses_of_outs, uses_of, is_before, earlier, earliest_with, earliest_among}
+use Rattle.clock_check.specs.Uses.{uses_on, uses_of_node, uses_of_latch, uses_of_outs, flat_uses, is_before, earlier, earliest_with, earliest_among}
 
 -- more uses
 pub among_more : (flat : Flat) (found : Option NetUse) (uses others : List NetUse) → earliest_among flat found (uses ++ others) ≡ earliest_among flat (earliest_among flat found uses) others
@@ -147,7 +147,7 @@ is_earliest flat uses = earliest_on_from flat [] None uses (λ other i. absurd i
 -- nodes first, then latches, then outputs
 pub all_uses : (flat : Flat) (nodes : List Node) (latches : List FlatLatch) (outs : List FlatPort) (in_nodes in_latches in_outs : Option NetUse) → nodes ≡ flat.nodes → latches ≡ flat.latches → outs ≡ flat.outs
     → in_nodes ≡ earliest_among flat None (flat_map uses_of_node nodes) → in_latches ≡ earliest_among flat in_nodes (flat_map uses_of_latch latches) → in_outs ≡ earliest_among flat in_latches (uses_of_outs 0 outs)
-    → in_outs ≡ earliest_among flat None (uses_of flat)
+    → in_outs ≡ earliest_among flat None (flat_uses flat)
 all_uses flat nodes latches outs in_nodes in_latches in_outs are_nodes are_latches are_outs is_nodes is_latches is_outs =
     let a : List NetUse = flat_map uses_of_node flat.nodes in
     let b : List NetUse = flat_map uses_of_latch flat.latches in

@@ -18,7 +18,7 @@ use Rattle.netlist_rules.specs.FlatClocks.{IsFlatUse, by_node, by_data, by_outpu
 use Rattle.clock_check.specs.declared.error.CheckError.{CheckError}
 use Rattle.clock_check.specs.declared.error.CheckError.TheVariants as error
 use Rattle.clock_check.specs.declared.uses.NetUse.{NetUse}
-use Rattle.clock_check.specs.Uses.{uses_on, uses_of_node, uses_of_latch, uses_of_outs, uses_of, earliest_among}
+use Rattle.clock_check.specs.Uses.{uses_on, uses_of_node, uses_of_latch, uses_of_outs, flat_uses, earliest_among}
 use Rattle.clock_check.proofs.Earliest.{IsEarliest, is_earliest}
 
 -- a use of words of a line
@@ -89,7 +89,7 @@ node_uses flat = flat_map uses_of_node flat.nodes
 latch_uses : Flat → List NetUse
 latch_uses flat = flat_map uses_of_latch flat.latches
 
-use_from : (flat : Flat) (used : NetUse) → In used (uses_of flat) → In used (node_uses flat) ⊎ In used (latch_uses flat) ⊎ In used (uses_of_outs 0 flat.outs)
+use_from : (flat : Flat) (used : NetUse) → In used (flat_uses flat) → In used (node_uses flat) ⊎ In used (latch_uses flat) ⊎ In used (uses_of_outs 0 flat.outs)
 unfolding node_uses latch_uses
 use_from flat used i = elim (in_parts (node_uses flat ++ latch_uses flat) (uses_of_outs 0 flat.outs) used i) as (λ _. In used (node_uses flat) ⊎ In used (latch_uses flat) ⊎ In used (uses_of_outs 0 flat.outs)) [
   | inl j ↦ elim (in_parts (node_uses flat) (latch_uses flat) used j) as (λ _. In used (node_uses flat) ⊎ In used (latch_uses flat) ⊎ In used (uses_of_outs 0 flat.outs)) [ inl k ↦ inl k | inr k ↦ inr (inl k) ]
@@ -99,7 +99,7 @@ use_from flat used i = elim (in_parts (node_uses flat ++ latch_uses flat) (uses_
 with_position : (flat : Flat) (line line' position position' : ℕ) (net : NetId) → line ≡ line' → position ≡ position' → IsFlatUse flat line position net → IsFlatUse flat line' position' net
 with_position flat line line' position position' net e f h = subst (λ (n : ℕ). IsFlatUse flat n position' net) e (subst (λ (n : ℕ). IsFlatUse flat line n net) f h)
 
-is_flat_use : (flat : Flat) (used : NetUse) → In used (uses_of flat) → IsFlatUse flat used.line used.position used.net
+is_flat_use : (flat : Flat) (used : NetUse) → In used (flat_uses flat) → IsFlatUse flat used.line used.position used.net
 unfolding node_uses latch_uses
 is_flat_use flat used i = by (use_from flat used i)
   where
@@ -117,7 +117,7 @@ is_flat_use flat used i = by (use_from flat used i)
         let at : r.place ≡ 0 + r.place = omega arith in
         subst (λ (u : NetUse). IsFlatUse flat u.line u.position u.net) r.is_use (with_position flat r.port.line r.port.line r.place (0 + r.place) r.port.net refl at (by_output r.is_there))
 
-use_is_listed : (flat : Flat) (line position : ℕ) (net : NetId) → IsFlatUse flat line position net → In (record { line = line; position = position; net = net }) (uses_of flat)
+use_is_listed : (flat : Flat) (line position : ℕ) (net : NetId) → IsFlatUse flat line position net → In (record { line = line; position = position; net = net }) (flat_uses flat)
 unfolding node_uses latch_uses
 use_is_listed flat line position net (by_node {node = node} has is) =
     let at : 0 + position ≡ position = omega arith in
@@ -153,15 +153,15 @@ used_is_net flat line position net range (by_data {latch = latch} has is) = by (
 used_is_net flat line position net range (by_output {port = port} is) = All-contains (λ (p : FlatPort). IsNetId flat p.net) flat.outs port range.outs (has_at flat.outs position port is)
 
 -- the earliest use of a clock
-found : (flat : Flat) (first : NetUse) → earliest_among flat None (uses_of flat) ≡ Some first → IsEarliest flat (uses_of flat) (Some first)
-found flat first e = subst (IsEarliest flat (uses_of flat)) e (is_earliest flat (uses_of flat))
+found : (flat : Flat) (first : NetUse) → earliest_among flat None (flat_uses flat) ≡ Some first → IsEarliest flat (flat_uses flat) (Some first)
+found flat first e = subst (IsEarliest flat (flat_uses flat)) e (is_earliest flat (flat_uses flat))
 
-pub first_is_net : (flat : Flat) (first : NetUse) → IsInRange flat → earliest_among flat None (uses_of flat) ≡ Some first → IsNetId flat first.net
+pub first_is_net : (flat : Flat) (first : NetUse) → IsInRange flat → earliest_among flat None (flat_uses flat) ≡ Some first → IsNetId flat first.net
 first_is_net flat first range e = used_is_net flat first.line first.position first.net range (is_flat_use flat first (found flat first e).0)
 
-pub read_is : (flat : Flat) (first : NetUse) → earliest_among flat None (uses_of flat) ≡ Some first → IsFlatClockRead flat first.line (name_of_net flat first.net)
+pub read_is : (flat : Flat) (first : NetUse) → earliest_among flat None (flat_uses flat) ≡ Some first → IsFlatClockRead flat first.line (name_of_net flat first.net)
 read_is flat first e =
-    let h : IsEarliest flat (uses_of flat) (Some first) = found flat first e in
+    let h : IsEarliest flat (flat_uses flat) (Some first) = found flat first e in
     record {
       position = first.position;
       id = first.net;
@@ -170,11 +170,11 @@ read_is flat first e =
       is_word = refl;
     }
 
-pub none_is_read : (flat : Flat) → earliest_among flat None (uses_of flat) ≡ None → (line : ℕ) (word : Name) → IsFlatClockRead flat line word → ⊥
+pub none_is_read : (flat : Flat) → earliest_among flat None (flat_uses flat) ≡ None → (line : ℕ) (word : Name) → IsFlatClockRead flat line word → ⊥
 none_is_read flat e line word read =
-    let h : IsEarliest flat (uses_of flat) None = subst (IsEarliest flat (uses_of flat)) e (is_earliest flat (uses_of flat)) in
+    let h : IsEarliest flat (flat_uses flat) None = subst (IsEarliest flat (flat_uses flat)) e (is_earliest flat (flat_uses flat)) in
     let used : NetUse = record { line = line; position = read.position; net = read.id } in
-    let i : In used (uses_of flat) = use_is_listed flat line read.position read.id read.is_use.0 in
+    let i : In used (flat_uses flat) = use_is_listed flat line read.position read.id read.is_use.0 in
     true≢false (sym ((is_clock_class-Decides flat (class_of flat read.id)).1 read.is_use.1) ∙ h used i)
 
 -- the fault that is told

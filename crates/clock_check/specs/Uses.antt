@@ -24,8 +24,8 @@ abbrev pub uses_of_outs : ℕ → List FlatPort → List NetUse
 uses_of_outs position [] = []
 uses_of_outs position (port ∷ ports) = record { line = port.line; position = position; net = port.net } ∷ uses_of_outs (suc position) ports
 
-abbrev pub uses_of : Flat → List NetUse
-uses_of flat = flat_map uses_of_node flat.nodes ++ flat_map uses_of_latch flat.latches ++ uses_of_outs 0 flat.outs
+abbrev pub flat_uses : Flat → List NetUse
+flat_uses flat = flat_map uses_of_node flat.nodes ++ flat_map uses_of_latch flat.latches ++ uses_of_outs 0 flat.outs
 
 -- whether a use stands before another
 abbrev pub is_before : NetUse → NetUse → Bool

@@ -7,10 +7,11 @@ ghost use Rattle.netlist_rules.specs.declared.fault.Fault as rules;
 ghost use Rattle.netlist_rules.specs.FlatClocks.{HasOneFlatClock, IsFlatClockRead, IsFlatClockFault};
 
 use crate::clocks::ClockClasses;
-use crate::control::{control_word, name_of_net, other_clock};
+use crate::control::{control_word, other_clock};
 use crate::error::CheckError;
 use crate::uses::earliest_use;
 use netlist_core::Flat;
+use netlist_meaning::name_of_net;
 use netlist_rules::FaultKind;
 use std::alloc::Global;
 

@@ -1,11 +1,11 @@
 // Whether all latches have one clock.
 ghost use Rattle.std.specs.Prelude.{◌≡◌, ◌↔◌, ◌<◌, IsTrue, IfOk, IfSome, MatchOption, length, ⊤};
-ghost use Rattle.netlist_meaning.specs.Flat.{IsInRange, IsNetId, name_of_net};
+ghost use Rattle.netlist_meaning.specs.Flat.{IsInRange, IsNetId};
 ghost use Rattle.netlist_rules.specs.FlatClocks.{HasSameFlatControl, HasSameFlatClock, HasOneFlatClock, IsFlatTwoClocks, flat_control_word};
 
-use lists::{Bytes, List};
+use lists::{Bytes, copied};
 use netlist_core::{Flat, FlatLatch, NetId, Trigger};
-use netlist_meaning::class_of;
+use netlist_meaning::{class_of, name_of_net};
 use std::alloc::{AllocError, Global};
 
 fn is_same_kind(a: Option<Trigger>, b: Option<Trigger>) -> bool
@@ -55,22 +55,13 @@ pub fn other_clock(flat: &Flat) -> Option<FlatLatch>
     None
 }
 
-/// The name of a net at its place.
-pub fn name_of_net(alloc: Global, flat: &Flat, net: NetId) -> Result<Bytes, AllocError>
-    requires { IsNetId flat.now net }
-    ensures { IfOk result (λ name. name ≡ name_of_net flat.now net) }
-{
-    let name = flat.nets.get(net.0 as usize).name.as_slice();
-    Ok(List::of(name.to_vec(alloc)?))
-}
-
 /// The name of a control, `-` where there is none.
 pub fn control_word(alloc: Global, flat: &Flat, control: Option<NetId>) -> Result<Bytes, AllocError>
     requires { MatchOption control ⊤ (IsNetId flat.now) }
     ensures { IfOk result (λ word. word ≡ flat_control_word flat.now control) }
 {
     match control {
-        None => Ok(List::of(b"-".to_vec(alloc)?)),
+        None => copied(alloc, b"-"),
         Some(net) => name_of_net(alloc, flat, net),
     }
 }

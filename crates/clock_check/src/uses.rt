@@ -2,7 +2,7 @@
 ghost use Rattle.std.specs.Prelude.{◌≡◌, ◌+◌, ◌<◌, ◌^◌, ◌++◌, [], ◌∷◌, flat_map, length, All, None};
 ghost use Rattle.netlist_core.specs.declared.flat.Node as flat_node;
 ghost use Rattle.netlist_meaning.specs.Flat.{IsNetId};
-ghost use Rattle.clock_check.specs.Uses.{uses_on, uses_of_node, uses_of_latch, uses_of_outs, uses_of, is_before, earlier, earliest_with, earliest_among};
+ghost use Rattle.clock_check.specs.Uses.{uses_on, uses_of_node, uses_of_latch, uses_of_outs, flat_uses, is_before, earlier, earliest_with, earliest_among};
 
 use crate::clocks::ClockClasses;
 use netlist_core::{FlatLatch, FlatPort, NetId, Node};
@@ -127,7 +127,7 @@ fn earliest_in_outs(
 
 /// The earliest use of a clock net by a node, as a latch's data or as an output.
 pub fn earliest_use(clocks: &ClockClasses) -> Option<NetUse>
-    ensures { result ≡ earliest_among clocks.now None (uses_of clocks.now) }
+    ensures { result ≡ earliest_among clocks.now None (flat_uses clocks.now) }
 {
     let flat = clocks.flat();
     let in_nodes = earliest_in_nodes(clocks, flat.nodes.as_slice());

@@ -9,6 +9,3 @@ mod packing;
 pub use error::PackError;
 pub use numbering::column_numbers;
 pub use packing::pack;
-
-#[cfg(test)]
-mod tests;

@@ -11,39 +11,9 @@ use Rattle.cell_core.specs.declared.list.CellList.{CellList}
 use Rattle.cell_core.specs.Sources.{is_there, reads_there, is_one, reads_one}
 use Rattle.cell_core.specs.Meaning.{cell_bit, cell_bits, bit_in}
 use Rattle.cell_core.proofs.Bits.{appending_keeps_bits, pushed_bit}
+use Rattle.cell_core.proofs.OwnBits.{cell_kept, bit_of_cell}
 use Rattle.cover_cells.specs.Grown.{HasSource, Answers, IsCell}
 use Rattle.cover_cells.proofs.Growing.{grows, grows_refl, answers}
-use Rattle.cover_cells.proofs.Tabled.{cell_in_order}
-
--- a cell that reads only the first cells has its bit by them
-cell_kept : (inputs state : List Bool) (cells more : List Cell) (count latches : ℕ) (cell : Cell) → reads_there count latches (length cells) cell ≡ true
-    → cell_bit inputs state (cell_bits inputs state (cells ++ more)) cell ≡ cell_bit inputs state (cell_bits inputs state cells) cell
-cell_kept inputs state cells more count latches (Or a b) there =
-    ap₂ (λ x y. x || y) (appending_keeps_bits cells more inputs state latches count a (and_parts _ _ there).0) (appending_keeps_bits cells more inputs state latches count b (and_parts _ _ there).1)
-cell_kept inputs state cells more count latches (Xor a b) there =
-    ap₂ (λ x y. (x || y) && not (x && y)) (appending_keeps_bits cells more inputs state latches count a (and_parts _ _ there).0) (appending_keeps_bits cells more inputs state latches count b (and_parts _ _ there).1)
-cell_kept inputs state cells more count latches (AndNot a b) there =
-    ap₂ (λ x y. x && not y) (appending_keeps_bits cells more inputs state latches count a (and_parts _ _ there).0) (appending_keeps_bits cells more inputs state latches count b (and_parts _ _ there).1)
-
--- the bit of a cell of a list is what the cell makes of the list's bits
-pub bit_of_cell : (list : CellList) (k : ℕ) (d : Cell) (inputs state : List Bool) → k < length list.cells
-    → bit_in list.cells inputs state (Made k) ≡ cell_bit inputs state (cell_bits inputs state list.cells) (get_or list.cells k d)
-bit_of_cell list k d inputs state within =
-    let cells = list.cells in
-    let cell = get_or cells k d in
-    let front = take k cells in
-    let long : length front ≡ k = length-take-le k cells (omega arith) in
-    let long' : length (take (k + 1) cells) ≡ k + 1 = length-take-le (k + 1) cells (omega arith) in
-    let e : 0 + k ≡ length front = omega arith in
-    let reads : reads_there list.inputs (length list.starts) (length front) cell ≡ true =
-    ap (λ n. reads_there list.inputs (length list.starts) n cell) (sym e) ∙ cell_in_order list.inputs (length list.starts) 0 cells k d within list.in_order in
-    let whole : (n : ℕ) → take n cells ++ drop n cells ≡ cells = λ n. take-append-drop n cells in
-    ap (λ c. bit_in c inputs state (Made k)) (sym (whole (k + 1)))
-    ∙ appending_keeps_bits (take (k + 1) cells) (drop (k + 1) cells) inputs state 0 0 (Made k) (lt-ltb k (length (take (k + 1) cells)) (omega arith))
-    ∙ ap (λ c. bit_in c inputs state (Made k)) (take_more cells k d within)
-    ∙ pushed_bit inputs state front cell k long
-    ∙ sym (cell_kept inputs state front (drop k cells) list.inputs (length list.starts) cell reads)
-    ∙ ap (λ c. cell_bit inputs state (cell_bits inputs state c) cell) (whole k)
 
 pub cell_there : (list : CellList) (src : Src) (cell : Cell) → IsCell list src cell → HasSource list src
 cell_there list src cell (k, is, at) =

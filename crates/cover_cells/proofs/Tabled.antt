@@ -52,15 +52,6 @@ pub record HasWords (nets : ℕ) (words : List ℕ) (i : ℕ) (cells : List Cell
   pub long : length words ≡ i
   pub shows : (bits : List Bool) → length bits ≡ nets → ShowTables bits words (cell_bits bits [] (take i cells))
 
-pub cell_in_order : (inputs latches made : ℕ) (cells : List Cell) (i : ℕ) (d : Cell) → i < length cells → are_in_order inputs latches made cells ≡ true
-    → reads_there inputs latches (made + i) (get_or cells i d) ≡ true
-cell_in_order inputs latches made [] i d within order = absurd (omega arith)
-cell_in_order inputs latches made (cell ∷ cells) zero d within order =
-    ap (λ n. reads_there inputs latches n cell) (let e : made + 0 ≡ made = omega arith in e) ∙ (and_parts _ _ order).0
-cell_in_order inputs latches made (cell ∷ cells) (suc i) d within order =
-    ap (λ n. reads_there inputs latches n (get_or cells i d)) (let e : made + suc i ≡ suc made + i = omega arith in e)
-    ∙ cell_in_order inputs latches (suc made) cells i d (omega arith) (and_parts _ _ order).1
-
 pub cell_bits_more : (inputs state : List Bool) (cells : List Cell) (i : ℕ) (d : Cell) → i < length cells
     → cell_bits inputs state (take (i + 1) cells) ≡ cell_bits inputs state (take i cells) ++ cell_bit inputs state (cell_bits inputs state (take i cells)) (get_or cells i d) ∷ []
 cell_bits_more inputs state cells i d within =

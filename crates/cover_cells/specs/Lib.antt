@@ -3,4 +3,5 @@ pub mod Covers
 pub mod Singles
 pub mod Words
 pub mod Placed
+pub mod Reduced
 pub mod Suits

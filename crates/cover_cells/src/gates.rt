@@ -6,7 +6,8 @@ ghost use Rattle.netlist_meaning.specs.CoverValue.{fits};
 ghost use Rattle.netlist_core.specs.OwnWeight.{literals};
 ghost use Rattle.cover_cells.specs.Grown.{HasSource, Answers, IsCell};
 
-use crate::shared::{Places, find_cell, share};
+use crate::reduced::settle;
+use crate::shared::{Places, find_cell};
 use cell_core::{Cell, CellError, CellList, Src};
 use std::alloc::Global;
 
@@ -41,7 +42,7 @@ pub fn and_not(
     requires second { HasSource list.old b }
     ensures { IfOk result (λ src. Answers list.old list.new 1 ((is_one a ≡ true) ⊎ (is_one b ≡ true)) src (λ inputs state. bit_in list.old.cells inputs state a && not (bit_in list.old.cells inputs state b))) }
 {
-    share(list, places, alloc, Cell::AndNot(a, b))
+    settle(list, places, alloc, Cell::AndNot(a, b))
 }
 
 // Both.
@@ -63,7 +64,7 @@ pub fn and(
     and_not(list, places, alloc, a, rest)
 }
 
-// One of them, where constant 0 needs no cell.
+// One of them.
 pub fn or(
     list: &mut CellList,
     places: &mut Places,
@@ -75,10 +76,7 @@ pub fn or(
     requires second { HasSource list.old b }
     ensures { IfOk result (λ src. Answers list.old list.new 1 ((is_one a ≡ true) ⊎ (is_one b ≡ true)) src (λ inputs state. bit_in list.old.cells inputs state a || bit_in list.old.cells inputs state b)) }
 {
-    if let Src::Zero = a {
-        return Ok(b);
-    }
-    share(list, places, alloc, Cell::Or(a, b))
+    settle(list, places, alloc, Cell::Or(a, b))
 }
 
 // The product with one more column.

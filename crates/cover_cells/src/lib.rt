@@ -5,6 +5,7 @@ mod covers;
 mod gates;
 pub mod laws;
 mod placed;
+mod reduced;
 mod rows;
 mod search;
 mod shared;
@@ -13,6 +14,3 @@ mod words;
 
 pub use covers::map_cover;
 pub use shared::Places;
-
-#[cfg(test)]
-mod tests;

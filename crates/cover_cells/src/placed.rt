@@ -4,7 +4,8 @@ ghost use Rattle.cell_core.specs.Sources.{is_there, reads_there, are_in_order, i
 ghost use Rattle.cover_cells.specs.Grown.{HasSources};
 ghost use Rattle.cover_cells.specs.Placed.{relocated, relocated_cell, ArePlaced};
 
-use crate::shared::{Places, share};
+use crate::reduced::settle;
+use crate::shared::Places;
 use cell_core::{Cell, CellError, CellList, Src};
 use std::alloc::Global;
 
@@ -49,7 +50,7 @@ pub fn place(
 {
     let mut made = Vec::new(alloc);
     for cell in cells {
-        let placed = share(list, places, alloc, relocated_cell(*cell, sources, &made))?;
+        let placed = settle(list, places, alloc, relocated_cell(*cell, sources, &made))?;
         made.push(placed)?;
     }
     Ok(made)

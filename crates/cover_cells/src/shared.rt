@@ -34,7 +34,7 @@ impl Places {
     }
 }
 
-fn is_same_src(a: Src, b: Src) -> bool
+pub fn is_same_src(a: Src, b: Src) -> bool
     ensures { IsTrue result → a ≡ b }
 {
     match (a, b) {

@@ -14,6 +14,7 @@ use Rattle.netlist_meaning.specs.Laws.{IsNotRecursive}
 use Rattle.netlist_meaning.proofs.Depth.{model_at-append, places_are_shallow}
 use Rattle.netlist_rules.specs.ModelFaults.{AreFaultless}
 use Rattle.netlist_rules.proofs.Faultless.{some_models}
+use Rattle.lists.proofs.Cuts.{got_left, got_push}
 use Rattle.sound_designs.proofs.Sound.{not_recursive, same_of, in_got}
 use Rattle.named_models.specs.Numbers.{IsNumberOf}
 use Rattle.named_models.proofs.Numbered.{number_found}
@@ -150,22 +151,11 @@ walk_starts design faultless = by (first_of design.models (some_models design.mo
 abbrev place_of : PlacedModel → Place
 place_of placed = placed.place
 
-got_push : (listed : List PlacedModel) (last : PlacedModel) (k : ℕ) (p : PlacedModel) → slice_get (listed ++ last ∷ []) k ≡ Some p → (slice_get listed k ≡ Some p) ⊎ ((k ≡ length listed) × (p ≡ last))
-got_push [] last zero p e = inr (refl, sym (same_of e))
-got_push [] last (suc k) p e = absurd (none-some p e)
-got_push (first ∷ listed) last zero p e = inl e
-got_push (first ∷ listed) last (suc k) p e = elim (got_push listed last k p e) as (λ _. (slice_get (first ∷ listed) (suc k) ≡ Some p) ⊎ ((suc k ≡ length (first ∷ listed)) × (p ≡ last))) [ inl h ↦ inl h | inr h ↦ inr (ap suc h.0, h.1) ]
-
-still_got : (listed : List PlacedModel) (last : PlacedModel) (k : ℕ) (p : PlacedModel) → slice_get listed k ≡ Some p → slice_get (listed ++ last ∷ []) k ≡ Some p
-still_got [] last k p e = absurd (none-some p e)
-still_got (first ∷ listed) last zero p e = e
-still_got (first ∷ listed) last (suc k) p e = still_got listed last k p e
-
 still_parent : (listed : List PlacedModel) (last : PlacedModel) (k j : ℕ) (place : Place) (parent : Option Parent) → k ≤ j → MatchOption parent (place ≡ []) (HasParent listed k place) → MatchOption parent (place ≡ []) (HasParent (listed ++ last ∷ []) j place)
 still_parent listed last k j place None l h = h
 still_parent listed last k j place (Some parent) l h = record {
   outer = h.outer;
-  is_there = still_got listed last parent.number h.outer h.is_there;
+  is_there = got_left listed (last ∷ []) parent.number h.outer h.is_there;
   is_earlier = (let e : parent.number < k = h.is_earlier in omega arith);
   is_inside = h.is_inside;
 }

@@ -71,8 +71,7 @@ fn push_inside(
     Ok(())
 }
 
-/// The places of a design, each before those inside it, in a time that grows as the lengths of places and the subckt lines
-/// of their models do.
+/// The places of a design, each before those inside it.
 pub fn places(
     alloc: Global,
     design: &Design,

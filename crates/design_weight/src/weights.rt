@@ -4,7 +4,7 @@ ghost use Rattle.netlist_core.specs.OwnWeight.{own_weight};
 ghost use Rattle.netlist_meaning.specs.Weight.{weight};
 ghost use Rattle.netlist_rules.specs.ModelFaults.{AreFaultless};
 ghost use Rattle.model_order.specs.Order.{IsModelOrder};
-ghost use Rattle.model_order.specs.Reasons.{IsOrderRefusal};
+ghost use Rattle.model_order.specs.Reasons.{IsModelOrderRefusal};
 ghost use Rattle.design_weight.specs.Weights.{line_weight, AreWeights};
 
 use model_order::{OrderError, order};
@@ -55,7 +55,7 @@ fn weights(
 // The weight of a design, at most the greatest u64, where no model leads back to itself.
 pub fn weight_or_circle(alloc: Global, design: &Design) -> Result<u64, OrderError>
     ensures weight { IfOk result (λ w. w ≡ min (weight design.now) u64.MAX) }
-    ensures refused { IfErr result (IsOrderRefusal design.now.models) }
+    ensures refused { IfErr result (IsModelOrderRefusal design.now.models) }
 {
     let models = design.models.as_slice();
     let named = NamedModels::new(alloc, models)?;
@@ -64,8 +64,7 @@ pub fn weight_or_circle(alloc: Global, design: &Design) -> Result<u64, OrderErro
     Ok(weights.first().copied().unwrap_or(0))
 }
 
-/// The weight of a design without a fault, at most the greatest u64, in a time that grows as its text does, times the
-/// look-up of a name.
+/// The weight of a design without a fault, at most the greatest u64.
 pub fn weight(alloc: Global, design: &Design) -> Result<u64, AllocError>
     requires { AreFaultless design.now.models }
     ensures { IfOk result (λ w. w ≡ min (weight design.now) u64.MAX) }

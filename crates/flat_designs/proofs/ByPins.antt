@@ -15,7 +15,7 @@ use Rattle.netlist_meaning.proofs.Roots.{joined_is_same_root}
 use Rattle.lists.proofs.Members.{In, contains_from}
 use Rattle.sound_designs.proofs.Sound.{same_of, formals_once}
 use Rattle.flat_designs.specs.Laws.{RootsAreByPins}
-use Rattle.sound_designs.proofs.OneDriver.{not_nil}
+use Rattle.lists.proofs.Ends.{not_nil}
 
 -- the pin that is found names the formal
 is_found : (formal : Name) (pins : List Pin) (pin : Pin) → find (λ (p : Pin). bytes_eq p.formal formal) pins ≡ Some pin → In pin pins × (pin.formal ≡ formal)

@@ -6,6 +6,3 @@ pub mod laws;
 mod rows;
 
 pub use rows::{cell, fill_row, size};
-
-#[cfg(test)]
-mod tests;

@@ -12,6 +12,3 @@ pub use instr::{Column, Instr};
 pub use places::{in_cell, latency, net_cell, out_cell, period};
 pub use plan::{NetPlace, Plan, Program};
 pub use run::{run_columns, run_instrs};
-
-#[cfg(test)]
-mod tests;

@@ -8,6 +8,3 @@ mod words;
 
 pub use rows::step_rows;
 pub use spans::{one_after, one_before, put_words, step_span};
-
-#[cfg(test)]
-mod tests;

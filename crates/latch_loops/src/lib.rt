@@ -8,6 +8,3 @@ mod places;
 
 pub use closing::close;
 pub use error::CloseError;
-
-#[cfg(test)]
-mod tests;

@@ -1,5 +1,5 @@
 -- Lists that were appended to.
-use Rattle.std.proofs.Common.{◌≡◌, refl, sym, ap, List, [], ◌∷◌, ◌++◌, length, Some, zero, suc, ℕ, arith}
+use Rattle.std.proofs.Common.{◌≡◌, refl, ap, List, [], ◌∷◌, ◌++◌, length, Some, suc, arith}
 use Rattle.std.specs.Prelude.{slice_get}
 
 pub append_nil_left : {X : Type 0} (xs ys : List X) → xs ++ ys ≡ [] → xs ≡ []

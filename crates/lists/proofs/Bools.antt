@@ -1,5 +1,5 @@
 -- Parts of conjunctions that hold, and of disjunctions that do not.
-use Rattle.std.proofs.Common.{◌≡◌, refl, sym, Bool, true, false, ◌&&◌, ◌||◌, true≢false}
+use Rattle.std.proofs.Common.{◌≡◌, sym, Bool, true, false, ◌&&◌, ◌||◌, true≢false}
 use Rattle.std.proofs.lemmas.Bool.{and_parts, or_parts}
 
 pub and_true_left : (a b : Bool) → (a && b) ≡ true → a ≡ true

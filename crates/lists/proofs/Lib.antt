@@ -5,3 +5,6 @@ pub mod Bools
 pub mod Appends
 pub mod Sums
 pub mod Ends
+pub mod Cuts
+pub mod NameSets
+pub mod Fills

@@ -1,9 +1,10 @@
 //! A list behind a small type: contracts see the items alone, and not where they lie in memory.
 #![tactic(auto)]
 
-ghost use Rattle.std.specs.Prelude.{◌≡◌, ◌<◌, ◌++◌, List, length, take, drop, slice_get, Some, ℕ};
+ghost use Rattle.std.specs.Prelude.{◌≡◌, ◌<◌, ◌++◌, List, length, take, drop, slice_get, Some, ℕ, IfOk};
 ghost use Rattle.std.specs.Borrow.{sem, Lends, Array};
 
+use std::alloc::{AllocError, Global};
 use std::marker::Model;
 
 /// Items in order. Making it from a `Vec`, and giving it back, takes no memory.
@@ -67,4 +68,11 @@ impl<T> List<T> {
     {
         self.items
     }
+}
+
+/// A copy of some bytes.
+pub fn copied(alloc: Global, bytes: &[u8]) -> Result<Bytes, AllocError>
+    ensures { IfOk result (λ copy. copy ≡ bytes.now) }
+{
+    Ok(List::of(bytes.to_vec(alloc)?))
 }

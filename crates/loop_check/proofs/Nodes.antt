@@ -1,15 +1,14 @@
 -- Nodes, what they read and what they drive.
-use Rattle.std.proofs.Common.{◌≡◌, refl, sym, ap, ◌∙◌, ℕ, ◌+◌, ◌<◌, ◌≤◌, List, length, get_or, arith, ◌⊎◌, inl, inr, slice_get}
-use Rattle.std.specs.Prelude.{Some}
+use Rattle.std.proofs.Common.{◌≡◌, subst, refl, sym, ap, ◌∙◌, ℕ, ◌+◌, ◌<◌, ◌≤◌, List, length, get_or, arith, ◌⊎◌, inl, inr, slice_get}
+use Rattle.std.specs.Prelude.{Option, Some, None}
 use Rattle.std.proofs.lemmas.List.{length-map}
-use Rattle.std.proofs.lemmas.Option.{get_or_from_slice_get}
+use Rattle.std.proofs.lemmas.Option.{get_or_from_slice_get, none-some, same_Some}
 use Rattle.netlist_core.specs.declared.flat.Flat.{Flat}
 use Rattle.netlist_core.specs.declared.flat.Node.{Node}
-use Rattle.loop_check.specs.declared.walk.Mark.{Mark}
-use Rattle.loop_check.specs.declared.walk.Mark.TheVariants.{Done}
 use Rattle.netlist_meaning.specs.Flat.{FlatDriver, node, FlatDrives, IsSound, in_classes, out_class, class_of, no_node, node_at}
 use Rattle.netlist_meaning.specs.FlatOrder.{IsDrivenBy}
-use Rattle.loop_check.specs.Walk.{AreDoneWithin, IsDone, mark_of}
+use Rattle.loop_check.specs.Links.{IsDriverOf}
+use Rattle.loop_check.specs.Tables.{IsDriverBefore}
 
 number_of : FlatDriver → ℕ
 number_of (Rattle.netlist_meaning.specs.Flat.FlatDriver.input i) = i
@@ -24,21 +23,12 @@ one_node flat s a b la lb e = ap number_of (s.one_driver (out_class flat b) (nod
 pub inputs_are : (flat : Flat) (n : ℕ) (it : Node) → slice_get flat.nodes n ≡ Some it → length (in_classes flat n) ≡ length it.ins
 inputs_are flat n it e = ap (λ (xs : List ℕ). length xs) refl ∙ length-map (node_at flat n).ins (class_of flat) ∙ ap (λ (v : Node). length v.ins) (get_or_from_slice_get flat.nodes n it no_node e)
 
-done_more : (flat : Flat) (marks : List Mark) (n from input : ℕ) → AreDoneWithin flat marks n from input → ((b : ℕ) → IsDrivenBy flat n input b → IsDone (mark_of marks b)) → AreDoneWithin flat marks n from (input + 1)
-done_more flat marks n from input before here k b h l r = by (cases k input)
-  where
-    cases : (k i : ℕ) → (k < i) ⊎ (i ≤ k)
-    cases k i = grind arith
+-- what the table tells of the class of an input is the driver of the input
+pub driver_is : (flat : Flat) → IsSound flat → (n k : ℕ) (found : Option ℕ) → k < length (in_classes flat n) → IsDriverBefore flat (length flat.nodes) (get_or (in_classes flat n) k 0) found → IsDriverOf flat n k found
+driver_is flat s n k None within none = ((λ b e. absurd (none-some b e)), λ b r. absurd (none b r.0 (sym r.2)))
+driver_is flat s n k (Some d) within (less, drives) =
+    ((λ b e. subst (IsDrivenBy flat n k) (same_Some d b e) (less, within, sym drives)), λ b r. ap Some (one_node flat s d b less r.0 (drives ∙ r.2)))
 
-    by : (k < input) ⊎ (input ≤ k) → IsDone (mark_of marks b)
-    by (inl less) = before k b h less r
-    by (inr more) = let e : k ≡ input = omega arith in here b (subst' k input e b r)
-      where
-        subst' : (k i : ℕ) → k ≡ i → (b : ℕ) → IsDrivenBy flat n k b → IsDrivenBy flat n i b
-        subst' k i e b r = Rattle.std.proofs.Common.subst (λ v. IsDrivenBy flat n v b) e r
-
-pub done_none : (flat : Flat) (marks : List Mark) (n from input : ℕ) → AreDoneWithin flat marks n from input → ((b : ℕ) → b < length flat.nodes → (out_class flat b ≡ get_or (in_classes flat n) input 0 → ⊥)) → AreDoneWithin flat marks n from (input + 1)
-done_none flat marks n from input before none = done_more flat marks n from input before (λ b r. absurd (none b r.0 (sym r.2)))
-
-pub done_some : (flat : Flat) → IsSound flat → (marks : List Mark) (n from input d i : ℕ) → AreDoneWithin flat marks n from input → d < length flat.nodes → out_class flat d ≡ get_or (in_classes flat n) input 0 → mark_of marks d ≡ Done i → AreDoneWithin flat marks n from (input + 1)
-done_some flat s marks n from input d i before less e is = done_more flat marks n from input before (λ b r. (i, ap (mark_of marks) (one_node flat s b d r.0 less (sym r.2 ∙ sym e)) ∙ is))
+-- past the inputs nothing drives
+pub past_inputs : (flat : Flat) (n k : ℕ) → length (in_classes flat n) ≤ k → IsDriverOf flat n k None
+past_inputs flat n k past = ((λ b e. absurd (none-some b e)), λ b r. absurd (let within : k < length (in_classes flat n) = r.1 in omega arith))

@@ -1,2 +1,3 @@
+pub mod Links
 pub mod Reasons
-pub mod Walk
+pub mod Tables

@@ -4,8 +4,10 @@ ghost use Rattle.netlist_meaning.specs.Flat.{IsSound};
 ghost use Rattle.netlist_meaning.specs.FlatOrder.{IsOrder, IsFlatLoop};
 ghost use Rattle.loop_check.specs.Reasons.{IsOrderRefusal};
 
+use crate::links::links_of;
+use crate::outputs::{as_nodes, outputs_back};
 use crate::table::drivers;
-use crate::walk::Walk;
+use depth_walk::WalkError;
 use lists::List;
 use netlist_core::{Flat, NetId, Order};
 use std::alloc::{AllocError, AllocFailed, Global};
@@ -39,7 +41,8 @@ impl<T: Drop> From<AllocFailed<T>> for OrderError {
     }
 }
 
-/// An order in which each node comes after those that drive what it reads, in a time that grows as nets, nodes and their inputs do.
+/// An order in which each node comes after those that drive what it reads.
+#[tactic(auto, using(crate::proofs::Linked::stay, crate::proofs::Linked::few_numbers, crate::proofs::Linked::few_nodes))]
 pub fn order(alloc: Global, flat: &Flat) -> Result<Order, OrderError>
     requires { IsSound flat.now }
     ensures order { IfOk result (λ order. IsOrder flat.now order.nodes) }
@@ -47,11 +50,16 @@ pub fn order(alloc: Global, flat: &Flat) -> Result<Order, OrderError>
     ensures refused { IfErr result (IsOrderRefusal flat.now) }
 {
     let table = drivers(alloc, flat)?;
-    let mut walk = Walk::start(alloc, flat)?;
-    for n in 0..flat.nodes.len() {
-        walk.reach(alloc, flat, &table, n)?;
+    let links = links_of(alloc, flat, &table)?;
+    match depth_walk::order(alloc, &links) {
+        Ok(numbers) => Ok(Order {
+            nodes: as_nodes(alloc, numbers.as_slice())?,
+        }),
+        Err(WalkError::NoMemory) => Err(OrderError::NoMemory),
+        Err(WalkError::Circle(circle)) => Err(OrderError::Loop(outputs_back(
+            alloc,
+            flat,
+            circle.as_slice(),
+        )?)),
     }
-    Ok(Order {
-        nodes: List::of(walk.order),
-    })
 }

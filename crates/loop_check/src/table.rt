@@ -1,7 +1,7 @@
 // The node that drives each class.
 ghost use Rattle.std.specs.Prelude.{IfOk, All, length, ◌<◌, get_or};
 ghost use Rattle.netlist_meaning.specs.Flat.{IsInRange, IsNetId, in_classes};
-ghost use Rattle.loop_check.specs.Walk.{IsTable, IsDriverBefore, AreFirsts, IsFirstFor, AreFirstsFor};
+ghost use Rattle.loop_check.specs.Tables.{IsTable, IsDriverBefore, AreFirsts, IsFirstFor, AreFirstsFor};
 
 use netlist_core::{Flat, NetId};
 use netlist_meaning::class_of;

@@ -11,6 +11,3 @@ pub use edges::{Edges, EdgesError};
 pub use laws::{plans_are_driven, plans_step_by_macro};
 pub use rules::admissible;
 pub use step::macro_step;
-
-#[cfg(test)]
-mod tests;

@@ -11,6 +11,3 @@ mod made;
 pub use error::MakeError;
 pub use generator::draw;
 pub use made::{Made, make};
-
-#[cfg(test)]
-mod tests;

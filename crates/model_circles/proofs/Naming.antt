@@ -13,8 +13,8 @@ use Rattle.named_models.specs.Numbers.{IsNumberOf}
 use Rattle.model_order.specs.Numbers.{first_named, name_at, subckts_of, Places, PlacesSomewhere, LeadsBy}
 use Rattle.model_order.proofs.Naming.{numbered, number_named, name_is, placing, placed_named, number_within, leads_named, places_by}
 use Rattle.model_circles.specs.declared.circle.Circle.{Circle}
-use Rattle.model_circles.specs.Earliest.{IsCircle, IsCircleIfAny, IsFaultOf, IsNoLater, IsEarliest}
-use Rattle.model_circles.specs.Ways.{LeadsBackBy, Stands, AreApart, LiesOnCircle}
+use Rattle.model_circles.specs.Earliest.{IsCircle, IsCircleIfAny, IsFaultOf, IsNoLater, IsEarliestCircle}
+use Rattle.model_circles.specs.Ways.{LeadsBackBy, Stands, AreDifferent, LiesOnCircle}
 
 -- each is the first of its name
 abbrev AreNumbers : List Model → List ℕ → Type 0
@@ -40,7 +40,7 @@ number_stands models n (m ∷ ms) is are (inl e) = inl (same_number models n m i
     same_number models n m a b e = same_Some n m (sym (number_named models (name_at models n) n a) ∙ ap (first_named models) e ∙ number_named models (name_at models m) m b)
 number_stands models n (m ∷ ms) is are (inr i) = inr (number_stands models n ms is are.1 i)
 
-names_apart : (models : List Model) (numbers : List ℕ) → AreNumbers models numbers → AreApart numbers → Distinct (map (name_at models) numbers)
+names_apart : (models : List Model) (numbers : List ℕ) → AreNumbers models numbers → AreDifferent numbers → Distinct (map (name_at models) numbers)
 names_apart models [] are apart = tt
 names_apart models (n ∷ ns) are apart = ((λ i. apart.0 (number_stands models n ns are.0 are.1 i)), names_apart models ns are.1 apart.1)
 
@@ -161,12 +161,12 @@ pub others_within : (models : List Model) (circle : Circle) → IsCircle models 
 others_within models circle c = numbers_within models circle.others (led_back models circle.first c.k c.inner circle.others circle.first c.placed c.way.leads).1
 
 -- an earliest circle stands on no later line than any
-pub no_later : (models : List Model) (best : Option Circle) → IsEarliest models best → (line : ℕ) (names : List Name) → IsOnCircle models line names → IsNoLater best line
+pub no_later : (models : List Model) (best : Option Circle) → IsEarliestCircle models best → (line : ℕ) (names : List Name) → IsOnCircle models line names → IsNoLater best line
 no_later models best e line names c =
     let b = circle_numbered models line names c in
     subst (λ v. IsNoLater best v) b.at_the_line (e.models_before b.n b.k b.within b.subckt b.is_line b.lies)
 
-pub is_fault : (models : List Model) (best : Option Circle) (circle : Circle) (fault : Fault) → IsEarliest models best → best ≡ Some circle → IsFaultOf models circle fault → IsCircleFault models fault
+pub is_fault : (models : List Model) (best : Option Circle) (circle : Circle) (fault : Fault) → IsEarliestCircle models best → best ≡ Some circle → IsFaultOf models circle fault → IsCircleFault models fault
 is_fault models best circle fault e is f =
     let c : IsCircle models circle = subst (λ o. IsCircleIfAny models o) is e.is_circle in
     record {

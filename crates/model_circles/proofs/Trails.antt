@@ -4,14 +4,14 @@ use Rattle.std.proofs.lemmas.List.{reverse-append}
 use Rattle.netlist_core.specs.declared.model.Model.{Model}
 use Rattle.model_order.specs.Numbers.{PlacesSomewhere, LeadsBy}
 use Rattle.model_circles.specs.Search.{IsSearch}
-use Rattle.model_circles.specs.Ways.{LeadsBackBy, Stands, AreApart, IsWayBack}
+use Rattle.model_circles.specs.Ways.{LeadsBackBy, Stands, AreDifferent, IsWayBack}
 
 -- what leads on from the model at a place to the one at the end, through models found from there on
 pub record IsTrail (models : List Model) (found : List ℕ) (place at : ℕ) (trail : List ℕ) : Type 0 where
   pub leads : LeadsBackBy models (get_or found at 0) trail (get_or found place 0)
   pub up_to : at ≤ place
   pub later : (n : ℕ) → Stands n trail → (i : ℕ) × (at ≤ i) × (i < place) × (get_or found i 0 ≡ n)
-  pub apart : AreApart trail
+  pub apart : AreDifferent trail
 
 pub begun : (models : List Model) (found : List ℕ) (place : ℕ) → IsTrail models found place place []
 begun models found place = record { leads = refl; up_to = omega arith; later = λ n s. absurd s; apart = tt }

@@ -51,5 +51,5 @@ pub record IsEarliestUpTo (models : List Model) (n k : ℕ) (best : Option Circl
 abbrev pub IsEarliestBefore : List Model → ℕ → Option Circle → Type 0
 IsEarliestBefore models n best = IsEarliestUpTo models n 0 best
 
-abbrev pub IsEarliest : List Model → Option Circle → Type 0
-IsEarliest models best = IsEarliestBefore models (length models) best
+abbrev pub IsEarliestCircle : List Model → Option Circle → Type 0
+IsEarliestCircle models best = IsEarliestBefore models (length models) best

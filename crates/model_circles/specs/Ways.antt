@@ -13,14 +13,14 @@ abbrev pub Stands : ℕ → List ℕ → Type 0
 Stands n [] = ⊥
 Stands n (m ∷ ms) = (n ≡ m) ⊎ Stands n ms
 
-abbrev pub AreApart : List ℕ → Type 0
-AreApart [] = Unit {0}
-AreApart (n ∷ ns) = ¬ Stands n ns × AreApart ns
+abbrev pub AreDifferent : List ℕ → Type 0
+AreDifferent [] = Unit {0}
+AreDifferent (n ∷ ns) = ¬ Stands n ns × AreDifferent ns
 
 -- a way back on which no model stands twice
 pub record IsWayBack (models : List Model) (inner end : ℕ) (numbers : List ℕ) : Type 0 where
   pub leads : LeadsBackBy models inner numbers end
-  pub apart : AreApart (end ∷ numbers)
+  pub apart : AreDifferent (end ∷ numbers)
 
 -- the k-th subckt line of a model lies on a circle
 pub record LiesOnCircle (models : List Model) (n k : ℕ) : Type 0 where

@@ -1,7 +1,7 @@
 // The earliest line on a circle.
 ghost use Rattle.std.specs.Prelude.{◌≡◌, ◌<◌, ◌+◌, ◌↔◌, IsTrue, length, IfOk};
 ghost use Rattle.model_order.specs.Numbers.{subckts_of};
-ghost use Rattle.model_circles.specs.Earliest.{IsNoLater, IsLookedAt, IsEarliestBefore, IsEarliest};
+ghost use Rattle.model_circles.specs.Earliest.{IsNoLater, IsLookedAt, IsEarliestBefore, IsEarliestCircle};
 ghost use Rattle.model_circles.specs.Ranks.{AreRanks};
 
 use crate::ranking::ranks;
@@ -97,7 +97,7 @@ pub fn earliest(
     named: &NamedModels,
 ) -> Result<Option<Circle>, AllocError>
     requires { named.now ≡ models.now }
-    ensures { IfOk result (IsEarliest models.now) }
+    ensures { IfOk result (IsEarliestCircle models.now) }
 {
     let ranks = ranks(alloc, models, named)?;
     let mut best = None;

@@ -8,6 +8,3 @@ mod ranking;
 mod search;
 
 pub use fault::circle_fault;
-
-#[cfg(test)]
-mod tests;

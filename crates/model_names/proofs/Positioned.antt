@@ -17,7 +17,7 @@ use Rattle.netlist_meaning.specs.InOrder.{cons_unless, without_name, first_names
 use Rattle.flat_designs.specs.Laws.{append_unless}
 use Rattle.flat_designs.proofs.Order.{names_come_where_first}
 use Rattle.model_names.specs.declared.words.Word.{Word}
-use Rattle.model_names.specs.Words.{port_of, ports_of}
+use Rattle.model_names.specs.Words.{port_of, as_ports}
 use Rattle.model_names.specs.Positions.{position_in, HasPositions}
 
 -- a test that passes has a position
@@ -87,16 +87,16 @@ any_first name [] = refl
 any_first name (other ∷ names) = any_without name other (first_names names) ∙ ap (λ b. bytes_eq name other || b) (any_first name names)
 
 -- one more word, whose name has stood before or not
-named_more : (words : List Word) (i : ℕ) (d : Word) → i < length words → port_names (ports_of (take (i + 1) words)) ≡ port_names (ports_of (take i words)) ++ (get_or words i d).name.now ∷ []
+named_more : (words : List Word) (i : ℕ) (d : Word) → i < length words → port_names (as_ports (take (i + 1) words)) ≡ port_names (as_ports (take i words)) ++ (get_or words i d).name.now ∷ []
 named_more words i d within =
     ap port_names (map_more port_of words i d within)
-    ∙ map-append (λ (p : Port). p.name) (ports_of (take i words)) (port_of (get_or words i d) ∷ [])
+    ∙ map-append (λ (p : Port). p.name) (as_ports (take i words)) (port_of (get_or words i d) ∷ [])
 
-pub names_more : (words : List Word) (i : ℕ) (d : Word) (positions : BTreeMap (Bor (List ℕ)) ℕ) (names new : List Name) → i < length words → names ≡ first_names (port_names (ports_of (take i words))) → HasPositions positions names
-    → new ≡ append_unless (is_some (position_in positions (get_or words i d).name.now)) names (get_or words i d).name.now → new ≡ first_names (port_names (ports_of (take (i + 1) words)))
+pub names_more : (words : List Word) (i : ℕ) (d : Word) (positions : BTreeMap (Bor (List ℕ)) ℕ) (names new : List Name) → i < length words → names ≡ first_names (port_names (as_ports (take i words))) → HasPositions positions names
+    → new ≡ append_unless (is_some (position_in positions (get_or words i d).name.now)) names (get_or words i d).name.now → new ≡ first_names (port_names (as_ports (take (i + 1) words)))
 names_more words i d positions names new within had has is =
     let name : Name = (get_or words i d).name.now in
-    let before : List Name = port_names (ports_of (take i words)) in
+    let before : List Name = port_names (as_ports (take i words)) in
     is
     ∙ ap (λ b. append_unless b names name) (ap is_some (has name) ∙ any_position (bytes_eq name) 0 names ∙ ap (list_any (bytes_eq name)) had ∙ any_first name before)
     ∙ ap (λ ns. append_unless (list_any (bytes_eq name) before) ns name) had

@@ -15,7 +15,7 @@ use Rattle.netlist_core.specs.declared.model.Port.{Port}
 use Rattle.netlist_meaning.specs.InOrder.{cons_when, words_on_line, by_line}
 use Rattle.flat_designs.proofs.Order.{words_stand_by_line}
 use Rattle.model_names.specs.declared.words.Word.{Word}
-use Rattle.model_names.specs.Words.{port_of, ports_of}
+use Rattle.model_names.specs.Words.{port_of, as_ports}
 
 abbrev line_of : Word → ℕ
 line_of word = word.line
@@ -24,11 +24,11 @@ abbrev on_line : ℕ → Word → Bool
 on_line line word = word.line == line
 
 -- the words of a line are those that pass its test
-words_that_pass : (line : ℕ) (words : List Word) → words_on_line line (ports_of words) ≡ ports_of (filter (on_line line) words)
+words_that_pass : (line : ℕ) (words : List Word) → words_on_line line (as_ports words) ≡ as_ports (filter (on_line line) words)
 words_that_pass line [] = refl
 words_that_pass line (word ∷ words) = by (on_line line word) (words_that_pass line words)
   where
-    by : (b : Bool) → words_on_line line (ports_of words) ≡ ports_of (filter (on_line line) words) → cons_when b (port_of word) (words_on_line line (ports_of words)) ≡ ports_of (cond b (word ∷ filter (on_line line) words) (filter (on_line line) words))
+    by : (b : Bool) → words_on_line line (as_ports words) ≡ as_ports (filter (on_line line) words) → cons_when b (port_of word) (words_on_line line (as_ports words)) ≡ as_ports (cond b (word ∷ filter (on_line line) words) (filter (on_line line) words))
     by true rest = ap (λ ws. port_of word ∷ ws) rest
     by false rest = rest
 
@@ -55,18 +55,18 @@ ties_on_line a b = ap₂ (λ p q. not p && not q) (is_less a b) (is_less b a) �
     back : (b == a) ≡ true → (not (nat_lt a b) && not (nat_lt b a)) ≡ true
     back h = let same : b ≡ a = (Decides-eqb b a).0 h in ap₂ (λ p q. not p && not q) (le-ltb a b (omega arith)) (le-ltb b a (omega arith))
 
-pub sorted_by_line : (words sorted : List Word) → IsSortedByKey line_of nat_cmp sorted → IsStableByKey line_of nat_cmp words sorted → ports_of sorted ≡ by_line (ports_of words)
-sorted_by_line words sorted up stable = (words_stand_by_line (ports_of words) (ports_of sorted)).0 (record { ascend = ascend; stable = stays })
+pub sorted_by_line : (words sorted : List Word) → IsSortedByKey line_of nat_cmp sorted → IsStableByKey line_of nat_cmp words sorted → as_ports sorted ≡ by_line (as_ports words)
+sorted_by_line words sorted up stable = (words_stand_by_line (as_ports words) (as_ports sorted)).0 (record { ascend = ascend; stable = stays })
   where
     word_at : Port → Word
     word_at port = record { line = port.line; name = record { ref_ptr = (0, 0); now = port.name } }
 
-    line_at : (k : ℕ) (port : Port) → (get_or (ports_of sorted) k port).line ≡ line_of (get_or sorted k (word_at port))
+    line_at : (k : ℕ) (port : Port) → (get_or (as_ports sorted) k port).line ≡ line_of (get_or sorted k (word_at port))
     line_at k port = ap (λ (p : Port). p.line) (get_or-map port_of sorted k (word_at port))
 
-    ascend : (i j : ℕ) (port : Port) → i < j → j < length (ports_of sorted) → (get_or (ports_of sorted) i port).line ≤ (get_or (ports_of sorted) j port).line
+    ascend : (i j : ℕ) (port : Port) → i < j → j < length (as_ports sorted) → (get_or (as_ports sorted) i port).line ≤ (get_or (as_ports sorted) j port).line
     ascend i j port l m =
-        let within : j < length sorted = let e : length (ports_of sorted) ≡ length sorted = length-map sorted port_of in omega arith in
+        let within : j < length sorted = let e : length (as_ports sorted) ≡ length sorted = length-map sorted port_of in omega arith in
         let rise : line_of (get_or sorted i (word_at port)) ≤ line_of (get_or sorted j (word_at port)) = IsNonDecreasingBy-from_sort line_of sorted up i j (word_at port) (omega arith) within in
         let e = line_at i port in
         let f = line_at j port in
@@ -78,5 +78,5 @@ sorted_by_line words sorted up stable = (words_stand_by_line (ports_of words) (p
         let same : (word : Word) → ties (λ x y. is_lt (nat_cmp (line_of x) (line_of y))) at word ≡ on_line line word = λ word. ties_on_line line (line_of word) in
         sym (filter_agree _ _ same sorted) ∙ stable at ∙ filter_agree _ _ same words
 
-    stays : (line : ℕ) → words_on_line line (ports_of sorted) ≡ words_on_line line (ports_of words)
-    stays line = words_that_pass line sorted ∙ ap ports_of (passes line) ∙ sym (words_that_pass line words)
+    stays : (line : ℕ) → words_on_line line (as_ports sorted) ≡ words_on_line line (as_ports words)
+    stays line = words_that_pass line sorted ∙ ap as_ports (passes line) ∙ sym (words_that_pass line words)

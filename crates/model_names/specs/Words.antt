@@ -7,5 +7,5 @@ use Rattle.model_names.specs.declared.words.Word.{Word}
 abbrev pub port_of : Word → Port
 port_of word = at_line word.line word.name.now
 
-abbrev pub ports_of : List Word → List Port
-ports_of words = map port_of words
+abbrev pub as_ports : List Word → List Port
+as_ports words = map port_of words

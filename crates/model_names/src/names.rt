@@ -3,7 +3,7 @@ ghost use Rattle.std.specs.Prelude.{◌≡◌, Contains, is_some, slice_get, Som
 ghost use Rattle.netlist_meaning.specs.InOrder.{by_line, model_words, names_in_order};
 ghost use Rattle.flat_designs.specs.Laws.{append_unless};
 ghost use Rattle.model_names.specs.Positions.{bytes_of, position_in, HasPositions};
-ghost use Rattle.model_names.specs.Words.{ports_of};
+ghost use Rattle.model_names.specs.Words.{as_ports};
 
 use crate::words::{Word, words_of};
 use lists::List;
@@ -47,7 +47,7 @@ impl<'a> ModelNames<'a> {
 
 // The words by line; those of one line stand as they stood.
 fn words_by_line(alloc: Global, model: &Model) -> Result<Vec<Word<'_>>, AllocError>
-    ensures { IfOk result (λ words. ports_of words.items ≡ by_line (model_words model.now)) }
+    ensures { IfOk result (λ words. as_ports words.items ≡ by_line (model_words model.now)) }
 {
     let mut words = words_of(alloc, model)?;
     words.sort_by_key(|word| word.line)?;

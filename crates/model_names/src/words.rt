@@ -2,7 +2,7 @@
 ghost use Rattle.std.specs.Prelude.{◌≡◌, ◌++◌, [], ◌∷◌, map, flat_map, IfOk, OnOk};
 ghost use Rattle.netlist_core.specs.Names.{at_line};
 ghost use Rattle.netlist_meaning.specs.InOrder.{cover_words, latch_words, subckt_words, model_words};
-ghost use Rattle.model_names.specs.Words.{port_of, ports_of};
+ghost use Rattle.model_names.specs.Words.{port_of, as_ports};
 
 use netlist_core::{Cover, LatchRow, Model, Name, Port, Subckt};
 use std::alloc::{AllocError, Global};
@@ -16,7 +16,7 @@ pub struct Word<'a> {
 
 // Adds a name.
 fn push_name<'a>(words: &mut Vec<Word<'a>>, line: u64, name: &'a Name) -> Result<(), AllocError>
-    ensures { OnOk result (ports_of words.new.items ≡ ports_of words.old.items ++ at_line line name.now ∷ []) }
+    ensures { OnOk result (as_ports words.new.items ≡ as_ports words.old.items ++ at_line line name.now ∷ []) }
 {
     words.push(Word {
         line,
@@ -27,7 +27,7 @@ fn push_name<'a>(words: &mut Vec<Word<'a>>, line: u64, name: &'a Name) -> Result
 
 // Adds names of one line.
 fn push_names<'a>(words: &mut Vec<Word<'a>>, line: u64, names: &'a [Name]) -> Result<(), AllocError>
-    ensures { OnOk result (ports_of words.new.items ≡ ports_of words.old.items ++ map (at_line line) names.now) }
+    ensures { OnOk result (as_ports words.new.items ≡ as_ports words.old.items ++ map (at_line line) names.now) }
 {
     for name in names {
         push_name(words, line, name)?;
@@ -36,7 +36,7 @@ fn push_names<'a>(words: &mut Vec<Word<'a>>, line: u64, names: &'a [Name]) -> Re
 }
 
 fn push_ports<'a>(words: &mut Vec<Word<'a>>, ports: &'a [Port]) -> Result<(), AllocError>
-    ensures { OnOk result (ports_of words.new.items ≡ ports_of words.old.items ++ ports.now) }
+    ensures { OnOk result (as_ports words.new.items ≡ as_ports words.old.items ++ ports.now) }
 {
     for port in ports {
         push_name(words, port.line, &port.name)?;
@@ -45,14 +45,14 @@ fn push_ports<'a>(words: &mut Vec<Word<'a>>, ports: &'a [Port]) -> Result<(), Al
 }
 
 fn push_cover<'a>(words: &mut Vec<Word<'a>>, cover: &'a Cover) -> Result<(), AllocError>
-    ensures { OnOk result (ports_of words.new.items ≡ ports_of words.old.items ++ cover_words cover.now) }
+    ensures { OnOk result (as_ports words.new.items ≡ as_ports words.old.items ++ cover_words cover.now) }
 {
     push_names(words, cover.line, cover.ins.as_slice())?;
     push_name(words, cover.line, &cover.out)
 }
 
 fn push_latch<'a>(words: &mut Vec<Word<'a>>, latch: &'a LatchRow) -> Result<(), AllocError>
-    ensures { OnOk result (ports_of words.new.items ≡ ports_of words.old.items ++ latch_words latch.now) }
+    ensures { OnOk result (as_ports words.new.items ≡ as_ports words.old.items ++ latch_words latch.now) }
 {
     push_name(words, latch.line, &latch.input)?;
     push_name(words, latch.line, &latch.output)?;
@@ -63,7 +63,7 @@ fn push_latch<'a>(words: &mut Vec<Word<'a>>, latch: &'a LatchRow) -> Result<(), 
 }
 
 fn push_subckt<'a>(words: &mut Vec<Word<'a>>, line: &'a Subckt) -> Result<(), AllocError>
-    ensures { OnOk result (ports_of words.new.items ≡ ports_of words.old.items ++ subckt_words line.now) }
+    ensures { OnOk result (as_ports words.new.items ≡ as_ports words.old.items ++ subckt_words line.now) }
 {
     for pin in line.pins.as_slice() {
         push_name(words, line.line, &pin.actual)?;
@@ -72,7 +72,7 @@ fn push_subckt<'a>(words: &mut Vec<Word<'a>>, line: &'a Subckt) -> Result<(), Al
 }
 
 fn push_covers<'a>(words: &mut Vec<Word<'a>>, covers: &'a [Cover]) -> Result<(), AllocError>
-    ensures { OnOk result (ports_of words.new.items ≡ ports_of words.old.items ++ flat_map cover_words covers.now) }
+    ensures { OnOk result (as_ports words.new.items ≡ as_ports words.old.items ++ flat_map cover_words covers.now) }
 {
     for cover in covers {
         push_cover(words, cover)?;
@@ -81,7 +81,7 @@ fn push_covers<'a>(words: &mut Vec<Word<'a>>, covers: &'a [Cover]) -> Result<(),
 }
 
 fn push_latches<'a>(words: &mut Vec<Word<'a>>, latches: &'a [LatchRow]) -> Result<(), AllocError>
-    ensures { OnOk result (ports_of words.new.items ≡ ports_of words.old.items ++ flat_map latch_words latches.now) }
+    ensures { OnOk result (as_ports words.new.items ≡ as_ports words.old.items ++ flat_map latch_words latches.now) }
 {
     for latch in latches {
         push_latch(words, latch)?;
@@ -90,7 +90,7 @@ fn push_latches<'a>(words: &mut Vec<Word<'a>>, latches: &'a [LatchRow]) -> Resul
 }
 
 fn push_subckts<'a>(words: &mut Vec<Word<'a>>, lines: &'a [Subckt]) -> Result<(), AllocError>
-    ensures { OnOk result (ports_of words.new.items ≡ ports_of words.old.items ++ flat_map subckt_words lines.now) }
+    ensures { OnOk result (as_ports words.new.items ≡ as_ports words.old.items ++ flat_map subckt_words lines.now) }
 {
     for line in lines {
         push_subckt(words, line)?;
@@ -100,7 +100,7 @@ fn push_subckts<'a>(words: &mut Vec<Word<'a>>, lines: &'a [Subckt]) -> Result<()
 
 /// The words of a model's lines, list by list.
 pub fn words_of(alloc: Global, model: &Model) -> Result<Vec<Word<'_>>, AllocError>
-    ensures { IfOk result (λ words. ports_of words.items ≡ model_words model.now) }
+    ensures { IfOk result (λ words. as_ports words.items ≡ model_words model.now) }
 {
     let mut words = Vec::new(alloc);
     push_ports(&mut words, model.ins.as_slice())?;

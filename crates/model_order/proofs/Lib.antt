@@ -1,5 +1,3 @@
 pub mod Naming
-pub mod Walks
-pub mod Orders
+pub mod Linked
 pub mod Circling
-pub mod Steps

@@ -1,4 +1,4 @@
+pub mod Links
 pub mod Numbers
 pub mod Order
 pub mod Reasons
-pub mod Walk

@@ -11,6 +11,6 @@ abbrev pub IsCircular : List Model → Type 0
 IsCircular models = (name : Name) × (names : List Name) × Leads models name names name
 
 -- a refusal for another reason than memory is right
-abbrev pub IsOrderRefusal : List Model → OrderError → Type 0
-IsOrderRefusal models NoMemory = Unit {0}
-IsOrderRefusal models Circle = IsCircular models
+abbrev pub IsModelOrderRefusal : List Model → OrderError → Type 0
+IsModelOrderRefusal models NoMemory = Unit {0}
+IsModelOrderRefusal models Circle = IsCircular models

@@ -2,9 +2,9 @@
 #![tactic(auto)]
 
 mod error;
+mod links;
 mod numbers;
 mod ordering;
-mod walk;
 
 pub use error::OrderError;
 pub use numbers::placed;

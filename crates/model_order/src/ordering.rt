@@ -1,17 +1,19 @@
 // An order of models, or a circle.
 ghost use Rattle.std.specs.Prelude.{◌≡◌, IfOk, IfErr};
 ghost use Rattle.model_order.specs.Order.{IsModelOrder};
-ghost use Rattle.model_order.specs.Reasons.{IsOrderRefusal};
+ghost use Rattle.model_order.specs.Reasons.{IsModelOrderRefusal};
 
 use crate::error::OrderError;
-use crate::walk::Walk;
+use crate::links::links_of;
+use depth_walk::WalkError;
 use lists::List;
 use named_models::NamedModels;
 use netlist_core::Model;
 use std::alloc::Global;
 
-/// An order of the models' numbers in which each comes after those of the models that its subckt lines place, in a
-/// time that grows as the text does, times the look-up of a name.
+/// An order of the models' numbers in which each comes after those of the models that its subckt lines place. Each line's
+/// name is looked up once.
+#[tactic(auto, using(crate::proofs::Linked::stay, crate::proofs::Linked::model_order, crate::proofs::Circling::circular))]
 pub fn order(
     alloc: Global,
     models: &[Model],
@@ -19,11 +21,12 @@ pub fn order(
 ) -> Result<List<usize>, OrderError>
     requires { named.now ≡ models.now }
     ensures order { IfOk result (IsModelOrder models.now) }
-    ensures refused { IfErr result (IsOrderRefusal models.now) }
+    ensures refused { IfErr result (IsModelOrderRefusal models.now) }
 {
-    let mut walk = Walk::start(alloc, models)?;
-    for n in 0..models.len() {
-        walk.reach(models, named, n)?;
+    let links = links_of(alloc, models, named)?;
+    match depth_walk::order(alloc, &links) {
+        Ok(numbers) => Ok(numbers),
+        Err(WalkError::NoMemory) => Err(OrderError::NoMemory),
+        Err(WalkError::Circle(_)) => Err(OrderError::Circle),
     }
-    Ok(List::of(walk.order))
 }

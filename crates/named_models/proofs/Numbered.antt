@@ -13,7 +13,7 @@ use Rattle.std.specs.Ordering.{nat_cmp}
 use denote.Ref.{Bor}
 use Rattle.netlist_core.specs.declared.model.Model.{Model}
 use Rattle.netlist_core.specs.Names.{Name, is_model_named, model_named}
-use Rattle.named_models.specs.Numbers.{IsNumberOf, number_in, HasNumbersFrom}
+use Rattle.named_models.specs.Numbers.{IsNumberOf, number_kept, HasNumbersFrom}
 
 -- what stands before the first that passes does not pass
 fails_before : {X : Type 0} (p : X → Bool) (xs : List X) (k : ℕ) (x : X) → k < position_or_len p xs → slice_get xs k ≡ Some x → p x ≡ false
@@ -44,10 +44,10 @@ number_found models name = by (nat_lt (position_or_len (is_model_named name) mod
 pub numbered_more : (models : List Model) (n i : ℕ) (model : Model) (key : Bor (List ℕ)) (old new : BTreeMap (Bor (List ℕ)) ℕ) → i ≡ n + 1 → n < length models → model ≡ get_or models n model → key.now ≡ model.name → HasNumbersFrom old i (drop i models) → UpdatesBy (λ x y. slice_cmp nat_cmp x.now y.now) (λ k. slice_cmp nat_cmp key.now k.now) old new (Some n) → HasNumbersFrom new n (drop n models)
 numbered_more models n i model key old new next within is named had updates = λ name.
     btree_map_updates_str key.now old new (Some n) updates name
-    ∙ ap (λ k. cond (bytes_eq k name) (Some n) (number_in old name)) named
+    ∙ ap (λ k. cond (bytes_eq k name) (Some n) (number_kept old name)) named
     ∙ ap (λ o. cond (bytes_eq model.name name) (Some n) o) (had name ∙ ap (λ j. position_from (is_model_named name) j (drop i models)) next ∙ ap (λ j. position_from (is_model_named name) (n + 1) (drop j models)) (let e : i ≡ suc n = omega arith in e))
     ∙ ap (λ ms. position_from (is_model_named name) n ms) (sym (drop-cons models n model within ∙ ap (λ m. m ∷ drop (suc n) models) (sym is)))
 
 -- what a map has for a name, once it has all models
-pub number_is : (numbers : BTreeMap (Bor (List ℕ)) ℕ) (models : List Model) (name : Name) → HasNumbersFrom numbers 0 models → number_in numbers name ≡ position (is_model_named name) models
+pub number_is : (numbers : BTreeMap (Bor (List ℕ)) ℕ) (models : List Model) (name : Name) → HasNumbersFrom numbers 0 models → number_kept numbers name ≡ position (is_model_named name) models
 number_is numbers models name has = has name ∙ sym (position_from-zero (is_model_named name) models)

@@ -9,7 +9,7 @@ use Rattle.std.proofs.lemmas.Slice.Zip.{AllZip-right}
 use denote.Ref.{Bor}
 use Rattle.netlist_core.specs.declared.model.Model.{Model}
 use Rattle.net_faults.specs.declared.placed.PortNames.{PortNames}
-use Rattle.net_faults.specs.Placed.{HasPorts, IsPlaced}
+use Rattle.net_faults.specs.Placed.{AreNamesOfPorts, ArePlacedNames}
 use Rattle.net_faults.proofs.Pushed.{taken}
 
 pub looked_up : {X : Type 0} (xs : List X) (i : ℕ) (found : Option (Bor X)) → is_some found ≡ nat_lt i (length xs) → IfSome found (λ x. x.now ≡ get_or xs i x.now) → option_copied found ≡ slice_get xs i
@@ -29,9 +29,9 @@ zipped_more R xs new ys i x y within is pushed all here =
     subst (AllZip R new) (sym (taken ys i y within is)) (subst (λ l. AllZip R l (take i ys ++ y ∷ [])) (sym pushed) (zipped_push R xs (take i ys) x y all here))
 
 -- the names at a model's number are those of its ports
-pub placed_at : (names : List PortNames) (models : List Model) (number : ℕ) (m : Model) → AllZip HasPorts names models → slice_get models number ≡ Some m → IsPlaced (Some m) (slice_get names number)
-placed_at names models number m all there = by (slice_get names number) (MatchOption-at_some (Unit {0}) (λ y. IsSomeAnd (slice_get names number) (λ x. HasPorts x y)) m there (AllZip-right HasPorts names models all number))
+pub placed_at : (names : List PortNames) (models : List Model) (number : ℕ) (m : Model) → AllZip AreNamesOfPorts names models → slice_get models number ≡ Some m → ArePlacedNames (Some m) (slice_get names number)
+placed_at names models number m all there = by (slice_get names number) (MatchOption-at_some (Unit {0}) (λ y. IsSomeAnd (slice_get names number) (λ x. AreNamesOfPorts x y)) m there (AllZip-right AreNamesOfPorts names models all number))
   where
-    by : (o : Option PortNames) → IsSomeAnd o (λ x. HasPorts x m) → IsPlaced (Some m) o
+    by : (o : Option PortNames) → IsSomeAnd o (λ x. AreNamesOfPorts x m) → ArePlacedNames (Some m) o
     by None h = h
     by (Some x) h = h

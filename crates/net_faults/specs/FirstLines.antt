@@ -1,5 +1,5 @@
 -- The earliest line of each name of some words.
-use Rattle.std.specs.Prelude.{◌≡◌, ℕ, Bool, true, false, nat_le, nat_lt, List, Option}
+use Rattle.std.specs.Prelude.{◌≡◌, ℕ, Bool, true, false, cond, nat_le, nat_lt, bytes_eq, List, Option, Some}
 use Rattle.std.specs.BTreeMap.{BTreeMap, get_by}
 use Rattle.std.specs.Cmp.Lexicographic.{slice_cmp}
 use Rattle.std.specs.List.{list_any}
@@ -24,3 +24,7 @@ pub record AreFirstLines (lines : FirstLines) (ports : List Port) : Type 0 where
   pub before : (p : Port) → has_line (λ line. nat_lt line p.line) lines p.name ≡ list_any (same_name_before p) ports
   pub up_to : (p : Port) → has_line (λ line. nat_le line p.line) lines p.name ≡ list_any (same_name_up_to p) ports
   pub named : (name : Name) → has_line (λ line. true) lines name ≡ is_named ports name
+
+-- a name has this line, and every other name what it had
+abbrev pub HasLineAt : FirstLines → FirstLines → Name → ℕ → Type 0
+HasLineAt old new name line = (other : Name) → line_in new.lines other ≡ cond (bytes_eq name other) (Some line) (line_in old.lines other)

@@ -11,21 +11,21 @@ use Rattle.net_faults.specs.declared.pins.PinKind.TheVariants.{Input, Output, Un
 use Rattle.net_faults.specs.FirstLines.{AreFirstLines}
 
 -- the names are those of this model's ports
-pub record HasPorts (names : PortNames) (m : Model) : Type 0 where
+pub record AreNamesOfPorts (names : PortNames) (m : Model) : Type 0 where
   pub inputs : AreFirstLines names.inputs (m.ins ++ m.clocks)
   pub outputs : AreFirstLines names.outputs m.outs
 
 -- each of these models has its ports' names
 pub record KnowsPorts (placed : PlacedPorts) (models : List Model) : Type 0 where
   pub named : placed.named.now ≡ models
-  pub ports : AllZip HasPorts placed.ports models
+  pub ports : AllZip AreNamesOfPorts placed.ports models
 
 -- the names of a model that is placed, where there is one
-abbrev pub IsPlaced : Option Model → Option PortNames → Type 0
-IsPlaced None None = Unit {0}
-IsPlaced None (Some names) = ⊥
-IsPlaced (Some m) None = ⊥
-IsPlaced (Some m) (Some names) = HasPorts names m
+abbrev pub ArePlacedNames : Option Model → Option PortNames → Type 0
+ArePlacedNames None None = Unit {0}
+ArePlacedNames None (Some names) = ⊥
+ArePlacedNames (Some m) None = ⊥
+ArePlacedNames (Some m) (Some names) = AreNamesOfPorts names m
 
 -- the pins of each kind
 abbrev pub is_pin_of : PinKind → Option Model → Pin → Bool

@@ -3,7 +3,7 @@ ghost use Rattle.std.specs.Prelude.{◌≡◌, List, [], OnOk, IfOk};
 ghost use Rattle.netlist_core.specs.declared.model.Port.{Port};
 ghost use Rattle.netlist_rules.specs.ModelFaults.{doubles_after, duplicate_ports};
 ghost use Rattle.netlist_rules.specs.declared.fault.FaultKind.TheVariants.{DuplicatePort};
-ghost use Rattle.earliest_words.specs.FirstBroken.{first_broken};
+ghost use Rattle.earliest_words.specs.EarliestBroken.{earliest_broken};
 ghost use Rattle.earliest_words.specs.Words.{word_port, word_ports, earliest_word, earliest_after};
 ghost use Rattle.net_faults.specs.Elsewhere.{KnowsOthers, stands_elsewhere};
 
@@ -79,7 +79,7 @@ fn offer_duplicates<'a>(
 /// The fault of a name that is twice a port of a model: twice in `.inputs`, twice in `.clock`, twice in `.outputs`, or among the
 /// inputs and in `.outputs`.
 pub fn duplicate_port(alloc: Global, models: &[Model]) -> Result<Option<Fault>, AllocError>
-    ensures { IfOk result (λ found. found ≡ first_broken DuplicatePort models.now) }
+    ensures { IfOk result (λ found. found ≡ earliest_broken DuplicatePort models.now) }
 {
     let mut earliest = Earliest::new();
     for model in models {

@@ -1,11 +1,11 @@
 // The names of some words, each with the earliest line on which it stands.
-ghost use Rattle.std.specs.Prelude.{◌≡◌, List, [], ◌∷◌, IfOk, OnOk};
+ghost use Rattle.std.specs.Prelude.{◌≡◌, min, List, [], ◌∷◌, Some, IfOk, OnOk};
 ghost use Rattle.std.specs.List.{list_any};
 ghost use Rattle.netlist_core.specs.declared.model.Port.{Port};
 ghost use Rattle.netlist_core.specs.Names.{is_named};
 ghost use Rattle.netlist_rules.specs.Drivers.{same_name_before, same_name_up_to};
 ghost use Rattle.earliest_words.specs.Words.{word_port, word_ports};
-ghost use Rattle.net_faults.specs.FirstLines.{AreFirstLines};
+ghost use Rattle.net_faults.specs.FirstLines.{AreFirstLines, HasLineAt, line_in};
 
 use earliest_words::Word;
 use std::alloc::{AllocError, Global};
@@ -27,16 +27,40 @@ impl<'a> FirstLines<'a> {
         }
     }
 
-    /// Adds a word.
-    pub fn insert(&mut self, word: Word<'a>) -> Result<(), AllocError>
-        ensures { OnOk result ((ports : List Port) → AreFirstLines self.old ports → AreFirstLines self.new (word_port word.entry ∷ ports)) }
+    // Puts a line in the place of what is kept for a name, and answers what was kept.
+    fn put(&mut self, name: &'a [u8], line: u64) -> Result<Option<u64>, AllocError>
+        ensures old { IfOk result (λ known. known ≡ line_in self.old.lines name.now) }
+        ensures new { OnOk result (HasLineAt self.old self.new name.now line) }
     {
-        let line = match self.lines.get(word.name) {
-            None => word.line,
-            Some(line) => word.line.min(*line),
-        };
-        self.lines.insert(word.name, line)?;
+        Ok(self.lines.insert(name, line)?)
+    }
+
+    // Puts the other line back for the word's name, where it is the lesser.
+    #[tactic(auto, using(crate::proofs::NamedLines::line_stays, crate::proofs::NamedLines::line_falls))]
+    fn put_back(&mut self, word: Word<'a>, other: u64) -> Result<(), AllocError>
+        requires { line_in self.old.lines word.name.now ≡ Some word.line }
+        ensures { OnOk result (HasLineAt self.old self.new word.entry.name.now (min word.entry.line other)) }
+    {
+        if word.line <= other {
+            return Ok(());
+        }
+        self.put(word.name, other)?;
         Ok(())
+    }
+
+    /// Adds a word, and answers whether its name stood on a line up to the word's.
+    #[tactic(auto, using(crate::proofs::NamedLines::stood, crate::proofs::NamedLines::lines_more, crate::proofs::NamedLines::put_twice, crate::proofs::NamedLines::line_there))]
+    pub fn insert(&mut self, word: Word<'a>) -> Result<bool, AllocError>
+        ensures stood { IfOk result (λ stood. (ports : List Port) → AreFirstLines self.old ports → stood ≡ list_any (same_name_up_to (word_port word.entry)) ports) }
+        ensures added { OnOk result ((ports : List Port) → AreFirstLines self.old ports → AreFirstLines self.new (word_port word.entry ∷ ports)) }
+    {
+        match self.put(word.name, word.line)? {
+            None => Ok(false),
+            Some(line) => {
+                self.put_back(word, line)?;
+                Ok(line <= word.line)
+            }
+        }
     }
 
     /// Whether the word's name stands on a line before the word's.

@@ -4,7 +4,7 @@ ghost use Rattle.std.specs.Option.{option_copied};
 ghost use Rattle.netlist_core.specs.declared.model.Model.{Model};
 ghost use Rattle.netlist_rules.specs.Drivers.{is_input_pin, is_output_pin, actual_if, actuals};
 ghost use Rattle.earliest_words.specs.Words.{word_ports};
-ghost use Rattle.net_faults.specs.Placed.{IsPlaced, KnowsPorts, is_pin_of};
+ghost use Rattle.net_faults.specs.Placed.{ArePlacedNames, KnowsPorts, is_pin_of};
 
 use crate::placed::{PlacedPorts, PortNames};
 use earliest_words::Word;
@@ -21,7 +21,7 @@ pub enum PinKind {
 }
 
 fn is_input(placed: Option<&PortNames<'_>>, pin: &Pin) -> bool
-    ensures { (model : Option Model) → IsPlaced model (option_copied placed.entry) → result ≡ is_input_pin model pin.now }
+    ensures { (model : Option Model) → ArePlacedNames model (option_copied placed.entry) → result ≡ is_input_pin model pin.now }
 {
     match placed {
         None => false,
@@ -30,7 +30,7 @@ fn is_input(placed: Option<&PortNames<'_>>, pin: &Pin) -> bool
 }
 
 fn is_output(placed: Option<&PortNames<'_>>, pin: &Pin) -> bool
-    ensures { (model : Option Model) → IsPlaced model (option_copied placed.entry) → result ≡ is_output_pin model pin.now }
+    ensures { (model : Option Model) → ArePlacedNames model (option_copied placed.entry) → result ≡ is_output_pin model pin.now }
 {
     match placed {
         None => false,
@@ -40,7 +40,7 @@ fn is_output(placed: Option<&PortNames<'_>>, pin: &Pin) -> bool
 
 // Whether a pin is of this kind, by the ports of the model that its line names.
 fn is_of_kind(kind: PinKind, placed: Option<&PortNames<'_>>, pin: &Pin) -> bool
-    ensures { (model : Option Model) → IsPlaced model (option_copied placed.entry) → result ≡ is_pin_of kind model pin.now }
+    ensures { (model : Option Model) → ArePlacedNames model (option_copied placed.entry) → result ≡ is_pin_of kind model pin.now }
 {
     match kind {
         PinKind::Input => is_input(placed, pin),
@@ -56,7 +56,7 @@ fn push_pins<'a>(
     placed: Option<&PortNames<'_>>,
     subckt: &'a Subckt,
 ) -> Result<(), AllocError>
-    ensures { OnOk result ((model : Option Model) → IsPlaced model (option_copied placed.entry) →
+    ensures { OnOk result ((model : Option Model) → ArePlacedNames model (option_copied placed.entry) →
         word_ports words.new.items ≡ word_ports words.old.items ++ filter_map (actual_if (is_pin_of kind model) subckt.now.line) subckt.now.pins) }
 {
     for pin in subckt.pins.as_slice() {

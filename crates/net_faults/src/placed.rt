@@ -3,7 +3,7 @@ ghost use Rattle.std.specs.Prelude.{◌≡◌, List, IfOk};
 ghost use Rattle.std.specs.Option.{option_copied};
 ghost use Rattle.netlist_core.specs.declared.model.Model.{Model};
 ghost use Rattle.netlist_core.specs.Names.{model_named};
-ghost use Rattle.net_faults.specs.Placed.{HasPorts, IsPlaced, KnowsPorts};
+ghost use Rattle.net_faults.specs.Placed.{AreNamesOfPorts, ArePlacedNames, KnowsPorts};
 
 use crate::first_lines::FirstLines;
 use crate::words::{input_words, port_words};
@@ -28,7 +28,7 @@ pub struct PlacedPorts<'n, 'a> {
 
 // The names of a model's ports.
 fn port_names<'a>(alloc: Global, model: &'a Model) -> Result<PortNames<'a>, AllocError>
-    ensures { IfOk result (λ names. HasPorts names model.now) }
+    ensures { IfOk result (λ names. AreNamesOfPorts names model.now) }
 {
     let inputs = input_words(alloc, model)?;
     let outputs = port_words(alloc, model.outs.as_slice())?;
@@ -60,7 +60,7 @@ impl<'n, 'a> PlacedPorts<'n, 'a> {
 
     /// Of the first model of this name.
     pub fn find(&self, name: &[u8]) -> Option<&PortNames<'a>>
-        ensures { (models : List Model) → KnowsPorts self.now models → IsPlaced (model_named models name.now) (option_copied result) }
+        ensures { (models : List Model) → KnowsPorts self.now models → ArePlacedNames (model_named models name.now) (option_copied result) }
     {
         let number = self.named.find(name)?;
         self.ports.as_slice().get(number)

@@ -34,9 +34,8 @@ impl<'a> Repeats<'a> {
         ensures passed { OnOk result ((before after : List Port) → IsBetween self.old before (word_port word.entry ∷ after) →
             IsBetween self.new (word_port word.entry ∷ before) after) }
     {
-        let is_repeat = self.all.has_before(word) || self.passed.has_up_to(word);
-        self.passed.insert(word)?;
-        Ok(is_repeat)
+        let has_passed = self.passed.insert(word)?;
+        Ok(has_passed || self.all.has_before(word))
     }
 }
 

@@ -3,7 +3,7 @@ ghost use Rattle.std.specs.Prelude.{◌≡◌, List, IfOk, OnOk};
 ghost use Rattle.netlist_core.specs.declared.model.Model.{Model};
 ghost use Rattle.netlist_rules.specs.ModelFaults.{second_drivers};
 ghost use Rattle.netlist_rules.specs.declared.fault.FaultKind.TheVariants.{MultipleDrivers};
-ghost use Rattle.earliest_words.specs.FirstBroken.{first_broken};
+ghost use Rattle.earliest_words.specs.EarliestBroken.{earliest_broken};
 ghost use Rattle.earliest_words.specs.Words.{earliest_word, earliest_after};
 ghost use Rattle.net_faults.specs.Placed.{KnowsPorts};
 
@@ -37,7 +37,7 @@ pub fn second_driver<'a>(
     named: &NamedModels<'a>,
 ) -> Result<Option<Fault>, AllocError>
     requires { named.now ≡ models.now }
-    ensures { IfOk result (λ found. found ≡ first_broken MultipleDrivers models.now) }
+    ensures { IfOk result (λ found. found ≡ earliest_broken MultipleDrivers models.now) }
 {
     let placed = PlacedPorts::new(alloc, models, named)?;
     let mut earliest = Earliest::new();

@@ -4,7 +4,7 @@ ghost use Rattle.netlist_core.specs.declared.model.Model.{Model};
 ghost use Rattle.netlist_core.specs.declared.model.Port.{Port};
 ghost use Rattle.netlist_rules.specs.ModelFaults.{unless_named, undriven_readings};
 ghost use Rattle.netlist_rules.specs.declared.fault.FaultKind.TheVariants.{Undriven};
-ghost use Rattle.earliest_words.specs.FirstBroken.{first_broken};
+ghost use Rattle.earliest_words.specs.EarliestBroken.{earliest_broken};
 ghost use Rattle.earliest_words.specs.Words.{word_ports, earliest_word, earliest_after};
 ghost use Rattle.net_faults.specs.FirstLines.{AreFirstLines};
 ghost use Rattle.net_faults.specs.Placed.{KnowsPorts};
@@ -56,7 +56,7 @@ pub fn undriven<'a>(
     named: &NamedModels<'a>,
 ) -> Result<Option<Fault>, AllocError>
     requires { named.now ≡ models.now }
-    ensures { IfOk result (λ found. found ≡ first_broken Undriven models.now) }
+    ensures { IfOk result (λ found. found ≡ earliest_broken Undriven models.now) }
 {
     let placed = PlacedPorts::new(alloc, models, named)?;
     let mut earliest = Earliest::new();

@@ -22,21 +22,14 @@ use Rattle.netlist_rules.specs.ModelFaults.{AreFaultless}
 use Rattle.lists.proofs.Members.{In, in_from, in_map, in_mapped, contains_from}
 use Rattle.sound_designs.proofs.Sound.{same_of, in_got, order_of, formals_named}
 use Rattle.sound_designs.proofs.Driven.{got_from}
-use Rattle.sound_designs.proofs.OneDriver.{not_nil}
+use Rattle.lists.proofs.Ends.{snoc_same}
 use Rattle.flat_designs.proofs.Lists.{in_some_map}
 use Rattle.flat_designs.proofs.Classes.{net_joined}
 use Rattle.flat_designs.proofs.ByPins.{roots_are_by_pins}
 use Rattle.netlist_flatten.specs.Numbered.{place_at, nets_before}
 use Rattle.netlist_flatten.specs.Joins.{IsLineTo, own_numbers}
-use Rattle.netlist_flatten.proofs.Cuts.{got_left, got_right, got_taken, take_taken, flat_cut, got_set_same, got_set_other}
+use Rattle.lists.proofs.Cuts.{got_left, got_right, got_taken, take_taken, flat_cut, got_set_same, got_set_other, same_items}
 use Rattle.netlist_flatten.proofs.Numbering.{got_place, net_there_at, position_is, nets_by_names, name_there}
-
--- lists of one length that have the same items
-pub same_items : {X : Type 0} (xs ys : List X) → length xs ≡ length ys → ((k : ℕ) (y : X) → slice_get ys k ≡ Some y → slice_get xs k ≡ Some y) → xs ≡ ys
-same_items [] [] l h = refl
-same_items [] (y ∷ ys) l h = absurd (omega arith)
-same_items (x ∷ xs) [] l h = absurd (omega arith)
-same_items (x ∷ xs) (y ∷ ys) l h = ap₂ (λ z zs. z ∷ zs) (same_of (h 0 y refl)) (same_items xs ys (omega arith) (λ k z e. h (suc k) z e))
 
 -- the nets at a place stand there
 pub net_here : (design : Design) (k j : ℕ) (net : Net) → slice_get (nets_at design (place_at design k)) j ≡ Some net → net.place ≡ place_at design k
@@ -108,15 +101,6 @@ joined_next design outer inner line count formal class pin own faultless l to is
         let net : net_at (place_at design inner) pin.formal ≡ net_at (place_at design inner) name = same_of (sym is_formal ∙ ap (slice_get (nets_at design (place_at design inner))) (sym same) ∙ here) in
         inl (ap (slice_get (set own formal class)) same ∙ got_set_same own formal class there ∙ ap Some (is_root ∙ ap (class_of_net design) net))
     by j name here (inr (inr m)) = other_by j name here (λ e. omega arith) (before.joined j name here)
-
--- a place inside another has one outer place and number
-snoc_same : (p q : Place) (n k : ℕ) → p ++ n ∷ [] ≡ q ++ k ∷ [] → (p ≡ q) × (n ≡ k)
-snoc_same [] [] n k e = (refl, ap (λ l. get_or l 0 0) e)
-snoc_same [] (y ∷ q) n k e = absurd (not_nil q k (sym (ap (drop 1) e)))
-snoc_same (x ∷ p) [] n k e = absurd (not_nil p n (ap (drop 1) e))
-snoc_same (x ∷ p) (y ∷ q) n k e =
-    let r : (p ≡ q) × (n ≡ k) = snoc_same p q n k (ap (drop 1) e) in
-    (ap (λ z. z ∷ p) (ap (λ l. get_or l 0 0) e) ∙ ap (λ l. y ∷ l) r.0, r.1)
 
 -- no pin names the name
 abbrev IsUnnamed : List Pin → Name → Type 0

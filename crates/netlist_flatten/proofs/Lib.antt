@@ -1,4 +1,3 @@
-pub mod Cuts
 pub mod Numbering
 pub mod Parents
 pub mod Tabling

@@ -24,7 +24,7 @@ use Rattle.design_places.specs.declared.placed.PlacedModel.{PlacedModel}
 use Rattle.design_places.specs.Placed.{ArePlaces}
 use Rattle.netlist_flatten.specs.Numbered.{place_at, nets_before}
 use Rattle.netlist_flatten.specs.Tables.{AreTables}
-use Rattle.netlist_flatten.proofs.Cuts.{got_left, got_right, flat_cut, flat_within}
+use Rattle.lists.proofs.Cuts.{got_left, got_right, flat_cut, flat_within}
 
 -- the place of a number, and a model there
 pub got_place : (design : Design) (k : ℕ) → k < length (places_in_order design) → slice_get (places_in_order design) k ≡ Some (place_at design k)

@@ -17,7 +17,7 @@ use Rattle.design_places.specs.declared.placed.PlacedModel.{PlacedModel}
 use Rattle.design_places.specs.Placed.{ArePlaces}
 use Rattle.netlist_flatten.specs.Numbered.{place_at, nets_before}
 use Rattle.netlist_flatten.specs.Tables.{AreOfModels, IsKnown, AreNames}
-use Rattle.netlist_flatten.proofs.Cuts.{got_left, flat_next, flat_within, got_set_same, got_set_other}
+use Rattle.lists.proofs.Cuts.{got_left, flat_next, flat_within, got_set_same, got_set_other}
 use Rattle.netlist_flatten.proofs.Numbering.{got_place, model_there, place_count, placed_at, nets_by_names, few_nets}
 
 -- the names are known at the places so far

@@ -1,15 +1,8 @@
 // Copies of words and rows.
 ghost use Rattle.std.specs.Prelude.{◌≡◌, IfOk};
 
-use lists::{Bytes, List};
+use lists::{Bytes, List, copied};
 use std::alloc::{AllocError, Global};
-
-/// A copy of a word.
-pub fn copied(alloc: Global, word: &[u8]) -> Result<Bytes, AllocError>
-    ensures { IfOk result (λ copy. copy ≡ word.now) }
-{
-    Ok(List::of(word.to_vec(alloc)?))
-}
 
 /// A copy of a place.
 pub fn copied_place(alloc: Global, place: &[u32]) -> Result<List<u32>, AllocError>

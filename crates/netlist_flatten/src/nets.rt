@@ -4,8 +4,9 @@ ghost use Rattle.netlist_meaning.specs.InOrder.{places_in_order, nets_at, nets_i
 ghost use Rattle.netlist_meaning.specs.FlatOf.{class_of_net, flat_net};
 ghost use Rattle.netlist_flatten.specs.Numbered.{place_at};
 
-use crate::copies::{copied, copied_place};
+use crate::copies::copied_place;
 use crate::numbers::Numbers;
+use lists::copied;
 use netlist_core::Net;
 use std::alloc::{AllocError, Global};
 

@@ -5,6 +5,7 @@ use Rattle.std.proofs.lemmas.Slice.Eq.{bytes_eq-Decides}
 use Rattle.std.proofs.lemmas.List.Folds.{list_any-append}
 use Rattle.std.proofs.lemmas.Map.Views.{Contains-from_any}
 use Rattle.std.proofs.lemmas.Option.{none-some, same_Some, slice_get-get_or, slice_get-map, slice_get_within, get_or_from_slice_get}
+use Rattle.lists.proofs.Cuts.{got_left}
 use Rattle.netlist_core.specs.declared.model.Design.{Design}
 use Rattle.netlist_core.specs.declared.model.Model.{Model}
 use Rattle.netlist_core.specs.declared.model.Cover.{Cover}
@@ -106,11 +107,6 @@ map_same : {X Y : Type 0} (f g : X → Y) (xs : List X) → ((k : ℕ) (x : X) �
 map_same f g [] same = refl
 map_same f g (x ∷ xs) same = ap (λ y. y ∷ map f xs) (same 0 x refl) ∙ ap (λ ys. g x ∷ ys) (map_same f g xs (λ k. same (suc k)))
 
-at_before : {X : Type 0} (xs ys : List X) (k : ℕ) (x : X) → slice_get xs k ≡ Some x → slice_get (xs ++ ys) k ≡ Some x
-at_before [] ys k x e = absurd (none-some x e)
-at_before (y ∷ xs) ys zero x e = e
-at_before (y ∷ xs) ys (suc k) x e = at_before xs ys k x e
-
 -- a clock net of the main model that is among its inputs is the control
 clock_input : (design : Design) → NamesFormalsOnce design → (name : Name) → has (main_inputs design) name ≡ true → IsClockNet design (net_at [] name) → IsControl design (net_at [] name)
 unfolding has
@@ -186,7 +182,7 @@ solves design wired inputs state bits others agree v =
         sym (used design wired bits others agree cover.line (length cover.ins) place cover.out (by_cover is_model has_cover (at_end cover.ins cover.out)))
         ∙ v.covers_hold place model cover is_model has_cover
         ∙ ap (cover_value cover.rows cover.on) (map_same (bits place) (others place) cover.ins
-        (λ k name at. used design wired bits others agree cover.line k place name (by_cover is_model has_cover (at_before cover.ins (cover.out ∷ []) k name at))))
+        (λ k name at. used design wired bits others agree cover.line k place name (by_cover is_model has_cover (got_left cover.ins (cover.out ∷ []) k name at))))
 
     latches : (place : Place) (number : ℕ) (latch : LatchRow) → latch_at design place number ≡ Some latch → others place latch.output ≡ state place number
     latches place number latch h =

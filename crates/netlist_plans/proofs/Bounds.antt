@@ -1,5 +1,5 @@
 -- How small a plan is, by the weight of the flat netlist.
-use Rattle.std.proofs.Common.{◌≡◌, refl, sym, ◌∙◌, ap, ℕ, ◌+◌, ◌*◌, ◌<◌, ◌≤◌, Bool, true, false, true≢false, cond, [], ◌∷◌, length, arith}
+use Rattle.std.proofs.Common.{◌≡◌, refl, sym, ◌∙◌, ap, ℕ, ◌+◌, ◌*◌, ◌<◌, ◌≤◌, Bool, true, false, true≢false, cond, [], ◌∷◌, ◌++◌, length, arith}
 use Rattle.std.specs.Prelude.{◌==◌, ◌^◌, max}
 use Rattle.std.proofs.lemmas.List.{length-map, length-append}
 use Rattle.std.proofs.Math.Nat.{mul-le-mul, mul-mul-mul_comm}
@@ -13,7 +13,8 @@ use Rattle.cell_core.specs.Loops.{names_one, loop_count}
 use Rattle.cell_lanes.specs.Computes.{ComputesByPlan}
 use Rattle.cover_mapper.specs.Mapped.{IsMapped}
 use Rattle.cover_mapper.specs.Needs.{any_needs_one}
-use Rattle.netlist_plans.specs.Planned.{IsSmall}
+use Rattle.cell_plans.specs.Counts.{instr_count}
+use Rattle.netlist_plans.specs.Planned.{ComputesCells, IsSmall}
 
 abbrev extra : Bool → ℕ
 extra b = cond b 1 0
@@ -27,11 +28,14 @@ square a b s low few =
     let all : a * b ≤ (6 * s) * (6 * s) = mul-le-mul low few in
     omega (arith, all, mul-mul-mul_comm 6 s 6 s)
 
+fewer : (n lanes : ℕ) → n * lanes ≤ (n + 1) * (lanes + 1)
+fewer n lanes = mul-le-mul (let e : n ≤ n + 1 = omega arith in e) (let e : lanes ≤ lanes + 1 = omega arith in e)
+
 module _ (flat : Flat) (list : CellList) (m : IsMapped flat list) (w : IsWeighed flat) where
-  outs_many : length list.outs ≡ length flat.outs
+  pub outs_many : length list.outs ≡ length flat.outs
   outs_many = ap length m.outs ∙ length-map (port_classes flat flat.outs) m.sources ∙ length-map flat.outs (λ (port : FlatPort). class_of flat port.net)
 
-  starts_many : length list.starts ≡ length flat.latches
+  pub starts_many : length list.starts ≡ length flat.latches
   starts_many = ap length m.starts ∙ length-map flat.latches _
 
   pub list_fits : flat.weight < 2 ^ 16 → list.inputs + loop_count list + length list.outs + length list.cells < 2 ^ 18
@@ -58,8 +62,9 @@ module _ (flat : Flat) (list : CellList) (m : IsMapped flat list) (w : IsWeighed
         omega (arith, loops_many, starts_many, none)
 
     pub is_small : plan.lanes ≤ list.inputs + 2 * loop_count list + length list.outs + length list.cells + 2 + max list.inputs (length list.outs)
-        → length plan.columns ≤ (3 * length list.cells + length list.outs + 2 * loop_count list + 1) * (plan.lanes + 1) → IsSmall flat plan
-    is_small lanes columns =
+        → length plan.columns ≤ (3 * length list.cells + length list.outs + 2 * loop_count list + 1) * (plan.lanes + 1)
+        → instr_count plan.columns ≤ (3 * length list.cells + length list.outs + 2 * loop_count list) * plan.lanes → IsSmall flat plan
+    is_small lanes columns instrs =
         let wide : plan.lanes ≤ 2 * flat.weight + 4 = omega (arith, lanes, m.inputs, outs_many, starts_many, at_most_one (names_one list), m.few, w.parts) in
         let long : 3 * length list.cells + length list.outs + 2 * loop_count list + 1 ≤ 6 * (flat.weight + 1) =
         omega (arith, m.inputs, outs_many, starts_many, at_most_one (names_one list), m.few, w.parts) in
@@ -67,9 +72,19 @@ module _ (flat : Flat) (list : CellList) (m : IsMapped flat list) (w : IsWeighed
         record {
           lanes = omega (arith, wide);
           columns = omega (arith, columns, all);
+          instrs = omega (arith, instrs, fewer (3 * length list.cells + length list.outs + 2 * loop_count list) plan.lanes, all);
           loops = omega (arith, loops_many, starts_many, at_most_one (names_one list));
           no_more_loops = no_more;
         }
 
     pub short_period : length flat.latches ≡ 0 → any_needs_one flat ≡ false → period_of plan ≡ 32
     short_period none e = ap (λ n. cond (n == 0) 32 (32 * (2 * length plan.columns + 4 * n))) (no_more e ∙ none)
+
+    pub computes_cells : ComputesCells flat plan
+    computes_cells = record {
+      list = list;
+      mapped = m;
+      computes = c;
+      loops = omega (arith, loops_many, starts_many);
+      starts = c.starts ∙ ap (λ starts. starts ++ cond (names_one list) (true ∷ []) []) m.starts;
+    }

@@ -1,3 +1,4 @@
 mod Names
 mod Bounds
+mod Lanes
 mod Compiled

@@ -1,16 +1,22 @@
 -- What a plan and a port table of a flat netlist are.
-use Rattle.std.specs.Prelude.{ℕ, ◌+◌, ◌*◌, ◌≤◌, ◌≡◌, false, List, length}
+use Rattle.std.specs.Prelude.{ℕ, ◌+◌, ◌*◌, ◌≤◌, ◌≡◌, ◌≢◌, ◌==◌, true, false, cond, List, [], ◌∷◌, ◌++◌, length, map}
 use Rattle.lane_core.specs.declared.plan.Plan.{Plan}
 use Rattle.grid_assembly.specs.PlanDrawing.{start_grid}
 use Rattle.pattern_reading.specs.declared.ports.Ports.{Ports}
 use Rattle.written_reads.specs.Laws.{pattern_text}
 use Rattle.netlist_core.specs.declared.model.Design.{Design}
 use Rattle.netlist_core.specs.declared.flat.Flat.{Flat}
+use Rattle.netlist_meaning.specs.Flat.{nets_but_clocks}
 use Rattle.netlist_meaning.specs.FlatOf.{IsFlatOf}
 use Rattle.netlist_rules.specs.Clocks.{HasNoClockFault}
 use Rattle.blif_text.specs.Faults.{IsDesignOf}
 use Rattle.carries.specs.Carries.{Carries}
 use Rattle.carries.specs.Nets.{CarriesNets}
+use Rattle.cell_core.specs.declared.list.CellList.{CellList}
+use Rattle.cell_core.specs.Loops.{names_one}
+use Rattle.cell_lanes.specs.Computes.{ComputesByPlan}
+use Rattle.cell_plans.specs.Counts.{instr_count}
+use Rattle.cover_mapper.specs.Mapped.{IsMapped}
 use Rattle.cover_mapper.specs.Needs.{any_needs_one}
 
 -- the text that is written of them carries the design of every text that the flat netlist is of
@@ -23,10 +29,25 @@ abbrev pub CarriesNetsOfDesigns : Flat → Plan → Ports → Type 0
 CarriesNetsOfDesigns flat plan ports =
     (text : List ℕ) (design : Design) → IsDesignOf text design → HasNoClockFault design → IsFlatOf design flat → CarriesNets (pattern_text (start_grid plan) ports) design
 
--- The plan is small, by the weight w: at most 4 w + 4 lanes and 256 (w + 1) (w + 1) columns. It has a loop for each latch, and at
--- most one more, where covers need constant 1.
+-- The plan is small, by the weight w: at most 4 w + 4 lanes, and at most 256 (w + 1) (w + 1) columns, which have at most as many
+-- instructions. It has a loop for each latch, and at most one more, where covers need constant 1.
 pub record IsSmall (flat : Flat) (plan : Plan) : Type 0 where
   pub lanes : plan.lanes ≤ 4 * flat.weight + 4
   pub columns : length plan.columns ≤ 256 * ((flat.weight + 1) * (flat.weight + 1))
+  pub instrs : instr_count plan.columns ≤ 256 * ((flat.weight + 1) * (flat.weight + 1))
   pub loops : plan.latches ≤ length flat.latches + 1
   pub no_more_loops : any_needs_one flat ≡ false → plan.latches ≡ length flat.latches
+
+-- The plan computes a list of cells of the flat netlist. Its loops are the latches in order, each with its start, and exactly where the
+-- list names constant 1 one more, which starts with 1.
+pub record ComputesCells (flat : Flat) (plan : Plan) : Type 0 where
+  pub list : CellList
+  pub mapped : IsMapped flat list
+  pub computes : ComputesByPlan list plan
+  pub loops : plan.latches ≡ length flat.latches + cond (names_one list) 1 0
+  pub starts : plan.starts ≡ map (λ latch. latch.init == 1) flat.latches ++ cond (names_one list) (true ∷ []) []
+
+-- Where there are no nets but clock nets there is no lane and no column; else there are some of both.
+pub record HasLanes (flat : Flat) (plan : Plan) : Type 0 where
+  pub none : nets_but_clocks flat ≡ [] → (plan.lanes ≡ 0) × (plan.columns ≡ [])
+  pub some : nets_but_clocks flat ≢ [] → (1 ≤ plan.lanes) × (1 ≤ length plan.columns)

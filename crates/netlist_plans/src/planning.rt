@@ -5,7 +5,7 @@ ghost use Rattle.netlist_meaning.specs.Flat.{IsSound, IsWeighed};
 ghost use Rattle.netlist_meaning.specs.FlatOrder.{IsOrder};
 ghost use Rattle.cover_mapper.specs.Needs.{any_needs_one};
 ghost use Rattle.plan_ports.specs.Tables.{IsTableOf};
-ghost use Rattle.netlist_plans.specs.Planned.{CarriesDesigns, CarriesNetsOfDesigns, IsSmall};
+ghost use Rattle.netlist_plans.specs.Planned.{CarriesDesigns, CarriesNetsOfDesigns, ComputesCells, HasLanes, IsSmall};
 
 use crate::{NetlistPlanError, texts_have_port_names};
 use cell_plans::plan_of;
@@ -35,6 +35,8 @@ pub fn plan_netlist(alloc: Global, flat: &Flat, order: &Order) -> Result<Planned
     ensures carries { IfOk result (λ p. CarriesDesigns flat.now p.plan p.ports) }
     ensures nets { IfOk result (λ p. CarriesNetsOfDesigns flat.now p.plan p.ports) }
     ensures small { IfOk result (λ p. IsSmall flat.now p.plan) }
+    ensures cells { IfOk result (λ p. ComputesCells flat.now p.plan) }
+    ensures lanes { IfOk result (λ p. HasLanes flat.now p.plan) }
     ensures period { IfOk result (λ p. length flat.now.latches ≡ 0 → any_needs_one flat.now ≡ false → p.ports.p ≡ 32) }
 {
     let list = map(alloc, flat, order)?;

@@ -9,7 +9,7 @@ use Rattle.blif_text.specs.LogicalLines.{logical_lines}
 use Rattle.blif_text.specs.Faults.{IsDesignOf, HasFault}
 use Rattle.blif_text.proofs.OneFault.{one_fault as one_text_fault, one_design, never_both}
 use Rattle.netlist_text.specs.NetlistText.{weight_limit, IsLight, IsNetlist, IsAtFault, of_text, of_clocks, IsTooHeavy, HasLoop}
-use Rattle.netlist_text.specs.Laws.{AreAlike, IsDecided, TextsAreDecided}
+use Rattle.netlist_text.specs.Laws.{AreAlikeFaults, IsDecided, TextsAreDecided}
 use Rattle.netlist_text.proofs.OneClockFault.{one_clock_fault}
 
 same_design : (text : List ℕ) (a b : Design) → IsDesignOf text a → IsDesignOf text b → a ≡ b
@@ -36,7 +36,7 @@ pub not_a_loop : (text : List ℕ) (design : Design) (names : List Name) → IsN
 not_a_loop text design names h k =
     (subst (λ (d : Design). IsNetlist text d) (same_design text design k.design h.is.design_of k.is.design_of) h).no_loop k.nets k.is_loop
 
-pub one_fault : (text : List ℕ) (a b : Fault) → IsAtFault text a → IsAtFault text b → AreAlike a b
+pub one_fault : (text : List ℕ) (a b : Fault) → IsAtFault text a → IsAtFault text b → AreAlikeFaults a b
 one_fault text a b (of_text h) (of_text k) =
     let same = one_text_fault (logical_lines text) a b h k in record { kind = same.kind; line = same.line; whole = λ c r. same.whole c }
 one_fault text a b (of_text h) (of_clocks {design = d} is k) = absurd (never_both text d a is.design_of h)

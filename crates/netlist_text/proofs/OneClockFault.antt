@@ -10,7 +10,7 @@ use Rattle.netlist_rules.specs.declared.fault.Fault.{Fault}
 use Rattle.netlist_rules.specs.declared.fault.FaultKind.TheVariants.{TwoClocks, ClockRead}
 use Rattle.netlist_rules.specs.FaultNames.{fault_on}
 use Rattle.netlist_rules.specs.Clocks.{PlacedLatch, IsPlacedLatch, ComesBefore, HasSameClock, control_word, IsTwoClocks, IsClockRead, IsClockFault, two_clocks, clock_read, HasOneClock}
-use Rattle.netlist_text.specs.Laws.{AreAlike}
+use Rattle.netlist_text.specs.Laws.{AreAlikeFaults}
 
 three_numbers : (m n : ℕ) → (m < n) ⊎ (m ≡ n) ⊎ (n < m)
 three_numbers m n = grind arith
@@ -73,10 +73,10 @@ earliest l m p q (inl less) (inl more) = absurd (omega (arith, less, more))
 earliest l m p q (inl less) (inr same) = sym same.0
 earliest l m p q (inr same) k = same.0
 
-alike_if_same : (a b : Fault) → a ≡ b → AreAlike a b
+alike_if_same : (a b : Fault) → a ≡ b → AreAlikeFaults a b
 alike_if_same a b e = record { kind = ap (λ (f : Fault). f.kind) e; line = ap (λ (f : Fault). f.line) e; whole = λ c r. e }
 
-pub one_clock_fault : (design : Design) (a b : Fault) → IsClockFault design a → IsClockFault design b → AreAlike a b
+pub one_clock_fault : (design : Design) (a b : Fault) → IsClockFault design a → IsClockFault design b → AreAlikeFaults a b
 one_clock_fault design a b (two_clocks {line = l} {word = v} h) (two_clocks {line = m} {word = w} k) = alike_if_same _ _ (two_clocks_alike design l m v w h k)
 one_clock_fault design a b (two_clocks {line = l} {word = v} h) (clock_read none k) = absurd (none l v h)
 one_clock_fault design a b (clock_read none h) (two_clocks {line = m} {word = w} k) = absurd (none m w k)

@@ -8,7 +8,7 @@ use Rattle.netlist_text.specs.NetlistText.{IsNetlist, IsAtFault, IsTooHeavy, Has
 
 -- Two faults are of one kind, at one line, and the same, but that one line may lie on several circles of models, and may read several
 -- clock nets.
-pub record AreAlike (a b : Fault) : Type 0 where
+pub record AreAlikeFaults (a b : Fault) : Type 0 where
   pub kind : a.kind ≡ b.kind
   pub line : a.line ≡ b.line
   pub whole : a.kind ≢ Recursive → a.kind ≢ ClockRead → a ≡ b
@@ -19,7 +19,7 @@ pub record IsDecided (text : List ℕ) : Type 0 where
   pub not_at_fault : (design : Design) (fault : Fault) → IsNetlist text design → IsAtFault text fault → ⊥
   pub not_heavy : (design : Design) (told : ℕ) → IsNetlist text design → IsTooHeavy text told → ⊥
   pub not_a_loop : (design : Design) (names : List Name) → IsNetlist text design → HasLoop text names → ⊥
-  pub one_fault : (a b : Fault) → IsAtFault text a → IsAtFault text b → AreAlike a b
+  pub one_fault : (a b : Fault) → IsAtFault text a → IsAtFault text b → AreAlikeFaults a b
   pub one_weight : (a b : ℕ) → IsTooHeavy text a → IsTooHeavy text b → a ≡ b
   pub fault_or_heavy : (fault : Fault) (told : ℕ) → IsAtFault text fault → IsTooHeavy text told → ⊥
   pub fault_or_loop : (fault : Fault) (names : List Name) → IsAtFault text fault → HasLoop text names → ⊥

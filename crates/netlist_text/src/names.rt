@@ -6,18 +6,10 @@ ghost use Rattle.netlist_meaning.specs.Places.{main_outputs};
 ghost use Rattle.netlist_text.specs.Parts.{AreParts};
 
 use crate::netlist::Netlist;
-use lists::{Bytes, List};
+use lists::List;
 use netlist_core::{Flat, FlatPort, Name, NetId};
+use netlist_meaning::name_of_net;
 use std::alloc::{AllocError, Global};
-
-// The name of a net.
-fn name_of(alloc: Global, flat: &Flat, net: NetId) -> Result<Name, AllocError>
-    requires { IsNetId flat.now net }
-    ensures { IfOk result (λ name. name ≡ name_of_net flat.now net) }
-{
-    let name = &flat.nets.get(net.0 as usize).name;
-    Ok(Bytes::of(name.as_slice().to_vec(alloc)?))
-}
 
 /// The names of nets.
 pub fn names_of(alloc: Global, flat: &Flat, nets: &[NetId]) -> Result<List<Name>, AllocError>
@@ -26,7 +18,7 @@ pub fn names_of(alloc: Global, flat: &Flat, nets: &[NetId]) -> Result<List<Name>
 {
     let mut names = Vec::new(alloc);
     for net in nets {
-        names.push(name_of(alloc, flat, *net)?)?;
+        names.push(name_of_net(alloc, flat, *net)?)?;
     }
     Ok(List::of(names))
 }
@@ -38,7 +30,7 @@ fn names_of_ports(alloc: Global, flat: &Flat, ports: &[FlatPort]) -> Result<List
 {
     let mut names = Vec::new(alloc);
     for port in ports {
-        names.push(name_of(alloc, flat, port.net)?)?;
+        names.push(name_of_net(alloc, flat, port.net)?)?;
     }
     Ok(List::of(names))
 }

@@ -8,6 +8,3 @@ mod numbers;
 pub use blanks::{is_all_blank, is_blank};
 pub use lines::{Line, split_line};
 pub use numbers::number_in;
-
-#[cfg(test)]
-mod tests;

@@ -14,7 +14,8 @@ use Rattle.netlist_rules.specs.declared.fault.FaultKind.TheVariants.{PinMissing}
 use Rattle.netlist_rules.specs.ModelFaults.{earliest, fault_of_port, formals_of, missing_pin, on_line, unpinned_inputs}
 use Rattle.earliest_words.specs.Words.{earliest_after}
 use Rattle.earliest_words.proofs.EarliestWords.{earliest_after-append}
-use Rattle.pin_faults.specs.NameSets.{HasNames, holds_name, ports_unless}
+use Rattle.pin_faults.specs.NameSets.{HasNames, ports_unless}
+use Rattle.lists.specs.Names.{holds_name}
 
 -- the first of a line's inputs without a pin, by their lines in the placed model
 pub first_unpinned : (s : Subckt) (placed : Model) (set : BTreeSet (Bor (List ℕ))) (first after_ins after_clocks : Option Port) → HasNames set (is_named (formals_of s)) → first ≡ None → after_ins ≡ earliest_after first (ports_unless (holds_name set) placed.ins) → after_clocks ≡ earliest_after after_ins (ports_unless (holds_name set) placed.clocks) → after_clocks ≡ earliest (unpinned_inputs s placed)

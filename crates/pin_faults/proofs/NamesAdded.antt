@@ -2,7 +2,6 @@
 use Rattle.std.proofs.Common.{◌≡◌, refl, sym, ap, ◌∙◌, ℕ, ◌+◌, ◌<◌, Bool, true, false, cond, ◌||◌, List, [], ◌∷◌, length, take, get_or, map}
 use Rattle.std.proofs.lemmas.List.Folds.{list_any_more, list_any-append}
 use Rattle.std.proofs.lemmas.List.{map_more}
-use Rattle.std.proofs.lemmas.Map.Text.{is_eq-slice_cmp}
 use Rattle.std.proofs.Math.Bool.{or_assoc}
 use Rattle.std.specs.BTreeSet.{BTreeSet, UpdatesBy}
 use Rattle.std.specs.Cmp.Lexicographic.{slice_cmp}
@@ -12,7 +11,9 @@ use denote.Ref.{Bor}
 use Rattle.netlist_core.specs.declared.model.Pin.{Pin}
 use Rattle.netlist_core.specs.declared.model.Port.{Port}
 use Rattle.netlist_core.specs.Names.{Name, at_line, has_name, is_named}
-use Rattle.pin_faults.specs.NameSets.{HasNames, holds_name}
+use Rattle.pin_faults.specs.NameSets.{HasNames}
+use Rattle.lists.specs.Names.{holds_name}
+use Rattle.lists.proofs.NameSets.{inserted}
 
 by_cond : (a b : Bool) → cond a true b ≡ (b || a)
 by_cond true true = refl
@@ -23,8 +24,7 @@ by_cond false false = refl
 -- one more name
 pub name_added : (old new : BTreeSet (Bor (List ℕ))) (key : Bor (List ℕ)) (name : Name) → UpdatesBy (λ x y. slice_cmp nat_cmp x.now y.now) (λ k. slice_cmp nat_cmp key.now k.now) old new true → holds_name new name ≡ (holds_name old name || bytes_eq key.now name)
 name_added old new key name updates =
-    let query : Bor (List ℕ) = record { ref_ptr = (0, 0); now = name } in
-    updates.0 query ∙ ap (λ b. cond b true (holds_name old name)) (is_eq-slice_cmp key.now name) ∙ by_cond (bytes_eq key.now name) (holds_name old name)
+    inserted old new key name updates ∙ by_cond (bytes_eq key.now name) (holds_name old name)
 
 -- one more port of a list
 pub port_added : (first old new : BTreeSet (Bor (List ℕ))) (key : Bor (List ℕ)) (ports : List Port) (i : ℕ) (port : Port) → i < length ports → port ≡ get_or ports i port → key.now ≡ port.name → ((name : Name) → holds_name old name ≡ (holds_name first name || is_named (take i ports) name)) → UpdatesBy (λ x y. slice_cmp nat_cmp x.now y.now) (λ k. slice_cmp nat_cmp key.now k.now) old new true → (name : Name) → holds_name new name ≡ (holds_name first name || is_named (take (i + 1) ports) name)

@@ -20,7 +20,8 @@ use Rattle.netlist_rules.specs.declared.fault.FaultKind.{FaultKind}
 use Rattle.netlist_rules.specs.ModelFaults.{earliest, fault_of_port}
 use Rattle.earliest_words.specs.Words.{earliest_after}
 use Rattle.earliest_words.proofs.EarliestWords.{earliest_after-append}
-use Rattle.pin_faults.specs.NameSets.{formal_unless, port_unless, holds_name}
+use Rattle.pin_faults.specs.NameSets.{formal_unless, port_unless}
+use Rattle.lists.specs.Names.{holds_name}
 use Rattle.pin_faults.specs.SubcktLines.{lines_now}
 
 -- words that elements may give

@@ -10,7 +10,8 @@ use Rattle.netlist_core.specs.declared.model.Subckt.{Subckt}
 use Rattle.netlist_core.specs.Names.{Name, model_named}
 use Rattle.netlist_rules.specs.ModelFaults.{formal_if, is_portless, unknown_formals}
 use Rattle.named_models.specs.Numbers.{IsNumberOf}
-use Rattle.pin_faults.specs.NameSets.{HasNames, HavePorts, formals_unless, has_port, holds_name}
+use Rattle.pin_faults.specs.NameSets.{HasNames, HavePorts, formals_unless, has_port}
+use Rattle.lists.specs.Names.{holds_name}
 
 -- by the set of the model's ports
 pub unknown_at : (sets : List (BTreeSet (Bor (List ℕ)))) (models : List Model) (s : Subckt) (number : ℕ) (set : BTreeSet (Bor (List ℕ))) → HavePorts sets models → IsNumberOf models s.model number → set ≡ get_or sets number set → formals_unless (holds_name set) s ≡ unknown_formals models s

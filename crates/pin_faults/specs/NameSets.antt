@@ -1,20 +1,15 @@
 -- Sets of names, and which names they have.
 use Rattle.std.specs.Prelude.{◌≡◌, ℕ, ◌<◌, Bool, not, ◌||◌, List, length, slice_index_or, filter_map, Option}
 use Rattle.std.specs.Bool.{then_some}
-use Rattle.std.specs.BTreeSet.{BTreeSet, contains_by}
-use Rattle.std.specs.Cmp.Lexicographic.{slice_cmp}
-use Rattle.std.specs.Ordering.{nat_cmp}
+use Rattle.std.specs.BTreeSet.{BTreeSet}
 use denote.Ref.{Bor}
+use Rattle.lists.specs.Names.{holds_name}
 use Rattle.netlist_core.specs.declared.model.Model.{Model}
 use Rattle.netlist_core.specs.declared.model.Pin.{Pin}
 use Rattle.netlist_core.specs.declared.model.Port.{Port}
 use Rattle.netlist_core.specs.declared.model.Subckt.{Subckt}
 use Rattle.netlist_core.specs.Names.{Name, at_line}
 use Rattle.netlist_rules.specs.Drivers.{has_input, has_output}
-
--- whether a set has a name
-abbrev pub holds_name : BTreeSet (Bor (List ℕ)) → Name → Bool
-holds_name names name = contains_by (λ k. slice_cmp nat_cmp name k.now) names
 
 -- A set has the names that pass the test, and no others.
 abbrev pub HasNames : BTreeSet (Bor (List ℕ)) → (Name → Bool) → Type 0

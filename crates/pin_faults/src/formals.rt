@@ -2,9 +2,10 @@
 ghost use Rattle.std.specs.Prelude.{◌≡◌, IfOk};
 ghost use Rattle.netlist_rules.specs.declared.fault.FaultKind.TheVariants.{NoSuchPin};
 ghost use Rattle.netlist_rules.specs.ModelFaults.{unknown_formals};
-ghost use Rattle.earliest_words.specs.FirstBroken.{first_broken};
+ghost use Rattle.earliest_words.specs.EarliestBroken.{earliest_broken};
 ghost use Rattle.earliest_words.specs.Words.{earliest_word, earliest_after};
-ghost use Rattle.pin_faults.specs.NameSets.{HavePorts, formals_unless, holds_name};
+ghost use Rattle.pin_faults.specs.NameSets.{HavePorts, formals_unless};
+ghost use Rattle.lists.specs.Names.{holds_name};
 
 use crate::lines::subckt_lines;
 use crate::names::ports_of_all;
@@ -50,7 +51,7 @@ pub fn unknown_formal(
     named: &NamedModels<'_>,
 ) -> Result<Option<Fault>, AllocError>
     requires { named.now ≡ models.now }
-    ensures { IfOk result (λ found. found ≡ first_broken NoSuchPin models.now) }
+    ensures { IfOk result (λ found. found ≡ earliest_broken NoSuchPin models.now) }
 {
     let ports = ports_of_all(alloc, models)?;
     let mut earliest = Earliest::new();

@@ -5,9 +5,10 @@ ghost use Rattle.netlist_core.specs.declared.model.Port as names;
 ghost use Rattle.netlist_rules.specs.declared.fault.Fault as text;
 ghost use Rattle.netlist_rules.specs.declared.fault.FaultKind.TheVariants.{PinMissing};
 ghost use Rattle.netlist_rules.specs.ModelFaults.{fault_of_port, missing_pin, unless_named, formals_of};
-ghost use Rattle.earliest_words.specs.FirstBroken.{first_broken};
+ghost use Rattle.earliest_words.specs.EarliestBroken.{earliest_broken};
 ghost use Rattle.earliest_words.specs.Words.{earliest_word, earliest_after};
-ghost use Rattle.pin_faults.specs.NameSets.{holds_name, ports_unless};
+ghost use Rattle.pin_faults.specs.NameSets.{ports_unless};
+ghost use Rattle.lists.specs.Names.{holds_name};
 
 use crate::lines::subckt_lines;
 use crate::names::formals_of;
@@ -95,7 +96,7 @@ pub fn pin_missing(
     named: &NamedModels<'_>,
 ) -> Result<Option<Fault>, AllocError>
     requires { named.now ≡ models.now }
-    ensures { IfOk result (λ found. found ≡ first_broken PinMissing models.now) }
+    ensures { IfOk result (λ found. found ≡ earliest_broken PinMissing models.now) }
 {
     let mut first = None;
     for line in &subckt_lines(alloc, models)? {

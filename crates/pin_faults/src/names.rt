@@ -2,7 +2,8 @@
 ghost use Rattle.std.specs.Prelude.{◌≡◌, ◌||◌, IfOk, OnOk};
 ghost use Rattle.netlist_core.specs.Names.{Name, is_named};
 ghost use Rattle.netlist_rules.specs.ModelFaults.{formals_of};
-ghost use Rattle.pin_faults.specs.NameSets.{HasNames, HavePorts, has_port, holds_name};
+ghost use Rattle.pin_faults.specs.NameSets.{HasNames, HavePorts, has_port};
+ghost use Rattle.lists.specs.Names.{holds_name};
 
 use netlist_core::{Model, Port, Subckt};
 use std::alloc::{AllocError, Global};

@@ -2,7 +2,7 @@
 ghost use Rattle.std.specs.Prelude.{◌≡◌, IfOk};
 ghost use Rattle.netlist_rules.specs.declared.fault.FaultKind.TheVariants.{NoSuchModel};
 ghost use Rattle.netlist_rules.specs.ModelFaults.{missing_model};
-ghost use Rattle.earliest_words.specs.FirstBroken.{first_broken};
+ghost use Rattle.earliest_words.specs.EarliestBroken.{earliest_broken};
 ghost use Rattle.earliest_words.specs.Words.{earliest_word, earliest_after};
 
 use crate::lines::subckt_lines;
@@ -30,7 +30,7 @@ pub fn missing_model(
     named: &NamedModels<'_>,
 ) -> Result<Option<Fault>, AllocError>
     requires { named.now ≡ models.now }
-    ensures { IfOk result (λ found. found ≡ first_broken NoSuchModel models.now) }
+    ensures { IfOk result (λ found. found ≡ earliest_broken NoSuchModel models.now) }
 {
     let mut earliest = Earliest::new();
     for line in &subckt_lines(alloc, models)? {

@@ -3,7 +3,7 @@ ghost use Rattle.std.specs.Prelude.{◌≡◌, IfOk, OnOk};
 ghost use Rattle.netlist_rules.specs.declared.fault.FaultKind.TheVariants.{PinTwice};
 ghost use Rattle.netlist_rules.specs.Drivers.{repeats};
 ghost use Rattle.netlist_rules.specs.ModelFaults.{formals_of};
-ghost use Rattle.earliest_words.specs.FirstBroken.{first_broken};
+ghost use Rattle.earliest_words.specs.EarliestBroken.{earliest_broken};
 ghost use Rattle.earliest_words.specs.Words.{earliest_word, earliest_after};
 
 use crate::lines::subckt_lines;
@@ -35,7 +35,7 @@ fn offer_line<'a>(
 
 /// The earliest formal that its line has named before.
 pub fn pin_twice(alloc: Global, models: &[Model]) -> Result<Option<Fault>, AllocError>
-    ensures { IfOk result (λ found. found ≡ first_broken PinTwice models.now) }
+    ensures { IfOk result (λ found. found ≡ earliest_broken PinTwice models.now) }
 {
     let mut earliest = Earliest::new();
     for line in &subckt_lines(alloc, models)? {

@@ -9,6 +9,3 @@ mod starts;
 pub use layout::slot_at;
 pub use slot::{Piece, Slot};
 pub use starts::is_start;
-
-#[cfg(test)]
-mod tests;

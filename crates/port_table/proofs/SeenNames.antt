@@ -8,7 +8,9 @@ use Rattle.std.specs.Cmp.{tied_then}
 use Rattle.std.specs.Cmp.Lexicographic.{slice_cmp}
 use Rattle.std.specs.BTreeSet.{BTreeSet, contains_by, UpdatesBy}
 use Rattle.std.proofs.lemmas.Map.Text.{is_eq-slice_cmp}
+use Rattle.lists.specs.Names.{holds_name}
 use Rattle.lists.proofs.Names.{bytes_eq-turned}
+use Rattle.lists.proofs.NameSets.{inserted}
 use denote.Ref.{Bor}
 use Rattle.pattern_reading.specs.PortLines.{PortForm, Version, In, Out, Net}
 use Rattle.pattern_reading.specs.PortTable.{is_same_port}
@@ -77,11 +79,10 @@ abbrev pair_order : Bor (List ℕ) × Bor (List ℕ) → Bor (List ℕ) × Bor (
 pair_order x y = ordering_then (slice_cmp nat_cmp x.0.now y.0.now) (slice_cmp nat_cmp x.1.now y.1.now)
 
 -- a set of names after one is inserted
-pub has_name : (t : List ℕ → PortForm → Bool) (s n : BTreeSet (Bor (List ℕ))) (key : Bor (List ℕ)) (before : List PortForm) (form : PortForm) → ((name : List ℕ) → t name form ≡ bytes_eq name key.now) → ((name : List ℕ) → contains_by (λ k. slice_cmp nat_cmp name k.now) s ≡ list_any (t name) before) → UpdatesBy name_order (name_order key) s n true → (name : List ℕ) → contains_by (λ k. slice_cmp nat_cmp name k.now) n ≡ list_any (t name) (before ++ form ∷ [])
+pub has_name : (t : List ℕ → PortForm → Bool) (s n : BTreeSet (Bor (List ℕ))) (key : Bor (List ℕ)) (before : List PortForm) (form : PortForm) → ((name : List ℕ) → t name form ≡ bytes_eq name key.now) → ((name : List ℕ) → holds_name s name ≡ list_any (t name) before) → UpdatesBy name_order (name_order key) s n true → (name : List ℕ) → holds_name n name ≡ list_any (t name) (before ++ form ∷ [])
 has_name t s n key before form same had h name =
-    let q : Bor (List ℕ) = record { ref_ptr = (0, 0); now = name } in
-    let e : is_eq (slice_cmp nat_cmp key.now name) ≡ t name form = is_eq-slice_cmp key.now name ∙ bytes_eq-turned key.now name ∙ sym (same name) in
-    h.0 q ∙ ap (λ b. cond b true (contains_by (λ k. slice_cmp nat_cmp name k.now) s)) e ∙ ap (λ b. cond (t name form) true b) (had name) ∙ sym (any_push (t name) before form)
+    let e : bytes_eq key.now name ≡ t name form = bytes_eq-turned key.now name ∙ sym (same name) in
+    inserted s n key name h ∙ ap (λ b. cond b true (holds_name s name)) e ∙ ap (λ b. cond (t name form) true b) (had name) ∙ sym (any_push (t name) before form)
 
 -- and a set of pairs
 pub has_pair : (s n : BTreeSet (Bor (List ℕ) × Bor (List ℕ))) (key : Bor (List ℕ) × Bor (List ℕ)) (before : List PortForm) (form : PortForm) → ((name path : List ℕ) → is_net name path form ≡ (bytes_eq name key.0.now && bytes_eq path key.1.now)) → ((name path : List ℕ) → contains_by (λ k. ordering_then (slice_cmp nat_cmp name k.0.now) (slice_cmp nat_cmp path k.1.now)) s ≡ list_any (is_net name path) before) → UpdatesBy pair_order (pair_order key) s n true → (name path : List ℕ) → contains_by (λ k. ordering_then (slice_cmp nat_cmp name k.0.now) (slice_cmp nat_cmp path k.1.now)) n ≡ list_any (is_net name path) (before ++ form ∷ [])

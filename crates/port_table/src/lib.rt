@@ -12,6 +12,3 @@ mod table;
 pub use faults::PortFault;
 pub use pattern_reading::{NetLine, PortFaultKind, PortLine, Ports};
 pub use reading::{PortReadError, read};
-
-#[cfg(test)]
-mod tests;

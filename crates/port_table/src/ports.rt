@@ -7,15 +7,9 @@ ghost use Rattle.port_table.specs.Lent.{form_of, lent_port, lent_net, forms_in};
 
 use crate::forms::{NetWords, PortForm, PortWords};
 use crate::table::TableLine;
-use lists::{Bytes, List};
+use lists::{List, copied};
 use pattern_reading::{NetLine, PortLine, Ports};
 use std::alloc::{AllocError, Global};
-
-fn copied(alloc: Global, bytes: &[u8]) -> Result<Bytes, AllocError>
-    ensures { IfOk result (λ copy. copy ≡ bytes.now) }
-{
-    Ok(List::of(bytes.to_vec(alloc)?))
-}
 
 fn port_line(alloc: Global, port: PortWords<'_>) -> Result<PortLine, AllocError>
     ensures { IfOk result (λ line. line ≡ lent_port port.entry) }

@@ -11,6 +11,3 @@ mod words;
 
 pub use error::{RleFault, RleReadError};
 pub use reader::read;
-
-#[cfg(test)]
-mod tests;

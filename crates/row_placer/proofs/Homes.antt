@@ -1,10 +1,9 @@
 -- The bits of homes at the start.
 use Rattle.std.proofs.Common.{◌≡◌, ◌≢◌, refl, sym, ◌∙◌, ap, ap₂, ℕ, zero, suc, ◌+◌, ◌-◌, ◌<◌, Bool, true, false, cond, ⊎_elim, List, [], ◌∷◌, length, get_or, map, arith}
-use Rattle.std.specs.Prelude.{◌==◌, ◌&&◌, ◌||◌, AllPairs}
+use Rattle.std.specs.Prelude.{◌&&◌, ◌||◌, AllPairs}
 use Rattle.std.proofs.lemmas.List.{append_assoc}
 use Rattle.std.specs.List.{range_with_len}
 use Rattle.std.proofs.lemmas.Bool.{cases_lt, eq-eqb as eq_yes}
-use Rattle.std.proofs.lemmas.Bool.Decides.{nat_tests}
 use Rattle.std.proofs.lemmas.List.{get_or_append_left, get_or-append-add}
 use Rattle.std.proofs.lemmas.List.FromFn.{length-map-range_with_len, get_or-map-range_with_len}
 use Rattle.lane_core.specs.declared.plan.Program.{Program}

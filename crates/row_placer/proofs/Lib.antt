@@ -13,3 +13,4 @@ pub mod Sides
 pub mod Prepared
 pub mod Finish
 pub mod Sound
+pub mod Entries

@@ -1,5 +1,5 @@
 -- A job that is prepared.
-use Rattle.std.proofs.Common.{◌≡◌, sym, ◌∙◌, ap, subst, ℕ, ◌+◌, ◌<◌, ◌≤◌, ⊎_elim, Bool, true, false, cond, List, ◌++◌, length, get_or, map, arith}
+use Rattle.std.proofs.Common.{◌≡◌, refl, sym, ◌∙◌, ap, subst, ℕ, ◌+◌, ◌<◌, ◌≤◌, ⊎_elim, Bool, true, false, cond, List, [], ◌∷◌, ◌++◌, length, get_or, map, arith}
 use Rattle.std.specs.Prelude.{All}
 use Rattle.std.proofs.lemmas.Bool.{cases_lt}
 use Rattle.std.proofs.lemmas.List.{length-append, length-map, get_or-map}
@@ -11,7 +11,7 @@ use Rattle.row_placer.specs.declared.roles.Tag.{Tag}
 use Rattle.row_placer.specs.declared.job.NumberedCell.{NumberedCell}
 use Rattle.row_placer.specs.Told.{tag, free_tag, count, is_tag}
 use Rattle.row_placer.specs.declared.roles.Role.TheVariants.{Kept}
-use Rattle.row_placer.specs.Uses.{uses_of, owed, AreCounted, ReadsBelow, AreKnown}
+use Rattle.row_placer.specs.Uses.{uses_of, owed, times, AreCounted, ReadsBelow, AreKnown}
 use Rattle.row_placer.specs.Ready.{Ready}
 use Rattle.cell_core.specs.Loops.{loop_count, loop_data}
 use Rattle.row_placer.specs.Numbers.{number, gate_of, IsThere, ReadsWhatIsThere}
@@ -73,3 +73,9 @@ flag_small false = omega arith
 
 pub dark_first : (dark : Bool) (free first : ℕ) → first ≡ free + cond dark 1 0 → dark ≡ true → 1 ≤ first
 dark_first dark free first is e = let one : cond {A = ℕ} dark 1 0 ≡ 1 = ap (λ b. cond {A = ℕ} b 1 0) e in omega (arith, is, one)
+
+-- no gates and no ports use nothing
+pub nothing_used : (gates : List NumberedCell) (ports : List ℕ) → length gates ≡ 0 → length ports ≡ 0 → (owed ports gates ≡ 0) × ((v : ℕ) → times v (uses_of gates ++ ports) ≡ 0)
+nothing_used [] [] e f = (refl, λ v. refl)
+nothing_used [] (p ∷ ports) e f = absurd (omega (arith, f))
+nothing_used (g ∷ gates) ports e f = absurd (omega (arith, e))

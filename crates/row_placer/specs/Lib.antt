@@ -4,3 +4,5 @@ pub mod Ready
 pub mod Numbers
 pub mod Programs
 pub mod Placed
+pub mod Empty
+pub mod Entries

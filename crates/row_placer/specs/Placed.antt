@@ -15,6 +15,8 @@ use Rattle.row_placer.specs.Told.{tag, free_tag, count, role_code, Told, MadeTol
 use Rattle.row_placer.specs.Ready.{AreSettled, ReadyForGate}
 use Rattle.cell_core.specs.Loops.{loop_data, loop_state, loop_count}
 use Rattle.row_placer.specs.Numbers.{number, gate_of}
+use Rattle.row_placer.specs.Empty.{IsEmpty}
+use Rattle.row_placer.specs.Entries.{AreAtEntries}
 use Rattle.cell_core.specs.Meaning.{Fits}
 use Rattle.row_placer.specs.Programs.{program_bits}
 
@@ -91,9 +93,12 @@ pub record IsPrepared (list : CellList) (spare : ℕ) (job : Job) (left homes : 
   pub room : loop_count list ≤ length job.start
   pub below : All (λ lane. lane < length job.start) homes
   pub lanes : length job.start ≤ list.inputs + 2 * loop_count list + length list.outs + length list.cells + 2 + spare
+  pub empty : IsEmpty list → spare ≡ 0 → length job.start ≡ 0
 
 -- a program that is placed with no more spare lanes than these
 pub record IsPlacedWithin (list : CellList) (spare : ℕ) (p : Program) : Type 0 where
   pub computes : ComputesByProgram list p
   pub instrs : length p.instrs ≤ (3 * length list.cells + length list.outs + 2 * loop_count list) * p.lanes
   pub lanes : p.lanes ≤ list.inputs + 2 * loop_count list + length list.outs + length list.cells + 2 + spare
+  pub empty : IsEmpty list → p.lanes ≡ 0
+  pub entries : AreAtEntries list p.lanes p.ins p.nets

@@ -1,5 +1,5 @@
 // A list of cells by numbers of values.
-ghost use Rattle.std.specs.Prelude.{ℕ, ◌≡◌, ◌≢◌, ◌≤◌, ◌<◌, ◌+◌, ◌-◌, ◌*◌, ◌^◌, ◌++◌, length, All, get_or, map, cond, [], ◌∷◌, true, IfOk, OnOk};
+ghost use Rattle.std.specs.Prelude.{ℕ, ◌≡◌, ◌≢◌, ◌≤◌, ◌<◌, ◌+◌, ◌-◌, ◌*◌, ◌^◌, ◌++◌, length, All, get_or, map, cond, [], ◌∷◌, true, false, IfOk, OnOk};
 ghost use Rattle.std.specs.List.{range_with_len};
 ghost use Rattle.cell_core.specs.Loops.{loop_count, loop_data};
 ghost use Rattle.row_placer.specs.Numbers.{number, gate_of, IsThere, ReadsWhatIsThere, NamesZero, ReadsThere};
@@ -92,7 +92,8 @@ pub fn push_numbers(
 
 /// Whether constant 0 is among the sources.
 pub fn names_zero(srcs: &[Src]) -> bool
-    ensures { NamesZero srcs.now result }
+    ensures named { NamesZero srcs.now result }
+    ensures none { length srcs.now ≡ 0 → result ≡ false }
 {
     let mut at = 0;
     while at < srcs.len() {

@@ -1,5 +1,5 @@
 -- Joined nets have at most one driver.
-use Rattle.std.proofs.Common.{◌≡◌, ◌≢◌, refl, sym, ap, subst, ◌∙◌, ℕ, ◌<◌, ◌≤◌, ◌⊎◌, inl, inr, List, [], ◌∷◌, ◌++◌, map, Bool, true, false, not, ◌||◌, ◌&&◌, true≢false, arith, length, slice_get, get_or, drop, option_and_then}
+use Rattle.std.proofs.Common.{◌≡◌, refl, sym, ap, subst, ◌∙◌, ℕ, ◌<◌, ◌≤◌, ◌⊎◌, inl, inr, List, [], ◌∷◌, ◌++◌, map, Bool, true, false, not, ◌||◌, ◌&&◌, true≢false, arith, slice_get, option_and_then}
 use Rattle.std.specs.Prelude.{Some, None, Option, bytes_eq, Contains, option_to_list, nat_le, nat_lt}
 use Rattle.std.specs.Bool.{then_some}
 use Rattle.std.specs.List.{list_any}
@@ -25,6 +25,7 @@ use Rattle.lists.proofs.Members.{In, in_from, in_left, in_right, in_mapped, filt
 use Rattle.sound_designs.specs.OneDriver.{Driver, Drives, FaultlessHaveAtMostOneDriver}
 use Rattle.sound_designs.specs.OneDriver.Driver.{port, cover, latch}
 use Rattle.sound_designs.specs.OneDriver.Drives.{of_port, of_cover, of_latch}
+use Rattle.lists.proofs.Ends.{not_nil, snoc_same}
 use Rattle.sound_designs.proofs.Sound.{same_of, in_got, in_models, is_placed, named_in, not_portless, formals_once}
 use Rattle.sound_designs.proofs.Local.{Apart, no_repeat, apart_left, apart_right, apart_cross, same_place, same_line, apart_at, same_kept, got_mapped, got_flat}
 use Rattle.std.proofs.lemmas.Bool.{and_parts as two_true}
@@ -269,10 +270,6 @@ input_inside design outer inner h e = by (model_named design.models h.line.model
     by None f t = absurd (true≢false (sym t))
     by (Some m) f t = record { model = m; is_at = (inside design outer inner h m f).is_at; is_input = subst (λ v. In v (port_names (m.ins ++ m.clocks))) (sym h.is_formal) (named_in (m.ins ++ m.clocks) h.pin.formal t) }
 
-pub not_nil : (p : Place) (n : ℕ) → p ++ n ∷ [] ≢ []
-not_nil [] n e = let l : length (n ∷ []) ≡ 0 = ap length e in absurd (omega arith)
-not_nil (x ∷ p) n e = let l : length (x ∷ (p ++ n ∷ [])) ≡ 0 = ap length e in absurd (omega arith)
-
 at_up : (design : Design) → AreFaultless design.models → (d : Driver) (outer inner : Net) (h : IsPinned design outer inner) → is_input_pin (model_named design.models h.line.model) h.pin ≡ true → At design d inner → ⊥
 at_up design a d outer inner h k (at_port m i z j x) = not_nil outer.place h.number (sym h.is_deeper ∙ z)
 at_up design a d outer inner h k (at_cover n i c l o p y) =
@@ -300,14 +297,6 @@ up_down design a outer net inner h g k l =
     let r : IsInputInside design net = input_inside design outer net h k in
     let same : r.model ≡ g.model = one_model design net.place net.place r.model g.model refl r.is_at g.has_model in
     input_pin design.models g.model net.name (drivers_apart design a net.place g.model g.has_model) (subst (λ (v : Model). In net.name (port_names (v.ins ++ v.clocks))) same r.is_input) g.number g.line g.pin g.has_line (in_from g.line.pins g.pin g.has_pin) l (sym g.is_actual)
-
-snoc_same : (p q : Place) (n k : ℕ) → p ++ n ∷ [] ≡ q ++ k ∷ [] → (p ≡ q) × (n ≡ k)
-snoc_same [] [] n k e = (refl, ap (λ l. get_or l 0 0) e)
-snoc_same [] (y ∷ q) n k e = absurd (not_nil q k (sym (ap (drop 1) e)))
-snoc_same (x ∷ p) [] n k e = absurd (not_nil p n (ap (drop 1) e))
-snoc_same (x ∷ p) (y ∷ q) n k e =
-    let r : (p ≡ q) × (n ≡ k) = snoc_same p q n k (ap (drop 1) e) in
-    (ap (λ z. z ∷ p) (ap (λ l. get_or l 0 0) e) ∙ ap (λ l. y ∷ l) r.0, r.1)
 
 same_net : (a b : Net) → a.place ≡ b.place → a.name ≡ b.name → a ≡ b
 same_net a b e f = ap (λ p. net_at p a.name) e ∙ ap (net_at b.place) f

@@ -1,6 +1,6 @@
 -- Designs without a fault.
-use Rattle.std.proofs.Common.{◌≡◌, ◌≢◌, refl, sym, ap, subst, ◌∙◌, ℕ, zero, suc, ◌<◌, ◌≤◌, ◌⊎◌, inl, inr, List, [], ◌∷◌, ◌++◌, map, Bool, true, false, not, ◌||◌, true≢false, arith, cond, slice_get, option_and_then, arith}
-use Rattle.std.specs.Prelude.{Some, None, Option, bytes_eq, flat_map, filter_map}
+use Rattle.std.proofs.Common.{◌≡◌, refl, sym, ap, subst, ◌∙◌, ℕ, zero, suc, ◌<◌, ◌≤◌, ◌⊎◌, inl, inr, List, [], ◌∷◌, ◌++◌, map, Bool, true, false, not, ◌||◌, true≢false, arith, cond, slice_get, option_and_then, arith}
+use Rattle.std.specs.Prelude.{Some, None, Option, bytes_eq, filter_map}
 use Rattle.std.specs.Bool.{then_some}
 use Rattle.std.specs.List.{list_any}
 use Rattle.std.proofs.lemmas.Slice.Eq.{bytes_eq-Decides}
@@ -21,14 +21,13 @@ use Rattle.netlist_meaning.proofs.Names.{and_then-from}
 use Rattle.netlist_meaning.proofs.Depth.{model_at-append}
 use Rattle.netlist_rules.specs.declared.fault.FaultKind.TheVariants.{NoSuchModel, NoSuchPin, TwoClocks, ClockRead}
 use Rattle.netlist_rules.specs.Drivers.{has_input, has_output}
-use Rattle.netlist_rules.specs.ModelFaults.{AreFaultless, model_fault, words_at_fault, missing_model, unplaced, unknown_formals, is_portless, lacks_port, formal_if}
+use Rattle.netlist_rules.specs.ModelFaults.{AreFaultless, words_at_fault, missing_model, unplaced, unknown_formals, is_portless, lacks_port, formal_if}
 use Rattle.netlist_rules.proofs.FirstModelFaults.{no_model_fault}
 use Rattle.netlist_rules.specs.Circles.{HasSubcktOf, Leads}
 use Rattle.lists.proofs.Members.{In, in_from, contains_from, Distinct, distinct_from, in_map, in_left, in_right, filtered_in}
 use Rattle.netlist_rules.proofs.ModelSteps.{model_of_name}
 use Rattle.netlist_rules.proofs.Faultless.{no_model_is_in_itself, formals_are_distinct}
 use Rattle.sound_designs.specs.Laws.{FaultlessAreNotRecursive, FaultlessNameFormalsOnce, FaultlessAreWired}
-use Rattle.lists.proofs.Appends.{append_nil_left as none_left, append_nil_right as none_right}
 use Rattle.netlist_rules.proofs.Faultless.{nothing_of as none_of}
 use Rattle.netlist_rules.proofs.Faultless.{some_models}
 

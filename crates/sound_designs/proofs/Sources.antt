@@ -5,7 +5,6 @@ use Rattle.std.specs.Option.{option_map_or}
 use Rattle.std.specs.Bool.{then_some}
 use Rattle.std.specs.List.{list_any}
 use Rattle.std.proofs.lemmas.Slice.Eq.{bytes_eq-Decides}
-use Rattle.std.proofs.lemmas.Option.{none-some}
 use Rattle.std.proofs.lemmas.List.{length_push}
 use Rattle.netlist_core.specs.declared.model.Port.{Port}
 use Rattle.netlist_core.specs.declared.model.Pin.{Pin}
@@ -20,7 +19,7 @@ use Rattle.netlist_meaning.proofs.Names.{and_then-from}
 use Rattle.netlist_meaning.proofs.Depth.{model_at-append, places_are_shallow}
 use Rattle.netlist_rules.specs.declared.fault.FaultKind.TheVariants.{DuplicatePort, PinMissing}
 use Rattle.netlist_rules.specs.Drivers.{is_input_pin, is_output_pin, same_name_up_to, same_name_before, stands_earlier}
-use Rattle.netlist_rules.specs.ModelFaults.{AreFaultless, unless_named, doubles_after, is_output_before, is_input_by_then, duplicate_ports, formals_of, unpinned_inputs, earlier_of, earliest, missing_pin, on_line}
+use Rattle.netlist_rules.specs.ModelFaults.{AreFaultless, unless_named, doubles_after, is_output_before, is_input_by_then, duplicate_ports, formals_of, unpinned_inputs, earliest, missing_pin, on_line}
 use Rattle.lists.proofs.Members.{In, in_from, contains_from, in_left, in_right, in_parts, in_mapped, in_map, in_flat, filtered_in}
 use Rattle.sound_designs.specs.OneDriver.{Driver, Drives, FaultlessHaveDrivers}
 use Rattle.sound_designs.specs.OneDriver.Driver.{port, cover, latch}

@@ -4,8 +4,6 @@
 pub mod drawings;
 mod rows;
 mod shipped;
-#[cfg(test)]
-mod tests;
 pub mod tiles;
 
 pub use shipped::Shipped;

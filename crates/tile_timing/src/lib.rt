@@ -2,8 +2,6 @@
 #![tactic(auto)]
 
 mod law;
-#[cfg(test)]
-mod tests;
 mod window;
 
 pub use law::law_holds;

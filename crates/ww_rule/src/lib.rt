@@ -12,6 +12,3 @@ pub use error::RuleError;
 pub use mirror::mirror_x;
 pub use pattern::{Injection, Pattern, State};
 pub use plane::{Plane, step_driven, step_plain};
-
-#[cfg(test)]
-mod tests;

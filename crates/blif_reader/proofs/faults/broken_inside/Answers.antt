@@ -1,6 +1,7 @@
 use Rattle.std.proofs.Common.{ap, ◌∙◌, refl}
 use Rattle.netlist_rules.specs.declared.fault.FaultKind.TheVariants.{UnknownDirective, Unsupported, BadCount, RowOutside, BadRow, MixedCover, BadLatch, BadPin, DuplicateModel}
-use Rattle.blif_reader.specs.Before.{holds_name, name_word}
+use Rattle.blif_reader.specs.Before.{name_word}
+use Rattle.lists.specs.Names.{holds_name}
 use Rattle.blif_reader.proofs.FirstRules.{rule}
 use Rattle.blif_reader.proofs.faults.broken_inside.Goals as goal
 

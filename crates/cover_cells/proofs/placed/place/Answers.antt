@@ -8,7 +8,7 @@ use Rattle.cell_core.specs.Meaning.{cell_bit, cell_bits}
 use Rattle.cover_cells.specs.Grown.{Answers}
 use Rattle.cover_cells.specs.Placed.{relocated_cell}
 use Rattle.cover_cells.proofs.Growing.{all_there_after}
-use Rattle.cover_cells.proofs.Tabled.{cell_in_order}
+use Rattle.cell_core.proofs.OwnBits.{cell_in_order}
 use Rattle.cover_cells.proofs.Placing.{moved_cell_there, placed_more}
 use Rattle.cover_cells.proofs.placed.place.Goals as goal
 
@@ -26,9 +26,9 @@ relocated_cell-requires c =
     let e : length c.deref.result.now ≡ 0 + c.loop-cell.cell-index = omega (arith, ap length c.deref.ensures.value, c.loop-cell.invariant.long) in
     ap (λ n. reads_there (length c.args.sources.now) 0 n (get_or c.args.cells.now c.loop-cell.cell-index none)) e ∙ cell_in_order (length c.args.sources.now) 0 0 c.args.cells.now c.loop-cell.cell-index none within c.requires.in_order
 
-pub share-requires : goal.share-requires
+pub settle-requires : goal.settle-requires
 unfolding none
-share-requires c =
+settle-requires c =
     let within : c.loop-cell.cell-index < length c.args.cells.now = omega (arith, c.loop-cell-test.true) in
     let e : length c.loop-cell.made.items ≡ 0 + c.loop-cell.cell-index = omega (arith, c.loop-cell.invariant.long) in
     let reads : reads_there (length c.args.sources.now) 0 (length c.loop-cell.made.items) (get_or c.args.cells.now c.loop-cell.cell-index none) ≡ true =
@@ -45,6 +45,6 @@ loop-cell-preserved c =
     ap (λ n. reads_there (length c.args.sources.now) 0 n (get_or c.args.cells.now c.loop-cell.cell-index none)) e ∙ cell_in_order (length c.args.sources.now) 0 0 c.args.cells.now c.loop-cell.cell-index none within c.requires.in_order in
     let is : c.relocated_cell.result ≡ relocated_cell c.args.sources.now c.loop-cell.made.items (get_or c.args.cells.now c.loop-cell.cell-index none) =
     c.relocated_cell.ensures ∙ ap (λ (m : List Src). relocated_cell c.args.sources.now m (get_or c.args.cells.now c.loop-cell.cell-index none)) c.deref.ensures.value in
-    placed_more c.args.list.now c.loop-cell.list c.share.new.list c.args.sources.now c.args.cells.now c.loop-cell.cell-index c.loop-cell.made.items c.push.new.self.items c.in_ok-placed.placed none within c.requires.there reads c.loop-cell.invariant
-    (subst (λ cell. Answers c.loop-cell.list c.share.new.list 1 (reads_one cell ≡ true) c.in_ok-placed.placed (λ inputs state. cell_bit inputs state (cell_bits inputs state c.loop-cell.list.cells) cell)) is c.in_ok-placed.ensures.value)
+    placed_more c.args.list.now c.loop-cell.list c.settle.new.list c.args.sources.now c.args.cells.now c.loop-cell.cell-index c.loop-cell.made.items c.push.new.self.items c.in_ok-placed.placed none within c.requires.there reads c.loop-cell.invariant
+    (subst (λ cell. Answers c.loop-cell.list c.settle.new.list 1 (reads_one cell ≡ true) c.in_ok-placed.placed (λ inputs state. cell_bit inputs state (cell_bits inputs state c.loop-cell.list.cells) cell)) is c.in_ok-placed.ensures)
     c.in_ok-push.ensures.items

@@ -4,7 +4,8 @@ use Rattle.cell_core.specs.declared.cells.Cell.TheVariants.{Or}
 use Rattle.cell_core.specs.declared.cells.Src.TheVariants.{Input}
 use Rattle.cell_core.specs.Sources.{reads_there}
 use Rattle.cover_cells.specs.Words.{table_bit}
-use Rattle.cover_cells.proofs.Tabled.{cell_in_order, word_added}
+use Rattle.cell_core.proofs.OwnBits.{cell_in_order}
+use Rattle.cover_cells.proofs.Tabled.{word_added}
 use Rattle.cover_cells.proofs.words.list_words.Goals as goal
 
 -- what a read of the slice names where there is nothing

@@ -1,4 +1,4 @@
-use Rattle.loop_check.specs.Walk.{IsTableBefore}
+use Rattle.loop_check.specs.Tables.{IsTableBefore}
 use Rattle.loop_check.proofs.table.drivers.Given as goal
 
 abbrev pub invariant-loop-n : goal.invariant-loop-n

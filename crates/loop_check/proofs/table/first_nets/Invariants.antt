@@ -1,4 +1,4 @@
-use Rattle.loop_check.specs.Walk.{AreFirstsBefore}
+use Rattle.loop_check.specs.Tables.{AreFirstsBefore}
 use Rattle.loop_check.proofs.table.first_nets.Given as goal
 
 abbrev pub invariant-loop-n : goal.invariant-loop-n

@@ -1,6 +1,6 @@
 use Rattle.std.proofs.Common.{◌≡◌, ℕ, ◌<◌, ◌≤◌, length, get_or}
 use Rattle.netlist_core.specs.declared.flat.NetId.{NetId}
-use Rattle.loop_check.specs.Walk.{IsFirstFor}
+use Rattle.loop_check.specs.Tables.{IsFirstFor}
 use Rattle.loop_check.proofs.table.put_firsts.Given as goal
 
 abbrev pub invariant-loop-k : goal.invariant-loop-k

@@ -1,12 +1,13 @@
 use Rattle.std.proofs.Common.{◌≡◌, ◌+◌, ◌∙◌, [], ◌++◌, length, map, sym, ap, arith}
 use denote.Ref.{Bor}
 use Rattle.std.proofs.lemmas.Option.{slice_get_within, get_or_from_slice_get}
+use Rattle.std.proofs.lemmas.List.{take_all}
 use Rattle.std.proofs.lemmas.Simd.{map-map}
 use Rattle.netlist_core.specs.Names.{Name}
 use Rattle.netlist_meaning.specs.Nets.{net_at}
 use Rattle.netlist_meaning.specs.FlatOf.{flat_net}
 use Rattle.netlist_flatten.specs.Numbered.{place_at, nets_before}
-use Rattle.netlist_flatten.proofs.Cuts.{added_more, take_all}
+use Rattle.lists.proofs.Cuts.{added_more}
 use Rattle.netlist_flatten.proofs.Joining.{net_of_item, class_of_item, net_is}
 use Rattle.netlist_flatten.proofs.nets.push_nets.Goals as goal
 
@@ -34,6 +35,6 @@ returns c =
     let items = c.names-name-items.result.now in
     c.loop-name.invariant.nets
     ∙ ap (λ rest. c.args.nets.now.items ++ rest)
-    (ap (map (λ (name : Bor Name). flat_net c.args.numbers.now (net_at (place_at c.args.numbers.now c.args.at) name.now))) (take_all items c.loop-name.name-index c.loop-name-test.false)
+    (ap (map (λ (name : Bor Name). flat_net c.args.numbers.now (net_at (place_at c.args.numbers.now c.args.at) name.now))) (take_all c.loop-name.name-index items c.loop-name-test.false)
     ∙ sym (map-map (flat_net c.args.numbers.now) (λ (name : Bor Name). net_at (place_at c.args.numbers.now c.args.at) name.now) items)
     ∙ sym (ap (map (flat_net c.args.numbers.now)) c.names-name-items.ensures))

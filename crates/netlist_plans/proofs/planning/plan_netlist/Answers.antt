@@ -1,5 +1,6 @@
-use Rattle.netlist_plans.proofs.Bounds.{is_small}
+use Rattle.netlist_plans.proofs.Bounds.{is_small, computes_cells}
 use Rattle.netlist_plans.proofs.Compiled.{are_compiled}
+use Rattle.netlist_plans.proofs.Lanes.{has_lanes}
 use Rattle.netlist_plans.proofs.planning.plan_netlist.Goals as goal
 
 pub returns-clause-carries : goal.returns-clause-carries
@@ -19,4 +20,12 @@ returns-clause-nets c text design of_text clean h =
 pub returns-clause-small : goal.returns-clause-small
 returns-clause-small c =
     is_small c.args.flat.now c.in_ok-list.list c.in_ok-list.ensures.mapped c.requires.weighed c.in_ok-plan.plan c.in_ok-plan.ensures.admissible c.in_ok-plan.ensures.computes
-    c.in_ok-plan.ensures.lanes c.in_ok-plan.ensures.columns
+    c.in_ok-plan.ensures.lanes c.in_ok-plan.ensures.columns c.in_ok-plan.ensures.instrs
+
+pub returns-clause-cells : goal.returns-clause-cells
+returns-clause-cells c =
+    computes_cells c.args.flat.now c.in_ok-list.list c.in_ok-list.ensures.mapped c.requires.weighed c.in_ok-plan.plan c.in_ok-plan.ensures.admissible c.in_ok-plan.ensures.computes
+
+pub returns-clause-lanes : goal.returns-clause-lanes
+returns-clause-lanes c =
+    has_lanes c.args.flat.now c.in_ok-list.list c.in_ok-list.ensures.mapped c.in_ok-plan.plan c.in_ok-plan.ensures.admissible c.in_ok-plan.ensures.computes c.requires.sound c.requires.weighed c.in_ok-plan.ensures.empty

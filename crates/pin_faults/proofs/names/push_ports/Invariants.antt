@@ -1,6 +1,6 @@
 use Rattle.std.proofs.Common.{◌≡◌, ◌||◌, take}
 use Rattle.netlist_core.specs.Names.{Name, is_named}
-use Rattle.pin_faults.specs.NameSets.{holds_name}
+use Rattle.lists.specs.Names.{holds_name}
 use Rattle.pin_faults.proofs.names.push_ports.Given as goal
 
 abbrev pub invariant-loop-port : goal.invariant-loop-port

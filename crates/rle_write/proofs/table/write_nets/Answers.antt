@@ -3,7 +3,8 @@ use Rattle.pattern_reading.specs.PortLines.{Net}
 use Rattle.pattern_reading.specs.Spelling.{spelled_line}
 use Rattle.pattern_writing.specs.Writer.{ended_lines}
 use Rattle.rle_write.specs.Pages.{held}
-use Rattle.rle_write.proofs.Steps.{on_err, wrote_then, wrote_broke, wrote_to}
+use Rattle.rle_write.proofs.Steps.{wrote_then, wrote_broke, wrote_to}
+use Rattle.lists.proofs.Results.{on_err}
 use Rattle.rle_write.proofs.PortLines.{line_next}
 use Rattle.rle_write.proofs.table.write_nets.Goals as goal
 

@@ -5,7 +5,8 @@ use Rattle.pattern_reading.specs.Spelling.{spelled_line}
 use Rattle.pattern_writing.specs.Writer.{ended_lines}
 use Rattle.rle_write.specs.Lines.{port_text}
 use Rattle.rle_write.specs.Pages.{held}
-use Rattle.rle_write.proofs.Steps.{on_err, wrote_then, wrote_broke, wrote_as, broke_as}
+use Rattle.rle_write.proofs.Steps.{wrote_then, wrote_broke, wrote_as, broke_as}
+use Rattle.lists.proofs.Results.{on_err}
 use Rattle.rle_write.proofs.PortLines.{table_is}
 use Rattle.rle_write.proofs.table.write_table.Goals as goal
 

@@ -1,4 +1,4 @@
-use Rattle.std.proofs.Common.{◌≡◌, refl, sym, ◌∙◌, ap, ap₂, subst, ◌+◌, ◌-◌, ◌*◌, ◌<◌, ◌≤◌, length, map, arith}
+use Rattle.std.proofs.Common.{◌≡◌, refl, sym, ◌∙◌, ap, ap₂, subst, ◌+◌, ◌-◌, ◌*◌, ◌<◌, ◌≤◌, length, map, take, arith}
 use Rattle.std.specs.Prelude.{All}
 use Rattle.row_placer.specs.declared.job.Job.{Job}
 use Rattle.std.proofs.lemmas.List.{length-map}
@@ -14,6 +14,8 @@ use Rattle.row_placer.proofs.Ports.{outs_apart}
 use Rattle.row_placer.proofs.Finish.{finish, nets_within, instr_count}
 use Rattle.row_placer.proofs.Prepared.{length-ports}
 use Rattle.row_placer.proofs.Sound.{sound}
+use Rattle.row_placer.specs.Entries.{AreAtEntries}
+use Rattle.row_placer.proofs.Entries.{at_entries}
 use Rattle.row_placer.proofs.placing.place_with.Goals as goal
 
 pub run-requires-clause-lanes : goal.run-requires-clause-lanes
@@ -96,3 +98,23 @@ prepare-requires-clause-sound c = sound c.args.list.now
 
 pub places_of-requires-clause-sound : goal.places_of-requires-clause-sound
 places_of-requires-clause-sound c = sound c.args.list.now
+
+pub returns-clause-empty : goal.returns-clause-empty
+returns-clause-empty c =
+    let L = c.in_ok-lanes.lanes in
+    let count : length L.tags.items ≡ c.len-count.result = sym (c.len-count.ensures ∙ L.tags.ok.0) in
+    λ h e. (let none = c.in_ok-job.ensures.empty h e in omega (arith, none, c.in_ok-lanes.ensures.long, count))
+
+pub returns-clause-entries : goal.returns-clause-entries
+returns-clause-entries c =
+    let list = c.args.list.now in
+    let L = c.in_ok-lanes.lanes in
+    let homes = c.in_ok-job.field-0.homes.items in
+    let r = c.in_ok-job.ensures in
+    let count : length L.tags.items ≡ c.len-count.result = sym (c.len-count.ensures ∙ L.tags.ok.0) in
+    let ins = c.of-2.ensures ∙ c.truncate.ensures.items in
+    let nets = c.of-5.ensures ∙ c.in_ok-nets.ensures ∙ ap₂ (λ hs ms. map (net_place_of list hs ms) list.nets) c.deref.ensures.value c.deref-2.ensures.value in
+    let wide : length c.in_ok-job.field-0.job.start ≡ c.len-count.result = sym c.in_ok-lanes.ensures.long ∙ count in
+    subst (λ lanes. AreAtEntries list lanes c.of-2.result c.of-5.result) wide
+    (subst (λ is. AreAtEntries list (length c.in_ok-job.field-0.job.start) is c.of-5.result) (sym ins)
+    (at_entries list (length c.in_ok-job.field-0.job.start) (take list.inputs homes) homes L.made.items c.of-5.result r.homes_of (sound list).nets nets))

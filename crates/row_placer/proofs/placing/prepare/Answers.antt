@@ -1,4 +1,4 @@
-use Rattle.std.proofs.Common.{◌≡◌, ◌≢◌, refl, sym, ◌∙◌, ap, ap₂, subst, ℕ, ◌+◌, ◌<◌, ◌≤◌, ◌++◌, cond, length, arith}
+use Rattle.std.proofs.Common.{◌≡◌, ◌≢◌, refl, sym, ◌∙◌, ap, ap₂, subst, ℕ, ◌+◌, ◌<◌, ◌≤◌, ◌++◌, cond, length, get_or, arith}
 use Rattle.std.specs.Prelude.{All, AllPairs}
 use Rattle.std.proofs.lemmas.List.{length-map}
 use Rattle.row_placer.specs.Uses.{uses_of, owed, AreCounted, ReadsBelow, AreKnown}
@@ -6,7 +6,7 @@ use Rattle.row_placer.specs.Ready.{Ready}
 use Rattle.cell_core.specs.Loops.{loop_count}
 use Rattle.row_placer.specs.Numbers.{gate_of}
 use Rattle.row_placer.specs.Placed.{IsStart, AreAtHome}
-use Rattle.row_placer.proofs.Prepared.{gates_known, gates_below, ports_below, length-ports, start_ready, flag_small, dark_first}
+use Rattle.row_placer.proofs.Prepared.{gates_known, gates_below, ports_below, length-ports, start_ready, nothing_used, flag_small, dark_first}
 use Rattle.row_placer.proofs.Sides.{AreSides, sides, sides_apart, sides_within, sides_homes}
 use Rattle.row_placer.proofs.placing.prepare.Goals as goal
 
@@ -160,6 +160,7 @@ returns c =
     let few : c.in_ok-left.free ≤ length g + length ports + 1 = omega (arith, c.in_ok-left.ensures.few, ap length c.deref.ensures.value, ap length c.deref-2.ensures.value) in
     let ready = start_ready g ports homes left inner (first + inner) (c.in_ok-left.free + c.args.spare) base dark start is (sides_within first inner (first + inner) dark homes s some refl) counted refl wide s.long c.wants_zero-zero.ensures.used (omega (arith, c.first_home-first.ensures)) (omega (arith, owes)) in
     let inner_is : inner ≡ list.inputs + loop_count list = ap (λ n. list.inputs + n) c.requires.loops in
+    let many : length ports ≡ loop_count list + length list.outs = length-ports list ports c.requires.sound c.in_ok-ports.ensures in
     record {
       job_of = record { base = at; gates = c.of.ensures ∙ c.in_ok-gates.ensures; ports = c.of-2.ensures ∙ c.in_ok-ports.ensures };
       ready = subst (λ st. Ready (uses_of c.of.result ++ c.of-2.result) (base + 0) (owed c.of-2.result c.of.result) st left) (sym c.of-3.ensures)
@@ -173,4 +174,9 @@ returns c =
       room = omega (arith, ap length c.of-3.ensures, is.long, inner_is);
       below = subst (λ n. All (λ lane. lane < n) homes) (sym (ap length c.of-3.ensures ∙ is.long)) (sides_within first inner (first + inner) dark homes s some refl);
       lanes = omega (arith, ap length c.of-3.ensures, is.long, c.first_home-first.ensures, small, few, cells, length-ports list ports c.requires.sound c.in_ok-ports.ensures, inner_is);
+      empty = λ (h : list.inputs + loop_count list + length list.cells + length list.outs + length list.nets ≡ 0) (e : c.args.spare ≡ 0).
+          (let used = nothing_used g ports (omega (arith, h, cells)) (omega (arith, h, many)) in
+          let unused : get_or left inner 0 ≡ 0 = counted inner (omega (arith, wide)) ∙ used.1 inner in
+          let off : cond {A = ℕ} dark 1 0 ≡ 0 = ap (λ b. cond {A = ℕ} b 1 0) (c.wants_zero-zero.ensures.none unused (omega (arith, h))) in
+          omega (arith, ap length c.of-3.ensures, is.long, c.first_home-first.ensures, off, owes, used.0, e, h, inner_is));
     }

@@ -1,7 +1,7 @@
 use Rattle.std.proofs.Common.{take}
 use Rattle.std.specs.List.{AllZip}
-use Rattle.net_faults.specs.Placed.{HasPorts}
+use Rattle.net_faults.specs.Placed.{AreNamesOfPorts}
 use Rattle.net_faults.proofs.placed.PlacedPorts.new.Given as goal
 
 abbrev pub invariant-loop-model : goal.invariant-loop-model
-invariant-loop-model l = AllZip HasPorts l.ports.items (take l.model-index l.models)
+invariant-loop-model l = AllZip AreNamesOfPorts l.ports.items (take l.model-index l.models)

@@ -1,0 +1,11 @@
+//! Cells in another order, in which fewer values are needed at a time.
+#![tactic(auto)]
+
+mod ending;
+mod error;
+pub mod laws;
+mod moving;
+mod reordering;
+
+pub use error::OrderError;
+pub use reordering::reordered;

@@ -1,0 +1,94 @@
+// Cells that are moved to other places, one after another.
+ghost use Rattle.std.specs.Prelude.{◌≡◌, ◌<◌, length, map, slice_get, IfOk, IfSome, OnOk, Some};
+ghost use Rattle.cell_order.specs.Renamed.{renamed, renamed_cell, AreMoved};
+
+use crate::OrderError;
+use cell_core::{Cell, CellList, Src};
+use std::alloc::Global;
+
+// The source under the new numbers.
+fn renamed(numbers: &[Option<u32>], src: Src) -> Option<Src>
+    ensures { result ≡ renamed numbers.now src }
+{
+    match src {
+        Src::Cell(i) => match numbers.get(i as usize) {
+            Some(Some(number)) => Some(Src::Cell(*number)),
+            _ => None,
+        },
+        Src::Input(_) | Src::Latch(_) | Src::One | Src::Zero => Some(src),
+    }
+}
+
+fn renamed_cell(numbers: &[Option<u32>], cell: Cell) -> Option<Cell>
+    ensures { result ≡ renamed_cell numbers.now cell }
+{
+    match cell {
+        Cell::Or(a, b) => Some(Cell::Or(renamed(numbers, a)?, renamed(numbers, b)?)),
+        Cell::Xor(a, b) => Some(Cell::Xor(renamed(numbers, a)?, renamed(numbers, b)?)),
+        Cell::AndNot(a, b) => Some(Cell::AndNot(renamed(numbers, a)?, renamed(numbers, b)?)),
+    }
+}
+
+// The cell of a number, if the list has one.
+fn cell_at(list: &CellList, number: u32) -> Option<Cell>
+    ensures { result ≡ slice_get list.now.cells number }
+{
+    list.cells.as_slice().get(number as usize).copied()
+}
+
+/// The cells that have come, and the new number of each cell of a list that is among them.
+#[derive(Drop)]
+pub struct Moved {
+    pub cells: Vec<Cell>,
+    pub numbers: Vec<Option<u32>>,
+}
+
+impl Moved {
+    /// None has come.
+    pub fn begin(alloc: Global, list: &CellList) -> Result<Moved, OrderError>
+        ensures { IfOk result (λ moved. AreMoved list.now moved.cells.items moved.numbers.items) }
+    {
+        let many = list.cells.len();
+        let mut numbers = Vec::with_capacity(alloc, many)?;
+        numbers.resize(many, None)?;
+        Ok(Moved {
+            cells: Vec::with_capacity(alloc, many)?,
+            numbers,
+        })
+    }
+
+    /// A cell comes, if it is one of the list, and what it reads has come.
+    pub fn add(&mut self, list: &CellList, number: u32) -> Result<(), OrderError>
+        requires { AreMoved list.now self.old.cells.items self.old.numbers.items }
+        ensures { OnOk result (AreMoved list.now self.new.cells.items self.new.numbers.items) }
+    {
+        let Some(old) = cell_at(list, number) else {
+            return Ok(());
+        };
+        let Some(cell) = renamed_cell(&self.numbers, old) else {
+            return Ok(());
+        };
+        let Ok(place) = u32::try_from(self.cells.len()) else {
+            return Ok(());
+        };
+        self.cells.push(cell)?;
+        if let Some(known) = self.numbers.get_mut(number as usize) {
+            *known = Some(place);
+        }
+        Ok(())
+    }
+
+    /// The sources under the new numbers, if each has come.
+    pub fn sources(&self, alloc: Global, sources: &[Src]) -> Result<Option<Vec<Src>>, OrderError>
+        ensures { IfOk result (λ o. IfSome o (λ found. map (renamed self.now.numbers.items) sources.now ≡ map Some found.items)) }
+    {
+        let mut found = Vec::with_capacity(alloc, sources.len())?;
+        for src in sources {
+            match renamed(&self.numbers, *src) {
+                Some(src) => found.push(src)?,
+                None => return Ok(None),
+            }
+        }
+        Ok(Some(found))
+    }
+}

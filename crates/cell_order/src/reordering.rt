@@ -1,0 +1,56 @@
+// A list of cells in another order.
+ghost use Rattle.std.specs.Prelude.{◌≡◌, IfOk, IfSome};
+ghost use Rattle.cell_order.specs.Alike.{ComputeAlike};
+ghost use Rattle.cell_order.specs.Renamed.{AreMoved};
+
+use crate::OrderError;
+use crate::ending::ending_order;
+use crate::moving::Moved;
+use cell_core::CellList;
+use lists::List;
+use std::alloc::Global;
+
+// The list with the cells that have come, if all have that its ports read, and they are as many.
+#[tactic(auto, using(crate::proofs::Moves::bits_follow, crate::proofs::Moves::there_follow))]
+fn with_moved(alloc: Global, list: &CellList, moved: Moved) -> Result<Option<CellList>, OrderError>
+    requires { AreMoved list.now moved.cells.items moved.numbers.items }
+    ensures { IfOk result (λ new. IfSome new (ComputeAlike list.now)) }
+{
+    let Some(outs) = moved.sources(alloc, list.outs.as_slice())? else {
+        return Ok(None);
+    };
+    let Some(latches) = moved.sources(alloc, list.latches.as_slice())? else {
+        return Ok(None);
+    };
+    let Some(nets) = moved.sources(alloc, list.nets.as_slice())? else {
+        return Ok(None);
+    };
+    if moved.cells.len() != list.cells.len() {
+        return Ok(None);
+    }
+    let new = CellList {
+        inputs: list.inputs,
+        cells: List::of(moved.cells),
+        outs: List::of(outs),
+        latches: List::of(latches),
+        starts: List::of(list.starts.as_slice().to_vec(alloc)?),
+        nets: List::of(nets),
+    };
+    if new.names_one() != list.names_one() {
+        return Ok(None);
+    }
+    Ok(Some(new))
+}
+
+/// The list with its cells in the order in which the next is the one that is the last to read most values, so that fewer values are needed at
+/// a time. There is none where that order leaves out a cell.
+pub fn reordered(alloc: Global, list: &CellList) -> Result<Option<CellList>, OrderError>
+    ensures { IfOk result (λ new. IfSome new (ComputeAlike list.now)) }
+{
+    let order = ending_order(alloc, list)?;
+    let mut moved = Moved::begin(alloc, list)?;
+    for number in &order {
+        moved.add(list, *number)?;
+    }
+    with_moved(alloc, list, moved)
+}

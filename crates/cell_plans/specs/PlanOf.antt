@@ -1,0 +1,18 @@
+-- What a plan of a list of cells is.
+use Rattle.std.specs.Prelude.{◌≡◌, ◌≤◌, ◌+◌, ◌*◌, max, length}
+use Rattle.cell_core.specs.declared.list.CellList.{CellList}
+use Rattle.cell_core.specs.Loops.{loop_count}
+use Rattle.cell_lanes.specs.Computes.{ComputesByPlan}
+use Rattle.cell_plans.specs.Counts.{instr_count}
+use Rattle.lane_core.specs.declared.plan.Plan.{Plan}
+use Rattle.lane_core.specs.Plans.{IsAdmissible}
+use Rattle.row_placer.specs.Empty.{IsEmpty}
+
+-- it is admissible, computes the list, and is small by the list's own counts
+pub record IsPlanOf (list : CellList) (plan : Plan) : Type 0 where
+  pub admissible : IsAdmissible plan
+  pub computes : ComputesByPlan list plan
+  pub lanes : plan.lanes ≤ list.inputs + 2 * loop_count list + length list.outs + length list.cells + 2 + max list.inputs (length list.outs)
+  pub empty : IsEmpty list → plan.lanes ≡ 0
+  pub instrs : instr_count plan.columns ≤ (3 * length list.cells + length list.outs + 2 * loop_count list) * plan.lanes
+  pub columns : length plan.columns ≤ (3 * length list.cells + length list.outs + 2 * loop_count list + 1) * (plan.lanes + 1)

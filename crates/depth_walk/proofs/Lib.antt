@@ -1,0 +1,4 @@
+pub mod Walks
+pub mod Orders
+pub mod Circling
+pub mod Steps

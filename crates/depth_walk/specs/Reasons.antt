@@ -1,0 +1,10 @@
+-- Why there is no order.
+use Rattle.depth_walk.specs.Links.{Links}
+use Rattle.depth_walk.specs.Order.{IsCircleOf}
+use Rattle.depth_walk.specs.declared.error.WalkError.{WalkError}
+use Rattle.depth_walk.specs.declared.error.WalkError.TheVariants.{NoMemory, Circle}
+
+-- a refusal for another reason than memory names a circle
+abbrev pub IsWalkRefusal : Links → WalkError → Type 0
+IsWalkRefusal links NoMemory = Unit {0}
+IsWalkRefusal links (Circle numbers) = IsCircleOf links numbers

@@ -1,0 +1,23 @@
+//! Tests of the public calls of crates that lay out and draw circuits.
+#![tactic(auto)]
+
+#[cfg(test)]
+mod bringing;
+#[cfg(test)]
+mod cells;
+#[cfg(test)]
+mod closing;
+#[cfg(test)]
+mod drawings;
+#[cfg(test)]
+mod lanes;
+#[cfg(test)]
+mod macro_steps;
+#[cfg(test)]
+mod packing;
+#[cfg(test)]
+mod slots;
+#[cfg(test)]
+mod tiles;
+#[cfg(test)]
+mod windows;

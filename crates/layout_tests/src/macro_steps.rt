@@ -1,0 +1,110 @@
+// Signals of small plans, and the rules of ports.
+
+use macro_grid::{Edges, admissible, macro_step};
+use lane_core::{Column, Instr, Plan};
+use lists::List;
+use std::alloc::{AllocError, Global};
+use std::test::Fail;
+
+// An Or on the first two of some lanes, with these ports.
+fn or_plan(
+    alloc: Global,
+    lanes: u32,
+    latches: u32,
+    ins: &[u32],
+    outs: &[u32],
+) -> Result<Plan, AllocError> {
+    let or = Column {
+        instrs: List::of(vec![in alloc; Instr::Or(0)]?),
+    };
+    Ok(Plan {
+        lanes,
+        columns: List::of(vec![in alloc; or]?),
+        latches,
+        starts: List::of(Vec::new(alloc)),
+        ins: List::of(Vec::from_slice(alloc, ins)?),
+        outs: List::of(Vec::from_slice(alloc, outs)?),
+        nets: List::of(Vec::new(alloc)),
+    })
+}
+
+// Three loops alone.
+fn bare_plan(alloc: Global) -> Result<Plan, AllocError> {
+    let first = Column {
+        instrs: List::of(Vec::new(alloc)),
+    };
+    let second = Column {
+        instrs: List::of(Vec::new(alloc)),
+    };
+    let third = Column {
+        instrs: List::of(Vec::new(alloc)),
+    };
+    Ok(Plan {
+        lanes: 3,
+        columns: List::of(vec![in alloc; first, second, third]?),
+        latches: 3,
+        starts: List::of(vec![in alloc; true, false, false]?),
+        ins: List::of(Vec::new(alloc)),
+        outs: List::of(Vec::new(alloc)),
+        nets: List::of(Vec::new(alloc)),
+    })
+}
+
+#[test]
+fn dark_edges_stay_dark(rt: HostRuntime) -> Result<(), Fail> {
+    let plan = or_plan(rt.alloc(), 2, 0, &[0, 1], &[0])?;
+    assert!(rt; admissible(&plan));
+    let start = Edges::start(rt.alloc(), &plan)?;
+    let mut after = Edges::start(rt.alloc(), &plan)?;
+    macro_step(&plan, &start, &mut after);
+    for column in 0..3 {
+        for lane in 0..3 {
+            assert!(rt; !start.beside(column, lane) && !start.above(column, lane));
+            assert!(rt; !after.beside(column, lane) && !after.above(column, lane));
+        }
+    }
+    Ok(())
+}
+
+// Three columns and three loops: a loop has 2 * 3 + 4 * 3 tiles, and the return reverses the lanes, so that lane 0 leads to
+// lane 2 and back.
+#[test]
+fn an_electron_goes_round_a_loop(rt: HostRuntime) -> Result<(), Fail> {
+    let plan = bare_plan(rt.alloc())?;
+    assert!(rt; admissible(&plan));
+    let mut current = Edges::start(rt.alloc(), &plan)?;
+    let mut following = Edges::start(rt.alloc(), &plan)?;
+    for step in 0..36 {
+        assert_eq!(rt; current.beside(3, 0), step == 0, "after {step} steps");
+        assert_eq!(rt; current.beside(3, 2), step == 18, "after {step} steps");
+        assert!(rt; !current.beside(3, 1), "after {step} steps");
+        macro_step(&plan, &current, &mut following);
+        std::mem::swap(&mut current, &mut following);
+    }
+    assert!(rt; current.beside(3, 0));
+    Ok(())
+}
+
+#[test]
+fn each_rule_on_ports_and_lanes_is_kept(rt: HostRuntime) -> Result<(), Fail> {
+    let table: [(u32, u32, &[u32], &[u32], bool); 13] = [
+        (2, 0, &[0, 1], &[0], true),
+        (3, 0, &[0, 2], &[1], true),
+        (1, 0, &[0], &[0], false),
+        (0, 0, &[], &[], false),
+        (2, 1, &[0], &[0], false),
+        (2, 0, &[1, 1], &[0], false),
+        (2, 0, &[0, 1], &[2], false),
+        (65_537, 0, &[0, 65_536], &[65_536, 65_535], true),
+        (65_537, 0, &[0, 65_536, 65_536], &[0], false),
+        (65_537, 0, &[0], &[65_535, 0, 65_536, 65_535], false),
+        (u32::MAX, 0, &[u32::MAX - 1, 0], &[u32::MAX - 1], true),
+        (u32::MAX, 0, &[u32::MAX - 1, 0, u32::MAX - 1], &[], false),
+        (u32::MAX, 0, &[u32::MAX], &[], false),
+    ];
+    for (lanes, latches, ins, outs, want) in table {
+        let plan = or_plan(rt.alloc(), lanes, latches, ins, outs)?;
+        assert_eq!(rt; admissible(&plan), want, "{lanes} lanes, {latches} loops");
+    }
+    Ok(())
+}

@@ -1,0 +1,154 @@
+// Small plans, drawn by hand.
+ghost use Rattle.std.specs.Prelude.{IfOk};
+ghost use Rattle.lane_core.specs.Plans.{IsAdmissible};
+
+use plan_layout::{Piece, Slot, slot_at};
+use lane_core::{Column, Instr, Plan};
+use lists::List;
+use std::alloc::{AllocError, Global};
+use std::test::Fail;
+use tile_core::Kind;
+
+// An Or on two lanes.
+fn or_plan(alloc: Global) -> Result<Plan, AllocError>
+    ensures { IfOk result IsAdmissible }
+{
+    let or = Column {
+        instrs: List::of(vec![in alloc; Instr::Or(0)]?),
+    };
+    Ok(Plan {
+        lanes: 2,
+        columns: List::of(vec![in alloc; or]?),
+        latches: 0,
+        starts: List::of(Vec::new(alloc)),
+        ins: List::of(vec![in alloc; 0, 1]?),
+        outs: List::of(vec![in alloc; 0]?),
+        nets: List::of(Vec::new(alloc)),
+    })
+}
+
+// Two lanes, two columns and a loop.
+fn loop_plan(alloc: Global) -> Result<Plan, AllocError>
+    ensures { IfOk result IsAdmissible }
+{
+    let fork = Column {
+        instrs: List::of(vec![in alloc; Instr::Fork(0)]?),
+    };
+    let or = Column {
+        instrs: List::of(vec![in alloc; Instr::Or(0)]?),
+    };
+    Ok(Plan {
+        lanes: 2,
+        columns: List::of(vec![in alloc; fork, or]?),
+        latches: 1,
+        starts: List::of(vec![in alloc; true]?),
+        ins: List::of(vec![in alloc; 0]?),
+        outs: List::of(vec![in alloc; 0]?),
+        nets: List::of(Vec::new(alloc)),
+    })
+}
+
+// Three loops alone.
+fn bare_plan(alloc: Global) -> Result<Plan, AllocError>
+    ensures { IfOk result IsAdmissible }
+{
+    let first = Column {
+        instrs: List::of(Vec::new(alloc)),
+    };
+    let second = Column {
+        instrs: List::of(Vec::new(alloc)),
+    };
+    let third = Column {
+        instrs: List::of(Vec::new(alloc)),
+    };
+    Ok(Plan {
+        lanes: 3,
+        columns: List::of(vec![in alloc; first, second, third]?),
+        latches: 3,
+        starts: List::of(vec![in alloc; true, false, false]?),
+        ins: List::of(Vec::new(alloc)),
+        outs: List::of(Vec::new(alloc)),
+        nets: List::of(Vec::new(alloc)),
+    })
+}
+
+// A letter for each tile, small for the lower half of a pair.
+fn letter(slot: Slot) -> u8 {
+    match slot {
+        Slot::Nothing => b'.',
+        Slot::Whole(Piece::Output) => b'*',
+        Slot::Whole(Piece::Tile(kind)) => match kind {
+            Kind::East => b'>',
+            Kind::West => b'<',
+            Kind::South => b'v',
+            Kind::North => b'^',
+            Kind::EastSouth => b'7',
+            Kind::SouthWest => b'J',
+            Kind::WestNorth => b'L',
+            Kind::NorthEast => b'r',
+            _ => b'?',
+        },
+        Slot::Upper(Piece::Tile(kind)) => pair_letter(kind),
+        Slot::Lower(Piece::Tile(kind)) => pair_letter(kind).to_ascii_lowercase(),
+        _ => b'?',
+    }
+}
+
+fn pair_letter(kind: Kind) -> u8 {
+    match kind {
+        Kind::Swap => b'S',
+        Kind::Xor => b'X',
+        Kind::Or => b'O',
+        Kind::AndNot => b'A',
+        Kind::Fork => b'F',
+        Kind::WestSwap => b'W',
+        _ => b'?',
+    }
+}
+
+// Whether the plan's tiles are those of the rows.
+fn is_drawn(plan: &Plan, rows: &[&[u8]]) -> bool
+    requires { IsAdmissible plan.now }
+{
+    for (lane, row) in rows.iter().enumerate() {
+        for (column, want) in row.iter().enumerate() {
+            if letter(slot_at(plan, column as u64, lane as u64)) != *want {
+                return false;
+            }
+        }
+    }
+    true
+}
+
+#[test]
+fn an_or_stands_as_drawn_by_hand(rt: HostRuntime) -> Result<(), Fail> {
+    let plan = or_plan(rt.alloc())?;
+    assert!(rt; is_drawn(&plan, &[b"O*.", b"o..", b"..."]));
+    Ok(())
+}
+
+#[test]
+fn a_loop_stands_as_drawn_by_hand(rt: HostRuntime) -> Result<(), Fail> {
+    let plan = loop_plan(rt.alloc())?;
+    assert!(rt; is_drawn(&plan, &[b".FO*.", b"rfo7.", b"L<<J.", b"....."]));
+    Ok(())
+}
+
+#[test]
+fn three_loops_stand_as_drawn_by_hand(rt: HostRuntime) -> Result<(), Fail> {
+    let plan = bare_plan(rt.alloc())?;
+    assert!(rt;
+        is_drawn(
+            &plan,
+            &[
+                b"r>>>>>>>7",
+                b"^r>>>>>7v",
+                b"^^r>>>7vv",
+                b"^^LW<WJvv",
+                b"^L<wWw<Jv",
+                b"L<<<w<<<J"
+            ]
+        )
+    );
+    Ok(())
+}

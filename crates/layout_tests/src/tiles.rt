@@ -1,0 +1,154 @@
+// The rows of the timing law's test, and the page of all tiles.
+use tile_library::{Shipped, tiles};
+use page::PAGE;
+use std::alloc::{AllocError, Global};
+use std::test::Fail;
+use tile_core::{Kind, Library, Tile};
+use tile_timing::law_holds;
+use ww_rule::State;
+
+mod page;
+
+const KINDS: [Kind; 14] = [
+    Kind::Swap,
+    Kind::Xor,
+    Kind::Or,
+    Kind::AndNot,
+    Kind::Fork,
+    Kind::East,
+    Kind::South,
+    Kind::North,
+    Kind::EastSouth,
+    Kind::SouthWest,
+    Kind::WestNorth,
+    Kind::NorthEast,
+    Kind::West,
+    Kind::WestSwap,
+];
+
+// The Or drawing as cells, row after row.
+fn or_cells() -> [State; 1024] {
+    let mut cells = [State::Empty; 1024];
+    for (i, cell) in cells.iter_mut().enumerate() {
+        if Shipped.cell(Kind::Or, (i % 32) as u32, (i / 32) as u32) {
+            *cell = State::Conductor;
+        }
+    }
+    cells
+}
+
+// The Or drawing, with plain wires in place of its two diodes.
+fn or_without_diodes() -> [State; 1024] {
+    let mut cells = or_cells();
+    for y in [14, 18] {
+        for x in [11, 12] {
+            cells[(y - 1) * 32 + x] = State::Empty;
+            cells[y * 32 + x] = State::Conductor;
+            cells[(y + 1) * 32 + x] = State::Empty;
+        }
+    }
+    cells
+}
+
+#[test]
+fn law_holds_of_the_or_drawing_alone(rt: HostRuntime) -> Result<(), Fail> {
+    let or = or_cells();
+    let all_but_one = &or[..1023];
+    let mut lit = or_cells();
+    lit[8 * 32] = State::Head;
+    assert!(rt; law_holds(&or, Kind::Or), "the drawing");
+    assert!(rt;
+        !law_holds(&or_without_diodes(), Kind::Or),
+        "without diodes"
+    );
+    assert!(rt; !law_holds(&or, Kind::Xor), "another kind");
+    assert!(rt; !law_holds(all_but_one, Kind::Or), "another length");
+    assert!(rt; !law_holds(&lit, Kind::Or), "with a head");
+    Ok(())
+}
+
+// The letter of a cell: its port's, or whether it is a conductor.
+fn letter(kind: Kind, x: u32, y: u32) -> char {
+    if !Shipped.cell(kind, x, y) {
+        return '.';
+    }
+    let [a, b] = kind.entries();
+    let [c, d] = kind.exits();
+    let is_pair = kind.lanes() == 2;
+    if (x, y) == a {
+        'a'
+    } else if (x, y) == c {
+        'y'
+    } else if is_pair && (x, y) == b {
+        'b'
+    } else if is_pair && (x, y) == d {
+        'z'
+    } else {
+        'C'
+    }
+}
+
+fn push_picture(page: &mut String, kind: Kind) -> Result<(), AllocError> {
+    page.push_str("\n```text\n")?;
+    for y in 0..16 * kind.lanes() {
+        for x in 0..32 {
+            page.push(letter(kind, x, y))?;
+        }
+        page.push('\n')?;
+    }
+    page.push_str("```\n")
+}
+
+fn push_answers(page: &mut String, kind: Kind) -> Result<(), AllocError> {
+    if kind.lanes() == 1 {
+        page.push_str("| a | y |\n|---|---|\n")?;
+        for a in [false, true] {
+            let [y, _] = kind.answer([a, false]);
+            writeln!(page, "| {} | {} |", a as u8, y as u8)?;
+        }
+        return Ok(());
+    }
+    page.push_str("| a | b | y | z |\n|---|---|---|---|\n")?;
+    for (a, b) in [(false, false), (false, true), (true, false), (true, true)] {
+        let [y, z] = kind.answer([a, b]);
+        writeln!(
+            page,
+            "| {} | {} | {} | {} |",
+            a as u8, b as u8, y as u8, z as u8
+        )?;
+    }
+    Ok(())
+}
+
+// All that the page has after its introduction.
+fn sections(alloc: Global) -> Result<String, AllocError> {
+    let mut page = String::new(alloc);
+    for kind in KINDS {
+        writeln!(page, "\n## {kind:?}\n")?;
+        push_answers(&mut page, kind)?;
+        push_picture(&mut page, kind)?;
+    }
+    Ok(page)
+}
+
+#[test]
+fn page_shows_every_tile(rt: HostRuntime) -> Result<(), Fail> {
+    let sections = sections(rt.alloc())?;
+    assert!(rt; PAGE.ends_with(sections.as_str()));
+    Ok(())
+}
+
+// What a tile lights, if its first entry is lit alone.
+fn lit_by_first<T: Tile>(tile: &T) -> [bool; 2] {
+    tile.answer([true, false])
+}
+
+#[test]
+fn tiles_answer_by_themselves(rt: HostRuntime) -> Result<(), Fail> {
+    assert_eq!(rt; lit_by_first(&tiles::Swap), [false, true]);
+    assert_eq!(rt; lit_by_first(&tiles::Fork), [true, true]);
+    assert_eq!(rt; lit_by_first(&tiles::SouthWest), [true, false]);
+    assert_eq!(rt; tiles::SouthWest::ENTRIES, [(16, 0), (0, 0)]);
+    assert!(rt; tiles::SouthWest.cell(23, 7) && !tiles::SouthWest.cell(24, 7));
+    Ok(())
+}

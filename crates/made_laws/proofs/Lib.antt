@@ -1,0 +1,5 @@
+pub mod Weights
+pub mod Clocks
+pub mod Loops
+pub mod Sizes
+pub mod Netlists

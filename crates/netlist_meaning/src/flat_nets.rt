@@ -1,0 +1,23 @@
+// The classes and names of a flat netlist's nets.
+ghost use Rattle.std.specs.Prelude.{◌≡◌, IfOk};
+ghost use Rattle.netlist_meaning.specs.Flat.{IsNetId, class_of, name_of_net};
+
+use lists::{Bytes, copied};
+use netlist_core::{Flat, NetId};
+use std::alloc::{AllocError, Global};
+
+/// The class of a net.
+pub fn class_of(flat: &Flat, id: NetId) -> usize
+    requires { IsNetId flat.now id }
+    ensures { result ≡ class_of flat.now id }
+{
+    flat.nets.get(id.0 as usize).class as usize
+}
+
+/// The name of a net at its place.
+pub fn name_of_net(alloc: Global, flat: &Flat, net: NetId) -> Result<Bytes, AllocError>
+    requires { IsNetId flat.now net }
+    ensures { IfOk result (λ name. name ≡ name_of_net flat.now net) }
+{
+    copied(alloc, flat.nets.get(net.0 as usize).name.as_slice())
+}

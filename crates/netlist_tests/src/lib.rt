@@ -1,0 +1,15 @@
+//! Tests of the public calls of crates that read and map netlists.
+#![tactic(auto)]
+
+#[cfg(test)]
+mod checks;
+#[cfg(test)]
+mod circles;
+#[cfg(test)]
+mod covers;
+#[cfg(test)]
+mod logical_lines;
+#[cfg(test)]
+mod made;
+#[cfg(test)]
+mod models;

@@ -1,4 +1,0 @@
-pub mod Admissible
-pub mod Columns
-pub mod Tile
-pub mod Shows

@@ -1,7 +1,0 @@
-use Rattle.std.proofs.Common.{◌≡◌, map}
-use Rattle.std.specs.List.{range_with_len}
-use Rattle.grid_assembly.specs.PlanDrawing.{start_row}
-use Rattle.or_gate.proofs.drawing.pattern_of.Given as goal
-
-abbrev pub invariant-loop-y : goal.invariant-loop-y
-invariant-loop-y l = l.rows.items ≡ map (start_row l.plan) (range_with_len 0 l.y)

@@ -1,0 +1,233 @@
+// Bands of small patterns, moved in given orders.
+ghost use Rattle.std.specs.Prelude.{◌≡◌, [], All, length, IfOk};
+ghost use Rattle.band_core.specs.Bands.{IsSamePattern};
+
+mod orders;
+mod shown;
+
+use band_core::{Bands, NotReady, NotSkipped};
+use lists::List;
+use shown::shown_row;
+use std::alloc::{AllocError, Global};
+use std::test::Fail;
+use ww_rule::{Pattern, State};
+
+// A column of three cells, from the top down.
+fn column(alloc: Global, cells: [State; 3]) -> Result<Pattern, AllocError>
+    ensures width { IfOk result (λ pattern. pattern.width ≡ 1) }
+    ensures height { IfOk result (λ pattern. pattern.height ≡ 3) }
+    ensures rows { IfOk result (λ pattern. length pattern.rows ≡ 3) }
+{
+    let [top, middle, bottom] = cells;
+    let top = List::of(Vec::from_array(alloc, [top])?);
+    let middle = List::of(Vec::from_array(alloc, [middle])?);
+    let bottom = List::of(Vec::from_array(alloc, [bottom])?);
+    Ok(Pattern {
+        width: 1,
+        height: 3,
+        rows: List::of(Vec::from_array(alloc, [top, middle, bottom])?),
+    })
+}
+
+// What a call on a band answers.
+#[derive(Clone, Copy, Debug, PartialEq, Eq)]
+enum Answer {
+    Moved,
+    NotReady { neighbour: usize, generation: u64 },
+    Awake { x: u64, y: u64 },
+    NoSuchBand,
+}
+
+fn advanced(bands: &mut Bands, b: usize) -> Answer
+    ensures { IsSamePattern bands.old bands.new }
+{
+    if b >= bands.bands() || bands.generation(b) == u64::MAX {
+        return Answer::NoSuchBand;
+    }
+    match bands.advance(b) {
+        Ok(()) => Answer::Moved,
+        Err(
+            NotReady {
+                neighbour,
+                generation,
+            },
+        ) => Answer::NotReady {
+            neighbour,
+            generation,
+        },
+    }
+}
+
+fn skipped(bands: &mut Bands, b: usize) -> Answer {
+    if b >= bands.bands() || bands.generation(b) == u64::MAX {
+        return Answer::NoSuchBand;
+    }
+    match bands.skip(b) {
+        Ok(()) => Answer::Moved,
+        Err(
+            NotSkipped::NotReady(
+                NotReady {
+                    neighbour,
+                    generation,
+                },
+            ),
+        ) => Answer::NotReady {
+            neighbour,
+            generation,
+        },
+        Err(NotSkipped::Awake { x, y }) => Answer::Awake { x, y },
+    }
+}
+
+fn behind(neighbour: usize, generation: u64) -> Answer {
+    Answer::NotReady {
+        neighbour,
+        generation,
+    }
+}
+
+const A: State = State::Head;
+
+const C: State = State::Conductor;
+
+const E: State = State::Empty;
+
+// Makes calls of `advance`, and tells whether they answered these.
+fn answers_are_right(bands: &mut Bands, calls: &[(usize, Answer)]) -> bool
+    ensures { IsSamePattern bands.old bands.new }
+{
+    let mut are_right = true;
+    for (b, answer) in calls {
+        are_right &= advanced(bands, *b) == *answer;
+    }
+    are_right
+}
+
+#[test]
+fn bands_advance_in_any_order(rt: HostRuntime) -> Result<(), Fail> {
+    let alloc = rt.alloc();
+    let ok = Answer::Moved;
+    let cases: [(&[(usize, Answer)], &[u8; 3]); 4] = [
+        (
+            &[(2, ok), (2, behind(1, 0)), (3, Answer::NoSuchBand)],
+            b"ACC",
+        ),
+        (&[(1, ok), (0, ok), (2, ok), (2, ok)], b"BAA"),
+        (&[(2, ok), (1, ok), (0, ok), (2, ok)], b"BAA"),
+        (
+            &[
+                (0, ok),
+                (0, behind(1, 0)),
+                (1, ok),
+                (1, behind(2, 0)),
+                (2, ok),
+                (2, ok),
+                (0, ok),
+                (1, ok),
+                (2, ok),
+            ],
+            b"CBB",
+        ),
+    ];
+    for (calls, [top, middle, bottom]) in cases {
+        let mut bands = Bands::new(alloc, column(alloc, [A, C, C])?, Vec::new(alloc), 1)?;
+        assert!(rt; answers_are_right(&mut bands, calls));
+        assert_eq!(rt;
+            shown_row(alloc, &bands, 1, 1, 0)?.as_slice(),
+            [*top].as_slice()
+        );
+        assert_eq!(rt;
+            shown_row(alloc, &bands, 1, 1, 1)?.as_slice(),
+            [*middle].as_slice()
+        );
+        assert_eq!(rt;
+            shown_row(alloc, &bands, 1, 1, 2)?.as_slice(),
+            [*bottom].as_slice()
+        );
+    }
+    Ok(())
+}
+
+// A pattern of two rows of three cells.
+fn two_rows(alloc: Global, rows: [[State; 3]; 2]) -> Result<Pattern, AllocError>
+    ensures width { IfOk result (λ pattern. pattern.width ≡ 3) }
+    ensures height { IfOk result (λ pattern. pattern.height ≡ 2) }
+    ensures rows { IfOk result (λ pattern. length pattern.rows ≡ 2) }
+{
+    let [top, bottom] = rows;
+    let top = List::of(Vec::from_array(alloc, top)?);
+    let bottom = List::of(Vec::from_array(alloc, bottom)?);
+    Ok(Pattern {
+        width: 3,
+        height: 2,
+        rows: List::of(Vec::from_array(alloc, [top, bottom])?),
+    })
+}
+
+// One generation of all bands, from the top down.
+fn advance_all(bands: &mut Bands)
+    ensures { IsSamePattern bands.old bands.new }
+{
+    for b in 0..bands.bands() {
+        let _answer = advanced(bands, b);
+    }
+}
+
+#[test]
+fn two_heads_light_a_conductor_and_three_do_not(rt: HostRuntime) -> Result<(), Fail> {
+    let alloc = rt.alloc();
+    let below = [E, C, E];
+    let cases = [([A, A, A], b"BBB", b".C."), ([A, A, E], b"BB.", b".A.")];
+    for (above, top, bottom) in cases {
+        for height in [1, 2] {
+            let pattern = two_rows(alloc, [above, below])?;
+            let mut bands = Bands::new(alloc, pattern, Vec::new(alloc), height)?;
+            advance_all(&mut bands);
+            assert_eq!(rt;
+                shown_row(alloc, &bands, height, 3, 0)?.as_slice(),
+                top.as_slice()
+            );
+            assert_eq!(rt;
+                shown_row(alloc, &bands, height, 3, 1)?.as_slice(),
+                bottom.as_slice()
+            );
+        }
+    }
+    Ok(())
+}
+
+#[test]
+fn a_lit_cell_keeps_bands_awake(rt: HostRuntime) -> Result<(), Fail> {
+    let alloc = rt.alloc();
+    let mut bands = Bands::new(alloc, column(alloc, [A, C, C])?, Vec::new(alloc), 1)?;
+    assert_eq!(rt; skipped(&mut bands, 2), Answer::Moved);
+    assert_eq!(rt; skipped(&mut bands, 1), Answer::Awake { x: 0, y: 0 });
+    assert_eq!(rt; advanced(&mut bands, 1), Answer::Moved);
+    assert_eq!(rt; skipped(&mut bands, 0), Answer::Awake { x: 0, y: 0 });
+    assert_eq!(rt; skipped(&mut bands, 2), Answer::Awake { x: 0, y: 1 });
+    assert_eq!(rt; advanced(&mut bands, 2), Answer::Moved);
+    assert_eq!(rt; advanced(&mut bands, 2), behind(1, 1));
+    Ok(())
+}
+
+#[test]
+fn a_pattern_without_cells_has_no_band(rt: HostRuntime) -> Result<(), Fail> {
+    let alloc = rt.alloc();
+    let wide = Pattern {
+        width: u64::MAX,
+        height: 0,
+        rows: List::of(Vec::new(alloc)),
+    };
+    let high = Pattern {
+        width: 0,
+        height: u64::MAX,
+        rows: List::of(Vec::new(alloc)),
+    };
+    for pattern in Vec::from_array(alloc, [wide, high])? {
+        let bands = Bands::new(alloc, pattern, Vec::new(alloc), u32::MAX)?;
+        assert_eq!(rt; bands.bands(), 0);
+    }
+    let bands = Bands::new(alloc, column(alloc, [A, C, C])?, Vec::new(alloc), u32::MAX)?;
+    assert_eq!(rt; bands.bands(), 1);
+    Ok(())
+}

@@ -1,0 +1,216 @@
+// Bands of random patterns, moved in random orders, beside the plain step on the whole plane.
+ghost use Rattle.std.specs.Prelude.{◌≡◌, ◌<◌, ◌≤◌, length, IfOk};
+ghost use Rattle.ww_rule.specs.Due.{AreInOrderFrom};
+ghost use Rattle.ww_rule.specs.Grid.{AreInBox};
+ghost use Rattle.ww_rule.specs.Injections.{AreInside};
+ghost use Rattle.band_core.specs.Bands.{IsSamePattern, generation_of};
+
+use super::shown::{drawn_row, shown_row};
+use band_core::Bands;
+use lists::List;
+use std::alloc::{AllocError, Global};
+use std::test::Fail;
+use ww_rule::{Injection, Pattern, Plane, State, step_driven};
+
+// The last generation that a band comes to.
+const LAST: u64 = 6;
+
+#[derive(Drop)]
+struct Dice {
+    state: u32,
+}
+
+impl Dice {
+    fn below(&mut self, n: u64) -> u64
+        requires { 0 < n }
+        ensures { result < n }
+    {
+        self.state = self.state.wrapping_mul(1664525).wrapping_add(1013904223);
+        (self.state >> 8) as u64 % n
+    }
+
+    fn state(&mut self) -> State {
+        match self.below(8) {
+            0 => State::Empty,
+            1 => State::Head,
+            2 => State::Tail,
+            _ => State::Conductor,
+        }
+    }
+}
+
+fn random_row(alloc: Global, dice: &mut Dice, width: u64) -> Result<List<State>, AllocError>
+    ensures { IfOk result (λ row. length row ≡ width) }
+{
+    let mut row = Vec::new(alloc);
+    for x in 0..width {
+        row.push(dice.state())?;
+    }
+    Ok(List::of(row))
+}
+
+// A pattern of five rows.
+fn random_pattern(alloc: Global, dice: &mut Dice, width: u64) -> Result<Pattern, AllocError>
+    requires { 0 < width }
+    ensures width { IfOk result (λ pattern. pattern.width ≡ width) }
+    ensures height { IfOk result (λ pattern. pattern.height ≡ 5) }
+    ensures rows { IfOk result (λ pattern. length pattern.rows ≡ 5) }
+{
+    let rows = [
+        random_row(alloc, dice, width)?,
+        random_row(alloc, dice, width)?,
+        random_row(alloc, dice, width)?,
+        random_row(alloc, dice, width)?,
+        random_row(alloc, dice, width)?,
+    ];
+    Ok(Pattern {
+        width,
+        height: 5,
+        rows: List::of(Vec::from_array(alloc, rows)?),
+    })
+}
+
+// Two injections of one cell at one generation, another one soon after, and one that never comes.
+fn random_drive(alloc: Global, dice: &mut Dice, width: u64) -> Result<Vec<Injection>, AllocError>
+    requires { 0 < width }
+    ensures in_order { IfOk result (λ drive. AreInOrderFrom 0 drive.items) }
+    ensures inside { IfOk result (λ drive. AreInside width 5 drive.items) }
+{
+    let first = Injection {
+        generation: dice.below(3) as u128,
+        x: dice.below(width),
+        y: dice.below(5),
+    };
+    let next = Injection {
+        generation: first.generation + dice.below(3) as u128,
+        x: dice.below(width),
+        y: dice.below(5),
+    };
+    let never = Injection {
+        generation: 18_446_744_073_709_551_617,
+        x: next.x,
+        y: next.y,
+    };
+    Ok(Vec::from_array(alloc, [first, first, next, never])?)
+}
+
+// The cells of injections of a generation.
+fn due(
+    alloc: Global,
+    drive: &[Injection],
+    generation: u64,
+    plane: &Plane,
+) -> Result<Vec<(u64, u64)>, AllocError>
+    ensures { IfOk result (λ cells. AreInBox plane.now.width plane.now.height cells.items) }
+{
+    let mut cells = Vec::new(alloc);
+    for i in drive {
+        if i.generation == generation as u128 && i.x < plane.width && i.y < plane.height {
+            cells.push((i.x, i.y))?;
+        }
+    }
+    Ok(cells)
+}
+
+// The planes of the generations, by the plain step.
+fn planes(alloc: Global, pattern: &Pattern, drive: &[Injection]) -> Result<Vec<Plane>, Fail> {
+    let start = Plane::from_pattern(alloc, pattern)?;
+    let cells = due(alloc, drive, 0, &start)?;
+    let mut plane = start.inject(&cells);
+    let mut planes = Vec::new(alloc);
+    for generation in 1..LAST + 1 {
+        let cells = due(alloc, drive, generation, &plane)?;
+        let next = step_driven(alloc, &plane, &cells)?;
+        planes.push(plane)?;
+        plane = next;
+    }
+    planes.push(plane)?;
+    Ok(planes)
+}
+
+// One call on a band, whatever it answers.
+fn call(bands: &mut Bands, b: usize, dice: &mut Dice)
+    requires band { b < length bands.old.generations }
+    requires room { generation_of bands.old b < 6 }
+    ensures { IsSamePattern bands.old bands.new }
+{
+    if dice.below(2) == 0 {
+        let _answer = bands.skip(b);
+    } else {
+        let _answer = bands.advance(b);
+    }
+}
+
+fn call_at_random(bands: &mut Bands, dice: &mut Dice)
+    ensures { IsSamePattern bands.old bands.new }
+{
+    for turn in 0..40 {
+        let count = bands.bands();
+        if count > 0 {
+            let b = dice.below(count as u64) as usize;
+            if bands.generation(b) < LAST {
+                call(bands, b, dice);
+            }
+        }
+    }
+}
+
+// Whether a row shows what the plane of its band's generation has there.
+fn is_right(
+    alloc: Global,
+    bands: &Bands,
+    height: u32,
+    width: u64,
+    y: u64,
+    planes: &[Plane],
+) -> Result<bool, AllocError>
+    requires height { height ≡ bands.now.height }
+    requires width { width ≡ bands.now.grid.width }
+    requires row { y < length bands.now.grid.rows }
+{
+    let shown = shown_row(alloc, bands, height, width, y)?;
+    let count = bands.bands();
+    let b = y as usize / height as usize;
+    if b >= count {
+        return Ok(false);
+    }
+    let generation = bands.generation(b);
+    let Some(plane) = planes.get(generation as usize) else {
+        return Ok(false);
+    };
+    match plane.rows.as_slice().get(y as usize) {
+        Some(row) => Ok(drawn_row(alloc, row.as_slice())? == shown),
+        None => Ok(false),
+    }
+}
+
+// Whether all rows do, after calls in a random order.
+fn order_is_right(alloc: Global, dice: &mut Dice, height: u32, width: u64) -> Result<bool, Fail>
+    requires height { 0 < height }
+    requires width { 0 < width }
+{
+    let pattern = random_pattern(alloc, dice, width)?;
+    let drive = random_drive(alloc, dice, width)?;
+    let planes = planes(alloc, &pattern, &drive)?;
+    let mut bands = Bands::new(alloc, pattern, drive, height)?;
+    call_at_random(&mut bands, dice);
+    let mut is_right_all = true;
+    for y in 0..5 {
+        is_right_all &= is_right(alloc, &bands, height, width, y, &planes)?;
+    }
+    Ok(is_right_all)
+}
+
+#[test]
+fn random_orders_show_the_driven_planes(rt: HostRuntime) -> Result<(), Fail> {
+    let alloc = rt.alloc();
+    let mut dice = Dice { state: 1 };
+    let kinds = [(1, 3), (2, 3), (3, 65), (1, 65), (2, 64), (7, 1)];
+    for _round in 0..334 {
+        for (height, width) in kinds {
+            let is_right = order_is_right(alloc, &mut dice, height, width)?;
+            assert!(rt; is_right, "bands of {height} rows, {width} columns");
+        }
+    }
+    Ok(())
+}

@@ -1,0 +1,29 @@
+// Rows by hand: above, heads, below, tails and wires, and the new heads and wires.
+use lane_kernel::step_rows;
+
+#[test]
+fn a_head_crosses_the_border_of_words(rt: HostRuntime) {
+    let mut heads = [0u64; 2];
+    let mut wires = [0u64; 2];
+    step_rows(
+        &[0, 1],
+        &[0, 0],
+        &[0, 0],
+        &[2, 0],
+        &[1 << 63, 0],
+        &mut heads,
+        &mut wires,
+    );
+    assert_eq!(&rt; heads.as_slice(), [1 << 63, 0].as_slice());
+    assert_eq!(&rt; wires.as_slice(), [2, 0].as_slice());
+}
+
+#[test]
+fn three_heads_light_nothing(rt: HostRuntime) {
+    let mut heads = [0u64; 1];
+    let mut wires = [0u64; 1];
+    step_rows(&[7], &[0], &[0], &[0], &[10], &mut heads, &mut wires);
+    assert_eq!(&rt; heads.as_slice(), [8].as_slice());
+    assert_eq!(&rt; wires.as_slice(), [2].as_slice());
+    step_rows(&[], &[], &[], &[], &[], &mut [], &mut []);
+}

@@ -1,0 +1,15 @@
+//! Tests of the public calls of crates that read, step and run patterns.
+#![tactic(auto)]
+
+#[cfg(test)]
+mod bands;
+#[cfg(test)]
+mod kernel;
+#[cfg(test)]
+mod lines;
+#[cfg(test)]
+mod patterns;
+#[cfg(test)]
+mod rule;
+#[cfg(test)]
+mod tables;

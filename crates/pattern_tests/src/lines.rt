@@ -1,0 +1,43 @@
+// Lines and numbers of small texts.
+use pattern_lines::{number_in, split_line};
+use std::test::Fail;
+
+#[test]
+fn lines_by_their_texts(rt: HostRuntime) -> Result<(), Fail> {
+    let cases: [(&[u8], &[u8], bool, &[u8]); 6] = [
+        (b"3C!", b"3C!", false, b""),
+        (b"\n3C!", b"", true, b"3C!"),
+        (b"#C one\r\n\r\n", b"#C one", true, b"\r\n"),
+        (b"3C\r!\n", b"3C\r!", true, b""),
+        (b"3C!\r", b"3C!\r", false, b""),
+        (b"3C!\r\r\n", b"3C!\r", true, b""),
+    ];
+    for (text, bytes, is_ended, after) in &cases {
+        assert!(rt; !text.is_empty() && text.len() < 100);
+        let (line, rest) = split_line(6, text);
+        assert_eq!(rt; line.number, 7);
+        assert!(rt; line.bytes == *bytes && line.is_ended == *is_ended && rest == *after);
+    }
+    Ok(())
+}
+
+#[test]
+fn numbers_by_their_digits(rt: HostRuntime) -> Result<(), Fail> {
+    let cases: [(&[u8], Option<u64>); 8] = [
+        (b"0", Some(0)),
+        (b"007", Some(7)),
+        (b"18446744073709551615", Some(18_446_744_073_709_551_615)),
+        (
+            b"000018446744073709551615",
+            Some(18_446_744_073_709_551_615),
+        ),
+        (b"18446744073709551616", None),
+        (b"", None),
+        (b"+7", None),
+        (b"7 ", None),
+    ];
+    for (digits, number) in &cases {
+        assert_eq!(rt; number_in(digits), *number);
+    }
+    Ok(())
+}
