@@ -1,5 +1,5 @@
 -- What clap answers to the words of the program.
-use Rattle.std.proofs.Common.{◌≡◌, ◌∙◌, List, [], true, ap, sym, Result, Ok, map}
+use Rattle.std.proofs.Common.{◌≡◌, ◌∙◌, List, true, ap, sym, Ok}
 use Rattle.clap.specs.Faults.{fault_of, is_simple_and_free}
 use Rattle.clap.specs.Kinds.{FailsBy}
 use Rattle.clap.specs.Simple.{App, HasMatchesOf, is_simple, subcommand_of, subcommand_rows_of}
@@ -7,7 +7,6 @@ use Rattle.clap.specs.Takes.{takes}
 use Rattle.clap.specs.Values.{kind_of}
 use Rattle.clap.specs.Walk.{Text}
 use Rattle.clap.specs.declared.error.Error.{Error}
-use Rattle.clap.specs.declared.error.kind.ErrorKind.{ErrorKind}
 use Rattle.clap.specs.declared.error.kind.ErrorKind.TheVariants.{OutOfMemory}
 use Rattle.clap.specs.declared.parser.matches.ArgMatches.{ArgMatches}
 use Rattle.command_words.specs.App.{blifww_app}
