@@ -1,6 +1,6 @@
 -- What is answered to words in the plainest form of a command.
 use Rattle.std.proofs.Common.{◌≡◌, ◌∙◌, ◌≤◌, List, length, refl, sym, Option, Some, None, Ok, Err, Result, IfOk, IsErrOf}
-use Rattle.std.specs.Prelude.{MatchResult}
+use Rattle.std.specs.Prelude.{MatchResult, OnOk}
 use Rattle.clap.specs.Lexer.{usize_max}
 use Rattle.clap.specs.Walk.{Text}
 use Rattle.command_words.specs.Driven.{Reads}
@@ -9,6 +9,13 @@ use Rattle.command_words.specs.declared.command.Command.{Command}
 use Rattle.command_words.specs.declared.error.WordsError.{WordsError}
 use Rattle.command_words.specs.declared.error.WordsError.TheVariants.{NoMemory, Usage}
 use Rattle.command_words.proofs.Written.{well}
+
+pub OnOk-by : {P : Type 0} (r : Result Command WordsError) → P → OnOk r P
+OnOk-by (Ok c) p = p
+OnOk-by (Err e) p = tt
+
+pub err_inj : (r : Result Command WordsError) (a b : WordsError) → r ≡ Err a → r ≡ Err b → a ≡ b
+err_inj r a b p q = let e = sym p ∙ q in cc
 
 pub read_ok : (values : Option CommandValues) (r : Result Command WordsError) → Reads values r → IfOk r (λ c. values ≡ Some (values_of c))
 read_ok values (Ok c) is = is.0
@@ -19,7 +26,7 @@ read_numbers values (Ok c) is = is.1
 read_numbers values (Err e) is = tt
 
 pub read_usage : (values : Option CommandValues) (r : Result Command WordsError) → Reads values r → IsErrOf r Usage → values ≡ None
-read_usage values (Ok c) is e = absurd e
+read_usage values (Ok c) is e = cc
 read_usage values (Err Usage) is e = is
 read_usage values (Err NoMemory) is e = cc
 

@@ -1,14 +1,14 @@
 -- After the name of a command the words are its own.
-use Rattle.std.proofs.Common.{◌≡◌, ◌∙◌, ℕ, Bool, List, [], ◌∷◌, ◌++◌, ◌&&◌, ◌||◌, refl, codes, true, false, not, Some, None, Option, ap, ap₂, sym, option_map, is_some, rules}
+use Rattle.std.proofs.Common.{◌≡◌, ◌∙◌, Bool, List, [], ◌∷◌, ◌++◌, ◌&&◌, ◌||◌, refl, codes, true, false, not, Some, Option, ap, ap₂, option_map, is_some, rules}
 use Rattle.std.specs.Prelude.{fold, find}
 use Rattle.std.specs.Option.{option_map_or}
 use Rattle.std.specs.Str.{bytes_eq}
 use Rattle.std.proofs.lemmas.List.{append_assoc}
 use Rattle.clap.specs.Takes.{takes, built_takes, entered_passes, level_passes, walk_passes, turn_passes, settle_passes, is_valid, other_passes, step_passes}
 use Rattle.clap.specs.Simple.{App, Shape, entered, label_of, names_of, rows_at, subcommand_of}
-use Rattle.clap.specs.Walk.{Held, Names, Row, Step, Text, Walk, answers_to, walked, walk_from, nothing_held, idle, subcommand, rows_after, after_step, subcommand_or_other, stop_after, finished, word_met}
+use Rattle.clap.specs.Walk.{Held, Names, Step, Text, Walk, answers_to, walked, walk_from, nothing_held, idle, subcommand, rows_after, after_step, subcommand_or_other, stop_after, finished, word_met}
 use Rattle.command_words.specs.App.{blifww_app}
-use Rattle.command_words.proofs.Rules.{app_built, app_simple, built_app, leaf, shapes, top}
+use Rattle.command_words.proofs.Rules.{app_built, app_simple, built_app, shapes, top}
 
 abbrev pub names : Names
 names = names_of built_app

@@ -1,19 +1,18 @@
 -- Where clap takes the words, they name a command, and a command has values.
-use Rattle.std.proofs.Common.{◌≡◌, ◌∙◌, ◌⊎◌, inl, inr, ℕ, Bool, List, [], ◌∷◌, refl, codes, true, false, Some, None, Option, ap, ap₂, sym, subst, true≢false, option_map, option_and_then, is_some, unwrap_or}
+use Rattle.std.proofs.Common.{◌≡◌, ◌∙◌, ◌⊎◌, inl, inr, ℕ, Bool, List, [], ◌∷◌, refl, codes, true, false, Some, None, Option, ap, sym, subst, true≢false, option_map, option_and_then, is_some}
 use Rattle.std.specs.Prelude.{if◌then◌else◌, IfSome, find, drop}
 use Rattle.std.specs.List.{AllByRecursion}
 use Rattle.std.specs.Option.{option_map_or}
-use Rattle.std.specs.Str.{bytes_eq}
 use Rattle.std.proofs.lemmas.Bool.{and_parts}
 use Rattle.clap.specs.Simple.{App, Shape, entered, is_simple, label_of, names_of, rows_at, subcommand_of}
 use Rattle.clap.specs.Takes.{built_takes, entered_passes, level_passes, settle_passes, takes, walk_passes}
 use Rattle.clap.specs.Walk.{Row, Rule, Text, answers_to, first_of, nothing_held, rows_after, stop_after, walk, walk_from}
 use Rattle.command_words.specs.App.{blifww_app}
 use Rattle.command_words.specs.Numbers.{NumberRange, number_in, cycles_range, generation_range, x_range, y_range, width_range, height_range, seed_range, size_range}
-use Rattle.command_words.specs.Shapes.{CommandValues, IsCommand, MeetsRanges, command_values, number_met, simulate, eval, driven_by, probe_by, window_by, make_by, self_by, text_met, values_met}
+use Rattle.command_words.specs.Shapes.{CommandValues, IsCommand, MeetsRanges, command_values, number_met, simulate, eval, driven_by, probe_by, window_by, make_by, self_by, values_met}
 use Rattle.command_words.proofs.Entered.{names}
 use Rattle.command_words.proofs.Given.{AreGiven, IsOwn, required_given}
-use Rattle.command_words.proofs.Rules.{app_built, app_simple, built_app, leaf, option_rule, words_rule, driven_rules, probe_rules, window_rules, make_rules, self_rules, shapes, top}
+use Rattle.command_words.proofs.Rules.{app_built, built_app, leaf, option_rule, words_rule, driven_rules, probe_rules, window_rules, make_rules, self_rules, shapes, top}
 
 -- what was met is the command with this shape, with words that clap takes
 abbrev IsMet : Option (Text × List Row) → Shape → Type 0

@@ -1,6 +1,7 @@
 -- What building makes of the command line: the shape of each command.
-use Rattle.std.proofs.Common.{◌≡◌, ◌∙◌, Bool, List, [], ◌∷◌, refl, codes, true, false, Some, None, ap}
+use Rattle.std.proofs.Common.{◌≡◌, Bool, List, [], ◌∷◌, refl, codes, true, false, Some, None}
 use Rattle.clap.specs.Lexer.{usize_max}
+use Rattle.clap.specs.Faults.{is_simple_and_free}
 use Rattle.clap.specs.Simple.{App, Shape, built, is_simple, new_shape}
 use Rattle.clap.specs.Walk.{Rule, Text}
 use Rattle.clap.specs.declared.builder.action.ArgAction.TheVariants.{Set, Append}
@@ -102,3 +103,6 @@ app_built = refl
 
 pub app_simple : is_simple blifww_app ≡ true
 app_simple = refl
+
+pub app_free : is_simple_and_free blifww_app ≡ true
+app_free = refl

@@ -1,16 +1,14 @@
 -- The walk of clap over the words of a command in its plainest form: its options, each as two words, and then words of any number.
-use Rattle.std.proofs.Common.{◌≡◌, ◌∙◌, ℕ, Bool, List, [], ◌∷◌, ◌++◌, ◌==◌, ◌&&◌, ◌||◌, length, refl, codes, true, false, Some, None, Option, rules, ap, ap₂, nat_le, sym}
+use Rattle.std.proofs.Common.{◌≡◌, ◌∙◌, ℕ, Bool, List, [], ◌∷◌, ◌++◌, ◌==◌, ◌&&◌, ◌||◌, refl, codes, true, false, Some, None, Option, rules, ap, ap₂}
 use Rattle.std.specs.Prelude.{⊤, fold, if◌then◌else◌, nat_lt}
-use Rattle.std.specs.List.{list_all, AllByRecursion}
+use Rattle.std.specs.List.{AllByRecursion}
 use Rattle.std.specs.Option.{option_map_or}
 use Rattle.std.specs.Str.{bytes_eq}
 use Rattle.std.proofs.lemmas.List.{append_assoc}
 use Rattle.std.proofs.lemmas.Bool.{and_parts}
-use Rattle.clap.specs.Lexer.{strip_byte, usize_max, long_of, short_of}
-use Rattle.clap.specs.Takes.{walk_passes, turn_passes, values_pass, value_passes, settle_passes, long_passes, flag_word_passes, word_passes, step_passes, positional_passes}
-use Rattle.clap.specs.Simple.{Shape}
-use Rattle.clap.specs.Walk.{Held, Row, Rule, Step, Text, Waiting, Walk, walked, walk_from, nothing_held, idle, option, positional, next, value, trailing, after_flag, after_step, long_met, long_or_other, plain_word, option_word, pushed, settled_rows, subcommand_or_other, to_positional, positional_held, is_pending, word_met, arg_by_id, arg_by_index, arg_by_long}
-use Rattle.clap.proofs.OnLiterals.{clap_on_literals}
+use Rattle.clap.specs.Lexer.{strip_byte, long_of}
+use Rattle.clap.specs.Takes.{walk_passes, turn_passes, settle_passes, long_passes, flag_word_passes, step_passes, positional_passes}
+use Rattle.clap.specs.Walk.{Held, Row, Rule, Step, Text, Waiting, Walk, walked, idle, option, positional, next, value, trailing, after_flag, after_step, long_met, long_or_other, plain_word, option_word, pushed, settled_rows, subcommand_or_other, to_positional, is_pending, word_met, arg_by_id, arg_by_index, arg_by_long}
 use Rattle.command_words.specs.Shapes.{option_words}
 use Rattle.command_words.proofs.Rules.{leaf, option_rule, words_rule}
 

@@ -1,24 +1,24 @@
 -- A command in its plainest form is a command, with the values that it is written with.
 use Rattle.std.proofs.Common.{◌≡◌, ◌∙◌, ◌≤◌, ℕ, Bool, List, [], ◌∷◌, ◌++◌, ◌==◌, ◌&&◌, length, refl, codes, true, false, not, Some, None, Option, rules, ap, ap₂, sym, true≢false, arith, suc, option_map, option_and_then, is_some, subst, map, nat_le, unwrap_or}
-use Rattle.std.specs.Prelude.{⊤, IfSome, if◌then◌else◌, find}
+use Rattle.std.specs.Prelude.{⊤, if◌then◌else◌, find}
 use Rattle.std.specs.List.{list_all, AllByRecursion}
 use Rattle.std.specs.Option.{option_map_or}
 use Rattle.std.specs.Str.{bytes_eq}
 use Rattle.std.specs.Str.Parse.{digits_value}
 use Rattle.std.proofs.lemmas.Bool.{and_parts, leb-true}
 use Rattle.clap.specs.Lexer.{usize_max}
-use Rattle.clap.specs.Takes.{takes, default_passes, is_valid, settle_passes, use_passes, values_pass, value_passes}
-use Rattle.clap.specs.Walk.{Row, Rule, Text, Walk, all_of, arg_by_id, arg_by_index, first_of, finished, settled_rows}
-use Rattle.clap.specs.Simple.{Shape, subcommand_of}
+use Rattle.clap.specs.Takes.{takes, default_passes, is_valid, settle_passes, use_passes, values_pass}
+use Rattle.clap.specs.Walk.{Row, Rule, Text, Walk, arg_by_id, arg_by_index, first_of, finished, settled_rows}
+use Rattle.clap.specs.Simple.{subcommand_of}
 use Rattle.clap.specs.declared.parser.matches.ValueSource.TheVariants.{CommandLine}
 use Rattle.clap.specs.declared.builder.value_parser.Reading.TheVariants.{AsWritten}
 use Rattle.command_words.specs.App.{blifww_app}
-use Rattle.command_words.specs.Numbers.{NumberRange, are_digits, number_between, number_in, cycles_range, generation_range, x_range, y_range, width_range, height_range, seed_range, size_range}
-use Rattle.command_words.specs.Shapes.{CommandValues, compile, simulate, eval, probe, window, make, self_, driven_by, probe_by, window_by, values_met, command_values, is_plain_word, number_met, option_words, streams_met, view_met, IsCommand, IsDriven, IsPlain, IsWritten, GivesPath, MeetsRanges, Writes}
+use Rattle.command_words.specs.Numbers.{NumberRange, are_digits, number_in, cycles_range, generation_range, x_range, y_range, width_range, height_range, seed_range, size_range}
+use Rattle.command_words.specs.Shapes.{CommandValues, compile, simulate, eval, probe, window, make, self_, driven_by, values_met, command_values, is_plain_word, option_words, streams_met, IsCommand, IsDriven, IsPlain, IsWritten, GivesPath, MeetsRanges, Writes}
 use Rattle.command_words.specs.declared.command.View.{View}
 use Rattle.command_words.proofs.Entered.{IsNamed, entered_own, takes_own}
-use Rattle.command_words.proofs.Rules.{leaf, option_rule, words_rule, driven_rules, probe_rules, window_rules, make_rules, self_rules}
-use Rattle.command_words.proofs.Walks.{HasNoHyphen, HaveWords, IsGiven, IsOption, Pending, all_pass, all_walked, options_pass, plain_walk, standing}
+use Rattle.command_words.proofs.Rules.{leaf, words_rule, driven_rules, probe_rules, window_rules, make_rules, self_rules}
+use Rattle.command_words.proofs.Walks.{HasNoHyphen, HaveWords, IsGiven, IsOption, Pending, all_pass, all_walked, options_pass, plain_walk}
 
 -- ---- values are no flags
 
@@ -356,7 +356,7 @@ three f a b c m n k e g h = rw (e, g, h) refl
 
 five : (a b c d e : Option ℕ) (v : View) → a ≡ Some v.generation → b ≡ Some v.x → c ≡ Some v.y → d ≡ Some v.width → e ≡ Some v.height
     → option_and_then (λ g. option_and_then (λ x. option_and_then (λ y. option_and_then (λ w. option_map (λ h.
-      record { generation = g; x = x; y = y; width = w; height = h }) e) d) c) b) a ≡ Some v
+    record { generation = g; x = x; y = y; width = w; height = h }) e) d) c) b) a ≡ Some v
 five a b c d e v ea eb ec ed ee = rw (ea, eb, ec, ed, ee) refl
 
 driven_valued : (command : ℕ → List Text → CommandValues) (n : Text) (cycles : ℕ) (streams : List Text) → HasNoHyphen n → Writes cycles_range n cycles
@@ -373,7 +373,6 @@ no_path : (n net : Text) (streams : List Text) → first_of (codes "path") (rows
 no_path n net [] = refl
 no_path n net (v ∷ vs) = refl
 
-
 -- what is said of a command and words in its plainest form
 pub record IsWell (v : CommandValues) (words : List Text) : Type 0 where
   pub command : length words ≤ usize_max → IsCommand words
@@ -389,8 +388,8 @@ driven_well command by_cycles cycles streams words reads by w =
     record {
       command = λ short. plain_command command driven_rules options streams words w.1 (reads n plain) short (driven_ranges command n streams (is_written _ cycles w.2));
       values =
-        plain_values command driven_rules options streams words w.1 (reads n plain) (by_cycles cycles streams)
-        (by (rows_for options streams) ∙ driven_valued by_cycles n cycles streams plain w.2);
+          plain_values command driven_rules options streams words w.1 (reads n plain) (by_cycles cycles streams)
+          (by (rows_for options streams) ∙ driven_valued by_cycles n cycles streams plain w.2);
     }
 
 probe_well : (cycles : ℕ) (net path : Text) (streams words : List Text) (n : Text) (options : List (Text × Text))
@@ -403,10 +402,10 @@ probe_well cycles net path streams words n [] w e plain is =
     record {
       command = λ short. plain_command (codes "probe") probe_rules options streams words w read short (probe_ranges (codes "probe") n net streams (is_written _ cycles e));
       values =
-        plain_values (codes "probe") probe_rules options streams words w read (probe cycles net path streams)
-        (ap (λ (o : Option Text). option_and_then (λ c. Some (probe c net (unwrap_or o (codes "-")) (streams_met rows))) (number_in cycles_range n)) (no_path n net streams)
-        ∙ ap (λ (t : Text). option_and_then (λ c. Some (probe c net t (streams_met rows))) (number_in cycles_range n)) (sym is)
-        ∙ probe_valued (number_in cycles_range n) net path cycles (streams_met rows) streams e (words_met probe_rules options streams read.given));
+          plain_values (codes "probe") probe_rules options streams words w read (probe cycles net path streams)
+          (ap (λ (o : Option Text). option_and_then (λ c. Some (probe c net (unwrap_or o (codes "-")) (streams_met rows))) (number_in cycles_range n)) (no_path n net streams)
+          ∙ ap (λ (t : Text). option_and_then (λ c. Some (probe c net t (streams_met rows))) (number_in cycles_range n)) (sym is)
+          ∙ probe_valued (number_in cycles_range n) net path cycles (streams_met rows) streams e (words_met probe_rules options streams read.given));
     }
 probe_well cycles net path streams words n (p ∷ []) w e plain is =
     subst (λ (q : Text × Text). IsPlain (codes "probe") ((codes "cycles", n) ∷ (codes "net", net) ∷ q ∷ []) streams words → IsWell (probe cycles net path streams) words) (sym is.0) given w
@@ -418,8 +417,8 @@ probe_well cycles net path streams words n (p ∷ []) w e plain is =
         record {
           command = λ short. plain_command (codes "probe") probe_rules options streams words w read short (path_ranges (codes "probe") n net path streams (is_written _ cycles e));
           values =
-            plain_values (codes "probe") probe_rules options streams words w read (probe cycles net path streams)
-            (probe_valued (number_in cycles_range n) net path cycles (streams_met (rows_for options streams)) streams e (words_met probe_rules options streams read.given));
+              plain_values (codes "probe") probe_rules options streams words w read (probe cycles net path streams)
+              (probe_valued (number_in cycles_range n) net path cycles (streams_met (rows_for options streams)) streams e (words_met probe_rules options streams read.given));
         }
 probe_well cycles net path streams words n (p ∷ q ∷ options) w e plain is = absurd is
 
@@ -440,15 +439,15 @@ well (window view streams) words p =
     let h = p.4 in
     let options = (codes "gen", g) ∷ (codes "x", x) ∷ (codes "y", y) ∷ (codes "width", w) ∷ (codes "height", h) ∷ [] in
     let read =
-        window_read g x y w h streams (number_plain generation_range g view.generation p.6) (number_plain x_range x view.x p.7) (number_plain y_range y view.y p.8)
-        (number_plain width_range w view.width p.9) (number_plain height_range h view.height p.10) in
+    window_read g x y w h streams (number_plain generation_range g view.generation p.6) (number_plain x_range x view.x p.7) (number_plain y_range y view.y p.8)
+    (number_plain width_range w view.width p.9) (number_plain height_range h view.height p.10) in
     let viewed = five (number_in generation_range g) (number_in x_range x) (number_in y_range y) (number_in width_range w) (number_in height_range h) view p.6 p.7 p.8 p.9 p.10 in
     record {
       command = λ short. plain_command (codes "window") window_rules options streams words p.5 read short
-        (window_ranges (codes "window") g x y w h streams (is_written _ view.generation p.6) (is_written _ view.x p.7) (is_written _ view.y p.8) (is_written _ view.width p.9) (is_written _ view.height p.10));
+          (window_ranges (codes "window") g x y w h streams (is_written _ view.generation p.6) (is_written _ view.x p.7) (is_written _ view.y p.8) (is_written _ view.width p.9) (is_written _ view.height p.10));
       values =
-        plain_values (codes "window") window_rules options streams words p.5 read (window view streams)
-        (ap₂ (λ (o : Option View) (ws : List Text). option_map (λ v. window v ws) o) viewed (words_met window_rules options streams read.given));
+          plain_values (codes "window") window_rules options streams words p.5 read (window view streams)
+          (ap₂ (λ (o : Option View) (ws : List Text). option_map (λ v. window v ws) o) viewed (words_met window_rules options streams read.given));
     }
 well (make seed size) words p =
     let s = p.0 in
@@ -458,8 +457,8 @@ well (make seed size) words p =
     record {
       command = λ short. plain_command (codes "make") make_rules options [] words p.2 read short (make_ranges (codes "make") s k (is_written _ seed p.3) (is_written _ size p.4));
       values =
-        plain_values (codes "make") make_rules options [] words p.2 read (make seed size)
-        (two (λ a b. make a b) (number_in seed_range s) (number_in size_range k) seed size p.3 p.4);
+          plain_values (codes "make") make_rules options [] words p.2 read (make seed size)
+          (two (λ a b. make a b) (number_in seed_range s) (number_in size_range k) seed size p.3 p.4);
     }
 well (self_ seed size cycles) words p =
     let s = p.0 in
@@ -469,8 +468,8 @@ well (self_ seed size cycles) words p =
     let read = self_read s k n (number_plain seed_range s seed p.4) (number_plain size_range k size p.5) (number_plain cycles_range n cycles p.6) in
     record {
       command = λ short. plain_command (codes "self") self_rules options [] words p.3 read short
-        (self_ranges (codes "self") s k n (is_written _ seed p.4) (is_written _ size p.5) (is_written _ cycles p.6));
+          (self_ranges (codes "self") s k n (is_written _ seed p.4) (is_written _ size p.5) (is_written _ cycles p.6));
       values =
-        plain_values (codes "self") self_rules options [] words p.3 read (self_ seed size cycles)
-        (three (λ a b c. self_ a b c) (number_in seed_range s) (number_in size_range k) (number_in cycles_range n) seed size cycles p.4 p.5 p.6);
+          plain_values (codes "self") self_rules options [] words p.3 read (self_ seed size cycles)
+          (three (λ a b c. self_ a b c) (number_in seed_range s) (number_in size_range k) (number_in cycles_range n) seed size cycles p.4 p.5 p.6);
     }

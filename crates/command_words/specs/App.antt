@@ -1,5 +1,5 @@
 -- The command line as clap sees it: one required subcommand, each with its options of one value, and its last words.
-use Rattle.std.specs.Prelude.{ℕ, List, [], ◌∷◌, Some, codes, true}
+use Rattle.std.specs.Prelude.{List, [], ◌∷◌, Some, codes, true}
 use Rattle.clap.specs.Walk.{Rule, Text}
 use Rattle.clap.specs.Simple.{App, new_app, new_rule, with_rule, with_subcommand}
 use Rattle.clap.specs.Lexer.{usize_max}

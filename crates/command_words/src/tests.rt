@@ -84,7 +84,8 @@ const CASES: &[(&[&str], Asked)] = &[
     (&["blifww", "probe", "--cycles", "1", "a=1"], Asked::Usage),
     (
         &[
-            "blifww", "window", "--gen", "1", "--x", "0", "--y", "0", "--width", "3", "--height", "2", "a=1",
+            "blifww", "window", "--gen", "1", "--x", "0", "--y", "0", "--width", "3", "--height",
+            "2", "a=1",
         ],
         Asked::Window(
             View {
@@ -99,7 +100,8 @@ const CASES: &[(&[&str], Asked)] = &[
     ),
     (
         &[
-            "blifww", "window", "--gen", "1", "--x", "0", "--y", "0", "--width", "0", "--height", "2",
+            "blifww", "window", "--gen", "1", "--x", "0", "--y", "0", "--width", "0", "--height",
+            "2",
         ],
         Asked::Usage,
     ),
@@ -162,7 +164,8 @@ fn is_asked(command: &Command, asked: Asked) -> bool {
         (Command::Window { view, streams }, Asked::Window(asked, words)) => {
             *view == asked && are_words(streams.as_slice(), words)
         }
-        (Command::Make { seed, size }, Asked::Make(first, count)) => *seed == first && *size == count,
+        (Command::Make { seed, size }, Asked::Make(first, count)) => *seed == first
+            && *size == count,
         (Command::Self_ { seed, size, cycles }, Asked::OfMade(first, count, many)) => {
             *seed == first && *size == count && *cycles == many
         }
