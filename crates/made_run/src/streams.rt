@@ -17,7 +17,7 @@ fn draw_stream(alloc: Global, state: &mut u32, cycles: usize) -> Result<Vec<bool
     ensures range { OnOk result (state.new < 2 ^ 31) }
 {
     let mut stream = Vec::with_capacity(alloc, cycles)?;
-    for _cycle in 0..cycles {
+    for cycle in 0..cycles {
         stream.push(draw(state, 2) == 1)?;
     }
     Ok(stream)
@@ -30,7 +30,7 @@ pub fn draw_streams(alloc: Global, state: u32, cycles: usize) -> Result<Streams,
 {
     let mut state = state;
     let mut bits = Vec::new(alloc);
-    for _input in 0..4 {
+    for input in 0..4 {
         bits.push(List::of(draw_stream(alloc, &mut state, cycles)?))?;
     }
     Ok(Streams {

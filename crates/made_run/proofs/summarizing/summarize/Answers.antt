@@ -56,7 +56,7 @@ outputs_by_name-requires-clause-evaluated c =
 
 pub returns-in_err-simulated-clause-refused : goal.returns-in_err-simulated-clause-refused
 returns-in_err-simulated-clause-refused c =
-    let p = err_from_is_err_and c.from_residual.result c.from_residual.ensures.1 in
+    let p = err_from_is_err_and c.from_residual-in_err-simulated.result c.from_residual-in_err-simulated.ensures.1 in
     let are = c.in_ok-streams.ensures ∙ ap (λ (s : ℕ). streams_after s c.args.cycles) c.in_ok-made.ensures.state in
     rw (p.1, p.2) (not_run c.args.seed c.args.size c.args.cycles c.in_ok-made.made.netlist c.in_ok-made.made.planned c.in_ok-streams.streams c.in_ok-made.ensures.plan are c.in_err-simulated.field-0.0 c.in_err-simulated.ensures.refused)
 
@@ -83,25 +83,25 @@ returns-in_err-made-clause-refused c =
 
 pub returns-in_err-streams-clause-refused : goal.returns-in_err-streams-clause-refused
 returns-in_err-streams-clause-refused c =
-    let p = err_from_is_err_and c.from_residual.result c.from_residual.ensures.1 in
+    let p = err_from_is_err_and c.from_residual-in_err-streams.result c.from_residual-in_err-streams.ensures.1 in
     rw (p.1, p.2) tt
 
 pub returns-in_err-pattern-clause-refused : goal.returns-in_err-pattern-clause-refused
 returns-in_err-pattern-clause-refused c =
-    let p = err_from_is_err_and c.from_residual.result c.from_residual.ensures.1 in
+    let p = err_from_is_err_and c.from_residual-in_err-pattern.result c.from_residual-in_err-pattern.ensures.1 in
     rw (p.1, p.2) tt
 
 pub returns-in_err-names-clause-refused : goal.returns-in_err-names-clause-refused
 returns-in_err-names-clause-refused c =
-    let p = err_from_is_err_and c.from_residual.result c.from_residual.ensures.1 in
+    let p = err_from_is_err_and c.from_residual-in_err-names.result c.from_residual-in_err-names.ensures.1 in
     rw (p.1, p.2) tt
 
 pub returns-in_err-evaluated-clause-refused : goal.returns-in_err-evaluated-clause-refused
 returns-in_err-evaluated-clause-refused c =
-    let p = err_from_is_err_and c.from_residual.result c.from_residual.ensures.1 in
+    let p = err_from_is_err_and c.from_residual-in_err-evaluated.result c.from_residual-in_err-evaluated.ensures.1 in
     rw (p.1, p.2) tt
 
 pub returns-in_err-outputs-clause-refused : goal.returns-in_err-outputs-clause-refused
 returns-in_err-outputs-clause-refused c =
-    let p = err_from_is_err_and c.from_residual.result c.from_residual.ensures.1 in
+    let p = err_from_is_err_and c.from_residual-in_err-outputs.result c.from_residual-in_err-outputs.ensures.1 in
     rw (p.1, p.2) tt
