@@ -1,9 +1,9 @@
 // Worked values: plans of small programs.
 ghost use Rattle.std.specs.Prelude.{◌≡◌, IfOk, length};
 
-use latch_loops::close;
 use column_packer::pack;
 use lane_core::{Instr, NetPlace, Program, latency, period};
+use latch_loops::close;
 use lists::List;
 use std::alloc::{AllocError, Global};
 use std::test::Fail;

@@ -1,8 +1,8 @@
 // Signals of small plans, and the rules of ports.
 
-use macro_grid::{Edges, admissible, macro_step};
 use lane_core::{Column, Instr, Plan};
 use lists::List;
+use macro_grid::{Edges, admissible, macro_step};
 use std::alloc::{AllocError, Global};
 use std::test::Fail;
 

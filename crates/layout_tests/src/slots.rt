@@ -2,9 +2,9 @@
 ghost use Rattle.std.specs.Prelude.{IfOk};
 ghost use Rattle.lane_core.specs.Plans.{IsAdmissible};
 
-use plan_layout::{Piece, Slot, slot_at};
 use lane_core::{Column, Instr, Plan};
 use lists::List;
+use plan_layout::{Piece, Slot, slot_at};
 use std::alloc::{AllocError, Global};
 use std::test::Fail;
 use tile_core::Kind;

@@ -1,9 +1,9 @@
 // The rows of the timing law's test, and the page of all tiles.
-use tile_library::{Shipped, tiles};
 use page::PAGE;
 use std::alloc::{AllocError, Global};
 use std::test::Fail;
 use tile_core::{Kind, Library, Tile};
+use tile_library::{Shipped, tiles};
 use tile_timing::law_holds;
 use ww_rule::State;
 

@@ -1,6 +1,6 @@
 // A window's step, on an electron.
-use tile_timing::window_step;
 use std::test::Fail;
+use tile_timing::window_step;
 use ww_rule::State;
 
 #[test]

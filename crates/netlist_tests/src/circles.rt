@@ -1,5 +1,5 @@
-use model_circles::circle_fault;
 use lists::{Bytes, List};
+use model_circles::circle_fault;
 use named_models::NamedModels;
 use netlist_core::{Model, Subckt};
 use netlist_rules::Fault;

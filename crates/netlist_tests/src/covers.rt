@@ -2,8 +2,8 @@
 ghost use Rattle.std.specs.Prelude.{◌≡◌, length};
 ghost use Rattle.cell_core.specs.Sources.{are_there};
 
-use cover_cells::{Places, map_cover};
 use cell_core::{CellError, CellList, Src};
+use cover_cells::{Places, map_cover};
 use lists::{Bytes, List};
 use std::alloc::Global;
 use std::test::Fail;

@@ -1,6 +1,6 @@
 // Texts, and what each of them says: rows in the letters of extended RLE, or a fault and its line.
-use rle_read::{RleFault, RleReadError, read};
 use pattern_reading::RleFaultKind;
+use rle_read::{RleFault, RleReadError, read};
 use std::alloc::{AllocError, Global};
 use std::test::Fail;
 use ww_rule::{Pattern, State};

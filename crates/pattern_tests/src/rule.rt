@@ -1,10 +1,10 @@
 // Small patterns by hand, in the letters of RLE: '.' is empty, A a head, B a tail and C a conductor.
 ghost use Rattle.std.specs.Prelude.{◌≡◌, length, IfOk};
 
-use ww_rule::{Pattern, Plane, RuleError, State, mirror_x, step_driven, step_plain};
 use lists::List;
 use std::alloc::Global;
 use std::test::Fail;
+use ww_rule::{Pattern, Plane, RuleError, State, mirror_x, step_driven, step_plain};
 
 fn state_of(letter: u8) -> State {
     match letter {
