@@ -15,6 +15,15 @@ fn driven(
     run_over(alloc, &given, text, (4096, &[]), (99, 99))
 }
 
+const COUNTER: &[u8] =
+    b".model k\n.outputs q0 q1\n.latch n0 q0 0\n.latch n1 q1 0\n.names q0 n0\n0 1\n.names q0 q1 n1\n10 1\n01 1\n.end\n";
+
+const TOGGLE: &[u8] = b".model t\n.outputs q\n.latch n q 0\n.names q n\n0 1\n.end\n";
+
+// An adder of two bits, of two full adders.
+const ADDER: &[u8] =
+    b".model add\n.inputs a0 a1 b0 b1 ci\n.outputs s0 s1 c\n.subckt fa a=a0 b=b0 c=ci s=s0 co=k\n.subckt fa a=a1 b=b1 c=k s=s1 co=c\n.end\n.model fa\n.inputs a b c\n.outputs s co\n.names a b c s\n100 1\n010 1\n001 1\n111 1\n.names a b c co\n11- 1\n1-1 1\n-11 1\n.end\n";
+
 #[test]
 fn what_compile_writes_shows_the_netlist(rt: HostRuntime) -> Result<(), Fail> {
     let alloc = rt.alloc();
@@ -44,11 +53,7 @@ fn what_compile_writes_shows_the_netlist(rt: HostRuntime) -> Result<(), Fail> {
             &["3"],
             b"y=000\n",
         ),
-        (
-            b".model t\n.outputs q\n.latch n q 0\n.names q n\n0 1\n.end\n",
-            &["4"],
-            b"q=0101\n",
-        ),
+        (TOGGLE, &["4"], b"q=0101\n"),
         (
             b".model r\n.inputs d\n.outputs q\n.latch d q 1\n.end\n",
             &["4", "d=0010"],
@@ -58,6 +63,27 @@ fn what_compile_writes_shows_the_netlist(rt: HostRuntime) -> Result<(), Fail> {
             b".model x\n.inputs a b\n.outputs p q\n.names b p\n1 1\n.names a q\n1 1\n.end\n",
             &["4", "a=0011", "b=0101"],
             b"p=0101\nq=0011\n",
+        ),
+        (
+            b".model r\n.inputs d\n.outputs q\n.latch d q\n.end\n",
+            &["2", "d=11"],
+            b"q=01\n",
+        ),
+        (
+            b".model f\n.inputs a\n.outputs y0 y1 y2 y3 y4\n.names a y0\n1 1\n.names a y1\n1 1\n.names a y2\n1 1\n.names a y3\n1 1\n.names a y4\n1 1\n.end\n",
+            &["2", "a=01"],
+            b"y0=01\ny1=01\ny2=01\ny3=01\ny4=01\n",
+        ),
+        (COUNTER, &["5"], b"q0=01010\nq1=00110\n"),
+        (
+            ADDER,
+            &["1", "a0=1", "a1=1", "b0=1", "b1=0", "ci=0"],
+            b"s0=0\ns1=0\nc=1\n",
+        ),
+        (
+            b".model m\n.inputs d \\\nclk # two\n.outputs q\n.latch d q re clk 2\n.end\n",
+            &["2", "d=10"],
+            b"q=01\n",
         ),
     ] {
         let compiled = run_over(
@@ -74,6 +100,69 @@ fn what_compile_writes_shows_the_netlist(rt: HostRuntime) -> Result<(), Fail> {
         let evaluated = driven(alloc, "eval", words, text)?;
         assert_eq!(rt; evaluated.status, 0);
         assert_eq!(rt; evaluated.out.as_slice(), lines);
+    }
+    Ok(())
+}
+
+#[test]
+fn each_net_can_be_probed(rt: HostRuntime) -> Result<(), Fail> {
+    let alloc = rt.alloc();
+    for (text, words, nets) in [
+        (
+            TOGGLE,
+            ["4"].as_slice(),
+            [("q", "-", "0101"), ("n", "-", "1010")].as_slice(),
+        ),
+        (
+            COUNTER,
+            &["5"],
+            &[
+                ("q0", "-", "01010"),
+                ("q1", "-", "00110"),
+                ("n0", "-", "10101"),
+                ("n1", "-", "01100"),
+            ],
+        ),
+        (
+            ADDER,
+            &["1", "a0=1", "a1=1", "b0=1", "b1=0", "ci=0"],
+            &[
+                ("a0", "-", "1"),
+                ("b1", "-", "0"),
+                ("s0", "-", "0"),
+                ("c", "-", "1"),
+                ("k", "-", "1"),
+                ("a", "0", "1"),
+                ("b", "0", "1"),
+                ("c", "0", "0"),
+                ("s", "0", "0"),
+                ("co", "0", "1"),
+                ("a", "1", "1"),
+                ("b", "1", "0"),
+                ("c", "1", "1"),
+                ("s", "1", "0"),
+                ("co", "1", "1"),
+            ],
+        ),
+    ] {
+        let compiled = run_over(
+            alloc,
+            &["blifww", "compile"],
+            text,
+            (4096, &[]),
+            (1 << 16, 0),
+        )?;
+        assert_eq!(rt; compiled.status, 0);
+        for (net, path, bits) in nets {
+            let mut given = vec![in alloc; words[0], "--net", *net, "--path", *path]?;
+            given.extend_from_slice(&words[1..])?;
+            let probed = driven(alloc, "probe", &given, &compiled.out)?;
+            assert_eq!(rt; probed.status, 0, "{net} {path}");
+            assert_eq!(rt;
+                probed.out.as_slice(),
+                format!(in alloc; "{net}={bits}\n")?.as_bytes()
+            );
+        }
     }
     Ok(())
 }

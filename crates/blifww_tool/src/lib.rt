@@ -27,4 +27,6 @@ mod compile_tests;
 #[cfg(test)]
 mod eval_tests;
 #[cfg(test)]
+mod hierarchy_tests;
+#[cfg(test)]
 mod tests;

@@ -102,7 +102,8 @@ pub fn run<S: Source, O: Sink, E: Sink>(
     ensures headline { result ≡ 0 → Asks (map string_bytes words.now) compile
         → WritesWhatItRead (reading S.left S.faults src.old src.new) (writing O.written O.faults out.old out.new) }
 
-    // How the run ends, for every command: done, refused or cut off, each status only where its cause is and wherever it is.
+    // How the run ends, for every command: done, refused or cut off, each status only where its cause is; and a cause in the words or the
+    // text is told wherever it is, but for failed reads and writes and want of memory.
     ensures ends { Ends (call (map string_bytes words.now) (reading S.left S.faults src.old src.new)
         (writing O.written O.faults out.old out.new) (writing E.written E.faults err.old err.new)) result }
 

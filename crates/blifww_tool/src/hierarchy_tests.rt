@@ -1,0 +1,91 @@
+// Runs of `eval` on models inside models.
+use crate::tests::run_over;
+use itoa::Buffer;
+use std::alloc::Global;
+use std::test::Fail;
+
+// Models each of which places the next, the last of which turns its input.
+fn chain(alloc: Global, models: usize) -> Result<Vec<u8>, Fail> {
+    let mut text = Vec::new(alloc);
+    let mut digits = Buffer::new();
+    for k in 0..models {
+        text.extend_from_slice(b".model c")?;
+        text.extend_from_slice(digits.format(k).as_bytes())?;
+        text.extend_from_slice(b"\n.inputs a\n.outputs y\n.subckt c")?;
+        text.extend_from_slice(digits.format(k + 1).as_bytes())?;
+        text.extend_from_slice(b" a=a y=y\n.end\n")?;
+    }
+    text.extend_from_slice(b".model c")?;
+    text.extend_from_slice(digits.format(models).as_bytes())?;
+    text.extend_from_slice(b"\n.inputs a\n.outputs y\n.names a y\n0 1\n.end\n")?;
+    Ok(text)
+}
+
+// A model that places another so many times.
+fn broad(alloc: Global, places: usize) -> Result<Vec<u8>, Fail> {
+    let mut text = b".model m\n.outputs y\n.names y\n1\n".to_vec(alloc)?;
+    for _ in 0..places {
+        text.extend_from_slice(b".subckt leaf\n")?;
+    }
+    text.extend_from_slice(b".end\n.model leaf\n.end\n")?;
+    Ok(text)
+}
+
+#[test]
+fn models_inside_models_show_their_run(rt: HostRuntime) -> Result<(), Fail> {
+    let alloc = rt.alloc();
+    for (words, text, out) in [
+        (
+            ["blifww", "eval", "--cycles", "3", "a=011"].as_slice(),
+            chain(alloc, 300)?,
+            b"y=100\n".as_slice(),
+        ),
+        (
+            &["blifww", "eval", "--cycles", "1"],
+            broad(alloc, 500)?,
+            b"y=1\n",
+        ),
+        // a net that goes in through two formals and comes out through a third
+        (
+            &["blifww", "eval", "--cycles", "4"],
+            b".model m\n.outputs n\n.subckt p u=n v=n w=n\n.end\n.model p\n.inputs u v\n.outputs w\n.names u v d\n00 1\n.latch d w 0\n.end\n".to_vec(
+                alloc,
+            )?,
+            b"n=0101\n",
+        ),
+    ] {
+        let got = run_over(alloc, words, text.as_slice(), (16, &[]), (99, 0))?;
+        assert_eq!(rt; got.status, 0);
+        assert_eq!(rt; got.out.as_slice(), out);
+        assert_eq!(rt; got.err.as_slice(), b"".as_slice());
+    }
+    Ok(())
+}
+
+#[test]
+fn circles_through_models_are_refused(rt: HostRuntime) -> Result<(), Fail> {
+    for (text, status, line) in [
+        (
+            b".model a\n.subckt b\n.end\n.model b\n.subckt a\n".as_slice(),
+            1,
+            b"B19 Recursive line 2: a b\n".as_slice(),
+        ),
+        (
+            b".model m\n.outputs y\n.subckt i a=y z=y\n.end\n.model i\n.inputs a\n.outputs z\n.names a z\n0 1\n",
+            3,
+            b"loop: y\n",
+        ),
+    ] {
+        let got = run_over(
+            rt.alloc(),
+            &["blifww", "eval", "--cycles", "1"],
+            text,
+            (16, &[]),
+            (99, 99),
+        )?;
+        assert_eq!(rt; got.status, status);
+        assert_eq!(rt; got.out.as_slice(), b"".as_slice());
+        assert_eq!(rt; got.err.as_slice(), line);
+    }
+    Ok(())
+}
