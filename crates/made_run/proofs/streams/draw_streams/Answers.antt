@@ -1,7 +1,6 @@
 use Rattle.std.proofs.Common.{ℕ, ◌≡◌, ◌∙◌, sym, ap, Bool, List, [], ◌∷◌, ◌++◌, map, ◌*◌, ◌+◌, arith}
 use Rattle.std.specs.List.{range_with_len}
 use Rattle.std.proofs.lemmas.List.FromFn.{map-range_with_len_more}
-use Rattle.drive.specs.declared.streams.Streams.{Streams}
 use Rattle.made_run.specs.Streams.{stream_after}
 use Rattle.made_run.proofs.Drawn.{one_stream}
 use Rattle.made_run.proofs.streams.draw_streams.Goals as goal
