@@ -1,10 +1,7 @@
 -- Few enough cycles are in time.
-use Rattle.std.proofs.Common.{ℕ, ◌≡◌, ◌≤◌, ◌<◌, ◌+◌, ◌-◌, ◌*◌, refl, sym, subst, Bool, true, false, cond, length, arith}
+use Rattle.std.proofs.Common.{ℕ, ◌≡◌, ◌≤◌, ◌<◌, ◌+◌, ◌-◌, ◌*◌, sym, subst, Bool, true, false, cond, length, arith}
 use Rattle.std.specs.Prelude.{◌==◌}
 use Rattle.std.proofs.Math.Nat.{mul-le-mul, mul-mul-mul_comm}
-use Rattle.lane_core.specs.declared.plan.Plan.{Plan}
-use Rattle.lane_core.specs.Plans.{period_of}
-use Rattle.pattern_reading.specs.declared.ports.Ports.{Ports}
 use Rattle.netlist_meaning.specs.Weight.{weight}
 use Rattle.made_netlists.specs.Design.{made_design}
 use Rattle.drive.specs.Driving.{last_generation, greatest_generation}

@@ -1,10 +1,9 @@
 -- What the parts of a made run give together.
-use Rattle.std.proofs.Common.{ℕ, ◌≡◌, ◌≤◌, ◌<◌, ◌+◌, ◌*◌, ◌^◌, refl, sym, ap, ap₂, ◌∙◌, subst, Bool, List, [], length, map, get_or, arith}
+use Rattle.std.proofs.Common.{ℕ, ◌≡◌, ◌≤◌, ◌<◌, ◌+◌, ◌*◌, ◌^◌, sym, ap, ap₂, ◌∙◌, subst, Bool, List, [], length, map, get_or, arith}
 use Rattle.std.specs.Prelude.{All}
-use Rattle.std.specs.List.{range_with_len}
 use Rattle.std.proofs.lemmas.List.{ext_get_or, length-map, get_or-map}
 use Rattle.std.proofs.lemmas.List.FromFn.{length-map-range_with_len, get_or-map-range_with_len}
-use Rattle.ww_rule.specs.Grid.{Grid, AreInBox, plane_of}
+use Rattle.ww_rule.specs.Grid.{Grid, plane_of}
 use Rattle.ww_rule.proofs.RowLemmas.{get_or_any}
 use Rattle.lane_core.specs.declared.plan.Plan.{Plan}
 use Rattle.lane_core.specs.Plans.{IsAdmissible}
@@ -33,7 +32,6 @@ use Rattle.netlist_text.specs.Laws.{TextsAreDecided}
 use Rattle.netlist_plans.specs.declared.planning.Planned.{Planned}
 use Rattle.netlist_plans.specs.Planned.{CarriesDesigns, IsSmall}
 use Rattle.plan_ports.specs.Tables.{IsTableOf}
-use Rattle.carries.specs.Carries.{Carries}
 use Rattle.drive.specs.declared.streams.Streams.{Streams}
 use Rattle.drive.specs.declared.error.SimulateError.{SimulateError}
 use Rattle.drive.specs.declared.error.SimulateError.TheVariants as simulating

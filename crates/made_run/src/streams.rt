@@ -30,7 +30,7 @@ pub fn draw_streams(alloc: Global, state: u32, cycles: usize) -> Result<Streams,
 {
     let mut state = state;
     let mut bits = Vec::new(alloc);
-    for input in 0..4 {
+    for input in 0..4u32 {
         bits.push(List::of(draw_stream(alloc, &mut state, cycles)?))?;
     }
     Ok(Streams {

@@ -1,6 +1,5 @@
-use Rattle.std.proofs.Common.{◌≡◌, subst}
+use Rattle.std.proofs.Common.{subst}
 use Rattle.netlist_text.specs.Causes.{HasNetlistCause}
-use Rattle.netlist_text.specs.declared.error.NetlistError.{NetlistError}
 use Rattle.made_run.proofs.plans.netlist_in.Goals as goal
 
 pub unreachable-requires : goal.unreachable-requires

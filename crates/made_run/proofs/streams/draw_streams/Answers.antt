@@ -1,7 +1,6 @@
 use Rattle.std.proofs.Common.{ℕ, ◌≡◌, ◌∙◌, sym, ap, Bool, List, [], ◌∷◌, ◌++◌, map, ◌*◌, ◌+◌, arith}
 use Rattle.std.specs.List.{range_with_len}
 use Rattle.std.proofs.lemmas.List.FromFn.{map-range_with_len_more}
-use Rattle.drive.specs.declared.streams.Streams.{Streams}
 use Rattle.made_run.specs.Streams.{stream_after}
 use Rattle.made_run.proofs.Drawn.{one_stream}
 use Rattle.made_run.proofs.streams.draw_streams.Goals as goal
@@ -24,5 +23,5 @@ loop-input-preserved c =
 pub returns : goal.returns
 returns c =
     let e : c.loop-input.input ≡ 4 = omega (arith, c.loop-input.auto.input-end, c.loop-input-test.false) in
-    let bits = c.of.ensures ∙ c.loop-input.invariant.bits ∙ ap (λ (n : ℕ). map (λ i. stream_after c.args.state (i * c.args.cycles) c.args.cycles) (range_with_len 0 n)) e in
+    let bits = c.of-2.ensures ∙ c.loop-input.invariant.bits ∙ ap (λ (n : ℕ). map (λ i. stream_after c.args.state (i * c.args.cycles) c.args.cycles) (range_with_len 0 n)) e in
     ap (λ (b : List (List Bool)). record { cycles = c.args.cycles; bits = b }) bits
