@@ -1,5 +1,5 @@
 -- The plane of a plan that computes a list of cells, which computes a design, shows the design's nets.
-use Rattle.std.proofs.Common.{◌≡◌, sym, ◌∙◌, ap, ap₂, subst, pos, ℕ, ◌+◌, ◌*◌, ◌<◌, Bool, List, length, map, get_or, arith}
+use Rattle.std.proofs.Common.{◌≡◌, sym, ◌∙◌, ap, ap₂, subst, pos, ℕ, ◌+◌, ◌*◌, ◌<◌, Bool, length, map, get_or, arith}
 use Rattle.std.specs.Prelude.{Some, None, slice_get}
 use Rattle.std.proofs.lemmas.List.{length-map, get_or-map}
 use Rattle.std.proofs.lemmas.Option.{slice_get_within, get_or_from_slice_get}

@@ -1,6 +1,6 @@
 -- The nets of a design but the clock nets, in its flat netlist.
-use Rattle.std.proofs.Common.{◌≡◌, ◌≢◌, refl, sym, ◌∙◌, ap, ap₂, subst, ℕ, ◌+◌, ◌<◌, ◌≤◌, ◌^◌, Bool, true, false, true≢false, not, cond, inl, inr, List, [], ◌∷◌, ◌++◌, filter, length, map, arith}
-use Rattle.std.specs.Prelude.{Option, Some, slice_get, option_and_then, All, AllPairs}
+use Rattle.std.proofs.Common.{◌≡◌, ◌≢◌, refl, sym, ◌∙◌, ap, ap₂, subst, ℕ, ◌<◌, ◌≤◌, ◌^◌, Bool, true, false, true≢false, not, cond, inl, inr, List, [], ◌∷◌, ◌++◌, filter, length, map, arith}
+use Rattle.std.specs.Prelude.{Some, slice_get, option_and_then, All, AllPairs}
 use Rattle.std.proofs.lemmas.Option.{slice_get_within}
 use Rattle.std.proofs.lemmas.Simd.{map-map}
 use Rattle.std.proofs.lemmas.List.Elements.{All-cons, All-map}
@@ -26,7 +26,7 @@ use Rattle.netlist_rules.specs.ModelFaults.{AreFaultless}
 use Rattle.netlist_rules.specs.Clocks.{HasNoClockFault, HasOneClock, two_clocks}
 use Rattle.lists.proofs.Members.{In}
 use Rattle.flat_designs.specs.Laws.{bit_of_net, class_bits}
-use Rattle.flat_designs.proofs.Lists.{Pairs, all_of, all_pairs, map_in, pairs_map}
+use Rattle.flat_designs.proofs.Lists.{all_of, all_pairs, map_in, pairs_map}
 use Rattle.flat_designs.proofs.Listed.{net_is, nets_once}
 use Rattle.flat_designs.proofs.Classes.{class_is}
 use Rattle.flat_designs.proofs.Clocks.{clock_class}

@@ -1,5 +1,5 @@
 -- The lines of nets of an admissible plan can be written, and read back.
-use Rattle.std.proofs.Common.{◌≡◌, ◌≢◌, refl, sym, ◌∙◌, ap, subst, ℕ, ◌+◌, ◌*◌, ◌<◌, ◌≤◌, ◌^◌, Bool, true, false, not, List, [], ◌∷◌, filter, length, map, get_or, arith}
+use Rattle.std.proofs.Common.{◌≡◌, ◌≢◌, refl, sym, ◌∙◌, ap, subst, ℕ, ◌+◌, ◌*◌, ◌<◌, ◌≤◌, Bool, true, false, not, List, [], ◌∷◌, length, get_or, arith}
 use Rattle.std.specs.Prelude.{◌==◌, if◌then◌else◌, Option, Some, None}
 use Rattle.std.specs.Option.{ForSome}
 use Rattle.std.specs.List.{All, AllByRecursion, AllPairs}
@@ -9,7 +9,6 @@ use Rattle.std.proofs.lemmas.List.Elements.{All-head, All-tail, All-map, All-fil
 use Rattle.std.proofs.lemmas.List.Kept.{AllPairs-filter}
 use Rattle.lane_core.specs.declared.plan.NetPlace.{NetPlace}
 use Rattle.lane_core.specs.declared.plan.Plan.{Plan}
-use Rattle.lane_core.specs.Places.{IsPlaceWithin}
 use Rattle.lane_core.specs.Plans.{IsAdmissible, cell_after, net_cells, size_of}
 use Rattle.netlist_core.specs.declared.flat.Net.{Net as FlatNet}
 use Rattle.netlist_core.specs.declared.flat.Flat.{Flat}
@@ -21,7 +20,7 @@ use Rattle.pattern_reading.specs.PortLines.{path_in}
 use Rattle.pattern_reading.specs.Spelling.{IsPortName}
 use Rattle.pattern_reading.specs.SoundTable.{IsSoundNet}
 use Rattle.pattern_reading.specs.Laws.{IsNetInside}
-use Rattle.place_paths.specs.Paths.{path_of, name_and_path, names_and_paths, HasTableNumbers}
+use Rattle.place_paths.specs.Paths.{name_and_path, names_and_paths, HasTableNumbers}
 use Rattle.place_paths.proofs.Paths.{paths_are_read, paths_are_distinct}
 use Rattle.plan_ports.specs.Tables.{HasPortNames, HasTablePlaces, named_paths, net_cells_of}
 

@@ -12,12 +12,11 @@ use Rattle.netlist_core.specs.declared.flat.FlatPort.{FlatPort}
 use Rattle.netlist_core.specs.declared.flat.Flat.{Flat}
 use Rattle.netlist_meaning.specs.Flat.{IsNetId, no_net, name_of_net, names_of_ports}
 use Rattle.pattern_reading.specs.declared.ports.PortLine.{PortLine}
-use Rattle.pattern_reading.specs.declared.ports.NetLine.{NetLine}
 use Rattle.pattern_reading.specs.Numbers.{greatest_number}
 use Rattle.pattern_reading.specs.Ports.{cells_of, names_of}
 use Rattle.pattern_reading.specs.Spelling.{IsPortName}
-use Rattle.pattern_reading.specs.SoundTable.{IsSoundPort, IsSoundNet}
-use Rattle.pattern_reading.specs.Laws.{IsPortInside, IsNetInside}
+use Rattle.pattern_reading.specs.SoundTable.{IsSoundPort}
+use Rattle.pattern_reading.specs.Laws.{IsPortInside}
 use Rattle.plan_ports.specs.Tables.{HasPortNames}
 use Rattle.plan_ports.proofs.NetLines.{nets_sound, nets_inside, nets_plain, one_net}
 use Rattle.plan_ports.specs.Laws.{TablesAreReadable}

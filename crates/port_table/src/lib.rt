@@ -1,4 +1,4 @@
-//! Reads the port table that stands in the comments before a pattern's header.
+//! The port table that stands in the comments before a pattern's header: read from a text, made of a plan, and written line by line.
 #![tactic(auto)]
 
 mod faults;
@@ -11,4 +11,6 @@ mod table;
 
 pub use faults::PortFault;
 pub use pattern_reading::{NetLine, PortFaultKind, PortLine, Ports};
+pub use plan_ports::{PortsError, of_plan};
+pub use port_writing::write_line;
 pub use reading::{PortReadError, read};

@@ -1,5 +1,3 @@
 pub mod ItemBytes
-pub mod Steps
 pub mod Tags
 pub mod Lefts
-pub mod PortLines

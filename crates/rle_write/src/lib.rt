@@ -2,11 +2,9 @@
 #![tactic(auto)]
 
 mod items;
-mod page;
 mod pattern_rows;
 mod plan_rows;
 mod rows;
-mod table;
 mod text;
 
 pub use text::{write, write_pattern};

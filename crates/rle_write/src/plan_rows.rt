@@ -6,14 +6,14 @@ ghost use Rattle.lane_core.specs.Plans.{size_of};
 ghost use Rattle.grid_assembly.specs.PlanDrawing.{start_row, start_grid};
 ghost use Rattle.pattern_writing.specs.Writer.{item_texts, wrapped};
 ghost use Rattle.rle_write.specs.Left.{rows_left, text_left};
-ghost use Rattle.rle_write.specs.Pages.{held, column_of};
-ghost use Rattle.rle_write.specs.Progress.{Wrote, Broke};
+ghost use Rattle.port_writing.specs.Pages.{held, column_of};
+ghost use Rattle.port_writing.specs.Progress.{Wrote, Broke};
 
 use crate::items::write_item;
-use crate::page::Page;
 use crate::rows::{Kept, end_row, write_cells};
 use grid_assembly::fill_row;
 use lane_core::Plan;
+use port_writing::Page;
 use ww_base::{Failed, Sink};
 use ww_rule::State;
 

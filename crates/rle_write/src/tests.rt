@@ -1,7 +1,6 @@
 // Texts by hand, in the letters of extended RLE: `.` is empty, `A` a head, `B` a tail and `C` a conductor.
 ghost use Rattle.std.specs.Prelude.{◌≡◌, length, IfOk};
 
-use crate::page::Page;
 use crate::pattern_rows::write_rows;
 use crate::{write, write_pattern};
 use grid_assembly::fill_row;
@@ -9,6 +8,7 @@ use lane_core::{Column, Instr, Plan};
 use lists::{Bytes, List};
 use macro_grid::admissible;
 use pattern_reading::{NetLine, PortLine, Ports};
+use port_writing::Page;
 use std::alloc::Global;
 use std::test::Fail;
 use ww_base::{Failed, MemSink, write_all};

@@ -7,18 +7,17 @@ ghost use Rattle.lane_core.specs.Plans.{IsAdmissible};
 ghost use Rattle.grid_assembly.specs.PlanDrawing.{start_grid};
 ghost use Rattle.pattern_reading.specs.Spelling.{port_lines};
 ghost use Rattle.pattern_writing.specs.Writer.{ended_lines, header_text, writer_text};
-ghost use Rattle.rle_write.specs.Pages.{held, column_of};
-ghost use Rattle.rle_write.specs.Progress.{Wrote, Broke};
+ghost use Rattle.port_writing.specs.Pages.{held, column_of};
+ghost use Rattle.port_writing.specs.Progress.{Wrote, Broke};
 
-use crate::page::Page;
 use crate::pattern_rows::write_rows;
 use crate::plan_rows::write_plan_rows;
-use crate::table::write_table;
 use grid_assembly::size;
 use itoa::Buffer;
 use lane_core::Plan;
 use lists::Bytes;
 use pattern_reading::Ports;
+use port_writing::{Page, write_table};
 use ww_base::{Failed, Sink};
 use ww_rule::Pattern;
 

@@ -1,4 +1,3 @@
-use Rattle.std.proofs.Common.{◌≡◌}
 use Rattle.std.proofs.lemmas.Result.{err_from_is_err_and}
 use Rattle.blifww_tool.proofs.Compiled.{netlist_refused, sound, weighed, small, compiles}
 use Rattle.blifww_tool.proofs.compile.compile.Goals as goal

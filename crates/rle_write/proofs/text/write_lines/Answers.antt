@@ -1,9 +1,8 @@
 use Rattle.std.proofs.Common.{◌≡◌, ◌+◌, ℕ, List, [], ◌∷◌, ◌++◌, drop, ap, ◌∙◌, append_assoc}
 use Rattle.pattern_writing.specs.Writer.{ended_lines}
-use Rattle.rle_write.specs.Pages.{held}
-use Rattle.rle_write.proofs.Steps.{wrote_then, wrote_broke, wrote_to}
-use Rattle.lists.proofs.Results.{on_err}
-use Rattle.rle_write.proofs.Tags.{items_next}
+use Rattle.port_writing.specs.Pages.{held}
+use Rattle.port_writing.proofs.Steps.{on_err, wrote_then, wrote_broke, wrote_to}
+use Rattle.port_writing.proofs.PortLines.{items_next}
 use Rattle.rle_write.proofs.text.write_lines.Goals as goal
 
 -- what is left begins with the line and its end

@@ -1,7 +1,7 @@
 use Rattle.std.proofs.Common.{◌≡◌, ℕ, List, ◌++◌, drop}
 use Rattle.pattern_writing.specs.Writer.{ended_lines}
-use Rattle.rle_write.specs.Pages.{held, column_of}
-use Rattle.rle_write.specs.Progress.{Wrote}
+use Rattle.port_writing.specs.Pages.{held, column_of}
+use Rattle.port_writing.specs.Progress.{Wrote}
 use Rattle.rle_write.proofs.text.write_lines.Given as goal
 
 abbrev pub invariant-loop-line : goal.invariant-loop-line
