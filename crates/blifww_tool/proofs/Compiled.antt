@@ -16,7 +16,8 @@ use Rattle.netlist_text.specs.Parts.{AreParts}
 use Rattle.netlist_text.specs.Causes.{HasNetlistCause}
 use Rattle.netlist_text.specs.declared.error.NetlistError.{NetlistError}
 use Rattle.netlist_text.specs.declared.error.NetlistError.TheVariants as netlist_of
-use Rattle.netlist_plans.specs.Planned.{CarriesDesigns, CarriesNetsOfDesigns, IsSmall}
+use Rattle.netlist_plans.specs.Planned.{CarriesDesigns, CarriesNetsOfDesigns, ComputesCells, IsSmall}
+use Rattle.plan_ports.specs.Tables.{IsTableOf}
 use Rattle.command_words.specs.Shapes.{compile}
 use Rattle.blifww_tool.specs.Commands.{HasTextCause}
 use Rattle.blifww_tool.specs.Compilation.{Compiles}
@@ -44,9 +45,9 @@ small design flat order p =
 
 -- and what it gives
 pub compiles : FlatIsOne → (text : List ℕ) (design : Design) (flat : Flat) (order : List ℕ) (plan : Plan) (ports : Ports) → IsNetlist text design → AreParts design flat order
-    → IsAdmissible plan → CarriesDesigns flat plan ports → CarriesNetsOfDesigns flat plan ports → IsSmall flat plan → (length flat.latches ≡ 0 → any_needs_one flat ≡ false → ports.p ≡ 32)
+    → IsAdmissible plan → IsTableOf flat plan ports → ComputesCells flat plan → CarriesDesigns flat plan ports → CarriesNetsOfDesigns flat plan ports → IsSmall flat plan → (length flat.latches ≡ 0 → any_needs_one flat ≡ false → ports.p ≡ 32)
     → Compiles text (pattern_text (start_grid plan) ports)
-compiles one text design flat order plan ports is p admissible carries nets few period = record {
+compiles one text design flat order plan ports is p admissible table cells carries nets few period = record {
   design = design;
   netlist = is;
   plan = plan;
@@ -57,6 +58,7 @@ compiles one text design flat order plan ports is p admissible carries nets few 
   nets = nets text design is.is.design_of is.clocks p.is_flat;
   lanes = subst (λ (w : ℕ). plan.lanes ≤ 4 * w + 4) p.is_flat.weight few.lanes;
   columns = subst (λ (w : ℕ). length plan.columns ≤ 256 * ((w + 1) * (w + 1))) p.is_flat.weight few.columns;
-  loops = λ other h. subst (λ (f : Flat). plan.latches ≤ length f.latches + 1) (one design flat other p.is_flat h) few.loops;
+  table = λ other h. subst (λ (f : Flat). IsTableOf f plan ports) (one design flat other p.is_flat h) table;
+  cells = λ other h. subst (λ (f : Flat). ComputesCells f plan) (one design flat other p.is_flat h) cells;
   period = λ other h. subst (λ (f : Flat). length f.latches ≡ 0 → any_needs_one f ≡ false → ports.p ≡ 32) (one design flat other p.is_flat h) period;
 }

@@ -12,13 +12,15 @@ use Rattle.netlist_core.specs.declared.model.Design.{Design}
 use Rattle.netlist_core.specs.declared.flat.Flat.{Flat}
 use Rattle.netlist_meaning.specs.Weight.{weight}
 use Rattle.netlist_meaning.specs.FlatOf.{IsFlatOf}
+use Rattle.netlist_plans.specs.Planned.{ComputesCells}
+use Rattle.plan_ports.specs.Tables.{IsTableOf}
 use Rattle.netlist_text.specs.NetlistText.{IsNetlist, IsAtFault, IsTooHeavy, HasLoop}
 use Rattle.blifww_tool.specs.declared.causes.Cause.{Cause}
 use Rattle.blifww_tool.specs.declared.causes.Cause.TheVariants.{NetlistFault, WeightTooLarge, Loop}
 
--- The text is a netlist, and the output is the written text of an admissible plan and its table that carries the design and its nets.
--- The plan is small, by the design's weight, and has a loop for each latch and at most one more; where there is no latch and no cover needs
--- constant 1 the period is 32.
+-- The text is a netlist, and the output is the written text of an admissible plan and its table that carries the design and its nets. The
+-- plan computes the cells of the design's flat netlist: so it has a loop for each latch, and exactly where constant 1 is named one more. It is
+-- small, by the design's weight; where there is no latch and no cover needs constant 1 the period is 32.
 pub record Compiles (text output : List ℕ) : Type 0 where
   pub design : Design
   pub netlist : IsNetlist text design
@@ -30,7 +32,8 @@ pub record Compiles (text output : List ℕ) : Type 0 where
   pub nets : CarriesNets output design
   pub lanes : plan.lanes ≤ 4 * weight design + 4
   pub columns : length plan.columns ≤ 256 * ((weight design + 1) * (weight design + 1))
-  pub loops : (flat : Flat) → IsFlatOf design flat → plan.latches ≤ length flat.latches + 1
+  pub table : (flat : Flat) → IsFlatOf design flat → IsTableOf flat plan ports
+  pub cells : (flat : Flat) → IsFlatOf design flat → ComputesCells flat plan
   pub period : (flat : Flat) → IsFlatOf design flat → length flat.latches ≡ 0 → any_needs_one flat ≡ false → ports.p ≡ 32
 
 -- why the text is no netlist: it is at fault, or too heavy, or its covers read each other in a circle

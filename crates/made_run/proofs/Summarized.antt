@@ -164,8 +164,8 @@ pub summarizes : CarriersShowRuns → (seed size cycles : ℕ) (netlist : Netlis
     → IsPlanned seed size netlist planned → streams ≡ drawn_streams seed size cycles
     → names ≡ main_outputs netlist.design → simulated ≡ shown_bits planned.ports streams (plane_of (start_grid planned.plan).rows) → ShowsRun netlist.design streams evaluated
     → summary.weight ≡ netlist.flat.weight → summary.lanes ≡ planned.plan.lanes → summary.columns ≡ length planned.plan.columns → summary.p ≡ planned.ports.p → summary.l ≡ planned.ports.l
-    → summary.outputs ≡ outputs_by_name names simulated evaluated → Summarizes seed size cycles summary
-summarizes law seed size cycles netlist planned streams names simulated evaluated summary is are named shown ran weighs lanes columns p l outputs =
+    → summary.outputs ≡ outputs_by_name names simulated evaluated → last_generation planned.ports streams ≤ greatest_generation → Summarizes seed size cycles summary
+summarizes law seed size cycles netlist planned streams names simulated evaluated summary is are named shown ran weighs lanes columns p l outputs near =
     let made = made_design seed size in
     let outs = main_outputs made in
     let runs : ShowsRun made streams evaluated = subst (λ (d : Design). ShowsRun d streams evaluated) is.design ran in
@@ -183,6 +183,7 @@ summarizes law seed size cycles netlist planned streams names simulated evaluate
       columns = columns;
       period = p;
       latency = l;
+      near = subst (λ (s : Streams). last_generation planned.ports s ≤ greatest_generation) are near;
       run = run;
       is_run = subst (λ (s : Streams). IsRun made (rows_of s) run) are runs.is_run;
       outputs = outputs

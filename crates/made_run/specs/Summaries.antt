@@ -42,7 +42,8 @@ outputs_by_name names simulated evaluated = map (output_at names simulated evalu
 abbrev pub output_in_run : (ℕ → Valuation) → ℕ → Name → OutputBits
 output_in_run run cycles name = record { name = name; simulated = bits_in_run run cycles name; evaluated = bits_in_run run cycles name }
 
--- the weight of the made design, the numbers of such a plan, and the outputs in a run of the design on the drawn streams
+-- the weight of the made design, the numbers of such a plan, which shows the last bits within the limit of generations, and the outputs
+-- in a run of the design on the drawn streams
 pub record Summarizes (seed size cycles : ℕ) (summary : Summary) : Type 0 where
   pub weight : summary.weight ≡ weight (made_design seed size)
   pub plan : Plan
@@ -52,6 +53,7 @@ pub record Summarizes (seed size cycles : ℕ) (summary : Summary) : Type 0 wher
   pub columns : summary.columns ≡ length plan.columns
   pub period : summary.p ≡ ports.p
   pub latency : summary.l ≡ ports.l
+  pub near : last_generation ports (drawn_streams seed size cycles) ≤ greatest_generation
   pub run : ℕ → Valuation
   pub is_run : IsRun (made_design seed size) (rows_of (drawn_streams seed size cycles)) run
   pub outputs : summary.outputs ≡ map (output_in_run run cycles) (main_outputs (made_design seed size))

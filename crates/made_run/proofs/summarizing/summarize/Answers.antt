@@ -71,7 +71,7 @@ returns-clause-summary c =
     ∙ ap (λ (rows : List (List Bool)). outputs_by_name c.in_ok-names.names c.in_ok-simulated.simulated rows) c.as_slice-3.ensures in
     summarizes c.carriers_show_runs.ensures c.args.seed c.args.size c.args.cycles c.in_ok-made.made.netlist c.in_ok-made.made.planned c.in_ok-streams.streams
     c.in_ok-names.names c.in_ok-simulated.simulated c.in_ok-evaluated.evaluated _ c.in_ok-made.ensures.plan are c.in_ok-names.ensures shown c.in_ok-evaluated.ensures
-    c.told.ensures.weight c.told.ensures.lanes c.told.ensures.columns c.told.ensures.period c.told.ensures.latency (c.told.ensures.outputs ∙ outputs)
+    c.told.ensures.weight c.told.ensures.lanes c.told.ensures.columns c.told.ensures.period c.told.ensures.latency (c.told.ensures.outputs ∙ outputs) c.in_ok-simulated.ensures.near
 
 pub draw_streams-requires : goal.draw_streams-requires
 draw_streams-requires c = c.in_ok-made.ensures.range
