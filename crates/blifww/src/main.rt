@@ -1,4 +1,4 @@
-//! Compiles the BLIF text on standard input to a Wireworld pattern on standard output, or simulates such a pattern.
+//! Compiles the BLIF text on standard input to a Wireworld pattern on standard output, simulates such a pattern, or shows what else the words ask for.
 #![tactic(auto)]
 
 ghost use Rattle.std.specs.Prelude.{◌≡◌, ◌≢◌, codes};

@@ -16,7 +16,7 @@ use Rattle.netlist_text.specs.Parts.{AreParts}
 use Rattle.netlist_text.specs.Causes.{HasNetlistCause}
 use Rattle.netlist_text.specs.declared.error.NetlistError.{NetlistError}
 use Rattle.netlist_text.specs.declared.error.NetlistError.TheVariants as netlist_of
-use Rattle.netlist_plans.specs.Planned.{CarriesDesigns, CarriesNetsOfDesigns, ComputesCells, IsSmall}
+use Rattle.netlist_plans.specs.Planned.{CarriesDesigns, CarriesNetsOfDesigns, ComputesCells, HasLanes, IsSmall}
 use Rattle.plan_ports.specs.Tables.{IsTableOf}
 use Rattle.command_words.specs.Shapes.{compile}
 use Rattle.blifww_tool.specs.Commands.{HasTextCause}
@@ -45,9 +45,9 @@ small design flat order p =
 
 -- and what it gives
 pub compiles : FlatIsOne → (text : List ℕ) (design : Design) (flat : Flat) (order : List ℕ) (plan : Plan) (ports : Ports) → IsNetlist text design → AreParts design flat order
-    → IsAdmissible plan → IsTableOf flat plan ports → ComputesCells flat plan → CarriesDesigns flat plan ports → CarriesNetsOfDesigns flat plan ports → IsSmall flat plan → (length flat.latches ≡ 0 → any_needs_one flat ≡ false → ports.p ≡ 32)
+    → IsAdmissible plan → IsTableOf flat plan ports → ComputesCells flat plan → HasLanes flat plan → CarriesDesigns flat plan ports → CarriesNetsOfDesigns flat plan ports → IsSmall flat plan → (length flat.latches ≡ 0 → any_needs_one flat ≡ false → ports.p ≡ 32)
     → Compiles text (pattern_text (start_grid plan) ports)
-compiles one text design flat order plan ports is p admissible table cells carries nets few period = record {
+compiles one text design flat order plan ports is p admissible table cells size carries nets few period = record {
   design = design;
   netlist = is;
   plan = plan;
@@ -60,5 +60,6 @@ compiles one text design flat order plan ports is p admissible table cells carri
   columns = subst (λ (w : ℕ). length plan.columns ≤ 256 * ((w + 1) * (w + 1))) p.is_flat.weight few.columns;
   table = λ other h. subst (λ (f : Flat). IsTableOf f plan ports) (one design flat other p.is_flat h) table;
   cells = λ other h. subst (λ (f : Flat). ComputesCells f plan) (one design flat other p.is_flat h) cells;
+  size = λ other h. subst (λ (f : Flat). HasLanes f plan) (one design flat other p.is_flat h) size;
   period = λ other h. subst (λ (f : Flat). length f.latches ≡ 0 → any_needs_one f ≡ false → ports.p ≡ 32) (one design flat other p.is_flat h) period;
 }

@@ -1,4 +1,5 @@
 // What `compile` writes, driven by streams.
+use crate::eval_tests::wide;
 use crate::tests::{Outcome, run_over};
 use std::alloc::Global;
 use std::test::Fail;
@@ -163,6 +164,34 @@ fn each_net_can_be_probed(rt: HostRuntime) -> Result<(), Fail> {
                 format!(in alloc; "{net}={bits}\n")?.as_bytes()
             );
         }
+    }
+    Ok(())
+}
+
+#[test]
+fn what_compile_writes_begins_with_its_times(rt: HostRuntime) -> Result<(), Fail> {
+    let alloc = rt.alloc();
+    for (text, begin) in [
+        (
+            b".model m\n.end\n".to_vec(alloc)?,
+            b"#C BLIFWW 1 P 32 L 0\nx = 0, y = 0, rule = WireWorld\n!\n".as_slice(),
+        ),
+        (
+            b".model or\n.inputs a b\n.outputs y\n.names a b y\n10 1\n.end\n".to_vec(alloc)?,
+            b"#C BLIFWW 1 P 32 L 32\n",
+        ),
+        // the greatest weight
+        (wide(alloc, 1022)?, b"#C BLIFWW 1 P 32 L "),
+    ] {
+        let compiled = run_over(
+            alloc,
+            &["blifww", "compile"],
+            &text,
+            (4096, &[]),
+            (1 << 20, 0),
+        )?;
+        assert_eq!(rt; compiled.status, 0);
+        assert!(rt; compiled.out.starts_with(begin));
     }
     Ok(())
 }

@@ -112,7 +112,7 @@ fn words_that_give_a_netlist_no_streams_are_refused(rt: HostRuntime) -> Result<(
 }
 
 // A model with so many inputs and one output.
-fn wide(alloc: Global, inputs: usize) -> Result<Vec<u8>, Fail> {
+pub fn wide(alloc: Global, inputs: usize) -> Result<Vec<u8>, Fail> {
     let mut text = b".model m\n.inputs".to_vec(alloc)?;
     let mut digits = Buffer::new();
     for i in 0..inputs {
