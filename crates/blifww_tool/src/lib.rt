@@ -27,6 +27,8 @@ mod compile_tests;
 #[cfg(test)]
 mod eval_tests;
 #[cfg(test)]
+mod failure_tests;
+#[cfg(test)]
 mod hierarchy_tests;
 #[cfg(test)]
 mod tests;

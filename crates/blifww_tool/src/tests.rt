@@ -8,10 +8,10 @@ use ww_base::{MemSink, MemSource};
 
 const COMPILE: &[&str] = &["blifww", "compile"];
 
-const GATE: &[u8] = b".model or\n.inputs a b\n.outputs y\n.names a b y\n1- 1\n-1 1\n.end\n";
+pub const GATE: &[u8] = b".model or\n.inputs a b\n.outputs y\n.names a b y\n1- 1\n-1 1\n.end\n";
 
 // What is written for it: 317 bytes.
-const PATTERN: &[u8] =
+pub const PATTERN: &[u8] =
     b"#C BLIFWW 1 P 32 L 32\n#C BLIFWW IN 0 8 a\n#C BLIFWW IN 0 24 b\n#C BLIFWW OUT 32 8 y\n#C BLIFWW NET 0 8 0 a -\n#C BLIFWW NET 0 24 0 b -\n#C BLIFWW NET 31 8 31 y -\nx = 33, y = 32, rule = WireWorld\n8$5C18.10C$5.C16.C$6.C14.C$7.C12.C$8.C10.C$9.C.2C5.C$10.2C.C3.C$11.2C.\nC.C$15.C$11.2C.C$10.2C.C$9.C.2C$8.C$7.C$6.C$5.C$5C26.C!\n";
 
 const USAGE: &[u8] = b"usage: blifww compile|simulate|eval|probe|window|make|self\n";
@@ -119,7 +119,7 @@ fn a_text_past_the_limit_is_too_long(rt: HostRuntime) -> Result<(), Fail> {
         (16_777_216, 1, b"B22 NoModel line 1: -\n".as_slice()),
         (16_777_217, 4, b"too long: limit 16777216\n"),
     ] {
-        let text = vec![in alloc; b'#'; length]?;
+        let text = vec![in alloc; b'\n'; length]?;
         let got = run_over(alloc, COMPILE, &text, (1 << 20, &[]), (317, 99))?;
         assert_eq!(rt; got.status, status, "{length} bytes");
         assert_eq!(rt; got.out.as_slice(), b"".as_slice());
@@ -226,15 +226,27 @@ fn a_text_that_gives_no_simulation_is_refused(rt: HostRuntime) -> Result<(), Fai
         ),
         (
             ONE_CYCLE,
-            b"#C BLIFWW\nx = 16385, y = 16384, rule = WireWorld\n0C",
+            b"#C BLIFWW\nx = 65536, y = 4097, rule = WireWorld\n0C",
             4,
-            b"too large: grid 16385 by 16384\n",
+            b"too large: grid 65536 by 4097\n",
         ),
     ] {
         let got = run_over(alloc, words, text, (16, &[]), (99, 99))?;
         assert_eq!(rt; got.status, status);
         assert_eq!(rt; got.out.as_slice(), b"".as_slice());
         assert_eq!(rt; got.err.as_slice(), line);
+    }
+    Ok(())
+}
+
+#[test]
+fn a_box_without_cells_shows_nothing(rt: HostRuntime) -> Result<(), Fail> {
+    for text in [
+        b"x = 18446744073709551615, y = 0, rule = WireWorld\n!".as_slice(),
+        b"x = 0, y = 18446744073709551615, rule = WireWorld\n!",
+    ] {
+        let got = run_over(rt.alloc(), ONE_CYCLE, text, (16, &[]), (0, 0))?;
+        assert_eq!(rt; got.status, 0);
     }
     Ok(())
 }

@@ -1,0 +1,76 @@
+// Reads and writes that fail, one after another, for each command.
+use crate::tests::{GATE, PATTERN, run_over};
+use std::test::Fail;
+
+#[test]
+fn each_read_that_fails_is_told(rt: HostRuntime) -> Result<(), Fail> {
+    let words = ["blifww", "compile"];
+    // The text has 61 bytes, and one read more finds its end.
+    for call in 0..62u64 {
+        let got = run_over(rt.alloc(), &words, GATE, (1, &[call]), (317, 99))?;
+        assert_eq!(rt; got.status, 5, "call {call}");
+        assert_eq!(rt; got.out.as_slice(), b"".as_slice());
+        assert_eq!(rt; got.err.as_slice(), b"read fault\n".as_slice());
+    }
+    let got = run_over(rt.alloc(), &words, GATE, (1, &[62]), (317, 0))?;
+    assert_eq!(rt; got.status, 0);
+    assert_eq!(rt; got.out.as_slice(), PATTERN);
+    Ok(())
+}
+
+#[test]
+fn output_is_cut_where_there_is_no_room(rt: HostRuntime) -> Result<(), Fail> {
+    let words = ["blifww", "compile"];
+    for room in 0..317 {
+        let got = run_over(rt.alloc(), &words, GATE, (4096, &[]), (room, 99))?;
+        assert_eq!(rt; got.status, 6, "room {room}");
+        assert_eq!(rt; got.out.as_slice(), &PATTERN[..room]);
+        assert_eq!(rt; got.err.as_slice(), b"write fault\n".as_slice());
+    }
+    let got = run_over(rt.alloc(), &words, GATE, (4096, &[]), (317, 0))?;
+    assert_eq!(rt; got.status, 0);
+    Ok(())
+}
+
+#[test]
+fn each_command_tells_what_failed(rt: HostRuntime) -> Result<(), Fail> {
+    let inverter = b".model n\n.inputs a\n.outputs y\n.names a y\n0 1\n".as_slice();
+    for (words, text) in [
+        (
+            ["blifww", "eval", "--cycles", "4", "a=0110"].as_slice(),
+            inverter,
+        ),
+        (
+            &["blifww", "simulate", "--cycles", "1", "a=0", "b=1"],
+            PATTERN,
+        ),
+        (
+            &[
+                "blifww", "probe", "--cycles", "1", "--net", "y", "a=0", "b=1",
+            ],
+            PATTERN,
+        ),
+        (
+            &[
+                "blifww", "window", "--gen", "0", "--x", "0", "--y", "0", "--width", "1",
+                "--height", "1",
+            ],
+            PATTERN,
+        ),
+    ] {
+        let unread = run_over(rt.alloc(), words, text, (16, &[0]), (99, 99))?;
+        assert_eq!(rt; unread.status, 5);
+        assert_eq!(rt; unread.out.as_slice(), b"".as_slice());
+        assert_eq!(rt; unread.err.as_slice(), b"read fault\n".as_slice());
+        let unwritten = run_over(rt.alloc(), words, text, (16, &[]), (0, 99))?;
+        assert_eq!(rt; unwritten.status, 6);
+        assert_eq!(rt; unwritten.out.as_slice(), b"".as_slice());
+        assert_eq!(rt; unwritten.err.as_slice(), b"write fault\n".as_slice());
+    }
+    // Nothing is on either where the line of a refusal fails at once.
+    let got = run_over(rt.alloc(), &["blifww"], b"", (16, &[]), (99, 0))?;
+    assert_eq!(rt; got.status, 6);
+    assert_eq!(rt; got.out.as_slice(), b"".as_slice());
+    assert_eq!(rt; got.err.as_slice(), b"".as_slice());
+    Ok(())
+}
