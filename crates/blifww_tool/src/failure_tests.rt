@@ -53,7 +53,7 @@ fn each_command_tells_what_failed(rt: HostRuntime) -> Result<(), Fail> {
         (
             &[
                 "blifww", "window", "--gen", "0", "--x", "0", "--y", "0", "--width", "1",
-                "--height", "1",
+                "--height", "1", "a=", "b=",
             ],
             PATTERN,
         ),

@@ -119,7 +119,7 @@ fn a_text_past_the_limit_is_too_long(rt: HostRuntime) -> Result<(), Fail> {
         (16_777_216, 1, b"B22 NoModel line 1: -\n".as_slice()),
         (16_777_217, 4, b"too long: limit 16777216\n"),
     ] {
-        let text = vec![in alloc; b'\n'; length]?;
+        let text = vec![in alloc; b'#'; length]?;
         let got = run_over(alloc, COMPILE, &text, (1 << 20, &[]), (317, 99))?;
         assert_eq!(rt; got.status, status, "{length} bytes");
         assert_eq!(rt; got.out.as_slice(), b"".as_slice());
