@@ -2,12 +2,11 @@
 #![tactic(auto)]
 
 mod items;
-mod pattern_rows;
 mod plan_rows;
 mod rows;
 mod text;
 
-pub use text::{write, write_pattern};
+pub use text::write;
 
 #[cfg(test)]
 mod tests;

@@ -2,41 +2,20 @@
 ghost use Rattle.std.specs.Prelude.{◌≡◌, ℕ, List, ◌++◌, take, decimal, IfOk, OnOk, OnErr};
 ghost use Rattle.std.specs.Io.KnownBytes.{Appends};
 ghost use Rattle.ww_base.specs.Faults.{HasCause};
-ghost use Rattle.ww_rule.specs.Patterns.{grid_of};
 ghost use Rattle.lane_core.specs.Plans.{IsAdmissible};
 ghost use Rattle.grid_assembly.specs.PlanDrawing.{start_grid};
 ghost use Rattle.pattern_reading.specs.Spelling.{port_lines};
-ghost use Rattle.pattern_writing.specs.Writer.{ended_lines, header_text, writer_text};
+ghost use Rattle.pattern_writing.specs.Writer.{header_text, writer_text};
 ghost use Rattle.port_writing.specs.Pages.{held, column_of};
 ghost use Rattle.port_writing.specs.Progress.{Wrote, Broke};
 
-use crate::pattern_rows::write_rows;
 use crate::plan_rows::write_plan_rows;
 use grid_assembly::size;
 use itoa::Buffer;
 use lane_core::Plan;
-use lists::Bytes;
 use pattern_reading::Ports;
 use port_writing::{Page, write_table};
 use ww_base::{Failed, Sink};
-use ww_rule::Pattern;
-
-// Writes lines, each with its line end.
-fn write_lines<O: Sink>(sink: &mut O, page: &mut Page, lines: &[Bytes]) -> Result<(), Failed>
-    ensures column { column_of page.new ≡ column_of page.old }
-    ensures ok { OnOk result ((rest : List ℕ) →
-        Wrote (O.written sink.old) (O.written sink.new) (O.faults sink.old) (O.faults sink.new)
-        (held page.old ++ (ended_lines lines.now ++ rest)) (held page.new ++ rest)) }
-    ensures err { OnErr result ((rest : List ℕ) →
-        Broke (O.written sink.old) (O.written sink.new) (O.faults sink.old) (O.faults sink.new)
-        (held page.old ++ (ended_lines lines.now ++ rest))) }
-{
-    for line in lines {
-        page.put(sink, line.as_slice())?;
-        page.put(sink, b"\n")?;
-    }
-    Ok(())
-}
 
 // Writes the digits of a number.
 fn write_number<O: Sink>(sink: &mut O, page: &mut Page, number: u64) -> Result<(), Failed>
@@ -91,24 +70,5 @@ pub fn write<O: Sink>(plan: &Plan, ports: &Ports, sink: &mut O) -> Result<(), Fa
     write_table(sink, &mut page, ports)?;
     write_header(sink, &mut page, width, height)?;
     write_plan_rows(sink, &mut page, plan, width, height)?;
-    page.flush(sink)
-}
-
-/// Writes a pattern that is held in the same way, after the lines, to each of which a line end is given.
-pub fn write_pattern<O: Sink>(
-    pattern: &Pattern,
-    lines: &[Bytes],
-    sink: &mut O,
-) -> Result<(), Failed>
-    ensures ok { OnOk result (
-        Appends (O.written sink.old) (O.written sink.new) (writer_text (grid_of pattern.now) lines.now)) }
-    ensures front { OnErr result ((n : ℕ) ×
-        Appends (O.written sink.old) (O.written sink.new) (take n (writer_text (grid_of pattern.now) lines.now))) }
-    ensures cause { HasCause (O.faults sink.old) (O.faults sink.new) result }
-{
-    let mut page = Page::new();
-    write_lines(sink, &mut page, lines)?;
-    write_header(sink, &mut page, pattern.width, pattern.height)?;
-    write_rows(sink, &mut page, pattern.rows.as_slice())?;
     page.flush(sink)
 }
