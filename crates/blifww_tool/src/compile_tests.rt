@@ -105,16 +105,32 @@ fn what_compile_writes_shows_the_netlist(rt: HostRuntime) -> Result<(), Fail> {
     Ok(())
 }
 
+// The text of a model, whose first line this is, with a net as its first output.
+fn with_output(alloc: Global, model: &[u8], text: &[u8], net: &str) -> Result<Vec<u8>, Fail> {
+    let Some(rest) = text.strip_prefix(model) else {
+        return Err(Fail::new("the text has another first line"));
+    };
+    let mut wider = model.to_vec(alloc)?;
+    wider.extend_from_slice(b".outputs ")?;
+    wider.extend_from_slice(net.as_bytes())?;
+    wider.extend_from_slice(b"\n")?;
+    wider.extend_from_slice(rest)?;
+    Ok(wider)
+}
+
+// Each net shows what `eval` prints of it as an output; of nets in models below and of ports the bits that are written here.
 #[test]
 fn each_net_can_be_probed(rt: HostRuntime) -> Result<(), Fail> {
     let alloc = rt.alloc();
-    for (text, words, nets) in [
+    for (model, text, words, nets) in [
         (
+            b".model t\n".as_slice(),
             TOGGLE,
             ["4"].as_slice(),
             [("q", "-", "0101"), ("n", "-", "1010")].as_slice(),
         ),
         (
+            b".model k\n",
             COUNTER,
             &["5"],
             &[
@@ -125,6 +141,7 @@ fn each_net_can_be_probed(rt: HostRuntime) -> Result<(), Fail> {
             ],
         ),
         (
+            b".model add\n",
             ADDER,
             &["1", "a0=1", "a1=1", "b0=1", "b1=0", "ci=0"],
             &[
@@ -158,15 +175,22 @@ fn each_net_can_be_probed(rt: HostRuntime) -> Result<(), Fail> {
             (1 << 16, 0),
         )?;
         assert_eq!(rt; compiled.status, 0);
+        let Some((cycles, streams)) = words.split_first() else {
+            return Err(Fail::new("no number of cycles"));
+        };
         for (net, path, bits) in nets {
-            let mut given = vec![in alloc; words[0], "--net", *net, "--path", *path]?;
-            given.extend_from_slice(&words[1..])?;
+            let mut given = vec![in alloc; *cycles, "--net", *net, "--path", *path]?;
+            given.extend_from_slice(streams)?;
             let probed = driven(alloc, "probe", &given, &compiled.out)?;
             assert_eq!(rt; probed.status, 0, "{net} {path}");
-            assert_eq!(rt;
-                probed.out.as_slice(),
-                format!(in alloc; "{net}={bits}\n")?.as_bytes()
-            );
+            let line = format!(in alloc; "{net}={bits}\n")?;
+            assert_eq!(rt; probed.out.as_slice(), line.as_bytes());
+            if *path != "-" {
+                continue;
+            }
+            let evaluated = driven(alloc, "eval", words, &with_output(alloc, model, text, net)?)?;
+            // A port can't be an output once more.
+            assert!(rt; evaluated.status == 1 || evaluated.out.starts_with(line.as_bytes()));
         }
     }
     Ok(())
