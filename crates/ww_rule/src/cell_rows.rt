@@ -82,14 +82,17 @@ fn put_in(cells: &mut [State], width: usize, x: usize, y: usize, state: State)
 }
 
 impl CellRows {
-    /// No rows, with room for so many cells.
-    pub fn with_room(alloc: Global, cells: usize) -> Result<CellRows, AllocError>
+    /// No rows, with room for `count` of `width` cells each.
+    pub fn with_room(alloc: Global, width: usize, count: usize) -> Result<CellRows, AllocError>
         ensures { IfOk result (λ rows. rows ≡ []) }
     {
+        let Some(room) = count.checked_mul(width) else {
+            return Err(AllocError);
+        };
         Ok(CellRows {
             width: 0,
             count: 0,
-            cells: Vec::with_capacity(alloc, cells)?,
+            cells: Vec::with_capacity(alloc, room)?,
         })
     }
 
@@ -112,7 +115,7 @@ impl CellRows {
         requires { All (λ row. length row ≡ length (get_or rows.now 0 [])) rows.now }
         ensures { IfOk result (λ made. made ≡ rows.now) }
     {
-        let mut made = CellRows::with_room(alloc, 0)?;
+        let mut made = CellRows::with_room(alloc, 0, 0)?;
         for row in rows {
             made.push_row(row.as_slice())?;
         }

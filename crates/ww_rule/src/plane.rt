@@ -82,7 +82,7 @@ pub fn step_plain(alloc: Global, plane: &Plane) -> Result<Plane, RuleError>
     ensures cells { IfOk result (λ next. plane_of next.rows ≡ next_plane (plane_of plane.now.rows)) }
 {
     let old = &plane.rows;
-    let mut rows = CellRows::with_room(alloc, 0)?;
+    let mut rows = CellRows::with_room(alloc, 0, 0)?;
     for y in 0..old.len() {
         let above = row_before(old, y);
         let below = row_or_none(old, y + 1);

@@ -102,7 +102,7 @@ pub fn reversed(alloc: Global, rows: &CellRows) -> Result<CellRows, RuleError>
     requires { All (λ row. length row ≡ length (get_or rows.now 0 [])) rows.now }
     ensures { IfOk result (λ turned. turned ≡ map reverse rows.now) }
 {
-    let mut turned = CellRows::with_room(alloc, 0)?;
+    let mut turned = CellRows::with_room(alloc, 0, 0)?;
     for y in 0..rows.len() {
         let row = reversed_row(alloc, rows.row(y))?;
         turned.push_row(&row)?;
