@@ -58,6 +58,7 @@ fn packed(
     many: usize,
     words: usize,
 ) -> Result<Vec<Row>, AllocError>
+    requires few { length cells.now < 2 ^ 63 }
     requires within { y + many ≤ length cells.now }
     requires wide { All (λ row. length row ≤ 64 * words) cells.now }
     ensures many { IfOk result (λ rows. length rows.items ≡ many) }
@@ -91,6 +92,7 @@ fn begin_band(
     injections: Vec<Injection>,
 ) -> Result<Band, AllocError>
     requires some { 0 < many }
+    requires few { length cells.now < 2 ^ 63 }
     requires within { y + many ≤ length cells.now }
     requires wide { All (λ row. length row ≤ 64 * words) cells.now }
     requires inside { AreInRows words y many injections.items }

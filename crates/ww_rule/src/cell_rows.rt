@@ -1,5 +1,5 @@
 // Rows of cells of one length, row by row in one vector.
-ghost use Rattle.std.specs.Prelude.{◌≡◌, ◌<◌, ◌≤◌, ◌+◌, ◌*◌, [], ◌∷◌, ◌++◌, length, take, drop, get_or, slice_set, replicate, All, IfOk};
+ghost use Rattle.std.specs.Prelude.{◌≡◌, ◌<◌, ◌≤◌, ◌+◌, ◌*◌, ◌^◌, [], ◌∷◌, ◌++◌, length, take, drop, get_or, slice_set, replicate, All, IfOk};
 ghost use Rattle.ww_rule.specs.declared.pattern.State.TheVariants.{Empty};
 ghost use Rattle.ww_rule.specs.Cuts.{with_row, with_run};
 
@@ -7,6 +7,9 @@ use crate::pattern::State;
 use lists::List;
 use std::alloc::{AllocError, Global};
 use std::marker::Model;
+
+// The most rows that are kept, of any length.
+const MOST_ROWS: usize = 0x7fff_ffff_ffff_ffff;
 
 /// Rows of cells, all of one length, from north to south. Contracts see them as a list of rows; in memory they are one
 /// vector, with a byte for each cell.
@@ -18,7 +21,7 @@ pub struct CellRows {
 }
 
 impl Model for CellRows {
-    ghost use Rattle.std.specs.Prelude.{List, ◌≡◌, ◌*◌, length};
+    ghost use Rattle.std.specs.Prelude.{List, ◌≡◌, ◌<◌, ◌*◌, ◌^◌, length};
     ghost use Rattle.ww_rule.specs.declared.pattern.State.{State};
     ghost use Rattle.ww_rule.specs.Cuts.{cut_rows};
 
@@ -26,7 +29,7 @@ impl Model for CellRows {
 
     ghost view = { λ r. cut_rows r.width r.count r.cells.items };
 
-    ghost invariant = { λ r. r.count * r.width ≡ length r.cells.items };
+    ghost invariant = { λ r. (r.count * r.width ≡ length r.cells.items) × (r.count < 2 ^ 63) };
 }
 
 // So many empty cells.
@@ -103,6 +106,9 @@ impl CellRows {
         let Some(cells) = count.checked_mul(width) else {
             return Err(AllocError);
         };
+        if count > MOST_ROWS {
+            return Err(AllocError);
+        }
         Ok(CellRows {
             width,
             count,
@@ -135,7 +141,8 @@ impl CellRows {
 
     /// How many rows there are.
     pub fn len(&self) -> usize
-        ensures { result ≡ length self.now }
+        ensures count { result ≡ length self.now }
+        ensures few { length self.now < 2 ^ 63 }
     {
         self.count
     }
@@ -153,12 +160,12 @@ impl CellRows {
         requires { All (λ other. length other ≡ length row.now) self.old }
         ensures { IfOk result (λ _. self.new ≡ self.old ++ row.now ∷ []) }
     {
-        let Some(count) = self.count.checked_add(1) else {
+        if self.count >= MOST_ROWS {
             return Err(AllocError);
-        };
+        }
         self.cells.extend_from_slice(row)?;
         self.width = row.len();
-        self.count = count;
+        self.count += 1;
         Ok(())
     }
 

@@ -7,8 +7,9 @@ use Rattle.ww_rule.specs.Wireworld.{driven}
 use Rattle.ww_rule.specs.Grid.{plane_of}
 use Rattle.ww_rule.specs.Injections.{due_of_list}
 use Rattle.ww_rule.proofs.RowLemmas.{get_or_any, pushed}
+use Rattle.band_core.specs.Bands.{bands_in}
 use Rattle.band_core.specs.declared.band.Band.{Band}
-use Rattle.band_core.specs.Band.{AreInRows, AreDueIn, CellsShow, IsBand, ShowsBand, generations_of}
+use Rattle.band_core.specs.Band.{AreInRows, AreDueIn, IsBand, ShowsBand, generations_of}
 use Rattle.band_core.proofs.Evolution.{share_inside, share_in_order, share_due, starts}
 use Rattle.band_core.proofs.making.begin_bands.Goals as goal
 
@@ -23,10 +24,10 @@ begin_band-requires-clause-inside c =
     let v = c.loop-b.invariant in
     let lt = c.loop-b-test.true in
     let parts = v.parts in
-    let first = starts b h (length rows) c.requires.height lt in
+    let first = starts b h (length rows) c.requires.height (subst (λ n. b < bands_in n h) c.len.ensures.count lt) in
     let own = own_is c.loop-b.shares.items b 0 c.into_vec-own.result.items c.replace.result c.index_mut.result.now (λ i. i.y / h == b) c.args.drive.now (omega (arith, parts, lt)) c.into_vec-own.ensures c.replace.ensures.value c.index_mut.ensures.value (v.left b (omega arith) lt) in
     subst (AreInRows c.args.words (b * h) _) (sym own)
-    (subst (λ n. AreInRows c.args.words (b * h) n (filter (λ i. i.y / h == b) c.args.drive.now)) (sym (many_is c))
+    (subst (λ n. AreInRows c.args.words (b * h) n (filter (λ i. i.y / h == b) c.args.drive.now)) (sym (let long : c.min-many.result ≡ min h (length rows - b * h) = c.min-many.ensures ∙ ap (λ n. min h (n - b * h)) c.len-in-loop-b.ensures.count in long))
     (share_inside c.args.words (length rows) h b c.args.drive.now c.requires.height c.requires.inside))
 
 pub begin_band-requires-clause-in_order : goal.begin_band-requires-clause-in_order
@@ -52,9 +53,9 @@ loop-b-preserved c =
     let bands = c.loop-b.bands.items in
     let y = b * h in
     let m = min h (length rows - y) in
-    let first = starts b h (length rows) c.requires.height lt in
+    let first = starts b h (length rows) c.requires.height (subst (λ n. b < bands_in n h) c.len.ensures.count lt) in
     let own = own_is shares b 0 c.into_vec-own.result.items c.replace.result c.index_mut.result.now (λ i. i.y / h == b) drive (omega (arith, parts, lt)) c.into_vec-own.ensures c.replace.ensures.value c.index_mut.ensures.value (v.left b (omega arith) lt) in
-    let long : c.min-many.result ≡ m = ap (λ n. min h (n - y)) c.len-many.ensures in
+    let long : c.min-many.result ≡ m = c.min-many.ensures ∙ ap (λ n. min h (n - y)) c.len-in-loop-b.ensures.count in
     let band = c.in_ok-begin_band.field-0 in
     let made = c.in_ok-begin_band.ensures in
     let e : c.push.new.self.items ≡ bands ++ band ∷ [] = c.in_ok-push.ensures.items in

@@ -5,7 +5,7 @@ use Rattle.ww_rule.proofs.cell_rows.CellRows.row.Goals as goal
 pub row_in-requires : goal.row_in-requires
 row_in-requires c =
     let r = c.self.inside in
-    subst (λ cells. c.args.y * r.width + r.width ≤ length cells) (sym c.deref.ensures.value) (room_of_row r.width r.count c.args.y r.cells.items c.args.self.now c.self.invariant c.self.view_is c.requires)
+    subst (λ cells. c.args.y * r.width + r.width ≤ length cells) (sym c.deref.ensures.value) (room_of_row r.width r.count c.args.y r.cells.items c.args.self.now c.self.invariant.0 c.self.view_is c.requires)
 
 pub returns : goal.returns
 returns c =
