@@ -1,7 +1,6 @@
 use Rattle.ww_rule.specs.Due.{AreInOrderFrom}
-use Rattle.std.proofs.Common.{pos, ◌+ℤ◌, ℕ, ◌+◌, ◌-◌, ◌*◌, ◌/◌, ◌==◌, min, ◌<◌, ◌≡◌, refl, sym, ap, ap₂, subst, ◌∙◌, Bool, List, [], ◌∷◌, ◌++◌, length, get_or, take, drop, filter, arith}
-use Rattle.std.proofs.lemmas.List.{length-set, length-take, length-drop, length-append, get_or-set_other, get_or-take, get_or-drop, map-append, replicate_more}
-use Rattle.ww_rule.specs.declared.pattern.State.TheVariants.{Empty}
+use Rattle.std.proofs.Common.{pos, ◌+ℤ◌, ℕ, ◌+◌, ◌-◌, ◌*◌, ◌/◌, ◌==◌, min, ◌<◌, ◌≡◌, refl, sym, ap, ap₂, subst, ◌∙◌, Bool, List, [], ◌∷◌, ◌++◌, length, get_or, filter, arith}
+use Rattle.std.proofs.lemmas.List.{length-set, length-append, get_or-set_other, map-append, replicate_more}
 use Rattle.ww_rule.specs.declared.pattern.Injection.{Injection}
 use Rattle.ww_rule.specs.Wireworld.{driven}
 use Rattle.ww_rule.specs.Grid.{plane_of}

@@ -1,6 +1,5 @@
-use Rattle.std.proofs.Common.{◌*◌, ◌≤◌, ◌≡◌, sym, ap, subst, ◌∙◌, List, length, get_or, All, arith}
+use Rattle.std.proofs.Common.{◌*◌, ◌≤◌, ◌≡◌, sym, ap, subst, ◌∙◌, length, get_or, All, arith}
 use Rattle.std.proofs.lemmas.List.{length-replicate}
-use Rattle.ww_rule.specs.declared.pattern.State.{State}
 use Rattle.ww_rule.specs.Wireworld.{driven}
 use Rattle.ww_rule.specs.Grid.{plane_of}
 use Rattle.ww_rule.specs.Injections.{due_of_list}
