@@ -7,7 +7,7 @@ use lists::{Bytes, List};
 use pattern_reading::{PortLine, Ports};
 use std::alloc::{AllocError, Global};
 use std::test::Fail;
-use ww_rule::{Pattern, State};
+use ww_rule::{CellRows, Pattern, State};
 
 // The rows of an OR gate from its row 8 to its row 24: the inputs enter at (0, 8) and (0, 24), the output is at (32, 8).
 const OR_ROWS: [[u8; 33]; 17] = [
@@ -54,7 +54,7 @@ fn wire(alloc: Global) -> Result<Pattern, AllocError>
     Ok(Pattern {
         width: 3,
         height: 1,
-        rows: List::of(Vec::from_array(alloc, [stream_row(alloc, b"CCC")?])?),
+        rows: CellRows::of_rows(alloc, &[stream_row(alloc, b"CCC")?])?,
     })
 }
 
@@ -63,18 +63,19 @@ fn or_gate(alloc: Global) -> Result<Pattern, AllocError>
     ensures width { IfOk result (λ pattern. pattern.width ≡ 33) }
     ensures height { IfOk result (λ pattern. pattern.height ≡ 32) }
 {
-    let mut rows = Vec::new(alloc);
+    let mut rows = CellRows::with_room(alloc, 33, 32)?;
     for y in 0..32 {
-        if 8 <= y && y < 25 {
-            rows.push(stream_row(alloc, &OR_ROWS[y - 8])?)?;
+        let row = if 8 <= y && y < 25 {
+            stream_row(alloc, &OR_ROWS[y - 8])?
         } else {
-            rows.push(stream_row(alloc, &[b'.'; 33])?)?;
-        }
+            stream_row(alloc, &[b'.'; 33])?
+        };
+        rows.push_row(row.as_slice())?;
     }
     Ok(Pattern {
         width: 33,
         height: 32,
-        rows: List::of(rows),
+        rows,
     })
 }
 

@@ -14,7 +14,7 @@ use macro_grid::{Edges, admissible, macro_step};
 use std::alloc::{AllocError, Global};
 use std::test::Fail;
 use tile_library::Shipped;
-use ww_rule::{Plane, RuleError, State, step_driven};
+use ww_rule::{CellRows, Plane, RuleError, State, step_driven};
 
 // Rows 8 to 24 of an OR gate and its output cell; the rows above and below are empty.
 const OR_ROWS: [[u8; 33]; 17] = [
@@ -165,16 +165,16 @@ fn drawn(alloc: Global, plan: &Plan) -> Result<Plane, RuleError>
     ensures width { IfOk result (λ plane. plane.width ≡ 129) }
     ensures height { IfOk result (λ plane. plane.height ≡ 80) }
 {
-    let mut rows = Vec::with_capacity(alloc, 80)?;
+    let mut rows = CellRows::with_room(alloc, 129, 80)?;
     for y in 0..80 {
         let mut row = [State::Empty; 129];
         fill_row(plan, y, 0, &mut row);
-        rows.push(List::of(row.to_vec(alloc)?))?;
+        rows.push_row(&row)?;
     }
     Ok(Plane {
         width: 129,
         height: 80,
-        rows: List::of(rows),
+        rows,
     })
 }
 
@@ -199,10 +199,7 @@ fn evolved(alloc: Global, start: Plane, generations: u32) -> Result<Plane, RuleE
 
 // Whether the cell at x, y is a head.
 fn is_head(plane: &Plane, x: u64, y: u64) -> bool {
-    match plane.rows.as_slice().get(y as usize) {
-        Some(row) => row.as_slice().get(x as usize) == Some(&State::Head),
-        None => false,
-    }
+    plane.rows.row_or_none(y as usize).get(x as usize) == Some(&State::Head)
 }
 
 #[test]

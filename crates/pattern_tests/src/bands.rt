@@ -10,7 +10,7 @@ use lists::List;
 use shown::shown_row;
 use std::alloc::{AllocError, Global};
 use std::test::Fail;
-use ww_rule::{Pattern, State};
+use ww_rule::{CellRows, Pattern, State};
 
 // A column of three cells, from the top down.
 fn column(alloc: Global, cells: [State; 3]) -> Result<Pattern, AllocError>
@@ -25,7 +25,7 @@ fn column(alloc: Global, cells: [State; 3]) -> Result<Pattern, AllocError>
     Ok(Pattern {
         width: 1,
         height: 3,
-        rows: List::of(Vec::from_array(alloc, [top, middle, bottom])?),
+        rows: CellRows::of_rows(alloc, &[top, middle, bottom])?,
     })
 }
 
@@ -160,7 +160,7 @@ fn two_rows(alloc: Global, rows: [[State; 3]; 2]) -> Result<Pattern, AllocError>
     Ok(Pattern {
         width: 3,
         height: 2,
-        rows: List::of(Vec::from_array(alloc, [top, bottom])?),
+        rows: CellRows::of_rows(alloc, &[top, bottom])?,
     })
 }
 
@@ -216,12 +216,12 @@ fn a_pattern_without_cells_has_no_band(rt: HostRuntime) -> Result<(), Fail> {
     let wide = Pattern {
         width: u64::MAX,
         height: 0,
-        rows: List::of(Vec::new(alloc)),
+        rows: CellRows::with_room(alloc, 0, 0)?,
     };
     let high = Pattern {
         width: 0,
         height: u64::MAX,
-        rows: List::of(Vec::new(alloc)),
+        rows: CellRows::with_room(alloc, 0, 0)?,
     };
     for pattern in Vec::from_array(alloc, [wide, high])? {
         let bands = Bands::new(alloc, pattern, Vec::new(alloc), u32::MAX)?;

@@ -17,10 +17,10 @@ fn state_of(letter: u8) -> State {
 // Whether the pattern has just these rows of cells.
 fn has_rows(pattern: &Pattern, rows: &[&[u8]]) -> bool {
     pattern.rows.len() == rows.len()
-        && pattern.rows.as_slice().iter().zip(rows).all(|(row, letters)| {
+        && rows.iter().enumerate().all(|(y, letters)| {
+            let row = pattern.rows.row_or_none(y);
             row.len() == letters.len()
                 && row
-                    .as_slice()
                     .iter()
                     .zip(*letters)
                     .all(|(cell, letter)| *cell == state_of(*letter))

@@ -1,10 +1,9 @@
 // Small patterns by hand, in the letters of RLE: '.' is empty, A a head, B a tail and C a conductor.
 ghost use Rattle.std.specs.Prelude.{◌≡◌, length, IfOk};
 
-use lists::List;
 use std::alloc::Global;
 use std::test::Fail;
-use ww_rule::{Pattern, Plane, RuleError, State, mirror_x, step_driven, step_plain};
+use ww_rule::{CellRows, Pattern, Plane, RuleError, State, mirror_x, step_driven, step_plain};
 
 fn state_of(letter: u8) -> State {
     match letter {
@@ -20,23 +19,24 @@ fn pattern_of(alloc: Global, text: &[[u8; 3]]) -> Result<Pattern, RuleError>
     ensures width { IfOk result (λ pattern. pattern.width ≡ 3) }
     ensures height { IfOk result (λ pattern. pattern.height ≡ length text.now) }
 {
-    let mut rows = Vec::with_capacity(alloc, text.len())?;
+    let mut rows = CellRows::with_room(alloc, 3, text.len())?;
     for [west, middle, east] in text {
         let row = [state_of(*west), state_of(*middle), state_of(*east)];
-        rows.push(List::of(row.to_vec(alloc)?))?;
+        rows.push_row(&row)?;
     }
     Ok(Pattern {
         width: 3,
         height: text.len() as u64,
-        rows: List::of(rows),
+        rows,
     })
 }
 
 // Whether rows are those of the text.
-fn is_text(rows: &[List<State>], text: &[[u8; 3]]) -> bool {
+fn is_text(rows: &CellRows, text: &[[u8; 3]]) -> bool {
     rows.len() == text.len()
-        && rows.iter().zip(text).all(|(row, [west, middle, east])| {
-            row.as_slice() == [state_of(*west), state_of(*middle), state_of(*east)].as_slice()
+        && text.iter().enumerate().all(|(y, [west, middle, east])| {
+            let row = [state_of(*west), state_of(*middle), state_of(*east)];
+            rows.row_or_none(y) == row.as_slice()
         })
 }
 
@@ -52,9 +52,9 @@ fn one_generation_by_the_rule(rt: HostRuntime) -> Result<(), Fail> {
     ];
     for (before, after) in cases {
         let plane = Plane::from_pattern(alloc, &pattern_of(alloc, before)?)?;
-        assert!(rt; is_text(plane.rows.as_slice(), before));
+        assert!(rt; is_text(&plane.rows, before));
         let next = step_plain(alloc, &plane)?;
-        assert!(rt; is_text(next.rows.as_slice(), after), "{before:?}");
+        assert!(rt; is_text(&next.rows, after), "{before:?}");
         assert_eq!(rt; (next.width, next.height), (plane.width, plane.height));
     }
     Ok(())
@@ -65,7 +65,7 @@ fn an_injection_follows_the_rule(rt: HostRuntime) -> Result<(), Fail> {
     let alloc = rt.alloc();
     let plane = Plane::from_pattern(alloc, &pattern_of(alloc, &[*b"CCA"])?)?;
     let next = step_driven(alloc, &plane, &[(0, 0)])?;
-    assert!(rt; is_text(next.rows.as_slice(), &[*b"AAB"]));
+    assert!(rt; is_text(&next.rows, &[*b"AAB"]));
     Ok(())
 }
 
@@ -73,7 +73,7 @@ fn an_injection_follows_the_rule(rt: HostRuntime) -> Result<(), Fail> {
 fn a_mirror_turns_each_row(rt: HostRuntime) -> Result<(), Fail> {
     let alloc = rt.alloc();
     let mirror = mirror_x(alloc, &pattern_of(alloc, &[*b"CA."])?)?;
-    assert!(rt; is_text(mirror.rows.as_slice(), &[*b".AC"]));
+    assert!(rt; is_text(&mirror.rows, &[*b".AC"]));
     assert_eq!(rt; (mirror.width, mirror.height), (3, 1));
     Ok(())
 }

@@ -155,6 +155,13 @@ impl CellRows {
         row_in(&self.cells, self.width, y)
     }
 
+    /// The cells of row y, or no cells where there is no such row.
+    pub fn row_or_none(&self, y: usize) -> &[State]
+        ensures { result.now ≡ get_or self.now y [] }
+    {
+        if y < self.count { self.row(y) } else { &[] }
+    }
+
     /// One more row below the others, as long as they are.
     pub fn push_row(&mut self, row: &[State]) -> Result<(), AllocError>
         requires { All (λ other. length other ≡ length row.now) self.old }

@@ -7,7 +7,7 @@ ghost use Rattle.ww_rule.specs.Injections.{has_cell};
 use crate::cell_rows::CellRows;
 use crate::error::RuleError;
 use crate::pattern::{Pattern, State};
-use crate::rows::{next_row, row_before, row_or_none};
+use crate::rows::{next_row, row_before};
 use std::alloc::Global;
 
 /// A plane with finitely many cells: `height` rows of `width` cells each, from north to south, the first cell at x = 0
@@ -85,7 +85,7 @@ pub fn step_plain(alloc: Global, plane: &Plane) -> Result<Plane, RuleError>
     let mut rows = CellRows::with_room(alloc, 0, 0)?;
     for y in 0..old.len() {
         let above = row_before(old, y);
-        let below = row_or_none(old, y + 1);
+        let below = old.row_or_none(y + 1);
         let next = next_row(alloc, above, old.row(y), below)?;
         rows.push_row(next.as_slice())?;
     }

@@ -72,13 +72,6 @@ pub fn next_row(
     Ok(List::of(next))
 }
 
-/// Row y, or no cells where there is none.
-pub fn row_or_none(rows: &CellRows, y: usize) -> &[State]
-    ensures { result.now ≡ get_or rows.now y [] }
-{
-    if y < rows.len() { rows.row(y) } else { &[] }
-}
-
 /// The row before row y, counted from 1, or no cells where there is none.
 pub fn row_before(rows: &CellRows, y: usize) -> &[State]
     ensures first { y ≡ 0 → result.now ≡ [] }
@@ -87,7 +80,7 @@ pub fn row_before(rows: &CellRows, y: usize) -> &[State]
     if y == 0 {
         return &[];
     }
-    row_or_none(rows, y - 1)
+    rows.row_or_none(y - 1)
 }
 
 // A row from its end to its start.

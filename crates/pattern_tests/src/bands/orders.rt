@@ -10,7 +10,7 @@ use band_core::Bands;
 use lists::List;
 use std::alloc::{AllocError, Global};
 use std::test::Fail;
-use ww_rule::{Injection, Pattern, Plane, State, step_driven};
+use ww_rule::{CellRows, Injection, Pattern, Plane, State, step_driven};
 
 // The last generation that a band comes to.
 const LAST: u64 = 6;
@@ -66,7 +66,7 @@ fn random_pattern(alloc: Global, dice: &mut Dice, width: u64) -> Result<Pattern,
     Ok(Pattern {
         width,
         height: 5,
-        rows: List::of(Vec::from_array(alloc, rows)?),
+        rows: CellRows::of_rows(alloc, &rows)?,
     })
 }
 
@@ -178,10 +178,7 @@ fn is_right(
     let Some(plane) = planes.get(generation as usize) else {
         return Ok(false);
     };
-    match plane.rows.as_slice().get(y as usize) {
-        Some(row) => Ok(drawn_row(alloc, row.as_slice())? == shown),
-        None => Ok(false),
-    }
+    Ok(drawn_row(alloc, plane.rows.row_or_none(y as usize))? == shown)
 }
 
 // Whether all rows do, after calls in a random order.

@@ -4,6 +4,6 @@ use Rattle.drive.proofs.tests.or_gate.Given as goal
 abbrev pub invariant-loop-y : goal.invariant-loop-y
 invariant-loop-y l =
     record {
-      many : length l.rows.items ≡ l.y;
-      long : All (λ row. length row ≡ 33) l.rows.items;
+      many : length l.rows ≡ l.y;
+      long : All (λ row. length row ≡ 33) l.rows;
     }

@@ -4,6 +4,6 @@ use Rattle.layout_tests.proofs.drawings.drawn.Given as goal
 abbrev pub invariant-loop-y : goal.invariant-loop-y
 invariant-loop-y l =
     record {
-      many : length l.rows.items ≡ l.y;
-      long : All (λ row. length row ≡ 129) l.rows.items;
+      many : length l.rows ≡ l.y;
+      long : All (λ row. length row ≡ 129) l.rows;
     }

@@ -24,7 +24,7 @@ returns-clause-run c =
       at = λ b lt. get_or-replicate many b 0 0 (subst (λ (n : ℕ). b < n) (length-replicate many 0) lt);
       height = refl;
       width = refl;
-      rows = c.len-rows.ensures;
+      rows = c.len-rows.ensures.count;
       last = subst (All (λ (i : Injection). i.generation ≤ last)) c.deref.ensures.value c.last_generation-last_injection.ensures;
       still = λ e g le. cc;
     })
