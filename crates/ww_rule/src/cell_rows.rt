@@ -159,7 +159,7 @@ impl CellRows {
     pub fn row_or_none(&self, y: usize) -> &[State]
         ensures { result.now ≡ get_or self.now y [] }
     {
-        if y < self.count { self.row(y) } else { &[] }
+        if y < self.len() { self.row(y) } else { &[] }
     }
 
     /// One more row below the others, as long as they are.
