@@ -1,5 +1,5 @@
 -- Cells that are cut into rows: which row stands where, one row more, and a row in another's place.
-use Rattle.std.proofs.Common.{ℕ, zero, suc, ◌+◌, ◌*◌, ◌<◌, ◌≤◌, ◌≡◌, refl, sym, ap, ap₂, ◌∙◌, List, [], ◌∷◌, ◌++◌, length, get_or, take, drop, replicate, slice_set, All, arith, length-take, length-drop, length-append}
+use Rattle.std.proofs.Common.{ℕ, zero, suc, ◌+◌, ◌*◌, ◌<◌, ◌≤◌, ◌≡◌, refl, sym, ap, ap₂, subst, ◌∙◌, List, [], ◌∷◌, ◌++◌, length, get_or, take, drop, replicate, slice_set, All, arith, length-take, length-drop, length-append}
 use Rattle.std.proofs.lemmas.List.{drop-drop, drop-take, take-append-le, drop-append-le, take_at, drop_at, take_all, nil_from_length, length-replicate, replicate-append-replicate}
 use Rattle.std.proofs.Math.Nat.{suc-mul, mul-le-mul_right}
 use Rattle.ww_rule.specs.declared.pattern.State.{State}
@@ -128,3 +128,9 @@ pub length-with_run : (row : List State) (x n : ℕ) (s : State) → x + n ≤ l
 length-with_run row x n s room =
     length-append (take x row) (replicate n s ++ drop (x + n) row)
     ∙ (let e : length (take x row) + length (replicate n s ++ drop (x + n) row) ≡ length row = omega (arith, length-append (replicate n s) (drop (x + n) row), length-replicate n s, length-take x row, length-drop (x + n) row) in e)
+
+-- all rows are as long as the first one
+pub rows_alike : (w n : ℕ) (cells : List State) (rows : List (List State)) → n * w ≡ length cells → cut_rows w n cells ≡ rows → All (λ row. length row ≡ length (get_or rows 0 [])) rows
+rows_alike w n cells rows whole same k d h =
+    let long : All (λ row. length row ≡ w) rows = subst (All (λ row. length row ≡ w)) same (long_rows w n cells whole) in
+    long k d h ∙ sym (long 0 [] (omega arith))

@@ -20,7 +20,7 @@ is_causal due other p (suc g) agree =
     injected_same (due (suc g)) (other (suc g)) (next_plane (driven due p g)) (next_plane (driven other p g)) (λ x y. agree (suc g) x y (omega arith)) (ap next_plane (is_causal due other p g (λ h x y le. agree h x y (omega arith))))
 
 -- what commutes with the rule and with injections commutes with driven evolutions
-drives_turned : (turn : Plane → Plane) (turned : Due → Due) → ((p : Plane) → next_plane (turn p) ≡ turn (next_plane p)) → ((due : Due) (g : ℕ) (p : Plane) → injected (turned due g) (turn p) ≡ turn (injected (due g) p)) → (due : Due) (p : Plane) (g : ℕ) → driven (turned due) (turn p) g ≡ turn (driven due p g)
+pub drives_turned : (turn : Plane → Plane) (turned : Due → Due) → ((p : Plane) → next_plane (turn p) ≡ turn (next_plane p)) → ((due : Due) (g : ℕ) (p : Plane) → injected (turned due g) (turn p) ≡ turn (injected (due g) p)) → (due : Due) (p : Plane) (g : ℕ) → driven (turned due) (turn p) g ≡ turn (driven due p g)
 drives_turned turn turned steps injects due p zero = injects due zero p
 drives_turned turn turned steps injects due p (suc g) =
     ap (λ q. injected (turned due (suc g)) (next_plane q)) (drives_turned turn turned steps injects due p g)

@@ -12,3 +12,6 @@ pub mod Streams
 pub mod DrivenPlanes
 pub mod Lists
 pub mod Due
+pub mod Turns
+pub mod Puts
+pub mod OneColumn

@@ -6,3 +6,4 @@ pub mod Patterns
 pub mod Laws
 pub mod DrivenLaws
 pub mod Due
+pub mod Turns

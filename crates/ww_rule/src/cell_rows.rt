@@ -2,8 +2,11 @@
 ghost use Rattle.std.specs.Prelude.{◌≡◌, ◌<◌, ◌≤◌, ◌+◌, ◌*◌, ◌^◌, [], ◌∷◌, ◌++◌, length, take, drop, get_or, slice_set, replicate, All, IfOk};
 ghost use Rattle.ww_rule.specs.declared.pattern.State.TheVariants.{Empty};
 ghost use Rattle.ww_rule.specs.Cuts.{with_row, with_run};
+ghost use Rattle.ww_rule.specs.Grid.{plane_of};
+ghost use Rattle.ww_rule.specs.Turns.{turned};
 
 use crate::pattern::State;
+use crate::turning::columns_of;
 use lists::List;
 use std::alloc::{AllocError, Global};
 use std::marker::Model;
@@ -192,5 +195,22 @@ impl CellRows {
         ensures { self.new ≡ slice_set self.old y (slice_set (get_or self.old y []) x state) }
     {
         put_in(&mut self.cells, self.width, x, y, state);
+    }
+
+    /// The columns of the rows, from west to east, as rows. Rows of one cell each are turned with no memory.
+    pub fn turned(self, alloc: Global) -> Result<CellRows, AllocError>
+        ensures many { IfOk result (λ made. length made ≡ length (get_or self 0 [])) }
+        ensures long { IfOk result (λ made. All (λ row. length row ≡ length self) made) }
+        ensures cells { IfOk result (λ made. plane_of made ≡ turned (plane_of self)) }
+    {
+        if self.width != 1 || self.count == 0 {
+            return columns_of(alloc, &self);
+        }
+        let CellRows { count, cells, .. } = self;
+        Ok(CellRows {
+            width: count,
+            count: 1,
+            cells,
+        })
     }
 }

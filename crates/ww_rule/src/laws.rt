@@ -3,6 +3,7 @@ ghost use Rattle.std.specs.Prelude.{Bool, List, ℕ};
 ghost use Rattle.ww_rule.specs.declared.pattern.Injection.{Injection};
 ghost use Rattle.ww_rule.specs.Wireworld.{Plane};
 ghost use Rattle.ww_rule.specs.Laws.{KeepsTranslations, KeepsMirrors, IsUndrivenEvolution, IsLocal, StaysInBox, StaysFinite, StreamsAreInjected};
+ghost use Rattle.ww_rule.specs.Turns.{KeepsTurns, DrivesTurned};
 ghost use Rattle.ww_rule.specs.DrivenLaws.{KeepsMirrorsDown, DrivesAnywhere, IsCausal, IsDrivenLocally, StepsWithInjections, ListsAreInjected, StreamsGoOn};
 
 /// The rule, and every number of generations of it, commute with translations.
@@ -18,6 +19,16 @@ pub fn keeps_mirrors()
 /// They commute with mirrors from north to south, too.
 pub fn keeps_mirrors_down()
     ensures { KeepsMirrorsDown }
+{}
+
+/// They commute with the exchange of columns and rows, too.
+pub fn keeps_turns()
+    ensures { KeepsTurns }
+{}
+
+/// A driven evolution commutes with this exchange, where its injections are turned with it.
+pub fn drives_turned()
+    ensures { DrivesTurned }
 {}
 
 /// A pattern that is not driven evolves by the rule alone.

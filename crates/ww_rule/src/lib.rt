@@ -8,6 +8,7 @@ mod mirror;
 mod pattern;
 mod plane;
 mod rows;
+mod turning;
 
 pub use cell_rows::CellRows;
 pub use error::RuleError;

@@ -1,0 +1,71 @@
+// Columns of rows, as rows.
+ghost use Rattle.std.specs.Prelude.{◌≡◌, ◌≢◌, ◌<◌, ◌≤◌, ℕ, [], length, get_or, All, IfOk};
+ghost use Rattle.ww_rule.specs.declared.pattern.State.TheVariants.{Empty};
+ghost use Rattle.ww_rule.specs.Grid.{plane_of};
+ghost use Rattle.ww_rule.specs.Turns.{turned, injection_turned};
+
+use crate::cell_rows::CellRows;
+use crate::pattern::{Injection, Pattern, State};
+use std::alloc::{AllocError, Global};
+
+// Makes these cells column x of rows, from the first row on.
+fn put_column(rows: &mut CellRows, x: usize, column: &[State])
+    requires many { length column.now ≤ length rows.old }
+    requires long { (y : ℕ) → y < length column.now → x < length (get_or rows.old y []) }
+    ensures many { length rows.new ≡ length rows.old }
+    ensures long { (y : ℕ) → length (get_or rows.new y []) ≡ length (get_or rows.old y []) }
+    ensures here { (y : ℕ) → y < length column.now → get_or (get_or rows.new y []) x Empty ≡ get_or column.now y Empty }
+    ensures others { (u y : ℕ) → u ≢ x → get_or (get_or rows.new y []) u Empty ≡ get_or (get_or rows.old y []) u Empty }
+{
+    for (y, state) in column.iter().enumerate() {
+        rows.put(x, y, *state);
+    }
+}
+
+/// The columns of rows of one length, from west to east, as rows.
+pub fn columns_of(alloc: Global, rows: &CellRows) -> Result<CellRows, AllocError>
+    requires { All (λ row. length row ≡ length (get_or rows.now 0 [])) rows.now }
+    ensures many { IfOk result (λ made. length made ≡ length (get_or rows.now 0 [])) }
+    ensures long { IfOk result (λ made. All (λ row. length row ≡ length rows.now) made) }
+    ensures cells { IfOk result (λ made. plane_of made ≡ turned (plane_of rows.now)) }
+{
+    let width = rows.row_or_none(0).len();
+    let mut made = CellRows::blank(alloc, rows.len(), width)?;
+    for y in 0..rows.len() {
+        put_column(&mut made, y, rows.row(y));
+    }
+    Ok(made)
+}
+
+impl Injection {
+    /// The injection of the same generation at the cell whose column is this one's row, and whose row is its column.
+    pub fn turned(self) -> Injection
+        ensures { result ≡ injection_turned self }
+    {
+        Injection {
+            generation: self.generation,
+            x: self.y,
+            y: self.x,
+        }
+    }
+}
+
+impl Pattern {
+    /// The pattern with its columns, from west to east, as rows. One column is turned with no memory.
+    pub fn turned(self, alloc: Global) -> Result<Pattern, AllocError>
+        ensures width { IfOk result (λ made. made.width ≡ self.height) }
+        ensures height { IfOk result (λ made. made.height ≡ self.width) }
+        ensures cells { IfOk result (λ made. plane_of made.rows ≡ turned (plane_of self.rows)) }
+    {
+        let Pattern {
+            width,
+            height,
+            rows,
+        } = self;
+        Ok(Pattern {
+            width: height,
+            height: width,
+            rows: rows.turned(alloc)?,
+        })
+    }
+}
