@@ -8,3 +8,4 @@ pub mod Across
 pub mod Sweeps
 pub mod Still
 pub mod Last
+pub mod Turned

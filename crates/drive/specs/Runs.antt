@@ -4,6 +4,9 @@ use Rattle.ww_rule.specs.Wireworld.{Plane, driven}
 use Rattle.ww_rule.specs.Grid.{plane_of}
 use Rattle.ww_rule.specs.Injections.{due_of_list}
 use Rattle.band_core.specs.Bands.{BandedPattern, IsBandedPattern, generation_of}
+use Rattle.ww_rule.specs.Turns.{turned}
+use Rattle.drive.specs.declared.run.Orientation.{Orientation}
+use Rattle.drive.specs.declared.run.Orientation.TheVariants.{Upright, Turned}
 use Rattle.drive.specs.declared.run.Run.{Run}
 
 -- all bands have come to a generation
@@ -14,11 +17,16 @@ AreAt g pattern = (b : ℕ) → b < length pattern.generations → generation_of
 abbrev pub evolution : BandedPattern → ℕ → Plane
 evolution pattern = driven (due_of_list pattern.injections) (plane_of pattern.grid.rows)
 
+-- the planes of a pattern that lies in its bands in an orientation
+abbrev pub laid : Orientation → (ℕ → Plane) → ℕ → Plane
+laid Upright planes = planes
+laid Turned planes = λ g. turned (planes g)
+
 -- the planes that a run shows, generation after generation
 abbrev pub planes_of : Run → ℕ → Plane
-planes_of run = evolution run.bands
+planes_of run = laid run.orientation (evolution run.bands)
 
--- What holds of each run. One that is still shows at each later generation what it shows now.
+-- What holds of each run; its width and rows are those of its bands. One that is still shows at each later generation what it shows now.
 pub record IsBandRun (run : Run) : Type 0 where
   pub whole : IsBandedPattern run.bands
   pub at : AreAt run.generation run.bands

@@ -1,5 +1,5 @@
 // A pattern's run under injections, in bands of rows that are all at one generation.
-ghost use Rattle.std.specs.Prelude.{◌≡◌, ◌≤◌, ◌<◌, ◌+◌, ◌^◌, All, IfOk, pos};
+ghost use Rattle.std.specs.Prelude.{◌≡◌, ◌≤◌, ◌<◌, ◌+◌, ◌^◌, All, IfOk, map, pos};
 ghost use Rattle.ww_rule.specs.Due.{AreInOrderFrom};
 ghost use Rattle.ww_rule.specs.Injections.{AreInside};
 ghost use Rattle.ww_rule.specs.Patterns.{grid_of};
@@ -7,7 +7,8 @@ ghost use Rattle.ww_rule.specs.Grid.{AreInBox, plane_of};
 ghost use Rattle.ww_rule.specs.Wireworld.{is_head};
 ghost use Rattle.pattern_reading.specs.Ports.{cells_of};
 ghost use Rattle.drive.specs.Driving.{AreFor, driven_by};
-ghost use Rattle.drive.specs.Runs.{IsBandRun, planes_of};
+ghost use Rattle.ww_rule.specs.Turns.{injection_turned};
+ghost use Rattle.drive.specs.Runs.{IsBandRun, evolution, planes_of};
 
 use crate::driving::injections;
 use crate::error::DriveError;
@@ -21,11 +22,22 @@ use ww_rule::{Injection, Pattern, State};
 /// How many rows a band has.
 const BAND_ROWS: u32 = 16;
 
-/// A driven pattern in bands, how many columns and rows it has, and the generation of its bands. No injection comes after
-/// the last one's generation; where the run is still, no cell changes any more.
+/// How many cells of a row stand in one word of a band.
+const WORD_CELLS: u64 = 64;
+
+/// How a run's pattern lies in its bands: as it was given, or with its columns as rows.
+#[derive(Clone, Copy)]
+pub enum Orientation {
+    Upright,
+    Turned,
+}
+
+/// A driven pattern in bands, in an orientation, how many columns and rows lie there, and the generation of its bands. No
+/// injection comes after the last one's generation; where the run is still, no cell changes any more.
 #[derive(Drop)]
 pub struct Run {
     bands: Bands,
+    orientation: Orientation,
     width: u64,
     rows: usize,
     last_injection: u128,
@@ -44,13 +56,42 @@ fn last_generation(injections: &[Injection]) -> u128
     }
 }
 
+// Whether rows of one word would be mostly empty, and there are more rows than columns.
+fn is_narrow(pattern: &Pattern) -> bool {
+    pattern.width < WORD_CELLS && pattern.width < pattern.height
+}
+
+// Turns each injection.
+fn turn_each(injections: &mut [Injection])
+    ensures { injections.new ≡ map injection_turned injections.old }
+{
+    for injection in injections.iter_mut() {
+        *injection = injection.turned();
+    }
+}
+
+// The injections, each turned.
+fn turned_all(injections: Vec<Injection>) -> Vec<Injection>
+    ensures { result.items ≡ map injection_turned injections.items }
+{
+    let mut turned = injections;
+    turn_each(&mut turned);
+    turned
+}
+
 impl Run {
-    // The run of a pattern under injections, at generation 0.
-    fn begin(alloc: Global, pattern: Pattern, injections: Vec<Injection>) -> Result<Run, DriveError>
+    // The run of a pattern under injections, at generation 0, which lie in the bands in this orientation.
+    fn begin(
+        alloc: Global,
+        pattern: Pattern,
+        injections: Vec<Injection>,
+        orientation: Orientation,
+    ) -> Result<Run, DriveError>
         requires inside { AreInside pattern.width pattern.height injections.items }
         requires in_order { AreInOrderFrom 0 injections.items }
         ensures run { IfOk result IsBandRun }
         ensures begun { IfOk result (λ run. run.generation ≡ 0) }
+        ensures orientation { IfOk result (λ run. run.orientation ≡ orientation) }
         ensures grid { IfOk result (λ run. run.bands.grid ≡ grid_of pattern) }
         ensures injections { IfOk result (λ run. run.bands.injections ≡ injections.items) }
     {
@@ -60,6 +101,7 @@ impl Run {
         let bands = Bands::new(alloc, pattern, injections, BAND_ROWS)?;
         Ok(Run {
             bands,
+            orientation,
             width,
             rows,
             last_injection,
@@ -83,7 +125,11 @@ impl Run {
         ensures planes { IfOk result (λ run. planes_of run ≡ driven_by ports.now streams.now (plane_of pattern.rows)) }
     {
         let due = injections(alloc, ports, streams)?;
-        Run::begin(alloc, pattern, due)
+        if !is_narrow(&pattern) {
+            return Run::begin(alloc, pattern, due, Orientation::Upright);
+        }
+        let turned = pattern.turned(alloc)?;
+        Run::begin(alloc, turned, turned_all(due), Orientation::Turned)
     }
 
     // Goes on by one generation.
@@ -118,6 +164,17 @@ impl Run {
     pub fn state(&self, x: u128, y: u128) -> State
         requires { IsBandRun self.now }
         ensures { result ≡ planes_of self.now self.now.generation (pos x) (pos y) }
+    {
+        match self.orientation {
+            Orientation::Upright => self.state_in_bands(x, y),
+            Orientation::Turned => self.state_in_bands(y, x),
+        }
+    }
+
+    // The same by the column and row in the bands.
+    fn state_in_bands(&self, x: u128, y: u128) -> State
+        requires { IsBandRun self.now }
+        ensures { result ≡ evolution self.now.bands self.now.generation (pos x) (pos y) }
     {
         if x >= self.width as u128 || y >= self.rows as u128 {
             return State::Empty;

@@ -13,5 +13,4 @@ pub mod DrivenPlanes
 pub mod Lists
 pub mod Due
 pub mod Turns
-pub mod Puts
 pub mod OneColumn

@@ -12,7 +12,7 @@ returns-clause-run c =
     let last = c.last_generation-last_injection.result in
     let many = bands_in (length pattern.rows) 16 in
     let begun = c.in_ok-bands.ensures in
-    subst (λ (bands : BandedPattern). IsBandRun (record { bands = bands; width = pattern.width; rows = c.len-rows.result; last_injection = last; generation = 0; is_still = false })) (sym begun)
+    subst (λ (bands : BandedPattern). IsBandRun (record { bands = bands; orientation = c.args.orientation; width = pattern.width; rows = c.len-rows.result; last_injection = last; generation = 0; is_still = false })) (sym begun)
     (record {
       whole = record {
         grid = pattern.in_rows;

@@ -1,4 +1,6 @@
 use Rattle.std.proofs.Common.{refl, sym, ◌∙◌, arith}
+use Rattle.drive.specs.Runs.{evolution}
+use Rattle.drive.proofs.Turned.{laid_at}
 use Rattle.drive.proofs.run.Run.go_on.Goals as goal
 
 pub loop-self-init : goal.loop-self-init
@@ -16,4 +18,6 @@ loop-self-preserved c =
     }
 
 pub returns-else-not-self-clause-shows : goal.returns-else-not-self-clause-shows
-returns-else-not-self-clause-shows c = sym (c.loop-self.invariant.run.still c.if-not-self.false c.args.generation c.loop-self.invariant.order)
+returns-else-not-self-clause-shows c =
+    let run = c.loop-self.self in
+    laid_at run.orientation (evolution run.bands) run.generation c.args.generation (sym (c.loop-self.invariant.run.still c.if-not-self.false c.args.generation c.loop-self.invariant.order))

@@ -4,7 +4,7 @@ use Rattle.ww_rule.specs.declared.pattern.Injection.{Injection}
 use Rattle.ww_rule.specs.Grid.{Grid, plane_of}
 use Rattle.ww_rule.specs.Injections.{due_of_list}
 use Rattle.ww_rule.specs.Wireworld.{Plane, driven}
-use Rattle.drive.specs.Runs.{evolution}
+use Rattle.drive.specs.Runs.{evolution, laid}
 use Rattle.drive.proofs.Still.{stays_still}
 use Rattle.drive.proofs.Sweeps.{whole_too}
 use Rattle.drive.proofs.run.Run.next.Goals as goal
@@ -12,7 +12,7 @@ use Rattle.drive.proofs.run.Run.next.Goals as goal
 pub returns-clause-planes : goal.returns-clause-planes
 returns-clause-planes c =
     let same = c.move_all-is_asleep.ensures.same in
-    ap₂ (λ (grid : Grid) (injections : List Injection). driven (due_of_list injections) (plane_of grid.rows)) same.grid same.injections
+    ap₂ (λ (grid : Grid) (injections : List Injection). laid c.args.self.now.orientation (driven (due_of_list injections) (plane_of grid.rows))) same.grid same.injections
 
 pub returns-clause-run : goal.returns-clause-run
 returns-clause-run c =

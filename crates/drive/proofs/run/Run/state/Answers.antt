@@ -1,13 +1,16 @@
-use Rattle.std.proofs.Common.{◌≤◌, sym, subst, inl, inr, ℕ}
-use Rattle.drive.proofs.Still.{empty_outside}
-use Rattle.drive.proofs.run.Run.state.Goals.{then-x-self-via-then-x-self, then-x-self-via-else-x-self+then-y-self}
+use Rattle.std.proofs.Common.{◌∙◌, sym, ap, pos}
+use Rattle.drive.specs.declared.run.Orientation.{Orientation}
+use Rattle.drive.specs.Runs.{evolution, laid}
 use Rattle.drive.proofs.run.Run.state.Goals as goal
 
-pub returns-then-x-self : goal.returns-then-x-self
-returns-then-x-self c =
+pub returns-in-Upright : goal.returns-in-Upright
+returns-in-Upright c =
     let run = c.args.self.now in
-    let is = c.requires in
-    elim c.then-x-self.branch [
-      | then-x-self-via-then-x-self w ↦ sym (empty_outside run.bands run.generation c.args.x c.args.y is.whole (inl (subst (λ (n : ℕ). n ≤ c.args.x) is.width w.if-x-self.true)))
-      | then-x-self-via-else-x-self+then-y-self w ↦ sym (empty_outside run.bands run.generation c.args.x c.args.y is.whole (inr (subst (λ (n : ℕ). n ≤ c.args.y) is.rows w.if-y-self.true)))
-    ]
+    c.state_in_bands.ensures
+    ∙ sym (ap (λ (o : Orientation). laid o (evolution run.bands) run.generation (pos c.args.x) (pos c.args.y)) c.in-Upright.is)
+
+pub returns-in-Turned : goal.returns-in-Turned
+returns-in-Turned c =
+    let run = c.args.self.now in
+    c.state_in_bands-in-Turned.ensures
+    ∙ sym (ap (λ (o : Orientation). laid o (evolution run.bands) run.generation (pos c.args.x) (pos c.args.y)) c.in-Turned.is)
