@@ -7,16 +7,17 @@ ghost use Rattle.lane_kernel.specs.Spans.{IsDarkBeyond};
 ghost use Rattle.band_rows.specs.Rows.{AreLong, IsEmptyWest, ShowRows, ShowsHeads, row_heads, row_tails};
 ghost use Rattle.band_core.specs.Band.{AreInRows, IsBand, IsEvolution, ShowsBand, AreUnlit, bottom_at, top_at, injected_cells};
 
-use band_rows::{Kept, Row, Span, step_band};
+use band_rows::{Kept, Row, Span, light_of, step_band};
 use std::alloc::Global;
 use std::mem;
 use ww_rule::Injection;
 
-/// Rows of one generation, the heads of the top and the bottom one a generation ago, and the band's injections, of which
-/// the first ones are done.
+/// Rows of one generation, a span of words beyond which none of them has heads or tails, the heads of the top and the bottom
+/// row a generation ago, and the band's injections, of which the first ones are done.
 #[derive(Drop)]
 pub struct Band {
     pub rows: Vec<Row>,
+    pub light: Span,
     pub generation: u64,
     pub top: Kept,
     pub bottom: Kept,
@@ -122,6 +123,7 @@ impl Band {
     pub fn dark(alloc: Global) -> Band {
         Band {
             rows: Vec::new(alloc),
+            light: Span { first: 0, end: 0 },
             generation: 0,
             top: Kept::dark(alloc),
             bottom: Kept::dark(alloc),
@@ -187,6 +189,7 @@ impl Band {
     {
         let Band {
             mut rows,
+            light: _,
             generation,
             top,
             bottom,
@@ -209,8 +212,10 @@ impl Band {
             bottom,
             &injections[done..done + count],
         );
+        let light = light_of(&rows);
         Band {
             rows,
+            light,
             generation,
             top,
             bottom,
@@ -219,36 +224,21 @@ impl Band {
         }
     }
 
-    /// The band one generation on, where it is dark, no head lies beside it and no injection is due: its rows stay.
-    pub fn rest(self, dark: &[u64]) -> Band
-        requires top { length self.top.heads.items ≡ length dark.now }
-        requires bottom { length self.bottom.heads.items ≡ length dark.now }
-        requires room { self.generation + 1 < 2 ^ 64 }
-        requires dark { (j : ℕ) → get_or dark.now j 0 ≡ 0 }
-        ensures generation { result.generation ≡ self.generation + 1 }
-        ensures rows { result.rows ≡ self.rows }
-        ensures done { result.done ≡ self.done }
-        ensures injections { result.injections ≡ self.injections }
-        ensures long_top { length result.top.heads.items ≡ length dark.now }
-        ensures long_bottom { length result.bottom.heads.items ≡ length dark.now }
-        ensures top { (j : ℕ) → get_or result.top.heads.items j 0 ≡ 0 }
-        ensures bottom { (j : ℕ) → get_or result.bottom.heads.items j 0 ≡ 0 }
+    /// Goes on by one generation, where the band is dark, no head lies beside it and no injection is due: its rows stay.
+    pub fn rest(&mut self)
+        requires room { self.old.generation + 1 < 2 ^ 64 }
+        ensures generation { self.new.generation ≡ self.old.generation + 1 }
+        ensures rows { self.new.rows ≡ self.old.rows }
+        ensures light { self.new.light ≡ self.old.light }
+        ensures done { self.new.done ≡ self.old.done }
+        ensures injections { self.new.injections ≡ self.old.injections }
+        ensures long_top { length self.new.top.heads.items ≡ length self.old.top.heads.items }
+        ensures long_bottom { length self.new.bottom.heads.items ≡ length self.old.bottom.heads.items }
+        ensures top { (j : ℕ) → get_or self.new.top.heads.items j 0 ≡ 0 }
+        ensures bottom { (j : ℕ) → get_or self.new.bottom.heads.items j 0 ≡ 0 }
     {
-        let Band {
-            rows,
-            generation,
-            top,
-            bottom,
-            injections,
-            done,
-        } = self;
-        Band {
-            rows,
-            generation: generation + 1,
-            top: top.keep(dark, Span { first: 0, end: 0 }),
-            bottom: bottom.keep(dark, Span { first: 0, end: 0 }),
-            injections,
-            done,
-        }
+        self.generation += 1;
+        self.top.clear();
+        self.bottom.clear();
     }
 }

@@ -128,26 +128,16 @@ pub fn move_band(
     bands[b] = next;
 }
 
-/// Moves band b on by one generation where nothing can change in it: its rows stay. No memory is taken.
-pub fn rest_band(
-    alloc: Global,
-    bands: &mut [Band],
-    b: usize,
-    height: usize,
-    rows: usize,
-    dark: &[u64],
-)
+/// Moves band b on by one generation where nothing can change in it: its rows stay.
+pub fn rest_band(bands: &mut [Band], b: usize)
     requires band { b < length bands.old }
     requires room { get_or (generations_of bands.old) b 0 + 1 < 2 ^ 64 }
-    requires bands { AreBands (length dark.now) height rows bands.old }
-    requires dark { (j : ℕ) → get_or dark.now j 0 ≡ 0 }
     requires none_due { (d : Band) → HasNoneDue (get_or bands.old b d) }
-    ensures bands { AreBands (length dark.now) height rows bands.new }
+    ensures bands { (words height rows : ℕ) → AreBands words height rows bands.old → AreBands words height rows bands.new }
     ensures generations { generations_of bands.new ≡ slice_set (generations_of bands.old) b (get_or (generations_of bands.old) b 0 + 1) }
-    ensures shows { (e : ℕ → Plane) (due : Due) (width : ℕ) → IsEvolution e due width rows → AllShow e due height rows bands.old → IsQuiet e due (get_or (generations_of bands.old) b 0) (b * height) (min height (rows - b * height)) → AllShow e due height rows bands.new }
+    ensures shows { (e : ℕ → Plane) (due : Due) (width words height rows : ℕ) → IsEvolution e due width rows → AreBands words height rows bands.old → AllShow e due height rows bands.old → IsQuiet e due (get_or (generations_of bands.old) b 0) (b * height) (min height (rows - b * height)) → AllShow e due height rows bands.new }
 {
-    let band = mem::replace(&mut bands[b], Band::dark(alloc));
-    bands[b] = band.rest(dark);
+    bands[b].rest();
 }
 
 /// A cell that keeps band b awake.
@@ -171,7 +161,7 @@ pub fn awake_cell(
     let band = &bands[b];
     let y = b * height;
     let own = band.rows.as_slice();
-    if let Some((x, z)) = lit_cell(own, y) {
+    if let Some((x, z)) = lit_cell(own, band.light, y) {
         return Some((x as u64, z as u64));
     }
     let (up, up_span) = row_above(bands, b, band.generation, dark);
