@@ -1,10 +1,10 @@
 // One band.
 ghost use Rattle.ww_rule.specs.Due.{due_count};
-ghost use Rattle.std.specs.Prelude.{◌≡◌, ◌+◌, ◌-◌, ◌<◌, ◌≤◌, ◌^◌, ◌+ℤ◌, ◌-ℤ◌, ℕ, pos, length, get_or, drop, take, IfOk, All};
+ghost use Rattle.std.specs.Prelude.{◌≡◌, ◌+◌, ◌-◌, ◌<◌, ◌≤◌, ◌^◌, ◌+ℤ◌, ◌-ℤ◌, ℕ, List, pos, length, get_or, drop, take, IfOk, All};
 ghost use Rattle.ww_rule.specs.Wireworld.{Plane, Due, next_plane, injected};
 ghost use Rattle.ww_rule.specs.Injections.{has_cell};
 ghost use Rattle.lane_kernel.specs.Spans.{IsDarkBeyond};
-ghost use Rattle.band_rows.specs.Rows.{AreLong, IsEmptyWest, ShowRows, ShowsHeads, row_heads, row_tails};
+ghost use Rattle.band_rows.specs.Rows.{AreDarkBeyond, AreLong, IsEmptyWest, ShowRows, ShowsHeads, row_heads, row_tails};
 ghost use Rattle.band_core.specs.Band.{AreInRows, IsBand, IsEvolution, ShowsBand, AreUnlit, bottom_at, top_at, injected_cells};
 
 use band_rows::{Kept, Row, Span, light_of, step_band};
@@ -132,31 +132,44 @@ impl Band {
         }
     }
 
+    // A row's span, or an empty one where the whole band is dark.
+    fn lit_span(&self, span: Span) -> Span
+        ensures within { (n : ℕ) → span.end ≤ n → result.end ≤ n }
+        ensures dark { (words : List ℕ) → IsDarkBeyond self.now.light.first self.now.light.end words → IsDarkBeyond span.first span.end words → IsDarkBeyond result.first result.end words }
+    {
+        if self.light.is_empty() {
+            return Span { first: 0, end: 0 };
+        }
+        span
+    }
+
     /// The heads of the bottom row at a generation, which is the band's or the one before, and a span beyond which there are
     /// none.
     pub fn bottom_heads(&self, generation: u64) -> (&[u64], Span)
-        requires { 0 < length self.now.rows.items }
+        requires some { 0 < length self.now.rows.items }
+        requires light { AreDarkBeyond self.now.light.first self.now.light.end self.now.rows.items }
         ensures heads { result.0.now ≡ bottom_at generation self.now }
         ensures within { result.1.end ≤ length result.0.now }
         ensures dark { IsDarkBeyond result.1.first result.1.end result.0.now }
     {
         if self.generation == generation {
             let row = &self.rows[self.rows.len() - 1];
-            return (row.heads.as_slice(), row.span);
+            return (row.heads.as_slice(), self.lit_span(row.span));
         }
         (self.bottom.heads.as_slice(), self.bottom.span)
     }
 
     /// The heads of the top row, likewise.
     pub fn top_heads(&self, generation: u64) -> (&[u64], Span)
-        requires { 0 < length self.now.rows.items }
+        requires some { 0 < length self.now.rows.items }
+        requires light { AreDarkBeyond self.now.light.first self.now.light.end self.now.rows.items }
         ensures heads { result.0.now ≡ top_at generation self.now }
         ensures within { result.1.end ≤ length result.0.now }
         ensures dark { IsDarkBeyond result.1.first result.1.end result.0.now }
     {
         if self.generation == generation {
             let row = &self.rows[0];
-            return (row.heads.as_slice(), row.span);
+            return (row.heads.as_slice(), self.lit_span(row.span));
         }
         (self.top.heads.as_slice(), self.top.span)
     }

@@ -2,6 +2,7 @@
 ghost use Rattle.std.specs.Prelude.{◌≡◌, ◌+◌, ◌-◌, ◌*◌, ◌<◌, ◌≤◌, ◌^◌, ◌⊎◌, ℕ, length, get_or, min, slice_set, None, IfSome};
 ghost use Rattle.ww_rule.specs.Wireworld.{Plane, Due};
 ghost use Rattle.lane_kernel.specs.Spans.{IsDarkBeyond};
+ghost use Rattle.band_rows.specs.Rows.{AreDarkBeyond};
 ghost use Rattle.band_core.specs.declared.band.Band.{Band};
 ghost use Rattle.band_core.specs.Bands.{not_ready, unready_neighbour};
 ghost use Rattle.band_core.specs.Band.{AreBands, AllShow, HasNoneDue, IsEvolution, IsQuiet, IsWaking, bottom_at, generations_of, top_at};
@@ -57,6 +58,7 @@ pub fn row_above<'a>(
 ) -> (&'a [u64], Span)
     requires band { b < length bands.now }
     requires some { (d : Band) → 0 < b → 0 < length (get_or bands.now (b - 1) d).rows.items }
+    requires light { (d : Band) → 0 < b → AreDarkBeyond (get_or bands.now (b - 1) d).light.first (get_or bands.now (b - 1) d).light.end (get_or bands.now (b - 1) d).rows.items }
     requires dark { (j : ℕ) → get_or dark.now j 0 ≡ 0 }
     ensures first { b ≡ 0 → result.0.now ≡ dark.now }
     ensures later { (d : Band) → 0 < b → result.0.now ≡ bottom_at generation (get_or bands.now (b - 1) d) }
@@ -78,6 +80,7 @@ pub fn row_below<'a>(
 ) -> (&'a [u64], Span)
     requires band { b < length bands.now }
     requires some { (d : Band) → b + 1 < length bands.now → 0 < length (get_or bands.now (b + 1) d).rows.items }
+    requires light { (d : Band) → b + 1 < length bands.now → AreDarkBeyond (get_or bands.now (b + 1) d).light.first (get_or bands.now (b + 1) d).light.end (get_or bands.now (b + 1) d).rows.items }
     requires dark { (j : ℕ) → get_or dark.now j 0 ≡ 0 }
     ensures last { b + 1 ≡ length bands.now → result.0.now ≡ dark.now }
     ensures earlier { (d : Band) → b + 1 < length bands.now → result.0.now ≡ top_at generation (get_or bands.now (b + 1) d) }
@@ -91,6 +94,7 @@ pub fn row_below<'a>(
 }
 
 /// Moves band b on by one generation. No memory is taken.
+#[inline(never)]
 pub fn move_band(
     alloc: Global,
     bands: &mut [Band],

@@ -40,6 +40,9 @@ impl Kept {
         ensures long { length self.new.heads.items ≡ length self.old.heads.items }
         ensures dark { (j : ℕ) → get_or self.new.heads.items j 0 ≡ 0 }
     {
+        if self.span.is_empty() {
+            return;
+        }
         darken(&mut self.heads, self.span.first, self.span.end);
         self.span = Span { first: 0, end: 0 };
     }
