@@ -9,7 +9,6 @@ ghost use Rattle.band_core.specs.Band.{AreInRows, IsBand, IsEvolution, ShowsBand
 
 use band_rows::{Kept, Row, Span, light_of, step_band};
 use std::alloc::Global;
-use std::mem;
 use ww_rule::Injection;
 
 /// Rows of one generation, a span of words beyond which none of them has heads or tails, the heads of the top and the bottom
@@ -37,7 +36,7 @@ pub fn due_count(generation: u128, injections: &[Injection]) -> usize
 }
 
 /// Makes the cells of injections heads, in rows from row y on. No memory is taken.
-pub fn inject(alloc: Global, rows: &mut [Row], y: usize, words: usize, due: &[Injection])
+pub fn inject(rows: &mut [Row], y: usize, words: usize, due: &[Injection])
     requires long { AreLong words rows.old }
     requires inside { AreInRows words y (length rows.old) due.now }
     ensures many { length rows.new ≡ length rows.old }
@@ -46,8 +45,7 @@ pub fn inject(alloc: Global, rows: &mut [Row], y: usize, words: usize, due: &[In
 {
     for injection in due {
         let place = injection.y as usize - y;
-        let row = mem::replace(&mut rows[place], Row::dark(alloc));
-        rows[place] = row.with_head(injection.x as usize);
+        rows[place].make_head(injection.x as usize);
     }
 }
 
@@ -114,7 +112,7 @@ fn step_rows(
         spare_wires,
     );
     let kept = keep_edges(rows, top, bottom);
-    inject(alloc, rows, y, up.len(), due);
+    inject(rows, y, up.len(), due);
     kept
 }
 

@@ -92,7 +92,7 @@ fn begin_band(
 {
     let mut rows = packed(alloc, cells, words)?;
     let done = due_count(0, &injections);
-    inject(alloc, &mut rows, y, words, &injections[..done]);
+    inject(&mut rows, y, words, &injections[..done]);
     let light = light_of(&rows);
     Ok(Band {
         rows,
