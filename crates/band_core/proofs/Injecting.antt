@@ -10,7 +10,7 @@ use Rattle.ww_rule.specs.Wireworld.{Plane, injected}
 use Rattle.ww_rule.specs.Injections.{has_cell}
 use Rattle.band_rows.specs.declared.row.Row.{Row}
 use Rattle.band_rows.specs.Rows.{AreLong, ShowRows, Shows, state_in_row, row_heads, row_tails, row_wires}
-use Rattle.band_rows.proofs.Bands.{other_twice, same, held, shows_same}
+use Rattle.band_rows.proofs.Bands.{other, same, held, shows_same}
 
 int_same : (a b : ℤ) → a ≡ b → int_eq a b ≡ true
 int_same a b e = (Decides-int_eq a b).1 e
@@ -46,43 +46,40 @@ among_miss x v u z n =
     none false = refl
 
 -- one row of which a cell was made a head
-pub head_put : (rows : List Row) (k : ℕ) (z row d new : Row) (x v y : ℕ) (p : Plane) → k < length rows → v ≡ y + k → row ≡ get_or rows k d → ((u : ℕ) → state_in_row new u ≡ cond (u == x) Head (state_in_row row u)) → ShowRows rows p (pos y) → ShowRows (slice_set (slice_set rows k z) k new) (injected (has_cell ((x, v) ∷ [])) p) (pos y)
-head_put rows k z row d new x v y p lt e is cells shows j jlt =
-    let long = length-set rows k z in
-    let long2 = length-set (slice_set rows k z) k new in
+pub head_put : (rows : List Row) (k : ℕ) (d new : Row) (x v y : ℕ) (p : Plane) → k < length rows → v ≡ y + k → ((u : ℕ) → state_in_row new u ≡ cond (u == x) Head (state_in_row (get_or rows k d) u)) → ShowRows rows p (pos y) → ShowRows (slice_set rows k new) (injected (has_cell ((x, v) ∷ [])) p) (pos y)
+head_put rows k d new x v y p lt e cells shows j jlt =
+    let row = get_or rows k d in
+    let long = length-set rows k new in
+    let after = slice_set rows k new in
     elim (cases_eq j k) [
       | inr ne ↦ λ u.
           let miss : pos v ≡ (pos y +ℤ pos j) → ⊥ = λ q. ne (let r : j ≡ k = omega (arith, ints, q, e) in r) in
-          shows_same p (pos y +ℤ pos j) (other_twice (λ row. row.heads.items) rows k j z new ne) (other_twice (λ row. row.tails.items) rows k j z new ne) (other_twice (λ row. row.wires.items) rows k j z new ne) (shows j (omega (arith, jlt, long, long2))) u
+          shows_same p (pos y +ℤ pos j) (other (λ row. row.heads.items) rows k j new ne) (other (λ row. row.tails.items) rows k j new ne) (other (λ row. row.wires.items) rows k j new ne) (shows j (omega (arith, jlt, long))) u
           ∙ sym (ap (λ t. cond t Head (p (pos u) (pos y +ℤ pos j))) (among_miss x v u (pos y +ℤ pos j) miss))
       | inl q ↦
-          let lt2 : k < length (slice_set rows k z) = omega (arith, lt, long) in
           let hit : pos v ≡ pos y +ℤ pos j = omega (arith, ints, q, e) in
           let was : Shows row.heads.items row.tails.items row.wires.items p (pos y +ℤ pos j) =
           shows_same p (pos y +ℤ pos j)
-          (sym (held (λ row. row.heads.items) rows k row d lt is) ∙ ap (row_heads rows) (sym q)) (sym (held (λ row. row.tails.items) rows k row d lt is) ∙ ap (row_tails rows) (sym q)) (sym (held (λ row. row.wires.items) rows k row d lt is) ∙ ap (row_wires rows) (sym q))
-          (shows j (omega (arith, jlt, long, long2))) in
-          let rows2 = slice_set (slice_set rows k z) k new in
+          (sym (held (λ row. row.heads.items) rows k row d lt refl) ∙ ap (row_heads rows) (sym q)) (sym (held (λ row. row.tails.items) rows k row d lt refl) ∙ ap (row_tails rows) (sym q)) (sym (held (λ row. row.wires.items) rows k row d lt refl) ∙ ap (row_wires rows) (sym q))
+          (shows j (omega (arith, jlt, long))) in
           let here : Shows new.heads.items new.tails.items new.wires.items (injected (has_cell ((x, v) ∷ [])) p) (pos y +ℤ pos j) =
           λ u. cells u ∙ ap (cond (u == x) Head) (was u) ∙ sym (ap (λ t. cond t Head (p (pos u) (pos y +ℤ pos j))) (among_hit x v u (pos y +ℤ pos j) hit)) in
           shows_same (injected (has_cell ((x, v) ∷ [])) p) (pos y +ℤ pos j)
-          (ap (row_heads rows2) q ∙ same (λ row. row.heads.items) (slice_set rows k z) k new lt2)
-          (ap (row_tails rows2) q ∙ same (λ row. row.tails.items) (slice_set rows k z) k new lt2)
-          (ap (row_wires rows2) q ∙ same (λ row. row.wires.items) (slice_set rows k z) k new lt2)
+          (ap (row_heads after) q ∙ same (λ row. row.heads.items) rows k new lt)
+          (ap (row_tails after) q ∙ same (λ row. row.tails.items) rows k new lt)
+          (ap (row_wires after) q ∙ same (λ row. row.wires.items) rows k new lt)
           here
     ]
 
-pub long_put : (words : ℕ) (rows : List Row) (k : ℕ) (z row d new : Row) → k < length rows → row ≡ get_or rows k d → length new.heads.items ≡ length row.heads.items → AreLong words rows → AreLong words (slice_set (slice_set rows k z) k new)
-long_put words rows k z row d new lt is same_long long j jlt =
-    let l1 = length-set rows k z in
-    let l2 = length-set (slice_set rows k z) k new in
+pub long_put : (words : ℕ) (rows : List Row) (k : ℕ) (d new : Row) → k < length rows → length new.heads.items ≡ length (get_or rows k d).heads.items → AreLong words rows → AreLong words (slice_set rows k new)
+long_put words rows k d new lt same_long long j jlt =
+    let l = length-set rows k new in
     elim (cases_eq j k) [
-      | inr ne ↦ ap length (other_twice (λ row. row.heads.items) rows k j z new ne) ∙ long j (omega (arith, jlt, l1, l2))
+      | inr ne ↦ ap length (other (λ row. row.heads.items) rows k j new ne) ∙ long j (omega (arith, jlt, l))
       | inl q ↦
-          let lt2 : k < length (slice_set rows k z) = omega (arith, lt, l1) in
-          ap (λ j. length (row_heads (slice_set (slice_set rows k z) k new) j)) q
-          ∙ ap length (same (λ row. row.heads.items) (slice_set rows k z) k new lt2)
+          ap (λ j. length (row_heads (slice_set rows k new) j)) q
+          ∙ ap length (same (λ row. row.heads.items) rows k new lt)
           ∙ same_long
-          ∙ sym (ap length (held (λ row. row.heads.items) rows k row d lt is))
+          ∙ sym (ap length (held (λ row. row.heads.items) rows k (get_or rows k d) d lt refl))
           ∙ long k lt
     ]

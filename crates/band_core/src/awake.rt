@@ -4,7 +4,7 @@ ghost use Rattle.std.specs.Prelude.{◌≡◌, ◌+◌, ◌-◌, ◌<◌, ◌≤
 ghost use Rattle.lane_kernel.specs.Rows.{is_set};
 ghost use Rattle.lane_kernel.specs.Spans.{IsDarkBeyond};
 ghost use Rattle.ww_rule.specs.declared.pattern.Injection.{Injection};
-ghost use Rattle.band_rows.specs.Rows.{row_heads, row_tails};
+ghost use Rattle.band_rows.specs.Rows.{AreDarkBeyond, row_heads, row_tails};
 ghost use Rattle.band_core.specs.Band.{IsLitIn, AreUnlit, IsNextDue};
 
 use crate::band::Band;
@@ -23,14 +23,18 @@ fn lit_column(row: &Row) -> Option<usize>
     }
 }
 
-/// The column and row of a head or a tail of rows from row y on.
-pub fn lit_cell(rows: &[Row], y: usize) -> Option<(usize, usize)>
+/// The column and row of a head or a tail of rows from row y on, which are dark beyond a span.
+pub fn lit_cell(rows: &[Row], light: Span, y: usize) -> Option<(usize, usize)>
     requires long { (k : ℕ) → k < length rows.now → length (row_heads rows.now k) ≤ 2 ^ 58 }
     requires room { y + length rows.now < 2 ^ 64 }
+    requires dark { AreDarkBeyond light.first light.end rows.now }
     ensures some { IfSome result (λ cell. IsLitIn rows.now y cell.0 cell.1) }
     ensures no_head { result ≡ None → (k x : ℕ) → k < length rows.now → is_set (row_heads rows.now k) x ≡ false }
     ensures no_tail { result ≡ None → (k x : ℕ) → k < length rows.now → is_set (row_tails rows.now k) x ≡ false }
 {
+    if light.is_empty() {
+        return None;
+    }
     for (k, row) in rows.iter().enumerate() {
         if let Some(x) = lit_column(row) {
             return Some((x, y + k));

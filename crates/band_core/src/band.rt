@@ -1,22 +1,22 @@
 // One band.
 ghost use Rattle.ww_rule.specs.Due.{due_count};
-ghost use Rattle.std.specs.Prelude.{◌≡◌, ◌+◌, ◌-◌, ◌<◌, ◌≤◌, ◌^◌, ◌+ℤ◌, ◌-ℤ◌, ℕ, pos, length, get_or, drop, take, IfOk, All};
+ghost use Rattle.std.specs.Prelude.{◌≡◌, ◌+◌, ◌-◌, ◌<◌, ◌≤◌, ◌^◌, ◌+ℤ◌, ◌-ℤ◌, ℕ, List, pos, length, get_or, drop, take, IfOk, All};
 ghost use Rattle.ww_rule.specs.Wireworld.{Plane, Due, next_plane, injected};
 ghost use Rattle.ww_rule.specs.Injections.{has_cell};
 ghost use Rattle.lane_kernel.specs.Spans.{IsDarkBeyond};
-ghost use Rattle.band_rows.specs.Rows.{AreLong, IsEmptyWest, ShowRows, ShowsHeads, row_heads, row_tails};
+ghost use Rattle.band_rows.specs.Rows.{AreDarkBeyond, AreLong, IsEmptyWest, ShowRows, ShowsHeads, row_heads, row_tails};
 ghost use Rattle.band_core.specs.Band.{AreInRows, IsBand, IsEvolution, ShowsBand, AreUnlit, bottom_at, top_at, injected_cells};
 
-use band_rows::{Kept, Row, Span, step_band};
+use band_rows::{Kept, Row, Span, light_of, step_band};
 use std::alloc::Global;
-use std::mem;
 use ww_rule::Injection;
 
-/// Rows of one generation, the heads of the top and the bottom one a generation ago, and the band's injections, of which
-/// the first ones are done.
+/// Rows of one generation, a span of words beyond which none of them has heads or tails, the heads of the top and the bottom
+/// row a generation ago, and the band's injections, of which the first ones are done.
 #[derive(Drop)]
 pub struct Band {
     pub rows: Vec<Row>,
+    pub light: Span,
     pub generation: u64,
     pub top: Kept,
     pub bottom: Kept,
@@ -36,7 +36,7 @@ pub fn due_count(generation: u128, injections: &[Injection]) -> usize
 }
 
 /// Makes the cells of injections heads, in rows from row y on. No memory is taken.
-pub fn inject(alloc: Global, rows: &mut [Row], y: usize, words: usize, due: &[Injection])
+pub fn inject(rows: &mut [Row], y: usize, words: usize, due: &[Injection])
     requires long { AreLong words rows.old }
     requires inside { AreInRows words y (length rows.old) due.now }
     ensures many { length rows.new ≡ length rows.old }
@@ -45,8 +45,7 @@ pub fn inject(alloc: Global, rows: &mut [Row], y: usize, words: usize, due: &[In
 {
     for injection in due {
         let place = injection.y as usize - y;
-        let row = mem::replace(&mut rows[place], Row::dark(alloc));
-        rows[place] = row.with_head(injection.x as usize);
+        rows[place].make_head(injection.x as usize);
     }
 }
 
@@ -113,7 +112,7 @@ fn step_rows(
         spare_wires,
     );
     let kept = keep_edges(rows, top, bottom);
-    inject(alloc, rows, y, up.len(), due);
+    inject(rows, y, up.len(), due);
     kept
 }
 
@@ -122,6 +121,7 @@ impl Band {
     pub fn dark(alloc: Global) -> Band {
         Band {
             rows: Vec::new(alloc),
+            light: Span { first: 0, end: 0 },
             generation: 0,
             top: Kept::dark(alloc),
             bottom: Kept::dark(alloc),
@@ -130,31 +130,44 @@ impl Band {
         }
     }
 
+    // A row's span, or an empty one where the whole band is dark.
+    fn lit_span(&self, span: Span) -> Span
+        ensures within { (n : ℕ) → span.end ≤ n → result.end ≤ n }
+        ensures dark { (words : List ℕ) → IsDarkBeyond self.now.light.first self.now.light.end words → IsDarkBeyond span.first span.end words → IsDarkBeyond result.first result.end words }
+    {
+        if self.light.is_empty() {
+            return Span { first: 0, end: 0 };
+        }
+        span
+    }
+
     /// The heads of the bottom row at a generation, which is the band's or the one before, and a span beyond which there are
     /// none.
     pub fn bottom_heads(&self, generation: u64) -> (&[u64], Span)
-        requires { 0 < length self.now.rows.items }
+        requires some { 0 < length self.now.rows.items }
+        requires light { AreDarkBeyond self.now.light.first self.now.light.end self.now.rows.items }
         ensures heads { result.0.now ≡ bottom_at generation self.now }
         ensures within { result.1.end ≤ length result.0.now }
         ensures dark { IsDarkBeyond result.1.first result.1.end result.0.now }
     {
         if self.generation == generation {
             let row = &self.rows[self.rows.len() - 1];
-            return (row.heads.as_slice(), row.span);
+            return (row.heads.as_slice(), self.lit_span(row.span));
         }
         (self.bottom.heads.as_slice(), self.bottom.span)
     }
 
     /// The heads of the top row, likewise.
     pub fn top_heads(&self, generation: u64) -> (&[u64], Span)
-        requires { 0 < length self.now.rows.items }
+        requires some { 0 < length self.now.rows.items }
+        requires light { AreDarkBeyond self.now.light.first self.now.light.end self.now.rows.items }
         ensures heads { result.0.now ≡ top_at generation self.now }
         ensures within { result.1.end ≤ length result.0.now }
         ensures dark { IsDarkBeyond result.1.first result.1.end result.0.now }
     {
         if self.generation == generation {
             let row = &self.rows[0];
-            return (row.heads.as_slice(), row.span);
+            return (row.heads.as_slice(), self.lit_span(row.span));
         }
         (self.top.heads.as_slice(), self.top.span)
     }
@@ -187,6 +200,7 @@ impl Band {
     {
         let Band {
             mut rows,
+            light: _,
             generation,
             top,
             bottom,
@@ -209,8 +223,10 @@ impl Band {
             bottom,
             &injections[done..done + count],
         );
+        let light = light_of(&rows);
         Band {
             rows,
+            light,
             generation,
             top,
             bottom,
@@ -219,36 +235,21 @@ impl Band {
         }
     }
 
-    /// The band one generation on, where it is dark, no head lies beside it and no injection is due: its rows stay.
-    pub fn rest(self, dark: &[u64]) -> Band
-        requires top { length self.top.heads.items ≡ length dark.now }
-        requires bottom { length self.bottom.heads.items ≡ length dark.now }
-        requires room { self.generation + 1 < 2 ^ 64 }
-        requires dark { (j : ℕ) → get_or dark.now j 0 ≡ 0 }
-        ensures generation { result.generation ≡ self.generation + 1 }
-        ensures rows { result.rows ≡ self.rows }
-        ensures done { result.done ≡ self.done }
-        ensures injections { result.injections ≡ self.injections }
-        ensures long_top { length result.top.heads.items ≡ length dark.now }
-        ensures long_bottom { length result.bottom.heads.items ≡ length dark.now }
-        ensures top { (j : ℕ) → get_or result.top.heads.items j 0 ≡ 0 }
-        ensures bottom { (j : ℕ) → get_or result.bottom.heads.items j 0 ≡ 0 }
+    /// Goes on by one generation, where the band is dark, no head lies beside it and no injection is due: its rows stay.
+    pub fn rest(&mut self)
+        requires room { self.old.generation + 1 < 2 ^ 64 }
+        ensures generation { self.new.generation ≡ self.old.generation + 1 }
+        ensures rows { self.new.rows ≡ self.old.rows }
+        ensures light { self.new.light ≡ self.old.light }
+        ensures done { self.new.done ≡ self.old.done }
+        ensures injections { self.new.injections ≡ self.old.injections }
+        ensures long_top { length self.new.top.heads.items ≡ length self.old.top.heads.items }
+        ensures long_bottom { length self.new.bottom.heads.items ≡ length self.old.bottom.heads.items }
+        ensures top { (j : ℕ) → get_or self.new.top.heads.items j 0 ≡ 0 }
+        ensures bottom { (j : ℕ) → get_or self.new.bottom.heads.items j 0 ≡ 0 }
     {
-        let Band {
-            rows,
-            generation,
-            top,
-            bottom,
-            injections,
-            done,
-        } = self;
-        Band {
-            rows,
-            generation: generation + 1,
-            top: top.keep(dark, Span { first: 0, end: 0 }),
-            bottom: bottom.keep(dark, Span { first: 0, end: 0 }),
-            injections,
-            done,
-        }
+        self.generation += 1;
+        self.top.clear();
+        self.bottom.clear();
     }
 }

@@ -159,14 +159,7 @@ impl Bands {
         if let Some((x, y)) = awake_cell(&self.bands, b, self.height, rows, &self.dark) {
             return Err(NotSkipped::Awake { x, y });
         }
-        rest_band(
-            self.alloc,
-            &mut self.bands,
-            b,
-            self.height,
-            rows,
-            &self.dark,
-        );
+        rest_band(&mut self.bands, b);
         Ok(())
     }
 }

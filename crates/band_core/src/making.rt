@@ -10,7 +10,7 @@ ghost use Rattle.band_core.specs.Bands.{bands_in};
 ghost use Rattle.band_core.specs.Band.{AllShow, AreBands, AreDueIn, AreInRows, AreShown, IsBand, ShowsBand, generations_of};
 
 use crate::band::{Band, due_count, inject};
-use band_rows::{Kept, Row, Span};
+use band_rows::{Kept, Row, Span, light_of};
 use lists::List;
 use std::alloc::{AllocError, Global};
 use std::mem;
@@ -103,9 +103,11 @@ fn begin_band(
 {
     let mut rows = packed(alloc, cells, y, many, words)?;
     let done = due_count(0, &injections);
-    inject(alloc, &mut rows, y, words, &injections[..done]);
+    inject(&mut rows, y, words, &injections[..done]);
+    let light = light_of(&rows);
     Ok(Band {
         rows,
+        light,
         generation: 0,
         top: dark_row(alloc, words)?,
         bottom: dark_row(alloc, words)?,

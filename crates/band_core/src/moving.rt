@@ -2,6 +2,7 @@
 ghost use Rattle.std.specs.Prelude.{◌≡◌, ◌+◌, ◌-◌, ◌*◌, ◌<◌, ◌≤◌, ◌^◌, ◌⊎◌, ℕ, length, get_or, min, slice_set, None, IfSome};
 ghost use Rattle.ww_rule.specs.Wireworld.{Plane, Due};
 ghost use Rattle.lane_kernel.specs.Spans.{IsDarkBeyond};
+ghost use Rattle.band_rows.specs.Rows.{AreDarkBeyond};
 ghost use Rattle.band_core.specs.declared.band.Band.{Band};
 ghost use Rattle.band_core.specs.Bands.{not_ready, unready_neighbour};
 ghost use Rattle.band_core.specs.Band.{AreBands, AllShow, HasNoneDue, IsEvolution, IsQuiet, IsWaking, bottom_at, generations_of, top_at};
@@ -57,6 +58,7 @@ pub fn row_above<'a>(
 ) -> (&'a [u64], Span)
     requires band { b < length bands.now }
     requires some { (d : Band) → 0 < b → 0 < length (get_or bands.now (b - 1) d).rows.items }
+    requires light { (d : Band) → 0 < b → AreDarkBeyond (get_or bands.now (b - 1) d).light.first (get_or bands.now (b - 1) d).light.end (get_or bands.now (b - 1) d).rows.items }
     requires dark { (j : ℕ) → get_or dark.now j 0 ≡ 0 }
     ensures first { b ≡ 0 → result.0.now ≡ dark.now }
     ensures later { (d : Band) → 0 < b → result.0.now ≡ bottom_at generation (get_or bands.now (b - 1) d) }
@@ -78,6 +80,7 @@ pub fn row_below<'a>(
 ) -> (&'a [u64], Span)
     requires band { b < length bands.now }
     requires some { (d : Band) → b + 1 < length bands.now → 0 < length (get_or bands.now (b + 1) d).rows.items }
+    requires light { (d : Band) → b + 1 < length bands.now → AreDarkBeyond (get_or bands.now (b + 1) d).light.first (get_or bands.now (b + 1) d).light.end (get_or bands.now (b + 1) d).rows.items }
     requires dark { (j : ℕ) → get_or dark.now j 0 ≡ 0 }
     ensures last { b + 1 ≡ length bands.now → result.0.now ≡ dark.now }
     ensures earlier { (d : Band) → b + 1 < length bands.now → result.0.now ≡ top_at generation (get_or bands.now (b + 1) d) }
@@ -91,6 +94,7 @@ pub fn row_below<'a>(
 }
 
 /// Moves band b on by one generation. No memory is taken.
+#[inline(never)]
 pub fn move_band(
     alloc: Global,
     bands: &mut [Band],
@@ -128,26 +132,16 @@ pub fn move_band(
     bands[b] = next;
 }
 
-/// Moves band b on by one generation where nothing can change in it: its rows stay. No memory is taken.
-pub fn rest_band(
-    alloc: Global,
-    bands: &mut [Band],
-    b: usize,
-    height: usize,
-    rows: usize,
-    dark: &[u64],
-)
+/// Moves band b on by one generation where nothing can change in it: its rows stay.
+pub fn rest_band(bands: &mut [Band], b: usize)
     requires band { b < length bands.old }
     requires room { get_or (generations_of bands.old) b 0 + 1 < 2 ^ 64 }
-    requires bands { AreBands (length dark.now) height rows bands.old }
-    requires dark { (j : ℕ) → get_or dark.now j 0 ≡ 0 }
     requires none_due { (d : Band) → HasNoneDue (get_or bands.old b d) }
-    ensures bands { AreBands (length dark.now) height rows bands.new }
+    ensures bands { (words height rows : ℕ) → AreBands words height rows bands.old → AreBands words height rows bands.new }
     ensures generations { generations_of bands.new ≡ slice_set (generations_of bands.old) b (get_or (generations_of bands.old) b 0 + 1) }
-    ensures shows { (e : ℕ → Plane) (due : Due) (width : ℕ) → IsEvolution e due width rows → AllShow e due height rows bands.old → IsQuiet e due (get_or (generations_of bands.old) b 0) (b * height) (min height (rows - b * height)) → AllShow e due height rows bands.new }
+    ensures shows { (e : ℕ → Plane) (due : Due) (width words height rows : ℕ) → IsEvolution e due width rows → AreBands words height rows bands.old → AllShow e due height rows bands.old → IsQuiet e due (get_or (generations_of bands.old) b 0) (b * height) (min height (rows - b * height)) → AllShow e due height rows bands.new }
 {
-    let band = mem::replace(&mut bands[b], Band::dark(alloc));
-    bands[b] = band.rest(dark);
+    bands[b].rest();
 }
 
 /// A cell that keeps band b awake.
@@ -171,7 +165,7 @@ pub fn awake_cell(
     let band = &bands[b];
     let y = b * height;
     let own = band.rows.as_slice();
-    if let Some((x, z)) = lit_cell(own, y) {
+    if let Some((x, z)) = lit_cell(own, band.light, y) {
         return Some((x as u64, z as u64));
     }
     let (up, up_span) = row_above(bands, b, band.generation, dark);

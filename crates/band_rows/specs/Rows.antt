@@ -5,6 +5,7 @@ use Rattle.ww_rule.specs.declared.pattern.State.TheVariants.{Empty}
 use Rattle.ww_rule.specs.Wireworld.{Plane, count_head}
 use Rattle.band_rows.specs.declared.row.Row.{Row}
 use Rattle.lane_kernel.specs.Rows.{is_set, state_of, row_state}
+use Rattle.lane_kernel.specs.Spans.{IsDarkBeyond}
 
 -- the state of a cell of a row, by its column
 abbrev pub state_in_row : Row → ℕ → State
@@ -38,3 +39,8 @@ ShowRows rows p y = (k : ℕ) → k < length rows → Shows (row_heads rows k) (
 -- all rows are of a length
 abbrev pub AreLong : ℕ → List Row → Type 0
 AreLong n rows = (k : ℕ) → k < length rows → length (row_heads rows k) ≡ n
+
+-- beyond a span of words no row has a head or a tail
+pub record AreDarkBeyond (first end : ℕ) (rows : List Row) : Type 0 where
+  pub heads : (k : ℕ) → k < length rows → IsDarkBeyond first end (row_heads rows k)
+  pub tails : (k : ℕ) → k < length rows → IsDarkBeyond first end (row_tails rows k)

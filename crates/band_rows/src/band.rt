@@ -2,10 +2,10 @@
 ghost use Rattle.std.specs.Prelude.{◌≡◌, ◌+◌, ◌-◌, ◌<◌, ◌≤◌, ◌+ℤ◌, ◌-ℤ◌, ℤ, ℕ, pos, length, get_or};
 ghost use Rattle.ww_rule.specs.Wireworld.{Plane, next_plane};
 ghost use Rattle.lane_kernel.specs.Spans.{IsDarkBeyond};
-ghost use Rattle.band_rows.specs.Rows.{row_heads, row_tails, AreLong, IsEmptyWest, ShowRows, ShowsHeads};
+ghost use Rattle.band_rows.specs.Rows.{row_heads, row_tails, AreDarkBeyond, AreLong, IsEmptyWest, ShowRows, ShowsHeads};
 
 use crate::row::Row;
-use crate::span::Span;
+use crate::span::{Span, hull};
 use std::alloc::Global;
 use std::mem;
 
@@ -47,6 +47,17 @@ pub fn step_band(
             spare_wires,
         );
     }
+}
+
+/// A span of words beyond which no row has heads or tails.
+pub fn light_of(rows: &[Row]) -> Span
+    ensures { AreDarkBeyond result.first result.end rows.now }
+{
+    let mut light = Span { first: 0, end: 0 };
+    for row in rows {
+        light = hull(light, row.span);
+    }
+    light
 }
 
 // The heads of the row before row r, which has stepped, and a span beyond which it has none.

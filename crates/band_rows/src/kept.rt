@@ -15,6 +15,17 @@ pub struct Kept {
     ghost dark: { IsDarkBeyond span.first span.end heads.items },
 }
 
+// Makes the words from one place up to another 0.
+fn darken(words: &mut [u64], first: usize, end: usize)
+    requires order { first ≤ end }
+    requires within { end ≤ length words.old }
+    requires dark { IsDarkBeyond first end words.old }
+    ensures long { length words.new ≡ length words.old }
+    ensures dark { (j : ℕ) → get_or words.new j 0 ≡ 0 }
+{
+    words[first..end].fill(0);
+}
+
 impl Kept {
     /// A row without words.
     pub fn dark(alloc: Global) -> Kept {
@@ -22,6 +33,18 @@ impl Kept {
             heads: Vec::new(alloc),
             span: Span { first: 0, end: 0 },
         }
+    }
+
+    /// Takes all heads away.
+    pub fn clear(&mut self)
+        ensures long { length self.new.heads.items ≡ length self.old.heads.items }
+        ensures dark { (j : ℕ) → get_or self.new.heads.items j 0 ≡ 0 }
+    {
+        if self.span.is_empty() {
+            return;
+        }
+        darken(&mut self.heads, self.span.first, self.span.end);
+        self.span = Span { first: 0, end: 0 };
     }
 
     /// The row with other heads in place of its own.

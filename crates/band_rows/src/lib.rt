@@ -7,7 +7,7 @@ mod kept;
 mod row;
 mod span;
 
-pub use band::step_band;
+pub use band::{light_of, step_band};
 pub use kept::Kept;
 pub use row::Row;
 pub use span::{Span, first_bit};

@@ -115,25 +115,14 @@ impl Row {
         })
     }
 
-    /// The row with the cell of a column made a head, whatever it held.
-    pub fn with_head(self, x: usize) -> Row
-        requires { x / 64 < length self.heads.items }
-        ensures long { length result.heads.items ≡ length self.heads.items }
-        ensures cells { (k : ℕ) → state_in_row result k ≡ (if k == x then Head else state_in_row self k) }
+    /// Makes the cell of a column a head, whatever it held.
+    pub fn make_head(&mut self, x: usize)
+        requires { x / 64 < length self.old.heads.items }
+        ensures long { length self.new.heads.items ≡ length self.old.heads.items }
+        ensures cells { (k : ℕ) → state_in_row self.new k ≡ (if k == x then Head else state_in_row self.old k) }
     {
-        let Row {
-            mut heads,
-            mut tails,
-            mut wires,
-            span,
-        } = self;
-        put_head(&mut heads, &mut tails, &mut wires, x);
-        Row {
-            heads,
-            tails,
-            wires,
-            span: widened(span, x / 64),
-        }
+        put_head(&mut self.heads, &mut self.tails, &mut self.wires, x);
+        self.span = widened(self.span, x / 64);
     }
 
     /// The state of the cell of a column.

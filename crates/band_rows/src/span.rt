@@ -1,5 +1,5 @@
 // Spans of words.
-ghost use Rattle.std.specs.Prelude.{◌≡◌, ◌+◌, ◌-◌, ◌<◌, ◌≤◌, ◌^◌, ◌≢◌, ℕ, List, length, get_or, true, false, Some, None, IfSome};
+ghost use Rattle.std.specs.Prelude.{◌≡◌, ◌+◌, ◌-◌, ◌<◌, ◌≤◌, ◌^◌, ◌≢◌, ◌==◌, ℕ, List, length, get_or, true, false, Some, None, IfSome};
 ghost use Rattle.lane_kernel.specs.Rows.{is_set};
 ghost use Rattle.lane_kernel.specs.Spans.{IsDarkBeyond};
 
@@ -9,6 +9,15 @@ pub struct Span {
     pub first: usize,
     pub end: usize,
     ghost order: { first ≤ end },
+}
+
+impl Span {
+    /// Whether the span has no word.
+    pub fn is_empty(self) -> bool
+        ensures { result ≡ (self.first == self.end) }
+    {
+        self.first == self.end
+    }
 }
 
 /// A span that has both spans in it.

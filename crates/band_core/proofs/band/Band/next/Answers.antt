@@ -1,11 +1,54 @@
 use Rattle.ww_rule.specs.Due.{due_count}
-use Rattle.std.proofs.Common.{pos, ◌+ℤ◌, ◌+◌, ◌-◌, ◌≡◌, sym, ap, ap₂, subst, ◌∙◌, length, take, drop, arith}
+use Rattle.std.proofs.Common.{pos, ◌+ℤ◌, ℕ, ◌+◌, ◌-◌, ◌/◌, ◌<◌, ◌≤◌, ◌≡◌, sym, ap, ap₂, subst, ◌∙◌, List, length, take, drop, arith}
 use Rattle.std.proofs.lemmas.Int.{ints}
 use Rattle.std.proofs.lemmas.List.{with_items_is, drop-drop, take_all, length-drop}
-use Rattle.band_rows.specs.Rows.{ShowRows, ShowsHeads}
+use Rattle.std.proofs.lemmas.List.Elements.{All-take, All-drop}
+use Rattle.ww_rule.specs.declared.pattern.Injection.{Injection}
+use Rattle.band_rows.specs.Rows.{AreDarkBeyond, AreLong, ShowRows, ShowsHeads}
 use Rattle.ww_rule.proofs.Due.{left_after}
+use Rattle.band_core.specs.Band.{AreInRows}
 use Rattle.band_core.proofs.NextRows.{west, rows_move, kept_shows}
 use Rattle.band_core.proofs.band.Band.next.Goals as goal
+
+in_rows : (words y many n d : ℕ) (own now : List Injection) → now ≡ own → AreInRows words y many own → AreInRows words y many (take n (drop d now))
+in_rows words y many n d own now e in_own =
+    let P = λ (i : Injection). (y ≤ i.y) × (i.y < y + many) × (i.x / 64 < words) in
+    subst (λ own. AreInRows words y many (take n (drop d own))) (sym e) (All-take P n (drop d own) (All-drop P d own in_own))
+
+within : (k d : ℕ) (own now : List Injection) → now ≡ own → d ≤ length own → k ≤ length (take (length now - d) (drop d now)) → d + k ≤ length own
+within k d own now e le few =
+    let l = length-drop d now in
+    let q = ap length e in
+    let all : length (take (length now - d) (drop d now)) ≡ length (drop d now) = ap length (take_all (length now - d) (drop d now) (omega (arith, l))) in
+    omega (arith, l, q, le, few, all)
+
+pub step_rows-top-requires-clause-inside : goal.step_rows-top-requires-clause-inside
+step_rows-top-requires-clause-inside c =
+    let band = c.args.self in
+    let k = c.due_count-count.result in
+    subst (λ rows. AreInRows (length c.args.up.now) c.args.y (length rows) (take (band.done + k - band.done) (drop band.done c.deref-2.result.now))) (sym c.deref_mut.ensures.value)
+    (in_rows (length c.args.up.now) c.args.y (length band.rows.items) (band.done + k - band.done) band.done band.injections.items c.deref-2.result.now c.deref-2.ensures.value c.requires.is.inside)
+
+pub returns-clause-is : goal.returns-clause-is
+returns-clause-is c =
+    let band = c.args.self in
+    let is = c.requires.is in
+    let s = c.step_rows-top.ensures in
+    let new = c.step_rows-top.new.rows in
+    let light = c.light_of-light.result in
+    let value = c.deref_mut.ensures.value in
+    let m = s.many in
+    let rows_is = with_items_is band.rows new (omega (arith, m)) in
+    record {
+      high = ap length rows_is ∙ m ∙ ap length value;
+      some = is.some;
+      long = subst (AreLong (length c.args.up.now)) (sym rows_is) s.long;
+      light = subst (AreDarkBeyond light.first light.end) c.deref-3.ensures.value c.light_of-light.ensures;
+      top = s.long_top;
+      bottom = s.long_bottom;
+      inside = is.inside;
+      done = within c.due_count-count.result band.done band.injections.items c.deref.result.now c.deref.ensures.value is.done c.due_count-count.ensures.within;
+    }
 
 pub returns-clause-shows : goal.returns-clause-shows
 returns-clause-shows c e due width height evo shows up down =

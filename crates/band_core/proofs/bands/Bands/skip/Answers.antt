@@ -49,6 +49,7 @@ invariant_of-self c =
     let e = c.rest_band.ensures in
     let due = due_of_list s.drive.items in
     let plane = driven due (plane_of s.pattern.rows) in
+    let words = length s.dark.items in
     let rows = length s.pattern.rows in
     let new = c.rest_band.new.bands in
     let evo = evolution s.pattern.width s.pattern.height s.pattern.rows s.drive.items s.pattern.in_rows v.inside in
@@ -56,13 +57,15 @@ invariant_of-self c =
     let now = c.deref-2.result.now in
     let value : now ≡ s.bands.items = c.deref-2.ensures.value in
     let old : c.deref_mut.result.now ≡ s.bands.items = c.deref_mut.ensures.value in
-    let dark : c.deref-4.result.now ≡ s.dark.items = c.deref-4.ensures.value in
-    let evo2 = subst (IsEvolution plane due s.pattern.width) (sym many) evo in
     let quiet =
-    c.awake_cell.ensures.quiet (none_of c.awake_cell.result c.in_default-awake_cell.not-Some) plane due s.pattern.width evo2 (subst (λ r. AllShow plane due h r now) (sym many) (subst (AllShow plane due h rows) (sym value) v.shows)) in
-    let calm = subst (λ bands. IsQuiet plane due (get_or (generations_of bands) b 0) (b * h) (min h (c.len-rows.result - b * h))) (value ∙ sym old) quiet in
-    let shows = e.shows plane due s.pattern.width evo2 (subst (λ r. AllShow plane due h r c.deref_mut.result.now) (sym many) (subst (AllShow plane due h rows) (sym old) v.shows)) calm in
-    let are : AreBands (length s.dark.items) h rows new = subst (λ w. AreBands w h rows new) (ap length dark) (subst (λ r. AreBands (length c.deref-4.result.now) h r new) many e.bands) in
+    c.awake_cell.ensures.quiet (none_of c.awake_cell.result c.in_default-awake_cell.not-Some) plane due s.pattern.width (subst (IsEvolution plane due s.pattern.width) (sym many) evo)
+    (subst (λ r. AllShow plane due h r now) (sym many) (subst (AllShow plane due h rows) (sym value) v.shows)) in
+    let calm : IsQuiet plane due (get_or (generations_of c.deref_mut.result.now) b 0) (b * h) (min h (rows - b * h)) =
+    subst (λ r. IsQuiet plane due (get_or (generations_of c.deref_mut.result.now) b 0) (b * h) (min h (r - b * h))) many
+    (subst (λ bands. IsQuiet plane due (get_or (generations_of bands) b 0) (b * h) (min h (c.len-rows.result - b * h))) (value ∙ sym old) quiet) in
+    let were : AreBands words h rows c.deref_mut.result.now = subst (AreBands words h rows) (sym old) v.bands in
+    let are : AreBands words h rows new = e.bands words h rows were in
+    let shows = e.shows plane due s.pattern.width words h rows evo were (subst (AllShow plane due h rows) (sym old) v.shows) calm in
     let same : length new ≡ length s.bands.items = are.many ∙ sym v.bands.many in
     let bands_is = with_items_is s.bands new (omega (arith, same)) in
     record {
@@ -73,8 +76,8 @@ invariant_of-self c =
       dark = v.dark;
       spare_heads = v.spare_heads;
       spare_wires = v.spare_wires;
-      bands = subst (AreBands (length s.dark.items) h rows) (sym bands_is) are;
-      shows = subst (AllShow plane due h rows) (sym bands_is) (subst (λ r. AllShow plane due h r new) many shows);
+      bands = subst (AreBands words h rows) (sym bands_is) are;
+      shows = subst (AllShow plane due h rows) (sym bands_is) shows;
     }
 
 pub returns-clause-asleep : goal.returns-clause-asleep
