@@ -14,13 +14,13 @@ use Rattle.netlist_core.specs.declared.model.Model.{Model}
 use Rattle.netlist_core.specs.declared.model.Pin.{Pin}
 use Rattle.netlist_core.specs.declared.model.Port.{Port}
 use Rattle.netlist_core.specs.declared.model.Subckt.{Subckt}
-use Rattle.netlist_core.specs.Names.{at_line}
+use Rattle.netlist_core.specs.Names.{Name, at_line}
 use Rattle.netlist_rules.specs.declared.fault.Fault.{Fault}
 use Rattle.netlist_rules.specs.declared.fault.FaultKind.{FaultKind}
 use Rattle.netlist_rules.specs.ModelFaults.{earliest, fault_of_port}
 use Rattle.earliest_words.specs.Words.{earliest_after}
 use Rattle.earliest_words.proofs.EarliestWords.{earliest_after-append}
-use Rattle.pin_faults.specs.NameSets.{formal_unless, port_unless}
+use Rattle.pin_faults.specs.NotNamed.{formal_unless, port_unless}
 use Rattle.lists.specs.Names.{holds_name}
 use Rattle.pin_faults.specs.SubcktLines.{lines_now}
 
@@ -42,11 +42,11 @@ filtered_more f found was now xs i x within is before after =
     ∙ ap (λ y. earliest_after found (filter_map f (take i xs ++ y ∷ []))) is
     ∙ ap (λ ys. earliest_after found (filter_map f ys)) (sym (take_more xs i x within))
 
--- words of elements that are not in a set
-pub formal_offered : (names : BTreeSet (Bor (List ℕ))) (line : ℕ) (pin : Pin) (name : List ℕ) (found : Bool) → found ≡ holds_name names name → name ≡ pin.formal → option_to_list (then_some (not found) (at_line line name)) ≡ option_to_list (formal_unless (holds_name names) line pin)
-formal_offered names line pin name found e d =
+-- words of elements that do not pass a test
+pub formal_offered : (test : Name → Bool) (line : ℕ) (pin : Pin) (name : Name) (found : Bool) → found ≡ test name → name ≡ pin.formal → option_to_list (then_some (not found) (at_line line name)) ≡ option_to_list (formal_unless test line pin)
+formal_offered test line pin name found e d =
     ap (λ b. option_to_list (then_some (not b) (at_line line name))) e
-    ∙ ap (λ n. option_to_list (then_some (not (holds_name names n)) (at_line line n))) d
+    ∙ ap (λ n. option_to_list (then_some (not (test n)) (at_line line n))) d
 
 pub port_offered : (names : BTreeSet (Bor (List ℕ))) (port : Port) (name : List ℕ) (found : Bool) → found ≡ holds_name names name → name ≡ port.name → option_to_list (then_some (not found) (at_line port.line name)) ≡ option_to_list (port_unless (holds_name names) port)
 port_offered names port name found e d =

@@ -1,6 +1,6 @@
 use Rattle.std.proofs.Common.{◌∙◌, ap, arith}
 use Rattle.earliest_words.specs.Words.{earliest_word, earliest_after}
-use Rattle.pin_faults.specs.NameSets.{port_unless}
+use Rattle.pin_faults.specs.NotNamed.{port_unless}
 use Rattle.lists.specs.Names.{holds_name}
 use Rattle.pin_faults.proofs.OfferedWords.{filtered_more, port_offered}
 use Rattle.pin_faults.proofs.missing.offer_others.Goals as goal
