@@ -2,4 +2,3 @@ pub mod Numbers
 pub mod NamedLines
 pub mod Passing
 pub mod Pushed
-pub mod EachModel

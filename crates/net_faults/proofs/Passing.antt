@@ -50,3 +50,11 @@ pub kept_unless : (test : Bool) (kept new : List Port) (p : Port) (rest : List P
     new ++ rest ≡ kept ++ (option_to_list (then_some (not test) p) ++ rest)
 kept_unless true kept new p rest is = ap (λ ps. ps ++ rest) is
 kept_unless false kept new p rest is = ap (λ ps. ps ++ rest) is ∙ append_assoc kept (p ∷ []) rest
+
+-- three lists, offered one after another
+pub offered_thrice : (start first second third : Option Port) (xs ys zs : List Port) → first ≡ earliest_after start xs → second ≡ earliest_after first ys → third ≡ earliest_after second zs →
+    third ≡ earliest_after start (xs ++ ys ++ zs)
+offered_thrice start first second third xs ys zs one two three =
+    three
+    ∙ ap (λ o. earliest_after o zs) (two ∙ ap (λ o. earliest_after o ys) one ∙ earliest_after-append start xs ys)
+    ∙ earliest_after-append start (xs ++ ys) zs

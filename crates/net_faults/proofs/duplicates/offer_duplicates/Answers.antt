@@ -3,7 +3,7 @@ use Rattle.netlist_rules.specs.ModelFaults.{doubles_after, is_output_before, is_
 use Rattle.earliest_words.specs.Words.{earliest_word, earliest_after}
 use Rattle.net_faults.specs.Numbering.{numbered_ports}
 use Rattle.net_faults.specs.FirstLines.{AreFirstLines}
-use Rattle.net_faults.proofs.EachModel.{offered_thrice}
+use Rattle.net_faults.proofs.Passing.{offered_thrice}
 use Rattle.net_faults.proofs.Numbers.{ports_in_back, ports_in_front}
 use Rattle.net_faults.proofs.duplicates.offer_duplicates.Goals as goal
 

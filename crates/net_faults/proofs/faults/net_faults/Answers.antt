@@ -1,6 +1,6 @@
 use Rattle.std.proofs.Common.{arith}
 use Rattle.netlist_rules.specs.ModelFaults.{duplicate_ports, second_drivers, undriven_readings}
-use Rattle.net_faults.proofs.EachModel.{offered_more}
+use Rattle.earliest_words.proofs.OfferedWords.{offered_more}
 use Rattle.net_faults.proofs.faults.net_faults.Goals as goal
 
 pub loop-model-preserved : goal.loop-model-preserved

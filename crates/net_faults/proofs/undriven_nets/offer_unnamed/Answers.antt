@@ -6,7 +6,7 @@ use Rattle.std.proofs.lemmas.List.{drop_more}
 use Rattle.netlist_rules.specs.ModelFaults.{unless_named}
 use Rattle.earliest_words.specs.Words.{word_port, word_ports, earliest_word, earliest_after}
 use Rattle.net_faults.proofs.Passing.{no_word, offered_if}
-use Rattle.net_faults.proofs.Pushed.{put_in_front}
+use Rattle.earliest_words.proofs.OfferedWords.{put_in_front}
 use Rattle.net_faults.proofs.undriven_nets.offer_unnamed.Goals as goal
 use Rattle.net_faults.proofs.undriven_nets.offer_unnamed.Goals.{then-not-has_name, else-not-has_name}
 
