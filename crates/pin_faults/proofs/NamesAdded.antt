@@ -1,8 +1,7 @@
 -- What a set of names has after one more.
-use Rattle.std.proofs.Common.{◌≡◌, refl, sym, ap, ◌∙◌, ℕ, ◌+◌, ◌<◌, Bool, true, false, cond, ◌||◌, List, [], ◌∷◌, length, take, get_or, map}
-use Rattle.std.proofs.lemmas.List.Folds.{list_any_more, list_any-append}
+use Rattle.std.proofs.Common.{◌≡◌, refl, sym, ap, ◌∙◌, ℕ, ◌+◌, ◌<◌, Bool, true, false, ◌||◌, List, [], ◌∷◌, length, take, get_or, map}
+use Rattle.std.proofs.lemmas.List.Folds.{list_any-append}
 use Rattle.std.proofs.lemmas.List.{map_more}
-use Rattle.std.proofs.Math.Bool.{or_assoc}
 use Rattle.std.specs.BTreeSet.{BTreeSet, UpdatesBy}
 use Rattle.std.specs.Cmp.Lexicographic.{slice_cmp}
 use Rattle.std.specs.Ordering.{nat_cmp}
@@ -10,10 +9,9 @@ use Rattle.std.specs.Str.{bytes_eq}
 use denote.Ref.{Bor}
 use Rattle.netlist_core.specs.declared.model.Pin.{Pin}
 use Rattle.netlist_core.specs.declared.model.Port.{Port}
-use Rattle.netlist_core.specs.Names.{Name, at_line, has_name, is_named}
+use Rattle.netlist_core.specs.Names.{at_line, has_name, is_named}
 use Rattle.placed_ports.specs.NameSets.{HasNames}
 use Rattle.placed_ports.proofs.NamesAdded.{name_added}
-use Rattle.lists.specs.Names.{holds_name}
 
 -- one more formal of a line
 pub formal_added : (old new : BTreeSet (Bor (List ℕ))) (key : Bor (List ℕ)) (line : ℕ) (pins : List Pin) (i : ℕ) (pin : Pin) → i < length pins → pin ≡ get_or pins i pin → key.now ≡ pin.formal → HasNames old (is_named (map (λ (p : Pin). at_line line p.formal) (take i pins))) → UpdatesBy (λ x y. slice_cmp nat_cmp x.now y.now) (λ k. slice_cmp nat_cmp key.now k.now) old new true → HasNames new (is_named (map (λ (p : Pin). at_line line p.formal) (take (i + 1) pins)))

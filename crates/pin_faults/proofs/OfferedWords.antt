@@ -1,12 +1,10 @@
 -- What has been offered after one more element.
-use Rattle.std.proofs.Common.{◌≡◌, refl, sym, ap, ◌∙◌, ℕ, ◌+◌, ◌<◌, ◌≤◌, Bool, not, List, [], ◌∷◌, ◌++◌, length, take, get_or, flat_map, filter_map, Option, option_map, arith}
+use Rattle.std.proofs.Common.{◌≡◌, refl, sym, ap, ◌∙◌, ℕ, ◌+◌, ◌<◌, ◌≤◌, Bool, not, List, [], ◌∷◌, ◌++◌, length, take, get_or, flat_map, Option, option_map, arith}
 use Rattle.std.proofs.lemmas.Grind.{flat_map-append}
 use Rattle.std.proofs.lemmas.List.{get_or-map, length-map, take-map, take_all}
-use Rattle.std.proofs.lemmas.List.Elements.{filter_map-append}
 use Rattle.std.proofs.lemmas.Result.{IfOk-weaker}
 use Rattle.std.specs.Bool.{then_some}
 use Rattle.std.specs.Prelude.{Result, IfOk}
-use Rattle.std.specs.List.{cons_option}
 use Rattle.std.specs.BTreeSet.{BTreeSet}
 use Rattle.std.specs.Option.{option_to_list}
 use denote.Ref.{Bor}

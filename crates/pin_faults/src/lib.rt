@@ -14,6 +14,6 @@ pub use formals::unknown_formal;
 pub use missing::pin_missing;
 pub use named_models::NamedModels;
 pub use netlist_core::Model;
-pub use placed_ports::PlacedPorts;
 pub use placed::missing_model;
+pub use placed_ports::PlacedPorts;
 pub use repeated::pin_twice;
