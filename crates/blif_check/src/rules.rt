@@ -5,10 +5,11 @@ ghost use Rattle.netlist_rules.specs.ModelFaults.{AreFaultless, HasModelFault, f
 use lists::List;
 use model_circles::circle_fault;
 use named_models::NamedModels;
-use net_faults::{duplicate_port, second_driver, undriven};
+use net_faults::{NetFaults, net_faults};
 use netlist_core::Model;
 use netlist_rules::{Fault, FaultKind};
 use pin_faults::{missing_model, pin_missing, pin_twice, unknown_formal};
+use placed_ports::PlacedPorts;
 use std::alloc::{AllocError, Global};
 
 // The fault where there is no model.
@@ -34,19 +35,25 @@ fn broken_rule<'a>(
     requires { named.now ≡ models.now }
     ensures { IfOk result (λ found. found ≡ first_broken_by model_rules models.now) }
 {
-    if let Some(fault) = duplicate_port(alloc, models)? {
+    let placed = PlacedPorts::new(alloc, models, named)?;
+    let NetFaults {
+        duplicate_port,
+        second_driver,
+        undriven,
+    } = net_faults(alloc, models, &placed)?;
+    if let Some(fault) = duplicate_port {
         return Ok(Some(fault));
     }
-    if let Some(fault) = second_driver(alloc, models, named)? {
+    if let Some(fault) = second_driver {
         return Ok(Some(fault));
     }
-    if let Some(fault) = undriven(alloc, models, named)? {
+    if let Some(fault) = undriven {
         return Ok(Some(fault));
     }
     if let Some(fault) = missing_model(alloc, models, named)? {
         return Ok(Some(fault));
     }
-    if let Some(fault) = unknown_formal(alloc, models, named)? {
+    if let Some(fault) = unknown_formal(alloc, models, &placed)? {
         return Ok(Some(fault));
     }
     if let Some(fault) = pin_twice(alloc, models)? {

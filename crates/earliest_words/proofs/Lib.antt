@@ -1,1 +1,2 @@
 pub mod EarliestWords
+pub mod OfferedWords

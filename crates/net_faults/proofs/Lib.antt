@@ -1,5 +1,4 @@
+pub mod Numbers
 pub mod NamedLines
 pub mod Passing
 pub mod Pushed
-pub mod EachModel
-pub mod NumberedPorts

@@ -1,21 +1,21 @@
 -- The earliest lines of names, with one more word.
-use Rattle.std.proofs.Common.{◌≡◌, refl, sym, subst, ap, ap₂, ◌∙◌, ℕ, ◌≤◌, ◌<◌, inl, inr, min, Bool, true, false, ◌&&◌, ◌||◌, cond, List, ◌∷◌, arith}
-use Rattle.std.specs.Prelude.{Option, Some, None, nat_le, nat_lt, bytes_eq}
-use Rattle.std.specs.BTreeMap.{BTreeMap, UpdatesBy}
-use Rattle.std.specs.Cmp.{both_ways}
-use Rattle.std.specs.Cmp.Lexicographic.{slice_cmp}
-use Rattle.std.specs.Option.{option_map_or}
-use Rattle.std.specs.Ordering.{nat_cmp}
+use Rattle.std.proofs.Common.{◌≡◌, ◌≢◌, refl, sym, ap, ap₂, ◌∙◌, ℕ, ◌≤◌, ◌<◌, inl, inr, min, Bool, true, false, ◌&&◌, ◌||◌, List, [], ◌∷◌, ◌++◌, length, set, get_or, arith}
+use Rattle.std.proofs.lemmas.List.Folds.{list_any-append}
 use Rattle.std.specs.List.{list_any}
-use Rattle.netlist_rules.specs.Drivers.{same_name_up_to}
-use Rattle.std.proofs.lemmas.Bool.{leb-true, le-leb, ltb-true, lt-ltb, or_cases, or_left, or_right, cases_lt}
-use Rattle.std.proofs.lemmas.Map.Text.{btree_map_updates_str}
+use Rattle.std.specs.Prelude.{Option, Some, None, is_some, nat_le, nat_lt, bytes_eq}
+use Rattle.std.specs.Cmp.{both_ways}
+use Rattle.std.specs.Option.{option_map_or}
+use Rattle.std.proofs.lemmas.Bool.{leb-true, leb-false, le-leb, ltb-true, lt-ltb, or_cases, or_left, or_right, cases_lt}
+use Rattle.std.proofs.lemmas.List.{get_or-set_same, get_or-set_other, length-set}
 use Rattle.std.proofs.lemmas.Slice.Eq.{bytes_eq-Decides}
-use denote.Ref.{Bor}
 use Rattle.netlist_core.specs.declared.model.Port.{Port}
-use Rattle.netlist_core.specs.Names.{Name, at_line}
+use Rattle.netlist_core.specs.Names.{Name, has_name, is_named}
+use Rattle.netlist_rules.specs.Drivers.{same_name_before, same_name_up_to}
 use Rattle.net_faults.specs.declared.first_lines.FirstLines.{FirstLines}
-use Rattle.net_faults.specs.FirstLines.{line_in, AreFirstLines, HasLineAt}
+use Rattle.net_faults.specs.declared.numbering.Numbering.{Numbering}
+use Rattle.net_faults.specs.declared.numbering.NumberedWord.{NumberedWord}
+use Rattle.net_faults.specs.Numbering.{IsNumbered, IsNumbering, count_of, names_of, number_of, numbered_port}
+use Rattle.net_faults.specs.FirstLines.{AreFirstLines, HasNoLine, has_line, line_in}
 
 -- the lesser of two lines is early where one of them is
 least_le : (c a b : ℕ) → nat_le (min a b) c ≡ (nat_le a c || nat_le b c)
@@ -52,70 +52,151 @@ least_lt c a b = both_ways (nat_lt (min a b) c) (nat_lt a c || nat_lt b c) there
       | inr other ↦ (let h : b < c = ltb-true b c other in lt-ltb (min a b) c (omega arith))
     ]
 
--- the line that a name has once it stands on this line too
+-- the line that a number has once a word of its name stands on this line too
 abbrev pub least_of : ℕ → Option ℕ → ℕ
 least_of line known = option_map_or (min line) known line
 
-module _ (test : ℕ → Bool) (joins : (a b : ℕ) → test (min a b) ≡ (test a || test b)) where
-  or_false : (b : Bool) → b ≡ (b || false)
-  or_false true = refl
-  or_false false = refl
+or_false : (b : Bool) → b ≡ (b || false)
+or_false true = refl
+or_false false = refl
 
+-- two names have one number only if they are the same
+apart : (names : Numbering) (key name : Name) (k j : ℕ) → IsNumbering names → number_of names key ≡ Some k → number_of names name ≡ Some j → bytes_eq key name ≡ false → j ≢ k
+apart names key name k j numbering has_key has_name other same =
+    let one = (numbering key k has_key).1 in
+    let two = (numbering name j has_name).1 in
+    let equal : key ≡ name = sym one ∙ ap (λ i. get_or (names_of names) i []) (sym same) ∙ two in
+    absurd (let clash : false ≡ true = sym other ∙ (bytes_eq-Decides key name).1 equal in cc)
+
+module _ (test : ℕ → Bool) (joins : (a b : ℕ) → test (min a b) ≡ (test a || test b)) where
   passes_by : (line : ℕ) (known : Option ℕ) → test (least_of line known) ≡ (test line || option_map_or test known false)
   passes_by line None = or_false (test line)
   passes_by line (Some other) = joins line other
 
-  line_added : (lines new : FirstLines) (key : Name) (line least : ℕ) → least ≡ least_of line (line_in lines.lines key) → HasLineAt lines new key least →
-      (name : Name) → option_map_or test (line_in new.lines name) false ≡ ((bytes_eq key name && test line) || option_map_or test (line_in lines.lines name) false)
-  line_added lines new key line least is updates name =
-      ap (λ o. option_map_or test o false) (updates name) ∙ by (bytes_eq key name) refl
+  line_added : (names : Numbering) (lines new : FirstLines) (key : Name) (k line : ℕ) → IsNumbering names → number_of names key ≡ Some k → length lines.lines.items ≡ count_of names →
+      new.lines.items ≡ set lines.lines.items k (Some (least_of line (line_in lines k))) →
+      (name : Name) (j : ℕ) → number_of names name ≡ Some j → has_line test new j ≡ ((bytes_eq key name && test line) || has_line test lines j)
+  line_added names lines new key k line numbering has_key room updates name j has_name =
+      ap (λ ls. option_map_or test (get_or ls j None) false) updates ∙ by (bytes_eq key name) refl
     where
-      by : (b : Bool) → bytes_eq key name ≡ b →
-          option_map_or test (cond b (Some least) (line_in lines.lines name)) false ≡ ((b && test line) || option_map_or test (line_in lines.lines name) false)
-      by true e = ap test is ∙ passes_by line (line_in lines.lines key) ∙ ap (λ n. test line || option_map_or test (line_in lines.lines n) false) ((bytes_eq-Decides key name).0 e)
-      by false e = refl
+      known : Option ℕ
+      known = line_in lines k
 
-pub lines_more : (lines new : FirstLines) (key : Name) (line least : ℕ) (ports : List Port) → least ≡ least_of line (line_in lines.lines key) → HasLineAt lines new key least →
-    AreFirstLines lines ports → AreFirstLines new (at_line line key ∷ ports)
-lines_more lines new key line least ports is updates had = record {
-  before = λ q. line_added (λ l. nat_lt l q.line) (least_lt q.line) lines new key line least is updates q.name
-      ∙ ap₂ (λ a b. a || b) refl (had.before q);
-  up_to = λ q. line_added (λ l. nat_le l q.line) (least_le q.line) lines new key line least is updates q.name
-      ∙ ap₂ (λ a b. a || b) refl (had.up_to q);
-  named = λ name. line_added (λ l. true) (λ a b. refl) lines new key line least is updates name
-      ∙ ap₂ (λ a b. a || b) (and_true (bytes_eq key name)) (had.named name);
+      within : k < length lines.lines.items
+      within = let h : k < count_of names = (numbering key k has_key).0 in omega arith
+
+      by : (b : Bool) → bytes_eq key name ≡ b → option_map_or test (get_or (set lines.lines.items k (Some (least_of line known))) j None) false ≡ ((b && test line) || has_line test lines j)
+      by true e =
+          let same : k ≡ j = (let both : Some k ≡ Some j = sym has_key ∙ ap (number_of names) ((bytes_eq-Decides key name).0 e) ∙ has_name in cc) in
+          ap (λ i. option_map_or test (get_or (set lines.lines.items k (Some (least_of line known))) i None) false) (sym same)
+          ∙ ap (λ o. option_map_or test o false) (get_or-set_same lines.lines.items k (Some (least_of line known)) None within)
+          ∙ passes_by line known
+          ∙ ap (λ i. test line || has_line test lines i) same
+      by false e = ap (λ o. option_map_or test o false) (get_or-set_other lines.lines.items k j (Some (least_of line known)) None (apart names key name k j numbering has_key has_name e))
+
+pub lines_more : (names : Numbering) (lines new : FirstLines) (word : NumberedWord) (ports : List Port) → IsNumbered names word →
+    new.lines.items ≡ set lines.lines.items word.number (Some (least_of word.word.line (line_in lines word.number))) →
+    AreFirstLines names lines ports → AreFirstLines names new (numbered_port word ∷ ports)
+lines_more names lines new word ports is updates had = record {
+  room = ap length updates ∙ length-set lines.lines.items word.number (Some (least_of word.word.line (line_in lines word.number))) ∙ had.room;
+  before = λ q j has. added (λ l. nat_lt l q.line) (least_lt q.line) q.name j has ∙ ap₂ (λ a b. a || b) refl (had.before q j has);
+  up_to = λ q j has. added (λ l. nat_le l q.line) (least_le q.line) q.name j has ∙ ap₂ (λ a b. a || b) refl (had.up_to q j has);
+  named = λ name j has. added (λ l. true) (λ a b. refl) name j has ∙ ap₂ (λ a b. a || b) (and_true (bytes_eq key name)) (had.named name j has);
+  unnumbered = λ name none. ap₂ (λ a b. a || b) (other name none (bytes_eq key name) refl) (had.unnumbered name none);
 }
   where
+    key : Name
+    key = word.word.name.now
+
+    added : (test : ℕ → Bool) → ((a b : ℕ) → test (min a b) ≡ (test a || test b)) → (name : Name) (j : ℕ) → number_of names name ≡ Some j → has_line test new j ≡ ((bytes_eq key name && test word.word.line) || has_line test lines j)
+    added test joins = line_added test joins names lines new key word.number word.word.line is.numbering is.number had.room updates
+
     and_true : (b : Bool) → (b && true) ≡ b
     and_true true = refl
     and_true false = refl
 
--- what is put
-pub line_put : (old new : BTreeMap (Bor (List ℕ)) ℕ) (key : Bor (List ℕ)) (line : ℕ) → UpdatesBy (λ x y. slice_cmp nat_cmp x.now y.now) (λ k. slice_cmp nat_cmp key.now k.now) old new (Some line) → HasLineAt (record { lines = old }) (record { lines = new }) key.now line
-line_put old new key line updates other = btree_map_updates_str key.now old new (Some line) updates other
+    other : (name : Name) → number_of names name ≡ None → (b : Bool) → bytes_eq key name ≡ b → b ≡ false
+    other name none true e = absurd (let clash : Some word.number ≡ None = sym is.number ∙ ap (number_of names) ((bytes_eq-Decides key name).0 e) ∙ none in cc)
+    other name none false e = refl
 
--- a line that is put in the place of another
-pub put_twice : (old middle new : FirstLines) (name : Name) (first last : ℕ) → HasLineAt old middle name first → HasLineAt middle new name last → HasLineAt old new name last
-put_twice old middle new name first last one two other = two other ∙ ap (cond (bytes_eq name other) (Some last)) (one other) ∙ by (bytes_eq name other)
+-- where no line is known
+pub no_word_yet : (names : Numbering) (lines : FirstLines) → HasNoLine (count_of names) lines.lines.items → AreFirstLines names lines []
+no_word_yet names lines none = record {
+  room = none.0;
+  before = λ q j has. ap (λ o. option_map_or (λ l. nat_lt l q.line) o false) (none.1 j);
+  up_to = λ q j has. ap (λ o. option_map_or (λ l. nat_le l q.line) o false) (none.1 j);
+  named = λ name j has. ap (λ o. option_map_or (λ l. true) o false) (none.1 j);
+  unnumbered = λ name unknown. refl;
+}
+
+-- whether a name is among the words, by its number
+pub named_by : (names : Numbering) (lines : FirstLines) (ports : List Port) (name : Name) (number : Option ℕ) → number ≡ number_of names name → AreFirstLines names lines ports →
+    option_map_or (has_line (λ l. true) lines) number false ≡ is_named ports name
+named_by names lines ports name None is had = sym (had.unnumbered name (sym is))
+named_by names lines ports name (Some number) is had = had.named name number (sym is)
+
+pub is_there : (lines : FirstLines) (number : ℕ) → is_some (line_in lines number) ≡ has_line (λ l. true) lines number
+is_there lines number = by (line_in lines number)
   where
-    by : (b : Bool) → cond b (Some last) (cond b (Some first) (line_in old.lines other)) ≡ cond b (Some last) (line_in old.lines other)
-    by true = refl
-    by false = refl
+    by : (known : Option ℕ) → is_some known ≡ option_map_or (λ l. true) known false
+    by None = refl
+    by (Some line) = refl
 
-pub line_there : (old new : FirstLines) (name : Name) (line : ℕ) → HasLineAt old new name line → line_in new.lines name ≡ Some line
-line_there old new name line is = is name ∙ ap (λ b. cond b (Some line) (line_in old.lines name)) ((bytes_eq-Decides name name).1 refl)
-
--- a line that stays where it is the lesser
-pub line_stays : (lines : FirstLines) (name : Name) (line other : ℕ) → line_in lines.lines name ≡ Some line → line ≤ other → HasLineAt lines lines name (min line other)
-line_stays lines name line other there least q = by (bytes_eq name q) refl
+-- the word that stands in front may stand at the end
+any_turned : (test : Port → Bool) (p : Port) (ports : List Port) → list_any test (p ∷ ports) ≡ list_any test (ports ++ p ∷ [])
+any_turned test p ports = by (test p) (list_any test ports) ∙ sym (list_any-append test ports (p ∷ []))
   where
-    by : (b : Bool) → bytes_eq name q ≡ b → line_in lines.lines q ≡ cond b (Some (min line other)) (line_in lines.lines q)
-    by true e = let m : line ≡ min line other = omega arith in ap (line_in lines.lines) (sym ((bytes_eq-Decides name q).0 e)) ∙ there ∙ ap Some m
-    by false e = refl
+    by : (a b : Bool) → (a || b) ≡ (b || (a || false))
+    by true true = refl
+    by true false = refl
+    by false true = refl
+    by false false = refl
 
--- whether a name stands on a line up to another, by what is kept
-pub stood : (lines : FirstLines) (known : Option ℕ) (name : Name) (line : ℕ) (ports : List Port) → known ≡ line_in lines.lines name → AreFirstLines lines ports → option_map_or (λ l. nat_le l line) known false ≡ list_any (same_name_up_to (at_line line name)) ports
-stood lines known name line ports is had = ap (λ o. option_map_or (λ l. nat_le l line) o false) is ∙ had.up_to (at_line line name)
+pub turned : (names : Numbering) (lines : FirstLines) (p : Port) (ports : List Port) → AreFirstLines names lines (p ∷ ports) → AreFirstLines names lines (ports ++ p ∷ [])
+turned names lines p ports had = record {
+  room = had.room;
+  before = λ q number is. had.before q number is ∙ any_turned (same_name_before q) p ports;
+  up_to = λ q number is. had.up_to q number is ∙ any_turned (same_name_up_to q) p ports;
+  named = λ name number is. had.named name number is ∙ any_turned (has_name name) p ports;
+  unnumbered = λ name none. sym (any_turned (has_name name) p ports) ∙ had.unnumbered name none;
+}
 
-pub line_falls : (old new : FirstLines) (name : Name) (line other : ℕ) → other < line → HasLineAt old new name other → HasLineAt old new name (min line other)
-line_falls old new name line other less is = let m : other ≡ min line other = omega arith in subst (HasLineAt old new name) m is
+-- a word that is passed stands in front of those before
+any_moved : (test : Port → Bool) (p : Port) (before after : List Port) → list_any test (before ++ p ∷ after) ≡ list_any test (p ∷ before ++ after)
+any_moved test p before after =
+    list_any-append test before (p ∷ after) ∙ by (list_any test before) (test p) ∙ ap (λ b. test p || b) (sym (list_any-append test before after))
+  where
+    by : (a b : Bool) → (a || (b || list_any test after)) ≡ (b || (a || list_any test after))
+    by true true = refl
+    by true false = refl
+    by false b = refl
+
+pub moved : (names : Numbering) (lines : FirstLines) (p : Port) (before after : List Port) → AreFirstLines names lines (before ++ p ∷ after) → AreFirstLines names lines (p ∷ before ++ after)
+moved names lines p before after had = record {
+  room = had.room;
+  before = λ q number is. had.before q number is ∙ any_moved (same_name_before q) p before after;
+  up_to = λ q number is. had.up_to q number is ∙ any_moved (same_name_up_to q) p before after;
+  named = λ name number is. had.named name number is ∙ any_moved (has_name name) p before after;
+  unnumbered = λ name none. sym (any_moved (has_name name) p before after) ∙ had.unnumbered name none;
+}
+
+-- what does not stand up to a line does not stand before it
+late : (line : ℕ) (known : Option ℕ) → option_map_or (λ l. nat_le l line) known false ≡ false → option_map_or (λ l. nat_lt l line) known false ≡ false
+late line None e = refl
+late line (Some l) e = by (nat_lt l line) refl
+  where
+    by : (b : Bool) → nat_lt l line ≡ b → b ≡ false
+    by true less = absurd (let h : l < line = ltb-true l line less in let g : line < l = leb-false l line e in omega arith)
+    by false less = refl
+
+pub none_before : (names : Numbering) (lines : FirstLines) (p : Port) (ports : List Port) (number : ℕ) → number_of names p.name ≡ Some number → AreFirstLines names lines ports →
+    list_any (same_name_up_to p) ports ≡ false → list_any (same_name_before p) ports ≡ false
+none_before names lines p ports number is had none = sym (had.before p number is) ∙ late p.line (line_in lines number) (had.up_to p number is ∙ none)
+
+pub not_before_itself : (p : Port) → same_name_before p p ≡ false
+not_before_itself p = by (has_name p.name p) (nat_lt p.line p.line) refl
+  where
+    by : (a b : Bool) → nat_lt p.line p.line ≡ b → (a && b) ≡ false
+    by a true less = absurd (let h : p.line < p.line = ltb-true p.line p.line less in omega arith)
+    by true false less = refl
+    by false false less = refl

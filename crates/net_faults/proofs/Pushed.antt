@@ -1,30 +1,17 @@
 -- Lists that a loop makes of a list, one item after another.
 use Rattle.std.proofs.Common.{◌≡◌, refl, sym, ap, ◌∙◌, ℕ, ◌+◌, ◌<◌, Bool, true, false, cond, List, [], ◌∷◌, ◌++◌, length, take, get_or, flat_map}
-use Rattle.std.specs.Prelude.{Option, Some, None, filter_map, option_to_list}
+use Rattle.std.specs.Prelude.{Option, filter_map, option_to_list}
 use Rattle.std.specs.Bool.{then_some}
-use Rattle.std.specs.List.{cons_option}
-use Rattle.std.proofs.lemmas.List.{append-nil, append_assoc, flat_map_more, take_more}
-use Rattle.std.proofs.lemmas.List.Elements.{filter_map-append}
-
--- the first items and one more
-pub taken : {X : Type 0} (xs : List X) (i : ℕ) (x : X) → i < length xs → x ≡ get_or xs i x → take (i + 1) xs ≡ take i xs ++ x ∷ []
-taken xs i x within is = take_more xs i x within ∙ ap (λ y. take i xs ++ y ∷ []) (sym is)
+use Rattle.std.proofs.lemmas.List.{append-nil, append_assoc}
+use Rattle.earliest_words.proofs.OfferedWords.{filtered_taken, flat_taken}
 
 pub flat_more : {X Y : Type 0} (f : X → List Y) (start had new : List Y) (xs : List X) (i : ℕ) (x : X) → i < length xs → x ≡ get_or xs i x →
     had ≡ start ++ flat_map f (take i xs) → new ≡ had ++ f x → new ≡ start ++ flat_map f (take (i + 1) xs)
 flat_more f start had new xs i x within is before pushed =
     pushed
     ∙ ap (λ ys. ys ++ f x) before
-    ∙ flat_map_more f start (take i xs) x
-    ∙ ap (λ ys. start ++ flat_map f ys) (sym (taken xs i x within is))
-
-pub put_in_front : {Y : Type 0} (o : Option Y) (rest : List Y) → option_to_list o ++ rest ≡ cons_option o rest
-put_in_front None rest = refl
-put_in_front (Some y) rest = refl
-
-of_one : {Y : Type 0} (o : Option Y) → cons_option o [] ≡ option_to_list o
-of_one None = refl
-of_one (Some y) = refl
+    ∙ append_assoc start (flat_map f (take i xs)) (f x)
+    ∙ ap (λ ys. start ++ ys) (sym (flat_taken f xs i x within is))
 
 -- an item is pushed where a test says so
 pub kept_more : {X Y : Type 0} (f : X → Option Y) (start had new : List Y) (xs : List X) (i : ℕ) (x : X) (test : Bool) (y : Y) → i < length xs → x ≡ get_or xs i x →
@@ -34,8 +21,7 @@ kept_more f start had new xs i x test y within is gives before pushed =
     ∙ by test
     ∙ ap (λ ys. ys ++ option_to_list (then_some test y)) before
     ∙ append_assoc start (filter_map f (take i xs)) (option_to_list (then_some test y))
-    ∙ ap (λ ys. start ++ ys) (ap (λ o. filter_map f (take i xs) ++ option_to_list o) (sym gives) ∙ ap (λ ys. filter_map f (take i xs) ++ ys) (sym (of_one (f x))) ∙ sym (filter_map-append f (take i xs) (x ∷ [])))
-    ∙ ap (λ ys. start ++ filter_map f ys) (sym (taken xs i x within is))
+    ∙ ap (λ ys. start ++ ys) (ap (λ o. filter_map f (take i xs) ++ option_to_list o) (sym gives) ∙ sym (filtered_taken f xs i x within is))
   where
     by : (t : Bool) → cond t (had ++ y ∷ []) had ≡ had ++ option_to_list (then_some t y)
     by true = refl

@@ -5,12 +5,13 @@ use Rattle.netlist_core.specs.declared.model.Port.{Port}
 use Rattle.netlist_rules.specs.Drivers.{same_name_before, same_name_up_to}
 use Rattle.net_faults.specs.declared.duplicates.Elsewhere.{Elsewhere}
 use Rattle.net_faults.specs.declared.duplicates.Elsewhere.TheVariants.{Before, UpTo}
+use Rattle.net_faults.specs.declared.numbering.Numbering.{Numbering}
 use Rattle.net_faults.specs.FirstLines.{AreFirstLines}
 
 -- it has the lines of these words
-abbrev pub KnowsOthers : Elsewhere → List Port → Type 0
-KnowsOthers (Before lines) others = AreFirstLines lines.now others
-KnowsOthers (UpTo lines) others = AreFirstLines lines.now others
+abbrev pub KnowsOthers : Numbering → Elsewhere → List Port → Type 0
+KnowsOthers names (Before lines) others = AreFirstLines names lines.now others
+KnowsOthers names (UpTo lines) others = AreFirstLines names lines.now others
 
 -- whether the name stands there, on a line before, or on a line up to that of the port
 abbrev pub stands_elsewhere : Elsewhere → List Port → Port → Bool

@@ -1,4 +1,6 @@
+pub mod Numbering
 pub mod FirstLines
 pub mod Repeats
 pub mod Elsewhere
-pub mod Placed
+pub mod Pins
+pub mod NetWords

@@ -1,10 +1,11 @@
 -- Words of a list whose names stand earlier in it.
 use Rattle.std.specs.Prelude.{List, ◌++◌}
 use Rattle.netlist_core.specs.declared.model.Port.{Port}
+use Rattle.net_faults.specs.declared.numbering.Numbering.{Numbering}
 use Rattle.net_faults.specs.declared.repeats.Repeats.{Repeats}
 use Rattle.net_faults.specs.FirstLines.{AreFirstLines}
 
 -- The words before, the nearest first, have been passed, and those after have not.
-pub record IsBetween (repeats : Repeats) (before after : List Port) : Type 0 where
-  pub all : AreFirstLines repeats.all (before ++ after)
-  pub passed : AreFirstLines repeats.passed before
+pub record IsBetween (names : Numbering) (repeats : Repeats) (before after : List Port) : Type 0 where
+  pub all : AreFirstLines names repeats.all (before ++ after)
+  pub passed : AreFirstLines names repeats.passed before

@@ -1,16 +1,15 @@
 // What drives the nets of a model.
 ghost use Rattle.std.specs.Prelude.{◌≡◌, ◌++◌, List, map, IfOk, OnOk};
 ghost use Rattle.netlist_core.specs.declared.model.Model.{Model};
-ghost use Rattle.netlist_rules.specs.Drivers.{cover_output, latch_output, drivers_of};
+ghost use Rattle.netlist_rules.specs.Drivers.{cover_output, latch_output};
 ghost use Rattle.earliest_words.specs.Words.{word_ports};
-ghost use Rattle.net_faults.specs.Placed.{KnowsPorts};
+ghost use Rattle.placed_ports.specs.Placed.{KnowsPorts};
+ghost use Rattle.net_faults.specs.NetWords.{other_drivers};
 
 use crate::pins::{PinKind, push_actuals};
-use crate::placed::PlacedPorts;
-use crate::repeats::firsts;
-use crate::words::input_words;
 use earliest_words::Word;
 use netlist_core::{Cover, LatchRow, Model};
+use placed_ports::PlacedPorts;
 use std::alloc::{AllocError, Global};
 
 // Adds the outputs of some covers.
@@ -42,16 +41,15 @@ fn push_latch_outputs<'a>(
     Ok(())
 }
 
-/// The drivers of a model's nets.
-pub fn driver_words<'a>(
+/// The drivers of a model's nets that are no inputs.
+pub fn other_drivers<'a>(
     alloc: Global,
     model: &'a Model,
     placed: &PlacedPorts<'_, 'a>,
 ) -> Result<Vec<Word<'a>>, AllocError>
-    ensures { IfOk result (λ words. (models : List Model) → KnowsPorts placed.now models → word_ports words.items ≡ drivers_of models model.now) }
+    ensures { IfOk result (λ words. (models : List Model) → KnowsPorts placed.now models → word_ports words.items ≡ other_drivers models model.now) }
 {
-    let inputs = input_words(alloc, model)?;
-    let mut words = firsts(alloc, inputs.as_slice())?;
+    let mut words = Vec::new(alloc);
     push_cover_outputs(&mut words, model.covers.as_slice())?;
     push_latch_outputs(&mut words, model.latches.as_slice())?;
     push_actuals(&mut words, PinKind::Output, model, placed)?;

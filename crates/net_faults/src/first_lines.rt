@@ -1,102 +1,142 @@
-// The names of some words, each with the earliest line on which it stands.
-ghost use Rattle.std.specs.Prelude.{◌≡◌, min, List, [], ◌∷◌, Some, IfOk, OnOk};
+// The earliest line of each name of some words.
+ghost use Rattle.std.specs.Prelude.{◌≡◌, false, nat_le, nat_lt, min, List, [], ◌∷◌, Some, slice_set, IfOk, OnOk};
+ghost use Rattle.std.specs.Option.{option_map_or};
 ghost use Rattle.std.specs.List.{list_any};
 ghost use Rattle.netlist_core.specs.declared.model.Port.{Port};
 ghost use Rattle.netlist_core.specs.Names.{is_named};
 ghost use Rattle.netlist_rules.specs.Drivers.{same_name_before, same_name_up_to};
-ghost use Rattle.earliest_words.specs.Words.{word_port, word_ports};
-ghost use Rattle.net_faults.specs.FirstLines.{AreFirstLines, HasLineAt, line_in};
+ghost use Rattle.net_faults.specs.declared.numbering.Numbering as numbered;
+ghost use Rattle.net_faults.specs.Numbering.{AreNumbered, IsNumbered, numbered_port, numbered_ports};
+ghost use Rattle.net_faults.specs.FirstLines.{AreFirstLines, HasNoLine, line_in};
 
-use earliest_words::Word;
+use crate::numbering::{NumberedWord, Numbering};
 use std::alloc::{AllocError, Global};
-use std::collections::BTreeMap;
 
-/// The names of some words, and of each the earliest line on which it stands.
+/// The earliest line on which each name of some words stands, by the name's number.
 #[derive(Drop)]
-pub struct FirstLines<'a> {
-    lines: BTreeMap<&'a [u8], u64>,
+pub struct FirstLines {
+    lines: Vec<Option<u64>>,
 }
 
-impl<'a> FirstLines<'a> {
-    /// Of no words.
-    pub fn new(alloc: Global) -> FirstLines<'a>
-        ensures { AreFirstLines result [] }
+// A line for each of these many numbers, none of them known.
+fn no_lines(alloc: Global, count: usize) -> Result<Vec<Option<u64>>, AllocError>
+    ensures { IfOk result (λ lines. HasNoLine count lines.items) }
+{
+    let mut lines = Vec::with_capacity(alloc, count)?;
+    lines.resize(count, None)?;
+    Ok(lines)
+}
+
+// The lesser of a line and another, if there is another.
+fn lesser(line: u64, known: Option<u64>) -> u64
+    ensures { result ≡ option_map_or (min line) known line }
+{
+    match known {
+        None => line,
+        Some(other) => line.min(other),
+    }
+}
+
+// Whether a line is known and stands before this one.
+fn is_before(known: Option<u64>, line: u64) -> bool
+    ensures { result ≡ option_map_or (λ other. nat_lt other line) known false }
+{
+    match known {
+        None => false,
+        Some(other) => other < line,
+    }
+}
+
+// Whether a line is known and stands up to this one.
+fn is_up_to(known: Option<u64>, line: u64) -> bool
+    ensures { result ≡ option_map_or (λ other. nat_le other line) known false }
+{
+    match known {
+        None => false,
+        Some(other) => other <= line,
+    }
+}
+
+impl FirstLines {
+    /// Of no words, with room for the lines of these names.
+    pub fn new(alloc: Global, names: &Numbering<'_>) -> Result<FirstLines, AllocError>
+        ensures { IfOk result (λ lines. AreFirstLines names.now lines []) }
     {
-        FirstLines {
-            lines: BTreeMap::new(alloc),
+        Ok(FirstLines {
+            lines: no_lines(alloc, names.len())?,
+        })
+    }
+
+    // The line that is kept at a number.
+    fn line(&self, number: usize) -> Option<u64>
+        ensures { result ≡ line_in self.now number }
+    {
+        if number < self.lines.len() {
+            self.lines[number]
+        } else {
+            None
         }
     }
 
-    // Puts a line in the place of what is kept for a name, and answers what was kept.
-    fn put(&mut self, name: &'a [u8], line: u64) -> Result<Option<u64>, AllocError>
-        ensures old { IfOk result (λ known. known ≡ line_in self.old.lines name.now) }
-        ensures new { OnOk result (HasLineAt self.old self.new name.now line) }
+    // Keeps a line at a number, if there is room.
+    fn put(&mut self, number: usize, line: u64)
+        ensures { self.new.lines.items ≡ slice_set self.old.lines.items number (Some line) }
     {
-        Ok(self.lines.insert(name, line)?)
-    }
-
-    // Puts the other line back for the word's name, where it is the lesser.
-    #[tactic(auto, using(crate::proofs::NamedLines::line_stays, crate::proofs::NamedLines::line_falls))]
-    fn put_back(&mut self, word: Word<'a>, other: u64) -> Result<(), AllocError>
-        requires { line_in self.old.lines word.name.now ≡ Some word.line }
-        ensures { OnOk result (HasLineAt self.old self.new word.entry.name.now (min word.entry.line other)) }
-    {
-        if word.line <= other {
-            return Ok(());
+        if number < self.lines.len() {
+            self.lines[number] = Some(line);
         }
-        self.put(word.name, other)?;
-        Ok(())
     }
 
     /// Adds a word, and answers whether its name stood on a line up to the word's.
-    #[tactic(auto, using(crate::proofs::NamedLines::stood, crate::proofs::NamedLines::lines_more, crate::proofs::NamedLines::put_twice, crate::proofs::NamedLines::line_there))]
-    pub fn insert(&mut self, word: Word<'a>) -> Result<bool, AllocError>
-        ensures stood { IfOk result (λ stood. (ports : List Port) → AreFirstLines self.old ports → stood ≡ list_any (same_name_up_to (word_port word.entry)) ports) }
-        ensures added { OnOk result ((ports : List Port) → AreFirstLines self.old ports → AreFirstLines self.new (word_port word.entry ∷ ports)) }
+    pub fn insert(&mut self, word: NumberedWord<'_>) -> bool
+        ensures stood { (names : numbered.Numbering) (ports : List Port) → IsNumbered names word.entry → AreFirstLines names self.old ports →
+            result ≡ list_any (same_name_up_to (numbered_port word.entry)) ports }
+        ensures added { (names : numbered.Numbering) (ports : List Port) → IsNumbered names word.entry → AreFirstLines names self.old ports →
+            AreFirstLines names self.new (numbered_port word.entry ∷ ports) }
     {
-        match self.put(word.name, word.line)? {
-            None => Ok(false),
-            Some(line) => {
-                self.put_back(word, line)?;
-                Ok(line <= word.line)
-            }
-        }
+        let known = self.line(word.number);
+        self.put(word.number, lesser(word.word.line, known));
+        is_up_to(known, word.word.line)
     }
 
     /// Whether the word's name stands on a line before the word's.
-    pub fn has_before(&self, word: Word<'_>) -> bool
-        ensures { (ports : List Port) → AreFirstLines self.now ports → result ≡ list_any (same_name_before (word_port word.entry)) ports }
+    pub fn has_before(&self, word: NumberedWord<'_>) -> bool
+        ensures { (names : numbered.Numbering) (ports : List Port) → IsNumbered names word.entry → AreFirstLines names self.now ports →
+            result ≡ list_any (same_name_before (numbered_port word.entry)) ports }
     {
-        match self.lines.get(word.name) {
-            None => false,
-            Some(line) => *line < word.line,
-        }
+        is_before(self.line(word.number), word.word.line)
     }
 
     /// Whether the word's name stands on a line up to the word's.
-    pub fn has_up_to(&self, word: Word<'_>) -> bool
-        ensures { (ports : List Port) → AreFirstLines self.now ports → result ≡ list_any (same_name_up_to (word_port word.entry)) ports }
+    pub fn has_up_to(&self, word: NumberedWord<'_>) -> bool
+        ensures { (names : numbered.Numbering) (ports : List Port) → IsNumbered names word.entry → AreFirstLines names self.now ports →
+            result ≡ list_any (same_name_up_to (numbered_port word.entry)) ports }
     {
-        match self.lines.get(word.name) {
-            None => false,
-            Some(line) => *line <= word.line,
-        }
+        is_up_to(self.line(word.number), word.word.line)
     }
 
     /// Whether the name stands on any line.
-    pub fn has_name(&self, name: &[u8]) -> bool
-        ensures { (ports : List Port) → AreFirstLines self.now ports → result ≡ is_named ports name.now }
+    pub fn has_name(&self, names: &Numbering<'_>, name: &[u8]) -> bool
+        ensures { (ports : List Port) → AreFirstLines names.now self.now ports → result ≡ is_named ports name.now }
     {
-        self.lines.contains_key(name)
+        match names.find(name) {
+            None => false,
+            Some(number) => self.line(number).is_some(),
+        }
     }
 
     /// Of these words.
-    pub fn of(alloc: Global, words: &[Word<'a>]) -> Result<FirstLines<'a>, AllocError>
-        ensures { IfOk result (λ lines. AreFirstLines lines (word_ports words.now)) }
+    pub fn of(
+        alloc: Global,
+        names: &Numbering<'_>,
+        words: &[NumberedWord<'_>],
+    ) -> Result<FirstLines, AllocError>
+        requires { AreNumbered names.now words.now }
+        ensures { IfOk result (λ lines. AreFirstLines names.now lines (numbered_ports words.now)) }
     {
-        let mut lines = FirstLines::new(alloc);
+        let mut lines = FirstLines::new(alloc, names)?;
         for word in words {
-            lines.insert(*word)?;
+            lines.insert(*word);
         }
         Ok(lines)
     }

@@ -1,15 +1,16 @@
 // The pins of subckt lines, by what their formals are.
-ghost use Rattle.std.specs.Prelude.{◌≡◌, ◌++◌, List, Option, filter_map, OnOk};
+ghost use Rattle.std.specs.Prelude.{◌≡◌, ◌++◌, List, Option, filter_map, IfOk, OnOk};
 ghost use Rattle.std.specs.Option.{option_copied};
 ghost use Rattle.netlist_core.specs.declared.model.Model.{Model};
 ghost use Rattle.netlist_rules.specs.Drivers.{is_input_pin, is_output_pin, actual_if, actuals};
 ghost use Rattle.earliest_words.specs.Words.{word_ports};
-ghost use Rattle.net_faults.specs.Placed.{ArePlacedNames, KnowsPorts, is_pin_of};
+ghost use Rattle.placed_ports.specs.Placed.{ArePlacedNames, KnowsPorts};
+ghost use Rattle.net_faults.specs.Pins.{is_pin_of};
 
-use crate::placed::{PlacedPorts, PortNames};
 use earliest_words::Word;
 use netlist_core::{Model, Pin, Subckt};
-use std::alloc::AllocError;
+use placed_ports::{PlacedPorts, PortNames};
+use std::alloc::{AllocError, Global};
 
 /// What a pin's formal is in the model that its line names, if there is one.
 #[derive(Clone, Copy)]
@@ -25,7 +26,7 @@ fn is_input(placed: Option<&PortNames<'_>>, pin: &Pin) -> bool
 {
     match placed {
         None => false,
-        Some(names) => names.inputs.has_name(pin.formal.as_slice()),
+        Some(names) => names.has_input(pin.formal.as_slice()),
     }
 }
 
@@ -34,7 +35,7 @@ fn is_output(placed: Option<&PortNames<'_>>, pin: &Pin) -> bool
 {
     match placed {
         None => false,
-        Some(names) => names.outputs.has_name(pin.formal.as_slice()),
+        Some(names) => names.has_output(pin.formal.as_slice()),
     }
 }
 
@@ -84,4 +85,18 @@ pub fn push_actuals<'a>(
         push_pins(words, kind, placed.find(subckt.model.as_slice()), subckt)?;
     }
     Ok(())
+}
+
+/// The actuals of a model's pins of one kind.
+pub fn actual_words<'a>(
+    alloc: Global,
+    kind: PinKind,
+    model: &'a Model,
+    placed: &PlacedPorts<'_, 'a>,
+) -> Result<Vec<Word<'a>>, AllocError>
+    ensures { IfOk result (λ words. (models : List Model) → KnowsPorts placed.now models → word_ports words.items ≡ actuals models (is_pin_of kind) model.now) }
+{
+    let mut words = Vec::new(alloc);
+    push_actuals(&mut words, kind, model, placed)?;
+    Ok(words)
 }

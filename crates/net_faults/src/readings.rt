@@ -3,13 +3,13 @@ ghost use Rattle.std.specs.Prelude.{◌≡◌, ◌++◌, List, flat_map, IfOk, O
 ghost use Rattle.netlist_core.specs.declared.model.Model.{Model};
 ghost use Rattle.netlist_rules.specs.Drivers.{cover_readings, latch_readings, readings_of};
 ghost use Rattle.earliest_words.specs.Words.{word_ports};
-ghost use Rattle.net_faults.specs.Placed.{KnowsPorts};
+ghost use Rattle.placed_ports.specs.Placed.{KnowsPorts};
 
 use crate::pins::{PinKind, push_actuals};
-use crate::placed::PlacedPorts;
 use crate::words::port_words;
 use earliest_words::Word;
 use netlist_core::{Cover, LatchRow, Model};
+use placed_ports::PlacedPorts;
 use std::alloc::{AllocError, Global};
 
 // Adds the inputs of a cover.

@@ -14,7 +14,8 @@ use Rattle.netlist_rules.specs.declared.fault.FaultKind.TheVariants.{PinMissing}
 use Rattle.netlist_rules.specs.ModelFaults.{earliest, fault_of_port, formals_of, missing_pin, on_line, unpinned_inputs}
 use Rattle.earliest_words.specs.Words.{earliest_after}
 use Rattle.earliest_words.proofs.EarliestWords.{earliest_after-append}
-use Rattle.pin_faults.specs.NameSets.{HasNames, ports_unless}
+use Rattle.placed_ports.specs.NameSets.{HasNames}
+use Rattle.pin_faults.specs.NotNamed.{ports_unless}
 use Rattle.lists.specs.Names.{holds_name}
 
 -- the first of a line's inputs without a pin, by their lines in the placed model

@@ -1,8 +1,7 @@
 -- What a set of names has after one more.
-use Rattle.std.proofs.Common.{◌≡◌, refl, sym, ap, ◌∙◌, ℕ, ◌+◌, ◌<◌, Bool, true, false, cond, ◌||◌, List, [], ◌∷◌, length, take, get_or, map}
-use Rattle.std.proofs.lemmas.List.Folds.{list_any_more, list_any-append}
+use Rattle.std.proofs.Common.{◌≡◌, refl, sym, ap, ◌∙◌, ℕ, ◌+◌, ◌<◌, Bool, true, false, ◌||◌, List, [], ◌∷◌, length, take, get_or, map}
+use Rattle.std.proofs.lemmas.List.Folds.{list_any-append}
 use Rattle.std.proofs.lemmas.List.{map_more}
-use Rattle.std.proofs.Math.Bool.{or_assoc}
 use Rattle.std.specs.BTreeSet.{BTreeSet, UpdatesBy}
 use Rattle.std.specs.Cmp.Lexicographic.{slice_cmp}
 use Rattle.std.specs.Ordering.{nat_cmp}
@@ -10,30 +9,9 @@ use Rattle.std.specs.Str.{bytes_eq}
 use denote.Ref.{Bor}
 use Rattle.netlist_core.specs.declared.model.Pin.{Pin}
 use Rattle.netlist_core.specs.declared.model.Port.{Port}
-use Rattle.netlist_core.specs.Names.{Name, at_line, has_name, is_named}
-use Rattle.pin_faults.specs.NameSets.{HasNames}
-use Rattle.lists.specs.Names.{holds_name}
-use Rattle.lists.proofs.NameSets.{inserted}
-
-by_cond : (a b : Bool) → cond a true b ≡ (b || a)
-by_cond true true = refl
-by_cond true false = refl
-by_cond false true = refl
-by_cond false false = refl
-
--- one more name
-pub name_added : (old new : BTreeSet (Bor (List ℕ))) (key : Bor (List ℕ)) (name : Name) → UpdatesBy (λ x y. slice_cmp nat_cmp x.now y.now) (λ k. slice_cmp nat_cmp key.now k.now) old new true → holds_name new name ≡ (holds_name old name || bytes_eq key.now name)
-name_added old new key name updates =
-    inserted old new key name updates ∙ by_cond (bytes_eq key.now name) (holds_name old name)
-
--- one more port of a list
-pub port_added : (first old new : BTreeSet (Bor (List ℕ))) (key : Bor (List ℕ)) (ports : List Port) (i : ℕ) (port : Port) → i < length ports → port ≡ get_or ports i port → key.now ≡ port.name → ((name : Name) → holds_name old name ≡ (holds_name first name || is_named (take i ports) name)) → UpdatesBy (λ x y. slice_cmp nat_cmp x.now y.now) (λ k. slice_cmp nat_cmp key.now k.now) old new true → (name : Name) → holds_name new name ≡ (holds_name first name || is_named (take (i + 1) ports) name)
-port_added first old new key ports i port within is named had updates name =
-    name_added old new key name updates
-    ∙ ap (λ b. b || bytes_eq key.now name) (had name)
-    ∙ or_assoc (holds_name first name) (is_named (take i ports) name) (bytes_eq key.now name)
-    ∙ ap (λ (n : List ℕ). holds_name first name || (is_named (take i ports) name || bytes_eq n name)) (named ∙ ap (λ (p : Port). p.name) is)
-    ∙ ap (λ b. holds_name first name || b) (sym (list_any_more (has_name name) ports i port within))
+use Rattle.netlist_core.specs.Names.{at_line, has_name, is_named}
+use Rattle.placed_ports.specs.NameSets.{HasNames}
+use Rattle.placed_ports.proofs.NamesAdded.{name_added}
 
 -- one more formal of a line
 pub formal_added : (old new : BTreeSet (Bor (List ℕ))) (key : Bor (List ℕ)) (line : ℕ) (pins : List Pin) (i : ℕ) (pin : Pin) → i < length pins → pin ≡ get_or pins i pin → key.now ≡ pin.formal → HasNames old (is_named (map (λ (p : Pin). at_line line p.formal) (take i pins))) → UpdatesBy (λ x y. slice_cmp nat_cmp x.now y.now) (λ k. slice_cmp nat_cmp key.now k.now) old new true → HasNames new (is_named (map (λ (p : Pin). at_line line p.formal) (take (i + 1) pins)))

@@ -1,12 +1,10 @@
 -- What has been offered after one more element.
-use Rattle.std.proofs.Common.{◌≡◌, refl, sym, ap, ◌∙◌, ℕ, ◌+◌, ◌<◌, ◌≤◌, Bool, not, List, [], ◌∷◌, ◌++◌, length, take, get_or, flat_map, filter_map, Option, Some, None, option_map}
+use Rattle.std.proofs.Common.{◌≡◌, refl, sym, ap, ◌∙◌, ℕ, ◌+◌, ◌<◌, ◌≤◌, Bool, not, List, [], ◌∷◌, ◌++◌, length, take, get_or, flat_map, Option, option_map, arith}
 use Rattle.std.proofs.lemmas.Grind.{flat_map-append}
-use Rattle.std.proofs.lemmas.List.{append-nil, map_more, take_more, take_all}
-use Rattle.std.proofs.lemmas.List.Elements.{filter_map-append}
+use Rattle.std.proofs.lemmas.List.{get_or-map, length-map, take-map, take_all}
 use Rattle.std.proofs.lemmas.Result.{IfOk-weaker}
 use Rattle.std.specs.Bool.{then_some}
 use Rattle.std.specs.Prelude.{Result, IfOk}
-use Rattle.std.specs.List.{cons_option}
 use Rattle.std.specs.BTreeSet.{BTreeSet}
 use Rattle.std.specs.Option.{option_to_list}
 use denote.Ref.{Bor}
@@ -14,39 +12,21 @@ use Rattle.netlist_core.specs.declared.model.Model.{Model}
 use Rattle.netlist_core.specs.declared.model.Pin.{Pin}
 use Rattle.netlist_core.specs.declared.model.Port.{Port}
 use Rattle.netlist_core.specs.declared.model.Subckt.{Subckt}
-use Rattle.netlist_core.specs.Names.{at_line}
+use Rattle.netlist_core.specs.Names.{Name, at_line}
 use Rattle.netlist_rules.specs.declared.fault.Fault.{Fault}
 use Rattle.netlist_rules.specs.declared.fault.FaultKind.{FaultKind}
 use Rattle.netlist_rules.specs.ModelFaults.{earliest, fault_of_port}
 use Rattle.earliest_words.specs.Words.{earliest_after}
-use Rattle.earliest_words.proofs.EarliestWords.{earliest_after-append}
-use Rattle.pin_faults.specs.NameSets.{formal_unless, port_unless}
+use Rattle.earliest_words.proofs.OfferedWords.{offered_more}
+use Rattle.pin_faults.specs.NotNamed.{formal_unless, port_unless}
 use Rattle.lists.specs.Names.{holds_name}
 use Rattle.pin_faults.specs.SubcktLines.{lines_now}
 
--- words that elements may give
-filtered_one : {X : Type 0} (f : X → Option Port) (x : X) → filter_map f (x ∷ []) ≡ option_to_list (f x)
-filtered_one f x = by (f x)
-  where
-    by : (o : Option Port) → cons_option o [] ≡ option_to_list o
-    by None = refl
-    by (Some p) = refl
-
-pub filtered_more : {X : Type 0} (f : X → Option Port) (found was now : Option Port) (xs : List X) (i : ℕ) (x : X) → i < length xs → x ≡ get_or xs i x → was ≡ earliest_after found (filter_map f (take i xs)) → now ≡ earliest_after was (option_to_list (f x)) → now ≡ earliest_after found (filter_map f (take (i + 1) xs))
-filtered_more f found was now xs i x within is before after =
-    after
-    ∙ ap (λ o. earliest_after o (option_to_list (f x))) before
-    ∙ earliest_after-append found (filter_map f (take i xs)) (option_to_list (f x))
-    ∙ ap (λ ws. earliest_after found (filter_map f (take i xs) ++ ws)) (sym (filtered_one f x))
-    ∙ ap (earliest_after found) (sym (filter_map-append f (take i xs) (x ∷ [])))
-    ∙ ap (λ y. earliest_after found (filter_map f (take i xs ++ y ∷ []))) is
-    ∙ ap (λ ys. earliest_after found (filter_map f ys)) (sym (take_more xs i x within))
-
--- words of elements that are not in a set
-pub formal_offered : (names : BTreeSet (Bor (List ℕ))) (line : ℕ) (pin : Pin) (name : List ℕ) (found : Bool) → found ≡ holds_name names name → name ≡ pin.formal → option_to_list (then_some (not found) (at_line line name)) ≡ option_to_list (formal_unless (holds_name names) line pin)
-formal_offered names line pin name found e d =
+-- words of elements that do not pass a test
+pub formal_offered : (test : Name → Bool) (line : ℕ) (pin : Pin) (name : Name) (found : Bool) → found ≡ test name → name ≡ pin.formal → option_to_list (then_some (not found) (at_line line name)) ≡ option_to_list (formal_unless test line pin)
+formal_offered test line pin name found e d =
     ap (λ b. option_to_list (then_some (not b) (at_line line name))) e
-    ∙ ap (λ n. option_to_list (then_some (not (holds_name names n)) (at_line line n))) d
+    ∙ ap (λ n. option_to_list (then_some (not (test n)) (at_line line n))) d
 
 pub port_offered : (names : BTreeSet (Bor (List ℕ))) (port : Port) (name : List ℕ) (found : Bool) → found ≡ holds_name names name → name ≡ port.name → option_to_list (then_some (not found) (at_line port.line name)) ≡ option_to_list (port_unless (holds_name names) port)
 port_offered names port name found e d =
@@ -56,13 +36,12 @@ port_offered names port name found e d =
 -- words of lines
 pub lines_more : (f : Subckt → List Port) (was now : Option Port) (lines : List (Bor Subckt)) (i : ℕ) (line : Bor Subckt) → i < length lines → line ≡ get_or lines i line → was ≡ earliest (flat_map f (lines_now (take i lines))) → now ≡ earliest_after was (f line.now) → now ≡ earliest (flat_map f (lines_now (take (i + 1) lines)))
 lines_more f was now lines i line within is before after =
+    let many : length (lines_now lines) ≡ length lines = length-map lines (λ (l : Bor Subckt). l.now) in
+    offered_more f (lines_now lines) i line.now was now (omega arith)
+    (ap (λ (l : Bor Subckt). l.now) is ∙ sym (get_or-map (λ (l : Bor Subckt). l.now) lines i line line.now within))
+    (before ∙ ap (λ ls. earliest (flat_map f ls)) (sym (take-map (λ (l : Bor Subckt). l.now) i lines)))
     after
-    ∙ ap (λ o. earliest_after o (f line.now)) before
-    ∙ earliest_after-append None (flat_map f (lines_now (take i lines))) (f line.now)
-    ∙ ap (λ ws. earliest (flat_map f (lines_now (take i lines)) ++ ws)) (sym (append-nil (f line.now)))
-    ∙ ap earliest (sym (flat_map-append f (lines_now (take i lines)) (line.now ∷ [])))
-    ∙ ap (λ (l : Bor Subckt). earliest (flat_map f (lines_now (take i lines) ++ l.now ∷ []))) is
-    ∙ ap (λ ls. earliest (flat_map f ls)) (sym (map_more (λ (l : Bor Subckt). l.now) lines i line within))
+    ∙ ap (λ ls. earliest (flat_map f ls)) (take-map (λ (l : Bor Subckt). l.now) (i + 1) lines)
 
 -- the lines of models are those of each model
 over_models : (f : Subckt → List Port) (models : List Model) → flat_map f (flat_map (λ (m : Model). m.subckts) models) ≡ flat_map (λ (m : Model). flat_map f m.subckts) models

@@ -14,7 +14,7 @@ use Rattle.netlist_core.specs.Names.{Name, at_line, has_name, is_named}
 use Rattle.netlist_rules.specs.Drivers.{same_name_up_to, same_name_before, stands_earlier, repeats_after, repeats}
 use Rattle.earliest_words.specs.Words.{earliest_after}
 use Rattle.earliest_words.proofs.EarliestWords.{earliest_after-append}
-use Rattle.pin_faults.specs.NameSets.{HasNames}
+use Rattle.placed_ports.specs.NameSets.{HasNames}
 use Rattle.lists.specs.Names.{holds_name}
 
 -- a formal on a line

@@ -1,2 +1,2 @@
-pub mod NameSets
+pub mod NotNamed
 pub mod SubcktLines

@@ -15,4 +15,5 @@ pub use missing::pin_missing;
 pub use named_models::NamedModels;
 pub use netlist_core::Model;
 pub use placed::missing_model;
+pub use placed_ports::PlacedPorts;
 pub use repeated::pin_twice;

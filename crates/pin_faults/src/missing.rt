@@ -7,7 +7,7 @@ ghost use Rattle.netlist_rules.specs.declared.fault.FaultKind.TheVariants.{PinMi
 ghost use Rattle.netlist_rules.specs.ModelFaults.{fault_of_port, missing_pin, unless_named, formals_of};
 ghost use Rattle.earliest_words.specs.EarliestBroken.{earliest_broken};
 ghost use Rattle.earliest_words.specs.Words.{earliest_word, earliest_after};
-ghost use Rattle.pin_faults.specs.NameSets.{ports_unless};
+ghost use Rattle.pin_faults.specs.NotNamed.{ports_unless};
 ghost use Rattle.lists.specs.Names.{holds_name};
 
 use crate::lines::subckt_lines;

@@ -3,7 +3,8 @@ use Rattle.std.specs.Option.{option_copied}
 use Rattle.netlist_core.specs.Names.{model_named}
 use Rattle.netlist_rules.specs.Drivers.{actuals_on}
 use Rattle.earliest_words.specs.Words.{word_ports}
-use Rattle.net_faults.specs.Placed.{ArePlacedNames, is_pin_of}
+use Rattle.placed_ports.specs.Placed.{ArePlacedNames}
+use Rattle.net_faults.specs.Pins.{is_pin_of}
 use Rattle.net_faults.proofs.Pushed.{flat_more}
 use Rattle.net_faults.proofs.pins.push_actuals.Goals as goal
 

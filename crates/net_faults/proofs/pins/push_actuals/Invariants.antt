@@ -2,7 +2,8 @@ use Rattle.std.proofs.Common.{◌≡◌, ◌++◌, List, take, flat_map}
 use Rattle.netlist_core.specs.declared.model.Model.{Model}
 use Rattle.netlist_rules.specs.Drivers.{actuals_on}
 use Rattle.earliest_words.specs.Words.{word_ports}
-use Rattle.net_faults.specs.Placed.{KnowsPorts, is_pin_of}
+use Rattle.placed_ports.specs.Placed.{KnowsPorts}
+use Rattle.net_faults.specs.Pins.{is_pin_of}
 use Rattle.net_faults.proofs.pins.push_actuals.Given as goal
 
 abbrev pub invariant-loop-subckt : goal.invariant-loop-subckt

@@ -4,7 +4,8 @@ use Rattle.std.specs.Option.{option_copied}
 use Rattle.netlist_core.specs.declared.model.Model.{Model}
 use Rattle.netlist_rules.specs.Drivers.{actual_if}
 use Rattle.earliest_words.specs.Words.{word_ports}
-use Rattle.net_faults.specs.Placed.{ArePlacedNames, is_pin_of}
+use Rattle.placed_ports.specs.Placed.{ArePlacedNames}
+use Rattle.net_faults.specs.Pins.{is_pin_of}
 use Rattle.net_faults.proofs.pins.push_pins.Given as goal
 
 abbrev pub invariant-loop-pin : goal.invariant-loop-pin

@@ -6,7 +6,7 @@ use Rattle.std.proofs.lemmas.List.{drop_more}
 use Rattle.netlist_rules.specs.ModelFaults.{unless_named}
 use Rattle.earliest_words.specs.Words.{word_port, word_ports, earliest_word, earliest_after}
 use Rattle.net_faults.proofs.Passing.{no_word, offered_if}
-use Rattle.net_faults.proofs.Pushed.{put_in_front}
+use Rattle.earliest_words.proofs.OfferedWords.{put_in_front}
 use Rattle.net_faults.proofs.undriven_nets.offer_unnamed.Goals as goal
 use Rattle.net_faults.proofs.undriven_nets.offer_unnamed.Goals.{then-not-has_name, else-not-has_name}
 
@@ -14,7 +14,7 @@ pub loop-word-preserved : goal.loop-word-preserved
 loop-word-preserved c = λ ports knows.
     let words = c.args.words.now in
     let i = c.loop-word.word-index in
-    let p = word_port (get_or words i no_word) in
+    let p = word_port (get_or words i no_word.word) in
     let rest = filter_map (unless_named ports) (word_ports (drop (i + 1) words)) in
     let found = earliest_word c.loop-word.earliest in
     let offered = earliest_after found (p ∷ []) in
@@ -27,5 +27,5 @@ loop-word-preserved c = λ ports knows.
     offered_if (not named) found (earliest_word c.if-not-has_name.earliest) p rest chosen
     ∙ ap (λ t. earliest_after found (option_to_list (then_some (not t) p) ++ rest)) (c.has_name.ensures ports knows)
     ∙ ap (earliest_after found) (put_in_front (unless_named ports p) rest)
-    ∙ ap (λ ws. earliest_after found (filter_map (unless_named ports) (word_ports ws))) (sym (drop_more words i no_word within))
+    ∙ ap (λ ws. earliest_after found (filter_map (unless_named ports) (word_ports ws))) (sym (drop_more words i no_word.word within))
     ∙ c.loop-word.invariant ports knows

@@ -7,5 +7,5 @@ use Rattle.net_faults.specs.FirstLines.{AreFirstLines}
 use Rattle.net_faults.proofs.undriven_nets.offer_unnamed.Given as goal
 
 abbrev pub invariant-loop-word : goal.invariant-loop-word
-invariant-loop-word l = (ports : List Port) → AreFirstLines l.drivers ports →
+invariant-loop-word l = (ports : List Port) → AreFirstLines l.names l.drivers ports →
     earliest_after (earliest_word l.earliest) (filter_map (unless_named ports) (word_ports (drop l.word-index l.words))) ≡ earliest_after (earliest_word l.initial.earliest) (filter_map (unless_named ports) (word_ports l.words))

@@ -5,4 +5,4 @@ use Rattle.pin_faults.specs.SubcktLines.{lines_now}
 use Rattle.pin_faults.proofs.formals.unknown_formal.Given as goal
 
 abbrev pub invariant-loop-line : goal.invariant-loop-line
-invariant-loop-line l = earliest_word l.earliest ≡ earliest (flat_map (unknown_formals l.named) (lines_now (take l.line-index l.line-items)))
+invariant-loop-line l = earliest_word l.earliest ≡ earliest (flat_map (unknown_formals l.models) (lines_now (take l.line-index l.line-items)))

@@ -1,6 +1,6 @@
 use Rattle.std.proofs.Common.{◌≡◌, take}
 use Rattle.earliest_words.specs.Words.{earliest_word, earliest_after}
-use Rattle.pin_faults.specs.NameSets.{ports_unless}
+use Rattle.pin_faults.specs.NotNamed.{ports_unless}
 use Rattle.lists.specs.Names.{holds_name}
 use Rattle.pin_faults.proofs.missing.offer_others.Given as goal
 

@@ -3,7 +3,7 @@ use Rattle.netlist_core.specs.declared.model.Pin.{Pin}
 use Rattle.netlist_core.specs.Names.{at_line, is_named}
 use Rattle.netlist_rules.specs.Drivers.{repeats}
 use Rattle.earliest_words.specs.Words.{earliest_after, earliest_word}
-use Rattle.pin_faults.specs.NameSets.{HasNames}
+use Rattle.placed_ports.specs.NameSets.{HasNames}
 use Rattle.pin_faults.proofs.repeated.offer_line.Given as goal
 
 abbrev pub invariant-loop-pin : goal.invariant-loop-pin

@@ -1,0 +1,17 @@
+use Rattle.std.proofs.Common.{arith}
+use Rattle.netlist_rules.specs.ModelFaults.{duplicate_ports, second_drivers, undriven_readings}
+use Rattle.earliest_words.proofs.OfferedWords.{offered_more}
+use Rattle.net_faults.proofs.faults.net_faults.Goals as goal
+
+pub loop-model-preserved : goal.loop-model-preserved
+loop-model-preserved c =
+    let models = c.args.models.now in
+    let i = c.loop-model.model-index in
+    let model = c.model-item.result in
+    let offered = c.in_ok-offer_model.ensures in
+    let was = c.loop-model.invariant in
+    record {
+      duplicate_port = offered_more duplicate_ports models i model _ _ (omega arith) c.model-item.is was.duplicate_port offered.duplicate_port;
+      second_driver = offered_more (second_drivers models) models i model _ _ (omega arith) c.model-item.is was.second_driver (offered.second_driver models c.requires);
+      undriven = offered_more (undriven_readings models) models i model _ _ (omega arith) c.model-item.is was.undriven (offered.undriven models c.requires);
+    }

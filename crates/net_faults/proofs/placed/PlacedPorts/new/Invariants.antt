@@ -1,7 +1,0 @@
-use Rattle.std.proofs.Common.{take}
-use Rattle.std.specs.List.{AllZip}
-use Rattle.net_faults.specs.Placed.{AreNamesOfPorts}
-use Rattle.net_faults.proofs.placed.PlacedPorts.new.Given as goal
-
-abbrev pub invariant-loop-model : goal.invariant-loop-model
-invariant-loop-model l = AllZip AreNamesOfPorts l.ports.items (take l.model-index l.models)

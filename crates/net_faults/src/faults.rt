@@ -1,0 +1,86 @@
+// The faults of models in their nets.
+ghost use Rattle.std.specs.Prelude.{◌≡◌, List, IfOk, OnOk};
+ghost use Rattle.netlist_core.specs.declared.model.Model.{Model};
+ghost use Rattle.netlist_rules.specs.ModelFaults.{duplicate_ports, second_drivers, undriven_readings};
+ghost use Rattle.netlist_rules.specs.declared.fault.FaultKind.TheVariants.{DuplicatePort, MultipleDrivers, Undriven};
+ghost use Rattle.earliest_words.specs.EarliestBroken.{earliest_broken};
+ghost use Rattle.earliest_words.specs.Words.{earliest_word, earliest_after};
+ghost use Rattle.placed_ports.specs.Placed.{KnowsPorts};
+
+use crate::duplicates::offer_duplicates;
+use crate::net_words::NetWords;
+use crate::second_drivers::offer_second_drivers;
+use crate::undriven_nets::offer_undriven;
+use earliest_words::{Earliest, Fault, FaultKind};
+use netlist_core::Model;
+use placed_ports::PlacedPorts;
+use std::alloc::{AllocError, Global};
+
+/// The fault by each rule on how nets are named, driven and read, at the earliest word that breaks it.
+#[derive(Drop)]
+pub struct NetFaults {
+    /// Of a name that is twice a port of a model: twice in `.inputs`, twice in `.clock`, twice in `.outputs`, or among the inputs
+    /// and in `.outputs`.
+    pub duplicate_port: Option<Fault>,
+    /// Of a net that has two drivers.
+    pub second_driver: Option<Fault>,
+    /// Of a net that is read and has no driver. A pin of an unknown model or formal counts as a driver here.
+    pub undriven: Option<Fault>,
+}
+
+/// The earliest word so far that breaks each rule.
+#[derive(Clone, Copy)]
+pub struct EarliestWords<'a> {
+    duplicate_port: Earliest<'a>,
+    second_driver: Earliest<'a>,
+    undriven: Earliest<'a>,
+}
+
+// Offers the words at which a model breaks the rules.
+fn offer_model<'a>(
+    alloc: Global,
+    model: &'a Model,
+    placed: &PlacedPorts<'_, 'a>,
+    earliest: &mut EarliestWords<'a>,
+) -> Result<(), AllocError>
+    ensures duplicate_port { OnOk result (earliest_word earliest.new.duplicate_port ≡ earliest_after (earliest_word earliest.old.duplicate_port) (duplicate_ports model.now)) }
+    ensures second_driver { OnOk result ((models : List Model) → KnowsPorts placed.now models →
+        earliest_word earliest.new.second_driver ≡ earliest_after (earliest_word earliest.old.second_driver) (second_drivers models model.now)) }
+    ensures undriven { OnOk result ((models : List Model) → KnowsPorts placed.now models →
+        earliest_word earliest.new.undriven ≡ earliest_after (earliest_word earliest.old.undriven) (undriven_readings models model.now)) }
+{
+    let words = NetWords::of(alloc, model, placed)?;
+    offer_duplicates(alloc, model, &words, &mut earliest.duplicate_port)?;
+    offer_second_drivers(alloc, &words, &mut earliest.second_driver)?;
+    offer_undriven(alloc, model, placed, &words, &mut earliest.undriven)
+}
+
+/// The faults of models, whose ports are these.
+pub fn net_faults<'a>(
+    alloc: Global,
+    models: &'a [Model],
+    placed: &PlacedPorts<'_, 'a>,
+) -> Result<NetFaults, AllocError>
+    requires { KnowsPorts placed.now models.now }
+    ensures duplicate_port { IfOk result (λ faults. faults.duplicate_port ≡ earliest_broken DuplicatePort models.now) }
+    ensures second_driver { IfOk result (λ faults. faults.second_driver ≡ earliest_broken MultipleDrivers models.now) }
+    ensures undriven { IfOk result (λ faults. faults.undriven ≡ earliest_broken Undriven models.now) }
+{
+    let mut earliest = EarliestWords {
+        duplicate_port: Earliest::new(),
+        second_driver: Earliest::new(),
+        undriven: Earliest::new(),
+    };
+    for model in models {
+        offer_model(alloc, model, placed, &mut earliest)?;
+    }
+    Ok(NetFaults {
+        duplicate_port: earliest
+            .duplicate_port
+            .fault(alloc, FaultKind::DuplicatePort)?,
+        second_driver: earliest
+            .second_driver
+            .fault(alloc, FaultKind::MultipleDrivers)?,
+        undriven: earliest.undriven.fault(alloc, FaultKind::Undriven)?,
+    })
+}

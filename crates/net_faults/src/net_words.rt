@@ -1,0 +1,83 @@
+// The words of a model that name its nets where they are driven, and its outputs.
+ghost use Rattle.std.specs.Prelude.{◌≡◌, ◌++◌, List, IfOk, OnOk};
+ghost use Rattle.netlist_core.specs.declared.model.Model.{Model};
+ghost use Rattle.netlist_rules.specs.Drivers.{drivers_of};
+ghost use Rattle.placed_ports.specs.Placed.{KnowsPorts};
+ghost use Rattle.net_faults.specs.Numbering.{AreNumbered, numbered_ports};
+ghost use Rattle.net_faults.specs.NetWords.{AreDriversOf, ArePortsOf, HaveNumbers};
+
+use crate::drivers::other_drivers;
+use crate::numbering::{NumberedWord, Numbering};
+use crate::pins::{PinKind, actual_words};
+use crate::repeats::firsts;
+use crate::words::{input_words, port_words};
+use netlist_core::Model;
+use placed_ports::PlacedPorts;
+use std::alloc::{AllocError, Global};
+
+/// The words of a model that name its nets where they are driven, and its outputs, each with the number of its name.
+#[derive(Drop)]
+pub struct NetWords<'a> {
+    pub names: Numbering<'a>,
+    /// The inputs, then the clocks.
+    pub inputs: Vec<NumberedWord<'a>>,
+    pub outputs: Vec<NumberedWord<'a>>,
+    /// The drivers that are no inputs.
+    pub others: Vec<NumberedWord<'a>>,
+    /// The actuals of pins of an unknown model or formal.
+    pub unknown: Vec<NumberedWord<'a>>,
+}
+
+/// Adds words to others.
+pub fn push_words<'a>(
+    words: &mut Vec<NumberedWord<'a>>,
+    more: &[NumberedWord<'a>],
+) -> Result<(), AllocError>
+    ensures { OnOk result (words.new.items ≡ words.old.items ++ more.now) }
+{
+    for word in more {
+        words.push(*word)?;
+    }
+    Ok(())
+}
+
+impl<'a> NetWords<'a> {
+    /// Of this model.
+    pub fn of(
+        alloc: Global,
+        model: &'a Model,
+        placed: &PlacedPorts<'_, 'a>,
+    ) -> Result<NetWords<'a>, AllocError>
+        ensures numbers { IfOk result (λ words. HaveNumbers words) }
+        ensures ports { IfOk result (λ words. ArePortsOf words model.now) }
+        ensures drivers { IfOk result (λ words. (models : List Model) → KnowsPorts placed.now models → AreDriversOf words models model.now) }
+    {
+        let mut names = Numbering::new(alloc);
+        let inputs = names.number_words(alloc, &input_words(alloc, model)?)?;
+        let outputs = names.number_words(alloc, &port_words(alloc, model.outs.as_slice())?)?;
+        let others = names.number_words(alloc, &other_drivers(alloc, model, placed)?)?;
+        let unknown = names.number_words(
+            alloc,
+            &actual_words(alloc, PinKind::Unknown, model, placed)?,
+        )?;
+        Ok(NetWords {
+            names,
+            inputs,
+            outputs,
+            others,
+            unknown,
+        })
+    }
+
+    /// The drivers of the model's nets.
+    pub fn drivers(&self, alloc: Global) -> Result<Vec<NumberedWord<'a>>, AllocError>
+        requires { HaveNumbers self.now }
+        ensures words { IfOk result (λ words. (models : List Model) (model : Model) → ArePortsOf self.now model → AreDriversOf self.now models model →
+            numbered_ports words.items ≡ drivers_of models model) }
+        ensures numbers { IfOk result (λ words. AreNumbered self.now.names words.items) }
+    {
+        let mut words = firsts(alloc, &self.names, &self.inputs)?;
+        push_words(&mut words, &self.others)?;
+        Ok(words)
+    }
+}

@@ -1,0 +1,100 @@
+// Names by number.
+ghost use Rattle.std.specs.Prelude.{◌≡◌, List, IfOk, OnOk};
+ghost use Rattle.earliest_words.specs.Words.{word_ports};
+ghost use Rattle.net_faults.specs.Numbering.{AreNumbered, IsNumbering, IsPut, KeepsNumbers, count_of, number_of, numbered_ports};
+
+use earliest_words::Word;
+use std::alloc::{AllocError, Global};
+use std::collections::BTreeMap;
+
+/// Names, each with its number: they are counted from 0, in the order in which they first come.
+#[derive(Drop)]
+pub struct Numbering<'a> {
+    numbers: BTreeMap<&'a [u8], usize>,
+    names: Vec<&'a [u8]>,
+}
+
+/// A word with the number of its name.
+#[derive(Clone, Copy)]
+pub struct NumberedWord<'a> {
+    pub word: Word<'a>,
+    pub number: usize,
+}
+
+impl<'a> Numbering<'a> {
+    /// Of no names.
+    pub fn new(alloc: Global) -> Numbering<'a>
+        ensures { IsNumbering result }
+    {
+        Numbering {
+            numbers: BTreeMap::new(alloc),
+            names: Vec::new(alloc),
+        }
+    }
+
+    /// How many names there are.
+    pub fn len(&self) -> usize
+        ensures { result ≡ count_of self.now }
+    {
+        self.names.len()
+    }
+
+    /// The number of a name, if it has one.
+    pub fn find(&self, name: &[u8]) -> Option<usize>
+        ensures { result ≡ number_of self.now name.now }
+    {
+        self.numbers.get(name).copied()
+    }
+
+    // Puts a number in the place of what is kept for a name, and answers what was kept.
+    fn put(&mut self, name: &'a [u8], number: usize) -> Result<Option<usize>, AllocError>
+        ensures old { IfOk result (λ known. known ≡ number_of self.old name.now) }
+        ensures new { OnOk result (IsPut self.old self.new name.now number) }
+        ensures names { self.new.names.items ≡ self.old.names.items }
+    {
+        Ok(self.numbers.insert(name, number)?)
+    }
+
+    // The number of a name, the next one where it had none.
+    fn number(&mut self, name: &'a [u8]) -> Result<usize, AllocError>
+        requires { IsNumbering self.old }
+        ensures number { IfOk result (λ number. number_of self.new name.now ≡ Some number) }
+        ensures numbering { OnOk result (IsNumbering self.new) }
+        ensures keeps { OnOk result (KeepsNumbers self.old self.new) }
+    {
+        let next = self.len();
+        match self.put(name, next)? {
+            None => {
+                self.names.push(name)?;
+                Ok(next)
+            }
+            Some(number) => {
+                self.put(name, number)?;
+                Ok(number)
+            }
+        }
+    }
+
+    /// The words, each with the number of its name.
+    pub fn number_words(
+        &mut self,
+        alloc: Global,
+        words: &[Word<'a>],
+    ) -> Result<Vec<NumberedWord<'a>>, AllocError>
+        requires { IsNumbering self.old }
+        ensures words { IfOk result (λ numbered. numbered_ports numbered.items ≡ word_ports words.now) }
+        ensures numbers { IfOk result (λ numbered. AreNumbered self.new numbered.items) }
+        ensures numbering { OnOk result (IsNumbering self.new) }
+        ensures keeps { OnOk result (KeepsNumbers self.old self.new) }
+    {
+        let mut numbered = Vec::with_capacity(alloc, words.len())?;
+        for word in words {
+            let number = self.number(word.name)?;
+            numbered.push(NumberedWord {
+                word: *word,
+                number,
+            })?;
+        }
+        Ok(numbered)
+    }
+}

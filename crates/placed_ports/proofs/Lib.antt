@@ -1,0 +1,2 @@
+pub mod NamesAdded
+pub mod NumberedPorts

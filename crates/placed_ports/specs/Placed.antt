@@ -1,0 +1,30 @@
+-- The ports of the models that subckt lines name.
+use Rattle.std.specs.Prelude.{◌≡◌, ◌||◌, Bool, List, Option, Some, None}
+use Rattle.std.specs.List.{AllZip}
+use Rattle.netlist_core.specs.declared.model.Model.{Model}
+use Rattle.netlist_core.specs.Names.{Name}
+use Rattle.netlist_rules.specs.Drivers.{has_input, has_output}
+use Rattle.placed_ports.specs.declared.ports.PortNames.{PortNames}
+use Rattle.placed_ports.specs.declared.placed.PlacedPorts.{PlacedPorts}
+use Rattle.placed_ports.specs.NameSets.{HasNames}
+
+-- whether a model has a port of this name
+abbrev pub has_port : Name → Model → Bool
+has_port name m = has_input name m || has_output name m
+
+-- the names are those of this model's ports
+pub record AreNamesOfPorts (names : PortNames) (m : Model) : Type 0 where
+  pub inputs : HasNames names.inputs (λ name. has_input name m)
+  pub outputs : HasNames names.outputs (λ name. has_output name m)
+
+-- each of these models has its ports' names
+pub record KnowsPorts (placed : PlacedPorts) (models : List Model) : Type 0 where
+  pub named : placed.named.now ≡ models
+  pub ports : AllZip AreNamesOfPorts placed.ports models
+
+-- the names of a model that is placed, where there is one
+abbrev pub ArePlacedNames : Option Model → Option PortNames → Type 0
+ArePlacedNames None None = Unit {0}
+ArePlacedNames None (Some names) = ⊥
+ArePlacedNames (Some m) None = ⊥
+ArePlacedNames (Some m) (Some names) = AreNamesOfPorts names m
