@@ -4,7 +4,7 @@ use Rattle.std.specs.Prelude.{All, Option, Some, None, take, slice_get, ◌==◌
 use Rattle.std.specs.Option.{ForSome}
 use Rattle.std.proofs.lemmas.Bool.{cases_eq, cases_lt, ne_eqb}
 use Rattle.std.proofs.lemmas.List.{length-set, length-append, length_push, take-append-le, get_or-set_same, get_or-set_other, get_or_append_left, get_or_push}
-use Rattle.std.proofs.lemmas.Option.{slice_get_within, slice_get-get_or, get_or_from_slice_get}
+use Rattle.std.proofs.lemmas.Option.{none-some, slice_get_within, slice_get-get_or, get_or_from_slice_get}
 use Rattle.std.proofs.Math.Seq.{take-length}
 use Rattle.std.proofs.lemmas.List.Elements.{All-push}
 use Rattle.std.proofs.lemmas.List.Sums.{fold_push, sum_by-set}
@@ -19,7 +19,7 @@ use Rattle.row_placer.specs.declared.roles.Role.TheVariants.{Kept}
 use Rattle.row_placer.specs.declared.roles.Tag.{Tag}
 use Rattle.row_placer.specs.declared.job.Job.{Job}
 use Rattle.row_placer.specs.declared.job.NumberedCell.{NumberedCell}
-use Rattle.row_placer.specs.Told.{role_code, Told, MadeTold, MadeAt, IsGateAt, PutsTags, Tells, free_tag, tag, gate_instr, Exchanged, BothExchanged}
+use Rattle.row_placer.specs.Told.{role_code, Told, MadeTold, MadeAt, IsGateAt, instr_at, PutsTags, Tells, free_tag, tag, gate_instr, Exchanged, BothExchanged}
 use Rattle.lane_core.proofs.Lengths.{length-after_instrs as length-after}
 
 pub length-two : {X : Type 0} (xs : List X) (i j : ℕ) (a b : X) → length (set (set xs i a) j b) ≡ length xs
@@ -160,8 +160,12 @@ got_front instrs more n i got =
     slice_get-get_or (instrs ++ more) n i (let e = length-append instrs more in omega (arith, e, low))
     ∙ ap Some (get_or_append_left instrs more i n low ∙ get_or_from_slice_get instrs n i i got)
 
+got_after : (instrs more : List Instr) (after : Option ℕ) (i : Instr) → instr_at instrs after ≡ Some i → instr_at (instrs ++ more) after ≡ Some i
+got_after instrs more None i got = absurd (none-some i got)
+got_after instrs more (Some n) i got = got_front instrs more n i got
+
 pub step_at : (job : Job) (instrs : List Instr) (instr : Instr) (made : List NetPlace) → MadeAt job instrs made → MadeAt job (instrs ++ instr ∷ []) made
-step_at job instrs instr made at g gate place within = let h = at g gate place within in (h.0, h.1, got_front instrs (instr ∷ []) h.0 _ h.2)
+step_at job instrs instr made at g gate place within = got_after instrs (instr ∷ []) (get_or made g place).after _ (at g gate place within)
 
 pub note_at : (job : Job) (instrs : List Instr) (made : List NetPlace) (lane n : ℕ) → ((gate : NumberedCell) → slice_get instrs n ≡ Some (gate_instr (get_or job.gates (length made) gate).kind lane))
     → MadeAt job instrs made → MadeAt job instrs (made ++ record { lane = lane; after = Some n } ∷ [])
@@ -170,7 +174,7 @@ note_at job instrs made lane n last old g gate place within =
     (λ low. subst (IsGateAt instrs (get_or job.gates g gate).kind) (sym (get_or_append_left made (new ∷ []) place g low)) (old g gate place low))
     (λ high. (let is : g ≡ length made = omega (arith, high, within, length_push made new) in
     subst (IsGateAt instrs (get_or job.gates g gate).kind) (sym (get_or_push made new place g (sym is)))
-    (n, refl, last gate ∙ ap (λ k. Some (gate_instr (get_or job.gates k gate).kind lane)) (sym is))))
+    (last gate ∙ ap (λ k. Some (gate_instr (get_or job.gates k gate).kind lane)) (sym is))))
     (cases_lt g (length made))
   where
     new : NetPlace

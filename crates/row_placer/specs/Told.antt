@@ -1,5 +1,5 @@
 -- What tags tell of bits.
-use Rattle.std.specs.Prelude.{ℕ, ◌+◌, ◌<◌, ◌≡◌, ◌==◌, Bool, ◌&&◌, ◌||◌, not, cond, List, length, get_or, slice_get, Some, count_by}
+use Rattle.std.specs.Prelude.{ℕ, ◌+◌, ◌<◌, ◌≡◌, ◌==◌, Bool, ◌&&◌, ◌||◌, not, cond, List, length, get_or, slice_get, Option, Some, option_and_then, count_by}
 use Rattle.lane_core.specs.declared.instr.Instr.{Instr}
 use Rattle.lane_core.specs.declared.instr.Instr.TheVariants as instrs
 use Rattle.lane_core.specs.declared.plan.NetPlace.{NetPlace}
@@ -63,9 +63,13 @@ MadeTold job instrs made =
     (bit : ℕ → Bool) → Agrees job bit → (bits : List Bool) → length bits ≡ length job.start → HoldsTags bit job.start bits
     → (g : ℕ) (d : NetPlace) → g < length made → bit_on (bits_after after_instrs instrs (get_or made g d).after bits) (get_or made g d).lane ≡ bit (job.base + g)
 
+-- the instruction after which a place is found
+abbrev pub instr_at : List Instr → Option ℕ → Option Instr
+instr_at instrs after = option_and_then (slice_get instrs) after
+
 -- the place of each gate that is made is that of its instruction
 abbrev pub IsGateAt : List Instr → CellKind → NetPlace → Type 0
-IsGateAt instrs kind place = (n : ℕ) × (place.after ≡ Some n) × (slice_get instrs n ≡ Some (gate_instr kind place.lane))
+IsGateAt instrs kind place = instr_at instrs place.after ≡ Some (gate_instr kind place.lane)
 
 abbrev pub MadeAt : Job → List Instr → List NetPlace → Type 0
 MadeAt job instrs made = (g : ℕ) (gate : NumberedCell) (place : NetPlace) → g < length made → IsGateAt instrs (get_or job.gates g gate).kind (get_or made g place)

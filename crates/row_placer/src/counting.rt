@@ -19,16 +19,16 @@ fn add_use(left: &mut Vec<u32>, value: u32) -> u32
 
 // 1 where a value has no use.
 fn unused(left: &Vec<u32>, value: u32) -> u32
-    requires { value < length left.now }
-    ensures { result ≡ unused (get_or left.now value 0) }
+    requires { value < length left.now.items }
+    ensures { result ≡ unused (get_or left.now.items value 0) }
 {
     if left[value as usize] == 0 { 1 } else { 0 }
 }
 
 /// How many of the first values have no use.
 pub fn count_idle(left: &Vec<u32>, values: u32) -> u32
-    requires { values ≤ length left.now }
-    ensures { result ≡ idle left.now values }
+    requires { values ≤ length left.now.items }
+    ensures { result ≡ idle left.now.items values }
 {
     let mut count = 0;
     let mut value = 0;

@@ -67,9 +67,10 @@ pub fn prepare(
     let ports = ports_of(alloc, list, loops)?;
     let (left, free) = count_uses(alloc, &gates, &ports, inner + 1)?;
     let zero = wants_zero(list, &left, inner);
-    let dark = if zero { 1 } else { 0 };
+    let dark = one_if(zero);
     let idle = count_idle(&left, inner + dark);
-    let first = first_home(free, idle, dark) + spare;
+    let least = first_home(free, idle, dark);
+    let first = least + spare;
     let homes = homes_of(alloc, first, inner, zero)?;
     let start = start_tags(alloc, &homes, &left, first + inner)?;
     let job = Job {
@@ -79,6 +80,12 @@ pub fn prepare(
         start: List::of(start),
     };
     Ok(Prepared { job, left, homes })
+}
+
+fn one_if(flag: bool) -> u32
+    ensures { result ≡ cond flag 1 0 }
+{
+    if flag { 1 } else { 0 }
 }
 
 // How many lanes stand above the homes of inputs and loops: as many as must be free, less those homes that are, and `dark` at least.

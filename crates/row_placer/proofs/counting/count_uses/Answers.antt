@@ -88,11 +88,11 @@ loop-at-preserved c =
     let b = needed c.loop-at.left.items us gate.second c.add_use-second.result low i.0 e.need in
     let a1 = need_small gate.first (gate.second ∷ us) in
     let b1 = need_small gate.second us in
-    let freed : 1 + c.unused.result ≡ 1 + unused (times (c.args.base + (n - 1)) us) =
-    ap (λ k. 1 + k) (c.unused.ensures ∙ ap unused (i.0 (c.args.base + (n - 1)) (omega (arith, more, i.1, i.3)))) in (
+    let freed : 1 + c.unused-freed.result ≡ 1 + unused (times (c.args.base + (n - 1)) us) =
+    ap (λ k. 1 + k) (c.unused-freed.ensures ∙ ap unused (i.0 (c.args.base + (n - 1)) (omega (arith, more, i.1, i.3)))) in (
       subst (λ gs. AreCounted c.add_use-first.new.left.items (uses_of gs ++ ports)) (sym list) (counted_more c.add_use-second.new.left.items c.add_use-first.new.left.items (gate.second ∷ us) gate.first low' f.left counted),
       ap length f.left ∙ length-set c.add_use-second.new.left.items gate.first (get_or c.add_use-second.new.left.items gate.first 0 + 1) ∙ wide,
-      owed_more ports gates c.args.base (n - 1) n c.loop-at.free c.add_use-first.result c.add_use-second.result c.saturating_sub.result (1 + c.unused.result) none back i.3 i.2 c.saturating_sub.ensures freed a b,
+      owed_more ports gates c.args.base (n - 1) n c.loop-at.free c.add_use-first.result c.add_use-second.result c.saturating_sub.result (1 + c.unused-freed.result) none back i.3 i.2 c.saturating_sub.ensures freed a b,
       omega (arith, i.3),
       omega (arith, a, b, a1, b1, more, i.4, c.saturating_sub.ensures),
     )
