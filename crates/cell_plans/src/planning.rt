@@ -4,9 +4,11 @@ ghost use Rattle.cell_core.specs.Loops.{loop_count};
 ghost use Rattle.cell_lanes.specs.Computes.{ComputesByPlan};
 ghost use Rattle.cell_order.specs.Alike.{ComputeAlike};
 ghost use Rattle.cell_plans.specs.Counts.{instr_count};
+ghost use Rattle.cell_plans.specs.Exits.{AreAtExits};
 ghost use Rattle.cell_plans.specs.PlanOf.{IsPlanOf};
 ghost use Rattle.lane_core.specs.Plans.{IsAdmissible};
 ghost use Rattle.row_placer.specs.Empty.{IsEmpty};
+ghost use Rattle.row_placer.specs.Entries.{AreAtEntries};
 
 use crate::PlanError;
 use cell_core::CellList;
@@ -69,6 +71,8 @@ pub fn plan_of(alloc: Global, list: &CellList) -> Result<Plan, PlanError>
     ensures computes { IfOk result (ComputesByPlan list.now) }
     ensures lanes { IfOk result (λ plan. plan.lanes ≤ list.now.inputs + 2 * loop_count list.now + length list.now.outs + length list.now.cells + 2 + max list.now.inputs (length list.now.outs)) }
     ensures empty { IfOk result (λ plan. IsEmpty list.now → plan.lanes ≡ 0) }
+    ensures entries { IfOk result (λ plan. AreAtEntries list.now plan.lanes plan.ins plan.nets) }
+    ensures exits { IfOk result (λ plan. AreAtExits list.now plan.columns plan.nets) }
     ensures instrs { IfOk result (λ plan. instr_count plan.columns ≤ (3 * length list.now.cells + length list.now.outs + 2 * loop_count list.now) * plan.lanes) }
     ensures columns { IfOk result (λ plan. length plan.columns ≤ (3 * length list.now.cells + length list.now.outs + 2 * loop_count list.now + 1) * (plan.lanes + 1)) }
 {
