@@ -14,7 +14,6 @@ use Rattle.cell_order.specs.Alike.{ComputeAlike}
 use Rattle.cell_order.proofs.Planned.{CountAlike, count_alike, alike_is_planned}
 use Rattle.cell_plans.specs.Counts.{instr_count}
 use Rattle.cell_plans.specs.PlanOf.{IsPlanOf}
-use Rattle.row_placer.specs.Empty.{IsEmpty}
 use Rattle.row_placer.specs.Entries.{IsEntryOf, AreAtEntries}
 use Rattle.cell_plans.specs.Exits.{AreAtExits}
 

@@ -1,13 +1,12 @@
 -- The nets of a flat netlist are at the entries of their drivers, or at the exits of cells.
-use Rattle.std.proofs.Common.{◌≡◌, refl, sym, ◌∙◌, ap, subst, ℕ, ◌+◌, ◌-◌, ◌<◌, length, get_or, map, Some, None, option_map, slice_get, inl, inr, ◌⊎◌, arith}
-use Rattle.std.specs.Prelude.{All}
+use Rattle.std.proofs.Common.{◌≡◌, refl, sym, ◌∙◌, ap, subst, ℕ, ◌+◌, ◌-◌, ◌<◌, length, get_or, map, None, option_map, inl, inr, ◌⊎◌, arith}
 use Rattle.std.proofs.lemmas.List.{length-map, get_or-map}
 use Rattle.std.proofs.lemmas.Option.{slice_get-get_or}
 use Rattle.lane_core.specs.declared.plan.Plan.{Plan}
 use Rattle.lane_core.specs.declared.plan.NetPlace.{NetPlace}
 use Rattle.netlist_core.specs.declared.flat.Flat.{Flat}
 use Rattle.netlist_core.specs.declared.flat.Net.{Net as FlatNet}
-use Rattle.netlist_meaning.specs.Flat.{nets_but_clocks, FlatDriver, FlatDrives}
+use Rattle.netlist_meaning.specs.Flat.{nets_but_clocks, FlatDriver}
 use Rattle.cell_core.specs.declared.cells.Src.{Src}
 use Rattle.cell_core.specs.declared.cells.Src.TheVariants.{Input, Latch, One, Zero, Cell as Made}
 use Rattle.cell_core.specs.declared.cells.Cell.{Cell}
@@ -20,7 +19,7 @@ use Rattle.row_placer.specs.Entries.{IsEntryOf, AreAtEntries}
 use Rattle.row_placer.specs.Numbers.{IsThere}
 use Rattle.row_placer.proofs.Sound.{sound as sources_there}
 use Rattle.cell_plans.specs.Exits.{AreAtExits}
-use Rattle.netlist_plans.specs.NetPlaces.{IsEntry, IsCellExit, DrivesNet, HasNetPlaces}
+use Rattle.netlist_plans.specs.NetPlaces.{IsCellExit, HasNetPlaces}
 use Rattle.netlist_plans.proofs.Lanes.{nets_many}
 
 module _ (flat : Flat) (list : CellList) (m : IsMapped flat list) (plan : Plan) (loops : plan.latches ≡ loop_count list)

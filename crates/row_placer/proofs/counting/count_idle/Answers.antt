@@ -1,5 +1,4 @@
-use Rattle.std.proofs.Common.{sym, ◌∙◌, ap, ap₂, ◌≡◌, ◌+◌, ◌<◌, suc, arith}
-use Rattle.row_placer.specs.Uses.{idle}
+use Rattle.std.proofs.Common.{sym, ◌∙◌, ap₂, ◌+◌, arith}
 use Rattle.row_placer.proofs.Starts.{idle_more, unused_small}
 use Rattle.row_placer.proofs.counting.count_idle.Goals as goal
 
