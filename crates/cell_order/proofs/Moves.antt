@@ -1,8 +1,11 @@
 -- Cells that come one after another.
 use Rattle.std.proofs.Common.{◌≡◌, refl, sym, ◌∙◌, ap, ap₂, ℕ, suc, ◌+◌, ◌<◌, Bool, true, ◌&&◌, ◌||◌, not, List, [], ◌∷◌, ◌++◌, length, get_or, Option, Some, None, option_map, option_and_then, subst, slice_set, slice_get, map, ⊎_elim, ◌≢◌, drop, take, arith}
 use Rattle.std.proofs.lemmas.Bool.{and_parts, and_from, lt-ltb, cases_eq}
-use Rattle.std.proofs.lemmas.List.{length_push, get_or-set_same, get_or-set_other, take_more, map-append, length-map}
-use Rattle.std.proofs.lemmas.Option.{slice_get_within, get_or_from_slice_get, same_Some}
+use Rattle.std.proofs.lemmas.List.{length_push, length-append, get_or_append_left, get_or-set_same, get_or-set_other, take_more, map-append, length-map}
+use Rattle.std.proofs.lemmas.Option.{slice_get_within, slice_get-get_or, get_or_from_slice_get, same_Some}
+use Rattle.lists.proofs.Appends.{slice_get_push}
+use Rattle.lane_core.specs.declared.instr.Instr.{Instr}
+use Rattle.cell_lanes.specs.Origins.{entry_source, cell_instr, maker_on}
 use Rattle.cell_core.specs.declared.cells.Src.{Src}
 use Rattle.cell_core.specs.declared.cells.Src.TheVariants.{Input, Latch, One, Zero, Cell as Made}
 use Rattle.cell_core.specs.declared.cells.Cell.{Cell}
@@ -34,23 +37,26 @@ none_is_some f x xs e = let n : 0 ≡ suc (length (map f xs)) = ap length e in o
 
 -- ---- a source under the new numbers
 record Follows (list : CellList) (cells : List Cell) (src new : Src) : Type 0 where
+  entry : entry_source new ≡ entry_source src
+  maker : (lane : ℕ) → maker_on cells lane new ≡ maker_on list.cells lane src
   there : (made : ℕ) → is_there list.inputs (length list.starts) made src ≡ true → is_there list.inputs (length list.starts) (length cells) new ≡ true
   bit : (inputs state : List Bool) → bit_in cells inputs state new ≡ bit_in list.cells inputs state src
 
 follows : (list : CellList) (cells : List Cell) (numbers : Numbers) → AreMoved list cells numbers → (src new : Src) → renamed numbers src ≡ Some new → Follows list cells src new
-follows list cells numbers are (Input i) new e = subst (λ s. Follows list cells (Input i) s) (same e) (record { there = λ made h. h; bit = λ inputs state. refl })
-follows list cells numbers are (Latch i) new e = subst (λ s. Follows list cells (Latch i) s) (same e) (record { there = λ made h. h; bit = λ inputs state. refl })
-follows list cells numbers are One new e = subst (λ s. Follows list cells One s) (same e) (record { there = λ made h. h; bit = λ inputs state. refl })
-follows list cells numbers are Zero new e = subst (λ s. Follows list cells Zero s) (same e) (record { there = λ made h. h; bit = λ inputs state. refl })
+follows list cells numbers are (Input i) new e = subst (λ s. Follows list cells (Input i) s) (same e) (record { entry = refl; maker = λ lane. refl; there = λ made h. h; bit = λ inputs state. refl })
+follows list cells numbers are (Latch i) new e = subst (λ s. Follows list cells (Latch i) s) (same e) (record { entry = refl; maker = λ lane. refl; there = λ made h. h; bit = λ inputs state. refl })
+follows list cells numbers are One new e = subst (λ s. Follows list cells One s) (same e) (record { entry = refl; maker = λ lane. refl; there = λ made h. h; bit = λ inputs state. refl })
+follows list cells numbers are Zero new e = subst (λ s. Follows list cells Zero s) (same e) (record { entry = refl; maker = λ lane. refl; there = λ made h. h; bit = λ inputs state. refl })
 follows list cells numbers are (Made i) new e = known (get_or numbers i None) refl e where
   known : (n : Option ℕ) → get_or numbers i None ≡ n → option_map Made n ≡ Some new → Follows list cells (Made i) new
   known None at e = absurd (no_source new e)
   known (Some m) at e =
       subst (λ s. Follows list cells (Made i) s) (same e)
-      (record { there = λ made h. lt-ltb m (length cells) (are.there i m at); bit = are.bits i m at })
+      (record { entry = refl; maker = are.makers i m at; there = λ made h. lt-ltb m (length cells) (are.there i m at); bit = are.bits i m at })
 
 -- ---- a cell under the new numbers
 record CellFollows (list : CellList) (cells : List Cell) (cell new : Cell) : Type 0 where
+  instr : (lane : ℕ) → cell_instr lane new ≡ cell_instr lane cell
   there : (made : ℕ) → reads_there list.inputs (length list.starts) made cell ≡ true → reads_there list.inputs (length list.starts) (length cells) new ≡ true
   bit : (inputs state : List Bool) → cell_bit inputs state (cell_bits inputs state cells) new ≡ cell_bit inputs state (cell_bits inputs state list.cells) cell
 
@@ -68,6 +74,7 @@ cell_follows list cells numbers are (Or a b) new e =
     let q : Follows list cells b y = follows list cells numbers are b y at_b in
     subst (λ c. CellFollows list cells (Or a b) c) is
     (record {
+      instr = λ lane. refl;
       there = λ made h. and_from _ _ (p.there made (and_parts _ _ h).0) (q.there made (and_parts _ _ h).1);
       bit = λ inputs state. ap₂ (λ u v. u || v) (p.bit inputs state) (q.bit inputs state);
     })
@@ -77,6 +84,7 @@ cell_follows list cells numbers are (Xor a b) new e =
     let q : Follows list cells b y = follows list cells numbers are b y at_b in
     subst (λ c. CellFollows list cells (Xor a b) c) is
     (record {
+      instr = λ lane. refl;
       there = λ made h. and_from _ _ (p.there made (and_parts _ _ h).0) (q.there made (and_parts _ _ h).1);
       bit = λ inputs state. ap₂ (λ u v. (u || v) && not (u && v)) (p.bit inputs state) (q.bit inputs state);
     })
@@ -86,11 +94,17 @@ cell_follows list cells numbers are (AndNot a b) new e =
     let q : Follows list cells b y = follows list cells numbers are b y at_b in
     subst (λ c. CellFollows list cells (AndNot a b) c) is
     (record {
+      instr = λ lane. refl;
       there = λ made h. and_from _ _ (p.there made (and_parts _ _ h).0) (q.there made (and_parts _ _ h).1);
       bit = λ inputs state. ap₂ (λ u v. u && not v) (p.bit inputs state) (q.bit inputs state);
     })
 
 -- ---- a cell comes, at the end
+front_kept : (cells rest : List Cell) (m : ℕ) (d : Cell) → m < length cells → slice_get (cells ++ rest) m ≡ slice_get cells m
+front_kept cells rest m d low =
+    slice_get-get_or (cells ++ rest) m d (let e = length-append cells rest in omega (arith, e, low))
+    ∙ ap Some (get_or_append_left cells rest d m low) ∙ sym (slice_get-get_or cells m d low)
+
 pub moved_more : (list : CellList) (cells : List Cell) (numbers : Numbers) → AreMoved list cells numbers → (i : ℕ) (cell new : Cell) → slice_get list.cells i ≡ Some cell
     → renamed_cell numbers cell ≡ Some new → AreMoved list (cells ++ new ∷ []) numbers
 moved_more list cells numbers are i cell new at is =
@@ -105,6 +119,7 @@ moved_more list cells numbers are i cell new at is =
       there = λ k m e. let lt : m < length cells = are.there k m e in omega arith;
       bits = λ k m e inputs state.
           appending_keeps_bits cells (new ∷ []) inputs state 0 0 (Made m) (lt-ltb m (length cells) (are.there k m e)) ∙ are.bits k m e inputs state;
+      makers = λ k m e lane. ap (option_map (cell_instr lane)) (front_kept cells (new ∷ []) m new (are.there k m e)) ∙ are.makers k m e lane;
     }
 
 -- and its number is written down
@@ -122,6 +137,9 @@ moved_numbered list cells numbers are i cell new at is place last inside =
     λ inputs state. pushed_bit inputs state cells new place (sym last) ∙ f.bit inputs state
     ∙ ap (cell_bit inputs state (cell_bits inputs state list.cells)) (sym (get_or_from_slice_get list.cells i cell cell at))
     ∙ sym (bit_of_cell list i cell inputs state within) in
+    let own_maker : (lane : ℕ) → maker_on (cells ++ new ∷ []) lane (Made place) ≡ maker_on list.cells lane (Made i) =
+    λ lane. ap (λ p. maker_on (cells ++ new ∷ []) lane (Made p)) last ∙ ap (option_map (cell_instr lane)) (slice_get_push cells new)
+    ∙ ap Some (f.instr lane) ∙ sym (ap (option_map (cell_instr lane)) at) in
     record {
       in_order = more.in_order;
       there = λ k m e. ⊎_elim
@@ -131,6 +149,10 @@ moved_numbered list cells numbers are i cell new at is place last inside =
           (λ (h : k ≡ i). ap (λ p. bit_in (cells ++ new ∷ []) inputs state (Made p)) (sym (same_place m (ap (λ j. get_or (slice_set numbers i (Some place)) j None) (sym h) ∙ e)))
           ∙ own inputs state ∙ ap (λ j. bit_in list.cells inputs state (Made j)) (sym h))
           (λ (ne : k ≢ i). more.bits k m (other k m ne e) inputs state) (cases_eq k i);
+      makers = λ k m e lane. ⊎_elim
+          (λ (h : k ≡ i). ap (λ p. maker_on (cells ++ new ∷ []) lane (Made p)) (sym (same_place m (ap (λ j. get_or (slice_set numbers i (Some place)) j None) (sym h) ∙ e)))
+          ∙ own_maker lane ∙ ap (λ j. maker_on list.cells lane (Made j)) (sym h))
+          (λ (ne : k ≢ i). more.makers k m (other k m ne e) lane) (cases_eq k i);
     }
 
 -- ---- sources
@@ -148,6 +170,26 @@ bits_follow list cells numbers are (src ∷ sources) [] e inputs state = absurd 
 bits_follow list cells numbers are (src ∷ sources) (new ∷ found) e inputs state =
     let parts : (renamed numbers src ≡ Some new) × (map (renamed numbers) sources ≡ map Some found) = ∷-parts e in
     ap₂ (λ (b : Bool) (bs : List Bool). b ∷ bs) ((follows list cells numbers are src new parts.0).bit inputs state) (bits_follow list cells numbers are sources found parts.1 inputs state)
+
+-- nets keep their entries, and the kinds of cells that make them
+pub entries_follow : (list : CellList) (cells : List Cell) (numbers : Numbers) → AreMoved list cells numbers → (sources found : List Src) → map (renamed numbers) sources ≡ map Some found
+    → map entry_source found ≡ map entry_source sources
+entries_follow list cells numbers are [] [] e = refl
+entries_follow list cells numbers are [] (new ∷ found) e = absurd (none_is_some (λ s. Some s) new found e)
+entries_follow list cells numbers are (src ∷ sources) [] e = absurd (none_is_some (renamed numbers) src sources (sym e))
+entries_follow list cells numbers are (src ∷ sources) (new ∷ found) e =
+    let parts : (renamed numbers src ≡ Some new) × (map (renamed numbers) sources ≡ map Some found) = ∷-parts e in
+    ap₂ (λ (s : Option Src) (l : List (Option Src)). s ∷ l) (follows list cells numbers are src new parts.0).entry (entries_follow list cells numbers are sources found parts.1)
+
+pub makers_follow : (list : CellList) (cells : List Cell) (numbers : Numbers) → AreMoved list cells numbers → (sources found : List Src) → map (renamed numbers) sources ≡ map Some found
+    → (lane : ℕ) → map (maker_on cells lane) found ≡ map (maker_on list.cells lane) sources
+makers_follow list cells numbers are [] [] e lane = refl
+makers_follow list cells numbers are [] (new ∷ found) e lane = absurd (none_is_some (λ s. Some s) new found e)
+makers_follow list cells numbers are (src ∷ sources) [] e lane = absurd (none_is_some (renamed numbers) src sources (sym e))
+makers_follow list cells numbers are (src ∷ sources) (new ∷ found) e lane =
+    let parts : (renamed numbers src ≡ Some new) × (map (renamed numbers) sources ≡ map Some found) = ∷-parts e in
+    ap₂ (λ (i : Option Instr) (l : List (Option Instr)). i ∷ l) ((follows list cells numbers are src new parts.0).maker lane)
+    (makers_follow list cells numbers are sources found parts.1 lane)
 
 pub there_follow : (list : CellList) (cells : List Cell) (numbers : Numbers) → AreMoved list cells numbers → (sources found : List Src) → map (renamed numbers) sources ≡ map Some found
     → are_there list.inputs (length list.starts) (length list.cells) sources ≡ true → are_there list.inputs (length list.starts) (length cells) found ≡ true
@@ -198,4 +240,6 @@ compute_alike list new cells numbers outs latches nets are inputs starts same_ce
       outs = ports_alike list cells new.cells numbers list.outs outs new.outs are same_cells out;
       latches = ports_alike list cells new.cells numbers list.latches latches new.latches are same_cells latch;
       nets = ports_alike list cells new.cells numbers list.nets nets new.nets are same_cells net;
+      entries = ap (map entry_source) net.is ∙ entries_follow list cells numbers are list.nets nets net.follow;
+      makers = λ lane. ap₂ (λ (c : List Cell) (l : List Src). map (maker_on c lane) l) same_cells net.is ∙ makers_follow list cells numbers are list.nets nets net.follow lane;
     }

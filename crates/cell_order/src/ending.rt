@@ -1,4 +1,6 @@
-// An order of cells in which the next is the one that ends most values. Nothing is said of what is found: who takes it checks it.
+// An order of cells in which the next is the one that ends most values. Of what is found only the range is told: who takes it checks it.
+ghost use Rattle.std.specs.Prelude.{◌≡◌, ◌≤◌, ◌<◌, length, All, IfOk};
+
 use crate::OrderError;
 use cell_core::{Cell, CellList, Src};
 use std::alloc::Global;
@@ -22,28 +24,39 @@ struct Value {
     uses: u32,
 }
 
-// A cell that is to come: how many others it waits for, and how many values it would be the last to read.
+// A cell that is to come: how many others it waits for, and what it is worth to take it next.
 #[derive(Clone, Copy)]
 struct Pending {
     waits: u32,
-    ends: u32,
+    worth: u32,
     is_taken: bool,
 }
 
-// The values by number, inputs first, then latches and cells; the cells; those that wait for nothing, by how many values they end, and of
-// these the first; and the order so far.
+// What a value with so many uses left adds to the worth of a cell that reads it: the fewer uses the more, if they are fewer than `reach`, and
+// much more where it is the last.
+fn worth(reach: u32, uses: u32) -> u32 {
+    let near = reach.saturating_sub(uses);
+    if uses <= 1 {
+        near.saturating_add(reach.saturating_mul(4))
+    } else {
+        near
+    }
+}
+
+// The values by number, inputs first, then latches and cells; the cells; and those that wait for nothing, by what they are worth, and of
+// these the first.
 #[derive(Drop)]
 struct Search {
+    reach: u32,
     inputs: usize,
     latches: usize,
     values: Vec<Value>,
     pending: Vec<Pending>,
     ready: BinaryHeap<(u32, Reverse<u32>)>,
-    order: Vec<u32>,
 }
 
 impl Search {
-    fn begin(alloc: Global, list: &CellList) -> Result<Search, OrderError> {
+    fn begin(alloc: Global, list: &CellList, reach: u32) -> Result<Search, OrderError> {
         let inputs = list.inputs as usize;
         let latches = list.starts.len();
         let cells = list.cells.len();
@@ -58,18 +71,25 @@ impl Search {
         for _ in 0..cells {
             pending.push(Pending {
                 waits: 0,
-                ends: 0,
+                worth: 0,
                 is_taken: false,
             })?;
         }
         Ok(Search {
+            reach,
             inputs,
             latches,
             values,
             pending,
             ready: BinaryHeap::new(alloc),
-            order: Vec::with_capacity(alloc, cells)?,
         })
+    }
+
+    // The number of the value that a cell makes.
+    fn made_by(&self, cell: usize) -> usize {
+        self.inputs
+            .saturating_add(self.latches)
+            .saturating_add(cell)
     }
 
     // The number of a source's value, if the source is no constant.
@@ -77,11 +97,7 @@ impl Search {
         match src {
             Src::Input(i) => Some(i as usize),
             Src::Latch(i) => Some(self.inputs.saturating_add(i as usize)),
-            Src::Cell(i) => Some(
-                self.inputs
-                    .saturating_add(self.latches)
-                    .saturating_add(i as usize),
-            ),
+            Src::Cell(i) => Some(self.made_by(i as usize)),
             Src::One | Src::Zero => None,
         }
     }
@@ -116,33 +132,40 @@ impl Search {
     fn offer(&mut self, cell: u32) -> Result<(), OrderError> {
         if let Some(pending) = self.pending.get(cell as usize) {
             if pending.waits == 0 && !pending.is_taken {
-                self.ready.push((pending.ends, Reverse(cell)))?;
+                self.ready.push((pending.worth, Reverse(cell)))?;
             }
         }
         Ok(())
     }
 
-    // Where one use of a value is still to come, the cell that is to read it ends it.
-    fn mark_last(&mut self, number: usize) -> Result<(), OrderError> {
+    // The cells that read a value are worth so much more.
+    fn raise_readers(&mut self, number: usize, more: u32) -> Result<(), OrderError> {
         let count = match self.values.get(number) {
-            Some(value) if value.uses == 1 => value.readers.len(),
+            Some(value) if more > 0 => value.readers.len(),
             _ => 0,
         };
         for i in 0..count {
-            self.ends_one_more(number, i)?;
+            if let Some(cell) = self.reader(number, i) {
+                self.raise(cell, more)?;
+            }
         }
         Ok(())
     }
 
-    // A reader of a value, if it is still to come, ends one value more.
-    fn ends_one_more(&mut self, number: usize, reader: usize) -> Result<(), OrderError> {
-        let Some(cell) = self.reader(number, reader) else {
-            return Ok(());
-        };
+    // A cell is worth so much more.
+    fn raise(&mut self, cell: u32, more: u32) -> Result<(), OrderError> {
         if let Some(pending) = self.pending.get_mut(cell as usize) {
-            pending.ends = pending.ends.saturating_add(1);
+            pending.worth = pending.worth.saturating_add(more);
         }
         self.offer(cell)
+    }
+
+    // How many uses of a value are still to come.
+    fn uses(&self, number: usize) -> u32 {
+        match self.values.get(number) {
+            Some(value) => value.uses,
+            None => 0,
+        }
     }
 
     fn reader(&self, number: usize, reader: usize) -> Option<u32> {
@@ -155,10 +178,12 @@ impl Search {
         let Some(number) = self.number(src) else {
             return Ok(());
         };
+        let before = worth(self.reach, self.uses(number));
         if let Some(value) = self.values.get_mut(number) {
             value.uses = value.uses.saturating_sub(1);
         }
-        self.mark_last(number)
+        let after = worth(self.reach, self.uses(number));
+        self.raise_readers(number, after.saturating_sub(before))
     }
 
     // A reader of a value has one cell less to wait for.
@@ -172,11 +197,11 @@ impl Search {
         self.offer(cell)
     }
 
-    // The ready cell that ends most values, and of these the first.
+    // The ready cell that is worth most, and of these the first.
     fn next(&mut self) -> Option<u32> {
-        while let Some((ends, Reverse(cell))) = self.ready.pop() {
+        while let Some((worth, Reverse(cell))) = self.ready.pop() {
             if let Some(pending) = self.pending.get(cell as usize) {
-                if pending.ends == ends && !pending.is_taken {
+                if pending.worth == worth && !pending.is_taken {
                     return Some(cell);
                 }
             }
@@ -186,7 +211,6 @@ impl Search {
 
     // The cell comes next.
     fn take(&mut self, list: &CellList, cell: u32) -> Result<(), OrderError> {
-        self.order.push(cell)?;
         if let Some(pending) = self.pending.get_mut(cell as usize) {
             pending.is_taken = true;
         }
@@ -197,10 +221,7 @@ impl Search {
                 self.use_up(src)?;
             }
         }
-        let number = self
-            .inputs
-            .saturating_add(self.latches)
-            .saturating_add(cell as usize);
+        let number = self.made_by(cell as usize);
         let readers = match self.values.get(number) {
             Some(value) => value.readers.len(),
             None => 0,
@@ -239,26 +260,42 @@ impl Search {
             None => Ok(()),
         }
     }
+
+    // What all cells are worth at first: by the values that they read, and by the one that they make, whose making is a use as well.
+    fn weigh(&mut self) -> Result<(), OrderError> {
+        for number in 0..self.values.len() {
+            self.raise_readers(number, worth(self.reach, self.uses(number)))?;
+        }
+        for cell in 0..self.pending.len() {
+            let uses = self.uses(self.made_by(cell)).saturating_add(1);
+            if let Ok(number) = u32::try_from(cell) {
+                self.raise(number, worth(self.reach, uses))?;
+            }
+        }
+        Ok(())
+    }
 }
 
-/// The numbers of the list's cells in another order: the next is one that waits for no other, and of these one that is the last to read
-/// most values, and of these the first of the list.
-pub fn ending_order(alloc: Global, list: &CellList) -> Result<Vec<u32>, OrderError> {
-    let mut search = Search::begin(alloc, list)?;
+/// The numbers of cells of the list in another order: the next is one that waits for no other, and of these one that is worth most, as the
+/// last to read values or one of their last `reach` readers, and of these the first of the list.
+pub fn ending_order(alloc: Global, list: &CellList, reach: u32) -> Result<Vec<u32>, OrderError>
+    ensures few { IfOk result (λ order. length order.items ≤ length list.now.cells) }
+    ensures below { IfOk result (λ order. All (λ cell. cell < length list.now.cells) order.items) }
+{
+    let mut search = Search::begin(alloc, list, reach)?;
     search.read(list)?;
-    for number in 0..search.values.len() {
-        search.mark_last(number)?;
-    }
-    for cell in 0..search.pending.len() {
-        if let Ok(number) = u32::try_from(cell) {
-            search.offer(number)?;
-        }
-    }
-    for _ in 0..search.pending.len() {
+    search.weigh()?;
+    let cells = list.cells.len();
+    let mut order = Vec::with_capacity(alloc, cells)?;
+    for _ in 0..cells {
         let Some(cell) = search.next() else {
             break;
         };
+        if cell as usize >= cells {
+            break;
+        }
         search.take(list, cell)?;
+        order.push(cell)?;
     }
-    Ok(search.order)
+    Ok(order)
 }

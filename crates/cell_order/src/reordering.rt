@@ -42,12 +42,12 @@ fn with_moved(alloc: Global, list: &CellList, moved: Moved) -> Result<Option<Cel
     Ok(Some(new))
 }
 
-/// The list with its cells in the order in which the next is the one that is the last to read most values, so that fewer values are needed at
-/// a time. There is none where that order leaves out a cell.
-pub fn reordered(alloc: Global, list: &CellList) -> Result<Option<CellList>, OrderError>
+/// The list with its cells in an order in which the next is one of the last to read values, so that fewer values are needed at a time; how near
+/// to the last a reader must be to count is `reach`. There is none where that order leaves out a cell.
+pub fn reordered(alloc: Global, list: &CellList, reach: u32) -> Result<Option<CellList>, OrderError>
     ensures { IfOk result (λ new. IfSome new (ComputeAlike list.now)) }
 {
-    let order = ending_order(alloc, list)?;
+    let order = ending_order(alloc, list, reach)?;
     let mut moved = Moved::begin(alloc, list)?;
     for number in &order {
         moved.add(list, *number)?;

@@ -1,3 +1,4 @@
 pub mod Drawn
 pub mod Counted
 mod Alike
+mod Exits

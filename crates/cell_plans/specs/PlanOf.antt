@@ -7,8 +7,10 @@ use Rattle.cell_plans.specs.Counts.{instr_count}
 use Rattle.lane_core.specs.declared.plan.Plan.{Plan}
 use Rattle.lane_core.specs.Plans.{IsAdmissible}
 use Rattle.row_placer.specs.Empty.{IsEmpty}
+use Rattle.row_placer.specs.Entries.{AreAtEntries}
+use Rattle.cell_plans.specs.Exits.{AreAtExits}
 
--- it is admissible, computes the list, and is small by the list's own counts
+-- it is admissible, computes the list, is small by the list's own counts, and has nets at the entries of their sources or the exits of their cells
 pub record IsPlanOf (list : CellList) (plan : Plan) : Type 0 where
   pub admissible : IsAdmissible plan
   pub computes : ComputesByPlan list plan
@@ -16,3 +18,5 @@ pub record IsPlanOf (list : CellList) (plan : Plan) : Type 0 where
   pub empty : IsEmpty list → plan.lanes ≡ 0
   pub instrs : instr_count plan.columns ≤ (3 * length list.cells + length list.outs + 2 * loop_count list) * plan.lanes
   pub columns : length plan.columns ≤ (3 * length list.cells + length list.outs + 2 * loop_count list + 1) * (plan.lanes + 1)
+  pub entries : AreAtEntries list plan.lanes plan.ins plan.nets
+  pub exits : AreAtExits list plan.columns plan.nets

@@ -4,9 +4,11 @@ ghost use Rattle.cell_core.specs.Loops.{loop_count};
 ghost use Rattle.cell_lanes.specs.Computes.{ComputesByPlan};
 ghost use Rattle.cell_order.specs.Alike.{ComputeAlike};
 ghost use Rattle.cell_plans.specs.Counts.{instr_count};
+ghost use Rattle.cell_plans.specs.Exits.{AreAtExits};
 ghost use Rattle.cell_plans.specs.PlanOf.{IsPlanOf};
 ghost use Rattle.lane_core.specs.Plans.{IsAdmissible};
 ghost use Rattle.row_placer.specs.Empty.{IsEmpty};
+ghost use Rattle.row_placer.specs.Entries.{AreAtEntries};
 
 use crate::PlanError;
 use cell_core::CellList;
@@ -62,22 +64,46 @@ fn smaller(list: &CellList, first: Plan, second: Plan) -> Plan
     }
 }
 
-/// A plan that computes the list, the smaller one of two orders of its cells: in each cycle its outputs, its loops and its nets have the bits of their sources.
+// The plan, or one of another order of the list's cells that takes fewer tiles.
+fn better(alloc: Global, list: &CellList, plan: Plan, reach: u32) -> Result<Plan, PlanError>
+    requires plan { IsPlanOf list.now plan }
+    requires small { list.now.inputs + loop_count list.now + length list.now.outs + length list.now.cells < 2 ^ 18 }
+    ensures { IfOk result (IsPlanOf list.now) }
+{
+    match reordered(alloc, list, reach)? {
+        None => Ok(plan),
+        Some(other) => {
+            let next = planned_by(alloc, list, &other)?;
+            Ok(smaller(list, plan, next))
+        }
+    }
+}
+
+// Which orders are tried: three, and of a long list, whose placing takes long, the one that serves best alone.
+fn reaches(list: &CellList) -> (u32, u32) {
+    if list.cells.len() > 4096 {
+        (3, 4)
+    } else {
+        (2, 5)
+    }
+}
+
+/// A plan that computes the list, the smallest one of a few orders of its cells: in each cycle its outputs, its loops and its nets have the bits of their sources.
 pub fn plan_of(alloc: Global, list: &CellList) -> Result<Plan, PlanError>
     requires small { list.now.inputs + loop_count list.now + length list.now.outs + length list.now.cells < 2 ^ 18 }
     ensures admissible { IfOk result IsAdmissible }
     ensures computes { IfOk result (ComputesByPlan list.now) }
     ensures lanes { IfOk result (λ plan. plan.lanes ≤ list.now.inputs + 2 * loop_count list.now + length list.now.outs + length list.now.cells + 2 + max list.now.inputs (length list.now.outs)) }
     ensures empty { IfOk result (λ plan. IsEmpty list.now → plan.lanes ≡ 0) }
+    ensures entries { IfOk result (λ plan. AreAtEntries list.now plan.lanes plan.ins plan.nets) }
+    ensures exits { IfOk result (λ plan. AreAtExits list.now plan.columns plan.nets) }
     ensures instrs { IfOk result (λ plan. instr_count plan.columns ≤ (3 * length list.now.cells + length list.now.outs + 2 * loop_count list.now) * plan.lanes) }
     ensures columns { IfOk result (λ plan. length plan.columns ≤ (3 * length list.now.cells + length list.now.outs + 2 * loop_count list.now + 1) * (plan.lanes + 1)) }
 {
-    let first = planned(alloc, list)?;
-    match reordered(alloc, list)? {
-        None => Ok(first),
-        Some(other) => {
-            let second = planned_by(alloc, list, &other)?;
-            Ok(smaller(list, first, second))
-        }
+    let mut plan = planned(alloc, list)?;
+    let (first, end) = reaches(list);
+    for reach in first..end {
+        plan = better(alloc, list, plan, reach)?;
     }
+    Ok(plan)
 }

@@ -175,6 +175,7 @@ finished flat sound list new sources whole has =
       outs = outs;
       latches = latches ∙ map-map (source_at sources) (λ (latch : FlatLatch). class_of flat latch.input) flat.latches;
       nets = nets;
+      own = λ class d drives. first.own class d (source_at sources class) drives (made d class drives) (known_at sources class (driven_known flat whole.order whole.ordered list sources first class d drives));
       bits = λ inputs state bits solves class d drives.
           ap (λ cells. bit_in cells inputs state (source_at sources class)) has.cells
           ∙ first.bits inputs state bits solves class (source_at sources class) (known_at sources class (driven_known flat whole.order whole.ordered list sources first class d drives));
@@ -193,6 +194,11 @@ finished flat sound list new sources whole has =
 
     first : AreSourced flat (Made flat whole.order) list sources
     first = whole.mapped.sourced
+
+    made : (d : FlatDriver) (class : ℕ) → FlatDrives flat d class → Made flat whole.order d
+    made (FlatDriver.input i) class drives = slice_get_within flat.ins i drives.0 drives.1
+    made (FlatDriver.latch i) class drives = slice_get_within flat.latches i drives.0 drives.1
+    made (FlatDriver.node n) class drives = whole.ordered.all n drives.0
 
     at : Ports flat list sources
     at = ports flat sound list sources whole

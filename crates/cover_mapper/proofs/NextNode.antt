@@ -107,9 +107,9 @@ pub node_mapped : (flat : Flat) → IsSound flat → (order : List ℕ) → IsOr
     → AreMapped flat old l' (set sources class (Some src)) (take (k + 1) order)
 node_mapped flat sound order ordered old l l' sources k n class node ins src within is is_at same first are answer single =
     record {
-      sourced = sourced_more flat (Made flat (take k order)) (Made flat (take (k + 1) order)) l l' sources (FlatDriver.node n) class src _ _ first.sourced (is_node, sym same)
+      sourced = sourced_more flat (Made flat (take k order)) (Made flat (take (k + 1) order)) l l' sources (FlatDriver.node n) class src _ _ sound first.sourced (is_node, sym same)
           (omega (arith, same, class_within flat sound.in_range (node_at flat n).out (All-get_or (λ (m : Node). IsNetId flat m.out) flat.nodes n no_node is_node sound.in_range.node_outs)))
-          one_more still this answer.grows answer.there (λ e. needs (answer.one e)) bit;
+          one_more still this tt answer.grows answer.there (λ e. needs (answer.one e)) bit;
       grows = grows old l l' _ _ _ _ _ _ first.grows answer.grows (λ e. e) needs
           (let e : sum_by (λ m. rows_weight (node_at flat m).rows) (take (k + 1) order) ≡ sum_by (λ m. rows_weight (node_at flat m).rows) (take k order) + rows_weight (node_at flat (get_or order k 0)).rows = sum_by_more (λ m. rows_weight (node_at flat m).rows) order k 0 within in
           let f : rows_weight (node_at flat (get_or order k 0)).rows ≡ rows_weight node.rows = ap (λ m. rows_weight (node_at flat m).rows) (sym is) ∙ ap (λ (m : Node). rows_weight m.rows) (sym is_at) in omega (arith, e, f));

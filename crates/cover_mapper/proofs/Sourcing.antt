@@ -8,7 +8,7 @@ use Rattle.netlist_core.specs.declared.flat.NetId.{NetId}
 use Rattle.netlist_core.specs.declared.flat.FlatPort.{FlatPort}
 use Rattle.netlist_core.specs.declared.flat.FlatLatch.{FlatLatch}
 use Rattle.netlist_core.specs.declared.flat.Flat.{Flat}
-use Rattle.netlist_meaning.specs.Flat.{class_of, no_net, IsNetId, IsInRange, FlatDriver, FlatDrives}
+use Rattle.netlist_meaning.specs.Flat.{class_of, no_net, IsNetId, IsInRange, IsSound, FlatDriver, FlatDrives}
 use Rattle.netlist_meaning.specs.FlatValuation.{IsFlatValuation}
 use Rattle.cell_core.specs.declared.cells.Src.{Src}
 use Rattle.cell_core.specs.declared.list.CellList.{CellList}
@@ -17,7 +17,7 @@ use Rattle.cell_core.specs.Meaning.{bit_in}
 use Rattle.cover_cells.specs.Grown.{HasSource, Grows}
 use Rattle.cover_cells.proofs.Growing.{there_after, bit_after}
 use Rattle.cover_mapper.specs.Needs.{any_needs_one}
-use Rattle.cover_mapper.specs.Sourced.{ClassSources, AreSourced}
+use Rattle.cover_mapper.specs.Sourced.{ClassSources, AreSourced, IsOwn}
 
 -- a net's class is one of the netlist's
 pub class_within : (flat : Flat) → IsInRange flat → (id : NetId) → IsNetId flat id → class_of flat id < length flat.nets
@@ -31,12 +31,12 @@ drives_one flat (FlatDriver.node n) class other (within, is) (within', is') = sy
 
 -- a source that is put at the class of one driver more
 pub sourced_more : (flat : Flat) (made more : FlatDriver → Type 0) (old new : CellList) (sources : ClassSources) (driver : FlatDriver) (driven : ℕ) (source : Src) (n : ℕ) (P : Type 0)
-    → AreSourced flat made old sources → FlatDrives flat driver driven → driven < length flat.nets
+    → IsSound flat → AreSourced flat made old sources → FlatDrives flat driver driven → driven < length flat.nets
     → ((d : FlatDriver) → more d → made d ⊎ (d ≡ driver)) → ((d : FlatDriver) → made d → more d) → more driver
-    → Grows old new n P → HasSource new source → (is_one source ≡ true → any_needs_one flat ≡ true)
+    → IsOwn driver source → Grows old new n P → HasSource new source → (is_one source ≡ true → any_needs_one flat ≡ true)
     → ((inputs state : List Bool) (bits : ℕ → Bool) → IsFlatValuation flat inputs state bits → bit_in new.cells inputs state source ≡ bits driven)
     → AreSourced flat more new (set sources driven (Some source))
-sourced_more flat made more old new sources driver driven source n P first drives within or_this still this grows there one bit =
+sourced_more flat made more old new sources driver driven source n P sound first drives within or_this still this mine grows there one bit =
     record {
       long = length-set sources driven (Some source) ∙ first.long;
       all = λ class d by is. ⊎_elim (λ here. (source, at_it class here))
@@ -44,6 +44,10 @@ sourced_more flat made more old new sources driver driven source n P first drive
           (cases_eq class driven);
       only = λ class src e. ⊎_elim (λ here. (driver, subst (FlatDrives flat driver) (sym here) drives, this))
           (λ off. let found = first.only class src (before class src off e) in (found.0, found.1, still found.0 found.2)) (cases_eq class driven);
+      own = λ class d src by is e. ⊎_elim
+          (λ here. subst (λ x. IsOwn x src) (sound.one_driver driven driver d drives (subst (FlatDrives flat d) here by)) (subst (IsOwn driver) (same class src here e) mine))
+          (λ off. ⊎_elim (λ earlier. first.own class d src by earlier (before class src off e)) (λ f. absurd (off (drives_one flat driver class driven (subst (λ x. FlatDrives flat x class) f by) drives))) (or_this d is))
+          (cases_eq class driven);
       there = λ class src e. ⊎_elim (λ here. subst (HasSource new) (same class src here e) there) (λ off. there_after old new n P grows src (first.there class src (before class src off e))) (cases_eq class driven);
       one = λ class src e is. ⊎_elim (λ here. one (ap is_one (same class src here e) ∙ is)) (λ off. first.one class src (before class src off e) is) (cases_eq class driven);
       bits = λ inputs state bits solves class src e.

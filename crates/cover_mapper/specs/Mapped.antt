@@ -12,6 +12,7 @@ use Rattle.cell_core.specs.Loops.{names_one}
 use Rattle.cover_cells.specs.Grown.{IsCell}
 use Rattle.cover_cells.specs.Singles.{single_cell}
 use Rattle.cover_mapper.specs.Needs.{any_needs_one, covers_weight}
+use Rattle.cover_mapper.specs.Sourced.{IsOwn}
 
 -- under the bits of a valuation the sources of outputs, of latches' data and of the nets but the clock nets have theirs
 pub record HasBits (flat : Flat) (list : CellList) (inputs state : List Bool) (bits : ℕ → Bool) : Type 0 where
@@ -19,7 +20,7 @@ pub record HasBits (flat : Flat) (list : CellList) (inputs state : List Bool) (b
   pub latches : map (bit_of list inputs state) list.latches ≡ map (λ latch. bits (class_of flat latch.input)) flat.latches
   pub nets : map (bit_of list inputs state) list.nets ≡ map bits (listed_classes flat)
 
--- each class of nets that is driven has one source, which has its bit in each valuation
+-- each class of nets that is driven has one source, which has its bit in each valuation; that of an input or a latch is its own
 pub record IsMapped (flat : Flat) (list : CellList) : Type 0 where
   pub sources : ℕ → Src
   pub inputs : list.inputs ≡ length flat.ins
@@ -27,6 +28,7 @@ pub record IsMapped (flat : Flat) (list : CellList) : Type 0 where
   pub outs : list.outs ≡ map sources (port_classes flat flat.outs)
   pub latches : list.latches ≡ map (λ latch. sources (class_of flat latch.input)) flat.latches
   pub nets : list.nets ≡ map sources (listed_classes flat)
+  pub own : (class : ℕ) (d : FlatDriver) → FlatDrives flat d class → IsOwn d (sources class)
   pub bits : (inputs state : List Bool) (bits : ℕ → Bool) → IsFlatValuation flat inputs state bits
       → (class : ℕ) (d : FlatDriver) → FlatDrives flat d class → bit_of list inputs state (sources class) ≡ bits class
   pub single : (n : ℕ) (cell : Cell) → n < length flat.nodes → single_cell (map sources (in_classes flat n)) (node_at flat n).rows (node_at flat n).on ≡ Some cell → IsCell list (sources (out_class flat n)) cell

@@ -1,5 +1,5 @@
 -- The sources of classes of nets, while covers are mapped in an order.
-use Rattle.std.specs.Prelude.{ℕ, ◌*◌, ◌<◌, ◌≡◌, ◌==◌, Bool, true, List, [], length, map, get_or, sum_by, Option, Some, None, Contains}
+use Rattle.std.specs.Prelude.{ℕ, ◌*◌, ◌<◌, ◌≡◌, ◌==◌, Bool, true, List, [], length, map, get_or, sum_by, Option, Some, None, Contains, ⊤}
 use Rattle.std.specs.List.{filter_map}
 use Rattle.std.specs.Option.{unwrap_or}
 use Rattle.netlist_core.specs.declared.flat.Flat.{Flat}
@@ -7,7 +7,7 @@ use Rattle.netlist_meaning.specs.Flat.{FlatDriver, FlatDrives, node_at, in_class
 use Rattle.netlist_meaning.specs.FlatOrder.{IsOrder}
 use Rattle.netlist_meaning.specs.FlatValuation.{IsFlatValuation}
 use Rattle.cell_core.specs.declared.cells.Src.{Src}
-use Rattle.cell_core.specs.declared.cells.Src.TheVariants.{Zero}
+use Rattle.cell_core.specs.declared.cells.Src.TheVariants.{Input, Latch, Zero}
 use Rattle.cell_core.specs.declared.cells.Cell.{Cell}
 use Rattle.cell_core.specs.declared.list.CellList.{CellList}
 use Rattle.cell_core.specs.Sources.{is_one}
@@ -35,11 +35,18 @@ IsAmongFirst inputs latches nodes (FlatDriver.input i) = i < inputs
 IsAmongFirst inputs latches nodes (FlatDriver.latch i) = i < latches
 IsAmongFirst inputs latches nodes (FlatDriver.node n) = Contains nodes n
 
+-- an input's class has the input as its source, and a latch's class the latch
+abbrev pub IsOwn : FlatDriver → Src → Type 0
+IsOwn (FlatDriver.input i) src = src ≡ Input i
+IsOwn (FlatDriver.latch i) src = src ≡ Latch i
+IsOwn (FlatDriver.node n) src = ⊤
+
 -- the classes with such a driver, and no others, have a source, which is there and has their bit
 pub record AreSourced (flat : Flat) (made : FlatDriver → Type 0) (list : CellList) (sources : ClassSources) : Type 0 where
   pub long : length sources ≡ length flat.nets
   pub all : (class : ℕ) (d : FlatDriver) → FlatDrives flat d class → made d → (src : Src) × (get_or sources class None ≡ Some src)
   pub only : (class : ℕ) (src : Src) → get_or sources class None ≡ Some src → (d : FlatDriver) × FlatDrives flat d class × made d
+  pub own : (class : ℕ) (d : FlatDriver) (src : Src) → FlatDrives flat d class → made d → get_or sources class None ≡ Some src → IsOwn d src
   pub there : (class : ℕ) (src : Src) → get_or sources class None ≡ Some src → HasSource list src
   pub one : (class : ℕ) (src : Src) → get_or sources class None ≡ Some src → is_one src ≡ true → any_needs_one flat ≡ true
   pub bits : (inputs state : List Bool) (bits : ℕ → Bool) → IsFlatValuation flat inputs state bits

@@ -1,5 +1,5 @@
 // A flat netlist as a list of cells.
-ghost use Rattle.std.specs.Prelude.{ℕ, ◌≡◌, ◌≤◌, ◌*◌, Bool, List, None, length, replicate, IfOk};
+ghost use Rattle.std.specs.Prelude.{ℕ, ◌≡◌, ◌≤◌, ◌+◌, ◌*◌, Bool, List, None, length, replicate, IfOk};
 ghost use Rattle.netlist_meaning.specs.Flat.{IsSound, IsWeighed};
 ghost use Rattle.netlist_meaning.specs.FlatOrder.{IsOrder};
 ghost use Rattle.netlist_meaning.specs.FlatValuation.{IsFlatValuation};
@@ -71,6 +71,7 @@ pub fn map(alloc: Global, flat: &Flat, order: &Order) -> Result<CellList, MapErr
     requires ordered { IsOrder flat.now order.now.nodes }
     ensures mapped { IfOk result (IsMapped flat.now) }
     ensures few { IfOk result (λ list. length list.cells ≤ 2 * flat.now.weight) }
+    ensures ports { IfOk result (λ list. list.inputs + length list.outs + 2 * length list.starts ≤ flat.now.weight) }
     ensures bits { IfOk result (λ list. (inputs state : List Bool) (bits : ℕ → Bool) → IsFlatValuation flat.now inputs state bits → HasBits flat.now list inputs state bits) }
 {
     let mut sources = vec![in alloc; None; flat.nets.len()]?;

@@ -14,6 +14,8 @@ use Rattle.cell_lanes.specs.Computes.{ComputesByPlan}
 use Rattle.cover_mapper.specs.Mapped.{IsMapped}
 use Rattle.cover_mapper.specs.Needs.{any_needs_one}
 use Rattle.cell_plans.specs.Counts.{instr_count}
+use Rattle.cell_plans.specs.Exits.{AreAtExits}
+use Rattle.row_placer.specs.Entries.{AreAtEntries}
 use Rattle.netlist_plans.specs.Planned.{ComputesCells, IsSmall}
 
 abbrev extra : Bool → ℕ
@@ -49,7 +51,7 @@ module _ (flat : Flat) (list : CellList) (m : IsMapped flat list) (w : IsWeighed
       by false n = refl
 
   module _ (plan : Plan) (h : IsAdmissible plan) (c : ComputesByPlan list plan) where
-    loops_many : plan.latches ≡ length list.starts + cond (names_one list) 1 0
+    pub loops_many : plan.latches ≡ length list.starts + cond (names_one list) 1 0
     loops_many = sym h.size.starts ∙ ap length c.starts ∙ length-append list.starts _ ∙ ap (λ n. length list.starts + n) (by (names_one list))
       where
         by : (b : Bool) → length (cond b (true ∷ []) []) ≡ cond b 1 0
@@ -80,11 +82,13 @@ module _ (flat : Flat) (list : CellList) (m : IsMapped flat list) (w : IsWeighed
     pub short_period : length flat.latches ≡ 0 → any_needs_one flat ≡ false → period_of plan ≡ 32
     short_period none e = ap (λ n. cond (n == 0) 32 (32 * (2 * length plan.columns + 4 * n))) (no_more e ∙ none)
 
-    pub computes_cells : ComputesCells flat plan
-    computes_cells = record {
+    pub computes_cells : AreAtEntries list plan.lanes plan.ins plan.nets → AreAtExits list plan.columns plan.nets → ComputesCells flat plan
+    computes_cells entries exits = record {
       list = list;
       mapped = m;
       computes = c;
+      entries = entries;
+      exits = exits;
       loops = omega (arith, loops_many, starts_many);
       starts = c.starts ∙ ap (λ starts. starts ++ cond (names_one list) (true ∷ []) []) m.starts;
     }

@@ -46,7 +46,7 @@ nothing : {X : Type 0} (xs : List X) → (0 < length xs → ⊥) → length xs �
 nothing [] f = refl
 nothing (x ∷ xs) f = absurd (f (omega arith))
 
-nets_many : (flat : Flat) (list : CellList) → IsMapped flat list → length list.nets ≡ length (nets_but_clocks flat)
+pub nets_many : (flat : Flat) (list : CellList) → IsMapped flat list → length list.nets ≡ length (nets_but_clocks flat)
 nets_many flat list m = ap length m.nets ∙ length-map (map (λ (net : FlatNet). net.class) (nets_but_clocks flat)) m.sources ∙ length-map (nets_but_clocks flat) (λ (net : FlatNet). net.class)
 
 module _ (flat : Flat) (sound : IsSound flat) (none : nets_but_clocks flat ≡ []) where

@@ -2,3 +2,4 @@ mod Names
 mod Bounds
 mod Lanes
 mod Compiled
+mod NetPlaces

@@ -16,6 +16,8 @@ use Rattle.cell_core.specs.declared.list.CellList.{CellList}
 use Rattle.cell_core.specs.Loops.{names_one}
 use Rattle.cell_lanes.specs.Computes.{ComputesByPlan}
 use Rattle.cell_plans.specs.Counts.{instr_count}
+use Rattle.cell_plans.specs.Exits.{AreAtExits}
+use Rattle.row_placer.specs.Entries.{AreAtEntries}
 use Rattle.cover_mapper.specs.Mapped.{IsMapped}
 use Rattle.cover_mapper.specs.Needs.{any_needs_one}
 
@@ -38,12 +40,14 @@ pub record IsSmall (flat : Flat) (plan : Plan) : Type 0 where
   pub loops : plan.latches ≤ length flat.latches + 1
   pub no_more_loops : any_needs_one flat ≡ false → plan.latches ≡ length flat.latches
 
--- The plan computes a list of cells of the flat netlist. Its loops are the latches in order, each with its start, and exactly where the
+-- The plan computes a list of cells of the flat netlist. Its nets are at the entries of their sources or at the exits of their cells. Its loops are the latches in order, each with its start, and exactly where the
 -- list names constant 1 one more, which starts with 1.
 pub record ComputesCells (flat : Flat) (plan : Plan) : Type 0 where
   pub list : CellList
   pub mapped : IsMapped flat list
   pub computes : ComputesByPlan list plan
+  pub entries : AreAtEntries list plan.lanes plan.ins plan.nets
+  pub exits : AreAtExits list plan.columns plan.nets
   pub loops : plan.latches ≡ length flat.latches + cond (names_one list) 1 0
   pub starts : plan.starts ≡ map (λ latch. latch.init == 1) flat.latches ++ cond (names_one list) (true ∷ []) []
 

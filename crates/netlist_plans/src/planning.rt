@@ -5,6 +5,7 @@ ghost use Rattle.netlist_meaning.specs.Flat.{IsSound, IsWeighed};
 ghost use Rattle.netlist_meaning.specs.FlatOrder.{IsOrder};
 ghost use Rattle.cover_mapper.specs.Needs.{any_needs_one};
 ghost use Rattle.plan_ports.specs.Tables.{IsTableOf};
+ghost use Rattle.netlist_plans.specs.NetPlaces.{HasNetPlaces};
 ghost use Rattle.netlist_plans.specs.Planned.{CarriesDesigns, CarriesNetsOfDesigns, ComputesCells, HasLanes, IsSmall};
 
 use crate::{NetlistPlanError, texts_have_port_names};
@@ -37,6 +38,7 @@ pub fn plan_netlist(alloc: Global, flat: &Flat, order: &Order) -> Result<Planned
     ensures small { IfOk result (λ p. IsSmall flat.now p.plan) }
     ensures cells { IfOk result (λ p. ComputesCells flat.now p.plan) }
     ensures lanes { IfOk result (λ p. HasLanes flat.now p.plan) }
+    ensures places { IfOk result (λ p. HasNetPlaces flat.now p.plan) }
     ensures period { IfOk result (λ p. length flat.now.latches ≡ 0 → any_needs_one flat.now ≡ false → p.ports.p ≡ 32) }
 {
     let list = map(alloc, flat, order)?;

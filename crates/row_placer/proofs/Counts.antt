@@ -6,7 +6,7 @@ use Rattle.std.proofs.lemmas.List.{length-set, get_or-set_same, get_or-set_other
 use Rattle.std.proofs.lemmas.List.Sums.{count_by-le-length}
 use Rattle.std.proofs.Math.Seq.{drop-cons}
 use Rattle.row_placer.specs.declared.job.NumberedCell.{NumberedCell}
-use Rattle.row_placer.specs.Uses.{times, need, owed, uses_of, AreCounted}
+use Rattle.row_placer.specs.Uses.{times, need, owed, unused, uses_of, AreCounted}
 use Rattle.row_placer.proofs.Uses.{times_head, times_other}
 
 pub counted_more : (left left' us : List ℕ) (v : ℕ) → v < length left → left' ≡ set left v (get_or left v 0 + 1) → AreCounted left us → AreCounted left' (v ∷ us)
@@ -45,8 +45,10 @@ few_uses left us v within counted =
 pub length-pending : (gates : List NumberedCell) (ports : List ℕ) (n : ℕ) → n ≤ length gates → length (uses_of (drop n gates) ++ ports) + 2 * n ≡ 2 * length gates + length ports
 length-pending gates ports n within = omega (arith, within, length-append (uses_of (drop n gates)) ports, length-uses (drop n gates), length-drop n gates)
 
-pub owed_more : (ports : List ℕ) (gates : List NumberedCell) (i n free a b s : ℕ) (d : NumberedCell) → i + 1 ≡ n → n ≤ length gates → free ≡ owed ports (drop n gates) → s ≡ free - 1
+pub owed_more : (ports : List ℕ) (gates : List NumberedCell) (base i n free a b s freed : ℕ) (d : NumberedCell) → i + 1 ≡ n → n ≤ length gates → free ≡ owed ports (base + n) (drop n gates) → s ≡ free - freed
+    → freed ≡ 1 + unused (times (base + i) (uses_of (drop n gates) ++ ports))
     → a ≡ need (get_or gates i d).first ((get_or gates i d).second ∷ (uses_of (drop n gates) ++ ports)) → b ≡ need (get_or gates i d).second (uses_of (drop n gates) ++ ports)
-    → a + (b + s) ≡ owed ports (drop i gates)
-owed_more ports gates i n free a b s d is within e se ea eb =
-    ap₂ (λ x y. x + y) ea (ap₂ (λ x y. x + y) eb (se ∙ ap (λ k. k - 1) e)) ∙ ap (owed ports) (sym (front gates i n d is within))
+    → a + (b + s) ≡ owed ports (base + i) (drop i gates)
+owed_more ports gates base i n free a b s freed d is within e se ef ea eb =
+    let next : base + n ≡ (base + i) + 1 = omega (arith, is) in
+    ap₂ (λ x y. x + y) ea (ap₂ (λ x y. x + y) eb (se ∙ ap₂ (λ x y. x - y) (e ∙ ap (λ v. owed ports v (drop n gates)) next) ef)) ∙ ap (owed ports (base + i)) (sym (front gates i n d is within))

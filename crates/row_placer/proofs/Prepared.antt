@@ -11,7 +11,7 @@ use Rattle.row_placer.specs.declared.roles.Tag.{Tag}
 use Rattle.row_placer.specs.declared.job.NumberedCell.{NumberedCell}
 use Rattle.row_placer.specs.Told.{tag, free_tag, count, is_tag}
 use Rattle.row_placer.specs.declared.roles.Role.TheVariants.{Kept}
-use Rattle.row_placer.specs.Uses.{uses_of, owed, times, AreCounted, ReadsBelow, AreKnown}
+use Rattle.row_placer.specs.Uses.{uses_of, owed, idle, times, AreCounted, ReadsBelow, AreKnown}
 use Rattle.row_placer.specs.Ready.{Ready}
 use Rattle.cell_core.specs.Loops.{loop_count, loop_data}
 use Rattle.row_placer.specs.Numbers.{number, gate_of, IsThere, ReadsWhatIsThere}
@@ -50,10 +50,10 @@ counted_tag tags lane v within here =
     let one : cond {A = ℕ} (is_tag v Kept (get_or tags lane free_tag)) 1 0 ≡ 1 = ap (λ t. cond {A = ℕ} (is_tag v Kept t) 1 0) here ∙ this_tag v Kept in
     omega (arith, e, one)
 
-pub start_ready : (gates : List NumberedCell) (ports homes left : List ℕ) (inner lanes free base : ℕ) (dark : Bool) (start : List Tag) → IsStart homes left lanes start → All (λ lane. lane < lanes) homes
+pub start_ready : (gates : List NumberedCell) (ports homes left : List ℕ) (inner lanes first base : ℕ) (dark : Bool) (start : List Tag) → IsStart homes left lanes start → All (λ lane. lane < lanes) homes
     → AreCounted left (uses_of gates ++ ports) → base ≡ inner + 1 → length left ≡ base + length gates → length homes ≡ inner + cond dark 1 0 → (1 ≤ get_or left inner 0 → dark ≡ true)
-    → lanes ≡ free + cond dark 1 0 + inner → owed ports gates ≤ free → Ready (uses_of gates ++ ports) (base + 0) (owed ports gates) start left
-start_ready gates ports homes left inner lanes free base dark start s low counted at wide long zero_used size owes = record {
+    → lanes ≡ first + inner → owed ports base gates + cond dark 1 0 ≤ first + idle left (length homes) → Ready (uses_of gates ++ ports) (base + 0) (owed ports (base + 0) gates) start left
+start_ready gates ports homes left inner lanes first base dark start s low counted at wide long zero_used size owes = record {
   kept = λ v below used.
       (let mine = counted v (omega (arith, below, wide)) in
       ⊎_elim
@@ -62,7 +62,7 @@ start_ready gates ports homes left inner lanes free base dark start s low counte
       let here : 1 ≤ get_or left inner 0 = (let e : get_or left inner 0 ≡ get_or left v 0 = ap (λ k. get_or left k 0) (sym same) in omega (arith, e, mine, used)) in
       let one : cond {A = ℕ} dark 1 0 ≡ 1 = ap (λ b. cond {A = ℕ} b 1 0) (zero_used here) in absurd (omega (arith, one, past, same, long))))
       (cases_lt v (length homes)));
-  free = omega (arith, s.free, size, long, owes);
+  free = (let e : owed ports (base + 0) gates ≡ owed ports base gates = (let z : base + 0 ≡ base = omega arith in ap (λ v. owed ports v gates) z) in omega (arith, e, s.free, size, long, owes));
   left = counted;
   wide = omega (arith, wide);
 }
@@ -71,11 +71,11 @@ pub flag_small : (b : Bool) → cond {A = ℕ} b 1 0 ≤ 1
 flag_small true = omega arith
 flag_small false = omega arith
 
-pub dark_first : (dark : Bool) (free first : ℕ) → first ≡ free + cond dark 1 0 → dark ≡ true → 1 ≤ first
-dark_first dark free first is e = let one : cond {A = ℕ} dark 1 0 ≡ 1 = ap (λ b. cond {A = ℕ} b 1 0) e in omega (arith, is, one)
+pub dark_first : (dark : Bool) (first : ℕ) → cond dark 1 0 ≤ first → dark ≡ true → 1 ≤ first
+dark_first dark first is e = let one : cond {A = ℕ} dark 1 0 ≡ 1 = ap (λ b. cond {A = ℕ} b 1 0) e in omega (arith, is, one)
 
 -- no gates and no ports use nothing
-pub nothing_used : (gates : List NumberedCell) (ports : List ℕ) → length gates ≡ 0 → length ports ≡ 0 → (owed ports gates ≡ 0) × ((v : ℕ) → times v (uses_of gates ++ ports) ≡ 0)
-nothing_used [] [] e f = (refl, λ v. refl)
-nothing_used [] (p ∷ ports) e f = absurd (omega (arith, f))
-nothing_used (g ∷ gates) ports e f = absurd (omega (arith, e))
+pub nothing_used : (base : ℕ) (gates : List NumberedCell) (ports : List ℕ) → length gates ≡ 0 → length ports ≡ 0 → (owed ports base gates ≡ 0) × ((v : ℕ) → times v (uses_of gates ++ ports) ≡ 0)
+nothing_used base [] [] e f = (refl, λ v. refl)
+nothing_used base [] (p ∷ ports) e f = absurd (omega (arith, f))
+nothing_used base (g ∷ gates) ports e f = absurd (omega (arith, e))

@@ -1,9 +1,10 @@
 -- What an instruction keeps.
 use Rattle.std.proofs.Common.{◌≡◌, refl, sym, ◌∙◌, ap, ap₂, subst, ℕ, ◌+◌, ◌<◌, ◌≤◌, Bool, true, false, ⊎_elim, List, [], ◌∷◌, ◌++◌, length, get_or, set, count_by, cond, add_comm, arith}
-use Rattle.std.specs.Prelude.{All, Option, Some, None, take}
+use Rattle.std.specs.Prelude.{All, Option, Some, None, take, slice_get, ◌==◌}
 use Rattle.std.specs.Option.{ForSome}
-use Rattle.std.proofs.lemmas.Bool.{cases_eq, cases_lt}
-use Rattle.std.proofs.lemmas.List.{length-set, length_push, take-append-le, get_or-set_same, get_or-set_other, get_or_append_left, get_or_push}
+use Rattle.std.proofs.lemmas.Bool.{cases_eq, cases_lt, ne_eqb}
+use Rattle.std.proofs.lemmas.List.{length-set, length-append, length_push, take-append-le, get_or-set_same, get_or-set_other, get_or_append_left, get_or_push}
+use Rattle.std.proofs.lemmas.Option.{none-some, slice_get_within, slice_get-get_or, get_or_from_slice_get}
 use Rattle.std.proofs.Math.Seq.{take-length}
 use Rattle.std.proofs.lemmas.List.Elements.{All-push}
 use Rattle.std.proofs.lemmas.List.Sums.{fold_push, sum_by-set}
@@ -17,7 +18,8 @@ use Rattle.row_placer.specs.declared.roles.Role.{Role}
 use Rattle.row_placer.specs.declared.roles.Role.TheVariants.{Kept}
 use Rattle.row_placer.specs.declared.roles.Tag.{Tag}
 use Rattle.row_placer.specs.declared.job.Job.{Job}
-use Rattle.row_placer.specs.Told.{role_code, Told, MadeTold, PutsTags, Tells, free_tag, tag, BothExchanged}
+use Rattle.row_placer.specs.declared.job.NumberedCell.{NumberedCell}
+use Rattle.row_placer.specs.Told.{role_code, Told, MadeTold, MadeAt, IsGateAt, instr_at, PutsTags, Tells, free_tag, tag, gate_instr, Exchanged, BothExchanged}
 use Rattle.lane_core.proofs.Lengths.{length-after_instrs as length-after}
 
 pub length-two : {X : Type 0} (xs : List X) (i j : ℕ) (a b : X) → length (set (set xs i a) j b) ≡ length xs
@@ -94,6 +96,29 @@ mark_told job tags instrs i role within some told bit agrees bits fits holds lan
     (λ off. tells bit (get_or tags lane free_tag) _ (bit_on (after_instrs instrs bits) lane) _ (get_or-set_other tags i lane (tag (get_or tags i free_tag).value role) free_tag off) refl (now lane))
     (cases_eq lane i)
 
+-- a lane that is freed
+pub free_told : (job : Job) (tags : List Tag) (instrs : List Instr) (i : ℕ) → i < length tags → Told job tags instrs → Told job (set tags i free_tag) instrs
+free_told job tags instrs i within told bit agrees bits fits holds lane =
+    ⊎_elim
+    (λ here. λ some. (let e : get_or (set tags i free_tag) lane free_tag ≡ free_tag = ap (λ l. get_or (set tags i free_tag) l free_tag) here ∙ get_or-set_same tags i free_tag free_tag within in
+    let none : 0 < 0 = subst (λ (t : Tag). 0 < role_code t.role) e some in absurd (omega (arith, none))))
+    (λ off. tells bit (get_or tags lane free_tag) _ (bit_on (after_instrs instrs bits) lane) _ (get_or-set_other tags i lane free_tag free_tag off) refl (told bit agrees bits fits holds lane))
+    (cases_eq lane i)
+
+pub freed : (tags tags' : List Tag) (i n value : ℕ) → i < length tags → n ≡ 0 → get_or tags i free_tag ≡ tag value Kept → tags' ≡ set tags i free_tag → Exchanged tags tags' (cond (n == 0) (tag value Kept) free_tag) free_tag
+freed tags tags' i n value within none here is p =
+    let e = counts_set p tags i free_tag within in
+    let old : cond {A = ℕ} (p (get_or tags i free_tag)) 1 0 ≡ cond {A = ℕ} (p (cond (n == 0) (tag value Kept) free_tag)) 1 0 =
+    ap (λ (t : Tag). cond {A = ℕ} (p t) 1 0) (here ∙ ap (λ k. cond (k == 0) (tag value Kept) free_tag) (sym none)) in
+    let new : count_by p tags' ≡ count_by p (set tags i free_tag) = ap (count_by p) is in
+    omega (arith, e, old, new)
+
+pub kept_all : (tags : List Tag) (n value : ℕ) → 0 < n → Exchanged tags tags (cond (n == 0) (tag value Kept) free_tag) free_tag
+kept_all tags n value some p =
+    let same : cond {A = ℕ} (p (cond (n == 0) (tag value Kept) free_tag)) 1 0 ≡ cond {A = ℕ} (p free_tag) 1 0 =
+    ap (λ b. cond {A = ℕ} (p (cond b (tag value Kept) free_tag)) 1 0) (ne_eqb n 0 (λ e. absurd (omega (arith, e, some)))) in
+    omega (arith, same)
+
 -- gates
 -- what stands on the two lanes, and what the gate makes of it
 pub gate_exchanged : (tags : List Tag) (lane : ℕ) (t u made : Tag) (turned : Bool) → lane + 1 < length tags → get_or tags lane free_tag ≡ cond turned u t → get_or tags (lane + 1) free_tag ≡ cond turned t u
@@ -127,6 +152,33 @@ note_told job tags instrs made lane n last here told old bit agrees bits fits ho
 
     now : Tells bit (get_or tags lane free_tag) (bit_on (after_instrs instrs bits) lane)
     now = told bit agrees bits fits holds lane
+
+-- gates stay where they are when an instruction is added, and the last one may be a gate
+pub got_front : (instrs more : List Instr) (n : ℕ) (i : Instr) → slice_get instrs n ≡ Some i → slice_get (instrs ++ more) n ≡ Some i
+got_front instrs more n i got =
+    let low : n < length instrs = slice_get_within instrs n i got in
+    slice_get-get_or (instrs ++ more) n i (let e = length-append instrs more in omega (arith, e, low))
+    ∙ ap Some (get_or_append_left instrs more i n low ∙ get_or_from_slice_get instrs n i i got)
+
+got_after : (instrs more : List Instr) (after : Option ℕ) (i : Instr) → instr_at instrs after ≡ Some i → instr_at (instrs ++ more) after ≡ Some i
+got_after instrs more None i got = absurd (none-some i got)
+got_after instrs more (Some n) i got = got_front instrs more n i got
+
+pub step_at : (job : Job) (instrs : List Instr) (instr : Instr) (made : List NetPlace) → MadeAt job instrs made → MadeAt job (instrs ++ instr ∷ []) made
+step_at job instrs instr made at g gate place within = got_after instrs (instr ∷ []) (get_or made g place).after _ (at g gate place within)
+
+pub note_at : (job : Job) (instrs : List Instr) (made : List NetPlace) (lane n : ℕ) → ((gate : NumberedCell) → slice_get instrs n ≡ Some (gate_instr (get_or job.gates (length made) gate).kind lane))
+    → MadeAt job instrs made → MadeAt job instrs (made ++ record { lane = lane; after = Some n } ∷ [])
+note_at job instrs made lane n last old g gate place within =
+    ⊎_elim
+    (λ low. subst (IsGateAt instrs (get_or job.gates g gate).kind) (sym (get_or_append_left made (new ∷ []) place g low)) (old g gate place low))
+    (λ high. (let is : g ≡ length made = omega (arith, high, within, length_push made new) in
+    subst (IsGateAt instrs (get_or job.gates g gate).kind) (sym (get_or_push made new place g (sym is)))
+    (last gate ∙ ap (λ k. Some (gate_instr (get_or job.gates k gate).kind lane)) (sym is))))
+    (cases_lt g (length made))
+  where
+    new : NetPlace
+    new = record { lane = lane; after = Some n }
 
 pub either : (b : Bool) (P : List NetPlace → Type 0) (x y : List NetPlace) → P x → P y → P (cond b x y)
 either true P x y p q = p

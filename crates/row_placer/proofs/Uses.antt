@@ -1,14 +1,14 @@
 -- Uses of values, one after another.
 use Rattle.std.proofs.Common.{◌≡◌, ◌≢◌, refl, sym, ◌∙◌, ap, ap₂, ℕ, ◌+◌, ◌-◌, ◌<◌, ◌≤◌, Bool, true, false, cond, ⊎_elim, List, ◌∷◌, length, get_or, set, arith}
 use Rattle.std.specs.Prelude.{◌==◌, ◌&&◌}
-use Rattle.std.proofs.lemmas.Bool.{cases_eq, eq-eqb as eq_yes}
+use Rattle.std.proofs.lemmas.Bool.{cases_eq, eqb-true, eq-eqb as eq_yes}
 use Rattle.std.proofs.lemmas.List.{length-set, get_or-set_same, get_or-set_other}
 use Rattle.std.proofs.lemmas.List.Sums.{sum_by-cons}
 use Rattle.row_placer.specs.declared.roles.Role.{Role}
 use Rattle.row_placer.specs.declared.roles.Role.TheVariants.{Free, Kept, First, Second}
 use Rattle.row_placer.specs.declared.roles.Tag.{Tag}
 use Rattle.row_placer.specs.Told.{role_code, count, is_tag, tag, free_tag, Exchanged, BothExchanged}
-use Rattle.row_placer.specs.Uses.{times, need}
+use Rattle.row_placer.specs.Uses.{times, need, unused}
 use Rattle.row_placer.specs.Ready.{Ready}
 use Rattle.std.proofs.lemmas.Bool.{ne_eqb as eq_no}
 
@@ -157,3 +157,49 @@ made us limit least a b tags tags' table r low ex = record {
   left = r.left;
   wide = omega (arith, low);
 }
+
+-- its value is then there
+pub result_there : (v a b : ℕ) (tags tags' : List Tag) → BothExchanged tags tags' (tag a First) (tag b Second) (tag v Kept) free_tag → 1 ≤ count v Kept tags'
+result_there v a b tags tags' ex =
+    let e = ex (is_tag v Kept) in
+    let c = this_tag v Kept in
+    omega (arith, e, c)
+
+-- a value that is made goes again where nothing uses it
+pub ended : (us : List ℕ) (v least : ℕ) (tags tags' : List Tag) (table : List ℕ) → Ready us (v + 1) (least - unused (times v us)) tags table
+    → Exchanged tags tags' (cond (get_or table v 0 == 0) (tag v Kept) free_tag) free_tag → Ready us (v + 1) least tags' table
+ended us v least tags tags' table r ex = by (get_or table v 0 == 0) refl
+  where
+    here : get_or table v 0 ≡ times v us
+    here = r.left v (let w = r.wide in omega (arith, w))
+
+    gone_is : (w : ℕ) (role : Role) (b : Bool) → (get_or table v 0 == 0) ≡ b
+        → cond {A = ℕ} (is_tag w role (cond (get_or table v 0 == 0) (tag v Kept) free_tag)) 1 0 ≡ cond {A = ℕ} (is_tag w role (cond b (tag v Kept) free_tag)) 1 0
+    gone_is w role b is = ap (λ x. cond {A = ℕ} (is_tag w role (cond x (tag v Kept) free_tag)) 1 0) is
+
+    unused_is : (b : Bool) → (get_or table v 0 == 0) ≡ b → unused (times v us) ≡ cond b 1 0
+    unused_is b is = ap (λ n. cond {A = ℕ} (n == 0) 1 0) (sym here) ∙ ap (λ x. cond {A = ℕ} x 1 0) is
+
+    by : (b : Bool) → (get_or table v 0 == 0) ≡ b → Ready us (v + 1) least tags' table
+    by true is = record {
+      kept = λ w below some. (let e = ex (is_tag w Kept) in
+          let other : v ≢ w = λ same. (let z : get_or table v 0 ≡ 0 = eqb-true (get_or table v 0) 0 is in
+          let u : times v us ≡ times w us = ap (λ k. times k us) same in absurd (omega (arith, z, u, here, some))) in
+          let g = gone_is w Kept true is ∙ other_value w Kept v Kept other in
+          let old = r.kept w below some in omega (arith, e, g, old));
+      free = (let e = ex (is_tag 0 Free) in
+          let g = gone_is 0 Free true is ∙ other_role 0 Free v Kept (λ (q : 1 ≡ 0). absurd (omega (arith, q))) in
+          let u = unused_is true is in omega (arith, e, g, u, r.free));
+      left = r.left;
+      wide = r.wide;
+    }
+    by false is = record {
+      kept = λ w below some. (let e = ex (is_tag w Kept) in
+          let g = gone_is w Kept false is in
+          let old = r.kept w below some in omega (arith, e, g, old));
+      free = (let e = ex (is_tag 0 Free) in
+          let g = gone_is 0 Free false is in
+          let u = unused_is false is in omega (arith, e, g, u, r.free));
+      left = r.left;
+      wide = r.wide;
+    }

@@ -16,7 +16,8 @@ use Rattle.row_placer.specs.Ready.{AreSettled, ReadyForGate}
 use Rattle.cell_core.specs.Loops.{loop_data, loop_state, loop_count}
 use Rattle.row_placer.specs.Numbers.{number, gate_of}
 use Rattle.row_placer.specs.Empty.{IsEmpty}
-use Rattle.row_placer.specs.Entries.{AreAtEntries}
+use Rattle.row_placer.specs.Entries.{AreAtEntries, AreAtCells}
+use Rattle.row_placer.specs.Uses.{idle}
 use Rattle.cell_core.specs.Meaning.{Fits}
 use Rattle.row_placer.specs.Programs.{program_bits}
 
@@ -70,12 +71,12 @@ pub record IsPlaced (list : CellList) (job : Job) (p : Program) (homes : List �
   pub zero_home : All (λ src. src ≡ Zero → list.inputs + loop_count list < length homes) list.nets
   pub known_home : list.inputs + loop_count list ≤ length homes
 
--- each home of a used value has it, and the other lanes are free
+-- each home of a used value has it, and the other lanes are free, the homes of unused values among them
 pub record IsStart (homes left : List ℕ) (lanes : ℕ) (start : List Tag) : Type 0 where
   pub long : length start ≡ lanes
   pub home : AreAtHome homes start
   pub kept : (v : ℕ) → v < length homes → 1 ≤ get_or left v 0 → get_or start (get_or homes v 0) free_tag ≡ tag v Kept
-  pub free : lanes ≤ count 0 Free start + length homes
+  pub free : lanes + idle left (length homes) ≤ count 0 Free start + length homes
 
 -- the lanes of the outputs
 abbrev pub AreOuts : Job → ℕ → List Tag → List ℕ → Type 0
@@ -102,3 +103,4 @@ pub record IsPlacedWithin (list : CellList) (spare : ℕ) (p : Program) : Type 0
   pub lanes : p.lanes ≤ list.inputs + 2 * loop_count list + length list.outs + length list.cells + 2 + spare
   pub empty : IsEmpty list → p.lanes ≡ 0
   pub entries : AreAtEntries list p.lanes p.ins p.nets
+  pub made : AreAtCells list p.instrs p.nets

@@ -14,7 +14,7 @@ pub record Ready (us : List ℕ) (limit least : ℕ) (tags : List Tag) (table : 
   pub wide : limit ≤ length table
 
 abbrev pub ReadyForGate : Job → ℕ → List Tag → List ℕ → Type 0
-ReadyForGate job g tags left = Ready (uses_of (drop g job.gates) ++ job.ports) (job.base + g) (owed job.ports (drop g job.gates)) tags left
+ReadyForGate job g tags left = Ready (uses_of (drop g job.gates) ++ job.ports) (job.base + g) (owed job.ports (job.base + g) (drop g job.gates)) tags left
 
 abbrev pub ReadyForPort : Job → ℕ → List Tag → List ℕ → Type 0
 ReadyForPort job i tags left = Ready (drop i job.ports) (job.base + length job.gates) (owed_ports (drop i job.ports)) tags left

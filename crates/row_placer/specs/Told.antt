@@ -1,5 +1,5 @@
 -- What tags tell of bits.
-use Rattle.std.specs.Prelude.{ℕ, ◌+◌, ◌<◌, ◌≡◌, ◌==◌, Bool, ◌&&◌, ◌||◌, not, cond, List, length, get_or, count_by}
+use Rattle.std.specs.Prelude.{ℕ, ◌+◌, ◌<◌, ◌≡◌, ◌==◌, Bool, ◌&&◌, ◌||◌, not, cond, List, length, get_or, slice_get, Option, Some, option_and_then, count_by}
 use Rattle.lane_core.specs.declared.instr.Instr.{Instr}
 use Rattle.lane_core.specs.declared.instr.Instr.TheVariants as instrs
 use Rattle.lane_core.specs.declared.plan.NetPlace.{NetPlace}
@@ -46,6 +46,12 @@ gate_bit AndNot a b = a && not b
 abbrev pub Agrees : Job → (ℕ → Bool) → Type 0
 Agrees job bit = (g : ℕ) (d : NumberedCell) → g < length job.gates → bit (job.base + g) ≡ gate_bit (get_or job.gates g d).kind (bit (get_or job.gates g d).first) (bit (get_or job.gates g d).second)
 
+-- the instruction of a gate
+abbrev pub gate_instr : CellKind → ℕ → Instr
+gate_instr Or lane = instrs.Or lane
+gate_instr Xor lane = instrs.Xor lane
+gate_instr AndNot lane = instrs.AndNot lane
+
 -- whatever bits values have, if the gates make them and the lanes begin with those of their tags, the tags go on to tell the bits
 abbrev pub Told : Job → List Tag → List Instr → Type 0
 Told job tags instrs =
@@ -56,6 +62,17 @@ abbrev pub MadeTold : Job → List Instr → List NetPlace → Type 0
 MadeTold job instrs made =
     (bit : ℕ → Bool) → Agrees job bit → (bits : List Bool) → length bits ≡ length job.start → HoldsTags bit job.start bits
     → (g : ℕ) (d : NetPlace) → g < length made → bit_on (bits_after after_instrs instrs (get_or made g d).after bits) (get_or made g d).lane ≡ bit (job.base + g)
+
+-- the instruction after which a place is found
+abbrev pub instr_at : List Instr → Option ℕ → Option Instr
+instr_at instrs after = option_and_then (slice_get instrs) after
+
+-- the place of each gate that is made is that of its instruction
+abbrev pub IsGateAt : List Instr → CellKind → NetPlace → Type 0
+IsGateAt instrs kind place = instr_at instrs place.after ≡ Some (gate_instr kind place.lane)
+
+abbrev pub MadeAt : Job → List Instr → List NetPlace → Type 0
+MadeAt job instrs made = (g : ℕ) (gate : NumberedCell) (place : NetPlace) → g < length made → IsGateAt instrs (get_or job.gates g gate).kind (get_or made g place)
 
 -- an instruction puts the bits of these tags on its lanes
 abbrev pub PutsTags : Job → List Tag → Instr → Tag → Tag → Type 0
@@ -78,9 +95,3 @@ Exchanged old new gone come = (p : Tag → Bool) → count_by p new + cond (p go
 abbrev pub BothExchanged : List Tag → List Tag → Tag → Tag → Tag → Tag → Type 0
 BothExchanged old new gone gone' come come' =
     (p : Tag → Bool) → count_by p new + (cond (p gone) 1 0 + cond (p gone') 1 0) ≡ count_by p old + (cond (p come) 1 0 + cond (p come') 1 0)
-
--- the instruction of a gate
-abbrev pub gate_instr : CellKind → ℕ → Instr
-gate_instr Or lane = instrs.Or lane
-gate_instr Xor lane = instrs.Xor lane
-gate_instr AndNot lane = instrs.AndNot lane

@@ -1,5 +1,5 @@
 -- Uses of values: of gates and of ports, in order.
-use Rattle.std.specs.Prelude.{ℕ, ◌+◌, ◌-◌, ◌<◌, ◌≡◌, ◌==◌, cond, List, [], ◌∷◌, ◌++◌, length, get_or, count_by}
+use Rattle.std.specs.Prelude.{ℕ, zero, suc, ◌+◌, ◌-◌, ◌<◌, ◌≡◌, ◌==◌, cond, List, [], ◌∷◌, ◌++◌, length, get_or, count_by}
 use Rattle.row_placer.specs.declared.job.NumberedCell.{NumberedCell}
 
 abbrev pub uses_of : List NumberedCell → List ℕ
@@ -14,15 +14,25 @@ times v us = count_by (λ u. u == v) us
 abbrev pub need : ℕ → List ℕ → ℕ
 need v us = cond (times v us == 0) 0 1
 
+-- 1 where a value has no use
+abbrev pub unused : ℕ → ℕ
+unused uses = cond (uses == 0) 1 0
+
+-- so many of the first n values have no use, by a table of the uses of each
+abbrev pub idle : List ℕ → ℕ → ℕ
+idle left zero = 0
+idle left (suc n) = idle left n + unused (get_or left n 0)
+
 -- so many free lanes are enough for the uses of ports
 abbrev pub owed_ports : List ℕ → ℕ
 owed_ports [] = 0
 owed_ports (v ∷ vs) = need v vs + owed_ports vs
 
--- and for gates and then these ports: a gate leaves one lane free
-abbrev pub owed : List ℕ → List NumberedCell → ℕ
-owed ports [] = owed_ports ports
-owed ports (q ∷ qs) = need q.first (q.second ∷ (uses_of qs ++ ports)) + (need q.second (uses_of qs ++ ports) + (owed ports qs - 1))
+-- and for gates, which make the values from v on, and then these ports: a gate leaves one lane free, and that of its value too where it has no use
+abbrev pub owed : List ℕ → ℕ → List NumberedCell → ℕ
+owed ports v [] = owed_ports ports
+owed ports v (q ∷ qs) =
+    need q.first (q.second ∷ (uses_of qs ++ ports)) + (need q.second (uses_of qs ++ ports) + (owed ports (v + 1) qs - (1 + unused (times v (uses_of qs ++ ports)))))
 
 -- a gate reads values that are there before it
 abbrev pub AreKnown : ℕ → List NumberedCell → Type 0

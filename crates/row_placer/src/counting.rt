@@ -1,6 +1,6 @@
 // Uses of values are counted from the last to the first, and with them the lanes that copies need.
 ghost use Rattle.std.specs.Prelude.{ℕ, ◌≡◌, ◌==◌, ◌≤◌, ◌<◌, ◌+◌, ◌-◌, ◌*◌, ◌^◌, ◌++◌, length, All, cond, get_or, set, IfOk};
-ghost use Rattle.row_placer.specs.Uses.{uses_of, owed, AreCounted, ReadsBelow};
+ghost use Rattle.row_placer.specs.Uses.{uses_of, owed, unused, idle, AreCounted, ReadsBelow};
 
 use crate::{NumberedCell, PlaceError};
 use std::alloc::Global;
@@ -17,22 +17,45 @@ fn add_use(left: &mut Vec<u32>, value: u32) -> u32
     if before == 0 { 0 } else { 1 }
 }
 
-/// How often each value is used, and how many free lanes are enough.
+// 1 where a value has no use.
+fn unused(left: &Vec<u32>, value: u32) -> u32
+    requires { value < length left.now.items }
+    ensures { result ≡ unused (get_or left.now.items value 0) }
+{
+    if left[value as usize] == 0 { 1 } else { 0 }
+}
+
+/// How many of the first values have no use.
+pub fn count_idle(left: &Vec<u32>, values: u32) -> u32
+    requires { values ≤ length left.now.items }
+    ensures { result ≡ idle left.now.items values }
+{
+    let mut count = 0;
+    let mut value = 0;
+    while value < values {
+        count += unused(left, value);
+        value += 1;
+    }
+    count
+}
+
+/// How often each value is used, and how many free lanes are enough. The gates make the values from `base` on.
 pub fn count_uses(
     alloc: Global,
     gates: &[NumberedCell],
     ports: &[u32],
-    values: u32,
+    base: u32,
 ) -> Result<(Vec<u32>, u32), PlaceError>
-    requires gates { All (ReadsBelow values) gates.now }
-    requires ports { All (λ v. v < values) ports.now }
+    requires fits { base + length gates.now < 2 ^ 32 }
+    requires gates { All (ReadsBelow (base + length gates.now)) gates.now }
+    requires ports { All (λ v. v < base + length gates.now) ports.now }
     requires few { 2 * length gates.now + length ports.now < 2 ^ 32 - 1 }
     ensures left { IfOk result (λ r. AreCounted r.0.items (uses_of gates.now ++ ports.now)) }
-    ensures long { IfOk result (λ r. length r.0.items ≡ values) }
-    ensures owed { IfOk result (λ r. r.1 ≡ owed ports.now gates.now) }
+    ensures long { IfOk result (λ r. length r.0.items ≡ base + length gates.now) }
+    ensures owed { IfOk result (λ r. r.1 ≡ owed ports.now base gates.now) }
     ensures few { IfOk result (λ r. r.1 ≤ length gates.now + length ports.now + 1) }
 {
-    let mut left = vec![in alloc; 0; values as usize]?;
+    let mut left = vec![in alloc; 0; base as usize + gates.len()]?;
     let mut free = 0;
     let mut port = ports.len();
     while port > 0 {
@@ -43,9 +66,10 @@ pub fn count_uses(
     while at > 0 {
         at -= 1;
         let gate = gates[at];
+        let freed = 1 + unused(&left, base + at as u32);
         let second = add_use(&mut left, gate.second);
         let first = add_use(&mut left, gate.first);
-        free = first + (second + free.saturating_sub(1));
+        free = first + (second + free.saturating_sub(freed));
     }
     Ok((left, free))
 }

@@ -1,9 +1,9 @@
 // Lanes, with their tags and clocks, and the instructions so far.
-ghost use Rattle.std.specs.Prelude.{ℕ, ◌≡◌, ◌==◌, ◌≢◌, ◌≤◌, ◌<◌, ◌+◌, ◌-◌, ◌*◌, ◌^◌, ◌++◌, ◌∷◌, [], length, All, cond, get_or, set, OnOk, IfSome, IfOk, Bool, true, false, List, count_by};
+ghost use Rattle.std.specs.Prelude.{ℕ, ◌≡◌, ◌==◌, ◌≢◌, ◌≤◌, ◌<◌, ◌+◌, ◌-◌, ◌*◌, ◌^◌, ◌++◌, ◌∷◌, [], length, All, cond, get_or, slice_get, Some, set, OnOk, IfSome, IfOk, Bool, true, false, List, count_by};
 ghost use Rattle.lane_core.specs.Instrs.{IsOnLanes, lane_of};
 ghost use Rattle.lane_core.specs.Places.{IsPlaceWithin};
 ghost use Rattle.row_placer.specs.declared.roles.Role.TheVariants.{Free, Kept, First, Second};
-ghost use Rattle.row_placer.specs.Told.{role_code, Told, MadeTold, PutsTags, SameTags, Exchanged, count, free_tag, tag, gate_instr, BothExchanged};
+ghost use Rattle.row_placer.specs.Told.{role_code, Told, MadeTold, MadeAt, PutsTags, SameTags, Exchanged, count, free_tag, tag, gate_instr, BothExchanged};
 ghost use Rattle.row_placer.specs.Ready.{ReadyForGate, ReadyForPort, HoldPorts, AreSettled};
 ghost use Rattle.row_placer.specs.Placed.{AreOuts};
 ghost use Rattle.row_placer.specs.declared.job.CellKind.TheVariants.{AndNot};
@@ -28,6 +28,7 @@ pub struct Lanes<'a> {
     pub ghost told: { Told job.now tags.items instrs.items },
     pub ghost places: { All (IsPlaceWithin (length tags.items) (length instrs.items)) made.items },
     pub ghost made_told: { MadeTold job.now instrs.items made.items },
+    pub ghost made_at: { MadeAt job.now instrs.items made.items },
 }
 
 impl<'a> Lanes<'a> {
@@ -139,6 +140,36 @@ impl<'a> Lanes<'a> {
     {
         let value = self.tags[lane as usize].value;
         self.tags[lane as usize] = Tag { value, role };
+    }
+
+    /// Frees a lane.
+    fn free(&mut self, lane: u32)
+        requires { lane < length self.old.tags.items }
+        ensures tags { self.new.tags.items ≡ set self.old.tags.items lane free_tag }
+        ensures count { length self.new.instrs.items ≡ length self.old.instrs.items }
+        ensures made { self.new.made.items ≡ self.old.made.items }
+        ensures job { self.new.job ≡ self.old.job }
+    {
+        self.tags[lane as usize] = Tag {
+            value: 0,
+            role: Role::Free,
+        };
+    }
+
+    /// Frees the lane of a value that has no use.
+    fn end(&mut self, value: u32, uses: u32)
+        requires { 1 ≤ count value Kept self.old.tags.items }
+        ensures exchanged { Exchanged self.old.tags.items self.new.tags.items (cond (uses == 0) (tag value Kept) free_tag) free_tag }
+        ensures long { length self.new.tags.items ≡ length self.old.tags.items }
+        ensures count { length self.new.instrs.items ≡ length self.old.instrs.items }
+        ensures made { self.new.made.items ≡ self.old.made.items }
+        ensures job { self.new.job ≡ self.old.job }
+    {
+        if uses > 0 {
+            return;
+        }
+        let lane = self.find(value, Role::Kept);
+        self.free(lane);
     }
 
     /// A lane with this value in this role.
@@ -347,6 +378,7 @@ impl<'a> Lanes<'a> {
         requires lane { lane < length self.old.tags.items }
         requires some { 0 < length self.old.instrs.items }
         requires here { get_or self.old.tags.items lane free_tag ≡ tag (self.old.job.now.base + length self.old.made.items) Kept }
+        requires last { (gate : NumberedCell) → slice_get self.old.instrs.items (length self.old.instrs.items - 1) ≡ Some (gate_instr (get_or self.old.job.now.gates (length self.old.made.items) gate).kind lane) }
         ensures tags { self.new.tags.items ≡ self.old.tags.items }
         ensures instrs { self.new.instrs.items ≡ self.old.instrs.items }
         ensures made { OnOk result (length self.new.made.items ≡ length self.old.made.items + 1) }
@@ -481,7 +513,9 @@ impl<'a> Lanes<'a> {
         self.use_value(gate.first, Role::First, partner, left)?;
         let partner = self.lane_of_partner(gate.first, Role::First);
         self.use_value(gate.second, Role::Second, partner, left)?;
+        let value = self.job.base + self.made.len() as u32;
         self.gate(gate)?;
+        self.end(value, left[value as usize]);
         Ok(())
     }
 

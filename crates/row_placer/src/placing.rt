@@ -4,11 +4,11 @@ ghost use Rattle.cell_core.specs.Loops.{loop_count, loop_data, loop_state, names
 ghost use Rattle.row_placer.specs.Numbers.{number, gate_of, IsThere, ReadsWhatIsThere, NamesZero};
 ghost use Rattle.row_placer.specs.Placed.{IsPrepared};
 ghost use Rattle.row_placer.specs.Empty.{IsEmpty};
-ghost use Rattle.row_placer.specs.Entries.{AreAtEntries};
+ghost use Rattle.row_placer.specs.Entries.{AreAtEntries, AreAtCells};
 ghost use Rattle.cell_lanes.specs.Computes.{ComputesByProgram};
 ghost use Rattle.cell_core.specs.declared.cells.Src.TheVariants.{One};
 
-use crate::counting::count_uses;
+use crate::counting::{count_idle, count_uses};
 use crate::reading::{count_loops, gates_of, homes_of, names_zero, places_of, push_numbers};
 use crate::start::start_tags;
 use crate::{Job, Lanes, PlaceError};
@@ -65,9 +65,12 @@ pub fn prepare(
     let inner = list.inputs + loops;
     let gates = gates_of(alloc, list, loops)?;
     let ports = ports_of(alloc, list, loops)?;
-    let (left, free) = count_uses(alloc, &gates, &ports, inner + 1 + gates.len() as u32)?;
+    let (left, free) = count_uses(alloc, &gates, &ports, inner + 1)?;
     let zero = wants_zero(list, &left, inner);
-    let first = first_home(free + spare, zero);
+    let dark = one_if(zero);
+    let idle = count_idle(&left, inner + dark);
+    let least = first_home(free, idle, dark);
+    let first = least + spare;
     let homes = homes_of(alloc, first, inner, zero)?;
     let start = start_tags(alloc, &homes, &left, first + inner)?;
     let job = Job {
@@ -79,11 +82,20 @@ pub fn prepare(
     Ok(Prepared { job, left, homes })
 }
 
-fn first_home(free: u32, zero: bool) -> u32
-    requires { free < 2 ^ 32 - 1 }
-    ensures { result ≡ free + cond zero 1 0 }
+fn one_if(flag: bool) -> u32
+    ensures { result ≡ cond flag 1 0 }
 {
-    if zero { free + 1 } else { free }
+    if flag { 1 } else { 0 }
+}
+
+// How many lanes stand above the homes of inputs and loops: as many as must be free, less those homes that are, and `dark` at least.
+fn first_home(free: u32, idle: u32, dark: u32) -> u32
+    requires { free + dark < 2 ^ 32 }
+    ensures enough { free + dark ≤ result + idle }
+    ensures dark { dark ≤ result }
+    ensures most { result ≤ free + dark }
+{
+    (free + dark).saturating_sub(idle).max(dark)
 }
 
 // Whether constant 0 is used, or shown by a net.
@@ -144,6 +156,7 @@ fn place_with(alloc: Global, list: &CellList, loops: u32, spare: u32) -> Result<
     ensures lanes { IfOk result (λ r. r.program.lanes ≤ list.now.inputs + 2 * loop_count list.now + length list.now.outs + length list.now.cells + 2 + spare) }
     ensures empty { IfOk result (λ r. IsEmpty list.now → spare ≡ 0 → r.program.lanes ≡ 0) }
     ensures entries { IfOk result (λ r. AreAtEntries list.now r.program.lanes r.program.ins r.program.nets) }
+    ensures made { IfOk result (λ r. AreAtCells list.now r.program.instrs r.program.nets) }
 {
     let Prepared { job, left, homes } = prepare(alloc, list, loops, spare)?;
     let mut left = left;
@@ -182,6 +195,7 @@ pub fn place(alloc: Global, list: &CellList) -> Result<Program, PlaceError>
     ensures lanes { IfOk result (λ p. p.lanes ≤ list.now.inputs + 2 * loop_count list.now + length list.now.outs + length list.now.cells + 2 + max list.now.inputs (length list.now.outs)) }
     ensures empty { IfOk result (λ p. IsEmpty list.now → p.lanes ≡ 0) }
     ensures entries { IfOk result (λ p. AreAtEntries list.now p.lanes p.ins p.nets) }
+    ensures made { IfOk result (λ p. AreAtCells list.now p.instrs p.nets) }
 {
     let loops = count_loops(list);
     let mut best = place_with(alloc, list, loops, 0)?;

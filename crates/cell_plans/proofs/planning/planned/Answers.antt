@@ -2,7 +2,9 @@ use Rattle.std.proofs.Common.{rules, sym, subst, ◌+◌, ◌*◌, ◌≤◌, le
 use Rattle.cell_core.specs.Loops.{loop_count}
 use Rattle.latch_loops.specs.Closed.{least_size}
 use Rattle.cell_plans.specs.Counts.{instr_count}
+use Rattle.row_placer.specs.Entries.{AreAtEntries}
 use Rattle.cell_plans.proofs.Counted.{few_instrs}
+use Rattle.cell_plans.proofs.Exits.{at_exits, still_at_entries}
 use Rattle.cell_plans.proofs.planning.planned.Goals as goal
 
 pub returns : goal.returns
@@ -19,4 +21,8 @@ returns c =
       empty = search rules;
       instrs = subst (λ lanes. instr_count plan.columns ≤ (3 * length list.cells + length list.outs + 2 * loop_count list) * lanes) (sym closed.lanes) (omega (arith, few, c.in_ok-program.ensures.instrs));
       columns = search rules;
+      entries = subst (λ lanes. AreAtEntries list lanes plan.ins plan.nets) (sym closed.lanes) (subst (λ ins. AreAtEntries list program.lanes ins plan.nets) (sym closed.ins)
+          (still_at_entries list program.lanes program.ins program.instrs program.nets plan.nets closed.nets c.in_ok-program.ensures.entries));
+      exits = at_exits list (least_size program) program.instrs c.in_ok-columns.columns.items plan.columns program.nets plan.nets c.in_ok-columns.ensures.packed closed.padded
+          c.in_ok-program.ensures.entries.long closed.nets c.in_ok-program.ensures.made;
     }

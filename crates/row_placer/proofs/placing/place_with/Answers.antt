@@ -14,8 +14,8 @@ use Rattle.row_placer.proofs.Ports.{outs_apart}
 use Rattle.row_placer.proofs.Finish.{finish, nets_within, instr_count}
 use Rattle.row_placer.proofs.Prepared.{length-ports}
 use Rattle.row_placer.proofs.Sound.{sound}
-use Rattle.row_placer.specs.Entries.{AreAtEntries}
-use Rattle.row_placer.proofs.Entries.{at_entries}
+use Rattle.row_placer.specs.Entries.{AreAtEntries, AreAtCells}
+use Rattle.row_placer.proofs.Entries.{at_entries, at_cells}
 use Rattle.row_placer.proofs.placing.place_with.Goals as goal
 
 pub run-requires-clause-lanes : goal.run-requires-clause-lanes
@@ -118,3 +118,16 @@ returns-clause-entries c =
     subst (λ lanes. AreAtEntries list lanes c.of-2.result c.of-5.result) wide
     (subst (λ is. AreAtEntries list (length c.in_ok-job.field-0.job.start) is c.of-5.result) (sym ins)
     (at_entries list (length c.in_ok-job.field-0.job.start) (take list.inputs homes) homes L.made.items c.of-5.result r.homes_of (sound list).nets nets))
+
+pub returns-clause-made : goal.returns-clause-made
+returns-clause-made c =
+    let list = c.args.list.now in
+    let L = c.in_ok-lanes.lanes in
+    let le = c.in_ok-lanes.ensures in
+    let homes = c.in_ok-job.field-0.homes.items in
+    let r = c.in_ok-job.ensures in
+    let gates : L.job.now.gates ≡ map (gate_of list) list.cells = ap (λ (x : Job). x.gates) le.job ∙ r.job_of.gates in
+    let all : length L.made.items ≡ length list.cells = le.made ∙ ap length r.job_of.gates ∙ length-map list.cells (gate_of list) in
+    let nets = c.of-5.ensures ∙ c.in_ok-nets.ensures ∙ ap₂ (λ hs ms. map (net_place_of list hs ms) list.nets) c.deref.ensures.value c.deref-2.ensures.value in
+    subst (λ is. AreAtCells list is c.of-5.result) (sym c.of.ensures)
+    (at_cells list L.job.now L.instrs.items homes L.made.items c.of-5.result gates all L.made_at (sound list).nets nets)

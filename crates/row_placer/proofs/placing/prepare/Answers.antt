@@ -1,7 +1,7 @@
 use Rattle.std.proofs.Common.{◌≡◌, ◌≢◌, refl, sym, ◌∙◌, ap, ap₂, subst, ℕ, ◌+◌, ◌<◌, ◌≤◌, ◌++◌, cond, length, get_or, arith}
 use Rattle.std.specs.Prelude.{All, AllPairs}
 use Rattle.std.proofs.lemmas.List.{length-map}
-use Rattle.row_placer.specs.Uses.{uses_of, owed, AreCounted, ReadsBelow, AreKnown}
+use Rattle.row_placer.specs.Uses.{uses_of, owed, idle, AreCounted, ReadsBelow, AreKnown}
 use Rattle.row_placer.specs.Ready.{Ready}
 use Rattle.cell_core.specs.Loops.{loop_count}
 use Rattle.row_placer.specs.Numbers.{gate_of}
@@ -17,10 +17,9 @@ count_uses-requires-clause-gates c =
     let ports = c.in_ok-ports.ports.items in
     let base = list.inputs + c.args.loops + 1 in
     let at : base ≡ list.inputs + loop_count list + 1 = ap (λ n. list.inputs + n + 1) c.requires.loops in
-    let len : c.len.result ≡ length g = omega (arith, c.len.ensures, c.in_ok-gates.gates.ok.0) in
     let cells : length g ≡ length list.cells = ap length c.in_ok-gates.ensures ∙ length-map list.cells (gate_of list) in
     let known = gates_known list g base c.requires.sound c.in_ok-gates.ensures at in
-    subst (All (ReadsBelow (base + c.len.result))) (sym c.deref.ensures.value) (gates_below base (base + c.len.result) g known (ap (λ n. base + n) len))
+    subst (λ gs. All (ReadsBelow (base + length gs)) gs) (sym c.deref.ensures.value) (gates_below base (base + length g) g known refl)
 
 pub count_uses-requires-clause-ports : goal.count_uses-requires-clause-ports
 count_uses-requires-clause-ports c =
@@ -29,10 +28,10 @@ count_uses-requires-clause-ports c =
     let ports = c.in_ok-ports.ports.items in
     let base = list.inputs + c.args.loops + 1 in
     let at : base ≡ list.inputs + loop_count list + 1 = ap (λ n. list.inputs + n + 1) c.requires.loops in
-    let len : c.len.result ≡ length g = omega (arith, c.len.ensures, c.in_ok-gates.gates.ok.0) in
     let cells : length g ≡ length list.cells = ap length c.in_ok-gates.ensures ∙ length-map list.cells (gate_of list) in
     let known = gates_known list g base c.requires.sound c.in_ok-gates.ensures at in
-    subst (All (λ v. v < base + c.len.result)) (sym c.deref-2.ensures.value) (ports_below list ports (base + c.len.result) c.requires.sound c.in_ok-ports.ensures (omega (arith, at, len, cells)))
+    subst (λ gs. All (λ v. v < base + length gs) c.deref-2.result.now) (sym c.deref.ensures.value)
+    (subst (All (λ v. v < base + length g)) (sym c.deref-2.ensures.value) (ports_below list ports (base + length g) c.requires.sound c.in_ok-ports.ensures (omega (arith, at, cells))))
 
 pub start_tags-requires-clause-within : goal.start_tags-requires-clause-within
 start_tags-requires-clause-within c =
@@ -41,17 +40,16 @@ start_tags-requires-clause-within c =
     let ports = c.in_ok-ports.ports.items in
     let base = list.inputs + c.args.loops + 1 in
     let at : base ≡ list.inputs + loop_count list + 1 = ap (λ n. list.inputs + n + 1) c.requires.loops in
-    let len : c.len.result ≡ length g = omega (arith, c.len.ensures, c.in_ok-gates.gates.ok.0) in
     let cells : length g ≡ length list.cells = ap length c.in_ok-gates.ensures ∙ length-map list.cells (gate_of list) in
     let known = gates_known list g base c.requires.sound c.in_ok-gates.ensures at in
     let left = c.in_ok-left.left.items in
-    let wide : length left ≡ base + length g = omega (arith, c.in_ok-left.ensures.long, len) in
+    let wide : length left ≡ base + length g = c.in_ok-left.ensures.long ∙ ap (λ gs. base + length gs) c.deref.ensures.value in
     let dark = c.wants_zero-zero.result in
     let small = flag_small dark in
     let inner = list.inputs + c.args.loops in
-    let first = c.first_home-first.result in
+    let first = c.first_home-least.result + c.args.spare in
     let homes = c.in_ok-homes.homes.items in
-    let some = dark_first dark (c.in_ok-left.free + c.args.spare) first c.first_home-first.ensures in
+    let some = dark_first dark first (omega (arith, c.first_home-least.ensures.dark, c.one_if-dark.ensures)) in
     let s = sides first inner dark homes c.in_ok-homes.ensures in
     subst (All (λ lane. lane < first + inner)) (sym c.deref-3.ensures.value) (sides_within first inner (first + inner) dark homes s some refl)
 
@@ -62,17 +60,16 @@ start_tags-requires-clause-apart c =
     let ports = c.in_ok-ports.ports.items in
     let base = list.inputs + c.args.loops + 1 in
     let at : base ≡ list.inputs + loop_count list + 1 = ap (λ n. list.inputs + n + 1) c.requires.loops in
-    let len : c.len.result ≡ length g = omega (arith, c.len.ensures, c.in_ok-gates.gates.ok.0) in
     let cells : length g ≡ length list.cells = ap length c.in_ok-gates.ensures ∙ length-map list.cells (gate_of list) in
     let known = gates_known list g base c.requires.sound c.in_ok-gates.ensures at in
     let left = c.in_ok-left.left.items in
-    let wide : length left ≡ base + length g = omega (arith, c.in_ok-left.ensures.long, len) in
+    let wide : length left ≡ base + length g = c.in_ok-left.ensures.long ∙ ap (λ gs. base + length gs) c.deref.ensures.value in
     let dark = c.wants_zero-zero.result in
     let small = flag_small dark in
     let inner = list.inputs + c.args.loops in
-    let first = c.first_home-first.result in
+    let first = c.first_home-least.result + c.args.spare in
     let homes = c.in_ok-homes.homes.items in
-    let some = dark_first dark (c.in_ok-left.free + c.args.spare) first c.first_home-first.ensures in
+    let some = dark_first dark first (omega (arith, c.first_home-least.ensures.dark, c.one_if-dark.ensures)) in
     let s = sides first inner dark homes c.in_ok-homes.ensures in
     subst (AllPairs (λ a b. a ≢ b)) (sym c.deref-3.ensures.value) (sides_apart first inner dark homes s some)
 
@@ -83,17 +80,16 @@ start_tags-requires-clause-left c =
     let ports = c.in_ok-ports.ports.items in
     let base = list.inputs + c.args.loops + 1 in
     let at : base ≡ list.inputs + loop_count list + 1 = ap (λ n. list.inputs + n + 1) c.requires.loops in
-    let len : c.len.result ≡ length g = omega (arith, c.len.ensures, c.in_ok-gates.gates.ok.0) in
     let cells : length g ≡ length list.cells = ap length c.in_ok-gates.ensures ∙ length-map list.cells (gate_of list) in
     let known = gates_known list g base c.requires.sound c.in_ok-gates.ensures at in
     let left = c.in_ok-left.left.items in
-    let wide : length left ≡ base + length g = omega (arith, c.in_ok-left.ensures.long, len) in
+    let wide : length left ≡ base + length g = c.in_ok-left.ensures.long ∙ ap (λ gs. base + length gs) c.deref.ensures.value in
     let dark = c.wants_zero-zero.result in
     let small = flag_small dark in
     let inner = list.inputs + c.args.loops in
-    let first = c.first_home-first.result in
+    let first = c.first_home-least.result + c.args.spare in
     let homes = c.in_ok-homes.homes.items in
-    let some = dark_first dark (c.in_ok-left.free + c.args.spare) first c.first_home-first.ensures in
+    let some = dark_first dark first (omega (arith, c.first_home-least.ensures.dark, c.one_if-dark.ensures)) in
     let s = sides first inner dark homes c.in_ok-homes.ensures in
     omega (arith, ap length c.deref-3.ensures.value, ap length c.deref-4.ensures.value, s.long, small, wide)
 
@@ -104,17 +100,16 @@ start_tags-requires-clause-few c =
     let ports = c.in_ok-ports.ports.items in
     let base = list.inputs + c.args.loops + 1 in
     let at : base ≡ list.inputs + loop_count list + 1 = ap (λ n. list.inputs + n + 1) c.requires.loops in
-    let len : c.len.result ≡ length g = omega (arith, c.len.ensures, c.in_ok-gates.gates.ok.0) in
     let cells : length g ≡ length list.cells = ap length c.in_ok-gates.ensures ∙ length-map list.cells (gate_of list) in
     let known = gates_known list g base c.requires.sound c.in_ok-gates.ensures at in
     let left = c.in_ok-left.left.items in
-    let wide : length left ≡ base + length g = omega (arith, c.in_ok-left.ensures.long, len) in
+    let wide : length left ≡ base + length g = c.in_ok-left.ensures.long ∙ ap (λ gs. base + length gs) c.deref.ensures.value in
     let dark = c.wants_zero-zero.result in
     let small = flag_small dark in
     let inner = list.inputs + c.args.loops in
-    let first = c.first_home-first.result in
+    let first = c.first_home-least.result + c.args.spare in
     let homes = c.in_ok-homes.homes.items in
-    let some = dark_first dark (c.in_ok-left.free + c.args.spare) first c.first_home-first.ensures in
+    let some = dark_first dark first (omega (arith, c.first_home-least.ensures.dark, c.one_if-dark.ensures)) in
     let s = sides first inner dark homes c.in_ok-homes.ensures in
     omega (arith, ap length c.deref-3.ensures.value, s.long, small, at, c.requires.small)
 
@@ -125,7 +120,6 @@ invariant_of-job c =
     let ports = c.in_ok-ports.ports.items in
     let base = list.inputs + c.args.loops + 1 in
     let at : base ≡ list.inputs + loop_count list + 1 = ap (λ n. list.inputs + n + 1) c.requires.loops in
-    let len : c.len.result ≡ length g = omega (arith, c.len.ensures, c.in_ok-gates.gates.ok.0) in
     let cells : length g ≡ length list.cells = ap length c.in_ok-gates.ensures ∙ length-map list.cells (gate_of list) in
     let known = gates_known list g base c.requires.sound c.in_ok-gates.ensures at in
     record {
@@ -141,31 +135,32 @@ returns c =
     let ports = c.in_ok-ports.ports.items in
     let base = list.inputs + c.args.loops + 1 in
     let at : base ≡ list.inputs + loop_count list + 1 = ap (λ n. list.inputs + n + 1) c.requires.loops in
-    let len : c.len.result ≡ length g = omega (arith, c.len.ensures, c.in_ok-gates.gates.ok.0) in
     let cells : length g ≡ length list.cells = ap length c.in_ok-gates.ensures ∙ length-map list.cells (gate_of list) in
     let known = gates_known list g base c.requires.sound c.in_ok-gates.ensures at in
     let left = c.in_ok-left.left.items in
-    let wide : length left ≡ base + length g = omega (arith, c.in_ok-left.ensures.long, len) in
+    let wide : length left ≡ base + length g = c.in_ok-left.ensures.long ∙ ap (λ gs. base + length gs) c.deref.ensures.value in
     let dark = c.wants_zero-zero.result in
     let small = flag_small dark in
     let inner = list.inputs + c.args.loops in
-    let first = c.first_home-first.result in
+    let first = c.first_home-least.result + c.args.spare in
     let homes = c.in_ok-homes.homes.items in
-    let some = dark_first dark (c.in_ok-left.free + c.args.spare) first c.first_home-first.ensures in
+    let some = dark_first dark first (omega (arith, c.first_home-least.ensures.dark, c.one_if-dark.ensures)) in
     let s = sides first inner dark homes c.in_ok-homes.ensures in
     let start = c.in_ok-start.start.items in
     let is : IsStart homes left (first + inner) start = subst (λ hs. IsStart hs left (first + inner) start) c.deref-3.ensures.value (subst (λ l. IsStart c.deref-3.result.now l (first + inner) start) c.deref-4.ensures.value c.in_ok-start.ensures) in
     let counted : AreCounted left (uses_of g ++ ports) = subst (AreCounted left) (ap₂ (λ gs ps. uses_of gs ++ ps) c.deref.ensures.value c.deref-2.ensures.value) c.in_ok-left.ensures.left in
-    let owes : c.in_ok-left.free ≡ owed ports g = c.in_ok-left.ensures.owed ∙ ap₂ (λ gs ps. owed ps gs) c.deref.ensures.value c.deref-2.ensures.value in
+    let owes : c.in_ok-left.free ≡ owed ports base g = c.in_ok-left.ensures.owed ∙ ap₂ (λ gs ps. owed ps base gs) c.deref.ensures.value c.deref-2.ensures.value in
+    let idles : c.count_idle-idle.result ≡ idle left (length homes) = c.count_idle-idle.ensures ∙ ap (idle left) (ap (λ n. inner + n) c.one_if-dark.ensures ∙ sym s.long) in
     let few : c.in_ok-left.free ≤ length g + length ports + 1 = omega (arith, c.in_ok-left.ensures.few, ap length c.deref.ensures.value, ap length c.deref-2.ensures.value) in
-    let ready = start_ready g ports homes left inner (first + inner) (c.in_ok-left.free + c.args.spare) base dark start is (sides_within first inner (first + inner) dark homes s some refl) counted refl wide s.long c.wants_zero-zero.ensures.used (omega (arith, c.first_home-first.ensures)) (omega (arith, owes)) in
+    let ready = start_ready g ports homes left inner (first + inner) first base dark start is (sides_within first inner (first + inner) dark homes s some refl) counted refl wide s.long c.wants_zero-zero.ensures.used refl
+    (omega (arith, owes, idles, c.first_home-least.ensures.enough, c.one_if-dark.ensures)) in
     let inner_is : inner ≡ list.inputs + loop_count list = ap (λ n. list.inputs + n) c.requires.loops in
     let many : length ports ≡ loop_count list + length list.outs = length-ports list ports c.requires.sound c.in_ok-ports.ensures in
     record {
       job_of = record { base = at; gates = c.of.ensures ∙ c.in_ok-gates.ensures; ports = c.of-2.ensures ∙ c.in_ok-ports.ensures };
-      ready = subst (λ st. Ready (uses_of c.of.result ++ c.of-2.result) (base + 0) (owed c.of-2.result c.of.result) st left) (sym c.of-3.ensures)
-          (subst (λ ps. Ready (uses_of c.of.result ++ ps) (base + 0) (owed ps c.of.result) start left) (sym c.of-2.ensures)
-          (subst (λ gs. Ready (uses_of gs ++ ports) (base + 0) (owed ports gs) start left) (sym c.of.ensures) ready));
+      ready = subst (λ st. Ready (uses_of c.of.result ++ c.of-2.result) (base + 0) (owed c.of-2.result (base + 0) c.of.result) st left) (sym c.of-3.ensures)
+          (subst (λ ps. Ready (uses_of c.of.result ++ ps) (base + 0) (owed ps (base + 0) c.of.result) start left) (sym c.of-2.ensures)
+          (subst (λ gs. Ready (uses_of gs ++ ports) (base + 0) (owed ports (base + 0) gs) start left) (sym c.of.ensures) ready));
       counted = wide ∙ ap (λ n. base + n) (sym (ap length c.of.ensures));
       home = subst (AreAtHome homes) (sym c.of-3.ensures) is.home;
       homes_of = sides_homes list first (length c.of-3.result) dark homes (subst (λ n. AreSides first n dark homes) inner_is s) some (ap length c.of-3.ensures ∙ is.long ∙ ap (λ n. first + n) inner_is);
@@ -173,10 +168,10 @@ returns c =
       ports = subst (All (λ v. v < base + length c.of.result)) (sym c.of-2.ensures) (ports_below list ports (base + length c.of.result) c.requires.sound c.in_ok-ports.ensures (omega (arith, at, ap length c.of.ensures, cells)));
       room = omega (arith, ap length c.of-3.ensures, is.long, inner_is);
       below = subst (λ n. All (λ lane. lane < n) homes) (sym (ap length c.of-3.ensures ∙ is.long)) (sides_within first inner (first + inner) dark homes s some refl);
-      lanes = omega (arith, ap length c.of-3.ensures, is.long, c.first_home-first.ensures, small, few, cells, length-ports list ports c.requires.sound c.in_ok-ports.ensures, inner_is);
+      lanes = omega (arith, ap length c.of-3.ensures, is.long, c.first_home-least.ensures.most, c.one_if-dark.ensures, small, few, cells, length-ports list ports c.requires.sound c.in_ok-ports.ensures, inner_is);
       empty = λ (h : list.inputs + loop_count list + length list.cells + length list.outs + length list.nets ≡ 0) (e : c.args.spare ≡ 0).
-          (let used = nothing_used g ports (omega (arith, h, cells)) (omega (arith, h, many)) in
+          (let used = nothing_used base g ports (omega (arith, h, cells)) (omega (arith, h, many)) in
           let unused : get_or left inner 0 ≡ 0 = counted inner (omega (arith, wide)) ∙ used.1 inner in
           let off : cond {A = ℕ} dark 1 0 ≡ 0 = ap (λ b. cond {A = ℕ} b 1 0) (c.wants_zero-zero.ensures.none unused (omega (arith, h))) in
-          omega (arith, ap length c.of-3.ensures, is.long, c.first_home-first.ensures, off, owes, used.0, e, h, inner_is));
+          omega (arith, ap length c.of-3.ensures, is.long, c.first_home-least.ensures.most, c.one_if-dark.ensures, off, owes, used.0, e, h, inner_is));
     }

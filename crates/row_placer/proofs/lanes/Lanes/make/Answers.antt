@@ -1,5 +1,10 @@
-use Rattle.std.proofs.Common.{◌≡◌, sym, ◌∙◌, ap₂, subst, ◌+◌, length, set, arith}
-use Rattle.row_placer.specs.Told.{BothExchanged, tag, free_tag}
+use Rattle.std.proofs.Common.{◌≡◌, sym, ◌∙◌, ap, ap₂, subst, Bor, ◌+◌, ◌-◌, ◌++◌, ◌∷◌, [], length, get_or, set, arith}
+use Rattle.std.specs.Prelude.{slice_get, Some}
+use Rattle.std.proofs.lemmas.List.{length_push, get_or_default}
+use Rattle.lists.proofs.Appends.{slice_get_push}
+use Rattle.row_placer.specs.declared.job.Job.{Job}
+use Rattle.row_placer.specs.declared.job.NumberedCell.{NumberedCell}
+use Rattle.row_placer.specs.Told.{BothExchanged, tag, free_tag, gate_instr}
 use Rattle.row_placer.specs.declared.roles.Role.TheVariants.{Kept, First, Second}
 use Rattle.row_placer.proofs.Steps.{gate_exchanged}
 use Rattle.row_placer.proofs.lanes.Lanes.make.Goals as goal
@@ -13,3 +18,14 @@ returns-clause-exchanged c =
     let all : c.len.result ≡ length s.made.items = omega (arith, c.len.ensures, s.made.ok) in
     subst (λ tags. BothExchanged s.tags.items tags t u made free_tag) (sym (c.in_ok-note.ensures.tags ∙ c.in_ok-step.ensures.tags ∙ ap₂ (λ l n. set (set s.tags.items l (tag (s.job.now.base + n) Kept)) (l + 1) free_tag) c.instr_of-instr.ensures.lane all))
     (gate_exchanged s.tags.items c.args.lane t u made c.args.turned c.requires.lane c.requires.upper c.requires.lower)
+
+pub note-requires-clause-last : goal.note-requires-clause-last
+note-requires-clause-last c gate =
+    let s = c.args.self.now in
+    let instr = c.instr_of-instr.result in
+    let items : c.step.new.self.instrs.items ≡ s.instrs.items ++ instr ∷ [] = c.in_ok-step.ensures.instrs in
+    let last : length c.step.new.self.instrs.items - 1 ≡ length s.instrs.items = (let n = length_push s.instrs.items instr in omega (arith, n, ap length items)) in
+    let kind : (get_or s.job.now.gates (length s.made.items) gate).kind ≡ c.args.gate.kind =
+    ap (λ (q : NumberedCell). q.kind) (get_or_default s.job.now.gates (length s.made.items) gate c.args.gate c.requires.within ∙ c.requires.known) in
+    ap₂ (λ is n. slice_get is n) items last ∙ slice_get_push s.instrs.items instr ∙ ap Some c.instr_of-instr.ensures.value ∙ ap (λ k. Some (gate_instr k c.args.lane)) (sym kind)
+    ∙ ap₂ (λ (j : Bor Job) m. Some (gate_instr (get_or j.now.gates (length m) gate).kind c.args.lane)) (sym c.in_ok-step.ensures.job) (sym c.in_ok-step.ensures.made)

@@ -21,4 +21,5 @@ invariant_of-self c =
       told = subst (λ v. Told s.job.now (set s.tags.items c.args.lane (tag v c.args.role)) s.instrs.items) (sym value) (mark_told s.job.now s.tags.items s.instrs.items c.args.lane c.args.role c.requires.within c.requires.some s.told);
       places = subst (λ k. All (IsPlaceWithin k (length s.instrs.items)) s.made.items) (sym n) s.places;
       made_told = s.made_told;
+      made_at = s.made_at;
     }

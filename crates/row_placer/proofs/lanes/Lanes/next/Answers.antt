@@ -1,9 +1,11 @@
-use Rattle.std.proofs.Common.{sym, ◌∙◌, ap, ap₂, subst, Bor, ◌+◌, ◌-◌, length, get_or, arith}
+use Rattle.std.proofs.Common.{◌≡◌, sym, ◌∙◌, ap, ap₂, subst, Bor, ◌+◌, ◌-◌, ◌≤◌, length, get_or, cond, arith}
+use Rattle.std.specs.Prelude.{◌==◌}
 use Rattle.std.proofs.lemmas.List.{length-set}
 use Rattle.row_placer.specs.declared.job.Job.{Job}
-use Rattle.row_placer.specs.Told.{tag, free_tag, BothExchanged}
+use Rattle.row_placer.specs.Told.{count, tag, free_tag, Exchanged, BothExchanged}
 use Rattle.row_placer.specs.declared.roles.Role.TheVariants.{Kept, First, Second}
 use Rattle.row_placer.proofs.Gates.{begun, halfway, whole}
+use Rattle.row_placer.proofs.Uses.{result_there}
 use Rattle.row_placer.proofs.lanes.Lanes.next.Goals as goal
 
 pub use_value-requires-clause-has : goal.use_value-requires-clause-has
@@ -68,14 +70,30 @@ gate-requires-clause-known c =
     let mades = c.in_ok-use_value-2.ensures.made ∙ c.in_ok-use_value.ensures.made in
     ap₂ (λ (j : Bor Job) m. get_or j.now.gates (length m) gate) jobs mades ∙ b.known
 
+pub end-requires : goal.end-requires
+end-requires c =
+    let s = c.args.self.now in
+    let gate = c.get-gate.result.now in
+    let value : c.use_value-2.new.self.job.now.base + c.len-2.result ≡ c.use_value-2.new.self.job.now.base + length c.use_value-2.new.self.made.items = ap (λ n. c.use_value-2.new.self.job.now.base + n) (c.len-2.ensures ∙ c.use_value-2.new.self.made.ok.0) in
+    subst (λ n. 1 ≤ count n Kept c.gate.new.self.tags.items) (sym value)
+    (result_there (c.use_value-2.new.self.job.now.base + length c.use_value-2.new.self.made.items) gate.first gate.second c.use_value-2.new.self.tags.items c.gate.new.self.tags.items c.in_ok-gate.ensures.exchanged)
+
 pub returns-clause-ready : goal.returns-clause-ready
 returns-clause-ready c =
     let s = c.args.self.now in
     let gate = c.get-gate.result.now in
     let b = begun s.job.now s.made.items c.len.result s.made.len gate s.tags.items c.args.left.now c.len.ensures (sym s.made.ok.0) c.get-gate.ensures c.requires.within c.requires.ready in
     let h = halfway s.job.now (length s.made.items) gate s.tags.items c.use_value.new.self.tags.items c.args.left.now c.use_value.new.left b c.in_ok-use_value.ensures.exchanged c.in_ok-use_value.ensures.left in
-    whole s.job.now (length s.made.items) gate c.use_value.new.self.tags.items c.use_value-2.new.self.tags.items c.gate.new.self.tags.items c.use_value.new.left c.use_value-2.new.left b.second h
-    c.in_ok-use_value-2.ensures.exchanged c.in_ok-use_value-2.ensures.left
-    (subst (λ n. BothExchanged c.use_value-2.new.self.tags.items c.gate.new.self.tags.items (tag gate.first First) (tag gate.second Second) (tag n Kept) free_tag)
-    (ap₂ (λ (j : Bor Job) m. j.now.base + length m) (c.in_ok-use_value-2.ensures.job ∙ c.in_ok-use_value.ensures.job) (c.in_ok-use_value-2.ensures.made ∙ c.in_ok-use_value.ensures.made)) c.in_ok-gate.ensures.exchanged)
+    let jobs = c.in_ok-use_value-2.ensures.job ∙ c.in_ok-use_value.ensures.job in
+    let mades = c.in_ok-use_value-2.ensures.made ∙ c.in_ok-use_value.ensures.made in
+    let after = c.use_value-2.new.self in
+    let mine : after.job.now.base + length after.made.items ≡ s.job.now.base + length s.made.items = ap₂ (λ (j : Bor Job) m. j.now.base + length m) jobs mades in
+    let value : after.job.now.base + c.len-2.result ≡ s.job.now.base + length s.made.items = ap (λ n. after.job.now.base + n) (c.len-2.ensures ∙ after.made.ok.0) ∙ mine in
+    let end : Exchanged c.gate.new.self.tags.items c.end.new.self.tags.items
+    (cond (get_or c.use_value-2.new.left (s.job.now.base + length s.made.items) 0 == 0) (tag (s.job.now.base + length s.made.items) Kept) free_tag) free_tag =
+    subst (λ v. Exchanged c.gate.new.self.tags.items c.end.new.self.tags.items (cond (get_or c.use_value-2.new.left v 0 == 0) (tag v Kept) free_tag) free_tag) value c.end.ensures.exchanged in
+    whole s.job.now (length s.made.items) gate c.use_value.new.self.tags.items c.use_value-2.new.self.tags.items c.gate.new.self.tags.items c.end.new.self.tags.items
+    c.use_value.new.left c.use_value-2.new.left b.second h c.in_ok-use_value-2.ensures.exchanged c.in_ok-use_value-2.ensures.left
+    (subst (λ n. BothExchanged c.use_value-2.new.self.tags.items c.gate.new.self.tags.items (tag gate.first First) (tag gate.second Second) (tag n Kept) free_tag) mine c.in_ok-gate.ensures.exchanged)
+    end
     (omega (arith, c.requires.wide, c.requires.within, ap length c.in_ok-use_value.ensures.left, length-set c.args.left.now gate.first (get_or c.args.left.now gate.first 0 - 1)))

@@ -2,8 +2,8 @@ use Rattle.std.proofs.Common.{◌≡◌, sym, ◌∙◌, subst, ◌+◌, ◌<◌
 use Rattle.std.specs.Prelude.{All}
 use Rattle.lane_core.specs.Instrs.{IsOnLanes, lane_of}
 use Rattle.lane_core.specs.Places.{IsPlaceWithin}
-use Rattle.row_placer.specs.Told.{Told, MadeTold}
-use Rattle.row_placer.proofs.Steps.{length-two, step_told, step_made, step_places, step_on}
+use Rattle.row_placer.specs.Told.{Told, MadeTold, MadeAt}
+use Rattle.row_placer.proofs.Steps.{length-two, step_told, step_made, step_at, step_places, step_on}
 use Rattle.row_placer.proofs.lanes.Lanes.step.Goals as goal
 
 pub invariant_of-self : goal.invariant_of-self
@@ -18,6 +18,7 @@ invariant_of-self c =
       told = subst (Told s.job.now s.tags.items) (sym e) s.told;
       places = subst (λ is. All (IsPlaceWithin (length s.tags.items) (length is)) s.made.items) (sym e) s.places;
       made_told = subst (λ is. MadeTold s.job.now is s.made.items) (sym e) s.made_told;
+      made_at = subst (λ is. MadeAt s.job.now is s.made.items) (sym e) s.made_at;
     }
 
 pub invariant_of-self-2 : goal.invariant_of-self-2
@@ -37,4 +38,5 @@ invariant_of-self-2 c =
       told = subst (Told s.job.now tags) (sym e) (subst (λ k. Told s.job.now (set (set s.tags.items k c.args.upper) (k + 1) c.args.lower) (s.instrs.items ++ i ∷ [])) (sym same) (step_told s.job.now s.tags.items s.instrs.items i c.args.upper c.args.lower c.requires.within s.long c.requires.answers s.told));
       places = subst (λ is. All (IsPlaceWithin (length tags) (length is)) s.made.items) (sym e) (subst (λ k. All (IsPlaceWithin k (length (s.instrs.items ++ i ∷ []))) s.made.items) (sym n) (step_places (length s.tags.items) s.instrs.items i s.made.items s.places));
       made_told = subst (λ is. MadeTold s.job.now is s.made.items) (sym e) (step_made s.job.now (length s.tags.items) s.instrs.items i s.made.items s.places s.made_told);
+      made_at = subst (λ is. MadeAt s.job.now is s.made.items) (sym e) (step_at s.job.now s.instrs.items i s.made.items s.made_at);
     }
