@@ -28,7 +28,8 @@ pub fn put_pieces<O: Sink>(sink: &mut O, page: &mut Page, pieces: &[&[u8]]) -> R
 /// stands written. It takes no memory.
 pub fn write_pieces<O: Sink>(sink: &mut O, pieces: &[&[u8]]) -> Result<(), Failed>
     ensures ok { OnOk result (Appends (O.written sink.old) (O.written sink.new) (joined_pieces pieces.now)) }
-    ensures front { OnErr result ((n : ℕ) × Appends (O.written sink.old) (O.written sink.new) (take n (joined_pieces pieces.now))) }
+    ensures front { OnErr result
+        ((n : ℕ) × Appends (O.written sink.old) (O.written sink.new) (take n (joined_pieces pieces.now))) }
     ensures cause { HasCause (O.faults sink.old) (O.faults sink.new) result }
 {
     let mut page = Page::new();
