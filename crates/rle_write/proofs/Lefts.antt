@@ -1,5 +1,5 @@
 -- What is left to write, by pieces of a row and by the rows of a plan.
-use Rattle.std.proofs.Common.{◌≡◌, ℕ, ◌+◌, ◌≤◌, ◌<◌, pos, List, [], ◌∷◌, ◌++◌, map, drop, take, length, replicate, get_or, sym, ap, ◌∙◌, arith, drop_of_length-le, length-drop, length-take-le, take-append-drop}
+use Rattle.std.proofs.Common.{◌≡◌, ℕ, ◌+◌, ◌≤◌, ◌<◌, pos, List, [], ◌∷◌, ◌++◌, map, drop, take, length, replicate, sym, ap, ◌∙◌, arith, drop_of_length-le, length-drop, length-take-le, take-append-drop}
 use Rattle.std.proofs.lemmas.List.{ext_get_or, get_or-take, get_or-drop, drop-drop, drop_more, map-append}
 use Rattle.std.proofs.lemmas.List.FromFn.{length-map-range_with_len, get_or-map-range_with_len}
 use Rattle.ww_rule.specs.declared.pattern.State.{State}
