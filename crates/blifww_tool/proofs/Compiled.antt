@@ -24,11 +24,11 @@ use Rattle.blifww_tool.specs.Compilation.{Compiles}
 use Rattle.blifww_tool.specs.Refusals.{netlist_error}
 
 -- a text that gives no netlist
-pub netlist_refused : (text : List ℕ) (e : NetlistError) → HasNetlistCause text e → HasTextCause compile text (netlist_error e)
-netlist_refused text (netlist_of.Fault fault) h = h
-netlist_refused text (netlist_of.TooLarge weight) h = h
-netlist_refused text (netlist_of.Loop names) h = h
-netlist_refused text netlist_of.NoMemory h = tt
+pub compile_refused : (text : List ℕ) (e : NetlistError) → HasNetlistCause text e → HasTextCause compile text (netlist_error e)
+compile_refused text (netlist_of.Fault fault) h = h
+compile_refused text (netlist_of.TooLarge weight) h = h
+compile_refused text (netlist_of.Loop names) h = h
+compile_refused text netlist_of.NoMemory h = tt
 
 -- what a plan asks of the flat netlist
 pub sound : FlatIsSound → (design : Design) (flat : Flat) (order : List ℕ) → AreParts design flat order → IsSound flat

@@ -4,7 +4,7 @@ use Rattle.command_words.specs.Shapes.{CommandValues}
 use Rattle.blifww_tool.specs.Commands.{reads_text, Accepts, Prints, Refuses, MustRefuse}
 use Rattle.blifww_tool.specs.Refusals.{status_of, status_of_cause, refusal_line}
 use Rattle.blifww_tool.specs.Answer.{HasStopped}
-use Rattle.blifww_tool.specs.Run.{Asks, AsksNothing, Reading, Writing, Call, Gave, GaveIfRead, HasText, HoldsIfRead, Gained, GainedNothing, WriteFailed, text_limit, Does, RefusesText, GaveTooMany, HasReason, Tells, TellsCause, TellsLike, TellsOr7, IsDone, IsRefused, CutsLine, CutsOutput, IsCalm, Ends}
+use Rattle.blifww_tool.specs.Run.{Asks, AsksNothing, Reading, Writing, Call, Gave, GaveIfRead, HasText, HoldsIfRead, Gained, GainedNothing, WriteFailed, text_limit, Does, RefusesText, GaveTooMany, HasReason, TellsRefusal, TellsCause, TellsLike, TellsOr7, IsDone, IsRefused, CutsLine, CutsOutput, IsCalm, Ends}
 use Rattle.blifww_tool.proofs.Given.{gave_whole, no_more, one_command}
 use Rattle.blifww_tool.proofs.Decided.{printed_or_refused, accepted_or_refused, one_cause}
 use Rattle.blifww_tool.specs.declared.causes.Cause.{Cause}
@@ -75,8 +75,8 @@ why c command text NoMemory calm h = no_memory refl
 why c command text (Text cause) calm h =
     by_text cause refl (short_is c command h.command text h.text calm h.asked.asks h.given) (refused_of c command text cause calm h)
 
-told_as : (err : Writing) (status : ℕ) (r r' : Refusal) → r ≡ r' → Tells err status r → Tells err status r'
-told_as err status r r' e h = subst (λ (x : Refusal). Tells err status x) e h
+told_as : (err : Writing) (status : ℕ) (r r' : Refusal) → r ≡ r' → TellsRefusal err status r → TellsRefusal err status r'
+told_as err status r r' e h = subst (λ (x : Refusal). TellsRefusal err status x) e h
 
 -- a text is printed, or a cause is told
 answered : (c : Call) (status : ℕ) → Ending c status → (command : CommandValues) (text : List ℕ) → IsCalm c command text → length text ≤ text_limit

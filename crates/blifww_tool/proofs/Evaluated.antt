@@ -1,5 +1,5 @@
 -- What the parts of an evaluation give together.
-use Rattle.std.proofs.Common.{ℕ, ◌≡◌, ◌∙◌, sym, ap, List, length}
+use Rattle.std.proofs.Common.{ℕ, ◌≡◌, ◌∙◌, ap, List, length}
 use Rattle.std.proofs.lemmas.List.{length-map}
 use Rattle.netlist_core.specs.declared.model.Design.{Design}
 use Rattle.netlist_core.specs.declared.flat.Flat.{Flat}
@@ -19,11 +19,11 @@ use Rattle.blifww_tool.specs.Commands.{HasTextCause}
 use Rattle.blifww_tool.specs.Refusals.{netlist_error, streams_error}
 
 -- a text that gives no netlist,
-pub netlist_refused : (cycles : ℕ) (words : List (List ℕ)) (text : List ℕ) (e : NetlistError) → HasNetlistCause text e → HasTextCause (eval cycles words) text (netlist_error e)
-netlist_refused cycles words text (netlist_of.Fault fault) h = h
-netlist_refused cycles words text (netlist_of.TooLarge weight) h = h
-netlist_refused cycles words text (netlist_of.Loop names) h = h
-netlist_refused cycles words text netlist_of.NoMemory h = tt
+pub eval_refused : (cycles : ℕ) (words : List (List ℕ)) (text : List ℕ) (e : NetlistError) → HasNetlistCause text e → HasTextCause (eval cycles words) text (netlist_error e)
+eval_refused cycles words text (netlist_of.Fault fault) h = h
+eval_refused cycles words text (netlist_of.TooLarge weight) h = h
+eval_refused cycles words text (netlist_of.Loop names) h = h
+eval_refused cycles words text netlist_of.NoMemory h = tt
 
 -- and words that give no streams
 pub streams_refused : (cycles : ℕ) (words : List (List ℕ)) (text : List ℕ) (design : Design) (names : List Name) (e : StreamError) → IsNetlist text design → IsInNames design names

@@ -1,6 +1,6 @@
 -- A text and words give an evaluation, or are refused in one way.
 use Rattle.std.proofs.Common.{ℕ, ◌≡◌, refl, sym, ap, ◌∙◌, subst, List, []}
-use Rattle.std.specs.Prelude.{Some, slice_get}
+use Rattle.std.specs.Prelude.{slice_get}
 use Rattle.std.proofs.lemmas.Option.{none-some}
 use Rattle.netlist_core.specs.declared.model.Design.{Design}
 use Rattle.netlist_core.specs.Names.{Name}
@@ -8,7 +8,6 @@ use Rattle.netlist_rules.specs.declared.fault.Fault.{Fault}
 use Rattle.netlist_meaning.specs.Nets.{IsInNames}
 use Rattle.netlist_meaning.proofs.Joined.{in_names_are_one}
 use Rattle.netlist_text.specs.NetlistText.{IsNetlist, IsAtFault, IsTooHeavy, HasLoop}
-use Rattle.netlist_text.specs.Laws.{IsDecided}
 use Rattle.netlist_text.proofs.Decided.{texts_are_decided}
 use Rattle.drive.specs.declared.error.StreamFault.{StreamFault}
 use Rattle.drive.specs.Streams.{HasStreamFault}
@@ -17,6 +16,7 @@ use Rattle.blifww_tool.specs.Compilation.{HasNoNetlist}
 use Rattle.blifww_tool.specs.Evaluation.{Evaluation, IsEvaluation, HasNoEvaluation}
 use Rattle.blifww_tool.specs.declared.causes.Cause.{Cause}
 use Rattle.blifww_tool.specs.declared.causes.Cause.TheVariants.{NetlistFault, WeightTooLarge, Loop, Pattern, GridTooLarge, PortTable, Streams, NoSuchNet, TooFar}
+use Rattle.blifww_tool.proofs.SimulationOrNot.{same_stream_fault}
 
 -- a netlist with its IN names, as a text has them
 pub record IsRead (text : List ℕ) (design : Design) (names : List Name) : Type 0 where
@@ -63,9 +63,6 @@ not_refused cycles words text e r h (by_streams fault is design names read k) = 
 
 pub evaluates_or_not : (cycles : ℕ) (words : List (List ℕ)) (text : List ℕ) (e : Evaluation) (r : Cause) → IsEvaluation cycles words text e → HasNoEvaluation cycles words text r → ⊥
 evaluates_or_not cycles words text e r h k = not_refused cycles words text e r h (reason_of cycles words text r k)
-
-same_stream_fault : (a b : StreamFault) → Some a ≡ Some b → a ≡ b
-same_stream_fault a b e = cc
 
 alike : (r r' a b : Cause) → r ≡ a → r' ≡ b → AreAlike a b → AreAlike r r'
 alike r r' a b e f h = subst (λ (x : Cause). AreAlike x r') (sym e) (subst (AreAlike a) (sym f) h)

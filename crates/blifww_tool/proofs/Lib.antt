@@ -1,5 +1,4 @@
-pub mod JoinedPieces
-pub mod Fronts
+pub mod SameTexts
 pub mod Given
 pub mod Headline
 pub mod OutputLines

@@ -1,17 +1,14 @@
 -- What the parts of a simulation give together.
-use Rattle.std.proofs.Common.{ℕ, ◌<◌, sym, subst, List, [], ◌∷◌}
-use Rattle.std.specs.List.{AllByRecursion}
-use Rattle.std.proofs.lemmas.List.Elements.{All-from_recursion}
+use Rattle.std.proofs.Common.{ℕ, ◌<◌, sym, subst, List}
 use Rattle.ww_rule.specs.Grid.{AreInBox}
-use Rattle.pattern_reading.specs.declared.ports.PortLine.{PortLine}
 use Rattle.pattern_reading.specs.declared.ports.Ports.{Ports}
 use Rattle.pattern_reading.specs.PortTable.{ReadsAsPorts}
-use Rattle.pattern_reading.specs.Laws.{IsPortInside}
 use Rattle.pattern_reading.proofs.PortsInside.{ports_inside}
 use Rattle.pattern_reading.specs.Ports.{cells_of}
 use Rattle.drive.specs.declared.error.SimulateError.{SimulateError}
 use Rattle.drive.specs.declared.error.SimulateError.TheVariants as simulating
 use Rattle.drive.specs.Driving.{HasSimulateCause, greatest_generation}
+use Rattle.made_run.proofs.Read.{lines_in_box}
 use Rattle.command_words.specs.Shapes.{simulate}
 use Rattle.blifww_tool.specs.Commands.{HasTextCause}
 use Rattle.blifww_tool.specs.Refusals.{simulate_error}
@@ -21,15 +18,9 @@ use Rattle.blifww_tool.specs.declared.causes.Cause.TheVariants.{NetlistFault, We
 use Rattle.blifww_tool.specs.declared.causes.TextError.{TextError}
 use Rattle.blifww_tool.specs.declared.causes.TextError.TheVariants.{Refused, NoMemory}
 
-cells_inside : (width height : ℕ) (ports : List PortLine) → AllByRecursion (IsPortInside width height) ports
-    → AllByRecursion (λ (cell : ℕ × ℕ). (cell.0 < width) × (cell.1 < height)) (cells_of ports)
-cells_inside width height [] h = tt
-cells_inside width height (port ∷ ports) h = (h.0, cells_inside width height ports h.1)
-
 -- the inputs of a table lie in its box
 pub ins_in_box : (text : List ℕ) (width height : ℕ) (ports : Ports) → ReadsAsPorts text width height ports → AreInBox width height (cells_of ports.ins)
-ins_in_box text width height ports h =
-    All-from_recursion (λ (cell : ℕ × ℕ). (cell.0 < width) × (cell.1 < height)) (cells_of ports.ins) (cells_inside width height ports.ins (ports_inside text width height ports h).ins)
+ins_in_box text width height ports h = lines_in_box width height ports.ins (ports_inside text width height ports h).ins
 
 cause_of : (cycles : ℕ) (words : List (List ℕ)) (text : List ℕ) (cause : Cause) → HasNoStreams cycles words text cause → HasNoSimulation cycles words text cause
 cause_of cycles words text (NetlistFault f) h = h

@@ -87,7 +87,7 @@ rle_fault k l = record { kind = k; line = l }
 abbrev port_fault : PortFaultKind → ℕ → PortFault
 port_fault k l = record { kind = k; line = l }
 
-same_stream_fault : (a b : StreamFault) → Some a ≡ Some b → a ≡ b
+pub same_stream_fault : (a b : StreamFault) → Some a ≡ Some b → a ≡ b
 same_stream_fault a b e = cc
 
 -- a simulation is not refused

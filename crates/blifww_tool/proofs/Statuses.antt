@@ -1,13 +1,13 @@
 -- Each status of a run comes only where its cause is.
-use Rattle.std.proofs.Common.{ℕ, zero, suc, ◌≡◌, ◌≢◌, ◌⊎◌, refl, sym, ap, ◌∙◌, subst, List, inl, inr, arith}
+use Rattle.std.proofs.Common.{ℕ, zero, suc, ◌≡◌, ◌≢◌, ◌⊎◌, refl, sym, ◌∙◌, subst, List, inl, inr, arith}
 use Rattle.command_words.specs.Shapes.{CommandValues, compile, simulate, eval, probe, window, make, self_, IsCommand}
 use Rattle.netlist_core.specs.Names.{Name}
 use Rattle.netlist_rules.specs.declared.fault.Fault.{Fault}
 use Rattle.netlist_text.specs.NetlistText.{IsAtFault, IsTooHeavy, HasLoop}
 use Rattle.blifww_tool.specs.Commands.{Refuses}
 use Rattle.blifww_tool.specs.Refusals.{status_of, status_of_cause}
-use Rattle.blifww_tool.specs.Run.{Call, Reading, Asks, IsAsked, GaveTooMany, GaveAll, HasText, ReadFailed, WriteFailed, HasReason, IsRefused, CutsLine, CutsOutput, Ends}
-use Rattle.blifww_tool.specs.Statuses.{StatusesHaveCauses}
+use Rattle.blifww_tool.specs.Run.{Call, Reading, Asks, IsAsked, GaveTooMany, GaveAll, HasText, ReadFailed, WriteFailed, HasReason, RefusesText, IsRefused, CutsLine, CutsOutput, Ends}
+use Rattle.blifww_tool.specs.Statuses.{StatusesHaveCauses, IsOverALimit, HasNoPattern, WordsDoNotFit}
 use Rattle.blifww_tool.proofs.Given.{one_command}
 use Rattle.blifww_tool.specs.declared.causes.Cause.{Cause}
 use Rattle.blifww_tool.specs.declared.causes.Cause.TheVariants.{NetlistFault, WeightTooLarge, Loop, Pattern, GridTooLarge, PortTable, Streams, NoSuchNet, TooFar}
@@ -118,6 +118,63 @@ too_large words src (Text cause) h e asks =
     let heavy = too_heavy_by h.text cause e (subst (λ (v : CommandValues). Refuses v h.text cause) same h.refused) in
     inr (h.text, heavy.0, given, heavy.1)
 
+over_a_limit_by : (c : Call) (cause : Cause) → status_of_cause cause ≡ 4 → RefusesText c.words c.src cause → IsOverALimit c
+over_a_limit_by c (NetlistFault f) e h = absurd (omega (arith, e))
+over_a_limit_by c (WeightTooLarge w) e h = inr (inl (w, h))
+over_a_limit_by c (Loop names) e h = absurd (omega (arith, e))
+over_a_limit_by c (Pattern f) e h = absurd (omega (arith, e))
+over_a_limit_by c (GridTooLarge x y) e h = inr (inr (inl (x, y, h)))
+over_a_limit_by c (PortTable f) e h = absurd (omega (arith, e))
+over_a_limit_by c (Streams f) e h = absurd (omega (arith, e))
+over_a_limit_by c (NoSuchNet name) e h = absurd (omega (arith, e))
+over_a_limit_by c (TooFar n) e h = inr (inr (inr (n, h)))
+
+over_a_limit : (c : Call) (r : Refusal) → HasReason c.words c.src r → status_of r ≡ 4 → IsOverALimit c
+over_a_limit c Usage h e = absurd (omega (arith, e))
+over_a_limit c TooLong h e = inl h
+over_a_limit c ReadFault h e = absurd (omega (arith, e))
+over_a_limit c WriteFault h e = absurd h
+over_a_limit c NoMemory h e = absurd (omega (arith, e))
+over_a_limit c (Text cause) h e = over_a_limit_by c cause e h
+
+no_pattern_by : (c : Call) (cause : Cause) → status_of_cause cause ≡ 8 → RefusesText c.words c.src cause → HasNoPattern c
+no_pattern_by c (NetlistFault f) e h = absurd (omega (arith, e))
+no_pattern_by c (WeightTooLarge w) e h = absurd (omega (arith, e))
+no_pattern_by c (Loop names) e h = absurd (omega (arith, e))
+no_pattern_by c (Pattern f) e h = inl (f, h)
+no_pattern_by c (GridTooLarge x y) e h = absurd (omega (arith, e))
+no_pattern_by c (PortTable f) e h = inr (f, h)
+no_pattern_by c (Streams f) e h = absurd (omega (arith, e))
+no_pattern_by c (NoSuchNet name) e h = absurd (omega (arith, e))
+no_pattern_by c (TooFar n) e h = absurd (omega (arith, e))
+
+no_pattern : (c : Call) (r : Refusal) → HasReason c.words c.src r → status_of r ≡ 8 → HasNoPattern c
+no_pattern c Usage h e = absurd (omega (arith, e))
+no_pattern c TooLong h e = absurd (omega (arith, e))
+no_pattern c ReadFault h e = absurd (omega (arith, e))
+no_pattern c WriteFault h e = absurd h
+no_pattern c NoMemory h e = absurd (omega (arith, e))
+no_pattern c (Text cause) h e = no_pattern_by c cause e h
+
+misfit_by : (c : Call) (cause : Cause) → status_of_cause cause ≡ 9 → RefusesText c.words c.src cause → WordsDoNotFit c
+misfit_by c (NetlistFault f) e h = absurd (omega (arith, e))
+misfit_by c (WeightTooLarge w) e h = absurd (omega (arith, e))
+misfit_by c (Loop names) e h = absurd (omega (arith, e))
+misfit_by c (Pattern f) e h = absurd (omega (arith, e))
+misfit_by c (GridTooLarge x y) e h = absurd (omega (arith, e))
+misfit_by c (PortTable f) e h = absurd (omega (arith, e))
+misfit_by c (Streams f) e h = inl (f, h)
+misfit_by c (NoSuchNet name) e h = inr (name, h)
+misfit_by c (TooFar n) e h = absurd (omega (arith, e))
+
+misfit : (c : Call) (r : Refusal) → HasReason c.words c.src r → status_of r ≡ 9 → WordsDoNotFit c
+misfit c Usage h e = absurd (omega (arith, e))
+misfit c TooLong h e = absurd (omega (arith, e))
+misfit c ReadFault h e = absurd (omega (arith, e))
+misfit c WriteFault h e = absurd h
+misfit c NoMemory h e = absurd (omega (arith, e))
+misfit c (Text cause) h e = misfit_by c cause e h
+
 read_fault : (words : List (List ℕ)) (src : Reading) (r : Refusal) → HasReason words src r → status_of r ≡ 5 → ReadFailed src
 read_fault words src Usage h e = cc
 read_fault words src TooLong h e = cc
@@ -174,6 +231,9 @@ statuses_have_causes c status h = record {
   at_fault = λ e. at_fault_of c (refused c status 1 h (λ z. cc) (λ z. cc) e);
   a_loop = λ e. a_loop_of c (refused c status 3 h (λ z. cc) (λ z. cc) e);
   too_large = λ e. too_large_of c (refused c status 4 h (λ z. cc) (λ z. cc) e);
+  over_a_limit = λ e. let r = refused c status 4 h (λ z. cc) (λ z. cc) e in over_a_limit c r.refusal r.reason r.status_is;
   read_fault = λ e. read_fault_of c (refused c status 5 h (λ z. cc) (λ z. cc) e);
   write_fault = λ e. write_fault c (h.cut e);
+  no_pattern = λ e. let r = refused c status 8 h (λ z. cc) (λ z. cc) e in no_pattern c r.refusal r.reason r.status_is;
+  misfit = λ e. let r = refused c status 9 h (λ z. cc) (λ z. cc) e in misfit c r.refusal r.reason r.status_is;
 }

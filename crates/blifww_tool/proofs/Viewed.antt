@@ -1,5 +1,5 @@
 -- How many bits a stream word has.
-use Rattle.std.proofs.Common.{ℕ, ◌≡◌, ◌≤◌, ◌-◌, refl, sym, ap, subst, Bool, true, false, not, cond, List, length, arith, reverse, nat_lt}
+use Rattle.std.proofs.Common.{ℕ, ◌≡◌, ◌≤◌, ◌-◌, refl, sym, subst, Bool, true, false, not, cond, List, length, arith, reverse, nat_lt}
 use Rattle.std.specs.Prelude.{Some, None, unwrap_or}
 use Rattle.std.specs.List.{position, position_or_len}
 use Rattle.std.proofs.lemmas.Bool.{ltb-false}

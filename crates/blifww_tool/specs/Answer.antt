@@ -15,9 +15,9 @@ output_text (Lines text) = text
 output_text (Drawing planned) = pattern_text (start_grid planned.plan) planned.ports
 
 -- it can be written: a plan is admissible
-abbrev pub IsWritable : Output → Type 0
-IsWritable (Lines text) = ⊤
-IsWritable (Drawing planned) = IsAdmissible planned.plan
+abbrev pub IsWritableOutput : Output → Type 0
+IsWritableOutput (Lines text) = ⊤
+IsWritableOutput (Drawing planned) = IsAdmissible planned.plan
 
 -- out was cut off, or gained nothing where there is another reason
 abbrev pub HasStopped : List (List ℕ) → Reading → Writing → Refusal → Type 0

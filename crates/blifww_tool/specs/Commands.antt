@@ -14,7 +14,7 @@ use Rattle.blifww_tool.specs.Lines.{bits_line}
 use Rattle.blifww_tool.specs.Compilation.{Compiles, HasNoNetlist}
 use Rattle.blifww_tool.specs.Simulation.{Simulation, IsSimulation, Simulates, simulation_text, HasNoStreams, HasNoSimulation}
 use Rattle.blifww_tool.specs.Probing.{Probes, HasNoProbe}
-use Rattle.blifww_tool.specs.Viewing.{cycles_in, Shows}
+use Rattle.blifww_tool.specs.Viewing.{cycles_in, ShowsPart}
 use Rattle.blifww_tool.specs.Evaluation.{Evaluation, IsEvaluation, Evaluates, HasNoEvaluation}
 use Rattle.blifww_tool.specs.Summary.{TellsSummary}
 use Rattle.blifww_tool.specs.declared.causes.Cause.{Cause}
@@ -51,7 +51,7 @@ Prints compile text output = Compiles text output
 Prints (simulate cycles words) text output = (s : Simulation) × Simulates cycles words text s × (output ≡ simulation_text s)
 Prints (eval cycles words) text output = Evaluates cycles words text output
 Prints (probe cycles net path words) text output = (bits : List Bool) × Probes cycles net path words text bits × (output ≡ bits_line net bits)
-Prints (window view words) text output = Shows view words text output
+Prints (window view words) text output = ShowsPart view words text output
 Prints (make seed size) text output = output ≡ made_text seed size
 Prints (self_ seed size cycles) text output = TellsSummary seed size cycles output
 

@@ -20,7 +20,8 @@ use Rattle.blifww_tool.specs.declared.causes.Cause.TheVariants.{NetlistFault, We
 
 -- The text is a netlist, and the output is the written text of an admissible plan and its table that carries the design and its nets. The
 -- plan computes the cells of the design's flat netlist: so it has a loop for each latch, and exactly where constant 1 is named one more. It is
--- small, by the design's weight, and has no lane and no column exactly where there is no net but clock nets; where there is no latch and no cover needs constant 1 the period is 32.
+-- small, by the design's weight, and has no lane and no column exactly where there is no net but clock nets; where there is no latch and
+-- no cover needs constant 1 the period is 32.
 pub record Compiles (text output : List ℕ) : Type 0 where
   pub design : Design
   pub netlist : IsNetlist text design

@@ -11,4 +11,5 @@ use Rattle.blifww_tool.specs.Run.{Reading, Writing}
 abbrev pub WritesWhatItRead : Reading → Writing → Type 0
 WritesWhatItRead src out =
     (text before : List ℕ) → src.left ≡ Some text → out.written ≡ Some before
-    → (pattern : List ℕ) × (out.written_after ≡ Some (before ++ pattern)) × (design : Design) × IsDesignOf text design × Carries pattern design × CarriesNets pattern design
+    → (pattern : List ℕ) × (out.written_after ≡ Some (before ++ pattern))
+    × (design : Design) × IsDesignOf text design × Carries pattern design × CarriesNets pattern design

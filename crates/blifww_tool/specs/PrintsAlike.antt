@@ -10,10 +10,12 @@ use Rattle.blifww_tool.specs.Commands.{Prints}
 abbrev pub CarriersPrintAlike : Type 0
 CarriersPrintAlike =
     (text netlist : List ℕ) (design : Design) → IsNetlist netlist design → Carries text design
-    → (cycles : ℕ) (words : List (List ℕ)) (shown evaluated : List ℕ) → Prints (simulate cycles words) text shown → Prints (eval cycles words) netlist evaluated → shown ≡ evaluated
+    → (cycles : ℕ) (words : List (List ℕ)) (shown evaluated : List ℕ)
+    → Prints (simulate cycles words) text shown → Prints (eval cycles words) netlist evaluated → shown ≡ evaluated
 
 -- and so of what `compile` writes of the netlist
 abbrev pub CompiledPrintAlike : Type 0
 CompiledPrintAlike =
     (text netlist : List ℕ) → Prints compile netlist text
-    → (cycles : ℕ) (words : List (List ℕ)) (shown evaluated : List ℕ) → Prints (simulate cycles words) text shown → Prints (eval cycles words) netlist evaluated → shown ≡ evaluated
+    → (cycles : ℕ) (words : List (List ℕ)) (shown evaluated : List ℕ)
+    → Prints (simulate cycles words) text shown → Prints (eval cycles words) netlist evaluated → shown ≡ evaluated

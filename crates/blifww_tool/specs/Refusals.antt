@@ -3,6 +3,7 @@ use Rattle.std.specs.Prelude.{ℕ, List, ◌++◌, flat_map, codes, decimal}
 use Rattle.netlist_core.specs.Names.{Name}
 use Rattle.netlist_rules.specs.declared.fault.Fault.{Fault}
 use Rattle.netlist_rules.specs.FaultNames.{number_of, name_of}
+use Rattle.netlist_flatten.specs.Limit.{weight_limit}
 use Rattle.netlist_text.specs.declared.error.NetlistError.{NetlistError}
 use Rattle.netlist_text.specs.declared.error.NetlistError.TheVariants as netlist_of
 use Rattle.pattern_reading.specs.declared.faults.RleFaultKind.{RleFaultKind}
@@ -108,7 +109,7 @@ loop_line names = codes "loop:" ++ (spaced names ++ codes "\n")
 -- the one line that tells such a cause
 abbrev pub cause_line : Cause → List ℕ
 cause_line (NetlistFault fault) = netlist_line fault
-cause_line (WeightTooLarge weight) = codes "too large: weight " ++ (decimal weight ++ codes " limit 1024\n")
+cause_line (WeightTooLarge weight) = codes "too large: weight " ++ (decimal weight ++ (codes " limit " ++ (decimal weight_limit ++ codes "\n")))
 cause_line (Loop names) = loop_line names
 cause_line (Pattern fault) = fault_line (rle_fault_name fault.kind) fault.line
 cause_line (GridTooLarge width height) = codes "too large: grid " ++ (decimal width ++ (codes " by " ++ (decimal height ++ codes "\n")))
@@ -177,6 +178,6 @@ probe_error name (probing.TooFar generations) = text.Refused (TooFar generations
 probe_error name probing.NoMemory = text.NoMemory
 
 -- or a made netlist is not
-abbrev pub summary_error : SummaryError → TextError
-summary_error (summarizing.TooFar generations) = text.Refused (TooFar generations)
-summary_error summarizing.NoMemory = text.NoMemory
+abbrev pub summarizing_error : SummaryError → TextError
+summarizing_error (summarizing.TooFar generations) = text.Refused (TooFar generations)
+summarizing_error summarizing.NoMemory = text.NoMemory

@@ -146,7 +146,7 @@ HasReason words src NoMemory = ⊤
 HasReason words src (Text cause) = RefusesText words src cause
 
 -- the status and the errors tell this refusal
-pub record Tells (err : Writing) (status : ℕ) (refusal : Refusal) : Type 0 where
+pub record TellsRefusal (err : Writing) (status : ℕ) (refusal : Refusal) : Type 0 where
   pub status_is : status ≡ status_of refusal
   pub line : Gained err (refusal_line refusal)
 
@@ -160,7 +160,7 @@ pub record IsRefused (c : Call) (status : ℕ) : Type 0 where
   pub refusal : Refusal
   pub reason : HasReason c.words c.src refusal
   pub nothing : GainedNothing c.out
-  pub told : Tells c.err status refusal
+  pub told : TellsRefusal c.err status refusal
 
 -- a refusal's line was cut off, and out gained nothing
 pub record CutsLine (c : Call) : Type 0 where
@@ -195,18 +195,18 @@ pub record IsCalm (c : Call) (command : CommandValues) (text : List ℕ) : Type 
 pub record TellsCause (c : Call) (status : ℕ) (command : CommandValues) (text : List ℕ) : Type 0 where
   pub told : Cause
   pub refused : Refuses command text told
-  pub tells : Tells c.err status (Text told)
+  pub tells : TellsRefusal c.err status (Text told)
 
 -- a cause like this one is told, and it is one why the command refuses the text
 pub record TellsLike (c : Call) (status : ℕ) (command : CommandValues) (text : List ℕ) (cause : Cause) : Type 0 where
   pub told : Cause
   pub refused : Refuses command text told
   pub alike : AreAlike told cause
-  pub tells : Tells c.err status (Text told)
+  pub tells : TellsRefusal c.err status (Text told)
 
 -- the refusal is told, but for want of memory
 abbrev pub TellsOr7 : Call → ℕ → Refusal → Type 0
-TellsOr7 c status refusal = Tells c.err status refusal ⊎ (status ≡ 7)
+TellsOr7 c status refusal = TellsRefusal c.err status refusal ⊎ (status ≡ 7)
 
 -- How a run ends. By its status it is done, refused or cut off;
 pub record Ends (c : Call) (status : ℕ) : Type 0 where
@@ -214,10 +214,15 @@ pub record Ends (c : Call) (status : ℕ) : Type 0 where
   pub refused : status ≢ 0 → status ≢ 6 → IsRefused c status
   pub cut : status ≡ 6 → CutsLine c ⊎ CutsOutput c
   pub front : (given : List ℕ) × Gave c.src given
-  -- and but for failed reads and writes and want of memory: of a text the output is printed or a cause is told; one that the command accepts is printed, one that it must refuse is refused for its cause or one like it,
-  pub answered : (command : CommandValues) (text : List ℕ) → IsCalm c command text → length text ≤ text_limit → (status ≡ 0) ⊎ (TellsCause c status command text ⊎ (status ≡ 7))
-  pub accepted : (command : CommandValues) (text : List ℕ) → IsCalm c command text → length text ≤ text_limit → Accepts command text → (status ≡ 0) ⊎ (status ≡ 7)
-  pub caused : (command : CommandValues) (text : List ℕ) → IsCalm c command text → length text ≤ text_limit → (cause : Cause) → MustRefuse command text cause → TellsLike c status command text cause ⊎ (status ≡ 7)
+  -- and but for failed reads and writes and want of memory: of a text the output is printed or a cause is told; one that the command
+  -- accepts is printed, one that it must refuse is refused for its cause or one like it,
+  pub answered : (command : CommandValues) (text : List ℕ) → IsCalm c command text → length text ≤ text_limit
+      → (status ≡ 0) ⊎ (TellsCause c status command text ⊎ (status ≡ 7))
+  pub accepted : (command : CommandValues) (text : List ℕ) → IsCalm c command text → length text ≤ text_limit → Accepts command text
+      → (status ≡ 0) ⊎ (status ≡ 7)
+  pub caused : (command : CommandValues) (text : List ℕ) → IsCalm c command text → length text ≤ text_limit
+      → (cause : Cause) → MustRefuse command text cause → TellsLike c status command text cause ⊎ (status ≡ 7)
   -- one that is too long is told so, and words that ask for nothing are
-  pub too_long : (command : CommandValues) (text : List ℕ) → IsCalm c command text → text_limit < length text → TellsOr7 c status TooLong
+  pub too_long : (command : CommandValues) (text : List ℕ) → IsCalm c command text → text_limit < length text
+      → TellsOr7 c status TooLong
   pub nothing_asked : AsksNothing c.words → TellsOr7 c status Usage ⊎ ((status ≡ 6) × WriteFailed c.err × GainedNothing c.out)

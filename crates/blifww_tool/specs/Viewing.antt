@@ -13,7 +13,8 @@ cycles_in [] = 0
 cycles_in (word ∷ words) = length (bits_in word)
 
 -- The text and the words are a simulation, and these are the lines of that part of its plane at that generation.
-pub record Shows (view : View) (words : List (List ℕ)) (text output : List ℕ) : Type 0 where
+pub record ShowsPart (view : View) (words : List (List ℕ)) (text output : List ℕ) : Type 0 where
   pub simulation : Simulation
   pub is : IsSimulation (cycles_in words) words text simulation
-  pub lines : output ≡ window_text (driven_by simulation.ports simulation.streams (plane_of simulation.grid.rows) view.generation) view.x view.y view.width view.height
+  pub lines : output ≡ window_text (driven_by simulation.ports simulation.streams (plane_of simulation.grid.rows) view.generation)
+      view.x view.y view.width view.height

@@ -185,9 +185,9 @@ impl From<MakeError> for TextError {
 }
 
 impl From<SummaryError> for TextError {
-    ghost use Rattle.blifww_tool.specs.Refusals.{summary_error};
+    ghost use Rattle.blifww_tool.specs.Refusals.{summarizing_error};
 
-    ghost from_gives = { λ e r. r ≡ summary_error e };
+    ghost from_gives = { λ e r. r ≡ summarizing_error e };
 
     fn from(error: SummaryError) -> Self {
         match error {

@@ -1,7 +1,7 @@
 // `compile`: the pattern of a netlist.
 ghost use Rattle.std.specs.Prelude.{IfOk, IfErr};
 ghost use Rattle.command_words.specs.Shapes.{compile};
-ghost use Rattle.blifww_tool.specs.Answer.{output_text, IsWritable};
+ghost use Rattle.blifww_tool.specs.Answer.{output_text, IsWritableOutput};
 ghost use Rattle.blifww_tool.specs.Commands.{Prints, HasTextCause};
 
 use crate::causes::TextError;
@@ -14,7 +14,7 @@ use std::alloc::Global;
 /// The pattern of the netlist whose text this is, with the lines that say where its ports and nets are.
 pub fn compile(alloc: Global, text: &[u8]) -> Result<Output, TextError>
     ensures printed { IfOk result (λ output. Prints compile text.now (output_text output)) }
-    ensures writable { IfOk result IsWritable }
+    ensures writable { IfOk result IsWritableOutput }
     ensures refused { IfErr result (λ e. HasTextCause compile text.now e) }
 {
     let netlist = netlist_of(alloc, text)?;

@@ -1,7 +1,7 @@
 // `eval`: the bits of a netlist's outputs, as lines.
 ghost use Rattle.std.specs.Prelude.{map, string_bytes, IfOk, IfErr};
 ghost use Rattle.command_words.specs.Shapes.{eval};
-ghost use Rattle.blifww_tool.specs.Answer.{output_text, IsWritable};
+ghost use Rattle.blifww_tool.specs.Answer.{output_text, IsWritableOutput};
 ghost use Rattle.blifww_tool.specs.Commands.{Prints, HasTextCause};
 
 use crate::causes::TextError;
@@ -19,8 +19,9 @@ pub fn eval(
     words: &[String],
     text: &[u8],
 ) -> Result<Output, TextError>
-    ensures printed { IfOk result (λ output. Prints (eval cycles (map string_bytes words.now)) text.now (output_text output)) }
-    ensures writable { IfOk result IsWritable }
+    ensures printed { IfOk result (λ output.
+        Prints (eval cycles (map string_bytes words.now)) text.now (output_text output)) }
+    ensures writable { IfOk result IsWritableOutput }
     ensures refused { IfErr result (λ e. HasTextCause (eval cycles (map string_bytes words.now)) text.now e) }
 {
     let netlist = netlist_of(alloc, text)?;

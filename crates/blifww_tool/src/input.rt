@@ -32,7 +32,8 @@ pub fn text_for<S: Source>(
     command: &Command,
     src: &mut S,
 ) -> Result<Bytes, ReadAllError>
-    ensures given { IfOk result (λ text. HasText (values_of command.now) (reading S.left S.faults src.old src.new) text) }
+    ensures given { IfOk result (λ text.
+        HasText (values_of command.now) (reading S.left S.faults src.old src.new) text) }
     ensures read { OnErr result (reads_text (values_of command.now) ≡ true) }
     ensures fault { IsErrOf result ReadAllError.ReadFault → ReadFailed (reading S.left S.faults src.old src.new) }
     ensures too_long { IsErrOf result ReadAllError.TooLong →

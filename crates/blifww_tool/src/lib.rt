@@ -23,12 +23,4 @@ mod window;
 pub use top::run;
 
 #[cfg(test)]
-mod compile_tests;
-#[cfg(test)]
-mod eval_tests;
-#[cfg(test)]
-mod failure_tests;
-#[cfg(test)]
-mod hierarchy_tests;
-#[cfg(test)]
 mod tests;

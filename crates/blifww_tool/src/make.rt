@@ -2,7 +2,7 @@
 ghost use Rattle.std.specs.Prelude.{◌≡◌, IfOk, IfErr};
 ghost use Rattle.made_netlists.specs.Text.{made_text};
 ghost use Rattle.command_words.specs.Shapes.{make, HasNumbersInRange};
-ghost use Rattle.blifww_tool.specs.Answer.{output_text, IsWritable};
+ghost use Rattle.blifww_tool.specs.Answer.{output_text, IsWritableOutput};
 ghost use Rattle.blifww_tool.specs.declared.causes.TextError.TheVariants.{NoMemory};
 
 use crate::causes::TextError;
@@ -13,7 +13,7 @@ use std::alloc::Global;
 pub fn make(alloc: Global, seed: u32, size: u32) -> Result<Output, TextError>
     requires numbers { HasNumbersInRange (make seed size) }
     ensures printed { IfOk result (λ output. output_text output ≡ made_text seed size) }
-    ensures writable { IfOk result IsWritable }
+    ensures writable { IfOk result IsWritableOutput }
     ensures refused { IfErr result (λ e. e ≡ NoMemory) }
 {
     let made = made_netlists::make(alloc, seed, size)?;

@@ -1,7 +1,7 @@
 // `probe`: the bits that a net of a pattern shows, as a line.
 ghost use Rattle.std.specs.Prelude.{◌≡◌, ◌<◌, ◌⊎◌, map, string_bytes, IfOk, IfErr};
 ghost use Rattle.command_words.specs.Shapes.{probe};
-ghost use Rattle.blifww_tool.specs.Answer.{output_text, IsWritable};
+ghost use Rattle.blifww_tool.specs.Answer.{output_text, IsWritableOutput};
 ghost use Rattle.blifww_tool.specs.Commands.{Prints, HasTextCause};
 ghost use Rattle.blifww_tool.specs.Refusals.{probe_error};
 
@@ -37,9 +37,11 @@ pub fn probe(
     text: &[u8],
 ) -> Result<Output, TextError>
     requires some_cycle { 0 < cycles }
-    ensures printed { IfOk result (λ output. Prints (probe cycles name.now path.now (map string_bytes words.now)) text.now (output_text output)) }
-    ensures writable { IfOk result IsWritable }
-    ensures refused { IfErr result (λ e. HasTextCause (probe cycles name.now path.now (map string_bytes words.now)) text.now e) }
+    ensures printed { IfOk result (λ output.
+        Prints (probe cycles name.now path.now (map string_bytes words.now)) text.now (output_text output)) }
+    ensures writable { IfOk result IsWritableOutput }
+    ensures refused { IfErr result (λ e.
+        HasTextCause (probe cycles name.now path.now (map string_bytes words.now)) text.now e) }
 {
     let driven = driven_by(alloc, cycles, words, text)?;
     match probe_view::probe(

@@ -1,7 +1,7 @@
 // `simulate`: the bits that a pattern's outputs show, as lines.
 ghost use Rattle.std.specs.Prelude.{◌<◌, map, string_bytes, IfOk, IfErr};
 ghost use Rattle.command_words.specs.Shapes.{simulate};
-ghost use Rattle.blifww_tool.specs.Answer.{output_text, IsWritable};
+ghost use Rattle.blifww_tool.specs.Answer.{output_text, IsWritableOutput};
 ghost use Rattle.blifww_tool.specs.Commands.{Prints, HasTextCause};
 
 use crate::causes::TextError;
@@ -18,8 +18,9 @@ pub fn simulate(
     text: &[u8],
 ) -> Result<Output, TextError>
     requires some_cycle { 0 < cycles }
-    ensures printed { IfOk result (λ output. Prints (simulate cycles (map string_bytes words.now)) text.now (output_text output)) }
-    ensures writable { IfOk result IsWritable }
+    ensures printed { IfOk result (λ output.
+        Prints (simulate cycles (map string_bytes words.now)) text.now (output_text output)) }
+    ensures writable { IfOk result IsWritableOutput }
     ensures refused { IfErr result (λ e. HasTextCause (simulate cycles (map string_bytes words.now)) text.now e) }
 {
     let driven = driven_by(alloc, cycles, words, text)?;

@@ -1,7 +1,7 @@
 // `self`: what is told of a netlist that is made from a seed, as lines.
 ghost use Rattle.std.specs.Prelude.{◌≡◌, ◌++◌, List, ℕ, IfOk, IfErr, OnOk, flat_map};
 ghost use Rattle.command_words.specs.Shapes.{self_, HasNumbersInRange};
-ghost use Rattle.blifww_tool.specs.Answer.{output_text, IsWritable};
+ghost use Rattle.blifww_tool.specs.Answer.{output_text, IsWritableOutput};
 ghost use Rattle.blifww_tool.specs.Commands.{HasTextCause};
 ghost use Rattle.blifww_tool.specs.Summary.{number_line, output_lines, summary_text, TellsSummary};
 
@@ -58,7 +58,7 @@ fn summary_lines(alloc: Global, summary: &Summary) -> Result<Bytes, AllocError>
 pub fn summary(alloc: Global, seed: u32, size: u32, cycles: usize) -> Result<Output, TextError>
     requires numbers { HasNumbersInRange (self_ seed size cycles) }
     ensures printed { IfOk result (λ output. TellsSummary seed size cycles (output_text output)) }
-    ensures writable { IfOk result IsWritable }
+    ensures writable { IfOk result IsWritableOutput }
     ensures refused { IfErr result (λ e. (text : List ℕ) → HasTextCause (self_ seed size cycles) text e) }
 {
     let summary = summarize(alloc, seed, size, cycles)?;

@@ -1,6 +1,12 @@
 // Runs over sources and sinks in memory.
 ghost use Rattle.std.specs.Prelude.{◌≤◌};
 
+mod compile_tests;
+mod eval_tests;
+mod failure_tests;
+mod hierarchy_tests;
+mod weight_tests;
+
 use crate::run;
 use std::alloc::Global;
 use std::test::Fail;
@@ -8,24 +14,24 @@ use ww_base::{MemSink, MemSource};
 
 const COMPILE: &[&str] = &["blifww", "compile"];
 
-pub const GATE: &[u8] = b".model or\n.inputs a b\n.outputs y\n.names a b y\n1- 1\n-1 1\n.end\n";
+const GATE: &[u8] = b".model or\n.inputs a b\n.outputs y\n.names a b y\n1- 1\n-1 1\n.end\n";
 
 // What is written for it: 317 bytes.
-pub const PATTERN: &[u8] =
+const PATTERN: &[u8] =
     b"#C BLIFWW 1 P 32 L 32\n#C BLIFWW IN 0 8 a\n#C BLIFWW IN 0 24 b\n#C BLIFWW OUT 32 8 y\n#C BLIFWW NET 0 8 0 a -\n#C BLIFWW NET 0 24 0 b -\n#C BLIFWW NET 31 8 31 y -\nx = 33, y = 32, rule = WireWorld\n8$5C18.10C$5.C16.C$6.C14.C$7.C12.C$8.C10.C$9.C.2C5.C$10.2C.C3.C$11.2C.\nC.C$15.C$11.2C.C$10.2C.C$9.C.2C$8.C$7.C$6.C$5.C$5C26.C!\n";
 
 const USAGE: &[u8] = b"usage: blifww compile|simulate|eval|probe|window|make|self\n";
 
-/// The status, and what `out` and `err` hold.
+// The status, and what `out` and `err` hold.
 #[derive(Drop)]
-pub struct Outcome {
-    pub status: u8,
-    pub out: Vec<u8>,
-    pub err: Vec<u8>,
+struct Outcome {
+    status: u8,
+    out: Vec<u8>,
+    err: Vec<u8>,
 }
 
-/// A run over a source in memory, by its chunk and the calls that fail, and sinks with some room.
-pub fn run_over(
+// A run over a source in memory, by its chunk and the calls that fail, and sinks with some room.
+fn run_over(
     alloc: Global,
     words: &[&str],
     text: &[u8],

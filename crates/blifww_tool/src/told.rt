@@ -1,8 +1,9 @@
-// The lines that tell refusals. They are written piece by piece, and take no memory.
-ghost use Rattle.std.specs.Prelude.{◌≡◌, ℕ, take, OnOk, OnErr};
+// The lines that tell refusals. Each is gathered on a page, and written at once where it is no longer than one. They take no memory.
+ghost use Rattle.std.specs.Prelude.{◌≡◌, ℕ, List, ◌++◌, take, OnOk, OnErr};
 ghost use Rattle.std.specs.Io.KnownBytes.{Appends};
 ghost use Rattle.ww_base.specs.Faults.{HasCause};
-ghost use Rattle.blifww_tool.specs.Joined.{joined_pieces};
+ghost use Rattle.port_writing.specs.Pages.{held};
+ghost use Rattle.port_writing.specs.Progress.{Wrote, Broke};
 ghost use Rattle.blifww_tool.specs.Refusals.{rle_fault_name, port_fault_name, stream_fault_name, fault_line, stream_line, fault_text, netlist_line, spaced, loop_line, cause_line, refusal_line};
 
 use crate::causes::Cause;
@@ -11,23 +12,10 @@ use blif_text::Fault;
 use drive::StreamFaultKind;
 use itoa::Buffer;
 use lists::Bytes;
+use netlist_flatten::WEIGHT_LIMIT;
 use pattern_reading::{PortFaultKind, RleFaultKind};
+use port_writing::{Page, write_pieces};
 use ww_base::{Failed, Sink, write_all};
-
-// Writes the pieces, one after the other, or a front of them where a write fails.
-fn write_pieces<O: Sink>(sink: &mut O, pieces: &[&[u8]]) -> Result<(), Failed>
-    ensures ok { OnOk result (Appends (O.written sink.old) (O.written sink.new) (joined_pieces pieces.now)) }
-    ensures front { OnErr result ((n : ℕ) × Appends (O.written sink.old) (O.written sink.new) (take n (joined_pieces pieces.now))) }
-    ensures cause { HasCause (O.faults sink.old) (O.faults sink.new) result }
-{
-    match pieces {
-        [] => Ok(()),
-        [first, rest @ ..] => {
-            write_all(sink, first)?;
-            write_pieces(sink, rest)
-        }
-    }
-}
 
 // A fault of a pattern's text as it is printed.
 fn rle_fault_name(kind: RleFaultKind) -> &'static [u8]
@@ -73,7 +61,8 @@ fn stream_fault_name(kind: StreamFaultKind) -> &'static [u8]
 // Tells a fault and its line.
 fn tell_fault<E: Sink>(err: &mut E, name: &[u8], line: u64) -> Result<(), Failed>
     ensures ok { OnOk result (Appends (E.written err.old) (E.written err.new) (fault_line name.now line)) }
-    ensures front { OnErr result ((n : ℕ) × Appends (E.written err.old) (E.written err.new) (take n (fault_line name.now line))) }
+    ensures front { OnErr result
+        ((n : ℕ) × Appends (E.written err.old) (E.written err.new) (take n (fault_line name.now line))) }
     ensures cause { HasCause (E.faults err.old) (E.faults err.new) result }
 {
     let mut digits = Buffer::new();
@@ -85,8 +74,11 @@ fn tell_fault<E: Sink>(err: &mut E, name: &[u8], line: u64) -> Result<(), Failed
 
 // Tells the box that has too many cells.
 fn tell_grid<E: Sink>(err: &mut E, width: u64, height: u64) -> Result<(), Failed>
-    ensures ok { OnOk result (Appends (E.written err.old) (E.written err.new) (cause_line (Cause.GridTooLarge width height))) }
-    ensures front { OnErr result ((n : ℕ) × Appends (E.written err.old) (E.written err.new) (take n (cause_line (Cause.GridTooLarge width height)))) }
+    ensures ok { OnOk result
+        (Appends (E.written err.old) (E.written err.new) (cause_line (Cause.GridTooLarge width height))) }
+    ensures front { OnErr result
+        ((n : ℕ) × Appends (E.written err.old) (E.written err.new)
+        (take n (cause_line (Cause.GridTooLarge width height)))) }
     ensures cause { HasCause (E.faults err.old) (E.faults err.new) result }
 {
     let mut columns = Buffer::new();
@@ -98,8 +90,10 @@ fn tell_grid<E: Sink>(err: &mut E, width: u64, height: u64) -> Result<(), Failed
 
 // Tells how many generations are too many.
 fn tell_generations<E: Sink>(err: &mut E, generations: u128) -> Result<(), Failed>
-    ensures ok { OnOk result (Appends (E.written err.old) (E.written err.new) (cause_line (Cause.TooFar generations))) }
-    ensures front { OnErr result ((n : ℕ) × Appends (E.written err.old) (E.written err.new) (take n (cause_line (Cause.TooFar generations)))) }
+    ensures ok { OnOk result
+        (Appends (E.written err.old) (E.written err.new) (cause_line (Cause.TooFar generations))) }
+    ensures front { OnErr result
+        ((n : ℕ) × Appends (E.written err.old) (E.written err.new) (take n (cause_line (Cause.TooFar generations)))) }
     ensures cause { HasCause (E.faults err.old) (E.faults err.new) result }
 {
     let mut digits = Buffer::new();
@@ -110,7 +104,8 @@ fn tell_generations<E: Sink>(err: &mut E, generations: u128) -> Result<(), Faile
 // Tells a fault of streams, and the word at fault.
 fn tell_streams<'a, E: Sink>(err: &mut E, name: &'a [u8], word: &'a [u8]) -> Result<(), Failed>
     ensures ok { OnOk result (Appends (E.written err.old) (E.written err.new) (stream_line name.now word.now)) }
-    ensures front { OnErr result ((n : ℕ) × Appends (E.written err.old) (E.written err.new) (take n (stream_line name.now word.now))) }
+    ensures front { OnErr result
+        ((n : ℕ) × Appends (E.written err.old) (E.written err.new) (take n (stream_line name.now word.now))) }
     ensures cause { HasCause (E.faults err.old) (E.faults err.new) result }
 {
     write_pieces(err, &[b"stream: ", name, b" ", word, b"\n"])
@@ -124,8 +119,11 @@ fn write_fault<'a, E: Sink>(
     line: &'a [u8],
     word: &'a [u8],
 ) -> Result<(), Failed>
-    ensures ok { OnOk result (Appends (E.written err.old) (E.written err.new) (fault_text number.now name.now line.now word.now)) }
-    ensures front { OnErr result ((n : ℕ) × Appends (E.written err.old) (E.written err.new) (take n (fault_text number.now name.now line.now word.now))) }
+    ensures ok { OnOk result
+        (Appends (E.written err.old) (E.written err.new) (fault_text number.now name.now line.now word.now)) }
+    ensures front { OnErr result
+        ((n : ℕ) × Appends (E.written err.old) (E.written err.new)
+        (take n (fault_text number.now name.now line.now word.now))) }
     ensures cause { HasCause (E.faults err.old) (E.faults err.new) result }
 {
     write_pieces(
@@ -139,7 +137,8 @@ fn write_fault<'a, E: Sink>(
 // Tells a fault of a netlist's text.
 fn tell_netlist_fault<E: Sink>(err: &mut E, fault: &Fault) -> Result<(), Failed>
     ensures ok { OnOk result (Appends (E.written err.old) (E.written err.new) (netlist_line fault.now)) }
-    ensures front { OnErr result ((n : ℕ) × Appends (E.written err.old) (E.written err.new) (take n (netlist_line fault.now))) }
+    ensures front { OnErr result
+        ((n : ℕ) × Appends (E.written err.old) (E.written err.new) (take n (netlist_line fault.now))) }
     ensures cause { HasCause (E.faults err.old) (E.faults err.new) result }
 {
     let mut digits = Buffer::new();
@@ -152,23 +151,35 @@ fn tell_netlist_fault<E: Sink>(err: &mut E, fault: &Fault) -> Result<(), Failed>
 
 // Tells that a netlist weighs too much.
 fn tell_weight<E: Sink>(err: &mut E, weight: u64) -> Result<(), Failed>
-    ensures ok { OnOk result (Appends (E.written err.old) (E.written err.new) (cause_line (Cause.WeightTooLarge weight))) }
-    ensures front { OnErr result ((n : ℕ) × Appends (E.written err.old) (E.written err.new) (take n (cause_line (Cause.WeightTooLarge weight)))) }
+    ensures ok { OnOk result
+        (Appends (E.written err.old) (E.written err.new) (cause_line (Cause.WeightTooLarge weight))) }
+    ensures front { OnErr result
+        ((n : ℕ) × Appends (E.written err.old) (E.written err.new)
+        (take n (cause_line (Cause.WeightTooLarge weight)))) }
     ensures cause { HasCause (E.faults err.old) (E.faults err.new) result }
 {
     let mut digits = Buffer::new();
+    let mut limits = Buffer::new();
     let count = digits.format(weight).as_bytes();
-    write_pieces(err, &[b"too large: weight ", count, b" limit 1024\n"])
+    let limit = limits.format(WEIGHT_LIMIT).as_bytes();
+    write_pieces(
+        err,
+        &[b"too large: weight ", count, b" limit ", limit, b"\n"],
+    )
 }
 
-// Writes each name after a blank.
-fn write_spaced<E: Sink>(err: &mut E, names: &[Bytes]) -> Result<(), Failed>
-    ensures ok { OnOk result (Appends (E.written err.old) (E.written err.new) (spaced names.now)) }
-    ensures front { OnErr result ((n : ℕ) × Appends (E.written err.old) (E.written err.new) (take n (spaced names.now))) }
-    ensures cause { HasCause (E.faults err.old) (E.faults err.new) result }
+// Puts each name on a page, after a blank.
+fn put_spaced<E: Sink>(err: &mut E, page: &mut Page, names: &[Bytes]) -> Result<(), Failed>
+    ensures ok { OnOk result ((rest : List ℕ) →
+        Wrote (E.written err.old) (E.written err.new) (E.faults err.old) (E.faults err.new)
+        (held page.old ++ (spaced names.now ++ rest)) (held page.new ++ rest)) }
+    ensures err { OnErr result ((rest : List ℕ) →
+        Broke (E.written err.old) (E.written err.new) (E.faults err.old) (E.faults err.new)
+        (held page.old ++ (spaced names.now ++ rest))) }
 {
     for name in names {
-        write_pieces(err, &[b" ", name.as_slice()])?;
+        page.put(err, b" ")?;
+        page.put(err, name.as_slice())?;
     }
     Ok(())
 }
@@ -176,19 +187,23 @@ fn write_spaced<E: Sink>(err: &mut E, names: &[Bytes]) -> Result<(), Failed>
 // Tells a loop by the names of its nets.
 fn tell_loop<E: Sink>(err: &mut E, names: &[Bytes]) -> Result<(), Failed>
     ensures ok { OnOk result (Appends (E.written err.old) (E.written err.new) (loop_line names.now)) }
-    ensures front { OnErr result ((n : ℕ) × Appends (E.written err.old) (E.written err.new) (take n (loop_line names.now))) }
+    ensures front { OnErr result
+        ((n : ℕ) × Appends (E.written err.old) (E.written err.new) (take n (loop_line names.now))) }
     ensures cause { HasCause (E.faults err.old) (E.faults err.new) result }
 {
-    write_all(err, b"loop:")?;
-    write_spaced(err, names)?;
-    write_all(err, b"\n")
+    let mut page = Page::new();
+    page.put(err, b"loop:")?;
+    put_spaced(err, &mut page, names)?;
+    page.put(err, b"\n")?;
+    page.flush(err)
 }
 
 impl Cause {
     // Writes the one line that tells the cause, or a front of it where a write fails.
     fn tell<E: Sink>(&self, err: &mut E) -> Result<(), Failed>
         ensures ok { OnOk result (Appends (E.written err.old) (E.written err.new) (cause_line self.now)) }
-        ensures front { OnErr result ((n : ℕ) × Appends (E.written err.old) (E.written err.new) (take n (cause_line self.now))) }
+        ensures front { OnErr result
+            ((n : ℕ) × Appends (E.written err.old) (E.written err.new) (take n (cause_line self.now))) }
         ensures cause { HasCause (E.faults err.old) (E.faults err.new) result }
     {
         match self {
@@ -211,7 +226,8 @@ impl Refusal {
     /// Writes the one line that tells the refusal, or a front of it where a write fails.
     pub fn tell<E: Sink>(&self, err: &mut E) -> Result<(), Failed>
         ensures ok { OnOk result (Appends (E.written err.old) (E.written err.new) (refusal_line self.now)) }
-        ensures front { OnErr result ((n : ℕ) × Appends (E.written err.old) (E.written err.new) (take n (refusal_line self.now))) }
+        ensures front { OnErr result
+            ((n : ℕ) × Appends (E.written err.old) (E.written err.new) (take n (refusal_line self.now))) }
         ensures cause { HasCause (E.faults err.old) (E.faults err.new) result }
     {
         match self {

@@ -3,7 +3,7 @@ ghost use Rattle.std.specs.Prelude.{◌≡◌, ℕ, List, map, string_bytes, IfO
 ghost use Rattle.command_words.specs.Shapes.{compile, values_of, HasNumbersInRange};
 ghost use Rattle.blifww_tool.specs.Headline.{WritesWhatItRead};
 ghost use Rattle.blifww_tool.specs.Commands.{Prints, HasTextCause};
-ghost use Rattle.blifww_tool.specs.Answer.{output_text, IsWritable, HasStopped};
+ghost use Rattle.blifww_tool.specs.Answer.{output_text, IsWritableOutput, HasStopped};
 ghost use Rattle.blifww_tool.specs.Run.{Asks, AsksForNoText, reading, writing, call, Gave, Does, Ends};
 
 use crate::causes::TextError;
@@ -25,7 +25,7 @@ use ww_base::{Failed, Sink, Source};
 fn answer(alloc: Global, command: &Command, text: &[u8]) -> Result<Output, TextError>
     requires numbers { HasNumbersInRange (values_of command.now) }
     ensures printed { IfOk result (λ output. Prints (values_of command.now) text.now (output_text output)) }
-    ensures writable { IfOk result IsWritable }
+    ensures writable { IfOk result IsWritableOutput }
     ensures refused { IfErr result (λ e. HasTextCause (values_of command.now) text.now e) }
 {
     match command {

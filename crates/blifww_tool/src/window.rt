@@ -2,7 +2,7 @@
 ghost use Rattle.std.specs.Prelude.{◌≡◌, map, string_bytes, length, position, reverse, IfOk, IfErr};
 ghost use Rattle.drive.specs.Words.{bits_in, is_equals_sign};
 ghost use Rattle.command_words.specs.Shapes.{window};
-ghost use Rattle.blifww_tool.specs.Answer.{output_text, IsWritable};
+ghost use Rattle.blifww_tool.specs.Answer.{output_text, IsWritableOutput};
 ghost use Rattle.blifww_tool.specs.Commands.{Prints, HasTextCause};
 ghost use Rattle.blifww_tool.specs.Viewing.{cycles_in};
 
@@ -39,8 +39,9 @@ fn cycles_in(words: &[String]) -> usize
 /// The lines of a part of the plane that the text's pattern has come to, where the words are the streams of the inputs. There are as many
 /// cycles as the first word has bits.
 pub fn window(alloc: Global, view: View, words: &[String], text: &[u8]) -> Result<Output, TextError>
-    ensures printed { IfOk result (λ output. Prints (window view (map string_bytes words.now)) text.now (output_text output)) }
-    ensures writable { IfOk result IsWritable }
+    ensures printed { IfOk result (λ output.
+        Prints (window view (map string_bytes words.now)) text.now (output_text output)) }
+    ensures writable { IfOk result IsWritableOutput }
     ensures refused { IfErr result (λ e. HasTextCause (window view (map string_bytes words.now)) text.now e) }
 {
     let driven = driven_by(alloc, cycles_in(words), words, text)?;

@@ -1,9 +1,10 @@
 -- After the name of a command the words are its own.
-use Rattle.std.proofs.Common.{◌≡◌, ◌∙◌, Bool, List, [], ◌∷◌, ◌++◌, ◌&&◌, ◌||◌, refl, codes, true, false, not, Some, Option, ap, ap₂, option_map, is_some, rules}
+use Rattle.std.proofs.Common.{◌≡◌, ◌∙◌, Bool, List, [], ◌∷◌, ◌++◌, ◌&&◌, ◌||◌, refl, sym, codes, true, false, not, Some, Option, ap, ap₂, option_map, is_some}
 use Rattle.std.specs.Prelude.{fold, find}
 use Rattle.std.specs.Option.{option_map_or}
 use Rattle.std.specs.Str.{bytes_eq}
-use Rattle.std.proofs.lemmas.List.{append_assoc}
+use Rattle.std.proofs.lemmas.List.{append_assoc, append-nil}
+use Rattle.std.proofs.Math.Bool.{and-true, or-true}
 use Rattle.clap.specs.Takes.{takes, built_takes, entered_passes, level_passes, walk_passes, turn_passes, settle_passes, is_valid, other_passes, step_passes}
 use Rattle.clap.specs.Simple.{App, Shape, entered, label_of, names_of, rows_at, subcommand_of}
 use Rattle.clap.specs.Walk.{Held, Names, Step, Text, Walk, answers_to, walked, walk_from, nothing_held, idle, subcommand, rows_after, after_step, subcommand_or_other, stop_after, finished, word_met}
@@ -21,26 +22,15 @@ pub record IsNamed (command : Text) (s : Shape) : Type 0 where
 abbrev met_named : Text → List Text → Walk
 met_named command words = record { held = nothing_held; waiting = idle; position = 1; is_trailing = false; stopped = Some (command, words) }
 
-append_none : (ws : List Text) → ws ≡ ws ++ []
-append_none ws = search rules
-
 passed_on : (command : Text) (ws vs : List Text) → fold (walked [] names) (met_named command ws) vs ≡ met_named command (ws ++ vs)
 unfolding walked
-passed_on command ws [] = ap (met_named command) (append_none ws)
+passed_on command ws [] = ap (met_named command) (sym (append-nil ws))
 passed_on command ws (v ∷ vs) = passed_on command (ws ++ v ∷ []) vs ∙ ap (met_named command) (append_assoc ws (v ∷ []) vs)
 
 passed_pass : (command : Text) (ws vs : List Text) → walk_passes top names (met_named command ws) vs ≡ true
 unfolding walk_passes walked
 passed_pass command ws [] = refl
 passed_pass command ws (v ∷ vs) = passed_pass command (ws ++ v ∷ []) vs
-
-and_true : (b : Bool) → (b && true) ≡ b
-and_true true = refl
-and_true false = refl
-
-or_true : (b : Bool) → (b || true) ≡ true
-or_true true = refl
-or_true false = refl
 
 module _ (command : Text) (s : Shape) (is : IsNamed command s) where
   name_met : word_met [] names false idle 1 command nothing_held ≡ (nothing_held, subcommand command)
@@ -53,7 +43,7 @@ module _ (command : Text) (s : Shape) (is : IsNamed command s) where
   name_passes : turn_passes top names (walk_from nothing_held) command ≡ true
   name_passes =
       ap₂ (λ (a b : Bool). a && b)
-      (ap (λ (o : Option (Text × List Text)). other_passes top (option_map (λ p. p.0) o) command nothing_held) is.named ∙ or_true (not (bytes_eq command (codes "help"))))
+      (ap (λ (o : Option (Text × List Text)). other_passes top (option_map (λ p. p.0) o) command nothing_held) is.named ∙ or-true (not (bytes_eq command (codes "help"))))
       (ap (λ (m : Held × Step). step_passes top 1 m.0 m.1) name_met)
 
   all_walked : (rest : List Text) → fold (walked [] names) (walk_from nothing_held) (command ∷ rest) ≡ met_named command rest
@@ -80,4 +70,4 @@ module _ (command : Text) (s : Shape) (is : IsNamed command s) where
       ∙ ap (λ (w : Walk). entered_passes built_app w.stopped && (walk_passes top names (walk_from nothing_held) (command ∷ rest)
       && (settle_passes [] false w.held && is_valid top (finished [] w.held) (is_some (entered built_app w.stopped))))) (all_walked rest)
       ∙ ap₂ (λ (t : Bool) (o : Option Shape). passes o && (t && ends o rest)) (all_pass rest) is.shape
-      ∙ and_true (level_passes s [] nothing_held rest false)
+      ∙ and-true (level_passes s [] nothing_held rest false)

@@ -8,8 +8,8 @@ use Rattle.clap.specs.Simple.{App, Shape, entered, is_simple, label_of, names_of
 use Rattle.clap.specs.Takes.{built_takes, entered_passes, level_passes, settle_passes, takes, walk_passes}
 use Rattle.clap.specs.Walk.{Row, Rule, Text, answers_to, first_of, nothing_held, rows_after, stop_after, walk, walk_from}
 use Rattle.command_words.specs.App.{blifww_app}
-use Rattle.command_words.specs.Numbers.{NumberRange, number_in, cycles_range, generation_range, x_range, y_range, width_range, height_range, seed_range, size_range}
-use Rattle.command_words.specs.Shapes.{CommandValues, IsCommand, MeetsRanges, command_values, number_met, simulate, eval, driven_by, probe_by, window_by, make_by, self_by, values_met}
+use Rattle.command_words.specs.Numbers.{NumberRange, number_taken, cycles_range, generation_range, x_range, y_range, width_range, height_range, seed_range, size_range}
+use Rattle.command_words.specs.Shapes.{CommandValues, IsCommand, MeetsRanges, command_values, number_met, simulate, eval, simulate_or_eval_by, probe_by, window_by, make_by, self_by, values_met}
 use Rattle.command_words.proofs.Entered.{names}
 use Rattle.command_words.proofs.Given.{AreGiven, IsOwn, required_given}
 use Rattle.command_words.proofs.Rules.{app_built, built_app, leaf, option_rule, words_rule, driven_rules, probe_rules, window_rules, make_rules, self_rules, shapes, top}
@@ -86,7 +86,7 @@ self_own = (own_option (codes "seed") true, (own_option (codes "size") true, (ow
 -- ---- values
 
 -- a text that an option has, in its range, gives a number
-number_given : (range : NumberRange) (o : Option Text) → is_some o ≡ true → IfSome o (λ text. is_some (number_in range text) ≡ true) → is_some (option_and_then (number_in range) o) ≡ true
+number_given : (range : NumberRange) (o : Option Text) → is_some o ≡ true → IfSome o (λ text. is_some (number_taken range text) ≡ true) → is_some (option_and_then (number_taken range) o) ≡ true
 number_given range None e within = absurd (true≢false (sym e))
 number_given range (Some text) e within = within
 
@@ -100,13 +100,13 @@ chained f (Some x) e each = each x
 
 -- the ranges of what was met
 abbrev InRange : NumberRange → List Row → Type 0
-InRange range rows = IfSome (first_of range.name rows) (λ text. is_some (number_in range text) ≡ true)
+InRange range rows = IfSome (first_of range.name rows) (λ text. is_some (number_taken range text) ≡ true)
 
 module _ (rows : List Row) (name : Text) (within : MeetsRanges (Some (name, rows))) where
   number_of : (range : NumberRange) → is_some (first_of range.name rows) ≡ true → InRange range rows → is_some (number_met range rows) ≡ true
   number_of range e in_range = number_given range (first_of range.name rows) e in_range
 
-  driven_valued : (command : ℕ → List Text → CommandValues) → AreGiven rows driven_rules → is_some (driven_by command rows) ≡ true
+  driven_valued : (command : ℕ → List Text → CommandValues) → AreGiven rows driven_rules → is_some (simulate_or_eval_by command rows) ≡ true
   driven_valued command g = mapped _ (number_met cycles_range rows) (number_of cycles_range (g.0 refl refl) within.0)
 
   probe_valued : AreGiven rows probe_rules → is_some (probe_by rows) ≡ true

@@ -1,10 +1,10 @@
 -- The walk of clap over the words of a command in its plainest form: its options, each as two words, and then words of any number.
-use Rattle.std.proofs.Common.{◌≡◌, ◌∙◌, ℕ, Bool, List, [], ◌∷◌, ◌++◌, ◌==◌, ◌&&◌, ◌||◌, refl, codes, true, false, Some, None, Option, rules, ap, ap₂}
+use Rattle.std.proofs.Common.{◌≡◌, ◌∙◌, ℕ, Bool, List, [], ◌∷◌, ◌++◌, ◌==◌, ◌&&◌, ◌||◌, refl, sym, codes, true, false, Some, None, Option, rules, ap, ap₂}
 use Rattle.std.specs.Prelude.{⊤, fold, if◌then◌else◌, nat_lt}
 use Rattle.std.specs.List.{AllByRecursion}
 use Rattle.std.specs.Option.{option_map_or}
 use Rattle.std.specs.Str.{bytes_eq}
-use Rattle.std.proofs.lemmas.List.{append_assoc}
+use Rattle.std.proofs.lemmas.List.{append_assoc, append-nil}
 use Rattle.std.proofs.lemmas.Bool.{and_parts}
 use Rattle.clap.specs.Lexer.{strip_byte, long_of}
 use Rattle.clap.specs.Takes.{walk_passes, turn_passes, settle_passes, long_passes, flag_word_passes, step_passes, positional_passes}
@@ -49,9 +49,6 @@ held_with rows pending = record { rows = rows; pending = pending; skip = 0 }
 
 abbrev pub standing : List Row → Pending → Waiting → Walk
 standing rows pending waiting = record { held = held_with rows pending; waiting = waiting; position = 1; is_trailing = false; stopped = None }
-
-append_none : (ws : List Text) → ws ≡ ws ++ []
-append_none ws = search rules
 
 module _ (rules : List Rule) where
   -- ---- one word
@@ -158,7 +155,7 @@ module _ (rules : List Rule) where
 
   streams_walked : (rows : List Row) (ws vs : List Text) → arg_by_index rules 1 ≡ Some words_rule → AllByRecursion HasNoHyphen vs
       → fold (walked rules []) (standing rows (Some (codes "streams", ws)) positional) vs ≡ standing rows (Some (codes "streams", ws ++ vs)) positional
-  streams_walked rows ws [] words all = ap (λ (l : List Text). standing rows (Some (codes "streams", l)) positional) (append_none ws)
+  streams_walked rows ws [] words all = ap (λ (l : List Text). standing rows (Some (codes "streams", l)) positional) (sym (append-nil ws))
   streams_walked rows ws (v ∷ vs) words all =
       ap (λ (w : Walk). fold (walked rules []) w vs) (next_walked rows ws v words all.0)
       ∙ streams_walked rows (ws ++ v ∷ []) vs words all.1

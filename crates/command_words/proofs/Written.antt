@@ -13,8 +13,8 @@ use Rattle.clap.specs.Simple.{subcommand_of}
 use Rattle.clap.specs.declared.parser.matches.ValueSource.TheVariants.{CommandLine}
 use Rattle.clap.specs.declared.builder.value_parser.Reading.TheVariants.{AsWritten}
 use Rattle.command_words.specs.App.{blifww_app}
-use Rattle.command_words.specs.Numbers.{NumberRange, are_digits, number_in, cycles_range, generation_range, x_range, y_range, width_range, height_range, seed_range, size_range}
-use Rattle.command_words.specs.Shapes.{CommandValues, compile, simulate, eval, probe, window, make, self_, driven_by, values_met, command_values, is_plain_word, option_words, streams_met, IsCommand, IsDriven, IsPlain, IsWritten, GivesPath, MeetsRanges, Writes}
+use Rattle.command_words.specs.Numbers.{NumberRange, are_digits, number_taken, cycles_range, generation_range, x_range, y_range, width_range, height_range, seed_range, size_range}
+use Rattle.command_words.specs.Shapes.{CommandValues, compile, simulate, eval, probe, window, make, self_, simulate_or_eval_by, values_met, command_values, is_plain_word, option_words, streams_met, IsCommand, IsSimulateOrEval, IsPlain, IsWritten, GivesPath, MeetsRanges, Writes}
 use Rattle.command_words.specs.declared.command.View.{View}
 use Rattle.command_words.proofs.Entered.{IsNamed, entered_own, takes_own}
 use Rattle.command_words.proofs.Rules.{leaf, words_rule, driven_rules, probe_rules, window_rules, make_rules, self_rules}
@@ -323,26 +323,26 @@ self_read s k n es ek en = record {
 is_written : (o : Option ℕ) (n : ℕ) → o ≡ Some n → is_some o ≡ true
 is_written o n e = ap (λ (p : Option ℕ). is_some p) e
 
-driven_ranges : (command : Text) (n : Text) (streams : List Text) → is_some (number_in cycles_range n) ≡ true → MeetsRanges (Some (command, rows_for ((codes "cycles", n) ∷ []) streams))
+driven_ranges : (command : Text) (n : Text) (streams : List Text) → is_some (number_taken cycles_range n) ≡ true → MeetsRanges (Some (command, rows_for ((codes "cycles", n) ∷ []) streams))
 driven_ranges command n [] en = (en, (tt, (tt, (tt, (tt, (tt, (tt, (tt, tt))))))))
 driven_ranges command n (v ∷ vs) en = (en, (tt, (tt, (tt, (tt, (tt, (tt, (tt, tt))))))))
 
-probe_ranges : (command : Text) (n net : Text) (streams : List Text) → is_some (number_in cycles_range n) ≡ true → MeetsRanges (Some (command, rows_for ((codes "cycles", n) ∷ (codes "net", net) ∷ []) streams))
+probe_ranges : (command : Text) (n net : Text) (streams : List Text) → is_some (number_taken cycles_range n) ≡ true → MeetsRanges (Some (command, rows_for ((codes "cycles", n) ∷ (codes "net", net) ∷ []) streams))
 probe_ranges command n net [] en = (en, (tt, (tt, (tt, (tt, (tt, (tt, (tt, tt))))))))
 probe_ranges command n net (v ∷ vs) en = (en, (tt, (tt, (tt, (tt, (tt, (tt, (tt, tt))))))))
 
-path_ranges : (command : Text) (n net path : Text) (streams : List Text) → is_some (number_in cycles_range n) ≡ true → MeetsRanges (Some (command, rows_for ((codes "cycles", n) ∷ (codes "net", net) ∷ (codes "path", path) ∷ []) streams))
+path_ranges : (command : Text) (n net path : Text) (streams : List Text) → is_some (number_taken cycles_range n) ≡ true → MeetsRanges (Some (command, rows_for ((codes "cycles", n) ∷ (codes "net", net) ∷ (codes "path", path) ∷ []) streams))
 path_ranges command n net path [] en = (en, (tt, (tt, (tt, (tt, (tt, (tt, (tt, tt))))))))
 path_ranges command n net path (v ∷ vs) en = (en, (tt, (tt, (tt, (tt, (tt, (tt, (tt, tt))))))))
 
-window_ranges : (command : Text) (g x y w h : Text) (streams : List Text) → is_some (number_in generation_range g) ≡ true → is_some (number_in x_range x) ≡ true → is_some (number_in y_range y) ≡ true → is_some (number_in width_range w) ≡ true → is_some (number_in height_range h) ≡ true → MeetsRanges (Some (command, rows_for ((codes "gen", g) ∷ (codes "x", x) ∷ (codes "y", y) ∷ (codes "width", w) ∷ (codes "height", h) ∷ []) streams))
+window_ranges : (command : Text) (g x y w h : Text) (streams : List Text) → is_some (number_taken generation_range g) ≡ true → is_some (number_taken x_range x) ≡ true → is_some (number_taken y_range y) ≡ true → is_some (number_taken width_range w) ≡ true → is_some (number_taken height_range h) ≡ true → MeetsRanges (Some (command, rows_for ((codes "gen", g) ∷ (codes "x", x) ∷ (codes "y", y) ∷ (codes "width", w) ∷ (codes "height", h) ∷ []) streams))
 window_ranges command g x y w h [] eg ex ey ew eh = (tt, (eg, (ex, (ey, (ew, (eh, (tt, (tt, tt))))))))
 window_ranges command g x y w h (v ∷ vs) eg ex ey ew eh = (tt, (eg, (ex, (ey, (ew, (eh, (tt, (tt, tt))))))))
 
-make_ranges : (command : Text) (s k : Text) → is_some (number_in seed_range s) ≡ true → is_some (number_in size_range k) ≡ true → MeetsRanges (Some (command, rows_for ((codes "seed", s) ∷ (codes "size", k) ∷ []) []))
+make_ranges : (command : Text) (s k : Text) → is_some (number_taken seed_range s) ≡ true → is_some (number_taken size_range k) ≡ true → MeetsRanges (Some (command, rows_for ((codes "seed", s) ∷ (codes "size", k) ∷ []) []))
 make_ranges command s k es ek = (tt, (tt, (tt, (tt, (tt, (tt, (es, (ek, tt))))))))
 
-self_ranges : (command : Text) (s k n : Text) → is_some (number_in seed_range s) ≡ true → is_some (number_in size_range k) ≡ true → is_some (number_in cycles_range n) ≡ true → MeetsRanges (Some (command, rows_for ((codes "seed", s) ∷ (codes "size", k) ∷ (codes "cycles", n) ∷ []) []))
+self_ranges : (command : Text) (s k n : Text) → is_some (number_taken seed_range s) ≡ true → is_some (number_taken size_range k) ≡ true → is_some (number_taken cycles_range n) ≡ true → MeetsRanges (Some (command, rows_for ((codes "seed", s) ∷ (codes "size", k) ∷ (codes "cycles", n) ∷ []) []))
 self_ranges command s k n es ek en = (en, (tt, (tt, (tt, (tt, (tt, (es, (ek, tt))))))))
 
 -- ---- and their values
@@ -360,7 +360,7 @@ five : (a b c d e : Option ℕ) (v : View) → a ≡ Some v.generation → b ≡
 five a b c d e v ea eb ec ed ee = rw (ea, eb, ec, ed, ee) refl
 
 driven_valued : (command : ℕ → List Text → CommandValues) (n : Text) (cycles : ℕ) (streams : List Text) → HasNoHyphen n → Writes cycles_range n cycles
-    → driven_by command (rows_for ((codes "cycles", n) ∷ []) streams) ≡ Some (command cycles streams)
+    → simulate_or_eval_by command (rows_for ((codes "cycles", n) ∷ []) streams) ≡ Some (command cycles streams)
 driven_valued command n cycles streams plain e =
     ap₂ (λ (o : Option ℕ) (ws : List Text). option_map (λ c. command c ws) o) e
     (words_met driven_rules ((codes "cycles", n) ∷ []) streams ((driven_cycles, plain), tt))
@@ -380,7 +380,7 @@ pub record IsWell (v : CommandValues) (words : List Text) : Type 0 where
 
 driven_well : (command : Text) (by_cycles : ℕ → List Text → CommandValues) (cycles : ℕ) (streams words : List Text)
     → ((n : Text) → HasNoHyphen n → IsRead command driven_rules ((codes "cycles", n) ∷ []) streams)
-    → ((rows : List Row) → values_met (Some (command, rows)) ≡ driven_by by_cycles rows) → IsDriven command cycles streams words → IsWell (by_cycles cycles streams) words
+    → ((rows : List Row) → values_met (Some (command, rows)) ≡ simulate_or_eval_by by_cycles rows) → IsSimulateOrEval command cycles streams words → IsWell (by_cycles cycles streams) words
 driven_well command by_cycles cycles streams words reads by w =
     let n = w.0 in
     let plain = number_plain cycles_range n cycles w.2 in
@@ -403,9 +403,9 @@ probe_well cycles net path streams words n [] w e plain is =
       command = λ short. plain_command (codes "probe") probe_rules options streams words w read short (probe_ranges (codes "probe") n net streams (is_written _ cycles e));
       values =
           plain_values (codes "probe") probe_rules options streams words w read (probe cycles net path streams)
-          (ap (λ (o : Option Text). option_and_then (λ c. Some (probe c net (unwrap_or o (codes "-")) (streams_met rows))) (number_in cycles_range n)) (no_path n net streams)
-          ∙ ap (λ (t : Text). option_and_then (λ c. Some (probe c net t (streams_met rows))) (number_in cycles_range n)) (sym is)
-          ∙ probe_valued (number_in cycles_range n) net path cycles (streams_met rows) streams e (words_met probe_rules options streams read.given));
+          (ap (λ (o : Option Text). option_and_then (λ c. Some (probe c net (unwrap_or o (codes "-")) (streams_met rows))) (number_taken cycles_range n)) (no_path n net streams)
+          ∙ ap (λ (t : Text). option_and_then (λ c. Some (probe c net t (streams_met rows))) (number_taken cycles_range n)) (sym is)
+          ∙ probe_valued (number_taken cycles_range n) net path cycles (streams_met rows) streams e (words_met probe_rules options streams read.given));
     }
 probe_well cycles net path streams words n (p ∷ []) w e plain is =
     subst (λ (q : Text × Text). IsPlain (codes "probe") ((codes "cycles", n) ∷ (codes "net", net) ∷ q ∷ []) streams words → IsWell (probe cycles net path streams) words) (sym is.0) given w
@@ -418,7 +418,7 @@ probe_well cycles net path streams words n (p ∷ []) w e plain is =
           command = λ short. plain_command (codes "probe") probe_rules options streams words w read short (path_ranges (codes "probe") n net path streams (is_written _ cycles e));
           values =
               plain_values (codes "probe") probe_rules options streams words w read (probe cycles net path streams)
-              (probe_valued (number_in cycles_range n) net path cycles (streams_met (rows_for options streams)) streams e (words_met probe_rules options streams read.given));
+              (probe_valued (number_taken cycles_range n) net path cycles (streams_met (rows_for options streams)) streams e (words_met probe_rules options streams read.given));
         }
 probe_well cycles net path streams words n (p ∷ q ∷ options) w e plain is = absurd is
 
@@ -441,7 +441,7 @@ well (window view streams) words p =
     let read =
     window_read g x y w h streams (number_plain generation_range g view.generation p.6) (number_plain x_range x view.x p.7) (number_plain y_range y view.y p.8)
     (number_plain width_range w view.width p.9) (number_plain height_range h view.height p.10) in
-    let viewed = five (number_in generation_range g) (number_in x_range x) (number_in y_range y) (number_in width_range w) (number_in height_range h) view p.6 p.7 p.8 p.9 p.10 in
+    let viewed = five (number_taken generation_range g) (number_taken x_range x) (number_taken y_range y) (number_taken width_range w) (number_taken height_range h) view p.6 p.7 p.8 p.9 p.10 in
     record {
       command = λ short. plain_command (codes "window") window_rules options streams words p.5 read short
           (window_ranges (codes "window") g x y w h streams (is_written _ view.generation p.6) (is_written _ view.x p.7) (is_written _ view.y p.8) (is_written _ view.width p.9) (is_written _ view.height p.10));
@@ -458,7 +458,7 @@ well (make seed size) words p =
       command = λ short. plain_command (codes "make") make_rules options [] words p.2 read short (make_ranges (codes "make") s k (is_written _ seed p.3) (is_written _ size p.4));
       values =
           plain_values (codes "make") make_rules options [] words p.2 read (make seed size)
-          (two (λ a b. make a b) (number_in seed_range s) (number_in size_range k) seed size p.3 p.4);
+          (two (λ a b. make a b) (number_taken seed_range s) (number_taken size_range k) seed size p.3 p.4);
     }
 well (self_ seed size cycles) words p =
     let s = p.0 in
@@ -471,5 +471,5 @@ well (self_ seed size cycles) words p =
           (self_ranges (codes "self") s k n (is_written _ seed p.4) (is_written _ size p.5) (is_written _ cycles p.6));
       values =
           plain_values (codes "self") self_rules options [] words p.3 read (self_ seed size cycles)
-          (three (λ a b c. self_ a b c) (number_in seed_range s) (number_in size_range k) (number_in cycles_range n) seed size cycles p.4 p.5 p.6);
+          (three (λ a b c. self_ a b c) (number_taken seed_range s) (number_taken size_range k) (number_taken cycles_range n) seed size cycles p.4 p.5 p.6);
     }

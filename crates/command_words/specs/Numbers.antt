@@ -23,8 +23,8 @@ pub record NumberRange : Type 0 where
   pub most : ℕ
 
 -- the number that the text writes in digits, where the option takes it
-abbrev pub number_in : NumberRange → List ℕ → Option ℕ
-number_in range text = number_between range.least range.most text
+abbrev pub number_taken : NumberRange → List ℕ → Option ℕ
+number_taken range text = number_between range.least range.most text
 
 abbrev pub cycles_range : NumberRange
 cycles_range = record { name = codes "cycles"; least = 1; most = 1048576 }
@@ -55,5 +55,5 @@ abbrev pub number_ranges : List NumberRange
 number_ranges = cycles_range ∷ generation_range ∷ x_range ∷ y_range ∷ width_range ∷ height_range ∷ seed_range ∷ size_range ∷ []
 
 -- the option takes this number
-abbrev pub IsInRange : NumberRange → ℕ → Type 0
-IsInRange range number = (range.least ≤ number) × (number ≤ range.most)
+abbrev pub TakesNumber : NumberRange → ℕ → Type 0
+TakesNumber range number = (range.least ≤ number) × (number ≤ range.most)

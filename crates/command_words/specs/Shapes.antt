@@ -7,7 +7,7 @@ use Rattle.clap.specs.Simple.{subcommand_of}
 use Rattle.clap.specs.Takes.{takes}
 use Rattle.clap.specs.Faults.{fault_of}
 use Rattle.command_words.specs.App.{blifww_app}
-use Rattle.command_words.specs.Numbers.{NumberRange, number_in, number_ranges, IsInRange, cycles_range, generation_range, x_range, y_range, width_range, height_range, seed_range, size_range}
+use Rattle.command_words.specs.Numbers.{NumberRange, number_taken, number_ranges, TakesNumber, cycles_range, generation_range, x_range, y_range, width_range, height_range, seed_range, size_range}
 use Rattle.command_words.specs.declared.command.View.{View}
 use Rattle.command_words.specs.declared.command.Command.{Command}
 use Rattle.command_words.specs.declared.command.Command.TheVariants.{Compile, Simulate, Eval, Probe, Window, Make, Self_}
@@ -34,30 +34,30 @@ values_of (Self_ seed size cycles) = self_ seed size cycles
 -- each number of the view is one that its option takes
 abbrev pub HasViewInRange : View → Type 0
 HasViewInRange view =
-    IsInRange generation_range view.generation × IsInRange x_range view.x × IsInRange y_range view.y
-    × IsInRange width_range view.width × IsInRange height_range view.height
+    TakesNumber generation_range view.generation × TakesNumber x_range view.x × TakesNumber y_range view.y
+    × TakesNumber width_range view.width × TakesNumber height_range view.height
 
 -- each number of the command is one that its option takes
 abbrev pub HasNumbersInRange : CommandValues → Type 0
 HasNumbersInRange compile = ⊤
-HasNumbersInRange (simulate cycles streams) = IsInRange cycles_range cycles
-HasNumbersInRange (eval cycles streams) = IsInRange cycles_range cycles
-HasNumbersInRange (probe cycles net path streams) = IsInRange cycles_range cycles
+HasNumbersInRange (simulate cycles streams) = TakesNumber cycles_range cycles
+HasNumbersInRange (eval cycles streams) = TakesNumber cycles_range cycles
+HasNumbersInRange (probe cycles net path streams) = TakesNumber cycles_range cycles
 HasNumbersInRange (window view streams) = HasViewInRange view
-HasNumbersInRange (make seed size) = IsInRange seed_range seed × IsInRange size_range size
-HasNumbersInRange (self_ seed size cycles) = IsInRange seed_range seed × IsInRange size_range size × IsInRange cycles_range cycles
+HasNumbersInRange (make seed size) = TakesNumber seed_range seed × TakesNumber size_range size
+HasNumbersInRange (self_ seed size cycles) = TakesNumber seed_range seed × TakesNumber size_range size × TakesNumber cycles_range cycles
 
 -- the number that the matches give an option, where it is in its range
 abbrev pub number_met : NumberRange → List Row → Option ℕ
-number_met range rows = option_and_then (number_in range) (first_of range.name rows)
+number_met range rows = option_and_then (number_taken range) (first_of range.name rows)
 
 -- the last words
 abbrev pub streams_met : List Row → List Text
 streams_met rows = unwrap_or (all_of (codes "streams") rows) []
 
 -- for each command its values by the matches of its options and words
-abbrev pub driven_by : (ℕ → List Text → CommandValues) → List Row → Option CommandValues
-driven_by command rows = option_map (λ cycles. command cycles (streams_met rows)) (number_met cycles_range rows)
+abbrev pub simulate_or_eval_by : (ℕ → List Text → CommandValues) → List Row → Option CommandValues
+simulate_or_eval_by command rows = option_map (λ cycles. command cycles (streams_met rows)) (number_met cycles_range rows)
 
 abbrev pub probe_by : List Row → Option CommandValues
 probe_by rows =
@@ -85,8 +85,8 @@ self_by rows =
 abbrev pub values_by_name : Text → List Row → Option CommandValues
 values_by_name name rows =
     if bytes_eq name (codes "compile") then Some compile
-    else if bytes_eq name (codes "simulate") then driven_by simulate rows
-    else if bytes_eq name (codes "eval") then driven_by eval rows
+    else if bytes_eq name (codes "simulate") then simulate_or_eval_by simulate rows
+    else if bytes_eq name (codes "eval") then simulate_or_eval_by eval rows
     else if bytes_eq name (codes "probe") then probe_by rows
     else if bytes_eq name (codes "window") then window_by rows
     else if bytes_eq name (codes "make") then make_by rows
@@ -106,7 +106,7 @@ text_met name = option_and_then (λ met. first_of name met.1)
 
 -- each number that the matches give is in its range
 abbrev pub MeetsRanges : Option (Text × List Row) → Type 0
-MeetsRanges met = AllByRecursion (λ range. IfSome (text_met range.name met) (λ text. is_some (number_in range text) ≡ true)) number_ranges
+MeetsRanges met = AllByRecursion (λ range. IfSome (text_met range.name met) (λ text. is_some (number_taken range text) ≡ true)) number_ranges
 
 -- The words are a command: a parse of them by clap can fail for want of memory alone, and each number lies in its range.
 pub record IsCommand (words : List Text) : Type 0 where
@@ -135,7 +135,7 @@ pub record IsPlain (command : Text) (options : List (Text × Text)) (streams wor
 
 -- the text writes the number in digits, and it is in its range
 abbrev pub Writes : NumberRange → Text → ℕ → Type 0
-Writes range text number = number_in range text ≡ Some number
+Writes range text number = number_taken range text ≡ Some number
 
 -- these options give this path: there is none, and it is `-`, or one
 abbrev pub GivesPath : List (Text × Text) → Text → Type 0
@@ -144,15 +144,15 @@ GivesPath (given ∷ []) path = (given ≡ (codes "path", path)) × (is_plain_wo
 GivesPath _ path = ⊥
 
 -- `simulate` or `eval`
-abbrev pub IsDriven : Text → ℕ → List Text → List Text → Type 0
-IsDriven command cycles streams words = (n : Text) × IsPlain command ((codes "cycles", n) ∷ []) streams words × Writes cycles_range n cycles
+abbrev pub IsSimulateOrEval : Text → ℕ → List Text → List Text → Type 0
+IsSimulateOrEval command cycles streams words = (n : Text) × IsPlain command ((codes "cycles", n) ∷ []) streams words × Writes cycles_range n cycles
 
 -- The plainest form of a command with these values: the program's name, the command's, its options in the order of the table, each as
 -- two words with numbers in digits and in their ranges, and then its words. Of `probe` the path may be missing.
 abbrev pub IsWritten : CommandValues → List Text → Type 0
 IsWritten compile words = IsPlain (codes "compile") [] [] words
-IsWritten (simulate cycles streams) words = IsDriven (codes "simulate") cycles streams words
-IsWritten (eval cycles streams) words = IsDriven (codes "eval") cycles streams words
+IsWritten (simulate cycles streams) words = IsSimulateOrEval (codes "simulate") cycles streams words
+IsWritten (eval cycles streams) words = IsSimulateOrEval (codes "eval") cycles streams words
 IsWritten (probe cycles net path streams) words =
     (n : Text) × (options : List (Text × Text)) × IsPlain (codes "probe") ((codes "cycles", n) ∷ (codes "net", net) ∷ options) streams words
     × Writes cycles_range n cycles × (is_plain_word net ≡ true) × GivesPath options path

@@ -5,8 +5,8 @@ ghost use Rattle.clap.specs.Lexer.{usize_max};
 ghost use Rattle.clap.specs.Walk.{first_of, rows_of};
 ghost use Rattle.clap.specs.Words.{found_of};
 ghost use Rattle.command_words.specs.Driven.{Reads, values_by};
-ghost use Rattle.command_words.specs.Numbers.{IsInRange, cycles_range, seed_range, size_range};
-ghost use Rattle.command_words.specs.Shapes.{CommandValues, HasNumbersInRange, HasViewInRange, IsCommand, IsTaken, IsWritten, command_values, driven_by, make_by, number_met, probe_by, self_by, streams_met, values_met, values_of, view_met, window_by};
+ghost use Rattle.command_words.specs.Numbers.{TakesNumber, cycles_range, seed_range, size_range};
+ghost use Rattle.command_words.specs.Shapes.{CommandValues, HasNumbersInRange, HasViewInRange, IsCommand, IsTaken, IsWritten, command_values, simulate_or_eval_by, make_by, number_met, probe_by, self_by, streams_met, values_met, values_of, view_met, window_by};
 
 use crate::WordsError;
 use crate::numbers::number_between;
@@ -113,21 +113,21 @@ fn number_in(found: &ArgMatches<'_>, name: &str, least: u64, most: u64) -> Optio
 
 fn cycles_in(found: &ArgMatches<'_>) -> Option<usize>
     ensures value { result ≡ number_met cycles_range (rows_of (found_of found.now)) }
-    ensures bounds { IfSome result (IsInRange cycles_range) }
+    ensures bounds { IfSome result (TakesNumber cycles_range) }
 {
     Some(number_in(found, "cycles", 1, 1_048_576)? as usize)
 }
 
 fn seed_in(found: &ArgMatches<'_>) -> Option<u32>
     ensures value { result ≡ number_met seed_range (rows_of (found_of found.now)) }
-    ensures bounds { IfSome result (IsInRange seed_range) }
+    ensures bounds { IfSome result (TakesNumber seed_range) }
 {
     Some(number_in(found, "seed", 0, 2_147_483_647)? as u32)
 }
 
 fn size_in(found: &ArgMatches<'_>) -> Option<u32>
     ensures value { result ≡ number_met size_range (rows_of (found_of found.now)) }
-    ensures bounds { IfSome result (IsInRange size_range) }
+    ensures bounds { IfSome result (TakesNumber size_range) }
 {
     Some(number_in(found, "size", 1, 128)? as u32)
 }
@@ -152,7 +152,7 @@ fn view_in(found: &ArgMatches<'_>) -> Option<View>
 
 // Each command by what clap has found for its options and words.
 fn driven_in(alloc: Global, driven: Driven, found: &ArgMatches<'_>) -> Result<Command, WordsError>
-    ensures { Reads (driven_by (values_by driven) (rows_of (found_of found.now))) result }
+    ensures { Reads (simulate_or_eval_by (values_by driven) (rows_of (found_of found.now))) result }
 {
     let cycles = cycles_in(found).ok_or(WordsError::Usage)?;
     let streams = streams_in(alloc, found)?;

@@ -1,17 +1,15 @@
 -- Cells that are there already.
-use Rattle.std.proofs.Common.{◌≡◌, refl, sym, ◌∙◌, ap, ap₂, ℕ, ◌+◌, ◌<◌, Bool, true, false, ◌&&◌, ◌||◌, not, List, ◌++◌, take, drop, length, get_or, ◌⊎◌, inl, ⊎_elim, arith}
-use Rattle.std.proofs.lemmas.Bool.{and_parts, lt-ltb, true≢false}
-use Rattle.std.proofs.lemmas.List.{take_more, take-append-drop, length-take-le}
+use Rattle.std.proofs.Common.{◌≡◌, refl, sym, ◌∙◌, ap, Bool, true, false, ◌&&◌, not, List, length, ◌⊎◌, inl, ⊎_elim, arith}
+use Rattle.std.proofs.lemmas.Bool.{lt-ltb, true≢false}
 use Rattle.std.proofs.lemmas.Option.{slice_get_within, get_or_from_slice_get}
 use Rattle.cell_core.specs.declared.cells.Src.{Src}
-use Rattle.cell_core.specs.declared.cells.Src.TheVariants.{One, Cell as Made}
+use Rattle.cell_core.specs.declared.cells.Src.TheVariants.{One}
 use Rattle.cell_core.specs.declared.cells.Cell.{Cell}
-use Rattle.cell_core.specs.declared.cells.Cell.TheVariants.{Or, Xor, AndNot}
+use Rattle.cell_core.specs.declared.cells.Cell.TheVariants.{AndNot}
 use Rattle.cell_core.specs.declared.list.CellList.{CellList}
-use Rattle.cell_core.specs.Sources.{is_there, reads_there, is_one, reads_one}
+use Rattle.cell_core.specs.Sources.{is_there, is_one, reads_one}
 use Rattle.cell_core.specs.Meaning.{cell_bit, cell_bits, bit_in}
-use Rattle.cell_core.proofs.Bits.{appending_keeps_bits, pushed_bit}
-use Rattle.cell_core.proofs.OwnBits.{cell_kept, bit_of_cell}
+use Rattle.cell_core.proofs.OwnBits.{bit_of_cell}
 use Rattle.cover_cells.specs.Grown.{HasSource, Answers, IsCell}
 use Rattle.cover_cells.proofs.Growing.{grows, grows_refl, answers}
 

@@ -1,14 +1,12 @@
 -- Tables of rows, of covers and of cells.
-use Rattle.std.proofs.Common.{◌≡◌, ◌≢◌, refl, sym, ◌∙◌, ap, ap₂, ℕ, suc, zero, ◌+◌, ◌<◌, ◌≤◌, ◌==◌, min, Bool, true, false, ◌&&◌, not, List, [], ◌∷◌, ◌++◌, map, take, length, get_or, arith, zip}
+use Rattle.std.proofs.Common.{◌≡◌, ◌≢◌, refl, sym, ◌∙◌, ap, ap₂, ℕ, ◌+◌, ◌<◌, ◌≤◌, ◌==◌, min, Bool, true, false, ◌&&◌, not, List, [], ◌∷◌, ◌++◌, map, take, length, get_or, arith, zip}
 use Rattle.std.specs.List.{list_all}
-use Rattle.std.proofs.lemmas.Bool.{and_parts}
 use Rattle.std.proofs.lemmas.List.{take_all, take_more, length_push, map-append}
 use Rattle.std.proofs.lemmas.List.Sums.{fold_push}
 use Rattle.std.proofs.lemmas.Nat.Bits.{bit_at_ones}
 use Rattle.std.proofs.lemmas.Slice.Zip.{length-zip}
 use Rattle.netlist_meaning.specs.CoverValue.{fits, product_holds, any_holds, cover_value}
 use Rattle.cell_core.specs.declared.cells.Cell.{Cell}
-use Rattle.cell_core.specs.Sources.{reads_there, are_in_order}
 use Rattle.cell_core.specs.Meaning.{cell_bit, cell_bits}
 use Rattle.cover_cells.specs.Words.{bits_number, table_bit, ShowTables}
 use Rattle.lists.specs.Bits.{has_bit}

@@ -5,3 +5,4 @@ pub mod Words
 pub mod Placed
 pub mod Reduced
 pub mod Suits
+pub mod Noted

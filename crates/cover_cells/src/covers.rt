@@ -132,7 +132,10 @@ fn put(
 ) -> Result<Src, CellError>
     requires there { HasSources list.old sources.now }
     requires alone { StandsAlone (length sources.now) found.now }
-    ensures { IfOk result (λ src. Answers list.old list.new (length found.now.cells) (ReadsOne sources.now found.now.cells ⊎ (is_one found.now.root ≡ true)) src (λ inputs state. bit_in found.now.cells (bits_of list.old sources.now inputs state) [] found.now.root)) }
+    ensures { IfOk result (λ src.
+        Answers list.old list.new (length found.now.cells)
+        (ReadsOne sources.now found.now.cells ⊎ (is_one found.now.root ≡ true)) src (λ inputs state.
+        bit_in found.now.cells (bits_of list.old sources.now inputs state) [] found.now.root)) }
 {
     let made = place(list, places, alloc, sources, found.cells.as_slice())?;
     Ok(relocated(found.root, sources, &made))
@@ -149,7 +152,8 @@ pub fn map_cover(
 ) -> Result<Src, CellError>
     requires { HasSources list.old sources.now }
     ensures value { IfOk result (AnswersCover list.old list.new sources.now rows.now on) }
-    ensures single { IfOk result (λ src. (cell : Cell) → single_cell sources.now rows.now on ≡ Some cell → IsCell list.new src cell) }
+    ensures single { IfOk result (λ src. (cell : Cell) → single_cell sources.now rows.now on ≡ Some cell →
+        IsCell list.new src cell) }
 {
     if let Some(cell) = single_cell(sources, rows, on) {
         return add_single(list, places, alloc, sources, rows, on, cell);

@@ -19,7 +19,9 @@ pub fn add(
     cell: Cell,
 ) -> Result<Src, CellError>
     requires { IsTrue (reads_there list.old.inputs (length list.old.starts) (length list.old.cells) cell) }
-    ensures value { IfOk result (λ src. Answers list.old list.new 1 (reads_one cell ≡ true) src (λ inputs state. cell_bit inputs state (cell_bits inputs state list.old.cells) cell)) }
+    ensures value { IfOk result (λ src.
+        Answers list.old list.new 1 (reads_one cell ≡ true) src (λ inputs state.
+        cell_bit inputs state (cell_bits inputs state list.old.cells) cell)) }
     ensures cell { IfOk result (λ src. IsCell list.new src cell) }
 {
     let Ok(place) = u32::try_from(list.cells.len()) else {
@@ -40,7 +42,9 @@ pub fn and_not(
 ) -> Result<Src, CellError>
     requires first { HasSource list.old a }
     requires second { HasSource list.old b }
-    ensures { IfOk result (λ src. Answers list.old list.new 1 ((is_one a ≡ true) ⊎ (is_one b ≡ true)) src (λ inputs state. bit_in list.old.cells inputs state a && not (bit_in list.old.cells inputs state b))) }
+    ensures { IfOk result (λ src.
+        Answers list.old list.new 1 ((is_one a ≡ true) ⊎ (is_one b ≡ true)) src (λ inputs state.
+        bit_in list.old.cells inputs state a && not (bit_in list.old.cells inputs state b))) }
 {
     settle(list, places, alloc, Cell::AndNot(a, b))
 }
@@ -55,7 +59,9 @@ pub fn and(
 ) -> Result<Src, CellError>
     requires first { HasSource list.old a }
     requires second { HasSource list.old b }
-    ensures { IfOk result (λ src. Answers list.old list.new 2 ((is_one a ≡ true) ⊎ (is_one b ≡ true)) src (λ inputs state. bit_in list.old.cells inputs state a && bit_in list.old.cells inputs state b)) }
+    ensures { IfOk result (λ src.
+        Answers list.old list.new 2 ((is_one a ≡ true) ⊎ (is_one b ≡ true)) src (λ inputs state.
+        bit_in list.old.cells inputs state a && bit_in list.old.cells inputs state b)) }
 {
     if let Some(negation) = find_cell(list, places, Cell::AndNot(Src::One, b)) {
         return and_not(list, places, alloc, a, negation);
@@ -74,7 +80,9 @@ pub fn or(
 ) -> Result<Src, CellError>
     requires first { HasSource list.old a }
     requires second { HasSource list.old b }
-    ensures { IfOk result (λ src. Answers list.old list.new 1 ((is_one a ≡ true) ⊎ (is_one b ≡ true)) src (λ inputs state. bit_in list.old.cells inputs state a || bit_in list.old.cells inputs state b)) }
+    ensures { IfOk result (λ src.
+        Answers list.old list.new 1 ((is_one a ≡ true) ⊎ (is_one b ≡ true)) src (λ inputs state.
+        bit_in list.old.cells inputs state a || bit_in list.old.cells inputs state b)) }
 {
     settle(list, places, alloc, Cell::Or(a, b))
 }
@@ -90,7 +98,10 @@ pub fn with_column(
 ) -> Result<Src, CellError>
     requires first { HasSource list.old product }
     requires second { HasSource list.old source }
-    ensures { IfOk result (λ src. Answers list.old list.new (2 * literals (character ∷ [])) ((is_one product ≡ true) ⊎ (is_one source ≡ true)) src (λ inputs state. bit_in list.old.cells inputs state product && fits character (bit_in list.old.cells inputs state source))) }
+    ensures { IfOk result (λ src.
+        Answers list.old list.new (2 * literals (character ∷ []))
+        ((is_one product ≡ true) ⊎ (is_one source ≡ true)) src (λ inputs state.
+        bit_in list.old.cells inputs state product && fits character (bit_in list.old.cells inputs state source))) }
 {
     match character {
         b'0' => and_not(list, places, alloc, product, source),

@@ -102,7 +102,9 @@ pub fn settle(
     cell: Cell,
 ) -> Result<Src, CellError>
     requires { IsTrue (reads_there list.old.inputs (length list.old.starts) (length list.old.cells) cell) }
-    ensures { IfOk result (λ src. Answers list.old list.new 1 (reads_one cell ≡ true) src (λ inputs state. cell_bit inputs state (cell_bits inputs state list.old.cells) cell)) }
+    ensures { IfOk result (λ src.
+        Answers list.old list.new 1 (reads_one cell ≡ true) src (λ inputs state.
+        cell_bit inputs state (cell_bits inputs state list.old.cells) cell)) }
 {
     if let Some(src) = reduced(cell) {
         return Ok(src);

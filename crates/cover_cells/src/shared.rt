@@ -1,5 +1,6 @@
 // Cells that are there already.
-ghost use Rattle.std.specs.Prelude.{◌≡◌, true, length, slice_get, Some, IsTrue, IfOk, IfSome};
+ghost use Rattle.std.specs.Prelude.{◌≡◌, true, false, length, slice_get, Some, None, IsTrue, IfOk, OnOk, IfSome};
+ghost use Rattle.std.specs.BTreeMap.{is_at};
 ghost use Rattle.cell_core.specs.Sources.{reads_there, reads_one};
 ghost use Rattle.cell_core.specs.Meaning.{cell_bits, cell_bit};
 ghost use Rattle.cover_cells.specs.Grown.{Answers, IsCell};
@@ -16,20 +17,31 @@ pub struct Places {
 }
 
 impl Places {
+    ghost use Rattle.cover_cells.specs.Noted.{place_in};
+
     /// Of no cells.
-    pub fn new(alloc: Global) -> Places {
+    pub fn new(alloc: Global) -> Places
+        ensures { (cell : Cell) → place_in ⟦<Cell as Ord>⟧.cmp result cell ≡ None }
+    {
         Places {
             by_cell: BTreeMap::new(alloc),
         }
     }
 
     /// Notes where a cell was put.
-    pub fn note(&mut self, cell: Cell, place: u32) -> Result<(), CellError> {
+    pub fn note(&mut self, cell: Cell, place: u32) -> Result<(), CellError>
+        ensures noted { OnOk result (place_in ⟦<Cell as Ord>⟧.cmp self.new cell ≡ Some place) }
+        ensures others { OnOk result ((other : Cell) → is_at (⟦<Cell as Ord>⟧.cmp cell) other ≡ false →
+            place_in ⟦<Cell as Ord>⟧.cmp self.new other ≡ place_in ⟦<Cell as Ord>⟧.cmp self.old other) }
+    {
         self.by_cell.insert(cell, place)?;
         Ok(())
     }
 
-    fn place_of(&self, cell: Cell) -> Option<u32> {
+    // The place that was noted for the cell.
+    fn place_of(&self, cell: Cell) -> Option<u32>
+        ensures { result ≡ place_in ⟦<Cell as Ord>⟧.cmp self.now cell }
+    {
         self.by_cell.get(&cell).copied()
     }
 }
@@ -77,7 +89,9 @@ pub fn share(
     cell: Cell,
 ) -> Result<Src, CellError>
     requires { IsTrue (reads_there list.old.inputs (length list.old.starts) (length list.old.cells) cell) }
-    ensures value { IfOk result (λ src. Answers list.old list.new 1 (reads_one cell ≡ true) src (λ inputs state. cell_bit inputs state (cell_bits inputs state list.old.cells) cell)) }
+    ensures value { IfOk result (λ src.
+        Answers list.old list.new 1 (reads_one cell ≡ true) src (λ inputs state.
+        cell_bit inputs state (cell_bits inputs state list.old.cells) cell)) }
     ensures cell { IfOk result (λ src. IsCell list.new src cell) }
 {
     match find_cell(list, places, cell) {

@@ -97,7 +97,8 @@ pub fn rows_word(rows: &[Bytes], on: bool, nets: usize) -> u64
 fn source_word(src: Src, nets: usize, words: &[u64]) -> u64
     requires few { nets ≤ 6 }
     requires there { IsTrue (is_there nets 0 (length words.now) src) }
-    ensures { (bits made : List Bool) → length bits ≡ nets → ShowTables bits words.now made → table_bit bits result ≡ source_bit bits [] made src }
+    ensures { (bits made : List Bool) → length bits ≡ nets → ShowTables bits words.now made →
+        table_bit bits result ≡ source_bit bits [] made src }
 {
     match src {
         Src::Input(i) => net_word(i as usize),
@@ -110,7 +111,8 @@ fn source_word(src: Src, nets: usize, words: &[u64]) -> u64
 fn cell_word(cell: Cell, nets: usize, words: &[u64]) -> u64
     requires few { nets ≤ 6 }
     requires there { IsTrue (reads_there nets 0 (length words.now) cell) }
-    ensures { (bits made : List Bool) → length bits ≡ nets → ShowTables bits words.now made → table_bit bits result ≡ cell_bit bits [] made cell }
+    ensures { (bits made : List Bool) → length bits ≡ nets → ShowTables bits words.now made →
+        table_bit bits result ≡ cell_bit bits [] made cell }
 {
     match cell {
         Cell::Or(a, b) => or_words(source_word(a, nets, words), source_word(b, nets, words)),
@@ -126,7 +128,8 @@ fn list_words(alloc: Global, cells: &[Cell], nets: usize) -> Result<Vec<u64>, Ce
     requires few { nets ≤ 6 }
     requires in_order { IsTrue (are_in_order nets 0 0 cells.now) }
     ensures long { IfOk result (λ words. length words.items ≡ length cells.now) }
-    ensures shows { IfOk result (λ words. (bits : List Bool) → length bits ≡ nets → ShowTables bits words.items (cell_bits bits [] cells.now)) }
+    ensures shows { IfOk result (λ words. (bits : List Bool) → length bits ≡ nets →
+        ShowTables bits words.items (cell_bits bits [] cells.now)) }
 {
     let mut words = Vec::new(alloc);
     for cell in cells {

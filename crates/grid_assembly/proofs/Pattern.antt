@@ -35,7 +35,7 @@ no_rows false columns (suc rows) e =
 row_at : (plan : Plan) (y : ℕ) → y < (size_of plan).1 → get_or (start_grid plan).rows y [] ≡ start_row plan y
 row_at plan y lt = get_or-map-range_with_len (start_row plan) 0 (size_of plan).1 y y [] lt (omega arith)
 
-cell_at : (plan : Plan) (x y : ℕ) → x < (size_of plan).0 → get_or (start_row plan y) x Empty ≡ start_plane shipped_drawing plan (pos x) (pos y)
+pub cell_at : (plan : Plan) (x y : ℕ) → x < (size_of plan).0 → get_or (start_row plan y) x Empty ≡ start_plane shipped_drawing plan (pos x) (pos y)
 cell_at plan x y lt = get_or-map-range_with_len (λ x. start_plane shipped_drawing plan (pos x) (pos y)) 0 (size_of plan).0 x x Empty lt (omega arith)
 
 -- a row as long as the drawing is wide, with the plane's cells, is the pattern's row

@@ -1,7 +1,6 @@
 -- Each gate reads nets before its own, so no gates read each other in a circle.
-use Rattle.std.proofs.Common.{◌≡◌, ◌≢◌, refl, sym, ap, ◌∙◌, subst, ℕ, zero, suc, ◌+◌, ◌*◌, ◌<◌, ◌≤◌, ◌/◌, inl, inr, List, [], ◌∷◌, map, arith, true≢false}
+use Rattle.std.proofs.Common.{◌≡◌, ◌≢◌, refl, sym, ap, ◌∙◌, subst, ℕ, zero, suc, ◌+◌, ◌*◌, ◌<◌, ◌≤◌, inl, inr, List, [], ◌∷◌, map, arith, true≢false}
 use Rattle.std.specs.List.{range_with_len}
-use Rattle.std.proofs.lemmas.Nat.{mod_below}
 use Rattle.std.proofs.lemmas.Slice.Eq.{bytes_eq-Decides}
 use Rattle.netlist_core.specs.declared.model.Cover.{Cover}
 use Rattle.netlist_core.specs.declared.model.Model.{Model}
@@ -13,10 +12,11 @@ use Rattle.lists.proofs.Members.{In, in_from}
 use Rattle.made_netlists.specs.declared.gate.GateKind.{GateKind}
 use Rattle.made_netlists.specs.declared.gate.GateKind.TheVariants.{And, Or, Xor, Nand}
 use Rattle.made_netlists.specs.declared.gate.Gate.{Gate}
-use Rattle.made_netlists.specs.Draws.{draw_after, state_after}
+use Rattle.made_netlists.specs.Draws.{draw_after}
 use Rattle.made_netlists.specs.Text.{drawn_gate, net_name, net_of_gate}
 use Rattle.made_netlists.specs.Design.{covers_from, gate_cover, line_after, made_design, made_model}
 use Rattle.made_netlists.proofs.Names.{names_apart}
+use Rattle.made_netlists.proofs.Read.{draw_below}
 use Rattle.made_laws.proofs.Clocks.{is_flat}
 
 -- a cover of the net n reads only nets before it
@@ -34,9 +34,6 @@ gate_reads And line a b n h i = record { out = refl; ins = one_of_two n a b h i 
 gate_reads Or line a b n h i = record { out = refl; ins = one_of_two n a b h i }
 gate_reads Xor line a b n h i = record { out = refl; ins = one_of_two n a b h i }
 gate_reads Nand line a b n h i = record { out = refl; ins = one_of_two n a b h i }
-
-draw_below : (seed i n : ℕ) → 0 < n → draw_after seed i n < n
-draw_below seed i n h = mod_below (state_after seed (i + 1) / 65536) n h
 
 covers_read : (seed k j line : ℕ) (cover : Cover) → In cover (covers_from line (map (drawn_gate seed) (range_with_len j k))) → (n : ℕ) × (n < 6 + j + k) × ReadsBefore n cover
 covers_read seed zero j line cover i = absurd i

@@ -33,7 +33,7 @@ use Rattle.made_netlists.specs.Draws.{draw_after, state_after}
 use Rattle.made_netlists.proofs.ModelRules.{AreFresh, fresh_from, is_same, name_of, names_fresh, nets, nets_from, no_repeats, others, own_ports, IsFresh}
 
 -- draws are below their bounds
-draw_below : (seed i n : ℕ) → 0 < n → draw_after seed i n < n
+pub draw_below : (seed i n : ℕ) → 0 < n → draw_after seed i n < n
 draw_below seed i n h = mod_below (state_after seed (i + 1) / 65536) n h
 
 -- the drivers' names are those of all nets

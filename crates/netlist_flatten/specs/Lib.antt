@@ -1,3 +1,4 @@
+pub mod Limit
 pub mod Numbered
 pub mod Tables
 pub mod Inputs

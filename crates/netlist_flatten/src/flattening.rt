@@ -3,6 +3,7 @@ ghost use Rattle.std.specs.Prelude.{ℕ, ◌≡◌, ◌<◌, ◌≤◌, min, IfO
 ghost use Rattle.netlist_meaning.specs.FlatOf.{IsFlatOf};
 ghost use Rattle.netlist_meaning.specs.Weight.{weight};
 ghost use Rattle.netlist_rules.specs.ModelFaults.{AreFaultless};
+ghost use Rattle.netlist_flatten.specs.Limit.{weight_limit};
 ghost use Rattle.netlist_flatten.specs.declared.error.FlattenError.TheVariants.{TooLarge, NoMemory};
 
 use crate::classes::classes_of;
@@ -23,7 +24,7 @@ pub const WEIGHT_LIMIT: u64 = 1024;
 // The flat netlist of a design of a known weight.
 fn flat_of(alloc: Global, design: &Design, found: u64) -> Result<Flat, AllocError>
     requires faultless { AreFaultless design.now.models }
-    requires few { weight design.now ≤ 1024 }
+    requires few { weight design.now ≤ weight_limit }
     requires weight { found ≡ weight design.now }
     ensures { IfOk result (IsFlatOf design.now) }
 {
@@ -54,9 +55,10 @@ fn flat_of(alloc: Global, design: &Design, found: u64) -> Result<Flat, AllocErro
 pub fn flatten(alloc: Global, design: &Design) -> Result<Flat, FlattenError>
     requires faultless { AreFaultless design.now.models }
     ensures flat { IfOk result (IsFlatOf design.now) }
-    ensures within { OnOk result (weight design.now ≤ 1024) }
-    ensures flattens { weight design.now ≤ 1024 → IsOkUnless result NoMemory }
-    ensures too_large { (w : ℕ) → IsErrOf result (TooLarge w) → (w ≡ min (weight design.now) u64.MAX) × (1024 < weight design.now) }
+    ensures within { OnOk result (weight design.now ≤ weight_limit) }
+    ensures flattens { weight design.now ≤ weight_limit → IsOkUnless result NoMemory }
+    ensures too_large { (w : ℕ) → IsErrOf result (TooLarge w) →
+        (w ≡ min (weight design.now) u64.MAX) × (weight_limit < weight design.now) }
 {
     let found = weight(alloc, design)?;
     if found > WEIGHT_LIMIT {

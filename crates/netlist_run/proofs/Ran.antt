@@ -34,7 +34,7 @@ pub record Ran (design : Design) (streams : Streams) (cycles : ℕ) (rows : List
   pub are_rows : rows ≡ output_rows design cycles run
   pub state_is : state ≡ state_in_order design (latches_in design (start_state design) run cycles)
 
-same_on_range : {X : Type 0} (f g : ℕ → X) (n : ℕ) → ((t : ℕ) → t < n → f t ≡ g t) → map f (range_with_len 0 n) ≡ map g (range_with_len 0 n)
+pub same_on_range : {X : Type 0} (f g : ℕ → X) (n : ℕ) → ((t : ℕ) → t < n → f t ≡ g t) → map f (range_with_len 0 n) ≡ map g (range_with_len 0 n)
 same_on_range f g n same =
     ext_get_or (f 0) _ _ (length-map-range_with_len f 0 n ∙ sym (length-map-range_with_len g 0 n))
     (λ i lt.

@@ -1,15 +1,15 @@
 -- A text is at most one of a netlist and the causes why it is none.
-use Rattle.std.proofs.Common.{ℕ, ◌≡◌, ◌≤◌, ◌<◌, ◌^◌, ◌-◌, refl, sym, ap, ◌∙◌, subst, List, arith, min}
+use Rattle.std.proofs.Common.{ℕ, ◌≡◌, ◌^◌, ◌-◌, sym, ap, ◌∙◌, subst, List, arith, min}
 use Rattle.netlist_core.specs.declared.model.Design.{Design}
 use Rattle.netlist_core.specs.Names.{Name}
 use Rattle.netlist_meaning.specs.Weight.{weight}
 use Rattle.netlist_rules.specs.declared.fault.Fault.{Fault}
 use Rattle.netlist_rules.specs.Clocks.{IsClockFault}
 use Rattle.blif_text.specs.LogicalLines.{logical_lines}
-use Rattle.blif_text.specs.Faults.{IsDesignOf, HasFault}
+use Rattle.blif_text.specs.Faults.{IsDesignOf}
 use Rattle.blif_text.proofs.OneFault.{one_fault as one_text_fault, one_design, never_both}
-use Rattle.netlist_text.specs.NetlistText.{weight_limit, IsLight, IsNetlist, IsAtFault, of_text, of_clocks, IsTooHeavy, HasLoop}
-use Rattle.netlist_text.specs.Laws.{AreAlikeFaults, IsDecided, TextsAreDecided}
+use Rattle.netlist_text.specs.NetlistText.{IsLight, IsNetlist, IsAtFault, of_text, of_clocks, IsTooHeavy, HasLoop}
+use Rattle.netlist_text.specs.Laws.{AreAlikeFaults, TextsAreDecided}
 use Rattle.netlist_text.proofs.OneClockFault.{one_clock_fault}
 
 same_design : (text : List ℕ) (a b : Design) → IsDesignOf text a → IsDesignOf text b → a ≡ b

@@ -1,15 +1,15 @@
 -- A design has one clock fault.
-use Rattle.std.proofs.Common.{ℕ, ◌≡◌, ◌≢◌, ◌<◌, ◌≤◌, ◌⊎◌, refl, sym, ap, ap₂, ◌∙◌, subst, List, arith, inl, inr}
-use Rattle.std.specs.Prelude.{Some, Option}
+use Rattle.std.proofs.Common.{ℕ, ◌≡◌, ◌<◌, ◌≤◌, ◌⊎◌, refl, sym, ap, ap₂, ◌∙◌, subst, arith, inl, inr}
+use Rattle.std.specs.Prelude.{Some}
 use Rattle.netlist_core.specs.declared.model.Design.{Design}
 use Rattle.netlist_core.specs.declared.model.LatchRow.{LatchRow}
 use Rattle.netlist_core.specs.Names.{Name}
 use Rattle.netlist_meaning.specs.Places.{Place, latch_at, IsBefore}
 use Rattle.netlist_meaning.proofs.PlaceOrder.{one_of_three}
 use Rattle.netlist_rules.specs.declared.fault.Fault.{Fault}
-use Rattle.netlist_rules.specs.declared.fault.FaultKind.TheVariants.{TwoClocks, ClockRead}
+use Rattle.netlist_rules.specs.declared.fault.FaultKind.TheVariants.{TwoClocks}
 use Rattle.netlist_rules.specs.FaultNames.{fault_on}
-use Rattle.netlist_rules.specs.Clocks.{PlacedLatch, IsPlacedLatch, ComesBefore, HasSameClock, control_word, IsTwoClocks, IsClockRead, IsClockFault, two_clocks, clock_read, HasOneClock}
+use Rattle.netlist_rules.specs.Clocks.{PlacedLatch, IsPlacedLatch, ComesBefore, HasSameClock, control_word, IsTwoClocks, IsClockFault, two_clocks, clock_read}
 use Rattle.netlist_text.specs.Laws.{AreAlikeFaults}
 
 three_numbers : (m n : ℕ) → (m < n) ⊎ (m ≡ n) ⊎ (n < m)

@@ -1,23 +1,20 @@
 -- What each part of the way from a text to its netlist gives.
-use Rattle.std.proofs.Common.{ℕ, ◌≡◌, ◌≤◌, ◌<◌, ◌^◌, ◌-◌, refl, sym, ap, ◌∙◌, subst, List, map, min, arith}
-use Rattle.std.specs.Prelude.{Some, None, ⊤}
+use Rattle.std.proofs.Common.{ℕ, ◌≡◌, ◌≤◌, ◌<◌, ◌^◌, ◌-◌, refl, sym, subst, List, min, arith}
+use Rattle.std.specs.Prelude.{Some}
 use Rattle.netlist_core.specs.declared.model.Design.{Design}
 use Rattle.netlist_core.specs.declared.model.Model.{Model}
 use Rattle.netlist_core.specs.declared.flat.Flat.{Flat}
-use Rattle.netlist_core.specs.declared.flat.NetId.{NetId}
-use Rattle.netlist_meaning.specs.Nets.{Net}
 use Rattle.netlist_meaning.specs.Weight.{weight}
 use Rattle.netlist_meaning.specs.Flat.{IsInRange, IsSound}
 use Rattle.netlist_meaning.specs.FlatOf.{IsFlatOf}
 use Rattle.netlist_meaning.specs.FlatOrder.{IsFlatLoop}
-use Rattle.netlist_meaning.specs.Loop.{IsCombinationalLoop}
 use Rattle.netlist_rules.specs.declared.fault.Fault.{Fault}
 use Rattle.netlist_rules.specs.ModelFaults.{HasModelFault, AreFaultless}
 use Rattle.netlist_rules.specs.Clocks.{HasNoClockFault}
 use Rattle.netlist_rules.specs.FlatClocks.{IsFlatClockFault}
 use Rattle.blif_text.specs.LogicalLines.{logical_lines}
 use Rattle.blif_text.specs.LineFaults.{line_fault}
-use Rattle.blif_text.specs.Faults.{HasModels, HasFault, of_line, of_models, IsDesignOf}
+use Rattle.blif_text.specs.Faults.{HasModels, of_line, of_models, IsDesignOf}
 use Rattle.flat_designs.proofs.Sound.{flat_is_in_range, flat_is_sound}
 use Rattle.flat_designs.proofs.ClockFaults.{clock_faults_are_flat}
 use Rattle.flat_designs.proofs.Loops.{loops_are_flat}
@@ -31,7 +28,8 @@ use Rattle.clock_check.specs.declared.error.CheckError.{CheckError as ClockError
 use Rattle.clock_check.specs.declared.error.CheckError.TheVariants as clock
 use Rattle.netlist_text.specs.Errors.{read_error, check_error, flatten_error, clock_error}
 use Rattle.netlist_text.specs.Causes.{HasNetlistCause}
-use Rattle.netlist_text.specs.NetlistText.{weight_limit, IsLight, IsNetlist, of_text, of_clocks}
+use Rattle.netlist_flatten.specs.Limit.{weight_limit}
+use Rattle.netlist_text.specs.NetlistText.{IsLight, IsNetlist, of_text, of_clocks}
 
 -- its lines may be at fault,
 pub unread : (text : List ℕ) (e : ReadError) → ((fault : Fault) → (e ≡ read.Fault fault) → line_fault (logical_lines text) ≡ Some fault) → HasNetlistCause text (read_error e)

@@ -1,9 +1,10 @@
 -- Paths are read as they stand, and no two places have one.
-use Rattle.std.proofs.Common.{◌≡◌, refl, sym, ◌∙◌, ap, ap₂, ℕ, zero, suc, ◌<◌, ◌≤◌, ◌^◌, Bool, true, false, ◌&&◌, ◌||◌, not, ◌==◌, List, [], ◌∷◌, ◌++◌, length, map, flat_map, get_or, arith}
+use Rattle.std.proofs.Common.{◌≡◌, refl, sym, ◌∙◌, ap, ap₂, ℕ, zero, suc, ◌<◌, ◌≤◌, ◌^◌, true, false, ◌&&◌, ◌||◌, not, ◌==◌, List, [], ◌∷◌, ◌++◌, length, map, flat_map, get_or, arith}
 use Rattle.std.specs.Prelude.{Some, None, codes, decimal, is_some, slice_index, bytes_eq, if◌then◌else◌}
 use Rattle.std.specs.List.{All, list_all, slice_split}
 use Rattle.std.specs.Char.{is_ascii_digit}
 use Rattle.std.proofs.lemmas.List.{append-nil}
+use Rattle.std.proofs.Math.Bool.{or-true}
 use Rattle.std.proofs.lemmas.Bool.{leb-true, and_parts, ne_eqb}
 use Rattle.std.proofs.lemmas.List.Splits.{slice_split_at, slice_split_none}
 use Rattle.std.proofs.lemmas.List.Elements.{All-head, All-tail}
@@ -35,15 +36,11 @@ parts_are n (next ∷ place) h =
     slice_split_at (λ b. b == 46) (decimal n) 46 (path_of (next ∷ place)) (no_dot n (All-head Small n (next ∷ place) h)) refl
     ∙ ap (λ parts. decimal n ∷ parts) (parts_are next place (All-tail Small n (next ∷ place) h))
 
-or_true : (b : Bool) → (b || true) ≡ true
-or_true true = refl
-or_true false = refl
-
 plain : (n : ℕ) → Small n → (length (decimal n) == 1 || not (slice_index (decimal n) 0 == 48)) ≡ true
 plain zero small = ap (λ digits. length digits == 1 || not (slice_index digits 0 == 48)) (decimal_digit 0 (omega arith))
 plain (suc n) small =
     let first : 48 < get_or (decimal (suc n)) 0 0 = first_decimal (suc n) (omega arith) small in
-    ap (λ b. length (decimal (suc n)) == 1 || not b) (ne_eqb (slice_index (decimal (suc n)) 0) 48 (λ e. omega (arith, first, e))) ∙ or_true (length (decimal (suc n)) == 1)
+    ap (λ b. length (decimal (suc n)) == 1 || not b) (ne_eqb (slice_index (decimal (suc n)) 0) 48 (λ e. omega (arith, first, e))) ∙ or-true (length (decimal (suc n)) == 1)
 
 is_number : (n : ℕ) → Small n → is_path_number (decimal n) ≡ true
 is_number n small = ap₂ (λ o b. is_some o && b) (number_in-decimal n small) (plain n small)
@@ -57,7 +54,7 @@ paths_are_read [] h = refl
 paths_are_read (n ∷ place) h =
     let field = path_of (n ∷ place) in
     ap (λ b. if (bytes_eq field (codes "-") || b) then Some field else None) (ap (list_all is_path_number) (parts_are n place h) ∙ all_numbers (n ∷ place) h)
-    ∙ ap (λ b. if b then Some field else None) (or_true (bytes_eq field (codes "-")))
+    ∙ ap (λ b. if b then Some field else None) (or-true (bytes_eq field (codes "-")))
 
 abbrev head_of : {X : Type 0} → X → List X → X
 head_of d [] = d

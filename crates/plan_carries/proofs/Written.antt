@@ -1,12 +1,9 @@
 -- The text that is written of what is compiled carries the design.
-use Rattle.std.proofs.Common.{sym, ◌∙◌, ap, subst, ℕ, ◌+◌, ◌*◌, ◌<◌, Bool, true, false, length, replicate, arith}
-use Rattle.std.specs.Prelude.{◌==◌, if◌then◌else◌, ◌^◌}
+use Rattle.std.proofs.Common.{sym, ◌∙◌, ap, subst, false, length, replicate, arith}
 use Rattle.std.proofs.lemmas.List.{length-map, length-replicate}
 use Rattle.ww_rule.specs.Grid.{Grid}
 use Rattle.tiling.specs.Steps.{KeepsLaw}
 use Rattle.tile_library.specs.Drawings.{shipped_drawing}
-use Rattle.lane_core.specs.declared.plan.Plan.{Plan}
-use Rattle.lane_core.specs.Plans.{IsAdmissible, size_of}
 use Rattle.grid_assembly.specs.PlanDrawing.{start_grid}
 use Rattle.grid_assembly.specs.Laws.{PatternsArePlanes}
 use Rattle.cell_core.specs.Meaning.{Fits}
@@ -21,6 +18,7 @@ use Rattle.flat_designs.proofs.Sound.{flat_is_sound}
 use Rattle.flat_designs.proofs.Whole.{flat_is_named}
 use Rattle.cover_mapper.specs.Listed.{listed_classes}
 use Rattle.plan_ports.specs.Laws.{TablesAreReadable}
+use Rattle.plan_ports.proofs.Readable.{small_size}
 use Rattle.plan_carries.specs.Laws.{PlansHavePorts, PlanesShowRuns, TextsCarry, TextsCarryNets}
 use Rattle.plan_carries.proofs.SeenNets.{seen_nets, places_fit, are_seen, seen_are_named}
 use Rattle.plan_carries.proofs.Carried.{ports_named}
@@ -38,25 +36,13 @@ plans_have_ports flat list plan c p =
           ∙ ap length c.mapped.nets ∙ length-map (listed_classes flat) c.mapped.sources ∙ length-map (nets_but_clocks flat) (λ (net : FlatNet). net.class);
     }
 
-abbrev Small : ℕ × ℕ → Type 0
-Small size = (size.0 < 2 ^ 64) × (size.1 < 2 ^ 64)
-
-small_box : (none : Bool) (size : ℕ × ℕ) → Small size → Small (if none then (0, 0) else size)
-small_box true size s = (omega arith, omega arith)
-small_box false size s = s
-
-size_fits : (plan : Plan) → IsAdmissible plan → Small (size_of plan)
-size_fits plan h =
-    small_box (plan.lanes == 0) (32 * (length plan.columns + 2 * plan.latches) + 1, 16 * (plan.lanes + plan.latches))
-    (omega (arith, h.size.lanes, h.size.columns, h.size.loops_on_lanes), omega (arith, h.size.lanes, h.size.loops_on_lanes))
-
 pub texts_carry : KeepsLaw shipped_drawing → PatternsArePlanes → ((grid : Grid) (ports : Ports) → HasWrittenText grid ports) → TablesAreReadable → PlanesShowRuns → TextsCarry
 texts_carry law patterns written readable shown design flat list plan ports c =
     let pattern = patterns plan c.admissible in
-    let size = size_fits plan c.admissible in
+    let size = small_size plan c.admissible in
     let sound = flat_is_sound design flat c.faultless c.no_clock_fault c.is_flat (omega (arith, c.small)) in
     let table = readable flat plan ports sound.in_range (flat_is_named design flat c.faultless c.is_flat) c.names (places_fit design flat c.faultless c.small c.is_flat) c.admissible c.table in
-    let reads = written (start_grid plan) ports (record { in_rows = pattern.box; width = size.0; height = size.1 }) table.sound table.inside table.no_returns in
+    let reads = written (start_grid plan) ports (record { in_rows = pattern.box; width = omega (arith, size.0); height = omega (arith, size.1) }) table.sound table.inside table.no_returns in
     record {
       grid = start_grid plan;
       ports = ports;

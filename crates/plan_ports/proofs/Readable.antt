@@ -47,15 +47,16 @@ lanes_inside plan column lanes d near =
     All-map (Inside (size_of plan)) (λ lane. (left_of plan column, row_of lane)) lanes
     (λ k e lt. inside plan (plan.latches + column) (get_or lanes k e) (d.below k e lt) (omega (arith, near)))
 
-abbrev Small : ℕ × ℕ → Type 0
+abbrev pub Small : ℕ × ℕ → Type 0
 Small size = (size.0 ≤ greatest_number) × (size.1 ≤ greatest_number)
 
 small_box : (none : Bool) (size : ℕ × ℕ) → Small size → Small (if none then (0, 0) else size)
 small_box true size s = (omega arith, omega arith)
 small_box false size s = s
 
-small : (plan : Plan) → IsAdmissible plan → Small (size_of plan)
-small plan h =
+-- an admissible plan's box is no larger than a table may write
+pub small_size : (plan : Plan) → IsAdmissible plan → Small (size_of plan)
+small_size plan h =
     small_box (plan.lanes == 0) (32 * (length plan.columns + 2 * plan.latches) + 1, 16 * (plan.lanes + plan.latches))
     (omega (arith, h.size.lanes, h.size.columns, h.size.loops_on_lanes), omega (arith, h.size.lanes, h.size.loops_on_lanes))
 
@@ -97,8 +98,8 @@ module _ (flat : Flat) (plan : Plan) (h : IsAdmissible plan) (names : HasPortNam
 
   lines_sound : AllByRecursion IsSoundPort lines
   lines_sound = each IsSoundPort (λ line at name. record {
-    x = omega (arith, at.0, (small plan h).0);
-    y = omega (arith, at.1, (small plan h).1);
+    x = omega (arith, at.0, (small_size plan h).0);
+    y = omega (arith, at.1, (small_size plan h).1);
     name = record { not_empty = name.0; bytes = λ k d lt. ((name.1 k d lt).0, (name.1 k d lt).2) };
   })
 
@@ -116,7 +117,7 @@ tables_are_readable flat plan ports range named names places h t = record {
     l = subst (λ n. n ≤ greatest_number) (sym t.latency) (omega (arith, h.size.columns));
     ins = lines_sound flat plan h names flat.ins range.ins ports.ins 0 plan.ins h.ins (omega arith) t.in_cells t.in_names;
     outs = lines_sound flat plan h names flat.outs range.outs ports.outs (length plan.columns) plan.outs h.outs (omega arith) t.out_cells t.out_names;
-    nets = nets_sound flat plan h names places ports.nets t.net_cells t.net_names (small plan h).0 (small plan h).1;
+    nets = nets_sound flat plan h names places ports.nets t.net_cells t.net_names (small_size plan h).0 (small_size plan h).1;
     one_input = distinct ports.ins (subst (AllPairs (λ a b. a ≢ b)) (sym t.in_names) named.ins.distinct);
     one_output = distinct ports.outs (subst (AllPairs (λ a b. a ≢ b)) (sym t.out_names) named.outs.distinct);
     one_net = one_net flat plan h names places ports.nets t.net_cells t.net_names;

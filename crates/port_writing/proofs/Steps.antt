@@ -6,12 +6,9 @@ use Rattle.std.proofs.Math.Seq.{take-append-add}
 use Rattle.std.specs.declared.option.Option.{Option}
 use Rattle.std.specs.Io.KnownBytes.{Appends}
 use Rattle.std.proofs.KnownBytes.{Appends-nil, Appends-trans}
+use Rattle.lists.proofs.Results.{on_err}
 use Rattle.ww_base.specs.Faults.{Rose, HasCause}
 use Rattle.port_writing.specs.Progress.{Wrote, Broke}
-
-pub on_err : {T E : Type 0} (r : Result T E) {P : Type 0} → P → OnErr r P
-on_err (Ok x) p = tt
-on_err (Err e) p = p
 
 pub both_err : {T E : Type 0} (r : Result T E) {P Q R : Type 0} → (P → Q → R) → OnErr r P → OnErr r Q → OnErr r R
 both_err (Ok x) f p q = tt
@@ -64,6 +61,10 @@ wrote_before {y = y} rest w = record {
 
 pub broke_before : {a b : Option (List ℕ)} {f g : ℕ} {x : List ℕ} (rest : List ℕ) → Broke a b f g x → Broke a b f g (x ++ rest)
 broke_before {x = x} rest v = broke_piece x rest (v.count, v.taken) v.later v.rose
+
+-- a text that is to be written, where nothing is held at first
+pub begun : (here text : List ℕ) → here ≡ [] → text ≡ here ++ (text ++ [])
+begun here text none = sym (append-nil text) ∙ ap (λ k. k ++ (text ++ [])) (sym none)
 
 -- the same by other names of the texts
 pub wrote_as : {a b : Option (List ℕ)} {f g : ℕ} {x x' y : List ℕ} → x' ≡ x → Wrote a b f g x y → Wrote a b f g x' y

@@ -1,3 +1,4 @@
 pub mod Lines
 pub mod Pages
 pub mod Progress
+pub mod Pieces

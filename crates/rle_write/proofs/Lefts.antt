@@ -1,5 +1,5 @@
 -- What is left to write, by pieces of a row and by the rows of a plan.
-use Rattle.std.proofs.Common.{◌≡◌, ℕ, ◌+◌, ◌≤◌, ◌<◌, pos, List, [], ◌∷◌, ◌++◌, map, drop, take, length, replicate, get_or, sym, ap, ◌∙◌, arith, drop_of_length-le, length-drop, length-take-le, take-append-drop}
+use Rattle.std.proofs.Common.{◌≡◌, ℕ, ◌+◌, ◌≤◌, ◌<◌, pos, List, [], ◌∷◌, ◌++◌, map, drop, take, length, replicate, sym, ap, ◌∙◌, arith, drop_of_length-le, length-drop, length-take-le, take-append-drop}
 use Rattle.std.proofs.lemmas.List.{ext_get_or, get_or-take, get_or-drop, drop-drop, drop_more, map-append}
 use Rattle.std.proofs.lemmas.List.FromFn.{length-map-range_with_len, get_or-map-range_with_len}
 use Rattle.ww_rule.specs.declared.pattern.State.{State}
@@ -9,6 +9,7 @@ use Rattle.lane_core.specs.Plans.{size_of}
 use Rattle.tile_library.specs.Drawings.{shipped_drawing}
 use Rattle.plan_layout.specs.Planes.{start_plane}
 use Rattle.grid_assembly.specs.PlanDrawing.{AreCellsOfRow, start_row, start_grid}
+use Rattle.grid_assembly.proofs.Pattern.{cell_at}
 use Rattle.pattern_writing.specs.Writer.{tag_of}
 use Rattle.rle_write.specs.Left.{rows_left, row_left, text_left}
 use Rattle.rle_write.proofs.Tags.{rows_left_none}
@@ -20,9 +21,6 @@ left_by held column ends count tag rows e = ap (λ l. text_left held column (row
 
 row_long : (plan : Plan) (y : ℕ) → length (start_row plan y) ≡ (size_of plan).0
 row_long plan y = length-map-range_with_len (λ x. start_plane shipped_drawing plan (pos x) (pos y)) 0 (size_of plan).0
-
-cell_at : (plan : Plan) (x y : ℕ) → x < (size_of plan).0 → get_or (start_row plan y) x Empty ≡ start_plane shipped_drawing plan (pos x) (pos y)
-cell_at plan x y lt = get_or-map-range_with_len (λ x. start_plane shipped_drawing plan (pos x) (pos y)) 0 (size_of plan).0 x x Empty lt (omega arith)
 
 -- the rest of a row begins with a piece that has its cells
 piece_next : (plan : Plan) (y x : ℕ) (cells : List State) → AreCellsOfRow plan y x cells → x + length cells ≤ (size_of plan).0

@@ -2,9 +2,9 @@
 use Rattle.std.proofs.Common.{ℕ, ◌≡◌, ◌+◌, ◌*◌, ◌<◌, suc, refl, sym, ap, ap₂, ◌∙◌, subst, Bool, true, false, true≢false, List, [], ◌∷◌, ◌++◌, length, map, flat_map, get_or, arith}
 use Rattle.std.specs.Prelude.{◌↔◌, All, pos}
 use Rattle.std.specs.List.{range_with_len}
-use Rattle.std.proofs.lemmas.List.{ext_get_or, length-map, get_or-map}
+use Rattle.std.proofs.lemmas.List.{length-map, get_or-map}
 use Rattle.std.proofs.lemmas.List.Elements.{All-map}
-use Rattle.std.proofs.lemmas.List.FromFn.{length-map-range_with_len, get_or-map-range_with_len}
+use Rattle.std.proofs.lemmas.List.FromFn.{length-map-range_with_len}
 use Rattle.std.proofs.lemmas.Option.{slice_get-get_or}
 use Rattle.ww_rule.specs.declared.pattern.State.{State}
 use Rattle.ww_rule.specs.declared.pattern.State.TheVariants.{Empty, Head, Tail, Conductor}
@@ -23,14 +23,8 @@ use Rattle.carries.proofs.Cycles.{carries_cycles}
 use Rattle.drive.specs.declared.streams.Streams.{Streams}
 use Rattle.drive.specs.Driving.{AreFor, stream_row, rows_of, driven_by, shown_at, shown_bits}
 use Rattle.netlist_run.specs.Runs.{bits_in_run}
+use Rattle.netlist_run.proofs.Ran.{same_on_range}
 use Rattle.shown_runs.specs.ShownRuns.{ShowsTheRun, CarriersShowRuns}
-
-same_on_range : {X : Type 0} (f g : ℕ → X) (n : ℕ) → ((t : ℕ) → t < n → f t ≡ g t) → map f (range_with_len 0 n) ≡ map g (range_with_len 0 n)
-same_on_range f g n same =
-    ext_get_or (f 0) _ _ (length-map-range_with_len f 0 n ∙ sym (length-map-range_with_len g 0 n))
-    (λ i lt.
-    let less : i < n = subst (λ (m : ℕ). i < m) (length-map-range_with_len f 0 n) lt in
-    get_or-map-range_with_len f 0 n i i (f 0) less (omega arith) ∙ same i less ∙ sym (get_or-map-range_with_len g 0 n i i (f 0) less (omega arith)))
 
 -- a head exactly where a bit is 1
 head_is : (state : State) (bit : Bool) → (state ≡ Head) ↔ (bit ≡ true) → is_head state ≡ bit

@@ -1,5 +1,5 @@
 use Rattle.std.proofs.lemmas.Result.{err_from_is_err_and}
-use Rattle.blifww_tool.proofs.Compiled.{netlist_refused, sound, weighed, small, compiles}
+use Rattle.blifww_tool.proofs.Compiled.{compile_refused, sound, weighed, small, compiles}
 use Rattle.blifww_tool.proofs.compile.compile.Goals as goal
 
 pub plan_netlist-requires-clause-sound : goal.plan_netlist-requires-clause-sound
@@ -17,7 +17,7 @@ plan_netlist-requires-clause-ordered c = c.in_ok-netlist.ensures.parts.is_order
 pub returns-in_err-netlist-clause-refused : goal.returns-in_err-netlist-clause-refused
 returns-in_err-netlist-clause-refused c =
     let p = err_from_is_err_and c.from_residual.result c.from_residual.ensures.1 in
-    rw (p.1, p.2) (netlist_refused c.args.text.now c.in_err-netlist.field-0.0 c.in_err-netlist.ensures.refused)
+    rw (p.1, p.2) (compile_refused c.args.text.now c.in_err-netlist.field-0.0 c.in_err-netlist.ensures.refused)
 
 pub returns-clause-printed : goal.returns-clause-printed
 returns-clause-printed c =

@@ -1,12 +1,12 @@
-use Rattle.std.proofs.Common.{◌≡◌, ap, ap₂, sym, ◌∙◌, subst, ℕ, List, Bool, length, map, flat_map, zip, string_bytes}
+use Rattle.std.proofs.Common.{ap, ap₂, sym, ◌∙◌, subst, List, Bool, length, map, flat_map, zip, string_bytes}
 use Rattle.std.proofs.lemmas.Result.{err_from_is_err_and}
 use Rattle.netlist_core.specs.Names.{Name}
 use Rattle.netlist_meaning.specs.Places.{main_outputs}
 use Rattle.netlist_run.specs.Runs.{bits_in_run}
 use Rattle.drive.specs.Streams.{HasStreams, HasStreamCause}
-use Rattle.blifww_tool.specs.Evaluation.{Evaluation, IsEvaluation}
+use Rattle.blifww_tool.specs.Evaluation.{Evaluation}
 use Rattle.blifww_tool.proofs.OutputLines.{line, lines_of_names}
-use Rattle.blifww_tool.proofs.Evaluated.{netlist_refused, streams_refused, names_are_many}
+use Rattle.blifww_tool.proofs.Evaluated.{eval_refused, streams_refused, names_are_many}
 use Rattle.blifww_tool.proofs.eval.eval.Goals as goal
 
 pub run-requires-clause-many : goal.run-requires-clause-many
@@ -20,7 +20,7 @@ run-requires-clause-long c = λ k d lt. c.in_ok-streams.ensures.long k d lt ∙ 
 pub returns-in_err-netlist-clause-refused : goal.returns-in_err-netlist-clause-refused
 returns-in_err-netlist-clause-refused c =
     let p = err_from_is_err_and c.from_residual.result c.from_residual.ensures.1 in
-    rw (p.1, p.2) (netlist_refused c.args.cycles (map string_bytes c.args.words.now) c.args.text.now c.in_err-netlist.field-0.0 c.in_err-netlist.ensures.refused)
+    rw (p.1, p.2) (eval_refused c.args.cycles (map string_bytes c.args.words.now) c.args.text.now c.in_err-netlist.field-0.0 c.in_err-netlist.ensures.refused)
 
 pub returns-in_err-streams-clause-refused : goal.returns-in_err-streams-clause-refused
 returns-in_err-streams-clause-refused c =

@@ -1,5 +1,5 @@
 use Rattle.std.proofs.Common.{◌++◌, ap, ◌∙◌, codes}
-use Rattle.blifww_tool.proofs.JoinedPieces.{told_ok, told_front}
+use Rattle.blifww_tool.proofs.SameTexts.{told_ok, told_front}
 use Rattle.blifww_tool.proofs.told.tell_generations.Goals as goal
 
 pub returns-clause-ok : goal.returns-clause-ok

@@ -1,7 +1,7 @@
 use Rattle.std.proofs.Common.{◌≡◌, ap, ap₂, ◌∙◌, ℕ, List}
 use Rattle.std.specs.Prelude.{decimal}
 use Rattle.blifww_tool.specs.Refusals.{fault_text}
-use Rattle.blifww_tool.proofs.JoinedPieces.{told_ok, told_front}
+use Rattle.blifww_tool.proofs.SameTexts.{told_ok, told_front}
 use Rattle.blifww_tool.proofs.told.tell_netlist_fault.Goals as goal
 
 same_fault : (a b m n k l v w : List ℕ) → a ≡ b → m ≡ n → k ≡ l → v ≡ w → fault_text a m k v ≡ fault_text b n l w

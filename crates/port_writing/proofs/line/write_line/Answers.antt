@@ -1,14 +1,10 @@
-use Rattle.std.proofs.Common.{◌≡◌, ℕ, List, [], ◌++◌, sym, ap, ◌∙◌}
-use Rattle.std.proofs.lemmas.List.{append-nil}
+use Rattle.std.proofs.Common.{[]}
 use Rattle.std.proofs.lemmas.Result.{on_ok_weaker, on_err_weaker}
 use Rattle.port_writing.specs.Lines.{ended_line}
 use Rattle.port_writing.specs.Pages.{held}
-use Rattle.port_writing.proofs.Steps.{on_err, wrote_then, wrote_broke, wrote_as, wrote_whole, broke_as, front_of, broke_cause, cause_of}
+use Rattle.lists.proofs.Results.{on_err}
+use Rattle.port_writing.proofs.Steps.{begun, wrote_then, wrote_broke, wrote_as, wrote_whole, broke_as, front_of, broke_cause, cause_of}
 use Rattle.port_writing.proofs.line.write_line.Goals as goal
-
--- what is to be written, of which nothing is held at first
-begun : (here line : List ℕ) → here ≡ [] → line ≡ here ++ (line ++ [])
-begun here line none = sym (append-nil line) ∙ ap (λ k. k ++ (line ++ [])) (sym none)
 
 pub returns-in_err-put_line-clause-front : goal.returns-in_err-put_line-clause-front
 returns-in_err-put_line-clause-front g c =

@@ -1,7 +1,8 @@
 use Rattle.std.proofs.Common.{◌+◌, ℕ, List, [], ◌∷◌, ◌++◌, drop, flat_map, get_or, ◌∙◌, arith}
 use Rattle.std.proofs.lemmas.Result.{on_ok_weaker, on_err_weaker}
 use Rattle.port_writing.specs.Pages.{held}
-use Rattle.port_writing.proofs.Steps.{on_err, wrote_then, wrote_broke, wrote_to}
+use Rattle.lists.proofs.Results.{on_err}
+use Rattle.port_writing.proofs.Steps.{wrote_then, wrote_broke, wrote_to}
 use Rattle.port_writing.proofs.PortLines.{piece_next, pieces_none}
 use Rattle.port_writing.proofs.table.write_fields.Goals as goal
 

@@ -1,6 +1,6 @@
 use Rattle.std.proofs.Common.{ap, sym, ◌∙◌, codes}
 use Rattle.blifww_tool.specs.Refusals.{stream_line, cause_line}
-use Rattle.blifww_tool.proofs.JoinedPieces.{told_ok, told_front}
+use Rattle.blifww_tool.proofs.SameTexts.{told_ok, told_front}
 use Rattle.blifww_tool.proofs.causes.Cause.tell.Goals as goal
 
 pub returns-in-NoSuchNet-clause-ok : goal.returns-in-NoSuchNet-clause-ok

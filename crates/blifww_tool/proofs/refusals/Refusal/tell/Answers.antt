@@ -1,6 +1,6 @@
 use Rattle.std.proofs.Common.{sym, ap}
 use Rattle.blifww_tool.specs.Refusals.{refusal_line}
-use Rattle.blifww_tool.proofs.JoinedPieces.{told_ok, told_front}
+use Rattle.blifww_tool.proofs.SameTexts.{told_ok, told_front}
 use Rattle.blifww_tool.proofs.refusals.Refusal.tell.Goals as goal
 
 pub returns-in-Usage-clause-front : goal.returns-in-Usage-clause-front

@@ -1,7 +1,5 @@
 // Runs of `eval`.
 use crate::tests::run_over;
-use itoa::Buffer;
-use std::alloc::Global;
 use std::test::Fail;
 
 const ONE_CYCLE: &[&str] = &["blifww", "eval", "--cycles", "1"];
@@ -105,73 +103,6 @@ fn words_that_give_a_netlist_no_streams_are_refused(rt: HostRuntime) -> Result<(
     ] {
         let got = run_over(rt.alloc(), words, GATE, (16, &[]), (99, 99))?;
         assert_eq!(rt; got.status, 9);
-        assert_eq!(rt; got.out.as_slice(), b"".as_slice());
-        assert_eq!(rt; got.err.as_slice(), line);
-    }
-    Ok(())
-}
-
-// A model with so many inputs and one output.
-pub fn wide(alloc: Global, inputs: usize) -> Result<Vec<u8>, Fail> {
-    let mut text = b".model m\n.inputs".to_vec(alloc)?;
-    let mut digits = Buffer::new();
-    for i in 0..inputs {
-        text.extend_from_slice(b" i")?;
-        text.extend_from_slice(digits.format(i).as_bytes())?;
-    }
-    text.extend_from_slice(b"\n.outputs y\n.names y\n.end\n")?;
-    Ok(text)
-}
-
-// Models each of which places the next one twice.
-fn deep(alloc: Global, models: usize) -> Result<Vec<u8>, Fail> {
-    let mut text = Vec::new(alloc);
-    let mut digits = Buffer::new();
-    for k in 0..models {
-        text.extend_from_slice(b".model h")?;
-        text.extend_from_slice(digits.format(models - k).as_bytes())?;
-        for _ in 0..2 {
-            text.extend_from_slice(b"\n.subckt h")?;
-            text.extend_from_slice(digits.format(models - k - 1).as_bytes())?;
-        }
-        text.extend_from_slice(b"\n.end\n")?;
-    }
-    text.extend_from_slice(b".model h0\n.names y\n.end\n")?;
-    Ok(text)
-}
-
-#[test]
-fn a_netlist_past_the_limit_is_too_large(rt: HostRuntime) -> Result<(), Fail> {
-    let alloc = rt.alloc();
-    for (text, status, line) in [
-        (
-            wide(alloc, 1022)?,
-            9,
-            b"stream: MissingInput i0\n".as_slice(),
-        ),
-        (
-            wide(alloc, 1023)?,
-            4,
-            b"too large: weight 1025 limit 1024\n",
-        ),
-        (
-            deep(alloc, 40)?,
-            4,
-            b"too large: weight 3298534883326 limit 1024\n",
-        ),
-        (
-            deep(alloc, 62)?,
-            4,
-            b"too large: weight 13835058055282163710 limit 1024\n",
-        ),
-        (
-            deep(alloc, 63)?,
-            4,
-            b"too large: weight 18446744073709551615 limit 1024\n",
-        ),
-    ] {
-        let got = run_over(alloc, ONE_CYCLE, &text, (4096, &[]), (99, 99))?;
-        assert_eq!(rt; got.status, status);
         assert_eq!(rt; got.out.as_slice(), b"".as_slice());
         assert_eq!(rt; got.err.as_slice(), line);
     }

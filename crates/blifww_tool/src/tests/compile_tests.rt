@@ -1,5 +1,4 @@
 // What `compile` writes, driven by streams.
-use crate::eval_tests::wide;
 use crate::tests::{Outcome, run_over};
 use std::alloc::Global;
 use std::test::Fail;
@@ -208,8 +207,6 @@ fn what_compile_writes_begins_with_its_times(rt: HostRuntime) -> Result<(), Fail
             b".model or\n.inputs a b\n.outputs y\n.names a b y\n10 1\n.end\n".to_vec(alloc)?,
             b"#C BLIFWW 1 P 32 L 32\n",
         ),
-        // the greatest weight
-        (wide(alloc, 1022)?, b"#C BLIFWW 1 P 32 L "),
     ] {
         let compiled = run_over(
             alloc,
