@@ -94,10 +94,6 @@ pub record IsNextDue (band : Band) (x y : ℕ) : Type 0 where
 abbrev pub AreShown : List (List State) → List Row → Type 0
 AreShown cells rows = (k x : ℕ) → k < length rows → row_state (row_heads rows k) (row_tails rows k) (row_wires rows k) x ≡ get_or (get_or cells k []) x Empty
 
--- rows of cells show a plane from row y on
-abbrev pub CellsShow : List (List State) → Plane → ℕ → Type 0
-CellsShow cells p y = (k x : ℕ) → k < length cells → get_or (get_or cells k []) x Empty ≡ p (pos x) (pos y +ℤ pos k)
-
 -- In rows from row y on nothing can change: they have no head and follow the rule as they are, no head lies beside them, and no
 -- injection is due in them next.
 pub record IsQuiet (e : ℕ → Plane) (due : Due) (g y many : ℕ) : Type 0 where

@@ -9,10 +9,9 @@ use crate::band::Band;
 use crate::error::{BandsError, NotReady, NotSkipped};
 use crate::making::begin_bands;
 use crate::moving::{awake_cell, move_band, rest_band, unready_neighbour};
-use lists::List;
 use std::alloc::Global;
 use std::marker::Model;
-use ww_rule::{Injection, Pattern, State};
+use ww_rule::{CellRows, Injection, Pattern, State};
 
 /// A pattern that injections drive, in bands of rows from the top down, of one height but for the last one, which may be
 /// shorter. Each band shows its rows of the one driven evolution, at a generation of its own. A pattern without cells has
@@ -42,14 +41,14 @@ impl Model for Bands {
 }
 
 // How many words a row of cells takes, where all rows are of one length.
-fn words_for(rows: &[List<State>]) -> usize
+fn words_for(rows: &CellRows) -> usize
     ensures few { result ≤ 2 ^ 58 }
     ensures wide { (width : ℕ) → All (λ row. length row ≡ width) rows.now → All (λ row. length row ≤ 64 * result) rows.now }
 {
-    if rows.is_empty() {
+    if rows.len() == 0 {
         return 0;
     }
-    let width = rows[0].len();
+    let width = rows.row(0).len();
     if width % 64 == 0 {
         width / 64
     } else {
@@ -72,8 +71,8 @@ impl Bands {
         ensures { IfOk result (λ bands. bands ≡ begun (grid_of pattern) drive.items height) }
     {
         let height = height as usize;
-        let words = words_for(pattern.rows.as_slice());
-        let bands = begin_bands(alloc, pattern.rows.as_slice(), &drive, height, words)?;
+        let words = words_for(&pattern.rows);
+        let bands = begin_bands(alloc, &pattern.rows, &drive, height, words)?;
         let dark = vec![in alloc; 0; words]?;
         let spare_heads = vec![in alloc; 0; words]?;
         let spare_wires = vec![in alloc; 0; words]?;

@@ -1,20 +1,20 @@
 // Bands of a pattern at generation 0.
 ghost use Rattle.ww_rule.specs.Due.{AreInOrderFrom};
-ghost use Rattle.std.specs.Prelude.{◌≡◌, ◌+◌, ◌-◌, ◌*◌, ◌/◌, ◌<◌, ◌≤◌, ◌^◌, ◌==◌, ℕ, pos, List, [], length, get_or, map, filter, replicate, All, IfOk};
+ghost use Rattle.std.specs.Prelude.{◌≡◌, ◌+◌, ◌-◌, ◌*◌, ◌/◌, ◌<◌, ◌≤◌, ◌^◌, ◌==◌, ℕ, pos, List, [], length, get_or, map, filter, drop, replicate, All, IfOk};
 ghost use Rattle.ww_rule.specs.declared.pattern.State.TheVariants.{Empty};
 ghost use Rattle.ww_rule.specs.Wireworld.{Plane, Due, driven, injected};
 ghost use Rattle.ww_rule.specs.Grid.{plane_of};
 ghost use Rattle.ww_rule.specs.Injections.{due_of_list};
 ghost use Rattle.band_rows.specs.Rows.{AreLong, ShowRows};
 ghost use Rattle.band_core.specs.Bands.{bands_in};
-ghost use Rattle.band_core.specs.Band.{AllShow, AreBands, AreDueIn, AreInRows, AreShown, CellsShow, IsBand, ShowsBand, generations_of};
+ghost use Rattle.band_core.specs.Band.{AllShow, AreBands, AreDueIn, AreInRows, AreShown, IsBand, ShowsBand, generations_of};
 
 use crate::band::{Band, due_count, inject};
 use band_rows::{Kept, Row, Span};
 use lists::List;
 use std::alloc::{AllocError, Global};
 use std::mem;
-use ww_rule::{Injection, State};
+use ww_rule::{CellRows, Injection};
 
 // So many empty lists.
 fn empty_lists(alloc: Global, count: usize) -> Result<Vec<List<Injection>>, AllocError>
@@ -50,16 +50,24 @@ fn shares(
     Ok(shares)
 }
 
-// Rows of cells in so many words.
-fn packed(alloc: Global, cells: &[List<State>], words: usize) -> Result<Vec<Row>, AllocError>
-    requires { All (λ row. length row ≤ 64 * words) cells.now }
-    ensures many { IfOk result (λ rows. length rows.items ≡ length cells.now) }
+// So many rows of cells in so many words, from row y on.
+fn packed(
+    alloc: Global,
+    cells: &CellRows,
+    y: usize,
+    many: usize,
+    words: usize,
+) -> Result<Vec<Row>, AllocError>
+    requires few { length cells.now < 2 ^ 63 }
+    requires within { y + many ≤ length cells.now }
+    requires wide { All (λ row. length row ≤ 64 * words) cells.now }
+    ensures many { IfOk result (λ rows. length rows.items ≡ many) }
     ensures long { IfOk result (λ rows. AreLong words rows.items) }
-    ensures shows { IfOk result (λ rows. AreShown cells.now rows.items) }
+    ensures shows { IfOk result (λ rows. AreShown (drop y cells.now) rows.items) }
 {
-    let mut rows = Vec::with_capacity(alloc, cells.len())?;
-    for row in cells {
-        rows.push(Row::of_cells(alloc, row.as_slice(), words)?)?;
+    let mut rows = Vec::with_capacity(alloc, many)?;
+    for k in 0..many {
+        rows.push(Row::of_cells(alloc, cells.row(y + k), words)?)?;
     }
     Ok(rows)
 }
@@ -74,23 +82,26 @@ fn dark_row(alloc: Global, words: usize) -> Result<Kept, AllocError>
     })
 }
 
-// The band of rows of cells from row y on, at generation 0, with its own injections.
+// The band of so many rows of cells from row y on, at generation 0, with its own injections.
 fn begin_band(
     alloc: Global,
-    cells: &[List<State>],
+    cells: &CellRows,
     y: usize,
+    many: usize,
     words: usize,
     injections: Vec<Injection>,
 ) -> Result<Band, AllocError>
-    requires some { 0 < length cells.now }
-    requires long { All (λ row. length row ≤ 64 * words) cells.now }
-    requires inside { AreInRows words y (length cells.now) injections.items }
+    requires some { 0 < many }
+    requires few { length cells.now < 2 ^ 63 }
+    requires within { y + many ≤ length cells.now }
+    requires wide { All (λ row. length row ≤ 64 * words) cells.now }
+    requires inside { AreInRows words y many injections.items }
     requires in_order { AreInOrderFrom 0 injections.items }
-    ensures is { IfOk result (λ band. IsBand words y (length cells.now) band) }
+    ensures is { IfOk result (λ band. IsBand words y many band) }
     ensures begun { IfOk result (λ band. band.generation ≡ 0) }
-    ensures shows { IfOk result (λ band. (e : ℕ → Plane) (due : Due) (p : Plane) → e 0 ≡ injected (due 0) p → CellsShow cells.now p y → AreDueIn injections.items due y (length cells.now) → ShowsBand e due y (length cells.now) band) }
+    ensures shows { IfOk result (λ band. (e : ℕ → Plane) (due : Due) → e 0 ≡ injected (due 0) (plane_of cells.now) → AreDueIn injections.items due y many → ShowsBand e due y many band) }
 {
-    let mut rows = packed(alloc, cells, words)?;
+    let mut rows = packed(alloc, cells, y, many, words)?;
     let done = due_count(0, &injections);
     inject(alloc, &mut rows, y, words, &injections[..done]);
     Ok(Band {
@@ -106,7 +117,7 @@ fn begin_band(
 /// The bands of rows of cells at generation 0.
 pub fn begin_bands(
     alloc: Global,
-    rows: &[List<State>],
+    rows: &CellRows,
     drive: &[Injection],
     height: usize,
     words: usize,
@@ -125,9 +136,9 @@ pub fn begin_bands(
     let mut bands = Vec::with_capacity(alloc, count)?;
     for b in 0..count {
         let y = b * height;
-        let end = rows.len().min(y + height);
+        let many = height.min(rows.len() - y);
         let own = mem::replace(&mut shares[b], List::of(Vec::new(alloc))).into_vec();
-        bands.push(begin_band(alloc, &rows[y..end], y, words, own)?)?;
+        bands.push(begin_band(alloc, rows, y, many, words, own)?)?;
     }
     Ok(bands)
 }

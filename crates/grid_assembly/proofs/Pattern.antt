@@ -1,5 +1,5 @@
 -- The rows of a plan's pattern, and its plane.
-use Rattle.std.proofs.Common.{rules, ℤ, pos, negsuc, ℕ, zero, suc, ◌+◌, ◌*◌, ◌<◌, ◌≤◌, ◌≡◌, refl, sym, ap, ◌∙◌, Bool, true, false, ◌==◌, cond, nat_lt, List, [], map, length, get_or, arith}
+use Rattle.std.proofs.Common.{rules, ℤ, pos, negsuc, ℕ, zero, suc, ◌+◌, ◌*◌, ◌<◌, ◌≤◌, ◌≡◌, refl, sym, ap, ◌∙◌, Bool, true, false, ◌==◌, cond, nat_lt, List, [], map, length, get_or, All, arith}
 use Rattle.std.specs.List.{range_with_len}
 use Rattle.std.proofs.lemmas.Bool.{and_parts, ltb-true}
 use Rattle.std.proofs.lemmas.List.{ext_get_or}
@@ -43,6 +43,13 @@ pub row_is : (plan : Plan) (y : ℕ) (cells : List State) → length cells ≡ (
 row_is plan y cells long are =
     ext_get_or Empty cells (start_row plan y) (long ∙ sym (length-map-range_with_len (λ x. start_plane shipped_drawing plan (pos x) (pos y)) 0 (size_of plan).0))
     (λ i lt. let at : 0 + i ≡ i = omega arith in are i lt ∙ ap (λ x. start_plane shipped_drawing plan (pos x) (pos y)) at ∙ sym (cell_at plan i y (omega (arith, lt, long))))
+
+-- the first rows are as wide as the drawing
+pub rows_long : (plan : Plan) (n : ℕ) → All (λ row. length row ≡ (size_of plan).0) (map (start_row plan) (range_with_len 0 n))
+rows_long plan n y d lt =
+    let many : length (map (start_row plan) (range_with_len 0 n)) ≡ n = length-map-range_with_len (start_row plan) 0 n in
+    ap length (get_or-map-range_with_len (start_row plan) 0 n y y d (omega (arith, lt, many)) (omega arith))
+    ∙ length-map-range_with_len (λ x. start_plane shipped_drawing plan (pos x) (pos y)) 0 (size_of plan).0
 
 pub is_grid : (plan : Plan) → IsGrid (size_of plan).0 (size_of plan).1 (start_grid plan).rows
 is_grid plan =

@@ -9,10 +9,9 @@ ghost use Rattle.grid_assembly.specs.PlanDrawing.{AreCellsOfRow, start_grid};
 
 use crate::cells::{is_slot_blank, slot_cell};
 use lane_core::Plan;
-use lists::List;
 use plan_layout::slot_at;
 use std::alloc::{AllocError, Global};
-use ww_rule::{Pattern, State};
+use ww_rule::{CellRows, Pattern, State};
 
 /// Width and height of the drawing in cells, (0, 0) of a plan without lanes.
 pub fn size(plan: &Plan) -> (u64, u64)
@@ -79,15 +78,15 @@ pub fn pattern_of(alloc: Global, plan: &Plan) -> Result<Pattern, AllocError>
     ensures { IfOk result (λ pattern. grid_of pattern ≡ start_grid plan.now) }
 {
     let (width, height) = size(plan);
-    let mut rows = Vec::with_capacity(alloc, height as usize)?;
+    let mut rows = CellRows::with_room(alloc, width as usize, height as usize)?;
     for y in 0..height {
         let mut row = vec![in alloc; State::Empty; width as usize]?;
         fill_row(plan, y, 0, &mut row);
-        rows.push(List::of(row))?;
+        rows.push_row(&row)?;
     }
     Ok(Pattern {
         width,
         height,
-        rows: List::of(rows),
+        rows,
     })
 }

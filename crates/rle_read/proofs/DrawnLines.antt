@@ -12,7 +12,8 @@ use Rattle.pattern_reading.specs.Items.{Item, Cells, RowEnds, End, Blank, CutOff
 use Rattle.pattern_reading.specs.Pattern.{RleFaultAt, fault_at, item_fault, run_fault}
 use Rattle.rle_read.specs.declared.items.Item as read
 use Rattle.rle_read.specs.Texts.{item_of}
-use Rattle.rle_read.specs.Drawn.{Drawn, Reached, Fault, Ended, Open, reached_by, drawn_with, drawn_after, place_of, with_run}
+use Rattle.rle_read.specs.Drawn.{Drawn, Reached, Fault, Ended, Open, reached_by, drawn_with, drawn_after, place_of}
+use Rattle.ww_rule.specs.Cuts.{with_run}
 use Rattle.rle_read.proofs.Runs.{run_inside, run_in_rows, run_grid}
 
 -- the items of bytes of a line that is no comment

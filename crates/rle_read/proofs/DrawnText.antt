@@ -18,7 +18,8 @@ use Rattle.pattern_reading.specs.Items.{Item, Cells, RowEnds, End, Blank, CutOff
 use Rattle.pattern_reading.specs.Laws.{next_column, next_row}
 use Rattle.pattern_reading.specs.Pattern.{RleFaultAt, fault_at, item_fault, run_fault, state_at, state_in}
 use Rattle.pattern_reading.proofs.Places.{next_place}
-use Rattle.rle_read.specs.Drawn.{Drawn, Reached, Fault, Ended, Open, kept, reached_by, drawn_with, drawn_after, rows_with, place_of, with_run, blank_drawing}
+use Rattle.rle_read.specs.Drawn.{Drawn, Reached, Fault, Ended, Open, kept, reached_by, drawn_with, drawn_after, rows_with, place_of, blank_drawing}
+use Rattle.ww_rule.specs.Cuts.{with_run}
 use Rattle.rle_read.proofs.Runs.{run_inside, run_in_rows, run_grid, run_covers, run_spares}
 use Rattle.std.proofs.lemmas.List.Elements.{filter_map-append as filter_map_append}
 use Rattle.std.proofs.Math.Bool.{and-false as and_none}

@@ -1,5 +1,5 @@
 -- Runs of cells in rows.
-use Rattle.std.proofs.Common.{ℕ, ◌+◌, ◌-◌, ◌<◌, ◌≤◌, ◌≡◌, ◌≢◌, refl, sym, ap, ◌∙◌, Bool, true, false, List, [], ◌++◌, length, take, drop, get_or, set, replicate, arith, length-drop, length-take, length-append, ◌⊎◌, inl, inr}
+use Rattle.std.proofs.Common.{ℕ, ◌+◌, ◌-◌, ◌<◌, ◌≤◌, ◌≡◌, ◌≢◌, refl, sym, ap, ◌∙◌, Bool, true, false, List, [], ◌++◌, length, take, drop, get_or, set, replicate, arith, length-take, ◌⊎◌, inl, inr}
 use Rattle.std.specs.Prelude.{if◌then◌else◌, Some, None}
 use Rattle.std.proofs.lemmas.Bool.{and_parts, leb-true, ltb-true}
 use Rattle.std.proofs.lemmas.Option.{none-some}
@@ -13,7 +13,8 @@ use Rattle.ww_rule.proofs.RowLemmas.{in_rows, same_grid}
 use Rattle.pattern_reading.specs.declared.faults.RleFaultKind.TheVariants.{CellOutside}
 use Rattle.pattern_reading.specs.Items.{Placed}
 use Rattle.pattern_reading.specs.Pattern.{run_fault}
-use Rattle.rle_read.specs.Drawn.{with_run}
+use Rattle.ww_rule.specs.Cuts.{with_run}
+use Rattle.ww_rule.proofs.CutLemmas.{length-with_run}
 
 -- a run that is not at fault lies in the box
 inside : (b : Bool) → (if b then None else Some CellOutside) ≡ None → b ≡ true
@@ -35,10 +36,6 @@ run_in_rows width height rows x y n grid some right low =
     (iny, omega (arith, long, right))
 
 -- a row with a run
-pub length_with_run : (row : List State) (x n : ℕ) (state : State) → x + n ≤ length row → length (with_run row x n state) ≡ length row
-length_with_run row x n state h =
-    omega (arith, length-append (take x row) (replicate n state ++ drop (x + n) row), length-append (replicate n state) (drop (x + n) row), length-take x row, length-replicate n state, length-drop (x + n) row)
-
 run_before : (row : List State) (x n c : ℕ) (state d : State) → x + n ≤ length row → c < x → get_or (with_run row x n state) c d ≡ get_or row c d
 run_before row x n c state d h k =
     get_or_append_left (take x row) (replicate n state ++ drop (x + n) row) d c (omega (arith, length-take x row)) ∙ get_or-take x row c d k
@@ -70,5 +67,5 @@ run_grid width height rows x y n state grid iny inx =
     same_grid width height rows (set rows y (with_run (get_or rows y []) x n state)) grid (length-set rows y (with_run (get_or rows y []) x n state)) (λ k h. at k (cases_eq k y))
   where
     at : (k : ℕ) → (k ≡ y) ⊎ (k ≡ y → ⊥) → length (get_or (set rows y (with_run (get_or rows y []) x n state)) k []) ≡ length (get_or rows k [])
-    at k (inl e) = ap length (get_or-set_at rows y k (with_run (get_or rows y []) x n state) [] e iny) ∙ length_with_run (get_or rows y []) x n state inx ∙ ap (λ j. length (get_or rows j [])) (sym e)
+    at k (inl e) = ap length (get_or-set_at rows y k (with_run (get_or rows y []) x n state) [] e iny) ∙ length-with_run (get_or rows y []) x n state inx ∙ ap (λ j. length (get_or rows j [])) (sym e)
     at k (inr ne) = ap length (get_or-set_other rows y k (with_run (get_or rows y []) x n state) [] ne)

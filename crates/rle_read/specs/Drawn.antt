@@ -1,7 +1,8 @@
 -- Patterns that are drawn item by item.
-use Rattle.std.specs.Prelude.{ℕ, ◌+◌, ◌-◌, ◌^◌, ◌==◌, min, Bool, true, false, if◌then◌else◌, List, [], ◌∷◌, ◌++◌, take, drop, replicate, get_or, slice_set, Option, Some, None}
+use Rattle.std.specs.Prelude.{ℕ, ◌+◌, ◌-◌, ◌^◌, ◌==◌, min, Bool, true, false, if◌then◌else◌, List, [], ◌∷◌, replicate, get_or, slice_set, Option, Some, None}
 use Rattle.ww_rule.specs.declared.pattern.State.{State}
 use Rattle.ww_rule.specs.declared.pattern.State.TheVariants.{Empty}
+use Rattle.ww_rule.specs.Cuts.{with_run}
 use Rattle.pattern_reading.specs.Items.{Item, Cells, RowEnds, LineItem, Placed, is_end}
 use Rattle.pattern_reading.specs.Pattern.{RleFaultAt, fault_at}
 use Rattle.std.specs.Prelude.{Result, Ok, Err}
@@ -20,7 +21,7 @@ pub record Drawn : Type 0 where
   pub y : ℕ
 
 abbrev pub drawn_of : Drawing → Drawn
-drawn_of d = record { width = d.width; height = d.height; rows = d.rows.items; x = d.x; y = d.y }
+drawn_of d = record { width = d.width; height = d.height; rows = d.rows; x = d.x; y = d.y }
 
 -- a place, or the greatest number where it is past it
 abbrev pub kept : ℕ → ℕ
@@ -30,10 +31,6 @@ kept n = min n (2 ^ 64 - 1)
 abbrev pub blank_drawing : ℕ → ℕ → Drawn
 blank_drawing width height =
     record { width = width; height = height; rows = (if width == 0 then [] else replicate height (replicate width Empty)); x = 0; y = 0 }
-
--- a row with n cells of a state from column x on
-abbrev pub with_run : List State → ℕ → ℕ → State → List State
-with_run row x n state = take x row ++ (replicate n state ++ drop (x + n) row)
 
 -- the rows with a run of cells; empty cells change nothing
 abbrev pub rows_with : Drawn → ℕ → State → List (List State)

@@ -22,9 +22,9 @@ pub enum LineEnd {
 
 // Draws the items of a line, up to the pattern's end or an item at fault.
 fn draw_line(drawing: &mut Drawing, line: Line<'_>) -> Result<LineEnd, RleFault>
-    requires in_rows { IsGrid drawing.old.width drawing.old.height drawing.old.rows.items }
+    requires in_rows { IsGrid drawing.old.width drawing.old.height drawing.old.rows }
     ensures drawn { reached_of result (drawn_of drawing.new) ≡ drawn_with (drawn_of drawing.old) (items_of_line (line_of line.entry)) }
-    ensures in_rows { IsGrid drawing.new.width drawing.new.height drawing.new.rows.items }
+    ensures in_rows { IsGrid drawing.new.width drawing.new.height drawing.new.rows }
 {
     if line.is_comment() {
         return Ok(LineEnd::OfLine);
@@ -51,7 +51,7 @@ fn draw_line(drawing: &mut Drawing, line: Line<'_>) -> Result<LineEnd, RleFault>
 /// Draws the items of a text before which stand so many lines, up to the pattern's end.
 pub fn draw_text(drawing: &mut Drawing, lines_before: u64, text: &[u8]) -> Result<(), RleFault>
     requires room { lines_before + length text.now < 2 ^ 64 }
-    requires in_rows { IsGrid drawing.old.width drawing.old.height drawing.old.rows.items }
+    requires in_rows { IsGrid drawing.old.width drawing.old.height drawing.old.rows }
     ensures { let lines = lines_from (lines_before + 1) (with_line_feeds text.now) in
         let reached = drawn_with (drawn_of drawing.old) (items_of_lines lines) in
         MatchResult result

@@ -1,19 +1,17 @@
 // A pattern that is drawn item by item.
-ghost use Rattle.std.specs.Prelude.{◌≡◌, ◌+◌, ◌≤◌, ◌<◌, ◌&&◌, nat_le, nat_lt, None, [], length, get_or, slice_set, replicate, IfOk, IfErr};
+ghost use Rattle.std.specs.Prelude.{◌≡◌, ◌+◌, ◌<◌, ◌&&◌, nat_le, nat_lt, None, IfOk, IfErr};
 ghost use Rattle.ww_rule.specs.Grid.{IsGrid};
-ghost use Rattle.ww_rule.specs.declared.pattern.State.TheVariants.{Empty};
 ghost use Rattle.pattern_reading.specs.Items.{Cells, IsCounted};
 ghost use Rattle.pattern_reading.specs.Pattern.{item_fault, run_fault};
 ghost use Rattle.rle_read.specs.Texts.{item_of};
 ghost use Rattle.rle_read.specs.declared.error.RleReadError.TheVariants.{NoMemory};
-ghost use Rattle.rle_read.specs.Drawn.{drawn_of, blank_drawing, with_run, drawn_after, place_of};
+ghost use Rattle.rle_read.specs.Drawn.{drawn_of, blank_drawing, drawn_after, place_of};
 
 use crate::error::RleReadError;
 use crate::items::Item;
-use lists::List;
 use pattern_reading::RleFaultKind;
 use std::alloc::Global;
-use ww_rule::State;
+use ww_rule::{CellRows, State};
 
 /// A pattern while its items are read: its rows so far, and the column and the row at which the next item begins. A
 /// column or a row past the greatest number is kept as the greatest, since no cell of a box lies there.
@@ -21,34 +19,9 @@ use ww_rule::State;
 pub struct Drawing {
     pub width: u64,
     pub height: u64,
-    pub rows: Vec<List<State>>,
+    pub rows: CellRows,
     pub x: u64,
     pub y: u64,
-}
-
-// Makes `count` cells of a row, from column x on, this state.
-fn fill_run(row: &mut [State], x: usize, count: usize, state: State)
-    requires in_row { x + count ≤ length row.old }
-    ensures { row.new ≡ with_run row.old x count state }
-{
-    row[x..x + count].fill(state);
-}
-
-// The same of row y.
-fn put_run(rows: &mut [List<State>], y: usize, x: usize, count: usize, state: State)
-    requires in_rows { y < length rows.old }
-    requires in_row { x + count ≤ length (get_or rows.old y []) }
-    ensures { rows.new ≡ slice_set rows.old y (with_run (get_or rows.old y []) x count state) }
-{
-    fill_run(rows[y].as_mut_slice(), x, count, state);
-}
-
-// A row of so many empty cells.
-fn blank_row(alloc: Global, width: u64) -> Result<List<State>, RleReadError>
-    ensures row { IfOk result (λ row. row ≡ replicate width Empty) }
-    ensures failed { IfErr result (λ e. e ≡ NoMemory) }
-{
-    Ok(List::of(vec![in alloc; State::Empty; width as usize]?))
 }
 
 impl Drawing {
@@ -58,10 +31,7 @@ impl Drawing {
         ensures failed { IfErr result (λ e. e ≡ NoMemory) }
     {
         let row_count = if width == 0 { 0 } else { height };
-        let mut rows = Vec::with_capacity(alloc, row_count as usize)?;
-        for _ in 0..row_count {
-            rows.push(blank_row(alloc, width)?)?;
-        }
+        let rows = CellRows::blank(alloc, width as usize, row_count as usize)?;
         Ok(Drawing {
             width,
             height,
@@ -96,7 +66,7 @@ impl Drawing {
 
     // Draws a run of cells that is not at fault.
     fn draw_run(&mut self, count: u64, state: State)
-        requires in_rows { IsGrid self.old.width self.old.height self.old.rows.items }
+        requires in_rows { IsGrid self.old.width self.old.height self.old.rows }
         requires counted { 0 < count }
         requires sound { run_fault self.old.width self.old.height (place_of 0 (drawn_of self.old) (Cells count state)) count state ≡ None }
         ensures { drawn_of self.new ≡ drawn_after (Cells count state) (drawn_of self.old) }
@@ -105,7 +75,7 @@ impl Drawing {
             State::Empty => {}
             _ => {
                 let (x, y) = (self.x as usize, self.y as usize);
-                put_run(&mut self.rows, y, x, count as usize, state);
+                self.rows.fill(y, x, count as usize, state);
             }
         }
         self.x = self.x.saturating_add(count);
@@ -113,7 +83,7 @@ impl Drawing {
 
     /// Draws an item that is not at fault.
     pub fn draw(&mut self, item: Item)
-        requires in_rows { IsGrid self.old.width self.old.height self.old.rows.items }
+        requires in_rows { IsGrid self.old.width self.old.height self.old.rows }
         requires counted { IsCounted (item_of item) }
         requires sound { item_fault self.old.width self.old.height (place_of 0 (drawn_of self.old) (item_of item)) (item_of item) ≡ None }
         ensures { drawn_of self.new ≡ drawn_after (item_of item) (drawn_of self.old) }

@@ -14,7 +14,6 @@ use crate::drawing::Drawing;
 use crate::error::{RleFault, RleReadError};
 use crate::header::{Header, header_in};
 use crate::words::after_word;
-use lists::List;
 use pattern_lines::{Line, split_line};
 use pattern_reading::RleFaultKind;
 use std::alloc::Global;
@@ -88,7 +87,7 @@ fn pattern_in(alloc: Global, text: &[u8]) -> Result<Pattern, RleReadError>
     Ok(Pattern {
         width,
         height,
-        rows: List::of(drawing.rows),
+        rows: drawing.rows,
     })
 }
 

@@ -5,6 +5,7 @@ pub mod Locality
 pub mod Boxes
 pub mod Finite
 pub mod RowLemmas
+pub mod CutLemmas
 pub mod Bridge
 pub mod Injected
 pub mod Streams

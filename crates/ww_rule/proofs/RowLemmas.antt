@@ -1,5 +1,5 @@
 -- Rows of a box.
-use Rattle.std.proofs.Common.{ℤ, pos, negsuc, ◌-ℤ◌, ℕ, zero, suc, ◌+◌, ◌-◌, ◌*◌, ◌<◌, ◌≡◌, refl, sym, ap, subst, below_more, ◌∙◌, inl, inr, List, [], ◌∷◌, ◌++◌, length, get_or, map, reverse, arith}
+use Rattle.std.proofs.Common.{ℤ, pos, negsuc, ◌-ℤ◌, ℕ, zero, suc, ◌+◌, ◌-◌, ◌*◌, ◌<◌, ◌≡◌, refl, sym, ap, subst, below_more, ◌∙◌, inl, inr, List, [], ◌∷◌, ◌++◌, length, get_or, map, reverse, take, get_or-take, length-take, All, arith}
 use Rattle.std.proofs.lemmas.Bool.{cases_lt}
 use Rattle.std.proofs.lemmas.List.{get_or-reverse, get_or-map, get_or_past, length-map, length-reverse, nil_from_length}
 use Rattle.std.proofs.lemmas.Int.{ints}
@@ -115,3 +115,14 @@ reversed_shows width height rows grid = fun_ext (λ x. fun_ext (λ y. place x y)
         ∙ sym (plane_of_row rows ((pos width -ℤ pos 1) -ℤ x) y)
     place x (negsuc y) =
         plane_of_north (map reverse rows) x y ∙ sym (plane_of_north rows ((pos width -ℤ pos 1) -ℤ x) y)
+
+-- rows of one length, reversed, are of that length
+pub reversed_long : (rows : List (List State)) (y : ℕ) → y < length rows → All (λ row. length row ≡ length (get_or rows 0 [])) rows → All (λ row. length row ≡ length (reverse (get_or rows y []))) (map reverse (take y rows))
+reversed_long rows y iny long k d h =
+    let n : length (map reverse (take y rows)) ≡ length (take y rows) = length-map (take y rows) reverse in
+    let ink : k < y = omega (arith, length-take y rows) in
+    ap length (get_or-map reverse (take y rows) k [] d (omega arith))
+    ∙ length-reverse (get_or (take y rows) k [])
+    ∙ ap length (get_or-take y rows k [] ink)
+    ∙ long k [] (omega arith)
+    ∙ sym (length-reverse (get_or rows y []) ∙ long y [] iny)

@@ -1,4 +1,5 @@
 pub mod Wireworld
+pub mod Cuts
 pub mod Grid
 pub mod Injections
 pub mod Patterns

@@ -1,6 +1,7 @@
 //! Wireworld: states, patterns, planes and the rule.
 #![tactic(auto)]
 
+mod cell_rows;
 mod error;
 pub mod laws;
 mod mirror;
@@ -8,6 +9,7 @@ mod pattern;
 mod plane;
 mod rows;
 
+pub use cell_rows::CellRows;
 pub use error::RuleError;
 pub use mirror::mirror_x;
 pub use pattern::{Injection, Pattern, State};

@@ -14,7 +14,7 @@ pub fn mirror_x(alloc: Global, pattern: &Pattern) -> Result<Pattern, RuleError>
     ensures height { IfOk result (λ mirror. mirror.height ≡ pattern.now.height) }
     ensures cells { IfOk result (λ mirror. plane_of mirror.rows ≡ mirrored (pos pattern.now.width -ℤ pos 1) (plane_of pattern.now.rows)) }
 {
-    let rows = reversed(alloc, pattern.rows.as_slice())?;
+    let rows = reversed(alloc, &pattern.rows)?;
     Ok(Pattern {
         width: pattern.width,
         height: pattern.height,

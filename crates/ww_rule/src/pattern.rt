@@ -1,5 +1,5 @@
 // The four states, patterns as boxes of cells in rows, and injections.
-use lists::List;
+use crate::cell_rows::CellRows;
 
 /// The state of a cell, by Silverman's rule.
 #[derive(Clone, Copy, Debug, PartialEq, Eq)]
@@ -17,7 +17,7 @@ ghost use Rattle.ww_rule.specs.Grid.{IsGrid};
 pub struct Pattern {
     pub width: u64,
     pub height: u64,
-    pub rows: List<List<State>>,
+    pub rows: CellRows,
     ghost in_rows: { IsGrid width height rows },
 }
 

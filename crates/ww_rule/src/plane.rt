@@ -4,10 +4,10 @@ ghost use Rattle.ww_rule.specs.Wireworld.{next_plane, injected};
 ghost use Rattle.ww_rule.specs.Grid.{IsGrid, AreInBox, plane_of};
 ghost use Rattle.ww_rule.specs.Injections.{has_cell};
 
+use crate::cell_rows::CellRows;
 use crate::error::RuleError;
 use crate::pattern::{Pattern, State};
-use crate::rows::{copied, make_head, next_row, row_before};
-use lists::List;
+use crate::rows::{next_row, row_before, row_or_none};
 use std::alloc::Global;
 
 /// A plane with finitely many cells: `height` rows of `width` cells each, from north to south, the first cell at x = 0
@@ -16,7 +16,7 @@ use std::alloc::Global;
 pub struct Plane {
     pub width: u64,
     pub height: u64,
-    pub rows: List<List<State>>,
+    pub rows: CellRows,
     ghost in_rows: { IsGrid width height rows },
 }
 
@@ -27,7 +27,7 @@ impl Plane {
     pub fn from_pattern(alloc: Global, pattern: &Pattern) -> Result<Plane, RuleError>
         ensures { IfOk result (λ plane. box_of plane ≡ grid_of pattern.now) }
     {
-        let rows = copied(alloc, pattern.rows.as_slice())?;
+        let rows = pattern.rows.copied(alloc)?;
         Ok(Plane {
             width: pattern.width,
             height: pattern.height,
@@ -49,7 +49,7 @@ impl Plane {
             mut rows,
         } = self;
         for (x, y) in injections {
-            make_head(rows.as_mut_slice(), *x as usize, *y as usize);
+            rows.put(*x as usize, *y as usize, State::Head);
         }
         Plane {
             width,
@@ -81,17 +81,18 @@ pub fn step_plain(alloc: Global, plane: &Plane) -> Result<Plane, RuleError>
     ensures height { IfOk result (λ next. next.height ≡ plane.now.height) }
     ensures cells { IfOk result (λ next. plane_of next.rows ≡ next_plane (plane_of plane.now.rows)) }
 {
-    let old = plane.rows.as_slice();
-    let mut rows = Vec::with_capacity(alloc, old.len())?;
-    for (y, row) in old.iter().enumerate() {
+    let old = &plane.rows;
+    let mut rows = CellRows::with_room(alloc, 0, 0)?;
+    for y in 0..old.len() {
         let above = row_before(old, y);
-        let below = row_before(old, y + 2);
-        rows.push(next_row(alloc, above, row.as_slice(), below)?)?;
+        let below = row_or_none(old, y + 1);
+        let next = next_row(alloc, above, old.row(y), below)?;
+        rows.push_row(next.as_slice())?;
     }
     Ok(Plane {
         width: plane.width,
         height: plane.height,
-        rows: List::of(rows),
+        rows,
     })
 }
 

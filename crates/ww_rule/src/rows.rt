@@ -1,9 +1,10 @@
-// Rows of cells: copies of them, and their next states.
-ghost use Rattle.std.specs.Prelude.{◌≡◌, ◌<◌, ◌≤◌, ◌-ℤ◌, ℕ, pos, [], ◌∷◌, length, get_or, map, reverse, slice_set, ◌-◌, IfOk};
+// Rows of cells: from their ends to their starts, and their next states.
+ghost use Rattle.std.specs.Prelude.{◌≡◌, ◌<◌, ◌≤◌, ◌-ℤ◌, ℕ, pos, [], ◌∷◌, length, get_or, map, reverse, ◌-◌, All, IfOk};
 ghost use Rattle.ww_rule.specs.declared.pattern.State.TheVariants.{Empty, Head};
 ghost use Rattle.ww_rule.specs.Wireworld.{count_head, heads_around, next_plane, next_state};
 ghost use Rattle.ww_rule.specs.Grid.{plane_of};
 
+use crate::cell_rows::CellRows;
 use crate::error::RuleError;
 use crate::pattern::State;
 use lists::List;
@@ -71,44 +72,40 @@ pub fn next_row(
     Ok(List::of(next))
 }
 
+/// Row y, or no cells where there is none.
+pub fn row_or_none(rows: &CellRows, y: usize) -> &[State]
+    ensures { result.now ≡ get_or rows.now y [] }
+{
+    if y < rows.len() { rows.row(y) } else { &[] }
+}
+
 /// The row before row y, counted from 1, or no cells where there is none.
-pub fn row_before(rows: &[List<State>], y: usize) -> &[State]
+pub fn row_before(rows: &CellRows, y: usize) -> &[State]
     ensures first { y ≡ 0 → result.now ≡ [] }
     ensures later { 0 < y → result.now ≡ get_or rows.now (y - 1) [] }
 {
-    if y == 0 || y > rows.len() {
+    if y == 0 {
         return &[];
     }
-    rows[y - 1].as_slice()
+    row_or_none(rows, y - 1)
 }
 
-/// A copy of rows.
-pub fn copied(alloc: Global, rows: &[List<State>]) -> Result<List<List<State>>, RuleError>
-    ensures { IfOk result (λ copy. copy ≡ rows.now) }
+// A row from its end to its start.
+fn reversed_row(alloc: Global, row: &[State]) -> Result<Vec<State>, RuleError>
+    ensures { IfOk result (λ turned. turned.items ≡ reverse row.now) }
 {
-    let mut copies = Vec::with_capacity(alloc, rows.len())?;
-    for row in rows {
-        copies.push(List::of(row.as_slice().iter().copied().collect(alloc)?))?;
-    }
-    Ok(List::of(copies))
+    Ok(row.iter().rev().copied().collect(alloc)?)
 }
 
 /// The rows, each from its end to its start.
-pub fn reversed(alloc: Global, rows: &[List<State>]) -> Result<List<List<State>>, RuleError>
+pub fn reversed(alloc: Global, rows: &CellRows) -> Result<CellRows, RuleError>
+    requires { All (λ row. length row ≡ length (get_or rows.now 0 [])) rows.now }
     ensures { IfOk result (λ turned. turned ≡ map reverse rows.now) }
 {
-    let mut turned = Vec::with_capacity(alloc, rows.len())?;
-    for row in rows {
-        turned.push(List::of(row.as_slice().iter().rev().copied().collect(alloc)?))?;
+    let mut turned = CellRows::with_room(alloc, 0, 0)?;
+    for y in 0..rows.len() {
+        let row = reversed_row(alloc, rows.row(y))?;
+        turned.push_row(&row)?;
     }
-    Ok(List::of(turned))
-}
-
-/// Makes the cell of column x and row y a head.
-pub fn make_head(rows: &mut [List<State>], x: usize, y: usize)
-    requires in_rows { y < length rows.old }
-    requires in_row { x < length (get_or rows.old y []) }
-    ensures { rows.new ≡ slice_set rows.old y (slice_set (get_or rows.old y []) x Head) }
-{
-    rows[y].as_mut_slice()[x] = State::Head;
+    Ok(turned)
 }

@@ -1,23 +1,16 @@
 use Rattle.ww_rule.specs.Due.{AreInOrderFrom}
-use Rattle.std.proofs.Common.{pos, ◌+ℤ◌, ℕ, ◌+◌, ◌-◌, ◌*◌, ◌/◌, ◌==◌, min, ◌<◌, ◌≡◌, refl, sym, ap, ap₂, subst, ◌∙◌, Bool, List, [], ◌∷◌, ◌++◌, length, get_or, take, drop, filter, arith}
-use Rattle.std.proofs.lemmas.List.{length-set, length-take, length-drop, length-append, get_or-set_other, get_or-take, get_or-drop, map-append, replicate_more}
-use Rattle.ww_rule.specs.declared.pattern.State.TheVariants.{Empty}
+use Rattle.std.proofs.Common.{pos, ◌+ℤ◌, ℕ, ◌+◌, ◌-◌, ◌*◌, ◌/◌, ◌==◌, min, ◌<◌, ◌≡◌, refl, sym, ap, ap₂, subst, ◌∙◌, Bool, List, [], ◌∷◌, ◌++◌, length, get_or, filter, arith}
+use Rattle.std.proofs.lemmas.List.{length-set, length-append, get_or-set_other, map-append, replicate_more}
 use Rattle.ww_rule.specs.declared.pattern.Injection.{Injection}
 use Rattle.ww_rule.specs.Wireworld.{driven}
 use Rattle.ww_rule.specs.Grid.{plane_of}
 use Rattle.ww_rule.specs.Injections.{due_of_list}
 use Rattle.ww_rule.proofs.RowLemmas.{get_or_any, pushed}
+use Rattle.band_core.specs.Bands.{bands_in}
 use Rattle.band_core.specs.declared.band.Band.{Band}
-use Rattle.band_core.specs.Band.{AreInRows, AreDueIn, CellsShow, IsBand, ShowsBand, generations_of}
+use Rattle.band_core.specs.Band.{AreInRows, AreDueIn, IsBand, ShowsBand, generations_of}
 use Rattle.band_core.proofs.Evolution.{share_inside, share_in_order, share_due, starts}
 use Rattle.band_core.proofs.making.begin_bands.Goals as goal
-
--- the rows of a band
-size : {X : Type 0} (rows : List X) (y h e : ℕ) → y < length rows → e ≡ min (length rows) (y + h) → length (take (e - y) (drop y rows)) ≡ min h (length rows - y)
-size rows y h e lt q =
-    let t = length-take (e - y) (drop y rows) in
-    let d = length-drop y rows in
-    omega (arith, t, d, lt, q)
 
 own_is : (shares : List (List Injection)) (b n : ℕ) (own replaced found : List Injection) (p : Injection → Bool) (drive : List Injection) → b < length shares → own ≡ replaced → replaced ≡ found → found ≡ get_or shares b found → get_or shares b [] ≡ filter p drive → own ≡ filter p drive
 own_is shares b n own replaced found p drive lt a c d e = a ∙ c ∙ d ∙ get_or_any shares b found [] lt ∙ e
@@ -30,10 +23,10 @@ begin_band-requires-clause-inside c =
     let v = c.loop-b.invariant in
     let lt = c.loop-b-test.true in
     let parts = v.parts in
-    let first = starts b h (length rows) c.requires.height lt in
+    let first = starts b h (length rows) c.requires.height (subst (λ n. b < bands_in n h) c.len.ensures.count lt) in
     let own = own_is c.loop-b.shares.items b 0 c.into_vec-own.result.items c.replace.result c.index_mut.result.now (λ i. i.y / h == b) c.args.drive.now (omega (arith, parts, lt)) c.into_vec-own.ensures c.replace.ensures.value c.index_mut.ensures.value (v.left b (omega arith) lt) in
     subst (AreInRows c.args.words (b * h) _) (sym own)
-    (subst (λ n. AreInRows c.args.words (b * h) n (filter (λ i. i.y / h == b) c.args.drive.now)) (sym (size rows (b * h) h c.min-end.result first c.min-end.ensures))
+    (subst (λ n. AreInRows c.args.words (b * h) n (filter (λ i. i.y / h == b) c.args.drive.now)) (sym (let long : c.min-many.result ≡ min h (length rows - b * h) = c.min-many.ensures ∙ ap (λ n. min h (n - b * h)) c.len-in-loop-b.ensures.count in long))
     (share_inside c.args.words (length rows) h b c.args.drive.now c.requires.height c.requires.inside))
 
 pub begin_band-requires-clause-in_order : goal.begin_band-requires-clause-in_order
@@ -59,9 +52,9 @@ loop-b-preserved c =
     let bands = c.loop-b.bands.items in
     let y = b * h in
     let m = min h (length rows - y) in
-    let first = starts b h (length rows) c.requires.height lt in
+    let first = starts b h (length rows) c.requires.height (subst (λ n. b < bands_in n h) c.len.ensures.count lt) in
     let own = own_is shares b 0 c.into_vec-own.result.items c.replace.result c.index_mut.result.now (λ i. i.y / h == b) drive (omega (arith, parts, lt)) c.into_vec-own.ensures c.replace.ensures.value c.index_mut.ensures.value (v.left b (omega arith) lt) in
-    let long = size rows y h c.min-end.result first c.min-end.ensures in
+    let long : c.min-many.result ≡ m = c.min-many.ensures ∙ ap (λ n. min h (n - y)) c.len-in-loop-b.ensures.count in
     let band = c.in_ok-begin_band.field-0 in
     let made = c.in_ok-begin_band.ensures in
     let e : c.push.new.self.items ≡ bands ++ band ∷ [] = c.in_ok-push.ensures.items in
@@ -69,12 +62,7 @@ loop-b-preserved c =
     let many = v.many in
     let le = ap length e in
     let plane = driven (due_of_list drive) (plane_of rows) in
-    let cells = take (c.min-end.result - y) (drop y rows) in
-    let shown : CellsShow cells (plane_of rows) y = λ k x l.
-    let t = length-take (c.min-end.result - y) (drop y rows) in
-    let lk : k < c.min-end.result - y = omega (arith, l, t) in
-    ap (λ row. get_or row x Empty) (get_or-take (c.min-end.result - y) (drop y rows) k [] lk ∙ get_or-drop y rows k []) in
-    let due : AreDueIn c.into_vec-own.result.items (due_of_list drive) y (length cells) = λ g x k l.
+    let due : AreDueIn c.into_vec-own.result.items (due_of_list drive) y c.min-many.result = λ g x k l.
     ap (λ own. due_of_list own g (pos x) (pos y +ℤ pos k)) own ∙ share_due drive h b g x k (omega (arith, l, long)) in
     record {
       parts = length-set shares b c.replace.new.dest ∙ parts;
@@ -88,5 +76,5 @@ loop-b-preserved c =
       shows = λ k d lk.
           subst (λ xs. ShowsBand plane (due_of_list drive) (k * h) (min h (length rows - k * h)) (get_or xs k d)) (sym e)
           (pushed (λ k z. ShowsBand plane (due_of_list drive) (k * h) (min h (length rows - k * h)) z) bands band d b many (λ k l. v.shows k d (omega (arith, l, many)))
-          (subst (λ n. ShowsBand plane (due_of_list drive) y n band) long (made.shows plane (due_of_list drive) (plane_of rows) refl shown due)) k (omega (arith, lk, le, grown, many)));
+          (subst (λ n. ShowsBand plane (due_of_list drive) y n band) long (made.shows plane (due_of_list drive) refl due)) k (omega (arith, lk, le, grown, many)));
     }

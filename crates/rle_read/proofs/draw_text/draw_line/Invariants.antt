@@ -8,7 +8,7 @@ use Rattle.rle_read.proofs.draw_text.draw_line.Given as goal
 abbrev pub invariant-loop-rest : goal.invariant-loop-rest
 invariant-loop-rest l =
     record {
-      in_rows : IsGrid l.drawing.width l.drawing.height l.drawing.rows.items;
+      in_rows : IsGrid l.drawing.width l.drawing.height l.drawing.rows;
       drawn : drawn_with (drawn_of l.drawing) (items_from (line_of l.fn.line) l.rest) ≡ drawn_with (drawn_of l.fn.drawing) (items_from (line_of l.fn.line) l.fn.line.bytes.now);
     }
 

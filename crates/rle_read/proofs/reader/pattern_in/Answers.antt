@@ -1,9 +1,8 @@
-use Rattle.std.proofs.Common.{◌*◌, ◌≤◌, sym, ◌∙◌, subst, List}
+use Rattle.std.proofs.Common.{◌*◌, ◌≤◌, sym, ◌∙◌, subst}
 use Rattle.std.proofs.lemmas.Bool.{ltb-false}
 use Rattle.std.proofs.lemmas.Result.{err_from_is_err_and}
-use Rattle.ww_rule.specs.declared.pattern.State.{State}
 use Rattle.ww_rule.specs.Grid.{IsGrid}
-use Rattle.pattern_reading.specs.Pattern.{HasBox, ReadsAsPattern, most_cells}
+use Rattle.pattern_reading.specs.Pattern.{HasBox, most_cells}
 use Rattle.pattern_lines.specs.Lines.{line_of}
 use Rattle.rle_read.specs.Texts.{header_of}
 use Rattle.rle_read.specs.Drawn.{Drawn, drawn_of}
@@ -34,7 +33,7 @@ invariant_of-result c =
     let height = c.in_ok-width.field-0.height in
     let box : HasBox c.args.text.now width height = header_box c.args.text.now (line_of c.in_ok-line.line) (header_of c.in_ok-width.field-0) head.header header.0 header.1 in
     let reads = text_reads c.args.text.now (c.in_ok-line.line, c.in_ok-line.rest) head width height box (drawn_of c.in_ok-drawing.drawing) c.in_ok-drawing.ensures.drawn (drawn_of c.draw_text.new.drawing) c.in_ok-draw_text.ensures in
-    record { in_rows = subst (IsGrid width height) (sym c.of.ensures) reads.in_rows }
+    record { in_rows = reads.in_rows }
 
 pub returns-clause-pattern : goal.returns-clause-pattern
 returns-clause-pattern c =
@@ -45,4 +44,4 @@ returns-clause-pattern c =
     let box : HasBox c.args.text.now width height = header_box c.args.text.now (line_of c.in_ok-line.line) (header_of c.in_ok-width.field-0) head.header header.0 header.1 in
     let reads = text_reads c.args.text.now (c.in_ok-line.line, c.in_ok-line.rest) head width height box (drawn_of c.in_ok-drawing.drawing) c.in_ok-drawing.ensures.drawn (drawn_of c.draw_text.new.drawing) c.in_ok-draw_text.ensures in
     let small : width * height ≤ most_cells = ltb-false most_cells (width * height) (sym c.is_too_large.ensures ∙ c.if-is_too_large.false) in
-    (subst (λ (rows : List (List State)). ReadsAsPattern c.args.text.now (record { width = width; height = height; rows = rows })) (sym c.of.ensures) reads, small)
+    (reads, small)

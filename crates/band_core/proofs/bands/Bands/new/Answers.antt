@@ -1,6 +1,5 @@
-use Rattle.std.proofs.Common.{◌*◌, ◌≤◌, ◌≡◌, sym, ap, subst, ◌∙◌, List, length, get_or, All, arith}
+use Rattle.std.proofs.Common.{◌*◌, ◌≤◌, ◌≡◌, sym, ap, subst, ◌∙◌, length, get_or, All, arith}
 use Rattle.std.proofs.lemmas.List.{length-replicate}
-use Rattle.ww_rule.specs.declared.pattern.State.{State}
 use Rattle.ww_rule.specs.Wireworld.{driven}
 use Rattle.ww_rule.specs.Grid.{plane_of}
 use Rattle.ww_rule.specs.Injections.{due_of_list}
@@ -11,20 +10,14 @@ use Rattle.band_core.proofs.bands.Bands.new.Goals as goal
 
 pub begin_bands-requires-clause-long : goal.begin_bands-requires-clause-long
 begin_bands-requires-clause-long c =
-    let p = c.args.pattern in
-    let most : List State → Type 0 = λ row. length row ≤ 64 * c.words_for-words.result in
-    let same : List State → Type 0 = λ row. length row ≡ p.width in
-    subst (All most) (c.as_slice.ensures ∙ sym c.as_slice-2.ensures) (c.words_for-words.ensures.wide p.width (subst (All same) (sym c.as_slice.ensures) p.in_rows.long))
+    let p = c.args.pattern in c.words_for-words.ensures.wide p.width p.in_rows.long
 
 pub begin_bands-requires-clause-inside : goal.begin_bands-requires-clause-inside
 begin_bands-requires-clause-inside c =
     let p = c.args.pattern in
     let words = c.words_for-words.result in
-    let most : List State → Type 0 = λ row. length row ≤ 64 * words in
-    let same : List State → Type 0 = λ row. length row ≡ p.width in
-    let long : All most p.rows = subst (All most) c.as_slice.ensures (c.words_for-words.ensures.wide p.width (subst (All same) (sym c.as_slice.ensures) p.in_rows.long)) in
-    subst (λ drive. AreInRows words 0 (length c.as_slice-2.result.now) drive) (sym c.deref.ensures.value)
-    (subst (λ rows. AreInRows words 0 (length rows) c.args.drive.items) (sym c.as_slice-2.ensures) (drive_in_rows p.width p.height words p.rows c.args.drive.items p.in_rows long c.requires.inside))
+    let long : All (λ row. length row ≤ 64 * words) p.rows = c.words_for-words.ensures.wide p.width p.in_rows.long in
+    subst (λ drive. AreInRows words 0 (length p.rows) drive) (sym c.deref.ensures.value) (drive_in_rows p.width p.height words p.rows c.args.drive.items p.in_rows long c.requires.inside)
 
 pub invariant_of-result : goal.invariant_of-result
 invariant_of-result c =
@@ -37,7 +30,6 @@ invariant_of-result c =
     let lh : length c.in_ok-spare_heads.spare_heads.items ≡ words = ap length (c.in_ok-spare_heads.ensures.items_if_clones_equal (λ y q. q)) ∙ length-replicate words 0 in
     let lw : length c.in_ok-spare_wires.spare_wires.items ≡ words = ap length (c.in_ok-spare_wires.ensures.items_if_clones_equal (λ y q. q)) ∙ length-replicate words 0 in
     let few = c.words_for-words.ensures.few in
-    let rows = c.as_slice-2.ensures in
     let drive = c.deref.ensures.value in
     record {
       inside = c.requires.inside;
@@ -47,7 +39,6 @@ invariant_of-result c =
       dark = λ j. ap (λ xs. get_or xs j 0) (c.in_ok-dark.ensures.items_if_clones_equal (λ y q. q)) ∙ zeros words j;
       spare_heads = lh ∙ sym ld;
       spare_wires = lw ∙ sym ld;
-      bands = subst (λ w. AreBands w h (length p.rows) bands) (sym ld) (subst (λ rows. AreBands words h (length rows) bands) rows made.bands);
-      shows = subst (λ rows. AllShow (driven (due_of_list c.args.drive.items) (plane_of rows)) (due_of_list c.args.drive.items) h (length rows) bands) rows
-          (subst (λ drive. AllShow (driven (due_of_list drive) (plane_of c.as_slice-2.result.now)) (due_of_list drive) h (length c.as_slice-2.result.now) bands) drive made.shows);
+      bands = subst (λ w. AreBands w h (length p.rows) bands) (sym ld) made.bands;
+      shows = subst (λ drive. AllShow (driven (due_of_list drive) (plane_of p.rows)) (due_of_list drive) h (length p.rows) bands) drive made.shows;
     }

@@ -1,5 +1,5 @@
-use Rattle.std.proofs.Common.{◌≡◌, ◌<◌, [], ◌∷◌, ◌++◌, length, get_or, arith, ap, subst, sym, take, drop, ◌∙◌}
-use Rattle.std.proofs.lemmas.List.{take_at, take_all}
+use Rattle.std.proofs.Common.{◌≡◌, [], ◌∷◌, get_or, ap, subst, sym, take, ◌∙◌}
+use Rattle.std.proofs.lemmas.List.{take_all}
 use Rattle.ww_rule.specs.Wireworld.{injected}
 use Rattle.ww_rule.specs.Grid.{plane_of, IsGrid}
 use Rattle.ww_rule.specs.Injections.{has_cell}
@@ -7,17 +7,17 @@ use Rattle.ww_rule.proofs.RowLemmas.{in_rows, in_row}
 use Rattle.ww_rule.proofs.Injected.{with_head, with_head_grid, with_head_shows, injected_more}
 use Rattle.ww_rule.proofs.plane.Plane.inject.Goals as goal
 
-pub make_head-requires-clause-in_rows : goal.make_head-requires-clause-in_rows
-make_head-requires-clause-in_rows c =
+pub put-requires-clause-in_rows : goal.put-requires-clause-in_rows
+put-requires-clause-in_rows c =
     let cell = get_or c.args.injections.now c.loop-x.x-index (0, 0) in
     let box = c.requires.in_box c.loop-x.x-index (0, 0) c.loop-x-test.true in
-    subst (λ rows. cell.1 < length rows) (sym c.as_mut_slice.ensures.value) (in_rows c.args.self.width c.args.self.height cell.0 cell.1 c.loop-x.rows c.loop-x.invariant.grid box.0 box.1)
+    in_rows c.args.self.width c.args.self.height cell.0 cell.1 c.loop-x.rows c.loop-x.invariant.grid box.0 box.1
 
-pub make_head-requires-clause-in_row : goal.make_head-requires-clause-in_row
-make_head-requires-clause-in_row c =
+pub put-requires-clause-in_row : goal.put-requires-clause-in_row
+put-requires-clause-in_row c =
     let cell = get_or c.args.injections.now c.loop-x.x-index (0, 0) in
     let box = c.requires.in_box c.loop-x.x-index (0, 0) c.loop-x-test.true in
-    subst (λ rows. cell.0 < length (get_or rows cell.1 [])) (sym c.as_mut_slice.ensures.value) (in_row c.args.self.width c.args.self.height cell.0 cell.1 c.loop-x.rows c.loop-x.invariant.grid box.0 box.1)
+    in_row c.args.self.width c.args.self.height cell.0 cell.1 c.loop-x.rows c.loop-x.invariant.grid box.0 box.1
 
 pub loop-x-preserved : goal.loop-x-preserved
 loop-x-preserved c =
@@ -28,12 +28,10 @@ loop-x-preserved c =
     let box = c.requires.in_box i (0, 0) c.loop-x-test.true in
     let iny = in_rows c.args.self.width c.args.self.height cell.0 cell.1 rows c.loop-x.invariant.grid box.0 box.1 in
     let inx = in_row c.args.self.width c.args.self.height cell.0 cell.1 rows c.loop-x.invariant.grid box.0 box.1 in
-    let made : c.make_head.new.rows ≡ with_head rows cell.0 cell.1 = c.make_head.ensures ∙ ap (λ rows. with_head rows cell.0 cell.1) c.as_mut_slice.ensures.value in
-    let long : length c.as_mut_slice.result.now ≡ length rows = ap length c.as_mut_slice.ensures.value in
-    let back : take (length rows) (c.make_head.new.rows ++ drop (length c.make_head.new.rows) rows) ≡ with_head rows cell.0 cell.1 = take_at c.make_head.new.rows (drop (length c.make_head.new.rows) rows) (length rows) (omega (arith, long)) ∙ made in
+    let made : c.put.new.self ≡ with_head rows cell.0 cell.1 = c.put.ensures in
     record {
-      grid = subst (IsGrid c.args.self.width c.args.self.height) (sym back) (with_head_grid c.args.self.width c.args.self.height cell.0 cell.1 rows c.loop-x.invariant.grid iny);
-      cells = ap plane_of back ∙ with_head_shows cell.0 cell.1 rows iny inx ∙ ap (injected (has_cell (cell ∷ []))) c.loop-x.invariant.cells ∙ injected_more cells i (0, 0) (plane_of c.args.self.rows) c.loop-x-test.true;
+      grid = subst (IsGrid c.args.self.width c.args.self.height) (sym made) (with_head_grid c.args.self.width c.args.self.height cell.0 cell.1 rows c.loop-x.invariant.grid iny);
+      cells = ap plane_of made ∙ with_head_shows cell.0 cell.1 rows iny inx ∙ ap (injected (has_cell (cell ∷ []))) c.loop-x.invariant.cells ∙ injected_more cells i (0, 0) (plane_of c.args.self.rows) c.loop-x-test.true;
     }
 
 pub returns-clause-cells : goal.returns-clause-cells

@@ -1,7 +1,7 @@
 use Rattle.std.proofs.Common.{◌≡◌, ◌++◌, ◌+◌, ◌-◌, List, replicate, take, drop, length, ap, ap₂, ◌∙◌, arith, length-drop, length-take}
 use Rattle.ww_rule.specs.declared.pattern.State.{State}
 use Rattle.std.proofs.lemmas.List.{drop-drop}
-use Rattle.rle_read.proofs.drawing.fill_run.Goals as goal
+use Rattle.ww_rule.proofs.cell_rows.fill_run.Goals as goal
 
 pub returns : goal.returns
 returns c =

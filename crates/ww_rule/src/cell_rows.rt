@@ -1,0 +1,189 @@
+// Rows of cells of one length, row by row in one vector.
+ghost use Rattle.std.specs.Prelude.{◌≡◌, ◌<◌, ◌≤◌, ◌+◌, ◌*◌, ◌^◌, [], ◌∷◌, ◌++◌, length, take, drop, get_or, slice_set, replicate, All, IfOk};
+ghost use Rattle.ww_rule.specs.declared.pattern.State.TheVariants.{Empty};
+ghost use Rattle.ww_rule.specs.Cuts.{with_row, with_run};
+
+use crate::pattern::State;
+use lists::List;
+use std::alloc::{AllocError, Global};
+use std::marker::Model;
+
+// The most rows that are kept, of any length.
+const MOST_ROWS: usize = 0x7fff_ffff_ffff_ffff;
+
+/// Rows of cells, all of one length, from north to south. Contracts see them as a list of rows; in memory they are one
+/// vector, with a byte for each cell.
+#[derive(Drop)]
+pub struct CellRows {
+    width: usize,
+    count: usize,
+    cells: Vec<State>,
+}
+
+impl Model for CellRows {
+    ghost use Rattle.std.specs.Prelude.{List, ◌≡◌, ◌<◌, ◌*◌, ◌^◌, length};
+    ghost use Rattle.ww_rule.specs.declared.pattern.State.{State};
+    ghost use Rattle.ww_rule.specs.Cuts.{cut_rows};
+
+    ghost Value = { List (List State) };
+
+    ghost view = { λ r. cut_rows r.width r.count r.cells.items };
+
+    ghost invariant = { λ r. (r.count * r.width ≡ length r.cells.items) × (r.count < 2 ^ 63) };
+}
+
+// So many empty cells.
+fn empty_cells(alloc: Global, count: usize) -> Result<Vec<State>, AllocError>
+    ensures { IfOk result (λ cells. cells.items ≡ replicate count Empty) }
+{
+    Ok(vec![in alloc; State::Empty; count]?)
+}
+
+// Row y of cells in rows of so many.
+fn row_in(cells: &[State], width: usize, y: usize) -> &[State]
+    requires { y * width + width ≤ length cells.now }
+    ensures { result.now ≡ take width (drop (y * width) cells.now) }
+{
+    let start = y * width;
+    &cells[start..start + width]
+}
+
+// Makes `count` cells of a row, from column x on, this state.
+fn fill_run(row: &mut [State], x: usize, count: usize, state: State)
+    requires in_row { x + count ≤ length row.old }
+    ensures { row.new ≡ with_run row.old x count state }
+{
+    row[x..x + count].fill(state);
+}
+
+// The same of row y of cells in rows of so many.
+fn fill_in(cells: &mut [State], width: usize, y: usize, x: usize, count: usize, state: State)
+    requires in_cells { y * width + width ≤ length cells.old }
+    requires in_row { x + count ≤ width }
+    ensures { cells.new ≡ with_row cells.old width y (with_run (take width (drop (y * width) cells.old)) x count state) }
+{
+    let start = y * width;
+    fill_run(&mut cells[start..start + width], x, count, state);
+}
+
+// Makes the cell of a row at column x this state.
+fn put_cell(row: &mut [State], x: usize, state: State)
+    requires in_row { x < length row.old }
+    ensures { row.new ≡ slice_set row.old x state }
+{
+    row[x] = state;
+}
+
+// The same of row y of cells in rows of so many.
+fn put_in(cells: &mut [State], width: usize, x: usize, y: usize, state: State)
+    requires in_cells { y * width + width ≤ length cells.old }
+    requires in_row { x < width }
+    ensures { cells.new ≡ with_row cells.old width y (slice_set (take width (drop (y * width) cells.old)) x state) }
+{
+    let start = y * width;
+    put_cell(&mut cells[start..start + width], x, state);
+}
+
+impl CellRows {
+    /// No rows, with room for `count` of `width` cells each.
+    pub fn with_room(alloc: Global, width: usize, count: usize) -> Result<CellRows, AllocError>
+        ensures { IfOk result (λ rows. rows ≡ []) }
+    {
+        let Some(room) = count.checked_mul(width) else {
+            return Err(AllocError);
+        };
+        Ok(CellRows {
+            width: 0,
+            count: 0,
+            cells: Vec::with_capacity(alloc, room)?,
+        })
+    }
+
+    /// So many rows of so many empty cells.
+    pub fn blank(alloc: Global, width: usize, count: usize) -> Result<CellRows, AllocError>
+        ensures { IfOk result (λ rows. rows ≡ replicate count (replicate width Empty)) }
+    {
+        let Some(cells) = count.checked_mul(width) else {
+            return Err(AllocError);
+        };
+        if count > MOST_ROWS {
+            return Err(AllocError);
+        }
+        Ok(CellRows {
+            width,
+            count,
+            cells: empty_cells(alloc, cells)?,
+        })
+    }
+
+    /// These rows, which are all of one length.
+    pub fn of_rows(alloc: Global, rows: &[List<State>]) -> Result<CellRows, AllocError>
+        requires { All (λ row. length row ≡ length (get_or rows.now 0 [])) rows.now }
+        ensures { IfOk result (λ made. made ≡ rows.now) }
+    {
+        let mut made = CellRows::with_room(alloc, 0, 0)?;
+        for row in rows {
+            made.push_row(row.as_slice())?;
+        }
+        Ok(made)
+    }
+
+    /// A copy of the rows.
+    pub fn copied(&self, alloc: Global) -> Result<CellRows, AllocError>
+        ensures { IfOk result (λ copy. copy ≡ self.now) }
+    {
+        Ok(CellRows {
+            width: self.width,
+            count: self.count,
+            cells: self.cells.to_vec(alloc)?,
+        })
+    }
+
+    /// How many rows there are.
+    pub fn len(&self) -> usize
+        ensures count { result ≡ length self.now }
+        ensures few { length self.now < 2 ^ 63 }
+    {
+        self.count
+    }
+
+    /// The cells of row y, from west to east.
+    pub fn row(&self, y: usize) -> &[State]
+        requires { y < length self.now }
+        ensures { result.now ≡ get_or self.now y [] }
+    {
+        row_in(&self.cells, self.width, y)
+    }
+
+    /// One more row below the others, as long as they are.
+    pub fn push_row(&mut self, row: &[State]) -> Result<(), AllocError>
+        requires { All (λ other. length other ≡ length row.now) self.old }
+        ensures { IfOk result (λ _. self.new ≡ self.old ++ row.now ∷ []) }
+    {
+        if self.count >= MOST_ROWS {
+            return Err(AllocError);
+        }
+        self.cells.extend_from_slice(row)?;
+        self.width = row.len();
+        self.count += 1;
+        Ok(())
+    }
+
+    /// Makes `count` cells of row y, from column x on, this state.
+    pub fn fill(&mut self, y: usize, x: usize, count: usize, state: State)
+        requires in_rows { y < length self.old }
+        requires in_row { x + count ≤ length (get_or self.old y []) }
+        ensures { self.new ≡ slice_set self.old y (with_run (get_or self.old y []) x count state) }
+    {
+        fill_in(&mut self.cells, self.width, y, x, count, state);
+    }
+
+    /// Makes the cell of column x and row y this state.
+    pub fn put(&mut self, x: usize, y: usize, state: State)
+        requires in_rows { y < length self.old }
+        requires in_row { x < length (get_or self.old y []) }
+        ensures { self.new ≡ slice_set self.old y (slice_set (get_or self.old y []) x state) }
+    {
+        put_in(&mut self.cells, self.width, x, y, state);
+    }
+}
