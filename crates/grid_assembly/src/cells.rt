@@ -1,5 +1,6 @@
 // A cell of a block, by what stands in the block.
-ghost use Rattle.std.specs.Prelude.{◌≡◌, ◌&&◌, ◌<◌, ◌^◌, pos};
+ghost use Rattle.std.specs.Prelude.{◌≡◌, ◌&&◌, ◌<◌, ◌^◌, pos, true, ℕ};
+ghost use Rattle.ww_rule.specs.declared.pattern.State.TheVariants.{Empty};
 ghost use Rattle.std.specs.Ordering.{int_eq};
 ghost use Rattle.lane_core.specs.Plans.{IsAdmissible};
 ghost use Rattle.plan_layout.specs.Starts.{start_edges};
@@ -7,7 +8,7 @@ ghost use Rattle.plan_layout.specs.Slots.{piece_of, slot_of};
 ghost use Rattle.tile_core.specs.Drawing.{is_cell_of};
 ghost use Rattle.tile_core.specs.Kinds.{interface};
 ghost use Rattle.tile_library.specs.Drawings.{shipped_drawing};
-ghost use Rattle.tiling.specs.Tiling.{drawn_piece, drawn_slot, edge_of, heads_of, is_entry_lit, is_exit_lit, tails_of};
+ghost use Rattle.tiling.specs.Tiling.{Lit, drawn_piece, drawn_slot, edge_of, heads_of, is_entry_lit, is_exit_lit, tails_of};
 ghost use Rattle.tiling.specs.Tiling.Piece.{Tile, Output};
 
 use lane_core::Plan;
@@ -154,5 +155,27 @@ pub fn slot_cell(plan: &Plan, column: u64, lane: u64, slot: Slot, x: u32, y: u32
         Slot::Nothing => State::Empty,
         Slot::Whole(piece) | Slot::Upper(piece) => piece_cell(plan, column, lane, piece, (x, y)),
         Slot::Lower(piece) => piece_cell(plan, column, lane.saturating_sub(1), piece, (x, y + 16)),
+    }
+}
+
+// Whether a piece has no cell in a row of its box.
+fn is_piece_blank(piece: Piece, y: u32) -> bool
+    ensures { result ≡ true → (edges : Lit) (column lane x : ℕ) → drawn_piece shipped_drawing edges column lane (piece_of piece) x y ≡ Empty }
+{
+    match piece {
+        Piece::Tile(kind) => Shipped.is_row_blank(kind, y),
+        Piece::Output => false,
+    }
+}
+
+/// Whether a slot has no cell in a row of its block.
+pub fn is_slot_blank(slot: Slot, y: u32) -> bool
+    requires in_block { y < 16 }
+    ensures { result ≡ true → (edges : Lit) (column lane x : ℕ) → drawn_slot shipped_drawing edges column lane (slot_of slot) x y ≡ Empty }
+{
+    match slot {
+        Slot::Nothing => true,
+        Slot::Whole(piece) | Slot::Upper(piece) => is_piece_blank(piece, y),
+        Slot::Lower(piece) => is_piece_blank(piece, y + 16),
     }
 }

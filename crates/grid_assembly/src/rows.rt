@@ -7,7 +7,7 @@ ghost use Rattle.tile_library.specs.Drawings.{shipped_drawing};
 ghost use Rattle.plan_layout.specs.Planes.{start_plane};
 ghost use Rattle.grid_assembly.specs.PlanDrawing.{AreCellsOfRow, start_grid};
 
-use crate::cells::slot_cell;
+use crate::cells::{is_slot_blank, slot_cell};
 use lane_core::Plan;
 use plan_layout::slot_at;
 use std::alloc::{AllocError, Global};
@@ -53,22 +53,22 @@ pub fn fill_row(plan: &Plan, y: u64, x: u64, row: &mut [State])
     ensures { AreCellsOfRow plan.now y x row.new }
 {
     let lane = y / 16;
+    let below = (y % 16) as u32;
     let mut column = x / 32;
     let mut slot = slot_at(plan, column, lane);
+    let mut blank = is_slot_blank(slot, below);
     for (i, cell) in row.iter_mut().enumerate() {
         let place = x + i as u64;
         if place / 32 != column {
             column = place / 32;
             slot = slot_at(plan, column, lane);
+            blank = is_slot_blank(slot, below);
         }
-        *cell = slot_cell(
-            plan,
-            column,
-            lane,
-            slot,
-            (place % 32) as u32,
-            (y % 16) as u32,
-        );
+        *cell = if blank {
+            State::Empty
+        } else {
+            slot_cell(plan, column, lane, slot, (place % 32) as u32, below)
+        };
     }
 }
 

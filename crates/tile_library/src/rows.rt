@@ -1,5 +1,5 @@
 // Rows of text as tests on cells.
-ghost use Rattle.std.specs.Prelude.{◌≡◌, pos};
+ghost use Rattle.std.specs.Prelude.{◌≡◌, All, pos, true, false, ℤ};
 ghost use Rattle.tile_library.specs.Drawings.{drawn_rows};
 ghost use Rattle.tile_timing.specs.Mirror.{mirrored_drawing};
 
@@ -16,4 +16,22 @@ pub fn is_drawn_mirrored(rows: &[[u8; 32]], x: u32, y: u32) -> bool
     ensures { result ≡ mirrored_drawing (drawn_rows rows.now) (pos x) (pos y) }
 {
     x <= 31 && is_drawn(rows, 31 - x, y)
+}
+
+// Whether a row of text has dots alone.
+fn is_dotted(row: &[u8; 32]) -> bool
+    ensures { result ≡ true → All (λ b. b ≡ 46) row.now }
+{
+    row.iter().all(|byte| *byte == b'.')
+}
+
+/// Whether a row has no conductor.
+#[tactic(auto, using(crate::proofs::Blank::blank))]
+pub fn is_blank(rows: &[[u8; 32]], y: u32) -> bool
+    ensures { result ≡ true → (x : ℤ) → drawn_rows rows.now x (pos y) ≡ false }
+{
+    match rows.get(y as usize) {
+        Some(row) => is_dotted(row),
+        None => true,
+    }
 }

@@ -1,7 +1,8 @@
 // The library of the shipped drawings.
 ghost use Rattle.tile_library.specs.Drawings.{shipped_drawing};
 
-use crate::tiles;
+use crate::rows::is_blank;
+use crate::{drawings, tiles};
 use tile_core::{Kind, Library, Tile};
 
 /// The shipped drawings: for each kind that of its tile in `tiles`.
@@ -52,4 +53,30 @@ impl Library for Shipped {
       | West ↦ meets_law (interface West) EAST refl
       | WestSwap ↦ west_swap_meets refl
     ] };
+}
+
+impl Shipped {
+    ghost use Rattle.std.specs.Prelude.{◌≡◌, true, false, ℕ, pos};
+
+    /// Whether row y of a tile has no conductor.
+    pub fn is_row_blank(self, kind: Kind, y: u32) -> bool
+        ensures { result ≡ true → (x : ℕ) → shipped_drawing kind (pos x) (pos y) ≡ false }
+    {
+        match kind {
+            Kind::Swap => is_blank(&drawings::SWAP, y),
+            Kind::WestSwap => is_blank(&drawings::SWAP, y),
+            Kind::Xor => is_blank(&drawings::XOR, y),
+            Kind::Or => is_blank(&drawings::OR, y),
+            Kind::AndNot => is_blank(&drawings::AND_NOT, y),
+            Kind::Fork => is_blank(&drawings::FORK, y),
+            Kind::East => is_blank(&drawings::EAST, y),
+            Kind::West => is_blank(&drawings::EAST, y),
+            Kind::South => is_blank(&drawings::SOUTH, y),
+            Kind::North => is_blank(&drawings::SOUTH, y),
+            Kind::EastSouth => is_blank(&drawings::EAST_SOUTH, y),
+            Kind::SouthWest => is_blank(&drawings::SOUTH_WEST, y),
+            Kind::WestNorth => is_blank(&drawings::WEST_NORTH, y),
+            Kind::NorthEast => is_blank(&drawings::NORTH_EAST, y),
+        }
+    }
 }

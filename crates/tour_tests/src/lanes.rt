@@ -1,0 +1,126 @@
+// What stands on the lanes, column after column.
+use crate::stages::name_of;
+use lane_core::{Column, Instr, Plan};
+use netlist_core::{Flat, NetId};
+use std::alloc::{AllocError, Global};
+
+/// What stands on each lane: a net's name, a gate's result that no net names, or nothing.
+#[derive(Drop)]
+struct Lanes {
+    labels: Vec<String>,
+}
+
+// What a gate that no net names makes.
+fn result_of(instr: Instr) -> &'static str {
+    match instr {
+        Instr::Or(_) => "or",
+        Instr::Xor(_) => "xor",
+        Instr::AndNot(_) => "and-not",
+        Instr::Swap(_) | Instr::Fork(_) => "",
+    }
+}
+
+impl Lanes {
+    fn empty(alloc: Global, lanes: u32) -> Result<Lanes, AllocError> {
+        let mut labels = Vec::new(alloc);
+        for _lane in 0..lanes {
+            labels.push(String::new(alloc))?;
+        }
+        Ok(Lanes { labels })
+    }
+
+    fn on(&self, alloc: Global, lane: u32) -> Result<String, AllocError> {
+        match self.labels.get(lane as usize) {
+            Some(label) => label.clone(),
+            None => Ok(String::new(alloc)),
+        }
+    }
+
+    fn put(&mut self, lane: u32, label: String) {
+        if let Some(place) = self.labels.get_mut(lane as usize) {
+            *place = label;
+        }
+    }
+
+    // Does an instruction.
+    fn step(&mut self, alloc: Global, instr: Instr) -> Result<(), AllocError> {
+        let lane = instr.lane();
+        let upper = self.on(alloc, lane)?;
+        let lower = self.on(alloc, lane.saturating_add(1))?;
+        let (above, below) = match instr {
+            Instr::Swap(_) => (lower, upper),
+            Instr::Fork(_) => (upper.clone()?, upper),
+            Instr::Xor(_) | Instr::Or(_) | Instr::AndNot(_) => {
+                (result_of(instr).to_string(alloc)?, String::new(alloc))
+            }
+        };
+        self.put(lane, above);
+        self.put(lane.saturating_add(1), below);
+        Ok(())
+    }
+
+    // Names what nets show from a place on: the entry, or the exit of a column.
+    fn name(
+        &mut self,
+        alloc: Global,
+        flat: &Flat,
+        plan: &Plan,
+        after: Option<u64>,
+    ) -> Result<(), AllocError> {
+        for (net, place) in plan.nets.as_slice().iter().enumerate() {
+            if place.after == after {
+                self.put(place.lane, name_of(alloc, flat, NetId(net as u32))?);
+            }
+        }
+        Ok(())
+    }
+
+    fn push_row(&self, page: &mut String) -> Result<(), AllocError> {
+        for label in &self.labels {
+            write!(page, " {label} |")?;
+        }
+        page.push('\n')
+    }
+}
+
+fn push_column(page: &mut String, number: usize, column: &Column) -> Result<(), AllocError> {
+    write!(page, "| {number} |")?;
+    for instr in column.instrs.as_slice() {
+        write!(page, " {instr:?}")?;
+    }
+    page.push_str(" |")
+}
+
+fn push_head(page: &mut String, lanes: u32) -> Result<(), AllocError> {
+    page.push_str("| column | instructions |")?;
+    for lane in 0..lanes {
+        write!(page, " lane {lane} |")?;
+    }
+    page.push_str("\n|---|---|")?;
+    for _lane in 0..lanes {
+        page.push_str("---|")?;
+    }
+    page.push_str("\n| before | |")
+}
+
+/// The columns of a plan as a table: their instructions, and what stands on each lane after them.
+pub fn push_lanes(
+    page: &mut String,
+    alloc: Global,
+    flat: &Flat,
+    plan: &Plan,
+) -> Result<(), AllocError> {
+    push_head(page, plan.lanes)?;
+    let mut lanes = Lanes::empty(alloc, plan.lanes)?;
+    lanes.name(alloc, flat, plan, None)?;
+    lanes.push_row(page)?;
+    for (number, column) in plan.columns.as_slice().iter().enumerate() {
+        push_column(page, number, column)?;
+        for instr in column.instrs.as_slice() {
+            lanes.step(alloc, *instr)?;
+        }
+        lanes.name(alloc, flat, plan, Some(number as u64))?;
+        lanes.push_row(page)?;
+    }
+    Ok(())
+}

@@ -1,0 +1,29 @@
+// Parts of docs/TOUR.md, byte for byte; an empty line ends each of them there.
+pub const FLAT: &str = "weight 11
+net 0: en
+net 1: q
+net 2: n
+input 0: en
+output 0: q
+cover 0: n of en q, line 5
+latch 0: n to q, init 0
+";
+
+pub const CELLS: &str = "cell 0: Xor(Input(0), Latch(0))
+output 0: Latch(0)
+latch 0: Cell(0)
+net 0: Input(0)
+net 1: Latch(0)
+net 2: Cell(0)
+";
+
+pub const LANES: &str = "| column | instructions | lane 0 | lane 1 | lane 2 |
+|---|---|---|---|---|
+| before | |  | en | q |
+| 0 | Swap(0) | en |  | q |
+| 1 | Swap(1) | en | q |  |
+| 2 | Fork(1) | en | q | q |
+| 3 | Xor(0) | n |  | q |
+| 4 | Swap(0) |  | n | q |
+| 5 | Swap(1) |  | q | n |
+";

@@ -1,0 +1,110 @@
+// The text of each stage.
+use crate::lanes::push_lanes;
+use crate::page::{CELLS, FLAT, LANES};
+use cell_core::{CellList, Src};
+use cover_mapper::map;
+use flat_designs::{flat_is_sound, flat_is_weighed};
+use netlist_core::{Flat, NetId, Node};
+use netlist_plans::plan_netlist;
+use netlist_text::netlist_of;
+use std::alloc::{AllocError, Global};
+use std::test::Fail;
+
+// The netlist of examples/toggle.blif.
+const TOGGLE: &[u8] =
+    b".model toggle\n.inputs en\n.outputs q\n.latch n q 0\n.names en q n\n10 1\n01 1\n.end\n";
+
+/// The name of a net.
+pub fn name_of(alloc: Global, flat: &Flat, net: NetId) -> Result<String, AllocError> {
+    let mut name = String::new(alloc);
+    if let Some(known) = flat.nets.as_slice().get(net.0 as usize) {
+        for byte in known.name.as_slice() {
+            name.push(*byte as char)?;
+        }
+    }
+    Ok(name)
+}
+
+fn push_node(
+    page: &mut String,
+    alloc: Global,
+    flat: &Flat,
+    number: usize,
+    node: &Node,
+) -> Result<(), AllocError> {
+    write!(
+        page,
+        "cover {number}: {} of",
+        name_of(alloc, flat, node.out)?
+    )?;
+    for net in node.ins.as_slice() {
+        write!(page, " {}", name_of(alloc, flat, *net)?)?;
+    }
+    writeln!(page, ", line {}", node.line)
+}
+
+// The nets of a flat netlist, its ports, covers and latches.
+fn flat_stage(alloc: Global, flat: &Flat) -> Result<String, AllocError> {
+    let mut page = format!(in alloc; "weight {}\n", flat.weight)?;
+    for number in 0..flat.nets.len() {
+        writeln!(
+            page,
+            "net {number}: {}",
+            name_of(alloc, flat, NetId(number as u32))?
+        )?;
+    }
+    for (number, port) in flat.ins.as_slice().iter().enumerate() {
+        writeln!(page, "input {number}: {}", name_of(alloc, flat, port.net)?)?;
+    }
+    for (number, port) in flat.outs.as_slice().iter().enumerate() {
+        writeln!(page, "output {number}: {}", name_of(alloc, flat, port.net)?)?;
+    }
+    for (number, node) in flat.nodes.as_slice().iter().enumerate() {
+        push_node(&mut page, alloc, flat, number, node)?;
+    }
+    for (number, latch) in flat.latches.as_slice().iter().enumerate() {
+        let data = name_of(alloc, flat, latch.input)?;
+        let output = name_of(alloc, flat, latch.output)?;
+        writeln!(
+            page,
+            "latch {number}: {data} to {output}, init {}",
+            latch.init
+        )?;
+    }
+    Ok(page)
+}
+
+fn push_sources(page: &mut String, what: &str, sources: &[Src]) -> Result<(), AllocError> {
+    for (number, source) in sources.iter().enumerate() {
+        writeln!(page, "{what} {number}: {source:?}")?;
+    }
+    Ok(())
+}
+
+// The cells, and the sources of the outputs, of the latches' data and of the nets.
+fn cells_stage(alloc: Global, list: &CellList) -> Result<String, AllocError> {
+    let mut page = String::new(alloc);
+    for (number, cell) in list.cells.as_slice().iter().enumerate() {
+        writeln!(page, "cell {number}: {cell:?}")?;
+    }
+    push_sources(&mut page, "output", list.outs.as_slice())?;
+    push_sources(&mut page, "latch", list.latches.as_slice())?;
+    push_sources(&mut page, "net", list.nets.as_slice())?;
+    Ok(page)
+}
+
+#[test]
+fn stages_of_the_toggle_are_those_of_the_tour(rt: HostRuntime) -> Result<(), Fail> {
+    let alloc = rt.alloc();
+    let netlist = netlist_of(alloc, TOGGLE)?;
+    assert_eq!(rt; flat_stage(alloc, &netlist.flat)?.as_str(), FLAT);
+    flat_is_sound();
+    flat_is_weighed();
+    let list = map(alloc, &netlist.flat, &netlist.order)?;
+    assert_eq!(rt; cells_stage(alloc, &list)?.as_str(), CELLS);
+    let planned = plan_netlist(alloc, &netlist.flat, &netlist.order)?;
+    let mut lanes = String::new(alloc);
+    push_lanes(&mut lanes, alloc, &netlist.flat, &planned.plan)?;
+    assert_eq!(rt; lanes.as_str(), LANES);
+    Ok(())
+}
