@@ -6,6 +6,3 @@ mod planning;
 
 pub use error::PlanError;
 pub use planning::plan_of;
-
-#[cfg(test)]
-mod tests;

@@ -19,6 +19,3 @@ pub use examples::stream_words_read;
 pub use run::Run;
 pub use simulation::{GREATEST_GENERATION, simulate};
 pub use streams::Streams;
-
-#[cfg(test)]
-mod tests;

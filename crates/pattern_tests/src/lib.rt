@@ -12,4 +12,6 @@ mod patterns;
 #[cfg(test)]
 mod rule;
 #[cfg(test)]
+mod runs;
+#[cfg(test)]
 mod tables;

@@ -7,6 +7,3 @@ mod rows;
 mod text;
 
 pub use text::write;
-
-#[cfg(test)]
-mod tests;

@@ -2,7 +2,7 @@
 ghost use Rattle.std.specs.Prelude.{◌≡◌, length, IfOk};
 ghost use Rattle.lane_core.specs.Plans.{IsAdmissible};
 
-use super::drawing::{Draw, draw_bits};
+use crate::drawing::{Draw, draw_bits};
 use cell_core::{Cell, CellList, Src};
 use lane_core::{Plan, run_columns};
 use std::alloc::Global;

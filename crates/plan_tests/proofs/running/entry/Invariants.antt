@@ -1,5 +1,5 @@
 use Rattle.std.proofs.Common.{◌≡◌, length}
-use Rattle.cell_plans.proofs.tests.running.entry.Given as goal
+use Rattle.plan_tests.proofs.running.entry.Given as goal
 
 abbrev pub invariant-loop-lane : goal.invariant-loop-lane
 invariant-loop-lane l = length l.bits.items ≡ l.plan.lanes

@@ -1,7 +1,7 @@
 // Random lists of cells.
 ghost use Rattle.std.specs.Prelude.{◌<◌, ◌^◌, ◌+◌, ◌-◌, IfOk, length};
 
-use super::written::{Written, list_of};
+use crate::written::{Written, list_of};
 use cell_core::{Cell, CellList, Src};
 use std::alloc::Global;
 use std::test::Fail;

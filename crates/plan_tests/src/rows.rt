@@ -1,8 +1,8 @@
 // Small circuits as lists of cells, with streams of bits that they make.
-use super::running::{agrees_for_all, plays};
-use super::written::{Written, list_of};
-use crate::plan_of;
+use crate::running::{agrees_for_all, plays};
+use crate::written::{Written, list_of};
 use cell_core::{Cell, Src};
+use cell_plans::plan_of;
 use std::test::Fail;
 
 // A list, and for streams of input bits, a letter for each cycle, the streams of its outputs.

@@ -2,7 +2,7 @@
 ghost use Rattle.std.specs.Prelude.{◌≡◌, [], ◌∷◌, All, length, IfOk};
 ghost use Rattle.pattern_reading.specs.Ports.{cells_of};
 
-use crate::{SimulateError, StreamError, StreamFaultKind, Streams, simulate};
+use drive::{SimulateError, StreamError, StreamFaultKind, Streams, simulate};
 use lists::{Bytes, List};
 use pattern_reading::{PortLine, Ports};
 use std::alloc::{AllocError, Global};

@@ -1,5 +1,5 @@
 use Rattle.std.proofs.Common.{◌≡◌, All, length}
-use Rattle.drive.proofs.tests.or_gate.Given as goal
+use Rattle.pattern_tests.proofs.runs.or_gate.Given as goal
 
 abbrev pub invariant-loop-y : goal.invariant-loop-y
 invariant-loop-y l =

@@ -1,5 +1,5 @@
 use Rattle.std.proofs.Common.{◌≡◌, length}
-use Rattle.drive.proofs.tests.read.Given as goal
+use Rattle.pattern_tests.proofs.runs.read.Given as goal
 
 abbrev pub invariant-loop-name : goal.invariant-loop-name
 invariant-loop-name l = length l.inputs.items ≡ l.name-index

@@ -1,9 +1,9 @@
 // Plans of ORs, and their texts.
-use crate::write;
 use lane_core::{Column, Instr, Plan};
 use lists::{Bytes, List};
 use macro_grid::admissible;
 use pattern_reading::{NetLine, PortLine, Ports};
+use rle_write::write;
 use std::alloc::Global;
 use std::test::Fail;
 use ww_base::{Failed, MemSink};

@@ -1,16 +1,11 @@
 // Lists of cells against their plans, cycle by cycle.
-mod drawing;
-mod rows;
-mod running;
-mod written;
-
-use crate::plan_of;
+use crate::drawing::{Draw, draw_list};
+use crate::running::agrees;
+use crate::written::{Written, list_of};
 use cell_core::{Cell, Src};
-use drawing::{Draw, draw_list};
+use cell_plans::plan_of;
 use lane_core::Instr;
-use running::agrees;
 use std::test::Fail;
-use written::{Written, list_of};
 
 // The OR of two inputs; a net for each of them and for the output.
 const OR: Written<'static> = Written {

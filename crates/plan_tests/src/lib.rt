@@ -1,0 +1,15 @@
+//! Tests of the public calls of crates that make plans of lists of cells, and write plans as texts.
+#![tactic(auto)]
+
+#[cfg(test)]
+mod drawing;
+#[cfg(test)]
+mod plans;
+#[cfg(test)]
+mod rows;
+#[cfg(test)]
+mod running;
+#[cfg(test)]
+mod texts;
+#[cfg(test)]
+mod written;
