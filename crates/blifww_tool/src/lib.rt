@@ -21,6 +21,3 @@ mod top;
 mod window;
 
 pub use top::run;
-
-#[cfg(test)]
-mod tests;

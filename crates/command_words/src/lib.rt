@@ -10,6 +10,3 @@ mod program;
 
 pub use command::{Command, View, command_of};
 pub use error::WordsError;
-
-#[cfg(test)]
-mod tests;

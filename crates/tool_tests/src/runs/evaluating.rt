@@ -1,5 +1,5 @@
 // Runs of `eval`.
-use crate::tests::run_over;
+use crate::runs::run_over;
 use std::test::Fail;
 
 const ONE_CYCLE: &[&str] = &["blifww", "eval", "--cycles", "1"];

@@ -1,5 +1,5 @@
 // Runs of `eval` on models inside models.
-use crate::tests::run_over;
+use crate::runs::run_over;
 use itoa::Buffer;
 use std::alloc::Global;
 use std::test::Fail;

@@ -1,13 +1,13 @@
 // Runs over sources and sinks in memory.
 ghost use Rattle.std.specs.Prelude.{◌≤◌};
 
-mod compile_tests;
-mod eval_tests;
-mod failure_tests;
-mod hierarchy_tests;
-mod weight_tests;
+mod compiling;
+mod evaluating;
+mod failing;
+mod hierarchies;
+mod weights;
 
-use crate::run;
+use blifww_tool::run;
 use std::alloc::Global;
 use std::test::Fail;
 use ww_base::{MemSink, MemSource};

@@ -1,5 +1,5 @@
 // What lists of words ask for.
-use crate::{Command, View, WordsError, command_of};
+use command_words::{Command, View, WordsError, command_of};
 use std::alloc::Global;
 use std::test::Fail;
 

@@ -1,5 +1,5 @@
 // Reads and writes that fail, one after another, for each command.
-use crate::tests::{GATE, PATTERN, run_over};
+use crate::runs::{GATE, PATTERN, run_over};
 use std::test::Fail;
 
 #[test]

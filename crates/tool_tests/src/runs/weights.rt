@@ -1,5 +1,5 @@
 // Netlists near the greatest weight, and far beyond it.
-use crate::tests::run_over;
+use crate::runs::run_over;
 use itoa::Buffer;
 use std::alloc::Global;
 use std::test::Fail;

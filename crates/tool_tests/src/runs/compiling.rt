@@ -1,5 +1,5 @@
 // What `compile` writes, driven by streams.
-use crate::tests::{Outcome, run_over};
+use crate::runs::{Outcome, run_over};
 use std::alloc::Global;
 use std::test::Fail;
 

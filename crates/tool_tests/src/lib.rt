@@ -1,0 +1,7 @@
+//! Tests of the words of the command line and of whole runs.
+#![tactic(auto)]
+
+#[cfg(test)]
+mod runs;
+#[cfg(test)]
+mod words;
