@@ -1,5 +1,5 @@
 // The earliest line of each name of some words.
-ghost use Rattle.std.specs.Prelude.{◌≡◌, false, nat_le, nat_lt, min, List, [], ◌∷◌, Some, slice_set, IfOk, OnOk};
+ghost use Rattle.std.specs.Prelude.{◌≡◌, false, nat_le, nat_lt, min, List, [], ◌∷◌, Some, slice_set, IfOk};
 ghost use Rattle.std.specs.Option.{option_map_or};
 ghost use Rattle.std.specs.List.{list_any};
 ghost use Rattle.netlist_core.specs.declared.model.Port.{Port};

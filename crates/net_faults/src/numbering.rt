@@ -1,5 +1,5 @@
 // Names by number.
-ghost use Rattle.std.specs.Prelude.{◌≡◌, List, IfOk, OnOk};
+ghost use Rattle.std.specs.Prelude.{◌≡◌, IfOk, OnOk};
 ghost use Rattle.earliest_words.specs.Words.{word_ports};
 ghost use Rattle.net_faults.specs.Numbering.{AreNumbered, IsNumbering, IsPut, KeepsNumbers, count_of, number_of, numbered_ports};
 

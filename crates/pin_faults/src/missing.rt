@@ -4,7 +4,7 @@ ghost use Rattle.std.specs.Option.{option_map_or};
 ghost use Rattle.netlist_core.specs.declared.model.Port as names;
 ghost use Rattle.netlist_rules.specs.declared.fault.Fault as text;
 ghost use Rattle.netlist_rules.specs.declared.fault.FaultKind.TheVariants.{PinMissing};
-ghost use Rattle.netlist_rules.specs.ModelFaults.{fault_of_port, missing_pin, unless_named, formals_of};
+ghost use Rattle.netlist_rules.specs.ModelFaults.{fault_of_port, missing_pin, formals_of};
 ghost use Rattle.earliest_words.specs.EarliestBroken.{earliest_broken};
 ghost use Rattle.earliest_words.specs.Words.{earliest_word, earliest_after};
 ghost use Rattle.pin_faults.specs.NotNamed.{ports_unless};

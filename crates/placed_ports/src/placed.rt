@@ -3,7 +3,7 @@ ghost use Rattle.std.specs.Prelude.{◌≡◌, List, IfOk};
 ghost use Rattle.std.specs.Option.{option_copied};
 ghost use Rattle.netlist_core.specs.declared.model.Model.{Model};
 ghost use Rattle.netlist_core.specs.Names.{model_named};
-ghost use Rattle.placed_ports.specs.Placed.{AreNamesOfPorts, ArePlacedNames, KnowsPorts};
+ghost use Rattle.placed_ports.specs.Placed.{ArePlacedNames, KnowsPorts};
 
 use crate::ports::PortNames;
 use lists::List;
