@@ -68,7 +68,6 @@ fn keep_edges(rows: &[Row], top: Kept, bottom: Kept) -> (Kept, Kept)
 /// The next generation of rows from row y on, with the injections that are then due, between rows of heads. The kept rows
 /// take the heads that the top and the bottom row had. The spare rows hold anything.
 fn step_rows(
-    alloc: Global,
     rows: &mut [Row],
     y: usize,
     up: &[u64],
@@ -101,16 +100,7 @@ fn step_rows(
     ensures bottom { (j : ℕ) → get_or result.1.heads.items j 0 ≡ get_or (row_heads rows.old (length rows.old - 1)) j 0 }
     ensures shows { (p : Plane) → IsEmptyWest p → ShowRows rows.old p (pos y) → ShowsHeads up.now p (pos y -ℤ pos 1) → ShowsHeads down.now p (pos y +ℤ pos (length rows.old)) → ShowRows rows.new (injected (has_cell (injected_cells due.now)) (next_plane p)) (pos y) }
 {
-    step_band(
-        alloc,
-        rows,
-        up,
-        up_span,
-        down,
-        down_span,
-        spare_heads,
-        spare_wires,
-    );
+    step_band(rows, up, up_span, down, down_span, spare_heads, spare_wires);
     let kept = keep_edges(rows, top, bottom);
     inject(rows, y, up.len(), due);
     kept
@@ -176,7 +166,6 @@ impl Band {
     /// anything.
     pub fn next(
         self,
-        alloc: Global,
         y: usize,
         up: &[u64],
         up_span: Span,
@@ -210,7 +199,6 @@ impl Band {
         let generation = generation + 1;
         let count = due_count(generation as u128, &injections[done..]);
         let (top, bottom) = step_rows(
-            alloc,
             &mut rows,
             y,
             up,

@@ -120,7 +120,6 @@ pub fn move_band(
     let (up, up_span) = row_above(bands, b, band.generation, dark);
     let (down, down_span) = row_below(bands, b, band.generation, dark);
     let next = band.next(
-        alloc,
         b * height,
         up,
         up_span,
