@@ -26,7 +26,6 @@ pub struct Bands {
     dark: Vec<u64>,
     spare_heads: Vec<u64>,
     spare_wires: Vec<u64>,
-    alloc: Global,
 }
 
 impl Model for Bands {
@@ -85,7 +84,6 @@ impl Bands {
             dark,
             spare_heads,
             spare_wires,
-            alloc,
         })
     }
 
@@ -130,7 +128,6 @@ impl Bands {
             return Err(refusal);
         }
         move_band(
-            self.alloc,
             &mut self.bands,
             b,
             self.height,
