@@ -1,17 +1,18 @@
 -- Rows that face a band, and the neighbours to which they belong.
-use Rattle.std.proofs.Common.{ℤ, pos, negsuc, ◌+ℤ◌, ◌-ℤ◌, ℕ, zero, suc, ◌+◌, ◌-◌, ◌*◌, ◌/◌, ◌%◌, min, ◌<◌, ◌≡◌, refl, sym, ap, subst, ◌∙◌, inl, inr, Bool, true, false, ◌||◌, ◌&&◌, ◌==◌, nat_lt, Some, None, List, length, get_or, slice_set, arith}
+use Rattle.std.proofs.Common.{ℤ, pos, negsuc, ◌+ℤ◌, ◌-ℤ◌, ℕ, zero, suc, ◌+◌, ◌-◌, ◌*◌, ◌/◌, ◌%◌, min, ◌<◌, ◌≡◌, refl, sym, ap, subst, ◌∙◌, inl, inr, Bool, true, false, ◌||◌, ◌&&◌, ◌==◌, nat_lt, Some, None, List, length, get_or, arith}
 use Rattle.std.specs.Prelude.{◌⊎◌, if◌then◌else◌}
 use Rattle.std.specs.declared.option.Option.{Option}
 use Rattle.std.specs.Option.{option_or}
 use Rattle.std.proofs.lemmas.Bool.{cases_lt, eq-eqb, ne_eqb, eqb-true, or_cases, lt-ltb, le-ltb}
 use Rattle.std.proofs.lemmas.Int.{ints}
-use Rattle.std.proofs.lemmas.List.{get_or-set_other, get_or-map}
+use Rattle.std.proofs.lemmas.List.{get_or-map}
 use Rattle.std.proofs.Math.Nat.{suc-mul, mul_comm}
 use Rattle.ww_rule.specs.declared.pattern.State.TheVariants.{Empty}
 use Rattle.ww_rule.specs.Wireworld.{Plane, Due, count_head}
 use Rattle.lane_kernel.specs.Rows.{state_of}
 use Rattle.band_rows.specs.Rows.{ShowsHeads, row_heads, row_tails, row_wires}
 use Rattle.band_rows.proofs.Bands.{heads_shown}
+use Rattle.band_rows.proofs.Parts.{IsParted, many, at_before, at_after}
 use Rattle.band_rows.proofs.Marks.{none_set}
 use Rattle.band_core.specs.declared.band.Band.{Band}
 use Rattle.band_core.specs.declared.error.NotReady.{NotReady}
@@ -130,23 +131,40 @@ ends words height rows bands b d some are e =
     let first = begins words height rows bands b d are (omega (arith, e)) in
     omega (arith, r, parts, turned, m, first, some)
 
+-- what is said of the bands before and after a band, said of all bands
+module _ (bands before own after : List Band) (b : ℕ) (p : IsParted bands b before own after) where
+  pub first_of : {A : Type 0} → (length before ≡ 0 → A) → b ≡ 0 → A
+  first_of first q = first (p.place ∙ q)
+
+  pub later_of : (up : List ℕ) (g : ℕ) → ((d : Band) → 0 < length before → up ≡ bottom_at g (get_or before (length before - 1) d)) → (d : Band) → 0 < b → up ≡ bottom_at g (get_or bands (b - 1) d)
+  later_of up g later d lt =
+      let place = p.place in
+      let last : length before - 1 ≡ b - 1 = omega (arith, place) in
+      later d (omega (arith, lt, place)) ∙ ap (λ k. bottom_at g (get_or before k d)) last ∙ ap (bottom_at g) (at_before bands before own after b p (b - 1) d (omega (arith, lt)))
+
+  pub last_of : {A : Type 0} → (length after ≡ 0 → A) → b + 1 ≡ length bands → A
+  last_of last q = let m = many bands before own after b p in last (omega (arith, m, q))
+
+  pub earlier_of : (down : List ℕ) (g : ℕ) → ((d : Band) → 0 < length after → down ≡ top_at g (get_or after 0 d)) → (d : Band) → b + 1 < length bands → down ≡ top_at g (get_or bands (b + 1) d)
+  earlier_of down g earlier d lt = let m = many bands before own after b p in earlier d (omega (arith, m, lt)) ∙ ap (top_at g) (at_after bands before own after b p d)
+
 -- the rows beside a band, of its neighbours and at the outer edges
-module _ (words height rows : ℕ) (bands : List Band) (are : AreBands words height rows bands) (b : ℕ) (d z : Band) (inside : b < length bands) (dark : List ℕ) (long : length dark ≡ words) (g : ℕ) where
-  pub above_long : (up : List ℕ) → (b ≡ 0 → up ≡ dark) → ((d : Band) → 0 < b → up ≡ bottom_at g (get_or (slice_set bands b z) (b - 1) d)) → length up ≡ words
+module _ (words height rows : ℕ) (bands : List Band) (are : AreBands words height rows bands) (b : ℕ) (d : Band) (inside : b < length bands) (dark : List ℕ) (long : length dark ≡ words) (g : ℕ) where
+  pub above_long : (up : List ℕ) → (b ≡ 0 → up ≡ dark) → ((d : Band) → 0 < b → up ≡ bottom_at g (get_or bands (b - 1) d)) → length up ≡ words
   above_long up first later =
       elim (cases_lt 0 b) [
-        | inl lt ↦ ap length (later d lt ∙ ap (bottom_at g) (get_or-set_other bands b (b - 1) z d (λ q. omega (arith, q, lt)))) ∙ bottom_long words ((b - 1) * height) (min height (rows - (b - 1) * height)) g (get_or bands (b - 1) d) (are.each (b - 1) d (omega (arith, inside)))
+        | inl lt ↦ ap length (later d lt) ∙ bottom_long words ((b - 1) * height) (min height (rows - (b - 1) * height)) g (get_or bands (b - 1) d) (are.each (b - 1) d (omega (arith, inside)))
         | inr ge ↦ ap length (first (omega (arith, ge))) ∙ long
       ]
 
-  pub below_long : (down : List ℕ) → (b + 1 ≡ length bands → down ≡ dark) → ((d : Band) → b + 1 < length bands → down ≡ top_at g (get_or (slice_set bands b z) (b + 1) d)) → length down ≡ words
+  pub below_long : (down : List ℕ) → (b + 1 ≡ length bands → down ≡ dark) → ((d : Band) → b + 1 < length bands → down ≡ top_at g (get_or bands (b + 1) d)) → length down ≡ words
   below_long down last earlier =
       elim (cases_lt (b + 1) (length bands)) [
-        | inl lt ↦ ap length (earlier d lt ∙ ap (top_at g) (get_or-set_other bands b (b + 1) z d (λ q. omega (arith, q)))) ∙ top_long words ((b + 1) * height) (min height (rows - (b + 1) * height)) g (get_or bands (b + 1) d) (are.each (b + 1) d lt)
+        | inl lt ↦ ap length (earlier d lt) ∙ top_long words ((b + 1) * height) (min height (rows - (b + 1) * height)) g (get_or bands (b + 1) d) (are.each (b + 1) d lt)
         | inr ge ↦ ap length (last (omega (arith, ge, inside))) ∙ long
       ]
 
-module _ (e : ℕ → Plane) (due : Due) (words height rows width : ℕ) (some : 0 < height) (evo : IsEvolution e due width rows) (bands : List Band) (are : AreBands words height rows bands) (b : ℕ) (d z : Band) (inside : b < length bands) (dark : List ℕ) (none : (j : ℕ) → get_or dark j 0 ≡ 0) (g : ℕ) where
+module _ (e : ℕ → Plane) (due : Due) (words height rows width : ℕ) (some : 0 < height) (evo : IsEvolution e due width rows) (bands : List Band) (are : AreBands words height rows bands) (b : ℕ) (d : Band) (inside : b < length bands) (dark : List ℕ) (none : (j : ℕ) → get_or dark j 0 ≡ 0) (g : ℕ) where
   nothing : (p : Plane) (y : ℤ) → ((x : ℕ) → p (pos x) y ≡ Empty) → ShowsHeads dark p y
   nothing p y empty x = ap (λ h. count_head (state_of h false false)) (none_set 0 dark none x) ∙ sym (ap count_head (empty x))
 
@@ -154,7 +172,7 @@ module _ (e : ℕ → Plane) (due : Due) (words height rows width : ℕ) (some :
     generation_is : (k : ℕ) → k < length bands → get_or (generations_of bands) k 0 ≡ (get_or bands k d).generation
     generation_is k lt = get_or-map (λ (band : Band). band.generation) bands k d 0 lt
 
-    pub above_shows : (up : List ℕ) → (b ≡ 0 → up ≡ dark) → ((d : Band) → 0 < b → up ≡ bottom_at g (get_or (slice_set bands b z) (b - 1) d)) → (0 < b → IsAtOrAfter g (get_or (generations_of bands) (b - 1) 0)) → ShowsHeads up (e g) (pos (b * height) -ℤ pos 1)
+    pub above_shows : (up : List ℕ) → (b ≡ 0 → up ≡ dark) → ((d : Band) → 0 < b → up ≡ bottom_at g (get_or bands (b - 1) d)) → (0 < b → IsAtOrAfter g (get_or (generations_of bands) (b - 1) 0)) → ShowsHeads up (e g) (pos (b * height) -ℤ pos 1)
     above_shows up first later ready =
         elim (cases_lt 0 b) [
           | inr ge ↦
@@ -173,11 +191,11 @@ module _ (e : ℕ → Plane) (due : Due) (words height rows width : ℕ) (some :
               let place : pos (k * height) +ℤ pos (min height (rows - k * height) - 1) ≡ pos (b * height) -ℤ pos 1 = omega (arith, ints, m, t, w, some) in
               let at : IsAtOrAfter g upper.generation = subst (IsAtOrAfter g) (generation_is k lk) (ready lt) in
               let here = bottom_shows e due words (k * height) (min height (rows - k * height)) g upper (are.each k d lk) (shows k d lk) at in
-              subst (λ up. ShowsHeads up (e g) (pos (b * height) -ℤ pos 1)) (sym (later d lt ∙ ap (bottom_at g) (get_or-set_other bands b k z d (λ q. omega (arith, q, lt)))))
+              subst (λ up. ShowsHeads up (e g) (pos (b * height) -ℤ pos 1)) (sym (later d lt))
               (subst (ShowsHeads (bottom_at g upper) (e g)) place here)
         ]
 
-    pub below_shows : (down : List ℕ) → (b + 1 ≡ length bands → down ≡ dark) → ((d : Band) → b + 1 < length bands → down ≡ top_at g (get_or (slice_set bands b z) (b + 1) d)) → (b + 1 < length bands → IsAtOrAfter g (get_or (generations_of bands) (b + 1) 0)) → ShowsHeads down (e g) (pos (b * height) +ℤ pos (min height (rows - b * height)))
+    pub below_shows : (down : List ℕ) → (b + 1 ≡ length bands → down ≡ dark) → ((d : Band) → b + 1 < length bands → down ≡ top_at g (get_or bands (b + 1) d)) → (b + 1 < length bands → IsAtOrAfter g (get_or (generations_of bands) (b + 1) 0)) → ShowsHeads down (e g) (pos (b * height) +ℤ pos (min height (rows - b * height)))
     below_shows down last earlier ready =
         elim (cases_lt (b + 1) (length bands)) [
           | inr ge ↦
@@ -193,7 +211,7 @@ module _ (e : ℕ → Plane) (due : Due) (words height rows width : ℕ) (some :
               let place : pos ((b + 1) * height) ≡ pos (b * height) +ℤ pos (min height (rows - b * height)) = omega (arith, ints, m, w) in
               let at : IsAtOrAfter g lower.generation = subst (IsAtOrAfter g) (generation_is (b + 1) lt) (ready lt) in
               let here = top_shows e due words ((b + 1) * height) (min height (rows - (b + 1) * height)) g lower (are.each (b + 1) d lt) (shows (b + 1) d lt) at in
-              subst (λ down. ShowsHeads down (e g) (pos (b * height) +ℤ pos (min height (rows - b * height)))) (sym (earlier d lt ∙ ap (top_at g) (get_or-set_other bands b (b + 1) z d (λ q. omega (arith, q)))))
+              subst (λ down. ShowsHeads down (e g) (pos (b * height) +ℤ pos (min height (rows - b * height)))) (sym (earlier d lt))
               (subst (ShowsHeads (top_at g lower) (e g)) place here)
         ]
       where

@@ -1,5 +1,5 @@
 -- A band put into its place.
-use Rattle.std.proofs.Common.{ℕ, ◌<◌, refl, sym, subst, ◌∙◌, inl, inr, List, length, get_or, slice_set, arith}
+use Rattle.std.proofs.Common.{ℕ, ◌<◌, refl, sym, subst, inl, inr, List, length, get_or, slice_set, arith}
 use Rattle.std.proofs.lemmas.Bool.{cases_eq}
 use Rattle.std.proofs.lemmas.Grind.{get_or-set_at}
 use Rattle.std.proofs.lemmas.List.{length-set, get_or-set_other}
@@ -12,14 +12,4 @@ put_one P bands b next inside here each k d lt =
     elim (cases_eq k b) [
       | inl q ↦ subst (λ k. P k (get_or (slice_set bands b next) k d)) (sym q) (subst (P b) (sym (get_or-set_at bands b b next d refl inside)) here)
       | inr ne ↦ subst (P k) (sym (get_or-set_other bands b k next d ne)) (each k d (omega (arith, lt, l)))
-    ]
-
--- and after it was taken out before
-pub put_at : (P : ℕ → Band → Type 0) (bands : List Band) (b : ℕ) (z next : Band) → b < length bands → P b next → ((k : ℕ) (d : Band) → k < length bands → P k (get_or bands k d)) → (k : ℕ) (d : Band) → k < length (slice_set (slice_set bands b z) b next) → P k (get_or (slice_set (slice_set bands b z) b next) k d)
-put_at P bands b z next inside here each k d lt =
-    let l1 = length-set bands b z in
-    let l2 = length-set (slice_set bands b z) b next in
-    elim (cases_eq k b) [
-      | inl q ↦ subst (λ k. P k (get_or (slice_set (slice_set bands b z) b next) k d)) (sym q) (subst (P b) (sym (get_or-set_at (slice_set bands b z) b b next d refl (omega (arith, inside, l1)))) here)
-      | inr ne ↦ subst (P k) (sym (get_or-set_other (slice_set bands b z) b k next d ne ∙ get_or-set_other bands b k z d ne)) (each k d (omega (arith, lt, l1, l2)))
     ]

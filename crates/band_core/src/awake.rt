@@ -1,11 +1,10 @@
 // Cells that keep a band awake.
 ghost use Rattle.ww_rule.specs.Due.{due_count};
-ghost use Rattle.std.specs.Prelude.{◌≡◌, ◌+◌, ◌-◌, ◌<◌, ◌≤◌, ◌^◌, ◌⊎◌, ℕ, true, false, List, [], length, get_or, drop, None, IfSome};
+ghost use Rattle.std.specs.Prelude.{◌≡◌, ◌+◌, ◌-◌, ◌<◌, ◌≤◌, ◌^◌, ◌⊎◌, ℕ, true, false, length, drop, None, IfSome};
 ghost use Rattle.lane_kernel.specs.Rows.{is_set};
 ghost use Rattle.lane_kernel.specs.Spans.{IsDarkBeyond};
-ghost use Rattle.ww_rule.specs.declared.pattern.Injection.{Injection};
 ghost use Rattle.band_rows.specs.Rows.{AreDarkBeyond, row_heads, row_tails};
-ghost use Rattle.band_core.specs.Band.{IsLitIn, AreUnlit, IsNextDue};
+ghost use Rattle.band_core.specs.Band.{IsLitIn, IsNextDue};
 
 use crate::band::Band;
 use band_rows::{Row, Span, first_bit};

@@ -1,14 +1,13 @@
 // One band.
 ghost use Rattle.ww_rule.specs.Due.{due_count};
-ghost use Rattle.std.specs.Prelude.{◌≡◌, ◌+◌, ◌-◌, ◌<◌, ◌≤◌, ◌^◌, ◌+ℤ◌, ◌-ℤ◌, ℕ, List, pos, length, get_or, drop, take, IfOk, All};
+ghost use Rattle.std.specs.Prelude.{◌≡◌, ◌+◌, ◌-◌, ◌<◌, ◌≤◌, ◌^◌, ◌+ℤ◌, ◌-ℤ◌, ℕ, List, pos, length, get_or, take};
 ghost use Rattle.ww_rule.specs.Wireworld.{Plane, Due, next_plane, injected};
 ghost use Rattle.ww_rule.specs.Injections.{has_cell};
 ghost use Rattle.lane_kernel.specs.Spans.{IsDarkBeyond};
 ghost use Rattle.band_rows.specs.Rows.{AreDarkBeyond, AreLong, IsEmptyWest, ShowRows, ShowsHeads, row_heads, row_tails};
-ghost use Rattle.band_core.specs.Band.{AreInRows, IsBand, IsEvolution, ShowsBand, AreUnlit, bottom_at, top_at, injected_cells};
+ghost use Rattle.band_core.specs.Band.{AreInRows, IsBand, IsEvolution, ShowsBand, bottom_at, top_at, injected_cells};
 
 use band_rows::{Kept, Row, Span, light_of, step_band};
-use std::alloc::Global;
 use ww_rule::Injection;
 
 /// Rows of one generation, a span of words beyond which none of them has heads or tails, the heads of the top and the bottom
@@ -49,26 +48,24 @@ pub fn inject(rows: &mut [Row], y: usize, words: usize, due: &[Injection])
     }
 }
 
-// The kept rows with the tails of the top and the bottom row, which are the heads that these had.
-fn keep_edges(rows: &[Row], top: Kept, bottom: Kept) -> (Kept, Kept)
+// Keeps the tails of the top and the bottom row, which are the heads that these had.
+fn keep_edges(rows: &[Row], top: &mut Kept, bottom: &mut Kept)
     requires some { 0 < length rows.now }
-    requires top { length (row_heads rows.now 0) ≡ length top.heads.items }
-    requires bottom { length (row_heads rows.now (length rows.now - 1)) ≡ length bottom.heads.items }
-    ensures long_top { length result.0.heads.items ≡ length top.heads.items }
-    ensures long_bottom { length result.1.heads.items ≡ length bottom.heads.items }
-    ensures top { (j : ℕ) → get_or result.0.heads.items j 0 ≡ get_or (row_tails rows.now 0) j 0 }
-    ensures bottom { (j : ℕ) → get_or result.1.heads.items j 0 ≡ get_or (row_tails rows.now (length rows.now - 1)) j 0 }
+    requires top { length (row_heads rows.now 0) ≡ length top.old.heads.items }
+    requires bottom { length (row_heads rows.now (length rows.now - 1)) ≡ length bottom.old.heads.items }
+    ensures long_top { length top.new.heads.items ≡ length top.old.heads.items }
+    ensures long_bottom { length bottom.new.heads.items ≡ length bottom.old.heads.items }
+    ensures top { (j : ℕ) → get_or top.new.heads.items j 0 ≡ get_or (row_tails rows.now 0) j 0 }
+    ensures bottom { (j : ℕ) → get_or bottom.new.heads.items j 0 ≡ get_or (row_tails rows.now (length rows.now - 1)) j 0 }
 {
     let last = rows.len() - 1;
-    let top = top.keep(rows[0].tails.as_slice(), rows[0].span);
-    let bottom = bottom.keep(rows[last].tails.as_slice(), rows[last].span);
-    (top, bottom)
+    top.keep(rows[0].tails.as_slice(), rows[0].span);
+    bottom.keep(rows[last].tails.as_slice(), rows[last].span);
 }
 
 /// The next generation of rows from row y on, with the injections that are then due, between rows of heads. The kept rows
 /// take the heads that the top and the bottom row had. The spare rows hold anything.
 fn step_rows(
-    alloc: Global,
     rows: &mut [Row],
     y: usize,
     up: &[u64],
@@ -77,10 +74,10 @@ fn step_rows(
     down_span: Span,
     spare_heads: &mut [u64],
     spare_wires: &mut [u64],
-    top: Kept,
-    bottom: Kept,
+    top: &mut Kept,
+    bottom: &mut Kept,
     due: &[Injection],
-) -> (Kept, Kept)
+)
     requires some { 0 < length rows.old }
     requires long { AreLong (length up.now) rows.old }
     requires down { length down.now ≡ length up.now }
@@ -90,46 +87,23 @@ fn step_rows(
     requires spare_wires { length spare_wires.old ≡ length up.now }
     requires dark_up { IsDarkBeyond up_span.first up_span.end up.now }
     requires dark_down { IsDarkBeyond down_span.first down_span.end down.now }
-    requires top { length top.heads.items ≡ length up.now }
-    requires bottom { length bottom.heads.items ≡ length up.now }
+    requires top { length top.old.heads.items ≡ length up.now }
+    requires bottom { length bottom.old.heads.items ≡ length up.now }
     requires inside { AreInRows (length up.now) y (length rows.old) due.now }
     ensures many { length rows.new ≡ length rows.old }
     ensures long { AreLong (length up.now) rows.new }
-    ensures long_top { length result.0.heads.items ≡ length up.now }
-    ensures long_bottom { length result.1.heads.items ≡ length up.now }
-    ensures top { (j : ℕ) → get_or result.0.heads.items j 0 ≡ get_or (row_heads rows.old 0) j 0 }
-    ensures bottom { (j : ℕ) → get_or result.1.heads.items j 0 ≡ get_or (row_heads rows.old (length rows.old - 1)) j 0 }
+    ensures long_top { length top.new.heads.items ≡ length up.now }
+    ensures long_bottom { length bottom.new.heads.items ≡ length up.now }
+    ensures top { (j : ℕ) → get_or top.new.heads.items j 0 ≡ get_or (row_heads rows.old 0) j 0 }
+    ensures bottom { (j : ℕ) → get_or bottom.new.heads.items j 0 ≡ get_or (row_heads rows.old (length rows.old - 1)) j 0 }
     ensures shows { (p : Plane) → IsEmptyWest p → ShowRows rows.old p (pos y) → ShowsHeads up.now p (pos y -ℤ pos 1) → ShowsHeads down.now p (pos y +ℤ pos (length rows.old)) → ShowRows rows.new (injected (has_cell (injected_cells due.now)) (next_plane p)) (pos y) }
 {
-    step_band(
-        alloc,
-        rows,
-        up,
-        up_span,
-        down,
-        down_span,
-        spare_heads,
-        spare_wires,
-    );
-    let kept = keep_edges(rows, top, bottom);
+    step_band(rows, up, up_span, down, down_span, spare_heads, spare_wires);
+    keep_edges(rows, top, bottom);
     inject(rows, y, up.len(), due);
-    kept
 }
 
 impl Band {
-    /// A band without rows.
-    pub fn dark(alloc: Global) -> Band {
-        Band {
-            rows: Vec::new(alloc),
-            light: Span { first: 0, end: 0 },
-            generation: 0,
-            top: Kept::dark(alloc),
-            bottom: Kept::dark(alloc),
-            injections: Vec::new(alloc),
-            done: 0,
-        }
-    }
-
     // A row's span, or an empty one where the whole band is dark.
     fn lit_span(&self, span: Span) -> Span
         ensures within { (n : ℕ) → span.end ≤ n → result.end ≤ n }
@@ -172,11 +146,10 @@ impl Band {
         (self.top.heads.as_slice(), self.top.span)
     }
 
-    /// The band one generation on, between the heads of the rows beside it at its own generation. The spare rows hold
+    /// Goes on by one generation, between the heads of the rows beside the band at its own generation. The spare rows hold
     /// anything.
-    pub fn next(
-        self,
-        alloc: Global,
+    pub fn step(
+        &mut self,
         y: usize,
         up: &[u64],
         up_span: Span,
@@ -184,9 +157,9 @@ impl Band {
         down_span: Span,
         spare_heads: &mut [u64],
         spare_wires: &mut [u64],
-    ) -> Band
-        requires is { IsBand (length up.now) y (length self.rows.items) self }
-        requires room { self.generation + 1 < 2 ^ 64 }
+    )
+        requires is { IsBand (length up.now) y (length self.old.rows.items) self.old }
+        requires room { self.old.generation + 1 < 2 ^ 64 }
         requires down { length down.now ≡ length up.now }
         requires up_within { up_span.end ≤ length up.now }
         requires down_within { down_span.end ≤ length up.now }
@@ -194,24 +167,14 @@ impl Band {
         requires spare_wires { length spare_wires.old ≡ length up.now }
         requires dark_up { IsDarkBeyond up_span.first up_span.end up.now }
         requires dark_down { IsDarkBeyond down_span.first down_span.end down.now }
-        ensures generation { result.generation ≡ self.generation + 1 }
-        ensures is { IsBand (length up.now) y (length self.rows.items) result }
-        ensures shows { (e : ℕ → Plane) (due : Due) (width height : ℕ) → IsEvolution e due width height → ShowsBand e due y (length self.rows.items) self → ShowsHeads up.now (e self.generation) (pos y -ℤ pos 1) → ShowsHeads down.now (e self.generation) (pos y +ℤ pos (length self.rows.items)) → ShowsBand e due y (length self.rows.items) result }
+        ensures generation { self.new.generation ≡ self.old.generation + 1 }
+        ensures is { IsBand (length up.now) y (length self.old.rows.items) self.new }
+        ensures shows { (e : ℕ → Plane) (due : Due) (width height : ℕ) → IsEvolution e due width height → ShowsBand e due y (length self.old.rows.items) self.old → ShowsHeads up.now (e self.old.generation) (pos y -ℤ pos 1) → ShowsHeads down.now (e self.old.generation) (pos y +ℤ pos (length self.old.rows.items)) → ShowsBand e due y (length self.old.rows.items) self.new }
     {
-        let Band {
-            mut rows,
-            light: _,
-            generation,
-            top,
-            bottom,
-            injections,
-            done,
-        } = self;
-        let generation = generation + 1;
-        let count = due_count(generation as u128, &injections[done..]);
-        let (top, bottom) = step_rows(
-            alloc,
-            &mut rows,
+        self.generation += 1;
+        let count = due_count(self.generation as u128, &self.injections[self.done..]);
+        step_rows(
+            &mut self.rows,
             y,
             up,
             up_span,
@@ -219,20 +182,12 @@ impl Band {
             down_span,
             spare_heads,
             spare_wires,
-            top,
-            bottom,
-            &injections[done..done + count],
+            &mut self.top,
+            &mut self.bottom,
+            &self.injections[self.done..self.done + count],
         );
-        let light = light_of(&rows);
-        Band {
-            rows,
-            light,
-            generation,
-            top,
-            bottom,
-            injections,
-            done: done + count,
-        }
+        self.light = light_of(&self.rows);
+        self.done += count;
     }
 
     /// Goes on by one generation, where the band is dark, no head lies beside it and no injection is due: its rows stay.

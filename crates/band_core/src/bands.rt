@@ -1,7 +1,7 @@
 // Bands of rows.
 ghost use Rattle.ww_rule.specs.Injections.{AreInside};
 ghost use Rattle.ww_rule.specs.Due.{AreInOrderFrom};
-ghost use Rattle.std.specs.Prelude.{◌≡◌, ◌+◌, ◌*◌, ◌<◌, ◌≤◌, ◌^◌, ◌⊎◌, ℕ, pos, All, length, IfOk, IfErr, OnOk, OnErr, Some, None};
+ghost use Rattle.std.specs.Prelude.{◌≡◌, ◌+◌, ◌*◌, ◌<◌, ◌≤◌, ◌^◌, ℕ, All, length, IfOk, IfErr, OnOk, OnErr, Some, None};
 ghost use Rattle.ww_rule.specs.Patterns.{grid_of};
 ghost use Rattle.band_core.specs.Bands.{IsBandedPattern, IsCellOf, IsAwake, HasReasonToStay, begun, band_at, generation_of, moved_on, unready_neighbour};
 
@@ -25,7 +25,6 @@ pub struct Bands {
     dark: Vec<u64>,
     spare_heads: Vec<u64>,
     spare_wires: Vec<u64>,
-    alloc: Global,
 }
 
 impl Model for Bands {
@@ -84,7 +83,6 @@ impl Bands {
             dark,
             spare_heads,
             spare_wires,
-            alloc,
         })
     }
 
@@ -129,7 +127,6 @@ impl Bands {
             return Err(refusal);
         }
         move_band(
-            self.alloc,
             &mut self.bands,
             b,
             self.height,

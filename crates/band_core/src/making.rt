@@ -1,11 +1,10 @@
 // Bands of a pattern at generation 0.
 ghost use Rattle.ww_rule.specs.Due.{AreInOrderFrom};
-ghost use Rattle.std.specs.Prelude.{◌≡◌, ◌+◌, ◌-◌, ◌*◌, ◌/◌, ◌<◌, ◌≤◌, ◌^◌, ◌==◌, ℕ, pos, List, [], length, get_or, map, filter, drop, replicate, All, IfOk};
-ghost use Rattle.ww_rule.specs.declared.pattern.State.TheVariants.{Empty};
+ghost use Rattle.std.specs.Prelude.{◌≡◌, ◌+◌, ◌-◌, ◌*◌, ◌/◌, ◌<◌, ◌≤◌, ◌^◌, ◌==◌, ℕ, List, [], length, get_or, filter, drop, replicate, All, IfOk};
 ghost use Rattle.ww_rule.specs.Wireworld.{Plane, Due, driven, injected};
 ghost use Rattle.ww_rule.specs.Grid.{plane_of};
 ghost use Rattle.ww_rule.specs.Injections.{due_of_list};
-ghost use Rattle.band_rows.specs.Rows.{AreLong, ShowRows};
+ghost use Rattle.band_rows.specs.Rows.{AreLong};
 ghost use Rattle.band_core.specs.Bands.{bands_in};
 ghost use Rattle.band_core.specs.Band.{AllShow, AreBands, AreDueIn, AreInRows, AreShown, IsBand, ShowsBand, generations_of};
 

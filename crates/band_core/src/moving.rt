@@ -1,5 +1,5 @@
 // Bands that move on beside others.
-ghost use Rattle.std.specs.Prelude.{◌≡◌, ◌+◌, ◌-◌, ◌*◌, ◌<◌, ◌≤◌, ◌^◌, ◌⊎◌, ℕ, length, get_or, min, slice_set, None, IfSome};
+ghost use Rattle.std.specs.Prelude.{◌≡◌, ◌+◌, ◌-◌, ◌*◌, ◌<◌, ◌≤◌, ◌^◌, ℕ, length, get_or, min, slice_set, None, IfSome};
 ghost use Rattle.ww_rule.specs.Wireworld.{Plane, Due};
 ghost use Rattle.lane_kernel.specs.Spans.{IsDarkBeyond};
 ghost use Rattle.band_rows.specs.Rows.{AreDarkBeyond};
@@ -11,8 +11,6 @@ use crate::awake::{due_cell, faced_cell, lit_cell};
 use crate::band::Band;
 use crate::error::NotReady;
 use band_rows::Span;
-use std::alloc::Global;
-use std::mem;
 
 // A neighbour of band b, where its generation is neither the band's nor one more.
 fn not_ready(bands: &[Band], b: usize, neighbour: usize) -> Option<NotReady>
@@ -49,54 +47,42 @@ pub fn unready_neighbour(bands: &[Band], b: usize) -> Option<NotReady>
     None
 }
 
-/// The heads of the row above band b at a generation, and a span beyond which it has none.
-pub fn row_above<'a>(
-    bands: &'a [Band],
-    b: usize,
-    generation: u64,
-    dark: &'a [u64],
-) -> (&'a [u64], Span)
-    requires band { b < length bands.now }
-    requires some { (d : Band) → 0 < b → 0 < length (get_or bands.now (b - 1) d).rows.items }
-    requires light { (d : Band) → 0 < b → AreDarkBeyond (get_or bands.now (b - 1) d).light.first (get_or bands.now (b - 1) d).light.end (get_or bands.now (b - 1) d).rows.items }
+/// The heads of the last row of bands at a generation, or of a dark row where there is no band, and a span beyond which it
+/// has none.
+pub fn row_above<'a>(before: &'a [Band], generation: u64, dark: &'a [u64]) -> (&'a [u64], Span)
+    requires some { (d : Band) → 0 < length before.now → 0 < length (get_or before.now (length before.now - 1) d).rows.items }
+    requires light { (d : Band) → 0 < length before.now → AreDarkBeyond (get_or before.now (length before.now - 1) d).light.first (get_or before.now (length before.now - 1) d).light.end (get_or before.now (length before.now - 1) d).rows.items }
     requires dark { (j : ℕ) → get_or dark.now j 0 ≡ 0 }
-    ensures first { b ≡ 0 → result.0.now ≡ dark.now }
-    ensures later { (d : Band) → 0 < b → result.0.now ≡ bottom_at generation (get_or bands.now (b - 1) d) }
+    ensures first { length before.now ≡ 0 → result.0.now ≡ dark.now }
+    ensures later { (d : Band) → 0 < length before.now → result.0.now ≡ bottom_at generation (get_or before.now (length before.now - 1) d) }
     ensures within { result.1.end ≤ length result.0.now }
     ensures dark { IsDarkBeyond result.1.first result.1.end result.0.now }
 {
-    if b == 0 {
+    if before.is_empty() {
         return (dark, Span { first: 0, end: 0 });
     }
-    bands[b - 1].bottom_heads(generation)
+    before[before.len() - 1].bottom_heads(generation)
 }
 
-/// The heads of the row below band b, likewise.
-pub fn row_below<'a>(
-    bands: &'a [Band],
-    b: usize,
-    generation: u64,
-    dark: &'a [u64],
-) -> (&'a [u64], Span)
-    requires band { b < length bands.now }
-    requires some { (d : Band) → b + 1 < length bands.now → 0 < length (get_or bands.now (b + 1) d).rows.items }
-    requires light { (d : Band) → b + 1 < length bands.now → AreDarkBeyond (get_or bands.now (b + 1) d).light.first (get_or bands.now (b + 1) d).light.end (get_or bands.now (b + 1) d).rows.items }
+/// The heads of the first row of bands, likewise.
+pub fn row_below<'a>(after: &'a [Band], generation: u64, dark: &'a [u64]) -> (&'a [u64], Span)
+    requires some { (d : Band) → 0 < length after.now → 0 < length (get_or after.now 0 d).rows.items }
+    requires light { (d : Band) → 0 < length after.now → AreDarkBeyond (get_or after.now 0 d).light.first (get_or after.now 0 d).light.end (get_or after.now 0 d).rows.items }
     requires dark { (j : ℕ) → get_or dark.now j 0 ≡ 0 }
-    ensures last { b + 1 ≡ length bands.now → result.0.now ≡ dark.now }
-    ensures earlier { (d : Band) → b + 1 < length bands.now → result.0.now ≡ top_at generation (get_or bands.now (b + 1) d) }
+    ensures last { length after.now ≡ 0 → result.0.now ≡ dark.now }
+    ensures earlier { (d : Band) → 0 < length after.now → result.0.now ≡ top_at generation (get_or after.now 0 d) }
     ensures within { result.1.end ≤ length result.0.now }
     ensures dark { IsDarkBeyond result.1.first result.1.end result.0.now }
 {
-    if b + 1 == bands.len() {
+    if after.is_empty() {
         return (dark, Span { first: 0, end: 0 });
     }
-    bands[b + 1].top_heads(generation)
+    after[0].top_heads(generation)
 }
 
 /// Moves band b on by one generation. No memory is taken.
 #[inline(never)]
 pub fn move_band(
-    alloc: Global,
     bands: &mut [Band],
     b: usize,
     height: usize,
@@ -116,11 +102,12 @@ pub fn move_band(
     ensures generations { generations_of bands.new ≡ slice_set (generations_of bands.old) b (get_or (generations_of bands.old) b 0 + 1) }
     ensures shows { (e : ℕ → Plane) (due : Due) (width : ℕ) → IsEvolution e due width rows → AllShow e due height rows bands.old → AllShow e due height rows bands.new }
 {
-    let band = mem::replace(&mut bands[b], Band::dark(alloc));
-    let (up, up_span) = row_above(bands, b, band.generation, dark);
-    let (down, down_span) = row_below(bands, b, band.generation, dark);
-    let next = band.next(
-        alloc,
+    let (before, rest) = bands.split_at_mut(b);
+    let (own, after) = rest.split_at_mut(1);
+    let band = &mut own[0];
+    let (up, up_span) = row_above(before, band.generation, dark);
+    let (down, down_span) = row_below(after, band.generation, dark);
+    band.step(
         b * height,
         up,
         up_span,
@@ -129,7 +116,6 @@ pub fn move_band(
         spare_heads,
         spare_wires,
     );
-    bands[b] = next;
 }
 
 /// Moves band b on by one generation where nothing can change in it: its rows stay.
@@ -168,8 +154,10 @@ pub fn awake_cell(
     if let Some((x, z)) = lit_cell(own, band.light, y) {
         return Some((x as u64, z as u64));
     }
-    let (up, up_span) = row_above(bands, b, band.generation, dark);
-    let (down, down_span) = row_below(bands, b, band.generation, dark);
+    let (before, rest) = bands.split_at(b);
+    let (_, after) = rest.split_at(1);
+    let (up, up_span) = row_above(before, band.generation, dark);
+    let (down, down_span) = row_below(after, band.generation, dark);
     if let Some((x, z)) = faced_cell(y, own.len(), up, up_span, down, down_span) {
         return Some((x as u64, z as u64));
     }

@@ -24,10 +24,6 @@ same f rows r z lt = ap (λ xs. get_or xs r []) (map-set f rows r z) ∙ get_or-
 pub held : (f : Row → List ℕ) (rows : List Row) (r : ℕ) (row d : Row) → r < length rows → row ≡ get_or rows r d → field f rows r ≡ f row
 held f rows r row d lt e = get_or-map f rows r d [] lt ∙ ap f (sym e)
 
--- of two writes to a row the second stands
-pub other_twice : (f : Row → List ℕ) (rows : List Row) (r k : ℕ) (z w : Row) → k ≢ r → field f (slice_set (slice_set rows r z) r w) k ≡ field f rows k
-other_twice f rows r k z w ne = other f (slice_set rows r z) r k w ne ∙ other f rows r k z ne
-
 pub words_show : (a b : List ℕ) (p : Plane) (y : ℤ) → ((j : ℕ) → get_or a j 0 ≡ get_or b j 0) → ShowsHeads b p y → ShowsHeads a p y
 words_show a b p y e h x = ap (λ w. count_head (state_of (has_bit w (x % 64)) false false)) (e (x / 64)) ∙ h x
 

@@ -6,13 +6,10 @@ ghost use Rattle.band_rows.specs.Rows.{row_heads, row_tails, AreDarkBeyond, AreL
 
 use crate::row::Row;
 use crate::span::{Span, hull};
-use std::alloc::Global;
-use std::mem;
 
 /// The next generation of rows, where the heads of the rows before and after them are known, and spans beyond which these
 /// have none. The spare rows hold anything.
 pub fn step_band(
-    alloc: Global,
     rows: &mut [Row],
     up: &[u64],
     up_span: Span,
@@ -35,10 +32,11 @@ pub fn step_band(
     ensures steps { (p : Plane) (y : ℤ) → IsEmptyWest p → ShowRows rows.old p y → ShowsHeads up.now p (y -ℤ pos 1) → ShowsHeads down.now p (y +ℤ pos (length rows.old)) → ShowRows rows.new (next_plane p) y }
 {
     for r in 0..rows.len() {
-        let row = mem::replace(&mut rows[r], Row::dark(alloc));
-        let (above, above_span) = above_of(rows, r, up, up_span);
-        let (below, below_span) = below_of(rows, r, down, down_span);
-        rows[r] = row.next(
+        let (before, rest) = rows.split_at_mut(r);
+        let (own, after) = rest.split_at_mut(1);
+        let (above, above_span) = above_of(before, up, up_span);
+        let (below, below_span) = below_of(after, down, down_span);
+        own[0].step(
             above,
             above_span,
             below,
@@ -60,38 +58,37 @@ pub fn light_of(rows: &[Row]) -> Span
     light
 }
 
-// The heads of the row before row r, which has stepped, and a span beyond which it has none.
-fn above_of<'a>(rows: &'a [Row], r: usize, up: &'a [u64], up_span: Span) -> (&'a [u64], Span)
-    requires place { r < length rows.now }
-    requires long { 0 < r → length (row_heads rows.now (r - 1)) ≡ length up.now }
+// The heads of the last of rows that have stepped, or of the row before a band, and a span beyond which it has none.
+fn above_of<'a>(before: &'a [Row], up: &'a [u64], up_span: Span) -> (&'a [u64], Span)
+    requires long { 0 < length before.now → length (row_heads before.now (length before.now - 1)) ≡ length up.now }
     requires within { up_span.end ≤ length up.now }
     requires dark { IsDarkBeyond up_span.first up_span.end up.now }
-    ensures first { r ≡ 0 → result.0.now ≡ up.now }
-    ensures later { 0 < r → result.0.now ≡ row_tails rows.now (r - 1) }
+    ensures first { length before.now ≡ 0 → result.0.now ≡ up.now }
+    ensures later { 0 < length before.now → result.0.now ≡ row_tails before.now (length before.now - 1) }
     ensures long { length result.0.now ≡ length up.now }
     ensures within { result.1.end ≤ length up.now }
     ensures dark { IsDarkBeyond result.1.first result.1.end result.0.now }
 {
-    if r == 0 {
+    if before.is_empty() {
         return (up, up_span);
     }
-    (rows[r - 1].tails.as_slice(), rows[r - 1].span)
+    let row = &before[before.len() - 1];
+    (row.tails.as_slice(), row.span)
 }
 
-// The heads of the row after row r, which has not stepped, and a span beyond which it has none.
-fn below_of<'a>(rows: &'a [Row], r: usize, down: &'a [u64], down_span: Span) -> (&'a [u64], Span)
-    requires place { r < length rows.now }
-    requires long { r + 1 < length rows.now → length (row_heads rows.now (r + 1)) ≡ length down.now }
+// The heads of the first of rows that have not stepped, or of the row after a band, and a span beyond which it has none.
+fn below_of<'a>(after: &'a [Row], down: &'a [u64], down_span: Span) -> (&'a [u64], Span)
+    requires long { 0 < length after.now → length (row_heads after.now 0) ≡ length down.now }
     requires within { down_span.end ≤ length down.now }
     requires dark { IsDarkBeyond down_span.first down_span.end down.now }
-    ensures last { r + 1 ≡ length rows.now → result.0.now ≡ down.now }
-    ensures earlier { r + 1 < length rows.now → result.0.now ≡ row_heads rows.now (r + 1) }
+    ensures last { length after.now ≡ 0 → result.0.now ≡ down.now }
+    ensures earlier { 0 < length after.now → result.0.now ≡ row_heads after.now 0 }
     ensures long { length result.0.now ≡ length down.now }
     ensures within { result.1.end ≤ length down.now }
     ensures dark { IsDarkBeyond result.1.first result.1.end result.0.now }
 {
-    if r + 1 == rows.len() {
+    if after.is_empty() {
         return (down, down_span);
     }
-    (rows[r + 1].heads.as_slice(), rows[r + 1].span)
+    (after[0].heads.as_slice(), after[0].span)
 }

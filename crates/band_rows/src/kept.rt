@@ -4,7 +4,6 @@ ghost use Rattle.lane_kernel.specs.Spans.{IsDarkBeyond};
 
 use crate::span::Span;
 use lane_kernel::put_words;
-use std::alloc::Global;
 
 /// A row of heads, and a span beyond which it has none.
 #[derive(Drop)]
@@ -26,15 +25,21 @@ fn darken(words: &mut [u64], first: usize, end: usize)
     words[first..end].fill(0);
 }
 
-impl Kept {
-    /// A row without words.
-    pub fn dark(alloc: Global) -> Kept {
-        Kept {
-            heads: Vec::new(alloc),
-            span: Span { first: 0, end: 0 },
-        }
-    }
+// Puts the words of another row into a row, where the two are dark beyond spans.
+fn copy_heads(heads: &mut [u64], old: Span, new: Span, words: &[u64])
+    requires long { length words.now ≡ length heads.old }
+    requires old_within { old.end ≤ length heads.old }
+    requires old_dark { IsDarkBeyond old.first old.end heads.old }
+    requires new_within { new.end ≤ length words.now }
+    requires new_dark { IsDarkBeyond new.first new.end words.now }
+    ensures long { length heads.new ≡ length heads.old }
+    ensures same { (j : ℕ) → get_or heads.new j 0 ≡ get_or words.now j 0 }
+{
+    put_words(heads, old.first, old.end, words);
+    put_words(heads, new.first, new.end, words);
+}
 
+impl Kept {
     /// Takes all heads away.
     pub fn clear(&mut self)
         ensures long { length self.new.heads.items ≡ length self.old.heads.items }
@@ -47,20 +52,15 @@ impl Kept {
         self.span = Span { first: 0, end: 0 };
     }
 
-    /// The row with other heads in place of its own.
-    pub fn keep(self, words: &[u64], span: Span) -> Kept
-        requires long { length words.now ≡ length self.heads.items }
+    /// Takes other heads in place of its own.
+    pub fn keep(&mut self, words: &[u64], span: Span)
+        requires long { length words.now ≡ length self.old.heads.items }
         requires within { span.end ≤ length words.now }
         requires dark { IsDarkBeyond span.first span.end words.now }
-        ensures long { length result.heads.items ≡ length self.heads.items }
-        ensures same { (j : ℕ) → get_or result.heads.items j 0 ≡ get_or words.now j 0 }
+        ensures long { length self.new.heads.items ≡ length self.old.heads.items }
+        ensures same { (j : ℕ) → get_or self.new.heads.items j 0 ≡ get_or words.now j 0 }
     {
-        let Kept {
-            mut heads,
-            span: old,
-        } = self;
-        put_words(&mut heads, old.first, old.end, words);
-        put_words(&mut heads, span.first, span.end, words);
-        Kept { heads, span }
+        copy_heads(&mut self.heads, self.span, span, words);
+        self.span = span;
     }
 }

@@ -1,5 +1,5 @@
 // Rows that know where their light is.
-ghost use Rattle.std.specs.Prelude.{◌≡◌, ◌+◌, ◌-◌, ◌*◌, ◌/◌, ◌<◌, ◌≤◌, ◌^◌, ◌==◌, if◌then◌else◌, ℕ, List, pos, length, get_or, IfOk};
+ghost use Rattle.std.specs.Prelude.{◌≡◌, ◌-◌, ◌*◌, ◌/◌, ◌<◌, ◌≤◌, ◌^◌, ◌==◌, if◌then◌else◌, ℕ, pos, length, get_or, IfOk};
 ghost use Rattle.ww_rule.specs.declared.pattern.State.TheVariants.{Empty, Head};
 ghost use Rattle.ww_rule.specs.Wireworld.{next_plane};
 ghost use Rattle.lane_kernel.specs.Rows.{row_state, plane_of_rows, AreDisjoint};
@@ -140,64 +140,42 @@ impl Row {
         }
     }
 
-    /// A row without words.
-    pub fn dark(alloc: Global) -> Row {
-        Row {
-            heads: Vec::new(alloc),
-            tails: Vec::new(alloc),
-            wires: Vec::new(alloc),
-            span: Span { first: 0, end: 0 },
-        }
-    }
-
-    /// The next generation of a row between two others, of which the heads are asked for and spans beyond which they have
+    /// Goes on by one generation, between two other rows, of which the heads are asked for and spans beyond which they have
     /// none. The spare rows hold anything.
-    pub fn next(
-        self,
+    pub fn step(
+        &mut self,
         above: &[u64],
         above_span: Span,
         below: &[u64],
         below_span: Span,
         spare_heads: &mut [u64],
         spare_wires: &mut [u64],
-    ) -> Row
-        requires above { length above.now ≡ length self.heads.items }
-        requires below { length below.now ≡ length self.heads.items }
-        requires above_within { above_span.end ≤ length self.heads.items }
-        requires below_within { below_span.end ≤ length self.heads.items }
-        requires spare_heads { length spare_heads.old ≡ length self.heads.items }
-        requires spare_wires { length spare_wires.old ≡ length self.heads.items }
+    )
+        requires above { length above.now ≡ length self.old.heads.items }
+        requires below { length below.now ≡ length self.old.heads.items }
+        requires above_within { above_span.end ≤ length self.old.heads.items }
+        requires below_within { below_span.end ≤ length self.old.heads.items }
+        requires spare_heads { length spare_heads.old ≡ length self.old.heads.items }
+        requires spare_wires { length spare_wires.old ≡ length self.old.heads.items }
         requires dark_above { IsDarkBeyond above_span.first above_span.end above.now }
         requires dark_below { IsDarkBeyond below_span.first below_span.end below.now }
-        ensures long { length result.heads.items ≡ length self.heads.items }
-        ensures long_spare_heads { length spare_heads.new ≡ length self.heads.items }
-        ensures long_spare_wires { length spare_wires.new ≡ length self.heads.items }
-        ensures tails { (j : ℕ) → get_or result.tails.items j 0 ≡ get_or self.heads.items j 0 }
-        ensures cells { (x : ℕ) → row_state result.heads.items result.tails.items result.wires.items x ≡ next_plane (plane_of_rows above.now self.heads.items below.now self.tails.items self.wires.items) (pos x) (pos 1) }
+        ensures long { length self.new.heads.items ≡ length self.old.heads.items }
+        ensures long_spare_heads { length spare_heads.new ≡ length self.old.heads.items }
+        ensures long_spare_wires { length spare_wires.new ≡ length self.old.heads.items }
+        ensures tails { (j : ℕ) → get_or self.new.tails.items j 0 ≡ get_or self.old.heads.items j 0 }
+        ensures cells { (x : ℕ) → row_state self.new.heads.items self.new.tails.items self.new.wires.items x ≡ next_plane (plane_of_rows above.now self.old.heads.items below.now self.old.tails.items self.old.wires.items) (pos x) (pos 1) }
     {
-        let Row {
-            mut heads,
-            mut tails,
-            mut wires,
-            span,
-        } = self;
-        let span = step_lit(
+        self.span = step_lit(
             above,
             above_span,
-            &mut heads,
+            &mut self.heads,
             below,
             below_span,
-            &mut tails,
-            &mut wires,
-            span,
+            &mut self.tails,
+            &mut self.wires,
+            self.span,
             spare_heads,
             spare_wires,
         );
-        Row {
-            heads,
-            tails,
-            wires,
-            span,
-        }
     }
 }

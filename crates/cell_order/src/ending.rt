@@ -1,5 +1,5 @@
 // An order of cells in which the next is the one that ends most values. Of what is found only the range is told: who takes it checks it.
-ghost use Rattle.std.specs.Prelude.{◌≡◌, ◌≤◌, ◌<◌, length, All, IfOk};
+ghost use Rattle.std.specs.Prelude.{◌≤◌, ◌<◌, length, All, IfOk};
 
 use crate::OrderError;
 use cell_core::{Cell, CellList, Src};

@@ -1,5 +1,5 @@
 // Cells that are moved to other places, one after another.
-ghost use Rattle.std.specs.Prelude.{◌≡◌, ◌<◌, length, map, slice_get, IfOk, IfSome, OnOk, Some};
+ghost use Rattle.std.specs.Prelude.{◌≡◌, ◌<◌, map, slice_get, IfOk, IfSome, OnOk, Some};
 ghost use Rattle.cell_order.specs.Renamed.{renamed, renamed_cell, AreMoved};
 
 use crate::OrderError;

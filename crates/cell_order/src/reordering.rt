@@ -1,5 +1,5 @@
 // A list of cells in another order.
-ghost use Rattle.std.specs.Prelude.{◌≡◌, IfOk, IfSome};
+ghost use Rattle.std.specs.Prelude.{IfOk, IfSome};
 ghost use Rattle.cell_order.specs.Alike.{ComputeAlike};
 ghost use Rattle.cell_order.specs.Renamed.{AreMoved};
 

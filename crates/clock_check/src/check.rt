@@ -1,5 +1,5 @@
 // The fault of clocks.
-ghost use Rattle.std.specs.Prelude.{ℕ, ◌≡◌, OnOk};
+ghost use Rattle.std.specs.Prelude.{ℕ, OnOk};
 ghost use Rattle.std.specs.Result.{IsErrOf};
 ghost use Rattle.netlist_core.specs.Names.{Name};
 ghost use Rattle.netlist_meaning.specs.Flat.{IsInRange};

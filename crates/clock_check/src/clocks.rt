@@ -1,5 +1,5 @@
 // The classes of clock nets.
-ghost use Rattle.std.specs.Prelude.{◌≡◌, ◌<◌, ◌==◌, cond, false, replicate, length, get_or, map, take, ℕ, All, IfOk};
+ghost use Rattle.std.specs.Prelude.{◌≡◌, ◌<◌, ◌==◌, cond, false, replicate, length, get_or, ℕ, All, IfOk};
 ghost use Rattle.std.specs.List.{list_any};
 ghost use Rattle.netlist_meaning.specs.Flat.{IsInRange, IsNetId, class_of, port_classes, is_clock_class};
 ghost use Rattle.clock_check.specs.Marks.{MarksClocks};

@@ -1,5 +1,5 @@
 // Whether all latches have one clock.
-ghost use Rattle.std.specs.Prelude.{◌≡◌, ◌↔◌, ◌<◌, IsTrue, IfOk, IfSome, MatchOption, length, ⊤};
+ghost use Rattle.std.specs.Prelude.{◌≡◌, ◌↔◌, ◌<◌, IsTrue, IfOk, IfSome, MatchOption, ⊤};
 ghost use Rattle.netlist_meaning.specs.Flat.{IsInRange, IsNetId};
 ghost use Rattle.netlist_rules.specs.FlatClocks.{HasSameFlatControl, HasSameFlatClock, HasOneFlatClock, IsFlatTwoClocks, flat_control_word};
 

@@ -1,5 +1,5 @@
 // The uses of nets, and the earliest of a clock's.
-ghost use Rattle.std.specs.Prelude.{◌≡◌, ◌+◌, ◌<◌, ◌^◌, ◌++◌, [], ◌∷◌, flat_map, length, All, None};
+ghost use Rattle.std.specs.Prelude.{◌≡◌, ◌<◌, flat_map, All, None};
 ghost use Rattle.netlist_core.specs.declared.flat.Node as flat_node;
 ghost use Rattle.netlist_meaning.specs.Flat.{IsNetId};
 ghost use Rattle.clock_check.specs.Uses.{uses_on, uses_of_node, uses_of_latch, uses_of_outs, flat_uses, is_before, earlier, earliest_with, earliest_among};

@@ -1,5 +1,5 @@
 -- After the name of a command the words are its own.
-use Rattle.std.proofs.Common.{◌≡◌, ◌∙◌, Bool, List, [], ◌∷◌, ◌++◌, ◌&&◌, ◌||◌, refl, sym, codes, true, false, not, Some, Option, ap, ap₂, option_map, is_some}
+use Rattle.std.proofs.Common.{◌≡◌, ◌∙◌, Bool, List, [], ◌∷◌, ◌++◌, ◌&&◌, refl, sym, codes, true, false, not, Some, Option, ap, ap₂, option_map, is_some}
 use Rattle.std.specs.Prelude.{fold, find}
 use Rattle.std.specs.Option.{option_map_or}
 use Rattle.std.specs.Str.{bytes_eq}

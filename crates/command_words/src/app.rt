@@ -2,7 +2,7 @@
 ghost use Rattle.std.specs.Prelude.{◌≡◌, IfOk, false, map};
 ghost use Rattle.clap.specs.Words.{app_of, rule_of, new_app};
 ghost use Rattle.clap.specs.declared.builder.command.Command.TheViews.{out-Command as fields_of};
-ghost use Rattle.command_words.specs.App.{blifww_app, driven_app, free_option, make_app, probe_app, required_option, self_app, stream_words, window_app, with_required};
+ghost use Rattle.command_words.specs.App.{driven_app, free_option, probe_app, required_option, stream_words, window_app, with_required};
 
 use clap::{Arg, ArgAction, Command};
 use std::alloc::{AllocError, Global};

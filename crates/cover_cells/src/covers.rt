@@ -1,9 +1,9 @@
 // A cover as cells: one cell, or cells that a search found, or its rows.
-ghost use Rattle.std.specs.Prelude.{◌≡◌, ◌==◌, ◌∷◌, [], ◌⊎◌, ◌≤◌, ◌*◌, min, true, length, IsTrue, IfOk, IfSome, Some};
+ghost use Rattle.std.specs.Prelude.{◌≡◌, ◌==◌, [], ◌⊎◌, ◌≤◌, ◌*◌, min, true, length, IsTrue, IfOk, IfSome, Some};
 ghost use Rattle.std.specs.List.{list_any};
 ghost use Rattle.netlist_core.specs.OwnWeight.{literals, rows_weight};
 ghost use Rattle.cell_core.specs.Meaning.{bit_in};
-ghost use Rattle.cell_core.specs.Sources.{are_there, is_one, reads_one, read_one};
+ghost use Rattle.cell_core.specs.Sources.{is_one, reads_one, read_one};
 ghost use Rattle.cover_cells.specs.Grown.{HasSources, bits_of, Answers, IsCell};
 ghost use Rattle.cover_cells.specs.Covers.{has_no_positive, CoverNeedsOne, AnswersCover};
 ghost use Rattle.cover_cells.specs.Placed.{ReadsOne};

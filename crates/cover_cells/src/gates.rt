@@ -1,5 +1,5 @@
 // Cells that are added one by one.
-ghost use Rattle.std.specs.Prelude.{◌≡◌, ◌+◌, ◌*◌, ◌⊎◌, ◌&&◌, ◌||◌, not, true, length, IsTrue, IfOk, ℕ, ◌∷◌, []};
+ghost use Rattle.std.specs.Prelude.{◌≡◌, ◌*◌, ◌⊎◌, ◌&&◌, ◌||◌, not, true, length, IsTrue, IfOk, ◌∷◌, []};
 ghost use Rattle.cell_core.specs.Sources.{reads_there, reads_one, is_one};
 ghost use Rattle.cell_core.specs.Meaning.{bit_in, cell_bits, cell_bit};
 ghost use Rattle.netlist_meaning.specs.CoverValue.{fits};

@@ -1,6 +1,6 @@
 // Cells that stand by themselves, put into a list.
-ghost use Rattle.std.specs.Prelude.{◌≡◌, ◌⊎◌, true, length, get_or, IsTrue, IfOk};
-ghost use Rattle.cell_core.specs.Sources.{is_there, reads_there, are_in_order, is_one, read_one};
+ghost use Rattle.std.specs.Prelude.{◌≡◌, length, IsTrue, IfOk};
+ghost use Rattle.cell_core.specs.Sources.{is_there, reads_there, are_in_order};
 ghost use Rattle.cover_cells.specs.Grown.{HasSources};
 ghost use Rattle.cover_cells.specs.Placed.{relocated, relocated_cell, ArePlaced};
 

@@ -1,5 +1,5 @@
 // Cells that are there already.
-ghost use Rattle.std.specs.Prelude.{◌≡◌, true, false, length, slice_get, Some, None, IsTrue, IfOk, OnOk, IfSome};
+ghost use Rattle.std.specs.Prelude.{◌≡◌, true, false, length, Some, None, IsTrue, IfOk, OnOk, IfSome};
 ghost use Rattle.std.specs.BTreeMap.{is_at};
 ghost use Rattle.cell_core.specs.Sources.{reads_there, reads_one};
 ghost use Rattle.cell_core.specs.Meaning.{cell_bits, cell_bit};

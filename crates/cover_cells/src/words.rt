@@ -1,9 +1,9 @@
 // Tables of covers and of cells, as words of 64 bits.
-ghost use Rattle.std.specs.Prelude.{◌≡◌, ◌<◌, ◌≤◌, ◌||◌, ◌&&◌, not, ℕ, Bool, List, All, map, length, get_or, true, false, [], IsTrue, IfOk};
-ghost use Rattle.netlist_meaning.specs.CoverValue.{fits, product_holds, any_holds, cover_value};
+ghost use Rattle.std.specs.Prelude.{◌≡◌, ◌<◌, ◌≤◌, ◌||◌, ◌&&◌, not, ℕ, Bool, List, length, get_or, true, false, [], IsTrue, IfOk};
+ghost use Rattle.netlist_meaning.specs.CoverValue.{fits, product_holds, cover_value};
 ghost use Rattle.cell_core.specs.Sources.{is_there, reads_there, are_in_order};
-ghost use Rattle.cell_core.specs.Meaning.{source_bit, cell_bit, cell_bits, bit_in};
-ghost use Rattle.cover_cells.specs.Words.{bits_number, table_bit, ShowTables, HasTable};
+ghost use Rattle.cell_core.specs.Meaning.{source_bit, cell_bit, cell_bits};
+ghost use Rattle.cover_cells.specs.Words.{table_bit, ShowTables, HasTable};
 ghost use Rattle.lists.specs.Bits.{has_bit};
 
 use cell_core::{Cell, CellError, Src};

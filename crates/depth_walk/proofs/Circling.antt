@@ -1,8 +1,8 @@
 -- A path of the walk that comes back to an open number is a circle.
 use Rattle.std.proofs.Common.{◌≡◌, ◌≢◌, sym, ap, subst, ◌∙◌, ℕ, ◌+◌, ◌-◌, ◌<◌, List, length, get_or, drop, arith}
-use Rattle.std.specs.Prelude.{All, AllPairs}
+use Rattle.std.specs.Prelude.{AllPairs}
 use Rattle.std.proofs.lemmas.List.{get_or-drop, length-drop, get_or_default}
-use Rattle.depth_walk.specs.Links.{Links, LeadsTo, LeadsOnTo}
+use Rattle.depth_walk.specs.Links.{Links, LeadsTo}
 use Rattle.depth_walk.specs.Order.{IsCircleOf}
 use Rattle.depth_walk.specs.declared.walk.Mark.{Mark}
 use Rattle.depth_walk.specs.declared.walk.Mark.TheVariants.{Open}

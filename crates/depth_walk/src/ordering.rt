@@ -1,5 +1,5 @@
 // An order of numbers, or a circle.
-ghost use Rattle.std.specs.Prelude.{◌≡◌, IfOk, IfErr};
+ghost use Rattle.std.specs.Prelude.{IfOk, IfErr};
 ghost use Rattle.depth_walk.specs.Links.{StayWithin};
 ghost use Rattle.depth_walk.specs.Order.{IsOrderOf};
 ghost use Rattle.depth_walk.specs.Reasons.{IsWalkRefusal};

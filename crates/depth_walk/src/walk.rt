@@ -1,5 +1,5 @@
 // A walk over numbers, depth first, with a path of open numbers in the place of recursion.
-ghost use Rattle.std.specs.Prelude.{◌≡◌, ◌≢◌, ◌+◌, ◌-◌, ◌<◌, ◌++◌, [], ◌∷◌, ℕ, length, take, drop, slice_set, OnOk, IfOk, IfErr};
+ghost use Rattle.std.specs.Prelude.{◌≡◌, ◌≢◌, ◌+◌, ◌-◌, ◌<◌, ◌++◌, [], ◌∷◌, length, take, drop, slice_set, OnOk, IfOk, IfErr};
 ghost use Rattle.depth_walk.specs.Links.{StayWithin};
 ghost use Rattle.depth_walk.specs.Reasons.{IsWalkRefusal};
 ghost use Rattle.depth_walk.specs.Walk.{IsMet, IsWalkOf, IsTop, AreStillSeen, work, mark_of};

@@ -1,5 +1,5 @@
 // Weights of models with all that they place, each after those of the models that its lines place.
-ghost use Rattle.std.specs.Prelude.{◌≡◌, ◌+◌, ◌<◌, min, length, get_or, sum_by, IfOk, IfErr};
+ghost use Rattle.std.specs.Prelude.{◌≡◌, ◌+◌, ◌<◌, min, length, sum_by, IfOk, IfErr};
 ghost use Rattle.netlist_core.specs.OwnWeight.{own_weight};
 ghost use Rattle.netlist_meaning.specs.Weight.{weight};
 ghost use Rattle.netlist_rules.specs.ModelFaults.{AreFaultless};

@@ -1,7 +1,6 @@
 // Stream words without a fault, by name.
-ghost use Rattle.std.specs.Prelude.{◌≡◌, ◌⊎◌, [], map, string_bytes, slice_get, Some, IfOk, IfErr};
-ghost use Rattle.std.specs.Option.{option_copied};
-ghost use Rattle.drive.specs.Streams.{HasWordFault, stream_fault, stream_faults_after, bits_for};
+ghost use Rattle.std.specs.Prelude.{◌≡◌, ◌⊎◌, [], map, string_bytes, IfOk, IfErr};
+ghost use Rattle.drive.specs.Streams.{HasWordFault, stream_fault, stream_faults_after};
 ghost use Rattle.drive.specs.GivenBits.{AreNamesOf, AreBitsOf};
 ghost use Rattle.drive.specs.declared.error.StreamError.TheVariants.{NoMemory, Fault};
 

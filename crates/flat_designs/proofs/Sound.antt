@@ -1,5 +1,5 @@
 -- The flat netlist of a design without a fault is sound.
-use Rattle.std.proofs.Common.{ℕ, zero, suc, ◌≡◌, ◌≢◌, ◌<◌, ◌≤◌, ◌^◌, ◌⊎◌, inl, inr, List, [], ◌∷◌, ◌++◌, Option, Some, None, slice_get, get_or, map, length, option_map, refl, sym, ap, ◌∙◌, subst, arith}
+use Rattle.std.proofs.Common.{ℕ, ◌≡◌, ◌≢◌, ◌<◌, ◌≤◌, ◌^◌, ◌⊎◌, inl, inr, List, [], ◌∷◌, ◌++◌, Option, Some, None, slice_get, get_or, map, length, option_map, refl, sym, ap, ◌∙◌, subst, arith}
 use Rattle.std.specs.Prelude.{Contains, All, MatchOption, ⊤, option_to_list}
 use Rattle.std.proofs.lemmas.List.{length-map}
 use Rattle.std.proofs.lemmas.Option.{slice_get-map, slice_get-get_or, slice_get_within, slice_get_past, unwrap_or-slice_get}
@@ -11,7 +11,7 @@ use Rattle.netlist_core.specs.declared.model.Cover.{Cover}
 use Rattle.netlist_core.specs.declared.model.LatchRow.{LatchRow}
 use Rattle.netlist_core.specs.Names.{Name, port_names}
 use Rattle.netlist_meaning.specs.Places.{Place, main_model, model_at, main_ports}
-use Rattle.netlist_meaning.specs.Nets.{Net, net_at, Joined, reversed, IsControl, IsClockNet}
+use Rattle.netlist_meaning.specs.Nets.{Net, net_at, Joined}
 use Rattle.netlist_rules.specs.Clocks.IsClockFault.{two_clocks}
 use Rattle.netlist_rules.specs.FaultNames.{fault_on}
 use Rattle.netlist_rules.specs.declared.fault.FaultKind.TheVariants.{TwoClocks}

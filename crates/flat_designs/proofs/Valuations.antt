@@ -11,7 +11,7 @@ use Rattle.netlist_core.specs.declared.model.Cover.{Cover}
 use Rattle.netlist_core.specs.declared.model.LatchRow.{LatchRow}
 use Rattle.netlist_core.specs.Names.{Name, port_names}
 use Rattle.netlist_meaning.specs.Places.{Place, model_at, latch_at, main_ports}
-use Rattle.netlist_meaning.specs.Nets.{Net, net_at, model_names, IsNet, Joined, IsClockNet, IsInNames, WithoutControl}
+use Rattle.netlist_meaning.specs.Nets.{Net, net_at, IsNet, Joined, IsClockNet, WithoutControl}
 use Rattle.netlist_meaning.specs.Roots.{root}
 use Rattle.netlist_meaning.specs.CoverValue.{cover_value}
 use Rattle.netlist_rules.specs.Clocks.{HasNoClockFault, IsUse, by_cover, by_latch}
@@ -31,7 +31,7 @@ use Rattle.netlist_core.specs.declared.flat.Flat.{Flat}
 use Rattle.netlist_meaning.specs.Flat.{class_of, node_at, no_node, out_class}
 use Rattle.netlist_meaning.specs.FlatValuation.{IsFlatValuation, node_value}
 use Rattle.netlist_meaning.specs.InOrder.{of_some, places_in_order}
-use Rattle.netlist_meaning.specs.FlatOf.{id_of, class_of_net, flat_node, flat_latch, flat_port, at_places, PortsWithoutControl, IsFlatOf}
+use Rattle.netlist_meaning.specs.FlatOf.{id_of, flat_node, flat_latch, flat_port, at_places, PortsWithoutControl, IsFlatOf}
 use Rattle.flat_designs.specs.Laws.{latch_bits_from, state_in_order, bit_of_net, class_bits, net_bits, ValuationsAreFlat}
 use Rattle.flat_designs.proofs.Lists.{map_in, map_flat, flat_same}
 use Rattle.flat_designs.proofs.Listed.{place_is, place_listed}

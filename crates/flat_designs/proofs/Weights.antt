@@ -24,7 +24,7 @@ use Rattle.lists.proofs.Names.{bytes_eq-same, names_are_equal}
 use Rattle.netlist_meaning.proofs.Depth.{places_are_shallow}
 use Rattle.netlist_rules.specs.Drivers.{is_output_pin}
 use Rattle.netlist_rules.specs.ModelFaults.{AreFaultless}
-use Rattle.lists.proofs.Members.{In, in_left, in_right, in_map, in_mapped, in_flat, in_from, contains_from, Distinct, distinct_from}
+use Rattle.lists.proofs.Members.{In, in_left, in_right, in_map, in_mapped, in_flat, in_from, contains_from, distinct_from}
 use Rattle.netlist_rules.proofs.ModelSteps.{model_of_name}
 use Rattle.netlist_rules.proofs.Faultless.{formals_are_distinct}
 use Rattle.sound_designs.proofs.Sound.{in_got, not_recursive, named_in, in_names_append}
@@ -37,7 +37,7 @@ use Rattle.netlist_core.specs.declared.flat.FlatPort.{FlatPort}
 use Rattle.netlist_core.specs.declared.flat.Flat.{Flat}
 use Rattle.netlist_meaning.specs.InOrder.{of_some, places_in_lines, places_below, places_in_order, names_in_order, nets_at, nets_in_order}
 use Rattle.netlist_core.specs.declared.flat.Net.{Net as FlatNet}
-use Rattle.netlist_meaning.specs.FlatOf.{flat_net, flat_node, flat_latch, flat_port, at_places, PortsWithoutControl, kept, left_out, IsFlatOf}
+use Rattle.netlist_meaning.specs.FlatOf.{flat_net, flat_node, flat_latch, flat_port, PortsWithoutControl, kept, left_out, IsFlatOf}
 use Rattle.netlist_core.specs.OwnWeight.{rows_weight}
 use Rattle.flat_designs.specs.Laws.{NetsAreFew, PartsAreFew, FlatIsWeighed}
 use Rattle.flat_designs.proofs.Lists.{all_pairs}

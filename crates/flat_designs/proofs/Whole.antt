@@ -8,7 +8,7 @@ use Rattle.netlist_core.specs.declared.model.Model.{Model}
 use Rattle.netlist_core.specs.declared.model.Port.{Port}
 use Rattle.netlist_core.specs.Names.{Name, port_names}
 use Rattle.netlist_meaning.specs.Places.{main_model, main_ports}
-use Rattle.netlist_meaning.specs.Nets.{Net, net_at, IsNet, IsClockNet, IsInNames, WithoutControl}
+use Rattle.netlist_meaning.specs.Nets.{net_at, IsNet, IsInNames, WithoutControl}
 use Rattle.netlist_meaning.specs.Weight.{weight}
 use Rattle.netlist_meaning.proofs.InNames.{in_names_are_there}
 use Rattle.netlist_meaning.proofs.Joined.{in_names_are_one}

@@ -1,5 +1,5 @@
 -- Instructions leave the number of bits as it is.
-use Rattle.std.proofs.Common.{◌≡◌, refl, ◌∙◌, ℕ, ◌+◌, Bool, List, [], ◌∷◌, length, set}
+use Rattle.std.proofs.Common.{◌≡◌, refl, ◌∙◌, ◌+◌, Bool, List, [], ◌∷◌, length, set}
 use Rattle.std.proofs.lemmas.List.{length-set}
 use Rattle.lane_core.specs.declared.instr.Instr.{Instr}
 use Rattle.lane_core.specs.Instrs.{lane_of, after_instr, after_instrs}

@@ -1,6 +1,5 @@
 -- Rows of cells in words of bits: bit i of word j is cell 64 j + i.
 use Rattle.std.specs.Prelude.{ℕ, zero, suc, ◌/◌, ◌%◌, ◌≡◌, Bool, false, ◌&&◌, ◌||◌, ◌==◌, cond, List, get_or}
-use Rattle.std.specs.Int.{bit_at}
 use Rattle.ww_rule.specs.declared.pattern.State.{State}
 use Rattle.ww_rule.specs.declared.pattern.State.TheVariants.{Empty, Head, Tail, Conductor}
 use Rattle.ww_rule.specs.Wireworld.{Plane}

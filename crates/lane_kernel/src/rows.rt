@@ -1,5 +1,5 @@
 // Whole rows.
-ghost use Rattle.std.specs.Prelude.{◌≡◌, ◌+◌, ◌*◌, ◌<◌, ◌&&◌, ◌||◌, not, ℕ, pos, length, get_or};
+ghost use Rattle.std.specs.Prelude.{◌≡◌, ◌+◌, ◌<◌, ◌&&◌, ◌||◌, not, ℕ, pos, length, get_or};
 ghost use Rattle.ww_rule.specs.Wireworld.{heads_around, next_plane};
 ghost use Rattle.lane_kernel.specs.Rows.{is_one_or_two, is_set, row_state, plane_of_rows, AreDisjoint};
 ghost use Rattle.lane_kernel.specs.Words.{heads_word, wires_word};

@@ -11,11 +11,10 @@ use Rattle.lane_core.specs.declared.plan.NetPlace.{NetPlace}
 use Rattle.lane_core.specs.declared.plan.Program.{Program}
 use Rattle.lane_core.specs.declared.plan.Plan.{Plan}
 use Rattle.lane_core.specs.Instrs.{IsOnLanes, bit_on}
-use Rattle.lane_core.specs.Columns.{after_columns, IsColumnOnLanes, IsColumnApart}
+use Rattle.lane_core.specs.Columns.{after_columns, IsColumnOnLanes}
 use Rattle.lane_core.specs.Entering.{bits_after}
 use Rattle.lane_core.specs.Places.{AreDistinctBelow, IsPlaceWithin}
 use Rattle.lane_core.specs.Plans.{IsAdmissible}
-use Rattle.lane_core.proofs.Lookup.{apart_from_sorted}
 use Rattle.column_packer.specs.Numbers.{used_by, column_numbers, numbered, column_instrs}
 use Rattle.column_packer.specs.Packing.{instrs_in, IsPacked}
 use Rattle.column_packer.proofs.Packed.{packed_same}

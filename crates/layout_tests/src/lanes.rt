@@ -1,5 +1,5 @@
 // Worked values: what each instruction does, and the places of two small plans.
-ghost use Rattle.std.specs.Prelude.{◌≡◌, List, [], ◌∷◌, IfOk, IsOk, length};
+ghost use Rattle.std.specs.Prelude.{◌≡◌, List, IfOk, length};
 ghost use Rattle.lane_core.specs.Plans.{IsAdmissible};
 
 use lane_core::{

@@ -1,5 +1,4 @@
 // Worked values: the columns of small programs.
-ghost use Rattle.std.specs.Prelude.{IfOk, ◌≡◌};
 
 use column_packer::pack;
 use lane_core::{Instr, Program};

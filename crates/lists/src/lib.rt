@@ -1,7 +1,7 @@
 //! A list behind a small type: contracts see the items alone, and not where they lie in memory.
 #![tactic(auto)]
 
-ghost use Rattle.std.specs.Prelude.{◌≡◌, ◌<◌, ◌++◌, List, length, take, drop, slice_get, Some, ℕ, IfOk};
+ghost use Rattle.std.specs.Prelude.{◌≡◌, ◌<◌, ◌++◌, List, length, take, drop, slice_get, Some, IfOk};
 ghost use Rattle.std.specs.Borrow.{sem, Lends, Array};
 
 use std::alloc::{AllocError, Global};

@@ -1,6 +1,6 @@
 -- The links of nodes: they stay within, and an order by them is one of the netlist.
-use Rattle.std.proofs.Common.{◌≡◌, sym, ap, subst, ◌∙◌, ℕ, ◌<◌, ◌≤◌, ◌^◌, ◌⊎◌, inl, inr, List, [], length, get_or, arith}
-use Rattle.std.specs.Prelude.{Some, None, All}
+use Rattle.std.proofs.Common.{sym, ap, subst, ◌∙◌, ℕ, ◌<◌, ◌≤◌, ◌^◌, ◌⊎◌, inl, inr, List, [], length, get_or, arith}
+use Rattle.std.specs.Prelude.{None, All}
 use Rattle.std.proofs.lemmas.List.{get_or_past}
 use Rattle.std.proofs.lemmas.Option.{none-some}
 use Rattle.netlist_core.specs.declared.flat.Flat.{Flat}

@@ -1,6 +1,6 @@
 -- Circles of nodes are loops, and along an order there is none.
-use Rattle.std.proofs.Common.{◌≡◌, ◌≢◌, refl, sym, ap, subst, ◌∙◌, ℕ, suc, ◌+◌, ◌-◌, ◌<◌, ◌≤◌, ◌⊎◌, inl, inr, List, [], ◌∷◌, map, reverse, length, get_or, arith}
-use Rattle.std.specs.Prelude.{Contains, All, AllPairs}
+use Rattle.std.proofs.Common.{◌≡◌, ◌≢◌, refl, sym, ap, subst, ◌∙◌, ℕ, suc, ◌+◌, ◌-◌, ◌<◌, ◌⊎◌, inl, inr, List, [], ◌∷◌, map, reverse, length, get_or, arith}
+use Rattle.std.specs.Prelude.{All, AllPairs}
 use Rattle.std.proofs.lemmas.List.{get_or-map, length-map, get_or-reverse, length-reverse, get_or_past, get_or_default, same_lists}
 use Rattle.netlist_core.specs.declared.flat.Flat.{Flat}
 use Rattle.netlist_core.specs.declared.flat.NetId.{NetId}

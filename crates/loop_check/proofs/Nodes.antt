@@ -1,11 +1,11 @@
 -- Nodes, what they read and what they drive.
-use Rattle.std.proofs.Common.{◌≡◌, subst, refl, sym, ap, ◌∙◌, ℕ, ◌+◌, ◌<◌, ◌≤◌, List, length, get_or, arith, ◌⊎◌, inl, inr, slice_get}
+use Rattle.std.proofs.Common.{◌≡◌, subst, refl, sym, ap, ◌∙◌, ℕ, ◌<◌, ◌≤◌, List, length, get_or, arith, slice_get}
 use Rattle.std.specs.Prelude.{Option, Some, None}
 use Rattle.std.proofs.lemmas.List.{length-map}
 use Rattle.std.proofs.lemmas.Option.{get_or_from_slice_get, none-some, same_Some}
 use Rattle.netlist_core.specs.declared.flat.Flat.{Flat}
 use Rattle.netlist_core.specs.declared.flat.Node.{Node}
-use Rattle.netlist_meaning.specs.Flat.{FlatDriver, node, FlatDrives, IsSound, in_classes, out_class, class_of, no_node, node_at}
+use Rattle.netlist_meaning.specs.Flat.{FlatDriver, node, IsSound, in_classes, out_class, class_of, no_node, node_at}
 use Rattle.netlist_meaning.specs.FlatOrder.{IsDrivenBy}
 use Rattle.loop_check.specs.Links.{IsDriverOf}
 use Rattle.loop_check.specs.Tables.{IsDriverBefore}

@@ -1,5 +1,5 @@
 // The nets that nodes drive.
-ghost use Rattle.std.specs.Prelude.{◌≡◌, ◌<◌, ◌^◌, ℕ, length, map, reverse, IfOk, All};
+ghost use Rattle.std.specs.Prelude.{◌≡◌, ◌<◌, ◌^◌, length, map, reverse, IfOk, All};
 ghost use Rattle.netlist_meaning.specs.Flat.{IsInRange, IsNetId, node_at};
 ghost use Rattle.loop_check.specs.Tables.{AreFirstsFor};
 

@@ -1,5 +1,5 @@
 // Which plans can be drawn.
-ghost use Rattle.std.specs.Prelude.{◌≡◌, ◌+◌, ◌-◌, ◌<◌, ◌≤◌, ◌^◌, ◌↔◌, IsTrue, All, length};
+ghost use Rattle.std.specs.Prelude.{◌+◌, ◌-◌, ◌<◌, ◌↔◌, IsTrue, All};
 ghost use Rattle.lane_core.specs.Columns.{IsColumnOnLanes};
 ghost use Rattle.lane_core.specs.Instrs.{IsOnLanes};
 ghost use Rattle.lane_core.specs.Places.{IsPlaceWithin};

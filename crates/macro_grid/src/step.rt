@@ -10,9 +10,9 @@ ghost use Rattle.tiling.specs.Tiling.Edge.{Beside, Above};
 ghost use Rattle.tiling.specs.Tiling.Piece.{Tile};
 ghost use Rattle.tiling.specs.MacroStep.{macro_step as next_edges, slot_answers, piece_answers};
 ghost use Rattle.lane_core.specs.Plans.{IsAdmissible};
-ghost use Rattle.macro_grid.specs.Edges.{IsEdgesOf, edge_columns, edge_lanes, lit_of};
+ghost use Rattle.macro_grid.specs.Edges.{IsEdgesOf, lit_of};
 ghost use Rattle.plan_layout.specs.Layout.{tiling_of};
-ghost use Rattle.plan_layout.specs.Slots.{slot_of, piece_of};
+ghost use Rattle.plan_layout.specs.Slots.{slot_of};
 
 use crate::Edges;
 use lane_core::Plan;

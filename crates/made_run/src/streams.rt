@@ -1,7 +1,6 @@
 // Streams of bits that are drawn.
-ghost use Rattle.std.specs.Prelude.{◌≡◌, ◌==◌, ◌<◌, ◌^◌, map, IfOk, OnOk};
-ghost use Rattle.std.specs.List.{range_with_len};
-ghost use Rattle.made_netlists.specs.Draws.{draw_after, state_after};
+ghost use Rattle.std.specs.Prelude.{◌≡◌, ◌==◌, ◌<◌, ◌^◌, IfOk, OnOk};
+ghost use Rattle.made_netlists.specs.Draws.{state_after};
 ghost use Rattle.made_run.specs.Streams.{stream_after, streams_after};
 
 use drive::Streams;

@@ -1,5 +1,5 @@
 // Ranks that were checked.
-ghost use Rattle.std.specs.Prelude.{◌≡◌, ◌<◌, ℕ, length, IsTrue, IfOk};
+ghost use Rattle.std.specs.Prelude.{◌≡◌, ◌<◌, length, IsTrue, IfOk};
 ghost use Rattle.model_circles.specs.Ranks.{NeverRisesAt, AreRanks};
 
 use crate::components::component_ranks;

@@ -2,7 +2,7 @@
 ghost use Rattle.std.specs.Prelude.{◌≡◌, ◌++◌, [], ◌∷◌, map, flat_map, IfOk, OnOk};
 ghost use Rattle.netlist_core.specs.Names.{at_line};
 ghost use Rattle.netlist_meaning.specs.InOrder.{cover_words, latch_words, subckt_words, model_words};
-ghost use Rattle.model_names.specs.Words.{port_of, as_ports};
+ghost use Rattle.model_names.specs.Words.{as_ports};
 
 use netlist_core::{Cover, LatchRow, Model, Name, Port, Subckt};
 use std::alloc::{AllocError, Global};

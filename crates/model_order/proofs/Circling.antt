@@ -1,5 +1,5 @@
 -- A circle by numbers is one of models.
-use Rattle.std.proofs.Common.{◌≡◌, sym, ap, subst, ◌∙◌, ℕ, suc, ◌+◌, ◌-◌, ◌<◌, List, [], ◌∷◌, length, map, get_or, arith}
+use Rattle.std.proofs.Common.{◌≡◌, subst, ℕ, suc, ◌+◌, ◌-◌, ◌<◌, List, [], ◌∷◌, length, map, get_or, arith}
 use Rattle.netlist_core.specs.declared.model.Model.{Model}
 use Rattle.depth_walk.specs.Links.{Links, LeadsOnTo}
 use Rattle.depth_walk.specs.Order.{IsCircleOf}

@@ -1,5 +1,5 @@
 -- The links of models: they stay within, and an order by them is one of the models.
-use Rattle.std.proofs.Common.{◌≡◌, sym, ap, subst, ◌∙◌, ℕ, ◌<◌, ◌≤◌, List, [], length, get_or, Some, None}
+use Rattle.std.proofs.Common.{sym, subst, ◌∙◌, ℕ, ◌<◌, ◌≤◌, List, length, get_or}
 use Rattle.netlist_core.specs.declared.model.Model.{Model}
 use Rattle.depth_walk.specs.Links.{Links, LeadsTo, StayWithin}
 use Rattle.depth_walk.specs.Order.{IsOrderOf}

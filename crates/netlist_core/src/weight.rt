@@ -1,6 +1,6 @@
 //! The part of a design's weight that is one model's own.
 
-ghost use Rattle.std.specs.Prelude.{◌≡◌, min, ◌+◌, length, count_by, sum_by, not};
+ghost use Rattle.std.specs.Prelude.{◌≡◌, min};
 ghost use Rattle.netlist_core.specs.Names.{is_named};
 ghost use Rattle.netlist_core.specs.OwnWeight.{port_weight, literals, cover_weight, own_weight};
 

@@ -1,6 +1,6 @@
 -- Along an order there is exactly one valuation, and evaluation gives it.
 use Rattle.std.proofs.Common.{◌≡◌, ◌≢◌, refl, sym, ap, ap₂, subst, ◌∙◌, ℕ, zero, suc, ◌<◌, ◌≤◌, ◌⊎◌, inl, inr, List, [], ◌∷◌, map, take, length, get_or, arith, Bool, false, replicate}
-use Rattle.std.specs.Prelude.{Some, All, Contains, zip}
+use Rattle.std.specs.Prelude.{Contains, zip}
 use Rattle.std.specs.List.{fold}
 use Rattle.std.proofs.lemmas.List.{length-map, length-replicate, get_or-map, get_or_default, same_lists}
 use Rattle.std.proofs.lemmas.Option.{slice_get-get_or, get_or_from_slice_get, slice_get_within}

@@ -1,8 +1,7 @@
 // The class of each net, place by place: a net has the class of its actual, which stands at an earlier place, or is its own.
-ghost use Rattle.std.specs.Prelude.{◌≡◌, ◌<◌, ◌^◌, ◌∷◌, ◌++◌, [], Some, length, map, slice_get, IfOk};
+ghost use Rattle.std.specs.Prelude.{◌≡◌, ◌<◌, ◌^◌, Some, length, map, IfOk};
 ghost use Rattle.netlist_core.specs.declared.model.Subckt.{Subckt};
 ghost use Rattle.netlist_core.specs.declared.model.Model as models;
-ghost use Rattle.netlist_meaning.specs.Places.{model_at};
 ghost use Rattle.netlist_meaning.specs.InOrder.{places_in_order, nets_at, nets_in_order};
 ghost use Rattle.netlist_meaning.specs.FlatOf.{class_of_net};
 ghost use Rattle.netlist_meaning.specs.Weight.{weight};

@@ -1,9 +1,9 @@
 // The latches, place by place.
-ghost use Rattle.std.specs.Prelude.{◌≡◌, ◌<◌, ◌++◌, All, length, map, option_map, IfOk, OnOk};
+ghost use Rattle.std.specs.Prelude.{◌≡◌, ◌<◌, ◌++◌, All, length, map, IfOk, OnOk};
 ghost use Rattle.netlist_meaning.specs.Places.{model_at};
 ghost use Rattle.netlist_meaning.specs.Nets.{net_at, IsNet};
 ghost use Rattle.netlist_meaning.specs.InOrder.{places_in_order, of_some};
-ghost use Rattle.netlist_meaning.specs.FlatOf.{id_of, flat_latch, at_places, first_control};
+ghost use Rattle.netlist_meaning.specs.FlatOf.{flat_latch, at_places, first_control};
 ghost use Rattle.netlist_flatten.specs.Numbered.{place_at};
 ghost use Rattle.netlist_flatten.specs.Listed.{latch_names};
 

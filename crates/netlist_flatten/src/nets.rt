@@ -1,5 +1,5 @@
 // The nets, place by place.
-ghost use Rattle.std.specs.Prelude.{◌≡◌, ◌<◌, ◌^◌, ◌++◌, length, map, IfOk, OnOk};
+ghost use Rattle.std.specs.Prelude.{◌≡◌, ◌<◌, ◌++◌, length, map, IfOk, OnOk};
 ghost use Rattle.netlist_meaning.specs.InOrder.{places_in_order, nets_at, nets_in_order};
 ghost use Rattle.netlist_meaning.specs.FlatOf.{class_of_net, flat_net};
 ghost use Rattle.netlist_flatten.specs.Numbered.{place_at};

@@ -1,5 +1,5 @@
 // The covers, place by place.
-ghost use Rattle.std.specs.Prelude.{ℕ, ◌≡◌, ◌<◌, ◌++◌, List, All, length, map, IfOk, OnOk};
+ghost use Rattle.std.specs.Prelude.{◌≡◌, ◌<◌, ◌++◌, List, All, length, map, IfOk, OnOk};
 ghost use Rattle.netlist_core.specs.declared.model.Cover as models;
 ghost use Rattle.netlist_meaning.specs.Places.{model_at};
 ghost use Rattle.netlist_meaning.specs.Nets.{net_at, IsNet};

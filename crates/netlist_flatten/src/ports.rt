@@ -1,6 +1,6 @@
 // The ports of the main model.
 ghost use Rattle.std.specs.Prelude.{ℕ, ◌≡◌, ◌<◌, ◌↔◌, [], All, length, map, false, true, get_or, ⊤, IfOk, MatchOption};
-ghost use Rattle.netlist_meaning.specs.Nets.{net_at, IsNet, IsControl};
+ghost use Rattle.netlist_meaning.specs.Nets.{net_at, IsNet};
 ghost use Rattle.netlist_meaning.specs.InOrder.{nets_in_order};
 ghost use Rattle.netlist_meaning.specs.FlatOf.{class_of_net, flat_latch, flat_port, at_places};
 ghost use Rattle.netlist_rules.specs.ModelFaults.{AreFaultless};

@@ -1,5 +1,5 @@
 // The names of the models that are placed, and the number of each place's first net.
-ghost use Rattle.std.specs.Prelude.{ℕ, ◌≡◌, ◌<◌, ◌^◌, List, None, Some, length, replicate, slice_get, IfOk, OnOk};
+ghost use Rattle.std.specs.Prelude.{ℕ, ◌≡◌, ◌<◌, ◌^◌, List, None, Some, length, replicate, slice_get, IfOk};
 ghost use Rattle.netlist_core.specs.Names.{Name};
 ghost use Rattle.netlist_meaning.specs.Weight.{weight};
 ghost use Rattle.netlist_rules.specs.ModelFaults.{AreFaultless};

@@ -1,5 +1,5 @@
 // A netlist run cycle by cycle.
-ghost use Rattle.std.specs.Prelude.{◌≡◌, ◌<◌, ℕ, All, length, IfOk};
+ghost use Rattle.std.specs.Prelude.{◌≡◌, ◌<◌, All, length, IfOk};
 ghost use Rattle.drive.specs.Driving.{bits_across};
 ghost use Rattle.netlist_run.specs.Runs.{ShowsRun};
 ghost use Rattle.netlist_text.specs.Parts.{AreParts};

@@ -1,5 +1,5 @@
 // Bands of small patterns, moved in given orders.
-ghost use Rattle.std.specs.Prelude.{◌≡◌, [], All, length, IfOk};
+ghost use Rattle.std.specs.Prelude.{◌≡◌, length, IfOk};
 ghost use Rattle.band_core.specs.Bands.{IsSamePattern};
 
 mod orders;

@@ -1,7 +1,7 @@
 // Which tile of a plan stands in which block.
-ghost use Rattle.std.specs.Prelude.{◌≡◌, ◌+◌, ◌<◌, ◌≤◌, length};
+ghost use Rattle.std.specs.Prelude.{◌≡◌, ◌+◌, ◌<◌, ◌≤◌};
 ghost use Rattle.lane_core.specs.Plans.{IsAdmissible};
-ghost use Rattle.plan_layout.specs.Layout.{kind_of, body_slot, turn_slot, return_slot, upper_left, in_body, upper_right, lower_left, on_return, lower_right, upper_part, lower_part, end_of_body, tiling_of};
+ghost use Rattle.plan_layout.specs.Layout.{kind_of, body_slot, turn_slot, return_slot, upper_part, lower_part, tiling_of};
 ghost use Rattle.plan_layout.specs.Slots.{slot_of};
 
 use crate::{Piece, Slot};

@@ -1,5 +1,5 @@
 // Lists of cells that a test writes down.
-ghost use Rattle.std.specs.Prelude.{◌≡◌, ◌<◌, ◌^◌, ◌+◌, ◌-◌, IsTrue, OnOk, IfOk, length};
+ghost use Rattle.std.specs.Prelude.{◌<◌, ◌^◌, ◌+◌, ◌-◌, IsTrue, OnOk, IfOk, length};
 ghost use Rattle.cell_core.specs.Sources.{are_there};
 
 use cell_core::{Cell, CellList, Src};

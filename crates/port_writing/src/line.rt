@@ -1,5 +1,5 @@
 // One line of a port table.
-ghost use Rattle.std.specs.Prelude.{◌≡◌, ◌<◌, ℕ, List, ◌++◌, length, take, OnOk, OnErr};
+ghost use Rattle.std.specs.Prelude.{◌<◌, ℕ, List, ◌++◌, length, take, OnOk, OnErr};
 ghost use Rattle.std.specs.Io.KnownBytes.{Appends};
 ghost use Rattle.ww_base.specs.Faults.{HasCause};
 ghost use Rattle.pattern_reading.specs.Spelling.{port_lines};

@@ -1,5 +1,5 @@
 // Pieces, and a page on which they are gathered, to be sent when it is full.
-ghost use Rattle.std.specs.Prelude.{◌<◌, ◌≡◌, ◌≤◌, ◌+◌, ℕ, List, [], ◌∷◌, ◌++◌, length, OnOk, OnErr};
+ghost use Rattle.std.specs.Prelude.{◌<◌, ◌≡◌, ◌≤◌, ◌+◌, ℕ, List, [], ◌++◌, length, OnOk, OnErr};
 ghost use Rattle.port_writing.specs.Progress.{Wrote, Broke};
 
 use ww_base::{Failed, Sink, write_all};

@@ -1,5 +1,5 @@
 // The rows of a plan's drawing, of which a piece at a time stands on the stack.
-ghost use Rattle.std.specs.Prelude.{◌≡◌, ◌≤◌, ◌<◌, ◌+◌, ◌^◌, ℕ, List, [], ◌∷◌, ◌++◌, IfOk, OnErr, OnOk};
+ghost use Rattle.std.specs.Prelude.{◌≡◌, ◌≤◌, ◌<◌, ◌+◌, ◌^◌, ℕ, List, ◌∷◌, ◌++◌, IfOk, OnErr, OnOk};
 ghost use Rattle.ww_rule.specs.declared.pattern.State.{State};
 ghost use Rattle.lane_core.specs.Plans.{IsAdmissible};
 ghost use Rattle.lane_core.specs.Plans.{size_of};

@@ -1,5 +1,5 @@
 // The whole text: lines, the header, and the items.
-ghost use Rattle.std.specs.Prelude.{◌≡◌, ℕ, List, ◌++◌, take, decimal, IfOk, OnOk, OnErr};
+ghost use Rattle.std.specs.Prelude.{◌≡◌, ℕ, List, ◌++◌, take, decimal, OnOk, OnErr};
 ghost use Rattle.std.specs.Io.KnownBytes.{Appends};
 ghost use Rattle.ww_base.specs.Faults.{HasCause};
 ghost use Rattle.lane_core.specs.Plans.{IsAdmissible};

@@ -1,5 +1,5 @@
 // Uses of values are counted from the last to the first, and with them the lanes that copies need.
-ghost use Rattle.std.specs.Prelude.{ℕ, ◌≡◌, ◌==◌, ◌≤◌, ◌<◌, ◌+◌, ◌-◌, ◌*◌, ◌^◌, ◌++◌, length, All, cond, get_or, set, IfOk};
+ghost use Rattle.std.specs.Prelude.{◌≡◌, ◌==◌, ◌≤◌, ◌<◌, ◌+◌, ◌-◌, ◌*◌, ◌^◌, ◌++◌, length, All, cond, get_or, set, IfOk};
 ghost use Rattle.row_placer.specs.Uses.{uses_of, owed, unused, idle, AreCounted, ReadsBelow};
 
 use crate::{NumberedCell, PlaceError};

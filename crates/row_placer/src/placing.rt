@@ -1,7 +1,7 @@
 // The placer.
-ghost use Rattle.std.specs.Prelude.{ℕ, ◌≡◌, ◌≢◌, ◌≤◌, ◌<◌, ◌+◌, ◌-◌, ◌*◌, ◌^◌, ◌++◌, length, All, get_or, map, max, take, cond, [], ◌∷◌, true, false, ◌⊎◌, IfOk, OnOk};
+ghost use Rattle.std.specs.Prelude.{◌≡◌, ◌≤◌, ◌<◌, ◌+◌, ◌-◌, ◌*◌, ◌^◌, ◌++◌, length, get_or, map, max, cond, [], ◌∷◌, true, false, ◌⊎◌, IfOk, OnOk};
 ghost use Rattle.cell_core.specs.Loops.{loop_count, loop_data, loop_state, names_one};
-ghost use Rattle.row_placer.specs.Numbers.{number, gate_of, IsThere, ReadsWhatIsThere, NamesZero};
+ghost use Rattle.row_placer.specs.Numbers.{number, ReadsWhatIsThere, NamesZero};
 ghost use Rattle.row_placer.specs.Placed.{IsPrepared};
 ghost use Rattle.row_placer.specs.Empty.{IsEmpty};
 ghost use Rattle.row_placer.specs.Entries.{AreAtEntries, AreAtCells};

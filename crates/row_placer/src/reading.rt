@@ -1,7 +1,7 @@
 // A list of cells by numbers of values.
-ghost use Rattle.std.specs.Prelude.{ℕ, ◌≡◌, ◌≢◌, ◌≤◌, ◌<◌, ◌+◌, ◌-◌, ◌*◌, ◌^◌, ◌++◌, length, All, get_or, map, cond, [], ◌∷◌, true, false, IfOk, OnOk};
+ghost use Rattle.std.specs.Prelude.{◌≡◌, ◌≤◌, ◌<◌, ◌+◌, ◌-◌, ◌*◌, ◌^◌, ◌++◌, length, All, map, cond, [], ◌∷◌, true, false, IfOk, OnOk};
 ghost use Rattle.std.specs.List.{range_with_len};
-ghost use Rattle.cell_core.specs.Loops.{loop_count, loop_data};
+ghost use Rattle.cell_core.specs.Loops.{loop_count};
 ghost use Rattle.row_placer.specs.Numbers.{number, gate_of, IsThere, ReadsWhatIsThere, NamesZero, ReadsThere};
 ghost use Rattle.row_placer.specs.Placed.{net_place_of};
 ghost use Rattle.cell_core.specs.declared.cells.Src.TheVariants.{Zero};

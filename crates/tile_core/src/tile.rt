@@ -1,7 +1,7 @@
 // What a tile is, and what a library of tiles is: the two traits whose laws are the timing law.
 ghost use Rattle.std.specs.Prelude.{◌≡◌, ℕ, pos, Bool, false, List, get_or};
 ghost use Rattle.tile_core.specs.Drawing.{Drawing};
-ghost use Rattle.tile_core.specs.Interface.{Interface, IsInterface};
+ghost use Rattle.tile_core.specs.Interface.{IsInterface};
 ghost use Rattle.tile_core.specs.Kinds.{interface};
 ghost use Rattle.tile_core.specs.TimingLaw.{MeetsTimingLaw};
 

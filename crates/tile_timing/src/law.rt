@@ -1,12 +1,12 @@
 // The timing law of a slice of cells, tried out choice by choice.
-ghost use Rattle.std.specs.Prelude.{◌⊎◌, [], Bool, ◌++◌, ◌≡◌, ℕ, ◌*◌, ◌/◌, ◌%◌, ◌<◌, ◌≤◌, ◌↔◌, pos, length, IsTrue, true, false, map, get_or, All, take, drop, ◌≢◌};
+ghost use Rattle.std.specs.Prelude.{◌⊎◌, [], Bool, ◌++◌, ◌≡◌, ◌*◌, ◌/◌, ◌%◌, ◌<◌, ◌≤◌, ◌↔◌, pos, length, IsTrue, true, false, map, get_or, All, take, drop, ◌≢◌};
 ghost use Rattle.std.specs.List.{list_any};
 ghost use Rattle.tile_core.specs.Drawing.{is_cell_of, picture};
 ghost use Rattle.tile_core.specs.Interface.{cell_at, chosen, entry_cells, exit_cells, lit_exits, is_on_border};
 ghost use Rattle.tile_core.specs.Kinds.{lanes, interface};
 ghost use Rattle.tile_core.specs.TimingLaw.{started, KeepsTime, HasPorts};
 ghost use Rattle.tile_timing.specs.Window.{shown};
-ghost use Rattle.tile_timing.specs.Law.{drawing_of, marked, IsDrawingOf, HoldsLaw, is_at, IsClearAt, IsBorderClear, AreDrawn, AreDark, AreLitAs, ExitsInTime, IsInTime};
+ghost use Rattle.tile_timing.specs.Law.{drawing_of, marked, HoldsLaw, is_at, IsClearAt, IsBorderClear, AreDrawn, AreDark, AreLitAs, ExitsInTime, IsInTime};
 
 use crate::window_step;
 use tile_core::Kind;

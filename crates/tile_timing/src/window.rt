@@ -1,5 +1,5 @@
 // One generation of a window: the rule on a slice of cells.
-ghost use Rattle.std.specs.Prelude.{◌≡◌, ℕ, ℤ, ◌+◌, ◌-◌, ◌*◌, ◌/◌, ◌%◌, ◌<◌, ◌≤◌, pos, ◌-ℤ◌, ◌+ℤ◌, length};
+ghost use Rattle.std.specs.Prelude.{◌≡◌, ◌+◌, ◌-◌, ◌*◌, ◌/◌, ◌%◌, ◌<◌, ◌≤◌, pos, ◌-ℤ◌, length};
 ghost use Rattle.ww_rule.specs.Wireworld.{count_head, heads_around, next_plane};
 ghost use Rattle.tile_timing.specs.Window.{shown};
 

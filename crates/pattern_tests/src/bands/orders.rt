@@ -1,5 +1,5 @@
 // Bands of random patterns, moved in random orders, beside the plain step on the whole plane.
-ghost use Rattle.std.specs.Prelude.{◌≡◌, ◌<◌, ◌≤◌, length, IfOk};
+ghost use Rattle.std.specs.Prelude.{◌≡◌, ◌<◌, length, IfOk};
 ghost use Rattle.ww_rule.specs.Due.{AreInOrderFrom};
 ghost use Rattle.ww_rule.specs.Grid.{AreInBox};
 ghost use Rattle.ww_rule.specs.Injections.{AreInside};

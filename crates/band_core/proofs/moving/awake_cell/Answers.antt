@@ -1,5 +1,5 @@
-use Rattle.std.proofs.Common.{pos, ◌+ℤ◌, ◌-ℤ◌, ℕ, ◌+◌, ◌-◌, ◌*◌, min, ◌<◌, ◌≡◌, refl, sym, ap, subst, ◌∙◌, true, false, None, List, length, get_or, slice_set, arith}
-use Rattle.std.proofs.lemmas.List.{get_or-map, get_or-set_other, length-map}
+use Rattle.std.proofs.Common.{pos, ◌+ℤ◌, ◌-ℤ◌, ℕ, ◌+◌, ◌-◌, ◌*◌, min, ◌<◌, ◌≡◌, refl, sym, ap, subst, ◌∙◌, true, false, None, List, length, get_or, arith}
+use Rattle.std.proofs.lemmas.List.{get_or-map, length-map}
 use Rattle.ww_rule.specs.Wireworld.{Plane, Due}
 use Rattle.std.specs.Prelude.{◌⊎◌}
 use Rattle.lane_kernel.specs.Rows.{is_set}
@@ -8,34 +8,34 @@ use Rattle.band_rows.specs.Rows.{ShowsHeads, row_heads, row_tails}
 use Rattle.band_core.specs.declared.band.Band.{Band}
 use Rattle.band_core.specs.Band.{AreBands, AreUnlit, IsLitIn, AllShow, IsEvolution, IsBand, ShowsBand, IsQuiet, IsWaking, bottom_at, top_at, generations_of}
 use Rattle.band_core.specs.Bands.{unready_neighbour}
-use Rattle.band_core.proofs.Facing.{IsAtOrAfter, above_long, below_long, above_shows, below_shows, upper_ready, lower_ready}
+use Rattle.band_core.proofs.Facing.{IsAtOrAfter, above_long, below_long, above_shows, below_shows, upper_ready, lower_ready, first_of, later_of, last_of, earlier_of}
+use Rattle.band_rows.proofs.Parts.{parted}
 use Rattle.band_core.proofs.Options.{none_of, if_some}
 use Rattle.band_core.proofs.Resting.{is_quiet}
 use Rattle.band_core.proofs.Waking.{lit_wakes, faced_wakes, due_wakes, none_wakes}
 use Rattle.band_core.proofs.moving.awake_cell.Goals as goal
 
--- the rows beside a band, whose bands stand in their places
-unput_above : (bands : List Band) (b g : ℕ) (band : Band) (up : List ℕ) → ((d : Band) → 0 < b → up ≡ bottom_at g (get_or bands (b - 1) d)) → (d : Band) → 0 < b → up ≡ bottom_at g (get_or (slice_set bands b band) (b - 1) d)
-unput_above bands b g band up later d lt = later d lt ∙ sym (ap (bottom_at g) (get_or-set_other bands b (b - 1) band d (λ q. omega (arith, q, lt))))
-
-unput_below : (bands : List Band) (b g : ℕ) (band : Band) (down : List ℕ) → ((d : Band) → b + 1 < length bands → down ≡ top_at g (get_or bands (b + 1) d)) → (d : Band) → b + 1 < length bands → down ≡ top_at g (get_or (slice_set bands b band) (b + 1) d)
-unput_below bands b g band down earlier d lt = earlier d lt ∙ sym (ap (top_at g) (get_or-set_other bands b (b + 1) band d (λ q. omega (arith, q))))
-
 pub faced_cell-requires-clause-few_up : goal.faced_cell-requires-clause-few_up
 faced_cell-requires-clause-few_up c =
+    let s = c.split_at in
+    let t = c.split_at-2 in
+    let w = parted c.args.bands.now s.result.0.now s.result.1.now t.result.0.now t.result.1.now c.args.b s.ensures.by_index.0 s.ensures.front_len t.ensures.by_index.0 t.ensures.front_len in
     let b = c.args.b in
     let bands = c.args.bands.now in
     let band = c.index-bands-b.result in
-    let l = above_long (length c.args.dark.now) c.args.height c.args.rows bands c.requires.bands b band band c.requires.band c.args.dark.now refl band.generation c.row_above.result.0.now c.row_above.ensures.first (unput_above bands b band.generation band c.row_above.result.0.now c.row_above.ensures.later) in
+    let l = above_long (length c.args.dark.now) c.args.height c.args.rows bands c.requires.bands b band c.requires.band c.args.dark.now refl band.generation c.row_above.result.0.now (first_of c.args.bands.now s.result.0.now t.result.0.now t.result.1.now c.args.b w c.row_above.ensures.first) (later_of c.args.bands.now s.result.0.now t.result.0.now t.result.1.now c.args.b w c.row_above.result.0.now c.index-bands-b.result.generation c.row_above.ensures.later) in
     let few = c.requires.few in
     omega (arith, l, few)
 
 pub faced_cell-requires-clause-few_down : goal.faced_cell-requires-clause-few_down
 faced_cell-requires-clause-few_down c =
+    let s = c.split_at in
+    let t = c.split_at-2 in
+    let w = parted c.args.bands.now s.result.0.now s.result.1.now t.result.0.now t.result.1.now c.args.b s.ensures.by_index.0 s.ensures.front_len t.ensures.by_index.0 t.ensures.front_len in
     let b = c.args.b in
     let bands = c.args.bands.now in
     let band = c.index-bands-b.result in
-    let l = below_long (length c.args.dark.now) c.args.height c.args.rows bands c.requires.bands b band band c.requires.band c.args.dark.now refl band.generation c.row_below.result.0.now c.row_below.ensures.last (unput_below bands b band.generation band c.row_below.result.0.now c.row_below.ensures.earlier) in
+    let l = below_long (length c.args.dark.now) c.args.height c.args.rows bands c.requires.bands b band c.requires.band c.args.dark.now refl band.generation c.row_below.result.0.now (last_of c.args.bands.now s.result.0.now t.result.0.now t.result.1.now c.args.b w c.row_below.ensures.last) (earlier_of c.args.bands.now s.result.0.now t.result.0.now t.result.1.now c.args.b w c.row_below.result.0.now c.index-bands-b.result.generation c.row_below.ensures.earlier) in
     let few = c.requires.few in
     omega (arith, l, few)
 
@@ -61,12 +61,12 @@ module _ (e : ℕ → Plane) (due : Due) (words height rows width b : ℕ) (band
   module _ (dark : List ℕ) (none : (j : ℕ) → get_or dark j 0 ≡ 0) (ready : unready_neighbour (generations_of bands) b ≡ None) where
     over : (up : List ℕ) → (b ≡ 0 → up ≡ dark) → ((d : Band) → 0 < b → up ≡ bottom_at band.generation (get_or bands (b - 1) d)) → ShowsHeads up (e band.generation) (pos (b * height) -ℤ pos 1)
     over up first later =
-        above_shows e due words height rows width some evo bands are b band band inside dark none band.generation shows up first (unput_above bands b band.generation band up later)
+        above_shows e due words height rows width some evo bands are b band inside dark none band.generation shows up first later
         (λ lt. subst (λ g. IsAtOrAfter g (get_or (generations_of bands) (b - 1) 0)) (sym own) (upper_ready (generations_of bands) b ready lt))
 
     under : (down : List ℕ) → (b + 1 ≡ length bands → down ≡ dark) → ((d : Band) → b + 1 < length bands → down ≡ top_at band.generation (get_or bands (b + 1) d)) → ShowsHeads down (e band.generation) (pos (b * height) +ℤ pos many)
     under down last earlier =
-        below_shows e due words height rows width some evo bands are b band band inside dark none band.generation shows down last (unput_below bands b band.generation band down earlier)
+        below_shows e due words height rows width some evo bands are b band inside dark none band.generation shows down last earlier
         (λ lt. subst (λ g. IsAtOrAfter g (get_or (generations_of bands) (b + 1) 0)) (sym own) (lower_ready (generations_of bands) b ready (let n = length-map bands (λ (band : Band). band.generation) in omega (arith, lt, n))))
 
 pub returns-in-Some-clause-some : goal.returns-in-Some-clause-some
@@ -85,6 +85,9 @@ returns-in-Some-clause-some c e due width evo shows =
 
 pub returns-in-Some-faced_cell-clause-some : goal.returns-in-Some-faced_cell-clause-some
 returns-in-Some-faced_cell-clause-some c e due width evo shows =
+    let s = c.split_at in
+    let t = c.split_at-2 in
+    let w = parted c.args.bands.now s.result.0.now s.result.1.now t.result.0.now t.result.1.now c.args.b s.ensures.by_index.0 s.ensures.front_len t.ensures.by_index.0 t.ensures.front_len in
     let b = c.args.b in
     let bands = c.args.bands.now in
     let band = c.index-bands-b.result in
@@ -92,13 +95,13 @@ returns-in-Some-faced_cell-clause-some c e due width evo shows =
     let h = c.args.height in
     let rows = c.args.rows in
     let m = min h (rows - b * h) in
-    let s = c.in-Some-faced_cell in
+    let found = c.in-Some-faced_cell in
     let is = is_band e due words h rows width b bands band c.index-bands-b.is c.requires.band c.requires.bands evo shows in
     let sh = shows_band e due words h rows width b bands band c.index-bands-b.is c.requires.band c.requires.bands evo shows in
-    let up = over e due words h rows width b bands band c.index-bands-b.is c.requires.band c.requires.bands evo shows c.args.dark.now c.requires.dark c.requires.ready c.row_above.result.0.now c.row_above.ensures.first c.row_above.ensures.later in
-    let down = under e due words h rows width b bands band c.index-bands-b.is c.requires.band c.requires.bands evo shows c.args.dark.now c.requires.dark c.requires.ready c.row_below.result.0.now c.row_below.ensures.last c.row_below.ensures.earlier in
-    subst (λ g. IsWaking e due g (b * h) m s.x s.z) (own e due words h rows width b bands band c.index-bands-b.is c.requires.band c.requires.bands evo shows)
-    (faced_wakes e due words (b * h) m band is sh c.row_above.result.0.now c.row_below.result.0.now s.x s.z up down (subst (λ (rows : List Row). ((s.z + 1 ≡ b * h) × (is_set c.row_above.result.0.now s.x ≡ true)) ⊎ ((s.z ≡ b * h + length rows) × (is_set c.row_below.result.0.now s.x ≡ true))) c.as_slice-own.ensures.value s.ensures.some))
+    let up = over e due words h rows width b bands band c.index-bands-b.is c.requires.band c.requires.bands evo shows c.args.dark.now c.requires.dark c.requires.ready c.row_above.result.0.now (first_of c.args.bands.now s.result.0.now t.result.0.now t.result.1.now c.args.b w c.row_above.ensures.first) (later_of c.args.bands.now s.result.0.now t.result.0.now t.result.1.now c.args.b w c.row_above.result.0.now c.index-bands-b.result.generation c.row_above.ensures.later) in
+    let down = under e due words h rows width b bands band c.index-bands-b.is c.requires.band c.requires.bands evo shows c.args.dark.now c.requires.dark c.requires.ready c.row_below.result.0.now (last_of c.args.bands.now s.result.0.now t.result.0.now t.result.1.now c.args.b w c.row_below.ensures.last) (earlier_of c.args.bands.now s.result.0.now t.result.0.now t.result.1.now c.args.b w c.row_below.result.0.now c.index-bands-b.result.generation c.row_below.ensures.earlier) in
+    subst (λ g. IsWaking e due g (b * h) m found.x found.z) (own e due words h rows width b bands band c.index-bands-b.is c.requires.band c.requires.bands evo shows)
+    (faced_wakes e due words (b * h) m band is sh c.row_above.result.0.now c.row_below.result.0.now found.x found.z up down (subst (λ (rows : List Row). ((found.z + 1 ≡ b * h) × (is_set c.row_above.result.0.now found.x ≡ true)) ⊎ ((found.z ≡ b * h + length rows) × (is_set c.row_below.result.0.now found.x ≡ true))) c.as_slice-own.ensures.value found.ensures.some))
 
 pub returns-clause-some : goal.returns-clause-some
 returns-clause-some c =
@@ -118,6 +121,9 @@ returns-clause-some c =
 
 pub returns-clause-quiet : goal.returns-clause-quiet
 returns-clause-quiet c q e due width evo shows =
+    let s = c.split_at in
+    let t = c.split_at-2 in
+    let w = parted c.args.bands.now s.result.0.now s.result.1.now t.result.0.now t.result.1.now c.args.b s.ensures.by_index.0 s.ensures.front_len t.ensures.by_index.0 t.ensures.front_len in
     let b = c.args.b in
     let bands = c.args.bands.now in
     let band = c.index-bands-b.result in
@@ -127,8 +133,8 @@ returns-clause-quiet c q e due width evo shows =
     let m = min h (rows - b * h) in
     let is = is_band e due words h rows width b bands band c.index-bands-b.is c.requires.band c.requires.bands evo shows in
     let sh = shows_band e due words h rows width b bands band c.index-bands-b.is c.requires.band c.requires.bands evo shows in
-    let up = over e due words h rows width b bands band c.index-bands-b.is c.requires.band c.requires.bands evo shows c.args.dark.now c.requires.dark c.requires.ready c.row_above.result.0.now c.row_above.ensures.first c.row_above.ensures.later in
-    let down = under e due words h rows width b bands band c.index-bands-b.is c.requires.band c.requires.bands evo shows c.args.dark.now c.requires.dark c.requires.ready c.row_below.result.0.now c.row_below.ensures.last c.row_below.ensures.earlier in
+    let up = over e due words h rows width b bands band c.index-bands-b.is c.requires.band c.requires.bands evo shows c.args.dark.now c.requires.dark c.requires.ready c.row_above.result.0.now (first_of c.args.bands.now s.result.0.now t.result.0.now t.result.1.now c.args.b w c.row_above.ensures.first) (later_of c.args.bands.now s.result.0.now t.result.0.now t.result.1.now c.args.b w c.row_above.result.0.now c.index-bands-b.result.generation c.row_above.ensures.later) in
+    let down = under e due words h rows width b bands band c.index-bands-b.is c.requires.band c.requires.bands evo shows c.args.dark.now c.requires.dark c.requires.ready c.row_below.result.0.now (last_of c.args.bands.now s.result.0.now t.result.0.now t.result.1.now c.args.b w c.row_below.ensures.last) (earlier_of c.args.bands.now s.result.0.now t.result.0.now t.result.1.now c.args.b w c.row_below.result.0.now c.index-bands-b.result.generation c.row_below.ensures.earlier) in
     let unlit = none_of c.lit_cell.result c.in_default.not-Some in
     let unfaced = none_of c.faced_cell.result c.in_default-faced_cell.not-Some in
     let value = c.as_slice-own.ensures.value in

@@ -1,11 +1,12 @@
-use Rattle.std.proofs.Common.{pos, ◌+ℤ◌, ◌-ℤ◌, ℕ, ◌+◌, ◌-◌, ◌<◌, ◌≡◌, sym, ap, subst, ◌∙◌, inl, inr, List, length, get_or, slice_set, arith}
+use Rattle.std.proofs.Common.{pos, ◌+ℤ◌, ◌-ℤ◌, ℕ, ◌+◌, ◌-◌, ◌<◌, ◌≡◌, refl, sym, ap, subst, ◌∙◌, inl, inr, List, [], ◌++◌, length, get_or, slice_set, arith}
 use Rattle.std.specs.Prelude.{◌⊎◌, ◌≢◌}
 use Rattle.std.proofs.lemmas.Bool.{cases_lt}
 use Rattle.std.proofs.lemmas.List.{length-set}
 use Rattle.ww_rule.specs.Wireworld.{next_plane}
 use Rattle.band_rows.specs.declared.row.Row.{Row}
-use Rattle.band_rows.specs.Rows.{row_heads, row_tails, row_wires, Shows}
-use Rattle.band_rows.proofs.Bands.{other, other_twice, same, held, above_shows, below_shows, heads_shown, as_num, shows_same}
+use Rattle.band_rows.specs.Rows.{AreLong, row_heads, row_tails, row_wires, Shows}
+use Rattle.band_rows.proofs.Parts.{IsParted, parted, many as many_parts, at_before, at_own, at_after, put_together, mapped}
+use Rattle.band_rows.proofs.Bands.{field, other, same, held, above_shows, below_shows, heads_shown, as_num, shows_same}
 use Rattle.lane_kernel.proofs.Places.{row_steps}
 use Rattle.band_rows.proofs.band.step_band.Goals as goal
 
@@ -20,137 +21,159 @@ at_or_not k r =
           ]
     ]
 
+-- a part of a row, in the parts
+field_before : (f : Row → List ℕ) (rows before own after : List Row) (r k : ℕ) → IsParted rows r before own after → k < r → field f before k ≡ field f rows k
+field_before f rows before own after r k p lt = at_before _ _ _ _ r (mapped rows before own after r p f) k [] lt
+
+field_after : (f : Row → List ℕ) (rows before own after : List Row) (r : ℕ) → IsParted rows r before own after → field f after 0 ≡ field f rows (r + 1)
+field_after f rows before own after r p = at_after _ _ _ _ r (mapped rows before own after r p f) []
+
+own_long : (n : ℕ) (rows before own after : List Row) (r : ℕ) (d : Row) → IsParted rows r before own after → AreLong n rows → length (get_or own 0 d).heads.items ≡ n
+own_long n rows before own after r d p long =
+    let m = many_parts rows before own after r p in
+    let lt : r < length rows = omega (arith, m) in
+    ap (λ (row : Row). length row.heads.items) (at_own rows before own after r p d) ∙ sym (ap length (held (λ row. row.heads.items) rows r (get_or rows r d) d lt refl)) ∙ long r lt
+
 pub above_of-requires-clause-long : goal.above_of-requires-clause-long
-above_of-requires-clause-long c p =
+above_of-requires-clause-long c lt =
+    let rows = c.loop-r.rows in
     let r = c.loop-r.r in
-    let many = c.loop-r.invariant.many in
+    let v = c.loop-r.invariant in
+    let s = c.split_at_mut-before in
+    let t = c.split_at_mut-own in
+    let w = parted rows s.result.0.now s.result.1.now t.result.0.now t.result.1.now r s.ensures.value s.ensures.front_len t.ensures.value t.ensures.front_len in
+    let place = s.ensures.front_len in
+    let many = v.many in
     let test = c.loop-r-test.true in
-    ap length (other (λ row. row.heads.items) c.loop-r.rows r (r - 1) c.replace-row.new.dest (λ e. omega (arith, p, e)))
-    ∙ c.loop-r.invariant.long (r - 1) (omega (arith, many, test))
+    let q : length s.result.0.now - 1 ≡ r - 1 = omega (arith, place) in
+    ap (λ k. length (row_heads s.result.0.now k)) q ∙ ap length (field_before (λ row. row.heads.items) rows s.result.0.now t.result.0.now t.result.1.now r (r - 1) w (omega (arith, lt, place))) ∙ v.long (r - 1) (omega (arith, many, test))
 
 pub below_of-requires-clause-long : goal.below_of-requires-clause-long
-below_of-requires-clause-long c p =
-    let r = c.loop-r.r in
-    let long = length-set c.loop-r.rows r c.replace-row.new.dest in
-    ap length (other (λ row. row.heads.items) c.loop-r.rows r (r + 1) c.replace-row.new.dest (λ e. omega (arith, e)))
-    ∙ c.loop-r.invariant.long (r + 1) (omega (arith, p, long))
-    ∙ sym c.requires.down
-
-pub next-requires-clause-above : goal.next-requires-clause-above
-next-requires-clause-above c =
-    let r = c.loop-r.r in
+below_of-requires-clause-long c lt =
     let rows = c.loop-r.rows in
+    let r = c.loop-r.r in
     let v = c.loop-r.invariant in
-    let z = c.replace-row.new.dest in
-    let row = c.replace-row.result in
-    let many = v.many in
-    let test = c.loop-r-test.true in
-    let lt : r < length rows = omega (arith, many, test) in
-    let row_long = sym (ap length (held (λ row. row.heads.items) rows r row c.index-rows-r.result lt c.replace-row.ensures.value)) ∙ v.long r lt in
+    let s = c.split_at_mut-before in
+    let t = c.split_at_mut-own in
+    let w = parted rows s.result.0.now s.result.1.now t.result.0.now t.result.1.now r s.ensures.value s.ensures.front_len t.ensures.value t.ensures.front_len in
+    let m = many_parts rows s.result.0.now t.result.0.now t.result.1.now r w in
+    ap length (field_after (λ row. row.heads.items) rows s.result.0.now t.result.0.now t.result.1.now r w) ∙ v.long (r + 1) (omega (arith, lt, m)) ∙ sym c.requires.down
+
+pub step-requires-clause-above : goal.step-requires-clause-above
+step-requires-clause-above c =
+    let rows = c.loop-r.rows in
+    let r = c.loop-r.r in
+    let v = c.loop-r.invariant in
+    let s = c.split_at_mut-before in
+    let t = c.split_at_mut-own in
+    let w = parted rows s.result.0.now s.result.1.now t.result.0.now t.result.1.now r s.ensures.value s.ensures.front_len t.ensures.value t.ensures.front_len in
+    let long = own_long (length c.args.up.now) rows s.result.0.now t.result.0.now t.result.1.now r c.index-own-0.result w v.long in
     let l = c.above_of.ensures.long in
-    omega (arith, row_long, l)
+    let down = c.requires.down in
+    omega (arith, long, l, down)
 
-pub next-requires-clause-below : goal.next-requires-clause-below
-next-requires-clause-below c =
-    let r = c.loop-r.r in
+pub step-requires-clause-below : goal.step-requires-clause-below
+step-requires-clause-below c =
     let rows = c.loop-r.rows in
+    let r = c.loop-r.r in
     let v = c.loop-r.invariant in
-    let z = c.replace-row.new.dest in
-    let row = c.replace-row.result in
-    let many = v.many in
-    let test = c.loop-r-test.true in
-    let lt : r < length rows = omega (arith, many, test) in
-    let row_long = sym (ap length (held (λ row. row.heads.items) rows r row c.index-rows-r.result lt c.replace-row.ensures.value)) ∙ v.long r lt in
+    let s = c.split_at_mut-before in
+    let t = c.split_at_mut-own in
+    let w = parted rows s.result.0.now s.result.1.now t.result.0.now t.result.1.now r s.ensures.value s.ensures.front_len t.ensures.value t.ensures.front_len in
+    let long = own_long (length c.args.up.now) rows s.result.0.now t.result.0.now t.result.1.now r c.index-own-0.result w v.long in
     let l = c.below_of.ensures.long in
-    omega (arith, row_long, l, c.requires.down)
+    let down = c.requires.down in
+    omega (arith, long, l, down)
 
-pub next-requires-clause-above_within : goal.next-requires-clause-above_within
-next-requires-clause-above_within c =
-    let r = c.loop-r.r in
+pub step-requires-clause-above_within : goal.step-requires-clause-above_within
+step-requires-clause-above_within c =
     let rows = c.loop-r.rows in
+    let r = c.loop-r.r in
     let v = c.loop-r.invariant in
-    let z = c.replace-row.new.dest in
-    let row = c.replace-row.result in
-    let many = v.many in
-    let test = c.loop-r-test.true in
-    let lt : r < length rows = omega (arith, many, test) in
-    let row_long = sym (ap length (held (λ row. row.heads.items) rows r row c.index-rows-r.result lt c.replace-row.ensures.value)) ∙ v.long r lt in
+    let s = c.split_at_mut-before in
+    let t = c.split_at_mut-own in
+    let w = parted rows s.result.0.now s.result.1.now t.result.0.now t.result.1.now r s.ensures.value s.ensures.front_len t.ensures.value t.ensures.front_len in
+    let long = own_long (length c.args.up.now) rows s.result.0.now t.result.0.now t.result.1.now r c.index-own-0.result w v.long in
     let l = c.above_of.ensures.within in
-    omega (arith, row_long, l)
+    let down = c.requires.down in
+    omega (arith, long, l, down)
 
-pub next-requires-clause-below_within : goal.next-requires-clause-below_within
-next-requires-clause-below_within c =
-    let r = c.loop-r.r in
+pub step-requires-clause-below_within : goal.step-requires-clause-below_within
+step-requires-clause-below_within c =
     let rows = c.loop-r.rows in
+    let r = c.loop-r.r in
     let v = c.loop-r.invariant in
-    let z = c.replace-row.new.dest in
-    let row = c.replace-row.result in
-    let many = v.many in
-    let test = c.loop-r-test.true in
-    let lt : r < length rows = omega (arith, many, test) in
-    let row_long = sym (ap length (held (λ row. row.heads.items) rows r row c.index-rows-r.result lt c.replace-row.ensures.value)) ∙ v.long r lt in
+    let s = c.split_at_mut-before in
+    let t = c.split_at_mut-own in
+    let w = parted rows s.result.0.now s.result.1.now t.result.0.now t.result.1.now r s.ensures.value s.ensures.front_len t.ensures.value t.ensures.front_len in
+    let long = own_long (length c.args.up.now) rows s.result.0.now t.result.0.now t.result.1.now r c.index-own-0.result w v.long in
     let l = c.below_of.ensures.within in
-    omega (arith, row_long, l, c.requires.down)
+    let down = c.requires.down in
+    omega (arith, long, l, down)
 
-pub next-requires-clause-spare_heads : goal.next-requires-clause-spare_heads
-next-requires-clause-spare_heads c =
-    let r = c.loop-r.r in
+pub step-requires-clause-spare_heads : goal.step-requires-clause-spare_heads
+step-requires-clause-spare_heads c =
     let rows = c.loop-r.rows in
+    let r = c.loop-r.r in
     let v = c.loop-r.invariant in
-    let z = c.replace-row.new.dest in
-    let row = c.replace-row.result in
-    let many = v.many in
-    let test = c.loop-r-test.true in
-    let lt : r < length rows = omega (arith, many, test) in
-    let row_long = sym (ap length (held (λ row. row.heads.items) rows r row c.index-rows-r.result lt c.replace-row.ensures.value)) ∙ v.long r lt in
+    let s = c.split_at_mut-before in
+    let t = c.split_at_mut-own in
+    let w = parted rows s.result.0.now s.result.1.now t.result.0.now t.result.1.now r s.ensures.value s.ensures.front_len t.ensures.value t.ensures.front_len in
+    let long = own_long (length c.args.up.now) rows s.result.0.now t.result.0.now t.result.1.now r c.index-own-0.result w v.long in
     let l = v.spare_heads in
-    omega (arith, row_long, l)
+    let down = c.requires.down in
+    omega (arith, long, l, down)
 
-pub next-requires-clause-spare_wires : goal.next-requires-clause-spare_wires
-next-requires-clause-spare_wires c =
-    let r = c.loop-r.r in
+pub step-requires-clause-spare_wires : goal.step-requires-clause-spare_wires
+step-requires-clause-spare_wires c =
     let rows = c.loop-r.rows in
+    let r = c.loop-r.r in
     let v = c.loop-r.invariant in
-    let z = c.replace-row.new.dest in
-    let row = c.replace-row.result in
-    let many = v.many in
-    let test = c.loop-r-test.true in
-    let lt : r < length rows = omega (arith, many, test) in
-    let row_long = sym (ap length (held (λ row. row.heads.items) rows r row c.index-rows-r.result lt c.replace-row.ensures.value)) ∙ v.long r lt in
+    let s = c.split_at_mut-before in
+    let t = c.split_at_mut-own in
+    let w = parted rows s.result.0.now s.result.1.now t.result.0.now t.result.1.now r s.ensures.value s.ensures.front_len t.ensures.value t.ensures.front_len in
+    let long = own_long (length c.args.up.now) rows s.result.0.now t.result.0.now t.result.1.now r c.index-own-0.result w v.long in
     let l = v.spare_wires in
-    omega (arith, row_long, l)
+    let down = c.requires.down in
+    omega (arith, long, l, down)
 
 pub loop-r-preserved : goal.loop-r-preserved
 loop-r-preserved c =
-    let r = c.loop-r.r in
     let rows = c.loop-r.rows in
+    let r = c.loop-r.r in
     let v = c.loop-r.invariant in
-    let z = c.replace-row.new.dest in
-    let row = c.replace-row.result in
+    let s = c.split_at_mut-before in
+    let t = c.split_at_mut-own in
+    let w = parted rows s.result.0.now s.result.1.now t.result.0.now t.result.1.now r s.ensures.value s.ensures.front_len t.ensures.value t.ensures.front_len in
     let many = v.many in
     let test = c.loop-r-test.true in
     let lt : r < length rows = omega (arith, many, test) in
-    let row_long = sym (ap length (held (λ row. row.heads.items) rows r row c.index-rows-r.result lt c.replace-row.ensures.value)) ∙ v.long r lt in
-    let next = c.next.result in
-    let at : length (slice_set rows r z) ≡ length rows = length-set rows r z in
-    let lt2 : r < length (slice_set rows r z) = omega (arith, lt, at) in
-    let at2 : length (slice_set (slice_set rows r z) r next) ≡ length (slice_set rows r z) = length-set (slice_set rows r z) r next in
-    let new = slice_set (slice_set rows r z) r next in
+    let d = c.index-own-0.result in
+    let place = s.ensures.front_len in
+    let last : length s.result.0.now - 1 ≡ r - 1 = omega (arith, place) in
+    let row = get_or t.result.0.now 0 d in
+    let own : row ≡ get_or rows r d = at_own rows s.result.0.now t.result.0.now t.result.1.now r w d in
+    let row_long = own_long (length c.args.up.now) rows s.result.0.now t.result.0.now t.result.1.now r d w v.long in
+    let next = c.step.new.self in
+    let new = s.result.0.now ++ (slice_set t.result.0.now 0 next ++ t.result.1.now) in
+    let put : new ≡ slice_set rows r next = put_together rows s.result.0.now t.result.0.now t.result.1.now r w next in
+    let parts = many_parts rows s.result.0.now t.result.0.now t.result.1.now r w in
+    let at : length new ≡ length rows = ap length put ∙ length-set rows r next in
     let old = c.args.rows.now in
-    let e = c.next.ensures in
-    let here = λ (f : Row → List ℕ). same f (slice_set rows r z) r next lt2 in
-    let away = λ (f : Row → List ℕ) (k : ℕ) (ne : k ≢ r). other_twice f rows r k z next ne in
-    let was = λ (f : Row → List ℕ). held f rows r row c.index-rows-r.result lt c.replace-row.ensures.value in
+    let e = c.step.ensures in
+    let here = λ (f : Row → List ℕ). ap (λ rows. field f rows r) put ∙ same f rows r next lt in
+    let away = λ (f : Row → List ℕ) (k : ℕ) (ne : k ≢ r). ap (λ rows. field f rows k) put ∙ other f rows r k next ne in
+    let was = λ (f : Row → List ℕ). held f rows r row d lt own in
     let long_next = e.long in
     let old_row_heads : row_heads old r ≡ row.heads.items = sym (v.left_heads r (omega arith)) ∙ was (λ row. row.heads.items) in
     let old_row_tails : row_tails old r ≡ row.tails.items = sym (v.left_tails r (omega arith)) ∙ was (λ row. row.tails.items) in
     let old_row_wires : row_wires old r ≡ row.wires.items = sym (v.left_wires r (omega arith)) ∙ was (λ row. row.wires.items) in
     record {
-      many = omega (arith, many, at, at2);
+      many = omega (arith, many, at);
       long = λ k h.
           elim (at_or_not k r) [
             | inl q ↦ subst (λ k. length (row_heads new k) ≡ length c.args.up.now) (sym q) (ap length (here (λ row. row.heads.items)) ∙ long_next ∙ row_long)
-            | inr ne ↦ ap length (away (λ row. row.heads.items) k ne) ∙ v.long k (omega (arith, h, at, at2))
+            | inr ne ↦ ap length (away (λ row. row.heads.items) k ne) ∙ v.long k (omega (arith, h, at))
           ];
       spare_heads = e.long_spare_heads ∙ row_long;
       spare_wires = e.long_spare_wires ∙ row_long;
@@ -173,13 +196,13 @@ loop-r-preserved c =
             | inr ge ↦
                 let q : k ≡ r = omega (arith, h, ge) in
                 let mine : Shows row.heads.items row.tails.items row.wires.items p (y +ℤ pos r) = shows_same p (y +ℤ pos r) (sym old_row_heads) (sym old_row_tails) (sym old_row_wires) (shown r (omega (arith, many, lt))) in
-                let above = above_shows c.above_of.result.0.now c.args.up.now (row_tails rows (r - 1)) (row_heads old (r - 1)) p y r c.above_of.ensures.first
-                (λ o. c.above_of.ensures.later o ∙ other (λ row. row.tails.items) rows r (r - 1) z (λ s. omega (arith, s, o)))
+                let above = above_shows c.above_of.result.0.now c.args.up.now (row_tails rows (r - 1)) (row_heads old (r - 1)) p y r (λ q. c.above_of.ensures.first (place ∙ q))
+                (λ o. c.above_of.ensures.later (omega (arith, o, place)) ∙ ap (row_tails s.result.0.now) last ∙ field_before (λ row. row.tails.items) rows s.result.0.now t.result.0.now t.result.1.now r (r - 1) w (omega (arith, o)))
                 (λ o j. v.tails (r - 1) j (omega (arith, o)))
                 up (λ o. heads_shown (row_heads old (r - 1)) (row_tails old (r - 1)) (row_wires old (r - 1)) p (y +ℤ pos (r - 1)) (shown (r - 1) (omega (arith, many, lt)))) in
                 let below = below_shows c.below_of.result.0.now c.args.down.now (row_heads old (r + 1)) p y r (length old) (omega (arith, many, lt))
-                (λ o. c.below_of.ensures.last (omega (arith, o, many, at)))
-                (λ o. c.below_of.ensures.earlier (omega (arith, o, many, at)) ∙ other (λ row. row.heads.items) rows r (r + 1) z (λ s. omega (arith, s)) ∙ v.left_heads (r + 1) (omega arith))
+                (λ o. c.below_of.ensures.last (omega (arith, o, many, parts)))
+                (λ o. c.below_of.ensures.earlier (omega (arith, o, many, parts)) ∙ field_after (λ row. row.heads.items) rows s.result.0.now t.result.0.now t.result.1.now r w ∙ v.left_heads (r + 1) (omega arith))
                 down (λ o. heads_shown (row_heads old (r + 1)) (row_tails old (r + 1)) (row_wires old (r + 1)) p (y +ℤ pos (r + 1)) (shown (r + 1) o)) in
                 subst (λ k. Shows (row_heads new k) (row_tails new k) (row_wires new k) (next_plane p) (y +ℤ pos k)) (sym q)
                 (shows_same (next_plane p) (y +ℤ pos r) (here (λ row. row.heads.items)) (here (λ row. row.tails.items)) (here (λ row. row.wires.items))

@@ -1,7 +1,6 @@
 use Rattle.std.proofs.Common.{◌≡◌, sym, ap, ◌∙◌, subst, List, Err}
 use Rattle.std.specs.Prelude.{Some}
 use Rattle.std.proofs.lemmas.Result.{err_from_is_err_and}
-use Rattle.netlist_core.specs.declared.model.Model.{Model}
 use Rattle.netlist_core.specs.declared.flat.NetId.{NetId}
 use Rattle.netlist_meaning.specs.FlatOrder.{IsNetLoop}
 use Rattle.netlist_rules.specs.Clocks.{HasNoClockFault}
@@ -12,7 +11,7 @@ use Rattle.blif_text.specs.LineFaults.{line_fault}
 use Rattle.blif_text.specs.Faults.{HasModels, IsDesignOf}
 use Rattle.loop_check.specs.Reasons.{IsOrderRefusal}
 use Rattle.loop_check.specs.declared.ordering.OrderError.TheVariants.{Loop}
-use Rattle.netlist_text.specs.NetlistText.{IsLight, HasLoop}
+use Rattle.netlist_text.specs.NetlistText.{IsLight}
 use Rattle.netlist_text.proofs.Loops.{named_loop}
 use Rattle.netlist_text.proofs.Read.{unread, unchecked, design_is, unclocked, no_clock_fault, in_range, sound, netlist_is}
 use Rattle.netlist_text.proofs.netlist.netlist_of.Goals as goal

@@ -1,8 +1,6 @@
-use Rattle.std.proofs.Common.{◌≡◌, ◌≤◌, sym, ap, ◌∙◌, subst, List, ℕ, arith}
+use Rattle.std.proofs.Common.{sym, ap, ◌∙◌, subst, List}
 use Rattle.std.proofs.lemmas.Result.{IfOk-weaker}
-use Rattle.netlist_core.specs.Names.{Name}
 use Rattle.netlist_meaning.specs.Flat.{names_of_ports}
-use Rattle.netlist_meaning.specs.Nets.{IsInNames}
 use Rattle.netlist_core.specs.declared.flat.FlatPort.{FlatPort}
 use Rattle.std.specs.Prelude.{All}
 use Rattle.netlist_meaning.specs.Flat.{IsNetId}

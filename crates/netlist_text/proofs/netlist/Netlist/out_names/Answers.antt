@@ -1,4 +1,4 @@
-use Rattle.std.proofs.Common.{◌≡◌, sym, ap, ◌∙◌, subst, List}
+use Rattle.std.proofs.Common.{sym, ap, ◌∙◌, subst, List}
 use Rattle.std.proofs.lemmas.Result.{IfOk-weaker}
 use Rattle.netlist_meaning.specs.Flat.{names_of_ports}
 use Rattle.netlist_core.specs.declared.flat.FlatPort.{FlatPort}

@@ -1,4 +1,4 @@
-use Rattle.std.proofs.Common.{◌≡◌, ◌∙◌, ap, pos, ◌-ℤ◌}
+use Rattle.std.proofs.Common.{◌∙◌, ap, pos, ◌-ℤ◌}
 use Rattle.tile_library.specs.Drawings.{shipped_drawing}
 use Rattle.tile_library.proofs.shipped.Shipped.is_row_blank.Goals as goal
 

@@ -8,7 +8,7 @@ use Rattle.band_rows.specs.Rows.{AreDarkBeyond, AreLong, ShowRows, ShowsHeads}
 use Rattle.ww_rule.proofs.Due.{left_after}
 use Rattle.band_core.specs.Band.{AreInRows}
 use Rattle.band_core.proofs.NextRows.{west, rows_move, kept_shows}
-use Rattle.band_core.proofs.band.Band.next.Goals as goal
+use Rattle.band_core.proofs.band.Band.step.Goals as goal
 
 in_rows : (words y many n d : ℕ) (own now : List Injection) → now ≡ own → AreInRows words y many own → AreInRows words y many (take n (drop d now))
 in_rows words y many n d own now e in_own =
@@ -22,20 +22,20 @@ within k d own now e le few =
     let all : length (take (length now - d) (drop d now)) ≡ length (drop d now) = ap length (take_all (length now - d) (drop d now) (omega (arith, l))) in
     omega (arith, l, q, le, few, all)
 
-pub step_rows-top-requires-clause-inside : goal.step_rows-top-requires-clause-inside
-step_rows-top-requires-clause-inside c =
-    let band = c.args.self in
+pub step_rows-requires-clause-inside : goal.step_rows-requires-clause-inside
+step_rows-requires-clause-inside c =
+    let band = c.args.self.now in
     let k = c.due_count-count.result in
     subst (λ rows. AreInRows (length c.args.up.now) c.args.y (length rows) (take (band.done + k - band.done) (drop band.done c.deref-2.result.now))) (sym c.deref_mut.ensures.value)
     (in_rows (length c.args.up.now) c.args.y (length band.rows.items) (band.done + k - band.done) band.done band.injections.items c.deref-2.result.now c.deref-2.ensures.value c.requires.is.inside)
 
 pub returns-clause-is : goal.returns-clause-is
 returns-clause-is c =
-    let band = c.args.self in
+    let band = c.args.self.now in
     let is = c.requires.is in
-    let s = c.step_rows-top.ensures in
-    let new = c.step_rows-top.new.rows in
-    let light = c.light_of-light.result in
+    let s = c.step_rows.ensures in
+    let new = c.step_rows.new.rows in
+    let light = c.light_of-self.result in
     let value = c.deref_mut.ensures.value in
     let m = s.many in
     let rows_is = with_items_is band.rows new (omega (arith, m)) in
@@ -43,7 +43,7 @@ returns-clause-is c =
       high = ap length rows_is ∙ m ∙ ap length value;
       some = is.some;
       long = subst (AreLong (length c.args.up.now)) (sym rows_is) s.long;
-      light = subst (AreDarkBeyond light.first light.end) c.deref-3.ensures.value c.light_of-light.ensures;
+      light = subst (AreDarkBeyond light.first light.end) c.deref-3.ensures.value c.light_of-self.ensures;
       top = s.long_top;
       bottom = s.long_bottom;
       inside = is.inside;
@@ -52,15 +52,15 @@ returns-clause-is c =
 
 pub returns-clause-shows : goal.returns-clause-shows
 returns-clause-shows c e due width height evo shows up down =
-    let band = c.args.self in
+    let band = c.args.self.now in
     let g = band.generation in
     let y = c.args.y in
     let n = length band.rows.items in
     let own = band.injections.items in
     let left = drop band.done own in
     let k = c.due_count-count.result in
-    let s = c.step_rows-top.ensures in
-    let new = c.step_rows-top.new.rows in
+    let s = c.step_rows.ensures in
+    let new = c.step_rows.new.rows in
     let old = c.deref_mut.result.now in
     let value = c.deref_mut.ensures.value in
     let m = s.many in
@@ -79,16 +79,16 @@ returns-clause-shows c e due width height evo shows up down =
           (rows_move e due width height evo g y n own left _ new shows.left front shows.own lm moved);
       top = λ h q.
           let r : g ≡ h = omega (arith, q) in
-          subst (λ g. ShowsHeads c.step_rows-top.result.0.heads.items (e g) (pos y)) r
-          (subst (ShowsHeads c.step_rows-top.result.0.heads.items (e g)) (let z : pos y +ℤ pos 0 ≡ pos y = omega (arith, ints) in z)
-          (kept_shows c.step_rows-top.result.0.heads.items old 0 y (e g) (let z = c.requires.is.some in let v = ap length value in omega (arith, v, z)) s.top (subst (λ rows. ShowRows rows (e g) (pos y)) (sym value) shows.rows)));
+          subst (λ g. ShowsHeads c.step_rows.new.top.heads.items (e g) (pos y)) r
+          (subst (ShowsHeads c.step_rows.new.top.heads.items (e g)) (let z : pos y +ℤ pos 0 ≡ pos y = omega (arith, ints) in z)
+          (kept_shows c.step_rows.new.top.heads.items old 0 y (e g) (let z = c.requires.is.some in let v = ap length value in omega (arith, v, z)) s.top (subst (λ rows. ShowRows rows (e g) (pos y)) (sym value) shows.rows)));
       bottom = λ h q.
           let r : g ≡ h = omega (arith, q) in
           let v : length old ≡ n = ap length value in
           let last : pos (length old - 1) ≡ pos (n - 1) = ap (λ k. pos (k - 1)) v in
-          subst (λ g. ShowsHeads c.step_rows-top.result.1.heads.items (e g) (pos y +ℤ pos (n - 1))) r
-          (subst (λ z. ShowsHeads c.step_rows-top.result.1.heads.items (e g) (pos y +ℤ z)) last
-          (kept_shows c.step_rows-top.result.1.heads.items old (length old - 1) y (e g) (let z = c.requires.is.some in omega (arith, v, z)) s.bottom (subst (λ rows. ShowRows rows (e g) (pos y)) (sym value) shows.rows)));
+          subst (λ g. ShowsHeads c.step_rows.new.bottom.heads.items (e g) (pos y +ℤ pos (n - 1))) r
+          (subst (λ z. ShowsHeads c.step_rows.new.bottom.heads.items (e g) (pos y +ℤ z)) last
+          (kept_shows c.step_rows.new.bottom.heads.items old (length old - 1) y (e g) (let z = c.requires.is.some in omega (arith, v, z)) s.bottom (subst (λ rows. ShowRows rows (e g) (pos y)) (sym value) shows.rows)));
       own = shows.own;
       left = left_after (g + 1) own left shows.left (drop (band.done + k) own) (sym (drop-drop k band.done own) ∙ ap (λ n. drop n left) count2);
     }
