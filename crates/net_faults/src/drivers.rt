@@ -3,7 +3,7 @@ ghost use Rattle.std.specs.Prelude.{◌≡◌, ◌++◌, List, map, IfOk, OnOk};
 ghost use Rattle.netlist_core.specs.declared.model.Model.{Model};
 ghost use Rattle.netlist_rules.specs.Drivers.{cover_output, latch_output};
 ghost use Rattle.earliest_words.specs.Words.{word_ports};
-ghost use Rattle.placed_ports.specs.Placed.{KnowsPorts};
+ghost use Rattle.placed_ports.specs.Placed.{KnowsPlaced};
 ghost use Rattle.net_faults.specs.NetWords.{other_drivers};
 
 use crate::pins::{PinKind, push_actuals};
@@ -47,7 +47,7 @@ pub fn other_drivers<'a>(
     model: &'a Model,
     placed: &PlacedPorts<'_, 'a>,
 ) -> Result<Vec<Word<'a>>, AllocError>
-    ensures { IfOk result (λ words. (models : List Model) → KnowsPorts placed.now models → word_ports words.items ≡ other_drivers models model.now) }
+    ensures { IfOk result (λ words. (models : List Model) → KnowsPlaced placed.now models model.now → word_ports words.items ≡ other_drivers models model.now) }
 {
     let mut words = Vec::new(alloc);
     push_cover_outputs(&mut words, model.covers.as_slice())?;

@@ -5,7 +5,7 @@ ghost use Rattle.netlist_rules.specs.ModelFaults.{duplicate_ports, second_driver
 ghost use Rattle.netlist_rules.specs.declared.fault.FaultKind.TheVariants.{DuplicatePort, MultipleDrivers, Undriven};
 ghost use Rattle.earliest_words.specs.EarliestBroken.{earliest_broken};
 ghost use Rattle.earliest_words.specs.Words.{earliest_word, earliest_after};
-ghost use Rattle.placed_ports.specs.Placed.{KnowsPorts};
+ghost use Rattle.placed_ports.specs.Placed.{KnowsPlaced, KnowsPorts};
 
 use crate::duplicates::offer_duplicates;
 use crate::net_words::NetWords;
@@ -44,9 +44,9 @@ fn offer_model<'a>(
     earliest: &mut EarliestWords<'a>,
 ) -> Result<(), AllocError>
     ensures duplicate_port { OnOk result (earliest_word earliest.new.duplicate_port ≡ earliest_after (earliest_word earliest.old.duplicate_port) (duplicate_ports model.now)) }
-    ensures second_driver { OnOk result ((models : List Model) → KnowsPorts placed.now models →
+    ensures second_driver { OnOk result ((models : List Model) → KnowsPlaced placed.now models model.now →
         earliest_word earliest.new.second_driver ≡ earliest_after (earliest_word earliest.old.second_driver) (second_drivers models model.now)) }
-    ensures undriven { OnOk result ((models : List Model) → KnowsPorts placed.now models →
+    ensures undriven { OnOk result ((models : List Model) → KnowsPlaced placed.now models model.now →
         earliest_word earliest.new.undriven ≡ earliest_after (earliest_word earliest.old.undriven) (undriven_readings models model.now)) }
 {
     let words = NetWords::of(alloc, model, placed)?;

@@ -2,7 +2,7 @@
 ghost use Rattle.std.specs.Prelude.{◌≡◌, ◌++◌, List, IfOk, OnOk};
 ghost use Rattle.netlist_core.specs.declared.model.Model.{Model};
 ghost use Rattle.netlist_rules.specs.Drivers.{drivers_of};
-ghost use Rattle.placed_ports.specs.Placed.{KnowsPorts};
+ghost use Rattle.placed_ports.specs.Placed.{KnowsPlaced};
 ghost use Rattle.net_faults.specs.Numbering.{AreNumbered, numbered_ports};
 ghost use Rattle.net_faults.specs.NetWords.{AreDriversOf, ArePortsOf, HaveNumbers};
 
@@ -50,7 +50,7 @@ impl<'a> NetWords<'a> {
     ) -> Result<NetWords<'a>, AllocError>
         ensures numbers { IfOk result (λ words. HaveNumbers words) }
         ensures ports { IfOk result (λ words. ArePortsOf words model.now) }
-        ensures drivers { IfOk result (λ words. (models : List Model) → KnowsPorts placed.now models → AreDriversOf words models model.now) }
+        ensures drivers { IfOk result (λ words. (models : List Model) → KnowsPlaced placed.now models model.now → AreDriversOf words models model.now) }
     {
         let mut names = Numbering::new(alloc);
         let inputs = names.number_words(alloc, &input_words(alloc, model)?)?;

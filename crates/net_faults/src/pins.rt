@@ -4,7 +4,7 @@ ghost use Rattle.std.specs.Option.{option_copied};
 ghost use Rattle.netlist_core.specs.declared.model.Model.{Model};
 ghost use Rattle.netlist_rules.specs.Drivers.{is_input_pin, is_output_pin, actual_if, actuals};
 ghost use Rattle.earliest_words.specs.Words.{word_ports};
-ghost use Rattle.placed_ports.specs.Placed.{ArePlacedNames, KnowsPorts};
+ghost use Rattle.placed_ports.specs.Placed.{ArePlacedNames, KnowsPlaced};
 ghost use Rattle.net_faults.specs.Pins.{is_pin_of};
 
 use earliest_words::Word;
@@ -78,7 +78,7 @@ pub fn push_actuals<'a>(
     model: &'a Model,
     placed: &PlacedPorts<'_, 'a>,
 ) -> Result<(), AllocError>
-    ensures { OnOk result ((models : List Model) → KnowsPorts placed.now models →
+    ensures { OnOk result ((models : List Model) → KnowsPlaced placed.now models model.now →
         word_ports words.new.items ≡ word_ports words.old.items ++ actuals models (is_pin_of kind) model.now) }
 {
     for subckt in model.subckts.as_slice() {
@@ -94,7 +94,7 @@ pub fn actual_words<'a>(
     model: &'a Model,
     placed: &PlacedPorts<'_, 'a>,
 ) -> Result<Vec<Word<'a>>, AllocError>
-    ensures { IfOk result (λ words. (models : List Model) → KnowsPorts placed.now models → word_ports words.items ≡ actuals models (is_pin_of kind) model.now) }
+    ensures { IfOk result (λ words. (models : List Model) → KnowsPlaced placed.now models model.now → word_ports words.items ≡ actuals models (is_pin_of kind) model.now) }
 {
     let mut words = Vec::new(alloc);
     push_actuals(&mut words, kind, model, placed)?;

@@ -3,7 +3,7 @@ ghost use Rattle.std.specs.Prelude.{◌≡◌, ◌++◌, List, flat_map, IfOk, O
 ghost use Rattle.netlist_core.specs.declared.model.Model.{Model};
 ghost use Rattle.netlist_rules.specs.Drivers.{cover_readings, latch_readings, readings_of};
 ghost use Rattle.earliest_words.specs.Words.{word_ports};
-ghost use Rattle.placed_ports.specs.Placed.{KnowsPorts};
+ghost use Rattle.placed_ports.specs.Placed.{KnowsPlaced};
 
 use crate::pins::{PinKind, push_actuals};
 use crate::words::port_words;
@@ -68,7 +68,7 @@ pub fn reading_words<'a>(
     model: &'a Model,
     placed: &PlacedPorts<'_, 'a>,
 ) -> Result<Vec<Word<'a>>, AllocError>
-    ensures { IfOk result (λ words. (models : List Model) → KnowsPorts placed.now models → word_ports words.items ≡ readings_of models model.now) }
+    ensures { IfOk result (λ words. (models : List Model) → KnowsPlaced placed.now models model.now → word_ports words.items ≡ readings_of models model.now) }
 {
     let mut words = port_words(alloc, model.outs.as_slice())?;
     push_covers(&mut words, model.covers.as_slice())?;

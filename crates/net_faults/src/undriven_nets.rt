@@ -5,7 +5,7 @@ ghost use Rattle.netlist_core.specs.declared.model.Port.{Port};
 ghost use Rattle.netlist_rules.specs.Drivers.{actuals, drivers_of, is_unknown_pin};
 ghost use Rattle.netlist_rules.specs.ModelFaults.{unless_named, undriven_readings};
 ghost use Rattle.earliest_words.specs.Words.{word_ports, earliest_word, earliest_after};
-ghost use Rattle.placed_ports.specs.Placed.{KnowsPorts};
+ghost use Rattle.placed_ports.specs.Placed.{KnowsPlaced};
 ghost use Rattle.net_faults.specs.FirstLines.{AreFirstLines};
 ghost use Rattle.net_faults.specs.NetWords.{AreDriversOf, ArePortsOf, HaveNumbers};
 
@@ -56,7 +56,7 @@ pub fn offer_undriven<'a>(
 ) -> Result<(), AllocError>
     requires numbers { HaveNumbers words.now }
     requires ports { ArePortsOf words.now model.now }
-    ensures { OnOk result ((models : List Model) → KnowsPorts placed.now models → AreDriversOf words.now models model.now →
+    ensures { OnOk result ((models : List Model) → KnowsPlaced placed.now models model.now → AreDriversOf words.now models model.now →
         earliest_word earliest.new ≡ earliest_after (earliest_word earliest.old) (undriven_readings models model.now)) }
 {
     let drivers = driver_lines(alloc, words)?;

@@ -5,7 +5,7 @@ ghost use Rattle.netlist_rules.specs.ModelFaults.{unknown_formals};
 ghost use Rattle.earliest_words.specs.EarliestBroken.{earliest_broken};
 ghost use Rattle.earliest_words.specs.Words.{earliest_word, earliest_after};
 ghost use Rattle.netlist_core.specs.declared.model.Model.{Model};
-ghost use Rattle.placed_ports.specs.Placed.{AreNamesOfPorts, KnowsPorts, has_port};
+ghost use Rattle.placed_ports.specs.Placed.{AreNamesOfPorts, ArePlain, KnowsPorts, has_port};
 ghost use Rattle.pin_faults.specs.NotNamed.{formals_unless};
 
 use crate::lines::subckt_lines;
@@ -31,7 +31,7 @@ fn offer_others<'a>(earliest: &mut Earliest<'a>, names: &PortNames<'_>, line: &'
 
 // Offers the formals of a line that are no ports of the model that it names.
 fn offer_line<'a>(earliest: &mut Earliest<'a>, placed: &PlacedPorts<'_, '_>, line: &'a Subckt)
-    ensures { (models : List Model) → KnowsPorts placed.now models →
+    ensures { (models : List Model) → KnowsPorts placed.now models → ¬ ArePlain models →
         earliest_word earliest.new ≡ earliest_after (earliest_word earliest.old) (unknown_formals models line.now) }
 {
     if let Some(names) = placed.find(line.model.as_slice()) {

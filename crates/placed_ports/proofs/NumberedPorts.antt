@@ -1,5 +1,5 @@
 -- The ports of models, looked up by their numbers.
-use Rattle.std.proofs.Common.{◌≡◌, refl, sym, subst, ap, ◌∙◌, ℕ, ◌+◌, ◌<◌, List, [], ◌∷◌, ◌++◌, length, take, get_or}
+use Rattle.std.proofs.Common.{◌≡◌, ◌⊎◌, inl, inr, refl, sym, subst, ap, ◌∙◌, ℕ, ◌+◌, ◌<◌, List, [], ◌∷◌, ◌++◌, length, take, get_or}
 use Rattle.std.specs.Prelude.{Option, Some, None, IfSome, is_some, nat_lt, slice_get}
 use Rattle.std.specs.List.{AllZip}
 use Rattle.std.specs.Option.{option_copied, IsSomeAnd}
@@ -35,3 +35,8 @@ placed_at names models number m all there = by (slice_get names number) (MatchOp
     by : (o : Option PortNames) → IsSomeAnd o (λ x. AreNamesOfPorts x m) → ArePlacedNames (Some m) o
     by None h = h
     by (Some x) h = h
+
+-- where some model has a subckt line
+pub all_known : {A P : Type 0} → A ⊎ P → ¬ P → A
+all_known (inl all) placing = all
+all_known (inr plain) placing = absurd (placing plain)

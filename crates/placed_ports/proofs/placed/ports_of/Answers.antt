@@ -1,7 +1,7 @@
 use Rattle.std.proofs.Common.{arith}
 use Rattle.placed_ports.specs.Placed.{AreNamesOfPorts}
 use Rattle.placed_ports.proofs.NumberedPorts.{zipped_more}
-use Rattle.placed_ports.proofs.placed.PlacedPorts.new.Goals as goal
+use Rattle.placed_ports.proofs.placed.ports_of.Goals as goal
 
 pub loop-model-preserved : goal.loop-model-preserved
 loop-model-preserved c =
