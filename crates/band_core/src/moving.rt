@@ -81,6 +81,7 @@ pub fn row_below<'a>(after: &'a [Band], generation: u64, dark: &'a [u64]) -> (&'
 }
 
 /// Moves band b on by one generation. No memory is taken.
+// It stands apart, so that a loop over sleeping bands stays small.
 #[inline(never)]
 pub fn move_band(
     bands: &mut [Band],
