@@ -1,12 +1,12 @@
 -- Runs in an orientation, and injections that are turned.
-use Rattle.std.proofs.Common.{ℕ, ◌≡◌, ◌<◌, ◌≤◌, refl, sym, ap, ap₂, ◌∙◌, List, [], ◌∷◌, length, map, get_or, All, arith}
+use Rattle.std.proofs.Common.{ℕ, ◌≡◌, ap, ap₂, ◌∙◌, List, [], ◌∷◌, length, map, get_or, arith}
 use Rattle.std.proofs.lemmas.List.{get_or-map, length-map}
 use Rattle.std.proofs.Math.Path.{fun_ext}
 use Rattle.ww_rule.specs.declared.pattern.Injection.{Injection}
 use Rattle.ww_rule.specs.Due.{AreInOrderFrom}
 use Rattle.ww_rule.specs.Injections.{AreInside, due_of_list}
 use Rattle.ww_rule.specs.Wireworld.{Plane, Due, driven}
-use Rattle.ww_rule.specs.Turns.{turned, due_turned, injection_turned}
+use Rattle.ww_rule.specs.Turns.{turned, injection_turned}
 use Rattle.ww_rule.proofs.Turns.{drives_turned_too}
 use Rattle.drive.specs.declared.run.Orientation.{Orientation}
 use Rattle.drive.specs.declared.run.Orientation.TheVariants.{Upright, Turned}
