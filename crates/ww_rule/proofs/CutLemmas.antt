@@ -30,7 +30,7 @@ long_rows w n cells whole y d h =
     ap length (get_or_any (cut_rows w n cells) y d [] h ∙ row_of_cut w n y cells (omega arith))
     ∙ (let e : length (take w (drop (y * w) cells)) ≡ w = omega (arith, length-take w (drop (y * w) cells), length-drop (y * w) cells) in e)
 
--- cells without rows are no cells
+-- one row more at the end
 pub cut_more : (w n : ℕ) (cells row : List State) → n * w ≡ length cells → length row ≡ w → cut_rows w (suc n) (cells ++ row) ≡ cut_rows w n cells ++ row ∷ []
 cut_more w zero cells row whole long =
     let none : cells ≡ [] = nil_from_length cells (omega arith) in
