@@ -58,6 +58,23 @@ fn wire(alloc: Global) -> Result<Pattern, AllocError>
     })
 }
 
+// A wire of three cells, one below the other.
+fn wire_down(alloc: Global) -> Result<Pattern, AllocError>
+    ensures width { IfOk result (λ pattern. pattern.width ≡ 1) }
+    ensures height { IfOk result (λ pattern. pattern.height ≡ 3) }
+{
+    let rows = [
+        stream_row(alloc, b"C")?,
+        stream_row(alloc, b"C")?,
+        stream_row(alloc, b"C")?,
+    ];
+    Ok(Pattern {
+        width: 1,
+        height: 3,
+        rows: CellRows::of_rows(alloc, &rows)?,
+    })
+}
+
 // The OR gate, with its empty rows.
 fn or_gate(alloc: Global) -> Result<Pattern, AllocError>
     ensures width { IfOk result (λ pattern. pattern.width ≡ 33) }
@@ -173,6 +190,23 @@ fn a_wire_shows_what_is_injected(rt: HostRuntime) -> Result<(), Fail> {
         })
     );
     assert!(rt; is_too_far);
+    Ok(())
+}
+
+#[test]
+fn a_wire_downward_shows_the_same(rt: HostRuntime) -> Result<(), Fail> {
+    let alloc = rt.alloc();
+    let Ok(streams) = read(alloc, &["a=11"], &[b"a"], 2) else {
+        return Err(Fail::new("no streams"));
+    };
+    for (p, want) in [(4, [true, true]), (2, [true, false])] {
+        let ports = Ports {
+            outs: List::of(Vec::from_array(alloc, [port(alloc, 0, 2, b"y")?])?),
+            ..wire_ports(alloc, p)?
+        };
+        let shown = simulate(alloc, wire_down(alloc)?, &ports, &streams)?;
+        assert_eq!(rt; only_bits(shown.as_slice()), want.as_slice(), "period {p}");
+    }
     Ok(())
 }
 
