@@ -74,45 +74,42 @@ fn an_or_gate_is_compiled_by_its_names(rt: HostRuntime) -> Result<(), Fail> {
     Ok(())
 }
 
+// Words, the calls of the source that fail, the rooms of the sinks, the status, how many bytes of the pattern are written, and what is told.
+const FAILURES: &[(&[&str], &[u64], (usize, usize), u8, usize, &[u8])] = &[
+    (COMPILE, &[9], (175, 99), 6, 175, b"write fault\n"),
+    (COMPILE, &[9], (175, 5), 6, 175, b"write"),
+    (COMPILE, &[1], (317, 99), 5, 0, b"read fault\n"),
+    (COMPILE, &[1], (317, 4), 6, 0, b"read"),
+    (&["blifww"], &[0], (317, 99), 2, 0, USAGE),
+    (
+        &["blifww", "compile", "compile"],
+        &[0],
+        (317, 99),
+        2,
+        0,
+        USAGE,
+    ),
+    (&["blifww", "simulate"], &[0], (317, 99), 2, 0, USAGE),
+    (&["blifww"], &[0], (317, 20), 6, 0, b"usage: blifww compil"),
+    (CORNER, &[0], (317, 99), 5, 0, b"read fault\n"),
+    (
+        &["blifww", "make", "--seed", "1", "--size", "2"],
+        &[0],
+        (0, 99),
+        6,
+        0,
+        b"write fault\n",
+    ),
+];
+
 #[test]
 fn each_failure_is_told(rt: HostRuntime) -> Result<(), Fail> {
-    for (words, fails, rooms, status, out, err) in [
-        (
-            COMPILE,
-            [9].as_slice(),
-            (175, 99),
-            6,
-            &PATTERN[..175],
-            b"write fault\n".as_slice(),
-        ),
-        (COMPILE, &[9], (175, 5), 6, &PATTERN[..175], b"write"),
-        (COMPILE, &[1], (317, 99), 5, b"", b"read fault\n"),
-        (COMPILE, &[1], (317, 4), 6, b"", b"read"),
-        (&["blifww"], &[0], (317, 99), 2, b"", USAGE),
-        (
-            &["blifww", "compile", "compile"],
-            &[0],
-            (317, 99),
-            2,
-            b"",
-            USAGE,
-        ),
-        (&["blifww", "simulate"], &[0], (317, 99), 2, b"", USAGE),
-        (&["blifww"], &[0], (317, 20), 6, b"", &USAGE[..20]),
-        (CORNER, &[0], (317, 99), 5, b"", b"read fault\n"),
-        (
-            &["blifww", "make", "--seed", "1", "--size", "2"],
-            &[0],
-            (0, 99),
-            6,
-            b"",
-            b"write fault\n",
-        ),
-    ] {
-        let got = run_over(rt.alloc(), words, GATE, (16, fails), rooms)?;
-        assert_eq!(rt; got.status, status);
-        assert_eq!(rt; got.out.as_slice(), out);
-        assert_eq!(rt; got.err.as_slice(), err);
+    for (words, fails, rooms, status, written, err) in FAILURES {
+        let got = run_over(rt.alloc(), words, GATE, (16, fails), *rooms)?;
+        assert_eq!(rt; got.status, *status);
+        assert_eq!(rt; got.out.len(), *written);
+        assert!(rt; PATTERN.starts_with(&got.out));
+        assert_eq!(rt; got.err.as_slice(), *err);
     }
     assert!(rt; PATTERN[..175].ends_with(b"x = 33, y = 32, ru"));
     Ok(())
@@ -257,38 +254,41 @@ fn a_box_without_cells_shows_nothing(rt: HostRuntime) -> Result<(), Fail> {
     Ok(())
 }
 
+// Words, the status, and the line that is told.
+const REFUSED_WORDS: &[(&[&str], u8, &[u8])] = &[
+    (
+        &["blifww", "simulate", "--cycles", "2", "a=01", "b=0"],
+        9,
+        b"stream: BadLength b=0\n",
+    ),
+    (
+        &["blifww", "simulate", "--cycles", "2", "a=01"],
+        9,
+        b"stream: MissingInput b\n",
+    ),
+    (
+        &[
+            "blifww", "simulate", "--cycles", "2", "a=01", "a=01", "b=01",
+        ],
+        9,
+        b"stream: TwiceInput a=01\n",
+    ),
+    (
+        &["blifww", "simulate", "--cycles", "3", "a=011", "b=012"],
+        9,
+        b"stream: BadBit b=012\n",
+    ),
+    (&["blifww", "simulate", "--cycles", "0"], 2, USAGE),
+    (&["blifww", "simulate", "a=01", "b=01"], 2, USAGE),
+];
+
 #[test]
 fn words_that_give_no_streams_are_refused(rt: HostRuntime) -> Result<(), Fail> {
-    for (words, status, line) in [
-        (
-            ["blifww", "simulate", "--cycles", "2", "a=01", "b=0"].as_slice(),
-            9,
-            b"stream: BadLength b=0\n".as_slice(),
-        ),
-        (
-            &["blifww", "simulate", "--cycles", "2", "a=01"],
-            9,
-            b"stream: MissingInput b\n",
-        ),
-        (
-            &[
-                "blifww", "simulate", "--cycles", "2", "a=01", "a=01", "b=01",
-            ],
-            9,
-            b"stream: TwiceInput a=01\n",
-        ),
-        (
-            &["blifww", "simulate", "--cycles", "3", "a=011", "b=012"],
-            9,
-            b"stream: BadBit b=012\n",
-        ),
-        (&["blifww", "simulate", "--cycles", "0"], 2, USAGE),
-        (&["blifww", "simulate", "a=01", "b=01"], 2, USAGE),
-    ] {
+    for (words, status, line) in REFUSED_WORDS {
         let got = run_over(rt.alloc(), words, PATTERN, (16, &[]), (99, 99))?;
-        assert_eq!(rt; got.status, status);
+        assert_eq!(rt; got.status, *status);
         assert_eq!(rt; got.out.as_slice(), b"".as_slice());
-        assert_eq!(rt; got.err.as_slice(), line);
+        assert_eq!(rt; got.err.as_slice(), *line);
     }
     Ok(())
 }
@@ -301,50 +301,53 @@ const OUTSIDE: &[&str] = &[
     "blifww", "window", "--gen", "1", "--x", "3", "--y", "9", "--width", "2", "--height", "1",
 ];
 
+const HEADS: &[u8] = b"x = 3, y = 2, rule = WireWorld\n3A$.C!\n";
+
+// Words, a pattern, the status, and what is printed and told.
+const VIEWS: &[(&[&str], &[u8], u8, &[u8], &[u8])] = &[
+    (
+        &[
+            "blifww", "probe", "--cycles", "2", "--net", "y", "a=01", "b=00",
+        ],
+        PATTERN,
+        0,
+        b"y=01\n",
+        b"",
+    ),
+    (
+        &[
+            "blifww", "probe", "--cycles", "1", "--net", "z", "a=0", "b=0",
+        ],
+        PATTERN,
+        9,
+        b"",
+        b"stream: NoSuchNet z\n",
+    ),
+    (CORNER, HEADS, 0, b"BBB\n.C.\n", b""),
+    (
+        CORNER,
+        b"x = 3, y = 2, rule = WireWorld\n2A$.C!\n",
+        0,
+        b"BB.\n.A.\n",
+        b"",
+    ),
+    (OUTSIDE, HEADS, 0, b"..\n", b""),
+    (
+        &["blifww", "probe", "--cycles", "2", "--net", "y", "a=11"],
+        b"#C BLIFWW 1 P 4294967296 L 2\n#C BLIFWW IN 0 0 a\n#C BLIFWW NET 2 0 2 y -\nx = 3, y = 1, rule = WireWorld\n3C!\n",
+        4,
+        b"",
+        b"too large: generations 4294967298\n",
+    ),
+];
+
 #[test]
 fn a_net_and_a_part_of_the_plane_are_shown(rt: HostRuntime) -> Result<(), Fail> {
-    let heads = b"x = 3, y = 2, rule = WireWorld\n3A$.C!\n".as_slice();
-    for (words, text, status, out, err) in [
-        (
-            [
-                "blifww", "probe", "--cycles", "2", "--net", "y", "a=01", "b=00",
-            ]
-            .as_slice(),
-            PATTERN,
-            0,
-            b"y=01\n".as_slice(),
-            b"".as_slice(),
-        ),
-        (
-            &[
-                "blifww", "probe", "--cycles", "1", "--net", "z", "a=0", "b=0",
-            ],
-            PATTERN,
-            9,
-            b"",
-            b"stream: NoSuchNet z\n",
-        ),
-        (CORNER, heads, 0, b"BBB\n.C.\n", b""),
-        (
-            CORNER,
-            b"x = 3, y = 2, rule = WireWorld\n2A$.C!\n",
-            0,
-            b"BB.\n.A.\n",
-            b"",
-        ),
-        (OUTSIDE, heads, 0, b"..\n", b""),
-        (
-            &["blifww", "probe", "--cycles", "2", "--net", "y", "a=11"],
-            b"#C BLIFWW 1 P 4294967296 L 2\n#C BLIFWW IN 0 0 a\n#C BLIFWW NET 2 0 2 y -\nx = 3, y = 1, rule = WireWorld\n3C!\n",
-            4,
-            b"",
-            b"too large: generations 4294967298\n",
-        ),
-    ] {
+    for (words, text, status, out, err) in VIEWS {
         let got = run_over(rt.alloc(), words, text, (16, &[]), (99, 99))?;
-        assert_eq!(rt; got.status, status);
-        assert_eq!(rt; got.out.as_slice(), out);
-        assert_eq!(rt; got.err.as_slice(), err);
+        assert_eq!(rt; got.status, *status);
+        assert_eq!(rt; got.out.as_slice(), *out);
+        assert_eq!(rt; got.err.as_slice(), *err);
     }
     Ok(())
 }

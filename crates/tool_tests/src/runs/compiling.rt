@@ -24,68 +24,71 @@ const TOGGLE: &[u8] = b".model t\n.outputs q\n.latch n q 0\n.names q n\n0 1\n.en
 const ADDER: &[u8] =
     b".model add\n.inputs a0 a1 b0 b1 ci\n.outputs s0 s1 c\n.subckt fa a=a0 b=b0 c=ci s=s0 co=k\n.subckt fa a=a1 b=b1 c=k s=s1 co=c\n.end\n.model fa\n.inputs a b c\n.outputs s co\n.names a b c s\n100 1\n010 1\n001 1\n111 1\n.names a b c co\n11- 1\n1-1 1\n-11 1\n.end\n";
 
+// Netlists, words, and what is printed.
+const SHOWN: &[(&[u8], &[&str], &[u8])] = &[
+    (
+        b".model or\n.inputs a b\n.outputs y\n.names a b y\n10 1\n.end\n",
+        &["4", "a=0011", "b=0101"],
+        b"y=0010\n",
+    ),
+    (
+        b".model n\n.inputs a\n.outputs y\n.names a y\n0 1\n",
+        &["4", "a=0110"],
+        b"y=1001\n",
+    ),
+    (
+        b".model or\n.inputs a b\n.outputs y\n.names a b y\n11 0\n.end\n",
+        &["4", "a=0011", "b=0101"],
+        b"y=1110\n",
+    ),
+    (
+        b".model c\n.outputs y\n.names y\n1\n.end\n",
+        &["3"],
+        b"y=111\n",
+    ),
+    (
+        b".model c\n.outputs y\n.names y\n.end\n",
+        &["3"],
+        b"y=000\n",
+    ),
+    (TOGGLE, &["4"], b"q=0101\n"),
+    (
+        b".model r\n.inputs d\n.outputs q\n.latch d q 1\n.end\n",
+        &["4", "d=0010"],
+        b"q=1001\n",
+    ),
+    (
+        b".model x\n.inputs a b\n.outputs p q\n.names b p\n1 1\n.names a q\n1 1\n.end\n",
+        &["4", "a=0011", "b=0101"],
+        b"p=0101\nq=0011\n",
+    ),
+    (
+        b".model r\n.inputs d\n.outputs q\n.latch d q\n.end\n",
+        &["2", "d=11"],
+        b"q=01\n",
+    ),
+    (
+        b".model f\n.inputs a\n.outputs y0 y1 y2 y3 y4\n.names a y0\n1 1\n.names a y1\n1 1\n.names a y2\n1 1\n.names a y3\n1 1\n.names a y4\n1 1\n.end\n",
+        &["2", "a=01"],
+        b"y0=01\ny1=01\ny2=01\ny3=01\ny4=01\n",
+    ),
+    (COUNTER, &["5"], b"q0=01010\nq1=00110\n"),
+    (
+        ADDER,
+        &["1", "a0=1", "a1=1", "b0=1", "b1=0", "ci=0"],
+        b"s0=0\ns1=0\nc=1\n",
+    ),
+    (
+        b".model m\n.inputs d \\\nclk # two\n.outputs q\n.latch d q re clk 2\n.end\n",
+        &["2", "d=10"],
+        b"q=01\n",
+    ),
+];
+
 #[test]
 fn what_compile_writes_shows_the_netlist(rt: HostRuntime) -> Result<(), Fail> {
     let alloc = rt.alloc();
-    for (text, words, lines) in [
-        (
-            b".model or\n.inputs a b\n.outputs y\n.names a b y\n10 1\n.end\n".as_slice(),
-            ["4", "a=0011", "b=0101"].as_slice(),
-            b"y=0010\n".as_slice(),
-        ),
-        (
-            b".model n\n.inputs a\n.outputs y\n.names a y\n0 1\n",
-            &["4", "a=0110"],
-            b"y=1001\n",
-        ),
-        (
-            b".model or\n.inputs a b\n.outputs y\n.names a b y\n11 0\n.end\n",
-            &["4", "a=0011", "b=0101"],
-            b"y=1110\n",
-        ),
-        (
-            b".model c\n.outputs y\n.names y\n1\n.end\n",
-            &["3"],
-            b"y=111\n",
-        ),
-        (
-            b".model c\n.outputs y\n.names y\n.end\n",
-            &["3"],
-            b"y=000\n",
-        ),
-        (TOGGLE, &["4"], b"q=0101\n"),
-        (
-            b".model r\n.inputs d\n.outputs q\n.latch d q 1\n.end\n",
-            &["4", "d=0010"],
-            b"q=1001\n",
-        ),
-        (
-            b".model x\n.inputs a b\n.outputs p q\n.names b p\n1 1\n.names a q\n1 1\n.end\n",
-            &["4", "a=0011", "b=0101"],
-            b"p=0101\nq=0011\n",
-        ),
-        (
-            b".model r\n.inputs d\n.outputs q\n.latch d q\n.end\n",
-            &["2", "d=11"],
-            b"q=01\n",
-        ),
-        (
-            b".model f\n.inputs a\n.outputs y0 y1 y2 y3 y4\n.names a y0\n1 1\n.names a y1\n1 1\n.names a y2\n1 1\n.names a y3\n1 1\n.names a y4\n1 1\n.end\n",
-            &["2", "a=01"],
-            b"y0=01\ny1=01\ny2=01\ny3=01\ny4=01\n",
-        ),
-        (COUNTER, &["5"], b"q0=01010\nq1=00110\n"),
-        (
-            ADDER,
-            &["1", "a0=1", "a1=1", "b0=1", "b1=0", "ci=0"],
-            b"s0=0\ns1=0\nc=1\n",
-        ),
-        (
-            b".model m\n.inputs d \\\nclk # two\n.outputs q\n.latch d q re clk 2\n.end\n",
-            &["2", "d=10"],
-            b"q=01\n",
-        ),
-    ] {
+    for (text, words, lines) in SHOWN {
         let compiled = run_over(
             alloc,
             &["blifww", "compile"],
@@ -96,10 +99,10 @@ fn what_compile_writes_shows_the_netlist(rt: HostRuntime) -> Result<(), Fail> {
         assert_eq!(rt; compiled.status, 0);
         let simulated = driven(alloc, "simulate", words, &compiled.out)?;
         assert_eq!(rt; simulated.status, 0);
-        assert_eq!(rt; simulated.out.as_slice(), lines);
+        assert_eq!(rt; simulated.out.as_slice(), *lines);
         let evaluated = driven(alloc, "eval", words, text)?;
         assert_eq!(rt; evaluated.status, 0);
-        assert_eq!(rt; evaluated.out.as_slice(), lines);
+        assert_eq!(rt; evaluated.out.as_slice(), *lines);
     }
     Ok(())
 }
@@ -117,55 +120,58 @@ fn with_output(alloc: Global, model: &[u8], text: &[u8], net: &str) -> Result<Ve
     Ok(wider)
 }
 
+// The first line of a netlist, its text, words, and nets with their paths and bits.
+const PROBED: &[(&[u8], &[u8], &[&str], &[(&str, &str, &str)])] = &[
+    (
+        b".model t\n",
+        TOGGLE,
+        &["4"],
+        &[("q", "-", "0101"), ("n", "-", "1010")],
+    ),
+    (
+        b".model k\n",
+        COUNTER,
+        &["5"],
+        &[
+            ("q0", "-", "01010"),
+            ("q1", "-", "00110"),
+            ("n0", "-", "10101"),
+            ("n1", "-", "01100"),
+        ],
+    ),
+    (
+        b".model add\n",
+        ADDER,
+        &["1", "a0=1", "a1=1", "b0=1", "b1=0", "ci=0"],
+        &[
+            ("a0", "-", "1"),
+            ("a1", "-", "1"),
+            ("b0", "-", "1"),
+            ("b1", "-", "0"),
+            ("ci", "-", "0"),
+            ("s0", "-", "0"),
+            ("s1", "-", "0"),
+            ("c", "-", "1"),
+            ("k", "-", "1"),
+            ("a", "0", "1"),
+            ("b", "0", "1"),
+            ("c", "0", "0"),
+            ("s", "0", "0"),
+            ("co", "0", "1"),
+            ("a", "1", "1"),
+            ("b", "1", "0"),
+            ("c", "1", "1"),
+            ("s", "1", "0"),
+            ("co", "1", "1"),
+        ],
+    ),
+];
+
 // Each net shows what `eval` prints of it as an output; of nets in models below and of ports the bits that are written here.
 #[test]
 fn each_net_can_be_probed(rt: HostRuntime) -> Result<(), Fail> {
     let alloc = rt.alloc();
-    for (model, text, words, nets) in [
-        (
-            b".model t\n".as_slice(),
-            TOGGLE,
-            ["4"].as_slice(),
-            [("q", "-", "0101"), ("n", "-", "1010")].as_slice(),
-        ),
-        (
-            b".model k\n",
-            COUNTER,
-            &["5"],
-            &[
-                ("q0", "-", "01010"),
-                ("q1", "-", "00110"),
-                ("n0", "-", "10101"),
-                ("n1", "-", "01100"),
-            ],
-        ),
-        (
-            b".model add\n",
-            ADDER,
-            &["1", "a0=1", "a1=1", "b0=1", "b1=0", "ci=0"],
-            &[
-                ("a0", "-", "1"),
-                ("a1", "-", "1"),
-                ("b0", "-", "1"),
-                ("b1", "-", "0"),
-                ("ci", "-", "0"),
-                ("s0", "-", "0"),
-                ("s1", "-", "0"),
-                ("c", "-", "1"),
-                ("k", "-", "1"),
-                ("a", "0", "1"),
-                ("b", "0", "1"),
-                ("c", "0", "0"),
-                ("s", "0", "0"),
-                ("co", "0", "1"),
-                ("a", "1", "1"),
-                ("b", "1", "0"),
-                ("c", "1", "1"),
-                ("s", "1", "0"),
-                ("co", "1", "1"),
-            ],
-        ),
-    ] {
+    for (model, text, words, nets) in PROBED {
         let compiled = run_over(
             alloc,
             &["blifww", "compile"],
@@ -177,7 +183,7 @@ fn each_net_can_be_probed(rt: HostRuntime) -> Result<(), Fail> {
         let Some((cycles, streams)) = words.split_first() else {
             return Err(Fail::new("no number of cycles"));
         };
-        for (net, path, bits) in nets {
+        for (net, path, bits) in *nets {
             let mut given = vec![in alloc; *cycles, "--net", *net, "--path", *path]?;
             given.extend_from_slice(streams)?;
             let probed = driven(alloc, "probe", &given, &compiled.out)?;
@@ -195,23 +201,26 @@ fn each_net_can_be_probed(rt: HostRuntime) -> Result<(), Fail> {
     Ok(())
 }
 
+// Netlists, and how their patterns begin.
+const BEGUN: &[(&[u8], &[u8])] = &[
+    (
+        b".model m\n.end\n",
+        b"#C BLIFWW 1 P 32 L 0\nx = 0, y = 0, rule = WireWorld\n!\n",
+    ),
+    (
+        b".model or\n.inputs a b\n.outputs y\n.names a b y\n10 1\n.end\n",
+        b"#C BLIFWW 1 P 32 L 32\n",
+    ),
+];
+
 #[test]
 fn what_compile_writes_begins_with_its_times(rt: HostRuntime) -> Result<(), Fail> {
     let alloc = rt.alloc();
-    for (text, begin) in [
-        (
-            b".model m\n.end\n".to_vec(alloc)?,
-            b"#C BLIFWW 1 P 32 L 0\nx = 0, y = 0, rule = WireWorld\n!\n".as_slice(),
-        ),
-        (
-            b".model or\n.inputs a b\n.outputs y\n.names a b y\n10 1\n.end\n".to_vec(alloc)?,
-            b"#C BLIFWW 1 P 32 L 32\n",
-        ),
-    ] {
+    for (text, begin) in BEGUN {
         let compiled = run_over(
             alloc,
             &["blifww", "compile"],
-            &text,
+            text,
             (4096, &[]),
             (1 << 20, 0),
         )?;

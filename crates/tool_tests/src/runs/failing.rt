@@ -33,32 +33,33 @@ fn output_is_cut_where_there_is_no_room(rt: HostRuntime) -> Result<(), Fail> {
     Ok(())
 }
 
+const INVERTER: &[u8] = b".model n\n.inputs a\n.outputs y\n.names a y\n0 1\n";
+
+// Words, and a text that they read.
+const COMMANDS: &[(&[&str], &[u8])] = &[
+    (&["blifww", "eval", "--cycles", "4", "a=0110"], INVERTER),
+    (
+        &["blifww", "simulate", "--cycles", "1", "a=0", "b=1"],
+        PATTERN,
+    ),
+    (
+        &[
+            "blifww", "probe", "--cycles", "1", "--net", "y", "a=0", "b=1",
+        ],
+        PATTERN,
+    ),
+    (
+        &[
+            "blifww", "window", "--gen", "0", "--x", "0", "--y", "0", "--width", "1", "--height",
+            "1", "a=", "b=",
+        ],
+        PATTERN,
+    ),
+];
+
 #[test]
 fn each_command_tells_what_failed(rt: HostRuntime) -> Result<(), Fail> {
-    let inverter = b".model n\n.inputs a\n.outputs y\n.names a y\n0 1\n".as_slice();
-    for (words, text) in [
-        (
-            ["blifww", "eval", "--cycles", "4", "a=0110"].as_slice(),
-            inverter,
-        ),
-        (
-            &["blifww", "simulate", "--cycles", "1", "a=0", "b=1"],
-            PATTERN,
-        ),
-        (
-            &[
-                "blifww", "probe", "--cycles", "1", "--net", "y", "a=0", "b=1",
-            ],
-            PATTERN,
-        ),
-        (
-            &[
-                "blifww", "window", "--gen", "0", "--x", "0", "--y", "0", "--width", "1",
-                "--height", "1", "a=", "b=",
-            ],
-            PATTERN,
-        ),
-    ] {
+    for (words, text) in COMMANDS {
         let unread = run_over(rt.alloc(), words, text, (16, &[0]), (99, 99))?;
         assert_eq!(rt; unread.status, 5);
         assert_eq!(rt; unread.out.as_slice(), b"".as_slice());
