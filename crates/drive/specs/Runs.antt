@@ -26,11 +26,11 @@ laid Turned planes = λ g. turned (planes g)
 abbrev pub planes_of : Run → ℕ → Plane
 planes_of run = laid run.orientation (evolution run.bands)
 
--- What holds of each run; its width and rows are those of its bands. One that is still shows at each later generation what it shows now.
+-- What holds of each run; its width, its rows and the rows of a band are those of its bands. One that is still shows at each later generation what it shows now.
 pub record IsBandRun (run : Run) : Type 0 where
   pub whole : IsBandedPattern run.bands
   pub at : AreAt run.generation run.bands
-  pub height : run.bands.height ≡ 16
+  pub height : run.bands.height ≡ run.band_rows
   pub width : run.width ≡ run.bands.grid.width
   pub rows : run.rows ≡ length run.bands.grid.rows
   pub last : All (λ i. i.generation ≤ run.last_injection) run.bands.injections

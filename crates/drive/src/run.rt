@@ -19,8 +19,14 @@ use pattern_reading::Ports;
 use std::alloc::Global;
 use ww_rule::{Injection, Pattern, State};
 
-/// How many rows a band has.
-const BAND_ROWS: u32 = 16;
+/// How many rows a band has at least.
+const LEAST_BAND_ROWS: usize = 16;
+
+/// How many rows a band has at most.
+const MOST_BAND_ROWS: usize = 1 << 20;
+
+/// How many bands there are at most, where they have more than the least number of rows and fewer than the most.
+const BANDS: usize = 32;
 
 /// How many cells of a row stand in one word of a band.
 const WORD_CELLS: u64 = 64;
@@ -37,6 +43,7 @@ pub enum Orientation {
 #[derive(Drop)]
 pub struct Run {
     bands: Bands,
+    band_rows: u32,
     orientation: Orientation,
     width: u64,
     rows: usize,
@@ -54,6 +61,13 @@ fn last_generation(injections: &[Injection]) -> u128
         Some(injection) => injection.generation,
         None => 0,
     }
+}
+
+// How many rows a band has, where there are so many rows: a generation looks at each band, also where it sleeps.
+fn band_rows(rows: usize) -> u32
+    ensures { 0 < result }
+{
+    rows.div_ceil(BANDS).clamp(LEAST_BAND_ROWS, MOST_BAND_ROWS) as u32
 }
 
 // Whether rows of one word would be mostly empty, and there are more rows than columns.
@@ -98,9 +112,11 @@ impl Run {
         let width = pattern.width;
         let rows = pattern.rows.len();
         let last_injection = last_generation(&injections);
-        let bands = Bands::new(alloc, pattern, injections, BAND_ROWS)?;
+        let band_rows = band_rows(rows);
+        let bands = Bands::new(alloc, pattern, injections, band_rows)?;
         Ok(Run {
             bands,
+            band_rows,
             orientation,
             width,
             rows,
@@ -179,7 +195,7 @@ impl Run {
         if x >= self.width as u128 || y >= self.rows as u128 {
             return State::Empty;
         }
-        let b = y as usize / BAND_ROWS as usize;
+        let b = y as usize / self.band_rows as usize;
         self.bands.cell(b, x as u64, y as u64)
     }
 
