@@ -29,7 +29,7 @@ abbrev pub WordsDoNotFit : Call → Type 0
 WordsDoNotFit c =
     ((fault : StreamFault) × RefusesText c.words c.src (Streams fault)) ⊎ ((name : Name) × RefusesText c.words c.src (NoSuchNet name))
 
--- Each status comes only where its cause is.
+-- Each status but 7 comes only where its cause is; of 0 a command was asked.
 pub record HaveCauses (c : Call) (status : ℕ) : Type 0 where
   pub at_fault : status ≡ 1 → (text : List ℕ) × (fault : Fault) × GaveAll c.src text × IsAtFault text fault
   pub usage : status ≡ 2 → IsCommand c.words → ⊥

@@ -1,4 +1,4 @@
-// An order of cells in which the next is the one that ends most values. Of what is found only the range is told: who takes it checks it.
+// An order of cells in which the next is the one that is worth most. Of what is found only the range is told: who takes it checks it.
 ghost use Rattle.std.specs.Prelude.{◌≤◌, ◌<◌, length, All, IfOk};
 
 use crate::OrderError;
@@ -32,6 +32,13 @@ struct Pending {
     is_taken: bool,
 }
 
+// A cell before it is known what it reads.
+const WAITS_FOR_NOTHING: Pending = Pending {
+    waits: 0,
+    worth: 0,
+    is_taken: false,
+};
+
 // What a value with so many uses left adds to the worth of a cell that reads it: the fewer uses the more, if they are fewer than `reach`, and
 // much more where it is the last.
 fn worth(reach: u32, uses: u32) -> u32 {
@@ -55,32 +62,31 @@ struct Search {
     ready: BinaryHeap<(u32, Reverse<u32>)>,
 }
 
+// So many values that nothing reads.
+fn unread_values(alloc: Global, count: usize) -> Result<Vec<Value>, OrderError> {
+    let mut values = Vec::with_capacity(alloc, count)?;
+    for _value in 0..count {
+        values.push(Value {
+            readers: Vec::new(alloc),
+            uses: 0,
+        })?;
+    }
+    Ok(values)
+}
+
 impl Search {
+    // Before anything is read.
     fn begin(alloc: Global, list: &CellList, reach: u32) -> Result<Search, OrderError> {
         let inputs = list.inputs as usize;
         let latches = list.starts.len();
         let cells = list.cells.len();
-        let mut values = Vec::new(alloc);
-        for _ in 0..inputs.saturating_add(latches).saturating_add(cells) {
-            values.push(Value {
-                readers: Vec::new(alloc),
-                uses: 0,
-            })?;
-        }
-        let mut pending = Vec::with_capacity(alloc, cells)?;
-        for _ in 0..cells {
-            pending.push(Pending {
-                waits: 0,
-                worth: 0,
-                is_taken: false,
-            })?;
-        }
+        let count = inputs.saturating_add(latches).saturating_add(cells);
         Ok(Search {
             reach,
             inputs,
             latches,
-            values,
-            pending,
+            values: unread_values(alloc, count)?,
+            pending: vec![in alloc; WAITS_FOR_NOTHING; cells]?,
             ready: BinaryHeap::new(alloc),
         })
     }
@@ -108,6 +114,13 @@ impl Search {
             if let Some(value) = self.values.get_mut(number) {
                 value.uses = value.uses.saturating_add(1);
             }
+        }
+    }
+
+    // Ports read their sources.
+    fn read_by_ports(&mut self, sources: &[Src]) {
+        for src in sources {
+            self.read_by_port(*src);
         }
     }
 
@@ -168,6 +181,7 @@ impl Search {
         }
     }
 
+    // A cell that reads a value, by its number among them.
     fn reader(&self, number: usize, reader: usize) -> Option<u32> {
         let value = self.values.get(number)?;
         value.readers.get(reader).copied()
@@ -234,18 +248,15 @@ impl Search {
 
     // What cells and ports read.
     fn read(&mut self, list: &CellList) -> Result<(), OrderError> {
-        for src in list.outs.as_slice() {
-            self.read_by_port(*src);
-        }
-        for src in list.latches.as_slice() {
-            self.read_by_port(*src);
-        }
+        self.read_by_ports(list.outs.as_slice());
+        self.read_by_ports(list.latches.as_slice());
         for cell in 0..list.cells.len() {
             self.read_cell(list, cell)?;
         }
         Ok(())
     }
 
+    // What a cell reads.
     fn read_cell(&mut self, list: &CellList, cell: usize) -> Result<(), OrderError> {
         let Some(number) = u32::try_from(cell).ok() else {
             return Ok(());
@@ -261,11 +272,16 @@ impl Search {
         }
     }
 
-    // What all cells are worth at first: by the values that they read, and by the one that they make, whose making is a use as well.
-    fn weigh(&mut self) -> Result<(), OrderError> {
+    // What all cells are worth by the values that they read.
+    fn weigh_readers(&mut self) -> Result<(), OrderError> {
         for number in 0..self.values.len() {
             self.raise_readers(number, worth(self.reach, self.uses(number)))?;
         }
+        Ok(())
+    }
+
+    // What all cells are worth by the value that they make, whose making is a use as well.
+    fn weigh_results(&mut self) -> Result<(), OrderError> {
         for cell in 0..self.pending.len() {
             let uses = self.uses(self.made_by(cell)).saturating_add(1);
             if let Ok(number) = u32::try_from(cell) {
@@ -277,14 +293,15 @@ impl Search {
 }
 
 /// The numbers of cells of the list in another order: the next is one that waits for no other, and of these one that is worth most, as the
-/// last to read values or one of their last `reach` readers, and of these the first of the list.
+/// last reader of values or a reader of values with fewer than `reach` uses left, and of these the first of the list.
 pub fn ending_order(alloc: Global, list: &CellList, reach: u32) -> Result<Vec<u32>, OrderError>
     ensures few { IfOk result (λ order. length order.items ≤ length list.now.cells) }
     ensures below { IfOk result (λ order. All (λ cell. cell < length list.now.cells) order.items) }
 {
     let mut search = Search::begin(alloc, list, reach)?;
     search.read(list)?;
-    search.weigh()?;
+    search.weigh_readers()?;
+    search.weigh_results()?;
     let cells = list.cells.len();
     let mut order = Vec::with_capacity(alloc, cells)?;
     for _ in 0..cells {

@@ -42,8 +42,8 @@ fn with_moved(alloc: Global, list: &CellList, moved: Moved) -> Result<Option<Cel
     Ok(Some(new))
 }
 
-/// The list with its cells in an order in which the next is one of the last to read values, so that fewer values are needed at a time; how near
-/// to the last a reader must be to count is `reach`. There is none where that order leaves out a cell.
+/// The list with its cells in an order in which the next is one of the last to read values, so that fewer values are needed at a time; a
+/// value with fewer than `reach` uses left counts. There is none where that order leaves out a cell.
 pub fn reordered(alloc: Global, list: &CellList, reach: u32) -> Result<Option<CellList>, OrderError>
     ensures { IfOk result (λ new. IfSome new (ComputeAlike list.now)) }
 {

@@ -19,6 +19,10 @@ use latch_loops::close;
 use latch_loops::laws::closing_keeps_cells;
 use row_placer::place;
 use std::alloc::Global;
+use std::ops::Range;
+
+// The most cells of a list for which all orders are tried.
+const LONG_LIST: usize = 4096;
 
 // The plan of a list with its cells in the order in which they stand.
 fn planned(alloc: Global, list: &CellList) -> Result<Plan, PlanError>
@@ -79,12 +83,12 @@ fn better(alloc: Global, list: &CellList, plan: Plan, reach: u32) -> Result<Plan
     }
 }
 
-// Which orders are tried: three, and of a long list, whose placing takes long, the one that serves best alone.
-fn reaches(list: &CellList) -> (u32, u32) {
-    if list.cells.len() > 4096 {
-        (3, 4)
+// By which reaches orders are tried: 2, 3 and 4; for a list of more cells, whose placing takes long, 3 alone, which serves best.
+fn reaches(list: &CellList) -> Range<u32> {
+    if list.cells.len() > LONG_LIST {
+        3..4
     } else {
-        (2, 5)
+        2..5
     }
 }
 
@@ -101,8 +105,7 @@ pub fn plan_of(alloc: Global, list: &CellList) -> Result<Plan, PlanError>
     ensures columns { IfOk result (λ plan. length plan.columns ≤ (3 * length list.now.cells + length list.now.outs + 2 * loop_count list.now + 1) * (plan.lanes + 1)) }
 {
     let mut plan = planned(alloc, list)?;
-    let (first, end) = reaches(list);
-    for reach in first..end {
+    for reach in reaches(list) {
         plan = better(alloc, list, plan, reach)?;
     }
     Ok(plan)

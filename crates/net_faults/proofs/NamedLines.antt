@@ -14,7 +14,7 @@ use Rattle.netlist_rules.specs.Drivers.{same_name_before, same_name_up_to}
 use Rattle.net_faults.specs.declared.first_lines.FirstLines.{FirstLines}
 use Rattle.net_faults.specs.declared.numbering.Numbering.{Numbering}
 use Rattle.net_faults.specs.declared.numbering.NumberedWord.{NumberedWord}
-use Rattle.net_faults.specs.Numbering.{IsNumbered, IsNumbering, count_of, names_of, number_of, numbered_port}
+use Rattle.net_faults.specs.Numbering.{IsNumbered, IsNumbering, count_of, numbered_names, name_number, numbered_port}
 use Rattle.net_faults.specs.FirstLines.{AreFirstLines, HasNoLine, has_line, line_in}
 
 -- the lesser of two lines is early where one of them is
@@ -61,11 +61,11 @@ or_false true = refl
 or_false false = refl
 
 -- two names have one number only if they are the same
-apart : (names : Numbering) (key name : Name) (k j : ℕ) → IsNumbering names → number_of names key ≡ Some k → number_of names name ≡ Some j → bytes_eq key name ≡ false → j ≢ k
+apart : (names : Numbering) (key name : Name) (k j : ℕ) → IsNumbering names → name_number names key ≡ Some k → name_number names name ≡ Some j → bytes_eq key name ≡ false → j ≢ k
 apart names key name k j numbering has_key has_name other same =
     let one = (numbering key k has_key).1 in
     let two = (numbering name j has_name).1 in
-    let equal : key ≡ name = sym one ∙ ap (λ i. get_or (names_of names) i []) (sym same) ∙ two in
+    let equal : key ≡ name = sym one ∙ ap (λ i. get_or (numbered_names names) i []) (sym same) ∙ two in
     absurd (let clash : false ≡ true = sym other ∙ (bytes_eq-Decides key name).1 equal in cc)
 
 module _ (test : ℕ → Bool) (joins : (a b : ℕ) → test (min a b) ≡ (test a || test b)) where
@@ -73,9 +73,9 @@ module _ (test : ℕ → Bool) (joins : (a b : ℕ) → test (min a b) ≡ (test
   passes_by line None = or_false (test line)
   passes_by line (Some other) = joins line other
 
-  line_added : (names : Numbering) (lines new : FirstLines) (key : Name) (k line : ℕ) → IsNumbering names → number_of names key ≡ Some k → length lines.lines.items ≡ count_of names →
+  line_added : (names : Numbering) (lines new : FirstLines) (key : Name) (k line : ℕ) → IsNumbering names → name_number names key ≡ Some k → length lines.lines.items ≡ count_of names →
       new.lines.items ≡ set lines.lines.items k (Some (least_of line (line_in lines k))) →
-      (name : Name) (j : ℕ) → number_of names name ≡ Some j → has_line test new j ≡ ((bytes_eq key name && test line) || has_line test lines j)
+      (name : Name) (j : ℕ) → name_number names name ≡ Some j → has_line test new j ≡ ((bytes_eq key name && test line) || has_line test lines j)
   line_added names lines new key k line numbering has_key room updates name j has_name =
       ap (λ ls. option_map_or test (get_or ls j None) false) updates ∙ by (bytes_eq key name) refl
     where
@@ -87,7 +87,7 @@ module _ (test : ℕ → Bool) (joins : (a b : ℕ) → test (min a b) ≡ (test
 
       by : (b : Bool) → bytes_eq key name ≡ b → option_map_or test (get_or (set lines.lines.items k (Some (least_of line known))) j None) false ≡ ((b && test line) || has_line test lines j)
       by true e =
-          let same : k ≡ j = (let both : Some k ≡ Some j = sym has_key ∙ ap (number_of names) ((bytes_eq-Decides key name).0 e) ∙ has_name in cc) in
+          let same : k ≡ j = (let both : Some k ≡ Some j = sym has_key ∙ ap (name_number names) ((bytes_eq-Decides key name).0 e) ∙ has_name in cc) in
           ap (λ i. option_map_or test (get_or (set lines.lines.items k (Some (least_of line known))) i None) false) (sym same)
           ∙ ap (λ o. option_map_or test o false) (get_or-set_same lines.lines.items k (Some (least_of line known)) None within)
           ∙ passes_by line known
@@ -108,15 +108,15 @@ lines_more names lines new word ports is updates had = record {
     key : Name
     key = word.word.name.now
 
-    added : (test : ℕ → Bool) → ((a b : ℕ) → test (min a b) ≡ (test a || test b)) → (name : Name) (j : ℕ) → number_of names name ≡ Some j → has_line test new j ≡ ((bytes_eq key name && test word.word.line) || has_line test lines j)
+    added : (test : ℕ → Bool) → ((a b : ℕ) → test (min a b) ≡ (test a || test b)) → (name : Name) (j : ℕ) → name_number names name ≡ Some j → has_line test new j ≡ ((bytes_eq key name && test word.word.line) || has_line test lines j)
     added test joins = line_added test joins names lines new key word.number word.word.line is.numbering is.number had.room updates
 
     and_true : (b : Bool) → (b && true) ≡ b
     and_true true = refl
     and_true false = refl
 
-    other : (name : Name) → number_of names name ≡ None → (b : Bool) → bytes_eq key name ≡ b → b ≡ false
-    other name none true e = absurd (let clash : Some word.number ≡ None = sym is.number ∙ ap (number_of names) ((bytes_eq-Decides key name).0 e) ∙ none in cc)
+    other : (name : Name) → name_number names name ≡ None → (b : Bool) → bytes_eq key name ≡ b → b ≡ false
+    other name none true e = absurd (let clash : Some word.number ≡ None = sym is.number ∙ ap (name_number names) ((bytes_eq-Decides key name).0 e) ∙ none in cc)
     other name none false e = refl
 
 -- where no line is known
@@ -130,7 +130,7 @@ no_word_yet names lines none = record {
 }
 
 -- whether a name is among the words, by its number
-pub named_by : (names : Numbering) (lines : FirstLines) (ports : List Port) (name : Name) (number : Option ℕ) → number ≡ number_of names name → AreFirstLines names lines ports →
+pub named_by : (names : Numbering) (lines : FirstLines) (ports : List Port) (name : Name) (number : Option ℕ) → number ≡ name_number names name → AreFirstLines names lines ports →
     option_map_or (has_line (λ l. true) lines) number false ≡ is_named ports name
 named_by names lines ports name None is had = sym (had.unnumbered name (sym is))
 named_by names lines ports name (Some number) is had = had.named name number (sym is)
@@ -189,7 +189,7 @@ late line (Some l) e = by (nat_lt l line) refl
     by true less = absurd (let h : l < line = ltb-true l line less in let g : line < l = leb-false l line e in omega arith)
     by false less = refl
 
-pub none_before : (names : Numbering) (lines : FirstLines) (p : Port) (ports : List Port) (number : ℕ) → number_of names p.name ≡ Some number → AreFirstLines names lines ports →
+pub none_before : (names : Numbering) (lines : FirstLines) (p : Port) (ports : List Port) (number : ℕ) → name_number names p.name ≡ Some number → AreFirstLines names lines ports →
     list_any (same_name_up_to p) ports ≡ false → list_any (same_name_before p) ports ≡ false
 none_before names lines p ports number is had none = sym (had.before p number is) ∙ late p.line (line_in lines number) (had.up_to p number is ∙ none)
 

@@ -13,49 +13,49 @@ use Rattle.earliest_words.specs.declared.word.Word.{Word}
 use Rattle.earliest_words.specs.Words.{word_port, word_ports}
 use Rattle.net_faults.specs.declared.numbering.Numbering.{Numbering}
 use Rattle.net_faults.specs.declared.numbering.NumberedWord.{NumberedWord}
-use Rattle.net_faults.specs.Numbering.{AreNumbered, IsNumbered, IsNumbering, IsPut, KeepsNumbers, StandsAt, count_of, names_of, number_of, numbered_port, numbered_ports}
+use Rattle.net_faults.specs.Numbering.{AreNumbered, IsNumbered, IsNumbering, IsPut, KeepsNumbers, StandsAt, count_of, numbered_names, name_number, numbered_port, numbered_ports}
 
 -- a name that had no number gets the next one
-pub fresh_keeps : (old new : Numbering) (name : Name) (next : ℕ) → number_of old name ≡ None → IsPut old new name next → KeepsNumbers old new
+pub fresh_keeps : (old new : Numbering) (name : Name) (next : ℕ) → name_number old name ≡ None → IsPut old new name next → KeepsNumbers old new
 fresh_keeps old new name next none put other number is = put other ∙ by (bytes_eq name other) refl
   where
-    by : (b : Bool) → bytes_eq name other ≡ b → cond b (Some next) (number_of old other) ≡ Some number
-    by true e = absurd (let clash : None ≡ Some number = sym none ∙ ap (number_of old) ((bytes_eq-Decides name other).0 e) ∙ is in cc)
+    by : (b : Bool) → bytes_eq name other ≡ b → cond b (Some next) (name_number old other) ≡ Some number
+    by true e = absurd (let clash : None ≡ Some number = sym none ∙ ap (name_number old) ((bytes_eq-Decides name other).0 e) ∙ is in cc)
     by false e = is
 
 pub fresh_numbering : (old new : Numbering) (key : Bor (List ℕ)) (next : ℕ) → IsNumbering old → next ≡ count_of old → IsPut old new key.now next → new.names.items ≡ old.names.items ++ key ∷ [] → IsNumbering new
 fresh_numbering old new key next had is put pushed other number e = by (bytes_eq key.now other) refl (sym (put other) ∙ e)
   where
-    names : names_of new ≡ names_of old ++ key.now ∷ []
+    names : numbered_names new ≡ numbered_names old ++ key.now ∷ []
     names = ap (map (λ (n : Bor (List ℕ)). n.now)) pushed ∙ map-append (λ (n : Bor (List ℕ)). n.now) old.names.items (key ∷ [])
 
-    many : length (names_of old) ≡ count_of old
+    many : length (numbered_names old) ≡ count_of old
     many = length-map old.names.items (λ (n : Bor (List ℕ)). n.now)
 
     more : count_of new ≡ count_of old + 1
     more = ap length pushed ∙ length-append old.names.items (key ∷ [])
 
-    by : (b : Bool) → bytes_eq key.now other ≡ b → cond b (Some next) (number_of old other) ≡ Some number → StandsAt new other number
+    by : (b : Bool) → bytes_eq key.now other ≡ b → cond b (Some next) (name_number old other) ≡ Some number → StandsAt new other number
     by true same there =
         let here : next ≡ number = cc in
         let longer : count_of new ≡ count_of old + 1 = more in
-        ((omega arith), ap (λ ns. get_or ns number []) names ∙ ap (λ k. get_or (names_of old ++ key.now ∷ []) k []) (sym here ∙ is ∙ sym many) ∙ get_or-append_seam (names_of old) key.now [] [] ∙ (bytes_eq-Decides key.now other).0 same)
+        ((omega arith), ap (λ ns. get_or ns number []) names ∙ ap (λ k. get_or (numbered_names old ++ key.now ∷ []) k []) (sym here ∙ is ∙ sym many) ∙ get_or-append_seam (numbered_names old) key.now [] [] ∙ (bytes_eq-Decides key.now other).0 same)
     by false apart there =
         let stands = had other number there in
         let within : number < count_of old = stands.0 in
         let longer : count_of new ≡ count_of old + 1 = more in
-        let mapped : length (names_of old) ≡ count_of old = many in
-        ((omega arith), ap (λ ns. get_or ns number []) names ∙ get_or_append_left (names_of old) (key.now ∷ []) [] number (omega arith) ∙ stands.1)
+        let mapped : length (numbered_names old) ≡ count_of old = many in
+        ((omega arith), ap (λ ns. get_or ns number []) names ∙ get_or_append_left (numbered_names old) (key.now ∷ []) [] number (omega arith) ∙ stands.1)
 
 -- a name that had a number gets it back
-pub back : (old middle new : Numbering) (name : Name) (next number : ℕ) → number_of old name ≡ Some number → IsPut old middle name next → IsPut middle new name number → (other : Name) → number_of new other ≡ number_of old other
+pub back : (old middle new : Numbering) (name : Name) (next number : ℕ) → name_number old name ≡ Some number → IsPut old middle name next → IsPut middle new name number → (other : Name) → name_number new other ≡ name_number old other
 back old middle new name next number known one two other = two other ∙ ap (cond (bytes_eq name other) (Some number)) (one other) ∙ by (bytes_eq name other) refl
   where
-    by : (b : Bool) → bytes_eq name other ≡ b → cond b (Some number) (cond b (Some next) (number_of old other)) ≡ number_of old other
-    by true e = sym known ∙ ap (number_of old) ((bytes_eq-Decides name other).0 e)
+    by : (b : Bool) → bytes_eq name other ≡ b → cond b (Some number) (cond b (Some next) (name_number old other)) ≡ name_number old other
+    by true e = sym known ∙ ap (name_number old) ((bytes_eq-Decides name other).0 e)
     by false e = refl
 
-pub back_numbering : (old new : Numbering) → IsNumbering old → ((name : Name) → number_of new name ≡ number_of old name) → new.names.items ≡ old.names.items → IsNumbering new
+pub back_numbering : (old new : Numbering) → IsNumbering old → ((name : Name) → name_number new name ≡ name_number old name) → new.names.items ≡ old.names.items → IsNumbering new
 back_numbering old new had same names name number is =
     let stands = had name number (sym (same name) ∙ is) in
     let within : number < count_of old = stands.0 in
@@ -63,8 +63,8 @@ back_numbering old new had same names name number is =
     ((omega arith), ap (λ (ns : List (Bor (List ℕ))). get_or (map (λ n. n.now) ns) number []) names ∙ stands.1)
 
 -- what is put is the name's number
-pub put_there : (old new : Numbering) (name : Name) (number : ℕ) → IsPut old new name number → number_of new name ≡ Some number
-put_there old new name number put = put name ∙ ap (λ b. cond b (Some number) (number_of old name)) ((bytes_eq-Decides name name).1 refl)
+pub put_there : (old new : Numbering) (name : Name) (number : ℕ) → IsPut old new name number → name_number new name ≡ Some number
+put_there old new name number put = put name ∙ ap (λ b. cond b (Some number) (name_number old name)) ((bytes_eq-Decides name name).1 refl)
 
 -- words keep their numbers
 pub still_numbered : (old new : Numbering) (words : List NumberedWord) → IsNumbering new → KeepsNumbers old new → AreNumbered old words → AreNumbered new words
@@ -73,7 +73,7 @@ still_numbered old new words numbering keeps had i w within =
     record { numbering = numbering; number = keeps (get_or words i w).word.name.now (get_or words i w).number was.number }
 
 -- one more word
-pub numbered_more : (old new : Numbering) (words pushed : List NumberedWord) (word : NumberedWord) → pushed ≡ words ++ word ∷ [] → IsNumbering new → KeepsNumbers old new → number_of new word.word.name.now ≡ Some word.number → AreNumbered old words → AreNumbered new pushed
+pub numbered_more : (old new : Numbering) (words pushed : List NumberedWord) (word : NumberedWord) → pushed ≡ words ++ word ∷ [] → IsNumbering new → KeepsNumbers old new → name_number new word.word.name.now ≡ Some word.number → AreNumbered old words → AreNumbered new pushed
 numbered_more old new words pushed word is numbering keeps number had =
     subst (AreNumbered new) (sym is) (All-push (IsNumbered new) words word (still_numbered old new words numbering keeps had) (record { numbering = numbering; number = number }))
 

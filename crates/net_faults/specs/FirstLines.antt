@@ -7,7 +7,7 @@ use Rattle.netlist_core.specs.Names.{Name, is_named}
 use Rattle.netlist_rules.specs.Drivers.{same_name_before, same_name_up_to}
 use Rattle.net_faults.specs.declared.numbering.Numbering.{Numbering}
 use Rattle.net_faults.specs.declared.first_lines.FirstLines.{FirstLines}
-use Rattle.net_faults.specs.Numbering.{count_of, number_of}
+use Rattle.net_faults.specs.Numbering.{count_of, name_number}
 
 -- these many lines, none of them known
 abbrev pub HasNoLine : ℕ → List (Option ℕ) → Type 0
@@ -24,7 +24,7 @@ has_line test lines number = option_map_or test (line_in lines number) false
 -- They tell of these words whether a name stands on a line before another, on a line up to another, or at all.
 pub record AreFirstLines (names : Numbering) (lines : FirstLines) (ports : List Port) : Type 0 where
   pub room : length lines.lines.items ≡ count_of names
-  pub before : (p : Port) (number : ℕ) → number_of names p.name ≡ Some number → has_line (λ line. nat_lt line p.line) lines number ≡ list_any (same_name_before p) ports
-  pub up_to : (p : Port) (number : ℕ) → number_of names p.name ≡ Some number → has_line (λ line. nat_le line p.line) lines number ≡ list_any (same_name_up_to p) ports
-  pub named : (name : Name) (number : ℕ) → number_of names name ≡ Some number → has_line (λ line. true) lines number ≡ is_named ports name
-  pub unnumbered : (name : Name) → number_of names name ≡ None → is_named ports name ≡ false
+  pub before : (p : Port) (number : ℕ) → name_number names p.name ≡ Some number → has_line (λ line. nat_lt line p.line) lines number ≡ list_any (same_name_before p) ports
+  pub up_to : (p : Port) (number : ℕ) → name_number names p.name ≡ Some number → has_line (λ line. nat_le line p.line) lines number ≡ list_any (same_name_up_to p) ports
+  pub named : (name : Name) (number : ℕ) → name_number names name ≡ Some number → has_line (λ line. true) lines number ≡ is_named ports name
+  pub unnumbered : (name : Name) → name_number names name ≡ None → is_named ports name ≡ false

@@ -23,6 +23,6 @@ pub record ArePortsOf (words : NetWords) (m : Model) : Type 0 where
   pub outputs : numbered_ports words.outputs.items ≡ m.outs
 
 -- the words of the other drivers are those of this model among these
-pub record AreDriversOf (words : NetWords) (models : List Model) (m : Model) : Type 0 where
+pub record AreDriverWords (words : NetWords) (models : List Model) (m : Model) : Type 0 where
   pub others : numbered_ports words.others.items ≡ other_drivers models m
   pub unknown : numbered_ports words.unknown.items ≡ actuals models is_unknown_pin m

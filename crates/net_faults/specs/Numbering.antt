@@ -12,31 +12,31 @@ use Rattle.net_faults.specs.declared.numbering.Numbering.{Numbering}
 use Rattle.net_faults.specs.declared.numbering.NumberedWord.{NumberedWord}
 
 -- the number of a name
-abbrev pub number_of : Numbering → Name → Option ℕ
-number_of names name = get_by (λ k. slice_cmp nat_cmp name k.now) names.numbers
+abbrev pub name_number : Numbering → Name → Option ℕ
+name_number names name = get_by (λ k. slice_cmp nat_cmp name k.now) names.numbers
 
 -- the names by number, and how many there are
-abbrev pub names_of : Numbering → List Name
-names_of names = map (λ (name : Bor (List ℕ)). name.now) names.names.items
+abbrev pub numbered_names : Numbering → List Name
+numbered_names names = map (λ (name : Bor (List ℕ)). name.now) names.names.items
 
 abbrev pub count_of : Numbering → ℕ
 count_of names = length names.names.items
 
 -- the name stands at its number
 abbrev pub StandsAt : Numbering → Name → ℕ → Type 0
-StandsAt names name number = (number < count_of names) × (slice_index_or (names_of names) number [] ≡ name)
+StandsAt names name number = (number < count_of names) × (slice_index_or (numbered_names names) number [] ≡ name)
 
 -- each name that has a number stands there, so no two names have one number
 abbrev pub IsNumbering : Numbering → Type 0
-IsNumbering names = (name : Name) (number : ℕ) → number_of names name ≡ Some number → StandsAt names name number
+IsNumbering names = (name : Name) (number : ℕ) → name_number names name ≡ Some number → StandsAt names name number
 
 -- a name has this number, and every other name what it had
 abbrev pub IsPut : Numbering → Numbering → Name → ℕ → Type 0
-IsPut old new name number = (other : Name) → number_of new other ≡ cond (bytes_eq name other) (Some number) (number_of old other)
+IsPut old new name number = (other : Name) → name_number new other ≡ cond (bytes_eq name other) (Some number) (name_number old other)
 
 -- each name keeps its number
 abbrev pub KeepsNumbers : Numbering → Numbering → Type 0
-KeepsNumbers old new = (name : Name) (number : ℕ) → number_of old name ≡ Some number → number_of new name ≡ Some number
+KeepsNumbers old new = (name : Name) (number : ℕ) → name_number old name ≡ Some number → name_number new name ≡ Some number
 
 -- words without their numbers and without where their bytes lie in memory
 abbrev pub numbered_port : NumberedWord → Port
@@ -48,7 +48,7 @@ numbered_ports words = map numbered_port words
 -- the word has the number of its name
 pub record IsNumbered (names : Numbering) (w : NumberedWord) : Type 0 where
   pub numbering : IsNumbering names
-  pub number : number_of names w.word.name.now ≡ Some w.number
+  pub number : name_number names w.word.name.now ≡ Some w.number
 
 abbrev pub AreNumbered : Numbering → List NumberedWord → Type 0
 AreNumbered names words = All (IsNumbered names) words

@@ -4,7 +4,7 @@ ghost use Rattle.netlist_core.specs.declared.model.Model.{Model};
 ghost use Rattle.netlist_rules.specs.Drivers.{drivers_of};
 ghost use Rattle.placed_ports.specs.Placed.{KnowsPlaced};
 ghost use Rattle.net_faults.specs.Numbering.{AreNumbered, numbered_ports};
-ghost use Rattle.net_faults.specs.NetWords.{AreDriversOf, ArePortsOf, HaveNumbers};
+ghost use Rattle.net_faults.specs.NetWords.{AreDriverWords, ArePortsOf, HaveNumbers};
 
 use crate::drivers::other_drivers;
 use crate::numbering::{NumberedWord, Numbering};
@@ -50,7 +50,7 @@ impl<'a> NetWords<'a> {
     ) -> Result<NetWords<'a>, AllocError>
         ensures numbers { IfOk result (λ words. HaveNumbers words) }
         ensures ports { IfOk result (λ words. ArePortsOf words model.now) }
-        ensures drivers { IfOk result (λ words. (models : List Model) → KnowsPlaced placed.now models model.now → AreDriversOf words models model.now) }
+        ensures drivers { IfOk result (λ words. (models : List Model) → KnowsPlaced placed.now models model.now → AreDriverWords words models model.now) }
     {
         let mut names = Numbering::new(alloc);
         let inputs = names.number_words(alloc, &input_words(alloc, model)?)?;
@@ -72,7 +72,7 @@ impl<'a> NetWords<'a> {
     /// The drivers of the model's nets.
     pub fn drivers(&self, alloc: Global) -> Result<Vec<NumberedWord<'a>>, AllocError>
         requires { HaveNumbers self.now }
-        ensures words { IfOk result (λ words. (models : List Model) (model : Model) → ArePortsOf self.now model → AreDriversOf self.now models model →
+        ensures words { IfOk result (λ words. (models : List Model) (model : Model) → ArePortsOf self.now model → AreDriverWords self.now models model →
             numbered_ports words.items ≡ drivers_of models model) }
         ensures numbers { IfOk result (λ words. AreNumbered self.now.names words.items) }
     {

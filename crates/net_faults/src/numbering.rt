@@ -1,7 +1,7 @@
 // Names by number.
 ghost use Rattle.std.specs.Prelude.{◌≡◌, IfOk, OnOk};
 ghost use Rattle.earliest_words.specs.Words.{word_ports};
-ghost use Rattle.net_faults.specs.Numbering.{AreNumbered, IsNumbering, IsPut, KeepsNumbers, count_of, number_of, numbered_ports};
+ghost use Rattle.net_faults.specs.Numbering.{AreNumbered, IsNumbering, IsPut, KeepsNumbers, count_of, name_number, numbered_ports};
 
 use earliest_words::Word;
 use std::alloc::{AllocError, Global};
@@ -41,14 +41,14 @@ impl<'a> Numbering<'a> {
 
     /// The number of a name, if it has one.
     pub fn find(&self, name: &[u8]) -> Option<usize>
-        ensures { result ≡ number_of self.now name.now }
+        ensures { result ≡ name_number self.now name.now }
     {
         self.numbers.get(name).copied()
     }
 
     // Puts a number in the place of what is kept for a name, and answers what was kept.
     fn put(&mut self, name: &'a [u8], number: usize) -> Result<Option<usize>, AllocError>
-        ensures old { IfOk result (λ known. known ≡ number_of self.old name.now) }
+        ensures old { IfOk result (λ known. known ≡ name_number self.old name.now) }
         ensures new { OnOk result (IsPut self.old self.new name.now number) }
         ensures names { self.new.names.items ≡ self.old.names.items }
     {
@@ -58,7 +58,7 @@ impl<'a> Numbering<'a> {
     // The number of a name, the next one where it had none.
     fn number(&mut self, name: &'a [u8]) -> Result<usize, AllocError>
         requires { IsNumbering self.old }
-        ensures number { IfOk result (λ number. number_of self.new name.now ≡ Some number) }
+        ensures number { IfOk result (λ number. name_number self.new name.now ≡ Some number) }
         ensures numbering { OnOk result (IsNumbering self.new) }
         ensures keeps { OnOk result (KeepsNumbers self.old self.new) }
     {

@@ -3,7 +3,7 @@ ghost use Rattle.std.specs.Prelude.{◌≡◌, List, OnOk};
 ghost use Rattle.netlist_core.specs.declared.model.Model.{Model};
 ghost use Rattle.netlist_rules.specs.ModelFaults.{second_drivers};
 ghost use Rattle.earliest_words.specs.Words.{earliest_word, earliest_after};
-ghost use Rattle.net_faults.specs.NetWords.{AreDriversOf, ArePortsOf, HaveNumbers};
+ghost use Rattle.net_faults.specs.NetWords.{AreDriverWords, ArePortsOf, HaveNumbers};
 
 use crate::net_words::NetWords;
 use crate::repeats::offer_repeats;
@@ -17,7 +17,7 @@ pub fn offer_second_drivers<'a>(
     earliest: &mut Earliest<'a>,
 ) -> Result<(), AllocError>
     requires { HaveNumbers words.now }
-    ensures { OnOk result ((models : List Model) (model : Model) → ArePortsOf words.now model → AreDriversOf words.now models model →
+    ensures { OnOk result ((models : List Model) (model : Model) → ArePortsOf words.now model → AreDriverWords words.now models model →
         earliest_word earliest.new ≡ earliest_after (earliest_word earliest.old) (second_drivers models model)) }
 {
     let drivers = words.drivers(alloc)?;

@@ -7,7 +7,7 @@ ghost use Rattle.netlist_rules.specs.ModelFaults.{unless_named, undriven_reading
 ghost use Rattle.earliest_words.specs.Words.{word_ports, earliest_word, earliest_after};
 ghost use Rattle.placed_ports.specs.Placed.{KnowsPlaced};
 ghost use Rattle.net_faults.specs.FirstLines.{AreFirstLines};
-ghost use Rattle.net_faults.specs.NetWords.{AreDriversOf, ArePortsOf, HaveNumbers};
+ghost use Rattle.net_faults.specs.NetWords.{AreDriverWords, ArePortsOf, HaveNumbers};
 
 use crate::first_lines::FirstLines;
 use crate::net_words::{NetWords, push_words};
@@ -38,7 +38,7 @@ fn offer_unnamed<'a>(
 // The lines of the drivers of a model's nets, among which the actuals of unknown pins count here.
 fn driver_lines(alloc: Global, words: &NetWords<'_>) -> Result<FirstLines, AllocError>
     requires numbers { HaveNumbers words.now }
-    ensures { IfOk result (λ lines. (models : List Model) (model : Model) → ArePortsOf words.now model → AreDriversOf words.now models model →
+    ensures { IfOk result (λ lines. (models : List Model) (model : Model) → ArePortsOf words.now model → AreDriverWords words.now models model →
         AreFirstLines words.now.names lines (drivers_of models model ++ actuals models is_unknown_pin model)) }
 {
     let mut drivers = words.drivers(alloc)?;
@@ -56,7 +56,7 @@ pub fn offer_undriven<'a>(
 ) -> Result<(), AllocError>
     requires numbers { HaveNumbers words.now }
     requires ports { ArePortsOf words.now model.now }
-    ensures { OnOk result ((models : List Model) → KnowsPlaced placed.now models model.now → AreDriversOf words.now models model.now →
+    ensures { OnOk result ((models : List Model) → KnowsPlaced placed.now models model.now → AreDriverWords words.now models model.now →
         earliest_word earliest.new ≡ earliest_after (earliest_word earliest.old) (undriven_readings models model.now)) }
 {
     let drivers = driver_lines(alloc, words)?;

@@ -9,22 +9,15 @@ use Rattle.cell_core.specs.declared.cells.Src.TheVariants.{Input, Latch, One, Ze
 use Rattle.cell_core.specs.declared.cells.Cell.{Cell}
 use Rattle.cell_core.specs.declared.cells.Cell.TheVariants.{Or, Xor, AndNot}
 use Rattle.cell_core.specs.declared.list.CellList.{CellList}
-use Rattle.cell_core.specs.Sources.{is_there, reads_there, are_in_order, are_there, is_one, reads_one, read_one}
+use Rattle.cell_core.specs.Sources.{is_there, reads_there, are_there, is_one, reads_one, read_one}
 use Rattle.cell_core.specs.Loops.{names_one}
+use Rattle.cell_core.proofs.OwnBits.{cell_in_order}
 use Rattle.row_placer.specs.Numbers.{IsThere, ReadsThere, ReadsWhatIsThere}
 
 all_at : {X : Type 0} (p : X → Bool) (xs : List X) (i : ℕ) (d : X) → i < length xs → list_all p xs ≡ true → p (get_or xs i d) ≡ true
 all_at p [] i d within all = absurd (omega (arith, within))
 all_at p (x ∷ xs) zero d within all = (and_parts (p x) (list_all p xs) all).0
 all_at p (x ∷ xs) (suc i) d within all = all_at p xs i d (omega (arith, within)) (and_parts (p x) (list_all p xs) all).1
-
-order_at : (inputs latches made : ℕ) (cells : List Cell) (g : ℕ) (d : Cell) → g < length cells → are_in_order inputs latches made cells ≡ true → reads_there inputs latches (made + g) (get_or cells g d) ≡ true
-order_at inputs latches made [] g d within order = absurd (omega (arith, within))
-order_at inputs latches made (cell ∷ cells) zero d within order =
-    (let e : made + 0 ≡ made = omega arith in ap (λ n. reads_there inputs latches n cell) e) ∙ (and_parts (reads_there inputs latches made cell) (are_in_order inputs latches (suc made) cells) order).0
-order_at inputs latches made (cell ∷ cells) (suc g) d within order =
-    (let e : made + suc g ≡ suc made + g = omega arith in ap (λ n. reads_there inputs latches n (get_or cells g d)) e)
-    ∙ order_at inputs latches (suc made) cells g d (omega (arith, within)) (and_parts (reads_there inputs latches made cell) (are_in_order inputs latches (suc made) cells) order).1
 
 src_there : (list : CellList) (n : ℕ) (src : Src) → is_there list.inputs (length list.starts) n src ≡ true → (is_one src ≡ true → names_one list ≡ true) → IsThere list n src
 src_there list n (Input i) there one = ltb-true i list.inputs there
@@ -52,7 +45,7 @@ all_there list srcs there one i d within =
 pub sound : (list : CellList) → ReadsWhatIsThere list
 sound list = record {
   fits = sym list.starts_fit;
-  cells = λ g d within. cell_there list g (get_or list.cells g d) ((let e : 0 + g ≡ g = omega arith in ap (λ n. reads_there list.inputs (length list.starts) n (get_or list.cells g d)) (sym e)) ∙ order_at list.inputs (length list.starts) 0 list.cells g d within list.in_order)
+  cells = λ g d within. cell_there list g (get_or list.cells g d) ((let e : 0 + g ≡ g = omega arith in ap (λ n. reads_there list.inputs (length list.starts) n (get_or list.cells g d)) (sym e)) ∙ cell_in_order list.inputs (length list.starts) 0 list.cells g d within list.in_order)
       (λ h. in_cells (list_any_at reads_one list.cells g d within h));
   outs = all_there list list.outs list.outs_there in_outs;
   latches = all_there list list.latches list.latches_there in_latches;

@@ -1,6 +1,5 @@
 // What lists of words ask for.
 use command_words::{Command, View, WordsError, command_of};
-use std::alloc::Global;
 use std::test::Fail;
 
 // What is asked for, with the stream words.
