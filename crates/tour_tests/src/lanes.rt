@@ -1,7 +1,7 @@
 // What stands on the lanes, column after column.
-use crate::stages::name_of;
+use crate::stages::name_at;
 use lane_core::{Column, Instr, Plan};
-use netlist_core::{Flat, NetId};
+use netlist_core::Flat;
 use std::alloc::{AllocError, Global};
 
 /// What stands on each lane: a net's name, a gate's result that no net names, or nothing.
@@ -69,7 +69,7 @@ impl Lanes {
     ) -> Result<(), AllocError> {
         for (net, place) in plan.nets.as_slice().iter().enumerate() {
             if place.after == after {
-                self.put(place.lane, name_of(alloc, flat, NetId(net as u32))?);
+                self.put(place.lane, name_at(alloc, flat, net)?);
             }
         }
         Ok(())

@@ -14,10 +14,15 @@ use std::test::Fail;
 const TOGGLE: &[u8] =
     b".model toggle\n.inputs en\n.outputs q\n.latch n q 0\n.names en q n\n10 1\n01 1\n.end\n";
 
-/// The name of a net.
-pub fn name_of(alloc: Global, flat: &Flat, net: NetId) -> Result<String, AllocError> {
+// The name of a net.
+fn name_of(alloc: Global, flat: &Flat, net: NetId) -> Result<String, AllocError> {
+    name_at(alloc, flat, net.0 as usize)
+}
+
+/// The name of the net at a position, or nothing where there is none.
+pub fn name_at(alloc: Global, flat: &Flat, net: usize) -> Result<String, AllocError> {
     let mut name = String::new(alloc);
-    if let Some(known) = flat.nets.as_slice().get(net.0 as usize) {
+    if let Some(known) = flat.nets.as_slice().get(net) {
         for byte in known.name.as_slice() {
             name.push(*byte as char)?;
         }
@@ -47,11 +52,7 @@ fn push_node(
 fn flat_stage(alloc: Global, flat: &Flat) -> Result<String, AllocError> {
     let mut page = format!(in alloc; "weight {}\n", flat.weight)?;
     for number in 0..flat.nets.len() {
-        writeln!(
-            page,
-            "net {number}: {}",
-            name_of(alloc, flat, NetId(number as u32))?
-        )?;
+        writeln!(page, "net {number}: {}", name_at(alloc, flat, number)?)?;
     }
     for (number, port) in flat.ins.as_slice().iter().enumerate() {
         writeln!(page, "input {number}: {}", name_of(alloc, flat, port.net)?)?;
