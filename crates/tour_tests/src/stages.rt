@@ -4,7 +4,7 @@ use crate::page::{CELLS, FLAT, LANES};
 use cell_core::{CellList, Src};
 use cover_mapper::map;
 use flat_designs::{flat_is_sound, flat_is_weighed};
-use netlist_core::{Flat, NetId, Node};
+use netlist_core::{Flat, FlatPort, NetId, Node};
 use netlist_plans::plan_netlist;
 use netlist_text::netlist_of;
 use std::alloc::{AllocError, Global};
@@ -48,21 +48,34 @@ fn push_node(
     writeln!(page, ", line {}", node.line)
 }
 
-// The nets of a flat netlist, its ports, covers and latches.
-fn flat_stage(alloc: Global, flat: &Flat) -> Result<String, AllocError> {
-    let mut page = format!(in alloc; "weight {}\n", flat.weight)?;
+fn push_nets(page: &mut String, alloc: Global, flat: &Flat) -> Result<(), AllocError> {
     for number in 0..flat.nets.len() {
         writeln!(page, "net {number}: {}", name_at(alloc, flat, number)?)?;
     }
-    for (number, port) in flat.ins.as_slice().iter().enumerate() {
-        writeln!(page, "input {number}: {}", name_of(alloc, flat, port.net)?)?;
+    Ok(())
+}
+
+fn push_ports(
+    page: &mut String,
+    alloc: Global,
+    flat: &Flat,
+    what: &str,
+    ports: &[FlatPort],
+) -> Result<(), AllocError> {
+    for (number, port) in ports.iter().enumerate() {
+        writeln!(page, "{what} {number}: {}", name_of(alloc, flat, port.net)?)?;
     }
-    for (number, port) in flat.outs.as_slice().iter().enumerate() {
-        writeln!(page, "output {number}: {}", name_of(alloc, flat, port.net)?)?;
-    }
+    Ok(())
+}
+
+fn push_nodes(page: &mut String, alloc: Global, flat: &Flat) -> Result<(), AllocError> {
     for (number, node) in flat.nodes.as_slice().iter().enumerate() {
-        push_node(&mut page, alloc, flat, number, node)?;
+        push_node(page, alloc, flat, number, node)?;
     }
+    Ok(())
+}
+
+fn push_latches(page: &mut String, alloc: Global, flat: &Flat) -> Result<(), AllocError> {
     for (number, latch) in flat.latches.as_slice().iter().enumerate() {
         let data = name_of(alloc, flat, latch.input)?;
         let output = name_of(alloc, flat, latch.output)?;
@@ -72,6 +85,17 @@ fn flat_stage(alloc: Global, flat: &Flat) -> Result<String, AllocError> {
             latch.init
         )?;
     }
+    Ok(())
+}
+
+// The nets of a flat netlist, its ports, covers and latches.
+fn flat_stage(alloc: Global, flat: &Flat) -> Result<String, AllocError> {
+    let mut page = format!(in alloc; "weight {}\n", flat.weight)?;
+    push_nets(&mut page, alloc, flat)?;
+    push_ports(&mut page, alloc, flat, "input", flat.ins.as_slice())?;
+    push_ports(&mut page, alloc, flat, "output", flat.outs.as_slice())?;
+    push_nodes(&mut page, alloc, flat)?;
+    push_latches(&mut page, alloc, flat)?;
     Ok(page)
 }
 
