@@ -3,7 +3,7 @@ use Rattle.std.proofs.Common.{◌≡◌, refl, sym, ap, subst, ℕ, Bool, true, 
 use Rattle.std.proofs.lemmas.Bool.{true≢false}
 use Rattle.std.proofs.lemmas.Option.{none-some, same_Some}
 use Rattle.cell_core.specs.declared.cells.Src.{Src}
-use Rattle.cell_core.specs.declared.cells.Src.TheVariants.{One, Zero}
+use Rattle.cell_core.specs.declared.cells.Src.TheVariants.{Zero}
 use Rattle.cell_core.specs.declared.list.CellList.{CellList}
 use Rattle.netlist_meaning.specs.CoverValue.{product_holds, any_holds, cover_value}
 use Rattle.cover_cells.specs.Grown.{bits_of}

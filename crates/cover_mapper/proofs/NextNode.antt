@@ -29,7 +29,7 @@ use Rattle.cover_cells.specs.Grown.{Grows, IsCell, bits_of}
 use Rattle.cover_cells.specs.Singles.{constant_source, single_cell}
 use Rattle.cover_cells.proofs.Growing.{grows, grows_refl}
 use Rattle.cover_mapper.specs.Needs.{needs_one, any_needs_one}
-use Rattle.cover_mapper.specs.Sourced.{ClassSources, AreSourced, AreMapped, IsAmongFirst, HasSingle, HasConstant, constant_of, source_at}
+use Rattle.cover_mapper.specs.Sourced.{ClassSources, AreSourced, AreMapped, IsAmongFirst, HasSingle, HasConstant, source_at}
 use Rattle.cover_mapper.proofs.Known.{IsKnown, AreKnown, all_bits, any_one}
 use Rattle.cover_mapper.proofs.Sourcing.{class_within, sourced_more}
 
