@@ -1,8 +1,15 @@
--- Covers of two nets that are one cell.
-use Rattle.std.specs.Prelude.{◌≡◌, ℕ, Bool, true, false, ◌&&◌, ◌||◌, cond, List, [], ◌∷◌, Option, Some, None, codes, bytes_eq}
+-- Covers that are a constant by their text, and covers of two nets that are one cell.
+use Rattle.std.specs.Prelude.{◌≡◌, ℕ, zero, suc, Bool, true, false, ◌&&◌, ◌||◌, cond, List, [], ◌∷◌, Option, Some, None, codes, bytes_eq}
 use Rattle.cell_core.specs.declared.cells.Src.{Src}
+use Rattle.cell_core.specs.declared.cells.Src.TheVariants.{One, Zero}
 use Rattle.cell_core.specs.declared.cells.Cell.{Cell}
 use Rattle.cell_core.specs.declared.cells.Cell.TheVariants.{Or, Xor, AndNot}
+
+-- the constant that a cover of so many nets is by its text: 0 without rows; of no nets, what its rows end in
+abbrev pub constant_source : ℕ → List (List ℕ) → Bool → Option Src
+constant_source nets [] on = Some Zero
+constant_source zero (row ∷ rows) on = Some (cond on One Zero)
+constant_source (suc nets) (row ∷ rows) on = None
 
 abbrev pub is_only : List (List ℕ) → List ℕ → Bool
 is_only [] a = false

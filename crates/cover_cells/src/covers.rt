@@ -1,4 +1,4 @@
-// A cover as cells: one cell, or cells that a search found, or its rows.
+// A cover as cells: a constant, one cell, or cells that a search found, or its rows.
 ghost use Rattle.std.specs.Prelude.{◌≡◌, ◌==◌, [], ◌⊎◌, ◌≤◌, ◌*◌, min, true, length, IsTrue, IfOk, IfSome, Some};
 ghost use Rattle.std.specs.List.{list_any};
 ghost use Rattle.netlist_core.specs.OwnWeight.{literals, rows_weight};
@@ -7,15 +7,16 @@ ghost use Rattle.cell_core.specs.Sources.{is_one, reads_one, read_one};
 ghost use Rattle.cover_cells.specs.Grown.{HasSources, bits_of, Answers, IsCell};
 ghost use Rattle.cover_cells.specs.Covers.{has_no_positive, CoverNeedsOne, AnswersCover};
 ghost use Rattle.cover_cells.specs.Placed.{ReadsOne};
-ghost use Rattle.cover_cells.specs.Singles.{single_cell};
+ghost use Rattle.cover_cells.specs.Singles.{constant_source, single_cell};
 ghost use Rattle.cell_core.specs.declared.cells.Cell.{Cell};
+ghost use Rattle.cell_core.specs.declared.cells.Src.{Src};
 ghost use Rattle.cover_cells.specs.Suits.{Suits, StandsAlone, ReadsOneRoot};
 
 use crate::placed::{place, relocated};
 use crate::rows::map_rows;
 use crate::search::{Found, search};
 use crate::shared::{Places, share};
-use crate::singles::single_cell;
+use crate::singles::{constant_source, single_cell};
 use crate::words::{computes, rows_word};
 use cell_core::{Cell, CellError, CellList, Src};
 use lists::Bytes;
@@ -154,7 +155,12 @@ pub fn map_cover(
     ensures value { IfOk result (AnswersCover list.old list.new sources.now rows.now on) }
     ensures single { IfOk result (λ src. (cell : Cell) → single_cell sources.now rows.now on ≡ Some cell →
         IsCell list.new src cell) }
+    ensures constant { IfOk result (λ src. (constant : Src) → constant_source (length sources.now) rows.now on ≡ Some constant →
+        src ≡ constant) }
 {
+    if let Some(src) = constant_source(sources.len(), rows, on) {
+        return Ok(src);
+    }
     if let Some(cell) = single_cell(sources, rows, on) {
         return add_single(list, places, alloc, sources, rows, on, cell);
     }

@@ -1,9 +1,22 @@
-// Covers of two nets that are one cell.
+// Covers that are a constant by their text, and covers of two nets that are one cell.
 ghost use Rattle.std.specs.Prelude.{◌≡◌};
-ghost use Rattle.cover_cells.specs.Singles.{is_only, are_both, are_pair, cell_of_rows, single_cell};
+ghost use Rattle.cover_cells.specs.Singles.{is_only, are_both, are_pair, cell_of_rows, constant_source, single_cell};
 
 use cell_core::{Cell, Src};
 use lists::Bytes;
+
+// The constant that a cover of so many nets is by its text.
+pub fn constant_source(nets: usize, rows: &[Bytes], on: bool) -> Option<Src>
+    ensures { result ≡ constant_source nets rows.now on }
+{
+    if rows.is_empty() {
+        return Some(Src::Zero);
+    }
+    if nets > 0 {
+        return None;
+    }
+    if on { Some(Src::One) } else { Some(Src::Zero) }
+}
 
 fn is_only(rows: &[Bytes], a: &[u8]) -> bool
     ensures { result ≡ is_only rows.now a.now }

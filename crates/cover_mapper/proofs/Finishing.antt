@@ -30,7 +30,7 @@ use Rattle.cover_cells.specs.Grown.{Grows}
 use Rattle.cover_mapper.specs.Listed.{listed_classes}
 use Rattle.cover_mapper.specs.Needs.{any_needs_one, covers_weight}
 use Rattle.cover_mapper.specs.Mapped.{IsMapped, HasBits}
-use Rattle.cover_mapper.specs.Sourced.{ClassSources, AreSourced, HasSingle, IsComplete, sources_at, source_at}
+use Rattle.cover_mapper.specs.Sourced.{ClassSources, AreSourced, HasSingle, HasConstant, IsComplete, sources_at, source_at}
 use Rattle.cover_mapper.proofs.Known.{IsKnown, AreKnown, known_at, all_gathered, all_there, all_bits, any_one}
 use Rattle.cover_mapper.proofs.NextNode.{Made}
 use Rattle.cover_mapper.proofs.Weights.{weigh_at_most}
@@ -183,6 +183,9 @@ finished flat sound list new sources whole has =
           let (j, within, is) = node_number flat whole.order whole.ordered n lt in
           let (k, at, cell_at) = subst (HasSingle flat list sources) is (whole.mapped.single j within) cell e in
           (k, at, ap (λ (cells : List Cell). slice_get cells k) has.cells ∙ cell_at);
+      constant = λ n src lt e.
+          let (j, within, is) = node_number flat whole.order whole.ordered n lt in
+          subst (HasConstant flat sources) is (whole.mapped.constant j within) src e;
       few = let e : length new.cells ≡ length grown.more = ap length has.cells ∙ ap length cells in
           let w : sum_by (λ n. rows_weight (node_at flat n).rows) whole.order ≤ covers_weight flat = weigh_at_most (λ (node : Node). rows_weight node.rows) flat.nodes no_node whole.order whole.ordered.once whole.ordered.nodes in
           omega (arith, e, grown.few, w);

@@ -26,10 +26,10 @@ use Rattle.cell_core.specs.Sources.{is_one}
 use Rattle.netlist_core.specs.OwnWeight.{rows_weight}
 use Rattle.cover_cells.specs.Covers.{has_no_positive, CoverNeedsOne, AnswersCover}
 use Rattle.cover_cells.specs.Grown.{Grows, IsCell, bits_of}
-use Rattle.cover_cells.specs.Singles.{single_cell}
+use Rattle.cover_cells.specs.Singles.{constant_source, single_cell}
 use Rattle.cover_cells.proofs.Growing.{grows, grows_refl}
 use Rattle.cover_mapper.specs.Needs.{needs_one, any_needs_one}
-use Rattle.cover_mapper.specs.Sourced.{ClassSources, AreSourced, AreMapped, IsAmongFirst, HasSingle, source_at}
+use Rattle.cover_mapper.specs.Sourced.{ClassSources, AreSourced, AreMapped, IsAmongFirst, HasSingle, HasConstant, source_at}
 use Rattle.cover_mapper.proofs.Known.{IsKnown, AreKnown, all_bits, any_one}
 use Rattle.cover_mapper.proofs.Sourcing.{class_within, sourced_more}
 
@@ -104,8 +104,9 @@ is_new flat sound order ordered list sources k n within is first class same (src
 pub node_mapped : (flat : Flat) → IsSound flat → (order : List ℕ) → IsOrder flat order → (old l l' : CellList) (sources : ClassSources) (k n class : ℕ) (node : Node) (ins : List Src) (src : Src)
     → k < length order → n ≡ get_or order k 0 → node ≡ node_at flat n → class ≡ out_class flat n → AreMapped flat old l sources (take k order)
     → ins ≡ map (source_at sources) (in_classes flat n) → AnswersCover l l' ins node.rows node.on src → ((cell : Cell) → single_cell ins node.rows node.on ≡ Some cell → IsCell l' src cell)
+    → ((constant : Src) → constant_source (length ins) node.rows node.on ≡ Some constant → src ≡ constant)
     → AreMapped flat old l' (set sources class (Some src)) (take (k + 1) order)
-node_mapped flat sound order ordered old l l' sources k n class node ins src within is is_at same first are answer single =
+node_mapped flat sound order ordered old l l' sources k n class node ins src within is is_at same first are answer single constant =
     record {
       sourced = sourced_more flat (Made flat (take k order)) (Made flat (take (k + 1) order)) l l' sources (FlatDriver.node n) class src _ _ sound first.sourced (is_node, sym same)
           (omega (arith, same, class_within flat sound.in_range (node_at flat n).out (All-get_or (λ (m : Node). IsNetId flat m.out) flat.nodes n no_node is_node sound.in_range.node_outs)))
@@ -113,7 +114,8 @@ node_mapped flat sound order ordered old l l' sources k n class node ins src wit
       grows = grows old l l' _ _ _ _ _ _ first.grows answer.grows (λ e. e) needs
           (let e : sum_by (λ m. rows_weight (node_at flat m).rows) (take (k + 1) order) ≡ sum_by (λ m. rows_weight (node_at flat m).rows) (take k order) + rows_weight (node_at flat (get_or order k 0)).rows = sum_by_more (λ m. rows_weight (node_at flat m).rows) order k 0 within in
           let f : rows_weight (node_at flat (get_or order k 0)).rows ≡ rows_weight node.rows = ap (λ m. rows_weight (node_at flat m).rows) (sym is) ∙ ap (λ (m : Node). rows_weight m.rows) (sym is_at) in omega (arith, e, f));
-      single = λ j lt. ⊎_elim (λ before. earlier j before) (λ e. subst (HasSingle flat l' news) (sym (get_or-take (k + 1) order j 0 (omega (arith, lt, long)) ∙ ap (λ i. get_or order i 0) e ∙ sym is)) last) (last_or j (omega (arith, lt, long)));
+      single = by_place (HasSingle flat l' news) earlier last;
+      constant = by_place (HasConstant flat news) earlier_constant last_constant;
     }
   where
     news : ClassSources
@@ -145,8 +147,11 @@ node_mapped flat sound order ordered old l l' sources k n class node ins src wit
     this : Contains (take (k + 1) order) n
     this = subst (λ l. Contains l n) (sym (take_more order k 0 within)) (subst (Contains (take k order ++ get_or order k 0 ∷ [])) (sym is) (Contains-push (take k order) (get_or order k 0)))
 
+    ins_many : length ins ≡ length (node_at flat n).ins
+    ins_many = ap length are ∙ length-map (in_classes flat n) (source_at sources) ∙ length-map (node_at flat n).ins (class_of flat)
+
     row_case : list_any (has_no_positive (length ins)) node.rows ≡ true → needs_one node ≡ true
-    row_case e = or_left _ _ (ap (λ m. list_any (has_no_positive m) node.rows) (ap (λ (m : Node). length m.ins) is_at ∙ sym (ap length are ∙ length-map (in_classes flat n) (source_at sources) ∙ length-map (node_at flat n).ins (class_of flat))) ∙ e)
+    row_case e = or_left _ _ (ap (λ m. list_any (has_no_positive m) node.rows) (ap (λ (m : Node). length m.ins) is_at ∙ sym ins_many) ∙ e)
 
     off_case : (node.on ≡ false) × (node.rows ≢ []) → needs_one node ≡ true
     off_case h = or_right _ _ (and_from _ _ (ap not h.0) (ap not (ne_eqb (length node.rows) 0 (λ e. h.1 (nil_from_length node.rows e)))))
@@ -179,26 +184,46 @@ node_mapped flat sound order ordered old l l' sources k n class node ins src wit
     all_stay [] has = refl
     all_stay (c ∷ classes) has = ap₂ (λ (s : Src) (l : List Src). s ∷ l) (stays c (has 0 (omega arith))) (all_stay classes (λ p lt. has (suc p) (omega (arith, lt))))
 
-    earlier : (j : ℕ) → j < k → HasSingle flat l' news (get_or (take (k + 1) order) j 0)
-    earlier j lt =
+    -- what holds of the earlier nodes and of this one
+    by_place : (P : ℕ → Type 0) → ((j : ℕ) → j < k → P (get_or order j 0)) → P n → (j : ℕ) → j < length (take (k + 1) order) → P (get_or (take (k + 1) order) j 0)
+    by_place P before here j lt =
+        subst P (sym (get_or-take (k + 1) order j 0 (omega (arith, lt, long))))
+        (⊎_elim (before j) (λ e. subst P (is ∙ ap (λ i. get_or order i 0) (sym e)) here) (last_or j (omega (arith, lt, long))))
+
+    earlier_within : (j : ℕ) → j < k → j < length (take k order)
+    earlier_within j lt = omega (arith, lt, length-take-le k order (omega (arith, within)))
+
+    out_stays : (j : ℕ) → j < k → source_at news (out_class flat (get_or order j 0)) ≡ source_at sources (out_class flat (get_or order j 0))
+    out_stays j lt =
         let m = get_or order j 0 in
-        let at : get_or (take (k + 1) order) j 0 ≡ m = get_or-take (k + 1) order j 0 (omega (arith, lt)) in
-        let at' : get_or (take k order) j 0 ≡ m = get_or-take k order j 0 lt in
-        let before : HasSingle flat l sources m = subst (HasSingle flat l sources) at' (first.single j (omega (arith, lt, length-take-le k order (omega (arith, within))))) in
-        let has : AreKnown sources (in_classes flat m) = reads_known flat sound order ordered l sources j k (omega (arith, lt)) (omega (arith, within)) (omega (arith, lt, within)) first.sourced in
         let is_m : m < length flat.nodes = All-get_or (λ i. i < length flat.nodes) order j 0 (omega (arith, lt, within)) ordered.nodes in
-        let lt_k : j < length (take k order) = omega (arith, lt, length-take-le k order (omega (arith, within))) in
-        let has_out : IsKnown sources (out_class flat m) = first.sourced.all (out_class flat m) (FlatDriver.node m) (is_m, refl) (j, lt_k, get_or_default_zero (take k order) j m lt_k ∙ at') in
-        subst (HasSingle flat l' news) (sym at)
-        (λ cell e. subst (λ s. IsCell l' s cell) (sym (stays (out_class flat m) has_out))
-        (cell_after l l' _ _ answer.grows (source_at sources (out_class flat m)) cell (before cell (ap (λ s. single_cell s (node_at flat m).rows (node_at flat m).on) (sym (all_stay (in_classes flat m) has)) ∙ e))))
+        let listed : get_or (take k order) j m ≡ m = get_or_default_zero (take k order) j m (earlier_within j lt) ∙ get_or-take k order j 0 lt in
+        stays (out_class flat m) (first.sourced.all (out_class flat m) (FlatDriver.node m) (is_m, refl) (j, earlier_within j lt, listed))
+
+    earlier : (j : ℕ) → j < k → HasSingle flat l' news (get_or order j 0)
+    earlier j lt cell e =
+        let m = get_or order j 0 in
+        let before : HasSingle flat l sources m = subst (HasSingle flat l sources) (get_or-take k order j 0 lt) (first.single j (earlier_within j lt)) in
+        let has : AreKnown sources (in_classes flat m) = reads_known flat sound order ordered l sources j k (omega (arith, lt)) (omega (arith, within)) (omega (arith, lt, within)) first.sourced in
+        subst (λ s. IsCell l' s cell) (sym (out_stays j lt))
+        (cell_after l l' _ _ answer.grows (source_at sources (out_class flat m)) cell (before cell (ap (λ s. single_cell s (node_at flat m).rows (node_at flat m).on) (sym (all_stay (in_classes flat m) has)) ∙ e)))
+
+    earlier_constant : (j : ℕ) → j < k → HasConstant flat news (get_or order j 0)
+    earlier_constant j lt value e = out_stays j lt ∙ subst (HasConstant flat sources) (get_or-take k order j 0 lt) (first.constant j (earlier_within j lt)) value e
+
+    out_is : source_at news (out_class flat n) ≡ src
+    out_is = ap (λ c. source_at news c) (sym same) ∙ ap (λ o. unwrap_or o Zero) (get_or-set_same sources class (Some src) None in_class)
 
     last : HasSingle flat l' news n
     last cell e =
-        subst (λ s. IsCell l' s cell) (sym (ap (λ c. source_at news c) (sym same) ∙ ap (λ o. unwrap_or o Zero) (get_or-set_same sources class (Some src) None in_class)))
+        subst (λ s. IsCell l' s cell) (sym out_is)
         (single cell (ap (λ (m : Node). single_cell ins m.rows m.on) is_at ∙ ap (λ s. single_cell s (node_at flat n).rows (node_at flat n).on) (are ∙ sym (all_stay (in_classes flat n) known)) ∙ e))
+
+    last_constant : HasConstant flat news n
+    last_constant value e =
+        out_is ∙ constant value (ap (λ (m : Node). constant_source (length ins) m.rows m.on) is_at ∙ ap (λ count. constant_source count (node_at flat n).rows (node_at flat n).on) ins_many ∙ e)
 
 -- before the first node
 pub first_mapped : (flat : Flat) (list : CellList) (sources : ClassSources) → AreSourced flat (Made flat []) list sources → AreMapped flat list list sources []
 first_mapped flat list sources first =
-    record { sourced = first; grows = grows_refl list (any_needs_one flat ≡ true); single = λ j lt. absurd (omega (arith, lt)) }
+    record { sourced = first; grows = grows_refl list (any_needs_one flat ≡ true); single = λ j lt. absurd (omega (arith, lt)); constant = λ j lt. absurd (omega (arith, lt)) }

@@ -12,7 +12,7 @@ use Rattle.cell_core.specs.Loops.{names_one}
 use Rattle.cover_cells.specs.Grown.{IsCell}
 use Rattle.cover_cells.specs.Singles.{single_cell}
 use Rattle.cover_mapper.specs.Needs.{any_needs_one, covers_weight}
-use Rattle.cover_mapper.specs.Sourced.{IsOwn}
+use Rattle.cover_mapper.specs.Sourced.{IsOwn, constant_of}
 
 -- under the bits of a valuation the sources of outputs, of latches' data and of the nets but the clock nets have theirs
 pub record HasBits (flat : Flat) (list : CellList) (inputs state : List Bool) (bits : ℕ → Bool) : Type 0 where
@@ -32,5 +32,6 @@ pub record IsMapped (flat : Flat) (list : CellList) : Type 0 where
   pub bits : (inputs state : List Bool) (bits : ℕ → Bool) → IsFlatValuation flat inputs state bits
       → (class : ℕ) (d : FlatDriver) → FlatDrives flat d class → bit_of list inputs state (sources class) ≡ bits class
   pub single : (n : ℕ) (cell : Cell) → n < length flat.nodes → single_cell (map sources (in_classes flat n)) (node_at flat n).rows (node_at flat n).on ≡ Some cell → IsCell list (sources (out_class flat n)) cell
+  pub constant : (n : ℕ) (src : Src) → n < length flat.nodes → constant_of flat n ≡ Some src → sources (out_class flat n) ≡ src
   pub few : length list.cells ≤ 2 * covers_weight flat
   pub one : names_one list ≡ true → any_needs_one flat ≡ true

@@ -14,7 +14,7 @@ use Rattle.cell_core.specs.Sources.{is_one}
 use Rattle.cell_core.specs.Meaning.{bit_in}
 use Rattle.netlist_core.specs.OwnWeight.{rows_weight}
 use Rattle.cover_cells.specs.Grown.{HasSource, Grows, IsCell}
-use Rattle.cover_cells.specs.Singles.{single_cell}
+use Rattle.cover_cells.specs.Singles.{constant_source, single_cell}
 use Rattle.cover_mapper.specs.Needs.{any_needs_one}
 
 -- a source for each class that has one
@@ -57,11 +57,20 @@ abbrev pub HasSingle : Flat → CellList → ClassSources → ℕ → Type 0
 HasSingle flat list sources n =
     (cell : Cell) → single_cell (map (source_at sources) (in_classes flat n)) (node_at flat n).rows (node_at flat n).on ≡ Some cell → IsCell list (source_at sources (out_class flat n)) cell
 
+-- the constant that the cover of a node is by its text
+abbrev pub constant_of : Flat → ℕ → Option Src
+constant_of flat n = constant_source (length (node_at flat n).ins) (node_at flat n).rows (node_at flat n).on
+
+-- the cover of a node that is a constant by its text has it as its source
+abbrev pub HasConstant : Flat → ClassSources → ℕ → Type 0
+HasConstant flat sources n = (src : Src) → constant_of flat n ≡ Some src → source_at sources (out_class flat n) ≡ src
+
 -- these nodes are mapped
 pub record AreMapped (flat : Flat) (old new : CellList) (sources : ClassSources) (nodes : List ℕ) : Type 0 where
   pub sourced : AreSourced flat (IsAmongFirst (length flat.ins) (length flat.latches) nodes) new sources
   pub grows : Grows old new (2 * sum_by (λ n. rows_weight (node_at flat n).rows) nodes) (any_needs_one flat ≡ true)
   pub single : (j : ℕ) → j < length nodes → HasSingle flat new sources (get_or nodes j 0)
+  pub constant : (j : ℕ) → j < length nodes → HasConstant flat sources (get_or nodes j 0)
 
 -- all nodes are mapped, from a list of no cells on
 pub record IsComplete (flat : Flat) (list : CellList) (sources : ClassSources) : Type 0 where

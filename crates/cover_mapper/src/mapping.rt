@@ -63,8 +63,8 @@ fn map_from(
 
 /// The cells of a sound flat netlist, for an order of its covers in which each comes after those that it reads.
 ///
-/// A cover of two nets that is an OR, an XOR or an AND-NOT is one cell, which other covers may share; how the products
-/// of other covers are formed is free.
+/// A cover without rows, or of no nets, is a constant. A cover of two nets that is an OR, an XOR or an AND-NOT is one
+/// cell, which other covers may share; how the products of other covers are formed is free.
 pub fn map(alloc: Global, flat: &Flat, order: &Order) -> Result<CellList, MapError>
     requires sound { IsSound flat.now }
     requires weighed { IsWeighed flat.now }

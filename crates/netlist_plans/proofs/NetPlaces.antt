@@ -18,11 +18,12 @@ use Rattle.cell_lanes.specs.Origins.{cell_instr, maker_on}
 use Rattle.cover_cells.specs.Grown.{IsCell}
 use Rattle.cover_cells.specs.Singles.{single_cell, are_pair, is_only}
 use Rattle.cover_mapper.specs.Mapped.{IsMapped}
+use Rattle.cover_mapper.specs.Sourced.{constant_of}
 use Rattle.row_placer.specs.Entries.{IsEntryOf, AreAtEntries}
 use Rattle.row_placer.specs.Numbers.{IsThere}
 use Rattle.row_placer.proofs.Sound.{sound as sources_there}
 use Rattle.cell_plans.specs.Exits.{IsExitOf, AreAtExits}
-use Rattle.netlist_plans.specs.NetPlaces.{IsCellExit, DrivesNet, HasNetPlaces}
+use Rattle.netlist_plans.specs.NetPlaces.{IsEntry, IsCellExit, DrivesNet, HasNetPlaces}
 use Rattle.netlist_plans.proofs.Lanes.{nets_many}
 
 -- ---- which cell a cover is does not depend on what it reads
@@ -85,6 +86,15 @@ module _ (flat : Flat) (list : CellList) (m : IsMapped flat list) (plan : Plan) 
       let lane : ℕ = (get_or plan.nets k place).lane in
       inr (cell, exits k Zero place (cell_instr lane cell) (few k lt) (ap (maker_on list.cells lane) is ∙ ap (option_map (cell_instr lane)) (slice_get-get_or list.cells i (Or Zero Zero) there)))
 
+  constant_entry : (k n : ℕ) (net : FlatNet) (place : NetPlace) (src : Src) → DrivesNet flat (FlatDriver.node n) k net → constant_of flat n ≡ Some src → IsEntryOf list plan.lanes plan.ins src (get_or plan.nets k place)
+  constant_entry k n net place src h e = owned k net place src h.0 (ap m.sources (sym h.1.1) ∙ m.constant n src h.1.0 e)
+
+  one_entry : (k n : ℕ) (net : FlatNet) (place : NetPlace) → DrivesNet flat (FlatDriver.node n) k net → constant_of flat n ≡ Some One → IsEntry (plan.lanes - plan.latches + length flat.latches) (get_or plan.nets k place)
+  one_entry k n net place h e =
+      let at = constant_entry k n net place One h e in
+      let starts : length list.starts ≡ length flat.latches = ap length m.starts ∙ length-map flat.latches _ in
+      (at.0 ∙ latch_lane (length list.starts) ∙ ap (λ s. plan.lanes - plan.latches + s) starts, at.1)
+
   single_at : (k n : ℕ) (net : FlatNet) (place : NetPlace) (a b : Src) (cell : Cell) → DrivesNet flat (FlatDriver.node n) k net → length (node_at flat n).ins ≡ 2
       → single_cell (a ∷ b ∷ []) (node_at flat n).rows (node_at flat n).on ≡ Some cell → IsExitOf plan.columns (cell_instr (get_or plan.nets k place).lane cell) (get_or plan.nets k place).after
   single_at k n net place a b cell h many e =
@@ -103,5 +113,6 @@ module _ (flat : Flat) (list : CellList) (m : IsMapped flat list) (plan : Plan) 
     inputs = λ k i net place h. owned k net place (Input i) h.0 (m.own (get_or (nets_but_clocks flat) k net).class (FlatDriver.input i) h.1);
     latches = λ k i net place h. (let e = owned k net place (Latch i) h.0 (m.own (get_or (nets_but_clocks flat) k net).class (FlatDriver.latch i) h.1) in (e.0 ∙ latch_lane i, e.1));
     covers = λ k n net place h. by_source k place (get_or list.nets k Zero) h.0 refl ((sources_there list).nets k Zero (few k h.0));
+    constants = λ k n net place h. (constant_entry k n net place Zero h, one_entry k n net place h);
     singles = single_at;
   }

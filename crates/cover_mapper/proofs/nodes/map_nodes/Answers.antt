@@ -1,4 +1,4 @@
-use Rattle.std.proofs.Common.{◌≡◌, refl, sym, ◌∙◌, ap, subst, ℕ, List, map, get_or, Some, arith}
+use Rattle.std.proofs.Common.{◌≡◌, refl, sym, ◌∙◌, ap, subst, ℕ, List, length, map, get_or, Some, arith}
 use Rattle.std.proofs.lemmas.Option.{get_or_from_slice_get}
 use Rattle.netlist_core.specs.declared.flat.Node.{Node}
 use Rattle.netlist_core.specs.declared.flat.NetId.{NetId}
@@ -7,7 +7,7 @@ use Rattle.cell_core.specs.declared.cells.Src.{Src}
 use Rattle.cell_core.specs.declared.cells.Cell.{Cell}
 use Rattle.cover_cells.specs.Covers.{AnswersCover}
 use Rattle.cover_cells.specs.Grown.{HasSources, IsCell}
-use Rattle.cover_cells.specs.Singles.{single_cell}
+use Rattle.cover_cells.specs.Singles.{constant_source, single_cell}
 use Rattle.cover_mapper.specs.Sourced.{sources_at, source_at}
 use Rattle.cover_mapper.proofs.Known.{AreKnown, all_gathered, all_there}
 use Rattle.cover_mapper.proofs.NextNode.{reads_known, node_mapped, first_mapped}
@@ -44,5 +44,7 @@ loop-n-preserved c =
     (subst (λ (rows : List (List ℕ)). AnswersCover c.loop-n.list c.map_cover.new.list c.deref.result.now rows node.on c.in_ok-source.source) c.as_slice-in-loop-n.ensures c.in_ok-source.ensures.value) in
     let single : (cell : Cell) → single_cell c.in_ok-ins.ins.items node.rows node.on ≡ Some cell → IsCell c.map_cover.new.list c.in_ok-source.source cell =
     λ cell e. c.in_ok-source.ensures.single cell (ap (λ (g : List Src). single_cell g c.as_slice-in-loop-n.result.now node.on) c.deref.ensures.value ∙ ap (λ (rows : List (List ℕ)). single_cell c.in_ok-ins.ins.items rows node.on) c.as_slice-in-loop-n.ensures ∙ e) in
+    let constant : (src : Src) → constant_source (length c.in_ok-ins.ins.items) node.rows node.on ≡ Some src → c.in_ok-source.source ≡ src =
+    λ src e. c.in_ok-source.ensures.constant src (ap (λ (g : List Src). constant_source (length g) c.as_slice-in-loop-n.result.now node.on) c.deref.ensures.value ∙ ap (λ (rows : List (List ℕ)). constant_source (length c.in_ok-ins.ins.items) rows node.on) c.as_slice-in-loop-n.ensures ∙ e) in
     node_mapped flat c.requires.sound order c.requires.ordered c.args.list.now c.loop-n.list c.map_cover.new.list sources c.loop-n.n-index n c.class_of.result node c.in_ok-ins.ins.items c.in_ok-source.source
-    (omega (arith, c.loop-n-test.true)) refl at (c.class_of.ensures ∙ ap (λ (m : Node). class_of flat m.out) at) c.loop-n.invariant are answer single
+    (omega (arith, c.loop-n-test.true)) refl at (c.class_of.ensures ∙ ap (λ (m : Node). class_of flat m.out) at) c.loop-n.invariant are answer single constant
