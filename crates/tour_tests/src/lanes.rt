@@ -59,6 +59,14 @@ impl Lanes {
         Ok(())
     }
 
+    // Does the instructions of a column.
+    fn step_all(&mut self, alloc: Global, column: &Column) -> Result<(), AllocError> {
+        for instr in column.instrs.as_slice() {
+            self.step(alloc, *instr)?;
+        }
+        Ok(())
+    }
+
     // Names what nets show from a place on: the entry, or the exit of a column.
     fn name(
         &mut self,
@@ -91,36 +99,53 @@ fn push_column(page: &mut String, number: usize, column: &Column) -> Result<(), 
     page.push_str(" |")
 }
 
-fn push_head(page: &mut String, lanes: u32) -> Result<(), AllocError> {
-    page.push_str("| column | instructions |")?;
+fn push_numbers(page: &mut String, lanes: u32) -> Result<(), AllocError> {
     for lane in 0..lanes {
         write!(page, " lane {lane} |")?;
     }
-    page.push_str("\n|---|---|")?;
+    Ok(())
+}
+
+fn push_rules(page: &mut String, lanes: u32) -> Result<(), AllocError> {
     for _lane in 0..lanes {
         page.push_str("---|")?;
     }
+    Ok(())
+}
+
+fn push_head(page: &mut String, lanes: u32) -> Result<(), AllocError> {
+    page.push_str("| column | instructions |")?;
+    push_numbers(page, lanes)?;
+    page.push_str("\n|---|---|")?;
+    push_rules(page, lanes)?;
     page.push_str("\n| before | |")
 }
 
-/// The columns of a plan as a table: their instructions, and what stands on each lane after them.
-pub fn push_lanes(
+// The columns from the first on, with what stands on the lanes before it.
+fn push_columns(
     page: &mut String,
     alloc: Global,
     flat: &Flat,
     plan: &Plan,
+    lanes: Lanes,
 ) -> Result<(), AllocError> {
-    push_head(page, plan.lanes)?;
-    let mut lanes = Lanes::empty(alloc, plan.lanes)?;
-    lanes.name(alloc, flat, plan, None)?;
-    lanes.push_row(page)?;
+    let mut lanes = lanes;
     for (number, column) in plan.columns.as_slice().iter().enumerate() {
         push_column(page, number, column)?;
-        for instr in column.instrs.as_slice() {
-            lanes.step(alloc, *instr)?;
-        }
+        lanes.step_all(alloc, column)?;
         lanes.name(alloc, flat, plan, Some(number as u64))?;
         lanes.push_row(page)?;
     }
     Ok(())
+}
+
+/// The columns of a plan as a table: their instructions, and what stands on each lane after them.
+pub fn lanes_stage(alloc: Global, flat: &Flat, plan: &Plan) -> Result<String, AllocError> {
+    let mut page = String::new(alloc);
+    push_head(&mut page, plan.lanes)?;
+    let mut lanes = Lanes::empty(alloc, plan.lanes)?;
+    lanes.name(alloc, flat, plan, None)?;
+    lanes.push_row(&mut page)?;
+    push_columns(&mut page, alloc, flat, plan, lanes)?;
+    Ok(page)
 }

@@ -1,12 +1,14 @@
 // The text of each stage.
-use crate::lanes::push_lanes;
+ghost use Rattle.netlist_text.specs.Parts.{AreParts};
+
+use crate::lanes::lanes_stage;
 use crate::page::{CELLS, FLAT, LANES};
 use cell_core::{CellList, Src};
 use cover_mapper::map;
 use flat_designs::{flat_is_sound, flat_is_weighed};
 use netlist_core::{Flat, FlatPort, NetId, Node};
-use netlist_plans::plan_netlist;
-use netlist_text::netlist_of;
+use netlist_plans::{Planned, plan_netlist};
+use netlist_text::{Netlist, netlist_of};
 use std::alloc::{AllocError, Global};
 use std::test::Fail;
 
@@ -118,18 +120,27 @@ fn cells_stage(alloc: Global, list: &CellList) -> Result<String, AllocError> {
     Ok(page)
 }
 
+// The cells of a netlist, and its plan.
+fn planned(alloc: Global, netlist: &Netlist) -> Result<(CellList, Planned), Fail>
+    requires { AreParts netlist.now.design netlist.now.flat netlist.now.order.nodes }
+{
+    flat_is_sound();
+    flat_is_weighed();
+    let list = map(alloc, &netlist.flat, &netlist.order)?;
+    let planned = plan_netlist(alloc, &netlist.flat, &netlist.order)?;
+    Ok((list, planned))
+}
+
 #[test]
 fn stages_of_the_toggle_are_those_of_the_tour(rt: HostRuntime) -> Result<(), Fail> {
     let alloc = rt.alloc();
     let netlist = netlist_of(alloc, TOGGLE)?;
-    assert_eq!(rt; flat_stage(alloc, &netlist.flat)?.as_str(), FLAT);
-    flat_is_sound();
-    flat_is_weighed();
-    let list = map(alloc, &netlist.flat, &netlist.order)?;
-    assert_eq!(rt; cells_stage(alloc, &list)?.as_str(), CELLS);
-    let planned = plan_netlist(alloc, &netlist.flat, &netlist.order)?;
-    let mut lanes = String::new(alloc);
-    push_lanes(&mut lanes, alloc, &netlist.flat, &planned.plan)?;
+    let flat = flat_stage(alloc, &netlist.flat)?;
+    assert_eq!(rt; flat.as_str(), FLAT);
+    let (list, planned) = planned(alloc, &netlist)?;
+    let cells = cells_stage(alloc, &list)?;
+    assert_eq!(rt; cells.as_str(), CELLS);
+    let lanes = lanes_stage(alloc, &netlist.flat, &planned.plan)?;
     assert_eq!(rt; lanes.as_str(), LANES);
     Ok(())
 }
