@@ -15,3 +15,9 @@ plan_netlist-requires-clause-weighed c = weighed c.flat_is_weighed.ensures c.arg
 
 pub plan_netlist-requires-clause-small : goal.plan_netlist-requires-clause-small
 plan_netlist-requires-clause-small c = small c.args.netlist.now.design c.args.netlist.now.flat _ c.requires
+
+pub map-requires-clause-ordered : goal.map-requires-clause-ordered
+map-requires-clause-ordered c = c.requires.is_order
+
+pub plan_netlist-requires-clause-ordered : goal.plan_netlist-requires-clause-ordered
+plan_netlist-requires-clause-ordered c = c.requires.is_order
