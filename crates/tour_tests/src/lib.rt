@@ -2,8 +2,6 @@
 #![tactic(auto)]
 
 #[cfg(test)]
-mod lanes;
-#[cfg(test)]
 mod page;
 #[cfg(test)]
 mod stages;
