@@ -8,3 +8,6 @@ pub mod Ends
 pub mod Cuts
 pub mod NameSets
 pub mod Fills
+pub mod Numbers
+pub mod WordBits
+pub mod Options

@@ -1,0 +1,14 @@
+-- Numbers, by cases.
+use Rattle.std.proofs.Common.{ℕ, ◌≡◌, ◌<◌, ◌≤◌, ◌+◌, ◌⊎◌, Bool, true, false, cond, arith}
+
+-- below the next number: below this one, or this one
+pub less_or_last : (i n : ℕ) → i < n + 1 → (i < n) ⊎ (i ≡ n)
+less_or_last i n l = grind arith
+
+-- what one test adds to a count
+abbrev pub one_if : Bool → ℕ
+one_if b = cond b 1 0
+
+pub at_most_one : (b : Bool) → one_if b ≤ 1
+at_most_one true = omega arith
+at_most_one false = omega arith
