@@ -1,5 +1,5 @@
 -- Numbers, by cases.
-use Rattle.std.proofs.Common.{ℕ, ◌≡◌, refl, ◌<◌, ◌≤◌, ◌+◌, ◌⊎◌, Bool, true, false, cond, List, [], ◌∷◌, length, arith}
+use Rattle.std.proofs.Common.{ℕ, ◌≡◌, refl, ◌<◌, ◌≤◌, ◌+◌, ◌⊎◌, Bool, true, false, cond, [], ◌∷◌, length, arith}
 
 -- below the next number: below this one, or this one
 pub less_or_last : (i n : ℕ) → i < n + 1 → (i < n) ⊎ (i ≡ n)
