@@ -1,8 +1,9 @@
 -- Cells that keep a band awake, as callers see them.
-use Rattle.std.proofs.Common.{pos, ◌+ℤ◌, ◌-ℤ◌, ℕ, ◌+◌, ◌-◌, ◌*◌, min, ◌<◌, ◌≤◌, ◌≡◌, refl, sym, ap, subst, ◌∙◌, inl, inr, Bool, true, false, ◌&&◌, nat_lt, length, arith}
+use Rattle.std.proofs.Common.{pos, ◌+ℤ◌, ◌-ℤ◌, ℕ, ◌+◌, ◌-◌, ◌*◌, min, ◌<◌, ◌≤◌, ◌≡◌, sym, ap, subst, ◌∙◌, inl, inr, true, false, ◌&&◌, nat_lt, length, arith}
 use Rattle.std.specs.Prelude.{◌≢◌}
 use Rattle.std.proofs.lemmas.Bool.{cases_lt, le-ltb, true≢false}
 use Rattle.std.proofs.lemmas.Int.{ints}
+use Rattle.std.proofs.Math.Bool.{and-false}
 use Rattle.ww_rule.specs.declared.pattern.State.{State}
 use Rattle.ww_rule.specs.declared.pattern.State.TheVariants.{Empty, Head, Tail, Conductor}
 use Rattle.ww_rule.specs.Wireworld.{Plane, Due, count_head, heads_around, next_plane, next_state, driven}
@@ -35,11 +36,7 @@ module _ (p : BandedPattern) (grid : IsGrid p.grid.width p.grid.height p.grid.ro
   out x z le = ap (λ t. t && nat_lt z (length p.grid.rows)) (le-ltb x p.grid.width le)
 
   below_and : (x z : ℕ) → length p.grid.rows ≤ z → in_box p.grid.width (length p.grid.rows) (pos x) (pos z) ≡ false
-  below_and x z le = ap (λ t. nat_lt x p.grid.width && t) (le-ltb z (length p.grid.rows) le) ∙ none (nat_lt x p.grid.width)
-    where
-      none : (t : Bool) → (t && false) ≡ false
-      none true = refl
-      none false = refl
+  below_and x z le = ap (λ t. nat_lt x p.grid.width && t) (le-ltb z (length p.grid.rows) le) ∙ and-false (nat_lt x p.grid.width)
 
   lit_column : (x z : ℕ) (s : State) → s ≢ Empty → plane g (pos x) (pos z) ≡ s → x < p.grid.width
   lit_column x z s ne e =

@@ -2,7 +2,7 @@
 use Rattle.ww_rule.specs.Due.{AreInOrderFrom}
 use Rattle.std.proofs.Common.{ℤ, pos, negsuc, ◌+ℤ◌, ℕ, suc, ◌+◌, ◌-◌, ◌*◌, ◌/◌, ◌%◌, min, ◌<◌, ◌≤◌, ◌≡◌, refl, sym, ap, ap₂, subst, ◌∙◌, inl, inr, Bool, true, false, ◌&&◌, ◌||◌, ◌==◌, nat_lt, cond, List, [], ◌∷◌, length, get_or, filter, All, arith}
 use Rattle.std.specs.Ordering.{int_eq}
-use Rattle.std.proofs.lemmas.Bool.{cases_Bool, cases_lt, and_cases, ltb-false, lt-ltb, true≢false, eqb-true, eqb-false}
+use Rattle.std.proofs.lemmas.Bool.{cases_Bool, cases_lt, and_cases, ltb-false, lt-ltb, true≢false, eqb-true, eqb-false, and_right}
 use Rattle.std.proofs.lemmas.Bool.Decides.{Decides-int_eq}
 use Rattle.std.proofs.lemmas.Int.{ints}
 use Rattle.std.proofs.lemmas.Nat.{div-mul-add}
@@ -20,6 +20,7 @@ use Rattle.band_core.specs.Bands.{bands_in}
 use Rattle.band_core.specs.Band.{AreInRows, IsEvolution}
 use Rattle.ww_rule.proofs.Due.{from_earlier}
 use Rattle.std.proofs.Math.Nat.{mul-le-mul_right, mul_comm, suc-mul}
+use Rattle.std.proofs.Math.Bool.{and-false}
 
 -- the box of the rows that are there
 rows_outside : (width height : ℕ) (rows : List (List State)) → IsGrid width height rows → IsEmptyOutside width (length rows) (plane_of rows)
@@ -61,11 +62,6 @@ pub share_due : (injections : List Injection) (height b g x k : ℕ) → k < hei
 share_due [] height b g x k lt = refl
 share_due (i ∷ later) height b g x k lt = go (i.y / height == b) refl (share_due later height b g x k lt)
   where
-    none : (a c : Bool) → (a && (c && false)) ≡ false
-    none true true = refl
-    none true false = refl
-    none false c = refl
-
     go : (t : Bool) → (i.y / height == b) ≡ t → due_of_list (filter (λ i. i.y / height == b) later) g (pos x) (pos (b * height) +ℤ pos k) ≡ due_of_list later g (pos x) (pos (b * height) +ℤ pos k) → due_of_list (cond t (i ∷ filter (λ i. i.y / height == b) later) (filter (λ i. i.y / height == b) later)) g (pos x) (pos (b * height) +ℤ pos k) ≡ due_of_list (i ∷ later) g (pos x) (pos (b * height) +ℤ pos k)
     go true e ih =
         due_of_cons i (filter (λ i. i.y / height == b) later) g (pos x) (pos (b * height) +ℤ pos k)
@@ -81,7 +77,7 @@ share_due (i ∷ later) height b g x k lt = go (i.y / height == b) refl (share_d
               absurd (eqb-false (i.y / height) b e (ap (λ n. n / height) r ∙ div-mul-add b height k lt))
         ] in
         ih
-        ∙ ap (λ t. t || due_of_list later g (pos x) (pos (b * height) +ℤ pos k)) (sym (none (i.generation == g) (int_eq (pos i.x) (pos x))))
+        ∙ ap (λ t. t || due_of_list later g (pos x) (pos (b * height) +ℤ pos k)) (sym (and_right (i.generation == g) _ (and-false (int_eq (pos i.x) (pos x)))))
         ∙ ap (λ t. (i.generation == g && (int_eq (pos i.x) (pos x) && t)) || due_of_list later g (pos x) (pos (b * height) +ℤ pos k)) (sym other)
         ∙ sym (due_of_cons i later g (pos x) (pos (b * height) +ℤ pos k))
 

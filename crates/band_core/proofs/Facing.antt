@@ -7,6 +7,8 @@ use Rattle.std.proofs.lemmas.Bool.{cases_lt, eq-eqb, ne_eqb, eqb-true, or_cases,
 use Rattle.std.proofs.lemmas.Int.{ints}
 use Rattle.std.proofs.lemmas.List.{get_or-map}
 use Rattle.std.proofs.Math.Nat.{suc-mul, mul_comm}
+use Rattle.std.proofs.Math.Bool.{and-false}
+use Rattle.std.proofs.lemmas.Option.{none-some}
 use Rattle.ww_rule.specs.declared.pattern.State.TheVariants.{Empty}
 use Rattle.ww_rule.specs.Wireworld.{Plane, Due, count_head}
 use Rattle.lane_kernel.specs.Rows.{state_of}
@@ -73,10 +75,7 @@ top_long words y many g band is =
 
 none_both : (a b : Option NotReady) → option_or a b ≡ None → (a ≡ None) × (b ≡ None)
 none_both None b e = (refl, e)
-none_both (Some x) b e = absurd (some_none x e)
-  where
-    some_none : (x : NotReady) → Some x ≡ None → ⊥
-    some_none x e = cc
+none_both (Some x) b e = absurd (none-some x (sym e))
 
 abbrev refusal : List ℕ → ℕ → Bool → Option NotReady
 refusal generations n t = if t then None else Some (record { neighbour = n; generation = get_or generations n 0 })
@@ -215,9 +214,5 @@ module _ (e : ℕ → Plane) (due : Due) (words height rows width : ℕ) (some :
               (subst (ShowsHeads (top_at g lower) (e g)) place here)
         ]
       where
-        and_none : (t : Bool) → (t && false) ≡ false
-        and_none true = refl
-        and_none false = refl
-
         past : (x : ℕ) → (nat_lt x width && nat_lt rows rows) ≡ false
-        past x = ap (λ t. nat_lt x width && t) (le-ltb rows rows (omega arith)) ∙ and_none (nat_lt x width)
+        past x = ap (λ t. nat_lt x width && t) (le-ltb rows rows (omega arith)) ∙ and-false (nat_lt x width)

@@ -1,49 +1,33 @@
 -- Cells made heads in rows.
-use Rattle.std.proofs.Common.{ℤ, pos, ◌+ℤ◌, ℕ, ◌+◌, ◌<◌, ◌≡◌, refl, sym, ap, ap₂, ◌∙◌, inl, inr, Bool, true, false, ◌&&◌, ◌||◌, ◌==◌, cond, List, [], ◌∷◌, length, get_or, slice_set, arith}
+use Rattle.std.proofs.Common.{ℤ, pos, ◌+ℤ◌, ℕ, ◌+◌, ◌<◌, ◌≡◌, refl, sym, ap, ap₂, ◌∙◌, inl, inr, false, ◌&&◌, ◌||◌, ◌==◌, cond, List, [], ◌∷◌, length, get_or, slice_set, arith}
 use Rattle.std.specs.Ordering.{int_eq}
-use Rattle.std.proofs.lemmas.Bool.{cases_Bool, cases_eq, eq-eqb, ne_eqb}
+use Rattle.std.proofs.lemmas.Bool.{cases_eq, eq-eqb, ne_eqb}
 use Rattle.std.proofs.lemmas.Bool.Decides.{Decides-int_eq}
 use Rattle.std.proofs.lemmas.Int.{ints}
 use Rattle.std.proofs.lemmas.List.{length-set}
+use Rattle.std.proofs.Math.Bool.{or-false, and-true, and-false}
 use Rattle.ww_rule.specs.declared.pattern.State.TheVariants.{Head}
 use Rattle.ww_rule.specs.Wireworld.{Plane, injected}
 use Rattle.ww_rule.specs.Injections.{has_cell}
 use Rattle.band_rows.specs.declared.row.Row.{Row}
 use Rattle.band_rows.specs.Rows.{AreLong, ShowRows, Shows, state_in_row, row_heads, row_tails, row_wires}
 use Rattle.band_rows.proofs.Bands.{other, same, held, shows_same}
-
-int_same : (a b : ℤ) → a ≡ b → int_eq a b ≡ true
-int_same a b e = (Decides-int_eq a b).1 e
-
-int_other : (a b : ℤ) → (a ≡ b → ⊥) → int_eq a b ≡ false
-int_other a b n =
-    elim (cases_Bool (int_eq a b)) [
-      | inl e ↦ absurd (n ((Decides-int_eq a b).0 e))
-      | inr e ↦ e
-    ]
+use Rattle.ww_rule.proofs.Integers.{other_int}
 
 column_is : (x u : ℕ) → int_eq (pos x) (pos u) ≡ (u == x)
 column_is x u =
     elim (cases_eq u x) [
-      | inl e ↦ int_same (pos x) (pos u) (ap pos (sym e)) ∙ sym (eq-eqb u x e)
-      | inr n ↦ int_other (pos x) (pos u) (λ q. n (let r : u ≡ x = omega (arith, ints, q) in r)) ∙ sym (ne_eqb u x n)
+      | inl e ↦ (Decides-int_eq (pos x) (pos u)).1 (ap pos (sym e)) ∙ sym (eq-eqb u x e)
+      | inr n ↦ other_int (pos x) (pos u) (λ q. n (let r : u ≡ x = omega (arith, ints, q) in r)) ∙ sym (ne_eqb u x n)
     ]
 
 among_hit : (x v u : ℕ) (z : ℤ) → pos v ≡ z → has_cell ((x, v) ∷ []) (pos u) z ≡ (u == x)
 among_hit x v u z e =
-    ap₂ (λ a b. (a && b) || false) (column_is x u) (int_same (pos v) z e) ∙ simplest (u == x)
-  where
-    simplest : (t : Bool) → ((t && true) || false) ≡ t
-    simplest true = refl
-    simplest false = refl
+    ap₂ (λ a b. (a && b) || false) (column_is x u) ((Decides-int_eq (pos v) z).1 e) ∙ or-false _ ∙ and-true (u == x)
 
 among_miss : (x v u : ℕ) (z : ℤ) → (pos v ≡ z → ⊥) → has_cell ((x, v) ∷ []) (pos u) z ≡ false
 among_miss x v u z n =
-    ap (λ b. (int_eq (pos x) (pos u) && b) || false) (int_other (pos v) z n) ∙ none (int_eq (pos x) (pos u))
-  where
-    none : (t : Bool) → ((t && false) || false) ≡ false
-    none true = refl
-    none false = refl
+    ap (λ b. (int_eq (pos x) (pos u) && b) || false) (other_int (pos v) z n) ∙ or-false _ ∙ and-false (int_eq (pos x) (pos u))
 
 -- one row of which a cell was made a head
 pub head_put : (rows : List Row) (k : ℕ) (d new : Row) (x v y : ℕ) (p : Plane) → k < length rows → v ≡ y + k → ((u : ℕ) → state_in_row new u ≡ cond (u == x) Head (state_in_row (get_or rows k d) u)) → ShowRows rows p (pos y) → ShowRows (slice_set rows k new) (injected (has_cell ((x, v) ∷ [])) p) (pos y)

@@ -10,15 +10,15 @@ use Rattle.band_core.specs.Bands.{BandedPattern}
 use Rattle.band_core.specs.Band.{AreBands, AllShow, generations_of}
 
 abbrev pub held_pattern : Inside → BandedPattern
-held_pattern held = record { grid = grid_of held.pattern; injections = held.drive.items; height = held.height; generations = generations_of held.bands.items }
+held_pattern held = record { grid = grid_of held.pattern; injections = held.injections.items; height = held.height; generations = generations_of held.bands.items }
 
 pub record IsHeld (held : Inside) : Type 0 where
-  pub inside : AreInside held.pattern.width held.pattern.height held.drive.items
-  pub in_order : AreInOrderFrom 0 held.drive.items
+  pub inside : AreInside held.pattern.width held.pattern.height held.injections.items
+  pub in_order : AreInOrderFrom 0 held.injections.items
   pub height : 0 < held.height
   pub few : length held.dark.items ≤ 2 ^ 58
   pub dark : (j : ℕ) → get_or held.dark.items j 0 ≡ 0
   pub spare_heads : length held.spare_heads.items ≡ length held.dark.items
   pub spare_wires : length held.spare_wires.items ≡ length held.dark.items
   pub bands : AreBands (length held.dark.items) held.height (length held.pattern.rows) held.bands.items
-  pub shows : AllShow (driven (due_of_list held.drive.items) (plane_of held.pattern.rows)) (due_of_list held.drive.items) held.height (length held.pattern.rows) held.bands.items
+  pub shows : AllShow (driven (due_of_list held.injections.items) (plane_of held.pattern.rows)) (due_of_list held.injections.items) held.height (length held.pattern.rows) held.bands.items

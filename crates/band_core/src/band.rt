@@ -63,9 +63,9 @@ fn keep_edges(rows: &[Row], top: &mut Kept, bottom: &mut Kept)
     bottom.keep(rows[last].tails.as_slice(), rows[last].span);
 }
 
-/// The next generation of rows from row y on, with the injections that are then due, between rows of heads. The kept rows
-/// take the heads that the top and the bottom row had. The spare rows hold anything.
-fn step_rows(
+// The next generation of rows from row y on, with the injections that are then due, between rows of heads. The kept rows
+// take the heads that the top and the bottom row had. The spare rows hold anything.
+fn step_with_due(
     rows: &mut [Row],
     y: usize,
     up: &[u64],
@@ -173,7 +173,7 @@ impl Band {
     {
         self.generation += 1;
         let count = due_count(self.generation as u128, &self.injections[self.done..]);
-        step_rows(
+        step_with_due(
             &mut self.rows,
             y,
             up,

@@ -19,7 +19,7 @@ use ww_rule::{CellRows, Injection, Pattern, State};
 #[derive(Drop)]
 pub struct Bands {
     pattern: Pattern,
-    drive: Vec<Injection>,
+    injections: Vec<Injection>,
     height: usize,
     bands: Vec<Band>,
     dark: Vec<u64>,
@@ -61,23 +61,23 @@ impl Bands {
     pub fn new(
         alloc: Global,
         pattern: Pattern,
-        drive: Vec<Injection>,
+        injections: Vec<Injection>,
         height: u32,
     ) -> Result<Bands, BandsError>
         requires height { 0 < height }
-        requires in_order { AreInOrderFrom 0 drive.items }
-        requires inside { AreInside pattern.width pattern.height drive.items }
-        ensures { IfOk result (λ bands. bands ≡ begun (grid_of pattern) drive.items height) }
+        requires in_order { AreInOrderFrom 0 injections.items }
+        requires inside { AreInside pattern.width pattern.height injections.items }
+        ensures { IfOk result (λ bands. bands ≡ begun (grid_of pattern) injections.items height) }
     {
         let height = height as usize;
         let words = words_for(&pattern.rows);
-        let bands = begin_bands(alloc, &pattern.rows, &drive, height, words)?;
+        let bands = begin_bands(alloc, &pattern.rows, &injections, height, words)?;
         let dark = vec![in alloc; 0; words]?;
         let spare_heads = vec![in alloc; 0; words]?;
         let spare_wires = vec![in alloc; 0; words]?;
         Ok(Bands {
             pattern,
-            drive,
+            injections,
             height,
             bands,
             dark,

@@ -30,17 +30,17 @@ fn empty_lists(alloc: Global, count: usize) -> Result<Vec<List<Injection>>, Allo
 // Each band's injections, in their order, for so many bands of a height.
 fn shares(
     alloc: Global,
-    drive: &[Injection],
+    injections: &[Injection],
     height: usize,
     count: usize,
 ) -> Result<Vec<List<Injection>>, AllocError>
     requires height { 0 < height }
-    requires inside { All (λ i. i.y / height < count) drive.now }
+    requires inside { All (λ i. i.y / height < count) injections.now }
     ensures many { IfOk result (λ shares. length shares.items ≡ count) }
-    ensures each { IfOk result (λ shares. (b : ℕ) → b < count → get_or shares.items b [] ≡ filter (λ i. i.y / height == b) drive.now) }
+    ensures each { IfOk result (λ shares. (b : ℕ) → b < count → get_or shares.items b [] ≡ filter (λ i. i.y / height == b) injections.now) }
 {
     let mut shares = empty_lists(alloc, count)?;
-    for injection in drive {
+    for injection in injections {
         let b = injection.y as usize / height;
         let mut share = mem::replace(&mut shares[b], List::of(Vec::new(alloc))).into_vec();
         share.push(*injection)?;
@@ -119,21 +119,21 @@ fn begin_band(
 pub fn begin_bands(
     alloc: Global,
     rows: &CellRows,
-    drive: &[Injection],
+    injections: &[Injection],
     height: usize,
     words: usize,
 ) -> Result<Vec<Band>, AllocError>
     requires height { 0 < height }
     requires low { height < 2 ^ 32 }
     requires long { All (λ row. length row ≤ 64 * words) rows.now }
-    requires inside { AreInRows words 0 (length rows.now) drive.now }
-    requires in_order { AreInOrderFrom 0 drive.now }
+    requires inside { AreInRows words 0 (length rows.now) injections.now }
+    requires in_order { AreInOrderFrom 0 injections.now }
     ensures bands { IfOk result (λ bands. AreBands words height (length rows.now) bands.items) }
     ensures begun { IfOk result (λ bands. generations_of bands.items ≡ replicate (bands_in (length rows.now) height) 0) }
-    ensures shows { IfOk result (λ bands. AllShow (driven (due_of_list drive.now) (plane_of rows.now)) (due_of_list drive.now) height (length rows.now) bands.items) }
+    ensures shows { IfOk result (λ bands. AllShow (driven (due_of_list injections.now) (plane_of rows.now)) (due_of_list injections.now) height (length rows.now) bands.items) }
 {
     let count = (rows.len() + (height - 1)) / height;
-    let mut shares = shares(alloc, drive, height, count)?;
+    let mut shares = shares(alloc, injections, height, count)?;
     let mut bands = Vec::with_capacity(alloc, count)?;
     for b in 0..count {
         let y = b * height;

@@ -47,9 +47,9 @@ pub fn unready_neighbour(bands: &[Band], b: usize) -> Option<NotReady>
     None
 }
 
-/// The heads of the last row of bands at a generation, or of a dark row where there is no band, and a span beyond which it
-/// has none.
-pub fn row_above<'a>(before: &'a [Band], generation: u64, dark: &'a [u64]) -> (&'a [u64], Span)
+// The heads of the last row of bands at a generation, or of a dark row where there is no band, and a span beyond which it
+// has none.
+fn row_above<'a>(before: &'a [Band], generation: u64, dark: &'a [u64]) -> (&'a [u64], Span)
     requires some { (d : Band) → 0 < length before.now → 0 < length (get_or before.now (length before.now - 1) d).rows.items }
     requires light { (d : Band) → 0 < length before.now → AreDarkBeyond (get_or before.now (length before.now - 1) d).light.first (get_or before.now (length before.now - 1) d).light.end (get_or before.now (length before.now - 1) d).rows.items }
     requires dark { (j : ℕ) → get_or dark.now j 0 ≡ 0 }
@@ -64,8 +64,8 @@ pub fn row_above<'a>(before: &'a [Band], generation: u64, dark: &'a [u64]) -> (&
     before[before.len() - 1].bottom_heads(generation)
 }
 
-/// The heads of the first row of bands, likewise.
-pub fn row_below<'a>(after: &'a [Band], generation: u64, dark: &'a [u64]) -> (&'a [u64], Span)
+// The heads of the first row of bands, likewise.
+fn row_below<'a>(after: &'a [Band], generation: u64, dark: &'a [u64]) -> (&'a [u64], Span)
     requires some { (d : Band) → 0 < length after.now → 0 < length (get_or after.now 0 d).rows.items }
     requires light { (d : Band) → 0 < length after.now → AreDarkBeyond (get_or after.now 0 d).light.first (get_or after.now 0 d).light.end (get_or after.now 0 d).rows.items }
     requires dark { (j : ℕ) → get_or dark.now j 0 ≡ 0 }

@@ -9,7 +9,8 @@ use Rattle.band_rows.specs.declared.row.Row.{Row}
 use Rattle.lane_kernel.specs.Rows.{is_set, state_of, row_state}
 use Rattle.lists.specs.Bits.{has_bit}
 use Rattle.band_rows.specs.Rows.{Shows, ShowsHeads}
-use Rattle.lane_kernel.proofs.Counting.{num, count_is}
+use Rattle.lane_kernel.proofs.Counting.{count_is}
+use Rattle.lists.proofs.Numbers.{one_if}
 
 -- a part of row k
 abbrev pub field : (Row → List ℕ) → List Row → ℕ → List ℕ
@@ -30,7 +31,7 @@ words_show a b p y e h x = ap (λ w. count_head (state_of (has_bit w (x % 64)) f
 pub heads_shown : (h t w : List ℕ) (p : Plane) (y : ℤ) → Shows h t w p y → ShowsHeads h p y
 heads_shown h t w p y shows x = count_is (is_set h x) false false ∙ sym (count_is (is_set h x) (is_set t x) (is_set w x)) ∙ ap count_head (shows x)
 
-pub as_num : (h : List ℕ) (p : Plane) (y : ℤ) → ShowsHeads h p y → (x : ℕ) → num (is_set h x) ≡ count_head (p (pos x) y)
+pub as_num : (h : List ℕ) (p : Plane) (y : ℤ) → ShowsHeads h p y → (x : ℕ) → one_if (is_set h x) ≡ count_head (p (pos x) y)
 as_num h p y s x = sym (count_is (is_set h x) false false) ∙ s x
 
 -- the row before row r: the one before the band, or a row that has stepped, whose tails are its old heads

@@ -8,6 +8,7 @@ use Rattle.std.proofs.lemmas.Bool.{cases_eq, cases_lt, eq-eqb, ne_eqb}
 use Rattle.std.proofs.lemmas.Grind.{get_or-set_at}
 use Rattle.std.proofs.lemmas.List.{get_or-set_other, get_or_past, get_or-replicate, length-replicate}
 use Rattle.std.proofs.lemmas.Nat.Bits.{bit_at_set_same, bit_at_set_other, bit_at_clear_same, bit_at_clear_other}
+use Rattle.std.proofs.Math.Bool.{or-false}
 use Rattle.ww_rule.specs.declared.pattern.State.{State}
 use Rattle.ww_rule.specs.declared.pattern.State.TheVariants.{Empty, Head, Tail, Conductor}
 use Rattle.lane_kernel.specs.Rows.{is_set, state_of, row_state, AreDisjoint}
@@ -74,7 +75,7 @@ marks_more test cells n state words new m s e =
             | inl q ↦
                 let le : n ≤ k = omega (arith, q) in
                 e k ∙ ap₂ (λ t w. (t && test state) || w) (eq-eqb k n q) (m.after k le)
-                ∙ or_false (test state) ∙ ap test s ∙ ap (λ j. test (get_or cells j Empty)) (sym q)
+                ∙ or-false (test state) ∙ ap test s ∙ ap (λ j. test (get_or cells j Empty)) (sym q)
             | inr ne ↦ e k ∙ ap (λ t. (t && test state) || is_set words k) (ne_eqb k n ne) ∙ m.here k (let l : k < n = omega (arith, lt, ne) in l)
           ];
       after = λ k le.
@@ -82,10 +83,6 @@ marks_more test cells n state words new m s e =
           let ne : k ≢ n = λ q. omega (arith, q, le) in
           e k ∙ ap (λ t. (t && test state) || is_set words k) (ne_eqb k n ne) ∙ m.after k l;
     }
-  where
-    or_false : (p : Bool) → (p || false) ≡ p
-    or_false true = refl
-    or_false false = refl
 
 pub state_is : (s : State) → state_of (marks_head s) (marks_tail s) (marks_wire s) ≡ s
 state_is Empty = refl

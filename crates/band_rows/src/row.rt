@@ -74,7 +74,7 @@ fn step_lit(
 {
     all_fit(heads);
     let near = hull(above_span, hull(span, below_span));
-    if near.first == near.end {
+    if near.is_empty() {
         return span;
     }
     let lo = one_before(near.first);

@@ -26,16 +26,53 @@ pub fn hull(a: Span, b: Span) -> Span
     ensures second { (words : List ℕ) → IsDarkBeyond b.first b.end words → IsDarkBeyond result.first result.end words }
     ensures within { (n : ℕ) → a.end ≤ n → b.end ≤ n → result.end ≤ n }
 {
-    if a.first == a.end {
+    if a.is_empty() {
         return b;
     }
-    if b.first == b.end {
+    if b.is_empty() {
         return a;
     }
     Span {
         first: if a.first < b.first { a.first } else { b.first },
         end: if a.end < b.end { b.end } else { a.end },
     }
+}
+
+// The first place of a span, given by its two ends, at which one of two rows has a word that is not 0, or the span's end.
+fn first_lit(heads: &[u64], tails: &[u64], first: usize, end: usize) -> usize
+    requires order { first ≤ end }
+    requires within { end ≤ length heads.now }
+    requires long_tails { length tails.now ≡ length heads.now }
+    requires heads { IsDarkBeyond first end heads.now }
+    requires tails { IsDarkBeyond first end tails.now }
+    ensures order { result ≤ end }
+    ensures heads { IsDarkBeyond result end heads.now }
+    ensures tails { IsDarkBeyond result end tails.now }
+{
+    let mut a = first;
+    while a < end && heads[a] | tails[a] == 0 {
+        a += 1;
+    }
+    a
+}
+
+// The place after the last one of such a span at which one of the rows has a word that is not 0, or the span's first place.
+fn end_lit(heads: &[u64], tails: &[u64], first: usize, end: usize) -> usize
+    requires order { first ≤ end }
+    requires within { end ≤ length heads.now }
+    requires long_tails { length tails.now ≡ length heads.now }
+    requires heads { IsDarkBeyond first end heads.now }
+    requires tails { IsDarkBeyond first end tails.now }
+    ensures order { first ≤ result }
+    ensures within { result ≤ length heads.now }
+    ensures heads { IsDarkBeyond first result heads.now }
+    ensures tails { IsDarkBeyond first result tails.now }
+{
+    let mut b = end;
+    while first < b && heads[b - 1] | tails[b - 1] == 0 {
+        b -= 1;
+    }
+    b
 }
 
 /// The span of the words that are not 0 in one of two rows.
@@ -49,15 +86,9 @@ pub fn trimmed(heads: &[u64], tails: &[u64], first: usize, end: usize) -> Span
     ensures heads { IsDarkBeyond result.first result.end heads.now }
     ensures tails { IsDarkBeyond result.first result.end tails.now }
 {
-    let mut a = first;
-    while a < end && heads[a] | tails[a] == 0 {
-        a += 1;
-    }
-    let mut b = end;
-    while a < b && heads[b - 1] | tails[b - 1] == 0 {
-        b -= 1;
-    }
-    Span { first: a, end: b }
+    let first = first_lit(heads, tails, first, end);
+    let end = end_lit(heads, tails, first, end);
+    Span { first, end }
 }
 
 /// A span that has the word j besides.
@@ -66,7 +97,7 @@ pub fn widened(span: Span, j: usize) -> Span
     ensures wider { (old new : List ℕ) → ((i : ℕ) → i ≢ j → get_or new i 0 ≡ get_or old i 0) → IsDarkBeyond span.first span.end old → IsDarkBeyond result.first result.end new }
     ensures within { (n : ℕ) → j < n → span.end ≤ n → result.end ≤ n }
 {
-    if span.first == span.end {
+    if span.is_empty() {
         return Span {
             first: j,
             end: j + 1,

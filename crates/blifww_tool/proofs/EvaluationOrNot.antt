@@ -1,7 +1,7 @@
 -- A text and words give an evaluation, or are refused in one way.
 use Rattle.std.proofs.Common.{ℕ, ◌≡◌, refl, sym, ap, ◌∙◌, subst, List, []}
 use Rattle.std.specs.Prelude.{slice_get}
-use Rattle.std.proofs.lemmas.Option.{none-some}
+use Rattle.std.proofs.lemmas.Option.{none-some, same_Some}
 use Rattle.netlist_core.specs.declared.model.Design.{Design}
 use Rattle.netlist_core.specs.Names.{Name}
 use Rattle.netlist_rules.specs.declared.fault.Fault.{Fault}
@@ -16,7 +16,6 @@ use Rattle.blifww_tool.specs.Compilation.{HasNoNetlist}
 use Rattle.blifww_tool.specs.Evaluation.{Evaluation, IsEvaluation, HasNoEvaluation}
 use Rattle.blifww_tool.specs.declared.causes.Cause.{Cause}
 use Rattle.blifww_tool.specs.declared.causes.Cause.TheVariants.{NetlistFault, WeightTooLarge, Loop, Pattern, GridTooLarge, PortTable, Streams, NoSuchNet, TooFar}
-use Rattle.blifww_tool.proofs.SimulationOrNot.{same_stream_fault}
 
 -- a netlist with its IN names, as a text has them
 pub record IsRead (text : List ℕ) (design : Design) (names : List Name) : Type 0 where
@@ -84,7 +83,7 @@ one_reason cycles words text r r' (by_streams f e d ns read h) (by_fault g e' k)
 one_reason cycles words text r r' (by_streams f e d ns read h) (by_weight v e' k) = absurd ((texts_are_decided text).not_heavy d v read.netlist k)
 one_reason cycles words text r r' (by_streams f e d ns read h) (by_loop ms e' k) = absurd ((texts_are_decided text).not_a_loop d ms read.netlist k)
 one_reason cycles words text r r' (by_streams f e d ns read h) (by_streams g e' d' ms read' k) =
-    alike r r' _ _ e e' (ap Streams (same_stream_fault f g (sym (subst (λ (x : List Name). HasStreamFault words x cycles f) (same_names text d d' ns ms read read') h) ∙ k)))
+    alike r r' _ _ e e' (ap Streams (same_Some f g (sym (subst (λ (x : List Name). HasStreamFault words x cycles f) (same_names text d d' ns ms read read') h) ∙ k)))
 
 pub one_cause : (cycles : ℕ) (words : List (List ℕ)) (text : List ℕ) (r r' : Cause) → HasNoEvaluation cycles words text r → HasNoEvaluation cycles words text r' → AreAlike r r'
 one_cause cycles words text r r' h k = one_reason cycles words text r r' (reason_of cycles words text r h) (reason_of cycles words text r' k)

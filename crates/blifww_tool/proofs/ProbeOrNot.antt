@@ -1,7 +1,7 @@
 -- A text and words show the bits of a net, or are refused in one way.
 use Rattle.std.proofs.Common.{ℕ, ◌≡◌, ◌+◌, ◌-◌, ◌*◌, refl, sym, ap, ap₂, ◌∙◌, List, Bool, arith}
 use Rattle.std.specs.Prelude.{Some, None}
-use Rattle.std.proofs.lemmas.Option.{none-some}
+use Rattle.std.proofs.lemmas.Option.{none-some, same_Some}
 use Rattle.pattern_reading.specs.declared.ports.NetLine.{NetLine}
 use Rattle.pattern_reading.specs.declared.ports.Ports.{Ports}
 use Rattle.probe_view.specs.Probes.{net_named, last_probed, IsTooFar}
@@ -38,14 +38,11 @@ there_or_not : (cycles : ℕ) (name path : List ℕ) (words : List (List ℕ)) (
     → net_named s.ports name path ≡ None → net_named t.ports name path ≡ Some net → ⊥
 there_or_not cycles name path words text s t net h k none some = none-some _ (sym none ∙ same_net cycles name path words text s t h k ∙ some)
 
-same_some : (a b : NetLine) → Some a ≡ Some b → a ≡ b
-same_some a b e = cc
-
 -- and its last bit at one generation
 same_last : (cycles : ℕ) (name path : List ℕ) (words : List (List ℕ)) (text : List ℕ) (s t : Simulation) (a b : NetLine) → IsSimulation cycles words text s → IsSimulation cycles words text t
     → net_named s.ports name path ≡ Some a → net_named t.ports name path ≡ Some b → last_probed s.ports s.streams a ≡ last_probed t.ports t.streams b
 same_last cycles name path words text s t a b h k a_is b_is =
-    let net : a ≡ b = same_some a b (sym a_is ∙ same_net cycles name path words text s t h k ∙ b_is) in
+    let net : a ≡ b = same_Some a b (sym a_is ∙ same_net cycles name path words text s t h k ∙ b_is) in
     let ports : s.ports ≡ t.ports = same_ports text s.grid t.grid s.ports t.ports (read_of cycles words text s h) (read_of cycles words text t k) in
     let many : s.streams.cycles ≡ t.streams.cycles = h.many ∙ sym k.many in
     ap (λ (n : NetLine). n.offset + (s.streams.cycles - 1) * s.ports.p) net

@@ -1,7 +1,7 @@
 -- A text and words give a simulation, or are refused in one way.
 use Rattle.std.proofs.Common.{ℕ, ◌≡◌, ◌<◌, ◌+◌, ◌-◌, ◌*◌, refl, sym, ap, ap₂, ◌∙◌, subst, List, arith}
-use Rattle.std.specs.Prelude.{Some, slice_get}
-use Rattle.std.proofs.lemmas.Option.{none-some}
+use Rattle.std.specs.Prelude.{slice_get}
+use Rattle.std.proofs.lemmas.Option.{none-some, same_Some}
 use Rattle.ww_rule.specs.Grid.{Grid}
 use Rattle.pattern_reading.specs.declared.ports.Ports.{Ports}
 use Rattle.pattern_reading.specs.declared.faults.RleFaultKind.{RleFaultKind}
@@ -87,9 +87,6 @@ rle_fault k l = record { kind = k; line = l }
 abbrev port_fault : PortFaultKind → ℕ → PortFault
 port_fault k l = record { kind = k; line = l }
 
-pub same_stream_fault : (a b : StreamFault) → Some a ≡ Some b → a ≡ b
-same_stream_fault a b e = cc
-
 -- a simulation is not refused
 not_refused : (cycles : ℕ) (words : List (List ℕ)) (text : List ℕ) (s : Simulation) (r : Cause) → IsSimulation cycles words text s → Reason cycles words text r → ⊥
 not_refused cycles words text s r h (by_pattern fault e k) = fault_or_read text fault.kind fault.line s.grid k h.pattern
@@ -115,7 +112,7 @@ same_table text a b g k reads h reads' h' =
 same_streams : (cycles : ℕ) (words : List (List ℕ)) (p q : Ports) (a b : StreamFault) → p ≡ q → HasStreamFault words (names_of p.ins) cycles a
     → HasStreamFault words (names_of q.ins) cycles b → a ≡ b
 same_streams cycles words p q a b same h k =
-    same_stream_fault a b (sym (subst (λ (x : Ports). HasStreamFault words (names_of x.ins) cycles a) same h) ∙ k)
+    same_Some a b (sym (subst (λ (x : Ports). HasStreamFault words (names_of x.ins) cycles a) same h) ∙ k)
 
 -- each stage's refusal is one
 one_reason : (cycles : ℕ) (words : List (List ℕ)) (text : List ℕ) (r r' : Cause) → Reason cycles words text r → Reason cycles words text r' → r ≡ r'

@@ -1,5 +1,6 @@
 -- Each status of a run comes only where its cause is.
-use Rattle.std.proofs.Common.{ℕ, zero, suc, ◌≡◌, ◌≢◌, ◌⊎◌, refl, sym, ◌∙◌, subst, List, inl, inr, arith}
+use Rattle.std.proofs.Common.{ℕ, zero, ◌≡◌, ◌≢◌, ◌⊎◌, refl, sym, ◌∙◌, subst, List, inl, inr, arith}
+use Rattle.std.proofs.lemmas.Bool.{cases_eq}
 use Rattle.command_words.specs.Shapes.{CommandValues, compile, simulate, eval, probe, window, make, self_, IsCommand}
 use Rattle.netlist_core.specs.Names.{Name}
 use Rattle.netlist_rules.specs.declared.fault.Fault.{Fault}
@@ -193,10 +194,6 @@ asked_by c status h two six seven (inr z) =
     let r = h.refused z six in
     asked c.words c.src r.refusal r.reason (λ e. two (r.told.status_is ∙ e)) (λ e. seven (r.told.status_is ∙ e))
 
-zero_or_not : (n : ℕ) → (n ≡ 0) ⊎ (n ≢ 0)
-zero_or_not zero = inl refl
-zero_or_not (suc n) = inr (λ e. cc)
-
 -- a run with another status than 0 and 6 is refused
 pub record Refused (c : Call) (n : ℕ) : Type 0 where
   pub refusal : Refusal
@@ -227,7 +224,7 @@ read_fault_of c r = read_fault c.words c.src r.refusal r.reason r.status_is
 pub statuses_have_causes : StatusesHaveCauses
 statuses_have_causes c status h = record {
   usage = λ e. usage_of c (refused c status 2 h (λ z. cc) (λ z. cc) e);
-  asked = λ two six seven. asked_by c status h two six seven (zero_or_not status);
+  asked = λ two six seven. asked_by c status h two six seven (cases_eq status 0);
   at_fault = λ e. at_fault_of c (refused c status 1 h (λ z. cc) (λ z. cc) e);
   a_loop = λ e. a_loop_of c (refused c status 3 h (λ z. cc) (λ z. cc) e);
   too_large = λ e. too_large_of c (refused c status 4 h (λ z. cc) (λ z. cc) e);

@@ -5,13 +5,8 @@ use Rattle.std.specs.List.{list_any, position_or_len, position}
 use Rattle.std.proofs.lemmas.List.{reverse-append}
 use Rattle.std.proofs.lemmas.Bool.Decides.{nat_tests}
 use Rattle.std.proofs.lemmas.List.Folds.{list_any-append}
+use Rattle.std.proofs.Math.Bool.{or-false, or_comm}
 use Rattle.drive.specs.Words.{is_equals_sign}
-
-or_flip : (a b : Bool) → (a || (b || false)) ≡ (b || a)
-or_flip true true = refl
-or_flip true false = refl
-or_flip false true = refl
-or_flip false false = refl
 
 -- whether an element passes is whether the first place that does is within the list
 any_place : (p : ℕ → Bool) (xs : List ℕ) → list_any p xs ≡ nat_lt (position_or_len p xs) (length xs)
@@ -27,7 +22,8 @@ any_reversed p [] = refl
 any_reversed p (x ∷ xs) =
     ap (list_any p) (reverse-append (x ∷ []) xs)
     ∙ list_any-append p (reverse xs) (x ∷ [])
-    ∙ or_flip (list_any p (reverse xs)) (p x)
+    ∙ ap (λ b. list_any p (reverse xs) || b) (or-false (p x))
+    ∙ or_comm (list_any p (reverse xs)) (p x)
     ∙ ap (λ b. p x || b) (any_reversed p xs)
 
 place_none : (b : Bool) (n : ℕ) → cond b (Some n) None ≡ None → b ≡ false

@@ -10,7 +10,7 @@ use Rattle.std.specs.Ordering.{nat_cmp}
 use Rattle.std.specs.Str.{bytes_eq}
 use Rattle.std.proofs.lemmas.List.{map_more, drop_more}
 use Rattle.std.proofs.lemmas.List.Folds.{list_any_more, find-append}
-use Rattle.std.proofs.lemmas.Map.Text.{is_eq-slice_cmp, btree_map_updates_str}
+use Rattle.std.proofs.lemmas.Map.Text.{btree_map_updates_str}
 use Rattle.std.proofs.lemmas.Slice.Eq.{bytes_eq-Decides}
 use denote.Ref.{Bor}
 use Rattle.lists.specs.Names.{is_among}
@@ -18,21 +18,13 @@ use Rattle.lists.proofs.Names.{bytes_eq-turned}
 use Rattle.drive.specs.declared.error.StreamFaultKind.{StreamFaultKind}
 use Rattle.drive.specs.Words.{word_has_name, is_equals_sign, name_in, bits_in, fault_of_word}
 use Rattle.drive.specs.Streams.{bits_for, stream_fault, stream_faults_after}
+use Rattle.lists.proofs.NameSets.{name_added}
 use Rattle.drive.specs.GivenBits.{AreNamesOf, AreBitsOf}
-
-by_cond : (a b : Bool) → cond a true b ≡ (b || a)
-by_cond true true = refl
-by_cond true false = refl
-by_cond false true = refl
-by_cond false false = refl
 
 -- one more name
 pub name_more : (old new : set.BTreeSet (Bor (List ℕ))) (key : Bor (List ℕ)) (names : List (List ℕ)) (i : ℕ) (name : List ℕ) → i < length names → key.now ≡ get_or names i name → AreNamesOf old (take i names) → set.UpdatesBy (λ x y. slice_cmp nat_cmp x.now y.now) (λ k. slice_cmp nat_cmp key.now k.now) old new true → AreNamesOf new (take (i + 1) names)
 name_more old new key names i name within is had updates asked =
-    let query : Bor (List ℕ) = record { ref_ptr = (0, 0); now = asked } in
-    updates.0 query
-    ∙ ap (λ b. cond b true (set.contains_by (λ k. slice_cmp nat_cmp asked k.now) old)) (is_eq-slice_cmp key.now asked)
-    ∙ by_cond (bytes_eq key.now asked) (set.contains_by (λ k. slice_cmp nat_cmp asked k.now) old)
+    name_added old new key asked updates
     ∙ ap (λ b. b || bytes_eq key.now asked) (had asked)
     ∙ ap (λ b. is_among asked (take i names) || b) (bytes_eq-turned key.now asked ∙ ap (bytes_eq asked) is)
     ∙ sym (list_any_more (bytes_eq asked) names i name within)

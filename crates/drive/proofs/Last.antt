@@ -1,17 +1,15 @@
 -- The last of injections in order is the latest.
-use Rattle.std.proofs.Common.{ℕ, zero, suc, ◌-◌, ◌≤◌, ◌≡◌, List, [], ◌∷◌, length, All, arith}
+use Rattle.std.proofs.Common.{ℕ, zero, suc, ◌-◌, ◌≤◌, ◌≡◌, List, [], ◌∷◌, length, All, arith, ap}
 use Rattle.std.specs.Prelude.{slice_get, Some}
 use Rattle.std.proofs.lemmas.List.Elements.{All-nil, All-cons, All-head}
+use Rattle.std.proofs.lemmas.Option.{same_Some}
 use Rattle.ww_rule.specs.declared.pattern.Injection.{Injection}
 use Rattle.ww_rule.specs.Due.{AreInOrderFrom}
-
-same_Some : (i j : Injection) → Some i ≡ Some j → i.generation ≡ j.generation
-same_Some i j e = cc
 
 pub last_is_latest : (g n : ℕ) (injections : List Injection) (last : Injection) → AreInOrderFrom g injections → n ≡ length injections - 1 → slice_get injections n ≡ Some last → All (λ i. i.generation ≤ last.generation) injections
 last_is_latest g n [] last order e at = All-nil (λ (i : Injection). i.generation ≤ last.generation)
 last_is_latest g zero (i ∷ []) last order e at =
-    let same = same_Some i last at in
+    let same = ap (λ (j : Injection). j.generation) (same_Some i last at) in
     All-cons (λ (j : Injection). j.generation ≤ last.generation) i [] (omega (arith, same)) (All-nil (λ (j : Injection). j.generation ≤ last.generation))
 last_is_latest g (suc n) (i ∷ []) last order e at = absurd (omega (arith, e))
 last_is_latest g zero (i ∷ j ∷ later) last order e at = absurd (omega (arith, e))

@@ -1,13 +1,14 @@
 -- A pattern that is dark, with no injection to come, stays as it is.
-use Rattle.std.proofs.Common.{ℤ, pos, negsuc, ◌+ℤ◌, ◌-ℤ◌, ℕ, zero, suc, ◌+◌, ◌-◌, ◌/◌, ◌<◌, ◌≤◌, ◌≡◌, refl, sym, ap, ◌∙◌, inl, inr, Bool, true, false, ◌&&◌, cond, nat_lt, List, length, All, arith}
+use Rattle.std.proofs.Common.{ℤ, pos, negsuc, ◌+ℤ◌, ◌-ℤ◌, ℕ, zero, suc, ◌+◌, ◌-◌, ◌/◌, ◌<◌, ◌≤◌, ◌≡◌, refl, sym, ap, ◌∙◌, inl, inr, Bool, false, ◌&&◌, cond, nat_lt, List, length, All, arith}
 use Rattle.std.specs.Prelude.{◌≢◌, ◌⊎◌}
 use Rattle.std.proofs.Math.Path.{fun_ext}
 use Rattle.std.proofs.lemmas.Bool.{cases_Bool, and_parts, ltb-true, le-ltb}
 use Rattle.std.proofs.lemmas.List.Elements.{All-contains}
+use Rattle.std.proofs.Math.Bool.{and-false}
 use Rattle.ww_rule.specs.declared.pattern.State.{State}
 use Rattle.ww_rule.specs.declared.pattern.State.TheVariants.{Empty, Head, Tail, Conductor}
 use Rattle.ww_rule.specs.declared.pattern.Injection.{Injection}
-use Rattle.ww_rule.specs.Wireworld.{Plane, count_head, heads_around, next_state, next_plane, injected, driven}
+use Rattle.ww_rule.specs.Wireworld.{Plane, heads_around, next_state, next_plane, injected, driven}
 use Rattle.ww_rule.specs.Grid.{in_box, plane_of}
 use Rattle.ww_rule.specs.Injections.{due_of_list}
 use Rattle.ww_rule.proofs.Lists.{lists_are_injected}
@@ -16,16 +17,11 @@ use Rattle.band_core.specs.Bands.IsAwake.{head, tail}
 use Rattle.band_core.proofs.Cells.{is_cell, is_band}
 use Rattle.band_core.proofs.Evolution as bands
 use Rattle.drive.specs.Runs.{AreAt, evolution}
+use Rattle.ww_rule.proofs.Cells.{not_counted}
 
 -- no head and no tail
 abbrev IsDark : Plane → Type 0
 IsDark p = (x y : ℤ) → (p x y ≢ Head) × (p x y ≢ Tail)
-
-not_counted : (s : State) → s ≢ Head → count_head s ≡ 0
-not_counted Empty dark = refl
-not_counted Head dark = absurd (dark refl)
-not_counted Tail dark = refl
-not_counted Conductor dark = refl
 
 stays : (s : State) (n : ℕ) → s ≢ Head → s ≢ Tail → n ≡ 0 → next_state s n ≡ s
 stays Empty n no_head no_tail e = refl
@@ -93,13 +89,9 @@ asleep_is_dark p g whole at asleep x y = (unlit Head (λ e. cc) (λ b x y cell i
 pub empty_outside : (p : BandedPattern) (g x y : ℕ) → IsBandedPattern p → (p.grid.width ≤ x) ⊎ (length p.grid.rows ≤ y) → evolution p g (pos x) (pos y) ≡ Empty
 empty_outside p g x y whole out = (bands.evolution p.grid.width p.grid.height p.grid.rows p.injections whole.grid whole.inside).empty g (pos x) (pos y) (outside out)
   where
-    none : (t : Bool) → (t && false) ≡ false
-    none true = refl
-    none false = refl
-
     outside : (p.grid.width ≤ x) ⊎ (length p.grid.rows ≤ y) → in_box p.grid.width (length p.grid.rows) (pos x) (pos y) ≡ false
     outside (inl le) = ap (λ (t : Bool). t && nat_lt y (length p.grid.rows)) (le-ltb x p.grid.width le)
-    outside (inr le) = ap (λ (t : Bool). nat_lt x p.grid.width && t) (le-ltb y (length p.grid.rows) le) ∙ none (nat_lt x p.grid.width)
+    outside (inr le) = ap (λ (t : Bool). nat_lt x p.grid.width && t) (le-ltb y (length p.grid.rows) le) ∙ and-false (nat_lt x p.grid.width)
 
 -- where all bands are asleep and no injection is to come, each later generation is this one
 pub stays_still : (p : BandedPattern) (g last : ℕ) → IsBandedPattern p → AreAt g p → ((b x y : ℕ) → b < length p.generations → IsAwake p b x y → ⊥) → All (λ i. i.generation ≤ last) p.injections → last ≤ g → (h : ℕ) → g ≤ h → evolution p h ≡ evolution p g

@@ -26,7 +26,7 @@ const LEAST_BAND_ROWS: usize = 16;
 const MOST_BAND_ROWS: usize = 1 << 20;
 
 /// How many bands there are at most, where they have more than the least number of rows and fewer than the most.
-const BANDS: usize = 32;
+const MOST_BANDS: usize = 32;
 
 /// How many cells of a row stand in one word of a band.
 const WORD_CELLS: u64 = 64;
@@ -67,10 +67,10 @@ fn last_generation(injections: &[Injection]) -> u128
 fn band_rows(rows: usize) -> u32
     ensures { 0 < result }
 {
-    rows.div_ceil(BANDS).clamp(LEAST_BAND_ROWS, MOST_BAND_ROWS) as u32
+    rows.div_ceil(MOST_BANDS).clamp(LEAST_BAND_ROWS, MOST_BAND_ROWS) as u32
 }
 
-// Whether rows of one word would be mostly empty, and there are more rows than columns.
+// Whether a row would not fill one word, and there are more rows than columns.
 fn is_narrow(pattern: &Pattern) -> bool {
     pattern.width < WORD_CELLS && pattern.width < pattern.height
 }

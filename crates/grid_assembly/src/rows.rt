@@ -56,15 +56,15 @@ pub fn fill_row(plan: &Plan, y: u64, x: u64, row: &mut [State])
     let below = (y % 16) as u32;
     let mut column = x / 32;
     let mut slot = slot_at(plan, column, lane);
-    let mut blank = is_slot_blank(slot, below);
+    let mut is_blank = is_slot_blank(slot, below);
     for (i, cell) in row.iter_mut().enumerate() {
         let place = x + i as u64;
         if place / 32 != column {
             column = place / 32;
             slot = slot_at(plan, column, lane);
-            blank = is_slot_blank(slot, below);
+            is_blank = is_slot_blank(slot, below);
         }
-        *cell = if blank {
+        *cell = if is_blank {
             State::Empty
         } else {
             slot_cell(plan, column, lane, slot, (place % 32) as u32, below)

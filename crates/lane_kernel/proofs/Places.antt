@@ -11,8 +11,10 @@ use Rattle.ww_rule.specs.Wireworld.{count_head, heads_around, next_plane, next_s
 use Rattle.lane_kernel.specs.Rows.{is_set, state_of, row_state, plane_of_rows, AreDisjoint}
 use Rattle.lists.specs.Bits.{has_bit}
 use Rattle.lane_kernel.specs.Words.{ones_of, twos_of, from_west, from_east, before, new_heads_of, new_wires_of, heads_word, wires_word}
-use Rattle.lane_kernel.proofs.Bits.{differ, odd, most, ones_bit, twos_bit, fires_bit, and_bit, or_bit, xor_bit, no_bit, west_bit, east_bit, west_is, east_is, not_last, fire_bit}
-use Rattle.lane_kernel.proofs.Counting.{num, total, counts, count_is, next_is, no_clash, clash}
+use Rattle.lane_kernel.proofs.Bits.{differ, odd, most, ones_bit, twos_bit, fires_bit, xor_bit, no_bit, west_bit, east_bit, west_is, east_is, not_last, fire_bit}
+use Rattle.lane_kernel.proofs.Counting.{total, counts, count_is, next_is, no_clash, clash}
+use Rattle.lists.proofs.WordBits.{or_bit, and_bit}
+use Rattle.lists.proofs.Numbers.{one_if}
 
 -- words that fit
 abbrev pub Fit : List ℕ → Type 0
@@ -92,15 +94,15 @@ module _ (above heads below tails wires : List ℕ) where
   abbrev plane : ℤ → ℤ → State
   plane = plane_of_rows above heads below tails wires
 
-  count_above : (z : ℤ) → count_head (plane z (pos 0)) ≡ num (row_bit above z)
+  count_above : (z : ℤ) → count_head (plane z (pos 0)) ≡ one_if (row_bit above z)
   count_above (pos x) = count_is (is_set above x) false false
   count_above (negsuc x) = refl
 
-  count_here : (z : ℤ) → count_head (plane z (pos 1)) ≡ num (row_bit heads z)
+  count_here : (z : ℤ) → count_head (plane z (pos 1)) ≡ one_if (row_bit heads z)
   count_here (pos x) = count_is (is_set heads x) (is_set tails x) (is_set wires x)
   count_here (negsuc x) = refl
 
-  count_below : (z : ℤ) → count_head (plane z (pos 2)) ≡ num (row_bit below z)
+  count_below : (z : ℤ) → count_head (plane z (pos 2)) ≡ one_if (row_bit below z)
   count_below (pos x) = count_is (is_set below x) false false
   count_below (negsuc x) = refl
 
@@ -230,7 +232,7 @@ abbrev pub Shows : List ℕ → List ℕ → List ℕ → (ℤ → ℤ → State
 Shows heads tails wires p y = (x : ℕ) → row_state heads tails wires x ≡ p (pos x) y
 
 abbrev pub ShowsHeads : List ℕ → (ℤ → ℤ → State) → ℤ → Type 0
-ShowsHeads heads p y = (x : ℕ) → num (is_set heads x) ≡ count_head (p (pos x) y)
+ShowsHeads heads p y = (x : ℕ) → one_if (is_set heads x) ≡ count_head (p (pos x) y)
 
 -- west of its first column the plane is empty
 abbrev pub IsEmptyWest : (ℤ → ℤ → State) → Type 0
@@ -239,7 +241,7 @@ IsEmptyWest p = (x : ℕ) (y : ℤ) → p (negsuc x) y ≡ Empty
 pub heads_of_row : (heads tails wires : List ℕ) (p : ℤ → ℤ → State) (y : ℤ) → Shows heads tails wires p y → ShowsHeads heads p y
 heads_of_row heads tails wires p y shows x = sym (count_is (is_set heads x) (is_set tails x) (is_set wires x)) ∙ ap count_head (shows x)
 
-heads_at : (heads : List ℕ) (p : ℤ → ℤ → State) (y : ℤ) → IsEmptyWest p → ShowsHeads heads p y → (z : ℤ) → num (row_bit heads z) ≡ count_head (p z y)
+heads_at : (heads : List ℕ) (p : ℤ → ℤ → State) (y : ℤ) → IsEmptyWest p → ShowsHeads heads p y → (z : ℤ) → one_if (row_bit heads z) ≡ count_head (p z y)
 heads_at heads p y west shows (pos x) = shows x
 heads_at heads p y west shows (negsuc x) = sym (ap count_head (west x y))
 

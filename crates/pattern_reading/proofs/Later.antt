@@ -26,6 +26,10 @@ module _ {X Y : Type 0} (g : X → Y) where
   any_mapped p q same [] = refl
   any_mapped p q same (x ∷ xs) = rw (same x, any_mapped p q same xs) refl
 
+  pub none_mapped : (xs : List X) → map g xs ≡ [] → xs ≡ []
+  none_mapped [] e = refl
+  none_mapped (x ∷ xs) e = cc
+
   pub after_first_mapped : (p : Y → Bool) (q : X → Bool) → ((x : X) → p (g x) ≡ q x) → (xs : List X) → after_first p (map g xs) ≡ map g (after_first q xs)
   after_first_mapped p q same xs =
       rw (prefix_len_mapped (λ y. not (p y)) (λ x. not (q x)) (λ x. ap not (same x)) xs) (drop-map g _ xs)

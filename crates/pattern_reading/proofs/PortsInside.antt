@@ -1,8 +1,8 @@
 -- The cells of a table that reads lie in the box.
-use Rattle.std.proofs.Common.{ℕ, ◌<◌, ◌≡◌, refl, sym, Bool, true, false, true≢false, not, ◌&&◌, List, [], ◌∷◌, ◌++◌}
+use Rattle.std.proofs.Common.{ℕ, ◌<◌, ◌≡◌, refl, sym, Bool, true, false, not, ◌&&◌, List, [], ◌∷◌, ◌++◌}
 use Rattle.std.specs.Prelude.{if◌then◌else◌, Option, Some, None, filter_map, nat_lt}
 use Rattle.std.specs.List.{AllByRecursion, cons_option}
-use Rattle.std.proofs.lemmas.Bool.{and_parts, ltb-true}
+use Rattle.std.proofs.lemmas.Bool.{and_parts, ltb-true, not-false}
 use Rattle.std.proofs.lemmas.Option.{none-some}
 use Rattle.pattern_reading.specs.declared.faults.PortFaultKind.{PortFaultKind}
 use Rattle.pattern_reading.specs.declared.faults.PortFaultKind.TheVariants.{BadOrder, CellOutside, Twice}
@@ -36,12 +36,8 @@ lines_inside width height before (line ∷ lines) e =
 
 within : (x y width height : ℕ) → not (nat_lt x width && nat_lt y height) ≡ false → (x < width) × (y < height)
 within x y width height e =
-    let both = and_parts _ _ (from_not _ e) in
+    let both = and_parts _ _ (not-false _ e) in
     (ltb-true _ _ both.0, ltb-true _ _ both.1)
-  where
-    from_not : (b : Bool) → not b ≡ false → b ≡ true
-    from_not true h = refl
-    from_not false h = absurd (true≢false h)
 
 ins_inside : (width height : ℕ) (forms : List PortForm) → AllByRecursion (IsInside width height) forms → AllByRecursion (IsPortInside width height) (filter_map input_of forms)
 ins_inside width height [] h = tt

@@ -12,10 +12,10 @@ use Rattle.pattern_reading.specs.Lines.{begins_with, lines_of}
 use Rattle.pattern_reading.specs.Numbers.{is_blank, without_leading_blanks}
 use Rattle.pattern_reading.specs.Header.{Header, header_in, header_line, is_skipped, lines_after_header}
 use Rattle.pattern_reading.specs.Items.{Item, LineItem, is_end, items_of_lines, placed_after}
-use Rattle.pattern_reading.specs.Pattern.{HasBox, ReadsAsPattern, RleFaultAt, fault_at, has_end, item_faults, items_after_header, placed_items, state_at, state_in}
+use Rattle.pattern_reading.specs.Pattern.{HasBox, ReadsAsPattern, fault_at, has_end, item_faults, items_after_header, placed_items, state_at, state_in}
 use Rattle.pattern_reading.specs.Laws.{later_by}
 use Rattle.pattern_reading.specs.SpelledPattern.{HasSpelledPattern, SpelledItem, SpellsGrid, items_of_text, lines_text, places_of}
-use Rattle.pattern_reading.proofs.Later.{any_mapped, fault_later, filter_map_later, filter_map_mapped, later_fault, later_item, later_placed, placed_later, take_while_mapped}
+use Rattle.pattern_reading.proofs.Later.{any_mapped, fault_later, filter_map_later, filter_map_mapped, later_fault, later_item, later_placed, placed_later, take_while_mapped, none_mapped}
 use Rattle.pattern_reading.proofs.LineText.{first_line}
 use Rattle.pattern_reading.proofs.SpelledItems.{items_before, bare_later}
 use Rattle.pattern_reading.proofs.SpelledItems.{bare}
@@ -90,11 +90,7 @@ module _ (text : List ℕ) (items more : List Item) (e : bare (items_after_heade
 
   same_faults : (width height : ℕ) → filter_map (fault_at width height) (places_of items) ≡ [] → item_faults text width height ≡ []
   same_faults width height h =
-      only_empty _ _ (sym (filter_map_later (later_placed none) (fault_at width height) (fault_at width height) (later_fault none) (fault_later none width height) (placed_items text)) ∙ ap (filter_map (fault_at width height)) same_places ∙ h)
-    where
-      only_empty : (f : RleFaultAt → RleFaultAt) (xs : List RleFaultAt) → map f xs ≡ [] → xs ≡ []
-      only_empty f [] h = refl
-      only_empty f (x ∷ xs) h = absurd (cc)
+      none_mapped _ _ (sym (filter_map_later (later_placed none) (fault_at width height) (fault_at width height) (later_fault none) (fault_later none width height) (placed_items text)) ∙ ap (filter_map (fault_at width height)) same_places ∙ h)
 
   same_state : (x y : ℕ) → state_at (placed_items text) x y ≡ state_at (places_of items) x y
   same_state x y =

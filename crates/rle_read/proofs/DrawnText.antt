@@ -58,12 +58,8 @@ covers px py n x y = py == y && nat_le px x && nat_lt x (px + n)
 covers_kept : (px py n x y : ℕ) → x < 2 ^ 64 - 1 → y < 2 ^ 64 - 1 → covers px py n x y ≡ covers (kept px) (kept py) n x y
 covers_kept px py n x y h k = by_column (cases_lt px (2 ^ 64 - 1)) (cases_lt py (2 ^ 64 - 1))
   where
-    and_false : (a b : Bool) → (a && false && b) ≡ false
-    and_false true b = refl
-    and_false false b = refl
-
     past_column : (qx qy : ℕ) → x < qx → covers qx qy n x y ≡ false
-    past_column qx qy l = let e : nat_le qx x ≡ false = grind (arith, nat_tests) in rw e (and_false (qy == y) (nat_lt x (qx + n)))
+    past_column qx qy l = let e : nat_le qx x ≡ false = grind (arith, nat_tests) in rw e (ap (λ t. t && nat_lt x (qx + n)) (and_none (qy == y)))
 
     past_row : (qx qy : ℕ) → y < qy → covers qx qy n x y ≡ false
     past_row qx qy l = let e : (qy == y) ≡ false = grind (arith, nat_tests) in rw e refl

@@ -75,7 +75,7 @@ impl Drawing {
             State::Empty => {}
             _ => {
                 let (x, y) = (self.x as usize, self.y as usize);
-                self.rows.fill(y, x, count as usize, state);
+                self.rows.fill(x, y, count as usize, state);
             }
         }
         self.x = self.x.saturating_add(count);

@@ -1,5 +1,5 @@
 -- Words say the same streams for a table and for its design.
-use Rattle.std.proofs.Common.{ℕ, ◌≡◌, refl, sym, ap, ap₂, ◌∙◌, subst, Bool, List, [], ◌∷◌, ◌++◌, length, map}
+use Rattle.std.proofs.Common.{ℕ, ◌≡◌, sym, ap, ap₂, ◌∙◌, subst, Bool, List, [], length, map}
 use Rattle.std.specs.Prelude.{All}
 use Rattle.std.proofs.lemmas.List.{length-map}
 use Rattle.pattern_reading.specs.declared.ports.Ports.{Ports}
@@ -12,21 +12,16 @@ use Rattle.drive.specs.Streams.{HasStreams, stream_fault, stream_faults_after, m
 use Rattle.drive.specs.Driving.{AreFor}
 use Rattle.drive.proofs.Found.{bits_long, streams_long}
 use Rattle.shown_runs.specs.ShownRuns.{StreamsMatch}
-
-both_empty : {X : Type 0} (xs ys : List X) → xs ++ ys ≡ [] → (xs ≡ []) × (ys ≡ [])
-both_empty [] ys e = (refl, e)
-both_empty (x ∷ xs) ys e = cc
-
-none_mapped : {X Y : Type 0} (f : X → Y) (xs : List X) → map f xs ≡ [] → xs ≡ []
-none_mapped f [] e = refl
-none_mapped f (x ∷ xs) e = cc
+use Rattle.lists.proofs.Appends.{append_nil_left, append_nil_right}
+use Rattle.pattern_reading.proofs.Later.{none_mapped}
 
 -- streams that words say for the names of a table are for its inputs
 pub are_for : (words : List (List ℕ)) (ports : Ports) (streams : Streams) → HasStreams words (names_of ports.ins) streams.cycles streams.bits → AreFor ports streams
 are_for words ports streams has =
     let names = names_of ports.ins in
-    let none = both_empty (stream_faults_after names streams.cycles [] words) (map (λ name. stream_fault name MissingInput) (missing_names words names)) has.no_fault in
-    let long = streams_long words names streams.cycles (bits_long names streams.cycles [] words none.0) (none_mapped (λ name. stream_fault name MissingInput) (missing_names words names) none.1) in
+    let faults = stream_faults_after names streams.cycles [] words in
+    let missing = map (λ name. stream_fault name MissingInput) (missing_names words names) in
+    let long = streams_long words names streams.cycles (bits_long names streams.cycles [] words (append_nil_left faults missing has.no_fault)) (none_mapped (λ name. stream_fault name MissingInput) (missing_names words names) (append_nil_right faults missing has.no_fault)) in
     record {
       many = ap length has.bits_is ∙ length-map names _ ∙ length-map ports.ins (λ (line : PortLine). line.name);
       long = subst (λ (bits : List (List Bool)). All (λ b. length b ≡ streams.cycles) bits) (sym has.bits_is) long;

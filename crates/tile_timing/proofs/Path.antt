@@ -1,15 +1,17 @@
 -- A path of conductors in which only consecutive cells touch carries an electron one cell a generation.
-use Rattle.std.proofs.Common.{ℤ, pos, ◌+ℤ◌, ◌-ℤ◌, ℕ, zero, suc, ◌+◌, ◌<◌, ◌≡◌, ◌≢◌, refl, sym, ap, ap₂, ◌∙◌, Bool, true, false, ◌||◌, ◌&&◌, not, cond, ◌==◌, List, [], ◌∷◌, ◌++◌, drop, length, arith, int_eq, inl, inr}
+use Rattle.std.proofs.Common.{ℤ, pos, ◌+ℤ◌, ◌-ℤ◌, ℕ, zero, suc, ◌+◌, ◌<◌, ◌≡◌, refl, sym, ap, ap₂, ◌∙◌, Bool, true, false, ◌||◌, ◌&&◌, not, cond, ◌==◌, List, [], ◌∷◌, ◌++◌, drop, length, arith, int_eq, inl, inr}
 use Rattle.std.proofs.lemmas.Int.{ints}
-use Rattle.std.proofs.lemmas.Bool.{and_parts, or_cases, cases_Bool, false_from_ne_true, true≢false}
+use Rattle.std.proofs.lemmas.Bool.{and_parts, or_cases, cases_Bool, true≢false}
 use Rattle.std.proofs.lemmas.Bool.Decides.{Decides-int_eq}
 use Rattle.std.proofs.Math.Path.{fun_ext}
+use Rattle.std.proofs.Math.Bool.{or_assoc}
 use Rattle.ww_rule.specs.declared.pattern.State.TheVariants.{Empty, Head, Tail, Conductor}
 use Rattle.ww_rule.specs.Wireworld.{next_plane, evolve, next_state, heads_around, count_head}
 use Rattle.tile_core.specs.Drawing.{Cell, is_cell_of, Drawing, picture}
 use Rattle.tile_timing.proofs.Traces.{none_of, none_of-says}
 use Rattle.tile_timing.proofs.Sound.{same_place, evolve-front}
 use Rattle.ww_rule.proofs.Cells.{sum_same as sum_is}
+use Rattle.ww_rule.proofs.Integers.{other_int}
 
 -- where a number stands from another: one below it, at it, one above it, or elsewhere
 pub data Side : Type 0 where
@@ -42,19 +44,13 @@ pub record SideOf (x c : ℤ) : Type 0 where
   pub same : int_eq x c ≡ is_at side
   pub last : int_eq (x -ℤ pos 1) c ≡ is_above side
 
-yes : (a b : ℤ) → a ≡ b → int_eq a b ≡ true
-yes a b e = (Decides-int_eq a b).1 e
-
-no : (a b : ℤ) → a ≢ b → int_eq a b ≡ false
-no a b h = false_from_ne_true (int_eq a b) (λ t. h ((Decides-int_eq a b).0 t))
-
 pub side_of : (x c : ℤ) → SideOf x c
 side_of x c =
     elim (cases_Bool (int_eq (x +ℤ pos 1) c)) [
-      | inl t ↦ let e : x +ℤ pos 1 ≡ c = (Decides-int_eq (x +ℤ pos 1) c).0 t in record { side = Below; next = t; same = no x c (λ f. omega (arith, ints)); last = no (x -ℤ pos 1) c (λ f. omega (arith, ints)) }
+      | inl t ↦ let e : x +ℤ pos 1 ≡ c = (Decides-int_eq (x +ℤ pos 1) c).0 t in record { side = Below; next = t; same = other_int x c (λ f. omega (arith, ints)); last = other_int (x -ℤ pos 1) c (λ f. omega (arith, ints)) }
       | inr f ↦
           elim (cases_Bool (int_eq x c)) [
-            | inl t ↦ let e : x ≡ c = (Decides-int_eq x c).0 t in record { side = At; next = f; same = t; last = no (x -ℤ pos 1) c (λ g. omega (arith, ints)) }
+            | inl t ↦ let e : x ≡ c = (Decides-int_eq x c).0 t in record { side = At; next = f; same = t; last = other_int (x -ℤ pos 1) c (λ g. omega (arith, ints)) }
             | inr g ↦
                 elim (cases_Bool (int_eq (x -ℤ pos 1) c)) [
                   | inl t ↦ record { side = Above; next = f; same = g; last = t }
@@ -188,11 +184,7 @@ sees_only-says c near (d ∷ ds) x y t e =
 among_either : (cs ds : List Cell) (x y : ℤ) → is_cell_of x y (cs ++ ds) ≡ (is_cell_of x y cs || is_cell_of x y ds)
 among_either [] ds x y = refl
 among_either (c ∷ cs) ds x y =
-    ap (λ b. (int_eq x c.x && int_eq y c.y) || b) (among_either cs ds x y) ∙ or_moved (int_eq x c.x && int_eq y c.y) (is_cell_of x y cs) (is_cell_of x y ds)
-  where
-    or_moved : (a b d : Bool) → (a || (b || d)) ≡ ((a || b) || d)
-    or_moved true b d = refl
-    or_moved false b d = refl
+    ap (λ b. (int_eq x c.x && int_eq y c.y) || b) (among_either cs ds x y) ∙ sym (or_assoc (int_eq x c.x && int_eq y c.y) (is_cell_of x y cs) (is_cell_of x y ds))
 
 apart : (cs ds : List Cell) (x y : ℤ) → none_of cs ds ≡ true → (is_cell_of x y cs && is_cell_of x y ds) ≡ false
 apart cs ds x y t =

@@ -1,9 +1,10 @@
 -- One step of the lists of heads and tails is one step of the plane.
-use Rattle.std.proofs.Common.{ℤ, pos, ◌+ℤ◌, ◌-ℤ◌, ℕ, zero, suc, ◌+◌, ◌<◌, ◌≡◌, refl, sym, ap, ap₂, ◌∙◌, Bool, true, false, ◌||◌, ◌&&◌, not, cond, ◌==◌, List, [], ◌∷◌, get_or, arith, int_eq}
+use Rattle.std.proofs.Common.{ℤ, pos, ◌+ℤ◌, ◌-ℤ◌, ℕ, zero, suc, ◌<◌, ◌≡◌, refl, sym, ap, ap₂, ◌∙◌, Bool, true, false, ◌||◌, ◌&&◌, not, cond, ◌==◌, List, [], ◌∷◌, get_or, arith, int_eq}
 use Rattle.std.proofs.lemmas.Bool.Decides.{Decides-int_eq, same_from_decides, Decides-like}
 use Rattle.std.proofs.lemmas.Bool.{and_parts, or_parts, or_from}
 use Rattle.std.proofs.Math.IntN.{+ℤ-neg_ℤ_cancel, -ℤ-+ℤ_cancel}
 use Rattle.std.proofs.Math.Path.{fun_ext}
+use Rattle.std.proofs.Math.Bool.{or-false}
 use Rattle.ww_rule.specs.declared.pattern.State.TheVariants.{Empty, Head, Tail, Conductor}
 use Rattle.ww_rule.specs.Wireworld.{Plane, next_plane, evolve, next_state, heads_around, count_head}
 use Rattle.tile_core.specs.Drawing.{Cell, is_cell_of, Drawing, picture}
@@ -100,10 +101,6 @@ merges false f r h true false p q = refl
 merges false f r h true true p q = refl
 merges true f r h hc fc p q = rw (p refl, q refl) (same_cell f r h)
 
-or_none : (b : Bool) → b ≡ (b || false)
-or_none true = refl
-or_none false = refl
-
 among_cond : (t : Bool) (c : Cell) (found : List Cell) (x y : ℤ) → is_cell_of x y (cond t (c ∷ found) found) ≡ cond t ((int_eq x c.x && int_eq y c.y) || is_cell_of x y found) (is_cell_of x y found)
 among_cond true c found x y = refl
 among_cond false c found x y = refl
@@ -114,7 +111,7 @@ same_place x y a b h =
     ((Decides-int_eq x a).0 parts.0, (Decides-int_eq y b).0 parts.1)
 
 pub among_collect : (p : Plane) (cs found : List Cell) (x y : ℤ) → is_cell_of x y (collect p cs found) ≡ (is_cell_of x y found || (is_cell_of x y cs && is_head (next_plane p x y)))
-among_collect p [] found x y = or_none (is_cell_of x y found)
+among_collect p [] found x y = sym (or-false (is_cell_of x y found))
 among_collect p (c ∷ cs) found x y =
     let t = is_head (next_plane p c.x c.y) && not (is_cell_of c.x c.y found) in
     among_collect p cs (cond t (c ∷ found) found) x y

@@ -1,9 +1,8 @@
 -- A piece alone on the plane, and the plane in which each cell is that of its own piece.
-use Rattle.std.proofs.Common.{ℤ, pos, ◌-ℤ◌, ℕ, ◌*◌, ◌≡◌, ◌≢◌, refl, ap, ◌∙◌, Bool, true, false, cond, List, []}
+use Rattle.std.proofs.Common.{ℤ, pos, ◌-ℤ◌, ℕ, ◌*◌, ◌≡◌, refl, ap, ◌∙◌, Bool, true, false, cond, List, []}
 use Rattle.std.specs.Prelude.{Option, Some, None}
-use Rattle.ww_rule.specs.declared.pattern.State.{State}
 use Rattle.ww_rule.specs.declared.pattern.State.TheVariants.{Empty, Head, Tail, Conductor}
-use Rattle.ww_rule.specs.Wireworld.{Plane, evolve, count_head}
+use Rattle.ww_rule.specs.Wireworld.{Plane, evolve}
 use Rattle.ww_rule.specs.Laws.{moved}
 use Rattle.ww_rule.proofs.Moves.{evolve_moved}
 use Rattle.ww_rule.proofs.Boxes.{evolve_empty}
@@ -53,11 +52,8 @@ undrawn library lit t g u v e =
 abbrev pub glue : (Kind → Drawing) → Tiling → Lit → ℕ → Plane
 glue library tiling lit g x y = evolve g (alone library lit (tile_at tiling x y)) x y
 
-pub not_head_counts : (s : State) → s ≢ Head → count_head s ≡ 0
-not_head_counts Empty h = refl
-not_head_counts Head h = absurd (h refl)
-not_head_counts Tail h = refl
-not_head_counts Conductor h = refl
+pub empty_head : Empty ≡ Head → ⊥
+empty_head e = cc
 
 -- a drawn cell lies in the box
 pub drawn_in_box : (library : Kind → Drawing) → Laws library → (tiling : Tiling) (t : Placed) (u v : ℤ) → wires library t u v ≡ true → InBox tiling t u v

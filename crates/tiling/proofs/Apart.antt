@@ -3,16 +3,17 @@ use Rattle.std.proofs.Common.{ℤ, ℕ, suc, ◌≤◌, ◌≡◌, ◌≢◌, �
 use Rattle.std.proofs.lemmas.Bool.{true≢false, false_from_ne_true}
 use Rattle.std.proofs.Math.Path.{fun_ext}
 use Rattle.std.specs.Prelude.{Option, Some, None}
+use Rattle.std.proofs.lemmas.Option.{same_Some}
 use Rattle.ww_rule.specs.declared.pattern.State.TheVariants.{Head}
 use Rattle.ww_rule.specs.Wireworld.{next_plane, evolve, count_head}
-use Rattle.ww_rule.proofs.Cells.{next_plane_counts, next_plane_empty}
+use Rattle.ww_rule.proofs.Cells.{next_plane_counts, next_plane_empty, not_counted}
 use Rattle.tile_core.specs.declared.kind.Kind.{Kind}
 use Rattle.tile_core.specs.Drawing.{Drawing}
 use Rattle.tile_core.specs.Interface.{is_in_box}
 use Rattle.tiling.specs.Tiling.{Tiling, Lit}
 use Rattle.tiling.specs.Matched.{HasWholePieces}
-use Rattle.tiling.proofs.Region.{Placed, face, tile_at, InBox, in_box_is, in_box_test, belongs, some_is}
-use Rattle.tiling.proofs.Alone.{Laws, wires, alone, alone_at, bit, glue, undrawn, nothing_stays, not_head_counts, drawn_in_box}
+use Rattle.tiling.proofs.Region.{Placed, face, tile_at, InBox, in_box_is, in_box_test, belongs}
+use Rattle.tiling.proofs.Alone.{Laws, wires, alone, alone_at, bit, glue, undrawn, nothing_stays, drawn_in_box}
 use Rattle.tiling.proofs.Border.{Near, near_back, local_x, local_y, is_entry, is_exit, is_port, inside_is}
 
 abbrev pub IsPortAt : Placed → ℤ → ℤ → Type 0
@@ -33,7 +34,7 @@ contact : (library : Kind → Drawing) → Laws library → (tiling : Tiling) �
     → Near x y u v → (InBox tiling t u v → ⊥) → wires library t x y ≡ true → wires library s u v ≡ true → Contact library tiling t s x y u v
 contact library laws tiling h t s x y u v e f n out d w =
     let back : InBox tiling s x y → ⊥ = λ b.
-    let same : t ≡ s = some_is (sym e ∙ in_box_is tiling h s x y (belongs tiling h s u v f).stands b) in
+    let same : t ≡ s = same_Some _ _ (sym e ∙ in_box_is tiling h s x y (belongs tiling h s u v f).stands b) in
     out (subst (λ r. InBox tiling r u v) (sym same) (belongs tiling h s u v f).inside) in
     record {
       here = e;
@@ -56,7 +57,7 @@ counts library laws tiling h lit g t x y u v e d n quiet = in_or_out (is_in_box 
     none_of_its_own out = ap count_head (undrawn library lit t g u v (false_from_ne_true _ (λ w. out (drawn_in_box library laws tiling t u v w))))
 
     drawn_or_not : (s : Placed) (w : Bool) → tile_at tiling u v ≡ Some s → wires library s u v ≡ w → (InBox tiling t u v → ⊥) → count_head (evolve g (alone library lit (Some s)) u v) ≡ 0
-    drawn_or_not s true f w out = not_head_counts _ (quiet s (contact library laws tiling h t s x y u v e f n out d w))
+    drawn_or_not s true f w out = not_counted _ (quiet s (contact library laws tiling h t s x y u v e f n out d w))
     drawn_or_not s false f w out = ap count_head (undrawn library lit s g u v w)
 
     other : (o : Option Placed) → tile_at tiling u v ≡ o → (InBox tiling t u v → ⊥) → count_head (evolve g (alone library lit o) u v) ≡ 0

@@ -1,10 +1,11 @@
 -- How many heads lie around a cell, where at most the one in front of it is a head.
 use Rattle.std.proofs.Common.{ℤ, pos, ◌+ℤ◌, ◌-ℤ◌, ◌≤ℤ◌, ℕ, ◌+◌, ◌≡◌, sym, ap, ap₂, ◌∙◌, arith}
 use Rattle.std.proofs.lemmas.Int.{ints}
+use Rattle.std.specs.Int.Signed.{≤ℤ_refl}
 use Rattle.ww_rule.specs.Wireworld.{Plane, heads_around, count_head}
 use Rattle.tiling.proofs.Border.{Near}
 use Rattle.tiling.proofs.Facing.{Facing, East_of, West_of, South_of, North_of}
-use Rattle.ww_rule.proofs.Cells.{sum_none}
+use Rattle.ww_rule.proofs.Cells.{sum_none, from_one_less, to_one_more, across}
 
 -- no cell beside this one is a head, but those for which the premise Q does not hold
 abbrev pub QuietBut : Plane → ℤ → ℤ → (ℤ → ℤ → Type 0) → Type 0
@@ -12,21 +13,6 @@ QuietBut p x y Q = (u v : ℤ) → Near x y u v → (Q u v → ⊥) → count_he
 
 near_by : (x y u v : ℤ) → (x -ℤ pos 1) ≤ℤ u → u ≤ℤ (x +ℤ pos 1) → (y -ℤ pos 1) ≤ℤ v → v ≤ℤ (y +ℤ pos 1) → Near x y u v
 near_by x y u v a b c d = record { west = a; east = b; north = c; south = d }
-
-less : (z : ℤ) → (z -ℤ pos 1) ≤ℤ (z -ℤ pos 1)
-less z = omega (arith, ints)
-
-lo : (z : ℤ) → (z -ℤ pos 1) ≤ℤ z
-lo z = omega (arith, ints)
-
-hi : (z : ℤ) → z ≤ℤ (z +ℤ pos 1)
-hi z = omega (arith, ints)
-
-more : (z : ℤ) → (z +ℤ pos 1) ≤ℤ (z +ℤ pos 1)
-more z = omega (arith, ints)
-
-far : (z : ℤ) → (z -ℤ pos 1) ≤ℤ (z +ℤ pos 1)
-far z = omega (arith, ints)
 
 -- the counts of the eight neighbours, where all but those of Q are 0
 pub record Eight (p : Plane) (x y : ℤ) (Q : ℤ → ℤ → Type 0) : Type 0 where
@@ -42,14 +28,14 @@ pub record Eight (p : Plane) (x y : ℤ) (Q : ℤ → ℤ → Type 0) : Type 0 w
 eight : (p : Plane) (x y : ℤ) (Q : ℤ → ℤ → Type 0) → QuietBut p x y Q → Eight p x y Q
 eight p x y Q h =
     record {
-      nw = h (x -ℤ pos 1) (y -ℤ pos 1) (near_by x y _ _ (less x) (far x) (less y) (far y));
-      n = h x (y -ℤ pos 1) (near_by x y _ _ (lo x) (hi x) (less y) (far y));
-      ne = h (x +ℤ pos 1) (y -ℤ pos 1) (near_by x y _ _ (far x) (more x) (less y) (far y));
-      w = h (x -ℤ pos 1) y (near_by x y _ _ (less x) (far x) (lo y) (hi y));
-      e = h (x +ℤ pos 1) y (near_by x y _ _ (far x) (more x) (lo y) (hi y));
-      sw = h (x -ℤ pos 1) (y +ℤ pos 1) (near_by x y _ _ (less x) (far x) (far y) (more y));
-      s = h x (y +ℤ pos 1) (near_by x y _ _ (lo x) (hi x) (far y) (more y));
-      se = h (x +ℤ pos 1) (y +ℤ pos 1) (near_by x y _ _ (far x) (more x) (far y) (more y));
+      nw = h (x -ℤ pos 1) (y -ℤ pos 1) (near_by x y _ _ (≤ℤ_refl _) (across x) (≤ℤ_refl _) (across y));
+      n = h x (y -ℤ pos 1) (near_by x y _ _ (from_one_less x) (to_one_more x) (≤ℤ_refl _) (across y));
+      ne = h (x +ℤ pos 1) (y -ℤ pos 1) (near_by x y _ _ (across x) (≤ℤ_refl _) (≤ℤ_refl _) (across y));
+      w = h (x -ℤ pos 1) y (near_by x y _ _ (≤ℤ_refl _) (across x) (from_one_less y) (to_one_more y));
+      e = h (x +ℤ pos 1) y (near_by x y _ _ (across x) (≤ℤ_refl _) (from_one_less y) (to_one_more y));
+      sw = h (x -ℤ pos 1) (y +ℤ pos 1) (near_by x y _ _ (≤ℤ_refl _) (across x) (across y) (≤ℤ_refl _));
+      s = h x (y +ℤ pos 1) (near_by x y _ _ (from_one_less x) (to_one_more x) (across y) (≤ℤ_refl _));
+      se = h (x +ℤ pos 1) (y +ℤ pos 1) (near_by x y _ _ (across x) (≤ℤ_refl _) (across y) (≤ℤ_refl _));
     }
 
 pub none_around : (p : Plane) (x y : ℤ) → QuietBut p x y (λ u v. ⊥) → heads_around p x y ≡ 0

@@ -2,6 +2,7 @@
 use Rattle.std.proofs.Common.{ℤ, pos, negsuc, ℕ, zero, suc, ◌+◌, ◌-◌, ◌*◌, ◌/◌, ◌%◌, ◌≡◌, refl, ap, ap₂, ◌∙◌, Bool, false, arith}
 use Rattle.std.proofs.lemmas.Int.{ints}
 use Rattle.std.specs.Prelude.{Some, None}
+use Rattle.std.proofs.lemmas.Option.{same_Some}
 use Rattle.ww_rule.specs.declared.pattern.State.TheVariants.{Empty}
 use Rattle.tile_core.specs.declared.kind.Kind.{Kind}
 use Rattle.tile_core.specs.Drawing.{Drawing, is_cell_of}
@@ -10,7 +11,7 @@ use Rattle.tiling.specs.Tiling.{Piece, interface_of, Slot, Tiling, Lit, drawn, d
 use Rattle.tiling.specs.Tiling.Slot.{Nothing, Whole, Upper, Lower}
 use Rattle.tiling.specs.Matched.{HasWholePieces, is_entered, is_left}
 use Rattle.tiling.specs.MacroStep.{piece_answers, slot_answers}
-use Rattle.tiling.proofs.Region.{Placed, face, place_of, tile_at, InBox, some_is}
+use Rattle.tiling.proofs.Region.{Placed, face, place_of, tile_at, InBox}
 
 -- a function of a piece's first block and a place in its box, by the block and the place there
 abbrev pub by_slot : {A : Type 0} → (ℕ → ℕ → Piece → ℕ → ℕ → A) → A → ℕ → ℕ → Slot → ℕ → ℕ → A
@@ -42,7 +43,7 @@ slot_some {A} f none tiling h t X Y e b = go (tiling (X / 32) (Y / 16)) refl e
 
     here : (p : Piece) → Some (record { column = X / 32; lane = Y / 16; piece = p }) ≡ Some t → f (X / 32) (Y / 16) p (X % 32) (Y % 16) ≡ f t.column t.lane t.piece b.x b.y
     here p g =
-        let same = some_is g in
+        let same = same_Some _ _ g in
         let col : X / 32 ≡ t.column = ap (λ s. s.column) same in
         let row : Y / 16 ≡ t.lane = ap (λ s. s.lane) same in
         let x_is : X % 32 ≡ b.x = omega (arith, whole_x, col) in
@@ -58,7 +59,7 @@ slot_some {A} f none tiling h t X Y e b = go (tiling (X / 32) (Y / 16)) refl e
         below : (l : ℕ) → l ≡ Y / 16 → f (X / 32) (Y / 16 - 1) p (X % 32) (Y % 16 + 16) ≡ f t.column t.lane t.piece b.x b.y
         below zero z = absurd (h.first (X / 32) p (ap (tiling (X / 32)) z ∙ k))
         below (suc l) z =
-            let same = some_is g in
+            let same = same_Some _ _ g in
             let col : X / 32 ≡ t.column = ap (λ s. s.column) same in
             let row : Y / 16 - 1 ≡ t.lane = ap (λ s. s.lane) same in
             let x_is : X % 32 ≡ b.x = omega (arith, whole_x, col) in

@@ -4,27 +4,32 @@ use Rattle.std.proofs.lemmas.Bool.{true≢false, and_from, and_right, or_from, f
 use Rattle.std.proofs.lemmas.Int.{ints}
 use Rattle.std.proofs.Math.Path.{fun_ext}
 use Rattle.std.specs.Prelude.{Option, Some, None}
+use Rattle.std.proofs.lemmas.Option.{none-some}
+use Rattle.std.proofs.Math.Bool.{or-true}
 use Rattle.ww_rule.specs.declared.pattern.State.TheVariants.{Head, Tail, Conductor}
 use Rattle.ww_rule.specs.Wireworld.{Plane, Due, next_plane, evolve, injected, driven}
 use Rattle.tile_core.specs.declared.kind.Kind.{Kind}
 use Rattle.tile_core.specs.Drawing.{Drawing, is_cell_of}
 use Rattle.tile_core.specs.Interface.{entry_cells, exit_cells}
 use Rattle.tiling.specs.Tiling.{Tiling, Lit, drawn, piece_drawing, edge_of}
-use Rattle.tiling.specs.Tiling.Edge.{Beside}
 use Rattle.tiling.specs.Matched.{IsMatched, is_entered, is_left}
 use Rattle.tiling.specs.MacroStep.{macro_step}
 use Rattle.tiling.specs.Steps.{KeepsLaw, DrivesEntries, injected_edges, with_injected, driven_edges, IsDriven}
 use Rattle.tiling.proofs.Region.{Placed, face, tile_at, InBox, belongs}
 use Rattle.tiling.proofs.Alone.{Laws, wires}
 use Rattle.tiling.proofs.Border.{at_local}
-use Rattle.tiling.proofs.Sides.{IsAtSide, entry_side, exit_side, block_edge, edge_at}
+use Rattle.tiling.proofs.Sides.{IsAtSide, entry_side, exit_side, block_edge, edge_at, west_edge}
 use Rattle.tiling.proofs.Blocks.{drawn_none, answers_at, entered_at, left_at, entered_is, left_is, entered_none}
-use Rattle.tiling.proofs.First.{drawn_cell, undrawn_cell, none_some, place_lit}
+use Rattle.tiling.proofs.First.{drawn_cell, undrawn_cell, place_lit}
 use Rattle.tiling.proofs.Facing.{Facing, East_of, West_of, South_of, North_of}
 use Rattle.tiling.proofs.Roles.{entry_no_exit}
 use Rattle.tiling.proofs.Front.{EdgeAfter, Nobody, Somebody, edge_after}
 use Rattle.tiling.proofs.Macro.{macro, port_edge, side_at, answered_exit}
 use Rattle.tiling.proofs.OutputCell.{laws_of}
+
+-- a number below zero is no place
+no_place : (n m : ℕ) → negsuc n ≡ pos m → ⊥
+no_place n m e = cc
 
 -- a cell in the middle of an east side, before a block that is driven
 east_clash : (tiling : Tiling) → IsMatched tiling → (due : Due) → DrivesEntries tiling due → (g X Y : ℕ) → X % 32 ≡ 31 → Y % 16 ≡ 8 → due g (pos (32 * (X / 32 + 1))) (pos (16 * (Y / 16) + 8)) ≡ true
@@ -86,10 +91,6 @@ west_cell tiling due d g X Y e =
     let s : Y % 16 ≡ 8 = omega (arith, y) in
     record { q = h.0; l = h.1; x_is = x; y_is = y; entered = ap₂ (λ i j. is_entered (tiling i j) (X % 32) (Y % 16)) q l ∙ ap₂ (is_entered (tiling h.0 h.1)) r s ∙ h.4 }
 
-or_true : (l : Bool) → (l || true) ≡ true
-or_true true = refl
-or_true false = refl
-
 -- the injections of one generation
 injected_drawn : (library : Kind → Drawing) → Laws library → (tiling : Tiling) → IsMatched tiling → (due : Due) → DrivesEntries tiling due → (g : ℕ) (lit : Lit) → injected (due g) (drawn library tiling lit) ≡ drawn library tiling (with_injected due g lit)
 injected_drawn library laws tiling m due d g lit = fun_ext (λ x. fun_ext (λ y. at x y (due g x y) refl))
@@ -118,7 +119,7 @@ injected_drawn library laws tiling m due d g lit = fun_ext (λ x. fun_ext (λ y.
         ∙ ap₂ (λ i j. due g (pos (32 * i)) (pos (16 * j + 8))) q l
         ∙ sym (ap₂ (λ i j. due g (pos i) (pos j)) w.x_is w.y_is)
         ∙ f in
-        let on : place_lit lit' t b.x b.y ≡ true = ap (λ i. lit (edge_of t.column t.lane (b.x, b.y)) || i) edge ∙ or_true _ in
+        let on : place_lit lit' t b.x b.y ≡ true = ap (λ i. lit (edge_of t.column t.lane (b.x, b.y)) || i) edge ∙ or-true _ in
         sym (drawn_cell library tiling m.pieces lit' t (pos X) (pos Y) e b wired
         ∙ ap (λ v. cond v Head (cond (is_cell_of (pos b.x) (pos b.y) (exit_cells (face t)) && place_lit lit' t b.x b.y) Tail Conductor)) (and_from _ _ entry on))
 
@@ -137,8 +138,8 @@ injected_drawn library laws tiling m due d g lit = fun_ext (λ x. fun_ext (λ y.
     kept_wire : (x y : ℤ) → due g x y ≡ false → (t : Placed) → tile_at tiling x y ≡ Some t → (b : InBox tiling t x y) → (v : Bool) → wires library t x y ≡ v → drawn library tiling lit x y ≡ drawn library tiling lit' x y
     kept_wire x y f t e b false w = undrawn_cell library tiling m.pieces lit t x y e b w ∙ sym (undrawn_cell library tiling m.pieces lit' t x y e b w)
     kept_wire (pos X) (pos Y) f t e b true w = kept_drawn X Y f t e b w
-    kept_wire (pos X) (negsuc Y) f t e b true w = absurd (none_some e)
-    kept_wire (negsuc X) y f t e b true w = absurd (none_some e)
+    kept_wire (pos X) (negsuc Y) f t e b true w = absurd (none-some _ e)
+    kept_wire (negsuc X) y f t e b true w = absurd (none-some _ e)
 
     kept : (x y : ℤ) → due g x y ≡ false → (o : Option Placed) → tile_at tiling x y ≡ o → drawn library tiling lit x y ≡ drawn library tiling lit' x y
     kept x y f None e = drawn_none library tiling lit x y e ∙ sym (drawn_none library tiling lit' x y e)
@@ -147,14 +148,8 @@ injected_drawn library laws tiling m due d g lit = fun_ext (λ x. fun_ext (λ y.
     at : (x y : ℤ) (v : Bool) → due g x y ≡ v → injected (due g) (drawn library tiling lit) x y ≡ drawn library tiling lit' x y
     at x y false f = ap (λ v. cond v Head (drawn library tiling lit x y)) f ∙ kept x y f (tile_at tiling x y) refl
     at (pos X) (pos Y) true f = ap (λ v. cond v Head (drawn library tiling lit (pos X) (pos Y))) f ∙ made X Y f (tile_at tiling (pos X) (pos Y)) refl
-    at (pos X) (negsuc Y) true f = absurd (no_row X Y (d.at_entries g (pos X) (negsuc Y) f).1 (d.at_entries g (pos X) (negsuc Y) f).3)
-      where
-        no_row : (X Y l : ℕ) → negsuc Y ≡ pos (16 * l + 8) → ⊥
-        no_row X Y l e = cc
-    at (negsuc X) y true f = absurd (no_column X (d.at_entries g (negsuc X) y f).0 (d.at_entries g (negsuc X) y f).2)
-      where
-        no_column : (X q : ℕ) → negsuc X ≡ pos (32 * q) → ⊥
-        no_column X q e = cc
+    at (pos X) (negsuc Y) true f = absurd (no_place Y _ (d.at_entries g (pos X) (negsuc Y) f).3)
+    at (negsuc X) y true f = absurd (no_place X _ (d.at_entries g (negsuc X) y f).2)
 
 -- an entry where heads are injected is dark before
 free_entry : (library : Kind → Drawing) → Laws library → (tiling : Tiling) → IsMatched tiling → (due : Due) → DrivesEntries tiling due → (g : ℕ) (lit : Lit) (X Y : ℕ) → due g (pos X) (pos Y) ≡ true → lit (edge_at X Y) ≡ false → drawn library tiling lit (pos X) (pos Y) ≡ Conductor
@@ -237,24 +232,11 @@ driven_by_macro library keeps tiling m due d lit =
     record {
       whole = λ k r h. from_start library tiling due d lit k r (starts library laws tiling m due d lit k) h;
       conductors = λ k x y f. ap (λ p. p x y) (ap next_plane (from_start library tiling due d lit k 31 (starts library laws tiling m due d lit k) (lit< tt)) ∙ macro library laws tiling m (driven_edges tiling due lit k)) ∙ at laws k x y f;
-      first_conductors = λ q l f dark. free_entry library laws tiling m due d 0 lit (32 * q) (16 * l + 8) f (west_edge q l ∙ dark);
+      first_conductors = λ q l f dark. free_entry library laws tiling m due d 0 lit (32 * q) (16 * l + 8) f (west_edge lit q l ∙ dark);
     }
   where
-    west_edge : (q l : ℕ) → lit (edge_at (32 * q) (16 * l + 8)) ≡ lit (Beside q l)
-    west_edge q l =
-        let c : 32 * q / 32 ≡ q = omega arith in
-        let r : 32 * q % 32 ≡ 0 = omega arith in
-        let s : (16 * l + 8) / 16 ≡ l = omega arith in
-        ap (λ k. lit (block_edge (32 * q / 32) ((16 * l + 8) / 16) k ((16 * l + 8) % 16))) r ∙ ap₂ (λ i j. lit (Beside i j)) c s
-
     at : Laws library → (k : ℕ) (x y : ℤ) → due (32 * suc k) x y ≡ true → drawn library tiling (macro_step tiling (driven_edges tiling due lit k)) x y ≡ Conductor
     at laws k (pos X) (pos Y) f =
         free_entry library laws tiling m due d (32 * suc k) (macro_step tiling (driven_edges tiling due lit k)) X Y f (macro_dark tiling m due d (32 * suc k) (driven_edges tiling due lit k) X Y f)
-    at laws k (pos X) (negsuc Y) f = absurd (no_row Y (d.at_entries (32 * suc k) (pos X) (negsuc Y) f).1 (d.at_entries (32 * suc k) (pos X) (negsuc Y) f).3)
-      where
-        no_row : (Y l : ℕ) → negsuc Y ≡ pos (16 * l + 8) → ⊥
-        no_row Y l e = cc
-    at laws k (negsuc X) y f = absurd (no_column X (d.at_entries (32 * suc k) (negsuc X) y f).0 (d.at_entries (32 * suc k) (negsuc X) y f).2)
-      where
-        no_column : (X q : ℕ) → negsuc X ≡ pos (32 * q) → ⊥
-        no_column X q e = cc
+    at laws k (pos X) (negsuc Y) f = absurd (no_place Y _ (d.at_entries (32 * suc k) (pos X) (negsuc Y) f).3)
+    at laws k (negsuc X) y f = absurd (no_place X _ (d.at_entries (32 * suc k) (negsuc X) y f).2)

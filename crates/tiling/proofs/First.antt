@@ -1,9 +1,9 @@
 -- The first generation: tails at lit exits, and heads at lit entries, become what each piece alone makes of its lit entries.
-use Rattle.std.proofs.Common.{ℤ, pos, negsuc, ℕ, ◌+◌, ◌*◌, ◌≡◌, ◌≢◌, refl, sym, ap, ap₂, ◌∙◌, Bool, true, false, ◌||◌, ◌&&◌, ◌==◌, cond, arith, inl, inr, [], lit≤}
+use Rattle.std.proofs.Common.{ℤ, pos, negsuc, ℕ, ◌≡◌, ◌≢◌, refl, sym, ap, ap₂, ◌∙◌, Bool, true, false, ◌||◌, ◌&&◌, ◌==◌, cond, arith, inl, inr, [], lit≤}
 use Rattle.std.proofs.lemmas.Bool.{true≢false, and_parts, and_from}
-use Rattle.std.proofs.lemmas.Int.{ints}
 use Rattle.std.proofs.Math.Path.{fun_ext}
 use Rattle.std.specs.Prelude.{Option, Some, None}
+use Rattle.std.proofs.lemmas.Option.{none-some}
 use Rattle.ww_rule.specs.declared.pattern.State.{State}
 use Rattle.ww_rule.specs.declared.pattern.State.TheVariants.{Empty, Head, Tail, Conductor}
 use Rattle.ww_rule.specs.Wireworld.{Plane, next_plane, next_state, heads_around, evolve, count_head}
@@ -13,7 +13,7 @@ use Rattle.tile_core.specs.Drawing.{Drawing, picture, is_cell_of}
 use Rattle.tile_core.specs.Interface.{entry_cells, exit_cells}
 use Rattle.tiling.specs.Tiling.{Tiling, Lit, piece_drawing, drawn, heads_of, tails_of, edge_of}
 use Rattle.tiling.specs.Matched.{HasWholePieces, IsMatched}
-use Rattle.tiling.proofs.Region.{Placed, face, tile_at, InBox, belongs}
+use Rattle.tiling.proofs.Region.{Placed, face, tile_at, InBox, belongs, whole_place}
 use Rattle.tiling.proofs.Alone.{Laws, wires, alone, alone_at, bit, glue, undrawn, nothing_stays, picture_undrawn}
 use Rattle.tiling.proofs.Border.{local_x, local_y, is_exit, at_local}
 use Rattle.tiling.proofs.Apart.{Contact, counts}
@@ -66,9 +66,6 @@ dark_port : (library : Kind → Drawing) (lit : Lit) (t : Placed) (x y : ℤ) �
 dark_port library lit t x y w none after =
     conductor_next (alone library lit (Some t) x y) (heads_around (alone library lit (Some t)) x y) (rests (wires library t x y) (is_cell_of (local_x t x) (local_y t y) (heads_of lit t.column t.lane (face t))) w none) after
 
-pub none_some : {A : Type 0} {a : A} → None ≡ Some a → ⊥
-none_some e = cc
-
 head_shade : (w h : Bool) → shade w h false ≡ Head → h ≡ true
 head_shade true true e = refl
 head_shade true false e = cc
@@ -82,13 +79,10 @@ pub shared_edge : (library : Kind → Drawing) (tiling : Tiling) → HasWholePie
     → edge_of t.column t.lane (b.x, b.y) ≡ edge_of s.column s.lane (d.x, d.y)
 shared_edge library tiling h t s X Y U V k b d =
     edge_is t.column t.lane b.x b.y (port_side tiling t (pos X) (pos Y) b k.port_here)
-    ∙ ap₂ edge_at (whole 32 t.column b.x X b.u_is) (whole 16 t.lane b.y Y b.v_is)
+    ∙ ap₂ edge_at (whole_place 32 t.column b.x X b.u_is) (whole_place 16 t.lane b.y Y b.v_is)
     ∙ facing_edge X Y U V (contact_faces library tiling h t s X Y U V k)
-    ∙ sym (ap₂ edge_at (whole 32 s.column d.x U d.u_is) (whole 16 s.lane d.y V d.v_is))
+    ∙ sym (ap₂ edge_at (whole_place 32 s.column d.x U d.u_is) (whole_place 16 s.lane d.y V d.v_is))
     ∙ sym (edge_is s.column s.lane d.x d.y (port_side tiling s (pos U) (pos V) d k.port_there))
-  where
-    whole : (n q x X : ℕ) → pos X ≡ pos (n * q + x) → n * q + x ≡ X
-    whole n q x X e = omega (arith, ints, e)
 
 -- a piece that touches another has no lit entry there, unless the other has a lit exit
 pub quiet_first : (library : Kind → Drawing) (tiling : Tiling) → IsMatched tiling → (lit : Lit) (t s : Placed) (x y u v : ℤ) → Contact library tiling t s x y u v → (b : InBox tiling t x y)
@@ -111,10 +105,10 @@ quiet_first library tiling m lit t s (pos X) (pos Y) (pos U) (pos V) k b dark he
       | inl entry ↦ true≢false (entries_apart tiling m X Y U V faces (sym (entry_at tiling h t X Y k.here b) ∙ entry) entered)
       | inr exit ↦ true≢false (sym (and_from _ _ (ap₂ (λ i j. is_cell_of i j (exit_cells (face t))) (sym here.0) (sym here.1) ∙ exit) edge) ∙ dark)
     ]
-quiet_first library tiling m lit t s (pos X) (pos Y) (pos U) (negsuc V) k b dark head = none_some k.there
-quiet_first library tiling m lit t s (pos X) (pos Y) (negsuc U) v k b dark head = none_some k.there
-quiet_first library tiling m lit t s (pos X) (negsuc Y) u v k b dark head = none_some k.here
-quiet_first library tiling m lit t s (negsuc X) y u v k b dark head = none_some k.here
+quiet_first library tiling m lit t s (pos X) (pos Y) (pos U) (negsuc V) k b dark head = none-some _ k.there
+quiet_first library tiling m lit t s (pos X) (pos Y) (negsuc U) v k b dark head = none-some _ k.there
+quiet_first library tiling m lit t s (pos X) (negsuc Y) u v k b dark head = none-some _ k.here
+quiet_first library tiling m lit t s (negsuc X) y u v k b dark head = none-some _ k.here
 
 -- a drawn cell of the drawn plane
 pub drawn_cell : (library : Kind → Drawing) (tiling : Tiling) → HasWholePieces tiling → (lit : Lit) (t : Placed) (x y : ℤ) → tile_at tiling x y ≡ Some t → (b : InBox tiling t x y) → wires library t x y ≡ true

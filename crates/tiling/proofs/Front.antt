@@ -1,5 +1,6 @@
 -- The cell in front of a port, and the edge between them.
-use Rattle.std.proofs.Common.{ℕ, zero, suc, ◌+◌, ◌-◌, ◌/◌, ◌%◌, ◌≡◌, refl, sym, ap, ap₂, ◌∙◌, Bool, true, false, ◌||◌, arith, inl, inr}
+use Rattle.std.proofs.Common.{ℕ, zero, suc, ◌+◌, ◌-◌, ◌/◌, ◌%◌, ◌≡◌, refl, sym, ap, ap₂, ◌∙◌, ◌||◌, arith, inl, inr}
+use Rattle.std.proofs.Math.Bool.{or_comm}
 use Rattle.tiling.specs.Tiling.{Tiling, Lit}
 use Rattle.tiling.specs.Tiling.Edge.{Beside, Above}
 use Rattle.tiling.specs.MacroStep.{macro_step, slot_answers}
@@ -32,12 +33,6 @@ pub data EdgeAfter : (tiling : Tiling) (lit : Lit) (X Y : ℕ) → Type 0 where
   Nobody : {tiling : Tiling} {lit : Lit} {X Y : ℕ} → ((U V : ℕ) → Facing X Y U V → ⊥) → macro_step tiling lit (edge_at X Y) ≡ answers_at tiling lit X Y → EdgeAfter tiling lit X Y
   Somebody : {tiling : Tiling} {lit : Lit} {X Y : ℕ} (U V : ℕ) → Facing X Y U V → macro_step tiling lit (edge_at X Y) ≡ (answers_at tiling lit X Y || answers_at tiling lit U V) → EdgeAfter tiling lit X Y
 
-or_turned : (a b : Bool) → (a || b) ≡ (b || a)
-or_turned true true = refl
-or_turned true false = refl
-or_turned false true = refl
-or_turned false false = refl
-
 answers_in : (tiling : Tiling) (lit : Lit) (X Y q l r s : ℕ) → X / 32 ≡ q → Y / 16 ≡ l → X % 32 ≡ r → Y % 16 ≡ s → answers_at tiling lit X Y ≡ slot_answers lit q l (tiling q l) r s
 answers_in tiling lit X Y q l r s a b c d =
     ap₂ (λ i j. slot_answers lit i j (tiling i j) (X % 32) (Y % 16)) a b ∙ ap₂ (slot_answers lit q l (tiling q l)) c d
@@ -60,7 +55,7 @@ west_side tiling lit X Y (suc q) l a b c d =
     Somebody U Y (West_of e refl ur d)
     (ap (λ r. macro_step tiling lit (block_edge (X / 32) (Y / 16) r (Y % 16))) c
     ∙ ap₂ (λ i j. macro_step tiling lit (Beside i j)) (sym a) (sym b)
-    ∙ or_turned (slot_answers lit q l (tiling q l) 31 8) (slot_answers lit (suc q) l (tiling (suc q) l) 0 8)
+    ∙ or_comm (slot_answers lit q l (tiling q l) 31 8) (slot_answers lit (suc q) l (tiling (suc q) l) 0 8)
     ∙ ap₂ (λ i j. i || j) (sym (answers_in tiling lit X Y (suc q) l 0 8 (sym a) (sym b) c d)) (sym (answers_in tiling lit U Y q l 31 8 uq (sym b) ur d)))
 
 east_side : (tiling : Tiling) (lit : Lit) (X Y q l : ℕ) → q ≡ X / 32 → l ≡ Y / 16 → X % 32 ≡ 31 → Y % 16 ≡ 8 → EdgeAfter tiling lit X Y
@@ -92,7 +87,7 @@ north_side tiling lit X Y q (suc l) a b c d =
     Somebody X V (North_of e refl c vs)
     (ap₂ (λ r s. macro_step tiling lit (block_edge (X / 32) (Y / 16) r s)) c d
     ∙ ap₂ (λ i j. macro_step tiling lit (Above i j)) (sym a) (sym b)
-    ∙ or_turned (slot_answers lit q l (tiling q l) 16 15) (slot_answers lit q (suc l) (tiling q (suc l)) 16 0)
+    ∙ or_comm (slot_answers lit q l (tiling q l) 16 15) (slot_answers lit q (suc l) (tiling q (suc l)) 16 0)
     ∙ ap₂ (λ i j. i || j) (sym (answers_in tiling lit X Y q (suc l) 16 0 (sym a) (sym b) c d)) (sym (answers_in tiling lit X V q l 16 15 (sym a) vl c vs)))
 
 south_side : (tiling : Tiling) (lit : Lit) (X Y q l : ℕ) → q ≡ X / 32 → l ≡ Y / 16 → X % 32 ≡ 16 → Y % 16 ≡ 15 → EdgeAfter tiling lit X Y

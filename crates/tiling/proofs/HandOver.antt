@@ -11,7 +11,7 @@ use Rattle.tile_core.specs.Drawing.{Cell, Drawing, is_cell_of}
 use Rattle.tile_core.specs.Interface.{entry_cells, exit_cells, lit_exits, chosen}
 use Rattle.tiling.specs.Tiling.{Tiling, Lit}
 use Rattle.tiling.proofs.Region.{Placed, face, InBox}
-use Rattle.tiling.proofs.Alone.{Laws, wires, alone, alone_at, bit, undrawn, drawn_in_box}
+use Rattle.tiling.proofs.Alone.{Laws, wires, alone, alone_at, bit, undrawn, drawn_in_box, empty_head}
 use Rattle.tiling.proofs.Border.{Near, local_x, local_y, is_entry, at_local}
 use Rattle.tiling.proofs.Sides.{IsAtSide, entry_side, exit_side}
 use Rattle.tiling.proofs.Roles.{entry_no_exit}
@@ -51,9 +51,6 @@ head_31 library laws lit t u v head = go (wires library t u v) refl
     go : (w : Bool) → wires library t u v ≡ w → (wires library t u v ≡ true) × (answered lit t u v ≡ true)
     go true w = (w, is_tail (answered lit t u v) (sym (at_32 library laws lit t u v w) ∙ tail))
     go false w = absurd (empty_head (sym (undrawn library lit t 31 u v w) ∙ head))
-      where
-        empty_head : Empty ≡ Head → ⊥
-        empty_head e = cc
 
 -- places at two sides that are close by are one place
 same_place : (x y u v : ℕ) → IsAtSide x y → IsAtSide u v → x ≤ u + 1 → u ≤ x + 1 → y ≤ v + 1 → v ≤ y + 1 → (u ≡ x) × (v ≡ y)

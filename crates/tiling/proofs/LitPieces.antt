@@ -2,6 +2,7 @@
 use Rattle.std.proofs.Common.{ℤ, pos, negsuc, ℕ, zero, suc, ◌+◌, ◌*◌, ◌/◌, ◌%◌, ◌<◌, ◌≡◌, ◌⊎◌, refl, sym, ap, ap₂, ◌∙◌, Bool, true, false, cond, arith, inl, inr, List, [], ◌∷◌}
 use Rattle.std.proofs.lemmas.Bool.{or_parts}
 use Rattle.std.specs.Prelude.{Option, Some, None}
+use Rattle.std.proofs.lemmas.Option.{none-some}
 use Rattle.ww_rule.specs.declared.pattern.State.{State}
 use Rattle.ww_rule.specs.declared.pattern.State.TheVariants.{Empty, Head, Tail, Conductor}
 use Rattle.ww_rule.specs.Wireworld.{Plane, next_plane, evolve}
@@ -17,7 +18,6 @@ use Rattle.tiling.proofs.Region.{Placed, face, tile_at, belongs}
 use Rattle.tiling.proofs.Alone.{Laws, alone, alone_at, begun, bit, glue, nothing_stays}
 use Rattle.tiling.proofs.Border.{local_x, local_y}
 use Rattle.tiling.proofs.Blocks.{by_slot, slot_some}
-use Rattle.tiling.proofs.First.{none_some}
 use Rattle.tiling.proofs.Between.{between}
 use Rattle.tiling.proofs.Macro.{macro}
 use Rattle.tiling.proofs.OutputCell.{laws_of}
@@ -82,8 +82,8 @@ glue_lit library tiling m lit g x y e = go x y (tile_at tiling x y) refl e
           ∙ slot_some (λ i j p a b. piece_is_lit lit i j p) false tiling m.pieces t X Y f (belongs tiling m.pieces t (pos X) (pos Y) f).inside
           ∙ lit_if library lit t g (pos X) (pos Y) e _ refl,
     )
-    go (pos X) (negsuc Y) (Some t) f e = absurd (none_some f)
-    go (negsuc X) y (Some t) f e = absurd (none_some f)
+    go (pos X) (negsuc Y) (Some t) f e = absurd (none-some _ f)
+    go (negsuc X) y (Some t) f e = absurd (none-some _ f)
 
 pub evolve_add : (a b : ℕ) (p : Plane) → evolve (a + b) p ≡ evolve b (evolve a p)
 evolve_add a zero p = let e : a + 0 ≡ a = omega arith in ap (λ n. evolve n p) e

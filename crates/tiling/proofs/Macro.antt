@@ -1,29 +1,29 @@
 -- Thirty-two generations are one macro step.
-use Rattle.std.proofs.Common.{ℤ, pos, negsuc, ℕ, ◌+◌, ◌*◌, ◌%◌, ◌≡◌, refl, sym, ap, ap₂, ◌∙◌, subst, Bool, true, false, ◌||◌, ◌&&◌, ◌==◌, cond, arith, inl, inr, lit≤}
+use Rattle.std.proofs.Common.{ℤ, pos, negsuc, ℕ, ◌+◌, ◌*◌, ◌%◌, ◌≡◌, refl, sym, ap, ap₂, ◌∙◌, subst, Bool, true, false, ◌||◌, ◌&&◌, ◌==◌, cond, inl, inr, lit≤}
 use Rattle.std.proofs.lemmas.Bool.{true≢false, false_from_ne_true}
-use Rattle.std.proofs.lemmas.Int.{ints}
 use Rattle.std.proofs.Math.Bool.{or-false}
 use Rattle.std.proofs.Math.Path.{fun_ext}
 use Rattle.std.specs.Prelude.{Option, Some, None}
+use Rattle.std.proofs.lemmas.Option.{none-some}
 use Rattle.ww_rule.specs.declared.pattern.State.{State}
-use Rattle.ww_rule.specs.declared.pattern.State.TheVariants.{Empty, Head, Tail, Conductor}
+use Rattle.ww_rule.specs.declared.pattern.State.TheVariants.{Head, Tail, Conductor}
 use Rattle.ww_rule.specs.Wireworld.{Plane, next_plane, next_state, heads_around, evolve, count_head}
-use Rattle.ww_rule.proofs.Cells.{next_plane_counts, next_plane_empty}
+use Rattle.ww_rule.proofs.Cells.{next_plane_counts, next_plane_empty, not_counted}
 use Rattle.tile_core.specs.declared.kind.Kind.{Kind}
 use Rattle.tile_core.specs.Drawing.{Drawing, is_cell_of}
 use Rattle.tile_core.specs.Interface.{entry_cells, exit_cells, lit_exits}
 use Rattle.tiling.specs.Tiling.{Tiling, Lit, drawn, edge_of}
 use Rattle.tiling.specs.Matched.{HasWholePieces, IsMatched}
 use Rattle.tiling.specs.MacroStep.{macro_step}
-use Rattle.tiling.proofs.Region.{Placed, face, tile_at, InBox, belongs}
-use Rattle.tiling.proofs.Alone.{Laws, wires, alone, alone_at, bit, glue, undrawn, nothing_stays, not_head_counts}
+use Rattle.tiling.proofs.Region.{Placed, face, tile_at, InBox, belongs, whole_place}
+use Rattle.tiling.proofs.Alone.{Laws, wires, alone, alone_at, bit, glue, undrawn, nothing_stays, empty_head}
 use Rattle.tiling.proofs.Border.{local_x, local_y, is_exit, at_local}
 use Rattle.tiling.proofs.Apart.{Contact, counts}
 use Rattle.tiling.proofs.Sides.{IsAtSide, entry_side, exit_side, edge_is, edge_at}
 use Rattle.tiling.proofs.Blocks.{drawn_none, left_at, answers_at, answers_some, answers_none}
 use Rattle.tiling.proofs.Facing.{Facing, contact_faces, block_side}
 use Rattle.tiling.proofs.Roles.{exits_apart, exit_at, entry_no_exit}
-use Rattle.tiling.proofs.First.{drawn_cell, undrawn_cell, none_some, place_lit}
+use Rattle.tiling.proofs.First.{drawn_cell, undrawn_cell, place_lit}
 use Rattle.tiling.proofs.Front.{facing_one, EdgeAfter, Nobody, Somebody, edge_after}
 use Rattle.tiling.proofs.Around.{Is, QuietBut, none_around, front_around}
 use Rattle.tiling.proofs.HandOver.{lit_exit_is, answered, at_32, head_31, own_quiet, entry_31}
@@ -42,9 +42,6 @@ is_answered library laws tiling h lit U V head = go (tile_at tiling (pos U) (pos
   where
     go : (o : Option Placed) → tile_at tiling (pos U) (pos V) ≡ o → answers_at tiling lit U V ≡ true
     go None e = absurd (empty_head (sym (ap (λ o. evolve 31 (alone library lit o) (pos U) (pos V)) e ∙ nothing_stays library lit 31 (pos U) (pos V)) ∙ head))
-      where
-        empty_head : Empty ≡ Head → ⊥
-        empty_head e = cc
     go (Some s) e =
         answered_at tiling h lit s U V e
         ∙ (head_31 library laws lit s (pos U) (pos V) (sym (ap (λ o. evolve 31 (alone library lit o) (pos U) (pos V)) e) ∙ head)).1
@@ -66,7 +63,7 @@ front_count library laws tiling h lit U V = go (answers_at tiling lit U V) refl
   where
     go : (a : Bool) → answers_at tiling lit U V ≡ a → count_head (glue library tiling lit 31 (pos U) (pos V)) ≡ cond a 1 0
     go true a = ap count_head (answered_is library laws tiling h lit U V a)
-    go false a = not_head_counts _ (λ head. true≢false (sym (is_answered library laws tiling h lit U V head) ∙ a))
+    go false a = not_counted _ (λ head. true≢false (sym (is_answered library laws tiling h lit U V head) ∙ a))
 
 -- where an answer is 1 there is an exit
 pub answered_exit : (tiling : Tiling) → HasWholePieces tiling → (lit : Lit) (U V : ℕ) → answers_at tiling lit U V ≡ true → left_at tiling U V ≡ true
@@ -80,17 +77,11 @@ answered_exit tiling h lit U V a = go (tile_at tiling (pos U) (pos V)) refl
 
 -- the edge of a port, by its cell
 pub port_edge : (tiling : Tiling) (t : Placed) (X Y : ℕ) (b : InBox tiling t (pos X) (pos Y)) → IsAtSide b.x b.y → edge_of t.column t.lane (b.x, b.y) ≡ edge_at X Y
-port_edge tiling t X Y b side = edge_is t.column t.lane b.x b.y side ∙ ap₂ edge_at (whole 32 t.column b.x X b.u_is) (whole 16 t.lane b.y Y b.v_is)
-  where
-    whole : (n q x X : ℕ) → pos X ≡ pos (n * q + x) → n * q + x ≡ X
-    whole n q x X e = omega (arith, ints, e)
+port_edge tiling t X Y b side = edge_is t.column t.lane b.x b.y side ∙ ap₂ edge_at (whole_place 32 t.column b.x X b.u_is) (whole_place 16 t.lane b.y Y b.v_is)
 
 pub side_at : (tiling : Tiling) (t : Placed) (X Y : ℕ) (b : InBox tiling t (pos X) (pos Y)) → IsAtSide b.x b.y → IsAtSide (X % 32) (Y % 16)
 side_at tiling t X Y b side =
-    subst (λ n. IsAtSide (n % 32) (Y % 16)) (whole 32 t.column b.x X b.u_is) (subst (λ n. IsAtSide ((32 * t.column + b.x) % 32) (n % 16)) (whole 16 t.lane b.y Y b.v_is) (block_side t.column t.lane b.x b.y side))
-  where
-    whole : (n q x X : ℕ) → pos X ≡ pos (n * q + x) → n * q + x ≡ X
-    whole n q x X e = omega (arith, ints, e)
+    subst (λ n. IsAtSide (n % 32) (Y % 16)) (whole_place 32 t.column b.x X b.u_is) (subst (λ n. IsAtSide ((32 * t.column + b.x) % 32) (n % 16)) (whole_place 16 t.lane b.y Y b.v_is) (block_side t.column t.lane b.x b.y side))
 
 fires : (s : State) (n : ℕ) (m b : Bool) → s ≡ Conductor → n ≡ cond b 1 0 → m ≡ b → next_state s n ≡ cond m Head Conductor
 fires s n m true e f g = ap (λ r. next_state r n) e ∙ ap (λ k. cond (k == 1 || k == 2) Head Conductor) f ∙ sym (ap (λ v. cond v Head Conductor) g)
@@ -139,12 +130,12 @@ at_entry library laws tiling m lit t X Y e b w entry = go (edge_after tiling lit
     dark : (Q : ℤ → ℤ → Type 0) → ((U V : ℕ) → Facing X Y U V → Q (pos U) (pos V)) → QuietBut P (pos X) (pos Y) Q
     dark Q all u v n out =
         counts library laws tiling m.pieces lit 31 t (pos X) (pos Y) u v e w n (λ s k head. touched s u v out k)
-        ∙ not_head_counts _ (own_quiet library laws tiling lit t (pos X) (pos Y) u v b entry n)
+        ∙ not_counted _ (own_quiet library laws tiling lit t (pos X) (pos Y) u v b entry n)
       where
         touched : (s : Placed) (a c : ℤ) → (Q a c → ⊥) → Contact library tiling t s (pos X) (pos Y) a c → ⊥
         touched s (pos U) (pos V) none k = none (all U V (contact_faces library tiling m.pieces t s X Y U V k))
-        touched s (pos U) (negsuc V) none k = none_some k.there
-        touched s (negsuc U) c none k = none_some k.there
+        touched s (pos U) (negsuc V) none k = none-some _ k.there
+        touched s (negsuc U) c none k = none-some _ k.there
 
     go : EdgeAfter tiling lit X Y → next_plane P (pos X) (pos Y) ≡ drawn library tiling (macro_step tiling lit) (pos X) (pos Y)
     go (Nobody nobody is) =
@@ -181,8 +172,8 @@ at_other library laws tiling m lit t X Y e b w no_entry =
     left_place = sym exit_place ∙ exit_at tiling m.pieces t X Y e b
 
     quiet : (s : Placed) (u v : ℤ) → Contact library tiling t s (pos X) (pos Y) u v → evolve 31 (alone library lit (Some s)) u v ≡ Head → ⊥
-    quiet s (pos U) (negsuc V) k head = none_some k.there
-    quiet s (negsuc U) v k head = none_some k.there
+    quiet s (pos U) (negsuc V) k head = none-some _ k.there
+    quiet s (negsuc U) v k head = none-some _ k.there
     quiet s (pos U) (pos V) k head =
         let there = (belongs tiling m.pieces s (pos U) (pos V) k.there).inside in
         let exit = lit_exit_is lit s (local_x s (pos U)) (local_y s (pos V)) (head_31 library laws lit s (pos U) (pos V) head).1 in
@@ -224,8 +215,8 @@ last_step library laws tiling m lit = fun_ext (λ x. fun_ext (λ y. at x y (tile
         next_plane_empty P x y (ap (λ o. evolve 31 (alone library lit o) x y) e ∙ undrawn library lit t 31 x y w)
         ∙ sym (undrawn_cell library tiling m.pieces (macro_step tiling lit) t x y e b w)
     by_wire (pos X) (pos Y) t e b true w = by_entry X Y t e b w _ refl
-    by_wire (pos X) (negsuc Y) t e b true w = absurd (none_some e)
-    by_wire (negsuc X) y t e b true w = absurd (none_some e)
+    by_wire (pos X) (negsuc Y) t e b true w = absurd (none-some _ e)
+    by_wire (negsuc X) y t e b true w = absurd (none-some _ e)
 
     at : (x y : ℤ) (o : Option Placed) → tile_at tiling x y ≡ o → next_plane P x y ≡ Q x y
     at x y None e =

@@ -3,6 +3,7 @@ use Rattle.std.proofs.Common.{ℤ, pos, negsuc, ◌-ℤ◌, ℕ, zero, suc, ◌+
 use Rattle.std.proofs.lemmas.Bool.{and_parts, cases_lt, ltb-true}
 use Rattle.std.proofs.lemmas.Int.{ints}
 use Rattle.std.specs.Prelude.{Option, Some, None}
+use Rattle.std.proofs.lemmas.Option.{same_Some}
 use Rattle.tile_core.specs.Interface.{Interface, is_in_box}
 use Rattle.tiling.specs.Tiling.{Piece, interface_of, Slot, Tiling}
 use Rattle.tiling.specs.Tiling.Slot.{Nothing, Whole, Upper, Lower}
@@ -58,13 +59,6 @@ split_x X = omega arith
 split_y : (Y : ℕ) → Y ≡ 16 * (Y / 16) + Y % 16
 split_y Y = omega arith
 
-pub some_is : {A : Type 0} {a b : A} → Some a ≡ Some b → a ≡ b
-some_is {A} {a} {b} e = ap (unwrap_or_else a) e
-  where
-    unwrap_or_else : A → Option A → A
-    unwrap_or_else d None = d
-    unwrap_or_else d (Some x) = x
-
 place_at : (tiling : Tiling) (q l x y X Y : ℕ) → x < 32 → y < 16 → X ≡ 32 * q + x → Y ≡ 16 * l + y → tile_at tiling (pos X) (pos Y) ≡ place_of q l (tiling q l)
 place_at tiling q l x y X Y a b e f =
     let col : X / 32 ≡ q = omega (arith, e, a) in
@@ -104,7 +98,7 @@ belongs_slot tiling h t X Y (Whole p) e f =
       stands = inl e;
       inside = record { x = X % 32; y = Y % 16; column = omega arith; row = omega (arith, one); u_is = ap pos (split_x X); v_is = ap pos (split_y Y) };
     } in
-    subst (λ s. Belongs tiling s (pos X) (pos Y)) (some_is f) b
+    subst (λ s. Belongs tiling s (pos X) (pos Y)) (same_Some _ _ f) b
 belongs_slot tiling h t X Y (Upper p) e f =
     let here = placed (X / 32) (Y / 16) p in
     let two = h.two (X / 32) (Y / 16) p e in
@@ -113,7 +107,7 @@ belongs_slot tiling h t X Y (Upper p) e f =
       stands = inr e;
       inside = record { x = X % 32; y = Y % 16; column = omega arith; row = omega (arith, two); u_is = ap pos (split_x X); v_is = ap pos (split_y Y) };
     } in
-    subst (λ s. Belongs tiling s (pos X) (pos Y)) (some_is f) b
+    subst (λ s. Belongs tiling s (pos X) (pos Y)) (same_Some _ _ f) b
 belongs_slot tiling h t X Y (Lower p) e f = below_one (Y / 16) refl
   where
     below_one : (l : ℕ) → l ≡ Y / 16 → Belongs tiling t (pos X) (pos Y)
@@ -129,7 +123,7 @@ belongs_slot tiling h t X Y (Lower p) e f = below_one (Y / 16) refl
           inside = record { x = X % 32; y = Y % 16 + 16; column = omega arith; row = omega (arith, two); u_is = ap pos (split_x X); v_is = ap pos (omega (arith, z)) };
         } in
         let back : l ≡ Y / 16 - 1 = omega (arith, z) in
-        subst (λ s. Belongs tiling s (pos X) (pos Y)) (ap (λ k. placed (X / 32) k p) back ∙ some_is f) b
+        subst (λ s. Belongs tiling s (pos X) (pos Y)) (ap (λ k. placed (X / 32) k p) back ∙ same_Some _ _ f) b
 
 pub belongs : (tiling : Tiling) → HasWholePieces tiling → (t : Placed) (u v : ℤ) → tile_at tiling u v ≡ Some t → Belongs tiling t u v
 belongs tiling h t (pos X) (pos Y) e = belongs_slot tiling h t X Y (tiling (X / 32) (Y / 16)) refl e
@@ -154,3 +148,7 @@ in_box_test tiling t u v e =
 
 pub local : (a x : ℕ) → pos (a + x) -ℤ pos a ≡ pos x
 local a x = omega (arith, ints)
+
+-- a cell's number from its place in the box
+pub whole_place : (n q x X : ℕ) → pos X ≡ pos (n * q + x) → n * q + x ≡ X
+whole_place n q x X e = omega (arith, ints, e)

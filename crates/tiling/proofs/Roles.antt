@@ -1,18 +1,18 @@
 -- Where two pieces touch, one is entered and the other left; and no port is both.
-use Rattle.std.proofs.Common.{pos, ℕ, ◌+◌, ◌/◌, ◌%◌, ◌≡◌, refl, sym, ap₂, ◌∙◌, Bool, true, false, ◌&&◌, not, arith, inl, inr, List, [], ◌∷◌, map, take, int_eq}
-use Rattle.std.proofs.lemmas.Bool.{and_parts, and_from, or_cases, not-true}
+use Rattle.std.proofs.Common.{pos, ℕ, ◌+◌, ◌/◌, ◌%◌, ◌≡◌, refl, sym, ap₂, ◌∙◌, Bool, true, false, ◌&&◌, arith}
+use Rattle.std.proofs.lemmas.Bool.{and_from}
 use Rattle.std.specs.Prelude.{Some}
 use Rattle.tile_core.specs.declared.kind.Kind.TheVariants.{Swap, Xor, Or, AndNot, Fork, East, South, North, EastSouth, SouthWest, WestNorth, NorthEast, West, WestSwap}
-use Rattle.tile_core.specs.Drawing.{Cell, is_cell_of}
-use Rattle.tile_core.specs.Interface.{cell_at, entry_cells, exit_cells}
+use Rattle.tile_core.specs.Drawing.{is_cell_of}
+use Rattle.tile_core.specs.Interface.{entry_cells, exit_cells}
 use Rattle.tiling.specs.Tiling.{Piece, interface_of, Slot, Tiling}
 use Rattle.tiling.specs.Tiling.Piece.{Tile, Output}
 use Rattle.tiling.specs.Matched.{HasWholePieces, IsMatched, is_entered, is_left}
 use Rattle.tiling.proofs.Region.{Placed, face, tile_at, InBox}
 use Rattle.tiling.proofs.Border.{at_local, is_entry, is_exit}
-use Rattle.tiling.proofs.Sides.{same_cell}
 use Rattle.tiling.proofs.Blocks.{entered_at, left_at, entered_is, left_is}
 use Rattle.tiling.proofs.Facing.{Facing, East_of, West_of, South_of, North_of}
+use Rattle.tile_timing.proofs.Traces.{none_of, none_of-says}
 
 -- what does not hold on both sides of an edge does not hold of two cells that face each other
 not_both : (tiling : Tiling) (f : Slot → ℕ → ℕ → Bool)
@@ -69,11 +69,7 @@ exit_at tiling h t X Y e b =
     let at = at_local tiling t (pos X) (pos Y) b in
     ap₂ (λ i j. is_cell_of i j (exit_cells (face t))) at.0 at.1 ∙ sym (left_is tiling h t X Y e b)
 
-abbrev none_among : List Cell → List Cell → Bool
-none_among [] ds = true
-none_among (c ∷ cs) ds = not (is_cell_of c.x c.y ds) && none_among cs ds
-
-disjoint_test : (p : Piece) → none_among (entry_cells (interface_of p)) (exit_cells (interface_of p)) ≡ true
+disjoint_test : (p : Piece) → none_of (entry_cells (interface_of p)) (exit_cells (interface_of p)) ≡ true
 disjoint_test (Tile Swap) = refl
 disjoint_test (Tile Xor) = refl
 disjoint_test (Tile Or) = refl
@@ -90,15 +86,6 @@ disjoint_test (Tile West) = refl
 disjoint_test (Tile WestSwap) = refl
 disjoint_test Output = refl
 
-among_none : (x y : ℕ) (ps : List (ℕ × ℕ)) (ds : List Cell) → none_among (map cell_at ps) ds ≡ true → is_cell_of (pos x) (pos y) (map cell_at ps) ≡ true → is_cell_of (pos x) (pos y) ds ≡ false
-among_none x y [] ds n e = cc
-among_none x y (p ∷ ps) ds n e =
-    let parts = and_parts _ _ n in
-    elim (or_cases (int_eq (pos x) (pos p.0) && int_eq (pos y) (pos p.1)) _ e) [
-      | inl here ↦ let s = same_cell x y p.0 p.1 here in ap₂ (λ i j. is_cell_of (pos i) (pos j) ds) s.0 s.1 ∙ not-true _ parts.0
-      | inr later ↦ among_none x y ps ds parts.1 later
-    ]
-
 -- an entry is no exit
 pub entry_no_exit : (p : Piece) (x y : ℕ) → is_cell_of (pos x) (pos y) (entry_cells (interface_of p)) ≡ true → is_cell_of (pos x) (pos y) (exit_cells (interface_of p)) ≡ false
-entry_no_exit p x y = among_none x y (take (interface_of p).lanes (interface_of p).entries) (exit_cells (interface_of p)) (disjoint_test p)
+entry_no_exit p x y = none_of-says (entry_cells (interface_of p)) (exit_cells (interface_of p)) (pos x) (pos y) (disjoint_test p)

@@ -15,7 +15,7 @@ use Rattle.tiling.specs.Steps.{KeepsLaw, ShowsEdges}
 use Rattle.tiling.proofs.Region.{Placed, face, tile_at, belongs}
 use Rattle.tiling.proofs.Alone.{Laws, wires, alone, alone_at, bit, glue}
 use Rattle.tiling.proofs.Border.{local_x, local_y, at_local}
-use Rattle.tiling.proofs.Sides.{entry_side, block_edge, edge_at}
+use Rattle.tiling.proofs.Sides.{entry_side, edge_at, west_edge}
 use Rattle.tiling.proofs.Blocks.{entered_at, left_at, answers_at, entered_is, left_is, entered_none, left_none}
 use Rattle.tiling.proofs.Roles.{entry_no_exit}
 use Rattle.tiling.proofs.First.{drawn_cell, place_lit}
@@ -102,13 +102,6 @@ shows_edges library keeps tiling m lit =
         let k : (16 * l + 8) % 16 ≡ 8 = omega arith in
         ap₂ (λ i j. is_entered (tiling i j) (32 * q % 32) ((16 * l + 8) % 16)) c s ∙ ap₂ (is_entered (tiling q l)) r k
 
-    west_edge : (q l : ℕ) → lit (edge_at (32 * q) (16 * l + 8)) ≡ lit (Beside q l)
-    west_edge q l =
-        let c : 32 * q / 32 ≡ q = omega arith in
-        let r : 32 * q % 32 ≡ 0 = omega arith in
-        let s : (16 * l + 8) / 16 ≡ l = omega arith in
-        ap (λ k. lit (block_edge (32 * q / 32) ((16 * l + 8) / 16) k ((16 * l + 8) % 16))) r ∙ ap₂ (λ i j. lit (Beside i j)) c s
-
     left_of : (q l : ℕ) → left_at tiling (32 * q + 31) (16 * l + 8) ≡ is_left (tiling q l) 31 8
     left_of q l =
         let c : (32 * q + 31) / 32 ≡ q = omega arith in
@@ -128,7 +121,7 @@ shows_edges library keeps tiling m lit =
     entry : Laws library → (q l r : ℕ) → r < 32 → is_entered (tiling q l) 0 8 ≡ true → (evolve r (drawn library tiling lit) (pos (32 * q)) (pos (16 * l + 8)) ≡ Head) ↔ ((r ≡ 0) × (lit (Beside q l) ≡ true))
     entry laws q l zero h f =
         let both = entry_at_start library laws tiling m lit (32 * q) (16 * l + 8) (west_of q l ∙ f) in
-        (λ head. (refl, sym (west_edge q l) ∙ both.0 head), λ p. both.1 (west_edge q l ∙ p.1))
+        (λ head. (refl, sym (west_edge lit q l) ∙ both.0 head), λ p. both.1 (west_edge lit q l ∙ p.1))
     entry laws q l (suc g) h f = (
       λ head. absurd (entry_later library laws tiling m lit g (32 * q) (16 * l + 8) (omega arith) (west_of q l ∙ f) (sym (ap (λ p. p (pos (32 * q)) (pos (16 * l + 8))) (between library laws tiling m lit g (omega arith))) ∙ head)),
       λ p. absurd (omega (arith, p.0)),

@@ -7,7 +7,7 @@ use Rattle.std.specs.Prelude.{if◌then◌else◌}
 use Rattle.tile_core.specs.declared.kind.Kind.TheVariants.{Swap, Xor, Or, AndNot, Fork, East, South, North, EastSouth, SouthWest, WestNorth, NorthEast, West, WestSwap}
 use Rattle.tile_core.specs.Drawing.{is_cell_of}
 use Rattle.tile_core.specs.Interface.{cell_at, entry_cells, exit_cells}
-use Rattle.tiling.specs.Tiling.{Piece, interface_of, Edge, edge_of}
+use Rattle.tiling.specs.Tiling.{Piece, interface_of, Edge, edge_of, Lit}
 use Rattle.tiling.specs.Tiling.Piece.{Tile, Output}
 use Rattle.tiling.specs.Tiling.Edge.{Beside, Above}
 
@@ -118,6 +118,14 @@ block_edge q l r s =
 
 abbrev pub edge_at : ℕ → ℕ → Edge
 edge_at X Y = block_edge (X / 32) (Y / 16) (X % 32) (Y % 16)
+
+-- the edge at the middle of a block's west side
+pub west_edge : (lit : Lit) (q l : ℕ) → lit (edge_at (32 * q) (16 * l + 8)) ≡ lit (Beside q l)
+west_edge lit q l =
+    let c : 32 * q / 32 ≡ q = omega arith in
+    let r : 32 * q % 32 ≡ 0 = omega arith in
+    let s : (16 * l + 8) / 16 ≡ l = omega arith in
+    ap (λ k. lit (block_edge (32 * q / 32) ((16 * l + 8) / 16) k ((16 * l + 8) % 16))) r ∙ ap₂ (λ i j. lit (Beside i j)) c s
 
 -- a port's edge, by its place in the piece's box and by its cell
 pub edge_is : (q l x y : ℕ) → IsAtSide x y → edge_of q l (x, y) ≡ edge_at (32 * q + x) (16 * l + y)

@@ -1,10 +1,9 @@
 -- Cells that are cut into rows: which row stands where, one row more, and a row in another's place.
 use Rattle.std.proofs.Common.{ℕ, zero, suc, ◌+◌, ◌*◌, ◌<◌, ◌≤◌, ◌≡◌, refl, sym, ap, ap₂, subst, ◌∙◌, List, [], ◌∷◌, ◌++◌, length, get_or, take, drop, replicate, slice_set, All, arith, length-take, length-drop, length-append}
-use Rattle.std.proofs.lemmas.List.{drop-drop, drop-take, take-append-le, drop-append-le, take_at, drop_at, take_all, nil_from_length, length-replicate, replicate-append-replicate}
+use Rattle.std.proofs.lemmas.List.{drop-drop, drop-take, take-append-le, drop-append-le, take_at, drop_at, take_all, nil_from_length, length-replicate, replicate-append-replicate, get_or_default}
 use Rattle.std.proofs.Math.Nat.{suc-mul, mul-le-mul_right}
 use Rattle.ww_rule.specs.declared.pattern.State.{State}
 use Rattle.ww_rule.specs.Cuts.{cut_rows, with_row, with_run}
-use Rattle.ww_rule.proofs.RowLemmas.{get_or_any}
 
 pub length-cut : (w n : ℕ) (cells : List State) → length (cut_rows w n cells) ≡ n
 length-cut w zero cells = refl
@@ -27,7 +26,7 @@ pub long_rows : (w n : ℕ) (cells : List State) → n * w ≡ length cells → 
 long_rows w n cells whole y d h =
     let count : length (cut_rows w n cells) ≡ n = length-cut w n cells in
     let room : y * w + w ≤ n * w = row_room w n y (omega arith) in
-    ap length (get_or_any (cut_rows w n cells) y d [] h ∙ row_of_cut w n y cells (omega arith))
+    ap length (get_or_default (cut_rows w n cells) y d [] h ∙ row_of_cut w n y cells (omega arith))
     ∙ (let e : length (take w (drop (y * w) cells)) ≡ w = omega (arith, length-take w (drop (y * w) cells), length-drop (y * w) cells) in e)
 
 -- one row more at the end

@@ -79,9 +79,6 @@ due_of_cons i is g x y = picked (i.generation == g)
     picked true = refl
     picked false = refl
 
-int_eq-true : (x y : ℤ) → int_eq x y ≡ true → x ≡ y
-int_eq-true x y e = (Decides-int_eq x y).0 e
-
 places_of : List Injection → ℕ
 places_of [] = 0
 places_of (i ∷ is) = i.x + i.y + places_of is
@@ -93,8 +90,8 @@ due_within (i ∷ is) g x y e =
     elim (or_cases (i.generation == g && (int_eq (pos i.x) x && int_eq (pos i.y) y)) (due_of_list is g x y) (sym (due_of_cons i is g x y) ∙ e)) [
       | inl here ↦
           let at = and_parts (int_eq (pos i.x) x) (int_eq (pos i.y) y) (and_parts (i.generation == g) (int_eq (pos i.x) x && int_eq (pos i.y) y) here).1 in
-          let ex : pos i.x ≡ x = int_eq-true (pos i.x) x at.0 in
-          let ey : pos i.y ≡ y = int_eq-true (pos i.y) y at.1 in
+          let ex : pos i.x ≡ x = (Decides-int_eq (pos i.x) x).0 at.0 in
+          let ey : pos i.y ≡ y = (Decides-int_eq (pos i.y) y).0 at.1 in
           record { west = omega (arith, ints); east = omega (arith, ints); north = omega (arith, ints); south = omega (arith, ints) }
       | inr later ↦
           let h : IsNear (places_of is) x y = due_within is g x y later in

@@ -1,6 +1,6 @@
 -- Cells made heads.
 use Rattle.std.proofs.Common.{ℤ, pos, negsuc, ℕ, ◌+◌, ◌<◌, ◌≡◌, ◌⊎◌, refl, sym, ap, ap₂, ◌∙◌, inl, inr, Bool, true, false, ◌||◌, ◌&&◌, cond, List, [], ◌∷◌, length, get_or, take, arith, slice_set, get_or-set_other}
-use Rattle.std.proofs.lemmas.Bool.{cases_Bool, cases_eq}
+use Rattle.std.proofs.lemmas.Bool.{cases_eq}
 use Rattle.std.proofs.lemmas.Bool.Decides.{Decides-int_eq}
 use Rattle.std.proofs.lemmas.Grind.{get_or-set_at}
 use Rattle.std.proofs.lemmas.List.{length-set}
@@ -14,6 +14,7 @@ use Rattle.ww_rule.specs.Wireworld.{Plane, injected}
 use Rattle.ww_rule.specs.Grid.{IsGrid, plane_of}
 use Rattle.ww_rule.specs.Injections.{has_cell}
 use Rattle.ww_rule.proofs.RowLemmas.{same_grid}
+use Rattle.ww_rule.proofs.Integers.{other_int}
 
 -- the rows with the cell of column x and row y made a head
 abbrev pub with_head : List (List State) → ℕ → ℕ → List (List State)
@@ -33,11 +34,7 @@ same_number : (a b : ℕ) → a ≡ b → int_eq (pos a) (pos b) ≡ true
 same_number a b e = (Decides-int_eq (pos a) (pos b)).1 (ap pos e)
 
 other_number : (a b : ℕ) → (a ≡ b → ⊥) → int_eq (pos a) (pos b) ≡ false
-other_number a b n =
-    elim (cases_Bool (int_eq (pos a) (pos b))) [
-      | inl e ↦ let same : pos a ≡ pos b = (Decides-int_eq (pos a) (pos b)).0 e in absurd (n (omega (arith, ints)))
-      | inr e ↦ e
-    ]
+other_number a b n = other_int (pos a) (pos b) (λ e. n (let same : a ≡ b = omega (arith, ints, e) in same))
 
 pub with_head_shows : (x y : ℕ) (rows : List (List State)) → y < length rows → x < length (get_or rows y []) → plane_of (with_head rows x y) ≡ injected (has_cell ((x, y) ∷ [])) (plane_of rows)
 with_head_shows x y rows iny inx = fun_ext (λ u. fun_ext (λ v. place u v))

@@ -1,4 +1,5 @@
 pub mod Cells
+pub mod Integers
 pub mod Generations
 pub mod Moves
 pub mod Locality

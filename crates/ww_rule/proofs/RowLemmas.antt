@@ -1,28 +1,23 @@
 -- Rows of a box.
-use Rattle.std.proofs.Common.{ℤ, pos, negsuc, ◌-ℤ◌, ℕ, zero, suc, ◌+◌, ◌-◌, ◌*◌, ◌<◌, ◌≡◌, refl, sym, ap, subst, below_more, ◌∙◌, inl, inr, List, [], ◌∷◌, ◌++◌, length, get_or, map, reverse, take, get_or-take, length-take, All, arith}
+use Rattle.std.proofs.Common.{ℤ, pos, negsuc, ◌-ℤ◌, ℕ, ◌+◌, ◌-◌, ◌*◌, ◌<◌, ◌≡◌, refl, sym, ap, subst, below_more, ◌∙◌, inl, inr, List, [], ◌∷◌, ◌++◌, length, get_or, map, reverse, take, get_or-take, length-take, All, arith}
 use Rattle.std.proofs.lemmas.Bool.{cases_lt}
-use Rattle.std.proofs.lemmas.List.{get_or-reverse, get_or-map, get_or_past, length-map, length-reverse, nil_from_length}
+use Rattle.std.proofs.lemmas.List.{get_or-reverse, get_or-map, get_or_past, length-map, length-reverse, nil_from_length, get_or_default}
 use Rattle.std.proofs.lemmas.Int.{ints}
 use Rattle.std.proofs.Math.Nat.{mul-lt-mul_of_pos_left}
 use Rattle.std.proofs.Math.ListN.{get_or-append}
 use Rattle.std.proofs.Math.Seq.{get_or-append_seam}
 use Rattle.std.proofs.Math.Path.{fun_ext}
+pub use Rattle.std.proofs.lemmas.List.{get_or_default as get_or_any}
 use Rattle.ww_rule.specs.declared.pattern.State.{State}
 use Rattle.ww_rule.specs.declared.pattern.State.TheVariants.{Empty}
 use Rattle.ww_rule.specs.Grid.{IsGrid, plane_of}
 use Rattle.ww_rule.specs.Laws.{mirrored}
 
--- an item within a list does not depend on the default
-pub get_or_any : {X : Type 0} (xs : List X) (i : ℕ) (d e : X) → i < length xs → get_or xs i d ≡ get_or xs i e
-get_or_any (x ∷ xs) zero d e h = refl
-get_or_any (x ∷ xs) (suc i) d e h = get_or_any xs i d e (omega arith)
-get_or_any [] i d e h = absurd (omega arith)
-
 -- rows of the same lengths are a box of the same size
 pub same_grid : (width height : ℕ) (old new : List (List State)) → IsGrid width height old → length new ≡ length old → ((y : ℕ) → y < length old → length (get_or new y []) ≡ length (get_or old y [])) → IsGrid width height new
 same_grid width height old new grid many long =
     record {
-      long = λ y d h. let b : y < length old = omega arith in ap length (get_or_any new y d [] h) ∙ long y b ∙ grid.long y [] b;
+      long = λ y d h. let b : y < length old = omega arith in ap length (get_or_default new y d [] h) ∙ long y b ∙ grid.long y [] b;
       many = λ n. many ∙ grid.many n;
       none = λ e. nil_from_length new (many ∙ ap length (grid.none e));
     }

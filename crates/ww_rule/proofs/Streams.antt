@@ -1,5 +1,5 @@
 -- What streams of bits make due.
-use Rattle.std.proofs.Common.{ℤ, pos, ℕ, zero, suc, ◌+◌, ◌*◌, ◌<◌, ◌≡◌, refl, sym, ap, ◌∙◌, ◌↔◌, subst, inl, inr, Bool, true, false, ◌&&◌, ◌||◌, ◌==◌, List, [], ◌∷◌, ◌++◌, length, get_or, arith}
+use Rattle.std.proofs.Common.{ℤ, pos, ℕ, zero, suc, ◌+◌, ◌*◌, ◌<◌, ◌≡◌, refl, sym, ap, ◌∙◌, ◌↔◌, subst, inl, inr, Bool, true, false, ◌&&◌, ◌||◌, List, [], ◌∷◌, ◌++◌, length, get_or, arith, ◌==◌}
 use Rattle.std.proofs.lemmas.Bool.{and_parts, and_from, or_cases, true≢false, eqb-true, eq-eqb}
 use Rattle.std.proofs.lemmas.Bool.Decides.{Decides-int_eq}
 use Rattle.std.proofs.lemmas.List.{get_or_past}
@@ -9,10 +9,7 @@ use Rattle.ww_rule.specs.Injections.{due_of_list, due_of_streams, injections_of_
 use Rattle.ww_rule.specs.Laws.{IsBitOfStreams}
 use Rattle.ww_rule.proofs.Finite.{due_of_cons}
 use Rattle.std.proofs.lemmas.Bool.{or_left, or_right}
-
-or_assoc : (a b c : Bool) → ((a || b) || c) ≡ (a || (b || c))
-or_assoc true b c = refl
-or_assoc false b c = refl
+use Rattle.std.proofs.Math.Bool.{or_assoc}
 
 pub due_of_append : (is js : List Injection) (g : ℕ) (x y : ℤ) → due_of_list (is ++ js) g x y ≡ (due_of_list is g x y || due_of_list js g x y)
 due_of_append [] js g x y = refl

@@ -1,5 +1,5 @@
 // Rows of cells of one length, row by row in one vector.
-ghost use Rattle.std.specs.Prelude.{◌≡◌, ◌<◌, ◌≤◌, ◌+◌, ◌*◌, ◌^◌, [], ◌∷◌, ◌++◌, length, take, drop, get_or, slice_set, replicate, All, IfOk};
+ghost use Rattle.std.specs.Prelude.{◌≡◌, ◌<◌, ◌≤◌, ◌+◌, ◌*◌, ◌^◌, [], ◌∷◌, ◌++◌, length, take, drop, get_or, slice_set, replicate, All, IfOk, OnErr};
 ghost use Rattle.ww_rule.specs.declared.pattern.State.TheVariants.{Empty};
 ghost use Rattle.ww_rule.specs.Cuts.{with_row, with_run};
 ghost use Rattle.ww_rule.specs.Grid.{plane_of};
@@ -60,7 +60,7 @@ fn fill_run(row: &mut [State], x: usize, count: usize, state: State)
 }
 
 // The same of row y of cells in rows of so many.
-fn fill_in(cells: &mut [State], width: usize, y: usize, x: usize, count: usize, state: State)
+fn fill_in(cells: &mut [State], width: usize, x: usize, y: usize, count: usize, state: State)
     requires in_cells { y * width + width ≤ length cells.old }
     requires in_row { x + count ≤ width }
     ensures { cells.new ≡ with_row cells.old width y (with_run (take width (drop (y * width) cells.old)) x count state) }
@@ -165,10 +165,12 @@ impl CellRows {
         if y < self.len() { self.row(y) } else { &[] }
     }
 
-    /// One more row below the others, as long as they are.
+    /// One more row below the others, as long as they are. Where memory is refused, or there are as many rows as can be
+    /// kept, the rows stay as they were.
     pub fn push_row(&mut self, row: &[State]) -> Result<(), AllocError>
         requires { All (λ other. length other ≡ length row.now) self.old }
-        ensures { IfOk result (λ _. self.new ≡ self.old ++ row.now ∷ []) }
+        ensures pushed { IfOk result (λ _. self.new ≡ self.old ++ row.now ∷ []) }
+        ensures kept { OnErr result (self.new ≡ self.old) }
     {
         if self.count >= MOST_ROWS {
             return Err(AllocError);
@@ -179,13 +181,13 @@ impl CellRows {
         Ok(())
     }
 
-    /// Makes `count` cells of row y, from column x on, this state.
-    pub fn fill(&mut self, y: usize, x: usize, count: usize, state: State)
+    /// Makes `count` cells, from column x of row y on, this state.
+    pub fn fill(&mut self, x: usize, y: usize, count: usize, state: State)
         requires in_rows { y < length self.old }
         requires in_row { x + count ≤ length (get_or self.old y []) }
         ensures { self.new ≡ slice_set self.old y (with_run (get_or self.old y []) x count state) }
     {
-        fill_in(&mut self.cells, self.width, y, x, count, state);
+        fill_in(&mut self.cells, self.width, x, y, count, state);
     }
 
     /// Makes the cell of column x and row y this state.

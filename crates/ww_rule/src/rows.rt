@@ -85,7 +85,7 @@ pub fn row_before(rows: &CellRows, y: usize) -> &[State]
 
 // A row from its end to its start.
 fn reversed_row(alloc: Global, row: &[State]) -> Result<Vec<State>, RuleError>
-    ensures { IfOk result (λ turned. turned.items ≡ reverse row.now) }
+    ensures { IfOk result (λ mirrored. mirrored.items ≡ reverse row.now) }
 {
     Ok(row.iter().rev().copied().collect(alloc)?)
 }
@@ -93,12 +93,12 @@ fn reversed_row(alloc: Global, row: &[State]) -> Result<Vec<State>, RuleError>
 /// The rows, each from its end to its start.
 pub fn reversed(alloc: Global, rows: &CellRows) -> Result<CellRows, RuleError>
     requires { All (λ row. length row ≡ length (get_or rows.now 0 [])) rows.now }
-    ensures { IfOk result (λ turned. turned ≡ map reverse rows.now) }
+    ensures { IfOk result (λ mirrored. mirrored ≡ map reverse rows.now) }
 {
-    let mut turned = CellRows::with_room(alloc, 0, 0)?;
+    let mut mirrored = CellRows::with_room(alloc, 0, 0)?;
     for y in 0..rows.len() {
         let row = reversed_row(alloc, rows.row(y))?;
-        turned.push_row(&row)?;
+        mirrored.push_row(&row)?;
     }
-    Ok(turned)
+    Ok(mirrored)
 }

@@ -5,7 +5,7 @@ use Rattle.band_rows.specs.declared.row.Row.{Row}
 use Rattle.band_rows.specs.Rows.{row_heads, row_tails}
 use Rattle.band_rows.proofs.Bands.{held}
 use Rattle.band_core.specs.Band.IsLitIn.{head, tail}
-use Rattle.band_core.proofs.Options.{none_of}
+use Rattle.lists.proofs.Options.{none_where}
 use Rattle.band_core.proofs.awake.lit_cell.Goals as goal
 
 pub lit_column-requires : goal.lit_column-requires
@@ -38,6 +38,6 @@ loop-k-preserved c =
     let h = held (λ row. row.heads.items) c.args.rows.now c.loop-k.k row row c.loop-k-test.true c.index-rows-k.is in
     let t = held (λ row. row.tails.items) c.args.rows.now c.loop-k.k row row c.loop-k-test.true c.index-rows-k.is in
     record {
-      heads = more (λ row. row.heads.items) c.loop-k.k (row_heads c.args.rows.now) row.heads.items h c.loop-k.invariant.heads (c.lit_column.ensures.no_head (none_of c.lit_column.result c.in_default.not-Some));
-      tails = more (λ row. row.tails.items) c.loop-k.k (row_tails c.args.rows.now) row.tails.items t c.loop-k.invariant.tails (c.lit_column.ensures.no_tail (none_of c.lit_column.result c.in_default.not-Some));
+      heads = more (λ row. row.heads.items) c.loop-k.k (row_heads c.args.rows.now) row.heads.items h c.loop-k.invariant.heads (c.lit_column.ensures.no_head (none_where c.lit_column.result c.in_default.not-Some));
+      tails = more (λ row. row.tails.items) c.loop-k.k (row_tails c.args.rows.now) row.tails.items t c.loop-k.invariant.tails (c.lit_column.ensures.no_tail (none_where c.lit_column.result c.in_default.not-Some));
     }

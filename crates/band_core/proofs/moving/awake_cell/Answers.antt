@@ -10,9 +10,10 @@ use Rattle.band_core.specs.Band.{AreBands, AreUnlit, IsLitIn, AllShow, IsEvoluti
 use Rattle.band_core.specs.Bands.{unready_neighbour}
 use Rattle.band_core.proofs.Facing.{IsAtOrAfter, above_long, below_long, above_shows, below_shows, upper_ready, lower_ready, first_of, later_of, last_of, earlier_of}
 use Rattle.band_rows.proofs.Parts.{parted}
-use Rattle.band_core.proofs.Options.{none_of, if_some}
+use Rattle.band_core.proofs.Options.{if_some}
 use Rattle.band_core.proofs.Resting.{is_quiet}
 use Rattle.band_core.proofs.Waking.{lit_wakes, faced_wakes, due_wakes, none_wakes}
+use Rattle.lists.proofs.Options.{none_where}
 use Rattle.band_core.proofs.moving.awake_cell.Goals as goal
 
 pub faced_cell-requires-clause-few_up : goal.faced_cell-requires-clause-few_up
@@ -135,8 +136,8 @@ returns-clause-quiet c q e due width evo shows =
     let sh = shows_band e due words h rows width b bands band c.index-bands-b.is c.requires.band c.requires.bands evo shows in
     let up = over e due words h rows width b bands band c.index-bands-b.is c.requires.band c.requires.bands evo shows c.args.dark.now c.requires.dark c.requires.ready c.row_above.result.0.now (first_of c.args.bands.now s.result.0.now t.result.0.now t.result.1.now c.args.b w c.row_above.ensures.first) (later_of c.args.bands.now s.result.0.now t.result.0.now t.result.1.now c.args.b w c.row_above.result.0.now c.index-bands-b.result.generation c.row_above.ensures.later) in
     let down = under e due words h rows width b bands band c.index-bands-b.is c.requires.band c.requires.bands evo shows c.args.dark.now c.requires.dark c.requires.ready c.row_below.result.0.now (last_of c.args.bands.now s.result.0.now t.result.0.now t.result.1.now c.args.b w c.row_below.ensures.last) (earlier_of c.args.bands.now s.result.0.now t.result.0.now t.result.1.now c.args.b w c.row_below.result.0.now c.index-bands-b.result.generation c.row_below.ensures.earlier) in
-    let unlit = none_of c.lit_cell.result c.in_default.not-Some in
-    let unfaced = none_of c.faced_cell.result c.in_default-faced_cell.not-Some in
+    let unlit = none_where c.lit_cell.result c.in_default.not-Some in
+    let unfaced = none_where c.faced_cell.result c.in_default-faced_cell.not-Some in
     let value = c.as_slice-own.ensures.value in
     let dark : AreUnlit band.rows.items (b * h) c.row_above.result.0.now c.row_below.result.0.now =
     record {

@@ -1,6 +1,6 @@
 use Rattle.std.proofs.Common.{pos, ◌+ℤ◌, ◌-ℤ◌, ℕ, ◌+◌, ◌-◌, ◌<◌, ◌≡◌, refl, sym, ap, subst, ◌∙◌, inl, inr, List, [], ◌++◌, length, get_or, slice_set, arith}
-use Rattle.std.specs.Prelude.{◌⊎◌, ◌≢◌}
-use Rattle.std.proofs.lemmas.Bool.{cases_lt}
+use Rattle.std.specs.Prelude.{◌≢◌}
+use Rattle.std.proofs.lemmas.Bool.{cases_lt, cases_eq}
 use Rattle.std.proofs.lemmas.List.{length-set}
 use Rattle.ww_rule.specs.Wireworld.{next_plane}
 use Rattle.band_rows.specs.declared.row.Row.{Row}
@@ -9,17 +9,6 @@ use Rattle.band_rows.proofs.Parts.{IsParted, parted, many as many_parts, at_befo
 use Rattle.band_rows.proofs.Bands.{field, other, same, held, above_shows, below_shows, heads_shown, as_num, shows_same}
 use Rattle.lane_kernel.proofs.Places.{row_steps}
 use Rattle.band_rows.proofs.band.step_band.Goals as goal
-
-at_or_not : (k r : ℕ) → (k ≡ r) ⊎ (k ≢ r)
-at_or_not k r =
-    elim (cases_lt k r) [
-      | inl lt ↦ inr (λ e. omega (arith, lt, e))
-      | inr ge ↦
-          elim (cases_lt r k) [
-            | inl lt ↦ inr (λ e. omega (arith, lt, e))
-            | inr le ↦ inl (omega (arith, ge, le))
-          ]
-    ]
 
 -- a part of a row, in the parts
 field_before : (f : Row → List ℕ) (rows before own after : List Row) (r k : ℕ) → IsParted rows r before own after → k < r → field f before k ≡ field f rows k
@@ -171,7 +160,7 @@ loop-r-preserved c =
     record {
       many = omega (arith, many, at);
       long = λ k h.
-          elim (at_or_not k r) [
+          elim (cases_eq k r) [
             | inl q ↦ subst (λ k. length (row_heads new k) ≡ length c.args.up.now) (sym q) (ap length (here (λ row. row.heads.items)) ∙ long_next ∙ row_long)
             | inr ne ↦ ap length (away (λ row. row.heads.items) k ne) ∙ v.long k (omega (arith, h, at))
           ];

@@ -6,7 +6,7 @@ use Rattle.plan_layout.specs.Slots.{slot_of}
 use Rattle.tile_library.specs.Drawings.{shipped_drawing}
 use Rattle.tiling.specs.Tiling.{Lit, drawn_slot}
 use Rattle.grid_assembly.proofs.rows.fill_row.Goals as goal
-use Rattle.grid_assembly.proofs.rows.fill_row.Goals.{then-place-column, else-place-column, then-blank, else-blank}
+use Rattle.grid_assembly.proofs.rows.fill_row.Goals.{then-place-column, else-place-column, then-is_blank, else-is_blank}
 
 pub loop-i-preserved : goal.loop-i-preserved
 loop-i-preserved c =
@@ -19,19 +19,19 @@ loop-i-preserved c =
     elim c.if-place-column.branch [ then-place-column w ↦ search rules | else-place-column w ↦ search rules ] in
     let block : slot ≡ tiling_of plan column lane =
     elim c.if-place-column.branch [ then-place-column w ↦ search rules | else-place-column w ↦ search rules ] in
-    let blank : c.if-place-column.blank ≡ true → (edges : Lit) (q l x : ℕ) → drawn_slot shipped_drawing edges q l slot x (c.args.y % 16) ≡ Empty =
+    let blank : c.if-place-column.is_blank ≡ true → (edges : Lit) (q l x : ℕ) → drawn_slot shipped_drawing edges q l slot x (c.args.y % 16) ≡ Empty =
     elim c.if-place-column.branch [
       | then-place-column w ↦ λ e edges q l x. (
           ap (λ s. drawn_slot shipped_drawing edges q l (slot_of s) x (c.args.y % 16)) w.slot-is
-          ∙ w.is_slot_blank-blank-then-place-column.ensures (sym w.blank-is ∙ e) edges q l x)
+          ∙ w.is_slot_blank-is_blank-then-place-column.ensures (sym w.is_blank-is ∙ e) edges q l x)
       | else-place-column w ↦ λ e edges q l x. (
           ap (λ s. drawn_slot shipped_drawing edges q l (slot_of s) x (c.args.y % 16)) w.slot-is
-          ∙ c.loop-i.invariant.blank (sym w.blank-is ∙ e) edges q l x)
+          ∙ c.loop-i.invariant.blank (sym w.is_blank-is ∙ e) edges q l x)
     ] in
-    let shown : c.if-blank.cell ≡ drawn_slot shipped_drawing (start_edges plan) column lane slot (place % 32) (c.args.y % 16) =
-    elim c.if-blank.branch [
-      | then-blank w ↦ w.cell-is ∙ sym (blank (search rules) (start_edges plan) column lane (place % 32))
-      | else-blank w ↦ w.cell-is ∙ w.slot_cell.ensures
+    let shown : c.if-is_blank.cell ≡ drawn_slot shipped_drawing (start_edges plan) column lane slot (place % 32) (c.args.y % 16) =
+    elim c.if-is_blank.branch [
+      | then-is_blank w ↦ w.cell-is ∙ sym (blank (search rules) (start_edges plan) column lane (place % 32))
+      | else-is_blank w ↦ w.cell-is ∙ w.slot_cell.ensures
     ] in
     let last =
     shown

@@ -12,7 +12,7 @@ abbrev pub invariant-loop-i : goal.invariant-loop-i
 invariant-loop-i l =
     record {
       block : slot_of l.slot ≡ tiling_of l.plan l.column l.lane;
-      blank : l.blank ≡ true → (edges : Lit) (column lane x : ℕ) → drawn_slot shipped_drawing edges column lane (slot_of l.slot) x l.below ≡ Empty;
+      blank : l.is_blank ≡ true → (edges : Lit) (column lane x : ℕ) → drawn_slot shipped_drawing edges column lane (slot_of l.slot) x l.below ≡ Empty;
       near : l.column < 2 ^ 59;
       cells : (k : ℕ) → k < l.i → get_or l.row k Empty ≡ start_plane shipped_drawing l.plan (pos (l.x + k)) (pos l.y);
     }

@@ -27,7 +27,7 @@ loop-y-preserved c =
     let kept : length cells ≡ c.in_ok-row.row.len = search rules in
     let whole : c.deref.result.now ≡ cells =
     c.deref.ensures.value ∙ take-append-le c.in_ok-row.row.len cells (drop (length cells) c.in_ok-row.row.items) (omega (arith, kept)) ∙ take_all c.in_ok-row.row.len cells (omega (arith, kept)) in
-    c.in_ok-push_row.ensures
+    c.in_ok-push_row.ensures.pushed
     ∙ ap₂ (λ rows row. rows ++ row ∷ []) c.loop-y.invariant (whole ∙ row_is plan y cells (kept ∙ c.in_ok-row.ensures.len ∙ wide) c.fill_row.ensures)
     ∙ sym (map-range_with_len_more (start_row plan) 0 y y (omega arith))
 

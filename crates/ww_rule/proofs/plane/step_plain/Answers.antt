@@ -1,9 +1,10 @@
 use Rattle.std.proofs.Common.{◌≡◌, ◌<◌, ◌+◌, ℕ, pos, [], ◌∷◌, ◌++◌, length, get_or, arith, ap, subst, sym, ◌∙◌, length-append, List}
+use Rattle.std.proofs.lemmas.List.{get_or_default}
 use Rattle.ww_rule.specs.declared.pattern.State.{State}
 use Rattle.ww_rule.specs.declared.pattern.State.TheVariants.{Empty}
 use Rattle.ww_rule.specs.Wireworld.{next_plane}
 use Rattle.ww_rule.specs.Grid.{plane_of}
-use Rattle.ww_rule.proofs.RowLemmas.{pushed, same_grid, get_or_any}
+use Rattle.ww_rule.proofs.RowLemmas.{pushed, same_grid}
 use Rattle.ww_rule.proofs.Bridge.{next_of_three, rows_show}
 use Rattle.ww_rule.proofs.Cells.{next_plane_empty}
 use Rattle.ww_rule.proofs.plane.step_plain.Goals as goal
@@ -13,7 +14,7 @@ loop-y-preserved c =
     let old = c.args.plane.now.rows in
     let y = c.loop-y.y in
     let new = c.in_ok-next.next in
-    let items : c.loop-y.rows ++ new ∷ [] ≡ c.push_row.new.self = sym (c.in_ok-push_row.ensures ∙ ap (λ r. c.loop-y.rows ++ r ∷ []) c.as_slice.ensures) in
+    let items : c.loop-y.rows ++ new ∷ [] ≡ c.push_row.new.self = sym (c.in_ok-push_row.ensures.pushed ∙ ap (λ r. c.loop-y.rows ++ r ∷ []) c.as_slice.ensures) in
     let row : c.row.result.now ≡ get_or old y [] = c.row.ensures in
     let under : c.row_or_none-below.result.now ≡ get_or old (y + 1) [] = c.row_or_none-below.ensures in
     let is_long = λ (k : ℕ) (r : List State). length r ≡ length (get_or old k []) in
@@ -32,7 +33,7 @@ push_row-requires c =
     let y = c.loop-y.y in
     let grid = c.args.plane.now.in_rows in
     let new : length c.as_slice.result.now ≡ c.args.plane.now.width = ap length c.as_slice.ensures ∙ c.in_ok-next.ensures.long ∙ ap length c.row.ensures ∙ grid.long y [] (omega arith) in
-    λ k d h. ap length (get_or_any c.loop-y.rows k d [] h) ∙ c.loop-y.invariant.long k (omega arith) ∙ grid.long k [] (omega arith) ∙ sym new
+    λ k d h. ap length (get_or_default c.loop-y.rows k d [] h) ∙ c.loop-y.invariant.long k (omega arith) ∙ grid.long k [] (omega arith) ∙ sym new
 
 pub invariant_of-result : goal.invariant_of-result
 invariant_of-result c =

@@ -7,4 +7,4 @@ push_row-requires c =
     let y = c.loop-y.y in
     let rows = c.args.rows.now in
     let row : c.deref.result.now ≡ reverse (get_or rows y []) = c.deref.ensures.value ∙ c.in_ok-row.ensures ∙ ap reverse c.row.ensures in
-    subst (λ turned. All (λ other. length other ≡ length c.deref.result.now) turned) (sym c.loop-y.invariant) (subst (λ r. All (λ other. length other ≡ length r) (map reverse (take y rows))) (sym row) (reversed_long rows y (omega arith) c.requires))
+    subst (λ mirrored. All (λ other. length other ≡ length c.deref.result.now) mirrored) (sym c.loop-y.invariant) (subst (λ r. All (λ other. length other ≡ length r) (map reverse (take y rows))) (sym row) (reversed_long rows y (omega arith) c.requires))

@@ -22,8 +22,8 @@ within k d own now e le few =
     let all : length (take (length now - d) (drop d now)) ≡ length (drop d now) = ap length (take_all (length now - d) (drop d now) (omega (arith, l))) in
     omega (arith, l, q, le, few, all)
 
-pub step_rows-requires-clause-inside : goal.step_rows-requires-clause-inside
-step_rows-requires-clause-inside c =
+pub step_with_due-requires-clause-inside : goal.step_with_due-requires-clause-inside
+step_with_due-requires-clause-inside c =
     let band = c.args.self.now in
     let k = c.due_count-count.result in
     subst (λ rows. AreInRows (length c.args.up.now) c.args.y (length rows) (take (band.done + k - band.done) (drop band.done c.deref-2.result.now))) (sym c.deref_mut.ensures.value)
@@ -33,8 +33,8 @@ pub returns-clause-is : goal.returns-clause-is
 returns-clause-is c =
     let band = c.args.self.now in
     let is = c.requires.is in
-    let s = c.step_rows.ensures in
-    let new = c.step_rows.new.rows in
+    let s = c.step_with_due.ensures in
+    let new = c.step_with_due.new.rows in
     let light = c.light_of-self.result in
     let value = c.deref_mut.ensures.value in
     let m = s.many in
@@ -59,8 +59,8 @@ returns-clause-shows c e due width height evo shows up down =
     let own = band.injections.items in
     let left = drop band.done own in
     let k = c.due_count-count.result in
-    let s = c.step_rows.ensures in
-    let new = c.step_rows.new.rows in
+    let s = c.step_with_due.ensures in
+    let new = c.step_with_due.new.rows in
     let old = c.deref_mut.result.now in
     let value = c.deref_mut.ensures.value in
     let m = s.many in
@@ -79,16 +79,16 @@ returns-clause-shows c e due width height evo shows up down =
           (rows_move e due width height evo g y n own left _ new shows.left front shows.own lm moved);
       top = λ h q.
           let r : g ≡ h = omega (arith, q) in
-          subst (λ g. ShowsHeads c.step_rows.new.top.heads.items (e g) (pos y)) r
-          (subst (ShowsHeads c.step_rows.new.top.heads.items (e g)) (let z : pos y +ℤ pos 0 ≡ pos y = omega (arith, ints) in z)
-          (kept_shows c.step_rows.new.top.heads.items old 0 y (e g) (let z = c.requires.is.some in let v = ap length value in omega (arith, v, z)) s.top (subst (λ rows. ShowRows rows (e g) (pos y)) (sym value) shows.rows)));
+          subst (λ g. ShowsHeads c.step_with_due.new.top.heads.items (e g) (pos y)) r
+          (subst (ShowsHeads c.step_with_due.new.top.heads.items (e g)) (let z : pos y +ℤ pos 0 ≡ pos y = omega (arith, ints) in z)
+          (kept_shows c.step_with_due.new.top.heads.items old 0 y (e g) (let z = c.requires.is.some in let v = ap length value in omega (arith, v, z)) s.top (subst (λ rows. ShowRows rows (e g) (pos y)) (sym value) shows.rows)));
       bottom = λ h q.
           let r : g ≡ h = omega (arith, q) in
           let v : length old ≡ n = ap length value in
           let last : pos (length old - 1) ≡ pos (n - 1) = ap (λ k. pos (k - 1)) v in
-          subst (λ g. ShowsHeads c.step_rows.new.bottom.heads.items (e g) (pos y +ℤ pos (n - 1))) r
-          (subst (λ z. ShowsHeads c.step_rows.new.bottom.heads.items (e g) (pos y +ℤ z)) last
-          (kept_shows c.step_rows.new.bottom.heads.items old (length old - 1) y (e g) (let z = c.requires.is.some in omega (arith, v, z)) s.bottom (subst (λ rows. ShowRows rows (e g) (pos y)) (sym value) shows.rows)));
+          subst (λ g. ShowsHeads c.step_with_due.new.bottom.heads.items (e g) (pos y +ℤ pos (n - 1))) r
+          (subst (λ z. ShowsHeads c.step_with_due.new.bottom.heads.items (e g) (pos y +ℤ z)) last
+          (kept_shows c.step_with_due.new.bottom.heads.items old (length old - 1) y (e g) (let z = c.requires.is.some in omega (arith, v, z)) s.bottom (subst (λ rows. ShowRows rows (e g) (pos y)) (sym value) shows.rows)));
       own = shows.own;
       left = left_after (g + 1) own left shows.left (drop (band.done + k) own) (sym (drop-drop k band.done own) ∙ ap (λ n. drop n left) count2);
     }

@@ -12,7 +12,7 @@ invariant_of-self c =
     let s = c.self.inside in
     let v = c.self.invariant in
     let e = c.move_band.ensures in
-    let due = due_of_list s.drive.items in
+    let due = due_of_list s.injections.items in
     let plane = driven due (plane_of s.pattern.rows) in
     let rows = length s.pattern.rows in
     let new = c.move_band.new.bands in
@@ -26,7 +26,7 @@ invariant_of-self c =
     let vh = ap length c.deref_mut-2.ensures.value in
     let lw = c.move_band.auto.spare_wires in
     let vw = ap length c.deref_mut-3.ensures.value in
-    let evo = evolution s.pattern.width s.pattern.height s.pattern.rows s.drive.items s.pattern.in_rows v.inside in
+    let evo = evolution s.pattern.width s.pattern.height s.pattern.rows s.injections.items s.pattern.in_rows v.inside in
     let shows = e.shows plane due s.pattern.width (subst (IsEvolution plane due s.pattern.width) (sym many) evo) (subst (λ r. AllShow plane due s.height r c.deref_mut.result.now) (sym many) (subst (AllShow plane due s.height rows) (sym old) v.shows)) in
     record {
       inside = v.inside;

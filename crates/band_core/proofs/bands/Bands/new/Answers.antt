@@ -17,7 +17,7 @@ begin_bands-requires-clause-inside c =
     let p = c.args.pattern in
     let words = c.words_for-words.result in
     let long : All (λ row. length row ≤ 64 * words) p.rows = c.words_for-words.ensures.wide p.width p.in_rows.long in
-    subst (λ drive. AreInRows words 0 (length p.rows) drive) (sym c.deref.ensures.value) (drive_in_rows p.width p.height words p.rows c.args.drive.items p.in_rows long c.requires.inside)
+    subst (λ injections. AreInRows words 0 (length p.rows) injections) (sym c.deref.ensures.value) (drive_in_rows p.width p.height words p.rows c.args.injections.items p.in_rows long c.requires.inside)
 
 pub invariant_of-result : goal.invariant_of-result
 invariant_of-result c =
@@ -30,7 +30,7 @@ invariant_of-result c =
     let lh : length c.in_ok-spare_heads.spare_heads.items ≡ words = ap length (c.in_ok-spare_heads.ensures.items_if_clones_equal (λ y q. q)) ∙ length-replicate words 0 in
     let lw : length c.in_ok-spare_wires.spare_wires.items ≡ words = ap length (c.in_ok-spare_wires.ensures.items_if_clones_equal (λ y q. q)) ∙ length-replicate words 0 in
     let few = c.words_for-words.ensures.few in
-    let drive = c.deref.ensures.value in
+    let injections = c.deref.ensures.value in
     record {
       inside = c.requires.inside;
       in_order = c.requires.in_order;
@@ -40,5 +40,5 @@ invariant_of-result c =
       spare_heads = lh ∙ sym ld;
       spare_wires = lw ∙ sym ld;
       bands = subst (λ w. AreBands w h (length p.rows) bands) (sym ld) made.bands;
-      shows = subst (λ drive. AllShow (driven (due_of_list drive) (plane_of p.rows)) (due_of_list drive) h (length p.rows) bands) drive made.shows;
+      shows = subst (λ injections. AllShow (driven (due_of_list injections) (plane_of p.rows)) (due_of_list injections) h (length p.rows) bands) injections made.shows;
     }

@@ -9,7 +9,7 @@ use Rattle.band_core.specs.Band.{AreBands, AllShow, IsEvolution, IsQuiet, IsWaki
 use Rattle.band_core.specs.Held.{held_pattern}
 use Rattle.band_core.proofs.Evolution.{evolution}
 use Rattle.band_core.proofs.Asleep.{is_awake, never_awake}
-use Rattle.band_core.proofs.Options.{none_of}
+use Rattle.lists.proofs.Options.{none_where}
 use Rattle.band_core.proofs.bands.Bands.skip.Goals as goal
 
 some_band : (bands : List Band) → 0 < length bands → Band
@@ -23,10 +23,10 @@ returns-in-Some-awake_cell-clause-cause c =
     let b = c.args.b in
     let h = s.height in
     let rows = length s.pattern.rows in
-    let due = due_of_list s.drive.items in
+    let due = due_of_list s.injections.items in
     let plane = driven due (plane_of s.pattern.rows) in
-    let evo = evolution s.pattern.width s.pattern.height s.pattern.rows s.drive.items s.pattern.in_rows v.inside in
-    let none = none_of c.unready_neighbour.result c.in_default.not-Some in
+    let evo = evolution s.pattern.width s.pattern.height s.pattern.rows s.injections.items s.pattern.in_rows v.inside in
+    let none = none_where c.unready_neighbour.result c.in_default.not-Some in
     let ready : unready_neighbour (generations_of s.bands.items) b ≡ None = ap (λ bands. unready_neighbour (generations_of bands) b) (sym c.deref.ensures.value) ∙ sym c.unready_neighbour.ensures ∙ none in
     let x = c.in-Some-awake_cell.x in
     let y = c.in-Some-awake_cell.y in
@@ -47,18 +47,18 @@ invariant_of-self c =
     let b = c.args.b in
     let h = s.height in
     let e = c.rest_band.ensures in
-    let due = due_of_list s.drive.items in
+    let due = due_of_list s.injections.items in
     let plane = driven due (plane_of s.pattern.rows) in
     let words = length s.dark.items in
     let rows = length s.pattern.rows in
     let new = c.rest_band.new.bands in
-    let evo = evolution s.pattern.width s.pattern.height s.pattern.rows s.drive.items s.pattern.in_rows v.inside in
+    let evo = evolution s.pattern.width s.pattern.height s.pattern.rows s.injections.items s.pattern.in_rows v.inside in
     let many : c.len-rows.result ≡ rows = c.len-rows.ensures.count in
     let now = c.deref-2.result.now in
     let value : now ≡ s.bands.items = c.deref-2.ensures.value in
     let old : c.deref_mut.result.now ≡ s.bands.items = c.deref_mut.ensures.value in
     let quiet =
-    c.awake_cell.ensures.quiet (none_of c.awake_cell.result c.in_default-awake_cell.not-Some) plane due s.pattern.width (subst (IsEvolution plane due s.pattern.width) (sym many) evo)
+    c.awake_cell.ensures.quiet (none_where c.awake_cell.result c.in_default-awake_cell.not-Some) plane due s.pattern.width (subst (IsEvolution plane due s.pattern.width) (sym many) evo)
     (subst (λ r. AllShow plane due h r now) (sym many) (subst (AllShow plane due h rows) (sym value) v.shows)) in
     let calm : IsQuiet plane due (get_or (generations_of c.deref_mut.result.now) b 0) (b * h) (min h (rows - b * h)) =
     subst (λ r. IsQuiet plane due (get_or (generations_of c.deref_mut.result.now) b 0) (b * h) (min h (r - b * h))) many
@@ -86,16 +86,16 @@ returns-clause-asleep c x y awake =
     let v = c.self.invariant in
     let b = c.args.b in
     let h = s.height in
-    let due = due_of_list s.drive.items in
+    let due = due_of_list s.injections.items in
     let plane = driven due (plane_of s.pattern.rows) in
     let rows = length s.pattern.rows in
-    let evo = evolution s.pattern.width s.pattern.height s.pattern.rows s.drive.items s.pattern.in_rows v.inside in
+    let evo = evolution s.pattern.width s.pattern.height s.pattern.rows s.injections.items s.pattern.in_rows v.inside in
     let many : c.len-rows.result ≡ rows = c.len-rows.ensures.count in
     let now = c.deref-2.result.now in
     let value : now ≡ s.bands.items = c.deref-2.ensures.value in
     let evo2 = subst (IsEvolution plane due s.pattern.width) (sym many) evo in
     let quiet =
-    c.awake_cell.ensures.quiet (none_of c.awake_cell.result c.in_default-awake_cell.not-Some) plane due s.pattern.width evo2 (subst (λ r. AllShow plane due h r now) (sym many) (subst (AllShow plane due h rows) (sym value) v.shows)) in
+    c.awake_cell.ensures.quiet (none_where c.awake_cell.result c.in_default-awake_cell.not-Some) plane due s.pattern.width evo2 (subst (λ r. AllShow plane due h r now) (sym many) (subst (AllShow plane due h rows) (sym value) v.shows)) in
     let calm : IsQuiet plane due (get_or (generations_of s.bands.items) b 0) (b * h) (min h (rows - b * h)) =
     subst (λ r. IsQuiet plane due (get_or (generations_of s.bands.items) b 0) (b * h) (min h (r - b * h))) many
     (subst (λ bands. IsQuiet plane due (get_or (generations_of bands) b 0) (b * h) (min h (c.len-rows.result - b * h))) value quiet) in

@@ -1,6 +1,6 @@
 use Rattle.std.proofs.Common.{pos}
 use Rattle.ww_rule.specs.Wireworld.{next_plane}
-use Rattle.band_core.proofs.band.step_rows.Goals as goal
+use Rattle.band_core.proofs.band.step_with_due.Goals as goal
 
 pub returns-clause-shows : goal.returns-clause-shows
 returns-clause-shows c p west shown up down =
