@@ -1,21 +1,15 @@
 -- No line has a line feed in it, and no field of a line has a space.
-use Rattle.std.proofs.Common.{ℕ, zero, suc, ◌+◌, ◌≡◌, ◌≢◌, inl, inr, refl, sym, ◌∙◌, Bool, true, false, true≢false, ◌==◌, List, [], ◌∷◌, take}
+use Rattle.std.proofs.Common.{ℕ, zero, suc, ◌+◌, ◌≡◌, ◌≢◌, refl, Bool, true, false, ◌==◌, List, [], ◌∷◌, take}
 use Rattle.std.specs.Prelude.{Option, Some, None, if◌then◌else◌}
 use Rattle.std.specs.List.{All, AllByRecursion, onto_first, prefix_len, slice_split}
-use Rattle.std.proofs.lemmas.Bool.Decides.{eqb_tells}
 use Rattle.std.proofs.lemmas.List.Elements.{All-cons, All-head, All-nil, All-tail}
 use Rattle.std.proofs.lemmas.List.Splits.{slice_split-cons_no, slice_split-cons_yes}
 use Rattle.std.proofs.lemmas.Option.{none-some}
+use Rattle.std.proofs.lemmas.Bool.{eqb-false}
 use Rattle.pattern_reading.specs.Lines.{Line, lines_from, lines_of, onto_first_line, with_line_feeds}
 use Rattle.pattern_reading.specs.Numbers.{after_prefix}
 use Rattle.pattern_reading.specs.Header.{is_skipped, lines_before_header}
 use Rattle.pattern_reading.proofs.FirstLine.{HasNoFeed}
-
-pub other_byte : (a b : ℕ) → (a == b) ≡ false → a ≢ b
-other_byte a b e same = elim (eqb_tells a b) as (λ _. ⊥) [
-  | inl equal ↦ true≢false (sym equal.0 ∙ e)
-  | inr other ↦ other.1 same
-]
 
 -- the bytes of a line
 abbrev pub IsFeedless : Line → Type 0
@@ -27,7 +21,7 @@ feedless_onto n b (line ∷ lines) h hs = (All-cons (λ b. b ≢ 10) b line.byte
 
 feedless_step : (n b : ℕ) (is_feed : Bool) (after same : List Line) → (b == 10) ≡ is_feed → AllByRecursion IsFeedless after → AllByRecursion IsFeedless same → AllByRecursion IsFeedless (if is_feed then record { number = n; bytes = []; is_ended = true } ∷ after else onto_first_line n b same)
 feedless_step n b true after same e h k = (All-nil (λ b. b ≢ 10), h)
-feedless_step n b false after same e h k = feedless_onto n b same (other_byte b 10 e) k
+feedless_step n b false after same e h k = feedless_onto n b same (eqb-false b 10 e) k
 
 feedless_from : (n : ℕ) (bs : List ℕ) → AllByRecursion IsFeedless (lines_from n bs)
 feedless_from n [] = tt
@@ -65,4 +59,4 @@ fields_are (b ∷ bs) h = by_test (b == 32) refl (fields_are bs (All-tail (λ b.
   where
     by_test : (t : Bool) → (b == 32) ≡ t → AllByRecursion IsFieldText (slice_split (λ b. b == 32) bs) → AllByRecursion IsFieldText (slice_split (λ b. b == 32) (b ∷ bs))
     by_test true e rest = rw (slice_split-cons_yes (λ b. b == 32) b bs e) (All-nil (λ b. (b ≢ 10) × (b ≢ 32)), rest)
-    by_test false e rest = rw (slice_split-cons_no (λ b. b == 32) b bs e) (field_onto b _ (All-head (λ b. b ≢ 10) b bs h, other_byte b 32 e) rest)
+    by_test false e rest = rw (slice_split-cons_no (λ b. b == 32) b bs e) (field_onto b _ (All-head (λ b. b ≢ 10) b bs h, eqb-false b 32 e) rest)

@@ -3,7 +3,7 @@ use Rattle.std.proofs.Common.{ℕ, ◌≤◌, ◌≡◌, ◌≢◌, refl, sym, a
 use Rattle.std.specs.Prelude.{if◌then◌else◌, Option, Some, None, codes, filter_map}
 use Rattle.std.specs.List.{All, AllByRecursion, AllPairs, cons_option, list_any, slice_split}
 use Rattle.std.specs.Str.{byte, bytes_eq}
-use Rattle.std.proofs.lemmas.Bool.{or_parts}
+use Rattle.std.proofs.lemmas.Bool.{or_parts, eqb-false}
 use Rattle.std.proofs.lemmas.List.{append-nil}
 use Rattle.std.proofs.lemmas.List.Elements.{All-cons, All-nil, filter_map-append}
 use Rattle.std.proofs.lemmas.List.Quantifiers.{all_pairs_push}
@@ -19,7 +19,7 @@ use Rattle.pattern_reading.specs.Header.{lines_before_header}
 use Rattle.pattern_reading.specs.PortLines.{PortForm, Version, In, Out, Net, TableLine, form_of_fields, net_in, path_in, port_in, table_entry, table_line, table_of}
 use Rattle.pattern_reading.specs.PortTable.{fault_of_form, faults_after, forms_of, input_of, is_same_port, latency_in, net_of, output_of, period_in}
 use Rattle.pattern_reading.specs.SoundTable.{HasSoundTable, IsSoundNet, IsSoundPort, IsWord}
-use Rattle.pattern_laws.proofs.LineBytes.{IsFeedless, IsFieldText, feedless_after, feedless_before_header, fields_are, other_byte}
+use Rattle.pattern_laws.proofs.LineBytes.{IsFeedless, IsFieldText, feedless_after, feedless_before_header, fields_are}
 use Rattle.pattern_reading.proofs.FirstLine.{HasNoFeed}
 use Rattle.pattern_reading.proofs.PortsInside.{no_first}
 use Rattle.pattern_reading.proofs.Ranges.{bind_some, small_number}
@@ -61,7 +61,7 @@ version_is : (p l : List ℕ) (form : PortForm) (period latency : ℕ) (t : Bool
 version_is p l form period latency true k small small' e = absurd (none-some form e)
 version_is p l form period latency false k small small' e =
     let same : Version period latency ≡ form = cc in
-    rw (← same) (other_byte period 0 k, small, small')
+    rw (← same) (eqb-false period 0 k, small, small')
 
 version_form : (p l : List ℕ) (form : PortForm) → (number_in p >>= λ period. number_in l >>= λ latency. (if period == 0 then None else Some (Version period latency))) ≡ Some form → IsSoundForm form
 version_form p l form e =

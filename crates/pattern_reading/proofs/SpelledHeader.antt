@@ -1,5 +1,5 @@
 -- A header and a count that are spelled are read back.
-use Rattle.std.proofs.Common.{ℕ, zero, suc, ◌<◌, ◌≤◌, ◌^◌, ◌≡◌, ◌≢◌, refl, ap, ◌∙◌, true, false, List, [], ◌∷◌, ◌++◌, length, drop, arith}
+use Rattle.std.proofs.Common.{ℕ, zero, suc, ◌<◌, ◌≤◌, ◌^◌, ◌≡◌, ◌≢◌, refl, ap, ◌∙◌, true, false, List, [], ◌∷◌, ◌++◌, length, arith}
 use Rattle.std.specs.Prelude.{Option, Some, take_while, codes, decimal}
 use Rattle.std.specs.List.{list_all}
 use Rattle.std.specs.Char.{is_ascii_digit}
@@ -14,6 +14,7 @@ use Rattle.pattern_reading.specs.Items.{counted_item, item_in}
 use Rattle.pattern_reading.specs.Laws.{IsLineText}
 use Rattle.pattern_reading.specs.SpelledPattern.{HasSpelledHeader, HasSpelledCount, spelled_header}
 use Rattle.std.proofs.lemmas.Bool.{ne_eqb}
+use Rattle.std.proofs.Math.Seq.{drop-append_seam}
 use Rattle.pattern_reading.proofs.PortText.{digits_pass, number_in-decimal, decimal_field, letters_line, line_part}
 
 decimal_digits : (n : ℕ) → n < 2 ^ 64 → list_all is_ascii_digit (decimal n) ≡ true
@@ -35,10 +36,6 @@ digits_before (d ∷ ds) c rest h k =
     let parts : (is_ascii_digit d ≡ true) × (list_all is_ascii_digit ds ≡ true) = and_parts _ _ h in
     take_while-cons is_ascii_digit d (ds ++ c ∷ rest) ∙ rw (parts.0) (ap (λ xs. d ∷ xs) (digits_before ds c rest parts.1 k))
 
-drop_before : (xs ys : List ℕ) → drop (length xs) (xs ++ ys) ≡ ys
-drop_before [] ys = refl
-drop_before (x ∷ xs) ys = drop_before xs ys
-
 no_blank : (d : ℕ) → is_ascii_digit d ≡ true → is_blank d ≡ false
 no_blank d e =
     let low : 48 ≤ d = leb-true _ _ (and_parts _ _ e).0 in
@@ -50,7 +47,7 @@ blank_before (d ∷ ds) rest some h = rw (no_blank d (and_parts _ _ h).0) refl
 
 number_front : (ds : List ℕ) (n c : ℕ) (rest : List ℕ) → 0 < length ds → list_all is_ascii_digit ds ≡ true → number_in ds ≡ Some n → is_ascii_digit c ≡ false → number_at_front (32 ∷ (ds ++ (c ∷ rest))) ≡ Some (n, c ∷ rest)
 number_front ds n c rest some digits e k =
-    rw (blank_before ds (c ∷ rest) some digits, digits_before ds c rest digits k, e, drop_before ds (c ∷ rest)) refl
+    rw (blank_before ds (c ∷ rest) some digits, digits_before ds c rest digits k, e, drop-append_seam ds (c ∷ rest)) refl
 
 front_of_decimal : (n c : ℕ) (rest : List ℕ) → n < 2 ^ 64 → is_ascii_digit c ≡ false → number_at_front (32 ∷ (decimal n ++ (c ∷ rest))) ≡ Some (n, c ∷ rest)
 front_of_decimal n c rest small k =

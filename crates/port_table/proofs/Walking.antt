@@ -1,6 +1,5 @@
 -- A text's table line by line, and its faults.
-use Rattle.std.proofs.Common.{true≢false, ℕ, suc, ◌+◌, ◌<◌, ◌≡◌, refl, sym, ap, ◌∙◌, subst, Bool, true, false, cond, not, ◌==◌, List, [], ◌∷◌, ◌++◌, length, map, take, drop, get_or, Option, Some, None, arith, drop-cons}
-use mathlib.Core.Bool.{beq}
+use Rattle.std.proofs.Common.{ℕ, suc, ◌+◌, ◌<◌, ◌≡◌, refl, sym, ap, ◌∙◌, subst, Bool, true, false, cond, not, ◌==◌, List, [], ◌∷◌, ◌++◌, length, map, take, drop, get_or, Option, Some, None, arith, drop-cons}
 use Rattle.std.specs.Prelude.{filter_map, option_map, slice_get, take_while, if◌then◌else◌}
 use Rattle.std.specs.List.{cons_option, list_any}
 use Rattle.std.specs.Option.{option_to_list}
@@ -137,9 +136,3 @@ twice_or_none width height before form is_new here inside new =
     by_any : (any : Bool) → (if not any then None else Some Twice) ≡ (if any then Some Twice else None)
     by_any true = refl
     by_any false = refl
-
-pub same_bools : (a b : Bool) → not (beq a b) ≡ false → a ≡ b
-same_bools true true e = refl
-same_bools true false e = absurd (true≢false e)
-same_bools false true e = absurd (true≢false e)
-same_bools false false e = refl

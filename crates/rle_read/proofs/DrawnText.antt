@@ -23,6 +23,7 @@ use Rattle.ww_rule.specs.Cuts.{with_run}
 use Rattle.rle_read.proofs.Runs.{run_inside, run_in_rows, run_grid, run_covers, run_spares}
 use Rattle.std.proofs.lemmas.List.Elements.{filter_map-append as filter_map_append}
 use Rattle.std.proofs.Math.Bool.{and-false as and_none}
+use Rattle.std.proofs.Math.Nat.{zero-mul}
 
 -- the cells from the next place on
 abbrev pub IsAhead : Drawn → ℕ → ℕ → Type 0
@@ -336,9 +337,6 @@ module _ (width height : ℕ) (small_width : width < 2 ^ 64) (small_height : hei
 
 -- the drawing of an empty box
 
-zero_mul : (h : ℕ) → 0 * h ≡ 0
-zero_mul h = omega arith
-
 no_height : (w h : ℕ) → w ≢ 0 → w * h ≡ 0 → h ≡ 0
 no_height w h some area = grind arith
 
@@ -350,7 +348,7 @@ blank_grid width height = by_width (width == 0) refl
         let none : width ≡ 0 = eqb-true width 0 e in
         record {
           long = λ k row h. absurd (omega (arith, h));
-          many = λ some. absurd (some (ap (λ w. w * height) none ∙ zero_mul height));
+          many = λ some. absurd (some (ap (λ w. w * height) none ∙ zero-mul height));
           none = λ _. refl;
         }
     by_width false e =

@@ -4,7 +4,8 @@ use Rattle.std.proofs.lemmas.Int.{ints}
 use Rattle.std.proofs.lemmas.Bool.{and_parts, or_cases, cases_Bool, true≢false}
 use Rattle.std.proofs.lemmas.Bool.Decides.{Decides-int_eq}
 use Rattle.std.proofs.Math.Path.{fun_ext}
-use Rattle.std.proofs.Math.Bool.{or_assoc}
+use Rattle.std.proofs.Math.Bool.{or_assoc, beq}
+use Rattle.std.specs.Cmp.{booleans_Decides}
 use Rattle.ww_rule.specs.declared.pattern.State.TheVariants.{Empty, Head, Tail, Conductor}
 use Rattle.ww_rule.specs.Wireworld.{next_plane, evolve, next_state, heads_around, count_head}
 use Rattle.tile_core.specs.Drawing.{Cell, is_cell_of, Drawing, picture}
@@ -150,13 +151,9 @@ runs_along drawing (suc g) before (c ∷ cs) p h =
     evolve-front (suc g) (picture drawing (c ∷ []) before) ∙ ap (evolve (suc g)) (goes_on drawing before c (first cs) p.0) ∙ runs_along drawing g (c ∷ []) cs p.1 h'
 
 -- a test of a list of cells that computes: each cell's neighbours in the list are the cell before it and the cell after it
-abbrev pub is_same : Bool → Bool → Bool
-is_same true b = b
-is_same false b = not b
-
 abbrev pub sees_only : Cell → List Cell → List Cell → Bool
 sees_only c near [] = true
-sees_only c near (d ∷ ds) = is_same (is_beside d.x d.y c) (is_cell_of d.x d.y near) && sees_only c near ds
+sees_only c near (d ∷ ds) = beq (is_beside d.x d.y c) (is_cell_of d.x d.y near) && sees_only c near ds
 
 abbrev pub is_chordless : List Cell → List Cell → List Cell → Bool
 is_chordless cells before [] = true
@@ -167,17 +164,12 @@ is_chordless cells before (c ∷ cs) =
     && none_of before (first cs)
     && is_chordless cells (c ∷ []) cs
 
-same_from_test : (a b : Bool) → is_same a b ≡ true → a ≡ b
-same_from_test true b e = sym e
-same_from_test false true e = absurd (true≢false (sym e))
-same_from_test false false e = refl
-
 sees_only-says : (c : Cell) (near cells : List Cell) (x y : ℤ) → sees_only c near cells ≡ true → is_cell_of x y cells ≡ true → is_beside x y c ≡ is_cell_of x y near
 sees_only-says c near [] x y t e = absurd (true≢false (sym e))
 sees_only-says c near (d ∷ ds) x y t e =
     let parts = and_parts _ _ t in
     elim (or_cases (int_eq x d.x && int_eq y d.y) (is_cell_of x y ds) e) [
-      | inl here ↦ let s = same_place x y d.x d.y here in ap₂ (λ u v. is_beside u v c) s.0 s.1 ∙ same_from_test _ _ parts.0 ∙ sym (ap₂ (λ u v. is_cell_of u v near) s.0 s.1)
+      | inl here ↦ let s = same_place x y d.x d.y here in ap₂ (λ u v. is_beside u v c) s.0 s.1 ∙ (booleans_Decides _ _).0 parts.0 ∙ sym (ap₂ (λ u v. is_cell_of u v near) s.0 s.1)
       | inr later ↦ sees_only-says c near ds x y parts.1 later
     ]
 
