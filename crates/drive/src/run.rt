@@ -67,7 +67,8 @@ fn last_generation(injections: &[Injection]) -> u128
 fn band_rows(rows: usize) -> u32
     ensures { 0 < result }
 {
-    rows.div_ceil(MOST_BANDS).clamp(LEAST_BAND_ROWS, MOST_BAND_ROWS) as u32
+    rows.div_ceil(MOST_BANDS)
+        .clamp(LEAST_BAND_ROWS, MOST_BAND_ROWS) as u32
 }
 
 // Whether a row would not fill one word, and there are more rows than columns.

@@ -1,18 +1,14 @@
 -- Lists over a range that grows.
-use Rattle.std.proofs.Common.{ℕ, ◌+◌, ◌++◌, ◌∷◌, [], ◌≡◌, refl, sym, ap, ◌∙◌, List, map}
+use Rattle.std.proofs.Common.{ℕ, ◌+◌, ◌++◌, ◌∷◌, [], ◌≡◌, refl, sym, ap, ◌∙◌, List}
 use Rattle.std.specs.Prelude.{flat_map}
 use Rattle.std.specs.List.{range_with_len}
-use Rattle.std.proofs.lemmas.List.{append-nil}
+use Rattle.std.proofs.lemmas.List.{append-nil, map-id}
 use Rattle.std.proofs.lemmas.List.FromFn.{map-range_with_len_more}
 use Rattle.std.proofs.lemmas.Grind.{flat_map-append}
 
-mapped : (xs : List ℕ) → map (λ x. x) xs ≡ xs
-mapped [] = refl
-mapped (x ∷ xs) = ap (λ ys. x ∷ ys) (mapped xs)
-
 range_more : (a n : ℕ) → range_with_len a (n + 1) ≡ range_with_len a n ++ (a + n) ∷ []
 range_more a n =
-    sym (mapped (range_with_len a (n + 1))) ∙ map-range_with_len_more (λ x. x) a n (a + n) refl ∙ ap (λ xs. xs ++ (a + n) ∷ []) (mapped (range_with_len a n))
+    sym (map-id (range_with_len a (n + 1))) ∙ map-range_with_len_more (λ x. x) a n (a + n) refl ∙ ap (λ xs. xs ++ (a + n) ∷ []) (map-id (range_with_len a n))
 
 -- one more line
 pub lines_more : (line : ℕ → List ℕ) (a n : ℕ) → flat_map line (range_with_len a (n + 1)) ≡ flat_map line (range_with_len a n) ++ line (a + n)
