@@ -15,8 +15,8 @@ invariant_of-self-2 c =
     ∙ sym (ap length c.in_ok-extend_from_slice.ensures.items) in
     (whole, omega arith)
 
-pub returns : goal.returns
-returns c =
+pub returns-clause-pushed : goal.returns-clause-pushed
+returns-clause-pushed c =
     let r = c.self.inside in
     let row = c.args.row.now in
     let long : All (λ other. length other ≡ length row) (cut_rows r.width r.count r.cells.items) = subst (All (λ other. length other ≡ length row)) (sym c.self.view_is) c.requires in
