@@ -7,9 +7,6 @@ use Rattle.std.proofs.lemmas.List.{take_all}
 use Rattle.pattern_lines.proofs.Numerals.{large_more, whole_number, digits_more, one_more}
 use Rattle.pattern_lines.proofs.numbers.number_in.Goals as goal
 
-not_below : (a b : ℕ) → ¬ (a < b) → b ≤ a
-not_below a b h = omega arith
-
 not_empty : (ds : List ℕ) → (length ds == 0) ≡ false → 0 < length ds
 not_empty [] e = absurd (true≢false e)
 not_empty (d ∷ ds) e = omega arith
@@ -17,14 +14,14 @@ not_empty (d ∷ ds) e = omega arith
 pub returns-in_err-checked_mul : goal.returns-in_err-checked_mul
 returns-in_err-checked_mul c =
     let i = c.loop-digit.digit-index in
-    let large : 2 ^ 64 ≤ c.loop-digit.number * 10 = not_below _ _ c.in_err-checked_mul.ensures in
+    let large : 2 ^ 64 ≤ c.loop-digit.number * 10 = omega (arith, c.in_err-checked_mul.ensures) in
     let is : is_ascii_digit (get_or c.args.digits.now i 0) ≡ true = sym c.is_ascii_digit.ensures.value ∙ c.if-not-is_ascii_digit.false in
     c.from_residual.ensures ∙ sym (large_more c.args.digits.now i c.loop-digit.number c.loop-digit-test.true c.loop-digit.invariant.value is (omega (arith, large)))
 
 pub returns-in_err-number : goal.returns-in_err-number
 returns-in_err-number c =
     let i = c.loop-digit.digit-index in
-    let large : 2 ^ 64 ≤ c.in_ok-checked_mul.field-0 + c.from.result = not_below _ _ c.in_err-number.ensures in
+    let large : 2 ^ 64 ≤ c.in_ok-checked_mul.field-0 + c.from.result = omega (arith, c.in_err-number.ensures) in
     let is : is_ascii_digit (get_or c.args.digits.now i 0) ≡ true = sym c.is_ascii_digit.ensures.value ∙ c.if-not-is_ascii_digit.false in
     c.from_residual-in_err-number.ensures ∙ sym (large_more c.args.digits.now i c.loop-digit.number c.loop-digit-test.true c.loop-digit.invariant.value is (omega (arith, large, c.in_ok-checked_mul.ensures, c.from.ensures)))
 
