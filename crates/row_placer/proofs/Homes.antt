@@ -17,7 +17,7 @@ use Rattle.lane_core.specs.Entering.{lane_bit}
 use Rattle.row_placer.specs.Programs.{program_bits, free_lanes}
 use Rattle.row_placer.specs.Placed.{AreHomes, HomesHold}
 use Rattle.row_placer.proofs.Values.{value_bit, numbered}
-use Rattle.row_placer.proofs.Whole.{length-loops}
+use Rattle.row_placer.proofs.Whole.{free_but_loops, length-loops}
 use Rattle.std.proofs.lemmas.Bool.{ne_eqb as eq_no}
 use Rattle.std.proofs.Math.Bool.{or-false as or_false}
 
@@ -83,4 +83,4 @@ homes_hold list p homes h latches inputs state f v below =
     (cases_lt v list.inputs)
   where
     free : free_lanes p ≡ p.lanes - loop_count list
-    free = ap (λ n. p.lanes - n) (ap length latches ∙ length-loops list list.starts refl)
+    free = free_but_loops list p latches
