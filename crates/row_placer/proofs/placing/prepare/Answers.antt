@@ -150,9 +150,9 @@ returns c =
     let start = c.in_ok-start.start.items in
     let is : IsStart homes left (first + inner) start = subst (λ hs. IsStart hs left (first + inner) start) c.deref-3.ensures.value (subst (λ l. IsStart c.deref-3.result.now l (first + inner) start) c.deref-4.ensures.value c.in_ok-start.ensures) in
     let counted : AreCounted left (uses_of g ++ ports) = subst (AreCounted left) (ap₂ (λ gs ps. uses_of gs ++ ps) c.deref.ensures.value c.deref-2.ensures.value) c.in_ok-left.ensures.left in
-    let owes : c.in_ok-left.free ≡ owed ports base g = c.in_ok-left.ensures.owed ∙ ap₂ (λ gs ps. owed ps base gs) c.deref.ensures.value c.deref-2.ensures.value in
+    let owes : c.in_ok-left.owed ≡ owed ports base g = c.in_ok-left.ensures.owed ∙ ap₂ (λ gs ps. owed ps base gs) c.deref.ensures.value c.deref-2.ensures.value in
     let idles : c.count_idle-idle.result ≡ idle left (length homes) = c.count_idle-idle.ensures ∙ ap (idle left) (ap (λ n. inner + n) c.one_if-dark.ensures ∙ sym s.long) in
-    let few : c.in_ok-left.free ≤ length g + length ports + 1 = omega (arith, c.in_ok-left.ensures.few, ap length c.deref.ensures.value, ap length c.deref-2.ensures.value) in
+    let few : c.in_ok-left.owed ≤ length g + length ports + 1 = omega (arith, c.in_ok-left.ensures.few, ap length c.deref.ensures.value, ap length c.deref-2.ensures.value) in
     let ready = start_ready g ports homes left inner (first + inner) first base dark start is (sides_within first inner (first + inner) dark homes s some refl) counted refl wide s.long c.wants_zero-zero.ensures.used refl
     (omega (arith, owes, idles, c.first_home-least.ensures.enough, c.one_if-dark.ensures)) in
     let inner_is : inner ≡ list.inputs + loop_count list = ap (λ n. list.inputs + n) c.requires.loops in
