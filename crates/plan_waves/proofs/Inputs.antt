@@ -3,6 +3,7 @@ use Rattle.std.proofs.Common.{◌≡◌, refl, sym, ◌∙◌, ap, pos, ℕ, suc
 use Rattle.std.proofs.lemmas.Bool.{cases_lt, false_from_ne_true, true≢false, or_from, and_parts, eqb-true, ltb-true}
 use Rattle.std.proofs.lemmas.Bool.Decides.{nat_tests}
 use Rattle.std.proofs.lemmas.Int.{ints}
+use Rattle.std.proofs.Math.Bool.{or-false}
 use Rattle.ww_rule.specs.Wireworld.{Due}
 use Rattle.tiling.specs.Tiling.{Slot, Edge, Lit}
 use Rattle.tiling.specs.Tiling.Piece.{Tile}
@@ -90,8 +91,7 @@ not_injected plan due d g (Beside q l) h =
     true≢false (sym free ∙ h)))
 
 pub or_none : (a b : Bool) → b ≡ false → (a || b) ≡ a
-or_none true b h = refl
-or_none false b h = h
+or_none a b h = ap (λ x. a || x) h ∙ or-false a
 
 -- the edges of a plan that is driven at its inputs go on
 pub driven_edges_go_on : (plan : Plan) (due : Due) → DrivesInputs plan due → (lit : Lit) → GoesOn plan (driven_edges (tiling_of plan) due lit)

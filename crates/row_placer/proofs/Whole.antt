@@ -121,14 +121,11 @@ computes list job p homes tags made sound x hold = record {
     datas : length (loop_data list) ≡ loop_count list
     datas = length-data list sound.fits
 
-    free : free_lanes p ≡ p.lanes - loop_count list
-    free = free_but_loops list p x.latches
-
     long : (inputs state : List Bool) → Fits list inputs state → length (reverse (drop (free_lanes p) (after_instrs p.instrs (program_bits list p inputs state)))) ≡ loop_count list
     long inputs state f =
         let after = after_instrs p.instrs (program_bits list p inputs state) in
         let e = length-after p.instrs (program_bits list p inputs state) in
-        omega (arith, length-reverse (drop (free_lanes p) after), length-drop (free_lanes p) after, e, wide list p inputs state x.latches x.room f, free, x.room)
+        omega (arith, length-reverse (drop (free_lanes p) after), length-drop (free_lanes p) after, e, wide list p inputs state x.latches x.room f, free_but_loops list p x.latches, x.room)
 
     each_out : (inputs state : List Bool) → Fits list inputs state → (o : ℕ) → o < length (map (bit_on (after_instrs p.instrs (program_bits list p inputs state))) p.outs)
         → get_or (map (bit_on (after_instrs p.instrs (program_bits list p inputs state))) p.outs) o false ≡ get_or (map (bit_of list inputs state) list.outs) o false
@@ -150,8 +147,8 @@ computes list job p homes tags made sound x hold = record {
         let e = length-after p.instrs (program_bits list p inputs state) in
         let w = wide list p inputs state x.latches x.room f in
         let low : s < loop_count list = omega (arith, below, long inputs state f) in
-        let inside : s < length (drop (free_lanes p) after) = omega (arith, low, length-drop (free_lanes p) after, e, w, free, x.room) in
-        let lane : free_lanes p + (length (drop (free_lanes p) after) - 1 - s) ≡ length tags - 1 - s = omega (arith, low, length-drop (free_lanes p) after, e, w, free, x.room, x.lanes) in
+        let inside : s < length (drop (free_lanes p) after) = omega (arith, low, length-drop (free_lanes p) after, e, w, free_but_loops list p x.latches, x.room) in
+        let lane : free_lanes p + (length (drop (free_lanes p) after) - 1 - s) ≡ length tags - 1 - s = omega (arith, low, length-drop (free_lanes p) after, e, w, free_but_loops list p x.latches, x.room, x.lanes) in
         let value : get_or job.ports s 0 ≡ number list (get_or (loop_data list) s Zero) =
         port_value list job s (loop_data list ++ list.outs) x.job_of.ports (omega (arith, low, datas, length-append (loop_data list) list.outs))
         ∙ ap (number list) (get_or_append_left (loop_data list) list.outs Zero s (omega (arith, low, datas))) in
