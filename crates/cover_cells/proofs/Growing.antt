@@ -13,6 +13,7 @@ use Rattle.cell_core.proofs.Bits.{appending_keeps_bits, pushed_bit}
 use Rattle.cell_core.proofs.Order.{there_more, all_there_more}
 use Rattle.cover_cells.specs.Grown.{HasSource, HasSources, bits_of, Grows, Answers}
 use Rattle.std.proofs.lemmas.Bool.{or_right as or_right'}
+use Rattle.std.proofs.Math.Bool.{or-false}
 
 -- ---- some cell of two lists reads constant 1
 any-append : (cells more : List Cell) → read_one (cells ++ more) ≡ true → (read_one cells ≡ true) ⊎ (read_one more ≡ true)
