@@ -1,7 +1,8 @@
 -- A text without ports carries a model without ports, and no model with an output.
-use Rattle.std.proofs.Common.{◌≡◌, refl, sym, ap, ◌∙◌, subst, ℕ, ◌<◌, Bool, false, List, [], ◌∷◌, length, get_or, arith}
+use Rattle.std.proofs.Common.{◌≡◌, refl, sym, ap, ◌∙◌, subst, ℕ, ◌<◌, Bool, false, List, [], length, get_or, arith}
 use Rattle.std.specs.Prelude.{Some, slice_get, All, Contains}
 use Rattle.std.proofs.lemmas.Option.{none-some, slice_get_within, get_or_from_slice_get}
+use Rattle.std.proofs.lemmas.List.{nil_from_length}
 use Rattle.std.proofs.lemmas.List.Elements.{All-get_or}
 use Rattle.ww_rule.specs.Grid.{plane_of}
 use Rattle.ww_rule.proofs.Streams.{streams_injected}
@@ -56,11 +57,7 @@ no_bits rows (names, are, long) t row e =
     let same : names ≡ [] = in_names_are_one bare_design names [] are in_names in
     let within = slice_get_within rows t row e in
     let short : length (get_or rows t []) ≡ 0 = All-get_or (λ row. length row ≡ 0) rows t [] within (subst (λ ns. All (λ row. length row ≡ length ns) rows) same long) in
-    nil row (ap length (sym (get_or_from_slice_get rows t row [] e)) ∙ short)
-  where
-    nil : (xs : List Bool) → length xs ≡ 0 → xs ≡ []
-    nil [] e = refl
-    nil (x ∷ xs) e = absurd (omega (arith, e))
+    nil_from_length row (ap length (sym (get_or_from_slice_get rows t row [] e)) ∙ short)
 
 run : ℕ → Valuation
 run t place name = false

@@ -2,7 +2,7 @@
 use Rattle.std.proofs.Common.{◌≡◌, refl, sym, ◌∙◌, ap, ap₂, ℕ, suc, ◌+◌, ◌<◌, Bool, true, ◌&&◌, ◌||◌, not, List, [], ◌∷◌, ◌++◌, length, get_or, Option, Some, None, option_map, option_and_then, subst, slice_set, slice_get, map, ⊎_elim, ◌≢◌, drop, take, arith}
 use Rattle.std.proofs.lemmas.Bool.{and_parts, and_from, lt-ltb, cases_eq}
 use Rattle.std.proofs.lemmas.List.{length_push, length-append, get_or_append_left, get_or-set_same, get_or-set_other, take_more, map-append, length-map}
-use Rattle.std.proofs.lemmas.Option.{slice_get_within, slice_get-get_or, get_or_from_slice_get, same_Some}
+use Rattle.std.proofs.lemmas.Option.{slice_get_within, slice_get-get_or, get_or_from_slice_get, none-some, same_Some}
 use Rattle.lists.proofs.Appends.{slice_get_push}
 use Rattle.lane_core.specs.declared.instr.Instr.{Instr}
 use Rattle.cell_lanes.specs.Origins.{entry_source, cell_instr, maker_on}
@@ -20,15 +20,6 @@ use Rattle.cell_core.specs.Loops.{names_one}
 use Rattle.cell_order.specs.Alike.{ComputeAlike}
 use Rattle.cell_order.specs.Renamed.{Numbers, renamed, renamed_cell, AreMoved}
 
-same : {A : Type 0} {a b : A} → Some a ≡ Some b → a ≡ b
-same e = same_Some _ _ e
-
-no_value : {A : Type 0} (x : A) → None ≡ Some x → ⊥
-no_value x e = absurd (let h : None ≡ Some x = e in cc)
-
-no_source : (new : Src) → None ≡ Some new → ⊥
-no_source new e = no_value new e
-
 none_is_some : {A B : Type 0} (f : A → B) (x : A) (xs : List A) → [] ≡ map f (x ∷ xs) → ⊥
 none_is_some f x xs e = let n : 0 ≡ suc (length (map f xs)) = ap length e in omega arith
 
@@ -43,15 +34,15 @@ record Follows (list : CellList) (cells : List Cell) (src new : Src) : Type 0 wh
   bit : (inputs state : List Bool) → bit_in cells inputs state new ≡ bit_in list.cells inputs state src
 
 follows : (list : CellList) (cells : List Cell) (numbers : Numbers) → AreMoved list cells numbers → (src new : Src) → renamed numbers src ≡ Some new → Follows list cells src new
-follows list cells numbers are (Input i) new e = subst (λ s. Follows list cells (Input i) s) (same e) (record { entry = refl; maker = λ lane. refl; there = λ made h. h; bit = λ inputs state. refl })
-follows list cells numbers are (Latch i) new e = subst (λ s. Follows list cells (Latch i) s) (same e) (record { entry = refl; maker = λ lane. refl; there = λ made h. h; bit = λ inputs state. refl })
-follows list cells numbers are One new e = subst (λ s. Follows list cells One s) (same e) (record { entry = refl; maker = λ lane. refl; there = λ made h. h; bit = λ inputs state. refl })
-follows list cells numbers are Zero new e = subst (λ s. Follows list cells Zero s) (same e) (record { entry = refl; maker = λ lane. refl; there = λ made h. h; bit = λ inputs state. refl })
+follows list cells numbers are (Input i) new e = subst (λ s. Follows list cells (Input i) s) (same_Some _ _ e) (record { entry = refl; maker = λ lane. refl; there = λ made h. h; bit = λ inputs state. refl })
+follows list cells numbers are (Latch i) new e = subst (λ s. Follows list cells (Latch i) s) (same_Some _ _ e) (record { entry = refl; maker = λ lane. refl; there = λ made h. h; bit = λ inputs state. refl })
+follows list cells numbers are One new e = subst (λ s. Follows list cells One s) (same_Some _ _ e) (record { entry = refl; maker = λ lane. refl; there = λ made h. h; bit = λ inputs state. refl })
+follows list cells numbers are Zero new e = subst (λ s. Follows list cells Zero s) (same_Some _ _ e) (record { entry = refl; maker = λ lane. refl; there = λ made h. h; bit = λ inputs state. refl })
 follows list cells numbers are (Made i) new e = known (get_or numbers i None) refl e where
   known : (n : Option ℕ) → get_or numbers i None ≡ n → option_map Made n ≡ Some new → Follows list cells (Made i) new
-  known None at e = absurd (no_source new e)
+  known None at e = absurd (none-some new e)
   known (Some m) at e =
-      subst (λ s. Follows list cells (Made i) s) (same e)
+      subst (λ s. Follows list cells (Made i) s) (same_Some _ _ e)
       (record { entry = refl; maker = are.makers i m at; there = λ made h. lt-ltb m (length cells) (are.there i m at); bit = are.bits i m at })
 
 -- ---- a cell under the new numbers
@@ -63,9 +54,9 @@ record CellFollows (list : CellList) (cells : List Cell) (cell new : Cell) : Typ
 -- both of its sources are there
 both : {A : Type 0} (f : Src → Src → A) (a b : Option Src) (new : A) → option_and_then (λ x. option_map (f x) b) a ≡ Some new
     → (x : Src) × (y : Src) × (a ≡ Some x) × (b ≡ Some y) × (f x y ≡ new)
-both f None b new e = absurd (no_value new e)
-both f (Some x) None new e = absurd (no_value new e)
-both f (Some x) (Some y) new e = (x, y, refl, refl, same e)
+both f None b new e = absurd (none-some new e)
+both f (Some x) None new e = absurd (none-some new e)
+both f (Some x) (Some y) new e = (x, y, refl, refl, same_Some _ _ e)
 
 cell_follows : (list : CellList) (cells : List Cell) (numbers : Numbers) → AreMoved list cells numbers → (cell new : Cell) → renamed_cell numbers cell ≡ Some new → CellFollows list cells cell new
 cell_follows list cells numbers are (Or a b) new e =
@@ -130,7 +121,7 @@ moved_numbered list cells numbers are i cell new at is place last inside =
     let f : CellFollows list cells cell new = cell_follows list cells numbers are cell new is in
     let within : i < length list.cells = slice_get_within list.cells i cell at in
     let long : length (cells ++ new ∷ []) ≡ length cells + 1 = length_push cells new in
-    let same_place : (m : ℕ) → get_or (slice_set numbers i (Some place)) i None ≡ Some m → place ≡ m = λ m e. same (sym (get_or-set_same numbers i (Some place) None inside) ∙ e) in
+    let same_place : (m : ℕ) → get_or (slice_set numbers i (Some place)) i None ≡ Some m → place ≡ m = λ m e. same_Some _ _ (sym (get_or-set_same numbers i (Some place) None inside) ∙ e) in
     let other : (k m : ℕ) → k ≢ i → get_or (slice_set numbers i (Some place)) k None ≡ Some m → get_or numbers k None ≡ Some m =
     λ k m ne e. sym (get_or-set_other numbers i k (Some place) None ne) ∙ e in
     let own : (inputs state : List Bool) → bit_in (cells ++ new ∷ []) inputs state (Made place) ≡ bit_in list.cells inputs state (Made i) =

@@ -13,6 +13,7 @@ use Rattle.cell_core.proofs.Bits.{appending_keeps_bits, pushed_bit}
 use Rattle.cell_core.proofs.Order.{there_more, all_there_more}
 use Rattle.cover_cells.specs.Grown.{HasSource, HasSources, bits_of, Grows, Answers}
 use Rattle.std.proofs.lemmas.Bool.{or_right as or_right'}
+use Rattle.std.proofs.Math.Bool.{or-false}
 
 -- ---- some cell of two lists reads constant 1
 any-append : (cells more : List Cell) → read_one (cells ++ more) ≡ true → (read_one cells ≡ true) ⊎ (read_one more ≡ true)
@@ -80,15 +81,11 @@ pub added : (old new : CellList) (cell : Cell) (n : ℕ) → Adds old new (cell 
     → Answers old new 1 (reads_one cell ≡ true) (Made n) (λ inputs state. cell_bit inputs state (cell_bits inputs state old.cells) cell)
 added old new cell n adds long =
     record {
-      grows = record { more = cell ∷ []; adds = adds; few = omega arith; ones = λ e. or_left_of (reads_one cell) e };
+      grows = record { more = cell ∷ []; adds = adds; few = omega arith; ones = λ e. sym (or-false (reads_one cell)) ∙ e };
       there = lt-ltb n (length new.cells) (let e : length new.cells ≡ length old.cells + 1 = ap length adds.cells ∙ length_push old.cells cell in omega arith);
       one = λ e. absurd (true≢false (sym e));
       bit = λ inputs state. ap (λ cells. bit_in cells inputs state (Made n)) adds.cells ∙ pushed_bit inputs state old.cells cell n long;
     }
-  where
-    or_left_of : (a : Bool) → (a || false) ≡ true → a ≡ true
-    or_left_of true e = refl
-    or_left_of false e = e
 
 -- ---- an answer, and then one made of it
 pub answers : (a b c : CellList) (n m k : ℕ) (P Q R : Type 0) (src : Src) (wanted : List Bool → List Bool → Bool)

@@ -6,6 +6,7 @@ use Rattle.std.proofs.lemmas.List.{get_or-map, get_or-take, get_or_default, take
 use Rattle.std.proofs.lemmas.List.Sums.{sum_by_more, sum_by-take-le}
 use Rattle.std.proofs.lemmas.List.Folds.{list_all_more, list_any_at, list_any_none}
 use Rattle.std.proofs.lemmas.Slice.Zip.{length-zip, get_or-zip}
+use Rattle.std.proofs.Math.Bool.{and-true, and_assoc}
 use Rattle.netlist_core.specs.OwnWeight.{literals}
 use Rattle.netlist_meaning.specs.CoverValue.{fits, product_holds}
 use Rattle.cell_core.specs.declared.cells.Src.{Src}
@@ -46,10 +47,6 @@ pub literals_more : (row : List ℕ) (i : ℕ) → i < length row → literals (
 literals_more row i within =
     let e : literals (take (i + 1) row) ≡ literals (take i row) + cond ((get_or row i 0 == 48) || (get_or row i 0 == 49)) 1 0 = sum_by_more (λ c. cond ((c == 48) || (c == 49)) 1 0) row i 0 within in
     omega arith
-
-and_assoc : (a b c : Bool) → ((a && b) && c) ≡ (a && (b && c))
-and_assoc true b c = refl
-and_assoc false b c = refl
 
 pub column_added : (l l' l'' : CellList) (sources : List Src) (row : List ℕ) (start product new : Src) (i : ℕ) → i < length row → i < length sources → HasSources l sources
     → ComesTo l l' sources row start i product
@@ -117,12 +114,8 @@ comes_from_start l sources row first is there =
       grows = grows_refl l (RowNeedsOne sources row);
       there = ⊎_elim (λ lt. subst (λ s. HasSource l s) (sym (start_is sources first (min (length row) (length sources)) lt (omega arith))) (source_there _ _ _ sources first (Input 0) (omega arith) there)) (λ le. ap (λ s. is_there l.inputs (length l.starts) (length l.cells) s) (start_one sources first (min (length row) (length sources)) le)) (cases_lt first (min (length row) (length sources)));
       one = λ e. ⊎_elim (λ lt. inl (list_any_at is_one sources first (Input 0) (omega arith) (ap is_one (sym (start_is sources first (min (length row) (length sources)) lt (omega arith))) ∙ e))) (λ le. inr (none_positive sources row first is le)) (cases_lt first (min (length row) (length sources)));
-      bit = λ inputs state. and_self (bit_in l.cells inputs state (start_of sources first (min (length row) (length sources))));
+      bit = λ inputs state. sym (and-true (bit_in l.cells inputs state (start_of sources first (min (length row) (length sources)))));
     }
-  where
-    and_self : (a : Bool) → a ≡ (a && true)
-    and_self true = refl
-    and_self false = refl
 
 -- ---- all columns
 held : (row : List ℕ) (bits : List Bool) (i : ℕ) → i < length row → i < length bits → get_or row i 0 ≡ 49 → product_holds row bits ≡ true → get_or bits i false ≡ true

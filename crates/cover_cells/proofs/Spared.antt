@@ -1,7 +1,8 @@
 -- Cells that need not be made.
-use Rattle.std.proofs.Common.{◌≡◌, refl, sym, ◌∙◌, ap, ℕ, Bool, true, false, ◌&&◌, ◌||◌, not, List, length, arith}
+use Rattle.std.proofs.Common.{◌≡◌, refl, sym, ◌∙◌, ap, ap₂, ℕ, Bool, true, false, ◌&&◌, ◌||◌, not, List, length, arith}
 use Rattle.std.specs.Prelude.{IsTrue}
 use Rattle.std.proofs.lemmas.Bool.{and_parts, or_left, or_right, true≢false}
+use Rattle.std.proofs.Math.Bool.{and-false, and-true, and_comm, or-false, or_comm, or_self}
 use Rattle.cell_core.specs.declared.cells.Src.{Src}
 use Rattle.cell_core.specs.declared.cells.Src.TheVariants.{Input, Latch, One, Zero, Cell as Made}
 use Rattle.cell_core.specs.declared.cells.Cell.{Cell}
@@ -26,14 +27,6 @@ by_second cell a b t o e = record { bit = e; there = λ n l m h. (and_parts _ _ 
 by_zero : (cell : Cell) → ((inputs state made : List Bool) → false ≡ cell_bit inputs state made cell) → StandsFor cell Zero
 by_zero cell e = record { bit = e; there = λ n l m h. refl; one = λ h. absurd (true≢false (sym h)) }
 
-or_itself : (x : Bool) → x ≡ (x || x)
-or_itself true = refl
-or_itself false = refl
-
-or_nothing : (x : Bool) → x ≡ (x || false)
-or_nothing true = refl
-or_nothing false = refl
-
 xor_itself : (x : Bool) → false ≡ ((x || x) && not (x && x))
 xor_itself true = refl
 xor_itself false = refl
@@ -42,39 +35,18 @@ xor_nothing : (x : Bool) → x ≡ ((x || false) && not (x && false))
 xor_nothing true = refl
 xor_nothing false = refl
 
-nothing_xor : (x : Bool) → x ≡ ((false || x) && not (false && x))
-nothing_xor true = refl
-nothing_xor false = refl
-
 and_not_itself : (x : Bool) → false ≡ (x && not x)
 and_not_itself true = refl
 and_not_itself false = refl
 
-and_not_nothing : (x : Bool) → x ≡ (x && not false)
-and_not_nothing true = refl
-and_not_nothing false = refl
-
-and_not_all : (x : Bool) → false ≡ (x && not true)
-and_not_all true = refl
-and_not_all false = refl
-
-or_turned : (x y : Bool) → (x || y) ≡ (y || x)
-or_turned true true = refl
-or_turned true false = refl
-or_turned false true = refl
-or_turned false false = refl
-
 xor_turned : (x y : Bool) → ((x || y) && not (x && y)) ≡ ((y || x) && not (y && x))
-xor_turned true true = refl
-xor_turned true false = refl
-xor_turned false true = refl
-xor_turned false false = refl
+xor_turned x y = ap₂ (λ either both. either && not both) (or_comm x y) (and_comm x y)
 
 pub same_or : (a b : Src) → a ≡ b → StandsFor (Or a b) a
-same_or a b e = by_first (Or a b) a b (λ n l m h. h) (λ h. h) (λ i s m. or_itself (source_bit i s m a) ∙ ap (λ x. source_bit i s m a || source_bit i s m x) e)
+same_or a b e = by_first (Or a b) a b (λ n l m h. h) (λ h. h) (λ i s m. sym (or_self (source_bit i s m a)) ∙ ap (λ x. source_bit i s m a || source_bit i s m x) e)
 
 pub or_zero : (a b : Src) → b ≡ Zero → StandsFor (Or a b) a
-or_zero a b e = by_first (Or a b) a b (λ n l m h. h) (λ h. h) (λ i s m. or_nothing (source_bit i s m a) ∙ ap (λ x. source_bit i s m a || source_bit i s m x) (sym e))
+or_zero a b e = by_first (Or a b) a b (λ n l m h. h) (λ h. h) (λ i s m. sym (or-false (source_bit i s m a)) ∙ ap (λ x. source_bit i s m a || source_bit i s m x) (sym e))
 
 pub zero_or : (a b : Src) → a ≡ Zero → StandsFor (Or a b) b
 zero_or a b e = by_second (Or a b) a b (λ n l m h. h) (λ h. h) (λ i s m. ap (λ x. source_bit i s m x || source_bit i s m b) (sym e))
@@ -86,13 +58,13 @@ pub xor_zero : (a b : Src) → b ≡ Zero → StandsFor (Xor a b) a
 xor_zero a b e = by_first (Xor a b) a b (λ n l m h. h) (λ h. h) (λ i s m. xor_nothing (source_bit i s m a) ∙ ap (λ x. (source_bit i s m a || source_bit i s m x) && not (source_bit i s m a && source_bit i s m x)) (sym e))
 
 pub zero_xor : (a b : Src) → a ≡ Zero → StandsFor (Xor a b) b
-zero_xor a b e = by_second (Xor a b) a b (λ n l m h. h) (λ h. h) (λ i s m. nothing_xor (source_bit i s m b) ∙ ap (λ x. (source_bit i s m x || source_bit i s m b) && not (source_bit i s m x && source_bit i s m b)) (sym e))
+zero_xor a b e = by_second (Xor a b) a b (λ n l m h. h) (λ h. h) (λ i s m. sym (and-true (source_bit i s m b)) ∙ ap (λ x. (source_bit i s m x || source_bit i s m b) && not (source_bit i s m x && source_bit i s m b)) (sym e))
 
 pub same_and_not : (a b : Src) → a ≡ b → StandsFor (AndNot a b) Zero
 same_and_not a b e = by_zero (AndNot a b) (λ i s m. and_not_itself (source_bit i s m a) ∙ ap (λ x. source_bit i s m a && not (source_bit i s m x)) e)
 
 pub and_not_zero : (a b : Src) → b ≡ Zero → StandsFor (AndNot a b) a
-and_not_zero a b e = by_first (AndNot a b) a b (λ n l m h. h) (λ h. h) (λ i s m. and_not_nothing (source_bit i s m a) ∙ ap (λ x. source_bit i s m a && not (source_bit i s m x)) (sym e))
+and_not_zero a b e = by_first (AndNot a b) a b (λ n l m h. h) (λ h. h) (λ i s m. sym (and-true (source_bit i s m a)) ∙ ap (λ x. source_bit i s m a && not (source_bit i s m x)) (sym e))
 
 pub zero_and_not : (a b : Src) → a ≡ Zero → StandsFor (AndNot a b) Zero
 zero_and_not a b e = by_zero (AndNot a b) (λ i s m. ap (λ x. source_bit i s m x && not (source_bit i s m b)) (sym e))
@@ -100,12 +72,12 @@ zero_and_not a b e = by_zero (AndNot a b) (λ i s m. ap (λ x. source_bit i s m 
 pub and_not_one : (a b : Src) → is_one b ≡ true → StandsFor (AndNot a b) Zero
 and_not_one a (Input i) e = absurd (true≢false (sym e))
 and_not_one a (Latch i) e = absurd (true≢false (sym e))
-and_not_one a One e = by_zero (AndNot a One) (λ i s m. and_not_all (source_bit i s m a))
+and_not_one a One e = by_zero (AndNot a One) (λ i s m. sym (and-false (source_bit i s m a)))
 and_not_one a Zero e = absurd (true≢false (sym e))
 and_not_one a (Made i) e = absurd (true≢false (sym e))
 
 pub turned_or : (a b : Src) → HaveSameBit (Or b a) (Or a b)
-turned_or a b i s m = or_turned (source_bit i s m b) (source_bit i s m a)
+turned_or a b i s m = or_comm (source_bit i s m b) (source_bit i s m a)
 
 pub turned_xor : (a b : Src) → HaveSameBit (Xor b a) (Xor a b)
 turned_xor a b i s m = xor_turned (source_bit i s m b) (source_bit i s m a)

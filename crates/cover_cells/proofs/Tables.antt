@@ -1,31 +1,14 @@
 -- A bit of a word operation is the operation on bits, and six bits name a bit of a word.
-use Rattle.std.proofs.Common.{◌≡◌, refl, sym, ◌∙◌, ap, subst, ℕ, suc, zero, ◌+◌, ◌-◌, ◌*◌, ◌/◌, ◌%◌, ◌^◌, ◌<◌, ◌≤◌, ◌==◌, min, max, Bool, true, false, cond, ◌&&◌, ◌||◌, not, List, [], ◌∷◌, length, get_or, ◌⊎◌, inl, inr, ⊎_elim, arith, bit_and, bit_or}
+use Rattle.std.proofs.Common.{◌≡◌, refl, ◌∙◌, ap, ℕ, suc, zero, ◌+◌, ◌-◌, ◌*◌, ◌/◌, ◌%◌, ◌^◌, ◌<◌, ◌≤◌, ◌==◌, Bool, true, false, cond, ◌&&◌, ◌||◌, not, List, [], ◌∷◌, length, get_or, arith, bit_and}
 use Rattle.std.specs.Int.{bit_at, bit_not, w64}
 use Rattle.std.specs.Int.RustNames.{bit_xor}
 use Rattle.std.proofs.lemmas.Bool.{agree_below, agree_below_at}
-use Rattle.std.proofs.lemmas.Nat.Bits.{bit_at-lt, bit_at_and, bit_at_or, bit_at_xor, bit_at_not, bit_at-suc, bit_at_lowest, bit_at-zero}
+use Rattle.std.proofs.lemmas.Nat.Bits.{bit_at-lt, bit_at_xor, bit_at_not, bit_at-suc, bit_at_lowest, bit_at-zero}
 use Rattle.cover_cells.specs.Words.{bits_number, table_bit}
 use Rattle.lists.specs.Bits.{has_bit}
+use Rattle.lists.proofs.WordBits.{by_digits, and_bit}
 
--- ---- digits
-digit : (x : ℕ) → x < 2 → (x ≡ 0) ⊎ (x ≡ 1)
-digit zero lt = inl refl
-digit (suc zero) lt = inr refl
-digit (suc (suc x)) lt = absurd (omega arith)
-
-pub by_digits : (P : ℕ → ℕ → Type 0) → P 0 0 → P 0 1 → P 1 0 → P 1 1 → (x y : ℕ) → x < 2 → y < 2 → P x y
-by_digits P p00 p01 p10 p11 x y lx ly =
-    ⊎_elim
-    (λ x0. ⊎_elim (λ y0. subst (λ a. P a y) (sym x0) (subst (P 0) (sym y0) p00)) (λ y1. subst (λ a. P a y) (sym x0) (subst (P 0) (sym y1) p01)) (digit y ly))
-    (λ x1. ⊎_elim (λ y0. subst (λ a. P a y) (sym x1) (subst (P 1) (sym y0) p10)) (λ y1. subst (λ a. P a y) (sym x1) (subst (P 1) (sym y1) p11)) (digit y ly))
-    (digit x lx)
-
-pub word_bit_or : (a b n : ℕ) → has_bit (bit_or a b) n ≡ (has_bit a n || has_bit b n)
-word_bit_or a b n = ap (λ x. x == 1) (bit_at_or a b n) ∙ by_digits (λ x y. (max x y == 1) ≡ ((x == 1) || (y == 1))) refl refl refl refl (bit_at a n) (bit_at b n) (bit_at-lt a n) (bit_at-lt b n)
-
-pub word_bit_and : (a b n : ℕ) → has_bit (bit_and a b) n ≡ (has_bit a n && has_bit b n)
-word_bit_and a b n = ap (λ x. x == 1) (bit_at_and a b n) ∙ by_digits (λ x y. (min x y == 1) ≡ ((x == 1) && (y == 1))) refl refl refl refl (bit_at a n) (bit_at b n) (bit_at-lt a n) (bit_at-lt b n)
-
+-- ---- bits of a word
 pub word_bit_xor : (a b n : ℕ) → has_bit (bit_xor a b) n ≡ ((has_bit a n || has_bit b n) && not (has_bit a n && has_bit b n))
 word_bit_xor a b n =
     ap (λ x. x == 1) (bit_at_xor a b n)
@@ -36,7 +19,7 @@ word_bit_not a n small within =
     ap (λ x. x == 1) (bit_at_not w64 a n small within) ∙ by_digits (λ x y. (1 - x == 1) ≡ not (x == 1)) refl refl refl refl (bit_at a n) 0 (bit_at-lt a n) (omega arith)
 
 pub word_bit_and_not : (a b n : ℕ) → b < 2 ^ 64 → n < 64 → has_bit (bit_and a (bit_not w64 b)) n ≡ (has_bit a n && not (has_bit b n))
-word_bit_and_not a b n small within = word_bit_and a (bit_not w64 b) n ∙ ap (λ t. has_bit a n && t) (word_bit_not b n small within)
+word_bit_and_not a b n small within = and_bit a (bit_not w64 b) n ∙ ap (λ t. has_bit a n && t) (word_bit_not b n small within)
 
 -- ---- the number of bits
 halved : (b : Bool) (n : ℕ) → ((cond b 1 0 + 2 * n) / 2 ≡ n) × (((cond b 1 0 + 2 * n) % 2 == 1) ≡ b)

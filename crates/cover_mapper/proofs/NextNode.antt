@@ -3,13 +3,15 @@ use Rattle.std.proofs.Common.{◌≡◌, ◌≢◌, refl, sym, ◌∙◌, ap, ap
 use Rattle.std.specs.Prelude.{Contains, All, sum_by}
 use Rattle.std.specs.List.{list_any}
 use Rattle.std.specs.Option.{unwrap_or}
-use Rattle.std.proofs.lemmas.Bool.{cases_eq, and_from, or_left, or_right, ne_eqb}
+use Rattle.std.proofs.lemmas.Bool.{and_from, or_left, or_right, ne_eqb}
 use Rattle.std.proofs.lemmas.Option.{slice_get-get_or, slice_get_within, get_or_from_slice_get}
 use Rattle.std.proofs.lemmas.List.{nil_from_length, get_or-map, get_or-take, get_or-set_same, get_or-set_other, get_or_append_left, length-take-le, length-append, length-map, take_more}
 use Rattle.std.proofs.lemmas.List.Elements.{All-get_or, Contains-get_or, Contains-push_cases, Contains-append_left, Contains-push}
 use Rattle.std.proofs.lemmas.Grind.{get_or_default_zero}
 use Rattle.std.proofs.lemmas.List.Folds.{list_any_at}
 use Rattle.std.proofs.lemmas.List.Sums.{sum_by_more}
+use Rattle.std.proofs.lemmas.Simd.{map-map}
+use Rattle.lists.proofs.Numbers.{less_or_last}
 use Rattle.netlist_core.specs.declared.flat.NetId.{NetId}
 use Rattle.netlist_core.specs.declared.flat.Node.{Node}
 use Rattle.netlist_core.specs.declared.flat.Flat.{Flat}
@@ -162,19 +164,12 @@ node_mapped flat sound order ordered old l l' sources k n class node ins src wit
     needs : CoverNeedsOne ins node.rows node.on → any_needs_one flat ≡ true
     needs why = ⊎_elim (λ r. ⊎_elim (λ e. any_one flat (Made flat (take k order)) l sources (in_classes flat n) first.sourced known (ap (λ s. list_any is_one s) (sym are) ∙ e)) (λ e. listed (row_case e)) r) (λ h. listed (off_case h)) why
 
-    map-in : {X Y Z : Type 0} (f : X → Y) (g : Y → Z) (xs : List X) → map g (map f xs) ≡ map (λ x. g (f x)) xs
-    map-in f g [] = refl
-    map-in f g (x ∷ xs) = ap (λ l. g (f x) ∷ l) (map-in f g xs)
-
     bit : (inputs state : List Bool) (bits : ℕ → Bool) → IsFlatValuation flat inputs state bits → bit_in l'.cells inputs state src ≡ bits class
     bit inputs state bits solves =
         answer.bit inputs state
-        ∙ ap (cover_value node.rows node.on) (ap (λ s. bits_of l s inputs state) are ∙ all_bits flat (Made flat (take k order)) l sources (in_classes flat n) first.sourced known inputs state bits solves ∙ map-in (class_of flat) bits (node_at flat n).ins)
+        ∙ ap (cover_value node.rows node.on) (ap (λ s. bits_of l s inputs state) are ∙ all_bits flat (Made flat (take k order)) l sources (in_classes flat n) first.sourced known inputs state bits solves ∙ map-map bits (class_of flat) (node_at flat n).ins)
         ∙ ap (λ (m : Node). cover_value m.rows m.on (map (λ id. bits (class_of flat id)) (node_at flat n).ins)) is_at
         ∙ sym (solves.nodes_hold n is_node) ∙ ap bits (sym same)
-
-    last_or : (j : ℕ) → j < k + 1 → (j < k) ⊎ (j ≡ k)
-    last_or j lt = ⊎_elim (λ e. inr e) (λ off. inl (omega (arith, off, lt))) (cases_eq j k)
 
     -- the sources of what has one stay
     stays : (c : ℕ) → IsKnown sources c → source_at news c ≡ source_at sources c
@@ -188,7 +183,7 @@ node_mapped flat sound order ordered old l l' sources k n class node ins src wit
     by_place : (P : ℕ → Type 0) → ((j : ℕ) → j < k → P (get_or order j 0)) → P n → (j : ℕ) → j < length (take (k + 1) order) → P (get_or (take (k + 1) order) j 0)
     by_place P before here j lt =
         subst P (sym (get_or-take (k + 1) order j 0 (omega (arith, lt, long))))
-        (⊎_elim (before j) (λ e. subst P (is ∙ ap (λ i. get_or order i 0) (sym e)) here) (last_or j (omega (arith, lt, long))))
+        (⊎_elim (before j) (λ e. subst P (is ∙ ap (λ i. get_or order i 0) (sym e)) here) (less_or_last j k (omega (arith, lt, long))))
 
     earlier_within : (j : ℕ) → j < k → j < length (take k order)
     earlier_within j lt = omega (arith, lt, length-take-le k order (omega (arith, within)))

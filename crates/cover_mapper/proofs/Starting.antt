@@ -1,9 +1,10 @@
 -- Inputs and latches get their sources.
 use Rattle.std.proofs.Common.{◌≡◌, sym, ◌∙◌, ap, ℕ, ◌+◌, ◌<◌, false, [], set, length, get_or, Some, ◌⊎◌, inl, inr, ⊎_elim, arith}
-use Rattle.std.proofs.lemmas.Bool.{lt-ltb, true≢false, cases_eq}
+use Rattle.std.proofs.lemmas.Bool.{lt-ltb, true≢false}
 use Rattle.std.proofs.lemmas.Option.{slice_get-get_or}
 use Rattle.std.proofs.lemmas.List.{get_or-map}
 use Rattle.std.proofs.lemmas.List.Elements.{All-get_or}
+use Rattle.lists.proofs.Numbers.{less_or_last}
 use Rattle.netlist_core.specs.declared.flat.FlatPort.{FlatPort}
 use Rattle.netlist_core.specs.declared.flat.FlatLatch.{FlatLatch}
 use Rattle.netlist_core.specs.declared.flat.Flat.{Flat}
@@ -13,9 +14,6 @@ use Rattle.cell_core.specs.declared.list.CellList.{CellList}
 use Rattle.cover_cells.proofs.Growing.{grows_refl}
 use Rattle.cover_mapper.specs.Sourced.{ClassSources, AreSourced, IsAmongFirst}
 use Rattle.cover_mapper.proofs.Sourcing.{class_within, sourced_more}
-
-up_to : (i n : ℕ) → n < i + 1 → (n < i) ⊎ (n ≡ i)
-up_to i n lt = ⊎_elim (λ e. inr e) (λ off. inl (omega (arith, off, lt))) (cases_eq n i)
 
 pub input_sourced : (flat : Flat) → IsSound flat → (list : CellList) (sources : ClassSources) (i : ℕ) (d : FlatPort) (class number : ℕ) → i < length flat.ins → list.inputs ≡ length flat.ins
     → class ≡ class_of flat (get_or flat.ins i d).net → number ≡ i → AreSourced flat (IsAmongFirst i 0 []) list sources
@@ -28,7 +26,7 @@ input_sourced flat sound list sources i d class number within inputs is at first
     (λ inputs state bits solves. ap (λ n. get_or inputs n false) at ∙ ap (λ l. get_or l i false) (sym solves.inputs_given) ∙ get_or-map (λ (port : FlatPort). bits (class_of flat port.net)) flat.ins i d false within ∙ ap bits (sym is))
   where
     one_more : (e : FlatDriver) → IsAmongFirst (i + 1) 0 [] e → IsAmongFirst i 0 [] e ⊎ (e ≡ FlatDriver.input i)
-    one_more (FlatDriver.input n) lt = ⊎_elim inl (λ here. inr (ap FlatDriver.input here)) (up_to i n lt)
+    one_more (FlatDriver.input n) lt = ⊎_elim inl (λ here. inr (ap FlatDriver.input here)) (less_or_last n i lt)
     one_more (FlatDriver.latch n) lt = inl lt
     one_more (FlatDriver.node n) has = inl has
 
@@ -49,7 +47,7 @@ latch_sourced flat sound list sources i d class number within starts is at first
   where
     one_more : (e : FlatDriver) → IsAmongFirst (length flat.ins) (i + 1) [] e → IsAmongFirst (length flat.ins) i [] e ⊎ (e ≡ FlatDriver.latch i)
     one_more (FlatDriver.input n) lt = inl lt
-    one_more (FlatDriver.latch n) lt = ⊎_elim inl (λ here. inr (ap FlatDriver.latch here)) (up_to i n lt)
+    one_more (FlatDriver.latch n) lt = ⊎_elim inl (λ here. inr (ap FlatDriver.latch here)) (less_or_last n i lt)
     one_more (FlatDriver.node n) has = inl has
 
     still : (e : FlatDriver) → IsAmongFirst (length flat.ins) i [] e → IsAmongFirst (length flat.ins) (i + 1) [] e

@@ -12,7 +12,7 @@ use Rattle.column_packer.specs.Numbers.{used_by, column_numbers}
 use Rattle.column_packer.specs.Packing.{IsPacked}
 use Rattle.column_packer.proofs.Uses.{cases_on}
 use Rattle.column_packer.proofs.Numbers.{from_front, number, used_push, past_uses, used_within}
-use Rattle.column_packer.proofs.First.{number_of, used_on, used_off}
+use Rattle.column_packer.proofs.First.{number_of, used_next, used_on, used_off}
 use Rattle.column_packer.proofs.Packed.{packed_front}
 use Rattle.latch_loops.specs.Places.{last_of, column_of_place, closed_place, PlacesAreLastUses}
 use Rattle.latch_loops.specs.Closed.{IsPadded}
@@ -38,16 +38,13 @@ last_in : (xs : List Instr) (lane : ℕ) (d : Instr) (k : ℕ) → k ≤ length 
 last_in xs lane d zero within = inr (λ j low. absurd (omega (arith, low)), refl)
 last_in xs lane d (suc k) within =
     ⊎_elim
-    (λ on. inl (k, omega arith, on, λ j high low. absurd (omega (arith, high, low)), next ∙ used_on xs k lane d (omega (arith, within)) on))
+    (λ on. inl (k, omega arith, on, λ j high low. absurd (omega (arith, high, low)), used_next xs k lane ∙ used_on xs k lane d (omega (arith, within)) on))
     (λ off. ⊎_elim
-    (λ u. inl (u.0, omega (arith, u.1), u.2, λ j high low. from_last off j low (λ lt. u.3 j high lt), next ∙ used_off xs k lane d (omega (arith, within)) off ∙ u.4))
-    (λ none. inr (λ j low. from_last off j low (λ lt. none.0 j lt), next ∙ used_off xs k lane d (omega (arith, within)) off ∙ none.1))
+    (λ u. inl (u.0, omega (arith, u.1), u.2, λ j high low. from_last off j low (λ lt. u.3 j high lt), used_next xs k lane ∙ used_off xs k lane d (omega (arith, within)) off ∙ u.4))
+    (λ none. inr (λ j low. from_last off j low (λ lt. none.0 j lt), used_next xs k lane ∙ used_off xs k lane d (omega (arith, within)) off ∙ none.1))
     (last_in xs lane d k (omega (arith, within))))
     (cases_on lane (get_or xs k d))
   where
-    next : used_by (take (suc k) xs) lane ≡ used_by (take (k + 1) xs) lane
-    next = (let e : suc k ≡ k + 1 = omega arith in ap (λ n. used_by (take n xs) lane) e)
-
     from_last : is_on lane (get_or xs k d) ≡ false → (j : ℕ) → j < suc k → (j < k → is_on lane (get_or xs j d) ≡ false) → is_on lane (get_or xs j d) ≡ false
     from_last off j low earlier = ⊎_elim (λ here. ap (λ n. is_on lane (get_or xs n d)) here ∙ off) (λ ne. earlier (omega (arith, low, ne))) (cases_eq j k)
 

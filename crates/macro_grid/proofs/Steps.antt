@@ -10,9 +10,10 @@ use Rattle.tiling.specs.Tiling.Piece.{Tile, Output}
 use Rattle.tiling.specs.Tiling.Slot.{Nothing, Whole}
 use Rattle.lane_core.specs.declared.plan.Plan.{Plan}
 use Rattle.macro_grid.specs.Edges.{edge_columns, edge_lanes}
-use Rattle.plan_layout.specs.Layout.{turn_slot, end_of_body, upper_left, in_body, upper_right, lower_left, on_return, lower_right, by_column, upper_part, lower_part, tiling_of}
+use Rattle.plan_layout.specs.Layout.{turn_slot, end_of_body, upper_left, in_body, upper_right, lower_left, on_return, lower_right, upper_part, lower_part, tiling_of}
 use Rattle.plan_layout.proofs.Matched.{tiling_of-below}
-use Rattle.tiling.specs.Tiling.{Slot, Tiling, Lit}
+use Rattle.plan_layout.proofs.Sides.{either}
+use Rattle.tiling.specs.Tiling.{Tiling, Lit}
 use Rattle.tiling.specs.Tiling.Edge.{Beside, Above}
 use Rattle.tiling.specs.MacroStep.{macro_step, slot_answers}
 use Rattle.tiling.proofs.AtEdges.{beside_first, beside_next, above_first, above_next}
@@ -28,10 +29,6 @@ not_answered r own m true b e f g h = cc
 not_answered r own m false b e f g h = cc
 
 -- beyond the drawing nothing stands
-either_is : (b : Bool) (s t u : Slot) → s ≡ u → t ≡ u → cond b s t ≡ u
-either_is true s t u e f = e
-either_is false s t u e f = f
-
 turn_slot-far : (loops away off : ℕ) (along corner across : Kind) → loops ≤ away → turn_slot loops away off along corner across ≡ Nothing
 turn_slot-far loops away off along corner across far =
     let no : ltb away loops ≡ false = grind (arith, nat_tests) in
@@ -51,8 +48,7 @@ tiling_of-right plan q l far =
     let below : lower_part plan q l ≡ Nothing =
     by_column-right plan q (lower_left plan q l) (on_return plan q l) (lower_right plan q l) (omega arith)
     ∙ turn_slot-far plan.latches (q - end_of_body plan) (l - plan.lanes) kind.West kind.SouthWest kind.South (omega arith) in
-    either_is (ltb l plan.lanes) (upper_part plan q l) (cond (ltb l (plan.lanes + plan.latches)) (lower_part plan q l) Nothing) Nothing above
-    (either_is (ltb l (plan.lanes + plan.latches)) (lower_part plan q l) Nothing Nothing below refl)
+    either (λ s. s ≡ Nothing) (ltb l plan.lanes) above (either (λ s. s ≡ Nothing) (ltb l (plan.lanes + plan.latches)) below refl)
 
 -- between blocks where nothing stands no edge is lit
 beside_dark : (tiling : Tiling) (lit : Lit) (q l p : ℕ) → p + 1 ≡ q → tiling p l ≡ Nothing → tiling q l ≡ Nothing → macro_step tiling lit (Beside q l) ≡ false

@@ -1,8 +1,10 @@
 -- How small a plan is, by the weight of the flat netlist.
-use Rattle.std.proofs.Common.{◌≡◌, refl, sym, ◌∙◌, ap, ℕ, ◌+◌, ◌*◌, ◌<◌, ◌≤◌, Bool, true, false, true≢false, cond, [], ◌∷◌, ◌++◌, length, arith}
+use Rattle.std.proofs.Common.{◌≡◌, sym, ◌∙◌, ap, ℕ, ◌+◌, ◌*◌, ◌<◌, ◌≤◌, true, false, true≢false, cond, [], ◌∷◌, ◌++◌, length, arith}
 use Rattle.std.specs.Prelude.{◌==◌, ◌^◌, max}
+use Rattle.std.proofs.lemmas.Bool.{false_from_ne_true}
 use Rattle.std.proofs.lemmas.List.{length-map, length-append}
 use Rattle.std.proofs.Math.Nat.{mul-le-mul, mul-mul-mul_comm}
+use Rattle.lists.proofs.Numbers.{at_most_one, length_if, one_if}
 use Rattle.lane_core.specs.declared.plan.Plan.{Plan}
 use Rattle.lane_core.specs.Plans.{IsAdmissible, period_of}
 use Rattle.netlist_core.specs.declared.flat.Flat.{Flat}
@@ -17,13 +19,6 @@ use Rattle.cell_plans.specs.Counts.{instr_count}
 use Rattle.cell_plans.specs.Exits.{AreAtExits}
 use Rattle.row_placer.specs.Entries.{AreAtEntries}
 use Rattle.netlist_plans.specs.Planned.{ComputesCells, IsSmall}
-
-abbrev extra : Bool → ℕ
-extra b = cond b 1 0
-
-at_most_one : (b : Bool) → extra b ≤ 1
-at_most_one true = omega arith
-at_most_one false = omega arith
 
 square : (a b s : ℕ) → a ≤ 6 * s → b ≤ 6 * s → a * b ≤ 256 * (s * s)
 square a b s low few =
@@ -43,24 +38,16 @@ module _ (flat : Flat) (list : CellList) (m : IsMapped flat list) (w : IsWeighed
   pub list_fits : flat.weight < 2 ^ 16 → list.inputs + loop_count list + length list.outs + length list.cells < 2 ^ 18
   list_fits small = omega (arith, small, m.inputs, outs_many, starts_many, at_most_one (names_one list), m.few, w.parts)
 
-  none_named : any_needs_one flat ≡ false → names_one list ≡ false
-  none_named e = by (names_one list) refl
-    where
-      by : (b : Bool) → names_one list ≡ b → b ≡ false
-      by true n = absurd (true≢false (sym (m.one n) ∙ e))
-      by false n = refl
+  pub none_named : any_needs_one flat ≡ false → names_one list ≡ false
+  none_named e = false_from_ne_true (names_one list) (λ n. true≢false (sym (m.one n) ∙ e))
 
   module _ (plan : Plan) (h : IsAdmissible plan) (c : ComputesByPlan list plan) where
     pub loops_many : plan.latches ≡ length list.starts + cond (names_one list) 1 0
-    loops_many = sym h.size.starts ∙ ap length c.starts ∙ length-append list.starts _ ∙ ap (λ n. length list.starts + n) (by (names_one list))
-      where
-        by : (b : Bool) → length (cond b (true ∷ []) []) ≡ cond b 1 0
-        by true = refl
-        by false = refl
+    loops_many = sym h.size.starts ∙ ap length c.starts ∙ length-append list.starts _ ∙ ap (λ n. length list.starts + n) (length_if (names_one list) true)
 
     no_more : any_needs_one flat ≡ false → plan.latches ≡ length flat.latches
     no_more e =
-        let none : extra (names_one list) ≡ 0 = ap extra (none_named e) in
+        let none : one_if (names_one list) ≡ 0 = ap one_if (none_named e) in
         omega (arith, loops_many, starts_many, none)
 
     pub is_small : plan.lanes ≤ list.inputs + 2 * loop_count list + length list.outs + length list.cells + 2 + max list.inputs (length list.outs)

@@ -1,7 +1,8 @@
 -- A plan has lanes exactly where there are nets but clock nets.
-use Rattle.std.proofs.Common.{◌≡◌, ◌≢◌, refl, sym, ◌∙◌, ap, ℕ, zero, suc, ◌<◌, ◌≤◌, Bool, true, false, true≢false, not, cond, List, [], ◌∷◌, length, get_or, map, replicate, arith}
+use Rattle.std.proofs.Common.{◌≡◌, ◌≢◌, refl, sym, ◌∙◌, ap, ℕ, zero, suc, ◌<◌, ◌≤◌, Bool, true, false, not, cond, List, [], ◌∷◌, length, get_or, map, replicate, arith}
 use Rattle.std.specs.Prelude.{None, filter, sum_by}
 use Rattle.std.specs.List.{list_any}
+use Rattle.std.proofs.lemmas.Bool.{not-false}
 use Rattle.std.proofs.lemmas.List.{length-map, length-replicate, nil_from_length}
 use Rattle.std.proofs.lemmas.Option.{slice_get-get_or}
 use Rattle.lane_core.specs.declared.plan.Plan.{Plan}
@@ -24,7 +25,7 @@ use Rattle.row_placer.specs.Empty.{IsEmpty}
 use Rattle.cover_mapper.specs.Mapped.{IsMapped}
 use Rattle.cover_mapper.specs.Needs.{covers_weight, needs_one}
 use Rattle.netlist_plans.specs.Planned.{HasLanes}
-use Rattle.netlist_plans.proofs.Bounds.{outs_many, starts_many}
+use Rattle.netlist_plans.proofs.Bounds.{none_named, outs_many, starts_many}
 
 not_empty : {X : Type 0} (x : X) (xs : List X) → x ∷ xs ≡ [] → ⊥
 not_empty x xs e = (let h : suc (length xs) ≡ 0 = ap length e in omega (arith, h))
@@ -38,10 +39,6 @@ none_passes p (x ∷ xs) e k d lt = by (p x) refl (λ later i less. none_passes 
     by false f rest zero lt = f
     by false f rest (suc k) lt = rest (sym (ap (λ b. cond b (x ∷ filter p xs) (filter p xs)) f) ∙ e) k (omega (arith, lt))
 
-at_false : (b : Bool) → not b ≡ false → b ≡ true
-at_false true e = refl
-at_false false e = absurd (true≢false e)
-
 nothing : {X : Type 0} (xs : List X) → (0 < length xs → ⊥) → length xs ≡ 0
 nothing [] f = refl
 nothing (x ∷ xs) f = absurd (f (omega arith))
@@ -54,7 +51,7 @@ module _ (flat : Flat) (sound : IsSound flat) (none : nets_but_clocks flat ≡ [
   all_clocks : (id : NetId) → IsNetId flat id → IsClockClass flat (class_of flat id)
   all_clocks id is =
       (is_clock_class-Decides flat (class_of flat id)).0
-      (at_false (is_clock_class flat (class_of flat id)) (none_passes (λ (net : FlatNet). not (is_clock_class flat net.class)) flat.nets none id.0 no_net is))
+      (not-false (is_clock_class flat (class_of flat id)) (none_passes (λ (net : FlatNet). not (is_clock_class flat net.class)) flat.nets none id.0 no_net is))
 
   undriven : (id : NetId) → IsNetId flat id → (d : FlatDriver) → FlatDrives flat d (class_of flat id) → ⊥
   undriven id is d drives = sound.clocks_undriven (class_of flat id) d drives (all_clocks id is)
@@ -80,16 +77,9 @@ module _ (flat : Flat) (sound : IsSound flat) (none : nets_but_clocks flat ≡ [
   no_nodes = nil_from_length flat.nodes (nothing flat.nodes (λ some. undriven (node_at flat 0).out (sound.in_range.node_outs 0 no_node some) (FlatDriver.node 0) (some, refl)))
 
   module _ (list : CellList) (m : IsMapped flat list) where
-    no_one : names_one list ≡ false
-    no_one = by (names_one list) refl
-      where
-        by : (b : Bool) → names_one list ≡ b → b ≡ false
-        by true n = absurd (true≢false (sym (m.one n) ∙ ap (list_any needs_one) no_nodes))
-        by false n = refl
-
     pub is_empty : IsWeighed flat → IsEmpty list
     is_empty w =
-        let one : cond {A = ℕ} (names_one list) 1 0 ≡ 0 = ap (λ b. cond {A = ℕ} b 1 0) no_one in
+        let one : cond {A = ℕ} (names_one list) 1 0 ≡ 0 = ap (λ b. cond {A = ℕ} b 1 0) (none_named flat list m w (ap (list_any needs_one) no_nodes)) in
         let light : covers_weight flat ≡ 0 = ap (sum_by (λ (node : Node). rows_weight node.rows)) no_nodes in
         let nets : length list.nets ≡ 0 = nets_many flat list m ∙ ap length none in
         omega (arith, m.inputs, no_ins, outs_many flat list m w, no_outs, starts_many flat list m w, no_latches, one, light, m.few, nets)

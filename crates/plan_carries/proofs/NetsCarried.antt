@@ -25,29 +25,27 @@ use Rattle.netlist_core.specs.declared.flat.Flat.{Flat}
 use Rattle.carries.specs.Carries.{ShowsBitsFrom}
 use Rattle.carries.specs.Nets.{ShowsNets}
 use Rattle.plan_ports.specs.Tables.{IsTableOf}
+use Rattle.plan_ports.proofs.GatheredNets.{place_of_line}
 use Rattle.plan_carries.specs.Compiled.{IsCompiled}
 use Rattle.plan_carries.proofs.SeenNets.{seen_nets}
 use Rattle.plan_carries.proofs.Designs.{computes_design}
 use Rattle.plan_carries.proofs.Carried.{in_cycles, same_drive, net_shown}
-
-abbrev place_of : NetLine → ℕ × ℕ × ℕ
-place_of line = (line.x, line.y, line.offset)
 
 abbrev cell_of : Plan → NetPlace → ℕ × ℕ × ℕ
 cell_of plan place = cell_after plan place.lane place.after
 
 -- where the cell of a net is
 cell_is : (flat : Flat) (plan : Plan) (ports : Ports) → IsTableOf flat plan ports → (number : ℕ) (line : NetLine) → slice_get ports.nets number ≡ Some line
-    → (number < length plan.nets) × (place_of line ≡ net_cell_of plan number)
+    → (number < length plan.nets) × (place_of_line line ≡ net_cell_of plan number)
 cell_is flat plan ports table number line e =
     let low : number < length ports.nets = slice_get_within ports.nets number line e in
-    let one : length (map place_of ports.nets) ≡ length ports.nets = length-map ports.nets place_of in
+    let one : length (map place_of_line ports.nets) ≡ length ports.nets = length-map ports.nets place_of_line in
     let two : length (map (cell_of plan) plan.nets) ≡ length plan.nets = length-map plan.nets (cell_of plan) in
-    let all : length (map place_of ports.nets) ≡ length (map (cell_of plan) plan.nets) = ap length table.net_cells in
+    let all : length (map place_of_line ports.nets) ≡ length (map (cell_of plan) plan.nets) = ap length table.net_cells in
     let within : number < length plan.nets = omega (arith, low, one, two, all) in (
       within,
-      ap place_of (sym (get_or_from_slice_get ports.nets number line line e))
-          ∙ sym (get_or-map place_of ports.nets number line (0, 0, 0) low)
+      ap place_of_line (sym (get_or_from_slice_get ports.nets number line line e))
+          ∙ sym (get_or-map place_of_line ports.nets number line (0, 0, 0) low)
           ∙ ap (λ cells. get_or cells number (0, 0, 0)) table.net_cells
           ∙ get_or-map (cell_of plan) plan.nets number (record { lane = 0; after = None }) (0, 0, 0) within,
     )

@@ -1,6 +1,7 @@
 -- The nets of a design but the clock nets, in its flat netlist.
 use Rattle.std.proofs.Common.{◌≡◌, ◌≢◌, refl, sym, ◌∙◌, ap, ap₂, subst, ℕ, ◌<◌, ◌≤◌, ◌^◌, Bool, true, false, true≢false, not, cond, inl, inr, List, [], ◌∷◌, ◌++◌, filter, length, map, arith}
 use Rattle.std.specs.Prelude.{Some, slice_get, option_and_then, All, AllPairs}
+use Rattle.std.proofs.lemmas.Bool.{not-true}
 use Rattle.std.proofs.lemmas.Option.{slice_get_within}
 use Rattle.std.proofs.lemmas.Simd.{map-map}
 use Rattle.std.proofs.lemmas.List.Elements.{All-cons, All-map}
@@ -127,10 +128,6 @@ kept_in {X} p (first ∷ xs) x i = by (p first) refl (λ j. kept_in p xs x j) i
     by true e rest (inr j) = let (k, passes) = rest j in (inr k, passes)
     by false e rest j = let (k, passes) = rest j in (inr k, passes)
 
-shown_false : (b : Bool) → not b ≡ true → b ≡ false
-shown_false true e = cc
-shown_false false e = refl
-
 -- and their bits
 pub seen_have_bits : (design : Design) (flat : Flat) → AreFaultless design.models → HasNoClockFault design → IsFlatOf design flat → (inputs : List Bool) (state : LatchState) (bits : Valuation) → IsValuation design inputs state bits
     → map (class_bits design bits) (listed_classes flat) ≡ map (bit_of_net bits) (seen_nets design flat)
@@ -142,4 +139,4 @@ seen_have_bits design flat faultless clean h inputs state bits v =
     let (listed, passes) = kept_in (is_seen design flat) (nets_in_order design) net i in
     let n = net_is design net listed in
     ap (class_bits design bits) (sym (class_is design flat faultless h net n))
-    ∙ same_bit design flat faultless h inputs state bits v net n (seen design flat faultless clean h net n (shown_false (is_clock_class flat (class_of_net design net)) passes)))
+    ∙ same_bit design flat faultless h inputs state bits v net n (seen design flat faultless clean h net n (not-true (is_clock_class flat (class_of_net design net)) passes)))

@@ -73,8 +73,9 @@ below_fresh x (y ∷ ys) l near h =
     ap is_lower (slot_on-other y ys l off) ∙ below_fresh x ys l near (and_right (is_above x y) (list_all (is_above x) ys) h)))
     (cases_eq l (lane_of y))
 
-at : (s s' t t' : Slot) → s ≡ s' → t ≡ t' → Joined s' t' → Joined s t
-at s s' t t' e f j = subst (λ (v : Slot). Joined v t) (sym e) (subst (λ (v : Slot). Joined s' v) (sym f) j)
+-- slots that are the same as joined ones are joined
+pub same_joined : (s s' t t' : Slot) → s ≡ s' → t ≡ t' → Joined s' t' → Joined s t
+same_joined s s' t t' e f j = subst (λ (v : Slot). Joined v t) (sym e) (subst (λ (v : Slot). Joined s' v) (sym f) j)
 
 -- the halves in a column stand under each other
 pub body_joined : (xs : List Instr) (l : ℕ) → IsTrue (are_sorted_apart xs) → Joined (slot_on xs l) (slot_on xs (l + 1))
@@ -83,17 +84,17 @@ body_joined (x ∷ xs) l h =
     let below : list_all (is_above x) xs ≡ true = and_left (list_all (is_above x) xs) (are_sorted_apart xs) h in
     let rest : IsTrue (are_sorted_apart xs) = and_right (list_all (is_above x) xs) (are_sorted_apart xs) h in
     ⊎_elim
-    (λ same. at _ _ _ _ (slot_on-upper x xs l same) (slot_on-lower x xs (l + 1) (omega arith)) refl)
+    (λ same. same_joined _ _ _ _ (slot_on-upper x xs l same) (slot_on-lower x xs (l + 1) (omega arith)) refl)
     (λ other. ⊎_elim
     (λ next. (let off : is_on (l + 1) x ≡ false = grind (arith, nat_tests) in
-    at _ _ _ _ (slot_on-lower x xs l next) (slot_on-other x xs (l + 1) off) (below_fresh x xs (l + 1) (omega arith) below)))
+    same_joined _ _ _ _ (slot_on-lower x xs l next) (slot_on-other x xs (l + 1) off) (below_fresh x xs (l + 1) (omega arith) below)))
     (λ further. ⊎_elim
     (λ before. (let off : is_on l x ≡ false = grind (arith, nat_tests) in
     let none : slot_on xs l ≡ Whole (Tile kind.East) = ap (body_slot l) (none_below x l xs (omega arith) below) in
-    at _ _ _ _ (slot_on-other x xs l off ∙ none) (slot_on-upper x xs (l + 1) before) refl))
+    same_joined _ _ _ _ (slot_on-other x xs l off ∙ none) (slot_on-upper x xs (l + 1) before) refl))
     (λ apart. (let off : is_on l x ≡ false = grind (arith, nat_tests) in
     let off' : is_on (l + 1) x ≡ false = grind (arith, nat_tests) in
-    at _ _ _ _ (slot_on-other x xs l off) (slot_on-other x xs (l + 1) off') (body_joined xs l rest)))
+    same_joined _ _ _ _ (slot_on-other x xs l off) (slot_on-other x xs (l + 1) off') (body_joined xs l rest)))
     (cases_eq (l + 1) (lane_of x)))
     (cases_eq l (lane_of x + 1)))
     (cases_eq l (lane_of x))

@@ -13,7 +13,7 @@ use Rattle.lane_core.specs.declared.plan.Plan.{Plan}
 use Rattle.lane_core.specs.Plans.{IsAdmissible}
 use Rattle.plan_layout.specs.Layout.{kind_of, return_slot, instrs_of, end_of_body, upper_left, in_body, upper_right, lower_left, on_return, lower_right, by_column, upper_part, lower_part, tiling_of}
 use Rattle.plan_layout.proofs.Sides.{either, lane_goes, column_goes, upper_left_has, in_body_has, upper_right_has, lower_left_has, on_return_has, lower_right_has}
-use Rattle.plan_layout.proofs.Halves.{is_upper, is_lower, Joined, joined_apart, body_joined, body_ends, body_begins, instrs_sorted, instrs_on_lanes, return_joined, return_ends, return_begins}
+use Rattle.plan_layout.proofs.Halves.{is_upper, is_lower, Joined, joined_apart, same_joined, body_joined, body_ends, body_begins, instrs_sorted, instrs_on_lanes, return_joined, return_ends, return_begins}
 use Rattle.std.proofs.lemmas.Bool.{and_right as none_right}
 
 -- the parts of the plan by lanes
@@ -137,26 +137,23 @@ upper_begins plan q =
     either (λ s. is_lower s ≡ false) (ltb q plan.latches) (whole_left plan q 0).1
     (either (λ s. is_lower s ≡ false) (ltb q (end_of_body plan)) (body_begins (instrs_of plan (q - plan.latches))) (whole_right plan q 0).1)
 
-at : (s s' t t' : Slot) → s ≡ s' → t ≡ t' → Joined s' t' → Joined s t
-at s s' t t' e f j = subst (λ (v : Slot). Joined v t) (sym e) (subst (λ (v : Slot). Joined s' v) (sym f) j)
-
 all_joined : (plan : Plan) → IsAdmissible plan → (q l : ℕ) → Joined (tiling_of plan q l) (tiling_of plan q (l + 1))
 all_joined plan h q l =
     ⊎_elim
     (λ above. ⊎_elim
-    (λ next. at _ _ _ _ (tiling_of-upper plan q l above) (tiling_of-upper plan q (l + 1) next) (upper_joined plan q l))
+    (λ next. same_joined _ _ _ _ (tiling_of-upper plan q l above) (tiling_of-upper plan q (l + 1) next) (upper_joined plan q l))
     (λ last. joined_apart (tiling_of plan q l) (tiling_of plan q (l + 1))
     (ap is_upper (tiling_of-upper plan q l above) ∙ upper_ends plan h q l last)
     (lower_begins plan q (l + 1) (omega arith)))
     (cases_lt (l + 1) plan.lanes))
     (λ below. ⊎_elim
     (λ within. ⊎_elim
-    (λ next. at _ _ _ _ (tiling_of-lower plan q l below within) (tiling_of-lower plan q (l + 1) (omega arith) next) (lower_joined plan q l below next))
+    (λ next. same_joined _ _ _ _ (tiling_of-lower plan q l below within) (tiling_of-lower plan q (l + 1) (omega arith) next) (lower_joined plan q l below next))
     (λ last. joined_apart (tiling_of plan q l) (tiling_of plan q (l + 1))
     (ap is_upper (tiling_of-lower plan q l below within) ∙ lower_ends plan q l below last)
     (ap is_lower (tiling_of-below plan q (l + 1) last)))
     (cases_lt (l + 1) (plan.lanes + plan.latches)))
-    (λ out. at _ _ _ _ (tiling_of-below plan q l out) (tiling_of-below plan q (l + 1) (omega arith)) refl)
+    (λ out. same_joined _ _ _ _ (tiling_of-below plan q l out) (tiling_of-below plan q (l + 1) (omega arith)) refl)
     (cases_lt l (plan.lanes + plan.latches)))
     (cases_lt l plan.lanes)
 

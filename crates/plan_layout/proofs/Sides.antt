@@ -108,6 +108,10 @@ pub lower_right_has : (P : Slot → Type 0) (plan : Plan) (q l : ℕ)
     → P Nothing → P (Whole (Tile kind.West)) → P (Whole (Tile kind.SouthWest)) → P (Whole (Tile kind.South)) → P (lower_right plan q l)
 lower_right_has P plan q l = turn_has P plan.latches (q - end_of_body plan) (l - plan.lanes) kind.West kind.SouthWest kind.South
 
+-- the body goes east
+pub body_goes_east : (plan : Plan) (q l : ℕ) → IsEastGoing (in_body plan q l)
+body_goes_east plan q l = in_body_has IsEastGoing plan q l (record { entered = refl; left = refl }) east_kind
+
 -- what stands on a lane of the body goes east, and what stands below goes west
 upper_goes_east : (plan : Plan) (q l : ℕ) → IsEastGoing (by_column plan q (upper_left plan q l) (in_body plan q l) (upper_right plan q l))
 upper_goes_east plan q l =
@@ -116,7 +120,7 @@ upper_goes_east plan q l =
     either IsEastGoing (ltb q plan.latches)
     (upper_left_has IsEastGoing plan q l none e (record { entered = refl; left = refl }) (record { entered = refl; left = refl }))
     (either IsEastGoing (ltb q (end_of_body plan))
-    (in_body_has IsEastGoing plan q l e east_kind)
+    (body_goes_east plan q l)
     (upper_right_has IsEastGoing plan q l none (record { entered = refl; left = refl }) e (record { entered = refl; left = refl }) (record { entered = refl; left = refl })))
 
 lower_goes_west : (plan : Plan) (q l : ℕ) → IsWestGoing (by_column plan q (lower_left plan q l) (on_return plan q l) (lower_right plan q l))

@@ -9,11 +9,11 @@ use Rattle.lane_core.specs.declared.plan.Plan.{Plan}
 use Rattle.lane_core.specs.Plans.{cell_after, net_cell_of, net_cells}
 use Rattle.netlist_core.specs.declared.flat.Net.{Net as FlatNet}
 use Rattle.netlist_core.specs.declared.flat.Flat.{Flat}
-use Rattle.netlist_core.specs.Names.{Name}
 use Rattle.netlist_meaning.specs.Flat.{is_clock_class}
 use Rattle.pattern_reading.specs.declared.ports.NetLine.{NetLine}
-use Rattle.place_paths.specs.Paths.{path_of, name_and_path, names_and_paths}
+use Rattle.place_paths.specs.Paths.{path_of, names_and_paths}
 use Rattle.plan_ports.specs.Tables.{HasPortsOf, named_paths, net_cells_of}
+use Rattle.plan_ports.proofs.NetLines.{line_words, net_words}
 
 abbrev pub is_seen : Flat → FlatNet → Bool
 is_seen flat net = not (is_clock_class flat net.class)
@@ -61,7 +61,7 @@ with_line flat plan i lines new line net g within is seen there pushed cell name
       ∙ sym (take_more (net_cells plan) (length lines) (0, 0, 0) (omega (arith, there, length-map {B = ℕ × ℕ × ℕ} plan.nets cell_of)))
       ∙ ap (λ n. take n (net_cells plan)) (sym (ap length pushed ∙ length-append lines (line ∷ [])));
   names =
-      ap names_and_paths pushed ∙ map-append words_of lines (line ∷ []) ∙ ap₂ (λ words w. words ++ w ∷ []) g.names words_same
+      ap names_and_paths pushed ∙ map-append line_words lines (line ∷ []) ∙ ap₂ (λ words w. words ++ w ∷ []) g.names words_same
       ∙ sym (map-append net_words (filter (is_seen flat) (take i flat.nets)) (net ∷ []))
       ∙ ap named_paths (sym (filtered flat i net true within is seen));
 }
@@ -72,13 +72,7 @@ with_line flat plan i lines new line net g within is seen there pushed cell name
     no_place : NetPlace
     no_place = record { lane = 0; after = None }
 
-    words_of : NetLine → Name × List ℕ
-    words_of l = (l.name, l.path)
-
-    net_words : FlatNet → Name × List ℕ
-    net_words n = name_and_path n.place n.name
-
-    words_same : words_of line ≡ net_words net
+    words_same : line_words line ≡ net_words net
     words_same = ap₂ (λ (a b : List ℕ). (a, b)) named path
 
 -- or none where it is one

@@ -33,10 +33,10 @@ each_line P Q R both (line ∷ lines) p q = (
   each_line P Q R both lines (All-tail P (line.x, line.y, line.offset) (net_cells_of lines) p) (All-tail Q (line.name, line.path) (names_and_paths lines) q),
 )
 
-abbrev line_words : NetLine → Name × List ℕ
+abbrev pub line_words : NetLine → Name × List ℕ
 line_words line = (line.name, line.path)
 
-abbrev net_words : FlatNet → Name × List ℕ
+abbrev pub net_words : FlatNet → Name × List ℕ
 net_words net = name_and_path net.place net.name
 
 -- the cell lies in the box, and its offset is no greater than a table may write

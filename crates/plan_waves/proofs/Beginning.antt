@@ -1,5 +1,5 @@
 -- A plan at the beginning: its start edges and first injections, and how long everything else stays dark.
-use Rattle.std.proofs.Common.{◌≡◌, refl, sym, ◌∙◌, ap, subst, pos, ℕ, zero, suc, ◌+◌, ◌-◌, ◌*◌, ◌<◌, ◌≤◌, Bool, true, false, ◌&&◌, ◌||◌, cond, ⊎_elim, List, length, get_or, replicate, Option, Some, None, arith}
+use Rattle.std.proofs.Common.{◌≡◌, refl, sym, ◌∙◌, ap, subst, pos, ℕ, zero, suc, ◌+◌, ◌-◌, ◌*◌, ◌<◌, ◌≤◌, true, false, ◌&&◌, ◌||◌, ⊎_elim, List, length, get_or, replicate, Option, Some, None, arith}
 use Rattle.std.specs.Prelude.{◌==◌, nat_le, IsTrue, All}
 use Rattle.std.proofs.lemmas.Bool.{or_from, and_right, cases_lt, false_from_ne_true, true≢false}
 use Rattle.std.proofs.lemmas.Bool.Decides.{nat_tests}
@@ -18,6 +18,7 @@ use Rattle.plan_layout.specs.Starts.{start_edges}
 use Rattle.lane_core.proofs.Dark.{dark}
 use Rattle.lane_core.specs.Entering.{first_loop_lane}
 use Rattle.plan_layout.proofs.Halves.{instrs_sorted, instrs_on_lanes}
+use Rattle.plan_layout.proofs.Sides.{either}
 use Rattle.plan_waves.specs.Waves.{is_free_entry, GoesOn, is_body_entry, IsLitAtEntries, is_inside, IsDarkInside, bits_at, loop_exit, loop_entry, tiles_back, DrivesInputs, StartsRight}
 use Rattle.plan_waves.proofs.LaneBits.{answer_on, answers_agree, bit_after}
 use Rattle.plan_waves.proofs.Inputs.{free_place, not_injected, or_none}
@@ -27,17 +28,13 @@ use Rattle.plan_waves.proofs.Loops.{loop_path}
 use Rattle.lane_core.proofs.Lengths.{length-after_instrs}
 
 -- instructions make nothing of nothing
-either_dark : (b : Bool) → cond b false false ≡ false
-either_dark true = refl
-either_dark false = refl
-
 answer_dark : (l : ℕ) (o : Option Instr) → answer_on l o (λ n. false) ≡ false
 answer_dark l None = refl
-answer_dark l (Some (instr.Swap i)) = either_dark (l == i)
-answer_dark l (Some (instr.Fork i)) = either_dark (l == i)
-answer_dark l (Some (instr.Xor i)) = either_dark (l == i)
-answer_dark l (Some (instr.Or i)) = either_dark (l == i)
-answer_dark l (Some (instr.AndNot i)) = either_dark (l == i)
+answer_dark l (Some (instr.Swap i)) = either (λ b. b ≡ false) (l == i) refl refl
+answer_dark l (Some (instr.Fork i)) = either (λ b. b ≡ false) (l == i) refl refl
+answer_dark l (Some (instr.Xor i)) = either (λ b. b ≡ false) (l == i) refl refl
+answer_dark l (Some (instr.Or i)) = either (λ b. b ≡ false) (l == i) refl refl
+answer_dark l (Some (instr.AndNot i)) = either (λ b. b ≡ false) (l == i) refl refl
 
 pub after_dark : (n : ℕ) (xs : List Instr) → IsTrue (are_sorted_apart xs) → All (IsOnLanes n) xs → after_instrs xs (replicate n false) ≡ replicate n false
 after_dark n xs sorted fit =

@@ -36,7 +36,7 @@ use Rattle.plan_layout.proofs.Columns.{by_column-right}
 -- what stands at the cells of ports
 entered_at : (plan : Plan) → IsAdmissible plan → (c l : ℕ) → c < length plan.columns → l < plan.lanes → is_entered (tiling_of plan (plan.latches + c) l) 0 8 ≡ true
 entered_at plan h c l within low =
-    ap (λ s. is_entered s 0 8) (body_at plan (plan.latches + c) l (omega arith) (omega arith) low) ∙ (body_entry plan (plan.latches + c) l).entered
+    ap (λ s. is_entered s 0 8) (body_at plan (plan.latches + c) l (omega arith) (omega arith) low) ∙ body_entry plan (plan.latches + c) l
 
 left_at : (plan : Plan) → IsAdmissible plan → (c l : ℕ) → c < length plan.columns → l < plan.lanes → is_left (tiling_of plan (plan.latches + c) l) 31 8 ≡ true
 left_at plan h c l within low =

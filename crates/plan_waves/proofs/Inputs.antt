@@ -3,6 +3,7 @@ use Rattle.std.proofs.Common.{◌≡◌, refl, sym, ◌∙◌, ap, pos, ℕ, suc
 use Rattle.std.proofs.lemmas.Bool.{cases_lt, false_from_ne_true, true≢false, or_from, and_parts, eqb-true, ltb-true}
 use Rattle.std.proofs.lemmas.Bool.Decides.{nat_tests}
 use Rattle.std.proofs.lemmas.Int.{ints}
+use Rattle.std.proofs.Math.Bool.{or-false}
 use Rattle.ww_rule.specs.Wireworld.{Due}
 use Rattle.tiling.specs.Tiling.{Slot, Edge, Lit}
 use Rattle.tiling.specs.Tiling.Piece.{Tile}
@@ -17,7 +18,7 @@ use Rattle.lane_core.specs.declared.plan.Plan.{Plan}
 use Rattle.lane_core.specs.Plans.{IsAdmissible, left_of, row_of}
 use Rattle.lane_core.specs.Entering.{first_loop_lane}
 use Rattle.plan_layout.specs.Layout.{kind_of, in_body, tiling_of}
-use Rattle.plan_layout.proofs.Sides.{in_body_has}
+use Rattle.plan_layout.proofs.Sides.{in_body_has, body_goes_east}
 use Rattle.tiling.proofs.AtEdges.{beside_first, beside_next}
 use Rattle.plan_waves.specs.Waves.{is_free_entry, GoesOn, DrivesInputs}
 use Rattle.plan_waves.proofs.Passing.{answers_none}
@@ -27,20 +28,19 @@ pub free_place : (plan : Plan) (q l : ℕ) → is_free_entry plan (Beside q l) �
 free_place plan q l h =
     let parts = and_parts _ _ h in (eqb-true _ _ parts.0, ltb-true _ _ parts.1)
 
--- the body is entered at its west side, and not left there
-pub record IsEntry (slot : Slot) : Type 0 where
-  pub entered : is_entered slot 0 8 ≡ true
-  pub left : is_left slot 0 8 ≡ false
+-- the body is entered at its west side
+abbrev pub IsEntry : Slot → Type 0
+IsEntry slot = is_entered slot 0 8 ≡ true
 
 entry_kind : (i : Instr) → IsEntry (Upper (Tile (kind_of i))) × IsEntry (Lower (Tile (kind_of i)))
-entry_kind (instr.Swap i) = (record { entered = refl; left = refl }, record { entered = refl; left = refl })
-entry_kind (instr.Fork i) = (record { entered = refl; left = refl }, record { entered = refl; left = refl })
-entry_kind (instr.Xor i) = (record { entered = refl; left = refl }, record { entered = refl; left = refl })
-entry_kind (instr.Or i) = (record { entered = refl; left = refl }, record { entered = refl; left = refl })
-entry_kind (instr.AndNot i) = (record { entered = refl; left = refl }, record { entered = refl; left = refl })
+entry_kind (instr.Swap i) = (refl, refl)
+entry_kind (instr.Fork i) = (refl, refl)
+entry_kind (instr.Xor i) = (refl, refl)
+entry_kind (instr.Or i) = (refl, refl)
+entry_kind (instr.AndNot i) = (refl, refl)
 
 pub body_entry : (plan : Plan) (q l : ℕ) → IsEntry (in_body plan q l)
-body_entry plan q l = in_body_has IsEntry plan q l (record { entered = refl; left = refl }) entry_kind
+body_entry plan q l = in_body_has IsEntry plan q l refl entry_kind
 
 -- the block behind a free entry stands in the body
 entry_at : (plan : Plan) → IsAdmissible plan → (l : ℕ) → l < first_loop_lane plan.lanes plan.latches → tiling_of plan plan.latches l ≡ in_body plan plan.latches l
@@ -57,7 +57,7 @@ free_entries_go_dark plan h lit (Beside q l) f =
   where
     behind : (l : ℕ) → l < first_loop_lane plan.lanes plan.latches → slot_answers lit plan.latches l (tiling_of plan plan.latches l) 0 8 ≡ false
     behind l low =
-        answers_none lit plan.latches l (tiling_of plan plan.latches l) 0 8 (ap (λ s. is_left s 0 8) (entry_at plan h l low) ∙ (body_entry plan plan.latches l).left)
+        answers_none lit plan.latches l (tiling_of plan plan.latches l) 0 8 (ap (λ s. is_left s 0 8) (entry_at plan h l low) ∙ (body_goes_east plan plan.latches l).left)
 
     dark : (l : ℕ) → l < first_loop_lane plan.lanes plan.latches → macro_step (tiling_of plan) lit (Beside plan.latches l) ≡ false
     dark l low =
@@ -72,7 +72,7 @@ pub inputs_are_entries : (plan : Plan) → IsAdmissible plan → (due : Due) →
 inputs_are_entries plan h due d = record {
   on_time = d.on_time;
   at_entries = λ g x y e. (let f = d.at_free_entries g x y e in
-      (plan.latches, f.0, f.2 ∙ ap pos (omega arith), f.3, ap (λ s. is_entered s 0 8) (entry_at plan h f.0 f.1) ∙ (body_entry plan plan.latches f.0).entered));
+      (plan.latches, f.0, f.2 ∙ ap pos (omega arith), f.3, ap (λ s. is_entered s 0 8) (entry_at plan h f.0 f.1) ∙ body_entry plan plan.latches f.0));
   nothing_before = λ g q l e. (let f = d.at_free_entries g _ _ e in
       let column : q < plan.latches = omega (arith, ints, f.2) in
       let lane : l ≡ f.0 = omega (arith, ints, f.3) in
@@ -91,8 +91,7 @@ not_injected plan due d g (Beside q l) h =
     true≢false (sym free ∙ h)))
 
 pub or_none : (a b : Bool) → b ≡ false → (a || b) ≡ a
-or_none true b h = refl
-or_none false b h = h
+or_none a b h = ap (λ x. a || x) h ∙ or-false a
 
 -- the edges of a plan that is driven at its inputs go on
 pub driven_edges_go_on : (plan : Plan) (due : Due) → DrivesInputs plan due → (lit : Lit) → GoesOn plan (driven_edges (tiling_of plan) due lit)

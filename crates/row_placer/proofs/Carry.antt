@@ -1,9 +1,14 @@
 -- A lane that is brought.
 use Rattle.std.proofs.Common.{◌≡◌, ◌∙◌, ap, ℕ, ◌+◌, ◌<◌, List, length, get_or, arith}
+use Rattle.std.proofs.lemmas.Bool.Decides.{nat_tests}
 use Rattle.lane_core.specs.declared.instr.Instr.{Instr}
 use Rattle.channel_router.specs.Routes.{brought, swapped, distance}
 use Rattle.row_placer.specs.declared.roles.Tag.{Tag}
 use Rattle.row_placer.specs.Told.{SameTags, free_tag}
+
+-- what is brought to a lane stands there
+pub brought_to : (from to : ℕ) → brought from to to ≡ from
+brought_to from to = grind (arith, nat_tests)
 
 -- so far the lane has come to this one
 pub record Carried (tags tags' : List Tag) (instrs instrs' : List Instr) (from at : ℕ) : Type 0 where

@@ -17,7 +17,7 @@ use Rattle.lane_core.specs.Entering.{lane_bit}
 use Rattle.row_placer.specs.Programs.{program_bits, free_lanes}
 use Rattle.row_placer.specs.Placed.{AreHomes, HomesHold}
 use Rattle.row_placer.proofs.Values.{value_bit, numbered}
-use Rattle.row_placer.proofs.Whole.{length-loops}
+use Rattle.row_placer.proofs.Whole.{free_but_loops, length-loops}
 use Rattle.std.proofs.lemmas.Bool.{ne_eqb as eq_no}
 use Rattle.std.proofs.Math.Bool.{or-false as or_false}
 
@@ -60,7 +60,7 @@ pub homes_hold : (list : CellList) (p : Program) (homes : List ℕ) → AreHomes
 homes_hold list p homes h latches inputs state f v below =
     ⊎_elim
     (λ low. ap (bit_on (program_bits list p inputs state)) (h.inputs v low)
-    ∙ upper_bit_is list p inputs state (get_or p.ins v 0) (let b = h.ins_apart.below v 0 (omega (arith, low, h.ins_long)) in omega (arith, b, free))
+    ∙ upper_bit_is list p inputs state (get_or p.ins v 0) (let b = h.ins_apart.below v 0 (omega (arith, low, h.ins_long)) in omega (arith, b, free_but_loops list p latches))
     ∙ lane_bit_at p.ins inputs v h.ins_apart.distinct (omega (arith, low, h.ins_long)) (f.row ∙ sym h.ins_long)
     ∙ sym (input_value list inputs state v (omega (arith, low, f.row))))
     (λ high. ⊎_elim
@@ -68,19 +68,16 @@ homes_hold list p homes h latches inputs state f v below =
     let at : list.inputs + s ≡ v = omega (arith, high) in
     let small : s < loop_count list = omega (arith, high, low) in
     ap (λ n. bit_on (program_bits list p inputs state) (get_or homes n 0)) (sym at)
-    ∙ ap (bit_on (program_bits list p inputs state)) (h.loops s small ∙ ap (λ n. n + s) (sym free))
+    ∙ ap (bit_on (program_bits list p inputs state)) (h.loops s small ∙ ap (λ n. n + s) (sym (free_but_loops list p latches)))
     ∙ loop_bit_is list p inputs state s
     ∙ sym (loop_value list inputs state s f small)
     ∙ ap (value_bit list inputs state) at)
     (λ past. let at : v ≡ list.inputs + loop_count list = omega (arith, past, below, h.most) in
     let dark = h.dark (omega (arith, below, at)) in
     ap (λ n. bit_on (program_bits list p inputs state) (get_or homes n 0)) at
-    ∙ upper_bit_is list p inputs state (get_or homes (list.inputs + loop_count list) 0) (omega (arith, dark.0, free))
+    ∙ upper_bit_is list p inputs state (get_or homes (list.inputs + loop_count list) 0) (omega (arith, dark.0, free_but_loops list p latches))
     ∙ lane_bit_none p.ins inputs (get_or homes (list.inputs + loop_count list) 0) (λ i low. dark.1 i (omega (arith, low, h.ins_long)))
     ∙ sym (numbered list inputs state 0 Zero f (record {}))
     ∙ ap (value_bit list inputs state) (sym at))
     (cases_lt v (list.inputs + loop_count list)))
     (cases_lt v list.inputs)
-  where
-    free : free_lanes p ≡ p.lanes - loop_count list
-    free = ap (λ n. p.lanes - n) (ap length latches ∙ length-loops list list.starts refl)

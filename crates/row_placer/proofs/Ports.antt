@@ -15,6 +15,7 @@ use Rattle.row_placer.specs.declared.job.Job.{Job}
 use Rattle.row_placer.specs.Told.{role_code, count, tag, free_tag, Exchanged, SameTags, is_tag}
 use Rattle.row_placer.specs.Uses.{need, owed_ports}
 use Rattle.row_placer.specs.Ready.{Ready, ReadyForPort, HoldPorts, AreSettled}
+use Rattle.row_placer.proofs.Carry.{brought_to}
 use Rattle.row_placer.proofs.Uses.{Usable, usable, used, comes, stays}
 
 port_role : (i : ℕ) → 2 ≤ role_code (Port i)
@@ -68,9 +69,6 @@ found_above job n i v tags lane settled le within here =
     let roles : 4 + s ≡ 4 + i = ap (λ (t : Tag). role_code t.role) (sym at ∙ ap (λ l. get_or tags l free_tag) back ∙ here) in
     absurd (omega (arith, roles, within, high, le)))
     (cases_lt (lane + n) (length tags))
-
-brought_to : (from to : ℕ) → brought from to to ≡ from
-brought_to from to = grind (arith, nat_tests)
 
 brought_past : (from to l : ℕ) → from ≤ to → to < l → brought from to l ≡ l
 brought_past from to l le lt = grind (arith, nat_tests)

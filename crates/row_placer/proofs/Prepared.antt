@@ -1,5 +1,5 @@
 -- A job that is prepared.
-use Rattle.std.proofs.Common.{◌≡◌, refl, sym, ◌∙◌, ap, subst, ℕ, ◌+◌, ◌<◌, ◌≤◌, ⊎_elim, Bool, true, false, cond, List, [], ◌∷◌, ◌++◌, length, get_or, map, arith}
+use Rattle.std.proofs.Common.{◌≡◌, refl, sym, ◌∙◌, ap, subst, ℕ, ◌+◌, ◌<◌, ◌≤◌, ⊎_elim, Bool, true, cond, List, [], ◌∷◌, ◌++◌, length, get_or, map, arith}
 use Rattle.std.specs.Prelude.{All}
 use Rattle.std.proofs.lemmas.Bool.{cases_lt}
 use Rattle.std.proofs.lemmas.List.{length-append, length-map, get_or-map}
@@ -66,10 +66,6 @@ start_ready gates ports homes left inner lanes first base dark start s low count
   left = counted;
   wide = omega (arith, wide);
 }
-
-pub flag_small : (b : Bool) → cond {A = ℕ} b 1 0 ≤ 1
-flag_small true = omega arith
-flag_small false = omega arith
 
 pub dark_first : (dark : Bool) (first : ℕ) → cond dark 1 0 ≤ first → dark ≡ true → 1 ≤ first
 dark_first dark first is e = let one : cond {A = ℕ} dark 1 0 ≡ 1 = ap (λ b. cond {A = ℕ} b 1 0) e in omega (arith, is, one)

@@ -5,6 +5,7 @@ use Rattle.std.specs.List.{range_with_len}
 use Rattle.std.proofs.lemmas.Bool.{cases_lt}
 use Rattle.std.proofs.lemmas.List.{length-append, get_or_append_left, get_or-append-add, length-take-le, get_or-take}
 use Rattle.std.proofs.lemmas.List.FromFn.{length-map-range_with_len, get_or-map-range_with_len}
+use Rattle.lists.proofs.Numbers.{at_most_one, length_if}
 use Rattle.cell_core.specs.declared.list.CellList.{CellList}
 use Rattle.cell_core.specs.Loops.{loop_count}
 use Rattle.row_placer.specs.Placed.{AreHomes}
@@ -16,7 +17,7 @@ pub record AreSides (first inner : ℕ) (dark : Bool) (homes : List ℕ) : Type 
 
 pub sides : (first inner : ℕ) (dark : Bool) (homes : List ℕ) → homes ≡ map (λ i. first + i) (range_with_len 0 inner) ++ cond dark (0 ∷ []) [] → AreSides first inner dark homes
 sides first inner dark homes is = record {
-  long = ap length is ∙ length-append row (cond dark (0 ∷ []) []) ∙ ap₂ (λ a b. a + b) wide (by dark);
+  long = ap length is ∙ length-append row (cond dark (0 ∷ []) []) ∙ ap₂ (λ a b. a + b) wide (length_if dark 0);
   at = λ i d below. ap (λ h. get_or h i d) is ∙ get_or_append_left row (cond dark (0 ∷ []) []) d i (omega (arith, below, wide)) ∙ get_or-map-range_with_len (λ i. first + i) 0 inner i i d below (omega arith);
   last = λ d e. ap (λ h. get_or h inner d) is ∙ ap (λ b. get_or (row ++ cond b (0 ∷ []) []) inner d) e ∙ (let n : inner ≡ length row + 0 = omega (arith, wide) in ap (λ n. get_or (row ++ 0 ∷ []) n d) n) ∙ get_or-append-add row (0 ∷ []) 0 d;
 }
@@ -26,10 +27,6 @@ sides first inner dark homes is = record {
 
     wide : length row ≡ inner
     wide = length-map-range_with_len (λ i. first + i) 0 inner
-
-    by : (b : Bool) → length {A = ℕ} (cond b (0 ∷ []) []) ≡ cond b 1 0
-    by true = refl
-    by false = refl
 
 -- a place past the inner homes is the dark one
 dark_place : (first inner : ℕ) (dark : Bool) (homes : List ℕ) → AreSides first inner dark homes → (dark ≡ true → 1 ≤ first) → (j d : ℕ) → j < length homes → inner ≤ j → (get_or homes j d ≡ 0) × (1 ≤ first) × (j ≡ inner)
@@ -60,17 +57,13 @@ sides_homes list first lanes dark homes s some is = record {
     distinct = λ i j d lt low e. (let a = ins_at i d (omega (arith, lt, low, long)) in let b = ins_at j d (omega (arith, low, long)) in omega (arith, a, b, e, lt));
   };
   least = omega (arith, s.long);
-  most = (let small = one dark in omega (arith, s.long, small));
+  most = (let small = at_most_one dark in omega (arith, s.long, small));
   inputs = λ i below. s.at i 0 (omega (arith, below)) ∙ sym (ins_at i 0 below);
   loops = λ k below. s.at (list.inputs + k) 0 (omega (arith, below)) ∙ omega (arith, is);
   dark = λ more. (let p = dark_place first (list.inputs + loop_count list) dark homes s some (list.inputs + loop_count list) 0 more (omega arith) in
       (omega (arith, p.0, p.1, is), λ i below e. (let a = ins_at i 0 below in omega (arith, a, p.0, p.1, e))));
 }
   where
-    one : (b : Bool) → cond {A = ℕ} b 1 0 ≤ 1
-    one true = omega arith
-    one false = omega arith
-
     long : length (take list.inputs homes) ≡ list.inputs
     long = length-take-le list.inputs homes (omega (arith, s.long))
 

@@ -1,8 +1,9 @@
 -- Tags that are put on their homes, one after another.
-use Rattle.std.proofs.Common.{◌≡◌, ◌≢◌, sym, ◌∙◌, ap, subst, ℕ, suc, ◌+◌, ◌<◌, ◌≤◌, ⊎_elim, Bool, true, false, cond, List, length, get_or, set, arith}
+use Rattle.std.proofs.Common.{◌≡◌, ◌≢◌, sym, ◌∙◌, ap, subst, ℕ, suc, ◌+◌, ◌<◌, ◌≤◌, ⊎_elim, cond, List, length, get_or, set, arith}
 use Rattle.std.specs.Prelude.{AllPairs, All, ◌==◌}
 use Rattle.std.proofs.lemmas.Bool.{cases_eq, cases_lt, ne_eqb}
 use Rattle.std.proofs.lemmas.List.{length-set, get_or-set_same, get_or-set_other}
+use Rattle.lists.proofs.Numbers.{at_most_one}
 use Rattle.row_placer.specs.declared.roles.Role.TheVariants.{Free, Kept}
 use Rattle.row_placer.specs.declared.roles.Tag.{Tag}
 use Rattle.row_placer.specs.Told.{role_code, tag, free_tag, count, is_tag}
@@ -14,11 +15,7 @@ pub idle_more : (left : List ℕ) (n : ℕ) → idle left (n + 1) ≡ idle left 
 idle_more left n = let e : n + 1 ≡ suc n = omega arith in ap (idle left) e
 
 pub unused_small : (n : ℕ) (left : List ℕ) → unused (get_or left n 0) ≤ 1
-unused_small n left = by (get_or left n 0 == 0)
-  where
-    by : (b : Bool) → cond {A = ℕ} b 1 0 ≤ 1
-    by true = omega arith
-    by false = omega arith
+unused_small n left = at_most_one (get_or left n 0 == 0)
 
 -- the first n values are on their homes
 pub record StartsWith (homes left : List ℕ) (lanes n : ℕ) (start : List Tag) : Type 0 where
@@ -58,7 +55,7 @@ start_put homes left lanes n start apart low s within used_here = record {
       (λ new. (let same : v ≡ n = omega (arith, new, below) in
       ap (λ k. get_or (set start at (tag n Kept)) (get_or homes k 0) free_tag) same ∙ get_or-set_same start at (tag n Kept) free_tag here ∙ ap (λ k. tag k Kept) (sym same)))
       (cases_lt v n);
-  free = (let e = counts_set (is_tag 0 Free) start at (tag n Kept) here in let most = one (is_tag 0 Free (get_or start at free_tag)) in let more = idle_more left n in
+  free = (let e = counts_set (is_tag 0 Free) start at (tag n Kept) here in let most = at_most_one (is_tag 0 Free (get_or start at free_tag)) in let more = idle_more left n in
       let none : unused (get_or left n 0) ≡ 0 = ap (λ b. cond {A = ℕ} b 1 0) (ne_eqb (get_or left n 0) 0 (λ z. absurd (omega (arith, z, used_here)))) in omega (arith, e, most, more, none, s.free));
   within = omega (arith, within);
 }
@@ -68,7 +65,3 @@ start_put homes left lanes n start apart low s within used_here = record {
 
     here : get_or homes n 0 < length start
     here = let b = low n 0 within in omega (arith, b, s.long)
-
-    one : (b : Bool) → cond {A = ℕ} b 1 0 ≤ 1
-    one true = omega arith
-    one false = omega arith

@@ -5,6 +5,7 @@ use Rattle.std.specs.List.{range_with_len}
 use Rattle.std.proofs.lemmas.List.{ext_get_or, length-append, length-map, get_or-map, map-append, get_or_append_left, get_or-append-add, get_or-reverse, length-reverse, length-drop, get_or-drop}
 use Rattle.std.proofs.lemmas.List.Elements.{All-append}
 use Rattle.std.proofs.lemmas.List.FromFn.{length-map-range_with_len}
+use Rattle.lists.proofs.Numbers.{length_if}
 use Rattle.lane_core.specs.declared.plan.NetPlace.{NetPlace}
 use Rattle.lane_core.specs.declared.plan.Program.{Program}
 use Rattle.lane_core.specs.Entering.{bits_after}
@@ -29,18 +30,14 @@ use Rattle.row_placer.proofs.Values.{value_bit, numbered, agrees}
 use Rattle.lane_core.proofs.Lengths.{length-after_instrs as length-after}
 
 pub length-loops : (list : CellList) (state : List Bool) → length state ≡ length list.starts → length (loop_state list state) ≡ loop_count list
-length-loops list state long = length-append state (cond (names_one list) (true ∷ []) []) ∙ ap₂ (λ a b. a + b) long (by (names_one list))
-  where
-    by : (b : Bool) → length (cond b (true ∷ []) []) ≡ cond b 1 0
-    by true = refl
-    by false = refl
+length-loops list state long = length-append state (cond (names_one list) (true ∷ []) []) ∙ ap₂ (λ a b. a + b) long (length_if (names_one list) true)
+
+-- as many lanes are free at the start as are no loops'
+pub free_but_loops : (list : CellList) (p : Program) → p.latches ≡ loop_state list list.starts → free_lanes p ≡ p.lanes - loop_count list
+free_but_loops list p latches = ap (λ n. p.lanes - n) (ap length latches ∙ length-loops list list.starts refl)
 
 pub length-data : (list : CellList) → length list.latches ≡ length list.starts → length (loop_data list) ≡ loop_count list
-length-data list long = length-append list.latches (cond (names_one list) (One ∷ []) []) ∙ ap₂ (λ a b. a + b) long (by (names_one list))
-  where
-    by : (b : Bool) → length (cond b (One ∷ []) []) ≡ cond b 1 0
-    by true = refl
-    by false = refl
+length-data list long = length-append list.latches (cond (names_one list) (One ∷ []) []) ∙ ap₂ (λ a b. a + b) long (length_if (names_one list) One)
 
 pub wide : (list : CellList) (p : Program) (inputs state : List Bool) → p.latches ≡ loop_state list list.starts → loop_count list ≤ p.lanes → Fits list inputs state → length (program_bits list p inputs state) ≡ p.lanes
 wide list p inputs state latches room f =
@@ -124,14 +121,11 @@ computes list job p homes tags made sound x hold = record {
     datas : length (loop_data list) ≡ loop_count list
     datas = length-data list sound.fits
 
-    free : free_lanes p ≡ p.lanes - loop_count list
-    free = ap (λ n. p.lanes - n) (ap length x.latches ∙ length-loops list list.starts refl)
-
     long : (inputs state : List Bool) → Fits list inputs state → length (reverse (drop (free_lanes p) (after_instrs p.instrs (program_bits list p inputs state)))) ≡ loop_count list
     long inputs state f =
         let after = after_instrs p.instrs (program_bits list p inputs state) in
         let e = length-after p.instrs (program_bits list p inputs state) in
-        omega (arith, length-reverse (drop (free_lanes p) after), length-drop (free_lanes p) after, e, wide list p inputs state x.latches x.room f, free, x.room)
+        omega (arith, length-reverse (drop (free_lanes p) after), length-drop (free_lanes p) after, e, wide list p inputs state x.latches x.room f, free_but_loops list p x.latches, x.room)
 
     each_out : (inputs state : List Bool) → Fits list inputs state → (o : ℕ) → o < length (map (bit_on (after_instrs p.instrs (program_bits list p inputs state))) p.outs)
         → get_or (map (bit_on (after_instrs p.instrs (program_bits list p inputs state))) p.outs) o false ≡ get_or (map (bit_of list inputs state) list.outs) o false
@@ -153,8 +147,8 @@ computes list job p homes tags made sound x hold = record {
         let e = length-after p.instrs (program_bits list p inputs state) in
         let w = wide list p inputs state x.latches x.room f in
         let low : s < loop_count list = omega (arith, below, long inputs state f) in
-        let inside : s < length (drop (free_lanes p) after) = omega (arith, low, length-drop (free_lanes p) after, e, w, free, x.room) in
-        let lane : free_lanes p + (length (drop (free_lanes p) after) - 1 - s) ≡ length tags - 1 - s = omega (arith, low, length-drop (free_lanes p) after, e, w, free, x.room, x.lanes) in
+        let inside : s < length (drop (free_lanes p) after) = omega (arith, low, length-drop (free_lanes p) after, e, w, free_but_loops list p x.latches, x.room) in
+        let lane : free_lanes p + (length (drop (free_lanes p) after) - 1 - s) ≡ length tags - 1 - s = omega (arith, low, length-drop (free_lanes p) after, e, w, free_but_loops list p x.latches, x.room, x.lanes) in
         let value : get_or job.ports s 0 ≡ number list (get_or (loop_data list) s Zero) =
         port_value list job s (loop_data list ++ list.outs) x.job_of.ports (omega (arith, low, datas, length-append (loop_data list) list.outs))
         ∙ ap (number list) (get_or_append_left (loop_data list) list.outs Zero s (omega (arith, low, datas))) in

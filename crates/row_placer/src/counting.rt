@@ -1,6 +1,6 @@
 // Uses of values are counted from the last to the first, and with them the lanes that copies need.
-ghost use Rattle.std.specs.Prelude.{◌≡◌, ◌==◌, ◌≤◌, ◌<◌, ◌+◌, ◌-◌, ◌*◌, ◌^◌, ◌++◌, length, All, cond, get_or, set, IfOk};
-ghost use Rattle.row_placer.specs.Uses.{uses_of, owed, unused, idle, AreCounted, ReadsBelow};
+ghost use Rattle.std.specs.Prelude.{◌≡◌, ◌==◌, ◌≤◌, ◌<◌, ◌+◌, ◌-◌, ◌*◌, ◌^◌, ◌++◌, [], length, All, cond, get_or, set, IfOk};
+ghost use Rattle.row_placer.specs.Uses.{uses_of, owed, owed_ports, unused, idle, AreCounted, ReadsBelow};
 
 use crate::{NumberedCell, PlaceError};
 use std::alloc::Global;
@@ -30,13 +30,32 @@ pub fn count_idle(left: &Vec<u32>, values: u32) -> u32
     requires { values ≤ length left.now.items }
     ensures { result ≡ idle left.now.items values }
 {
-    let mut count = 0;
+    let mut idle = 0;
     let mut value = 0;
     while value < values {
-        count += unused(left, value);
+        idle += unused(left, value);
         value += 1;
     }
-    count
+    idle
+}
+
+// Counts the uses of ports in a table that has none yet; so many free lanes are enough for them.
+fn count_ports(left: &mut Vec<u32>, ports: &[u32]) -> u32
+    requires none { AreCounted left.old.items [] }
+    requires ports { All (λ v. v < length left.old.items) ports.now }
+    requires few { length ports.now < 2 ^ 32 - 1 }
+    ensures left { AreCounted left.new.items ports.now }
+    ensures long { length left.new.items ≡ length left.old.items }
+    ensures owed { result ≡ owed_ports ports.now }
+    ensures few { result ≤ length ports.now }
+{
+    let mut owed = 0;
+    let mut port = ports.len();
+    while port > 0 {
+        port -= 1;
+        owed += add_use(left, ports[port]);
+    }
+    owed
 }
 
 /// How often each value is used, and how many free lanes are enough. The gates make the values from `base` on.
@@ -56,12 +75,7 @@ pub fn count_uses(
     ensures few { IfOk result (λ r. r.1 ≤ length gates.now + length ports.now + 1) }
 {
     let mut left = vec![in alloc; 0; base as usize + gates.len()]?;
-    let mut free = 0;
-    let mut port = ports.len();
-    while port > 0 {
-        port -= 1;
-        free += add_use(&mut left, ports[port]);
-    }
+    let mut owed = count_ports(&mut left, ports);
     let mut at = gates.len();
     while at > 0 {
         at -= 1;
@@ -69,7 +83,7 @@ pub fn count_uses(
         let freed = 1 + unused(&left, base + at as u32);
         let second = add_use(&mut left, gate.second);
         let first = add_use(&mut left, gate.first);
-        free = first + (second + free.saturating_sub(freed));
+        owed = first + (second + owed.saturating_sub(freed));
     }
-    Ok((left, free))
+    Ok((left, owed))
 }

@@ -199,11 +199,46 @@ impl<'a> Lanes<'a> {
         ensures made { self.new.made.items ≡ self.old.made.items }
         ensures job { self.new.job ≡ self.old.job }
     {
+        if from < to {
+            self.bring_down(from, to)?;
+            Ok(())
+        } else {
+            self.bring_up(from, to)?;
+            Ok(())
+        }
+    }
+
+    // Brings a lane to one below it.
+    fn bring_down(&mut self, from: u32, to: u32) -> Result<(), PlaceError>
+        requires order { from ≤ to }
+        requires to { to < length self.old.tags.items }
+        ensures lanes { OnOk result ((l : ℕ) → get_or self.new.tags.items l free_tag ≡ get_or self.old.tags.items (brought from to l) free_tag) }
+        ensures long { OnOk result (length self.new.tags.items ≡ length self.old.tags.items) }
+        ensures same { OnOk result (SameTags self.old.tags.items self.new.tags.items) }
+        ensures count { OnOk result (length self.new.instrs.items ≡ length self.old.instrs.items + distance from to) }
+        ensures made { self.new.made.items ≡ self.old.made.items }
+        ensures job { self.new.job ≡ self.old.job }
+    {
         let mut at = from;
         while at < to {
             self.swap(at)?;
             at += 1;
         }
+        Ok(())
+    }
+
+    // Brings a lane to one above it.
+    fn bring_up(&mut self, from: u32, to: u32) -> Result<(), PlaceError>
+        requires order { to ≤ from }
+        requires from { from < length self.old.tags.items }
+        ensures lanes { OnOk result ((l : ℕ) → get_or self.new.tags.items l free_tag ≡ get_or self.old.tags.items (brought from to l) free_tag) }
+        ensures long { OnOk result (length self.new.tags.items ≡ length self.old.tags.items) }
+        ensures same { OnOk result (SameTags self.old.tags.items self.new.tags.items) }
+        ensures count { OnOk result (length self.new.instrs.items ≡ length self.old.instrs.items + distance from to) }
+        ensures made { self.new.made.items ≡ self.old.made.items }
+        ensures job { self.new.job ≡ self.old.job }
+    {
+        let mut at = from;
         while at > to {
             at -= 1;
             self.swap(at)?;

@@ -65,11 +65,11 @@ pub fn prepare(
     let inner = list.inputs + loops;
     let gates = gates_of(alloc, list, loops)?;
     let ports = ports_of(alloc, list, loops)?;
-    let (left, free) = count_uses(alloc, &gates, &ports, inner + 1)?;
+    let (left, owed) = count_uses(alloc, &gates, &ports, inner + 1)?;
     let zero = wants_zero(list, &left, inner);
     let dark = one_if(zero);
     let idle = count_idle(&left, inner + dark);
-    let least = first_home(free, idle, dark);
+    let least = first_home(owed, idle, dark);
     let first = least + spare;
     let homes = homes_of(alloc, first, inner, zero)?;
     let start = start_tags(alloc, &homes, &left, first + inner)?;
@@ -89,13 +89,13 @@ fn one_if(flag: bool) -> u32
 }
 
 // How many lanes stand above the homes of inputs and loops: as many as must be free, less those homes that are, and `dark` at least.
-fn first_home(free: u32, idle: u32, dark: u32) -> u32
-    requires { free + dark < 2 ^ 32 }
-    ensures enough { free + dark ≤ result + idle }
+fn first_home(owed: u32, idle: u32, dark: u32) -> u32
+    requires { owed + dark < 2 ^ 32 }
+    ensures enough { owed + dark ≤ result + idle }
     ensures dark { dark ≤ result }
-    ensures most { result ≤ free + dark }
+    ensures most { result ≤ owed + dark }
 {
-    (free + dark).saturating_sub(idle).max(dark)
+    (owed + dark).saturating_sub(idle).max(dark)
 }
 
 // Whether constant 0 is used, or shown by a net.

@@ -1,5 +1,5 @@
-use Rattle.cover_cells.proofs.Tables.{word_bit_or}
+use Rattle.lists.proofs.WordBits.{or_bit}
 use Rattle.cover_cells.proofs.words.or_words.Goals as goal
 
 pub returns : goal.returns
-returns c = λ n. word_bit_or c.args.a c.args.b n
+returns c = λ n. or_bit c.args.a c.args.b n

@@ -8,7 +8,7 @@ loop-value-preserved c =
     let left = c.args.left.now.items in
     let v = c.loop-value.value in
     let small = unused_small v left in (
-      ap₂ (λ a b. a + b) i.0 c.unused-count.ensures ∙ sym (idle_more left v),
-      omega (arith, i.1, c.unused-count.ensures, small),
+      ap₂ (λ a b. a + b) i.0 c.unused-idle.ensures ∙ sym (idle_more left v),
+      omega (arith, i.1, c.unused-idle.ensures, small),
       omega (arith, c.loop-value-test.true),
     )

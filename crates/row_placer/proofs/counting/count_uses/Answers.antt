@@ -2,32 +2,12 @@ use Rattle.std.proofs.Common.{◌≡◌, sym, ◌∙◌, ap, subst, ◌+◌, ◌
 use Rattle.std.proofs.lemmas.List.{length-set}
 use Rattle.row_placer.specs.declared.job.NumberedCell.{NumberedCell}
 use Rattle.row_placer.specs.declared.job.CellKind.TheVariants.{Or}
-use Rattle.row_placer.specs.Uses.{need, times, unused, owed_ports, uses_of, AreCounted}
+use Rattle.row_placer.specs.Uses.{times, unused, uses_of, AreCounted}
 use Rattle.row_placer.proofs.Counts.{counted_more, needed, need_small, few_uses, length-pending, owed_more, front}
 use Rattle.row_placer.proofs.counting.count_uses.Goals as goal
 
 abbrev none : NumberedCell
 none = record { kind = Or; first = 0; second = 0 }
-
-pub loop-port-preserved : goal.loop-port-preserved
-loop-port-preserved c =
-    let i = c.loop-port.invariant in
-    let n = c.loop-port.port in
-    let ports = c.args.ports.now in
-    let more : 0 < n = omega (arith, c.loop-port-test.true) in
-    let back : (n - 1) + 1 ≡ n = omega (arith, more) in
-    let v = get_or ports (n - 1) 0 in
-    let low : v < length c.loop-port.left.items = (let h = c.requires.ports (n - 1) 0 (omega (arith, more, i.3)) in omega (arith, h, i.1)) in
-    let list : drop (n - 1) ports ≡ v ∷ drop n ports = front ports (n - 1) n 0 back i.3 in
-    let e = c.add_use-free.ensures in
-    let one = needed c.loop-port.left.items (drop n ports) v c.add_use-free.result low i.0 e.need in
-    let small = need_small v (drop n ports) in (
-      subst (AreCounted c.add_use-free.new.left.items) (sym list) (counted_more c.loop-port.left.items c.add_use-free.new.left.items (drop n ports) v low e.left i.0),
-      ap length e.left ∙ length-set c.loop-port.left.items v (get_or c.loop-port.left.items v 0 + 1) ∙ i.1,
-      (let sum : c.loop-port.free + c.add_use-free.result ≡ need v (drop n ports) + owed_ports (drop n ports) = omega (arith, one, i.2) in sum ∙ ap owed_ports (sym list)),
-      omega (arith, i.3),
-      omega (arith, one, small, more, i.4),
-    )
 
 pub add_use-second-requires-clause-few : goal.add_use-second-requires-clause-few
 add_use-second-requires-clause-few c =
@@ -92,7 +72,7 @@ loop-at-preserved c =
     ap (λ k. 1 + k) (c.unused-freed.ensures ∙ ap unused (i.0 (c.args.base + (n - 1)) (omega (arith, more, i.1, i.3)))) in (
       subst (λ gs. AreCounted c.add_use-first.new.left.items (uses_of gs ++ ports)) (sym list) (counted_more c.add_use-second.new.left.items c.add_use-first.new.left.items (gate.second ∷ us) gate.first low' f.left counted),
       ap length f.left ∙ length-set c.add_use-second.new.left.items gate.first (get_or c.add_use-second.new.left.items gate.first 0 + 1) ∙ wide,
-      owed_more ports gates c.args.base (n - 1) n c.loop-at.free c.add_use-first.result c.add_use-second.result c.saturating_sub.result (1 + c.unused-freed.result) none back i.3 i.2 c.saturating_sub.ensures freed a b,
+      owed_more ports gates c.args.base (n - 1) n c.loop-at.owed c.add_use-first.result c.add_use-second.result c.saturating_sub.result (1 + c.unused-freed.result) none back i.3 i.2 c.saturating_sub.ensures freed a b,
       omega (arith, i.3),
       omega (arith, a, b, a1, b1, more, i.4, c.saturating_sub.ensures),
     )

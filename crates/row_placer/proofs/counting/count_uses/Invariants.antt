@@ -1,19 +1,11 @@
 use Rattle.std.proofs.Common.{◌≡◌, ◌≤◌, ◌+◌, ◌++◌, length, drop}
-use Rattle.row_placer.specs.Uses.{uses_of, owed, owed_ports, AreCounted}
+use Rattle.row_placer.specs.Uses.{uses_of, owed, AreCounted}
 use Rattle.row_placer.proofs.counting.count_uses.Given as goal
-
-abbrev pub invariant-loop-port : goal.invariant-loop-port
-invariant-loop-port l =
-    AreCounted l.left.items (drop l.port l.fn.ports) × (length l.left.items ≡ l.fn.base + length l.fn.gates) × (l.free ≡ owed_ports (drop l.port l.fn.ports)) × (l.port ≤ length l.fn.ports)
-    × (l.free + l.port ≤ length l.fn.ports)
-
-abbrev pub decreases-loop-port : goal.decreases-loop-port
-decreases-loop-port l = l.port
 
 abbrev pub invariant-loop-at : goal.invariant-loop-at
 invariant-loop-at l =
-    AreCounted l.left.items (uses_of (drop l.at l.fn.gates) ++ l.fn.ports) × (length l.left.items ≡ l.fn.base + length l.fn.gates) × (l.free ≡ owed l.fn.ports (l.fn.base + l.at) (drop l.at l.fn.gates)) × (l.at ≤ length l.fn.gates)
-    × (l.free + l.at ≤ length l.fn.gates + length l.fn.ports + 1)
+    AreCounted l.left.items (uses_of (drop l.at l.fn.gates) ++ l.fn.ports) × (length l.left.items ≡ l.fn.base + length l.fn.gates) × (l.owed ≡ owed l.fn.ports (l.fn.base + l.at) (drop l.at l.fn.gates)) × (l.at ≤ length l.fn.gates)
+    × (l.owed + l.at ≤ length l.fn.gates + length l.fn.ports + 1)
 
 abbrev pub decreases-loop-at : goal.decreases-loop-at
 decreases-loop-at l = l.at

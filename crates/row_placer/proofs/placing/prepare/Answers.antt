@@ -1,12 +1,13 @@
 use Rattle.std.proofs.Common.{◌≡◌, ◌≢◌, refl, sym, ◌∙◌, ap, ap₂, subst, ℕ, ◌+◌, ◌<◌, ◌≤◌, ◌++◌, cond, length, get_or, arith}
 use Rattle.std.specs.Prelude.{All, AllPairs}
 use Rattle.std.proofs.lemmas.List.{length-map}
+use Rattle.lists.proofs.Numbers.{at_most_one}
 use Rattle.row_placer.specs.Uses.{uses_of, owed, idle, AreCounted, ReadsBelow, AreKnown}
 use Rattle.row_placer.specs.Ready.{Ready}
 use Rattle.cell_core.specs.Loops.{loop_count}
 use Rattle.row_placer.specs.Numbers.{gate_of}
 use Rattle.row_placer.specs.Placed.{IsStart, AreAtHome}
-use Rattle.row_placer.proofs.Prepared.{gates_known, gates_below, ports_below, length-ports, start_ready, nothing_used, flag_small, dark_first}
+use Rattle.row_placer.proofs.Prepared.{gates_known, gates_below, ports_below, length-ports, start_ready, nothing_used, dark_first}
 use Rattle.row_placer.proofs.Sides.{AreSides, sides, sides_apart, sides_within, sides_homes}
 use Rattle.row_placer.proofs.placing.prepare.Goals as goal
 
@@ -45,7 +46,7 @@ start_tags-requires-clause-within c =
     let left = c.in_ok-left.left.items in
     let wide : length left ≡ base + length g = c.in_ok-left.ensures.long ∙ ap (λ gs. base + length gs) c.deref.ensures.value in
     let dark = c.wants_zero-zero.result in
-    let small = flag_small dark in
+    let small = at_most_one dark in
     let inner = list.inputs + c.args.loops in
     let first = c.first_home-least.result + c.args.spare in
     let homes = c.in_ok-homes.homes.items in
@@ -65,7 +66,7 @@ start_tags-requires-clause-apart c =
     let left = c.in_ok-left.left.items in
     let wide : length left ≡ base + length g = c.in_ok-left.ensures.long ∙ ap (λ gs. base + length gs) c.deref.ensures.value in
     let dark = c.wants_zero-zero.result in
-    let small = flag_small dark in
+    let small = at_most_one dark in
     let inner = list.inputs + c.args.loops in
     let first = c.first_home-least.result + c.args.spare in
     let homes = c.in_ok-homes.homes.items in
@@ -85,7 +86,7 @@ start_tags-requires-clause-left c =
     let left = c.in_ok-left.left.items in
     let wide : length left ≡ base + length g = c.in_ok-left.ensures.long ∙ ap (λ gs. base + length gs) c.deref.ensures.value in
     let dark = c.wants_zero-zero.result in
-    let small = flag_small dark in
+    let small = at_most_one dark in
     let inner = list.inputs + c.args.loops in
     let first = c.first_home-least.result + c.args.spare in
     let homes = c.in_ok-homes.homes.items in
@@ -105,7 +106,7 @@ start_tags-requires-clause-few c =
     let left = c.in_ok-left.left.items in
     let wide : length left ≡ base + length g = c.in_ok-left.ensures.long ∙ ap (λ gs. base + length gs) c.deref.ensures.value in
     let dark = c.wants_zero-zero.result in
-    let small = flag_small dark in
+    let small = at_most_one dark in
     let inner = list.inputs + c.args.loops in
     let first = c.first_home-least.result + c.args.spare in
     let homes = c.in_ok-homes.homes.items in
@@ -140,7 +141,7 @@ returns c =
     let left = c.in_ok-left.left.items in
     let wide : length left ≡ base + length g = c.in_ok-left.ensures.long ∙ ap (λ gs. base + length gs) c.deref.ensures.value in
     let dark = c.wants_zero-zero.result in
-    let small = flag_small dark in
+    let small = at_most_one dark in
     let inner = list.inputs + c.args.loops in
     let first = c.first_home-least.result + c.args.spare in
     let homes = c.in_ok-homes.homes.items in
@@ -149,9 +150,9 @@ returns c =
     let start = c.in_ok-start.start.items in
     let is : IsStart homes left (first + inner) start = subst (λ hs. IsStart hs left (first + inner) start) c.deref-3.ensures.value (subst (λ l. IsStart c.deref-3.result.now l (first + inner) start) c.deref-4.ensures.value c.in_ok-start.ensures) in
     let counted : AreCounted left (uses_of g ++ ports) = subst (AreCounted left) (ap₂ (λ gs ps. uses_of gs ++ ps) c.deref.ensures.value c.deref-2.ensures.value) c.in_ok-left.ensures.left in
-    let owes : c.in_ok-left.free ≡ owed ports base g = c.in_ok-left.ensures.owed ∙ ap₂ (λ gs ps. owed ps base gs) c.deref.ensures.value c.deref-2.ensures.value in
+    let owes : c.in_ok-left.owed ≡ owed ports base g = c.in_ok-left.ensures.owed ∙ ap₂ (λ gs ps. owed ps base gs) c.deref.ensures.value c.deref-2.ensures.value in
     let idles : c.count_idle-idle.result ≡ idle left (length homes) = c.count_idle-idle.ensures ∙ ap (idle left) (ap (λ n. inner + n) c.one_if-dark.ensures ∙ sym s.long) in
-    let few : c.in_ok-left.free ≤ length g + length ports + 1 = omega (arith, c.in_ok-left.ensures.few, ap length c.deref.ensures.value, ap length c.deref-2.ensures.value) in
+    let few : c.in_ok-left.owed ≤ length g + length ports + 1 = omega (arith, c.in_ok-left.ensures.few, ap length c.deref.ensures.value, ap length c.deref-2.ensures.value) in
     let ready = start_ready g ports homes left inner (first + inner) first base dark start is (sides_within first inner (first + inner) dark homes s some refl) counted refl wide s.long c.wants_zero-zero.ensures.used refl
     (omega (arith, owes, idles, c.first_home-least.ensures.enough, c.one_if-dark.ensures)) in
     let inner_is : inner ≡ list.inputs + loop_count list = ap (λ n. list.inputs + n) c.requires.loops in
