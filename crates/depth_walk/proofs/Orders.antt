@@ -3,6 +3,7 @@ use Rattle.std.proofs.Common.{◌≡◌, ◌≢◌, refl, sym, ap, subst, ◌∙
 use Rattle.std.specs.Prelude.{Contains, AllPairs}
 use Rattle.std.proofs.lemmas.List.Sums.{sum_by-cons}
 use Rattle.std.proofs.lemmas.List.{get_or_past, get_or_default}
+use Rattle.std.proofs.lemmas.Bool.{cases_lt}
 use Rattle.depth_walk.specs.declared.walk.Mark.{Mark}
 use Rattle.depth_walk.specs.declared.walk.Mark.TheVariants.{Unseen, Open, Done}
 use Rattle.depth_walk.specs.Links.{Links}
@@ -11,21 +12,15 @@ use Rattle.depth_walk.specs.Walk.{mark_of, is_unseen, IsWalk}
 
 -- a number with a mark is one that has a list
 pub open_within : (links : Links) (marks : List Mark) (n i : ℕ) → length marks ≡ length links → mark_of marks n ≡ Open i → n < length links
-open_within links marks n i fit e = by (cases n (length marks))
+open_within links marks n i fit e = by (cases_lt n (length marks))
   where
-    cases : (a b : ℕ) → (a < b) ⊎ (b ≤ a)
-    cases a b = grind arith
-
     by : (n < length marks) ⊎ (length marks ≤ n) → n < length links
     by (inl l) = subst (λ v. n < v) fit l
     by (inr l) = let past : mark_of marks n ≡ Unseen = get_or_past marks n Unseen l in absurd (cc (past, e))
 
 done_within : (links : Links) (marks : List Mark) (n i : ℕ) → length marks ≡ length links → mark_of marks n ≡ Done i → n < length links
-done_within links marks n i fit e = by (cases n (length marks))
+done_within links marks n i fit e = by (cases_lt n (length marks))
   where
-    cases : (a b : ℕ) → (a < b) ⊎ (b ≤ a)
-    cases a b = grind arith
-
     by : (n < length marks) ⊎ (length marks ≤ n) → n < length links
     by (inl l) = subst (λ v. n < v) fit l
     by (inr l) = let past : mark_of marks n ≡ Unseen = get_or_past marks n Unseen l in absurd (cc (past, e))

@@ -2,6 +2,8 @@
 use Rattle.std.proofs.Common.{◌≡◌, ◌≢◌, refl, sym, ap, subst, ◌∙◌, ℕ, suc, ◌+◌, ◌-◌, ◌<◌, ◌⊎◌, inl, inr, List, [], ◌∷◌, map, reverse, length, get_or, arith}
 use Rattle.std.specs.Prelude.{All, AllPairs}
 use Rattle.std.proofs.lemmas.List.{get_or-map, length-map, get_or-reverse, length-reverse, get_or_past, get_or_default, same_lists}
+use Rattle.std.proofs.lemmas.Simd.{map-map}
+use Rattle.std.proofs.lemmas.Bool.{cases_order}
 use Rattle.netlist_core.specs.declared.flat.Flat.{Flat}
 use Rattle.netlist_core.specs.declared.flat.NetId.{NetId}
 use Rattle.netlist_meaning.specs.Flat.{in_classes, out_class, class_of, node_at, IsSound, IsNetId}
@@ -23,10 +25,6 @@ through flat start (c ∷ cs) end f = (f 0 (omega arith), through flat c cs end 
 loop_of : (flat : Flat) (xs : List ℕ) → 0 < length xs → ((j : ℕ) → j < length xs → FlatFeeds flat (get_or xs j (get_or xs 0 0)) (get_or xs (suc j) (get_or xs 0 0))) → IsFlatLoop flat xs
 loop_of flat [] some f = absurd (omega arith)
 loop_of flat (c ∷ cs) some f = through flat c cs c f
-
-map_map : {A B C : Type 0} (f : A → B) (g : B → C) (xs : List A) → map g (map f xs) ≡ map (λ x. g (f x)) xs
-map_map f g [] = refl
-map_map f g (x ∷ xs) = ap (λ l. g (f x) ∷ l) (map_map f g xs)
 
 reverse_map : (f : ℕ → NetId) (xs : List ℕ) → reverse (map f xs) ≡ map f (reverse xs)
 reverse_map f xs = same_lists (reverse (map f xs)) (map f (reverse xs)) (length-reverse (map f xs) ∙ length-map xs f ∙ sym (length-reverse xs) ∙ sym (length-map (reverse xs) f)) each
@@ -75,7 +73,7 @@ is_loop flat s links are circle c = subst (IsOutputLoop flat) (sym (reverse_map 
     long = length-reverse circle
 
     mapped : map (class_of flat) (map (λ v. (node_at flat v).out) (reverse circle)) ≡ map (out_class flat) (reverse circle)
-    mapped = map_map (λ v. (node_at flat v).out) (class_of flat) (reverse circle)
+    mapped = map-map (class_of flat) (λ v. (node_at flat v).out) (reverse circle)
 
     at : (j : ℕ) → j < length (reverse circle) → get_or (reverse circle) j 0 ≡ get_or circle (length circle - 1 - j) 0
     at j l = get_or-reverse circle j 0 (subst (λ v. j < v) long l)
@@ -140,16 +138,13 @@ step_up flat order o start written i f l e =
     let there : before ≡ i = one before i (omega arith) l same in
     (j, omega arith, less, ap (out_class flat) at0 ∙ f.writes)
   where
-    three : (a b : ℕ) → ((a < b) ⊎ (b < a)) ⊎ (a ≡ b)
-    three a b = grind arith
-
     one : (a b : ℕ) → a < length order → b < length order → get_or order a 0 ≡ get_or order b 0 → a ≡ b
-    one a b la lb e = by (three a b)
+    one a b la lb e = by (cases_order a b)
       where
-        by : ((a < b) ⊎ (b < a)) ⊎ (a ≡ b) → a ≡ b
-        by (inl (inl less)) = absurd (o.once a b 0 less lb e)
-        by (inl (inr more)) = absurd (o.once b a 0 more la (sym e))
-        by (inr same) = same
+        by : (a ≡ b) ⊎ ((a < b) ⊎ (b < a)) → a ≡ b
+        by (inl same) = same
+        by (inr (inl less)) = absurd (o.once a b 0 less lb e)
+        by (inr (inr more)) = absurd (o.once b a 0 more la (sym e))
 
 climb : (flat : Flat) (order : List ℕ) → IsOrder flat order → (start : ℕ) (classes : List ℕ) (end i : ℕ) → FlatFeedsThrough flat start classes end → i < length order → out_class flat (get_or order i 0) ≡ start
     → (j : ℕ) × (i < j) × (j < length order) × (out_class flat (get_or order j 0) ≡ end)

@@ -1,7 +1,8 @@
 -- The order of latches, and that a clock fault is one.
-use Rattle.netlist_meaning.proofs.PlaceOrder.{one_of_three, two_numbers}
+use Rattle.netlist_meaning.proofs.PlaceOrder.{one_of_three}
 use Rattle.std.proofs.Common.{◌≡◌, ◌<◌, ◌≤◌, ◌⊎◌, sym, ap, ◌∙◌, subst, arith, inl, inr}
 use Rattle.std.proofs.lemmas.Option.{same_Some}
+use Rattle.std.proofs.lemmas.Bool.{cases_order}
 use Rattle.netlist_core.specs.declared.model.Design.{Design}
 use Rattle.netlist_meaning.specs.Places.{latch_at, IsBefore}
 use Rattle.netlist_rules.specs.Clocks.{PlacedLatch, IsPlacedLatch, ComesBefore, HasSameControl, HasSameClock, control_word}
@@ -14,14 +15,14 @@ two_latches design a b has_a has_b = by_place (one_of_three a.place b.place)
     one : a.place ≡ b.place → a.number ≡ b.number → a.latch ≡ b.latch
     one top same = same_Some _ _ (sym has_a ∙ ap (λ p. latch_at design p a.number) top ∙ ap (latch_at design b.place) same ∙ has_b)
 
-    by_number : a.place ≡ b.place → (a.number < b.number) ⊎ (a.number ≡ b.number) ⊎ (b.number < a.number) → ComesBefore a b ⊎ ((a.place ≡ b.place) × (a.latch ≡ b.latch)) ⊎ ComesBefore b a
-    by_number top (inl lt) = inl (inr (top, lt))
-    by_number top (inr (inl same)) = inr (inl (top, one top same))
+    by_number : a.place ≡ b.place → (a.number ≡ b.number) ⊎ ((a.number < b.number) ⊎ (b.number < a.number)) → ComesBefore a b ⊎ ((a.place ≡ b.place) × (a.latch ≡ b.latch)) ⊎ ComesBefore b a
+    by_number top (inl same) = inr (inl (top, one top same))
+    by_number top (inr (inl lt)) = inl (inr (top, lt))
     by_number top (inr (inr lt)) = inr (inr (inr (sym top, lt)))
 
     by_place : IsBefore a.place b.place ⊎ (a.place ≡ b.place) ⊎ IsBefore b.place a.place → ComesBefore a b ⊎ ((a.place ≡ b.place) × (a.latch ≡ b.latch)) ⊎ ComesBefore b a
     by_place (inl before) = inl (inl before)
-    by_place (inr (inl top)) = by_number top (two_numbers a.number b.number)
+    by_place (inr (inl top)) = by_number top (cases_order a.number b.number)
     by_place (inr (inr after)) = inr (inr (inl after))
 
 -- latches that neither comes before the other are one

@@ -11,6 +11,7 @@ use Rattle.netlist_core.specs.Names.{Name, model_named}
 use Rattle.netlist_meaning.specs.Places.{Place, main_model, model_placed, model_below, model_at}
 use Rattle.netlist_meaning.specs.Laws.{PlacesAreShallow, WeightIsSumOverAll}
 use Rattle.lists.proofs.Names.{bytes_eq-same, bytes_eq-other, names_are_equal}
+use Rattle.lists.proofs.Numbers.{one_if}
 use Rattle.netlist_meaning.proofs.Names.{and_then-from}
 use Rattle.netlist_meaning.proofs.Places.{weight_is_sum}
 use Rattle.std.proofs.lemmas.Bool.{or_cases as either, or_left, or_right}
@@ -134,9 +135,6 @@ some_from (Some x) e = (x, refl)
 length-names : (models : List Model) → length (map (λ m. m.name) models) ≡ length models
 length-names [] = refl
 length-names (model ∷ models) = let e = length-names models in ap suc e
-
-abbrev one_if : Bool → ℕ
-one_if b = cond b 1 0
 
 pub places_are_shallow : PlacesAreShallow
 unfolding has_name NotRecursiveBelow

@@ -1,6 +1,7 @@
 -- A design has one clock fault.
 use Rattle.std.proofs.Common.{ℕ, ◌≡◌, ◌<◌, ◌≤◌, ◌⊎◌, refl, sym, ap, ap₂, ◌∙◌, subst, arith, inl, inr}
-use Rattle.std.specs.Prelude.{Some}
+use Rattle.std.proofs.lemmas.Option.{same_Some}
+use Rattle.std.proofs.lemmas.Bool.{cases_order}
 use Rattle.netlist_core.specs.declared.model.Design.{Design}
 use Rattle.netlist_core.specs.declared.model.LatchRow.{LatchRow}
 use Rattle.netlist_core.specs.Names.{Name}
@@ -12,32 +13,26 @@ use Rattle.netlist_rules.specs.FaultNames.{fault_on}
 use Rattle.netlist_rules.specs.Clocks.{PlacedLatch, IsPlacedLatch, ComesBefore, HasSameClock, control_word, IsTwoClocks, IsClockFault, two_clocks, clock_read}
 use Rattle.netlist_text.specs.Laws.{AreAlikeFaults}
 
-three_numbers : (m n : ℕ) → (m < n) ⊎ (m ≡ n) ⊎ (n < m)
-three_numbers m n = grind arith
-
-some_is : (a b : LatchRow) → Some a ≡ Some b → a ≡ b
-some_is a b e = cc
-
 abbrev placed : (place : Place) (number : ℕ) (latch : LatchRow) → PlacedLatch
 placed place number latch = record { place = place; number = number; latch = latch }
 
 same_latch : (design : Design) (a b : PlacedLatch) → IsPlacedLatch design a → IsPlacedLatch design b → a.place ≡ b.place → a.number ≡ b.number → a ≡ b
 same_latch design a b h k place number =
-    let latch : a.latch ≡ b.latch = some_is a.latch b.latch (sym h ∙ ap₂ (latch_at design) place number ∙ k) in
+    let latch : a.latch ≡ b.latch = same_Some a.latch b.latch (sym h ∙ ap₂ (latch_at design) place number ∙ k) in
     let e : placed a.place a.number a.latch ≡ placed b.place b.number b.latch = cc in e
 
 -- two latches of a design are one, or one of them comes before the other
 in_order : (design : Design) (a b : PlacedLatch) → IsPlacedLatch design a → IsPlacedLatch design b → ComesBefore a b ⊎ (a ≡ b) ⊎ ComesBefore b a
 in_order design a b h k = by_place (one_of_three a.place b.place)
   where
-    by_number : a.place ≡ b.place → (a.number < b.number) ⊎ (a.number ≡ b.number) ⊎ (b.number < a.number) → ComesBefore a b ⊎ (a ≡ b) ⊎ ComesBefore b a
-    by_number e (inl less) = inl (inr (e, less))
-    by_number e (inr (inl same)) = inr (inl (same_latch design a b h k e same))
+    by_number : a.place ≡ b.place → (a.number ≡ b.number) ⊎ ((a.number < b.number) ⊎ (b.number < a.number)) → ComesBefore a b ⊎ (a ≡ b) ⊎ ComesBefore b a
+    by_number e (inl same) = inr (inl (same_latch design a b h k e same))
+    by_number e (inr (inl less)) = inl (inr (e, less))
     by_number e (inr (inr less)) = inr (inr (inr (sym e, less)))
 
     by_place : IsBefore a.place b.place ⊎ (a.place ≡ b.place) ⊎ IsBefore b.place a.place → ComesBefore a b ⊎ (a ≡ b) ⊎ ComesBefore b a
     by_place (inl before) = inl (inl before)
-    by_place (inr (inl e)) = by_number e (three_numbers a.number b.number)
+    by_place (inr (inl e)) = by_number e (cases_order a.number b.number)
     by_place (inr (inr before)) = inr (inr (inl before))
 
 -- the first latch is one,
