@@ -16,7 +16,7 @@ use Rattle.lists.proofs.Bools.{or_false_left as first_of, or_false_right as seco
 use Rattle.lists.proofs.Appends.{append_nil_left as none_left, append_nil_right as none_right}
 use Rattle.sound_designs.proofs.Driven.{clean_of}
 use Rattle.netlist_meaning.specs.FlatOf.{PortsWithoutControl, kept, left_out}
-use Rattle.flat_designs.proofs.Lists.{Pairs, pair_at, pairs_map}
+use Rattle.flat_designs.proofs.Lists.{Pairs, one_of_pairs, pairs_map}
 use Rattle.netlist_core.specs.Names.{Name, port_names}
 use Rattle.flat_designs.proofs.Valuations.{port_kept}
 use Rattle.netlist_rules.proofs.Faultless.{none_kept}
@@ -78,12 +78,4 @@ kept_or_control design (q ∷ ports) rest p (left_out c h) (inr i) = kept_or_con
 
 -- two of one name are one
 pub one_port : (ports : List Port) (i j : ℕ) (p q : Port) → Pairs OtherName ports → slice_get ports i ≡ Some p → slice_get ports j ≡ Some q → p.name ≡ q.name → i ≡ j
-one_port ports i j p q a e g same = by (order i j)
-  where
-    order : (i j : ℕ) → (i < j) ⊎ (i ≡ j) ⊎ (j < i)
-    order i j = grind arith
-
-    by : (i < j) ⊎ (i ≡ j) ⊎ (j < i) → i ≡ j
-    by (inl l) = absurd (pair_at OtherName ports i j p q a l e g (sym same))
-    by (inr (inl e)) = e
-    by (inr (inr l)) = absurd (pair_at OtherName ports j i q p a l g e same)
+one_port ports i j p q a e g same = one_of_pairs OtherName ports i j p q a e g (λ other. other (sym same)) (λ other. other same)

@@ -12,7 +12,7 @@ use Rattle.depth_walk.specs.Links.{Links, LeadsOnTo}
 use Rattle.depth_walk.specs.Order.{IsCircleOf}
 use Rattle.loop_check.specs.Links.{AreDriverLinks}
 use Rattle.loop_check.specs.Tables.{AreFirstsFor}
-use Rattle.loop_check.proofs.Nodes.{one_node}
+use Rattle.netlist_meaning.proofs.OneNode.{one_node}
 use Rattle.loop_check.proofs.Linked.{driven_at}
 
 feeds_from : (flat : Flat) (n k b : ℕ) → n < length flat.nodes → IsDrivenBy flat n k b → FlatFeeds flat (out_class flat b) (out_class flat n)

@@ -8,6 +8,7 @@ use Rattle.std.specs.Option.{option_map_or}
 use Rattle.std.proofs.lemmas.Bool.{leb-true, leb-false, le-leb, ltb-true, lt-ltb, or_cases, or_left, or_right, cases_lt}
 use Rattle.std.proofs.lemmas.List.{get_or-set_same, get_or-set_other, length-set}
 use Rattle.std.proofs.lemmas.Slice.Eq.{bytes_eq-Decides}
+use Rattle.std.proofs.Math.Bool.{or-false}
 use Rattle.netlist_core.specs.declared.model.Port.{Port}
 use Rattle.netlist_core.specs.Names.{Name, has_name, is_named}
 use Rattle.netlist_rules.specs.Drivers.{same_name_before, same_name_up_to}
@@ -56,10 +57,6 @@ least_lt c a b = both_ways (nat_lt (min a b) c) (nat_lt a c || nat_lt b c) there
 abbrev pub least_of : ℕ → Option ℕ → ℕ
 least_of line known = option_map_or (min line) known line
 
-or_false : (b : Bool) → b ≡ (b || false)
-or_false true = refl
-or_false false = refl
-
 -- two names have one number only if they are the same
 apart : (names : Numbering) (key name : Name) (k j : ℕ) → IsNumbering names → name_number names key ≡ Some k → name_number names name ≡ Some j → bytes_eq key name ≡ false → j ≢ k
 apart names key name k j numbering has_key has_name other same =
@@ -70,7 +67,7 @@ apart names key name k j numbering has_key has_name other same =
 
 module _ (test : ℕ → Bool) (joins : (a b : ℕ) → test (min a b) ≡ (test a || test b)) where
   passes_by : (line : ℕ) (known : Option ℕ) → test (least_of line known) ≡ (test line || option_map_or test known false)
-  passes_by line None = or_false (test line)
+  passes_by line None = sym (or-false (test line))
   passes_by line (Some other) = joins line other
 
   line_added : (names : Numbering) (lines new : FirstLines) (key : Name) (k line : ℕ) → IsNumbering names → name_number names key ≡ Some k → length lines.lines.items ≡ count_of names →

@@ -2,7 +2,7 @@
 use Rattle.std.proofs.Common.{◌≡◌, refl, sym, ap, subst, ◌∙◌, ℕ, suc, ◌⊎◌, inl, inr, List, [], ◌∷◌, ◌++◌, map, Bool, true, false, not, ◌||◌, true≢false, slice_get}
 use Rattle.std.specs.Prelude.{Some, Option, flat_map, option_to_list}
 use Rattle.std.specs.Bool.{then_some}
-use Rattle.std.proofs.lemmas.Option.{none-some}
+use Rattle.std.proofs.lemmas.Option.{none-some, same_Some}
 use Rattle.netlist_core.specs.declared.model.Port.{Port}
 use Rattle.netlist_core.specs.declared.model.Pin.{Pin}
 use Rattle.netlist_core.specs.declared.model.Cover.{Cover}
@@ -17,14 +17,11 @@ use Rattle.netlist_rules.specs.Drivers.{has_input, has_output, is_input_pin, is_
 use Rattle.netlist_rules.specs.ModelFaults.{AreFaultless, words_at_fault, missing_model, unknown_formals, is_portless, lacks_port, unless_named}
 use Rattle.netlist_rules.proofs.FirstModelFaults.{no_model_fault}
 use Rattle.lists.proofs.Members.{In, in_left, in_right, in_parts, in_mapped, in_map, in_flat, in_flattened, in_filtered, filtered_in}
-use Rattle.sound_designs.proofs.Sound.{same_of, in_got, is_placed, named_in, not_portless}
+use Rattle.sound_designs.proofs.Sound.{in_got, is_placed, named_in, not_portless}
 use Rattle.sound_designs.proofs.OneDriver.{Local}
 use Rattle.sound_designs.proofs.OneDriver.Local.{by_input, by_cover, by_latch, by_output}
-use Rattle.netlist_rules.proofs.Faultless.{nothing_of as none_of}
+use Rattle.netlist_rules.proofs.Faultless.{nothing_of as none_of, port_name}
 use Rattle.netlist_rules.proofs.Faultless.{some_models}
-
-abbrev named : Port → List ℕ
-named p = p.name
 
 pub clean_of : (models : List Model) → AreFaultless models → (kind : FaultKind) (m : Model) → In m models → words_at_fault kind models m ≡ []
 clean_of models a kind m i = none_of (words_at_fault kind models) models m ((no_model_fault models (some_models models a)).0 a.no_fault kind) i
@@ -72,7 +69,7 @@ pin_of_port : (o : Option Model) (test : Option Model → Pin → Bool) (line : 
 pin_of_port o test line pin p e = by (test o pin) refl e
   where
     by : (b : Bool) → test o pin ≡ b → then_some b (at_line line pin.actual) ≡ Some p → (test o pin ≡ true) × (p ≡ at_line line pin.actual)
-    by true h f = (h, sym (same_of f))
+    by true h f = (h, sym (same_Some _ _ f))
     by false h f = absurd (none-some p f)
 
 record IsActual (models : List Model) (m : Model) (test : Option Model → Pin → Bool) (name : List ℕ) : Type 0 where
@@ -90,7 +87,7 @@ is_actual models m test p i =
     let (pin, x, e) = in_filtered (actual_if (test (model_named models s.model)) s.line) s.pins p k in
     let (number, is_line) = got_from m.subckts s j in
     let (passes, same) = pin_of_port (model_named models s.model) test s.line pin p e in
-    record { number = number; line = s; pin = pin; is_line = is_line; is_pin = x; passes = passes; is_name = sym (ap named same) }
+    record { number = number; line = s; pin = pin; is_line = is_line; is_pin = x; passes = passes; is_name = sym (ap port_name same) }
 
 unknown_not : (a b : Bool) → not (a || b) ≡ true → (a ≡ true) ⊎ (b ≡ true) → ⊥
 unknown_not true b e (inl f) = true≢false (sym e)
@@ -108,13 +105,13 @@ driver_local models a m i p j = elim (in_parts (drivers_of models m) (actuals mo
 ]
   where
     of_input : In p (inputs_of m) → Local models m p.name
-    of_input x = by_input (in_map named (m.ins ++ m.clocks) p (first_is [] (m.ins ++ m.clocks) p x))
+    of_input x = by_input (in_map port_name (m.ins ++ m.clocks) p (first_is [] (m.ins ++ m.clocks) p x))
 
     of_cover : In p (map cover_output m.covers) → Local models m p.name
-    of_cover x = let (c, k, e) = in_mapped cover_output m.covers p x in let (n, g) = got_from m.covers c k in by_cover n c g (sym (ap named e))
+    of_cover x = let (c, k, e) = in_mapped cover_output m.covers p x in let (n, g) = got_from m.covers c k in by_cover n c g (sym (ap port_name e))
 
     of_latch : In p (map latch_output m.latches) → Local models m p.name
-    of_latch x = let (c, k, e) = in_mapped latch_output m.latches p x in let (n, g) = got_from m.latches c k in by_latch n c g (sym (ap named e))
+    of_latch x = let (c, k, e) = in_mapped latch_output m.latches p x in let (n, g) = got_from m.latches c k in by_latch n c g (sym (ap port_name e))
 
     of_actual : In p (actuals models is_output_pin m) → Local models m p.name
     of_actual x = let r : IsActual models m is_output_pin p.name = is_actual models m is_output_pin p x in by_output r.number r.line r.pin r.is_line r.is_pin r.passes r.is_name
@@ -132,7 +129,7 @@ driver_local models a m i p j = elim (in_parts (drivers_of models m) (actuals mo
 reading_local : (models : List Model) → AreFaultless models → (m : Model) → In m models → (r : Port) → In r (readings_of models m) → Local models m r.name
 reading_local models a m i r j =
     let name : In r.name (port_names drivers) = named_in drivers r.name (by (is_named drivers r.name) refl) in
-    let (p, k, e) = in_mapped named drivers r.name name in
+    let (p, k, e) = in_mapped port_name drivers r.name name in
     subst (Local models m) (sym e) (driver_local models a m i p k)
   where
     drivers : List Port
@@ -171,7 +168,7 @@ name_local models a m i name x = elim (in_parts (port_names m.ins ++ port_names 
     read r j = reading_local models a m i r j
 
     of_output : In name (port_names m.outs) → Local models m name
-    of_output w = let (q, k, e) = in_mapped named m.outs name w in
+    of_output w = let (q, k, e) = in_mapped port_name m.outs name w in
         subst (Local models m) (sym e) (read q (in_left _ _ q (in_left _ _ q (in_left m.outs _ q k))))
 
     of_cover : In name (flat_map (λ (c : Cover). c.ins ++ c.out ∷ []) m.covers) → Local models m name

@@ -5,8 +5,8 @@ use Rattle.std.specs.Prelude.{Some, None, Option, bytes_eq, option_map, unwrap_o
 use Rattle.std.specs.Bool.{then_some}
 use Rattle.std.proofs.lemmas.Slice.Eq.{bytes_eq-Decides}
 use Rattle.std.proofs.lemmas.Bool.Decides.{Decides-eqb}
-use Rattle.std.proofs.lemmas.Option.{none-some}
-use Rattle.std.proofs.lemmas.List.{append_assoc}
+use Rattle.std.proofs.lemmas.Option.{none-some, same_Some}
+use Rattle.std.proofs.lemmas.List.{append_assoc, append-nil}
 use Rattle.netlist_core.specs.declared.model.Port.{Port}
 use Rattle.netlist_core.specs.declared.model.Pin.{Pin}
 use Rattle.netlist_core.specs.declared.model.Subckt.{Subckt}
@@ -33,7 +33,7 @@ use Rattle.sound_designs.specs.OneDriver.{Driver, Drives}
 use Rattle.sound_designs.specs.OneDriver.Driver.{port, cover, latch}
 use Rattle.sound_designs.specs.OneDriver.Drives.{of_port, of_cover, of_latch}
 use Rattle.sound_designs.specs.Order.{CoverAt, IsCoverAt, IsCoverOrder, OrderedHaveAValuation}
-use Rattle.sound_designs.proofs.Sound.{in_got, in_models, same_of, formals_named}
+use Rattle.sound_designs.proofs.Sound.{in_got, in_models, formals_named}
 use Rattle.sound_designs.proofs.Local.{Apart, no_repeat}
 use Rattle.sound_designs.proofs.OneDriver.{at_most_one_driver}
 use Rattle.sound_designs.proofs.Driven.{got_from, clean_of, names_left}
@@ -66,7 +66,7 @@ pick design f place name = by (model_at design place) refl
     by None e = no_net (λ n. none-some n.0 (sym e ∙ n.1))
     by (Some m) e = elim (is_in name (model_names m)) as (λ _. Pick design (net_at place name)) [
       | inl i ↦ (let (d, s, x, j) = have_drivers design f (net_at place name) (m, e, contains_from (model_names m) name i) in driven d (record { source = s; drives = x; joined = j }))
-      | inr away ↦ no_net (λ n. away (subst (λ (v : Model). In name (model_names v)) (same_of (sym n.1 ∙ e)) (in_from (model_names n.0) name n.2)))
+      | inr away ↦ no_net (λ n. away (subst (λ (v : Model). In name (model_names v)) (same_Some _ _ (sym n.1 ∙ e)) (in_from (model_names n.0) name n.2)))
     ]
 
 -- values of covers that are known
@@ -135,13 +135,9 @@ unfolding run
 run_append design g ks [] ys = refl
 run_append design g ks (x ∷ xs) ys = run_append design g (ks ++ step_with g ks x (cover_found design x)) xs ys
 
-append_nil : {X : Type 0} (xs : List X) → xs ++ [] ≡ xs
-append_nil [] = refl
-append_nil (x ∷ xs) = ap (λ l. x ∷ l) (append_nil xs)
-
 run_more : (design : Design) (g : Given design) (ks : List Known) (xs : List CoverAt) → (more : List Known) × (run g ks xs ≡ ks ++ more)
 unfolding run
-run_more design g ks [] = ([], sym (append_nil ks))
+run_more design g ks [] = ([], sym (append-nil ks))
 run_more design g ks (x ∷ xs) =
     let (more, e) = run_more design g (ks ++ step_with g ks x (cover_found design x)) xs in
     (step_with g ks x (cover_found design x) ++ more, e ∙ append_assoc ks (step_with g ks x (cover_found design x)) more)

@@ -5,6 +5,7 @@ use Rattle.std.specs.Bool.{then_some}
 use Rattle.std.specs.List.{list_any}
 use Rattle.std.proofs.lemmas.Slice.Eq.{bytes_eq-Decides}
 use Rattle.std.proofs.lemmas.Option.{none-some, same_Some}
+use Rattle.std.proofs.lemmas.Bool.{cases_order, cases_lt}
 use Rattle.netlist_core.specs.declared.model.Port.{Port}
 use Rattle.netlist_core.specs.declared.model.Pin.{Pin}
 use Rattle.netlist_core.specs.declared.model.Subckt.{Subckt}
@@ -31,9 +32,6 @@ use Rattle.sound_designs.specs.Laws.{FaultlessAreNotRecursive, FaultlessNameForm
 use Rattle.netlist_rules.proofs.Faultless.{nothing_of as none_of}
 use Rattle.netlist_rules.proofs.Faultless.{some_models}
 
-pub same_of : {X : Type 0} {x y : X} → Some x ≡ Some y → x ≡ y
-same_of {x = x} {y = y} e = same_Some x y e
-
 -- a name finds the model
 abbrev IsFound : List Model → Model → Type 0
 IsFound models m = model_named models m.name ≡ Some m
@@ -41,7 +39,7 @@ IsFound models m = model_named models m.name ≡ Some m
 found_first : (models : List Model) (m : Model) → slice_get models 0 ≡ Some m → IsFound models m
 found_first [] m e = absurd (none-some m e)
 found_first (x ∷ xs) m e =
-    let same : x ≡ m = same_of e in
+    let same : x ≡ m = same_Some _ _ e in
     subst (λ v. model_named (x ∷ xs) v.name ≡ Some v) same (ap (λ b. cond b (Some x) (model_named xs x.name)) (bytes_eq-same x.name))
 
 found_again : (models : List Model) (name : List ℕ) (m : Model) → model_named models name ≡ Some m → IsFound models m
@@ -49,7 +47,7 @@ found_again models name m e = subst (λ v. model_named models v ≡ Some m) (sym
 
 pub in_got : {X : Type 0} (xs : List X) (k : ℕ) (x : X) → slice_get xs k ≡ Some x → In x xs
 in_got [] k x e = absurd (none-some x e)
-in_got (y ∷ ys) zero x e = inl (sym (same_of e))
+in_got (y ∷ ys) zero x e = inl (sym (same_Some _ _ e))
 in_got (y ∷ ys) (suc k) x e = inr (in_got ys k x e)
 
 -- a line of that number, with the model that it places
@@ -64,7 +62,7 @@ places design outer number inner e =
     record { line = line; is_line = is_line; is_found = found }
 
 found_below : (design : Design) (place : Place) (m b : Model) → IsFound design.models m → model_below design place m ≡ Some b → IsFound design.models b
-found_below design [] m b f e = subst (IsFound design.models) (same_of e) f
+found_below design [] m b f e = subst (IsFound design.models) (same_Some _ _ e) f
 found_below design (number ∷ place) m b f e =
     let (n, is_n, rest) = and_then-from (model_below design place) (model_placed design m number) b e in
     let p : Places design m number n = places design m number n is_n in
@@ -88,7 +86,7 @@ leads : (design : Design) (number : ℕ) (place : Place) (a b : Model) → IsFou
 leads design number [] a b f e =
     let (n, is_n, rest) = and_then-from (model_below design []) (model_placed design a number) b e in
     let p : Places design a number n = places design a number n is_n in
-    ([], subst (λ (v : Model). HasSubcktOf design.models a.name v.name) (same_of rest) (step design a number n f p))
+    ([], subst (λ (v : Model). HasSubcktOf design.models a.name v.name) (same_Some _ _ rest) (step design a number n f p))
 leads design number (next ∷ place) a b f e =
     let (n, is_n, rest) = and_then-from (model_below design (next ∷ place)) (model_placed design a number) b e in
     let p : Places design a number n = places design a number n is_n in
@@ -173,12 +171,6 @@ formals_named design a outer inner h =
     (placed, there, contains_from (model_names placed) inner.name (subst (λ v. In v (model_names placed)) (sym h.is_formal) (has_port placed h.pin.formal has)))
 
 -- where no line is that of the fault, none reads or drives a clock net
-pub order_of : (a b : ℕ) → (a < b) ⊎ (a ≡ b) ⊎ (b < a)
-order_of zero zero = inr (inl refl)
-order_of zero (suc b) = inl (omega arith)
-order_of (suc a) zero = inr (inr (omega arith))
-order_of (suc a) (suc b) = elim (order_of a b) as (λ _. (suc a < suc b) ⊎ (suc a ≡ suc b) ⊎ (suc b < suc a)) [ inl l ↦ inl (omega arith) | inr (inl e) ↦ inr (inl (ap suc e)) | inr (inr g) ↦ inr (inr (omega arith)) ]
-
 Unused : Design → ℕ → ℕ → Type 0
 Unused design line position = (net : Net) → ¬ IsClockUse design line position net
 
@@ -187,13 +179,12 @@ unfolding Unused
 read_here design none line lines position words net used = none line net.name (record { position = position; net = net; is_use = used; is_earliest = first; is_word = refl })
   where
     first : (l p : ℕ) (other : Net) → IsClockUse design l p other → (line < l) ⊎ ((line ≡ l) × (position ≤ p))
-    first l p other u = elim (order_of line l) as (λ _. (line < l) ⊎ ((line ≡ l) × (position ≤ p))) [
-      | inl less ↦ inl less
-      | inr (inl same) ↦ elim (order_of p position) as (λ _. (line < l) ⊎ ((line ≡ l) × (position ≤ p))) [
+    first l p other u = elim (cases_order line l) as (λ _. (line < l) ⊎ ((line ≡ l) × (position ≤ p))) [
+      | inl same ↦ elim (cases_lt p position) as (λ _. (line < l) ⊎ ((line ≡ l) × (position ≤ p))) [
         | inl before ↦ absurd (words p before other (subst (λ v. IsClockUse design v p other) (sym same) u))
-        | inr (inl here) ↦ inr (same, omega arith)
-        | inr (inr after) ↦ inr (same, omega arith)
+        | inr after ↦ inr (same, after)
       ]
+      | inr (inl less) ↦ inl less
       | inr (inr more) ↦ absurd (lines l p more other u)
     ]
 
