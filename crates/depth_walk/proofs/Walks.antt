@@ -197,11 +197,8 @@ closed links marks next stack order n w less some top done = record {
         let below : i + 1 < length stack = lower i l at in
         (omega (arith, shorter), get_or-take (length stack - 1) stack i 0 (omega arith) ∙ at)
       where
-        last_or_not : (i j : ℕ) → i < j → (i + 1 < j) ⊎ (i ≡ j - 1)
-        last_or_not i j l = grind arith
-
         lower : (i : ℕ) → i < length stack → get_or stack i 0 ≡ m → i + 1 < length stack
-        lower i l at = elim (last_or_not i (length stack) l) as (λ _. i + 1 < length stack) [ inl b ↦ b | inr e ↦ absurd (other (sym at ∙ ap (λ v. get_or stack v 0) e ∙ top)) ]
+        lower i l at = elim (cases_lt (i + 1) (length stack)) as (λ _. i + 1 < length stack) [ inl b ↦ b | inr past ↦ absurd (let e : i ≡ length stack - 1 = omega arith in other (sym at ∙ ap (λ v. get_or stack v 0) e ∙ top)) ]
 
     done_at : (i : ℕ) → (i < length order) ⊎ (i ≡ length order) → mark_of (set marks n (Done (length order))) (get_or (order ++ n ∷ []) i 0) ≡ Done i
     done_at i (inl l) = ap (mark_of (set marks n (Done (length order)))) (get_or_append_left order (n ∷ []) 0 i l) ∙ kept (get_or order i 0) i (w.done_at i l)

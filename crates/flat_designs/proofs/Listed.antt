@@ -1,6 +1,5 @@
 -- The list of places has each place once, that of names each name, that of nets each net.
 use Rattle.std.proofs.Common.{ℕ, zero, suc, ◌≡◌, ◌≢◌, ◌<◌, ◌+◌, ◌⊎◌, inl, inr, List, [], ◌∷◌, ◌++◌, Bool, true, false, cond, Option, Some, None, slice_get, map, flat_map, length, option_and_then, option_to_list, nat_le, bytes_eq, is_some, refl, sym, ap, ap₂, ◌∙◌, subst, arith, true≢false}
-use Rattle.std.specs.Prelude.{IsSome}
 use Rattle.std.proofs.lemmas.Slice.Eq.{bytes_eq-Decides}
 use Rattle.std.proofs.lemmas.Option.{none-some, same_Some}
 use Rattle.std.proofs.lemmas.List.{map-append}
@@ -16,7 +15,7 @@ use Rattle.netlist_meaning.specs.Places.{Place, main_model, model_placed, model_
 use Rattle.netlist_meaning.specs.Nets.{Net, net_at, model_names, IsNet}
 use Rattle.netlist_meaning.specs.Laws.{IsNotRecursive}
 use Rattle.netlist_meaning.proofs.Names.{and_then-from}
-use Rattle.netlist_meaning.proofs.Depth.{places_are_shallow}
+use Rattle.netlist_meaning.proofs.Depth.{places_are_shallow, some_from}
 use Rattle.netlist_meaning.proofs.PlaceOrder.{places_are_ordered}
 use Rattle.lists.proofs.Members.{In, in_left, in_right, in_parts, in_map, in_mapped, in_flat, in_flattened, in_from, contains_from}
 use Rattle.netlist_meaning.specs.InOrder.{of_some, places_in_lines, places_below, places_in_order, cover_words, latch_words, subckt_words, model_words, put_by_line, by_line, cons_unless, without_name, first_names, names_in_order, nets_at, nets_in_order}
@@ -116,10 +115,6 @@ ascend design = by (main_model design)
     by None = tt
     by (Some m) = ascend_below design (length design.models) m
 
-pub some_is : {X : Type 0} (o : Option X) → IsSome o → (x : X) × (o ≡ Some x)
-some_is None e = absurd (true≢false (sym e))
-some_is (Some x) e = (x, refl)
-
 pub place_is : (design : Design) (place : Place) → In place (places_in_order design) → (b : Model) × (model_at design place ≡ Some b)
 place_is design place i = by (main_model design) i
   where
@@ -135,7 +130,7 @@ place_listed design away place b e =
 
 pub places_are_listed : PlacesAreListed
 places_are_listed design away = record {
-  all = λ place. ((λ c. let (b, e) = place_is design place (in_from _ place c) in ap is_some e), (λ s. let (b, e) = some_is (model_at design place) s in contains_from _ place (place_listed design away place b e)));
+  all = λ place. ((λ c. let (b, e) = place_is design place (in_from _ place c) in ap is_some e), (λ s. let (b, e) = some_from (model_at design place) s in contains_from _ place (place_listed design away place b e)));
   ascend = all_pairs IsBefore (places_in_order design) (ascend design);
 }
 

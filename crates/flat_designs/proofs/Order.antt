@@ -2,12 +2,12 @@
 use Rattle.std.proofs.Common.{ℕ, suc, ◌≡◌, ◌<◌, ◌≤◌, inl, inr, List, [], ◌∷◌, ◌++◌, Bool, true, false, cond, ◌||◌, ◌==◌, nat_le, slice_get, length, bytes_eq, refl, sym, ap, ap₂, ◌∙◌, subst, arith, true≢false, drop}
 use Rattle.std.specs.Prelude.{AllPairs}
 use Rattle.std.specs.List.{list_any}
-use Rattle.std.proofs.lemmas.Slice.Eq.{bytes_eq-Decides}
 use Rattle.std.proofs.lemmas.Bool.Decides.{leb_tells, Decides-eqb}
 use Rattle.std.proofs.lemmas.Option.{slice_get_within, get_or_from_slice_get, same_Some}
 use Rattle.netlist_core.specs.declared.model.Port.{Port}
 use Rattle.netlist_core.specs.Names.{Name}
 use Rattle.lists.proofs.Members.{In}
+use Rattle.lists.proofs.Names.{bytes_eq-turned}
 use Rattle.sound_designs.proofs.Driven.{got_from}
 use Rattle.netlist_meaning.specs.InOrder.{put_by_line, by_line, cons_when, words_on_line, cons_unless, without_name, first_names}
 use Rattle.flat_designs.specs.Laws.{StandByLine, WordsStandByLine, append_unless, NamesComeWhereFirst}
@@ -136,20 +136,12 @@ names_come_where_first (n ∷ names) name =
     ap (λ ns. n ∷ without_name n ns) (names_come_where_first names name)
     ∙ by (list_any (bytes_eq name) names) (bytes_eq name n) refl
   where
-    same : (b : Bool) → bytes_eq name n ≡ b → bytes_eq n name ≡ b
-    same true e = (bytes_eq-Decides n name).1 (sym ((bytes_eq-Decides name n).0 e))
-    same false e = other (bytes_eq n name) refl
-      where
-        other : (c : Bool) → bytes_eq n name ≡ c → bytes_eq n name ≡ false
-        other true h = absurd (true≢false (sym ((bytes_eq-Decides name n).1 (sym ((bytes_eq-Decides n name).0 h))) ∙ e))
-        other false h = h
-
     by : (seen here : Bool) → bytes_eq name n ≡ here → n ∷ without_name n (append_unless seen (first_names names) name) ≡ append_unless (bytes_eq name n || seen) (n ∷ without_name n (first_names names)) name
     by true true e = ap (λ b. append_unless (b || true) (n ∷ without_name n (first_names names)) name) (sym e)
     by true false e = ap (λ b. append_unless (b || true) (n ∷ without_name n (first_names names)) name) (sym e)
     by false true e =
-        ap (λ ns. n ∷ ns) (without_last n (first_names names) name ∙ ap (λ b. append_unless b (without_name n (first_names names)) name) (same true e))
+        ap (λ ns. n ∷ ns) (without_last n (first_names names) name ∙ ap (λ b. append_unless b (without_name n (first_names names)) name) (bytes_eq-turned n name ∙ e))
         ∙ ap (λ b. append_unless (b || false) (n ∷ without_name n (first_names names)) name) (sym e)
     by false false e =
-        ap (λ ns. n ∷ ns) (without_last n (first_names names) name ∙ ap (λ b. append_unless b (without_name n (first_names names)) name) (same false e))
+        ap (λ ns. n ∷ ns) (without_last n (first_names names) name ∙ ap (λ b. append_unless b (without_name n (first_names names)) name) (bytes_eq-turned n name ∙ e))
         ∙ ap (λ b. append_unless (b || false) (n ∷ without_name n (first_names names)) name) (sym e)

@@ -1,10 +1,11 @@
 -- Steps of the search.
-use Rattle.std.proofs.Common.{◌≡◌, ◌≢◌, refl, sym, ap, subst, ◌∙◌, ℕ, zero, suc, ◌+◌, ◌<◌, ◌≤◌, ◌⊎◌, inl, inr, List, [], ◌∷◌, ◌++◌, set, length, get_or, Option, Some, None, cond, count_by, replicate, arith}
+use Rattle.std.proofs.Common.{◌≡◌, ◌≢◌, refl, sym, ap, subst, ◌∙◌, ℕ, zero, suc, ◌+◌, ◌<◌, ◌≤◌, ◌⊎◌, inl, inr, List, [], ◌∷◌, ◌++◌, set, length, get_or, Option, Some, None, cond, count_by, replicate, arith, ◌*◌}
 use Rattle.std.specs.Prelude.{is_none}
 use Rattle.std.proofs.lemmas.List.{get_or_append_left, get_or_push, length_push, get_or-set_same, get_or-set_other, length-set, length-replicate, get_or_default}
 use Rattle.std.proofs.lemmas.Option.{none-some, same_Some}
-use Rattle.std.proofs.lemmas.List.Sums.{sum_by-set, sum_by-cons}
+use Rattle.std.proofs.lemmas.List.Sums.{sum_by-set}
 use Rattle.std.proofs.lemmas.Bool.{cases_eq}
+use Rattle.std.proofs.lemmas.List.Folds.{sum_by-replicate}
 use Rattle.lists.proofs.Numbers.{less_or_last}
 use Rattle.netlist_core.specs.declared.model.Model.{Model}
 use Rattle.model_order.specs.Numbers.{number_placed, Places, PlacesSomewhere, LeadsBy}
@@ -18,8 +19,7 @@ none_in (suc m) zero = refl
 none_in (suc m) (suc n) = none_in m n
 
 all_none : (m : ℕ) → count_by is_none (replicate m (let o : Option ℕ = None in o)) ≡ m
-all_none zero = refl
-all_none (suc m) = let e = sum_by-cons (λ (x : Option ℕ). cond {A = ℕ} (is_none x) 1 0) None (replicate m None) in let r = all_none m in omega arith
+all_none m = let e : count_by is_none (replicate m (let o : Option ℕ = None in o)) ≡ m * 1 = sum_by-replicate (λ (x : Option ℕ). cond {A = ℕ} (is_none x) 1 0) m None in omega arith
 
 -- one fewer is without a place
 placed_once : (places : List (Option ℕ)) (n p : ℕ) → n < length places → get_or places n None ≡ None → count_by is_none (set places n (Some p)) + 1 ≡ count_by is_none places

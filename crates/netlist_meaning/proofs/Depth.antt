@@ -128,7 +128,7 @@ length-along design (number ∷ place) model b e =
     let same : length (names_of (names_along design place) (model_placed design model number)) ≡ length place + 1 = ap (λ o. length (names_of (names_along design place) o)) is_placed ∙ long in
     omega arith
 
-some_from : {X : Type 0} (o : Option X) → is_some o ≡ true → (x : X) × (o ≡ Some x)
+pub some_from : {X : Type 0} (o : Option X) → is_some o ≡ true → (x : X) × (o ≡ Some x)
 some_from None e = absurd (true≢false (sym e))
 some_from (Some x) e = (x, refl)
 

@@ -1,6 +1,6 @@
 -- Names that stand twice on one line.
-use Rattle.std.proofs.Common.{◌≡◌, refl, sym, ap, ap₂, ◌∙◌, ℕ, ◌+◌, ◌<◌, ◌≤◌, Bool, true, false, not, ◌&&◌, ◌||◌, List, [], ◌∷◌, ◌++◌, length, take, get_or, map, Option, arith, append_assoc}
-use Rattle.std.proofs.Math.Bool.{and-true, and-false, or-false}
+use Rattle.std.proofs.Common.{◌≡◌, refl, sym, ap, ap₂, ◌∙◌, ℕ, ◌+◌, ◌<◌, ◌≤◌, Bool, false, not, ◌&&◌, ◌||◌, List, [], ◌∷◌, ◌++◌, length, take, get_or, map, Option, arith, append_assoc}
+use Rattle.std.proofs.Math.Bool.{and-true, and-false, or-false, or_comm, or_assoc, not-not}
 use Rattle.std.proofs.lemmas.Bool.{le-leb, le-ltb}
 use Rattle.std.proofs.lemmas.List.{append-nil, take_more}
 use Rattle.std.specs.Bool.{then_some}
@@ -41,14 +41,8 @@ repeated_last line pin before [] up_to =
     ∙ ap (λ b. option_to_list (then_some b (formal_at line pin))) (earlier_is line pin before [] up_to ∙ sym (or-false (is_named before pin.formal)))
 repeated_last line pin before (first ∷ pins) up_to =
     ap₂ (λ a b. option_to_list (then_some a (formal_at line first)) ++ b) (earlier_is line first before (pins ++ pin ∷ []) up_to ∙ sym (earlier_is line first before pins up_to)) (repeated_last line pin (formal_at line first ∷ before) pins (omega arith, up_to))
-    ∙ ap (λ b. option_to_list (then_some (stands_earlier before (formal_at line first) (map (formal_at line) pins)) (formal_at line first)) ++ (repeats_after (formal_at line first ∷ before) (map (formal_at line) pins) ++ option_to_list (then_some b (formal_at line pin)))) (turned (has_name pin.formal (formal_at line first)) (is_named before pin.formal) (is_named (map (formal_at line) pins) pin.formal))
+    ∙ ap (λ b. option_to_list (then_some (stands_earlier before (formal_at line first) (map (formal_at line) pins)) (formal_at line first)) ++ (repeats_after (formal_at line first ∷ before) (map (formal_at line) pins) ++ option_to_list (then_some b (formal_at line pin)))) (ap (λ c. c || is_named (map (formal_at line) pins) pin.formal) (or_comm (has_name pin.formal (formal_at line first)) (is_named before pin.formal)) ∙ or_assoc (is_named before pin.formal) (has_name pin.formal (formal_at line first)) (is_named (map (formal_at line) pins) pin.formal))
     ∙ sym (append_assoc (option_to_list (then_some (stands_earlier before (formal_at line first) (map (formal_at line) pins)) (formal_at line first))) (repeats_after (formal_at line first ∷ before) (map (formal_at line) pins)) _)
-  where
-    turned : (a b c : Bool) → ((a || b) || c) ≡ (b || (a || c))
-    turned true true c = refl
-    turned true false c = refl
-    turned false true c = refl
-    turned false false c = refl
 
 pub repeats_push : (line : ℕ) (pin : Pin) (pins : List Pin) → repeats (map (formal_at line) (pins ++ pin ∷ [])) ≡ repeats (map (formal_at line) pins) ++ option_to_list (then_some (is_named (map (formal_at line) pins) pin.formal) (formal_at line pin))
 repeats_push line pin pins = repeated_last line pin [] pins tt
@@ -57,13 +51,9 @@ pub repeated_more : (line : ℕ) (found was now : Option Port) (pins : List Pin)
 repeated_more line found was now pins i pin old name is_new within is named has added before after =
     after
     ∙ ap (λ o. earliest_after o (option_to_list (then_some (not is_new) (at_line line name)))) before
-    ∙ ap (λ b. earliest_after (earliest_after found (repeats (map (formal_at line) (take i pins)))) (option_to_list (then_some b (at_line line name)))) (ap not added ∙ twice (holds_name old name) ∙ has name)
+    ∙ ap (λ b. earliest_after (earliest_after found (repeats (map (formal_at line) (take i pins)))) (option_to_list (then_some b (at_line line name)))) (ap not added ∙ not-not (holds_name old name) ∙ has name)
     ∙ ap (λ (n : List ℕ). earliest_after (earliest_after found (repeats (map (formal_at line) (take i pins)))) (option_to_list (then_some (is_named (map (formal_at line) (take i pins)) n) (at_line line n)))) named
     ∙ earliest_after-append found (repeats (map (formal_at line) (take i pins))) (option_to_list (then_some (is_named (map (formal_at line) (take i pins)) pin.formal) (formal_at line pin)))
     ∙ ap (earliest_after found) (sym (repeats_push line pin (take i pins)))
     ∙ ap (λ (p : Pin). earliest_after found (repeats (map (formal_at line) (take i pins ++ p ∷ [])))) is
     ∙ ap (λ ps. earliest_after found (repeats (map (formal_at line) ps))) (sym (take_more pins i pin within))
-  where
-    twice : (b : Bool) → not (not b) ≡ b
-    twice true = refl
-    twice false = refl

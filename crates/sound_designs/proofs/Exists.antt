@@ -42,7 +42,7 @@ use Rattle.lists.proofs.Bools.{or_false_left as first_of}
 use Rattle.lists.proofs.Appends.{append_nil_left as none_left, append_nil_right as none_right}
 use Rattle.sound_designs.proofs.Ordered.{same_map, in_covers}
 use Rattle.sound_designs.proofs.NoLoop.{split_at}
-use Rattle.std.proofs.lemmas.Bool.{and_parts as both_true}
+use Rattle.std.proofs.lemmas.Bool.{and_parts as both_true, false_from_ne_true}
 use Rattle.netlist_rules.proofs.Faultless.{none_kept}
 use Rattle.std.proofs.Math.Bool.{or-false as or_nil}
 
@@ -215,11 +215,7 @@ keys_in design g ks (x ∷ xs) at e = elim (keys_in design g (ks ++ step_with g 
 
 not_key : (design : Design) (g : Given design) (front : List CoverAt) (at : CoverAt) → ¬ In at front → has_key (run g [] front) at.place at.number ≡ false
 unfolding has_key
-not_key design g front at away = by (has_key (run g [] front) at.place at.number) refl
-  where
-    by : (b : Bool) → has_key (run g [] front) at.place at.number ≡ b → b ≡ false
-    by false h = refl
-    by true h = elim (keys_in design g [] front at h) as (λ _. true ≡ false) [ inl f ↦ sym f | inr i ↦ absurd (away i) ]
+not_key design g front at away = false_from_ne_true (has_key (run g [] front) at.place at.number) (λ h. elim (keys_in design g [] front at h) as (λ _. ⊥) [ inl f ↦ true≢false (sym f) | inr i ↦ away i ])
 
 -- the values when a cover is reached, and then
 record Reached (design : Design) (g : Given design) (order front : List CoverAt) (at : CoverAt) (c : Cover) : Type 0 where

@@ -1,5 +1,5 @@
 -- The drivers of one model.
-use Rattle.std.proofs.Common.{◌≡◌, ◌≢◌, refl, sym, ap, subst, ◌∙◌, ℕ, zero, suc, ◌<◌, ◌≤◌, inl, inr, List, [], ◌∷◌, ◌++◌, map, Bool, true, false, ◌&&◌, true≢false, arith, slice_get}
+use Rattle.std.proofs.Common.{◌≡◌, ◌≢◌, refl, sym, ap, subst, ◌∙◌, ℕ, zero, suc, ◌<◌, ◌≤◌, inl, inr, List, [], ◌∷◌, ◌++◌, map, Bool, false, ◌&&◌, arith, slice_get}
 use Rattle.std.specs.Prelude.{Some, None, Option, flat_map, filter_map, option_to_list, nat_le, nat_lt}
 use Rattle.std.specs.Bool.{then_some}
 use Rattle.std.specs.List.{list_any, cons_option}
@@ -20,18 +20,10 @@ not_any test (y ∷ ys) x e (inr later) = not_any test ys x (second_of (test y) 
 
 -- two ports of one name
 pub not_up_to : (p q : Port) → same_name_up_to p q ≡ false → q.name ≡ p.name → p.line < q.line
-not_up_to p q e same = by (nat_le q.line p.line) refl (ap (λ b. b && nat_le q.line p.line) (sym ((bytes_eq-Decides q.name p.name).1 same)) ∙ e)
-  where
-    by : (b : Bool) → nat_le q.line p.line ≡ b → b ≡ false → p.line < q.line
-    by true h f = absurd (true≢false f)
-    by false h f = leb-false q.line p.line h
+not_up_to p q e same = leb-false q.line p.line (ap (λ b. b && nat_le q.line p.line) (sym ((bytes_eq-Decides q.name p.name).1 same)) ∙ e)
 
 pub not_before : (p q : Port) → same_name_before p q ≡ false → q.name ≡ p.name → p.line ≤ q.line
-not_before p q e same = by (nat_lt q.line p.line) refl (ap (λ b. b && nat_lt q.line p.line) (sym ((bytes_eq-Decides q.name p.name).1 same)) ∙ e)
-  where
-    by : (b : Bool) → nat_lt q.line p.line ≡ b → b ≡ false → p.line ≤ q.line
-    by true h f = absurd (true≢false f)
-    by false h f = ltb-false q.line p.line h
+not_before p q e same = ltb-false q.line p.line (ap (λ b. b && nat_lt q.line p.line) (sym ((bytes_eq-Decides q.name p.name).1 same)) ∙ e)
 
 -- no name twice
 abbrev pub Apart : List Port → Type 0

@@ -5,7 +5,7 @@ use Rattle.std.specs.Bool.{then_some}
 use Rattle.std.specs.List.{list_any}
 use Rattle.std.proofs.lemmas.Slice.Eq.{bytes_eq-Decides}
 use Rattle.std.proofs.lemmas.Option.{none-some, same_Some}
-use Rattle.std.proofs.lemmas.Bool.{cases_order, cases_lt}
+use Rattle.std.proofs.lemmas.Bool.{cases_order, cases_lt, false_from_ne_true}
 use Rattle.netlist_core.specs.declared.model.Port.{Port}
 use Rattle.netlist_core.specs.declared.model.Pin.{Pin}
 use Rattle.netlist_core.specs.declared.model.Subckt.{Subckt}
@@ -149,11 +149,7 @@ has_port m name e = by (has_input name m) (has_output name m) refl refl e
     by false false h k t = absurd (true≢false t)
 
 pub not_portless : (o : Option Model) (line : ℕ) (pins : List Pin) (pin : Pin) → filter_map (formal_if (is_portless o) line) pins ≡ [] → In pin pins → is_portless o pin ≡ false
-not_portless o line pins pin e i = by (is_portless o pin) refl
-  where
-    by : (b : Bool) → is_portless o pin ≡ b → b ≡ false
-    by false h = refl
-    by true h = absurd (subst (λ v. In (at_line line pin.formal) v) e (filtered_in (formal_if (is_portless o) line) pins pin (at_line line pin.formal) i (ap (λ b. then_some b (at_line line pin.formal)) h)))
+not_portless o line pins pin e i = false_from_ne_true (is_portless o pin) (λ h. subst (λ v. In (at_line line pin.formal) v) e (filtered_in (formal_if (is_portless o) line) pins pin (at_line line pin.formal) i (ap (λ b. then_some b (at_line line pin.formal)) h)))
 
 pub formals_named : (design : Design) → AreFaultless design.models → (outer inner : Net) → IsPinned design outer inner → IsNet design inner
 formals_named design a outer inner h =
