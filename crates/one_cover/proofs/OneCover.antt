@@ -101,14 +101,14 @@ solves a b y rows on design ab ay by h p q state =
         subst (λ c. bits place c.out ≡ cover_value c.rows c.on (map (bits place) c.ins)) (sym is_cover) (the_one place)
 
 -- a row of two bits
-first : List Bool → Bool
-first row = get_or row 0 false
+pub first_bit : List Bool → Bool
+first_bit row = get_or row 0 false
 
-second : List Bool → Bool
-second row = get_or row 1 false
+second_bit : List Bool → Bool
+second_bit row = get_or row 1 false
 
-two_bits : (row : List Bool) → length row ≡ 2 → row ≡ first row ∷ second row ∷ []
-unfolding first second
+two_bits : (row : List Bool) → length row ≡ 2 → row ≡ first_bit row ∷ second_bit row ∷ []
+unfolding first_bit second_bit
 two_bits [] e = absurd (omega arith)
 two_bits (p ∷ []) e = absurd (omega arith)
 two_bits (p ∷ q ∷ []) e = refl
@@ -150,10 +150,10 @@ one_cover_computes a b y rows on design ab ay by h =
     }
   where
     run_of : List Bool → Valuation
-    run_of row = bits_of a y (cover_value rows on (first row ∷ second row ∷ [])) (first row) (second row)
+    run_of row = bits_of a y (cover_value rows on (first_bit row ∷ second_bit row ∷ [])) (first_bit row) (second_bit row)
 
     solved : (row : List Bool) (state : LatchState) → length row ≡ 2 → IsValuation design row state (run_of row)
-    solved row state long = subst (λ r. IsValuation design r state (run_of row)) (sym (two_bits row long)) (solves a b y rows on design ab ay by h (first row) (second row) state)
+    solved row state long = subst (λ r. IsValuation design r state (run_of row)) (sym (two_bits row long)) (solves a b y rows on design ab ay by h (first_bit row) (second_bit row) state)
 
 or_value : (p q : Bool) → cover_value or_cover_rows true (p ∷ q ∷ []) ≡ (p || q)
 or_value true true = refl

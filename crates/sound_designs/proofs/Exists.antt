@@ -286,7 +286,7 @@ joined_nets design f a c (followed {b = b} j k) = elim (joined_nets design f a b
 ]
 
 -- the IN names are distinct inputs
-no_double : (test : Port → Bool) (before ports : List Port) → doubles_after test before ports ≡ [] → repeats_after before ports ≡ []
+pub no_double : (test : Port → Bool) (before ports : List Port) → doubles_after test before ports ≡ [] → repeats_after before ports ≡ []
 no_double test before [] e = refl
 no_double test before (x ∷ xs) e =
     let s : stands_earlier before x xs ≡ false = first_of (stands_earlier before x xs) (test x) (none_kept (stands_earlier before x xs || test x) x (none_left (option_to_list (then_some (stands_earlier before x xs || test x) x)) (doubles_after test (x ∷ before) xs) e)) in

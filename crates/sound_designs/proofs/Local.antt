@@ -8,10 +8,11 @@ use Rattle.std.proofs.lemmas.Option.{none-some, same_Some}
 use Rattle.std.proofs.lemmas.Bool.{leb-false, ltb-false}
 use Rattle.netlist_core.specs.declared.model.Port.{Port}
 use Rattle.netlist_rules.specs.Drivers.{same_name_up_to, same_name_before, stands_earlier, repeats_after, repeats}
-use Rattle.lists.proofs.Members.{In, in_left, in_right, filtered_in as in_filter}
+use Rattle.lists.proofs.Members.{In, in_left, in_right, filtered_in as in_filter, in_map, in_flat}
 use Rattle.lists.proofs.Bools.{or_false_left as first_of, or_false_right as second_of}
 use Rattle.lists.proofs.Appends.{append_nil_left as none_left, append_nil_right as none_right}
 use Rattle.netlist_rules.proofs.Faultless.{none_kept}
+use Rattle.sound_designs.proofs.Sound.{in_got}
 
 pub not_any : {X : Type 0} (test : X → Bool) (xs : List X) (x : X) → list_any test xs ≡ false → In x xs → test x ≡ false
 not_any test [] x e i = absurd i
@@ -66,9 +67,7 @@ apart_cross (x ∷ xs) ys p q a (inl same) j = λ e. a.0 q (in_right xs ys q j) 
 apart_cross (x ∷ xs) ys p q a (inr i) j = apart_cross xs ys p q a.1 i j
 
 pub got_mapped : {X Y : Type 0} (f : X → Y) (xs : List X) (i : ℕ) (x : X) → slice_get xs i ≡ Some x → In (f x) (map f xs)
-got_mapped f [] i x e = absurd (none-some x e)
-got_mapped f (y ∷ ys) zero x e = inl (ap f (sym (same_Some _ _ e)))
-got_mapped f (y ∷ ys) (suc i) x e = inr (got_mapped f ys i x e)
+got_mapped f xs i x e = in_map f xs x (in_got xs i x e)
 
 -- of a list of elements with a port each, two with one name are one
 pub same_place : {X : Type 0} (f : X → Port) (xs : List X) (i j : ℕ) (x y : X) → Apart (map f xs) → slice_get xs i ≡ Some x → slice_get xs j ≡ Some y → (f x).name ≡ (f y).name → i ≡ j
@@ -79,9 +78,7 @@ same_place f (z ∷ zs) (suc i) zero x y a d e s = absurd (a.0 (f x) (got_mapped
 same_place f (z ∷ zs) (suc i) (suc j) x y a d e s = ap suc (same_place f zs i j x y a.1 d e s)
 
 pub got_flat : {X Y : Type 0} (f : X → List Y) (xs : List X) (i : ℕ) (x : X) (y : Y) → slice_get xs i ≡ Some x → In y (f x) → In y (flat_map f xs)
-got_flat f [] i x y e k = absurd (none-some x e)
-got_flat f (z ∷ zs) zero x y e k = in_left (f z) (flat_map f zs) y (subst (λ v. In y (f v)) (sym (same_Some _ _ e)) k)
-got_flat f (z ∷ zs) (suc i) x y e k = in_right (f z) (flat_map f zs) y (got_flat f zs i x y e k)
+got_flat f xs i x y e k = in_flat f xs x y (in_got xs i x e) k
 
 -- of a list of elements with ports, two that have one name are one
 pub same_line : {X : Type 0} (f : X → List Port) (xs : List X) (i j : ℕ) (x y : X) (p q : Port) → Apart (flat_map f xs) → slice_get xs i ≡ Some x → slice_get xs j ≡ Some y → In p (f x) → In q (f y) → p.name ≡ q.name → i ≡ j
