@@ -9,12 +9,12 @@ use Rattle.netlist_rules.specs.ModelFaults.{AreFaultless, doubles_after, is_outp
 use Rattle.lists.proofs.Members.{In}
 use Rattle.sound_designs.proofs.Local.{Apart, no_repeat}
 use Rattle.lists.proofs.Appends.{append_nil_left as none_left, append_nil_right as none_right}
-use Rattle.sound_designs.proofs.Driven.{clean_of}
 use Rattle.netlist_meaning.specs.FlatOf.{PortsWithoutControl, kept, left_out}
 use Rattle.flat_designs.proofs.Lists.{Pairs, one_of_pairs, pairs_map}
 use Rattle.netlist_core.specs.Names.{Name, port_names}
 use Rattle.flat_designs.proofs.Valuations.{port_kept}
 use Rattle.sound_designs.proofs.Exists.{no_double}
+use Rattle.sound_designs.proofs.Sound.{clean_of}
 
 abbrev pub OtherName : Port → Port → Type 0
 OtherName p q = q.name ≢ p.name

@@ -11,36 +11,14 @@ use Rattle.netlist_core.specs.declared.model.Subckt.{Subckt}
 use Rattle.netlist_core.specs.declared.model.Model.{Model}
 use Rattle.netlist_core.specs.Names.{Name, port_names, at_line, is_named, model_named}
 use Rattle.netlist_meaning.specs.Nets.{model_names}
-use Rattle.netlist_rules.specs.declared.fault.FaultKind.{FaultKind}
-use Rattle.netlist_rules.specs.declared.fault.FaultKind.TheVariants.{Undriven, NoSuchModel, NoSuchPin}
-use Rattle.netlist_rules.specs.Drivers.{has_input, has_output, is_input_pin, is_output_pin, is_unknown_pin, stands_earlier, firsts_after, inputs_of, cover_output, latch_output, cover_readings, latch_readings, actual_if, actuals_on, actuals, drivers_of, readings_of}
-use Rattle.netlist_rules.specs.ModelFaults.{AreFaultless, words_at_fault, missing_model, unknown_formals, is_portless, lacks_port, unless_named}
-use Rattle.netlist_rules.proofs.FirstModelFaults.{no_model_fault}
+use Rattle.netlist_rules.specs.declared.fault.FaultKind.TheVariants.{Undriven}
+use Rattle.netlist_rules.specs.Drivers.{is_input_pin, is_output_pin, is_unknown_pin, stands_earlier, firsts_after, inputs_of, cover_output, latch_output, cover_readings, latch_readings, actual_if, actuals_on, actuals, drivers_of, readings_of}
+use Rattle.netlist_rules.specs.ModelFaults.{AreFaultless, unless_named}
 use Rattle.lists.proofs.Members.{In, in_left, in_right, in_parts, in_mapped, in_map, in_flat, in_flattened, in_filtered, filtered_in}
-use Rattle.sound_designs.proofs.Sound.{in_got, is_placed, named_in, not_portless}
+use Rattle.sound_designs.proofs.Sound.{in_got, named_in, clean_of, known}
 use Rattle.sound_designs.proofs.OneDriver.{Local}
 use Rattle.sound_designs.proofs.OneDriver.Local.{by_input, by_cover, by_latch, by_output}
-use Rattle.netlist_rules.proofs.Faultless.{nothing_of as none_of, port_name}
-use Rattle.netlist_rules.proofs.Faultless.{some_models}
-
-pub clean_of : (models : List Model) → AreFaultless models → (kind : FaultKind) (m : Model) → In m models → words_at_fault kind models m ≡ []
-clean_of models a kind m i = none_of (words_at_fault kind models) models m ((no_model_fault models (some_models models a)).0 a.no_fault kind) i
-
--- a pin is known
-pub known : (models : List Model) → AreFaultless models → (m : Model) (s : Subckt) (pin : Pin) → In m models → In s m.subckts → In pin s.pins
-    → (is_input_pin (model_named models s.model) pin ≡ true) ⊎ (is_output_pin (model_named models s.model) pin ≡ true)
-known models a m s pin i j k =
-    let no_15 : missing_model models s ≡ [] = none_of (missing_model models) m.subckts s (clean_of models a NoSuchModel m i) j in
-    let no_16 : unknown_formals models s ≡ [] = none_of (unknown_formals models) m.subckts s (clean_of models a NoSuchPin m i) j in
-    let (placed, is_found) = is_placed (model_named models s.model) s no_15 in
-    let port : is_portless (model_named models s.model) pin ≡ false = not_portless (model_named models s.model) s.line s.pins pin no_16 k in
-    let has : lacks_port pin.formal placed ≡ false = sym (ap (λ o. is_portless o pin) is_found) ∙ port in
-    by (has_input pin.formal placed) (has_output pin.formal placed) (ap (λ o. is_input_pin o pin) is_found) (ap (λ o. is_output_pin o pin) is_found) has
-  where
-    by : (x y : Bool) → is_input_pin (model_named models s.model) pin ≡ x → is_output_pin (model_named models s.model) pin ≡ y → not (x || y) ≡ false → (is_input_pin (model_named models s.model) pin ≡ true) ⊎ (is_output_pin (model_named models s.model) pin ≡ true)
-    by true y e f n = inl e
-    by false true e f n = inr f
-    by false false e f n = absurd (true≢false n)
+use Rattle.netlist_rules.proofs.Faultless.{port_name}
 
 pub got_from : {X : Type 0} (xs : List X) (x : X) → In x xs → (k : ℕ) × (slice_get xs k ≡ Some x)
 got_from [] x i = absurd i

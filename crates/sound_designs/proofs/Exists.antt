@@ -33,10 +33,10 @@ use Rattle.sound_designs.specs.OneDriver.{Driver, Drives}
 use Rattle.sound_designs.specs.OneDriver.Driver.{port, cover, latch}
 use Rattle.sound_designs.specs.OneDriver.Drives.{of_port, of_cover, of_latch}
 use Rattle.sound_designs.specs.Order.{CoverAt, IsCoverAt, IsCoverOrder, OrderedHaveAValuation}
-use Rattle.sound_designs.proofs.Sound.{in_got, in_models, formals_named}
+use Rattle.sound_designs.proofs.Sound.{in_got, in_models, formals_named, clean_of}
 use Rattle.sound_designs.proofs.Local.{Apart, no_repeat}
 use Rattle.sound_designs.proofs.OneDriver.{at_most_one_driver}
-use Rattle.sound_designs.proofs.Driven.{got_from, clean_of, names_left}
+use Rattle.sound_designs.proofs.Driven.{got_from, names_left}
 use Rattle.sound_designs.proofs.Sources.{have_drivers}
 use Rattle.lists.proofs.Bools.{or_false_left as first_of}
 use Rattle.lists.proofs.Appends.{append_nil_left as none_left, append_nil_right as none_right}

@@ -17,22 +17,20 @@ use Rattle.netlist_meaning.specs.Places.{Place, model_below, model_at}
 use Rattle.netlist_meaning.specs.Nets.{Net, net_at, IsPinned, Joined}
 use Rattle.netlist_meaning.specs.Nets.Joined.{by_pin, itself, reversed, followed}
 use Rattle.netlist_meaning.proofs.Depth.{model_at-append}
-use Rattle.netlist_rules.specs.declared.fault.FaultKind.TheVariants.{MultipleDrivers, NoSuchModel, NoSuchPin}
-use Rattle.netlist_rules.specs.Drivers.{has_input, has_output, is_input_pin, is_output_pin, same_name_up_to, same_name_before, stands_earlier, firsts_after, inputs_of, cover_output, latch_output, actual_if, actuals_on, actuals, drivers_of}
-use Rattle.netlist_rules.specs.ModelFaults.{AreFaultless, words_at_fault, missing_model, unknown_formals, is_portless, lacks_port}
-use Rattle.netlist_rules.proofs.FirstModelFaults.{no_model_fault}
+use Rattle.netlist_rules.specs.declared.fault.FaultKind.TheVariants.{MultipleDrivers}
+use Rattle.netlist_rules.specs.Drivers.{is_input_pin, is_output_pin, same_name_up_to, same_name_before, stands_earlier, firsts_after, inputs_of, cover_output, latch_output, actual_if, actuals_on, actuals, drivers_of}
+use Rattle.netlist_rules.specs.ModelFaults.{AreFaultless}
 use Rattle.lists.proofs.Members.{In, in_from, in_left, in_right, in_mapped, filtered_in}
 use Rattle.sound_designs.specs.OneDriver.{Driver, Drives, FaultlessHaveAtMostOneDriver}
 use Rattle.sound_designs.specs.OneDriver.Driver.{port, cover, latch}
 use Rattle.sound_designs.specs.OneDriver.Drives.{of_port, of_cover, of_latch}
 use Rattle.lists.proofs.Ends.{not_nil, snoc_same}
-use Rattle.sound_designs.proofs.Sound.{in_got, in_models, is_placed, named_in, not_portless, formals_once}
+use Rattle.sound_designs.proofs.Sound.{in_got, in_models, named_in, formals_once, clean_of, known}
 use Rattle.sound_designs.proofs.Local.{Apart, no_repeat, apart_left, apart_right, apart_cross, same_place, same_line, apart_at, same_kept, got_mapped, got_flat}
 use Rattle.std.proofs.lemmas.Bool.{and_parts as two_true}
 use Rattle.std.proofs.lemmas.Option.{same_Some}
 use Rattle.lists.proofs.Members.{passes_at as any_in}
-use Rattle.netlist_rules.proofs.Faultless.{nothing_of as none_of, port_name}
-use Rattle.netlist_rules.proofs.Faultless.{some_models}
+use Rattle.netlist_rules.proofs.Faultless.{port_name}
 
 pub none_any : {X : Type 0} (test : X → Bool) (xs : List X) → ((x : X) → In x xs → test x ≡ false) → list_any test xs ≡ false
 none_any test [] f = refl
@@ -205,9 +203,7 @@ drives_at design d net (of_cover {model = m} {number = n} {c = c} e i) = at_cove
 drives_at design d net (of_latch {model = m} {number = n} {l = l} e i) = at_latch m n l e i refl refl
 
 pub drivers_apart : (design : Design) → AreFaultless design.models → (place : Place) (m : Model) → model_at design place ≡ Some m → Drivers design.models m
-drivers_apart design a place m e =
-    let clean = (no_model_fault design.models (some_models design.models a)).0 a.no_fault in
-    record { apart = no_repeat (drivers_of design.models m) (none_of (words_at_fault MultipleDrivers design.models) design.models m (clean MultipleDrivers) (in_models design place m e)) }
+drivers_apart design a place m e = record { apart = no_repeat (drivers_of design.models m) (clean_of design.models a MultipleDrivers m (in_models design place m e)) }
 
 one_model : (design : Design) (p q : Place) (m n : Model) → p ≡ q → model_at design p ≡ Some m → model_at design q ≡ Some n → m ≡ n
 one_model design p q m n s e f = same_Some _ _ (sym e ∙ ap (model_at design) s ∙ f)
@@ -333,21 +329,7 @@ Both design x y = (d : Driver) → (Reaches design x d → Reaches design y d) �
 
 pin_is_known : (design : Design) → AreFaultless design.models → (outer inner : Net) (h : IsPinned design outer inner)
     → (is_input_pin (model_named design.models h.line.model) h.pin ≡ true) ⊎ (is_output_pin (model_named design.models h.line.model) h.pin ≡ true)
-pin_is_known design a outer inner h =
-    let clean = (no_model_fault design.models (some_models design.models a)).0 a.no_fault in
-    let in_model : In h.model design.models = in_models design outer.place h.model h.has_model in
-    let in_lines : In h.line h.model.subckts = in_got h.model.subckts h.number h.line h.has_line in
-    let no_15 : missing_model design.models h.line ≡ [] = none_of (missing_model design.models) h.model.subckts h.line (none_of (words_at_fault NoSuchModel design.models) design.models h.model (clean NoSuchModel) in_model) in_lines in
-    let no_16 : unknown_formals design.models h.line ≡ [] = none_of (unknown_formals design.models) h.model.subckts h.line (none_of (words_at_fault NoSuchPin design.models) design.models h.model (clean NoSuchPin) in_model) in_lines in
-    let (placed, is_found) = is_placed (model_named design.models h.line.model) h.line no_15 in
-    let port : is_portless (model_named design.models h.line.model) h.pin ≡ false = not_portless (model_named design.models h.line.model) h.line.line h.line.pins h.pin no_16 (in_from h.line.pins h.pin h.has_pin) in
-    let has : lacks_port h.pin.formal placed ≡ false = sym (ap (λ o. is_portless o h.pin) is_found) ∙ port in
-    by (has_input h.pin.formal placed) (has_output h.pin.formal placed) (ap (λ o. is_input_pin o h.pin) is_found) (ap (λ o. is_output_pin o h.pin) is_found) has
-  where
-    by : (i o : Bool) → is_input_pin (model_named design.models h.line.model) h.pin ≡ i → is_output_pin (model_named design.models h.line.model) h.pin ≡ o → not (i || o) ≡ false → (is_input_pin (model_named design.models h.line.model) h.pin ≡ true) ⊎ (is_output_pin (model_named design.models h.line.model) h.pin ≡ true)
-    by true o x y n = inl x
-    by false true x y n = inr y
-    by false false x y n = absurd (true≢false n)
+pin_is_known design a outer inner h = known design.models a h.model h.line h.pin (in_models design outer.place h.model h.has_model) (in_got h.model.subckts h.number h.line h.has_line) (in_from h.line.pins h.pin h.has_pin)
 
 -- a pin carries one driver both ways
 from_inner : (design : Design) → AreFaultless design.models → (outer inner : Net) (h : IsPinned design outer inner) → is_input_pin (model_named design.models h.line.model) h.pin ≡ true → (d : Driver) → Reaches design inner d → Reaches design outer d

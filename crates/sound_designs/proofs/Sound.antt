@@ -21,7 +21,7 @@ use Rattle.lists.proofs.Names.{bytes_eq-same}
 use Rattle.netlist_meaning.proofs.Names.{and_then-from}
 use Rattle.netlist_meaning.proofs.Depth.{model_at-append}
 use Rattle.netlist_rules.specs.declared.fault.FaultKind.TheVariants.{NoSuchModel, NoSuchPin, TwoClocks, ClockRead}
-use Rattle.netlist_rules.specs.Drivers.{has_input, has_output}
+use Rattle.netlist_rules.specs.Drivers.{has_input, has_output, is_input_pin, is_output_pin}
 use Rattle.netlist_rules.specs.ModelFaults.{AreFaultless, words_at_fault, missing_model, unplaced, unknown_formals, is_portless, lacks_port, formal_if}
 use Rattle.netlist_rules.proofs.FirstModelFaults.{no_model_fault}
 use Rattle.netlist_rules.specs.Circles.{HasSubcktOf, Leads}
@@ -31,6 +31,7 @@ use Rattle.netlist_rules.proofs.Faultless.{no_model_is_in_itself, formals_are_di
 use Rattle.sound_designs.specs.Laws.{FaultlessAreNotRecursive, FaultlessNameFormalsOnce, FaultlessAreWired}
 use Rattle.netlist_rules.proofs.Faultless.{nothing_of as none_of}
 use Rattle.netlist_rules.proofs.Faultless.{some_models}
+use Rattle.netlist_rules.specs.declared.fault.FaultKind.{FaultKind}
 
 -- a name finds the model
 abbrev IsFound : List Model → Model → Type 0
@@ -151,16 +152,33 @@ has_port m name e = by (has_input name m) (has_output name m) refl refl e
 pub not_portless : (o : Option Model) (line : ℕ) (pins : List Pin) (pin : Pin) → filter_map (formal_if (is_portless o) line) pins ≡ [] → In pin pins → is_portless o pin ≡ false
 not_portless o line pins pin e i = false_from_ne_true (is_portless o pin) (λ h. subst (λ v. In (at_line line pin.formal) v) e (filtered_in (formal_if (is_portless o) line) pins pin (at_line line pin.formal) i (ap (λ b. then_some b (at_line line pin.formal)) h)))
 
+-- a kind of fault gives no word
+pub clean_of : (models : List Model) → AreFaultless models → (kind : FaultKind) (m : Model) → In m models → words_at_fault kind models m ≡ []
+clean_of models a kind m i = none_of (words_at_fault kind models) models m ((no_model_fault models (some_models models a)).0 a.no_fault kind) i
+
+-- the model of a line is there, and has a port of the name that a pin gives
+pub pin_port : (models : List Model) → AreFaultless models → (m : Model) (s : Subckt) (pin : Pin) → In m models → In s m.subckts → In pin s.pins → (placed : Model) × (model_named models s.model ≡ Some placed) × (lacks_port pin.formal placed ≡ false)
+pin_port models a m s pin i j k =
+    let has_model : missing_model models s ≡ [] = none_of (missing_model models) m.subckts s (clean_of models a NoSuchModel m i) j in
+    let has_ports : unknown_formals models s ≡ [] = none_of (unknown_formals models) m.subckts s (clean_of models a NoSuchPin m i) j in
+    let (placed, is_found) = is_placed (model_named models s.model) s has_model in
+    (placed, is_found, sym (ap (λ o. is_portless o pin) is_found) ∙ not_portless (model_named models s.model) s.line s.pins pin has_ports k)
+
+-- a pin is known
+pub known : (models : List Model) → AreFaultless models → (m : Model) (s : Subckt) (pin : Pin) → In m models → In s m.subckts → In pin s.pins
+    → (is_input_pin (model_named models s.model) pin ≡ true) ⊎ (is_output_pin (model_named models s.model) pin ≡ true)
+known models a m s pin i j k =
+    let (placed, is_found, has) = pin_port models a m s pin i j k in
+    by (has_input pin.formal placed) (has_output pin.formal placed) (ap (λ o. is_input_pin o pin) is_found) (ap (λ o. is_output_pin o pin) is_found) has
+  where
+    by : (x y : Bool) → is_input_pin (model_named models s.model) pin ≡ x → is_output_pin (model_named models s.model) pin ≡ y → not (x || y) ≡ false → (is_input_pin (model_named models s.model) pin ≡ true) ⊎ (is_output_pin (model_named models s.model) pin ≡ true)
+    by true y e f n = inl e
+    by false true e f n = inr f
+    by false false e f n = absurd (true≢false n)
+
 pub formals_named : (design : Design) → AreFaultless design.models → (outer inner : Net) → IsPinned design outer inner → IsNet design inner
 formals_named design a outer inner h =
-    let clean = (no_model_fault design.models (some_models design.models a)).0 a.no_fault in
-    let in_model : In h.model design.models = in_models design outer.place h.model h.has_model in
-    let in_lines : In h.line h.model.subckts = in_got h.model.subckts h.number h.line h.has_line in
-    let no_15 : missing_model design.models h.line ≡ [] = none_of (missing_model design.models) h.model.subckts h.line (none_of (words_at_fault NoSuchModel design.models) design.models h.model (clean NoSuchModel) in_model) in_lines in
-    let no_16 : unknown_formals design.models h.line ≡ [] = none_of (unknown_formals design.models) h.model.subckts h.line (none_of (words_at_fault NoSuchPin design.models) design.models h.model (clean NoSuchPin) in_model) in_lines in
-    let (placed, is_found) = is_placed (model_named design.models h.line.model) h.line no_15 in
-    let port : is_portless (model_named design.models h.line.model) h.pin ≡ false = not_portless (model_named design.models h.line.model) h.line.line h.line.pins h.pin no_16 (in_from h.line.pins h.pin h.has_pin) in
-    let has : lacks_port h.pin.formal placed ≡ false = sym (ap (λ o. is_portless o h.pin) is_found) ∙ port in
+    let (placed, is_found, has) = pin_port design.models a h.model h.line h.pin (in_models design outer.place h.model h.has_model) (in_got h.model.subckts h.number h.line h.has_line) (in_from h.line.pins h.pin h.has_pin) in
     let there : model_at design inner.place ≡ Some placed =
     ap (model_at design) h.is_deeper ∙ model_at-append design outer.place (h.number ∷ []) ∙ ap (option_and_then (model_below design (h.number ∷ []))) h.has_model
     ∙ ap (λ o. option_and_then (model_below design []) (option_and_then (λ (l : Subckt). model_named design.models l.model) o)) h.has_line ∙ ap (option_and_then (model_below design [])) is_found in

@@ -24,12 +24,12 @@ use Rattle.lists.proofs.Members.{In, in_from, contains_from, in_left, in_right, 
 use Rattle.sound_designs.specs.OneDriver.{Driver, Drives, FaultlessHaveDrivers}
 use Rattle.sound_designs.specs.OneDriver.Driver.{port, cover, latch}
 use Rattle.sound_designs.specs.OneDriver.Drives.{of_port, of_cover, of_latch}
-use Rattle.sound_designs.proofs.Sound.{in_got, in_models, named_in, not_recursive}
+use Rattle.sound_designs.proofs.Sound.{in_got, in_models, named_in, not_recursive, clean_of}
 use Rattle.sound_designs.proofs.Local.{not_any, not_up_to, not_before}
 use Rattle.sound_designs.proofs.OneDriver.{Local, Reaches, drivers_apart, input_pin}
 use Rattle.sound_designs.proofs.OneDriver.Local.{by_input, by_cover, by_latch, by_output}
 use Rattle.sound_designs.proofs.OneDriver.Reaches.{here, up, down}
-use Rattle.sound_designs.proofs.Driven.{clean_of, name_local}
+use Rattle.sound_designs.proofs.Driven.{name_local}
 use Rattle.lists.proofs.Bools.{or_false_right as second_of}
 use Rattle.lists.proofs.Appends.{append_nil_left as none_left, append_nil_right as none_right}
 use Rattle.netlist_rules.proofs.Faultless.{nothing_of as none_of, port_name}
@@ -163,8 +163,8 @@ goes_out design a outer number m name is_m i =
     let (line, is_line, found) = and_then-from (λ (l : Subckt). model_named design.models l.model) (slice_get o.subckts number) n is_n in
     let is_found : model_named design.models line.model ≡ Some m = found ∙ same in
     let in_line : In line o.subckts = in_got o.subckts number line is_line in
-    let no_18 : missing_pin design.models line ≡ [] = none_of (missing_pin design.models) o.subckts line (clean_of design.models a PinMissing o (in_models design outer o is_o)) in_line in
-    let p : HasPin line name = has_pin design.models line m name is_found no_18 i in
+    let none_missing : missing_pin design.models line ≡ [] = none_of (missing_pin design.models) o.subckts line (clean_of design.models a PinMissing o (in_models design outer o is_o)) in_line in
+    let p : HasPin line name = has_pin design.models line m name is_found none_missing i in
     record {
       outer = net_at outer p.pin.actual;
       outer_model = o;
