@@ -57,7 +57,7 @@ begun links = record {
   at_open = λ n i e. absurd (cc (unseen (length links) n, e));
   done_at = λ i l. absurd (omega arith);
   at_done = λ n i e. absurd (cc (unseen (length links) n, e));
-  passed = λ n k b l r. absurd (omega (arith, same (length links) n 0, l));
+  passed = λ n k b l r. absurd (omega (arith, same {X = ℕ} (length links) n 0, l));
   before = λ n i k b e r. absurd (cc (unseen (length links) n, e));
   path = λ i l. absurd (omega arith);
 }

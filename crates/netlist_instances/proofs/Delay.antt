@@ -51,7 +51,6 @@ unfolding bits_of
 bits_at_d d q state input place apart = ap (λ t. cond t state input) (bytes_eq-other d q apart)
 
 one_bit : (row : List Bool) → length row ≡ 1 → first_bit row ∷ [] ≡ row
-unfolding first_bit
 one_bit [] e = absurd (omega arith)
 one_bit (bit ∷ []) e = refl
 one_bit (bit ∷ (other ∷ row)) e = absurd (omega arith)

@@ -101,14 +101,13 @@ solves a b y rows on design ab ay by h p q state =
         subst (λ c. bits place c.out ≡ cover_value c.rows c.on (map (bits place) c.ins)) (sym is_cover) (the_one place)
 
 -- a row of two bits
-pub first_bit : List Bool → Bool
+abbrev pub first_bit : List Bool → Bool
 first_bit row = get_or row 0 false
 
-second_bit : List Bool → Bool
+abbrev second_bit : List Bool → Bool
 second_bit row = get_or row 1 false
 
 two_bits : (row : List Bool) → length row ≡ 2 → row ≡ first_bit row ∷ second_bit row ∷ []
-unfolding first_bit second_bit
 two_bits [] e = absurd (omega arith)
 two_bits (p ∷ []) e = absurd (omega arith)
 two_bits (p ∷ q ∷ []) e = refl
