@@ -6,6 +6,7 @@ use Rattle.std.specs.List.{cons_option}
 use Rattle.std.proofs.lemmas.List.Sums.{take_while-cons}
 use Rattle.std.proofs.lemmas.List.Elements.{filter_map-append}
 use Rattle.std.proofs.lemmas.Slice.Eq.{bytes_eq-Decides}
+use Rattle.std.proofs.lemmas.Bool.{false_from_ne_true}
 use Rattle.blif_text.specs.declared.logical.Logical.{Logical}
 use Rattle.blif_text.specs.Models.{first_word, first_operand, begins_model, stays_in_model, is_row, has_directive, lines_with, ports_on, latch_on, subckt_of, model_if, model_of, models_of, cover_at, covers_of}
 use Rattle.blif_text.specs.LineFaults.{is_annotation}
@@ -14,11 +15,7 @@ use Rattle.blif_laws.proofs.Cuts.{covers-cut}
 
 -- an annotation is no other directive
 other : (word name : List ℕ) → is_annotation word ≡ true → is_annotation name ≡ false → bytes_eq word name ≡ false
-other word name a n = by (bytes_eq word name) refl
-  where
-    by : (b : Bool) → bytes_eq word name ≡ b → b ≡ false
-    by true h = absurd (true≢false (sym a ∙ ap is_annotation ((bytes_eq-Decides word name).0 h) ∙ n))
-    by false h = refl
+other word name a n = false_from_ne_true (bytes_eq word name) (λ h. true≢false (sym a ∙ ap is_annotation ((bytes_eq-Decides word name).0 h) ∙ n))
 
 module _ (line : Logical) (directive : is_row line ≡ false) (annotation : is_annotation (first_word line) ≡ true) where
   without_line : (name : List ℕ) (xs ys : List Logical) → is_annotation name ≡ false → lines_with name (xs ++ line ∷ ys) ≡ lines_with name (xs ++ ys)

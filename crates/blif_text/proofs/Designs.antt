@@ -7,7 +7,6 @@ use Rattle.std.specs.Bool.{then_some}
 use Rattle.std.specs.Option.{option_or}
 use Rattle.std.specs.List.{list_any, IsDistinct}
 use Rattle.std.proofs.lemmas.Slice.Eq.{bytes_eq-Decides}
-use Rattle.netlist_core.specs.declared.model.Model.{Model}
 use Rattle.blif_text.specs.declared.logical.Logical.{Logical}
 use Rattle.netlist_rules.specs.declared.fault.Fault.{Fault}
 use Rattle.netlist_rules.specs.declared.fault.FaultKind.TheVariants.{DuplicateModel}
@@ -17,9 +16,7 @@ use Rattle.blif_text.specs.LineFaults.{word_at_fault, first_broken, fault_after,
 use Rattle.blif_text.specs.Laws.{ModelsAreDistinct}
 use Rattle.lists.proofs.Members.{In, Distinct, is_distinct}
 use Rattle.blif_text.proofs.FirstFaults.{breaks_none}
-
-abbrev name_of : Model → List ℕ
-name_of m = m.name
+use Rattle.netlist_rules.proofs.CircleSearch.{name_of}
 
 -- a `.model` line of this name
 abbrev names_model : List ℕ → Logical → Bool

@@ -156,10 +156,10 @@ words_are_runs = record {
 }
 
 -- the last byte of a list that ends with it, and what stands before
-seam : (front : List ℕ) (b : ℕ) → length (front ++ b ∷ []) - 1 ≡ length front
+pub seam : (front : List ℕ) (b : ℕ) → length (front ++ b ∷ []) - 1 ≡ length front
 seam front b = simp length-append (omega arith)
 
-at_seam : (front : List ℕ) (b : ℕ) → get_or (front ++ b ∷ []) (length front) 0 ≡ b
+pub at_seam : (front : List ℕ) (b : ℕ) → get_or (front ++ b ∷ []) (length front) 0 ≡ b
 at_seam [] b = refl
 at_seam (x ∷ xs) b = at_seam xs b
 

@@ -1,6 +1,7 @@
 -- Latches of one clock.
 use Rattle.std.proofs.Common.{ℕ, ◌≡◌, refl, sym, ap, ◌∙◌, subst, ◌+◌, ◌<◌, ◌≤◌, ◌⊎◌, inl, inr, List, length, get_or, Some, slice_get, arith}
 use Rattle.std.proofs.lemmas.Option.{slice_get_within, slice_get-get_or, same_Some}
+use Rattle.lists.proofs.Numbers.{less_or_last}
 use Rattle.netlist_core.specs.declared.flat.FlatLatch.{FlatLatch}
 use Rattle.netlist_core.specs.declared.flat.Flat.{Flat}
 use Rattle.netlist_rules.specs.FlatClocks.{HasSameFlatClock, HasOneFlatClock, IsFlatTwoClocks, flat_control_word}
@@ -10,11 +11,8 @@ abbrev pub Agree : Flat → FlatLatch → List FlatLatch → ℕ → Type 0
 Agree flat first latches count = (k : ℕ) (latch : FlatLatch) → k < count → slice_get latches k ≡ Some latch → HasSameFlatClock flat first latch
 
 pub agree_more : (flat : Flat) (first : FlatLatch) (latches : List FlatLatch) (i : ℕ) (d : FlatLatch) → i < length latches → Agree flat first latches i → HasSameFlatClock flat first (get_or latches i d) → Agree flat first latches (i + 1)
-agree_more flat first latches i d within agree same k latch less got = by (split k i less)
+agree_more flat first latches i d within agree same k latch less got = by (less_or_last k i less)
   where
-    split : (k i : ℕ) → k < i + 1 → (k < i) ⊎ (k ≡ i)
-    split k i less = grind arith
-
     by : (k < i) ⊎ (k ≡ i) → HasSameFlatClock flat first latch
     by (inl l) = agree k latch l got
     by (inr e) =

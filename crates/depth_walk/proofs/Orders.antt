@@ -1,8 +1,9 @@
 -- Walks that have seen all are orders, and the walk before its first step.
-use Rattle.std.proofs.Common.{◌≡◌, ◌≢◌, refl, sym, ap, subst, ◌∙◌, ℕ, zero, suc, ◌<◌, ◌≤◌, ◌⊎◌, inl, inr, List, [], length, get_or, arith, replicate, count_by, cond}
+use Rattle.std.proofs.Common.{◌≡◌, ◌≢◌, refl, sym, ap, subst, ◌∙◌, ℕ, zero, suc, ◌<◌, ◌≤◌, ◌⊎◌, inl, inr, List, [], length, get_or, arith, replicate, count_by, cond, ◌*◌}
 use Rattle.std.specs.Prelude.{Contains, AllPairs}
-use Rattle.std.proofs.lemmas.List.Sums.{sum_by-cons}
 use Rattle.std.proofs.lemmas.List.{get_or_past, get_or_default}
+use Rattle.std.proofs.lemmas.Bool.{cases_lt}
+use Rattle.std.proofs.lemmas.List.Folds.{sum_by-replicate}
 use Rattle.depth_walk.specs.declared.walk.Mark.{Mark}
 use Rattle.depth_walk.specs.declared.walk.Mark.TheVariants.{Unseen, Open, Done}
 use Rattle.depth_walk.specs.Links.{Links}
@@ -11,21 +12,15 @@ use Rattle.depth_walk.specs.Walk.{mark_of, is_unseen, IsWalk}
 
 -- a number with a mark is one that has a list
 pub open_within : (links : Links) (marks : List Mark) (n i : ℕ) → length marks ≡ length links → mark_of marks n ≡ Open i → n < length links
-open_within links marks n i fit e = by (cases n (length marks))
+open_within links marks n i fit e = by (cases_lt n (length marks))
   where
-    cases : (a b : ℕ) → (a < b) ⊎ (b ≤ a)
-    cases a b = grind arith
-
     by : (n < length marks) ⊎ (length marks ≤ n) → n < length links
     by (inl l) = subst (λ v. n < v) fit l
     by (inr l) = let past : mark_of marks n ≡ Unseen = get_or_past marks n Unseen l in absurd (cc (past, e))
 
 done_within : (links : Links) (marks : List Mark) (n i : ℕ) → length marks ≡ length links → mark_of marks n ≡ Done i → n < length links
-done_within links marks n i fit e = by (cases n (length marks))
+done_within links marks n i fit e = by (cases_lt n (length marks))
   where
-    cases : (a b : ℕ) → (a < b) ⊎ (b ≤ a)
-    cases a b = grind arith
-
     by : (n < length marks) ⊎ (length marks ≤ n) → n < length links
     by (inl l) = subst (λ v. n < v) fit l
     by (inr l) = let past : mark_of marks n ≡ Unseen = get_or_past marks n Unseen l in absurd (cc (past, e))
@@ -62,21 +57,19 @@ begun links = record {
   at_open = λ n i e. absurd (cc (unseen (length links) n, e));
   done_at = λ i l. absurd (omega arith);
   at_done = λ n i e. absurd (cc (unseen (length links) n, e));
-  passed = λ n k b l r. absurd (omega (arith, none (length links) n, l));
+  passed = λ n k b l r. absurd (omega (arith, same {X = ℕ} (length links) n 0, l));
   before = λ n i k b e r. absurd (cc (unseen (length links) n, e));
   path = λ i l. absurd (omega arith);
 }
   where
-    unseen : (m n : ℕ) → mark_of (replicate m Unseen) n ≡ Unseen
-    unseen zero n = refl
-    unseen (suc m) zero = refl
-    unseen (suc m) (suc n) = unseen m n
+    -- in equal values each place holds the value, and so it is past the end where the value is the default
+    same : {X : Type 0} (m n : ℕ) (x : X) → get_or (replicate m x) n x ≡ x
+    same zero n x = refl
+    same (suc m) zero x = refl
+    same (suc m) (suc n) x = same m n x
 
-    none : (m n : ℕ) → ◌≡◌ {A = ℕ} (get_or (replicate m 0) n 0) 0
-    none zero n = refl
-    none (suc m) zero = refl
-    none (suc m) (suc n) = none m n
+    unseen : (m n : ℕ) → mark_of (replicate m Unseen) n ≡ Unseen
+    unseen m n = same m n Unseen
 
     all_unseen : (m : ℕ) → count_by is_unseen (replicate m Unseen) ≡ m
-    all_unseen zero = refl
-    all_unseen (suc m) = let e = sum_by-cons (λ x. cond (is_unseen x) 1 0) Unseen (replicate m Unseen) in let r = all_unseen m in omega arith
+    all_unseen m = let e : count_by is_unseen (replicate m Unseen) ≡ m * 1 = sum_by-replicate (λ x. cond (is_unseen x) 1 0) m Unseen in omega arith

@@ -2,6 +2,7 @@
 use Rattle.std.proofs.Common.{◌≡◌, ◌≢◌, sym, ap, subst, ◌∙◌, ℕ, ◌+◌, ◌-◌, ◌<◌, ◌≤◌, ◌⊎◌, inl, inr, List, [], ◌∷◌, ◌++◌, take, set, length, get_or, arith, Result, Ok, Err}
 use Rattle.std.specs.Prelude.{OnOk}
 use Rattle.std.proofs.lemmas.List.{get_or-set_same, get_or-set_other, get_or_default}
+use Rattle.std.proofs.lemmas.Bool.{cases_lt, cases_eq}
 use Rattle.depth_walk.specs.declared.walk.Mark.{Mark}
 use Rattle.depth_walk.specs.declared.walk.Mark.TheVariants.{Unseen, Open, Done}
 use Rattle.depth_walk.specs.declared.walk.Met.TheVariants.{Nothing, Fresh}
@@ -20,11 +21,8 @@ top_within links marks next stack order n w top = open_within links marks n (len
 pub met_nothing : (links : Links) (marks : List Mark) (next stack order : List ℕ) (n from : ℕ) → IsWalk links marks next stack order → IsTop stack n → from ≡ get_or next n 0 → IsMet links marks n from Nothing
     → IsWalk links (set marks n (Done (length order))) next (take (length stack - 1) stack) (order ++ n ∷ [])
 met_nothing links marks next stack order n from w top is met =
-    closed links marks next stack order n w (top_within links marks next stack order n w top) top.0 top.1 (λ k b r. by k b r (cases k from))
+    closed links marks next stack order n w (top_within links marks next stack order n w top) top.0 top.1 (λ k b r. by k b r (cases_lt k from))
   where
-    cases : (a b : ℕ) → (a < b) ⊎ (b ≤ a)
-    cases a b = grind arith
-
     by : (k b : ℕ) → LeadsTo links n k b → (k < from) ⊎ (from ≤ k) → IsMarkedDone (mark_of marks b)
     by k b r (inl less) = w.passed n k b (subst (λ v. k < v) is less) r
     by k b r (inr more) = met k b more r
@@ -53,7 +51,7 @@ pub begins : (links : Links) (marks marks' : List Mark) (next next' stack stack'
     → IsWalk links marks' next' stack' order' × AreStillSeen marks marks' × (mark_of marks' n ≢ Unseen)
 begins links marks marks' next next' stack stack' order order' n w idle less unseen e f g h = (
   walk_same links _ _ _ _ _ _ _ _ (opened links marks next stack order n w less unseen link) e f g h,
-  (λ m seen not. by m seen not (equal m n)),
+  (λ m seen not. by m seen not (cases_eq m n)),
   (λ not. (let o : mark_of marks' n ≡ Open (length stack) = is_open in absurd (cc (o, not)))),
 )
   where
@@ -65,9 +63,6 @@ begins links marks marks' next next' stack stack' order order' n w idle less uns
 
     is_open : mark_of marks' n ≡ Open (length stack)
     is_open = ap (λ v. mark_of v n) e ∙ get_or-set_same marks n (Open (length stack)) Unseen within
-
-    equal : (a b : ℕ) → (a ≡ b) ⊎ (a ≢ b)
-    equal a b = grind arith
 
     by : (m : ℕ) → mark_of marks m ≢ Unseen → mark_of marks' m ≡ Unseen → (m ≡ n) ⊎ (m ≢ n) → ⊥
     by m seen not (inl same) = seen (ap (mark_of marks) same ∙ unseen)

@@ -2,6 +2,8 @@
 use Rattle.std.proofs.Common.{count_by, cond, true, false, refl, ◌≡◌, ◌≢◌, sym, ap, subst, ◌∙◌, ℕ, ◌+◌, ◌-◌, ◌<◌, ◌≤◌, ◌⊎◌, inl, inr, List, [], ◌∷◌, ◌++◌, take, set, length, get_or, arith}
 use Rattle.std.proofs.lemmas.List.{get_or_append_left, get_or_push, length_push, get_or-set_same, get_or-set_other, get_or-take, length-take, length-set}
 use Rattle.std.proofs.lemmas.List.Sums.{sum_by-set}
+use Rattle.std.proofs.lemmas.Bool.{cases_lt, cases_eq}
+use Rattle.lists.proofs.Numbers.{less_or_last}
 use Rattle.depth_walk.specs.declared.walk.Mark.{Mark}
 use Rattle.depth_walk.specs.declared.walk.Mark.TheVariants.{Unseen, Open, Done}
 use Rattle.depth_walk.specs.Links.{Links, LeadsTo}
@@ -11,12 +13,9 @@ use Rattle.depth_walk.specs.Walk.{AreDoneWithin, IsMarkedDone, mark_of, is_unsee
 MarkAfter : List Mark → ℕ → Mark → ℕ → Type 0
 MarkAfter marks n mark m = ((m ≡ n) × (mark_of (set marks n mark) m ≡ mark)) ⊎ ((m ≢ n) × (mark_of (set marks n mark) m ≡ mark_of marks m))
 
-equal_or_not : (a b : ℕ) → (a ≡ b) ⊎ (a ≢ b)
-equal_or_not a b = grind arith
-
 mark_after : (marks : List Mark) (n : ℕ) (mark : Mark) (m : ℕ) → n < length marks → MarkAfter marks n mark m
 unfolding MarkAfter
-mark_after marks n mark m l = by (equal_or_not m n)
+mark_after marks n mark m l = by (cases_eq m n)
   where
     by : (m ≡ n) ⊎ (m ≢ n) → MarkAfter marks n mark m
     by (inl e) = inl (e, ap (mark_of (set marks n mark)) e ∙ get_or-set_same marks n mark Unseen l)
@@ -54,7 +53,7 @@ walk_same links marks marks' next next' stack stack' order order' w e f g h =
     subst (λ v. IsWalk links v next' stack' order') (sym e) (subst (λ v. IsWalk links marks v stack' order') (sym f) (subst (λ v. IsWalk links marks next v order') (sym g) (subst (λ v. IsWalk links marks next stack v) (sym h) w)))
 
 below_push : (xs : List ℕ) (y i : ℕ) → i < length (xs ++ y ∷ []) → (i < length xs) ⊎ (i ≡ length xs)
-below_push xs y i l = let e : length (xs ++ y ∷ []) ≡ length xs + 1 = length_push xs y in grind arith
+below_push xs y i l = less_or_last i (length xs) (subst (λ n. i < n) (length_push xs y) l)
 
 pub opened : (links : Links) (marks : List Mark) (next stack order : List ℕ) (n : ℕ) → IsWalk links marks next stack order → n < length links → mark_of marks n ≡ Unseen
     → ((i : ℕ) → i + 1 ≡ length stack → LeadsTo links (get_or stack i 0) (get_or next (get_or stack i 0) 0) n)
@@ -140,14 +139,11 @@ passed links marks next stack order n k w less some top within = record {
   at_open = w.at_open;
   done_at = w.done_at;
   at_done = w.at_done;
-  passed = λ m i b l r. read m i b l r (equal_or_not m n);
+  passed = λ m i b l r. read m i b l r (cases_eq m n);
   before = w.before;
   path = λ i l. subst (λ v. LeadsTo links (get_or stack i 0) v (get_or stack (i + 1) 0)) (sym (get_or-set_other next n (get_or stack i 0) k 0 (lower_apart links marks next stack order n w some top i l))) (w.path i l);
 }
   where
-    lower_or_not : (i j : ℕ) → (i < j) ⊎ (j ≤ i)
-    lower_or_not i j = grind arith
-
     read_here : (i b : ℕ) → i < k → LeadsTo links n i b → (i < get_or next n 0) ⊎ (get_or next n 0 ≤ i) → IsMarkedDone (mark_of marks b)
     read_here i b l r (inl old) = w.passed n i b old r
     read_here i b l r (inr new) = within i b new l r
@@ -155,7 +151,7 @@ passed links marks next stack order n k w less some top within = record {
     read : (m i b : ℕ) → i < get_or (set next n k) m 0 → LeadsTo links m i b → (m ≡ n) ⊎ (m ≢ n) → IsMarkedDone (mark_of marks b)
     read m i b l r (inl same) =
         let value : get_or (set next n k) m 0 ≡ k = ap (λ v. get_or (set next n k) v 0) same ∙ get_or-set_same next n k 0 (subst (λ v. n < v) (sym w.next_fit) less) in
-        read_here i b (subst (λ v. i < v) value l) (subst (λ v. LeadsTo links v i b) same r) (lower_or_not i (get_or next n 0))
+        read_here i b (subst (λ v. i < v) value l) (subst (λ v. LeadsTo links v i b) same r) (cases_lt i (get_or next n 0))
     read m i b l r (inr other) = w.passed m i b (subst (λ v. i < v) (get_or-set_other next n m k 0 other) l) r
 
 pub closed : (links : Links) (marks : List Mark) (next stack order : List ℕ) (n : ℕ) → IsWalk links marks next stack order → n < length links → 0 < length stack → get_or stack (length stack - 1) 0 ≡ n
@@ -201,11 +197,8 @@ closed links marks next stack order n w less some top done = record {
         let below : i + 1 < length stack = lower i l at in
         (omega (arith, shorter), get_or-take (length stack - 1) stack i 0 (omega arith) ∙ at)
       where
-        last_or_not : (i j : ℕ) → i < j → (i + 1 < j) ⊎ (i ≡ j - 1)
-        last_or_not i j l = grind arith
-
         lower : (i : ℕ) → i < length stack → get_or stack i 0 ≡ m → i + 1 < length stack
-        lower i l at = elim (last_or_not i (length stack) l) as (λ _. i + 1 < length stack) [ inl b ↦ b | inr e ↦ absurd (other (sym at ∙ ap (λ v. get_or stack v 0) e ∙ top)) ]
+        lower i l at = elim (cases_lt (i + 1) (length stack)) as (λ _. i + 1 < length stack) [ inl b ↦ b | inr past ↦ absurd (let e : i ≡ length stack - 1 = omega arith in other (sym at ∙ ap (λ v. get_or stack v 0) e ∙ top)) ]
 
     done_at : (i : ℕ) → (i < length order) ⊎ (i ≡ length order) → mark_of (set marks n (Done (length order))) (get_or (order ++ n ∷ []) i 0) ≡ Done i
     done_at i (inl l) = ap (mark_of (set marks n (Done (length order)))) (get_or_append_left order (n ∷ []) 0 i l) ∙ kept (get_or order i 0) i (w.done_at i l)

@@ -4,6 +4,7 @@ use Rattle.std.specs.Option.{option_map_or}
 use Rattle.std.proofs.lemmas.List.{get_or-set_same, get_or-set_other, get_or_past, length-set}
 use Rattle.std.proofs.lemmas.List.Sums.{sum_by-cons}
 use Rattle.std.proofs.lemmas.Option.{same_Some, slice_get_within}
+use Rattle.lists.proofs.Numbers.{less_or_last}
 use Rattle.netlist_core.specs.declared.model.Model.{Model}
 use Rattle.netlist_core.specs.declared.model.Subckt.{Subckt}
 use Rattle.netlist_core.specs.declared.model.Design.{Design}
@@ -54,12 +55,9 @@ pub weighed_more : (design : Design) (order weights : List ℕ) (i value : ℕ) 
     → value ≡ min (own_weight model + sum_by (line_weight design.models weights) model.subckts) (2 ^ 64 - 1) → AreWeights design order (i + 1) (set weights (get_or order i 0) value)
 weighed_more design order weights i value model o w l there is = record {
   fit = length-set weights (get_or order i 0) value ∙ w.fit;
-  weighs = λ j m less e depth deep. by j m e depth deep (last_or_not j i less);
+  weighs = λ j m less e depth deep. by j m e depth deep (less_or_last j i less);
 }
   where
-    last_or_not : (j i : ℕ) → j < i + 1 → (j < i) ⊎ (j ≡ i)
-    last_or_not j i l = grind arith
-
     within : get_or order i 0 < length weights
     within = subst (λ v. get_or order i 0 < v) (sym w.fit) (slice_get_within design.models (get_or order i 0) model there)
 

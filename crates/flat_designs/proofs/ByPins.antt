@@ -1,7 +1,7 @@
 -- Roots by pins.
 use Rattle.std.proofs.Common.{ℕ, ◌≡◌, ◌≢◌, inl, inr, List, [], ◌∷◌, ◌++◌, Bool, true, false, cond, Option, Some, None, slice_get, find, option_and_then, option_map, unwrap_or, bytes_eq, refl, sym, ap, ◌∙◌}
 use Rattle.std.proofs.lemmas.Slice.Eq.{bytes_eq-Decides}
-use Rattle.std.proofs.lemmas.Option.{none-some}
+use Rattle.std.proofs.lemmas.Option.{none-some, same_Some}
 use Rattle.netlist_core.specs.declared.model.Design.{Design}
 use Rattle.netlist_core.specs.declared.model.Model.{Model}
 use Rattle.netlist_core.specs.declared.model.Pin.{Pin}
@@ -13,7 +13,7 @@ use Rattle.netlist_meaning.specs.Roots.{pin_named, actual_or_formal, out_of_line
 use Rattle.netlist_meaning.proofs.InNames.{root_of_top}
 use Rattle.netlist_meaning.proofs.Roots.{joined_is_same_root}
 use Rattle.lists.proofs.Members.{In, contains_from}
-use Rattle.sound_designs.proofs.Sound.{same_of, formals_once}
+use Rattle.sound_designs.proofs.Sound.{formals_once}
 use Rattle.flat_designs.specs.Laws.{RootsAreByPins}
 use Rattle.lists.proofs.Ends.{not_nil}
 
@@ -23,7 +23,7 @@ is_found formal [] pin e = absurd (none-some pin e)
 is_found formal (first ∷ pins) pin e = by (bytes_eq first.formal formal) refl e (is_found formal pins pin)
   where
     by : (b : Bool) → bytes_eq first.formal formal ≡ b → cond b (Some first) (find (λ (p : Pin). bytes_eq p.formal formal) pins) ≡ Some pin → (find (λ (p : Pin). bytes_eq p.formal formal) pins ≡ Some pin → In pin pins × (pin.formal ≡ formal)) → In pin (first ∷ pins) × (pin.formal ≡ formal)
-    by true h e rest = (inl (sym (same_of e)), ap (λ (p : Pin). p.formal) (sym (same_of e)) ∙ (bytes_eq-Decides first.formal formal).0 h)
+    by true h e rest = (inl (sym (same_Some _ _ e)), ap (λ (p : Pin). p.formal) (sym (same_Some _ _ e)) ∙ (bytes_eq-Decides first.formal formal).0 h)
     by false h e rest = let (i, same) = rest e in (inr i, same)
 
 -- out of a line a place that is not its own goes on

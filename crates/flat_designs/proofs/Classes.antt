@@ -1,7 +1,7 @@
 -- Nets are of one class exactly where they are joined, and a class's first net is its root.
 use Rattle.std.proofs.Common.{ℕ, ◌≡◌, ◌≢◌, ◌<◌, ◌≤◌, ◌⊎◌, inl, inr, List, [], ◌∷◌, Bool, true, false, Option, Some, None, slice_get, get_or, map, flat_map, length, option_and_then, option_map, unwrap_or, refl, sym, ap, ap₂, ◌∙◌, subst, arith, true≢false}
 use Rattle.std.proofs.lemmas.Slice.Eq.{bytes_eq-Decides}
-use Rattle.std.proofs.lemmas.Option.{slice_get-map, slice_get-get_or, slice_get_within, get_or_from_slice_get}
+use Rattle.std.proofs.lemmas.Option.{slice_get-map, slice_get-get_or, slice_get_within, get_or_from_slice_get, same_Some}
 use Rattle.netlist_core.specs.declared.model.Design.{Design}
 use Rattle.netlist_core.specs.declared.model.Model.{Model}
 use Rattle.netlist_core.specs.declared.model.Pin.{Pin}
@@ -10,13 +10,13 @@ use Rattle.netlist_core.specs.Names.{Name}
 use Rattle.netlist_meaning.specs.Places.{Place, main_model, model_placed, IsBefore}
 use Rattle.netlist_meaning.specs.Nets.{Net, net_at, model_names, IsNet, IsPinned, Joined, itself}
 use Rattle.netlist_meaning.specs.Roots.{pin_named, actual_or_formal, out_of_line, root_below, root}
-use Rattle.std.proofs.lemmas.Bool.{and_parts, and_from}
+use Rattle.std.proofs.lemmas.Bool.{and_parts, and_from, cases_lt}
 use Rattle.netlist_meaning.proofs.Joined.{joined_gives}
 use Rattle.netlist_meaning.proofs.Roots.{joined_is_same_root, roots_are_nearest}
 use Rattle.netlist_meaning.proofs.PlaceOrder.{places_are_ordered}
 use Rattle.netlist_rules.specs.ModelFaults.{AreFaultless}
 use Rattle.lists.proofs.Members.{In, in_right, in_map, in_flat, in_from, contains_from}
-use Rattle.sound_designs.proofs.Sound.{same_of, in_got, not_recursive, formals_once, formals_named}
+use Rattle.sound_designs.proofs.Sound.{in_got, not_recursive, formals_once, formals_named}
 use Rattle.netlist_core.specs.declared.flat.Flat.{Flat}
 use Rattle.netlist_meaning.specs.Flat.{class_of, no_net}
 use Rattle.netlist_meaning.specs.FlatOrder.{IsFirstOfClass}
@@ -73,7 +73,7 @@ net_there design faultless net n = position_at (nets_in_order design) net (net_l
 
 -- nets of one position are one
 pub one_position : (design : Design) → AreFaultless design.models → (a b : Net) → IsNet design a → IsNet design b → position_of (nets_in_order design) a ≡ position_of (nets_in_order design) b → a ≡ b
-one_position design faultless a b n m e = same_of (sym (net_there design faultless a n) ∙ ap (slice_get (nets_in_order design)) e ∙ net_there design faultless b m)
+one_position design faultless a b n m e = same_Some _ _ (sym (net_there design faultless a n) ∙ ap (slice_get (nets_in_order design)) e ∙ net_there design faultless b m)
 
 -- the flat net at a position
 pub flat_net_at : (design : Design) (flat : Flat) → IsFlatOf design flat → (k : ℕ) (net : Net) → slice_get (nets_in_order design) k ≡ Some net → get_or flat.nets k no_net ≡ flat_net design net
@@ -154,17 +154,14 @@ pub root_first : (design : Design) → AreFaultless design.models → (net : Net
 root_first design faultless net n = elim ((roots_are_nearest design (formals_once design faultless)).nearest net net itself) as (λ _. position_of (nets_in_order design) (root design net) ≤ position_of (nets_in_order design) net) [
   | inl same ↦ (let e : position_of (nets_in_order design) net ≡ position_of (nets_in_order design) (root design net) = ap (position_of (nets_in_order design)) same in omega arith)
   | inr less ↦ elim (around_before (root design net).place net.place (root_around design net)) as (λ _. position_of (nets_in_order design) (root design net) ≤ position_of (nets_in_order design) net) [
-    | inl before ↦ compare (position_of (nets_in_order design) (root design net)) (position_of (nets_in_order design) net) (λ l. later before (pair_at IsEarlierNet (nets_in_order design) (position_of (nets_in_order design) net) (position_of (nets_in_order design) (root design net)) net (root design net) (nets_ascend design) l (net_there design faultless net n) (net_there design faultless (root design net) (root_is_net design faultless net n))))
+    | inl before ↦ elim (cases_lt (position_of (nets_in_order design) net) (position_of (nets_in_order design) (root design net))) as (λ _. position_of (nets_in_order design) (root design net) ≤ position_of (nets_in_order design) net) [
+      | inl l ↦ absurd (later before (pair_at IsEarlierNet (nets_in_order design) (position_of (nets_in_order design) net) (position_of (nets_in_order design) (root design net)) net (root design net) (nets_ascend design) l (net_there design faultless net n) (net_there design faultless (root design net) (root_is_net design faultless net n))))
+      | inr m ↦ m
+    ]
     | inr same ↦ (let e : length (root design net).place ≡ length net.place = ap (λ (p : Place). length p) same in absurd (omega arith))
   ]
 ]
   where
-    compare : (a b : ℕ) → (b < a → ⊥) → a ≤ b
-    compare a b not_less = elim (order a b) as (λ _. a ≤ b) [ inl l ↦ l | inr m ↦ absurd (not_less m) ]
-      where
-        order : (a b : ℕ) → (a ≤ b) ⊎ (b < a)
-        order a b = grind arith
-
     later : IsBefore (root design net).place net.place → IsEarlierNet net (root design net) → ⊥
     later before (inl b) = places_are_ordered.never_itself net.place (places_are_ordered.goes_on net.place (root design net).place net.place b before)
     later before (inr same) = places_are_ordered.never_itself net.place (subst (λ p. IsBefore p net.place) (sym same.0) before)
@@ -179,11 +176,8 @@ firsts_are_roots design flat faultless h net n = (to, back)
     at net = position_of (nets_in_order design) net
 
     to : IsFirstOfClass flat (id_of design net.place net.name) → root design net ≡ net
-    to first = by (order (at (root design net)) (at net))
+    to first = by (cases_lt (at (root design net)) (at net))
       where
-        order : (a b : ℕ) → (a < b) ⊎ (b ≤ a)
-        order a b = grind arith
-
         by : (at (root design net) < at net) ⊎ (at net ≤ at (root design net)) → root design net ≡ net
         by (inl l) =
             absurd (first (at (root design net)) l

@@ -3,6 +3,7 @@ use Rattle.std.proofs.Common.{ℕ, zero, suc, ◌≡◌, ◌<◌, ◌⊎◌, inl
 use Rattle.std.specs.Prelude.{Contains}
 use Rattle.std.proofs.lemmas.List.{map-append}
 use Rattle.std.proofs.lemmas.Option.{none-some, slice_get-map}
+use Rattle.std.proofs.lemmas.Bool.{cases_order}
 use Rattle.netlist_core.specs.declared.model.Design.{Design}
 use Rattle.netlist_core.specs.declared.model.Model.{Model}
 use Rattle.netlist_core.specs.declared.model.Port.{Port}
@@ -121,15 +122,12 @@ less design p q k j n m l a b e before = let (model, is_m, is_l) = latch_is desi
 
 -- of lower position is what comes before
 before_of : (design : Design) (p q : Place) (k j n m : ℕ) (a b : LatchRow) → IsIndex design latches_of (flat_latch design) p k n → IsIndex design latches_of (flat_latch design) q j m → latch_at design p k ≡ Some a → latch_at design q j ≡ Some b → n < m → IsBefore p q ⊎ ((p ≡ q) × (k < j))
-before_of design p q k j n m a b x y is_a is_b l = by (places_are_ordered.one_of_three p q) (order k j)
+before_of design p q k j n m a b x y is_a is_b l = by (places_are_ordered.one_of_three p q) (cases_order k j)
   where
-    order : (i j : ℕ) → (i < j) ⊎ (i ≡ j) ⊎ (j < i)
-    order i j = grind arith
-
-    by : IsBefore p q ⊎ (p ≡ q) ⊎ IsBefore q p → (k < j) ⊎ (k ≡ j) ⊎ (j < k) → IsBefore p q ⊎ ((p ≡ q) × (k < j))
+    by : IsBefore p q ⊎ (p ≡ q) ⊎ IsBefore q p → (k ≡ j) ⊎ ((k < j) ⊎ (j < k)) → IsBefore p q ⊎ ((p ≡ q) × (k < j))
     by (inl before) o = inl before
-    by (inr (inl same)) (inl o) = inr (same, o)
-    by (inr (inl same)) (inr (inl o)) = absurd (let e : n ≡ m = one_index design latches_of (flat_latch design) p q k j n m x y same o in omega arith)
+    by (inr (inl same)) (inr (inl o)) = inr (same, o)
+    by (inr (inl same)) (inl o) = absurd (let e : n ≡ m = one_index design latches_of (flat_latch design) p q k j n m x y same o in omega arith)
     by (inr (inl same)) (inr (inr o)) = absurd (let e : m < n = less design q p j k m n b y x is_b (inr (sym same, o)) in omega arith)
     by (inr (inr after)) o = absurd (let e : m < n = less design q p j k m n b y x is_b (inl after) in omega arith)
 

@@ -1,13 +1,14 @@
 -- The position of what stands at a place, among what stands at places.
 use Rattle.std.proofs.Common.{ℕ, ◌≡◌, ◌≢◌, ◌<◌, ◌≤◌, ◌+◌, ◌⊎◌, inl, inr, List, Some, slice_get, map, length, option_map, refl, sym, ap, ap₂, ◌∙◌, subst, arith}
 use Rattle.std.proofs.lemmas.List.{length-map}
-use Rattle.std.proofs.lemmas.Option.{slice_get-map, slice_get_within}
+use Rattle.std.proofs.lemmas.Option.{slice_get-map, slice_get_within, same_Some}
+use Rattle.std.proofs.lemmas.Bool.{cases_order}
 use Rattle.netlist_core.specs.declared.model.Design.{Design}
 use Rattle.netlist_core.specs.declared.model.Model.{Model}
 use Rattle.netlist_meaning.specs.Places.{Place, model_at, IsBefore}
 use Rattle.netlist_meaning.proofs.PlaceOrder.{places_are_ordered}
 use Rattle.netlist_rules.specs.ModelFaults.{AreFaultless}
-use Rattle.sound_designs.proofs.Sound.{same_of, in_got, not_recursive}
+use Rattle.sound_designs.proofs.Sound.{in_got, not_recursive}
 use Rattle.sound_designs.proofs.Driven.{got_from}
 use Rattle.netlist_meaning.specs.InOrder.{of_some, places_in_order}
 use Rattle.netlist_meaning.specs.FlatOf.{at_places}
@@ -62,25 +63,22 @@ one_index design items f p q k j n m a b e g =
 -- what comes before has the lower position
 pub index_less : {X Y : Type 0} (design : Design) (items : Model → List X) (f : Place → X → Y) (p q : Place) (k j n m : ℕ) (model : Model) (x : X) → IsIndex design items f p k n → IsIndex design items f q j m
     → model_at design p ≡ Some model → slice_get (items model) k ≡ Some x → IsBefore p q ⊎ ((p ≡ q) × (k < j)) → n < m
-index_less design items f p q k j n m model x a b is_m is_x (inl h) = by (order a.at b.at)
+index_less design items f p q k j n m model x a b is_m is_x (inl h) = by (cases_order a.at b.at)
   where
-    order : (i j : ℕ) → (i < j) ⊎ (i ≡ j) ⊎ (j < i)
-    order i j = grind arith
-
     within : k < length (row design items f p)
     within =
         let l : k < length (items model) = slice_get_within (items model) k x is_x in
         let same : length (row design items f p) ≡ length (items model) = ap (λ o. length (map (f p) (of_some items o))) is_m ∙ length-map (items model) (f p) in
         omega arith
 
-    by : (a.at < b.at) ⊎ (a.at ≡ b.at) ⊎ (b.at < a.at) → n < m
-    by (inl l) =
+    by : (a.at ≡ b.at) ⊎ ((a.at < b.at) ⊎ (b.at < a.at)) → n < m
+    by (inr (inl l)) =
         let s : start (row design items f) (places_in_order design) a.at + length (row design items f p) ≤ start (row design items f) (places_in_order design) b.at = start_less (row design items f) (places_in_order design) a.at b.at p q a.is_place b.is_place l in
         let w : k < length (row design items f p) = within in
         let e : n ≡ start (row design items f) (places_in_order design) a.at + k = a.is_index in
         let g : m ≡ start (row design items f) (places_in_order design) b.at + j = b.is_index in
         omega arith
-    by (inr (inl e)) = absurd (before_apart p q h (same_of (sym a.is_place ∙ ap (slice_get (places_in_order design)) e ∙ b.is_place)))
+    by (inl e) = absurd (before_apart p q h (same_Some _ _ (sym a.is_place ∙ ap (slice_get (places_in_order design)) e ∙ b.is_place)))
     by (inr (inr l)) = absurd (places_are_ordered.never_itself p (places_are_ordered.goes_on p q p h (pair_at IsBefore (places_in_order design) b.at a.at q p (ascend design) l b.is_place a.is_place)))
 index_less design items f p q k j n m model x a b is_m is_x (inr (e, l)) =
     let same : a.at ≡ b.at = one_place (places_in_order design) a.at b.at q (places_once design) (a.is_place ∙ ap Some e) b.is_place in

@@ -1,8 +1,7 @@
 -- The list of places has each place once, that of names each name, that of nets each net.
 use Rattle.std.proofs.Common.{ℕ, zero, suc, ◌≡◌, ◌≢◌, ◌<◌, ◌+◌, ◌⊎◌, inl, inr, List, [], ◌∷◌, ◌++◌, Bool, true, false, cond, Option, Some, None, slice_get, map, flat_map, length, option_and_then, option_to_list, nat_le, bytes_eq, is_some, refl, sym, ap, ap₂, ◌∙◌, subst, arith, true≢false}
-use Rattle.std.specs.Prelude.{IsSome}
 use Rattle.std.proofs.lemmas.Slice.Eq.{bytes_eq-Decides}
-use Rattle.std.proofs.lemmas.Option.{none-some}
+use Rattle.std.proofs.lemmas.Option.{none-some, same_Some}
 use Rattle.std.proofs.lemmas.List.{map-append}
 use Rattle.netlist_core.specs.declared.model.Design.{Design}
 use Rattle.netlist_core.specs.declared.model.Model.{Model}
@@ -16,13 +15,13 @@ use Rattle.netlist_meaning.specs.Places.{Place, main_model, model_placed, model_
 use Rattle.netlist_meaning.specs.Nets.{Net, net_at, model_names, IsNet}
 use Rattle.netlist_meaning.specs.Laws.{IsNotRecursive}
 use Rattle.netlist_meaning.proofs.Names.{and_then-from}
-use Rattle.netlist_meaning.proofs.Depth.{places_are_shallow}
+use Rattle.netlist_meaning.proofs.Depth.{places_are_shallow, some_from}
 use Rattle.netlist_meaning.proofs.PlaceOrder.{places_are_ordered}
 use Rattle.lists.proofs.Members.{In, in_left, in_right, in_parts, in_map, in_mapped, in_flat, in_flattened, in_from, contains_from}
-use Rattle.sound_designs.proofs.Sound.{same_of}
 use Rattle.netlist_meaning.specs.InOrder.{of_some, places_in_lines, places_below, places_in_order, cover_words, latch_words, subckt_words, model_words, put_by_line, by_line, cons_unless, without_name, first_names, names_in_order, nets_at, nets_in_order}
 use Rattle.flat_designs.specs.Laws.{PlacesAreListed, NamesAreListed, NetsAreListed}
 use Rattle.flat_designs.proofs.Lists.{Pairs, all_pairs, pairs_append, pairs_map, pairs_flat, pairs_weaken}
+use Rattle.netlist_rules.proofs.Faultless.{port_name}
 
 -- a place inside one of some lines
 pub record InLine (places : Subckt → List Place) (first : ℕ) (lines : List Subckt) (place : Place) : Type 0 where
@@ -50,7 +49,7 @@ pub from_line : (places : Subckt → List Place) (first : ℕ) (lines : List Sub
 from_line places first [] number at line inner e g i = absurd (none-some line g)
 from_line places first (x ∷ lines) number zero line inner e g i =
     let same : first ≡ number = omega arith in
-    in_left _ (places_in_lines places (suc first) lines) (number ∷ inner) (subst (λ v. In (v ∷ inner) (map (λ p. first ∷ p) (places x))) same (in_map (λ p. first ∷ p) (places x) inner (subst (λ v. In inner (places v)) (sym (same_of g)) i)))
+    in_left _ (places_in_lines places (suc first) lines) (number ∷ inner) (subst (λ v. In (v ∷ inner) (map (λ p. first ∷ p) (places x))) same (in_map (λ p. first ∷ p) (places x) inner (subst (λ v. In inner (places v)) (sym (same_Some _ _ g)) i)))
 from_line places first (x ∷ lines) number (suc at) line inner e g i =
     in_right (map (λ p. first ∷ p) (places x)) (places_in_lines places (suc first) lines) (number ∷ inner) (from_line places (suc first) lines number at line inner (omega arith) g i)
 
@@ -116,10 +115,6 @@ ascend design = by (main_model design)
     by None = tt
     by (Some m) = ascend_below design (length design.models) m
 
-pub some_is : {X : Type 0} (o : Option X) → IsSome o → (x : X) × (o ≡ Some x)
-some_is None e = absurd (true≢false (sym e))
-some_is (Some x) e = (x, refl)
-
 pub place_is : (design : Design) (place : Place) → In place (places_in_order design) → (b : Model) × (model_at design place ≡ Some b)
 place_is design place i = by (main_model design) i
   where
@@ -135,7 +130,7 @@ place_listed design away place b e =
 
 pub places_are_listed : PlacesAreListed
 places_are_listed design away = record {
-  all = λ place. ((λ c. let (b, e) = place_is design place (in_from _ place c) in ap is_some e), (λ s. let (b, e) = some_is (model_at design place) s in contains_from _ place (place_listed design away place b e)));
+  all = λ place. ((λ c. let (b, e) = place_is design place (in_from _ place c) in ap is_some e), (λ s. let (b, e) = some_from (model_at design place) s in contains_from _ place (place_listed design away place b e)));
   ascend = all_pairs IsBefore (places_in_order design) (ascend design);
 }
 
@@ -237,18 +232,15 @@ words_are_names m =
     (names_flat latch_words (λ (l : LatchRow). l.input ∷ l.output ∷ option_to_list l.control) (λ (l : LatchRow). at_lines l.line (l.input ∷ l.output ∷ option_to_list l.control)) m.latches))
     (names_flat subckt_words (λ (s : Subckt). map (λ (pin : Pin). pin.actual) s.pins) (λ (s : Subckt). pin_lines s.line s.pins) m.subckts)
 
-abbrev name_of : Port → Name
-name_of p = p.name
-
 pub name_is : (m : Model) (name : Name) → In name (names_in_order m) → In name (model_names m)
 name_is m name i =
-    let (p, j, e) = in_mapped name_of (by_line (model_words m)) name (in_firsts _ name i) in
-    subst (λ ns. In name ns) (words_are_names m) (subst (λ v. In v (port_names (model_words m))) (sym e) (in_map name_of (model_words m) p (in_by_line (model_words m) p j)))
+    let (p, j, e) = in_mapped port_name (by_line (model_words m)) name (in_firsts _ name i) in
+    subst (λ ns. In name ns) (words_are_names m) (subst (λ v. In v (port_names (model_words m))) (sym e) (in_map port_name (model_words m) p (in_by_line (model_words m) p j)))
 
 pub name_listed : (m : Model) (name : Name) → In name (model_names m) → In name (names_in_order m)
 name_listed m name i =
-    let (p, j, e) = in_mapped name_of (model_words m) name (subst (λ ns. In name ns) (sym (words_are_names m)) i) in
-    firsts_in _ name (subst (λ v. In v (port_names (by_line (model_words m)))) (sym e) (in_map name_of (by_line (model_words m)) p (by_line_in (model_words m) p j)))
+    let (p, j, e) = in_mapped port_name (model_words m) name (subst (λ ns. In name ns) (sym (words_are_names m)) i) in
+    firsts_in _ name (subst (λ v. In v (port_names (by_line (model_words m)))) (sym e) (in_map port_name (by_line (model_words m)) p (by_line_in (model_words m) p j)))
 
 pub names_once : (m : Model) → Pairs (λ a b. a ≢ b) (names_in_order m)
 names_once m = firsts_once (port_names (by_line (model_words m)))

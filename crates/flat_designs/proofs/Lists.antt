@@ -1,12 +1,14 @@
 -- Lists, their elements and pairs of elements.
-use Rattle.std.proofs.Common.{ℕ, zero, suc, ◌≡◌, ◌≢◌, ◌<◌, ◌≤◌, ◌+◌, ◌⊎◌, inl, inr, List, [], ◌∷◌, ◌++◌, Option, Some, None, slice_get, get_or, map, flat_map, length, refl, sym, ap, ap₂, ◌∙◌, subst, arith}
+use Rattle.std.proofs.Common.{ℕ, zero, suc, ◌≡◌, ◌≢◌, ◌<◌, ◌≤◌, ◌+◌, ◌⊎◌, inl, inr, List, [], ◌∷◌, ◌++◌, Option, Some, None, slice_get, get_or, map, flat_map, length, refl, sym, ap, ap₂, ◌∙◌, subst, arith, drop}
 use Rattle.std.specs.Prelude.{All, AllPairs}
 use Rattle.std.proofs.lemmas.List.Kept.{AllPairs-cons}
 use Rattle.std.proofs.lemmas.List.Elements.{All-from_get_or}
 use Rattle.std.proofs.lemmas.List.{map-append}
-use Rattle.std.proofs.lemmas.Option.{none-some, slice_get-get_or}
+use Rattle.std.proofs.lemmas.Option.{none-some, slice_get-get_or, same_Some}
+use Rattle.std.proofs.lemmas.Bool.{cases_order}
 use Rattle.lists.proofs.Members.{In, in_parts, in_mapped, in_flattened}
-use Rattle.sound_designs.proofs.Sound.{same_of, in_got}
+use Rattle.lists.proofs.Cuts.{got_left, got_right}
+use Rattle.sound_designs.proofs.Sound.{in_got}
 
 -- a relation holds of each element and each later one
 abbrev pub Pairs : {X : Type 0} → (X → X → Type 0) → List X → Type 0
@@ -50,20 +52,21 @@ pairs_weaken S R (x ∷ xs) g h = ((λ y i. g x y (h.0 y i)), pairs_weaken S R x
 pub pair_at : {X : Type 0} (R : X → X → Type 0) (xs : List X) (i j : ℕ) (x y : X) → Pairs R xs → i < j → slice_get xs i ≡ Some x → slice_get xs j ≡ Some y → R x y
 pair_at R [] i j x y h l e f = absurd (none-some x e)
 pair_at R (z ∷ zs) i zero x y h l e f = absurd (omega arith)
-pair_at R (z ∷ zs) zero (suc j) x y h l e f = subst (λ v. R v y) (same_of e) (h.0 y (in_got zs j y f))
+pair_at R (z ∷ zs) zero (suc j) x y h l e f = subst (λ v. R v y) (same_Some _ _ e) (h.0 y (in_got zs j y f))
 pair_at R (z ∷ zs) (suc i) (suc j) x y h l e f = pair_at R zs i j x y h.1 (omega arith) e f
+
+-- elements of which neither can stand before the other stand at one place
+pub one_of_pairs : {X : Type 0} (R : X → X → Type 0) (xs : List X) (i j : ℕ) (x y : X) → Pairs R xs → slice_get xs i ≡ Some x → slice_get xs j ≡ Some y → ¬ R x y → ¬ R y x → i ≡ j
+one_of_pairs R xs i j x y h e f not_before not_after = by (cases_order i j)
+  where
+    by : (i ≡ j) ⊎ ((i < j) ⊎ (j < i)) → i ≡ j
+    by (inl same) = same
+    by (inr (inl l)) = absurd (not_before (pair_at R xs i j x y h l e f))
+    by (inr (inr l)) = absurd (not_after (pair_at R xs j i y x h l f e))
 
 -- elements that differ stand at one place each
 pub one_place : {X : Type 0} (xs : List X) (i j : ℕ) (x : X) → Pairs (λ a b. a ≢ b) xs → slice_get xs i ≡ Some x → slice_get xs j ≡ Some x → i ≡ j
-one_place xs i j x h e f = by (order i j)
-  where
-    order : (i j : ℕ) → (i < j) ⊎ (i ≡ j) ⊎ (j < i)
-    order i j = grind arith
-
-    by : (i < j) ⊎ (i ≡ j) ⊎ (j < i) → i ≡ j
-    by (inl l) = absurd (pair_at (λ a b. a ≢ b) xs i j x x h l e f refl)
-    by (inr (inl e)) = e
-    by (inr (inr l)) = absurd (pair_at (λ a b. a ≢ b) xs j i x x h l f e refl)
+one_place xs i j x h e f = one_of_pairs (λ a b. a ≢ b) xs i j x x h e f (λ apart. apart refl) (λ apart. apart refl)
 
 -- where an element of joined lists comes from
 abbrev pub start : {X Y : Type 0} → (X → List Y) → List X → ℕ → ℕ
@@ -99,7 +102,7 @@ from f (x ∷ xs) n y e = elim (got_append (f x) (flat_map f xs) n y e) as (λ _
 
 pub in_some_map : {X Y : Type 0} (f : X → Y) (o : Option X) (y : Y) → Rattle.std.specs.Prelude.option_map f o ≡ Some y → (x : X) × (o ≡ Some x) × (f x ≡ y)
 in_some_map f None y e = absurd (none-some y e)
-in_some_map f (Some x) y e = (x, refl, same_of e)
+in_some_map f (Some x) y e = (x, refl, same_Some _ _ e)
 
 pub map_in : {X Y : Type 0} (f g : X → Y) (xs : List X) → ((x : X) → In x xs → f x ≡ g x) → map f xs ≡ map g xs
 map_in f g [] same = refl
@@ -109,18 +112,14 @@ pub map_flat : {X Y Z : Type 0} (g : Y → Z) (f : X → List Y) (h : X → List
 map_flat g f h [] same = refl
 map_flat g f h (x ∷ xs) same = map-append g (f x) (flat_map f xs) ∙ ap₂ (λ a b. a ++ b) (same x (inl refl)) (map_flat g f h xs (λ y i. same y (inr i)))
 
-abbrev pub tail : {X : Type 0} → List X → List X
-tail [] = []
-tail (x ∷ xs) = xs
-
 -- joined lists of equal lengths are equal part by part
 append_same : {X : Type 0} (xs ys zs ws : List X) → length xs ≡ length zs → xs ++ ys ≡ zs ++ ws → (xs ≡ zs) × (ys ≡ ws)
 append_same [] ys [] ws l e = (refl, e)
 append_same [] ys (z ∷ zs) ws l e = absurd (omega arith)
 append_same (x ∷ xs) ys [] ws l e = absurd (omega arith)
 append_same (x ∷ xs) ys (z ∷ zs) ws l e =
-    let r = append_same xs ys zs ws (let h : length xs ≡ length zs = omega arith in h) (ap tail e) in
-    (ap₂ (λ a b. a ∷ b) (same_of (ap (λ v. slice_get v 0) e)) r.0, r.1)
+    let r = append_same xs ys zs ws (let h : length xs ≡ length zs = omega arith in h) (ap (drop 1) e) in
+    (ap₂ (λ a b. a ∷ b) (same_Some _ _ (ap (λ v. slice_get v 0) e)) r.0, r.1)
 
 pub flat_same : {X Y : Type 0} (f g : X → List Y) (xs : List X) → ((x : X) → length (f x) ≡ length (g x)) → flat_map f xs ≡ flat_map g xs → (x : X) → In x xs → f x ≡ g x
 flat_same f g [] l e x i = absurd i
@@ -132,25 +131,16 @@ pub into : {X Y : Type 0} (f : X → List Y) (xs : List X) (at number : ℕ) (x 
 into f [] at number x y e g = absurd (none-some x e)
 into f (z ∷ zs) zero number x y e g =
     let same : 0 + number ≡ number = omega arith in
-    ap (slice_get (f z ++ flat_map f zs)) same ∙ left (f z) (flat_map f zs) number y (ap (λ v. slice_get (f v) number) (same_of e) ∙ g)
-  where
-    left : {Y : Type 0} (xs ys : List Y) (k : ℕ) (y : Y) → slice_get xs k ≡ Some y → slice_get (xs ++ ys) k ≡ Some y
-    left [] ys k y e = absurd (none-some y e)
-    left (x ∷ xs) ys zero y e = e
-    left (x ∷ xs) ys (suc k) y e = left xs ys k y e
+    ap (slice_get (f z ++ flat_map f zs)) same ∙ got_left (f z) (flat_map f zs) number y (ap (λ v. slice_get (f v) number) (same_Some _ _ e) ∙ g)
 into f (z ∷ zs) (suc at) number x y e g =
     let same : (length (f z) + start f zs at) + number ≡ length (f z) + (start f zs at + number) = omega arith in
-    ap (slice_get (f z ++ flat_map f zs)) same ∙ right (f z) (flat_map f zs) (start f zs at + number) y (into f zs at number x y e g)
-  where
-    right : {Y : Type 0} (xs ys : List Y) (k : ℕ) (y : Y) → slice_get ys k ≡ Some y → slice_get (xs ++ ys) (length xs + k) ≡ Some y
-    right [] ys k y e = let same : 0 + k ≡ k = omega arith in ap (slice_get ys) same ∙ e
-    right (x ∷ xs) ys k y e = let same : suc (length xs) + k ≡ suc (length xs + k) = omega arith in ap (slice_get (x ∷ (xs ++ ys))) same ∙ right xs ys k y e
+    ap (slice_get (f z ++ flat_map f zs)) same ∙ got_right (f z) (flat_map f zs) (start f zs at + number) ∙ into f zs at number x y e g
 
 -- lists of later elements begin later
 pub start_less : {X Y : Type 0} (f : X → List Y) (xs : List X) (i j : ℕ) (x y : X) → slice_get xs i ≡ Some x → slice_get xs j ≡ Some y → i < j → start f xs i + length (f x) ≤ start f xs j
 start_less f [] i j x y e g l = absurd (none-some x e)
 start_less f (z ∷ zs) i zero x y e g l = absurd (omega arith)
-start_less f (z ∷ zs) zero (suc j) x y e g l = let same : length (f z) ≡ length (f x) = ap (λ v. length (f v)) (same_of e) in let h : 0 + length (f x) ≤ length (f z) + start f zs j = omega arith in h
+start_less f (z ∷ zs) zero (suc j) x y e g l = let same : length (f z) ≡ length (f x) = ap (λ v. length (f v)) (same_Some _ _ e) in let h : 0 + length (f x) ≤ length (f z) + start f zs j = omega arith in h
 start_less f (z ∷ zs) (suc i) (suc j) x y e g l =
     let r : start f zs i + length (f x) ≤ start f zs j = start_less f zs i j x y e g (omega arith) in
     let h : (length (f z) + start f zs i) + length (f x) ≤ length (f z) + start f zs j = omega arith in h

@@ -1,18 +1,17 @@
 -- Words by line, and names where they first stand.
-use Rattle.std.proofs.Common.{ℕ, suc, ◌≡◌, ◌<◌, ◌≤◌, inl, inr, List, [], ◌∷◌, ◌++◌, Bool, true, false, cond, ◌||◌, ◌==◌, nat_le, slice_get, length, bytes_eq, refl, sym, ap, ap₂, ◌∙◌, subst, arith, true≢false}
+use Rattle.std.proofs.Common.{ℕ, suc, ◌≡◌, ◌<◌, ◌≤◌, inl, inr, List, [], ◌∷◌, ◌++◌, Bool, true, false, cond, ◌||◌, ◌==◌, nat_le, slice_get, length, bytes_eq, refl, sym, ap, ap₂, ◌∙◌, subst, arith, true≢false, drop}
 use Rattle.std.specs.Prelude.{AllPairs}
 use Rattle.std.specs.List.{list_any}
-use Rattle.std.proofs.lemmas.Slice.Eq.{bytes_eq-Decides}
 use Rattle.std.proofs.lemmas.Bool.Decides.{leb_tells, Decides-eqb}
-use Rattle.std.proofs.lemmas.Option.{slice_get_within, get_or_from_slice_get}
+use Rattle.std.proofs.lemmas.Option.{slice_get_within, get_or_from_slice_get, same_Some}
 use Rattle.netlist_core.specs.declared.model.Port.{Port}
 use Rattle.netlist_core.specs.Names.{Name}
 use Rattle.lists.proofs.Members.{In}
-use Rattle.sound_designs.proofs.Sound.{same_of}
+use Rattle.lists.proofs.Names.{bytes_eq-turned}
 use Rattle.sound_designs.proofs.Driven.{got_from}
 use Rattle.netlist_meaning.specs.InOrder.{put_by_line, by_line, cons_when, words_on_line, cons_unless, without_name, first_names}
 use Rattle.flat_designs.specs.Laws.{StandByLine, WordsStandByLine, append_unless, NamesComeWhereFirst}
-use Rattle.flat_designs.proofs.Lists.{Pairs, all_pairs, tail}
+use Rattle.flat_designs.proofs.Lists.{Pairs, all_pairs}
 use Rattle.flat_designs.proofs.Listed.{in_put}
 
 pairs_of_all : {X : Type 0} (R : X → X → Type 0) (xs : List X) → AllPairs R xs → Pairs R xs
@@ -104,11 +103,11 @@ one_by_line (x ∷ xs) (y ∷ ys) h k same =
     let down : x.line ≤ y.line = first_up_to x xs h y (in_on_line y.line (x ∷ xs) y (subst (λ zs. In y zs) (sym (head_on_line y ys) ∙ sym (same y.line)) (inl refl))) in
     let line : x.line ≡ y.line = omega arith in
     let heads : x ∷ words_on_line x.line xs ≡ y ∷ words_on_line x.line ys = sym (head_on_line x xs) ∙ same x.line ∙ ap (λ n. words_on_line n (y ∷ ys)) line ∙ head_on_line y ys ∙ ap (λ n. y ∷ words_on_line n ys) (sym line) in
-    let first : x ≡ y = same_of (ap (λ zs. slice_get zs 0) heads) in
+    let first : x ≡ y = same_Some _ _ (ap (λ zs. slice_get zs 0) heads) in
     ap₂ (λ a b. a ∷ b) first (one_by_line xs ys h.1 k.1 (λ n. rest n (x.line == n) refl (same n ∙ ap (λ (v : Port). cons_when (v.line == n) v (words_on_line n ys)) (sym first))))
   where
     rest : (n : ℕ) (b : Bool) → (x.line == n) ≡ b → cons_when (x.line == n) x (words_on_line n xs) ≡ cons_when (x.line == n) x (words_on_line n ys) → words_on_line n xs ≡ words_on_line n ys
-    rest n true e s = ap tail (ap (λ b. cons_when b x (words_on_line n xs)) (sym e) ∙ s ∙ ap (λ b. cons_when b x (words_on_line n ys)) e)
+    rest n true e s = ap (drop 1) (ap (λ b. cons_when b x (words_on_line n xs)) (sym e) ∙ s ∙ ap (λ b. cons_when b x (words_on_line n ys)) e)
     rest n false e s = ap (λ b. cons_when b x (words_on_line n xs)) (sym e) ∙ s ∙ ap (λ b. cons_when b x (words_on_line n ys)) e
 
 pub words_stand_by_line : WordsStandByLine
@@ -137,20 +136,12 @@ names_come_where_first (n ∷ names) name =
     ap (λ ns. n ∷ without_name n ns) (names_come_where_first names name)
     ∙ by (list_any (bytes_eq name) names) (bytes_eq name n) refl
   where
-    same : (b : Bool) → bytes_eq name n ≡ b → bytes_eq n name ≡ b
-    same true e = (bytes_eq-Decides n name).1 (sym ((bytes_eq-Decides name n).0 e))
-    same false e = other (bytes_eq n name) refl
-      where
-        other : (c : Bool) → bytes_eq n name ≡ c → bytes_eq n name ≡ false
-        other true h = absurd (true≢false (sym ((bytes_eq-Decides name n).1 (sym ((bytes_eq-Decides n name).0 h))) ∙ e))
-        other false h = h
-
     by : (seen here : Bool) → bytes_eq name n ≡ here → n ∷ without_name n (append_unless seen (first_names names) name) ≡ append_unless (bytes_eq name n || seen) (n ∷ without_name n (first_names names)) name
     by true true e = ap (λ b. append_unless (b || true) (n ∷ without_name n (first_names names)) name) (sym e)
     by true false e = ap (λ b. append_unless (b || true) (n ∷ without_name n (first_names names)) name) (sym e)
     by false true e =
-        ap (λ ns. n ∷ ns) (without_last n (first_names names) name ∙ ap (λ b. append_unless b (without_name n (first_names names)) name) (same true e))
+        ap (λ ns. n ∷ ns) (without_last n (first_names names) name ∙ ap (λ b. append_unless b (without_name n (first_names names)) name) (bytes_eq-turned n name ∙ e))
         ∙ ap (λ b. append_unless (b || false) (n ∷ without_name n (first_names names)) name) (sym e)
     by false false e =
-        ap (λ ns. n ∷ ns) (without_last n (first_names names) name ∙ ap (λ b. append_unless b (without_name n (first_names names)) name) (same false e))
+        ap (λ ns. n ∷ ns) (without_last n (first_names names) name ∙ ap (λ b. append_unless b (without_name n (first_names names)) name) (bytes_eq-turned n name ∙ e))
         ∙ ap (λ b. append_unless (b || false) (n ∷ without_name n (first_names names)) name) (sym e)

@@ -1,58 +1,42 @@
 -- The inputs of a model without a fault have different names.
-use Rattle.std.proofs.Common.{ℕ, ◌≡◌, ◌≢◌, ◌<◌, ◌≤◌, ◌⊎◌, inl, inr, List, [], ◌∷◌, ◌++◌, Bool, false, ◌||◌, Some, slice_get, refl, sym, ap, ◌∙◌, subst, arith}
-use Rattle.std.specs.Prelude.{option_to_list}
-use Rattle.std.specs.Bool.{then_some}
-use Rattle.std.specs.List.{list_any}
+use Rattle.std.proofs.Common.{ℕ, ◌≡◌, ◌≢◌, ◌⊎◌, inl, inr, List, [], ◌∷◌, ◌++◌, Bool, Some, slice_get, sym, subst}
 use Rattle.netlist_core.specs.declared.model.Port.{Port}
 use Rattle.netlist_core.specs.declared.model.Model.{Model}
 use Rattle.netlist_core.specs.declared.model.Design.{Design}
 use Rattle.netlist_meaning.specs.Nets.{net_at, IsControl}
 use Rattle.netlist_rules.specs.declared.fault.FaultKind.TheVariants.{DuplicatePort}
-use Rattle.netlist_rules.specs.Drivers.{same_name_up_to, same_name_before, stands_earlier}
 use Rattle.netlist_rules.specs.ModelFaults.{AreFaultless, doubles_after, is_output_before, is_input_by_then}
 use Rattle.lists.proofs.Members.{In}
-use Rattle.sound_designs.proofs.Local.{not_any, not_up_to, not_before}
-use Rattle.lists.proofs.Bools.{or_false_left as first_of, or_false_right as second_of}
+use Rattle.sound_designs.proofs.Local.{Apart, no_repeat}
 use Rattle.lists.proofs.Appends.{append_nil_left as none_left, append_nil_right as none_right}
-use Rattle.sound_designs.proofs.Driven.{clean_of}
 use Rattle.netlist_meaning.specs.FlatOf.{PortsWithoutControl, kept, left_out}
-use Rattle.flat_designs.proofs.Lists.{Pairs, pair_at, pairs_map}
+use Rattle.flat_designs.proofs.Lists.{Pairs, one_of_pairs, pairs_map}
 use Rattle.netlist_core.specs.Names.{Name, port_names}
 use Rattle.flat_designs.proofs.Valuations.{port_kept}
-use Rattle.netlist_rules.proofs.Faultless.{none_kept}
+use Rattle.sound_designs.proofs.Exists.{no_double}
+use Rattle.sound_designs.proofs.Sound.{clean_of}
 
 abbrev pub OtherName : Port → Port → Type 0
 OtherName p q = q.name ≢ p.name
 
-record Once (before ports : List Port) : Type 0 where
-  pub apart : Pairs OtherName ports
-  pub later : (b p : Port) → In b before → In p ports → p.name ≡ b.name → p.line < b.line
+apart_pairs : (ports : List Port) → Apart ports → Pairs OtherName ports
+apart_pairs [] a = tt
+apart_pairs (p ∷ ports) a = (a.0, apart_pairs ports a.1)
 
-once : (test : Port → Bool) (before ports : List Port) → doubles_after test before ports ≡ [] → Once before ports
-once test before [] e = record { apart = tt; later = λ b p i j. absurd j }
-once test before (p ∷ after) e =
-    let here : stands_earlier before p after ≡ false = first_of (stands_earlier before p after) (test p) (none_kept (stands_earlier before p after || test p) p (none_left (option_to_list (then_some (stands_earlier before p after || test p) p)) (doubles_after test (p ∷ before) after) e)) in
-    let rest : Once (p ∷ before) after = once test (p ∷ before) after (none_right (option_to_list (then_some (stands_earlier before p after || test p) p)) (doubles_after test (p ∷ before) after) e) in
-    let none_before : list_any (same_name_up_to p) before ≡ false = first_of (list_any (same_name_up_to p) before) (list_any (same_name_before p) after) here in
-    let none_after : list_any (same_name_before p) after ≡ false = second_of (list_any (same_name_up_to p) before) (list_any (same_name_before p) after) here in
-    record {
-      apart = (λ q i same. (let up : q.line < p.line = rest.later p q (inl refl) i same in let down : p.line ≤ q.line = not_before p q (not_any (same_name_before p) after q none_after i) same in absurd (omega arith)), rest.apart);
-      later = λ b q i j same. elim j as (λ _. q.line < b.line) [
-        | inl is ↦ subst (λ (v : Port). v.line < b.line) (sym is) (not_up_to p b (not_any (same_name_up_to p) before b none_before i) (sym same ∙ ap (λ (v : Port). v.name) is))
-        | inr k ↦ rest.later b q (inr i) k same
-      ];
-    }
+-- ports of which none doubles another
+once : (test : Port → Bool) (ports : List Port) → doubles_after test [] ports ≡ [] → Pairs OtherName ports
+once test ports e = apart_pairs ports (no_repeat ports (no_double test [] ports e))
 
 pub inputs_apart : (models : List Model) → AreFaultless models → (m : Model) → In m models → Pairs OtherName m.ins
 inputs_apart models faultless m i =
-    (once (is_output_before m) [] m.ins
+    once (is_output_before m) m.ins
     (none_left (doubles_after (is_output_before m) [] m.ins) (doubles_after (is_output_before m) [] m.clocks)
-    (none_left (doubles_after (is_output_before m) [] m.ins ++ doubles_after (is_output_before m) [] m.clocks) (doubles_after (is_input_by_then m) [] m.outs) (clean_of models faultless DuplicatePort m i)))).apart
+    (none_left (doubles_after (is_output_before m) [] m.ins ++ doubles_after (is_output_before m) [] m.clocks) (doubles_after (is_input_by_then m) [] m.outs) (clean_of models faultless DuplicatePort m i)))
 
 pub outputs_apart : (models : List Model) → AreFaultless models → (m : Model) → In m models → Pairs OtherName m.outs
 outputs_apart models faultless m i =
-    (once (is_input_by_then m) [] m.outs
-    (none_right (doubles_after (is_output_before m) [] m.ins ++ doubles_after (is_output_before m) [] m.clocks) (doubles_after (is_input_by_then m) [] m.outs) (clean_of models faultless DuplicatePort m i))).apart
+    once (is_input_by_then m) m.outs
+    (none_right (doubles_after (is_output_before m) [] m.ins ++ doubles_after (is_output_before m) [] m.clocks) (doubles_after (is_input_by_then m) [] m.outs) (clean_of models faultless DuplicatePort m i))
 
 -- so their names differ
 pub names_apart : (ports : List Port) → Pairs OtherName ports → Pairs (λ a b. a ≢ b) (port_names ports)
@@ -78,12 +62,4 @@ kept_or_control design (q ∷ ports) rest p (left_out c h) (inr i) = kept_or_con
 
 -- two of one name are one
 pub one_port : (ports : List Port) (i j : ℕ) (p q : Port) → Pairs OtherName ports → slice_get ports i ≡ Some p → slice_get ports j ≡ Some q → p.name ≡ q.name → i ≡ j
-one_port ports i j p q a e g same = by (order i j)
-  where
-    order : (i j : ℕ) → (i < j) ⊎ (i ≡ j) ⊎ (j < i)
-    order i j = grind arith
-
-    by : (i < j) ⊎ (i ≡ j) ⊎ (j < i) → i ≡ j
-    by (inl l) = absurd (pair_at OtherName ports i j p q a l e g (sym same))
-    by (inr (inl e)) = e
-    by (inr (inr l)) = absurd (pair_at OtherName ports j i q p a l g e same)
+one_port ports i j p q a e g same = one_of_pairs OtherName ports i j p q a e g (λ other. other (sym same)) (λ other. other same)

@@ -3,7 +3,7 @@ use Rattle.std.proofs.Common.{ℕ, ◌≡◌, ◌≢◌, ◌<◌, ◌≤◌, ◌
 use Rattle.std.specs.Prelude.{Contains, All, MatchOption, ⊤, option_to_list}
 use Rattle.std.proofs.lemmas.List.{length-map}
 use Rattle.std.proofs.lemmas.Option.{slice_get-map, slice_get-get_or, slice_get_within, slice_get_past, unwrap_or-slice_get}
-use Rattle.std.proofs.lemmas.Bool.{cases_eq}
+use Rattle.std.proofs.lemmas.Bool.{cases_eq, cases_lt}
 use Rattle.netlist_core.specs.declared.model.Design.{Design}
 use Rattle.netlist_core.specs.declared.model.Model.{Model}
 use Rattle.netlist_core.specs.declared.model.Port.{Port}
@@ -341,11 +341,8 @@ undriven design flat faultless clean h class (node k) (less, is_class) c =
     (subst (IsClockClass flat) (sym is_class ∙ ap (λ (v : Node). class_of flat v.out) r.is_node) c)
 
 unread : (design : Design) (flat : Flat) → AreFaultless design.models → HasNoClockFault design → IsFlatOf design flat → (n class : ℕ) → Contains (in_classes flat n) class → ¬ IsClockClass flat class
-unread design flat faultless clean h n class reads c = by (order n (length flat.nodes))
+unread design flat faultless clean h n class reads c = by (cases_lt n (length flat.nodes))
   where
-    order : (a b : ℕ) → (a < b) ⊎ (b ≤ a)
-    order a b = grind arith
-
     by : (n < length flat.nodes) ⊎ (length flat.nodes ≤ n) → ⊥
     by (inl less) =
         let r : NodeIs design flat n = node_is design flat h n less in

@@ -3,7 +3,7 @@ use Rattle.std.proofs.Common.{ℕ, zero, suc, ◌≡◌, ◌<◌, ◌+◌, inl, 
 use Rattle.std.specs.Prelude.{Contains, ◌==◌}
 use Rattle.std.proofs.lemmas.List.{length-map, length-append}
 use Rattle.std.proofs.lemmas.Simd.{map-map}
-use Rattle.std.proofs.lemmas.Option.{none-some, slice_get-map, slice_get-get_or, slice_get_within, get_or_from_slice_get}
+use Rattle.std.proofs.lemmas.Option.{none-some, slice_get-map, slice_get-get_or, slice_get_within, get_or_from_slice_get, same_Some}
 use Rattle.netlist_core.specs.declared.model.Design.{Design}
 use Rattle.netlist_core.specs.declared.model.Model.{Model}
 use Rattle.netlist_core.specs.declared.model.Port.{Port}
@@ -21,7 +21,7 @@ use Rattle.netlist_meaning.proofs.Names.{and_then-from}
 use Rattle.netlist_meaning.proofs.InNames.{root_of_top}
 use Rattle.netlist_rules.specs.ModelFaults.{AreFaultless}
 use Rattle.lists.proofs.Members.{In, in_left, in_right, in_map, in_mapped, in_flat, in_flattened, in_from, contains_from}
-use Rattle.sound_designs.proofs.Sound.{same_of, in_got, wired, not_recursive}
+use Rattle.sound_designs.proofs.Sound.{in_got, wired, not_recursive}
 use Rattle.sound_designs.proofs.Driven.{got_from}
 use Rattle.netlist_core.specs.declared.flat.NetId.{NetId}
 use Rattle.netlist_core.specs.declared.flat.FlatPort.{FlatPort}
@@ -133,7 +133,7 @@ latch_bit design flat faultless h g state same place number l is_l =
     let whole : flat_map mine (places_in_order design) ≡ flat_map theirs (places_in_order design) = sym (map_flat g (λ place. map (flat_latch design place) (of_some latches_of (model_at design place))) mine (places_in_order design) (λ p i. refl)) ∙ sym (ap (map g) h.latches) ∙ same in
     let here : mine place ≡ theirs place = flat_same mine theirs (places_in_order design) as_long whole place (place_listed design (not_recursive design faultless) place m is_m) in
     let parts : map g (map (flat_latch design place) m.latches) ≡ latch_bits_from (state place) 0 m.latches = sym (ap (λ o. map g (map (flat_latch design place) (of_some latches_of o))) is_m) ∙ here ∙ ap (λ o. latch_bits_from (state place) 0 (of_some latches_of o)) is_m in
-    same_of (sym (slice_get-map g (map (flat_latch design place) m.latches) number ∙ ap (option_map g) (slice_get-map (flat_latch design place) m.latches number ∙ ap (option_map (flat_latch design place)) is_latch))
+    same_Some _ _ (sym (slice_get-map g (map (flat_latch design place) m.latches) number ∙ ap (option_map g) (slice_get-map (flat_latch design place) m.latches number ∙ ap (option_map (flat_latch design place)) is_latch))
     ∙ ap (λ bs. slice_get bs number) parts ∙ bits_at (state place) 0 m.latches number number l (omega arith) is_latch)
   where
     mine : Place → List Bool

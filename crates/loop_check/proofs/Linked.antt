@@ -3,6 +3,7 @@ use Rattle.std.proofs.Common.{sym, ap, subst, ◌∙◌, ℕ, ◌<◌, ◌≤◌
 use Rattle.std.specs.Prelude.{None, All}
 use Rattle.std.proofs.lemmas.List.{get_or_past}
 use Rattle.std.proofs.lemmas.Option.{none-some}
+use Rattle.std.proofs.lemmas.Bool.{cases_lt}
 use Rattle.netlist_core.specs.declared.flat.Flat.{Flat}
 use Rattle.netlist_meaning.specs.Flat.{IsSound}
 use Rattle.netlist_meaning.specs.FlatOrder.{IsDrivenBy, IsOrder}
@@ -14,11 +15,8 @@ pub driven_at : (flat : Flat) (links : Links) → AreDriverLinks flat links → 
 driven_at flat links are n k b l leads = (are.each n l k).0 b leads
 
 pub stay : (flat : Flat) (links : Links) → AreDriverLinks flat links → StayWithin links
-stay flat links are n k b leads = by (below_or_not n (length links))
+stay flat links are n k b leads = by (cases_lt n (length links))
   where
-    below_or_not : (a b : ℕ) → (a < b) ⊎ (b ≤ a)
-    below_or_not a b = grind arith
-
     by : (n < length links) ⊎ (length links ≤ n) → b < length links
     by (inl l) = subst (λ v. b < v) (sym are.long) (driven_at flat links are n k b (subst (λ v. n < v) are.long l) leads).0
     by (inr past) = absurd (none-some b (sym (ap (λ steps. get_or steps k None) (get_or_past links n [] past)) ∙ leads))

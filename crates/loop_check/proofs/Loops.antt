@@ -1,7 +1,9 @@
 -- Circles of nodes are loops, and along an order there is none.
-use Rattle.std.proofs.Common.{◌≡◌, ◌≢◌, refl, sym, ap, subst, ◌∙◌, ℕ, suc, ◌+◌, ◌-◌, ◌<◌, ◌⊎◌, inl, inr, List, [], ◌∷◌, map, reverse, length, get_or, arith}
+use Rattle.std.proofs.Common.{◌≡◌, ◌≢◌, refl, sym, ap, subst, ◌∙◌, ℕ, suc, ◌+◌, ◌-◌, ◌<◌, ◌⊎◌, inl, inr, List, [], ◌∷◌, map, reverse, length, get_or, arith, ◌≤◌}
 use Rattle.std.specs.Prelude.{All, AllPairs}
 use Rattle.std.proofs.lemmas.List.{get_or-map, length-map, get_or-reverse, length-reverse, get_or_past, get_or_default, same_lists}
+use Rattle.std.proofs.lemmas.Simd.{map-map}
+use Rattle.std.proofs.lemmas.Bool.{cases_order, cases_lt}
 use Rattle.netlist_core.specs.declared.flat.Flat.{Flat}
 use Rattle.netlist_core.specs.declared.flat.NetId.{NetId}
 use Rattle.netlist_meaning.specs.Flat.{in_classes, out_class, class_of, node_at, IsSound, IsNetId}
@@ -10,7 +12,7 @@ use Rattle.depth_walk.specs.Links.{Links, LeadsOnTo}
 use Rattle.depth_walk.specs.Order.{IsCircleOf}
 use Rattle.loop_check.specs.Links.{AreDriverLinks}
 use Rattle.loop_check.specs.Tables.{AreFirstsFor}
-use Rattle.loop_check.proofs.Nodes.{one_node}
+use Rattle.netlist_meaning.proofs.OneNode.{one_node}
 use Rattle.loop_check.proofs.Linked.{driven_at}
 
 feeds_from : (flat : Flat) (n k b : ℕ) → n < length flat.nodes → IsDrivenBy flat n k b → FlatFeeds flat (out_class flat b) (out_class flat n)
@@ -23,10 +25,6 @@ through flat start (c ∷ cs) end f = (f 0 (omega arith), through flat c cs end 
 loop_of : (flat : Flat) (xs : List ℕ) → 0 < length xs → ((j : ℕ) → j < length xs → FlatFeeds flat (get_or xs j (get_or xs 0 0)) (get_or xs (suc j) (get_or xs 0 0))) → IsFlatLoop flat xs
 loop_of flat [] some f = absurd (omega arith)
 loop_of flat (c ∷ cs) some f = through flat c cs c f
-
-map_map : {A B C : Type 0} (f : A → B) (g : B → C) (xs : List A) → map g (map f xs) ≡ map (λ x. g (f x)) xs
-map_map f g [] = refl
-map_map f g (x ∷ xs) = ap (λ l. g (f x) ∷ l) (map_map f g xs)
 
 reverse_map : (f : ℕ → NetId) (xs : List ℕ) → reverse (map f xs) ≡ map f (reverse xs)
 reverse_map f xs = same_lists (reverse (map f xs)) (map f (reverse xs)) (length-reverse (map f xs) ∙ length-map xs f ∙ sym (length-reverse xs) ∙ sym (length-map (reverse xs) f)) each
@@ -75,7 +73,7 @@ is_loop flat s links are circle c = subst (IsOutputLoop flat) (sym (reverse_map 
     long = length-reverse circle
 
     mapped : map (class_of flat) (map (λ v. (node_at flat v).out) (reverse circle)) ≡ map (out_class flat) (reverse circle)
-    mapped = map_map (λ v. (node_at flat v).out) (class_of flat) (reverse circle)
+    mapped = map-map (class_of flat) (λ v. (node_at flat v).out) (reverse circle)
 
     at : (j : ℕ) → j < length (reverse circle) → get_or (reverse circle) j 0 ≡ get_or circle (length circle - 1 - j) 0
     at j l = get_or-reverse circle j 0 (subst (λ v. j < v) long l)
@@ -91,17 +89,14 @@ is_loop flat s links are circle c = subst (IsOutputLoop flat) (sym (reverse_map 
     class_at : (j d : ℕ) → j < length (reverse circle) → get_or (map (out_class flat) (reverse circle)) j d ≡ out_class flat (get_or circle (length circle - 1 - j) 0)
     class_at j d l = get_or-map (out_class flat) (reverse circle) j 0 d l ∙ ap (out_class flat) (at j l)
 
-    -- the last reads of the first, each other of the one before it on the circle
-    last_or_not : (j m : ℕ) → j < m → (suc j < m) ⊎ (suc j ≡ m)
-    last_or_not j m l = grind arith
-
     first : get_or (map (out_class flat) (reverse circle)) 0 0 ≡ out_class flat (get_or circle (length circle - 1) 0)
     first = class_at 0 0 (omega (arith, long, some)) ∙ ap (out_class flat) (let e : length circle - 1 - 0 ≡ length circle - 1 = omega arith in ap (λ v. get_or circle v 0) e)
 
     step : (n b : ℕ) → n < length flat.nodes → LeadsOnTo links n b → FlatFeeds flat (out_class flat b) (out_class flat n)
     step n b l (k, leads) = feeds_from flat n k b l (driven_at flat links are n k b l leads)
 
-    feeds_at : (j : ℕ) → j < length (reverse circle) → (suc j < length (reverse circle)) ⊎ (suc j ≡ length (reverse circle)) → FlatFeeds flat (get_or (map (out_class flat) (reverse circle)) j (get_or (map (out_class flat) (reverse circle)) 0 0)) (get_or (map (out_class flat) (reverse circle)) (suc j) (get_or (map (out_class flat) (reverse circle)) 0 0))
+    -- the last reads of the first, each other of the one before it on the circle
+    feeds_at : (j : ℕ) → j < length (reverse circle) → (suc j < length (reverse circle)) ⊎ (length (reverse circle) ≤ suc j) → FlatFeeds flat (get_or (map (out_class flat) (reverse circle)) j (get_or (map (out_class flat) (reverse circle)) 0 0)) (get_or (map (out_class flat) (reverse circle)) (suc j) (get_or (map (out_class flat) (reverse circle)) 0 0))
     feeds_at j l (inl more) =
         let up : length circle - 1 - suc j + 1 ≡ length circle - 1 - j = omega (arith, long, more) in
         let lower : length circle - 1 - suc j + 1 < length circle = omega (arith, long, more) in
@@ -109,7 +104,8 @@ is_loop flat s links are circle c = subst (IsOutputLoop flat) (sym (reverse_map 
         (subst (λ v. FlatFeeds flat (out_class flat (get_or circle (length circle - 1 - j) 0)) v) (sym (class_at (suc j) _ more))
         (subst (λ v. FlatFeeds flat (out_class flat (get_or circle v 0)) (out_class flat (get_or circle (length circle - 1 - suc j) 0))) up
         (step (get_or circle (length circle - 1 - suc j) 0) (get_or circle (length circle - 1 - suc j + 1) 0) (is_node (length circle - 1 - suc j) (omega (arith, lower))) (c.steps (length circle - 1 - suc j) lower))))
-    feeds_at j l (inr last) =
+    feeds_at j l (inr past) =
+        let last : suc j ≡ length (reverse circle) = omega arith in
         let here : length circle - 1 - j ≡ 0 = omega (arith, long, last) in
         let is_first : get_or circle (length circle - 1 - j) 0 ≡ get_or circle 0 0 = ap (λ v. get_or circle v 0) here in
         subst (λ v. FlatFeeds flat v (get_or (map (out_class flat) (reverse circle)) (suc j) (get_or (map (out_class flat) (reverse circle)) 0 0))) (sym (class_at j _ l ∙ ap (out_class flat) is_first))
@@ -117,7 +113,7 @@ is_loop flat s links are circle c = subst (IsOutputLoop flat) (sym (reverse_map 
         (step (get_or circle (length circle - 1) 0) (get_or circle 0 0) (is_node (length circle - 1) (omega (arith, some))) c.closes))
 
     feeds : (j : ℕ) → j < length (map (out_class flat) (reverse circle)) → FlatFeeds flat (get_or (map (out_class flat) (reverse circle)) j (get_or (map (out_class flat) (reverse circle)) 0 0)) (get_or (map (out_class flat) (reverse circle)) (suc j) (get_or (map (out_class flat) (reverse circle)) 0 0))
-    feeds j l = let less : j < length (reverse circle) = subst (λ v. j < v) (length-map (reverse circle) (out_class flat)) l in feeds_at j less (last_or_not j (length (reverse circle)) less)
+    feeds j l = let less : j < length (reverse circle) = subst (λ v. j < v) (length-map (reverse circle) (out_class flat)) l in feeds_at j less (cases_lt (suc j) (length (reverse circle)))
 
     once : AllPairs (λ a b. a ≢ b) (map (out_class flat) (reverse circle))
     once i j d less l same =
@@ -140,16 +136,13 @@ step_up flat order o start written i f l e =
     let there : before ≡ i = one before i (omega arith) l same in
     (j, omega arith, less, ap (out_class flat) at0 ∙ f.writes)
   where
-    three : (a b : ℕ) → ((a < b) ⊎ (b < a)) ⊎ (a ≡ b)
-    three a b = grind arith
-
     one : (a b : ℕ) → a < length order → b < length order → get_or order a 0 ≡ get_or order b 0 → a ≡ b
-    one a b la lb e = by (three a b)
+    one a b la lb e = by (cases_order a b)
       where
-        by : ((a < b) ⊎ (b < a)) ⊎ (a ≡ b) → a ≡ b
-        by (inl (inl less)) = absurd (o.once a b 0 less lb e)
-        by (inl (inr more)) = absurd (o.once b a 0 more la (sym e))
-        by (inr same) = same
+        by : (a ≡ b) ⊎ ((a < b) ⊎ (b < a)) → a ≡ b
+        by (inl same) = same
+        by (inr (inl less)) = absurd (o.once a b 0 less lb e)
+        by (inr (inr more)) = absurd (o.once b a 0 more la (sym e))
 
 climb : (flat : Flat) (order : List ℕ) → IsOrder flat order → (start : ℕ) (classes : List ℕ) (end i : ℕ) → FlatFeedsThrough flat start classes end → i < length order → out_class flat (get_or order i 0) ≡ start
     → (j : ℕ) × (i < j) × (j < length order) × (out_class flat (get_or order j 0) ≡ end)

@@ -5,20 +5,11 @@ use Rattle.std.proofs.lemmas.List.{length-map}
 use Rattle.std.proofs.lemmas.Option.{get_or_from_slice_get, none-some, same_Some}
 use Rattle.netlist_core.specs.declared.flat.Flat.{Flat}
 use Rattle.netlist_core.specs.declared.flat.Node.{Node}
-use Rattle.netlist_meaning.specs.Flat.{FlatDriver, node, IsSound, in_classes, out_class, class_of, no_node, node_at}
+use Rattle.netlist_meaning.specs.Flat.{IsSound, in_classes, class_of, no_node, node_at}
 use Rattle.netlist_meaning.specs.FlatOrder.{IsDrivenBy}
 use Rattle.loop_check.specs.Links.{IsDriverOf}
 use Rattle.loop_check.specs.Tables.{IsDriverBefore}
-
-number_of : FlatDriver → ℕ
-number_of (Rattle.netlist_meaning.specs.Flat.FlatDriver.input i) = i
-number_of (Rattle.netlist_meaning.specs.Flat.FlatDriver.latch i) = i
-number_of (Rattle.netlist_meaning.specs.Flat.FlatDriver.node i) = i
-
--- one node drives a class
-pub one_node : (flat : Flat) → IsSound flat → (a b : ℕ) → a < length flat.nodes → b < length flat.nodes → out_class flat a ≡ out_class flat b → a ≡ b
-unfolding number_of
-one_node flat s a b la lb e = ap number_of (s.one_driver (out_class flat b) (node a) (node b) (la, e) (lb, refl))
+use Rattle.netlist_meaning.proofs.OneNode.{one_node}
 
 pub inputs_are : (flat : Flat) (n : ℕ) (it : Node) → slice_get flat.nodes n ≡ Some it → length (in_classes flat n) ≡ length it.ins
 inputs_are flat n it e = ap (λ (xs : List ℕ). length xs) refl ∙ length-map (node_at flat n).ins (class_of flat) ∙ ap (λ (v : Node). length v.ins) (get_or_from_slice_get flat.nodes n it no_node e)

@@ -88,15 +88,13 @@ one_number net m n a b ne =
 not_less : (net : Net) (m n : ℕ) → IsNumbered net m → IsNumbered net n → m < n → ⊥
 not_less net m n a b h = one_number net m n a b (λ e. absurd (omega (arith, e, h)))
 
-at_most : (m n : ℕ) → (n < m → ⊥) → m ≤ n
-at_most m n h = omega (arith, h)
-
 steps : (seed size : ℕ) → size ≤ 128 → (a : Net) (nets : List Net) (b : Net) → FeedsThrough (made_design seed size) a nets b → AreRising a b
 steps seed size few a [] b f = step seed size few a b f
 steps seed size few a (net ∷ nets) b (f, g) =
     let here = step seed size few a net f in
     let later = steps seed size few net nets b g in
-    let joins : here.to ≤ later.from = at_most here.to later.from (λ h. not_less net later.from here.to later.starts here.ends h) in
+    let not_before : later.from < here.to → ⊥ = not_less net later.from here.to later.starts here.ends in
+    let joins : here.to ≤ later.from = omega (arith, not_before) in
     record { from = here.from; to = later.to; starts = here.starts; ends = later.ends; rises = omega (arith, here.rises, later.rises, joins) }
 
 pub no_loop : (seed size : ℕ) → size ≤ 128 → (nets : List Net) → ¬ IsCombinationalLoop (made_design seed size) nets

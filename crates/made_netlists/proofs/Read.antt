@@ -30,14 +30,15 @@ use Rattle.made_netlists.specs.declared.gate.GateKind.{GateKind}
 use Rattle.made_netlists.specs.declared.gate.GateKind.TheVariants.{And, Or, Xor, Nand}
 use Rattle.made_netlists.specs.declared.gate.Gate.{Gate}
 use Rattle.made_netlists.specs.Draws.{draw_after, state_after}
-use Rattle.made_netlists.proofs.ModelRules.{AreFresh, fresh_from, is_same, name_of, names_fresh, nets, nets_from, no_repeats, others, own_ports, IsFresh}
+use Rattle.made_netlists.proofs.ModelRules.{AreFresh, fresh_from, is_same, names_fresh, nets, nets_from, no_repeats, others, own_ports, IsFresh}
+use Rattle.netlist_rules.proofs.Faultless.{port_name}
 
 -- draws are below their bounds
 pub draw_below : (seed i n : ℕ) → 0 < n → draw_after seed i n < n
 draw_below seed i n h = mod_below (state_after seed (i + 1) / 65536) n h
 
 -- the drivers' names are those of all nets
-out_of : (k : GateKind) (n : ℕ) (a b o : List ℕ) → name_of (cover_output (gate_cover k n a b o)) ≡ o
+out_of : (k : GateKind) (n : ℕ) (a b o : List ℕ) → port_name (cover_output (gate_cover k n a b o)) ≡ o
 out_of And n a b o = refl
 out_of Or n a b o = refl
 out_of Xor n a b o = refl
@@ -46,12 +47,12 @@ out_of Nand n a b o = refl
 abbrev latch_ports : List Port
 latch_ports = at_line 4 (net_name 4) ∷ at_line 5 (net_name 5) ∷ []
 
-outs_are : (seed k j b n : ℕ) → 6 + j ≡ b → map name_of (map cover_output (covers_from n (map (drawn_gate seed) (range_with_len j k))) ++ latch_ports) ≡ map net_name (nets_from b k)
+outs_are : (seed k j b n : ℕ) → 6 + j ≡ b → map port_name (map cover_output (covers_from n (map (drawn_gate seed) (range_with_len j k))) ++ latch_ports) ≡ map net_name (nets_from b k)
 outs_are seed zero j b n e = refl
 outs_are seed (suc k) j b n e =
     let g : Gate = drawn_gate seed j in
     let next : 6 + (j + 1) ≡ b + 1 = omega (arith, e) in
-    let rest : List (List ℕ) = map name_of (map cover_output (covers_from (line_after g.kind n) (map (drawn_gate seed) (range_with_len (j + 1) k))) ++ latch_ports) in
+    let rest : List (List ℕ) = map port_name (map cover_output (covers_from (line_after g.kind n) (map (drawn_gate seed) (range_with_len (j + 1) k))) ++ latch_ports) in
     ap (λ v. v ∷ rest) (out_of g.kind n (net_name g.first) (net_name g.second) (net_name g.out) ∙ ap net_name e)
     ∙ ap (λ v. net_name b ∷ v) (outs_are seed k (j + 1) (b + 1) (line_after g.kind n) next)
 
@@ -69,8 +70,8 @@ module _ (seed size last data0 data1 : ℕ) where
   unfolding digits
   input_ports = refl
 
-  drivers_are : map name_of drivers ≡ map net_name (nets size)
-  drivers_are = ap (map name_of) (input_ports ∙ ap (λ v. at_line 2 (net_name 0) ∷ at_line 2 (net_name 1) ∷ at_line 2 (net_name 2) ∷ at_line 2 (net_name 3) ∷ v) (append-nil gate_ports)) ∙ ap (λ v. net_name 0 ∷ net_name 1 ∷ net_name 2 ∷ net_name 3 ∷ v) (outs_are seed size 0 6 6 refl)
+  drivers_are : map port_name drivers ≡ map net_name (nets size)
+  drivers_are = ap (map port_name) (input_ports ∙ ap (λ v. at_line 2 (net_name 0) ∷ at_line 2 (net_name 1) ∷ at_line 2 (net_name 2) ∷ at_line 2 (net_name 3) ∷ v) (append-nil gate_ports)) ∙ ap (λ v. net_name 0 ∷ net_name 1 ∷ net_name 2 ∷ net_name 3 ∷ v) (outs_are seed size 0 6 6 refl)
 
 fresh : (size : ℕ) → size ≤ 128 → AreFresh [] (nets size)
 fresh size h =
@@ -136,7 +137,7 @@ same_names : (r : ℕ) (ns : List ℕ) → list_any (is_here r) ns ≡ true → 
 same_names r [] e = absurd (true≢false (sym e))
 same_names r (m ∷ ms) e = same_at m r ms (m == r) refl e (same_names r ms)
 
-named_by : (name : List ℕ) (ds : List Port) → is_named ds name ≡ list_any (is_same name) (map name_of ds)
+named_by : (name : List ℕ) (ds : List Port) → is_named ds name ≡ list_any (is_same name) (map port_name ds)
 named_by name [] = refl
 named_by name (p ∷ ps) = ap (λ b. bytes_eq p.name name || b) (named_by name ps)
 

@@ -1,17 +1,17 @@
 -- Steps of the search.
-use Rattle.std.proofs.Common.{◌≡◌, ◌≢◌, refl, sym, ap, subst, ◌∙◌, ℕ, zero, suc, ◌+◌, ◌<◌, ◌≤◌, ◌⊎◌, inl, inr, List, [], ◌∷◌, ◌++◌, set, length, get_or, Option, Some, None, cond, count_by, replicate, arith}
+use Rattle.std.proofs.Common.{◌≡◌, ◌≢◌, refl, sym, ap, subst, ◌∙◌, ℕ, zero, suc, ◌+◌, ◌<◌, ◌≤◌, ◌⊎◌, inl, inr, List, [], ◌∷◌, ◌++◌, set, length, get_or, Option, Some, None, cond, count_by, replicate, arith, ◌*◌}
 use Rattle.std.specs.Prelude.{is_none}
 use Rattle.std.proofs.lemmas.List.{get_or_append_left, get_or_push, length_push, get_or-set_same, get_or-set_other, length-set, length-replicate, get_or_default}
 use Rattle.std.proofs.lemmas.Option.{none-some, same_Some}
-use Rattle.std.proofs.lemmas.List.Sums.{sum_by-set, sum_by-cons}
+use Rattle.std.proofs.lemmas.List.Sums.{sum_by-set}
+use Rattle.std.proofs.lemmas.Bool.{cases_eq}
+use Rattle.std.proofs.lemmas.List.Folds.{sum_by-replicate}
+use Rattle.lists.proofs.Numbers.{less_or_last}
 use Rattle.netlist_core.specs.declared.model.Model.{Model}
 use Rattle.model_order.specs.Numbers.{number_placed, Places, PlacesSomewhere, LeadsBy}
 use Rattle.model_circles.specs.declared.search.Search.{Search}
 use Rattle.model_circles.specs.Search.{IsSearch, IsSearchOf, IsFound, StillFound, AreMetBefore, IsMetAs, Meets}
 use Rattle.model_circles.specs.Ways.{LeadsBackBy}
-
-equal_or_not : (a b : ℕ) → (a ≡ b) ⊎ (a ≢ b)
-equal_or_not a b = grind arith
 
 none_in : (m n : ℕ) → get_or (replicate m (let o : Option ℕ = None in o)) n None ≡ None
 none_in zero n = refl
@@ -19,8 +19,7 @@ none_in (suc m) zero = refl
 none_in (suc m) (suc n) = none_in m n
 
 all_none : (m : ℕ) → count_by is_none (replicate m (let o : Option ℕ = None in o)) ≡ m
-all_none zero = refl
-all_none (suc m) = let e = sum_by-cons (λ (x : Option ℕ). cond {A = ℕ} (is_none x) 1 0) None (replicate m None) in let r = all_none m in omega arith
+all_none m = let e : count_by is_none (replicate m (let o : Option ℕ = None in o)) ≡ m * 1 = sum_by-replicate (λ (x : Option ℕ). cond {A = ℕ} (is_none x) 1 0) m None in omega arith
 
 -- one fewer is without a place
 placed_once : (places : List (Option ℕ)) (n p : ℕ) → n < length places → get_or places n None ≡ None → count_by is_none (set places n (Some p)) + 1 ≡ count_by is_none places
@@ -38,7 +37,7 @@ begun models first l = record {
   is_first = refl;
   numbers = λ i less. (let e : i ≡ 0 = omega arith in subst (λ v. get_or (first ∷ []) v 0 < length models) (sym e) l);
   at_place = λ i less. (let e : i ≡ 0 = omega arith in subst (λ v. get_or (set empty first (Some 0)) (get_or (first ∷ []) v 0) None ≡ Some v) (sym e) (get_or-set_same empty first (Some 0) None within));
-  place_of = λ n i e. place_of n i e (equal_or_not n first);
+  place_of = λ n i e. place_of n i e (cases_eq n first);
   before = λ i some less. absurd (omega arith);
 }
   where
@@ -68,7 +67,7 @@ met_new models first places found parents inner at s less here places_it new = r
   is_first = get_or_append_left found (inner ∷ []) 0 0 s.some ∙ s.is_first;
   numbers = λ i l. numbers i (below i l);
   at_place = λ i l. at_place i (below i l);
-  place_of = λ n i e. place_of n i e (equal_or_not n inner);
+  place_of = λ n i e. place_of n i e (cases_eq n inner);
   before = λ i some l. before i some (below i l);
 }
   where
@@ -76,7 +75,7 @@ met_new models first places found parents inner at s less here places_it new = r
     within = subst (λ v. inner < v) (sym s.fit) less
 
     below : (i : ℕ) → i < length (found ++ inner ∷ []) → (i < length found) ⊎ (i ≡ length found)
-    below i l = let e : length (found ++ inner ∷ []) ≡ length found + 1 = length_push found inner in grind arith
+    below i l = less_or_last i (length found) (subst (λ n. i < n) (length_push found inner) l)
 
     numbers : (i : ℕ) → (i < length found) ⊎ (i ≡ length found) → get_or (found ++ inner ∷ []) i 0 < length models
     numbers i (inl l) = subst (λ v. v < length models) (sym (get_or_append_left found (inner ∷ []) 0 i l)) (s.numbers i l)
@@ -142,7 +141,7 @@ met_step models first inner at old new s less here places_it m = by (get_or old.
     }
     by None is (e, f, g) = record {
       is_search = search_same models first _ _ _ _ _ _ (met_new models first old.places.items old.found.items old.parents.items inner at s less here places_it is) e f g;
-      kept = λ n q h. ap (λ (v : List (Option ℕ)). get_or v n None) e ∙ kept n q h (equal_or_not n inner);
+      kept = λ n q h. ap (λ (v : List (Option ℕ)). get_or v n None) e ∙ kept n q h (cases_eq n inner);
       met = (length old.found.items, ap (λ (v : List (Option ℕ)). get_or v inner None) e ∙ get_or-set_same old.places.items inner (Some (length old.found.items)) None (subst (λ v. inner < v) (sym s.fit) less));
       longer = (let l : length new.found.items ≡ length (old.found.items ++ inner ∷ []) = ap (λ (v : List ℕ). length v) f in let b : length (old.found.items ++ inner ∷ []) ≡ length old.found.items + 1 = length_push old.found.items inner in omega arith);
     }
@@ -158,11 +157,8 @@ stays models first old new s t kept i l = t.place_of (get_or old.found.items i 0
 -- the models before one more place are done
 pub closed_more : (models : List Model) (first at : ℕ) (old new : Search) → IsSearchOf models first old → IsSearchOf models first new → StillFound old.places.items new.places.items → at < length old.found.items
     → AreMetBefore models old.places.items old.found.items at → ((inner : ℕ) → PlacesSomewhere models (get_or old.found.items at 0) inner → IsFound new.places.items inner) → AreMetBefore models new.places.items new.found.items (at + 1)
-closed_more models first at old new s t kept l before here i inner less step = by (below i less)
+closed_more models first at old new s t kept l before here i inner less step = by (less_or_last i at less)
   where
-    below : (i : ℕ) → i < at + 1 → (i < at) ⊎ (i ≡ at)
-    below i l = grind arith
-
     by : (i < at) ⊎ (i ≡ at) → IsFound new.places.items inner
     by (inl lower) =
         let same : get_or new.found.items i 0 ≡ get_or old.found.items i 0 = (stays models first old new s t kept i (omega arith)).1 in
@@ -200,9 +196,6 @@ pub record IsVisiting (models : List Model) (first at n line : ℕ) (old now : S
   pub in_range : at < length now.found.items
   pub met : (k inner : ℕ) → k < line → Places models n k inner → IsFound now.places.items inner
 
-line_or_not : (k line : ℕ) → k < line + 1 → (k < line) ⊎ (k ≡ line)
-line_or_not k line l = grind arith
-
 pub visited_some : (models : List Model) (first at n line inner : ℕ) (old now new : Search) → IsSearchOf models first old → at < length old.found.items → n ≡ get_or old.found.items at 0 → IsVisiting models first at n line old now → Places models n line inner → inner < length models → Meets now inner at new
     → IsVisiting models first at n (line + 1) old new
 visited_some models first at n line inner old now new s l is v p less m =
@@ -212,7 +205,7 @@ visited_some models first at n line inner old now new s l is v p less m =
       is_search = st.is_search;
       kept = λ x q h. st.kept x q (v.kept x q h);
       in_range = (let a : length now.found.items ≤ length new.found.items = st.longer in let b : at < length now.found.items = v.in_range in omega arith);
-      met = λ k x below e. met st k x e (line_or_not k line below);
+      met = λ k x below e. met st k x e (less_or_last k line below);
     }
   where
     met : IsMetStep models first inner now new → (k x : ℕ) → Places models n k x → (k < line) ⊎ (k ≡ line) → IsFound new.places.items x
@@ -224,7 +217,7 @@ visited_none models first at n line old now v none = record {
   is_search = v.is_search;
   kept = v.kept;
   in_range = v.in_range;
-  met = λ k x below e. met k x e (line_or_not k line below);
+  met = λ k x below e. met k x e (less_or_last k line below);
 }
   where
     met : (k x : ℕ) → Places models n k x → (k < line) ⊎ (k ≡ line) → IsFound now.places.items x

@@ -1,6 +1,7 @@
 -- The models of a circle have one rank.
 use Rattle.std.proofs.Common.{◌≡◌, ◌≢◌, refl, None, sym, ap, subst, ◌∙◌, ℕ, ◌<◌, ◌≤◌, List, [], ◌∷◌, length, get_or, Option, Some, slice_get, arith}
 use Rattle.std.proofs.lemmas.Option.{same_Some}
+use Rattle.std.proofs.Math.Nat.{lt_of_not-le}
 use Rattle.netlist_core.specs.declared.model.Model.{Model}
 use Rattle.netlist_core.specs.declared.model.Subckt.{Subckt}
 use Rattle.model_order.specs.Numbers.{subckts_of, Places, LeadsBy}
@@ -48,10 +49,7 @@ improved models n k inner subckt others best is later p way = record {
   where
     by : (o : Option Circle) → ¬ IsNoLater o subckt.line → (line : ℕ) → IsNoLater o line → subckt.line ≤ line
     by None later line h = absurd h
-    by (Some circle) later line h = up (less circle.line subckt.line later) h
+    by (Some circle) later line h = up (lt_of_not-le later) h
       where
-        less : (a b : ℕ) → ¬ (a ≤ b) → b < a
-        less a b not = grind arith
-
         up : subckt.line < circle.line → circle.line ≤ line → subckt.line ≤ line
         up a b = omega arith

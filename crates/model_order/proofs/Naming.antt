@@ -1,9 +1,10 @@
 -- What a subckt line that names a model has, by numbers and by names.
-use Rattle.std.proofs.Common.{◌⊎◌, inl, inr, true, true≢false, arith, ◌≡◌, refl, sym, ap, subst, ◌∙◌, ℕ, ◌<◌, ◌≤◌, List, [], ◌∷◌, length, map, Option, Some, None, MatchOption, slice_get, option_and_then, position, get_or}
+use Rattle.std.proofs.Common.{◌⊎◌, inl, inr, true, true≢false, ◌≡◌, refl, sym, ap, subst, ◌∙◌, ℕ, ◌<◌, ◌≤◌, List, [], ◌∷◌, length, map, Option, Some, None, MatchOption, slice_get, option_and_then, position, get_or}
 use Rattle.std.specs.Prelude.{IfSome}
 use Rattle.std.specs.Option.{option_map_or}
 use Rattle.std.proofs.lemmas.Option.{none-some, slice_get_within, get_or_from_slice_get, slice_get_read, slice_get_past}
 use Rattle.std.proofs.lemmas.Slice.Eq.{bytes_eq-Decides}
+use Rattle.std.proofs.lemmas.Bool.{cases_order}
 use Rattle.netlist_core.specs.declared.model.Model.{Model}
 use Rattle.netlist_core.specs.declared.model.Subckt.{Subckt}
 use Rattle.netlist_core.specs.Names.{Name, is_model_named, model_named}
@@ -107,18 +108,15 @@ number_named models name n is = by (position (is_model_named name) models) refl 
   where
     by : (o : Option ℕ) → position (is_model_named name) models ≡ o → MatchOption o (model_named models name ≡ None) (IsNumberOf models name) → position (is_model_named name) models ≡ Some n
     by None e none = absurd (none-some is.model (sym none ∙ is.is_named))
-    by (Some m) e number = e ∙ ap Some (same number (three m n))
+    by (Some m) e number = e ∙ ap Some (same number (cases_order m n))
       where
-        three : (a b : ℕ) → ((a < b) ⊎ (b < a)) ⊎ (a ≡ b)
-        three a b = grind arith
-
         has_it : (n : ℕ) (is : IsNumberOf models name n) → is_model_named name is.model ≡ true
         has_it n is = (bytes_eq-Decides is.model.name name).1 (model_of_name models name is.model is.is_named).1
 
-        same : IsNumberOf models name m → ((m < n) ⊎ (n < m)) ⊎ (m ≡ n) → m ≡ n
-        same number (inl (inl less)) = absurd (true≢false (sym (has_it m number) ∙ is.is_first m number.model less number.is_there))
-        same number (inl (inr more)) = absurd (true≢false (sym (has_it n is) ∙ number.is_first n is.model more is.is_there))
-        same number (inr e) = e
+        same : IsNumberOf models name m → (m ≡ n) ⊎ ((m < n) ⊎ (n < m)) → m ≡ n
+        same number (inr (inl less)) = absurd (true≢false (sym (has_it m number) ∙ is.is_first m number.model less number.is_there))
+        same number (inr (inr more)) = absurd (true≢false (sym (has_it n is) ∙ number.is_first n is.model more is.is_there))
+        same number (inl e) = e
 
 pub places_by : (models : List Model) (n k inner : ℕ) (m : Model) (line : Subckt) → slice_get models n ≡ Some m → slice_get m.subckts k ≡ Some line → first_named models line.model ≡ Some inner → Places models n k inner
 unfolding number_placed

@@ -5,9 +5,10 @@ use Rattle.std.specs.List.{list_any}
 use Rattle.std.specs.Prelude.{Option, Some, None, is_some, nat_le, nat_lt, bytes_eq}
 use Rattle.std.specs.Cmp.{both_ways}
 use Rattle.std.specs.Option.{option_map_or}
-use Rattle.std.proofs.lemmas.Bool.{leb-true, leb-false, le-leb, ltb-true, lt-ltb, or_cases, or_left, or_right, cases_lt}
+use Rattle.std.proofs.lemmas.Bool.{leb-true, leb-false, le-leb, ltb-true, lt-ltb, or_cases, or_left, or_right, cases_lt, le-ltb}
 use Rattle.std.proofs.lemmas.List.{get_or-set_same, get_or-set_other, length-set}
 use Rattle.std.proofs.lemmas.Slice.Eq.{bytes_eq-Decides}
+use Rattle.std.proofs.Math.Bool.{or-false, or_comm, or_assoc, and-true, and-false}
 use Rattle.netlist_core.specs.declared.model.Port.{Port}
 use Rattle.netlist_core.specs.Names.{Name, has_name, is_named}
 use Rattle.netlist_rules.specs.Drivers.{same_name_before, same_name_up_to}
@@ -56,10 +57,6 @@ least_lt c a b = both_ways (nat_lt (min a b) c) (nat_lt a c || nat_lt b c) there
 abbrev pub least_of : ℕ → Option ℕ → ℕ
 least_of line known = option_map_or (min line) known line
 
-or_false : (b : Bool) → b ≡ (b || false)
-or_false true = refl
-or_false false = refl
-
 -- two names have one number only if they are the same
 apart : (names : Numbering) (key name : Name) (k j : ℕ) → IsNumbering names → name_number names key ≡ Some k → name_number names name ≡ Some j → bytes_eq key name ≡ false → j ≢ k
 apart names key name k j numbering has_key has_name other same =
@@ -70,7 +67,7 @@ apart names key name k j numbering has_key has_name other same =
 
 module _ (test : ℕ → Bool) (joins : (a b : ℕ) → test (min a b) ≡ (test a || test b)) where
   passes_by : (line : ℕ) (known : Option ℕ) → test (least_of line known) ≡ (test line || option_map_or test known false)
-  passes_by line None = or_false (test line)
+  passes_by line None = sym (or-false (test line))
   passes_by line (Some other) = joins line other
 
   line_added : (names : Numbering) (lines new : FirstLines) (key : Name) (k line : ℕ) → IsNumbering names → name_number names key ≡ Some k → length lines.lines.items ≡ count_of names →
@@ -101,7 +98,7 @@ lines_more names lines new word ports is updates had = record {
   room = ap length updates ∙ length-set lines.lines.items word.number (Some (least_of word.word.line (line_in lines word.number))) ∙ had.room;
   before = λ q j has. added (λ l. nat_lt l q.line) (least_lt q.line) q.name j has ∙ ap₂ (λ a b. a || b) refl (had.before q j has);
   up_to = λ q j has. added (λ l. nat_le l q.line) (least_le q.line) q.name j has ∙ ap₂ (λ a b. a || b) refl (had.up_to q j has);
-  named = λ name j has. added (λ l. true) (λ a b. refl) name j has ∙ ap₂ (λ a b. a || b) (and_true (bytes_eq key name)) (had.named name j has);
+  named = λ name j has. added (λ l. true) (λ a b. refl) name j has ∙ ap₂ (λ a b. a || b) (and-true (bytes_eq key name)) (had.named name j has);
   unnumbered = λ name none. ap₂ (λ a b. a || b) (other name none (bytes_eq key name) refl) (had.unnumbered name none);
 }
   where
@@ -110,10 +107,6 @@ lines_more names lines new word ports is updates had = record {
 
     added : (test : ℕ → Bool) → ((a b : ℕ) → test (min a b) ≡ (test a || test b)) → (name : Name) (j : ℕ) → name_number names name ≡ Some j → has_line test new j ≡ ((bytes_eq key name && test word.word.line) || has_line test lines j)
     added test joins = line_added test joins names lines new key word.number word.word.line is.numbering is.number had.room updates
-
-    and_true : (b : Bool) → (b && true) ≡ b
-    and_true true = refl
-    and_true false = refl
 
     other : (name : Name) → name_number names name ≡ None → (b : Bool) → bytes_eq key name ≡ b → b ≡ false
     other name none true e = absurd (let clash : Some word.number ≡ None = sym is.number ∙ ap (name_number names) ((bytes_eq-Decides key name).0 e) ∙ none in cc)
@@ -144,13 +137,8 @@ is_there lines number = by (line_in lines number)
 
 -- the word that stands in front may stand at the end
 any_turned : (test : Port → Bool) (p : Port) (ports : List Port) → list_any test (p ∷ ports) ≡ list_any test (ports ++ p ∷ [])
-any_turned test p ports = by (test p) (list_any test ports) ∙ sym (list_any-append test ports (p ∷ []))
-  where
-    by : (a b : Bool) → (a || b) ≡ (b || (a || false))
-    by true true = refl
-    by true false = refl
-    by false true = refl
-    by false false = refl
+any_turned test p ports =
+    or_comm (test p) (list_any test ports) ∙ ap (λ b. list_any test ports || b) (sym (or-false (test p))) ∙ sym (list_any-append test ports (p ∷ []))
 
 pub turned : (names : Numbering) (lines : FirstLines) (p : Port) (ports : List Port) → AreFirstLines names lines (p ∷ ports) → AreFirstLines names lines (ports ++ p ∷ [])
 turned names lines p ports had = record {
@@ -164,12 +152,11 @@ turned names lines p ports had = record {
 -- a word that is passed stands in front of those before
 any_moved : (test : Port → Bool) (p : Port) (before after : List Port) → list_any test (before ++ p ∷ after) ≡ list_any test (p ∷ before ++ after)
 any_moved test p before after =
-    list_any-append test before (p ∷ after) ∙ by (list_any test before) (test p) ∙ ap (λ b. test p || b) (sym (list_any-append test before after))
-  where
-    by : (a b : Bool) → (a || (b || list_any test after)) ≡ (b || (a || list_any test after))
-    by true true = refl
-    by true false = refl
-    by false b = refl
+    list_any-append test before (p ∷ after)
+    ∙ sym (or_assoc (list_any test before) (test p) (list_any test after))
+    ∙ ap (λ b. b || list_any test after) (or_comm (list_any test before) (test p))
+    ∙ or_assoc (test p) (list_any test before) (list_any test after)
+    ∙ ap (λ b. test p || b) (sym (list_any-append test before after))
 
 pub moved : (names : Numbering) (lines : FirstLines) (p : Port) (before after : List Port) → AreFirstLines names lines (before ++ p ∷ after) → AreFirstLines names lines (p ∷ before ++ after)
 moved names lines p before after had = record {
@@ -183,20 +170,11 @@ moved names lines p before after had = record {
 -- what does not stand up to a line does not stand before it
 late : (line : ℕ) (known : Option ℕ) → option_map_or (λ l. nat_le l line) known false ≡ false → option_map_or (λ l. nat_lt l line) known false ≡ false
 late line None e = refl
-late line (Some l) e = by (nat_lt l line) refl
-  where
-    by : (b : Bool) → nat_lt l line ≡ b → b ≡ false
-    by true less = absurd (let h : l < line = ltb-true l line less in let g : line < l = leb-false l line e in omega arith)
-    by false less = refl
+late line (Some l) e = let g : line < l = leb-false l line e in le-ltb l line (omega arith)
 
 pub none_before : (names : Numbering) (lines : FirstLines) (p : Port) (ports : List Port) (number : ℕ) → name_number names p.name ≡ Some number → AreFirstLines names lines ports →
     list_any (same_name_up_to p) ports ≡ false → list_any (same_name_before p) ports ≡ false
 none_before names lines p ports number is had none = sym (had.before p number is) ∙ late p.line (line_in lines number) (had.up_to p number is ∙ none)
 
 pub not_before_itself : (p : Port) → same_name_before p p ≡ false
-not_before_itself p = by (has_name p.name p) (nat_lt p.line p.line) refl
-  where
-    by : (a b : Bool) → nat_lt p.line p.line ≡ b → (a && b) ≡ false
-    by a true less = absurd (let h : p.line < p.line = ltb-true p.line p.line less in omega arith)
-    by true false less = refl
-    by false false less = refl
+not_before_itself p = ap (λ b. has_name p.name p && b) (le-ltb p.line p.line (omega arith)) ∙ and-false (has_name p.name p)

@@ -5,6 +5,7 @@ use Rattle.std.specs.List.{fold}
 use Rattle.std.proofs.lemmas.List.{length-map, length-replicate, get_or-map, get_or_default, same_lists}
 use Rattle.std.proofs.lemmas.Option.{slice_get-get_or, get_or_from_slice_get, slice_get_within}
 use Rattle.std.proofs.lemmas.Slice.Zip.{length-zip, get_or-zip}
+use Rattle.lists.proofs.Numbers.{less_or_last}
 use Rattle.netlist_meaning.specs.CoverValue.{cover_value}
 use Rattle.netlist_core.specs.declared.flat.NetId.{NetId}
 use Rattle.netlist_core.specs.declared.flat.FlatPort.{FlatPort}
@@ -15,6 +16,7 @@ use Rattle.netlist_meaning.specs.FlatOrder.{IsDrivenBy, IsOrder}
 use Rattle.netlist_meaning.specs.FlatValuation.{node_value, IsFlatValuation, AgreeWhereDriven}
 use Rattle.netlist_eval.specs.Eval.{OrderedHaveOneValuation, CyclesAreOne, class_bit, put, latch_classes, with_inputs, with_state, settle_node, settled, evaluated}
 use Rattle.netlist_eval.proofs.Writes.{length_written, stable, written}
+use Rattle.netlist_meaning.proofs.OneNode.{one_node}
 
 abbrev pub no_id : NetId
 no_id = record { 0 = 0 }
@@ -54,9 +56,6 @@ node_no_input flat s n k a b e = let d : node n ≡ input k = s.one_driver (in_c
 
 node_no_latch : (flat : Flat) → IsSound flat → (n k : ℕ) → n < length flat.nodes → k < length flat.latches → out_class flat n ≡ latch_class flat k → ⊥
 node_no_latch flat s n k a b e = let d : node n ≡ latch k = s.one_driver (latch_class flat k) (node n) (latch k) (a, e) (latch_drives flat k b) in cc
-
-nodes_apart : (flat : Flat) → IsSound flat → (m n : ℕ) → m < length flat.nodes → n < length flat.nodes → out_class flat m ≡ out_class flat n → m ≡ n
-nodes_apart flat s m n a b e = let d : node m ≡ node n = s.one_driver (out_class flat n) (node m) (node n) (a, e) (b, refl) in cc
 
 class_within : (flat : Flat) → IsSound flat → (net : NetId) → IsNetId flat net → class_of flat net < length flat.nets
 class_within flat s net l = s.in_range.classes net.0 _ l
@@ -135,7 +134,7 @@ node_settled flat s order o bits fit n l =
     within = subst (λ v. out_class flat (get_or order there.0 0) < v) (sym fit) (class_within flat s (node_at flat (get_or order there.0 0)).out (s.in_range.node_outs (get_or order there.0 0) _ (o.nodes there.0 0 there.1)))
 
     later : (k : ℕ) → there.0 < k → k < length order → out_class flat (get_or order k 0) ≢ out_class flat (get_or order there.0 0)
-    later k more in_k same = o.once there.0 k 0 more in_k (sym (nodes_apart flat s _ _ (o.nodes k 0 in_k) (o.nodes there.0 0 there.1) same))
+    later k more in_k same = o.once there.0 k 0 more in_k (sym (one_node flat s _ _ (o.nodes k 0 in_k) (o.nodes there.0 0 there.1) same))
 
     reads : (k : ℕ) → k < length (node_at flat n).ins → class_bit (fold (settle_node flat) bits (take there.0 order)) (class_of flat (get_or (node_at flat n).ins k no_id)) ≡ class_bit (settled flat order bits) (class_of flat (get_or (node_at flat n).ins k no_id))
     reads k in_ins = sym (stable (out_class flat) (λ bits n. node_value flat (class_bit bits) n) order 0 bits there.0 (class_of flat (get_or (node_at flat n).ins k no_id)) (omega (arith, there.1))
@@ -241,11 +240,8 @@ agree_there flat s order o f g t i l earlier =
 agree_before : (flat : Flat) → IsSound flat → (order : List ℕ) → IsOrder flat order → (f g : ℕ → Bool) → Two flat f g → (i : ℕ) → i ≤ length order → (j : ℕ) → j < i → f (out_class flat (get_or order j 0)) ≡ g (out_class flat (get_or order j 0))
 agree_before flat s order o f g t zero l j less = absurd (omega arith)
 agree_before flat s order o f g t (suc i) l j less =
-    by j (last j i less) (agree_before flat s order o f g t i (omega arith))
+    by j (less_or_last j i (omega arith)) (agree_before flat s order o f g t i (omega arith))
   where
-    last : (j i : ℕ) → j < suc i → (j < i) ⊎ (j ≡ i)
-    last j i l = grind arith
-
     by : (j : ℕ) → (j < i) ⊎ (j ≡ i) → ((j : ℕ) → j < i → f (out_class flat (get_or order j 0)) ≡ g (out_class flat (get_or order j 0))) → f (out_class flat (get_or order j 0)) ≡ g (out_class flat (get_or order j 0))
     by j (inl lower) earlier = earlier j lower
     by j (inr same) earlier = subst (λ v. f (out_class flat (get_or order v 0)) ≡ g (out_class flat (get_or order v 0))) (sym same) (agree_there flat s order o f g t i (omega arith) earlier)

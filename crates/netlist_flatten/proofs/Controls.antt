@@ -2,7 +2,8 @@
 use Rattle.std.proofs.Common.{ℕ, ◌≡◌, ◌≢◌, ◌<◌, ◌≤◌, ◌+◌, ◌⊎◌, ◌↔◌, inl, inr, List, [], ◌∷◌, ◌++◌, Bool, true, false, Option, Some, None, slice_get, get_or, length, map, take, set, option_map, option_and_then, refl, sym, ap, ◌∙◌, subst, arith, length-set, get_or-set_same, get_or-set_other}
 use Rattle.std.specs.Prelude.{All, MatchOption, ⊤, option_to_list}
 use Rattle.std.proofs.lemmas.List.{map-append, take_more}
-use Rattle.std.proofs.lemmas.Option.{none-some, slice_get-map, slice_get_within, get_or_from_slice_get}
+use Rattle.std.proofs.lemmas.Option.{none-some, slice_get-map, slice_get_within, get_or_from_slice_get, same_Some}
+use Rattle.std.proofs.lemmas.Bool.{cases_eq}
 use Rattle.netlist_core.specs.declared.flat.FlatLatch.{FlatLatch}
 use Rattle.netlist_core.specs.declared.flat.FlatPort.{FlatPort}
 use Rattle.netlist_core.specs.declared.flat.NetId.{NetId}
@@ -19,7 +20,8 @@ use Rattle.netlist_meaning.specs.Roots.{root}
 use Rattle.netlist_meaning.proofs.Names.{and_then-from}
 use Rattle.netlist_rules.specs.ModelFaults.{AreFaultless}
 use Rattle.lists.proofs.Members.{In, in_from, in_mapped, contains_from}
-use Rattle.sound_designs.proofs.Sound.{same_of, in_got, order_of}
+use Rattle.lists.proofs.Numbers.{less_or_last}
+use Rattle.sound_designs.proofs.Sound.{in_got}
 use Rattle.sound_designs.proofs.Driven.{got_from}
 use Rattle.flat_designs.proofs.Lists.{in_some_map, all_of}
 use Rattle.flat_designs.proofs.Listed.{net_is}
@@ -94,12 +96,11 @@ has_later classes latches count class h = record { number = h.number; latch = h.
 -- a latch with such a control is an earlier one, or the last
 was_before : (classes : List ℕ) (latches : List FlatLatch) (count class : ℕ) (latch : FlatLatch) → slice_get latches count ≡ Some latch → HasControlBefore classes latches (count + 1) class
     → HasControlBefore classes latches count class ⊎ ((id : NetId) × (latch.control ≡ Some id) × (get_or classes id.0 0 ≡ class))
-was_before classes latches count class latch is h = by (order_of h.number count)
+was_before classes latches count class latch is h = by (less_or_last h.number count h.earlier)
   where
-    by : (h.number < count) ⊎ (h.number ≡ count) ⊎ (count < h.number) → HasControlBefore classes latches count class ⊎ ((id : NetId) × (latch.control ≡ Some id) × (get_or classes id.0 0 ≡ class))
+    by : (h.number < count) ⊎ (h.number ≡ count) → HasControlBefore classes latches count class ⊎ ((id : NetId) × (latch.control ≡ Some id) × (get_or classes id.0 0 ≡ class))
     by (inl l) = inl (record { number = h.number; latch = h.latch; id = h.id; earlier = l; is_latch = h.is_latch; is_control = h.is_control; is_class = h.is_class })
-    by (inr (inl e)) = inr (h.id, ap (λ (x : FlatLatch). x.control) (same_of (sym is ∙ ap (slice_get latches) (sym e) ∙ h.is_latch)) ∙ h.is_control, h.is_class)
-    by (inr (inr l)) = absurd (let b : h.number < count + 1 = h.earlier in omega arith)
+    by (inr e) = inr (h.id, ap (λ (x : FlatLatch). x.control) (same_Some _ _ (sym is ∙ ap (slice_get latches) (sym e) ∙ h.is_latch)) ∙ h.is_control, h.is_class)
 
 -- a latch without a control
 pub marked_none : (classes : List ℕ) (latches : List FlatLatch) (count : ℕ) (marks : List Bool) (latch : FlatLatch) → slice_get latches count ≡ Some latch → latch.control ≡ None → MarkedBefore classes latches count marks → MarkedBefore classes latches (count + 1) marks
@@ -118,8 +119,8 @@ pub marked_some : (classes : List ℕ) (latches : List FlatLatch) (count : ℕ) 
     → MarkedBefore classes latches (count + 1) (set marks mark true)
 marked_some classes latches count marks latch id mark is is_id is_mark within before = record {
   many = length-set marks mark true ∙ before.many;
-  marked = λ class m. marked_by class (order_of class mark) m;
-  marks_all = λ class h. all_by class (order_of class mark) (was_before classes latches count class latch is h);
+  marked = λ class m. marked_by class (cases_eq class mark) m;
+  marks_all = λ class h. all_by class (cases_eq class mark) (was_before classes latches count class latch is h);
 }
   where
     there : mark < length marks
@@ -128,19 +129,17 @@ marked_some classes latches count marks latch id mark is is_id is_mark within be
     same_mark : (class : ℕ) → class ≡ mark → get_or (set marks mark true) class false ≡ true
     same_mark class e = ap (λ n. get_or (set marks mark true) n false) e ∙ get_or-set_same marks mark true false there
 
-    marked_by : (class : ℕ) → (class < mark) ⊎ (class ≡ mark) ⊎ (mark < class) → get_or (set marks mark true) class false ≡ true → HasControlBefore classes latches (count + 1) class
-    marked_by class (inl l) m = has_later classes latches count class (before.marked class (sym (get_or-set_other marks mark class true false (λ e. omega arith)) ∙ m))
-    marked_by class (inr (inl e)) m = record { number = count; latch = latch; id = id; earlier = (let h : count < count + 1 = omega arith in h); is_latch = is; is_control = is_id; is_class = is_mark ∙ sym e }
-    marked_by class (inr (inr l)) m = has_later classes latches count class (before.marked class (sym (get_or-set_other marks mark class true false (λ e. omega arith)) ∙ m))
+    marked_by : (class : ℕ) → (class ≡ mark) ⊎ (class ≢ mark) → get_or (set marks mark true) class false ≡ true → HasControlBefore classes latches (count + 1) class
+    marked_by class (inl e) m = record { number = count; latch = latch; id = id; earlier = (let h : count < count + 1 = omega arith in h); is_latch = is; is_control = is_id; is_class = is_mark ∙ sym e }
+    marked_by class (inr differ) m = has_later classes latches count class (before.marked class (sym (get_or-set_other marks mark class true false differ) ∙ m))
 
     other_by : (class : ℕ) → class ≢ mark → HasControlBefore classes latches count class ⊎ ((own : NetId) × (latch.control ≡ Some own) × (get_or classes own.0 0 ≡ class)) → get_or (set marks mark true) class false ≡ true
     other_by class differ (inl h) = get_or-set_other marks mark class true false differ ∙ before.marks_all class h
-    other_by class differ (inr (own, is_own, same)) = absurd (differ (sym same ∙ ap (λ (n : NetId). get_or classes n.0 0) (same_of (sym is_own ∙ is_id)) ∙ is_mark))
+    other_by class differ (inr (own, is_own, same)) = absurd (differ (sym same ∙ ap (λ (n : NetId). get_or classes n.0 0) (same_Some _ _ (sym is_own ∙ is_id)) ∙ is_mark))
 
-    all_by : (class : ℕ) → (class < mark) ⊎ (class ≡ mark) ⊎ (mark < class) → HasControlBefore classes latches count class ⊎ ((own : NetId) × (latch.control ≡ Some own) × (get_or classes own.0 0 ≡ class)) → get_or (set marks mark true) class false ≡ true
-    all_by class (inl m) h = other_by class (λ e. omega arith) h
-    all_by class (inr (inl e)) h = same_mark class e
-    all_by class (inr (inr m)) h = other_by class (λ e. omega arith) h
+    all_by : (class : ℕ) → (class ≡ mark) ⊎ (class ≢ mark) → HasControlBefore classes latches count class ⊎ ((own : NetId) × (latch.control ≡ Some own) × (get_or classes own.0 0 ≡ class)) → get_or (set marks mark true) class false ≡ true
+    all_by class (inl e) h = same_mark class e
+    all_by class (inr differ) h = other_by class differ h
 
 -- once all latches are read
 pub marked_all : (classes : List ℕ) (latches : List FlatLatch) (count : ℕ) (marks : List Bool) → length latches ≤ count → MarkedBefore classes latches count marks → (class : ℕ) → (get_or marks class false ≡ true) ↔ HasControlClass classes latches class
@@ -216,10 +215,6 @@ pub mark_there : (classes : List ℕ) (latches : List FlatLatch) (k : ℕ) (latc
 mark_there classes latches k latch id all controls is is_id =
     let within : id.0 < length classes = subst (λ (o : Option NetId). MatchOption o ⊤ (λ id. id.0 < length classes)) is_id (all_at (λ (l : FlatLatch). MatchOption l.control ⊤ (λ id. id.0 < length classes)) latches latch controls (in_got latches k latch is)) in
     all id.0 0 within
-
-pub none_where : {X : Type 0} (o : Option X) → ((x : X) → o ≡ Some x → ⊥) → o ≡ None
-none_where None h = refl
-none_where (Some x) h = absurd (h x refl)
 
 -- what the table of marks tells of a port
 pub tells : (design : Design) (port : Port) (flat : FlatPort) (classes : List ℕ) (latches : List FlatLatch) (held marks : List Bool) (answer : Bool) → AreFaultless design.models → IsNet design (net_at [] port.name) → classes ≡ map (class_of_net design) (nets_in_order design)

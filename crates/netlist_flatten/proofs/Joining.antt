@@ -3,7 +3,8 @@ use Rattle.std.proofs.Common.{ℕ, ◌≡◌, ◌≢◌, ◌<◌, ◌≤◌, ◌
 use denote.Ref.{Bor}
 use Rattle.std.proofs.lemmas.List.{length-map}
 use Rattle.std.proofs.lemmas.List.FromFn.{length-map-range_with_len, get_or-map-range_with_len}
-use Rattle.std.proofs.lemmas.Option.{slice_get-map, slice_get-get_or, slice_get_within, slice_get_read}
+use Rattle.std.proofs.lemmas.Option.{slice_get-map, slice_get-get_or, slice_get_within, slice_get_read, same_Some}
+use Rattle.std.proofs.lemmas.Bool.{cases_eq}
 use Rattle.netlist_core.specs.declared.flat.NetId.{NetId}
 use Rattle.netlist_core.specs.declared.flat.Net.{Net as FlatNet}
 use Rattle.netlist_core.specs.declared.model.Design.{Design}
@@ -20,7 +21,7 @@ use Rattle.netlist_meaning.proofs.Names.{and_then-from}
 use Rattle.netlist_meaning.proofs.Depth.{model_at-append}
 use Rattle.netlist_rules.specs.ModelFaults.{AreFaultless}
 use Rattle.lists.proofs.Members.{In, in_from, in_map, in_mapped, contains_from}
-use Rattle.sound_designs.proofs.Sound.{same_of, in_got, order_of, formals_named}
+use Rattle.sound_designs.proofs.Sound.{in_got, formals_named}
 use Rattle.sound_designs.proofs.Driven.{got_from}
 use Rattle.lists.proofs.Ends.{snoc_same}
 use Rattle.flat_designs.proofs.Lists.{in_some_map}
@@ -29,6 +30,7 @@ use Rattle.flat_designs.proofs.ByPins.{roots_are_by_pins}
 use Rattle.netlist_flatten.specs.Numbered.{place_at, nets_before}
 use Rattle.netlist_flatten.specs.Joins.{IsLineTo, own_numbers}
 use Rattle.lists.proofs.Cuts.{got_left, got_right, got_taken, take_taken, flat_cut, got_set_same, got_set_other, same_items}
+use Rattle.lists.proofs.Numbers.{less_or_last}
 use Rattle.netlist_flatten.proofs.Numbering.{got_place, net_there_at, position_is, nets_by_names, name_there}
 
 -- the nets at a place stand there
@@ -75,7 +77,7 @@ is_pinned design outer inner line h pin i = record { model = h.model; line = lin
 pub joined_next : (design : Design) (outer inner : ℕ) (line : Subckt) (count formal class : ℕ) (pin : Pin) (own : List ℕ) → AreFaultless design.models → inner < length (places_in_order design) → IsLineTo design outer inner line → slice_get line.pins count ≡ Some pin
     → slice_get (nets_at design (place_at design inner)) formal ≡ Some (net_at (place_at design inner) pin.formal) → class ≡ class_of_net design (net_at (place_at design outer) pin.actual) → JoinedBefore design inner line.pins count own
     → JoinedBefore design inner line.pins (count + 1) (set own formal class)
-joined_next design outer inner line count formal class pin own faultless l to is_pin is_formal is_class before = record { many = length-set own formal class ∙ before.many; joined = λ j name here. by j name here (order_of j formal) }
+joined_next design outer inner line count formal class pin own faultless l to is_pin is_formal is_class before = record { many = length-set own formal class ∙ before.many; joined = λ j name here. by j name here (cases_eq j formal) }
   where
     there : formal < length own
     there = let w : formal < length (nets_at design (place_at design inner)) = slice_get_within _ formal _ is_formal in let m : length own ≡ length (nets_at design (place_at design inner)) = before.many in omega arith
@@ -83,24 +85,22 @@ joined_next design outer inner line count formal class pin own faultless l to is
     is_root : class ≡ class_of_net design (net_at (place_at design inner) pin.formal)
     is_root = is_class ∙ ap (position_of (nets_in_order design)) (sym ((roots_are_by_pins design faultless).pinned _ _ (is_pinned design outer inner line to pin (in_got line.pins count pin is_pin))))
 
-    later_by : (name : Name) (p : ℕ) (other : Pin) → pin.formal ≢ name → IsUnnamedBefore line.pins count name → (p < count) ⊎ (p ≡ count) ⊎ (count < p) → p < count + 1 → slice_get line.pins p ≡ Some other → other.formal ≢ name
-    later_by name p other differ rest (inl m) b is = rest p other m is
-    later_by name p other differ rest (inr (inl same)) b is = λ e. differ (ap (λ (q : Pin). q.formal) (same_of (sym is_pin ∙ ap (slice_get line.pins) (sym same) ∙ is)) ∙ e)
-    later_by name p other differ rest (inr (inr m)) b is = absurd (omega arith)
+    later_by : (name : Name) (p : ℕ) (other : Pin) → pin.formal ≢ name → IsUnnamedBefore line.pins count name → (p < count) ⊎ (p ≡ count) → slice_get line.pins p ≡ Some other → other.formal ≢ name
+    later_by name p other differ rest (inl m) is = rest p other m is
+    later_by name p other differ rest (inr same) is = λ e. differ (ap (λ (q : Pin). q.formal) (same_Some _ _ (sym is_pin ∙ ap (slice_get line.pins) (sym same) ∙ is)) ∙ e)
 
     other_by : (j : ℕ) (name : Name) → slice_get (nets_at design (place_at design inner)) j ≡ Some (net_at (place_at design inner) name) → j ≢ formal → IsJoinedAt design inner line.pins count own j name → IsJoinedAt design inner line.pins (count + 1) (set own formal class) j name
     other_by j name here differ (inl known) = inl (got_set_other own formal j class differ ∙ known)
     other_by j name here differ (inr (itself, rest)) = inr (
       got_set_other own formal j class differ ∙ itself,
-      λ p other b is. later_by name p other (λ e. differ (one_position design inner j formal (net_at (place_at design inner) name) l here (is_formal ∙ ap (λ n. Some (net_at (place_at design inner) n)) e))) rest (order_of p count) b is,
+      λ p other b is. later_by name p other (λ e. differ (one_position design inner j formal (net_at (place_at design inner) name) l here (is_formal ∙ ap (λ n. Some (net_at (place_at design inner) n)) e))) rest (less_or_last p count b) is,
     )
 
-    by : (j : ℕ) (name : Name) → slice_get (nets_at design (place_at design inner)) j ≡ Some (net_at (place_at design inner) name) → (j < formal) ⊎ (j ≡ formal) ⊎ (formal < j) → IsJoinedAt design inner line.pins (count + 1) (set own formal class) j name
-    by j name here (inl m) = other_by j name here (λ e. omega arith) (before.joined j name here)
-    by j name here (inr (inl same)) =
-        let net : net_at (place_at design inner) pin.formal ≡ net_at (place_at design inner) name = same_of (sym is_formal ∙ ap (slice_get (nets_at design (place_at design inner))) (sym same) ∙ here) in
+    by : (j : ℕ) (name : Name) → slice_get (nets_at design (place_at design inner)) j ≡ Some (net_at (place_at design inner) name) → (j ≡ formal) ⊎ (j ≢ formal) → IsJoinedAt design inner line.pins (count + 1) (set own formal class) j name
+    by j name here (inl same) =
+        let net : net_at (place_at design inner) pin.formal ≡ net_at (place_at design inner) name = same_Some _ _ (sym is_formal ∙ ap (slice_get (nets_at design (place_at design inner))) (sym same) ∙ here) in
         inl (ap (slice_get (set own formal class)) same ∙ got_set_same own formal class there ∙ ap Some (is_root ∙ ap (class_of_net design) net))
-    by j name here (inr (inr m)) = other_by j name here (λ e. omega arith) (before.joined j name here)
+    by j name here (inr differ) = other_by j name here differ (before.joined j name here)
 
 -- no pin names the name
 abbrev IsUnnamed : List Pin → Name → Type 0
@@ -110,8 +110,8 @@ IsUnnamed pins name = (p : ℕ) (pin : Pin) → slice_get pins p ≡ Some pin �
 free_net : (design : Design) (outer inner : ℕ) (line : Subckt) (name : Name) → IsLineTo design outer inner line → IsUnnamed line.pins name → (net : Net) → ¬ IsPinned design net (net_at (place_at design inner) name)
 free_net design outer inner line name to free net h =
     let (place, number) = snoc_same (place_at design outer) net.place to.number h.number (sym to.is_deeper ∙ h.is_deeper) in
-    let model : to.model ≡ h.model = same_of (sym to.has_model ∙ ap (model_at design) place ∙ h.has_model) in
-    let is_line : line ≡ h.line = same_of (sym to.has_line ∙ ap₂ (λ (m : Model) (n : ℕ). slice_get m.subckts n) model number ∙ h.has_line) in
+    let model : to.model ≡ h.model = same_Some _ _ (sym to.has_model ∙ ap (model_at design) place ∙ h.has_model) in
+    let is_line : line ≡ h.line = same_Some _ _ (sym to.has_line ∙ ap₂ (λ (m : Model) (n : ℕ). slice_get m.subckts n) model number ∙ h.has_line) in
     let (p, is_p) = got_from line.pins h.pin (subst (λ (s : Subckt). In h.pin s.pins) (sym is_line) (in_from h.line.pins h.pin h.has_pin)) in
     free p h.pin is_p (sym h.is_formal)
 
@@ -169,7 +169,7 @@ line_to design outer inner number model m is_m deeper is_model =
     let (o, is_o, rest) = and_then-from (model_below design (number ∷ [])) (model_at design (place_at design outer)) m (sym (model_at-append design (place_at design outer) (number ∷ [])) ∙ ap (model_at design) (sym deeper) ∙ is_m) in
     let (n, is_n, same) = and_then-from (model_below design []) (model_placed design o number) m rest in
     let (line, is_line, found) = and_then-from (λ (s : Subckt). model_named design.models s.model) (slice_get o.subckts number) n is_n in
-    (line, ap (λ (v : Model). slice_get v.subckts number) (same_of (sym is_model ∙ is_o)) ∙ is_line)
+    (line, ap (λ (v : Model). slice_get v.subckts number) (same_Some _ _ (sym is_model ∙ is_o)) ∙ is_line)
 
 -- a net at a place is among the nets there
 pub net_in : (design : Design) (k : ℕ) (name : Name) → IsNet design (net_at (place_at design k) name) → In (net_at (place_at design k) name) (nets_at design (place_at design k))

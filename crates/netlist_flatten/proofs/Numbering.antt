@@ -2,7 +2,7 @@
 use Rattle.std.proofs.Common.{ℕ, ◌≡◌, ◌<◌, ◌≤◌, ◌+◌, ◌^◌, List, [], ◌++◌, Option, Some, None, slice_get, map, length, option_map, sym, ap, ◌∙◌, subst, arith}
 use Rattle.std.proofs.lemmas.List.{length-map}
 use Rattle.std.proofs.lemmas.Simd.{map-map}
-use Rattle.std.proofs.lemmas.Option.{slice_get-map, slice_get-get_or, slice_get_within, get_or_from_slice_get}
+use Rattle.std.proofs.lemmas.Option.{slice_get-map, slice_get-get_or, slice_get_within, get_or_from_slice_get, same_Some}
 use denote.Ref.{Bor}
 use Rattle.std.specs.Prelude.{MatchOption, Contains, unwrap_or}
 use Rattle.netlist_core.specs.declared.model.Design.{Design}
@@ -15,7 +15,7 @@ use Rattle.netlist_meaning.specs.FlatOf.{position_of}
 use Rattle.netlist_meaning.specs.Weight.{weight}
 use Rattle.netlist_rules.specs.ModelFaults.{AreFaultless}
 use Rattle.lists.proofs.Members.{In, in_from, contains_from}
-use Rattle.sound_designs.proofs.Sound.{same_of, in_got}
+use Rattle.sound_designs.proofs.Sound.{in_got}
 use Rattle.flat_designs.proofs.Lists.{one_place}
 use Rattle.flat_designs.proofs.Listed.{place_is, nets_once, name_listed}
 use Rattle.flat_designs.proofs.Classes.{position_at}
@@ -61,7 +61,7 @@ nets_by_names design place m e = ap (λ o. map (net_at place) (of_some names_in_
 
 -- a net has its name among those of the model at its place
 pub name_there : (design : Design) (place : Place) (name : Name) (m : Model) → model_at design place ≡ Some m → IsNet design (net_at place name) → In name (names_in_order m)
-name_there design place name m e (own, is_own, c) = subst (λ (v : Model). In name (names_in_order v)) (same_of (sym is_own ∙ e)) (name_listed own name (in_from _ name c))
+name_there design place name m e (own, is_own, c) = subst (λ (v : Model). In name (names_in_order v)) (same_Some _ _ (sym is_own ∙ e)) (name_listed own name (in_from _ name c))
 
 -- what is known at a place
 pub record AtPlace (design : Design) (names : List (Option (List Name))) (k : ℕ) (at : PlacedModel) : Type 0 where
@@ -93,7 +93,7 @@ pub place_held : (design inside : Design) (placed : List PlacedModel) (names : L
 place_held design inside placed names firsts k at same t e = at_place design placed names firsts k at (subst (λ (d : Design). AreTables d placed names firsts) same t) e
 
 pub own_names : {names : List (Option (List Name))} {design : Design} {k : ℕ} {at : PlacedModel} (h : AtPlace design names k at) (own : Option (List Name)) → slice_get names at.model ≡ Some own → own ≡ Some (names_in_order h.model)
-own_names h own e = same_of (sym e ∙ h.has_names)
+own_names h own e = same_Some _ _ (sym e ∙ h.has_names)
 
 -- where a name stands among the names of the model, its net stands among the nets at the place
 pub position_there : (design : Design) (place : Place) (m : Model) (name : Name) (found : Option ℕ) → model_at design place ≡ Some m → IsNet design (net_at place name)
@@ -118,7 +118,7 @@ pub first_held : (design inside : Design) (placed : List PlacedModel) (names : L
 first_held design inside placed names firsts k first same t l e =
     let many : length placed ≡ length (places_in_order inside) = place_count inside placed t.are_places in
     let within : k < length placed = subst (λ n. k < n) (sym (many ∙ ap (λ (d : Design). length (places_in_order d)) same)) l in
-    same_of (sym e ∙ t.are_firsts k within) ∙ ap (λ (d : Design). length (nets_before d k)) same
+    same_Some _ _ (sym e ∙ t.are_firsts k within) ∙ ap (λ (d : Design). length (nets_before d k)) same
 
 -- a place's nets and those before it are few
 pub own_few : (design : Design) (k : ℕ) → AreFaultless design.models → weight design < 2 ^ 32 → k < length (places_in_order design) → length (nets_before design k) + length (nets_at design (place_at design k)) < 2 ^ 32

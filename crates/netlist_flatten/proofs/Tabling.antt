@@ -2,7 +2,8 @@
 use Rattle.std.proofs.Common.{ℕ, zero, suc, ◌≡◌, ◌≢◌, ◌<◌, ◌≤◌, ◌+◌, ◌^◌, ◌⊎◌, inl, inr, List, [], ◌∷◌, ◌++◌, Option, Some, None, slice_get, get_or, true, true≢false, ap₂, length, set, replicate, refl, sym, ap, ◌∙◌, subst, arith, length-append, length-set}
 use Rattle.std.specs.Prelude.{is_some}
 use Rattle.std.proofs.lemmas.List.{length-replicate, length-map}
-use Rattle.std.proofs.lemmas.Option.{none-some, slice_get_within, slice_get_read}
+use Rattle.std.proofs.lemmas.Option.{none-some, slice_get_within, slice_get_read, same_Some}
+use Rattle.std.proofs.lemmas.Bool.{cases_eq}
 use Rattle.netlist_core.specs.declared.model.Design.{Design}
 use Rattle.netlist_core.specs.declared.model.Model.{Model}
 use Rattle.netlist_core.specs.Names.{Name}
@@ -12,12 +13,12 @@ use Rattle.netlist_meaning.specs.InOrder.{places_in_order, names_in_order, nets_
 use Rattle.netlist_meaning.specs.Weight.{weight}
 use Rattle.netlist_rules.specs.ModelFaults.{AreFaultless}
 use Rattle.lists.proofs.Appends.{slice_get_push}
-use Rattle.sound_designs.proofs.Sound.{same_of, order_of}
 use Rattle.design_places.specs.declared.placed.PlacedModel.{PlacedModel}
 use Rattle.design_places.specs.Placed.{ArePlaces}
 use Rattle.netlist_flatten.specs.Numbered.{place_at, nets_before}
 use Rattle.netlist_flatten.specs.Tables.{AreOfModels, IsKnown, AreNames}
 use Rattle.lists.proofs.Cuts.{got_left, flat_next, flat_within, got_set_same, got_set_other}
+use Rattle.lists.proofs.Numbers.{less_or_last}
 use Rattle.netlist_flatten.proofs.Numbering.{got_place, model_there, place_count, placed_at, nets_by_names, few_nets}
 
 -- the names are known at the places so far
@@ -28,7 +29,7 @@ pub record KnownBefore (design : Design) (placed : List PlacedModel) (count : �
 
 no_name : {X : Type 0} (n k : ℕ) (x : X) → slice_get (replicate {A = Option X} n None) k ≡ Some (Some x) → ⊥
 no_name zero k x e = none-some (Some x) e
-no_name (suc n) zero x e = none-some x (same_of e)
+no_name (suc n) zero x e = none-some x (same_Some _ _ e)
 no_name (suc n) (suc k) x e = no_name n k x e
 
 pub known_start : (design : Design) (placed : List PlacedModel) (names : List (Option (List Name))) (n : ℕ) → names ≡ replicate {A = Option (List Name)} n None → n ≡ length design.models → KnownBefore design placed 0 names
@@ -46,13 +47,12 @@ known_more : (design : Design) (placed : List PlacedModel) (count : ℕ) (names 
     → length more ≡ length names → AreOfModels design more → KnowsMore names more → IsKnown more at → KnownBefore design placed (count + 1) more
 known_more design placed count names more at before e many right knows here = record { many = many ∙ before.many; right = right; known = known }
   where
-    by : (k : ℕ) (other : PlacedModel) → (k < count) ⊎ (k ≡ count) ⊎ (count < k) → k < count + 1 → slice_get placed k ≡ Some other → IsKnown more other
-    by k other (inl l) b is = let (own, has) = before.known k other l is in knows other.model own has
-    by k other (inr (inl same)) b is = subst (IsKnown more) (same_of (sym e ∙ ap (slice_get placed) (sym same) ∙ is)) here
-    by k other (inr (inr l)) b is = absurd (omega arith)
+    by : (k : ℕ) (other : PlacedModel) → (k < count) ⊎ (k ≡ count) → slice_get placed k ≡ Some other → IsKnown more other
+    by k other (inl l) is = let (own, has) = before.known k other l is in knows other.model own has
+    by k other (inr same) is = subst (IsKnown more) (same_Some _ _ (sym e ∙ ap (slice_get placed) (sym same) ∙ is)) here
 
     known : (k : ℕ) (other : PlacedModel) → k < count + 1 → slice_get placed k ≡ Some other → IsKnown more other
-    known k other b is = by k other (order_of k count) b is
+    known k other b is = by k other (less_or_last k count b) is
 
 -- a model whose names are known already
 pub known_same : (design : Design) (placed : List PlacedModel) (count : ℕ) (names : List (Option (List Name))) (at : PlacedModel) (own : List Name) → KnownBefore design placed count names → slice_get placed count ≡ Some at
@@ -71,25 +71,20 @@ known_new design placed count names at model own before e is_model is_own =
     here : slice_get (set names at.model (Some own)) at.model ≡ Some (Some own)
     here = got_set_same names at.model (Some own) there
 
-    apart : (k : ℕ) → (k < at.model) ⊎ (k ≡ at.model) ⊎ (at.model < k) → (k ≡ at.model) ⊎ (k ≢ at.model)
-    apart k (inl l) = inr (λ same. omega arith)
-    apart k (inr (inl same)) = inl same
-    apart k (inr (inr l)) = inr (λ same. omega arith)
-
     right_by : (k : ℕ) (other : Model) (now : List Name) → (k ≡ at.model) ⊎ (k ≢ at.model) → slice_get design.models k ≡ Some other → slice_get (set names at.model (Some own)) k ≡ Some (Some now) → now ≡ names_in_order other
     right_by k other now (inl same) is has =
-        same_of (same_of (sym has ∙ ap (slice_get (set names at.model (Some own))) same ∙ here)) ∙ is_own ∙ ap names_in_order (same_of (sym is_model ∙ ap (slice_get design.models) (sym same) ∙ is))
+        same_Some _ _ (same_Some _ _ (sym has ∙ ap (slice_get (set names at.model (Some own))) same ∙ here)) ∙ is_own ∙ ap names_in_order (same_Some _ _ (sym is_model ∙ ap (slice_get design.models) (sym same) ∙ is))
     right_by k other now (inr differ) is has = before.right k other now is (sym (got_set_other names at.model k (Some own) differ) ∙ has)
 
     right : AreOfModels design (set names at.model (Some own))
-    right k other now is has = right_by k other now (apart k (order_of k at.model)) is has
+    right k other now is has = right_by k other now (cases_eq k at.model) is has
 
     knows_by : (k : ℕ) (now : List Name) → (k ≡ at.model) ⊎ (k ≢ at.model) → slice_get names k ≡ Some (Some now) → (later : List Name) × (slice_get (set names at.model (Some own)) k ≡ Some (Some later))
     knows_by k now (inl same) has = (own, ap (slice_get (set names at.model (Some own))) same ∙ here)
     knows_by k now (inr differ) has = (now, got_set_other names at.model k (Some own) differ ∙ has)
 
     knows : KnowsMore names (set names at.model (Some own))
-    knows k now has = knows_by k now (apart k (order_of k at.model)) has
+    knows k now has = knows_by k now (cases_eq k at.model) has
 
 pub known_all : (design : Design) (placed : List PlacedModel) (count : ℕ) (names : List (Option (List Name))) → length placed ≤ count → KnownBefore design placed count names → AreNames design placed names
 known_all design placed count names all before = record {
@@ -123,13 +118,12 @@ pub firsts_next : (design : Design) (count first own : ℕ) (firsts : List ℕ) 
 firsts_next design count first own firsts l e before = record {
   is_first = ap₂ (λ a b. a + b) before.is_first e ∙ sym (next_nets design count l);
   many = length-append firsts (first ∷ []) ∙ ap (λ n. n + 1) before.many;
-  firsts_are = λ k b. by k (order_of k count) b;
+  firsts_are = λ k b. by k (less_or_last k count b);
 }
   where
-    by : (k : ℕ) → (k < count) ⊎ (k ≡ count) ⊎ (count < k) → k < count + 1 → slice_get (firsts ++ first ∷ []) k ≡ Some (length (nets_before design k))
-    by k (inl l) b = got_left firsts (first ∷ []) k _ (before.firsts_are k l)
-    by k (inr (inl same)) b = ap (slice_get (firsts ++ first ∷ [])) (same ∙ sym before.many) ∙ slice_get_push firsts first ∙ ap Some (before.is_first ∙ ap (λ n. length (nets_before design n)) (sym same))
-    by k (inr (inr l)) b = absurd (omega arith)
+    by : (k : ℕ) → (k < count) ⊎ (k ≡ count) → slice_get (firsts ++ first ∷ []) k ≡ Some (length (nets_before design k))
+    by k (inl l) = got_left firsts (first ∷ []) k _ (before.firsts_are k l)
+    by k (inr same) = ap (slice_get (firsts ++ first ∷ [])) (same ∙ sym before.many) ∙ slice_get_push firsts first ∙ ap Some (before.is_first ∙ ap (λ n. length (nets_before design n)) (sym same))
 
 -- how many nets stand at a place
 pub own_count : (design : Design) (placed : List PlacedModel) (names : List (Option (List Name))) (k : ℕ) (at : PlacedModel) (count : ℕ) → ArePlaces design placed → AreNames design placed names → slice_get placed k ≡ Some at

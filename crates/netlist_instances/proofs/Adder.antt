@@ -1,6 +1,7 @@
 -- The two-bit adder of two full adders.
-use Rattle.std.proofs.Common.{ℕ, zero, suc, ◌≡◌, ◌<◌, ◌+◌, ◌++◌, List, [], ◌∷◌, Bool, true, false, cond, Some, slice_get, get_or, map, length, All, Contains, refl, sym, ap, ◌∙◌, subst, arith, bytes_eq, codes, inl, inr}
-use Rattle.std.proofs.lemmas.Option.{none-some, same_Some, slice_get_within, get_or_from_slice_get}
+use Rattle.std.proofs.Common.{ℕ, zero, suc, ◌≡◌, ◌<◌, ◌+◌, ◌++◌, List, [], ◌∷◌, Bool, true, false, cond, Some, slice_get, get_or, map, length, Contains, refl, sym, ap, ◌∙◌, subst, arith, bytes_eq, codes, inl, inr}
+use Rattle.std.proofs.lemmas.Option.{none-some, same_Some}
+use Rattle.std.specs.List.{AllByRecursion}
 use Rattle.netlist_core.specs.declared.model.Design.{Design}
 use Rattle.netlist_core.specs.declared.model.Model.{Model}
 use Rattle.netlist_core.specs.declared.model.Cover.{Cover}
@@ -11,23 +12,20 @@ use Rattle.netlist_core.specs.Names.{Name}
 use Rattle.netlist_meaning.specs.Places.{Place, model_at, latch_at, main_inputs}
 use Rattle.netlist_meaning.specs.Nets.{Net, net_at, IsPinned, by_pin, IsControl, IsClockNet, IsInNames}
 use Rattle.netlist_meaning.specs.CoverValue.{cover_value}
-use Rattle.netlist_meaning.specs.Valuation.{Valuation, LatchState, IsValuation, IsRun, latches_in, start_state, output_bits}
+use Rattle.netlist_meaning.specs.Valuation.{Valuation, LatchState, IsValuation, latches_in, start_state, output_bits}
 use Rattle.one_cover.specs.Parts.{pin_with}
 use Rattle.netlist_instances.specs.Designs.{sum_cover, carry_cover, first_line, second_line, adder_main, adder_design, full_adder}
 use Rattle.netlist_instances.specs.Instances.{AdderAdds, number_spelled}
 use Rattle.netlist_meaning.proofs.Names.{and_then-from}
 use Rattle.netlist_meaning.proofs.SingleModel.{all_in_names}
 use Rattle.netlist_meaning.proofs.Joined.{in_names_are_one, pins_are_enough}
+use Rattle.one_cover.proofs.OneCover.{row_by_row}
 
 -- a fact of each element
-abbrev pub Each : {X : Type 0} → (X → Type 0) → List X → Type 0
-Each P [] = Unit {0}
-Each P (x ∷ xs) = P x × Each P xs
-
-pub each-contains : {X : Type 0} (P : X → Type 0) (xs : List X) (x : X) → Each P xs → Contains xs x → P x
+pub each-contains : {X : Type 0} (P : X → Type 0) (xs : List X) (x : X) → AllByRecursion P xs → Contains xs x → P x
 each-contains {X = X} P xs x each (k, lt, is) = go xs each k lt is
   where
-    go : (ys : List X) → Each P ys → (k : ℕ) → k < length ys → get_or ys k x ≡ x → P x
+    go : (ys : List X) → AllByRecursion P ys → (k : ℕ) → k < length ys → get_or ys k x ≡ x → P x
     go [] each k lt is = absurd (omega arith)
     go (y ∷ ys) each zero lt is = subst P is each.0
     go (y ∷ ys) each (suc k) lt is = go ys each.1 k (omega arith) is
@@ -257,24 +255,16 @@ pub adder_adds : AdderAdds
 unfolding Sums
 adder_adds =
     record {
-      runs = λ rows wide. (run_on rows, solved rows wide);
+      runs = λ rows wide. ((λ cycle. run_of (get_or rows cycle [])), row_by_row adder_design 5 run_of solved rows wide);
       adds = λ rows run is_run cycle a0 a1 b0 b1 ci is_row. ap number_spelled (gives a0 a1 b0 b1 ci (latches_in adder_design (start_state adder_design) run cycle) (run cycle) (is_run cycle _ is_row)) ∙ added a0 a1 b0 b1 ci;
     }
   where
     run_of : List Bool → Valuation
     run_of row = bits_of (bit_at 0 row) (bit_at 1 row) (bit_at 2 row) (bit_at 3 row) (bit_at 4 row)
 
-    run_on : List (List Bool) → ℕ → Valuation
-    run_on rows cycle = run_of (get_or rows cycle [])
-
-    solved : (rows : List (List Bool)) → All (λ row. length row ≡ 5) rows → IsRun adder_design rows (run_on rows)
-    solved rows wide cycle row is_row =
-        let is_at : get_or rows cycle [] ≡ row = get_or_from_slice_get rows cycle row [] is_row in
-        let long : length row ≡ 5 = subst (λ r. length r ≡ 5) is_at (wide cycle [] (slice_get_within rows cycle row is_row)) in
-        let state : LatchState = latches_in adder_design (start_state adder_design) (run_on rows) cycle in
-        subst (λ r. IsValuation adder_design row state (run_of r)) (sym is_at)
-        (subst (λ r. IsValuation adder_design r state (run_of row)) (sym (five_bits row long))
-        (solves (bit_at 0 row) (bit_at 1 row) (bit_at 2 row) (bit_at 3 row) (bit_at 4 row) state))
+    solved : (row : List Bool) (state : LatchState) → length row ≡ 5 → IsValuation adder_design row state (run_of row)
+    solved row state long =
+        subst (λ r. IsValuation adder_design r state (run_of row)) (sym (five_bits row long)) (solves (bit_at 0 row) (bit_at 1 row) (bit_at 2 row) (bit_at 3 row) (bit_at 4 row) state)
 
     added : (a0 a1 b0 b1 ci : Bool) → number_spelled (outputs_of a0 a1 b0 b1 ci) ≡ number_spelled (a0 ∷ a1 ∷ []) + number_spelled (b0 ∷ b1 ∷ []) + number_spelled (ci ∷ [])
     added = sums_up

@@ -15,6 +15,7 @@ use Rattle.lists.proofs.Names.{bytes_eq-same, bytes_eq-other, apart_by}
 use Rattle.netlist_meaning.proofs.SingleModel.{IsFlat, model_at-main, model_at-flat, joined-flat, latch_at-flat}
 use Rattle.netlist_meaning.proofs.Joined.{in_names_are_one}
 use Rattle.netlist_instances.proofs.ClockInstances.{control_is, control_is_no_input}
+use Rattle.one_cover.proofs.OneCover.{first_bit}
 
 -- a design of one latch, from d to q, whose one IN name is d
 record IsOneLatch (d q : Name) (first : Bool) (design : Design) : Type 0 where
@@ -33,9 +34,6 @@ record IsOneLatch (d q : Name) (first : Bool) (design : Design) : Type 0 where
 bits_of : Name → Bool → Bool → Valuation
 bits_of q state input place name = cond (bytes_eq name q) state input
 
-first_bit : List Bool → Bool
-first_bit row = get_or row 0 false
-
 -- the state of a cycle
 state_of : Bool → List (List Bool) → ℕ → Bool
 state_of first rows zero = first
@@ -53,7 +51,6 @@ unfolding bits_of
 bits_at_d d q state input place apart = ap (λ t. cond t state input) (bytes_eq-other d q apart)
 
 one_bit : (row : List Bool) → length row ≡ 1 → first_bit row ∷ [] ≡ row
-unfolding first_bit
 one_bit [] e = absurd (omega arith)
 one_bit (bit ∷ []) e = refl
 one_bit (bit ∷ (other ∷ row)) e = absurd (omega arith)

@@ -1,5 +1,5 @@
 -- What rows of covers say.
-use Rattle.std.proofs.lemmas.Bool.{and_parts, and_from, false_from_ne_true}
+use Rattle.std.proofs.lemmas.Bool.{and_parts, and_from, false_from_ne_true, not-false}
 use Rattle.std.proofs.Common.{ℕ, zero, suc, ◌≡◌, ◌≢◌, ◌↔◌, ◌==◌, List, [], ◌∷◌, Bool, true, false, not, Any, Some, refl, sym, ap, ◌∙◌, true≢false}
 use Rattle.std.specs.Bool.{Decides}
 use Rattle.std.proofs.lemmas.List.Folds.{Any-from_list_any, list_any-from_Any}
@@ -51,10 +51,6 @@ any-holds rows bits = (
   λ h. list_any-from_Any (λ row. product_holds row bits) rows (h.0, h.1, h.2, h.3, (product-Decides h.1 bits).1 h.4),
 )
 
-inverted : (b : Bool) → not b ≡ false → b ≡ true
-inverted true e = refl
-inverted false e = sym e
-
 on_is : (rows : List (List ℕ)) (bits : List Bool) → cover_value rows true bits ≡ any_holds rows bits
 on_is [] bits = refl
 on_is (row ∷ rows) bits = refl
@@ -68,5 +64,5 @@ covers_say =
     record {
       on = λ rows bits. (λ e. (any-holds rows bits).0 (sym (on_is rows bits) ∙ e), λ h. on_is rows bits ∙ (any-holds rows bits).1 h);
       no_rows = λ on bits. refl;
-      off = λ rows bits some. (λ e. (any-holds rows bits).0 (inverted _ (sym (off_is rows bits some) ∙ e)), λ h. off_is rows bits some ∙ ap not ((any-holds rows bits).1 h));
+      off = λ rows bits some. (λ e. (any-holds rows bits).0 (not-false _ (sym (off_is rows bits some) ∙ e)), λ h. off_is rows bits some ∙ ap not ((any-holds rows bits).1 h));
     }

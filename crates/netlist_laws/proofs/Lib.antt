@@ -1,4 +1,3 @@
 pub mod CoverValue
-pub mod ClockFaults
 pub mod OnlyNets
 pub mod Sublists

@@ -60,9 +60,6 @@ at_of : {X : Type 0} (xs : List X) (x : X) → Contains xs x → (k : ℕ) × (s
 at_of xs x (k, lt, is) = (k, slice_get-get_or xs k x lt ∙ ap Some is)
 
 -- the parts of a model's names
-port_part : Model → List Name
-port_part model = port_names model.ins ++ port_names model.outs ++ port_names model.clocks
-
 cover_names : Cover → List Name
 cover_names cover = cover.ins ++ cover.out ∷ []
 
@@ -73,8 +70,7 @@ output_named : (model : Model) (name : Name) → has (port_names model.outs) nam
 output_named model name e = has_left _ _ name (has_left _ _ name (has_left _ _ name (has_left _ _ name (has_right (port_names model.ins) _ name e))))
 
 cover_named : (model : Model) (k : ℕ) (cover : Cover) (name : Name) → slice_get model.covers k ≡ Some cover → has (cover.ins ++ cover.out ∷ []) name ≡ true → has (model_names model) name ≡ true
-unfolding port_part
-cover_named model k cover name at e = has_left _ _ name (has_left _ _ name (has_right (port_part model) _ name (has_inside (λ c. c.ins ++ c.out ∷ []) model.covers k cover name at e)))
+cover_named model k cover name at e = has_left _ _ name (has_left _ _ name (has_right (port_names model.ins ++ port_names model.outs ++ port_names model.clocks) _ name (has_inside (λ c. c.ins ++ c.out ∷ []) model.covers k cover name at e)))
 
 latch_named : (model : Model) (k : ℕ) (latch : LatchRow) (name : Name) → slice_get model.latches k ≡ Some latch → has (latch.input ∷ latch.output ∷ []) name ≡ true → has (model_names model) name ≡ true
 latch_named model k latch name at e =

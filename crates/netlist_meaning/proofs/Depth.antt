@@ -11,6 +11,7 @@ use Rattle.netlist_core.specs.Names.{Name, model_named}
 use Rattle.netlist_meaning.specs.Places.{Place, main_model, model_placed, model_below, model_at}
 use Rattle.netlist_meaning.specs.Laws.{PlacesAreShallow, WeightIsSumOverAll}
 use Rattle.lists.proofs.Names.{bytes_eq-same, bytes_eq-other, names_are_equal}
+use Rattle.lists.proofs.Numbers.{one_if}
 use Rattle.netlist_meaning.proofs.Names.{and_then-from}
 use Rattle.netlist_meaning.proofs.Places.{weight_is_sum}
 use Rattle.std.proofs.lemmas.Bool.{or_cases as either, or_left, or_right}
@@ -127,16 +128,13 @@ length-along design (number ∷ place) model b e =
     let same : length (names_of (names_along design place) (model_placed design model number)) ≡ length place + 1 = ap (λ o. length (names_of (names_along design place) o)) is_placed ∙ long in
     omega arith
 
-some_from : {X : Type 0} (o : Option X) → is_some o ≡ true → (x : X) × (o ≡ Some x)
+pub some_from : {X : Type 0} (o : Option X) → is_some o ≡ true → (x : X) × (o ≡ Some x)
 some_from None e = absurd (true≢false (sym e))
 some_from (Some x) e = (x, refl)
 
 length-names : (models : List Model) → length (map (λ m. m.name) models) ≡ length models
 length-names [] = refl
 length-names (model ∷ models) = let e = length-names models in ap suc e
-
-abbrev one_if : Bool → ℕ
-one_if b = cond b 1 0
 
 pub places_are_shallow : PlacesAreShallow
 unfolding has_name NotRecursiveBelow

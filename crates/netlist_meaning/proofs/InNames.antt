@@ -17,6 +17,7 @@ use Rattle.std.proofs.lemmas.Bool.{and_parts, and_from, or_left, or_right, or_ca
 use Rattle.netlist_meaning.proofs.Roots.{joined_is_same_root}
 use Rattle.netlist_meaning.proofs.Depth.{weight_is_sum_over_all}
 use Rattle.std.proofs.lemmas.Map.Keys.{any_passes_from_place as any_at}
+use Rattle.lists.proofs.Numbers.{one_if}
 
 any_gives : {X : Type 0} (test : X → Bool) (xs : List X) → list_any test xs ≡ true → (k : ℕ) × (x : X) × (slice_get xs k ≡ Some x) × (test x ≡ true)
 any_gives test [] e = absurd (true≢false (sym e))
@@ -25,9 +26,6 @@ any_gives test (y ∷ xs) e =
       | inl t ↦ (0, y, refl, t)
       | inr rest ↦ let (k, x, at, t) = any_gives test xs rest in (suc k, x, at, t)
     ]
-
-abbrev one_if : Bool → ℕ
-one_if b = cond b 1 0
 
 rest_is_one : (a b : ℕ) → a + b ≡ 1 → a ≡ 0 → b ≡ 1
 rest_is_one a b e f = omega arith

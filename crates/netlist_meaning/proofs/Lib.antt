@@ -7,3 +7,4 @@ pub mod Roots
 pub mod InNames
 pub mod SingleModel
 pub mod ClockClasses
+pub mod OneNode

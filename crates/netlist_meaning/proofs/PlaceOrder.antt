@@ -1,27 +1,21 @@
 -- The order of places.
-use Rattle.std.proofs.Common.{ℕ, ◌≡◌, ◌<◌, ◌⊎◌, [], ◌∷◌, refl, sym, ap, ◌∙◌, arith, inl, inr}
-use Rattle.std.proofs.lemmas.Bool.{cases_lt, cases_eq}
+use Rattle.std.proofs.Common.{◌≡◌, ◌<◌, ◌⊎◌, [], ◌∷◌, refl, sym, ap, ◌∙◌, arith, inl, inr}
+use Rattle.std.proofs.lemmas.Bool.{cases_order}
 use Rattle.netlist_meaning.specs.Places.{Place, IsBefore}
 use Rattle.netlist_meaning.specs.Laws.{PlacesAreOrdered}
-
-pub two_numbers : (m n : ℕ) → (m < n) ⊎ (m ≡ n) ⊎ (n < m)
-two_numbers m n = elim (cases_lt m n) [
-  | inl lt ↦ inl lt
-  | inr le ↦ elim (cases_eq m n) [ inl same ↦ inr (inl same) | inr apart ↦ inr (inr (omega arith)) ]
-]
 
 pub one_of_three : (p q : Place) → IsBefore p q ⊎ (p ≡ q) ⊎ IsBefore q p
 one_of_three [] [] = inr (inl refl)
 one_of_three [] (n ∷ q) = inl tt
 one_of_three (m ∷ p) [] = inr (inr tt)
-one_of_three (m ∷ p) (n ∷ q) = by_first (two_numbers m n) (one_of_three p q)
+one_of_three (m ∷ p) (n ∷ q) = by_first (cases_order m n) (one_of_three p q)
   where
-    by_first : (m < n) ⊎ (m ≡ n) ⊎ (n < m) → IsBefore p q ⊎ (p ≡ q) ⊎ IsBefore q p → IsBefore (m ∷ p) (n ∷ q) ⊎ (m ∷ p ≡ n ∷ q) ⊎ IsBefore (n ∷ q) (m ∷ p)
-    by_first (inl lt) rest = inl (inl lt)
+    by_first : (m ≡ n) ⊎ ((m < n) ⊎ (n < m)) → IsBefore p q ⊎ (p ≡ q) ⊎ IsBefore q p → IsBefore (m ∷ p) (n ∷ q) ⊎ (m ∷ p ≡ n ∷ q) ⊎ IsBefore (n ∷ q) (m ∷ p)
+    by_first (inr (inl lt)) rest = inl (inl lt)
     by_first (inr (inr lt)) rest = inr (inr (inl lt))
-    by_first (inr (inl same)) (inl before) = inl (inr (same, before))
-    by_first (inr (inl same)) (inr (inl one)) = inr (inl (ap (λ x. x ∷ p) same ∙ ap (λ x. n ∷ x) one))
-    by_first (inr (inl same)) (inr (inr after)) = inr (inr (inr (sym same, after)))
+    by_first (inl same) (inl before) = inl (inr (same, before))
+    by_first (inl same) (inr (inl one)) = inr (inl (ap (λ x. x ∷ p) same ∙ ap (λ x. n ∷ x) one))
+    by_first (inl same) (inr (inr after)) = inr (inr (inr (sym same, after)))
 
 never_itself : (p : Place) → ¬ IsBefore p p
 never_itself [] h = h

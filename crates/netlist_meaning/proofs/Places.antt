@@ -1,5 +1,5 @@
 -- The places of a design as a list, and sums over them.
-use Rattle.std.proofs.Common.{ℕ, zero, suc, ◌≡◌, ◌<◌, ◌+◌, List, [], ◌∷◌, ◌++◌, Bool, true, false, cond, ◌&&◌, Option, Some, None, slice_get, map, length, is_some, option_and_then, option_map, unwrap_or, pred, ◌==◌, add-zero, zero-add, refl, sym, ap, ◌∙◌, arith, bytes_eq, nat_lt, sum_by, count_by}
+use Rattle.std.proofs.Common.{ℕ, zero, suc, ◌≡◌, ◌<◌, ◌+◌, List, [], ◌∷◌, ◌++◌, Bool, true, false, ◌&&◌, Option, Some, None, slice_get, map, length, is_some, option_and_then, option_map, unwrap_or, pred, ◌==◌, add-zero, zero-add, refl, sym, ap, ◌∙◌, arith, bytes_eq, nat_lt, sum_by, count_by}
 use Rattle.std.proofs.lemmas.List.Sums.{sum_by-cons, sum_by-append}
 use Rattle.std.proofs.lemmas.Bool.{false_from_ne_true}
 use Rattle.std.proofs.lemmas.Bool.Decides.{Decides-ltb, Decides-eqb}
@@ -14,6 +14,7 @@ use Rattle.netlist_meaning.specs.Weight.{weight_below, of_model}
 use Rattle.netlist_core.specs.OwnWeight.{own_weight}
 use Rattle.netlist_meaning.specs.Laws.{WeightIsSum}
 use Rattle.lists.proofs.Sums.{sum_by-map, sum_by-same}
+use Rattle.lists.proofs.Numbers.{one_if}
 
 -- the places inside the models of some subckt lines, where each line has a list of its own
 next_line : Place → Place
@@ -36,9 +37,6 @@ places_below design (suc depth) model = [] ∷ inside (λ line. places_of (place
 in_lines : Design → Option Model → List Subckt → Place → Option Model
 in_lines design top lines [] = top
 in_lines design top lines (number ∷ place) = option_and_then (model_below design place) (option_and_then (λ line. model_named design.models line.model) (slice_get lines number))
-
-abbrev one_if : Bool → ℕ
-one_if b = cond b 1 0
 
 pub both : (a b c d : ℕ) → a ≡ c → b ≡ d → a + b ≡ c + d
 both a b c d e f = omega arith

@@ -1,9 +1,9 @@
 -- Models either have an earliest subckt line on a circle, or no circle.
-use Rattle.std.proofs.Common.{◌≡◌, ◌≢◌, refl, sym, ap, subst, ◌∙◌, ℕ, ◌<◌, ◌≤◌, ◌⊎◌, inl, inr, List, [], ◌∷◌, ◌++◌, map, Bool, true, false, ◌&&◌, ◌||◌, true≢false, arith}
-use Rattle.std.specs.Prelude.{Some, None, Option, filter_map, bytes_eq, flat_map, nat_le}
+use Rattle.std.proofs.Common.{◌≡◌, ◌≢◌, refl, sym, ap, subst, ◌∙◌, ℕ, ◌≤◌, ◌⊎◌, inl, inr, List, [], ◌∷◌, ◌++◌, map, Bool, true, false, ◌&&◌, ◌||◌, true≢false, arith}
+use Rattle.std.specs.Prelude.{Some, None, Option, filter_map, bytes_eq, flat_map}
 use Rattle.std.specs.Option.{option_map_or}
 use Rattle.std.specs.List.{list_any, join_with_byte}
-use Rattle.std.proofs.lemmas.Bool.{leb-true, leb-false, and_from as both, or_cases as one, or_left, or_right}
+use Rattle.std.proofs.lemmas.Bool.{and_from as both, or_cases as one, or_left, or_right, cases_lt}
 use Rattle.std.proofs.lemmas.Slice.Eq.{bytes_eq-Decides}
 use Rattle.netlist_core.specs.declared.model.Subckt.{Subckt}
 use Rattle.netlist_core.specs.declared.model.Model.{Model}
@@ -188,13 +188,6 @@ own models m = model_named models m.name
 abbrev pub all_subckts : List Model → List (Model × Subckt)
 all_subckts models = flat_map lines_in (filter_map (own models) models)
 
-compared : (m n : ℕ) → (m ≤ n) ⊎ (n ≤ m)
-compared m n = by (nat_le m n) refl
-  where
-    by : (b : Bool) → nat_le m n ≡ b → (m ≤ n) ⊎ (n ≤ m)
-    by true h = inl (leb-true m n h)
-    by false h = inr (let f : n < m = leb-false m n h in omega arith)
-
 -- of a list, none passes the test, or one that passes has the least number
 first_of_those : {X : Type 0} (test : X → Bool) (number : X → ℕ) (xs : List X) → ((x : X) → In x xs → test x ≡ false) ⊎ ((x : X) × In x xs × (test x ≡ true) × ((y : X) → In y xs → test y ≡ true → number x ≤ number y))
 first_of_those test number [] = inl (λ x i. absurd i)
@@ -204,7 +197,7 @@ first_of_those {X} test number (z ∷ zs) = by (test z) refl (first_of_those tes
     by false h (inl none) = inl (λ x i. elim i as (λ _. test x ≡ false) [ inl e ↦ subst (λ u. test u ≡ false) (sym e) h | inr j ↦ none x j ])
     by false h (inr r) = inr (r.0, inr r.1, r.2, λ y i t. elim i as (λ _. number r.0 ≤ number y) [ inl e ↦ absurd (let f : test y ≡ false = subst (λ u. test u ≡ false) (sym e) h in cc) | inr j ↦ r.3 y j t ])
     by true h (inl none) = inr (z, inl refl, h, λ y i t. elim i as (λ _. number z ≤ number y) [ inl e ↦ subst (λ u. number z ≤ number u) (sym e) (omega arith) | inr j ↦ absurd (let f : test y ≡ false = none y j in cc) ])
-    by true h (inr r) = elim (compared (number z) (number r.0)) as (λ _. ((x : X) → In x (z ∷ zs) → test x ≡ false) ⊎ ((x : X) × In x (z ∷ zs) × (test x ≡ true) × ((y : X) → In y (z ∷ zs) → test y ≡ true → number x ≤ number y))) [
+    by true h (inr r) = elim (cases_lt (number z) (number r.0)) as (λ _. ((x : X) → In x (z ∷ zs) → test x ≡ false) ⊎ ((x : X) × In x (z ∷ zs) × (test x ≡ true) × ((y : X) → In y (z ∷ zs) → test y ≡ true → number x ≤ number y))) [
       | inl up ↦ inr (z, inl refl, h, λ y i t. elim i as (λ _. number z ≤ number y) [ inl e ↦ subst (λ u. number z ≤ number u) (sym e) (omega arith) | inr j ↦ (let k : number r.0 ≤ number y = r.3 y j t in omega arith) ])
       | inr down ↦ inr (r.0, inr r.1, r.2, λ y i t. elim i as (λ _. number r.0 ≤ number y) [ inl e ↦ subst (λ u. number r.0 ≤ number u) (sym e) (omega arith) | inr j ↦ r.3 y j t ])
     ]

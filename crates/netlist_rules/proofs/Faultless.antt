@@ -1,7 +1,7 @@
 -- What models without a fault have.
-use Rattle.std.proofs.lemmas.Bool.{or_parts, leb-false}
+use Rattle.std.proofs.lemmas.Bool.{or_parts, le-leb}
 use Rattle.lists.proofs.Bools.{and_false_right as other_fails}
-use Rattle.std.proofs.Common.{◌≡◌, ◌≢◌, refl, sym, ap, subst, ◌∙◌, ℕ, ◌<◌, inl, inr, List, [], ◌∷◌, map, Bool, true, false, ◌&&◌, arith, ◌⊎◌}
+use Rattle.std.proofs.Common.{◌≡◌, ◌≢◌, refl, sym, ap, subst, ◌∙◌, ℕ, inl, inr, List, [], ◌∷◌, map, Bool, true, false, ◌&&◌, arith, ◌⊎◌}
 use Rattle.std.specs.Prelude.{Some, None, Option, bytes_eq, flat_map, nat_le, option_to_list}
 use Rattle.std.specs.Bool.{then_some}
 use Rattle.std.specs.List.{list_any}
@@ -36,12 +36,13 @@ none_kept false p e = refl
 abbrev formal_of : Pin → List ℕ
 formal_of pin = pin.formal
 
-abbrev on_line : ℕ → Pin → Port
-on_line line pin = at_line line pin.formal
+-- a formal on a line
+abbrev pub formal_at : ℕ → Pin → Port
+formal_at line pin = at_line line pin.formal
 
-at_own_line : (line : ℕ) (b : Bool) → nat_le line line ≡ b → b ≡ true
-at_own_line line true h = refl
-at_own_line line false h = absurd (let f : line < line = leb-false line line h in omega arith)
+-- the name of a port
+abbrev pub port_name : Port → List ℕ
+port_name port = port.name
 
 not_there : (line : ℕ) (name : List ℕ) (names : List (List ℕ)) → list_any (same_name_up_to (at_line line name)) (map (at_line line) names) ≡ false → ¬ (In name names)
 not_there line name [] e i = i
@@ -49,17 +50,17 @@ not_there line name (n ∷ ns) e (inl same) =
     let f : (bytes_eq n name && nat_le line line) ≡ false = (or_parts (bytes_eq n name && nat_le line line) (list_any (same_name_up_to (at_line line name)) (map (at_line line) ns)) e).0 in
     let t : bytes_eq n name ≡ true = (bytes_eq-Decides n name).1 (sym same) in
     let g : nat_le line line ≡ false = other_fails (bytes_eq n name) (nat_le line line) t f in
-    let h : nat_le line line ≡ true = at_own_line line (nat_le line line) refl in
+    let h : nat_le line line ≡ true = le-leb line line (omega arith) in
     cc
 not_there line name (n ∷ ns) e (inr later) = not_there line name ns ((or_parts (bytes_eq n name && nat_le line line) (list_any (same_name_up_to (at_line line name)) (map (at_line line) ns)) e).1) later
 
-formals_new : (line : ℕ) (names : List (List ℕ)) (pins : List Pin) → repeats_after (map (at_line line) names) (map (on_line line) pins) ≡ [] → Distinct (map formal_of pins) × ((name : List ℕ) → In name (map formal_of pins) → ¬ (In name names))
+formals_new : (line : ℕ) (names : List (List ℕ)) (pins : List Pin) → repeats_after (map (at_line line) names) (map (formal_at line) pins) ≡ [] → Distinct (map formal_of pins) × ((name : List ℕ) → In name (map formal_of pins) → ¬ (In name names))
 formals_new line names [] e = (tt, λ name i j. i)
 formals_new line names (pin ∷ pins) e =
     let p : Port = at_line line pin.formal in
-    let here : option_to_list (then_some (stands_earlier (map (at_line line) names) p (map (on_line line) pins)) p) ≡ [] = nothing_left _ (repeats_after (map (at_line line) (pin.formal ∷ names)) (map (on_line line) pins)) e in
+    let here : option_to_list (then_some (stands_earlier (map (at_line line) names) p (map (formal_at line) pins)) p) ≡ [] = nothing_left _ (repeats_after (map (at_line line) (pin.formal ∷ names)) (map (formal_at line) pins)) e in
     let new : ¬ (In pin.formal names) = not_there line pin.formal names ((or_parts _ _ (none_kept _ p here)).0) in
-    let rest : Distinct (map formal_of pins) × ((name : List ℕ) → In name (map formal_of pins) → ¬ (In name (pin.formal ∷ names))) = formals_new line (pin.formal ∷ names) pins (nothing_right (option_to_list (then_some (stands_earlier (map (at_line line) names) p (map (on_line line) pins)) p)) _ e) in (
+    let rest : Distinct (map formal_of pins) × ((name : List ℕ) → In name (map formal_of pins) → ¬ (In name (pin.formal ∷ names))) = formals_new line (pin.formal ∷ names) pins (nothing_right (option_to_list (then_some (stands_earlier (map (at_line line) names) p (map (formal_at line) pins)) p)) _ e) in (
       (λ i. rest.1 pin.formal i (inl refl), rest.0),
       λ name i. elim i as (λ _. ¬ (In name names)) [ inl same ↦ subst (λ v. ¬ (In v names)) (sym same) new | inr later ↦ (λ j. rest.1 name later (inr j)) ],
     )

@@ -4,3 +4,4 @@ pub mod CircleLemmas
 pub mod CircleSearch
 pub mod FirstModelFaults
 pub mod Faultless
+pub mod OneClockFault

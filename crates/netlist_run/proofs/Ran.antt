@@ -5,6 +5,8 @@ use Rattle.std.specs.List.{range_with_len}
 use Rattle.std.proofs.lemmas.List.{ext_get_or, length-map}
 use Rattle.std.proofs.lemmas.List.FromFn.{map-range_with_len_more, length-map-range_with_len, get_or-map-range_with_len}
 use Rattle.std.proofs.lemmas.Option.{slice_get_within, get_or_from_slice_get}
+use Rattle.std.proofs.Math.Numerals.{add-one}
+use Rattle.lists.proofs.Numbers.{less_or_last}
 use Rattle.netlist_core.specs.declared.model.Design.{Design}
 use Rattle.netlist_core.specs.declared.flat.Flat.{Flat}
 use Rattle.netlist_meaning.specs.Valuation.{Valuation, LatchState, IsValuation, IsRun, start_state, latches_after, latches_in, output_bits}
@@ -55,15 +57,9 @@ same_state : (design : Design) (start : LatchState) (run : ℕ → Valuation) (n
 same_state design start run n bits zero less = refl
 same_state design start run n bits (suc t) less = ap (latches_after design) (before_cycle run n bits t (omega (arith, less)))
 
-before_or_at : (t n : ℕ) → t < n + 1 → (t < n) ⊎ (t ≡ n)
-before_or_at t n less = grind (arith, less)
-
 -- the state after the last cycle
 next_state : (design : Design) (start : LatchState) (run : ℕ → Valuation) (n : ℕ) → latches_in design start run (n + 1) ≡ latches_after design (run n)
-next_state design start run n = ap (latches_in design start run) (plus_one n)
-  where
-    plus_one : (m : ℕ) → m + 1 ≡ suc m
-    plus_one m = omega arith
+next_state design start run n = ap (latches_in design start run) (add-one n)
 
 module _ (design : Design) (streams : Streams) (n : ℕ) (run : ℕ → Valuation) (bits : Valuation) where
   abbrev start : LatchState
@@ -86,7 +82,7 @@ module _ (design : Design) (streams : Streams) (n : ℕ) (run : ℕ → Valuatio
       (subst (λ (s : LatchState). IsValuation design (stream_row streams n) s bits) (sym (same_state design start run n bits n (omega arith))) h)
 
   all_hold : ((t : ℕ) → t < n → Holds run t) → IsValuation design (stream_row streams n) (latches_in design start run n) bits → (t : ℕ) → t < n + 1 → Holds longer t
-  all_hold before h t less = by (before_or_at t n less)
+  all_hold before h t less = by (less_or_last t n less)
     where
       by : (t < n) ⊎ (t ≡ n) → Holds longer t
       by (inl earlier_t) = earlier t earlier_t (before t earlier_t)

@@ -101,14 +101,13 @@ solves a b y rows on design ab ay by h p q state =
         subst (λ c. bits place c.out ≡ cover_value c.rows c.on (map (bits place) c.ins)) (sym is_cover) (the_one place)
 
 -- a row of two bits
-first : List Bool → Bool
-first row = get_or row 0 false
+abbrev pub first_bit : List Bool → Bool
+first_bit row = get_or row 0 false
 
-second : List Bool → Bool
-second row = get_or row 1 false
+abbrev second_bit : List Bool → Bool
+second_bit row = get_or row 1 false
 
-two_bits : (row : List Bool) → length row ≡ 2 → row ≡ first row ∷ second row ∷ []
-unfolding first second
+two_bits : (row : List Bool) → length row ≡ 2 → row ≡ first_bit row ∷ second_bit row ∷ []
 two_bits [] e = absurd (omega arith)
 two_bits (p ∷ []) e = absurd (omega arith)
 two_bits (p ∷ q ∷ []) e = refl
@@ -133,26 +132,27 @@ gives_value a b y rows on design h p q state bits v =
     ins_are : ◌≡◌ {A = List Bool} (bits [] a ∷ bits [] b ∷ []) (p ∷ q ∷ [])
     ins_are = ap (map (bits [])) (in_names_are_one design (a ∷ b ∷ []) v.in_names (in_names_are a b y rows on design h) v.are_in_names) ∙ v.inputs_given
 
+-- where a valuation fits each row of a width, rows of the width are a run
+pub row_by_row : (design : Design) (width : ℕ) (run_of : List Bool → Valuation) → ((row : List Bool) (state : LatchState) → length row ≡ width → IsValuation design row state (run_of row))
+    → (rows : List (List Bool)) → All (λ row. length row ≡ width) rows → IsRun design rows (λ cycle. run_of (get_or rows cycle []))
+row_by_row design width run_of fits rows wide cycle row is_row =
+    let is_at : get_or rows cycle [] ≡ row = get_or_from_slice_get rows cycle row [] is_row in
+    let long : length row ≡ width = subst (λ r. length r ≡ width) is_at (wide cycle [] (slice_get_within rows cycle row is_row)) in
+    let state : LatchState = latches_in design (start_state design) (λ cycle. run_of (get_or rows cycle [])) cycle in
+    subst (λ r. IsValuation design row state (run_of r)) (sym is_at) (fits row state long)
+
 pub one_cover_computes : OneCoverComputes
 one_cover_computes a b y rows on design ab ay by h =
     record {
-      runs = λ inputs wide. (run_on inputs, solved inputs wide);
+      runs = λ inputs wide. ((λ cycle. run_of (get_or inputs cycle [])), row_by_row design 2 run_of solved inputs wide);
       gives = λ inputs run is_run cycle p q is_row. gives_value a b y rows on design h p q (latches_in design (start_state design) run cycle) (run cycle) (is_run cycle (p ∷ q ∷ []) is_row);
     }
   where
-    run_on : List (List Bool) → ℕ → Valuation
-    run_on inputs cycle =
-        let row : List Bool = get_or inputs cycle [] in
-        bits_of a y (cover_value rows on (first row ∷ second row ∷ [])) (first row) (second row)
+    run_of : List Bool → Valuation
+    run_of row = bits_of a y (cover_value rows on (first_bit row ∷ second_bit row ∷ [])) (first_bit row) (second_bit row)
 
-    solved : (inputs : List (List Bool)) → All (λ row. length row ≡ 2) inputs → IsRun design inputs (run_on inputs)
-    solved inputs wide cycle row is_row =
-        let is_at : get_or inputs cycle [] ≡ row = get_or_from_slice_get inputs cycle row [] is_row in
-        let long : length row ≡ 2 = subst (λ r. length r ≡ 2) is_at (wide cycle [] (slice_get_within inputs cycle row is_row)) in
-        let state : LatchState = latches_in design (start_state design) (run_on inputs) cycle in
-        subst (λ r. IsValuation design row state (bits_of a y (cover_value rows on (first r ∷ second r ∷ [])) (first r) (second r))) (sym is_at)
-        (subst (λ r. IsValuation design r state (bits_of a y (cover_value rows on (first row ∷ second row ∷ [])) (first row) (second row))) (sym (two_bits row long))
-        (solves a b y rows on design ab ay by h (first row) (second row) state))
+    solved : (row : List Bool) (state : LatchState) → length row ≡ 2 → IsValuation design row state (run_of row)
+    solved row state long = subst (λ r. IsValuation design r state (run_of row)) (sym (two_bits row long)) (solves a b y rows on design ab ay by h (first_bit row) (second_bit row) state)
 
 or_value : (p q : Bool) → cover_value or_cover_rows true (p ∷ q ∷ []) ≡ (p || q)
 or_value true true = refl

@@ -1,5 +1,5 @@
 -- Paths are read as they stand, and no two places have one.
-use Rattle.std.proofs.Common.{◌≡◌, refl, sym, ◌∙◌, ap, ap₂, ℕ, zero, suc, ◌<◌, ◌≤◌, ◌^◌, true, false, ◌&&◌, ◌||◌, not, ◌==◌, List, [], ◌∷◌, ◌++◌, length, map, flat_map, get_or, arith}
+use Rattle.std.proofs.Common.{◌≡◌, refl, sym, ◌∙◌, ap, ap₂, ℕ, zero, suc, ◌<◌, ◌≤◌, ◌^◌, true, false, ◌&&◌, ◌||◌, not, ◌==◌, List, [], ◌∷◌, ◌++◌, length, map, flat_map, get_or, arith, drop}
 use Rattle.std.specs.Prelude.{Some, None, codes, decimal, is_some, slice_index, bytes_eq, if◌then◌else◌}
 use Rattle.std.specs.List.{All, list_all, slice_split}
 use Rattle.std.specs.Char.{is_ascii_digit}
@@ -60,17 +60,13 @@ abbrev head_of : {X : Type 0} → X → List X → X
 head_of d [] = d
 head_of d (x ∷ xs) = x
 
-abbrev tail_of : {X : Type 0} → List X → List X
-tail_of [] = []
-tail_of (x ∷ xs) = xs
-
 same_numbers : (a b : Place) → HasTableNumbers a → HasTableNumbers b → map decimal a ≡ map decimal b → a ≡ b
 same_numbers [] [] h k e = refl
 same_numbers [] (n ∷ b) h k e = cc
 same_numbers (m ∷ a) [] h k e = cc
 same_numbers (m ∷ a) (n ∷ b) h k e =
     ap₂ (λ x xs. x ∷ xs) (decimal_injective m n (All-head Small m a h) (All-head Small n b k) (ap (head_of []) e))
-    (same_numbers a b (All-tail Small m a h) (All-tail Small n b k) (ap tail_of e))
+    (same_numbers a b (All-tail Small m a h) (All-tail Small n b k) (ap (drop 1) e))
 
 -- no number is written `-`
 no_dash : (n : ℕ) (place : Place) → HasTableNumbers (n ∷ place) → codes "-" ≡ path_of (n ∷ place) → ⊥

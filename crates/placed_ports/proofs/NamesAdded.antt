@@ -1,5 +1,5 @@
 -- What a set of names has after one more.
-use Rattle.std.proofs.Common.{◌≡◌, refl, sym, ap, ◌∙◌, ℕ, ◌+◌, ◌<◌, Bool, true, false, cond, ◌||◌, List, length, take, get_or}
+use Rattle.std.proofs.Common.{◌≡◌, sym, ap, ◌∙◌, ℕ, ◌+◌, ◌<◌, true, ◌||◌, List, length, take, get_or}
 use Rattle.std.proofs.lemmas.List.Folds.{list_any_more}
 use Rattle.std.proofs.Math.Bool.{or_assoc}
 use Rattle.std.specs.BTreeSet.{BTreeSet, UpdatesBy}
@@ -10,18 +10,7 @@ use denote.Ref.{Bor}
 use Rattle.netlist_core.specs.declared.model.Port.{Port}
 use Rattle.netlist_core.specs.Names.{Name, has_name, is_named}
 use Rattle.lists.specs.Names.{holds_name}
-use Rattle.lists.proofs.NameSets.{inserted}
-
-by_cond : (a b : Bool) → cond a true b ≡ (b || a)
-by_cond true true = refl
-by_cond true false = refl
-by_cond false true = refl
-by_cond false false = refl
-
--- one more name
-pub name_added : (old new : BTreeSet (Bor (List ℕ))) (key : Bor (List ℕ)) (name : Name) → UpdatesBy (λ x y. slice_cmp nat_cmp x.now y.now) (λ k. slice_cmp nat_cmp key.now k.now) old new true → holds_name new name ≡ (holds_name old name || bytes_eq key.now name)
-name_added old new key name updates =
-    inserted old new key name updates ∙ by_cond (bytes_eq key.now name) (holds_name old name)
+use Rattle.lists.proofs.NameSets.{name_added}
 
 -- one more port of a list
 pub port_added : (first old new : BTreeSet (Bor (List ℕ))) (key : Bor (List ℕ)) (ports : List Port) (i : ℕ) (port : Port) → i < length ports → port ≡ get_or ports i port → key.now ≡ port.name → ((name : Name) → holds_name old name ≡ (holds_name first name || is_named (take i ports) name)) → UpdatesBy (λ x y. slice_cmp nat_cmp x.now y.now) (λ k. slice_cmp nat_cmp key.now k.now) old new true → (name : Name) → holds_name new name ≡ (holds_name first name || is_named (take (i + 1) ports) name)

@@ -2,7 +2,7 @@
 use Rattle.std.proofs.Common.{◌≡◌, refl, sym, ap, subst, ◌∙◌, ℕ, suc, ◌⊎◌, inl, inr, List, [], ◌∷◌, ◌++◌, map, Bool, true, false, not, ◌||◌, true≢false, slice_get}
 use Rattle.std.specs.Prelude.{Some, Option, flat_map, option_to_list}
 use Rattle.std.specs.Bool.{then_some}
-use Rattle.std.proofs.lemmas.Option.{none-some}
+use Rattle.std.proofs.lemmas.Option.{none-some, same_Some}
 use Rattle.netlist_core.specs.declared.model.Port.{Port}
 use Rattle.netlist_core.specs.declared.model.Pin.{Pin}
 use Rattle.netlist_core.specs.declared.model.Cover.{Cover}
@@ -11,39 +11,14 @@ use Rattle.netlist_core.specs.declared.model.Subckt.{Subckt}
 use Rattle.netlist_core.specs.declared.model.Model.{Model}
 use Rattle.netlist_core.specs.Names.{Name, port_names, at_line, is_named, model_named}
 use Rattle.netlist_meaning.specs.Nets.{model_names}
-use Rattle.netlist_rules.specs.declared.fault.FaultKind.{FaultKind}
-use Rattle.netlist_rules.specs.declared.fault.FaultKind.TheVariants.{Undriven, NoSuchModel, NoSuchPin}
-use Rattle.netlist_rules.specs.Drivers.{has_input, has_output, is_input_pin, is_output_pin, is_unknown_pin, stands_earlier, firsts_after, inputs_of, cover_output, latch_output, cover_readings, latch_readings, actual_if, actuals_on, actuals, drivers_of, readings_of}
-use Rattle.netlist_rules.specs.ModelFaults.{AreFaultless, words_at_fault, missing_model, unknown_formals, is_portless, lacks_port, unless_named}
-use Rattle.netlist_rules.proofs.FirstModelFaults.{no_model_fault}
+use Rattle.netlist_rules.specs.declared.fault.FaultKind.TheVariants.{Undriven}
+use Rattle.netlist_rules.specs.Drivers.{is_input_pin, is_output_pin, is_unknown_pin, stands_earlier, firsts_after, inputs_of, cover_output, latch_output, cover_readings, latch_readings, actual_if, actuals_on, actuals, drivers_of, readings_of}
+use Rattle.netlist_rules.specs.ModelFaults.{AreFaultless, unless_named}
 use Rattle.lists.proofs.Members.{In, in_left, in_right, in_parts, in_mapped, in_map, in_flat, in_flattened, in_filtered, filtered_in}
-use Rattle.sound_designs.proofs.Sound.{same_of, in_got, is_placed, named_in, not_portless}
+use Rattle.sound_designs.proofs.Sound.{in_got, named_in, clean_of, known}
 use Rattle.sound_designs.proofs.OneDriver.{Local}
 use Rattle.sound_designs.proofs.OneDriver.Local.{by_input, by_cover, by_latch, by_output}
-use Rattle.netlist_rules.proofs.Faultless.{nothing_of as none_of}
-use Rattle.netlist_rules.proofs.Faultless.{some_models}
-
-abbrev named : Port → List ℕ
-named p = p.name
-
-pub clean_of : (models : List Model) → AreFaultless models → (kind : FaultKind) (m : Model) → In m models → words_at_fault kind models m ≡ []
-clean_of models a kind m i = none_of (words_at_fault kind models) models m ((no_model_fault models (some_models models a)).0 a.no_fault kind) i
-
--- a pin is known
-pub known : (models : List Model) → AreFaultless models → (m : Model) (s : Subckt) (pin : Pin) → In m models → In s m.subckts → In pin s.pins
-    → (is_input_pin (model_named models s.model) pin ≡ true) ⊎ (is_output_pin (model_named models s.model) pin ≡ true)
-known models a m s pin i j k =
-    let no_15 : missing_model models s ≡ [] = none_of (missing_model models) m.subckts s (clean_of models a NoSuchModel m i) j in
-    let no_16 : unknown_formals models s ≡ [] = none_of (unknown_formals models) m.subckts s (clean_of models a NoSuchPin m i) j in
-    let (placed, is_found) = is_placed (model_named models s.model) s no_15 in
-    let port : is_portless (model_named models s.model) pin ≡ false = not_portless (model_named models s.model) s.line s.pins pin no_16 k in
-    let has : lacks_port pin.formal placed ≡ false = sym (ap (λ o. is_portless o pin) is_found) ∙ port in
-    by (has_input pin.formal placed) (has_output pin.formal placed) (ap (λ o. is_input_pin o pin) is_found) (ap (λ o. is_output_pin o pin) is_found) has
-  where
-    by : (x y : Bool) → is_input_pin (model_named models s.model) pin ≡ x → is_output_pin (model_named models s.model) pin ≡ y → not (x || y) ≡ false → (is_input_pin (model_named models s.model) pin ≡ true) ⊎ (is_output_pin (model_named models s.model) pin ≡ true)
-    by true y e f n = inl e
-    by false true e f n = inr f
-    by false false e f n = absurd (true≢false n)
+use Rattle.netlist_rules.proofs.Faultless.{port_name}
 
 pub got_from : {X : Type 0} (xs : List X) (x : X) → In x xs → (k : ℕ) × (slice_get xs k ≡ Some x)
 got_from [] x i = absurd i
@@ -72,7 +47,7 @@ pin_of_port : (o : Option Model) (test : Option Model → Pin → Bool) (line : 
 pin_of_port o test line pin p e = by (test o pin) refl e
   where
     by : (b : Bool) → test o pin ≡ b → then_some b (at_line line pin.actual) ≡ Some p → (test o pin ≡ true) × (p ≡ at_line line pin.actual)
-    by true h f = (h, sym (same_of f))
+    by true h f = (h, sym (same_Some _ _ f))
     by false h f = absurd (none-some p f)
 
 record IsActual (models : List Model) (m : Model) (test : Option Model → Pin → Bool) (name : List ℕ) : Type 0 where
@@ -90,7 +65,7 @@ is_actual models m test p i =
     let (pin, x, e) = in_filtered (actual_if (test (model_named models s.model)) s.line) s.pins p k in
     let (number, is_line) = got_from m.subckts s j in
     let (passes, same) = pin_of_port (model_named models s.model) test s.line pin p e in
-    record { number = number; line = s; pin = pin; is_line = is_line; is_pin = x; passes = passes; is_name = sym (ap named same) }
+    record { number = number; line = s; pin = pin; is_line = is_line; is_pin = x; passes = passes; is_name = sym (ap port_name same) }
 
 unknown_not : (a b : Bool) → not (a || b) ≡ true → (a ≡ true) ⊎ (b ≡ true) → ⊥
 unknown_not true b e (inl f) = true≢false (sym e)
@@ -108,13 +83,13 @@ driver_local models a m i p j = elim (in_parts (drivers_of models m) (actuals mo
 ]
   where
     of_input : In p (inputs_of m) → Local models m p.name
-    of_input x = by_input (in_map named (m.ins ++ m.clocks) p (first_is [] (m.ins ++ m.clocks) p x))
+    of_input x = by_input (in_map port_name (m.ins ++ m.clocks) p (first_is [] (m.ins ++ m.clocks) p x))
 
     of_cover : In p (map cover_output m.covers) → Local models m p.name
-    of_cover x = let (c, k, e) = in_mapped cover_output m.covers p x in let (n, g) = got_from m.covers c k in by_cover n c g (sym (ap named e))
+    of_cover x = let (c, k, e) = in_mapped cover_output m.covers p x in let (n, g) = got_from m.covers c k in by_cover n c g (sym (ap port_name e))
 
     of_latch : In p (map latch_output m.latches) → Local models m p.name
-    of_latch x = let (c, k, e) = in_mapped latch_output m.latches p x in let (n, g) = got_from m.latches c k in by_latch n c g (sym (ap named e))
+    of_latch x = let (c, k, e) = in_mapped latch_output m.latches p x in let (n, g) = got_from m.latches c k in by_latch n c g (sym (ap port_name e))
 
     of_actual : In p (actuals models is_output_pin m) → Local models m p.name
     of_actual x = let r : IsActual models m is_output_pin p.name = is_actual models m is_output_pin p x in by_output r.number r.line r.pin r.is_line r.is_pin r.passes r.is_name
@@ -132,7 +107,7 @@ driver_local models a m i p j = elim (in_parts (drivers_of models m) (actuals mo
 reading_local : (models : List Model) → AreFaultless models → (m : Model) → In m models → (r : Port) → In r (readings_of models m) → Local models m r.name
 reading_local models a m i r j =
     let name : In r.name (port_names drivers) = named_in drivers r.name (by (is_named drivers r.name) refl) in
-    let (p, k, e) = in_mapped named drivers r.name name in
+    let (p, k, e) = in_mapped port_name drivers r.name name in
     subst (Local models m) (sym e) (driver_local models a m i p k)
   where
     drivers : List Port
@@ -171,7 +146,7 @@ name_local models a m i name x = elim (in_parts (port_names m.ins ++ port_names 
     read r j = reading_local models a m i r j
 
     of_output : In name (port_names m.outs) → Local models m name
-    of_output w = let (q, k, e) = in_mapped named m.outs name w in
+    of_output w = let (q, k, e) = in_mapped port_name m.outs name w in
         subst (Local models m) (sym e) (read q (in_left _ _ q (in_left _ _ q (in_left m.outs _ q k))))
 
     of_cover : In name (flat_map (λ (c : Cover). c.ins ++ c.out ∷ []) m.covers) → Local models m name

@@ -5,8 +5,8 @@ use Rattle.std.specs.Prelude.{Some, None, Option, bytes_eq, option_map, unwrap_o
 use Rattle.std.specs.Bool.{then_some}
 use Rattle.std.proofs.lemmas.Slice.Eq.{bytes_eq-Decides}
 use Rattle.std.proofs.lemmas.Bool.Decides.{Decides-eqb}
-use Rattle.std.proofs.lemmas.Option.{none-some}
-use Rattle.std.proofs.lemmas.List.{append_assoc}
+use Rattle.std.proofs.lemmas.Option.{none-some, same_Some}
+use Rattle.std.proofs.lemmas.List.{append_assoc, append-nil}
 use Rattle.netlist_core.specs.declared.model.Port.{Port}
 use Rattle.netlist_core.specs.declared.model.Pin.{Pin}
 use Rattle.netlist_core.specs.declared.model.Subckt.{Subckt}
@@ -33,16 +33,16 @@ use Rattle.sound_designs.specs.OneDriver.{Driver, Drives}
 use Rattle.sound_designs.specs.OneDriver.Driver.{port, cover, latch}
 use Rattle.sound_designs.specs.OneDriver.Drives.{of_port, of_cover, of_latch}
 use Rattle.sound_designs.specs.Order.{CoverAt, IsCoverAt, IsCoverOrder, OrderedHaveAValuation}
-use Rattle.sound_designs.proofs.Sound.{in_got, in_models, same_of, formals_named}
+use Rattle.sound_designs.proofs.Sound.{in_got, in_models, formals_named, clean_of}
 use Rattle.sound_designs.proofs.Local.{Apart, no_repeat}
 use Rattle.sound_designs.proofs.OneDriver.{at_most_one_driver}
-use Rattle.sound_designs.proofs.Driven.{got_from, clean_of, names_left}
+use Rattle.sound_designs.proofs.Driven.{got_from, names_left}
 use Rattle.sound_designs.proofs.Sources.{have_drivers}
 use Rattle.lists.proofs.Bools.{or_false_left as first_of}
 use Rattle.lists.proofs.Appends.{append_nil_left as none_left, append_nil_right as none_right}
 use Rattle.sound_designs.proofs.Ordered.{same_map, in_covers}
 use Rattle.sound_designs.proofs.NoLoop.{split_at}
-use Rattle.std.proofs.lemmas.Bool.{and_parts as both_true}
+use Rattle.std.proofs.lemmas.Bool.{and_parts as both_true, false_from_ne_true}
 use Rattle.netlist_rules.proofs.Faultless.{none_kept}
 use Rattle.std.proofs.Math.Bool.{or-false as or_nil}
 
@@ -66,7 +66,7 @@ pick design f place name = by (model_at design place) refl
     by None e = no_net (λ n. none-some n.0 (sym e ∙ n.1))
     by (Some m) e = elim (is_in name (model_names m)) as (λ _. Pick design (net_at place name)) [
       | inl i ↦ (let (d, s, x, j) = have_drivers design f (net_at place name) (m, e, contains_from (model_names m) name i) in driven d (record { source = s; drives = x; joined = j }))
-      | inr away ↦ no_net (λ n. away (subst (λ (v : Model). In name (model_names v)) (same_of (sym n.1 ∙ e)) (in_from (model_names n.0) name n.2)))
+      | inr away ↦ no_net (λ n. away (subst (λ (v : Model). In name (model_names v)) (same_Some _ _ (sym n.1 ∙ e)) (in_from (model_names n.0) name n.2)))
     ]
 
 -- values of covers that are known
@@ -135,13 +135,9 @@ unfolding run
 run_append design g ks [] ys = refl
 run_append design g ks (x ∷ xs) ys = run_append design g (ks ++ step_with g ks x (cover_found design x)) xs ys
 
-append_nil : {X : Type 0} (xs : List X) → xs ++ [] ≡ xs
-append_nil [] = refl
-append_nil (x ∷ xs) = ap (λ l. x ∷ l) (append_nil xs)
-
 run_more : (design : Design) (g : Given design) (ks : List Known) (xs : List CoverAt) → (more : List Known) × (run g ks xs ≡ ks ++ more)
 unfolding run
-run_more design g ks [] = ([], sym (append_nil ks))
+run_more design g ks [] = ([], sym (append-nil ks))
 run_more design g ks (x ∷ xs) =
     let (more, e) = run_more design g (ks ++ step_with g ks x (cover_found design x)) xs in
     (step_with g ks x (cover_found design x) ++ more, e ∙ append_assoc ks (step_with g ks x (cover_found design x)) more)
@@ -219,11 +215,7 @@ keys_in design g ks (x ∷ xs) at e = elim (keys_in design g (ks ++ step_with g 
 
 not_key : (design : Design) (g : Given design) (front : List CoverAt) (at : CoverAt) → ¬ In at front → has_key (run g [] front) at.place at.number ≡ false
 unfolding has_key
-not_key design g front at away = by (has_key (run g [] front) at.place at.number) refl
-  where
-    by : (b : Bool) → has_key (run g [] front) at.place at.number ≡ b → b ≡ false
-    by false h = refl
-    by true h = elim (keys_in design g [] front at h) as (λ _. true ≡ false) [ inl f ↦ sym f | inr i ↦ absurd (away i) ]
+not_key design g front at away = false_from_ne_true (has_key (run g [] front) at.place at.number) (λ h. elim (keys_in design g [] front at h) as (λ _. ⊥) [ inl f ↦ true≢false (sym f) | inr i ↦ away i ])
 
 -- the values when a cover is reached, and then
 record Reached (design : Design) (g : Given design) (order front : List CoverAt) (at : CoverAt) (c : Cover) : Type 0 where
@@ -294,7 +286,7 @@ joined_nets design f a c (followed {b = b} j k) = elim (joined_nets design f a b
 ]
 
 -- the IN names are distinct inputs
-no_double : (test : Port → Bool) (before ports : List Port) → doubles_after test before ports ≡ [] → repeats_after before ports ≡ []
+pub no_double : (test : Port → Bool) (before ports : List Port) → doubles_after test before ports ≡ [] → repeats_after before ports ≡ []
 no_double test before [] e = refl
 no_double test before (x ∷ xs) e =
     let s : stands_earlier before x xs ≡ false = first_of (stands_earlier before x xs) (test x) (none_kept (stands_earlier before x xs || test x) x (none_left (option_to_list (then_some (stands_earlier before x xs || test x) x)) (doubles_after test (x ∷ before) xs) e)) in

@@ -1,18 +1,18 @@
 -- The drivers of one model.
-use Rattle.std.proofs.Common.{◌≡◌, ◌≢◌, refl, sym, ap, subst, ◌∙◌, ℕ, zero, suc, ◌<◌, ◌≤◌, inl, inr, List, [], ◌∷◌, ◌++◌, map, Bool, true, false, ◌&&◌, true≢false, arith, slice_get}
+use Rattle.std.proofs.Common.{◌≡◌, ◌≢◌, refl, sym, ap, subst, ◌∙◌, ℕ, zero, suc, ◌<◌, ◌≤◌, inl, inr, List, [], ◌∷◌, ◌++◌, map, Bool, false, ◌&&◌, arith, slice_get}
 use Rattle.std.specs.Prelude.{Some, None, Option, flat_map, filter_map, option_to_list, nat_le, nat_lt}
 use Rattle.std.specs.Bool.{then_some}
 use Rattle.std.specs.List.{list_any, cons_option}
 use Rattle.std.proofs.lemmas.Slice.Eq.{bytes_eq-Decides}
-use Rattle.std.proofs.lemmas.Option.{none-some}
+use Rattle.std.proofs.lemmas.Option.{none-some, same_Some}
 use Rattle.std.proofs.lemmas.Bool.{leb-false, ltb-false}
 use Rattle.netlist_core.specs.declared.model.Port.{Port}
 use Rattle.netlist_rules.specs.Drivers.{same_name_up_to, same_name_before, stands_earlier, repeats_after, repeats}
-use Rattle.lists.proofs.Members.{In, in_left, in_right, filtered_in as in_filter}
-use Rattle.sound_designs.proofs.Sound.{same_of}
+use Rattle.lists.proofs.Members.{In, in_left, in_right, filtered_in as in_filter, in_map, in_flat}
 use Rattle.lists.proofs.Bools.{or_false_left as first_of, or_false_right as second_of}
 use Rattle.lists.proofs.Appends.{append_nil_left as none_left, append_nil_right as none_right}
 use Rattle.netlist_rules.proofs.Faultless.{none_kept}
+use Rattle.sound_designs.proofs.Sound.{in_got}
 
 pub not_any : {X : Type 0} (test : X → Bool) (xs : List X) (x : X) → list_any test xs ≡ false → In x xs → test x ≡ false
 not_any test [] x e i = absurd i
@@ -21,18 +21,10 @@ not_any test (y ∷ ys) x e (inr later) = not_any test ys x (second_of (test y) 
 
 -- two ports of one name
 pub not_up_to : (p q : Port) → same_name_up_to p q ≡ false → q.name ≡ p.name → p.line < q.line
-not_up_to p q e same = by (nat_le q.line p.line) refl (ap (λ b. b && nat_le q.line p.line) (sym ((bytes_eq-Decides q.name p.name).1 same)) ∙ e)
-  where
-    by : (b : Bool) → nat_le q.line p.line ≡ b → b ≡ false → p.line < q.line
-    by true h f = absurd (true≢false f)
-    by false h f = leb-false q.line p.line h
+not_up_to p q e same = leb-false q.line p.line (ap (λ b. b && nat_le q.line p.line) (sym ((bytes_eq-Decides q.name p.name).1 same)) ∙ e)
 
 pub not_before : (p q : Port) → same_name_before p q ≡ false → q.name ≡ p.name → p.line ≤ q.line
-not_before p q e same = by (nat_lt q.line p.line) refl (ap (λ b. b && nat_lt q.line p.line) (sym ((bytes_eq-Decides q.name p.name).1 same)) ∙ e)
-  where
-    by : (b : Bool) → nat_lt q.line p.line ≡ b → b ≡ false → p.line ≤ q.line
-    by true h f = absurd (true≢false f)
-    by false h f = ltb-false q.line p.line h
+not_before p q e same = ltb-false q.line p.line (ap (λ b. b && nat_lt q.line p.line) (sym ((bytes_eq-Decides q.name p.name).1 same)) ∙ e)
 
 -- no name twice
 abbrev pub Apart : List Port → Type 0
@@ -75,34 +67,30 @@ apart_cross (x ∷ xs) ys p q a (inl same) j = λ e. a.0 q (in_right xs ys q j) 
 apart_cross (x ∷ xs) ys p q a (inr i) j = apart_cross xs ys p q a.1 i j
 
 pub got_mapped : {X Y : Type 0} (f : X → Y) (xs : List X) (i : ℕ) (x : X) → slice_get xs i ≡ Some x → In (f x) (map f xs)
-got_mapped f [] i x e = absurd (none-some x e)
-got_mapped f (y ∷ ys) zero x e = inl (ap f (sym (same_of e)))
-got_mapped f (y ∷ ys) (suc i) x e = inr (got_mapped f ys i x e)
+got_mapped f xs i x e = in_map f xs x (in_got xs i x e)
 
 -- of a list of elements with a port each, two with one name are one
 pub same_place : {X : Type 0} (f : X → Port) (xs : List X) (i j : ℕ) (x y : X) → Apart (map f xs) → slice_get xs i ≡ Some x → slice_get xs j ≡ Some y → (f x).name ≡ (f y).name → i ≡ j
 same_place f [] i j x y a d e s = absurd (none-some x d)
 same_place f (z ∷ zs) zero zero x y a d e s = refl
-same_place f (z ∷ zs) zero (suc j) x y a d e s = absurd (a.0 (f y) (got_mapped f zs j y e) (sym s ∙ ap (λ v. (f v).name) (sym (same_of d))))
-same_place f (z ∷ zs) (suc i) zero x y a d e s = absurd (a.0 (f x) (got_mapped f zs i x d) (s ∙ ap (λ v. (f v).name) (sym (same_of e))))
+same_place f (z ∷ zs) zero (suc j) x y a d e s = absurd (a.0 (f y) (got_mapped f zs j y e) (sym s ∙ ap (λ v. (f v).name) (sym (same_Some _ _ d))))
+same_place f (z ∷ zs) (suc i) zero x y a d e s = absurd (a.0 (f x) (got_mapped f zs i x d) (s ∙ ap (λ v. (f v).name) (sym (same_Some _ _ e))))
 same_place f (z ∷ zs) (suc i) (suc j) x y a d e s = ap suc (same_place f zs i j x y a.1 d e s)
 
 pub got_flat : {X Y : Type 0} (f : X → List Y) (xs : List X) (i : ℕ) (x : X) (y : Y) → slice_get xs i ≡ Some x → In y (f x) → In y (flat_map f xs)
-got_flat f [] i x y e k = absurd (none-some x e)
-got_flat f (z ∷ zs) zero x y e k = in_left (f z) (flat_map f zs) y (subst (λ v. In y (f v)) (sym (same_of e)) k)
-got_flat f (z ∷ zs) (suc i) x y e k = in_right (f z) (flat_map f zs) y (got_flat f zs i x y e k)
+got_flat f xs i x y e k = in_flat f xs x y (in_got xs i x e) k
 
 -- of a list of elements with ports, two that have one name are one
 pub same_line : {X : Type 0} (f : X → List Port) (xs : List X) (i j : ℕ) (x y : X) (p q : Port) → Apart (flat_map f xs) → slice_get xs i ≡ Some x → slice_get xs j ≡ Some y → In p (f x) → In q (f y) → p.name ≡ q.name → i ≡ j
 same_line f [] i j x y p q a d e k l s = absurd (none-some x d)
 same_line f (z ∷ zs) zero zero x y p q a d e k l s = refl
-same_line f (z ∷ zs) zero (suc j) x y p q a d e k l s = absurd (apart_cross (f z) (flat_map f zs) p q a (subst (λ v. In p (f v)) (sym (same_of d)) k) (got_flat f zs j y q e l) (sym s))
-same_line f (z ∷ zs) (suc i) zero x y p q a d e k l s = absurd (apart_cross (f z) (flat_map f zs) q p a (subst (λ v. In q (f v)) (sym (same_of e)) l) (got_flat f zs i x p d k) s)
+same_line f (z ∷ zs) zero (suc j) x y p q a d e k l s = absurd (apart_cross (f z) (flat_map f zs) p q a (subst (λ v. In p (f v)) (sym (same_Some _ _ d)) k) (got_flat f zs j y q e l) (sym s))
+same_line f (z ∷ zs) (suc i) zero x y p q a d e k l s = absurd (apart_cross (f z) (flat_map f zs) q p a (subst (λ v. In q (f v)) (sym (same_Some _ _ e)) l) (got_flat f zs i x p d k) s)
 same_line f (z ∷ zs) (suc i) (suc j) x y p q a d e k l s = ap suc (same_line f zs i j x y p q (apart_right (f z) (flat_map f zs) a) d e k l s)
 
 pub apart_at : {X : Type 0} (f : X → List Port) (xs : List X) (i : ℕ) (x : X) → Apart (flat_map f xs) → slice_get xs i ≡ Some x → Apart (f x)
 apart_at f [] i x a e = absurd (none-some x e)
-apart_at f (z ∷ zs) zero x a e = subst (λ v. Apart (f v)) (same_of e) (apart_left (f z) (flat_map f zs) a)
+apart_at f (z ∷ zs) zero x a e = subst (λ v. Apart (f v)) (same_Some _ _ e) (apart_left (f z) (flat_map f zs) a)
 apart_at f (z ∷ zs) (suc i) x a e = apart_at f zs i x (apart_right (f z) (flat_map f zs) a) e
 
 apart_cons : (o : Option Port) (ps : List Port) → Apart (cons_option o ps) → Apart ps
@@ -111,7 +99,7 @@ apart_cons (Some p) ps a = a.1
 
 apart_head : (o : Option Port) (p : Port) (ps : List Port) (q : Port) → o ≡ Some p → Apart (cons_option o ps) → In q ps → q.name ≢ p.name
 apart_head None p ps q e a i = absurd (none-some p e)
-apart_head (Some r) p ps q e a i = λ s. a.0 q i (s ∙ ap (λ (v : Port). v.name) (sym (same_of e)))
+apart_head (Some r) p ps q e a i = λ s. a.0 q i (s ∙ ap (λ (v : Port). v.name) (sym (same_Some _ _ e)))
 
 -- of the elements that have a port, two with one name are one
 pub same_kept : {X : Type 0} (f : X → Option Port) (xs : List X) (x y : X) (p q : Port) → Apart (filter_map f xs) → In x xs → In y xs → f x ≡ Some p → f y ≡ Some q → p.name ≡ q.name → x ≡ y

@@ -17,24 +17,20 @@ use Rattle.netlist_meaning.specs.Places.{Place, model_below, model_at}
 use Rattle.netlist_meaning.specs.Nets.{Net, net_at, IsPinned, Joined}
 use Rattle.netlist_meaning.specs.Nets.Joined.{by_pin, itself, reversed, followed}
 use Rattle.netlist_meaning.proofs.Depth.{model_at-append}
-use Rattle.netlist_rules.specs.declared.fault.FaultKind.TheVariants.{MultipleDrivers, NoSuchModel, NoSuchPin}
-use Rattle.netlist_rules.specs.Drivers.{has_input, has_output, is_input_pin, is_output_pin, same_name_up_to, same_name_before, stands_earlier, firsts_after, inputs_of, cover_output, latch_output, actual_if, actuals_on, actuals, drivers_of}
-use Rattle.netlist_rules.specs.ModelFaults.{AreFaultless, words_at_fault, missing_model, unknown_formals, is_portless, lacks_port}
-use Rattle.netlist_rules.proofs.FirstModelFaults.{no_model_fault}
+use Rattle.netlist_rules.specs.declared.fault.FaultKind.TheVariants.{MultipleDrivers}
+use Rattle.netlist_rules.specs.Drivers.{is_input_pin, is_output_pin, same_name_up_to, same_name_before, stands_earlier, firsts_after, inputs_of, cover_output, latch_output, actual_if, actuals_on, actuals, drivers_of}
+use Rattle.netlist_rules.specs.ModelFaults.{AreFaultless}
 use Rattle.lists.proofs.Members.{In, in_from, in_left, in_right, in_mapped, filtered_in}
 use Rattle.sound_designs.specs.OneDriver.{Driver, Drives, FaultlessHaveAtMostOneDriver}
 use Rattle.sound_designs.specs.OneDriver.Driver.{port, cover, latch}
 use Rattle.sound_designs.specs.OneDriver.Drives.{of_port, of_cover, of_latch}
 use Rattle.lists.proofs.Ends.{not_nil, snoc_same}
-use Rattle.sound_designs.proofs.Sound.{same_of, in_got, in_models, is_placed, named_in, not_portless, formals_once}
+use Rattle.sound_designs.proofs.Sound.{in_got, in_models, named_in, formals_once, clean_of, known}
 use Rattle.sound_designs.proofs.Local.{Apart, no_repeat, apart_left, apart_right, apart_cross, same_place, same_line, apart_at, same_kept, got_mapped, got_flat}
 use Rattle.std.proofs.lemmas.Bool.{and_parts as two_true}
+use Rattle.std.proofs.lemmas.Option.{same_Some}
 use Rattle.lists.proofs.Members.{passes_at as any_in}
-use Rattle.netlist_rules.proofs.Faultless.{nothing_of as none_of}
-use Rattle.netlist_rules.proofs.Faultless.{some_models}
-
-abbrev named : Port → List ℕ
-named p = p.name
+use Rattle.netlist_rules.proofs.Faultless.{port_name}
 
 pub none_any : {X : Type 0} (test : X → Bool) (xs : List X) → ((x : X) → In x xs → test x ≡ false) → list_any test xs ≡ false
 none_any test [] f = refl
@@ -86,7 +82,7 @@ later_kept before x xs p rec i f = by (bytes_eq x.name p.name) refl
 
     by : (b : Bool) → bytes_eq x.name p.name ≡ b → In p.name (port_names (firsts_after before (x ∷ xs)))
     by false h = go (λ b j e. elim j as (λ _. p.line < b.line) [
-      | inl is ↦ absurd (let t : bytes_eq x.name p.name ≡ true = (bytes_eq-Decides x.name p.name).1 (sym (ap named is) ∙ e) in true≢false (sym t ∙ h))
+      | inl is ↦ absurd (let t : bytes_eq x.name p.name ≡ true = (bytes_eq-Decides x.name p.name).1 (sym (ap port_name is) ∙ e) in true≢false (sym t ∙ h))
       | inr k ↦ f b k e
     ])
     by true h =
@@ -99,7 +95,7 @@ later_kept before x xs p rec i f = by (bytes_eq x.name p.name) refl
 kept : (before ports : List Port) (p : Port) → In p ports → LaterIn before p → In p.name (port_names (firsts_after before ports))
 unfolding LaterIn
 kept before [] p i f = absurd i
-kept before (x ∷ xs) p (inl same) f = subst (λ (v : Port). In v.name (port_names (firsts_after before (x ∷ xs)))) (sym same) (at_first before x xs (λ q i g. kept (x ∷ before) xs q i g) (λ b j e. subst (λ (v : Port). v.line < b.line) same (f b j (e ∙ ap named (sym same)))))
+kept before (x ∷ xs) p (inl same) f = subst (λ (v : Port). In v.name (port_names (firsts_after before (x ∷ xs)))) (sym same) (at_first before x xs (λ q i g. kept (x ∷ before) xs q i g) (λ b j e. subst (λ (v : Port). v.line < b.line) same (f b j (e ∙ ap port_name (sym same)))))
 kept before (x ∷ xs) p (inr i) f = later_kept before x xs p (λ q j g. kept (x ∷ before) xs q j g) i f
 
 -- a driver of a net in its model
@@ -122,8 +118,8 @@ SameLocal (by_output n s p i j o e) _ = ⊥
 input_port : (m : Model) (name : List ℕ) → In name (port_names (m.ins ++ m.clocks)) → (q : Port) × In q (inputs_of m) × (name ≡ q.name)
 unfolding LaterIn
 input_port m name i =
-    let (p, j, e) = in_mapped named (m.ins ++ m.clocks) name i in
-    let (q, k, f) = in_mapped named (inputs_of m) p.name (kept [] (m.ins ++ m.clocks) p j (λ b x s. absurd x)) in
+    let (p, j, e) = in_mapped port_name (m.ins ++ m.clocks) name i in
+    let (q, k, f) = in_mapped port_name (inputs_of m) p.name (kept [] (m.ins ++ m.clocks) p j (λ b x s. absurd x)) in
     (q, k, e ∙ f)
 
 output_port : (models : List Model) (s : Subckt) (pin : Pin) → In pin s.pins → is_output_pin (model_named models s.model) pin ≡ true → In (at_line s.line pin.actual) (actuals_on models is_output_pin s)
@@ -184,7 +180,7 @@ local_one models m name a (by_output n s p i j o e) (by_output k t q x y z f) = 
     line = same_line (actuals_on models is_output_pin) m.subckts n k s t (at_line s.line p.actual) (at_line t.line q.actual) all i x (output_port models s p j o) (output_port models t q y z) (e ∙ sym f)
 
     same : t ≡ s
-    same = same_of (sym x ∙ ap (slice_get m.subckts) (sym line) ∙ i)
+    same = same_Some _ _ (sym x ∙ ap (slice_get m.subckts) (sym line) ∙ i)
 
     pins : p ≡ q
     pins = same_kept (actual_if (is_output_pin (model_named models s.model)) s.line) s.pins p q (at_line s.line p.actual) (at_line s.line q.actual) (apart_at (actuals_on models is_output_pin) m.subckts n s all i) j (subst (λ (v : Subckt). In q v.pins) same y)
@@ -207,12 +203,10 @@ drives_at design d net (of_cover {model = m} {number = n} {c = c} e i) = at_cove
 drives_at design d net (of_latch {model = m} {number = n} {l = l} e i) = at_latch m n l e i refl refl
 
 pub drivers_apart : (design : Design) → AreFaultless design.models → (place : Place) (m : Model) → model_at design place ≡ Some m → Drivers design.models m
-drivers_apart design a place m e =
-    let clean = (no_model_fault design.models (some_models design.models a)).0 a.no_fault in
-    record { apart = no_repeat (drivers_of design.models m) (none_of (words_at_fault MultipleDrivers design.models) design.models m (clean MultipleDrivers) (in_models design place m e)) }
+drivers_apart design a place m e = record { apart = no_repeat (drivers_of design.models m) (clean_of design.models a MultipleDrivers m (in_models design place m e)) }
 
 one_model : (design : Design) (p q : Place) (m n : Model) → p ≡ q → model_at design p ≡ Some m → model_at design q ≡ Some n → m ≡ n
-one_model design p q m n s e f = same_of (sym e ∙ ap (model_at design) s ∙ f)
+one_model design p q m n s e f = same_Some _ _ (sym e ∙ ap (model_at design) s ∙ f)
 
 at_one : (design : Design) → AreFaultless design.models → (d e : Driver) (net : Net) → At design d net → At design e net → d ≡ e
 at_one design a d e net (at_port m i z j x) (at_port n k w l y) = x ∙ sym y
@@ -306,7 +300,7 @@ up_up : (design : Design) → AreFaultless design.models → (outer other inner 
 up_up design a outer other inner h g =
     let (place, number) = snoc_same outer.place other.place h.number g.number (sym h.is_deeper ∙ g.is_deeper) in
     let model : h.model ≡ g.model = one_model design outer.place other.place h.model g.model place h.has_model g.has_model in
-    let line : g.line ≡ h.line = same_of (sym g.has_line ∙ ap (λ (v : Model). slice_get v.subckts g.number) (sym model) ∙ ap (slice_get h.model.subckts) (sym number) ∙ h.has_line) in
+    let line : g.line ≡ h.line = same_Some _ _ (sym g.has_line ∙ ap (λ (v : Model). slice_get v.subckts g.number) (sym model) ∙ ap (slice_get h.model.subckts) (sym number) ∙ h.has_line) in
     let actual : h.pin.actual ≡ g.pin.actual = formals_once design a outer.place h.number h.model h.line h.pin g.pin h.has_model h.has_line h.has_pin (subst (λ (v : Subckt). Contains v.pins g.pin) line g.has_pin) (sym h.is_formal ∙ g.is_formal) in
     same_net outer other place (h.is_actual ∙ actual ∙ sym g.is_actual)
 
@@ -335,21 +329,7 @@ Both design x y = (d : Driver) → (Reaches design x d → Reaches design y d) �
 
 pin_is_known : (design : Design) → AreFaultless design.models → (outer inner : Net) (h : IsPinned design outer inner)
     → (is_input_pin (model_named design.models h.line.model) h.pin ≡ true) ⊎ (is_output_pin (model_named design.models h.line.model) h.pin ≡ true)
-pin_is_known design a outer inner h =
-    let clean = (no_model_fault design.models (some_models design.models a)).0 a.no_fault in
-    let in_model : In h.model design.models = in_models design outer.place h.model h.has_model in
-    let in_lines : In h.line h.model.subckts = in_got h.model.subckts h.number h.line h.has_line in
-    let no_15 : missing_model design.models h.line ≡ [] = none_of (missing_model design.models) h.model.subckts h.line (none_of (words_at_fault NoSuchModel design.models) design.models h.model (clean NoSuchModel) in_model) in_lines in
-    let no_16 : unknown_formals design.models h.line ≡ [] = none_of (unknown_formals design.models) h.model.subckts h.line (none_of (words_at_fault NoSuchPin design.models) design.models h.model (clean NoSuchPin) in_model) in_lines in
-    let (placed, is_found) = is_placed (model_named design.models h.line.model) h.line no_15 in
-    let port : is_portless (model_named design.models h.line.model) h.pin ≡ false = not_portless (model_named design.models h.line.model) h.line.line h.line.pins h.pin no_16 (in_from h.line.pins h.pin h.has_pin) in
-    let has : lacks_port h.pin.formal placed ≡ false = sym (ap (λ o. is_portless o h.pin) is_found) ∙ port in
-    by (has_input h.pin.formal placed) (has_output h.pin.formal placed) (ap (λ o. is_input_pin o h.pin) is_found) (ap (λ o. is_output_pin o h.pin) is_found) has
-  where
-    by : (i o : Bool) → is_input_pin (model_named design.models h.line.model) h.pin ≡ i → is_output_pin (model_named design.models h.line.model) h.pin ≡ o → not (i || o) ≡ false → (is_input_pin (model_named design.models h.line.model) h.pin ≡ true) ⊎ (is_output_pin (model_named design.models h.line.model) h.pin ≡ true)
-    by true o x y n = inl x
-    by false true x y n = inr y
-    by false false x y n = absurd (true≢false n)
+pin_is_known design a outer inner h = known design.models a h.model h.line h.pin (in_models design outer.place h.model h.has_model) (in_got h.model.subckts h.number h.line h.has_line) (in_from h.line.pins h.pin h.has_pin)
 
 -- a pin carries one driver both ways
 from_inner : (design : Design) → AreFaultless design.models → (outer inner : Net) (h : IsPinned design outer inner) → is_input_pin (model_named design.models h.line.model) h.pin ≡ true → (d : Driver) → Reaches design inner d → Reaches design outer d

@@ -5,6 +5,7 @@ use Rattle.std.specs.Bool.{then_some}
 use Rattle.std.specs.List.{list_any}
 use Rattle.std.proofs.lemmas.Slice.Eq.{bytes_eq-Decides}
 use Rattle.std.proofs.lemmas.Option.{none-some, same_Some}
+use Rattle.std.proofs.lemmas.Bool.{cases_order, cases_lt, false_from_ne_true}
 use Rattle.netlist_core.specs.declared.model.Port.{Port}
 use Rattle.netlist_core.specs.declared.model.Pin.{Pin}
 use Rattle.netlist_core.specs.declared.model.Subckt.{Subckt}
@@ -20,7 +21,7 @@ use Rattle.lists.proofs.Names.{bytes_eq-same}
 use Rattle.netlist_meaning.proofs.Names.{and_then-from}
 use Rattle.netlist_meaning.proofs.Depth.{model_at-append}
 use Rattle.netlist_rules.specs.declared.fault.FaultKind.TheVariants.{NoSuchModel, NoSuchPin, TwoClocks, ClockRead}
-use Rattle.netlist_rules.specs.Drivers.{has_input, has_output}
+use Rattle.netlist_rules.specs.Drivers.{has_input, has_output, is_input_pin, is_output_pin}
 use Rattle.netlist_rules.specs.ModelFaults.{AreFaultless, words_at_fault, missing_model, unplaced, unknown_formals, is_portless, lacks_port, formal_if}
 use Rattle.netlist_rules.proofs.FirstModelFaults.{no_model_fault}
 use Rattle.netlist_rules.specs.Circles.{HasSubcktOf, Leads}
@@ -30,9 +31,7 @@ use Rattle.netlist_rules.proofs.Faultless.{no_model_is_in_itself, formals_are_di
 use Rattle.sound_designs.specs.Laws.{FaultlessAreNotRecursive, FaultlessNameFormalsOnce, FaultlessAreWired}
 use Rattle.netlist_rules.proofs.Faultless.{nothing_of as none_of}
 use Rattle.netlist_rules.proofs.Faultless.{some_models}
-
-pub same_of : {X : Type 0} {x y : X} → Some x ≡ Some y → x ≡ y
-same_of {x = x} {y = y} e = same_Some x y e
+use Rattle.netlist_rules.specs.declared.fault.FaultKind.{FaultKind}
 
 -- a name finds the model
 abbrev IsFound : List Model → Model → Type 0
@@ -41,7 +40,7 @@ IsFound models m = model_named models m.name ≡ Some m
 found_first : (models : List Model) (m : Model) → slice_get models 0 ≡ Some m → IsFound models m
 found_first [] m e = absurd (none-some m e)
 found_first (x ∷ xs) m e =
-    let same : x ≡ m = same_of e in
+    let same : x ≡ m = same_Some _ _ e in
     subst (λ v. model_named (x ∷ xs) v.name ≡ Some v) same (ap (λ b. cond b (Some x) (model_named xs x.name)) (bytes_eq-same x.name))
 
 found_again : (models : List Model) (name : List ℕ) (m : Model) → model_named models name ≡ Some m → IsFound models m
@@ -49,7 +48,7 @@ found_again models name m e = subst (λ v. model_named models v ≡ Some m) (sym
 
 pub in_got : {X : Type 0} (xs : List X) (k : ℕ) (x : X) → slice_get xs k ≡ Some x → In x xs
 in_got [] k x e = absurd (none-some x e)
-in_got (y ∷ ys) zero x e = inl (sym (same_of e))
+in_got (y ∷ ys) zero x e = inl (sym (same_Some _ _ e))
 in_got (y ∷ ys) (suc k) x e = inr (in_got ys k x e)
 
 -- a line of that number, with the model that it places
@@ -64,7 +63,7 @@ places design outer number inner e =
     record { line = line; is_line = is_line; is_found = found }
 
 found_below : (design : Design) (place : Place) (m b : Model) → IsFound design.models m → model_below design place m ≡ Some b → IsFound design.models b
-found_below design [] m b f e = subst (IsFound design.models) (same_of e) f
+found_below design [] m b f e = subst (IsFound design.models) (same_Some _ _ e) f
 found_below design (number ∷ place) m b f e =
     let (n, is_n, rest) = and_then-from (model_below design place) (model_placed design m number) b e in
     let p : Places design m number n = places design m number n is_n in
@@ -88,7 +87,7 @@ leads : (design : Design) (number : ℕ) (place : Place) (a b : Model) → IsFou
 leads design number [] a b f e =
     let (n, is_n, rest) = and_then-from (model_below design []) (model_placed design a number) b e in
     let p : Places design a number n = places design a number n is_n in
-    ([], subst (λ (v : Model). HasSubcktOf design.models a.name v.name) (same_of rest) (step design a number n f p))
+    ([], subst (λ (v : Model). HasSubcktOf design.models a.name v.name) (same_Some _ _ rest) (step design a number n f p))
 leads design number (next ∷ place) a b f e =
     let (n, is_n, rest) = and_then-from (model_below design (next ∷ place)) (model_placed design a number) b e in
     let p : Places design a number n = places design a number n is_n in
@@ -151,34 +150,41 @@ has_port m name e = by (has_input name m) (has_output name m) refl refl e
     by false false h k t = absurd (true≢false t)
 
 pub not_portless : (o : Option Model) (line : ℕ) (pins : List Pin) (pin : Pin) → filter_map (formal_if (is_portless o) line) pins ≡ [] → In pin pins → is_portless o pin ≡ false
-not_portless o line pins pin e i = by (is_portless o pin) refl
+not_portless o line pins pin e i = false_from_ne_true (is_portless o pin) (λ h. subst (λ v. In (at_line line pin.formal) v) e (filtered_in (formal_if (is_portless o) line) pins pin (at_line line pin.formal) i (ap (λ b. then_some b (at_line line pin.formal)) h)))
+
+-- a kind of fault gives no word
+pub clean_of : (models : List Model) → AreFaultless models → (kind : FaultKind) (m : Model) → In m models → words_at_fault kind models m ≡ []
+clean_of models a kind m i = none_of (words_at_fault kind models) models m ((no_model_fault models (some_models models a)).0 a.no_fault kind) i
+
+-- the model of a line is there, and has a port of the name that a pin gives
+pub pin_port : (models : List Model) → AreFaultless models → (m : Model) (s : Subckt) (pin : Pin) → In m models → In s m.subckts → In pin s.pins → (placed : Model) × (model_named models s.model ≡ Some placed) × (lacks_port pin.formal placed ≡ false)
+pin_port models a m s pin i j k =
+    let has_model : missing_model models s ≡ [] = none_of (missing_model models) m.subckts s (clean_of models a NoSuchModel m i) j in
+    let has_ports : unknown_formals models s ≡ [] = none_of (unknown_formals models) m.subckts s (clean_of models a NoSuchPin m i) j in
+    let (placed, is_found) = is_placed (model_named models s.model) s has_model in
+    (placed, is_found, sym (ap (λ o. is_portless o pin) is_found) ∙ not_portless (model_named models s.model) s.line s.pins pin has_ports k)
+
+-- a pin is known
+pub known : (models : List Model) → AreFaultless models → (m : Model) (s : Subckt) (pin : Pin) → In m models → In s m.subckts → In pin s.pins
+    → (is_input_pin (model_named models s.model) pin ≡ true) ⊎ (is_output_pin (model_named models s.model) pin ≡ true)
+known models a m s pin i j k =
+    let (placed, is_found, has) = pin_port models a m s pin i j k in
+    by (has_input pin.formal placed) (has_output pin.formal placed) (ap (λ o. is_input_pin o pin) is_found) (ap (λ o. is_output_pin o pin) is_found) has
   where
-    by : (b : Bool) → is_portless o pin ≡ b → b ≡ false
-    by false h = refl
-    by true h = absurd (subst (λ v. In (at_line line pin.formal) v) e (filtered_in (formal_if (is_portless o) line) pins pin (at_line line pin.formal) i (ap (λ b. then_some b (at_line line pin.formal)) h)))
+    by : (x y : Bool) → is_input_pin (model_named models s.model) pin ≡ x → is_output_pin (model_named models s.model) pin ≡ y → not (x || y) ≡ false → (is_input_pin (model_named models s.model) pin ≡ true) ⊎ (is_output_pin (model_named models s.model) pin ≡ true)
+    by true y e f n = inl e
+    by false true e f n = inr f
+    by false false e f n = absurd (true≢false n)
 
 pub formals_named : (design : Design) → AreFaultless design.models → (outer inner : Net) → IsPinned design outer inner → IsNet design inner
 formals_named design a outer inner h =
-    let clean = (no_model_fault design.models (some_models design.models a)).0 a.no_fault in
-    let in_model : In h.model design.models = in_models design outer.place h.model h.has_model in
-    let in_lines : In h.line h.model.subckts = in_got h.model.subckts h.number h.line h.has_line in
-    let no_15 : missing_model design.models h.line ≡ [] = none_of (missing_model design.models) h.model.subckts h.line (none_of (words_at_fault NoSuchModel design.models) design.models h.model (clean NoSuchModel) in_model) in_lines in
-    let no_16 : unknown_formals design.models h.line ≡ [] = none_of (unknown_formals design.models) h.model.subckts h.line (none_of (words_at_fault NoSuchPin design.models) design.models h.model (clean NoSuchPin) in_model) in_lines in
-    let (placed, is_found) = is_placed (model_named design.models h.line.model) h.line no_15 in
-    let port : is_portless (model_named design.models h.line.model) h.pin ≡ false = not_portless (model_named design.models h.line.model) h.line.line h.line.pins h.pin no_16 (in_from h.line.pins h.pin h.has_pin) in
-    let has : lacks_port h.pin.formal placed ≡ false = sym (ap (λ o. is_portless o h.pin) is_found) ∙ port in
+    let (placed, is_found, has) = pin_port design.models a h.model h.line h.pin (in_models design outer.place h.model h.has_model) (in_got h.model.subckts h.number h.line h.has_line) (in_from h.line.pins h.pin h.has_pin) in
     let there : model_at design inner.place ≡ Some placed =
     ap (model_at design) h.is_deeper ∙ model_at-append design outer.place (h.number ∷ []) ∙ ap (option_and_then (model_below design (h.number ∷ []))) h.has_model
     ∙ ap (λ o. option_and_then (model_below design []) (option_and_then (λ (l : Subckt). model_named design.models l.model) o)) h.has_line ∙ ap (option_and_then (model_below design [])) is_found in
     (placed, there, contains_from (model_names placed) inner.name (subst (λ v. In v (model_names placed)) (sym h.is_formal) (has_port placed h.pin.formal has)))
 
 -- where no line is that of the fault, none reads or drives a clock net
-pub order_of : (a b : ℕ) → (a < b) ⊎ (a ≡ b) ⊎ (b < a)
-order_of zero zero = inr (inl refl)
-order_of zero (suc b) = inl (omega arith)
-order_of (suc a) zero = inr (inr (omega arith))
-order_of (suc a) (suc b) = elim (order_of a b) as (λ _. (suc a < suc b) ⊎ (suc a ≡ suc b) ⊎ (suc b < suc a)) [ inl l ↦ inl (omega arith) | inr (inl e) ↦ inr (inl (ap suc e)) | inr (inr g) ↦ inr (inr (omega arith)) ]
-
 Unused : Design → ℕ → ℕ → Type 0
 Unused design line position = (net : Net) → ¬ IsClockUse design line position net
 
@@ -187,13 +193,12 @@ unfolding Unused
 read_here design none line lines position words net used = none line net.name (record { position = position; net = net; is_use = used; is_earliest = first; is_word = refl })
   where
     first : (l p : ℕ) (other : Net) → IsClockUse design l p other → (line < l) ⊎ ((line ≡ l) × (position ≤ p))
-    first l p other u = elim (order_of line l) as (λ _. (line < l) ⊎ ((line ≡ l) × (position ≤ p))) [
-      | inl less ↦ inl less
-      | inr (inl same) ↦ elim (order_of p position) as (λ _. (line < l) ⊎ ((line ≡ l) × (position ≤ p))) [
+    first l p other u = elim (cases_order line l) as (λ _. (line < l) ⊎ ((line ≡ l) × (position ≤ p))) [
+      | inl same ↦ elim (cases_lt p position) as (λ _. (line < l) ⊎ ((line ≡ l) × (position ≤ p))) [
         | inl before ↦ absurd (words p before other (subst (λ v. IsClockUse design v p other) (sym same) u))
-        | inr (inl here) ↦ inr (same, omega arith)
-        | inr (inr after) ↦ inr (same, omega arith)
+        | inr after ↦ inr (same, after)
       ]
+      | inr (inl less) ↦ inl less
       | inr (inr more) ↦ absurd (lines l p more other u)
     ]
 

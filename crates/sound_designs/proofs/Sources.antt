@@ -24,20 +24,17 @@ use Rattle.lists.proofs.Members.{In, in_from, contains_from, in_left, in_right, 
 use Rattle.sound_designs.specs.OneDriver.{Driver, Drives, FaultlessHaveDrivers}
 use Rattle.sound_designs.specs.OneDriver.Driver.{port, cover, latch}
 use Rattle.sound_designs.specs.OneDriver.Drives.{of_port, of_cover, of_latch}
-use Rattle.sound_designs.proofs.Sound.{in_got, in_models, named_in, not_recursive}
+use Rattle.sound_designs.proofs.Sound.{in_got, in_models, named_in, not_recursive, clean_of}
 use Rattle.sound_designs.proofs.Local.{not_any, not_up_to, not_before}
 use Rattle.sound_designs.proofs.OneDriver.{Local, Reaches, drivers_apart, input_pin}
 use Rattle.sound_designs.proofs.OneDriver.Local.{by_input, by_cover, by_latch, by_output}
 use Rattle.sound_designs.proofs.OneDriver.Reaches.{here, up, down}
-use Rattle.sound_designs.proofs.Driven.{clean_of, name_local}
+use Rattle.sound_designs.proofs.Driven.{name_local}
 use Rattle.lists.proofs.Bools.{or_false_right as second_of}
 use Rattle.lists.proofs.Appends.{append_nil_left as none_left, append_nil_right as none_right}
-use Rattle.netlist_rules.proofs.Faultless.{nothing_of as none_of}
+use Rattle.netlist_rules.proofs.Faultless.{nothing_of as none_of, port_name}
 use Rattle.netlist_rules.proofs.Faultless.{none_kept}
 use Rattle.netlist_rules.proofs.FirstModelFaults.{none_empty as none_earliest}
-
-abbrev named : Port → List ℕ
-named p = p.name
 
 -- no name is an input and an output
 none_doubles : (test : Port → Bool) (before ports : List Port) (p : Port) → doubles_after test before ports ≡ [] → In p ports → test p ≡ false
@@ -48,8 +45,8 @@ none_doubles test before (x ∷ xs) p e (inr later) = none_doubles test (x ∷ b
 
 input_no_output : (m : Model) (name : List ℕ) → duplicate_ports m ≡ [] → In name (port_names (m.ins ++ m.clocks)) → In name (port_names m.outs) → ⊥
 input_no_output m name e i o =
-    let (p, x, is_p) = in_mapped named (m.ins ++ m.clocks) name i in
-    let (q, y, is_q) = in_mapped named m.outs name o in
+    let (p, x, is_p) = in_mapped port_name (m.ins ++ m.clocks) name i in
+    let (q, y, is_q) = in_mapped port_name m.outs name o in
     let front : doubles_after (is_output_before m) [] m.ins ++ doubles_after (is_output_before m) [] m.clocks ≡ [] = none_left _ (doubles_after (is_input_by_then m) [] m.outs) e in
     let back : doubles_after (is_input_by_then m) [] m.outs ≡ [] = none_right (doubles_after (is_output_before m) [] m.ins ++ doubles_after (is_output_before m) [] m.clocks) _ e in
     let less : q.line < p.line = not_up_to q p (not_any (same_name_up_to q) (m.ins ++ m.clocks) p (none_doubles (is_input_by_then m) [] m.outs q back y) x) (sym is_p ∙ is_q) in
@@ -72,11 +69,11 @@ record HasPin (s : Subckt) (name : List ℕ) : Type 0 where
 has_pin : (models : List Model) (s : Subckt) (placed : Model) (name : List ℕ) → model_named models s.model ≡ Some placed → missing_pin models s ≡ [] → In name (port_names (placed.ins ++ placed.clocks)) → HasPin s name
 has_pin models s placed name found e i =
     let none : earliest (unpinned_inputs s placed) ≡ None = sym (ap (λ o. option_map_or (λ (m : Model). earliest (unpinned_inputs s m)) o None) found) ∙ none_mapped (on_line s.line) (option_map_or (λ (m : Model). earliest (unpinned_inputs s m)) (model_named models s.model) None) e in
-    let (p, x, is_p) = in_mapped named (placed.ins ++ placed.clocks) name i in
+    let (p, x, is_p) = in_mapped port_name (placed.ins ++ placed.clocks) name i in
     let name_in : In p.name (port_names (formals_of s)) = named_in (formals_of s) p.name (by p x (none_earliest (unpinned_inputs s placed) none) (is_named (formals_of s) p.name) refl) in
-    let (f, y, is_f) = in_mapped named (formals_of s) p.name name_in in
+    let (f, y, is_f) = in_mapped port_name (formals_of s) p.name name_in in
     let (pin, z, is_pin) = in_mapped (λ (pin : Pin). at_line s.line pin.formal) s.pins f y in
-    record { pin = pin; is_pin = z; is_formal = sym (is_p ∙ is_f ∙ ap named is_pin) }
+    record { pin = pin; is_pin = z; is_formal = sym (is_p ∙ is_f ∙ ap port_name is_pin) }
   where
     by : (p : Port) → In p (placed.ins ++ placed.clocks) → unpinned_inputs s placed ≡ [] → (b : Bool) → is_named (formals_of s) p.name ≡ b → is_named (formals_of s) p.name ≡ true
     by p x n true h = h
@@ -166,8 +163,8 @@ goes_out design a outer number m name is_m i =
     let (line, is_line, found) = and_then-from (λ (l : Subckt). model_named design.models l.model) (slice_get o.subckts number) n is_n in
     let is_found : model_named design.models line.model ≡ Some m = found ∙ same in
     let in_line : In line o.subckts = in_got o.subckts number line is_line in
-    let no_18 : missing_pin design.models line ≡ [] = none_of (missing_pin design.models) o.subckts line (clean_of design.models a PinMissing o (in_models design outer o is_o)) in_line in
-    let p : HasPin line name = has_pin design.models line m name is_found no_18 i in
+    let none_missing : missing_pin design.models line ≡ [] = none_of (missing_pin design.models) o.subckts line (clean_of design.models a PinMissing o (in_models design outer o is_o)) in_line in
+    let p : HasPin line name = has_pin design.models line m name is_found none_missing i in
     record {
       outer = net_at outer p.pin.actual;
       outer_model = o;

@@ -1,4 +1,4 @@
-use Rattle.netlist_laws.proofs.ClockFaults.{clock_read_is_on_one_line}
+use Rattle.netlist_rules.proofs.OneClockFault.{clock_read_is_on_one_line}
 use Rattle.netlist_laws.proofs.clock_read_is_on_one_line.Goals as goal
 
 pub returns : goal.returns

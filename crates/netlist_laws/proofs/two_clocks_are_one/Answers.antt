@@ -1,4 +1,4 @@
-use Rattle.netlist_laws.proofs.ClockFaults.{two_clocks_are_one}
+use Rattle.netlist_rules.proofs.OneClockFault.{two_clocks_are_one}
 use Rattle.netlist_laws.proofs.two_clocks_are_one.Goals as goal
 
 pub returns : goal.returns

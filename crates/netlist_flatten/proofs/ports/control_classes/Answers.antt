@@ -1,6 +1,7 @@
 use Rattle.std.proofs.Common.{◌+◌, Vec, Bool, get_or, refl, sym, subst}
 use Rattle.std.proofs.lemmas.Option.{slice_get-get_or}
-use Rattle.netlist_flatten.proofs.Controls.{MarkedBefore, marked_none, marked_some, marked_all, mark_there, none_where}
+use Rattle.lists.proofs.Options.{none_where}
+use Rattle.netlist_flatten.proofs.Controls.{MarkedBefore, marked_none, marked_some, marked_all, mark_there}
 use Rattle.netlist_flatten.proofs.ports.control_classes.Goals as goal
 use Rattle.netlist_flatten.proofs.ports.control_classes.Goals.{in-Some, in_default}
 
