@@ -1,5 +1,5 @@
 -- Walks that have seen all are orders, and the walk before its first step.
-use Rattle.std.proofs.Common.{◌≡◌, ◌≢◌, refl, sym, ap, subst, ◌∙◌, ℕ, zero, suc, ◌<◌, ◌≤◌, ◌⊎◌, inl, inr, List, [], length, get_or, arith, replicate, count_by, cond, ◌*◌}
+use Rattle.std.proofs.Common.{◌≡◌, ◌≢◌, refl, sym, ap, subst, ◌∙◌, ℕ, ◌<◌, ◌≤◌, ◌⊎◌, inl, inr, List, [], length, get_or, arith, replicate, count_by, cond, ◌*◌}
 use Rattle.std.specs.Prelude.{Contains, AllPairs}
 use Rattle.std.proofs.lemmas.List.{get_or_past, get_or_default}
 use Rattle.std.proofs.lemmas.Bool.{cases_lt}
@@ -9,6 +9,7 @@ use Rattle.depth_walk.specs.declared.walk.Mark.TheVariants.{Unseen, Open, Done}
 use Rattle.depth_walk.specs.Links.{Links}
 use Rattle.depth_walk.specs.Order.{IsOrderOf}
 use Rattle.depth_walk.specs.Walk.{mark_of, is_unseen, IsWalk}
+use Rattle.lists.proofs.Fills.{same_throughout}
 
 -- a number with a mark is one that has a list
 pub open_within : (links : Links) (marks : List Mark) (n i : ℕ) → length marks ≡ length links → mark_of marks n ≡ Open i → n < length links
@@ -57,19 +58,13 @@ begun links = record {
   at_open = λ n i e. absurd (cc (unseen (length links) n, e));
   done_at = λ i l. absurd (omega arith);
   at_done = λ n i e. absurd (cc (unseen (length links) n, e));
-  passed = λ n k b l r. absurd (omega (arith, same {X = ℕ} (length links) n 0, l));
+  passed = λ n k b l r. absurd (omega (arith, same_throughout {X = ℕ} (length links) n 0, l));
   before = λ n i k b e r. absurd (cc (unseen (length links) n, e));
   path = λ i l. absurd (omega arith);
 }
   where
-    -- in equal values each place holds the value, and so it is past the end where the value is the default
-    same : {X : Type 0} (m n : ℕ) (x : X) → get_or (replicate m x) n x ≡ x
-    same zero n x = refl
-    same (suc m) zero x = refl
-    same (suc m) (suc n) x = same m n x
-
     unseen : (m n : ℕ) → mark_of (replicate m Unseen) n ≡ Unseen
-    unseen m n = same m n Unseen
+    unseen m n = same_throughout m n Unseen
 
     all_unseen : (m : ℕ) → count_by is_unseen (replicate m Unseen) ≡ m
     all_unseen m = let e : count_by is_unseen (replicate m Unseen) ≡ m * 1 = sum_by-replicate (λ x. cond (is_unseen x) 1 0) m Unseen in omega arith

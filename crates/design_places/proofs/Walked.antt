@@ -2,7 +2,7 @@
 use Rattle.std.proofs.Common.{ℕ, suc, ◌≡◌, ◌≢◌, refl, sym, ap, ap₂, ◌∙◌, subst, ◌+◌, ◌-◌, ◌<◌, ◌≤◌, inl, inr, List, [], ◌∷◌, ◌++◌, length, map, Option, Some, None, slice_get, position, option_map, option_to_list, option_and_then, MatchOption, append_assoc, append-nil, length-append, arith, is_some}
 use Rattle.std.proofs.lemmas.List.{map-append, length-map}
 use Rattle.std.proofs.lemmas.Option.{slice_get_within, none-some}
-use Rattle.lists.proofs.Members.{In, in_left, in_right, in_parts}
+use Rattle.lists.proofs.Members.{In, in_left, in_right, in_parts, in_got}
 use Rattle.lists.proofs.Appends.{slice_get_push}
 use Rattle.netlist_core.specs.declared.model.Design.{Design}
 use Rattle.netlist_core.specs.declared.model.Model.{Model}
@@ -15,7 +15,7 @@ use Rattle.netlist_meaning.proofs.Depth.{model_at-append, places_are_shallow}
 use Rattle.netlist_rules.specs.ModelFaults.{AreFaultless}
 use Rattle.netlist_rules.proofs.Faultless.{some_models}
 use Rattle.lists.proofs.Cuts.{got_left, got_push}
-use Rattle.sound_designs.proofs.Sound.{not_recursive, in_got}
+use Rattle.sound_designs.proofs.Sound.{not_recursive}
 use Rattle.named_models.specs.Numbers.{IsNumberOf}
 use Rattle.named_models.proofs.Numbered.{number_found}
 use Rattle.design_places.specs.declared.placed.Parent.{Parent}

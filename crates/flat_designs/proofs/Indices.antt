@@ -8,12 +8,12 @@ use Rattle.netlist_core.specs.declared.model.Model.{Model}
 use Rattle.netlist_meaning.specs.Places.{Place, model_at, IsBefore}
 use Rattle.netlist_meaning.proofs.PlaceOrder.{places_are_ordered}
 use Rattle.netlist_rules.specs.ModelFaults.{AreFaultless}
-use Rattle.sound_designs.proofs.Sound.{in_got, not_recursive}
-use Rattle.sound_designs.proofs.Driven.{got_from}
+use Rattle.sound_designs.proofs.Sound.{not_recursive}
 use Rattle.netlist_meaning.specs.InOrder.{of_some, places_in_order}
 use Rattle.netlist_meaning.specs.FlatOf.{at_places}
 use Rattle.flat_designs.proofs.Lists.{Pairs, pairs_weaken, pair_at, one_place, start, From, from, into, start_less, in_some_map}
 use Rattle.flat_designs.proofs.Listed.{ascend, place_is, place_listed}
+use Rattle.lists.proofs.Members.{in_got, got_from}
 
 abbrev pub row : {X Y : Type 0} → Design → (Model → List X) → (Place → X → Y) → Place → List Y
 row design items f place = map (f place) (of_some items (model_at design place))

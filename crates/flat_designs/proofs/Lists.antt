@@ -6,9 +6,8 @@ use Rattle.std.proofs.lemmas.List.Elements.{All-from_get_or}
 use Rattle.std.proofs.lemmas.List.{map-append}
 use Rattle.std.proofs.lemmas.Option.{none-some, slice_get-get_or, same_Some}
 use Rattle.std.proofs.lemmas.Bool.{cases_order}
-use Rattle.lists.proofs.Members.{In, in_parts, in_mapped, in_flattened}
+use Rattle.lists.proofs.Members.{In, in_parts, in_mapped, in_flattened, in_got}
 use Rattle.lists.proofs.Cuts.{got_left, got_right}
-use Rattle.sound_designs.proofs.Sound.{in_got}
 
 -- a relation holds of each element and each later one
 abbrev pub Pairs : {X : Type 0} → (X → X → Type 0) → List X → Type 0
@@ -103,10 +102,6 @@ from f (x ∷ xs) n y e = elim (got_append (f x) (flat_map f xs) n y e) as (λ _
 pub in_some_map : {X Y : Type 0} (f : X → Y) (o : Option X) (y : Y) → Rattle.std.specs.Prelude.option_map f o ≡ Some y → (x : X) × (o ≡ Some x) × (f x ≡ y)
 in_some_map f None y e = absurd (none-some y e)
 in_some_map f (Some x) y e = (x, refl, same_Some _ _ e)
-
-pub map_in : {X Y : Type 0} (f g : X → Y) (xs : List X) → ((x : X) → In x xs → f x ≡ g x) → map f xs ≡ map g xs
-map_in f g [] same = refl
-map_in f g (x ∷ xs) same = ap₂ (λ y ys. y ∷ ys) (same x (inl refl)) (map_in f g xs (λ y i. same y (inr i)))
 
 pub map_flat : {X Y Z : Type 0} (g : Y → Z) (f : X → List Y) (h : X → List Z) (xs : List X) → ((x : X) → In x xs → map g (f x) ≡ h x) → map g (flat_map f xs) ≡ flat_map h xs
 map_flat g f h [] same = refl

@@ -6,9 +6,8 @@ use Rattle.std.proofs.lemmas.Bool.Decides.{leb_tells, Decides-eqb}
 use Rattle.std.proofs.lemmas.Option.{slice_get_within, get_or_from_slice_get, same_Some}
 use Rattle.netlist_core.specs.declared.model.Port.{Port}
 use Rattle.netlist_core.specs.Names.{Name}
-use Rattle.lists.proofs.Members.{In}
+use Rattle.lists.proofs.Members.{In, got_from}
 use Rattle.lists.proofs.Names.{bytes_eq-turned}
-use Rattle.sound_designs.proofs.Driven.{got_from}
 use Rattle.netlist_meaning.specs.InOrder.{put_by_line, by_line, cons_when, words_on_line, cons_unless, without_name, first_names}
 use Rattle.flat_designs.specs.Laws.{StandByLine, WordsStandByLine, append_unless, NamesComeWhereFirst}
 use Rattle.flat_designs.proofs.Lists.{Pairs, all_pairs}

@@ -17,9 +17,9 @@ use Rattle.netlist_rules.specs.FaultNames.{fault_on}
 use Rattle.netlist_rules.specs.declared.fault.FaultKind.TheVariants.{TwoClocks}
 use Rattle.netlist_rules.specs.Clocks.{HasNoClockFault, IsUse, by_cover, by_latch, by_main_output}
 use Rattle.netlist_rules.specs.ModelFaults.{AreFaultless}
-use Rattle.lists.proofs.Members.{In, in_left, in_right, in_map, in_mapped, in_from, contains_from}
-use Rattle.sound_designs.proofs.Sound.{in_got, in_models, wired, in_names_append}
-use Rattle.sound_designs.proofs.Driven.{got_from, names_left}
+use Rattle.lists.proofs.Members.{In, in_left, in_right, in_map, in_mapped, in_from, contains_from, in_got, got_from}
+use Rattle.sound_designs.proofs.Sound.{in_models, wired, in_names_append}
+use Rattle.sound_designs.proofs.Driven.{names_left}
 use Rattle.sound_designs.proofs.OneDriver.{at_most_one_driver}
 use Rattle.sound_designs.proofs.Sources.{have_drivers}
 use Rattle.sound_designs.specs.OneDriver.{of_port, of_cover, of_latch}

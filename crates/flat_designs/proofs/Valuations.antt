@@ -20,9 +20,8 @@ use Rattle.netlist_meaning.proofs.Joined.{in_names_are_one}
 use Rattle.netlist_meaning.proofs.Names.{and_then-from}
 use Rattle.netlist_meaning.proofs.InNames.{root_of_top}
 use Rattle.netlist_rules.specs.ModelFaults.{AreFaultless}
-use Rattle.lists.proofs.Members.{In, in_left, in_right, in_map, in_mapped, in_flat, in_flattened, in_from, contains_from}
-use Rattle.sound_designs.proofs.Sound.{in_got, wired, not_recursive}
-use Rattle.sound_designs.proofs.Driven.{got_from}
+use Rattle.lists.proofs.Members.{In, in_left, in_right, in_map, in_mapped, in_flat, in_flattened, in_from, contains_from, in_got, got_from, map_in}
+use Rattle.sound_designs.proofs.Sound.{wired, not_recursive}
 use Rattle.netlist_core.specs.declared.flat.NetId.{NetId}
 use Rattle.netlist_core.specs.declared.flat.FlatPort.{FlatPort}
 use Rattle.netlist_core.specs.declared.flat.FlatLatch.{FlatLatch}
@@ -33,7 +32,7 @@ use Rattle.netlist_meaning.specs.FlatValuation.{IsFlatValuation, node_value}
 use Rattle.netlist_meaning.specs.InOrder.{of_some, places_in_order}
 use Rattle.netlist_meaning.specs.FlatOf.{id_of, flat_node, flat_latch, flat_port, at_places, PortsWithoutControl, IsFlatOf}
 use Rattle.flat_designs.specs.Laws.{latch_bits_from, state_in_order, bit_of_net, class_bits, net_bits, ValuationsAreFlat}
-use Rattle.flat_designs.proofs.Lists.{map_in, map_flat, flat_same}
+use Rattle.flat_designs.proofs.Lists.{map_flat, flat_same}
 use Rattle.flat_designs.proofs.Listed.{place_is, place_listed}
 use Rattle.flat_designs.proofs.Names.{input_name, cover_name, latch_name, is_net_of, main_port}
 use Rattle.flat_designs.proofs.Classes.{net_there, class_is, joined_class, root_joined, root_is_net}

@@ -24,11 +24,11 @@ use Rattle.lists.proofs.Names.{bytes_eq-same, names_are_equal}
 use Rattle.netlist_meaning.proofs.Depth.{places_are_shallow}
 use Rattle.netlist_rules.specs.Drivers.{is_output_pin}
 use Rattle.netlist_rules.specs.ModelFaults.{AreFaultless}
-use Rattle.lists.proofs.Members.{In, in_left, in_right, in_map, in_mapped, in_flat, in_from, contains_from, distinct_from}
+use Rattle.lists.proofs.Members.{In, in_left, in_right, in_map, in_mapped, in_flat, in_from, contains_from, distinct_from, in_got, got_from}
 use Rattle.netlist_rules.proofs.ModelSteps.{model_of_name}
 use Rattle.netlist_rules.proofs.Faultless.{formals_are_distinct}
-use Rattle.sound_designs.proofs.Sound.{in_got, not_recursive, named_in, in_names_append}
-use Rattle.sound_designs.proofs.Driven.{got_from, name_local}
+use Rattle.sound_designs.proofs.Sound.{not_recursive, named_in, in_names_append}
+use Rattle.sound_designs.proofs.Driven.{name_local}
 use Rattle.sound_designs.proofs.OneDriver.{Local}
 use Rattle.sound_designs.proofs.OneDriver.Local.{by_input, by_cover, by_latch, by_output}
 use Rattle.netlist_core.specs.declared.flat.Node.{Node}

@@ -13,8 +13,8 @@ use Rattle.netlist_meaning.specs.Weight.{weight}
 use Rattle.netlist_meaning.proofs.InNames.{in_names_are_there}
 use Rattle.netlist_meaning.proofs.Joined.{in_names_are_one}
 use Rattle.netlist_rules.specs.ModelFaults.{AreFaultless}
-use Rattle.lists.proofs.Members.{In, in_mapped}
-use Rattle.sound_designs.proofs.Sound.{not_recursive, formals_once, in_got}
+use Rattle.lists.proofs.Members.{In, in_mapped, in_got, map_in}
+use Rattle.sound_designs.proofs.Sound.{not_recursive, formals_once}
 use Rattle.netlist_core.specs.declared.flat.FlatPort.{FlatPort}
 use Rattle.netlist_core.specs.declared.flat.FlatLatch.{FlatLatch}
 use Rattle.netlist_core.specs.declared.flat.Flat.{Flat}
@@ -25,7 +25,7 @@ use Rattle.netlist_meaning.specs.FlatOf.{position_of, id_of, class_of_net, flat_
 use Rattle.netlist_core.specs.declared.flat.Net.{Net as FlatNet}
 use Rattle.flat_designs.specs.Laws.{class_bits, net_bits, state_in_order, FlatIsThere, FlatIsOne, AreMainPorts, HasFlatPorts, PortsAreFlat, DesignsHaveOneValuation, CyclesAreFlat, FlatIsNamed}
 use Rattle.netlist_meaning.specs.Flat.{names_of_ports}
-use Rattle.flat_designs.proofs.Lists.{all_of, map_in, Pairs, all_pairs}
+use Rattle.flat_designs.proofs.Lists.{all_of, Pairs, all_pairs}
 use Rattle.flat_designs.proofs.Ports.{OtherName, inputs_apart, outputs_apart, kept_apart, names_apart}
 use Rattle.flat_designs.proofs.Names.{output_name, clock_name}
 use Rattle.flat_designs.proofs.Classes.{net_there, flat_net_at, class_is}

@@ -1,5 +1,5 @@
 -- Lists that a loop fills, one item after another.
-use Rattle.std.proofs.Common.{ℕ, ◌≡◌, sym, subst, ◌∙◌, ◌+◌, ◌<◌, ◌≤◌, ◌⊎◌, inl, inr, List, [], ◌∷◌, ◌++◌, length, get_or, arith}
+use Rattle.std.proofs.Common.{ℕ, zero, suc, ◌≡◌, refl, sym, subst, ◌∙◌, ◌+◌, ◌<◌, ◌≤◌, ◌⊎◌, inl, inr, List, [], ◌∷◌, ◌++◌, length, get_or, replicate, arith}
 use Rattle.std.proofs.lemmas.Bool.{cases_lt}
 use Rattle.std.proofs.lemmas.List.{get_or_append_left, get_or_push, length_push, get_or_past}
 use Rattle.lists.proofs.Numbers.{less_or_last}
@@ -23,3 +23,9 @@ filled_whole wanted d count xs (long, each) past i = by (cases_lt i count)
     by : (i < count) ⊎ (count ≤ i) → wanted i (get_or xs i d)
     by (inl l) = each i l
     by (inr l) = subst (wanted i) (sym (get_or_past xs i d (subst (λ n. n ≤ i) (sym long) l))) (past i l)
+
+-- equal values hold at each place, and past the end where the value is what stands there
+pub same_throughout : {X : Type 0} (n i : ℕ) (x : X) → get_or (replicate n x) i x ≡ x
+same_throughout zero i x = refl
+same_throughout (suc n) zero x = refl
+same_throughout (suc n) (suc i) x = same_throughout n i x

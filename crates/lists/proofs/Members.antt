@@ -1,8 +1,9 @@
 -- Membership in lists, by cases.
-use Rattle.std.proofs.Common.{◌∙◌, ◌≡◌, refl, sym, ap, subst, ℕ, zero, suc, ◌<◌, ◌⊎◌, inl, inr, List, [], ◌∷◌, ◌++◌, map, length, get_or, Bool, true, false, ◌||◌, arith}
-use Rattle.std.specs.Prelude.{Contains, bytes_eq, flat_map, filter_map, Option, Some, None}
+use Rattle.std.proofs.Common.{◌∙◌, ◌≡◌, refl, sym, ap, ap₂, subst, ℕ, zero, suc, ◌<◌, ◌⊎◌, inl, inr, List, [], ◌∷◌, ◌++◌, map, length, get_or, Bool, true, false, ◌||◌, arith}
+use Rattle.std.specs.Prelude.{Contains, slice_get, bytes_eq, flat_map, filter_map, Option, Some, None}
 use Rattle.std.specs.List.{cons_option, list_any, AllByRecursion, IsDistinct}
 use Rattle.std.proofs.lemmas.Bool.{or_right, or_cases, true≢false}
+use Rattle.std.proofs.lemmas.Option.{none-some, same_Some}
 use Rattle.std.proofs.lemmas.Slice.Eq.{bytes_eq-Decides}
 
 abbrev pub In : {X : Type 0} → X → List X → Type 0
@@ -57,6 +58,28 @@ in_flattened f (z ∷ zs) y i = elim (in_parts (f z) (flat_map f zs) y i) as (λ
   | inl a ↦ (z, inl refl, a)
   | inr b ↦ let r = in_flattened f zs y b in (r.0, inr r.1, r.2)
 ]
+
+-- a member stands at a place
+pub got_from : {X : Type 0} (xs : List X) (x : X) → In x xs → (k : ℕ) × (slice_get xs k ≡ Some x)
+got_from [] x i = absurd i
+got_from (y ∷ ys) x (inl e) = (0, ap Some (sym e))
+got_from (y ∷ ys) x (inr i) = let r = got_from ys x i in (suc r.0, r.1)
+
+pub in_got : {X : Type 0} (xs : List X) (k : ℕ) (x : X) → slice_get xs k ≡ Some x → In x xs
+in_got [] k x e = absurd (none-some x e)
+in_got (y ∷ ys) zero x e = inl (sym (same_Some _ _ e))
+in_got (y ∷ ys) (suc k) x e = inr (in_got ys k x e)
+
+-- what holds of each element
+pub all_in : {X : Type 0} (P : X → Type 0) (xs : List X) (x : X) → AllByRecursion P xs → In x xs → P x
+all_in P [] x a i = absurd i
+all_in P (y ∷ ys) x a (inl e) = subst P (sym e) a.0
+all_in P (y ∷ ys) x a (inr i) = all_in P ys x a.1 i
+
+-- functions that agree on each element
+pub map_in : {X Y : Type 0} (f g : X → Y) (xs : List X) → ((x : X) → In x xs → f x ≡ g x) → map f xs ≡ map g xs
+map_in f g [] same = refl
+map_in f g (x ∷ xs) same = ap₂ (λ y ys. y ∷ ys) (same x (inl refl)) (map_in f g xs (λ y i. same y (inr i)))
 
 -- whether a word is in a list
 pub is_in : (x : List ℕ) (xs : List (List ℕ)) → In x xs ⊎ ¬ (In x xs)

@@ -1,5 +1,5 @@
 -- Steps of the search.
-use Rattle.std.proofs.Common.{◌≡◌, ◌≢◌, refl, sym, ap, subst, ◌∙◌, ℕ, zero, suc, ◌+◌, ◌<◌, ◌≤◌, ◌⊎◌, inl, inr, List, [], ◌∷◌, ◌++◌, set, length, get_or, Option, Some, None, cond, count_by, replicate, arith, ◌*◌}
+use Rattle.std.proofs.Common.{◌≡◌, ◌≢◌, refl, sym, ap, subst, ◌∙◌, ℕ, ◌+◌, ◌<◌, ◌≤◌, ◌⊎◌, inl, inr, List, [], ◌∷◌, ◌++◌, set, length, get_or, Option, Some, None, cond, count_by, replicate, arith, ◌*◌}
 use Rattle.std.specs.Prelude.{is_none}
 use Rattle.std.proofs.lemmas.List.{get_or_append_left, get_or_push, length_push, get_or-set_same, get_or-set_other, length-set, length-replicate, get_or_default}
 use Rattle.std.proofs.lemmas.Option.{none-some, same_Some}
@@ -12,11 +12,7 @@ use Rattle.model_order.specs.Numbers.{number_placed, Places, PlacesSomewhere, Le
 use Rattle.model_circles.specs.declared.search.Search.{Search}
 use Rattle.model_circles.specs.Search.{IsSearch, IsSearchOf, IsFound, StillFound, AreMetBefore, IsMetAs, Meets}
 use Rattle.model_circles.specs.Ways.{LeadsBackBy}
-
-none_in : (m n : ℕ) → get_or (replicate m (let o : Option ℕ = None in o)) n None ≡ None
-none_in zero n = refl
-none_in (suc m) zero = refl
-none_in (suc m) (suc n) = none_in m n
+use Rattle.lists.proofs.Fills.{same_throughout}
 
 all_none : (m : ℕ) → count_by is_none (replicate m (let o : Option ℕ = None in o)) ≡ m
 all_none m = let e : count_by is_none (replicate m (let o : Option ℕ = None in o)) ≡ m * 1 = sum_by-replicate (λ (x : Option ℕ). cond {A = ℕ} (is_none x) 1 0) m None in omega arith
@@ -32,7 +28,7 @@ pub begun : (models : List Model) (first : ℕ) → first < length models → Is
 begun models first l = record {
   fit = length-set empty first (Some 0) ∙ length-replicate (length models) None;
   parents_fit = refl;
-  counted = (let c = placed_once empty first 0 within (none_in (length models) first) in let e = all_none (length models) in omega arith);
+  counted = (let c = placed_once empty first 0 within (same_throughout (length models) first None) in let e = all_none (length models) in omega arith);
   some = omega arith;
   is_first = refl;
   numbers = λ i less. (let e : i ≡ 0 = omega arith in subst (λ v. get_or (first ∷ []) v 0 < length models) (sym e) l);
@@ -53,7 +49,7 @@ begun models first l = record {
         let z : i ≡ 0 = cc in
         (omega arith, subst (λ v. get_or (first ∷ []) v 0 ≡ n) (sym z) (sym same))
     place_of n i e (inr other) =
-        let f : Some i ≡ None = sym e ∙ get_or-set_other empty first n (Some 0) None other ∙ none_in (length models) n in
+        let f : Some i ≡ None = sym e ∙ get_or-set_other empty first n (Some 0) None other ∙ same_throughout (length models) n None in
         absurd (cc)
 
 -- a model that has no place yet takes the next

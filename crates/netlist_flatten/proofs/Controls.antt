@@ -19,10 +19,8 @@ use Rattle.netlist_meaning.specs.FlatOf.{position_of, id_of, class_of_net, flat_
 use Rattle.netlist_meaning.specs.Roots.{root}
 use Rattle.netlist_meaning.proofs.Names.{and_then-from}
 use Rattle.netlist_rules.specs.ModelFaults.{AreFaultless}
-use Rattle.lists.proofs.Members.{In, in_from, in_mapped, contains_from}
+use Rattle.lists.proofs.Members.{In, in_from, in_mapped, contains_from, in_got, got_from}
 use Rattle.lists.proofs.Numbers.{less_or_last}
-use Rattle.sound_designs.proofs.Sound.{in_got}
-use Rattle.sound_designs.proofs.Driven.{got_from}
 use Rattle.flat_designs.proofs.Lists.{in_some_map, all_of}
 use Rattle.flat_designs.proofs.Listed.{net_is}
 use Rattle.flat_designs.proofs.Classes.{net_there, class_joined, joined_class, root_is_net}

@@ -20,9 +20,8 @@ use Rattle.netlist_meaning.specs.FlatOf.{position_of, id_of, class_of_net, flat_
 use Rattle.netlist_meaning.proofs.Names.{and_then-from}
 use Rattle.netlist_meaning.proofs.Depth.{model_at-append}
 use Rattle.netlist_rules.specs.ModelFaults.{AreFaultless}
-use Rattle.lists.proofs.Members.{In, in_from, in_map, in_mapped, contains_from}
-use Rattle.sound_designs.proofs.Sound.{in_got, formals_named}
-use Rattle.sound_designs.proofs.Driven.{got_from}
+use Rattle.lists.proofs.Members.{In, in_from, in_map, in_mapped, contains_from, in_got, got_from}
+use Rattle.sound_designs.proofs.Sound.{formals_named}
 use Rattle.lists.proofs.Ends.{snoc_same}
 use Rattle.flat_designs.proofs.Lists.{in_some_map}
 use Rattle.flat_designs.proofs.Classes.{net_joined}

@@ -10,9 +10,7 @@ use Rattle.netlist_core.specs.Names.{Name}
 use Rattle.netlist_meaning.specs.Places.{Place, model_at}
 use Rattle.netlist_meaning.specs.Nets.{net_at, IsNet}
 use Rattle.netlist_meaning.specs.InOrder.{of_some, places_in_order}
-use Rattle.lists.proofs.Members.{In, in_left, in_right}
-use Rattle.sound_designs.proofs.Sound.{in_got}
-use Rattle.sound_designs.proofs.Driven.{got_from}
+use Rattle.lists.proofs.Members.{In, in_left, in_right, in_got, got_from}
 use Rattle.flat_designs.proofs.Lists.{all_of}
 use Rattle.flat_designs.proofs.Names.{cover_name, latch_name, is_net_of}
 use Rattle.netlist_flatten.specs.Listed.{cover_names, latch_names}

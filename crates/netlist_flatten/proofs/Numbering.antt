@@ -14,8 +14,7 @@ use Rattle.netlist_meaning.specs.InOrder.{of_some, places_in_order, names_in_ord
 use Rattle.netlist_meaning.specs.FlatOf.{position_of}
 use Rattle.netlist_meaning.specs.Weight.{weight}
 use Rattle.netlist_rules.specs.ModelFaults.{AreFaultless}
-use Rattle.lists.proofs.Members.{In, in_from, contains_from}
-use Rattle.sound_designs.proofs.Sound.{in_got}
+use Rattle.lists.proofs.Members.{In, in_from, contains_from, in_got}
 use Rattle.flat_designs.proofs.Lists.{one_place}
 use Rattle.flat_designs.proofs.Listed.{place_is, nets_once, name_listed}
 use Rattle.flat_designs.proofs.Classes.{position_at}

@@ -1,5 +1,5 @@
 -- The two-bit adder of two full adders.
-use Rattle.std.proofs.Common.{ℕ, zero, suc, ◌≡◌, ◌<◌, ◌+◌, ◌++◌, List, [], ◌∷◌, Bool, true, false, cond, Some, slice_get, get_or, map, length, Contains, refl, sym, ap, ◌∙◌, subst, arith, bytes_eq, codes, inl, inr}
+use Rattle.std.proofs.Common.{ℕ, zero, suc, ◌≡◌, ◌+◌, ◌++◌, List, [], ◌∷◌, Bool, true, false, cond, Some, slice_get, get_or, map, length, Contains, refl, sym, ap, ◌∙◌, subst, arith, bytes_eq, codes, inl, inr}
 use Rattle.std.proofs.lemmas.Option.{none-some, same_Some}
 use Rattle.std.specs.List.{AllByRecursion}
 use Rattle.netlist_core.specs.declared.model.Design.{Design}
@@ -20,15 +20,11 @@ use Rattle.netlist_meaning.proofs.Names.{and_then-from}
 use Rattle.netlist_meaning.proofs.SingleModel.{all_in_names}
 use Rattle.netlist_meaning.proofs.Joined.{in_names_are_one, pins_are_enough}
 use Rattle.one_cover.proofs.OneCover.{row_by_row}
+use Rattle.lists.proofs.Members.{in_from, all_in}
 
 -- a fact of each element
 pub each-contains : {X : Type 0} (P : X → Type 0) (xs : List X) (x : X) → AllByRecursion P xs → Contains xs x → P x
-each-contains {X = X} P xs x each (k, lt, is) = go xs each k lt is
-  where
-    go : (ys : List X) → AllByRecursion P ys → (k : ℕ) → k < length ys → get_or ys k x ≡ x → P x
-    go [] each k lt is = absurd (omega arith)
-    go (y ∷ ys) each zero lt is = subst P is each.0
-    go (y ∷ ys) each (suc k) lt is = go ys each.1 k (omega arith) is
+each-contains P xs x each c = all_in P xs x each (in_from xs x c)
 
 -- the adder's places
 data IsAt : Place → Model → Type 0 where

@@ -30,6 +30,7 @@ use Rattle.netlist_meaning.proofs.Joined.{pins_are_enough, no_clock_net-joined}
 use Rattle.netlist_meaning.proofs.Roots.{joined_is_same_root}
 use Rattle.lists.proofs.Appends.{slice_get_push as at_end}
 use Rattle.std.proofs.lemmas.Map.Keys.{any_passes_from_place as any_at}
+use Rattle.lists.proofs.Members.{map_in, got_from}
 
 -- is the name one of these?
 has : List Name → Name → Bool
@@ -100,8 +101,7 @@ use_is_net design line position net (by_main_output {port = port} at) = by_main 
 
 -- lists that a function and another make alike
 map_same : {X Y : Type 0} (f g : X → Y) (xs : List X) → ((k : ℕ) (x : X) → slice_get xs k ≡ Some x → f x ≡ g x) → map f xs ≡ map g xs
-map_same f g [] same = refl
-map_same f g (x ∷ xs) same = ap (λ y. y ∷ map f xs) (same 0 x refl) ∙ ap (λ ys. g x ∷ ys) (map_same f g xs (λ k. same (suc k)))
+map_same f g xs same = map_in f g xs (λ x i. let r = got_from xs x i in same r.0 x r.1)
 
 -- a clock net of the main model that is among its inputs is the control
 clock_input : (design : Design) → NamesFormalsOnce design → (name : Name) → has (main_inputs design) name ≡ true → IsClockNet design (net_at [] name) → IsControl design (net_at [] name)

@@ -17,13 +17,13 @@ use Rattle.netlist_meaning.specs.Flat.{class_of, name_of_net, IsNetId, no_net}
 use Rattle.netlist_meaning.specs.FlatOrder.{IsFirstOfClass, IsNetLoop}
 use Rattle.netlist_rules.specs.ModelFaults.{AreFaultless}
 use Rattle.netlist_rules.specs.Clocks.{HasNoClockFault}
-use Rattle.sound_designs.proofs.Sound.{in_got}
 use Rattle.flat_designs.specs.Laws.{net_of_class}
 use Rattle.flat_designs.proofs.Lists.{one_place}
 use Rattle.flat_designs.proofs.Listed.{net_is, nets_once}
 use Rattle.flat_designs.proofs.Classes.{net_there, flat_net_at, firsts_are_roots}
 use Rattle.flat_designs.proofs.Loops.{loops_are_flat}
 use Rattle.netlist_text.specs.NetlistText.{IsLight, HasLoop}
+use Rattle.lists.proofs.Members.{in_got}
 
 -- what is known of a net that is the first of its class: its own root, at its class's number
 pub record First (design : Design) (flat : Flat) (id : NetId) : Type 0 where

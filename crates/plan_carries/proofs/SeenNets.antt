@@ -25,9 +25,9 @@ use Rattle.netlist_rules.specs.FaultNames.{fault_on}
 use Rattle.netlist_rules.specs.declared.fault.FaultKind.TheVariants.{TwoClocks}
 use Rattle.netlist_rules.specs.ModelFaults.{AreFaultless}
 use Rattle.netlist_rules.specs.Clocks.{HasNoClockFault, HasOneClock, two_clocks}
-use Rattle.lists.proofs.Members.{In}
+use Rattle.lists.proofs.Members.{In, map_in}
 use Rattle.flat_designs.specs.Laws.{bit_of_net, class_bits}
-use Rattle.flat_designs.proofs.Lists.{all_of, all_pairs, map_in, pairs_map}
+use Rattle.flat_designs.proofs.Lists.{all_of, all_pairs, pairs_map}
 use Rattle.flat_designs.proofs.Listed.{net_is, nets_once}
 use Rattle.flat_designs.proofs.Classes.{class_is}
 use Rattle.flat_designs.proofs.Clocks.{clock_class}

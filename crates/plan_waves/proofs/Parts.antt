@@ -12,7 +12,7 @@ use Rattle.tiling.specs.Tiling.Slot.{Nothing, Whole}
 use Rattle.lane_core.specs.declared.plan.Plan.{Plan}
 use Rattle.lane_core.specs.Plans.{IsAdmissible}
 use Rattle.lane_core.specs.Entering.{first_loop_lane}
-use Rattle.plan_layout.specs.Layout.{turn_slot, return_slot, end_of_body, upper_left, in_body, upper_right, lower_left, on_return, lower_right, by_column, tiling_of}
+use Rattle.plan_layout.specs.Layout.{turn_slot, return_slot, end_of_body, upper_left, in_body, upper_right, lower_left, on_return, lower_right, tiling_of}
 use Rattle.plan_layout.proofs.Matched.{tiling_of-upper, tiling_of-lower}
 use Rattle.plan_layout.proofs.Columns.{by_column-left}
 use Rattle.plan_layout.proofs.Columns.{by_column-middle}

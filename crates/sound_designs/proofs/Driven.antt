@@ -1,5 +1,5 @@
 -- Each net has a driver.
-use Rattle.std.proofs.Common.{◌≡◌, refl, sym, ap, subst, ◌∙◌, ℕ, suc, ◌⊎◌, inl, inr, List, [], ◌∷◌, ◌++◌, map, Bool, true, false, not, ◌||◌, true≢false, slice_get}
+use Rattle.std.proofs.Common.{◌≡◌, refl, sym, ap, subst, ◌∙◌, ℕ, ◌⊎◌, inl, inr, List, [], ◌∷◌, ◌++◌, map, Bool, true, false, not, ◌||◌, true≢false, slice_get}
 use Rattle.std.specs.Prelude.{Some, Option, flat_map, option_to_list}
 use Rattle.std.specs.Bool.{then_some}
 use Rattle.std.proofs.lemmas.Option.{none-some, same_Some}
@@ -14,16 +14,11 @@ use Rattle.netlist_meaning.specs.Nets.{model_names}
 use Rattle.netlist_rules.specs.declared.fault.FaultKind.TheVariants.{Undriven}
 use Rattle.netlist_rules.specs.Drivers.{is_input_pin, is_output_pin, is_unknown_pin, stands_earlier, firsts_after, inputs_of, cover_output, latch_output, cover_readings, latch_readings, actual_if, actuals_on, actuals, drivers_of, readings_of}
 use Rattle.netlist_rules.specs.ModelFaults.{AreFaultless, unless_named}
-use Rattle.lists.proofs.Members.{In, in_left, in_right, in_parts, in_mapped, in_map, in_flat, in_flattened, in_filtered, filtered_in}
-use Rattle.sound_designs.proofs.Sound.{in_got, named_in, clean_of, known}
+use Rattle.lists.proofs.Members.{In, in_left, in_right, in_parts, in_mapped, in_map, in_flat, in_flattened, in_filtered, filtered_in, in_got, got_from}
+use Rattle.sound_designs.proofs.Sound.{named_in, clean_of, known}
 use Rattle.sound_designs.proofs.OneDriver.{Local}
 use Rattle.sound_designs.proofs.OneDriver.Local.{by_input, by_cover, by_latch, by_output}
 use Rattle.netlist_rules.proofs.Faultless.{port_name}
-
-pub got_from : {X : Type 0} (xs : List X) (x : X) → In x xs → (k : ℕ) × (slice_get xs k ≡ Some x)
-got_from [] x i = absurd i
-got_from (y ∷ ys) x (inl e) = (0, ap Some (sym e))
-got_from (y ∷ ys) x (inr i) = let r = got_from ys x i in (suc r.0, r.1)
 
 pub names_left : (ps qs : List Port) (name : List ℕ) → In name (port_names ps) → In name (port_names (ps ++ qs))
 names_left [] qs name i = absurd i

@@ -27,16 +27,16 @@ use Rattle.netlist_meaning.proofs.Names.{and_then-from}
 use Rattle.netlist_rules.specs.declared.fault.FaultKind.TheVariants.{DuplicatePort}
 use Rattle.netlist_rules.specs.Drivers.{stands_earlier, repeats_after}
 use Rattle.netlist_rules.specs.ModelFaults.{AreFaultless, doubles_after, is_output_before, is_input_by_then, duplicate_ports}
-use Rattle.lists.proofs.Members.{is_distinct, In, in_from, contains_from, in_left, in_right, is_in, in_flat, in_map, Distinct}
+use Rattle.lists.proofs.Members.{is_distinct, In, in_from, contains_from, in_left, in_right, is_in, in_flat, in_map, Distinct, in_got, got_from}
 use Rattle.sound_designs.specs.Laws.{FaultlessHaveDistinctPorts}
 use Rattle.sound_designs.specs.OneDriver.{Driver, Drives}
 use Rattle.sound_designs.specs.OneDriver.Driver.{port, cover, latch}
 use Rattle.sound_designs.specs.OneDriver.Drives.{of_port, of_cover, of_latch}
 use Rattle.sound_designs.specs.Order.{CoverAt, IsCoverAt, IsCoverOrder, OrderedHaveAValuation}
-use Rattle.sound_designs.proofs.Sound.{in_got, in_models, formals_named, clean_of}
+use Rattle.sound_designs.proofs.Sound.{in_models, formals_named, clean_of}
 use Rattle.sound_designs.proofs.Local.{Apart, no_repeat}
 use Rattle.sound_designs.proofs.OneDriver.{at_most_one_driver}
-use Rattle.sound_designs.proofs.Driven.{got_from, names_left}
+use Rattle.sound_designs.proofs.Driven.{names_left}
 use Rattle.sound_designs.proofs.Sources.{have_drivers}
 use Rattle.lists.proofs.Bools.{or_false_left as first_of}
 use Rattle.lists.proofs.Appends.{append_nil_left as none_left, append_nil_right as none_right}

@@ -8,11 +8,10 @@ use Rattle.std.proofs.lemmas.Option.{none-some, same_Some}
 use Rattle.std.proofs.lemmas.Bool.{leb-false, ltb-false}
 use Rattle.netlist_core.specs.declared.model.Port.{Port}
 use Rattle.netlist_rules.specs.Drivers.{same_name_up_to, same_name_before, stands_earlier, repeats_after, repeats}
-use Rattle.lists.proofs.Members.{In, in_left, in_right, filtered_in as in_filter, in_map, in_flat}
+use Rattle.lists.proofs.Members.{In, in_left, in_right, filtered_in as in_filter, in_map, in_flat, in_got}
 use Rattle.lists.proofs.Bools.{or_false_left as first_of, or_false_right as second_of}
 use Rattle.lists.proofs.Appends.{append_nil_left as none_left, append_nil_right as none_right}
 use Rattle.netlist_rules.proofs.Faultless.{none_kept}
-use Rattle.sound_designs.proofs.Sound.{in_got}
 
 pub not_any : {X : Type 0} (test : X → Bool) (xs : List X) (x : X) → list_any test xs ≡ false → In x xs → test x ≡ false
 not_any test [] x e i = absurd i

@@ -25,7 +25,7 @@ use Rattle.netlist_rules.specs.Drivers.{has_input, has_output, is_input_pin, is_
 use Rattle.netlist_rules.specs.ModelFaults.{AreFaultless, words_at_fault, missing_model, unplaced, unknown_formals, is_portless, lacks_port, formal_if}
 use Rattle.netlist_rules.proofs.FirstModelFaults.{no_model_fault}
 use Rattle.netlist_rules.specs.Circles.{HasSubcktOf, Leads}
-use Rattle.lists.proofs.Members.{In, in_from, contains_from, Distinct, distinct_from, in_map, in_left, in_right, filtered_in}
+use Rattle.lists.proofs.Members.{In, in_from, contains_from, Distinct, distinct_from, in_map, in_left, in_right, filtered_in, in_got}
 use Rattle.netlist_rules.proofs.ModelSteps.{model_of_name}
 use Rattle.netlist_rules.proofs.Faultless.{no_model_is_in_itself, formals_are_distinct}
 use Rattle.sound_designs.specs.Laws.{FaultlessAreNotRecursive, FaultlessNameFormalsOnce, FaultlessAreWired}
@@ -45,11 +45,6 @@ found_first (x ∷ xs) m e =
 
 found_again : (models : List Model) (name : List ℕ) (m : Model) → model_named models name ≡ Some m → IsFound models m
 found_again models name m e = subst (λ v. model_named models v ≡ Some m) (sym (model_of_name models name m e).1) e
-
-pub in_got : {X : Type 0} (xs : List X) (k : ℕ) (x : X) → slice_get xs k ≡ Some x → In x xs
-in_got [] k x e = absurd (none-some x e)
-in_got (y ∷ ys) zero x e = inl (sym (same_Some _ _ e))
-in_got (y ∷ ys) (suc k) x e = inr (in_got ys k x e)
 
 -- a line of that number, with the model that it places
 record Places (design : Design) (outer : Model) (number : ℕ) (inner : Model) : Type 0 where

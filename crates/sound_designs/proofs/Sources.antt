@@ -20,11 +20,11 @@ use Rattle.netlist_meaning.proofs.Depth.{model_at-append, places_are_shallow}
 use Rattle.netlist_rules.specs.declared.fault.FaultKind.TheVariants.{DuplicatePort, PinMissing}
 use Rattle.netlist_rules.specs.Drivers.{is_input_pin, is_output_pin, same_name_up_to, same_name_before, stands_earlier}
 use Rattle.netlist_rules.specs.ModelFaults.{AreFaultless, unless_named, doubles_after, is_output_before, is_input_by_then, duplicate_ports, formals_of, unpinned_inputs, earliest, missing_pin, on_line}
-use Rattle.lists.proofs.Members.{In, in_from, contains_from, in_left, in_right, in_parts, in_mapped, in_map, in_flat, filtered_in}
+use Rattle.lists.proofs.Members.{In, in_from, contains_from, in_left, in_right, in_parts, in_mapped, in_map, in_flat, filtered_in, in_got}
 use Rattle.sound_designs.specs.OneDriver.{Driver, Drives, FaultlessHaveDrivers}
 use Rattle.sound_designs.specs.OneDriver.Driver.{port, cover, latch}
 use Rattle.sound_designs.specs.OneDriver.Drives.{of_port, of_cover, of_latch}
-use Rattle.sound_designs.proofs.Sound.{in_got, in_models, named_in, not_recursive, clean_of}
+use Rattle.sound_designs.proofs.Sound.{in_models, named_in, not_recursive, clean_of}
 use Rattle.sound_designs.proofs.Local.{not_any, not_up_to, not_before}
 use Rattle.sound_designs.proofs.OneDriver.{Local, Reaches, drivers_apart, input_pin}
 use Rattle.sound_designs.proofs.OneDriver.Local.{by_input, by_cover, by_latch, by_output}

@@ -1,10 +1,10 @@
 -- What a line without a fault has, in a text.
-use Rattle.std.proofs.Common.{ℕ, zero, suc, ◌≡◌, ◌≢◌, ◌==◌, ◌-◌, refl, sym, ap, subst, ◌∙◌, inl, inr, List, [], ◌∷◌, Bool, true, false, ◌||◌, cond, length, take, drop, codes, arith, true≢false}
+use Rattle.std.proofs.Common.{ℕ, zero, suc, ◌≡◌, ◌≢◌, ◌==◌, ◌-◌, refl, sym, ap, ◌∙◌, inl, inr, List, [], ◌∷◌, Bool, true, false, ◌||◌, cond, length, take, drop, codes, arith, true≢false}
 use Rattle.std.specs.Prelude.{Option, Some, None, find}
 use Rattle.std.specs.List.{AllByRecursion, list_any}
 use Rattle.std.proofs.lemmas.Bool.{or_parts, or_left}
 use Rattle.std.proofs.lemmas.List.{get_or_default}
-use Rattle.lists.proofs.Members.{In, in_from}
+use Rattle.lists.proofs.Members.{In, in_from, all_in}
 use Rattle.netlist_rules.specs.declared.fault.FaultKind.TheVariants.{NoModelYet, BadCount, BadPin, AfterEnd}
 use Rattle.lists.proofs.Bools.{and_false_right as other_fails}
 use Rattle.blif_text.specs.declared.logical.Logical.{Logical}
@@ -17,11 +17,6 @@ use Rattle.text_names.specs.TextNames.{IsNameWord}
 use Rattle.text_names.proofs.Newlines.{IsOneLine, HasOneLineWords}
 
 -- parts of lists
-pub all_in : {X : Type 0} (P : X → Type 0) (xs : List X) (x : X) → AllByRecursion P xs → In x xs → P x
-all_in P [] x a i = absurd i
-all_in P (y ∷ ys) x a (inl e) = subst P (sym e) a.0
-all_in P (y ∷ ys) x a (inr i) = all_in P ys x a.1 i
-
 pub all_taken : {X : Type 0} (P : X → Type 0) (n : ℕ) (xs : List X) → AllByRecursion P xs → AllByRecursion P (take n xs)
 all_taken P zero [] a = tt
 all_taken P zero (x ∷ xs) a = tt

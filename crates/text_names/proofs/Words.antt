@@ -5,7 +5,7 @@ use Rattle.std.specs.Bool.{then_some}
 use Rattle.std.specs.List.{AllByRecursion, after_first, before_first}
 use Rattle.std.proofs.lemmas.Bool.{or_parts}
 use Rattle.std.proofs.lemmas.Option.{same_Some, none-some}
-use Rattle.lists.proofs.Members.{In, in_from, in_parts, in_mapped, in_flattened, in_filtered}
+use Rattle.lists.proofs.Members.{In, in_from, in_parts, in_mapped, in_flattened, in_filtered, all_in}
 use Rattle.netlist_core.specs.declared.model.Port.{Port}
 use Rattle.netlist_core.specs.declared.model.Pin.{Pin}
 use Rattle.netlist_core.specs.declared.model.Cover.{Cover}
@@ -21,7 +21,7 @@ use Rattle.blif_text.specs.Models.{operands, has_directive, begins_model, stays_
 use Rattle.blif_text.specs.LineFaults.{is_empty}
 use Rattle.blif_text.proofs.LineNumbers.{lines_have_words}
 use Rattle.text_names.specs.TextNames.{IsNameWord, NamesAreWords, NetsAreWords}
-use Rattle.text_names.proofs.Lines.{Clean, all_in, all_taken, in_drop, in_take, in_last, none_dropped, clean_after}
+use Rattle.text_names.proofs.Lines.{Clean, all_taken, in_drop, in_take, in_last, none_dropped, clean_after}
 use Rattle.text_names.proofs.Newlines.{lines_have_one_line_words}
 
 some_given : {X : Type 0} (b : Bool) (x y : X) → then_some b x ≡ Some y → (b ≡ true) × (x ≡ y)
