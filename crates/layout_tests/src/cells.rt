@@ -3,6 +3,11 @@ use cell_core::{Cell, CellList, Src};
 use lists::List;
 use std::test::Fail;
 
+const ADDED: [Cell; 2] = [
+    Cell::Or(Src::Input(0), Src::Zero),
+    Cell::AndNot(Src::One, Src::Cell(0)),
+];
+
 #[test]
 fn cells_are_added_at_the_end(rt: HostRuntime) -> Result<(), Fail> {
     let alloc = rt.alloc();
@@ -15,16 +20,9 @@ fn cells_are_added_at_the_end(rt: HostRuntime) -> Result<(), Fail> {
         nets: List::of(Vec::new(alloc)),
     };
     list.push(alloc, Cell::Or(Src::Input(0), Src::Zero))?;
-    assert_eq!(rt; list.names_one(), false);
+    let named_at_first = list.names_one();
     list.push(alloc, Cell::AndNot(Src::One, Src::Cell(0)))?;
-    assert_eq!(rt; list.names_one(), true);
-    assert_eq!(rt;
-        list.cells.as_slice(),
-        [
-            Cell::Or(Src::Input(0), Src::Zero),
-            Cell::AndNot(Src::One, Src::Cell(0))
-        ]
-        .as_slice()
-    );
+    assert_eq!(rt; (named_at_first, list.names_one()), (false, true));
+    assert_eq!(rt; list.cells.as_slice(), ADDED.as_slice());
     Ok(())
 }

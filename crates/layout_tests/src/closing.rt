@@ -92,9 +92,9 @@ fn three_columns(alloc: Global) -> Result<Program, AllocError>
     Ok(Program {
         lanes: 4,
         instrs: List::of(vec![in alloc; Instr::Swap(0), Instr::Fork(1), Instr::Or(0)]?),
-        ins: List::of(vec![in alloc; 0]?),
+        ins: List::of(Vec::new(alloc)),
         latches: List::of(vec![in alloc; false, true]?),
-        outs: List::of(vec![in alloc; 1]?),
+        outs: List::of(Vec::new(alloc)),
         nets: List::of(Vec::new(alloc)),
     })
 }

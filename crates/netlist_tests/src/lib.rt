@@ -1,10 +1,12 @@
-//! Tests of the public calls of crates that read and map netlists.
+//! Tests of the public calls of crates that read, weigh and map netlists.
 #![tactic(auto)]
 
 #[cfg(test)]
 mod checks;
 #[cfg(test)]
 mod circles;
+#[cfg(test)]
+mod cover_values;
 #[cfg(test)]
 mod covers;
 #[cfg(test)]
@@ -13,3 +15,7 @@ mod logical_lines;
 mod made;
 #[cfg(test)]
 mod models;
+#[cfg(test)]
+mod rule_names;
+#[cfg(test)]
+mod weights;

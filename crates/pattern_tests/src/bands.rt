@@ -103,47 +103,53 @@ fn answers_are_right(bands: &mut Bands, calls: &[(usize, Answer)]) -> bool
     are_right
 }
 
+const OK: Answer = Answer::Moved;
+
+// What the band below waits for, and what the middle one does.
+const BEHIND_MIDDLE: Answer = Answer::NotReady {
+    neighbour: 1,
+    generation: 0,
+};
+
+const BEHIND_BOTTOM: Answer = Answer::NotReady {
+    neighbour: 2,
+    generation: 0,
+};
+
+// Calls with their answers, and the column's cells after them.
+const ORDERS: &[(&[(usize, Answer)], [u8; 3])] = &[
+    (
+        &[(2, OK), (2, BEHIND_MIDDLE), (3, Answer::NoSuchBand)],
+        *b"ACC",
+    ),
+    (&[(1, OK), (0, OK), (2, OK), (2, OK)], *b"BAA"),
+    (&[(2, OK), (1, OK), (0, OK), (2, OK)], *b"BAA"),
+    (
+        &[
+            (0, OK),
+            (0, BEHIND_MIDDLE),
+            (1, OK),
+            (1, BEHIND_BOTTOM),
+            (2, OK),
+            (2, OK),
+            (0, OK),
+            (1, OK),
+            (2, OK),
+        ],
+        *b"CBB",
+    ),
+];
+
 #[test]
 fn bands_advance_in_any_order(rt: HostRuntime) -> Result<(), Fail> {
     let alloc = rt.alloc();
-    let ok = Answer::Moved;
-    let cases: [(&[(usize, Answer)], &[u8; 3]); 4] = [
-        (
-            &[(2, ok), (2, behind(1, 0)), (3, Answer::NoSuchBand)],
-            b"ACC",
-        ),
-        (&[(1, ok), (0, ok), (2, ok), (2, ok)], b"BAA"),
-        (&[(2, ok), (1, ok), (0, ok), (2, ok)], b"BAA"),
-        (
-            &[
-                (0, ok),
-                (0, behind(1, 0)),
-                (1, ok),
-                (1, behind(2, 0)),
-                (2, ok),
-                (2, ok),
-                (0, ok),
-                (1, ok),
-                (2, ok),
-            ],
-            b"CBB",
-        ),
-    ];
-    for (calls, [top, middle, bottom]) in cases {
+    for (calls, cells) in ORDERS {
         let mut bands = Bands::new(alloc, column(alloc, [A, C, C])?, Vec::new(alloc), 1)?;
         assert!(rt; answers_are_right(&mut bands, calls));
-        assert_eq!(rt;
-            shown_row(alloc, &bands, 1, 1, 0)?.as_slice(),
-            [*top].as_slice()
-        );
-        assert_eq!(rt;
-            shown_row(alloc, &bands, 1, 1, 1)?.as_slice(),
-            [*middle].as_slice()
-        );
-        assert_eq!(rt;
-            shown_row(alloc, &bands, 1, 1, 2)?.as_slice(),
-            [*bottom].as_slice()
-        );
+        for y in 0..3 {
+            let row = shown_row(alloc, &bands, 1, 1, y)?;
+            assert_eq!(rt; row.as_slice(), &cells[y as usize..y as usize + 1]);
+        }
     }
     Ok(())
 }

@@ -10,6 +10,3 @@ pub use fakes::{FakeError, MemSink, MemSource};
 pub use standard::{StdSink, StdSource};
 pub use streams::{Failed, Sink, Source};
 pub use whole::{ReadAllError, read_all, write_all};
-
-#[cfg(test)]
-mod tests;

@@ -1,7 +1,7 @@
 // Sources and sinks in memory, call by call, and the adapters over a real stream.
-use crate::{Failed, MemSink, MemSource, ReadAllError, StdSink, StdSource, read_all, write_all};
 use std::io::pipe;
 use std::test::Fail;
+use ww_base::{Failed, MemSink, MemSource, ReadAllError, StdSink, StdSource, read_all, write_all};
 
 // An OR gate's text: 61 bytes.
 const TEXT: &[u8] = b".model or\n.inputs a b\n.outputs y\n.names a b y\n1- 1\n-1 1\n.end\n";
