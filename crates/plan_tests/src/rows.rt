@@ -182,13 +182,9 @@ fn small_circuits_do_what_they_say(rt: HostRuntime) -> Result<(), Fail> {
     for case in &CASES {
         let list = list_of(alloc, &case.list)?;
         let plan = plan_of(alloc, &list)?;
-        assert_eq!(rt; agrees_for_all(alloc, &list, &plan)?, true, "{}", case.name);
-        assert_eq!(rt;
-            plays(alloc, &plan, case.cycles, case.ins, case.outs)?,
-            true,
-            "{}",
-            case.name
-        );
+        let agreed = agrees_for_all(alloc, &list, &plan)?;
+        let played = plays(alloc, &plan, case.cycles, case.ins, case.outs)?;
+        assert_eq!(rt; (agreed, played), (true, true), "{}", case.name);
     }
     Ok(())
 }
