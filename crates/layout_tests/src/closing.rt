@@ -1,8 +1,9 @@
 // Worked values: plans of small programs.
-ghost use Rattle.std.specs.Prelude.{◌≡◌, IfOk, length};
+ghost use Rattle.std.specs.Prelude.{◌≡◌, ◌<◌, ◌^◌, IfOk, length};
+ghost use Rattle.lane_core.specs.Plans.{IsAdmissible};
 
 use column_packer::pack;
-use lane_core::{Instr, NetPlace, Program, latency, period};
+use lane_core::{Instr, NetPlace, Plan, Program, latency, period};
 use latch_loops::close;
 use lists::List;
 use std::alloc::{AllocError, Global};
@@ -10,8 +11,7 @@ use std::test::Fail;
 
 // Three columns; net 1 names an instruction that does not work on its lane, and net 2 a lane before its first use.
 fn five_lanes(alloc: Global) -> Result<Program, AllocError>
-    ensures instrs { IfOk result (λ p. length p.instrs ≡ 5) }
-    ensures nets { IfOk result (λ p. length p.nets ≡ 4) }
+    ensures { IfOk result (λ p. length p.instrs ≡ 5) }
 {
     Ok(Program {
         lanes: 5,
@@ -48,8 +48,7 @@ fn five_lanes(alloc: Global) -> Result<Program, AllocError>
 
 // Two loops and no instruction.
 fn bare(alloc: Global) -> Result<Program, AllocError>
-    ensures instrs { IfOk result (λ p. length p.instrs ≡ 0) }
-    ensures latches { IfOk result (λ p. length p.latches ≡ 2) }
+    ensures { IfOk result (λ p. length p.instrs ≡ 0) }
 {
     Ok(Program {
         lanes: 2,
@@ -61,33 +60,58 @@ fn bare(alloc: Global) -> Result<Program, AllocError>
     })
 }
 
+// The plan of a program.
+fn closed(alloc: Global, program: &Program) -> Result<Plan, Fail>
+    requires { length program.now.instrs < 2 ^ 40 }
+    ensures { IfOk result IsAdmissible }
+{
+    let columns = pack(alloc, program)?;
+    Ok(close(alloc, columns, program)?)
+}
+
+// Where the nets of the five lanes are found.
+const FIVE_LANES_PLACES: &[NetPlace] = &[
+    NetPlace {
+        lane: 0,
+        after: Some(2),
+    },
+    NetPlace {
+        lane: 0,
+        after: Some(0),
+    },
+    NetPlace {
+        lane: 4,
+        after: None,
+    },
+    NetPlace {
+        lane: 3,
+        after: None,
+    },
+];
+
 #[test]
 fn places_are_those_of_last_uses(rt: HostRuntime) -> Result<(), Fail> {
-    let program = five_lanes(rt.alloc())?;
-    let columns = pack(rt.alloc(), &program)?;
-    let plan = close(rt.alloc(), columns, &program)?;
-    assert_eq!(rt; plan.columns.len(), 3);
-    assert_eq!(rt; plan.nets.get(0).after, Some(2));
-    assert_eq!(rt; plan.nets.get(1).after, Some(0));
-    assert_eq!(rt; plan.nets.get(2).after, None);
-    assert_eq!(rt; plan.nets.get(3).after, None);
+    let plan = closed(rt.alloc(), &five_lanes(rt.alloc())?)?;
+    assert_eq!(rt;
+        (plan.columns.len(), plan.nets.as_slice()),
+        (3, FIVE_LANES_PLACES)
+    );
     Ok(())
 }
 
 #[test]
 fn there_are_as_many_columns_as_loops(rt: HostRuntime) -> Result<(), Fail> {
-    let program = bare(rt.alloc())?;
-    let columns = pack(rt.alloc(), &program)?;
-    let plan = close(rt.alloc(), columns, &program)?;
-    assert_eq!(rt; plan.columns.len(), 2);
-    assert_eq!(rt; plan.latches, 2);
-    assert!(rt; *plan.starts.get(0));
+    let plan = closed(rt.alloc(), &bare(rt.alloc())?)?;
+    assert_eq!(rt;
+        (plan.columns.len(), plan.latches, plan.starts.as_slice()),
+        (2, 2, [true, false].as_slice())
+    );
     Ok(())
 }
 
 // Two loops and three columns.
 fn three_columns(alloc: Global) -> Result<Program, AllocError>
-    ensures instrs { IfOk result (λ p. length p.instrs ≡ 3) }
+    ensures { IfOk result (λ p. length p.instrs ≡ 3) }
 {
     Ok(Program {
         lanes: 4,
@@ -101,11 +125,10 @@ fn three_columns(alloc: Global) -> Result<Program, AllocError>
 
 #[test]
 fn loops_take_each_column_twice(rt: HostRuntime) -> Result<(), Fail> {
-    let program = three_columns(rt.alloc())?;
-    let columns = pack(rt.alloc(), &program)?;
-    let plan = close(rt.alloc(), columns, &program)?;
-    assert_eq!(rt; plan.columns.len(), 3);
-    assert_eq!(rt; latency(&plan), 96);
-    assert_eq!(rt; period(&plan), 448);
+    let plan = closed(rt.alloc(), &three_columns(rt.alloc())?)?;
+    assert_eq!(rt;
+        (plan.columns.len(), latency(&plan), period(&plan)),
+        (3, 96, 448)
+    );
     Ok(())
 }

@@ -1,11 +1,14 @@
 // An OR gate in letters, and a circuit and a loop run by the rule alone.
-ghost use Rattle.std.specs.Prelude.{◌≡◌, ◌<◌, IfOk};
+ghost use Rattle.std.specs.Prelude.{◌≡◌, ◌<◌, IsTrue, IfOk, length};
+ghost use Rattle.lane_core.specs.Instrs.{are_sorted_apart};
 ghost use Rattle.lane_core.specs.Plans.{IsAdmissible};
 ghost use Rattle.macro_grid.specs.Edges.{IsEdgesOf, lit_of};
 ghost use Rattle.plan_layout.specs.Layout.{tiling_of};
 ghost use Rattle.macro_grid.specs.Planes.{IsDrawnAfter32};
 ghost use Rattle.tile_library.specs.Drawings.{shipped_drawing};
 
+use crate::macro_steps::are_dark;
+use crate::plans::{admitted, or_plan};
 use grid_assembly::laws::keeps_law;
 use grid_assembly::{cell, fill_row, size};
 use lane_core::{Column, Instr, Plan, in_cell, out_cell, period, run_columns};
@@ -37,23 +40,6 @@ const OR_ROWS: [[u8; 33]; 17] = [
     *b"CCCCC..........................C.",
 ];
 
-fn or_plan(alloc: Global) -> Result<Plan, AllocError>
-    ensures { IfOk result IsAdmissible }
-{
-    let or = Column {
-        instrs: List::of(vec![in alloc; Instr::Or(0)]?),
-    };
-    Ok(Plan {
-        lanes: 2,
-        columns: List::of(vec![in alloc; or]?),
-        latches: 0,
-        starts: List::of(Vec::new(alloc)),
-        ins: List::of(vec![in alloc; 0, 1]?),
-        outs: List::of(vec![in alloc; 0]?),
-        nets: List::of(Vec::new(alloc)),
-    })
-}
-
 // A macro step is 32 generations of the plane in the shipped drawings.
 fn step_shipped(plan: &Plan, old: &Edges, new: &mut Edges)
     requires admissible { IsAdmissible plan.now }
@@ -73,18 +59,20 @@ fn is_letter(state: State, letter: u8) -> bool {
     }
 }
 
+// Cells of the Or.
+const OR_CELLS: [(u64, u64, State); 5] = [
+    (5, 8, State::Empty),
+    (32, 8, State::Conductor),
+    (31, 24, State::Conductor),
+    (33, 8, State::Empty),
+    (0, 40, State::Empty),
+];
+
 #[test]
 fn an_or_has_its_cells(rt: HostRuntime) -> Result<(), Fail> {
     let plan = or_plan(rt.alloc())?;
     assert_eq!(rt; size(&plan), (33, 32));
-    let table = [
-        (5, 8, State::Empty),
-        (32, 8, State::Conductor),
-        (31, 24, State::Conductor),
-        (33, 8, State::Empty),
-        (0, 40, State::Empty),
-    ];
-    for (x, y, state) in table {
+    for (x, y, state) in OR_CELLS {
         assert_eq!(rt; cell(&plan, x, y), state, "at {x}, {y}");
     }
     Ok(())
@@ -118,35 +106,39 @@ fn dark_edges_stay_dark(rt: HostRuntime) -> Result<(), Fail> {
     let start = Edges::start(rt.alloc(), &plan)?;
     let mut after = Edges::start(rt.alloc(), &plan)?;
     step_shipped(&plan, &start, &mut after);
-    for column in 0..3 {
-        for lane in 0..3 {
-            assert!(rt; !start.beside(column, lane) && !start.above(column, lane));
-            assert!(rt; !after.beside(column, lane) && !after.above(column, lane));
-        }
-    }
+    assert_eq!(rt; (are_dark(&start), are_dark(&after)), (true, true));
     Ok(())
+}
+
+// The columns, and one more of these instructions.
+fn with_column(
+    alloc: Global,
+    columns: Vec<Column>,
+    instrs: &[Instr],
+) -> Result<Vec<Column>, AllocError>
+    requires { IsTrue (are_sorted_apart instrs.now) }
+{
+    let mut columns = columns;
+    columns.push(Column {
+        instrs: List::of(instrs.to_vec(alloc)?),
+    })?;
+    Ok(columns)
 }
 
 // The columns of a circuit of five lanes, with each instruction in one of them.
 fn circuit_columns(alloc: Global) -> Result<List<Column>, AllocError> {
-    let copies = Column {
-        instrs: List::of(vec![in alloc; Instr::Fork(0), Instr::Fork(2)]?),
-    };
-    let crossing = Column {
-        instrs: List::of(vec![in alloc; Instr::Swap(1), Instr::AndNot(3)]?),
-    };
-    let gates = Column {
-        instrs: List::of(vec![in alloc; Instr::Xor(0), Instr::Or(2)]?),
-    };
-    let last = Column {
-        instrs: List::of(vec![in alloc; Instr::Swap(1)]?),
-    };
-    Ok(List::of(vec![in alloc; copies, crossing, gates, last]?))
+    let copies = with_column(alloc, Vec::new(alloc), &[Instr::Fork(0), Instr::Fork(2)])?;
+    let crossing = with_column(alloc, copies, &[Instr::Swap(1), Instr::AndNot(3)])?;
+    let gates = with_column(alloc, crossing, &[Instr::Xor(0), Instr::Or(2)])?;
+    let all = with_column(alloc, gates, &[Instr::Swap(1)])?;
+    Ok(List::of(all))
 }
 
 // The circuit with an input on every other lane, and an output on every lane.
 fn circuit(alloc: Global) -> Result<Plan, AllocError>
-    ensures { IfOk result (λ plan. plan.lanes ≡ 5) }
+    ensures lanes { IfOk result (λ plan. plan.lanes ≡ 5) }
+    ensures ins { IfOk result (λ plan. length plan.ins ≡ 3) }
+    ensures outs { IfOk result (λ plan. length plan.outs ≡ 5) }
 {
     Ok(Plan {
         lanes: 5,
@@ -202,19 +194,56 @@ fn is_head(plane: &Plane, x: u64, y: u64) -> bool {
     plane.rows.row_or_none(y as usize).get(x as usize) == Some(&State::Head)
 }
 
+// The cells of the circuit's outputs.
+const OUT_CELLS: [(u64, u64, u64); 5] = [
+    (128, 8, 128),
+    (128, 24, 128),
+    (128, 40, 128),
+    (128, 56, 128),
+    (128, 72, 128),
+];
+
 #[test]
 fn a_circuit_has_its_ports(rt: HostRuntime) -> Result<(), Fail> {
     let plan = circuit(rt.alloc())?;
     assert!(rt; admissible(&plan));
-    assert_eq!(rt; size(&plan), (129, 80));
-    assert_eq!(rt; (plan.ins.len(), plan.outs.len()), (3, 5));
-    for (i, y) in [8, 40, 72].iter().enumerate() {
-        assert_eq!(rt; in_cell(&plan, i), (0, *y, 0));
-    }
-    for (i, y) in [8, 24, 40, 56, 72].iter().enumerate() {
-        assert_eq!(rt; out_cell(&plan, i), (128, *y, 128));
-    }
+    let ins = [in_cell(&plan, 0), in_cell(&plan, 1), in_cell(&plan, 2)];
+    let outs = [
+        out_cell(&plan, 0),
+        out_cell(&plan, 1),
+        out_cell(&plan, 2),
+        out_cell(&plan, 3),
+        out_cell(&plan, 4),
+    ];
+    assert_eq!(rt;
+        (size(&plan), plan.ins.len(), plan.outs.len()),
+        ((129, 80), 3, 5)
+    );
+    assert_eq!(rt; ins, [(0, 8, 0), (0, 40, 0), (0, 72, 0)]);
+    assert_eq!(rt; outs, OUT_CELLS);
     Ok(())
+}
+
+// The circuit's plane after 128 generations, of the bits of its inputs.
+fn answered(alloc: Global, plan: &Plan, a: bool, b: bool, c: bool) -> Result<Plane, RuleError>
+    requires { IsAdmissible plan.now }
+{
+    let dark = drawn(alloc, plan)?;
+    let first = with_input(dark, 8, a);
+    let second = with_input(first, 40, b);
+    let start = with_input(second, 72, c);
+    evolved(alloc, start, 128)
+}
+
+// Whether the cells of the circuit's outputs are heads.
+fn out_heads(plane: &Plane) -> [bool; 5] {
+    [
+        is_head(plane, 128, 8),
+        is_head(plane, 128, 24),
+        is_head(plane, 128, 40),
+        is_head(plane, 128, 56),
+        is_head(plane, 128, 72),
+    ]
 }
 
 #[test]
@@ -226,33 +255,19 @@ fn a_circuit_answers_by_the_rule(rt: HostRuntime) -> Result<(), Fail> {
         let (a, b, c) = (choice & 1 == 1, choice & 2 == 2, choice & 4 == 4);
         let mut bits = [a, false, b, false, c];
         run_columns(plan.columns.as_slice(), &mut bits);
-        let dark = drawn(alloc, &plan)?;
-        let first = with_input(dark, 8, a);
-        let second = with_input(first, 40, b);
-        let start = with_input(second, 72, c);
-        let end = evolved(alloc, start, 128)?;
-        for (lane, bit) in bits.iter().enumerate() {
-            assert_eq!(rt;
-                is_head(&end, 128, 16 * lane as u64 + 8),
-                *bit,
-                "{choice}, lane {lane}"
-            );
-        }
+        let end = answered(alloc, &plan, a, b, c)?;
+        assert_eq!(rt; out_heads(&end), bits, "choice {choice}");
     }
     Ok(())
 }
 
 // Two lanes and a loop that starts with 1: the Or takes its bit, and the Fork gives it to the output and back to the loop.
 fn loop_plan(alloc: Global) -> Result<Plan, AllocError> {
-    let or = Column {
-        instrs: List::of(vec![in alloc; Instr::Or(0)]?),
-    };
-    let fork = Column {
-        instrs: List::of(vec![in alloc; Instr::Fork(0)]?),
-    };
+    let or = with_column(alloc, Vec::new(alloc), &[Instr::Or(0)])?;
+    let columns = with_column(alloc, or, &[Instr::Fork(0)])?;
     Ok(Plan {
         lanes: 2,
-        columns: List::of(vec![in alloc; or, fork]?),
+        columns: List::of(columns),
         latches: 1,
         starts: List::of(vec![in alloc; true]?),
         ins: List::of(vec![in alloc; 0]?),
@@ -261,8 +276,8 @@ fn loop_plan(alloc: Global) -> Result<Plan, AllocError> {
     })
 }
 
-// The cells that are heads, row by row.
-fn heads(alloc: Global, plane: &Plane) -> Result<Vec<(u64, u64)>, RuleError> {
+// Whether the heads, row by row, are at these cells.
+fn has_heads_at(alloc: Global, plane: &Plane, cells: &[(u64, u64)]) -> Result<bool, RuleError> {
     let mut found = Vec::new(alloc);
     for y in 0..80 {
         for x in 0..129 {
@@ -271,7 +286,7 @@ fn heads(alloc: Global, plane: &Plane) -> Result<Vec<(u64, u64)>, RuleError> {
             }
         }
     }
-    Ok(found)
+    Ok(found.as_slice() == cells)
 }
 
 // Whether one of the two cells at each west side and at each north side is a head just where the edge is lit.
@@ -289,20 +304,21 @@ fn has_heads_of(plane: &Plane, edges: &Edges) -> bool {
     true
 }
 
+// Cells of the loop.
+const LOOP_CELLS: [(u64, u64, State); 6] = [
+    (32, 24, State::Head),
+    (31, 24, State::Tail),
+    (32, 8, State::Conductor),
+    (96, 8, State::Conductor),
+    (95, 40, State::Conductor),
+    (96, 9, State::Empty),
+];
+
 #[test]
 fn a_loop_has_its_cells(rt: HostRuntime) -> Result<(), Fail> {
-    let plan = loop_plan(rt.alloc())?;
-    assert!(rt; admissible(&plan));
+    let plan = admitted(loop_plan(rt.alloc())?)?;
     assert_eq!(rt; (size(&plan), period(&plan)), ((129, 48), 256));
-    let table = [
-        (32, 24, State::Head),
-        (31, 24, State::Tail),
-        (32, 8, State::Conductor),
-        (96, 8, State::Conductor),
-        (95, 40, State::Conductor),
-        (96, 9, State::Empty),
-    ];
-    for (x, y, state) in table {
+    for (x, y, state) in LOOP_CELLS {
         assert_eq!(rt; cell(&plan, x, y), state, "at {x}, {y}");
     }
     Ok(())
@@ -312,8 +328,7 @@ fn a_loop_has_its_cells(rt: HostRuntime) -> Result<(), Fail> {
 #[test]
 fn a_loop_goes_round_by_macro_steps(rt: HostRuntime) -> Result<(), Fail> {
     let alloc = rt.alloc();
-    let plan = loop_plan(alloc)?;
-    assert!(rt; admissible(&plan));
+    let plan = admitted(loop_plan(alloc)?)?;
     let mut plane = drawn(alloc, &plan)?;
     let mut edges = Edges::start(alloc, &plan)?;
     let mut following = Edges::start(alloc, &plan)?;
@@ -326,27 +341,28 @@ fn a_loop_goes_round_by_macro_steps(rt: HostRuntime) -> Result<(), Fail> {
     Ok(())
 }
 
-// Through the Or and the Fork, to the output and round: the cells were read off the drawing by hand.
+// The heads after each 32 generations, through the Or and the Fork, to the output and round: the cells were read off the
+// drawing by hand.
+const LOOP_HEADS: &[&[(u64, u64)]] = &[
+    &[(32, 24)],
+    &[(64, 8)],
+    &[(96, 8), (96, 24)],
+    &[(112, 32)],
+    &[(95, 40)],
+    &[(63, 40)],
+    &[(31, 40)],
+    &[(16, 31)],
+    &[(32, 24)],
+];
+
 #[test]
 fn a_loop_goes_round_by_the_rule(rt: HostRuntime) -> Result<(), Fail> {
     let alloc = rt.alloc();
-    let plan = loop_plan(alloc)?;
-    assert!(rt; admissible(&plan));
+    let plan = admitted(loop_plan(alloc)?)?;
     let mut plane = drawn(alloc, &plan)?;
-    let table: [&[(u64, u64)]; 9] = [
-        &[(32, 24)],
-        &[(64, 8)],
-        &[(96, 8), (96, 24)],
-        &[(112, 32)],
-        &[(95, 40)],
-        &[(63, 40)],
-        &[(31, 40)],
-        &[(16, 31)],
-        &[(32, 24)],
-    ];
-    for (step, want) in table.iter().enumerate() {
-        let found = heads(alloc, &plane)?;
-        assert!(rt; found.as_slice() == *want, "after {step} steps");
+    for (step, want) in LOOP_HEADS.iter().enumerate() {
+        let same = has_heads_at(alloc, &plane, want)?;
+        assert!(rt; same, "after {step} steps");
         plane = evolved(alloc, plane, 32)?;
     }
     Ok(())

@@ -16,6 +16,8 @@ mod macro_steps;
 #[cfg(test)]
 mod packing;
 #[cfg(test)]
+mod plans;
+#[cfg(test)]
 mod slots;
 #[cfg(test)]
 mod tiles;

@@ -1,5 +1,6 @@
 // Signals of small plans, and the rules of ports.
 
+use crate::plans::bare_plan;
 use lane_core::{Column, Instr, Plan};
 use lists::List;
 use macro_grid::{Edges, admissible, macro_step};
@@ -28,26 +29,16 @@ fn or_plan(
     })
 }
 
-// Three loops alone.
-fn bare_plan(alloc: Global) -> Result<Plan, AllocError> {
-    let first = Column {
-        instrs: List::of(Vec::new(alloc)),
-    };
-    let second = Column {
-        instrs: List::of(Vec::new(alloc)),
-    };
-    let third = Column {
-        instrs: List::of(Vec::new(alloc)),
-    };
-    Ok(Plan {
-        lanes: 3,
-        columns: List::of(vec![in alloc; first, second, third]?),
-        latches: 3,
-        starts: List::of(vec![in alloc; true, false, false]?),
-        ins: List::of(Vec::new(alloc)),
-        outs: List::of(Vec::new(alloc)),
-        nets: List::of(Vec::new(alloc)),
-    })
+/// Whether no edge of the blocks in three columns and three lanes is lit.
+pub fn are_dark(edges: &Edges) -> bool {
+    for column in 0..3 {
+        for lane in 0..3 {
+            if edges.beside(column, lane) || edges.above(column, lane) {
+                return false;
+            }
+        }
+    }
+    true
 }
 
 #[test]
@@ -57,12 +48,7 @@ fn dark_edges_stay_dark(rt: HostRuntime) -> Result<(), Fail> {
     let start = Edges::start(rt.alloc(), &plan)?;
     let mut after = Edges::start(rt.alloc(), &plan)?;
     macro_step(&plan, &start, &mut after);
-    for column in 0..3 {
-        for lane in 0..3 {
-            assert!(rt; !start.beside(column, lane) && !start.above(column, lane));
-            assert!(rt; !after.beside(column, lane) && !after.above(column, lane));
-        }
-    }
+    assert_eq!(rt; (are_dark(&start), are_dark(&after)), (true, true));
     Ok(())
 }
 
@@ -75,9 +61,12 @@ fn an_electron_goes_round_a_loop(rt: HostRuntime) -> Result<(), Fail> {
     let mut current = Edges::start(rt.alloc(), &plan)?;
     let mut following = Edges::start(rt.alloc(), &plan)?;
     for step in 0..36 {
-        assert_eq!(rt; current.beside(3, 0), step == 0, "after {step} steps");
-        assert_eq!(rt; current.beside(3, 2), step == 18, "after {step} steps");
-        assert!(rt; !current.beside(3, 1), "after {step} steps");
+        let lit = [
+            current.beside(3, 0),
+            current.beside(3, 1),
+            current.beside(3, 2),
+        ];
+        assert_eq!(rt; lit, [step == 0, false, step == 18], "after {step} steps");
         macro_step(&plan, &current, &mut following);
         std::mem::swap(&mut current, &mut following);
     }
@@ -85,26 +74,28 @@ fn an_electron_goes_round_a_loop(rt: HostRuntime) -> Result<(), Fail> {
     Ok(())
 }
 
+// The lanes and the loops of an Or's plan, its inputs and its outputs, and whether it is admissible.
+const PORTS: &[(u32, u32, &[u32], &[u32], bool)] = &[
+    (2, 0, &[0, 1], &[0], true),
+    (3, 0, &[0, 2], &[1], true),
+    (1, 0, &[0], &[0], false),
+    (0, 0, &[], &[], false),
+    (2, 1, &[0], &[0], false),
+    (2, 0, &[1, 1], &[0], false),
+    (2, 0, &[0, 1], &[2], false),
+    (65_537, 0, &[0, 65_536], &[65_536, 65_535], true),
+    (65_537, 0, &[0, 65_536, 65_536], &[0], false),
+    (65_537, 0, &[0], &[65_535, 0, 65_536, 65_535], false),
+    (u32::MAX, 0, &[u32::MAX - 1, 0], &[u32::MAX - 1], true),
+    (u32::MAX, 0, &[u32::MAX - 1, 0, u32::MAX - 1], &[], false),
+    (u32::MAX, 0, &[u32::MAX], &[], false),
+];
+
 #[test]
 fn each_rule_on_ports_and_lanes_is_kept(rt: HostRuntime) -> Result<(), Fail> {
-    let table: [(u32, u32, &[u32], &[u32], bool); 13] = [
-        (2, 0, &[0, 1], &[0], true),
-        (3, 0, &[0, 2], &[1], true),
-        (1, 0, &[0], &[0], false),
-        (0, 0, &[], &[], false),
-        (2, 1, &[0], &[0], false),
-        (2, 0, &[1, 1], &[0], false),
-        (2, 0, &[0, 1], &[2], false),
-        (65_537, 0, &[0, 65_536], &[65_536, 65_535], true),
-        (65_537, 0, &[0, 65_536, 65_536], &[0], false),
-        (65_537, 0, &[0], &[65_535, 0, 65_536, 65_535], false),
-        (u32::MAX, 0, &[u32::MAX - 1, 0], &[u32::MAX - 1], true),
-        (u32::MAX, 0, &[u32::MAX - 1, 0, u32::MAX - 1], &[], false),
-        (u32::MAX, 0, &[u32::MAX], &[], false),
-    ];
-    for (lanes, latches, ins, outs, want) in table {
-        let plan = or_plan(rt.alloc(), lanes, latches, ins, outs)?;
-        assert_eq!(rt; admissible(&plan), want, "{lanes} lanes, {latches} loops");
+    for (lanes, latches, ins, outs, want) in PORTS {
+        let plan = or_plan(rt.alloc(), *lanes, *latches, ins, outs)?;
+        assert_eq!(rt; admissible(&plan), *want, "{lanes} lanes, {latches} loops");
     }
     Ok(())
 }

@@ -1,7 +1,7 @@
 // Worked values: the columns of small programs.
 
 use column_packer::pack;
-use lane_core::{Instr, Program};
+use lane_core::{Column, Instr, Program};
 use lists::List;
 use std::alloc::{AllocError, Global};
 use std::test::Fail;
@@ -35,31 +35,33 @@ fn upside_down(alloc: Global) -> Result<Program, AllocError> {
     })
 }
 
+const FIVE_LANES_COLUMNS: &[&[Instr]] = &[
+    &[Instr::Or(0), Instr::Or(2)],
+    &[Instr::Swap(1), Instr::Xor(3)],
+    &[Instr::Fork(0)],
+];
+
+const UPSIDE_DOWN_COLUMNS: &[&[Instr]] = &[&[Instr::Fork(0), Instr::Or(2), Instr::Swap(4)]];
+
+// Whether the columns are these.
+fn are_columns(columns: &[Column], want: &[&[Instr]]) -> bool {
+    let mut same = columns.len() == want.len();
+    for (column, instrs) in columns.iter().zip(want.iter()) {
+        same = same && column.instrs.as_slice() == *instrs;
+    }
+    same
+}
+
 #[test]
 fn each_instruction_comes_first_after_its_lanes_uses(rt: HostRuntime) -> Result<(), Fail> {
-    let program = five_lanes(rt.alloc())?;
-    let columns = pack(rt.alloc(), &program)?;
-    assert_eq!(rt; columns.len(), 3);
-    assert_eq!(rt;
-        columns[0].instrs.as_slice(),
-        [Instr::Or(0), Instr::Or(2)].as_slice()
-    );
-    assert_eq!(rt;
-        columns[1].instrs.as_slice(),
-        [Instr::Swap(1), Instr::Xor(3)].as_slice()
-    );
-    assert_eq!(rt; columns[2].instrs.as_slice(), [Instr::Fork(0)].as_slice());
+    let columns = pack(rt.alloc(), &five_lanes(rt.alloc())?)?;
+    assert!(rt; are_columns(&columns, FIVE_LANES_COLUMNS));
     Ok(())
 }
 
 #[test]
 fn a_column_is_sorted(rt: HostRuntime) -> Result<(), Fail> {
-    let program = upside_down(rt.alloc())?;
-    let columns = pack(rt.alloc(), &program)?;
-    assert_eq!(rt; columns.len(), 1);
-    assert_eq!(rt;
-        columns[0].instrs.as_slice(),
-        [Instr::Fork(0), Instr::Or(2), Instr::Swap(4)].as_slice()
-    );
+    let columns = pack(rt.alloc(), &upside_down(rt.alloc())?)?;
+    assert!(rt; are_columns(&columns, UPSIDE_DOWN_COLUMNS));
     Ok(())
 }

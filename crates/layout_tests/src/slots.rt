@@ -2,30 +2,13 @@
 ghost use Rattle.std.specs.Prelude.{IfOk};
 ghost use Rattle.lane_core.specs.Plans.{IsAdmissible};
 
+use crate::plans::{bare_plan, or_plan};
 use lane_core::{Column, Instr, Plan};
 use lists::List;
 use plan_layout::{Piece, Slot, slot_at};
 use std::alloc::{AllocError, Global};
 use std::test::Fail;
 use tile_core::Kind;
-
-// An Or on two lanes.
-fn or_plan(alloc: Global) -> Result<Plan, AllocError>
-    ensures { IfOk result IsAdmissible }
-{
-    let or = Column {
-        instrs: List::of(vec![in alloc; Instr::Or(0)]?),
-    };
-    Ok(Plan {
-        lanes: 2,
-        columns: List::of(vec![in alloc; or]?),
-        latches: 0,
-        starts: List::of(Vec::new(alloc)),
-        ins: List::of(vec![in alloc; 0, 1]?),
-        outs: List::of(vec![in alloc; 0]?),
-        nets: List::of(Vec::new(alloc)),
-    })
-}
 
 // Two lanes, two columns and a loop.
 fn loop_plan(alloc: Global) -> Result<Plan, AllocError>
@@ -44,30 +27,6 @@ fn loop_plan(alloc: Global) -> Result<Plan, AllocError>
         starts: List::of(vec![in alloc; true]?),
         ins: List::of(vec![in alloc; 0]?),
         outs: List::of(vec![in alloc; 0]?),
-        nets: List::of(Vec::new(alloc)),
-    })
-}
-
-// Three loops alone.
-fn bare_plan(alloc: Global) -> Result<Plan, AllocError>
-    ensures { IfOk result IsAdmissible }
-{
-    let first = Column {
-        instrs: List::of(Vec::new(alloc)),
-    };
-    let second = Column {
-        instrs: List::of(Vec::new(alloc)),
-    };
-    let third = Column {
-        instrs: List::of(Vec::new(alloc)),
-    };
-    Ok(Plan {
-        lanes: 3,
-        columns: List::of(vec![in alloc; first, second, third]?),
-        latches: 3,
-        starts: List::of(vec![in alloc; true, false, false]?),
-        ins: List::of(Vec::new(alloc)),
-        outs: List::of(Vec::new(alloc)),
         nets: List::of(Vec::new(alloc)),
     })
 }
@@ -120,35 +79,36 @@ fn is_drawn(plan: &Plan, rows: &[&[u8]]) -> bool
     true
 }
 
+const OR_ROWS: &[&[u8]] = &[b"O*.", b"o..", b"..."];
+
+const LOOP_ROWS: &[&[u8]] = &[b".FO*.", b"rfo7.", b"L<<J.", b"....."];
+
+const BARE_ROWS: &[&[u8]] = &[
+    b"r>>>>>>>7",
+    b"^r>>>>>7v",
+    b"^^r>>>7vv",
+    b"^^LW<WJvv",
+    b"^L<wWw<Jv",
+    b"L<<<w<<<J",
+];
+
 #[test]
 fn an_or_stands_as_drawn_by_hand(rt: HostRuntime) -> Result<(), Fail> {
     let plan = or_plan(rt.alloc())?;
-    assert!(rt; is_drawn(&plan, &[b"O*.", b"o..", b"..."]));
+    assert!(rt; is_drawn(&plan, OR_ROWS));
     Ok(())
 }
 
 #[test]
 fn a_loop_stands_as_drawn_by_hand(rt: HostRuntime) -> Result<(), Fail> {
     let plan = loop_plan(rt.alloc())?;
-    assert!(rt; is_drawn(&plan, &[b".FO*.", b"rfo7.", b"L<<J.", b"....."]));
+    assert!(rt; is_drawn(&plan, LOOP_ROWS));
     Ok(())
 }
 
 #[test]
 fn three_loops_stand_as_drawn_by_hand(rt: HostRuntime) -> Result<(), Fail> {
     let plan = bare_plan(rt.alloc())?;
-    assert!(rt;
-        is_drawn(
-            &plan,
-            &[
-                b"r>>>>>>>7",
-                b"^r>>>>>7v",
-                b"^^r>>>7vv",
-                b"^^LW<WJvv",
-                b"^L<wWw<Jv",
-                b"L<<<w<<<J"
-            ]
-        )
-    );
+    assert!(rt; is_drawn(&plan, BARE_ROWS));
     Ok(())
 }

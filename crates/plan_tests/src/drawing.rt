@@ -95,6 +95,31 @@ fn draw_cells(alloc: Global, draw: &mut Draw, counts: Counts) -> Result<Vec<Cell
     Ok(drawn)
 }
 
+// The list of these latches and cells, with outputs and nets that are drawn.
+fn draw_ports(
+    alloc: Global,
+    draw: &mut Draw,
+    counts: Counts,
+    starts: &[bool],
+    cells: &[Cell],
+) -> Result<CellList, Fail>
+    ensures { IfOk result (λ list. list.inputs + length list.starts + length list.outs + length list.cells < 2 ^ 18 - 1) }
+{
+    let (many, more) = (draw.below(6), draw.below(10));
+    let outs = draw_sources(alloc, draw, counts, many)?;
+    let latches = draw_sources(alloc, draw, counts, counts.latches)?;
+    let nets = draw_sources(alloc, draw, counts, more)?;
+    let written = Written {
+        inputs: counts.inputs,
+        cells,
+        outs: &outs,
+        latches: &latches,
+        starts,
+        nets: &nets,
+    };
+    list_of(alloc, &written)
+}
+
 /// A list of at most 4 inputs, 3 latches, 13 cells, 5 outputs and 9 nets.
 pub fn draw_list(alloc: Global, draw: &mut Draw) -> Result<CellList, Fail>
     ensures { IfOk result (λ list. list.inputs + length list.starts + length list.outs + length list.cells < 2 ^ 18 - 1) }
@@ -106,17 +131,5 @@ pub fn draw_list(alloc: Global, draw: &mut Draw) -> Result<CellList, Fail>
     };
     let starts = draw_bits(alloc, draw, counts.latches)?;
     let cells = draw_cells(alloc, draw, counts)?;
-    let (many, more) = (draw.below(6), draw.below(10));
-    let outs = draw_sources(alloc, draw, counts, many)?;
-    let latches = draw_sources(alloc, draw, counts, counts.latches)?;
-    let nets = draw_sources(alloc, draw, counts, more)?;
-    let written = Written {
-        inputs: counts.inputs,
-        cells: &cells,
-        outs: &outs,
-        latches: &latches,
-        starts: &starts,
-        nets: &nets,
-    };
-    list_of(alloc, &written)
+    draw_ports(alloc, draw, counts, &starts, &cells)
 }

@@ -4,7 +4,8 @@ use crate::running::agrees;
 use crate::written::{Written, list_of};
 use cell_core::{Cell, Src};
 use cell_plans::plan_of;
-use lane_core::Instr;
+use lane_core::{Instr, Plan};
+use std::alloc::Global;
 use std::test::Fail;
 
 // The OR of two inputs; a net for each of them and for the output.
@@ -26,25 +27,49 @@ const NOTHING: Written<'static> = Written {
     nets: &[],
 };
 
+// The plan of a list that is written down.
+fn planned(alloc: Global, written: &Written<'_>) -> Result<Plan, Fail> {
+    let list = list_of(alloc, written)?;
+    Ok(plan_of(alloc, &list)?)
+}
+
+// Whether the plan has one column, of these instructions.
+fn has_one_column(plan: &Plan, instrs: &[Instr]) -> bool {
+    let mut same = plan.columns.len() == 1;
+    for column in plan.columns.as_slice() {
+        same = same && column.instrs.as_slice() == instrs;
+    }
+    same
+}
+
 #[test]
 fn an_or_takes_two_lanes_and_a_column(rt: HostRuntime) -> Result<(), Fail> {
-    let plan = plan_of(rt.alloc(), &list_of(rt.alloc(), &OR)?)?;
-    assert_eq!(rt; plan.lanes, 2);
-    assert_eq!(rt; plan.ins.as_slice(), [0, 1].as_slice());
-    assert_eq!(rt; plan.outs.as_slice(), [0].as_slice());
-    assert_eq!(rt; plan.columns.len(), 1);
-    for column in plan.columns.as_slice() {
-        assert_eq!(rt; column.instrs.as_slice(), [Instr::Or(0)].as_slice());
-    }
+    let plan = planned(rt.alloc(), &OR)?;
+    let one_or = has_one_column(&plan, &[Instr::Or(0)]);
+    assert_eq!(rt;
+        (
+            plan.lanes,
+            plan.ins.as_slice(),
+            plan.outs.as_slice(),
+            one_or
+        ),
+        (2, [0, 1].as_slice(), [0].as_slice(), true)
+    );
     Ok(())
 }
 
 #[test]
 fn nothing_takes_no_lane(rt: HostRuntime) -> Result<(), Fail> {
-    let plan = plan_of(rt.alloc(), &list_of(rt.alloc(), &NOTHING)?)?;
-    assert_eq!(rt; plan.lanes, 0);
-    assert_eq!(rt; plan.columns.len(), 0);
+    let plan = planned(rt.alloc(), &NOTHING)?;
+    assert_eq!(rt; (plan.lanes, plan.columns.len()), (0, 0));
     Ok(())
+}
+
+// Whether the plan of a list that is drawn does what the list does.
+fn drawn_agrees(alloc: Global, draw: &mut Draw) -> Result<bool, Fail> {
+    let list = draw_list(alloc, draw)?;
+    let plan = plan_of(alloc, &list)?;
+    agrees(alloc, &list, &plan, draw)
 }
 
 // Lists with constants as operands, doubled sources, cells that nothing reads, unused latches and inputs, outputs of one
@@ -53,13 +78,7 @@ fn nothing_takes_no_lane(rt: HostRuntime) -> Result<(), Fail> {
 fn plans_do_what_random_lists_do(rt: HostRuntime) -> Result<(), Fail> {
     let mut draw = Draw { state: 1 };
     for turn in 0..2000u32 {
-        let list = draw_list(rt.alloc(), &mut draw)?;
-        let plan = plan_of(rt.alloc(), &list)?;
-        assert_eq!(rt;
-            agrees(rt.alloc(), &list, &plan, &mut draw)?,
-            true,
-            "list {turn}"
-        );
+        assert!(rt; drawn_agrees(rt.alloc(), &mut draw)?, "list {turn}");
     }
     Ok(())
 }

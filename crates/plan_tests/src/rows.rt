@@ -3,6 +3,7 @@ use crate::running::{agrees_for_all, plays};
 use crate::written::{Written, list_of};
 use cell_core::{Cell, Src};
 use cell_plans::plan_of;
+use std::alloc::Global;
 use std::test::Fail;
 
 // A list, and for streams of input bits, a letter for each cycle, the streams of its outputs.
@@ -176,19 +177,20 @@ const CASES: [Case; 8] = [
     },
 ];
 
+// Whether the case's plan does what its list does, and makes its streams.
+fn agrees_and_plays(alloc: Global, case: &Case) -> Result<(bool, bool), Fail> {
+    let list = list_of(alloc, &case.list)?;
+    let plan = plan_of(alloc, &list)?;
+    let agreed = agrees_for_all(alloc, &list, &plan)?;
+    let played = plays(alloc, &plan, case.cycles, case.ins, case.outs)?;
+    Ok((agreed, played))
+}
+
 #[test]
 fn small_circuits_do_what_they_say(rt: HostRuntime) -> Result<(), Fail> {
-    let alloc = rt.alloc();
     for case in &CASES {
-        let list = list_of(alloc, &case.list)?;
-        let plan = plan_of(alloc, &list)?;
-        assert_eq!(rt; agrees_for_all(alloc, &list, &plan)?, true, "{}", case.name);
-        assert_eq!(rt;
-            plays(alloc, &plan, case.cycles, case.ins, case.outs)?,
-            true,
-            "{}",
-            case.name
-        );
+        let done = agrees_and_plays(rt.alloc(), case)?;
+        assert_eq!(rt; done, (true, true), "{}", case.name);
     }
     Ok(())
 }

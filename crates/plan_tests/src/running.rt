@@ -160,19 +160,38 @@ fn loops_of(alloc: Global, state: &[bool], one: bool) -> Result<Vec<bool>, Fail>
     Ok(bits)
 }
 
+// The bits that leave the plan, of the bits of its inputs and of its loops.
+fn end_of(alloc: Global, plan: &Plan, inputs: &[bool], loops: &[bool]) -> Result<Vec<bool>, Fail>
+    requires { IsAdmissible plan.now }
+{
+    let entry = entry(alloc, plan, inputs, loops)?;
+    leave(alloc, plan, plan.columns.len(), &entry)
+}
+
+// Whether the loops bring the bits of the latches in the next cycle.
+fn loops_agree(
+    alloc: Global,
+    list: &CellList,
+    plan: &Plan,
+    cycle: &Cycle,
+    end: &[bool],
+) -> Result<bool, Fail> {
+    let state = next_state(alloc, list, cycle)?;
+    let next = loops_of(alloc, &state, list.names_one())?;
+    let brought = brought(alloc, plan, end)?;
+    Ok(brought.as_slice() == next.as_slice())
+}
+
 // Whether the plan does in a cycle what the list does.
 fn agrees_in(alloc: Global, list: &CellList, plan: &Plan, cycle: &Cycle) -> Result<bool, Fail>
     requires { IsAdmissible plan.now }
 {
-    let one = list.names_one();
-    let loops = loops_of(alloc, &cycle.state, one)?;
+    let loops = loops_of(alloc, &cycle.state, list.names_one())?;
     let entry = entry(alloc, plan, &cycle.inputs, &loops)?;
     let end = leave(alloc, plan, plan.columns.len(), &entry)?;
-    let state = next_state(alloc, list, cycle)?;
-    let next = loops_of(alloc, &state, one)?;
-    let brought = brought(alloc, plan, &end)?;
     let nets = nets_agree(alloc, list, plan, cycle, &entry)?;
-    Ok(nets && outs_agree(list, plan, cycle, &end) && brought.as_slice() == next.as_slice())
+    let same = loops_agree(alloc, list, plan, cycle, &end)?;
+    Ok(nets && same && outs_agree(list, plan, cycle, &end))
 }
 
 fn starts_agree(alloc: Global, list: &CellList, plan: &Plan) -> Result<bool, Fail> {
@@ -245,6 +264,19 @@ fn outs_of(alloc: Global, plan: &Plan, end: &[bool]) -> Result<Vec<bool>, Fail> 
     Ok(bits)
 }
 
+// Whether the outputs show the letters of streams in a cycle.
+fn outs_show(
+    alloc: Global,
+    plan: &Plan,
+    end: &[bool],
+    streams: &[&[u8]],
+    cycle: usize,
+) -> Result<bool, Fail> {
+    let wanted = letters(alloc, streams, cycle)?;
+    let made = outs_of(alloc, plan, end)?;
+    Ok(made.as_slice() == wanted.as_slice())
+}
+
 /// Whether the plan, from its starts on, makes the streams `outs` of the streams `ins`.
 pub fn plays(
     alloc: Global,
@@ -259,11 +291,8 @@ pub fn plays(
     let mut same = true;
     for cycle in 0..cycles {
         let inputs = letters(alloc, ins, cycle)?;
-        let entry = entry(alloc, plan, &inputs, &loops)?;
-        let end = leave(alloc, plan, plan.columns.len(), &entry)?;
-        let wanted = letters(alloc, outs, cycle)?;
-        let made = outs_of(alloc, plan, &end)?;
-        same = same && made.as_slice() == wanted.as_slice();
+        let end = end_of(alloc, plan, &inputs, &loops)?;
+        same = same && outs_show(alloc, plan, &end, outs, cycle)?;
         loops = brought(alloc, plan, &end)?;
     }
     Ok(same)

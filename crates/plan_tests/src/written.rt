@@ -94,9 +94,12 @@ pub fn list_of(alloc: Global, written: &Written<'_>) -> Result<CellList, Fail>
     let outs = copied_in(alloc, &list, written.outs)?;
     let latches = copied_in(alloc, &list, written.latches)?;
     let nets = copied_in(alloc, &list, written.nets)?;
-    must(latches.len() == list.starts.len())?;
     must(
-        list.inputs < 1000 && latches.len() < 1000 && outs.len() < 1000 && list.cells.len() < 1000,
+        latches.len() == list.starts.len()
+            && list.inputs < 1000
+            && latches.len() < 1000
+            && outs.len() < 1000
+            && list.cells.len() < 1000,
     )?;
     Ok(CellList {
         inputs: list.inputs,
