@@ -62,42 +62,46 @@ fn count(alloc: Global, nets: usize, rows: &[&[u8]], on: bool) -> Result<usize, 
     count_of(alloc, &all[..nets.min(8)], rows, on)
 }
 
+// Of how many inputs a cover is, its rows and whether they end in `1`, and the cells that it takes.
+const COVERS: &[(usize, &[&[u8]], bool, usize)] = &[
+    (2, &[b"1-", b"-1"], true, 1),
+    (2, &[b"11"], true, 2),
+    (2, &[b"11"], false, 3),
+    (1, &[b"0"], true, 1),
+    (0, &[b""], true, 0),
+    (0, &[], true, 0),
+    (3, &[b"11-", b"0-1"], true, 3),
+    (3, &[b"100", b"010", b"001", b"111"], true, 2),
+    (3, &[b"11-", b"1-1", b"-11"], true, 4),
+    (4, &[b"1111"], true, 6),
+    (6, &[b"111111"], true, 10),
+    (8, &[b"11111111"], true, 14),
+];
+
 #[test]
 fn covers_take_few_cells(rt: HostRuntime) -> Result<(), Fail> {
     let alloc = rt.alloc();
-    let table: [(usize, &[&[u8]], bool, usize); 12] = [
-        (2, &[b"1-", b"-1"], true, 1),
-        (2, &[b"11"], true, 2),
-        (2, &[b"11"], false, 3),
-        (1, &[b"0"], true, 1),
-        (0, &[b""], true, 0),
-        (0, &[], true, 0),
-        (3, &[b"11-", b"0-1"], true, 3),
-        (3, &[b"100", b"010", b"001", b"111"], true, 2),
-        (3, &[b"11-", b"1-1", b"-11"], true, 4),
-        (4, &[b"1111"], true, 6),
-        (6, &[b"111111"], true, 10),
-        (8, &[b"11111111"], true, 14),
-    ];
-    for (nets, rows, on, want) in table {
-        let took = count(alloc, nets, rows, on).expect(&rt, "ample memory");
-        assert_eq!(rt; took, want);
+    for (nets, rows, on, want) in COVERS {
+        let took = count(alloc, *nets, rows, *on).expect(&rt, "ample memory");
+        assert_eq!(rt; took, *want);
     }
     Ok(())
 }
+
+// What a cover reads, its rows and whether they end in `1`, and the cells that it takes.
+const OPERANDS: &[(&[Src], &[&[u8]], bool, usize)] = &[
+    (&[Src::Input(0), Src::Input(0)], &[b"11"], true, 0),
+    (&[Src::Input(0), Src::Input(0)], &[b"11"], false, 1),
+    (&[Src::Input(0), Src::Zero], &[b"11"], true, 0),
+];
 
 // A cover that reads one net twice, or constant 0.
 #[test]
 fn operands_that_are_one_spare_cells(rt: HostRuntime) -> Result<(), Fail> {
     let alloc = rt.alloc();
-    let table: [(&[Src], &[&[u8]], bool, usize); 3] = [
-        (&[Src::Input(0), Src::Input(0)], &[b"11"], true, 0),
-        (&[Src::Input(0), Src::Input(0)], &[b"11"], false, 1),
-        (&[Src::Input(0), Src::Zero], &[b"11"], true, 0),
-    ];
-    for (sources, rows, on, want) in table {
-        let took = count_of(alloc, sources, rows, on).expect(&rt, "ample memory");
-        assert_eq!(rt; took, want);
+    for (sources, rows, on, want) in OPERANDS {
+        let took = count_of(alloc, sources, rows, *on).expect(&rt, "ample memory");
+        assert_eq!(rt; took, *want);
     }
     Ok(())
 }

@@ -9,8 +9,7 @@ fn shown(alloc: Global, text: &[u8]) -> Result<String, AllocError> {
         return Ok(shown);
     };
     for line in found.as_slice() {
-        let head = format!(in alloc; "{}:", line.line)?;
-        shown.push_str(&head)?;
+        shown.push_str(&format!(in alloc; "{}:", line.line)?)?;
         for word in line.words.as_slice() {
             for byte in word.as_slice() {
                 shown.push(*byte as char)?;
@@ -22,32 +21,34 @@ fn shown(alloc: Global, text: &[u8]) -> Result<String, AllocError> {
     Ok(shown)
 }
 
+// Texts and their logical lines.
+const LINES: &[(&[u8], &str)] = &[
+    (b"", ""),
+    (b"\n", ""),
+    (b"\\", ""),
+    (b"\\\n", ""),
+    (b"\\\n\\\n\\", ""),
+    (b"a", "1:a,;"),
+    (b"a b\r\nc\r", "1:a,b,;2:c,;"),
+    (b"a\rb\r\r\nc", "1:a,b,;2:c,;"),
+    (b"a\\\nb", "1:ab,;"),
+    (b"a \\\r\n b", "1:a,b,;"),
+    (b"a\\ \t\x0b\x0c\r\nb", "1:ab,;"),
+    (b"a\\b\\\\\nc", "1:a\\b\\c,;"),
+    (b"a # b \\\nc", "1:a,;2:c,;"),
+    (b"a \\ # b\nc", "1:a,c,;"),
+    (b"a\\#\\\nc", "1:ac,;"),
+    (b"\\\n\\\n#\nx", "4:x,;"),
+    (b"\n\n \t\na\\\n\\\nb\n\nc", "4:ab,;8:c,;"),
+    (b"a\\\n#b\nc", "1:a,;3:c,;"),
+    (b"a\x0bb\x0cc\td", "1:a,b,c,d,;"),
+    (b"a\\", "1:a,;"),
+];
+
 #[test]
 fn lines_are_joined_and_cut(rt: HostRuntime) -> Result<(), Fail> {
     let alloc = rt.alloc();
-    let cases: [(&[u8], &str); 20] = [
-        (b"", ""),
-        (b"\n", ""),
-        (b"\\", ""),
-        (b"\\\n", ""),
-        (b"\\\n\\\n\\", ""),
-        (b"a", "1:a,;"),
-        (b"a b\r\nc\r", "1:a,b,;2:c,;"),
-        (b"a\rb\r\r\nc", "1:a,b,;2:c,;"),
-        (b"a\\\nb", "1:ab,;"),
-        (b"a \\\r\n b", "1:a,b,;"),
-        (b"a\\ \t\x0b\x0c\r\nb", "1:ab,;"),
-        (b"a\\b\\\\\nc", "1:a\\b\\c,;"),
-        (b"a # b \\\nc", "1:a,;2:c,;"),
-        (b"a \\ # b\nc", "1:a,c,;"),
-        (b"a\\#\\\nc", "1:ac,;"),
-        (b"\\\n\\\n#\nx", "4:x,;"),
-        (b"\n\n \t\na\\\n\\\nb\n\nc", "4:ab,;8:c,;"),
-        (b"a\\\n#b\nc", "1:a,;3:c,;"),
-        (b"a\x0bb\x0cc\td", "1:a,b,c,d,;"),
-        (b"a\\", "1:a,;"),
-    ];
-    for (text, expected) in cases.iter() {
+    for (text, expected) in LINES {
         let found = shown(alloc, *text)?;
         assert_eq!(rt; found.as_str(), *expected);
     }

@@ -1,6 +1,7 @@
 // Lines with their models, and lines that are at fault.
 use blif_reader::{Fault, Logical, Model, ReadError, read};
 use lists::{Bytes, List};
+use netlist_core::{Cover, LatchRow, Port, Subckt};
 use std::alloc::{AllocError, Global};
 use std::test::Fail;
 
@@ -43,60 +44,69 @@ fn push_words(shown: &mut String, words: &List<Bytes>) -> Result<(), AllocError>
     Ok(())
 }
 
+fn push_ports(
+    alloc: Global,
+    shown: &mut String,
+    kind: &str,
+    ports: &[Port],
+) -> Result<(), AllocError> {
+    shown.push_str(kind)?;
+    for port in ports {
+        shown.push_str(&format!(in alloc; " {}/", port.line)?)?;
+        push_bytes(shown, port.name.as_slice())?;
+    }
+    Ok(())
+}
+
 fn push_model(alloc: Global, shown: &mut String, model: &Model) -> Result<(), AllocError> {
     shown.push_str("model ")?;
     push_bytes(shown, model.name.as_slice())?;
-    for (kind, ports) in [
-        (" in", &model.ins),
-        (" out", &model.outs),
-        (" clock", &model.clocks),
-    ] {
-        shown.push_str(kind)?;
-        for port in ports.as_slice() {
-            let head = format!(in alloc; " {}/", port.line)?;
-            shown.push_str(&head)?;
-            push_bytes(shown, port.name.as_slice())?;
-        }
+    push_ports(alloc, shown, " in", model.ins.as_slice())?;
+    push_ports(alloc, shown, " out", model.outs.as_slice())?;
+    push_ports(alloc, shown, " clock", model.clocks.as_slice())?;
+    shown.push(';')
+}
+
+fn push_cover(alloc: Global, shown: &mut String, cover: &Cover) -> Result<(), AllocError> {
+    shown.push_str(&format!(in alloc; " names {} {}", cover.line, cover.on)?)?;
+    push_words(shown, &cover.ins)?;
+    shown.push_str(" >")?;
+    push_bytes(shown, cover.out.as_slice())?;
+    push_words(shown, &cover.rows)?;
+    shown.push(';')
+}
+
+fn push_latch(alloc: Global, shown: &mut String, latch: &LatchRow) -> Result<(), AllocError> {
+    let has_kind = latch.kind.is_some();
+    shown.push_str(&format!(in alloc; " latch {} {has_kind} {}", latch.line, latch.init)?)?;
+    if let Some(control) = &latch.control {
+        shown.push(' ')?;
+        push_bytes(shown, control.as_slice())?;
     }
-    shown.push(';')?;
-    Ok(())
+    shown.push(';')
+}
+
+fn push_subckt(alloc: Global, shown: &mut String, subckt: &Subckt) -> Result<(), AllocError> {
+    shown.push_str(&format!(in alloc; " subckt {} ", subckt.line)?)?;
+    push_bytes(shown, subckt.model.as_slice())?;
+    for pin in subckt.pins.as_slice() {
+        shown.push(' ')?;
+        push_bytes(shown, pin.formal.as_slice())?;
+        shown.push('|')?;
+        push_bytes(shown, pin.actual.as_slice())?;
+    }
+    shown.push(';')
 }
 
 fn push_cells(alloc: Global, shown: &mut String, model: &Model) -> Result<(), AllocError> {
     for cover in model.covers.as_slice() {
-        let head = format!(in alloc; " names {} {}", cover.line, cover.on)?;
-        shown.push_str(&head)?;
-        push_words(shown, &cover.ins)?;
-        shown.push_str(" >")?;
-        push_bytes(shown, cover.out.as_slice())?;
-        push_words(shown, &cover.rows)?;
-        shown.push(';')?;
+        push_cover(alloc, shown, cover)?;
     }
     for latch in model.latches.as_slice() {
-        let head = format!(in alloc;
-            " latch {} {} {}",
-            latch.line,
-            latch.kind.is_some(),
-            latch.init
-        )?;
-        shown.push_str(&head)?;
-        if let Some(control) = &latch.control {
-            shown.push(' ')?;
-            push_bytes(shown, control.as_slice())?;
-        }
-        shown.push(';')?;
+        push_latch(alloc, shown, latch)?;
     }
     for subckt in model.subckts.as_slice() {
-        let head = format!(in alloc; " subckt {} ", subckt.line)?;
-        shown.push_str(&head)?;
-        push_bytes(shown, subckt.model.as_slice())?;
-        for pin in subckt.pins.as_slice() {
-            shown.push(' ')?;
-            push_bytes(shown, pin.formal.as_slice())?;
-            shown.push('|')?;
-            push_bytes(shown, pin.actual.as_slice())?;
-        }
-        shown.push(';')?;
+        push_subckt(alloc, shown, subckt)?;
     }
     Ok(())
 }
@@ -139,39 +149,41 @@ fn no_lines_are_no_models(rt: HostRuntime) -> Result<(), Fail> {
     Ok(())
 }
 
+// Texts and their faults.
+const FAULTS: &[(&[u8], &str)] = &[
+    (b".end", "B1 line 1: .end"),
+    (b"11 1\n.foo", "B1 line 1: 11"),
+    (b".model a\n.defaul x", "B2 line 2: .defaul"),
+    (b".model a\n. x", "B2 line 2: ."),
+    (b".model a\n.exdc\n.foo", "B3 line 2: .exdc"),
+    (b".model a\n.latch x y ah c 7", "B3 line 2: ah"),
+    (b".model a\n.latch x y ah", "B8 line 2: .latch"),
+    (b".model", "B4 line 1: .model"),
+    (b".model a\n.model a b", "B4 line 2: .model"),
+    (b".model a\n.end a", "B4 line 2: .end"),
+    (b".model a\n.subckt", "B4 line 2: .subckt"),
+    (b".model a\n.names y\n1\n.attr x\n1", "B5 line 5: 1"),
+    (b".model a\n.names x y\n.model b\n1 1", "B5 line 4: 1"),
+    (b".model a\n.names y\n1 1", "B6 line 3: 1"),
+    (b".model a\n.names x y\n11 0", "B6 line 3: 11"),
+    (b".model a\n.names x y\n1 1\n2 0", "B6 line 4: 2"),
+    (b".model a\n.names x y\n1 1\n- 0", "B7 line 4: -"),
+    (b".model a\n.latch x", "B8 line 2: .latch"),
+    (b".model a\n.latch x y 00", "B8 line 2: .latch"),
+    (b".model a\n.subckt m a=b c= =d", "B9 line 2: c="),
+    (b".model a\n.end\n.foo", "B10 line 3: .foo"),
+    (b".model a\n.end\n.end", "B10 line 3: .end"),
+    (b".model a\n.end\n.model b\n.model a\n.foo", "B11 line 4: a"),
+    (
+        b".model a\n.subckt m a==\n.latch x y re",
+        "B8 line 3: .latch",
+    ),
+];
+
 #[test]
 fn the_earliest_line_and_there_the_lowest_rule(rt: HostRuntime) -> Result<(), Fail> {
     let alloc = rt.alloc();
-    let cases: [(&[u8], &str); 24] = [
-        (b".end", "B1 line 1: .end"),
-        (b"11 1\n.foo", "B1 line 1: 11"),
-        (b".model a\n.defaul x", "B2 line 2: .defaul"),
-        (b".model a\n. x", "B2 line 2: ."),
-        (b".model a\n.exdc\n.foo", "B3 line 2: .exdc"),
-        (b".model a\n.latch x y ah c 7", "B3 line 2: ah"),
-        (b".model a\n.latch x y ah", "B8 line 2: .latch"),
-        (b".model", "B4 line 1: .model"),
-        (b".model a\n.model a b", "B4 line 2: .model"),
-        (b".model a\n.end a", "B4 line 2: .end"),
-        (b".model a\n.subckt", "B4 line 2: .subckt"),
-        (b".model a\n.names y\n1\n.attr x\n1", "B5 line 5: 1"),
-        (b".model a\n.names x y\n.model b\n1 1", "B5 line 4: 1"),
-        (b".model a\n.names y\n1 1", "B6 line 3: 1"),
-        (b".model a\n.names x y\n11 0", "B6 line 3: 11"),
-        (b".model a\n.names x y\n1 1\n2 0", "B6 line 4: 2"),
-        (b".model a\n.names x y\n1 1\n- 0", "B7 line 4: -"),
-        (b".model a\n.latch x", "B8 line 2: .latch"),
-        (b".model a\n.latch x y 00", "B8 line 2: .latch"),
-        (b".model a\n.subckt m a=b c= =d", "B9 line 2: c="),
-        (b".model a\n.end\n.foo", "B10 line 3: .foo"),
-        (b".model a\n.end\n.end", "B10 line 3: .end"),
-        (b".model a\n.end\n.model b\n.model a\n.foo", "B11 line 4: a"),
-        (
-            b".model a\n.subckt m a==\n.latch x y re",
-            "B8 line 3: .latch",
-        ),
-    ];
-    for (text, expected) in cases.iter() {
+    for (text, expected) in FAULTS {
         let found = shown(alloc, *text)?;
         assert_eq!(rt; found.as_str(), *expected);
     }

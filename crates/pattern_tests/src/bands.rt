@@ -1,5 +1,5 @@
 // Bands of small patterns, moved in given orders.
-ghost use Rattle.std.specs.Prelude.{◌≡◌, length, IfOk};
+ghost use Rattle.std.specs.Prelude.{◌≡◌, ◌<◌, length, IfOk};
 ghost use Rattle.band_core.specs.Bands.{IsSamePattern};
 
 mod orders;
@@ -7,7 +7,7 @@ mod shown;
 
 use band_core::{Bands, NotReady, NotSkipped};
 use lists::List;
-use shown::shown_row;
+use shown::shown_rows;
 use std::alloc::{AllocError, Global};
 use std::test::Fail;
 use ww_rule::{CellRows, Pattern, State};
@@ -140,16 +140,20 @@ const ORDERS: &[(&[(usize, Answer)], [u8; 3])] = &[
     ),
 ];
 
+// The column's cells after calls of `advance`, from the top down.
+fn column_after(alloc: Global, calls: &[(usize, Answer)]) -> Result<Vec<u8>, Fail> {
+    let mut bands = Bands::new(alloc, column(alloc, [A, C, C])?, Vec::new(alloc), 1)?;
+    if !answers_are_right(&mut bands, calls) {
+        return Err(Fail::new("another answer"));
+    }
+    Ok(shown_rows(alloc, &bands, 1, 1, 3)?)
+}
+
 #[test]
 fn bands_advance_in_any_order(rt: HostRuntime) -> Result<(), Fail> {
-    let alloc = rt.alloc();
     for (calls, cells) in ORDERS {
-        let mut bands = Bands::new(alloc, column(alloc, [A, C, C])?, Vec::new(alloc), 1)?;
-        assert!(rt; answers_are_right(&mut bands, calls));
-        for y in 0..3 {
-            let row = shown_row(alloc, &bands, 1, 1, y)?;
-            assert_eq!(rt; row.as_slice(), &cells[y as usize..y as usize + 1]);
-        }
+        let shown = column_after(rt.alloc(), calls)?;
+        assert_eq!(rt; shown.as_slice(), cells.as_slice());
     }
     Ok(())
 }
@@ -179,24 +183,22 @@ fn advance_all(bands: &mut Bands)
     }
 }
 
+// Three cells above a conductor: both rows a generation later, by bands of this height.
+fn both_rows_after(alloc: Global, above: [State; 3], height: u32) -> Result<Vec<u8>, Fail>
+    requires { 0 < height }
+{
+    let pattern = two_rows(alloc, [above, [E, C, E]])?;
+    let mut bands = Bands::new(alloc, pattern, Vec::new(alloc), height)?;
+    advance_all(&mut bands);
+    Ok(shown_rows(alloc, &bands, height, 3, 2)?)
+}
+
 #[test]
 fn two_heads_light_a_conductor_and_three_do_not(rt: HostRuntime) -> Result<(), Fail> {
-    let alloc = rt.alloc();
-    let below = [E, C, E];
-    let cases = [([A, A, A], b"BBB", b".C."), ([A, A, E], b"BB.", b".A.")];
-    for (above, top, bottom) in cases {
+    for (above, cells) in [([A, A, A], *b"BBB.C."), ([A, A, E], *b"BB..A.")] {
         for height in [1, 2] {
-            let pattern = two_rows(alloc, [above, below])?;
-            let mut bands = Bands::new(alloc, pattern, Vec::new(alloc), height)?;
-            advance_all(&mut bands);
-            assert_eq!(rt;
-                shown_row(alloc, &bands, height, 3, 0)?.as_slice(),
-                top.as_slice()
-            );
-            assert_eq!(rt;
-                shown_row(alloc, &bands, height, 3, 1)?.as_slice(),
-                bottom.as_slice()
-            );
+            let shown = both_rows_after(rt.alloc(), above, height)?;
+            assert_eq!(rt; shown.as_slice(), cells.as_slice());
         }
     }
     Ok(())
@@ -206,14 +208,32 @@ fn two_heads_light_a_conductor_and_three_do_not(rt: HostRuntime) -> Result<(), F
 fn a_lit_cell_keeps_bands_awake(rt: HostRuntime) -> Result<(), Fail> {
     let alloc = rt.alloc();
     let mut bands = Bands::new(alloc, column(alloc, [A, C, C])?, Vec::new(alloc), 1)?;
-    assert_eq!(rt; skipped(&mut bands, 2), Answer::Moved);
-    assert_eq!(rt; skipped(&mut bands, 1), Answer::Awake { x: 0, y: 0 });
-    assert_eq!(rt; advanced(&mut bands, 1), Answer::Moved);
-    assert_eq!(rt; skipped(&mut bands, 0), Answer::Awake { x: 0, y: 0 });
-    assert_eq!(rt; skipped(&mut bands, 2), Answer::Awake { x: 0, y: 1 });
-    assert_eq!(rt; advanced(&mut bands, 2), Answer::Moved);
-    assert_eq!(rt; advanced(&mut bands, 2), behind(1, 1));
+    let answers = [
+        skipped(&mut bands, 2),
+        skipped(&mut bands, 1),
+        advanced(&mut bands, 1),
+        skipped(&mut bands, 0),
+        skipped(&mut bands, 2),
+        advanced(&mut bands, 2),
+        advanced(&mut bands, 2),
+    ];
+    let awake = [
+        OK,
+        Answer::Awake { x: 0, y: 0 },
+        OK,
+        Answer::Awake { x: 0, y: 0 },
+        Answer::Awake { x: 0, y: 1 },
+        OK,
+        behind(1, 1),
+    ];
+    assert_eq!(rt; answers, awake);
     Ok(())
+}
+
+// How many bands a pattern has, each as high as a band may be.
+fn count(alloc: Global, pattern: Pattern) -> Result<usize, Fail> {
+    let bands = Bands::new(alloc, pattern, Vec::new(alloc), u32::MAX)?;
+    Ok(bands.bands())
 }
 
 #[test]
@@ -224,16 +244,14 @@ fn a_pattern_without_cells_has_no_band(rt: HostRuntime) -> Result<(), Fail> {
         height: 0,
         rows: CellRows::with_room(alloc, 0, 0)?,
     };
+    let of_wide = count(alloc, wide)?;
     let high = Pattern {
         width: 0,
         height: u64::MAX,
         rows: CellRows::with_room(alloc, 0, 0)?,
     };
-    for pattern in Vec::from_array(alloc, [wide, high])? {
-        let bands = Bands::new(alloc, pattern, Vec::new(alloc), u32::MAX)?;
-        assert_eq!(rt; bands.bands(), 0);
-    }
-    let bands = Bands::new(alloc, column(alloc, [A, C, C])?, Vec::new(alloc), u32::MAX)?;
-    assert_eq!(rt; bands.bands(), 1);
+    let of_high = count(alloc, high)?;
+    let of_column = count(alloc, column(alloc, [A, C, C])?)?;
+    assert_eq!(rt; [of_wide, of_high, of_column], [0, 0, 1]);
     Ok(())
 }

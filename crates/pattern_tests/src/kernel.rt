@@ -14,8 +14,7 @@ fn a_head_crosses_the_border_of_words(rt: HostRuntime) {
         &mut heads,
         &mut wires,
     );
-    assert_eq!(&rt; heads.as_slice(), [1 << 63, 0].as_slice());
-    assert_eq!(&rt; wires.as_slice(), [2, 0].as_slice());
+    assert_eq!(&rt; [heads, wires], [[1 << 63, 0], [2, 0]]);
 }
 
 #[test]
@@ -23,7 +22,6 @@ fn three_heads_light_nothing(rt: HostRuntime) {
     let mut heads = [0u64; 1];
     let mut wires = [0u64; 1];
     step_rows(&[7], &[0], &[0], &[0], &[10], &mut heads, &mut wires);
-    assert_eq!(&rt; heads.as_slice(), [8].as_slice());
-    assert_eq!(&rt; wires.as_slice(), [2].as_slice());
+    assert_eq!(&rt; [heads, wires], [[8], [2]]);
     step_rows(&[], &[], &[], &[], &[], &mut [], &mut []);
 }

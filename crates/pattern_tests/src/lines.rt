@@ -2,17 +2,19 @@
 use pattern_lines::{number_in, split_line};
 use std::test::Fail;
 
+// Texts, and the bytes of their first lines, whether these have ends, and what comes after them.
+const LINES: &[(&[u8], &[u8], bool, &[u8])] = &[
+    (b"3C!", b"3C!", false, b""),
+    (b"\n3C!", b"", true, b"3C!"),
+    (b"#C one\r\n\r\n", b"#C one", true, b"\r\n"),
+    (b"3C\r!\n", b"3C\r!", true, b""),
+    (b"3C!\r", b"3C!\r", false, b""),
+    (b"3C!\r\r\n", b"3C!\r", true, b""),
+];
+
 #[test]
 fn lines_by_their_texts(rt: HostRuntime) -> Result<(), Fail> {
-    let cases: [(&[u8], &[u8], bool, &[u8]); 6] = [
-        (b"3C!", b"3C!", false, b""),
-        (b"\n3C!", b"", true, b"3C!"),
-        (b"#C one\r\n\r\n", b"#C one", true, b"\r\n"),
-        (b"3C\r!\n", b"3C\r!", true, b""),
-        (b"3C!\r", b"3C!\r", false, b""),
-        (b"3C!\r\r\n", b"3C!\r", true, b""),
-    ];
-    for (text, bytes, is_ended, after) in &cases {
+    for (text, bytes, is_ended, after) in LINES {
         assert!(rt; !text.is_empty() && text.len() < 100);
         let (line, rest) = split_line(6, text);
         assert_eq!(rt; line.number, 7);
@@ -21,22 +23,24 @@ fn lines_by_their_texts(rt: HostRuntime) -> Result<(), Fail> {
     Ok(())
 }
 
+// Digits and their numbers.
+const NUMBERS: &[(&[u8], Option<u64>)] = &[
+    (b"0", Some(0)),
+    (b"007", Some(7)),
+    (b"18446744073709551615", Some(18_446_744_073_709_551_615)),
+    (
+        b"000018446744073709551615",
+        Some(18_446_744_073_709_551_615),
+    ),
+    (b"18446744073709551616", None),
+    (b"", None),
+    (b"+7", None),
+    (b"7 ", None),
+];
+
 #[test]
 fn numbers_by_their_digits(rt: HostRuntime) -> Result<(), Fail> {
-    let cases: [(&[u8], Option<u64>); 8] = [
-        (b"0", Some(0)),
-        (b"007", Some(7)),
-        (b"18446744073709551615", Some(18_446_744_073_709_551_615)),
-        (
-            b"000018446744073709551615",
-            Some(18_446_744_073_709_551_615),
-        ),
-        (b"18446744073709551616", None),
-        (b"", None),
-        (b"+7", None),
-        (b"7 ", None),
-    ];
-    for (digits, number) in &cases {
+    for (digits, number) in NUMBERS {
         assert_eq!(rt; number_in(digits), *number);
     }
     Ok(())

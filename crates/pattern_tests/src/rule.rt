@@ -40,22 +40,31 @@ fn is_text(rows: &CellRows, text: &[[u8; 3]]) -> bool {
         })
 }
 
+// Patterns, and the same a generation later.
+const GENERATIONS: &[(&[[u8; 3]], &[[u8; 3]])] = &[
+    (&[*b"ACC"], &[*b"BAC"]),
+    (&[*b"A..", *b".C."], &[*b"B..", *b".A."]),
+    (&[*b"AA.", *b".C."], &[*b"BB.", *b".A."]),
+    (&[*b"AAA", *b".C."], &[*b"BBB", *b".C."]),
+    (&[*b"..C", *b".C.", *b"A.B"], &[*b"..C", *b".A.", *b"B.C"]),
+];
+
+// Whether a pattern becomes the other, of its size, in one generation.
+fn becomes(alloc: Global, before: &[[u8; 3]], after: &[[u8; 3]]) -> Result<bool, Fail> {
+    let plane = Plane::from_pattern(alloc, &pattern_of(alloc, before)?)?;
+    let next = step_plain(alloc, &plane)?;
+    Ok(
+        is_text(&plane.rows, before)
+            && is_text(&next.rows, after)
+            && (next.width, next.height) == (plane.width, plane.height),
+    )
+}
+
 #[test]
 fn one_generation_by_the_rule(rt: HostRuntime) -> Result<(), Fail> {
     let alloc = rt.alloc();
-    let cases: [(&[[u8; 3]], &[[u8; 3]]); 5] = [
-        (&[*b"ACC"], &[*b"BAC"]),
-        (&[*b"A..", *b".C."], &[*b"B..", *b".A."]),
-        (&[*b"AA.", *b".C."], &[*b"BB.", *b".A."]),
-        (&[*b"AAA", *b".C."], &[*b"BBB", *b".C."]),
-        (&[*b"..C", *b".C.", *b"A.B"], &[*b"..C", *b".A.", *b"B.C"]),
-    ];
-    for (before, after) in cases {
-        let plane = Plane::from_pattern(alloc, &pattern_of(alloc, before)?)?;
-        assert!(rt; is_text(&plane.rows, before));
-        let next = step_plain(alloc, &plane)?;
-        assert!(rt; is_text(&next.rows, after), "{before:?}");
-        assert_eq!(rt; (next.width, next.height), (plane.width, plane.height));
+    for (before, after) in GENERATIONS {
+        assert!(rt; becomes(alloc, before, after)?, "{before:?}");
     }
     Ok(())
 }

@@ -1,5 +1,5 @@
 // Streams from words, and patterns that streams drive.
-ghost use Rattle.std.specs.Prelude.{◌≡◌, [], ◌∷◌, All, length, IfOk};
+ghost use Rattle.std.specs.Prelude.{◌≡◌, ◌<◌, [], ◌∷◌, All, length, IfOk};
 ghost use Rattle.pattern_reading.specs.Ports.{cells_of};
 
 use drive::{SimulateError, StreamError, StreamFaultKind, Streams, simulate};
@@ -9,8 +9,16 @@ use std::alloc::{AllocError, Global};
 use std::test::Fail;
 use ww_rule::{CellRows, Pattern, State};
 
-// The rows of an OR gate from its row 8 to its row 24: the inputs enter at (0, 8) and (0, 24), the output is at (32, 8).
-const OR_ROWS: [[u8; 33]; 17] = [
+// The rows of an OR gate: the inputs enter at (0, 8) and (0, 24), the output is at (32, 8).
+const OR_ROWS: &[[u8; 33]; 32] = &[
+    *b".................................",
+    *b".................................",
+    *b".................................",
+    *b".................................",
+    *b".................................",
+    *b".................................",
+    *b".................................",
+    *b".................................",
     *b"CCCCC..................CCCCCCCCCC",
     *b".....C................C..........",
     *b"......C..............C...........",
@@ -28,6 +36,13 @@ const OR_ROWS: [[u8; 33]; 17] = [
     *b"......C..........................",
     *b".....C...........................",
     *b"CCCCC..........................C.",
+    *b".................................",
+    *b".................................",
+    *b".................................",
+    *b".................................",
+    *b".................................",
+    *b".................................",
+    *b".................................",
 ];
 
 fn state_of(letter: u8) -> State {
@@ -75,18 +90,14 @@ fn wire_down(alloc: Global) -> Result<Pattern, AllocError>
     })
 }
 
-// The OR gate, with its empty rows.
+// The OR gate.
 fn or_gate(alloc: Global) -> Result<Pattern, AllocError>
     ensures width { IfOk result (λ pattern. pattern.width ≡ 33) }
     ensures height { IfOk result (λ pattern. pattern.height ≡ 32) }
 {
     let mut rows = CellRows::with_room(alloc, 33, 32)?;
-    for y in 0..32 {
-        let row = if 8 <= y && y < 25 {
-            stream_row(alloc, &OR_ROWS[y - 8])?
-        } else {
-            stream_row(alloc, &[b'.'; 33])?
-        };
+    for drawn in OR_ROWS {
+        let row = stream_row(alloc, drawn)?;
         rows.push_row(row.as_slice())?;
     }
     Ok(Pattern {
@@ -104,27 +115,31 @@ fn port(alloc: Global, x: u64, y: u64, name: &[u8]) -> Result<PortLine, AllocErr
     Ok(PortLine { x, y, name })
 }
 
-// The wire's table: it enters at its west end, and leaves at its east end two generations later.
-fn wire_ports(alloc: Global, p: u64) -> Result<Ports, AllocError>
+// A wire's table: it enters at its first cell, and leaves at these cells two generations later.
+fn wire_ports(alloc: Global, p: u64, outputs: &[(u64, u64)]) -> Result<Ports, AllocError>
     ensures { IfOk result (λ ports. cells_of ports.ins ≡ (0, 0) ∷ []) }
 {
+    let mut outs = Vec::new(alloc);
+    for (x, y) in outputs {
+        outs.push(port(alloc, *x, *y, b"y")?)?;
+    }
     Ok(Ports {
         p,
         l: 2,
         ins: List::of(Vec::from_array(alloc, [port(alloc, 0, 0, b"a")?])?),
-        outs: List::of(Vec::from_array(alloc, [port(alloc, 2, 0, b"y")?])?),
+        outs: List::of(outs),
         nets: List::of(Vec::new(alloc)),
     })
 }
 
 // The gate's table.
-fn or_ports(alloc: Global) -> Result<Ports, AllocError>
+fn or_ports(alloc: Global, p: u64, l: u64) -> Result<Ports, AllocError>
     ensures { IfOk result (λ ports. cells_of ports.ins ≡ (0, 8) ∷ (0, 24) ∷ []) }
 {
     let ins = [port(alloc, 0, 8, b"a")?, port(alloc, 0, 24, b"b")?];
     Ok(Ports {
-        p: 32,
-        l: 32,
+        p,
+        l,
         ins: List::of(Vec::from_array(alloc, ins)?),
         outs: List::of(Vec::from_array(alloc, [port(alloc, 32, 8, b"y")?])?),
         nets: List::of(Vec::new(alloc)),
@@ -161,30 +176,62 @@ fn only_bits(shown: &[List<bool>]) -> &[bool] {
     }
 }
 
+// What a wire shows of the two bits of a word.
+fn wire_shown(
+    alloc: Global,
+    wire: Pattern,
+    ports: &Ports,
+    word: &str,
+) -> Result<List<List<bool>>, Fail>
+    requires width { 0 < wire.width }
+    requires height { 0 < wire.height }
+    requires ins { cells_of ports.now.ins ≡ (0, 0) ∷ [] }
+{
+    let Ok(streams) = read(alloc, &[word], &[b"a"], 2) else {
+        return Err(Fail::new("no streams"));
+    };
+    Ok(simulate(alloc, wire, ports, &streams)?)
+}
+
+// Periods, and what is shown of two bits that are lit.
+const LIT: &[(u64, [bool; 2])] = &[
+    (4, [true, true]),
+    (3, [true, true]),
+    (2, [true, false]),
+    (1, [true, false]),
+];
+
 #[test]
 fn a_wire_shows_what_is_injected(rt: HostRuntime) -> Result<(), Fail> {
     let alloc = rt.alloc();
-    let cases = [
-        (4, [true, true]),
-        (3, [true, true]),
-        (2, [true, false]),
-        (1, [true, false]),
-    ];
+    for (p, want) in LIT {
+        let ports = wire_ports(alloc, *p, &[(2, 0)])?;
+        let shown = wire_shown(alloc, wire(alloc)?, &ports, "a=11")?;
+        assert_eq!(rt; only_bits(shown.as_slice()), want.as_slice(), "period {p}");
+    }
+    Ok(())
+}
+
+#[test]
+fn a_wire_downward_shows_the_same(rt: HostRuntime) -> Result<(), Fail> {
+    let alloc = rt.alloc();
+    for (p, want) in LIT {
+        let ports = wire_ports(alloc, *p, &[(0, 2)])?;
+        let shown = wire_shown(alloc, wire_down(alloc)?, &ports, "a=11")?;
+        assert_eq!(rt; only_bits(shown.as_slice()), want.as_slice(), "period {p}");
+    }
+    Ok(())
+}
+
+#[test]
+fn generations_past_the_greatest_are_refused(rt: HostRuntime) -> Result<(), Fail> {
+    let alloc = rt.alloc();
     let Ok(streams) = read(alloc, &["a=11"], &[b"a"], 2) else {
         return Err(Fail::new("no streams"));
     };
-    for (p, want) in cases {
-        let shown = simulate(alloc, wire(alloc)?, &wire_ports(alloc, p)?, &streams)?;
-        assert_eq!(rt; only_bits(shown.as_slice()), want.as_slice(), "period {p}");
-    }
-    let far = simulate(
-        alloc,
-        wire(alloc)?,
-        &wire_ports(alloc, 4_294_967_296)?,
-        &streams,
-    );
+    let ports = wire_ports(alloc, 4_294_967_296, &[(2, 0)])?;
     let is_too_far = matches!(
-        far,
+        simulate(alloc, wire(alloc)?, &ports, &streams),
         Err(SimulateError::TooFar {
             generations: 4_294_967_298
         })
@@ -193,106 +240,94 @@ fn a_wire_shows_what_is_injected(rt: HostRuntime) -> Result<(), Fail> {
     Ok(())
 }
 
-#[test]
-fn a_wire_downward_shows_the_same(rt: HostRuntime) -> Result<(), Fail> {
-    let alloc = rt.alloc();
-    let Ok(streams) = read(alloc, &["a=11"], &[b"a"], 2) else {
-        return Err(Fail::new("no streams"));
-    };
-    for (p, want) in [(4, [true, true]), (2, [true, false])] {
-        let ports = Ports {
-            outs: List::of(Vec::from_array(alloc, [port(alloc, 0, 2, b"y")?])?),
-            ..wire_ports(alloc, p)?
-        };
-        let shown = simulate(alloc, wire_down(alloc)?, &ports, &streams)?;
-        assert_eq!(rt; only_bits(shown.as_slice()), want.as_slice(), "period {p}");
-    }
-    Ok(())
-}
+// Where a wire is left, its word, and what is shown: the word's second bit is dark, or nothing is seen.
+const DARK: &[(&[(u64, u64)], &str, &[bool])] = &[
+    (&[(2, 0)], "a=10", &[true, false]),
+    (&[], "a=11", &[]),
+];
 
 #[test]
 fn dark_generations_are_not_run(rt: HostRuntime) -> Result<(), Fail> {
     let alloc = rt.alloc();
-    let Ok(once) = read(alloc, &["a=10"], &[b"a"], 2) else {
-        return Err(Fail::new("no streams"));
-    };
-    let shown = simulate(
-        alloc,
-        wire(alloc)?,
-        &wire_ports(alloc, 4_294_967_294)?,
-        &once,
-    )?;
-    assert_eq!(rt; only_bits(shown.as_slice()), [true, false].as_slice());
-
-    let Ok(twice) = read(alloc, &["a=11"], &[b"a"], 2) else {
-        return Err(Fail::new("no streams"));
-    };
-    let unseen = Ports {
-        outs: List::of(Vec::new(alloc)),
-        ..wire_ports(alloc, 4_294_967_294)?
-    };
-    let shown = simulate(alloc, wire(alloc)?, &unseen, &twice)?;
-    assert!(rt; shown.as_slice().is_empty());
+    for (outputs, word, want) in DARK {
+        let ports = wire_ports(alloc, 4_294_967_294, outputs)?;
+        let shown = wire_shown(alloc, wire(alloc)?, &ports, word)?;
+        assert_eq!(rt;
+            (shown.len(), only_bits(shown.as_slice())),
+            (outputs.len(), *want)
+        );
+    }
     Ok(())
+}
+
+// What the gate shows of the bits of two words.
+fn gate_shown(
+    alloc: Global,
+    ports: &Ports,
+    words: &[&str],
+    cycles: usize,
+) -> Result<List<List<bool>>, Fail>
+    requires cycles { 0 < cycles }
+    requires ins { cells_of ports.now.ins ≡ (0, 8) ∷ (0, 24) ∷ [] }
+{
+    let Ok(streams) = read(alloc, words, &[b"a", b"b"], cycles) else {
+        return Err(Fail::new("no streams"));
+    };
+    Ok(simulate(alloc, or_gate(alloc)?, ports, &streams)?)
 }
 
 #[test]
 fn an_or_gate_is_driven(rt: HostRuntime) -> Result<(), Fail> {
     let alloc = rt.alloc();
-    let Ok(streams) = read(alloc, &["b=0101", "a=0011"], &[b"a", b"b"], 4) else {
-        return Err(Fail::new("no streams"));
-    };
-    let shown = simulate(alloc, or_gate(alloc)?, &or_ports(alloc)?, &streams)?;
+    let ports = or_ports(alloc, 32, 32)?;
+    let shown = gate_shown(alloc, &ports, &["b=0101", "a=0011"], 4)?;
     assert_eq!(rt;
         only_bits(shown.as_slice()),
         [false, true, true, true].as_slice()
     );
+    Ok(())
+}
 
-    // one head, and each generation up to 32
-    let ports = Ports {
-        p: 1,
-        l: 0,
-        ..or_ports(alloc)?
-    };
+// One head, and each generation up to 32.
+#[test]
+fn an_or_gate_takes_32_generations(rt: HostRuntime) -> Result<(), Fail> {
+    let alloc = rt.alloc();
     let words = [
         "a=100000000000000000000000000000000",
         "b=000000000000000000000000000000000",
     ];
-    let Ok(streams) = read(alloc, &words, &[b"a", b"b"], 33) else {
-        return Err(Fail::new("no streams"));
-    };
-    let shown = simulate(alloc, or_gate(alloc)?, &ports, &streams)?;
-    let [early @ .., last] = only_bits(shown.as_slice()) else {
-        return Err(Fail::new("no bits"));
-    };
-    assert!(rt; *last);
-    assert!(rt; !early.iter().any(|bit| *bit));
+    let mut want = [false; 33];
+    want[32] = true;
+    let ports = or_ports(alloc, 1, 0)?;
+    let shown = gate_shown(alloc, &ports, &words, 33)?;
+    assert_eq!(rt; only_bits(shown.as_slice()), want.as_slice());
     Ok(())
 }
+
+// Words for the inputs a and b in two cycles, and their first faults.
+const FAULTS: &[(&[&str], StreamFaultKind, &[u8])] = &[
+    (&["a=01", "b=0"], StreamFaultKind::BadLength, b"b=0"),
+    (&["a=01"], StreamFaultKind::MissingInput, b"b"),
+    (
+        &["a=01", "a=01", "b=01"],
+        StreamFaultKind::TwiceInput,
+        b"a=01",
+    ),
+    (&["a01", "b=0"], StreamFaultKind::NoEquals, b"a01"),
+    (&["c=2", "b"], StreamFaultKind::UnknownInput, b"c=2"),
+    (&["a=012", "b=01"], StreamFaultKind::BadBit, b"a=012"),
+    (&["a=01", "a=2"], StreamFaultKind::TwiceInput, b"a=2"),
+    (&["a=0", "a=01"], StreamFaultKind::BadLength, b"a=0"),
+    (&[], StreamFaultKind::MissingInput, b"a"),
+];
 
 #[test]
 fn the_first_fault_is_told(rt: HostRuntime) -> Result<(), Fail> {
     let alloc = rt.alloc();
-    let cases: [(&[&str], StreamFaultKind, &[u8]); 9] = [
-        (&["a=01", "b=0"], StreamFaultKind::BadLength, b"b=0"),
-        (&["a=01"], StreamFaultKind::MissingInput, b"b"),
-        (
-            &["a=01", "a=01", "b=01"],
-            StreamFaultKind::TwiceInput,
-            b"a=01",
-        ),
-        (&["a01", "b=0"], StreamFaultKind::NoEquals, b"a01"),
-        (&["c=2", "b"], StreamFaultKind::UnknownInput, b"c=2"),
-        (&["a=012", "b=01"], StreamFaultKind::BadBit, b"a=012"),
-        (&["a=01", "a=2"], StreamFaultKind::TwiceInput, b"a=2"),
-        (&["a=0", "a=01"], StreamFaultKind::BadLength, b"a=0"),
-        (&[], StreamFaultKind::MissingInput, b"a"),
-    ];
-    for (words, kind, word) in cases {
+    for (words, kind, word) in FAULTS {
         match read(alloc, words, &[b"a", b"b"], 2) {
             Err(StreamError::Fault(fault)) => {
-                assert_eq!(rt; fault.kind, kind);
-                assert_eq!(rt; fault.word.as_slice(), word);
+                assert_eq!(rt; (fault.kind, fault.word.as_slice()), (*kind, *word));
             }
             _ => return Err(Fail::new("no fault")),
         }

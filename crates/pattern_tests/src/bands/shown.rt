@@ -41,3 +41,23 @@ pub fn shown_row(
     }
     Ok(row)
 }
+
+/// All rows, one after the other.
+pub fn shown_rows(
+    alloc: Global,
+    bands: &Bands,
+    height: u32,
+    width: u64,
+    count: u64,
+) -> Result<Vec<u8>, AllocError>
+    requires height { height ≡ bands.now.height }
+    requires width { width ≡ bands.now.grid.width }
+    requires count { count ≡ length bands.now.grid.rows }
+{
+    let mut rows = Vec::new(alloc);
+    for y in 0..count {
+        let row = shown_row(alloc, bands, height, width, y)?;
+        rows.extend_from_slice(&row)?;
+    }
+    Ok(rows)
+}
