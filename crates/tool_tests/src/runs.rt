@@ -30,6 +30,13 @@ struct Outcome {
     err: Vec<u8>,
 }
 
+impl Outcome {
+    // Whether the run ended with this status, and wrote and told this.
+    fn is(&self, status: u8, out: &[u8], err: &[u8]) -> bool {
+        self.status == status && self.out.as_slice() == out && self.err.as_slice() == err
+    }
+}
+
 // A run over a source in memory, by its chunk and the calls that fail, and sinks with some room.
 fn run_over(
     alloc: Global,
@@ -59,9 +66,7 @@ fn run_over(
 fn an_or_gate_is_compiled_by_its_names(rt: HostRuntime) -> Result<(), Fail> {
     let alloc = rt.alloc();
     let got = run_over(alloc, COMPILE, GATE, (16, &[]), (317, 0))?;
-    assert_eq!(rt; got.status, 0);
-    assert_eq!(rt; got.out.as_slice(), PATTERN);
-    assert_eq!(rt; got.err.as_slice(), b"".as_slice());
+    assert!(rt; got.is(0, PATTERN, b""));
 
     let named =
         b".model X\n.inputs X sum_of_2_inputs_0\n.outputs _9\n.names X sum_of_2_inputs_0 _9\n1- 1\n-1 1\n.end\n";
@@ -115,18 +120,19 @@ fn each_failure_is_told(rt: HostRuntime) -> Result<(), Fail> {
     Ok(())
 }
 
+// How long a text is, the status, and the line that is told.
+const LONG_TEXTS: &[(usize, u8, &[u8])] = &[
+    (16_777_216, 1, b"B22 NoModel line 1: -\n"),
+    (16_777_217, 4, b"too long: limit 16777216\n"),
+];
+
 #[test]
 fn a_text_past_the_limit_is_too_long(rt: HostRuntime) -> Result<(), Fail> {
     let alloc = rt.alloc();
-    for (length, status, line) in [
-        (16_777_216, 1, b"B22 NoModel line 1: -\n".as_slice()),
-        (16_777_217, 4, b"too long: limit 16777216\n"),
-    ] {
-        let text = vec![in alloc; b'#'; length]?;
+    for (length, status, line) in LONG_TEXTS {
+        let text = vec![in alloc; b'#'; *length]?;
         let got = run_over(alloc, COMPILE, &text, (1 << 20, &[]), (317, 99))?;
-        assert_eq!(rt; got.status, status, "{length} bytes");
-        assert_eq!(rt; got.out.as_slice(), b"".as_slice());
-        assert_eq!(rt; got.err.as_slice(), line);
+        assert!(rt; got.is(*status, b"", line), "{length} bytes");
     }
     Ok(())
 }
@@ -152,31 +158,28 @@ fn what_compile_writes_is_simulated(rt: HostRuntime) -> Result<(), Fail> {
     let alloc = rt.alloc();
     let compiled = run_over(alloc, COMPILE, GATE, (16, &[]), (317, 0))?;
     let got = run_over(alloc, OR_STREAMS, &compiled.out, (16, &[]), (7, 0))?;
-    assert_eq!(rt; got.status, 0);
-    assert_eq!(rt; got.out.as_slice(), b"y=0111\n".as_slice());
-    assert_eq!(rt; got.err.as_slice(), b"".as_slice());
+    assert!(rt; got.is(0, b"y=0111\n", b""));
 
     let got = run_over(alloc, OR_STREAMS, &compiled.out, (16, &[]), (4, 99))?;
-    assert_eq!(rt; got.status, 6);
-    assert_eq!(rt; got.out.as_slice(), b"y=01".as_slice());
-    assert_eq!(rt; got.err.as_slice(), b"write fault\n".as_slice());
+    assert!(rt; got.is(6, b"y=01", b"write fault\n"));
     Ok(())
 }
+
+// Periods of the wire, and what two heads on its input show.
+const PERIODS: &[(&[u8], &[u8])] = &[
+    (b"4", b"y=11\n"),
+    (b"3", b"y=11\n"),
+    (b"2", b"y=10\n"),
+    (b"1", b"y=10\n"),
+];
 
 #[test]
 fn a_wire_shows_what_its_period_lets_through(rt: HostRuntime) -> Result<(), Fail> {
     let alloc = rt.alloc();
-    for (period, out) in [
-        (b"4".as_slice(), b"y=11\n".as_slice()),
-        (b"3", b"y=11\n"),
-        (b"2", b"y=10\n"),
-        (b"1", b"y=10\n"),
-    ] {
+    for (period, out) in PERIODS {
         let text = wire(alloc, period)?;
         let got = run_over(alloc, TWO_CYCLES, &text, (16, &[]), (99, 0))?;
-        assert_eq!(rt; got.status, 0);
-        assert_eq!(rt; got.out.as_slice(), out);
-        assert_eq!(rt; got.err.as_slice(), b"".as_slice());
+        assert!(rt; got.is(0, out, b""));
     }
     let bare = b"#CXRLE Pos=0,0\nx = 3, y = 1, rule = wireworld\n3C$!";
     let got = run_over(alloc, ONE_CYCLE, bare, (16, &[]), (0, 0))?;
@@ -184,70 +187,75 @@ fn a_wire_shows_what_its_period_lets_through(rt: HostRuntime) -> Result<(), Fail
     Ok(())
 }
 
+// Words, a pattern, the status, and the line that is told.
+const REFUSED_PATTERNS: &[(&[&str], &[u8], u8, &[u8])] = &[
+    (
+        TWO_CYCLES,
+        b"#C BLIFWW 1 P 4294967296 L 2\n#C BLIFWW IN 0 0 a\n#C BLIFWW OUT 2 0 y\nx = 3, y = 1, rule = WireWorld\n3C!\n",
+        4,
+        b"too large: generations 4294967298\n",
+    ),
+    (
+        TWO_CYCLES,
+        b"#C BLIFWW 1 P 0 L 2\n#C BLIFWW IN 0 0 a\n#C BLIFWW OUT 2 0 y\nx = 3, y = 1, rule = WireWorld\n3C!\n",
+        8,
+        b"H1 BadLine line 1\n",
+    ),
+    (
+        TWO_CYCLES,
+        b"#C BLIFWW IN 0 0 a\n#C BLIFWW OUT 2 0 y\nx = 3, y = 1, rule = WireWorld\n3C!\n",
+        8,
+        b"H2 BadOrder line 1\n",
+    ),
+    (
+        TWO_CYCLES,
+        b"#C BLIFWW 1 P 4 L 2\n#C BLIFWW IN 3 0 a\n#C BLIFWW OUT 2 0 y\nx = 3, y = 1, rule = WireWorld\n3C!\n",
+        8,
+        b"H3 CellOutside line 2\n",
+    ),
+    (
+        TWO_CYCLES,
+        b"#C BLIFWW 1 P 4 L 2\n#C BLIFWW IN 0 0 a\n#C BLIFWW IN 0 0 a\n#C BLIFWW OUT 2 0 y\nx = 3, y = 1, rule = WireWorld\n3C!\n",
+        8,
+        b"H4 Twice line 3\n",
+    ),
+    (
+        ONE_CYCLE,
+        b"#CXRLE Pos=0,0\nx = 3, y = 1, rule = wireworld\n0C!",
+        8,
+        b"G4 BadItem line 3\n",
+    ),
+    (
+        ONE_CYCLE,
+        b"#CXRLE Pos=0,0\nx = 3, y = 1, rule = wireworld\n3C$",
+        8,
+        b"G6 NoEnd line 3\n",
+    ),
+    (
+        ONE_CYCLE,
+        b"#C BLIFWW\nx = 65536, y = 4097, rule = WireWorld\n0C",
+        4,
+        b"too large: grid 65536 by 4097\n",
+    ),
+];
+
 #[test]
 fn a_text_that_gives_no_simulation_is_refused(rt: HostRuntime) -> Result<(), Fail> {
-    let alloc = rt.alloc();
-    let far = wire(alloc, b"4294967296")?;
-    let zero = wire(alloc, b"0")?;
-    for (words, text, status, line) in [
-        (
-            TWO_CYCLES,
-            far.as_slice(),
-            4,
-            b"too large: generations 4294967298\n".as_slice(),
-        ),
-        (TWO_CYCLES, zero.as_slice(), 8, b"H1 BadLine line 1\n"),
-        (
-            TWO_CYCLES,
-            b"#C BLIFWW IN 0 0 a\n#C BLIFWW OUT 2 0 y\nx = 3, y = 1, rule = WireWorld\n3C!\n",
-            8,
-            b"H2 BadOrder line 1\n",
-        ),
-        (
-            TWO_CYCLES,
-            b"#C BLIFWW 1 P 4 L 2\n#C BLIFWW IN 3 0 a\n#C BLIFWW OUT 2 0 y\nx = 3, y = 1, rule = WireWorld\n3C!\n",
-            8,
-            b"H3 CellOutside line 2\n",
-        ),
-        (
-            TWO_CYCLES,
-            b"#C BLIFWW 1 P 4 L 2\n#C BLIFWW IN 0 0 a\n#C BLIFWW IN 0 0 a\n#C BLIFWW OUT 2 0 y\nx = 3, y = 1, rule = WireWorld\n3C!\n",
-            8,
-            b"H4 Twice line 3\n",
-        ),
-        (
-            ONE_CYCLE,
-            b"#CXRLE Pos=0,0\nx = 3, y = 1, rule = wireworld\n0C!",
-            8,
-            b"G4 BadItem line 3\n",
-        ),
-        (
-            ONE_CYCLE,
-            b"#CXRLE Pos=0,0\nx = 3, y = 1, rule = wireworld\n3C$",
-            8,
-            b"G6 NoEnd line 3\n",
-        ),
-        (
-            ONE_CYCLE,
-            b"#C BLIFWW\nx = 65536, y = 4097, rule = WireWorld\n0C",
-            4,
-            b"too large: grid 65536 by 4097\n",
-        ),
-    ] {
-        let got = run_over(alloc, words, text, (16, &[]), (99, 99))?;
-        assert_eq!(rt; got.status, status);
-        assert_eq!(rt; got.out.as_slice(), b"".as_slice());
-        assert_eq!(rt; got.err.as_slice(), line);
+    for (words, text, status, line) in REFUSED_PATTERNS {
+        let got = run_over(rt.alloc(), words, text, (16, &[]), (99, 99))?;
+        assert!(rt; got.is(*status, b"", line));
     }
     Ok(())
 }
 
+const WITHOUT_CELLS: &[&[u8]] = &[
+    b"x = 18446744073709551615, y = 0, rule = WireWorld\n!",
+    b"x = 0, y = 18446744073709551615, rule = WireWorld\n!",
+];
+
 #[test]
 fn a_box_without_cells_shows_nothing(rt: HostRuntime) -> Result<(), Fail> {
-    for text in [
-        b"x = 18446744073709551615, y = 0, rule = WireWorld\n!".as_slice(),
-        b"x = 0, y = 18446744073709551615, rule = WireWorld\n!",
-    ] {
+    for text in WITHOUT_CELLS {
         let got = run_over(rt.alloc(), ONE_CYCLE, text, (16, &[]), (0, 0))?;
         assert_eq!(rt; got.status, 0);
     }
@@ -286,9 +294,7 @@ const REFUSED_WORDS: &[(&[&str], u8, &[u8])] = &[
 fn words_that_give_no_streams_are_refused(rt: HostRuntime) -> Result<(), Fail> {
     for (words, status, line) in REFUSED_WORDS {
         let got = run_over(rt.alloc(), words, PATTERN, (16, &[]), (99, 99))?;
-        assert_eq!(rt; got.status, *status);
-        assert_eq!(rt; got.out.as_slice(), b"".as_slice());
-        assert_eq!(rt; got.err.as_slice(), *line);
+        assert!(rt; got.is(*status, b"", line));
     }
     Ok(())
 }
@@ -345,9 +351,7 @@ const VIEWS: &[(&[&str], &[u8], u8, &[u8], &[u8])] = &[
 fn a_net_and_a_part_of_the_plane_are_shown(rt: HostRuntime) -> Result<(), Fail> {
     for (words, text, status, out, err) in VIEWS {
         let got = run_over(rt.alloc(), words, text, (16, &[]), (99, 99))?;
-        assert_eq!(rt; got.status, *status);
-        assert_eq!(rt; got.out.as_slice(), *out);
-        assert_eq!(rt; got.err.as_slice(), *err);
+        assert!(rt; got.is(*status, out, err));
     }
     Ok(())
 }

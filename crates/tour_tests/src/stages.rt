@@ -277,16 +277,22 @@ fn planned(alloc: Global, netlist: &Netlist) -> Result<(CellList, Planned), Fail
     Ok((list, planned))
 }
 
+// The texts of a netlist's stages: flat, as cells, and as lanes and columns.
+fn stages(alloc: Global, text: &[u8]) -> Result<[String; 3], Fail> {
+    let netlist = netlist_of(alloc, text)?;
+    let (list, planned) = planned(alloc, &netlist)?;
+    let flat = flat_stage(alloc, &netlist.flat)?;
+    let cells = cells_stage(alloc, &list)?;
+    let lanes = lanes_stage(alloc, &netlist.flat, &planned.plan)?;
+    Ok([flat, cells, lanes])
+}
+
 #[test]
 fn stages_of_the_toggle_are_those_of_the_tour(rt: HostRuntime) -> Result<(), Fail> {
-    let alloc = rt.alloc();
-    let netlist = netlist_of(alloc, TOGGLE)?;
-    let flat = flat_stage(alloc, &netlist.flat)?;
-    assert_eq!(rt; flat.as_str(), FLAT);
-    let (list, planned) = planned(alloc, &netlist)?;
-    let cells = cells_stage(alloc, &list)?;
-    assert_eq!(rt; cells.as_str(), CELLS);
-    let lanes = lanes_stage(alloc, &netlist.flat, &planned.plan)?;
-    assert_eq!(rt; lanes.as_str(), LANES);
+    let [flat, cells, lanes] = stages(rt.alloc(), TOGGLE)?;
+    assert_eq!(rt;
+        [flat.as_str(), cells.as_str(), lanes.as_str()],
+        [FLAT, CELLS, LANES]
+    );
     Ok(())
 }

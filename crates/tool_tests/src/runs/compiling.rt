@@ -15,6 +15,22 @@ fn driven(
     run_over(alloc, &given, text, (4096, &[]), (99, 99))
 }
 
+// The pattern that `compile` writes of a netlist.
+fn compiled(alloc: Global, text: &[u8]) -> Result<Vec<u8>, Fail> {
+    let got = run_over(
+        alloc,
+        &["blifww", "compile"],
+        text,
+        (4096, &[]),
+        (1 << 20, 0),
+    )?;
+    if got.status == 0 {
+        Ok(got.out)
+    } else {
+        Err(Fail::new("the netlist is not compiled"))
+    }
+}
+
 const COUNTER: &[u8] =
     b".model k\n.outputs q0 q1\n.latch n0 q0 0\n.latch n1 q1 0\n.names q0 n0\n0 1\n.names q0 q1 n1\n10 1\n01 1\n.end\n";
 
@@ -89,20 +105,12 @@ const SHOWN: &[(&[u8], &[&str], &[u8])] = &[
 fn what_compile_writes_shows_the_netlist(rt: HostRuntime) -> Result<(), Fail> {
     let alloc = rt.alloc();
     for (text, words, lines) in SHOWN {
-        let compiled = run_over(
-            alloc,
-            &["blifww", "compile"],
-            text,
-            (4096, &[]),
-            (1 << 16, 0),
-        )?;
-        assert_eq!(rt; compiled.status, 0);
-        let simulated = driven(alloc, "simulate", words, &compiled.out)?;
-        assert_eq!(rt; simulated.status, 0);
-        assert_eq!(rt; simulated.out.as_slice(), *lines);
+        let simulated = driven(alloc, "simulate", words, &compiled(alloc, text)?)?;
         let evaluated = driven(alloc, "eval", words, text)?;
-        assert_eq!(rt; evaluated.status, 0);
-        assert_eq!(rt; evaluated.out.as_slice(), *lines);
+        assert!(rt;
+            simulated.is(0, lines, b"") && evaluated.is(0, lines, b""),
+            "{words:?}"
+        );
     }
     Ok(())
 }
@@ -172,24 +180,16 @@ const PROBED: &[(&[u8], &[u8], &[&str], &[(&str, &str, &str)])] = &[
 fn each_net_can_be_probed(rt: HostRuntime) -> Result<(), Fail> {
     let alloc = rt.alloc();
     for (model, text, words, nets) in PROBED {
-        let compiled = run_over(
-            alloc,
-            &["blifww", "compile"],
-            text,
-            (4096, &[]),
-            (1 << 16, 0),
-        )?;
-        assert_eq!(rt; compiled.status, 0);
+        let pattern = compiled(alloc, text)?;
         let Some((cycles, streams)) = words.split_first() else {
             return Err(Fail::new("no number of cycles"));
         };
         for (net, path, bits) in *nets {
             let mut given = vec![in alloc; *cycles, "--net", *net, "--path", *path]?;
             given.extend_from_slice(streams)?;
-            let probed = driven(alloc, "probe", &given, &compiled.out)?;
-            assert_eq!(rt; probed.status, 0, "{net} {path}");
+            let probed = driven(alloc, "probe", &given, &pattern)?;
             let line = format!(in alloc; "{net}={bits}\n")?;
-            assert_eq!(rt; probed.out.as_slice(), line.as_bytes());
+            assert!(rt; probed.is(0, line.as_bytes(), b""), "{net} {path}");
             if *path != "-" {
                 continue;
             }
@@ -217,15 +217,7 @@ const BEGUN: &[(&[u8], &[u8])] = &[
 fn what_compile_writes_begins_with_its_times(rt: HostRuntime) -> Result<(), Fail> {
     let alloc = rt.alloc();
     for (text, begin) in BEGUN {
-        let compiled = run_over(
-            alloc,
-            &["blifww", "compile"],
-            text,
-            (4096, &[]),
-            (1 << 20, 0),
-        )?;
-        assert_eq!(rt; compiled.status, 0);
-        assert!(rt; compiled.out.starts_with(begin));
+        assert!(rt; compiled(alloc, text)?.starts_with(begin));
     }
     Ok(())
 }

@@ -41,9 +41,7 @@ const RUNS: &[(&[&str], &[u8], &[u8])] = &[
 fn a_netlist_shows_its_run(rt: HostRuntime) -> Result<(), Fail> {
     for (words, text, out) in RUNS {
         let got = run_over(rt.alloc(), words, text, (16, &[]), (99, 0))?;
-        assert_eq!(rt; got.status, 0);
-        assert_eq!(rt; got.out.as_slice(), *out);
-        assert_eq!(rt; got.err.as_slice(), b"".as_slice());
+        assert!(rt; got.is(0, out, b""));
     }
     Ok(())
 }
@@ -84,9 +82,7 @@ const REFUSED_TEXTS: &[(&[u8], u8, &[u8])] = &[
 fn a_text_that_is_no_netlist_is_refused(rt: HostRuntime) -> Result<(), Fail> {
     for (text, status, line) in REFUSED_TEXTS {
         let got = run_over(rt.alloc(), ONE_CYCLE, text, (16, &[]), (99, 99))?;
-        assert_eq!(rt; got.status, *status);
-        assert_eq!(rt; got.out.as_slice(), b"".as_slice());
-        assert_eq!(rt; got.err.as_slice(), *line);
+        assert!(rt; got.is(*status, b"", line));
     }
     Ok(())
 }
@@ -111,9 +107,7 @@ const REFUSED_WORDS: &[(&[&str], &[u8])] = &[
 fn words_that_give_a_netlist_no_streams_are_refused(rt: HostRuntime) -> Result<(), Fail> {
     for (words, line) in REFUSED_WORDS {
         let got = run_over(rt.alloc(), words, GATE, (16, &[]), (99, 99))?;
-        assert_eq!(rt; got.status, 9);
-        assert_eq!(rt; got.out.as_slice(), b"".as_slice());
-        assert_eq!(rt; got.err.as_slice(), *line);
+        assert!(rt; got.is(9, b"", line));
     }
     Ok(())
 }

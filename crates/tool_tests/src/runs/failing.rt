@@ -8,9 +8,7 @@ fn each_read_that_fails_is_told(rt: HostRuntime) -> Result<(), Fail> {
     // The text has 61 bytes, and one read more finds its end.
     for call in 0..62u64 {
         let got = run_over(rt.alloc(), &words, GATE, (1, &[call]), (317, 99))?;
-        assert_eq!(rt; got.status, 5, "call {call}");
-        assert_eq!(rt; got.out.as_slice(), b"".as_slice());
-        assert_eq!(rt; got.err.as_slice(), b"read fault\n".as_slice());
+        assert!(rt; got.is(5, b"", b"read fault\n"), "call {call}");
     }
     let got = run_over(rt.alloc(), &words, GATE, (1, &[62]), (317, 0))?;
     assert_eq!(rt; got.status, 0);
@@ -61,18 +59,12 @@ const COMMANDS: &[(&[&str], &[u8])] = &[
 fn each_command_tells_what_failed(rt: HostRuntime) -> Result<(), Fail> {
     for (words, text) in COMMANDS {
         let unread = run_over(rt.alloc(), words, text, (16, &[0]), (99, 99))?;
-        assert_eq!(rt; unread.status, 5);
-        assert_eq!(rt; unread.out.as_slice(), b"".as_slice());
-        assert_eq!(rt; unread.err.as_slice(), b"read fault\n".as_slice());
+        assert!(rt; unread.is(5, b"", b"read fault\n"));
         let unwritten = run_over(rt.alloc(), words, text, (16, &[]), (0, 99))?;
-        assert_eq!(rt; unwritten.status, 6);
-        assert_eq!(rt; unwritten.out.as_slice(), b"".as_slice());
-        assert_eq!(rt; unwritten.err.as_slice(), b"write fault\n".as_slice());
+        assert!(rt; unwritten.is(6, b"", b"write fault\n"));
     }
     // Nothing is on either where the line of a refusal fails at once.
     let got = run_over(rt.alloc(), &["blifww"], b"", (16, &[]), (99, 0))?;
-    assert_eq!(rt; got.status, 6);
-    assert_eq!(rt; got.out.as_slice(), b"".as_slice());
-    assert_eq!(rt; got.err.as_slice(), b"".as_slice());
+    assert!(rt; got.is(6, b"", b""));
     Ok(())
 }

@@ -31,61 +31,47 @@ fn broad(alloc: Global, places: usize) -> Result<Vec<u8>, Fail> {
     Ok(text)
 }
 
-#[test]
-fn models_inside_models_show_their_run(rt: HostRuntime) -> Result<(), Fail> {
-    let alloc = rt.alloc();
-    for (words, text, out) in [
-        (
-            ["blifww", "eval", "--cycles", "3", "a=011"].as_slice(),
-            chain(alloc, 300)?,
-            b"y=100\n".as_slice(),
-        ),
-        (
-            &["blifww", "eval", "--cycles", "1"],
-            broad(alloc, 500)?,
-            b"y=1\n",
-        ),
-        // a net that goes in through two formals and comes out through a third
-        (
-            &["blifww", "eval", "--cycles", "4"],
-            b".model m\n.outputs n\n.subckt p u=n v=n w=n\n.end\n.model p\n.inputs u v\n.outputs w\n.names u v d\n00 1\n.latch d w 0\n.end\n".to_vec(
-                alloc,
-            )?,
-            b"n=0101\n",
-        ),
-    ] {
-        let got = run_over(alloc, words, text.as_slice(), (16, &[]), (99, 0))?;
-        assert_eq!(rt; got.status, 0);
-        assert_eq!(rt; got.out.as_slice(), out);
-        assert_eq!(rt; got.err.as_slice(), b"".as_slice());
-    }
-    Ok(())
+const ONE_CYCLE: &[&str] = &["blifww", "eval", "--cycles", "1"];
+
+// A net that goes in through two formals and comes out through a third.
+const THROUGH: &[u8] =
+    b".model m\n.outputs n\n.subckt p u=n v=n w=n\n.end\n.model p\n.inputs u v\n.outputs w\n.names u v d\n00 1\n.latch d w 0\n.end\n";
+
+// Whether a netlist's run shows this line.
+fn shows(alloc: Global, words: &[&str], text: &[u8], line: &[u8]) -> Result<bool, Fail> {
+    Ok(run_over(alloc, words, text, (16, &[]), (99, 0))?.is(0, line, b""))
 }
 
 #[test]
+fn models_inside_models_show_their_run(rt: HostRuntime) -> Result<(), Fail> {
+    let alloc = rt.alloc();
+    let three = ["blifww", "eval", "--cycles", "3", "a=011"];
+    assert!(rt; shows(alloc, &three, &chain(alloc, 300)?, b"y=100\n")?);
+    assert!(rt; shows(alloc, ONE_CYCLE, &broad(alloc, 500)?, b"y=1\n")?);
+    let four = ["blifww", "eval", "--cycles", "4"];
+    assert!(rt; shows(alloc, &four, THROUGH, b"n=0101\n")?);
+    Ok(())
+}
+
+// Netlists, the status, and the line that is told.
+const CIRCLES: &[(&[u8], u8, &[u8])] = &[
+    (
+        b".model a\n.subckt b\n.end\n.model b\n.subckt a\n",
+        1,
+        b"B19 Recursive line 2: a b\n",
+    ),
+    (
+        b".model m\n.outputs y\n.subckt i a=y z=y\n.end\n.model i\n.inputs a\n.outputs z\n.names a z\n0 1\n",
+        3,
+        b"loop: y\n",
+    ),
+];
+
+#[test]
 fn circles_through_models_are_refused(rt: HostRuntime) -> Result<(), Fail> {
-    for (text, status, line) in [
-        (
-            b".model a\n.subckt b\n.end\n.model b\n.subckt a\n".as_slice(),
-            1,
-            b"B19 Recursive line 2: a b\n".as_slice(),
-        ),
-        (
-            b".model m\n.outputs y\n.subckt i a=y z=y\n.end\n.model i\n.inputs a\n.outputs z\n.names a z\n0 1\n",
-            3,
-            b"loop: y\n",
-        ),
-    ] {
-        let got = run_over(
-            rt.alloc(),
-            &["blifww", "eval", "--cycles", "1"],
-            text,
-            (16, &[]),
-            (99, 99),
-        )?;
-        assert_eq!(rt; got.status, status);
-        assert_eq!(rt; got.out.as_slice(), b"".as_slice());
-        assert_eq!(rt; got.err.as_slice(), line);
+    for (text, status, line) in CIRCLES {
+        let got = run_over(rt.alloc(), ONE_CYCLE, text, (16, &[]), (99, 99))?;
+        assert!(rt; got.is(*status, b"", line));
     }
     Ok(())
 }

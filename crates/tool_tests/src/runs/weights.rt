@@ -37,40 +37,41 @@ fn deep(alloc: Global, models: usize) -> Result<Vec<u8>, Fail> {
     Ok(text)
 }
 
+// Numbers of inputs, the status, and the line that is told.
+const WIDE: &[(usize, u8, &[u8])] = &[
+    (1022, 9, b"stream: MissingInput i0\n"),
+    (1023, 4, b"too large: weight 1025 limit 1024\n"),
+];
+
+// Numbers of models that each place the next twice, and the line that is told.
+const DEEP: &[(usize, &[u8])] = &[
+    (40, b"too large: weight 3298534883326 limit 1024\n"),
+    (62, b"too large: weight 13835058055282163710 limit 1024\n"),
+    (63, b"too large: weight 18446744073709551615 limit 1024\n"),
+];
+
 #[test]
 fn a_netlist_past_the_limit_is_too_large(rt: HostRuntime) -> Result<(), Fail> {
     let alloc = rt.alloc();
-    for (text, status, line) in [
-        (
-            wide(alloc, 1022)?,
-            9,
-            b"stream: MissingInput i0\n".as_slice(),
-        ),
-        (
-            wide(alloc, 1023)?,
-            4,
-            b"too large: weight 1025 limit 1024\n",
-        ),
-        (
-            deep(alloc, 40)?,
-            4,
-            b"too large: weight 3298534883326 limit 1024\n",
-        ),
-        (
-            deep(alloc, 62)?,
-            4,
-            b"too large: weight 13835058055282163710 limit 1024\n",
-        ),
-        (
-            deep(alloc, 63)?,
-            4,
-            b"too large: weight 18446744073709551615 limit 1024\n",
-        ),
-    ] {
-        let got = run_over(alloc, ONE_CYCLE, &text, (4096, &[]), (99, 99))?;
-        assert_eq!(rt; got.status, status);
-        assert_eq!(rt; got.out.as_slice(), b"".as_slice());
-        assert_eq!(rt; got.err.as_slice(), line);
+    for (inputs, status, line) in WIDE {
+        let got = run_over(
+            alloc,
+            ONE_CYCLE,
+            &wide(alloc, *inputs)?,
+            (4096, &[]),
+            (99, 99),
+        )?;
+        assert!(rt; got.is(*status, b"", line));
+    }
+    for (models, line) in DEEP {
+        let got = run_over(
+            alloc,
+            ONE_CYCLE,
+            &deep(alloc, *models)?,
+            (4096, &[]),
+            (99, 99),
+        )?;
+        assert!(rt; got.is(4, b"", line));
     }
     Ok(())
 }
