@@ -1,8 +1,8 @@
 -- The first fault of lines, as a relation and as it is computed.
-use Rattle.std.proofs.lemmas.Bool.{and_parts}
-use Rattle.netlist_rules.proofs.FaultKinds.{Member, ascends, above}
-use Rattle.std.proofs.Common.{◌≡◌, refl, sym, ap, subst, ◌∙◌, ℕ, ◌<◌, ◌⊎◌, inl, inr, List, [], ◌∷◌, ◌++◌, reverse, true, arith, append_assoc, append-nil}
-use Rattle.std.specs.Prelude.{Some, None, Option, option_map}
+use Rattle.netlist_rules.proofs.FaultKinds.{Member}
+use Rattle.netlist_rules.proofs.LowestRule.{IsLowest, found, finds, not_broken, none_broken}
+use Rattle.std.proofs.Common.{◌≡◌, refl, sym, ap, subst, ◌∙◌, ℕ, ◌<◌, ◌⊎◌, inl, inr, List, [], ◌∷◌, ◌++◌, reverse, append_assoc, append-nil}
+use Rattle.std.specs.Prelude.{Some, None, Option}
 use Rattle.std.specs.Option.{option_or}
 use Rattle.std.proofs.lemmas.List.{reverse-append}
 use Rattle.blif_text.specs.declared.logical.Logical.{Logical}
@@ -28,63 +28,18 @@ line_rule AfterEnd before l = inr (inr (inr (inr (inr (inr (inr (inr (inr (inr (
 line_rule DuplicateModel before l = inr (inr (inr (inr (inr (inr (inr (inr (inr (inr (inr (inl refl)))))))))))
 line_rule _ before l = inl refl
 
-module _ (before : List Logical) (l : Logical) where
-  -- what is broken first
-  pub record FirstBroken (rules : List FaultKind) (f : Fault) : Type 0 where
-    pub line : f.line ≡ l.line
-    pub word : word_at_fault f.kind before l ≡ Some f.word
-    pub lowest : (kind : FaultKind) → Member kind rules → number_of kind < number_of f.kind → word_at_fault kind before l ≡ None
+-- a fault of a line, and the word at which the line breaks a rule
+abbrev fault_at : Logical → FaultKind → List ℕ → Fault
+fault_at l kind word = fault_on kind l.line word
 
-  found : (rules : List FaultKind) (f : Fault) → ascends rules ≡ true → first_broken rules before l ≡ Some f → FirstBroken rules f
-  found [] f up e = absurd (cc)
-  found (k ∷ ks) f up e = by (λ d. found ks f (and_parts _ _ up).1 d) (word_at_fault k before l) refl e
-    where
-      by : (first_broken ks before l ≡ Some f → FirstBroken ks f) → (o : Option (List ℕ)) → word_at_fault k before l ≡ o → option_or (option_map (fault_on k l.line) o) (first_broken ks before l) ≡ Some f → FirstBroken (k ∷ ks) f
-      by again (Some w) h d =
-          let same : fault_on k l.line w ≡ f = cc in
-          subst (λ g. FirstBroken (k ∷ ks) g) same (record {
-            line = refl;
-            word = h;
-            lowest = λ kind m lower. elim m as (λ _. word_at_fault kind before l ≡ None) [
-              | inl same_kind ↦ absurd (let n : number_of kind ≡ number_of k = ap number_of same_kind in omega arith)
-              | inr later ↦ absurd (let n : number_of k < number_of kind = above (number_of k) ks kind (and_parts _ _ up).0 later in omega arith)
-            ];
-          })
-      by again None h d =
-          let rest : FirstBroken ks f = again d in
-          record {
-            line = rest.line;
-            word = rest.word;
-            lowest = λ kind m lower. elim m as (λ _. word_at_fault kind before l ≡ None) [
-              | inl same_kind ↦ subst (λ j. word_at_fault j before l ≡ None) (sym same_kind) h
-              | inr later ↦ rest.lowest kind later lower
-            ];
-          }
+abbrev broken_at : List Logical → Logical → FaultKind → Option (List ℕ)
+broken_at before l kind = word_at_fault kind before l
 
-  not_found : (rules : List FaultKind) → first_broken rules before l ≡ None → (kind : FaultKind) → Member kind rules → word_at_fault kind before l ≡ None
-  not_found [] e kind m = absurd m
-  not_found (k ∷ ks) e kind m = by (λ d later. not_found ks d kind later) (word_at_fault k before l) refl e m
-    where
-      by : (first_broken ks before l ≡ None → Member kind ks → word_at_fault kind before l ≡ None) → (o : Option (List ℕ)) → word_at_fault k before l ≡ o → option_or (option_map (fault_on k l.line) o) (first_broken ks before l) ≡ None → Member kind (k ∷ ks) → word_at_fault kind before l ≡ None
-      by again (Some w) h d m = absurd (cc)
-      by again None h d (inl same_kind) = subst (λ j. word_at_fault j before l ≡ None) (sym same_kind) h
-      by again None h d (inr later) = again d later
+pub breaks_none : (before : List Logical) (l : Logical) → first_broken line_rules before l ≡ None → BreaksNone before l
+breaks_none before l e kind = elim (line_rule kind before l) as (λ _. word_at_fault kind before l ≡ None) [ inl h ↦ h | inr m ↦ not_broken (fault_at l) (broken_at before l) line_rules e kind m ]
 
-  pub breaks_none : first_broken line_rules before l ≡ None → BreaksNone before l
-  breaks_none e kind = elim (line_rule kind before l) as (λ _. word_at_fault kind before l ≡ None) [ inl h ↦ h | inr m ↦ not_found line_rules e kind m ]
-
-  finds : (rules : List FaultKind) (f : Fault) → ascends rules ≡ true → f.line ≡ l.line → Member f.kind rules → word_at_fault f.kind before l ≡ Some f.word → ((kind : FaultKind) → number_of kind < number_of f.kind → word_at_fault kind before l ≡ None) → first_broken rules before l ≡ Some f
-  finds [] f up at m w low = absurd m
-  finds (k ∷ ks) f up at (inl h) w low =
-      let here : word_at_fault k before l ≡ Some f.word = subst (λ j. word_at_fault j before l ≡ Some f.word) h w in
-      ap (λ o. option_or (option_map (fault_on k l.line) o) (first_broken ks before l)) here ∙ ap Some (ap (λ j. fault_on j l.line f.word) (sym h) ∙ ap (λ n. fault_on f.kind n f.word) (sym at))
-  finds (k ∷ ks) f up at (inr later) w low =
-      let none : word_at_fault k before l ≡ None = low k (above (number_of k) ks f.kind (and_parts _ _ up).0 later) in
-      ap (λ o. option_or (option_map (fault_on k l.line) o) (first_broken ks before l)) none ∙ finds ks f (and_parts _ _ up).1 at later w low
-
-  none_broken : (rules : List FaultKind) → BreaksNone before l → first_broken rules before l ≡ None
-  none_broken [] none = refl
-  none_broken (k ∷ ks) none = ap (λ o. option_or (option_map (fault_on k l.line) o) (first_broken ks before l)) (none k) ∙ none_broken ks none
+none_breaks : (before : List Logical) (l : Logical) → BreaksNone before l → first_broken line_rules before l ≡ None
+none_breaks before l none = none_broken (fault_at l) (broken_at before l) line_rules none
 
 -- the first fault of a list of lines that follows these, the nearest first
 pub record FirstAfter (before lines : List Logical) (f : Fault) : Type 0 where
@@ -102,15 +57,15 @@ turned l front before = ap (λ v. v ++ before) (reverse-append (l ∷ []) front)
 
 here_first : (before : List Logical) (l : Logical) (ls : List Logical) (f : Fault) → first_broken line_rules before l ≡ Some f → FirstAfter before (l ∷ ls) f
 here_first before l ls f e =
-    let b : FirstBroken before l line_rules f = found before l line_rules f refl e in
+    let b : IsLowest (fault_at l) (broken_at before l) line_rules f = found (fault_at l) (broken_at before l) (λ k w. refl) line_rules f refl e in
     record {
       front = [];
       line = l;
       back = ls;
       are_lines = refl;
-      at_its_line = b.line;
-      breaks = b.word;
-      is_lowest = λ kind lower. elim (line_rule kind before l) as (λ _. word_at_fault kind before l ≡ None) [ inl h ↦ h | inr m ↦ b.lowest kind m lower ];
+      at_its_line = ap (λ g. g.line) b.is_told;
+      breaks = b.breaks ∙ ap (λ g. Some g.word) (sym b.is_told);
+      is_lowest = λ kind lower. elim (line_rule kind before l) as (λ _. word_at_fault kind before l ≡ None) [ inl h ↦ h | inr m ↦ b.is_lowest kind m lower ];
       is_earliest = λ a x c h. empty a x c h;
     }
   where
@@ -151,10 +106,10 @@ is_found : (before front : List Logical) (line : Logical) (back : List Logical) 
     → ((a : List Logical) (e : Logical) (b : List Logical) → front ≡ a ++ e ∷ b → BreaksNone (reverse a ++ before) e) → fault_after before (front ++ line ∷ back) ≡ Some f
 is_found before [] line back f at w low none = elim (line_rule f.kind before line) as (λ _. fault_after before (line ∷ back) ≡ Some f) [
   | inl h ↦ absurd (cc)
-  | inr m ↦ ap (λ o. option_or o (fault_after (line ∷ before) back)) (finds before line line_rules f refl at m w low)
+  | inr m ↦ ap (λ o. option_or o (fault_after (line ∷ before) back)) (finds (fault_at line) (broken_at before line) line_rules f f.word refl m (ap (λ n. fault_on f.kind n f.word) at) w low)
 ]
 is_found before (l ∷ front) line back f at w low none =
-    ap (λ o. option_or o (fault_after (l ∷ before) (front ++ line ∷ back))) (none_broken before l line_rules (none [] l front refl))
+    ap (λ o. option_or o (fault_after (l ∷ before) (front ++ line ∷ back))) (none_breaks before l (none [] l front refl))
     ∙ is_found (l ∷ before) front line back f at (subst (λ v. word_at_fault f.kind v line ≡ Some f.word) (turned l front before) w) (λ kind lower. subst (λ v. word_at_fault kind v line ≡ None) (turned l front before) (low kind lower))
     (λ a e b h. subst (λ v. BreaksNone v e) (turned l a before) (none (l ∷ a) e b (ap (λ v. l ∷ v) h)))
 
@@ -199,7 +154,7 @@ none_after before (z ∷ zs) e front l back h = by (first_broken line_rules befo
 after_none : (before lines : List Logical) → ((front : List Logical) (l : Logical) (back : List Logical) → lines ≡ front ++ l ∷ back → BreaksNone (reverse front ++ before) l) → fault_after before lines ≡ None
 after_none before [] all = refl
 after_none before (z ∷ zs) all =
-    ap (λ o. option_or o (fault_after (z ∷ before) zs)) (none_broken before z line_rules (all [] z zs refl))
+    ap (λ o. option_or o (fault_after (z ∷ before) zs)) (none_breaks before z (all [] z zs refl))
     ∙ after_none (z ∷ before) zs (λ front l back h. subst (λ v. BreaksNone v l) (turned z front before) (all (z ∷ front) l back (ap (λ v. z ∷ v) h)))
 
 pub no_line_fault : NoLineFault

@@ -1,19 +1,17 @@
 -- The first fault of models, as a relation and as it is computed.
-use Rattle.std.proofs.lemmas.Bool.{and_parts, leb-true, leb-false}
+use Rattle.std.proofs.lemmas.Bool.{leb-true, leb-false}
 use Rattle.std.proofs.Common.{◌≡◌, ◌≢◌, refl, sym, ap, subst, ◌∙◌, ◌<◌, ◌≤◌, ◌⊎◌, inl, inr, List, [], ◌∷◌, ◌++◌, Bool, true, false, arith, cond}
-use Rattle.std.specs.Prelude.{Some, None, Option, option_map, nat_le, flat_map}
+use Rattle.std.specs.Prelude.{Some, None, Option, nat_le, flat_map}
 use Rattle.std.specs.List.{AllByRecursion}
-use Rattle.std.specs.Option.{option_or}
 use Rattle.netlist_core.specs.declared.model.Port.{Port}
 use Rattle.netlist_core.specs.declared.model.Model.{Model}
-use Rattle.netlist_rules.specs.declared.fault.Fault.{Fault}
 use Rattle.netlist_rules.specs.declared.fault.FaultKind.{FaultKind}
 use Rattle.netlist_rules.specs.declared.fault.FaultKind.TheVariants.{NoModelYet, UnknownDirective, Unsupported, BadCount, RowOutside, BadRow, MixedCover, BadLatch, BadPin, AfterEnd, DuplicateModel, DuplicatePort, MultipleDrivers, Undriven, NoSuchModel, NoSuchPin, PinTwice, PinMissing, Recursive, TwoClocks, ClockRead, NoModel}
-use Rattle.netlist_rules.specs.FaultNames.{number_of}
 use Rattle.netlist_core.specs.Names.{at_line}
 use Rattle.netlist_rules.specs.ModelFaults.{earlier_of, earliest, words_at_fault, fault_of_port, first_broken_by, model_rules, model_fault}
 use Rattle.netlist_rules.specs.Laws.{IsEarliest, all_words_at_fault, IsFirstModelFault, ModelFaultIsFirst, NoModelFault}
-use Rattle.netlist_rules.proofs.FaultKinds.{Member, ascends, above}
+use Rattle.netlist_rules.proofs.FaultKinds.{Member}
+use Rattle.netlist_rules.proofs.LowestRule.{IsLowest, found, finds, not_broken, none_broken}
 
 -- the earliest of a list
 all_later : (p q : Port) (ports : List Port) → p.line ≤ q.line → AllByRecursion (λ (r : Port). q.line ≤ r.line) ports → AllByRecursion (λ (r : Port). p.line ≤ r.line) ports
@@ -118,44 +116,9 @@ model_rule TwoClocks models = inl (no_words models models TwoClocks (λ ms m. re
 model_rule ClockRead models = inl (no_words models models ClockRead (λ ms m. refl))
 model_rule NoModel models = inl (no_words models models NoModel (λ ms m. refl))
 
-module _ (models : List Model) where
-  -- what is broken first
-  record FirstBroken (rules : List FaultKind) (f : Fault) : Type 0 where
-    pub words : earliest (all_words_at_fault f.kind models) ≡ Some (at_line f.line f.word)
-    pub lowest : (kind : FaultKind) → Member kind rules → number_of kind < number_of f.kind → all_words_at_fault kind models ≡ []
-
-  found : (rules : List FaultKind) (f : Fault) → ascends rules ≡ true → first_broken_by rules models ≡ Some f → FirstBroken rules f
-  found [] f up e = absurd (cc)
-  found (k ∷ ks) f up e = by (λ d. found ks f (and_parts _ _ up).1 d) (earliest (all_words_at_fault k models)) refl e
-    where
-      by : (first_broken_by ks models ≡ Some f → FirstBroken ks f) → (o : Option Port) → earliest (all_words_at_fault k models) ≡ o → option_or (option_map (fault_of_port k) o) (first_broken_by ks models) ≡ Some f → FirstBroken (k ∷ ks) f
-      by again (Some p) h d =
-          let same : fault_of_port k p ≡ f = cc in
-          subst (λ g. FirstBroken (k ∷ ks) g) same (record {
-            words = h;
-            lowest = λ kind m lower. elim m as (λ _. all_words_at_fault kind models ≡ []) [
-              | inl same_kind ↦ absurd (let n : number_of kind ≡ number_of k = ap number_of same_kind in omega arith)
-              | inr later ↦ absurd (let n : number_of k < number_of kind = above (number_of k) ks kind (and_parts _ _ up).0 later in omega arith)
-            ];
-          })
-      by again None h d =
-          let rest : FirstBroken ks f = again d in
-          record {
-            words = rest.words;
-            lowest = λ kind m lower. elim m as (λ _. all_words_at_fault kind models ≡ []) [
-              | inl same_kind ↦ subst (λ j. all_words_at_fault j models ≡ []) (sym same_kind) (none_empty (all_words_at_fault k models) h)
-              | inr later ↦ rest.lowest kind later lower
-            ];
-          }
-
-  finds : (rules : List FaultKind) (f : Fault) → ascends rules ≡ true → Member f.kind rules → earliest (all_words_at_fault f.kind models) ≡ Some (at_line f.line f.word) → ((kind : FaultKind) → number_of kind < number_of f.kind → all_words_at_fault kind models ≡ []) → first_broken_by rules models ≡ Some f
-  finds [] f up m w low = absurd m
-  finds (k ∷ ks) f up (inl h) w low =
-      let here : earliest (all_words_at_fault k models) ≡ Some (at_line f.line f.word) = subst (λ j. earliest (all_words_at_fault j models) ≡ Some (at_line f.line f.word)) h w in
-      ap (λ o. option_or (option_map (fault_of_port k) o) (first_broken_by ks models)) here ∙ ap (λ j. Some (fault_of_port j (at_line f.line f.word))) (sym h)
-  finds (k ∷ ks) f up (inr later) w low =
-      let none : all_words_at_fault k models ≡ [] = low k (above (number_of k) ks f.kind (and_parts _ _ up).0 later) in
-      ap (λ v. option_or (option_map (fault_of_port k) (earliest v)) (first_broken_by ks models)) none ∙ finds ks f (and_parts _ _ up).1 later w low
+-- the earliest word at which models break a rule
+abbrev broken_in : List Model → FaultKind → Option Port
+broken_in models kind = earliest (all_words_at_fault kind models)
 
 by_rules : (models : List Model) → models ≢ [] → model_fault models ≡ first_broken_by model_rules models
 by_rules [] some = absurd (some refl)
@@ -166,11 +129,11 @@ model_fault_is_first models fault = (λ p. to p.0 p.1, λ r. (from r, r.some_mod
   where
     to : model_fault models ≡ Some fault → models ≢ [] → IsFirstModelFault models fault
     to e some =
-        let b : FirstBroken models model_rules fault = found models model_rules fault refl (sym (by_rules models some) ∙ e) in
+        let b : IsLowest fault_of_port (broken_in models) model_rules fault = found fault_of_port (broken_in models) (λ k p. refl) model_rules fault refl (sym (by_rules models some) ∙ e) in
         record {
           some_model = some;
-          is_earliest = is_earliest (all_words_at_fault fault.kind models) (at_line fault.line fault.word) b.words;
-          is_lowest = λ kind lower. elim (model_rule kind models) as (λ _. all_words_at_fault kind models ≡ []) [ inl h ↦ h | inr m ↦ b.lowest kind m lower ];
+          is_earliest = is_earliest (all_words_at_fault fault.kind models) (at_line fault.line fault.word) (b.breaks ∙ ap (λ g. Some (at_line g.line g.word)) (sym b.is_told));
+          is_lowest = λ kind lower. elim (model_rule kind models) as (λ _. all_words_at_fault kind models ≡ []) [ inl h ↦ h | inr m ↦ none_empty (all_words_at_fault kind models) (b.is_lowest kind m lower) ];
         }
 
     some_word : all_words_at_fault fault.kind models ≡ [] → IsEarliest (all_words_at_fault fault.kind models) (at_line fault.line fault.word) → ⊥
@@ -184,24 +147,11 @@ model_fault_is_first models fault = (λ p. to p.0 p.1, λ r. (from r, r.some_mod
     from r =
         let i : IsEarliest (all_words_at_fault fault.kind models) (at_line fault.line fault.word) = r.is_earliest in
         let w : earliest (all_words_at_fault fault.kind models) ≡ Some (at_line fault.line fault.word) = ap earliest i.are_ports ∙ found_earliest i.front (at_line fault.line fault.word) i.back i.front_later i.back_no_earlier in
-        by_rules models r.some_model ∙ elim (model_rule fault.kind models) as (λ _. first_broken_by model_rules models ≡ Some fault) [ inl h ↦ absurd (some_word h i) | inr m ↦ finds models model_rules fault refl m w r.is_lowest ]
+        by_rules models r.some_model ∙ elim (model_rule fault.kind models) as (λ _. first_broken_by model_rules models ≡ Some fault) [ inl h ↦ absurd (some_word h i) | inr m ↦ finds fault_of_port (broken_in models) model_rules fault (at_line fault.line fault.word) refl m refl w (λ kind lower. ap earliest (r.is_lowest kind lower)) ]
 
 -- where no fault comes, no rule is broken
-not_found : (models : List Model) (rules : List FaultKind) → first_broken_by rules models ≡ None → (kind : FaultKind) → Member kind rules → all_words_at_fault kind models ≡ []
-not_found models [] e kind m = absurd m
-not_found models (k ∷ ks) e kind m = by (earliest (all_words_at_fault k models)) refl e m (λ d n. not_found models ks d kind n)
-  where
-    by : (o : Option Port) → earliest (all_words_at_fault k models) ≡ o → option_or (option_map (fault_of_port k) o) (first_broken_by ks models) ≡ None → Member kind (k ∷ ks) → (first_broken_by ks models ≡ None → Member kind ks → all_words_at_fault kind models ≡ []) → all_words_at_fault kind models ≡ []
-    by (Some p) h d m again = absurd (cc)
-    by None h d (inl same_kind) again = subst (λ j. all_words_at_fault j models ≡ []) (sym same_kind) (none_empty (all_words_at_fault k models) h)
-    by None h d (inr later) again = again d later
-
-none_broken : (models : List Model) (rules : List FaultKind) → ((kind : FaultKind) → all_words_at_fault kind models ≡ []) → first_broken_by rules models ≡ None
-none_broken models [] none = refl
-none_broken models (k ∷ ks) none = ap (λ v. option_or (option_map (fault_of_port k) (earliest v)) (first_broken_by ks models)) (none k) ∙ none_broken models ks none
-
 pub no_model_fault : NoModelFault
 no_model_fault models some = (
-  λ e kind. elim (model_rule kind models) as (λ _. all_words_at_fault kind models ≡ []) [ inl h ↦ h | inr m ↦ not_found models model_rules (sym (by_rules models some) ∙ e) kind m ],
-  λ none. by_rules models some ∙ none_broken models model_rules none,
+  λ e kind. elim (model_rule kind models) as (λ _. all_words_at_fault kind models ≡ []) [ inl h ↦ h | inr m ↦ none_empty (all_words_at_fault kind models) (not_broken fault_of_port (broken_in models) model_rules (sym (by_rules models some) ∙ e) kind m) ],
+  λ none. by_rules models some ∙ none_broken fault_of_port (broken_in models) model_rules (λ kind. ap earliest (none kind)),
 )

@@ -1,4 +1,5 @@
 pub mod FaultKinds
+pub mod LowestRule
 pub mod ModelSteps
 pub mod CircleLemmas
 pub mod CircleSearch
