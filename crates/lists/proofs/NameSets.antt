@@ -13,7 +13,7 @@ inserted old new key name updates =
     let query : Bor (List ℕ) = record { ref_ptr = (0, 0); now = name } in
     updates.0 query ∙ ap (λ b. cond b true (holds_name old name)) (is_eq-slice_cmp key.now name)
 
-by_cond : (a b : Bool) → cond a true b ≡ (b || a)
+pub by_cond : (a b : Bool) → cond a true b ≡ (b || a)
 by_cond true true = refl
 by_cond true false = refl
 by_cond false true = refl

@@ -1,5 +1,6 @@
 -- What the sets of names have after a line is seen.
 use Rattle.std.proofs.Common.{ℕ, ◌≡◌, refl, sym, ap, ◌∙◌, Bool, true, false, cond, ◌&&◌, ◌||◌, List, [], ◌∷◌, ◌++◌}
+use Rattle.std.proofs.Math.Bool.{or-false}
 use Rattle.std.specs.List.{list_any}
 use Rattle.std.specs.Str.{bytes_eq}
 use Rattle.std.specs.declared.cmp.Ordering.{Ordering}
@@ -10,7 +11,7 @@ use Rattle.std.specs.BTreeSet.{BTreeSet, contains_by, UpdatesBy}
 use Rattle.std.proofs.lemmas.Map.Text.{is_eq-slice_cmp}
 use Rattle.lists.specs.Names.{holds_name}
 use Rattle.lists.proofs.Names.{bytes_eq-turned}
-use Rattle.lists.proofs.NameSets.{inserted}
+use Rattle.lists.proofs.NameSets.{inserted, by_cond}
 use denote.Ref.{Bor}
 use Rattle.pattern_reading.specs.PortLines.{PortForm, Version, In, Out, Net}
 use Rattle.pattern_reading.specs.PortTable.{is_same_port}
@@ -23,12 +24,6 @@ any_same t u h [] = refl
 any_same t u h (form ∷ forms) = rw (h form, any_same t u h forms) refl
 
 -- one more line
-last_first : (a b : Bool) → (a || (b || false)) ≡ cond b true a
-last_first true true = refl
-last_first true false = refl
-last_first false true = refl
-last_first false false = refl
-
 step_any : (t a b : Bool) → a ≡ cond b true t → (u : Bool) → (u || a) ≡ cond b true (u || t)
 step_any t a true e true = refl
 step_any t a true e false = e
@@ -36,7 +31,7 @@ step_any t a false e true = refl
 step_any t a false e false = e
 
 pub any_push : (t : PortForm → Bool) (forms : List PortForm) (form : PortForm) → list_any t (forms ++ form ∷ []) ≡ cond (t form) true (list_any t forms)
-any_push t [] form = last_first false (t form)
+any_push t [] form = or-false (t form) ∙ sym (by_cond (t form) false)
 any_push t (first ∷ forms) form = step_any (list_any t forms) _ (t form) (any_push t forms form) (t first)
 
 -- the tests of a line against others
