@@ -6,7 +6,7 @@ use row_placer::PlaceError;
 use thiserror::Error;
 
 /// Why no plan was made.
-#[derive(Clone, Copy, Debug, PartialEq, Eq, Error)]
+#[derive(Clone, Copy, Debug, Error)]
 pub enum PlanError {
     #[error("out of memory")]
     NoMemory,

@@ -7,7 +7,7 @@ use crate::generator::draw;
 use std::alloc::{AllocError, Global};
 
 /// What a gate computes of its two inputs.
-#[derive(Clone, Copy, Debug, PartialEq, Eq)]
+#[derive(Clone, Copy)]
 pub enum GateKind {
     And,
     Or,

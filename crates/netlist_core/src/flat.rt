@@ -3,7 +3,7 @@ use crate::model::{Name, Trigger};
 use lists::{Bytes, List};
 
 /// A net, by its position in the nets of a flat netlist.
-#[derive(Clone, Copy, Debug, PartialEq, Eq)]
+#[derive(Clone, Copy)]
 pub struct NetId(pub u32);
 
 /// A net: its place in the design, its name there, and the number of its class of joined nets. In the flat netlist of a

@@ -5,7 +5,7 @@ use lists::{Bytes, List};
 pub type Name = Bytes;
 
 /// The edge at which a latch takes its data. It changes nothing in what the latch means.
-#[derive(Clone, Copy, Debug, PartialEq, Eq)]
+#[derive(Clone, Copy)]
 pub enum Trigger {
     Rise,
     Fall,

@@ -33,7 +33,7 @@ impl<'a> Model for Machine<'a> {
 }
 
 /// Why there is no machine.
-#[derive(Clone, Copy, Debug, PartialEq, Eq)]
+#[derive(Clone, Copy, Debug)]
 pub enum MachineError {
     /// There is no memory for it.
     NoMemory,

@@ -5,7 +5,7 @@ use plan_ports::PortsError;
 use thiserror::Error;
 
 /// Why there is no plan. Each sound netlist with an order has one.
-#[derive(Clone, Copy, Debug, PartialEq, Eq, Error)]
+#[derive(Clone, Copy, Debug, Error)]
 pub enum NetlistPlanError {
     #[error("out of memory")]
     NoMemory,

@@ -6,7 +6,7 @@ use lists::Bytes;
 
 /// The faults, in the order of their numbers, from 1. `TwoClocks` and `ClockRead` are faults of the
 /// netlist with all its places; the others are faults of the lines and the models.
-#[derive(Clone, Copy, Debug, PartialEq, Eq)]
+#[derive(Clone, Copy, Debug)]
 pub enum FaultKind {
     NoModelYet,
     UnknownDirective,

@@ -2,14 +2,14 @@
 use tile_core::Kind;
 
 /// What is drawn: a tile of a kind, or an output cell, which counts as a tile of one cell.
-#[derive(Clone, Copy, Debug, PartialEq, Eq)]
+#[derive(Clone, Copy)]
 pub enum Piece {
     Tile(Kind),
     Output,
 }
 
 /// What stands in a block: nothing, a piece of one lane, or the upper or the lower lane of a piece of two.
-#[derive(Clone, Copy, Debug, PartialEq, Eq)]
+#[derive(Clone, Copy)]
 pub enum Slot {
     Nothing,
     Whole(Piece),

@@ -6,7 +6,7 @@ use std::alloc::{AllocError, AllocFailed};
 use thiserror::Error;
 
 /// Why a net's bits are not shown.
-#[derive(Clone, Copy, Debug, PartialEq, Eq, Error)]
+#[derive(Clone, Copy, Debug, Error)]
 pub enum ProbeError {
     #[error("out of memory")]
     NoMemory,
@@ -19,7 +19,7 @@ pub enum ProbeError {
 }
 
 /// Why a part of a plane is not shown.
-#[derive(Clone, Copy, Debug, PartialEq, Eq, Error)]
+#[derive(Clone, Copy, Debug, Error)]
 pub enum WindowError {
     #[error("out of memory")]
     NoMemory,

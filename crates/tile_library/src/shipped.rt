@@ -6,7 +6,7 @@ use crate::{drawings, tiles};
 use tile_core::{Kind, Library, Tile};
 
 /// The shipped drawings: for each kind that of its tile in `tiles`.
-#[derive(Clone, Copy, Debug)]
+#[derive(Clone, Copy)]
 pub struct Shipped;
 
 impl Library for Shipped {

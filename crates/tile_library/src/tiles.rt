@@ -11,7 +11,7 @@ use crate::rows::{is_drawn, is_drawn_mirrored};
 use tile_core::{Kind, Tile};
 
 /// Two signals from the west side to the east side, where they change places.
-#[derive(Clone, Copy, Debug)]
+#[derive(Clone, Copy)]
 pub struct Swap;
 
 impl Tile for Swap {
@@ -48,7 +48,7 @@ impl Tile for Swap {
 }
 
 /// The upper exit is lit where one of the entries is lit and the other is not.
-#[derive(Clone, Copy, Debug)]
+#[derive(Clone, Copy)]
 pub struct Xor;
 
 impl Tile for Xor {
@@ -85,7 +85,7 @@ impl Tile for Xor {
 }
 
 /// The upper exit is lit where one of the entries is lit, or both.
-#[derive(Clone, Copy, Debug)]
+#[derive(Clone, Copy)]
 pub struct Or;
 
 impl Tile for Or {
@@ -122,7 +122,7 @@ impl Tile for Or {
 }
 
 /// The upper exit is lit where the upper entry is lit and the lower one is not.
-#[derive(Clone, Copy, Debug)]
+#[derive(Clone, Copy)]
 pub struct AndNot;
 
 impl Tile for AndNot {
@@ -159,7 +159,7 @@ impl Tile for AndNot {
 }
 
 /// Both exits are lit where the upper entry is lit.
-#[derive(Clone, Copy, Debug)]
+#[derive(Clone, Copy)]
 pub struct Fork;
 
 impl Tile for Fork {
@@ -196,7 +196,7 @@ impl Tile for Fork {
 }
 
 /// One signal from the west side to the east side.
-#[derive(Clone, Copy, Debug)]
+#[derive(Clone, Copy)]
 pub struct East;
 
 impl Tile for East {
@@ -233,7 +233,7 @@ impl Tile for East {
 }
 
 /// One signal from the north side to the south side.
-#[derive(Clone, Copy, Debug)]
+#[derive(Clone, Copy)]
 pub struct South;
 
 impl Tile for South {
@@ -270,7 +270,7 @@ impl Tile for South {
 }
 
 /// One signal from the south side to the north side.
-#[derive(Clone, Copy, Debug)]
+#[derive(Clone, Copy)]
 pub struct North;
 
 impl Tile for North {
@@ -307,7 +307,7 @@ impl Tile for North {
 }
 
 /// One signal from the west side to the south side.
-#[derive(Clone, Copy, Debug)]
+#[derive(Clone, Copy)]
 pub struct EastSouth;
 
 impl Tile for EastSouth {
@@ -344,7 +344,7 @@ impl Tile for EastSouth {
 }
 
 /// One signal from the north side to the west side.
-#[derive(Clone, Copy, Debug)]
+#[derive(Clone, Copy)]
 pub struct SouthWest;
 
 impl Tile for SouthWest {
@@ -381,7 +381,7 @@ impl Tile for SouthWest {
 }
 
 /// One signal from the east side to the north side.
-#[derive(Clone, Copy, Debug)]
+#[derive(Clone, Copy)]
 pub struct WestNorth;
 
 impl Tile for WestNorth {
@@ -418,7 +418,7 @@ impl Tile for WestNorth {
 }
 
 /// One signal from the south side to the east side.
-#[derive(Clone, Copy, Debug)]
+#[derive(Clone, Copy)]
 pub struct NorthEast;
 
 impl Tile for NorthEast {
@@ -455,7 +455,7 @@ impl Tile for NorthEast {
 }
 
 /// One signal from the east side to the west side.
-#[derive(Clone, Copy, Debug)]
+#[derive(Clone, Copy)]
 pub struct West;
 
 impl Tile for West {
@@ -492,7 +492,7 @@ impl Tile for West {
 }
 
 /// Swap with west and east changed: two signals from the east side to the west side.
-#[derive(Clone, Copy, Debug)]
+#[derive(Clone, Copy)]
 pub struct WestSwap;
 
 impl Tile for WestSwap {

@@ -5,7 +5,7 @@ use crate::{Failed, Sink, Source};
 use std::alloc::{AllocError, Global};
 
 /// Why a source or sink in memory is not made.
-#[derive(Clone, Copy, Debug, PartialEq, Eq)]
+#[derive(Clone, Copy, Debug)]
 pub enum FakeError {
     NoMemory,
 }

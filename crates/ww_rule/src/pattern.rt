@@ -23,7 +23,7 @@ pub struct Pattern {
 
 /// A cell that is made a head from outside, at a generation: its column x is counted from the west and its row y from
 /// the north, each from 0.
-#[derive(Clone, Copy, Debug, PartialEq, Eq)]
+#[derive(Clone, Copy)]
 pub struct Injection {
     pub generation: u128,
     pub x: u64,
