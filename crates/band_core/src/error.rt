@@ -5,7 +5,7 @@ use std::alloc::{AllocError, AllocFailed};
 use thiserror::Error;
 
 /// Why no bands were made.
-#[derive(Clone, Copy, Debug, PartialEq, Eq, Error)]
+#[derive(Clone, Copy, Debug, Error)]
 pub enum BandsError {
     #[error("out of memory")]
     NoMemory,
@@ -31,7 +31,7 @@ impl<T: Drop> From<AllocFailed<T>> for BandsError {
 
 /// A band that another one has to wait for: its number from the top, and its generation, which is neither the other one's
 /// nor one more.
-#[derive(Clone, Copy, Debug, PartialEq, Eq, Error)]
+#[derive(Clone, Copy, Debug, Error)]
 #[error("band {neighbour} is at generation {generation}")]
 pub struct NotReady {
     pub neighbour: usize,
@@ -39,7 +39,7 @@ pub struct NotReady {
 }
 
 /// Why a band was not skipped.
-#[derive(Clone, Copy, Debug, PartialEq, Eq, Error)]
+#[derive(Clone, Copy, Debug, Error)]
 pub enum NotSkipped {
     /// It has to wait for a neighbour; this is looked at first.
     #[error(transparent)]

@@ -7,7 +7,7 @@ use std::alloc::{AllocError, AllocFailed};
 use thiserror::Error;
 
 /// Why there is no list of cells. Each sound netlist with an order has one.
-#[derive(Clone, Copy, Debug, PartialEq, Eq, Error)]
+#[derive(Clone, Copy, Debug, Error)]
 pub enum MapError {
     #[error("out of memory")]
     NoMemory,

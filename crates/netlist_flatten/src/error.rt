@@ -6,7 +6,7 @@ use std::alloc::AllocError;
 use thiserror::Error;
 
 /// Why there is no flat netlist.
-#[derive(Clone, Copy, Debug, PartialEq, Eq, Error)]
+#[derive(Clone, Copy, Debug, Error)]
 pub enum FlattenError {
     /// The design weighs more than the greatest weight that is flattened.
     #[error("the netlist is too large: it weighs {weight}")]

@@ -1,5 +1,5 @@
 // The flat netlist.
-ghost use Rattle.std.specs.Prelude.{ℕ, ◌≡◌, ◌<◌, ◌≤◌, min, IfOk, OnOk, IsErrOf, IsOkUnless};
+ghost use Rattle.std.specs.Prelude.{ℕ, ◌≡◌, ◌<◌, ◌≤◌, ◌^◌, min, IfOk, OnOk, IsErrOf, IsOkUnless};
 ghost use Rattle.netlist_meaning.specs.FlatOf.{IsFlatOf};
 ghost use Rattle.netlist_meaning.specs.Weight.{weight};
 ghost use Rattle.netlist_rules.specs.ModelFaults.{AreFaultless};
@@ -12,7 +12,7 @@ use crate::latches::{first_control, latches_of};
 use crate::nets::nets_of;
 use crate::nodes::nodes_of;
 use crate::numbers::Numbers;
-use crate::ports::{inputs_of, ports_of};
+use crate::ports::flat_ports;
 use design_weight::weight;
 use lists::List;
 use netlist_core::{Design, Flat};
@@ -21,32 +21,39 @@ use std::alloc::{AllocError, Global};
 /// The greatest weight of a netlist.
 pub const WEIGHT_LIMIT: u64 = 1024;
 
-// The flat netlist of a design of a known weight.
-fn flat_of(alloc: Global, design: &Design, found: u64) -> Result<Flat, AllocError>
+// The flat netlist of a numbered design of a known weight.
+fn flat_of(alloc: Global, numbers: &Numbers<'_>, found: u64) -> Result<Flat, AllocError>
+    requires faultless { AreFaultless numbers.now.models }
+    requires few { weight numbers.now < 2 ^ 32 }
+    requires weight { found ≡ weight numbers.now }
+    ensures { IfOk result (IsFlatOf numbers.now) }
+{
+    let classes = classes_of(alloc, numbers)?;
+    let latches = latches_of(alloc, numbers)?;
+    let ports = flat_ports(alloc, numbers, &classes, &latches)?;
+    let nets = nets_of(alloc, numbers, &classes)?;
+    let nodes = nodes_of(alloc, numbers)?;
+    Ok(Flat {
+        nets: List::of(nets),
+        ins: ports.ins,
+        outs: ports.outs,
+        clocks: ports.clocks,
+        nodes: List::of(nodes),
+        control: first_control(&latches),
+        latches: List::of(latches),
+        weight: found,
+    })
+}
+
+// The same, where its nets are numbered first.
+fn numbered_flat(alloc: Global, design: &Design, found: u64) -> Result<Flat, AllocError>
     requires faultless { AreFaultless design.now.models }
     requires few { weight design.now ≤ weight_limit }
     requires weight { found ≡ weight design.now }
     ensures { IfOk result (IsFlatOf design.now) }
 {
     let numbers = Numbers::new(alloc, design)?;
-    let classes = classes_of(alloc, &numbers)?;
-    let latches = latches_of(alloc, &numbers)?;
-    let main = numbers.model(0);
-    let ins = inputs_of(alloc, &numbers, main.ins.as_slice(), &classes, &latches)?;
-    let outs = ports_of(alloc, &numbers, main.outs.as_slice())?;
-    let clocks = ports_of(alloc, &numbers, main.clocks.as_slice())?;
-    let nets = nets_of(alloc, &numbers, &classes)?;
-    let nodes = nodes_of(alloc, &numbers)?;
-    Ok(Flat {
-        nets: List::of(nets),
-        ins: List::of(ins),
-        outs: List::of(outs),
-        clocks: List::of(clocks),
-        nodes: List::of(nodes),
-        control: first_control(&latches),
-        latches: List::of(latches),
-        weight: found,
-    })
+    flat_of(alloc, &numbers, found)
 }
 
 /// The flat netlist of a design without a fault.
@@ -64,5 +71,5 @@ pub fn flatten(alloc: Global, design: &Design) -> Result<Flat, FlattenError>
     if found > WEIGHT_LIMIT {
         return Err(FlattenError::TooLarge { weight: found });
     }
-    Ok(flat_of(alloc, design, found)?)
+    Ok(numbered_flat(alloc, design, found)?)
 }

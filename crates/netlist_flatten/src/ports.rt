@@ -1,5 +1,6 @@
 // The ports of the main model.
 ghost use Rattle.std.specs.Prelude.{ℕ, ◌≡◌, ◌<◌, ◌↔◌, [], All, length, map, false, true, get_or, ⊤, IfOk, MatchOption};
+ghost use Rattle.netlist_meaning.specs.Places.{main_ports};
 ghost use Rattle.netlist_meaning.specs.Nets.{net_at, IsNet};
 ghost use Rattle.netlist_meaning.specs.InOrder.{nets_in_order};
 ghost use Rattle.netlist_meaning.specs.FlatOf.{class_of_net, flat_latch, flat_port, at_places};
@@ -7,6 +8,7 @@ ghost use Rattle.netlist_rules.specs.ModelFaults.{AreFaultless};
 ghost use Rattle.netlist_flatten.specs.Inputs.{AreInputs, HasControlClass};
 
 use crate::numbers::Numbers;
+use lists::List;
 use netlist_core::{FlatLatch, FlatPort, Port};
 use std::alloc::{AllocError, Global};
 
@@ -22,8 +24,8 @@ fn port_of(numbers: &Numbers<'_>, port: &Port) -> FlatPort
     }
 }
 
-/// The ports of a list of the main model.
-pub fn ports_of(
+// The ports of a list of the main model.
+fn ports_of(
     alloc: Global,
     numbers: &Numbers<'_>,
     ports: &[Port],
@@ -69,8 +71,8 @@ fn is_control(classes: &[u32], marks: &[bool], port: FlatPort) -> bool
     marks[classes[port.net.0 as usize] as usize]
 }
 
-/// The inputs: the ports of the main model's inputs that are not joined with a latch's control.
-pub fn inputs_of(
+// The inputs: the ports of the main model's inputs that are not joined with a latch's control.
+fn inputs_of(
     alloc: Global,
     numbers: &Numbers<'_>,
     ports: &[Port],
@@ -92,4 +94,37 @@ pub fn inputs_of(
         }
     }
     Ok(inputs)
+}
+
+/// The ports of a flat netlist.
+#[derive(Drop)]
+pub struct FlatPorts {
+    pub ins: List<FlatPort>,
+    pub outs: List<FlatPort>,
+    pub clocks: List<FlatPort>,
+}
+
+/// The ports of the main model.
+pub fn flat_ports(
+    alloc: Global,
+    numbers: &Numbers<'_>,
+    classes: &[u32],
+    latches: &[FlatLatch],
+) -> Result<FlatPorts, AllocError>
+    requires faultless { AreFaultless numbers.now.models }
+    requires classes { classes.now ≡ map (class_of_net numbers.now) (nets_in_order numbers.now) }
+    requires latches { latches.now ≡ at_places numbers.now (λ model. model.latches) (flat_latch numbers.now) }
+    ensures ins { IfOk result (λ ports. AreInputs numbers.now (main_ports (λ model. model.ins) numbers.now) ports.ins) }
+    ensures outs { IfOk result (λ ports. ports.outs ≡ map (flat_port numbers.now) (main_ports (λ model. model.outs) numbers.now)) }
+    ensures clocks { IfOk result (λ ports. ports.clocks ≡ map (flat_port numbers.now) (main_ports (λ model. model.clocks) numbers.now)) }
+{
+    let main = numbers.model(0);
+    let ins = inputs_of(alloc, numbers, main.ins.as_slice(), classes, latches)?;
+    let outs = ports_of(alloc, numbers, main.outs.as_slice())?;
+    let clocks = ports_of(alloc, numbers, main.clocks.as_slice())?;
+    Ok(FlatPorts {
+        ins: List::of(ins),
+        outs: List::of(outs),
+        clocks: List::of(clocks),
+    })
 }

@@ -6,7 +6,7 @@ use crate::Tag;
 use lists::List;
 
 /// What a gate does.
-#[derive(Clone, Copy, Debug, PartialEq, Eq)]
+#[derive(Clone, Copy)]
 pub enum CellKind {
     Or,
     Xor,
@@ -14,7 +14,7 @@ pub enum CellKind {
 }
 
 /// A gate over two values, by their numbers.
-#[derive(Clone, Copy, Debug, PartialEq, Eq)]
+#[derive(Clone, Copy)]
 pub struct NumberedCell {
     pub kind: CellKind,
     pub first: u32,

@@ -3,7 +3,7 @@ ghost use Rattle.std.specs.Prelude.{◌≡◌, ◌==◌};
 ghost use Rattle.row_placer.specs.Told.{role_code, is_tag};
 
 /// What the value on a lane is there for.
-#[derive(Clone, Copy, Debug, PartialEq, Eq)]
+#[derive(Clone, Copy)]
 pub enum Role {
     /// For nothing: the lane is free.
     Free,
@@ -33,7 +33,7 @@ impl Role {
 }
 
 /// What stands on a lane: a value, by its number, and its role. On a free lane the value is 0.
-#[derive(Clone, Copy, Debug, PartialEq, Eq)]
+#[derive(Clone, Copy)]
 pub struct Tag {
     pub value: u32,
     pub role: Role,

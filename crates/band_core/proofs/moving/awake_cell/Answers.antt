@@ -149,3 +149,9 @@ returns-clause-quiet c q e due width evo shows =
     subst (λ g. IsQuiet e due g (b * h) m) (own e due words h rows width b bands band c.index-bands-b.is c.requires.band c.requires.bands evo shows)
     (is_quiet e due width rows words (b * h) m band c.row_above.result.0.now c.row_below.result.0.now evo is sh up down
     dark (none_wakes e due words (b * h) m band is sh (c.due_cell.ensures.none q)))
+
+pub row_above-requires-clause-dark : goal.row_above-requires-clause-dark
+row_above-requires-clause-dark c = c.requires.dark
+
+pub row_below-requires-clause-dark : goal.row_below-requires-clause-dark
+row_below-requires-clause-dark c = c.requires.dark

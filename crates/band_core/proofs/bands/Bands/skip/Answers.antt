@@ -1,10 +1,10 @@
-use Rattle.std.proofs.Common.{◌-◌, ◌*◌, min, ◌<◌, ◌≡◌, sym, ap, subst, ◌∙◌, None, List, [], ◌∷◌, length, get_or, arith}
+use Rattle.std.proofs.Common.{ℕ, ◌+◌, ◌-◌, ◌*◌, min, ◌<◌, ◌≡◌, refl, sym, ap, subst, ◌∙◌, None, Some, slice_set, List, [], ◌∷◌, length, get_or, arith}
 use Rattle.std.proofs.lemmas.List.{with_items_is, length-map}
 use Rattle.ww_rule.specs.Wireworld.{driven}
 use Rattle.ww_rule.specs.Grid.{plane_of}
 use Rattle.ww_rule.specs.Injections.{due_of_list}
 use Rattle.band_core.specs.declared.band.Band.{Band}
-use Rattle.band_core.specs.Bands.{IsAwake, unready_neighbour}
+use Rattle.band_core.specs.Bands.{IsAwake, moved_on, unready_neighbour}
 use Rattle.band_core.specs.Band.{AreBands, AllShow, IsEvolution, IsQuiet, IsWaking, generations_of}
 use Rattle.band_core.specs.Held.{held_pattern}
 use Rattle.band_core.proofs.Evolution.{evolution}
@@ -104,3 +104,34 @@ returns-clause-asleep c x y awake =
     let lb : b < length s.bands.items = omega (arith, inside, l) in
     let some = (v.bands.each b (some_band s.bands.items (omega (arith, lb))) lb).some in
     never_awake (held_pattern s) s.pattern.in_rows v.inside b some calm x y (subst (λ p. IsAwake p b x y) (sym c.self.view_is) awake)
+
+pub returns-in-Some-clause-refused : goal.returns-in-Some-clause-refused
+returns-in-Some-clause-refused c = refl
+
+pub returns-in-Some-awake_cell-clause-refused : goal.returns-in-Some-awake_cell-clause-refused
+returns-in-Some-awake_cell-clause-refused c = refl
+
+pub returns-in-Some-clause-cause : goal.returns-in-Some-clause-cause
+returns-in-Some-clause-cause c =
+    subst (λ p. unready_neighbour p.generations c.args.b ≡ Some c.in-Some.refusal) c.self.view_is
+    (ap (λ bands. unready_neighbour (generations_of bands) c.args.b) (sym c.deref.ensures.value) ∙ sym c.unready_neighbour.ensures ∙ c.in-Some.is)
+
+pub returns-clause-ready : goal.returns-clause-ready
+returns-clause-ready c =
+    subst (λ p. unready_neighbour p.generations c.args.b ≡ None) c.self.view_is
+    (ap (λ bands. unready_neighbour (generations_of bands) c.args.b) (sym c.deref.ensures.value) ∙ sym c.unready_neighbour.ensures ∙ none_where c.unready_neighbour.result c.in_default.not-Some)
+
+pub returns-clause-moved : goal.returns-clause-moved
+returns-clause-moved c =
+    let s = c.self.inside in
+    let b = c.args.b in
+    let new = c.rest_band.new.bands in
+    let words = length s.dark.items in
+    let rows = length s.pattern.rows in
+    let old : c.deref_mut.result.now ≡ s.bands.items = c.deref_mut.ensures.value in
+    let are : AreBands words s.height rows new = c.rest_band.ensures.bands words s.height rows (subst (AreBands words s.height rows) (sym old) c.self.invariant.bands) in
+    let same : length new ≡ length s.bands.items = are.many ∙ sym c.self.invariant.bands.many in
+    let generations =
+    ap generations_of (with_items_is s.bands new (omega (arith, same)))
+    ∙ c.rest_band.ensures.generations ∙ ap (λ bands. slice_set (generations_of bands) b (get_or (generations_of bands) b 0 + 1)) old in
+    ap (λ (gs : List ℕ). record (held_pattern s) { generations = gs }) generations ∙ ap (moved_on b) c.self.view_is
