@@ -7,7 +7,7 @@ ghost use Rattle.pattern_reading.specs.Ports.{cells_of};
 ghost use Rattle.netlist_meaning.specs.Places.{main_outputs};
 ghost use Rattle.netlist_text.specs.Parts.{AreParts};
 ghost use Rattle.drive.specs.Driving.{AreFor, HasSimulateCause, greatest_generation, last_generation, shown_bits};
-ghost use Rattle.made_run.specs.Outputs.{AreOutputsIn};
+ghost use Rattle.made_run.specs.Outputs.{AreOutputsIn, HasRunCause, IsToldOf};
 ghost use Rattle.made_run.specs.Summaries.{HasSummaryCause, Summarizes, outputs_by_name};
 ghost use Rattle.made_run.specs.declared.error.SummaryError.TheVariants.{NoMemory};
 
@@ -145,6 +145,30 @@ fn outputs_in(
     Ok(outputs)
 }
 
+// What is told of a netlist and its plan under streams.
+fn told_by(
+    alloc: Global,
+    netlist: Netlist,
+    planned: &Planned,
+    streams: &Streams,
+) -> Result<Summary, SummaryError>
+    requires admissible { IsAdmissible planned.now.plan }
+    requires cycles { 0 < streams.now.cycles }
+    requires streams { AreFor planned.now.ports streams.now }
+    requires in_box { AreInBox (start_grid planned.now.plan).width (start_grid planned.now.plan).height (cells_of planned.now.ports.ins) }
+    requires parts { AreParts netlist.design netlist.flat netlist.order.nodes }
+    requires many { length streams.now.bits ≡ length netlist.flat.ins }
+    requires long { All (λ bits. length bits ≡ streams.now.cycles) streams.now.bits }
+    requires outputs { length planned.now.ports.outs ≡ length (main_outputs netlist.design) }
+    ensures told { IfOk result (IsToldOf netlist planned.now streams.now) }
+    ensures refused { IfErr result (HasRunCause (last_generation planned.now.ports streams.now)) }
+{
+    let weight = netlist.flat.weight;
+    let simulated = shown_by(alloc, planned, streams)?;
+    let outputs = outputs_in(alloc, netlist, streams, simulated.as_slice())?;
+    Ok(told(weight, planned, outputs))
+}
+
 /// The netlist of a seed and a number of gates, made, compiled, simulated and evaluated under so many cycles of bits that are drawn on
 /// after it. `TooFar` comes once the netlist is compiled, where the pattern would show the last bits after generation 4,294,967,296.
 pub fn summarize(
@@ -163,8 +187,5 @@ pub fn summarize(
     carriers_show_runs();
     let made = plan_made(alloc, seed, size)?;
     let streams = draw_streams(alloc, made.state, cycles)?;
-    let simulated = shown_by(alloc, &made.planned, &streams)?;
-    let weight = made.netlist.flat.weight;
-    let outputs = outputs_in(alloc, made.netlist, &streams, simulated.as_slice())?;
-    Ok(told(weight, &made.planned, outputs))
+    told_by(alloc, made.netlist, &made.planned, &streams)
 }
