@@ -1,6 +1,6 @@
 use Rattle.std.proofs.Common.{ap, ap₂, ◌∙◌, ◌||◌}
 use Rattle.std.proofs.lemmas.Result.{IfOk-weaker}
-use Rattle.clap.specs.Simple.{App, app_of, with_rule}
+use Rattle.clap.specs.Simple.{App, with_rule}
 use Rattle.clap.specs.Walk.{rule_of}
 use Rattle.command_words.proofs.app.with_arg.Goals as goal
 
