@@ -1,5 +1,6 @@
 // The command line as clap reads it.
 ghost use Rattle.std.specs.Prelude.{◌≡◌, IfOk, false, map};
+ghost use Rattle.clap.specs.Simple.{App, with_rule};
 ghost use Rattle.clap.specs.Words.{app_of, rule_of, new_app};
 ghost use Rattle.clap.specs.declared.builder.command.Command.TheViews.{out-Command as fields_of};
 ghost use Rattle.command_words.specs.App.{driven_app, free_option, probe_app, required_option, stream_words, window_app, with_required};
@@ -52,26 +53,42 @@ pub fn with_options<'a>(
     Ok(command)
 }
 
+// The command with this option or these words too, if it was made.
+fn with_arg<'a>(
+    command: Result<Command<'a>, AllocError>,
+    arg: Arg<'a>,
+) -> Result<Command<'a>, AllocError>
+    ensures app { (app : App) → IfOk command.entry (λ c. app_of c ≡ app) → arg.entry.global ≡ false
+        → IfOk result (λ c. app_of c ≡ with_rule app (rule_of arg.entry)) }
+    ensures plain { IfOk command.entry (λ c. (fields_of c).has_globals ≡ false) → arg.entry.global ≡ false
+        → IfOk result (λ c. (fields_of c).has_globals ≡ false) }
+{
+    match command {
+        Ok(command) => command.arg(arg),
+        Err(error) => Err(error),
+    }
+}
+
 // A command of this name with `--cycles N`, and any words.
 pub fn driven_command<'a>(alloc: Global, name: &'static str) -> Result<Command<'a>, AllocError>
     ensures app { IfOk result (λ c. app_of c ≡ driven_app name.now) }
     ensures plain { IfOk result (λ c. (fields_of c).has_globals ≡ false) }
 {
-    with_options(alloc, name, &["cycles"])?.arg(streams(alloc))
+    with_arg(with_options(alloc, name, &["cycles"]), streams(alloc))
 }
 
 pub fn probe_command<'a>(alloc: Global) -> Result<Command<'a>, AllocError>
     ensures app { IfOk result (λ c. app_of c ≡ probe_app) }
     ensures plain { IfOk result (λ c. (fields_of c).has_globals ≡ false) }
 {
-    with_options(alloc, "probe", &["cycles", "net"])?
-        .arg(free(alloc, "path"))?
-        .arg(streams(alloc))
+    let nets = with_options(alloc, "probe", &["cycles", "net"]);
+    with_arg(with_arg(nets, free(alloc, "path")), streams(alloc))
 }
 
 pub fn window_command<'a>(alloc: Global) -> Result<Command<'a>, AllocError>
     ensures app { IfOk result (λ c. app_of c ≡ window_app) }
     ensures plain { IfOk result (λ c. (fields_of c).has_globals ≡ false) }
 {
-    with_options(alloc, "window", &["gen", "x", "y", "width", "height"])?.arg(streams(alloc))
+    let view = with_options(alloc, "window", &["gen", "x", "y", "width", "height"]);
+    with_arg(view, streams(alloc))
 }

@@ -1,6 +1,8 @@
 // The command line of the whole program.
-ghost use Rattle.std.specs.Prelude.{◌≡◌, IfOk};
+ghost use Rattle.std.specs.Prelude.{◌≡◌, IfOk, false};
+ghost use Rattle.clap.specs.Simple.{App, with_subcommand};
 ghost use Rattle.clap.specs.Words.{app_of};
+ghost use Rattle.clap.specs.declared.builder.command.Command.TheViews.{out-Command as fields_of};
 ghost use Rattle.command_words.specs.App.{bare_app, blifww_app};
 ghost use Rattle.command_words.specs.Program.{first_app};
 
@@ -19,17 +21,28 @@ fn bare_command<'a>(alloc: Global) -> Command<'a>
         .disable_version_flag(true)
 }
 
+// The program with this subcommand too, if it was made.
+fn with_command<'a>(
+    program: Command<'a>,
+    command: Result<Command<'a>, AllocError>,
+) -> Result<Command<'a>, AllocError>
+    ensures { (app : App) → IfOk command.entry (λ c. app_of c ≡ app) → IfOk command.entry (λ c. (fields_of c).has_globals ≡ false)
+        → IfOk result (λ c. app_of c ≡ with_subcommand (app_of program.entry) app.top) }
+{
+    match command {
+        Ok(command) => program.subcommand(command),
+        Err(error) => Err(error),
+    }
+}
+
 // The program with `compile`, `simulate` and `eval`.
 fn first_commands<'a>(alloc: Global) -> Result<Command<'a>, AllocError>
     ensures { IfOk result (λ c. app_of c ≡ first_app) }
 {
     let compile = Command::new(alloc, "compile");
-    let simulate = driven_command(alloc, "simulate")?;
-    let eval = driven_command(alloc, "eval")?;
-    bare_command(alloc)
-        .subcommand(compile)?
-        .subcommand(simulate)?
-        .subcommand(eval)
+    let first = bare_command(alloc).subcommand(compile)?;
+    let second = with_command(first, driven_command(alloc, "simulate"))?;
+    with_command(second, driven_command(alloc, "eval"))
 }
 
 /// The program's command line, with one subcommand for each command.
@@ -37,13 +50,9 @@ pub fn blifww_command<'a>(alloc: Global) -> Result<Command<'a>, AllocError>
     ensures { IfOk result (λ c. app_of c ≡ blifww_app) }
 {
     let first = first_commands(alloc)?;
-    let probe = probe_command(alloc)?;
-    let window = window_command(alloc)?;
-    let make = with_options(alloc, "make", &["seed", "size"])?;
-    let made = with_options(alloc, "self", &["seed", "size", "cycles"])?;
-    first
-        .subcommand(probe)?
-        .subcommand(window)?
-        .subcommand(make)?
-        .subcommand(made)
+    let second = with_command(first, probe_command(alloc))?;
+    let third = with_command(second, window_command(alloc))?;
+    let fourth = with_command(third, with_options(alloc, "make", &["seed", "size"]))?;
+    let last = with_options(alloc, "self", &["seed", "size", "cycles"]);
+    with_command(fourth, last)
 }

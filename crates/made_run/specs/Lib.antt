@@ -3,3 +3,4 @@ pub mod Errors
 pub mod Summaries
 pub mod Laws
 pub mod Plans
+pub mod Outputs

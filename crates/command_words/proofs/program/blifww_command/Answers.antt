@@ -1,4 +1,4 @@
-use Rattle.std.proofs.Common.{ap, ap₂, refl, ◌≡◌, ◌∙◌}
+use Rattle.std.proofs.Common.{ap, refl, ◌≡◌, ◌∙◌}
 use Rattle.std.proofs.lemmas.Result.{IfOk-weaker}
 use Rattle.clap.specs.Simple.{App, with_subcommand}
 use Rattle.command_words.specs.App.{blifww_app, make_app, probe_app, self_app, window_app}
@@ -10,15 +10,11 @@ whole = refl
 
 pub returns : goal.returns
 returns c =
-    IfOk-weaker c.subcommand-4.result _ _
-    (λ m h. h.shape c.in_ok-made.ensures.plain
-    ∙ ap₂ with_subcommand (c.in_ok-subcommand-3.ensures.shape c.in_ok-make.ensures.plain
-    ∙ ap₂ with_subcommand (c.in_ok-subcommand-2.ensures.shape c.in_ok-window.ensures.plain
-    ∙ ap₂ with_subcommand (c.in_ok-subcommand.ensures.shape c.in_ok-probe.ensures.plain
-    ∙ ap₂ with_subcommand c.in_ok-first.ensures
-    (ap (λ (a : App). a.top) c.in_ok-probe.ensures.app))
-    (ap (λ (a : App). a.top) c.in_ok-window.ensures.app))
-    (ap (λ (a : App). a.top) c.in_ok-make.ensures.app))
-    (ap (λ (a : App). a.top) c.in_ok-made.ensures.app)
+    IfOk-weaker c.with_command-4.result _ _
+    (λ m h. h
+    ∙ ap (λ (a : App). with_subcommand a self_app.top) (c.in_ok-fourth.ensures make_app c.with_options.ensures.app c.with_options.ensures.plain
+    ∙ ap (λ (a : App). with_subcommand a make_app.top) (c.in_ok-third.ensures window_app c.window_command.ensures.app c.window_command.ensures.plain
+    ∙ ap (λ (a : App). with_subcommand a window_app.top) (c.in_ok-second.ensures probe_app c.probe_command.ensures.app c.probe_command.ensures.plain
+    ∙ ap (λ (a : App). with_subcommand a probe_app.top) c.in_ok-first.ensures)))
     ∙ whole)
-    c.subcommand-4.ensures
+    (c.with_command-4.ensures self_app c.with_options-last.ensures.app c.with_options-last.ensures.plain)

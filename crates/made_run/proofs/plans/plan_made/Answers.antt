@@ -1,4 +1,5 @@
 use Rattle.std.proofs.Common.{ℕ, ◌<◌, ◌∙◌, sym, subst, List, arith}
+use Rattle.std.proofs.lemmas.Result.{err_from_is_err_and}
 use Rattle.netlist_text.specs.NetlistText.{IsNetlist}
 use Rattle.made_netlists.specs.Design.{made_design}
 use Rattle.made_run.proofs.Summarized.{is_planned, sound, weighed, small}
@@ -30,3 +31,60 @@ returns-clause-plan c =
     is_planned c.made_are_netlists.ensures c.made_have_sizes.ensures c.texts_are_decided.ensures c.written_plans_read.ensures c.args.seed c.args.size c.requires.some_gate c.requires.few_gates
     c.in_ok-netlist.netlist c.in_ok-planned.planned (subst (λ (t : List ℕ). IsNetlist t c.in_ok-netlist.netlist.design) text c.in_ok-netlist.ensures.netlist) c.in_ok-netlist.ensures.parts
     c.in_ok-planned.ensures.admissible c.in_ok-planned.ensures.table c.in_ok-planned.ensures.carries c.in_ok-planned.ensures.small
+
+pub make-requires-clause-seed : goal.make-requires-clause-seed
+make-requires-clause-seed c = c.requires.seed
+
+pub make-requires-clause-some : goal.make-requires-clause-some
+make-requires-clause-some c = c.requires.some_gate
+
+pub make-requires-clause-few : goal.make-requires-clause-few
+make-requires-clause-few c = c.requires.few_gates
+
+pub returns-clause-state : goal.returns-clause-state
+returns-clause-state c = c.in_ok-made.ensures.state
+
+pub returns-clause-range : goal.returns-clause-range
+returns-clause-range c = c.in_ok-made.ensures.range
+
+pub returns-in_err-made-clause-plan : goal.returns-in_err-made-clause-plan
+returns-in_err-made-clause-plan c = rw ((err_from_is_err_and c.from_residual.result c.from_residual.ensures.1).1) tt
+
+pub returns-in_err-made-clause-state : goal.returns-in_err-made-clause-state
+returns-in_err-made-clause-state c = rw ((err_from_is_err_and c.from_residual.result c.from_residual.ensures.1).1) tt
+
+pub returns-in_err-made-clause-range : goal.returns-in_err-made-clause-range
+returns-in_err-made-clause-range c = rw ((err_from_is_err_and c.from_residual.result c.from_residual.ensures.1).1) tt
+
+pub returns-in_err-made-clause-refused : goal.returns-in_err-made-clause-refused
+returns-in_err-made-clause-refused c =
+    let p = err_from_is_err_and c.from_residual.result c.from_residual.ensures.1 in
+    rw (p.1) p.2
+
+pub returns-in_err-netlist-clause-plan : goal.returns-in_err-netlist-clause-plan
+returns-in_err-netlist-clause-plan c = rw ((err_from_is_err_and c.from_residual-in_err-netlist.result c.from_residual-in_err-netlist.ensures.1).1) tt
+
+pub returns-in_err-netlist-clause-state : goal.returns-in_err-netlist-clause-state
+returns-in_err-netlist-clause-state c = rw ((err_from_is_err_and c.from_residual-in_err-netlist.result c.from_residual-in_err-netlist.ensures.1).1) tt
+
+pub returns-in_err-netlist-clause-range : goal.returns-in_err-netlist-clause-range
+returns-in_err-netlist-clause-range c = rw ((err_from_is_err_and c.from_residual-in_err-netlist.result c.from_residual-in_err-netlist.ensures.1).1) tt
+
+pub returns-in_err-netlist-clause-refused : goal.returns-in_err-netlist-clause-refused
+returns-in_err-netlist-clause-refused c =
+    let p = err_from_is_err_and c.from_residual-in_err-netlist.result c.from_residual-in_err-netlist.ensures.1 in
+    rw (p.1) p.2
+
+pub returns-in_err-planned-clause-plan : goal.returns-in_err-planned-clause-plan
+returns-in_err-planned-clause-plan c = rw ((err_from_is_err_and c.from_residual-in_err-planned.result c.from_residual-in_err-planned.ensures.1).1) tt
+
+pub returns-in_err-planned-clause-state : goal.returns-in_err-planned-clause-state
+returns-in_err-planned-clause-state c = rw ((err_from_is_err_and c.from_residual-in_err-planned.result c.from_residual-in_err-planned.ensures.1).1) tt
+
+pub returns-in_err-planned-clause-range : goal.returns-in_err-planned-clause-range
+returns-in_err-planned-clause-range c = rw ((err_from_is_err_and c.from_residual-in_err-planned.result c.from_residual-in_err-planned.ensures.1).1) tt
+
+pub returns-in_err-planned-clause-refused : goal.returns-in_err-planned-clause-refused
+returns-in_err-planned-clause-refused c =
+    let p = err_from_is_err_and c.from_residual-in_err-planned.result c.from_residual-in_err-planned.ensures.1 in
+    rw (p.1) p.2
