@@ -1,5 +1,5 @@
 // Texts with their logical lines, written out as `number:word,word`.
-use crate::texts::expect;
+use crate::texts::{expect, push_all};
 use blif_lex::{Logical, lines};
 use std::alloc::{AllocError, Global};
 use std::test::Fail;
@@ -7,8 +7,7 @@ use std::test::Fail;
 fn push_line(alloc: Global, shown: &mut Vec<u8>, line: &Logical) -> Result<(), AllocError> {
     shown.extend_from_slice(format!(in alloc; "{}:", line.line)?.as_bytes())?;
     for word in line.words.as_slice() {
-        shown.extend_from_slice(word.as_slice())?;
-        shown.push(b',')?;
+        push_all(shown, &[word.as_slice(), b","])?;
     }
     shown.push(b';')?;
     Ok(())

@@ -1,5 +1,5 @@
 // Lines with their models, and lines that are at fault.
-use crate::texts::expect;
+use crate::texts::{expect, push_all};
 use blif_lex::lines;
 use blif_reader::{Fault, Model, ReadError, read};
 use lists::{Bytes, List};
@@ -16,8 +16,7 @@ fn fault_shown(alloc: Global, fault: &Fault) -> Result<Vec<u8>, AllocError> {
 
 fn push_words(shown: &mut Vec<u8>, words: &List<Bytes>) -> Result<(), AllocError> {
     for word in words.as_slice() {
-        shown.push(b' ')?;
-        shown.extend_from_slice(word.as_slice())?;
+        push_all(shown, &[b" ", word.as_slice()])?;
     }
     Ok(())
 }
@@ -30,15 +29,14 @@ fn push_ports(
 ) -> Result<(), AllocError> {
     shown.extend_from_slice(kind.as_bytes())?;
     for port in ports {
-        shown.extend_from_slice(format!(in alloc; " {}/", port.line)?.as_bytes())?;
-        shown.extend_from_slice(port.name.as_slice())?;
+        let start = format!(in alloc; " {}/", port.line)?;
+        push_all(shown, &[start.as_bytes(), port.name.as_slice()])?;
     }
     Ok(())
 }
 
 fn push_model(alloc: Global, shown: &mut Vec<u8>, model: &Model) -> Result<(), AllocError> {
-    shown.extend_from_slice(b"model ")?;
-    shown.extend_from_slice(model.name.as_slice())?;
+    push_all(shown, &[b"model ", model.name.as_slice()])?;
     push_ports(alloc, shown, " in", model.ins.as_slice())?;
     push_ports(alloc, shown, " out", model.outs.as_slice())?;
     push_ports(alloc, shown, " clock", model.clocks.as_slice())?;
@@ -50,8 +48,7 @@ fn push_cover(alloc: Global, shown: &mut Vec<u8>, cover: &Cover) -> Result<(), A
     let start = format!(in alloc; " names {} {}", cover.line, cover.on)?;
     shown.extend_from_slice(start.as_bytes())?;
     push_words(shown, &cover.ins)?;
-    shown.extend_from_slice(b" >")?;
-    shown.extend_from_slice(cover.out.as_slice())?;
+    push_all(shown, &[b" >", cover.out.as_slice()])?;
     push_words(shown, &cover.rows)?;
     shown.push(b';')?;
     Ok(())
@@ -62,8 +59,7 @@ fn push_latch(alloc: Global, shown: &mut Vec<u8>, latch: &LatchRow) -> Result<()
     let start = format!(in alloc; " latch {} {has_kind} {}", latch.line, latch.init)?;
     shown.extend_from_slice(start.as_bytes())?;
     if let Some(control) = &latch.control {
-        shown.push(b' ')?;
-        shown.extend_from_slice(control.as_slice())?;
+        push_all(shown, &[b" ", control.as_slice()])?;
     }
     shown.push(b';')?;
     Ok(())
@@ -71,13 +67,12 @@ fn push_latch(alloc: Global, shown: &mut Vec<u8>, latch: &LatchRow) -> Result<()
 
 fn push_subckt(alloc: Global, shown: &mut Vec<u8>, subckt: &Subckt) -> Result<(), AllocError> {
     let start = format!(in alloc; " subckt {} ", subckt.line)?;
-    shown.extend_from_slice(start.as_bytes())?;
-    shown.extend_from_slice(subckt.model.as_slice())?;
+    push_all(shown, &[start.as_bytes(), subckt.model.as_slice()])?;
     for pin in subckt.pins.as_slice() {
-        shown.push(b' ')?;
-        shown.extend_from_slice(pin.formal.as_slice())?;
-        shown.push(b'|')?;
-        shown.extend_from_slice(pin.actual.as_slice())?;
+        push_all(
+            shown,
+            &[b" ", pin.formal.as_slice(), b"|", pin.actual.as_slice()],
+        )?;
     }
     shown.push(b';')?;
     Ok(())

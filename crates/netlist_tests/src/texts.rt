@@ -1,7 +1,18 @@
 // Texts beside those that are wanted.
-ghost use Rattle.std.specs.Prelude.{◌≡◌, IsOk};
+ghost use Rattle.std.specs.Prelude.{◌≡◌, ◌≤◌, length, IfOk, IsOk};
 
+use std::alloc::AllocError;
 use std::test::Fail;
+
+/// Adds parts, one after the other.
+pub fn push_all(text: &mut Vec<u8>, parts: &[&[u8]]) -> Result<(), AllocError>
+    ensures { IfOk result (λ _. length text.old.items ≤ length text.new.items) }
+{
+    for part in parts {
+        text.extend_from_slice(part)?;
+    }
+    Ok(())
+}
 
 /// Fails where a text is not the one that is wanted.
 pub fn expect(said: &[u8], want: &[u8]) -> Result<(), Fail>
