@@ -1,3 +1,4 @@
+use crate::texts::expect;
 use lists::{Bytes, List};
 use model_circles::circle_fault;
 use named_models::NamedModels;
@@ -70,8 +71,7 @@ const CIRCLES: &[(&[&[u8]], &[u8])] = &[
 #[test]
 fn the_earliest_line_on_a_circle_is_the_fault(rt: HostRuntime) -> Result<(), Fail> {
     for (texts, want) in CIRCLES {
-        let said = said(rt.alloc(), texts)?;
-        assert_eq!(rt; said.as_slice(), *want);
+        expect(&said(rt.alloc(), texts)?, want)?;
     }
     Ok(())
 }
@@ -83,7 +83,5 @@ fn many_lines_of_one_model_are_no_circle(rt: HostRuntime) -> Result<(), Fail> {
     for _ in 0..500 {
         many.extend_from_slice(b"2b")?;
     }
-    let said = said(alloc, &[many.as_slice(), b"b"])?;
-    assert_eq!(rt; said.as_slice(), b"".as_slice());
-    Ok(())
+    expect(&said(alloc, &[many.as_slice(), b"b"])?, b"")
 }

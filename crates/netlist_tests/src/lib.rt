@@ -18,4 +18,6 @@ mod models;
 #[cfg(test)]
 mod rule_names;
 #[cfg(test)]
+mod texts;
+#[cfg(test)]
 mod weights;

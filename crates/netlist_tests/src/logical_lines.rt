@@ -1,69 +1,65 @@
 // Texts with their logical lines, written out as `number:word,word`.
-use blif_lex::lines;
+use crate::texts::{expect, push_all};
+use blif_lex::{Logical, lines};
 use std::alloc::{AllocError, Global};
 use std::test::Fail;
 
-fn shown(alloc: Global, text: &[u8]) -> Result<String, AllocError> {
-    let mut shown = String::new(alloc);
+fn push_line(alloc: Global, shown: &mut Vec<u8>, line: &Logical) -> Result<(), AllocError> {
+    shown.extend_from_slice(format!(in alloc; "{}:", line.line)?.as_bytes())?;
+    for word in line.words.as_slice() {
+        push_all(shown, &[word.as_slice(), b","])?;
+    }
+    shown.push(b';')?;
+    Ok(())
+}
+
+fn shown(alloc: Global, text: &[u8]) -> Result<Vec<u8>, AllocError> {
+    let mut shown = Vec::new(alloc);
     let Ok(found) = lines(alloc, text) else {
-        return Ok(shown);
+        return Err(AllocError);
     };
     for line in found.as_slice() {
-        shown.push_str(&format!(in alloc; "{}:", line.line)?)?;
-        for word in line.words.as_slice() {
-            for byte in word.as_slice() {
-                shown.push(*byte as char)?;
-            }
-            shown.push(',')?;
-        }
-        shown.push(';')?;
+        push_line(alloc, &mut shown, line)?;
     }
     Ok(shown)
 }
 
 // Texts and their logical lines.
-const LINES: &[(&[u8], &str)] = &[
-    (b"", ""),
-    (b"\n", ""),
-    (b"\\", ""),
-    (b"\\\n", ""),
-    (b"\\\n\\\n\\", ""),
-    (b"a", "1:a,;"),
-    (b"a b\r\nc\r", "1:a,b,;2:c,;"),
-    (b"a\rb\r\r\nc", "1:a,b,;2:c,;"),
-    (b"a\\\nb", "1:ab,;"),
-    (b"a \\\r\n b", "1:a,b,;"),
-    (b"a\\ \t\x0b\x0c\r\nb", "1:ab,;"),
-    (b"a\\b\\\\\nc", "1:a\\b\\c,;"),
-    (b"a # b \\\nc", "1:a,;2:c,;"),
-    (b"a \\ # b\nc", "1:a,c,;"),
-    (b"a\\#\\\nc", "1:ac,;"),
-    (b"\\\n\\\n#\nx", "4:x,;"),
-    (b"\n\n \t\na\\\n\\\nb\n\nc", "4:ab,;8:c,;"),
-    (b"a\\\n#b\nc", "1:a,;3:c,;"),
-    (b"a\x0bb\x0cc\td", "1:a,b,c,d,;"),
-    (b"a\\", "1:a,;"),
+const LINES: &[(&[u8], &[u8])] = &[
+    (b"", b""),
+    (b"\n", b""),
+    (b"\\", b""),
+    (b"\\\n", b""),
+    (b"\\\n\\\n\\", b""),
+    (b"a", b"1:a,;"),
+    (b"a b\r\nc\r", b"1:a,b,;2:c,;"),
+    (b"a\rb\r\r\nc", b"1:a,b,;2:c,;"),
+    (b"a\\\nb", b"1:ab,;"),
+    (b"a \\\r\n b", b"1:a,b,;"),
+    (b"a\\ \t\x0b\x0c\r\nb", b"1:ab,;"),
+    (b"a\\b\\\\\nc", b"1:a\\b\\c,;"),
+    (b"a # b \\\nc", b"1:a,;2:c,;"),
+    (b"a \\ # b\nc", b"1:a,c,;"),
+    (b"a\\#\\\nc", b"1:ac,;"),
+    (b"\\\n\\\n#\nx", b"4:x,;"),
+    (b"\n\n \t\na\\\n\\\nb\n\nc", b"4:ab,;8:c,;"),
+    (b"a\\\n#b\nc", b"1:a,;3:c,;"),
+    (b"a\x0bb\x0cc\td", b"1:a,b,c,d,;"),
+    (b"a\\", b"1:a,;"),
 ];
 
 #[test]
 fn lines_are_joined_and_cut(rt: HostRuntime) -> Result<(), Fail> {
-    let alloc = rt.alloc();
-    for (text, expected) in LINES {
-        let found = shown(alloc, *text)?;
-        assert_eq!(rt; found.as_str(), *expected);
+    for (text, want) in LINES {
+        expect(&shown(rt.alloc(), text)?, want)?;
     }
     Ok(())
 }
 
 #[test]
 fn no_byte_but_the_five_is_a_blank(rt: HostRuntime) -> Result<(), Fail> {
-    let alloc = rt.alloc();
-    let text = [
-        b'a', 0, b'b', 0x85, b'c', 0xa0, b'd', 0x1c, b'e', 0xff, 0xe2, 0x80, 0x83, b'f',
-    ];
-    let found = lines(alloc, &text).expect(&rt, "memory");
-    assert_eq!(rt; found.len(), 1);
-    assert_eq!(rt; found.get(0).words.len(), 1);
-    assert_eq!(rt; found.get(0).words.get(0).as_slice(), text.as_slice());
-    Ok(())
+    expect(
+        &shown(rt.alloc(), b"a\0b\x85c\xa0d\x1ce\xff\xe2\x80\x83f")?,
+        b"1:a\0b\x85c\xa0d\x1ce\xff\xe2\x80\x83f,;",
+    )
 }

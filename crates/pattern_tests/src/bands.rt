@@ -5,29 +5,29 @@ ghost use Rattle.band_core.specs.Bands.{IsSamePattern};
 mod orders;
 mod shown;
 
+use crate::texts::expect;
 use band_core::{Bands, NotReady, NotSkipped};
-use lists::List;
-use shown::shown_rows;
+use rle_read::read;
+use shown::shown_row;
 use std::alloc::{AllocError, Global};
 use std::test::Fail;
-use ww_rule::{CellRows, Pattern, State};
 
-// A column of three cells, from the top down.
-fn column(alloc: Global, cells: [State; 3]) -> Result<Pattern, AllocError>
-    ensures width { IfOk result (λ pattern. pattern.width ≡ 1) }
-    ensures height { IfOk result (λ pattern. pattern.height ≡ 3) }
-    ensures rows { IfOk result (λ pattern. length pattern.rows ≡ 3) }
+// The bands of a text's pattern, which has this size and no injections.
+fn bands_of(alloc: Global, text: &[u8], width: u64, rows: usize, height: u32) -> Result<Bands, Fail>
+    requires { 0 < height }
+    ensures height { IfOk result (λ bands. bands.height ≡ height) }
+    ensures width { IfOk result (λ bands. bands.grid.width ≡ width) }
+    ensures rows { IfOk result (λ bands. length bands.grid.rows ≡ rows) }
 {
-    let [top, middle, bottom] = cells;
-    let top = List::of(Vec::from_array(alloc, [top])?);
-    let middle = List::of(Vec::from_array(alloc, [middle])?);
-    let bottom = List::of(Vec::from_array(alloc, [bottom])?);
-    Ok(Pattern {
-        width: 1,
-        height: 3,
-        rows: CellRows::of_rows(alloc, &[top, middle, bottom])?,
-    })
+    let pattern = read(alloc, text)?;
+    if pattern.width != width || pattern.rows.len() != rows {
+        return Err(Fail::new("another size"));
+    }
+    Ok(Bands::new(alloc, pattern, Vec::new(alloc), height)?)
 }
+
+// A head above two conductors.
+const COLUMN: &[u8] = b"x = 1, y = 3, rule = WireWorld\nA$C$C!";
 
 // What a call on a band answers.
 #[derive(Clone, Copy, Debug, PartialEq, Eq)]
@@ -86,12 +86,6 @@ fn behind(neighbour: usize, generation: u64) -> Answer {
     }
 }
 
-const A: State = State::Head;
-
-const C: State = State::Conductor;
-
-const E: State = State::Empty;
-
 // Makes calls of `advance`, and tells whether they answered these.
 fn answers_are_right(bands: &mut Bands, calls: &[(usize, Answer)]) -> bool
     ensures { IsSamePattern bands.old bands.new }
@@ -117,13 +111,13 @@ const BEHIND_BOTTOM: Answer = Answer::NotReady {
 };
 
 // Calls with their answers, and the column's cells after them.
-const ORDERS: &[(&[(usize, Answer)], [u8; 3])] = &[
+const ORDERS: &[(&[(usize, Answer)], &[u8])] = &[
     (
         &[(2, OK), (2, BEHIND_MIDDLE), (3, Answer::NoSuchBand)],
-        *b"ACC",
+        b"ACC",
     ),
-    (&[(1, OK), (0, OK), (2, OK), (2, OK)], *b"BAA"),
-    (&[(2, OK), (1, OK), (0, OK), (2, OK)], *b"BAA"),
+    (&[(1, OK), (0, OK), (2, OK), (2, OK)], b"BAA"),
+    (&[(2, OK), (1, OK), (0, OK), (2, OK)], b"BAA"),
     (
         &[
             (0, OK),
@@ -136,13 +130,33 @@ const ORDERS: &[(&[(usize, Answer)], [u8; 3])] = &[
             (1, OK),
             (2, OK),
         ],
-        *b"CBB",
+        b"CBB",
     ),
 ];
 
+// All rows, one after the other.
+fn shown_rows(
+    alloc: Global,
+    bands: &Bands,
+    height: u32,
+    width: u64,
+    count: u64,
+) -> Result<Vec<u8>, AllocError>
+    requires height { height ≡ bands.now.height }
+    requires width { width ≡ bands.now.grid.width }
+    requires count { count ≡ length bands.now.grid.rows }
+{
+    let mut rows = Vec::new(alloc);
+    for y in 0..count {
+        let row = shown_row(alloc, bands, height, width, y)?;
+        rows.extend_from_slice(&row)?;
+    }
+    Ok(rows)
+}
+
 // The column's cells after calls of `advance`, from the top down.
 fn column_after(alloc: Global, calls: &[(usize, Answer)]) -> Result<Vec<u8>, Fail> {
-    let mut bands = Bands::new(alloc, column(alloc, [A, C, C])?, Vec::new(alloc), 1)?;
+    let mut bands = bands_of(alloc, COLUMN, 1, 3, 1)?;
     if !answers_are_right(&mut bands, calls) {
         return Err(Fail::new("another answer"));
     }
@@ -152,26 +166,9 @@ fn column_after(alloc: Global, calls: &[(usize, Answer)]) -> Result<Vec<u8>, Fai
 #[test]
 fn bands_advance_in_any_order(rt: HostRuntime) -> Result<(), Fail> {
     for (calls, cells) in ORDERS {
-        let shown = column_after(rt.alloc(), calls)?;
-        assert_eq!(rt; shown.as_slice(), cells.as_slice());
+        expect(&column_after(rt.alloc(), calls)?, cells)?;
     }
     Ok(())
-}
-
-// A pattern of two rows of three cells.
-fn two_rows(alloc: Global, rows: [[State; 3]; 2]) -> Result<Pattern, AllocError>
-    ensures width { IfOk result (λ pattern. pattern.width ≡ 3) }
-    ensures height { IfOk result (λ pattern. pattern.height ≡ 2) }
-    ensures rows { IfOk result (λ pattern. length pattern.rows ≡ 2) }
-{
-    let [top, bottom] = rows;
-    let top = List::of(Vec::from_array(alloc, top)?);
-    let bottom = List::of(Vec::from_array(alloc, bottom)?);
-    Ok(Pattern {
-        width: 3,
-        height: 2,
-        rows: CellRows::of_rows(alloc, &[top, bottom])?,
-    })
 }
 
 // One generation of all bands, from the top down.
@@ -183,23 +180,27 @@ fn advance_all(bands: &mut Bands)
     }
 }
 
-// Three cells above a conductor: both rows a generation later, by bands of this height.
-fn both_rows_after(alloc: Global, above: [State; 3], height: u32) -> Result<Vec<u8>, Fail>
+// Both rows of a pattern of two by three cells a generation later, by bands of this height.
+fn both_rows_after(alloc: Global, text: &[u8], height: u32) -> Result<Vec<u8>, Fail>
     requires { 0 < height }
 {
-    let pattern = two_rows(alloc, [above, [E, C, E]])?;
-    let mut bands = Bands::new(alloc, pattern, Vec::new(alloc), height)?;
+    let mut bands = bands_of(alloc, text, 3, 2, height)?;
     advance_all(&mut bands);
     Ok(shown_rows(alloc, &bands, height, 3, 2)?)
 }
 
+// Three cells above a conductor, and both rows a generation later.
+const ABOVE: &[(&[u8], &[u8])] = &[
+    (b"x = 3, y = 2, rule = WireWorld\nAAA$.C.!", b"BBB.C."),
+    (b"x = 3, y = 2, rule = WireWorld\nAA.$.C.!", b"BB..A."),
+];
+
 #[test]
 fn two_heads_light_a_conductor_and_three_do_not(rt: HostRuntime) -> Result<(), Fail> {
-    for (above, cells) in [([A, A, A], *b"BBB.C."), ([A, A, E], *b"BB..A.")] {
-        for height in [1, 2] {
-            let shown = both_rows_after(rt.alloc(), above, height)?;
-            assert_eq!(rt; shown.as_slice(), cells.as_slice());
-        }
+    let alloc = rt.alloc();
+    for (text, cells) in ABOVE {
+        expect(&both_rows_after(alloc, text, 1)?, cells)?;
+        expect(&both_rows_after(alloc, text, 2)?, cells)?;
     }
     Ok(())
 }
@@ -207,7 +208,7 @@ fn two_heads_light_a_conductor_and_three_do_not(rt: HostRuntime) -> Result<(), F
 #[test]
 fn a_lit_cell_keeps_bands_awake(rt: HostRuntime) -> Result<(), Fail> {
     let alloc = rt.alloc();
-    let mut bands = Bands::new(alloc, column(alloc, [A, C, C])?, Vec::new(alloc), 1)?;
+    let mut bands = bands_of(alloc, COLUMN, 1, 3, 1)?;
     let answers = [
         skipped(&mut bands, 2),
         skipped(&mut bands, 1),
@@ -230,28 +231,21 @@ fn a_lit_cell_keeps_bands_awake(rt: HostRuntime) -> Result<(), Fail> {
     Ok(())
 }
 
-// How many bands a pattern has, each as high as a band may be.
-fn count(alloc: Global, pattern: Pattern) -> Result<usize, Fail> {
-    let bands = Bands::new(alloc, pattern, Vec::new(alloc), u32::MAX)?;
-    Ok(bands.bands())
-}
+// Patterns, and how many bands they have, each as high as a band may be.
+const COUNTS: &[(&[u8], usize)] = &[
+    (b"x = 18446744073709551615, y = 0, rule = WireWorld\n!", 0),
+    (b"x = 0, y = 18446744073709551615, rule = WireWorld\n!", 0),
+    (COLUMN, 1),
+];
 
 #[test]
 fn a_pattern_without_cells_has_no_band(rt: HostRuntime) -> Result<(), Fail> {
     let alloc = rt.alloc();
-    let wide = Pattern {
-        width: u64::MAX,
-        height: 0,
-        rows: CellRows::with_room(alloc, 0, 0)?,
-    };
-    let of_wide = count(alloc, wide)?;
-    let high = Pattern {
-        width: 0,
-        height: u64::MAX,
-        rows: CellRows::with_room(alloc, 0, 0)?,
-    };
-    let of_high = count(alloc, high)?;
-    let of_column = count(alloc, column(alloc, [A, C, C])?)?;
-    assert_eq!(rt; [of_wide, of_high, of_column], [0, 0, 1]);
+    for (text, count) in COUNTS {
+        let bands = Bands::new(alloc, read(alloc, text)?, Vec::new(alloc), u32::MAX)?;
+        if bands.bands() != *count {
+            return Err(Fail::new("another count"));
+        }
+    }
     Ok(())
 }

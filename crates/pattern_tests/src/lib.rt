@@ -15,3 +15,5 @@ mod rule;
 mod runs;
 #[cfg(test)]
 mod tables;
+#[cfg(test)]
+mod texts;

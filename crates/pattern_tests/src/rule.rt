@@ -1,70 +1,67 @@
 // Small patterns by hand, in the letters of RLE: '.' is empty, A a head, B a tail and C a conductor.
-ghost use Rattle.std.specs.Prelude.{◌≡◌, length, IfOk};
-
+use crate::texts::{drawn, expect};
+use rle_read::read;
 use std::alloc::Global;
 use std::test::Fail;
-use ww_rule::{CellRows, Pattern, Plane, RuleError, State, mirror_x, step_driven, step_plain};
+use ww_rule::{Plane, mirror_x, step_driven, step_plain};
 
-fn state_of(letter: u8) -> State {
-    match letter {
-        b'A' => State::Head,
-        b'B' => State::Tail,
-        b'C' => State::Conductor,
-        _ => State::Empty,
-    }
+fn plane_of(alloc: Global, text: &[u8]) -> Result<Plane, Fail> {
+    let pattern = read(alloc, text)?;
+    Ok(Plane::from_pattern(alloc, &pattern)?)
 }
 
-// The pattern of rows of three letters each.
-fn pattern_of(alloc: Global, text: &[[u8; 3]]) -> Result<Pattern, RuleError>
-    ensures width { IfOk result (λ pattern. pattern.width ≡ 3) }
-    ensures height { IfOk result (λ pattern. pattern.height ≡ length text.now) }
-{
-    let mut rows = CellRows::with_room(alloc, 3, text.len())?;
-    for [west, middle, east] in text {
-        let row = [state_of(*west), state_of(*middle), state_of(*east)];
-        rows.push_row(&row)?;
-    }
-    Ok(Pattern {
-        width: 3,
-        height: text.len() as u64,
-        rows,
-    })
+// The rows of a plane, and its width and height.
+fn shown(alloc: Global, plane: &Plane) -> Result<Vec<u8>, Fail> {
+    let mut text = drawn(alloc, &plane.rows)?;
+    let size = format!(in alloc; "{} {}", plane.width, plane.height)?;
+    text.extend_from_slice(size.as_bytes())?;
+    Ok(text)
 }
 
-// Whether rows are those of the text.
-fn is_text(rows: &CellRows, text: &[[u8; 3]]) -> bool {
-    rows.len() == text.len()
-        && text.iter().enumerate().all(|(y, [west, middle, east])| {
-            let row = [state_of(*west), state_of(*middle), state_of(*east)];
-            rows.row_or_none(y) == row.as_slice()
-        })
-}
-
-// Patterns, and the same a generation later.
-const GENERATIONS: &[(&[[u8; 3]], &[[u8; 3]])] = &[
-    (&[*b"ACC"], &[*b"BAC"]),
-    (&[*b"A..", *b".C."], &[*b"B..", *b".A."]),
-    (&[*b"AA.", *b".C."], &[*b"BB.", *b".A."]),
-    (&[*b"AAA", *b".C."], &[*b"BBB", *b".C."]),
-    (&[*b"..C", *b".C.", *b"A.B"], &[*b"..C", *b".A.", *b"B.C"]),
+// Patterns, and what is shown of them and of the same a generation later.
+const GENERATIONS: &[(&[u8], &[u8], &[u8])] = &[
+    (
+        b"x = 3, y = 1, rule = WireWorld\nACC!",
+        b"ACC$3 1",
+        b"BAC$3 1",
+    ),
+    (
+        b"x = 3, y = 2, rule = WireWorld\nA..$.C.!",
+        b"A..$.C.$3 2",
+        b"B..$.A.$3 2",
+    ),
+    (
+        b"x = 3, y = 2, rule = WireWorld\nAA.$.C.!",
+        b"AA.$.C.$3 2",
+        b"BB.$.A.$3 2",
+    ),
+    (
+        b"x = 3, y = 2, rule = WireWorld\nAAA$.C.!",
+        b"AAA$.C.$3 2",
+        b"BBB$.C.$3 2",
+    ),
+    (
+        b"x = 3, y = 3, rule = WireWorld\n..C$.C.$A.B!",
+        b"..C$.C.$A.B$3 3",
+        b"..C$.A.$B.C$3 3",
+    ),
 ];
 
-// Whether a pattern becomes the other, of its size, in one generation.
-fn becomes(alloc: Global, before: &[[u8; 3]], after: &[[u8; 3]]) -> Result<bool, Fail> {
-    let plane = Plane::from_pattern(alloc, &pattern_of(alloc, before)?)?;
-    let next = step_plain(alloc, &plane)?;
-    Ok(
-        is_text(&plane.rows, before)
-            && is_text(&next.rows, after)
-            && (next.width, next.height) == (plane.width, plane.height),
-    )
+// What is shown of a plane a generation later.
+fn shown_next(alloc: Global, plane: &Plane) -> Result<Vec<u8>, Fail> {
+    shown(alloc, &step_plain(alloc, plane)?)
+}
+
+fn becomes(alloc: Global, text: &[u8], before: &[u8], after: &[u8]) -> Result<(), Fail> {
+    let plane = plane_of(alloc, text)?;
+    expect(&shown(alloc, &plane)?, before)?;
+    expect(&shown_next(alloc, &plane)?, after)
 }
 
 #[test]
 fn one_generation_by_the_rule(rt: HostRuntime) -> Result<(), Fail> {
-    let alloc = rt.alloc();
-    for (before, after) in GENERATIONS {
-        assert!(rt; becomes(alloc, before, after)?, "{before:?}");
+    for (text, before, after) in GENERATIONS {
+        becomes(rt.alloc(), text, before, after)?;
     }
     Ok(())
 }
@@ -72,17 +69,21 @@ fn one_generation_by_the_rule(rt: HostRuntime) -> Result<(), Fail> {
 #[test]
 fn an_injection_follows_the_rule(rt: HostRuntime) -> Result<(), Fail> {
     let alloc = rt.alloc();
-    let plane = Plane::from_pattern(alloc, &pattern_of(alloc, &[*b"CCA"])?)?;
+    let plane = plane_of(alloc, b"x = 3, y = 1, rule = WireWorld\nCCA!")?;
+    if plane.width == 0 || plane.height == 0 {
+        return Err(Fail::new("no cells"));
+    }
     let next = step_driven(alloc, &plane, &[(0, 0)])?;
-    assert!(rt; is_text(&next.rows, &[*b"AAB"]));
-    Ok(())
+    expect(&shown(alloc, &next)?, b"AAB$3 1")
 }
 
 #[test]
 fn a_mirror_turns_each_row(rt: HostRuntime) -> Result<(), Fail> {
     let alloc = rt.alloc();
-    let mirror = mirror_x(alloc, &pattern_of(alloc, &[*b"CA."])?)?;
-    assert!(rt; is_text(&mirror.rows, &[*b".AC"]));
-    assert_eq!(rt; (mirror.width, mirror.height), (3, 1));
-    Ok(())
+    let pattern = read(alloc, b"x = 3, y = 1, rule = WireWorld\nCA.!")?;
+    let mirror = mirror_x(alloc, &pattern)?;
+    expect(
+        &shown(alloc, &Plane::from_pattern(alloc, &mirror)?)?,
+        b".AC$3 1",
+    )
 }

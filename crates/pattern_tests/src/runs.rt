@@ -1,349 +1,302 @@
 // Streams from words, and patterns that streams drive.
-ghost use Rattle.std.specs.Prelude.{◌≡◌, ◌<◌, [], ◌∷◌, All, length, IfOk};
+ghost use Rattle.std.specs.Prelude.{◌≡◌, ◌<◌, All, length, IfOk};
 ghost use Rattle.pattern_reading.specs.Ports.{cells_of};
+ghost use Rattle.ww_rule.specs.Grid.{AreInBox};
+ghost use Rattle.drive.specs.Driving.{AreFor};
 
-use drive::{SimulateError, StreamError, StreamFaultKind, Streams, simulate};
+use crate::texts::expect;
+use drive::{SimulateError, StreamError, Streams, simulate};
 use lists::{Bytes, List};
 use pattern_reading::{PortLine, Ports};
 use std::alloc::{AllocError, Global};
 use std::test::Fail;
-use ww_rule::{CellRows, Pattern, State};
-
-// The rows of an OR gate: the inputs enter at (0, 8) and (0, 24), the output is at (32, 8).
-const OR_ROWS: &[[u8; 33]; 32] = &[
-    *b".................................",
-    *b".................................",
-    *b".................................",
-    *b".................................",
-    *b".................................",
-    *b".................................",
-    *b".................................",
-    *b".................................",
-    *b"CCCCC..................CCCCCCCCCC",
-    *b".....C................C..........",
-    *b"......C..............C...........",
-    *b".......C............C............",
-    *b"........C..........C.............",
-    *b".........C.CC.....C..............",
-    *b"..........CC.C...C...............",
-    *b"...........CC.C.C................",
-    *b"...............C.................",
-    *b"...........CC.C..................",
-    *b"..........CC.C...................",
-    *b".........C.CC....................",
-    *b"........C........................",
-    *b".......C.........................",
-    *b"......C..........................",
-    *b".....C...........................",
-    *b"CCCCC..........................C.",
-    *b".................................",
-    *b".................................",
-    *b".................................",
-    *b".................................",
-    *b".................................",
-    *b".................................",
-    *b".................................",
-];
-
-fn state_of(letter: u8) -> State {
-    if letter == b'C' {
-        State::Conductor
-    } else {
-        State::Empty
-    }
-}
-
-// A row of cells as it is drawn.
-fn stream_row(alloc: Global, drawn: &[u8]) -> Result<List<State>, AllocError>
-    ensures { IfOk result (λ row. length row ≡ length drawn.now) }
-{
-    let row = drawn.iter().map(|letter| state_of(*letter)).collect(alloc)?;
-    Ok(List::of(row))
-}
+use ww_rule::Pattern;
 
 // A wire of three cells.
-fn wire(alloc: Global) -> Result<Pattern, AllocError>
-    ensures width { IfOk result (λ pattern. pattern.width ≡ 3) }
-    ensures height { IfOk result (λ pattern. pattern.height ≡ 1) }
-{
-    Ok(Pattern {
-        width: 3,
-        height: 1,
-        rows: CellRows::of_rows(alloc, &[stream_row(alloc, b"CCC")?])?,
-    })
-}
+const WIRE: &[u8] = b"x = 3, y = 1, rule = WireWorld\n3C!";
 
-// A wire of three cells, one below the other.
-fn wire_down(alloc: Global) -> Result<Pattern, AllocError>
-    ensures width { IfOk result (λ pattern. pattern.width ≡ 1) }
-    ensures height { IfOk result (λ pattern. pattern.height ≡ 3) }
-{
-    let rows = [
-        stream_row(alloc, b"C")?,
-        stream_row(alloc, b"C")?,
-        stream_row(alloc, b"C")?,
-    ];
-    Ok(Pattern {
-        width: 1,
-        height: 3,
-        rows: CellRows::of_rows(alloc, &rows)?,
-    })
-}
+// The same, one below the other.
+const WIRE_DOWN: &[u8] = b"x = 1, y = 3, rule = WireWorld\nC$C$C!";
 
-// The OR gate.
-fn or_gate(alloc: Global) -> Result<Pattern, AllocError>
-    ensures width { IfOk result (λ pattern. pattern.width ≡ 33) }
-    ensures height { IfOk result (λ pattern. pattern.height ≡ 32) }
-{
-    let mut rows = CellRows::with_room(alloc, 33, 32)?;
-    for drawn in OR_ROWS {
-        let row = stream_row(alloc, drawn)?;
-        rows.push_row(row.as_slice())?;
+// An OR gate: the inputs enter at (0, 8) and (0, 24), the output is at (32, 8).
+const OR_GATE: &[u8] = b"x = 33, y = 32, rule = WireWorld
+.................................$
+.................................$
+.................................$
+.................................$
+.................................$
+.................................$
+.................................$
+.................................$
+CCCCC..................CCCCCCCCCC$
+.....C................C..........$
+......C..............C...........$
+.......C............C............$
+........C..........C.............$
+.........C.CC.....C..............$
+..........CC.C...C...............$
+...........CC.C.C................$
+...............C.................$
+...........CC.C..................$
+..........CC.C...................$
+.........C.CC....................$
+........C........................$
+.......C.........................$
+......C..........................$
+.....C...........................$
+CCCCC..........................C.$
+.................................$
+.................................$
+.................................$
+.................................$
+.................................$
+.................................$
+.................................!";
+
+fn strings_of(alloc: Global, words: &[&str]) -> Result<Vec<String>, AllocError> {
+    let mut strings = Vec::new(alloc);
+    for word in words {
+        strings.push(String::from_str(alloc, word)?)?;
     }
-    Ok(Pattern {
-        width: 33,
-        height: 32,
-        rows,
-    })
+    Ok(strings)
 }
 
-fn port(alloc: Global, x: u64, y: u64, name: &[u8]) -> Result<PortLine, AllocError>
-    ensures x { IfOk result (λ port. port.x ≡ x) }
-    ensures y { IfOk result (λ port. port.y ≡ y) }
+fn names_of(alloc: Global, ports: &[PortLine]) -> Result<Vec<Bytes>, AllocError>
+    ensures { IfOk result (λ names. length names.items ≡ length ports.now) }
 {
-    let name = Bytes::of(name.to_vec(alloc)?);
-    Ok(PortLine { x, y, name })
-}
-
-// A wire's table: it enters at its first cell, and leaves at these cells two generations later.
-fn wire_ports(alloc: Global, p: u64, outputs: &[(u64, u64)]) -> Result<Ports, AllocError>
-    ensures { IfOk result (λ ports. cells_of ports.ins ≡ (0, 0) ∷ []) }
-{
-    let mut outs = Vec::new(alloc);
-    for (x, y) in outputs {
-        outs.push(port(alloc, *x, *y, b"y")?)?;
+    let mut names = Vec::new(alloc);
+    for port in ports {
+        names.push(Bytes::of(port.name.as_slice().to_vec(alloc)?))?;
     }
-    Ok(Ports {
-        p,
-        l: 2,
-        ins: List::of(Vec::from_array(alloc, [port(alloc, 0, 0, b"a")?])?),
-        outs: List::of(outs),
-        nets: List::of(Vec::new(alloc)),
-    })
+    Ok(names)
 }
 
-// The gate's table.
-fn or_ports(alloc: Global, p: u64, l: u64) -> Result<Ports, AllocError>
-    ensures { IfOk result (λ ports. cells_of ports.ins ≡ (0, 8) ∷ (0, 24) ∷ []) }
-{
-    let ins = [port(alloc, 0, 8, b"a")?, port(alloc, 0, 24, b"b")?];
-    Ok(Ports {
-        p,
-        l,
-        ins: List::of(Vec::from_array(alloc, ins)?),
-        outs: List::of(Vec::from_array(alloc, [port(alloc, 32, 8, b"y")?])?),
-        nets: List::of(Vec::new(alloc)),
-    })
+fn push_bits(text: &mut Vec<u8>, bits: &[bool]) -> Result<(), AllocError> {
+    for bit in bits {
+        text.push(b'0' + u8::from(*bit))?;
+    }
+    text.push(b',')?;
+    Ok(())
 }
 
-// The streams that words say for inputs of these names.
-fn read(
+// The bits of each output, with a comma after them.
+fn shown(alloc: Global, outputs: &[List<bool>]) -> Result<Vec<u8>, AllocError> {
+    let mut text = Vec::new(alloc);
+    for bits in outputs {
+        push_bits(&mut text, bits.as_slice())?;
+    }
+    Ok(text)
+}
+
+// A fault, and the word at fault.
+fn fault_shown(alloc: Global, error: StreamError) -> Result<Vec<u8>, AllocError> {
+    let StreamError::Fault(fault) = error else {
+        return Err(AllocError);
+    };
+    let mut text = format!(in alloc; "{:?} ", fault.kind)?.into_bytes();
+    text.extend_from_slice(fault.word.as_slice())?;
+    Ok(text)
+}
+
+// The streams that words say for inputs.
+fn streams_for(
     alloc: Global,
+    inputs: &[PortLine],
     words: &[&str],
-    names: &[&[u8]],
     cycles: usize,
 ) -> Result<Streams, StreamError>
     ensures cycles { IfOk result (λ streams. streams.cycles ≡ cycles) }
-    ensures many { IfOk result (λ streams. length streams.bits ≡ length names.now) }
+    ensures many { IfOk result (λ streams. length streams.bits ≡ length inputs.now) }
     ensures long { IfOk result (λ streams. All (λ bits. length bits ≡ cycles) streams.bits) }
 {
-    let mut given = Vec::new(alloc);
-    for word in words {
-        given.push(String::from_str(alloc, word)?)?;
-    }
-    let mut inputs = Vec::new(alloc);
-    for name in names {
-        inputs.push(Bytes::of(name.to_vec(alloc)?))?;
-    }
-    Streams::read(alloc, &given, &inputs, cycles)
+    let words = strings_of(alloc, words)?;
+    let names = names_of(alloc, inputs)?;
+    Streams::read(alloc, &words, &names, cycles)
 }
 
-// The bits of the only output.
-fn only_bits(shown: &[List<bool>]) -> &[bool] {
-    match shown {
-        [only] => only.as_slice(),
-        _ => &[],
-    }
-}
-
-// What a wire shows of the two bits of a word.
-fn wire_shown(
+// What the outputs of a pattern show, or why it is not run.
+fn run(
     alloc: Global,
-    wire: Pattern,
+    pattern: Pattern,
     ports: &Ports,
-    word: &str,
-) -> Result<List<List<bool>>, Fail>
-    requires width { 0 < wire.width }
-    requires height { 0 < wire.height }
-    requires ins { cells_of ports.now.ins ≡ (0, 0) ∷ [] }
+    streams: &Streams,
+) -> Result<Vec<u8>, AllocError>
+    requires cycles { 0 < streams.now.cycles }
+    requires streams { AreFor ports.now streams.now }
+    requires in_box { AreInBox pattern.width pattern.height (cells_of ports.now.ins) }
 {
-    let Ok(streams) = read(alloc, &[word], &[b"a"], 2) else {
-        return Err(Fail::new("no streams"));
+    match simulate(alloc, pattern, ports, streams) {
+        Ok(outputs) => shown(alloc, outputs.as_slice()),
+        Err(SimulateError::TooFar { generations }) => {
+            Ok(format!(in alloc; "TooFar {generations}")?.into_bytes())
+        }
+        Err(SimulateError::NoMemory) => Err(AllocError),
+    }
+}
+
+// What a text's pattern shows in so many cycles, or why there are no streams or no run.
+fn said(alloc: Global, text: &[u8], words: &[&str], cycles: usize) -> Result<Vec<u8>, Fail>
+    requires { 0 < cycles }
+{
+    let pattern = rle_read::read(alloc, text)?;
+    let ports = port_table::read(alloc, text, pattern.width, pattern.height)?;
+    let said = match streams_for(alloc, ports.ins.as_slice(), words, cycles) {
+        Ok(streams) => run(alloc, pattern, &ports, &streams),
+        Err(error) => fault_shown(alloc, error),
     };
-    Ok(simulate(alloc, wire, ports, &streams)?)
+    Ok(said?)
 }
 
-// Periods, and what is shown of two bits that are lit.
-const LIT: &[(u64, [bool; 2])] = &[
-    (4, [true, true]),
-    (3, [true, true]),
-    (2, [true, false]),
-    (1, [true, false]),
-];
-
-#[test]
-fn a_wire_shows_what_is_injected(rt: HostRuntime) -> Result<(), Fail> {
-    let alloc = rt.alloc();
-    for (p, want) in LIT {
-        let ports = wire_ports(alloc, *p, &[(2, 0)])?;
-        let shown = wire_shown(alloc, wire(alloc)?, &ports, "a=11")?;
-        assert_eq!(rt; only_bits(shown.as_slice()), want.as_slice(), "period {p}");
-    }
-    Ok(())
-}
-
-#[test]
-fn a_wire_downward_shows_the_same(rt: HostRuntime) -> Result<(), Fail> {
-    let alloc = rt.alloc();
-    for (p, want) in LIT {
-        let ports = wire_ports(alloc, *p, &[(0, 2)])?;
-        let shown = wire_shown(alloc, wire_down(alloc)?, &ports, "a=11")?;
-        assert_eq!(rt; only_bits(shown.as_slice()), want.as_slice(), "period {p}");
-    }
-    Ok(())
-}
-
-#[test]
-fn generations_past_the_greatest_are_refused(rt: HostRuntime) -> Result<(), Fail> {
-    let alloc = rt.alloc();
-    let Ok(streams) = read(alloc, &["a=11"], &[b"a"], 2) else {
-        return Err(Fail::new("no streams"));
-    };
-    let ports = wire_ports(alloc, 4_294_967_296, &[(2, 0)])?;
-    let is_too_far = matches!(
-        simulate(alloc, wire(alloc)?, &ports, &streams),
-        Err(SimulateError::TooFar {
-            generations: 4_294_967_298
-        })
-    );
-    assert!(rt; is_too_far);
-    Ok(())
-}
-
-// Where a wire is left, its word, and what is shown: the word's second bit is dark, or nothing is seen.
-const DARK: &[(&[(u64, u64)], &str, &[bool])] = &[
-    (&[(2, 0)], "a=10", &[true, false]),
-    (&[], "a=11", &[]),
-];
-
-#[test]
-fn dark_generations_are_not_run(rt: HostRuntime) -> Result<(), Fail> {
-    let alloc = rt.alloc();
-    for (outputs, word, want) in DARK {
-        let ports = wire_ports(alloc, 4_294_967_294, outputs)?;
-        let shown = wire_shown(alloc, wire(alloc)?, &ports, word)?;
-        assert_eq!(rt;
-            (shown.len(), only_bits(shown.as_slice())),
-            (outputs.len(), *want)
-        );
-    }
-    Ok(())
-}
-
-// What the gate shows of the bits of two words.
-fn gate_shown(
+// A table and a pattern as one text, and what is said of it.
+fn said_of(
     alloc: Global,
-    ports: &Ports,
+    table: &[u8],
+    pattern: &[u8],
     words: &[&str],
     cycles: usize,
-) -> Result<List<List<bool>>, Fail>
-    requires cycles { 0 < cycles }
-    requires ins { cells_of ports.now.ins ≡ (0, 8) ∷ (0, 24) ∷ [] }
-{
-    let Ok(streams) = read(alloc, words, &[b"a", b"b"], cycles) else {
-        return Err(Fail::new("no streams"));
-    };
-    Ok(simulate(alloc, or_gate(alloc)?, ports, &streams)?)
+) -> Result<Vec<u8>, Fail> {
+    if cycles == 0 {
+        return Err(Fail::new("no cycles"));
+    }
+    let mut text = table.to_vec(alloc)?;
+    text.extend_from_slice(pattern)?;
+    said(alloc, &text, words, cycles)
 }
 
-#[test]
-fn an_or_gate_is_driven(rt: HostRuntime) -> Result<(), Fail> {
-    let alloc = rt.alloc();
-    let ports = or_ports(alloc, 32, 32)?;
-    let shown = gate_shown(alloc, &ports, &["b=0101", "a=0011"], 4)?;
-    assert_eq!(rt;
-        only_bits(shown.as_slice()),
-        [false, true, true, true].as_slice()
-    );
-    Ok(())
-}
+// A table with two inputs on the wire.
+const TWO_INPUTS: &[u8] =
+    b"#C BLIFWW 1 P 4 L 2\n#C BLIFWW IN 0 0 a\n#C BLIFWW IN 1 0 b\n#C BLIFWW OUT 2 0 y\n";
 
-// One head, and each generation up to 32.
-#[test]
-fn an_or_gate_takes_32_generations(rt: HostRuntime) -> Result<(), Fail> {
-    let alloc = rt.alloc();
-    let words = [
-        "a=100000000000000000000000000000000",
-        "b=000000000000000000000000000000000",
-    ];
-    let mut want = [false; 33];
-    want[32] = true;
-    let ports = or_ports(alloc, 1, 0)?;
-    let shown = gate_shown(alloc, &ports, &words, 33)?;
-    assert_eq!(rt; only_bits(shown.as_slice()), want.as_slice());
-    Ok(())
-}
-
-// Words for the inputs a and b in two cycles, and their first faults.
-const FAULTS: &[(&[&str], StreamFaultKind, &[u8])] = &[
-    (&["a=01", "b=0"], StreamFaultKind::BadLength, b"b=0"),
-    (&["a=01"], StreamFaultKind::MissingInput, b"b"),
+// Tables, patterns, words, cycles, and what is said.
+const RUNS: &[(&[u8], &[u8], &[&str], usize, &[u8])] = &[
+    // a wire of each period
     (
-        &["a=01", "a=01", "b=01"],
-        StreamFaultKind::TwiceInput,
-        b"a=01",
+        b"#C BLIFWW 1 P 4 L 2\n#C BLIFWW IN 0 0 a\n#C BLIFWW OUT 2 0 y\n",
+        WIRE,
+        &["a=11"],
+        2,
+        b"11,",
     ),
-    (&["a01", "b=0"], StreamFaultKind::NoEquals, b"a01"),
-    (&["c=2", "b"], StreamFaultKind::UnknownInput, b"c=2"),
-    (&["a=012", "b=01"], StreamFaultKind::BadBit, b"a=012"),
-    (&["a=01", "a=2"], StreamFaultKind::TwiceInput, b"a=2"),
-    (&["a=0", "a=01"], StreamFaultKind::BadLength, b"a=0"),
-    (&[], StreamFaultKind::MissingInput, b"a"),
+    (
+        b"#C BLIFWW 1 P 3 L 2\n#C BLIFWW IN 0 0 a\n#C BLIFWW OUT 2 0 y\n",
+        WIRE,
+        &["a=11"],
+        2,
+        b"11,",
+    ),
+    (
+        b"#C BLIFWW 1 P 2 L 2\n#C BLIFWW IN 0 0 a\n#C BLIFWW OUT 2 0 y\n",
+        WIRE,
+        &["a=11"],
+        2,
+        b"10,",
+    ),
+    (
+        b"#C BLIFWW 1 P 1 L 2\n#C BLIFWW IN 0 0 a\n#C BLIFWW OUT 2 0 y\n",
+        WIRE,
+        &["a=11"],
+        2,
+        b"10,",
+    ),
+    (
+        b"#C BLIFWW 1 P 4 L 2\n#C BLIFWW IN 0 0 a\n#C BLIFWW OUT 0 2 y\n",
+        WIRE_DOWN,
+        &["a=11"],
+        2,
+        b"11,",
+    ),
+    (
+        b"#C BLIFWW 1 P 3 L 2\n#C BLIFWW IN 0 0 a\n#C BLIFWW OUT 0 2 y\n",
+        WIRE_DOWN,
+        &["a=11"],
+        2,
+        b"11,",
+    ),
+    (
+        b"#C BLIFWW 1 P 2 L 2\n#C BLIFWW IN 0 0 a\n#C BLIFWW OUT 0 2 y\n",
+        WIRE_DOWN,
+        &["a=11"],
+        2,
+        b"10,",
+    ),
+    (
+        b"#C BLIFWW 1 P 1 L 2\n#C BLIFWW IN 0 0 a\n#C BLIFWW OUT 0 2 y\n",
+        WIRE_DOWN,
+        &["a=11"],
+        2,
+        b"10,",
+    ),
+    // the second bit is dark, or nothing is seen
+    (
+        b"#C BLIFWW 1 P 4294967294 L 2\n#C BLIFWW IN 0 0 a\n#C BLIFWW OUT 2 0 y\n",
+        WIRE,
+        &["a=10"],
+        2,
+        b"10,",
+    ),
+    (
+        b"#C BLIFWW 1 P 4294967294 L 2\n#C BLIFWW IN 0 0 a\n",
+        WIRE,
+        &["a=11"],
+        2,
+        b"",
+    ),
+    // a gate, and one head and each generation up to 32
+    (
+        b"#C BLIFWW 1 P 32 L 32\n#C BLIFWW IN 0 8 a\n#C BLIFWW IN 0 24 b\n#C BLIFWW OUT 32 8 y\n",
+        OR_GATE,
+        &["b=0101", "a=0011"],
+        4,
+        b"0111,",
+    ),
+    (
+        b"#C BLIFWW 1 P 1 L 0\n#C BLIFWW IN 0 8 a\n#C BLIFWW IN 0 24 b\n#C BLIFWW OUT 32 8 y\n",
+        OR_GATE,
+        &[
+            "a=100000000000000000000000000000000",
+            "b=000000000000000000000000000000000",
+        ],
+        33,
+        b"000000000000000000000000000000001,",
+    ),
+    // past the greatest generation
+    (
+        b"#C BLIFWW 1 P 4294967296 L 2\n#C BLIFWW IN 0 0 a\n#C BLIFWW OUT 2 0 y\n",
+        WIRE,
+        &["a=11"],
+        2,
+        b"TooFar 4294967298",
+    ),
+    // a name with an equals sign
+    (
+        b"#C BLIFWW 1 P 4 L 2\n#C BLIFWW IN 0 0 a=b\n#C BLIFWW OUT 2 0 y\n",
+        WIRE,
+        &["a=b=10"],
+        2,
+        b"10,",
+    ),
+    // first faults
+    (TWO_INPUTS, WIRE, &["a=01", "b=0"], 2, b"BadLength b=0"),
+    (TWO_INPUTS, WIRE, &["a=01"], 2, b"MissingInput b"),
+    (
+        TWO_INPUTS,
+        WIRE,
+        &["a=01", "a=01", "b=01"],
+        2,
+        b"TwiceInput a=01",
+    ),
+    (TWO_INPUTS, WIRE, &["a01", "b=0"], 2, b"NoEquals a01"),
+    (TWO_INPUTS, WIRE, &["c=2", "b"], 2, b"UnknownInput c=2"),
+    (TWO_INPUTS, WIRE, &["a=012", "b=01"], 2, b"BadBit a=012"),
+    (TWO_INPUTS, WIRE, &["a=01", "a=2"], 2, b"TwiceInput a=2"),
+    (TWO_INPUTS, WIRE, &["a=0", "a=01"], 2, b"BadLength a=0"),
+    (TWO_INPUTS, WIRE, &[], 2, b"MissingInput a"),
 ];
 
 #[test]
-fn the_first_fault_is_told(rt: HostRuntime) -> Result<(), Fail> {
-    let alloc = rt.alloc();
-    for (words, kind, word) in FAULTS {
-        match read(alloc, words, &[b"a", b"b"], 2) {
-            Err(StreamError::Fault(fault)) => {
-                assert_eq!(rt; (fault.kind, fault.word.as_slice()), (*kind, *word));
-            }
-            _ => return Err(Fail::new("no fault")),
-        }
+fn patterns_are_driven(rt: HostRuntime) -> Result<(), Fail> {
+    for (table, pattern, words, cycles, want) in RUNS {
+        expect(&said_of(rt.alloc(), table, pattern, words, *cycles)?, want)?;
     }
-    Ok(())
-}
-
-#[test]
-fn a_name_may_have_an_equals_sign(rt: HostRuntime) -> Result<(), Fail> {
-    let alloc = rt.alloc();
-    let Ok(streams) = read(alloc, &["a=b=10"], &[b"a=b"], 2) else {
-        return Err(Fail::new("no streams"));
-    };
-    assert_eq!(rt;
-        only_bits(streams.bits.as_slice()),
-        [true, false].as_slice()
-    );
     Ok(())
 }

@@ -5,12 +5,13 @@ ghost use Rattle.ww_rule.specs.Grid.{AreInBox};
 ghost use Rattle.ww_rule.specs.Injections.{AreInside};
 ghost use Rattle.band_core.specs.Bands.{IsSamePattern, generation_of};
 
-use super::shown::{drawn_row, shown_row};
+use super::shown::shown_row;
+use crate::texts::push_cells;
 use band_core::Bands;
-use lists::List;
+use rle_read::read;
 use std::alloc::{AllocError, Global};
 use std::test::Fail;
-use ww_rule::{CellRows, Injection, Pattern, Plane, State, step_driven};
+use ww_rule::{Injection, Pattern, Plane, step_driven};
 
 // The last generation that a band comes to.
 const LAST: u64 = 6;
@@ -28,46 +29,44 @@ impl Dice {
         self.state = self.state.wrapping_mul(1664525).wrapping_add(1013904223);
         (self.state >> 8) as u64 % n
     }
-
-    fn state(&mut self) -> State {
-        match self.below(8) {
-            0 => State::Empty,
-            1 => State::Head,
-            2 => State::Tail,
-            _ => State::Conductor,
-        }
-    }
 }
 
-fn random_row(alloc: Global, dice: &mut Dice, width: u64) -> Result<List<State>, AllocError>
-    ensures { IfOk result (λ row. length row ≡ width) }
-{
-    let mut row = Vec::new(alloc);
-    for x in 0..width {
-        row.push(dice.state())?;
+// Adds a row of random cells.
+fn push_row(text: &mut Vec<u8>, dice: &mut Dice, width: u64) -> Result<(), AllocError> {
+    for _x in 0..width {
+        let letter = match dice.below(8) {
+            0 => b'.',
+            1 => b'A',
+            2 => b'B',
+            _ => b'C',
+        };
+        text.push(letter)?;
     }
-    Ok(List::of(row))
+    text.push(b'$')?;
+    Ok(())
 }
 
-// A pattern of five rows.
-fn random_pattern(alloc: Global, dice: &mut Dice, width: u64) -> Result<Pattern, AllocError>
-    requires { 0 < width }
+// The text of a random pattern of five rows.
+fn random_text(alloc: Global, dice: &mut Dice, width: u64) -> Result<Vec<u8>, AllocError> {
+    let mut text = format!(in alloc; "x = {width}, y = 5, rule = WireWorld\n")?.into_bytes();
+    for _y in 0..5 {
+        push_row(&mut text, dice, width)?;
+    }
+    text.push(b'!')?;
+    Ok(text)
+}
+
+// A random pattern of five rows.
+fn random_pattern(alloc: Global, dice: &mut Dice, width: u64) -> Result<Pattern, Fail>
     ensures width { IfOk result (λ pattern. pattern.width ≡ width) }
     ensures height { IfOk result (λ pattern. pattern.height ≡ 5) }
     ensures rows { IfOk result (λ pattern. length pattern.rows ≡ 5) }
 {
-    let rows = [
-        random_row(alloc, dice, width)?,
-        random_row(alloc, dice, width)?,
-        random_row(alloc, dice, width)?,
-        random_row(alloc, dice, width)?,
-        random_row(alloc, dice, width)?,
-    ];
-    Ok(Pattern {
-        width,
-        height: 5,
-        rows: CellRows::of_rows(alloc, &rows)?,
-    })
+    let pattern = read(alloc, &random_text(alloc, dice, width)?)?;
+    if pattern.width != width || pattern.height != 5 || pattern.rows.len() != 5 {
+        return Err(Fail::new("another size"));
+    }
+    Ok(pattern)
 }
 
 // Two injections of one cell at one generation, another one soon after, and one that never comes.
@@ -112,15 +111,30 @@ fn due(
     Ok(cells)
 }
 
+// A pattern's plane at generation 0.
+fn first_plane(alloc: Global, pattern: &Pattern, drive: &[Injection]) -> Result<Plane, Fail> {
+    let plane = Plane::from_pattern(alloc, pattern)?;
+    let cells = due(alloc, drive, 0, &plane)?;
+    Ok(plane.inject(&cells))
+}
+
+// The plane of a generation, from the plane before.
+fn next_plane(
+    alloc: Global,
+    plane: &Plane,
+    drive: &[Injection],
+    generation: u64,
+) -> Result<Plane, Fail> {
+    let cells = due(alloc, drive, generation, plane)?;
+    Ok(step_driven(alloc, plane, &cells)?)
+}
+
 // The planes of the generations, by the plain step.
 fn planes(alloc: Global, pattern: &Pattern, drive: &[Injection]) -> Result<Vec<Plane>, Fail> {
-    let start = Plane::from_pattern(alloc, pattern)?;
-    let cells = due(alloc, drive, 0, &start)?;
-    let mut plane = start.inject(&cells);
+    let mut plane = first_plane(alloc, pattern, drive)?;
     let mut planes = Vec::new(alloc);
     for generation in 1..LAST + 1 {
-        let cells = due(alloc, drive, generation, &plane)?;
-        let next = step_driven(alloc, &plane, &cells)?;
+        let next = next_plane(alloc, &plane, drive, generation)?;
         planes.push(plane)?;
         plane = next;
     }
@@ -178,7 +192,28 @@ fn is_right(
     let Some(plane) = planes.get(generation as usize) else {
         return Ok(false);
     };
-    Ok(drawn_row(alloc, plane.rows.row_or_none(y as usize))? == shown)
+    let mut drawn = Vec::new(alloc);
+    push_cells(&mut drawn, plane.rows.row_or_none(y as usize))?;
+    Ok(drawn == shown)
+}
+
+// Whether all five rows do.
+fn are_right(
+    alloc: Global,
+    bands: &Bands,
+    height: u32,
+    width: u64,
+    planes: &[Plane],
+) -> Result<bool, AllocError>
+    requires height { height ≡ bands.now.height }
+    requires width { width ≡ bands.now.grid.width }
+    requires rows { length bands.now.grid.rows ≡ 5 }
+{
+    let mut are_right = true;
+    for y in 0..5 {
+        are_right &= is_right(alloc, bands, height, width, y, planes)?;
+    }
+    Ok(are_right)
 }
 
 // Whether all rows do, after calls in a random order.
@@ -191,11 +226,7 @@ fn order_is_right(alloc: Global, dice: &mut Dice, height: u32, width: u64) -> Re
     let planes = planes(alloc, &pattern, &drive)?;
     let mut bands = Bands::new(alloc, pattern, drive, height)?;
     call_at_random(&mut bands, dice);
-    let mut is_right_all = true;
-    for y in 0..5 {
-        is_right_all &= is_right(alloc, &bands, height, width, y, &planes)?;
-    }
-    Ok(is_right_all)
+    Ok(are_right(alloc, &bands, height, width, &planes)?)
 }
 
 #[test]
