@@ -1,5 +1,5 @@
 -- What the text of a netlist gives under streams of bits, as lines.
-use Rattle.std.specs.Prelude.{◌≡◌, ℕ, List, flat_map}
+use Rattle.std.specs.Prelude.{◌≡◌, ℕ, List, flat_map, ⊤}
 use Rattle.netlist_core.specs.declared.model.Design.{Design}
 use Rattle.netlist_core.specs.Names.{Name}
 use Rattle.netlist_meaning.specs.Nets.{IsInNames}
@@ -7,6 +7,8 @@ use Rattle.netlist_meaning.specs.Places.{main_outputs}
 use Rattle.netlist_meaning.specs.Valuation.{Valuation, IsRun}
 use Rattle.netlist_text.specs.NetlistText.{IsNetlist}
 use Rattle.drive.specs.declared.streams.Streams.{Streams}
+use Rattle.drive.specs.declared.error.StreamError.{StreamError}
+use Rattle.drive.specs.declared.error.StreamError.TheVariants as streams_of
 use Rattle.drive.specs.Streams.{HasStreams, HasStreamFault}
 use Rattle.drive.specs.Driving.{rows_of}
 use Rattle.netlist_run.specs.Runs.{bits_in_run}
@@ -27,6 +29,24 @@ pub record IsEvaluation (cycles : ℕ) (words : List (List ℕ)) (text : List �
   pub names : IsInNames e.design e.in_names
   pub many : e.streams.cycles ≡ cycles
   pub streams : HasStreams words e.in_names cycles e.streams.bits
+
+-- the words say these streams for the IN names of a design,
+pub record FeedsInputs (cycles : ℕ) (words : List (List ℕ)) (design : Design) (fed : Streams) : Type 0 where
+  pub in_names : List Name
+  pub names : IsInNames design in_names
+  pub many : fed.cycles ≡ cycles
+  pub streams : HasStreams words in_names cycles fed.bits
+
+-- or none for them
+abbrev pub HasInputsCause : ℕ → List (List ℕ) → Design → StreamError → Type 0
+HasInputsCause cycles words design (streams_of.Fault fault) = (names : List Name) × IsInNames design names × HasStreamFault words names cycles fault
+HasInputsCause cycles words design streams_of.NoMemory = ⊤
+
+-- the lines are those of a run of a design on streams
+pub record PrintsRun (design : Design) (fed : Streams) (output : List ℕ) : Type 0 where
+  pub run : ℕ → Valuation
+  pub is_run : IsRun design (rows_of fed) run
+  pub lines : output ≡ flat_map (λ name. bits_line name (bits_in_run run fed.cycles name)) (main_outputs design)
 
 -- the lines of the main outputs, in order
 abbrev pub evaluation_text : Evaluation → (ℕ → Valuation) → List ℕ

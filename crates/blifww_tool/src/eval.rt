@@ -1,16 +1,51 @@
 // `eval`: the bits of a netlist's outputs, as lines.
-ghost use Rattle.std.specs.Prelude.{map, string_bytes, IfOk, IfErr};
+ghost use Rattle.std.specs.Prelude.{◌≡◌, All, map, length, string_bytes, IfOk, IfErr};
 ghost use Rattle.command_words.specs.Shapes.{eval};
+ghost use Rattle.netlist_text.specs.Parts.{AreParts};
 ghost use Rattle.blifww_tool.specs.Answer.{output_text, IsWritableOutput};
 ghost use Rattle.blifww_tool.specs.Commands.{Prints, HasTextCause};
+ghost use Rattle.blifww_tool.specs.Evaluation.{FeedsInputs, HasInputsCause, PrintsRun};
+ghost use Rattle.blifww_tool.specs.declared.causes.TextError.TheVariants.{NoMemory};
 
 use crate::causes::TextError;
 use crate::lines::output_lines;
 use crate::output::Output;
-use drive::Streams;
+use drive::{StreamError, Streams};
 use netlist_run::run;
-use netlist_text::netlist_of;
+use netlist_text::{Netlist, netlist_of};
 use std::alloc::Global;
+
+// The streams of a netlist's inputs, as the words say them.
+fn streams_for(
+    alloc: Global,
+    cycles: usize,
+    words: &[String],
+    netlist: &Netlist,
+) -> Result<Streams, StreamError>
+    requires { AreParts netlist.now.design netlist.now.flat netlist.now.order.nodes }
+    ensures streams { IfOk result (FeedsInputs cycles (map string_bytes words.now) netlist.now.design) }
+    ensures many { IfOk result (λ streams. length streams.bits ≡ length netlist.now.flat.ins) }
+    ensures long { IfOk result (λ streams. All (λ bits. length bits ≡ streams.cycles) streams.bits) }
+    ensures fault { IfErr result (HasInputsCause cycles (map string_bytes words.now) netlist.now.design) }
+{
+    let ins = netlist.in_names(alloc)?;
+    let streams = Streams::read(alloc, words, ins.as_slice(), cycles)?;
+    Ok(streams)
+}
+
+// A line for each output of a netlist, with its bits on the streams.
+fn run_lines(alloc: Global, netlist: Netlist, streams: &Streams) -> Result<Output, TextError>
+    requires parts { AreParts netlist.design netlist.flat netlist.order.nodes }
+    requires many { length streams.now.bits ≡ length netlist.flat.ins }
+    requires long { All (λ bits. length bits ≡ streams.now.cycles) streams.now.bits }
+    ensures printed { IfOk result (λ output. PrintsRun netlist.design streams.now (output_text output)) }
+    ensures writable { IfOk result IsWritableOutput }
+    ensures refused { IfErr result (λ e. e ≡ NoMemory) }
+{
+    let outs = netlist.out_names(alloc)?;
+    let bits = run(alloc, netlist, streams)?;
+    Ok(Output::Lines(output_lines(alloc, outs.as_slice(), bits.as_slice())?))
+}
 
 /// A line for each output of the text's netlist, with its bits, where the words are the streams of the inputs.
 pub fn eval(
@@ -25,9 +60,6 @@ pub fn eval(
     ensures refused { IfErr result (λ e. HasTextCause (eval cycles (map string_bytes words.now)) text.now e) }
 {
     let netlist = netlist_of(alloc, text)?;
-    let ins = netlist.in_names(alloc)?;
-    let outs = netlist.out_names(alloc)?;
-    let streams = Streams::read(alloc, words, ins.as_slice(), cycles)?;
-    let bits = run(alloc, netlist, &streams)?;
-    Ok(Output::Lines(output_lines(alloc, outs.as_slice(), bits.as_slice())?))
+    let streams = streams_for(alloc, cycles, words, &netlist)?;
+    run_lines(alloc, netlist, &streams)
 }
