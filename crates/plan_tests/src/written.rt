@@ -8,7 +8,7 @@ use std::alloc::Global;
 use std::test::Fail;
 
 /// A list as it is written down: the sources of the latches, and the bits with which they begin, in the same order.
-#[derive(Clone, Copy)]
+#[derive(Drop)]
 pub struct Written<'a> {
     pub inputs: u32,
     pub cells: &'a [Cell],
