@@ -8,7 +8,7 @@ use std::alloc::Global;
 use std::test::Fail;
 
 /// A list as it is written down: the sources of the latches, and the bits with which they begin, in the same order.
-#[derive(Drop)]
+#[derive(Clone, Copy)]
 pub struct Written<'a> {
     pub inputs: u32,
     pub cells: &'a [Cell],
