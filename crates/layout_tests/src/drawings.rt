@@ -1,22 +1,13 @@
 // An OR gate in letters, and a circuit and a loop run by the rule alone.
-ghost use Rattle.std.specs.Prelude.{◌≡◌, ◌<◌, IsTrue, IfOk, length};
-ghost use Rattle.lane_core.specs.Instrs.{are_sorted_apart};
+ghost use Rattle.std.specs.Prelude.{◌≡◌, ◌<◌, IfOk};
 ghost use Rattle.lane_core.specs.Plans.{IsAdmissible};
-ghost use Rattle.macro_grid.specs.Edges.{IsEdgesOf, lit_of};
-ghost use Rattle.plan_layout.specs.Layout.{tiling_of};
-ghost use Rattle.macro_grid.specs.Planes.{IsDrawnAfter32};
-ghost use Rattle.tile_library.specs.Drawings.{shipped_drawing};
 
-use crate::macro_steps::are_dark;
-use crate::plans::{admitted, or_plan};
-use grid_assembly::laws::keeps_law;
+use crate::plans::{OR, Written, admitted, in_cells, out_cells};
 use grid_assembly::{cell, fill_row, size};
-use lane_core::{Column, Instr, Plan, in_cell, out_cell, period, run_columns};
-use lists::List;
-use macro_grid::{Edges, admissible, macro_step};
-use std::alloc::{AllocError, Global};
+use lane_core::{Instr, Plan, period, run_columns};
+use macro_grid::{Edges, macro_step};
+use std::alloc::Global;
 use std::test::Fail;
-use tile_library::Shipped;
 use ww_rule::{CellRows, Plane, RuleError, State, step_driven};
 
 // Rows 8 to 24 of an OR gate and its output cell; the rows above and below are empty.
@@ -40,17 +31,6 @@ const OR_ROWS: [[u8; 33]; 17] = [
     *b"CCCCC..........................C.",
 ];
 
-// A macro step is 32 generations of the plane in the shipped drawings.
-fn step_shipped(plan: &Plan, old: &Edges, new: &mut Edges)
-    requires admissible { IsAdmissible plan.now }
-    requires made { IsEdgesOf plan.now new.old }
-    ensures made { IsEdgesOf plan.now new.new }
-    ensures plane { IsDrawnAfter32 shipped_drawing (tiling_of plan.now) (lit_of old.now) (lit_of new.new) }
-{
-    keeps_law(&Shipped);
-    macro_step(plan, old, new);
-}
-
 fn is_letter(state: State, letter: u8) -> bool {
     match state {
         State::Empty => letter == b'.',
@@ -60,7 +40,7 @@ fn is_letter(state: State, letter: u8) -> bool {
 }
 
 // Cells of the Or.
-const OR_CELLS: [(u64, u64, State); 5] = [
+const OR_CELLS: &[(u64, u64, State)] = &[
     (5, 8, State::Empty),
     (32, 8, State::Conductor),
     (31, 24, State::Conductor),
@@ -68,19 +48,27 @@ const OR_CELLS: [(u64, u64, State); 5] = [
     (0, 40, State::Empty),
 ];
 
+// Whether the plan's drawing has these cells.
+fn has_cells(plan: &Plan, cells: &[(u64, u64, State)]) -> bool
+    requires { IsAdmissible plan.now }
+{
+    let mut same = true;
+    for (x, y, state) in cells {
+        same = same && cell(plan, *x, *y) == *state;
+    }
+    same
+}
+
 #[test]
 fn an_or_has_its_cells(rt: HostRuntime) -> Result<(), Fail> {
-    let plan = or_plan(rt.alloc())?;
-    assert_eq!(rt; size(&plan), (33, 32));
-    for (x, y, state) in OR_CELLS {
-        assert_eq!(rt; cell(&plan, x, y), state, "at {x}, {y}");
-    }
+    let plan = admitted(rt.alloc(), &OR)?;
+    assert_eq!(rt; (size(&plan), has_cells(&plan, OR_CELLS)), ((33, 32), true));
     Ok(())
 }
 
 #[test]
 fn an_or_stands_in_its_rows(rt: HostRuntime) -> Result<(), Fail> {
-    let plan = or_plan(rt.alloc())?;
+    let plan = admitted(rt.alloc(), &OR)?;
     for y in 0..32 {
         let mut row = [State::Head; 33];
         fill_row(&plan, y, 0, &mut row);
@@ -100,56 +88,22 @@ fn an_or_stands_in_its_rows(rt: HostRuntime) -> Result<(), Fail> {
     Ok(())
 }
 
-#[test]
-fn dark_edges_stay_dark(rt: HostRuntime) -> Result<(), Fail> {
-    let plan = or_plan(rt.alloc())?;
-    let start = Edges::start(rt.alloc(), &plan)?;
-    let mut after = Edges::start(rt.alloc(), &plan)?;
-    step_shipped(&plan, &start, &mut after);
-    assert_eq!(rt; (are_dark(&start), are_dark(&after)), (true, true));
-    Ok(())
-}
-
-// The columns, and one more of these instructions.
-fn with_column(
-    alloc: Global,
-    columns: Vec<Column>,
-    instrs: &[Instr],
-) -> Result<Vec<Column>, AllocError>
-    requires { IsTrue (are_sorted_apart instrs.now) }
-{
-    let mut columns = columns;
-    columns.push(Column {
-        instrs: List::of(instrs.to_vec(alloc)?),
-    })?;
-    Ok(columns)
-}
-
-// The columns of a circuit of five lanes, with each instruction in one of them.
-fn circuit_columns(alloc: Global) -> Result<List<Column>, AllocError> {
-    let copies = with_column(alloc, Vec::new(alloc), &[Instr::Fork(0), Instr::Fork(2)])?;
-    let crossing = with_column(alloc, copies, &[Instr::Swap(1), Instr::AndNot(3)])?;
-    let gates = with_column(alloc, crossing, &[Instr::Xor(0), Instr::Or(2)])?;
-    let all = with_column(alloc, gates, &[Instr::Swap(1)])?;
-    Ok(List::of(all))
-}
-
-// The circuit with an input on every other lane, and an output on every lane.
-fn circuit(alloc: Global) -> Result<Plan, AllocError>
-    ensures lanes { IfOk result (λ plan. plan.lanes ≡ 5) }
-    ensures ins { IfOk result (λ plan. length plan.ins ≡ 3) }
-    ensures outs { IfOk result (λ plan. length plan.outs ≡ 5) }
-{
-    Ok(Plan {
-        lanes: 5,
-        columns: circuit_columns(alloc)?,
-        latches: 0,
-        starts: List::of(Vec::new(alloc)),
-        ins: List::of(vec![in alloc; 0, 2, 4]?),
-        outs: List::of(vec![in alloc; 0, 1, 2, 3, 4]?),
-        nets: List::of(Vec::new(alloc)),
-    })
-}
+// A circuit of five lanes, with each instruction in one of its columns, an input on every other lane, and an output on
+// every lane.
+const CIRCUIT: Written<'static> = Written {
+    lanes: 5,
+    columns: &[
+        &[Instr::Fork(0), Instr::Fork(2)],
+        &[Instr::Swap(1), Instr::AndNot(3)],
+        &[Instr::Xor(0), Instr::Or(2)],
+        &[Instr::Swap(1)],
+    ],
+    latches: 0,
+    starts: &[],
+    ins: &[0, 2, 4],
+    outs: &[0, 1, 2, 3, 4],
+    nets: &[],
+};
 
 // 129 columns and 80 rows of cells: the circuit's, and more rows than the loop's.
 fn drawn(alloc: Global, plan: &Plan) -> Result<Plane, RuleError>
@@ -195,7 +149,7 @@ fn is_head(plane: &Plane, x: u64, y: u64) -> bool {
 }
 
 // The cells of the circuit's outputs.
-const OUT_CELLS: [(u64, u64, u64); 5] = [
+const OUT_CELLS: &[(u64, u64, u64)] = &[
     (128, 8, 128),
     (128, 24, 128),
     (128, 40, 128),
@@ -203,24 +157,18 @@ const OUT_CELLS: [(u64, u64, u64); 5] = [
     (128, 72, 128),
 ];
 
+// The cells of its inputs.
+const IN_CELLS: &[(u64, u64, u64)] = &[(0, 8, 0), (0, 40, 0), (0, 72, 0)];
+
 #[test]
 fn a_circuit_has_its_ports(rt: HostRuntime) -> Result<(), Fail> {
-    let plan = circuit(rt.alloc())?;
-    assert!(rt; admissible(&plan));
-    let ins = [in_cell(&plan, 0), in_cell(&plan, 1), in_cell(&plan, 2)];
-    let outs = [
-        out_cell(&plan, 0),
-        out_cell(&plan, 1),
-        out_cell(&plan, 2),
-        out_cell(&plan, 3),
-        out_cell(&plan, 4),
-    ];
+    let plan = admitted(rt.alloc(), &CIRCUIT)?;
+    let ins = in_cells(rt.alloc(), &plan)?;
+    let outs = out_cells(rt.alloc(), &plan)?;
     assert_eq!(rt;
-        (size(&plan), plan.ins.len(), plan.outs.len()),
-        ((129, 80), 3, 5)
+        (size(&plan), ins.as_slice(), outs.as_slice()),
+        ((129, 80), IN_CELLS, OUT_CELLS)
     );
-    assert_eq!(rt; ins, [(0, 8, 0), (0, 40, 0), (0, 72, 0)]);
-    assert_eq!(rt; outs, OUT_CELLS);
     Ok(())
 }
 
@@ -233,6 +181,16 @@ fn answered(alloc: Global, plan: &Plan, a: bool, b: bool, c: bool) -> Result<Pla
     let second = with_input(first, 40, b);
     let start = with_input(second, 72, c);
     evolved(alloc, start, 128)
+}
+
+// The bits of five lanes after the columns of a plan on them.
+fn after_columns(plan: &Plan, bits: [bool; 5]) -> [bool; 5]
+    requires admissible { IsAdmissible plan.now }
+    requires lanes { plan.now.lanes ≡ 5 }
+{
+    let mut bits = bits;
+    run_columns(plan.columns.as_slice(), &mut bits);
+    bits
 }
 
 // Whether the cells of the circuit's outputs are heads.
@@ -249,12 +207,10 @@ fn out_heads(plane: &Plane) -> [bool; 5] {
 #[test]
 fn a_circuit_answers_by_the_rule(rt: HostRuntime) -> Result<(), Fail> {
     let alloc = rt.alloc();
-    let plan = circuit(alloc)?;
-    assert!(rt; admissible(&plan));
+    let plan = admitted(alloc, &CIRCUIT)?;
     for choice in 0..8u32 {
         let (a, b, c) = (choice & 1 == 1, choice & 2 == 2, choice & 4 == 4);
-        let mut bits = [a, false, b, false, c];
-        run_columns(plan.columns.as_slice(), &mut bits);
+        let bits = after_columns(&plan, [a, false, b, false, c]);
         let end = answered(alloc, &plan, a, b, c)?;
         assert_eq!(rt; out_heads(&end), bits, "choice {choice}");
     }
@@ -262,50 +218,59 @@ fn a_circuit_answers_by_the_rule(rt: HostRuntime) -> Result<(), Fail> {
 }
 
 // Two lanes and a loop that starts with 1: the Or takes its bit, and the Fork gives it to the output and back to the loop.
-fn loop_plan(alloc: Global) -> Result<Plan, AllocError> {
-    let or = with_column(alloc, Vec::new(alloc), &[Instr::Or(0)])?;
-    let columns = with_column(alloc, or, &[Instr::Fork(0)])?;
-    Ok(Plan {
-        lanes: 2,
-        columns: List::of(columns),
-        latches: 1,
-        starts: List::of(vec![in alloc; true]?),
-        ins: List::of(vec![in alloc; 0]?),
-        outs: List::of(vec![in alloc; 0]?),
-        nets: List::of(Vec::new(alloc)),
-    })
-}
+const LOOP: Written<'static> = Written {
+    lanes: 2,
+    columns: &[&[Instr::Or(0)], &[Instr::Fork(0)]],
+    latches: 1,
+    starts: &[true],
+    ins: &[0],
+    outs: &[0],
+    nets: &[],
+};
 
-// Whether the heads, row by row, are at these cells.
-fn has_heads_at(alloc: Global, plane: &Plane, cells: &[(u64, u64)]) -> Result<bool, RuleError> {
-    let mut found = Vec::new(alloc);
-    for y in 0..80 {
-        for x in 0..129 {
-            if is_head(plane, x, y) {
-                found.push((x, y))?;
-            }
+// How many heads there are.
+fn heads_of(plane: &Plane) -> usize {
+    let mut heads = 0usize;
+    for place in 0..10_320 {
+        if is_head(plane, place % 129, place / 129) {
+            heads = heads.saturating_add(1);
         }
     }
-    Ok(found.as_slice() == cells)
+    heads
 }
 
-// Whether one of the two cells at each west side and at each north side is a head just where the edge is lit.
+// Whether the heads are at these cells, of which no two are the same.
+fn has_heads_at(plane: &Plane, cells: &[(u64, u64)]) -> bool {
+    let mut same = heads_of(plane) == cells.len();
+    for (x, y) in cells {
+        same = same && is_head(plane, *x, *y);
+    }
+    same
+}
+
+// Whether one of the two cells at the west side of a block is a head just where the edge is lit, and one of those at its
+// north side too.
+fn has_heads_round(plane: &Plane, edges: &Edges, column: u64, lane: u64) -> bool
+    requires in_columns { column < 5 }
+    requires in_lanes { lane < 4 }
+{
+    let (x, y) = (32 * column, 16 * lane);
+    let beside = is_head(plane, x, y + 8) || is_head(plane, x.saturating_sub(1), y + 8);
+    let above = is_head(plane, x + 16, y) || is_head(plane, x + 16, y.saturating_sub(1));
+    beside == edges.beside(column, lane) && above == edges.above(column, lane)
+}
+
+// Whether that is so at each block.
 fn has_heads_of(plane: &Plane, edges: &Edges) -> bool {
-    for column in 0..5 {
-        for lane in 0..4 {
-            let (x, y) = (32 * column, 16 * lane);
-            let beside = is_head(plane, x, y + 8) || x > 0 && is_head(plane, x - 1, y + 8);
-            let above = is_head(plane, x + 16, y) || y > 0 && is_head(plane, x + 16, y - 1);
-            if beside != edges.beside(column, lane) || above != edges.above(column, lane) {
-                return false;
-            }
-        }
+    let mut same = true;
+    for block in 0..20 {
+        same = same && has_heads_round(plane, edges, block / 4, block % 4);
     }
-    true
+    same
 }
 
 // Cells of the loop.
-const LOOP_CELLS: [(u64, u64, State); 6] = [
+const LOOP_CELLS: &[(u64, u64, State)] = &[
     (32, 24, State::Head),
     (31, 24, State::Tail),
     (32, 8, State::Conductor),
@@ -316,11 +281,11 @@ const LOOP_CELLS: [(u64, u64, State); 6] = [
 
 #[test]
 fn a_loop_has_its_cells(rt: HostRuntime) -> Result<(), Fail> {
-    let plan = admitted(loop_plan(rt.alloc())?)?;
-    assert_eq!(rt; (size(&plan), period(&plan)), ((129, 48), 256));
-    for (x, y, state) in LOOP_CELLS {
-        assert_eq!(rt; cell(&plan, x, y), state, "at {x}, {y}");
-    }
+    let plan = admitted(rt.alloc(), &LOOP)?;
+    assert_eq!(rt;
+        (size(&plan), period(&plan), has_cells(&plan, LOOP_CELLS)),
+        ((129, 48), 256, true)
+    );
     Ok(())
 }
 
@@ -328,7 +293,7 @@ fn a_loop_has_its_cells(rt: HostRuntime) -> Result<(), Fail> {
 #[test]
 fn a_loop_goes_round_by_macro_steps(rt: HostRuntime) -> Result<(), Fail> {
     let alloc = rt.alloc();
-    let plan = admitted(loop_plan(alloc)?)?;
+    let plan = admitted(alloc, &LOOP)?;
     let mut plane = drawn(alloc, &plan)?;
     let mut edges = Edges::start(alloc, &plan)?;
     let mut following = Edges::start(alloc, &plan)?;
@@ -358,11 +323,10 @@ const LOOP_HEADS: &[&[(u64, u64)]] = &[
 #[test]
 fn a_loop_goes_round_by_the_rule(rt: HostRuntime) -> Result<(), Fail> {
     let alloc = rt.alloc();
-    let plan = admitted(loop_plan(alloc)?)?;
+    let plan = admitted(alloc, &LOOP)?;
     let mut plane = drawn(alloc, &plan)?;
     for (step, want) in LOOP_HEADS.iter().enumerate() {
-        let same = has_heads_at(alloc, &plane, want)?;
-        assert!(rt; same, "after {step} steps");
+        assert!(rt; has_heads_at(&plane, want), "after {step} steps");
         plane = evolved(alloc, plane, 32)?;
     }
     Ok(())

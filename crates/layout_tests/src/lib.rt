@@ -18,6 +18,8 @@ mod packing;
 #[cfg(test)]
 mod plans;
 #[cfg(test)]
+mod programs;
+#[cfg(test)]
 mod slots;
 #[cfg(test)]
 mod tiles;

@@ -1,36 +1,19 @@
 // Signals of small plans, and the rules of ports.
+ghost use Rattle.lane_core.specs.Plans.{IsAdmissible};
+ghost use Rattle.macro_grid.specs.Edges.{IsEdgesOf, lit_of};
+ghost use Rattle.macro_grid.specs.Planes.{IsDrawnAfter32};
+ghost use Rattle.plan_layout.specs.Layout.{tiling_of};
+ghost use Rattle.tile_library.specs.Drawings.{shipped_drawing};
 
-use crate::plans::bare_plan;
-use lane_core::{Column, Instr, Plan};
-use lists::List;
+use crate::plans::{BARE, OR, Written, admitted, plan_of};
+use grid_assembly::laws::keeps_law;
+use lane_core::Plan;
 use macro_grid::{Edges, admissible, macro_step};
-use std::alloc::{AllocError, Global};
 use std::test::Fail;
+use tile_library::Shipped;
 
-// An Or on the first two of some lanes, with these ports.
-fn or_plan(
-    alloc: Global,
-    lanes: u32,
-    latches: u32,
-    ins: &[u32],
-    outs: &[u32],
-) -> Result<Plan, AllocError> {
-    let or = Column {
-        instrs: List::of(vec![in alloc; Instr::Or(0)]?),
-    };
-    Ok(Plan {
-        lanes,
-        columns: List::of(vec![in alloc; or]?),
-        latches,
-        starts: List::of(Vec::new(alloc)),
-        ins: List::of(Vec::from_slice(alloc, ins)?),
-        outs: List::of(Vec::from_slice(alloc, outs)?),
-        nets: List::of(Vec::new(alloc)),
-    })
-}
-
-/// Whether no edge of the blocks in three columns and three lanes is lit.
-pub fn are_dark(edges: &Edges) -> bool {
+// Whether no edge of the blocks in three columns and three lanes is lit.
+fn are_dark(edges: &Edges) -> bool {
     for column in 0..3 {
         for lane in 0..3 {
             if edges.beside(column, lane) || edges.above(column, lane) {
@@ -43,11 +26,31 @@ pub fn are_dark(edges: &Edges) -> bool {
 
 #[test]
 fn dark_edges_stay_dark(rt: HostRuntime) -> Result<(), Fail> {
-    let plan = or_plan(rt.alloc(), 2, 0, &[0, 1], &[0])?;
-    assert!(rt; admissible(&plan));
+    let plan = admitted(rt.alloc(), &OR)?;
     let start = Edges::start(rt.alloc(), &plan)?;
     let mut after = Edges::start(rt.alloc(), &plan)?;
     macro_step(&plan, &start, &mut after);
+    assert_eq!(rt; (are_dark(&start), are_dark(&after)), (true, true));
+    Ok(())
+}
+
+// A macro step is 32 generations of the plane in the shipped drawings.
+fn step_shipped(plan: &Plan, old: &Edges, new: &mut Edges)
+    requires admissible { IsAdmissible plan.now }
+    requires made { IsEdgesOf plan.now new.old }
+    ensures made { IsEdgesOf plan.now new.new }
+    ensures plane { IsDrawnAfter32 shipped_drawing (tiling_of plan.now) (lit_of old.now) (lit_of new.new) }
+{
+    keeps_law(&Shipped);
+    macro_step(plan, old, new);
+}
+
+#[test]
+fn dark_edges_stay_dark_in_the_shipped_drawings(rt: HostRuntime) -> Result<(), Fail> {
+    let plan = admitted(rt.alloc(), &OR)?;
+    let start = Edges::start(rt.alloc(), &plan)?;
+    let mut after = Edges::start(rt.alloc(), &plan)?;
+    step_shipped(&plan, &start, &mut after);
     assert_eq!(rt; (are_dark(&start), are_dark(&after)), (true, true));
     Ok(())
 }
@@ -56,8 +59,7 @@ fn dark_edges_stay_dark(rt: HostRuntime) -> Result<(), Fail> {
 // lane 2 and back.
 #[test]
 fn an_electron_goes_round_a_loop(rt: HostRuntime) -> Result<(), Fail> {
-    let plan = bare_plan(rt.alloc())?;
-    assert!(rt; admissible(&plan));
+    let plan = admitted(rt.alloc(), &BARE)?;
     let mut current = Edges::start(rt.alloc(), &plan)?;
     let mut following = Edges::start(rt.alloc(), &plan)?;
     for step in 0..36 {
@@ -73,6 +75,14 @@ fn an_electron_goes_round_a_loop(rt: HostRuntime) -> Result<(), Fail> {
     assert!(rt; current.beside(3, 0));
     Ok(())
 }
+
+// An Or without ports.
+const OR_ALONE: Written<'static> = Written {
+    ins: &[],
+    outs: &[],
+    nets: &[],
+    ..OR
+};
 
 // The lanes and the loops of an Or's plan, its inputs and its outputs, and whether it is admissible.
 const PORTS: &[(u32, u32, &[u32], &[u32], bool)] = &[
@@ -94,7 +104,14 @@ const PORTS: &[(u32, u32, &[u32], &[u32], bool)] = &[
 #[test]
 fn each_rule_on_ports_and_lanes_is_kept(rt: HostRuntime) -> Result<(), Fail> {
     for (lanes, latches, ins, outs, want) in PORTS {
-        let plan = or_plan(rt.alloc(), *lanes, *latches, ins, outs)?;
+        let written = Written {
+            lanes: *lanes,
+            latches: *latches,
+            ins,
+            outs,
+            ..OR_ALONE
+        };
+        let plan = plan_of(rt.alloc(), &written)?;
         assert_eq!(rt; admissible(&plan), *want, "{lanes} lanes, {latches} loops");
     }
     Ok(())

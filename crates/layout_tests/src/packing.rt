@@ -1,39 +1,31 @@
 // Worked values: the columns of small programs.
 
+use crate::programs::{Listed, program_of};
 use column_packer::pack;
-use lane_core::{Column, Instr, Program};
-use lists::List;
-use std::alloc::{AllocError, Global};
+use lane_core::{Column, Instr};
+use std::alloc::Global;
 use std::test::Fail;
 
-fn five_lanes(alloc: Global) -> Result<Program, AllocError> {
-    Ok(Program {
-        lanes: 5,
-        instrs: List::of(vec![in alloc;
-            Instr::Or(0),
-            Instr::Or(2),
-            Instr::Swap(1),
-            Instr::Xor(3),
-            Instr::Fork(0),
-        ]?),
-        ins: List::of(Vec::new(alloc)),
-        latches: List::of(Vec::new(alloc)),
-        outs: List::of(Vec::new(alloc)),
-        nets: List::of(Vec::new(alloc)),
-    })
-}
+const FIVE_LANES: Listed<'static> = Listed {
+    lanes: 5,
+    instrs: &[
+        Instr::Or(0),
+        Instr::Or(2),
+        Instr::Swap(1),
+        Instr::Xor(3),
+        Instr::Fork(0),
+    ],
+    latches: &[],
+    nets: &[],
+};
 
 // Lower lanes come first in the program, and last in the column.
-fn upside_down(alloc: Global) -> Result<Program, AllocError> {
-    Ok(Program {
-        lanes: 6,
-        instrs: List::of(vec![in alloc; Instr::Swap(4), Instr::Fork(0), Instr::Or(2)]?),
-        ins: List::of(Vec::new(alloc)),
-        latches: List::of(Vec::new(alloc)),
-        outs: List::of(Vec::new(alloc)),
-        nets: List::of(Vec::new(alloc)),
-    })
-}
+const UPSIDE_DOWN: Listed<'static> = Listed {
+    lanes: 6,
+    instrs: &[Instr::Swap(4), Instr::Fork(0), Instr::Or(2)],
+    latches: &[],
+    nets: &[],
+};
 
 const FIVE_LANES_COLUMNS: &[&[Instr]] = &[
     &[Instr::Or(0), Instr::Or(2)],
@@ -52,16 +44,21 @@ fn are_columns(columns: &[Column], want: &[&[Instr]]) -> bool {
     same
 }
 
+fn packed(alloc: Global, listed: &Listed<'_>) -> Result<Vec<Column>, Fail> {
+    let program = program_of(alloc, listed)?;
+    Ok(pack(alloc, &program)?)
+}
+
 #[test]
 fn each_instruction_comes_first_after_its_lanes_uses(rt: HostRuntime) -> Result<(), Fail> {
-    let columns = pack(rt.alloc(), &five_lanes(rt.alloc())?)?;
+    let columns = packed(rt.alloc(), &FIVE_LANES)?;
     assert!(rt; are_columns(&columns, FIVE_LANES_COLUMNS));
     Ok(())
 }
 
 #[test]
 fn a_column_is_sorted(rt: HostRuntime) -> Result<(), Fail> {
-    let columns = pack(rt.alloc(), &upside_down(rt.alloc())?)?;
+    let columns = packed(rt.alloc(), &UPSIDE_DOWN)?;
     assert!(rt; are_columns(&columns, UPSIDE_DOWN_COLUMNS));
     Ok(())
 }

@@ -1,62 +1,158 @@
-// Plans that several tests take.
-ghost use Rattle.std.specs.Prelude.{IfOk};
+// Plans that several tests take, and how a test writes down a plan.
+ghost use Rattle.std.specs.Prelude.{◌≡◌, IsTrue, IfOk};
+ghost use Rattle.lane_core.specs.Instrs.{are_sorted_apart, is_above};
 ghost use Rattle.lane_core.specs.Plans.{IsAdmissible};
 
-use lane_core::{Column, Instr, Plan};
+use lane_core::{Column, Instr, NetPlace, Plan, in_cell, net_cell, out_cell};
 use lists::List;
 use macro_grid::admissible;
 use std::alloc::{AllocError, Global};
 use std::test::Fail;
 
-/// An Or on two lanes.
-pub fn or_plan(alloc: Global) -> Result<Plan, AllocError>
-    ensures { IfOk result IsAdmissible }
-{
-    let or = Column {
-        instrs: List::of(vec![in alloc; Instr::Or(0)]?),
-    };
-    Ok(Plan {
-        lanes: 2,
-        columns: List::of(vec![in alloc; or]?),
-        latches: 0,
-        starts: List::of(Vec::new(alloc)),
-        ins: List::of(vec![in alloc; 0, 1]?),
-        outs: List::of(vec![in alloc; 0]?),
-        nets: List::of(Vec::new(alloc)),
-    })
+/// A plan as it is written down: the instructions of each column, at most two of them.
+#[derive(Drop)]
+pub struct Written<'a> {
+    pub lanes: u32,
+    pub columns: &'a [&'a [Instr]],
+    pub latches: u32,
+    pub starts: &'a [bool],
+    pub ins: &'a [u32],
+    pub outs: &'a [u32],
+    pub nets: &'a [NetPlace],
 }
 
+/// An Or on two lanes: net 0 and net 1 are the inputs, net 2 is the output.
+pub const OR: Written<'static> = Written {
+    lanes: 2,
+    columns: &[&[Instr::Or(0)]],
+    latches: 0,
+    starts: &[],
+    ins: &[0, 1],
+    outs: &[0],
+    nets: &[
+        NetPlace {
+            lane: 0,
+            after: None,
+        },
+        NetPlace {
+            lane: 1,
+            after: None,
+        },
+        NetPlace {
+            lane: 0,
+            after: Some(0),
+        },
+    ],
+};
+
 /// Three loops alone.
-pub fn bare_plan(alloc: Global) -> Result<Plan, AllocError>
-    ensures { IfOk result IsAdmissible }
+pub const BARE: Written<'static> = Written {
+    lanes: 3,
+    columns: &[&[], &[], &[]],
+    latches: 3,
+    starts: &[true, false, false],
+    ins: &[],
+    outs: &[],
+    nets: &[],
+};
+
+// Whether the lanes of the second are below those of the first.
+fn is_above(first: Instr, second: Instr) -> bool
+    ensures { result ≡ is_above first second }
 {
-    let first = Column {
-        instrs: List::of(Vec::new(alloc)),
-    };
-    let second = Column {
-        instrs: List::of(Vec::new(alloc)),
-    };
-    let third = Column {
-        instrs: List::of(Vec::new(alloc)),
-    };
-    Ok(Plan {
-        lanes: 3,
-        columns: List::of(vec![in alloc; first, second, third]?),
-        latches: 3,
-        starts: List::of(vec![in alloc; true, false, false]?),
+    (first.lane() as u64) + 1 < second.lane() as u64
+}
+
+// Whether there are at most two instructions, and the lanes of the second are below those of the first.
+fn are_apart(instrs: &[Instr]) -> bool
+    ensures { IsTrue result → IsTrue (are_sorted_apart instrs.now) }
+{
+    instrs.len() < 2 || instrs.len() == 2 && is_above(instrs[0], instrs[1])
+}
+
+/// The column of these instructions, or an empty one where they are none of a column.
+pub fn column_of(alloc: Global, instrs: &[Instr]) -> Result<Column, AllocError> {
+    if are_apart(instrs) {
+        Ok(Column {
+            instrs: List::of(instrs.to_vec(alloc)?),
+        })
+    } else {
+        Ok(Column {
+            instrs: List::of(Vec::new(alloc)),
+        })
+    }
+}
+
+fn columns_of(alloc: Global, written: &[&[Instr]]) -> Result<List<Column>, AllocError> {
+    let mut columns = Vec::new(alloc);
+    for instrs in written {
+        columns.push(column_of(alloc, instrs)?)?;
+    }
+    Ok(List::of(columns))
+}
+
+/// The plan that is written down.
+pub fn plan_of(alloc: Global, written: &Written<'_>) -> Result<Plan, AllocError>
+    ensures { IfOk result (λ plan. plan.lanes ≡ written.now.lanes) }
+{
+    let mut plan = Plan {
+        lanes: written.lanes,
+        columns: columns_of(alloc, written.columns)?,
+        latches: written.latches,
+        starts: List::of(Vec::new(alloc)),
         ins: List::of(Vec::new(alloc)),
         outs: List::of(Vec::new(alloc)),
         nets: List::of(Vec::new(alloc)),
-    })
+    };
+    plan.starts = List::of(written.starts.to_vec(alloc)?);
+    plan.ins = List::of(written.ins.to_vec(alloc)?);
+    plan.outs = List::of(written.outs.to_vec(alloc)?);
+    plan.nets = List::of(written.nets.to_vec(alloc)?);
+    Ok(plan)
 }
 
-/// The plan, where it is admissible.
-pub fn admitted(plan: Plan) -> Result<Plan, Fail>
-    ensures { IfOk result IsAdmissible }
+/// The plan that is written down, where it is admissible.
+pub fn admitted(alloc: Global, written: &Written<'_>) -> Result<Plan, Fail>
+    ensures admissible { IfOk result IsAdmissible }
+    ensures lanes { IfOk result (λ plan. plan.lanes ≡ written.now.lanes) }
 {
+    let plan = plan_of(alloc, written)?;
     if admissible(&plan) {
         Ok(plan)
     } else {
         Err(Fail::new("the plan is refused"))
     }
+}
+
+/// The cells of the inputs.
+pub fn in_cells(alloc: Global, plan: &Plan) -> Result<Vec<(u64, u64, u64)>, AllocError>
+    requires { IsAdmissible plan.now }
+{
+    let mut cells = Vec::new(alloc);
+    for i in 0..plan.ins.len() {
+        cells.push(in_cell(plan, i))?;
+    }
+    Ok(cells)
+}
+
+/// The cells of the outputs.
+pub fn out_cells(alloc: Global, plan: &Plan) -> Result<Vec<(u64, u64, u64)>, AllocError>
+    requires { IsAdmissible plan.now }
+{
+    let mut cells = Vec::new(alloc);
+    for i in 0..plan.outs.len() {
+        cells.push(out_cell(plan, i))?;
+    }
+    Ok(cells)
+}
+
+/// The cells of the nets.
+pub fn net_cells(alloc: Global, plan: &Plan) -> Result<Vec<(u64, u64, u64)>, AllocError>
+    requires { IsAdmissible plan.now }
+{
+    let mut cells = Vec::new(alloc);
+    for i in 0..plan.nets.len() {
+        cells.push(net_cell(plan, i))?;
+    }
+    Ok(cells)
 }

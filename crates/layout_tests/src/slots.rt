@@ -1,35 +1,22 @@
 // Small plans, drawn by hand.
-ghost use Rattle.std.specs.Prelude.{IfOk};
 ghost use Rattle.lane_core.specs.Plans.{IsAdmissible};
 
-use crate::plans::{bare_plan, or_plan};
-use lane_core::{Column, Instr, Plan};
-use lists::List;
+use crate::plans::{BARE, OR, Written, admitted};
+use lane_core::{Instr, Plan};
 use plan_layout::{Piece, Slot, slot_at};
-use std::alloc::{AllocError, Global};
 use std::test::Fail;
 use tile_core::Kind;
 
 // Two lanes, two columns and a loop.
-fn loop_plan(alloc: Global) -> Result<Plan, AllocError>
-    ensures { IfOk result IsAdmissible }
-{
-    let fork = Column {
-        instrs: List::of(vec![in alloc; Instr::Fork(0)]?),
-    };
-    let or = Column {
-        instrs: List::of(vec![in alloc; Instr::Or(0)]?),
-    };
-    Ok(Plan {
-        lanes: 2,
-        columns: List::of(vec![in alloc; fork, or]?),
-        latches: 1,
-        starts: List::of(vec![in alloc; true]?),
-        ins: List::of(vec![in alloc; 0]?),
-        outs: List::of(vec![in alloc; 0]?),
-        nets: List::of(Vec::new(alloc)),
-    })
-}
+const LOOP: Written<'static> = Written {
+    lanes: 2,
+    columns: &[&[Instr::Fork(0)], &[Instr::Or(0)]],
+    latches: 1,
+    starts: &[true],
+    ins: &[0],
+    outs: &[0],
+    nets: &[],
+};
 
 // A letter for each tile, small for the lower half of a pair.
 fn letter(slot: Slot) -> u8 {
@@ -94,21 +81,21 @@ const BARE_ROWS: &[&[u8]] = &[
 
 #[test]
 fn an_or_stands_as_drawn_by_hand(rt: HostRuntime) -> Result<(), Fail> {
-    let plan = or_plan(rt.alloc())?;
+    let plan = admitted(rt.alloc(), &OR)?;
     assert!(rt; is_drawn(&plan, OR_ROWS));
     Ok(())
 }
 
 #[test]
 fn a_loop_stands_as_drawn_by_hand(rt: HostRuntime) -> Result<(), Fail> {
-    let plan = loop_plan(rt.alloc())?;
+    let plan = admitted(rt.alloc(), &LOOP)?;
     assert!(rt; is_drawn(&plan, LOOP_ROWS));
     Ok(())
 }
 
 #[test]
 fn three_loops_stand_as_drawn_by_hand(rt: HostRuntime) -> Result<(), Fail> {
-    let plan = bare_plan(rt.alloc())?;
+    let plan = admitted(rt.alloc(), &BARE)?;
     assert!(rt; is_drawn(&plan, BARE_ROWS));
     Ok(())
 }

@@ -99,23 +99,27 @@ fn push_picture(page: &mut String, kind: Kind) -> Result<(), AllocError> {
     page.push_str("```\n")
 }
 
+// A row of a table.
+fn push_bits(page: &mut String, bits: &[bool]) -> Result<(), AllocError> {
+    for bit in bits {
+        page.push_str(if *bit { "| 1 " } else { "| 0 " })?;
+    }
+    page.push_str("|\n")
+}
+
 fn push_answers(page: &mut String, kind: Kind) -> Result<(), AllocError> {
     if kind.lanes() == 1 {
         page.push_str("| a | y |\n|---|---|\n")?;
         for a in [false, true] {
             let [y, _] = kind.answer([a, false]);
-            writeln!(page, "| {} | {} |", a as u8, y as u8)?;
+            push_bits(page, &[a, y])?;
         }
         return Ok(());
     }
     page.push_str("| a | b | y | z |\n|---|---|---|---|\n")?;
     for (a, b) in [(false, false), (false, true), (true, false), (true, true)] {
         let [y, z] = kind.answer([a, b]);
-        writeln!(
-            page,
-            "| {} | {} | {} | {} |",
-            a as u8, b as u8, y as u8, z as u8
-        )?;
+        push_bits(page, &[a, b, y, z])?;
     }
     Ok(())
 }

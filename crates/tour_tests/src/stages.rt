@@ -7,7 +7,7 @@ use cover_mapper::map;
 use flat_designs::{flat_is_sound, flat_is_weighed};
 use lane_core::{Column, Instr, Plan};
 use netlist_core::{Flat, FlatPort, NetId, Node};
-use netlist_plans::{Planned, plan_netlist};
+use netlist_plans::plan_netlist;
 use netlist_text::{Netlist, netlist_of};
 use std::alloc::{AllocError, Global};
 use std::test::Fail;
@@ -266,25 +266,34 @@ fn lanes_stage(alloc: Global, flat: &Flat, plan: &Plan) -> Result<String, AllocE
     Ok(page)
 }
 
-// The cells of a netlist, and its plan.
-fn planned(alloc: Global, netlist: &Netlist) -> Result<(CellList, Planned), Fail>
+// The texts of a flat netlist, of its cells, and of its plan's lanes and columns.
+fn texts_of(
+    alloc: Global,
+    flat: &Flat,
+    list: &CellList,
+    plan: &Plan,
+) -> Result<[String; 3], AllocError> {
+    let nets = flat_stage(alloc, flat)?;
+    let cells = cells_stage(alloc, list)?;
+    let lanes = lanes_stage(alloc, flat, plan)?;
+    Ok([nets, cells, lanes])
+}
+
+// The texts of a netlist's stages.
+fn planned(alloc: Global, netlist: &Netlist) -> Result<[String; 3], Fail>
     requires { AreParts netlist.now.design netlist.now.flat netlist.now.order.nodes }
 {
     flat_is_sound();
     flat_is_weighed();
     let list = map(alloc, &netlist.flat, &netlist.order)?;
     let planned = plan_netlist(alloc, &netlist.flat, &netlist.order)?;
-    Ok((list, planned))
+    Ok(texts_of(alloc, &netlist.flat, &list, &planned.plan)?)
 }
 
-// The texts of a netlist's stages: flat, as cells, and as lanes and columns.
+// The texts of the stages of a text's netlist: flat, as cells, and as lanes and columns.
 fn stages(alloc: Global, text: &[u8]) -> Result<[String; 3], Fail> {
     let netlist = netlist_of(alloc, text)?;
-    let (list, planned) = planned(alloc, &netlist)?;
-    let flat = flat_stage(alloc, &netlist.flat)?;
-    let cells = cells_stage(alloc, &list)?;
-    let lanes = lanes_stage(alloc, &netlist.flat, &planned.plan)?;
-    Ok([flat, cells, lanes])
+    planned(alloc, &netlist)
 }
 
 #[test]

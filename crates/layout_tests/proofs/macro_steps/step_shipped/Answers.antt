@@ -1,5 +1,5 @@
 use Rattle.tile_library.specs.Drawings.{shipped_drawing}
-use Rattle.layout_tests.proofs.drawings.step_shipped.Goals as goal
+use Rattle.layout_tests.proofs.macro_steps.step_shipped.Goals as goal
 
 pub returns-clause-plane : goal.returns-clause-plane
 returns-clause-plane c = c.macro_step.ensures.plane shipped_drawing c.keeps_law.ensures

@@ -1,0 +1,75 @@
+// How a test writes down a program.
+ghost use Rattle.std.specs.Prelude.{◌<◌, ◌≤◌, ◌^◌, IsTrue, All, IfOk, length};
+ghost use Rattle.lane_core.specs.Instrs.{IsOnLanes};
+ghost use Rattle.lane_core.specs.Places.{IsPlaceWithin};
+
+use lane_core::{Instr, NetPlace, Program};
+use lists::List;
+use std::alloc::Global;
+use std::test::Fail;
+
+/// A program without ports as it is written down: `latches` has the starts of its loops.
+#[derive(Drop)]
+pub struct Listed<'a> {
+    pub lanes: u32,
+    pub instrs: &'a [Instr],
+    pub latches: &'a [bool],
+    pub nets: &'a [NetPlace],
+}
+
+fn are_on_lanes(instrs: &[Instr], lanes: u32) -> bool
+    ensures { IsTrue result → All (IsOnLanes lanes) instrs.now }
+{
+    instrs
+        .iter()
+        .all(|instr| (instr.lane() as u64) + 1 < lanes as u64)
+}
+
+fn is_within(place: &NetPlace, lanes: u32, steps: u64) -> bool
+    ensures { IsTrue result → IsPlaceWithin lanes steps place.now }
+{
+    place.lane < lanes
+        && match place.after {
+            Some(step) => step < steps,
+            None => true,
+        }
+}
+
+fn are_within(places: &[NetPlace], lanes: u32, steps: u64) -> bool
+    ensures { IsTrue result → All (IsPlaceWithin lanes steps) places.now }
+{
+    places.iter().all(|place| is_within(place, lanes, steps))
+}
+
+// Whether a program with few instructions is written down.
+fn is_program(listed: &Listed<'_>) -> bool
+    ensures few { IsTrue result → length listed.now.instrs.now < 1000 }
+    ensures loops { IsTrue result → length listed.now.latches.now ≤ listed.now.lanes }
+    ensures instrs { IsTrue result → All (IsOnLanes listed.now.lanes) listed.now.instrs.now }
+    ensures nets { IsTrue result → All (IsPlaceWithin listed.now.lanes (length listed.now.instrs.now)) listed.now.nets.now }
+{
+    listed.instrs.len() < 1000
+        && (listed.latches.len() as u64) <= listed.lanes as u64
+        && are_on_lanes(listed.instrs, listed.lanes)
+        && are_within(listed.nets, listed.lanes, listed.instrs.len() as u64)
+}
+
+/// The program that is written down.
+pub fn program_of(alloc: Global, listed: &Listed<'_>) -> Result<Program, Fail>
+    ensures { IfOk result (λ program. length program.instrs < 2 ^ 40) }
+{
+    if !is_program(listed) {
+        return Err(Fail::new("no program"));
+    }
+    let instrs = List::of(listed.instrs.to_vec(alloc)?);
+    let latches = List::of(listed.latches.to_vec(alloc)?);
+    let nets = List::of(listed.nets.to_vec(alloc)?);
+    Ok(Program {
+        lanes: listed.lanes,
+        instrs,
+        ins: List::of(Vec::new(alloc)),
+        latches,
+        outs: List::of(Vec::new(alloc)),
+        nets,
+    })
+}
