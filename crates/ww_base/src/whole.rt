@@ -9,7 +9,7 @@ use lists::Bytes;
 use std::alloc::{AllocError, Global};
 
 /// Why not all was read.
-#[derive(Clone, Copy, Debug)]
+#[derive(Clone, Copy, Debug, PartialEq, Eq)]
 pub enum ReadAllError {
     /// A read failed.
     ReadFault,
