@@ -19,11 +19,28 @@ use Rattle.row_placer.specs.Entries.{AreAtEntries, AreAtCells}
 use Rattle.row_placer.proofs.Entries.{at_entries, at_cells}
 use Rattle.row_placer.proofs.placing.place_with.Goals as goal
 
+pub prepare-requires : goal.prepare-requires
+prepare-requires c = record { loops = c.requires.loops; spare = c.requires.spare; sound = sound c.args.list.now; small = c.requires.small }
+
+pub run-requires-clause-few : goal.run-requires-clause-few
+run-requires-clause-few c = omega (arith, c.in_ok-job.ensures.lanes, c.requires.small, c.requires.spare)
+
+pub run-requires-clause-known : goal.run-requires-clause-known
+run-requires-clause-known c = c.in_ok-job.ensures.ports
+
+pub run-requires-clause-loops : goal.run-requires-clause-loops
+run-requires-clause-loops c =
+    let ports = length-ports c.args.list.now c.in_ok-job.field-0.job.ports (sound c.args.list.now) c.in_ok-job.ensures.job_of.ports in
+    omega (arith, ports, c.requires.loops)
+
 pub run-requires-clause-lanes : goal.run-requires-clause-lanes
 run-requires-clause-lanes c = omega (arith, c.in_ok-job.ensures.room, c.requires.loops)
 
 pub ends_of-requires-clause-loops : goal.ends_of-requires-clause-loops
 ends_of-requires-clause-loops c = c.requires.loops
+
+pub ends_of-requires-clause-small : goal.ends_of-requires-clause-small
+ends_of-requires-clause-small c = omega (arith, c.requires.small)
 
 pub ends_of-requires-clause-ports : goal.ends_of-requires-clause-ports
 ends_of-requires-clause-ports c =
@@ -117,9 +134,6 @@ returns-clause-instrs c =
     c.in_ok-lanes.ensures.count (ap length r.job_of.gates ∙ length-map list.cells (gate_of list)) (length-ports list job.ports (sound c.args.list.now) r.job_of.ports) c.requires.loops (sym c.in_ok-lanes.ensures.long ∙ count) in
     subst (λ is. length is ≤ (3 * length list.cells + length list.outs + 2 * loop_count list) * c.len-count.result) (sym c.of.ensures) most
 
-pub prepare-requires-clause-sound : goal.prepare-requires-clause-sound
-prepare-requires-clause-sound c = sound c.args.list.now
-
 pub returns-clause-empty : goal.returns-clause-empty
 returns-clause-empty c =
     let L = c.in_ok-lanes.lanes in
@@ -152,3 +166,9 @@ returns-clause-made c =
     let nets = c.of-5.ensures ∙ c.in_ok-outs.ensures.nets ∙ ap (λ hs. map (net_place_of list hs L.made.items) list.nets) c.deref.ensures.value in
     subst (λ is. AreAtCells list is c.of-5.result) (sym c.of.ensures)
     (at_cells list L.job.now L.instrs.items homes L.made.items c.of-5.result gates all L.made_at (sound list).nets nets)
+
+pub returns-clause-lanes : goal.returns-clause-lanes
+returns-clause-lanes c =
+    let L = c.in_ok-lanes.lanes in
+    let count : length L.tags.items ≡ c.len-count.result = sym (c.len-count.ensures ∙ L.tags.ok.0) in
+    omega (arith, c.in_ok-job.ensures.lanes, c.in_ok-lanes.ensures.long, count)
