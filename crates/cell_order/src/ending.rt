@@ -290,6 +290,33 @@ impl Search {
         }
         Ok(())
     }
+
+    // What all cells are worth before any has come.
+    fn weigh(&mut self, list: &CellList) -> Result<(), OrderError> {
+        self.read(list)?;
+        self.weigh_readers()?;
+        self.weigh_results()
+    }
+
+    // The numbers of the cells that come, in their order.
+    fn take_all(&mut self, alloc: Global, list: &CellList) -> Result<Vec<u32>, OrderError>
+        ensures few { IfOk result (λ order. length order.items ≤ length list.now.cells) }
+        ensures below { IfOk result (λ order. All (λ cell. cell < length list.now.cells) order.items) }
+    {
+        let cells = list.cells.len();
+        let mut order = Vec::with_capacity(alloc, cells)?;
+        for _ in 0..cells {
+            let Some(cell) = self.next() else {
+                break;
+            };
+            if cell as usize >= cells {
+                break;
+            }
+            self.take(list, cell)?;
+            order.push(cell)?;
+        }
+        Ok(order)
+    }
 }
 
 /// The numbers of cells of the list in another order: the next is one that waits for no other, and of these one that is worth most, as the
@@ -299,20 +326,6 @@ pub fn ending_order(alloc: Global, list: &CellList, reach: u32) -> Result<Vec<u3
     ensures below { IfOk result (λ order. All (λ cell. cell < length list.now.cells) order.items) }
 {
     let mut search = Search::begin(alloc, list, reach)?;
-    search.read(list)?;
-    search.weigh_readers()?;
-    search.weigh_results()?;
-    let cells = list.cells.len();
-    let mut order = Vec::with_capacity(alloc, cells)?;
-    for _ in 0..cells {
-        let Some(cell) = search.next() else {
-            break;
-        };
-        if cell as usize >= cells {
-            break;
-        }
-        search.take(list, cell)?;
-        order.push(cell)?;
-    }
-    Ok(order)
+    search.weigh(list)?;
+    search.take_all(alloc, list)
 }

@@ -36,6 +36,14 @@ fn cell_at(list: &CellList, number: u32) -> Option<Cell>
     list.cells.as_slice().get(number as usize).copied()
 }
 
+/// What the outputs, the latches and the nets of a list read.
+#[derive(Drop)]
+pub struct Ends {
+    pub outs: Vec<Src>,
+    pub latches: Vec<Src>,
+    pub nets: Vec<Src>,
+}
+
 /// The cells that have come, and the new number of each cell of a list that is among them.
 #[derive(Drop)]
 pub struct Moved {
@@ -90,5 +98,27 @@ impl Moved {
             }
         }
         Ok(Some(found))
+    }
+
+    /// What the list's outputs, latches and nets read under the new numbers, if each has come.
+    pub fn ends(&self, alloc: Global, list: &CellList) -> Result<Option<Ends>, OrderError>
+        ensures outs { IfOk result (λ o. IfSome o (λ ends. map (renamed self.now.numbers.items) list.now.outs ≡ map Some ends.outs.items)) }
+        ensures latches { IfOk result (λ o. IfSome o (λ ends. map (renamed self.now.numbers.items) list.now.latches ≡ map Some ends.latches.items)) }
+        ensures nets { IfOk result (λ o. IfSome o (λ ends. map (renamed self.now.numbers.items) list.now.nets ≡ map Some ends.nets.items)) }
+    {
+        let Some(outs) = self.sources(alloc, list.outs.as_slice())? else {
+            return Ok(None);
+        };
+        let Some(latches) = self.sources(alloc, list.latches.as_slice())? else {
+            return Ok(None);
+        };
+        let Some(nets) = self.sources(alloc, list.nets.as_slice())? else {
+            return Ok(None);
+        };
+        Ok(Some(Ends {
+            outs,
+            latches,
+            nets,
+        }))
     }
 }

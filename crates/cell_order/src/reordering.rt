@@ -16,25 +16,20 @@ fn with_moved(alloc: Global, list: &CellList, moved: Moved) -> Result<Option<Cel
     requires { AreMoved list.now moved.cells.items moved.numbers.items }
     ensures { IfOk result (λ new. IfSome new (ComputeAlike list.now)) }
 {
-    let Some(outs) = moved.sources(alloc, list.outs.as_slice())? else {
-        return Ok(None);
-    };
-    let Some(latches) = moved.sources(alloc, list.latches.as_slice())? else {
-        return Ok(None);
-    };
-    let Some(nets) = moved.sources(alloc, list.nets.as_slice())? else {
-        return Ok(None);
-    };
     if moved.cells.len() != list.cells.len() {
         return Ok(None);
     }
+    let starts = list.starts.as_slice().to_vec(alloc)?;
+    let Some(ends) = moved.ends(alloc, list)? else {
+        return Ok(None);
+    };
     let new = CellList {
         inputs: list.inputs,
         cells: List::of(moved.cells),
-        outs: List::of(outs),
-        latches: List::of(latches),
-        starts: List::of(list.starts.as_slice().to_vec(alloc)?),
-        nets: List::of(nets),
+        outs: List::of(ends.outs),
+        latches: List::of(ends.latches),
+        starts: List::of(starts),
+        nets: List::of(ends.nets),
     };
     if new.names_one() != list.names_one() {
         return Ok(None);

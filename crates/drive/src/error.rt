@@ -40,14 +40,14 @@ pub enum StreamError {
 }
 
 /// Why there are no injections.
-#[derive(Clone, Copy, Debug, PartialEq, Eq)]
+#[derive(Clone, Copy)]
 pub enum DriveError {
     /// There was no memory for them.
     NoMemory,
 }
 
 /// Why a pattern was not run.
-#[derive(Clone, Copy, Debug, PartialEq, Eq)]
+#[derive(Clone, Copy, Debug)]
 pub enum SimulateError {
     /// There was no memory for it.
     NoMemory,

@@ -2,6 +2,7 @@
 ghost use Rattle.std.specs.Prelude.{◌≡◌, IfOk, IfErr, OnOk, List, ℕ};
 ghost use Rattle.netlist_meaning.specs.Flat.{IsSound};
 ghost use Rattle.netlist_meaning.specs.FlatOrder.{IsOrder, IsFlatLoop};
+ghost use Rattle.loop_check.specs.Links.{AreDriverLinks};
 ghost use Rattle.loop_check.specs.Reasons.{IsOrderRefusal};
 
 use crate::links::links_of;
@@ -42,7 +43,6 @@ impl<T: Drop> From<AllocFailed<T>> for OrderError {
 }
 
 /// An order in which each node comes after those that drive what it reads.
-#[tactic(auto, using(crate::proofs::Linked::stay, crate::proofs::Linked::few_numbers, crate::proofs::Linked::few_nodes))]
 pub fn order(alloc: Global, flat: &Flat) -> Result<Order, OrderError>
     requires { IsSound flat.now }
     ensures order { IfOk result (λ order. IsOrder flat.now order.nodes) }
@@ -51,7 +51,19 @@ pub fn order(alloc: Global, flat: &Flat) -> Result<Order, OrderError>
 {
     let table = drivers(alloc, flat)?;
     let links = links_of(alloc, flat, &table)?;
-    match depth_walk::order(alloc, &links) {
+    order_by(alloc, flat, &links)
+}
+
+// An order by the nodes that drive what each node reads.
+#[tactic(auto, using(crate::proofs::Linked::stay, crate::proofs::Linked::few_numbers, crate::proofs::Linked::few_nodes))]
+fn order_by(alloc: Global, flat: &Flat, links: &[List<Option<usize>>]) -> Result<Order, OrderError>
+    requires sound { IsSound flat.now }
+    requires links { AreDriverLinks flat.now links.now }
+    ensures order { IfOk result (λ order. IsOrder flat.now order.nodes) }
+    ensures no_loop { OnOk result ((classes : List ℕ) → ¬ IsFlatLoop flat.now classes) }
+    ensures refused { IfErr result (IsOrderRefusal flat.now) }
+{
+    match depth_walk::order(alloc, links) {
         Ok(numbers) => Ok(Order {
             nodes: as_nodes(alloc, numbers.as_slice())?,
         }),

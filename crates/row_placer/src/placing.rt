@@ -1,19 +1,20 @@
 // The placer.
-ghost use Rattle.std.specs.Prelude.{◌≡◌, ◌≤◌, ◌<◌, ◌+◌, ◌-◌, ◌*◌, ◌^◌, ◌++◌, length, get_or, map, max, cond, [], ◌∷◌, true, false, ◌⊎◌, IfOk, OnOk};
+ghost use Rattle.std.specs.Prelude.{◌≡◌, ◌≤◌, ◌<◌, ◌+◌, ◌-◌, ◌*◌, ◌^◌, ◌++◌, length, get_or, map, max, cond, All, [], ◌∷◌, true, false, ◌⊎◌, IfOk, OnOk};
 ghost use Rattle.cell_core.specs.Loops.{loop_count, loop_data, loop_state, names_one};
 ghost use Rattle.row_placer.specs.Numbers.{number, ReadsWhatIsThere, NamesZero};
-ghost use Rattle.row_placer.specs.Placed.{IsPrepared};
+ghost use Rattle.row_placer.specs.Placed.{IsPrepared, AreOuts, net_place_of};
+ghost use Rattle.row_placer.specs.Ready.{HoldPorts};
 ghost use Rattle.row_placer.specs.Empty.{IsEmpty};
 ghost use Rattle.row_placer.specs.Entries.{AreAtEntries, AreAtCells};
 ghost use Rattle.cell_lanes.specs.Computes.{ComputesByProgram};
-ghost use Rattle.cell_core.specs.declared.cells.Src.TheVariants.{One};
+ghost use Rattle.cell_core.specs.declared.cells.Src.TheVariants.{One, Zero};
 
 use crate::counting::{count_idle, count_uses};
 use crate::reading::{count_loops, gates_of, homes_of, names_zero, places_of, push_numbers};
 use crate::start::start_tags;
 use crate::{Job, Lanes, PlaceError};
 use cell_core::CellList;
-use lane_core::Program;
+use lane_core::{NetPlace, Program};
 use lists::List;
 use std::alloc::Global;
 
@@ -146,6 +147,37 @@ fn latest(clocks: &Vec<u64>) -> u64 {
     latest
 }
 
+// The lanes of a program's outputs, and the places of its nets.
+#[derive(Drop)]
+struct Ends {
+    outs: Vec<u32>,
+    nets: Vec<NetPlace>,
+}
+
+// Where outputs and nets are found, when all is placed.
+fn ends_of(
+    alloc: Global,
+    list: &CellList,
+    loops: u32,
+    homes: &[u32],
+    lanes: &Lanes,
+) -> Result<Ends, PlaceError>
+    requires loops { loops ≡ loop_count list.now }
+    requires small { list.now.inputs + loop_count list.now + 1 + length list.now.cells < 2 ^ 32 }
+    requires ports { loops ≤ length lanes.now.job.now.ports }
+    requires held { HoldPorts lanes.now.job.now (length lanes.now.job.now.ports) lanes.now.tags.items }
+    requires homes { list.now.inputs + loop_count list.now ≤ length homes.now }
+    requires zero { All (λ src. src ≡ Zero → list.now.inputs + loop_count list.now < length homes.now) list.now.nets }
+    requires made { length lanes.now.made.items ≡ length list.now.cells }
+    ensures long { IfOk result (λ r. length r.outs.items + loops ≡ length lanes.now.job.now.ports) }
+    ensures outs { IfOk result (λ r. AreOuts lanes.now.job.now loops lanes.now.tags.items r.outs.items) }
+    ensures nets { IfOk result (λ r. r.nets.items ≡ map (net_place_of list.now homes.now lanes.now.made.items) list.now.nets) }
+{
+    let outs = lanes.find_outs(alloc, loops)?;
+    let nets = places_of(alloc, list, loops, homes, &lanes.made)?;
+    Ok(Ends { outs, nets })
+}
+
 // A program with so many spare lanes that computes the list.
 fn place_with(alloc: Global, list: &CellList, loops: u32, spare: u32) -> Result<Placed, PlaceError>
     requires loops { loops ≡ loop_count list.now }
@@ -158,13 +190,12 @@ fn place_with(alloc: Global, list: &CellList, loops: u32, spare: u32) -> Result<
     ensures entries { IfOk result (λ r. AreAtEntries list.now r.program.lanes r.program.ins r.program.nets) }
     ensures made { IfOk result (λ r. AreAtCells list.now r.program.instrs r.program.nets) }
 {
+    let latches = latches_of(alloc, list)?;
     let Prepared { job, left, homes } = prepare(alloc, list, loops, spare)?;
     let mut left = left;
     let lanes = Lanes::run(alloc, &job, loops, left.as_mut_slice())?;
     let columns = latest(&lanes.clocks);
-    let outs = lanes.find_outs(alloc, loops)?;
-    let nets = places_of(alloc, list, loops, &homes, &lanes.made)?;
-    let latches = latches_of(alloc, list)?;
+    let Ends { outs, nets } = ends_of(alloc, list, loops, &homes, &lanes)?;
     let mut ins = homes;
     ins.truncate(list.inputs as usize);
     let count = lanes.tags.len() as u32;

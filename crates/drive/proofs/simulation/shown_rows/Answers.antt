@@ -32,3 +32,12 @@ loop-cycle-preserved c =
           ∙ ap (λ (last : List Bool). map row (range_with_len 0 cycle) ++ last ∷ []) last
           ∙ sym (map-range_with_len_more row 0 cycle cycle (omega arith));
     }
+
+pub of_streams-requires : goal.of_streams-requires
+of_streams-requires c = record { streams = c.requires.streams; in_box = c.requires.in_box }
+
+pub go_on-requires : goal.go_on-requires
+go_on-requires c = record { run = c.loop-cycle.invariant.run; order = c.loop-cycle.invariant.before }
+
+pub shown_row-requires : goal.shown_row-requires
+shown_row-requires c = c.go_on.ensures.run

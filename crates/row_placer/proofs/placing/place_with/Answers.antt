@@ -1,5 +1,6 @@
 use Rattle.std.proofs.Common.{◌≡◌, refl, sym, ◌∙◌, ap, ap₂, subst, ◌+◌, ◌-◌, ◌*◌, ◌<◌, ◌≤◌, length, map, take, arith}
 use Rattle.std.specs.Prelude.{All}
+use Rattle.cell_core.specs.declared.cells.Src.TheVariants.{Zero}
 use Rattle.row_placer.specs.declared.job.Job.{Job}
 use Rattle.std.proofs.lemmas.List.{length-map}
 use Rattle.lane_core.specs.Instrs.{IsOnLanes}
@@ -18,11 +19,51 @@ use Rattle.row_placer.specs.Entries.{AreAtEntries, AreAtCells}
 use Rattle.row_placer.proofs.Entries.{at_entries, at_cells}
 use Rattle.row_placer.proofs.placing.place_with.Goals as goal
 
+pub prepare-requires : goal.prepare-requires
+prepare-requires c = record { loops = c.requires.loops; spare = c.requires.spare; sound = sound c.args.list.now; small = c.requires.small }
+
+pub run-requires-clause-few : goal.run-requires-clause-few
+run-requires-clause-few c = omega (arith, c.in_ok-job.ensures.lanes, c.requires.small, c.requires.spare)
+
+pub run-requires-clause-known : goal.run-requires-clause-known
+run-requires-clause-known c = c.in_ok-job.ensures.ports
+
+pub run-requires-clause-loops : goal.run-requires-clause-loops
+run-requires-clause-loops c =
+    let ports = length-ports c.args.list.now c.in_ok-job.field-0.job.ports (sound c.args.list.now) c.in_ok-job.ensures.job_of.ports in
+    omega (arith, ports, c.requires.loops)
+
 pub run-requires-clause-lanes : goal.run-requires-clause-lanes
 run-requires-clause-lanes c = omega (arith, c.in_ok-job.ensures.room, c.requires.loops)
 
-pub find_outs-requires-clause-held : goal.find_outs-requires-clause-held
-find_outs-requires-clause-held c = subst (λ (j : Job). HoldPorts j (length j.ports) c.in_ok-lanes.lanes.tags.items) (sym c.in_ok-lanes.ensures.job) c.in_ok-lanes.ensures.held
+pub ends_of-requires-clause-loops : goal.ends_of-requires-clause-loops
+ends_of-requires-clause-loops c = c.requires.loops
+
+pub ends_of-requires-clause-small : goal.ends_of-requires-clause-small
+ends_of-requires-clause-small c = omega (arith, c.requires.small)
+
+pub ends_of-requires-clause-ports : goal.ends_of-requires-clause-ports
+ends_of-requires-clause-ports c =
+    let ports = length-ports c.args.list.now c.in_ok-job.field-0.job.ports (sound c.args.list.now) c.in_ok-job.ensures.job_of.ports in
+    subst (λ (j : Job). c.args.loops ≤ length j.ports) (sym c.in_ok-lanes.ensures.job) (omega (arith, ports, c.requires.loops))
+
+pub ends_of-requires-clause-held : goal.ends_of-requires-clause-held
+ends_of-requires-clause-held c = subst (λ (j : Job). HoldPorts j (length j.ports) c.in_ok-lanes.lanes.tags.items) (sym c.in_ok-lanes.ensures.job) c.in_ok-lanes.ensures.held
+
+pub ends_of-requires-clause-homes : goal.ends_of-requires-clause-homes
+ends_of-requires-clause-homes c =
+    let list = c.args.list.now in
+    subst (λ hs. list.inputs + loop_count list ≤ length hs) (sym c.deref.ensures.value) c.in_ok-job.ensures.homes_of.least
+
+pub ends_of-requires-clause-zero : goal.ends_of-requires-clause-zero
+ends_of-requires-clause-zero c =
+    let list = c.args.list.now in
+    subst (λ hs. All (λ src. src ≡ Zero → list.inputs + loop_count list < length hs) list.nets) (sym c.deref.ensures.value) c.in_ok-job.ensures.zero
+
+pub ends_of-requires-clause-made : goal.ends_of-requires-clause-made
+ends_of-requires-clause-made c =
+    let list = c.args.list.now in
+    c.in_ok-lanes.ensures.made ∙ ap length c.in_ok-job.ensures.job_of.gates ∙ length-map list.cells (gate_of list)
 
 pub invariant_of-program : goal.invariant_of-program
 invariant_of-program c =
@@ -37,7 +78,7 @@ invariant_of-program c =
     let settled = subst (λ n. AreSettled L.job.now n L.tags.items) loops (subst (λ (x : Job). AreSettled x c.args.loops L.tags.items) (sym le.job) le.settled) in
     let outs = subst (λ n. AreOuts L.job.now n L.tags.items c.of-4.result) loops (subst (AreOuts L.job.now c.args.loops L.tags.items) (sym c.of-4.ensures) c.in_ok-outs.ensures.outs) in
     let all : length L.made.items ≡ length L.job.now.gates = le.made ∙ ap (λ (x : Job). length x.gates) (sym le.job) in
-    let nets = c.of-5.ensures ∙ c.in_ok-nets.ensures ∙ ap₂ (λ hs ms. map (net_place_of list hs ms) list.nets) c.deref.ensures.value c.deref-2.ensures.value in
+    let nets = c.of-5.ensures ∙ c.in_ok-outs.ensures.nets ∙ ap (λ hs. map (net_place_of list hs L.made.items) list.nets) c.deref.ensures.value in
     let ins = c.of-2.ensures ∙ c.truncate.ensures.items in
     let latches = c.of-3.ensures ∙ c.in_ok-latches.ensures in
     let few : length c.of-3.result ≡ loop_count list = ap length latches ∙ length-loops list list.starts refl in
@@ -65,7 +106,7 @@ returns-clause-computes c =
     let settled = subst (λ n. AreSettled L.job.now n L.tags.items) loops (subst (λ (x : Job). AreSettled x c.args.loops L.tags.items) (sym le.job) le.settled) in
     let outs = subst (λ n. AreOuts L.job.now n L.tags.items c.of-4.result) loops (subst (AreOuts L.job.now c.args.loops L.tags.items) (sym c.of-4.ensures) c.in_ok-outs.ensures.outs) in
     let all : length L.made.items ≡ length L.job.now.gates = le.made ∙ ap (λ (x : Job). length x.gates) (sym le.job) in
-    let nets = c.of-5.ensures ∙ c.in_ok-nets.ensures ∙ ap₂ (λ hs ms. map (net_place_of list hs ms) list.nets) c.deref.ensures.value c.deref-2.ensures.value in
+    let nets = c.of-5.ensures ∙ c.in_ok-outs.ensures.nets ∙ ap (λ hs. map (net_place_of list hs L.made.items) list.nets) c.deref.ensures.value in
     let ins = c.of-2.ensures ∙ c.truncate.ensures.items in
     let latches = c.of-3.ensures ∙ c.in_ok-latches.ensures in
     finish list _ L.job.now L.tags.items L.made.items c.args.spare left homes (sound c.args.list.now) r (record {
@@ -93,12 +134,6 @@ returns-clause-instrs c =
     c.in_ok-lanes.ensures.count (ap length r.job_of.gates ∙ length-map list.cells (gate_of list)) (length-ports list job.ports (sound c.args.list.now) r.job_of.ports) c.requires.loops (sym c.in_ok-lanes.ensures.long ∙ count) in
     subst (λ is. length is ≤ (3 * length list.cells + length list.outs + 2 * loop_count list) * c.len-count.result) (sym c.of.ensures) most
 
-pub prepare-requires-clause-sound : goal.prepare-requires-clause-sound
-prepare-requires-clause-sound c = sound c.args.list.now
-
-pub places_of-requires-clause-sound : goal.places_of-requires-clause-sound
-places_of-requires-clause-sound c = sound c.args.list.now
-
 pub returns-clause-empty : goal.returns-clause-empty
 returns-clause-empty c =
     let L = c.in_ok-lanes.lanes in
@@ -113,7 +148,7 @@ returns-clause-entries c =
     let r = c.in_ok-job.ensures in
     let count : length L.tags.items ≡ c.len-count.result = sym (c.len-count.ensures ∙ L.tags.ok.0) in
     let ins = c.of-2.ensures ∙ c.truncate.ensures.items in
-    let nets = c.of-5.ensures ∙ c.in_ok-nets.ensures ∙ ap₂ (λ hs ms. map (net_place_of list hs ms) list.nets) c.deref.ensures.value c.deref-2.ensures.value in
+    let nets = c.of-5.ensures ∙ c.in_ok-outs.ensures.nets ∙ ap (λ hs. map (net_place_of list hs L.made.items) list.nets) c.deref.ensures.value in
     let wide : length c.in_ok-job.field-0.job.start ≡ c.len-count.result = sym c.in_ok-lanes.ensures.long ∙ count in
     subst (λ lanes. AreAtEntries list lanes c.of-2.result c.of-5.result) wide
     (subst (λ is. AreAtEntries list (length c.in_ok-job.field-0.job.start) is c.of-5.result) (sym ins)
@@ -128,6 +163,12 @@ returns-clause-made c =
     let r = c.in_ok-job.ensures in
     let gates : L.job.now.gates ≡ map (gate_of list) list.cells = ap (λ (x : Job). x.gates) le.job ∙ r.job_of.gates in
     let all : length L.made.items ≡ length list.cells = le.made ∙ ap length r.job_of.gates ∙ length-map list.cells (gate_of list) in
-    let nets = c.of-5.ensures ∙ c.in_ok-nets.ensures ∙ ap₂ (λ hs ms. map (net_place_of list hs ms) list.nets) c.deref.ensures.value c.deref-2.ensures.value in
+    let nets = c.of-5.ensures ∙ c.in_ok-outs.ensures.nets ∙ ap (λ hs. map (net_place_of list hs L.made.items) list.nets) c.deref.ensures.value in
     subst (λ is. AreAtCells list is c.of-5.result) (sym c.of.ensures)
     (at_cells list L.job.now L.instrs.items homes L.made.items c.of-5.result gates all L.made_at (sound list).nets nets)
+
+pub returns-clause-lanes : goal.returns-clause-lanes
+returns-clause-lanes c =
+    let L = c.in_ok-lanes.lanes in
+    let count : length L.tags.items ≡ c.len-count.result = sym (c.len-count.ensures ∙ L.tags.ok.0) in
+    omega (arith, c.in_ok-job.ensures.lanes, c.in_ok-lanes.ensures.long, count)

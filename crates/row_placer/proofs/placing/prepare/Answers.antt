@@ -11,6 +11,25 @@ use Rattle.row_placer.proofs.Prepared.{gates_known, gates_below, ports_below, le
 use Rattle.row_placer.proofs.Sides.{AreSides, sides, sides_apart, sides_within, sides_homes}
 use Rattle.row_placer.proofs.placing.prepare.Goals as goal
 
+pub gates_of-requires : goal.gates_of-requires
+gates_of-requires c = record { loops = c.requires.loops; sound = c.requires.sound; small = omega (arith, c.requires.small) }
+
+pub ports_of-requires : goal.ports_of-requires
+ports_of-requires c = record { loops = c.requires.loops; sound = c.requires.sound; small = omega (arith, c.requires.small) }
+
+pub count_uses-requires-clause-fits : goal.count_uses-requires-clause-fits
+count_uses-requires-clause-fits c =
+    let list = c.args.list.now in
+    let cells = ap length c.in_ok-gates.ensures ∙ length-map list.cells (gate_of list) in
+    omega (arith, ap length c.deref.ensures.value, cells, c.requires.loops, c.requires.small)
+
+pub count_uses-requires-clause-few : goal.count_uses-requires-clause-few
+count_uses-requires-clause-few c =
+    let list = c.args.list.now in
+    let cells = ap length c.in_ok-gates.ensures ∙ length-map list.cells (gate_of list) in
+    let ports = length-ports list c.in_ok-ports.ports.items c.requires.sound c.in_ok-ports.ensures in
+    omega (arith, ap length c.deref.ensures.value, ap length c.deref-2.ensures.value, cells, ports, c.requires.small)
+
 pub count_uses-requires-clause-gates : goal.count_uses-requires-clause-gates
 count_uses-requires-clause-gates c =
     let list = c.args.list.now in
