@@ -8,7 +8,7 @@ mod hierarchies;
 mod weights;
 
 use blifww_tool::run;
-use std::alloc::Global;
+use std::alloc::{AllocError, Global};
 use std::test::Fail;
 use ww_base::{MemSink, MemSource};
 
@@ -37,6 +37,15 @@ impl Outcome {
     }
 }
 
+// Words as a command line has them.
+pub fn strings_of(alloc: Global, words: &[&str]) -> Result<Vec<String>, AllocError> {
+    let mut strings = Vec::new(alloc);
+    for word in words {
+        strings.push(String::from_str(alloc, word)?)?;
+    }
+    Ok(strings)
+}
+
 // A run over a source in memory, by its chunk and the calls that fail, and sinks with some room.
 fn run_over(
     alloc: Global,
@@ -47,10 +56,7 @@ fn run_over(
 ) -> Result<Outcome, Fail>
     requires { 1 ≤ source.0 }
 {
-    let mut given = Vec::new(alloc);
-    for word in words {
-        given.push(String::from_str(alloc, word)?)?;
-    }
+    let given = strings_of(alloc, words)?;
     let mut src = MemSource::new(alloc, text, source.0, source.1)?;
     let mut out = MemSink::new(alloc, rooms.0, 7, &[])?;
     let mut err = MemSink::new(alloc, rooms.1, 7, &[])?;
@@ -60,6 +66,23 @@ fn run_over(
         out: out.held().to_vec(alloc)?,
         err: err.held().to_vec(alloc)?,
     })
+}
+
+// A run with ample room for a few lines, which fails where it ends with another status, or writes or tells something else.
+fn expect_run(
+    alloc: Global,
+    words: &[&str],
+    text: &[u8],
+    status: u8,
+    out: &[u8],
+    err: &[u8],
+) -> Result<(), Fail> {
+    let got = run_over(alloc, words, text, (16, &[]), (99, 99))?;
+    if got.is(status, out, err) {
+        Ok(())
+    } else {
+        Err(Fail::new(format_args!("{words:?} end otherwise")))
+    }
 }
 
 #[test]
@@ -111,10 +134,8 @@ const FAILURES: &[(&[&str], &[u64], (usize, usize), u8, usize, &[u8])] = &[
 fn each_failure_is_told(rt: HostRuntime) -> Result<(), Fail> {
     for (words, fails, rooms, status, written, err) in FAILURES {
         let got = run_over(rt.alloc(), words, GATE, (16, fails), *rooms)?;
-        assert_eq!(rt; got.status, *status);
-        assert_eq!(rt; got.out.len(), *written);
-        assert!(rt; PATTERN.starts_with(&got.out));
-        assert_eq!(rt; got.err.as_slice(), *err);
+        let is_front = got.out.len() == *written && PATTERN.starts_with(&got.out);
+        assert!(rt; is_front && got.is(*status, &got.out, err), "{words:?}");
     }
     assert!(rt; PATTERN[..175].ends_with(b"x = 33, y = 32, ru"));
     Ok(())
@@ -177,14 +198,10 @@ const PERIODS: &[(&[u8], &[u8])] = &[
 fn a_wire_shows_what_its_period_lets_through(rt: HostRuntime) -> Result<(), Fail> {
     let alloc = rt.alloc();
     for (period, out) in PERIODS {
-        let text = wire(alloc, period)?;
-        let got = run_over(alloc, TWO_CYCLES, &text, (16, &[]), (99, 0))?;
-        assert!(rt; got.is(0, out, b""));
+        expect_run(alloc, TWO_CYCLES, &wire(alloc, period)?, 0, out, b"")?;
     }
     let bare = b"#CXRLE Pos=0,0\nx = 3, y = 1, rule = wireworld\n3C$!";
-    let got = run_over(alloc, ONE_CYCLE, bare, (16, &[]), (0, 0))?;
-    assert_eq!(rt; got.status, 0);
-    Ok(())
+    expect_run(alloc, ONE_CYCLE, bare, 0, b"", b"")
 }
 
 // Words, a pattern, the status, and the line that is told.
@@ -242,8 +259,7 @@ const REFUSED_PATTERNS: &[(&[&str], &[u8], u8, &[u8])] = &[
 #[test]
 fn a_text_that_gives_no_simulation_is_refused(rt: HostRuntime) -> Result<(), Fail> {
     for (words, text, status, line) in REFUSED_PATTERNS {
-        let got = run_over(rt.alloc(), words, text, (16, &[]), (99, 99))?;
-        assert!(rt; got.is(*status, b"", line));
+        expect_run(rt.alloc(), words, text, *status, b"", line)?;
     }
     Ok(())
 }
@@ -256,8 +272,7 @@ const WITHOUT_CELLS: &[&[u8]] = &[
 #[test]
 fn a_box_without_cells_shows_nothing(rt: HostRuntime) -> Result<(), Fail> {
     for text in WITHOUT_CELLS {
-        let got = run_over(rt.alloc(), ONE_CYCLE, text, (16, &[]), (0, 0))?;
-        assert_eq!(rt; got.status, 0);
+        expect_run(rt.alloc(), ONE_CYCLE, text, 0, b"", b"")?;
     }
     Ok(())
 }
@@ -293,8 +308,7 @@ const REFUSED_WORDS: &[(&[&str], u8, &[u8])] = &[
 #[test]
 fn words_that_give_no_streams_are_refused(rt: HostRuntime) -> Result<(), Fail> {
     for (words, status, line) in REFUSED_WORDS {
-        let got = run_over(rt.alloc(), words, PATTERN, (16, &[]), (99, 99))?;
-        assert!(rt; got.is(*status, b"", line));
+        expect_run(rt.alloc(), words, PATTERN, *status, b"", line)?;
     }
     Ok(())
 }
@@ -350,8 +364,7 @@ const VIEWS: &[(&[&str], &[u8], u8, &[u8], &[u8])] = &[
 #[test]
 fn a_net_and_a_part_of_the_plane_are_shown(rt: HostRuntime) -> Result<(), Fail> {
     for (words, text, status, out, err) in VIEWS {
-        let got = run_over(rt.alloc(), words, text, (16, &[]), (99, 99))?;
-        assert!(rt; got.is(*status, out, err));
+        expect_run(rt.alloc(), words, text, *status, out, err)?;
     }
     Ok(())
 }

@@ -1,5 +1,5 @@
 // Runs of `eval` on models inside models.
-use crate::runs::run_over;
+use crate::runs::expect_run;
 use itoa::Buffer;
 use std::alloc::Global;
 use std::test::Fail;
@@ -37,19 +37,14 @@ const ONE_CYCLE: &[&str] = &["blifww", "eval", "--cycles", "1"];
 const THROUGH: &[u8] =
     b".model m\n.outputs n\n.subckt p u=n v=n w=n\n.end\n.model p\n.inputs u v\n.outputs w\n.names u v d\n00 1\n.latch d w 0\n.end\n";
 
-// Whether a netlist's run shows this line.
-fn shows(alloc: Global, words: &[&str], text: &[u8], line: &[u8]) -> Result<bool, Fail> {
-    Ok(run_over(alloc, words, text, (16, &[]), (99, 0))?.is(0, line, b""))
-}
-
 #[test]
 fn models_inside_models_show_their_run(rt: HostRuntime) -> Result<(), Fail> {
     let alloc = rt.alloc();
     let three = ["blifww", "eval", "--cycles", "3", "a=011"];
-    assert!(rt; shows(alloc, &three, &chain(alloc, 300)?, b"y=100\n")?);
-    assert!(rt; shows(alloc, ONE_CYCLE, &broad(alloc, 500)?, b"y=1\n")?);
+    expect_run(alloc, &three, &chain(alloc, 300)?, 0, b"y=100\n", b"")?;
+    expect_run(alloc, ONE_CYCLE, &broad(alloc, 500)?, 0, b"y=1\n", b"")?;
     let four = ["blifww", "eval", "--cycles", "4"];
-    assert!(rt; shows(alloc, &four, THROUGH, b"n=0101\n")?);
+    expect_run(alloc, &four, THROUGH, 0, b"n=0101\n", b"")?;
     Ok(())
 }
 
@@ -70,8 +65,7 @@ const CIRCLES: &[(&[u8], u8, &[u8])] = &[
 #[test]
 fn circles_through_models_are_refused(rt: HostRuntime) -> Result<(), Fail> {
     for (text, status, line) in CIRCLES {
-        let got = run_over(rt.alloc(), ONE_CYCLE, text, (16, &[]), (99, 99))?;
-        assert!(rt; got.is(*status, b"", line));
+        expect_run(rt.alloc(), ONE_CYCLE, text, *status, b"", line)?;
     }
     Ok(())
 }

@@ -1,5 +1,5 @@
 // Netlists near the greatest weight, and far beyond it.
-use crate::runs::run_over;
+use crate::runs::{expect_run, run_over};
 use itoa::Buffer;
 use std::alloc::Global;
 use std::test::Fail;
@@ -54,24 +54,10 @@ const DEEP: &[(usize, &[u8])] = &[
 fn a_netlist_past_the_limit_is_too_large(rt: HostRuntime) -> Result<(), Fail> {
     let alloc = rt.alloc();
     for (inputs, status, line) in WIDE {
-        let got = run_over(
-            alloc,
-            ONE_CYCLE,
-            &wide(alloc, *inputs)?,
-            (4096, &[]),
-            (99, 99),
-        )?;
-        assert!(rt; got.is(*status, b"", line));
+        expect_run(alloc, ONE_CYCLE, &wide(alloc, *inputs)?, *status, b"", line)?;
     }
     for (models, line) in DEEP {
-        let got = run_over(
-            alloc,
-            ONE_CYCLE,
-            &deep(alloc, *models)?,
-            (4096, &[]),
-            (99, 99),
-        )?;
-        assert!(rt; got.is(4, b"", line));
+        expect_run(alloc, ONE_CYCLE, &deep(alloc, *models)?, 4, b"", line)?;
     }
     Ok(())
 }
