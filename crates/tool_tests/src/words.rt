@@ -174,20 +174,29 @@ fn is_asked(command: &Command, asked: Asked) -> bool {
     }
 }
 
-// Whether words give what is asked for.
-fn is_answered(alloc: Global, words: &[&str], asked: Asked) -> Result<bool, Fail> {
-    let given = strings_of(alloc, words)?;
-    Ok(match command_of(alloc, &given) {
-        Ok(command) => is_asked(&command, asked),
+// Whether the answer is the one that was asked for.
+fn is_answer(answer: &Result<Command, WordsError>, asked: Asked) -> bool {
+    match answer {
+        Ok(command) => is_asked(command, asked),
         Err(WordsError::Usage) => matches!(asked, Asked::Usage),
         Err(WordsError::NoMemory) => false,
-    })
+    }
+}
+
+// Fails where words give another answer than was asked for.
+fn expect_answer(alloc: Global, words: &[&str], asked: Asked) -> Result<(), Fail> {
+    let given = strings_of(alloc, words)?;
+    if is_answer(&command_of(alloc, &given), asked) {
+        Ok(())
+    } else {
+        Err(Fail::new(format_args!("{words:?} ask for something else")))
+    }
 }
 
 #[test]
 fn words_ask_for_commands(rt: HostRuntime) -> Result<(), Fail> {
     for (words, asked) in CASES {
-        assert!(rt; is_answered(rt.alloc(), words, *asked)?, "{words:?}");
+        expect_answer(rt.alloc(), words, *asked)?;
     }
     Ok(())
 }

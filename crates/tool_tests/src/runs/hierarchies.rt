@@ -1,28 +1,26 @@
 // Runs of `eval` on models inside models.
-use crate::runs::expect_run;
+use crate::runs::{expect_run, push_all};
 use itoa::Buffer;
-use std::alloc::Global;
+use std::alloc::{AllocError, Global};
 use std::test::Fail;
 
 // Models each of which places the next, the last of which turns its input.
-fn chain(alloc: Global, models: usize) -> Result<Vec<u8>, Fail> {
+fn chain(alloc: Global, models: usize) -> Result<Vec<u8>, AllocError> {
     let mut text = Vec::new(alloc);
     let mut digits = Buffer::new();
+    push_all(&mut text, &[b".model c", digits.format(0).as_bytes()])?;
     for k in 0..models {
-        text.extend_from_slice(b".model c")?;
-        text.extend_from_slice(digits.format(k).as_bytes())?;
-        text.extend_from_slice(b"\n.inputs a\n.outputs y\n.subckt c")?;
-        text.extend_from_slice(digits.format(k + 1).as_bytes())?;
-        text.extend_from_slice(b" a=a y=y\n.end\n")?;
+        let next = digits.format(k + 1).as_bytes();
+        let placed: &[u8] = b"\n.inputs a\n.outputs y\n.subckt c";
+        let parts = [placed, next, b" a=a y=y\n.end\n.model c", next];
+        push_all(&mut text, &parts)?;
     }
-    text.extend_from_slice(b".model c")?;
-    text.extend_from_slice(digits.format(models).as_bytes())?;
     text.extend_from_slice(b"\n.inputs a\n.outputs y\n.names a y\n0 1\n.end\n")?;
     Ok(text)
 }
 
 // A model that places another so many times.
-fn broad(alloc: Global, places: usize) -> Result<Vec<u8>, Fail> {
+fn broad(alloc: Global, places: usize) -> Result<Vec<u8>, AllocError> {
     let mut text = b".model m\n.outputs y\n.names y\n1\n".to_vec(alloc)?;
     for _ in 0..places {
         text.extend_from_slice(b".subckt leaf\n")?;
@@ -44,8 +42,7 @@ fn models_inside_models_show_their_run(rt: HostRuntime) -> Result<(), Fail> {
     expect_run(alloc, &three, &chain(alloc, 300)?, 0, b"y=100\n", b"")?;
     expect_run(alloc, ONE_CYCLE, &broad(alloc, 500)?, 0, b"y=1\n", b"")?;
     let four = ["blifww", "eval", "--cycles", "4"];
-    expect_run(alloc, &four, THROUGH, 0, b"n=0101\n", b"")?;
-    Ok(())
+    expect_run(alloc, &four, THROUGH, 0, b"n=0101\n", b"")
 }
 
 // Netlists, the status, and the line that is told.
