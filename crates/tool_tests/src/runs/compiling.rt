@@ -100,14 +100,24 @@ const SHOWN: &[(&[u8], &[&str], &[u8])] = &[
     ),
 ];
 
+// Fails where a command with a number of cycles and streams prints something else.
+fn expect_shown(
+    alloc: Global,
+    command: &'static str,
+    words: &[&'static str],
+    text: &[u8],
+    lines: &[u8],
+) -> Result<(), Fail> {
+    let given = words_of(alloc, &["blifww", command, "--cycles"], words)?;
+    expect_run(alloc, &given, text, 0, lines, b"")
+}
+
 #[test]
 fn what_compile_writes_shows_the_netlist(rt: HostRuntime) -> Result<(), Fail> {
     let alloc = rt.alloc();
     for (text, words, lines) in SHOWN {
-        let simulate = words_of(alloc, &["blifww", "simulate", "--cycles"], words)?;
-        expect_run(alloc, &simulate, &compiled(alloc, text)?, 0, lines, b"")?;
-        let eval = words_of(alloc, &["blifww", "eval", "--cycles"], words)?;
-        expect_run(alloc, &eval, text, 0, lines, b"")?;
+        expect_shown(alloc, "simulate", words, &compiled(alloc, text)?, lines)?;
+        expect_shown(alloc, "eval", words, text, lines)?;
     }
     Ok(())
 }
