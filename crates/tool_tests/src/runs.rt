@@ -8,7 +8,7 @@ mod hierarchies;
 mod weights;
 
 use blifww_tool::run;
-use std::alloc::Global;
+use std::alloc::{AllocError, Global};
 use std::test::Fail;
 use ww_base::{MemSink, MemSource};
 
@@ -37,6 +37,30 @@ impl Outcome {
     }
 }
 
+// Words as a command line has them.
+pub fn strings_of(alloc: Global, words: &[&str]) -> Result<Vec<String>, AllocError> {
+    let mut strings = Vec::new(alloc);
+    for word in words {
+        strings.push(String::from_str(alloc, word)?)?;
+    }
+    Ok(strings)
+}
+
+// Adds parts to a text, one after the other.
+fn push_all(text: &mut Vec<u8>, parts: &[&[u8]]) -> Result<(), AllocError> {
+    for part in parts {
+        text.extend_from_slice(part)?;
+    }
+    Ok(())
+}
+
+// A text of parts.
+fn joined(alloc: Global, parts: &[&[u8]]) -> Result<Vec<u8>, AllocError> {
+    let mut text = Vec::new(alloc);
+    push_all(&mut text, parts)?;
+    Ok(text)
+}
+
 // A run over a source in memory, by its chunk and the calls that fail, and sinks with some room.
 fn run_over(
     alloc: Global,
@@ -47,14 +71,21 @@ fn run_over(
 ) -> Result<Outcome, Fail>
     requires { 1 ≤ source.0 }
 {
-    let mut given = Vec::new(alloc);
-    for word in words {
-        given.push(String::from_str(alloc, word)?)?;
-    }
+    let given = strings_of(alloc, words)?;
     let mut src = MemSource::new(alloc, text, source.0, source.1)?;
+    run_on(alloc, &given, &mut src, rooms)
+}
+
+// A run over a source, and sinks with some room.
+fn run_on(
+    alloc: Global,
+    words: &[String],
+    src: &mut MemSource,
+    rooms: (usize, usize),
+) -> Result<Outcome, Fail> {
     let mut out = MemSink::new(alloc, rooms.0, 7, &[])?;
     let mut err = MemSink::new(alloc, rooms.1, 7, &[])?;
-    let status = run(alloc, &given, &mut src, &mut out, &mut err);
+    let status = run(alloc, words, src, &mut out, &mut err);
     Ok(Outcome {
         status,
         out: out.held().to_vec(alloc)?,
@@ -62,20 +93,52 @@ fn run_over(
     })
 }
 
+// A run that fails where it ends with another status, or writes or tells something else.
+fn expect_run_over(
+    alloc: Global,
+    words: &[&str],
+    text: &[u8],
+    source: (usize, &[u64]),
+    rooms: (usize, usize),
+    ending: (u8, &[u8], &[u8]),
+) -> Result<(), Fail>
+    requires { 1 ≤ source.0 }
+{
+    let got = run_over(alloc, words, text, source, rooms)?;
+    if got.is(ending.0, ending.1, ending.2) {
+        Ok(())
+    } else {
+        Err(Fail::new(format_args!("{words:?} end otherwise")))
+    }
+}
+
+// The same with ample room for a few lines.
+fn expect_run(
+    alloc: Global,
+    words: &[&str],
+    text: &[u8],
+    status: u8,
+    out: &[u8],
+    err: &[u8],
+) -> Result<(), Fail> {
+    expect_run_over(alloc, words, text, (16, &[]), (99, 99), (status, out, err))
+}
+
+#[test]
+fn an_or_gate_is_compiled(rt: HostRuntime) -> Result<(), Fail> {
+    let ending = (0, PATTERN, b"".as_slice());
+    expect_run_over(rt.alloc(), COMPILE, GATE, (16, &[]), (317, 0), ending)
+}
+
 #[test]
 fn an_or_gate_is_compiled_by_its_names(rt: HostRuntime) -> Result<(), Fail> {
-    let alloc = rt.alloc();
-    let got = run_over(alloc, COMPILE, GATE, (16, &[]), (317, 0))?;
-    assert!(rt; got.is(0, PATTERN, b""));
-
     let named =
         b".model X\n.inputs X sum_of_2_inputs_0\n.outputs _9\n.names X sum_of_2_inputs_0 _9\n1- 1\n-1 1\n.end\n";
-    let got = run_over(alloc, COMPILE, named, (16, &[]), (400, 0))?;
-    assert_eq!(rt; got.status, 0);
+    let got = run_over(rt.alloc(), COMPILE, named, (16, &[]), (400, 0))?;
     let ports =
         b"#C BLIFWW 1 P 32 L 32\n#C BLIFWW IN 0 8 X\n#C BLIFWW IN 0 24 sum_of_2_inputs_0\n#C BLIFWW OUT 32 8 _9\n#C BLIFWW NET 0 8 0 X -\n#C BLIFWW NET 0 24 0 sum_of_2_inputs_0 -\n#C BLIFWW NET 31 8 31 _9 -\nx = 33, y = 32, rule";
-    assert!(rt; got.out.starts_with(ports));
-    assert!(rt; got.out.ends_with(&PATTERN[175..]));
+    let is_named = got.out.starts_with(ports) && got.out.ends_with(&PATTERN[175..]);
+    assert!(rt; got.status == 0 && is_named);
     Ok(())
 }
 
@@ -111,10 +174,8 @@ const FAILURES: &[(&[&str], &[u64], (usize, usize), u8, usize, &[u8])] = &[
 fn each_failure_is_told(rt: HostRuntime) -> Result<(), Fail> {
     for (words, fails, rooms, status, written, err) in FAILURES {
         let got = run_over(rt.alloc(), words, GATE, (16, fails), *rooms)?;
-        assert_eq!(rt; got.status, *status);
-        assert_eq!(rt; got.out.len(), *written);
-        assert!(rt; PATTERN.starts_with(&got.out));
-        assert_eq!(rt; got.err.as_slice(), *err);
+        let is_front = got.out.len() == *written && PATTERN.starts_with(&got.out);
+        assert!(rt; is_front && got.is(*status, &got.out, err), "{words:?}");
     }
     assert!(rt; PATTERN[..175].ends_with(b"x = 33, y = 32, ru"));
     Ok(())
@@ -131,8 +192,8 @@ fn a_text_past_the_limit_is_too_long(rt: HostRuntime) -> Result<(), Fail> {
     let alloc = rt.alloc();
     for (length, status, line) in LONG_TEXTS {
         let text = vec![in alloc; b'#'; *length]?;
-        let got = run_over(alloc, COMPILE, &text, (1 << 20, &[]), (317, 99))?;
-        assert!(rt; got.is(*status, b"", line), "{length} bytes");
+        let ending = (*status, b"".as_slice(), *line);
+        expect_run_over(alloc, COMPILE, &text, (1 << 20, &[]), (317, 99), ending)?;
     }
     Ok(())
 }
@@ -144,25 +205,20 @@ const TWO_CYCLES: &[&str] = &["blifww", "simulate", "--cycles", "2", "a=11"];
 const ONE_CYCLE: &[&str] = &["blifww", "simulate", "--cycles", "1"];
 
 // A wire of three cells, with its period.
-fn wire(alloc: Global, period: &[u8]) -> Result<Vec<u8>, Fail> {
-    let mut text = b"#C BLIFWW 1 P ".to_vec(alloc)?;
-    text.extend_from_slice(period)?;
-    text.extend_from_slice(
-        b" L 2\n#C BLIFWW IN 0 0 a\n#C BLIFWW OUT 2 0 y\nx = 3, y = 1, rule = WireWorld\n3C!\n",
-    )?;
-    Ok(text)
+fn wire(alloc: Global, period: &[u8]) -> Result<Vec<u8>, AllocError> {
+    let rest: &[u8] =
+        b" L 2\n#C BLIFWW IN 0 0 a\n#C BLIFWW OUT 2 0 y\nx = 3, y = 1, rule = WireWorld\n3C!\n";
+    joined(alloc, &[b"#C BLIFWW 1 P ", period, rest])
 }
 
 #[test]
 fn what_compile_writes_is_simulated(rt: HostRuntime) -> Result<(), Fail> {
     let alloc = rt.alloc();
     let compiled = run_over(alloc, COMPILE, GATE, (16, &[]), (317, 0))?;
-    let got = run_over(alloc, OR_STREAMS, &compiled.out, (16, &[]), (7, 0))?;
-    assert!(rt; got.is(0, b"y=0111\n", b""));
-
-    let got = run_over(alloc, OR_STREAMS, &compiled.out, (16, &[]), (4, 99))?;
-    assert!(rt; got.is(6, b"y=01", b"write fault\n"));
-    Ok(())
+    let whole = (0, b"y=0111\n".as_slice(), b"".as_slice());
+    expect_run_over(alloc, OR_STREAMS, &compiled.out, (16, &[]), (7, 0), whole)?;
+    let front = (6, b"y=01".as_slice(), b"write fault\n".as_slice());
+    expect_run_over(alloc, OR_STREAMS, &compiled.out, (16, &[]), (4, 99), front)
 }
 
 // Periods of the wire, and what two heads on its input show.
@@ -177,14 +233,10 @@ const PERIODS: &[(&[u8], &[u8])] = &[
 fn a_wire_shows_what_its_period_lets_through(rt: HostRuntime) -> Result<(), Fail> {
     let alloc = rt.alloc();
     for (period, out) in PERIODS {
-        let text = wire(alloc, period)?;
-        let got = run_over(alloc, TWO_CYCLES, &text, (16, &[]), (99, 0))?;
-        assert!(rt; got.is(0, out, b""));
+        expect_run(alloc, TWO_CYCLES, &wire(alloc, period)?, 0, out, b"")?;
     }
     let bare = b"#CXRLE Pos=0,0\nx = 3, y = 1, rule = wireworld\n3C$!";
-    let got = run_over(alloc, ONE_CYCLE, bare, (16, &[]), (0, 0))?;
-    assert_eq!(rt; got.status, 0);
-    Ok(())
+    expect_run(alloc, ONE_CYCLE, bare, 0, b"", b"")
 }
 
 // Words, a pattern, the status, and the line that is told.
@@ -242,8 +294,7 @@ const REFUSED_PATTERNS: &[(&[&str], &[u8], u8, &[u8])] = &[
 #[test]
 fn a_text_that_gives_no_simulation_is_refused(rt: HostRuntime) -> Result<(), Fail> {
     for (words, text, status, line) in REFUSED_PATTERNS {
-        let got = run_over(rt.alloc(), words, text, (16, &[]), (99, 99))?;
-        assert!(rt; got.is(*status, b"", line));
+        expect_run(rt.alloc(), words, text, *status, b"", line)?;
     }
     Ok(())
 }
@@ -256,8 +307,7 @@ const WITHOUT_CELLS: &[&[u8]] = &[
 #[test]
 fn a_box_without_cells_shows_nothing(rt: HostRuntime) -> Result<(), Fail> {
     for text in WITHOUT_CELLS {
-        let got = run_over(rt.alloc(), ONE_CYCLE, text, (16, &[]), (0, 0))?;
-        assert_eq!(rt; got.status, 0);
+        expect_run(rt.alloc(), ONE_CYCLE, text, 0, b"", b"")?;
     }
     Ok(())
 }
@@ -293,8 +343,7 @@ const REFUSED_WORDS: &[(&[&str], u8, &[u8])] = &[
 #[test]
 fn words_that_give_no_streams_are_refused(rt: HostRuntime) -> Result<(), Fail> {
     for (words, status, line) in REFUSED_WORDS {
-        let got = run_over(rt.alloc(), words, PATTERN, (16, &[]), (99, 99))?;
-        assert!(rt; got.is(*status, b"", line));
+        expect_run(rt.alloc(), words, PATTERN, *status, b"", line)?;
     }
     Ok(())
 }
@@ -350,8 +399,7 @@ const VIEWS: &[(&[&str], &[u8], u8, &[u8], &[u8])] = &[
 #[test]
 fn a_net_and_a_part_of_the_plane_are_shown(rt: HostRuntime) -> Result<(), Fail> {
     for (words, text, status, out, err) in VIEWS {
-        let got = run_over(rt.alloc(), words, text, (16, &[]), (99, 99))?;
-        assert!(rt; got.is(*status, out, err));
+        expect_run(rt.alloc(), words, text, *status, out, err)?;
     }
     Ok(())
 }
@@ -359,25 +407,23 @@ fn a_net_and_a_part_of_the_plane_are_shown(rt: HostRuntime) -> Result<(), Fail> 
 const MADE: &[u8] =
     b".model made\n.inputs i0 i1 i2 i3\n.outputs g1 q0 q1\n.latch i2 q0 0\n.latch i3 q1 1\n.names q0 i3 g0\n10 1\n01 1\n.names g0 g0 g1\n11 0\n.end\n";
 
+// The source's first call would fail in both: nothing is read.
 #[test]
-fn what_is_made_is_written_and_told(rt: HostRuntime) -> Result<(), Fail> {
-    let alloc = rt.alloc();
-    // The source's first call would fail: nothing is read.
+fn what_is_made_is_written(rt: HostRuntime) -> Result<(), Fail> {
     let make = ["blifww", "make", "--seed", "1", "--size", "2"];
-    let got = run_over(alloc, &make, b"", (1, &[0]), (999, 0))?;
-    assert_eq!(rt; got.status, 0);
-    assert_eq!(rt; got.out.as_slice(), MADE);
+    let ending = (0, MADE, b"".as_slice());
+    expect_run_over(rt.alloc(), &make, b"", (1, &[0]), (999, 0), ending)
+}
 
+#[test]
+fn what_is_made_is_told(rt: HostRuntime) -> Result<(), Fail> {
     let told = [
         "blifww", "self", "--seed", "1", "--size", "2", "--cycles", "4",
     ];
-    let got = run_over(alloc, &told, b"", (1, &[0]), (999, 0))?;
-    assert_eq!(rt; got.status, 0);
-    assert!(rt; got.out.starts_with(b"weight 22\nlanes "));
-    assert!(rt;
-        got.out.ends_with(
-            b"\nsim g1=1011\neval g1=1011\nsim q0=0111\neval q0=0111\nsim q1=1001\neval q1=1001\n"
-        )
-    );
+    let got = run_over(rt.alloc(), &told, b"", (1, &[0]), (999, 0))?;
+    let end =
+        b"\nsim g1=1011\neval g1=1011\nsim q0=0111\neval q0=0111\nsim q1=1001\neval q1=1001\n";
+    let is_told = got.out.starts_with(b"weight 22\nlanes ") && got.out.ends_with(end);
+    assert!(rt; got.status == 0 && is_told);
     Ok(())
 }

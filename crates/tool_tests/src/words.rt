@@ -1,9 +1,11 @@
 // What lists of words ask for.
+use crate::runs::strings_of;
 use command_words::{Command, View, WordsError, command_of};
+use std::alloc::Global;
 use std::test::Fail;
 
 // What is asked for, with the stream words.
-#[derive(Clone, Copy, Debug, PartialEq, Eq)]
+#[derive(Clone, Copy)]
 enum Asked {
     Usage,
     Compile,
@@ -172,21 +174,29 @@ fn is_asked(command: &Command, asked: Asked) -> bool {
     }
 }
 
+// Whether the answer is the one that was asked for.
+fn is_answer(answer: &Result<Command, WordsError>, asked: Asked) -> bool {
+    match answer {
+        Ok(command) => is_asked(command, asked),
+        Err(WordsError::Usage) => matches!(asked, Asked::Usage),
+        Err(WordsError::NoMemory) => false,
+    }
+}
+
+// Fails where words give another answer than was asked for.
+fn expect_answer(alloc: Global, words: &[&str], asked: Asked) -> Result<(), Fail> {
+    let given = strings_of(alloc, words)?;
+    if is_answer(&command_of(alloc, &given), asked) {
+        Ok(())
+    } else {
+        Err(Fail::new(format_args!("{words:?} ask for something else")))
+    }
+}
+
 #[test]
 fn words_ask_for_commands(rt: HostRuntime) -> Result<(), Fail> {
-    let alloc = rt.alloc();
     for (words, asked) in CASES {
-        let mut given = Vec::new(alloc);
-        for word in *words {
-            given.push(String::from_str(alloc, word)?)?;
-        }
-        match command_of(alloc, &given) {
-            Ok(command) => assert!(rt; is_asked(&command, *asked), "{words:?}"),
-            Err(error) => {
-                assert_eq!(rt; error, WordsError::Usage);
-                assert_eq!(rt; *asked, Asked::Usage, "{words:?}");
-            }
-        }
+        expect_answer(rt.alloc(), words, *asked)?;
     }
     Ok(())
 }

@@ -1,18 +1,17 @@
 // What `compile` writes, driven by streams.
-use crate::runs::{Outcome, run_over};
-use std::alloc::Global;
+use crate::runs::{expect_run, joined, run_over};
+use std::alloc::{AllocError, Global};
 use std::test::Fail;
 
-// A run of a command whose words are these, with its number of cycles and its streams.
-fn driven(
+// The words of a command, and streams after them.
+fn words_of(
     alloc: Global,
-    command: &'static str,
-    words: &[&'static str],
-    text: &[u8],
-) -> Result<Outcome, Fail> {
-    let mut given = vec![in alloc; "blifww", command, "--cycles"]?;
-    given.extend_from_slice(words)?;
-    run_over(alloc, &given, text, (4096, &[]), (99, 99))
+    command: &[&'static str],
+    streams: &[&'static str],
+) -> Result<Vec<&'static str>, AllocError> {
+    let mut words = command.to_vec(alloc)?;
+    words.extend_from_slice(streams)?;
+    Ok(words)
 }
 
 // The pattern that `compile` writes of a netlist.
@@ -101,101 +100,141 @@ const SHOWN: &[(&[u8], &[&str], &[u8])] = &[
     ),
 ];
 
+// Fails where a command with a number of cycles and streams prints something else.
+fn expect_shown(
+    alloc: Global,
+    command: &'static str,
+    words: &[&'static str],
+    text: &[u8],
+    lines: &[u8],
+) -> Result<(), Fail> {
+    let given = words_of(alloc, &["blifww", command, "--cycles"], words)?;
+    expect_run(alloc, &given, text, 0, lines, b"")
+}
+
 #[test]
 fn what_compile_writes_shows_the_netlist(rt: HostRuntime) -> Result<(), Fail> {
     let alloc = rt.alloc();
     for (text, words, lines) in SHOWN {
-        let simulated = driven(alloc, "simulate", words, &compiled(alloc, text)?)?;
-        let evaluated = driven(alloc, "eval", words, text)?;
-        assert!(rt;
-            simulated.is(0, lines, b"") && evaluated.is(0, lines, b""),
-            "{words:?}"
-        );
+        expect_shown(alloc, "simulate", words, &compiled(alloc, text)?, lines)?;
+        expect_shown(alloc, "eval", words, text, lines)?;
     }
     Ok(())
 }
 
 // The text of a model, whose first line this is, with a net as its first output.
 fn with_output(alloc: Global, model: &[u8], text: &[u8], net: &str) -> Result<Vec<u8>, Fail> {
-    let Some(rest) = text.strip_prefix(model) else {
-        return Err(Fail::new("the text has another first line"));
-    };
-    let mut wider = model.to_vec(alloc)?;
-    wider.extend_from_slice(b".outputs ")?;
-    wider.extend_from_slice(net.as_bytes())?;
-    wider.extend_from_slice(b"\n")?;
-    wider.extend_from_slice(rest)?;
-    Ok(wider)
+    match text.strip_prefix(model) {
+        Some(rest) => Ok(joined(alloc, &[model, b".outputs ", net.as_bytes(), b"\n", rest])?),
+        None => Err(Fail::new("the text has another first line")),
+    }
 }
 
-// The first line of a netlist, its text, words, and nets with their paths and bits.
-const PROBED: &[(&[u8], &[u8], &[&str], &[(&str, &str, &str)])] = &[
+// A number of cycles, and streams.
+type Streams = (&'static str, &'static [&'static str]);
+
+// A net with its path, and what is printed of it.
+type Net = (&'static str, &'static str, &'static [u8]);
+
+// The first line of a netlist, its text, streams, and nets.
+const PROBED: &[(&[u8], &[u8], Streams, &[Net])] = &[
     (
         b".model t\n",
         TOGGLE,
-        &["4"],
-        &[("q", "-", "0101"), ("n", "-", "1010")],
+        ("4", &[]),
+        &[("q", "-", b"q=0101\n"), ("n", "-", b"n=1010\n")],
     ),
     (
         b".model k\n",
         COUNTER,
-        &["5"],
+        ("5", &[]),
         &[
-            ("q0", "-", "01010"),
-            ("q1", "-", "00110"),
-            ("n0", "-", "10101"),
-            ("n1", "-", "01100"),
+            ("q0", "-", b"q0=01010\n"),
+            ("q1", "-", b"q1=00110\n"),
+            ("n0", "-", b"n0=10101\n"),
+            ("n1", "-", b"n1=01100\n"),
         ],
     ),
     (
         b".model add\n",
         ADDER,
-        &["1", "a0=1", "a1=1", "b0=1", "b1=0", "ci=0"],
+        ("1", &["a0=1", "a1=1", "b0=1", "b1=0", "ci=0"]),
         &[
-            ("a0", "-", "1"),
-            ("a1", "-", "1"),
-            ("b0", "-", "1"),
-            ("b1", "-", "0"),
-            ("ci", "-", "0"),
-            ("s0", "-", "0"),
-            ("s1", "-", "0"),
-            ("c", "-", "1"),
-            ("k", "-", "1"),
-            ("a", "0", "1"),
-            ("b", "0", "1"),
-            ("c", "0", "0"),
-            ("s", "0", "0"),
-            ("co", "0", "1"),
-            ("a", "1", "1"),
-            ("b", "1", "0"),
-            ("c", "1", "1"),
-            ("s", "1", "0"),
-            ("co", "1", "1"),
+            ("a0", "-", b"a0=1\n"),
+            ("a1", "-", b"a1=1\n"),
+            ("b0", "-", b"b0=1\n"),
+            ("b1", "-", b"b1=0\n"),
+            ("ci", "-", b"ci=0\n"),
+            ("s0", "-", b"s0=0\n"),
+            ("s1", "-", b"s1=0\n"),
+            ("c", "-", b"c=1\n"),
+            ("k", "-", b"k=1\n"),
+            ("a", "0", b"a=1\n"),
+            ("b", "0", b"b=1\n"),
+            ("c", "0", b"c=0\n"),
+            ("s", "0", b"s=0\n"),
+            ("co", "0", b"co=1\n"),
+            ("a", "1", b"a=1\n"),
+            ("b", "1", b"b=0\n"),
+            ("c", "1", b"c=1\n"),
+            ("s", "1", b"s=0\n"),
+            ("co", "1", b"co=1\n"),
         ],
     ),
 ];
+
+// Fails where a net of a pattern shows another line.
+fn expect_net(
+    alloc: Global,
+    pattern: &[u8],
+    (cycles, streams): Streams,
+    (net, path, line): Net,
+) -> Result<(), Fail> {
+    let command = [
+        "blifww", "probe", "--cycles", cycles, "--net", net, "--path", path,
+    ];
+    let probe = words_of(alloc, &command, streams)?;
+    expect_run(alloc, &probe, pattern, 0, line, b"")
+}
+
+// Fails where `eval` prints another first line of a netlist. A port can't be an output once more.
+fn expect_first_line(
+    alloc: Global,
+    text: &[u8],
+    (cycles, streams): Streams,
+    line: &[u8],
+) -> Result<(), Fail> {
+    let eval = words_of(alloc, &["blifww", "eval", "--cycles", cycles], streams)?;
+    let got = run_over(alloc, &eval, text, (16, &[]), (99, 99))?;
+    if got.status == 1 || got.out.starts_with(line) {
+        Ok(())
+    } else {
+        Err(Fail::new("another line is printed"))
+    }
+}
 
 // Each net shows what `eval` prints of it as an output; of nets in models below and of ports the bits that are written here.
 #[test]
 fn each_net_can_be_probed(rt: HostRuntime) -> Result<(), Fail> {
     let alloc = rt.alloc();
-    for (model, text, words, nets) in PROBED {
+    for (_, text, streams, nets) in PROBED {
         let pattern = compiled(alloc, text)?;
-        let Some((cycles, streams)) = words.split_first() else {
-            return Err(Fail::new("no number of cycles"));
-        };
-        for (net, path, bits) in *nets {
-            let mut given = vec![in alloc; *cycles, "--net", *net, "--path", *path]?;
-            given.extend_from_slice(streams)?;
-            let probed = driven(alloc, "probe", &given, &pattern)?;
-            let line = format!(in alloc; "{net}={bits}\n")?;
-            assert!(rt; probed.is(0, line.as_bytes(), b""), "{net} {path}");
-            if *path != "-" {
-                continue;
+        for net in *nets {
+            expect_net(alloc, &pattern, *streams, *net)?;
+        }
+    }
+    Ok(())
+}
+
+#[test]
+fn each_net_is_evaluated_as_it_is_probed(rt: HostRuntime) -> Result<(), Fail> {
+    let alloc = rt.alloc();
+    for (model, text, streams, nets) in PROBED {
+        for (net, path, line) in *nets {
+            if *path == "-" {
+                let wider = with_output(alloc, model, text, net)?;
+                expect_first_line(alloc, &wider, *streams, line)?;
             }
-            let evaluated = driven(alloc, "eval", words, &with_output(alloc, model, text, net)?)?;
-            // A port can't be an output once more.
-            assert!(rt; evaluated.status == 1 || evaluated.out.starts_with(line.as_bytes()));
         }
     }
     Ok(())

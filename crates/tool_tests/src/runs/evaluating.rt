@@ -1,5 +1,5 @@
 // Runs of `eval`.
-use crate::runs::run_over;
+use crate::runs::expect_run;
 use std::test::Fail;
 
 const ONE_CYCLE: &[&str] = &["blifww", "eval", "--cycles", "1"];
@@ -40,8 +40,7 @@ const RUNS: &[(&[&str], &[u8], &[u8])] = &[
 #[test]
 fn a_netlist_shows_its_run(rt: HostRuntime) -> Result<(), Fail> {
     for (words, text, out) in RUNS {
-        let got = run_over(rt.alloc(), words, text, (16, &[]), (99, 0))?;
-        assert!(rt; got.is(0, out, b""));
+        expect_run(rt.alloc(), words, text, 0, out, b"")?;
     }
     Ok(())
 }
@@ -81,8 +80,7 @@ const REFUSED_TEXTS: &[(&[u8], u8, &[u8])] = &[
 #[test]
 fn a_text_that_is_no_netlist_is_refused(rt: HostRuntime) -> Result<(), Fail> {
     for (text, status, line) in REFUSED_TEXTS {
-        let got = run_over(rt.alloc(), ONE_CYCLE, text, (16, &[]), (99, 99))?;
-        assert!(rt; got.is(*status, b"", line));
+        expect_run(rt.alloc(), ONE_CYCLE, text, *status, b"", line)?;
     }
     Ok(())
 }
@@ -106,8 +104,7 @@ const REFUSED_WORDS: &[(&[&str], &[u8])] = &[
 #[test]
 fn words_that_give_a_netlist_no_streams_are_refused(rt: HostRuntime) -> Result<(), Fail> {
     for (words, line) in REFUSED_WORDS {
-        let got = run_over(rt.alloc(), words, GATE, (16, &[]), (99, 99))?;
-        assert!(rt; got.is(9, b"", line));
+        expect_run(rt.alloc(), words, GATE, 9, b"", line)?;
     }
     Ok(())
 }

@@ -1,34 +1,37 @@
 // Reads and writes that fail, one after another, for each command.
-use crate::runs::{GATE, PATTERN, run_over};
+use crate::runs::{GATE, PATTERN, expect_run_over, run_over};
 use std::test::Fail;
+
+const COMPILE: &[&str] = &["blifww", "compile"];
 
 #[test]
 fn each_read_that_fails_is_told(rt: HostRuntime) -> Result<(), Fail> {
-    let words = ["blifww", "compile"];
     // The text has 61 bytes, and one read more finds its end.
     for call in 0..62u64 {
-        let got = run_over(rt.alloc(), &words, GATE, (1, &[call]), (317, 99))?;
-        assert!(rt; got.is(5, b"", b"read fault\n"), "call {call}");
+        let ending = (5, b"".as_slice(), b"read fault\n".as_slice());
+        expect_run_over(rt.alloc(), COMPILE, GATE, (1, &[call]), (317, 99), ending)?;
     }
-    let got = run_over(rt.alloc(), &words, GATE, (1, &[62]), (317, 0))?;
-    assert_eq!(rt; got.status, 0);
-    assert_eq!(rt; got.out.as_slice(), PATTERN);
-    Ok(())
+    let ending = (0, PATTERN, b"".as_slice());
+    expect_run_over(rt.alloc(), COMPILE, GATE, (1, &[62]), (317, 0), ending)
 }
 
 #[test]
 fn output_is_cut_where_there_is_no_room(rt: HostRuntime) -> Result<(), Fail> {
-    let words = ["blifww", "compile"];
     for room in 0..317 {
-        let got = run_over(rt.alloc(), &words, GATE, (4096, &[]), (room, 99))?;
-        assert_eq!(rt; got.status, 6, "room {room}");
-        assert_eq!(rt; got.out.len(), room);
-        assert!(rt; PATTERN.starts_with(&got.out));
-        assert_eq!(rt; got.err.as_slice(), b"write fault\n".as_slice());
+        let got = run_over(rt.alloc(), COMPILE, GATE, (4096, &[]), (room, 99))?;
+        let is_cut = got.out.len() == room && PATTERN.starts_with(&got.out);
+        assert!(rt;
+            is_cut && got.is(6, &got.out, b"write fault\n"),
+            "room {room}"
+        );
     }
-    let got = run_over(rt.alloc(), &words, GATE, (4096, &[]), (317, 0))?;
-    assert_eq!(rt; got.status, 0);
     Ok(())
+}
+
+#[test]
+fn output_is_whole_where_there_is_room(rt: HostRuntime) -> Result<(), Fail> {
+    let ending = (0, PATTERN, b"".as_slice());
+    expect_run_over(rt.alloc(), COMPILE, GATE, (4096, &[]), (317, 0), ending)
 }
 
 const INVERTER: &[u8] = b".model n\n.inputs a\n.outputs y\n.names a y\n0 1\n";
@@ -58,13 +61,12 @@ const COMMANDS: &[(&[&str], &[u8])] = &[
 #[test]
 fn each_command_tells_what_failed(rt: HostRuntime) -> Result<(), Fail> {
     for (words, text) in COMMANDS {
-        let unread = run_over(rt.alloc(), words, text, (16, &[0]), (99, 99))?;
-        assert!(rt; unread.is(5, b"", b"read fault\n"));
-        let unwritten = run_over(rt.alloc(), words, text, (16, &[]), (0, 99))?;
-        assert!(rt; unwritten.is(6, b"", b"write fault\n"));
+        let unread = (5, b"".as_slice(), b"read fault\n".as_slice());
+        expect_run_over(rt.alloc(), words, text, (16, &[0]), (99, 99), unread)?;
+        let unwritten = (6, b"".as_slice(), b"write fault\n".as_slice());
+        expect_run_over(rt.alloc(), words, text, (16, &[]), (0, 99), unwritten)?;
     }
     // Nothing is on either where the line of a refusal fails at once.
-    let got = run_over(rt.alloc(), &["blifww"], b"", (16, &[]), (99, 0))?;
-    assert!(rt; got.is(6, b"", b""));
-    Ok(())
+    let silent = (6, b"".as_slice(), b"".as_slice());
+    expect_run_over(rt.alloc(), &["blifww"], b"", (16, &[]), (99, 0), silent)
 }

@@ -1,28 +1,26 @@
 // Runs of `eval` on models inside models.
-use crate::runs::run_over;
+use crate::runs::{expect_run, push_all};
 use itoa::Buffer;
-use std::alloc::Global;
+use std::alloc::{AllocError, Global};
 use std::test::Fail;
 
 // Models each of which places the next, the last of which turns its input.
-fn chain(alloc: Global, models: usize) -> Result<Vec<u8>, Fail> {
+fn chain(alloc: Global, models: usize) -> Result<Vec<u8>, AllocError> {
     let mut text = Vec::new(alloc);
     let mut digits = Buffer::new();
+    push_all(&mut text, &[b".model c", digits.format(0).as_bytes()])?;
     for k in 0..models {
-        text.extend_from_slice(b".model c")?;
-        text.extend_from_slice(digits.format(k).as_bytes())?;
-        text.extend_from_slice(b"\n.inputs a\n.outputs y\n.subckt c")?;
-        text.extend_from_slice(digits.format(k + 1).as_bytes())?;
-        text.extend_from_slice(b" a=a y=y\n.end\n")?;
+        let next = digits.format(k + 1).as_bytes();
+        let placed: &[u8] = b"\n.inputs a\n.outputs y\n.subckt c";
+        let parts = [placed, next, b" a=a y=y\n.end\n.model c", next];
+        push_all(&mut text, &parts)?;
     }
-    text.extend_from_slice(b".model c")?;
-    text.extend_from_slice(digits.format(models).as_bytes())?;
     text.extend_from_slice(b"\n.inputs a\n.outputs y\n.names a y\n0 1\n.end\n")?;
     Ok(text)
 }
 
 // A model that places another so many times.
-fn broad(alloc: Global, places: usize) -> Result<Vec<u8>, Fail> {
+fn broad(alloc: Global, places: usize) -> Result<Vec<u8>, AllocError> {
     let mut text = b".model m\n.outputs y\n.names y\n1\n".to_vec(alloc)?;
     for _ in 0..places {
         text.extend_from_slice(b".subckt leaf\n")?;
@@ -37,20 +35,14 @@ const ONE_CYCLE: &[&str] = &["blifww", "eval", "--cycles", "1"];
 const THROUGH: &[u8] =
     b".model m\n.outputs n\n.subckt p u=n v=n w=n\n.end\n.model p\n.inputs u v\n.outputs w\n.names u v d\n00 1\n.latch d w 0\n.end\n";
 
-// Whether a netlist's run shows this line.
-fn shows(alloc: Global, words: &[&str], text: &[u8], line: &[u8]) -> Result<bool, Fail> {
-    Ok(run_over(alloc, words, text, (16, &[]), (99, 0))?.is(0, line, b""))
-}
-
 #[test]
 fn models_inside_models_show_their_run(rt: HostRuntime) -> Result<(), Fail> {
     let alloc = rt.alloc();
     let three = ["blifww", "eval", "--cycles", "3", "a=011"];
-    assert!(rt; shows(alloc, &three, &chain(alloc, 300)?, b"y=100\n")?);
-    assert!(rt; shows(alloc, ONE_CYCLE, &broad(alloc, 500)?, b"y=1\n")?);
+    expect_run(alloc, &three, &chain(alloc, 300)?, 0, b"y=100\n", b"")?;
+    expect_run(alloc, ONE_CYCLE, &broad(alloc, 500)?, 0, b"y=1\n", b"")?;
     let four = ["blifww", "eval", "--cycles", "4"];
-    assert!(rt; shows(alloc, &four, THROUGH, b"n=0101\n")?);
-    Ok(())
+    expect_run(alloc, &four, THROUGH, 0, b"n=0101\n", b"")
 }
 
 // Netlists, the status, and the line that is told.
@@ -70,8 +62,7 @@ const CIRCLES: &[(&[u8], u8, &[u8])] = &[
 #[test]
 fn circles_through_models_are_refused(rt: HostRuntime) -> Result<(), Fail> {
     for (text, status, line) in CIRCLES {
-        let got = run_over(rt.alloc(), ONE_CYCLE, text, (16, &[]), (99, 99))?;
-        assert!(rt; got.is(*status, b"", line));
+        expect_run(rt.alloc(), ONE_CYCLE, text, *status, b"", line)?;
     }
     Ok(())
 }

@@ -1,7 +1,7 @@
 // Netlists near the greatest weight, and far beyond it.
-use crate::runs::run_over;
+use crate::runs::{expect_run, push_all, run_over};
 use itoa::Buffer;
-use std::alloc::Global;
+use std::alloc::{AllocError, Global};
 use std::test::Fail;
 
 const COMPILE: &[&str] = &["blifww", "compile"];
@@ -9,31 +9,28 @@ const COMPILE: &[&str] = &["blifww", "compile"];
 const ONE_CYCLE: &[&str] = &["blifww", "eval", "--cycles", "1"];
 
 // A model with so many inputs and one output.
-fn wide(alloc: Global, inputs: usize) -> Result<Vec<u8>, Fail> {
+fn wide(alloc: Global, inputs: usize) -> Result<Vec<u8>, AllocError> {
     let mut text = b".model m\n.inputs".to_vec(alloc)?;
     let mut digits = Buffer::new();
     for i in 0..inputs {
-        text.extend_from_slice(b" i")?;
-        text.extend_from_slice(digits.format(i).as_bytes())?;
+        push_all(&mut text, &[b" i", digits.format(i).as_bytes()])?;
     }
     text.extend_from_slice(b"\n.outputs y\n.names y\n.end\n")?;
     Ok(text)
 }
 
 // Models each of which places the next one twice.
-fn deep(alloc: Global, models: usize) -> Result<Vec<u8>, Fail> {
+fn deep(alloc: Global, models: usize) -> Result<Vec<u8>, AllocError> {
     let mut text = Vec::new(alloc);
     let mut digits = Buffer::new();
+    push_all(&mut text, &[b".model h", digits.format(models).as_bytes()])?;
     for k in 0..models {
-        text.extend_from_slice(b".model h")?;
-        text.extend_from_slice(digits.format(models - k).as_bytes())?;
-        for _ in 0..2 {
-            text.extend_from_slice(b"\n.subckt h")?;
-            text.extend_from_slice(digits.format(models - k - 1).as_bytes())?;
-        }
-        text.extend_from_slice(b"\n.end\n")?;
+        let next = digits.format(models - k - 1).as_bytes();
+        let place: &[u8] = b"\n.subckt h";
+        let parts = [place, next, place, next, b"\n.end\n.model h", next];
+        push_all(&mut text, &parts)?;
     }
-    text.extend_from_slice(b".model h0\n.names y\n.end\n")?;
+    text.extend_from_slice(b"\n.names y\n.end\n")?;
     Ok(text)
 }
 
@@ -54,24 +51,10 @@ const DEEP: &[(usize, &[u8])] = &[
 fn a_netlist_past_the_limit_is_too_large(rt: HostRuntime) -> Result<(), Fail> {
     let alloc = rt.alloc();
     for (inputs, status, line) in WIDE {
-        let got = run_over(
-            alloc,
-            ONE_CYCLE,
-            &wide(alloc, *inputs)?,
-            (4096, &[]),
-            (99, 99),
-        )?;
-        assert!(rt; got.is(*status, b"", line));
+        expect_run(alloc, ONE_CYCLE, &wide(alloc, *inputs)?, *status, b"", line)?;
     }
     for (models, line) in DEEP {
-        let got = run_over(
-            alloc,
-            ONE_CYCLE,
-            &deep(alloc, *models)?,
-            (4096, &[]),
-            (99, 99),
-        )?;
-        assert!(rt; got.is(4, b"", line));
+        expect_run(alloc, ONE_CYCLE, &deep(alloc, *models)?, 4, b"", line)?;
     }
     Ok(())
 }
@@ -81,7 +64,6 @@ fn a_netlist_of_the_greatest_weight_is_compiled(rt: HostRuntime) -> Result<(), F
     let alloc = rt.alloc();
     let text = wide(alloc, 1022)?;
     let got = run_over(alloc, COMPILE, &text, (4096, &[]), (1 << 20, 0))?;
-    assert_eq!(rt; got.status, 0);
-    assert!(rt; got.out.starts_with(b"#C BLIFWW 1 P 32 L "));
+    assert!(rt; got.status == 0 && got.out.starts_with(b"#C BLIFWW 1 P 32 L "));
     Ok(())
 }
