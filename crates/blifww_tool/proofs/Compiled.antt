@@ -1,5 +1,5 @@
 -- What the parts of a compilation give together.
-use Rattle.std.proofs.Common.{ℕ, ◌≡◌, ◌≤◌, ◌<◌, ◌+◌, ◌*◌, ◌^◌, refl, subst, List, length, false, arith}
+use Rattle.std.proofs.Common.{ℕ, ◌≡◌, ◌≤◌, ◌+◌, ◌*◌, refl, subst, List, length, false}
 use Rattle.lane_core.specs.declared.plan.Plan.{Plan}
 use Rattle.lane_core.specs.Plans.{IsAdmissible}
 use Rattle.grid_assembly.specs.PlanDrawing.{start_grid}
@@ -9,8 +9,7 @@ use Rattle.cover_mapper.specs.Needs.{any_needs_one}
 use Rattle.netlist_core.specs.declared.model.Design.{Design}
 use Rattle.netlist_core.specs.declared.flat.Flat.{Flat}
 use Rattle.netlist_meaning.specs.Weight.{weight}
-use Rattle.netlist_meaning.specs.Flat.{IsSound, IsWeighed}
-use Rattle.flat_designs.specs.Laws.{FlatIsSound, FlatIsWeighed, FlatIsOne}
+use Rattle.flat_designs.specs.Laws.{FlatIsOne}
 use Rattle.netlist_text.specs.NetlistText.{IsNetlist}
 use Rattle.netlist_text.specs.Parts.{AreParts}
 use Rattle.netlist_text.specs.Causes.{HasNetlistCause}
@@ -29,19 +28,6 @@ compile_refused text (netlist_of.Fault fault) h = h
 compile_refused text (netlist_of.TooLarge weight) h = h
 compile_refused text (netlist_of.Loop names) h = h
 compile_refused text netlist_of.NoMemory h = tt
-
--- what a plan asks of the flat netlist
-pub sound : FlatIsSound → (design : Design) (flat : Flat) (order : List ℕ) → AreParts design flat order → IsSound flat
-sound law design flat order p = law design flat p.faultless p.clocks p.is_flat (let light : weight design ≤ 1024 = p.light in omega (arith, light))
-
-pub weighed : FlatIsWeighed → (design : Design) (flat : Flat) (order : List ℕ) → AreParts design flat order → IsWeighed flat
-weighed law design flat order p = law design flat p.faultless p.is_flat (let light : weight design ≤ 1024 = p.light in omega (arith, light))
-
-pub small : (design : Design) (flat : Flat) (order : List ℕ) → AreParts design flat order → flat.weight < 2 ^ 16
-small design flat order p =
-    let light : weight design ≤ 1024 = p.light in
-    let same : flat.weight ≡ weight design = p.is_flat.weight in
-    omega (arith, light, same)
 
 -- and what it gives
 pub compiles : FlatIsOne → (text : List ℕ) (design : Design) (flat : Flat) (order : List ℕ) (plan : Plan) (ports : Ports) → IsNetlist text design → AreParts design flat order

@@ -1,5 +1,5 @@
 // Plans that several tests take, and how a test writes down a plan.
-ghost use Rattle.std.specs.Prelude.{◌≡◌, IsTrue, IfOk};
+ghost use Rattle.std.specs.Prelude.{◌≡◌, ◌≤◌, length, IsTrue, IfOk};
 ghost use Rattle.lane_core.specs.Instrs.{are_sorted_apart, is_above};
 ghost use Rattle.lane_core.specs.Plans.{IsAdmissible};
 
@@ -71,7 +71,9 @@ fn are_apart(instrs: &[Instr]) -> bool
 }
 
 /// The column of these instructions, or an empty one where they are none of a column.
-pub fn column_of(alloc: Global, instrs: &[Instr]) -> Result<Column, AllocError> {
+pub fn column_of(alloc: Global, instrs: &[Instr]) -> Result<Column, AllocError>
+    ensures { IfOk result (λ column. length column.instrs ≤ length instrs.now) }
+{
     if are_apart(instrs) {
         Ok(Column {
             instrs: List::of(instrs.to_vec(alloc)?),
@@ -127,6 +129,7 @@ pub fn admitted(alloc: Global, written: &Written<'_>) -> Result<Plan, Fail>
 /// The cells of the inputs.
 pub fn in_cells(alloc: Global, plan: &Plan) -> Result<Vec<(u64, u64, u64)>, AllocError>
     requires { IsAdmissible plan.now }
+    ensures { IfOk result (λ cells. length cells.items ≡ length plan.now.ins) }
 {
     let mut cells = Vec::new(alloc);
     for i in 0..plan.ins.len() {
@@ -138,6 +141,7 @@ pub fn in_cells(alloc: Global, plan: &Plan) -> Result<Vec<(u64, u64, u64)>, Allo
 /// The cells of the outputs.
 pub fn out_cells(alloc: Global, plan: &Plan) -> Result<Vec<(u64, u64, u64)>, AllocError>
     requires { IsAdmissible plan.now }
+    ensures { IfOk result (λ cells. length cells.items ≡ length plan.now.outs) }
 {
     let mut cells = Vec::new(alloc);
     for i in 0..plan.outs.len() {
@@ -149,6 +153,7 @@ pub fn out_cells(alloc: Global, plan: &Plan) -> Result<Vec<(u64, u64, u64)>, All
 /// The cells of the nets.
 pub fn net_cells(alloc: Global, plan: &Plan) -> Result<Vec<(u64, u64, u64)>, AllocError>
     requires { IsAdmissible plan.now }
+    ensures { IfOk result (λ cells. length cells.items ≡ length plan.now.nets) }
 {
     let mut cells = Vec::new(alloc);
     for i in 0..plan.nets.len() {

@@ -1,5 +1,5 @@
 -- What the parts of a made run give together.
-use Rattle.std.proofs.Common.{ℕ, ◌≡◌, ◌≤◌, ◌<◌, ◌+◌, ◌*◌, ◌^◌, sym, ap, ap₂, ◌∙◌, subst, Bool, List, [], length, map, get_or, arith}
+use Rattle.std.proofs.Common.{ℕ, ◌≡◌, ◌≤◌, ◌<◌, ◌+◌, ◌*◌, sym, ap, ap₂, ◌∙◌, subst, Bool, List, [], length, map, get_or, arith}
 use Rattle.std.specs.Prelude.{All}
 use Rattle.std.proofs.lemmas.List.{ext_get_or, length-map, get_or-map}
 use Rattle.std.proofs.lemmas.List.FromFn.{length-map-range_with_len, get_or-map-range_with_len}
@@ -19,12 +19,11 @@ use Rattle.netlist_core.specs.declared.model.Design.{Design}
 use Rattle.netlist_core.specs.declared.flat.Flat.{Flat}
 use Rattle.netlist_core.specs.declared.flat.FlatPort.{FlatPort}
 use Rattle.netlist_core.specs.Names.{Name}
-use Rattle.netlist_meaning.specs.Flat.{IsSound, IsWeighed, name_of_net}
+use Rattle.netlist_meaning.specs.Flat.{name_of_net}
 use Rattle.netlist_meaning.specs.FlatOf.{IsFlatOf}
 use Rattle.netlist_meaning.specs.Places.{main_outputs}
 use Rattle.netlist_meaning.specs.Valuation.{Valuation, IsRun}
 use Rattle.netlist_meaning.specs.Weight.{weight}
-use Rattle.flat_designs.specs.Laws.{FlatIsSound, FlatIsWeighed}
 use Rattle.netlist_text.specs.declared.netlist.Netlist.{Netlist}
 use Rattle.netlist_text.specs.NetlistText.{IsNetlist}
 use Rattle.netlist_text.specs.Parts.{AreParts}
@@ -49,20 +48,6 @@ use Rattle.made_run.specs.Summaries.{IsMadePlan, Summarizes, HasSummaryCause, ou
 use Rattle.made_run.specs.declared.summarizing.Summary.{Summary}
 use Rattle.made_run.specs.declared.summarizing.OutputBits.{OutputBits}
 use Rattle.made_run.proofs.Drawn.{streams_long, streams_many}
-
-module _ (design : Design) (flat : Flat) (order : List ℕ) (p : AreParts design flat order) where
-  light : weight design < 2 ^ 31
-  light = let few : weight design ≤ 1024 = p.light in omega (arith, few)
-
-  -- what a plan asks of the flat netlist
-  pub sound : FlatIsSound → IsSound flat
-  sound law = law design flat p.faultless p.clocks p.is_flat (let few : weight design ≤ 1024 = p.light in omega (arith, few))
-
-  pub weighed : FlatIsWeighed → IsWeighed flat
-  weighed law = law design flat p.faultless p.is_flat light
-
-  pub small : flat.weight < 2 ^ 16
-  small = let few : weight design ≤ 1024 = p.light in let same : flat.weight ≡ weight design = p.is_flat.weight in omega (arith, few, same)
 
 pub is_planned : MadeAreNetlists → MadeHaveSizes → TextsAreDecided → WrittenPlansRead → (seed size : ℕ) → 0 < size → size ≤ 128
     → (netlist : Netlist) (planned : Planned) → IsNetlist (made_text seed size) netlist.design → AreParts netlist.design netlist.flat netlist.order.nodes

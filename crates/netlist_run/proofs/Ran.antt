@@ -16,9 +16,7 @@ use Rattle.flat_designs.proofs.Whole.{cycles_are_flat, ports_are_flat}
 use Rattle.flat_designs.proofs.Valuations.{valuations_are_flat}
 use Rattle.netlist_core.specs.Names.{Name}
 use Rattle.netlist_meaning.specs.Places.{main_outputs}
-use Rattle.netlist_meaning.specs.Flat.{name_of_net, IsSound}
-use Rattle.netlist_meaning.specs.Weight.{weight}
-use Rattle.flat_designs.proofs.Sound.{flat_is_sound}
+use Rattle.netlist_meaning.specs.Flat.{name_of_net}
 use Rattle.drive.proofs.Across.{columns_are, rows_long}
 use Rattle.drive.specs.declared.streams.Streams.{Streams}
 use Rattle.drive.specs.Driving.{bits_across, stream_row, rows_of}
@@ -140,7 +138,3 @@ all_run design flat order streams rows shown state n p ran many columns = record
         let less : t < streams.cycles = subst (λ (m : ℕ). t < m) (length-map-range_with_len (stream_row streams) 0 streams.cycles) (slice_get_within given t row found) in
         let same : stream_row streams t ≡ row = sym (get_or-map-range_with_len (stream_row streams) 0 streams.cycles t t [] less (omega arith)) ∙ get_or_from_slice_get given t row [] found in
         subst (λ (r : List Bool). IsValuation design r (latches_in design (start_state design) ran.run t) (ran.run t)) same (ran.holds t less)
-
--- a machine's netlist is sound
-pub parts_sound : (design : Design) (flat : Flat) (order : List ℕ) → AreParts design flat order → IsSound flat
-parts_sound design flat order p = flat_is_sound design flat p.faultless p.clocks p.is_flat (let light : weight design ≤ 1024 = p.light in omega (arith, light))

@@ -3,3 +3,4 @@ pub mod Decided
 pub mod Loops
 pub mod Read
 pub mod Ports
+pub mod SoundParts

@@ -1,5 +1,5 @@
 // Random lists of cells.
-ghost use Rattle.std.specs.Prelude.{◌<◌, ◌^◌, ◌+◌, ◌-◌, IfOk, length};
+ghost use Rattle.std.specs.Prelude.{◌≡◌, ◌<◌, ◌^◌, ◌+◌, ◌-◌, IfOk, length};
 
 use crate::written::{Written, list_of};
 use cell_core::{Cell, CellList, Src};
@@ -22,7 +22,7 @@ impl Draw {
     }
 
     /// A bit.
-    pub fn bit(&mut self) -> bool {
+    fn bit(&mut self) -> bool {
         self.below(2) == 1
     }
 }
@@ -68,7 +68,9 @@ fn draw_sources(
 }
 
 /// So many bits.
-pub fn draw_bits(alloc: Global, draw: &mut Draw, count: u32) -> Result<Vec<bool>, Fail> {
+pub fn draw_bits(alloc: Global, draw: &mut Draw, count: u32) -> Result<Vec<bool>, Fail>
+    ensures { IfOk result (λ bits. length bits.items ≡ count) }
+{
     let mut bits = Vec::new(alloc);
     for turn in 0..count {
         bits.push(draw.bit())?;

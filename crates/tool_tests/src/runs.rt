@@ -1,5 +1,5 @@
 // Runs over sources and sinks in memory.
-ghost use Rattle.std.specs.Prelude.{◌≤◌};
+ghost use Rattle.std.specs.Prelude.{◌≡◌, ◌≤◌, length, IfOk};
 
 mod compiling;
 mod evaluating;
@@ -37,8 +37,10 @@ impl Outcome {
     }
 }
 
-// Words as a command line has them.
-pub fn strings_of(alloc: Global, words: &[&str]) -> Result<Vec<String>, AllocError> {
+/// Words as a command line has them.
+pub fn strings_of(alloc: Global, words: &[&str]) -> Result<Vec<String>, AllocError>
+    ensures { IfOk result (λ strings. length strings.items ≡ length words.now) }
+{
     let mut strings = Vec::new(alloc);
     for word in words {
         strings.push(String::from_str(alloc, word)?)?;

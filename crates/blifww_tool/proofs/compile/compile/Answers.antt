@@ -1,12 +1,13 @@
 use Rattle.std.proofs.lemmas.Result.{err_from_is_err_and}
-use Rattle.blifww_tool.proofs.Compiled.{compile_refused, sound, weighed, small, compiles}
+use Rattle.netlist_text.proofs.SoundParts.{sound, weighed, small}
+use Rattle.blifww_tool.proofs.Compiled.{compile_refused, compiles}
 use Rattle.blifww_tool.proofs.compile.compile.Goals as goal
 
 pub plan_netlist-requires-clause-sound : goal.plan_netlist-requires-clause-sound
-plan_netlist-requires-clause-sound c = sound c.flat_is_sound.ensures c.in_ok-netlist.netlist.design c.in_ok-netlist.netlist.flat _ c.in_ok-netlist.ensures.parts
+plan_netlist-requires-clause-sound c = sound c.in_ok-netlist.netlist.design c.in_ok-netlist.netlist.flat _ c.in_ok-netlist.ensures.parts c.flat_is_sound.ensures
 
 pub plan_netlist-requires-clause-weighed : goal.plan_netlist-requires-clause-weighed
-plan_netlist-requires-clause-weighed c = weighed c.flat_is_weighed.ensures c.in_ok-netlist.netlist.design c.in_ok-netlist.netlist.flat _ c.in_ok-netlist.ensures.parts
+plan_netlist-requires-clause-weighed c = weighed c.in_ok-netlist.netlist.design c.in_ok-netlist.netlist.flat _ c.in_ok-netlist.ensures.parts c.flat_is_weighed.ensures
 
 pub plan_netlist-requires-clause-small : goal.plan_netlist-requires-clause-small
 plan_netlist-requires-clause-small c = small c.in_ok-netlist.netlist.design c.in_ok-netlist.netlist.flat _ c.in_ok-netlist.ensures.parts

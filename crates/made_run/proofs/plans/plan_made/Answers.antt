@@ -2,7 +2,8 @@ use Rattle.std.proofs.Common.{ℕ, ◌<◌, ◌∙◌, sym, subst, List, arith}
 use Rattle.std.proofs.lemmas.Result.{err_from_is_err_and}
 use Rattle.netlist_text.specs.NetlistText.{IsNetlist}
 use Rattle.made_netlists.specs.Design.{made_design}
-use Rattle.made_run.proofs.Summarized.{is_planned, sound, weighed, small}
+use Rattle.netlist_text.proofs.SoundParts.{sound, weighed, small}
+use Rattle.made_run.proofs.Summarized.{is_planned}
 use Rattle.made_run.proofs.plans.plan_made.Goals as goal
 
 pub netlist_in-requires : goal.netlist_in-requires

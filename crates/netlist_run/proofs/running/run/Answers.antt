@@ -4,11 +4,13 @@ use Rattle.std.specs.List.{range_with_len}
 use Rattle.netlist_core.specs.declared.flat.Flat.{Flat}
 use Rattle.netlist_meaning.specs.FlatValuation.{IsCycle}
 use Rattle.drive.specs.Driving.{bits_across, stream_row}
-use Rattle.netlist_run.proofs.Ran.{Ran, one_more, none_yet, all_run, rows_are_long, parts_sound}
+use Rattle.flat_designs.proofs.Sound.{flat_is_sound}
+use Rattle.netlist_text.proofs.SoundParts.{sound}
+use Rattle.netlist_run.proofs.Ran.{Ran, one_more, none_yet, all_run, rows_are_long}
 use Rattle.netlist_run.proofs.running.run.Goals as goal
 
 pub new-requires-clause-sound : goal.new-requires-clause-sound
-new-requires-clause-sound c = parts_sound c.args.netlist.design c.args.netlist.flat _ c.requires.parts
+new-requires-clause-sound c = sound c.args.netlist.design c.args.netlist.flat _ c.requires.parts flat_is_sound
 
 pub loop-cycle-init : goal.loop-cycle-init
 loop-cycle-init c =
