@@ -16,7 +16,6 @@ use Rattle.pattern_reading.proofs.RleLaws.{one_pattern}
 use Rattle.pattern_reading.proofs.PortLaws.{one_table}
 use Rattle.written_reads.specs.Laws.{pattern_text}
 use Rattle.netlist_core.specs.declared.model.Design.{Design}
-use Rattle.netlist_core.specs.declared.flat.Flat.{Flat}
 use Rattle.netlist_core.specs.declared.flat.FlatPort.{FlatPort}
 use Rattle.netlist_core.specs.Names.{Name}
 use Rattle.netlist_meaning.specs.Flat.{name_of_net}
@@ -76,7 +75,7 @@ is_planned netlists sizes decided read seed size some few netlist planned is p a
         columns = subst (λ (w : ℕ). length plan.columns ≤ 256 * ((w + 1) * (w + 1))) weighs slight.columns;
         loops = omega (arith, slight.loops, has.latches);
       };
-      reads = read (made_text seed size) design flat plan ports is.is.design_of (light design flat _ p) p.is_flat admissible table;
+      reads = read (made_text seed size) design flat plan ports is.is.design_of (let few : weight design ≤ 1024 = p.light in omega (arith, few)) p.is_flat admissible table;
       ins = sym (length-map ports.ins (λ (line : PortLine). line.name)) ∙ ap (λ (names : List Name). length names) table.in_names ∙ length-map flat.ins (λ (port : FlatPort). name_of_net flat port.net) ∙ has.ins;
     }
 

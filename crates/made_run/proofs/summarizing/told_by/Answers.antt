@@ -1,4 +1,4 @@
-use Rattle.std.proofs.Common.{◌∙◌, refl, subst, sym, ap, List, Bool, length}
+use Rattle.std.proofs.Common.{◌∙◌, subst, sym, ap, List, Bool, length}
 use Rattle.std.proofs.lemmas.List.{length-map}
 use Rattle.std.proofs.lemmas.Result.{err_from_is_err_and}
 use Rattle.drive.specs.declared.error.SimulateError.TheVariants as simulating
