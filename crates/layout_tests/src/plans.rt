@@ -1,5 +1,5 @@
 // Plans that several tests take, and how a test writes down a plan.
-ghost use Rattle.std.specs.Prelude.{◌≡◌, ◌≤◌, length, IsTrue, IfOk};
+ghost use Rattle.std.specs.Prelude.{◌≡◌, length, IsTrue, IfOk};
 ghost use Rattle.lane_core.specs.Instrs.{are_sorted_apart, is_above};
 ghost use Rattle.lane_core.specs.Plans.{IsAdmissible};
 
@@ -70,22 +70,20 @@ fn are_apart(instrs: &[Instr]) -> bool
     instrs.len() < 2 || instrs.len() == 2 && is_above(instrs[0], instrs[1])
 }
 
-/// The column of these instructions, or an empty one where they are none of a column.
-pub fn column_of(alloc: Global, instrs: &[Instr]) -> Result<Column, AllocError>
-    ensures { IfOk result (λ column. length column.instrs ≤ length instrs.now) }
+/// The column of these instructions, where they are those of one.
+pub fn column_of(alloc: Global, instrs: &[Instr]) -> Result<Column, Fail>
+    ensures { IfOk result (λ column. column.instrs ≡ instrs.now) }
 {
     if are_apart(instrs) {
         Ok(Column {
             instrs: List::of(instrs.to_vec(alloc)?),
         })
     } else {
-        Ok(Column {
-            instrs: List::of(Vec::new(alloc)),
-        })
+        Err(Fail::new("no column has these instructions"))
     }
 }
 
-fn columns_of(alloc: Global, written: &[&[Instr]]) -> Result<List<Column>, AllocError> {
+fn columns_of(alloc: Global, written: &[&[Instr]]) -> Result<List<Column>, Fail> {
     let mut columns = Vec::new(alloc);
     for instrs in written {
         columns.push(column_of(alloc, instrs)?)?;
@@ -94,7 +92,7 @@ fn columns_of(alloc: Global, written: &[&[Instr]]) -> Result<List<Column>, Alloc
 }
 
 /// The plan that is written down.
-pub fn plan_of(alloc: Global, written: &Written<'_>) -> Result<Plan, AllocError>
+pub fn plan_of(alloc: Global, written: &Written<'_>) -> Result<Plan, Fail>
     ensures { IfOk result (λ plan. plan.lanes ≡ written.now.lanes) }
 {
     let mut plan = Plan {

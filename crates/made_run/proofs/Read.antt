@@ -1,7 +1,7 @@
 -- What is written of a plan reads as the plan's pattern and its table.
-use Rattle.std.proofs.Common.{ℕ, ◌<◌, ◌^◌, List, [], ◌∷◌, arith}
+use Rattle.std.proofs.Common.{ℕ, ◌<◌, ◌^◌, List, arith}
 use Rattle.std.specs.List.{AllByRecursion}
-use Rattle.std.proofs.lemmas.List.Elements.{All-from_recursion}
+use Rattle.std.proofs.lemmas.List.Elements.{All-from_recursion, All-map}
 use Rattle.ww_rule.specs.Grid.{Grid, AreInBox}
 use Rattle.lane_core.specs.Plans.{size_of}
 use Rattle.grid_assembly.specs.PlanDrawing.{start_grid}
@@ -19,14 +19,9 @@ use Rattle.plan_ports.proofs.Readable.{small_size}
 use Rattle.plan_carries.proofs.SeenNets.{places_fit}
 use Rattle.made_run.specs.Laws.{WrittenPlansRead}
 
-cells_inside : (width height : ℕ) (ports : List PortLine) → AllByRecursion (IsPortInside width height) ports
-    → AllByRecursion (λ (cell : ℕ × ℕ). (cell.0 < width) × (cell.1 < height)) (cells_of ports)
-cells_inside width height [] h = tt
-cells_inside width height (port ∷ ports) h = (h.0, cells_inside width height ports h.1)
-
 -- the cells of the lines lie in the box in which the lines do
 pub lines_in_box : (width height : ℕ) (ports : List PortLine) → AllByRecursion (IsPortInside width height) ports → AreInBox width height (cells_of ports)
-lines_in_box width height ports h = All-from_recursion (λ (cell : ℕ × ℕ). (cell.0 < width) × (cell.1 < height)) (cells_of ports) (cells_inside width height ports h)
+lines_in_box width height ports h = All-map (λ (cell : ℕ × ℕ). (cell.0 < width) × (cell.1 < height)) (λ (port : PortLine). (port.x, port.y)) ports (All-from_recursion (IsPortInside width height) ports h)
 
 pub written_plans_read : FlatIsInRange → FlatIsNamed → TextsHavePortNames → PatternsArePlanes → ((grid : Grid) (ports : Ports) → HasWrittenText grid ports) → TablesAreReadable → WrittenPlansRead
 written_plans_read in_range named names patterns written readable text design flat plan ports of_text light is_flat admissible table =
