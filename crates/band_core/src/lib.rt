@@ -1,4 +1,7 @@
-//! A driven pattern in bands of rows, which move on one by one, in any order that their neighbours allow.
+//! A driven pattern in bands of rows, each at a generation of its own, which move on one by one in any order that their
+//! neighbours allow.
+//!
+//! Theorem: `cell`, `advance`, `skip`.
 #![tactic(auto)]
 
 mod awake;

@@ -1,4 +1,6 @@
 //! Rows of cells in words of bits that know where their light is, and one generation of rows that stand together.
+//!
+//! Theorem: `step_band` (`steps`).
 #![tactic(auto)]
 
 mod band;

@@ -1,4 +1,6 @@
-//! The rules on the models of a netlist: a design, or its fault.
+//! Checks models against the rules on models: they are a design, or have a first fault.
+//!
+//! Theorem: `check` (`faultless`, `passes`, `fault`).
 #![tactic(auto)]
 
 mod checking;

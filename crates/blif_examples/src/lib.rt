@@ -1,4 +1,8 @@
-//! What the definitions of BLIF texts give at single texts. The functions do nothing: each has what is computed as its contract.
+//! What the definitions of BLIF texts give for some 150 single texts.
+//!
+//! The functions here do nothing: their clauses are the cases.
+//!
+//! Theorem: `lines_of_texts`, `models_of_texts`, `line_faults_of_texts`, `model_faults_of_texts`.
 #![tactic(auto)]
 
 ghost use Rattle.blif_examples.specs.Examples.{CircleExamples, FaultlessExamples, LineFaultExamples, LineExamples, ModelFaultExamples, ModelExamples};

@@ -1,5 +1,8 @@
-//! Laws of the models that lines describe, on which nothing else stands. The functions do nothing: each has a law as its
-//! contract.
+//! Laws of the models that lines describe, on which nothing else stands.
+//!
+//! The functions here do nothing: their clauses are the laws.
+//!
+//! Theorem: `annotations_give_nothing`, `models_are_cut`.
 #![tactic(auto)]
 
 ghost use Rattle.blif_laws.specs.Laws.{AnnotationsGiveNothing, ModelsAreCut};

@@ -1,4 +1,6 @@
-//! What a BLIF text says: its logical lines, its models, and its faults.
+//! What a BLIF text says: its logical lines, its models and its faults.
+//!
+//! Theorem: `design_or_fault`, `never_design_and_fault`; definitions `logical_lines`, `HasFault`, `IsDesignOf`.
 #![tactic(auto)]
 
 pub mod laws;

@@ -1,4 +1,4 @@
-//! Compiles the BLIF text on standard input to a Wireworld pattern on standard output, simulates such a pattern, or shows what else the words ask for.
+//! The program: fetches the words, makes the standard streams and calls `blifww_tool`.
 #![tactic(auto)]
 
 ghost use Rattle.std.specs.Prelude.{◌≡◌, ◌≢◌, codes};

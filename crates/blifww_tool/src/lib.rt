@@ -1,5 +1,7 @@
-//! The top call of the program: `compile` and `eval`, for the text of a netlist, `simulate`, `probe` and `window`, for the text of a
-//! pattern, and `make` and `self`, for netlists that are made.
+//! The top call of the program: `compile` and `eval` for the text of a netlist, `simulate`, `probe` and `window` for
+//! the text of a pattern, and `make` and `self` for made netlists.
+//!
+//! Theorem: `run` (`headline`, `ends`), `carriers_print_alike`.
 #![tactic(auto)]
 
 pub mod calm;

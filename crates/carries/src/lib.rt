@@ -1,5 +1,8 @@
-//! What it means that a text carries a design: the pattern that it spells shows the runs of the design. The functions here do
-//! nothing; their clauses are laws of the definition.
+//! What it means that a text carries a design: the pattern that it spells shows the runs of the design.
+//!
+//! The functions here do nothing: their clauses are laws of the definition.
+//!
+//! Theorem: `carries_cycles`, `carries_onward`; definitions `Carries`, `CarriesNets`.
 #![tactic(auto)]
 
 ghost use Rattle.carries.specs.Laws.{CarriesInOneWay, BareIsCarried, GateIsNotBare};

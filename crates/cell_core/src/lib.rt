@@ -1,4 +1,6 @@
-//! Lists of two-input cells: what a circuit computes in one cycle, from the bits of its inputs and of its latches.
+//! Lists of two-input cells: what a circuit computes in one cycle, from the bits of its inputs and latches.
+//!
+//! Theorem: `appending_keeps_bits`; definition `bit_of`.
 #![tactic(auto)]
 
 mod cells;

@@ -1,3 +1,6 @@
-//! What it means that the instructions of a program, or the columns of a plan, compute a list of cells. There is no code
-//! here: `specs/` has the definitions.
+//! What it means that a program, or a plan, computes a list of cells.
+//!
+//! There is no code here: `specs/` has the definitions.
+//!
+//! Definition: `ComputesByProgram`, `ComputesByPlan`.
 #![tactic(auto)]

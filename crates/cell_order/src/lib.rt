@@ -1,4 +1,6 @@
-//! Cells in another order, in which fewer values are needed at a time.
+//! Puts cells in another order, in which fewer values are needed at a time.
+//!
+//! Theorem: `reordered`, `alike_is_planned`.
 #![tactic(auto)]
 
 mod ending;

@@ -1,4 +1,6 @@
-//! Plans of lists of cells: what the placer, the packer and the closer make of a list, one after another.
+//! Makes a plan of a list of cells: places, packs and closes it.
+//!
+//! Theorem: `plan_of` (`admissible`, `computes`, `lanes`, `columns`).
 #![tactic(auto)]
 
 mod error;

@@ -1,4 +1,6 @@
 //! Routes: swaps that bring the bit of one lane to another lane.
+//!
+//! Theorem: `bring`.
 #![tactic(auto)]
 
 mod error;

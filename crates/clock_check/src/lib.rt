@@ -1,4 +1,7 @@
-//! The rules on clocks, in a flat netlist: latches of one clock, and clock nets that nothing else reads or drives.
+//! Checks the rules on clocks in a flat netlist: one clock for all latches, and clock nets that nothing else reads or
+//! drives.
+//!
+//! Theorem: `check_clock` (`fault`, `none`).
 #![tactic(auto)]
 
 mod check;

@@ -1,4 +1,6 @@
-//! Columns: the instructions of a program are put side by side, each as early as its lanes let it.
+//! Packs the instructions of a program into columns, each as early as its lanes allow.
+//!
+//! Theorem: `pack` (`packed`, `same`).
 #![tactic(auto)]
 
 mod error;

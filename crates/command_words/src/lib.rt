@@ -1,4 +1,6 @@
 //! The words of the command line: which command they ask for, with which values.
+//!
+//! Theorem: `command_of` (`ok`, `usage`, `written`), `written_words_are_commands`.
 #![tactic(auto)]
 
 mod app;

@@ -1,4 +1,6 @@
-//! A cover as cells of two inputs.
+//! Maps a cover to two-input cells.
+//!
+//! Theorem: `map_cover` (`value`, `single`, `constant`).
 #![tactic(auto)]
 
 mod covers;

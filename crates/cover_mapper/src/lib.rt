@@ -1,4 +1,6 @@
-//! The covers of a flat netlist as cells of two inputs.
+//! Maps the covers of a flat netlist to two-input cells.
+//!
+//! Theorem: `map` (`mapped`, `few`, `bits`).
 #![tactic(auto)]
 
 mod classes;

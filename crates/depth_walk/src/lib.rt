@@ -1,4 +1,6 @@
-//! Numbers that lead to others: an order in which each comes after those that it leads to, or a circle of them.
+//! Orders linked numbers so that each comes after those that it links to, or finds a circle of them.
+//!
+//! Theorem: `order` (`order`, `refused`).
 #![tactic(auto)]
 
 mod error;

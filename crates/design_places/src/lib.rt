@@ -1,4 +1,6 @@
-//! The places of a design in order, each with its model and its parent.
+//! Lists the places of a design in order, each with its model and its parent.
+//!
+//! Theorem: `places`.
 #![tactic(auto)]
 
 mod placed;

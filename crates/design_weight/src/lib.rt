@@ -1,4 +1,6 @@
-//! The weight of a design: the sum of the own weights of its models over all places.
+//! Computes the weight of a design: the sum of its models' own weights over all places.
+//!
+//! Theorem: `weight`.
 #![tactic(auto)]
 
 mod weights;

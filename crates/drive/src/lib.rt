@@ -1,4 +1,6 @@
 //! Streams of bits for the inputs of a pattern, and the pattern's run under them.
+//!
+//! Theorem: `simulate` (`near`, `bits`, `refused`).
 #![tactic(auto)]
 
 mod columns;

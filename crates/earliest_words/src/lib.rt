@@ -1,4 +1,6 @@
-//! The earliest of words that are offered one after another, as the words at which models break a rule are.
+//! The earliest of the words that are offered one after another, such as those at which models break a rule.
+//!
+//! Theorem: `offer`.
 #![tactic(auto)]
 
 mod earliest;

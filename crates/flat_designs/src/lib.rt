@@ -1,4 +1,8 @@
-//! The flat netlist of a design, and what follows of it. The functions do nothing: each has a law as its contract.
+//! Laws of the flat netlist of a design: it exists, it is unique, and it has the design's valuations, cycles and loops.
+//!
+//! The functions here do nothing: their clauses are the laws.
+//!
+//! Theorem: `flat_is_there`, `flat_is_one`, `valuations_are_flat`, `cycles_are_flat`, `loops_are_flat`.
 #![tactic(auto)]
 
 ghost use Rattle.flat_designs.specs.ClockLaws.{ClockClassesAreClockNets, TwoClocksAreFlat, ClockReadIsFlat, ClockFaultsAreFlat};

@@ -1,4 +1,6 @@
 //! The cells of a plan: its tiles by the shipped drawings, and the electrons of the loops that start with 1.
+//!
+//! Theorem: `patterns_are_planes`, `steps_by_edges`.
 #![tactic(auto)]
 
 mod cells;

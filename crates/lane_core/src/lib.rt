@@ -1,5 +1,7 @@
-//! Lanes: instructions on bits that lie on lanes, columns of instructions, programs and plans, and where the signals of
-//! a plan are found in its drawing.
+//! Lanes: instructions on the bits of lanes, columns of instructions, programs and plans, and where the signals of a
+//! plan are found in its drawing.
+//!
+//! Theorem: `run_columns`, `period`, `latency`; definition `IsAdmissible`.
 #![tactic(auto)]
 
 mod instr;

@@ -1,4 +1,6 @@
 //! The rule on rows of cells in words of bits: bit i of word j is cell 64 j + i of a row.
+//!
+//! Theorem: `step_rows` (`heads`, `wires`, `cells`).
 #![tactic(auto)]
 
 mod lanes;

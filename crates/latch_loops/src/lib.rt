@@ -1,4 +1,6 @@
-//! Loops: the columns of a program become a plan, whose loops bring back what leaves the columns.
+//! Makes a plan of the columns of a program, with loops that bring back what leaves the columns.
+//!
+//! Theorem: `close` (`admissible`, `closed`, `same`).
 #![tactic(auto)]
 
 mod closing;

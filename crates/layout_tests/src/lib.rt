@@ -1,4 +1,4 @@
-//! Tests of the public calls of crates that lay out and draw circuits.
+//! Tests of the public calls that lay out and draw circuits.
 #![tactic(auto)]
 
 #[cfg(test)]

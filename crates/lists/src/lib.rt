@@ -1,4 +1,7 @@
-//! A list behind a small type: contracts see the items alone, and not where they lie in memory.
+//! A list type of which contracts see the items alone, and not where they lie in memory; and general lemmas on lists,
+//! names and bits.
+//!
+//! Theorem: `of`, `get`, `as_slice`.
 #![tactic(auto)]
 
 ghost use Rattle.std.specs.Prelude.{◌≡◌, ◌<◌, ◌++◌, List, length, take, drop, slice_get, Some, IfOk};

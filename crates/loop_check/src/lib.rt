@@ -1,4 +1,6 @@
-//! An order of a flat netlist's nodes, or a combinational loop.
+//! Orders the nodes of a flat netlist, or finds a combinational loop.
+//!
+//! Theorem: `order` (`order`, `no_loop`, `refused`).
 #![tactic(auto)]
 
 mod links;

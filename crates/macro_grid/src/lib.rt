@@ -1,4 +1,6 @@
 //! Which plans can be drawn, the edges between their tiles, and the step of 32 generations.
+//!
+//! Theorem: `admissible`, `macro_step`, `plans_step_by_macro`.
 #![tactic(auto)]
 
 mod edges;

@@ -1,4 +1,8 @@
-//! Laws of made netlists. The functions here do nothing; their clauses are laws.
+//! Laws of made netlists: they have no fault and no loop, and a bounded weight.
+//!
+//! The functions here do nothing: their clauses are the laws.
+//!
+//! Theorem: `made_are_netlists`, `made_have_weights`.
 #![tactic(auto)]
 
 ghost use Rattle.made_laws.specs.Laws.{MadeAreNetlists, MadeHaveWeights, MadeHaveNames, MadeHaveSizes};

@@ -1,4 +1,6 @@
-//! Netlists that are made from a seed: so many gates of two inputs on four inputs and two latches, as a BLIF text.
+//! Makes netlists from a seed: a number of two-input gates on four inputs and two latches, as a BLIF text.
+//!
+//! Theorem: `make` (`text`), `reads_as_made`.
 #![tactic(auto)]
 
 mod error;

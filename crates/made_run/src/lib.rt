@@ -1,4 +1,6 @@
-//! The run of a made netlist, as its pattern shows it and as the netlist gives it.
+//! Runs a made netlist twice: as its pattern shows it, and as the netlist gives it.
+//!
+//! Theorem: `summarize` (`summary`, `refused`).
 #![tactic(auto)]
 
 mod error;

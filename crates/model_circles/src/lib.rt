@@ -1,4 +1,6 @@
-//! The earliest subckt line on a circle of models, each of which places the next.
+//! Finds the earliest subckt line on a circle of models, each of which places the next.
+//!
+//! Theorem: `circle_fault`.
 #![tactic(auto)]
 
 mod circle;

@@ -1,4 +1,6 @@
-//! The names of a model, by where they first stand in its text.
+//! Lists the names of a model, in the order in which they first stand in its text.
+//!
+//! Theorem: `names_of`.
 #![tactic(auto)]
 
 mod names;

@@ -1,4 +1,7 @@
-//! An order of models in which each comes after those that its subckt lines place, or word that one leads back to itself.
+//! Orders models so that each comes after those that its subckt lines place, or finds a model that leads back to
+//! itself.
+//!
+//! Theorem: `order` (`order`, `refused`).
 #![tactic(auto)]
 
 mod error;

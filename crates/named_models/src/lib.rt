@@ -1,4 +1,6 @@
-//! The models of a netlist by name.
+//! An index of models by name.
+//!
+//! Theorem: `find`, `model`.
 #![tactic(auto)]
 
 ghost use Rattle.std.specs.Prelude.{◌≡◌, List, None, IfOk, MatchOption, position};

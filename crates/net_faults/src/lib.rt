@@ -1,4 +1,6 @@
-//! The first faults of models in how their nets are named, driven and read.
+//! Finds in models the first port that is named twice, the first second driver and the first net without a driver.
+//!
+//! Theorem: `net_faults` (`duplicate_port`, `second_driver`, `undriven`).
 #![tactic(auto)]
 
 mod drivers;

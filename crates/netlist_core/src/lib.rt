@@ -1,4 +1,6 @@
-//! Netlists as values: the models of a BLIF text, and the flat netlist without its hierarchy.
+//! Netlists as values: the models of a BLIF text, and the flat netlist, which has no hierarchy.
+//!
+//! Theorem: `weight_of`.
 #![tactic(auto)]
 
 mod flat;

@@ -1,4 +1,6 @@
-//! A flat netlist run cycle by cycle, along an order of its nodes.
+//! Runs a flat netlist cycle by cycle, along an order of its nodes.
+//!
+//! Theorem: `cycle`, `ordered_have_one_valuation`.
 #![tactic(auto)]
 
 mod cover;

@@ -1,4 +1,6 @@
-//! The flat netlist of a design.
+//! Flattens a design, or reports that it weighs too much.
+//!
+//! Theorem: `flatten` (`flat`, `flattens`, `too_large`).
 #![tactic(auto)]
 
 mod classes;

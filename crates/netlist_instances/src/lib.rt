@@ -1,4 +1,8 @@
-//! What the definitions say of single designs. The functions do nothing: each has what is proved as its contract.
+//! What the definitions give for single designs: a toggle, an adder, a loop, a tower of models.
+//!
+//! The functions here do nothing: their clauses are the cases.
+//!
+//! Theorem: `latch_toggles`, `adder_adds`, `latch_breaks_loop`, `tower_weighs`.
 #![tactic(auto)]
 
 ghost use Rattle.std.specs.Prelude.{[], ◌∷◌};

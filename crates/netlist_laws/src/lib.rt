@@ -1,5 +1,8 @@
-//! Laws of what designs mean and of the rules on them, on which nothing else stands. The functions do nothing: each has a
-//! law as its contract.
+//! Laws of designs and of the rules on them, on which nothing else stands.
+//!
+//! The functions here do nothing: their clauses are the laws.
+//!
+//! Theorem: `covers_say_what_their_rows_say`, `wired_designs_have_nets`.
 #![tactic(auto)]
 
 ghost use Rattle.netlist_laws.specs.Laws.{CoversSay, TwoClocksAreOne, ClockReadIsOnOneLine, WiredDesignsHaveNets, WordsKeepOrder};

@@ -1,4 +1,6 @@
-//! What a netlist means: the definitions are in `specs/`, and here are the programs that compute with them.
+//! What designs and flat netlists mean: nets, valuations, runs, loops, weight, and which flat netlist a design has.
+//!
+//! Theorem: `joined_is_the_least_equivalence`, `cover_value`; definitions `IsValuation`, `IsRun`, `IsFlatOf`.
 #![tactic(auto)]
 
 ghost use Rattle.std.specs.Prelude.{◌≡◌};

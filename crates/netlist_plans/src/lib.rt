@@ -1,4 +1,7 @@
-//! From a flat netlist with an order of its covers to a plan and its port table, whose text carries the design and its nets.
+//! Makes a plan and its port table of a flat netlist with an order of its covers; their text carries the design and its
+//! nets.
+//!
+//! Theorem: `plan_netlist` (`carries`, `nets`, `small`, `places`).
 #![tactic(auto)]
 
 mod error;

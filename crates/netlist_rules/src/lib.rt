@@ -1,4 +1,6 @@
-//! The rules on the models of a netlist, and their faults.
+//! The rules on models and on clocks, and their faults.
+//!
+//! Theorem: `faultless_or_fault`, `model_fault_is_first`.
 #![tactic(auto)]
 
 mod fault;

@@ -1,4 +1,6 @@
-//! The run of a netlist under streams of bits.
+//! Runs a netlist under streams of bits.
+//!
+//! Theorem: `run`.
 #![tactic(auto)]
 
 mod error;

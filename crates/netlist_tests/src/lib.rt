@@ -1,4 +1,4 @@
-//! Tests of the public calls of crates that read, weigh and map netlists.
+//! Tests of the public calls that read, weigh and map netlists.
 #![tactic(auto)]
 
 #[cfg(test)]

@@ -1,4 +1,6 @@
-//! The netlist of a BLIF text: its design, flat and with an order of its covers, or why there is none.
+//! The netlist of a BLIF text: its design, its flat netlist and an order of the covers, or why there is none.
+//!
+//! Theorem: `netlist_of` (`netlist`, `parts`, `refused`), `texts_are_decided`.
 #![tactic(auto)]
 
 mod error;

@@ -1,5 +1,8 @@
-//! Designs of one cover with two inputs, and what they compute. The functions do nothing: each has what is proved as its
-//! contract.
+//! Designs of one cover with two inputs, and what they compute.
+//!
+//! The functions here do nothing: their clauses are the laws.
+//!
+//! Theorem: `one_cover_computes_its_value`.
 #![tactic(auto)]
 
 ghost use Rattle.std.specs.Prelude.{◌||◌};

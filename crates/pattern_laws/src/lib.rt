@@ -1,5 +1,8 @@
-//! Laws of what a pattern's text and its port table say, and texts whose reading is known. Nothing stands on this crate, so that
-//! a further law or text proves nothing else anew.
+//! Laws of what a pattern's text and its port table say, and over a hundred texts with their readings.
+//!
+//! Nothing stands on this crate, so a further law or text proves nothing else anew.
+//!
+//! Theorem: `pattern_laws`, `port_laws`, `whole_laws`.
 #![tactic(auto)]
 
 mod examples;

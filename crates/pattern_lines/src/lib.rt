@@ -1,4 +1,6 @@
-//! The lines of the text of a pattern, its blanks, and the numbers that it writes.
+//! Splits the text of a pattern into lines, and reads its blanks and numbers.
+//!
+//! Theorem: `split_line`, `number_in`.
 #![tactic(auto)]
 
 mod blanks;

@@ -1,4 +1,6 @@
-//! What the text of a pattern, in extended RLE, and the port table in its comments say.
+//! What the text of a pattern in extended RLE says, and the port table in its comments.
+//!
+//! Definition: `ReadsAsPattern`, `HasRleFault`, `ReadsAsPorts`, `HasPortFault`.
 #![tactic(auto)]
 
 mod faults;

@@ -1,4 +1,8 @@
-//! The text of an OR gate and the text of a circuit without ports, as they read.
+//! How the text of an OR gate and the text of a circuit without ports read.
+//!
+//! The functions here do nothing: their clauses are the cases.
+//!
+//! Theorem: `gate_reads`, `bare_reads`.
 #![tactic(auto)]
 
 ghost use Rattle.std.specs.Prelude.{List, ℕ, []};

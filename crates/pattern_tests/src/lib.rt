@@ -1,4 +1,4 @@
-//! Tests of the public calls of crates that read, step and run patterns.
+//! Tests of the public calls that read, step and run patterns.
 #![tactic(auto)]
 
 #[cfg(test)]

@@ -1,4 +1,7 @@
-//! The text of a pattern in extended RLE, as a definition that contracts cite, with its laws and texts by it letter by letter.
+//! The text of a pattern in extended RLE, as a definition that contracts cite, with its laws and some texts letter by
+//! letter.
+//!
+//! Theorem: `items_are_runs`, `wrapping_keeps_items`; definition `writer_text`.
 #![tactic(auto)]
 
 ghost use Rattle.std.specs.Prelude.{◌≡◌, ◌++◌, [], length};

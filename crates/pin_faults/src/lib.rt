@@ -1,4 +1,6 @@
-//! The rules on subckt lines and their pins: for each, the fault at the earliest word that breaks it.
+//! Finds the first word that breaks each rule on subckt lines and their pins.
+//!
+//! Theorem: `missing_model`, `unknown_formal`, `pin_twice`, `pin_missing`.
 #![tactic(auto)]
 
 mod formals;

@@ -1,4 +1,6 @@
 //! The path by which a port table names the place of a model.
+//!
+//! Theorem: `path_of`, `paths_are_read`, `paths_are_distinct`.
 #![tactic(auto)]
 
 mod laws;

@@ -1,4 +1,6 @@
 //! The names of the ports of models, as subckt lines look them up.
+//!
+//! Theorem: `find`.
 #![tactic(auto)]
 
 mod placed;

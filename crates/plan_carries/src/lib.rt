@@ -1,5 +1,8 @@
-//! What is compiled of a design carries it: a plan that computes a list of cells, which computes the flat netlist of the
-//! design. The functions here do nothing; their clauses are the laws.
+//! The text of a plan that computes the cells of a design carries the design.
+//!
+//! The functions here do nothing: their clauses are the laws.
+//!
+//! Theorem: `texts_carry`, `texts_carry_nets`.
 #![tactic(auto)]
 
 ghost use Rattle.plan_carries.specs.Laws.{PlansHavePorts, PlanesShowRuns, TextsCarry, TextsCarryNets};

@@ -1,4 +1,6 @@
 //! The layout of a plan: which tile stands in which block, and that the tiles of an admissible plan fit together.
+//!
+//! Theorem: `plans_fit_together`, `slot_at`.
 #![tactic(auto)]
 
 pub mod laws;

@@ -1,4 +1,6 @@
-//! The port table of a plan that was made of a flat netlist.
+//! Makes the port table of a plan of a flat netlist.
+//!
+//! Theorem: `of_plan`, `tables_are_readable`.
 #![tactic(auto)]
 
 mod error;

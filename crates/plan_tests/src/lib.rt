@@ -1,4 +1,4 @@
-//! Tests of the public calls of crates that make plans of lists of cells, and write plans as texts.
+//! Tests of the public calls that make plans of lists of cells and write them as texts.
 #![tactic(auto)]
 
 #[cfg(test)]

@@ -1,5 +1,8 @@
-//! Waves: how signals run through the body of a plan and round its loops, from macro step to macro step and from cycle to
-//! cycle, and what the plane shows of them. The functions here do nothing; their clauses are the laws.
+//! How signals run through the body of a plan and round its loops, cycle by cycle, and what the plane shows of them.
+//!
+//! The functions here do nothing: their clauses are the laws.
+//!
+//! Theorem: `plans_show_rows`, `plans_show_runs`, `plans_show_edges`.
 #![tactic(auto)]
 
 mod cycles;

@@ -1,4 +1,7 @@
-//! The port table that stands in the comments before a pattern's header: read from a text, made of a plan, and written line by line.
+//! The port table in the comments before a pattern's header: read from a text, made of a plan, and written line by
+//! line.
+//!
+//! Theorem: `read` (`table`, `reads`, `fault`).
 #![tactic(auto)]
 
 mod faults;

@@ -1,4 +1,6 @@
-//! Texts in pieces, gathered on pages, and the lines of a port table so written. It takes no memory.
+//! Writes texts in pieces, gathered on pages, and the lines of a port table. It takes no memory.
+//!
+//! Theorem: `write_line`, `write_pieces` (`ok`, `front`, `cause`).
 #![tactic(auto)]
 
 mod line;

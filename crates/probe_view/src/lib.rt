@@ -1,4 +1,6 @@
 //! What a driven pattern shows at a net, and in a part of its plane.
+//!
+//! Theorem: `probe`, `window`.
 #![tactic(auto)]
 
 mod error;

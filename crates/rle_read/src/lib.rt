@@ -1,4 +1,6 @@
-//! Reads the text of a pattern, in extended RLE.
+//! Reads a pattern from its text in extended RLE.
+//!
+//! Theorem: `read` (`pattern`, `reads`, `faulty`, `large`).
 #![tactic(auto)]
 
 mod draw_text;

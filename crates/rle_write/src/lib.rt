@@ -1,4 +1,6 @@
-//! Writes the pattern of a plan as a text in extended RLE, and takes no memory for it.
+//! Writes the pattern of a plan in extended RLE. It takes no memory.
+//!
+//! Theorem: `write` (`ok`, `front`, `cause`).
 #![tactic(auto)]
 
 mod items;

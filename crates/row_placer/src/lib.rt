@@ -1,4 +1,6 @@
-//! The placer: lists of cells become programs on lanes.
+//! The placer: makes a program on lanes of a list of cells.
+//!
+//! Theorem: `place` (`computes`, `lanes`, `instrs`).
 #![tactic(auto)]
 
 mod counting;

@@ -1,5 +1,8 @@
-//! What a pattern shows under streams of bits is what its netlist gives under them. The functions here do nothing; their clauses are
-//! the laws.
+//! What a pattern shows under streams of bits is what its netlist gives under them.
+//!
+//! The functions here do nothing: their clauses are the laws.
+//!
+//! Theorem: `carriers_show_runs`, `streams_match`.
 #![tactic(auto)]
 
 ghost use Rattle.shown_runs.specs.ShownRuns.{CarriersShowRuns, StreamsMatch};

@@ -1,4 +1,8 @@
-//! What designs without a fault have. The functions here do nothing; their clauses are laws.
+//! Laws of designs without a fault: they are not recursive, and each net has exactly one driver.
+//!
+//! The functions here do nothing: their clauses are the laws.
+//!
+//! Theorem: `faultless_have_drivers`, `faultless_are_not_recursive`.
 #![tactic(auto)]
 
 ghost use Rattle.sound_designs.specs.OneDriver.{FaultlessHaveAtMostOneDriver, FaultlessHaveDrivers};

@@ -1,4 +1,8 @@
-//! The names in the design of a text are words. The function does nothing: it has a law as its contract.
+//! The names in the design of a text have a byte, no blank and no line end.
+//!
+//! The function here does nothing: its clauses are the laws.
+//!
+//! Theorem: `names_are_words` (`names`, `nets`).
 #![tactic(auto)]
 
 ghost use Rattle.text_names.specs.TextNames.{NamesAreWords, NetsAreWords};

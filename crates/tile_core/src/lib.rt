@@ -1,4 +1,6 @@
-//! Tiles: their kinds, their ports and answers, and the timing law that every drawing of them keeps.
+//! Tiles: their kinds, ports and answers, and the timing law that every drawing of a tile keeps.
+//!
+//! Theorem: `ports_differ`; definition `MeetsTimingLaw`.
 #![tactic(auto)]
 
 mod kind;

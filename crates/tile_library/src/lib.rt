@@ -1,4 +1,6 @@
-//! The shipped drawing of each kind of tile.
+//! The drawing of each kind of tile that the program draws.
+//!
+//! Theorem: `Shipped` (`law`).
 #![tactic(auto)]
 
 pub mod drawings;

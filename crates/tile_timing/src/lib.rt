@@ -1,4 +1,6 @@
 //! Tests whether a drawing keeps the timing law, by 32 steps of a small window.
+//!
+//! Theorem: `law_holds`, `window_step`.
 #![tactic(auto)]
 
 mod law;

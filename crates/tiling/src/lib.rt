@@ -1,5 +1,9 @@
-//! Tilings of the plane: pieces in blocks of 32 columns and 16 rows, the plane that they draw, and what 32
-//! generations of Wireworld make of it. The laws here are proved of every library whose tiles keep the timing law.
+//! Tilings of the plane: pieces in blocks of 32 columns and 16 rows, the plane that they draw, and what it is 32
+//! generations later.
+//!
+//! The laws hold of every library whose tiles keep the timing law.
+//!
+//! Theorem: `steps_by_macro`, `shows_edges`, `is_driven_by_macro`.
 #![tactic(auto)]
 
 ghost use Rattle.tiling.specs.Steps.{MacroLaw, EdgesLaw, DrivenLaw};

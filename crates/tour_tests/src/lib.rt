@@ -1,4 +1,4 @@
-//! The stages of docs/TOUR.md: what the crates make of its netlist, against what stands there.
+//! The stages of docs/TOUR.md: compares what stands there with what the crates make.
 #![tactic(auto)]
 
 #[cfg(test)]

@@ -1,4 +1,8 @@
-//! The text that is written of a pattern and its ports reads as that pattern and those ports.
+//! The written text of a pattern and its ports reads as that pattern and those ports.
+//!
+//! The function here does nothing: its clauses are the laws.
+//!
+//! Theorem: `written_text_reads` (`pattern`, `ports`, `text`).
 #![tactic(auto)]
 
 ghost use Rattle.std.specs.Prelude.{List};

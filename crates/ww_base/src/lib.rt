@@ -1,4 +1,6 @@
-//! Where a program reads from and writes to: sources and sinks, over the standard streams and in memory, and the calls that read or write all.
+//! Byte sources and sinks, over the standard streams and in memory, and the calls that read or write everything.
+//!
+//! Theorem: `read_all` (`all`, `front`), `write_all` (`ok`, `front`).
 #![tactic(auto)]
 
 mod fakes;

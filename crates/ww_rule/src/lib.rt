@@ -1,4 +1,6 @@
 //! Wireworld: states, patterns, planes and the rule.
+//!
+//! Theorem: `step_plain`, `step_driven`; definitions `next_plane`, `driven`.
 #![tactic(auto)]
 
 mod cell_rows;
