@@ -1,11 +1,14 @@
 // docs/TILES.md, byte for byte.
 pub const PAGE: &str = "# Tiles
 
+This page is generated: a test of `layout_tests` compares all that follows the introduction with what the drawings of
+`tile_library` print, and the gate compares the page with `crates/layout_tests/src/tiles/page.rt`, byte for byte.
+
 Every tile is 32 columns wide, and one or two lanes of 16 rows high. A signal is an electron: a head with its tail behind
-it. If entries are heads at generation 0, the exits that the table names are heads at generation 31, and no others are.
+it. Where entries are heads at generation 0, the exits with a 1 in the table are heads at generation 31, and no others.
 
 In the drawings `.` is an empty cell and `C` a conductor. The ports are conductors too: `a` is the upper entry and `b` the
-lower one, `y` the upper exit and `z` the lower one; a tile of one lane has `a` and `y` alone.
+lower one, `y` the upper exit and `z` the lower one; a tile of one lane has only `a` and `y`.
 
 ## Swap
 
