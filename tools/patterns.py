@@ -69,3 +69,14 @@ def read_pattern(text):
     pattern.width, pattern.height = int(header[1]), int(header[2])
     read_cells(pattern, "".join(body[1:]))
     return pattern
+
+
+def taken_near(pattern):
+    """Gives for each port its name and the conductors (x, y) in its row and the rows beside it, west of an input or east of an output."""
+    rows = {}
+    for x, y, length, _ in pattern.runs:
+        rows.setdefault(y, []).append((x, x + length - 1))
+    for name, (x, y) in pattern.inputs.items():
+        yield name, [(first, row) for row in (y - 1, y, y + 1) for first, _ in rows.get(row, []) if first < x]
+    for name, (x, y) in pattern.outputs.items():
+        yield name, [(last, row) for row in (y - 1, y, y + 1) for _, last in rows.get(row, []) if last > x]
