@@ -2,11 +2,13 @@
 //! cycle, and what the plane shows of them. The functions here do nothing; their clauses are the laws.
 #![tactic(auto)]
 
+mod beside;
 mod cycles;
 mod entries;
 mod shown;
 mod waves;
 
+pub use beside::ports_stand_free;
 pub use cycles::{cycles_are_inputs, edges_run_by_cycles, plans_run_by_cycles};
 pub use entries::{
     driven_edges_go_on, free_entries_go_dark, inputs_are_entries, inputs_enter, plans_start,
