@@ -1,5 +1,5 @@
 -- What stands beside the ports of a plan.
-use Rattle.std.proofs.Common.{◌≡◌, refl, ◌∙◌, ap, Bool, true, false, pos, ℕ, ◌+◌, ◌-◌, ◌*◌, ◌/◌, ◌%◌, ◌<◌, ◌≤◌, ◌&&◌, ◌||◌, cond, ⊎_elim, length, arith, int_eq}
+use Rattle.std.proofs.Common.{◌≡◌, refl, ◌∙◌, ap, Bool, true, false, pos, ℕ, ◌-◌, ◌*◌, ◌/◌, ◌%◌, ◌<◌, ◌≤◌, ◌&&◌, ◌||◌, cond, ⊎_elim, arith, int_eq}
 use Rattle.std.specs.Prelude.{◌==◌, slice_index}
 use Rattle.std.specs.List.{list_any}
 use Rattle.std.proofs.lemmas.Bool.{cases_lt, cond-false, false_from_ne_true}
@@ -15,11 +15,11 @@ use Rattle.tiling.specs.Tiling.Slot.{Nothing, Whole}
 use Rattle.lane_core.specs.declared.plan.Plan.{Plan}
 use Rattle.lane_core.specs.Plans.{IsAdmissible}
 use Rattle.lane_core.specs.Entering.{first_loop_lane}
-use Rattle.plan_layout.specs.Layout.{turn_slot, end_of_body, upper_left, in_body, upper_right, tiling_of}
+use Rattle.plan_layout.specs.Layout.{end_of_body, upper_left, in_body, upper_right, tiling_of}
 use Rattle.plan_layout.specs.Planes.{plane_with}
 use Rattle.plan_layout.proofs.Matched.{tiling_of-upper}
 use Rattle.plan_layout.proofs.Columns.{by_column-right}
-use Rattle.plan_waves.specs.Beside.{IsRowOf, HasFreePorts, PortsStandFree}
+use Rattle.plan_waves.specs.Beside.{PortsStandFree}
 use Rattle.plan_waves.proofs.Parts.{nothing_left, turn_beyond}
 
 -- an output cell draws nothing beyond its first column
