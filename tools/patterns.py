@@ -28,7 +28,7 @@ def read_table_line(pattern, words):
         pattern.outputs[words[3]] = (int(words[1]), int(words[2]))
     elif words[0] == "NET":
         pattern.nets.append((int(words[1]), int(words[2]), int(words[3]), words[4], words[5]))
-    else:
+    elif words[0].isdecimal():
         pattern.period, pattern.latency = int(words[2]), int(words[4])
 
 
