@@ -13,3 +13,4 @@ pub mod DrivenCycles
 pub mod EdgesShown
 pub mod Plane
 pub mod Rows
+pub mod FreePorts

@@ -60,7 +60,7 @@ turn_across loops away off along corner across a b =
     ∙ ap (λ t. Whole (Tile (cond t along (cond (away == off) corner across)))) no
     ∙ ap (λ t. Whole (Tile (cond t corner across))) no'
 
-turn_beyond : (loops away off : ℕ) (along corner across : Kind) → loops ≤ off → turn_slot loops away off along corner across ≡ Nothing
+pub turn_beyond : (loops away off : ℕ) (along corner across : Kind) → loops ≤ off → turn_slot loops away off along corner across ≡ Nothing
 turn_beyond loops away off along corner across far =
     let no : (ltb away loops && ltb off loops) ≡ false = grind (arith, nat_tests) in
     cond-false (ltb away loops && ltb off loops) (Whole (Tile (cond (ltb away off) along (cond (away == off) corner across)))) Nothing no

@@ -5,3 +5,4 @@ pub mod Cycles
 pub mod ShownEdges
 pub mod Shown
 pub mod InputRows
+pub mod Beside

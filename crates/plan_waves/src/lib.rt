@@ -5,11 +5,13 @@
 //! Theorem: `plans_show_rows`, `plans_show_runs`, `plans_show_edges`.
 #![tactic(auto)]
 
+mod beside;
 mod cycles;
 mod entries;
 mod shown;
 mod waves;
 
+pub use beside::ports_stand_free;
 pub use cycles::{cycles_are_inputs, edges_run_by_cycles, plans_run_by_cycles};
 pub use entries::{
     driven_edges_go_on, free_entries_go_dark, inputs_are_entries, inputs_enter, plans_start,

@@ -1,0 +1,82 @@
+"""Reads patterns in extended RLE with their port tables, for the scripts in this folder. Texts are read as Latin-1: a character a byte."""
+import re
+from dataclasses import dataclass, field
+
+TILE = 32  # a tile's columns; the generations that an electron needs for it
+LANE = 16  # a lane's rows
+
+
+@dataclass
+class Pattern:
+    """A pattern and its port table. A run is (x, y, length, letter), where the letter is A (heads), B (tails) or C (conductors)."""
+
+    width: int = 0
+    height: int = 0
+    period: int = 32
+    latency: int = 0
+    runs: list = field(default_factory=list)
+    inputs: dict = field(default_factory=dict)  # name: (x, y)
+    outputs: dict = field(default_factory=dict)  # name: (x, y)
+    nets: list = field(default_factory=list)  # (x, y, offset, name, path)
+
+
+def read_table_line(pattern, words):
+    """Adds a line of the port table, which begins `#C BLIFWW`, to a pattern."""
+    if words[0] == "IN":
+        pattern.inputs[words[3]] = (int(words[1]), int(words[2]))
+    elif words[0] == "OUT":
+        pattern.outputs[words[3]] = (int(words[1]), int(words[2]))
+    elif words[0] == "NET":
+        pattern.nets.append((int(words[1]), int(words[2]), int(words[3]), words[4], words[5]))
+    elif words[0].isdecimal():
+        pattern.period, pattern.latency = int(words[2]), int(words[4])
+
+
+def read_cells(pattern, items):
+    """Adds the runs that the items of RLE spell to a pattern."""
+    x = y = 0
+    for count, tag in re.findall(r"(\d*)([.ABC$!])", items):
+        n = int(count or 1)
+        if tag == "!":
+            return
+        if tag == "$":
+            x, y = 0, y + n
+            continue
+        if tag != ".":
+            pattern.runs.append((x, y, n, tag))
+        x += n
+
+
+def read_pattern(text):
+    """Returns the pattern that a text of RLE says, or that the lines of `window` show. Raises ValueError where there is none."""
+    lines = text.split("\n")
+    pattern = Pattern()
+    body = []
+    for line in lines:
+        if line.startswith("#C BLIFWW "):
+            read_table_line(pattern, line.rstrip("\r").split(" ")[2:])
+        elif not line.startswith("#"):
+            body.append(line)
+    if not body or not body[0].strip():
+        raise ValueError("the text is empty")
+    if set(body[0]) <= set(".ABC"):
+        pattern.width, pattern.height = len(body[0]), len(body) - (body[-1] == "")
+        read_cells(pattern, "$".join(body))
+        return pattern
+    header = re.match(r"x = (\d+), y = (\d+)", body[0])
+    if not header:
+        raise ValueError(f"this is no pattern's header: {body[0][:60]}")
+    pattern.width, pattern.height = int(header[1]), int(header[2])
+    read_cells(pattern, "".join(body[1:]))
+    return pattern
+
+
+def taken_near(pattern):
+    """Gives for each port its name and the conductors (x, y) in its row and the rows beside it, west of an input or east of an output."""
+    rows = {}
+    for x, y, length, _ in pattern.runs:
+        rows.setdefault(y, []).append((x, x + length - 1))
+    for name, (x, y) in pattern.inputs.items():
+        yield name, [(first, row) for row in (y - 1, y, y + 1) for first, _ in rows.get(row, []) if first < x]
+    for name, (x, y) in pattern.outputs.items():
+        yield name, [(last, row) for row in (y - 1, y, y + 1) for _, last in rows.get(row, []) if last > x]
