@@ -8,7 +8,7 @@ use Rattle.ww_rule.proofs.Lists.{streams_go_on}
 use Rattle.netlist_meaning.specs.Valuation.{output_bit}
 use Rattle.netlist_meaning.proofs.Joined.{in_names_are_one}
 use Rattle.pattern_reading.specs.Ports.{cells_of, names_of}
-use Rattle.carries.specs.Carries.{ShowsOutput}
+use Rattle.carries.specs.Cells.{ShowsOutput}
 use Rattle.carries.specs.Shown.{CarriesCycles, CarriesOnward, CarriesEachFront, RowsFitPorts}
 use Rattle.carries.proofs.Period.{has_period}
 
@@ -24,7 +24,7 @@ carries_cycles text design c rows are run is =
     }
   where
     period : c.ports.p ≢ 0
-    period = has_period text c.grid.width c.grid.height c.ports c.table
+    period = has_period text c.grid.width c.grid.height c.ports c.spells.table
 
     in_time : (t : ℕ) → t < length rows → c.ports.l + t * c.ports.p < c.ports.l + length rows * c.ports.p
     in_time t lt =

@@ -7,7 +7,8 @@ use Rattle.pattern_reading.specs.declared.ports.PortLine.{PortLine}
 use Rattle.netlist_core.specs.declared.model.Design.{Design}
 use Rattle.netlist_meaning.specs.Valuation.{Valuation, AreInputRows, IsRun, output_bit}
 use Rattle.pattern_reading.specs.declared.ports.Ports.{Ports}
-use Rattle.carries.specs.Carries.{Carries, NamesPorts, ShowsOutput, drive}
+use Rattle.carries.specs.Cells.{ShowsOutput, drive}
+use Rattle.carries.specs.Carries.{Carries, NamesPorts}
 
 -- where the table names the design's inputs, input rows have a bit for each IN line
 abbrev pub RowsFitPorts : Type 0

@@ -2,7 +2,7 @@
 //! nothing; their clauses are laws of the definition.
 #![tactic(auto)]
 
-ghost use Rattle.carries.specs.Laws.{CarriesInOneWay, BareIsCarried, GateIsNotBare};
+ghost use Rattle.carries.specs.Laws.{CarriesInOneWay, OutputsHaveLines};
 ghost use Rattle.carries.specs.Shown.{CarriesCycles, CarriesOnward, CarriesEachFront, RowsFitPorts};
 
 /// A text that carries a design reads as one pattern and one table.
@@ -10,10 +10,9 @@ pub fn carries_in_one_way()
     ensures { CarriesInOneWay }
 {}
 
-/// A text without ports carries a model without ports, and no model that has an output.
-pub fn bare_text_carries_bare_model()
-    ensures carried { BareIsCarried }
-    ensures no_other { GateIsNotBare }
+/// A text without OUT lines carries no model with an output.
+pub fn outputs_have_lines()
+    ensures { OutputsHaveLines }
 {}
 
 /// Driven by rows of input bits, a pattern that carries a design has the cell of an output as a head at generation

@@ -1,8 +1,8 @@
-//! What is compiled of a design carries it: a plan that computes a list of cells, which computes the flat netlist of the
-//! design. The functions here do nothing; their clauses are the laws.
+//! What is compiled of a flat netlist carries it, and so the design that the flat netlist is of. The functions here do nothing; their
+//! clauses are the laws.
 #![tactic(auto)]
 
-ghost use Rattle.plan_carries.specs.Laws.{PlansHavePorts, PlanesShowRuns, TextsCarry, TextsCarryNets};
+ghost use Rattle.plan_carries.specs.Laws.{DesignsAreCarried, DesignsHaveTablePlaces, PlansHavePorts, PlanesShowRuns, TextsCarryFlats};
 
 use grid_assembly::laws::{keeps_law, patterns_are_planes};
 use plan_ports::tables_are_readable;
@@ -14,14 +14,14 @@ pub fn plans_have_ports()
     ensures { PlansHavePorts }
 {}
 
-/// The plane of the plan shows the design's runs.
+/// The plane of the plan shows the runs of the flat netlist.
 pub fn planes_show_runs()
     ensures { PlanesShowRuns }
 {}
 
-/// The text that is written of the plan and its table carries the design.
-pub fn texts_carry()
-    ensures { TextsCarry }
+/// The text that is written of the plan and its table carries the flat netlist.
+pub fn texts_carry_flats()
+    ensures { TextsCarryFlats }
 {
     keeps_law(&Shipped);
     patterns_are_planes();
@@ -30,13 +30,12 @@ pub fn texts_carry()
     planes_show_runs();
 }
 
-/// And its nets.
-pub fn texts_carry_nets()
-    ensures { TextsCarryNets }
-{
-    keeps_law(&Shipped);
-    patterns_are_planes();
-    written_text_reads();
-    tables_are_readable();
-    planes_show_runs();
-}
+/// The places of a design's nets can stand in a port table.
+pub fn designs_have_table_places()
+    ensures { DesignsHaveTablePlaces }
+{}
+
+/// A text that carries the flat netlist of a design without a fault carries the design and its nets.
+pub fn designs_are_carried()
+    ensures { DesignsAreCarried }
+{}
