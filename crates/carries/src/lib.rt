@@ -3,7 +3,7 @@
 #![tactic(auto)]
 
 ghost use Rattle.carries.specs.Laws.{CarriesInOneWay, OutputsHaveLines};
-ghost use Rattle.carries.specs.Shown.{CarriesCycles, CarriesOnward, CarriesEachFront, RowsFitPorts};
+ghost use Rattle.carries.specs.Shown.{CarriesCycles, CarriesNetCycles, CarriesOnward, CarriesEachFront, RowsFitPorts};
 
 /// A text that carries a design reads as one pattern and one table.
 pub fn carries_in_one_way()
@@ -16,9 +16,11 @@ pub fn outputs_have_lines()
 {}
 
 /// Driven by rows of input bits, a pattern that carries a design has the cell of an output as a head at generation
-/// L + t P, for each cycle t, exactly when the output's bit is 1 in that cycle of a run, and never below L.
+/// L + t P, for each cycle t, exactly when the output's bit is 1 in that cycle of a run, and never below L; and the cell of a net
+/// so at generation offset + t P.
 pub fn carries_cycles()
-    ensures { CarriesCycles }
+    ensures outputs { CarriesCycles }
+    ensures nets { CarriesNetCycles }
 {}
 
 /// Without further input bits it goes on, without a last generation, to show the run whose further input bits are 0; and

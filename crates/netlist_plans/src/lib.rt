@@ -1,4 +1,4 @@
-//! From a flat netlist with an order of its covers to a plan and its port table, whose text carries the design and its nets.
+//! From a flat netlist with an order of its covers to a plan and its port table, whose text carries the flat netlist.
 #![tactic(auto)]
 
 mod error;

@@ -158,7 +158,7 @@ net_cell plan place = cell_after plan place.lane place.after
 
 -- where the cell of a net is
 net_cell_is : (flat : Flat) (plan : Plan) (ports : Ports) → IsTableOf flat plan ports → (number : ℕ) (line : NetLine) → slice_get ports.nets number ≡ Some line
-    → (number < length plan.nets) × (place_of_line line ≡ net_net_cell plan number)
+    → (number < length plan.nets) × (place_of_line line ≡ net_cell_of plan number)
 net_cell_is flat plan ports table number line e =
     let low : number < length ports.nets = slice_get_within ports.nets number line e in
     let one : length (map place_of_line ports.nets) ≡ length ports.nets = length-map ports.nets place_of_line in

@@ -3,7 +3,7 @@ use Rattle.std.proofs.Common.{◌≡◌, sym, ◌∙◌, ap, subst, ℕ, zero, s
 use Rattle.std.specs.Prelude.{Some, slice_get, option_map, All}
 use Rattle.std.proofs.lemmas.List.{length-map}
 use Rattle.std.proofs.lemmas.Option.{slice_get-map, slice_get-get_or, slice_get_within}
-use Rattle.ww_rule.specs.Wireworld.{Plane}
+use Rattle.ww_rule.specs.Wireworld.{Plane, driven}
 use Rattle.ww_rule.specs.Grid.{plane_of}
 use Rattle.netlist_core.specs.declared.model.Design.{Design}
 use Rattle.netlist_core.specs.declared.flat.Flat.{Flat}
@@ -22,7 +22,7 @@ use Rattle.flat_designs.specs.Laws.{state_in_order, class_bits, net_bits, HasVal
 use Rattle.flat_designs.proofs.Valuations.{valuations_are_flat}
 use Rattle.flat_designs.proofs.Whole.{ports_are_flat}
 use Rattle.pattern_reading.specs.declared.ports.Ports.{Ports}
-use Rattle.carries.specs.Cells.{ShowsBitsFrom}
+use Rattle.carries.specs.Cells.{ShowsBitsFrom, drive}
 use Rattle.carries.specs.Carries.{NamesPorts, ShowsRuns, Carries}
 use Rattle.carries.specs.Nets.{ShowsNets}
 use Rattle.carries.specs.FlatNets.{NamesFlat, ShowsFlatRuns}
@@ -113,13 +113,15 @@ module _ (design : Design) (flat : Flat) (faultless : AreFaultless design.models
       conductors = λ rows are. shown.conductors rows (flat_rows rows are);
       runs = λ rows are. (let found = shown.runs rows (flat_rows rows are) in (run_of found.0, is_run rows found.0 found.1));
       heads = λ rows are run is output cell e g early.
-          same_shown ports.l ports.p (length rows) _ _ g _ cell.x cell.y (same_output rows are run is output)
+          same_shown ports.l ports.p (length rows) (λ t. flat_output_bit flat (own rows are run is t) output) (λ t. output_bit design (run t) output) g (driven (drive ports rows) plane g) cell.x cell.y
+          (same_output rows are run is output)
           (shown.heads rows (flat_rows rows are) (own rows are run is) (own_run rows are run is) output cell e g early);
     }
 
     pub shows_nets : ShowsNets plane ports design (seen_nets design flat)
     shows_nets rows are run is number net line is_net is_line g early =
-        same_shown line.offset ports.p (length rows) _ _ g _ line.x line.y (same_net rows are run is number net is_net)
+        same_shown line.offset ports.p (length rows) (λ t. own rows are run is t (class_of_net design net)) (λ t. run t net.place net.name) g (driven (drive ports rows) plane g) line.x line.y
+        (same_net rows are run is number net is_net)
         (shown.nets rows (flat_rows rows are) (own rows are run is) (own_run rows are run is) number (flat_net design net) line (seen_at number net is_net) is_line g early)
 
   pub names_ports : (ports : Ports) → NamesFlat ports flat → NamesPorts ports design

@@ -37,7 +37,6 @@ use Rattle.design_places.proofs.FewLines.{lines_are_few}
 use Rattle.place_paths.specs.Paths.{HasTableNumbers, name_and_path}
 use Rattle.plan_ports.specs.Tables.{HasTablePlaces, named_paths}
 use Rattle.carries.specs.Nets.{WithoutClocks, AreSeenNets}
-use Rattle.plan_carries.specs.Laws.{DesignsHaveTablePlaces}
 
 -- The numbers of places are no greater than a table may write.
 
@@ -57,7 +56,8 @@ place_fits design faultless small net (m, is_m, named) =
     let (main, is_main, below) = and_then-from (model_below design net.place) (main_model design) m is_m in
     numbers_fit design faultless small [] net.place main m (ap (option_and_then (model_below design [])) is_main) below
 
-pub places_fit : DesignsHaveTablePlaces
+-- the places of the nets of a design's flat netlist can stand in a port table
+pub places_fit : (design : Design) (flat : Flat) → AreFaultless design.models → weight design < 2 ^ 31 → IsFlatOf design flat → HasTablePlaces flat
 places_fit design flat faultless small h = record {
   numbers = subst (All (λ (net : FlatNet). HasTableNumbers net.place)) (sym h.nets)
       (All-map (λ (net : FlatNet). HasTableNumbers net.place) (flat_net design) (nets_in_order design)

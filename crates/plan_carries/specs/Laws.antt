@@ -1,5 +1,5 @@
 -- What is compiled of a flat netlist shows its runs, and a text that carries a design's flat netlist carries the design.
-use Rattle.std.specs.Prelude.{ℕ, ◌<◌, ◌^◌, List}
+use Rattle.std.specs.Prelude.{ℕ, List}
 use Rattle.tile_core.specs.declared.kind.Kind.{Kind}
 use Rattle.tile_core.specs.Drawing.{Drawing}
 use Rattle.tiling.specs.Steps.{KeepsLaw}
@@ -9,7 +9,6 @@ use Rattle.grid_assembly.specs.PlanDrawing.{start_grid}
 use Rattle.cell_core.specs.declared.list.CellList.{CellList}
 use Rattle.netlist_core.specs.declared.model.Design.{Design}
 use Rattle.netlist_core.specs.declared.flat.Flat.{Flat}
-use Rattle.netlist_meaning.specs.Weight.{weight}
 use Rattle.netlist_meaning.specs.FlatOf.{IsFlatOf}
 use Rattle.netlist_rules.specs.ModelFaults.{AreFaultless}
 use Rattle.netlist_rules.specs.Clocks.{HasNoClockFault}
@@ -18,7 +17,7 @@ use Rattle.written_reads.specs.Laws.{pattern_text}
 use Rattle.carries.specs.FlatNets.{CarriesFlat, ShowsFlatRuns}
 use Rattle.carries.specs.Nets.{CarriesNets}
 use Rattle.cell_lanes.specs.Computes.{ComputesByPlan}
-use Rattle.plan_ports.specs.Tables.{HasPortsOf, HasTablePlaces}
+use Rattle.plan_ports.specs.Tables.{HasPortsOf}
 use Rattle.plan_carries.specs.Compiled.{ComputesFlat, IsCompiled}
 
 -- a plan that computes the list of a flat netlist has its inputs and outputs
@@ -36,10 +35,6 @@ abbrev pub TextsCarryFlats : Type 0
 TextsCarryFlats =
     (flat : Flat) (list : CellList) (plan : Plan) (ports : Ports)
     → IsCompiled flat list plan ports → CarriesFlat (pattern_text (start_grid plan) ports) flat
-
--- the places of the nets of a design's flat netlist can stand in a port table
-abbrev pub DesignsHaveTablePlaces : Type 0
-DesignsHaveTablePlaces = (design : Design) (flat : Flat) → AreFaultless design.models → weight design < 2 ^ 31 → IsFlatOf design flat → HasTablePlaces flat
 
 -- a text that carries the flat netlist of a design carries the design and its nets, whoever wrote the text
 abbrev pub DesignsAreCarried : Type 0

@@ -2,7 +2,7 @@
 //! clauses are the laws.
 #![tactic(auto)]
 
-ghost use Rattle.plan_carries.specs.Laws.{DesignsAreCarried, DesignsHaveTablePlaces, PlansHavePorts, PlanesShowRuns, TextsCarryFlats};
+ghost use Rattle.plan_carries.specs.Laws.{DesignsAreCarried, PlansHavePorts, PlanesShowRuns, TextsCarryFlats};
 
 use grid_assembly::laws::{keeps_law, patterns_are_planes};
 use plan_ports::tables_are_readable;
@@ -29,11 +29,6 @@ pub fn texts_carry_flats()
     tables_are_readable();
     planes_show_runs();
 }
-
-/// The places of a design's nets can stand in a port table.
-pub fn designs_have_table_places()
-    ensures { DesignsHaveTablePlaces }
-{}
 
 /// A text that carries the flat netlist of a design without a fault carries the design and its nets.
 pub fn designs_are_carried()
