@@ -16,6 +16,7 @@ use Rattle.netlist_text.specs.Causes.{HasNetlistCause}
 use Rattle.netlist_text.specs.declared.error.NetlistError.{NetlistError}
 use Rattle.netlist_text.specs.declared.error.NetlistError.TheVariants as netlist_of
 use Rattle.netlist_plans.specs.Planned.{ComputesCells, HasLanes, IsSmall}
+use Rattle.netlist_plans.specs.NetPlaces.{HasNetPlaces}
 use Rattle.carries.specs.Nets.{CarriesNets}
 use Rattle.carries.specs.FlatNets.{CarriesFlat}
 use Rattle.plan_carries.specs.Laws.{DesignsAreCarried}
@@ -34,9 +35,9 @@ compile_refused text netlist_of.NoMemory h = tt
 
 -- and what it gives
 pub compiles : FlatIsOne → DesignsAreCarried → (text : List ℕ) (design : Design) (flat : Flat) (order : List ℕ) (plan : Plan) (ports : Ports) → IsNetlist text design → AreParts design flat order
-    → IsAdmissible plan → IsTableOf flat plan ports → ComputesCells flat plan → HasLanes flat plan → CarriesFlat (pattern_text (start_grid plan) ports) flat → IsSmall flat plan → (length flat.latches ≡ 0 → any_needs_one flat ≡ false → ports.p ≡ 32)
+    → IsAdmissible plan → IsTableOf flat plan ports → ComputesCells flat plan → HasLanes flat plan → HasNetPlaces flat plan → CarriesFlat (pattern_text (start_grid plan) ports) flat → IsSmall flat plan → (length flat.latches ≡ 0 → any_needs_one flat ≡ false → ports.p ≡ 32)
     → Compiles text (pattern_text (start_grid plan) ports)
-compiles one law text design flat order plan ports is p admissible table cells size carries few period =
+compiles one law text design flat order plan ports is p admissible table cells size places carries few period =
     let nets : CarriesNets (pattern_text (start_grid plan) ports) design = law (pattern_text (start_grid plan) ports) design flat p.faultless p.clocks p.is_flat carries in
     record {
       design = design;
@@ -52,5 +53,6 @@ compiles one law text design flat order plan ports is p admissible table cells s
       table = λ other h. subst (λ (f : Flat). IsTableOf f plan ports) (one design flat other p.is_flat h) table;
       cells = λ other h. subst (λ (f : Flat). ComputesCells f plan) (one design flat other p.is_flat h) cells;
       size = λ other h. subst (λ (f : Flat). HasLanes f plan) (one design flat other p.is_flat h) size;
+      places = λ other h. subst (λ (f : Flat). HasNetPlaces f plan) (one design flat other p.is_flat h) places;
       period = λ other h. subst (λ (f : Flat). length f.latches ≡ 0 → any_needs_one f ≡ false → ports.p ≡ 32) (one design flat other p.is_flat h) period;
     }

@@ -36,4 +36,4 @@ returns-in_err-netlist-clause-refused c =
 pub returns-clause-printed : goal.returns-clause-printed
 returns-clause-printed c =
     compiles c.flat_is_one.ensures c.designs_are_carried.ensures c.args.text.now c.in_ok-netlist.netlist.design c.in_ok-netlist.netlist.flat _ c.in_ok-planned.planned.plan c.in_ok-planned.planned.ports
-    c.in_ok-netlist.ensures.netlist c.in_ok-netlist.ensures.parts c.in_ok-planned.ensures.admissible c.in_ok-planned.ensures.table c.in_ok-planned.ensures.cells c.in_ok-planned.ensures.lanes c.in_ok-planned.ensures.carries c.in_ok-planned.ensures.small c.in_ok-planned.ensures.period
+    c.in_ok-netlist.ensures.netlist c.in_ok-netlist.ensures.parts c.in_ok-planned.ensures.admissible c.in_ok-planned.ensures.table c.in_ok-planned.ensures.cells c.in_ok-planned.ensures.lanes c.in_ok-planned.ensures.places c.in_ok-planned.ensures.carries c.in_ok-planned.ensures.small c.in_ok-planned.ensures.period
