@@ -1,4 +1,4 @@
-//! Checks models against the rules on models: they are a design, or have a first fault.
+//! Checks models against the rules on models: they are a design, or have a first fault; and the clocks of a flat netlist.
 //!
 //! Theorem: `check` (`faultless`, `passes`, `fault`).
 #![tactic(auto)]
@@ -8,6 +8,7 @@ mod error;
 mod rules;
 
 pub use checking::check;
+pub use clock_check::check_clock;
 pub use error::CheckError;
 pub use netlist_core::{Design, Model};
 pub use netlist_rules::{Fault, FaultKind};

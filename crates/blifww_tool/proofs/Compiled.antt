@@ -15,7 +15,11 @@ use Rattle.netlist_text.specs.Parts.{AreParts}
 use Rattle.netlist_text.specs.Causes.{HasNetlistCause}
 use Rattle.netlist_text.specs.declared.error.NetlistError.{NetlistError}
 use Rattle.netlist_text.specs.declared.error.NetlistError.TheVariants as netlist_of
-use Rattle.netlist_plans.specs.Planned.{CarriesDesigns, CarriesNetsOfDesigns, ComputesCells, HasLanes, IsSmall}
+use Rattle.netlist_plans.specs.Planned.{ComputesCells, HasLanes, IsSmall}
+use Rattle.netlist_plans.specs.NetPlaces.{HasNetPlaces}
+use Rattle.carries.specs.Nets.{CarriesNets}
+use Rattle.carries.specs.FlatNets.{CarriesFlat}
+use Rattle.plan_carries.specs.Laws.{DesignsAreCarried}
 use Rattle.plan_ports.specs.Tables.{IsTableOf}
 use Rattle.command_words.specs.Shapes.{compile}
 use Rattle.blifww_tool.specs.Commands.{HasTextCause}
@@ -30,22 +34,25 @@ compile_refused text (netlist_of.Loop names) h = h
 compile_refused text netlist_of.NoMemory h = tt
 
 -- and what it gives
-pub compiles : FlatIsOne → (text : List ℕ) (design : Design) (flat : Flat) (order : List ℕ) (plan : Plan) (ports : Ports) → IsNetlist text design → AreParts design flat order
-    → IsAdmissible plan → IsTableOf flat plan ports → ComputesCells flat plan → HasLanes flat plan → CarriesDesigns flat plan ports → CarriesNetsOfDesigns flat plan ports → IsSmall flat plan → (length flat.latches ≡ 0 → any_needs_one flat ≡ false → ports.p ≡ 32)
+pub compiles : FlatIsOne → DesignsAreCarried → (text : List ℕ) (design : Design) (flat : Flat) (order : List ℕ) (plan : Plan) (ports : Ports) → IsNetlist text design → AreParts design flat order
+    → IsAdmissible plan → IsTableOf flat plan ports → ComputesCells flat plan → HasLanes flat plan → HasNetPlaces flat plan → CarriesFlat (pattern_text (start_grid plan) ports) flat → IsSmall flat plan → (length flat.latches ≡ 0 → any_needs_one flat ≡ false → ports.p ≡ 32)
     → Compiles text (pattern_text (start_grid plan) ports)
-compiles one text design flat order plan ports is p admissible table cells size carries nets few period = record {
-  design = design;
-  netlist = is;
-  plan = plan;
-  ports = ports;
-  admissible = admissible;
-  written = refl;
-  carries = carries text design is.is.design_of is.clocks p.is_flat;
-  nets = nets text design is.is.design_of is.clocks p.is_flat;
-  lanes = subst (λ (w : ℕ). plan.lanes ≤ 4 * w + 4) p.is_flat.weight few.lanes;
-  columns = subst (λ (w : ℕ). length plan.columns ≤ 256 * ((w + 1) * (w + 1))) p.is_flat.weight few.columns;
-  table = λ other h. subst (λ (f : Flat). IsTableOf f plan ports) (one design flat other p.is_flat h) table;
-  cells = λ other h. subst (λ (f : Flat). ComputesCells f plan) (one design flat other p.is_flat h) cells;
-  size = λ other h. subst (λ (f : Flat). HasLanes f plan) (one design flat other p.is_flat h) size;
-  period = λ other h. subst (λ (f : Flat). length f.latches ≡ 0 → any_needs_one f ≡ false → ports.p ≡ 32) (one design flat other p.is_flat h) period;
-}
+compiles one law text design flat order plan ports is p admissible table cells size places carries few period =
+    let nets : CarriesNets (pattern_text (start_grid plan) ports) design = law (pattern_text (start_grid plan) ports) design flat p.faultless p.clocks p.is_flat carries in
+    record {
+      design = design;
+      netlist = is;
+      plan = plan;
+      ports = ports;
+      admissible = admissible;
+      written = refl;
+      carries = nets.carried;
+      nets = nets;
+      lanes = subst (λ (w : ℕ). plan.lanes ≤ 4 * w + 4) p.is_flat.weight few.lanes;
+      columns = subst (λ (w : ℕ). length plan.columns ≤ 256 * ((w + 1) * (w + 1))) p.is_flat.weight few.columns;
+      table = λ other h. subst (λ (f : Flat). IsTableOf f plan ports) (one design flat other p.is_flat h) table;
+      cells = λ other h. subst (λ (f : Flat). ComputesCells f plan) (one design flat other p.is_flat h) cells;
+      size = λ other h. subst (λ (f : Flat). HasLanes f plan) (one design flat other p.is_flat h) size;
+      places = λ other h. subst (λ (f : Flat). HasNetPlaces f plan) (one design flat other p.is_flat h) places;
+      period = λ other h. subst (λ (f : Flat). length f.latches ≡ 0 → any_needs_one f ≡ false → ports.p ≡ 32) (one design flat other p.is_flat h) period;
+    }

@@ -15,3 +15,4 @@ pub mod Ended
 pub mod Stopped
 pub mod Statuses
 pub mod PrintsAlike
+pub mod PrintsNet

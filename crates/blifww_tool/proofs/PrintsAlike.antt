@@ -3,15 +3,13 @@ use Rattle.std.proofs.Common.{ℕ, ◌≡◌, sym, ap, ap₂, ◌∙◌, subst, 
 use Rattle.ww_rule.specs.Grid.{Grid, plane_of}
 use Rattle.pattern_reading.specs.declared.ports.Ports.{Ports}
 use Rattle.pattern_reading.specs.Ports.{names_of}
-use Rattle.pattern_reading.specs.PortTable.{ReadsAsPorts}
-use Rattle.pattern_reading.proofs.RleLaws.{one_pattern}
-use Rattle.pattern_reading.proofs.PortLaws.{one_table}
 use Rattle.netlist_core.specs.declared.model.Design.{Design}
 use Rattle.netlist_core.specs.Names.{Name}
 use Rattle.netlist_meaning.specs.Places.{main_outputs}
 use Rattle.netlist_meaning.specs.Valuation.{Valuation, IsRun}
 use Rattle.netlist_text.specs.Laws.{TextsAreDecided}
 use Rattle.carries.specs.Carries.{Carries}
+use Rattle.carries.proofs.OneWay.{one_spelling}
 use Rattle.drive.specs.declared.streams.Streams.{Streams}
 use Rattle.drive.specs.Streams.{HasStreams}
 use Rattle.drive.specs.Driving.{rows_of, shown_at}
@@ -30,9 +28,9 @@ same_lines : CarriersShowRuns → StreamsMatch → (text netlist : List ℕ) (cy
     → IsSimulation cycles words text s → IsEvaluation cycles words netlist e → Carries text e.design → (run : ℕ → Valuation) → IsRun e.design (rows_of e.streams) run
     → simulation_text s ≡ evaluation_text e run
 same_lines law match text netlist cycles words s e simulated evaluated c run is_run =
-    let grid : c.grid ≡ s.grid = one_pattern text c.grid s.grid c.reads simulated.pattern.0 in
-    let ports : c.ports ≡ s.ports =
-    one_table text c.grid.width c.grid.height c.ports s.ports c.table (subst (λ (g : Grid). ReadsAsPorts text g.width g.height s.ports) (sym grid) simulated.table) in
+    let read = one_spelling text c.grid s.grid c.ports s.ports c.spells (record { reads = simulated.pattern.0; table = simulated.table }) in
+    let grid : c.grid ≡ s.grid = read.0 in
+    let ports : c.ports ≡ s.ports = read.1 in
     let of_table : HasStreams words (names_of c.ports.ins) s.streams.cycles s.streams.bits =
     subst (λ (n : ℕ). HasStreams words (names_of c.ports.ins) n s.streams.bits) (sym simulated.many)
     (subst (λ (p : Ports). HasStreams words (names_of p.ins) cycles s.streams.bits) (sym ports) simulated.streams) in

@@ -9,6 +9,7 @@ use crate::output::Output;
 use flat_designs::{flat_is_one, flat_is_sound, flat_is_weighed};
 use netlist_plans::plan_netlist;
 use netlist_text::netlist_of;
+use plan_carries::designs_are_carried;
 use std::alloc::Global;
 
 /// The pattern of the netlist whose text this is, with the lines that say where its ports and nets are.
@@ -21,6 +22,7 @@ pub fn compile(alloc: Global, text: &[u8]) -> Result<Output, TextError>
     flat_is_sound();
     flat_is_weighed();
     flat_is_one();
+    designs_are_carried();
     let planned = plan_netlist(alloc, &netlist.flat, &netlist.order)?;
     Ok(Output::Drawing(planned))
 }

@@ -1,9 +1,9 @@
 //! What is proved of statuses, and of what commands print.
-ghost use Rattle.blifww_tool.specs.PrintsAlike.{CarriersPrintAlike, CompiledPrintAlike};
+ghost use Rattle.blifww_tool.specs.PrintsAlike.{CarriersPrintAlike, CarriersPrintNets, CompiledPrintAlike};
 ghost use Rattle.blifww_tool.specs.Statuses.{StatusesHaveCauses};
 
 use netlist_text::laws::texts_are_decided;
-use shown_runs::{carriers_show_runs, streams_match};
+use shown_runs::{carriers_show_nets, carriers_show_runs, streams_match};
 
 /// Each status of a run comes only where its cause is.
 pub fn statuses_have_causes()
@@ -19,4 +19,11 @@ pub fn carriers_print_alike()
     carriers_show_runs();
     streams_match();
     texts_are_decided();
+}
+
+/// What `probe` prints of a text that carries the nets of a netlist is the line of a net's bits in each run of the netlist.
+pub fn carriers_print_nets()
+    ensures { CarriersPrintNets }
+{
+    carriers_show_nets();
 }

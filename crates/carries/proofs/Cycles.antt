@@ -1,45 +1,62 @@
 -- What a text that carries a design shows, cycle by cycle.
-use Rattle.std.proofs.Common.{All, ℕ, ◌+◌, ◌*◌, ◌<◌, ◌≡◌, ◌≢◌, refl, ap, ◌∙◌, subst, inl, inr, ◌++◌, length, arith}
+use Rattle.std.proofs.Common.{All, pos, ℕ, Bool, true, ◌+◌, ◌*◌, ◌<◌, ◌≡◌, ◌≢◌, ◌↔◌, refl, ap, ◌∙◌, subst, inl, inr, ◌++◌, length, arith}
 use Rattle.std.proofs.lemmas.Bool.{cases_lt}
 use Rattle.std.proofs.lemmas.List.{length-map}
 use Rattle.std.proofs.Math.Nat.{mul-lt-mul_of_pos_right}
+use Rattle.ww_rule.specs.declared.pattern.State.TheVariants.{Head}
+use Rattle.ww_rule.specs.Wireworld.{Plane, driven}
 use Rattle.ww_rule.specs.Grid.{plane_of}
 use Rattle.ww_rule.proofs.Lists.{streams_go_on}
 use Rattle.netlist_meaning.specs.Valuation.{output_bit}
 use Rattle.netlist_meaning.proofs.Joined.{in_names_are_one}
 use Rattle.pattern_reading.specs.Ports.{cells_of, names_of}
-use Rattle.carries.specs.Carries.{ShowsOutput}
-use Rattle.carries.specs.Shown.{CarriesCycles, CarriesOnward, CarriesEachFront, RowsFitPorts}
+use Rattle.carries.specs.Cells.{ShowsBitsFrom, ShowsOutput, drive}
+use Rattle.carries.specs.Shown.{CarriesCycles, CarriesNetCycles, CarriesOnward, CarriesEachFront, RowsFitPorts}
 use Rattle.carries.proofs.Period.{has_period}
 
+-- two cycles begin at two generations
+one_cycle : (first period t u : ℕ) → period ≢ 0 → first + t * period ≡ first + u * period → t ≡ u
+one_cycle first period t u some e =
+    elim (cases_lt t u) [
+      | inl below ↦ let less : t * period < u * period = mul-lt-mul_of_pos_right below (omega (arith, some)) in absurd (omega (arith, e, less))
+      | inr above ↦
+          elim (cases_lt u t) [
+            | inl below ↦ let less : u * period < t * period = mul-lt-mul_of_pos_right below (omega (arith, some)) in absurd (omega (arith, e, less))
+            | inr same ↦ omega (arith, above, same)
+          ]
+    ]
+
+in_time : (first period cycles t : ℕ) → period ≢ 0 → t < cycles → first + t * period < first + cycles * period
+in_time first period cycles t some lt =
+    let less : t * period < cycles * period = mul-lt-mul_of_pos_right lt (omega (arith, some)) in omega (arith, less)
+
+-- at the generation of a cycle a cell shows the cycle's bit
+in_cycle : (first period cycles t : ℕ) (bit : ℕ → Bool) (plane : Plane) (x y : ℕ) → period ≢ 0 → t < cycles
+    → ShowsBitsFrom first period cycles bit (first + t * period) plane x y → (plane (pos x) (pos y) ≡ Head) ↔ (bit t ≡ true)
+in_cycle first period cycles t bit plane x y some lt shown = (
+  λ head. (let found = shown.0 head in ap bit (one_cycle first period t found.0 some found.2) ∙ found.3),
+  λ is. shown.1 (t, lt, refl, is),
+)
+
 pub carries_cycles : CarriesCycles
-carries_cycles text design c rows are run is =
-    record {
-      bits = λ output cell e t lt.
-          let shown = c.shows.heads rows are run is output cell e (c.ports.l + t * c.ports.p) (in_time t lt) in
-          (λ head. let found = shown.0 head in ap (λ t. output_bit design (run t) output) (one_cycle t found.0 found.2) ∙ found.3, λ bit. shown.1 (t, lt, refl, bit));
-      dark = λ output cell e g lt head.
-          let found = (c.shows.heads rows are run is output cell e g (omega arith)).0 head in
-          omega (arith, lt, found.2);
-    }
+carries_cycles text design c rows are run is = record {
+  bits = λ output cell e t lt.
+      in_cycle c.ports.l c.ports.p (length rows) t (λ t. output_bit design (run t) output) (driven (drive c.ports rows) (plane_of c.grid.rows) (c.ports.l + t * c.ports.p)) cell.x cell.y period lt
+      (c.shows.heads rows are run is output cell e (c.ports.l + t * c.ports.p) (in_time c.ports.l c.ports.p (length rows) t period lt));
+  dark = λ output cell e g lt head.
+      let found = (c.shows.heads rows are run is output cell e g (omega arith)).0 head in
+      omega (arith, lt, found.2);
+}
   where
     period : c.ports.p ≢ 0
-    period = has_period text c.grid.width c.grid.height c.ports c.table
+    period = has_period text c.grid.width c.grid.height c.ports c.spells.table
 
-    in_time : (t : ℕ) → t < length rows → c.ports.l + t * c.ports.p < c.ports.l + length rows * c.ports.p
-    in_time t lt =
-        let less : t * c.ports.p < length rows * c.ports.p = mul-lt-mul_of_pos_right lt (omega (arith, period)) in omega (arith, less)
-
-    one_cycle : (t u : ℕ) → c.ports.l + t * c.ports.p ≡ c.ports.l + u * c.ports.p → t ≡ u
-    one_cycle t u e =
-        elim (cases_lt t u) [
-          | inl below ↦ let less : t * c.ports.p < u * c.ports.p = mul-lt-mul_of_pos_right below (omega (arith, period)) in absurd (omega (arith, e, less))
-          | inr above ↦
-              elim (cases_lt u t) [
-                | inl below ↦ let less : u * c.ports.p < t * c.ports.p = mul-lt-mul_of_pos_right below (omega (arith, period)) in absurd (omega (arith, e, less))
-                | inr same ↦ omega (arith, above, same)
-              ]
-        ]
+pub carries_net_cycles : CarriesNetCycles
+carries_net_cycles text design c rows are run is number net line is_net is_line t lt =
+    let ports = c.carried.ports in
+    let period : ports.p ≢ 0 = has_period text c.carried.grid.width c.carried.grid.height ports c.carried.spells.table in
+    in_cycle line.offset ports.p (length rows) t (λ t. run t net.place net.name) (driven (drive ports rows) (plane_of c.carried.grid.rows) (line.offset + t * ports.p)) line.x line.y period lt
+    (c.shows rows are run is number net line is_net is_line (line.offset + t * ports.p) (in_time line.offset ports.p (length rows) t period lt))
 
 pub carries_onward : CarriesOnward
 carries_onward text design c rows zeros are_zeros are run is output cell e g lt =

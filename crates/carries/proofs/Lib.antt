@@ -1,4 +1,3 @@
 pub mod OneWay
-pub mod Bare
 pub mod Period
 pub mod Cycles

@@ -1,4 +1,6 @@
+pub mod Cells
 pub mod Carries
 pub mod Nets
+pub mod FlatNets
 pub mod Shown
 pub mod Laws

@@ -1,15 +1,15 @@
 -- What it means that a text carries the nets of a design: each can be seen in the pattern at a cell that the port table names.
-use Rattle.std.specs.Prelude.{ℕ, ◌+◌, ◌*◌, ◌<◌, ◌≡◌, List, [], ◌∷◌, length, map, Bool, Some, slice_get}
-use Rattle.ww_rule.specs.Wireworld.{Plane, driven}
+use Rattle.std.specs.Prelude.{ℕ, ◌≡◌, List, [], ◌∷◌, map, Bool}
+use Rattle.ww_rule.specs.Wireworld.{Plane}
 use Rattle.ww_rule.specs.Grid.{plane_of}
 use Rattle.pattern_reading.specs.declared.ports.Ports.{Ports}
-use Rattle.pattern_reading.specs.declared.ports.NetLine.{NetLine}
 use Rattle.place_paths.specs.Paths.{name_and_path, names_and_paths}
 use Rattle.netlist_core.specs.declared.model.Design.{Design}
 use Rattle.netlist_meaning.specs.Nets.{Net, IsClockNet}
 use Rattle.netlist_meaning.specs.InOrder.{nets_in_order}
 use Rattle.netlist_meaning.specs.Valuation.{Valuation, AreInputRows, IsRun}
-use Rattle.carries.specs.Carries.{Carries, drive, ShowsBitsFrom}
+use Rattle.carries.specs.Cells.{ShowsNetLines}
+use Rattle.carries.specs.Carries.{Carries}
 
 -- the nets of a list that are no clock nets, in order
 pub data WithoutClocks (design : Design) : List Net → List Net → Type 0 where
@@ -25,14 +25,12 @@ AreSeenNets design nets = WithoutClocks design (nets_in_order design) nets
 abbrev pub NamesNets : Ports → List Net → Type 0
 NamesNets ports nets = names_and_paths ports.nets ≡ map (λ net. name_and_path net.place net.name) nets
 
--- Driven by any rows of input bits, for any number of cycles N: in every run of the design on them, the cell of each net's line
--- shows the net's bits, from the line's offset on, at every generation below offset + N P
+-- Driven by any rows of input bits, for any number of cycles: in every run of the design on them, the cell of each net's line
+-- shows the net's bits
 abbrev pub ShowsNets : Plane → Ports → Design → List Net → Type 0
 ShowsNets plane ports design nets =
     (rows : List (List Bool)) → AreInputRows design rows → (run : ℕ → Valuation) → IsRun design rows run
-    → (number : ℕ) (net : Net) (line : NetLine) → slice_get nets number ≡ Some net → slice_get ports.nets number ≡ Some line
-    → (g : ℕ) → g < line.offset + length rows * ports.p
-    → ShowsBitsFrom line.offset ports.p (length rows) (λ t. run t net.place net.name) g (driven (drive ports rows) plane g) line.x line.y
+    → ShowsNetLines plane ports rows nets (λ t net. run t net.place net.name)
 
 -- A text carries the nets of a design: it carries the design, and in the same table each net but the clock nets has its line, and in
 -- the same pattern its cell

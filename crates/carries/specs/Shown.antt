@@ -4,10 +4,14 @@ use Rattle.ww_rule.specs.declared.pattern.State.TheVariants.{Head}
 use Rattle.ww_rule.specs.Wireworld.{driven}
 use Rattle.ww_rule.specs.Grid.{plane_of}
 use Rattle.pattern_reading.specs.declared.ports.PortLine.{PortLine}
+use Rattle.pattern_reading.specs.declared.ports.NetLine.{NetLine}
 use Rattle.netlist_core.specs.declared.model.Design.{Design}
+use Rattle.netlist_meaning.specs.Nets.{Net}
 use Rattle.netlist_meaning.specs.Valuation.{Valuation, AreInputRows, IsRun, output_bit}
 use Rattle.pattern_reading.specs.declared.ports.Ports.{Ports}
-use Rattle.carries.specs.Carries.{Carries, NamesPorts, ShowsOutput, drive}
+use Rattle.carries.specs.Cells.{ShowsOutput, drive}
+use Rattle.carries.specs.Carries.{Carries, NamesPorts}
+use Rattle.carries.specs.Nets.{CarriesNets}
 
 -- where the table names the design's inputs, input rows have a bit for each IN line
 abbrev pub RowsFitPorts : Type 0
@@ -44,3 +48,13 @@ abbrev pub CarriesEachFront : Type 0
 CarriesEachFront =
     (text : List ℕ) (design : Design) (c : Carries text design) (rows later : List (List Bool)) (g : ℕ) → g < length rows * c.ports.p
     → driven (drive c.ports (rows ++ later)) (plane_of c.grid.rows) g ≡ driven (drive c.ports rows) (plane_of c.grid.rows) g
+
+-- Of a text that carries the nets of a design: in a run on rows that drive the pattern, the cell of a net's line is a head at generation
+-- offset + t P, for each cycle t, exactly when the net's bit is 1 in the cycle
+abbrev pub CarriesNetCycles : Type 0
+CarriesNetCycles =
+    (text : List ℕ) (design : Design) (c : CarriesNets text design) (rows : List (List Bool)) → AreInputRows design rows
+    → (run : ℕ → Valuation) → IsRun design rows run
+    → (number : ℕ) (net : Net) (line : NetLine) → slice_get c.nets number ≡ Some net → slice_get c.carried.ports.nets number ≡ Some line
+    → (t : ℕ) → t < length rows
+    → (driven (drive c.carried.ports rows) (plane_of c.carried.grid.rows) (line.offset + t * c.carried.ports.p) (pos line.x) (pos line.y) ≡ Head) ↔ (run t net.place net.name ≡ true)

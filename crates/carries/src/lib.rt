@@ -1,28 +1,29 @@
-//! What it means that a text carries a design: the pattern that it spells shows the runs of the design.
+//! What it means that a text carries a design, or a flat netlist: the pattern that it spells shows its runs.
 //!
 //! The functions here do nothing: their clauses are laws of the definition.
 //!
-//! Theorem: `carries_cycles`, `carries_onward`; definitions `Carries`, `CarriesNets`.
+//! Theorem: `carries_cycles`, `carries_onward`; definitions `Carries`, `CarriesNets`, `CarriesFlat`.
 #![tactic(auto)]
 
-ghost use Rattle.carries.specs.Laws.{CarriesInOneWay, BareIsCarried, GateIsNotBare};
-ghost use Rattle.carries.specs.Shown.{CarriesCycles, CarriesOnward, CarriesEachFront, RowsFitPorts};
+ghost use Rattle.carries.specs.Laws.{CarriesInOneWay, OutputsHaveLines};
+ghost use Rattle.carries.specs.Shown.{CarriesCycles, CarriesNetCycles, CarriesOnward, CarriesEachFront, RowsFitPorts};
 
 /// A text that carries a design reads as one pattern and one table.
 pub fn carries_in_one_way()
     ensures { CarriesInOneWay }
 {}
 
-/// A text without ports carries a model without ports, and no model that has an output.
-pub fn bare_text_carries_bare_model()
-    ensures carried { BareIsCarried }
-    ensures no_other { GateIsNotBare }
+/// A text without OUT lines carries no model with an output.
+pub fn outputs_have_lines()
+    ensures { OutputsHaveLines }
 {}
 
 /// Driven by rows of input bits, a pattern that carries a design has the cell of an output as a head at generation
-/// L + t P, for each cycle t, exactly when the output's bit is 1 in that cycle of a run, and never below L.
+/// L + t P, for each cycle t, exactly when the output's bit is 1 in that cycle of a run, and never below L; and the cell of a net
+/// so at generation offset + t P.
 pub fn carries_cycles()
-    ensures { CarriesCycles }
+    ensures outputs { CarriesCycles }
+    ensures nets { CarriesNetCycles }
 {}
 
 /// Without further input bits it goes on, without a last generation, to show the run whose further input bits are 0; and

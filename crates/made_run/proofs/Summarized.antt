@@ -11,9 +11,6 @@ use Rattle.grid_assembly.specs.PlanDrawing.{start_grid}
 use Rattle.pattern_reading.specs.declared.ports.PortLine.{PortLine}
 use Rattle.pattern_reading.specs.declared.ports.Ports.{Ports}
 use Rattle.pattern_reading.specs.Ports.{names_of}
-use Rattle.pattern_reading.specs.PortTable.{ReadsAsPorts}
-use Rattle.pattern_reading.proofs.RleLaws.{one_pattern}
-use Rattle.pattern_reading.proofs.PortLaws.{one_table}
 use Rattle.written_reads.specs.Laws.{pattern_text}
 use Rattle.netlist_core.specs.declared.model.Design.{Design}
 use Rattle.netlist_core.specs.declared.flat.FlatPort.{FlatPort}
@@ -28,7 +25,10 @@ use Rattle.netlist_text.specs.NetlistText.{IsNetlist}
 use Rattle.netlist_text.specs.Parts.{AreParts}
 use Rattle.netlist_text.specs.Laws.{TextsAreDecided}
 use Rattle.netlist_plans.specs.declared.planning.Planned.{Planned}
-use Rattle.netlist_plans.specs.Planned.{CarriesDesigns, IsSmall}
+use Rattle.netlist_plans.specs.Planned.{IsSmall}
+use Rattle.carries.specs.FlatNets.{CarriesFlat}
+use Rattle.carries.proofs.OneWay.{one_spelling}
+use Rattle.plan_carries.specs.Laws.{DesignsAreCarried}
 use Rattle.plan_ports.specs.Tables.{IsTableOf}
 use Rattle.drive.specs.declared.streams.Streams.{Streams}
 use Rattle.drive.specs.declared.error.SimulateError.{SimulateError}
@@ -48,11 +48,11 @@ use Rattle.made_run.specs.declared.summarizing.Summary.{Summary}
 use Rattle.made_run.specs.declared.summarizing.OutputBits.{OutputBits}
 use Rattle.made_run.proofs.Drawn.{streams_long, streams_many}
 
-pub is_planned : MadeAreNetlists → MadeHaveSizes → TextsAreDecided → WrittenPlansRead → (seed size : ℕ) → 0 < size → size ≤ 128
+pub is_planned : DesignsAreCarried → MadeAreNetlists → MadeHaveSizes → TextsAreDecided → WrittenPlansRead → (seed size : ℕ) → 0 < size → size ≤ 128
     → (netlist : Netlist) (planned : Planned) → IsNetlist (made_text seed size) netlist.design → AreParts netlist.design netlist.flat netlist.order.nodes
-    → IsAdmissible planned.plan → IsTableOf netlist.flat planned.plan planned.ports → CarriesDesigns netlist.flat planned.plan planned.ports → IsSmall netlist.flat planned.plan
+    → IsAdmissible planned.plan → IsTableOf netlist.flat planned.plan planned.ports → CarriesFlat (pattern_text (start_grid planned.plan) planned.ports) netlist.flat → IsSmall netlist.flat planned.plan
     → IsPlanned seed size netlist planned
-is_planned netlists sizes decided read seed size some few netlist planned is p admissible table carries slight =
+is_planned law netlists sizes decided read seed size some few netlist planned is p admissible table carries slight =
     let design = netlist.design in
     let flat = netlist.flat in
     let plan = planned.plan in
@@ -68,7 +68,7 @@ is_planned netlists sizes decided read seed size some few netlist planned is p a
       sizes = has;
       is_plan = record {
         admissible = admissible;
-        carries = carries (made_text seed size) (made_design seed size) made.is.design_of made.clocks of_made;
+        carries = (law (pattern_text (start_grid plan) ports) (made_design seed size) flat made.is.design_of.faultless made.clocks of_made carries).carried;
         period = table.period;
         latency = table.latency;
         lanes = subst (λ (w : ℕ). plan.lanes ≤ 4 * w + 4) weighs slight.lanes;
@@ -102,12 +102,7 @@ not_run seed size cycles netlist planned streams is are (simulating.TooFar gener
 
 -- the one reading of the text is that of the plan
 same_reading : (seed size : ℕ) (plan : Plan) (ports : Ports) (is : IsMadePlan seed size plan ports) → ReadsAsPlan plan ports → (is.carries.grid ≡ start_grid plan) × (is.carries.ports ≡ ports)
-same_reading seed size plan ports is reads =
-    let c = is.carries in
-    let text = pattern_text (start_grid plan) ports in
-    let same = one_pattern text c.grid (start_grid plan) c.reads reads.pattern in
-    let table = subst (λ (grid : Grid). ReadsAsPorts text grid.width grid.height ports) (sym same) reads.table in
-    (same, one_table text c.grid.width c.grid.height c.ports ports c.table table)
+same_reading seed size plan ports is reads = one_spelling (pattern_text (start_grid plan) ports) is.carries.grid (start_grid plan) is.carries.ports ports is.carries.spells reads.spells
 
 -- what the pattern shows in each run
 shown_is : CarriersShowRuns → (seed size : ℕ) (plan : Plan) (ports : Ports) (streams : Streams) → IsMadePlan seed size plan ports → ReadsAsPlan plan ports → AreFor ports streams

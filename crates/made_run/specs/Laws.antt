@@ -6,9 +6,8 @@ use Rattle.lane_core.specs.Plans.{IsAdmissible}
 use Rattle.grid_assembly.specs.PlanDrawing.{start_grid}
 use Rattle.pattern_reading.specs.declared.ports.Ports.{Ports}
 use Rattle.pattern_reading.specs.Ports.{cells_of}
-use Rattle.pattern_reading.specs.Pattern.{ReadsAsPattern}
-use Rattle.pattern_reading.specs.PortTable.{ReadsAsPorts}
 use Rattle.written_reads.specs.Laws.{pattern_text}
+use Rattle.carries.specs.Cells.{Spells}
 use Rattle.netlist_core.specs.declared.model.Design.{Design}
 use Rattle.netlist_core.specs.declared.flat.Flat.{Flat}
 use Rattle.netlist_meaning.specs.FlatOf.{IsFlatOf}
@@ -23,8 +22,7 @@ use Rattle.made_run.specs.declared.error.SummaryError.TheVariants.{TooFar}
 
 -- The text of a plan's pattern and its table reads as these, and its inputs lie in the pattern's box.
 pub record ReadsAsPlan (plan : Plan) (ports : Ports) : Type 0 where
-  pub pattern : ReadsAsPattern (pattern_text (start_grid plan) ports) (start_grid plan)
-  pub table : ReadsAsPorts (pattern_text (start_grid plan) ports) (start_grid plan).width (start_grid plan).height ports
+  pub spells : Spells (pattern_text (start_grid plan) ports) (start_grid plan) ports
   pub inside : AreInBox (start_grid plan).width (start_grid plan).height (cells_of ports.ins)
 
 -- So it is of an admissible plan and its table for the design of a text.

@@ -15,6 +15,7 @@ use made_netlists::make;
 use netlist_plans::{Planned, plan_netlist};
 use netlist_text::laws::texts_are_decided;
 use netlist_text::{Netlist, NetlistError, netlist_of};
+use plan_carries::designs_are_carried;
 use std::alloc::{AllocError, Global};
 
 /// A made netlist, its plan, and the state from which more may be drawn.
@@ -55,6 +56,7 @@ pub fn plan_made(alloc: Global, seed: u32, size: u32) -> Result<MadePlan, Summar
     made_have_sizes();
     texts_are_decided();
     written_plans_read();
+    designs_are_carried();
     flat_is_sound();
     flat_is_weighed();
     let made = make(alloc, seed, size)?;

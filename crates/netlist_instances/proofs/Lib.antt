@@ -6,3 +6,4 @@ pub mod Adder
 pub mod Delay
 pub mod SharedClock
 pub mod SmallFlat
+pub mod Carried

@@ -1,3 +1,4 @@
 pub mod Designs
 pub mod Instances
 pub mod FlatInstances
+pub mod Carried

@@ -8,6 +8,7 @@
 ghost use Rattle.std.specs.Prelude.{[], ◌∷◌};
 ghost use Rattle.netlist_meaning.specs.Flat.{IsSound};
 ghost use Rattle.netlist_meaning.specs.FlatOrder.{IsFlatLoop};
+ghost use Rattle.netlist_instances.specs.Carried.{BareIsCarried};
 ghost use Rattle.netlist_instances.specs.FlatInstances.{chained_flat, looped_flat};
 ghost use Rattle.netlist_instances.specs.Instances.{IsLoopThroughPins, LatchDelays, LatchToggles, LatchBreaksLoop, CoverReadsItself, TowerWeighs, HasWeights, ControlIsNoInput, CoverReadsClock, LatchHasOtherClock, ClockedLatchDelays, AdderAdds, HasSharedClock, LatchHasNoClock, CoverReadsMainClock, AdderHasClasses};
 
@@ -96,4 +97,9 @@ pub fn small_netlists_are_sound()
 /// The nets of the two-bit adder have these classes.
 pub fn adder_has_classes()
     ensures { AdderHasClasses }
+{}
+
+/// A text without ports carries a model without ports.
+pub fn bare_text_carries_bare_model()
+    ensures { BareIsCarried }
 {}

@@ -1,5 +1,4 @@
-mod Names
+pub mod Names
 mod Bounds
 mod Lanes
-mod Compiled
 mod NetPlaces

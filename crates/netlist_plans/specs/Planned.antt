@@ -1,17 +1,8 @@
--- What a plan and a port table of a flat netlist are.
+-- What a plan of a flat netlist is.
 use Rattle.std.specs.Prelude.{ℕ, ◌+◌, ◌*◌, ◌≤◌, ◌≡◌, ◌≢◌, ◌==◌, true, false, cond, List, [], ◌∷◌, ◌++◌, length, map}
 use Rattle.lane_core.specs.declared.plan.Plan.{Plan}
-use Rattle.grid_assembly.specs.PlanDrawing.{start_grid}
-use Rattle.pattern_reading.specs.declared.ports.Ports.{Ports}
-use Rattle.written_reads.specs.Laws.{pattern_text}
-use Rattle.netlist_core.specs.declared.model.Design.{Design}
 use Rattle.netlist_core.specs.declared.flat.Flat.{Flat}
 use Rattle.netlist_meaning.specs.Flat.{nets_but_clocks}
-use Rattle.netlist_meaning.specs.FlatOf.{IsFlatOf}
-use Rattle.netlist_rules.specs.Clocks.{HasNoClockFault}
-use Rattle.blif_text.specs.Faults.{IsDesignOf}
-use Rattle.carries.specs.Carries.{Carries}
-use Rattle.carries.specs.Nets.{CarriesNets}
 use Rattle.cell_core.specs.declared.list.CellList.{CellList}
 use Rattle.cell_core.specs.Loops.{names_one}
 use Rattle.cell_lanes.specs.Computes.{ComputesByPlan}
@@ -20,16 +11,6 @@ use Rattle.cell_plans.specs.Exits.{AreAtExits}
 use Rattle.row_placer.specs.Entries.{AreAtEntries}
 use Rattle.cover_mapper.specs.Mapped.{IsMapped}
 use Rattle.cover_mapper.specs.Needs.{any_needs_one}
-
--- the text that is written of them carries the design of every text that the flat netlist is of
-abbrev pub CarriesDesigns : Flat → Plan → Ports → Type 0
-CarriesDesigns flat plan ports =
-    (text : List ℕ) (design : Design) → IsDesignOf text design → HasNoClockFault design → IsFlatOf design flat → Carries (pattern_text (start_grid plan) ports) design
-
--- and its nets
-abbrev pub CarriesNetsOfDesigns : Flat → Plan → Ports → Type 0
-CarriesNetsOfDesigns flat plan ports =
-    (text : List ℕ) (design : Design) → IsDesignOf text design → HasNoClockFault design → IsFlatOf design flat → CarriesNets (pattern_text (start_grid plan) ports) design
 
 -- The plan is small, by the weight w: at most 4 w + 4 lanes, and at most 256 (w + 1) (w + 1) columns, which have at most as many
 -- instructions. It has a loop for each latch, and at most one more, where covers need constant 1.

@@ -1,7 +1,6 @@
-//! Makes a plan and its port table of a flat netlist with an order of its covers; their text carries the design and its
-//! nets.
+//! Makes a plan and its port table of a flat netlist with an order of its covers; their text carries the flat netlist.
 //!
-//! Theorem: `plan_netlist` (`carries`, `nets`, `small`, `places`).
+//! Theorem: `plan_netlist` (`carries`, `small`, `places`).
 #![tactic(auto)]
 
 mod error;

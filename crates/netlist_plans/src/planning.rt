@@ -1,20 +1,23 @@
 // The plan of a flat netlist, by its list of cells.
 ghost use Rattle.std.specs.Prelude.{◌≡◌, ◌<◌, ◌^◌, false, length, IfOk};
+ghost use Rattle.grid_assembly.specs.PlanDrawing.{start_grid};
 ghost use Rattle.lane_core.specs.Plans.{IsAdmissible};
-ghost use Rattle.netlist_meaning.specs.Flat.{IsSound, IsWeighed};
+ghost use Rattle.netlist_meaning.specs.Flat.{IsNamed, IsSound, IsWeighed};
 ghost use Rattle.netlist_meaning.specs.FlatOrder.{IsOrder};
 ghost use Rattle.cover_mapper.specs.Needs.{any_needs_one};
-ghost use Rattle.plan_ports.specs.Tables.{IsTableOf};
+ghost use Rattle.plan_ports.specs.Tables.{HasPortNames, HasTablePlaces, IsTableOf};
+ghost use Rattle.written_reads.specs.Laws.{pattern_text};
+ghost use Rattle.carries.specs.FlatNets.{CarriesFlat};
 ghost use Rattle.netlist_plans.specs.NetPlaces.{HasNetPlaces};
-ghost use Rattle.netlist_plans.specs.Planned.{CarriesDesigns, CarriesNetsOfDesigns, ComputesCells, HasLanes, IsSmall};
+ghost use Rattle.netlist_plans.specs.Planned.{ComputesCells, HasLanes, IsSmall};
 
-use crate::{NetlistPlanError, texts_have_port_names};
+use crate::NetlistPlanError;
 use cell_plans::plan_of;
 use cover_mapper::map;
 use lane_core::Plan;
 use netlist_core::{Flat, Order};
 use pattern_reading::Ports;
-use plan_carries::{plans_have_ports, texts_carry, texts_carry_nets};
+use plan_carries::{plans_have_ports, texts_carry_flats};
 use plan_ports::of_plan;
 use std::alloc::Global;
 
@@ -25,16 +28,19 @@ pub struct Planned {
     pub ports: Ports,
 }
 
-/// A plan of a sound flat netlist, for an order of its covers in which each comes after those that it reads.
+/// A plan of a sound flat netlist, for an order of its covers in which each comes after those that it reads. Its names and
+/// places are to stand in a port table.
 pub fn plan_netlist(alloc: Global, flat: &Flat, order: &Order) -> Result<Planned, NetlistPlanError>
     requires sound { IsSound flat.now }
     requires weighed { IsWeighed flat.now }
     requires small { flat.now.weight < 2 ^ 16 }
     requires ordered { IsOrder flat.now order.now.nodes }
+    requires named { IsNamed flat.now }
+    requires names { HasPortNames flat.now }
+    requires places { HasTablePlaces flat.now }
     ensures admissible { IfOk result (λ p. IsAdmissible p.plan) }
     ensures table { IfOk result (λ p. IsTableOf flat.now p.plan p.ports) }
-    ensures carries { IfOk result (λ p. CarriesDesigns flat.now p.plan p.ports) }
-    ensures nets { IfOk result (λ p. CarriesNetsOfDesigns flat.now p.plan p.ports) }
+    ensures carries { IfOk result (λ p. CarriesFlat (pattern_text (start_grid p.plan) p.ports) flat.now) }
     ensures small { IfOk result (λ p. IsSmall flat.now p.plan) }
     ensures cells { IfOk result (λ p. ComputesCells flat.now p.plan) }
     ensures lanes { IfOk result (λ p. HasLanes flat.now p.plan) }
@@ -45,8 +51,6 @@ pub fn plan_netlist(alloc: Global, flat: &Flat, order: &Order) -> Result<Planned
     let plan = plan_of(alloc, &list)?;
     plans_have_ports();
     let ports = of_plan(alloc, flat, &plan)?;
-    texts_carry();
-    texts_carry_nets();
-    texts_have_port_names();
+    texts_carry_flats();
     Ok(Planned { plan, ports })
 }

@@ -1,6 +1,6 @@
 mod Alike
 pub mod SeenNets
+mod Runs
 mod Designs
 mod Carried
-mod NetsCarried
 mod Written

@@ -18,15 +18,15 @@ use Rattle.netlist_meaning.specs.InOrder.{nets_in_order}
 use Rattle.netlist_meaning.specs.Flat.{IsClockClass, is_clock_class, nets_but_clocks}
 use Rattle.netlist_meaning.specs.Valuation.{Valuation, LatchState, IsValuation}
 use Rattle.netlist_meaning.specs.FlatOf.{class_of_net, flat_net, IsFlatOf}
-use Rattle.netlist_meaning.proofs.ClockClasses.{is_clock_class-Decides}
+use Rattle.netlist_meaning.proofs.ClockTest.{is_clock_class-Decides}
 use Rattle.netlist_meaning.proofs.Depth.{model_at-append}
 use Rattle.netlist_meaning.proofs.Names.{and_then-from}
 use Rattle.netlist_rules.specs.FaultNames.{fault_on}
 use Rattle.netlist_rules.specs.declared.fault.FaultKind.TheVariants.{TwoClocks}
 use Rattle.netlist_rules.specs.ModelFaults.{AreFaultless}
 use Rattle.netlist_rules.specs.Clocks.{HasNoClockFault, HasOneClock, two_clocks}
-use Rattle.lists.proofs.Members.{In, map_in}
-use Rattle.flat_designs.specs.Laws.{bit_of_net, class_bits}
+use Rattle.lists.proofs.Members.{In, in_got}
+use Rattle.flat_designs.specs.Laws.{class_bits}
 use Rattle.flat_designs.proofs.Lists.{all_of, all_pairs, pairs_map}
 use Rattle.flat_designs.proofs.Listed.{net_is, nets_once}
 use Rattle.flat_designs.proofs.Classes.{class_is}
@@ -36,7 +36,6 @@ use Rattle.flat_designs.proofs.Valuations.{same_bit}
 use Rattle.design_places.proofs.FewLines.{lines_are_few}
 use Rattle.place_paths.specs.Paths.{HasTableNumbers, name_and_path}
 use Rattle.plan_ports.specs.Tables.{HasTablePlaces, named_paths}
-use Rattle.cover_mapper.specs.Listed.{listed_classes}
 use Rattle.carries.specs.Nets.{WithoutClocks, AreSeenNets}
 
 -- The numbers of places are no greater than a table may write.
@@ -57,6 +56,7 @@ place_fits design faultless small net (m, is_m, named) =
     let (main, is_main, below) = and_then-from (model_below design net.place) (main_model design) m is_m in
     numbers_fit design faultless small [] net.place main m (ap (option_and_then (model_below design [])) is_main) below
 
+-- the places of the nets of a design's flat netlist can stand in a port table
 pub places_fit : (design : Design) (flat : Flat) → AreFaultless design.models → weight design < 2 ^ 31 → IsFlatOf design flat → HasTablePlaces flat
 places_fit design flat faultless small h = record {
   numbers = subst (All (λ (net : FlatNet). HasTableNumbers net.place)) (sym h.nets)
@@ -129,14 +129,10 @@ kept_in {X} p (first ∷ xs) x i = by (p first) refl (λ j. kept_in p xs x j) i
     by false e rest j = let (k, passes) = rest j in (inr k, passes)
 
 -- and their bits
-pub seen_have_bits : (design : Design) (flat : Flat) → AreFaultless design.models → HasNoClockFault design → IsFlatOf design flat → (inputs : List Bool) (state : LatchState) (bits : Valuation) → IsValuation design inputs state bits
-    → map (class_bits design bits) (listed_classes flat) ≡ map (bit_of_net bits) (seen_nets design flat)
-seen_have_bits design flat faultless clean h inputs state bits v =
-    ap (λ nets. map (class_bits design bits) (map (λ (net : FlatNet). net.class) nets)) (seen_are_flat design flat h)
-    ∙ ap (map (class_bits design bits)) (map-map (λ (net : FlatNet). net.class) (flat_net design) (seen_nets design flat))
-    ∙ map-map (class_bits design bits) (class_of_net design) (seen_nets design flat)
-    ∙ map_in (λ net. class_bits design bits (class_of_net design net)) (bit_of_net bits) (seen_nets design flat) (λ net i.
-    let (listed, passes) = kept_in (is_seen design flat) (nets_in_order design) net i in
+pub seen_has_bit : (design : Design) (flat : Flat) → AreFaultless design.models → HasNoClockFault design → IsFlatOf design flat → (inputs : List Bool) (state : LatchState) (bits : Valuation) → IsValuation design inputs state bits
+    → (number : ℕ) (net : Net) → slice_get (seen_nets design flat) number ≡ Some net → class_bits design bits (class_of_net design net) ≡ bits net.place net.name
+seen_has_bit design flat faultless clean h inputs state bits v number net e =
+    let (listed, passes) = kept_in (is_seen design flat) (nets_in_order design) net (in_got (seen_nets design flat) number net e) in
     let n = net_is design net listed in
     ap (class_bits design bits) (sym (class_is design flat faultless h net n))
-    ∙ same_bit design flat faultless h inputs state bits v net n (seen design flat faultless clean h net n (not-true (is_clock_class flat (class_of_net design net)) passes)))
+    ∙ same_bit design flat faultless h inputs state bits v net n (seen design flat faultless clean h net n (not-true (is_clock_class flat (class_of_net design net)) passes))

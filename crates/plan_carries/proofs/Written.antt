@@ -1,4 +1,4 @@
--- The text that is written of what is compiled carries the design.
+-- The text that is written of what is compiled carries the flat netlist.
 use Rattle.std.proofs.Common.{sym, ◌∙◌, ap, subst, false, length, replicate, arith}
 use Rattle.std.proofs.lemmas.List.{length-map, length-replicate}
 use Rattle.ww_rule.specs.Grid.{Grid}
@@ -12,17 +12,11 @@ use Rattle.netlist_core.specs.declared.flat.Net.{Net as FlatNet}
 use Rattle.netlist_meaning.specs.Flat.{class_of, nets_but_clocks, port_classes}
 use Rattle.pattern_reading.specs.declared.ports.Ports.{Ports}
 use Rattle.written_reads.specs.Laws.{HasWrittenText}
-use Rattle.carries.specs.Carries.{ShowsRuns}
-use Rattle.carries.specs.Nets.{ShowsNets}
-use Rattle.flat_designs.proofs.Sound.{flat_is_sound}
-use Rattle.flat_designs.proofs.Whole.{flat_is_named}
+use Rattle.carries.specs.FlatNets.{ShowsFlatRuns}
 use Rattle.cover_mapper.specs.Listed.{listed_classes}
 use Rattle.plan_ports.specs.Laws.{TablesAreReadable}
 use Rattle.plan_ports.proofs.Readable.{small_size}
-use Rattle.plan_carries.specs.Laws.{PlansHavePorts, PlanesShowRuns, TextsCarry, TextsCarryNets}
-use Rattle.plan_carries.proofs.SeenNets.{seen_nets, places_fit, are_seen, seen_are_named}
-use Rattle.plan_carries.proofs.Carried.{ports_named}
-use Rattle.plan_carries.proofs.NetsCarried.{planes_show_nets}
+use Rattle.plan_carries.specs.Laws.{PlansHavePorts, PlanesShowRuns, TextsCarryFlats}
 
 pub plans_have_ports : PlansHavePorts
 plans_have_ports flat list plan c p =
@@ -36,29 +30,16 @@ plans_have_ports flat list plan c p =
           ∙ ap length c.mapped.nets ∙ length-map (listed_classes flat) c.mapped.sources ∙ length-map (nets_but_clocks flat) (λ (net : FlatNet). net.class);
     }
 
-pub texts_carry : KeepsLaw shipped_drawing → PatternsArePlanes → ((grid : Grid) (ports : Ports) → HasWrittenText grid ports) → TablesAreReadable → PlanesShowRuns → TextsCarry
-texts_carry law patterns written readable shown design flat list plan ports c =
+pub texts_carry_flats : KeepsLaw shipped_drawing → PatternsArePlanes → ((grid : Grid) (ports : Ports) → HasWrittenText grid ports) → TablesAreReadable → PlanesShowRuns → TextsCarryFlats
+texts_carry_flats law patterns written readable shown flat list plan ports c =
     let pattern = patterns plan c.admissible in
     let size = small_size plan c.admissible in
-    let sound = flat_is_sound design flat c.faultless c.no_clock_fault c.is_flat (omega (arith, c.small)) in
-    let table = readable flat plan ports sound.in_range (flat_is_named design flat c.faultless c.is_flat) c.names (places_fit design flat c.faultless c.small c.is_flat) c.admissible c.table in
+    let table = readable flat plan ports c.sound.in_range c.named c.names c.places c.admissible c.table in
     let reads = written (start_grid plan) ports (record { in_rows = pattern.box; width = omega (arith, size.0); height = omega (arith, size.1) }) table.sound table.inside table.no_returns in
     record {
       grid = start_grid plan;
       ports = ports;
-      reads = reads.0;
-      table = reads.1;
-      names = ports_named design flat list plan ports c;
-      shows = subst (λ p. ShowsRuns p ports design) (sym pattern.plane) (shown shipped_drawing law design flat list plan ports c);
-    }
-
-pub texts_carry_nets : KeepsLaw shipped_drawing → PatternsArePlanes → ((grid : Grid) (ports : Ports) → HasWrittenText grid ports) → TablesAreReadable → PlanesShowRuns → TextsCarryNets
-unfolding texts_carry
-texts_carry_nets law patterns written readable shown design flat list plan ports c =
-    record {
-      carried = texts_carry law patterns written readable shown design flat list plan ports c;
-      nets = seen_nets design flat;
-      are_nets = are_seen design flat c.faultless c.no_clock_fault c.is_flat;
-      names = c.table.net_names ∙ seen_are_named design flat c.is_flat;
-      shows = subst (λ p. ShowsNets p ports design (seen_nets design flat)) (sym (patterns plan c.admissible).plane) (planes_show_nets shipped_drawing law design flat list plan ports c);
+      spells = record { reads = reads.0; table = reads.1 };
+      names = record { ins = c.table.in_names; outs = c.table.out_names; nets = c.table.net_names };
+      shows = subst (λ p. ShowsFlatRuns p ports flat) (sym pattern.plane) (shown shipped_drawing law flat list plan ports c);
     }

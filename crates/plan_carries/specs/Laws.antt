@@ -1,4 +1,5 @@
--- What is compiled of a design shows the design's runs.
+-- What is compiled of a flat netlist shows its runs, and a text that carries a design's flat netlist carries the design.
+use Rattle.std.specs.Prelude.{ℕ, List}
 use Rattle.tile_core.specs.declared.kind.Kind.{Kind}
 use Rattle.tile_core.specs.Drawing.{Drawing}
 use Rattle.tiling.specs.Steps.{KeepsLaw}
@@ -8,9 +9,12 @@ use Rattle.grid_assembly.specs.PlanDrawing.{start_grid}
 use Rattle.cell_core.specs.declared.list.CellList.{CellList}
 use Rattle.netlist_core.specs.declared.model.Design.{Design}
 use Rattle.netlist_core.specs.declared.flat.Flat.{Flat}
+use Rattle.netlist_meaning.specs.FlatOf.{IsFlatOf}
+use Rattle.netlist_rules.specs.ModelFaults.{AreFaultless}
+use Rattle.netlist_rules.specs.Clocks.{HasNoClockFault}
 use Rattle.pattern_reading.specs.declared.ports.Ports.{Ports}
 use Rattle.written_reads.specs.Laws.{pattern_text}
-use Rattle.carries.specs.Carries.{Carries, ShowsRuns}
+use Rattle.carries.specs.FlatNets.{CarriesFlat, ShowsFlatRuns}
 use Rattle.carries.specs.Nets.{CarriesNets}
 use Rattle.cell_lanes.specs.Computes.{ComputesByPlan}
 use Rattle.plan_ports.specs.Tables.{HasPortsOf}
@@ -20,20 +24,20 @@ use Rattle.plan_carries.specs.Compiled.{ComputesFlat, IsCompiled}
 abbrev pub PlansHavePorts : Type 0
 PlansHavePorts = (flat : Flat) (list : CellList) (plan : Plan) → ComputesFlat flat list → ComputesByPlan list plan → HasPortsOf flat plan
 
--- the plane of the plan, drawn with any library of tiles that keep the timing law, shows the design's runs
+-- the plane of the plan, drawn with any library of tiles that keep the timing law, shows the flat netlist's runs
 abbrev pub PlanesShowRuns : Type 0
 PlanesShowRuns =
-    (library : Kind → Drawing) → KeepsLaw library → (design : Design) (flat : Flat) (list : CellList) (plan : Plan) (ports : Ports)
-    → IsCompiled design flat list plan ports → ShowsRuns (start_plane library plan) ports design
+    (library : Kind → Drawing) → KeepsLaw library → (flat : Flat) (list : CellList) (plan : Plan) (ports : Ports)
+    → IsCompiled flat list plan ports → ShowsFlatRuns (start_plane library plan) ports flat
 
--- and the text that is written of the plan's pattern and its table carries the design
-abbrev pub TextsCarry : Type 0
-TextsCarry =
-    (design : Design) (flat : Flat) (list : CellList) (plan : Plan) (ports : Ports)
-    → IsCompiled design flat list plan ports → Carries (pattern_text (start_grid plan) ports) design
+-- and the text that is written of the plan's pattern and its table carries the flat netlist
+abbrev pub TextsCarryFlats : Type 0
+TextsCarryFlats =
+    (flat : Flat) (list : CellList) (plan : Plan) (ports : Ports)
+    → IsCompiled flat list plan ports → CarriesFlat (pattern_text (start_grid plan) ports) flat
 
--- and its nets
-abbrev pub TextsCarryNets : Type 0
-TextsCarryNets =
-    (design : Design) (flat : Flat) (list : CellList) (plan : Plan) (ports : Ports)
-    → IsCompiled design flat list plan ports → CarriesNets (pattern_text (start_grid plan) ports) design
+-- a text that carries the flat netlist of a design carries the design and its nets, whoever wrote the text
+abbrev pub DesignsAreCarried : Type 0
+DesignsAreCarried =
+    (text : List ℕ) (design : Design) (flat : Flat) → AreFaultless design.models → HasNoClockFault design → IsFlatOf design flat
+    → CarriesFlat text flat → CarriesNets text design

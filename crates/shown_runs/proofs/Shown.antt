@@ -27,7 +27,7 @@ use Rattle.netlist_run.proofs.Ran.{same_on_range}
 use Rattle.shown_runs.specs.ShownRuns.{ShowsTheRun, CarriersShowRuns}
 
 -- a head exactly where a bit is 1
-head_is : (state : State) (bit : Bool) → (state ≡ Head) ↔ (bit ≡ true) → is_head state ≡ bit
+pub head_is : (state : State) (bit : Bool) → (state ≡ Head) ↔ (bit ≡ true) → is_head state ≡ bit
 head_is state true same = ap is_head (same.1 refl)
 head_is Empty false same = refl
 head_is Head false same = absurd (true≢false (sym (same.0 refl)))

@@ -1,17 +1,22 @@
 -- What a text that carries a design shows under streams of bits.
-use Rattle.std.specs.Prelude.{ℕ, ◌≡◌, Bool, List, map, flat_map, All}
+use Rattle.std.specs.Prelude.{ℕ, ◌≡◌, Bool, List, map, flat_map, All, Some, slice_get}
+use Rattle.std.specs.List.{range_with_len}
 use Rattle.ww_rule.specs.Grid.{plane_of}
+use Rattle.pattern_reading.specs.declared.ports.NetLine.{NetLine}
 use Rattle.pattern_reading.specs.Ports.{names_of}
+use Rattle.place_paths.specs.Paths.{path_of}
 use Rattle.netlist_core.specs.declared.model.Design.{Design}
 use Rattle.netlist_core.specs.Names.{Name}
-use Rattle.netlist_meaning.specs.Nets.{IsInNames}
+use Rattle.netlist_meaning.specs.Nets.{Net, IsNet, IsClockNet, IsInNames}
 use Rattle.netlist_meaning.specs.Places.{main_outputs}
 use Rattle.netlist_meaning.specs.Valuation.{Valuation, IsRun}
 use Rattle.carries.specs.Carries.{Carries}
+use Rattle.carries.specs.Nets.{CarriesNets}
 use Rattle.drive.specs.declared.streams.Streams.{Streams}
 use Rattle.drive.specs.Streams.{HasStreams}
 use Rattle.drive.specs.Driving.{AreFor, rows_of, shown_at, shown_bits}
 use Rattle.netlist_run.specs.Runs.{bits_in_run}
+use Rattle.probe_view.specs.Probes.{probed_bits}
 
 -- Driven by the streams, each output of the pattern shows the bits of the main output of its name in the run; and so, output by output,
 -- the pattern shows what the netlist gives, and lines of names and bits, whatever their form, are the same.
@@ -35,3 +40,23 @@ abbrev pub StreamsMatch : Type 0
 StreamsMatch =
     (text : List ℕ) (design : Design) (c : Carries text design) (words names : List (List ℕ)) (streams others : Streams) → IsInNames design names → streams.cycles ≡ others.cycles
     → HasStreams words (names_of c.ports.ins) streams.cycles streams.bits → HasStreams words names others.cycles others.bits → (streams ≡ others) × AreFor c.ports streams
+
+-- the line of a net of the design that is no clock net, with the net's name and the path of its place
+pub record IsLineOf (design : Design) (line : NetLine) (net : Net) : Type 0 where
+  pub is_net : IsNet design net
+  pub no_clock : ¬ IsClockNet design net
+  pub name : line.name ≡ net.name
+  pub path : line.path ≡ path_of net.place
+
+-- the bits of a net, cycle after cycle
+abbrev pub net_bits_in_run : (ℕ → Valuation) → ℕ → Net → List Bool
+net_bits_in_run run cycles net = map (λ cycle. run cycle net.place net.name) (range_with_len 0 cycles)
+
+-- Of a text that carries the nets of a design: each net line is that of a net, and driven by streams for the table's inputs its cell shows
+-- the net's bits in every run of the design.
+abbrev pub CarriersShowNets : Type 0
+CarriersShowNets =
+    (text : List ℕ) (design : Design) (c : CarriesNets text design) (number : ℕ) (line : NetLine) → slice_get c.carried.ports.nets number ≡ Some line
+    → (net : Net) × IsLineOf design line net
+    × ((streams : Streams) → AreFor c.carried.ports streams → (run : ℕ → Valuation) → IsRun design (rows_of streams) run
+    → probed_bits c.carried.ports streams (plane_of c.carried.grid.rows) line ≡ net_bits_in_run run streams.cycles net)

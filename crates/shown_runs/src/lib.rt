@@ -2,15 +2,21 @@
 //!
 //! The functions here do nothing: their clauses are the laws.
 //!
-//! Theorem: `carriers_show_runs`, `streams_match`.
+//! Theorem: `carriers_show_runs`, `carriers_show_nets`, `streams_match`.
 #![tactic(auto)]
 
-ghost use Rattle.shown_runs.specs.ShownRuns.{CarriersShowRuns, StreamsMatch};
+ghost use Rattle.shown_runs.specs.ShownRuns.{CarriersShowNets, CarriersShowRuns, StreamsMatch};
 
 /// Of a text that carries a design: under streams for its inputs there is a run of the design, and the bits that each output of the
 /// pattern shows are those of the main output of its name in every such run.
 pub fn carriers_show_runs()
     ensures { CarriersShowRuns }
+{}
+
+/// Of a text that carries the nets of a design: each net line is that of a net which is no clock net, and under streams its cell shows
+/// the net's bits in every run.
+pub fn carriers_show_nets()
+    ensures { CarriersShowNets }
 {}
 
 /// Of a text that carries a design: what words say for the inputs of its table they say for the inputs of the design.

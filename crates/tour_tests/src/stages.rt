@@ -1,4 +1,6 @@
 // The text of each stage.
+ghost use Rattle.std.specs.Prelude.{ℕ, List};
+ghost use Rattle.netlist_text.specs.NetlistText.{IsNetlist};
 ghost use Rattle.netlist_text.specs.Parts.{AreParts};
 
 use crate::page::{CELLS, FLAT, LANES};
@@ -281,7 +283,8 @@ fn texts_of(
 
 // The texts of a netlist's stages.
 fn planned(alloc: Global, netlist: &Netlist) -> Result<[String; 3], Fail>
-    requires { AreParts netlist.now.design netlist.now.flat netlist.now.order.nodes }
+    requires of_text { (text : List ℕ) × IsNetlist text netlist.now.design }
+    requires parts { AreParts netlist.now.design netlist.now.flat netlist.now.order.nodes }
 {
     flat_is_sound();
     flat_is_weighed();

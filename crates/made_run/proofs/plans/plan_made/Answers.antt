@@ -2,7 +2,10 @@ use Rattle.std.proofs.Common.{ℕ, ◌<◌, ◌∙◌, sym, subst, List, arith}
 use Rattle.std.proofs.lemmas.Result.{err_from_is_err_and}
 use Rattle.netlist_text.specs.NetlistText.{IsNetlist}
 use Rattle.made_netlists.specs.Design.{made_design}
+use Rattle.flat_designs.proofs.Whole.{flat_is_named}
 use Rattle.netlist_text.proofs.SoundParts.{sound, weighed, small}
+use Rattle.netlist_plans.proofs.Names.{texts_have_port_names}
+use Rattle.plan_carries.proofs.SeenNets.{places_fit}
 use Rattle.made_run.proofs.Summarized.{is_planned}
 use Rattle.made_run.proofs.plans.plan_made.Goals as goal
 
@@ -26,10 +29,19 @@ plan_netlist-requires-clause-small c = small c.in_ok-netlist.netlist.design c.in
 pub plan_netlist-requires-clause-ordered : goal.plan_netlist-requires-clause-ordered
 plan_netlist-requires-clause-ordered c = c.in_ok-netlist.ensures.parts.is_order
 
+pub plan_netlist-requires-clause-named : goal.plan_netlist-requires-clause-named
+plan_netlist-requires-clause-named c = flat_is_named c.in_ok-netlist.netlist.design c.in_ok-netlist.netlist.flat c.in_ok-netlist.ensures.parts.faultless c.in_ok-netlist.ensures.parts.is_flat
+
+pub plan_netlist-requires-clause-names : goal.plan_netlist-requires-clause-names
+plan_netlist-requires-clause-names c = texts_have_port_names _ c.in_ok-netlist.netlist.design c.in_ok-netlist.netlist.flat c.in_ok-netlist.ensures.netlist.is.design_of c.in_ok-netlist.ensures.parts.is_flat
+
+pub plan_netlist-requires-clause-places : goal.plan_netlist-requires-clause-places
+plan_netlist-requires-clause-places c = places_fit c.in_ok-netlist.netlist.design c.in_ok-netlist.netlist.flat c.in_ok-netlist.ensures.parts.faultless (omega (arith, small c.in_ok-netlist.netlist.design c.in_ok-netlist.netlist.flat _ c.in_ok-netlist.ensures.parts, c.in_ok-netlist.ensures.parts.is_flat.weight)) c.in_ok-netlist.ensures.parts.is_flat
+
 pub returns-clause-plan : goal.returns-clause-plan
 returns-clause-plan c =
     let text = c.as_slice.ensures ∙ c.in_ok-made.ensures.text in
-    is_planned c.made_are_netlists.ensures c.made_have_sizes.ensures c.texts_are_decided.ensures c.written_plans_read.ensures c.args.seed c.args.size c.requires.some_gate c.requires.few_gates
+    is_planned c.designs_are_carried.ensures c.made_are_netlists.ensures c.made_have_sizes.ensures c.texts_are_decided.ensures c.written_plans_read.ensures c.args.seed c.args.size c.requires.some_gate c.requires.few_gates
     c.in_ok-netlist.netlist c.in_ok-planned.planned (subst (λ (t : List ℕ). IsNetlist t c.in_ok-netlist.netlist.design) text c.in_ok-netlist.ensures.netlist) c.in_ok-netlist.ensures.parts
     c.in_ok-planned.ensures.admissible c.in_ok-planned.ensures.table c.in_ok-planned.ensures.carries c.in_ok-planned.ensures.small
 

@@ -1,22 +1,22 @@
 use Rattle.netlist_plans.proofs.Bounds.{is_small, computes_cells, loops_many}
-use Rattle.netlist_plans.proofs.Compiled.{are_compiled}
 use Rattle.netlist_plans.proofs.Lanes.{has_lanes}
 use Rattle.netlist_plans.proofs.NetPlaces.{net_places}
 use Rattle.netlist_plans.proofs.planning.plan_netlist.Goals as goal
 
 pub returns-clause-carries : goal.returns-clause-carries
-returns-clause-carries c text design of_text clean h =
-    c.texts_carry.ensures design c.args.flat.now c.in_ok-list.list c.in_ok-plan.plan c.in_ok-ports.ports
-    (are_compiled c.args.flat.now c.args.order.now.nodes c.in_ok-list.list c.in_ok-plan.plan c.in_ok-ports.ports c.requires.weighed c.requires.ordered
-    (record { mapped = c.in_ok-list.ensures.mapped; bits = c.in_ok-list.ensures.bits }) c.in_ok-plan.ensures.admissible c.in_ok-plan.ensures.computes
-    c.in_ok-ports.ensures c.texts_have_port_names.ensures text design of_text clean h)
-
-pub returns-clause-nets : goal.returns-clause-nets
-returns-clause-nets c text design of_text clean h =
-    c.texts_carry_nets.ensures design c.args.flat.now c.in_ok-list.list c.in_ok-plan.plan c.in_ok-ports.ports
-    (are_compiled c.args.flat.now c.args.order.now.nodes c.in_ok-list.list c.in_ok-plan.plan c.in_ok-ports.ports c.requires.weighed c.requires.ordered
-    (record { mapped = c.in_ok-list.ensures.mapped; bits = c.in_ok-list.ensures.bits }) c.in_ok-plan.ensures.admissible c.in_ok-plan.ensures.computes
-    c.in_ok-ports.ensures c.texts_have_port_names.ensures text design of_text clean h)
+returns-clause-carries c =
+    c.texts_carry_flats.ensures c.args.flat.now c.in_ok-list.list c.in_ok-plan.plan c.in_ok-ports.ports (record {
+      sound = c.requires.sound;
+      order = c.args.order.now.nodes;
+      ordered = c.requires.ordered;
+      named = c.requires.named;
+      names = c.requires.names;
+      places = c.requires.places;
+      list_computes = record { mapped = c.in_ok-list.ensures.mapped; bits = c.in_ok-list.ensures.bits };
+      admissible = c.in_ok-plan.ensures.admissible;
+      plan_computes = c.in_ok-plan.ensures.computes;
+      table = c.in_ok-ports.ensures;
+    })
 
 pub returns-clause-small : goal.returns-clause-small
 returns-clause-small c =

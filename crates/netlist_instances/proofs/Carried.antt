@@ -1,4 +1,4 @@
--- A text without ports carries a model without ports, and no model with an output.
+-- A text without ports carries a model without ports.
 use Rattle.std.proofs.Common.{◌≡◌, refl, sym, ap, ◌∙◌, subst, ℕ, ◌<◌, Bool, false, List, [], length, get_or, arith}
 use Rattle.std.specs.Prelude.{Some, slice_get, All, Contains}
 use Rattle.std.proofs.lemmas.Option.{none-some, slice_get_within, get_or_from_slice_get}
@@ -8,20 +8,17 @@ use Rattle.ww_rule.specs.Grid.{plane_of}
 use Rattle.ww_rule.proofs.Streams.{streams_injected}
 use Rattle.netlist_core.specs.declared.model.Model.{Model}
 use Rattle.netlist_core.specs.declared.model.Cover.{Cover}
-use Rattle.netlist_meaning.specs.Places.{Place, model_at, main_outputs}
+use Rattle.netlist_meaning.specs.Places.{Place, model_at}
 use Rattle.netlist_meaning.specs.Nets.{Net, IsControl, IsInNames}
-use Rattle.one_cover.specs.OneCover.{or_design}
 use Rattle.netlist_meaning.specs.Valuation.{Valuation, LatchState, AreInputRows, IsValuation, IsRun, latches_in, start_state}
 use Rattle.netlist_meaning.proofs.SingleModel.{IsFlat, model_at-flat, no_latch-flat, all_in_names}
 use Rattle.netlist_meaning.proofs.Joined.{in_names_are_one}
-use Rattle.pattern_writing.specs.Samples.{bare_text}
 use Rattle.pattern_samples.specs.Ports.{bare_ports}
-use Rattle.pattern_reading.specs.PortTable.{ports_of, forms_of}
 use Rattle.pattern_samples.proofs.Samples.{bare_reads, bare_has_ports}
-use Rattle.pattern_reading.specs.Ports.{names_of}
-use Rattle.carries.specs.Carries.{drive, ShowsRuns}
+use Rattle.carries.specs.Cells.{drive}
+use Rattle.carries.specs.Carries.{ShowsRuns}
 use Rattle.ww_rule.specs.Injections.{MeetsConductors}
-use Rattle.carries.specs.Laws.{bare_model, bare_design, BareIsCarried, GateIsNotBare}
+use Rattle.netlist_instances.specs.Carried.{bare_model, bare_design, BareIsCarried}
 
 flat : IsFlat bare_design bare_model
 flat = record { models = refl; subckts = refl }
@@ -82,14 +79,7 @@ bare_is_carried =
     record {
       grid = record { width = 0; height = 0; rows = [] };
       ports = bare_ports;
-      reads = bare_reads;
-      table = bare_has_ports;
+      spells = record { reads = bare_reads; table = bare_has_ports };
       names = record { ins = in_names; outs = refl };
       shows = shows;
     }
-
-pub gate_is_not_bare : GateIsNotBare
-gate_is_not_bare c = nothing_named (sym (ap (λ ports. names_of ports.outs) c.table.ports_is) ∙ c.names.outs)
-  where
-    nothing_named : names_of (ports_of (forms_of bare_text)).outs ≡ main_outputs or_design → ⊥
-    nothing_named e = cc

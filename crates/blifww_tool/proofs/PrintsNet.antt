@@ -1,0 +1,63 @@
+-- What `probe` prints of a text that carries the nets of a netlist is the bits of a net of it.
+use Rattle.std.proofs.Common.{ℕ, ◌≡◌, refl, sym, ap, ◌∙◌, subst, Bool, true, false, cond, inl, inr, List, [], ◌∷◌}
+use Rattle.std.specs.Prelude.{Some}
+use Rattle.std.specs.List.{find}
+use Rattle.std.specs.Str.{bytes_eq}
+use Rattle.std.proofs.lemmas.Bool.{and_parts}
+use Rattle.std.proofs.lemmas.Option.{none-some, same_Some}
+use Rattle.std.proofs.lemmas.Slice.Eq.{bytes_eq-Decides}
+use Rattle.ww_rule.specs.Grid.{Grid, plane_of}
+use Rattle.pattern_reading.specs.declared.ports.NetLine.{NetLine}
+use Rattle.pattern_reading.specs.declared.ports.Ports.{Ports}
+use Rattle.pattern_reading.specs.Ports.{names_of}
+use Rattle.lists.proofs.Members.{In, got_from}
+use Rattle.carries.proofs.OneWay.{one_spelling}
+use Rattle.drive.specs.Streams.{HasStreams}
+use Rattle.drive.specs.Driving.{AreFor, rows_of}
+use Rattle.probe_view.specs.Probes.{has_name_and_path, net_named, probed_bits}
+use Rattle.shown_runs.specs.ShownRuns.{CarriersShowNets}
+use Rattle.shown_runs.proofs.Matching.{are_for}
+use Rattle.shown_runs.proofs.Shown.{input_rows}
+use Rattle.blifww_tool.specs.Lines.{bits_line}
+use Rattle.blifww_tool.specs.PrintsAlike.{CarriersPrintNets}
+
+-- what is found is of the list, and passes
+found : {X : Type 0} (p : X → Bool) (xs : List X) (x : X) → find p xs ≡ Some x → In x xs × (p x ≡ true)
+found p [] x e = absurd (none-some x e)
+found p (y ∷ ys) x e = by (p y) refl (found p ys x) e
+  where
+    by : (b : Bool) → p y ≡ b → (find p ys ≡ Some x → In x ys × (p x ≡ true)) → cond b (Some y) (find p ys) ≡ Some x → In x (y ∷ ys) × (p x ≡ true)
+    by true h rest same = (inl (sym (same_Some y x same)), ap p (sym (same_Some y x same)) ∙ h)
+    by false h rest later = let r = rest later in (inr r.0, r.1)
+
+pub carriers_print_nets : CarriersShowNets → CarriersPrintNets
+carriers_print_nets law text design c cycles name path words output (bits, probes, printed) =
+    let s = probes.simulation in
+    let ports : Ports = c.carried.ports in
+    let read = one_spelling text c.carried.grid s.grid ports s.ports c.carried.spells (record { reads = probes.is.pattern.0; table = probes.is.table }) in
+    let fed : HasStreams words (names_of ports.ins) cycles s.streams.bits = subst (λ (p : Ports). HasStreams words (names_of p.ins) cycles s.streams.bits) (sym read.1) probes.is.streams in
+    let are : AreFor ports s.streams = are_for words ports s.streams (subst (λ (n : ℕ). HasStreams words (names_of ports.ins) n s.streams.bits) (sym probes.is.many) fed) in
+    let line : NetLine = probes.probed.net in
+    let there : net_named ports name path ≡ Some line = ap (λ (p : Ports). net_named p name path) read.1 ∙ probes.probed.is_there in
+    let passing = found (has_name_and_path name path) ports.nets line there in
+    let same = and_parts (bytes_eq line.name name) (bytes_eq line.path path) passing.1 in
+    let at = got_from ports.nets line passing.0 in
+    let (net, of_net, shown) = law text design c at.0 line at.1 in
+    let (run, is_run) = c.carried.shows.runs (rows_of s.streams) (input_rows design ports s.streams c.carried.names are) in
+    record {
+      fed = s.streams;
+      feeds = record { in_names = names_of ports.ins; names = c.carried.names.ins; many = probes.is.many; streams = fed };
+      run = run;
+      is_run = is_run;
+      net = net;
+      is_net = of_net.is_net;
+      no_clock = of_net.no_clock;
+      named = sym of_net.name ∙ (bytes_eq-Decides line.name name).0 same.0;
+      placed = sym of_net.path ∙ (bytes_eq-Decides line.path path).0 same.1;
+      line = λ other is_other.
+          printed
+          ∙ ap (bits_line name) (probes.probed.bits_are
+          ∙ ap (λ (p : Ports). probed_bits p s.streams (plane_of s.grid.rows) line) (sym read.1)
+          ∙ ap (λ (grid : Grid). probed_bits ports s.streams (plane_of grid.rows) line) (sym read.0)
+          ∙ shown s.streams are other is_other);
+    }
