@@ -1,7 +1,7 @@
 -- Cells made heads in rows.
-use Rattle.std.proofs.Common.{ℤ, pos, ◌+ℤ◌, ℕ, ◌+◌, ◌<◌, ◌≡◌, refl, sym, ap, ap₂, ◌∙◌, inl, inr, false, ◌&&◌, ◌||◌, ◌==◌, cond, List, [], ◌∷◌, length, get_or, slice_set, arith}
+use Rattle.std.proofs.Common.{ℤ, pos, ◌+ℤ◌, ℕ, ◌+◌, ◌<◌, ◌≡◌, refl, sym, ap, ap₂, ◌∙◌, inl, inr, true, false, ◌&&◌, ◌||◌, ◌==◌, cond, List, [], ◌∷◌, length, get_or, slice_set, arith}
 use Rattle.std.specs.Ordering.{int_eq}
-use Rattle.std.proofs.lemmas.Bool.{cases_eq, eq-eqb, ne_eqb}
+use Rattle.std.proofs.lemmas.Bool.{cases_eq, eq-eqb, ne_eqb, true≢false}
 use Rattle.std.proofs.lemmas.Bool.Decides.{Decides-int_eq}
 use Rattle.std.proofs.lemmas.Int.{ints}
 use Rattle.std.proofs.lemmas.List.{length-set}
@@ -10,8 +10,10 @@ use Rattle.ww_rule.specs.declared.pattern.State.TheVariants.{Head}
 use Rattle.ww_rule.specs.Wireworld.{Plane, injected}
 use Rattle.ww_rule.specs.Injections.{has_cell}
 use Rattle.band_rows.specs.declared.row.Row.{Row}
-use Rattle.band_rows.specs.Rows.{AreLong, ShowRows, Shows, state_in_row, row_heads, row_tails, row_wires}
+use Rattle.band_rows.specs.Rows.{AreLong, AreMarked, ShowRows, Shows, state_in_row, row_heads, row_tails, row_wires}
+use Rattle.lane_kernel.specs.Rows.{is_set}
 use Rattle.band_rows.proofs.Bands.{other, same, held, shows_same}
+use Rattle.band_rows.proofs.Far.{unmarked}
 use Rattle.ww_rule.proofs.Integers.{other_int}
 
 column_is : (x u : ℕ) → int_eq (pos x) (pos u) ≡ (u == x)
@@ -67,3 +69,25 @@ long_put words rows k d new lt same_long long j jlt =
           ∙ sym (ap length (held (λ row. row.heads.items) rows k (get_or rows k d) d lt refl))
           ∙ long k lt
     ]
+
+-- the rows' marks, where one more row is marked
+pub marked_put : (lit new : List ℕ) (rows : List Row) (k : ℕ) (next : Row) → length new ≡ length lit → ((m : ℕ) → is_set new m ≡ ((m == k && true) || is_set lit m)) → AreMarked lit rows → AreMarked new (slice_set rows k next)
+marked_put lit new rows k next long marks are =
+    let few = are.few in
+    let enough = are.enough in
+    let l = length-set rows k next in
+    record {
+      few = omega (arith, long, few);
+      enough = omega (arith, long, enough, l);
+      dark = λ m lt clear.
+          let u = unmarked new lit k m true (marks m) clear in
+          elim (cases_eq m k) [
+            | inl e ↦ absurd (true≢false (ap (λ t. t && true) (sym (eq-eqb m k e)) ∙ u.0))
+            | inr ne ↦
+                let d = are.dark m (omega (arith, lt, l)) u.1 in
+                record {
+                  heads = λ j. ap (λ xs. get_or xs j 0) (other (λ row. row.heads.items) rows k m next ne) ∙ d.heads j;
+                  tails = λ j. ap (λ xs. get_or xs j 0) (other (λ row. row.tails.items) rows k m next ne) ∙ d.tails j;
+                }
+          ];
+    }

@@ -9,3 +9,4 @@ pub mod Pushing
 pub mod Putting
 pub mod Resting
 pub mod Waking
+pub mod Lit

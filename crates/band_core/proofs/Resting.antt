@@ -10,22 +10,23 @@ use Rattle.ww_rule.specs.Wireworld.{Plane, Due, count_head, heads_around, next_p
 use Rattle.ww_rule.specs.Grid.{in_box}
 use Rattle.lane_kernel.specs.Rows.{is_set, state_of}
 use Rattle.lane_kernel.proofs.Counting.{count_is}
-use Rattle.band_rows.specs.Rows.{AreDarkBeyond, AreLong, ShowRows, ShowsHeads, row_wires}
-use Rattle.band_rows.specs.declared.span.Span.{Span}
+use Rattle.band_rows.specs.Rows.{AreLong, AreMarked, ShowRows, ShowsHeads, row_wires}
 use Rattle.band_rows.proofs.Marks.{none_set}
 use Rattle.band_core.specs.declared.band.Band.{Band}
 use Rattle.band_core.specs.Band.{AreUnlit, AreDueIn, AreInRows, HasNoneDue, IsBand, IsEvolution, IsQuiet, ShowsBand}
 use Rattle.ww_rule.proofs.Due.{left_after}
 
-pub rests : (words y many : ℕ) (band next : Band) → next.rows ≡ band.rows → next.light ≡ band.light → next.injections ≡ band.injections → next.done ≡ band.done → length next.top.heads.items ≡ words → length next.bottom.heads.items ≡ words → IsBand words y many band → IsBand words y many next
-rests words y many band next er el ei ed lt lb is =
+pub rests : (words y many : ℕ) (band next : Band) → next.rows ≡ band.rows → next.lit ≡ band.lit → next.near ≡ band.near → next.is_dark ≡ band.is_dark → next.injections ≡ band.injections → next.done ≡ band.done → length next.top.heads.items ≡ words → length next.bottom.heads.items ≡ words → IsBand words y many band → IsBand words y many next
+rests words y many band next er el en edark ei ed lt lb is =
     let done = is.done in
     let li = ap (λ v. length v.items) ei in
     record {
       high = ap (λ v. length v.items) er ∙ is.high;
       some = is.some;
       long = subst (λ v. AreLong words v.items) (sym er) is.long;
-      light = subst (λ v. AreDarkBeyond next.light.first next.light.end v.items) (sym er) (subst (λ (l : Span). AreDarkBeyond l.first l.end band.rows.items) (sym el) is.light);
+      lit = subst (λ v. AreMarked next.lit.items v.items) (sym er) (subst (λ v. AreMarked v.items band.rows.items) (sym el) is.lit);
+      near = ap (λ v. length v.items) en ∙ is.near ∙ sym (ap (λ v. length v.items) el);
+      dark = λ none j. ap (λ v. get_or v.items j 0) el ∙ is.dark (sym edark ∙ none) j;
       top = lt;
       bottom = lb;
       inside = subst (λ v. AreInRows words y many v.items) (sym ei) is.inside;

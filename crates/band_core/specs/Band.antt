@@ -9,7 +9,7 @@ use Rattle.ww_rule.specs.declared.pattern.State.{State}
 use Rattle.ww_rule.specs.declared.pattern.State.TheVariants.{Empty, Head, Tail}
 use Rattle.lane_kernel.specs.Rows.{is_set, row_state}
 use Rattle.band_rows.specs.declared.row.Row.{Row}
-use Rattle.band_rows.specs.Rows.{AreDarkBeyond, AreLong, ShowRows, ShowsHeads, row_heads, row_tails, row_wires}
+use Rattle.band_rows.specs.Rows.{AreLong, AreMarked, ShowRows, ShowsHeads, row_heads, row_tails, row_wires}
 use Rattle.band_core.specs.declared.band.Band.{Band}
 use Rattle.band_core.specs.Bands.{bands_in}
 
@@ -31,7 +31,9 @@ pub record IsBand (words y many : ℕ) (band : Band) : Type 0 where
   pub high : length band.rows.items ≡ many
   pub some : 0 < many
   pub long : AreLong words band.rows.items
-  pub light : AreDarkBeyond band.light.first band.light.end band.rows.items
+  pub lit : AreMarked band.lit.items band.rows.items
+  pub near : length band.near.items ≡ length band.lit.items
+  pub dark : band.is_dark ≡ true → (j : ℕ) → get_or band.lit.items j 0 ≡ 0
   pub top : length band.top.heads.items ≡ words
   pub bottom : length band.bottom.heads.items ≡ words
   pub inside : AreInRows words y many band.injections.items

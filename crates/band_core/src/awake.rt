@@ -1,13 +1,13 @@
 // Cells that keep a band awake.
 ghost use Rattle.ww_rule.specs.Due.{due_count};
-ghost use Rattle.std.specs.Prelude.{◌≡◌, ◌+◌, ◌-◌, ◌<◌, ◌≤◌, ◌^◌, ◌⊎◌, ℕ, true, false, length, drop, None, IfSome};
+ghost use Rattle.std.specs.Prelude.{◌≡◌, ◌+◌, ◌-◌, ◌<◌, ◌≤◌, ◌^◌, ◌⊎◌, ℕ, true, false, length, get_or, drop, None, IfSome};
 ghost use Rattle.lane_kernel.specs.Rows.{is_set};
 ghost use Rattle.lane_kernel.specs.Spans.{IsDarkBeyond};
-ghost use Rattle.band_rows.specs.Rows.{AreDarkBeyond, row_heads, row_tails};
+ghost use Rattle.band_rows.specs.Rows.{AreMarked, row_heads, row_tails};
 ghost use Rattle.band_core.specs.Band.{IsLitIn, IsNextDue};
 
 use crate::band::Band;
-use band_rows::{Row, Span, first_bit};
+use band_rows::{Row, Span, first_bit, next_marked};
 
 // The column of a head or a tail of a row.
 fn lit_column(row: &Row) -> Option<usize>
@@ -22,22 +22,26 @@ fn lit_column(row: &Row) -> Option<usize>
     }
 }
 
-/// The column and row of a head or a tail of rows from row y on, which are dark beyond a span.
-pub fn lit_cell(rows: &[Row], light: Span, y: usize) -> Option<(usize, usize)>
+/// The column and row of a head or a tail of rows from row y on, of which those that may be lit are marked; `is_dark`: none
+/// is.
+pub fn lit_cell(rows: &[Row], lit: &[u64], is_dark: bool, y: usize) -> Option<(usize, usize)>
     requires long { (k : ℕ) → k < length rows.now → length (row_heads rows.now k) ≤ 2 ^ 58 }
     requires room { y + length rows.now < 2 ^ 64 }
-    requires dark { AreDarkBeyond light.first light.end rows.now }
+    requires lit { AreMarked lit.now rows.now }
+    requires dark { is_dark ≡ true → (j : ℕ) → get_or lit.now j 0 ≡ 0 }
     ensures some { IfSome result (λ cell. IsLitIn rows.now y cell.0 cell.1) }
     ensures no_head { result ≡ None → (k x : ℕ) → k < length rows.now → is_set (row_heads rows.now k) x ≡ false }
     ensures no_tail { result ≡ None → (k x : ℕ) → k < length rows.now → is_set (row_tails rows.now k) x ≡ false }
 {
-    if light.is_empty() {
+    if is_dark {
         return None;
     }
-    for (k, row) in rows.iter().enumerate() {
-        if let Some(x) = lit_column(row) {
+    let mut k = next_marked(lit, 0);
+    while k < rows.len() {
+        if let Some(x) = lit_column(&rows[k]) {
             return Some((x, y + k));
         }
+        k = next_marked(lit, k + 1);
     }
     None
 }

@@ -4,18 +4,20 @@ ghost use Rattle.std.specs.Prelude.{◌≡◌, ◌+◌, ◌-◌, ◌<◌, ◌≤
 ghost use Rattle.ww_rule.specs.Wireworld.{Plane, Due, next_plane, injected};
 ghost use Rattle.ww_rule.specs.Injections.{has_cell};
 ghost use Rattle.lane_kernel.specs.Spans.{IsDarkBeyond};
-ghost use Rattle.band_rows.specs.Rows.{AreDarkBeyond, AreLong, IsEmptyWest, ShowRows, ShowsHeads, row_heads, row_tails};
+ghost use Rattle.band_rows.specs.Rows.{AreLong, AreMarked, IsEmptyWest, ShowRows, ShowsHeads, row_heads, row_tails};
 ghost use Rattle.band_core.specs.Band.{AreInRows, IsBand, IsEvolution, ShowsBand, bottom_at, top_at, injected_cells};
 
-use band_rows::{Kept, Row, Span, light_of, step_band};
+use band_rows::{Kept, Row, Span, is_clear, mark_row, step_band};
 use ww_rule::Injection;
 
-/// Rows of one generation, a span of words beyond which none of them has heads or tails, the heads of the top and the bottom
-/// row a generation ago, and the band's injections, of which the first ones are done.
+/// Rows of one generation, marks of those that may be lit (`is_dark`: none is), the heads of the top and the bottom row a
+/// generation ago, and the band's injections, of which the first ones are done. What `near` holds is of no account.
 #[derive(Drop)]
 pub struct Band {
     pub rows: Vec<Row>,
-    pub light: Span,
+    pub lit: Vec<u64>,
+    pub near: Vec<u64>,
+    pub is_dark: bool,
     pub generation: u64,
     pub top: Kept,
     pub bottom: Kept,
@@ -34,17 +36,21 @@ pub fn due_count(generation: u128, injections: &[Injection]) -> usize
         .count()
 }
 
-/// Makes the cells of injections heads, in rows from row y on. No memory is taken.
-pub fn inject(rows: &mut [Row], y: usize, words: usize, due: &[Injection])
+/// Makes the cells of injections heads, in rows from row y on, and marks their rows. No memory is taken.
+pub fn inject(rows: &mut [Row], lit: &mut [u64], y: usize, words: usize, due: &[Injection])
     requires long { AreLong words rows.old }
+    requires lit { AreMarked lit.old rows.old }
     requires inside { AreInRows words y (length rows.old) due.now }
     ensures many { length rows.new ≡ length rows.old }
     ensures long { AreLong words rows.new }
+    ensures long_lit { length lit.new ≡ length lit.old }
+    ensures lit { AreMarked lit.new rows.new }
     ensures shows { (p : Plane) → ShowRows rows.old p (pos y) → ShowRows rows.new (injected (has_cell (injected_cells due.now)) p) (pos y) }
 {
     for injection in due {
         let place = injection.y as usize - y;
         rows[place].make_head(injection.x as usize);
+        mark_row(lit, place, true);
     }
 }
 
@@ -64,9 +70,11 @@ fn keep_edges(rows: &[Row], top: &mut Kept, bottom: &mut Kept)
 }
 
 // The next generation of rows from row y on, with the injections that are then due, between rows of heads. The kept rows
-// take the heads that the top and the bottom row had. The spare rows hold anything.
+// take the heads that the top and the bottom row had. `near` and the spare rows hold anything.
 fn step_with_due(
     rows: &mut [Row],
+    lit: &mut [u64],
+    near: &mut [u64],
     y: usize,
     up: &[u64],
     up_span: Span,
@@ -80,6 +88,8 @@ fn step_with_due(
 )
     requires some { 0 < length rows.old }
     requires long { AreLong (length up.now) rows.old }
+    requires lit { AreMarked lit.old rows.old }
+    requires near { length near.old ≡ length lit.old }
     requires down { length down.now ≡ length up.now }
     requires up_within { up_span.end ≤ length up.now }
     requires down_within { down_span.end ≤ length up.now }
@@ -92,41 +102,42 @@ fn step_with_due(
     requires inside { AreInRows (length up.now) y (length rows.old) due.now }
     ensures many { length rows.new ≡ length rows.old }
     ensures long { AreLong (length up.now) rows.new }
+    ensures long_lit { length lit.new ≡ length lit.old }
+    ensures lit { AreMarked lit.new rows.new }
+    ensures near { length near.new ≡ length near.old }
     ensures long_top { length top.new.heads.items ≡ length up.now }
     ensures long_bottom { length bottom.new.heads.items ≡ length up.now }
     ensures top { (j : ℕ) → get_or top.new.heads.items j 0 ≡ get_or (row_heads rows.old 0) j 0 }
     ensures bottom { (j : ℕ) → get_or bottom.new.heads.items j 0 ≡ get_or (row_heads rows.old (length rows.old - 1)) j 0 }
     ensures shows { (p : Plane) → IsEmptyWest p → ShowRows rows.old p (pos y) → ShowsHeads up.now p (pos y -ℤ pos 1) → ShowsHeads down.now p (pos y +ℤ pos (length rows.old)) → ShowRows rows.new (injected (has_cell (injected_cells due.now)) (next_plane p)) (pos y) }
 {
-    step_band(rows, up, up_span, down, down_span, spare_heads, spare_wires);
+    step_band(
+        rows,
+        lit,
+        near,
+        up,
+        up_span,
+        down,
+        down_span,
+        spare_heads,
+        spare_wires,
+    );
     keep_edges(rows, top, bottom);
-    inject(rows, y, up.len(), due);
+    inject(rows, lit, y, up.len(), due);
 }
 
 impl Band {
-    // A row's span, or an empty one where the whole band is dark.
-    fn lit_span(&self, span: Span) -> Span
-        ensures within { (n : ℕ) → span.end ≤ n → result.end ≤ n }
-        ensures dark { (words : List ℕ) → IsDarkBeyond self.now.light.first self.now.light.end words → IsDarkBeyond span.first span.end words → IsDarkBeyond result.first result.end words }
-    {
-        if self.light.is_empty() {
-            return Span { first: 0, end: 0 };
-        }
-        span
-    }
-
     /// The heads of the bottom row at a generation, which is the band's or the one before, and a span beyond which there are
     /// none.
     pub fn bottom_heads(&self, generation: u64) -> (&[u64], Span)
         requires some { 0 < length self.now.rows.items }
-        requires light { AreDarkBeyond self.now.light.first self.now.light.end self.now.rows.items }
         ensures heads { result.0.now ≡ bottom_at generation self.now }
         ensures within { result.1.end ≤ length result.0.now }
         ensures dark { IsDarkBeyond result.1.first result.1.end result.0.now }
     {
         if self.generation == generation {
             let row = &self.rows[self.rows.len() - 1];
-            return (row.heads.as_slice(), self.lit_span(row.span));
+            return (row.heads.as_slice(), row.span);
         }
         (self.bottom.heads.as_slice(), self.bottom.span)
     }
@@ -134,14 +145,13 @@ impl Band {
     /// The heads of the top row, likewise.
     pub fn top_heads(&self, generation: u64) -> (&[u64], Span)
         requires some { 0 < length self.now.rows.items }
-        requires light { AreDarkBeyond self.now.light.first self.now.light.end self.now.rows.items }
         ensures heads { result.0.now ≡ top_at generation self.now }
         ensures within { result.1.end ≤ length result.0.now }
         ensures dark { IsDarkBeyond result.1.first result.1.end result.0.now }
     {
         if self.generation == generation {
             let row = &self.rows[0];
-            return (row.heads.as_slice(), self.lit_span(row.span));
+            return (row.heads.as_slice(), row.span);
         }
         (self.top.heads.as_slice(), self.top.span)
     }
@@ -175,6 +185,8 @@ impl Band {
         let count = due_count(self.generation as u128, &self.injections[self.done..]);
         step_with_due(
             &mut self.rows,
+            &mut self.lit,
+            &mut self.near,
             y,
             up,
             up_span,
@@ -186,7 +198,7 @@ impl Band {
             &mut self.bottom,
             &self.injections[self.done..self.done + count],
         );
-        self.light = light_of(&self.rows);
+        self.is_dark = is_clear(&self.lit);
         self.done += count;
     }
 
@@ -195,7 +207,9 @@ impl Band {
         requires room { self.old.generation + 1 < 2 ^ 64 }
         ensures generation { self.new.generation ≡ self.old.generation + 1 }
         ensures rows { self.new.rows ≡ self.old.rows }
-        ensures light { self.new.light ≡ self.old.light }
+        ensures lit { self.new.lit ≡ self.old.lit }
+        ensures near { self.new.near ≡ self.old.near }
+        ensures is_dark { self.new.is_dark ≡ self.old.is_dark }
         ensures done { self.new.done ≡ self.old.done }
         ensures injections { self.new.injections ≡ self.old.injections }
         ensures long_top { length self.new.top.heads.items ≡ length self.old.top.heads.items }

@@ -4,12 +4,12 @@ ghost use Rattle.std.specs.Prelude.{◌≡◌, ◌+◌, ◌-◌, ◌*◌, ◌/�
 ghost use Rattle.ww_rule.specs.Wireworld.{Plane, Due, driven, injected};
 ghost use Rattle.ww_rule.specs.Grid.{plane_of};
 ghost use Rattle.ww_rule.specs.Injections.{due_of_list};
-ghost use Rattle.band_rows.specs.Rows.{AreLong};
+ghost use Rattle.band_rows.specs.Rows.{AreLong, AreMarked};
 ghost use Rattle.band_core.specs.Bands.{bands_in};
 ghost use Rattle.band_core.specs.Band.{AllShow, AreBands, AreDueIn, AreInRows, AreShown, IsBand, ShowsBand, generations_of};
 
 use crate::band::{Band, due_count, inject};
-use band_rows::{Kept, Row, Span, light_of};
+use band_rows::{Kept, Row, Span, is_clear, mark_lit};
 use lists::List;
 use std::alloc::{AllocError, Global};
 use std::mem;
@@ -81,6 +81,16 @@ fn dark_row(alloc: Global, words: usize) -> Result<Kept, AllocError>
     })
 }
 
+// Marks of the rows that are lit.
+fn marks_of(alloc: Global, rows: &[Row]) -> Result<Vec<u64>, AllocError>
+    requires few { length rows.now < 2 ^ 63 }
+    ensures { IfOk result (λ marks. AreMarked marks.items rows.now) }
+{
+    let mut marks = vec![in alloc; 0; rows.len() / 64 + 1]?;
+    mark_lit(rows, &mut marks);
+    Ok(marks)
+}
+
 // The band of so many rows of cells from row y on, at generation 0, with its own injections.
 fn begin_band(
     alloc: Global,
@@ -101,12 +111,16 @@ fn begin_band(
     ensures shows { IfOk result (λ band. (e : ℕ → Plane) (due : Due) → e 0 ≡ injected (due 0) (plane_of cells.now) → AreDueIn injections.items due y many → ShowsBand e due y many band) }
 {
     let mut rows = packed(alloc, cells, y, many, words)?;
+    let mut lit = marks_of(alloc, &rows)?;
+    let near = vec![in alloc; 0; lit.len()]?;
     let done = due_count(0, &injections);
-    inject(&mut rows, y, words, &injections[..done]);
-    let light = light_of(&rows);
+    inject(&mut rows, &mut lit, y, words, &injections[..done]);
+    let is_dark = is_clear(&lit);
     Ok(Band {
         rows,
-        light,
+        lit,
+        near,
+        is_dark,
         generation: 0,
         top: dark_row(alloc, words)?,
         bottom: dark_row(alloc, words)?,

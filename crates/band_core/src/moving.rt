@@ -2,7 +2,6 @@
 ghost use Rattle.std.specs.Prelude.{◌≡◌, ◌+◌, ◌-◌, ◌*◌, ◌<◌, ◌≤◌, ◌^◌, ℕ, length, get_or, min, slice_set, None, IfSome};
 ghost use Rattle.ww_rule.specs.Wireworld.{Plane, Due};
 ghost use Rattle.lane_kernel.specs.Spans.{IsDarkBeyond};
-ghost use Rattle.band_rows.specs.Rows.{AreDarkBeyond};
 ghost use Rattle.band_core.specs.declared.band.Band.{Band};
 ghost use Rattle.band_core.specs.Bands.{not_ready, unready_neighbour};
 ghost use Rattle.band_core.specs.Band.{AreBands, AllShow, HasNoneDue, IsEvolution, IsQuiet, IsWaking, bottom_at, generations_of, top_at};
@@ -51,7 +50,6 @@ pub fn unready_neighbour(bands: &[Band], b: usize) -> Option<NotReady>
 // has none.
 fn row_above<'a>(before: &'a [Band], generation: u64, dark: &'a [u64]) -> (&'a [u64], Span)
     requires some { (d : Band) → 0 < length before.now → 0 < length (get_or before.now (length before.now - 1) d).rows.items }
-    requires light { (d : Band) → 0 < length before.now → AreDarkBeyond (get_or before.now (length before.now - 1) d).light.first (get_or before.now (length before.now - 1) d).light.end (get_or before.now (length before.now - 1) d).rows.items }
     requires dark { (j : ℕ) → get_or dark.now j 0 ≡ 0 }
     ensures first { length before.now ≡ 0 → result.0.now ≡ dark.now }
     ensures later { (d : Band) → 0 < length before.now → result.0.now ≡ bottom_at generation (get_or before.now (length before.now - 1) d) }
@@ -67,7 +65,6 @@ fn row_above<'a>(before: &'a [Band], generation: u64, dark: &'a [u64]) -> (&'a [
 // The heads of the first row of bands, likewise.
 fn row_below<'a>(after: &'a [Band], generation: u64, dark: &'a [u64]) -> (&'a [u64], Span)
     requires some { (d : Band) → 0 < length after.now → 0 < length (get_or after.now 0 d).rows.items }
-    requires light { (d : Band) → 0 < length after.now → AreDarkBeyond (get_or after.now 0 d).light.first (get_or after.now 0 d).light.end (get_or after.now 0 d).rows.items }
     requires dark { (j : ℕ) → get_or dark.now j 0 ≡ 0 }
     ensures last { length after.now ≡ 0 → result.0.now ≡ dark.now }
     ensures earlier { (d : Band) → 0 < length after.now → result.0.now ≡ top_at generation (get_or after.now 0 d) }
@@ -152,7 +149,7 @@ pub fn awake_cell(
     let band = &bands[b];
     let y = b * height;
     let own = band.rows.as_slice();
-    if let Some((x, z)) = lit_cell(own, band.light, y) {
+    if let Some((x, z)) = lit_cell(own, &band.lit, band.is_dark, y) {
         return Some((x as u64, z as u64));
     }
     let (before, rest) = bands.split_at(b);

@@ -1,11 +1,10 @@
 -- Rows of a band, and the planes that they show.
-use Rattle.std.specs.Prelude.{ℤ, pos, negsuc, ◌+ℤ◌, ℕ, ◌<◌, ◌≡◌, false, List, [], length, get_or, map}
+use Rattle.std.specs.Prelude.{ℤ, pos, negsuc, ◌+ℤ◌, ℕ, ◌+◌, ◌*◌, ◌^◌, ◌<◌, ◌≤◌, ◌≡◌, ◌⊎◌, Bool, false, List, [], length, get_or, map}
 use Rattle.ww_rule.specs.declared.pattern.State.{State}
 use Rattle.ww_rule.specs.declared.pattern.State.TheVariants.{Empty}
 use Rattle.ww_rule.specs.Wireworld.{Plane, count_head}
 use Rattle.band_rows.specs.declared.row.Row.{Row}
 use Rattle.lane_kernel.specs.Rows.{is_set, state_of, row_state}
-use Rattle.lane_kernel.specs.Spans.{IsDarkBeyond}
 
 -- the state of a cell of a row, by its column
 abbrev pub state_in_row : Row → ℕ → State
@@ -40,7 +39,24 @@ ShowRows rows p y = (k : ℕ) → k < length rows → Shows (row_heads rows k) (
 abbrev pub AreLong : ℕ → List Row → Type 0
 AreLong n rows = (k : ℕ) → k < length rows → length (row_heads rows k) ≡ n
 
--- beyond a span of words no row has a head or a tail
-pub record AreDarkBeyond (first end : ℕ) (rows : List Row) : Type 0 where
-  pub heads : (k : ℕ) → k < length rows → IsDarkBeyond first end (row_heads rows k)
-  pub tails : (k : ℕ) → k < length rows → IsDarkBeyond first end (row_tails rows k)
+-- row k has no head and no tail
+pub record IsDarkRow (rows : List Row) (k : ℕ) : Type 0 where
+  pub heads : (j : ℕ) → get_or (row_heads rows k) j 0 ≡ 0
+  pub tails : (j : ℕ) → get_or (row_tails rows k) j 0 ≡ 0
+
+-- bits for rows, bit k for row k: a row without a mark is dark
+pub record AreMarked (marks : List ℕ) (rows : List Row) : Type 0 where
+  pub few : length marks ≤ 2 ^ 57
+  pub enough : length rows ≤ 64 * length marks
+  pub dark : (k : ℕ) → k < length rows → is_set marks k ≡ false → IsDarkRow rows k
+
+-- row m is row k, or stands next to it
+abbrev pub IsBeside : (m k : ℕ) → Type 0
+IsBeside m k = (m ≡ k) ⊎ (m + 1 ≡ k) ⊎ (m ≡ k + 1)
+
+-- Of so many rows, row k and those next to it are not marked; where the row before the rows, or the one after them, is next to it,
+-- that one is not lit.
+pub record IsFar (marks : List ℕ) (up_is_lit down_is_lit : Bool) (rows k : ℕ) : Type 0 where
+  pub beside : (m : ℕ) → IsBeside m k → is_set marks m ≡ false
+  pub up : k ≡ 0 → up_is_lit ≡ false
+  pub down : k + 1 ≡ rows → down_is_lit ≡ false

@@ -2,15 +2,19 @@
 ghost use Rattle.std.specs.Prelude.{◌≡◌, ◌+◌, ◌-◌, ◌<◌, ◌≤◌, ◌+ℤ◌, ◌-ℤ◌, ℤ, ℕ, pos, length, get_or};
 ghost use Rattle.ww_rule.specs.Wireworld.{Plane, next_plane};
 ghost use Rattle.lane_kernel.specs.Spans.{IsDarkBeyond};
-ghost use Rattle.band_rows.specs.Rows.{row_heads, row_tails, AreDarkBeyond, AreLong, IsEmptyWest, ShowRows, ShowsHeads};
+ghost use Rattle.band_rows.specs.Rows.{row_heads, row_tails, AreLong, AreMarked, IsEmptyWest, ShowRows, ShowsHeads};
 
 use crate::row::Row;
-use crate::span::{Span, hull};
+use crate::row_marks::{mark_near, mark_row, next_marked};
+use crate::span::Span;
 
 /// The next generation of rows, where the heads of the rows before and after them are known, and spans beyond which these
-/// have none. The spare rows hold anything.
+/// have none. `lit` marks the rows that may be lit: these and the rows next to them are stepped, and no other is looked at.
+/// `near` and the spare rows hold anything.
 pub fn step_band(
     rows: &mut [Row],
+    lit: &mut [u64],
+    near: &mut [u64],
     up: &[u64],
     up_span: Span,
     down: &[u64],
@@ -19,6 +23,8 @@ pub fn step_band(
     spare_wires: &mut [u64],
 )
     requires long { AreLong (length up.now) rows.old }
+    requires lit { AreMarked lit.old rows.old }
+    requires near { length near.old ≡ length lit.old }
     requires down { length down.now ≡ length up.now }
     requires up_within { up_span.end ≤ length up.now }
     requires down_within { down_span.end ≤ length up.now }
@@ -28,10 +34,22 @@ pub fn step_band(
     requires dark_down { IsDarkBeyond down_span.first down_span.end down.now }
     ensures many { length rows.new ≡ length rows.old }
     ensures long { AreLong (length up.now) rows.new }
+    ensures lit { AreMarked lit.new rows.new }
+    ensures long_lit { length lit.new ≡ length lit.old }
+    ensures near { length near.new ≡ length near.old }
     ensures tails { (k j : ℕ) → k < length rows.old → get_or (row_tails rows.new k) j 0 ≡ get_or (row_heads rows.old k) j 0 }
     ensures steps { (p : Plane) (y : ℤ) → IsEmptyWest p → ShowRows rows.old p y → ShowsHeads up.now p (y -ℤ pos 1) → ShowsHeads down.now p (y +ℤ pos (length rows.old)) → ShowRows rows.new (next_plane p) y }
 {
-    for r in 0..rows.len() {
+    mark_near(
+        lit,
+        !up_span.is_empty(),
+        !down_span.is_empty(),
+        rows.len(),
+        near,
+    );
+    lit.fill(0);
+    let mut r = next_marked(near, 0);
+    while r < rows.len() {
         let (before, rest) = rows.split_at_mut(r);
         let (own, after) = rest.split_at_mut(1);
         let (above, above_span) = above_of(before, up, up_span);
@@ -44,18 +62,9 @@ pub fn step_band(
             spare_heads,
             spare_wires,
         );
+        mark_row(lit, r, !own[0].span.is_empty());
+        r = next_marked(near, r + 1);
     }
-}
-
-/// A span of words beyond which no row has heads or tails.
-pub fn light_of(rows: &[Row]) -> Span
-    ensures { AreDarkBeyond result.first result.end rows.now }
-{
-    let mut light = Span { first: 0, end: 0 };
-    for row in rows {
-        light = hull(light, row.span);
-    }
-    light
 }
 
 // The heads of the last of rows that have stepped, or of the row before a band, and a span beyond which it has none.

@@ -13,8 +13,8 @@ pub fn is_set(words: &[u64], x: usize) -> bool
     x / 64 < words.len() && (words[x / 64] >> (x % 64)) & 1 == 1
 }
 
-// Sets the bit of a cell.
-fn set_bit(words: &mut [u64], x: usize)
+/// Sets the bit of a cell.
+pub fn set_bit(words: &mut [u64], x: usize)
     requires { x / 64 < length words.old }
     ensures long { length words.new ≡ length words.old }
     ensures cells { (k : ℕ) → is_set words.new k ≡ (k == x || is_set words.old k) }

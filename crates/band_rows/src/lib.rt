@@ -7,9 +7,11 @@ mod band;
 mod bits;
 mod kept;
 mod row;
+mod row_marks;
 mod span;
 
-pub use band::{light_of, step_band};
+pub use band::step_band;
 pub use kept::Kept;
 pub use row::Row;
+pub use row_marks::{is_clear, mark_lit, mark_row, next_marked};
 pub use span::{Span, first_bit};

@@ -1,13 +1,13 @@
 // Rows that know where their light is.
-ghost use Rattle.std.specs.Prelude.{◌≡◌, ◌-◌, ◌*◌, ◌/◌, ◌<◌, ◌≤◌, ◌^◌, ◌==◌, if◌then◌else◌, ℕ, pos, length, get_or, IfOk};
+ghost use Rattle.std.specs.Prelude.{◌≡◌, ◌+◌, ◌-◌, ◌*◌, ◌/◌, ◌<◌, ◌≤◌, ◌^◌, ◌==◌, ◌&&◌, true, if◌then◌else◌, ℕ, pos, length, get_or, IfOk};
 ghost use Rattle.ww_rule.specs.declared.pattern.State.TheVariants.{Empty, Head};
 ghost use Rattle.ww_rule.specs.Wireworld.{next_plane};
 ghost use Rattle.lane_kernel.specs.Rows.{row_state, plane_of_rows, AreDisjoint};
-ghost use Rattle.lane_kernel.specs.Spans.{IsDarkBeyond};
+ghost use Rattle.lane_kernel.specs.Spans.{IsDarkBeyond, stays_within};
 
 use crate::bits::{is_set, mark_all, put_head};
 use crate::span::{Span, hull, trimmed, widened};
-use lane_kernel::{one_after, one_before, step_span};
+use lane_kernel::{one_after, one_before, stays_within, step_one_word, step_span};
 use std::alloc::{AllocError, Global};
 use ww_rule::State;
 
@@ -31,6 +31,111 @@ fn all_fit(words: &[u64])
     ensures { (j : ℕ) → get_or words.now j 0 < 2 ^ 64 }
 {
     let _long = words.len();
+}
+
+// The next generation of a row in place, and where its light is then, where the row's light and the heads beside it lie in
+// word j and nothing comes over its borders.
+fn step_in_word(
+    above: &[u64],
+    heads: &mut [u64],
+    below: &[u64],
+    tails: &mut [u64],
+    wires: &mut [u64],
+    j: usize,
+) -> Span
+    requires within { j < length heads.old }
+    requires above { length above.now ≡ length heads.old }
+    requires below { length below.now ≡ length heads.old }
+    requires tails { length tails.old ≡ length heads.old }
+    requires wires { length wires.old ≡ length heads.old }
+    requires dark_above { IsDarkBeyond j (j + 1) above.now }
+    requires dark_heads { IsDarkBeyond j (j + 1) heads.old }
+    requires dark_below { IsDarkBeyond j (j + 1) below.now }
+    requires dark_tails { IsDarkBeyond j (j + 1) tails.old }
+    requires stays { stays_within j above.now heads.old below.now ≡ true }
+    requires apart { AreDisjoint heads.old tails.old wires.old }
+    ensures long_heads { length heads.new ≡ length heads.old }
+    ensures long_tails { length tails.new ≡ length heads.old }
+    ensures long_wires { length wires.new ≡ length heads.old }
+    ensures within { result.end ≤ length heads.old }
+    ensures dark_heads { IsDarkBeyond result.first result.end heads.new }
+    ensures dark_tails { IsDarkBeyond result.first result.end tails.new }
+    ensures apart { AreDisjoint heads.new tails.new wires.new }
+    ensures tails { (i : ℕ) → get_or tails.new i 0 ≡ get_or heads.old i 0 }
+    ensures cells { (x : ℕ) → row_state heads.new tails.new wires.new x ≡ next_plane (plane_of_rows above.now heads.old below.now tails.old wires.old) (pos x) (pos 1) }
+{
+    all_fit(heads);
+    let is_lit = step_one_word(above, heads, below, tails, wires, j);
+    Span {
+        first: j,
+        end: if is_lit { j + 1 } else { j },
+    }
+}
+
+// Whether a span is one word, over whose borders nothing of three rows of heads comes.
+fn is_in_word(above: &[u64], heads: &[u64], below: &[u64], near: Span) -> bool
+    requires within { near.end ≤ length heads.now }
+    requires above { length above.now ≡ length heads.now }
+    requires below { length below.now ≡ length heads.now }
+    ensures { result ≡ (near.first + 1 == near.end && stays_within near.first above.now heads.now below.now) }
+{
+    if near.is_empty() {
+        return false;
+    }
+    near.end - near.first == 1 && stays_within(above, heads, below, near.first)
+}
+
+// The next generation of a row in place, and where its light is then, where the row's light and the heads beside it lie in
+// a span of words.
+fn step_in_span(
+    above: &[u64],
+    heads: &mut [u64],
+    below: &[u64],
+    tails: &mut [u64],
+    wires: &mut [u64],
+    near: Span,
+    spare_heads: &mut [u64],
+    spare_wires: &mut [u64],
+) -> Span
+    requires within { near.end ≤ length heads.old }
+    requires above { length above.now ≡ length heads.old }
+    requires below { length below.now ≡ length heads.old }
+    requires tails { length tails.old ≡ length heads.old }
+    requires wires { length wires.old ≡ length heads.old }
+    requires spare_heads { length spare_heads.old ≡ length heads.old }
+    requires spare_wires { length spare_wires.old ≡ length heads.old }
+    requires dark_above { IsDarkBeyond near.first near.end above.now }
+    requires dark_heads { IsDarkBeyond near.first near.end heads.old }
+    requires dark_below { IsDarkBeyond near.first near.end below.now }
+    requires dark_tails { IsDarkBeyond near.first near.end tails.old }
+    requires apart { AreDisjoint heads.old tails.old wires.old }
+    ensures long_heads { length heads.new ≡ length heads.old }
+    ensures long_tails { length tails.new ≡ length heads.old }
+    ensures long_wires { length wires.new ≡ length heads.old }
+    ensures long_spare_heads { length spare_heads.new ≡ length heads.old }
+    ensures long_spare_wires { length spare_wires.new ≡ length heads.old }
+    ensures within { result.end ≤ length heads.old }
+    ensures dark_heads { IsDarkBeyond result.first result.end heads.new }
+    ensures dark_tails { IsDarkBeyond result.first result.end tails.new }
+    ensures apart { AreDisjoint heads.new tails.new wires.new }
+    ensures tails { (i : ℕ) → get_or tails.new i 0 ≡ get_or heads.old i 0 }
+    ensures cells { (x : ℕ) → row_state heads.new tails.new wires.new x ≡ next_plane (plane_of_rows above.now heads.old below.now tails.old wires.old) (pos x) (pos 1) }
+{
+    all_fit(heads);
+    let lo = one_before(near.first);
+    let hi = one_after(near.end, heads.len());
+    step_span(
+        above,
+        heads,
+        below,
+        tails,
+        wires,
+        near.first,
+        near.end,
+        spare_heads,
+        spare_wires,
+    );
+    trimmed(heads, tails, lo, hi)
 }
 
 // The next generation of a row in place, and where its light is then.
@@ -77,20 +182,19 @@ fn step_lit(
     if near.is_empty() {
         return span;
     }
-    let lo = one_before(near.first);
-    let hi = one_after(near.end, heads.len());
-    step_span(
+    if is_in_word(above, heads, below, near) {
+        return step_in_word(above, heads, below, tails, wires, near.first);
+    }
+    step_in_span(
         above,
         heads,
         below,
         tails,
         wires,
-        near.first,
-        near.end,
+        near,
         spare_heads,
         spare_wires,
-    );
-    trimmed(heads, tails, lo, hi)
+    )
 }
 
 impl Row {

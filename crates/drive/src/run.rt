@@ -20,7 +20,10 @@ use std::alloc::Global;
 use ww_rule::{Injection, Pattern, State};
 
 /// How many rows a band has at least.
-const LEAST_BAND_ROWS: usize = 16;
+const LEAST_BAND_ROWS: usize = 256;
+
+/// How many rows are marked in one word of a band: its rows are a multiple of them.
+const ROWS_OF_A_WORD: usize = 64;
 
 /// How many rows a band has at most.
 const MOST_BAND_ROWS: usize = 1 << 20;
@@ -68,7 +71,8 @@ fn band_rows(rows: usize) -> u32
     ensures { 0 < result }
 {
     rows.div_ceil(MOST_BANDS)
-        .clamp(LEAST_BAND_ROWS, MOST_BAND_ROWS) as u32
+        .clamp(LEAST_BAND_ROWS, MOST_BAND_ROWS)
+        .next_multiple_of(ROWS_OF_A_WORD) as u32
 }
 
 // Whether a row would not fill one word, and there are more rows than columns.

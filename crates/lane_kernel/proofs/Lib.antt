@@ -1,5 +1,6 @@
 pub mod Bits
 pub mod Counting
-pub mod Places
 pub mod Four
+pub mod OneWord
 pub mod Parts
+pub mod Places

@@ -10,7 +10,7 @@ use Rattle.ww_rule.specs.declared.pattern.State.TheVariants.{Empty}
 use Rattle.ww_rule.specs.Wireworld.{count_head, heads_around, next_plane, next_state}
 use Rattle.lane_kernel.specs.Rows.{is_set, state_of, row_state, plane_of_rows, AreDisjoint}
 use Rattle.lists.specs.Bits.{has_bit}
-use Rattle.lane_kernel.specs.Words.{ones_of, twos_of, from_west, from_east, before, new_heads_of, new_wires_of, heads_word, wires_word}
+use Rattle.lane_kernel.specs.Words.{ones_of, twos_of, from_west, from_east, before, new_heads_of, new_wires_of, heads_word, wires_word, spread_of}
 use Rattle.lane_kernel.proofs.Bits.{differ, odd, most, ones_bit, twos_bit, fires_bit, xor_bit, no_bit, west_bit, east_bit, west_is, east_is, not_last, fire_bit}
 use Rattle.lane_kernel.proofs.Counting.{total, counts, count_is, next_is, no_clash, clash}
 use Rattle.lists.proofs.WordBits.{or_bit, and_bit}
@@ -21,7 +21,7 @@ abbrev pub Fit : List ℕ → Type 0
 Fit words = (j : ℕ) → get_or words j 0 < 2 ^ 64
 
 -- is the bit of a cell set, by an integer?
-abbrev row_bit : List ℕ → ℤ → Bool
+abbrev pub row_bit : List ℕ → ℤ → Bool
 row_bit words (pos x) = is_set words x
 row_bit words (negsuc x) = false
 
@@ -29,10 +29,10 @@ before_fits : (words : List ℕ) (j : ℕ) → Fit words → before words j < 2 
 before_fits words zero h = omega arith
 before_fits words (suc j) h = h j
 
-ones_fit : (a b c : ℕ) → a < 2 ^ 64 → b < 2 ^ 64 → c < 2 ^ 64 → ones_of a b c < 2 ^ 64
+pub ones_fit : (a b c : ℕ) → a < 2 ^ 64 → b < 2 ^ 64 → c < 2 ^ 64 → ones_of a b c < 2 ^ 64
 ones_fit a b c p q r = xor_lt 64 (bit_xor a b) c (xor_lt 64 a b p q) r
 
-twos_fit : (a b c : ℕ) → a < 2 ^ 64 → b < 2 ^ 64 → c < 2 ^ 64 → twos_of a b c < 2 ^ 64
+pub twos_fit : (a b c : ℕ) → a < 2 ^ 64 → b < 2 ^ 64 → c < 2 ^ 64 → twos_of a b c < 2 ^ 64
 twos_fit a b c p q r =
     or_lt 64 (bit_and a b) (bit_and (bit_xor a b) c)
     (let e = and_le_l a b in omega (arith, e, p))
@@ -70,6 +70,20 @@ east_place words x j i e h =
           ap (east_bit (get_or words j 0) (get_or words (j + 1) 0)) l
           ∙ sym (is_set_at words (x + 1) (j + 1) 0 s (omega arith))
     ]
+
+-- a bit and those beside it, in a word that was spread
+pub spread_bit : (words : List ℕ) → Fit words → (x : ℕ) → has_bit (spread_of (before words (x / 64)) (get_or words (x / 64) 0) (get_or words (x / 64 + 1) 0)) (x % 64) ≡ ((is_set words x || row_bit words (pos x -ℤ pos 1)) || row_bit words (pos x +ℤ pos 1))
+spread_bit words fit x =
+    let j = x / 64 in
+    let i = x % 64 in
+    let e : x ≡ j * 64 + i = omega arith in
+    let lt : i < 64 = omega arith in
+    let west = from_west (before words j) (get_or words j 0) in
+    let east = from_east (get_or words j 0) (get_or words (j + 1) 0) in
+    or_bit (bit_or (get_or words j 0) west) east i
+    ∙ ap₂ (λ p q. p || q)
+    (or_bit (get_or words j 0) west i ∙ ap (λ q. is_set words x || q) (west_is (before words j) (get_or words j 0) i (before_fits words j fit) lt ∙ west_place words x j i e lt))
+    (east_is (get_or words j 0) (get_or words (j + 1) 0) i (fit j) lt ∙ east_place words x j i e lt)
 
 -- a column beside a cell: its three bits
 west_column : (f : ℕ → ℕ → ℕ → ℕ) (g : Bool → Bool → Bool → Bool) → ((a b c i : ℕ) → has_bit (f a b c) i ≡ g (has_bit a i) (has_bit b i) (has_bit c i)) → (a0 a b0 b h0 h i : ℕ) → f a0 b0 h0 < 2 ^ 64 → i < 64 → has_bit (from_west (f a0 b0 h0) (f a b h)) i ≡ g (west_bit a0 a i) (west_bit b0 b i) (west_bit h0 h i)

@@ -4,9 +4,12 @@
 #![tactic(auto)]
 
 mod lanes;
+mod one_word;
 mod rows;
 mod spans;
 mod words;
 
+pub use one_word::{stays_within, step_one_word};
 pub use rows::step_rows;
 pub use spans::{one_after, one_before, put_words, step_span};
+pub use words::{spread, words_near};

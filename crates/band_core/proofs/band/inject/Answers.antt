@@ -7,7 +7,7 @@ use Rattle.ww_rule.proofs.Injected.{injected_more}
 use Rattle.band_rows.specs.Rows.{ShowRows}
 use Rattle.band_rows.proofs.Bands.{held}
 use Rattle.band_core.specs.Band.{injected_cells}
-use Rattle.band_core.proofs.Injecting.{head_put, long_put}
+use Rattle.band_core.proofs.Injecting.{head_put, long_put, marked_put}
 use Rattle.band_core.proofs.band.inject.Goals as goal
 
 pub make_head-requires : goal.make_head-requires
@@ -45,6 +45,8 @@ loop-injection-preserved c =
     record {
       many = length-set rows k new ∙ many;
       long = long_put c.args.words rows k c.index-rows-place.result new lt c.make_head.ensures.long v.long;
+      long_lit = c.mark_row.ensures.long ∙ v.long_lit;
+      lit = marked_put c.loop-injection.lit c.mark_row.new.marks rows k new c.mark_row.ensures.long c.mark_row.ensures.marks v.lit;
       shows = λ p shown.
           let q = injected (has_cell (take n cells)) p in
           let after : injected (has_cell ((i.x, i.y) ∷ [])) q ≡ injected (has_cell (take (n + 1) cells)) p =
@@ -60,3 +62,15 @@ returns-clause-shows c p shown =
     let m = length-map {B = ℕ × ℕ} c.args.due.now (λ (i : Injection). (i.x, i.y)) in
     let past : length cells ≤ n = omega (arith, m, c.loop-injection-test.false) in
     subst (λ cells. ShowRows c.loop-injection.rows (injected (has_cell cells) p) (pos c.args.y)) (take_all n cells past) (c.loop-injection.invariant.shows p shown)
+
+pub mark_row-requires : goal.mark_row-requires
+mark_row-requires c =
+    let n = c.loop-injection.injection-index in
+    let i = get_or c.args.due.now n (record { generation = 0; x = 0; y = 0 }) in
+    let v = c.loop-injection.invariant in
+    let fits = c.requires.inside n (record { generation = 0; x = 0; y = 0 }) c.loop-injection-test.true in
+    let a = fits.0 in
+    let b = fits.1 in
+    let many = v.many in
+    let enough = v.lit.enough in
+    omega (arith, a, b, many, enough)

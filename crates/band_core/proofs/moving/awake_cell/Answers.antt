@@ -4,7 +4,7 @@ use Rattle.ww_rule.specs.Wireworld.{Plane, Due}
 use Rattle.std.specs.Prelude.{◌⊎◌}
 use Rattle.lane_kernel.specs.Rows.{is_set}
 use Rattle.band_rows.specs.declared.row.Row.{Row}
-use Rattle.band_rows.specs.Rows.{ShowsHeads, row_heads, row_tails}
+use Rattle.band_rows.specs.Rows.{AreMarked, ShowsHeads, row_heads, row_tails}
 use Rattle.band_core.specs.declared.band.Band.{Band}
 use Rattle.band_core.specs.Band.{AreBands, AreUnlit, IsLitIn, AllShow, IsEvolution, IsBand, ShowsBand, IsQuiet, IsWaking, bottom_at, top_at, generations_of}
 use Rattle.band_core.specs.Bands.{unready_neighbour}
@@ -15,6 +15,21 @@ use Rattle.band_core.proofs.Resting.{is_quiet}
 use Rattle.band_core.proofs.Waking.{lit_wakes, faced_wakes, due_wakes, none_wakes}
 use Rattle.lists.proofs.Options.{none_where}
 use Rattle.band_core.proofs.moving.awake_cell.Goals as goal
+
+pub lit_cell-requires-clause-lit : goal.lit_cell-requires-clause-lit
+lit_cell-requires-clause-lit c =
+    let b = c.args.b in
+    let band = c.index-bands-b.result in
+    let is = c.requires.bands.each b band c.requires.band in
+    let here = subst (λ (d : Band). AreMarked d.lit.items d.rows.items) (sym c.index-bands-b.is) is.lit in
+    subst (λ lit. AreMarked lit c.as_slice-own.result.now) (sym c.deref.ensures.value) (subst (AreMarked band.lit.items) (sym c.as_slice-own.ensures.value) here)
+
+pub lit_cell-requires-clause-dark : goal.lit_cell-requires-clause-dark
+lit_cell-requires-clause-dark c none j =
+    let b = c.args.b in
+    let band = c.index-bands-b.result in
+    let is = c.requires.bands.each b band c.requires.band in
+    ap (λ words. get_or words j 0) c.deref.ensures.value ∙ subst (λ (d : Band). d.is_dark ≡ true → (j : ℕ) → get_or d.lit.items j 0 ≡ 0) (sym c.index-bands-b.is) is.dark none j
 
 pub faced_cell-requires-clause-few_up : goal.faced_cell-requires-clause-few_up
 faced_cell-requires-clause-few_up c =

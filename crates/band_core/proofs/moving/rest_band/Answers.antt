@@ -22,7 +22,7 @@ returns-clause-bands c words height rows are =
     record {
       many = length-set bands b next ∙ are.many;
       each = put_one (λ k band. IsBand words (k * height) (min height (rows - k * height)) band) bands b next c.requires.band
-          (rests words y m (get_or bands b d) next e.rows e.light e.injections e.done (e.long_top ∙ is.top) (e.long_bottom ∙ is.bottom) is) are.each;
+          (rests words y m (get_or bands b d) next e.rows e.lit e.near e.is_dark e.injections e.done (e.long_top ∙ is.top) (e.long_bottom ∙ is.bottom) is) are.each;
     }
 
 pub returns-clause-generations : goal.returns-clause-generations

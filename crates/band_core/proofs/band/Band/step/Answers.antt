@@ -1,12 +1,13 @@
 use Rattle.ww_rule.specs.Due.{due_count}
-use Rattle.std.proofs.Common.{pos, ◌+ℤ◌, ℕ, ◌+◌, ◌-◌, ◌/◌, ◌<◌, ◌≤◌, ◌≡◌, sym, ap, ap₂, subst, ◌∙◌, List, length, take, drop, arith}
+use Rattle.std.proofs.Common.{pos, ◌+ℤ◌, ℕ, ◌+◌, ◌-◌, ◌/◌, ◌<◌, ◌≤◌, ◌≡◌, sym, ap, ap₂, subst, ◌∙◌, List, length, get_or, take, drop, arith}
 use Rattle.std.proofs.lemmas.Int.{ints}
 use Rattle.std.proofs.lemmas.List.{with_items_is, drop-drop, take_all, length-drop}
 use Rattle.std.proofs.lemmas.List.Elements.{All-take, All-drop}
 use Rattle.ww_rule.specs.declared.pattern.Injection.{Injection}
-use Rattle.band_rows.specs.Rows.{AreDarkBeyond, AreLong, ShowRows, ShowsHeads}
+use Rattle.band_rows.specs.Rows.{AreLong, ShowRows, ShowsHeads}
 use Rattle.ww_rule.proofs.Due.{left_after}
 use Rattle.band_core.specs.Band.{AreInRows}
+use Rattle.band_core.proofs.Lit.{all_zero, marked_same}
 use Rattle.band_core.proofs.NextRows.{west, rows_move, kept_shows}
 use Rattle.band_core.proofs.band.Band.step.Goals as goal
 
@@ -35,15 +36,20 @@ returns-clause-is c =
     let is = c.requires.is in
     let s = c.step_with_due.ensures in
     let new = c.step_with_due.new.rows in
-    let light = c.light_of-self.result in
     let value = c.deref_mut.ensures.value in
     let m = s.many in
     let rows_is = with_items_is band.rows new (omega (arith, m)) in
+    let ll = s.long_lit in
+    let lit_is = with_items_is band.lit c.step_with_due.new.lit (omega (arith, ll)) in
+    let ln = s.near in
+    let near_is = with_items_is band.near c.step_with_due.new.near (omega (arith, ln)) in
     record {
       high = ap length rows_is ∙ m ∙ ap length value;
       some = is.some;
       long = subst (AreLong (length c.args.up.now)) (sym rows_is) s.long;
-      light = subst (AreDarkBeyond light.first light.end) c.deref-3.ensures.value c.light_of-self.ensures;
+      lit = marked_same lit_is rows_is s.lit;
+      near = ap length near_is ∙ ln ∙ ap length c.deref_mut-3.ensures.value ∙ is.near ∙ sym (ap length lit_is ∙ ll ∙ ap length c.deref_mut-2.ensures.value);
+      dark = λ none j. ap (λ words. get_or words j 0) (sym c.deref-3.ensures.value) ∙ all_zero c.deref-3.result.now (c.is_clear-self.ensures.0 none) j;
       top = s.long_top;
       bottom = s.long_bottom;
       inside = is.inside;

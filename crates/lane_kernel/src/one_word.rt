@@ -1,0 +1,84 @@
+// A row whose light lies in one word.
+ghost use Rattle.std.specs.Prelude.{◌≡◌, ◌+◌, ◌<◌, ◌≢◌, ◌==◌, not, true, ℕ, length, get_or};
+ghost use Rattle.std.specs.Int.RustNames.{bit_or};
+ghost use Rattle.lane_kernel.specs.Words.{heads_word, wires_word, new_heads_of, new_wires_of};
+ghost use Rattle.lane_kernel.specs.Spans.{IsDarkBeyond, has_end, stays_within};
+
+use crate::words::{alone, new_heads, new_wires};
+
+// Whether a word has a bit at its first or its last place.
+fn has_end(words: &[u64], j: usize) -> bool
+    requires { j < length words.now }
+    ensures { result ≡ has_end j words.now }
+{
+    words[j] & 1 == 1 || (words[j] >> 63) & 1 == 1
+}
+
+/// Whether nothing of three rows of heads comes over the borders of word j: none of its heads stands at its ends, or the
+/// rows have no other word.
+pub fn stays_within(above: &[u64], heads: &[u64], below: &[u64], j: usize) -> bool
+    requires within { j < length heads.now }
+    requires above { length above.now ≡ length heads.now }
+    requires below { length below.now ≡ length heads.now }
+    ensures { result ≡ stays_within j above.now heads.now below.now }
+{
+    heads.len() == 1 || !(has_end(above, j) || has_end(heads, j) || has_end(below, j))
+}
+
+// The new heads of word j of a row, where the light of the row and the heads beside it lie in this word and nothing comes
+// over its borders: no other word gets any.
+fn heads_in(above: &[u64], heads: &[u64], below: &[u64], wires: &[u64], j: usize) -> u64
+    requires within { j < length heads.now }
+    requires above { length above.now ≡ length heads.now }
+    requires below { length below.now ≡ length heads.now }
+    requires wires { length wires.now ≡ length heads.now }
+    requires dark_above { IsDarkBeyond j (j + 1) above.now }
+    requires dark_heads { IsDarkBeyond j (j + 1) heads.now }
+    requires dark_below { IsDarkBeyond j (j + 1) below.now }
+    requires stays { stays_within j above.now heads.now below.now ≡ true }
+    ensures here { result ≡ heads_word above.now heads.now below.now wires.now j }
+    ensures beside { (i : ℕ) → i ≢ j → heads_word above.now heads.now below.now wires.now i ≡ 0 }
+{
+    new_heads(alone(above[j]), alone(heads[j]), alone(below[j]), wires[j])
+}
+
+/// The next generation of a row in place, where the row's light and the heads beside it lie in word j and nothing comes
+/// over its borders: no other word is looked at. Answers whether the row is lit then.
+pub fn step_one_word(
+    above: &[u64],
+    heads: &mut [u64],
+    below: &[u64],
+    tails: &mut [u64],
+    wires: &mut [u64],
+    j: usize,
+) -> bool
+    requires within { j < length heads.old }
+    requires above { length above.now ≡ length heads.old }
+    requires below { length below.now ≡ length heads.old }
+    requires tails { length tails.old ≡ length heads.old }
+    requires wires { length wires.old ≡ length heads.old }
+    requires dark_above { IsDarkBeyond j (j + 1) above.now }
+    requires dark_heads { IsDarkBeyond j (j + 1) heads.old }
+    requires dark_below { IsDarkBeyond j (j + 1) below.now }
+    requires dark_tails { IsDarkBeyond j (j + 1) tails.old }
+    requires stays { stays_within j above.now heads.old below.now ≡ true }
+    ensures long_heads { length heads.new ≡ length heads.old }
+    ensures long_tails { length tails.new ≡ length heads.old }
+    ensures long_wires { length wires.new ≡ length heads.old }
+    ensures heads { (i : ℕ) → get_or heads.new i 0 ≡ heads_word above.now heads.old below.now wires.old i }
+    ensures tails { (i : ℕ) → get_or tails.new i 0 ≡ get_or heads.old i 0 }
+    ensures wires { (i : ℕ) → get_or wires.new i 0 ≡ wires_word above.now heads.old below.now tails.old wires.old i }
+    ensures dark_heads { IsDarkBeyond j (j + 1) heads.new }
+    ensures dark_tails { IsDarkBeyond j (j + 1) tails.new }
+    ensures lit { result ≡ not (bit_or (get_or heads.new j 0) (get_or tails.new j 0) == 0) }
+{
+    let here = heads[j];
+    if here | tails[j] | wires[j] == 0 {
+        return false;
+    }
+    let fired = heads_in(above, heads, below, wires, j);
+    wires[j] = new_wires(wires[j], tails[j], fired);
+    heads[j] = fired;
+    tails[j] = here;
+    fired | here != 0
+}
