@@ -1,2 +1,3 @@
 pub mod PlanDrawing
+pub mod RowRuns
 pub mod Laws
