@@ -17,10 +17,10 @@ one_cell row x limit state some is = record {
 pub in_plane : (tiling : Tiling) (lit : Lit) (slot : Slot) (x y limit count : ℕ) (state : State)
     → slot ≡ tiling (x / 32) (y / 16)
     → IsRowRun (λ k. drawn_slot shipped_drawing lit (x / 32) (y / 16) slot k (y % 16)) (x % 32) (32 - x % 32) (state, count)
-    → 1 ≤ limit → (n : ℕ) → 1 ≤ n → n ≤ count → n ≤ limit
+    → (n : ℕ) → 1 ≤ n → n ≤ count → n ≤ limit
     → IsRowRun (λ k. drawn shipped_drawing tiling lit (pos k) (pos y)) x limit (state, n)
-in_plane tiling lit slot x y limit count state e run some n more few within = record {
-  some = more;
+in_plane tiling lit slot x y limit count state e run n some few within = record {
+  some = some;
   within = within;
   alike = λ i lt. (
       let q : (x + i) / 32 ≡ x / 32 = omega (arith, run.within) in

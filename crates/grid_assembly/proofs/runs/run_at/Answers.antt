@@ -12,4 +12,4 @@ returns c =
     let within : c.min.result ≤ c.args.limit = search rules in
     let some : 1 ≤ c.min.result = search rules in
     in_plane (tiling_of plan) (start_edges plan) (slot_of c.slot_at-slot.result) c.args.x c.args.y c.args.limit c.slot_run-state.result.1 c.slot_run-state.result.0
-    c.slot_at-slot.ensures c.slot_run-state.ensures c.requires.some c.min.result some few within
+    c.slot_at-slot.ensures c.slot_run-state.ensures c.min.result some few within
