@@ -3,7 +3,7 @@ use Rattle.std.proofs.Common.{◌≡◌, ◌∙◌, ap, ap₂, sym, pos, ℕ, �
 use Rattle.ww_rule.specs.declared.pattern.State.{State}
 use Rattle.tile_library.specs.Drawings.{shipped_drawing}
 use Rattle.tiling.specs.Tiling.{Lit, Slot, Tiling, drawn, drawn_slot}
-use Rattle.grid_assembly.specs.RowRuns.{IsRowRun}
+use Rattle.tile_library.specs.RowRuns.{IsRowRun}
 
 -- a cell is a run
 pub one_cell : (row : ℕ → State) (x limit : ℕ) (state : State) → 1 ≤ limit → state ≡ row x → IsRowRun row x limit (state, 1)

@@ -1,3 +1,2 @@
 pub mod PlanDrawing
-pub mod RowRuns
 pub mod Laws

@@ -8,29 +8,14 @@ ghost use Rattle.plan_layout.specs.Starts.{start_edges};
 ghost use Rattle.tile_library.specs.Drawings.{shipped_drawing};
 ghost use Rattle.tiling.specs.Tiling.{drawn_piece, drawn_slot};
 ghost use Rattle.tiling.specs.Tiling.Piece.{Tile};
-ghost use Rattle.grid_assembly.specs.RowRuns.{IsRowRun};
+ghost use Rattle.tile_library.specs.RowRuns.{IsRowRun};
 
 use crate::cells::{is_entry_lit, is_exit_lit, output_cell, tile_cell};
 use lane_core::Plan;
 use plan_layout::{Piece, Slot, slot_at};
-use tile_core::{Kind, Library};
+use tile_core::Kind;
 use tile_library::Shipped;
 use ww_rule::State;
-
-// Whether a cell of a tile is a conductor, and for how many cells from it on, up to the eastern side of its box, this is
-// so.
-fn drawn_run(kind: Kind, x: u32, y: u32) -> (bool, u32)
-    requires { x < 32 }
-    ensures { IsRowRun (λ x. shipped_drawing kind (pos x) (pos y)) x (32 - x) result }
-{
-    let drawn = Shipped.cell(kind, x, y);
-    for end in x + 1..32 {
-        if Shipped.cell(kind, end, y) != drawn {
-            return (drawn, end - x);
-        }
-    }
-    (drawn, 32 - x)
-}
 
 // Whether no electron stands in a tile at the beginning.
 fn is_dark(plan: &Plan, column: u64, lane: u64, kind: Kind) -> bool
@@ -56,10 +41,7 @@ fn tile_run(plan: &Plan, column: u64, lane: u64, kind: Kind, place: (u32, u32)) 
     ensures { IsRowRun (λ x. drawn_piece shipped_drawing (start_edges plan.now) column lane (Tile kind) x place.1)
         place.0 (32 - place.0) result }
 {
-    if Shipped.is_row_blank(kind, place.1) {
-        return (State::Empty, 32 - place.0);
-    }
-    let (drawn, count) = drawn_run(kind, place.0, place.1);
+    let (drawn, count) = Shipped.run_at(kind, place.0, place.1);
     if !drawn {
         (State::Empty, count)
     } else if is_dark(plan, column, lane, kind) {

@@ -10,7 +10,7 @@ use Rattle.tile_library.specs.Drawings.{shipped_drawing}
 use Rattle.plan_layout.specs.Planes.{start_plane}
 use Rattle.grid_assembly.specs.PlanDrawing.{AreCellsOfRow, start_row, start_grid}
 use Rattle.grid_assembly.proofs.Pattern.{cell_at}
-use Rattle.grid_assembly.specs.RowRuns.{IsRowRun}
+use Rattle.tile_library.specs.RowRuns.{IsRowRun}
 use Rattle.pattern_writing.specs.Writer.{tag_of}
 use Rattle.rle_write.specs.Left.{rows_left, row_left, text_left}
 use Rattle.rle_write.proofs.Tags.{rows_left_none, run_tags}
