@@ -1,3 +1,4 @@
 pub mod Ports
 pub mod Pattern
 pub mod Blank
+pub mod RowRuns

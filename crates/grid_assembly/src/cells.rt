@@ -36,7 +36,7 @@ fn is_port_lit(plan: &Plan, column: u64, lane: u64, port: (u32, u32)) -> bool
 }
 
 // Whether the n-th entry of a tile is lit at the beginning, counted from 0.
-fn is_entry_lit(plan: &Plan, column: u64, lane: u64, kind: Kind, n: usize) -> bool
+pub fn is_entry_lit(plan: &Plan, column: u64, lane: u64, kind: Kind, n: usize) -> bool
     requires admissible { IsAdmissible plan.now }
     requires far { column < 2 ^ 63 }
     requires low { lane < 2 ^ 62 }
@@ -50,7 +50,7 @@ fn is_entry_lit(plan: &Plan, column: u64, lane: u64, kind: Kind, n: usize) -> bo
 }
 
 // Whether the n-th exit of a tile is lit at the beginning, counted from 0.
-fn is_exit_lit(plan: &Plan, column: u64, lane: u64, kind: Kind, n: usize) -> bool
+pub fn is_exit_lit(plan: &Plan, column: u64, lane: u64, kind: Kind, n: usize) -> bool
     requires admissible { IsAdmissible plan.now }
     requires far { column < 2 ^ 63 }
     requires low { lane < 2 ^ 62 }
@@ -99,7 +99,7 @@ fn is_tail(plan: &Plan, column: u64, lane: u64, kind: Kind, place: (u32, u32)) -
 }
 
 // A cell of a tile whose first block is at this tile column and lane, by its place in the tile's box.
-fn tile_cell(plan: &Plan, column: u64, lane: u64, kind: Kind, place: (u32, u32)) -> State
+pub fn tile_cell(plan: &Plan, column: u64, lane: u64, kind: Kind, place: (u32, u32)) -> State
     requires admissible { IsAdmissible plan.now }
     requires far { column < 2 ^ 63 }
     requires low { lane < 2 ^ 62 }
@@ -130,7 +130,7 @@ fn piece_cell(plan: &Plan, column: u64, lane: u64, piece: Piece, place: (u32, u3
 }
 
 // A cell of a block where an output cell stands.
-fn output_cell(plan: &Plan, column: u64, lane: u64, place: (u32, u32)) -> State
+pub fn output_cell(plan: &Plan, column: u64, lane: u64, place: (u32, u32)) -> State
     requires admissible { IsAdmissible plan.now }
     ensures { result ≡ drawn_piece shipped_drawing (start_edges plan.now) column lane Output place.0 place.1 }
 {

@@ -6,5 +6,7 @@
 mod cells;
 pub mod laws;
 mod rows;
+mod runs;
 
 pub use rows::{cell, fill_row, pattern_of, size};
+pub use runs::run_at;

@@ -1,6 +1,6 @@
--- What is left to write, by pieces of a row and by the rows of a plan.
-use Rattle.std.proofs.Common.{◌≡◌, ℕ, ◌+◌, ◌≤◌, ◌<◌, pos, List, [], ◌∷◌, ◌++◌, map, drop, take, length, replicate, sym, ap, ◌∙◌, arith, drop_of_length-le, length-drop, length-take-le, take-append-drop}
-use Rattle.std.proofs.lemmas.List.{ext_get_or, get_or-take, get_or-drop, drop-drop, drop_more, map-append}
+-- What is left to write, by runs of a row and by the rows of a plan.
+use Rattle.std.proofs.Common.{◌≡◌, ℕ, ◌+◌, ◌≤◌, ◌<◌, pos, List, [], ◌∷◌, ◌++◌, map, drop, take, length, replicate, sym, ap, ap₂, ◌∙◌, arith, drop_of_length-le, length-drop, length-take-le, take-append-drop}
+use Rattle.std.proofs.lemmas.List.{ext_get_or, get_or-take, get_or-drop, get_or-replicate, length-replicate, drop-drop, drop_more, map-append}
 use Rattle.std.proofs.lemmas.List.FromFn.{length-map-range_with_len, get_or-map-range_with_len}
 use Rattle.ww_rule.specs.declared.pattern.State.{State}
 use Rattle.ww_rule.specs.declared.pattern.State.TheVariants.{Empty}
@@ -10,9 +10,10 @@ use Rattle.tile_library.specs.Drawings.{shipped_drawing}
 use Rattle.plan_layout.specs.Planes.{start_plane}
 use Rattle.grid_assembly.specs.PlanDrawing.{AreCellsOfRow, start_row, start_grid}
 use Rattle.grid_assembly.proofs.Pattern.{cell_at}
+use Rattle.tile_library.specs.RowRuns.{IsRowRun}
 use Rattle.pattern_writing.specs.Writer.{tag_of}
 use Rattle.rle_write.specs.Left.{rows_left, row_left, text_left}
-use Rattle.rle_write.proofs.Tags.{rows_left_none}
+use Rattle.rle_write.proofs.Tags.{rows_left_none, run_tags}
 
 -- the text that is left, by the rest of the row
 pub left_by : (held : List ℕ) (column ends count tag : ℕ) (rows : List (List State)) {l l' : List ℕ} → l ≡ l'
@@ -35,12 +36,18 @@ piece_next plan y x cells are within =
     are i lt ∙ sym (get_or-take n (drop x row) i Empty lt ∙ get_or-drop x row i Empty ∙ cell_at plan (x + i) y (omega (arith, lt, within)))) in
     sym (take-append-drop n (drop x row)) ∙ ap (λ l. l ++ drop n (drop x row)) (sym front) ∙ ap (λ l. cells ++ l) (drop-drop n x row)
 
-pub tags_next : (plan : Plan) (y x n : ℕ) (cells : List State) → AreCellsOfRow plan y x cells → length cells ≡ n → x + n ≤ (size_of plan).0
-    → map tag_of (drop x (start_row plan y)) ≡ map tag_of cells ++ map tag_of (drop (x + n) (start_row plan y))
-tags_next plan y x n cells are long within =
-    ap (map tag_of) (piece_next plan y x cells are (omega (arith, long, within)))
+-- the rest of a row begins with a run of it
+pub run_next : (plan : Plan) (y x limit : ℕ) (run : State × ℕ)
+    → IsRowRun (λ x. start_plane shipped_drawing plan (pos x) (pos y)) x limit run → x + limit ≤ (size_of plan).0
+    → map tag_of (drop x (start_row plan y)) ≡ replicate run.1 (tag_of run.0) ++ map tag_of (drop (x + run.1) (start_row plan y))
+run_next plan y x limit run is inside =
+    let cells : List State = replicate run.1 run.0 in
+    let long : length cells ≡ run.1 = length-replicate run.1 run.0 in
+    let are : AreCellsOfRow plan y x cells = λ i lt. (
+    let lt' : i < run.1 = omega (arith, lt, long) in get_or-replicate run.1 i run.0 Empty lt' ∙ sym (is.alike i lt')) in
+    ap (map tag_of) (piece_next plan y x cells are (omega (arith, long, is.within, inside)))
     ∙ map-append tag_of cells (drop (x + length cells) (start_row plan y))
-    ∙ ap (λ k. map tag_of cells ++ map tag_of (drop (x + k) (start_row plan y))) long
+    ∙ ap₂ (λ tags k. tags ++ map tag_of (drop (x + k) (start_row plan y))) (run_tags run.1 run.0) long
 
 pub tags_none : (plan : Plan) (y x : ℕ) → (size_of plan).0 ≤ x → map tag_of (drop x (start_row plan y)) ≡ []
 tags_none plan y x h = ap (map tag_of) (drop_of_length-le (start_row plan y) (omega (arith, row_long plan y, h)))

@@ -1,4 +1,4 @@
-// The rows of a plan's drawing, of which a piece at a time stands on the stack.
+// The rows of a plan's drawing, run by run.
 ghost use Rattle.std.specs.Prelude.{◌≡◌, ◌≤◌, ◌<◌, ◌+◌, ◌^◌, ℕ, List, ◌∷◌, ◌++◌, IfOk, OnErr, OnOk};
 ghost use Rattle.ww_rule.specs.declared.pattern.State.{State};
 ghost use Rattle.lane_core.specs.Plans.{IsAdmissible};
@@ -10,15 +10,11 @@ ghost use Rattle.port_writing.specs.Pages.{held, column_of};
 ghost use Rattle.port_writing.specs.Progress.{Wrote, Broke};
 
 use crate::items::write_item;
-use crate::rows::{Kept, end_row, write_cells};
-use grid_assembly::fill_row;
+use crate::rows::{Kept, end_row, write_same};
+use grid_assembly::run_at;
 use lane_core::Plan;
 use port_writing::Page;
 use ww_base::{Failed, Sink};
-use ww_rule::State;
-
-/// How many cells a piece of a row has.
-const PIECE: usize = 256;
 
 // Writes row `y` up to its last cell that is not empty, and answers how many row ends are due then, its own among them.
 fn write_plan_row<O: Sink>(
@@ -41,15 +37,12 @@ fn write_plan_row<O: Sink>(
         Broke (O.written sink.old) (O.written sink.new) (O.faults sink.old) (O.faults sink.new)
         (text_left (held page.old) (column_of page.old) (rows_left ends (start_row plan.now y ∷ rows)))) }
 {
-    let mut cells = [State::Empty; PIECE];
     let mut kept = Kept::begin(ends);
     let mut x = 0;
-    'pieces: while x < width {
-        let count = (width - x).min(PIECE as u64) as usize;
-        let piece = &mut cells[..count];
-        fill_row(plan, y, x, piece);
-        kept = write_cells(sink, page, kept, piece)?;
-        x += count as u64;
+    'runs: while x < width {
+        let (state, count) = run_at(plan, y, x, width - x);
+        kept = write_same(sink, page, kept, state, count as usize)?;
+        x += count;
     }
     end_row(sink, page, kept)
 }

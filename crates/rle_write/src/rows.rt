@@ -1,5 +1,5 @@
-// Rows, piece by piece: of each run of equal cells the length is kept until it ends, and row ends until a cell follows.
-ghost use Rattle.std.specs.Prelude.{◌≡◌, ◌≢◌, ◌≤◌, ◌<◌, ◌+◌, ◌^◌, ℕ, List, [], ◌++◌, length, map, replicate, IfOk, OnErr, OnOk};
+// Rows, run by run: of each run of equal cells the length is kept until it ends, and row ends until a cell follows.
+ghost use Rattle.std.specs.Prelude.{◌≡◌, ◌≢◌, ◌≤◌, ◌<◌, ◌+◌, ◌^◌, ℕ, List, [], ◌++◌, replicate, IfOk, OnErr, OnOk};
 ghost use Rattle.ww_rule.specs.declared.pattern.State.{State};
 ghost use Rattle.pattern_writing.specs.Writer.{TagRun, tag_of, row_end};
 ghost use Rattle.rle_write.specs.Left.{rows_left, row_left, end_items, items_left, text_left, IsRunBefore};
@@ -128,38 +128,42 @@ pub fn end_row<O: Sink>(sink: &mut O, page: &mut Page, kept: Kept) -> Result<usi
     Ok(last + 1)
 }
 
-/// Writes the runs that end in a piece of a row, whatever follows it in the row, and answers what is kept then.
-pub fn write_cells<O: Sink>(
+/// Writes the run before cells of another state, with `count` cells of a state to come, whatever follows them in the row,
+/// and answers what is kept then: these cells, with the run before them where it is of the same state.
+pub fn write_same<O: Sink>(
     sink: &mut O,
     page: &mut Page,
     kept: Kept,
-    cells: &[State],
+    state: State,
+    count: usize,
 ) -> Result<Kept, Failed>
     requires cell { kept.run.tag ≢ row_end }
-    requires short { kept.run.count + length cells.now < 2 ^ 64 }
+    requires some { 1 ≤ count }
+    requires short { kept.run.count + count < 2 ^ 64 }
     ensures cell { IfOk result (λ k. k.run.tag ≢ row_end) }
     ensures fewer { IfOk result (λ k. k.due ≤ kept.due) }
-    ensures short { IfOk result (λ k. k.run.count ≤ kept.run.count + length cells.now) }
+    ensures short { IfOk result (λ k. k.run.count ≤ kept.run.count + count) }
     ensures ok { IfOk result (λ k. (more : List ℕ) (rows : List (List State)) →
         Wrote (O.written sink.old) (O.written sink.new) (O.faults sink.old) (O.faults sink.new)
         (text_left (held page.old) (column_of page.old)
-        (row_left kept.due (replicate kept.run.count kept.run.tag ++ (map tag_of cells.now ++ more)) rows))
+        (row_left kept.due (replicate kept.run.count kept.run.tag ++ (replicate count (tag_of state) ++ more)) rows))
         (text_left (held page.new) (column_of page.new) (row_left k.due (replicate k.run.count k.run.tag ++ more) rows))) }
     ensures err { OnErr result ((more : List ℕ) (rows : List (List State)) →
         Broke (O.written sink.old) (O.written sink.new) (O.faults sink.old) (O.faults sink.new)
         (text_left (held page.old) (column_of page.old)
-        (row_left kept.due (replicate kept.run.count kept.run.tag ++ (map tag_of cells.now ++ more)) rows))) }
+        (row_left kept.due (replicate kept.run.count kept.run.tag ++ (replicate count (tag_of state) ++ more)) rows))) }
 {
-    let mut due = kept.due;
-    let mut run = kept.run;
-    for cell in cells {
-        let tag = letter(*cell);
-        if tag == run.tag {
-            run.count += 1;
-        } else {
-            due = write_run(sink, page, due, run)?;
-            run = Run { count: 1, tag };
-        }
+    let tag = letter(state);
+    if tag == kept.run.tag {
+        let count = kept.run.count + count;
+        return Ok(Kept {
+            due: kept.due,
+            run: Run { count, tag },
+        });
     }
-    Ok(Kept { due, run })
+    let due = write_run(sink, page, kept.due, kept.run)?;
+    Ok(Kept {
+        due,
+        run: Run { count, tag },
+    })
 }

@@ -1,3 +1,4 @@
 pub mod Drawings
 pub mod InBox
 pub mod Laws
+pub mod RowRuns

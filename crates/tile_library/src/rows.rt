@@ -1,6 +1,7 @@
 // Rows of text as tests on cells.
-ghost use Rattle.std.specs.Prelude.{◌≡◌, All, pos, true, false, ℤ};
+ghost use Rattle.std.specs.Prelude.{◌≡◌, ◌-◌, ◌<◌, All, pos, true, false, ℤ};
 ghost use Rattle.tile_library.specs.Drawings.{drawn_rows};
+ghost use Rattle.tile_library.specs.RowRuns.{IsRowRun};
 ghost use Rattle.tile_timing.specs.Mirror.{mirrored_drawing};
 
 pub fn is_drawn(rows: &[[u8; 32]], x: u32, y: u32) -> bool
@@ -34,4 +35,36 @@ pub fn is_blank(rows: &[[u8; 32]], y: u32) -> bool
         Some(row) => is_dotted(row),
         None => true,
     }
+}
+
+/// Whether a cell is a conductor, and for how many cells from it on, up to the eastern side of the box, this is so.
+pub fn run_from(rows: &[[u8; 32]], x: u32, y: u32) -> (bool, u32)
+    requires { x < 32 }
+    ensures { IsRowRun (λ x. drawn_rows rows.now (pos x) (pos y)) x (32 - x) result }
+{
+    let row = match rows.get(y as usize) {
+        Some(row) => row,
+        None => return (false, 32 - x),
+    };
+    let drawn = row[x as usize] == b'C';
+    for end in x + 1..32 {
+        if (row[end as usize] == b'C') != drawn {
+            return (drawn, end - x);
+        }
+    }
+    (drawn, 32 - x)
+}
+
+/// The same of the rows with west and east changed.
+pub fn run_from_mirrored(rows: &[[u8; 32]], x: u32, y: u32) -> (bool, u32)
+    requires { x < 32 }
+    ensures { IsRowRun (λ x. mirrored_drawing (drawn_rows rows.now) (pos x) (pos y)) x (32 - x) result }
+{
+    let drawn = is_drawn_mirrored(rows, x, y);
+    for end in x + 1..32 {
+        if is_drawn_mirrored(rows, end, y) != drawn {
+            return (drawn, end - x);
+        }
+    }
+    (drawn, 32 - x)
 }

@@ -1,7 +1,7 @@
 // The library of the shipped drawings.
 ghost use Rattle.tile_library.specs.Drawings.{shipped_drawing};
 
-use crate::rows::is_blank;
+use crate::rows::{is_blank, run_from, run_from_mirrored};
 use crate::{drawings, tiles};
 use tile_core::{Kind, Library, Tile};
 
@@ -56,7 +56,8 @@ impl Library for Shipped {
 }
 
 impl Shipped {
-    ghost use Rattle.std.specs.Prelude.{◌≡◌, true, false, ℕ, pos};
+    ghost use Rattle.std.specs.Prelude.{◌≡◌, ◌-◌, ◌<◌, true, false, ℕ, pos};
+    ghost use Rattle.tile_library.specs.RowRuns.{IsRowRun};
 
     /// Whether row y of a tile has no conductor.
     pub fn is_row_blank(self, kind: Kind, y: u32) -> bool
@@ -77,6 +78,30 @@ impl Shipped {
             Kind::SouthWest => is_blank(&drawings::SOUTH_WEST, y),
             Kind::WestNorth => is_blank(&drawings::WEST_NORTH, y),
             Kind::NorthEast => is_blank(&drawings::NORTH_EAST, y),
+        }
+    }
+
+    /// Whether a cell of a tile is a conductor, and for how many cells from it on, up to the eastern side of its box,
+    /// this is so.
+    pub fn run_at(self, kind: Kind, x: u32, y: u32) -> (bool, u32)
+        requires { x < 32 }
+        ensures { IsRowRun (λ x. shipped_drawing kind (pos x) (pos y)) x (32 - x) result }
+    {
+        match kind {
+            Kind::Swap => run_from(&drawings::SWAP, x, y),
+            Kind::Xor => run_from(&drawings::XOR, x, y),
+            Kind::Or => run_from(&drawings::OR, x, y),
+            Kind::AndNot => run_from(&drawings::AND_NOT, x, y),
+            Kind::Fork => run_from(&drawings::FORK, x, y),
+            Kind::East => run_from(&drawings::EAST, x, y),
+            Kind::South => run_from(&drawings::SOUTH, x, y),
+            Kind::North => run_from(&drawings::SOUTH, x, y),
+            Kind::EastSouth => run_from(&drawings::EAST_SOUTH, x, y),
+            Kind::SouthWest => run_from(&drawings::SOUTH_WEST, x, y),
+            Kind::WestNorth => run_from(&drawings::WEST_NORTH, x, y),
+            Kind::NorthEast => run_from(&drawings::NORTH_EAST, x, y),
+            Kind::West => run_from(&drawings::EAST, x, y),
+            Kind::WestSwap => run_from_mirrored(&drawings::SWAP, x, y),
         }
     }
 }
