@@ -1,4 +1,5 @@
 pub mod Ports
 pub mod Pattern
 pub mod Blank
+pub mod Straight
 pub mod RowRuns

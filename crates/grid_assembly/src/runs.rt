@@ -1,5 +1,5 @@
 // Runs of equal cells in a row, block by block.
-ghost use Rattle.std.specs.Prelude.{◌≡◌, ◌-◌, ◌<◌, ◌≤◌, ◌^◌, ℕ, pos, true, cond};
+ghost use Rattle.std.specs.Prelude.{◌≡◌, ◌-◌, ◌<◌, ◌≤◌, ◌^◌, ℕ, pos, true, false, cond};
 ghost use Rattle.ww_rule.specs.declared.pattern.State.TheVariants.{Conductor, Empty};
 ghost use Rattle.lane_core.specs.Plans.{IsAdmissible};
 ghost use Rattle.plan_layout.specs.Planes.{start_plane};
@@ -32,6 +32,17 @@ fn is_dark(plan: &Plan, column: u64, lane: u64, kind: Kind) -> bool
     !entered && !left
 }
 
+// Whether a row lies beside the wire of a tile that goes straight on to the east or the west.
+fn is_beside_wire(kind: Kind, y: u32) -> bool
+    ensures { result ≡ true → (x : ℕ) → shipped_drawing kind (pos x) (pos y) ≡ false }
+{
+    match kind {
+        Kind::East => y != 8,
+        Kind::West => y != 8,
+        _ => false,
+    }
+}
+
 // Equal cells of a tile whose first block is at this tile column and lane, from a place in the tile's box on.
 fn tile_run(plan: &Plan, column: u64, lane: u64, kind: Kind, place: (u32, u32)) -> (State, u32)
     requires admissible { IsAdmissible plan.now }
@@ -41,6 +52,9 @@ fn tile_run(plan: &Plan, column: u64, lane: u64, kind: Kind, place: (u32, u32)) 
     ensures { IsRowRun (λ x. drawn_piece shipped_drawing (start_edges plan.now) column lane (Tile kind) x place.1)
         place.0 (32 - place.0) result }
 {
+    if is_beside_wire(kind, place.1) {
+        return (State::Empty, 32 - place.0);
+    }
     let (drawn, count) = Shipped.run_at(kind, place.0, place.1);
     if !drawn {
         (State::Empty, count)

@@ -1,7 +1,7 @@
 use Rattle.std.proofs.Common.{◌≡◌, ◌+◌, ℕ, List, ◌++◌, replicate, sym, ap, ◌∙◌}
 use Rattle.ww_rule.specs.declared.pattern.State.{State}
 use Rattle.pattern_writing.specs.Writer.{tag_of}
-use Rattle.rle_write.specs.Left.{IsRunBefore, row_left, text_left}
+use Rattle.rle_write.specs.Left.{row_left, text_left}
 use Rattle.port_writing.specs.Pages.{held, column_of}
 use Rattle.rle_write.proofs.Lefts.{left_by}
 use Rattle.lists.proofs.Results.{on_err}
