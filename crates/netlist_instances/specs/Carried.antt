@@ -1,5 +1,5 @@
 -- A text that carries a design.
-use Rattle.std.specs.Prelude.{List, [], ◌∷◌, codes}
+use Rattle.std.specs.Prelude.{[], ◌∷◌, codes}
 use Rattle.netlist_core.specs.declared.model.Design.{Design}
 use Rattle.netlist_core.specs.declared.model.Model.{Model}
 use Rattle.pattern_writing.specs.Samples.{bare_text}

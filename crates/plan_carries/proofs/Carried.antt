@@ -21,7 +21,6 @@ use Rattle.lane_core.specs.Plans.{left_of, row_of, latency_of, period_of, net_pl
 use Rattle.lane_core.specs.Entering.{first_loop_lane, row_bits, entry_bits, leaving, bits_after}
 use Rattle.plan_layout.specs.Planes.{start_plane}
 use Rattle.plan_waves.specs.InputRows.{drive_of_rows, bits_of_rows}
-use Rattle.plan_waves.specs.Shown.{ShowsBits}
 use Rattle.plan_waves.proofs.Rows.{plans_show_rows}
 use Rattle.cell_core.specs.declared.list.CellList.{CellList}
 use Rattle.cell_core.specs.Meaning.{Fits}

@@ -1,5 +1,5 @@
 -- A text that carries the flat netlist of a design carries the design and its nets.
-use Rattle.std.proofs.Common.{◌≡◌, sym, ◌∙◌, ap, subst, ℕ, zero, suc, ◌<◌, ◌≤◌, Bool, List, [], length, map, get_or, arith}
+use Rattle.std.proofs.Common.{◌≡◌, sym, ◌∙◌, ap, subst, ℕ, zero, suc, ◌<◌, ◌≤◌, Bool, List, [], length, get_or, arith}
 use Rattle.std.specs.Prelude.{Some, slice_get, option_map, All}
 use Rattle.std.proofs.lemmas.List.{length-map}
 use Rattle.std.proofs.lemmas.Option.{slice_get-map, slice_get-get_or, slice_get_within}
@@ -23,7 +23,7 @@ use Rattle.flat_designs.proofs.Valuations.{valuations_are_flat}
 use Rattle.flat_designs.proofs.Whole.{ports_are_flat}
 use Rattle.pattern_reading.specs.declared.ports.Ports.{Ports}
 use Rattle.carries.specs.Cells.{ShowsBitsFrom, drive}
-use Rattle.carries.specs.Carries.{NamesPorts, ShowsRuns, Carries}
+use Rattle.carries.specs.Carries.{NamesPorts, ShowsRuns}
 use Rattle.carries.specs.Nets.{ShowsNets}
 use Rattle.carries.specs.FlatNets.{NamesFlat, ShowsFlatRuns}
 use Rattle.plan_carries.specs.Laws.{DesignsAreCarried}

@@ -1,16 +1,15 @@
 -- The bits that the cell of a net's line shows are those of the net in a run of the design.
-use Rattle.std.proofs.Common.{ℕ, ◌≡◌, ◌<◌, ◌+◌, ◌*◌, sym, ap, ◌∙◌, subst, Bool, inl, inr, List, [], ◌∷◌, length, map, get_or, pos, arith}
+use Rattle.std.proofs.Common.{ℕ, ◌≡◌, ◌<◌, ◌+◌, ◌*◌, sym, ap, ◌∙◌, subst, inl, inr, List, [], ◌∷◌, length, map, get_or, pos, arith}
 use Rattle.std.specs.Prelude.{Some, slice_get}
 use Rattle.std.proofs.lemmas.List.{length-map, get_or-map}
 use Rattle.std.proofs.lemmas.List.FromFn.{length-map-range_with_len}
 use Rattle.std.proofs.lemmas.Option.{slice_get-get_or, slice_get_within, get_or_from_slice_get}
-use Rattle.ww_rule.specs.Wireworld.{is_head}
 use Rattle.ww_rule.specs.Grid.{plane_of}
 use Rattle.pattern_reading.specs.declared.ports.NetLine.{NetLine}
-use Rattle.place_paths.specs.Paths.{name_and_path, path_of}
+use Rattle.place_paths.specs.Paths.{name_and_path}
 use Rattle.netlist_core.specs.declared.model.Design.{Design}
 use Rattle.netlist_core.specs.Names.{Name}
-use Rattle.netlist_meaning.specs.Nets.{Net, net_at, IsNet, IsClockNet}
+use Rattle.netlist_meaning.specs.Nets.{Net, net_at, IsClockNet}
 use Rattle.netlist_meaning.specs.InOrder.{nets_in_order}
 use Rattle.netlist_meaning.specs.Valuation.{Valuation, IsRun}
 use Rattle.flat_designs.proofs.Listed.{net_is}
