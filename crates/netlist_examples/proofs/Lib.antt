@@ -1,0 +1,16 @@
+pub mod Toggle
+pub mod Loops
+pub mod TowerWeights
+pub mod ClockInstances
+pub mod Adder
+pub mod Delay
+pub mod SharedClock
+pub mod SmallFlat
+pub mod Carried
+pub mod CoverValue
+pub mod OnlyNets
+pub mod Sublists
+pub mod Cuts
+pub mod Annotations
+pub mod ComputedTexts
+pub mod CircleTexts

@@ -1,0 +1,5 @@
+use Rattle.netlist_examples.proofs.ClockInstances.{latch_has_no_clock}
+use Rattle.netlist_examples.proofs.designs.latch_has_no_clock.Goals as goal
+
+pub returns : goal.returns
+returns c = latch_has_no_clock

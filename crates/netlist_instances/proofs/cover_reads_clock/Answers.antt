@@ -1,5 +1,0 @@
-use Rattle.netlist_instances.proofs.ClockInstances.{cover_reads_clock}
-use Rattle.netlist_instances.proofs.cover_reads_clock.Goals as goal
-
-pub returns : goal.returns
-returns c = cover_reads_clock

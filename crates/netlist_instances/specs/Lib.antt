@@ -1,4 +1,0 @@
-pub mod Designs
-pub mod Instances
-pub mod FlatInstances
-pub mod Carried

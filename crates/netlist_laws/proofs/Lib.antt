@@ -1,3 +1,0 @@
-pub mod CoverValue
-pub mod OnlyNets
-pub mod Sublists
