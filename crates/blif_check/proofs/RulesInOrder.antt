@@ -6,7 +6,7 @@ use Rattle.netlist_core.specs.declared.model.Model.{Model}
 use Rattle.netlist_rules.specs.declared.fault.Fault.{Fault}
 use Rattle.netlist_rules.specs.declared.fault.FaultKind.{FaultKind}
 use Rattle.netlist_rules.specs.ModelFaults.{first_broken_by}
-use Rattle.earliest_words.specs.EarliestBroken.{earliest_broken}
+use Rattle.model_words.specs.EarliestBroken.{earliest_broken}
 
 -- the first of them is broken, or is passed over
 pub broken : (kind : FaultKind) (kinds : List FaultKind) (models : List Model) (found : Option Fault) (fault : Fault) → found ≡ earliest_broken kind models → found ≡ Some fault → first_broken_by (kind ∷ kinds) models ≡ Some fault

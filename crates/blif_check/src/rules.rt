@@ -4,12 +4,12 @@ ghost use Rattle.netlist_rules.specs.ModelFaults.{AreFaultless, HasModelFault, f
 
 use lists::List;
 use model_circles::circle_fault;
+use model_words::PlacedPorts;
 use named_models::NamedModels;
 use net_faults::{NetFaults, net_faults};
 use netlist_core::Model;
 use netlist_rules::{Fault, FaultKind};
 use pin_faults::{missing_model, pin_missing, pin_twice, unknown_formal};
-use placed_ports::PlacedPorts;
 use std::alloc::{AllocError, Global};
 
 // The fault where there is no model.

@@ -9,8 +9,8 @@ use Rattle.std.proofs.lemmas.Slice.Eq.{bytes_eq-Decides}
 use denote.Ref.{Bor}
 use Rattle.netlist_core.specs.declared.model.Port.{Port}
 use Rattle.netlist_core.specs.Names.{Name}
-use Rattle.earliest_words.specs.declared.word.Word.{Word}
-use Rattle.earliest_words.specs.Words.{word_port, word_ports}
+use Rattle.model_words.specs.declared.word.Word.{Word}
+use Rattle.model_words.specs.Words.{word_port, word_ports}
 use Rattle.net_faults.specs.declared.numbering.Numbering.{Numbering}
 use Rattle.net_faults.specs.declared.numbering.NumberedWord.{NumberedWord}
 use Rattle.net_faults.specs.Numbering.{AreNumbered, IsNumbered, IsNumbering, IsPut, KeepsNumbers, StandsAt, count_of, numbered_names, name_number, numbered_port, numbered_ports}

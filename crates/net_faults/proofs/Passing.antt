@@ -4,8 +4,8 @@ use Rattle.std.specs.Prelude.{Option, option_to_list}
 use Rattle.std.specs.Bool.{then_some}
 use Rattle.std.proofs.lemmas.List.{append_assoc, drop_more, drop_all}
 use Rattle.netlist_core.specs.declared.model.Port.{Port}
-use Rattle.earliest_words.specs.Words.{earliest_after}
-use Rattle.earliest_words.proofs.EarliestWords.{earliest_after-append}
+use Rattle.model_words.specs.Words.{earliest_after}
+use Rattle.model_words.proofs.EarliestWords.{earliest_after-append}
 use Rattle.net_faults.specs.declared.numbering.Numbering.{Numbering}
 use Rattle.net_faults.specs.declared.numbering.NumberedWord.{NumberedWord}
 use Rattle.net_faults.specs.declared.repeats.Repeats.{Repeats}

@@ -3,7 +3,7 @@ use Rattle.std.proofs.Common.{◌≡◌, refl, sym, ap, ◌∙◌, ℕ, ◌+◌,
 use Rattle.std.specs.Prelude.{Option, filter_map, option_to_list}
 use Rattle.std.specs.Bool.{then_some}
 use Rattle.std.proofs.lemmas.List.{append-nil, append_assoc}
-use Rattle.earliest_words.proofs.OfferedWords.{filtered_taken, flat_taken}
+use Rattle.model_words.proofs.OfferedWords.{filtered_taken, flat_taken}
 
 pub flat_more : {X Y : Type 0} (f : X → List Y) (start had new : List Y) (xs : List X) (i : ℕ) (x : X) → i < length xs → x ≡ get_or xs i x →
     had ≡ start ++ flat_map f (take i xs) → new ≡ had ++ f x → new ≡ start ++ flat_map f (take (i + 1) xs)

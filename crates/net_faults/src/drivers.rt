@@ -2,14 +2,13 @@
 ghost use Rattle.std.specs.Prelude.{◌≡◌, ◌++◌, List, map, IfOk, OnOk};
 ghost use Rattle.netlist_core.specs.declared.model.Model.{Model};
 ghost use Rattle.netlist_rules.specs.Drivers.{cover_output, latch_output};
-ghost use Rattle.earliest_words.specs.Words.{word_ports};
-ghost use Rattle.placed_ports.specs.Placed.{KnowsPlaced};
+ghost use Rattle.model_words.specs.Words.{word_ports};
+ghost use Rattle.model_words.specs.Placed.{KnowsPlaced};
 ghost use Rattle.net_faults.specs.NetWords.{other_drivers};
 
 use crate::pins::{PinKind, push_actuals};
-use earliest_words::Word;
+use model_words::{PlacedPorts, Word};
 use netlist_core::{Cover, LatchRow, Model};
-use placed_ports::PlacedPorts;
 use std::alloc::{AllocError, Global};
 
 // Adds the outputs of some covers.

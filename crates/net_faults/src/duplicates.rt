@@ -2,7 +2,7 @@
 ghost use Rattle.std.specs.Prelude.{◌≡◌, List, [], OnOk};
 ghost use Rattle.netlist_core.specs.declared.model.Port.{Port};
 ghost use Rattle.netlist_rules.specs.ModelFaults.{doubles_after, duplicate_ports};
-ghost use Rattle.earliest_words.specs.Words.{earliest_word, earliest_after};
+ghost use Rattle.model_words.specs.Words.{earliest_word, earliest_after};
 ghost use Rattle.net_faults.specs.declared.numbering.Numbering as numbered;
 ghost use Rattle.net_faults.specs.Numbering.{AreNumbered, IsNumbered, numbered_port, numbered_ports};
 ghost use Rattle.net_faults.specs.Elsewhere.{KnowsOthers, stands_elsewhere};
@@ -12,7 +12,7 @@ use crate::first_lines::FirstLines;
 use crate::net_words::NetWords;
 use crate::numbering::{NumberedWord, Numbering};
 use crate::repeats::Repeats;
-use earliest_words::Earliest;
+use model_words::Earliest;
 use netlist_core::Model;
 use std::alloc::{AllocError, Global};
 

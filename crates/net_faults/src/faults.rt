@@ -3,17 +3,16 @@ ghost use Rattle.std.specs.Prelude.{◌≡◌, List, IfOk, OnOk};
 ghost use Rattle.netlist_core.specs.declared.model.Model.{Model};
 ghost use Rattle.netlist_rules.specs.ModelFaults.{duplicate_ports, second_drivers, undriven_readings};
 ghost use Rattle.netlist_rules.specs.declared.fault.FaultKind.TheVariants.{DuplicatePort, MultipleDrivers, Undriven};
-ghost use Rattle.earliest_words.specs.EarliestBroken.{earliest_broken};
-ghost use Rattle.earliest_words.specs.Words.{earliest_word, earliest_after};
-ghost use Rattle.placed_ports.specs.Placed.{KnowsPlaced, KnowsPorts};
+ghost use Rattle.model_words.specs.EarliestBroken.{earliest_broken};
+ghost use Rattle.model_words.specs.Words.{earliest_word, earliest_after};
+ghost use Rattle.model_words.specs.Placed.{KnowsPlaced, KnowsPorts};
 
 use crate::duplicates::offer_duplicates;
 use crate::net_words::NetWords;
 use crate::second_drivers::offer_second_drivers;
 use crate::undriven_nets::offer_undriven;
-use earliest_words::{Earliest, Fault, FaultKind};
+use model_words::{Earliest, Fault, FaultKind, PlacedPorts};
 use netlist_core::Model;
-use placed_ports::PlacedPorts;
 use std::alloc::{AllocError, Global};
 
 /// The fault by each rule on how nets are named, driven and read, at the earliest word that breaks it.

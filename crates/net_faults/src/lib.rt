@@ -16,7 +16,6 @@ mod second_drivers;
 mod undriven_nets;
 mod words;
 
-pub use earliest_words::{Fault, FaultKind};
 pub use faults::{NetFaults, net_faults};
+pub use model_words::{Fault, FaultKind, PlacedPorts};
 pub use netlist_core::Model;
-pub use placed_ports::PlacedPorts;

@@ -2,7 +2,7 @@
 ghost use Rattle.std.specs.Prelude.{◌≡◌, ◌++◌, List, IfOk, OnOk};
 ghost use Rattle.netlist_core.specs.declared.model.Model.{Model};
 ghost use Rattle.netlist_rules.specs.Drivers.{drivers_of};
-ghost use Rattle.placed_ports.specs.Placed.{KnowsPlaced};
+ghost use Rattle.model_words.specs.Placed.{KnowsPlaced};
 ghost use Rattle.net_faults.specs.Numbering.{AreNumbered, numbered_ports};
 ghost use Rattle.net_faults.specs.NetWords.{AreDriverWords, ArePortsOf, HaveNumbers};
 
@@ -11,8 +11,8 @@ use crate::numbering::{NumberedWord, Numbering};
 use crate::pins::{PinKind, actual_words};
 use crate::repeats::firsts;
 use crate::words::{input_words, port_words};
+use model_words::PlacedPorts;
 use netlist_core::Model;
-use placed_ports::PlacedPorts;
 use std::alloc::{AllocError, Global};
 
 /// The words of a model that name its nets where they are driven, and its outputs, each with the number of its name.

@@ -1,9 +1,9 @@
 // Names by number.
 ghost use Rattle.std.specs.Prelude.{◌≡◌, IfOk, OnOk};
-ghost use Rattle.earliest_words.specs.Words.{word_ports};
+ghost use Rattle.model_words.specs.Words.{word_ports};
 ghost use Rattle.net_faults.specs.Numbering.{AreNumbered, IsNumbering, IsPut, KeepsNumbers, count_of, name_number, numbered_ports};
 
-use earliest_words::Word;
+use model_words::Word;
 use std::alloc::{AllocError, Global};
 use std::collections::BTreeMap;
 

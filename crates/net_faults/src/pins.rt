@@ -3,13 +3,12 @@ ghost use Rattle.std.specs.Prelude.{◌≡◌, ◌++◌, List, Option, filter_ma
 ghost use Rattle.std.specs.Option.{option_copied};
 ghost use Rattle.netlist_core.specs.declared.model.Model.{Model};
 ghost use Rattle.netlist_rules.specs.Drivers.{is_input_pin, is_output_pin, actual_if, actuals};
-ghost use Rattle.earliest_words.specs.Words.{word_ports};
-ghost use Rattle.placed_ports.specs.Placed.{ArePlacedNames, KnowsPlaced};
+ghost use Rattle.model_words.specs.Words.{word_ports};
+ghost use Rattle.model_words.specs.Placed.{ArePlacedNames, KnowsPlaced};
 ghost use Rattle.net_faults.specs.Pins.{is_pin_of};
 
-use earliest_words::Word;
+use model_words::{PlacedPorts, PortNames, Word};
 use netlist_core::{Model, Pin, Subckt};
-use placed_ports::{PlacedPorts, PortNames};
 use std::alloc::{AllocError, Global};
 
 /// What a pin's formal is in the model that its line names, if there is one.

@@ -2,14 +2,13 @@
 ghost use Rattle.std.specs.Prelude.{◌≡◌, ◌++◌, List, flat_map, IfOk, OnOk};
 ghost use Rattle.netlist_core.specs.declared.model.Model.{Model};
 ghost use Rattle.netlist_rules.specs.Drivers.{cover_readings, latch_readings, readings_of};
-ghost use Rattle.earliest_words.specs.Words.{word_ports};
-ghost use Rattle.placed_ports.specs.Placed.{KnowsPlaced};
+ghost use Rattle.model_words.specs.Words.{word_ports};
+ghost use Rattle.model_words.specs.Placed.{KnowsPlaced};
 
 use crate::pins::{PinKind, push_actuals};
 use crate::words::port_words;
-use earliest_words::Word;
+use model_words::{PlacedPorts, Word};
 use netlist_core::{Cover, LatchRow, Model};
-use placed_ports::PlacedPorts;
 use std::alloc::{AllocError, Global};
 
 // Adds the inputs of a cover.

@@ -2,14 +2,14 @@
 ghost use Rattle.std.specs.Prelude.{◌≡◌, List, [], ◌∷◌, IfOk, OnOk};
 ghost use Rattle.netlist_core.specs.declared.model.Port.{Port};
 ghost use Rattle.netlist_rules.specs.Drivers.{stands_earlier, firsts, repeats};
-ghost use Rattle.earliest_words.specs.Words.{earliest_word, earliest_after};
+ghost use Rattle.model_words.specs.Words.{earliest_word, earliest_after};
 ghost use Rattle.net_faults.specs.declared.numbering.Numbering as numbered;
 ghost use Rattle.net_faults.specs.Numbering.{AreNumbered, IsNumbered, numbered_port, numbered_ports};
 ghost use Rattle.net_faults.specs.Repeats.{IsBetween};
 
 use crate::first_lines::FirstLines;
 use crate::numbering::{NumberedWord, Numbering};
-use earliest_words::Earliest;
+use model_words::Earliest;
 use std::alloc::{AllocError, Global};
 
 /// Tells of the words of a list, one after another, whether their names stand earlier.

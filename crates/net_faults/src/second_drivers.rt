@@ -2,12 +2,12 @@
 ghost use Rattle.std.specs.Prelude.{◌≡◌, List, OnOk};
 ghost use Rattle.netlist_core.specs.declared.model.Model.{Model};
 ghost use Rattle.netlist_rules.specs.ModelFaults.{second_drivers};
-ghost use Rattle.earliest_words.specs.Words.{earliest_word, earliest_after};
+ghost use Rattle.model_words.specs.Words.{earliest_word, earliest_after};
 ghost use Rattle.net_faults.specs.NetWords.{AreDriverWords, ArePortsOf, HaveNumbers};
 
 use crate::net_words::NetWords;
 use crate::repeats::offer_repeats;
-use earliest_words::Earliest;
+use model_words::Earliest;
 use std::alloc::{AllocError, Global};
 
 /// Offers the drivers of a model's nets that have one already.

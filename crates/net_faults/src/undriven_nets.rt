@@ -4,8 +4,8 @@ ghost use Rattle.netlist_core.specs.declared.model.Model.{Model};
 ghost use Rattle.netlist_core.specs.declared.model.Port.{Port};
 ghost use Rattle.netlist_rules.specs.Drivers.{actuals, drivers_of, is_unknown_pin};
 ghost use Rattle.netlist_rules.specs.ModelFaults.{unless_named, undriven_readings};
-ghost use Rattle.earliest_words.specs.Words.{word_ports, earliest_word, earliest_after};
-ghost use Rattle.placed_ports.specs.Placed.{KnowsPlaced};
+ghost use Rattle.model_words.specs.Words.{word_ports, earliest_word, earliest_after};
+ghost use Rattle.model_words.specs.Placed.{KnowsPlaced};
 ghost use Rattle.net_faults.specs.FirstLines.{AreFirstLines};
 ghost use Rattle.net_faults.specs.NetWords.{AreDriverWords, ArePortsOf, HaveNumbers};
 
@@ -13,9 +13,8 @@ use crate::first_lines::FirstLines;
 use crate::net_words::{NetWords, push_words};
 use crate::numbering::Numbering;
 use crate::readings::reading_words;
-use earliest_words::{Earliest, Word};
+use model_words::{Earliest, PlacedPorts, Word};
 use netlist_core::Model;
-use placed_ports::PlacedPorts;
 use std::alloc::{AllocError, Global};
 
 // Offers the words whose names are not among those of the drivers.

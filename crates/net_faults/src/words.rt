@@ -1,8 +1,8 @@
 // The words of lists of ports.
 ghost use Rattle.std.specs.Prelude.{◌≡◌, ◌++◌, IfOk, OnOk};
-ghost use Rattle.earliest_words.specs.Words.{word_ports};
+ghost use Rattle.model_words.specs.Words.{word_ports};
 
-use earliest_words::Word;
+use model_words::Word;
 use netlist_core::{Model, Port};
 use std::alloc::{AllocError, Global};
 

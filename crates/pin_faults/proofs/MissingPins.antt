@@ -12,9 +12,9 @@ use Rattle.netlist_core.specs.Names.{Name, is_named, model_named}
 use Rattle.netlist_rules.specs.declared.fault.Fault.{Fault}
 use Rattle.netlist_rules.specs.declared.fault.FaultKind.TheVariants.{PinMissing}
 use Rattle.netlist_rules.specs.ModelFaults.{earliest, fault_of_port, formals_of, missing_pin, on_line, unpinned_inputs}
-use Rattle.earliest_words.specs.Words.{earliest_after}
-use Rattle.earliest_words.proofs.EarliestWords.{earliest_after-append}
-use Rattle.placed_ports.specs.NameSets.{HasNames}
+use Rattle.model_words.specs.Words.{earliest_after}
+use Rattle.model_words.proofs.EarliestWords.{earliest_after-append}
+use Rattle.model_words.specs.NameSets.{HasNames}
 use Rattle.pin_faults.specs.NotNamed.{ports_unless}
 use Rattle.lists.specs.Names.{holds_name}
 

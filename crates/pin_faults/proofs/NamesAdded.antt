@@ -11,7 +11,7 @@ use denote.Ref.{Bor}
 use Rattle.netlist_core.specs.declared.model.Pin.{Pin}
 use Rattle.netlist_core.specs.declared.model.Port.{Port}
 use Rattle.netlist_core.specs.Names.{at_line, has_name, is_named}
-use Rattle.placed_ports.specs.NameSets.{HasNames}
+use Rattle.model_words.specs.NameSets.{HasNames}
 use Rattle.lists.proofs.NameSets.{name_added}
 
 -- one more formal of a line

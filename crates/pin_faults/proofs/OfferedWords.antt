@@ -16,8 +16,8 @@ use Rattle.netlist_core.specs.Names.{Name, at_line}
 use Rattle.netlist_rules.specs.declared.fault.Fault.{Fault}
 use Rattle.netlist_rules.specs.declared.fault.FaultKind.{FaultKind}
 use Rattle.netlist_rules.specs.ModelFaults.{earliest, fault_of_port}
-use Rattle.earliest_words.specs.Words.{earliest_after}
-use Rattle.earliest_words.proofs.OfferedWords.{offered_more}
+use Rattle.model_words.specs.Words.{earliest_after}
+use Rattle.model_words.proofs.OfferedWords.{offered_more}
 use Rattle.pin_faults.specs.NotNamed.{formal_unless, port_unless}
 use Rattle.lists.specs.Names.{holds_name}
 use Rattle.pin_faults.specs.SubcktLines.{lines_now}

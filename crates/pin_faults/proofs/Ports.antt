@@ -8,10 +8,10 @@ use Rattle.netlist_core.specs.declared.model.Port.{Port}
 use Rattle.netlist_core.specs.declared.model.Subckt.{Subckt}
 use Rattle.netlist_core.specs.Names.{model_named}
 use Rattle.netlist_rules.specs.ModelFaults.{formal_if, is_portless, unknown_formals}
-use Rattle.earliest_words.specs.Words.{earliest_after}
-use Rattle.earliest_words.proofs.EarliestWords.{earliest_after-none}
-use Rattle.placed_ports.specs.declared.ports.PortNames.{PortNames}
-use Rattle.placed_ports.specs.Placed.{AreNamesOfPorts, ArePlacedNames, ArePlain, has_port}
+use Rattle.model_words.specs.Words.{earliest_after}
+use Rattle.model_words.proofs.EarliestWords.{earliest_after-none}
+use Rattle.model_words.specs.declared.ports.PortNames.{PortNames}
+use Rattle.model_words.specs.Placed.{AreNamesOfPorts, ArePlacedNames, ArePlain, has_port}
 use Rattle.pin_faults.specs.NotNamed.{formals_unless}
 use Rattle.pin_faults.specs.SubcktLines.{lines_now}
 

@@ -12,9 +12,9 @@ use Rattle.netlist_core.specs.declared.model.Pin.{Pin}
 use Rattle.netlist_core.specs.declared.model.Port.{Port}
 use Rattle.netlist_core.specs.Names.{Name, at_line, has_name, is_named}
 use Rattle.netlist_rules.specs.Drivers.{same_name_up_to, same_name_before, stands_earlier, repeats_after, repeats}
-use Rattle.earliest_words.specs.Words.{earliest_after}
-use Rattle.earliest_words.proofs.EarliestWords.{earliest_after-append}
-use Rattle.placed_ports.specs.NameSets.{HasNames}
+use Rattle.model_words.specs.Words.{earliest_after}
+use Rattle.model_words.proofs.EarliestWords.{earliest_after-append}
+use Rattle.model_words.specs.NameSets.{HasNames}
 use Rattle.lists.specs.Names.{holds_name}
 use Rattle.netlist_rules.proofs.Faultless.{formal_at}
 

@@ -2,17 +2,16 @@
 ghost use Rattle.std.specs.Prelude.{◌≡◌, List, IfOk};
 ghost use Rattle.netlist_rules.specs.declared.fault.FaultKind.TheVariants.{NoSuchPin};
 ghost use Rattle.netlist_rules.specs.ModelFaults.{unknown_formals};
-ghost use Rattle.earliest_words.specs.EarliestBroken.{earliest_broken};
-ghost use Rattle.earliest_words.specs.Words.{earliest_word, earliest_after};
+ghost use Rattle.model_words.specs.EarliestBroken.{earliest_broken};
+ghost use Rattle.model_words.specs.Words.{earliest_word, earliest_after};
 ghost use Rattle.netlist_core.specs.declared.model.Model.{Model};
-ghost use Rattle.placed_ports.specs.Placed.{AreNamesOfPorts, ArePlain, KnowsPorts, has_port};
+ghost use Rattle.model_words.specs.Placed.{AreNamesOfPorts, ArePlain, KnowsPorts, has_port};
 ghost use Rattle.pin_faults.specs.NotNamed.{formals_unless};
 
 use crate::lines::subckt_lines;
 use crate::offers::offer_if;
-use earliest_words::{Earliest, Fault, FaultKind, Word};
+use model_words::{Earliest, Fault, FaultKind, PlacedPorts, PortNames, Word};
 use netlist_core::{Model, Subckt};
-use placed_ports::{PlacedPorts, PortNames};
 use std::alloc::{AllocError, Global};
 
 // Offers the formals of a line that are not among these names.

@@ -11,11 +11,10 @@ mod offers;
 mod placed;
 mod repeated;
 
-pub use earliest_words::{Fault, FaultKind};
 pub use formals::unknown_formal;
 pub use missing::pin_missing;
+pub use model_words::{Fault, FaultKind, PlacedPorts};
 pub use named_models::NamedModels;
 pub use netlist_core::Model;
 pub use placed::missing_model;
-pub use placed_ports::PlacedPorts;
 pub use repeated::pin_twice;

@@ -5,15 +5,15 @@ ghost use Rattle.netlist_core.specs.declared.model.Port as names;
 ghost use Rattle.netlist_rules.specs.declared.fault.Fault as text;
 ghost use Rattle.netlist_rules.specs.declared.fault.FaultKind.TheVariants.{PinMissing};
 ghost use Rattle.netlist_rules.specs.ModelFaults.{fault_of_port, missing_pin, formals_of};
-ghost use Rattle.earliest_words.specs.EarliestBroken.{earliest_broken};
-ghost use Rattle.earliest_words.specs.Words.{earliest_word, earliest_after};
+ghost use Rattle.model_words.specs.EarliestBroken.{earliest_broken};
+ghost use Rattle.model_words.specs.Words.{earliest_word, earliest_after};
 ghost use Rattle.pin_faults.specs.NotNamed.{ports_unless};
 ghost use Rattle.lists.specs.Names.{holds_name};
 
 use crate::lines::subckt_lines;
 use crate::names::formals_of;
 use crate::offers::offer_if;
-use earliest_words::{Earliest, Fault, FaultKind, Word};
+use model_words::{Earliest, Fault, FaultKind, Word};
 use named_models::NamedModels;
 use netlist_core::{Model, Port, Subckt};
 use std::alloc::{AllocError, Global};

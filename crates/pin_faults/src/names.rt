@@ -2,7 +2,7 @@
 ghost use Rattle.std.specs.Prelude.{IfOk};
 ghost use Rattle.netlist_core.specs.Names.{is_named};
 ghost use Rattle.netlist_rules.specs.ModelFaults.{formals_of};
-ghost use Rattle.placed_ports.specs.NameSets.{HasNames};
+ghost use Rattle.model_words.specs.NameSets.{HasNames};
 
 use netlist_core::Subckt;
 use std::alloc::{AllocError, Global};

@@ -2,9 +2,9 @@
 ghost use Rattle.std.specs.Prelude.{◌≡◌};
 ghost use Rattle.std.specs.Bool.{then_some};
 ghost use Rattle.std.specs.Option.{option_to_list};
-ghost use Rattle.earliest_words.specs.Words.{earliest_word, earliest_after, word_port};
+ghost use Rattle.model_words.specs.Words.{earliest_word, earliest_after, word_port};
 
-use earliest_words::{Earliest, Word};
+use model_words::{Earliest, Word};
 
 /// Offers a word, if it breaks the rule.
 pub fn offer_if<'a>(earliest: &mut Earliest<'a>, breaks: bool, word: Word<'a>)

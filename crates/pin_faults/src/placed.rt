@@ -2,12 +2,12 @@
 ghost use Rattle.std.specs.Prelude.{◌≡◌, IfOk};
 ghost use Rattle.netlist_rules.specs.declared.fault.FaultKind.TheVariants.{NoSuchModel};
 ghost use Rattle.netlist_rules.specs.ModelFaults.{missing_model};
-ghost use Rattle.earliest_words.specs.EarliestBroken.{earliest_broken};
-ghost use Rattle.earliest_words.specs.Words.{earliest_word, earliest_after};
+ghost use Rattle.model_words.specs.EarliestBroken.{earliest_broken};
+ghost use Rattle.model_words.specs.Words.{earliest_word, earliest_after};
 
 use crate::lines::subckt_lines;
 use crate::offers::offer_if;
-use earliest_words::{Earliest, Fault, FaultKind, Word};
+use model_words::{Earliest, Fault, FaultKind, Word};
 use named_models::NamedModels;
 use netlist_core::{Model, Subckt};
 use std::alloc::{AllocError, Global};

@@ -3,12 +3,12 @@ ghost use Rattle.std.specs.Prelude.{◌≡◌, IfOk, OnOk};
 ghost use Rattle.netlist_rules.specs.declared.fault.FaultKind.TheVariants.{PinTwice};
 ghost use Rattle.netlist_rules.specs.Drivers.{repeats};
 ghost use Rattle.netlist_rules.specs.ModelFaults.{formals_of};
-ghost use Rattle.earliest_words.specs.EarliestBroken.{earliest_broken};
-ghost use Rattle.earliest_words.specs.Words.{earliest_word, earliest_after};
+ghost use Rattle.model_words.specs.EarliestBroken.{earliest_broken};
+ghost use Rattle.model_words.specs.Words.{earliest_word, earliest_after};
 
 use crate::lines::subckt_lines;
 use crate::offers::offer_if;
-use earliest_words::{Earliest, Fault, FaultKind, Word};
+use model_words::{Earliest, Fault, FaultKind, Word};
 use netlist_core::{Model, Subckt};
 use std::alloc::{AllocError, Global};
 use std::collections::BTreeSet;

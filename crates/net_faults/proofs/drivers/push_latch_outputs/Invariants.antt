@@ -1,6 +1,6 @@
 use Rattle.std.proofs.Common.{◌≡◌, ◌++◌, take, map}
 use Rattle.netlist_rules.specs.Drivers.{latch_output}
-use Rattle.earliest_words.specs.Words.{word_ports}
+use Rattle.model_words.specs.Words.{word_ports}
 use Rattle.net_faults.proofs.drivers.push_latch_outputs.Given as goal
 
 abbrev pub invariant-loop-latch : goal.invariant-loop-latch

@@ -3,7 +3,7 @@ use Rattle.std.specs.Prelude.{option_to_list}
 use Rattle.std.specs.Bool.{then_some}
 use Rattle.std.proofs.lemmas.Bool.{cond-true, cond-false, or_left, or_right, or_from}
 use Rattle.netlist_rules.specs.ModelFaults.{doubles_after}
-use Rattle.earliest_words.specs.Words.{earliest_word, earliest_after}
+use Rattle.model_words.specs.Words.{earliest_word, earliest_after}
 use Rattle.net_faults.specs.Numbering.{numbered_port}
 use Rattle.net_faults.specs.Elsewhere.{stands_elsewhere}
 use Rattle.net_faults.proofs.Passing.{no_word, left_after, offered_if}

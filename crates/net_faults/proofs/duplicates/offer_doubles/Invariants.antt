@@ -1,7 +1,7 @@
 use Rattle.std.proofs.Common.{List, [], drop}
 use Rattle.netlist_core.specs.declared.model.Port.{Port}
 use Rattle.netlist_rules.specs.ModelFaults.{doubles_after}
-use Rattle.earliest_words.specs.Words.{earliest_word, earliest_after}
+use Rattle.model_words.specs.Words.{earliest_word, earliest_after}
 use Rattle.net_faults.specs.Numbering.{numbered_ports}
 use Rattle.net_faults.specs.Elsewhere.{KnowsOthers, stands_elsewhere}
 use Rattle.net_faults.proofs.Passing.{IsLeft}

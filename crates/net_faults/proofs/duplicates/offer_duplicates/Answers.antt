@@ -1,6 +1,6 @@
 use Rattle.std.proofs.Common.{◌≡◌, ap, ◌∙◌, subst, [], ◌++◌}
 use Rattle.netlist_rules.specs.ModelFaults.{doubles_after, is_output_before, is_input_by_then}
-use Rattle.earliest_words.specs.Words.{earliest_word, earliest_after}
+use Rattle.model_words.specs.Words.{earliest_word, earliest_after}
 use Rattle.net_faults.specs.Numbering.{numbered_ports}
 use Rattle.net_faults.specs.FirstLines.{AreFirstLines}
 use Rattle.net_faults.proofs.Passing.{offered_thrice}

@@ -1,6 +1,6 @@
 use Rattle.std.proofs.Common.{◌≡◌, take, flat_map}
 use Rattle.netlist_rules.specs.ModelFaults.{earliest, duplicate_ports, second_drivers, undriven_readings}
-use Rattle.earliest_words.specs.Words.{earliest_word}
+use Rattle.model_words.specs.Words.{earliest_word}
 use Rattle.net_faults.proofs.faults.net_faults.Given as goal
 
 abbrev pub invariant-loop-model : goal.invariant-loop-model

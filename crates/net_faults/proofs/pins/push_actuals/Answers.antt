@@ -2,8 +2,8 @@ use Rattle.std.proofs.Common.{◌≡◌, ap, subst, length, arith}
 use Rattle.std.specs.Option.{option_copied}
 use Rattle.netlist_core.specs.Names.{model_named}
 use Rattle.netlist_rules.specs.Drivers.{actuals_on}
-use Rattle.earliest_words.specs.Words.{word_ports}
-use Rattle.placed_ports.specs.Placed.{ArePlacedNames, ArePlain}
+use Rattle.model_words.specs.Words.{word_ports}
+use Rattle.model_words.specs.Placed.{ArePlacedNames, ArePlain}
 use Rattle.net_faults.specs.Pins.{is_pin_of}
 use Rattle.net_faults.proofs.Pushed.{flat_more}
 use Rattle.net_faults.proofs.pins.push_actuals.Goals as goal

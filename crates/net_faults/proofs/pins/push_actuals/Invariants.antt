@@ -1,8 +1,8 @@
 use Rattle.std.proofs.Common.{◌≡◌, ◌++◌, List, take, flat_map}
 use Rattle.netlist_core.specs.declared.model.Model.{Model}
 use Rattle.netlist_rules.specs.Drivers.{actuals_on}
-use Rattle.earliest_words.specs.Words.{word_ports}
-use Rattle.placed_ports.specs.Placed.{KnowsPlaced}
+use Rattle.model_words.specs.Words.{word_ports}
+use Rattle.model_words.specs.Placed.{KnowsPlaced}
 use Rattle.net_faults.specs.Pins.{is_pin_of}
 use Rattle.net_faults.proofs.pins.push_actuals.Given as goal
 

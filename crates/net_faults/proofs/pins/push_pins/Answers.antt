@@ -4,7 +4,7 @@ use Rattle.std.proofs.lemmas.Bool.{cond-true, cond-false}
 use Rattle.std.proofs.lemmas.List.{map_push}
 use Rattle.netlist_core.specs.Names.{at_line}
 use Rattle.netlist_rules.specs.Drivers.{actual_if}
-use Rattle.earliest_words.specs.Words.{word_port, word_ports}
+use Rattle.model_words.specs.Words.{word_port, word_ports}
 use Rattle.net_faults.specs.Pins.{is_pin_of}
 use Rattle.net_faults.proofs.Pushed.{kept_more}
 use Rattle.net_faults.proofs.pins.push_pins.Goals as goal

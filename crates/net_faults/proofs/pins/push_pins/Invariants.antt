@@ -3,8 +3,8 @@ use Rattle.std.specs.Prelude.{Option, filter_map}
 use Rattle.std.specs.Option.{option_copied}
 use Rattle.netlist_core.specs.declared.model.Model.{Model}
 use Rattle.netlist_rules.specs.Drivers.{actual_if}
-use Rattle.earliest_words.specs.Words.{word_ports}
-use Rattle.placed_ports.specs.Placed.{ArePlacedNames}
+use Rattle.model_words.specs.Words.{word_ports}
+use Rattle.model_words.specs.Placed.{ArePlacedNames}
 use Rattle.net_faults.specs.Pins.{is_pin_of}
 use Rattle.net_faults.proofs.pins.push_pins.Given as goal
 

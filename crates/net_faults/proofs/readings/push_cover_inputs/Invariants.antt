@@ -1,6 +1,6 @@
 use Rattle.std.proofs.Common.{◌≡◌, ◌++◌, take, map}
 use Rattle.netlist_core.specs.Names.{at_line}
-use Rattle.earliest_words.specs.Words.{word_ports}
+use Rattle.model_words.specs.Words.{word_ports}
 use Rattle.net_faults.proofs.readings.push_cover_inputs.Given as goal
 
 abbrev pub invariant-loop-name : goal.invariant-loop-name

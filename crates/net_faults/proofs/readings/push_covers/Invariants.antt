@@ -1,6 +1,6 @@
 use Rattle.std.proofs.Common.{◌≡◌, ◌++◌, take, flat_map}
 use Rattle.netlist_rules.specs.Drivers.{cover_readings}
-use Rattle.earliest_words.specs.Words.{word_ports}
+use Rattle.model_words.specs.Words.{word_ports}
 use Rattle.net_faults.proofs.readings.push_covers.Given as goal
 
 abbrev pub invariant-loop-cover : goal.invariant-loop-cover

@@ -1,6 +1,6 @@
 use Rattle.std.proofs.Common.{◌≡◌, ◌++◌, take, flat_map}
 use Rattle.netlist_rules.specs.Drivers.{latch_readings}
-use Rattle.earliest_words.specs.Words.{word_ports}
+use Rattle.model_words.specs.Words.{word_ports}
 use Rattle.net_faults.proofs.readings.push_latches.Given as goal
 
 abbrev pub invariant-loop-latch : goal.invariant-loop-latch

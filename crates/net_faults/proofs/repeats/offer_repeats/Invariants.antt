@@ -1,6 +1,6 @@
 use Rattle.std.proofs.Common.{drop}
 use Rattle.netlist_rules.specs.Drivers.{repeats, repeats_after}
-use Rattle.earliest_words.specs.Words.{earliest_word, earliest_after}
+use Rattle.model_words.specs.Words.{earliest_word, earliest_after}
 use Rattle.net_faults.specs.Numbering.{numbered_ports}
 use Rattle.net_faults.proofs.Passing.{IsLeft}
 use Rattle.net_faults.proofs.repeats.offer_repeats.Given as goal

@@ -4,9 +4,9 @@ use Rattle.std.specs.Bool.{then_some}
 use Rattle.std.proofs.lemmas.Bool.{cond-true, cond-false, not_from_true, not_from_false}
 use Rattle.std.proofs.lemmas.List.{drop_more}
 use Rattle.netlist_rules.specs.ModelFaults.{unless_named}
-use Rattle.earliest_words.specs.Words.{word_port, word_ports, earliest_word, earliest_after}
+use Rattle.model_words.specs.Words.{word_port, word_ports, earliest_word, earliest_after}
 use Rattle.net_faults.proofs.Passing.{no_word, offered_if}
-use Rattle.earliest_words.proofs.OfferedWords.{put_in_front}
+use Rattle.model_words.proofs.OfferedWords.{put_in_front}
 use Rattle.net_faults.proofs.undriven_nets.offer_unnamed.Goals as goal
 use Rattle.net_faults.proofs.undriven_nets.offer_unnamed.Goals.{then-not-has_name, else-not-has_name}
 

@@ -2,7 +2,7 @@ use Rattle.std.proofs.Common.{◌≡◌, List, drop}
 use Rattle.std.specs.Prelude.{filter_map}
 use Rattle.netlist_core.specs.declared.model.Port.{Port}
 use Rattle.netlist_rules.specs.ModelFaults.{unless_named}
-use Rattle.earliest_words.specs.Words.{word_ports, earliest_word, earliest_after}
+use Rattle.model_words.specs.Words.{word_ports, earliest_word, earliest_after}
 use Rattle.net_faults.specs.FirstLines.{AreFirstLines}
 use Rattle.net_faults.proofs.undriven_nets.offer_unnamed.Given as goal
 

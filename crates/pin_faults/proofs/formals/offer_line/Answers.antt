@@ -1,8 +1,8 @@
 use Rattle.std.proofs.Common.{ap, sym, subst}
 use Rattle.std.specs.Option.{option_copied}
 use Rattle.netlist_core.specs.Names.{model_named}
-use Rattle.earliest_words.specs.Words.{earliest_word}
-use Rattle.placed_ports.specs.Placed.{ArePlacedNames}
+use Rattle.model_words.specs.Words.{earliest_word}
+use Rattle.model_words.specs.Placed.{ArePlacedNames}
 use Rattle.pin_faults.proofs.Ports.{unknown_at, unknown_without}
 use Rattle.pin_faults.proofs.formals.offer_line.Goals as goal
 

@@ -1,8 +1,8 @@
 use Rattle.std.proofs.Common.{◌∙◌, ap, arith}
-use Rattle.earliest_words.specs.Words.{earliest_word, earliest_after}
-use Rattle.placed_ports.specs.Placed.{has_port}
+use Rattle.model_words.specs.Words.{earliest_word, earliest_after}
+use Rattle.model_words.specs.Placed.{has_port}
 use Rattle.pin_faults.specs.NotNamed.{formal_unless}
-use Rattle.earliest_words.proofs.OfferedWords.{filtered_more}
+use Rattle.model_words.proofs.OfferedWords.{filtered_more}
 use Rattle.pin_faults.proofs.OfferedWords.{formal_offered}
 use Rattle.pin_faults.proofs.formals.offer_others.Goals as goal
 

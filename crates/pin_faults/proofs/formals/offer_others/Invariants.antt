@@ -1,7 +1,7 @@
 use Rattle.std.proofs.Common.{◌≡◌, filter_map, take}
 use Rattle.netlist_core.specs.declared.model.Model.{Model}
-use Rattle.earliest_words.specs.Words.{earliest_word, earliest_after}
-use Rattle.placed_ports.specs.Placed.{AreNamesOfPorts, has_port}
+use Rattle.model_words.specs.Words.{earliest_word, earliest_after}
+use Rattle.model_words.specs.Placed.{AreNamesOfPorts, has_port}
 use Rattle.pin_faults.specs.NotNamed.{formal_unless}
 use Rattle.pin_faults.proofs.formals.offer_others.Given as goal
 

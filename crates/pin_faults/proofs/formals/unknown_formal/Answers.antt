@@ -1,7 +1,7 @@
 use Rattle.std.proofs.Common.{◌∙◌, ap, arith, refl}
 use Rattle.netlist_rules.specs.declared.fault.FaultKind.TheVariants.{NoSuchPin}
 use Rattle.netlist_rules.specs.ModelFaults.{unknown_formals}
-use Rattle.earliest_words.specs.Words.{earliest_word}
+use Rattle.model_words.specs.Words.{earliest_word}
 use Rattle.pin_faults.specs.SubcktLines.{lines_now}
 use Rattle.pin_faults.proofs.OfferedWords.{lines_more, if_ok_first}
 use Rattle.pin_faults.proofs.Ports.{placing}

@@ -1,6 +1,6 @@
 use Rattle.std.proofs.Common.{◌≡◌, flat_map, take}
 use Rattle.netlist_rules.specs.ModelFaults.{earliest, unknown_formals}
-use Rattle.earliest_words.specs.Words.{earliest_word}
+use Rattle.model_words.specs.Words.{earliest_word}
 use Rattle.pin_faults.specs.SubcktLines.{lines_now}
 use Rattle.pin_faults.proofs.formals.unknown_formal.Given as goal
 

@@ -1,7 +1,7 @@
 use Rattle.std.proofs.Common.{◌∙◌, sym, ap, List}
 use Rattle.netlist_core.specs.declared.model.Port.{Port}
 use Rattle.netlist_core.specs.Names.{model_named}
-use Rattle.earliest_words.specs.Words.{earliest_word, earliest_after}
+use Rattle.model_words.specs.Words.{earliest_word, earliest_after}
 use Rattle.pin_faults.specs.NotNamed.{ports_unless}
 use Rattle.lists.specs.Names.{holds_name}
 use Rattle.pin_faults.proofs.MissingPins.{first_unpinned, line_fault_is}

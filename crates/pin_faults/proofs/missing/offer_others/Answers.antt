@@ -1,8 +1,8 @@
 use Rattle.std.proofs.Common.{◌∙◌, ap, arith}
-use Rattle.earliest_words.specs.Words.{earliest_word, earliest_after}
+use Rattle.model_words.specs.Words.{earliest_word, earliest_after}
 use Rattle.pin_faults.specs.NotNamed.{port_unless}
 use Rattle.lists.specs.Names.{holds_name}
-use Rattle.earliest_words.proofs.OfferedWords.{filtered_more}
+use Rattle.model_words.proofs.OfferedWords.{filtered_more}
 use Rattle.pin_faults.proofs.OfferedWords.{port_offered}
 use Rattle.pin_faults.proofs.missing.offer_others.Goals as goal
 

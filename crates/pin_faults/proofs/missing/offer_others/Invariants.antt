@@ -1,5 +1,5 @@
 use Rattle.std.proofs.Common.{◌≡◌, take}
-use Rattle.earliest_words.specs.Words.{earliest_word, earliest_after}
+use Rattle.model_words.specs.Words.{earliest_word, earliest_after}
 use Rattle.pin_faults.specs.NotNamed.{ports_unless}
 use Rattle.lists.specs.Names.{holds_name}
 use Rattle.pin_faults.proofs.missing.offer_others.Given as goal

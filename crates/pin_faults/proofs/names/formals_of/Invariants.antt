@@ -1,7 +1,7 @@
 use Rattle.std.proofs.Common.{map, take}
 use Rattle.netlist_core.specs.Names.{at_line, is_named}
 use Rattle.netlist_core.specs.declared.model.Pin.{Pin}
-use Rattle.placed_ports.specs.NameSets.{HasNames}
+use Rattle.model_words.specs.NameSets.{HasNames}
 use Rattle.pin_faults.proofs.names.formals_of.Given as goal
 
 abbrev pub invariant-loop-pin : goal.invariant-loop-pin

@@ -1,7 +1,7 @@
 use Rattle.std.proofs.Common.{◌∙◌, ap, arith}
 use Rattle.netlist_rules.specs.declared.fault.FaultKind.TheVariants.{NoSuchModel}
 use Rattle.netlist_rules.specs.ModelFaults.{missing_model}
-use Rattle.earliest_words.specs.Words.{earliest_word}
+use Rattle.model_words.specs.Words.{earliest_word}
 use Rattle.pin_faults.specs.SubcktLines.{lines_now}
 use Rattle.pin_faults.proofs.OfferedWords.{lines_more, if_ok_first}
 use Rattle.pin_faults.proofs.placed.missing_model.Goals as goal

@@ -1,5 +1,5 @@
 use Rattle.std.proofs.Common.{arith}
-use Rattle.earliest_words.specs.Words.{earliest_word}
+use Rattle.model_words.specs.Words.{earliest_word}
 use Rattle.pin_faults.proofs.NamesAdded.{formal_added}
 use Rattle.pin_faults.proofs.Repeats.{repeated_more}
 use Rattle.pin_faults.proofs.repeated.offer_line.Goals as goal

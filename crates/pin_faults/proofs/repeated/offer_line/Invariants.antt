@@ -2,8 +2,8 @@ use Rattle.std.proofs.Common.{◌≡◌, map, take}
 use Rattle.netlist_core.specs.declared.model.Pin.{Pin}
 use Rattle.netlist_core.specs.Names.{at_line, is_named}
 use Rattle.netlist_rules.specs.Drivers.{repeats}
-use Rattle.earliest_words.specs.Words.{earliest_after, earliest_word}
-use Rattle.placed_ports.specs.NameSets.{HasNames}
+use Rattle.model_words.specs.Words.{earliest_after, earliest_word}
+use Rattle.model_words.specs.NameSets.{HasNames}
 use Rattle.pin_faults.proofs.repeated.offer_line.Given as goal
 
 abbrev pub invariant-loop-pin : goal.invariant-loop-pin

@@ -5,7 +5,7 @@ use Rattle.netlist_core.specs.declared.model.Subckt.{Subckt}
 use Rattle.netlist_rules.specs.declared.fault.FaultKind.TheVariants.{PinTwice}
 use Rattle.netlist_rules.specs.Drivers.{repeats}
 use Rattle.netlist_rules.specs.ModelFaults.{formals_of}
-use Rattle.earliest_words.specs.Words.{earliest_word}
+use Rattle.model_words.specs.Words.{earliest_word}
 use Rattle.pin_faults.specs.SubcktLines.{lines_now}
 use Rattle.pin_faults.proofs.OfferedWords.{lines_more, if_ok_first}
 use Rattle.pin_faults.proofs.repeated.pin_twice.Goals as goal

@@ -1,5 +1,5 @@
 use Rattle.std.proofs.Common.{◌∙◌, ap}
-use Rattle.earliest_words.specs.Words.{word_ports}
+use Rattle.model_words.specs.Words.{word_ports}
 use Rattle.net_faults.proofs.Numbers.{still_numbered, keeps_more}
 use Rattle.net_faults.proofs.net_words.NetWords.of.Goals as goal
 

@@ -1,5 +1,5 @@
 use Rattle.std.proofs.Common.{◌≡◌, take}
-use Rattle.earliest_words.specs.Words.{word_ports}
+use Rattle.model_words.specs.Words.{word_ports}
 use Rattle.net_faults.specs.Numbering.{AreNumbered, IsNumbering, KeepsNumbers, numbered_ports}
 use Rattle.net_faults.proofs.numbering.Numbering.number_words.Given as goal
 

@@ -1,2 +1,0 @@
-pub mod EarliestWords
-pub mod OfferedWords

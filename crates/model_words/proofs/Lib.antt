@@ -1,0 +1,4 @@
+pub mod NamesAdded
+pub mod NumberedPorts
+pub mod EarliestWords
+pub mod OfferedWords

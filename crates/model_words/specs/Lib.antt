@@ -1,0 +1,4 @@
+pub mod NameSets
+pub mod Placed
+pub mod Words
+pub mod EarliestBroken

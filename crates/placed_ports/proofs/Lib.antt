@@ -1,2 +1,0 @@
-pub mod NamesAdded
-pub mod NumberedPorts

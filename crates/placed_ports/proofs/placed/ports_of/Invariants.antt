@@ -1,7 +1,0 @@
-use Rattle.std.proofs.Common.{take}
-use Rattle.std.specs.List.{AllZip}
-use Rattle.placed_ports.specs.Placed.{AreNamesOfPorts}
-use Rattle.placed_ports.proofs.placed.ports_of.Given as goal
-
-abbrev pub invariant-loop-model : goal.invariant-loop-model
-invariant-loop-model l = AllZip AreNamesOfPorts l.ports.items (take l.model-index l.models)
