@@ -4,8 +4,8 @@ ghost use Rattle.netlist_rules.specs.ModelFaults.{AreFaultless, HasModelFault, f
 
 use lists::List;
 use model_circles::circle_fault;
+use model_index::NamedModels;
 use model_words::PlacedPorts;
-use named_models::NamedModels;
 use net_faults::{NetFaults, net_faults};
 use netlist_core::Model;
 use netlist_rules::{Fault, FaultKind};

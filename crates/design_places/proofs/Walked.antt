@@ -16,8 +16,8 @@ use Rattle.netlist_rules.specs.ModelFaults.{AreFaultless}
 use Rattle.netlist_rules.proofs.Faultless.{some_models}
 use Rattle.lists.proofs.Cuts.{got_left, got_push}
 use Rattle.sound_designs.proofs.Sound.{not_recursive}
-use Rattle.named_models.specs.Numbers.{IsNumberOf}
-use Rattle.named_models.proofs.Numbered.{number_found}
+use Rattle.model_index.specs.ByName.{IsNumberOf}
+use Rattle.model_index.proofs.Numbered.{number_found}
 use Rattle.design_places.specs.declared.placed.Parent.{Parent}
 use Rattle.design_places.specs.declared.placed.PlacedModel.{PlacedModel}
 use Rattle.design_places.specs.Placed.{HasParent, IsModelAt, ArePlaces}

@@ -7,7 +7,7 @@ ghost use Rattle.design_places.specs.ToCome.{placed_by, placed_by_lines};
 
 use crate::placed::{Parent, PlacedModel};
 use lists::List;
-use named_models::NamedModels;
+use model_index::NamedModels;
 use netlist_core::{Design, Subckt};
 use std::alloc::{AllocError, Global};
 

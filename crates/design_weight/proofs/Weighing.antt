@@ -11,11 +11,11 @@ use Rattle.netlist_core.specs.declared.model.Design.{Design}
 use Rattle.netlist_core.specs.Names.{is_model_named, model_named}
 use Rattle.netlist_core.specs.OwnWeight.{own_weight}
 use Rattle.netlist_meaning.specs.Weight.{of_model, weight_below, weight}
-use Rattle.named_models.specs.Numbers.{IsNumberOf}
-use Rattle.named_models.proofs.Numbered.{number_found}
-use Rattle.model_order.specs.Numbers.{Places}
-use Rattle.model_order.specs.Order.{IsModelOrder}
-use Rattle.model_order.proofs.Naming.{places_by, number_named}
+use Rattle.model_index.specs.ByName.{IsNumberOf}
+use Rattle.model_index.proofs.Numbered.{number_found}
+use Rattle.model_index.specs.Numbers.{Places}
+use Rattle.model_index.specs.Order.{IsModelOrder}
+use Rattle.model_index.proofs.Naming.{places_by, number_named}
 use Rattle.design_weight.specs.Weights.{line_weight, WeighsBeyond, AreWeights}
 
 -- a sum of numbers that are held at a bound is held where their sum is

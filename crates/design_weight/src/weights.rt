@@ -3,12 +3,11 @@ ghost use Rattle.std.specs.Prelude.{◌≡◌, ◌+◌, ◌<◌, min, length, su
 ghost use Rattle.netlist_core.specs.OwnWeight.{own_weight};
 ghost use Rattle.netlist_meaning.specs.Weight.{weight};
 ghost use Rattle.netlist_rules.specs.ModelFaults.{AreFaultless};
-ghost use Rattle.model_order.specs.Order.{IsModelOrder};
-ghost use Rattle.model_order.specs.Reasons.{IsModelOrderRefusal};
+ghost use Rattle.model_index.specs.Order.{IsModelOrder};
+ghost use Rattle.model_index.specs.Reasons.{IsModelOrderRefusal};
 ghost use Rattle.design_weight.specs.Weights.{line_weight, AreWeights};
 
-use model_order::{OrderError, order};
-use named_models::NamedModels;
+use model_index::{NamedModels, OrderError, order};
 use netlist_core::{Design, Model, Subckt, weight_of};
 use std::alloc::{AllocError, Global};
 

@@ -8,7 +8,7 @@ use Rattle.std.proofs.lemmas.Bool.{cases_eq}
 use Rattle.std.proofs.lemmas.List.Folds.{sum_by-replicate}
 use Rattle.lists.proofs.Numbers.{less_or_last}
 use Rattle.netlist_core.specs.declared.model.Model.{Model}
-use Rattle.model_order.specs.Numbers.{number_placed, Places, PlacesSomewhere, LeadsBy}
+use Rattle.model_index.specs.Numbers.{number_placed, Places, PlacesSomewhere, LeadsBy}
 use Rattle.model_circles.specs.declared.search.Search.{Search}
 use Rattle.model_circles.specs.Search.{IsSearch, IsSearchOf, IsFound, StillFound, AreMetBefore, IsMetAs, Meets}
 use Rattle.model_circles.specs.Ways.{LeadsBackBy}

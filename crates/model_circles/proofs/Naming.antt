@@ -9,9 +9,9 @@ use Rattle.netlist_core.specs.declared.model.Subckt.{Subckt}
 use Rattle.netlist_core.specs.Names.{Name, model_named}
 use Rattle.netlist_rules.specs.Circles.{HasSubcktOf, Leads, LeadsBack, IsOnCircle, IsCircleFault}
 use Rattle.netlist_rules.specs.declared.fault.Fault.{Fault}
-use Rattle.named_models.specs.Numbers.{IsNumberOf}
-use Rattle.model_order.specs.Numbers.{first_named, name_at, subckts_of, Places, PlacesSomewhere, LeadsBy}
-use Rattle.model_order.proofs.Naming.{numbered, number_named, name_is, placing, placed_named, number_within, leads_named, places_by}
+use Rattle.model_index.specs.ByName.{IsNumberOf}
+use Rattle.model_index.specs.Numbers.{first_named, name_at, subckts_of, Places, PlacesSomewhere, LeadsBy}
+use Rattle.model_index.proofs.Naming.{numbered, number_named, name_is, placing, placed_named, number_within, leads_named, places_by}
 use Rattle.model_circles.specs.declared.circle.Circle.{Circle}
 use Rattle.model_circles.specs.Earliest.{IsCircle, IsCircleIfAny, IsFaultOf, IsNoLater, IsEarliestCircle}
 use Rattle.model_circles.specs.Ways.{LeadsBackBy, Stands, AreDifferent, LiesOnCircle}

@@ -2,8 +2,8 @@
 use Rattle.std.proofs.Common.{◌≡◌, sym, subst, ◌∙◌, ℕ, zero, suc, ◌<◌, List, [], ◌∷◌, length, get_or, arith}
 use Rattle.std.proofs.lemmas.List.{get_or_default}
 use Rattle.netlist_core.specs.declared.model.Model.{Model}
-use Rattle.model_order.specs.Numbers.{Places, PlacesSomewhere, LeadsBy}
-use Rattle.model_order.specs.Order.{IsModelOrder}
+use Rattle.model_index.specs.Numbers.{Places, PlacesSomewhere, LeadsBy}
+use Rattle.model_index.specs.Order.{IsModelOrder}
 use Rattle.model_circles.specs.Ways.{LeadsBackBy, LiesOnCircle}
 
 -- a model stands at an earlier place than another

@@ -4,8 +4,8 @@ use Rattle.std.proofs.lemmas.Option.{same_Some}
 use Rattle.std.proofs.Math.Nat.{lt_of_not-le}
 use Rattle.netlist_core.specs.declared.model.Model.{Model}
 use Rattle.netlist_core.specs.declared.model.Subckt.{Subckt}
-use Rattle.model_order.specs.Numbers.{subckts_of, Places, LeadsBy}
-use Rattle.model_order.proofs.Naming.{placed_within}
+use Rattle.model_index.specs.Numbers.{subckts_of, Places, LeadsBy}
+use Rattle.model_index.proofs.Naming.{placed_within}
 use Rattle.model_circles.specs.declared.circle.Circle.{Circle}
 use Rattle.model_circles.specs.Earliest.{IsLookedAt, IsNoLater}
 use Rattle.model_circles.specs.Ranks.{AreRanks}

@@ -2,7 +2,7 @@
 use Rattle.std.proofs.Common.{◌≡◌, refl, sym, ap, subst, ◌∙◌, ℕ, ◌<◌, ◌≤◌, inl, inr, List, [], ◌∷◌, ◌++◌, reverse, length, get_or, Option, Some, None, arith}
 use Rattle.std.proofs.lemmas.List.{reverse-append}
 use Rattle.netlist_core.specs.declared.model.Model.{Model}
-use Rattle.model_order.specs.Numbers.{PlacesSomewhere, LeadsBy}
+use Rattle.model_index.specs.Numbers.{PlacesSomewhere, LeadsBy}
 use Rattle.model_circles.specs.Search.{IsSearch}
 use Rattle.model_circles.specs.Ways.{LeadsBackBy, Stands, AreDifferent, IsWayBack}
 

@@ -6,7 +6,7 @@ use Rattle.netlist_rules.specs.declared.fault.Fault.{Fault}
 use Rattle.netlist_rules.specs.declared.fault.FaultKind.TheVariants.{Recursive}
 use Rattle.netlist_core.specs.declared.model.Model.{Model}
 use Rattle.netlist_core.specs.declared.model.Subckt.{Subckt}
-use Rattle.model_order.specs.Numbers.{name_at, subckts_of, Places}
+use Rattle.model_index.specs.Numbers.{name_at, subckts_of, Places}
 use Rattle.model_circles.specs.Ways.{IsWayBack, LiesOnCircle}
 
 -- a circle of a line of its first model

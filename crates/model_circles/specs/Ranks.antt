@@ -2,7 +2,7 @@
 use Rattle.model_circles.specs.declared.components.Components.{Components}
 use Rattle.std.specs.Prelude.{ℕ, ◌≡◌, ◌<◌, ◌≤◌, List, length, get_or, All}
 use Rattle.netlist_core.specs.declared.model.Model.{Model}
-use Rattle.model_order.specs.Numbers.{Places}
+use Rattle.model_index.specs.Numbers.{Places}
 
 -- so many models, and each number below that
 pub record AreWithin (count : ℕ) (components : Components) : Type 0 where

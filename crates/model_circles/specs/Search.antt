@@ -2,7 +2,7 @@
 use Rattle.model_circles.specs.declared.search.Search.{Search}
 use Rattle.std.specs.Prelude.{ℕ, ◌≡◌, ◌<◌, ◌+◌, List, [], ◌∷◌, ◌++◌, length, get_or, slice_set, Option, Some, None, is_none, count_by}
 use Rattle.netlist_core.specs.declared.model.Model.{Model}
-use Rattle.model_order.specs.Numbers.{PlacesSomewhere}
+use Rattle.model_index.specs.Numbers.{PlacesSomewhere}
 
 -- a model was found
 abbrev pub IsFound : List (Option ℕ) → ℕ → Type 0

@@ -1,7 +1,7 @@
 -- Ways among models by number.
 use Rattle.std.specs.Prelude.{ℕ, ◌≡◌, ◌⊎◌, List, [], ◌∷◌}
 use Rattle.netlist_core.specs.declared.model.Model.{Model}
-use Rattle.model_order.specs.Numbers.{Places, LeadsBy}
+use Rattle.model_index.specs.Numbers.{Places, LeadsBy}
 
 -- the models lead on from one that is placed, back to the one at the end
 abbrev pub LeadsBackBy : List Model → ℕ → List ℕ → ℕ → Type 0

@@ -1,14 +1,13 @@
 // The earliest line on a circle.
 ghost use Rattle.std.specs.Prelude.{◌≡◌, ◌<◌, ◌+◌, ◌↔◌, IsTrue, length, IfOk};
-ghost use Rattle.model_order.specs.Numbers.{subckts_of};
+ghost use Rattle.model_index.specs.Numbers.{subckts_of};
 ghost use Rattle.model_circles.specs.Earliest.{IsNoLater, IsLookedAt, IsEarliestBefore, IsEarliestCircle};
 ghost use Rattle.model_circles.specs.Ranks.{AreRanks};
 
 use crate::ranking::ranks;
 use crate::search::Search;
 use lists::List;
-use model_order::placed;
-use named_models::NamedModels;
+use model_index::{NamedModels, placed};
 use netlist_core::Model;
 use std::alloc::{AllocError, Global};
 

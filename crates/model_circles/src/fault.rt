@@ -2,13 +2,12 @@
 ghost use Rattle.std.specs.Prelude.{◌≡◌, ◌<◌, ◌∷◌, ℕ, List, All, length, map, IfOk, MatchOption};
 ghost use Rattle.std.specs.List.{join_with_byte};
 ghost use Rattle.netlist_rules.specs.Circles.{IsOnCircle, IsCircleFault};
-ghost use Rattle.model_order.specs.Numbers.{name_at};
+ghost use Rattle.model_index.specs.Numbers.{name_at};
 ghost use Rattle.model_circles.specs.Earliest.{IsCircle, IsFaultOf};
 
 use crate::circle::{Circle, earliest};
 use lists::List;
-use model_order::{OrderError, order};
-use named_models::NamedModels;
+use model_index::{NamedModels, OrderError, order};
 use netlist_core::Model;
 use netlist_rules::{Fault, FaultKind};
 use std::alloc::{AllocError, Global};

@@ -3,8 +3,7 @@ ghost use Rattle.std.specs.Prelude.{◌≡◌, ◌<◌, length, IsTrue, IfOk};
 ghost use Rattle.model_circles.specs.Ranks.{NeverRisesAt, AreRanks};
 
 use crate::components::component_ranks;
-use model_order::placed;
-use named_models::NamedModels;
+use model_index::{NamedModels, placed};
 use netlist_core::Model;
 use std::alloc::{AllocError, Global};
 

@@ -1,11 +1,10 @@
 // A search among models, breadth first, along the subckt lines that lead on from one of them.
 ghost use Rattle.std.specs.Prelude.{◌≡◌, ◌<◌, ℕ, List, length, get_or, MatchOption, IfOk, OnOk};
-ghost use Rattle.model_order.specs.Numbers.{PlacesSomewhere};
+ghost use Rattle.model_index.specs.Numbers.{PlacesSomewhere};
 ghost use Rattle.model_circles.specs.Search.{IsSearchOf, StillFound, IsFound, IsWholeSearch, Meets};
 ghost use Rattle.model_circles.specs.Ways.{IsWayBack, LeadsBackBy};
 
-use model_order::placed;
-use named_models::NamedModels;
+use model_index::{NamedModels, placed};
 use netlist_core::Model;
 use std::alloc::{AllocError, Global};
 

@@ -10,7 +10,7 @@ mod ports;
 mod word;
 
 pub use earliest::Earliest;
-pub use named_models::NamedModels;
+pub use model_index::NamedModels;
 pub use netlist_core::Model;
 pub use netlist_rules::{Fault, FaultKind};
 pub use placed::PlacedPorts;

@@ -8,7 +8,7 @@ ghost use Rattle.model_words.specs.Placed.{AreNamesOfPorts, ArePlacedNames, AreP
 
 use crate::ports::PortNames;
 use lists::List;
-use named_models::NamedModels;
+use model_index::NamedModels;
 use netlist_core::Model;
 use std::alloc::{AllocError, Global};
 

@@ -1,7 +1,7 @@
 use crate::texts::expect;
 use lists::{Bytes, List};
 use model_circles::circle_fault;
-use named_models::NamedModels;
+use model_index::NamedModels;
 use netlist_core::{Model, Subckt};
 use netlist_rules::Fault;
 use std::alloc::{AllocError, Global};

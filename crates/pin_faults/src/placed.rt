@@ -7,8 +7,8 @@ ghost use Rattle.model_words.specs.Words.{earliest_word, earliest_after};
 
 use crate::lines::subckt_lines;
 use crate::offers::offer_if;
+use model_index::NamedModels;
 use model_words::{Earliest, Fault, FaultKind, Word};
-use named_models::NamedModels;
 use netlist_core::{Model, Subckt};
 use std::alloc::{AllocError, Global};
 

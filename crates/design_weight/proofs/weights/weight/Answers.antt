@@ -1,6 +1,6 @@
 use Rattle.std.proofs.Common.{subst}
 use Rattle.netlist_rules.proofs.Faultless.{no_model_is_in_itself}
-use Rattle.model_order.specs.Reasons.{IsModelOrderRefusal, IsCircular}
+use Rattle.model_index.specs.Reasons.{IsModelOrderRefusal, IsCircular}
 use Rattle.design_weight.proofs.weights.weight.Goals as goal
 
 pub unreachable-requires : goal.unreachable-requires

@@ -1,6 +1,6 @@
 use Rattle.std.proofs.Common.{◌∙◌, sym, ap, subst, get_or, unwrap_or}
 use Rattle.std.proofs.lemmas.Option.{unwrap_or-slice_get}
-use Rattle.model_order.specs.Order.{IsModelOrder}
+use Rattle.model_index.specs.Order.{IsModelOrder}
 use Rattle.design_weight.proofs.Weighing.{main_weight}
 use Rattle.design_weight.proofs.weights.weight_or_circle.Goals as goal
 

@@ -1,7 +1,7 @@
 use Rattle.std.proofs.Common.{true≢false, ◌≡◌, ◌∙◌, sym, ap, subst, slice_get, MatchOption, List, ℕ, Vec, Global}
 use Rattle.netlist_core.specs.declared.model.Model.{Model}
-use Rattle.model_order.specs.Numbers.{subckts_of}
-use Rattle.model_order.proofs.Naming.{lines_at}
+use Rattle.model_index.specs.Numbers.{subckts_of}
+use Rattle.model_index.proofs.Naming.{lines_at}
 use Rattle.model_circles.specs.Ways.{IsWayBack, LeadsBackBy}
 use Rattle.model_circles.proofs.Ranked.{skipped, improved}
 use Rattle.model_circles.proofs.circle.look_at.Goals as goal

@@ -1,7 +1,7 @@
 use Rattle.std.proofs.Common.{◌∙◌, sym, ap, ap₂, ◌++◌, [], ◌∷◌, get_or, arith}
 use Rattle.netlist_core.specs.declared.model.Model.{Model}
-use Rattle.model_order.specs.Numbers.{name_at}
-use Rattle.model_order.proofs.Naming.{name_read}
+use Rattle.model_index.specs.Numbers.{name_at}
+use Rattle.model_index.proofs.Naming.{name_read}
 use Rattle.model_circles.proofs.Words.{join_more}
 use Rattle.model_circles.proofs.fault.names_of.Goals as goal
 

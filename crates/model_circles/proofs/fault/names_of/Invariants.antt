@@ -1,7 +1,7 @@
 use Rattle.std.proofs.Common.{◌≡◌, ◌∷◌, take}
 use Rattle.std.proofs.Common.{map}
 use Rattle.std.specs.List.{join_with_byte}
-use Rattle.model_order.specs.Numbers.{name_at}
+use Rattle.model_index.specs.Numbers.{name_at}
 use Rattle.model_circles.proofs.fault.names_of.Given as goal
 
 abbrev pub invariant-loop-n : goal.invariant-loop-n

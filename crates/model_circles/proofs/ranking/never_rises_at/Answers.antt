@@ -1,8 +1,8 @@
 use Rattle.std.proofs.Common.{◌≡◌, subst, length, ◌<◌, arith}
 use Rattle.netlist_core.specs.declared.model.Model.{Model}
 use Rattle.std.proofs.Common.{ap}
-use Rattle.model_order.specs.Numbers.{subckts_of}
-use Rattle.model_order.proofs.Naming.{line_within, lines_at}
+use Rattle.model_index.specs.Numbers.{subckts_of}
+use Rattle.model_index.proofs.Naming.{line_within, lines_at}
 use Rattle.model_circles.proofs.ranking.never_rises_at.Goals as goal
 
 pub returns : goal.returns

@@ -1,5 +1,5 @@
 use Rattle.std.proofs.Common.{ℕ, ◌<◌, ◌≤◌, get_or}
-use Rattle.model_order.specs.Numbers.{Places}
+use Rattle.model_index.specs.Numbers.{Places}
 use Rattle.model_circles.proofs.ranking.never_rises_at.Given as goal
 
 abbrev pub invariant-loop-line : goal.invariant-loop-line

@@ -1,8 +1,8 @@
 use Rattle.std.proofs.Common.{◌≡◌, ◌∙◌, sym, ap, subst, length, get_or, ◌<◌, ◌+◌, arith}
 use Rattle.std.proofs.lemmas.List.{get_or_default}
 use Rattle.netlist_core.specs.declared.model.Model.{Model}
-use Rattle.model_order.specs.Numbers.{subckts_of, Places}
-use Rattle.model_order.proofs.Naming.{line_within, lines_at}
+use Rattle.model_index.specs.Numbers.{subckts_of, Places}
+use Rattle.model_index.proofs.Naming.{line_within, lines_at}
 use Rattle.model_circles.specs.declared.search.Search.{Search}
 use Rattle.model_circles.proofs.Finding.{IsVisiting, visited_some, visited_none}
 use Rattle.model_circles.proofs.search.Search.visit.Goals as goal

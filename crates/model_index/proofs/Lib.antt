@@ -1,0 +1,4 @@
+pub mod Numbered
+pub mod Naming
+pub mod Linked
+pub mod Circling

@@ -1,0 +1,5 @@
+pub mod ByName
+pub mod Links
+pub mod Numbers
+pub mod Order
+pub mod Reasons

@@ -1,7 +1,0 @@
-use Rattle.std.proofs.Common.{◌≡◌, None}
-use Rattle.lists.proofs.Fills.{IsFilled}
-use Rattle.model_order.specs.Numbers.{number_placed}
-use Rattle.model_order.proofs.links.lines_of.Given as goal
-
-abbrev pub invariant-loop-k : goal.invariant-loop-k
-invariant-loop-k l = IsFilled (λ k number. number ≡ number_placed l.models l.n k) None l.k l.numbers.items

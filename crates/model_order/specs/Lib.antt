@@ -1,4 +1,0 @@
-pub mod Links
-pub mod Numbers
-pub mod Order
-pub mod Reasons
