@@ -19,8 +19,8 @@ use Rattle.flat_designs.proofs.Lists.{one_place}
 use Rattle.flat_designs.proofs.Listed.{place_is, nets_once, name_listed}
 use Rattle.flat_designs.proofs.Classes.{position_at}
 use Rattle.flat_designs.proofs.Weights.{nets_are_few}
-use Rattle.design_places.specs.declared.placed.PlacedModel.{PlacedModel}
-use Rattle.design_places.specs.Placed.{ArePlaces}
+use Rattle.design_walks.specs.declared.placed.PlacedModel.{PlacedModel}
+use Rattle.design_walks.specs.Places.{ArePlaces}
 use Rattle.netlist_flatten.specs.Numbered.{place_at, nets_before}
 use Rattle.netlist_flatten.specs.Tables.{AreTables}
 use Rattle.lists.proofs.Cuts.{got_left, got_right, flat_cut, flat_within}

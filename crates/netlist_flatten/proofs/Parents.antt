@@ -3,9 +3,9 @@ use Rattle.std.proofs.Common.{ℕ, ◌≡◌, ◌<◌, List, [], ◌∷◌, ◌+
 use Rattle.std.specs.Prelude.{MatchOption}
 use Rattle.netlist_core.specs.declared.model.Design.{Design}
 use Rattle.netlist_meaning.specs.Places.{Place}
-use Rattle.design_places.specs.declared.placed.PlacedModel.{PlacedModel}
-use Rattle.design_places.specs.declared.placed.Parent.{Parent}
-use Rattle.design_places.specs.Placed.{ArePlaces, HasParent}
+use Rattle.design_walks.specs.declared.placed.PlacedModel.{PlacedModel}
+use Rattle.design_walks.specs.declared.placed.Parent.{Parent}
+use Rattle.design_walks.specs.Places.{ArePlaces, HasParent}
 use Rattle.netlist_flatten.specs.Numbered.{place_at}
 use Rattle.netlist_flatten.proofs.Numbering.{placed_at}
 

@@ -13,8 +13,8 @@ use Rattle.netlist_meaning.specs.InOrder.{places_in_order, names_in_order, nets_
 use Rattle.netlist_meaning.specs.Weight.{weight}
 use Rattle.netlist_rules.specs.ModelFaults.{AreFaultless}
 use Rattle.lists.proofs.Appends.{slice_get_push}
-use Rattle.design_places.specs.declared.placed.PlacedModel.{PlacedModel}
-use Rattle.design_places.specs.Placed.{ArePlaces}
+use Rattle.design_walks.specs.declared.placed.PlacedModel.{PlacedModel}
+use Rattle.design_walks.specs.Places.{ArePlaces}
 use Rattle.netlist_flatten.specs.Numbered.{place_at, nets_before}
 use Rattle.netlist_flatten.specs.Tables.{AreOfModels, IsKnown, AreNames}
 use Rattle.lists.proofs.Cuts.{got_left, flat_next, flat_within, got_set_same, got_set_other}

@@ -6,8 +6,8 @@ use Rattle.netlist_core.specs.Names.{Name}
 use Rattle.netlist_meaning.specs.InOrder.{names_in_order}
 use Rattle.netlist_meaning.specs.Weight.{weight}
 use Rattle.netlist_rules.specs.ModelFaults.{AreFaultless}
-use Rattle.design_places.specs.declared.placed.PlacedModel.{PlacedModel}
-use Rattle.design_places.specs.Placed.{ArePlaces}
+use Rattle.design_walks.specs.declared.placed.PlacedModel.{PlacedModel}
+use Rattle.design_walks.specs.Places.{ArePlaces}
 use Rattle.netlist_flatten.specs.Numbered.{nets_before}
 
 -- the names that are known are those of their models

@@ -13,7 +13,7 @@ use crate::nets::nets_of;
 use crate::nodes::nodes_of;
 use crate::numbers::Numbers;
 use crate::ports::flat_ports;
-use design_weight::weight;
+use design_walks::weight;
 use lists::List;
 use netlist_core::{Design, Flat};
 use std::alloc::{AllocError, Global};

@@ -10,10 +10,9 @@ ghost use Rattle.netlist_rules.specs.ModelFaults.{AreFaultless};
 ghost use Rattle.netlist_flatten.specs.Numbered.{place_at, nets_before};
 
 use crate::tables::{firsts_of, names_by_model};
-use design_places::{Parent, PlacedModel, places};
+use design_walks::{ModelNames, Parent, PlacedModel, places};
 use lists::List;
 use model_index::NamedModels;
-use model_names::ModelNames;
 use netlist_core::{Design, Model, NetId};
 use std::alloc::{AllocError, Global};
 

@@ -3,12 +3,11 @@ ghost use Rattle.std.specs.Prelude.{ℕ, ◌≡◌, ◌<◌, ◌^◌, List, None
 ghost use Rattle.netlist_core.specs.Names.{Name};
 ghost use Rattle.netlist_meaning.specs.Weight.{weight};
 ghost use Rattle.netlist_rules.specs.ModelFaults.{AreFaultless};
-ghost use Rattle.design_places.specs.Placed.{ArePlaces};
+ghost use Rattle.design_walks.specs.Places.{ArePlaces};
 ghost use Rattle.netlist_flatten.specs.Numbered.{nets_before};
 ghost use Rattle.netlist_flatten.specs.Tables.{AreNames};
 
-use design_places::PlacedModel;
-use model_names::{ModelNames, names_of};
+use design_walks::{ModelNames, PlacedModel, names_of};
 use netlist_core::Design;
 use std::alloc::{AllocError, Global};
 

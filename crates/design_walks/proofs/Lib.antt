@@ -1,0 +1,4 @@
+pub mod Walked
+pub mod Weighing
+pub mod Positioned
+pub mod Sorted

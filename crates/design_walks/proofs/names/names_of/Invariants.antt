@@ -1,0 +1,12 @@
+use Rattle.std.proofs.Common.{◌≡◌, take}
+use Rattle.netlist_core.specs.Names.{port_names}
+use Rattle.netlist_meaning.specs.InOrder.{first_names}
+use Rattle.design_walks.specs.Words.{as_ports}
+use Rattle.design_walks.specs.Positions.{bytes_of, HasPositions}
+use Rattle.design_walks.proofs.names.names_of.Given as goal
+
+abbrev pub invariant-loop-word : goal.invariant-loop-word
+invariant-loop-word l = record {
+  names : bytes_of l.names.items ≡ first_names (port_names (as_ports (take l.word-index l.word-items)));
+  positions : HasPositions l.positions (bytes_of l.names.items);
+}

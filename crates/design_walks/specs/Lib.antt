@@ -1,0 +1,5 @@
+pub mod Places
+pub mod ToCome
+pub mod Weights
+pub mod Words
+pub mod Positions

@@ -1,0 +1,11 @@
+-- Words as ports, without where their bytes lie in memory.
+use Rattle.std.specs.Prelude.{List, map}
+use Rattle.netlist_core.specs.declared.model.Port.{Port}
+use Rattle.netlist_core.specs.Names.{at_line}
+use Rattle.design_walks.specs.declared.words.Word.{Word}
+
+abbrev pub port_of : Word → Port
+port_of word = at_line word.line word.name.now
+
+abbrev pub as_ports : List Word → List Port
+as_ports words = map port_of words

@@ -1,0 +1,98 @@
+// A walk over the places, with a stack of those to come in the place of recursion.
+ghost use Rattle.std.specs.Prelude.{◌≡◌, ◌<◌, ◌≤◌, ◌^◌, ◌++◌, [], ◌∷◌, length, IfOk, OnOk};
+ghost use Rattle.netlist_meaning.specs.Weight.{weight};
+ghost use Rattle.netlist_rules.specs.ModelFaults.{AreFaultless};
+ghost use Rattle.design_walks.specs.Places.{ArePlaces};
+ghost use Rattle.design_walks.specs.ToCome.{placed_by, placed_by_lines};
+
+use crate::placed::{Parent, PlacedModel};
+use lists::List;
+use model_index::NamedModels;
+use netlist_core::{Design, Subckt};
+use std::alloc::{AllocError, Global};
+
+// The place of a line inside a place.
+fn inner_place(alloc: Global, place: &[u32], line: u32) -> Result<List<u32>, AllocError>
+    ensures { IfOk result (λ inner. inner ≡ place.now ++ line ∷ []) }
+{
+    let mut inner = place.to_vec(alloc)?;
+    inner.push(line)?;
+    Ok(List::of(inner))
+}
+
+// Puts the place of a line on the stack, if the model that it names is there.
+fn push_line(
+    to_come: &mut Vec<PlacedModel>,
+    alloc: Global,
+    named: &NamedModels,
+    outer: &PlacedModel,
+    parent: Parent,
+    line: &Subckt,
+) -> Result<(), AllocError>
+    requires { parent.line < 2 ^ 32 }
+    ensures { OnOk result (to_come.new.items ≡ to_come.old.items ++ placed_by named.now outer.now parent.number parent.line line.now) }
+{
+    match named.find(line.model.as_slice()) {
+        None => Ok(()),
+        Some(model) => {
+            let place = inner_place(alloc, outer.place.as_slice(), parent.line as u32)?;
+            to_come.push(PlacedModel {
+                place,
+                model,
+                parent: Some(parent),
+            })?;
+            Ok(())
+        }
+    }
+}
+
+// Puts the places inside a place on the stack, the last line's first.
+fn push_inside(
+    to_come: &mut Vec<PlacedModel>,
+    alloc: Global,
+    named: &NamedModels,
+    outer: &PlacedModel,
+    number: usize,
+    lines: &[Subckt],
+) -> Result<(), AllocError>
+    requires { length lines.now ≤ 2 ^ 32 }
+    ensures { OnOk result (to_come.new.items ≡ to_come.old.items ++ placed_by_lines named.now outer.now number 0 lines.now) }
+{
+    for line in (0..lines.len()).rev() {
+        push_line(
+            to_come,
+            alloc,
+            named,
+            outer,
+            Parent { number, line },
+            &lines[line],
+        )?;
+    }
+    Ok(())
+}
+
+/// The places of a design, each before those inside it.
+pub fn places(
+    alloc: Global,
+    design: &Design,
+    named: &NamedModels,
+) -> Result<List<PlacedModel>, AllocError>
+    requires faultless { AreFaultless design.now.models }
+    requires few { weight design.now < 2 ^ 32 }
+    requires named { named.now ≡ design.now.models }
+    ensures { IfOk result (ArePlaces design.now) }
+{
+    let mut listed = Vec::new(alloc);
+    let mut to_come = Vec::new(alloc);
+    to_come.push(PlacedModel {
+        place: List::of(Vec::new(alloc)),
+        model: 0,
+        parent: None,
+    })?;
+    while let Some(placed) = to_come.pop() {
+        let lines = design.models.get(placed.model).subckts.as_slice();
+        push_inside(&mut to_come, alloc, named, &placed, listed.len(), lines)?;
+        listed.push(placed)?;
+    }
+    Ok(List::of(listed))
+}

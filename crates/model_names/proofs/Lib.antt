@@ -1,2 +1,0 @@
-pub mod Positioned
-pub mod Sorted

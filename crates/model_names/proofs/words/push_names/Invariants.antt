@@ -1,7 +1,0 @@
-use Rattle.std.proofs.Common.{◌≡◌, ◌++◌, map, take}
-use Rattle.netlist_core.specs.Names.{at_line}
-use Rattle.model_names.specs.Words.{as_ports}
-use Rattle.model_names.proofs.words.push_names.Given as goal
-
-abbrev pub invariant-loop-name : goal.invariant-loop-name
-invariant-loop-name l = as_ports l.words.items ≡ as_ports l.initial.words.items ++ map (at_line l.line) (take l.name-index l.names)

@@ -1,7 +1,0 @@
-use Rattle.std.proofs.Common.{◌≡◌, ◌++◌, map, take}
-use Rattle.netlist_core.specs.Names.{at_line}
-use Rattle.model_names.specs.Words.{as_ports}
-use Rattle.model_names.proofs.words.push_subckt.Given as goal
-
-abbrev pub invariant-loop-pin : goal.invariant-loop-pin
-invariant-loop-pin l = as_ports l.words.items ≡ as_ports l.initial.words.items ++ map (λ pin. at_line l.line.line pin.actual) (take l.pin-index l.pin-items)
