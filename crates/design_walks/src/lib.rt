@@ -1,7 +1,7 @@
 //! Walks over a design: its weight, which is the sum of its models' own weights over all places; its places in order, each with
 //! its model and its parent; and the names of a model, in the order in which they first stand in its text.
 //!
-//! Theorem: `weight`, `places`, `names_of`.
+//! Theorem: `weight`, `places`, `of`.
 #![tactic(auto)]
 
 mod names;
@@ -10,7 +10,7 @@ mod walk;
 mod weights;
 mod words;
 
-pub use names::{ModelNames, names_of};
+pub use names::ModelNames;
 pub use placed::{Parent, PlacedModel};
 pub use walk::places;
 pub use weights::weight;

@@ -30,6 +30,22 @@ impl<'a> std::marker::Model for ModelNames<'a> {
 }
 
 impl<'a> ModelNames<'a> {
+    /// The names of a model, by where they first stand in its text.
+    pub fn of(alloc: Global, model: &'a Model) -> Result<ModelNames<'a>, AllocError>
+        ensures { IfOk result (λ names. names ≡ names_in_order model.now) }
+    {
+        let words = words_by_line(alloc, model)?;
+        let mut names = Vec::new(alloc);
+        let mut positions = BTreeMap::new(alloc);
+        for word in &words {
+            push_new(&mut names, &mut positions, word.name)?;
+        }
+        Ok(ModelNames {
+            names: List::of(names),
+            positions,
+        })
+    }
+
     /// The names, in order.
     pub fn as_slice(&self) -> &[&'a [u8]]
         ensures { bytes_of result.now ≡ self.now }
@@ -69,20 +85,4 @@ fn push_new<'a>(
     positions.insert(name, names.len())?;
     names.push(name)?;
     Ok(())
-}
-
-/// The names of a model, by where they first stand in its text.
-pub fn names_of(alloc: Global, model: &Model) -> Result<ModelNames<'_>, AllocError>
-    ensures { IfOk result (λ names. names ≡ names_in_order model.now) }
-{
-    let words = words_by_line(alloc, model)?;
-    let mut names = Vec::new(alloc);
-    let mut positions = BTreeMap::new(alloc);
-    for word in &words {
-        push_new(&mut names, &mut positions, word.name)?;
-    }
-    Ok(ModelNames {
-        names: List::of(names),
-        positions,
-    })
 }

@@ -13,7 +13,7 @@ use netlist_rules::{Fault, FaultKind};
 use std::alloc::{AllocError, Global};
 
 // The names of models by number, with spaces between them.
-fn names_of(
+fn joined_names(
     alloc: Global,
     models: &[Model],
     first: usize,
@@ -39,7 +39,7 @@ fn fault_of(alloc: Global, models: &[Model], circle: &Circle) -> Result<Fault, A
     Ok(Fault {
         kind: FaultKind::Recursive,
         line: circle.line,
-        word: List::of(names_of(alloc, models, circle.first, circle.others.as_slice())?),
+        word: List::of(joined_names(alloc, models, circle.first, circle.others.as_slice())?),
     })
 }
 

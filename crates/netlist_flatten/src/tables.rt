@@ -7,7 +7,7 @@ ghost use Rattle.design_walks.specs.Places.{ArePlaces};
 ghost use Rattle.netlist_flatten.specs.Numbered.{nets_before};
 ghost use Rattle.netlist_flatten.specs.Tables.{AreNames};
 
-use design_walks::{ModelNames, PlacedModel, names_of};
+use design_walks::{ModelNames, PlacedModel};
 use netlist_core::Design;
 use std::alloc::{AllocError, Global};
 
@@ -34,7 +34,7 @@ pub fn names_by_model<'a>(
     let mut names = no_names(alloc, design.models.len())?;
     for at in placed {
         if names[at.model].is_none() {
-            names[at.model] = Some(names_of(alloc, design.models.get(at.model))?);
+            names[at.model] = Some(ModelNames::of(alloc, design.models.get(at.model))?);
         }
     }
     Ok(names)

@@ -2,7 +2,7 @@ use Rattle.std.proofs.Common.{◌<◌, ◌≡◌, ◌+◌, sym, subst, refl, sli
 use Rattle.std.proofs.lemmas.Option.{slice_get_read}
 use Rattle.netlist_flatten.proofs.Tabling.{KnownBefore, known_start, known_some, known_new, known_all}
 use Rattle.netlist_flatten.proofs.tables.names_by_model.Goals as goal
-use Rattle.netlist_flatten.proofs.tables.names_by_model.Goals.{then-is_none+in_ok-names_of+in-Some-1, then-is_none+in_ok-names_of+in-None-1, else-is_none}
+use Rattle.netlist_flatten.proofs.tables.names_by_model.Goals.{then-is_none+in_ok-of+in-Some-1, then-is_none+in_ok-of+in-None-1, else-is_none}
 
 pub loop-at-init : goal.loop-at-init
 loop-at-init c = known_start c.args.design.now c.args.placed.now c.in_ok-names.names.items c.len.result (c.in_ok-names.ensures {u = tt}) c.len.ensures
@@ -24,12 +24,12 @@ loop-at-preserved c =
     let at : slice_get c.args.placed.now c.loop-at.at-index ≡ Some c.at-item.result = slice_get_read c.args.placed.now (length c.args.placed.now) c.loop-at.at-index c.at-item.result refl c.loop-at-test.true c.at-item.is in
     let here : c.at-item.result.model < length c.args.design.now.models = (c.requires.models c.loop-at.at-index c.at-item.result at).is_there in
     elim c.if-is_none.branch [
-      | then-is_none+in_ok-names_of+in-Some-1 w ↦
+      | then-is_none+in_ok-of+in-Some-1 w ↦
           subst (λ (v : Vec (Option (List (List ℕ))) _). KnownBefore c.args.design.now c.args.placed.now (c.loop-at.at-index + 1) v.items) (sym w.names-is)
-          (known_new c.args.design.now c.args.placed.now c.loop-at.at-index c.loop-at.names.items c.at-item.result w.get.result.now w.in_ok-names_of.field-0 c.loop-at.invariant at w.get.ensures (w.in_ok-names_of.ensures {u = tt}))
-      | then-is_none+in_ok-names_of+in-None-1 w ↦
+          (known_new c.args.design.now c.args.placed.now c.loop-at.at-index c.loop-at.names.items c.at-item.result w.get.result.now w.in_ok-of.field-0 c.loop-at.invariant at w.get.ensures (w.in_ok-of.ensures {u = tt}))
+      | then-is_none+in_ok-of+in-None-1 w ↦
           subst (λ (v : Vec (Option (List (List ℕ))) _). KnownBefore c.args.design.now c.args.placed.now (c.loop-at.at-index + 1) v.items) (sym w.names-is)
-          (known_new c.args.design.now c.args.placed.now c.loop-at.at-index c.loop-at.names.items c.at-item.result w.get.result.now w.in_ok-names_of.field-0 c.loop-at.invariant at w.get.ensures (w.in_ok-names_of.ensures {u = tt}))
+          (known_new c.args.design.now c.args.placed.now c.loop-at.at-index c.loop-at.names.items c.at-item.result w.get.result.now w.in_ok-of.field-0 c.loop-at.invariant at w.get.ensures (w.in_ok-of.ensures {u = tt}))
       | else-is_none w ↦
           subst (λ (v : Vec (Option (List (List ℕ))) _). KnownBefore c.args.design.now c.args.placed.now (c.loop-at.at-index + 1) v.items) (sym w.names-is)
           (known_some c.args.design.now c.args.placed.now c.loop-at.at-index c.loop-at.names.items c.at-item.result c.index.result.now c.loop-at.invariant at

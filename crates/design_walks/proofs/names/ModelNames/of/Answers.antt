@@ -1,5 +1,5 @@
 use Rattle.design_walks.proofs.Positioned.{names_more}
-use Rattle.design_walks.proofs.names.names_of.Goals as goal
+use Rattle.design_walks.proofs.names.ModelNames.of.Goals as goal
 
 pub loop-word-preserved : goal.loop-word-preserved
 loop-word-preserved c = record {

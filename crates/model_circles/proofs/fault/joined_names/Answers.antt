@@ -3,7 +3,7 @@ use Rattle.netlist_core.specs.declared.model.Model.{Model}
 use Rattle.model_index.specs.Numbers.{name_at}
 use Rattle.model_index.proofs.Naming.{name_read}
 use Rattle.model_circles.proofs.Words.{join_more}
-use Rattle.model_circles.proofs.fault.names_of.Goals as goal
+use Rattle.model_circles.proofs.fault.joined_names.Goals as goal
 
 pub loop-n-preserved : goal.loop-n-preserved
 loop-n-preserved c =

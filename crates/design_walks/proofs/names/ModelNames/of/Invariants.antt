@@ -3,7 +3,7 @@ use Rattle.netlist_core.specs.Names.{port_names}
 use Rattle.netlist_meaning.specs.InOrder.{first_names}
 use Rattle.design_walks.specs.Words.{as_ports}
 use Rattle.design_walks.specs.Positions.{bytes_of, HasPositions}
-use Rattle.design_walks.proofs.names.names_of.Given as goal
+use Rattle.design_walks.proofs.names.ModelNames.of.Given as goal
 
 abbrev pub invariant-loop-word : goal.invariant-loop-word
 invariant-loop-word l = record {
