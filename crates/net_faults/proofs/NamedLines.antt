@@ -16,7 +16,7 @@ use Rattle.net_faults.specs.declared.first_lines.FirstLines.{FirstLines}
 use Rattle.net_faults.specs.declared.numbering.Numbering.{Numbering}
 use Rattle.net_faults.specs.declared.numbering.NumberedWord.{NumberedWord}
 use Rattle.net_faults.specs.Numbering.{IsNumbered, IsNumbering, count_of, numbered_names, name_number, numbered_port}
-use Rattle.net_faults.specs.FirstLines.{AreFirstLines, HasNoLine, has_line, line_in}
+use Rattle.net_faults.specs.FirstLines.{AreFirstLines, has_line, line_in}
 
 -- the lesser of two lines is early where one of them is
 least_le : (c a b : ℕ) → nat_le (min a b) c ≡ (nat_le a c || nat_le b c)
@@ -111,16 +111,6 @@ lines_more names lines new word ports is updates had = record {
     other : (name : Name) → name_number names name ≡ None → (b : Bool) → bytes_eq key name ≡ b → b ≡ false
     other name none true e = absurd (let clash : Some word.number ≡ None = sym is.number ∙ ap (name_number names) ((bytes_eq-Decides key name).0 e) ∙ none in cc)
     other name none false e = refl
-
--- where no line is known
-pub no_word_yet : (names : Numbering) (lines : FirstLines) → HasNoLine (count_of names) lines.lines.items → AreFirstLines names lines []
-no_word_yet names lines none = record {
-  room = none.0;
-  before = λ q j has. ap (λ o. option_map_or (λ l. nat_lt l q.line) o false) (none.1 j);
-  up_to = λ q j has. ap (λ o. option_map_or (λ l. nat_le l q.line) o false) (none.1 j);
-  named = λ name j has. ap (λ o. option_map_or (λ l. true) o false) (none.1 j);
-  unnumbered = λ name unknown. refl;
-}
 
 -- whether a name is among the words, by its number
 pub named_by : (names : Numbering) (lines : FirstLines) (ports : List Port) (name : Name) (number : Option ℕ) → number ≡ name_number names name → AreFirstLines names lines ports →

@@ -1,8 +1,8 @@
 -- Loops over the words of a list that ask of each whether its name stands earlier.
-use Rattle.std.proofs.Common.{◌≡◌, sym, ap, ◌∙◌, subst, ℕ, ◌+◌, ◌<◌, ◌≤◌, Bool, true, false, cond, not, List, [], ◌∷◌, ◌++◌, length, drop, get_or}
+use Rattle.std.proofs.Common.{◌≡◌, ap, ◌∙◌, subst, ℕ, ◌+◌, ◌<◌, Bool, true, false, cond, not, List, [], ◌∷◌, ◌++◌, length, drop, get_or}
 use Rattle.std.specs.Prelude.{Option, option_to_list}
 use Rattle.std.specs.Bool.{then_some}
-use Rattle.std.proofs.lemmas.List.{append_assoc, drop_more, drop_all}
+use Rattle.std.proofs.lemmas.List.{append_assoc, drop_more}
 use Rattle.netlist_core.specs.declared.model.Port.{Port}
 use Rattle.model_words.specs.Words.{earliest_after}
 use Rattle.model_words.proofs.EarliestWords.{earliest_after-append}
@@ -34,10 +34,6 @@ left_after {X} names repeats new words value next end i within passes steps left
       between = passes l.before (numbered_ports (drop (i + 1) words)) l.between;
       gives = steps l.before (numbered_ports (drop (i + 1) words)) l.between ∙ l.gives;
     }
-
-pub left_at_end : {X : Type 0} (names : Numbering) (repeats : Repeats) (words : List NumberedWord) (value : List Port → List Port → X) (end : X) (i : ℕ) →
-    length words ≤ i → IsLeft names repeats (drop i words) value end → (before : List Port) × (value before [] ≡ end)
-left_at_end names repeats words value end i past left = (left.before, ap (λ ws. value left.before (numbered_ports ws)) (sym (drop_all i words past)) ∙ left.gives)
 
 -- a word is offered where a test says so
 pub offered_if : (test : Bool) (found new : Option Port) (p : Port) (rest : List Port) → new ≡ cond test (earliest_after found (p ∷ [])) found →

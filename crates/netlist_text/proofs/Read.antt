@@ -1,5 +1,5 @@
 -- What each part of the way from a text to its netlist gives.
-use Rattle.std.proofs.Common.{ℕ, ◌≡◌, ◌≤◌, ◌<◌, ◌^◌, ◌-◌, refl, sym, subst, List, min, arith}
+use Rattle.std.proofs.Common.{ℕ, ◌≡◌, ◌≤◌, refl, sym, subst, List, arith}
 use Rattle.std.specs.Prelude.{Some}
 use Rattle.netlist_core.specs.declared.model.Design.{Design}
 use Rattle.netlist_core.specs.declared.model.Model.{Model}
@@ -22,13 +22,10 @@ use Rattle.blif_reader.specs.declared.error.ReadError.{ReadError}
 use Rattle.blif_reader.specs.declared.error.ReadError.TheVariants as read
 use Rattle.blif_check.specs.declared.error.CheckError.{CheckError}
 use Rattle.blif_check.specs.declared.error.CheckError.TheVariants as check
-use Rattle.netlist_flatten.specs.declared.error.FlattenError.{FlattenError}
-use Rattle.netlist_flatten.specs.declared.error.FlattenError.TheVariants as flatten
 use Rattle.clock_check.specs.declared.error.CheckError.{CheckError as ClockError}
 use Rattle.clock_check.specs.declared.error.CheckError.TheVariants as clock
-use Rattle.netlist_text.specs.Errors.{read_error, check_error, flatten_error, clock_error}
+use Rattle.netlist_text.specs.Errors.{read_error, check_error, clock_error}
 use Rattle.netlist_text.specs.Causes.{HasNetlistCause}
-use Rattle.netlist_flatten.specs.Limit.{weight_limit}
 use Rattle.netlist_text.specs.NetlistText.{IsLight, IsNetlist, of_text, of_clocks}
 
 -- its lines may be at fault,
@@ -44,12 +41,6 @@ unchecked text models check.NoMemory m h = tt
 
 pub design_is : (text : List ℕ) (models : List Model) (design : Design) → HasModels (logical_lines text) models → design.models ≡ models → AreFaultless models → IsDesignOf text design
 design_is text models design m same faultless = record { models = subst (λ (ms : List Model). HasModels (logical_lines text) ms) (sym same) m; faultless = subst AreFaultless (sym same) faultless }
-
--- the design over the limit,
-pub unflattened : (text : List ℕ) (design : Design) (e : FlattenError) → IsDesignOf text design → ((w : ℕ) → (e ≡ flatten.TooLarge w) → (w ≡ min (weight design) (2 ^ 64 - 1)) × (weight_limit < weight design))
-    → HasNetlistCause text (flatten_error e)
-unflattened text design (flatten.TooLarge w) is h = record { design = design; design_of = is; heavy = (h w refl).1; is_told = (h w refl).0 }
-unflattened text design flatten.NoMemory is h = tt
 
 pub in_range : (text : List ℕ) (design : Design) (flat : Flat) → IsLight text design → IsFlatOf design flat → IsInRange flat
 in_range text design flat is h = flat_is_in_range design flat is.design_of.faultless h (let light : weight design ≤ 1024 = is.light in omega (arith, light))
