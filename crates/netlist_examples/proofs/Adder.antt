@@ -15,7 +15,7 @@ use Rattle.netlist_meaning.specs.CoverValue.{cover_value}
 use Rattle.netlist_meaning.specs.Valuation.{Valuation, LatchState, IsValuation, latches_in, start_state, output_bits}
 use Rattle.one_cover.specs.Parts.{pin_with}
 use Rattle.netlist_examples.specs.Designs.{sum_cover, carry_cover, first_line, second_line, adder_main, adder_design, full_adder}
-use Rattle.netlist_examples.specs.Instances.{AdderAdds, number_spelled}
+use Rattle.netlist_examples.specs.Instances.{AdderAdds, AdderHasClasses, number_spelled}
 use Rattle.netlist_meaning.proofs.Names.{and_then-from}
 use Rattle.netlist_meaning.proofs.SingleModel.{all_in_names}
 use Rattle.netlist_meaning.proofs.Joined.{in_names_are_one, pins_are_enough}
@@ -264,3 +264,6 @@ adder_adds =
 
     added : (a0 a1 b0 b1 ci : Bool) → number_spelled (outputs_of a0 a1 b0 b1 ci) ≡ number_spelled (a0 ∷ a1 ∷ []) + number_spelled (b0 ∷ b1 ∷ []) + number_spelled (ci ∷ [])
     added = sums_up
+
+pub adder_has_classes : AdderHasClasses
+adder_has_classes = refl

@@ -10,7 +10,7 @@ use Rattle.netlist_core.specs.declared.flat.FlatPort.{FlatPort}
 use Rattle.netlist_core.specs.declared.flat.FlatLatch.{FlatLatch}
 use Rattle.netlist_meaning.specs.Flat.{class_of, in_classes, FlatDriver, input, latch, node, FlatDrives, IsSound, IsInRange, IsClockClass}
 use Rattle.netlist_meaning.specs.FlatOrder.{IsFlatLoop}
-use Rattle.netlist_examples.specs.FlatInstances.{net_id, small_net, small_port, data_latch, small_node, small_flat, looped_flat}
+use Rattle.netlist_examples.specs.FlatInstances.{net_id, small_net, small_port, data_latch, small_node, small_flat, chained_flat, looped_flat}
 
 driver_of : ℕ → FlatDriver
 driver_of zero = input 0
@@ -81,7 +81,7 @@ in_range m l = record {
   node_outs = All-cons (λ (p : Node). p.out.0 < 5) (small_node (net_id 3 ∷ net_id 1 ∷ []) 2) (small_node (net_id m ∷ []) 3 ∷ []) (lit< tt) (All-cons (λ (p : Node). p.out.0 < 5) (small_node (net_id m ∷ []) 3) [] (lit< tt) (All-nil (λ (p : Node). p.out.0 < 5)));
 }
 
-pub small_is_sound : (m : ℕ) → m < 4 → IsSound (small_flat (net_id m ∷ []))
+small_is_sound : (m : ℕ) → m < 4 → IsSound (small_flat (net_id m ∷ []))
 small_is_sound m l = record {
   in_range = in_range m l;
   one_driver = λ class d e a b. (told (net_id m ∷ []) d class a).0 ∙ sym (told (net_id m ∷ []) e class b).0;
@@ -91,6 +91,12 @@ small_is_sound m l = record {
   clocks_no_outs = All-cons (λ (p : FlatPort). ¬ IsClockClass (small_flat (net_id m ∷ [])) (class_of (small_flat (net_id m ∷ [])) p.net)) (small_port 2) [] (λ c. (let e : 2 ≡ 4 = clock_is (net_id m ∷ []) 2 c in absurd (omega arith))) (All-nil (λ (p : FlatPort). ¬ IsClockClass (small_flat (net_id m ∷ [])) (class_of (small_flat (net_id m ∷ [])) p.net)));
   clocks_no_data = All-cons (λ (p : FlatLatch). ¬ IsClockClass (small_flat (net_id m ∷ [])) (class_of (small_flat (net_id m ∷ [])) p.input)) data_latch [] (λ c. (let e : 2 ≡ 4 = clock_is (net_id m ∷ []) 2 c in absurd (omega arith))) (All-nil (λ (p : FlatLatch). ¬ IsClockClass (small_flat (net_id m ∷ [])) (class_of (small_flat (net_id m ∷ [])) p.input)));
 }
+
+pub chained_is_sound : IsSound chained_flat
+chained_is_sound = small_is_sound 0 (lit< tt)
+
+pub looped_is_sound : IsSound looped_flat
+looped_is_sound = small_is_sound 2 (lit< tt)
 
 pub looped_has_loop : IsFlatLoop looped_flat (2 ∷ 3 ∷ [])
 looped_has_loop = (

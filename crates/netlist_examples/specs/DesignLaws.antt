@@ -4,10 +4,9 @@ use Rattle.netlist_core.specs.declared.model.Port.{Port}
 use Rattle.netlist_core.specs.declared.model.Subckt.{Subckt}
 use Rattle.netlist_core.specs.declared.model.Model.{Model}
 use Rattle.netlist_core.specs.declared.model.Design.{Design}
-use Rattle.netlist_core.specs.Names.{Name}
 use Rattle.netlist_rules.specs.Drivers.{drivers_of, readings_of, repeats}
 use Rattle.netlist_rules.specs.ModelFaults.{duplicate_ports, second_drivers, undriven_readings, unknown_formals, formals_of}
-use Rattle.netlist_rules.specs.Clocks.{IsWired, IsTwoClocks, IsClockRead}
+use Rattle.netlist_rules.specs.Clocks.{IsWired}
 use Rattle.netlist_meaning.specs.CoverValue.{cover_value}
 use Rattle.netlist_meaning.specs.Valuation.{Valuation, LatchState, IsValuation, AgreeOnNets, output_bits}
 
@@ -23,19 +22,12 @@ pub record CoversSay : Type 0 where
   pub no_rows : (on : Bool) (bits : List Bool) → cover_value [] on bits ≡ false
   pub off : (rows : List (List ℕ)) (bits : List Bool) → rows ≢ [] → (cover_value rows false bits ≡ false) ↔ Any (λ row. HoldsUnder row bits) rows
 
--- a design has at most one latch that is named for two clocks
-abbrev pub TwoClocksAreOne : Type 0
-TwoClocksAreOne = (design : Design) (line other_line : ℕ) (word other_word : Name) → IsTwoClocks design line word → IsTwoClocks design other_line other_word → (line ≡ other_line) × (word ≡ other_word)
-
--- and at most one line on which a clock net is read or driven (its word is one where each line number is one line's, as in every text)
-abbrev pub ClockReadIsOnOneLine : Type 0
-ClockReadIsOnOneLine = (design : Design) (line other_line : ℕ) (word other_word : Name) → IsClockRead design line word → IsClockRead design other_line other_word → line ≡ other_line
-
--- there a valuation is one by its bits at the design's nets alone, and so are the outputs
+-- a valuation is one by its bits at the design's nets alone, and so are the outputs
 pub record OnlyNetsMatter (design : Design) : Type 0 where
   pub solves : (inputs : List Bool) (state : LatchState) (bits others : Valuation) → AgreeOnNets design bits others → IsValuation design inputs state bits → IsValuation design inputs state others
   pub outputs : (bits others : Valuation) → AgreeOnNets design bits others → output_bits design bits ≡ output_bits design others
 
+-- so it is where each formal is a name of its model, no line names one with two actuals, and no clock net is read or driven
 abbrev pub WiredDesignsHaveNets : Type 0
 WiredDesignsHaveNets = (design : Design) → IsWired design → OnlyNetsMatter design
 

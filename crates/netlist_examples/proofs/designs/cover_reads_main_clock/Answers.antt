@@ -1,5 +1,0 @@
-use Rattle.netlist_examples.proofs.ClockInstances.{cover_reads_main_clock}
-use Rattle.netlist_examples.proofs.designs.cover_reads_main_clock.Goals as goal
-
-pub returns : goal.returns
-returns c = cover_reads_main_clock
