@@ -12,7 +12,7 @@ use Rattle.netlist_core.specs.declared.flat.FlatPort.{FlatPort}
 use Rattle.netlist_core.specs.declared.flat.FlatLatch.{FlatLatch}
 use Rattle.netlist_core.specs.declared.flat.Flat.{Flat}
 use Rattle.netlist_meaning.specs.Flat.{class_of, IsInRange, IsNetId, name_of_net}
-use Rattle.netlist_meaning.proofs.ClockClasses.{is_clock_class-Decides}
+use Rattle.netlist_meaning.proofs.ClockTest.{is_clock_class-Decides}
 use Rattle.netlist_rules.specs.declared.fault.Fault.{Fault}
 use Rattle.netlist_rules.specs.FlatClocks.{IsFlatUse, by_node, by_data, by_output, IsFlatClockRead, IsFlatClockFault, two_clocks, clock_read, HasOneFlatClock}
 use Rattle.clock_check.specs.declared.error.CheckError.{CheckError}

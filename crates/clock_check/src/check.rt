@@ -6,12 +6,11 @@ ghost use Rattle.netlist_meaning.specs.Flat.{IsInRange};
 ghost use Rattle.netlist_rules.specs.declared.fault.Fault as rules;
 ghost use Rattle.netlist_rules.specs.FlatClocks.{HasOneFlatClock, IsFlatClockRead, IsFlatClockFault};
 
-use crate::clocks::ClockClasses;
 use crate::control::{control_word, other_clock};
 use crate::error::CheckError;
 use crate::uses::earliest_use;
 use netlist_core::Flat;
-use netlist_meaning::name_of_net;
+use netlist_meaning::{ClockClasses, name_of_net};
 use netlist_rules::FaultKind;
 use std::alloc::Global;
 

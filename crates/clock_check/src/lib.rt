@@ -2,11 +2,9 @@
 #![tactic(auto)]
 
 mod check;
-mod clocks;
 mod control;
 mod error;
 mod uses;
 
 pub use check::check_clock;
-pub use clocks::ClockClasses;
 pub use error::CheckError;

@@ -4,8 +4,8 @@ ghost use Rattle.netlist_core.specs.declared.flat.Node as flat_node;
 ghost use Rattle.netlist_meaning.specs.Flat.{IsNetId};
 ghost use Rattle.clock_check.specs.Uses.{uses_on, uses_of_node, uses_of_latch, uses_of_outs, flat_uses, is_before, earlier, earliest_with, earliest_among};
 
-use crate::clocks::ClockClasses;
 use netlist_core::{FlatLatch, FlatPort, NetId, Node};
+use netlist_meaning::ClockClasses;
 
 /// A net that a line names, with the position of the word.
 #[derive(Clone, Copy)]

@@ -6,5 +6,5 @@ pub mod Depth
 pub mod Roots
 pub mod InNames
 pub mod SingleModel
-pub mod ClockClasses
+pub mod ClockTest
 pub mod OneNode

@@ -11,3 +11,4 @@ pub mod Flat
 pub mod FlatOrder
 pub mod FlatValuation
 pub mod FlatOf
+pub mod Marks

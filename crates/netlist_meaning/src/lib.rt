@@ -4,9 +4,11 @@
 ghost use Rattle.std.specs.Prelude.{◌≡◌};
 ghost use Rattle.netlist_meaning.specs.CoverValue.{fits, product_holds, any_holds, cover_value};
 
+mod clocks;
 mod flat_nets;
 pub mod laws;
 
+pub use clocks::ClockClasses;
 pub use flat_nets::{class_of, name_of_net};
 use lists::Bytes;
 use netlist_core::Cover;

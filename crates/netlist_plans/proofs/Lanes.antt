@@ -16,7 +16,7 @@ use Rattle.netlist_core.specs.declared.flat.Net.{Net as FlatNet}
 use Rattle.netlist_core.specs.declared.flat.Node.{Node}
 use Rattle.netlist_core.specs.OwnWeight.{rows_weight}
 use Rattle.netlist_meaning.specs.Flat.{IsSound, IsWeighed, IsNetId, IsClockClass, FlatDriver, FlatDrives, class_of, is_clock_class, no_net, no_node, node_at, nets_but_clocks}
-use Rattle.netlist_meaning.proofs.ClockClasses.{is_clock_class-Decides}
+use Rattle.netlist_meaning.proofs.ClockTest.{is_clock_class-Decides}
 use Rattle.cell_core.specs.declared.list.CellList.{CellList}
 use Rattle.cell_core.specs.Loops.{names_one}
 use Rattle.cell_core.specs.Meaning.{Fits}

@@ -18,7 +18,7 @@ use Rattle.netlist_meaning.specs.InOrder.{nets_in_order}
 use Rattle.netlist_meaning.specs.Flat.{IsClockClass, is_clock_class, nets_but_clocks}
 use Rattle.netlist_meaning.specs.Valuation.{Valuation, LatchState, IsValuation}
 use Rattle.netlist_meaning.specs.FlatOf.{class_of_net, flat_net, IsFlatOf}
-use Rattle.netlist_meaning.proofs.ClockClasses.{is_clock_class-Decides}
+use Rattle.netlist_meaning.proofs.ClockTest.{is_clock_class-Decides}
 use Rattle.netlist_meaning.proofs.Depth.{model_at-append}
 use Rattle.netlist_meaning.proofs.Names.{and_then-from}
 use Rattle.netlist_rules.specs.FaultNames.{fault_on}

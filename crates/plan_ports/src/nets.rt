@@ -7,10 +7,10 @@ ghost use Rattle.place_paths.specs.Paths as paths;
 ghost use Rattle.plan_ports.specs.Tables.{HasPortsOf, named_paths, net_cells_of};
 
 use crate::PortsError;
-use clock_check::ClockClasses;
 use lane_core::{Plan, net_cell};
 use lists::Bytes;
 use netlist_core::{Flat, Net};
+use netlist_meaning::ClockClasses;
 use pattern_reading::NetLine;
 use place_paths::path_of;
 use std::alloc::Global;

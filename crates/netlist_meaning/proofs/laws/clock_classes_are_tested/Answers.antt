@@ -1,4 +1,4 @@
-use Rattle.netlist_meaning.proofs.ClockClasses.{is_clock_class-Decides}
+use Rattle.netlist_meaning.proofs.ClockTest.{is_clock_class-Decides}
 use Rattle.netlist_meaning.proofs.laws.clock_classes_are_tested.Goals as goal
 
 pub returns : goal.returns

@@ -2,10 +2,10 @@
 ghost use Rattle.std.specs.Prelude.{◌≡◌, ◌<◌, ◌==◌, cond, false, replicate, length, get_or, ℕ, All, IfOk};
 ghost use Rattle.std.specs.List.{list_any};
 ghost use Rattle.netlist_meaning.specs.Flat.{IsInRange, IsNetId, class_of, port_classes, is_clock_class};
-ghost use Rattle.clock_check.specs.Marks.{MarksClocks};
+ghost use Rattle.netlist_meaning.specs.Marks.{MarksClocks};
 
+use crate::class_of;
 use netlist_core::{Flat, FlatPort, NetId};
-use netlist_meaning::class_of;
 use std::alloc::{AllocError, Global};
 
 /// A flat netlist with a mark for each class, whether it is a clock's. Contracts see the netlist.
@@ -18,7 +18,7 @@ pub struct ClockClasses<'a> {
 impl<'a> std::marker::Model for ClockClasses<'a> {
     ghost use Rattle.netlist_core.specs.declared.flat.Flat.{Flat};
     ghost use Rattle.netlist_meaning.specs.Flat.{IsInRange};
-    ghost use Rattle.clock_check.specs.Marks.{MarksClocks};
+    ghost use Rattle.netlist_meaning.specs.Marks.{MarksClocks};
 
     ghost Value = { Flat };
 
