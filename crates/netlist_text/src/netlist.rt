@@ -6,10 +6,9 @@ ghost use Rattle.netlist_text.specs.Parts.{AreParts};
 
 use crate::error::NetlistError;
 use crate::names::names_of;
-use blif_check::check;
+use blif_check::{check, check_clock};
 use blif_lex::lines;
 use blif_reader::read;
-use clock_check::check_clock;
 use loop_check::{OrderError, order};
 use netlist_core::{Design, Flat, Order};
 use netlist_flatten::flatten;
