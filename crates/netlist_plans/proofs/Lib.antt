@@ -3,3 +3,4 @@ mod Bounds
 mod Lanes
 mod Compiled
 mod NetPlaces
+mod Taken

@@ -1,6 +1,7 @@
 //! From a flat netlist with an order of its covers to a plan and its port table, whose text carries the design and its nets.
 #![tactic(auto)]
 
+mod choosing;
 mod error;
 mod planning;
 
