@@ -15,4 +15,6 @@ mod singles;
 mod words;
 
 pub use covers::map_cover;
-pub use shared::Places;
+pub use shared::{Places, is_same_cell, is_same_src};
+pub use singles::single_cell;
+pub use words::{and_not_words, net_word, or_words, xor_words};

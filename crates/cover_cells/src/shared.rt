@@ -46,6 +46,7 @@ impl Places {
     }
 }
 
+/// Whether the two are one source.
 pub fn is_same_src(a: Src, b: Src) -> bool
     ensures { IsTrue result → a ≡ b }
 {
@@ -59,7 +60,8 @@ pub fn is_same_src(a: Src, b: Src) -> bool
     }
 }
 
-fn is_same(a: Cell, b: Cell) -> bool
+/// Whether the two are one cell: the same operator, over the same sources.
+pub fn is_same_cell(a: Cell, b: Cell) -> bool
     ensures { IsTrue result → a ≡ b }
 {
     match (a, b) {
@@ -76,7 +78,7 @@ pub fn find_cell(list: &CellList, places: &Places, cell: Cell) -> Option<Src>
 {
     let place = places.place_of(cell)?;
     match list.cells.as_slice().get(place as usize) {
-        Some(found) if is_same(*found, cell) => Some(Src::Cell(place)),
+        Some(found) if is_same_cell(*found, cell) => Some(Src::Cell(place)),
         _ => None,
     }
 }

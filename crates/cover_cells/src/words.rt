@@ -20,13 +20,15 @@ pub const NETS: [u64; 6] = [
     0xffff_ffff_0000_0000,
 ];
 
-fn or_words(a: u64, b: u64) -> u64
+/// The table of what is 1 where one of the two is.
+pub fn or_words(a: u64, b: u64) -> u64
     ensures { (n : ℕ) → has_bit result n ≡ (has_bit a n || has_bit b n) }
 {
     a | b
 }
 
-fn xor_words(a: u64, b: u64) -> u64
+/// The table of what is 1 where exactly one of the two is.
+pub fn xor_words(a: u64, b: u64) -> u64
     ensures { (n : ℕ) → has_bit result n ≡ ((has_bit a n || has_bit b n) && not (has_bit a n && has_bit b n)) }
 {
     a ^ b
@@ -38,14 +40,15 @@ fn and_words(a: u64, b: u64) -> u64
     a & b
 }
 
-fn and_not_words(a: u64, b: u64) -> u64
+/// The table of what is 1 where the first is and the second is not.
+pub fn and_not_words(a: u64, b: u64) -> u64
     ensures { (n : ℕ) → n < 64 → has_bit result n ≡ (has_bit a n && not (has_bit b n)) }
 {
     a & !b
 }
 
-// The word of a net, whose bit is at place i.
-fn net_word(i: usize) -> u64
+/// The table of the bit at place i.
+pub fn net_word(i: usize) -> u64
     requires { i < 6 }
     ensures { (bits : List Bool) → length bits ≤ 6 → table_bit bits result ≡ get_or bits i false }
 {

@@ -2,7 +2,7 @@
 use Rattle.std.proofs.Common.{◌≡◌, refl, sym, ◌∙◌, ap, subst, ℕ, zero, suc, ◌*◌, ◌<◌, ◌≤◌, Bool, true, false, cond, not, List, [], ◌∷◌, ◌++◌, map, filter, length, get_or, replicate, Option, Some, None, ⊎_elim, arith}
 use Rattle.std.proofs.lemmas.Grind.{get_or_default_zero}
 use Rattle.std.specs.Prelude.{slice_get, sum_by}
-use Rattle.std.specs.List.{list_any, cons_option}
+use Rattle.std.specs.List.{list_any, cons_option, filter_map}
 use Rattle.std.proofs.lemmas.Bool.{true≢false, or_cases}
 use Rattle.std.proofs.lemmas.Option.{slice_get_within}
 use Rattle.std.proofs.lemmas.List.{get_or-map, length-map}
@@ -29,10 +29,12 @@ use Rattle.netlist_core.specs.OwnWeight.{rows_weight}
 use Rattle.cover_cells.specs.Grown.{Grows}
 use Rattle.cover_mapper.specs.Listed.{listed_classes}
 use Rattle.cover_mapper.specs.Needs.{any_needs_one, covers_weight}
-use Rattle.cover_mapper.specs.Mapped.{IsMapped, HasBits}
+use Rattle.cover_mapper.specs.Mapped.{IsMapped, IsMappedWith, HasBits}
+use Rattle.cover_mapper.specs.Singles.{single_source}
 use Rattle.cover_mapper.specs.Sourced.{ClassSources, AreSourced, HasSingle, HasConstant, IsComplete, sources_at, source_at}
 use Rattle.cover_mapper.proofs.Known.{IsKnown, AreKnown, known_at, all_gathered, all_there, all_bits, any_one}
 use Rattle.cover_mapper.proofs.NextNode.{Made}
+use Rattle.cover_mapper.proofs.OneCell.{singles_among}
 use Rattle.cover_mapper.proofs.Weights.{weigh_at_most}
 
 pub zeros_there : (inputs latches cells n : ℕ) → are_there inputs latches cells (replicate n Zero) ≡ true
@@ -225,6 +227,13 @@ finished flat sound list new sources whole has =
     one e =
         ⊎_elim (λ e. ⊎_elim (λ e. ⊎_elim (λ e. grown.ones (ap read_one (sym (has.cells ∙ cells)) ∙ e)) (one_of new.outs _ outs at.outs_known) (or_cases _ _ e)) (one_of new.latches _ latches at.data_known) (or_cases _ _ e))
         (one_of new.nets _ nets at.nets_known) (or_cases _ _ e)
+
+-- with the sources of the covers that are one cell
+pub finished_with : (flat : Flat) → IsSound flat → (list new : CellList) (sources : ClassSources) → IsComplete flat list sources → Has flat list new sources
+    → (singles : List Src) → singles ≡ filter_map (single_source flat sources) flat.nodes → IsMappedWith flat new singles
+unfolding finished
+finished_with flat sound list new sources whole has singles are =
+    record { mapped = finished flat sound list new sources whole has; among = singles_among flat sources singles are }
 
 pub with_bits : (flat : Flat) → IsSound flat → (list new : CellList) (sources : ClassSources) → IsComplete flat list sources → Has flat list new sources
     → (inputs state : List Bool) (bits : ℕ → Bool) → IsFlatValuation flat inputs state bits → HasBits flat new inputs state bits

@@ -4,4 +4,5 @@ mod Starting
 mod Known
 mod NextNode
 mod Weights
+mod OneCell
 mod Finishing

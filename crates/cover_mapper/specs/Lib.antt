@@ -1,4 +1,5 @@
 pub mod Listed
 pub mod Needs
 pub mod Sourced
+pub mod Singles
 pub mod Mapped

@@ -12,6 +12,7 @@ use Rattle.cell_core.specs.Loops.{names_one}
 use Rattle.cover_cells.specs.Grown.{IsCell}
 use Rattle.cover_cells.specs.Singles.{single_cell}
 use Rattle.cover_mapper.specs.Needs.{any_needs_one, covers_weight}
+use Rattle.cover_mapper.specs.Singles.{AreSinglesAmong}
 use Rattle.cover_mapper.specs.Sourced.{IsOwn, constant_of}
 
 -- under the bits of a valuation the sources of outputs, of latches' data and of the nets but the clock nets have theirs
@@ -35,3 +36,8 @@ pub record IsMapped (flat : Flat) (list : CellList) : Type 0 where
   pub constant : (n : ℕ) (src : Src) → n < length flat.nodes → constant_of flat n ≡ Some src → sources (out_class flat n) ≡ src
   pub few : length list.cells ≤ 2 * covers_weight flat
   pub one : names_one list ≡ true → any_needs_one flat ≡ true
+
+-- the list is mapped from the netlist, and the source of each cover that is one cell is among these
+pub record IsMappedWith (flat : Flat) (list : CellList) (singles : List Src) : Type 0 where
+  pub mapped : IsMapped flat list
+  pub among : AreSinglesAmong flat mapped.sources singles

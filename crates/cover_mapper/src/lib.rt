@@ -7,7 +7,8 @@ mod classes;
 mod error;
 mod mapping;
 mod nodes;
+mod singles;
 mod start;
 
 pub use error::MapError;
-pub use mapping::map;
+pub use mapping::{Mapped, map};

@@ -3,17 +3,25 @@ ghost use Rattle.std.specs.Prelude.{ℕ, ◌≡◌, ◌≤◌, ◌+◌, ◌*◌,
 ghost use Rattle.netlist_meaning.specs.Flat.{IsSound, IsWeighed};
 ghost use Rattle.netlist_meaning.specs.FlatOrder.{IsOrder};
 ghost use Rattle.netlist_meaning.specs.FlatValuation.{IsFlatValuation};
-ghost use Rattle.cover_mapper.specs.Mapped.{HasBits, IsMapped};
+ghost use Rattle.cover_mapper.specs.Mapped.{HasBits, IsMappedWith};
 ghost use Rattle.cover_mapper.specs.Sourced.{IsComplete};
 
 use crate::classes::{sources_of_all, sources_of_data, sources_of_ports};
 use crate::error::MapError;
 use crate::nodes::map_nodes;
+use crate::singles::sources_of_singles;
 use crate::start::{source_inputs, source_latches, start_list};
 use cell_core::{CellList, Src};
 use lists::List;
 use netlist_core::{Flat, Order};
 use std::alloc::Global;
+
+/// The cells of a flat netlist, and the sources of those of its covers that are one cell each.
+#[derive(Drop)]
+pub struct Mapped {
+    pub list: CellList,
+    pub singles: Vec<Src>,
+}
 
 // The list with its ports and nets.
 fn with_ports(
@@ -21,23 +29,25 @@ fn with_ports(
     flat: &Flat,
     list: CellList,
     sources: &[Option<Src>],
-) -> Result<CellList, MapError>
+) -> Result<Mapped, MapError>
     requires sound { IsSound flat.now }
     requires complete { IsComplete flat.now list sources.now }
-    ensures mapped { IfOk result (IsMapped flat.now) }
-    ensures bits { IfOk result (λ list. (inputs state : List Bool) (bits : ℕ → Bool) → IsFlatValuation flat.now inputs state bits → HasBits flat.now list inputs state bits) }
+    ensures mapped { IfOk result (λ m. IsMappedWith flat.now m.list m.singles.items) }
+    ensures bits { IfOk result (λ m. (inputs state : List Bool) (bits : ℕ → Bool) → IsFlatValuation flat.now inputs state bits → HasBits flat.now m.list inputs state bits) }
 {
     let outs = sources_of_ports(alloc, flat, sources, flat.outs.as_slice())?;
     let latches = sources_of_data(alloc, flat, sources, flat.latches.as_slice())?;
     let nets = sources_of_all(alloc, sources, flat.nets.as_slice())?;
-    Ok(CellList {
+    let singles = sources_of_singles(alloc, flat, sources, flat.nodes.as_slice())?;
+    let list = CellList {
         inputs: list.inputs,
         cells: list.cells,
         outs: List::of(outs),
         latches: List::of(latches),
         starts: list.starts,
         nets: List::of(nets),
-    })
+    };
+    Ok(Mapped { list, singles })
 }
 
 // The cells, where no class has a source yet.
@@ -46,13 +56,13 @@ fn map_from(
     flat: &Flat,
     order: &Order,
     sources: &mut [Option<Src>],
-) -> Result<CellList, MapError>
+) -> Result<Mapped, MapError>
     requires sound { IsSound flat.now }
     requires weighed { IsWeighed flat.now }
     requires ordered { IsOrder flat.now order.now.nodes }
     requires none { sources.old ≡ replicate (length flat.now.nets) None }
-    ensures mapped { IfOk result (IsMapped flat.now) }
-    ensures bits { IfOk result (λ list. (inputs state : List Bool) (bits : ℕ → Bool) → IsFlatValuation flat.now inputs state bits → HasBits flat.now list inputs state bits) }
+    ensures mapped { IfOk result (λ m. IsMappedWith flat.now m.list m.singles.items) }
+    ensures bits { IfOk result (λ m. (inputs state : List Bool) (bits : ℕ → Bool) → IsFlatValuation flat.now inputs state bits → HasBits flat.now m.list inputs state bits) }
 {
     let mut list = start_list(alloc, flat)?;
     source_inputs(flat, &list, sources);
@@ -64,15 +74,15 @@ fn map_from(
 /// The cells of a sound flat netlist, for an order of its covers in which each comes after those that it reads.
 ///
 /// A cover without rows, or of no nets, is a constant. A cover of two nets that is an OR, an XOR or an AND-NOT is one
-/// cell, which other covers may share; how the products of other covers are formed is free.
-pub fn map(alloc: Global, flat: &Flat, order: &Order) -> Result<CellList, MapError>
+/// cell, which other covers may share, and its source is among the singles; how the products of other covers are formed is free.
+pub fn map(alloc: Global, flat: &Flat, order: &Order) -> Result<Mapped, MapError>
     requires sound { IsSound flat.now }
     requires weighed { IsWeighed flat.now }
     requires ordered { IsOrder flat.now order.now.nodes }
-    ensures mapped { IfOk result (IsMapped flat.now) }
-    ensures few { IfOk result (λ list. length list.cells ≤ 2 * flat.now.weight) }
-    ensures ports { IfOk result (λ list. list.inputs + length list.outs + 2 * length list.starts ≤ flat.now.weight) }
-    ensures bits { IfOk result (λ list. (inputs state : List Bool) (bits : ℕ → Bool) → IsFlatValuation flat.now inputs state bits → HasBits flat.now list inputs state bits) }
+    ensures mapped { IfOk result (λ m. IsMappedWith flat.now m.list m.singles.items) }
+    ensures few { IfOk result (λ m. length m.list.cells ≤ 2 * flat.now.weight) }
+    ensures ports { IfOk result (λ m. m.list.inputs + length m.list.outs + 2 * length m.list.starts ≤ flat.now.weight) }
+    ensures bits { IfOk result (λ m. (inputs state : List Bool) (bits : ℕ → Bool) → IsFlatValuation flat.now inputs state bits → HasBits flat.now m.list inputs state bits) }
 {
     let mut sources = vec![in alloc; None; flat.nets.len()]?;
     map_from(alloc, flat, order, &mut sources)

@@ -1,5 +1,6 @@
 // What is answered where no plan is made.
 use cell_plans::PlanError;
+use cell_rewriting::RewriteError;
 use cover_mapper::MapError;
 use plan_ports::PortsError;
 use thiserror::Error;
@@ -31,6 +32,14 @@ impl From<PortsError> for NetlistPlanError {
     fn from(error: PortsError) -> Self {
         match error {
             PortsError::NoMemory => NetlistPlanError::NoMemory,
+        }
+    }
+}
+
+impl From<RewriteError> for NetlistPlanError {
+    fn from(error: RewriteError) -> Self {
+        match error {
+            RewriteError::NoMemory => NetlistPlanError::NoMemory,
         }
     }
 }

@@ -3,6 +3,7 @@
 //! Theorem: `plan_netlist` (`carries`, `small`, `places`).
 #![tactic(auto)]
 
+mod choosing;
 mod error;
 mod planning;
 

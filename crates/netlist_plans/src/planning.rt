@@ -1,10 +1,11 @@
 // The plan of a flat netlist, by its list of cells.
-ghost use Rattle.std.specs.Prelude.{◌≡◌, ◌<◌, ◌^◌, false, length, IfOk};
+ghost use Rattle.std.specs.Prelude.{◌≡◌, ◌<◌, ◌≤◌, ◌^◌, false, length, All, IfOk};
 ghost use Rattle.grid_assembly.specs.PlanDrawing.{start_grid};
 ghost use Rattle.lane_core.specs.Plans.{IsAdmissible};
 ghost use Rattle.netlist_meaning.specs.Flat.{IsNamed, IsSound, IsWeighed};
 ghost use Rattle.netlist_meaning.specs.FlatOrder.{IsOrder};
 ghost use Rattle.cover_mapper.specs.Needs.{any_needs_one};
+ghost use Rattle.plan_carries.specs.Compiled.{ComputesFlat};
 ghost use Rattle.plan_ports.specs.Tables.{HasPortNames, HasTablePlaces, IsTableOf};
 ghost use Rattle.written_reads.specs.Laws.{pattern_text};
 ghost use Rattle.carries.specs.FlatNets.{CarriesFlat};
@@ -12,7 +13,10 @@ ghost use Rattle.netlist_plans.specs.NetPlaces.{HasNetPlaces};
 ghost use Rattle.netlist_plans.specs.Planned.{ComputesCells, HasLanes, IsSmall};
 
 use crate::NetlistPlanError;
-use cell_plans::plan_of;
+use crate::choosing::best_plan;
+use cell_core::CellList;
+use cell_rewriting::laws::{bits_stay, mapped_stays};
+use cell_rewriting::rewritten;
 use cover_mapper::map;
 use lane_core::Plan;
 use netlist_core::{Flat, Order};
@@ -26,6 +30,21 @@ use std::alloc::Global;
 pub struct Planned {
     pub plan: Plan,
     pub ports: Ports,
+}
+
+// The lists of cells of a sound flat netlist, each of which computes it.
+fn cell_lists(alloc: Global, flat: &Flat, order: &Order) -> Result<Vec<CellList>, NetlistPlanError>
+    requires sound { IsSound flat.now }
+    requires weighed { IsWeighed flat.now }
+    requires ordered { IsOrder flat.now order.now.nodes }
+    ensures some { IfOk result (λ lists. 1 ≤ length lists.items) }
+    ensures computes { IfOk result (λ lists. All (ComputesFlat flat.now) lists.items) }
+{
+    let mapped = map(alloc, flat, order)?;
+    mapped_stays();
+    bits_stay();
+    let lists = rewritten(alloc, &mapped.list, &mapped.singles)?;
+    Ok(lists)
 }
 
 /// A plan of a sound flat netlist, for an order of its covers in which each comes after those that it reads. Its names and
@@ -47,10 +66,13 @@ pub fn plan_netlist(alloc: Global, flat: &Flat, order: &Order) -> Result<Planned
     ensures places { IfOk result (λ p. HasNetPlaces flat.now p.plan) }
     ensures period { IfOk result (λ p. length flat.now.latches ≡ 0 → any_needs_one flat.now ≡ false → p.ports.p ≡ 32) }
 {
-    let list = map(alloc, flat, order)?;
-    let plan = plan_of(alloc, &list)?;
+    let lists = cell_lists(alloc, flat, order)?;
+    let chosen = best_plan(alloc, &lists)?;
     plans_have_ports();
-    let ports = of_plan(alloc, flat, &plan)?;
+    let ports = of_plan(alloc, flat, &chosen.plan)?;
     texts_carry_flats();
-    Ok(Planned { plan, ports })
+    Ok(Planned {
+        plan: chosen.plan,
+        ports,
+    })
 }

@@ -16,6 +16,8 @@ mod made;
 #[cfg(test)]
 mod models;
 #[cfg(test)]
+mod rewriting;
+#[cfg(test)]
 mod rule_names;
 #[cfg(test)]
 mod texts;

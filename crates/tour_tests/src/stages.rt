@@ -288,9 +288,9 @@ fn planned(alloc: Global, netlist: &Netlist) -> Result<[String; 3], Fail>
 {
     flat_is_sound();
     flat_is_weighed();
-    let list = map(alloc, &netlist.flat, &netlist.order)?;
+    let mapped = map(alloc, &netlist.flat, &netlist.order)?;
     let planned = plan_netlist(alloc, &netlist.flat, &netlist.order)?;
-    Ok(texts_of(alloc, &netlist.flat, &list, &planned.plan)?)
+    Ok(texts_of(alloc, &netlist.flat, &mapped.list, &planned.plan)?)
 }
 
 // The texts of the stages of a text's netlist: flat, as cells, and as lanes and columns.

@@ -1,17 +1,19 @@
 use Rattle.std.proofs.Common.{◌≡◌, ◌==◌, refl, sym, ◌∙◌, ap, List, map, length}
+use Rattle.std.specs.List.{filter_map}
 use Rattle.std.proofs.lemmas.List.{length-map}
 use Rattle.netlist_core.specs.declared.flat.FlatPort.{FlatPort}
 use Rattle.netlist_core.specs.declared.flat.FlatLatch.{FlatLatch}
 use Rattle.netlist_core.specs.declared.flat.Net.{Net as FlatNet}
 use Rattle.netlist_meaning.specs.Flat.{class_of, port_classes}
 use Rattle.cover_mapper.specs.Listed.{listed_classes}
+use Rattle.cover_mapper.specs.Singles.{single_source}
 use Rattle.cover_mapper.specs.Sourced.{sources_at, source_at}
 use Rattle.cover_mapper.proofs.Known.{all_gathered}
-use Rattle.cover_mapper.proofs.Finishing.{Ports, ports, gathered_there, finished, with_bits}
+use Rattle.cover_mapper.proofs.Finishing.{Ports, ports, gathered_there, finished_with, with_bits}
 use Rattle.cover_mapper.proofs.mapping.with_ports.Goals as goal
 
-pub invariant_of-result : goal.invariant_of-result
-invariant_of-result c =
+pub invariant_of-list : goal.invariant_of-list
+invariant_of-list c =
     let flat = c.args.flat.now in
     let sources = c.args.sources.now in
     let at : Ports flat c.args.list sources = ports flat c.requires.sound c.args.list sources c.requires.complete in
@@ -34,7 +36,7 @@ pub returns-clause-mapped : goal.returns-clause-mapped
 returns-clause-mapped c =
     let flat = c.args.flat.now in
     let sources = c.args.sources.now in
-    finished flat c.requires.sound c.args.list _ sources c.requires.complete
+    finished_with flat c.requires.sound c.args.list _ sources c.requires.complete
     (record {
       inputs = refl;
       cells = refl;
@@ -43,6 +45,7 @@ returns-clause-mapped c =
       latches = c.of-2.ensures ∙ c.in_ok-latches.ensures ∙ ap (λ (l : List FlatLatch). sources_at sources (map (λ (latch : FlatLatch). class_of flat latch.input) l)) c.as_slice-2.ensures;
       nets = c.of-3.ensures ∙ c.in_ok-nets.ensures ∙ ap (λ (l : List FlatNet). sources_at sources (map (λ (net : FlatNet). net.class) l)) c.as_slice-3.ensures;
     })
+    c.in_ok-singles.singles.items (c.in_ok-singles.ensures ∙ ap (filter_map (single_source flat sources)) c.as_slice-4.ensures)
 
 pub returns-clause-bits : goal.returns-clause-bits
 returns-clause-bits c =

@@ -1,0 +1,6 @@
+mod Moves
+mod Worded
+mod Substituting
+mod Keeping
+mod Driven
+mod Mapping

@@ -1,0 +1,106 @@
+-- A list that is written anew is mapped from the same netlist.
+use Rattle.std.proofs.Common.{◌≡◌, refl, sym, ◌∙◌, ap, ℕ, zero, suc, Bool, true, false, cond, List, [], ◌∷◌, length, map, subst, Option, Some, None, option_map, ⊎_elim, arith}
+use Rattle.std.specs.Prelude.{codes}
+use Rattle.std.proofs.lemmas.Option.{none-some, same_Some}
+use Rattle.lists.proofs.Members.{In, in_from, in_map}
+use Rattle.netlist_meaning.specs.Flat.{node_at, in_classes, out_class, class_of, port_classes, FlatDriver}
+use Rattle.cell_core.specs.declared.cells.Src.{Src}
+use Rattle.cell_core.specs.declared.cells.Src.TheVariants.{Input, Latch, One, Zero}
+use Rattle.cell_core.specs.declared.cells.Cell.{Cell}
+use Rattle.cell_core.specs.declared.cells.Cell.TheVariants.{Or, Xor, AndNot}
+use Rattle.cell_core.specs.Meaning.{bit_of}
+use Rattle.cover_cells.specs.Grown.{IsCell}
+use Rattle.cover_cells.specs.Singles.{single_cell, constant_source, are_pair, is_only}
+use Rattle.cover_mapper.specs.Listed.{listed_classes}
+use Rattle.cover_mapper.specs.Sourced.{IsOwn}
+use Rattle.cell_rewriting.specs.Same.{is_cell, cell_over}
+use Rattle.cell_rewriting.specs.Mapping.{MappedStays, BitsStay}
+use Rattle.cell_rewriting.proofs.Moves.{∷-parts}
+use Rattle.cell_rewriting.proofs.Driven.{driven_are_listed}
+
+mapped_twice : {X : Type 0} (f : X → Src) (g : Src → Src) (xs : List X) → map g (map f xs) ≡ map (λ x. g (f x)) xs
+mapped_twice f g [] = refl
+mapped_twice f g (x ∷ xs) = ap (λ l. g (f x) ∷ l) (mapped_twice f g xs)
+
+-- bits that agree on a list agree on each of its sources
+agree : (f g : Src → Bool) (to : Src → Src) (xs : List Src) (x : Src) → map f (map to xs) ≡ map g xs → In x xs → f (to x) ≡ g x
+agree f g to [] x e i = absurd i
+agree f g to (y ∷ ys) x e i =
+    let parts : (f (to y) ≡ g y) × (map f (map to ys) ≡ map g ys) = ∷-parts e in
+    ⊎_elim (λ (h : x ≡ y). ap (λ s. f (to s)) h ∙ parts.0 ∙ ap g (sym h)) (λ (h : In x ys). agree f g to ys x parts.1 h) i
+
+-- ---- covers of a single cell
+four : (to : Src → Src) (a b : Src) (p q r s : Bool) → cond p (Some (Or (to a) (to b))) (cond q (Some (Xor (to a) (to b))) (cond r (Some (AndNot (to a) (to b))) (cond s (Some (AndNot (to b) (to a))) None)))
+    ≡ option_map (cell_over to) (cond p (Some (Or a b)) (cond q (Some (Xor a b)) (cond r (Some (AndNot a b)) (cond s (Some (AndNot b a)) None))))
+four to a b true q r s = refl
+four to a b false true r s = refl
+four to a b false false true s = refl
+four to a b false false false true = refl
+four to a b false false false false = refl
+
+single_by : (to : Src → Src) (sources : List Src) (rows : List (List ℕ)) (on : Bool) → single_cell (map to sources) rows on ≡ option_map (cell_over to) (single_cell sources rows on)
+single_by to [] rows on = refl
+single_by to (a ∷ []) rows on = refl
+single_by to (a ∷ b ∷ []) rows true =
+    four to a b (are_pair rows (codes "1-") (codes "-1")) (are_pair rows (codes "10") (codes "01")) (is_only rows (codes "10")) (is_only rows (codes "01"))
+single_by to (a ∷ b ∷ []) rows false = refl
+single_by to (a ∷ b ∷ c ∷ sources) rows on = refl
+
+some_before : (to : Src → Src) (o : Option Cell) (new : Cell) → option_map (cell_over to) o ≡ Some new → (old : Cell) × (o ≡ Some old) × (cell_over to old ≡ new)
+some_before to None new e = absurd (none-some new e)
+some_before to (Some old) new e = (old, refl, same_Some _ _ e)
+
+-- ---- covers that are constants
+by_on : (on : Bool) → is_cell (cond on One Zero) ≡ false
+by_on true = refl
+by_on false = refl
+
+constant_is_none : (nets : ℕ) (rows : List (List ℕ)) (on : Bool) (src : Src) → constant_source nets rows on ≡ Some src → is_cell src ≡ false
+constant_is_none nets [] on src e = ap is_cell (sym (same_Some _ _ e))
+constant_is_none zero (row ∷ rows) on src e = ap is_cell (sym (same_Some _ _ e)) ∙ by_on on
+constant_is_none (suc nets) (row ∷ rows) on src e = absurd (none-some src e)
+
+-- ---- all of it
+own_stays : (to : Src → Src) → ((src : Src) → is_cell src ≡ false → to src ≡ src) → (d : FlatDriver) (src : Src) → IsOwn d src → IsOwn d (to src)
+own_stays to stays (FlatDriver.input i) src own = ap to own ∙ stays (Input i) refl
+own_stays to stays (FlatDriver.latch i) src own = ap to own ∙ stays (Latch i) refl
+own_stays to stays (FlatDriver.node n) src own = own
+
+pub mapped_stays : MappedStays
+mapped_stays flat old new kept sound with same =
+    let mapped = with.mapped in
+    let m = same.moves in
+    let to : Src → Src = same.to in
+    let s : ℕ → Src = mapped.sources in
+    record {
+      sources = λ class. to (s class);
+      inputs = m.inputs ∙ mapped.inputs;
+      starts = m.starts ∙ mapped.starts;
+      outs = m.outs_go ∙ ap (map to) mapped.outs ∙ mapped_twice s to (port_classes flat flat.outs);
+      latches = m.latches_go ∙ ap (map to) mapped.latches ∙ mapped_twice (λ latch. s (class_of flat latch.input)) to flat.latches;
+      nets = m.nets_go ∙ ap (map to) mapped.nets ∙ mapped_twice s to (listed_classes flat);
+      own = λ class d drives. own_stays to m.stays d (s class) (mapped.own class d drives);
+      bits = λ inputs state bits valuation class d drives.
+          agree (bit_of new inputs state) (bit_of old inputs state) to old.nets (s class)
+          (ap (map (bit_of new inputs state)) (sym m.nets_go) ∙ m.nets inputs state)
+          (subst (λ l. In (s class) l) (sym mapped.nets) (in_map s (listed_classes flat) class (in_from (listed_classes flat) class (driven_are_listed flat sound class d drives))))
+          ∙ mapped.bits inputs state bits valuation class d drives;
+      single = λ n cell within e.
+          let before : (c : Cell) × (single_cell (map s (in_classes flat n)) (node_at flat n).rows (node_at flat n).on ≡ Some c) × (cell_over to c ≡ cell) =
+          some_before to (single_cell (map s (in_classes flat n)) (node_at flat n).rows (node_at flat n).on) cell
+          (sym (single_by to (map s (in_classes flat n)) (node_at flat n).rows (node_at flat n).on)
+          ∙ ap (λ l. single_cell l (node_at flat n).rows (node_at flat n).on) (mapped_twice s to (in_classes flat n)) ∙ e) in
+          subst (λ c. IsCell new (to (s (out_class flat n))) c) before.2
+          (same.cells (s (out_class flat n)) (with.among n before.0 within before.1) before.0 (mapped.single n before.0 within before.1));
+      constant = λ n src within e. ap to (mapped.constant n src within e) ∙ m.stays src (constant_is_none (length (node_at flat n).ins) (node_at flat n).rows (node_at flat n).on src e);
+      few = let a = same.few in let b = mapped.few in omega (arith, a, b);
+      one = λ e. mapped.one (same.one e);
+    }
+
+pub bits_stay : BitsStay
+bits_stay flat old new kept inputs state bits same has =
+    record {
+      outs = same.moves.outs inputs state ∙ has.outs;
+      latches = same.moves.latches inputs state ∙ has.latches;
+      nets = same.moves.nets inputs state ∙ has.nets;
+    }

@@ -1,0 +1,10 @@
+-- Lists to which a list with kept sources is rewritten.
+use Rattle.std.specs.Prelude.{List}
+use Rattle.cell_core.specs.declared.cells.Src.{Src}
+use Rattle.cell_core.specs.declared.list.CellList.{CellList}
+use Rattle.cell_rewriting.specs.declared.rebuilding.KeptList.{KeptList}
+use Rattle.cell_rewriting.specs.Same.{IsRewritten}
+
+-- the list is one of them, with some kept sources
+abbrev pub IsRewrittenFrom : KeptList → CellList → Type 0
+IsRewrittenFrom from new = (still : List Src) × IsRewritten from.list from.kept.items new still

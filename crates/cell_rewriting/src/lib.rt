@@ -1,0 +1,18 @@
+//! Rewrites a list of cells into lists that compute the same with fewer cells. Each replacement of a cell is checked by tables
+//! over at most six leaves.
+//!
+//! Theorem: `rewritten`, `mapped_stays`, `bits_stay`.
+#![tactic(auto)]
+
+mod copying;
+mod error;
+pub mod laws;
+mod moving;
+mod ordering;
+mod rebuilding;
+mod rewriting;
+mod substitution;
+mod words;
+
+pub use error::RewriteError;
+pub use rewriting::rewritten;

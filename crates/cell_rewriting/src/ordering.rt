@@ -1,0 +1,119 @@
+// In which order cells move: those that ports need, each after those that it reads. Nothing is said of it: a cell that would move too early does not move.
+use crate::RewriteError;
+use crate::substitution::Substitution;
+use cell_core::{Cell, CellList, Src};
+use std::alloc::Global;
+
+// What is yet to be done at a cell.
+#[derive(Clone, Copy)]
+enum Visit {
+    Enter(u32),
+    Leave(u32),
+}
+
+// A walk over cells that goes down to what they read.
+#[derive(Drop)]
+struct Walk {
+    seen: Vec<bool>,
+    order: Vec<u32>,
+    todo: Vec<Visit>,
+}
+
+// What is read in place of a cell that is replaced, and else what the cell reads.
+fn reads(subst: &Substitution, number: u32) -> (Src, Src) {
+    if let Some(Some(by)) = subst.instead.get(number as usize) {
+        return (*by, Src::Zero);
+    }
+    match subst.list.cells.as_slice().get(number as usize) {
+        Some(Cell::Or(a, b) | Cell::Xor(a, b) | Cell::AndNot(a, b)) => (*a, *b),
+        None => (Src::Zero, Src::Zero),
+    }
+}
+
+impl Walk {
+    fn begin(alloc: Global, count: usize) -> Result<Walk, RewriteError> {
+        Ok(Walk {
+            seen: vec![in alloc; false; count]?,
+            order: Vec::with_capacity(alloc, count)?,
+            todo: Vec::new(alloc),
+        })
+    }
+
+    // Marks a cell, and answers whether it was not marked.
+    fn mark(&mut self, number: u32) -> bool {
+        match self.seen.get_mut(number as usize) {
+            Some(known) => {
+                let is_new = !*known;
+                *known = true;
+                is_new
+            }
+            None => false,
+        }
+    }
+
+    fn push(&mut self, src: Src) -> Result<(), RewriteError> {
+        if let Src::Cell(number) = src {
+            self.todo.push(Visit::Enter(number))?;
+        }
+        Ok(())
+    }
+
+    fn enter(&mut self, subst: &Substitution, number: u32) -> Result<(), RewriteError> {
+        if !self.mark(number) {
+            return Ok(());
+        }
+        let (first, second) = reads(subst, number);
+        self.todo.push(Visit::Leave(number))?;
+        self.push(second)?;
+        self.push(first)
+    }
+
+    fn step(&mut self, subst: &Substitution, visit: Visit) -> Result<(), RewriteError> {
+        match visit {
+            Visit::Enter(number) => self.enter(subst, number),
+            Visit::Leave(number) => Ok(self.order.push(number)?),
+        }
+    }
+
+    // Walks down from a source. Each cell is entered once, so there are at most three visits a cell.
+    fn from(&mut self, subst: &Substitution, src: Src) -> Result<(), RewriteError> {
+        self.push(src)?;
+        for _ in 0..=self.seen.len().saturating_mul(3) {
+            match self.todo.pop() {
+                Some(visit) => self.step(subst, visit)?,
+                None => break,
+            }
+        }
+        Ok(())
+    }
+
+    fn from_all(&mut self, subst: &Substitution, sources: &[Src]) -> Result<(), RewriteError> {
+        for src in sources {
+            self.from(subst, *src)?;
+        }
+        Ok(())
+    }
+}
+
+// A mark for each cell that an output, a latch or a net needs.
+fn needed(alloc: Global, subst: &Substitution) -> Result<Vec<bool>, RewriteError> {
+    let list: &CellList = &subst.list;
+    let mut walk = Walk::begin(alloc, list.cells.len())?;
+    walk.from_all(subst, list.outs.as_slice())?;
+    walk.from_all(subst, list.latches.as_slice())?;
+    walk.from_all(subst, list.nets.as_slice())?;
+    Ok(walk.seen)
+}
+
+/// The needed cells, each after those that it reads, and else in the order in which they stand.
+pub fn order_of(alloc: Global, subst: &Substitution) -> Result<Vec<u32>, RewriteError> {
+    let needed = needed(alloc, subst)?;
+    let mut walk = Walk::begin(alloc, needed.len())?;
+    for (place, is_needed) in needed.iter().enumerate() {
+        if *is_needed {
+            let number = u32::try_from(place).unwrap_or(u32::MAX);
+            walk.from(subst, Src::Cell(number))?;
+        }
+    }
+    Ok(walk.order)
+}

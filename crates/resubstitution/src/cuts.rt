@@ -1,0 +1,113 @@
+// Cuts: at most six sources of which a cell is a function.
+use crate::SearchError;
+use crate::network::Network;
+use cell_core::Src;
+use std::alloc::Global;
+
+// The most leaves of a cut.
+const MOST_LEAVES: usize = 6;
+
+// The most cells between the leaves and the cell.
+const MOST_INSIDE: usize = 32;
+
+/// The sources of which a cell is a function, and the cells between them and it, itself first.
+#[derive(Drop)]
+pub struct Cut {
+    pub leaves: Vec<Src>,
+    pub inside: Vec<u32>,
+}
+
+fn is_constant(src: Src) -> bool {
+    match src {
+        Src::One | Src::Zero => true,
+        Src::Input(_) | Src::Latch(_) | Src::Cell(_) => false,
+    }
+}
+
+impl Cut {
+    // Whether a source would be a new leaf.
+    fn is_new(&self, src: Src) -> bool {
+        if is_constant(src) || self.leaves.contains(&src) {
+            return false;
+        }
+        match src {
+            Src::Cell(i) => !self.inside.contains(&i),
+            Src::Input(_) | Src::Latch(_) | Src::One | Src::Zero => true,
+        }
+    }
+
+    // How many new leaves come where a leaf is opened, if it is a cell.
+    fn new_leaves(&self, network: &Network, leaf: Src) -> Option<usize> {
+        let Src::Cell(i) = leaf else {
+            return None;
+        };
+        let (a, b) = network.operands(i)?;
+        let first = self.is_new(a);
+        let second = a != b && self.is_new(b);
+        Some(usize::from(first) + usize::from(second))
+    }
+
+    // The leaf that brings the fewest new ones, its place, and how many.
+    fn best_leaf(&self, network: &Network) -> Option<(usize, usize)> {
+        let mut best: Option<(usize, usize)> = None;
+        for (place, leaf) in self.leaves.iter().enumerate() {
+            if let Some(count) = self.new_leaves(network, *leaf) {
+                match best {
+                    Some((_, least)) if least <= count => {}
+                    _ => best = Some((place, count)),
+                }
+            }
+        }
+        best
+    }
+
+    fn add(&mut self, src: Src) -> Result<(), SearchError> {
+        if self.is_new(src) {
+            self.leaves.push(src)?;
+        }
+        Ok(())
+    }
+
+    // What a cell reads are leaves, as far as they are new.
+    fn open(&mut self, network: &Network, number: u32) -> Result<(), SearchError> {
+        self.inside.push(number)?;
+        if let Some((a, b)) = network.operands(number) {
+            self.add(a)?;
+            self.add(b)?;
+        }
+        Ok(())
+    }
+
+    // Opens the best leaf, if the leaves stay few enough. Whether it did.
+    fn widen(&mut self, network: &Network) -> Result<bool, SearchError> {
+        let Some((place, more)) = self.best_leaf(network) else {
+            return Ok(false);
+        };
+        if self.leaves.len().saturating_add(more) > MOST_LEAVES + 1 {
+            return Ok(false);
+        }
+        let Some(Src::Cell(number)) = self.leaves.get(place).copied() else {
+            return Ok(false);
+        };
+        if place < self.leaves.len() {
+            self.leaves.remove(place);
+        }
+        self.open(network, number)?;
+        Ok(true)
+    }
+
+    /// The cut of a cell: first its operands; then that leaf is opened which brings the fewest new ones, while they are few enough.
+    pub fn of(alloc: Global, network: &Network, number: u32) -> Result<Cut, SearchError> {
+        let mut cut = Cut {
+            leaves: Vec::new(alloc),
+            inside: Vec::new(alloc),
+        };
+        cut.open(network, number)?;
+        for _ in 1..MOST_INSIDE {
+            if !cut.widen(network)? {
+                break;
+            }
+        }
+        Ok(cut)
+    }
+}

@@ -1,0 +1,69 @@
+// Divisors: the sources of which a cell may be made.
+use crate::SearchError;
+use crate::chances::Chances;
+use crate::cuts::Cut;
+use crate::windows::Window;
+use cell_core::Src;
+use std::alloc::Global;
+
+/// A source, and its table over the leaves.
+#[derive(Clone, Copy)]
+pub struct Divisor {
+    pub src: Src,
+    pub word: u64,
+}
+
+// Whether a source stays where these cells go.
+fn stays(src: Src, gone: &[u32]) -> bool {
+    match src {
+        Src::Cell(i) => !gone.contains(&i),
+        Src::Input(_) | Src::Latch(_) | Src::One | Src::Zero => true,
+    }
+}
+
+fn add(
+    divisors: &mut Vec<Divisor>,
+    window: &Window,
+    gone: &[u32],
+    src: Src,
+) -> Result<(), SearchError> {
+    if !stays(src, gone) {
+        return Ok(());
+    }
+    if let Some(word) = window.word(src) {
+        divisors.push(Divisor { src, word })?;
+    }
+    Ok(())
+}
+
+/// The leaves and the cells of a window that do not go; constant 1 too, where it may be read.
+pub fn divisors_of(
+    alloc: Global,
+    cut: &Cut,
+    window: &Window,
+    gone: &[u32],
+    has_one: bool,
+) -> Result<Vec<Divisor>, SearchError> {
+    let mut divisors = Vec::new(alloc);
+    for leaf in &cut.leaves {
+        add(&mut divisors, window, gone, *leaf)?;
+    }
+    for number in &window.order {
+        add(&mut divisors, window, gone, Src::Cell(*number))?;
+    }
+    if has_one {
+        add(&mut divisors, window, gone, Src::One)?;
+    }
+    Ok(divisors)
+}
+
+/// The divisors in an order by chance.
+pub fn shuffle(divisors: &mut [Divisor], chances: &mut Chances) {
+    for k in 0..divisors.len() {
+        let last = divisors.len() - 1 - k;
+        let place = chances.below(last as u64 + 1) as usize;
+        if place < divisors.len() {
+            divisors.swap(place, last);
+        }
+    }
+}

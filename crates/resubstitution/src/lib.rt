@@ -1,0 +1,19 @@
+//! Finds replacements of cells by functions of other cells, by which a list gets fewer of them. Nothing is promised of what
+//! it finds: whoever takes a replacement checks it.
+//!
+//! Theorem: `replacements`.
+#![tactic(auto)]
+
+mod chances;
+mod cuts;
+mod divisors;
+mod error;
+mod matching;
+mod network;
+mod replacing;
+mod sieve;
+mod windows;
+
+pub use chances::Chances;
+pub use error::SearchError;
+pub use replacing::{Replacement, Round, replacements};

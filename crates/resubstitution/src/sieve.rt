@@ -1,0 +1,40 @@
+// A sieve of words: a small table that says of most words that they are not in a set.
+use crate::SearchError;
+use std::alloc::Global;
+
+/// A bit for each of 1,024 places; a word has one place.
+#[derive(Drop)]
+pub struct Sieve {
+    bits: Vec<u64>,
+}
+
+// The place of a word: one of 16 words of 64 bits, and the bit in it.
+fn place(word: u64) -> (usize, u64) {
+    let hash = word.wrapping_mul(0x9e37_79b9_7f4a_7c15) >> 54;
+    let bit = (hash & 63) as u32;
+    ((hash >> 6) as usize, 1_u64.wrapping_shl(bit))
+}
+
+impl Sieve {
+    pub fn new(alloc: Global) -> Result<Sieve, SearchError> {
+        Ok(Sieve {
+            bits: vec![in alloc; 0; 16]?,
+        })
+    }
+
+    pub fn add(&mut self, word: u64) {
+        let (at, bit) = place(word);
+        if let Some(bits) = self.bits.get_mut(at) {
+            *bits |= bit;
+        }
+    }
+
+    /// Whether a word may have been added; each that was may.
+    pub fn has(&self, word: u64) -> bool {
+        let (at, bit) = place(word);
+        match self.bits.get(at) {
+            Some(bits) => *bits & bit != 0,
+            None => false,
+        }
+    }
+}

@@ -1,0 +1,204 @@
+// Windows: the tables of all cells that are functions of a cut's leaves, but for those that read the cell of the cut.
+use crate::SearchError;
+use crate::cuts::Cut;
+use crate::network::{Network, Role};
+use cell_core::{Cell, Src};
+use cover_cells::net_word;
+use std::alloc::Global;
+
+// The most cells of a window.
+const MOST_KNOWN: usize = 40;
+
+/// Words of cells over the leaves of one cut, and in which order they became known.
+#[derive(Drop)]
+pub struct Window {
+    words: Vec<Option<u64>>,
+    leaves: Vec<(Src, u64)>,
+    pub order: Vec<u32>,
+    /// The word of the cell of the cut.
+    pub own: Option<u64>,
+    cell: u32,
+}
+
+// The word of what a cell makes of two words.
+fn made_word(cell: Cell, a: u64, b: u64) -> u64 {
+    match cell {
+        Cell::Or(_, _) => a | b,
+        Cell::Xor(_, _) => a ^ b,
+        Cell::AndNot(_, _) => a & !b,
+    }
+}
+
+impl Window {
+    /// A window for networks of so many cells, in which no word is known.
+    pub fn new(alloc: Global, cells: usize) -> Result<Window, SearchError> {
+        Ok(Window {
+            words: vec![in alloc; None; cells]?,
+            leaves: Vec::new(alloc),
+            order: Vec::new(alloc),
+            own: None,
+            cell: 0,
+        })
+    }
+
+    /// A cell was added to the network.
+    pub fn add_cell(&mut self) -> Result<(), SearchError> {
+        Ok(self.words.push(None)?)
+    }
+
+    /// The word of a source, if it is known and does not read the cell of the cut.
+    pub fn word(&self, src: Src) -> Option<u64> {
+        match src {
+            Src::One => Some(u64::MAX),
+            Src::Zero => Some(0),
+            Src::Cell(i) => match self.words.get(i as usize) {
+                Some(known) => *known,
+                None => None,
+            },
+            Src::Input(_) | Src::Latch(_) => self.leaf_word(src),
+        }
+    }
+
+    fn leaf_word(&self, src: Src) -> Option<u64> {
+        for (leaf, word) in &self.leaves {
+            if *leaf == src {
+                return Some(*word);
+            }
+        }
+        None
+    }
+
+    fn set_word(&mut self, number: u32, word: Option<u64>) {
+        if let Some(place) = self.words.get_mut(number as usize) {
+            *place = word;
+        }
+    }
+
+    // The word of a cell by those of its operands.
+    fn word_of_cell(&self, cell: Cell) -> Option<u64> {
+        match cell {
+            Cell::Or(a, b) | Cell::Xor(a, b) | Cell::AndNot(a, b) => {
+                Some(made_word(cell, self.word(a)?, self.word(b)?))
+            }
+        }
+    }
+
+    fn has_word(&self, number: u32) -> bool {
+        if number == self.cell {
+            return self.own.is_some();
+        }
+        self.word(Src::Cell(number)).is_some()
+    }
+
+    // The word of a cell becomes known, if those of its operands are.
+    fn add(&mut self, network: &Network, number: u32) -> Result<(), SearchError> {
+        if self.has_word(number) {
+            return Ok(());
+        }
+        let Some((cell, role)) = network.role(number) else {
+            return Ok(());
+        };
+        if role == Role::Gone {
+            return Ok(());
+        }
+        if let Some(word) = self.word_of_cell(cell) {
+            self.put(number, word)?;
+        }
+        Ok(())
+    }
+
+    fn put(&mut self, number: u32, word: u64) -> Result<(), SearchError> {
+        if number == self.cell {
+            self.own = Some(word);
+            return Ok(());
+        }
+        self.set_word(number, Some(word));
+        Ok(self.order.push(number)?)
+    }
+
+    // The words of the leaves themselves.
+    fn add_leaves(&mut self, leaves: &[Src]) -> Result<(), SearchError> {
+        for (place, leaf) in leaves.iter().enumerate() {
+            if place < 6 {
+                let word = net_word(place);
+                self.leaves.push((*leaf, word))?;
+                if let Src::Cell(i) = *leaf {
+                    self.set_word(i, Some(word));
+                }
+            }
+        }
+        Ok(())
+    }
+
+    // The words of the cells of the cut, of which each is a function of the leaves.
+    fn add_inside(&mut self, network: &Network, inside: &[u32]) -> Result<(), SearchError> {
+        for _ in 0..inside.len() {
+            self.add_all(network, inside)?;
+            if self.own.is_some() {
+                break;
+            }
+        }
+        Ok(())
+    }
+
+    // The words of cells, from the last to the first.
+    fn add_all(&mut self, network: &Network, cells: &[u32]) -> Result<(), SearchError> {
+        for number in cells.iter().rev() {
+            self.add(network, *number)?;
+        }
+        Ok(())
+    }
+
+    // The words of the cells that read a source.
+    fn add_readers(&mut self, network: &Network, src: Src) -> Result<(), SearchError> {
+        if let Some(readers) = network.readers(src) {
+            for reader in readers {
+                self.add(network, *reader)?;
+            }
+        }
+        Ok(())
+    }
+
+    // The words of the cells that read known ones, further and further, while they are few enough.
+    fn spread(&mut self, network: &Network, leaves: &[Src]) -> Result<(), SearchError> {
+        for leaf in leaves {
+            self.add_readers(network, *leaf)?;
+        }
+        for place in 0..MOST_KNOWN {
+            let Some(number) = self.order.get(place).copied() else {
+                break;
+            };
+            if self.order.len() >= MOST_KNOWN {
+                break;
+            }
+            self.add_readers(network, Src::Cell(number))?;
+        }
+        Ok(())
+    }
+
+    /// Finds the words over the leaves of a cut, where none is known.
+    pub fn fill(&mut self, network: &Network, cut: &Cut, number: u32) -> Result<(), SearchError> {
+        self.cell = number;
+        self.add_leaves(&cut.leaves)?;
+        self.add_inside(network, &cut.inside)?;
+        self.spread(network, &cut.leaves)
+    }
+
+    /// Forgets all words.
+    pub fn clear(&mut self) {
+        for _ in 0..self.order.len() {
+            match self.order.pop() {
+                Some(number) => self.set_word(number, None),
+                None => break,
+            }
+        }
+        for _ in 0..self.leaves.len() {
+            match self.leaves.pop() {
+                Some((Src::Cell(i), _)) => self.set_word(i, None),
+                Some(_) => {}
+                None => break,
+            }
+        }
+        self.own = None;
+    }
+}
