@@ -7,5 +7,6 @@ pub mod laws;
 mod moving;
 mod reordering;
 
+pub use ending::ending_order;
 pub use error::OrderError;
-pub use reordering::reordered;
+pub use reordering::in_order;
