@@ -51,7 +51,12 @@ impl Homes {
         }
     }
 
-    // The lowest lane above `above` on which no input stands.
+    /// The highest lane above the loops on which no input stands, of `above` lanes.
+    pub fn dark_lane(&self, above: usize) -> Option<usize> {
+        (0..above).find(|lane| !self.ins.contains(lane))
+    }
+
+    // The lowest of them.
     fn free_lane(&self, above: usize) -> Option<usize> {
         (0..above).rev().find(|lane| !self.ins.contains(lane))
     }

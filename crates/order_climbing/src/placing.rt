@@ -56,7 +56,7 @@ impl<'a> Placer<'a> {
             self.start(self.gates.inputs.saturating_add(number), above.saturating_add(number));
         }
         if self.gates.uses_of(self.gates.zero()) > 0 {
-            if let Some(lane) = (0..above).find(|lane| !layout.homes.ins.contains(lane)) {
+            if let Some(lane) = layout.homes.dark_lane(above) {
                 self.start(self.gates.zero(), lane);
             }
         }
