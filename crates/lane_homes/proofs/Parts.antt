@@ -89,13 +89,16 @@ module _ (above inputs loops : ℕ) (is_dark : Bool) (upper homes : List ℕ) (l
 -- lanes side by side, and lane 0 above them
 pub own_apart : (above inputs : ℕ) (is_dark : Bool) (lanes : List ℕ) → inputs + cond is_dark 1 0 ≤ above
     → lanes ≡ map (λ i. above - inputs + i) (range_with_len 0 inputs) ++ cond is_dark (0 ∷ []) [] → (length lanes ≡ inputs + cond is_dark 1 0) × AreDistinctBelow above lanes
-own_apart above inputs is_dark lanes room is = (all, record {
-  below = λ i d low. ⊎_elim (λ first. (let a = at i d first in omega (arith, a, first, room))) (λ past. (let z = last i d past low in omega (arith, z.0, z.1, room))) (cases_lt i inputs);
-  distinct = λ i j d lt low e. ⊎_elim
-      (λ first. (let a = at i d (omega (arith, lt, first)) in let b = at j d first in omega (arith, a, b, e, lt)))
-      (λ past. (let z = last j d past low in let a = at i d (omega (arith, lt, z.2)) in omega (arith, a, z.0, z.1, room, e)))
-      (cases_lt j inputs);
-})
+own_apart above inputs is_dark lanes room is = (
+  all,
+  record {
+    below = λ i d low. ⊎_elim (λ first. (let a = at i d first in omega (arith, a, first, room))) (λ past. (let z = last i d past low in omega (arith, z.0, z.1, room))) (cases_lt i inputs);
+    distinct = λ i j d lt low e. ⊎_elim
+        (λ first. (let a = at i d (omega (arith, lt, first)) in let b = at j d first in omega (arith, a, b, e, lt)))
+        (λ past. (let z = last j d past low in let a = at i d (omega (arith, lt, z.2)) in omega (arith, a, z.0, z.1, room, e)))
+        (cases_lt j inputs);
+  },
+)
   where
     row : List ℕ
     row = map (λ i. above - inputs + i) (range_with_len 0 inputs)

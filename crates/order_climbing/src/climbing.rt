@@ -72,7 +72,9 @@ impl<'a> Climber<'a> {
         let Some(range) = self.camp.layout.range(self.gates, from) else {
             return Ok(());
         };
-        let to = range.start.saturating_add(self.draws.below(range.end.saturating_sub(range.start)));
+        let to = range
+            .start
+            .saturating_add(self.draws.below(range.end.saturating_sub(range.start)));
         if to == from {
             return Ok(());
         }
@@ -91,7 +93,12 @@ impl<'a> Climber<'a> {
             let other = self.draws.below(inputs);
             self.camp.layout.homes.ins.get(other).copied()
         } else {
-            let above = self.camp.layout.homes.lanes.saturating_sub(self.gates.loops);
+            let above = self
+                .camp
+                .layout
+                .homes
+                .lanes
+                .saturating_sub(self.gates.loops);
             Some(self.draws.below(above))
         };
         let Some(lane) = lane else {
@@ -117,7 +124,10 @@ impl<'a> Climber<'a> {
             return Ok(());
         }
         self.other.copy(&self.camp.layout.homes)?;
-        if !self.other.resize(lanes, lanes.saturating_sub(self.gates.loops)) {
+        if !self
+            .other
+            .resize(lanes, lanes.saturating_sub(self.gates.loops))
+        {
             return Ok(());
         }
         self.try_other()

@@ -77,7 +77,10 @@ impl Gates {
             let Some(gate) = self.gates.get(*cell as usize) else {
                 continue;
             };
-            let ended = use_up(&mut left, gate.first).saturating_add(use_up(&mut left, gate.second));
+            let ended = use_up(&mut left, gate.first).saturating_add(use_up(
+                &mut left,
+                gate.second,
+            ));
             most = most.max(live.saturating_add(2).saturating_sub(ended));
             live = live.saturating_sub(ended);
             if self.uses_of(self.made_by(*cell as usize)) > 0 {

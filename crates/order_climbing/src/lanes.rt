@@ -172,11 +172,16 @@ impl Lanes {
     /// Makes a second copy of what stands on a lane, by the free lane that it can meet first: the upper one of the two lanes that then have
     /// it. There is none where no lane is free.
     pub fn copy(&mut self, lane: usize) -> Option<usize> {
-        let below = self.free_below(lane).map(|free| (free, self.meeting(lane, free)));
-        let above = self.free_above(lane).map(|free| (free, self.meeting(free, lane)));
+        let below = self
+            .free_below(lane)
+            .map(|free| (free, self.meeting(lane, free)));
+        let above = self
+            .free_above(lane)
+            .map(|free| (free, self.meeting(free, lane)));
         let at = match (below, above) {
             (Some((free, meeting)), None) => self.copy_down(lane, free, meeting.at),
-            (Some((free, meeting)), Some((_, other))) if meeting.time <= other.time.saturating_add(1) => {
+            (Some((free, meeting)), Some((_, other)))
+                if meeting.time <= other.time.saturating_add(1) => {
                 self.copy_down(lane, free, meeting.at)
             }
             (_, Some((free, meeting))) => self.copy_up(lane, free, meeting.at),

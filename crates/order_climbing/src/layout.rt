@@ -117,7 +117,11 @@ impl Layout {
         let cell = *self.order.get(place)?;
         let gate = *gates.gates.get(cell)?;
         let made = gates.made_by(cell);
-        let after = self.order.get(..place)?.iter().rposition(|cell| gate.reads(gates.made_by(*cell)));
+        let after = self
+            .order
+            .get(..place)?
+            .iter()
+            .rposition(|cell| gate.reads(gates.made_by(*cell)));
         let later = self.order.get(place..)?;
         let before = later.iter().position(|cell| match gates.gates.get(*cell) {
             Some(gate) => gate.reads(made),

@@ -53,7 +53,10 @@ impl<'a> Placer<'a> {
         }
         let above = layout.homes.lanes.saturating_sub(self.gates.loops);
         for number in 0..self.gates.loops {
-            self.start(self.gates.inputs.saturating_add(number), above.saturating_add(number));
+            self.start(
+                self.gates.inputs.saturating_add(number),
+                above.saturating_add(number),
+            );
         }
         if self.gates.uses_of(self.gates.zero()) > 0 {
             if let Some(lane) = layout.homes.dark_lane(above) {
@@ -130,7 +133,11 @@ impl<'a> Placer<'a> {
     fn place_ports(&mut self) -> Option<()> {
         for port in 0..self.gates.ports.len() {
             let value = *self.gates.ports.get(port)?;
-            let partner = if port < self.gates.loops { usize::MAX } else { 0 };
+            let partner = if port < self.gates.loops {
+                usize::MAX
+            } else {
+                0
+            };
             self.fetch(value, self.port_number(port), partner)?;
         }
         Some(())
