@@ -9,5 +9,6 @@ pub mod laws;
 mod moving;
 mod reordering;
 
+pub use ending::ending_order;
 pub use error::OrderError;
-pub use reordering::reordered;
+pub use reordering::in_order;

@@ -4,7 +4,6 @@ ghost use Rattle.cell_order.specs.Alike.{ComputeAlike};
 ghost use Rattle.cell_order.specs.Renamed.{AreMoved};
 
 use crate::OrderError;
-use crate::ending::ending_order;
 use crate::moving::Moved;
 use cell_core::CellList;
 use lists::List;
@@ -37,14 +36,17 @@ fn with_moved(alloc: Global, list: &CellList, moved: Moved) -> Result<Option<Cel
     Ok(Some(new))
 }
 
-/// The list with its cells in an order in which the next is one of the last to read values, so that fewer values are needed at a time; a
-/// value with fewer than `reach` uses left counts. There is none where that order leaves out a cell.
-pub fn reordered(alloc: Global, list: &CellList, reach: u32) -> Result<Option<CellList>, OrderError>
+/// The list with its cells in an order, given by their numbers. There is none where the order leaves out a cell, or one comes before a cell
+/// that it reads.
+pub fn in_order(
+    alloc: Global,
+    list: &CellList,
+    order: &[u32],
+) -> Result<Option<CellList>, OrderError>
     ensures { IfOk result (λ new. IfSome new (ComputeAlike list.now)) }
 {
-    let order = ending_order(alloc, list, reach)?;
     let mut moved = Moved::begin(alloc, list)?;
-    for number in &order {
+    for number in order {
         moved.add(list, *number)?;
     }
     with_moved(alloc, list, moved)

@@ -1,5 +1,5 @@
 -- What a plan of a list of cells is.
-use Rattle.std.specs.Prelude.{◌≡◌, ◌≤◌, ◌+◌, ◌*◌, max, length}
+use Rattle.std.specs.Prelude.{ℕ, ◌≡◌, ◌≤◌, ◌<◌, ◌+◌, ◌*◌, ◌^◌, max, List, length, get_or}
 use Rattle.cell_core.specs.declared.list.CellList.{CellList}
 use Rattle.cell_core.specs.Loops.{loop_count}
 use Rattle.cell_lanes.specs.Computes.{ComputesByPlan}
@@ -20,3 +20,11 @@ pub record IsPlanOf (list : CellList) (plan : Plan) : Type 0 where
   pub columns : length plan.columns ≤ (3 * length list.cells + length list.outs + 2 * loop_count list + 1) * (plan.lanes + 1)
   pub entries : AreAtEntries list plan.lanes plan.ins plan.nets
   pub exits : AreAtExits list plan.columns plan.nets
+
+-- the list is short enough for a plan
+abbrev pub IsShort : CellList → Type 0
+IsShort list = list.inputs + loop_count list + length list.outs + length list.cells < 2 ^ 18
+
+-- it is a plan of the list of this number
+abbrev pub IsPlanOfOne : List CellList → ℕ → Plan → Type 0
+IsPlanOfOne lists number plan = (number < length lists) × ((d : CellList) → IsPlanOf (get_or lists number d) plan)

@@ -2,7 +2,9 @@
 use cell_order::OrderError;
 use column_packer::PackError;
 use latch_loops::CloseError;
+use order_climbing::ClimbError;
 use row_placer::PlaceError;
+use std::alloc::{AllocError, AllocFailed};
 use thiserror::Error;
 
 /// Why no plan was made.
@@ -41,5 +43,25 @@ impl From<OrderError> for PlanError {
         match error {
             OrderError::NoMemory => PlanError::NoMemory,
         }
+    }
+}
+
+impl From<ClimbError> for PlanError {
+    fn from(error: ClimbError) -> Self {
+        match error {
+            ClimbError::NoMemory => PlanError::NoMemory,
+        }
+    }
+}
+
+impl From<AllocError> for PlanError {
+    fn from(_: AllocError) -> Self {
+        PlanError::NoMemory
+    }
+}
+
+impl<T: Drop> From<AllocFailed<T>> for PlanError {
+    fn from(_: AllocFailed<T>) -> Self {
+        PlanError::NoMemory
     }
 }

@@ -1,10 +1,11 @@
-//! Makes a plan of a list of cells: places, packs and closes it.
+//! Makes a plan of one of several lists of cells: places, packs and closes it, in orders of its cells that are tried and climbed.
 //!
-//! Theorem: `plan_of` (`admissible`, `computes`, `lanes`, `columns`).
+//! Theorem: `best_plan`, `plan_of` (`admissible`, `computes`, `lanes`, `columns`).
 #![tactic(auto)]
 
+mod choosing;
 mod error;
 mod planning;
 
+pub use choosing::{Chosen, best_plan, plan_of};
 pub use error::PlanError;
-pub use planning::plan_of;

@@ -1,28 +1,38 @@
-// The plan of a list of cells.
-ghost use Rattle.std.specs.Prelude.{◌≡◌, ◌≤◌, ◌<◌, ◌+◌, ◌*◌, ◌^◌, max, length, IfOk};
+// Plans of one list of cells.
+ghost use Rattle.std.specs.Prelude.{◌≡◌, ◌≤◌, ◌<◌, ◌+◌, ◌^◌, max, length, IfOk, IfSome};
 ghost use Rattle.cell_core.specs.Loops.{loop_count};
-ghost use Rattle.cell_lanes.specs.Computes.{ComputesByPlan};
 ghost use Rattle.cell_order.specs.Alike.{ComputeAlike};
-ghost use Rattle.cell_plans.specs.Counts.{instr_count};
-ghost use Rattle.cell_plans.specs.Exits.{AreAtExits};
+ghost use Rattle.row_placer.specs.Placed.{IsPlacedWithin};
+ghost use Rattle.cell_plans.specs.Counts.{tiles};
 ghost use Rattle.cell_plans.specs.PlanOf.{IsPlanOf};
-ghost use Rattle.lane_core.specs.Plans.{IsAdmissible};
-ghost use Rattle.row_placer.specs.Empty.{IsEmpty};
-ghost use Rattle.row_placer.specs.Entries.{AreAtEntries};
 
 use crate::PlanError;
 use cell_core::CellList;
-use cell_order::reordered;
+use cell_order::{ending_order, in_order};
 use column_packer::pack;
-use lane_core::Plan;
+use lane_core::{Plan, Program};
 use latch_loops::close;
 use latch_loops::laws::closing_keeps_cells;
-use row_placer::place;
+use order_climbing::Climbed;
+use row_placer::{place, place_at};
 use std::alloc::Global;
 use std::ops::Range;
 
 // The most cells of a list for which all orders are tried.
 const LONG_LIST: usize = 4096;
+
+// The plan of a list by a program that computes it.
+fn closed(alloc: Global, list: &CellList, program: &Program) -> Result<Plan, PlanError>
+    requires small { list.now.inputs + loop_count list.now + length list.now.outs + length list.now.cells < 2 ^ 18 }
+    requires placed { IsPlacedWithin list.now (max list.now.inputs (length list.now.outs)) program.now }
+    ensures { IfOk result (IsPlanOf list.now) }
+{
+    let _list = list;
+    let columns = pack(alloc, program)?;
+    closing_keeps_cells();
+    let plan = close(alloc, columns, program)?;
+    Ok(plan)
+}
 
 // The plan of a list with its cells in the order in which they stand.
 fn planned(alloc: Global, list: &CellList) -> Result<Plan, PlanError>
@@ -30,10 +40,16 @@ fn planned(alloc: Global, list: &CellList) -> Result<Plan, PlanError>
     ensures { IfOk result (IsPlanOf list.now) }
 {
     let program = place(alloc, list)?;
-    let columns = pack(alloc, &program)?;
-    closing_keeps_cells();
-    let plan = close(alloc, columns, &program)?;
-    Ok(plan)
+    closed(alloc, list, &program)
+}
+
+// Such a plan with so many spare lanes and, if they will do, with its inputs and the dark lane on these lanes.
+fn planned_at(alloc: Global, list: &CellList, spare: u32, lanes: &[u32]) -> Result<Plan, PlanError>
+    requires small { list.now.inputs + loop_count list.now + length list.now.outs + length list.now.cells < 2 ^ 18 }
+    ensures { IfOk result (IsPlanOf list.now) }
+{
+    let program = place_at(alloc, list, spare, lanes)?;
+    closed(alloc, list, &program)
 }
 
 // A plan of a list by another that computes alike.
@@ -47,8 +63,44 @@ fn planned_by(alloc: Global, list: &CellList, other: &CellList) -> Result<Plan, 
     planned(alloc, other)
 }
 
-// How many tiles the drawing of a plan has.
-fn tiles(plan: &Plan) -> u128 {
+// Such a plan at a layout that was climbed to.
+#[tactic(auto, using(crate::proofs::Alike::plan_by))]
+fn planned_by_at(
+    alloc: Global,
+    list: &CellList,
+    other: &CellList,
+    found: &Climbed,
+) -> Result<Plan, PlanError>
+    requires alike { ComputeAlike list.now other.now }
+    requires small { list.now.inputs + loop_count list.now + length list.now.outs + length list.now.cells < 2 ^ 18 }
+    ensures { IfOk result (IsPlanOf list.now) }
+{
+    let _list = list;
+    planned_at(alloc, other, found.spare, &found.lanes)
+}
+
+// The plan of a list at a layout that was climbed to, if its order has all cells, each after those that it reads.
+pub fn climbed_plan(
+    alloc: Global,
+    list: &CellList,
+    found: &Climbed,
+) -> Result<Option<Plan>, PlanError>
+    requires small { list.now.inputs + loop_count list.now + length list.now.outs + length list.now.cells < 2 ^ 18 }
+    ensures { IfOk result (λ plan. IfSome plan (IsPlanOf list.now)) }
+{
+    match in_order(alloc, list, &found.order)? {
+        None => Ok(None),
+        Some(other) => {
+            let plan = planned_by_at(alloc, list, &other, found)?;
+            Ok(Some(plan))
+        }
+    }
+}
+
+/// How many tiles the drawing of a plan has.
+pub fn tiles(plan: &Plan) -> u128
+    ensures { result ≡ tiles plan.now }
+{
     let loops = plan.latches as u128;
     let columns = plan.columns.len() as u128 + 2 * loops;
     columns * (plan.lanes as u128 + loops)
@@ -58,7 +110,8 @@ fn tiles(plan: &Plan) -> u128 {
 fn smaller(list: &CellList, first: Plan, second: Plan) -> Plan
     requires first { IsPlanOf list.now first }
     requires second { IsPlanOf list.now second }
-    ensures { IsPlanOf list.now result }
+    ensures plan { IsPlanOf list.now result }
+    ensures no_larger { (tiles result ≤ tiles first) × (tiles result ≤ tiles second) }
 {
     let _list = list;
     if tiles(&second) < tiles(&first) {
@@ -72,9 +125,11 @@ fn smaller(list: &CellList, first: Plan, second: Plan) -> Plan
 fn better(alloc: Global, list: &CellList, plan: Plan, reach: u32) -> Result<Plan, PlanError>
     requires plan { IsPlanOf list.now plan }
     requires small { list.now.inputs + loop_count list.now + length list.now.outs + length list.now.cells < 2 ^ 18 }
-    ensures { IfOk result (IsPlanOf list.now) }
+    ensures plan { IfOk result (IsPlanOf list.now) }
+    ensures no_larger { IfOk result (λ next. tiles next ≤ tiles plan) }
 {
-    match reordered(alloc, list, reach)? {
+    let order = ending_order(alloc, list, reach)?;
+    match in_order(alloc, list, &order)? {
         None => Ok(plan),
         Some(other) => {
             let next = planned_by(alloc, list, &other)?;
@@ -83,8 +138,8 @@ fn better(alloc: Global, list: &CellList, plan: Plan, reach: u32) -> Result<Plan
     }
 }
 
-// By which reaches orders are tried: 2, 3 and 4; for a list of more cells, whose placing takes long, 3 alone, which serves best.
-fn reaches(list: &CellList) -> Range<u32> {
+/// By which reaches orders are tried: 2, 3 and 4; for a list of more cells, whose placing takes long, 3 alone, which serves best.
+pub fn reaches(list: &CellList) -> Range<u32> {
     if list.cells.len() > LONG_LIST {
         3..4
     } else {
@@ -92,17 +147,10 @@ fn reaches(list: &CellList) -> Range<u32> {
     }
 }
 
-/// A plan that computes the list, the smallest one of a few orders of its cells: in each cycle its outputs, its loops and its nets have the bits of their sources.
-pub fn plan_of(alloc: Global, list: &CellList) -> Result<Plan, PlanError>
+/// The plan of a list that takes the fewest tiles, of those of a few orders of its cells.
+pub fn plain_plan(alloc: Global, list: &CellList) -> Result<Plan, PlanError>
     requires small { list.now.inputs + loop_count list.now + length list.now.outs + length list.now.cells < 2 ^ 18 }
-    ensures admissible { IfOk result IsAdmissible }
-    ensures computes { IfOk result (ComputesByPlan list.now) }
-    ensures lanes { IfOk result (λ plan. plan.lanes ≤ list.now.inputs + 2 * loop_count list.now + length list.now.outs + length list.now.cells + 2 + max list.now.inputs (length list.now.outs)) }
-    ensures empty { IfOk result (λ plan. IsEmpty list.now → plan.lanes ≡ 0) }
-    ensures entries { IfOk result (λ plan. AreAtEntries list.now plan.lanes plan.ins plan.nets) }
-    ensures exits { IfOk result (λ plan. AreAtExits list.now plan.columns plan.nets) }
-    ensures instrs { IfOk result (λ plan. instr_count plan.columns ≤ (3 * length list.now.cells + length list.now.outs + 2 * loop_count list.now) * plan.lanes) }
-    ensures columns { IfOk result (λ plan. length plan.columns ≤ (3 * length list.now.cells + length list.now.outs + 2 * loop_count list.now + 1) * (plan.lanes + 1)) }
+    ensures { IfOk result (IsPlanOf list.now) }
 {
     let mut plan = planned(alloc, list)?;
     for reach in reaches(list) {

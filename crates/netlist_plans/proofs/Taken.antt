@@ -1,16 +1,13 @@
--- The list that is taken of several, and its plan.
-use Rattle.std.proofs.Common.{ℕ, List, subst}
-use Rattle.std.specs.Prelude.{All}
+-- The list of which a plan is taken.
+use Rattle.std.proofs.Common.{ℕ, List, []}
+use Rattle.std.specs.Prelude.{All, ◌<◌, ◌^◌, get_or}
 use Rattle.std.proofs.lemmas.List.Elements.{All-get_or}
-use Rattle.std.proofs.lemmas.Option.{slice_get_within, get_or_from_slice_get}
 use Rattle.lane_core.specs.declared.plan.Plan.{Plan}
 use Rattle.netlist_core.specs.declared.flat.Flat.{Flat}
 use Rattle.netlist_meaning.specs.Flat.{IsWeighed}
-use Rattle.std.specs.Prelude.{◌<◌, ◌^◌}
 use Rattle.cell_core.specs.declared.list.CellList.{CellList}
-use Rattle.cell_plans.specs.PlanOf.{IsPlanOf}
+use Rattle.cell_plans.specs.PlanOf.{IsPlanOf, IsPlanOfOne, IsShort}
 use Rattle.plan_carries.specs.Compiled.{ComputesFlat}
-use Rattle.netlist_plans.specs.Lists.{FitsPlan, IsOfOne}
 use Rattle.netlist_plans.proofs.Bounds.{list_fits}
 
 -- a list that computes the flat netlist, of which the plan is one
@@ -19,13 +16,16 @@ pub record Taken (flat : Flat) (plan : Plan) : Type 0 where
   pub computes : ComputesFlat flat list
   pub is : IsPlanOf list plan
 
-pub taken : (flat : Flat) (lists : List CellList) (place : ℕ) (plan : Plan) → All (ComputesFlat flat) lists → IsOfOne lists place plan → Taken flat plan
-taken flat lists place plan all (list, at, is) =
+bare : CellList
+bare = record { inputs = 0; cells = []; outs = []; latches = []; starts = []; nets = [] }
+
+pub taken : (flat : Flat) (lists : List CellList) (place : ℕ) (plan : Plan) → All (ComputesFlat flat) lists → IsPlanOfOne lists place plan → Taken flat plan
+taken flat lists place plan all (within, is) =
     record {
-      list = list;
-      computes = subst (ComputesFlat flat) (get_or_from_slice_get lists place list list at) (All-get_or (ComputesFlat flat) lists place list (slice_get_within lists place list at) all);
-      is = is;
+      list = get_or lists place bare;
+      computes = All-get_or (ComputesFlat flat) lists place bare within all;
+      is = is bare;
     }
 
-pub all_fit : (flat : Flat) (lists : List CellList) → IsWeighed flat → flat.weight < 2 ^ 16 → All (ComputesFlat flat) lists → All FitsPlan lists
-all_fit flat lists weighed small all = λ i d lt. list_fits flat _ (all i d lt).mapped weighed small
+pub all_short : (flat : Flat) (lists : List CellList) → IsWeighed flat → flat.weight < 2 ^ 16 → All (ComputesFlat flat) lists → All IsShort lists
+all_short flat lists weighed small all = λ i d lt. list_fits flat _ (all i d lt).mapped weighed small

@@ -1,4 +1,3 @@
-pub mod Lists
 pub mod Names
 pub mod Planned
 pub mod NetPlaces

@@ -3,7 +3,6 @@
 //! Theorem: `plan_netlist` (`carries`, `small`, `places`).
 #![tactic(auto)]
 
-mod choosing;
 mod error;
 mod planning;
 

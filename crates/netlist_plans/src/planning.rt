@@ -1,5 +1,5 @@
 // The plan of a flat netlist, by its list of cells.
-ghost use Rattle.std.specs.Prelude.{◌≡◌, ◌<◌, ◌≤◌, ◌^◌, false, length, All, IfOk};
+ghost use Rattle.std.specs.Prelude.{◌≡◌, ◌<◌, ◌^◌, false, length, All, IfOk};
 ghost use Rattle.grid_assembly.specs.PlanDrawing.{start_grid};
 ghost use Rattle.lane_core.specs.Plans.{IsAdmissible};
 ghost use Rattle.netlist_meaning.specs.Flat.{IsNamed, IsSound, IsWeighed};
@@ -13,8 +13,8 @@ ghost use Rattle.netlist_plans.specs.NetPlaces.{HasNetPlaces};
 ghost use Rattle.netlist_plans.specs.Planned.{ComputesCells, HasLanes, IsSmall};
 
 use crate::NetlistPlanError;
-use crate::choosing::best_plan;
 use cell_core::CellList;
+use cell_plans::best_plan;
 use cell_rewriting::laws::{bits_stay, mapped_stays};
 use cell_rewriting::rewritten;
 use cover_mapper::map;
@@ -37,7 +37,7 @@ fn cell_lists(alloc: Global, flat: &Flat, order: &Order) -> Result<Vec<CellList>
     requires sound { IsSound flat.now }
     requires weighed { IsWeighed flat.now }
     requires ordered { IsOrder flat.now order.now.nodes }
-    ensures some { IfOk result (λ lists. 1 ≤ length lists.items) }
+    ensures some { IfOk result (λ lists. 0 < length lists.items) }
     ensures computes { IfOk result (λ lists. All (ComputesFlat flat.now) lists.items) }
 {
     let mapped = map(alloc, flat, order)?;

@@ -67,9 +67,6 @@ start_ready gates ports homes left inner lanes first base dark start s low count
   wide = omega (arith, wide);
 }
 
-pub dark_first : (dark : Bool) (first : ℕ) → cond dark 1 0 ≤ first → dark ≡ true → 1 ≤ first
-dark_first dark first is e = let one : cond {A = ℕ} dark 1 0 ≡ 1 = ap (λ b. cond {A = ℕ} b 1 0) e in omega (arith, is, one)
-
 -- no gates and no ports use nothing
 pub nothing_used : (base : ℕ) (gates : List NumberedCell) (ports : List ℕ) → length gates ≡ 0 → length ports ≡ 0 → (owed ports base gates ≡ 0) × ((v : ℕ) → times v (uses_of gates ++ ports) ≡ 0)
 nothing_used base [] [] e f = (refl, λ v. refl)

@@ -15,5 +15,5 @@ mod start;
 pub use error::PlaceError;
 use job::{CellKind, Job, NumberedCell};
 use lanes::Lanes;
-pub use placing::place;
+pub use placing::{place, place_at};
 use roles::{Role, Tag};

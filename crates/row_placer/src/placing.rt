@@ -10,11 +10,12 @@ ghost use Rattle.cell_lanes.specs.Computes.{ComputesByProgram};
 ghost use Rattle.cell_core.specs.declared.cells.Src.TheVariants.{One, Zero};
 
 use crate::counting::{count_idle, count_uses};
-use crate::reading::{count_loops, gates_of, homes_of, names_zero, places_of, push_numbers};
+use crate::reading::{count_loops, gates_of, names_zero, places_of, push_numbers};
 use crate::start::start_tags;
 use crate::{Job, Lanes, PlaceError};
 use cell_core::CellList;
 use lane_core::{NetPlace, Program};
+use lane_homes::homes_of;
 use lists::List;
 use std::alloc::Global;
 
@@ -50,12 +51,14 @@ pub struct Prepared {
     pub homes: Vec<u32>,
 }
 
-/// The job of a list, with some spare lanes.
+/// The job of a list, with some spare lanes. The inputs, and then the dark lane, stand on the wanted lanes, if these are apart and above the
+/// loops.
 pub fn prepare(
     alloc: Global,
     list: &CellList,
     loops: u32,
     spare: u32,
+    wanted: &[u32],
 ) -> Result<Prepared, PlaceError>
     requires loops { loops ≡ loop_count list.now }
     requires spare { spare < 2 ^ 20 }
@@ -71,9 +74,9 @@ pub fn prepare(
     let dark = one_if(zero);
     let idle = count_idle(&left, inner + dark);
     let least = first_home(owed, idle, dark);
-    let first = least + spare;
-    let homes = homes_of(alloc, first, inner, zero)?;
-    let start = start_tags(alloc, &homes, &left, first + inner)?;
+    let above = least + spare + list.inputs;
+    let homes = homes_of(alloc, above, list.inputs, loops, zero, wanted)?;
+    let start = start_tags(alloc, &homes, &left, above + loops)?;
     let job = Job {
         gates: List::of(gates),
         base: inner + 1,
@@ -178,8 +181,14 @@ fn ends_of(
     Ok(Ends { outs, nets })
 }
 
-// A program with so many spare lanes that computes the list.
-fn place_with(alloc: Global, list: &CellList, loops: u32, spare: u32) -> Result<Placed, PlaceError>
+// A program with so many spare lanes that computes the list, with inputs on the wanted lanes, if these will do.
+fn place_with(
+    alloc: Global,
+    list: &CellList,
+    loops: u32,
+    spare: u32,
+    wanted: &[u32],
+) -> Result<Placed, PlaceError>
     requires loops { loops ≡ loop_count list.now }
     requires small { list.now.inputs + loop_count list.now + length list.now.outs + length list.now.cells < 2 ^ 20 }
     requires spare { spare < 2 ^ 20 }
@@ -191,7 +200,7 @@ fn place_with(alloc: Global, list: &CellList, loops: u32, spare: u32) -> Result<
     ensures made { IfOk result (λ r. AreAtCells list.now r.program.instrs r.program.nets) }
 {
     let latches = latches_of(alloc, list)?;
-    let Prepared { job, left, homes } = prepare(alloc, list, loops, spare)?;
+    let Prepared { job, left, homes } = prepare(alloc, list, loops, spare, wanted)?;
     let mut left = left;
     let lanes = Lanes::run(alloc, &job, loops, left.as_mut_slice())?;
     let columns = latest(&lanes.clocks);
@@ -210,12 +219,12 @@ fn place_with(alloc: Global, list: &CellList, loops: u32, spare: u32) -> Result<
     Ok(Placed { program, columns })
 }
 
-// How many spare lanes are tried: at most 4, and no more than there are inputs or outputs.
+// The most spare lanes: as many as there are inputs or outputs.
 fn most_spare(list: &CellList) -> u32
-    ensures few { result ≤ 4 }
-    ensures ports { result ≤ max list.now.inputs (length list.now.outs) }
+    requires { list.now.inputs + length list.now.outs < 2 ^ 20 }
+    ensures { result ≡ max list.now.inputs (length list.now.outs) }
 {
-    (list.inputs as usize).max(list.outs.len()).min(4) as u32
+    list.inputs.max(list.outs.len() as u32)
 }
 
 /// A program that computes the list. It is tried with up to 4 spare lanes; which of the programs is kept is free.
@@ -229,12 +238,35 @@ pub fn place(alloc: Global, list: &CellList) -> Result<Program, PlaceError>
     ensures made { IfOk result (λ p. AreAtCells list.now p.instrs p.nets) }
 {
     let loops = count_loops(list);
-    let mut best = place_with(alloc, list, loops, 0)?;
-    for spare in 0..most_spare(list) {
-        let next = place_with(alloc, list, loops, spare + 1)?;
+    let mut best = place_with(alloc, list, loops, 0, &[])?;
+    for spare in 0..most_spare(list).min(4) {
+        let next = place_with(alloc, list, loops, spare + 1, &[])?;
         best = smaller(best, next);
     }
     Ok(best.program)
+}
+
+/// A program that computes the list, with so many lanes more than the fewest, but no more than there are inputs or outputs. `wanted` has
+/// lanes of the inputs, and then one that stays dark where constant 0 is read or shown by a net: they are taken if they are apart and above
+/// the loops.
+pub fn place_at(
+    alloc: Global,
+    list: &CellList,
+    spare: u32,
+    wanted: &[u32],
+) -> Result<Program, PlaceError>
+    requires small { list.now.inputs + loop_count list.now + length list.now.outs + length list.now.cells < 2 ^ 20 }
+    ensures computes { IfOk result (λ p. ComputesByProgram list.now p) }
+    ensures instrs { IfOk result (λ p. length p.instrs ≤ (3 * length list.now.cells + length list.now.outs + 2 * loop_count list.now) * p.lanes) }
+    ensures lanes { IfOk result (λ p. p.lanes ≤ list.now.inputs + 2 * loop_count list.now + length list.now.outs + length list.now.cells + 2 + max list.now.inputs (length list.now.outs)) }
+    ensures empty { IfOk result (λ p. IsEmpty list.now → p.lanes ≡ 0) }
+    ensures entries { IfOk result (λ p. AreAtEntries list.now p.lanes p.ins p.nets) }
+    ensures made { IfOk result (λ p. AreAtCells list.now p.instrs p.nets) }
+{
+    let loops = count_loops(list);
+    let spare = spare.min(most_spare(list));
+    let placed = place_with(alloc, list, loops, spare, wanted)?;
+    Ok(placed.program)
 }
 
 fn latches_of(alloc: Global, list: &CellList) -> Result<Vec<bool>, PlaceError>

@@ -1,6 +1,5 @@
 // A list of cells by numbers of values.
-ghost use Rattle.std.specs.Prelude.{◌≡◌, ◌≤◌, ◌<◌, ◌+◌, ◌-◌, ◌*◌, ◌^◌, ◌++◌, length, All, map, cond, [], ◌∷◌, true, false, IfOk, OnOk};
-ghost use Rattle.std.specs.List.{range_with_len};
+ghost use Rattle.std.specs.Prelude.{◌≡◌, ◌≤◌, ◌<◌, ◌+◌, ◌-◌, ◌*◌, ◌^◌, ◌++◌, length, All, map, true, false, IfOk, OnOk};
 ghost use Rattle.cell_core.specs.Loops.{loop_count};
 ghost use Rattle.row_placer.specs.Numbers.{number, gate_of, IsThere, ReadsWhatIsThere, NamesZero, ReadsThere};
 ghost use Rattle.row_placer.specs.Placed.{net_place_of};
@@ -155,21 +154,4 @@ fn find_place(list: &CellList, loops: u32, homes: &[u32], made: &[NetPlace], src
             after: None,
         },
     }
-}
-
-/// Homes side by side: the inputs, the loops below them, and lane 0 for constant 0 where it is wanted.
-pub fn homes_of(alloc: Global, first: u32, count: u32, zero: bool) -> Result<Vec<u32>, PlaceError>
-    requires { first + count < 2 ^ 32 }
-    ensures { IfOk result (λ v. v.items ≡ map (λ i. first + i) (range_with_len 0 count) ++ cond zero (0 ∷ []) []) }
-{
-    let mut homes = Vec::new(alloc);
-    let mut at = 0;
-    while at < count {
-        homes.push(first + at)?;
-        at += 1;
-    }
-    if zero {
-        homes.push(0)?;
-    }
-    Ok(homes)
 }

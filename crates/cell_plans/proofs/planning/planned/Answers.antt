@@ -1,28 +1,10 @@
-use Rattle.std.proofs.Common.{rules, sym, subst, ◌+◌, ◌*◌, ◌≤◌, length, arith}
-use Rattle.cell_core.specs.Loops.{loop_count}
-use Rattle.latch_loops.specs.Closed.{least_size}
-use Rattle.cell_plans.specs.Counts.{instr_count}
-use Rattle.row_placer.specs.Entries.{AreAtEntries}
-use Rattle.cell_plans.proofs.Counted.{few_instrs}
-use Rattle.cell_plans.proofs.Exits.{at_exits, still_at_entries}
+use Rattle.std.proofs.Common.{◌<◌, arith}
 use Rattle.cell_plans.proofs.planning.planned.Goals as goal
 
-pub returns : goal.returns
-returns c =
-    let list = c.args.list.now in
-    let program = c.in_ok-program.program in
-    let plan = c.in_ok-plan.plan in
-    let closed = c.in_ok-plan.ensures.closed in
-    let few = few_instrs program.instrs (least_size program) c.in_ok-columns.columns.items plan.columns c.in_ok-columns.ensures.packed closed.padded in
+pub closed-requires : goal.closed-requires
+closed-requires c =
+    let e = c.in_ok-program.ensures in
     record {
-      admissible = c.in_ok-plan.ensures.admissible;
-      computes = c.closing_keeps_cells.ensures list program c.in_ok-columns.columns.items plan closed c.in_ok-plan.ensures.same c.in_ok-program.ensures.computes;
-      lanes = search rules;
-      empty = search rules;
-      instrs = subst (λ lanes. instr_count plan.columns ≤ (3 * length list.cells + length list.outs + 2 * loop_count list) * lanes) (sym closed.lanes) (omega (arith, few, c.in_ok-program.ensures.instrs));
-      columns = search rules;
-      entries = subst (λ lanes. AreAtEntries list lanes plan.ins plan.nets) (sym closed.lanes) (subst (λ ins. AreAtEntries list program.lanes ins plan.nets) (sym closed.ins)
-          (still_at_entries list program.lanes program.ins program.instrs program.nets plan.nets closed.nets c.in_ok-program.ensures.entries));
-      exits = at_exits list (least_size program) program.instrs c.in_ok-columns.columns.items plan.columns program.nets plan.nets c.in_ok-columns.ensures.packed closed.padded
-          c.in_ok-program.ensures.entries.long closed.nets c.in_ok-program.ensures.made;
+      small = c.requires;
+      placed = record { computes = e.computes; instrs = e.instrs; lanes = e.lanes; empty = e.empty; entries = e.entries; made = e.made };
     }

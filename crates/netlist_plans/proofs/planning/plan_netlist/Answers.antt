@@ -1,11 +1,11 @@
 use Rattle.netlist_plans.proofs.Bounds.{is_small, computes_cells, loops_many}
 use Rattle.netlist_plans.proofs.Lanes.{has_lanes}
 use Rattle.netlist_plans.proofs.NetPlaces.{net_places}
-use Rattle.netlist_plans.proofs.Taken.{taken, all_fit}
+use Rattle.netlist_plans.proofs.Taken.{taken, all_short}
 use Rattle.netlist_plans.proofs.planning.plan_netlist.Goals as goal
 
-pub best_plan-requires-clause-small : goal.best_plan-requires-clause-small
-best_plan-requires-clause-small c = all_fit c.args.flat.now _ c.requires.weighed c.requires.small c.in_ok-lists.ensures.computes
+pub best_plan-requires-clause-short : goal.best_plan-requires-clause-short
+best_plan-requires-clause-short c = all_short c.args.flat.now _ c.requires.weighed c.requires.small c.in_ok-lists.ensures.computes
 
 pub returns-clause-carries : goal.returns-clause-carries
 returns-clause-carries c =

@@ -19,7 +19,7 @@ loop-spare-preserved c =
     let most = max list.inputs (length list.outs) in
     let e = c.in_ok-next.ensures in
     let next : IsPlacedWithin list most c.in_ok-next.next.program =
-    record { computes = e.computes; instrs = e.instrs; lanes = omega (arith, e.lanes, c.most_spare-spare-end.ensures.ports, c.loop-spare-test.true); empty = λ h. absurd (no_spare list.inputs (loop_count list) (length list.cells) (length list.outs) (length list.nets) c.loop-spare.spare h (omega (arith, c.most_spare-spare-end.ensures.ports, c.loop-spare-test.true))); entries = e.entries; made = e.made } in
+    record { computes = e.computes; instrs = e.instrs; lanes = omega (arith, e.lanes, c.min-spare-end.ensures, c.most_spare.ensures, c.loop-spare-test.true); empty = λ h. absurd (no_spare list.inputs (loop_count list) (length list.cells) (length list.outs) (length list.nets) c.loop-spare.spare h (omega (arith, c.min-spare-end.ensures, c.most_spare.ensures, c.loop-spare-test.true))); entries = e.entries; made = e.made } in
     ⊎_elim
     (λ old. subst (λ (x : Placed). IsPlacedWithin list most x.program) (sym old) c.loop-spare.invariant)
     (λ new. subst (λ (x : Placed). IsPlacedWithin list most x.program) (sym new) next)

@@ -7,8 +7,9 @@ use Rattle.row_placer.specs.Ready.{Ready}
 use Rattle.cell_core.specs.Loops.{loop_count}
 use Rattle.row_placer.specs.Numbers.{gate_of}
 use Rattle.row_placer.specs.Placed.{IsStart, AreAtHome}
-use Rattle.row_placer.proofs.Prepared.{gates_known, gates_below, ports_below, length-ports, start_ready, nothing_used, dark_first}
-use Rattle.row_placer.proofs.Sides.{AreSides, sides, sides_apart, sides_within, sides_homes}
+use Rattle.row_placer.proofs.Prepared.{gates_known, gates_below, ports_below, length-ports, start_ready, nothing_used}
+use Rattle.row_placer.proofs.Sides.{homes_within, homes_of_list}
+use Rattle.lane_homes.specs.Homes.{AreHomesAbove}
 use Rattle.row_placer.proofs.placing.prepare.Goals as goal
 
 pub gates_of-requires : goal.gates_of-requires
@@ -69,9 +70,9 @@ start_tags-requires-clause-within c =
     let inner = list.inputs + c.args.loops in
     let first = c.first_home-least.result + c.args.spare in
     let homes = c.in_ok-homes.homes.items in
-    let some = dark_first dark first (omega (arith, c.first_home-least.ensures.dark, c.one_if-dark.ensures)) in
-    let s = sides first inner dark homes c.in_ok-homes.ensures in
-    subst (All (λ lane. lane < first + inner)) (sym c.deref-3.ensures.value) (sides_within first inner (first + inner) dark homes s some refl)
+    let above = first + list.inputs in
+    let s : AreHomesAbove above list.inputs c.args.loops dark homes = c.in_ok-homes.ensures in
+    subst (All (λ lane. lane < above + c.args.loops)) (sym c.deref-3.ensures.value) (homes_within above list.inputs c.args.loops (above + c.args.loops) dark homes s refl)
 
 pub start_tags-requires-clause-apart : goal.start_tags-requires-clause-apart
 start_tags-requires-clause-apart c =
@@ -89,9 +90,9 @@ start_tags-requires-clause-apart c =
     let inner = list.inputs + c.args.loops in
     let first = c.first_home-least.result + c.args.spare in
     let homes = c.in_ok-homes.homes.items in
-    let some = dark_first dark first (omega (arith, c.first_home-least.ensures.dark, c.one_if-dark.ensures)) in
-    let s = sides first inner dark homes c.in_ok-homes.ensures in
-    subst (AllPairs (λ a b. a ≢ b)) (sym c.deref-3.ensures.value) (sides_apart first inner dark homes s some)
+    let above = first + list.inputs in
+    let s : AreHomesAbove above list.inputs c.args.loops dark homes = c.in_ok-homes.ensures in
+    subst (AllPairs (λ a b. a ≢ b)) (sym c.deref-3.ensures.value) s.apart
 
 pub start_tags-requires-clause-left : goal.start_tags-requires-clause-left
 start_tags-requires-clause-left c =
@@ -109,8 +110,8 @@ start_tags-requires-clause-left c =
     let inner = list.inputs + c.args.loops in
     let first = c.first_home-least.result + c.args.spare in
     let homes = c.in_ok-homes.homes.items in
-    let some = dark_first dark first (omega (arith, c.first_home-least.ensures.dark, c.one_if-dark.ensures)) in
-    let s = sides first inner dark homes c.in_ok-homes.ensures in
+    let above = first + list.inputs in
+    let s : AreHomesAbove above list.inputs c.args.loops dark homes = c.in_ok-homes.ensures in
     omega (arith, ap length c.deref-3.ensures.value, ap length c.deref-4.ensures.value, s.long, small, wide)
 
 pub start_tags-requires-clause-few : goal.start_tags-requires-clause-few
@@ -129,8 +130,8 @@ start_tags-requires-clause-few c =
     let inner = list.inputs + c.args.loops in
     let first = c.first_home-least.result + c.args.spare in
     let homes = c.in_ok-homes.homes.items in
-    let some = dark_first dark first (omega (arith, c.first_home-least.ensures.dark, c.one_if-dark.ensures)) in
-    let s = sides first inner dark homes c.in_ok-homes.ensures in
+    let above = first + list.inputs in
+    let s : AreHomesAbove above list.inputs c.args.loops dark homes = c.in_ok-homes.ensures in
     omega (arith, ap length c.deref-3.ensures.value, s.long, small, at, c.requires.small)
 
 pub invariant_of-job : goal.invariant_of-job
@@ -164,15 +165,15 @@ returns c =
     let inner = list.inputs + c.args.loops in
     let first = c.first_home-least.result + c.args.spare in
     let homes = c.in_ok-homes.homes.items in
-    let some = dark_first dark first (omega (arith, c.first_home-least.ensures.dark, c.one_if-dark.ensures)) in
-    let s = sides first inner dark homes c.in_ok-homes.ensures in
+    let above = first + list.inputs in
+    let s : AreHomesAbove above list.inputs c.args.loops dark homes = c.in_ok-homes.ensures in
     let start = c.in_ok-start.start.items in
-    let is : IsStart homes left (first + inner) start = subst (λ hs. IsStart hs left (first + inner) start) c.deref-3.ensures.value (subst (λ l. IsStart c.deref-3.result.now l (first + inner) start) c.deref-4.ensures.value c.in_ok-start.ensures) in
+    let is : IsStart homes left (above + c.args.loops) start = subst (λ hs. IsStart hs left (above + c.args.loops) start) c.deref-3.ensures.value (subst (λ l. IsStart c.deref-3.result.now l (above + c.args.loops) start) c.deref-4.ensures.value c.in_ok-start.ensures) in
     let counted : AreCounted left (uses_of g ++ ports) = subst (AreCounted left) (ap₂ (λ gs ps. uses_of gs ++ ps) c.deref.ensures.value c.deref-2.ensures.value) c.in_ok-left.ensures.left in
     let owes : c.in_ok-left.owed ≡ owed ports base g = c.in_ok-left.ensures.owed ∙ ap₂ (λ gs ps. owed ps base gs) c.deref.ensures.value c.deref-2.ensures.value in
     let idles : c.count_idle-idle.result ≡ idle left (length homes) = c.count_idle-idle.ensures ∙ ap (idle left) (ap (λ n. inner + n) c.one_if-dark.ensures ∙ sym s.long) in
     let few : c.in_ok-left.owed ≤ length g + length ports + 1 = omega (arith, c.in_ok-left.ensures.few, ap length c.deref.ensures.value, ap length c.deref-2.ensures.value) in
-    let ready = start_ready g ports homes left inner (first + inner) first base dark start is (sides_within first inner (first + inner) dark homes s some refl) counted refl wide s.long c.wants_zero-zero.ensures.used refl
+    let ready = start_ready g ports homes left inner (above + c.args.loops) first base dark start is (homes_within above list.inputs c.args.loops (above + c.args.loops) dark homes s refl) counted refl wide s.long c.wants_zero-zero.ensures.used (omega arith)
     (omega (arith, owes, idles, c.first_home-least.ensures.enough, c.one_if-dark.ensures)) in
     let inner_is : inner ≡ list.inputs + loop_count list = ap (λ n. list.inputs + n) c.requires.loops in
     let many : length ports ≡ loop_count list + length list.outs = length-ports list ports c.requires.sound c.in_ok-ports.ensures in
@@ -183,11 +184,11 @@ returns c =
           (subst (λ gs. Ready (uses_of gs ++ ports) (base + 0) (owed ports (base + 0) gs) start left) (sym c.of.ensures) ready));
       counted = wide ∙ ap (λ n. base + n) (sym (ap length c.of.ensures));
       home = subst (AreAtHome homes) (sym c.of-3.ensures) is.home;
-      homes_of = sides_homes list first (length c.of-3.result) dark homes (subst (λ n. AreSides first n dark homes) inner_is s) some (ap length c.of-3.ensures ∙ is.long ∙ ap (λ n. first + n) inner_is);
+      homes_of = homes_of_list list above (length c.of-3.result) dark homes (subst (λ n. AreHomesAbove above list.inputs n dark homes) c.requires.loops s) (ap length c.of-3.ensures ∙ is.long ∙ ap (λ n. above + n) c.requires.loops);
       zero = λ k d below e. (let one : cond {A = ℕ} dark 1 0 ≡ 1 = ap (λ b. cond {A = ℕ} b 1 0) (c.wants_zero-zero.ensures.nets k d below e) in omega (arith, one, s.long, inner_is));
       ports = subst (All (λ v. v < base + length c.of.result)) (sym c.of-2.ensures) (ports_below list ports (base + length c.of.result) c.requires.sound c.in_ok-ports.ensures (omega (arith, at, ap length c.of.ensures, cells)));
       room = omega (arith, ap length c.of-3.ensures, is.long, inner_is);
-      below = subst (λ n. All (λ lane. lane < n) homes) (sym (ap length c.of-3.ensures ∙ is.long)) (sides_within first inner (first + inner) dark homes s some refl);
+      below = subst (λ n. All (λ lane. lane < n) homes) (sym (ap length c.of-3.ensures ∙ is.long)) (homes_within above list.inputs c.args.loops (above + c.args.loops) dark homes s refl);
       lanes = omega (arith, ap length c.of-3.ensures, is.long, c.first_home-least.ensures.most, c.one_if-dark.ensures, small, few, cells, length-ports list ports c.requires.sound c.in_ok-ports.ensures, inner_is);
       empty = λ (h : list.inputs + loop_count list + length list.cells + length list.outs + length list.nets ≡ 0) (e : c.args.spare ≡ 0).
           (let used = nothing_used base g ports (omega (arith, h, cells)) (omega (arith, h, many)) in

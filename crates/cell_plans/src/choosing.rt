@@ -1,0 +1,175 @@
+// The plan of one of several lists of cells.
+ghost use Rattle.std.specs.Prelude.{◌≡◌, ◌≤◌, ◌<◌, ◌+◌, ◌*◌, ◌^◌, max, length, All, IfOk, IfSome};
+ghost use Rattle.cell_core.specs.Loops.{loop_count};
+ghost use Rattle.cell_lanes.specs.Computes.{ComputesByPlan};
+ghost use Rattle.cell_plans.specs.Counts.{instr_count, tiles};
+ghost use Rattle.cell_plans.specs.Exits.{AreAtExits};
+ghost use Rattle.cell_plans.specs.PlanOf.{IsShort, IsPlanOf, IsPlanOfOne};
+ghost use Rattle.lane_core.specs.Plans.{IsAdmissible};
+ghost use Rattle.row_placer.specs.Empty.{IsEmpty};
+ghost use Rattle.row_placer.specs.Entries.{AreAtEntries};
+
+use crate::PlanError;
+use crate::planning::{climbed_plan, plain_plan, reaches, tiles};
+use cell_core::CellList;
+use cell_order::ending_order;
+use lane_core::Plan;
+use order_climbing::{Climbed, Start, climb};
+use std::alloc::Global;
+use std::slice::from_ref;
+
+/// A plan, and the number of the list that it is of.
+#[derive(Drop)]
+pub struct Chosen {
+    pub plan: Plan,
+    pub list: usize,
+}
+
+// The one with fewer tiles, the first where both have as many.
+fn smaller(lists: &[CellList], first: Chosen, second: Chosen) -> Chosen
+    requires first { IsPlanOfOne lists.now first.list first.plan }
+    requires second { IsPlanOfOne lists.now second.list second.plan }
+    ensures plan { IsPlanOfOne lists.now result.list result.plan }
+    ensures no_larger { (tiles result.plan ≤ tiles first.plan) × (tiles result.plan ≤ tiles second.plan) }
+{
+    let _lists = lists;
+    if tiles(&second.plan) < tiles(&first.plan) {
+        second
+    } else {
+        first
+    }
+}
+
+// The plan of a list, by its number, in one of a few orders.
+fn plain(alloc: Global, lists: &[CellList], number: usize) -> Result<Chosen, PlanError>
+    requires within { number < length lists.now }
+    requires short { All IsShort lists.now }
+    ensures { IfOk result (λ chosen. IsPlanOfOne lists.now chosen.list chosen.plan) }
+{
+    let plan = plain_plan(alloc, &lists[number])?;
+    Ok(Chosen { plan, list: number })
+}
+
+// The smallest of the plans of the lists in a few orders.
+fn best_plain(alloc: Global, lists: &[CellList]) -> Result<Chosen, PlanError>
+    requires some { 0 < length lists.now }
+    requires short { All IsShort lists.now }
+    ensures { IfOk result (λ chosen. IsPlanOfOne lists.now chosen.list chosen.plan) }
+{
+    let mut best = plain(alloc, lists, 0)?;
+    for number in 1..lists.len() {
+        let next = plain(alloc, lists, number)?;
+        best = smaller(lists, best, next);
+    }
+    Ok(best)
+}
+
+// The cells of a list in the order in which they stand, by their numbers.
+fn own_order(alloc: Global, list: &CellList) -> Result<Vec<u32>, PlanError> {
+    let mut order = Vec::with_capacity(alloc, list.cells.len())?;
+    for cell in 0..list.cells.len() {
+        if let Ok(number) = u32::try_from(cell) {
+            order.push(number)?;
+        }
+    }
+    Ok(order)
+}
+
+// The orders of a list in which climbing starts: its own and a few others.
+fn push_starts(
+    alloc: Global,
+    list: &CellList,
+    number: usize,
+    starts: &mut Vec<Start>,
+) -> Result<(), PlanError> {
+    let order = own_order(alloc, list)?;
+    starts.push(Start {
+        list: number,
+        order,
+    })?;
+    for reach in reaches(list) {
+        let order = ending_order(alloc, list, reach)?;
+        starts.push(Start {
+            list: number,
+            order,
+        })?;
+    }
+    Ok(())
+}
+
+// What is climbed to from a few orders of each list.
+fn climb_lists(alloc: Global, lists: &[CellList]) -> Result<Option<Climbed>, PlanError>
+    ensures { IfOk result (λ found. IfSome found (λ climbed. climbed.list < length lists.now)) }
+{
+    let mut starts = Vec::new(alloc);
+    for number in 0..lists.len() {
+        push_starts(alloc, &lists[number], number, &mut starts)?;
+    }
+    let found = climb(alloc, lists, &starts)?;
+    Ok(found)
+}
+
+// The chosen plan, or one that was climbed to and has fewer tiles.
+fn better(
+    alloc: Global,
+    lists: &[CellList],
+    chosen: Chosen,
+    found: &Climbed,
+) -> Result<Chosen, PlanError>
+    requires chosen { IsPlanOfOne lists.now chosen.list chosen.plan }
+    requires within { found.now.list < length lists.now }
+    requires short { All IsShort lists.now }
+    ensures plan { IfOk result (λ next. IsPlanOfOne lists.now next.list next.plan) }
+    ensures no_larger { IfOk result (λ next. tiles next.plan ≤ tiles chosen.plan) }
+{
+    match climbed_plan(alloc, &lists[found.list], found)? {
+        None => Ok(chosen),
+        Some(plan) => {
+            let next = Chosen {
+                plan,
+                list: found.list,
+            };
+            Ok(smaller(lists, chosen, next))
+        }
+    }
+}
+
+/// A plan of one of the lists, the one with the fewest tiles of those that were tried: of each list in a few orders of its cells, and of one
+/// list in an order, on lanes of its inputs and on a number of lanes that were climbed to from these.
+pub fn best_plan(alloc: Global, lists: &[CellList]) -> Result<Chosen, PlanError>
+    requires some { 0 < length lists.now }
+    requires short { All IsShort lists.now }
+    ensures { IfOk result (λ chosen. IsPlanOfOne lists.now chosen.list chosen.plan) }
+{
+    let chosen = best_plain(alloc, lists)?;
+    match climb_lists(alloc, lists)? {
+        None => Ok(chosen),
+        Some(found) => better(alloc, lists, chosen, &found),
+    }
+}
+
+// The plan of one list.
+fn one_plan(alloc: Global, list: &CellList) -> Result<Plan, PlanError>
+    requires short { IsShort list.now }
+    ensures { IfOk result (IsPlanOf list.now) }
+{
+    let Chosen { plan, list } = best_plan(alloc, from_ref(list))?;
+    let _list = list;
+    Ok(plan)
+}
+
+/// The plan of one list, as `best_plan` has it: in each cycle its outputs, its loops and its nets have the bits of their sources.
+pub fn plan_of(alloc: Global, list: &CellList) -> Result<Plan, PlanError>
+    requires small { list.now.inputs + loop_count list.now + length list.now.outs + length list.now.cells < 2 ^ 18 }
+    ensures admissible { IfOk result IsAdmissible }
+    ensures computes { IfOk result (ComputesByPlan list.now) }
+    ensures lanes { IfOk result (λ plan. plan.lanes ≤ list.now.inputs + 2 * loop_count list.now + length list.now.outs + length list.now.cells + 2 + max list.now.inputs (length list.now.outs)) }
+    ensures empty { IfOk result (λ plan. IsEmpty list.now → plan.lanes ≡ 0) }
+    ensures entries { IfOk result (λ plan. AreAtEntries list.now plan.lanes plan.ins plan.nets) }
+    ensures exits { IfOk result (λ plan. AreAtExits list.now plan.columns plan.nets) }
+    ensures instrs { IfOk result (λ plan. instr_count plan.columns ≤ (3 * length list.now.cells + length list.now.outs + 2 * loop_count list.now) * plan.lanes) }
+    ensures columns { IfOk result (λ plan. length plan.columns ≤ (3 * length list.now.cells + length list.now.outs + 2 * loop_count list.now + 1) * (plan.lanes + 1)) }
+{
+    let plan = one_plan(alloc, list)?;
+    Ok(plan)
+}

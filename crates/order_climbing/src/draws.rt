@@ -1,0 +1,31 @@
+// Numbers drawn by chance, the same ones for the same seed: the generator splitmix64.
+
+/// A generator.
+#[derive(Drop)]
+pub struct Draws {
+    state: u64,
+}
+
+impl Draws {
+    /// The generator of a seed.
+    pub fn new(seed: u64) -> Draws {
+        Draws { state: seed }
+    }
+
+    fn next(&mut self) -> u64 {
+        self.state = self.state.wrapping_add(0x9e37_79b9_7f4a_7c15);
+        let mixed = (self.state ^ (self.state >> 30)).wrapping_mul(0xbf58_476d_1ce4_e5b9);
+        let mixed = (mixed ^ (mixed >> 27)).wrapping_mul(0x94d0_49bb_1331_11eb);
+        mixed ^ (mixed >> 31)
+    }
+
+    /// A number below `limit`, or 0 where that is 0.
+    pub fn below(&mut self, limit: usize) -> usize {
+        (self.next() % (limit.max(1) as u64)) as usize
+    }
+
+    /// One of two.
+    pub fn coin(&mut self) -> bool {
+        self.below(2) == 0
+    }
+}

@@ -1,0 +1,185 @@
+// A list of cells by the numbers of its values: inputs, loops, constant 0, and then what the cells make.
+use crate::ClimbError;
+use cell_core::{Cell, CellList, Src};
+use std::alloc::Global;
+
+/// A cell by the numbers of the values that it reads.
+#[derive(Clone, Copy)]
+pub struct Gate {
+    pub first: usize,
+    pub second: usize,
+    /// Whether the first operand must stand above the second.
+    pub is_and_not: bool,
+}
+
+impl Gate {
+    /// Whether it reads a value.
+    pub fn reads(self, value: usize) -> bool {
+        self.first == value || self.second == value
+    }
+}
+
+/// What a list asks of lanes. `ports` are the values of the loops' data and then those of the outputs; `uses` says how often each value
+/// is read.
+#[derive(Drop)]
+pub struct Gates {
+    pub inputs: usize,
+    pub loops: usize,
+    pub gates: Vec<Gate>,
+    pub ports: Vec<usize>,
+    pub uses: Vec<usize>,
+    /// Whether a lane stays dark, for constant 0.
+    pub is_dark: bool,
+}
+
+impl Gates {
+    /// The gates of a list.
+    pub fn of(alloc: Global, list: &CellList) -> Result<Gates, ClimbError> {
+        let one = if list.names_one() { 1 } else { 0 };
+        let mut gates = Gates {
+            inputs: list.inputs as usize,
+            loops: list.starts.len().saturating_add(one),
+            gates: Vec::with_capacity(alloc, list.cells.len())?,
+            ports: Vec::new(alloc),
+            uses: Vec::new(alloc),
+            is_dark: false,
+        };
+        let values = gates.made_by(list.cells.len());
+        gates.uses.resize(values, 0)?;
+        gates.read_cells(list.cells.as_slice(), list.starts.len())?;
+        gates.read_ports(list)?;
+        gates.is_dark = gates.uses_of(gates.zero()) > 0 || names_zero(list.nets.as_slice());
+        Ok(gates)
+    }
+
+    /// The number of constant 0.
+    pub fn zero(&self) -> usize {
+        self.inputs.saturating_add(self.loops)
+    }
+
+    /// The number of what a cell makes.
+    pub fn made_by(&self, cell: usize) -> usize {
+        self.zero().saturating_add(1).saturating_add(cell)
+    }
+
+    /// How often a value is read.
+    pub fn uses_of(&self, value: usize) -> usize {
+        self.uses.get(value).copied().unwrap_or(0)
+    }
+
+    /// The fewest lanes on which the cells can be placed in an order: one for each value that is still read, and for the copies in hand.
+    pub fn fewest_lanes(&self, alloc: Global, order: &[u32]) -> Result<usize, ClimbError> {
+        let mut left = self.uses.as_slice().to_vec(alloc)?;
+        let homes = left.get(..self.made_by(0)).unwrap_or(&[]);
+        let mut live = homes.iter().filter(|uses| **uses > 0).count();
+        let mut most = live;
+        for cell in order {
+            let Some(gate) = self.gates.get(*cell as usize) else {
+                continue;
+            };
+            let ended = use_up(&mut left, gate.first).saturating_add(use_up(
+                &mut left,
+                gate.second,
+            ));
+            most = most.max(live.saturating_add(2).saturating_sub(ended));
+            live = live.saturating_sub(ended);
+            if self.uses_of(self.made_by(*cell as usize)) > 0 {
+                live = live.saturating_add(1);
+            }
+            most = most.max(live);
+        }
+        Ok(most.max(self.fewest_homes()).max(self.ports.len()))
+    }
+
+    /// How many lanes the inputs, the loops and a dark lane take.
+    pub fn fewest_homes(&self) -> usize {
+        let dark = if self.is_dark { 1 } else { 0 };
+        self.zero().saturating_add(dark)
+    }
+
+    /// How many tiles the drawing of so many columns and lanes has.
+    pub fn tiles(&self, columns: usize, lanes: usize) -> u64 {
+        let columns = columns.max(self.loops).max(lanes.min(1)) as u64;
+        let loops = self.loops as u64;
+        let width = columns.saturating_add(loops).saturating_add(loops);
+        width.saturating_mul((lanes as u64).saturating_add(loops))
+    }
+
+    /// The most columns of a drawing on so many lanes that has no more tiles.
+    pub fn most_columns(&self, tiles: u64, lanes: usize) -> u64 {
+        let loops = self.loops as u64;
+        let width = tiles / (lanes as u64).saturating_add(loops).max(1);
+        width.saturating_sub(loops).saturating_sub(loops)
+    }
+
+    // The number of a source, in a list of so many latches.
+    fn number(&self, latches: usize, src: Src) -> usize {
+        match src {
+            Src::Input(i) => i as usize,
+            Src::Latch(i) => self.inputs.saturating_add(i as usize),
+            Src::One => self.inputs.saturating_add(latches),
+            Src::Zero => self.zero(),
+            Src::Cell(i) => self.made_by(i as usize),
+        }
+    }
+
+    // A value is read once more.
+    fn count(&mut self, value: usize) {
+        if let Some(uses) = self.uses.get_mut(value) {
+            *uses = uses.saturating_add(1);
+        }
+    }
+
+    fn read_cells(&mut self, cells: &[Cell], latches: usize) -> Result<(), ClimbError> {
+        for cell in cells {
+            let (first, second, is_and_not) = match *cell {
+                Cell::Or(a, b) | Cell::Xor(a, b) => (a, b, false),
+                Cell::AndNot(a, b) => (a, b, true),
+            };
+            let gate = Gate {
+                first: self.number(latches, first),
+                second: self.number(latches, second),
+                is_and_not,
+            };
+            self.count(gate.first);
+            self.count(gate.second);
+            self.gates.push(gate)?;
+        }
+        Ok(())
+    }
+
+    fn read_port(&mut self, value: usize) -> Result<(), ClimbError> {
+        self.count(value);
+        self.ports.push(value)?;
+        Ok(())
+    }
+
+    fn read_ports(&mut self, list: &CellList) -> Result<(), ClimbError> {
+        let latches = list.starts.len();
+        for src in list.latches.as_slice() {
+            self.read_port(self.number(latches, *src))?;
+        }
+        if list.names_one() {
+            self.read_port(self.number(latches, Src::One))?;
+        }
+        for src in list.outs.as_slice() {
+            self.read_port(self.number(latches, *src))?;
+        }
+        Ok(())
+    }
+}
+
+// A value is read once less; 1 where that was the last time.
+fn use_up(left: &mut [usize], value: usize) -> usize {
+    match left.get_mut(value) {
+        Some(uses) => {
+            *uses = uses.saturating_sub(1);
+            if *uses == 0 { 1 } else { 0 }
+        }
+        None => 0,
+    }
+}
+
+fn names_zero(sources: &[Src]) -> bool {
+    sources.iter().any(|src| *src == Src::Zero)
+}

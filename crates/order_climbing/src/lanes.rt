@@ -1,0 +1,204 @@
+// Lanes as the placer sees them, without instructions: what stands on each, and from which column on it is idle.
+use crate::ClimbError;
+use std::alloc::Global;
+
+/// What stands on a lane is a number: of a value, or of a port, or of an operand in hand, and `nothing` on a free lane. Each but `nothing`
+/// stands on one lane at most, which `places` tells.
+#[derive(Drop)]
+pub struct Lanes {
+    standing: Vec<usize>,
+    clocks: Vec<usize>,
+    places: Vec<usize>,
+    nothing: usize,
+}
+
+/// Where two lanes come side by side: the upper one of the two, and the column after.
+#[derive(Clone, Copy)]
+struct Meeting {
+    at: usize,
+    time: usize,
+}
+
+impl Lanes {
+    /// No lanes yet, for numbers below `nothing`.
+    pub fn new(alloc: Global, nothing: usize) -> Result<Lanes, ClimbError> {
+        let mut places = Vec::new(alloc);
+        places.resize(nothing.saturating_add(1), 0)?;
+        Ok(Lanes {
+            standing: Vec::new(alloc),
+            clocks: Vec::new(alloc),
+            places,
+            nothing,
+        })
+    }
+
+    /// So many lanes, all free, at the first column.
+    pub fn clear(&mut self, lanes: usize) -> Result<(), ClimbError> {
+        self.standing.clear();
+        self.standing.resize(lanes, self.nothing)?;
+        self.clocks.clear();
+        self.clocks.resize(lanes, 0)?;
+        Ok(())
+    }
+
+    /// The lane of a number that stands on one.
+    pub fn place(&self, number: usize) -> usize {
+        self.places.get(number).copied().unwrap_or(0)
+    }
+
+    fn standing_on(&self, lane: usize) -> usize {
+        self.standing.get(lane).copied().unwrap_or(self.nothing)
+    }
+
+    fn clock(&self, lane: usize) -> usize {
+        self.clocks.get(lane).copied().unwrap_or(0)
+    }
+
+    fn set_clock(&mut self, lane: usize, time: usize) {
+        if let Some(clock) = self.clocks.get_mut(lane) {
+            *clock = time;
+        }
+    }
+
+    /// The number stands on the lane.
+    pub fn put(&mut self, lane: usize, number: usize) {
+        if let Some(standing) = self.standing.get_mut(lane) {
+            *standing = number;
+        }
+        if let Some(place) = self.places.get_mut(number) {
+            *place = lane;
+        }
+    }
+
+    /// Nothing stands on the lane.
+    pub fn free(&mut self, lane: usize) {
+        self.put(lane, self.nothing);
+    }
+
+    /// The column after the last instruction.
+    pub fn columns(&self) -> usize {
+        self.clocks.iter().copied().max().unwrap_or(0)
+    }
+
+    /// An instruction on a lane and the next one; the column after it.
+    pub fn tick(&mut self, lane: usize) -> usize {
+        let next = lane.saturating_add(1);
+        let time = self.clock(lane).max(self.clock(next)).saturating_add(1);
+        self.set_clock(lane, time);
+        self.set_clock(next, time);
+        time
+    }
+
+    /// Exchanges a lane and the next one.
+    pub fn swap(&mut self, lane: usize) {
+        let next = lane.saturating_add(1);
+        let (upper, lower) = (self.standing_on(lane), self.standing_on(next));
+        self.tick(lane);
+        self.put(lane, lower);
+        self.put(next, upper);
+    }
+
+    /// Brings a lane to another one; the others keep their order.
+    pub fn bring(&mut self, from: usize, to: usize) {
+        let number = self.standing_on(from);
+        let mut time = self.clock(from);
+        if from < to {
+            for lane in from..to {
+                time = self.shift(lane.saturating_add(1), lane, time);
+            }
+        } else {
+            for past in 0..from - to {
+                let lane = from.saturating_sub(past);
+                time = self.shift(lane.saturating_sub(1), lane, time);
+            }
+        }
+        self.put(to, number);
+        self.set_clock(to, time);
+    }
+
+    // What stands on a lane goes to the one beside it, whose own comes to the lane at that time or later; when it does.
+    fn shift(&mut self, from: usize, to: usize, time: usize) -> usize {
+        let time = time.max(self.clock(from)).saturating_add(1);
+        self.put(to, self.standing_on(from));
+        self.set_clock(to, time);
+        time
+    }
+
+    // Where two lanes come side by side first: the one that can step earlier steps.
+    fn meeting(&self, upper: usize, lower: usize) -> Meeting {
+        let (mut i, mut j) = (upper, lower);
+        let (mut time_i, mut time_j) = (self.clock(i), self.clock(j));
+        for _ in 1..lower.saturating_sub(upper) {
+            let next_i = time_i.max(self.clock(i.wrapping_add(1)));
+            let next_j = time_j.max(self.clock(j.wrapping_sub(1)));
+            if next_i <= next_j {
+                time_i = next_i.wrapping_add(1);
+                i = i.wrapping_add(1);
+            } else {
+                time_j = next_j.wrapping_add(1);
+                j = j.wrapping_sub(1);
+            }
+        }
+        Meeting {
+            at: i,
+            time: time_i.max(time_j).saturating_add(1),
+        }
+    }
+
+    fn meet(&mut self, upper: usize, lower: usize, at: usize) {
+        self.bring(upper, at);
+        self.bring(lower, at.saturating_add(1));
+    }
+
+    /// Brings two lanes side by side: the upper one of the two that they come to.
+    pub fn join(&mut self, upper: usize, lower: usize) -> usize {
+        let at = self.meeting(upper, lower).at;
+        self.meet(upper, lower, at);
+        at
+    }
+
+    fn free_below(&self, lane: usize) -> Option<usize> {
+        let first = lane.saturating_add(1);
+        let below = self.standing.get(first..)?;
+        let more = below.iter().position(|number| *number == self.nothing)?;
+        Some(first.saturating_add(more))
+    }
+
+    fn free_above(&self, lane: usize) -> Option<usize> {
+        let above = self.standing.get(..lane)?;
+        above.iter().rposition(|number| *number == self.nothing)
+    }
+
+    /// Makes a second copy of what stands on a lane, by the free lane that it can meet first: the upper one of the two lanes that then have
+    /// it. There is none where no lane is free.
+    pub fn copy(&mut self, lane: usize) -> Option<usize> {
+        let below = self
+            .free_below(lane)
+            .map(|free| (free, self.meeting(lane, free)));
+        let above = self
+            .free_above(lane)
+            .map(|free| (free, self.meeting(free, lane)));
+        let at = match (below, above) {
+            (Some((free, meeting)), None) => self.copy_down(lane, free, meeting.at),
+            (Some((free, meeting)), Some((_, other)))
+                if meeting.time <= other.time.saturating_add(1) => {
+                self.copy_down(lane, free, meeting.at)
+            }
+            (_, Some((free, meeting))) => self.copy_up(lane, free, meeting.at),
+            (None, None) => return None,
+        };
+        self.tick(at);
+        Some(at)
+    }
+
+    fn copy_down(&mut self, lane: usize, free: usize, at: usize) -> usize {
+        self.meet(lane, free, at);
+        at
+    }
+
+    fn copy_up(&mut self, lane: usize, free: usize, at: usize) -> usize {
+        self.meet(free, lane, at);
+        self.swap(at);
+        at
+    }
+}

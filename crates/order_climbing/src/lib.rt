@@ -1,0 +1,17 @@
+//! Climbs through orders of cells: a bare copy of the placer answers how many columns an order takes, and small changes that do
+//! not make the box larger are kept. Nothing is promised of what is found but its range: whoever takes it checks it.
+//!
+//! Theorem: `climb`.
+#![tactic(auto)]
+
+mod climbing;
+mod draws;
+mod error;
+mod gates;
+mod lanes;
+mod layout;
+mod placing;
+mod starting;
+
+pub use error::ClimbError;
+pub use starting::{Climbed, Start, climb};

@@ -1,0 +1,154 @@
+// How many columns the placer takes for an order of the cells: the placer's own steps, without instructions.
+use crate::ClimbError;
+use crate::gates::{Gate, Gates};
+use crate::lanes::Lanes;
+use crate::layout::Layout;
+use std::alloc::Global;
+
+/// A placer of some gates. It takes memory once; what stands on lanes is numbered as `Lanes` says: values, ports, the two operands.
+#[derive(Drop)]
+pub struct Placer<'a> {
+    gates: &'a Gates,
+    lanes: Lanes,
+    left: Vec<usize>,
+    first: usize,
+    second: usize,
+}
+
+impl<'a> Placer<'a> {
+    /// A placer that has placed nothing.
+    pub fn new(alloc: Global, gates: &'a Gates) -> Result<Placer<'a>, ClimbError> {
+        let first = gates.uses.len().saturating_add(gates.ports.len());
+        let second = first.saturating_add(1);
+        Ok(Placer {
+            gates,
+            lanes: Lanes::new(alloc, second.saturating_add(1))?,
+            left: Vec::with_capacity(alloc, gates.uses.len())?,
+            first,
+            second,
+        })
+    }
+
+    /// How many tiles the drawing of a layout has, if these are at most so many, and the lanes are enough.
+    pub fn tiles(&mut self, layout: &Layout, most: u64) -> Result<Option<u64>, ClimbError> {
+        self.begin(layout)?;
+        let lanes = layout.homes.lanes;
+        let Some(columns) = self.place_all(layout, self.gates.most_columns(most, lanes)) else {
+            return Ok(None);
+        };
+        let tiles = self.gates.tiles(columns, lanes);
+        if tiles > most {
+            return Ok(None);
+        }
+        Ok(Some(tiles))
+    }
+
+    // The lanes at the start.
+    fn begin(&mut self, layout: &Layout) -> Result<(), ClimbError> {
+        self.lanes.clear(layout.homes.lanes)?;
+        self.left.clear();
+        self.left.extend_from_slice(&self.gates.uses)?;
+        for (input, lane) in layout.homes.ins.iter().enumerate() {
+            self.start(input, *lane);
+        }
+        let above = layout.homes.lanes.saturating_sub(self.gates.loops);
+        for number in 0..self.gates.loops {
+            self.start(
+                self.gates.inputs.saturating_add(number),
+                above.saturating_add(number),
+            );
+        }
+        if self.gates.uses_of(self.gates.zero()) > 0 {
+            if let Some(lane) = layout.homes.dark_lane(above) {
+                self.start(self.gates.zero(), lane);
+            }
+        }
+        Ok(())
+    }
+
+    // A value that is used stands on a lane.
+    fn start(&mut self, value: usize, lane: usize) {
+        if self.gates.uses_of(value) > 0 {
+            self.lanes.put(lane, value);
+        }
+    }
+
+    // All gates, ports and loops; how many columns they take. Where a gate comes after so many columns, the rest is not placed.
+    fn place_all(&mut self, layout: &Layout, most: u64) -> Option<usize> {
+        for cell in &layout.order {
+            let gate = *self.gates.gates.get(*cell)?;
+            if self.place_gate(gate, self.gates.made_by(*cell))? as u64 > most {
+                return None;
+            }
+        }
+        self.place_ports()?;
+        self.settle_loops(layout.homes.lanes);
+        Some(self.lanes.columns())
+    }
+
+    // A gate; the column after it.
+    fn place_gate(&mut self, gate: Gate, made: usize) -> Option<usize> {
+        let partner = self.lanes.place(gate.second);
+        self.fetch(gate.first, self.first, partner)?;
+        let partner = self.lanes.place(self.first);
+        self.fetch(gate.second, self.second, partner)?;
+        let (x, y) = (self.lanes.place(self.first), self.lanes.place(self.second));
+        let at = self.lanes.join(x.min(y), x.max(y));
+        if gate.is_and_not && y < x {
+            self.lanes.swap(at);
+        }
+        let time = self.lanes.tick(at);
+        if self.gates.uses_of(made) > 0 {
+            self.lanes.put(at, made);
+        } else {
+            self.lanes.free(at);
+        }
+        self.lanes.free(at.saturating_add(1));
+        Some(time)
+    }
+
+    // One use of a value: a number stands for it on its lane, or on a copy, the one on the partner's side, where there are later uses.
+    fn fetch(&mut self, value: usize, number: usize, partner: usize) -> Option<()> {
+        let left = self.left.get_mut(value)?;
+        *left = left.saturating_sub(1);
+        let is_last = *left == 0;
+        let lane = self.lanes.place(value);
+        if is_last {
+            self.lanes.put(lane, number);
+            return Some(());
+        }
+        let at = self.lanes.copy(lane)?;
+        let next = at.saturating_add(1);
+        let (own, kept) = if partner > at { (next, at) } else { (at, next) };
+        self.lanes.put(own, number);
+        self.lanes.put(kept, value);
+        Some(())
+    }
+
+    // The number that stands for a port.
+    fn port_number(&self, port: usize) -> usize {
+        self.gates.uses.len().saturating_add(port)
+    }
+
+    fn place_ports(&mut self) -> Option<()> {
+        for port in 0..self.gates.ports.len() {
+            let value = *self.gates.ports.get(port)?;
+            let partner = if port < self.gates.loops {
+                usize::MAX
+            } else {
+                0
+            };
+            self.fetch(value, self.port_number(port), partner)?;
+        }
+        Some(())
+    }
+
+    // The loops' data come to the lowest lanes, the first to the lowest.
+    fn settle_loops(&mut self, lanes: usize) {
+        for port in 0..self.gates.loops {
+            let lane = self.lanes.place(self.port_number(port));
+            let to = lanes.saturating_sub(port).saturating_sub(1);
+            self.lanes.bring(lane, to);
+        }
+    }
+}
