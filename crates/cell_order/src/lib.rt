@@ -1,6 +1,6 @@
-//! Puts cells in another order, in which fewer values are needed at a time.
+//! Puts the cells of a list in an order that is given, which it checks; and finds an order in which fewer values are needed at a time.
 //!
-//! Theorem: `reordered`, `alike_is_planned`.
+//! Theorem: `in_order`, `alike_is_planned`.
 #![tactic(auto)]
 
 mod ending;
