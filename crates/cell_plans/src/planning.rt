@@ -44,12 +44,7 @@ fn planned(alloc: Global, list: &CellList) -> Result<Plan, PlanError>
 }
 
 // Such a plan with so many spare lanes and, if they will do, with its inputs and the dark lane on these lanes.
-fn planned_at(
-    alloc: Global,
-    list: &CellList,
-    spare: u32,
-    lanes: &[u32],
-) -> Result<Plan, PlanError>
+fn planned_at(alloc: Global, list: &CellList, spare: u32, lanes: &[u32]) -> Result<Plan, PlanError>
     requires small { list.now.inputs + loop_count list.now + length list.now.outs + length list.now.cells < 2 ^ 18 }
     ensures { IfOk result (IsPlanOf list.now) }
 {
