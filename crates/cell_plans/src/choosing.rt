@@ -149,13 +149,13 @@ pub fn best_plan(alloc: Global, lists: &[CellList]) -> Result<Chosen, PlanError>
 }
 
 // The plan of one list.
+#[tactic(auto, using(crate::proofs::Chosen::only, crate::proofs::Chosen::one_short))]
 fn one_plan(alloc: Global, list: &CellList) -> Result<Plan, PlanError>
     requires short { IsShort list.now }
     ensures { IfOk result (IsPlanOf list.now) }
 {
-    let Chosen { plan, list } = best_plan(alloc, from_ref(list))?;
-    let _list = list;
-    Ok(plan)
+    let chosen = best_plan(alloc, from_ref(list))?;
+    Ok(chosen.plan)
 }
 
 /// The plan of one list, as `best_plan` has it: in each cycle its outputs, its loops and its nets have the bits of their sources.
