@@ -2,4 +2,4 @@ pub mod Drawn
 pub mod Counted
 mod Alike
 mod Exits
-mod Chosen
+mod Single

@@ -149,7 +149,7 @@ pub fn best_plan(alloc: Global, lists: &[CellList]) -> Result<Chosen, PlanError>
 }
 
 // The plan of one list.
-#[tactic(auto, using(crate::proofs::Chosen::only, crate::proofs::Chosen::one_short))]
+#[tactic(auto, using(crate::proofs::Single::one_short))]
 fn one_plan(alloc: Global, list: &CellList) -> Result<Plan, PlanError>
     requires short { IsShort list.now }
     ensures { IfOk result (IsPlanOf list.now) }

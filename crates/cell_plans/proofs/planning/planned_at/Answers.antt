@@ -1,4 +1,3 @@
-use Rattle.std.proofs.Common.{◌<◌, arith}
 use Rattle.cell_plans.proofs.planning.planned_at.Goals as goal
 
 pub closed-requires : goal.closed-requires
