@@ -2,4 +2,4 @@ pub mod Names
 mod Bounds
 mod Lanes
 mod NetPlaces
-mod Taken
+mod OfOne

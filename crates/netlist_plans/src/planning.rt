@@ -9,6 +9,7 @@ ghost use Rattle.plan_carries.specs.Compiled.{ComputesFlat};
 ghost use Rattle.plan_ports.specs.Tables.{HasPortNames, HasTablePlaces, IsTableOf};
 ghost use Rattle.written_reads.specs.Laws.{pattern_text};
 ghost use Rattle.carries.specs.FlatNets.{CarriesFlat};
+ghost use Rattle.netlist_plans.specs.Lists.{IsPlanned};
 ghost use Rattle.netlist_plans.specs.NetPlaces.{HasNetPlaces};
 ghost use Rattle.netlist_plans.specs.Planned.{ComputesCells, HasLanes, IsSmall};
 
@@ -47,6 +48,19 @@ fn cell_lists(alloc: Global, flat: &Flat, order: &Order) -> Result<Vec<CellList>
     Ok(lists)
 }
 
+// The plan of one of these lists.
+fn plan_of_cells(alloc: Global, flat: &Flat, order: &Order) -> Result<Plan, NetlistPlanError>
+    requires sound { IsSound flat.now }
+    requires weighed { IsWeighed flat.now }
+    requires small { flat.now.weight < 2 ^ 16 }
+    requires ordered { IsOrder flat.now order.now.nodes }
+    ensures { IfOk result (IsPlanned flat.now) }
+{
+    let lists = cell_lists(alloc, flat, order)?;
+    let chosen = best_plan(alloc, &lists)?;
+    Ok(chosen.plan)
+}
+
 /// A plan of a sound flat netlist, for an order of its covers in which each comes after those that it reads. Its names and
 /// places are to stand in a port table.
 pub fn plan_netlist(alloc: Global, flat: &Flat, order: &Order) -> Result<Planned, NetlistPlanError>
@@ -66,13 +80,9 @@ pub fn plan_netlist(alloc: Global, flat: &Flat, order: &Order) -> Result<Planned
     ensures places { IfOk result (λ p. HasNetPlaces flat.now p.plan) }
     ensures period { IfOk result (λ p. length flat.now.latches ≡ 0 → any_needs_one flat.now ≡ false → p.ports.p ≡ 32) }
 {
-    let lists = cell_lists(alloc, flat, order)?;
-    let chosen = best_plan(alloc, &lists)?;
+    let plan = plan_of_cells(alloc, flat, order)?;
     plans_have_ports();
-    let ports = of_plan(alloc, flat, &chosen.plan)?;
+    let ports = of_plan(alloc, flat, &plan)?;
     texts_carry_flats();
-    Ok(Planned {
-        plan: chosen.plan,
-        ports,
-    })
+    Ok(Planned { plan, ports })
 }

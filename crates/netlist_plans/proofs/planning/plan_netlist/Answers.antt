@@ -1,46 +1,55 @@
-use Rattle.netlist_plans.proofs.Bounds.{is_small, computes_cells, loops_many}
+use Rattle.std.proofs.Common.{◌∙◌}
+use Rattle.netlist_plans.proofs.Bounds.{is_small, computes_cells, loops_many, short_period}
 use Rattle.netlist_plans.proofs.Lanes.{has_lanes}
 use Rattle.netlist_plans.proofs.NetPlaces.{net_places}
-use Rattle.netlist_plans.proofs.Taken.{taken, all_short}
 use Rattle.netlist_plans.proofs.planning.plan_netlist.Goals as goal
 
-pub best_plan-requires-clause-short : goal.best_plan-requires-clause-short
-best_plan-requires-clause-short c = all_short c.args.flat.now _ c.requires.weighed c.requires.small c.in_ok-lists.ensures.computes
+pub of_plan-requires-clause-ports : goal.of_plan-requires-clause-ports
+of_plan-requires-clause-ports c =
+    let p = c.in_ok-plan.ensures in
+    c.plans_have_ports.ensures c.args.flat.now p.list c.in_ok-plan.plan p.computes p.is.computes
+
+pub returns-clause-admissible : goal.returns-clause-admissible
+returns-clause-admissible c = c.in_ok-plan.ensures.is.admissible
 
 pub returns-clause-carries : goal.returns-clause-carries
 returns-clause-carries c =
-    let t = taken c.args.flat.now _ _ c.in_ok-chosen.chosen.plan c.in_ok-lists.ensures.computes c.in_ok-chosen.ensures in
-    c.texts_carry_flats.ensures c.args.flat.now t.list c.in_ok-chosen.chosen.plan c.in_ok-ports.ports (record {
+    let p = c.in_ok-plan.ensures in
+    c.texts_carry_flats.ensures c.args.flat.now p.list c.in_ok-plan.plan c.in_ok-ports.ports (record {
       sound = c.requires.sound;
       order = c.args.order.now.nodes;
       ordered = c.requires.ordered;
       named = c.requires.named;
       names = c.requires.names;
       places = c.requires.places;
-      list_computes = t.computes;
-      admissible = t.is.admissible;
-      plan_computes = t.is.computes;
+      list_computes = p.computes;
+      admissible = p.is.admissible;
+      plan_computes = p.is.computes;
       table = c.in_ok-ports.ensures;
     })
 
 pub returns-clause-small : goal.returns-clause-small
 returns-clause-small c =
-    let t = taken c.args.flat.now _ _ c.in_ok-chosen.chosen.plan c.in_ok-lists.ensures.computes c.in_ok-chosen.ensures in
-    is_small c.args.flat.now t.list t.computes.mapped c.requires.weighed c.in_ok-chosen.chosen.plan t.is.admissible t.is.computes t.is.lanes t.is.columns t.is.instrs
+    let p = c.in_ok-plan.ensures in
+    is_small c.args.flat.now p.list p.computes.mapped c.requires.weighed c.in_ok-plan.plan p.is.admissible p.is.computes p.is.lanes p.is.columns p.is.instrs
 
 pub returns-clause-cells : goal.returns-clause-cells
 returns-clause-cells c =
-    let t = taken c.args.flat.now _ _ c.in_ok-chosen.chosen.plan c.in_ok-lists.ensures.computes c.in_ok-chosen.ensures in
-    computes_cells c.args.flat.now t.list t.computes.mapped c.requires.weighed c.in_ok-chosen.chosen.plan t.is.admissible t.is.computes t.is.entries t.is.exits
+    let p = c.in_ok-plan.ensures in
+    computes_cells c.args.flat.now p.list p.computes.mapped c.requires.weighed c.in_ok-plan.plan p.is.admissible p.is.computes p.is.entries p.is.exits
 
 pub returns-clause-lanes : goal.returns-clause-lanes
 returns-clause-lanes c =
-    let t = taken c.args.flat.now _ _ c.in_ok-chosen.chosen.plan c.in_ok-lists.ensures.computes c.in_ok-chosen.ensures in
-    has_lanes c.args.flat.now t.list t.computes.mapped c.in_ok-chosen.chosen.plan t.is.admissible t.is.computes c.requires.sound c.requires.weighed t.is.empty
+    let p = c.in_ok-plan.ensures in
+    has_lanes c.args.flat.now p.list p.computes.mapped c.in_ok-plan.plan p.is.admissible p.is.computes c.requires.sound c.requires.weighed p.is.empty
 
 pub returns-clause-places : goal.returns-clause-places
 returns-clause-places c =
-    let t = taken c.args.flat.now _ _ c.in_ok-chosen.chosen.plan c.in_ok-lists.ensures.computes c.in_ok-chosen.ensures in
-    net_places c.args.flat.now t.list t.computes.mapped c.in_ok-chosen.chosen.plan
-    (loops_many c.args.flat.now t.list t.computes.mapped c.requires.weighed c.in_ok-chosen.chosen.plan t.is.admissible t.is.computes)
-    t.is.entries t.is.exits
+    let p = c.in_ok-plan.ensures in
+    net_places c.args.flat.now p.list p.computes.mapped c.in_ok-plan.plan (loops_many c.args.flat.now p.list p.computes.mapped c.requires.weighed c.in_ok-plan.plan p.is.admissible p.is.computes)
+    p.is.entries p.is.exits
+
+pub returns-clause-period : goal.returns-clause-period
+returns-clause-period c none e =
+    let p = c.in_ok-plan.ensures in
+    c.in_ok-ports.ensures.period ∙ short_period c.args.flat.now p.list p.computes.mapped c.requires.weighed c.in_ok-plan.plan p.is.admissible p.is.computes none e
