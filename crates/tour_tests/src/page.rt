@@ -19,11 +19,10 @@ net 2: Cell(0)
 
 pub const LANES: &str = "| column | instructions | lane 0 | lane 1 | lane 2 |
 |---|---|---|---|---|
-| before | |  | en | q |
-| 0 | Swap(0) | en |  | q |
-| 1 | Swap(1) | en | q |  |
-| 2 | Fork(1) | en | q | q |
-| 3 | Xor(0) | n |  | q |
-| 4 | Swap(0) |  | n | q |
-| 5 | Swap(1) |  | q | n |
+| before | | en |  | q |
+| 0 | Swap(1) | en | q |  |
+| 1 | Fork(1) | en | q | q |
+| 2 | Xor(0) | n |  | q |
+| 3 | Swap(0) |  | n | q |
+| 4 | Swap(1) |  | q | n |
 ";
