@@ -1,5 +1,5 @@
 -- The plan of one of several lists.
-use Rattle.std.proofs.Common.{ℕ, List, []}
+use Rattle.std.proofs.Common.{ℕ, List, [], ◌∷◌, absurd, arith}
 use Rattle.std.specs.Prelude.{◌<◌, ◌^◌, All, get_or}
 use Rattle.std.proofs.lemmas.List.Elements.{All-get_or}
 use Rattle.lane_core.specs.declared.plan.Plan.{Plan}
@@ -11,15 +11,13 @@ use Rattle.plan_carries.specs.Compiled.{ComputesFlat}
 use Rattle.netlist_plans.specs.Lists.{IsPlanned}
 use Rattle.netlist_plans.proofs.Bounds.{list_fits}
 
-bare : CellList
-bare = record { inputs = 0; cells = []; outs = []; latches = []; starts = []; nets = [] }
-
 pub is_planned : (flat : Flat) (lists : List CellList) (number : ℕ) (plan : Plan) → All (ComputesFlat flat) lists → IsPlanOfOne lists number plan → IsPlanned flat plan
-is_planned flat lists number plan all (within, is) =
+is_planned flat [] number plan all (within, is) = absurd (omega (arith, within))
+is_planned flat (first ∷ rest) number plan all (within, is) =
     record {
-      list = get_or lists number bare;
-      computes = All-get_or (ComputesFlat flat) lists number bare within all;
-      is = is bare;
+      list = get_or (first ∷ rest) number first;
+      computes = All-get_or (ComputesFlat flat) (first ∷ rest) number first within all;
+      is = is first;
     }
 
 pub all_short : (flat : Flat) (lists : List CellList) → IsWeighed flat → flat.weight < 2 ^ 16 → All (ComputesFlat flat) lists → All IsShort lists
