@@ -1,5 +1,5 @@
 -- The plan of one of several lists.
-use Rattle.std.proofs.Common.{ℕ, List, [], ◌∷◌, absurd, arith}
+use Rattle.std.proofs.Common.{ℕ, List, [], ◌∷◌, arith}
 use Rattle.std.specs.Prelude.{◌<◌, ◌^◌, All, get_or}
 use Rattle.std.proofs.lemmas.List.Elements.{All-get_or}
 use Rattle.lane_core.specs.declared.plan.Plan.{Plan}
