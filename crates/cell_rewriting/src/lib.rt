@@ -1,4 +1,4 @@
-//! Rewrites a list of cells into lists that compute the same with fewer cells. Each replacement of a cell is checked by tables
+//! Rewrites a list of cells into lists that compute the same with no more cells. Each replacement of a cell is checked by tables
 //! over at most six leaves.
 //!
 //! Theorem: `rewritten`, `mapped_stays`, `bits_stay`.
