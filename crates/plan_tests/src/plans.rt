@@ -77,7 +77,7 @@ fn drawn_agrees(alloc: Global, draw: &mut Draw) -> Result<bool, Fail> {
 #[test]
 fn plans_do_what_random_lists_do(rt: HostRuntime) -> Result<(), Fail> {
     let mut draw = Draw { state: 1 };
-    for turn in 0..800u32 {
+    for turn in 0..2000u32 {
         assert!(rt; drawn_agrees(rt.alloc(), &mut draw)?, "list {turn}");
     }
     Ok(())
