@@ -15,3 +15,4 @@ pub mod Lists
 pub mod Due
 pub mod Turns
 pub mod OneColumn
+pub mod Contexts

@@ -7,3 +7,4 @@ pub mod Laws
 pub mod DrivenLaws
 pub mod Due
 pub mod Turns
+pub mod Contexts

@@ -4,6 +4,7 @@ ghost use Rattle.ww_rule.specs.declared.pattern.Injection.{Injection};
 ghost use Rattle.ww_rule.specs.Wireworld.{Plane};
 ghost use Rattle.ww_rule.specs.Laws.{KeepsTranslations, KeepsMirrors, IsUndrivenEvolution, IsLocal, StaysInBox, StaysFinite, StreamsAreInjected};
 ghost use Rattle.ww_rule.specs.Turns.{KeepsTurns, DrivesTurned};
+ghost use Rattle.ww_rule.specs.Contexts.{ContextsAreInjected};
 ghost use Rattle.ww_rule.specs.DrivenLaws.{KeepsMirrorsDown, DrivesAnywhere, IsCausal, IsDrivenLocally, StepsWithInjections, ListsAreInjected, StreamsGoOn};
 
 /// The rule, and every number of generations of it, commute with translations.
@@ -81,6 +82,13 @@ pub fn steps_with_injections()
 /// A list makes due its injections alone; neither their order nor repetition changes what it drives.
 pub fn lists_are_injected()
     ensures { ListsAreInjected }
+{}
+
+/// Contexts inject 32 generations after each other: at generation 32 * context + cycle * period, at the cell of each input
+/// whose bit is 1 in that cycle of that context, and nowhere else. A list with these members injects the same, and one
+/// context what streams inject.
+pub fn contexts_are_injected()
+    ensures { ContextsAreInjected }
 {}
 
 /// Rows of bits behind others change nothing before their own cycles, and rows of 0 bits nothing at all.

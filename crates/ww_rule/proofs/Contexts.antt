@@ -1,0 +1,81 @@
+-- What the rows of contexts make due.
+use Rattle.std.proofs.Common.{ℤ, pos, ℕ, zero, suc, ◌+◌, ◌-◌, ◌*◌, ◌<◌, ◌≤◌, ◌≡◌, refl, sym, ap, ◌∙◌, Bool, true, false, ◌||◌, List, [], ◌∷◌, length, get_or, ⊎_elim, arith}
+use Rattle.std.specs.Prelude.{◌↔◌, nat_le, Contains}
+use Rattle.std.specs.Cmp.{both_ways}
+use Rattle.std.proofs.Math.Path.{fun_ext}
+use Rattle.std.proofs.Math.Bool.{or-false, and-false}
+use Rattle.std.proofs.lemmas.Bool.{true≢false, and_parts, and_from, or_cases, or_left, or_right}
+use Rattle.std.proofs.lemmas.Bool.Decides.{nat_tests}
+use Rattle.ww_rule.specs.declared.pattern.Injection.{Injection}
+use Rattle.ww_rule.specs.Wireworld.{Due}
+use Rattle.ww_rule.specs.Injections.{due_of_list, due_of_streams}
+use Rattle.ww_rule.specs.Contexts.{due_later, due_of_contexts, context_row, IsBitOfContexts, ContextsAreInjected}
+use Rattle.ww_rule.proofs.Streams.{streams_injected}
+use Rattle.ww_rule.proofs.Lists.{lists_are_injected}
+
+-- what is due so many generations later is due after them
+due_before : (generations : ℕ) (due : Due) (g : ℕ) (x y : ℤ) → due_later generations due g x y ≡ true → (generations ≤ g) × (due (g - generations) x y ≡ true)
+due_before generations due g x y e =
+    let parts = and_parts (nat_le generations g) (due (g - generations) x y) e in
+    (grind (arith, nat_tests, parts.0), parts.1)
+
+due_after : (generations : ℕ) (due : Due) (g : ℕ) (x y : ℤ) → generations ≤ g → due (g - generations) x y ≡ true → due_later generations due g x y ≡ true
+due_after generations due g x y late e =
+    and_from (nat_le generations g) (due (g - generations) x y) (grind (arith, nat_tests, late)) e
+
+to_bit : (period : ℕ) (cells : List (ℕ × ℕ)) (contexts : List (List (List Bool))) (g : ℕ) (x y : ℤ) → due_of_contexts period cells contexts g x y ≡ true → IsBitOfContexts period cells contexts g x y
+to_bit period cells [] g x y e = absurd (true≢false (sym e))
+to_bit period cells (rows ∷ contexts) g x y e =
+    ⊎_elim
+    (λ here. (let b = (streams_injected period cells rows g x y).0 here in
+    let time : b.cycle * period ≡ g = b.in_time in
+    record { context = 0; cycle = b.cycle; input = b.input; in_contexts = omega arith; in_time = omega (arith, time); in_cells = b.in_cells; one = b.one; column = b.column; line = b.line }))
+    (λ later. (let due = due_before 32 (due_of_contexts period cells contexts) g x y later in
+    let b = to_bit period cells contexts (g - 32) x y due.1 in
+    let time : 32 * b.context + b.cycle * period ≡ g - 32 = b.in_time in
+    record { context = suc b.context; cycle = b.cycle; input = b.input; in_contexts = omega (arith, b.in_contexts); in_time = omega (arith, time, due.0); in_cells = b.in_cells; one = b.one; column = b.column; line = b.line }))
+    (or_cases (due_of_streams period cells rows g x y) (due_later 32 (due_of_contexts period cells contexts) g x y) e)
+
+of_bit : (period : ℕ) (cells : List (ℕ × ℕ)) (contexts : List (List (List Bool))) (g : ℕ) (x y : ℤ) (context cycle input : ℕ)
+    → context < length contexts → 32 * context + cycle * period ≡ g → input < length cells → get_or (context_row contexts context cycle) input false ≡ true
+    → pos (get_or cells input (0, 0)).0 ≡ x → pos (get_or cells input (0, 0)).1 ≡ y → due_of_contexts period cells contexts g x y ≡ true
+of_bit period cells [] g x y context cycle input among time within one column line = absurd (omega (arith, among))
+of_bit period cells (rows ∷ contexts) g x y zero cycle input among time within one column line =
+    or_left _ _ ((streams_injected period cells rows g x y).1 (record { cycle = cycle; input = input; in_time = omega (arith, time); in_cells = within; one = one; column = column; line = line }))
+of_bit period cells (rows ∷ contexts) g x y (suc context) cycle input among time within one column line =
+    or_right _ _ (due_after 32 (due_of_contexts period cells contexts) g x y (omega (arith, time))
+    (of_bit period cells contexts (g - 32) x y context cycle input (omega (arith, among)) (omega (arith, time)) within one column line))
+
+pub contexts_injected : (period : ℕ) (cells : List (ℕ × ℕ)) (contexts : List (List (List Bool))) (g : ℕ) (x y : ℤ)
+    → (due_of_contexts period cells contexts g x y ≡ true) ↔ IsBitOfContexts period cells contexts g x y
+contexts_injected period cells contexts g x y = (
+  to_bit period cells contexts g x y,
+  λ b. of_bit period cells contexts g x y b.context b.cycle b.input b.in_contexts b.in_time b.in_cells b.one b.column b.line,
+)
+
+-- a list whose members are the injections of contexts
+contexts_listed : (period : ℕ) (cells : List (ℕ × ℕ)) (contexts : List (List (List Bool))) (injections : List Injection)
+    → ((i : Injection) → Contains injections i ↔ IsBitOfContexts period cells contexts i.generation (pos i.x) (pos i.y))
+    → due_of_list injections ≡ due_of_contexts period cells contexts
+contexts_listed period cells contexts injections members = fun_ext (λ g. fun_ext (λ x. fun_ext (λ y. both_ways _ _ (to g x y) (from g x y))))
+  where
+    to : (g : ℕ) (x y : ℤ) → due_of_list injections g x y ≡ true → due_of_contexts period cells contexts g x y ≡ true
+    to g x y e =
+        let h = (lists_are_injected.exactly injections g x y).0 e in
+        let b = (members h.injection).0 h.is_in in
+        of_bit period cells contexts g x y b.context b.cycle b.input b.in_contexts (b.in_time ∙ h.in_time) b.in_cells b.one (b.column ∙ h.column) (b.line ∙ h.row)
+
+    from : (g : ℕ) (x y : ℤ) → due_of_contexts period cells contexts g x y ≡ true → due_of_list injections g x y ≡ true
+    from g x y e =
+        let b = to_bit period cells contexts g x y e in
+        let cell = get_or cells b.input (0, 0) in
+        let i : Injection = record { generation = g; x = cell.0; y = cell.1 } in
+        let is_in = (members i).1 (record { context = b.context; cycle = b.cycle; input = b.input; in_contexts = b.in_contexts; in_time = b.in_time; in_cells = b.in_cells; one = b.one; column = refl; line = refl }) in
+        (lists_are_injected.exactly injections g x y).1 (record { injection = i; is_in = is_in; in_time = refl; column = b.column; row = b.line })
+
+one_context : (period : ℕ) (cells : List (ℕ × ℕ)) (rows : List (List Bool)) → due_of_contexts period cells (rows ∷ []) ≡ due_of_streams period cells rows
+one_context period cells rows = fun_ext (λ g. fun_ext (λ x. fun_ext (λ y.
+    ap (λ b. due_of_streams period cells rows g x y || b) (and-false (nat_le 32 g)) ∙ or-false (due_of_streams period cells rows g x y))))
+
+pub contexts_are_injected : ContextsAreInjected
+contexts_are_injected = record { exactly = contexts_injected; listed = contexts_listed; one = one_context }
