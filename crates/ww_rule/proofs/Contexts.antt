@@ -4,7 +4,8 @@ use Rattle.std.specs.Prelude.{◌↔◌, nat_le, Contains}
 use Rattle.std.specs.Cmp.{both_ways}
 use Rattle.std.proofs.Math.Path.{fun_ext}
 use Rattle.std.proofs.Math.Bool.{or-false, and-false}
-use Rattle.std.proofs.lemmas.Bool.{true≢false, and_parts, and_from, or_cases, or_left, or_right}
+use Rattle.std.proofs.Math.Nat.{mul-le-mul_right, suc-mul}
+use Rattle.std.proofs.lemmas.Bool.{true≢false, and_parts, and_from, or_cases, or_left, or_right, cases_lt}
 use Rattle.std.proofs.lemmas.Bool.Decides.{nat_tests}
 use Rattle.ww_rule.specs.declared.pattern.Injection.{Injection}
 use Rattle.ww_rule.specs.Wireworld.{Due}
@@ -73,9 +74,24 @@ contexts_listed period cells contexts injections members = fun_ext (λ g. fun_ex
         let is_in = (members i).1 (record { context = b.context; cycle = b.cycle; input = b.input; in_contexts = b.in_contexts; in_time = b.in_time; in_cells = b.in_cells; one = b.one; column = refl; line = refl }) in
         (lists_are_injected.exactly injections g x y).1 (record { injection = i; is_in = is_in; in_time = refl; column = b.column; row = b.line })
 
-one_context : (period : ℕ) (cells : List (ℕ × ℕ)) (rows : List (List Bool)) → due_of_contexts period cells (rows ∷ []) ≡ due_of_streams period cells rows
-one_context period cells rows = fun_ext (λ g. fun_ext (λ x. fun_ext (λ y.
+one_is_streams : (period : ℕ) (cells : List (ℕ × ℕ)) (rows : List (List Bool)) → due_of_contexts period cells (rows ∷ []) ≡ due_of_streams period cells rows
+one_is_streams period cells rows = fun_ext (λ g. fun_ext (λ x. fun_ext (λ y.
     ap (λ b. due_of_streams period cells rows g x y || b) (and-false (nat_le 32 g)) ∙ or-false (due_of_streams period cells rows g x y))))
 
 pub contexts_are_injected : ContextsAreInjected
-contexts_are_injected = record { exactly = contexts_injected; listed = contexts_listed; one = one_context }
+contexts_are_injected = record { exactly = contexts_injected; listed = contexts_listed; one = one_is_streams }
+
+not_sooner : (period c t c' t' : ℕ) → 32 * c < period → t < t' → 32 * c + t * period ≡ 32 * c' + t' * period → ⊥
+not_sooner period c t c' t' low sooner same =
+    let more : (t + 1) * period ≤ t' * period = mul-le-mul_right period (omega arith) in
+    let one : (t + 1) * period ≡ t * period + period = (let s : t + 1 ≡ suc t = omega arith in ap (λ n. n * period) s ∙ suc-mul t period) in
+    omega (arith, low, same, more, one)
+
+-- a generation of a cycle of a context is one of no other
+pub one_context : (period c t c' t' : ℕ) → 32 * c < period → 32 * c' < period → 32 * c + t * period ≡ 32 * c' + t' * period → (c ≡ c') × (t ≡ t')
+one_context period c t c' t' low low' same =
+    let no_less : t' ≤ t = ⊎_elim (λ less. absurd (not_sooner period c t c' t' low less same)) (λ more. more) (cases_lt t t') in
+    let no_more : t ≤ t' = ⊎_elim (λ less. absurd (not_sooner period c' t' c t low' less (sym same))) (λ more. more) (cases_lt t' t) in
+    let both : t ≡ t' = omega arith in
+    let times : t * period ≡ t' * period = ap (λ n. n * period) both in
+    (omega (arith, same, times), both)
