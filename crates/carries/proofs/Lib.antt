@@ -1,3 +1,5 @@
 pub mod OneWay
 pub mod Period
 pub mod Cycles
+pub mod ContextCycles
+pub mod OneContext

@@ -4,3 +4,7 @@ pub mod Nets
 pub mod FlatNets
 pub mod Shown
 pub mod Laws
+pub mod Contexts
+pub mod FlatContexts
+pub mod DesignContexts
+pub mod ContextLaws

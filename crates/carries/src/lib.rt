@@ -1,11 +1,12 @@
-//! What it means that a text carries a design, or a flat netlist: the pattern that it spells shows its runs.
+//! What it means that a text carries a design, or a flat netlist, also in several contexts: the pattern that it spells shows its runs.
 //!
 //! The functions here do nothing: their clauses are laws of the definition.
 //!
-//! Theorem: `carries_cycles`, `carries_onward`; definitions `Carries`, `CarriesNets`, `CarriesFlat`.
+//! Theorem: `carries_cycles`, `carries_onward`, `contexts_are_isolated`; definitions `Carries`, `CarriesNets`, `CarriesFlat`, `CarriesContexts`.
 #![tactic(auto)]
 
 ghost use Rattle.carries.specs.Laws.{CarriesInOneWay, OutputsHaveLines};
+ghost use Rattle.carries.specs.ContextLaws.{CarriesEachContext, CarriesNetsOfEachContext, OutputsAreIsolated, NetsAreIsolated, OneContextCarries, OneContextCarriesNets, OneContextCarriesFlat};
 ghost use Rattle.carries.specs.Shown.{CarriesCycles, CarriesNetCycles, CarriesOnward, CarriesEachFront, RowsFitPorts};
 
 /// A text that carries a design reads as one pattern and one table.
@@ -36,4 +37,26 @@ pub fn carries_onward()
 /// Where a table names a design's inputs, rows of input bits have a bit for each IN line.
 pub fn rows_fit_ports()
     ensures { RowsFitPorts }
+{}
+
+/// Driven by rows of input bits in several contexts, a pattern that carries a design in them has the cell of an output as a head
+/// at generation L + 32 c + t P, for each cycle t of context c, exactly when the output's bit is 1 in that cycle of a run on the
+/// rows of c, and never below L; and the cell of a net so at generation offset + 32 c + t P.
+pub fn carries_each_context()
+    ensures outputs { CarriesEachContext }
+    ensures nets { CarriesNetsOfEachContext }
+{}
+
+/// At these generations such a pattern shows the same under two drives that agree on context c, whatever the rows of the other
+/// contexts are.
+pub fn contexts_are_isolated()
+    ensures outputs { OutputsAreIsolated }
+    ensures nets { NetsAreIsolated }
+{}
+
+/// To carry a design, its nets or a flat netlist in one context, from the start on, is to carry it.
+pub fn one_context_carries()
+    ensures design { OneContextCarries }
+    ensures nets { OneContextCarriesNets }
+    ensures flat { OneContextCarriesFlat }
 {}

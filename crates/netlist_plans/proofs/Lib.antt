@@ -3,3 +3,6 @@ mod Bounds
 mod Lanes
 mod NetPlaces
 mod OfOne
+mod Newlines
+mod Lines
+mod Words

@@ -9,8 +9,8 @@ use Rattle.netlist_core.specs.Names.{Name}
 use Rattle.netlist_meaning.specs.InOrder.{nets_in_order}
 use Rattle.netlist_meaning.specs.FlatOf.{flat_net}
 use Rattle.blif_text.specs.LogicalLines.{is_space, is_newline}
-use Rattle.text_names.specs.TextNames.{IsNameWord}
-use Rattle.text_names.proofs.Words.{nets_are_words}
+use Rattle.netlist_plans.specs.TextNames.{IsNameWord}
+use Rattle.netlist_plans.proofs.Words.{nets_are_words}
 use Rattle.sound_designs.proofs.Sound.{not_recursive}
 use Rattle.flat_designs.proofs.Listed.{nets_are_listed}
 use Rattle.pattern_reading.specs.Spelling.{IsPortName}

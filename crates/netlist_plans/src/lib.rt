@@ -7,9 +7,16 @@ mod error;
 mod planning;
 
 ghost use Rattle.netlist_plans.specs.Names.{TextsHavePortNames};
+ghost use Rattle.netlist_plans.specs.TextNames.{NamesAreWords, NetsAreWords};
 
 pub use error::NetlistPlanError;
 pub use planning::{Planned, plan_netlist};
+
+/// The names of a text's models, and so those of its design's nets, have a byte and no blank.
+pub fn names_are_words()
+    ensures names { NamesAreWords }
+    ensures nets { NetsAreWords }
+{}
 
 /// The names of the flat netlist of a text's design can stand in a port table.
 pub fn texts_have_port_names()

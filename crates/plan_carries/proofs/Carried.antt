@@ -1,27 +1,33 @@
--- The plane of a plan that computes a list of cells, which computes a flat netlist, shows the netlist's runs.
-use Rattle.std.proofs.Common.{◌≡◌, sym, ◌∙◌, ap, ap₂, subst, pos, ℕ, zero, suc, ◌+◌, ◌*◌, ◌<◌, ◌≤◌, Bool, true, false, ⊎_elim, List, [], ◌++◌, length, map, get_or, arith, ◌↔◌}
-use Rattle.std.specs.Prelude.{Some, None, slice_get, slice_index}
+-- The plane of a plan that computes a list of cells, which computes a flat netlist, shows the netlist's runs in each context.
+use Rattle.std.proofs.Common.{◌≡◌, ◌↔◌, refl, sym, ◌∙◌, ap, ap₂, subst, pos, ℕ, zero, suc, ◌+◌, ◌*◌, ◌<◌, ◌≤◌, Bool, true, false, ⊎_elim, List, [], ◌∷◌, ◌++◌, length, map, get_or, arith}
+use Rattle.std.specs.Prelude.{Option, Some, None, slice_get, slice_index}
 use Rattle.std.proofs.lemmas.Bool.{cases_lt}
 use Rattle.std.proofs.lemmas.List.{length-map, get_or-map}
-use Rattle.std.proofs.lemmas.List.Elements.{All-get_or}
-use Rattle.std.proofs.lemmas.Option.{slice_get-get_or, slice_get_within, get_or_from_slice_get}
+use Rattle.std.proofs.lemmas.List.Elements.{All-get_or, All-nil, All-cons}
+use Rattle.std.proofs.lemmas.Option.{slice_get-get_or, slice_get_within, get_or_from_slice_get, none-some, same_Some}
 use Rattle.std.proofs.lemmas.Simd.{map-map}
 use Rattle.std.proofs.Math.Nat.{mul-le-mul_right}
 use Rattle.ww_rule.specs.declared.pattern.State.TheVariants.{Head}
 use Rattle.ww_rule.specs.Wireworld.{driven}
-use Rattle.ww_rule.specs.Injections.{due_of_streams, MeetsConductors}
+use Rattle.ww_rule.specs.Injections.{MeetsConductors}
+use Rattle.ww_rule.specs.Contexts.{due_of_contexts}
 use Rattle.tile_core.specs.declared.kind.Kind.{Kind}
 use Rattle.tile_core.specs.Drawing.{Drawing}
+use Rattle.tiling.specs.Tiling.{Lit}
 use Rattle.tiling.specs.Steps.{KeepsLaw}
 use Rattle.lane_core.specs.declared.plan.NetPlace.{NetPlace}
 use Rattle.lane_core.specs.declared.plan.Plan.{Plan}
 use Rattle.lane_core.specs.Instrs.{bit_on}
 use Rattle.lane_core.specs.Columns.{after_columns}
 use Rattle.lane_core.specs.Plans.{left_of, row_of, latency_of, period_of, net_place, net_cell_of, cell_after}
-use Rattle.lane_core.specs.Entering.{first_loop_lane, row_bits, entry_bits, leaving, bits_after}
-use Rattle.plan_layout.specs.Planes.{start_plane}
-use Rattle.plan_waves.specs.InputRows.{drive_of_rows, bits_of_rows}
-use Rattle.plan_waves.proofs.Rows.{plans_show_rows}
+use Rattle.lane_core.specs.Entering.{first_loop_lane, row_bits, entry_bits, leaving, entering_bits, bits_after}
+use Rattle.plan_layout.specs.Starts.{start_edges}
+use Rattle.plan_layout.specs.Planes.{plane_with, start_plane}
+use Rattle.plan_waves.specs.Contexts.{StartsContexts}
+use Rattle.plan_waves.specs.ShownContexts.{ShowsContextBits}
+use Rattle.plan_waves.specs.ContextRows.{drive_of_contexts, bits_of_context_rows}
+use Rattle.plan_waves.proofs.ContextRows.{plans_show_context_rows}
+use Rattle.plan_waves.proofs.OneContext.{one_context_starts}
 use Rattle.cell_core.specs.declared.list.CellList.{CellList}
 use Rattle.cell_core.specs.Meaning.{Fits}
 use Rattle.cell_core.specs.Loops.{loop_state}
@@ -35,37 +41,41 @@ use Rattle.netlist_core.specs.declared.flat.Net.{Net as FlatNet}
 use Rattle.netlist_meaning.specs.Flat.{class_of, nets_but_clocks}
 use Rattle.netlist_meaning.specs.FlatValuation.{AreFlatRows, IsFlatRun, start_bits, flat_state_in, flat_output_bit}
 use Rattle.cover_mapper.specs.Mapped.{HasBits}
-use Rattle.carries.specs.Cells.{ShowsBitsFrom, ShowsOutputs, ShowsNetLines, drive}
+use Rattle.carries.specs.Contexts.{AreRunsFrom, context_drive, ShowsBitsInContexts, ShowsOutputsInContexts, ShowsNetLinesInContexts}
+use Rattle.carries.specs.FlatContexts.{AreFlatContexts, ShowsFlatContexts}
+use Rattle.carries.proofs.OneContext.{flat_from_contexts}
 use Rattle.plan_ports.specs.Tables.{IsTableOf}
 use Rattle.plan_ports.proofs.GatheredNets.{place_of_line}
 use Rattle.plan_carries.specs.Compiled.{ComputesFlat, IsCompiled}
 use Rattle.plan_carries.specs.Laws.{PlanesShowRuns}
+use Rattle.plan_carries.specs.ContextLaws.{StartsLatches, PlanesShowContexts}
 use Rattle.plan_carries.proofs.Runs.{state_long, has_run}
 
--- what shows a bit each cycle shows it in the first cycles
-pub in_cycles : (period first cycles g : ℕ) (head : Type 0) (shown bit : ℕ → Bool) → ((t : ℕ) → t < cycles → shown t ≡ bit t) → g < first + cycles * period
-    → (head ↔ ((t : ℕ) × (g ≡ first + t * period) × (shown t ≡ true)))
-    → (head ↔ ((t : ℕ) × (t < cycles) × (g ≡ first + t * period) × (bit t ≡ true)))
-in_cycles period first cycles g head shown bit same early is = (
+-- what shows a bit in each cycle of each context shows it in the first cycles
+pub in_contexts : (period first count cycles g : ℕ) (head : Type 0) (shown bit : ℕ → ℕ → Bool) → ((c t : ℕ) → c < count → t < cycles → shown c t ≡ bit c t) → g < first + cycles * period
+    → (head ↔ ((c : ℕ) × (t : ℕ) × (c < count) × (g ≡ first + 32 * c + t * period) × (shown c t ≡ true)))
+    → (head ↔ ((c : ℕ) × (t : ℕ) × (c < count) × (t < cycles) × (g ≡ first + 32 * c + t * period) × (bit c t ≡ true)))
+in_contexts period first count cycles g head shown bit same early is = (
   λ h. (let found = is.0 h in
-      let soon : found.0 < cycles = below found.0 found.1 in
-      (found.0, soon, found.1, sym (same found.0 soon) ∙ found.2)),
-  λ b. is.1 (b.0, b.2, same b.0 b.1 ∙ b.3),
+      let soon : found.1 < cycles = below found.0 found.1 found.3 in
+      (found.0, found.1, found.2, soon, found.3, sym (same found.0 found.1 found.2 soon) ∙ found.4)),
+  λ b. is.1 (b.0, b.1, b.2, b.4, same b.0 b.1 b.2 b.3 ∙ b.5),
 )
   where
-    below : (t : ℕ) → g ≡ first + t * period → t < cycles
-    below t e =
+    below : (c t : ℕ) → g ≡ first + 32 * c + t * period → t < cycles
+    below c t e =
         ⊎_elim
         (λ lt. lt)
         (λ ge. (let more : cycles * period ≤ t * period = mul-le-mul_right period ge in absurd (omega (arith, early, e, more))))
         (cases_lt t cycles)
 
-pub same_drive : (flat : Flat) (plan : Plan) (ports : Ports) → IsTableOf flat plan ports → (rows : List (List Bool)) → drive ports rows ≡ drive_of_rows plan rows
-same_drive flat plan ports table rows = ap₂ (λ p cells. due_of_streams p cells rows) table.period table.in_cells
+pub same_drive : (flat : Flat) (plan : Plan) (ports : Ports) → IsTableOf flat plan ports → (contexts : List (List (List Bool))) → context_drive ports contexts ≡ drive_of_contexts plan contexts
+same_drive flat plan ports table contexts = ap₂ (λ p cells. due_of_contexts p cells contexts) table.period table.in_cells
 
--- a run on rows, of a list that computes the flat netlist and a plan that computes the list
+-- a run on rows from a start on, of a list that computes the flat netlist and a plan that computes the list
 module _ (flat : Flat) (list : CellList) (plan : Plan) (f : ComputesFlat flat list) (c : ComputesByPlan list plan)
-    (rows : List (List Bool)) (are : AreFlatRows flat rows) (run : ℕ → ℕ → Bool) (is : IsFlatRun flat (start_bits flat) rows run) where
+    (start : List Bool) (long : length start ≡ length flat.latches)
+    (rows : List (List Bool)) (are : AreFlatRows flat rows) (run : ℕ → ℕ → Bool) (is : IsFlatRun flat start rows run) where
   abbrev free : ℕ
   free = first_loop_lane plan.lanes plan.latches
 
@@ -73,7 +83,11 @@ module _ (flat : Flat) (list : CellList) (plan : Plan) (f : ComputesFlat flat li
   row t = get_or rows t []
 
   abbrev state : ℕ → List Bool
-  state t = flat_state_in flat (start_bits flat) run t
+  state t = flat_state_in flat start run t
+
+  -- what enters the columns in a cycle
+  abbrev pub entering_run : ℕ → List Bool
+  entering_run t = entering_bits free plan.columns (λ i. row_bits free plan.ins (row i)) (loop_state list start) t
 
   has : (t : ℕ) → t < length rows → HasBits flat list (row t) (state t) (run t)
   has t lt = f.bits (row t) (state t) (run t) (is t (row t) (slice_get-get_or rows t [] lt))
@@ -81,12 +95,12 @@ module _ (flat : Flat) (list : CellList) (plan : Plan) (f : ComputesFlat flat li
   fits : (t : ℕ) → t < length rows → Fits list (row t) (state t)
   fits t lt = record {
     row = All-get_or (λ r. length r ≡ length flat.ins) rows t [] lt are ∙ sym f.mapped.inputs;
-    latches = state_long flat (start_bits flat) run t (length-map flat.latches _) ∙ sym (length-map flat.latches _) ∙ ap length (sym f.mapped.starts);
+    latches = state_long flat start run t long ∙ sym (length-map flat.latches _) ∙ ap length (sym f.mapped.starts);
   }
 
-  -- what enters the columns in a cycle: the row's bits, and on the loops the state of the latches
-  enters : (t : ℕ) → t ≤ length rows → bits_of_rows plan rows t ≡ entry_bits free plan.ins (row t) (loop_state list (state t))
-  enters zero h = ap (λ s. row_bits free plan.ins (row 0) ++ s) (c.starts ∙ ap (loop_state list) f.mapped.starts)
+  -- the row's bits, and on the loops the state of the latches
+  enters : (t : ℕ) → t ≤ length rows → entering_run t ≡ entry_bits free plan.ins (row t) (loop_state list (state t))
+  enters zero h = refl
   enters (suc t) h =
       ap (λ bits. row_bits free plan.ins (row (suc t)) ++ leaving free (after_columns plan.columns bits)) (enters t (omega arith))
       ∙ ap (λ s. row_bits free plan.ins (row (suc t)) ++ s) (c.bits.loops_leave (row t) (state t) (fits t (omega arith)))
@@ -94,7 +108,7 @@ module _ (flat : Flat) (list : CellList) (plan : Plan) (f : ComputesFlat flat li
 
   -- an output's bit is the one on its lane
   pub output_shown : (i t : ℕ) → i < length plan.outs → t < length rows
-      → bit_on (after_columns plan.columns (bits_of_rows plan rows t)) (slice_index plan.outs i) ≡ flat_output_bit flat (run t) i
+      → bit_on (after_columns plan.columns (entering_run t)) (slice_index plan.outs i) ≡ flat_output_bit flat (run t) i
   output_shown i t within lt =
       ap (λ bits. bit_on (after_columns plan.columns bits) (slice_index plan.outs i)) (enters t (omega arith))
       ∙ sym (get_or-map (bit_on (after_columns plan.columns (entry_bits free plan.ins (row t) (loop_state list (state t))))) plan.outs i 0 false within)
@@ -104,7 +118,7 @@ module _ (flat : Flat) (list : CellList) (plan : Plan) (f : ComputesFlat flat li
 
   -- and so is a net's, after the column of its place
   pub net_shown : (i t : ℕ) (net : FlatNet) → i < length plan.nets → t < length rows → slice_get (nets_but_clocks flat) i ≡ Some net
-      → bit_on (bits_after after_columns plan.columns (net_place plan i).after (bits_of_rows plan rows t)) (net_place plan i).lane ≡ run t net.class
+      → bit_on (bits_after after_columns plan.columns (net_place plan i).after (entering_run t)) (net_place plan i).lane ≡ run t net.class
   net_shown i t net within lt is_net =
       ap (λ bits. bit_on (bits_after after_columns plan.columns (net_place plan i).after bits) (net_place plan i).lane) (enters t (omega arith))
       ∙ sym (get_or-map (λ (place : NetPlace). bit_on (bits_after after_columns plan.columns place.after (entry_bits free plan.ins (row t) (loop_state list (state t)))) place.lane) plan.nets i (record { lane = 0; after = None }) false within)
@@ -136,22 +150,6 @@ cell_is flat plan ports table output cell e =
           ∙ get_or-map (out_place plan) plan.outs output 0 (0, 0) within,
     )
 
--- each output's cell shows its bits
-outputs_shown : (library : Kind → Drawing) → KeepsLaw library → (flat : Flat) (list : CellList) (plan : Plan) (ports : Ports) → IsCompiled flat list plan ports
-    → (rows : List (List Bool)) → AreFlatRows flat rows → (run : ℕ → ℕ → Bool) → IsFlatRun flat (start_bits flat) rows run → ShowsOutputs (start_plane library plan) ports rows (λ t. flat_output_bit flat (run t))
-outputs_shown library law flat list plan ports c rows are run is output cell e g early =
-    let place = cell_is flat plan ports c.table output cell e in
-    let bits : ℕ → Bool = λ t. flat_output_bit flat (run t) output in
-    let soon : g < latency_of plan + length rows * period_of plan = subst (λ n. g < n) (ap₂ (λ l p. l + length rows * p) c.table.latency c.table.period) early in
-    let shown = in_cycles (period_of plan) (latency_of plan) (length rows) g
-    (driven (drive_of_rows plan rows) (start_plane library plan) g (pos (left_of plan (length plan.columns))) (pos (row_of (slice_index plan.outs output))) ≡ Head)
-    (λ t. bit_on (after_columns plan.columns (bits_of_rows plan rows t)) (slice_index plan.outs output)) bits
-    (λ t lt. output_shown flat list plan c.list_computes c.plan_computes rows are run is output t place.0 lt) soon ((plans_show_rows library law plan c.admissible rows).outs output place.0 g) in
-    subst (λ due. ShowsBitsFrom ports.l ports.p (length rows) bits g (driven due (start_plane library plan) g) cell.x cell.y) (sym (same_drive flat plan ports c.table rows))
-    (subst (λ l. ShowsBitsFrom l ports.p (length rows) bits g (driven (drive_of_rows plan rows) (start_plane library plan) g) cell.x cell.y) (sym c.table.latency)
-    (subst (λ p. ShowsBitsFrom (latency_of plan) p (length rows) bits g (driven (drive_of_rows plan rows) (start_plane library plan) g) cell.x cell.y) (sym c.table.period)
-    (subst (λ at. ShowsBitsFrom (latency_of plan) (period_of plan) (length rows) bits g (driven (drive_of_rows plan rows) (start_plane library plan) g) at.0 at.1) (sym place.1) shown)))
-
 abbrev net_cell : Plan → NetPlace → ℕ × ℕ × ℕ
 net_cell plan place = cell_after plan place.lane place.after
 
@@ -171,27 +169,105 @@ net_cell_is flat plan ports table number line e =
           ∙ get_or-map (net_cell plan) plan.nets number (record { lane = 0; after = None }) (0, 0, 0) within,
     )
 
--- and each net's cell the bits of its class
-nets_shown : (library : Kind → Drawing) → KeepsLaw library → (flat : Flat) (list : CellList) (plan : Plan) (ports : Ports) → IsCompiled flat list plan ports
-    → (rows : List (List Bool)) → AreFlatRows flat rows → (run : ℕ → ℕ → Bool) → IsFlatRun flat (start_bits flat) rows run → ShowsNetLines (start_plane library plan) ports rows (nets_but_clocks flat) (λ t net. run t net.class)
-nets_shown library law flat list plan ports c rows are run is number net line is_net is_line g early =
-    let place = net_cell_is flat plan ports c.table number line is_line in
-    let cell = net_cell_of plan number in
-    let bits : ℕ → Bool = λ t. run t net.class in
-    let soon : g < cell.2 + length rows * period_of plan = subst (λ n. g < n) (ap₂ (λ at p. at + length rows * p) (ap (λ c. c.2) place.1) c.table.period) early in
-    let shown = in_cycles (period_of plan) cell.2 (length rows) g
-    (driven (drive_of_rows plan rows) (start_plane library plan) g (pos cell.0) (pos cell.1) ≡ Head)
-    (λ t. bit_on (bits_after after_columns plan.columns (net_place plan number).after (bits_of_rows plan rows t)) (net_place plan number).lane) bits
-    (λ t lt. net_shown flat list plan c.list_computes c.plan_computes rows are run is number t net place.0 lt is_net)
-    soon ((plans_show_rows library law plan c.admissible rows).nets number place.0 g) in
-    subst (λ due. ShowsBitsFrom line.offset ports.p (length rows) bits g (driven due (start_plane library plan) g) line.x line.y) (sym (same_drive flat plan ports c.table rows))
-    (subst (λ p. ShowsBitsFrom line.offset p (length rows) bits g (driven (drive_of_rows plan rows) (start_plane library plan) g) line.x line.y) (sym c.table.period)
-    (subst (λ (at : ℕ × ℕ × ℕ). ShowsBitsFrom at.2 (period_of plan) (length rows) bits g (driven (drive_of_rows plan rows) (start_plane library plan) g) at.0 at.1) (sym place.1) shown))
+-- the plane of what is compiled, with edges that start these contexts
+module _ (library : Kind → Drawing) (law : KeepsLaw library) (flat : Flat) (list : CellList) (plan : Plan) (ports : Ports)
+    (k : IsCompiled flat list plan ports) (starts : List (List Bool)) (lit : Lit) (s : StartsLatches flat list plan starts lit) where
+  abbrev on_loops : List (List Bool)
+  on_loops = map (loop_state list) starts
+
+  shows : (contexts : List (List (List Bool))) → length contexts ≡ length starts
+      → ShowsContextBits library plan lit (drive_of_contexts plan contexts) (length contexts) (bits_of_context_rows plan on_loops contexts)
+  shows contexts many =
+      let all : length contexts ≡ length on_loops = many ∙ sym (length-map starts (loop_state list)) in
+      subst (λ n. ShowsContextBits library plan lit (drive_of_contexts plan contexts) n (bits_of_context_rows plan on_loops contexts)) (sym all)
+      (plans_show_context_rows library law plan k.admissible on_loops lit s.on_plan contexts all)
+
+  long : (c : ℕ) (start : List Bool) → slice_get starts c ≡ Some start → length start ≡ length flat.latches
+  long c start e =
+      ap length (sym (get_or_from_slice_get starts c start start e)) ∙ All-get_or (λ (bits : List Bool). length bits ≡ length flat.latches) starts c start (slice_get_within starts c start e) s.long
+
+  conductors : (cycles : ℕ) (contexts : List (List (List Bool))) → AreFlatContexts flat (length starts) cycles contexts → MeetsConductors (context_drive ports contexts) (plane_with library plan lit)
+  conductors cycles contexts are =
+      subst (λ due. MeetsConductors due (plane_with library plan lit)) (sym (same_drive flat plan ports k.table contexts)) (shows contexts are.many).conductors
+
+  has_runs : (cycles : ℕ) (contexts : List (List (List Bool))) → AreFlatContexts flat (length starts) cycles contexts → (runs : ℕ → ℕ → ℕ → Bool) × AreRunsFrom (IsFlatRun flat) starts contexts runs
+  has_runs cycles contexts are = (λ c. (of c).0, λ c start e. (of c).1 start e)
+    where
+      by : (c : ℕ) (o : Option (List Bool)) → slice_get starts c ≡ o → (run : ℕ → ℕ → Bool) × ((start : List Bool) → slice_get starts c ≡ Some start → IsFlatRun flat start (get_or contexts c []) run)
+      by c None none = (λ t class. false, λ start e. absurd (none-some start (sym none ∙ e)))
+      by c (Some start) some =
+          let low : c < length contexts = (let within = slice_get_within starts c start some in omega (arith, within, are.many)) in
+          let r = has_run flat k.sound k.order k.ordered start (long c start some) (get_or contexts c []) (are.each c [] low) in
+          (r.0, λ other e. subst (λ (bits : List Bool). IsFlatRun flat bits (get_or contexts c []) r.0) (same_Some start other (sym some ∙ e)) r.1)
+
+      of : (c : ℕ) → (run : ℕ → ℕ → Bool) × ((start : List Bool) → slice_get starts c ≡ Some start → IsFlatRun flat start (get_or contexts c []) run)
+      of c = by c (slice_get starts c) refl
+
+  -- runs on rows in each context
+  module _ (cycles : ℕ) (contexts : List (List (List Bool))) (are : AreFlatContexts flat (length starts) cycles contexts)
+      (runs : ℕ → ℕ → ℕ → Bool) (each : AreRunsFrom (IsFlatRun flat) starts contexts runs) where
+    abbrev start_of : ℕ → List Bool
+    start_of c = get_or starts c []
+
+    some_start : (c : ℕ) → c < length contexts → slice_get starts c ≡ Some (start_of c)
+    some_start c low = slice_get-get_or starts c [] (omega (arith, low, are.many))
+
+    -- what enters in a context is what enters in its run
+    same_bits : (c t : ℕ) → c < length contexts → bits_of_context_rows plan on_loops contexts c t
+        ≡ entering_bits (first_loop_lane plan.lanes plan.latches) plan.columns (λ i. row_bits (first_loop_lane plan.lanes plan.latches) plan.ins (get_or (get_or contexts c []) i [])) (loop_state list (start_of c)) t
+    same_bits c t low =
+        ap (λ (bits : List Bool). entering_bits (first_loop_lane plan.lanes plan.latches) plan.columns (λ i. row_bits (first_loop_lane plan.lanes plan.latches) plan.ins (get_or (get_or contexts c []) i [])) bits t)
+        (get_or-map (loop_state list) starts c [] [] (omega (arith, low, are.many)))
+
+    outputs_shown : ShowsOutputsInContexts (plane_with library plan lit) ports cycles contexts (λ c t. flat_output_bit flat (runs c t))
+    outputs_shown output cell e g early =
+        let place = cell_is flat plan ports k.table output cell e in
+        let bits : ℕ → ℕ → Bool = λ c t. flat_output_bit flat (runs c t) output in
+        let soon : g < latency_of plan + cycles * period_of plan = subst (λ n. g < n) (ap₂ (λ l p. l + cycles * p) k.table.latency k.table.period) early in
+        let shown = in_contexts (period_of plan) (latency_of plan) (length contexts) cycles g
+        (driven (drive_of_contexts plan contexts) (plane_with library plan lit) g (pos (left_of plan (length plan.columns))) (pos (row_of (slice_index plan.outs output))) ≡ Head)
+        (λ c t. bit_on (after_columns plan.columns (bits_of_context_rows plan on_loops contexts c t)) (slice_index plan.outs output)) bits
+        (λ c t low lt. ap (λ b. bit_on (after_columns plan.columns b) (slice_index plan.outs output)) (same_bits c t low)
+        ∙ output_shown flat list plan k.list_computes k.plan_computes (start_of c) (long c (start_of c) (some_start c low)) (get_or contexts c []) (are.each c [] low) (runs c) (each c (start_of c) (some_start c low))
+        output t place.0 (omega (arith, lt, are.long c [] low)))
+        soon ((shows contexts are.many).outs output place.0 g) in
+        subst (λ due. ShowsBitsInContexts ports.l ports.p (length contexts) cycles bits g (driven due (plane_with library plan lit) g) cell.x cell.y) (sym (same_drive flat plan ports k.table contexts))
+        (subst (λ l. ShowsBitsInContexts l ports.p (length contexts) cycles bits g (driven (drive_of_contexts plan contexts) (plane_with library plan lit) g) cell.x cell.y) (sym k.table.latency)
+        (subst (λ p. ShowsBitsInContexts (latency_of plan) p (length contexts) cycles bits g (driven (drive_of_contexts plan contexts) (plane_with library plan lit) g) cell.x cell.y) (sym k.table.period)
+        (subst (λ (at : ℕ × ℕ). ShowsBitsInContexts (latency_of plan) (period_of plan) (length contexts) cycles bits g (driven (drive_of_contexts plan contexts) (plane_with library plan lit) g) at.0 at.1) (sym place.1) shown)))
+
+    nets_shown : ShowsNetLinesInContexts (plane_with library plan lit) ports cycles contexts (nets_but_clocks flat) (λ c t net. runs c t net.class)
+    nets_shown number net line is_net is_line g early =
+        let place = net_cell_is flat plan ports k.table number line is_line in
+        let cell = net_cell_of plan number in
+        let bits : ℕ → ℕ → Bool = λ c t. runs c t net.class in
+        let soon : g < cell.2 + cycles * period_of plan = subst (λ n. g < n) (ap₂ (λ at p. at + cycles * p) (ap (λ c. c.2) place.1) k.table.period) early in
+        let shown = in_contexts (period_of plan) cell.2 (length contexts) cycles g
+        (driven (drive_of_contexts plan contexts) (plane_with library plan lit) g (pos cell.0) (pos cell.1) ≡ Head)
+        (λ c t. bit_on (bits_after after_columns plan.columns (net_place plan number).after (bits_of_context_rows plan on_loops contexts c t)) (net_place plan number).lane) bits
+        (λ c t low lt. ap (λ b. bit_on (bits_after after_columns plan.columns (net_place plan number).after b) (net_place plan number).lane) (same_bits c t low)
+        ∙ net_shown flat list plan k.list_computes k.plan_computes (start_of c) (long c (start_of c) (some_start c low)) (get_or contexts c []) (are.each c [] low) (runs c) (each c (start_of c) (some_start c low))
+        number t net place.0 (omega (arith, lt, are.long c [] low)) is_net)
+        soon ((shows contexts are.many).nets number place.0 g) in
+        subst (λ due. ShowsBitsInContexts line.offset ports.p (length contexts) cycles bits g (driven due (plane_with library plan lit) g) line.x line.y) (sym (same_drive flat plan ports k.table contexts))
+        (subst (λ p. ShowsBitsInContexts line.offset p (length contexts) cycles bits g (driven (drive_of_contexts plan contexts) (plane_with library plan lit) g) line.x line.y) (sym k.table.period)
+        (subst (λ (at : ℕ × ℕ × ℕ). ShowsBitsInContexts at.2 (period_of plan) (length contexts) cycles bits g (driven (drive_of_contexts plan contexts) (plane_with library plan lit) g) at.0 at.1) (sym place.1) shown))
+
+pub planes_show_contexts : PlanesShowContexts
+planes_show_contexts library law flat list plan ports k starts lit s = record {
+  conductors = conductors library law flat list plan ports k starts lit s;
+  runs = has_runs library law flat list plan ports k starts lit s;
+  heads = outputs_shown library law flat list plan ports k starts lit s;
+  nets = nets_shown library law flat list plan ports k starts lit s;
+}
+
+-- the plan's own start edges start one context, from the flat netlist's start on
+pub one_start : (flat : Flat) (list : CellList) (plan : Plan) (ports : Ports) → IsCompiled flat list plan ports → StartsLatches flat list plan (start_bits flat ∷ []) (start_edges plan)
+one_start flat list plan ports k = record {
+  long = All-cons (λ (bits : List Bool). length bits ≡ length flat.latches) (start_bits flat) [] (length-map flat.latches _) (All-nil (λ (bits : List Bool). length bits ≡ length flat.latches));
+  on_plan = subst (λ (bits : List Bool). StartsContexts plan (bits ∷ []) (start_edges plan)) (k.plan_computes.starts ∙ ap (loop_state list) k.list_computes.mapped.starts) (one_context_starts plan k.admissible);
+}
 
 pub planes_show_runs : PlanesShowRuns
-planes_show_runs library law flat list plan ports c = record {
-  conductors = λ rows are. subst (λ due. MeetsConductors due (start_plane library plan)) (sym (same_drive flat plan ports c.table rows)) (plans_show_rows library law plan c.admissible rows).conductors;
-  runs = has_run flat c.sound c.order c.ordered (start_bits flat) (length-map flat.latches _);
-  heads = outputs_shown library law flat list plan ports c;
-  nets = nets_shown library law flat list plan ports c;
-}
+planes_show_runs library law flat list plan ports k =
+    flat_from_contexts (start_plane library plan) ports flat (planes_show_contexts library law flat list plan ports k (start_bits flat ∷ []) (start_edges plan) (one_start flat list plan ports k))

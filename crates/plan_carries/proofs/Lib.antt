@@ -4,3 +4,4 @@ mod Runs
 mod Designs
 mod Carried
 mod Written
+mod Pictures

@@ -1,22 +1,29 @@
--- The text that is written of what is compiled carries the flat netlist.
-use Rattle.std.proofs.Common.{sym, ◌∙◌, ap, subst, false, length, replicate, arith}
+-- The text that is written of what is compiled carries the flat netlist in each context.
+use Rattle.std.proofs.Common.{◌≡◌, ◌*◌, ◌<◌, ◌≤◌, sym, ◌∙◌, ap, subst, false, [], ◌∷◌, length, map, replicate, arith}
 use Rattle.std.proofs.lemmas.List.{length-map, length-replicate}
 use Rattle.ww_rule.specs.Grid.{Grid}
 use Rattle.tiling.specs.Steps.{KeepsLaw}
 use Rattle.tile_library.specs.Drawings.{shipped_drawing}
 use Rattle.grid_assembly.specs.PlanDrawing.{start_grid}
-use Rattle.grid_assembly.specs.Laws.{PatternsArePlanes}
+use Rattle.plan_layout.specs.Starts.{start_edges}
+use Rattle.plan_waves.proofs.IsolatedContexts.{contexts_apart}
 use Rattle.cell_core.specs.Meaning.{Fits}
+use Rattle.cell_core.specs.Loops.{loop_state}
 use Rattle.netlist_core.specs.declared.flat.FlatPort.{FlatPort}
 use Rattle.netlist_core.specs.declared.flat.Net.{Net as FlatNet}
 use Rattle.netlist_meaning.specs.Flat.{class_of, nets_but_clocks, port_classes}
 use Rattle.pattern_reading.specs.declared.ports.Ports.{Ports}
-use Rattle.written_reads.specs.Laws.{HasWrittenText}
-use Rattle.carries.specs.FlatNets.{ShowsFlatRuns}
+use Rattle.netlist_meaning.specs.FlatValuation.{start_bits}
+use Rattle.written_reads.specs.Laws.{HasWrittenText, pattern_text}
+use Rattle.carries.specs.FlatContexts.{ShowsFlatContexts}
+use Rattle.carries.proofs.OneContext.{one_context_carries_flat}
 use Rattle.cover_mapper.specs.Listed.{listed_classes}
 use Rattle.plan_ports.specs.Laws.{TablesAreReadable}
 use Rattle.plan_ports.proofs.Readable.{small_size}
-use Rattle.plan_carries.specs.Laws.{PlansHavePorts, PlanesShowRuns, TextsCarryFlats}
+use Rattle.plan_carries.specs.Laws.{PlansHavePorts, TextsCarryFlats}
+use Rattle.plan_carries.specs.Pictures.{grid_with}
+use Rattle.plan_carries.specs.ContextLaws.{PlanesShowContexts, PicturesArePlanes, TextsCarryContexts}
+use Rattle.plan_carries.proofs.Carried.{one_start}
 
 pub plans_have_ports : PlansHavePorts
 plans_have_ports flat list plan c p =
@@ -30,16 +37,23 @@ plans_have_ports flat list plan c p =
           ∙ ap length c.mapped.nets ∙ length-map (listed_classes flat) c.mapped.sources ∙ length-map (nets_but_clocks flat) (λ (net : FlatNet). net.class);
     }
 
-pub texts_carry_flats : KeepsLaw shipped_drawing → PatternsArePlanes → ((grid : Grid) (ports : Ports) → HasWrittenText grid ports) → TablesAreReadable → PlanesShowRuns → TextsCarryFlats
-texts_carry_flats law patterns written readable shown flat list plan ports c =
-    let pattern = patterns plan c.admissible in
-    let size = small_size plan c.admissible in
-    let table = readable flat plan ports c.sound.in_range c.named c.names c.places c.admissible c.table in
-    let reads = written (start_grid plan) ports (record { in_rows = pattern.box; width = omega (arith, size.0); height = omega (arith, size.1) }) table.sound table.inside table.no_returns in
+pub texts_carry_contexts : KeepsLaw shipped_drawing → PicturesArePlanes → ((grid : Grid) (ports : Ports) → HasWrittenText grid ports) → TablesAreReadable → PlanesShowContexts → TextsCarryContexts
+texts_carry_contexts law pictures written readable shown flat list plan ports k starts lit s =
+    let picture = pictures plan k.admissible lit in
+    let size = small_size plan k.admissible in
+    let table = readable flat plan ports k.sound.in_range k.named k.names k.places k.admissible k.table in
+    let reads = written (grid_with plan lit) ports (record { in_rows = picture.box; width = omega (arith, size.0); height = omega (arith, size.1) }) table.sound table.inside table.no_returns in
+    let many : length (map (loop_state list) starts) ≡ length starts = length-map starts (loop_state list) in
     record {
-      grid = start_grid plan;
+      grid = grid_with plan lit;
       ports = ports;
       spells = record { reads = reads.0; table = reads.1 };
-      names = record { ins = c.table.in_names; outs = c.table.out_names; nets = c.table.net_names };
-      shows = subst (λ p. ShowsFlatRuns p ports flat) (sym pattern.plane) (shown shipped_drawing law flat list plan ports c);
+      names = record { ins = k.table.in_names; outs = k.table.out_names; nets = k.table.net_names };
+      apart = λ several. omega (arith, contexts_apart plan (map (loop_state list) starts) lit s.on_plan, many, k.table.period);
+      shows = subst (λ p. ShowsFlatContexts p ports flat starts) (sym picture.plane) (shown shipped_drawing law flat list plan ports k starts lit s);
     }
+
+-- with the plan's own start edges
+pub texts_carry_flats : TextsCarryContexts → TextsCarryFlats
+texts_carry_flats carry flat list plan ports k =
+    (one_context_carries_flat (pattern_text (start_grid plan) ports) flat).1 (carry flat list plan ports k (start_bits flat ∷ []) (start_edges plan) (one_start flat list plan ports k))

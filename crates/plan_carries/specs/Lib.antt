@@ -1,2 +1,4 @@
 pub mod Compiled
 pub mod Laws
+pub mod Pictures
+pub mod ContextLaws

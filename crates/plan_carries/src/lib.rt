@@ -1,13 +1,15 @@
-//! The text of a plan that computes the cells of a flat netlist carries it, and so the design that it is the flat netlist of.
+//! The text of a plan that computes the cells of a flat netlist carries it, and so the design that it is the flat netlist of; with the
+//! starts of several contexts on its loops it carries them in each of these.
 //!
 //! The functions here do nothing: their clauses are the laws.
 //!
-//! Theorem: `texts_carry_flats`, `designs_are_carried`.
+//! Theorem: `texts_carry_flats`, `designs_are_carried`, `texts_carry_contexts`, `designs_are_carried_in_contexts`.
 #![tactic(auto)]
 
+ghost use Rattle.plan_carries.specs.ContextLaws.{DesignsAreCarriedInContexts, PicturesArePlanes, PlanesShowContexts, TextsCarryContexts};
 ghost use Rattle.plan_carries.specs.Laws.{DesignsAreCarried, PlansHavePorts, PlanesShowRuns, TextsCarryFlats};
 
-use grid_assembly::laws::{keeps_law, patterns_are_planes};
+use grid_assembly::laws::keeps_law;
 use plan_ports::tables_are_readable;
 use tile_library::Shipped;
 use written_reads::written_text_reads;
@@ -17,7 +19,33 @@ pub fn plans_have_ports()
     ensures { PlansHavePorts }
 {}
 
-/// The plane of the plan shows the runs of the flat netlist.
+/// The plane of the plan, with edges lit that start the loops of several contexts, shows the runs of the flat netlist in each.
+pub fn planes_show_contexts()
+    ensures { PlanesShowContexts }
+{}
+
+/// Whichever edges of an admissible plan are lit, the rows of the drawing are its plane.
+pub fn pictures_are_planes()
+    ensures { PicturesArePlanes }
+{}
+
+/// The text that is written of these rows and the plan's table carries the flat netlist in these contexts.
+pub fn texts_carry_contexts()
+    ensures { TextsCarryContexts }
+{
+    keeps_law(&Shipped);
+    pictures_are_planes();
+    written_text_reads();
+    tables_are_readable();
+    planes_show_contexts();
+}
+
+/// A text that carries the flat netlist of a design without a fault in contexts carries the design and its nets in them.
+pub fn designs_are_carried_in_contexts()
+    ensures { DesignsAreCarriedInContexts }
+{}
+
+/// The plane of the plan, with its own start edges, shows the runs of the flat netlist.
 pub fn planes_show_runs()
     ensures { PlanesShowRuns }
 {}
@@ -26,11 +54,7 @@ pub fn planes_show_runs()
 pub fn texts_carry_flats()
     ensures { TextsCarryFlats }
 {
-    keeps_law(&Shipped);
-    patterns_are_planes();
-    written_text_reads();
-    tables_are_readable();
-    planes_show_runs();
+    texts_carry_contexts();
 }
 
 /// A text that carries the flat netlist of a design without a fault carries the design and its nets.

@@ -14,3 +14,8 @@ pub mod EdgesShown
 pub mod Plane
 pub mod Rows
 pub mod FreePorts
+pub mod RunningContexts
+pub mod ShownContexts
+pub mod IsolatedContexts
+pub mod ContextRows
+pub mod OneContext

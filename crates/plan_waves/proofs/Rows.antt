@@ -23,13 +23,13 @@ use Rattle.plan_waves.proofs.Plane.{plans_show_runs}
 use Rattle.std.specs.Cmp.{both_ways as same_bit}
 
 -- a lane has a bit exactly where it is that of an input whose bit is 1
-lane_of_input : (lanes : List ℕ) (bits : List Bool) (input : ℕ) → input < length lanes → get_or bits input false ≡ true → lane_bit lanes bits (get_or lanes input 0) ≡ true
+pub lane_of_input : (lanes : List ℕ) (bits : List Bool) (input : ℕ) → input < length lanes → get_or bits input false ≡ true → lane_bit lanes bits (get_or lanes input 0) ≡ true
 lane_of_input [] bits input within one = absurd (omega arith)
 lane_of_input (first ∷ lanes) [] input within one = absurd (true≢false (sym one ∙ get_or_past [] input false (omega arith)))
 lane_of_input (first ∷ lanes) (bit ∷ bits) zero within one = or_left _ _ (and_from _ _ (eq-eqb first first refl) one)
 lane_of_input (first ∷ lanes) (bit ∷ bits) (suc input) within one = or_right _ _ (lane_of_input lanes bits input (omega arith) one)
 
-input_of_lane : (lanes : List ℕ) (bits : List Bool) (lane : ℕ) → lane_bit lanes bits lane ≡ true
+pub input_of_lane : (lanes : List ℕ) (bits : List Bool) (lane : ℕ) → lane_bit lanes bits lane ≡ true
     → (input : ℕ) × (input < length lanes) × (get_or lanes input 0 ≡ lane) × (get_or bits input false ≡ true)
 input_of_lane [] bits lane lit = absurd (true≢false (sym lit))
 input_of_lane (first ∷ lanes) [] lane lit = absurd (true≢false (sym lit))
@@ -48,7 +48,7 @@ some_period plan h =
     (λ some. omega (arith, steps_with_loops plan (omega arith), period_is plan, h.size.loops_in_columns))
     (cases_eq plan.latches 0)
 
-input_cell : (plan : Plan) (input : ℕ) → input < length plan.ins → get_or (input_cells plan) input (0, 0) ≡ (left_of plan 0, row_of (get_or plan.ins input 0))
+pub input_cell : (plan : Plan) (input : ℕ) → input < length plan.ins → get_or (input_cells plan) input (0, 0) ≡ (left_of plan 0, row_of (get_or plan.ins input 0))
 input_cell plan input within = get_or-map (λ lane. (left_of plan 0, row_of lane)) plan.ins input 0 (0, 0) within
 
 -- the input of an injection

@@ -6,3 +6,7 @@ pub mod ShownEdges
 pub mod Shown
 pub mod InputRows
 pub mod Beside
+pub mod Contexts
+pub mod ShownContexts
+pub mod ContextRows
+pub mod OneContext

@@ -2,16 +2,21 @@
 //!
 //! The functions here do nothing: their clauses are the laws.
 //!
-//! Theorem: `plans_show_rows`, `plans_show_runs`, `plans_show_edges`.
+//! Theorem: `plans_show_rows`, `plans_show_context_rows`, `contexts_are_isolated`, `plans_show_edges`.
 #![tactic(auto)]
 
 mod beside;
+mod contexts;
 mod cycles;
 mod entries;
 mod shown;
 mod waves;
 
 pub use beside::ports_stand_free;
+pub use contexts::{
+    context_rows_are_injected, contexts_are_isolated, one_context_is_the_plan,
+    plans_run_by_contexts, plans_show_context_rows, plans_show_contexts,
+};
 pub use cycles::{cycles_are_inputs, edges_run_by_cycles, plans_run_by_cycles};
 pub use entries::{
     driven_edges_go_on, free_entries_go_dark, inputs_are_entries, inputs_enter, plans_start,

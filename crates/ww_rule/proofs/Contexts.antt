@@ -1,18 +1,21 @@
 -- What the rows of contexts make due.
-use Rattle.std.proofs.Common.{ℤ, pos, ℕ, zero, suc, ◌+◌, ◌-◌, ◌*◌, ◌<◌, ◌≤◌, ◌≡◌, refl, sym, ap, ◌∙◌, Bool, true, false, ◌||◌, List, [], ◌∷◌, length, get_or, ⊎_elim, arith}
-use Rattle.std.specs.Prelude.{◌↔◌, nat_le, Contains}
+use Rattle.std.proofs.Common.{ℤ, pos, ℕ, zero, suc, ◌+◌, ◌-◌, ◌*◌, ◌<◌, ◌≤◌, ◌≡◌, refl, sym, ap, ◌∙◌, Bool, true, false, ◌||◌, List, [], ◌∷◌, ◌++◌, map, length, get_or, ⊎_elim, arith}
+use Rattle.std.specs.Prelude.{◌↔◌, nat_le, All, Contains}
 use Rattle.std.specs.Cmp.{both_ways}
 use Rattle.std.proofs.Math.Path.{fun_ext}
 use Rattle.std.proofs.Math.Bool.{or-false, and-false}
+use Rattle.std.proofs.Math.ListN.{get_or-append}
 use Rattle.std.proofs.Math.Nat.{mul-le-mul_right, suc-mul}
+use Rattle.std.proofs.Math.Seq.{get_or-append_right}
 use Rattle.std.proofs.lemmas.Bool.{true≢false, and_parts, and_from, or_cases, or_left, or_right, cases_lt}
 use Rattle.std.proofs.lemmas.Bool.Decides.{nat_tests}
+use Rattle.std.proofs.lemmas.List.{get_or-map, get_or_past, length-map}
 use Rattle.ww_rule.specs.declared.pattern.Injection.{Injection}
 use Rattle.ww_rule.specs.Wireworld.{Due}
 use Rattle.ww_rule.specs.Injections.{due_of_list, due_of_streams}
 use Rattle.ww_rule.specs.Contexts.{due_later, due_of_contexts, context_row, IsBitOfContexts, ContextsAreInjected}
 use Rattle.ww_rule.proofs.Streams.{streams_injected}
-use Rattle.ww_rule.proofs.Lists.{lists_are_injected}
+use Rattle.ww_rule.proofs.Lists.{lists_are_injected, no_bit}
 
 -- what is due so many generations later is due after them
 due_before : (generations : ℕ) (due : Due) (g : ℕ) (x y : ℤ) → due_later generations due g x y ≡ true → (generations ≤ g) × (due (g - generations) x y ≡ true)
@@ -74,12 +77,48 @@ contexts_listed period cells contexts injections members = fun_ext (λ g. fun_ex
         let is_in = (members i).1 (record { context = b.context; cycle = b.cycle; input = b.input; in_contexts = b.in_contexts; in_time = b.in_time; in_cells = b.in_cells; one = b.one; column = refl; line = refl }) in
         (lists_are_injected.exactly injections g x y).1 (record { injection = i; is_in = is_in; in_time = refl; column = b.column; row = b.line })
 
+-- rows of 0 bits at the end add no bit
+same_bit : (rows zeros : List (List Bool)) (cycle input : ℕ) → All (λ row. All (λ bit. bit ≡ false) row) zeros → get_or (get_or (rows ++ zeros) cycle []) input false ≡ get_or (get_or rows cycle []) input false
+same_bit rows zeros cycle input none =
+    ⊎_elim
+    (λ front. ap (λ row. get_or row input false) (get_or-append rows zeros [] cycle front))
+    (λ late. ap (λ row. get_or row input false) (get_or-append_right rows zeros cycle [] late)
+    ∙ no_bit zeros (cycle - length rows) input none
+    ∙ sym (ap (λ row. get_or row input false) (get_or_past rows cycle [] late)))
+    (cases_lt cycle (length rows))
+
+contexts_rest : (period : ℕ) (cells : List (ℕ × ℕ)) (contexts : List (List (List Bool))) (zeros : List (List Bool)) → All (λ row. All (λ bit. bit ≡ false) row) zeros
+    → due_of_contexts period cells (map (λ rows. rows ++ zeros) contexts) ≡ due_of_contexts period cells contexts
+contexts_rest period cells contexts zeros none = fun_ext (λ g. fun_ext (λ x. fun_ext (λ y. both_ways _ _ (to g x y) (from g x y))))
+  where
+    longer : List (List (List Bool))
+    longer = map (λ rows. rows ++ zeros) contexts
+
+    many : length longer ≡ length contexts
+    many = length-map contexts (λ rows. rows ++ zeros)
+
+    row : (context cycle input : ℕ) → context < length contexts → get_or (context_row longer context cycle) input false ≡ get_or (context_row contexts context cycle) input false
+    row context cycle input among =
+        ap (λ (rows : List (List Bool)). get_or (get_or rows cycle []) input false) (get_or-map (λ rows. rows ++ zeros) contexts context [] [] among)
+        ∙ same_bit (get_or contexts context []) zeros cycle input none
+
+    to : (g : ℕ) (x y : ℤ) → due_of_contexts period cells longer g x y ≡ true → due_of_contexts period cells contexts g x y ≡ true
+    to g x y e =
+        let b = to_bit period cells longer g x y e in
+        let among : b.context < length contexts = omega (arith, b.in_contexts, many) in
+        of_bit period cells contexts g x y b.context b.cycle b.input among b.in_time b.in_cells (sym (row b.context b.cycle b.input among) ∙ b.one) b.column b.line
+
+    from : (g : ℕ) (x y : ℤ) → due_of_contexts period cells contexts g x y ≡ true → due_of_contexts period cells longer g x y ≡ true
+    from g x y e =
+        let b = to_bit period cells contexts g x y e in
+        of_bit period cells longer g x y b.context b.cycle b.input (omega (arith, b.in_contexts, many)) b.in_time b.in_cells (row b.context b.cycle b.input b.in_contexts ∙ b.one) b.column b.line
+
 one_is_streams : (period : ℕ) (cells : List (ℕ × ℕ)) (rows : List (List Bool)) → due_of_contexts period cells (rows ∷ []) ≡ due_of_streams period cells rows
 one_is_streams period cells rows = fun_ext (λ g. fun_ext (λ x. fun_ext (λ y.
     ap (λ b. due_of_streams period cells rows g x y || b) (and-false (nat_le 32 g)) ∙ or-false (due_of_streams period cells rows g x y))))
 
 pub contexts_are_injected : ContextsAreInjected
-contexts_are_injected = record { exactly = contexts_injected; listed = contexts_listed; one = one_is_streams }
+contexts_are_injected = record { exactly = contexts_injected; listed = contexts_listed; rest = contexts_rest; one = one_is_streams }
 
 not_sooner : (period c t c' t' : ℕ) → 32 * c < period → t < t' → 32 * c + t * period ≡ 32 * c' + t' * period → ⊥
 not_sooner period c t c' t' low sooner same =

@@ -89,7 +89,7 @@ due_of_front period cells rows later g x y in_front =
 in_time : (period cycles cycle g h : ℕ) → cycle * period ≡ h → h ≤ g → g < cycles * period → cycle < cycles
 in_time period cycles cycle g h e le lt = lt_of_mul-lt-mul_right period (omega arith)
 
-no_bit : (later : List (List Bool)) (cycle input : ℕ) → All (λ row. All (λ bit. bit ≡ false) row) later → get_or (get_or later cycle []) input false ≡ false
+pub no_bit : (later : List (List Bool)) (cycle input : ℕ) → All (λ row. All (λ bit. bit ≡ false) row) later → get_or (get_or later cycle []) input false ≡ false
 no_bit later cycle input zeros =
     elim (cases_lt cycle (length later)) [
       | inr ge ↦ ap (λ row. get_or row input false) (get_or_past later cycle [] ge)

@@ -1,5 +1,5 @@
 -- Contexts: several machines on the same wires, each driven by rows of bits of its own, 32 generations after the one before.
-use Rattle.std.specs.Prelude.{ℤ, pos, ℕ, ◌+◌, ◌-◌, ◌*◌, ◌<◌, nat_le, ◌≡◌, ◌↔◌, Bool, true, false, ◌&&◌, ◌||◌, List, [], ◌∷◌, length, get_or, Contains}
+use Rattle.std.specs.Prelude.{ℤ, pos, ℕ, ◌+◌, ◌-◌, ◌*◌, ◌<◌, nat_le, ◌≡◌, ◌↔◌, Bool, true, false, ◌&&◌, ◌||◌, List, [], ◌∷◌, ◌++◌, map, length, get_or, All, Contains}
 use Rattle.ww_rule.specs.declared.pattern.Injection.{Injection}
 use Rattle.ww_rule.specs.Wireworld.{Due}
 use Rattle.ww_rule.specs.Injections.{due_of_list, due_of_streams}
@@ -32,12 +32,14 @@ pub record IsBitOfContexts (period : ℕ) (cells : List (ℕ × ℕ)) (contexts 
   pub column : pos (get_or cells input (0, 0)).0 ≡ x
   pub line : pos (get_or cells input (0, 0)).1 ≡ y
 
--- Contexts make due exactly their bits that are 1. So does a list of injections with these members, in whatever order. And
--- one context makes due what streams do.
+-- Contexts make due exactly their bits that are 1; so does a list of injections with these members, in whatever order. Rows of
+-- 0 bits at the end of each context change nothing. And one context makes due what streams do.
 pub record ContextsAreInjected : Type 0 where
   pub exactly : (period : ℕ) (cells : List (ℕ × ℕ)) (contexts : List (List (List Bool))) (g : ℕ) (x y : ℤ)
       → (due_of_contexts period cells contexts g x y ≡ true) ↔ IsBitOfContexts period cells contexts g x y
   pub listed : (period : ℕ) (cells : List (ℕ × ℕ)) (contexts : List (List (List Bool))) (injections : List Injection)
       → ((i : Injection) → Contains injections i ↔ IsBitOfContexts period cells contexts i.generation (pos i.x) (pos i.y))
       → due_of_list injections ≡ due_of_contexts period cells contexts
+  pub rest : (period : ℕ) (cells : List (ℕ × ℕ)) (contexts : List (List (List Bool))) (zeros : List (List Bool)) → All (λ row. All (λ bit. bit ≡ false) row) zeros
+      → due_of_contexts period cells (map (λ rows. rows ++ zeros) contexts) ≡ due_of_contexts period cells contexts
   pub one : (period : ℕ) (cells : List (ℕ × ℕ)) (rows : List (List Bool)) → due_of_contexts period cells (rows ∷ []) ≡ due_of_streams period cells rows

@@ -85,8 +85,8 @@ pub fn lists_are_injected()
 {}
 
 /// Contexts inject 32 generations after each other: at generation 32 * context + cycle * period, at the cell of each input
-/// whose bit is 1 in that cycle of that context, and nowhere else. A list with these members injects the same, and one
-/// context what streams inject.
+/// whose bit is 1 in that cycle of that context, and nowhere else. A list with these members injects the same, rows of 0 bits
+/// at the end of each context inject nothing, and one context injects what streams do.
 pub fn contexts_are_injected()
     ensures { ContextsAreInjected }
 {}

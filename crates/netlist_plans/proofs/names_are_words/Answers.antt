@@ -1,5 +1,5 @@
-use Rattle.text_names.proofs.Words.{names_are_words, nets_are_words}
-use Rattle.text_names.proofs.names_are_words.Goals as goal
+use Rattle.netlist_plans.proofs.Words.{names_are_words, nets_are_words}
+use Rattle.netlist_plans.proofs.names_are_words.Goals as goal
 
 pub returns-clause-names : goal.returns-clause-names
 returns-clause-names c = names_are_words

@@ -13,8 +13,8 @@ use Rattle.blif_text.specs.LineFaults.{is_before_models, follows_end, has_bad_co
 use Rattle.blif_text.specs.Laws.{BreaksNone, HasWords}
 use Rattle.blif_text.proofs.FirstFaults.{breaks_none}
 use Rattle.blif_text.proofs.Designs.{none_given, none_left, none_right}
-use Rattle.text_names.specs.TextNames.{IsNameWord}
-use Rattle.text_names.proofs.Newlines.{IsOneLine, HasOneLineWords}
+use Rattle.netlist_plans.specs.TextNames.{IsNameWord}
+use Rattle.netlist_plans.proofs.Newlines.{IsOneLine, HasOneLineWords}
 
 -- parts of lists
 pub all_taken : {X : Type 0} (P : X → Type 0) (n : ℕ) (xs : List X) → AllByRecursion P xs → AllByRecursion P (take n xs)

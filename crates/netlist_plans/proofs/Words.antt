@@ -20,9 +20,9 @@ use Rattle.blif_text.specs.LogicalLines.{logical_lines, is_space}
 use Rattle.blif_text.specs.Models.{operands, has_directive, begins_model, stays_in_model, is_row, lines_with, ports_on, ports_listed, last_word, cover_of, cover_at, covers_of, is_control, latch_with, latch_on, is_equals, pin_of, pin_words, subckt_of, model_of, model_if, models_of}
 use Rattle.blif_text.specs.LineFaults.{is_empty}
 use Rattle.blif_text.proofs.LineNumbers.{lines_have_words}
-use Rattle.text_names.specs.TextNames.{IsNameWord, NamesAreWords, NetsAreWords}
-use Rattle.text_names.proofs.Lines.{Clean, all_taken, in_drop, in_take, in_last, none_dropped, clean_after}
-use Rattle.text_names.proofs.Newlines.{lines_have_one_line_words}
+use Rattle.netlist_plans.specs.TextNames.{IsNameWord, NamesAreWords, NetsAreWords}
+use Rattle.netlist_plans.proofs.Lines.{Clean, all_taken, in_drop, in_take, in_last, none_dropped, clean_after}
+use Rattle.netlist_plans.proofs.Newlines.{lines_have_one_line_words}
 
 some_given : {X : Type 0} (b : Bool) (x y : X) → then_some b x ≡ Some y → (b ≡ true) × (x ≡ y)
 some_given true x y e = (refl, same_Some x y e)

@@ -1,0 +1,40 @@
+// Several machines on the same wires of a plan, each 32 generations after the one before.
+ghost use Rattle.plan_waves.specs.Contexts.{PlansRunByContexts};
+ghost use Rattle.plan_waves.specs.ShownContexts.{PlansShowContexts, ContextsAreIsolated};
+ghost use Rattle.plan_waves.specs.ContextRows.{ContextRowsAreInjected, PlansShowContextRows};
+ghost use Rattle.plan_waves.specs.OneContext.{OneContextStarts, OneContextIsDriven};
+
+/// Where an admissible plan is driven from edges on that start contexts, by heads 32 generations later in each context than in
+/// the one before, the entries of each column, and the outputs, have the bits of each cycle of each context once, and are dark
+/// at all other macro times.
+pub fn plans_run_by_contexts()
+    ensures { PlansRunByContexts }
+{}
+
+/// Drawn with any library that keeps the timing law, it shows at its outputs and nets, context by context and cycle by cycle,
+/// the bits on their lanes, and no head at any other generation; and each injection meets a conductor.
+pub fn plans_show_contexts()
+    ensures { PlansShowContexts }
+{}
+
+/// What it shows of a context does not depend on what is injected in the others.
+pub fn contexts_are_isolated()
+    ensures { ContextsAreIsolated }
+{}
+
+/// Rows of input bits, a list of rows for each context, drive an admissible plan so, and inject exactly their bits.
+pub fn context_rows_are_injected()
+    ensures { ContextRowsAreInjected }
+{}
+
+/// So an admissible plan shows at its outputs and nets, context by context and cycle by cycle, what its columns make of the
+/// bits of the cycle's row and of those that its loops bring.
+pub fn plans_show_context_rows()
+    ensures { PlansShowContextRows }
+{}
+
+/// A plan's own start edges start one context, and the rows of one context drive it as rows do.
+pub fn one_context_is_the_plan()
+    ensures starts { OneContextStarts }
+    ensures drive { OneContextIsDriven }
+{}

@@ -1,3 +1,0 @@
-mod Newlines
-pub mod Lines
-pub mod Words
