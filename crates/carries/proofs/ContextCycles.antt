@@ -61,11 +61,11 @@ module _ {Start Bits : Type 0} (IsRun : Start → List (List Bool) → (ℕ → 
   with_run n = pick (n == c) n
 
   pub at_own : (t : ℕ) → with_run c t ≡ run t
-  unfolding with_run
+  unfolding with_run pick
   at_own t = ap (λ (b : Bool). pick b c t) (eq-eqb c c refl)
 
   pub are_with : AreRunsFrom IsRun starts contexts with_run
-  unfolding with_run
+  unfolding with_run pick
   are_with n other is_other = by (n == c) refl
     where
       by : (b : Bool) → (n == c) ≡ b → IsRun other (get_or contexts n []) (pick b n)
@@ -212,7 +212,7 @@ module _ (ports : Ports) (design : Design) (named : IsInNames design (names_of p
   padded contexts = map (λ rows. rows ++ zeros) contexts
 
   pub same_drive : (contexts : List (List (List Bool))) → context_drive ports (padded contexts) ≡ context_drive ports contexts
-  unfolding padded, zeros
+  unfolding padded zeros
   same_drive contexts = contexts_are_injected.rest ports.p (cells_of ports.ins) contexts zeros
       (All-replicate (λ row. All (λ bit. bit ≡ false) row) more (replicate (length (names_of ports.ins)) false) (All-replicate (λ bit. bit ≡ false) (length (names_of ports.ins)) false refl))
 
@@ -227,7 +227,7 @@ module _ (ports : Ports) (design : Design) (named : IsInNames design (names_of p
       )
 
   pub are_padded : (count cycles : ℕ) (contexts : List (List (List Bool))) → AreInputContexts design count cycles contexts → AreInputContexts design count (cycles + more) (padded contexts)
-  unfolding padded, zeros
+  unfolding padded zeros
   are_padded count cycles contexts are = record {
     many = length-map contexts (λ rows. rows ++ zeros) ∙ are.many;
     long = All-map (λ (rows : List (List Bool)). length rows ≡ cycles + more) (λ rows. rows ++ zeros) contexts
@@ -246,9 +246,9 @@ outputs_are_isolated text design starts k cycles contexts others are are' c low 
     (are_padded k.ports design k.names.ins (suc t) (length starts) cycles contexts are) (are_padded k.ports design k.names.ins (suc t) (length starts) cycles others are')
     c low (agree_padded k.ports design k.names.ins (suc t) contexts others c (omega (arith, low, are.many)) (omega (arith, low, are'.many)) agree) output cell e t (omega arith) in
     subst (λ due. (driven due (plane_of k.grid.rows) (k.ports.l + 32 * c + t * k.ports.p) (pos cell.x) (pos cell.y) ≡ Head)
-        ↔ (driven (context_drive k.ports others) (plane_of k.grid.rows) (k.ports.l + 32 * c + t * k.ports.p) (pos cell.x) (pos cell.y) ≡ Head)) (same_drive k.ports design k.names.ins (suc t) contexts)
+    ↔ (driven (context_drive k.ports others) (plane_of k.grid.rows) (k.ports.l + 32 * c + t * k.ports.p) (pos cell.x) (pos cell.y) ≡ Head)) (same_drive k.ports design k.names.ins (suc t) contexts)
     (subst (λ due. (driven (context_drive k.ports (padded k.ports design k.names.ins (suc t) contexts)) (plane_of k.grid.rows) (k.ports.l + 32 * c + t * k.ports.p) (pos cell.x) (pos cell.y) ≡ Head)
-        ↔ (driven due (plane_of k.grid.rows) (k.ports.l + 32 * c + t * k.ports.p) (pos cell.x) (pos cell.y) ≡ Head)) (same_drive k.ports design k.names.ins (suc t) others) alike)
+    ↔ (driven due (plane_of k.grid.rows) (k.ports.l + 32 * c + t * k.ports.p) (pos cell.x) (pos cell.y) ≡ Head)) (same_drive k.ports design k.names.ins (suc t) others) alike)
 
 pub nets_are_isolated : NetsAreIsolated
 nets_are_isolated text design starts k cycles contexts others are are' c low agree number net line is_net is_line t =
@@ -259,6 +259,6 @@ nets_are_isolated text design starts k cycles contexts others are are' c low agr
     (are_padded ports design named (suc t) (length starts) cycles contexts are) (are_padded ports design named (suc t) (length starts) cycles others are')
     c low (agree_padded ports design named (suc t) contexts others c (omega (arith, low, are.many)) (omega (arith, low, are'.many)) agree) number net line is_net is_line t (omega arith) in
     subst (λ due. (driven due plane (line.offset + 32 * c + t * ports.p) (pos line.x) (pos line.y) ≡ Head)
-        ↔ (driven (context_drive ports others) plane (line.offset + 32 * c + t * ports.p) (pos line.x) (pos line.y) ≡ Head)) (same_drive ports design named (suc t) contexts)
+    ↔ (driven (context_drive ports others) plane (line.offset + 32 * c + t * ports.p) (pos line.x) (pos line.y) ≡ Head)) (same_drive ports design named (suc t) contexts)
     (subst (λ due. (driven (context_drive ports (padded ports design named (suc t) contexts)) plane (line.offset + 32 * c + t * ports.p) (pos line.x) (pos line.y) ≡ Head)
-        ↔ (driven due plane (line.offset + 32 * c + t * ports.p) (pos line.x) (pos line.y) ≡ Head)) (same_drive ports design named (suc t) others) alike)
+    ↔ (driven due plane (line.offset + 32 * c + t * ports.p) (pos line.x) (pos line.y) ≡ Head)) (same_drive ports design named (suc t) others) alike)

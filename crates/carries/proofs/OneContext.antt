@@ -1,9 +1,7 @@
 -- What carries in one context is what carries.
-use Rattle.std.proofs.Common.{◌≡◌, ◌↔◌, refl, sym, ◌∙◌, ap, subst, pos, ℕ, zero, suc, ◌+◌, ◌*◌, ◌<◌, Bool, true, List, [], ◌∷◌, length, get_or, arith}
-use Rattle.std.specs.Prelude.{Some, None, slice_get}
+use Rattle.std.proofs.Common.{◌≡◌, ◌↔◌, refl, sym, ◌∙◌, ap, subst, ℕ, zero, suc, Bool, List, [], ◌∷◌, length, arith}
 use Rattle.std.proofs.lemmas.List.Elements.{All-nil, All-cons}
 use Rattle.std.proofs.lemmas.Option.{none-some, same_Some}
-use Rattle.ww_rule.specs.declared.pattern.State.TheVariants.{Head}
 use Rattle.ww_rule.specs.Wireworld.{Plane, driven}
 use Rattle.ww_rule.specs.Grid.{plane_of}
 use Rattle.ww_rule.specs.Injections.{MeetsConductors}
@@ -167,6 +165,7 @@ one_context_carries text design = (
 )
 
 pub one_context_carries_nets : OneContextCarriesNets
+unfolding one_context_carries
 one_context_carries_nets text design = (
   λ k. record { carried = (one_context_carries text design).0 k.carried; nets = k.nets; are_nets = k.are_nets; names = k.names; shows = nets_to_contexts (plane_of k.carried.grid.rows) k.carried.ports design k.nets k.shows },
   λ k. record { carried = (one_context_carries text design).1 k.carried; nets = k.nets; are_nets = k.are_nets; names = k.names; shows = nets_from_contexts (plane_of k.carried.grid.rows) k.carried.ports design k.nets k.shows },

@@ -1,5 +1,5 @@
 -- What is shown of a context depends on its own injections alone.
-use Rattle.std.proofs.Common.{◌≡◌, refl, sym, ◌∙◌, ap, subst, pos, ℕ, suc, ◌+◌, ◌*◌, ◌<◌, ◌≤◌, Bool, true, ⊎_elim, List, [], length, get_or, arith}
+use Rattle.std.proofs.Common.{◌≡◌, refl, sym, ◌∙◌, ap, pos, ℕ, ◌+◌, ◌*◌, ◌<◌, ◌≤◌, Bool, true, List, [], length, get_or, arith}
 use Rattle.std.specs.Prelude.{◌↔◌, slice_index}
 use Rattle.ww_rule.specs.declared.pattern.State.TheVariants.{Head}
 use Rattle.ww_rule.specs.Wireworld.{Plane, Due, driven}
@@ -16,7 +16,7 @@ use Rattle.lane_core.specs.Entering.{bits_after}
 use Rattle.plan_layout.specs.Planes.{plane_with}
 use Rattle.plan_waves.proofs.DrivenCycles.{period_is, same_entering}
 use Rattle.plan_waves.specs.Contexts.{StartsContexts, DrivesContexts, injected_in, context_bits}
-use Rattle.plan_waves.specs.ShownContexts.{ShowsEachContext, ShowsContextBits, ShowsAlike, IsIsolated}
+use Rattle.plan_waves.specs.ShownContexts.{ShowsEachContext, ShowsContextBits, IsIsolated}
 use Rattle.plan_waves.proofs.RunningContexts.{contexts_in_cycle}
 use Rattle.plan_waves.proofs.ShownContexts.{plans_show_contexts}
 

@@ -1,7 +1,7 @@
 -- The macro times of a plan that runs several contexts.
-use Rattle.std.proofs.Common.{◌≡◌, ◌≢◌, refl, sym, ◌∙◌, ap, ap₂, pos, ℕ, zero, suc, ◌+◌, ◌-◌, ◌*◌, ◌<◌, ◌≤◌, Bool, true, false, cond, ◌||◌, ⊎_elim, List, [], ◌∷◌, ◌++◌, length, take, get_or, replicate, arith}
+use Rattle.std.proofs.Common.{◌≡◌, ◌≢◌, refl, sym, ◌∙◌, ap, pos, ℕ, zero, suc, ◌+◌, ◌-◌, ◌*◌, ◌<◌, ◌≤◌, Bool, true, false, cond, ◌||◌, ⊎_elim, List, [], ◌∷◌, length, take, get_or, replicate, arith}
 use Rattle.std.specs.Prelude.{◌==◌, All}
-use Rattle.std.proofs.lemmas.Bool.{cases_lt, false_from_ne_true, true≢false, cond-true, cond-false}
+use Rattle.std.proofs.lemmas.Bool.{cases_lt, false_from_ne_true, true≢false, cond-false}
 use Rattle.std.proofs.lemmas.Bool.Decides.{nat_tests}
 use Rattle.std.proofs.lemmas.List.{ext_get_or, length-replicate}
 use Rattle.std.proofs.lemmas.List.FromFn.{length-map-range_with_len, get_or-map-range_with_len, fill_by_all}
@@ -19,8 +19,8 @@ use Rattle.lane_core.specs.Plans.{IsAdmissible, left_of, row_of, period_of}
 use Rattle.lane_core.specs.Entering.{first_loop_lane}
 use Rattle.lane_core.proofs.Dark.{dark}
 use Rattle.plan_layout.specs.Layout.{tiling_of}
-use Rattle.plan_waves.specs.Waves.{is_free_entry, is_body_entry, GoesOn, is_inside, IsDarkInside, bits_at, loop_exit, loop_entry, tiles_back, DrivesInputs}
-use Rattle.plan_waves.specs.WaysBack.{before_entry, HasWayBack}
+use Rattle.plan_waves.specs.Waves.{is_free_entry, is_body_entry, GoesOn, is_inside, IsDarkInside, bits_at, loop_entry, tiles_back, DrivesInputs}
+use Rattle.plan_waves.specs.WaysBack.{before_entry}
 use Rattle.plan_waves.specs.Cycles.{cycle_steps, free_bits, loop_bits}
 use Rattle.plan_waves.proofs.Inputs.{free_place, not_injected, or_none, driven_edges_go_on, inputs_enter}
 use Rattle.plan_waves.proofs.Paths.{loop_lane, left_inside}
