@@ -42,7 +42,7 @@ use Rattle.netlist_meaning.specs.Flat.{class_of, nets_but_clocks}
 use Rattle.netlist_meaning.specs.FlatValuation.{AreFlatRows, IsFlatRun, start_bits, flat_state_in, flat_output_bit}
 use Rattle.cover_mapper.specs.Mapped.{HasBits}
 use Rattle.carries.specs.Contexts.{AreRunsFrom, context_drive, ShowsBitsInContexts, ShowsOutputsInContexts, ShowsNetLinesInContexts}
-use Rattle.carries.specs.FlatContexts.{AreFlatContexts, ShowsFlatContexts}
+use Rattle.carries.specs.FlatContexts.{AreFlatContexts}
 use Rattle.carries.proofs.OneContext.{flat_from_contexts}
 use Rattle.plan_ports.specs.Tables.{IsTableOf}
 use Rattle.plan_ports.proofs.GatheredNets.{place_of_line}

@@ -1,5 +1,5 @@
 -- The text that is written of what is compiled carries the flat netlist in each context.
-use Rattle.std.proofs.Common.{◌≡◌, ◌*◌, ◌<◌, ◌≤◌, sym, ◌∙◌, ap, subst, false, [], ◌∷◌, length, map, replicate, arith}
+use Rattle.std.proofs.Common.{◌≡◌, sym, ◌∙◌, ap, subst, false, [], ◌∷◌, length, map, replicate, arith}
 use Rattle.std.proofs.lemmas.List.{length-map, length-replicate}
 use Rattle.ww_rule.specs.Grid.{Grid}
 use Rattle.tiling.specs.Steps.{KeepsLaw}
