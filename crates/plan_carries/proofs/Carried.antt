@@ -34,7 +34,7 @@ use Rattle.netlist_core.specs.declared.flat.FlatPort.{FlatPort}
 use Rattle.netlist_core.specs.declared.flat.Net.{Net as FlatNet}
 use Rattle.netlist_meaning.specs.Flat.{class_of, nets_but_clocks}
 use Rattle.netlist_meaning.specs.FlatValuation.{AreFlatRows, IsFlatRun, start_bits, flat_state_in, flat_output_bit}
-use Rattle.cover_mapper.specs.Mapped.{HasBits}
+use Rattle.cell_meaning.specs.Mapped.{HasBits}
 use Rattle.carries.specs.Cells.{ShowsBitsFrom, ShowsOutputs, ShowsNetLines, drive}
 use Rattle.plan_ports.specs.Tables.{IsTableOf}
 use Rattle.plan_ports.proofs.GatheredNets.{place_of_line}

@@ -1,5 +1,5 @@
 -- Covers that are a constant by their text, and covers of two nets that are one cell.
-use Rattle.std.specs.Prelude.{◌≡◌, ℕ, zero, suc, Bool, true, false, ◌&&◌, ◌||◌, cond, List, [], ◌∷◌, Option, Some, None, codes, bytes_eq}
+use Rattle.std.specs.Prelude.{ℕ, zero, suc, Bool, false, ◌&&◌, ◌||◌, cond, List, [], ◌∷◌, Option, Some, None, codes, bytes_eq}
 use Rattle.cell_core.specs.declared.cells.Src.{Src}
 use Rattle.cell_core.specs.declared.cells.Src.TheVariants.{One, Zero}
 use Rattle.cell_core.specs.declared.cells.Cell.{Cell}
@@ -39,10 +39,3 @@ single_cell [] rows on = None
 single_cell (a ∷ []) rows on = None
 single_cell (a ∷ b ∷ []) rows on = cond on (cell_of_rows a b rows) None
 single_cell (a ∷ b ∷ c ∷ sources) rows on = None
-
--- these covers are one cell
-abbrev pub SinglesAreListed : Type 0
-SinglesAreListed =
-    (a b : Src) → (single_cell (a ∷ b ∷ []) (codes "1-" ∷ codes "-1" ∷ []) true ≡ Some (Or a b)) × (single_cell (a ∷ b ∷ []) (codes "-1" ∷ codes "1-" ∷ []) true ≡ Some (Or a b))
-    × (single_cell (a ∷ b ∷ []) (codes "10" ∷ codes "01" ∷ []) true ≡ Some (Xor a b)) × (single_cell (a ∷ b ∷ []) (codes "01" ∷ codes "10" ∷ []) true ≡ Some (Xor a b))
-    × (single_cell (a ∷ b ∷ []) (codes "10" ∷ []) true ≡ Some (AndNot a b)) × (single_cell (a ∷ b ∷ []) (codes "01" ∷ []) true ≡ Some (AndNot b a))

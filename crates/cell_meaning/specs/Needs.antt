@@ -1,10 +1,13 @@
 -- What a flat netlist asks of its cells.
-use Rattle.std.specs.Prelude.{ℕ, ◌==◌, ◌&&◌, ◌||◌, not, Bool, length, sum_by}
+use Rattle.std.specs.Prelude.{ℕ, ◌==◌, ◌&&◌, ◌||◌, not, Bool, List, length, take, sum_by}
 use Rattle.std.specs.List.{list_any}
 use Rattle.netlist_core.specs.declared.flat.Node.{Node}
 use Rattle.netlist_core.specs.declared.flat.Flat.{Flat}
 use Rattle.netlist_core.specs.OwnWeight.{rows_weight}
-use Rattle.cover_cells.specs.Covers.{has_no_positive}
+
+-- the row has a `1` under none of so many nets
+abbrev pub has_no_positive : ℕ → List ℕ → Bool
+has_no_positive count row = not (list_any (λ character. character == 49) (take count row))
 
 -- a cover needs constant 1: a row has no `1`, or there are rows and they end in `0`
 abbrev pub needs_one : Node → Bool
