@@ -25,7 +25,7 @@ use Rattle.plan_waves.proofs.Rows.{plans_show_rows}
 use Rattle.cell_core.specs.declared.list.CellList.{CellList}
 use Rattle.cell_core.specs.Meaning.{Fits}
 use Rattle.cell_core.specs.Loops.{loop_state}
-use Rattle.cell_lanes.specs.Computes.{ComputesByPlan}
+use Rattle.cell_meaning.specs.Computes.{ComputesByPlan}
 use Rattle.pattern_reading.specs.declared.ports.PortLine.{PortLine}
 use Rattle.pattern_reading.specs.declared.ports.NetLine.{NetLine}
 use Rattle.pattern_reading.specs.declared.ports.Ports.{Ports}
@@ -34,7 +34,7 @@ use Rattle.netlist_core.specs.declared.flat.FlatPort.{FlatPort}
 use Rattle.netlist_core.specs.declared.flat.Net.{Net as FlatNet}
 use Rattle.netlist_meaning.specs.Flat.{class_of, nets_but_clocks}
 use Rattle.netlist_meaning.specs.FlatValuation.{AreFlatRows, IsFlatRun, start_bits, flat_state_in, flat_output_bit}
-use Rattle.cover_mapper.specs.Mapped.{HasBits}
+use Rattle.cell_meaning.specs.Mapped.{HasBits}
 use Rattle.carries.specs.Cells.{ShowsBitsFrom, ShowsOutputs, ShowsNetLines, drive}
 use Rattle.plan_ports.specs.Tables.{IsTableOf}
 use Rattle.plan_ports.proofs.GatheredNets.{place_of_line}

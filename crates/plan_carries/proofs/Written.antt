@@ -13,7 +13,7 @@ use Rattle.netlist_meaning.specs.Flat.{class_of, nets_but_clocks, port_classes}
 use Rattle.pattern_reading.specs.declared.ports.Ports.{Ports}
 use Rattle.written_reads.specs.Laws.{HasWrittenText}
 use Rattle.carries.specs.FlatNets.{ShowsFlatRuns}
-use Rattle.cover_mapper.specs.Listed.{listed_classes}
+use Rattle.cell_meaning.specs.Listed.{listed_classes}
 use Rattle.plan_ports.specs.Laws.{TablesAreReadable}
 use Rattle.plan_ports.proofs.Readable.{small_size}
 use Rattle.plan_carries.specs.Laws.{PlansHavePorts, PlanesShowRuns, TextsCarryFlats}
