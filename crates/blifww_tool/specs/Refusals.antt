@@ -26,8 +26,8 @@ use Rattle.drive.specs.declared.error.SimulateError.{SimulateError}
 use Rattle.drive.specs.declared.error.SimulateError.TheVariants as simulating
 use Rattle.probe_view.specs.declared.error.ProbeError.{ProbeError}
 use Rattle.probe_view.specs.declared.error.ProbeError.TheVariants as probing
-use Rattle.made_run.specs.declared.error.SummaryError.{SummaryError}
-use Rattle.made_run.specs.declared.error.SummaryError.TheVariants as summarizing
+use Rattle.made_summary.specs.declared.error.SummaryError.{SummaryError}
+use Rattle.made_summary.specs.declared.error.SummaryError.TheVariants as summarizing
 use Rattle.blifww_tool.specs.declared.causes.Cause.{Cause}
 use Rattle.blifww_tool.specs.declared.causes.Cause.TheVariants.{NetlistFault, WeightTooLarge, Loop, Pattern, GridTooLarge, PortTable, Streams, NoSuchNet, TooFar}
 use Rattle.blifww_tool.specs.declared.causes.TextError.{TextError}
