@@ -1,49 +1,86 @@
-use Rattle.std.proofs.Common.{◌≡◌, ℕ, pos, List, sym, subst, ap, ap₂, ◌∙◌, length, arith}
-use Rattle.std.proofs.lemmas.List.{with_items_is}
-use Rattle.lane_kernel.specs.Rows.{plane_of_rows}
-use Rattle.ww_rule.specs.Wireworld.{next_plane}
-use Rattle.lane_kernel.specs.Spans.{IsDarkBeyond}
-use Rattle.band_rows.proofs.Same.{same_state, same_apart}
+use Rattle.std.proofs.Common.{ℕ, ◌+◌, ◌<◌, ◌≡◌, ◌==◌, refl, sym, ap, subst, ◌∙◌, true, List, length, arith}
+use Rattle.std.specs.Prelude.{◌≢◌}
+use Rattle.std.proofs.lemmas.Bool.{eqb-true, eq-eqb, and_parts, true≢false}
+use Rattle.lane_kernel.proofs.Parts.{wholly_dark}
+use Rattle.lane_kernel.specs.Spans.{IsDarkBeyond, stays_within}
+use Rattle.band_rows.proofs.Far.{dark_cells}
 use Rattle.band_rows.proofs.row.Row.step.Goals as goal
 
-same_next : {h t w h' t' w' : List ℕ} (a b : List ℕ) (x : ℕ) → h ≡ h' → t ≡ t' → w ≡ w' → next_plane (plane_of_rows a h b t w) (pos x) (pos 1) ≡ next_plane (plane_of_rows a h' b t' w') (pos x) (pos 1)
-same_next {h} {t} {w} {h'} {t'} {w'} a b x p q r = ap₂ (λ h t. next_plane (plane_of_rows a h b t w) (pos x) (pos 1)) p q ∙ ap (λ w. next_plane (plane_of_rows a h' b t' w) (pos x) (pos 1)) r
+one_word : (first end : ℕ) (words : List ℕ) → first + 1 ≡ end → IsDarkBeyond first end words → IsDarkBeyond first (first + 1) words
+one_word first end words e dark = subst (λ n. IsDarkBeyond first n words) (sym e) dark
 
-pub returns-clause-cells : goal.returns-clause-cells
-returns-clause-cells c x =
-    let e = c.step_lit-self.ensures in
-    let lh = e.long_heads in
-    let lt = e.long_tails in
-    let lw = e.long_wires in
-    let st = c.args.self.now.long_tails in
-    let sw = c.args.self.now.long_wires in
-    same_state x
-    (with_items_is c.args.self.now.heads c.step_lit-self.new.heads (omega (arith, lh)))
-    (with_items_is c.args.self.now.tails c.step_lit-self.new.tails (omega (arith, lt, st)))
-    (with_items_is c.args.self.now.wires c.step_lit-self.new.wires (omega (arith, lw, sw)))
-    ∙ e.cells x
-    ∙ same_next c.args.above.now c.args.below.now x c.deref_mut.ensures.value c.deref_mut-2.ensures.value c.deref_mut-3.ensures.value
+pub returns-then-is_empty-clause-cells : goal.returns-then-is_empty-clause-cells
+returns-then-is_empty-clause-cells c =
+    let q = c.requires in
+    let row = c.args.self.now in
+    let near = c.hull-near.result in
+    let e = c.hull-near.ensures in
+    let f = c.hull.ensures in
+    let a = c.args.above.now in
+    let b = c.args.below.now in
+    let h = row.heads.items in
+    let t = row.tails.items in
+    let none_near = eqb-true near.first near.end (sym c.is_empty.ensures ∙ c.if-is_empty.true) in
+    dark_cells a h b t row.wires.items
+    (wholly_dark near.first near.end a none_near (e.first a q.dark_above))
+    (wholly_dark near.first near.end h none_near (e.second h (f.first h row.dark_heads)))
+    (wholly_dark near.first near.end b none_near (e.second b (f.second b q.dark_below)))
+    (wholly_dark near.first near.end t none_near (e.second t (f.first t row.dark_tails)))
+    row.apart
 
-pub invariant_of-self : goal.invariant_of-self
-invariant_of-self c =
-    let e = c.step_lit-self.ensures in
-    let lh = e.long_heads in
-    let lt = e.long_tails in
-    let lw = e.long_wires in
-    let st = c.args.self.now.long_tails in
-    let sw = c.args.self.now.long_wires in
-    let eh = with_items_is c.args.self.now.heads c.step_lit-self.new.heads (omega (arith, lh)) in
-    let et = with_items_is c.args.self.now.tails c.step_lit-self.new.tails (omega (arith, lt, st)) in
-    let ew = with_items_is c.args.self.now.wires c.step_lit-self.new.wires (omega (arith, lw, sw)) in
-    let nh = ap length eh in
-    let nt = ap length et in
-    let nw = ap length ew in
-    let within = e.within in
+pub is_in_word-requires : goal.is_in_word-requires
+is_in_word-requires c =
+    let q = c.requires in
+    let row = c.args.self.now in
+    let within = c.hull-near.ensures.within (length row.heads.items) q.above_within (c.hull.ensures.within (length row.heads.items) row.within q.below_within) in
+    let same = ap length c.deref.ensures.value in
     record {
-      within = omega (arith, nh, lh, within);
-      long_tails = omega (arith, nh, nt, lh, lt);
-      long_wires = omega (arith, nh, nw, lh, lw);
-      dark_heads = subst (IsDarkBeyond c.step_lit-self.result.first c.step_lit-self.result.end) (sym eh) e.dark_heads;
-      dark_tails = subst (IsDarkBeyond c.step_lit-self.result.first c.step_lit-self.result.end) (sym et) e.dark_tails;
-      apart = same_apart eh et ew e.apart;
+      within = omega (arith, within, same);
+      above = q.above ∙ sym same;
+      below = q.below ∙ sym same;
+    }
+
+pub go_on_in_word-requires : goal.go_on_in_word-requires
+go_on_in_word-requires c =
+    let q = c.requires in
+    let row = c.args.self.now in
+    let near = c.hull-near.result in
+    let e = c.hull-near.ensures in
+    let f = c.hull.ensures in
+    let h = row.heads.items in
+    let t = row.tails.items in
+    let within = e.within (length h) q.above_within (f.within (length h) row.within q.below_within) in
+    let both = and_parts _ (stays_within near.first (near.first + 1) c.args.above.now c.deref.result.now c.args.below.now) (sym c.is_in_word.ensures ∙ c.if-is_in_word.true) in
+    let one = eqb-true _ near.end both.0 in
+    record {
+      within = omega (arith, one, within);
+      above = q.above;
+      below = q.below;
+      dark_above = one_word near.first near.end c.args.above.now one (e.first c.args.above.now q.dark_above);
+      dark_heads = one_word near.first near.end h one (e.second h (f.first h row.dark_heads));
+      dark_below = one_word near.first near.end c.args.below.now one (e.second c.args.below.now (f.second c.args.below.now q.dark_below));
+      dark_tails = one_word near.first near.end t one (e.second t (f.first t row.dark_tails));
+      stays = subst (λ h. stays_within near.first (near.first + 1) c.args.above.now h c.args.below.now ≡ true) c.deref.ensures.value both.1;
+    }
+
+pub go_on_in_span-requires : goal.go_on_in_span-requires
+go_on_in_span-requires c =
+    let q = c.requires in
+    let row = c.args.self.now in
+    let near = c.hull-near.result in
+    let e = c.hull-near.ensures in
+    let f = c.hull.ensures in
+    let h = row.heads.items in
+    let t = row.tails.items in
+    let apart : near.first ≢ near.end = λ same. true≢false (sym (eq-eqb near.first near.end same) ∙ sym c.is_empty.ensures ∙ c.if-is_empty.false) in
+    let order = near.order in
+    record {
+      some = omega (arith, order, apart);
+      within = e.within (length h) q.above_within (f.within (length h) row.within q.below_within);
+      above = q.above;
+      below = q.below;
+      dark_above = e.first c.args.above.now q.dark_above;
+      dark_heads = e.second h (f.first h row.dark_heads);
+      dark_below = e.second c.args.below.now (f.second c.args.below.now q.dark_below);
+      dark_tails = e.second t (f.first t row.dark_tails);
     }
