@@ -30,10 +30,11 @@ use Rattle.carries.specs.FlatNets.{CarriesFlat}
 use Rattle.carries.proofs.OneWay.{one_spelling}
 use Rattle.plan_carries.specs.Laws.{DesignsAreCarried}
 use Rattle.plan_ports.specs.Tables.{IsTableOf}
-use Rattle.drive.specs.declared.streams.Streams.{Streams}
+use Rattle.streams.specs.declared.streams.Streams.{Streams}
 use Rattle.drive.specs.declared.error.SimulateError.{SimulateError}
 use Rattle.drive.specs.declared.error.SimulateError.TheVariants as simulating
-use Rattle.drive.specs.Driving.{AreFor, rows_of, shown_bits, last_generation, greatest_generation, HasSimulateCause}
+use Rattle.streams.specs.Rows.{rows_of}
+use Rattle.drive.specs.Driving.{AreFor, shown_bits, last_generation, greatest_generation, HasSimulateCause}
 use Rattle.netlist_run.specs.Runs.{bits_in_run, ShowsRun}
 use Rattle.shown_runs.specs.ShownRuns.{CarriersShowRuns}
 use Rattle.made_netlists.specs.Text.{made_text, made_state}

@@ -6,7 +6,7 @@ use Rattle.netlist_core.specs.declared.model.Design.{Design}
 use Rattle.netlist_meaning.specs.Places.{main_outputs}
 use Rattle.netlist_text.specs.declared.netlist.Netlist.{Netlist}
 use Rattle.netlist_plans.specs.declared.planning.Planned.{Planned}
-use Rattle.drive.specs.declared.streams.Streams.{Streams}
+use Rattle.streams.specs.declared.streams.Streams.{Streams}
 use Rattle.drive.specs.declared.error.SimulateError.{SimulateError}
 use Rattle.drive.specs.Driving.{HasSimulateCause, greatest_generation, last_generation, shown_bits}
 use Rattle.netlist_run.specs.Runs.{ShowsRun}

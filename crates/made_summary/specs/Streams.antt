@@ -3,7 +3,7 @@ use Rattle.std.specs.Prelude.{ℕ, ◌==◌, ◌+◌, ◌*◌, Bool, List, map}
 use Rattle.std.specs.List.{range_with_len}
 use Rattle.made_netlists.specs.Draws.{draw_after}
 use Rattle.made_netlists.specs.Text.{made_state}
-use Rattle.drive.specs.declared.streams.Streams.{Streams}
+use Rattle.streams.specs.declared.streams.Streams.{Streams}
 
 -- The bits of an input are draws below 2, one for each cycle, that come from a state after so many others.
 abbrev pub stream_after : (state before cycles : ℕ) → List Bool

@@ -12,7 +12,8 @@ use Rattle.netlist_meaning.specs.Places.{main_outputs}
 use Rattle.netlist_meaning.specs.Weight.{weight}
 use Rattle.netlist_meaning.specs.Valuation.{Valuation, IsRun}
 use Rattle.made_netlists.specs.Design.{made_design}
-use Rattle.drive.specs.Driving.{rows_of, last_generation, greatest_generation}
+use Rattle.streams.specs.Rows.{rows_of}
+use Rattle.drive.specs.Driving.{last_generation, greatest_generation}
 use Rattle.netlist_run.specs.Runs.{bits_in_run}
 use Rattle.made_summary.specs.Streams.{drawn_streams}
 use Rattle.made_summary.specs.declared.summarizing.OutputBits.{OutputBits}

@@ -4,7 +4,7 @@ use Rattle.std.proofs.lemmas.Result.{err_from_is_err_and, IfErr-weaker, IfOk-wea
 use Rattle.ww_rule.specs.Grid.{plane_of}
 use Rattle.grid_assembly.specs.PlanDrawing.{start_grid}
 use Rattle.netlist_meaning.specs.Places.{main_outputs}
-use Rattle.drive.specs.declared.streams.Streams.{Streams}
+use Rattle.streams.specs.declared.streams.Streams.{Streams}
 use Rattle.drive.specs.Driving.{shown_bits}
 use Rattle.made_summary.specs.Streams.{streams_after}
 use Rattle.made_summary.specs.Summaries.{HasSummaryCause}
