@@ -7,7 +7,7 @@ ghost use Rattle.model_circles.specs.Earliest.{IsCircle, IsFaultOf};
 
 use crate::circle::{Circle, earliest};
 use lists::List;
-use model_index::{NamedModels, OrderError, order};
+use model_index::{ModelOrderError, NamedModels, order};
 use netlist_core::Model;
 use netlist_rules::{Fault, FaultKind};
 use std::alloc::{AllocError, Global};
@@ -55,8 +55,8 @@ pub fn circle_fault(
 {
     match order(alloc, models, named) {
         Ok(_order) => return Ok(None),
-        Err(OrderError::NoMemory) => return Err(AllocError),
-        Err(OrderError::Circle) => {}
+        Err(ModelOrderError::NoMemory) => return Err(AllocError),
+        Err(ModelOrderError::Circle) => {}
     }
     match earliest(alloc, models, named)? {
         None => Ok(None),
