@@ -51,7 +51,8 @@ pub fn circle_fault(
     named: &NamedModels,
 ) -> Result<Option<Fault>, AllocError>
     requires { named.now ≡ models.now }
-    ensures { IfOk result (λ found. MatchOption found ((line : ℕ) (names : List (List ℕ)) → ¬ IsOnCircle models.now line names) (IsCircleFault models.now)) }
+    ensures { IfOk result (λ found. MatchOption found ((line : ℕ) (names : List (List ℕ))
+        → ¬ IsOnCircle models.now line names) (IsCircleFault models.now)) }
 {
     match order(alloc, models, named) {
         Ok(_order) => return Ok(None),
