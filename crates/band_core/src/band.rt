@@ -143,14 +143,7 @@ impl Band {
     }
 
     /// Goes on by one generation, between the heads of the rows beside the band at its own generation.
-    pub fn step(
-        &mut self,
-        y: usize,
-        up: &[u64],
-        up_span: Span,
-        down: &[u64],
-        down_span: Span,
-    )
+    pub fn step(&mut self, y: usize, up: &[u64], up_span: Span, down: &[u64], down_span: Span)
         requires is { IsBand (length up.now) y (length self.old.rows.items) self.old }
         requires room { self.old.generation + 1 < 2 ^ 64 }
         requires down { length down.now ≡ length up.now }
