@@ -1,5 +1,4 @@
 pub mod Ports
 pub mod Pattern
 pub mod Blank
-pub mod Straight
 pub mod RowRuns

@@ -9,4 +9,4 @@ mod rows;
 mod runs;
 
 pub use rows::{cell, fill_row, pattern_of, size};
-pub use runs::run_at;
+pub use runs::{run_at, run_in};

@@ -1,7 +1,8 @@
 // Runs of equal cells in a row, block by block.
-ghost use Rattle.std.specs.Prelude.{◌≡◌, ◌-◌, ◌<◌, ◌≤◌, ◌^◌, ℕ, pos, true, false, cond};
+ghost use Rattle.std.specs.Prelude.{◌≡◌, ◌-◌, ◌<◌, ◌≤◌, ◌^◌, ◌/◌, ◌%◌, ℕ, pos, true, cond};
 ghost use Rattle.ww_rule.specs.declared.pattern.State.TheVariants.{Conductor, Empty};
 ghost use Rattle.lane_core.specs.Plans.{IsAdmissible};
+ghost use Rattle.plan_layout.specs.Layout.{tiling_of};
 ghost use Rattle.plan_layout.specs.Planes.{start_plane};
 ghost use Rattle.plan_layout.specs.Slots.{piece_of, slot_of};
 ghost use Rattle.plan_layout.specs.Starts.{start_edges};
@@ -32,17 +33,6 @@ fn is_dark(plan: &Plan, column: u64, lane: u64, kind: Kind) -> bool
     !entered && !left
 }
 
-// Whether a row lies beside the wire of a tile that goes straight on to the east or the west.
-fn is_beside_wire(kind: Kind, y: u32) -> bool
-    ensures { result ≡ true → (x : ℕ) → shipped_drawing kind (pos x) (pos y) ≡ false }
-{
-    match kind {
-        Kind::East => y != 8,
-        Kind::West => y != 8,
-        _ => false,
-    }
-}
-
 // Equal cells of a tile whose first block is at this tile column and lane, from a place in the tile's box on.
 fn tile_run(plan: &Plan, column: u64, lane: u64, kind: Kind, place: (u32, u32)) -> (State, u32)
     requires admissible { IsAdmissible plan.now }
@@ -52,7 +42,7 @@ fn tile_run(plan: &Plan, column: u64, lane: u64, kind: Kind, place: (u32, u32)) 
     ensures { IsRowRun (λ x. drawn_piece shipped_drawing (start_edges plan.now) column lane (Tile kind) x place.1)
         place.0 (32 - place.0) result }
 {
-    if is_beside_wire(kind, place.1) {
+    if Shipped.is_row_blank(kind, place.1) {
         return (State::Empty, 32 - place.0);
     }
     let (drawn, count) = Shipped.run_at(kind, place.0, place.1);
@@ -99,6 +89,21 @@ fn slot_run(plan: &Plan, column: u64, lane: u64, slot: Slot, x: u32, y: u32) -> 
     }
 }
 
+/// The state of the cell at column `x` and row `y`, in whose block `slot` stands, and a number of cells from it on to the
+/// east that all have it: 1 to `limit`, and none past the block. Where cells lie by an electron, it may tell less than
+/// the run.
+pub fn run_in(plan: &Plan, slot: Slot, y: u64, x: u64, limit: u64) -> (State, u64)
+    requires admissible { IsAdmissible plan.now }
+    requires slot { slot_of slot ≡ tiling_of plan.now (x / 32) (y / 16) }
+    requires some { 1 ≤ limit }
+    ensures run { IsRowRun (λ x. start_plane shipped_drawing plan.now (pos x) (pos y)) x limit result }
+    ensures in_block { result.1 ≤ 32 - x % 32 }
+{
+    let (column, lane) = (x / 32, y / 16);
+    let (state, count) = slot_run(plan, column, lane, slot, (x % 32) as u32, (y % 16) as u32);
+    (state, limit.min(count as u64))
+}
+
 /// The state of the cell at column `x` and row `y`, and a number of cells from it on to the east that all have it: 1 to
 /// `limit`. It tells a run of a block's row at once; where a run goes on in the next block, or cells by an electron, it
 /// may tell less.
@@ -107,8 +112,5 @@ pub fn run_at(plan: &Plan, y: u64, x: u64, limit: u64) -> (State, u64)
     requires some { 1 ≤ limit }
     ensures { IsRowRun (λ x. start_plane shipped_drawing plan.now (pos x) (pos y)) x limit result }
 {
-    let (column, lane) = (x / 32, y / 16);
-    let slot = slot_at(plan, column, lane);
-    let (state, count) = slot_run(plan, column, lane, slot, (x % 32) as u32, (y % 16) as u32);
-    (state, limit.min(count as u64))
+    run_in(plan, slot_at(plan, x / 32, y / 16), y, x, limit)
 }

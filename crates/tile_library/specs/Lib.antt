@@ -2,3 +2,4 @@ pub mod Drawings
 pub mod InBox
 pub mod Laws
 pub mod RowRuns
+pub mod WiredRows

@@ -1,5 +1,5 @@
 // Rows of text as tests on cells.
-ghost use Rattle.std.specs.Prelude.{◌≡◌, ◌-◌, ◌<◌, All, pos, true, false, ℤ};
+ghost use Rattle.std.specs.Prelude.{◌≡◌, ◌-◌, ◌<◌, pos};
 ghost use Rattle.tile_library.specs.Drawings.{drawn_rows};
 ghost use Rattle.tile_library.specs.RowRuns.{IsRowRun};
 ghost use Rattle.tile_timing.specs.Mirror.{mirrored_drawing};
@@ -19,24 +19,6 @@ pub fn is_drawn_mirrored(rows: &[[u8; 32]], x: u32, y: u32) -> bool
     x <= 31 && is_drawn(rows, 31 - x, y)
 }
 
-// Whether a row of text has dots alone.
-fn is_dotted(row: &[u8; 32]) -> bool
-    ensures { result ≡ true → All (λ b. b ≡ 46) row.now }
-{
-    row.iter().all(|byte| *byte == b'.')
-}
-
-/// Whether a row has no conductor.
-#[tactic(auto, using(crate::proofs::Blank::blank))]
-pub fn is_blank(rows: &[[u8; 32]], y: u32) -> bool
-    ensures { result ≡ true → (x : ℤ) → drawn_rows rows.now x (pos y) ≡ false }
-{
-    match rows.get(y as usize) {
-        Some(row) => is_dotted(row),
-        None => true,
-    }
-}
-
 /// Whether a cell is a conductor, and for how many cells from it on, up to the eastern side of the box, this is so.
 pub fn run_from(rows: &[[u8; 32]], x: u32, y: u32) -> (bool, u32)
     requires { x < 32 }
@@ -46,13 +28,13 @@ pub fn run_from(rows: &[[u8; 32]], x: u32, y: u32) -> (bool, u32)
         Some(row) => row,
         None => return (false, 32 - x),
     };
-    let drawn = row[x as usize] == b'C';
+    let first = row[x as usize];
     for end in x + 1..32 {
-        if (row[end as usize] == b'C') != drawn {
-            return (drawn, end - x);
+        if row[end as usize] != first {
+            return (first == b'C', end - x);
         }
     }
-    (drawn, 32 - x)
+    (first == b'C', 32 - x)
 }
 
 /// The same of the rows with west and east changed.

@@ -1,7 +1,8 @@
 // The library of the shipped drawings.
 ghost use Rattle.tile_library.specs.Drawings.{shipped_drawing};
+ghost use Rattle.tile_library.specs.WiredRows.{AreWiredRows};
 
-use crate::rows::{is_blank, run_from, run_from_mirrored};
+use crate::rows::{run_from, run_from_mirrored};
 use crate::{drawings, tiles};
 use tile_core::{Kind, Library, Tile};
 
@@ -63,22 +64,8 @@ impl Shipped {
     pub fn is_row_blank(self, kind: Kind, y: u32) -> bool
         ensures { result ≡ true → (x : ℕ) → shipped_drawing kind (pos x) (pos y) ≡ false }
     {
-        match kind {
-            Kind::Swap => is_blank(&drawings::SWAP, y),
-            Kind::WestSwap => is_blank(&drawings::SWAP, y),
-            Kind::Xor => is_blank(&drawings::XOR, y),
-            Kind::Or => is_blank(&drawings::OR, y),
-            Kind::AndNot => is_blank(&drawings::AND_NOT, y),
-            Kind::Fork => is_blank(&drawings::FORK, y),
-            Kind::East => is_blank(&drawings::EAST, y),
-            Kind::West => is_blank(&drawings::EAST, y),
-            Kind::South => is_blank(&drawings::SOUTH, y),
-            Kind::North => is_blank(&drawings::SOUTH, y),
-            Kind::EastSouth => is_blank(&drawings::EAST_SOUTH, y),
-            Kind::SouthWest => is_blank(&drawings::SOUTH_WEST, y),
-            Kind::WestNorth => is_blank(&drawings::WEST_NORTH, y),
-            Kind::NorthEast => is_blank(&drawings::NORTH_EAST, y),
-        }
+        let (first, last) = wired_rows(kind);
+        y < first || last < y
     }
 
     /// Whether a cell of a tile is a conductor, and for how many cells from it on, up to the eastern side of its box,
@@ -103,5 +90,27 @@ impl Shipped {
             Kind::West => run_from(&drawings::EAST, x, y),
             Kind::WestSwap => run_from_mirrored(&drawings::SWAP, x, y),
         }
+    }
+}
+
+// The first and the last row of a kind's box that have conductors.
+fn wired_rows(kind: Kind) -> (u32, u32)
+    ensures { AreWiredRows kind result }
+{
+    match kind {
+        Kind::Swap => (5, 27),
+        Kind::Xor => (8, 24),
+        Kind::Or => (8, 24),
+        Kind::AndNot => (8, 25),
+        Kind::Fork => (6, 24),
+        Kind::East => (8, 8),
+        Kind::South => (0, 15),
+        Kind::North => (0, 15),
+        Kind::EastSouth => (8, 15),
+        Kind::SouthWest => (0, 8),
+        Kind::WestNorth => (0, 8),
+        Kind::NorthEast => (8, 15),
+        Kind::West => (8, 8),
+        Kind::WestSwap => (5, 27),
     }
 }
