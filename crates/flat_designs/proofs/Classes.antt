@@ -27,10 +27,10 @@ use Rattle.flat_designs.specs.Laws.{ClassesAreJoined, FirstsAreRoots}
 use Rattle.flat_designs.proofs.Lists.{pair_at, one_place}
 use Rattle.flat_designs.proofs.Listed.{net_is, net_listed, nets_ascend, nets_once, IsEarlierNet}
 
-same_net : (a b : Net) → is_same_net a b ≡ true → a ≡ b
+pub same_net : (a b : Net) → is_same_net a b ≡ true → a ≡ b
 same_net a b e = let (p, n) = and_parts _ _ e in ap (λ place. net_at place a.name) ((bytes_eq-Decides a.place b.place).0 p) ∙ ap (net_at b.place) ((bytes_eq-Decides a.name b.name).0 n)
 
-is_same : (a b : Net) → a ≡ b → is_same_net a b ≡ true
+pub is_same : (a b : Net) → a ≡ b → is_same_net a b ≡ true
 is_same a b e = and_from _ _ ((bytes_eq-Decides a.place b.place).1 (ap (λ (x : Net). x.place) e)) ((bytes_eq-Decides a.name b.name).1 (ap (λ (x : Net). x.name) e))
 
 -- a net stands at its position

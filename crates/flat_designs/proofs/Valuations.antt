@@ -110,7 +110,7 @@ abbrev pub latches_of : Model → List LatchRow
 latches_of m = m.latches
 
 -- a bit for each flat latch is that for each latch of each place
-latch_bits : (design : Design) (flat : Flat) → IsFlatOf design flat → (g : FlatLatch → Bool) (state : LatchState)
+pub latch_bits : (design : Design) (flat : Flat) → IsFlatOf design flat → (g : FlatLatch → Bool) (state : LatchState)
     → ((place : Place) (number : ℕ) (l : LatchRow) → latch_at design place number ≡ Some l → g (flat_latch design place l) ≡ state place number)
     → map g flat.latches ≡ state_in_order design state
 latch_bits design flat h g state each = ap (map g) h.latches ∙ map_flat g _ _ (places_in_order design) at_place
