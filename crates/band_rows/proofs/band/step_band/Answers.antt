@@ -52,61 +52,27 @@ below_of-requires-clause-long c lt =
     let m = many_parts rows s.result.0.now t.result.0.now t.result.1.now r w in
     ap length (field_after (λ row. row.heads.items) rows s.result.0.now t.result.0.now t.result.1.now r w) ∙ v.long (r + 1) (omega (arith, lt, m)) ∙ sym c.requires.down
 
-pub step-requires-clause-above : goal.step-requires-clause-above
-step-requires-clause-above c =
+pub step-requires : goal.step-requires
+step-requires c =
     let rows = c.loop-r.rows in
     let r = c.loop-r.r in
-    let i = c.loop-r.invariant in
-    let v = i.moved in
     let s = c.split_at_mut-before in
     let t = c.split_at_mut-own in
     let w = parted rows s.result.0.now s.result.1.now t.result.0.now t.result.1.now r s.ensures.value s.ensures.front_len t.ensures.value t.ensures.front_len in
-    let long = own_long (length c.args.up.now) rows s.result.0.now t.result.0.now t.result.1.now r c.index-own-0.result w v.long in
-    let l = c.above_of.ensures.long in
+    let long = own_long (length c.args.up.now) rows s.result.0.now t.result.0.now t.result.1.now r c.index-own-0.result w c.loop-r.invariant.moved.long in
+    let above = c.above_of.ensures in
+    let below = c.below_of.ensures in
+    let above_end = above.within in
+    let below_end = below.within in
     let down = c.requires.down in
-    omega (arith, long, l, down)
-
-pub step-requires-clause-below : goal.step-requires-clause-below
-step-requires-clause-below c =
-    let rows = c.loop-r.rows in
-    let r = c.loop-r.r in
-    let i = c.loop-r.invariant in
-    let v = i.moved in
-    let s = c.split_at_mut-before in
-    let t = c.split_at_mut-own in
-    let w = parted rows s.result.0.now s.result.1.now t.result.0.now t.result.1.now r s.ensures.value s.ensures.front_len t.ensures.value t.ensures.front_len in
-    let long = own_long (length c.args.up.now) rows s.result.0.now t.result.0.now t.result.1.now r c.index-own-0.result w v.long in
-    let l = c.below_of.ensures.long in
-    let down = c.requires.down in
-    omega (arith, long, l, down)
-
-pub step-requires-clause-above_within : goal.step-requires-clause-above_within
-step-requires-clause-above_within c =
-    let rows = c.loop-r.rows in
-    let r = c.loop-r.r in
-    let i = c.loop-r.invariant in
-    let v = i.moved in
-    let s = c.split_at_mut-before in
-    let t = c.split_at_mut-own in
-    let w = parted rows s.result.0.now s.result.1.now t.result.0.now t.result.1.now r s.ensures.value s.ensures.front_len t.ensures.value t.ensures.front_len in
-    let long = own_long (length c.args.up.now) rows s.result.0.now t.result.0.now t.result.1.now r c.index-own-0.result w v.long in
-    let l = c.above_of.ensures.within in
-    let down = c.requires.down in
-    omega (arith, long, l, down)
-
-pub step-requires-clause-below_within : goal.step-requires-clause-below_within
-step-requires-clause-below_within c =
-    let rows = c.loop-r.rows in
-    let r = c.loop-r.r in
-    let i = c.loop-r.invariant in
-    let v = i.moved in
-    let s = c.split_at_mut-before in
-    let t = c.split_at_mut-own in
-    let w = parted rows s.result.0.now s.result.1.now t.result.0.now t.result.1.now r s.ensures.value s.ensures.front_len t.ensures.value t.ensures.front_len in
-    let long = own_long (length c.args.up.now) rows s.result.0.now t.result.0.now t.result.1.now r c.index-own-0.result w v.long in
-    let l = c.below_of.ensures.within in
-    let down = c.requires.down in
-    omega (arith, long, l, down)
+    record {
+      above = above.long ∙ sym long;
+      below = below.long ∙ down ∙ sym long;
+      above_within = omega (arith, long, above_end);
+      below_within = omega (arith, long, down, below_end);
+      dark_above = above.dark;
+      dark_below = below.dark;
+    }
 
 pub loop-r-preserved : goal.loop-r-preserved
 loop-r-preserved c =
