@@ -60,7 +60,7 @@ in_cycles period first cycles g head shown bit same early is = (
         (λ ge. (let more : cycles * period ≤ t * period = mul-le-mul_right period ge in absurd (omega (arith, early, e, more))))
         (cases_lt t cycles)
 
-pub same_drive : (flat : Flat) (plan : Plan) (ports : Ports) → IsTableOf flat plan ports → (rows : List (List Bool)) → drive ports rows ≡ drive_of_rows plan rows
+pub same_drive : (flat : Flat) (plan : Plan) (ports : Ports) → IsTableOf flat plan 1 ports → (rows : List (List Bool)) → drive ports rows ≡ drive_of_rows plan rows
 same_drive flat plan ports table rows = ap₂ (λ p cells. due_of_streams p cells rows) table.period table.in_cells
 
 -- a run on rows, of a list that computes the flat netlist and a plan that computes the list
@@ -121,7 +121,7 @@ out_place plan lane = (left_of plan (length plan.columns), row_of lane)
 abbrev line_place : PortLine → ℕ × ℕ
 line_place line = (line.x, line.y)
 
-cell_is : (flat : Flat) (plan : Plan) (ports : Ports) → IsTableOf flat plan ports → (output : ℕ) (cell : PortLine) → slice_get ports.outs output ≡ Some cell
+cell_is : (flat : Flat) (plan : Plan) (ports : Ports) → IsTableOf flat plan 1 ports → (output : ℕ) (cell : PortLine) → slice_get ports.outs output ≡ Some cell
     → (output < length plan.outs) × (line_place cell ≡ out_place plan (slice_index plan.outs output))
 cell_is flat plan ports table output cell e =
     let low : output < length ports.outs = slice_get_within ports.outs output cell e in
@@ -156,7 +156,7 @@ abbrev net_cell : Plan → NetPlace → ℕ × ℕ × ℕ
 net_cell plan place = cell_after plan place.lane place.after
 
 -- where the cell of a net is
-net_cell_is : (flat : Flat) (plan : Plan) (ports : Ports) → IsTableOf flat plan ports → (number : ℕ) (line : NetLine) → slice_get ports.nets number ≡ Some line
+net_cell_is : (flat : Flat) (plan : Plan) (ports : Ports) → IsTableOf flat plan 1 ports → (number : ℕ) (line : NetLine) → slice_get ports.nets number ≡ Some line
     → (number < length plan.nets) × (place_of_line line ≡ net_cell_of plan number)
 net_cell_is flat plan ports table number line e =
     let low : number < length ports.nets = slice_get_within ports.nets number line e in

@@ -15,7 +15,7 @@ use Rattle.written_reads.specs.Laws.{HasWrittenText}
 use Rattle.carries.specs.FlatNets.{ShowsFlatRuns}
 use Rattle.cover_mapper.specs.Listed.{listed_classes}
 use Rattle.plan_ports.specs.Laws.{TablesAreReadable}
-use Rattle.plan_ports.proofs.Readable.{small_size}
+use Rattle.plan_ports.proofs.Readable.{one_has_room, small_size}
 use Rattle.plan_carries.specs.Laws.{PlansHavePorts, PlanesShowRuns, TextsCarryFlats}
 
 pub plans_have_ports : PlansHavePorts
@@ -34,7 +34,7 @@ pub texts_carry_flats : KeepsLaw shipped_drawing → PatternsArePlanes → ((gri
 texts_carry_flats law patterns written readable shown flat list plan ports c =
     let pattern = patterns plan c.admissible in
     let size = small_size plan c.admissible in
-    let table = readable flat plan ports c.sound.in_range c.named c.names c.places c.admissible c.table in
+    let table = readable flat plan 1 ports c.sound.in_range c.named c.names c.places c.admissible (one_has_room plan) c.table in
     let reads = written (start_grid plan) ports (record { in_rows = pattern.box; width = omega (arith, size.0); height = omega (arith, size.1) }) table.sound table.inside table.no_returns in
     record {
       grid = start_grid plan;

@@ -29,4 +29,4 @@ pub record IsCompiled (flat : Flat) (list : CellList) (plan : Plan) (ports : Por
   pub list_computes : ComputesFlat flat list
   pub admissible : IsAdmissible plan
   pub plan_computes : ComputesByPlan list plan
-  pub table : IsTableOf flat plan ports
+  pub table : IsTableOf flat plan 1 ports
