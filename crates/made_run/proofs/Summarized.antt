@@ -50,7 +50,7 @@ use Rattle.made_run.proofs.Drawn.{streams_long, streams_many}
 
 pub is_planned : DesignsAreCarried → MadeAreNetlists → MadeHaveSizes → TextsAreDecided → WrittenPlansRead → (seed size : ℕ) → 0 < size → size ≤ 128
     → (netlist : Netlist) (planned : Planned) → IsNetlist (made_text seed size) netlist.design → AreParts netlist.design netlist.flat netlist.order.nodes
-    → IsAdmissible planned.plan → IsTableOf netlist.flat planned.plan planned.ports → CarriesFlat (pattern_text (start_grid planned.plan) planned.ports) netlist.flat → IsSmall netlist.flat planned.plan
+    → IsAdmissible planned.plan → IsTableOf netlist.flat planned.plan 1 planned.ports → CarriesFlat (pattern_text (start_grid planned.plan) planned.ports) netlist.flat → IsSmall netlist.flat planned.plan
     → IsPlanned seed size netlist planned
 is_planned law netlists sizes decided read seed size some few netlist planned is p admissible table carries slight =
     let design = netlist.design in

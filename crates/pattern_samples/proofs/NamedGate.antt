@@ -10,7 +10,7 @@ use Rattle.pattern_samples.proofs.Samples.{or_items_read}
 
 gate_spellable : (a b y : List ℕ) → IsPortName a → IsPortName b → IsPortName y → AllByRecursion IsSpellable (named_or_forms a b y)
 gate_spellable a b y ha hb hy =
-    ((λ e. omega (arith, e), omega arith, omega arith), ((omega arith, omega arith, ha), ((omega arith, omega arith, hb), ((omega arith, omega arith, hy), tt))))
+    ((λ e. omega (arith, e), omega arith, omega arith, refl), ((omega arith, omega arith, ha), ((omega arith, omega arith, hb), ((omega arith, omega arith, hy), tt))))
 
 gate_sound : (a b y : List ℕ) → a ≢ b → IsSoundAfter 33 32 [] (named_or_forms a b y)
 gate_sound a b y h = (refl, (refl, (rw (bytes_eq-other b a (λ e. h (sym e))) refl, (refl, tt))))
