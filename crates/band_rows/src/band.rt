@@ -10,7 +10,7 @@ use crate::span::Span;
 
 /// The next generation of rows, where the heads of the rows before and after them are known, and spans beyond which these
 /// have none. `lit` marks the rows that may be lit: these and the rows next to them are stepped, and no other is looked at.
-/// `near` and the spare rows hold anything.
+/// `near` holds anything.
 pub fn step_band(
     rows: &mut [Row],
     lit: &mut [u64],
@@ -19,8 +19,6 @@ pub fn step_band(
     up_span: Span,
     down: &[u64],
     down_span: Span,
-    spare_heads: &mut [u64],
-    spare_wires: &mut [u64],
 )
     requires long { AreLong (length up.now) rows.old }
     requires lit { AreMarked lit.old rows.old }
@@ -28,8 +26,6 @@ pub fn step_band(
     requires down { length down.now ≡ length up.now }
     requires up_within { up_span.end ≤ length up.now }
     requires down_within { down_span.end ≤ length up.now }
-    requires spare_heads { length spare_heads.old ≡ length up.now }
-    requires spare_wires { length spare_wires.old ≡ length up.now }
     requires dark_up { IsDarkBeyond up_span.first up_span.end up.now }
     requires dark_down { IsDarkBeyond down_span.first down_span.end down.now }
     ensures many { length rows.new ≡ length rows.old }
@@ -54,14 +50,7 @@ pub fn step_band(
         let (own, after) = rest.split_at_mut(1);
         let (above, above_span) = above_of(before, up, up_span);
         let (below, below_span) = below_of(after, down, down_span);
-        own[0].step(
-            above,
-            above_span,
-            below,
-            below_span,
-            spare_heads,
-            spare_wires,
-        );
+        own[0].step(above, above_span, below, below_span);
         mark_row(lit, r, !own[0].span.is_empty());
         r = next_marked(near, r + 1);
     }

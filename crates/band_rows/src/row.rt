@@ -7,8 +7,9 @@ ghost use Rattle.lane_kernel.specs.Spans.{IsDarkBeyond, stays_within};
 
 use crate::bits::{is_set, mark_all, put_head};
 use crate::span::{Span, hull, trimmed, widened};
-use lane_kernel::{one_after, one_before, stays_within, step_one_word, step_span};
+use lane_kernel::{eastern_end, stays_within, step_one_word, step_span, western_end};
 use std::alloc::{AllocError, Global};
+use std::mem;
 use ww_rule::State;
 
 /// A row of heads, tails and wires, and a span beyond which it has no heads and no tails.
@@ -52,7 +53,7 @@ fn step_in_word(
     requires dark_heads { IsDarkBeyond j (j + 1) heads.old }
     requires dark_below { IsDarkBeyond j (j + 1) below.now }
     requires dark_tails { IsDarkBeyond j (j + 1) tails.old }
-    requires stays { stays_within j above.now heads.old below.now ≡ true }
+    requires stays { stays_within j (j + 1) above.now heads.old below.now ≡ true }
     requires apart { AreDisjoint heads.old tails.old wires.old }
     ensures long_heads { length heads.new ≡ length heads.old }
     ensures long_tails { length tails.new ≡ length heads.old }
@@ -77,124 +78,48 @@ fn is_in_word(above: &[u64], heads: &[u64], below: &[u64], near: Span) -> bool
     requires within { near.end ≤ length heads.now }
     requires above { length above.now ≡ length heads.now }
     requires below { length below.now ≡ length heads.now }
-    ensures { result ≡ (near.first + 1 == near.end && stays_within near.first above.now heads.now below.now) }
+    ensures { result ≡ (near.first + 1 == near.end && stays_within near.first (near.first + 1) above.now heads.now below.now) }
 {
     if near.is_empty() {
         return false;
     }
-    near.end - near.first == 1 && stays_within(above, heads, below, near.first)
+    let j = near.first;
+    near.end - j == 1 && stays_within(above, heads, below, j, j + 1)
 }
 
-// The next generation of a row in place, and where its light is then, where the row's light and the heads beside it lie in
-// a span of words.
+// The next generation of a row, and where its light is then, where the row's light and the heads beside it lie in a span of
+// words: the new heads stand in the tails' place, and the heads are the new tails.
 fn step_in_span(
     above: &[u64],
-    heads: &mut [u64],
+    heads: &[u64],
     below: &[u64],
     tails: &mut [u64],
     wires: &mut [u64],
     near: Span,
-    spare_heads: &mut [u64],
-    spare_wires: &mut [u64],
 ) -> Span
-    requires within { near.end ≤ length heads.old }
-    requires above { length above.now ≡ length heads.old }
-    requires below { length below.now ≡ length heads.old }
-    requires tails { length tails.old ≡ length heads.old }
-    requires wires { length wires.old ≡ length heads.old }
-    requires spare_heads { length spare_heads.old ≡ length heads.old }
-    requires spare_wires { length spare_wires.old ≡ length heads.old }
+    requires some { near.first < near.end }
+    requires within { near.end ≤ length heads.now }
+    requires above { length above.now ≡ length heads.now }
+    requires below { length below.now ≡ length heads.now }
+    requires tails { length tails.old ≡ length heads.now }
+    requires wires { length wires.old ≡ length heads.now }
     requires dark_above { IsDarkBeyond near.first near.end above.now }
-    requires dark_heads { IsDarkBeyond near.first near.end heads.old }
+    requires dark_heads { IsDarkBeyond near.first near.end heads.now }
     requires dark_below { IsDarkBeyond near.first near.end below.now }
     requires dark_tails { IsDarkBeyond near.first near.end tails.old }
-    requires apart { AreDisjoint heads.old tails.old wires.old }
-    ensures long_heads { length heads.new ≡ length heads.old }
-    ensures long_tails { length tails.new ≡ length heads.old }
-    ensures long_wires { length wires.new ≡ length heads.old }
-    ensures long_spare_heads { length spare_heads.new ≡ length heads.old }
-    ensures long_spare_wires { length spare_wires.new ≡ length heads.old }
-    ensures within { result.end ≤ length heads.old }
-    ensures dark_heads { IsDarkBeyond result.first result.end heads.new }
-    ensures dark_tails { IsDarkBeyond result.first result.end tails.new }
-    ensures apart { AreDisjoint heads.new tails.new wires.new }
-    ensures tails { (i : ℕ) → get_or tails.new i 0 ≡ get_or heads.old i 0 }
-    ensures cells { (x : ℕ) → row_state heads.new tails.new wires.new x ≡ next_plane (plane_of_rows above.now heads.old below.now tails.old wires.old) (pos x) (pos 1) }
+    requires apart { AreDisjoint heads.now tails.old wires.old }
+    ensures long_tails { length tails.new ≡ length heads.now }
+    ensures long_wires { length wires.new ≡ length heads.now }
+    ensures within { result.end ≤ length heads.now }
+    ensures dark_heads { IsDarkBeyond result.first result.end tails.new }
+    ensures dark_tails { IsDarkBeyond result.first result.end heads.now }
+    ensures apart { AreDisjoint tails.new heads.now wires.new }
+    ensures cells { (x : ℕ) → row_state tails.new heads.now wires.new x ≡ next_plane (plane_of_rows above.now heads.now below.now tails.old wires.old) (pos x) (pos 1) }
 {
-    all_fit(heads);
-    let lo = one_before(near.first);
-    let hi = one_after(near.end, heads.len());
-    step_span(
-        above,
-        heads,
-        below,
-        tails,
-        wires,
-        near.first,
-        near.end,
-        spare_heads,
-        spare_wires,
-    );
-    trimmed(heads, tails, lo, hi)
-}
-
-// The next generation of a row in place, and where its light is then.
-fn step_lit(
-    above: &[u64],
-    above_span: Span,
-    heads: &mut [u64],
-    below: &[u64],
-    below_span: Span,
-    tails: &mut [u64],
-    wires: &mut [u64],
-    span: Span,
-    spare_heads: &mut [u64],
-    spare_wires: &mut [u64],
-) -> Span
-    requires above { length above.now ≡ length heads.old }
-    requires below { length below.now ≡ length heads.old }
-    requires tails { length tails.old ≡ length heads.old }
-    requires wires { length wires.old ≡ length heads.old }
-    requires spare_heads { length spare_heads.old ≡ length heads.old }
-    requires spare_wires { length spare_wires.old ≡ length heads.old }
-    requires above_within { above_span.end ≤ length heads.old }
-    requires below_within { below_span.end ≤ length heads.old }
-    requires within { span.end ≤ length heads.old }
-    requires dark_above { IsDarkBeyond above_span.first above_span.end above.now }
-    requires dark_below { IsDarkBeyond below_span.first below_span.end below.now }
-    requires dark_heads { IsDarkBeyond span.first span.end heads.old }
-    requires dark_tails { IsDarkBeyond span.first span.end tails.old }
-    requires apart { AreDisjoint heads.old tails.old wires.old }
-    ensures long_heads { length heads.new ≡ length heads.old }
-    ensures long_tails { length tails.new ≡ length heads.old }
-    ensures long_wires { length wires.new ≡ length heads.old }
-    ensures long_spare_heads { length spare_heads.new ≡ length heads.old }
-    ensures long_spare_wires { length spare_wires.new ≡ length heads.old }
-    ensures within { result.end ≤ length heads.old }
-    ensures dark_heads { IsDarkBeyond result.first result.end heads.new }
-    ensures dark_tails { IsDarkBeyond result.first result.end tails.new }
-    ensures apart { AreDisjoint heads.new tails.new wires.new }
-    ensures tails { (j : ℕ) → get_or tails.new j 0 ≡ get_or heads.old j 0 }
-    ensures cells { (x : ℕ) → row_state heads.new tails.new wires.new x ≡ next_plane (plane_of_rows above.now heads.old below.now tails.old wires.old) (pos x) (pos 1) }
-{
-    all_fit(heads);
-    let near = hull(above_span, hull(span, below_span));
-    if near.is_empty() {
-        return span;
-    }
-    if is_in_word(above, heads, below, near) {
-        return step_in_word(above, heads, below, tails, wires, near.first);
-    }
-    step_in_span(
-        above,
-        heads,
-        below,
-        tails,
-        wires,
-        near,
-        spare_heads,
-        spare_wires,
-    )
+    let lo = western_end(above, heads, below, near.first);
+    let hi = eastern_end(above, heads, below, near.end);
+    step_span(above, heads, below, tails, wires, lo, hi);
+    trimmed(tails, heads, lo, hi)
 }
 
 impl Row {
@@ -244,42 +169,77 @@ impl Row {
         }
     }
 
+    // Goes on by one generation, where the row's light and the heads beside it lie in word j and nothing comes over its
+    // borders.
+    fn go_on_in_word(&mut self, above: &[u64], below: &[u64], j: usize)
+        requires within { j < length self.old.heads.items }
+        requires above { length above.now ≡ length self.old.heads.items }
+        requires below { length below.now ≡ length self.old.heads.items }
+        requires dark_above { IsDarkBeyond j (j + 1) above.now }
+        requires dark_heads { IsDarkBeyond j (j + 1) self.old.heads.items }
+        requires dark_below { IsDarkBeyond j (j + 1) below.now }
+        requires dark_tails { IsDarkBeyond j (j + 1) self.old.tails.items }
+        requires stays { stays_within j (j + 1) above.now self.old.heads.items below.now ≡ true }
+        ensures long { length self.new.heads.items ≡ length self.old.heads.items }
+        ensures tails { (j : ℕ) → get_or self.new.tails.items j 0 ≡ get_or self.old.heads.items j 0 }
+        ensures cells { (x : ℕ) → row_state self.new.heads.items self.new.tails.items self.new.wires.items x ≡ next_plane (plane_of_rows above.now self.old.heads.items below.now self.old.tails.items self.old.wires.items) (pos x) (pos 1) }
+    {
+        self.span = step_in_word(
+            above,
+            &mut self.heads,
+            below,
+            &mut self.tails,
+            &mut self.wires,
+            j,
+        );
+    }
+
+    // Goes on by one generation, where the row's light and the heads beside it lie in a span.
+    fn go_on_in_span(&mut self, above: &[u64], below: &[u64], near: Span)
+        requires some { near.first < near.end }
+        requires within { near.end ≤ length self.old.heads.items }
+        requires above { length above.now ≡ length self.old.heads.items }
+        requires below { length below.now ≡ length self.old.heads.items }
+        requires dark_above { IsDarkBeyond near.first near.end above.now }
+        requires dark_heads { IsDarkBeyond near.first near.end self.old.heads.items }
+        requires dark_below { IsDarkBeyond near.first near.end below.now }
+        requires dark_tails { IsDarkBeyond near.first near.end self.old.tails.items }
+        ensures long { length self.new.heads.items ≡ length self.old.heads.items }
+        ensures tails { (j : ℕ) → get_or self.new.tails.items j 0 ≡ get_or self.old.heads.items j 0 }
+        ensures cells { (x : ℕ) → row_state self.new.heads.items self.new.tails.items self.new.wires.items x ≡ next_plane (plane_of_rows above.now self.old.heads.items below.now self.old.tails.items self.old.wires.items) (pos x) (pos 1) }
+    {
+        self.span = step_in_span(
+            above,
+            &self.heads,
+            below,
+            &mut self.tails,
+            &mut self.wires,
+            near,
+        );
+        mem::swap(&mut self.heads, &mut self.tails);
+    }
+
     /// Goes on by one generation, between two other rows, of which the heads are asked for and spans beyond which they have
-    /// none. The spare rows hold anything.
-    pub fn step(
-        &mut self,
-        above: &[u64],
-        above_span: Span,
-        below: &[u64],
-        below_span: Span,
-        spare_heads: &mut [u64],
-        spare_wires: &mut [u64],
-    )
+    /// none.
+    pub fn step(&mut self, above: &[u64], above_span: Span, below: &[u64], below_span: Span)
         requires above { length above.now ≡ length self.old.heads.items }
         requires below { length below.now ≡ length self.old.heads.items }
         requires above_within { above_span.end ≤ length self.old.heads.items }
         requires below_within { below_span.end ≤ length self.old.heads.items }
-        requires spare_heads { length spare_heads.old ≡ length self.old.heads.items }
-        requires spare_wires { length spare_wires.old ≡ length self.old.heads.items }
         requires dark_above { IsDarkBeyond above_span.first above_span.end above.now }
         requires dark_below { IsDarkBeyond below_span.first below_span.end below.now }
         ensures long { length self.new.heads.items ≡ length self.old.heads.items }
-        ensures long_spare_heads { length spare_heads.new ≡ length self.old.heads.items }
-        ensures long_spare_wires { length spare_wires.new ≡ length self.old.heads.items }
         ensures tails { (j : ℕ) → get_or self.new.tails.items j 0 ≡ get_or self.old.heads.items j 0 }
         ensures cells { (x : ℕ) → row_state self.new.heads.items self.new.tails.items self.new.wires.items x ≡ next_plane (plane_of_rows above.now self.old.heads.items below.now self.old.tails.items self.old.wires.items) (pos x) (pos 1) }
     {
-        self.span = step_lit(
-            above,
-            above_span,
-            &mut self.heads,
-            below,
-            below_span,
-            &mut self.tails,
-            &mut self.wires,
-            self.span,
-            spare_heads,
-            spare_wires,
-        );
+        let near = hull(above_span, hull(self.span, below_span));
+        if near.is_empty() {
+            return;
+        }
+        if is_in_word(above, &self.heads, below, near) {
+            self.go_on_in_word(above, below, near.first);
+            return;
+        }
+        self.go_on_in_span(above, below, near);
     }
 }

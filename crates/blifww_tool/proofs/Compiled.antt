@@ -5,7 +5,7 @@ use Rattle.lane_core.specs.Plans.{IsAdmissible}
 use Rattle.grid_assembly.specs.PlanDrawing.{start_grid}
 use Rattle.pattern_reading.specs.declared.ports.Ports.{Ports}
 use Rattle.written_reads.specs.Laws.{pattern_text}
-use Rattle.cover_mapper.specs.Needs.{any_needs_one}
+use Rattle.cell_meaning.specs.Needs.{any_needs_one}
 use Rattle.netlist_core.specs.declared.model.Design.{Design}
 use Rattle.netlist_core.specs.declared.flat.Flat.{Flat}
 use Rattle.netlist_meaning.specs.Weight.{weight}

@@ -4,7 +4,7 @@ use Rattle.command_words.specs.Shapes.{CommandValues, compile, simulate, eval, p
 use Rattle.blifww_tool.specs.Commands.{Accepts, Prints, Refuses, MustRefuse, AreAlike}
 use Rattle.blifww_tool.specs.declared.causes.Cause.{Cause}
 use Rattle.blifww_tool.specs.declared.causes.Cause.TheVariants.{NetlistFault, WeightTooLarge, Loop, Pattern, GridTooLarge, PortTable, Streams, NoSuchNet, TooFar}
-use Rattle.made_run.proofs.InTime.{few_cycles_are_in_time}
+use Rattle.made_summary.proofs.InTime.{few_cycles_are_in_time}
 use Rattle.blifww_tool.proofs.SimulationOrNot.{simulation_or_not, one_streams_cause, simulates_or_not, one_cause as one_cause_of_simulation}
 use Rattle.blifww_tool.proofs.ProbeOrNot.{probes_or_not, one_cause as one_cause_of_probe}
 use Rattle.blifww_tool.proofs.EvaluationOrNot.{netlist_or_not, one_cause_of_netlist, evaluates_or_not, one_cause as one_cause_of_evaluation}

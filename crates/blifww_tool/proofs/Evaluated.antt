@@ -11,10 +11,10 @@ use Rattle.netlist_text.specs.NetlistText.{IsNetlist}
 use Rattle.netlist_text.specs.Causes.{HasNetlistCause}
 use Rattle.netlist_text.specs.declared.error.NetlistError.{NetlistError}
 use Rattle.netlist_text.specs.declared.error.NetlistError.TheVariants as netlist_of
-use Rattle.drive.specs.declared.error.StreamError.{StreamError}
-use Rattle.drive.specs.declared.error.StreamError.TheVariants as streams_of
-use Rattle.drive.specs.declared.streams.Streams.{Streams}
-use Rattle.drive.specs.Streams.{HasStreamCause}
+use Rattle.streams.specs.declared.error.StreamError.{StreamError}
+use Rattle.streams.specs.declared.error.StreamError.TheVariants as streams_of
+use Rattle.streams.specs.declared.streams.Streams.{Streams}
+use Rattle.streams.specs.Streams.{HasStreamCause}
 use Rattle.command_words.specs.Shapes.{eval}
 use Rattle.blifww_tool.specs.Commands.{HasTextCause}
 use Rattle.blifww_tool.specs.declared.causes.TextError.{TextError}

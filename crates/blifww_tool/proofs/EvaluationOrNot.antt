@@ -9,8 +9,8 @@ use Rattle.netlist_meaning.specs.Nets.{IsInNames}
 use Rattle.netlist_meaning.proofs.Joined.{in_names_are_one}
 use Rattle.netlist_text.specs.NetlistText.{IsNetlist, IsAtFault, IsTooHeavy, HasLoop}
 use Rattle.netlist_text.proofs.Decided.{texts_are_decided}
-use Rattle.drive.specs.declared.error.StreamFault.{StreamFault}
-use Rattle.drive.specs.Streams.{HasStreamFault}
+use Rattle.streams.specs.declared.error.StreamFault.{StreamFault}
+use Rattle.streams.specs.Streams.{HasStreamFault}
 use Rattle.blifww_tool.specs.Commands.{AreAlike}
 use Rattle.blifww_tool.specs.Compilation.{HasNoNetlist}
 use Rattle.blifww_tool.specs.Evaluation.{Evaluation, IsEvaluation, HasNoEvaluation}

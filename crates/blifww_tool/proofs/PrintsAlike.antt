@@ -10,9 +10,10 @@ use Rattle.netlist_meaning.specs.Valuation.{Valuation, IsRun}
 use Rattle.netlist_text.specs.Laws.{TextsAreDecided}
 use Rattle.carries.specs.Carries.{Carries}
 use Rattle.carries.proofs.OneWay.{one_spelling}
-use Rattle.drive.specs.declared.streams.Streams.{Streams}
-use Rattle.drive.specs.Streams.{HasStreams}
-use Rattle.drive.specs.Driving.{rows_of, shown_at}
+use Rattle.streams.specs.declared.streams.Streams.{Streams}
+use Rattle.streams.specs.Streams.{HasStreams}
+use Rattle.streams.specs.Rows.{rows_of}
+use Rattle.drive.specs.Driving.{shown_at}
 use Rattle.netlist_run.specs.Runs.{bits_in_run}
 use Rattle.shown_runs.specs.ShownRuns.{CarriersShowRuns, StreamsMatch}
 use Rattle.blifww_tool.specs.Lines.{bits_line}

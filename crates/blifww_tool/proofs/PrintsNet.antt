@@ -12,8 +12,9 @@ use Rattle.pattern_reading.specs.declared.ports.Ports.{Ports}
 use Rattle.pattern_reading.specs.Ports.{names_of}
 use Rattle.lists.proofs.Members.{In, got_from}
 use Rattle.carries.proofs.OneWay.{one_spelling}
-use Rattle.drive.specs.Streams.{HasStreams}
-use Rattle.drive.specs.Driving.{AreFor, rows_of}
+use Rattle.streams.specs.Streams.{HasStreams}
+use Rattle.streams.specs.Rows.{rows_of}
+use Rattle.drive.specs.Driving.{AreFor}
 use Rattle.probe_view.specs.Probes.{has_name_and_path, net_named, probed_bits}
 use Rattle.shown_runs.specs.ShownRuns.{CarriersShowNets}
 use Rattle.shown_runs.proofs.Matching.{are_for}

@@ -8,7 +8,7 @@ use Rattle.pattern_reading.specs.Ports.{cells_of}
 use Rattle.drive.specs.declared.error.SimulateError.{SimulateError}
 use Rattle.drive.specs.declared.error.SimulateError.TheVariants as simulating
 use Rattle.drive.specs.Driving.{HasSimulateCause, greatest_generation}
-use Rattle.made_run.proofs.Read.{lines_in_box}
+use Rattle.made_summary.proofs.Read.{lines_in_box}
 use Rattle.command_words.specs.Shapes.{simulate}
 use Rattle.blifww_tool.specs.Commands.{HasTextCause}
 use Rattle.blifww_tool.specs.Refusals.{simulate_error}

@@ -13,8 +13,8 @@ use Rattle.pattern_reading.proofs.PortLaws.{one_port_fault, no_port_fault_if_rea
 use Rattle.pattern_reading.proofs.Large.{one_reader_answer}
 use Rattle.rle_read.specs.declared.error.RleFault.{RleFault}
 use Rattle.port_table.specs.declared.faults.PortFault.{PortFault}
-use Rattle.drive.specs.declared.error.StreamFault.{StreamFault}
-use Rattle.drive.specs.Streams.{HasStreamFault}
+use Rattle.streams.specs.declared.error.StreamFault.{StreamFault}
+use Rattle.streams.specs.Streams.{HasStreamFault}
 use Rattle.drive.specs.Driving.{last_generation, greatest_generation}
 use Rattle.pattern_reading.specs.Ports.{names_of}
 use Rattle.blifww_tool.specs.Simulation.{Simulation, IsSimulation, Simulates, HasNoStreams, HasNoSimulation}

@@ -7,9 +7,9 @@ use Rattle.netlist_text.specs.NetlistText.{IsNetlist}
 use Rattle.drive.specs.Driving.{greatest_generation}
 use Rattle.made_netlists.specs.Text.{made_text}
 use Rattle.made_netlists.specs.Design.{made_design}
-use Rattle.made_run.specs.Summaries.{HasSummaryCause}
-use Rattle.made_run.specs.Laws.{most_generations}
-use Rattle.made_run.specs.declared.error.SummaryError.TheVariants as summarizing
+use Rattle.made_summary.specs.Summaries.{HasSummaryCause}
+use Rattle.made_summary.specs.Laws.{most_generations}
+use Rattle.made_summary.specs.declared.error.SummaryError.TheVariants as summarizing
 use Rattle.blifww_tool.specs.Lines.{bits_line}
 use Rattle.blifww_tool.specs.Compilation.{Compiles, HasNoNetlist}
 use Rattle.blifww_tool.specs.Simulation.{Simulation, IsSimulation, Simulates, simulation_text, HasNoStreams, HasNoSimulation}

@@ -7,7 +7,7 @@ use Rattle.pattern_reading.specs.declared.ports.Ports.{Ports}
 use Rattle.written_reads.specs.Laws.{pattern_text}
 use Rattle.carries.specs.Carries.{Carries}
 use Rattle.carries.specs.Nets.{CarriesNets}
-use Rattle.cover_mapper.specs.Needs.{any_needs_one}
+use Rattle.cell_meaning.specs.Needs.{any_needs_one}
 use Rattle.netlist_core.specs.declared.model.Design.{Design}
 use Rattle.netlist_core.specs.declared.flat.Flat.{Flat}
 use Rattle.netlist_meaning.specs.Weight.{weight}

@@ -6,11 +6,11 @@ use Rattle.netlist_meaning.specs.Nets.{IsInNames}
 use Rattle.netlist_meaning.specs.Places.{main_outputs}
 use Rattle.netlist_meaning.specs.Valuation.{Valuation, IsRun}
 use Rattle.netlist_text.specs.NetlistText.{IsNetlist}
-use Rattle.drive.specs.declared.streams.Streams.{Streams}
-use Rattle.drive.specs.declared.error.StreamError.{StreamError}
-use Rattle.drive.specs.declared.error.StreamError.TheVariants as streams_of
-use Rattle.drive.specs.Streams.{HasStreams, HasStreamFault}
-use Rattle.drive.specs.Driving.{rows_of}
+use Rattle.streams.specs.declared.streams.Streams.{Streams}
+use Rattle.streams.specs.declared.error.StreamError.{StreamError}
+use Rattle.streams.specs.declared.error.StreamError.TheVariants as streams_of
+use Rattle.streams.specs.Streams.{HasStreams, HasStreamFault}
+use Rattle.streams.specs.Rows.{rows_of}
 use Rattle.netlist_run.specs.Runs.{bits_in_run}
 use Rattle.blifww_tool.specs.Compilation.{HasNoNetlist}
 use Rattle.blifww_tool.specs.Lines.{bits_line}

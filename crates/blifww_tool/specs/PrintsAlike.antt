@@ -7,8 +7,8 @@ use Rattle.netlist_text.specs.NetlistText.{IsNetlist}
 use Rattle.place_paths.specs.Paths.{path_of}
 use Rattle.carries.specs.Carries.{Carries}
 use Rattle.carries.specs.Nets.{CarriesNets}
-use Rattle.drive.specs.declared.streams.Streams.{Streams}
-use Rattle.drive.specs.Driving.{rows_of}
+use Rattle.streams.specs.declared.streams.Streams.{Streams}
+use Rattle.streams.specs.Rows.{rows_of}
 use Rattle.shown_runs.specs.ShownRuns.{net_bits_in_run}
 use Rattle.command_words.specs.Shapes.{compile, simulate, eval, probe}
 use Rattle.blifww_tool.specs.Lines.{bits_line}

@@ -10,8 +10,8 @@ use Rattle.pattern_reading.specs.declared.faults.RleFaultKind.{RleFaultKind}
 use Rattle.pattern_reading.specs.declared.faults.RleFaultKind.TheVariants as rle
 use Rattle.pattern_reading.specs.declared.faults.PortFaultKind.{PortFaultKind}
 use Rattle.pattern_reading.specs.declared.faults.PortFaultKind.TheVariants as port
-use Rattle.drive.specs.declared.error.StreamFaultKind.{StreamFaultKind}
-use Rattle.drive.specs.declared.error.StreamFaultKind.TheVariants as stream
+use Rattle.streams.specs.declared.error.StreamFaultKind.{StreamFaultKind}
+use Rattle.streams.specs.declared.error.StreamFaultKind.TheVariants as stream
 use Rattle.ww_base.specs.declared.whole.ReadAllError.{ReadAllError}
 use Rattle.ww_base.specs.declared.whole.ReadAllError.TheVariants as read_all
 use Rattle.command_words.specs.declared.error.WordsError.{WordsError}
@@ -20,14 +20,14 @@ use Rattle.rle_read.specs.declared.error.RleReadError.{RleReadError}
 use Rattle.rle_read.specs.declared.error.RleReadError.TheVariants as pattern_of
 use Rattle.port_table.specs.declared.reading.PortReadError.{PortReadError}
 use Rattle.port_table.specs.declared.reading.PortReadError.TheVariants as ports_of
-use Rattle.drive.specs.declared.error.StreamError.{StreamError}
-use Rattle.drive.specs.declared.error.StreamError.TheVariants as streams_of
+use Rattle.streams.specs.declared.error.StreamError.{StreamError}
+use Rattle.streams.specs.declared.error.StreamError.TheVariants as streams_of
 use Rattle.drive.specs.declared.error.SimulateError.{SimulateError}
 use Rattle.drive.specs.declared.error.SimulateError.TheVariants as simulating
 use Rattle.probe_view.specs.declared.error.ProbeError.{ProbeError}
 use Rattle.probe_view.specs.declared.error.ProbeError.TheVariants as probing
-use Rattle.made_run.specs.declared.error.SummaryError.{SummaryError}
-use Rattle.made_run.specs.declared.error.SummaryError.TheVariants as summarizing
+use Rattle.made_summary.specs.declared.error.SummaryError.{SummaryError}
+use Rattle.made_summary.specs.declared.error.SummaryError.TheVariants as summarizing
 use Rattle.blifww_tool.specs.declared.causes.Cause.{Cause}
 use Rattle.blifww_tool.specs.declared.causes.Cause.TheVariants.{NetlistFault, WeightTooLarge, Loop, Pattern, GridTooLarge, PortTable, Streams, NoSuchNet, TooFar}
 use Rattle.blifww_tool.specs.declared.causes.TextError.{TextError}

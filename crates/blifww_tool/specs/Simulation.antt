@@ -5,8 +5,8 @@ use Rattle.pattern_reading.specs.declared.ports.Ports.{Ports}
 use Rattle.pattern_reading.specs.Ports.{names_of}
 use Rattle.pattern_reading.specs.Pattern.{ReadsWithinLimit, HasReaderFault, HasLargeBox}
 use Rattle.pattern_reading.specs.PortTable.{ReadsAsPorts, HasPortFault}
-use Rattle.drive.specs.declared.streams.Streams.{Streams}
-use Rattle.drive.specs.Streams.{HasStreams, HasStreamFault}
+use Rattle.streams.specs.declared.streams.Streams.{Streams}
+use Rattle.streams.specs.Streams.{HasStreams, HasStreamFault}
 use Rattle.drive.specs.Driving.{shown_at, last_generation, greatest_generation}
 use Rattle.blifww_tool.specs.Lines.{bits_line}
 use Rattle.blifww_tool.specs.declared.causes.Cause.{Cause}

@@ -1,8 +1,8 @@
 -- What is told of a made netlist, as lines.
 use Rattle.std.specs.Prelude.{◌≡◌, ℕ, List, ◌++◌, flat_map, codes, decimal}
-use Rattle.made_run.specs.Summaries.{Summarizes}
-use Rattle.made_run.specs.declared.summarizing.OutputBits.{OutputBits}
-use Rattle.made_run.specs.declared.summarizing.Summary.{Summary}
+use Rattle.made_summary.specs.Summaries.{Summarizes}
+use Rattle.made_summary.specs.declared.summarizing.OutputBits.{OutputBits}
+use Rattle.made_summary.specs.declared.summarizing.Summary.{Summary}
 use Rattle.blifww_tool.specs.Lines.{bits_line}
 
 -- a number with its name, as `lanes 9`

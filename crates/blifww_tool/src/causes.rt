@@ -5,7 +5,7 @@ use blif_text::Fault;
 use drive::{SimulateError, StreamError, StreamFault};
 use lists::List;
 use made_netlists::MakeError;
-use made_run::SummaryError;
+use made_summary::SummaryError;
 use netlist_core::Name;
 use netlist_plans::NetlistPlanError;
 use netlist_run::RunError;

@@ -10,7 +10,7 @@ use crate::lines::push_line;
 use crate::output::Output;
 use itoa::Buffer;
 use lists::Bytes;
-use made_run::{OutputBits, Summary, summarize};
+use made_summary::{OutputBits, Summary, summarize};
 use std::alloc::{AllocError, Global};
 
 // Puts a number's line at the end.

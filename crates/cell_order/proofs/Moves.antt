@@ -5,7 +5,7 @@ use Rattle.std.proofs.lemmas.List.{length_push, length-append, get_or_append_lef
 use Rattle.std.proofs.lemmas.Option.{slice_get_within, slice_get-get_or, get_or_from_slice_get, none-some, same_Some}
 use Rattle.lists.proofs.Appends.{slice_get_push}
 use Rattle.lane_core.specs.declared.instr.Instr.{Instr}
-use Rattle.cell_lanes.specs.Origins.{entry_source, cell_instr, maker_on}
+use Rattle.cell_meaning.specs.Origins.{entry_source, cell_instr, maker_on}
 use Rattle.cell_core.specs.declared.cells.Src.{Src}
 use Rattle.cell_core.specs.declared.cells.Src.TheVariants.{Input, Latch, One, Zero, Cell as Made}
 use Rattle.cell_core.specs.declared.cells.Cell.{Cell}

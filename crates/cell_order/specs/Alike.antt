@@ -4,8 +4,8 @@ use Rattle.cell_core.specs.declared.list.CellList.{CellList}
 use Rattle.cell_core.specs.Meaning.{bit_of}
 use Rattle.cell_core.specs.Loops.{names_one}
 use Rattle.lane_core.specs.declared.plan.Plan.{Plan}
-use Rattle.cell_lanes.specs.Computes.{ComputesByPlan}
-use Rattle.cell_lanes.specs.Origins.{entry_source, maker_on}
+use Rattle.cell_meaning.specs.Computes.{ComputesByPlan}
+use Rattle.cell_meaning.specs.Origins.{entry_source, maker_on}
 
 -- They have the same inputs and starts, as many cells, and both name constant 1 or neither does; and under all inputs and states
 -- outputs, latches' data and nets have the same bits. The nets that no cell makes have the same sources, and the others are made by cells of the same

@@ -7,7 +7,7 @@ use Rattle.cell_core.specs.declared.cells.Cell.TheVariants.{Or, Xor, AndNot}
 use Rattle.cell_core.specs.declared.list.CellList.{CellList}
 use Rattle.cell_core.specs.Sources.{are_in_order}
 use Rattle.cell_core.specs.Meaning.{bit_in}
-use Rattle.cell_lanes.specs.Origins.{maker_on}
+use Rattle.cell_meaning.specs.Origins.{maker_on}
 
 -- the new number of each cell that has one
 abbrev pub Numbers : Type 0

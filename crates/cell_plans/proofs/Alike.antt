@@ -9,7 +9,7 @@ use Rattle.cell_core.specs.Loops.{loop_count}
 use Rattle.lane_core.specs.declared.instr.Column.{Column}
 use Rattle.lane_core.specs.declared.plan.NetPlace.{NetPlace}
 use Rattle.lane_core.specs.declared.plan.Plan.{Plan}
-use Rattle.cell_lanes.specs.Origins.{entry_source, maker_on}
+use Rattle.cell_meaning.specs.Origins.{entry_source, maker_on}
 use Rattle.cell_order.specs.Alike.{ComputeAlike}
 use Rattle.cell_order.proofs.Planned.{CountAlike, count_alike, alike_is_planned}
 use Rattle.cell_plans.specs.Counts.{instr_count}

@@ -10,7 +10,7 @@ use Rattle.cell_core.specs.declared.cells.Src.TheVariants.{Input, Latch, One, Ze
 use Rattle.cell_core.specs.declared.cells.Cell.{Cell}
 use Rattle.cell_core.specs.declared.cells.Cell.TheVariants.{Or, Xor, AndNot}
 use Rattle.cell_core.specs.declared.list.CellList.{CellList}
-use Rattle.cell_lanes.specs.Origins.{cell_instr, maker_on}
+use Rattle.cell_meaning.specs.Origins.{cell_instr, maker_on}
 use Rattle.lane_core.specs.declared.instr.Instr.{Instr}
 use Rattle.lane_core.specs.declared.instr.Column.{Column}
 use Rattle.lane_core.specs.declared.plan.NetPlace.{NetPlace}

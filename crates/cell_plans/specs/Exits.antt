@@ -2,7 +2,7 @@
 use Rattle.std.specs.Prelude.{ℕ, ◌<◌, ◌≡◌, List, Option, Some, length, get_or, Contains}
 use Rattle.cell_core.specs.declared.cells.Src.{Src}
 use Rattle.cell_core.specs.declared.list.CellList.{CellList}
-use Rattle.cell_lanes.specs.Origins.{maker_on}
+use Rattle.cell_meaning.specs.Origins.{maker_on}
 use Rattle.column_packer.specs.Packing.{instrs_in}
 use Rattle.lane_core.specs.declared.instr.Instr.{Instr}
 use Rattle.lane_core.specs.declared.instr.Column.{Column}

@@ -2,7 +2,7 @@
 use Rattle.std.specs.Prelude.{ℕ, ◌≡◌, ◌≤◌, ◌<◌, ◌+◌, ◌*◌, ◌^◌, max, List, length, get_or}
 use Rattle.cell_core.specs.declared.list.CellList.{CellList}
 use Rattle.cell_core.specs.Loops.{loop_count}
-use Rattle.cell_lanes.specs.Computes.{ComputesByPlan}
+use Rattle.cell_meaning.specs.Computes.{ComputesByPlan}
 use Rattle.cell_plans.specs.Counts.{instr_count}
 use Rattle.lane_core.specs.declared.plan.Plan.{Plan}
 use Rattle.lane_core.specs.Plans.{IsAdmissible}

@@ -1,7 +1,7 @@
 // The plan of one of several lists of cells.
 ghost use Rattle.std.specs.Prelude.{◌≡◌, ◌≤◌, ◌<◌, ◌+◌, ◌*◌, ◌^◌, max, length, All, IfOk, IfSome};
 ghost use Rattle.cell_core.specs.Loops.{loop_count};
-ghost use Rattle.cell_lanes.specs.Computes.{ComputesByPlan};
+ghost use Rattle.cell_meaning.specs.Computes.{ComputesByPlan};
 ghost use Rattle.cell_plans.specs.Counts.{instr_count, tiles};
 ghost use Rattle.cell_plans.specs.Exits.{AreAtExits};
 ghost use Rattle.cell_plans.specs.PlanOf.{IsShort, IsPlanOf, IsPlanOfOne};

@@ -14,7 +14,7 @@ use Rattle.cell_core.specs.Sources.{is_there, are_there, is_one, read_one}
 use Rattle.cell_core.specs.Meaning.{bit_in}
 use Rattle.cell_core.specs.Adding.{Adds}
 use Rattle.cell_core.proofs.Bits.{appending_keeps_bits}
-use Rattle.cover_cells.specs.Grown.{IsCell}
+use Rattle.cell_meaning.specs.Mapped.{IsCell}
 use Rattle.cell_rewriting.specs.Same.{cell_over, StaysCell, StaysBit, Keeps, IsNoLarger, IsRewritten, AreAlike, Rewrites}
 use Rattle.cell_rewriting.specs.Substitution.{Extends}
 

@@ -9,10 +9,9 @@ use Rattle.cell_core.specs.declared.cells.Src.TheVariants.{Input, Latch, One, Ze
 use Rattle.cell_core.specs.declared.cells.Cell.{Cell}
 use Rattle.cell_core.specs.declared.cells.Cell.TheVariants.{Or, Xor, AndNot}
 use Rattle.cell_core.specs.Meaning.{bit_of}
-use Rattle.cover_cells.specs.Grown.{IsCell}
-use Rattle.cover_cells.specs.Singles.{single_cell, constant_source, are_pair, is_only}
-use Rattle.cover_mapper.specs.Listed.{listed_classes}
-use Rattle.cover_mapper.specs.Sourced.{IsOwn}
+use Rattle.cell_meaning.specs.Mapped.{IsCell, IsOwn}
+use Rattle.cell_meaning.specs.Singles.{single_cell, constant_source, are_pair, is_only}
+use Rattle.cell_meaning.specs.Listed.{listed_classes}
 use Rattle.cell_rewriting.specs.Same.{is_cell, cell_over}
 use Rattle.cell_rewriting.specs.Mapping.{MappedStays, BitsStay}
 use Rattle.cell_rewriting.proofs.Moves.{∷-parts}

@@ -16,7 +16,7 @@ use Rattle.cell_core.specs.Meaning.{cell_bit, cell_bits, bit_in, bit_of}
 use Rattle.cell_core.proofs.Bits.{appending_keeps_bits, pushed_bit}
 use Rattle.cell_core.proofs.Order.{in_order_push}
 use Rattle.cell_core.proofs.OwnBits.{cell_in_order, bit_of_cell}
-use Rattle.cover_cells.specs.Grown.{IsCell}
+use Rattle.cell_meaning.specs.Mapped.{IsCell}
 use Rattle.cell_rewriting.specs.Same.{is_cell, cell_over, StaysCell, Keeps}
 use Rattle.cell_rewriting.specs.Substitution.{AreEquivalent}
 use Rattle.cell_rewriting.specs.Moved.{NewSources, new_source, new_cell, goes_to, AreMoved, IsRebuilt}

@@ -5,8 +5,8 @@ use Rattle.netlist_meaning.specs.Flat.{FlatDriver, FlatDrives, IsSound}
 use Rattle.netlist_meaning.specs.FlatValuation.{IsFlatValuation}
 use Rattle.cell_core.specs.declared.cells.Src.{Src}
 use Rattle.cell_core.specs.declared.list.CellList.{CellList}
-use Rattle.cover_mapper.specs.Listed.{listed_classes}
-use Rattle.cover_mapper.specs.Mapped.{IsMapped, IsMappedWith, HasBits}
+use Rattle.cell_meaning.specs.Listed.{listed_classes}
+use Rattle.cell_meaning.specs.Mapped.{IsMapped, IsMappedWith, HasBits}
 use Rattle.cell_rewriting.specs.Same.{Rewrites}
 
 -- each class that is driven is that of a listed net

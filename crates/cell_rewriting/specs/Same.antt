@@ -7,7 +7,7 @@ use Rattle.cell_core.specs.declared.cells.Cell.TheVariants.{Or, Xor, AndNot}
 use Rattle.cell_core.specs.declared.list.CellList.{CellList}
 use Rattle.cell_core.specs.Meaning.{bit_of}
 use Rattle.cell_core.specs.Loops.{names_one}
-use Rattle.cover_cells.specs.Grown.{IsCell}
+use Rattle.cell_meaning.specs.Mapped.{IsCell}
 
 -- the source is a cell
 abbrev pub is_cell : Src → Bool

@@ -10,7 +10,8 @@ use Rattle.cell_core.specs.declared.list.CellList.{CellList}
 use Rattle.cell_core.specs.Sources.{is_there, is_one, reads_one}
 use Rattle.cell_core.specs.Meaning.{cell_bit, cell_bits, bit_in}
 use Rattle.cell_core.proofs.OwnBits.{bit_of_cell}
-use Rattle.cover_cells.specs.Grown.{HasSource, Answers, IsCell}
+use Rattle.cover_cells.specs.Grown.{HasSource, Answers}
+use Rattle.cell_meaning.specs.Mapped.{IsCell}
 use Rattle.cover_cells.proofs.Growing.{grows, grows_refl, answers}
 
 pub cell_there : (list : CellList) (src : Src) (cell : Cell) → IsCell list src cell → HasSource list src

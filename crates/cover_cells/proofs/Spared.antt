@@ -10,7 +10,8 @@ use Rattle.cell_core.specs.declared.cells.Cell.TheVariants.{Or, Xor, AndNot}
 use Rattle.cell_core.specs.declared.list.CellList.{CellList}
 use Rattle.cell_core.specs.Sources.{reads_there, is_one, reads_one}
 use Rattle.cell_core.specs.Meaning.{source_bit, cell_bit, cell_bits}
-use Rattle.cover_cells.specs.Grown.{Answers, IsCell}
+use Rattle.cover_cells.specs.Grown.{Answers}
+use Rattle.cell_meaning.specs.Mapped.{IsCell}
 use Rattle.cover_cells.specs.Reduced.{StandsFor, HaveSameBit}
 use Rattle.cover_cells.proofs.Growing.{grows, grows_refl}
 use Rattle.cover_cells.proofs.Sharing.{cell_there, cell_says, cell_not_one}

@@ -12,7 +12,8 @@ use Rattle.cell_core.specs.declared.list.CellList.{CellList}
 use Rattle.cell_core.specs.Sources.{is_one}
 use Rattle.cell_core.specs.Meaning.{bit_in}
 use Rattle.cover_cells.specs.Grown.{HasSources, bits_of, Grows, Answers}
-use Rattle.cover_cells.specs.Covers.{has_no_positive, RowNeedsOne, RowsNeedOne, AnswersRow, AnswersRows}
+use Rattle.cell_meaning.specs.Needs.{has_no_positive}
+use Rattle.cover_cells.specs.Covers.{RowNeedsOne, RowsNeedOne, AnswersRow, AnswersRows}
 use Rattle.cover_cells.proofs.Growing.{grows, grows_refl, answers, bit_after, bits_after}
 
 -- what a sum has, as far as it has come

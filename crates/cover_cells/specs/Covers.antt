@@ -1,5 +1,5 @@
 -- What is said of the cells of a cover.
-use Rattle.std.specs.Prelude.{ℕ, ◌+◌, ◌*◌, ◌==◌, ◌≡◌, ◌≢◌, ◌⊎◌, Bool, true, false, not, List, [], length, sum_by, take, get_or, nat_lt, cond}
+use Rattle.std.specs.Prelude.{ℕ, ◌+◌, ◌*◌, ◌≡◌, ◌≢◌, ◌⊎◌, Bool, true, false, not, List, [], length, sum_by, get_or, nat_lt, cond}
 use Rattle.std.specs.List.{list_any}
 use Rattle.netlist_core.specs.OwnWeight.{literals, rows_weight}
 use Rattle.netlist_meaning.specs.CoverValue.{product_holds, any_holds, cover_value}
@@ -7,15 +7,12 @@ use Rattle.cell_core.specs.declared.cells.Src.{Src}
 use Rattle.cell_core.specs.declared.cells.Src.TheVariants.{One}
 use Rattle.cell_core.specs.declared.list.CellList.{CellList}
 use Rattle.cell_core.specs.Sources.{is_one}
+use Rattle.cell_meaning.specs.Needs.{has_no_positive}
 use Rattle.cover_cells.specs.Grown.{bits_of, Answers}
 
 -- the source at a place, or constant 1 where it is not among the first so many
 abbrev pub start_of : List Src → ℕ → ℕ → Src
 start_of sources first width = cond (nat_lt first width) (get_or sources first One) One
-
--- the row has a `1` under none of the sources
-abbrev pub has_no_positive : ℕ → List ℕ → Bool
-has_no_positive count row = not (list_any (λ character. character == 49) (take count row))
 
 abbrev pub some_is_one : List Src → Bool
 some_is_one sources = list_any is_one sources

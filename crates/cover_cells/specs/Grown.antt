@@ -1,7 +1,6 @@
 -- What is said of a list to which cells were added.
-use Rattle.std.specs.Prelude.{slice_get, Some, ℕ, ◌≤◌, ◌≡◌, Bool, true, IsTrue, List, map, length}
+use Rattle.std.specs.Prelude.{ℕ, ◌≤◌, ◌≡◌, Bool, true, IsTrue, List, map, length}
 use Rattle.cell_core.specs.declared.cells.Src.{Src}
-use Rattle.cell_core.specs.declared.cells.Src.TheVariants.{Cell as Made}
 use Rattle.cell_core.specs.declared.cells.Cell.{Cell}
 use Rattle.cell_core.specs.declared.list.CellList.{CellList}
 use Rattle.cell_core.specs.Sources.{is_there, are_there, is_one, read_one}
@@ -30,7 +29,3 @@ pub record Answers (old new : CellList) (count : ℕ) (reason : Type 0) (src : S
   pub there : HasSource new src
   pub one : is_one src ≡ true → reason
   pub bit : (inputs state : List Bool) → bit_in new.cells inputs state src ≡ wanted inputs state
-
--- the source is a cell of the list, and this one
-abbrev pub IsCell : CellList → Src → Cell → Type 0
-IsCell list src cell = (k : ℕ) × (src ≡ Made k) × (slice_get list.cells k ≡ Some cell)

@@ -1,6 +1,5 @@
 pub mod Grown
 pub mod Covers
-pub mod Singles
 pub mod Words
 pub mod Placed
 pub mod Reduced

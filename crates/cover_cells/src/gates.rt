@@ -4,7 +4,8 @@ ghost use Rattle.cell_core.specs.Sources.{reads_there, reads_one, is_one};
 ghost use Rattle.cell_core.specs.Meaning.{bit_in, cell_bits, cell_bit};
 ghost use Rattle.netlist_meaning.specs.CoverValue.{fits};
 ghost use Rattle.netlist_core.specs.OwnWeight.{literals};
-ghost use Rattle.cover_cells.specs.Grown.{HasSource, Answers, IsCell};
+ghost use Rattle.cover_cells.specs.Grown.{HasSource, Answers};
+ghost use Rattle.cell_meaning.specs.Mapped.{IsCell};
 
 use crate::reduced::settle;
 use crate::shared::{Places, find_cell};

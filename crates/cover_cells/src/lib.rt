@@ -5,7 +5,6 @@
 
 mod covers;
 mod gates;
-pub mod laws;
 mod placed;
 mod reduced;
 mod rows;

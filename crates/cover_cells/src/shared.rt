@@ -3,7 +3,8 @@ ghost use Rattle.std.specs.Prelude.{◌≡◌, true, false, length, Some, None, 
 ghost use Rattle.std.specs.BTreeMap.{is_at};
 ghost use Rattle.cell_core.specs.Sources.{reads_there, reads_one};
 ghost use Rattle.cell_core.specs.Meaning.{cell_bits, cell_bit};
-ghost use Rattle.cover_cells.specs.Grown.{Answers, IsCell};
+ghost use Rattle.cover_cells.specs.Grown.{Answers};
+ghost use Rattle.cell_meaning.specs.Mapped.{IsCell};
 
 use crate::gates::add;
 use cell_core::{Cell, CellError, CellList, Src};

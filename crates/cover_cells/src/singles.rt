@@ -1,6 +1,6 @@
 // Covers that are a constant by their text, and covers of two nets that are one cell.
 ghost use Rattle.std.specs.Prelude.{◌≡◌};
-ghost use Rattle.cover_cells.specs.Singles.{is_only, are_both, are_pair, cell_of_rows, constant_source, single_cell};
+ghost use Rattle.cell_meaning.specs.Singles.{is_only, are_both, are_pair, cell_of_rows, constant_source, single_cell};
 
 use cell_core::{Cell, Src};
 use lists::Bytes;

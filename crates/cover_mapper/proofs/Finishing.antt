@@ -27,9 +27,9 @@ use Rattle.cell_core.specs.Sources.{are_there, is_one, read_one}
 use Rattle.cell_core.specs.Loops.{names_one}
 use Rattle.netlist_core.specs.OwnWeight.{rows_weight}
 use Rattle.cover_cells.specs.Grown.{Grows}
-use Rattle.cover_mapper.specs.Listed.{listed_classes}
-use Rattle.cover_mapper.specs.Needs.{any_needs_one, covers_weight}
-use Rattle.cover_mapper.specs.Mapped.{IsMapped, IsMappedWith, HasBits}
+use Rattle.cell_meaning.specs.Listed.{listed_classes}
+use Rattle.cell_meaning.specs.Needs.{any_needs_one, covers_weight}
+use Rattle.cell_meaning.specs.Mapped.{IsMapped, IsMappedWith, HasBits}
 use Rattle.cover_mapper.specs.Singles.{single_source}
 use Rattle.cover_mapper.specs.Sourced.{ClassSources, AreSourced, HasSingle, HasConstant, IsComplete, sources_at, source_at}
 use Rattle.cover_mapper.proofs.Known.{IsKnown, AreKnown, known_at, all_gathered, all_there, all_bits, any_one}

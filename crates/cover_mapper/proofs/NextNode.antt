@@ -26,11 +26,12 @@ use Rattle.cell_core.specs.declared.list.CellList.{CellList}
 use Rattle.cell_core.specs.Meaning.{bit_in}
 use Rattle.cell_core.specs.Sources.{is_one}
 use Rattle.netlist_core.specs.OwnWeight.{rows_weight}
-use Rattle.cover_cells.specs.Covers.{has_no_positive, CoverNeedsOne, AnswersCover}
-use Rattle.cover_cells.specs.Grown.{Grows, IsCell, bits_of}
-use Rattle.cover_cells.specs.Singles.{constant_source, single_cell}
+use Rattle.cell_meaning.specs.Needs.{has_no_positive, needs_one, any_needs_one}
+use Rattle.cover_cells.specs.Covers.{CoverNeedsOne, AnswersCover}
+use Rattle.cover_cells.specs.Grown.{Grows, bits_of}
+use Rattle.cell_meaning.specs.Mapped.{IsCell}
+use Rattle.cell_meaning.specs.Singles.{constant_source, single_cell}
 use Rattle.cover_cells.proofs.Growing.{grows, grows_refl}
-use Rattle.cover_mapper.specs.Needs.{needs_one, any_needs_one}
 use Rattle.cover_mapper.specs.Sourced.{ClassSources, AreSourced, AreMapped, IsAmongFirst, HasSingle, HasConstant, source_at}
 use Rattle.cover_mapper.proofs.Known.{IsKnown, AreKnown, all_bits, any_one}
 use Rattle.cover_mapper.proofs.Sourcing.{class_within, sourced_more}

@@ -15,9 +15,10 @@ use Rattle.cell_core.specs.declared.cells.Src.{Src}
 use Rattle.cell_core.specs.declared.cells.Src.TheVariants.{Zero}
 use Rattle.cell_core.specs.declared.cells.Cell.{Cell}
 use Rattle.cell_core.specs.declared.cells.Cell.TheVariants.{Or, Xor, AndNot}
-use Rattle.cover_cells.specs.Singles.{single_cell, are_pair, is_only}
+use Rattle.cell_meaning.specs.Singles.{single_cell, are_pair, is_only}
 use Rattle.cover_mapper.specs.Sourced.{ClassSources, source_at}
-use Rattle.cover_mapper.specs.Singles.{is_single, single_source, AreSinglesAmong}
+use Rattle.cover_mapper.specs.Singles.{is_single, single_source}
+use Rattle.cell_meaning.specs.Mapped.{AreSinglesAmong}
 
 one : {X Y : Type 0} (h : X → Option Y) (x : X) (o : Option Y) → h x ≡ o → filter_map h (x ∷ []) ≡ option_to_list o
 one h x None e = ap (λ p. filter_map (λ (u : _). p) (x ∷ [])) e

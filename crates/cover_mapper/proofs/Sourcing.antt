@@ -16,8 +16,9 @@ use Rattle.cell_core.specs.Sources.{is_one}
 use Rattle.cell_core.specs.Meaning.{bit_in}
 use Rattle.cover_cells.specs.Grown.{HasSource, Grows}
 use Rattle.cover_cells.proofs.Growing.{there_after, bit_after}
-use Rattle.cover_mapper.specs.Needs.{any_needs_one}
-use Rattle.cover_mapper.specs.Sourced.{ClassSources, AreSourced, IsOwn}
+use Rattle.cell_meaning.specs.Needs.{any_needs_one}
+use Rattle.cover_mapper.specs.Sourced.{ClassSources, AreSourced}
+use Rattle.cell_meaning.specs.Mapped.{IsOwn}
 
 -- a net's class is one of the netlist's
 pub class_within : (flat : Flat) → IsInRange flat → (id : NetId) → IsNetId flat id → class_of flat id < length flat.nets

@@ -1,5 +1,5 @@
 -- The sources of classes of nets, while covers are mapped in an order.
-use Rattle.std.specs.Prelude.{ℕ, ◌*◌, ◌<◌, ◌≡◌, ◌==◌, Bool, true, List, [], length, map, get_or, sum_by, Option, Some, None, Contains, ⊤}
+use Rattle.std.specs.Prelude.{ℕ, ◌*◌, ◌<◌, ◌≡◌, ◌==◌, Bool, true, List, [], length, map, get_or, sum_by, Option, Some, None, Contains}
 use Rattle.std.specs.List.{filter_map}
 use Rattle.std.specs.Option.{unwrap_or}
 use Rattle.netlist_core.specs.declared.flat.Flat.{Flat}
@@ -7,15 +7,16 @@ use Rattle.netlist_meaning.specs.Flat.{FlatDriver, FlatDrives, node_at, in_class
 use Rattle.netlist_meaning.specs.FlatOrder.{IsOrder}
 use Rattle.netlist_meaning.specs.FlatValuation.{IsFlatValuation}
 use Rattle.cell_core.specs.declared.cells.Src.{Src}
-use Rattle.cell_core.specs.declared.cells.Src.TheVariants.{Input, Latch, Zero}
+use Rattle.cell_core.specs.declared.cells.Src.TheVariants.{Zero}
 use Rattle.cell_core.specs.declared.cells.Cell.{Cell}
 use Rattle.cell_core.specs.declared.list.CellList.{CellList}
 use Rattle.cell_core.specs.Sources.{is_one}
 use Rattle.cell_core.specs.Meaning.{bit_in}
 use Rattle.netlist_core.specs.OwnWeight.{rows_weight}
-use Rattle.cover_cells.specs.Grown.{HasSource, Grows, IsCell}
-use Rattle.cover_cells.specs.Singles.{constant_source, single_cell}
-use Rattle.cover_mapper.specs.Needs.{any_needs_one}
+use Rattle.cover_cells.specs.Grown.{HasSource, Grows}
+use Rattle.cell_meaning.specs.Mapped.{IsCell}
+use Rattle.cell_meaning.specs.Singles.{single_cell}
+use Rattle.cell_meaning.specs.Needs.{any_needs_one}
 
 -- a source for each class that has one
 abbrev pub ClassSources : Type 0
@@ -35,12 +36,6 @@ IsAmongFirst inputs latches nodes (FlatDriver.input i) = i < inputs
 IsAmongFirst inputs latches nodes (FlatDriver.latch i) = i < latches
 IsAmongFirst inputs latches nodes (FlatDriver.node n) = Contains nodes n
 
--- an input's class has the input as its source, and a latch's class the latch
-abbrev pub IsOwn : FlatDriver → Src → Type 0
-IsOwn (FlatDriver.input i) src = src ≡ Input i
-IsOwn (FlatDriver.latch i) src = src ≡ Latch i
-IsOwn (FlatDriver.node n) src = ⊤
-
 -- the classes with such a driver, and no others, have a source, which is there and has their bit
 pub record AreSourced (flat : Flat) (made : FlatDriver → Type 0) (list : CellList) (sources : ClassSources) : Type 0 where
   pub long : length sources ≡ length flat.nets
@@ -56,10 +51,6 @@ pub record AreSourced (flat : Flat) (made : FlatDriver → Type 0) (list : CellL
 abbrev pub HasSingle : Flat → CellList → ClassSources → ℕ → Type 0
 HasSingle flat list sources n =
     (cell : Cell) → single_cell (map (source_at sources) (in_classes flat n)) (node_at flat n).rows (node_at flat n).on ≡ Some cell → IsCell list (source_at sources (out_class flat n)) cell
-
--- the constant that the cover of a node is by its text
-abbrev pub constant_of : Flat → ℕ → Option Src
-constant_of flat n = constant_source (length (node_at flat n).ins) (node_at flat n).rows (node_at flat n).on
 
 -- the cover of a node that is a constant by its text has it as its source
 abbrev pub HasConstant : Flat → ClassSources → ℕ → Type 0

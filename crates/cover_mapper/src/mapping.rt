@@ -3,7 +3,7 @@ ghost use Rattle.std.specs.Prelude.{ℕ, ◌≡◌, ◌≤◌, ◌+◌, ◌*◌,
 ghost use Rattle.netlist_meaning.specs.Flat.{IsSound, IsWeighed};
 ghost use Rattle.netlist_meaning.specs.FlatOrder.{IsOrder};
 ghost use Rattle.netlist_meaning.specs.FlatValuation.{IsFlatValuation};
-ghost use Rattle.cover_mapper.specs.Mapped.{HasBits, IsMappedWith};
+ghost use Rattle.cell_meaning.specs.Mapped.{HasBits, IsMappedWith};
 ghost use Rattle.cover_mapper.specs.Sourced.{IsComplete};
 
 use crate::classes::{sources_of_all, sources_of_data, sources_of_ports};

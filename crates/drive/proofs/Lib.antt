@@ -1,10 +1,6 @@
-pub mod Cuts
-pub mod Found
-pub mod GivenWords
 pub mod Rows
 pub mod Inside
 pub mod Streamed
-pub mod Across
 pub mod Sweeps
 pub mod Still
 pub mod Last

@@ -1,5 +1,5 @@
 -- A pattern driven by streams, and the bits that its outputs show.
-use Rattle.std.specs.Prelude.{◌≡◌, ◌<◌, ⊤, ℕ, pos, ◌+◌, ◌*◌, ◌-◌, Bool, false, List, length, map, All, slice_get, unwrap_or}
+use Rattle.std.specs.Prelude.{◌≡◌, ◌<◌, ⊤, ℕ, pos, ◌+◌, ◌*◌, ◌-◌, Bool, List, length, map, All}
 use Rattle.std.specs.List.{range_with_len}
 use Rattle.ww_rule.specs.declared.pattern.Injection.{Injection}
 use Rattle.ww_rule.specs.Wireworld.{Plane, driven, is_head}
@@ -7,7 +7,8 @@ use Rattle.ww_rule.specs.Injections.{injections_from, due_of_streams}
 use Rattle.pattern_reading.specs.declared.ports.Ports.{Ports}
 use Rattle.pattern_reading.specs.declared.ports.PortLine.{PortLine}
 use Rattle.pattern_reading.specs.Ports.{cells_of}
-use Rattle.drive.specs.declared.streams.Streams.{Streams}
+use Rattle.streams.specs.declared.streams.Streams.{Streams}
+use Rattle.streams.specs.Rows.{rows_of}
 use Rattle.drive.specs.declared.error.SimulateError.{SimulateError}
 use Rattle.drive.specs.declared.error.SimulateError.TheVariants.{NoMemory, TooFar}
 
@@ -15,18 +16,6 @@ use Rattle.drive.specs.declared.error.SimulateError.TheVariants.{NoMemory, TooFa
 pub record AreFor (ports : Ports) (streams : Streams) : Type 0 where
   pub many : length streams.bits ≡ length ports.ins
   pub long : All (λ bits. length bits ≡ streams.cycles) streams.bits
-
--- the bit at a place of each list
-abbrev pub bits_across : List (List Bool) → ℕ → List Bool
-bits_across lists place = map (λ bits. unwrap_or (slice_get bits place) false) lists
-
--- the bits of all inputs in a cycle
-abbrev pub stream_row : Streams → ℕ → List Bool
-stream_row streams cycle = bits_across streams.bits cycle
-
--- a row of input bits for each cycle
-abbrev pub rows_of : Streams → List (List Bool)
-rows_of streams = map (stream_row streams) (range_with_len 0 streams.cycles)
 
 -- one injection at generation t P, at the cell of input i, for each cycle t and input i whose bit is 1: cycle after cycle,
 -- and in a cycle in the order of the inputs

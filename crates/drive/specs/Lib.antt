@@ -1,6 +1,2 @@
-pub mod Words
-pub mod Streams
-pub mod GivenBits
 pub mod Driving
-pub mod Examples
 pub mod Runs

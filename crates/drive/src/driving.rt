@@ -4,11 +4,10 @@ ghost use Rattle.ww_rule.specs.Injections.{injections_of_row};
 ghost use Rattle.pattern_reading.specs.Ports.{cells_of};
 ghost use Rattle.drive.specs.Driving.{AreFor, injections_of};
 
-use crate::columns::bits_across;
 use crate::error::DriveError;
-use crate::streams::Streams;
 use pattern_reading::{PortLine, Ports};
 use std::alloc::Global;
+use streams::{Streams, bits_across};
 use ww_rule::Injection;
 
 // Puts the injections of a row at the end: at a generation, the cells of the inputs whose bits are 1.

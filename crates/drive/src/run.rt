@@ -13,10 +13,10 @@ ghost use Rattle.drive.specs.Runs.{IsBandRun, evolution, planes_of};
 use crate::driving::injections;
 use crate::error::DriveError;
 use crate::moving::move_all;
-use crate::streams::Streams;
 use band_core::Bands;
 use pattern_reading::Ports;
 use std::alloc::Global;
+use streams::Streams;
 use ww_rule::{Injection, Pattern, State};
 
 /// How many rows a band has at least.

@@ -5,13 +5,12 @@ ghost use Rattle.pattern_reading.specs.Ports.{cells_of};
 ghost use Rattle.drive.specs.Driving.{AreFor, shown_row, shown_rows, shown_bits, greatest_generation, last_generation, HasSimulateCause};
 ghost use Rattle.drive.specs.Runs.{IsBandRun, planes_of};
 
-use crate::columns::columns_of;
 use crate::error::{DriveError, SimulateError};
 use crate::run::Run;
-use crate::streams::Streams;
 use lists::List;
 use pattern_reading::{PortLine, Ports};
 use std::alloc::{AllocError, Global};
+use streams::{Streams, columns_of};
 use ww_rule::Pattern;
 
 /// The most generations that a run may need.

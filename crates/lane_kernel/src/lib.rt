@@ -9,7 +9,7 @@ mod rows;
 mod spans;
 mod words;
 
-pub use one_word::{stays_within, step_one_word};
+pub use one_word::step_one_word;
 pub use rows::step_rows;
-pub use spans::{one_after, one_before, put_words, step_span};
+pub use spans::{eastern_end, put_words, stays_within, step_span, western_end};
 pub use words::{spread, words_near};

@@ -2,28 +2,9 @@
 ghost use Rattle.std.specs.Prelude.{◌≡◌, ◌+◌, ◌<◌, ◌≢◌, ◌==◌, not, true, ℕ, length, get_or};
 ghost use Rattle.std.specs.Int.RustNames.{bit_or};
 ghost use Rattle.lane_kernel.specs.Words.{heads_word, wires_word, new_heads_of, new_wires_of};
-ghost use Rattle.lane_kernel.specs.Spans.{IsDarkBeyond, has_end, stays_within};
+ghost use Rattle.lane_kernel.specs.Spans.{IsDarkBeyond, stays_within};
 
 use crate::words::{alone, new_heads, new_wires};
-
-// Whether a word has a bit at its first or its last place.
-fn has_end(words: &[u64], j: usize) -> bool
-    requires { j < length words.now }
-    ensures { result ≡ has_end j words.now }
-{
-    words[j] & 1 == 1 || (words[j] >> 63) & 1 == 1
-}
-
-/// Whether nothing of three rows of heads comes over the borders of word j: none of its heads stands at its ends, or the
-/// rows have no other word.
-pub fn stays_within(above: &[u64], heads: &[u64], below: &[u64], j: usize) -> bool
-    requires within { j < length heads.now }
-    requires above { length above.now ≡ length heads.now }
-    requires below { length below.now ≡ length heads.now }
-    ensures { result ≡ stays_within j above.now heads.now below.now }
-{
-    heads.len() == 1 || !(has_end(above, j) || has_end(heads, j) || has_end(below, j))
-}
 
 // The new heads of word j of a row, where the light of the row and the heads beside it lie in this word and nothing comes
 // over its borders: no other word gets any.
@@ -35,7 +16,7 @@ fn heads_in(above: &[u64], heads: &[u64], below: &[u64], wires: &[u64], j: usize
     requires dark_above { IsDarkBeyond j (j + 1) above.now }
     requires dark_heads { IsDarkBeyond j (j + 1) heads.now }
     requires dark_below { IsDarkBeyond j (j + 1) below.now }
-    requires stays { stays_within j above.now heads.now below.now ≡ true }
+    requires stays { stays_within j (j + 1) above.now heads.now below.now ≡ true }
     ensures here { result ≡ heads_word above.now heads.now below.now wires.now j }
     ensures beside { (i : ℕ) → i ≢ j → heads_word above.now heads.now below.now wires.now i ≡ 0 }
 {
@@ -61,7 +42,7 @@ pub fn step_one_word(
     requires dark_heads { IsDarkBeyond j (j + 1) heads.old }
     requires dark_below { IsDarkBeyond j (j + 1) below.now }
     requires dark_tails { IsDarkBeyond j (j + 1) tails.old }
-    requires stays { stays_within j above.now heads.old below.now ≡ true }
+    requires stays { stays_within j (j + 1) above.now heads.old below.now ≡ true }
     ensures long_heads { length heads.new ≡ length heads.old }
     ensures long_tails { length tails.new ≡ length heads.old }
     ensures long_wires { length wires.new ≡ length heads.old }
@@ -73,10 +54,10 @@ pub fn step_one_word(
     ensures lit { result ≡ not (bit_or (get_or heads.new j 0) (get_or tails.new j 0) == 0) }
 {
     let here = heads[j];
+    let fired = heads_in(above, heads, below, wires, j);
     if here | tails[j] | wires[j] == 0 {
         return false;
     }
-    let fired = heads_in(above, heads, below, wires, j);
     wires[j] = new_wires(wires[j], tails[j], fired);
     heads[j] = fired;
     tails[j] = here;

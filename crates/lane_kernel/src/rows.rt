@@ -1,5 +1,5 @@
 // Whole rows.
-ghost use Rattle.std.specs.Prelude.{◌≡◌, ◌+◌, ◌<◌, ◌&&◌, ◌||◌, not, ℕ, pos, length, get_or};
+ghost use Rattle.std.specs.Prelude.{◌≡◌, ◌+◌, ◌<◌, ◌≤◌, ◌⊎◌, ◌&&◌, ◌||◌, not, ℕ, pos, length, get_or};
 ghost use Rattle.ww_rule.specs.Wireworld.{heads_around, next_plane};
 ghost use Rattle.lane_kernel.specs.Rows.{is_one_or_two, is_set, row_state, plane_of_rows, AreDisjoint};
 ghost use Rattle.lane_kernel.specs.Words.{heads_word, wires_word};
@@ -7,28 +7,24 @@ ghost use Rattle.lane_kernel.specs.Words.{heads_word, wires_word};
 use crate::lanes::step_four;
 use crate::words::{new_heads, new_wires, words_near};
 
-// The new word of a row at j.
+// The new word of a row at j, its new heads in the tails' place.
 fn step_one(
     above: &[u64],
     heads: &[u64],
     below: &[u64],
-    tails: &[u64],
-    wires: &[u64],
+    tails: &mut [u64],
+    wires: &mut [u64],
     j: usize,
-    next_heads: &mut [u64],
-    next_wires: &mut [u64],
 )
     requires within { j < length heads.now }
-    requires tails { length tails.now ≡ length heads.now }
-    requires wires { length wires.now ≡ length heads.now }
-    requires new_heads { length next_heads.old ≡ length heads.now }
-    requires new_wires { length next_wires.old ≡ length heads.now }
-    ensures long_heads { length next_heads.new ≡ length heads.now }
-    ensures long_wires { length next_wires.new ≡ length heads.now }
-    ensures heads_before { (k : ℕ) → k < j → get_or next_heads.new k 0 ≡ get_or next_heads.old k 0 }
-    ensures wires_before { (k : ℕ) → k < j → get_or next_wires.new k 0 ≡ get_or next_wires.old k 0 }
-    ensures heads { (k : ℕ) → k < 1 → get_or next_heads.new (j + k) 0 ≡ heads_word above.now heads.now below.now wires.now (j + k) }
-    ensures wires { (k : ℕ) → k < 1 → get_or next_wires.new (j + k) 0 ≡ wires_word above.now heads.now below.now tails.now wires.now (j + k) }
+    requires tails { length tails.old ≡ length heads.now }
+    requires wires { length wires.old ≡ length heads.now }
+    ensures long_tails { length tails.new ≡ length heads.now }
+    ensures long_wires { length wires.new ≡ length heads.now }
+    ensures heads { (k : ℕ) → k < 1 → get_or tails.new (j + k) 0 ≡ heads_word above.now heads.now below.now wires.old (j + k) }
+    ensures wires { (k : ℕ) → k < 1 → get_or wires.new (j + k) 0 ≡ wires_word above.now heads.now below.now tails.old wires.old (j + k) }
+    ensures other_tails { (k : ℕ) → (k < j) ⊎ (j + 1 ≤ k) → get_or tails.new k 0 ≡ get_or tails.old k 0 }
+    ensures other_wires { (k : ℕ) → (k < j) ⊎ (j + 1 ≤ k) → get_or wires.new k 0 ≡ get_or wires.old k 0 }
 {
     let fired = new_heads(
         words_near(above, j),
@@ -36,38 +32,35 @@ fn step_one(
         words_near(below, j),
         wires[j],
     );
-    next_heads[j] = fired;
-    next_wires[j] = new_wires(wires[j], tails[j], fired);
+    wires[j] = new_wires(wires[j], tails[j], fired);
+    tails[j] = fired;
 }
 
-// The new words of a row, four at once where there are enough, and else one.
+/// The new words of a row, as if it stood alone, four at once where there are enough, and else one: the new heads in the
+/// tails' place, the new wires in the wires'.
 pub fn step_words(
     above: &[u64],
     heads: &[u64],
     below: &[u64],
-    tails: &[u64],
-    wires: &[u64],
-    next_heads: &mut [u64],
-    next_wires: &mut [u64],
+    tails: &mut [u64],
+    wires: &mut [u64],
 )
     requires above { length above.now ≡ length heads.now }
     requires below { length below.now ≡ length heads.now }
-    requires tails { length tails.now ≡ length heads.now }
-    requires wires { length wires.now ≡ length heads.now }
-    requires new_heads { length next_heads.old ≡ length heads.now }
-    requires new_wires { length next_wires.old ≡ length heads.now }
-    ensures long_heads { length next_heads.new ≡ length heads.now }
-    ensures long_wires { length next_wires.new ≡ length heads.now }
-    ensures heads { (j : ℕ) → j < length heads.now → get_or next_heads.new j 0 ≡ heads_word above.now heads.now below.now wires.now j }
-    ensures wires { (j : ℕ) → j < length heads.now → get_or next_wires.new j 0 ≡ wires_word above.now heads.now below.now tails.now wires.now j }
+    requires tails { length tails.old ≡ length heads.now }
+    requires wires { length wires.old ≡ length heads.now }
+    ensures long_tails { length tails.new ≡ length heads.now }
+    ensures long_wires { length wires.new ≡ length heads.now }
+    ensures heads { (j : ℕ) → j < length heads.now → get_or tails.new j 0 ≡ heads_word above.now heads.now below.now wires.old j }
+    ensures wires { (j : ℕ) → j < length heads.now → get_or wires.new j 0 ≡ wires_word above.now heads.now below.now tails.old wires.old j }
 {
     let mut j = 0;
     while j < heads.len() {
         if 0 < j && 5 <= heads.len() - j {
-            step_four(above, heads, below, tails, wires, j, next_heads, next_wires);
+            step_four(above, heads, below, tails, wires, j);
             j += 4;
         } else {
-            step_one(above, heads, below, tails, wires, j, next_heads, next_wires);
+            step_one(above, heads, below, tails, wires, j);
             j += 1;
         }
     }
@@ -97,5 +90,7 @@ pub fn step_rows(
     ensures apart { AreDisjoint heads.now tails.now wires.now → AreDisjoint new_heads.new heads.now new_wires.new }
     ensures cells { AreDisjoint heads.now tails.now wires.now → (x : ℕ) → row_state new_heads.new heads.now new_wires.new x ≡ next_plane (plane_of_rows above.now heads.now below.now tails.now wires.now) (pos x) (pos 1) }
 {
-    step_words(above, heads, below, tails, wires, new_heads, new_wires);
+    new_heads.copy_from_slice(tails);
+    new_wires.copy_from_slice(wires);
+    step_words(above, heads, below, new_heads, new_wires);
 }

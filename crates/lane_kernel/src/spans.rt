@@ -1,24 +1,9 @@
 // A row that is dark but for a span of its words.
-ghost use Rattle.std.specs.Prelude.{◌≡◌, ◌+◌, ◌-◌, ◌<◌, ◌≤◌, ◌⊎◌, ℕ, length, get_or, min};
+ghost use Rattle.std.specs.Prelude.{◌≡◌, ◌-◌, ◌<◌, ◌≤◌, ◌⊎◌, ◌==◌, ◌&&◌, true, ℕ, length, get_or};
 ghost use Rattle.lane_kernel.specs.Words.{heads_word, wires_word};
-ghost use Rattle.lane_kernel.specs.Spans.{IsDarkBeyond, part};
+ghost use Rattle.lane_kernel.specs.Spans.{IsDarkBeyond, has_head, stays_east, stays_west, stays_within};
 
 use crate::rows::step_words;
-
-// The place before another, or the first.
-pub fn one_before(first: usize) -> usize
-    ensures { result ≡ first - 1 }
-{
-    if first == 0 { 0 } else { first - 1 }
-}
-
-// The place after another, within a length.
-pub fn one_after(end: usize, long: usize) -> usize
-    requires { end ≤ long }
-    ensures { result ≡ min (end + 1) long }
-{
-    if end < long { end + 1 } else { long }
-}
 
 /// Puts the words of another row from one place up to another into a row.
 pub fn put_words(row: &mut [u64], lo: usize, hi: usize, from: &[u64])
@@ -32,90 +17,112 @@ pub fn put_words(row: &mut [u64], lo: usize, hi: usize, from: &[u64])
     row[lo..hi].copy_from_slice(&from[lo..hi]);
 }
 
-// The new words of a part of a row, as if the part stood alone.
-fn step_part(
+// Whether one of three rows has a head at the first place of word j.
+fn has_first(above: &[u64], heads: &[u64], below: &[u64], j: usize) -> bool
+    requires within { j < length heads.now }
+    requires above { length above.now ≡ length heads.now }
+    requires below { length below.now ≡ length heads.now }
+    ensures { result ≡ has_head j 0 above.now heads.now below.now }
+{
+    (above[j] | heads[j] | below[j]) & 1 == 1
+}
+
+// Whether one of three rows has a head at the last place of word j.
+fn has_last(above: &[u64], heads: &[u64], below: &[u64], j: usize) -> bool
+    requires within { j < length heads.now }
+    requires above { length above.now ≡ length heads.now }
+    requires below { length below.now ≡ length heads.now }
+    ensures { result ≡ has_head j 63 above.now heads.now below.now }
+{
+    ((above[j] | heads[j] | below[j]) >> 63) & 1 == 1
+}
+
+/// Whether nothing of three rows of heads comes over the borders of the words from `lo` up to `hi`: no head stands at a
+/// border, or the border is an end of the rows.
+pub fn stays_within(above: &[u64], heads: &[u64], below: &[u64], lo: usize, hi: usize) -> bool
+    requires order { lo < hi }
+    requires within { hi ≤ length heads.now }
+    requires above { length above.now ≡ length heads.now }
+    requires below { length below.now ≡ length heads.now }
+    ensures { result ≡ stays_within lo hi above.now heads.now below.now }
+{
+    (!has_first(above, heads, below, lo) || lo == 0)
+        && (!has_last(above, heads, below, hi - 1) || hi == heads.len())
+}
+
+/// Where the heads of three rows whose words before `first` are dark come to in the west: a word further, if one stands at
+/// that border.
+pub fn western_end(above: &[u64], heads: &[u64], below: &[u64], first: usize) -> usize
+    requires within { first < length heads.now }
+    requires above { length above.now ≡ length heads.now }
+    requires below { length below.now ≡ length heads.now }
+    requires dark_above { (j : ℕ) → j < first → get_or above.now j 0 ≡ 0 }
+    requires dark_heads { (j : ℕ) → j < first → get_or heads.now j 0 ≡ 0 }
+    requires dark_below { (j : ℕ) → j < first → get_or below.now j 0 ≡ 0 }
+    ensures order { result ≤ first }
+    ensures stays { stays_west result above.now heads.now below.now ≡ true }
+{
+    if first == 0 || !has_first(above, heads, below, first) {
+        first
+    } else {
+        first - 1
+    }
+}
+
+/// Where the heads of three rows whose words from `end` on are dark come to in the east.
+pub fn eastern_end(above: &[u64], heads: &[u64], below: &[u64], end: usize) -> usize
+    requires some { 0 < end }
+    requires within { end ≤ length heads.now }
+    requires above { length above.now ≡ length heads.now }
+    requires below { length below.now ≡ length heads.now }
+    requires dark_above { (j : ℕ) → end ≤ j → get_or above.now j 0 ≡ 0 }
+    requires dark_heads { (j : ℕ) → end ≤ j → get_or heads.now j 0 ≡ 0 }
+    requires dark_below { (j : ℕ) → end ≤ j → get_or below.now j 0 ≡ 0 }
+    ensures order { end ≤ result }
+    ensures within { result ≤ length heads.now }
+    ensures stays { stays_east result above.now heads.now below.now ≡ true }
+{
+    if end == heads.len() || !has_last(above, heads, below, end - 1) {
+        end
+    } else {
+        end + 1
+    }
+}
+
+/// The next generation of a row whose light, with the heads beside it, lies in the words from `lo` up to `hi`, where nothing
+/// comes over the borders of these: no other word is looked at. The new heads stand in the tails' place, the new wires in the
+/// wires'; the heads are the new tails.
+pub fn step_span(
     above: &[u64],
     heads: &[u64],
     below: &[u64],
-    tails: &[u64],
-    wires: &[u64],
+    tails: &mut [u64],
+    wires: &mut [u64],
     lo: usize,
     hi: usize,
-    spare_heads: &mut [u64],
-    spare_wires: &mut [u64],
 )
     requires order { lo ≤ hi }
     requires within { hi ≤ length heads.now }
     requires above { length above.now ≡ length heads.now }
     requires below { length below.now ≡ length heads.now }
-    requires tails { length tails.now ≡ length heads.now }
-    requires wires { length wires.now ≡ length heads.now }
-    requires spare_heads { length spare_heads.old ≡ length heads.now }
-    requires spare_wires { length spare_wires.old ≡ length heads.now }
-    ensures long_heads { length spare_heads.new ≡ length heads.now }
-    ensures long_wires { length spare_wires.new ≡ length heads.now }
-    ensures heads { (k : ℕ) → lo + k < hi → get_or spare_heads.new (lo + k) 0 ≡ heads_word (part lo hi above.now) (part lo hi heads.now) (part lo hi below.now) (part lo hi wires.now) k }
-    ensures wires { (k : ℕ) → lo + k < hi → get_or spare_wires.new (lo + k) 0 ≡ wires_word (part lo hi above.now) (part lo hi heads.now) (part lo hi below.now) (part lo hi tails.now) (part lo hi wires.now) k }
+    requires tails { length tails.old ≡ length heads.now }
+    requires wires { length wires.old ≡ length heads.now }
+    requires dark_above { IsDarkBeyond lo hi above.now }
+    requires dark_heads { IsDarkBeyond lo hi heads.now }
+    requires dark_below { IsDarkBeyond lo hi below.now }
+    requires dark_tails { IsDarkBeyond lo hi tails.old }
+    requires stays { stays_within lo hi above.now heads.now below.now ≡ true }
+    ensures long_tails { length tails.new ≡ length heads.now }
+    ensures long_wires { length wires.new ≡ length heads.now }
+    ensures heads { (j : ℕ) → get_or tails.new j 0 ≡ heads_word above.now heads.now below.now wires.old j }
+    ensures wires { (j : ℕ) → get_or wires.new j 0 ≡ wires_word above.now heads.now below.now tails.old wires.old j }
+    ensures dark { IsDarkBeyond lo hi tails.new }
 {
     step_words(
         &above[lo..hi],
         &heads[lo..hi],
         &below[lo..hi],
-        &tails[lo..hi],
-        &wires[lo..hi],
-        &mut spare_heads[lo..hi],
-        &mut spare_wires[lo..hi],
+        &mut tails[lo..hi],
+        &mut wires[lo..hi],
     );
-}
-
-/// The next generation of a row in place, where the row's light and the heads beside it lie in the words from `first` up
-/// to `end`: these and one word on each side are looked at, and no other. The spare rows hold anything.
-pub fn step_span(
-    above: &[u64],
-    heads: &mut [u64],
-    below: &[u64],
-    tails: &mut [u64],
-    wires: &mut [u64],
-    first: usize,
-    end: usize,
-    spare_heads: &mut [u64],
-    spare_wires: &mut [u64],
-)
-    requires order { first ≤ end }
-    requires within { end ≤ length heads.old }
-    requires above { length above.now ≡ length heads.old }
-    requires below { length below.now ≡ length heads.old }
-    requires tails { length tails.old ≡ length heads.old }
-    requires wires { length wires.old ≡ length heads.old }
-    requires spare_heads { length spare_heads.old ≡ length heads.old }
-    requires spare_wires { length spare_wires.old ≡ length heads.old }
-    requires dark_above { IsDarkBeyond first end above.now }
-    requires dark_heads { IsDarkBeyond first end heads.old }
-    requires dark_below { IsDarkBeyond first end below.now }
-    requires dark_tails { IsDarkBeyond first end tails.old }
-    ensures long_heads { length heads.new ≡ length heads.old }
-    ensures long_tails { length tails.new ≡ length heads.old }
-    ensures long_wires { length wires.new ≡ length heads.old }
-    ensures long_spare_heads { length spare_heads.new ≡ length heads.old }
-    ensures long_spare_wires { length spare_wires.new ≡ length heads.old }
-    ensures heads { (j : ℕ) → get_or heads.new j 0 ≡ heads_word above.now heads.old below.now wires.old j }
-    ensures tails { (j : ℕ) → get_or tails.new j 0 ≡ get_or heads.old j 0 }
-    ensures wires { (j : ℕ) → get_or wires.new j 0 ≡ wires_word above.now heads.old below.now tails.old wires.old j }
-{
-    let lo = one_before(first);
-    let hi = one_after(end, heads.len());
-    step_part(
-        above,
-        heads,
-        below,
-        tails,
-        wires,
-        lo,
-        hi,
-        spare_heads,
-        spare_wires,
-    );
-    put_words(tails, lo, hi, heads);
-    put_words(heads, lo, hi, spare_heads);
-    put_words(wires, lo, hi, spare_wires);
 }

@@ -7,7 +7,7 @@ use Rattle.lane_core.specs.Instrs.{bit_on, after_instrs}
 use Rattle.lane_core.specs.Columns.{after_columns}
 use Rattle.lane_core.specs.Entering.{bits_after}
 use Rattle.cell_core.specs.declared.list.CellList.{CellList}
-use Rattle.cell_lanes.specs.Computes.{ComputesByProgram, ComputesByPlan}
+use Rattle.cell_meaning.specs.Computes.{ComputesByProgram, ComputesByPlan}
 use Rattle.latch_loops.specs.Places.{closed_place}
 
 -- columns without instructions were added, where there were fewer than this many

@@ -12,9 +12,9 @@ use Rattle.netlist_core.specs.declared.flat.FlatPort.{FlatPort}
 use Rattle.netlist_meaning.specs.Flat.{IsWeighed, class_of, port_classes}
 use Rattle.cell_core.specs.declared.list.CellList.{CellList}
 use Rattle.cell_core.specs.Loops.{names_one, loop_count}
-use Rattle.cell_lanes.specs.Computes.{ComputesByPlan}
-use Rattle.cover_mapper.specs.Mapped.{IsMapped}
-use Rattle.cover_mapper.specs.Needs.{any_needs_one}
+use Rattle.cell_meaning.specs.Computes.{ComputesByPlan}
+use Rattle.cell_meaning.specs.Mapped.{IsMapped}
+use Rattle.cell_meaning.specs.Needs.{any_needs_one}
 use Rattle.cell_plans.specs.Counts.{instr_count}
 use Rattle.cell_plans.specs.Exits.{AreAtExits}
 use Rattle.row_placer.specs.Entries.{AreAtEntries}

@@ -20,10 +20,10 @@ use Rattle.netlist_meaning.proofs.ClockTest.{is_clock_class-Decides}
 use Rattle.cell_core.specs.declared.list.CellList.{CellList}
 use Rattle.cell_core.specs.Loops.{names_one}
 use Rattle.cell_core.specs.Meaning.{Fits}
-use Rattle.cell_lanes.specs.Computes.{ComputesByPlan}
+use Rattle.cell_meaning.specs.Computes.{ComputesByPlan}
 use Rattle.row_placer.specs.Empty.{IsEmpty}
-use Rattle.cover_mapper.specs.Mapped.{IsMapped}
-use Rattle.cover_mapper.specs.Needs.{covers_weight, needs_one}
+use Rattle.cell_meaning.specs.Mapped.{IsMapped}
+use Rattle.cell_meaning.specs.Needs.{covers_weight, needs_one}
 use Rattle.netlist_plans.specs.Planned.{HasLanes}
 use Rattle.netlist_plans.proofs.Bounds.{none_named, outs_many, starts_many}
 

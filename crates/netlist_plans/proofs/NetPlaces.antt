@@ -14,11 +14,9 @@ use Rattle.cell_core.specs.declared.cells.Cell.{Cell}
 use Rattle.cell_core.specs.declared.cells.Cell.TheVariants.{Or, Xor, AndNot}
 use Rattle.cell_core.specs.declared.list.CellList.{CellList}
 use Rattle.cell_core.specs.Loops.{loop_count}
-use Rattle.cell_lanes.specs.Origins.{cell_instr, maker_on}
-use Rattle.cover_cells.specs.Grown.{IsCell}
-use Rattle.cover_cells.specs.Singles.{single_cell, are_pair, is_only}
-use Rattle.cover_mapper.specs.Mapped.{IsMapped}
-use Rattle.cover_mapper.specs.Sourced.{constant_of}
+use Rattle.cell_meaning.specs.Origins.{cell_instr, maker_on}
+use Rattle.cell_meaning.specs.Mapped.{IsCell, IsMapped, constant_of}
+use Rattle.cell_meaning.specs.Singles.{single_cell, are_pair, is_only}
 use Rattle.row_placer.specs.Entries.{IsEntryOf, AreAtEntries}
 use Rattle.row_placer.specs.Numbers.{IsThere}
 use Rattle.row_placer.proofs.Sound.{sound as sources_there}

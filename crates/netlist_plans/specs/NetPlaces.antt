@@ -3,10 +3,10 @@ use Rattle.std.specs.Prelude.{ℕ, ◌+◌, ◌-◌, ◌<◌, ◌≡◌, ◌⊎�
 use Rattle.cell_core.specs.declared.cells.Src.{Src}
 use Rattle.cell_core.specs.declared.cells.Src.TheVariants.{One, Zero}
 use Rattle.cell_core.specs.declared.cells.Cell.{Cell}
-use Rattle.cell_lanes.specs.Origins.{cell_instr}
+use Rattle.cell_meaning.specs.Origins.{cell_instr}
 use Rattle.cell_plans.specs.Exits.{IsExitOf}
-use Rattle.cover_cells.specs.Singles.{single_cell}
-use Rattle.cover_mapper.specs.Sourced.{constant_of}
+use Rattle.cell_meaning.specs.Singles.{single_cell}
+use Rattle.cell_meaning.specs.Mapped.{constant_of}
 use Rattle.lane_core.specs.declared.plan.NetPlace.{NetPlace}
 use Rattle.lane_core.specs.declared.plan.Plan.{Plan}
 use Rattle.netlist_core.specs.declared.flat.Net.{Net as FlatNet}

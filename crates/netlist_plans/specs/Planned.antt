@@ -5,12 +5,12 @@ use Rattle.netlist_core.specs.declared.flat.Flat.{Flat}
 use Rattle.netlist_meaning.specs.Flat.{nets_but_clocks}
 use Rattle.cell_core.specs.declared.list.CellList.{CellList}
 use Rattle.cell_core.specs.Loops.{names_one}
-use Rattle.cell_lanes.specs.Computes.{ComputesByPlan}
+use Rattle.cell_meaning.specs.Computes.{ComputesByPlan}
 use Rattle.cell_plans.specs.Counts.{instr_count}
 use Rattle.cell_plans.specs.Exits.{AreAtExits}
 use Rattle.row_placer.specs.Entries.{AreAtEntries}
-use Rattle.cover_mapper.specs.Mapped.{IsMapped}
-use Rattle.cover_mapper.specs.Needs.{any_needs_one}
+use Rattle.cell_meaning.specs.Mapped.{IsMapped}
+use Rattle.cell_meaning.specs.Needs.{any_needs_one}
 
 -- The plan is small, by the weight w: at most 4 w + 4 lanes, and at most 256 (w + 1) (w + 1) columns, which have at most as many
 -- instructions. It has a loop for each latch, and at most one more, where covers need constant 1.

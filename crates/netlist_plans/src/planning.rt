@@ -4,7 +4,7 @@ ghost use Rattle.grid_assembly.specs.PlanDrawing.{start_grid};
 ghost use Rattle.lane_core.specs.Plans.{IsAdmissible};
 ghost use Rattle.netlist_meaning.specs.Flat.{IsNamed, IsSound, IsWeighed};
 ghost use Rattle.netlist_meaning.specs.FlatOrder.{IsOrder};
-ghost use Rattle.cover_mapper.specs.Needs.{any_needs_one};
+ghost use Rattle.cell_meaning.specs.Needs.{any_needs_one};
 ghost use Rattle.plan_carries.specs.Compiled.{ComputesFlat};
 ghost use Rattle.plan_ports.specs.Tables.{HasPortNames, HasTablePlaces, IsTableOf};
 ghost use Rattle.written_reads.specs.Laws.{pattern_text};

@@ -17,9 +17,9 @@ use Rattle.flat_designs.proofs.Valuations.{valuations_are_flat}
 use Rattle.netlist_core.specs.Names.{Name}
 use Rattle.netlist_meaning.specs.Places.{main_outputs}
 use Rattle.netlist_meaning.specs.Flat.{name_of_net}
-use Rattle.drive.proofs.Across.{columns_are, rows_long}
-use Rattle.drive.specs.declared.streams.Streams.{Streams}
-use Rattle.drive.specs.Driving.{bits_across, stream_row, rows_of}
+use Rattle.streams.proofs.Across.{columns_are, rows_long}
+use Rattle.streams.specs.declared.streams.Streams.{Streams}
+use Rattle.streams.specs.Rows.{bits_across, stream_row, rows_of}
 use Rattle.netlist_text.specs.Parts.{AreParts}
 use Rattle.netlist_run.specs.Runs.{bits_in_run, ShowsRun}
 

@@ -5,8 +5,8 @@ use Rattle.netlist_core.specs.declared.model.Design.{Design}
 use Rattle.netlist_core.specs.Names.{Name}
 use Rattle.netlist_meaning.specs.Places.{main_outputs}
 use Rattle.netlist_meaning.specs.Valuation.{Valuation, IsRun}
-use Rattle.drive.specs.declared.streams.Streams.{Streams}
-use Rattle.drive.specs.Driving.{rows_of}
+use Rattle.streams.specs.declared.streams.Streams.{Streams}
+use Rattle.streams.specs.Rows.{rows_of}
 
 -- the bits of a net of the main model, cycle after cycle
 abbrev pub bits_in_run : (ℕ → Valuation) → ℕ → Name → List Bool

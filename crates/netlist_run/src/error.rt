@@ -2,7 +2,6 @@
 ghost use Rattle.std.specs.Prelude.{◌≡◌};
 ghost use Rattle.netlist_run.specs.declared.error.RunError.TheVariants.{NoMemory};
 
-use drive::DriveError;
 use netlist_eval::MachineError;
 use std::alloc::{AllocError, AllocFailed};
 use thiserror::Error;
@@ -36,16 +35,6 @@ impl From<MachineError> for RunError {
     fn from(error: MachineError) -> Self {
         match error {
             MachineError::NoMemory => RunError::NoMemory,
-        }
-    }
-}
-
-impl From<DriveError> for RunError {
-    ghost from_gives = { λ _ e. e ≡ NoMemory };
-
-    fn from(error: DriveError) -> Self {
-        match error {
-            DriveError::NoMemory => RunError::NoMemory,
         }
     }
 }

@@ -1,15 +1,15 @@
 // A netlist run cycle by cycle.
 ghost use Rattle.std.specs.Prelude.{◌≡◌, ◌<◌, All, length, IfOk};
-ghost use Rattle.drive.specs.Driving.{bits_across};
+ghost use Rattle.streams.specs.Rows.{bits_across};
 ghost use Rattle.netlist_run.specs.Runs.{ShowsRun};
 ghost use Rattle.netlist_text.specs.Parts.{AreParts};
 
 use crate::error::RunError;
-use drive::{Streams, columns_of};
 use lists::List;
 use netlist_eval::Machine;
 use netlist_text::Netlist;
 use std::alloc::Global;
+use streams::{Streams, columns_of};
 
 // Puts the bit at a place of each list.
 fn put_column(lists: &[List<bool>], place: usize, row: &mut [bool])

@@ -31,7 +31,7 @@ use Rattle.plan_waves.proofs.OneContext.{one_context_starts}
 use Rattle.cell_core.specs.declared.list.CellList.{CellList}
 use Rattle.cell_core.specs.Meaning.{Fits}
 use Rattle.cell_core.specs.Loops.{loop_state}
-use Rattle.cell_lanes.specs.Computes.{ComputesByPlan}
+use Rattle.cell_meaning.specs.Computes.{ComputesByPlan}
 use Rattle.pattern_reading.specs.declared.ports.PortLine.{PortLine}
 use Rattle.pattern_reading.specs.declared.ports.NetLine.{NetLine}
 use Rattle.pattern_reading.specs.declared.ports.Ports.{Ports}
@@ -40,7 +40,7 @@ use Rattle.netlist_core.specs.declared.flat.FlatPort.{FlatPort}
 use Rattle.netlist_core.specs.declared.flat.Net.{Net as FlatNet}
 use Rattle.netlist_meaning.specs.Flat.{class_of, nets_but_clocks}
 use Rattle.netlist_meaning.specs.FlatValuation.{AreFlatRows, IsFlatRun, start_bits, flat_state_in, flat_output_bit}
-use Rattle.cover_mapper.specs.Mapped.{HasBits}
+use Rattle.cell_meaning.specs.Mapped.{HasBits}
 use Rattle.carries.specs.Contexts.{AreRunsFrom, context_drive, ShowsBitsInContexts, ShowsOutputsInContexts, ShowsNetLinesInContexts}
 use Rattle.carries.specs.FlatContexts.{AreFlatContexts}
 use Rattle.carries.proofs.OneContext.{flat_from_contexts}

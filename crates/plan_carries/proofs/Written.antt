@@ -17,7 +17,7 @@ use Rattle.netlist_meaning.specs.FlatValuation.{start_bits}
 use Rattle.written_reads.specs.Laws.{HasWrittenText, pattern_text}
 use Rattle.carries.specs.FlatContexts.{ShowsFlatContexts}
 use Rattle.carries.proofs.OneContext.{one_context_carries_flat}
-use Rattle.cover_mapper.specs.Listed.{listed_classes}
+use Rattle.cell_meaning.specs.Listed.{listed_classes}
 use Rattle.plan_ports.specs.Laws.{HasRoom, TablesAreReadable}
 use Rattle.plan_ports.proofs.Readable.{small_size}
 use Rattle.plan_carries.specs.Laws.{PlansHavePorts, TextsCarryFlats}

@@ -5,10 +5,10 @@ use Rattle.netlist_meaning.specs.Flat.{IsSound, IsNamed}
 use Rattle.netlist_meaning.specs.FlatOrder.{IsOrder}
 use Rattle.netlist_meaning.specs.FlatValuation.{IsFlatValuation}
 use Rattle.cell_core.specs.declared.list.CellList.{CellList}
-use Rattle.cover_mapper.specs.Mapped.{IsMapped, HasBits}
+use Rattle.cell_meaning.specs.Mapped.{IsMapped, HasBits}
 use Rattle.lane_core.specs.declared.plan.Plan.{Plan}
 use Rattle.lane_core.specs.Plans.{IsAdmissible}
-use Rattle.cell_lanes.specs.Computes.{ComputesByPlan}
+use Rattle.cell_meaning.specs.Computes.{ComputesByPlan}
 use Rattle.pattern_reading.specs.declared.ports.Ports.{Ports}
 use Rattle.plan_ports.specs.Tables.{IsTableOf, HasPortNames, HasTablePlaces}
 

@@ -16,7 +16,7 @@ use Rattle.pattern_reading.specs.declared.ports.Ports.{Ports}
 use Rattle.written_reads.specs.Laws.{pattern_text}
 use Rattle.carries.specs.FlatNets.{CarriesFlat, ShowsFlatRuns}
 use Rattle.carries.specs.Nets.{CarriesNets}
-use Rattle.cell_lanes.specs.Computes.{ComputesByPlan}
+use Rattle.cell_meaning.specs.Computes.{ComputesByPlan}
 use Rattle.plan_ports.specs.Tables.{HasPortsOf}
 use Rattle.plan_carries.specs.Compiled.{ComputesFlat, IsCompiled}
 

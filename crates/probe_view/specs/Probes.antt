@@ -6,7 +6,7 @@ use Rattle.std.specs.Str.{bytes_eq}
 use Rattle.ww_rule.specs.Wireworld.{Plane, is_head}
 use Rattle.pattern_reading.specs.declared.ports.NetLine.{NetLine}
 use Rattle.pattern_reading.specs.declared.ports.Ports.{Ports}
-use Rattle.drive.specs.declared.streams.Streams.{Streams}
+use Rattle.streams.specs.declared.streams.Streams.{Streams}
 use Rattle.drive.specs.Driving.{driven_by, greatest_generation}
 use Rattle.probe_view.specs.declared.error.ProbeError.{ProbeError}
 use Rattle.probe_view.specs.declared.error.ProbeError.TheVariants.{NoMemory, NoSuchNet, TooFar}

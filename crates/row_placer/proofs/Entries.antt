@@ -11,7 +11,7 @@ use Rattle.cell_core.specs.declared.list.CellList.{CellList}
 use Rattle.cell_core.specs.Loops.{names_one}
 use Rattle.lane_core.specs.declared.plan.NetPlace.{NetPlace}
 use Rattle.lane_core.specs.declared.instr.Instr.{Instr}
-use Rattle.cell_lanes.specs.Origins.{cell_instr, maker_on}
+use Rattle.cell_meaning.specs.Origins.{cell_instr, maker_on}
 use Rattle.row_placer.specs.declared.job.Job.{Job}
 use Rattle.row_placer.specs.declared.job.NumberedCell.{NumberedCell}
 use Rattle.row_placer.specs.Told.{MadeAt, gate_instr, instr_at}

@@ -15,7 +15,7 @@ use Rattle.row_placer.specs.Told.{Told, MadeTold}
 use Rattle.row_placer.specs.Ready.{AreSettled}
 use Rattle.cell_core.specs.Loops.{loop_state, loop_count, names_one}
 use Rattle.row_placer.specs.Numbers.{gate_of, IsThere, ReadsWhatIsThere}
-use Rattle.cell_lanes.specs.Computes.{ComputesByProgram}
+use Rattle.cell_meaning.specs.Computes.{ComputesByProgram}
 use Rattle.row_placer.specs.Placed.{IsPrepared, AreOuts, AreHomes, net_place_of}
 use Rattle.row_placer.proofs.Whole.{computes}
 use Rattle.row_placer.proofs.Homes.{homes_hold}

@@ -23,7 +23,7 @@ use Rattle.cell_core.specs.Meaning.{bit_of}
 use Rattle.row_placer.specs.Numbers.{number, IsThere, ReadsWhatIsThere}
 use Rattle.cell_core.specs.Meaning.{Fits}
 use Rattle.lane_core.specs.Entering.{lane_bit}
-use Rattle.cell_lanes.specs.Computes.{ComputesByProgram}
+use Rattle.cell_meaning.specs.Computes.{ComputesByProgram}
 use Rattle.row_placer.specs.Programs.{program_bits, free_lanes}
 use Rattle.row_placer.specs.Placed.{IsPlaced, HomesHold, net_place_of}
 use Rattle.row_placer.proofs.Values.{value_bit, numbered, agrees}

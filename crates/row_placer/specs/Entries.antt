@@ -4,7 +4,7 @@ use Rattle.cell_core.specs.declared.cells.Src.{Src}
 use Rattle.cell_core.specs.declared.cells.Src.TheVariants.{Input, Latch, One, Zero, Cell as Made}
 use Rattle.cell_core.specs.declared.list.CellList.{CellList}
 use Rattle.cell_core.specs.Loops.{loop_count}
-use Rattle.cell_lanes.specs.Origins.{maker_on}
+use Rattle.cell_meaning.specs.Origins.{maker_on}
 use Rattle.lane_core.specs.declared.instr.Instr.{Instr}
 use Rattle.lane_core.specs.declared.plan.NetPlace.{NetPlace}
 use Rattle.row_placer.specs.Told.{instr_at}

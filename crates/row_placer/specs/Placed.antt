@@ -9,7 +9,7 @@ use Rattle.cell_core.specs.declared.cells.Src.TheVariants.{Input, Latch, One, Ze
 use Rattle.cell_core.specs.declared.list.CellList.{CellList}
 use Rattle.row_placer.specs.declared.roles.Role.TheVariants.{Free, Kept, Port}
 use Rattle.row_placer.specs.declared.roles.Tag.{Tag}
-use Rattle.cell_lanes.specs.Computes.{ComputesByProgram}
+use Rattle.cell_meaning.specs.Computes.{ComputesByProgram}
 use Rattle.row_placer.specs.declared.job.Job.{Job}
 use Rattle.row_placer.specs.Told.{tag, free_tag, count, role_code, Told, MadeTold}
 use Rattle.row_placer.specs.Ready.{AreSettled, ReadyForGate}

@@ -6,7 +6,7 @@ ghost use Rattle.row_placer.specs.Placed.{IsPrepared, AreOuts, net_place_of};
 ghost use Rattle.row_placer.specs.Ready.{HoldPorts};
 ghost use Rattle.row_placer.specs.Empty.{IsEmpty};
 ghost use Rattle.row_placer.specs.Entries.{AreAtEntries, AreAtCells};
-ghost use Rattle.cell_lanes.specs.Computes.{ComputesByProgram};
+ghost use Rattle.cell_meaning.specs.Computes.{ComputesByProgram};
 ghost use Rattle.cell_core.specs.declared.cells.Src.TheVariants.{One, Zero};
 
 use crate::counting::{count_idle, count_uses};

@@ -6,11 +6,11 @@ use Rattle.pattern_reading.specs.declared.ports.Ports.{Ports}
 use Rattle.pattern_reading.specs.declared.ports.PortLine.{PortLine}
 use Rattle.pattern_reading.specs.Ports.{names_of}
 use Rattle.netlist_meaning.proofs.Joined.{in_names_are_one}
-use Rattle.drive.specs.declared.streams.Streams.{Streams}
-use Rattle.drive.specs.declared.error.StreamFaultKind.TheVariants.{MissingInput}
-use Rattle.drive.specs.Streams.{HasStreams, stream_fault, stream_faults_after, missing_names, streams_of}
+use Rattle.streams.specs.declared.streams.Streams.{Streams}
+use Rattle.streams.specs.declared.error.StreamFaultKind.TheVariants.{MissingInput}
+use Rattle.streams.specs.Streams.{HasStreams, stream_fault, stream_faults_after, missing_names, streams_of}
 use Rattle.drive.specs.Driving.{AreFor}
-use Rattle.drive.proofs.Found.{bits_long, streams_long}
+use Rattle.streams.proofs.Found.{bits_long, streams_long}
 use Rattle.shown_runs.specs.ShownRuns.{StreamsMatch}
 use Rattle.lists.proofs.Appends.{append_nil_left, append_nil_right}
 use Rattle.pattern_reading.proofs.Later.{none_mapped}

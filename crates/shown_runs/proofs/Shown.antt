@@ -20,8 +20,9 @@ use Rattle.netlist_meaning.specs.Valuation.{Valuation, AreInputRows, IsRun, outp
 use Rattle.carries.specs.Carries.{Carries, NamesPorts}
 use Rattle.carries.specs.Shown.{ShowsCycles}
 use Rattle.carries.proofs.Cycles.{carries_cycles}
-use Rattle.drive.specs.declared.streams.Streams.{Streams}
-use Rattle.drive.specs.Driving.{AreFor, stream_row, rows_of, driven_by, shown_at, shown_bits}
+use Rattle.streams.specs.declared.streams.Streams.{Streams}
+use Rattle.streams.specs.Rows.{stream_row, rows_of}
+use Rattle.drive.specs.Driving.{AreFor, driven_by, shown_at, shown_bits}
 use Rattle.netlist_run.specs.Runs.{bits_in_run}
 use Rattle.netlist_run.proofs.Ran.{same_on_range}
 use Rattle.shown_runs.specs.ShownRuns.{ShowsTheRun, CarriersShowRuns}

@@ -16,8 +16,9 @@ use Rattle.flat_designs.proofs.Listed.{net_is}
 use Rattle.lists.proofs.Members.{In, in_got}
 use Rattle.carries.specs.Nets.{CarriesNets, WithoutClocks}
 use Rattle.carries.proofs.Cycles.{carries_net_cycles}
-use Rattle.drive.specs.declared.streams.Streams.{Streams}
-use Rattle.drive.specs.Driving.{AreFor, stream_row, rows_of, driven_by}
+use Rattle.streams.specs.declared.streams.Streams.{Streams}
+use Rattle.streams.specs.Rows.{stream_row, rows_of}
+use Rattle.drive.specs.Driving.{AreFor, driven_by}
 use Rattle.netlist_run.proofs.Ran.{same_on_range}
 use Rattle.probe_view.specs.Probes.{probed_bits}
 use Rattle.shown_runs.specs.ShownRuns.{IsLineOf, net_bits_in_run, CarriersShowNets}

@@ -12,9 +12,10 @@ use Rattle.netlist_meaning.specs.Places.{main_outputs}
 use Rattle.netlist_meaning.specs.Valuation.{Valuation, IsRun}
 use Rattle.carries.specs.Carries.{Carries}
 use Rattle.carries.specs.Nets.{CarriesNets}
-use Rattle.drive.specs.declared.streams.Streams.{Streams}
-use Rattle.drive.specs.Streams.{HasStreams}
-use Rattle.drive.specs.Driving.{AreFor, rows_of, shown_at, shown_bits}
+use Rattle.streams.specs.declared.streams.Streams.{Streams}
+use Rattle.streams.specs.Streams.{HasStreams}
+use Rattle.streams.specs.Rows.{rows_of}
+use Rattle.drive.specs.Driving.{AreFor, shown_at, shown_bits}
 use Rattle.netlist_run.specs.Runs.{bits_in_run}
 use Rattle.probe_view.specs.Probes.{probed_bits}
 

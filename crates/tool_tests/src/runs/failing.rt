@@ -1,6 +1,11 @@
 // Reads and writes that fail, one after another, for each command.
-use crate::runs::{GATE, PATTERN, expect_run_over, run_over};
+ghost use Rattle.std.specs.Prelude.{◌≤◌};
+
+use crate::runs::{GATE, PATTERN, USAGE, expect_run_over, run_over, strings_of};
+use blifww_tool::run;
+use std::alloc::Global;
 use std::test::Fail;
+use ww_base::{MemSink, MemSource};
 
 const COMPILE: &[&str] = &["blifww", "compile"];
 
@@ -69,4 +74,43 @@ fn each_command_tells_what_failed(rt: HostRuntime) -> Result<(), Fail> {
     // Nothing is on either where the line of a refusal fails at once.
     let silent = (6, b"".as_slice(), b"".as_slice());
     expect_run_over(rt.alloc(), &["blifww"], b"", (16, &[]), (99, 0), silent)
+}
+
+// The numbers of calls of a sink that takes 7 bytes at a time: the usage line takes 9 of them.
+const CALLS: &[u64] = &[0, 1, 2, 3, 4, 5, 6, 7, 8, 9, 10, 11];
+
+// Fails where a run calls a sink again that has failed. Each call of `out` from this number on fails, and so does each one of `err`.
+// The words, the status, how often they fail, and the lengths of what they hold.
+fn expect_failures(
+    alloc: Global,
+    words: &[&str],
+    calls: (usize, usize),
+    ending: (u8, u64, u64, usize, usize),
+) -> Result<(), Fail>
+    requires out { calls.0 ≤ 12 }
+    requires err { calls.1 ≤ 12 }
+{
+    let given = strings_of(alloc, words)?;
+    let mut src = MemSource::new(alloc, GATE, 4096, &[])?;
+    let mut out = MemSink::new(alloc, 99, 7, &CALLS[calls.0..])?;
+    let mut err = MemSink::new(alloc, 99, 7, &CALLS[calls.1..])?;
+    let status = run(alloc, &given, &mut src, &mut out, &mut err);
+    let held = (out.held().len(), err.held().len());
+    if (status, out.faults(), err.faults(), held.0, held.1) == ending {
+        Ok(())
+    } else {
+        Err(Fail::new(format_args!("{words:?}, {calls:?}: {status}")))
+    }
+}
+
+#[test]
+fn a_sink_that_failed_is_not_called_again(rt: HostRuntime) -> Result<(), Fail> {
+    let alloc = rt.alloc();
+    for call in 0..9 {
+        expect_failures(alloc, &["blifww"], (0, call), (6, 0, 1, 0, 7 * call))?;
+        expect_failures(alloc, COMPILE, (call, 12), (6, 1, 0, 7 * call, 12))?;
+    }
+    // All calls fail: the first one on each sink is its last.
+    expect_failures(alloc, COMPILE, (0, 0), (6, 1, 1, 0, 0))?;
+    expect_failures(alloc, &["blifww"], (0, 9), (2, 0, 0, 0, USAGE.len()))
 }

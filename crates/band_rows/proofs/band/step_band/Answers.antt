@@ -108,34 +108,6 @@ step-requires-clause-below_within c =
     let down = c.requires.down in
     omega (arith, long, l, down)
 
-pub step-requires-clause-spare_heads : goal.step-requires-clause-spare_heads
-step-requires-clause-spare_heads c =
-    let rows = c.loop-r.rows in
-    let r = c.loop-r.r in
-    let i = c.loop-r.invariant in
-    let v = i.moved in
-    let s = c.split_at_mut-before in
-    let t = c.split_at_mut-own in
-    let w = parted rows s.result.0.now s.result.1.now t.result.0.now t.result.1.now r s.ensures.value s.ensures.front_len t.ensures.value t.ensures.front_len in
-    let long = own_long (length c.args.up.now) rows s.result.0.now t.result.0.now t.result.1.now r c.index-own-0.result w v.long in
-    let l = i.spare_heads in
-    let down = c.requires.down in
-    omega (arith, long, l, down)
-
-pub step-requires-clause-spare_wires : goal.step-requires-clause-spare_wires
-step-requires-clause-spare_wires c =
-    let rows = c.loop-r.rows in
-    let r = c.loop-r.r in
-    let i = c.loop-r.invariant in
-    let v = i.moved in
-    let s = c.split_at_mut-before in
-    let t = c.split_at_mut-own in
-    let w = parted rows s.result.0.now s.result.1.now t.result.0.now t.result.1.now r s.ensures.value s.ensures.front_len t.ensures.value t.ensures.front_len in
-    let long = own_long (length c.args.up.now) rows s.result.0.now t.result.0.now t.result.1.now r c.index-own-0.result w v.long in
-    let l = i.spare_wires in
-    let down = c.requires.down in
-    omega (arith, long, l, down)
-
 pub loop-r-preserved : goal.loop-r-preserved
 loop-r-preserved c =
     let rows = c.loop-r.rows in
@@ -227,8 +199,6 @@ loop-r-preserved c =
     } in
     record {
       long_lit = c.mark_row.ensures.long ∙ i.long_lit;
-      spare_heads = e.long_spare_heads ∙ row_long;
-      spare_wires = e.long_spare_wires ∙ row_long;
       moved = jumped c.args.up.now c.args.down.now c.args.lit.now marks (not c.is_empty.result) (not c.is_empty-2.result) old new (r + 1) c.next_marked-r-in-loop-r.result c.requires.lit
           (span_dark c.args.up_span.first c.args.up_span.end c.args.up.now c.is_empty.result c.is_empty.ensures c.requires.dark_up)
           (span_dark c.args.down_span.first c.args.down_span.end c.args.down.now c.is_empty-2.result c.is_empty-2.ensures c.requires.dark_down)
@@ -241,8 +211,6 @@ loop-r-init c =
     let q = c.requires in
     record {
       long_lit = c.fill.ensures.len;
-      spare_heads = q.spare_heads;
-      spare_wires = q.spare_wires;
       moved = jumped c.args.up.now c.args.down.now c.args.lit.now c.fill.new.self (not c.is_empty.result) (not c.is_empty-2.result) old old 0 c.next_marked-r.result q.lit
           (span_dark c.args.up_span.first c.args.up_span.end c.args.up.now c.is_empty.result c.is_empty.ensures q.dark_up)
           (span_dark c.args.down_span.first c.args.down_span.end c.args.down.now c.is_empty-2.result c.is_empty-2.ensures q.dark_down)

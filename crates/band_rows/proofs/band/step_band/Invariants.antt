@@ -6,8 +6,6 @@ abbrev pub invariant-loop-r : goal.invariant-loop-r
 invariant-loop-r l =
     record {
       long_lit : length l.lit ≡ length l.fn.lit;
-      spare_heads : length l.spare_heads ≡ length l.up;
-      spare_wires : length l.spare_wires ≡ length l.up;
       moved : AreMoved l.up l.down l.lit l.fn.rows l.rows l.r;
     }
 

@@ -2,7 +2,7 @@ use Rattle.std.proofs.Common.{◌≡◌, ap, sym, ◌∙◌, subst, ℕ, List, l
 use Rattle.std.proofs.lemmas.List.{length-map}
 use Rattle.pattern_reading.specs.declared.ports.PortLine.{PortLine}
 use Rattle.pattern_reading.specs.Ports.{names_of}
-use Rattle.drive.specs.Streams.{HasStreams}
+use Rattle.streams.specs.Streams.{HasStreams}
 use Rattle.blifww_tool.proofs.Simulated.{ins_in_box}
 use Rattle.blifww_tool.proofs.driven.driven_by.Goals as goal
 

@@ -1,7 +1,7 @@
 use Rattle.std.proofs.Common.{ap, sym, ◌∙◌, subst, List, length, map, string_bytes}
 use Rattle.std.proofs.lemmas.Result.{err_from_is_err_and}
 use Rattle.netlist_core.specs.Names.{Name}
-use Rattle.drive.specs.Streams.{HasStreams, HasStreamCause}
+use Rattle.streams.specs.Streams.{HasStreams, HasStreamCause}
 use Rattle.blifww_tool.proofs.Evaluated.{inputs_at_fault, names_are_many}
 use Rattle.blifww_tool.proofs.eval.streams_for.Goals as goal
 

@@ -6,7 +6,7 @@ use Rattle.pattern_reading.specs.declared.ports.PortLine.{PortLine}
 use Rattle.ww_rule.specs.declared.pattern.Injection.{Injection}
 use Rattle.ww_rule.specs.Injections.{injections_from, injections_of_row}
 use Rattle.pattern_reading.specs.Ports.{cells_of}
-use Rattle.drive.specs.Driving.{stream_row}
+use Rattle.streams.specs.Rows.{stream_row}
 use Rattle.drive.proofs.Rows.{rows_more}
 use Rattle.drive.proofs.driving.injections.Goals as goal
 

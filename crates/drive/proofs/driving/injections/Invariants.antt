@@ -2,7 +2,7 @@ use Rattle.std.proofs.Common.{◌≡◌, map}
 use Rattle.std.specs.List.{range_with_len}
 use Rattle.ww_rule.specs.Injections.{injections_from}
 use Rattle.pattern_reading.specs.Ports.{cells_of}
-use Rattle.drive.specs.Driving.{stream_row}
+use Rattle.streams.specs.Rows.{stream_row}
 use Rattle.drive.proofs.driving.injections.Given as goal
 
 abbrev pub invariant-loop-cycle : goal.invariant-loop-cycle

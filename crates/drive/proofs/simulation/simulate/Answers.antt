@@ -3,8 +3,9 @@ use Rattle.std.proofs.Common.{◌≡◌, ◌+◌, ◌*◌, ap, sym, subst, ◌�
 use Rattle.std.specs.List.{range_with_len}
 use Rattle.ww_rule.specs.Grid.{plane_of}
 use Rattle.pattern_reading.specs.declared.ports.PortLine.{PortLine}
-use Rattle.drive.specs.Driving.{bits_across, driven_by}
-use Rattle.drive.proofs.Across.{columns_are, rows_long}
+use Rattle.streams.specs.Rows.{bits_across}
+use Rattle.drive.specs.Driving.{driven_by}
+use Rattle.streams.proofs.Across.{columns_are, rows_long}
 use Rattle.drive.proofs.simulation.simulate.Goals as goal
 
 pub columns_of-requires : goal.columns_of-requires

@@ -1,5 +1,6 @@
-use Rattle.std.proofs.Common.{ℕ, sym, ◌∙◌, get_or}
-use Rattle.lane_kernel.proofs.OneWord.{heads_here, heads_beside}
+use Rattle.std.proofs.Common.{ℕ, ◌+◌, sym, ◌∙◌, get_or, arith}
+use Rattle.lane_kernel.proofs.Alone.{heads_beyond}
+use Rattle.lane_kernel.proofs.OneWord.{heads_here, outside}
 use Rattle.lane_kernel.proofs.Parts.{same_heads}
 use Rattle.lane_kernel.proofs.one_word.heads_in.Goals as goal
 
@@ -14,7 +15,22 @@ returns-clause-here c =
     ∙ sym (heads_here c.args.j c.args.above.now c.args.heads.now c.args.below.now c.args.wires.now q.dark_above q.dark_heads q.dark_below)
 
 pub returns-clause-beside : goal.returns-clause-beside
-returns-clause-beside c =
+returns-clause-beside c i ne =
     let q = c.requires in
     let j = c.args.j in
-    heads_beside j c.args.above.now c.args.heads.now c.args.below.now c.args.wires.now q.dark_above q.dark_heads q.dark_below q.wires q.within (c.type_inv.above j).fits (c.type_inv.heads j).fits (c.type_inv.below j).fits q.stays
+    let inside = q.within in
+    heads_beyond j (j + 1) c.args.above.now c.args.heads.now c.args.below.now c.args.wires.now
+    (record {
+      within = omega (arith, inside);
+      long_above = q.above;
+      long_below = q.below;
+      long_wires = q.wires;
+      dark_above = q.dark_above;
+      dark_heads = q.dark_heads;
+      dark_below = q.dark_below;
+      fits_above = λ k. (c.type_inv.above k).fits;
+      fits_heads = λ k. (c.type_inv.heads k).fits;
+      fits_below = λ k. (c.type_inv.below k).fits;
+      stays = q.stays;
+    })
+    i (outside j i ne)

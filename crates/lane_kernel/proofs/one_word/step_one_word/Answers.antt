@@ -2,7 +2,8 @@ use Rattle.std.proofs.Common.{◌≡◌, ◌+◌, ℕ, refl, sym, ap, ap₂, ◌
 use Rattle.std.specs.Int.RustNames.{bit_or}
 use Rattle.std.proofs.lemmas.List.{get_or-set_same, get_or-set_other}
 use Rattle.lane_kernel.specs.Words.{heads_word, new_wires_of}
-use Rattle.lane_kernel.proofs.OneWord.{heads_of_none, heads_beside, heads_stepped, tails_stepped, wires_stepped, first_none, second_none, third_none}
+use Rattle.lane_kernel.proofs.Parts.{heads_of_none}
+use Rattle.lane_kernel.proofs.OneWord.{heads_stepped, tails_stepped, wires_stepped, first_none, second_none, third_none}
 use Rattle.lane_kernel.proofs.one_word.step_one_word.Goals as goal
 
 pub returns-then-here-tails-eq0-clause-heads : goal.returns-then-here-tails-eq0-clause-heads
@@ -13,9 +14,8 @@ returns-then-here-tails-eq0-clause-heads c =
     let t = get_or c.args.tails.now c.args.j 0 in
     let w = get_or c.args.wires.now c.args.j 0 in
     let none = c.if-here-tails-eq0.true in
-    let beside = heads_beside j c.args.above.now c.args.heads.now c.args.below.now c.args.wires.now q.dark_above q.dark_heads q.dark_below q.wires q.within (c.type_inv.above j).fits (c.type_inv.heads j).fits (c.type_inv.below j).fits q.stays in
-    let dark = heads_of_none j c.args.above.now c.args.heads.now c.args.below.now c.args.wires.now q.dark_above q.dark_heads q.dark_below (third_none h t w none) in
-    heads_stepped j c.args.above.now c.args.heads.now c.args.below.now c.args.tails.now c.args.wires.now q.dark_heads q.dark_tails beside
+    let dark = heads_of_none c.args.above.now c.args.heads.now c.args.below.now c.args.wires.now j (third_none h t w none) in
+    heads_stepped j c.args.above.now c.args.heads.now c.args.below.now c.args.tails.now c.args.wires.now q.dark_heads q.dark_tails c.heads_in-fired.ensures.beside
     c.args.heads.now (first_none h t w none ∙ sym dark) (λ i ne. refl)
 
 pub returns-then-here-tails-eq0-clause-tails : goal.returns-then-here-tails-eq0-clause-tails
@@ -26,8 +26,7 @@ returns-then-here-tails-eq0-clause-tails c =
     let t = get_or c.args.tails.now c.args.j 0 in
     let w = get_or c.args.wires.now c.args.j 0 in
     let none = c.if-here-tails-eq0.true in
-    let beside = heads_beside j c.args.above.now c.args.heads.now c.args.below.now c.args.wires.now q.dark_above q.dark_heads q.dark_below q.wires q.within (c.type_inv.above j).fits (c.type_inv.heads j).fits (c.type_inv.below j).fits q.stays in
-    tails_stepped j c.args.above.now c.args.heads.now c.args.below.now c.args.tails.now c.args.wires.now q.dark_heads q.dark_tails beside
+    tails_stepped j c.args.above.now c.args.heads.now c.args.below.now c.args.tails.now c.args.wires.now q.dark_heads q.dark_tails c.heads_in-fired.ensures.beside
     c.args.tails.now (second_none h t w none ∙ sym (first_none h t w none)) (λ i ne. refl)
 
 pub returns-then-here-tails-eq0-clause-wires : goal.returns-then-here-tails-eq0-clause-wires
@@ -38,10 +37,9 @@ returns-then-here-tails-eq0-clause-wires c =
     let t = get_or c.args.tails.now c.args.j 0 in
     let w = get_or c.args.wires.now c.args.j 0 in
     let none = c.if-here-tails-eq0.true in
-    let beside = heads_beside j c.args.above.now c.args.heads.now c.args.below.now c.args.wires.now q.dark_above q.dark_heads q.dark_below q.wires q.within (c.type_inv.above j).fits (c.type_inv.heads j).fits (c.type_inv.below j).fits q.stays in
     let zw = third_none h t w none in
-    let dark = heads_of_none j c.args.above.now c.args.heads.now c.args.below.now c.args.wires.now q.dark_above q.dark_heads q.dark_below zw in
-    wires_stepped j c.args.above.now c.args.heads.now c.args.below.now c.args.tails.now c.args.wires.now q.dark_heads q.dark_tails beside
+    let dark = heads_of_none c.args.above.now c.args.heads.now c.args.below.now c.args.wires.now j zw in
+    wires_stepped j c.args.above.now c.args.heads.now c.args.below.now c.args.tails.now c.args.wires.now q.dark_heads q.dark_tails c.heads_in-fired.ensures.beside
     c.args.wires.now (zw ∙ sym (ap₂ (λ w t. new_wires_of w t (heads_word c.args.above.now c.args.heads.now c.args.below.now c.args.wires.now j)) zw (second_none h t w none) ∙ ap (new_wires_of 0 0) dark)) (λ i ne. refl)
 
 pub returns-then-here-tails-eq0-clause-lit : goal.returns-then-here-tails-eq0-clause-lit

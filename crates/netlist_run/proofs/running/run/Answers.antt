@@ -3,7 +3,7 @@ use Rattle.std.specs.Prelude.{All}
 use Rattle.std.specs.List.{range_with_len}
 use Rattle.netlist_core.specs.declared.flat.Flat.{Flat}
 use Rattle.netlist_meaning.specs.FlatValuation.{IsCycle}
-use Rattle.drive.specs.Driving.{bits_across, stream_row}
+use Rattle.streams.specs.Rows.{bits_across, stream_row}
 use Rattle.flat_designs.proofs.Sound.{flat_is_sound}
 use Rattle.netlist_text.proofs.SoundParts.{sound}
 use Rattle.netlist_run.proofs.Ran.{Ran, one_more, none_yet, all_run, rows_are_long}

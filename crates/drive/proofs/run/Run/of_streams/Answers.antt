@@ -10,7 +10,7 @@ use Rattle.pattern_reading.specs.Ports.{cells_of}
 use Rattle.drive.specs.declared.run.Orientation.{Orientation}
 use Rattle.drive.specs.declared.run.Orientation.TheVariants.{Upright, Turned}
 use Rattle.drive.specs.declared.run.Run.{Run}
-use Rattle.drive.specs.Driving.{rows_of}
+use Rattle.streams.specs.Rows.{rows_of}
 use Rattle.drive.specs.Runs.{laid, planes_of}
 use Rattle.drive.proofs.Inside.{rows_inside}
 use Rattle.drive.proofs.Streamed.{rows_in_order}

@@ -1,6 +1,0 @@
-use Rattle.std.proofs.Common.{◌≡◌, take}
-use Rattle.drive.specs.Driving.{bits_across}
-use Rattle.drive.proofs.columns.bits_across.Given as goal
-
-abbrev pub invariant-loop-bits : goal.invariant-loop-bits
-invariant-loop-bits l = l.column.items ≡ bits_across (take l.bits-index l.lists) l.place

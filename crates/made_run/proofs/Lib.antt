@@ -1,4 +1,0 @@
-pub mod InTime
-pub mod Read
-pub mod Drawn
-pub mod Summarized

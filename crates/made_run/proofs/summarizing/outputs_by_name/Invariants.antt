@@ -1,7 +1,0 @@
-use Rattle.std.proofs.Common.{◌≡◌, map}
-use Rattle.std.specs.List.{range_with_len}
-use Rattle.made_run.specs.Summaries.{output_at}
-use Rattle.made_run.proofs.summarizing.outputs_by_name.Given as goal
-
-abbrev pub invariant-loop-k : goal.invariant-loop-k
-invariant-loop-k l = l.outputs.items ≡ map (output_at l.names l.simulated l.evaluated) (range_with_len 0 l.k)

@@ -1,6 +1,0 @@
-pub mod Streams
-pub mod Errors
-pub mod Summaries
-pub mod Laws
-pub mod Plans
-pub mod Outputs

@@ -1,0 +1,9 @@
+pub mod InTime
+pub mod Read
+pub mod Drawn
+pub mod Summarized
+pub mod Weights
+pub mod Clocks
+pub mod Loops
+pub mod Sizes
+pub mod Netlists

@@ -1,0 +1,33 @@
+-- What is written of a plan reads as the plan's pattern and its table.
+use Rattle.std.proofs.Common.{ℕ, ◌<◌, ◌^◌, List, arith}
+use Rattle.std.specs.List.{AllByRecursion}
+use Rattle.std.proofs.lemmas.List.Elements.{All-from_recursion, All-map}
+use Rattle.ww_rule.specs.Grid.{Grid, AreInBox}
+use Rattle.lane_core.specs.Plans.{size_of}
+use Rattle.grid_assembly.specs.PlanDrawing.{start_grid}
+use Rattle.grid_assembly.specs.Laws.{PatternsArePlanes}
+use Rattle.pattern_reading.specs.declared.ports.PortLine.{PortLine}
+use Rattle.pattern_reading.specs.declared.ports.Ports.{Ports}
+use Rattle.pattern_reading.specs.Ports.{cells_of}
+use Rattle.pattern_reading.specs.Laws.{IsPortInside}
+use Rattle.written_reads.specs.Laws.{HasWrittenText}
+use Rattle.flat_designs.specs.Laws.{FlatIsInRange, FlatIsNamed}
+use Rattle.netlist_meaning.specs.Weight.{weight}
+use Rattle.netlist_plans.specs.Names.{TextsHavePortNames}
+use Rattle.plan_ports.specs.Laws.{TablesAreReadable}
+use Rattle.plan_ports.proofs.Readable.{one_has_room, small_size}
+use Rattle.plan_carries.proofs.SeenNets.{places_fit}
+use Rattle.made_summary.specs.Laws.{WrittenPlansRead}
+
+-- the cells of the lines lie in the box in which the lines do
+pub lines_in_box : (width height : ℕ) (ports : List PortLine) → AllByRecursion (IsPortInside width height) ports → AreInBox width height (cells_of ports)
+lines_in_box width height ports h = All-map (λ (cell : ℕ × ℕ). (cell.0 < width) × (cell.1 < height)) (λ (port : PortLine). (port.x, port.y)) ports (All-from_recursion (IsPortInside width height) ports h)
+
+pub written_plans_read : FlatIsInRange → FlatIsNamed → TextsHavePortNames → PatternsArePlanes → ((grid : Grid) (ports : Ports) → HasWrittenText grid ports) → TablesAreReadable → WrittenPlansRead
+written_plans_read in_range named names patterns written readable text design flat plan ports of_text light is_flat admissible table =
+    let faultless = of_text.faultless in
+    let size = small_size plan admissible in
+    let range = in_range design flat faultless is_flat (let w : weight design < 2 ^ 31 = light in omega (arith, w)) in
+    let sound = readable flat plan 1 ports range (named design flat faultless is_flat) (names text design flat of_text is_flat) (places_fit design flat faultless light is_flat) admissible (one_has_room plan) table in
+    let reads = written (start_grid plan) ports (record { in_rows = (patterns plan admissible).box; width = omega (arith, size.0); height = omega (arith, size.1) }) sound.sound sound.inside sound.no_returns in
+    record { spells = record { reads = reads.0; table = reads.1 }; inside = lines_in_box (size_of plan).0 (size_of plan).1 ports.ins sound.inside.ins }

@@ -1,0 +1,103 @@
+use Rattle.std.proofs.Common.{ℕ, ◌<◌, ◌∙◌, sym, subst, List, arith}
+use Rattle.std.proofs.lemmas.Result.{err_from_is_err_and}
+use Rattle.netlist_text.specs.NetlistText.{IsNetlist}
+use Rattle.made_netlists.specs.Design.{made_design}
+use Rattle.flat_designs.proofs.Whole.{flat_is_named}
+use Rattle.netlist_text.proofs.SoundParts.{sound, weighed, small}
+use Rattle.netlist_plans.proofs.Names.{texts_have_port_names}
+use Rattle.plan_carries.proofs.SeenNets.{places_fit}
+use Rattle.made_summary.proofs.Summarized.{is_planned}
+use Rattle.made_summary.proofs.plans.plan_made.Goals as goal
+
+pub netlist_in-requires : goal.netlist_in-requires
+netlist_in-requires c =
+    let some : 0 < c.args.size = c.requires.some_gate in (
+      made_design c.args.seed c.args.size,
+      subst (λ (text : List ℕ). IsNetlist text (made_design c.args.seed c.args.size)) (sym (c.as_slice.ensures ∙ c.in_ok-made.ensures.text))
+          (c.made_are_netlists.ensures c.args.seed c.args.size (omega (arith, some)) c.requires.few_gates),
+    )
+
+pub plan_netlist-requires-clause-sound : goal.plan_netlist-requires-clause-sound
+plan_netlist-requires-clause-sound c = sound c.in_ok-netlist.netlist.design c.in_ok-netlist.netlist.flat _ c.in_ok-netlist.ensures.parts c.flat_is_sound.ensures
+
+pub plan_netlist-requires-clause-weighed : goal.plan_netlist-requires-clause-weighed
+plan_netlist-requires-clause-weighed c = weighed c.in_ok-netlist.netlist.design c.in_ok-netlist.netlist.flat _ c.in_ok-netlist.ensures.parts c.flat_is_weighed.ensures
+
+pub plan_netlist-requires-clause-small : goal.plan_netlist-requires-clause-small
+plan_netlist-requires-clause-small c = small c.in_ok-netlist.netlist.design c.in_ok-netlist.netlist.flat _ c.in_ok-netlist.ensures.parts
+
+pub plan_netlist-requires-clause-ordered : goal.plan_netlist-requires-clause-ordered
+plan_netlist-requires-clause-ordered c = c.in_ok-netlist.ensures.parts.is_order
+
+pub plan_netlist-requires-clause-named : goal.plan_netlist-requires-clause-named
+plan_netlist-requires-clause-named c = flat_is_named c.in_ok-netlist.netlist.design c.in_ok-netlist.netlist.flat c.in_ok-netlist.ensures.parts.faultless c.in_ok-netlist.ensures.parts.is_flat
+
+pub plan_netlist-requires-clause-names : goal.plan_netlist-requires-clause-names
+plan_netlist-requires-clause-names c = texts_have_port_names _ c.in_ok-netlist.netlist.design c.in_ok-netlist.netlist.flat c.in_ok-netlist.ensures.netlist.is.design_of c.in_ok-netlist.ensures.parts.is_flat
+
+pub plan_netlist-requires-clause-places : goal.plan_netlist-requires-clause-places
+plan_netlist-requires-clause-places c = places_fit c.in_ok-netlist.netlist.design c.in_ok-netlist.netlist.flat c.in_ok-netlist.ensures.parts.faultless (omega (arith, small c.in_ok-netlist.netlist.design c.in_ok-netlist.netlist.flat _ c.in_ok-netlist.ensures.parts, c.in_ok-netlist.ensures.parts.is_flat.weight)) c.in_ok-netlist.ensures.parts.is_flat
+
+pub returns-clause-plan : goal.returns-clause-plan
+returns-clause-plan c =
+    let text = c.as_slice.ensures ∙ c.in_ok-made.ensures.text in
+    is_planned c.designs_are_carried.ensures c.made_are_netlists.ensures c.made_have_sizes.ensures c.texts_are_decided.ensures c.written_plans_read.ensures c.args.seed c.args.size c.requires.some_gate c.requires.few_gates
+    c.in_ok-netlist.netlist c.in_ok-planned.planned (subst (λ (t : List ℕ). IsNetlist t c.in_ok-netlist.netlist.design) text c.in_ok-netlist.ensures.netlist) c.in_ok-netlist.ensures.parts
+    c.in_ok-planned.ensures.admissible c.in_ok-planned.ensures.table c.in_ok-planned.ensures.carries c.in_ok-planned.ensures.small
+
+pub make-requires-clause-seed : goal.make-requires-clause-seed
+make-requires-clause-seed c = c.requires.seed
+
+pub make-requires-clause-some : goal.make-requires-clause-some
+make-requires-clause-some c = c.requires.some_gate
+
+pub make-requires-clause-few : goal.make-requires-clause-few
+make-requires-clause-few c = c.requires.few_gates
+
+pub returns-clause-state : goal.returns-clause-state
+returns-clause-state c = c.in_ok-made.ensures.state
+
+pub returns-clause-range : goal.returns-clause-range
+returns-clause-range c = c.in_ok-made.ensures.range
+
+pub returns-in_err-made-clause-plan : goal.returns-in_err-made-clause-plan
+returns-in_err-made-clause-plan c = rw ((err_from_is_err_and c.from_residual.result c.from_residual.ensures.1).1) tt
+
+pub returns-in_err-made-clause-state : goal.returns-in_err-made-clause-state
+returns-in_err-made-clause-state c = rw ((err_from_is_err_and c.from_residual.result c.from_residual.ensures.1).1) tt
+
+pub returns-in_err-made-clause-range : goal.returns-in_err-made-clause-range
+returns-in_err-made-clause-range c = rw ((err_from_is_err_and c.from_residual.result c.from_residual.ensures.1).1) tt
+
+pub returns-in_err-made-clause-refused : goal.returns-in_err-made-clause-refused
+returns-in_err-made-clause-refused c =
+    let p = err_from_is_err_and c.from_residual.result c.from_residual.ensures.1 in
+    rw (p.1) p.2
+
+pub returns-in_err-netlist-clause-plan : goal.returns-in_err-netlist-clause-plan
+returns-in_err-netlist-clause-plan c = rw ((err_from_is_err_and c.from_residual-in_err-netlist.result c.from_residual-in_err-netlist.ensures.1).1) tt
+
+pub returns-in_err-netlist-clause-state : goal.returns-in_err-netlist-clause-state
+returns-in_err-netlist-clause-state c = rw ((err_from_is_err_and c.from_residual-in_err-netlist.result c.from_residual-in_err-netlist.ensures.1).1) tt
+
+pub returns-in_err-netlist-clause-range : goal.returns-in_err-netlist-clause-range
+returns-in_err-netlist-clause-range c = rw ((err_from_is_err_and c.from_residual-in_err-netlist.result c.from_residual-in_err-netlist.ensures.1).1) tt
+
+pub returns-in_err-netlist-clause-refused : goal.returns-in_err-netlist-clause-refused
+returns-in_err-netlist-clause-refused c =
+    let p = err_from_is_err_and c.from_residual-in_err-netlist.result c.from_residual-in_err-netlist.ensures.1 in
+    rw (p.1) p.2
+
+pub returns-in_err-planned-clause-plan : goal.returns-in_err-planned-clause-plan
+returns-in_err-planned-clause-plan c = rw ((err_from_is_err_and c.from_residual-in_err-planned.result c.from_residual-in_err-planned.ensures.1).1) tt
+
+pub returns-in_err-planned-clause-state : goal.returns-in_err-planned-clause-state
+returns-in_err-planned-clause-state c = rw ((err_from_is_err_and c.from_residual-in_err-planned.result c.from_residual-in_err-planned.ensures.1).1) tt
+
+pub returns-in_err-planned-clause-range : goal.returns-in_err-planned-clause-range
+returns-in_err-planned-clause-range c = rw ((err_from_is_err_and c.from_residual-in_err-planned.result c.from_residual-in_err-planned.ensures.1).1) tt
+
+pub returns-in_err-planned-clause-refused : goal.returns-in_err-planned-clause-refused
+returns-in_err-planned-clause-refused c =
+    let p = err_from_is_err_and c.from_residual-in_err-planned.result c.from_residual-in_err-planned.ensures.1 in
+    rw (p.1) p.2

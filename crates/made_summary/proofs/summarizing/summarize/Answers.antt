@@ -1,0 +1,91 @@
+use Rattle.std.proofs.Common.{ℕ, ◌<◌, ◌∙◌, refl, sym, ap, subst}
+use Rattle.std.proofs.lemmas.List.{length-map}
+use Rattle.std.proofs.lemmas.Result.{err_from_is_err_and, IfErr-weaker, IfOk-weaker}
+use Rattle.ww_rule.specs.Grid.{plane_of}
+use Rattle.grid_assembly.specs.PlanDrawing.{start_grid}
+use Rattle.netlist_meaning.specs.Places.{main_outputs}
+use Rattle.streams.specs.declared.streams.Streams.{Streams}
+use Rattle.drive.specs.Driving.{shown_bits}
+use Rattle.made_summary.specs.Streams.{streams_after}
+use Rattle.made_summary.specs.Summaries.{HasSummaryCause}
+use Rattle.made_summary.proofs.Summarized.{streams_fit, streams_feed, not_run, shown_many, summarizes}
+use Rattle.made_summary.proofs.summarizing.summarize.Goals as goal
+
+pub plan_made-requires-clause-seed : goal.plan_made-requires-clause-seed
+plan_made-requires-clause-seed c = c.requires.seed
+
+pub plan_made-requires-clause-some_gate : goal.plan_made-requires-clause-some_gate
+plan_made-requires-clause-some_gate c = c.requires.some_gate
+
+pub plan_made-requires-clause-few_gates : goal.plan_made-requires-clause-few_gates
+plan_made-requires-clause-few_gates c = c.requires.few_gates
+
+pub draw_streams-requires : goal.draw_streams-requires
+draw_streams-requires c = c.in_ok-made.ensures.range
+
+pub told_by-requires-clause-admissible : goal.told_by-requires-clause-admissible
+told_by-requires-clause-admissible c = c.in_ok-made.ensures.plan.is_plan.admissible
+
+pub told_by-requires-clause-cycles : goal.told_by-requires-clause-cycles
+told_by-requires-clause-cycles c = subst (λ (s : Streams). 0 < s.cycles) (sym c.in_ok-streams.ensures) c.requires.some_cycle
+
+pub told_by-requires-clause-streams : goal.told_by-requires-clause-streams
+told_by-requires-clause-streams c =
+    let are = c.in_ok-streams.ensures ∙ ap (λ (s : ℕ). streams_after s c.args.cycles) c.in_ok-made.ensures.state in
+    streams_fit c.args.seed c.args.size c.args.cycles c.in_ok-made.made.netlist c.in_ok-made.made.planned c.in_ok-streams.streams c.in_ok-made.ensures.plan are
+
+pub told_by-requires-clause-in_box : goal.told_by-requires-clause-in_box
+told_by-requires-clause-in_box c = c.in_ok-made.ensures.plan.reads.inside
+
+pub told_by-requires-clause-parts : goal.told_by-requires-clause-parts
+told_by-requires-clause-parts c = c.in_ok-made.ensures.plan.parts
+
+pub told_by-requires-clause-many : goal.told_by-requires-clause-many
+told_by-requires-clause-many c =
+    let are = c.in_ok-streams.ensures ∙ ap (λ (s : ℕ). streams_after s c.args.cycles) c.in_ok-made.ensures.state in
+    (streams_feed c.args.seed c.args.size c.args.cycles c.in_ok-made.made.netlist c.in_ok-made.made.planned c.in_ok-streams.streams c.in_ok-made.ensures.plan are).0
+
+pub told_by-requires-clause-long : goal.told_by-requires-clause-long
+told_by-requires-clause-long c =
+    let are = c.in_ok-streams.ensures ∙ ap (λ (s : ℕ). streams_after s c.args.cycles) c.in_ok-made.ensures.state in
+    (streams_feed c.args.seed c.args.size c.args.cycles c.in_ok-made.made.netlist c.in_ok-made.made.planned c.in_ok-streams.streams c.in_ok-made.ensures.plan are).1
+
+pub told_by-requires-clause-outputs : goal.told_by-requires-clause-outputs
+told_by-requires-clause-outputs c =
+    let planned = c.in_ok-made.made.planned in
+    let bits = shown_bits planned.ports c.in_ok-streams.streams (plane_of (start_grid planned.plan).rows) in
+    sym (length-map planned.ports.outs _)
+    ∙ shown_many c.args.seed c.args.size c.in_ok-made.made.netlist planned c.in_ok-streams.streams (main_outputs c.in_ok-made.made.netlist.design) bits c.in_ok-made.ensures.plan refl refl
+
+pub returns-clause-summary : goal.returns-clause-summary
+returns-clause-summary c =
+    let are = c.in_ok-streams.ensures ∙ ap (λ (s : ℕ). streams_after s c.args.cycles) c.in_ok-made.ensures.state in
+    let names = main_outputs c.in_ok-made.made.netlist.design in
+    IfOk-weaker c.told_by.result _ _
+    (λ m h. summarizes c.carriers_show_runs.ensures c.args.seed c.args.size c.args.cycles c.in_ok-made.made.netlist c.in_ok-made.made.planned c.in_ok-streams.streams
+    names _ h.outputs.evaluated m c.in_ok-made.ensures.plan are refl refl h.outputs.runs h.weight h.lanes h.columns h.period h.latency h.outputs.are h.near)
+    c.told_by.ensures.told
+
+pub returns-clause-refused : goal.returns-clause-refused
+returns-clause-refused c =
+    let are = c.in_ok-streams.ensures ∙ ap (λ (s : ℕ). streams_after s c.args.cycles) c.in_ok-made.ensures.state in
+    IfErr-weaker c.told_by.result _ _
+    (λ e h. subst (HasSummaryCause c.args.seed c.args.size c.args.cycles) (sym h.1)
+    (not_run c.args.seed c.args.size c.args.cycles c.in_ok-made.made.netlist c.in_ok-made.made.planned c.in_ok-streams.streams c.in_ok-made.ensures.plan are h.0 h.2))
+    c.told_by.ensures.refused
+
+pub returns-in_err-made-clause-refused : goal.returns-in_err-made-clause-refused
+returns-in_err-made-clause-refused c =
+    let p = err_from_is_err_and c.from_residual.result c.from_residual.ensures.1 in
+    rw (p.1, p.2, c.in_err-made.ensures.refused) tt
+
+pub returns-in_err-streams-clause-refused : goal.returns-in_err-streams-clause-refused
+returns-in_err-streams-clause-refused c =
+    let p = err_from_is_err_and c.from_residual-in_err-streams.result c.from_residual-in_err-streams.ensures.1 in
+    rw (p.1, p.2) tt
+
+pub returns-in_err-made-clause-summary : goal.returns-in_err-made-clause-summary
+returns-in_err-made-clause-summary c = rw ((err_from_is_err_and c.from_residual.result c.from_residual.ensures.1).1) tt
+
+pub returns-in_err-streams-clause-summary : goal.returns-in_err-streams-clause-summary
+returns-in_err-streams-clause-summary c = rw ((err_from_is_err_and c.from_residual-in_err-streams.result c.from_residual-in_err-streams.ensures.1).1) tt

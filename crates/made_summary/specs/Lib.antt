@@ -1,0 +1,7 @@
+pub mod Streams
+pub mod Errors
+pub mod Summaries
+pub mod Laws
+pub mod Plans
+pub mod Outputs
+pub mod MadeNetlists

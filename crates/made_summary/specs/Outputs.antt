@@ -1,0 +1,37 @@
+-- The outputs of a run of a netlist, and what is told of it.
+use Rattle.std.specs.Prelude.{ℕ, ◌≡◌, ◌≤◌, Bool, List, length}
+use Rattle.ww_rule.specs.Grid.{plane_of}
+use Rattle.grid_assembly.specs.PlanDrawing.{start_grid}
+use Rattle.netlist_core.specs.declared.model.Design.{Design}
+use Rattle.netlist_meaning.specs.Places.{main_outputs}
+use Rattle.netlist_text.specs.declared.netlist.Netlist.{Netlist}
+use Rattle.netlist_plans.specs.declared.planning.Planned.{Planned}
+use Rattle.streams.specs.declared.streams.Streams.{Streams}
+use Rattle.drive.specs.declared.error.SimulateError.{SimulateError}
+use Rattle.drive.specs.Driving.{HasSimulateCause, greatest_generation, last_generation, shown_bits}
+use Rattle.netlist_run.specs.Runs.{ShowsRun}
+use Rattle.made_summary.specs.Errors.{summary_error}
+use Rattle.made_summary.specs.Summaries.{outputs_by_name}
+use Rattle.made_summary.specs.declared.error.SummaryError.{SummaryError}
+use Rattle.made_summary.specs.declared.summarizing.OutputBits.{OutputBits}
+use Rattle.made_summary.specs.declared.summarizing.Summary.{Summary}
+
+-- these are the design's outputs, with these simulated bits and the bits of a run on the streams
+pub record AreOutputsIn (design : Design) (streams : Streams) (simulated : List (List Bool)) (outputs : List OutputBits) : Type 0 where
+  pub evaluated : List (List Bool)
+  pub runs : ShowsRun design streams evaluated
+  pub are : outputs ≡ outputs_by_name (main_outputs design) simulated evaluated
+
+-- the summary is of this netlist and its plan under the streams
+pub record IsToldOf (netlist : Netlist) (planned : Planned) (streams : Streams) (summary : Summary) : Type 0 where
+  pub weight : summary.weight ≡ netlist.flat.weight
+  pub lanes : summary.lanes ≡ planned.plan.lanes
+  pub columns : summary.columns ≡ length planned.plan.columns
+  pub period : summary.p ≡ planned.ports.p
+  pub latency : summary.l ≡ planned.ports.l
+  pub near : last_generation planned.ports streams ≤ greatest_generation
+  pub outputs : AreOutputsIn netlist.design streams (shown_bits planned.ports streams (plane_of (start_grid planned.plan).rows)) summary.outputs
+
+-- the error is that of a simulation up to this generation
+abbrev pub HasRunCause : ℕ → SummaryError → Type 0
+HasRunCause last e = (cause : SimulateError) × (e ≡ summary_error cause) × HasSimulateCause last cause

@@ -1,0 +1,14 @@
+//! What made netlists are, and a summary of one: it is run twice, as its pattern shows it and as the netlist gives it.
+//!
+//! Theorem: `summarize` (`summary`, `refused`).
+#![tactic(auto)]
+
+mod error;
+pub mod laws;
+mod plans;
+mod streams;
+mod summarizing;
+pub mod texts;
+
+pub use error::SummaryError;
+pub use summarizing::{OutputBits, Summary, summarize};

@@ -1,0 +1,4 @@
+pub mod Cuts
+pub mod Found
+pub mod GivenWords
+pub mod Across

@@ -1,0 +1,5 @@
+pub mod Words
+pub mod Streams
+pub mod GivenBits
+pub mod Rows
+pub mod Examples

@@ -1,0 +1,57 @@
+// What a call answers where it gives no streams.
+ghost use Rattle.std.specs.Prelude.{◌≡◌};
+
+use lists::Bytes;
+use std::alloc::{AllocError, AllocFailed};
+
+/// The faults of stream words, by the names that the program prints. The first word at fault is answered, and of one
+/// word the first of these; `MissingInput` comes where no word is at fault.
+#[derive(Clone, Copy, Debug, PartialEq, Eq)]
+pub enum StreamFaultKind {
+    /// The word has no `=`.
+    NoEquals,
+    /// What stands before the last `=` is no input's name.
+    UnknownInput,
+    /// An earlier word has the name.
+    TwiceInput,
+    /// A character after the last `=` is neither `0` nor `1`.
+    BadBit,
+    /// There are not as many bits as cycles.
+    BadLength,
+    /// No word has the name of this input.
+    MissingInput,
+}
+
+/// A fault, and the word at fault, or the name of the input that is missing.
+#[derive(Drop)]
+pub struct StreamFault {
+    pub kind: StreamFaultKind,
+    pub word: Bytes,
+}
+
+/// Why no streams were read.
+#[derive(Drop)]
+pub enum StreamError {
+    /// There was no memory for them.
+    NoMemory,
+    /// The words are at fault.
+    Fault(StreamFault),
+}
+
+ghost use Rattle.streams.specs.declared.error.StreamError.TheVariants.{NoMemory};
+
+impl From<AllocError> for StreamError {
+    ghost from_gives = { λ _ e. e ≡ NoMemory };
+
+    fn from(_: AllocError) -> Self {
+        StreamError::NoMemory
+    }
+}
+
+impl<T: Drop> From<AllocFailed<T>> for StreamError {
+    ghost from_gives = { λ _ e. e ≡ NoMemory };
+
+    fn from(_: AllocFailed<T>) -> Self {
+        StreamError::NoMemory
+    }
+}
