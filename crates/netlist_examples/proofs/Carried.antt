@@ -80,6 +80,7 @@ bare_is_carried =
       grid = record { width = 0; height = 0; rows = [] };
       ports = bare_ports;
       spells = record { reads = bare_reads; table = bare_has_ports };
+      contexts = refl;
       names = record { ins = in_names; outs = refl };
       shows = shows;
     }
