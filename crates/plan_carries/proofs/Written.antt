@@ -11,7 +11,7 @@ use Rattle.netlist_core.specs.declared.flat.FlatPort.{FlatPort}
 use Rattle.netlist_core.specs.declared.flat.Net.{Net as FlatNet}
 use Rattle.netlist_meaning.specs.Flat.{class_of, nets_but_clocks, port_classes}
 use Rattle.pattern_reading.specs.declared.ports.Ports.{Ports}
-use Rattle.written_reads.specs.Laws.{HasWrittenText}
+use Rattle.pattern_writing.specs.WrittenText.{HasWrittenText}
 use Rattle.carries.specs.FlatNets.{ShowsFlatRuns}
 use Rattle.cover_mapper.specs.Listed.{listed_classes}
 use Rattle.plan_ports.specs.Laws.{TablesAreReadable}
