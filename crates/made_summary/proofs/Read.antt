@@ -10,7 +10,7 @@ use Rattle.pattern_reading.specs.declared.ports.PortLine.{PortLine}
 use Rattle.pattern_reading.specs.declared.ports.Ports.{Ports}
 use Rattle.pattern_reading.specs.Ports.{cells_of}
 use Rattle.pattern_reading.specs.Laws.{IsPortInside}
-use Rattle.written_reads.specs.Laws.{HasWrittenText}
+use Rattle.pattern_writing.specs.WrittenText.{HasWrittenText}
 use Rattle.flat_designs.specs.Laws.{FlatIsInRange, FlatIsNamed}
 use Rattle.netlist_meaning.specs.Weight.{weight}
 use Rattle.netlist_plans.specs.Names.{TextsHavePortNames}

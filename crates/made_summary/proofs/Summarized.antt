@@ -11,7 +11,7 @@ use Rattle.grid_assembly.specs.PlanDrawing.{start_grid}
 use Rattle.pattern_reading.specs.declared.ports.PortLine.{PortLine}
 use Rattle.pattern_reading.specs.declared.ports.Ports.{Ports}
 use Rattle.pattern_reading.specs.Ports.{names_of}
-use Rattle.written_reads.specs.Laws.{pattern_text}
+use Rattle.pattern_writing.specs.WrittenText.{pattern_text}
 use Rattle.netlist_core.specs.declared.model.Design.{Design}
 use Rattle.netlist_core.specs.declared.flat.FlatPort.{FlatPort}
 use Rattle.netlist_core.specs.Names.{Name}

@@ -7,7 +7,7 @@ ghost use Rattle.netlist_meaning.specs.FlatOrder.{IsOrder};
 ghost use Rattle.cell_meaning.specs.Needs.{any_needs_one};
 ghost use Rattle.plan_carries.specs.Compiled.{ComputesFlat};
 ghost use Rattle.plan_ports.specs.Tables.{HasPortNames, HasTablePlaces, IsTableOf};
-ghost use Rattle.written_reads.specs.Laws.{pattern_text};
+ghost use Rattle.pattern_writing.specs.WrittenText.{pattern_text};
 ghost use Rattle.carries.specs.FlatNets.{CarriesFlat};
 ghost use Rattle.netlist_plans.specs.Lists.{IsPlanned};
 ghost use Rattle.netlist_plans.specs.NetPlaces.{HasNetPlaces};

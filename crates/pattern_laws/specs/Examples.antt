@@ -14,7 +14,7 @@ use Rattle.pattern_reading.specs.declared.ports.Ports.{Ports}
 use Rattle.pattern_reading.specs.Pattern.{ReadsAsPattern, HasRleFault}
 use Rattle.pattern_reading.specs.PortTable.{ReadsAsPorts, HasPortFault}
 use Rattle.pattern_writing.specs.Samples.{bare_text}
-use Rattle.pattern_samples.specs.Ports.{port_line_at, net_line_at, bare_ports}
+use Rattle.pattern_writing.specs.SamplePorts.{port_line_at, net_line_at, bare_ports}
 
 -- a text that reads as a pattern
 pub record PatternExample : Type 0 where

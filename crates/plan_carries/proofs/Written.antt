@@ -14,7 +14,7 @@ use Rattle.netlist_core.specs.declared.flat.Net.{Net as FlatNet}
 use Rattle.netlist_meaning.specs.Flat.{class_of, nets_but_clocks, port_classes}
 use Rattle.pattern_reading.specs.declared.ports.Ports.{Ports}
 use Rattle.netlist_meaning.specs.FlatValuation.{start_bits}
-use Rattle.written_reads.specs.Laws.{HasWrittenText, pattern_text}
+use Rattle.pattern_writing.specs.WrittenText.{HasWrittenText, pattern_text}
 use Rattle.carries.specs.FlatContexts.{ShowsFlatContexts}
 use Rattle.carries.proofs.OneContext.{one_context_carries_flat}
 use Rattle.cell_meaning.specs.Listed.{listed_classes}

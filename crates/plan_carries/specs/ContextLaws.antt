@@ -19,7 +19,7 @@ use Rattle.netlist_meaning.specs.FlatOf.{IsFlatOf}
 use Rattle.netlist_rules.specs.ModelFaults.{AreFaultless}
 use Rattle.netlist_rules.specs.Clocks.{HasNoClockFault}
 use Rattle.pattern_reading.specs.declared.ports.Ports.{Ports}
-use Rattle.written_reads.specs.Laws.{pattern_text}
+use Rattle.pattern_writing.specs.WrittenText.{pattern_text}
 use Rattle.flat_designs.specs.Laws.{state_in_order}
 use Rattle.carries.specs.FlatContexts.{ShowsFlatContexts, CarriesFlatContexts}
 use Rattle.carries.specs.DesignContexts.{CarriesNetsInContexts}

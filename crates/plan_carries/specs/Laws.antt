@@ -13,7 +13,7 @@ use Rattle.netlist_meaning.specs.FlatOf.{IsFlatOf}
 use Rattle.netlist_rules.specs.ModelFaults.{AreFaultless}
 use Rattle.netlist_rules.specs.Clocks.{HasNoClockFault}
 use Rattle.pattern_reading.specs.declared.ports.Ports.{Ports}
-use Rattle.written_reads.specs.Laws.{pattern_text}
+use Rattle.pattern_writing.specs.WrittenText.{pattern_text}
 use Rattle.carries.specs.FlatNets.{CarriesFlat, ShowsFlatRuns}
 use Rattle.carries.specs.Nets.{CarriesNets}
 use Rattle.cell_meaning.specs.Computes.{ComputesByPlan}

@@ -5,7 +5,7 @@ use Rattle.pattern_reading.specs.Pattern.{ReadsAsPattern}
 use Rattle.pattern_reading.specs.PortTable.{ReadsAsPorts, ports_of}
 use Rattle.pattern_reading.specs.Spelling.{spelled_table}
 use Rattle.pattern_writing.specs.Samples.{or_grid, or_items_text}
-use Rattle.pattern_samples.specs.Ports.{port_line_at}
+use Rattle.pattern_writing.specs.SamplePorts.{port_line_at}
 
 -- the port lines of an OR gate whose inputs and output have these names
 abbrev pub named_or_forms : List ℕ → List ℕ → List ℕ → List PortForm
