@@ -18,7 +18,5 @@ pub record IsHeld (held : Inside) : Type 0 where
   pub height : 0 < held.height
   pub few : length held.dark.items ≤ 2 ^ 58
   pub dark : (j : ℕ) → get_or held.dark.items j 0 ≡ 0
-  pub spare_heads : length held.spare_heads.items ≡ length held.dark.items
-  pub spare_wires : length held.spare_wires.items ≡ length held.dark.items
   pub bands : AreBands (length held.dark.items) held.height (length held.pattern.rows) held.bands.items
   pub shows : AllShow (driven (due_of_list held.injections.items) (plane_of held.pattern.rows)) (due_of_list held.injections.items) held.height (length held.pattern.rows) held.bands.items

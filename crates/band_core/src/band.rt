@@ -70,7 +70,7 @@ fn keep_edges(rows: &[Row], top: &mut Kept, bottom: &mut Kept)
 }
 
 // The next generation of rows from row y on, with the injections that are then due, between rows of heads. The kept rows
-// take the heads that the top and the bottom row had. `near` and the spare rows hold anything.
+// take the heads that the top and the bottom row had. `near` holds anything.
 fn step_with_due(
     rows: &mut [Row],
     lit: &mut [u64],
@@ -80,8 +80,6 @@ fn step_with_due(
     up_span: Span,
     down: &[u64],
     down_span: Span,
-    spare_heads: &mut [u64],
-    spare_wires: &mut [u64],
     top: &mut Kept,
     bottom: &mut Kept,
     due: &[Injection],
@@ -93,8 +91,6 @@ fn step_with_due(
     requires down { length down.now ≡ length up.now }
     requires up_within { up_span.end ≤ length up.now }
     requires down_within { down_span.end ≤ length up.now }
-    requires spare_heads { length spare_heads.old ≡ length up.now }
-    requires spare_wires { length spare_wires.old ≡ length up.now }
     requires dark_up { IsDarkBeyond up_span.first up_span.end up.now }
     requires dark_down { IsDarkBeyond down_span.first down_span.end down.now }
     requires top { length top.old.heads.items ≡ length up.now }
@@ -111,17 +107,7 @@ fn step_with_due(
     ensures bottom { (j : ℕ) → get_or bottom.new.heads.items j 0 ≡ get_or (row_heads rows.old (length rows.old - 1)) j 0 }
     ensures shows { (p : Plane) → IsEmptyWest p → ShowRows rows.old p (pos y) → ShowsHeads up.now p (pos y -ℤ pos 1) → ShowsHeads down.now p (pos y +ℤ pos (length rows.old)) → ShowRows rows.new (injected (has_cell (injected_cells due.now)) (next_plane p)) (pos y) }
 {
-    step_band(
-        rows,
-        lit,
-        near,
-        up,
-        up_span,
-        down,
-        down_span,
-        spare_heads,
-        spare_wires,
-    );
+    step_band(rows, lit, near, up, up_span, down, down_span);
     keep_edges(rows, top, bottom);
     inject(rows, lit, y, up.len(), due);
 }
@@ -156,25 +142,13 @@ impl Band {
         (self.top.heads.as_slice(), self.top.span)
     }
 
-    /// Goes on by one generation, between the heads of the rows beside the band at its own generation. The spare rows hold
-    /// anything.
-    pub fn step(
-        &mut self,
-        y: usize,
-        up: &[u64],
-        up_span: Span,
-        down: &[u64],
-        down_span: Span,
-        spare_heads: &mut [u64],
-        spare_wires: &mut [u64],
-    )
+    /// Goes on by one generation, between the heads of the rows beside the band at its own generation.
+    pub fn step(&mut self, y: usize, up: &[u64], up_span: Span, down: &[u64], down_span: Span)
         requires is { IsBand (length up.now) y (length self.old.rows.items) self.old }
         requires room { self.old.generation + 1 < 2 ^ 64 }
         requires down { length down.now ≡ length up.now }
         requires up_within { up_span.end ≤ length up.now }
         requires down_within { down_span.end ≤ length up.now }
-        requires spare_heads { length spare_heads.old ≡ length up.now }
-        requires spare_wires { length spare_wires.old ≡ length up.now }
         requires dark_up { IsDarkBeyond up_span.first up_span.end up.now }
         requires dark_down { IsDarkBeyond down_span.first down_span.end down.now }
         ensures generation { self.new.generation ≡ self.old.generation + 1 }
@@ -192,8 +166,6 @@ impl Band {
             up_span,
             down,
             down_span,
-            spare_heads,
-            spare_wires,
             &mut self.top,
             &mut self.bottom,
             &self.injections[self.done..self.done + count],

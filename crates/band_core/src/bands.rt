@@ -23,8 +23,6 @@ pub struct Bands {
     height: usize,
     bands: Vec<Band>,
     dark: Vec<u64>,
-    spare_heads: Vec<u64>,
-    spare_wires: Vec<u64>,
 }
 
 impl Model for Bands {
@@ -73,16 +71,12 @@ impl Bands {
         let words = words_for(&pattern.rows);
         let bands = begin_bands(alloc, &pattern.rows, &injections, height, words)?;
         let dark = vec![in alloc; 0; words]?;
-        let spare_heads = vec![in alloc; 0; words]?;
-        let spare_wires = vec![in alloc; 0; words]?;
         Ok(Bands {
             pattern,
             injections,
             height,
             bands,
             dark,
-            spare_heads,
-            spare_wires,
         })
     }
 
@@ -132,8 +126,6 @@ impl Bands {
             self.height,
             self.pattern.rows.len(),
             &self.dark,
-            &mut self.spare_heads,
-            &mut self.spare_wires,
         );
         Ok(())
     }

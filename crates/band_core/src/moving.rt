@@ -80,22 +80,12 @@ fn row_below<'a>(after: &'a [Band], generation: u64, dark: &'a [u64]) -> (&'a [u
 /// Moves band b on by one generation. No memory is taken.
 // It stands apart, so that a loop over sleeping bands stays small.
 #[inline(never)]
-pub fn move_band(
-    bands: &mut [Band],
-    b: usize,
-    height: usize,
-    rows: usize,
-    dark: &[u64],
-    spare_heads: &mut [u64],
-    spare_wires: &mut [u64],
-)
+pub fn move_band(bands: &mut [Band], b: usize, height: usize, rows: usize, dark: &[u64])
     requires band { b < length bands.old }
     requires room { get_or (generations_of bands.old) b 0 + 1 < 2 ^ 64 }
     requires ready { unready_neighbour (generations_of bands.old) b ≡ None }
     requires bands { AreBands (length dark.now) height rows bands.old }
     requires dark { (j : ℕ) → get_or dark.now j 0 ≡ 0 }
-    requires spare_heads { length spare_heads.old ≡ length dark.now }
-    requires spare_wires { length spare_wires.old ≡ length dark.now }
     ensures bands { AreBands (length dark.now) height rows bands.new }
     ensures generations { generations_of bands.new ≡ slice_set (generations_of bands.old) b (get_or (generations_of bands.old) b 0 + 1) }
     ensures shows { (e : ℕ → Plane) (due : Due) (width : ℕ) → IsEvolution e due width rows → AllShow e due height rows bands.old → AllShow e due height rows bands.new }
@@ -105,15 +95,7 @@ pub fn move_band(
     let band = &mut own[0];
     let (up, up_span) = row_above(before, band.generation, dark);
     let (down, down_span) = row_below(after, band.generation, dark);
-    band.step(
-        b * height,
-        up,
-        up_span,
-        down,
-        down_span,
-        spare_heads,
-        spare_wires,
-    );
+    band.step(b * height, up, up_span, down, down_span);
 }
 
 /// Moves band b on by one generation where nothing can change in it: its rows stay.

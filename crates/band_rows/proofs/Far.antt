@@ -3,7 +3,7 @@ use Rattle.std.proofs.Common.{ℤ, pos, ◌+ℤ◌, ◌-ℤ◌, ℕ, ◌+◌, �
 use Rattle.std.proofs.lemmas.Bool.{cases_lt, eqb-true, not-false, or_parts}
 use Rattle.std.proofs.lemmas.Int.{ints}
 use Rattle.ww_rule.specs.Wireworld.{Plane, next_plane}
-use Rattle.lane_kernel.specs.Rows.{is_set, AreDisjoint}
+use Rattle.lane_kernel.specs.Rows.{is_set, row_state, plane_of_rows, AreDisjoint}
 use Rattle.lane_kernel.specs.Spans.{IsDarkBeyond}
 use Rattle.lane_kernel.proofs.Parts.{dark_heads, dark_wires, wholly_dark}
 use Rattle.lane_kernel.proofs.Places.{Fit, stepped_cells, row_steps}
@@ -19,13 +19,17 @@ IsZero words = (j : ℕ) → get_or words j 0 ≡ 0
 zero_fits : (words : List ℕ) → IsZero words → Fit words
 zero_fits words z j = let e = z j in omega (arith, e)
 
--- a row without light between rows without heads is its own next one
+-- a row without light between rows without heads is its own next one, and shows it
+pub dark_cells : (a h b t w : List ℕ) → IsZero a → IsZero h → IsZero b → IsZero t → AreDisjoint h t w → (x : ℕ) → row_state h t w x ≡ next_plane (plane_of_rows a h b t w) (pos x) (pos 1)
+dark_cells a h b t w za zh zb zt apart =
+    let none = dark_heads a h b w za zh zb in
+    stepped_cells a h b t w h t w (zero_fits a za) (zero_fits h zh) (zero_fits b zb) (λ j. zh j ∙ sym (none j)) (λ j. zt j ∙ sym (zh j)) (λ j. sym (dark_wires a h b t w none zt j)) apart
+
 pub stays : (a h b t w : List ℕ) (p : Plane) (y : ℤ) → IsEmptyWest p → IsZero a → IsZero h → IsZero b → IsZero t → ShowsHeads a p (y -ℤ pos 1) → Shows h t w p y → ShowsHeads b p (y +ℤ pos 1) → Shows h t w (next_plane p) y
 stays a h b t w p y west za zh zb zt above here below =
-    let none = dark_heads a h b w za zh zb in
     let apart : AreDisjoint h t w = λ x. ap₂ (λ c d. (c && d) || (c && is_set w x) || (d && is_set w x)) (none_set 0 h zh x) (none_set 0 t zt x) in
     row_steps a h b t w h t w p y west (as_num a p (y -ℤ pos 1) above) here (as_num b p (y +ℤ pos 1) below)
-    (stepped_cells a h b t w h t w (zero_fits a za) (zero_fits h zh) (zero_fits b zb) (λ j. zh j ∙ sym (none j)) (λ j. zt j ∙ sym (zh j)) (λ j. sym (dark_wires a h b t w none zt j)) apart)
+    (dark_cells a h b t w za zh zb zt apart)
 
 -- of marked rows, a row that is far from all marks shows the next plane as it stands
 module _ (marks up down : List ℕ) (up_is_lit down_is_lit : Bool) (rows : List Row) (are : AreMarked marks rows) (up_dark : up_is_lit ≡ false → IsZero up) (down_dark : down_is_lit ≡ false → IsZero down) (k : ℕ) (within : k < length rows) (far : IsFar marks up_is_lit down_is_lit (length rows) k) where

@@ -29,6 +29,7 @@ pub record IsFirstLineFault (lines : List Logical) (fault : Fault) : Type 0 wher
   pub is_lowest : (kind : FaultKind) → number_of kind < number_of fault.kind → word_at_fault kind (reverse before) line ≡ None
   pub is_earliest : (front : List Logical) (earlier : Logical) (back : List Logical) → before ≡ front ++ earlier ∷ back → BreaksNone (reverse front) earlier
 
+-- The fault of the lines by a rule on lines is that of the earliest line which breaks one over the lines before it, by the rule of the lowest number.
 abbrev pub LineFaultIsFirst : Type 0
 LineFaultIsFirst = (lines : List Logical) (fault : Fault) → (line_fault lines ≡ Some fault) ↔ IsFirstLineFault lines fault
 
@@ -91,6 +92,7 @@ Rises least (l ∷ lines) = (least ≤ l.line) × Rises (l.line + 1) lines
 abbrev pub NumbersAreBounded : Type 0
 NumbersAreBounded = (text : List ℕ) → AllByRecursion (λ (l : Logical). l.line ≤ length (physical_lines text)) (logical_lines text)
 
+-- Each logical line has a word, each word has a byte and no blank, and the numbers of the lines rise from 1 on.
 abbrev pub LinesHaveWords : Type 0
 LinesHaveWords = (text : List ℕ) → AllByRecursion HasWords (logical_lines text) × Rises 1 (logical_lines text)
 

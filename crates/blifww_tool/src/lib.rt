@@ -4,7 +4,6 @@
 //! Theorem: `run` (`headline`, `ends`), `carriers_print_alike`.
 #![tactic(auto)]
 
-pub mod calm;
 mod causes;
 mod compile;
 mod driven;

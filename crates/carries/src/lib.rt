@@ -5,14 +5,9 @@
 //! Theorem: `carries_cycles`, `carries_onward`, `contexts_are_isolated`; definitions `Carries`, `CarriesNets`, `CarriesFlat`, `CarriesContexts`.
 #![tactic(auto)]
 
-ghost use Rattle.carries.specs.Laws.{CarriesInOneWay, OutputsHaveLines};
+ghost use Rattle.carries.specs.Laws.{OutputsHaveLines};
 ghost use Rattle.carries.specs.ContextLaws.{CarriesEachContext, CarriesNetsOfEachContext, OutputsAreIsolated, NetsAreIsolated, OneContextCarries, OneContextCarriesNets, OneContextCarriesFlat};
-ghost use Rattle.carries.specs.Shown.{CarriesCycles, CarriesNetCycles, CarriesOnward, CarriesEachFront, RowsFitPorts};
-
-/// A text that carries a design reads as one pattern and one table.
-pub fn carries_in_one_way()
-    ensures { CarriesInOneWay }
-{}
+ghost use Rattle.carries.specs.Shown.{CarriesCycles, CarriesNetCycles, CarriesOnward, CarriesEachFront};
 
 /// A text without OUT lines carries no model with an output.
 pub fn outputs_have_lines()
@@ -32,11 +27,6 @@ pub fn carries_cycles()
 pub fn carries_onward()
     ensures onward { CarriesOnward }
     ensures each_front { CarriesEachFront }
-{}
-
-/// Where a table names a design's inputs, rows of input bits have a bit for each IN line.
-pub fn rows_fit_ports()
-    ensures { RowsFitPorts }
 {}
 
 /// Driven by rows of input bits in several contexts, a pattern that carries a design in them has the cell of an output as a head

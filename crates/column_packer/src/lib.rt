@@ -4,7 +4,6 @@
 #![tactic(auto)]
 
 mod error;
-pub mod laws;
 mod numbering;
 mod packing;
 

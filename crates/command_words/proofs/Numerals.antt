@@ -16,10 +16,6 @@ HasDigits bs = list_all is_ascii_digit bs ≡ true
 numerals : IsNumeralModel HasDigits (digits_value 10)
 numerals = numerals_by_value HasDigits (search rules)
 
-pub no_digits : (least most : ℕ) (bs : List ℕ) → list_all is_ascii_digit bs ≡ false → number_between least most bs ≡ None
-no_digits least most [] e = refl
-no_digits least most (b ∷ bs) e = rw e refl
-
 too_great : (least most n : ℕ) → most < n → (nat_le least n && nat_le n most) ≡ false
 too_great least most n above = let e : nat_le n most ≡ false = lt-leb n most above in rw (e) (and_false _)
 

@@ -1,34 +1,22 @@
 -- Sums of products.
-use Rattle.std.proofs.Common.{◌≡◌, refl, sym, ◌∙◌, ap, ap₂, ℕ, ◌+◌, ◌*◌, ◌<◌, Bool, true, ◌||◌, List, [], take, length, get_or, sum_by, ◌⊎◌, inl, inr, ⊎_elim, arith}
-use Rattle.std.proofs.lemmas.Bool.{true≢false}
-use Rattle.std.proofs.lemmas.List.{take_all}
+use Rattle.std.proofs.Common.{◌≡◌, sym, ◌∙◌, ap, ap₂, ℕ, ◌+◌, ◌*◌, ◌<◌, Bool, true, ◌||◌, List, [], take, length, get_or, sum_by, ◌⊎◌, inl, inr, ⊎_elim, arith}
 use Rattle.std.proofs.lemmas.List.Sums.{sum_by_more}
 use Rattle.std.proofs.lemmas.List.Folds.{list_any_more, list_any_at}
 use Rattle.netlist_core.specs.OwnWeight.{literals}
 use Rattle.netlist_meaning.specs.CoverValue.{product_holds, any_holds}
 use Rattle.cell_core.specs.declared.cells.Src.{Src}
-use Rattle.cell_core.specs.declared.cells.Src.TheVariants.{Zero}
 use Rattle.cell_core.specs.declared.list.CellList.{CellList}
 use Rattle.cell_core.specs.Sources.{is_one}
 use Rattle.cell_core.specs.Meaning.{bit_in}
 use Rattle.cover_cells.specs.Grown.{HasSources, bits_of, Grows, Answers}
 use Rattle.cell_meaning.specs.Needs.{has_no_positive}
-use Rattle.cover_cells.specs.Covers.{RowNeedsOne, RowsNeedOne, AnswersRow, AnswersRows}
-use Rattle.cover_cells.proofs.Growing.{grows, grows_refl, answers, bit_after, bits_after}
+use Rattle.cover_cells.specs.Covers.{RowNeedsOne, RowsNeedOne, AnswersRow}
+use Rattle.cover_cells.proofs.Growing.{grows, answers, bit_after, bits_after}
 
 -- what a sum has, as far as it has come
 abbrev pub SumsTo : CellList → CellList → List Src → List (List ℕ) → ℕ → Src → Type 0
 SumsTo old new sources rows i sum =
     Answers old new (i + 2 * sum_by literals (take i rows)) (RowsNeedOne sources rows) sum (λ inputs state. any_holds (take i rows) (bits_of old sources inputs state))
-
-pub sums_to_none : (l : CellList) (sources : List Src) (rows : List (List ℕ)) → SumsTo l l sources rows 0 Zero
-sums_to_none l sources rows =
-    record {
-      grows = grows l l l 0 0 _ _ _ _ (grows_refl l (RowsNeedOne sources rows)) (grows_refl l (RowsNeedOne sources rows)) (λ p. p) (λ p. p) (omega arith);
-      there = refl;
-      one = λ e. absurd (true≢false (sym e));
-      bit = λ inputs state. refl;
-    }
 
 row_reason : (sources : List Src) (rows : List (List ℕ)) (i : ℕ) → i < length rows → RowNeedsOne sources (get_or rows i []) → RowsNeedOne sources rows
 row_reason sources rows i within (inl e) = inl e
@@ -50,13 +38,3 @@ row_added l l' l'' l''' sources rows sum product new i within there first then l
     ap₂ (λ a b. a || b) (bit_after l' l'' _ _ then.grows sum first.there inputs state ∙ first.bit inputs state)
     (then.bit inputs state ∙ ap (product_holds (get_or rows i [])) (bits_after l l' _ _ first.grows sources there inputs state))
     ∙ sym (list_any_more (λ row. product_holds row bits) rows i [] within))
-
-pub sums_to_rows : (l l' : CellList) (sources : List Src) (rows : List (List ℕ)) (i : ℕ) (sum : Src) → i ≡ length rows → SumsTo l l' sources rows i sum → AnswersRows l l' sources rows sum
-sums_to_rows l l' sources rows i sum end h =
-    let all : take i rows ≡ rows = take_all i rows (omega arith) in
-    record {
-      grows = grows l l' l' _ 0 _ _ _ _ h.grows (grows_refl l' (RowsNeedOne sources rows)) (λ p. p) (λ p. p) (let e : sum_by literals (take i rows) ≡ sum_by literals rows = ap (sum_by literals) all in omega arith);
-      there = h.there;
-      one = h.one;
-      bit = λ inputs state. h.bit inputs state ∙ ap (λ r. any_holds r (bits_of l sources inputs state)) all;
-    }

@@ -33,7 +33,8 @@ fn with_ports(
     requires sound { IsSound flat.now }
     requires complete { IsComplete flat.now list sources.now }
     ensures mapped { IfOk result (λ m. IsMappedWith flat.now m.list m.singles.items) }
-    ensures bits { IfOk result (λ m. (inputs state : List Bool) (bits : ℕ → Bool) → IsFlatValuation flat.now inputs state bits → HasBits flat.now m.list inputs state bits) }
+    ensures bits { IfOk result (λ m. (inputs state : List Bool) (bits : ℕ → Bool)
+        → IsFlatValuation flat.now inputs state bits → HasBits flat.now m.list inputs state bits) }
 {
     let outs = sources_of_ports(alloc, flat, sources, flat.outs.as_slice())?;
     let latches = sources_of_data(alloc, flat, sources, flat.latches.as_slice())?;
@@ -62,7 +63,8 @@ fn map_from(
     requires ordered { IsOrder flat.now order.now.nodes }
     requires none { sources.old ≡ replicate (length flat.now.nets) None }
     ensures mapped { IfOk result (λ m. IsMappedWith flat.now m.list m.singles.items) }
-    ensures bits { IfOk result (λ m. (inputs state : List Bool) (bits : ℕ → Bool) → IsFlatValuation flat.now inputs state bits → HasBits flat.now m.list inputs state bits) }
+    ensures bits { IfOk result (λ m. (inputs state : List Bool) (bits : ℕ → Bool)
+        → IsFlatValuation flat.now inputs state bits → HasBits flat.now m.list inputs state bits) }
 {
     let mut list = start_list(alloc, flat)?;
     source_inputs(flat, &list, sources);
@@ -82,7 +84,8 @@ pub fn map(alloc: Global, flat: &Flat, order: &Order) -> Result<Mapped, MapError
     ensures mapped { IfOk result (λ m. IsMappedWith flat.now m.list m.singles.items) }
     ensures few { IfOk result (λ m. length m.list.cells ≤ 2 * flat.now.weight) }
     ensures ports { IfOk result (λ m. m.list.inputs + length m.list.outs + 2 * length m.list.starts ≤ flat.now.weight) }
-    ensures bits { IfOk result (λ m. (inputs state : List Bool) (bits : ℕ → Bool) → IsFlatValuation flat.now inputs state bits → HasBits flat.now m.list inputs state bits) }
+    ensures bits { IfOk result (λ m. (inputs state : List Bool) (bits : ℕ → Bool)
+        → IsFlatValuation flat.now inputs state bits → HasBits flat.now m.list inputs state bits) }
 {
     let mut sources = vec![in alloc; None; flat.nets.len()]?;
     map_from(alloc, flat, order, &mut sources)

@@ -77,7 +77,8 @@ fn push_new<'a>(
     name: &'a [u8],
 ) -> Result<(), AllocError>
     ensures names { OnOk result (bytes_of names.new.items ≡ append_unless (is_some (position_in positions.old name.now)) (bytes_of names.old.items) name.now) }
-    ensures positions { OnOk result (HasPositions positions.old (bytes_of names.old.items) → HasPositions positions.new (bytes_of names.new.items)) }
+    ensures positions { OnOk result (HasPositions positions.old (bytes_of names.old.items)
+        → HasPositions positions.new (bytes_of names.new.items)) }
 {
     if positions.contains_key(name) {
         return Ok(());

@@ -7,7 +7,7 @@ ghost use Rattle.model_index.specs.Order.{IsModelOrder};
 ghost use Rattle.model_index.specs.Reasons.{IsModelOrderRefusal};
 ghost use Rattle.design_walks.specs.Weights.{line_weight, AreWeights};
 
-use model_index::{NamedModels, OrderError, order};
+use model_index::{ModelOrderError, NamedModels, order};
 use netlist_core::{Design, Model, Subckt, weight_of};
 use std::alloc::{AllocError, Global};
 
@@ -52,7 +52,7 @@ fn weights(
 }
 
 // The weight of a design, at most the greatest u64, where no model leads back to itself.
-pub fn weight_or_circle(alloc: Global, design: &Design) -> Result<u64, OrderError>
+pub fn weight_or_circle(alloc: Global, design: &Design) -> Result<u64, ModelOrderError>
     ensures weight { IfOk result (λ w. w ≡ min (weight design.now) u64.MAX) }
     ensures refused { IfErr result (IsModelOrderRefusal design.now.models) }
 {
@@ -70,7 +70,7 @@ pub fn weight(alloc: Global, design: &Design) -> Result<u64, AllocError>
 {
     match weight_or_circle(alloc, design) {
         Ok(weight) => Ok(weight),
-        Err(OrderError::NoMemory) => Err(AllocError),
-        Err(OrderError::Circle) => unreachable!(),
+        Err(ModelOrderError::NoMemory) => Err(AllocError),
+        Err(ModelOrderError::Circle) => unreachable!(),
     }
 }

@@ -63,7 +63,7 @@ SameDriver design flat h (input i) e = (p : Port) × (slice_get h.in_ports i ≡
 SameDriver design flat h (latch i) e = (place : Place) × (number : ℕ) × IsIndex design latches_of (flat_latch design) place number i × (e ≡ Rattle.sound_designs.specs.OneDriver.Driver.latch place number)
 SameDriver design flat h (node n) e = (place : Place) × (number : ℕ) × IsIndex design covers_of (flat_node design) place number n × (e ≡ Rattle.sound_designs.specs.OneDriver.Driver.cover place number)
 
-record Driven (design : Design) (flat : Flat) (h : IsFlatOf design flat) (d : FlatDriver) (class : ℕ) : Type 0 where
+record HasSameDriver (design : Design) (flat : Flat) (h : IsFlatOf design flat) (d : FlatDriver) (class : ℕ) : Type 0 where
   pub driver : DesignDriver
   pub net : Net
   pub is_net : DesignNet design net
@@ -74,7 +74,7 @@ record Driven (design : Design) (flat : Flat) (h : IsFlatOf design flat) (d : Fl
 in_port_main : (design : Design) (flat : Flat) (h : IsFlatOf design flat) (p : Port) → In p h.in_ports → (m : Model) × (main_model design ≡ Some m) × (model_at design [] ≡ Some m) × In p m.ins
 in_port_main design flat h p i = main_port design (λ (m : Model). m.ins) p (port_kept design (main_ports (λ (m : Model). m.ins) design) h.in_ports p h.are_in_ports i)
 
-driven : (design : Design) (flat : Flat) → AreFaultless design.models → (h : IsFlatOf design flat) (d : FlatDriver) (class : ℕ) → FlatDrives flat d class → Driven design flat h d class
+driven : (design : Design) (flat : Flat) → AreFaultless design.models → (h : IsFlatOf design flat) (d : FlatDriver) (class : ℕ) → FlatDrives flat d class → HasSameDriver design flat h d class
 driven design flat faultless h (input i) class (x, is_x, is_class) =
     let (p, is_p, same) = in_some_map (flat_port design) (slice_get h.in_ports i) x (sym (slice_get-map (flat_port design) h.in_ports i) ∙ ap (λ (xs : List FlatPort). slice_get xs i) (sym h.ins) ∙ is_x) in
     let j : In p h.in_ports = in_got h.in_ports i p is_p in
@@ -137,8 +137,8 @@ same_driver design flat faultless h (node i) (node j) x (p, k, index, a) (q, l, 
 
 one_driver : (design : Design) (flat : Flat) → AreFaultless design.models → IsFlatOf design flat → (class : ℕ) (d e : FlatDriver) → FlatDrives flat d class → FlatDrives flat e class → d ≡ e
 one_driver design flat faultless h class d e x y =
-    let a : Driven design flat h d class = driven design flat faultless h d class x in
-    let b : Driven design flat h e class = driven design flat faultless h e class y in
+    let a : HasSameDriver design flat h d class = driven design flat faultless h d class x in
+    let b : HasSameDriver design flat h e class = driven design flat faultless h e class y in
     let joined : Joined design a.net b.net = class_joined design faultless a.net b.net a.is_net b.is_net (a.is_class ∙ sym b.is_class) in
     same_driver design flat faultless h d e b.driver (subst (SameDriver design flat h d) (at_most_one_driver design faultless a.net b.net a.driver b.driver joined a.drives b.drives) a.is_driver) b.is_driver
 

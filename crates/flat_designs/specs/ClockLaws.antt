@@ -16,9 +16,11 @@ abbrev pub ClockClassesAreClockNets : Type 0
 ClockClassesAreClockNets = (design : Design) (flat : Flat) → AreFaultless design.models → HasOneClock design → IsFlatOf design flat → (net : Net) → IsNet design net
     → IsClockClass flat (class_of flat (id_of design net.place net.name)) ↔ IsClockNet design net
 
+-- Two clocks are found in the flat netlist, at the same line and word.
 abbrev pub TwoClocksAreFlat : Type 0
 TwoClocksAreFlat = (design : Design) (flat : Flat) → AreFaultless design.models → IsFlatOf design flat → (line : ℕ) (word : Name) → IsTwoClocks design line word ↔ IsFlatTwoClocks flat line word
 
+-- So is a clock net that is read.
 abbrev pub ClockReadIsFlat : Type 0
 ClockReadIsFlat = (design : Design) (flat : Flat) → AreFaultless design.models → HasOneClock design → IsFlatOf design flat → (line : ℕ) (word : Name) → IsClockRead design line word ↔ IsFlatClockRead flat line word
 

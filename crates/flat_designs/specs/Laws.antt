@@ -29,6 +29,7 @@ pub record ListsPlacesInOrder (design : Design) : Type 0 where
   pub all : (place : Place) → Contains (places_in_order design) place ↔ IsPlace design place
   pub ascend : AllPairs IsBefore (places_in_order design)
 
+-- The list of places has each place once, in order.
 abbrev pub PlacesAreListed : Type 0
 PlacesAreListed = (design : Design) → IsNotRecursive design → ListsPlacesInOrder design
 
@@ -37,6 +38,7 @@ pub record ListsNames (model : Model) : Type 0 where
   pub all : (name : Name) → Contains (names_in_order model) name ↔ Contains (model_names model) name
   pub once : AllPairs (λ a b. a ≢ b) (names_in_order model)
 
+-- The list of names has each name of the model once.
 abbrev pub NamesAreListed : Type 0
 NamesAreListed = (model : Model) → ListsNames model
 
@@ -62,6 +64,7 @@ pub record ListsNets (design : Design) : Type 0 where
   pub all : (net : Net) → Contains (nets_in_order design) net ↔ IsNet design net
   pub once : AllPairs (λ a b. a ≢ b) (nets_in_order design)
 
+-- The list of nets has each net of the design once.
 abbrev pub NetsAreListed : Type 0
 NetsAreListed = (design : Design) → IsNotRecursive design → ListsNets design
 
@@ -71,6 +74,7 @@ pub record HasClasses (design : Design) (flat : Flat) : Type 0 where
   pub is_class : (net : Net) → IsNet design net → class_of flat (id_of design net.place net.name) ≡ class_of_net design net
   pub joined : (a b : Net) → IsNet design a → IsNet design b → (class_of flat (id_of design a.place a.name) ≡ class_of flat (id_of design b.place b.name)) ↔ Joined design a b
 
+-- Nets are of one class exactly where they are joined.
 abbrev pub ClassesAreJoined : Type 0
 ClassesAreJoined = (design : Design) (flat : Flat) → AreFaultless design.models → IsFlatOf design flat → HasClasses design flat
 
@@ -130,6 +134,7 @@ pub record HasLoops (design : Design) (flat : Flat) : Type 0 where
 abbrev pub LoopsAreFlat : Type 0
 LoopsAreFlat = (design : Design) (flat : Flat) → AreFaultless design.models → IsFlatOf design flat → HasLoops design flat
 
+-- A design without a fault has no more nets than its weight.
 abbrev pub NetsAreFew : Type 0
 NetsAreFew = (design : Design) → AreFaultless design.models → length (nets_in_order design) ≤ weight design
 
@@ -153,6 +158,7 @@ pub record HasFlatPorts (design : Design) (flat : Flat) : Type 0 where
   pub main_outs : AreMainPorts flat flat.outs
   pub main_clocks : AreMainPorts flat flat.clocks
 
+-- The flat ports are the IN names, the main outputs and the main clocks.
 abbrev pub PortsAreFlat : Type 0
 PortsAreFlat = (design : Design) (flat : Flat) → AreFaultless design.models → IsFlatOf design flat → HasFlatPorts design flat
 
@@ -188,5 +194,6 @@ pub record HasRootsByPins (design : Design) : Type 0 where
   pub pinned : (outer inner : Net) → IsPinned design outer inner → root design inner ≡ root design outer
   pub unpinned : (outer : Place) (number : ℕ) (name : Name) → ((net : Net) → ¬ IsPinned design net (net_at (outer ++ number ∷ []) name)) → root design (net_at (outer ++ number ∷ []) name) ≡ net_at (outer ++ number ∷ []) name
 
+-- The root of a formal is that of its actual, and one that no pin names is its own root.
 abbrev pub RootsAreByPins : Type 0
 RootsAreByPins = (design : Design) → AreFaultless design.models → HasRootsByPins design

@@ -38,13 +38,7 @@ fn step_one(
 
 /// The new words of a row, as if it stood alone, four at once where there are enough, and else one: the new heads in the
 /// tails' place, the new wires in the wires'.
-pub fn step_words(
-    above: &[u64],
-    heads: &[u64],
-    below: &[u64],
-    tails: &mut [u64],
-    wires: &mut [u64],
-)
+pub fn step_words(above: &[u64], heads: &[u64], below: &[u64], tails: &mut [u64], wires: &mut [u64])
     requires above { length above.now ≡ length heads.now }
     requires below { length below.now ≡ length heads.now }
     requires tails { length tails.old ≡ length heads.now }

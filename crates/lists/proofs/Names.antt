@@ -1,12 +1,10 @@
 -- That names are compared by their bytes: an equivalence, and membership.
-use Rattle.std.proofs.Common.{ℕ, ◌≡◌, ◌≢◌, ◌∙◌, refl, sym, ap, subst, List, true, false}
+use Rattle.std.proofs.Common.{ℕ, ◌≡◌, ◌≢◌, ◌∙◌, refl, sym, ap, List, true, false}
 use Rattle.std.specs.Cmp.{both_ways, IsEquivalence}
-use Rattle.std.specs.Prelude.{Contains, bytes_eq}
-use Rattle.std.specs.Bool.{Decides, one_answer}
+use Rattle.std.specs.Prelude.{bytes_eq}
+use Rattle.std.specs.Bool.{one_answer}
 use Rattle.std.proofs.lemmas.Slice.Eq.{bytes_eq-Decides}
 use Rattle.std.proofs.lemmas.Bool.{false_from_ne_true, true≢false}
-use Rattle.lists.specs.Names.{is_among}
-use Rattle.lists.proofs.Members.{In, contains_from, passes_at, passes_somewhere}
 
 pub bytes_eq-same : (x : List ℕ) → bytes_eq x x ≡ true
 bytes_eq-same x = (bytes_eq-Decides x x).1 refl
@@ -15,24 +13,12 @@ pub bytes_eq-turned : (x y : List ℕ) → bytes_eq x y ≡ bytes_eq y x
 bytes_eq-turned x y =
     both_ways (bytes_eq x y) (bytes_eq y x) (λ e. (bytes_eq-Decides y x).1 (sym ((bytes_eq-Decides x y).0 e))) (λ e. (bytes_eq-Decides x y).1 (sym ((bytes_eq-Decides y x).0 e)))
 
-pub bytes_eq-joined : (x y z : List ℕ) → bytes_eq x y ≡ true → bytes_eq y z ≡ true → bytes_eq x z ≡ true
-bytes_eq-joined x y z e f = (bytes_eq-Decides x z).1 ((bytes_eq-Decides x y).0 e ∙ (bytes_eq-Decides y z).0 f)
-
 pub bytes_eq-other : (x y : List ℕ) → x ≢ y → bytes_eq x y ≡ false
 bytes_eq-other x y apart = false_from_ne_true (bytes_eq x y) (λ e. apart ((bytes_eq-Decides x y).0 e))
 
 -- names that differ, by computing
 pub apart_by : (x y : List ℕ) → bytes_eq x y ≡ false → x ≢ y
 apart_by x y differs same = true≢false (sym ((bytes_eq-Decides x y).1 same) ∙ differs)
-
--- a name is among names where the list has it
-pub is_among-Decides : (name : List ℕ) (names : List (List ℕ)) → Decides (is_among name names) (Contains names name)
-is_among-Decides name names = (found, λ has. passes_somewhere (bytes_eq name) names name has (bytes_eq-same name))
-  where
-    found : is_among name names ≡ true → Contains names name
-    found e =
-        let at = passes_at (bytes_eq name) names e in
-        contains_from names name (subst (λ x. In x names) (sym ((bytes_eq-Decides name at.0).0 at.2)) at.1)
 
 pub names_are_equal : IsEquivalence bytes_eq
 names_are_equal =

@@ -7,7 +7,7 @@ ghost use Rattle.model_circles.specs.Earliest.{IsCircle, IsFaultOf};
 
 use crate::circle::{Circle, earliest};
 use lists::List;
-use model_index::{NamedModels, OrderError, order};
+use model_index::{ModelOrderError, NamedModels, order};
 use netlist_core::Model;
 use netlist_rules::{Fault, FaultKind};
 use std::alloc::{AllocError, Global};
@@ -51,12 +51,13 @@ pub fn circle_fault(
     named: &NamedModels,
 ) -> Result<Option<Fault>, AllocError>
     requires { named.now ≡ models.now }
-    ensures { IfOk result (λ found. MatchOption found ((line : ℕ) (names : List (List ℕ)) → ¬ IsOnCircle models.now line names) (IsCircleFault models.now)) }
+    ensures { IfOk result (λ found. MatchOption found ((line : ℕ) (names : List (List ℕ))
+        → ¬ IsOnCircle models.now line names) (IsCircleFault models.now)) }
 {
     match order(alloc, models, named) {
         Ok(_order) => return Ok(None),
-        Err(OrderError::NoMemory) => return Err(AllocError),
-        Err(OrderError::Circle) => {}
+        Err(ModelOrderError::NoMemory) => return Err(AllocError),
+        Err(ModelOrderError::Circle) => {}
     }
     match earliest(alloc, models, named)? {
         None => Ok(None),

@@ -62,7 +62,8 @@ impl Search {
         requires place { at < length self.old.found.items }
         ensures search { OnOk result (IsSearchOf models.now first self.new) }
         ensures kept { OnOk result (StillFound self.old.places.items self.new.places.items) }
-        ensures met { OnOk result ((inner : ℕ) → PlacesSomewhere models.now (get_or self.old.found.items at 0) inner → IsFound self.new.places.items inner) }
+        ensures met { OnOk result ((inner : ℕ) → PlacesSomewhere models.now (get_or self.old.found.items at 0) inner
+            → IsFound self.new.places.items inner) }
     {
         let n = self.found[at];
         for line in 0..models[n].subckts.len() {
@@ -125,7 +126,8 @@ impl Search {
     ) -> Result<Option<Vec<usize>>, AllocError>
         requires search { IsWholeSearch models.now first self.now }
         requires goal { goal < length models.now }
-        ensures { IfOk result (λ found. MatchOption found ((numbers : List ℕ) → ¬ LeadsBackBy models.now first numbers goal) (λ way. IsWayBack models.now first goal way.items)) }
+        ensures { IfOk result (λ found. MatchOption found ((numbers : List ℕ)
+            → ¬ LeadsBackBy models.now first numbers goal) (λ way. IsWayBack models.now first goal way.items)) }
     {
         match self.places[goal] {
             None => Ok(None),

@@ -9,7 +9,7 @@ mod named;
 mod numbers;
 mod ordering;
 
-pub use error::OrderError;
+pub use error::ModelOrderError;
 pub use named::NamedModels;
 pub use numbers::placed;
 pub use ordering::order;

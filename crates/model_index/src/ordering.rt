@@ -3,7 +3,7 @@ ghost use Rattle.std.specs.Prelude.{◌≡◌, IfOk, IfErr};
 ghost use Rattle.model_index.specs.Order.{IsModelOrder};
 ghost use Rattle.model_index.specs.Reasons.{IsModelOrderRefusal};
 
-use crate::error::OrderError;
+use crate::error::ModelOrderError;
 use crate::links::links_of;
 use crate::named::NamedModels;
 use depth_walk::WalkError;
@@ -18,7 +18,7 @@ pub fn order(
     alloc: Global,
     models: &[Model],
     named: &NamedModels,
-) -> Result<List<usize>, OrderError>
+) -> Result<List<usize>, ModelOrderError>
     requires { named.now ≡ models.now }
     ensures order { IfOk result (IsModelOrder models.now) }
     ensures refused { IfErr result (IsModelOrderRefusal models.now) }
@@ -26,7 +26,7 @@ pub fn order(
     let links = links_of(alloc, models, named)?;
     match depth_walk::order(alloc, &links) {
         Ok(numbers) => Ok(numbers),
-        Err(WalkError::NoMemory) => Err(OrderError::NoMemory),
-        Err(WalkError::Circle(_)) => Err(OrderError::Circle),
+        Err(WalkError::NoMemory) => Err(ModelOrderError::NoMemory),
+        Err(WalkError::Circle(_)) => Err(ModelOrderError::Circle),
     }
 }

@@ -70,7 +70,8 @@ impl<'n, 'a> PlacedPorts<'n, 'a> {
 
     /// Of the first model of this name, where some model has a subckt line.
     pub fn find(&self, name: &[u8]) -> Option<&PortNames<'a>>
-        ensures { (models : List Model) → KnowsPorts self.now models → ¬ ArePlain models → ArePlacedNames (model_named models name.now) (option_copied result) }
+        ensures { (models : List Model) → KnowsPorts self.now models → ¬ ArePlain models
+            → ArePlacedNames (model_named models name.now) (option_copied result) }
     {
         let number = self.named.find(name)?;
         self.ports.as_slice().get(number)

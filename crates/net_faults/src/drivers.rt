@@ -46,7 +46,8 @@ pub fn other_drivers<'a>(
     model: &'a Model,
     placed: &PlacedPorts<'_, 'a>,
 ) -> Result<Vec<Word<'a>>, AllocError>
-    ensures { IfOk result (λ words. (models : List Model) → KnowsPlaced placed.now models model.now → word_ports words.items ≡ other_drivers models model.now) }
+    ensures { IfOk result (λ words. (models : List Model) → KnowsPlaced placed.now models model.now
+        → word_ports words.items ≡ other_drivers models model.now) }
 {
     let mut words = Vec::new(alloc);
     push_cover_outputs(&mut words, model.covers.as_slice())?;

@@ -50,7 +50,8 @@ impl<'a> NetWords<'a> {
     ) -> Result<NetWords<'a>, AllocError>
         ensures numbers { IfOk result (λ words. HaveNumbers words) }
         ensures ports { IfOk result (λ words. ArePortsOf words model.now) }
-        ensures drivers { IfOk result (λ words. (models : List Model) → KnowsPlaced placed.now models model.now → AreDriverWords words models model.now) }
+        ensures drivers { IfOk result (λ words. (models : List Model) → KnowsPlaced placed.now models model.now
+            → AreDriverWords words models model.now) }
     {
         let mut names = Numbering::new(alloc);
         let inputs = names.number_words(alloc, &input_words(alloc, model)?)?;

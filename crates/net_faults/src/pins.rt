@@ -21,7 +21,8 @@ pub enum PinKind {
 }
 
 fn is_input(placed: Option<&PortNames<'_>>, pin: &Pin) -> bool
-    ensures { (model : Option Model) → ArePlacedNames model (option_copied placed.entry) → result ≡ is_input_pin model pin.now }
+    ensures { (model : Option Model) → ArePlacedNames model (option_copied placed.entry)
+        → result ≡ is_input_pin model pin.now }
 {
     match placed {
         None => false,
@@ -30,7 +31,8 @@ fn is_input(placed: Option<&PortNames<'_>>, pin: &Pin) -> bool
 }
 
 fn is_output(placed: Option<&PortNames<'_>>, pin: &Pin) -> bool
-    ensures { (model : Option Model) → ArePlacedNames model (option_copied placed.entry) → result ≡ is_output_pin model pin.now }
+    ensures { (model : Option Model) → ArePlacedNames model (option_copied placed.entry)
+        → result ≡ is_output_pin model pin.now }
 {
     match placed {
         None => false,
@@ -40,7 +42,8 @@ fn is_output(placed: Option<&PortNames<'_>>, pin: &Pin) -> bool
 
 // Whether a pin is of this kind, by the ports of the model that its line names.
 fn is_of_kind(kind: PinKind, placed: Option<&PortNames<'_>>, pin: &Pin) -> bool
-    ensures { (model : Option Model) → ArePlacedNames model (option_copied placed.entry) → result ≡ is_pin_of kind model pin.now }
+    ensures { (model : Option Model) → ArePlacedNames model (option_copied placed.entry)
+        → result ≡ is_pin_of kind model pin.now }
 {
     match kind {
         PinKind::Input => is_input(placed, pin),
@@ -93,7 +96,8 @@ pub fn actual_words<'a>(
     model: &'a Model,
     placed: &PlacedPorts<'_, 'a>,
 ) -> Result<Vec<Word<'a>>, AllocError>
-    ensures { IfOk result (λ words. (models : List Model) → KnowsPlaced placed.now models model.now → word_ports words.items ≡ actuals models (is_pin_of kind) model.now) }
+    ensures { IfOk result (λ words. (models : List Model) → KnowsPlaced placed.now models model.now
+        → word_ports words.items ≡ actuals models (is_pin_of kind) model.now) }
 {
     let mut words = Vec::new(alloc);
     push_actuals(&mut words, kind, model, placed)?;

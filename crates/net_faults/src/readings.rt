@@ -67,7 +67,8 @@ pub fn reading_words<'a>(
     model: &'a Model,
     placed: &PlacedPorts<'_, 'a>,
 ) -> Result<Vec<Word<'a>>, AllocError>
-    ensures { IfOk result (λ words. (models : List Model) → KnowsPlaced placed.now models model.now → word_ports words.items ≡ readings_of models model.now) }
+    ensures { IfOk result (λ words. (models : List Model) → KnowsPlaced placed.now models model.now
+        → word_ports words.items ≡ readings_of models model.now) }
 {
     let mut words = port_words(alloc, model.outs.as_slice())?;
     push_covers(&mut words, model.covers.as_slice())?;

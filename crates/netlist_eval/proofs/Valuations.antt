@@ -60,10 +60,6 @@ node_no_latch flat s n k a b e = let d : node n ≡ latch k = s.one_driver (latc
 class_within : (flat : Flat) → IsSound flat → (net : NetId) → IsNetId flat net → class_of flat net < length flat.nets
 class_within flat s net l = s.in_range.classes net.0 _ l
 
--- the pairs that are written
-no_pair : ℕ × Bool
-no_pair = (0, false)
-
 map_same : {X : Type 0} (f g : X → Bool) (xs : List X) (d : X) → ((k : ℕ) → k < length xs → f (get_or xs k d) ≡ g (get_or xs k d)) → map f xs ≡ map g xs
 map_same f g [] d e = refl
 map_same f g (x ∷ xs) d e = ap₂ (λ b bs. b ∷ bs) (e 0 (omega arith)) (map_same f g xs d (λ k l. e (suc k) (omega arith)))

@@ -1,12 +1,7 @@
 // Laws: the functions do nothing, their clauses are the theorems.
-ghost use Rattle.netlist_eval.specs.Eval.{OrderedHaveOneValuation, CyclesAreOne};
+ghost use Rattle.netlist_eval.specs.Eval.{OrderedHaveOneValuation};
 
 /// Along an order of its nodes a sound flat netlist has exactly one valuation for each inputs and state.
 pub fn ordered_have_one_valuation()
     ensures { OrderedHaveOneValuation }
-{}
-
-/// What a cycle gives is told by the inputs and the state.
-pub fn cycles_are_one()
-    ensures { CyclesAreOne }
 {}

@@ -8,5 +8,5 @@ mod laws;
 mod machine;
 mod settle;
 
-pub use laws::{cycles_are_one, ordered_have_one_valuation};
+pub use laws::ordered_have_one_valuation;
 pub use machine::{Machine, MachineError};

@@ -73,7 +73,8 @@ impl<'a> Numbers<'a> {
     /// The line that leads to a place, and the number of the place in whose model it stands.
     pub fn parent(&self, at: usize) -> Option<Parent>
         requires { at < length (places_in_order self.now) }
-        ensures { MatchOption result (place_at self.now at ≡ []) (λ up. (up.number < at) × (place_at self.now at ≡ place_at self.now up.number ++ up.line ∷ [])) }
+        ensures { MatchOption result (place_at self.now at ≡ []) (λ up. (up.number < at)
+            × (place_at self.now at ≡ place_at self.now up.number ++ up.line ∷ [])) }
     {
         self.placed.get(at).parent
     }
@@ -89,7 +90,8 @@ impl<'a> Numbers<'a> {
     // The names of the model at a place.
     fn model_names(&self, at: usize) -> &ModelNames<'a>
         requires { at < length (places_in_order self.now) }
-        ensures { (m : models.Model) → model_at self.now (place_at self.now at) ≡ Some m → result.now ≡ names_in_order m }
+        ensures { (m : models.Model) → model_at self.now (place_at self.now at) ≡ Some m
+            → result.now ≡ names_in_order m }
     {
         match self.names.get(self.placed.get(at).model) {
             None => unreachable!(),

@@ -50,7 +50,8 @@ fn control_classes(
     requires classes { All (λ class. class < length classes.now) classes.now }
     requires latches { All (λ latch. MatchOption latch.control ⊤ (λ id. id.0 < length classes.now)) latches.now }
     ensures many { IfOk result (λ marks. length marks.items ≡ length classes.now) }
-    ensures marked { IfOk result (λ marks. (class : ℕ) → (get_or marks.items class false ≡ true) ↔ HasControlClass classes.now latches.now class) }
+    ensures marked { IfOk result (λ marks. (class : ℕ) → (get_or marks.items class false ≡ true)
+        ↔ HasControlClass classes.now latches.now class) }
 {
     let mut marks = vec![in alloc; false; classes.len()]?;
     for latch in latches {

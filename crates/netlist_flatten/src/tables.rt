@@ -62,7 +62,8 @@ pub fn firsts_of(
     requires few { weight design.now < 2 ^ 32 }
     requires places { ArePlaces design.now placed.now }
     requires names { AreNames design.now placed.now names.now }
-    ensures { IfOk result (λ firsts. (k : ℕ) → k < length placed.now → slice_get firsts.items k ≡ Some (length (nets_before design.now k))) }
+    ensures { IfOk result (λ firsts. (k : ℕ) → k < length placed.now
+        → slice_get firsts.items k ≡ Some (length (nets_before design.now k))) }
 {
     let mut firsts = Vec::with_capacity(alloc, placed.len())?;
     let mut first: u32 = 0;

@@ -41,8 +41,10 @@ ModelFaultIsFirst = (models : List Model) (fault : Fault) → ((model_fault mode
 abbrev pub FaultlessOrFault : Type 0
 FaultlessOrFault = (models : List Model) → AreFaultless models ⊎ ((f : Fault) × HasModelFault models f)
 
+-- In models without a fault, the pins of a subckt line have distinct formals.
 abbrev pub FormalsAreDistinct : Type 0
 FormalsAreDistinct = (models : List Model) → AreFaultless models → (m : Model) (s : Subckt) → Contains models m → Contains m.subckts s → IsDistinct bytes_eq (map (λ (pin : Pin). pin.formal) s.pins)
 
+-- In models without a fault, none leads back to itself by subckt lines.
 abbrev pub NoModelIsInItself : Type 0
 NoModelIsInItself = (models : List Model) → AreFaultless models → (name : List ℕ) (names : List (List ℕ)) → ¬ (Leads models name names name)

@@ -12,7 +12,7 @@ use netlist_meaning::name_of_net;
 use std::alloc::{AllocError, Global};
 
 /// The names of nets.
-pub fn names_of(alloc: Global, flat: &Flat, nets: &[NetId]) -> Result<List<Name>, AllocError>
+pub fn net_names(alloc: Global, flat: &Flat, nets: &[NetId]) -> Result<List<Name>, AllocError>
     requires { All (IsNetId flat.now) nets.now }
     ensures { IfOk result (λ names. names ≡ map (name_of_net flat.now) nets.now) }
 {

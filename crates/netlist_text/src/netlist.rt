@@ -5,7 +5,7 @@ ghost use Rattle.netlist_text.specs.NetlistText.{IsNetlist};
 ghost use Rattle.netlist_text.specs.Parts.{AreParts};
 
 use crate::error::NetlistError;
-use crate::names::names_of;
+use crate::names::net_names;
 use blif_check::{check, check_clock};
 use blif_lex::lines;
 use blif_reader::read;
@@ -42,7 +42,7 @@ pub fn netlist_of(alloc: Global, text: &[u8]) -> Result<Netlist, NetlistError>
             order,
         }),
         Err(OrderError::Loop(nets)) => {
-            let names = names_of(alloc, &flat, nets.as_slice())?;
+            let names = net_names(alloc, &flat, nets.as_slice())?;
             Err(NetlistError::Loop(names))
         }
         Err(OrderError::NoMemory) => Err(NetlistError::NoMemory),

@@ -12,10 +12,6 @@ use Rattle.std.proofs.lemmas.List.Folds.{list_all_more}
 use Rattle.pattern_reading.specs.Numbers.{number_in, greatest_number}
 use Rattle.std.proofs.lemmas.Bool.{and_right}
 
-pub no_number : (ds : List ℕ) → list_all is_ascii_digit ds ≡ false → number_in ds ≡ None
-no_number [] e = refl
-no_number (b ∷ bs) e = rw e refl
-
 past_greatest : (v : ℕ) → 2 ^ 64 ≤ v → nat_le v greatest_number ≡ false
 past_greatest v h = grind (arith, nat_tests)
 

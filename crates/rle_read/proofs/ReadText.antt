@@ -68,13 +68,6 @@ header_reason text line n e at CellOutside h = absurd h
 header_reason text line n e at NoEnd h = absurd h
 header_reason text line n e at GridTooLarge h = absurd h
 
-pub header_refused : (text : List ℕ) (line : Line) (fault : RleFault) → header_line text ≡ Some line → fault.line ≡ line.number → IsHeaderFault line.bytes fault.kind → HasReadReason text (errors.Fault fault)
-header_refused text line fault e at h = header_reason text line fault.line e at fault.kind h
-
--- a text without a header line has no box
-pub no_line_refused : (text : List ℕ) (fault : RleFault) → header_line text ≡ None → HasRleFault text fault.kind fault.line → HasReadReason text (errors.Fault fault)
-no_line_refused text fault e h = (h, λ large. none-some _ (sym e ∙ large.2.0.first))
-
 -- what is drawn
 module _ (text : List ℕ) (parts : lent.Line × Bor (List ℕ)) (head : IsHeaderAt text parts) (width height : ℕ) (box : HasBox text width height) (start : Drawn) (blank : start ≡ blank_drawing width height) where
   abbrev lines : List Line

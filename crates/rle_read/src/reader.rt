@@ -46,8 +46,10 @@ fn split_header(text: &[u8]) -> Result<(Line<'_>, &[u8]), RleFault>
 
 // The header that a line says.
 fn read_header(line: Line<'_>) -> Result<Header<'_>, RleFault>
-    ensures header { IfOk result (λ header. (header_in line.entry.bytes.now ≡ Some (header_of header)) × (is_wireworld (header_of header).rule ≡ true)) }
-    ensures fault { IfErr result (λ fault. IsHeaderFault line.entry.bytes.now fault.kind × (fault.line ≡ line.entry.number)) }
+    ensures header { IfOk result (λ header. (header_in line.entry.bytes.now ≡ Some (header_of header))
+        × (is_wireworld (header_of header).rule ≡ true)) }
+    ensures fault { IfErr result (λ fault. IsHeaderFault line.entry.bytes.now fault.kind
+        × (fault.line ≡ line.entry.number)) }
 {
     let fault = |kind| RleFault {
         kind,

@@ -2,7 +2,7 @@
 use Rattle.std.proofs.Common.{◌≡◌, refl, sym, ◌∙◌, ap, ap₂, subst, ℕ, ◌+◌, ◌<◌, ◌≤◌, Bool, true, false, ⊎_elim, List, [], ◌∷◌, ◌++◌, length, get_or, set, count_by, cond, add_comm, arith}
 use Rattle.std.specs.Prelude.{All, Option, Some, None, take, slice_get, ◌==◌}
 use Rattle.std.specs.Option.{ForSome}
-use Rattle.std.proofs.lemmas.Bool.{cases_eq, cases_lt, ne_eqb}
+use Rattle.std.proofs.lemmas.Bool.{cases_eq, cases_lt}
 use Rattle.std.proofs.lemmas.List.{length-set, length-append, length_push, take-append-le, get_or-set_same, get_or-set_other, get_or_append_left, get_or_push}
 use Rattle.std.proofs.lemmas.Option.{none-some, slice_get_within, slice_get-get_or, get_or_from_slice_get}
 use Rattle.std.proofs.Math.Seq.{take-length}
@@ -112,12 +112,6 @@ freed tags tags' i n value within none here is p =
     ap (λ (t : Tag). cond {A = ℕ} (p t) 1 0) (here ∙ ap (λ k. cond (k == 0) (tag value Kept) free_tag) (sym none)) in
     let new : count_by p tags' ≡ count_by p (set tags i free_tag) = ap (count_by p) is in
     omega (arith, e, old, new)
-
-pub kept_all : (tags : List Tag) (n value : ℕ) → 0 < n → Exchanged tags tags (cond (n == 0) (tag value Kept) free_tag) free_tag
-kept_all tags n value some p =
-    let same : cond {A = ℕ} (p (cond (n == 0) (tag value Kept) free_tag)) 1 0 ≡ cond {A = ℕ} (p free_tag) 1 0 =
-    ap (λ b. cond {A = ℕ} (p (cond b (tag value Kept) free_tag)) 1 0) (ne_eqb n 0 (λ e. absurd (omega (arith, e, some)))) in
-    omega (arith, same)
 
 -- gates
 -- what stands on the two lanes, and what the gate makes of it

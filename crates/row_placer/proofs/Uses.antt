@@ -59,9 +59,6 @@ gone_high v n w r high = by (n == 1)
     by true = other_role w r v Kept (λ (e : 1 ≡ role_code r). absurd (omega (arith, e, high)))
     by false = other_role w r 0 Free (λ (e : 0 ≡ role_code r). absurd (omega (arith, e, high)))
 
-need_none : (v : ℕ) (us : List ℕ) → times v us ≡ 0 → need v us ≡ 0
-need_none v us e = ap (λ b. cond {A = ℕ} b 0 1) (eq_yes (times v us) 0 e)
-
 need_one : (v : ℕ) (us : List ℕ) → times v us ≢ 0 → need v us ≡ 1
 need_one v us ne = ap (λ b. cond {A = ℕ} b 0 1) (eq_no (times v us) 0 ne)
 

@@ -23,6 +23,7 @@ pub record HasApartPorts (model : Model) : Type 0 where
   pub clocks : IsDistinct bytes_eq (port_names model.clocks)
   pub outs : IsDistinct bytes_eq (port_names model.outs)
 
+-- No name stands twice in a list of ports of a model.
 abbrev pub FaultlessHaveDistinctPorts : Type 0
 FaultlessHaveDistinctPorts = (models : List Model) → AreFaultless models → (model : Model) → Contains models model → HasApartPorts model
 

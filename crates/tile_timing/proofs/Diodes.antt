@@ -1,8 +1,6 @@
 -- A diode in a wire lets an electron pass eastward, in three generations, and stops one that comes from the east.
-use Rattle.std.proofs.Common.{ℤ, pos, ℕ, ◌≡◌, ap, ◌∙◌, ◌||◌, [], ◌∷◌, lit<}
+use Rattle.std.proofs.Common.{pos, ℕ, ◌≡◌, ◌||◌, [], ◌∷◌, lit<}
 use Rattle.ww_rule.specs.Wireworld.{evolve}
-use Rattle.ww_rule.specs.Laws.{moved}
-use Rattle.ww_rule.proofs.Moves.{evolve_moved}
 use Rattle.tile_core.specs.Drawing.{Cell, is_cell_of, Drawing, picture}
 use Rattle.tile_timing.proofs.Heads.{cell}
 use Rattle.tile_timing.proofs.Sound.{evolve_picture}
@@ -26,10 +24,3 @@ passes_eastward = evolve_picture diode_wire 4 3 (at 4 1 ∷ []) (at 3 1 ∷ []) 
 -- an electron from the east dies: three heads meet column 4, and after four generations all is at rest
 pub stops_westward : evolve 4 (picture diode_wire (at 7 1 ∷ []) (at 8 1 ∷ [])) ≡ picture diode_wire [] []
 stops_westward = evolve_picture diode_wire 4 3 (at 7 1 ∷ []) (at 8 1 ∷ []) (lit< tt)
-
--- both hold wherever the wire lies
-pub passes_eastward_at : (a b : ℤ) → evolve 4 (moved a b (picture diode_wire (at 4 1 ∷ []) (at 3 1 ∷ []))) ≡ moved a b (picture diode_wire (at 8 1 ∷ []) (at 7 1 ∷ []))
-passes_eastward_at a b = evolve_moved a b 4 (picture diode_wire (at 4 1 ∷ []) (at 3 1 ∷ [])) ∙ ap (moved a b) passes_eastward
-
-pub stops_westward_at : (a b : ℤ) → evolve 4 (moved a b (picture diode_wire (at 7 1 ∷ []) (at 8 1 ∷ []))) ≡ moved a b (picture diode_wire [] [])
-stops_westward_at a b = evolve_moved a b 4 (picture diode_wire (at 7 1 ∷ []) (at 8 1 ∷ [])) ∙ ap (moved a b) stops_westward

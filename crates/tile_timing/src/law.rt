@@ -61,7 +61,8 @@ fn are_dark(cells: &[State], ports: &[(u32, u32)]) -> bool
 
 fn is_lit_as(cells: &[State], ports: &[(u32, u32)], bits: [bool; 2]) -> bool
     requires few { length ports.now ≤ 2 }
-    ensures { IsTrue result ↔ All (λ port. (shown cells.now 32 (pos port.0) (pos port.1) ≡ State.Head) ↔ (is_cell_of (pos port.0) (pos port.1) (chosen (map cell_at ports.now) bits) ≡ true)) ports.now }
+    ensures { IsTrue result ↔ All (λ port. (shown cells.now 32 (pos port.0) (pos port.1) ≡ State.Head)
+        ↔ (is_cell_of (pos port.0) (pos port.1) (chosen (map cell_at ports.now) bits) ≡ true)) ports.now }
 {
     ports.iter().all(|(x, y)| is_head_at(cells, *x, *y)
         == is_lit(ports, bits, *x as usize, *y as usize))

@@ -5,7 +5,7 @@ use Rattle.std.proofs.Math.IntN.{+ℤ-neg_ℤ_cancel}
 use Rattle.std.proofs.Math.Path.{fun_ext}
 use Rattle.ww_rule.specs.declared.pattern.State.{State}
 use Rattle.ww_rule.specs.declared.pattern.State.TheVariants.{Empty}
-use Rattle.ww_rule.specs.Wireworld.{Plane, next_plane, next_state, heads_around, count_head}
+use Rattle.ww_rule.specs.Wireworld.{Plane, next_plane, heads_around, count_head}
 use Rattle.ww_rule.specs.Grid.{framed, plane_of}
 use Rattle.ww_rule.proofs.Cells.{next_plane_same}
 use Rattle.ww_rule.proofs.Boxes.{plane_of_beside, plane_of_below}
@@ -52,12 +52,6 @@ heads_seen look x y =
     + (count_head (look_before look x (y + 2))
     + count_head (look_before look (x + 1) (y + 2))
     + count_head (look_before look (x + 2) (y + 2)))
-
--- the rule on the plane of a look-up is the rule on the look-up with an empty frame
-pub next_framed : (look : ℕ → ℕ → State) (x y : ℕ) → next_plane (framed look) (pos x) (pos y) ≡ next_state (look x y) (heads_seen look x y)
-next_framed look x y =
-    let at = λ (a b : ℕ). sym (ap count_head (framed_before look a b)) in
-    ap (next_state (look x y)) (sym (heads_around_before (framed look) x y _ _ _ _ _ _ _ _ (at x y) (at (x + 1) y) (at (x + 2) y) (at x (y + 1)) (at (x + 2) (y + 1)) (at x (y + 2)) (at (x + 1) (y + 2)) (at (x + 2) (y + 2))))
 
 -- the same row in two boxes of rows
 row_same : (rows rows' : List (List State)) (i j : ℕ) → get_or rows i [] ≡ get_or rows' j [] → (u : ℤ) → plane_of rows u (pos i) ≡ plane_of rows' u (pos j)

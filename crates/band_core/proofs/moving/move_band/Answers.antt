@@ -94,54 +94,6 @@ step-requires-clause-down_within c =
     let within = c.row_below.ensures.within in
     omega (arith, within, above, below)
 
-pub step-requires-clause-spare_heads : goal.step-requires-clause-spare_heads
-step-requires-clause-spare_heads c =
-    let b = c.args.b in
-    let bands = c.args.bands.now in
-    let d = c.index-own-0.result in
-    let are = c.requires.bands in
-    let words = length c.args.dark.now in
-    let height = c.args.height in
-    let rows = c.args.rows in
-    let y = b * height in
-    let m = min height (rows - y) in
-    let s = c.split_at_mut-before in
-    let t = c.split_at_mut-own in
-    let w = parted bands s.result.0.now s.result.1.now t.result.0.now t.result.1.now b s.ensures.value s.ensures.front_len t.ensures.value t.ensures.front_len in
-    let band = get_or t.result.0.now 0 d in
-    let was : band ≡ get_or bands b d = at_own bands s.result.0.now t.result.0.now t.result.1.now b w d in
-    let g = band.generation in
-    let is = subst (IsBand words y m) (sym was) (are.each b d c.requires.band) in
-    let high = is.high in
-    let first = first_of bands s.result.0.now t.result.0.now t.result.1.now b w c.row_above.ensures.first in
-    let later = later_of bands s.result.0.now t.result.0.now t.result.1.now b w c.row_above.result.0.now g c.row_above.ensures.later in
-    let above = above_long words height rows bands are b d c.requires.band c.args.dark.now refl g c.row_above.result.0.now first later in
-    c.requires.spare_heads ∙ sym above
-
-pub step-requires-clause-spare_wires : goal.step-requires-clause-spare_wires
-step-requires-clause-spare_wires c =
-    let b = c.args.b in
-    let bands = c.args.bands.now in
-    let d = c.index-own-0.result in
-    let are = c.requires.bands in
-    let words = length c.args.dark.now in
-    let height = c.args.height in
-    let rows = c.args.rows in
-    let y = b * height in
-    let m = min height (rows - y) in
-    let s = c.split_at_mut-before in
-    let t = c.split_at_mut-own in
-    let w = parted bands s.result.0.now s.result.1.now t.result.0.now t.result.1.now b s.ensures.value s.ensures.front_len t.ensures.value t.ensures.front_len in
-    let band = get_or t.result.0.now 0 d in
-    let was : band ≡ get_or bands b d = at_own bands s.result.0.now t.result.0.now t.result.1.now b w d in
-    let g = band.generation in
-    let is = subst (IsBand words y m) (sym was) (are.each b d c.requires.band) in
-    let high = is.high in
-    let first = first_of bands s.result.0.now t.result.0.now t.result.1.now b w c.row_above.ensures.first in
-    let later = later_of bands s.result.0.now t.result.0.now t.result.1.now b w c.row_above.result.0.now g c.row_above.ensures.later in
-    let above = above_long words height rows bands are b d c.requires.band c.args.dark.now refl g c.row_above.result.0.now first later in
-    c.requires.spare_wires ∙ sym above
-
 pub returns-clause-bands : goal.returns-clause-bands
 returns-clause-bands c =
     let b = c.args.b in

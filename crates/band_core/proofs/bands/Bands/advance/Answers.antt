@@ -22,10 +22,6 @@ invariant_of-self c =
     let are : AreBands (length s.dark.items) s.height rows new = subst (λ w. AreBands w s.height rows new) (ap length dark) (subst (λ r. AreBands (length c.deref-2.result.now) s.height r new) many e.bands) in
     let same : length new ≡ length s.bands.items = are.many ∙ sym v.bands.many in
     let bands_is = with_items_is s.bands new (omega (arith, same)) in
-    let lh = c.move_band.auto.spare_heads in
-    let vh = ap length c.deref_mut-2.ensures.value in
-    let lw = c.move_band.auto.spare_wires in
-    let vw = ap length c.deref_mut-3.ensures.value in
     let evo = evolution s.pattern.width s.pattern.height s.pattern.rows s.injections.items s.pattern.in_rows v.inside in
     let shows = e.shows plane due s.pattern.width (subst (IsEvolution plane due s.pattern.width) (sym many) evo) (subst (λ r. AllShow plane due s.height r c.deref_mut.result.now) (sym many) (subst (AllShow plane due s.height rows) (sym old) v.shows)) in
     record {
@@ -34,8 +30,6 @@ invariant_of-self c =
       height = v.height;
       few = v.few;
       dark = v.dark;
-      spare_heads = ap length (with_items_is s.spare_heads c.move_band.new.spare_heads (omega (arith, lh, vh))) ∙ lh ∙ vh ∙ v.spare_heads;
-      spare_wires = ap length (with_items_is s.spare_wires c.move_band.new.spare_wires (omega (arith, lw, vw))) ∙ lw ∙ vw ∙ v.spare_wires;
       bands = subst (AreBands (length s.dark.items) s.height rows) (sym bands_is) are;
       shows = subst (AllShow plane due s.height rows) (sym bands_is) (subst (λ r. AllShow plane due s.height r new) many shows);
     }

@@ -27,8 +27,6 @@ invariant_of-result c =
     let made = c.in_ok-bands.ensures in
     let bands = c.in_ok-bands.bands.items in
     let ld : length c.in_ok-dark.dark.items ≡ words = ap length (c.in_ok-dark.ensures.items_if_clones_equal (λ y q. q)) ∙ length-replicate words 0 in
-    let lh : length c.in_ok-spare_heads.spare_heads.items ≡ words = ap length (c.in_ok-spare_heads.ensures.items_if_clones_equal (λ y q. q)) ∙ length-replicate words 0 in
-    let lw : length c.in_ok-spare_wires.spare_wires.items ≡ words = ap length (c.in_ok-spare_wires.ensures.items_if_clones_equal (λ y q. q)) ∙ length-replicate words 0 in
     let few = c.words_for-words.ensures.few in
     let injections = c.deref.ensures.value in
     record {
@@ -37,8 +35,6 @@ invariant_of-result c =
       height = c.requires.height;
       few = omega (arith, ld, few);
       dark = λ j. ap (λ xs. get_or xs j 0) (c.in_ok-dark.ensures.items_if_clones_equal (λ y q. q)) ∙ zeros words j;
-      spare_heads = lh ∙ sym ld;
-      spare_wires = lw ∙ sym ld;
       bands = subst (λ w. AreBands w h (length p.rows) bands) (sym ld) made.bands;
       shows = subst (λ injections. AllShow (driven (due_of_list injections) (plane_of p.rows)) (due_of_list injections) h (length p.rows) bands) injections made.shows;
     }

@@ -74,8 +74,6 @@ invariant_of-self c =
       height = v.height;
       few = v.few;
       dark = v.dark;
-      spare_heads = v.spare_heads;
-      spare_wires = v.spare_wires;
       bands = subst (AreBands words h rows) (sym bands_is) are;
       shows = subst (AllShow plane due h rows) (sym bands_is) shows;
     }

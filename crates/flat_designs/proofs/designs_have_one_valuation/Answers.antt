@@ -1,5 +1,0 @@
-use Rattle.flat_designs.proofs.Whole.{designs_have_one_valuation}
-use Rattle.flat_designs.proofs.designs_have_one_valuation.Goals as goal
-
-pub returns : goal.returns
-returns c = designs_have_one_valuation
