@@ -1,4 +1,5 @@
-//! What it means that a text carries a design, or a flat netlist, also in several contexts: the pattern that it spells shows its runs.
+//! What it means that a text carries a design, or a flat netlist, also in several contexts: the pattern that it spells
+//! shows its runs.
 //!
 //! The functions here do nothing: their clauses are laws of the definition.
 //!
@@ -29,16 +30,16 @@ pub fn carries_onward()
     ensures each_front { CarriesEachFront }
 {}
 
-/// Driven by rows of input bits in several contexts, a pattern that carries a design in them has the cell of an output as a head
-/// at generation L + 32 c + t P, for each cycle t of context c, exactly when the output's bit is 1 in that cycle of a run on the
-/// rows of c, and never below L; and the cell of a net so at generation offset + 32 c + t P.
+/// Driven by rows of input bits in several contexts, a pattern that carries a design in them has the cell of an output as
+/// a head at generation L + 32 c + t P, for each cycle t of context c, exactly when the output's bit is 1 in that cycle of
+/// a run on the rows of c, and never below L; and the cell of a net so at generation offset + 32 c + t P.
 pub fn carries_each_context()
     ensures outputs { CarriesEachContext }
     ensures nets { CarriesNetsOfEachContext }
 {}
 
-/// At these generations such a pattern shows the same under two drives that agree on context c, whatever the rows of the other
-/// contexts are.
+/// At these generations such a pattern shows the same under two drives that agree on context c, whatever the rows of the
+/// other contexts are.
 pub fn contexts_are_isolated()
     ensures outputs { OutputsAreIsolated }
     ensures nets { NetsAreIsolated }

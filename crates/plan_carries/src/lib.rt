@@ -1,5 +1,5 @@
-//! The text of a plan that computes the cells of a flat netlist carries it, and so the design that it is the flat netlist of; with the
-//! starts of several contexts on its loops it carries them in each of these.
+//! The text of a plan that computes the cells of a flat netlist carries it, and so the design that it is the flat netlist
+//! of; with the starts of several contexts on its loops it carries them in each of these.
 //!
 //! The functions here do nothing: their clauses are the laws.
 //!
@@ -19,7 +19,8 @@ pub fn plans_have_ports()
     ensures { PlansHavePorts }
 {}
 
-/// The plane of the plan, with edges lit that start the loops of several contexts, shows the runs of the flat netlist in each.
+/// The plane of the plan, with edges lit that start the loops of several contexts, shows the runs of the flat netlist in
+/// each.
 pub fn planes_show_contexts()
     ensures { PlanesShowContexts }
 {}
@@ -40,7 +41,8 @@ pub fn texts_carry_contexts()
     planes_show_contexts();
 }
 
-/// A text that carries the flat netlist of a design without a fault in contexts carries the design and its nets in them.
+/// A text that carries the flat netlist of a design without a fault in contexts carries the design and its nets in
+/// them.
 pub fn designs_are_carried_in_contexts()
     ensures { DesignsAreCarriedInContexts }
 {}

@@ -4,15 +4,15 @@ ghost use Rattle.plan_waves.specs.ShownContexts.{PlansShowContexts, ContextsAreI
 ghost use Rattle.plan_waves.specs.ContextRows.{ContextRowsAreInjected, PlansShowContextRows};
 ghost use Rattle.plan_waves.specs.OneContext.{OneContextStarts, OneContextIsDriven};
 
-/// Where an admissible plan is driven from edges on that start contexts, by heads 32 generations later in each context than in
-/// the one before, the entries of each column, and the outputs, have the bits of each cycle of each context once, and are dark
-/// at all other macro times.
+/// Where an admissible plan is driven from edges on that start contexts, by heads 32 generations later in each context than
+/// in the one before, the entries of each column, and the outputs, have the bits of each cycle of each context once, and
+/// are dark at all other macro times.
 pub fn plans_run_by_contexts()
     ensures { PlansRunByContexts }
 {}
 
-/// Drawn with any library that keeps the timing law, it shows at its outputs and nets, context by context and cycle by cycle,
-/// the bits on their lanes, and no head at any other generation; and each injection meets a conductor.
+/// Drawn with any library that keeps the timing law, it shows at its outputs and nets, context by context and cycle by
+/// cycle, the bits on their lanes, and no head at any other generation; and each injection meets a conductor.
 pub fn plans_show_contexts()
     ensures { PlansShowContexts }
 {}
