@@ -4,7 +4,7 @@ use Rattle.lane_core.specs.declared.plan.Plan.{Plan}
 use Rattle.lane_core.specs.Plans.{IsAdmissible}
 use Rattle.grid_assembly.specs.PlanDrawing.{start_grid}
 use Rattle.pattern_reading.specs.declared.ports.Ports.{Ports}
-use Rattle.written_reads.specs.Laws.{pattern_text}
+use Rattle.pattern_writing.specs.WrittenText.{pattern_text}
 use Rattle.cell_meaning.specs.Needs.{any_needs_one}
 use Rattle.netlist_core.specs.declared.model.Design.{Design}
 use Rattle.netlist_core.specs.declared.flat.Flat.{Flat}
@@ -35,7 +35,7 @@ compile_refused text netlist_of.NoMemory h = tt
 
 -- and what it gives
 pub compiles : FlatIsOne → DesignsAreCarried → (text : List ℕ) (design : Design) (flat : Flat) (order : List ℕ) (plan : Plan) (ports : Ports) → IsNetlist text design → AreParts design flat order
-    → IsAdmissible plan → IsTableOf flat plan ports → ComputesCells flat plan → HasLanes flat plan → HasNetPlaces flat plan → CarriesFlat (pattern_text (start_grid plan) ports) flat → IsSmall flat plan → (length flat.latches ≡ 0 → any_needs_one flat ≡ false → ports.p ≡ 32)
+    → IsAdmissible plan → IsTableOf flat plan 1 ports → ComputesCells flat plan → HasLanes flat plan → HasNetPlaces flat plan → CarriesFlat (pattern_text (start_grid plan) ports) flat → IsSmall flat plan → (length flat.latches ≡ 0 → any_needs_one flat ≡ false → ports.p ≡ 32)
     → Compiles text (pattern_text (start_grid plan) ports)
 compiles one law text design flat order plan ports is p admissible table cells size places carries few period =
     let nets : CarriesNets (pattern_text (start_grid plan) ports) design = law (pattern_text (start_grid plan) ports) design flat p.faultless p.clocks p.is_flat carries in
@@ -50,7 +50,7 @@ compiles one law text design flat order plan ports is p admissible table cells s
       nets = nets;
       lanes = subst (λ (w : ℕ). plan.lanes ≤ 4 * w + 4) p.is_flat.weight few.lanes;
       columns = subst (λ (w : ℕ). length plan.columns ≤ 256 * ((w + 1) * (w + 1))) p.is_flat.weight few.columns;
-      table = λ other h. subst (λ (f : Flat). IsTableOf f plan ports) (one design flat other p.is_flat h) table;
+      table = λ other h. subst (λ (f : Flat). IsTableOf f plan 1 ports) (one design flat other p.is_flat h) table;
       cells = λ other h. subst (λ (f : Flat). ComputesCells f plan) (one design flat other p.is_flat h) cells;
       size = λ other h. subst (λ (f : Flat). HasLanes f plan) (one design flat other p.is_flat h) size;
       places = λ other h. subst (λ (f : Flat). HasNetPlaces f plan) (one design flat other p.is_flat h) places;

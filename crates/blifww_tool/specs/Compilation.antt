@@ -4,7 +4,7 @@ use Rattle.lane_core.specs.declared.plan.Plan.{Plan}
 use Rattle.lane_core.specs.Plans.{IsAdmissible}
 use Rattle.grid_assembly.specs.PlanDrawing.{start_grid}
 use Rattle.pattern_reading.specs.declared.ports.Ports.{Ports}
-use Rattle.written_reads.specs.Laws.{pattern_text}
+use Rattle.pattern_writing.specs.WrittenText.{pattern_text}
 use Rattle.carries.specs.Carries.{Carries}
 use Rattle.carries.specs.Nets.{CarriesNets}
 use Rattle.cell_meaning.specs.Needs.{any_needs_one}
@@ -34,7 +34,7 @@ pub record Compiles (text output : List ℕ) : Type 0 where
   pub nets : CarriesNets output design
   pub lanes : plan.lanes ≤ 4 * weight design + 4
   pub columns : length plan.columns ≤ 256 * ((weight design + 1) * (weight design + 1))
-  pub table : (flat : Flat) → IsFlatOf design flat → IsTableOf flat plan ports
+  pub table : (flat : Flat) → IsFlatOf design flat → IsTableOf flat plan 1 ports
   pub cells : (flat : Flat) → IsFlatOf design flat → ComputesCells flat plan
   pub size : (flat : Flat) → IsFlatOf design flat → HasLanes flat plan
   pub places : (flat : Flat) → IsFlatOf design flat → HasNetPlaces flat plan

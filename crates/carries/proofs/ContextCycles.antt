@@ -22,16 +22,16 @@ use Rattle.netlist_meaning.proofs.Joined.{in_names_are_one}
 use Rattle.carries.specs.Contexts.{AreRunsFrom, context_drive, ShowsBitsInContexts, ShowsOutputsInContexts, ShowsNetLinesInContexts}
 use Rattle.carries.specs.DesignContexts.{AreInputContexts, ShowsContexts, CarriesContexts, CarriesNetsInContexts}
 use Rattle.carries.specs.ContextLaws.{CarriesEachContext, CarriesNetsOfEachContext, OutputsAreIsolated, NetsAreIsolated}
-use Rattle.carries.proofs.Period.{has_period}
+use Rattle.carries.proofs.Period.{contexts_have_room, has_period}
 
 -- each context begins within the period
-pub begins_within : (text : List ℕ) (width height : ℕ) (ports : Ports) → ReadsAsPorts text width height ports → (count : ℕ) → (1 < count → 32 * count ≤ ports.p) → (c : ℕ) → c < count → 32 * c < ports.p
-begins_within text width height ports table count apart c low =
+pub begins_within : (text : List ℕ) (width height : ℕ) (ports : Ports) → ReadsAsPorts text width height ports → (c : ℕ) → c < ports.c → 32 * c < ports.p
+begins_within text width height ports table c low =
     let some : ports.p ≢ 0 = has_period text width height ports table in
     ⊎_elim
-    (λ several. omega (arith, low, apart several))
+    (λ several. omega (arith, low, contexts_have_room text width height ports table several))
     (λ one. omega (arith, low, one, some))
-    (cases_lt 1 count)
+    (cases_lt 1 ports.c)
 
 in_time : (first period c t cycles : ℕ) → 32 * c < period → t < cycles → first + 32 * c + t * period < first + cycles * period
 in_time first period c t cycles low lt =
@@ -97,7 +97,7 @@ module _ (design : Design) (starts : List LatchState) (plane : Plane) (ports : P
 rows_within : (text : List ℕ) (design : Design) (starts : List LatchState) (k : CarriesContexts text design starts) (cycles : ℕ) (contexts : List (List (List Bool)))
     → AreInputContexts design (length starts) cycles contexts → (n : ℕ) → n < length contexts → 32 * n < k.ports.p
 rows_within text design starts k cycles contexts are n low =
-    begins_within text k.grid.width k.grid.height k.ports k.spells.table (length starts) k.apart n (omega (arith, low, are.many))
+    begins_within text k.grid.width k.grid.height k.ports k.spells.table n (omega (arith, low, are.many, k.contexts))
 
 pub carries_each_context : CarriesEachContext
 carries_each_context text design starts k cycles contexts are c start is_start run is = record { bits = bits; dark = dark }

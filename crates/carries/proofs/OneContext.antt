@@ -160,8 +160,8 @@ module _ (plane : Plane) (ports : Ports) (flat : Flat) where
 
 pub one_context_carries : OneContextCarries
 one_context_carries text design = (
-  λ k. record { grid = k.grid; ports = k.ports; spells = k.spells; names = k.names; apart = λ several. absurd (omega (arith, several)); shows = to_contexts (plane_of k.grid.rows) k.ports design k.shows },
-  λ k. record { grid = k.grid; ports = k.ports; spells = k.spells; names = k.names; shows = from_contexts (plane_of k.grid.rows) k.ports design k.shows },
+  λ k. record { grid = k.grid; ports = k.ports; spells = k.spells; contexts = k.contexts; names = k.names; shows = to_contexts (plane_of k.grid.rows) k.ports design k.shows },
+  λ k. record { grid = k.grid; ports = k.ports; spells = k.spells; contexts = k.contexts; names = k.names; shows = from_contexts (plane_of k.grid.rows) k.ports design k.shows },
 )
 
 pub one_context_carries_nets : OneContextCarriesNets
@@ -173,6 +173,6 @@ one_context_carries_nets text design = (
 
 pub one_context_carries_flat : OneContextCarriesFlat
 one_context_carries_flat text flat = (
-  λ k. record { grid = k.grid; ports = k.ports; spells = k.spells; names = k.names; apart = λ several. absurd (omega (arith, several)); shows = flat_to_contexts (plane_of k.grid.rows) k.ports flat k.shows },
-  λ k. record { grid = k.grid; ports = k.ports; spells = k.spells; names = k.names; shows = flat_from_contexts (plane_of k.grid.rows) k.ports flat k.shows },
+  λ k. record { grid = k.grid; ports = k.ports; spells = k.spells; contexts = k.contexts; names = k.names; shows = flat_to_contexts (plane_of k.grid.rows) k.ports flat k.shows },
+  λ k. record { grid = k.grid; ports = k.ports; spells = k.spells; contexts = k.contexts; names = k.names; shows = flat_from_contexts (plane_of k.grid.rows) k.ports flat k.shows },
 )

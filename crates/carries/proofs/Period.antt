@@ -1,7 +1,8 @@
--- The period of a table that reads is not 0.
-use Rattle.std.proofs.Common.{ℕ, ◌≡◌, ◌≢◌, refl, sym, ap, ◌∙◌, Bool, true, false, List, [], ◌∷◌, arith}
-use Rattle.std.specs.Prelude.{◌==◌, if◌then◌else◌, Option, Some, None, filter_map, codes, ◌&&◌}
-use Rattle.std.proofs.lemmas.Bool.{eq-eqb, true≢false}
+-- The period of a table that reads is not 0, and has room for its contexts.
+use Rattle.std.proofs.Common.{ℕ, ◌≡◌, ◌≢◌, ◌<◌, ◌≤◌, ◌*◌, refl, sym, ap, ap₂, ◌∙◌, Bool, true, false, List, [], ◌∷◌, arith}
+use Rattle.std.specs.Prelude.{◌==◌, if◌then◌else◌, Option, Some, None, filter_map, codes, ◌&&◌, ◌||◌, not}
+use Rattle.std.proofs.lemmas.Bool.{eq-eqb, not-false, true≢false}
+use Rattle.std.proofs.lemmas.Bool.Decides.{nat_tests}
 use Rattle.std.specs.List.{AllByRecursion, cons_option, slice_split}
 use Rattle.std.specs.Str.{bytes_eq, byte}
 use Rattle.pattern_reading.specs.declared.ports.NetLine.{NetLine}
@@ -10,11 +11,11 @@ use Rattle.pattern_reading.specs.declared.ports.Ports.{Ports}
 use Rattle.pattern_reading.specs.Lines.{Line}
 use Rattle.pattern_reading.specs.Header.{lines_before_header}
 use Rattle.pattern_reading.specs.Numbers.{◌>>=◌, number_in}
-use Rattle.pattern_reading.specs.PortLines.{PortForm, Version, In, Out, Net, TableLine, form_of_fields, net_in, port_in, table_entry, table_line}
-use Rattle.pattern_reading.specs.PortTable.{ReadsAsPorts, forms_of, period_in}
+use Rattle.pattern_reading.specs.PortLines.{PortForm, Version, In, Out, Net, TableLine, count_in, form_of_fields, has_room, net_in, port_in, table_entry, table_line}
+use Rattle.pattern_reading.specs.PortTable.{ReadsAsPorts, contexts_in, forms_of, period_in}
 
 abbrev HasPeriod : PortForm → Type 0
-HasPeriod (Version p l) = p ≢ 0
+HasPeriod (Version p l c) = (p ≢ 0) × (has_room p c ≡ true)
 HasPeriod (In port) = Unit {0}
 HasPeriod (Out port) = Unit {0}
 HasPeriod (Net net) = Unit {0}
@@ -35,15 +36,17 @@ by_net true None = tt
 by_net true (Some net) = tt
 by_net false o = tt
 
-by_zero : (p l : ℕ) (b : Bool) → (p == 0) ≡ b → MayHavePeriod (if b then None else Some (Version p l))
-by_zero p l true e = tt
-by_zero p l false e = λ is_zero. true≢false (sym (eq-eqb p 0 is_zero) ∙ e)
+by_zero : (p l c : ℕ) (zero crowded : Bool) → (p == 0) ≡ zero → not (has_room p c) ≡ crowded → MayHavePeriod (if zero || crowded then None else Some (Version p l c))
+by_zero p l c true crowded e room = tt
+by_zero p l c false true e room = tt
+by_zero p l c false false e room = ((λ is_zero. true≢false (sym (eq-eqb p 0 is_zero) ∙ e)), not-false (has_room p c) room)
 
-by_version : (is_version : Bool) (p l : Option ℕ) → MayHavePeriod (if is_version then (p >>= λ period. l >>= λ latency. if period == 0 then None else Some (Version period latency)) else None)
-by_version true None l = tt
-by_version true (Some p) None = tt
-by_version true (Some p) (Some l) = by_zero p l (p == 0) refl
-by_version false p l = tt
+by_version : (is_version : Bool) (p l c : Option ℕ) → MayHavePeriod (if is_version then (p >>= λ period. l >>= λ latency. c >>= λ count. if period == 0 || not (has_room period count) then None else Some (Version period latency count)) else None)
+by_version true None l c = tt
+by_version true (Some p) None c = tt
+by_version true (Some p) (Some l) None = tt
+by_version true (Some p) (Some l) (Some c) = by_zero p l c (p == 0) (not (has_room p c)) refl refl
+by_version false p l c = tt
 
 form_period : (fields : List (List ℕ)) → MayHavePeriod (form_of_fields fields)
 form_period [] = tt
@@ -53,10 +56,12 @@ form_period (a ∷ b ∷ c ∷ []) = tt
 form_period (kind ∷ x ∷ y ∷ name ∷ []) =
     by_port (bytes_eq kind (codes "IN")) (bytes_eq kind (codes "OUT")) (port_in x y name)
 form_period (version ∷ p_word ∷ p ∷ l_word ∷ l ∷ []) =
-    by_version (bytes_eq version (codes "1") && bytes_eq p_word (codes "P") && bytes_eq l_word (codes "L")) (number_in p) (number_in l)
+    by_version (bytes_eq version (codes "1") && bytes_eq p_word (codes "P") && bytes_eq l_word (codes "L")) (number_in p) (number_in l) (Some 1)
 form_period (kind ∷ x ∷ y ∷ offset ∷ name ∷ path ∷ []) =
     by_net (bytes_eq kind (codes "NET")) (net_in x y offset name path)
-form_period (a ∷ b ∷ c ∷ d ∷ e ∷ f ∷ g ∷ fields) = tt
+form_period (version ∷ p_word ∷ p ∷ l_word ∷ l ∷ c_word ∷ c ∷ []) =
+    by_version (bytes_eq version (codes "1") && bytes_eq p_word (codes "P") && bytes_eq l_word (codes "L")) (number_in p) (number_in l) (count_in c_word c)
+form_period (a ∷ b ∷ c ∷ d ∷ e ∷ f ∷ g ∷ i ∷ fields) = tt
 
 with_form : (o : Option PortForm) (forms : List PortForm) → MayHavePeriod o → AllByRecursion HasPeriod forms → AllByRecursion HasPeriod (cons_option o forms)
 with_form None forms h k = k
@@ -75,7 +80,7 @@ lines_period (line ∷ lines) = by_entry (table_entry line) (lines_period lines)
 
 period_of_forms : (forms : List PortForm) → AllByRecursion HasPeriod forms → period_in forms ≢ 0
 period_of_forms [] h = λ e. omega (arith, e)
-period_of_forms (Version p l ∷ forms) h = h.0
+period_of_forms (Version p l c ∷ forms) h = h.0.0
 period_of_forms (In port ∷ forms) h = period_of_forms forms h.1
 period_of_forms (Out port ∷ forms) h = period_of_forms forms h.1
 period_of_forms (Net net ∷ forms) h = period_of_forms forms h.1
@@ -83,3 +88,19 @@ period_of_forms (Net net ∷ forms) h = period_of_forms forms h.1
 pub has_period : (text : List ℕ) (width height : ℕ) (ports : Ports) → ReadsAsPorts text width height ports → ports.p ≢ 0
 has_period text width height ports table e =
     period_of_forms (forms_of text) (lines_period (lines_before_header text)) (sym (ap (λ ports. ports.p) table.ports_is) ∙ e)
+
+room_of_forms : (forms : List PortForm) → AllByRecursion HasPeriod forms → has_room (period_in forms) (contexts_in forms) ≡ true
+room_of_forms [] h = refl
+room_of_forms (Version p l c ∷ forms) h = h.0.1
+room_of_forms (In port ∷ forms) h = room_of_forms forms h.1
+room_of_forms (Out port ∷ forms) h = room_of_forms forms h.1
+room_of_forms (Net net ∷ forms) h = room_of_forms forms h.1
+
+room : (period contexts : ℕ) → has_room period contexts ≡ true → 1 < contexts → 32 * contexts ≤ period
+room period contexts e more = grind (arith, nat_tests, e, more)
+
+pub contexts_have_room : (text : List ℕ) (width height : ℕ) (ports : Ports) → ReadsAsPorts text width height ports → 1 < ports.c → 32 * ports.c ≤ ports.p
+contexts_have_room text width height ports table more =
+    room ports.p ports.c
+    (ap₂ has_room (ap (λ ports. ports.p) table.ports_is) (ap (λ ports. ports.c) table.ports_is) ∙ room_of_forms (forms_of text) (lines_period (lines_before_header text)))
+    more

@@ -25,11 +25,12 @@ pub record ShowsRuns (plane : Plane) (ports : Ports) (design : Design) : Type 0 
   pub heads : (rows : List (List Bool)) → AreInputRows design rows → (run : ℕ → Valuation) → IsRun design rows run
       → ShowsOutputs plane ports rows (λ t. output_bit design (run t))
 
--- A text carries a design: it spells a pattern and a port table, the table's names are the design's, and the pattern shows
--- the design's runs
+-- A text carries a design: it spells a pattern and a port table of one context, the table's names are the design's, and the
+-- pattern shows the design's runs
 pub record Carries (text : List ℕ) (design : Design) : Type 0 where
   pub grid : Grid
   pub ports : Ports
   pub spells : Spells text grid ports
+  pub contexts : ports.c ≡ 1
   pub names : NamesPorts ports design
   pub shows : ShowsRuns (plane_of grid.rows) ports design

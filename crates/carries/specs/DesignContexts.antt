@@ -1,6 +1,6 @@
 -- What it means that a text carries a design, and its nets, in several contexts: the pattern that it spells, driven at its input cells,
 -- shows a run of the design for each context, those of each 32 generations after those of the one before.
-use Rattle.std.specs.Prelude.{ℕ, ◌*◌, ◌<◌, ◌≤◌, List, length, Bool}
+use Rattle.std.specs.Prelude.{ℕ, ◌≡◌, List, length, Bool}
 use Rattle.ww_rule.specs.Wireworld.{Plane}
 use Rattle.ww_rule.specs.Grid.{Grid, plane_of}
 use Rattle.ww_rule.specs.Injections.{MeetsConductors}
@@ -31,14 +31,14 @@ ShowsNetsInContexts plane ports design starts nets =
     (cycles : ℕ) (contexts : List (List (List Bool))) → AreInputContexts design (length starts) cycles contexts → (runs : ℕ → ℕ → Valuation) → AreRunsFrom (IsRunFrom design) starts contexts runs
     → ShowsNetLinesInContexts plane ports cycles contexts nets (λ c t net. runs c t net.place net.name)
 
--- A text carries a design in contexts with these starts, each a state of the design's latches: it spells a pattern and a port table, the
--- table's names are the design's, the contexts begin within a period, and the pattern shows the design's runs
+-- A text carries a design in contexts with these starts, each a state of the design's latches: it spells a pattern and a port table of
+-- so many contexts, the table's names are the design's, and the pattern shows the design's runs
 pub record CarriesContexts (text : List ℕ) (design : Design) (starts : List LatchState) : Type 0 where
   pub grid : Grid
   pub ports : Ports
   pub spells : Spells text grid ports
+  pub contexts : ports.c ≡ length starts
   pub names : NamesPorts ports design
-  pub apart : 1 < length starts → 32 * length starts ≤ ports.p
   pub shows : ShowsContexts (plane_of grid.rows) ports design starts
 
 -- A text carries the nets of a design in contexts: it carries the design in them, and in the same table each net but the clock nets has

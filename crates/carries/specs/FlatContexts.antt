@@ -1,6 +1,6 @@
 -- What it means that a text carries a flat netlist in several contexts: the pattern that it spells, driven at its input cells, shows a
 -- run of the flat netlist for each context, those of each 32 generations after those of the one before.
-use Rattle.std.specs.Prelude.{ℕ, ◌*◌, ◌<◌, ◌≤◌, List, length, Bool}
+use Rattle.std.specs.Prelude.{ℕ, ◌≡◌, List, length, Bool}
 use Rattle.ww_rule.specs.Wireworld.{Plane}
 use Rattle.ww_rule.specs.Grid.{Grid, plane_of}
 use Rattle.ww_rule.specs.Injections.{MeetsConductors}
@@ -27,12 +27,12 @@ pub record ShowsFlatContexts (plane : Plane) (ports : Ports) (flat : Flat) (star
   pub nets : (cycles : ℕ) (contexts : List (List (List Bool))) → AreFlatContexts flat (length starts) cycles contexts → (runs : ℕ → ℕ → ℕ → Bool) → AreRunsFrom (IsFlatRun flat) starts contexts runs
       → ShowsNetLinesInContexts plane ports cycles contexts (nets_but_clocks flat) (λ c t net. runs c t net.class)
 
--- A text carries a flat netlist in contexts with these starts: it spells a pattern and a port table, the table's names are the netlist's,
--- the contexts begin within a period, and the pattern shows the netlist's runs
+-- A text carries a flat netlist in contexts with these starts: it spells a pattern and a port table of so many contexts, the table's
+-- names are the netlist's, and the pattern shows the netlist's runs
 pub record CarriesFlatContexts (text : List ℕ) (flat : Flat) (starts : List (List Bool)) : Type 0 where
   pub grid : Grid
   pub ports : Ports
   pub spells : Spells text grid ports
+  pub contexts : ports.c ≡ length starts
   pub names : NamesFlat ports flat
-  pub apart : 1 < length starts → 32 * length starts ≤ ports.p
   pub shows : ShowsFlatContexts (plane_of grid.rows) ports flat starts

@@ -28,11 +28,12 @@ pub record ShowsFlatRuns (plane : Plane) (ports : Ports) (flat : Flat) : Type 0 
   pub nets : (rows : List (List Bool)) → AreFlatRows flat rows → (run : ℕ → ℕ → Bool) → IsFlatRun flat (start_bits flat) rows run
       → ShowsNetLines plane ports rows (nets_but_clocks flat) (λ t net. run t net.class)
 
--- A text carries a flat netlist: it spells a pattern and a port table, the table's names are the netlist's, and the pattern shows
--- the netlist's runs
+-- A text carries a flat netlist: it spells a pattern and a port table of one context, the table's names are the netlist's, and the
+-- pattern shows the netlist's runs
 pub record CarriesFlat (text : List ℕ) (flat : Flat) : Type 0 where
   pub grid : Grid
   pub ports : Ports
   pub spells : Spells text grid ports
+  pub contexts : ports.c ≡ 1
   pub names : NamesFlat ports flat
   pub shows : ShowsFlatRuns (plane_of grid.rows) ports flat

@@ -10,12 +10,12 @@ use Rattle.pattern_reading.specs.declared.ports.PortLine.{PortLine}
 use Rattle.pattern_reading.specs.declared.ports.Ports.{Ports}
 use Rattle.pattern_reading.specs.Ports.{cells_of}
 use Rattle.pattern_reading.specs.Laws.{IsPortInside}
-use Rattle.written_reads.specs.Laws.{HasWrittenText}
+use Rattle.pattern_writing.specs.WrittenText.{HasWrittenText}
 use Rattle.flat_designs.specs.Laws.{FlatIsInRange, FlatIsNamed}
 use Rattle.netlist_meaning.specs.Weight.{weight}
 use Rattle.netlist_plans.specs.Names.{TextsHavePortNames}
 use Rattle.plan_ports.specs.Laws.{TablesAreReadable}
-use Rattle.plan_ports.proofs.Readable.{small_size}
+use Rattle.plan_ports.proofs.Readable.{one_has_room, small_size}
 use Rattle.plan_carries.proofs.SeenNets.{places_fit}
 use Rattle.made_summary.specs.Laws.{WrittenPlansRead}
 
@@ -28,6 +28,6 @@ written_plans_read in_range named names patterns written readable text design fl
     let faultless = of_text.faultless in
     let size = small_size plan admissible in
     let range = in_range design flat faultless is_flat (let w : weight design < 2 ^ 31 = light in omega (arith, w)) in
-    let sound = readable flat plan ports range (named design flat faultless is_flat) (names text design flat of_text is_flat) (places_fit design flat faultless light is_flat) admissible table in
+    let sound = readable flat plan 1 ports range (named design flat faultless is_flat) (names text design flat of_text is_flat) (places_fit design flat faultless light is_flat) admissible (one_has_room plan) table in
     let reads = written (start_grid plan) ports (record { in_rows = (patterns plan admissible).box; width = omega (arith, size.0); height = omega (arith, size.1) }) sound.sound sound.inside sound.no_returns in
     record { spells = record { reads = reads.0; table = reads.1 }; inside = lines_in_box (size_of plan).0 (size_of plan).1 ports.ins sound.inside.ins }

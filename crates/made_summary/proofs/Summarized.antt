@@ -11,7 +11,7 @@ use Rattle.grid_assembly.specs.PlanDrawing.{start_grid}
 use Rattle.pattern_reading.specs.declared.ports.PortLine.{PortLine}
 use Rattle.pattern_reading.specs.declared.ports.Ports.{Ports}
 use Rattle.pattern_reading.specs.Ports.{names_of}
-use Rattle.written_reads.specs.Laws.{pattern_text}
+use Rattle.pattern_writing.specs.WrittenText.{pattern_text}
 use Rattle.netlist_core.specs.declared.model.Design.{Design}
 use Rattle.netlist_core.specs.declared.flat.FlatPort.{FlatPort}
 use Rattle.netlist_core.specs.Names.{Name}
@@ -51,7 +51,7 @@ use Rattle.made_summary.proofs.Drawn.{streams_long, streams_many}
 
 pub is_planned : DesignsAreCarried → MadeAreNetlists → MadeHaveSizes → TextsAreDecided → WrittenPlansRead → (seed size : ℕ) → 0 < size → size ≤ 128
     → (netlist : Netlist) (planned : Planned) → IsNetlist (made_text seed size) netlist.design → AreParts netlist.design netlist.flat netlist.order.nodes
-    → IsAdmissible planned.plan → IsTableOf netlist.flat planned.plan planned.ports → CarriesFlat (pattern_text (start_grid planned.plan) planned.ports) netlist.flat → IsSmall netlist.flat planned.plan
+    → IsAdmissible planned.plan → IsTableOf netlist.flat planned.plan 1 planned.ports → CarriesFlat (pattern_text (start_grid planned.plan) planned.ports) netlist.flat → IsSmall netlist.flat planned.plan
     → IsMadeWithPlan seed size netlist planned
 is_planned law netlists sizes decided read seed size some few netlist planned is p admissible table carries slight =
     let design = netlist.design in

@@ -6,7 +6,7 @@ use Rattle.lane_core.specs.Plans.{IsAdmissible}
 use Rattle.grid_assembly.specs.PlanDrawing.{start_grid}
 use Rattle.pattern_reading.specs.declared.ports.Ports.{Ports}
 use Rattle.pattern_reading.specs.Ports.{cells_of}
-use Rattle.written_reads.specs.Laws.{pattern_text}
+use Rattle.pattern_writing.specs.WrittenText.{pattern_text}
 use Rattle.carries.specs.Cells.{Spells}
 use Rattle.netlist_core.specs.declared.model.Design.{Design}
 use Rattle.netlist_core.specs.declared.flat.Flat.{Flat}
@@ -29,7 +29,7 @@ pub record ReadsAsPlan (plan : Plan) (ports : Ports) : Type 0 where
 abbrev pub WrittenPlansRead : Type 0
 WrittenPlansRead =
     (text : List ℕ) (design : Design) (flat : Flat) (plan : Plan) (ports : Ports) → IsDesignOf text design → weight design < 2 ^ 31 → IsFlatOf design flat
-    → IsAdmissible plan → IsTableOf flat plan ports → ReadsAsPlan plan ports
+    → IsAdmissible plan → IsTableOf flat plan 1 ports → ReadsAsPlan plan ports
 
 -- the most columns of a plan of a design of that weight
 abbrev pub most_columns : ℕ → ℕ

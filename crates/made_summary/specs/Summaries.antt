@@ -5,7 +5,7 @@ use Rattle.lane_core.specs.declared.plan.Plan.{Plan}
 use Rattle.lane_core.specs.Plans.{IsAdmissible, period_of, latency_of}
 use Rattle.grid_assembly.specs.PlanDrawing.{start_grid}
 use Rattle.pattern_reading.specs.declared.ports.Ports.{Ports}
-use Rattle.written_reads.specs.Laws.{pattern_text}
+use Rattle.pattern_writing.specs.WrittenText.{pattern_text}
 use Rattle.carries.specs.Carries.{Carries}
 use Rattle.netlist_core.specs.Names.{Name}
 use Rattle.netlist_meaning.specs.Places.{main_outputs}

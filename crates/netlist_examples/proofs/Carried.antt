@@ -13,8 +13,8 @@ use Rattle.netlist_meaning.specs.Nets.{Net, IsControl, IsInNames}
 use Rattle.netlist_meaning.specs.Valuation.{Valuation, LatchState, AreInputRows, IsValuation, IsRun, latches_in, start_state}
 use Rattle.netlist_meaning.proofs.SingleModel.{IsFlat, model_at-flat, no_latch-flat, all_in_names}
 use Rattle.netlist_meaning.proofs.Joined.{in_names_are_one}
-use Rattle.pattern_samples.specs.Ports.{bare_ports}
-use Rattle.pattern_samples.proofs.Samples.{bare_reads, bare_has_ports}
+use Rattle.pattern_writing.specs.SamplePorts.{bare_ports}
+use Rattle.pattern_writing.proofs.Samples.{bare_reads, bare_has_ports}
 use Rattle.carries.specs.Cells.{drive}
 use Rattle.carries.specs.Carries.{ShowsRuns}
 use Rattle.ww_rule.specs.Injections.{MeetsConductors}
@@ -80,6 +80,7 @@ bare_is_carried =
       grid = record { width = 0; height = 0; rows = [] };
       ports = bare_ports;
       spells = record { reads = bare_reads; table = bare_has_ports };
+      contexts = refl;
       names = record { ins = in_names; outs = refl };
       shows = shows;
     }

@@ -7,7 +7,7 @@ ghost use Rattle.netlist_meaning.specs.FlatOrder.{IsOrder};
 ghost use Rattle.cell_meaning.specs.Needs.{any_needs_one};
 ghost use Rattle.plan_carries.specs.Compiled.{ComputesFlat};
 ghost use Rattle.plan_ports.specs.Tables.{HasPortNames, HasTablePlaces, IsTableOf};
-ghost use Rattle.written_reads.specs.Laws.{pattern_text};
+ghost use Rattle.pattern_writing.specs.WrittenText.{pattern_text};
 ghost use Rattle.carries.specs.FlatNets.{CarriesFlat};
 ghost use Rattle.netlist_plans.specs.Lists.{IsPlanned};
 ghost use Rattle.netlist_plans.specs.NetPlaces.{HasNetPlaces};
@@ -72,7 +72,7 @@ pub fn plan_netlist(alloc: Global, flat: &Flat, order: &Order) -> Result<Planned
     requires names { HasPortNames flat.now }
     requires places { HasTablePlaces flat.now }
     ensures admissible { IfOk result (λ p. IsAdmissible p.plan) }
-    ensures table { IfOk result (λ p. IsTableOf flat.now p.plan p.ports) }
+    ensures table { IfOk result (λ p. IsTableOf flat.now p.plan 1 p.ports) }
     ensures carries { IfOk result (λ p. CarriesFlat (pattern_text (start_grid p.plan) p.ports) flat.now) }
     ensures small { IfOk result (λ p. IsSmall flat.now p.plan) }
     ensures cells { IfOk result (λ p. ComputesCells flat.now p.plan) }
@@ -82,7 +82,7 @@ pub fn plan_netlist(alloc: Global, flat: &Flat, order: &Order) -> Result<Planned
 {
     let plan = plan_of_cells(alloc, flat, order)?;
     plans_have_ports();
-    let ports = of_plan(alloc, flat, &plan)?;
+    let ports = of_plan(alloc, flat, &plan, 1)?;
     texts_carry_flats();
     Ok(Planned { plan, ports })
 }

@@ -1,6 +1,6 @@
 -- The values of a port table that a text reads as fit their types, and its names are words, each of one port.
 use Rattle.std.proofs.Common.{ℕ, ◌≤◌, ◌≡◌, ◌≢◌, refl, sym, ap, ◌∙◌, Bool, true, false, ◌&&◌, ◌==◌, List, [], ◌∷◌, ◌++◌, append_assoc, arith}
-use Rattle.std.specs.Prelude.{if◌then◌else◌, Option, Some, None, codes, filter_map}
+use Rattle.std.specs.Prelude.{if◌then◌else◌, not, ◌||◌, Option, Some, None, codes, filter_map}
 use Rattle.std.specs.List.{All, AllByRecursion, AllPairs, cons_option, list_any, slice_split}
 use Rattle.std.specs.Str.{byte, bytes_eq}
 use Rattle.std.proofs.lemmas.Bool.{or_parts, eqb-false}
@@ -16,18 +16,19 @@ use Rattle.pattern_reading.specs.Lines.{Line}
 use Rattle.pattern_reading.specs.Numbers.{◌>>=◌, greatest_number, number_in}
 use Rattle.lists.specs.Bytes.{non_empty}
 use Rattle.pattern_reading.specs.Header.{lines_before_header}
-use Rattle.pattern_reading.specs.PortLines.{PortForm, Version, In, Out, Net, TableLine, form_of_fields, net_in, path_in, port_in, table_entry, table_line, table_of}
-use Rattle.pattern_reading.specs.PortTable.{fault_of_form, faults_after, forms_of, input_of, is_same_port, latency_in, net_of, output_of, period_in}
+use Rattle.pattern_reading.specs.PortLines.{PortForm, Version, In, Out, Net, TableLine, count_in, form_of_fields, has_room, net_in, path_in, port_in, table_entry, table_line, table_of}
+use Rattle.pattern_reading.specs.PortTable.{contexts_in, fault_of_form, faults_after, forms_of, input_of, is_same_port, latency_in, net_of, output_of, period_in}
 use Rattle.pattern_reading.specs.SoundTable.{HasSoundTable, IsSoundNet, IsSoundPort, IsWord}
 use Rattle.pattern_laws.proofs.LineBytes.{IsFeedless, IsFieldText, feedless_after, feedless_before_header, fields_are}
 use Rattle.pattern_reading.proofs.FirstLine.{HasNoFeed}
+use Rattle.pattern_reading.proofs.PortText.{room_is}
 use Rattle.pattern_reading.proofs.PortsInside.{no_first}
 use Rattle.pattern_reading.proofs.Ranges.{bind_some, small_number}
 use Rattle.pattern_reading.proofs.SoundLines.{forms_in}
 
 -- the values of a line
 abbrev IsSoundForm : PortForm → Type 0
-IsSoundForm (Version p l) = (p ≢ 0) × (p ≤ greatest_number) × (l ≤ greatest_number)
+IsSoundForm (Version p l c) = (p ≢ 0) × (p ≤ greatest_number) × (l ≤ greatest_number) × (has_room p c ≡ true)
 IsSoundForm (In port) = IsSoundPort port
 IsSoundForm (Out port) = IsSoundPort port
 IsSoundForm (Net net) = IsSoundNet net
@@ -57,17 +58,18 @@ net_is x y offset name path net h e =
     let same : record { x = a.0; y = b.0; offset = o.0; name = c.0; path = d.0 } ≡ net = cc in
     rw (← same) (record { x = small_number x a.0 a.1; y = small_number y b.0 b.1; offset = small_number offset o.0 o.1; name = word_is name c.0 c.1 h; path = path_kept path d.0 d.1 })
 
-version_is : (p l : List ℕ) (form : PortForm) (period latency : ℕ) (t : Bool) → (period == 0) ≡ t → period ≤ greatest_number → latency ≤ greatest_number → (if t then None else Some (Version period latency)) ≡ Some form → IsSoundForm form
-version_is p l form period latency true k small small' e = absurd (none-some form e)
-version_is p l form period latency false k small small' e =
-    let same : Version period latency ≡ form = cc in
-    rw (← same) (eqb-false period 0 k, small, small')
+version_is : (form : PortForm) (period latency count : ℕ) (zero room : Bool) → (period == 0) ≡ zero → has_room period count ≡ room → period ≤ greatest_number → latency ≤ greatest_number → (if zero || not room then None else Some (Version period latency count)) ≡ Some form → IsSoundForm form
+version_is form period latency count true room k r small small' e = absurd (none-some form e)
+version_is form period latency count false false k r small small' e = absurd (none-some form e)
+version_is form period latency count false true k r small small' e =
+    let same : Version period latency count ≡ form = cc in
+    rw (← same) (eqb-false period 0 k, small, small', r)
 
-version_form : (p l : List ℕ) (form : PortForm) → (number_in p >>= λ period. number_in l >>= λ latency. (if period == 0 then None else Some (Version period latency))) ≡ Some form → IsSoundForm form
-version_form p l form e =
-    let a = bind_some (number_in p) _ form e in
-    let b = bind_some (number_in l) _ form a.2 in
-    version_is p l form a.0 b.0 _ refl (small_number p a.0 a.1) (small_number l b.0 b.1) b.2
+abbrev version_forms : Bool → List ℕ → List ℕ → Option ℕ → Option PortForm
+version_forms t p l contexts =
+    if t
+    then (number_in p >>= λ period. number_in l >>= λ latency. contexts >>= λ count. (if period == 0 || not (has_room period count) then None else Some (Version period latency count)))
+    else None
 
 abbrev port_lines : Bool → Bool → Option PortLine → Option PortForm
 port_lines is_in is_out port =
@@ -91,9 +93,13 @@ net_form x y offset name path form true h e =
     rw (← same) (net_is x y offset name path a.0 h a.1)
 net_form x y offset name path form false h e = absurd (none-some form e)
 
-version_by : (t : Bool) (p l : List ℕ) (form : PortForm) → (if t then (number_in p >>= λ period. number_in l >>= λ latency. (if period == 0 then None else Some (Version period latency))) else None) ≡ Some form → IsSoundForm form
-version_by true p l form e = version_form p l form e
-version_by false p l form e = absurd (none-some form e)
+version_by : (t : Bool) (p l : List ℕ) (contexts : Option ℕ) (form : PortForm) → version_forms t p l contexts ≡ Some form → IsSoundForm form
+version_by true p l contexts form e =
+    let a = bind_some (number_in p) _ form e in
+    let b = bind_some (number_in l) _ form a.2 in
+    let c = bind_some contexts _ form b.2 in
+    version_is form a.0 b.0 c.0 _ _ refl refl (small_number p a.0 a.1) (small_number l b.0 b.1) c.2
+version_by false p l contexts form e = absurd (none-some form e)
 
 fields_form : (fields : List (List ℕ)) (form : PortForm) → AllByRecursion IsFieldText fields → form_of_fields fields ≡ Some form → IsSoundForm form
 fields_form [] form h e = absurd (none-some form e)
@@ -101,9 +107,10 @@ fields_form (a ∷ []) form h e = absurd (none-some form e)
 fields_form (a ∷ b ∷ []) form h e = absurd (none-some form e)
 fields_form (a ∷ b ∷ c ∷ []) form h e = absurd (none-some form e)
 fields_form (a ∷ b ∷ c ∷ d ∷ []) form h e = port_form b c d form (bytes_eq a (codes "IN")) (bytes_eq a (codes "OUT")) h.1.1.1.0 e
-fields_form (a ∷ b ∷ c ∷ d ∷ f ∷ []) form h e = version_by (bytes_eq a (codes "1") && bytes_eq b (codes "P") && bytes_eq d (codes "L")) c f form e
+fields_form (a ∷ b ∷ c ∷ d ∷ f ∷ []) form h e = version_by (bytes_eq a (codes "1") && bytes_eq b (codes "P") && bytes_eq d (codes "L")) c f (Some 1) form e
 fields_form (a ∷ b ∷ c ∷ d ∷ f ∷ g ∷ []) form h e = net_form b c d f g form (bytes_eq a (codes "NET")) h.1.1.1.1.0 e
-fields_form (a ∷ b ∷ c ∷ d ∷ f ∷ g ∷ i ∷ fields) form h e = absurd (none-some form e)
+fields_form (a ∷ b ∷ c ∷ d ∷ f ∷ g ∷ i ∷ []) form h e = version_by (bytes_eq a (codes "1") && bytes_eq b (codes "P") && bytes_eq d (codes "L")) c f (count_in g i) form e
+fields_form (a ∷ b ∷ c ∷ d ∷ f ∷ g ∷ i ∷ j ∷ fields) form h e = absurd (none-some form e)
 
 entry_form : (entry : List ℕ) (forms : List PortForm) (o : Option PortForm) → HasNoFeed entry → form_of_fields (slice_split (λ b. b == byte " ") entry) ≡ o → AllByRecursion IsSoundForm forms → AllByRecursion IsSoundForm (cons_option o forms)
 entry_form entry forms None h e hs = hs
@@ -121,30 +128,30 @@ sound_forms : (text : List ℕ) → AllByRecursion IsSoundForm (forms_of text)
 sound_forms text = lines_forms (lines_before_header text) (feedless_before_header text)
 
 -- the values of a table
-sound_version : (forms : List PortForm) → AllByRecursion IsSoundForm forms → (period_in forms ≢ 0) × (period_in forms ≤ greatest_number) × (latency_in forms ≤ greatest_number)
-sound_version [] h = (λ e. omega (arith, e), omega arith, omega arith)
-sound_version (Version p l ∷ forms) h = h.0
+sound_version : (forms : List PortForm) → AllByRecursion IsSoundForm forms → (period_in forms ≢ 0) × (period_in forms ≤ greatest_number) × (latency_in forms ≤ greatest_number) × (has_room (period_in forms) (contexts_in forms) ≡ true)
+sound_version [] h = (λ e. omega (arith, e), omega arith, omega arith, refl)
+sound_version (Version p l c ∷ forms) h = h.0
 sound_version (In port ∷ forms) h = sound_version forms h.1
 sound_version (Out port ∷ forms) h = sound_version forms h.1
 sound_version (Net net ∷ forms) h = sound_version forms h.1
 
 sound_ins : (forms : List PortForm) → AllByRecursion IsSoundForm forms → AllByRecursion IsSoundPort (filter_map input_of forms)
 sound_ins [] h = tt
-sound_ins (Version p l ∷ forms) h = sound_ins forms h.1
+sound_ins (Version p l c ∷ forms) h = sound_ins forms h.1
 sound_ins (In port ∷ forms) h = (h.0, sound_ins forms h.1)
 sound_ins (Out port ∷ forms) h = sound_ins forms h.1
 sound_ins (Net net ∷ forms) h = sound_ins forms h.1
 
 sound_outs : (forms : List PortForm) → AllByRecursion IsSoundForm forms → AllByRecursion IsSoundPort (filter_map output_of forms)
 sound_outs [] h = tt
-sound_outs (Version p l ∷ forms) h = sound_outs forms h.1
+sound_outs (Version p l c ∷ forms) h = sound_outs forms h.1
 sound_outs (In port ∷ forms) h = sound_outs forms h.1
 sound_outs (Out port ∷ forms) h = (h.0, sound_outs forms h.1)
 sound_outs (Net net ∷ forms) h = sound_outs forms h.1
 
 sound_nets : (forms : List PortForm) → AllByRecursion IsSoundForm forms → AllByRecursion IsSoundNet (filter_map net_of forms)
 sound_nets [] h = tt
-sound_nets (Version p l ∷ forms) h = sound_nets forms h.1
+sound_nets (Version p l c ∷ forms) h = sound_nets forms h.1
 sound_nets (In port ∷ forms) h = sound_nets forms h.1
 sound_nets (Out port ∷ forms) h = sound_nets forms h.1
 sound_nets (Net net ∷ forms) h = (h.0, sound_nets forms h.1)
@@ -200,19 +207,19 @@ other_names a b e same = let h : bytes_eq a b ≡ true = (bytes_eq-Decides a b).
 
 other_inputs : (form other : PortForm) (x y : PortLine) → input_of form ≡ Some y → input_of other ≡ Some x → is_same_port form other ≡ false → x.name ≢ y.name
 other_inputs (In a) (In b) x y e k h = let p : a ≡ y = cc in let q : b ≡ x = cc in rw (← p, ← q) (other_names a.name b.name h)
-other_inputs (Version p l) other x y e k h = absurd (none-some _ e)
+other_inputs (Version p l c) other x y e k h = absurd (none-some _ e)
 other_inputs (Out a) other x y e k h = absurd (none-some _ e)
 other_inputs (Net a) other x y e k h = absurd (none-some _ e)
-other_inputs (In a) (Version p l) x y e k h = absurd (none-some _ k)
+other_inputs (In a) (Version p l c) x y e k h = absurd (none-some _ k)
 other_inputs (In a) (Out b) x y e k h = absurd (none-some _ k)
 other_inputs (In a) (Net b) x y e k h = absurd (none-some _ k)
 
 other_outputs : (form other : PortForm) (x y : PortLine) → output_of form ≡ Some y → output_of other ≡ Some x → is_same_port form other ≡ false → x.name ≢ y.name
 other_outputs (Out a) (Out b) x y e k h = let p : a ≡ y = cc in let q : b ≡ x = cc in rw (← p, ← q) (other_names a.name b.name h)
-other_outputs (Version p l) other x y e k h = absurd (none-some _ e)
+other_outputs (Version p l c) other x y e k h = absurd (none-some _ e)
 other_outputs (In a) other x y e k h = absurd (none-some _ e)
 other_outputs (Net a) other x y e k h = absurd (none-some _ e)
-other_outputs (Out a) (Version p l) x y e k h = absurd (none-some _ k)
+other_outputs (Out a) (Version p l c) x y e k h = absurd (none-some _ k)
 other_outputs (Out a) (In b) x y e k h = absurd (none-some _ k)
 other_outputs (Out a) (Net b) x y e k h = absurd (none-some _ k)
 
@@ -229,10 +236,10 @@ other_paths a b e name path =
 
 other_nets : (form other : PortForm) (x y : NetLine) → net_of form ≡ Some y → net_of other ≡ Some x → is_same_port form other ≡ false → x.name ≡ y.name → x.path ≢ y.path
 other_nets (Net a) (Net b) x y e k h = let p : a ≡ y = cc in let q : b ≡ x = cc in rw (← p, ← q) (other_paths a b h)
-other_nets (Version p l) other x y e k h = absurd (none-some _ e)
+other_nets (Version p l c) other x y e k h = absurd (none-some _ e)
 other_nets (In a) other x y e k h = absurd (none-some _ e)
 other_nets (Out a) other x y e k h = absurd (none-some _ e)
-other_nets (Net a) (Version p l) x y e k h = absurd (none-some _ k)
+other_nets (Net a) (Version p l c) x y e k h = absurd (none-some _ k)
 other_nets (Net a) (In b) x y e k h = absurd (none-some _ k)
 other_nets (Net a) (Out b) x y e k h = absurd (none-some _ k)
 
@@ -249,6 +256,8 @@ sound_table text width height ports h =
       period = version.0;
       p = version.1;
       l = version.2;
+      contexts = λ none. omega (arith, none, room_is _ _ version.3);
+      room = λ more. omega (arith, more, room_is _ _ version.3);
       ins = sound_ins forms sound;
       outs = sound_outs forms sound;
       nets = sound_nets forms sound;

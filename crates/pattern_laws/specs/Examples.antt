@@ -14,7 +14,7 @@ use Rattle.pattern_reading.specs.declared.ports.Ports.{Ports}
 use Rattle.pattern_reading.specs.Pattern.{ReadsAsPattern, HasRleFault}
 use Rattle.pattern_reading.specs.PortTable.{ReadsAsPorts, HasPortFault}
 use Rattle.pattern_writing.specs.Samples.{bare_text}
-use Rattle.pattern_samples.specs.Ports.{port_line_at, net_line_at, bare_ports}
+use Rattle.pattern_writing.specs.SamplePorts.{port_line_at, net_line_at, bare_ports}
 
 -- a text that reads as a pattern
 pub record PatternExample : Type 0 where
@@ -89,7 +89,7 @@ abbrev pub wire_text : List ℕ → List ℕ
 wire_text p = wire_version p ++ wire_in ++ wire_out ++ wire_cells
 
 abbrev pub wire_ports : ℕ → Ports
-wire_ports p = record { p = p; l = 2; ins = port_line_at 0 0 (codes "a") ∷ []; outs = port_line_at 2 0 (codes "y") ∷ []; nets = [] }
+wire_ports p = record { p = p; l = 2; c = 1; ins = port_line_at 0 0 (codes "a") ∷ []; outs = port_line_at 2 0 (codes "y") ∷ []; nets = [] }
 
 abbrev pub three : List (List ℕ)
 three = codes "CCC" ∷ []
@@ -231,7 +231,19 @@ reads_as_ports lines ins outs nets = record {
   text = version_four ++ lines;
   width = 3;
   height = 1;
-  ports = record { p = 4; l = 2; ins = ins; outs = outs; nets = nets };
+  ports = record { p = 4; l = 2; c = 1; ins = ins; outs = outs; nets = nets };
+}
+
+-- a version line alone, of a period, a latency of 2 and so many contexts
+abbrev pub counted_version : List ℕ → List ℕ → List ℕ
+counted_version p c = codes "#C BLIFWW 1 P " ++ p ++ codes " L 2 C " ++ c ++ codes "\n"
+
+abbrev pub reads_as_contexts : List ℕ → List ℕ → ℕ → ℕ → PortsExample
+reads_as_contexts p_word c_word p c = record {
+  text = counted_version p_word c_word;
+  width = 0;
+  height = 0;
+  ports = record { p = p; l = 2; c = c; ins = []; outs = []; nets = [] };
 }
 
 -- The tables here are without fault.
@@ -256,6 +268,11 @@ ports_examples =
     (port_line_at 0 0 (codes "a\tb") ∷ port_line_at 1 0 (codes "a\rb") ∷ port_line_at 2 0 (codes "a\r") ∷ [])
     []
     []
+    -- one context in any period, and more where each has 32 generations of it
+    ∷ reads_as_contexts (codes "4") (codes "1") 4 1
+    ∷ reads_as_contexts (codes "4") (codes "001") 4 1
+    ∷ reads_as_contexts (codes "64") (codes "2") 64 2
+    ∷ reads_as_contexts (codes "18446744073709551615") (codes "576460752303423487") 18446744073709551615 576460752303423487
     -- paths of one number and of zeros
     ∷ reads_as_ports
     (codes "#C BLIFWW NET 1 0 9 a 0\n#C BLIFWW NET 1 0 9 a 0.0\n" ++ wire_cells)
@@ -290,6 +307,15 @@ bad_line_examples =
     -- a blank at the end, and small letters
     ∷ has_port_fault (codes "#C BLIFWW 1 P 4 L 2 \n" ++ wire_cells) port.BadLine 1
     ∷ has_port_fault (codes "#C BLIFWW 1 p 4 l 2\n" ++ wire_cells) port.BadLine 1
+    -- no contexts, and more than the period has room for
+    ∷ has_port_fault (counted_version (codes "32") (codes "0") ++ wire_cells) port.BadLine 1
+    ∷ has_port_fault (counted_version (codes "32") (codes "2") ++ wire_cells) port.BadLine 1
+    ∷ has_port_fault (counted_version (codes "63") (codes "2") ++ wire_cells) port.BadLine 1
+    ∷ has_port_fault (counted_version (codes "18446744073709551615") (codes "576460752303423488") ++ wire_cells) port.BadLine 1
+    ∷ has_port_fault (counted_version (codes "32") (codes "18446744073709551616") ++ wire_cells) port.BadLine 1
+    ∷ has_port_fault (codes "#C BLIFWW 1 P 64 L 2 C\n" ++ wire_cells) port.BadLine 1
+    ∷ has_port_fault (codes "#C BLIFWW 1 P 64 L 2 c 2\n" ++ wire_cells) port.BadLine 1
+    ∷ has_port_fault (codes "#C BLIFWW 1 P 64 L 2 C 2 \n" ++ wire_cells) port.BadLine 1
     -- other versions
     ∷ has_port_fault (codes "#C BLIFWW 2 P 4 L 2\n" ++ wire_cells) port.BadLine 1
     ∷ has_port_fault (codes "#C BLIFWW 01 P 4 L 2\n" ++ wire_cells) port.BadLine 1

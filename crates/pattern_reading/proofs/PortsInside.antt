@@ -41,21 +41,21 @@ within x y width height e =
 
 ins_inside : (width height : ℕ) (forms : List PortForm) → AllByRecursion (IsInside width height) forms → AllByRecursion (IsPortInside width height) (filter_map input_of forms)
 ins_inside width height [] h = tt
-ins_inside width height (Version p l ∷ forms) h = ins_inside width height forms h.1
+ins_inside width height (Version p l c ∷ forms) h = ins_inside width height forms h.1
 ins_inside width height (In port ∷ forms) h = (within _ _ _ _ h.0, ins_inside width height forms h.1)
 ins_inside width height (Out port ∷ forms) h = ins_inside width height forms h.1
 ins_inside width height (Net net ∷ forms) h = ins_inside width height forms h.1
 
 outs_inside : (width height : ℕ) (forms : List PortForm) → AllByRecursion (IsInside width height) forms → AllByRecursion (IsPortInside width height) (filter_map output_of forms)
 outs_inside width height [] h = tt
-outs_inside width height (Version p l ∷ forms) h = outs_inside width height forms h.1
+outs_inside width height (Version p l c ∷ forms) h = outs_inside width height forms h.1
 outs_inside width height (In port ∷ forms) h = outs_inside width height forms h.1
 outs_inside width height (Out port ∷ forms) h = (within _ _ _ _ h.0, outs_inside width height forms h.1)
 outs_inside width height (Net net ∷ forms) h = outs_inside width height forms h.1
 
 nets_inside : (width height : ℕ) (forms : List PortForm) → AllByRecursion (IsInside width height) forms → AllByRecursion (IsNetInside width height) (filter_map net_of forms)
 nets_inside width height [] h = tt
-nets_inside width height (Version p l ∷ forms) h = nets_inside width height forms h.1
+nets_inside width height (Version p l c ∷ forms) h = nets_inside width height forms h.1
 nets_inside width height (In port ∷ forms) h = nets_inside width height forms h.1
 nets_inside width height (Out port ∷ forms) h = nets_inside width height forms h.1
 nets_inside width height (Net net ∷ forms) h = (within _ _ _ _ h.0, nets_inside width height forms h.1)

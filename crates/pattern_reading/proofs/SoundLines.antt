@@ -1,9 +1,9 @@
 -- The lines of a sound table whose cells lie in a box can be spelled, and none of them is at fault.
-use Rattle.std.proofs.Common.{ℕ, ◌+◌, ◌^◌, ◌≤◌, ◌<◌, ◌≡◌, ◌≢◌, refl, sym, ap, ◌∙◌, Bool, true, false, not, ◌&&◌, List, [], ◌∷◌, ◌++◌, map, length, get_or, append_assoc, subst, arith}
-use Rattle.std.specs.Prelude.{nat_lt, Option, Some, None, filter_map}
+use Rattle.std.proofs.Common.{ℕ, ◌+◌, ◌*◌, ◌^◌, ◌≤◌, ◌<◌, ◌≡◌, ◌≢◌, refl, sym, ap, ◌∙◌, Bool, true, false, not, ◌&&◌, List, [], ◌∷◌, ◌++◌, map, length, get_or, append_assoc, subst, arith}
+use Rattle.std.specs.Prelude.{nat_le, nat_lt, ◌||◌, ◌==◌, Option, Some, None, filter_map}
 use Rattle.std.specs.List.{All, AllByRecursion, AllPairs, list_any}
 use Rattle.std.specs.Str.{bytes_eq}
-use Rattle.std.proofs.lemmas.Bool.{lt-ltb}
+use Rattle.std.proofs.lemmas.Bool.{eqb-false, le-leb, lt-ltb, ne_eqb}
 use Rattle.std.proofs.lemmas.List.{append-nil, get_or_append_left, length-append}
 use Rattle.std.proofs.Math.Seq.{get_or-append_seam}
 use Rattle.std.proofs.lemmas.List.Elements.{All-head, All-tail, filter_map-append}
@@ -12,7 +12,7 @@ use Rattle.pattern_reading.specs.declared.ports.PortLine.{PortLine}
 use Rattle.pattern_reading.specs.declared.ports.NetLine.{NetLine}
 use Rattle.pattern_reading.specs.declared.ports.Ports.{Ports}
 use Rattle.pattern_reading.specs.Numbers.{greatest_number}
-use Rattle.pattern_reading.specs.PortLines.{PortForm, Version, In, Out, Net}
+use Rattle.pattern_reading.specs.PortLines.{PortForm, Version, In, Out, Net, has_room}
 use Rattle.pattern_reading.specs.PortTable.{fault_of_form, input_of, is_outside, is_same_port, is_version, net_of, output_of}
 use Rattle.pattern_reading.specs.Laws.{IsNetInside, IsPortInside}
 use Rattle.pattern_reading.specs.Spelling.{IsPortName, IsSoundAfter, IsSpellable}
@@ -44,9 +44,17 @@ nets_spellable (net ∷ nets) h k =
 three_kinds : (ins outs : List PortLine) (nets : List NetLine) → map In ins ++ map Out outs ++ map Net nets ≡ map In ins ++ (map Out outs ++ map Net nets)
 three_kinds ins outs nets = append_assoc (map In ins) (map Out outs) (map Net nets)
 
+-- contexts that have room
+room_of : (p c : ℕ) → c ≢ 0 → (1 < c → 32 * c ≤ p) → has_room p c ≡ true
+room_of p c some room = by_one (c == 1) refl
+  where
+    by_one : (one : Bool) → (c == 1) ≡ one → (one || (not (c == 0) && nat_le (32 * c) p)) ≡ true
+    by_one true e = refl
+    by_one false e = rw (ne_eqb c 0 some, le-leb (32 * c) p (room (omega (arith, some, eqb-false c 1 e)))) refl
+
 pub spellable_lines : (ports : Ports) → HasSpellableLines ports
 spellable_lines ports h k = (
-  (h.period, small ports.p h.p, small ports.l h.l),
+  (h.period, small ports.p h.p, small ports.l h.l, room_of ports.p ports.c h.contexts h.room),
   rw (three_kinds ports.ins ports.outs ports.nets) (
       ports_spellable In (λ port s. s) ports.ins (map Out ports.outs ++ map Net ports.nets) h.ins k.ins (
       ports_spellable Out (λ port s. s) ports.outs (map Net ports.nets) h.outs k.outs (nets_spellable ports.nets h.nets k.nets))),
@@ -89,7 +97,7 @@ within x y width height h = rw (lt-ltb x width h.0, lt-ltb y height h.1) refl
 
 new_input : (port : PortLine) (seen : List PortForm) → All (λ a. a.name ≢ port.name) (filter_map input_of seen) → list_any (is_same_port (In port)) seen ≡ false
 new_input port [] h = refl
-new_input port (Version p l ∷ seen) h = new_input port seen h
+new_input port (Version p l c ∷ seen) h = new_input port seen h
 new_input port (In a ∷ seen) h =
     rw (bytes_eq-other port.name a.name (λ e. All-head (λ a. a.name ≢ port.name) a (filter_map input_of seen) h (sym e))) (new_input port seen (All-tail (λ a. a.name ≢ port.name) a (filter_map input_of seen) h))
 new_input port (Out a ∷ seen) h = new_input port seen h
@@ -97,7 +105,7 @@ new_input port (Net a ∷ seen) h = new_input port seen h
 
 new_output : (port : PortLine) (seen : List PortForm) → All (λ a. a.name ≢ port.name) (filter_map output_of seen) → list_any (is_same_port (Out port)) seen ≡ false
 new_output port [] h = refl
-new_output port (Version p l ∷ seen) h = new_output port seen h
+new_output port (Version p l c ∷ seen) h = new_output port seen h
 new_output port (In a ∷ seen) h = new_output port seen h
 new_output port (Out a ∷ seen) h =
     rw (bytes_eq-other port.name a.name (λ e. All-head (λ a. a.name ≢ port.name) a (filter_map output_of seen) h (sym e))) (new_output port seen (All-tail (λ a. a.name ≢ port.name) a (filter_map output_of seen) h))
@@ -112,27 +120,27 @@ other_net net a h = by_name (bytes_eq net.name a.name) refl
 
 new_net : (net : NetLine) (seen : List PortForm) → All (λ a. a.name ≡ net.name → a.path ≢ net.path) (filter_map net_of seen) → list_any (is_same_port (Net net)) seen ≡ false
 new_net net [] h = refl
-new_net net (Version p l ∷ seen) h = new_net net seen h
+new_net net (Version p l c ∷ seen) h = new_net net seen h
 new_net net (In a ∷ seen) h = new_net net seen h
 new_net net (Out a ∷ seen) h = new_net net seen h
 new_net net (Net a ∷ seen) h =
     rw (other_net net a (All-head (λ a. a.name ≡ net.name → a.path ≢ net.path) a (filter_map net_of seen) h)) (new_net net seen (All-tail (λ a. a.name ≡ net.name → a.path ≢ net.path) a (filter_map net_of seen) h))
 
-no_outputs : (p l : ℕ) (ins : List PortLine) → filter_map output_of (forms_in (Some (Version p l) ∷ map (λ x. Some (In x)) ins)) ≡ []
-no_outputs p l ins = ap (filter_map output_of) (forms_of_kind In ins) ∙ none_of output_of In (λ x. refl) ins
+no_outputs : (p l c : ℕ) (ins : List PortLine) → filter_map output_of (forms_in (Some (Version p l c) ∷ map (λ x. Some (In x)) ins)) ≡ []
+no_outputs p l c ins = ap (filter_map output_of) (forms_of_kind In ins) ∙ none_of output_of In (λ x. refl) ins
 
-no_nets : (p l : ℕ) (ins outs : List PortLine) → filter_map net_of (forms_in (Some (Version p l) ∷ (map (λ x. Some (In x)) ins ++ map (λ x. Some (Out x)) outs))) ≡ []
-no_nets p l ins outs =
+no_nets : (p l c : ℕ) (ins outs : List PortLine) → filter_map net_of (forms_in (Some (Version p l c) ∷ (map (λ x. Some (In x)) ins ++ map (λ x. Some (Out x)) outs))) ≡ []
+no_nets p l c ins outs =
     ap (filter_map net_of) (filter_map-append (λ line. line) (map (λ x. Some (In x)) ins) (map (λ x. Some (Out x)) outs))
     ∙ filter_map-append net_of (forms_in (map (λ x. Some (In x)) ins)) (forms_in (map (λ x. Some (Out x)) outs))
     ∙ rw (forms_of_kind In ins, forms_of_kind Out outs, none_of net_of In (λ x. refl) ins, none_of net_of Out (λ x. refl) outs) refl
 
 pub sound_lines : (width height : ℕ) (ports : Ports) → HasSoundLines width height ports
 sound_lines width height ports h k =
-    let first : Option PortForm = Some (Version ports.p ports.l) in
+    let first : Option PortForm = Some (Version ports.p ports.l ports.c) in
     let ins : List (Option PortForm) = map (λ x. Some (In x)) ports.ins in
     let outs : List (Option PortForm) = map (λ x. Some (Out x)) ports.outs in
-    let nets = one_kind width height Net net_of (IsNetInside width height) (λ a b. a.name ≡ b.name → a.path ≢ b.path) (λ x. refl) (λ x. refl) (λ net i. within net.x net.y width height i) new_net first (ins ++ outs) ports.nets [] k.nets (rw (no_nets ports.p ports.l ports.ins ports.outs) h.one_net) tt in
-    let outputs = one_kind width height Out output_of (IsPortInside width height) (λ a b. a.name ≢ b.name) (λ x. refl) (λ x. refl) (λ port i. within port.x port.y width height i) new_output first ins ports.outs (map Net ports.nets ++ []) k.outs (rw (no_outputs ports.p ports.l ports.ins) h.one_output) nets in
+    let nets = one_kind width height Net net_of (IsNetInside width height) (λ a b. a.name ≡ b.name → a.path ≢ b.path) (λ x. refl) (λ x. refl) (λ net i. within net.x net.y width height i) new_net first (ins ++ outs) ports.nets [] k.nets (rw (no_nets ports.p ports.l ports.c ports.ins ports.outs) h.one_net) tt in
+    let outputs = one_kind width height Out output_of (IsPortInside width height) (λ a b. a.name ≢ b.name) (λ x. refl) (λ x. refl) (λ port i. within port.x port.y width height i) new_output first ins ports.outs (map Net ports.nets ++ []) k.outs (rw (no_outputs ports.p ports.l ports.c ports.ins) h.one_output) nets in
     let inputs = one_kind width height In input_of (IsPortInside width height) (λ a b. a.name ≢ b.name) (λ x. refl) (λ x. refl) (λ port i. within port.x port.y width height i) new_input first [] ports.ins (map Out ports.outs ++ (map Net ports.nets ++ [])) k.ins h.one_input outputs in
     (refl, subst (IsSoundAfter width height (first ∷ [])) (ap (λ l. map In ports.ins ++ (map Out ports.outs ++ l)) (append-nil (map Net ports.nets)) ∙ sym (three_kinds ports.ins ports.outs ports.nets)) inputs)

@@ -1,6 +1,6 @@
 -- The lines of a port table. It stands in comments before the header, in a form of this program's own, so that other readers of
 -- extended RLE pass over it.
-use Rattle.std.specs.Prelude.{ℕ, Bool, ◌&&◌, ◌||◌, not, ◌==◌, if◌then◌else◌, List, [], ◌∷◌, length, slice_index, Option, Some, None, codes, is_some, filter_map}
+use Rattle.std.specs.Prelude.{ℕ, Bool, ◌&&◌, ◌||◌, not, ◌==◌, ◌*◌, nat_le, if◌then◌else◌, List, [], ◌∷◌, length, slice_index, Option, Some, None, codes, is_some, filter_map}
 use Rattle.std.specs.List.{list_all, slice_split}
 use Rattle.std.specs.Str.{bytes_eq, byte}
 use Rattle.pattern_reading.specs.declared.ports.PortLine.{PortLine}
@@ -12,8 +12,8 @@ use Rattle.pattern_reading.specs.Header.{lines_before_header}
 
 -- what a line of the table says, by its form
 pub data PortForm : Type 0 where
-  -- `1 P p L l`
-  Version : ℕ → ℕ → PortForm
+  -- `1 P p L l`, and ` C c` after it, which may be left out where c is 1
+  Version : ℕ → ℕ → ℕ → PortForm
   -- `IN x y name`
   In : PortLine → PortForm
   -- `OUT x y name`
@@ -30,14 +30,23 @@ abbrev pub path_in : List ℕ → Option (List ℕ)
 path_in field =
     if bytes_eq field (codes "-") || list_all is_path_number (slice_split (λ b. b == byte ".") field) then Some field else None
 
--- the period is not 0
-abbrev pub version_in : List ℕ → List ℕ → List ℕ → List ℕ → List ℕ → Option PortForm
-version_in version p_word p l_word l =
+-- whether a period has room for so many contexts: for one, and for more where each has 32 generations of it
+abbrev pub has_room : ℕ → ℕ → Bool
+has_room period contexts = contexts == 1 || (not (contexts == 0) && nat_le (32 * contexts) period)
+
+-- the number of contexts
+abbrev pub count_in : List ℕ → List ℕ → Option ℕ
+count_in c_word c = if bytes_eq c_word (codes "C") then number_in c else None
+
+-- the period is not 0, and has room for the contexts
+abbrev pub version_in : List ℕ → List ℕ → List ℕ → List ℕ → List ℕ → Option ℕ → Option PortForm
+version_in version p_word p l_word l contexts =
     if bytes_eq version (codes "1") && bytes_eq p_word (codes "P") && bytes_eq l_word (codes "L")
     then (do
       period ← number_in p
       latency ← number_in l
-      if period == 0 then None else Some (Version period latency))
+      count ← contexts
+      if period == 0 || not (has_room period count) then None else Some (Version period latency count))
     else None
 
 -- a name is one or more bytes, and no space, since spaces separate the fields
@@ -63,7 +72,8 @@ form_of_fields (kind ∷ x ∷ y ∷ name ∷ []) =
     if bytes_eq kind (codes "IN") then (port_in x y name >>= λ port. Some (In port))
     else if bytes_eq kind (codes "OUT") then (port_in x y name >>= λ port. Some (Out port))
     else None
-form_of_fields (version ∷ p_word ∷ p ∷ l_word ∷ l ∷ []) = version_in version p_word p l_word l
+form_of_fields (version ∷ p_word ∷ p ∷ l_word ∷ l ∷ []) = version_in version p_word p l_word l (Some 1)
+form_of_fields (version ∷ p_word ∷ p ∷ l_word ∷ l ∷ c_word ∷ c ∷ []) = version_in version p_word p l_word l (count_in c_word c)
 form_of_fields (kind ∷ x ∷ y ∷ offset ∷ name ∷ path ∷ []) =
     if bytes_eq kind (codes "NET") then (net_in x y offset name path >>= λ net. Some (Net net)) else None
 form_of_fields _ = None

@@ -18,12 +18,12 @@ port_fault_number CellOutside = 3
 port_fault_number Twice = 4
 
 abbrev pub is_version : PortForm → Bool
-is_version (Version p l) = true
+is_version (Version p l c) = true
 is_version _ = false
 
 -- whether the cell of a line is outside a box; a version line has no cell
 abbrev pub is_outside : ℕ → ℕ → PortForm → Bool
-is_outside width height (Version p l) = false
+is_outside width height (Version p l c) = false
 is_outside width height (In port) = not (nat_lt port.x width && nat_lt port.y height)
 is_outside width height (Out port) = not (nat_lt port.x width && nat_lt port.y height)
 is_outside width height (Net net) = not (nat_lt net.x width && nat_lt net.y height)
@@ -65,16 +65,21 @@ faults_after width height before (line ∷ lines) =
 abbrev pub port_faults : List ℕ → ℕ → ℕ → List PortFaultAt
 port_faults text width height = faults_after width height [] (table_of text)
 
--- the period and the latency of the version line; 32 and 0 where there is none
+-- the period, the latency and the number of contexts of the version line; 32, 0 and 1 where there is none
 abbrev pub period_in : List PortForm → ℕ
 period_in [] = 32
-period_in (Version p l ∷ forms) = p
+period_in (Version p l c ∷ forms) = p
 period_in (_ ∷ forms) = period_in forms
 
 abbrev pub latency_in : List PortForm → ℕ
 latency_in [] = 0
-latency_in (Version p l ∷ forms) = l
+latency_in (Version p l c ∷ forms) = l
 latency_in (_ ∷ forms) = latency_in forms
+
+abbrev pub contexts_in : List PortForm → ℕ
+contexts_in [] = 1
+contexts_in (Version p l c ∷ forms) = c
+contexts_in (_ ∷ forms) = contexts_in forms
 
 abbrev pub input_of : PortForm → Option PortLine
 input_of (In port) = Some port
@@ -93,6 +98,7 @@ abbrev pub ports_of : List PortForm → Ports
 ports_of forms = record {
   p = period_in forms;
   l = latency_in forms;
+  c = contexts_in forms;
   ins = filter_map input_of forms;
   outs = filter_map output_of forms;
   nets = filter_map net_of forms;
@@ -103,7 +109,8 @@ abbrev pub forms_of : List ℕ → List PortForm
 forms_of text = filter_map (λ line. line.form) (table_of text)
 
 -- The text reads as a port table in a box of this width and height, which is the header's where there is one: no line of its table is
--- at fault, and its lines make that table. A text without such lines has the empty table of period 32 and latency 0.
+-- at fault, and its lines make that table. A text without such lines has the empty table of period 32, latency 0 and
+-- one context.
 pub record ReadsAsPorts (text : List ℕ) (width height : ℕ) (ports : Ports) : Type 0 where
   pub no_fault : port_faults text width height ≡ []
   pub ports_is : ports ≡ ports_of (forms_of text)

@@ -1,5 +1,5 @@
 -- What the values of a port table are that a text reads as.
-use Rattle.std.specs.Prelude.{◌≡◌, ◌≢◌, ◌≤◌, ℕ, List, [], Some}
+use Rattle.std.specs.Prelude.{◌≡◌, ◌≢◌, ◌≤◌, ◌<◌, ◌*◌, ℕ, List, [], Some}
 use Rattle.std.specs.List.{All, AllByRecursion, AllPairs}
 use Rattle.pattern_reading.specs.declared.ports.PortLine.{PortLine}
 use Rattle.pattern_reading.specs.declared.ports.NetLine.{NetLine}
@@ -29,12 +29,14 @@ pub record IsSoundNet (net : NetLine) : Type 0 where
   pub name : IsWord net.name
   pub path : path_in net.path ≡ Some net.path
 
--- The period is not 0, all numbers fit 64 bits, all names are words, and no two inputs, no two outputs and no two nets of one path
--- have one name.
+-- The period is not 0, there is a context, and where there are more each has 32 generations of the period. All numbers fit 64 bits,
+-- all names are words, and no two inputs, no two outputs and no two nets of one path have one name.
 pub record IsSoundTable (ports : Ports) : Type 0 where
   pub period : ports.p ≢ 0
   pub p : ports.p ≤ greatest_number
   pub l : ports.l ≤ greatest_number
+  pub contexts : ports.c ≢ 0
+  pub room : 1 < ports.c → 32 * ports.c ≤ ports.p
   pub ins : AllByRecursion IsSoundPort ports.ins
   pub outs : AllByRecursion IsSoundPort ports.outs
   pub nets : AllByRecursion IsSoundNet ports.nets

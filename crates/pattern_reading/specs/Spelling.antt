@@ -1,15 +1,19 @@
 -- How a port table is spelled: each line in one way, its numbers without leading zeros.
-use Rattle.std.specs.Prelude.{◌≡◌, ◌≢◌, ℕ, ◌^◌, ◌<◌, List, [], ◌∷◌, ◌++◌, flat_map, map, Option, Some, None, codes, decimal}
+use Rattle.std.specs.Prelude.{◌≡◌, ◌≢◌, ℕ, ◌^◌, ◌<◌, nat_lt, true, if◌then◌else◌, List, [], ◌∷◌, ◌++◌, flat_map, map, Option, Some, None, codes, decimal}
 use Rattle.std.specs.List.{All, AllByRecursion, join_with_byte}
 use Rattle.ww_rule.specs.Grid.{Grid}
 use Rattle.pattern_reading.specs.declared.ports.Ports.{Ports}
-use Rattle.pattern_reading.specs.PortLines.{PortForm, Version, In, Out, Net, path_in, table_of}
+use Rattle.pattern_reading.specs.PortLines.{PortForm, Version, In, Out, Net, has_room, path_in, table_of}
 use Rattle.pattern_reading.specs.Pattern.{ReadsAsPattern}
 use Rattle.pattern_reading.specs.PortTable.{ReadsAsPorts, fault_of_form, ports_of}
 
+-- the fields that say how many contexts there are; one is not written
+abbrev pub count_fields : ℕ → List (List ℕ)
+count_fields c = if nat_lt 1 c then codes "C" ∷ decimal c ∷ [] else []
+
 -- the fields of a line
 abbrev pub fields_of : PortForm → List (List ℕ)
-fields_of (Version p l) = codes "1" ∷ codes "P" ∷ decimal p ∷ codes "L" ∷ decimal l ∷ []
+fields_of (Version p l c) = codes "1" ∷ codes "P" ∷ decimal p ∷ codes "L" ∷ decimal l ∷ count_fields c
 fields_of (In port) = codes "IN" ∷ decimal port.x ∷ decimal port.y ∷ port.name ∷ []
 fields_of (Out port) = codes "OUT" ∷ decimal port.x ∷ decimal port.y ∷ port.name ∷ []
 fields_of (Net net) = codes "NET" ∷ decimal net.x ∷ decimal net.y ∷ decimal net.offset ∷ net.name ∷ net.path ∷ []
@@ -23,7 +27,7 @@ spelled_table forms = flat_map (λ form. spelled_line form ++ 10 ∷ []) forms
 
 -- the lines of a table in the order in which they are written: the version, the inputs, the outputs, the nets
 abbrev pub port_forms : Ports → List PortForm
-port_forms ports = Version ports.p ports.l ∷ (map In ports.ins ++ map Out ports.outs ++ map Net ports.nets)
+port_forms ports = Version ports.p ports.l ports.c ∷ (map In ports.ins ++ map Out ports.outs ++ map Net ports.nets)
 
 abbrev pub port_lines : Ports → List (List ℕ)
 port_lines ports = map spelled_line (port_forms ports)
@@ -40,9 +44,10 @@ IsField bytes = All (λ b. (b ≢ 10) × (b ≢ 13) × (b ≢ 32)) bytes
 abbrev pub IsPortName : List ℕ → Type 0
 IsPortName name = (name ≢ []) × IsField name
 
--- a line that can be spelled: its numbers can be written, its period is not 0, and its name and its path are such
+-- a line that can be spelled: its numbers can be written, its period is not 0 and has room for its contexts, and its name and its
+-- path are such
 abbrev pub IsSpellable : PortForm → Type 0
-IsSpellable (Version p l) = (p ≢ 0) × (p < 2 ^ 64) × (l < 2 ^ 64)
+IsSpellable (Version p l c) = (p ≢ 0) × (p < 2 ^ 64) × (l < 2 ^ 64) × (has_room p c ≡ true)
 IsSpellable (In port) = (port.x < 2 ^ 64) × (port.y < 2 ^ 64) × IsPortName port.name
 IsSpellable (Out port) = (port.x < 2 ^ 64) × (port.y < 2 ^ 64) × IsPortName port.name
 IsSpellable (Net net) = (net.x < 2 ^ 64) × (net.y < 2 ^ 64) × (net.offset < 2 ^ 64) × IsPortName net.name × (path_in net.path ≡ Some net.path)

@@ -24,7 +24,8 @@ pub enum RleFaultKind {
 /// The faults of a port table. Of one text the earliest line is answered, and of one line the first of these.
 #[derive(Clone, Copy, Debug, PartialEq, Eq)]
 pub enum PortFaultKind {
-    /// A line of the table has none of the four forms, its period is 0, or a number is past 18446744073709551615.
+    /// A line of the table has none of the four forms, its period is 0, its number of contexts is 0 or has no room in the
+    /// period, or a number is past 18446744073709551615.
     BadLine,
     /// The first line of the table is not the version line, or a later line is one.
     BadOrder,

@@ -20,12 +20,14 @@ pub struct NetLine {
     pub path: Bytes,
 }
 
-/// A port table: the period `p` and the latency `l` of the pattern, in generations, and its ports and nets in the
-/// order of the text.
+/// A port table: the period `p` and the latency `l` of the pattern, in generations, the number `c` of contexts, which
+/// are machines that run through the same wires, each 32 generations after the other, and the ports and nets in the order
+/// of the text.
 #[derive(Drop)]
 pub struct Ports {
     pub p: u64,
     pub l: u64,
+    pub c: u64,
     pub ins: List<PortLine>,
     pub outs: List<PortLine>,
     pub nets: List<NetLine>,

@@ -30,9 +30,9 @@ fn push_nets(alloc: Global, line: &mut Vec<u8>, nets: &[NetLine]) -> Result<(), 
     Ok(())
 }
 
-// A table as one line: the period and the latency, and then each port and net.
+// A table as one line: the period, the latency and the number of contexts, and then each port and net.
 fn shown(alloc: Global, ports: &Ports) -> Result<Vec<u8>, AllocError> {
-    let mut line = format!(in alloc; "{} {}", ports.p, ports.l)?.into_bytes();
+    let mut line = format!(in alloc; "{} {} {}", ports.p, ports.l, ports.c)?.into_bytes();
     push_ports(alloc, &mut line, "IN", ports.ins.as_slice())?;
     push_ports(alloc, &mut line, "OUT", ports.outs.as_slice())?;
     push_nets(alloc, &mut line, ports.nets.as_slice())?;
@@ -60,44 +60,50 @@ const TABLES: &[(&[u8], u64, u64, &[u8])] = &[
         OR_LINES,
         33,
         32,
-        b"32 32, IN 0 8 a, IN 0 24 b, OUT 32 8 y, NET 0 8 0 a -, NET 0 24 0 b -, NET 31 8 31 y -",
+        b"32 32 1, IN 0 8 a, IN 0 24 b, OUT 32 8 y, NET 0 8 0 a -, NET 0 24 0 b -, NET 31 8 31 y -",
     ),
     (
         b"#C BLIFWW 1 P 4 L 2\n#C BLIFWW IN 0 0 a\n#C BLIFWW OUT 2 0 y\nx = 3, y = 1, rule = WireWorld\n3C!\n",
         3,
         1,
-        b"4 2, IN 0 0 a, OUT 2 0 y",
+        b"4 2 1, IN 0 0 a, OUT 2 0 y",
     ),
     (
         b"#C BLIFWW 1 P 32 L 0\nx = 0, y = 0, rule = WireWorld\n!\n",
         0,
         0,
-        b"32 0",
+        b"32 0 1",
     ),
-    (b"x = 3, y = 1, rule = WireWorld\n3C!\n", 3, 1, b"32 0"),
-    (b"", 0, 0, b"32 0"),
+    (b"x = 3, y = 1, rule = WireWorld\n3C!\n", 3, 1, b"32 0 1"),
+    (b"", 0, 0, b"32 0 1"),
     // other comments, and lines after the header
-    (b"#C BLIFWW\n#C BLIFWWW 2\n #C BLIFWW 2\n", 0, 0, b"32 0"),
+    (b"#C BLIFWW\n#C BLIFWWW 2\n #C BLIFWW 2\n", 0, 0, b"32 0 1"),
     (
         b"x = 3, y = 1, rule = WireWorld\n3C!\n#C BLIFWW IN 0 0 a\n",
         3,
         1,
-        b"32 0",
+        b"32 0 1",
     ),
     // no header, both line ends, leading zeros, and no line end at the end
     (
         b"\t\n#\n#C BLIFWW 1 P 4 L 2\r\n#\n\n#C BLIFWW IN 002 0 a\r\n#C BLIFWW OUT 0 000 y",
         3,
         1,
-        b"4 2, IN 2 0 a, OUT 0 0 y",
+        b"4 2 1, IN 2 0 a, OUT 0 0 y",
     ),
     // one name in three kinds of lines, and under two paths
     (
         b"#C BLIFWW 1 P 4 L 2\n#C BLIFWW NET 1 0 9 a -\n#C BLIFWW OUT 0 0 a\n#C BLIFWW IN 2 0 a\n#C BLIFWW NET 1 0 18446744073709551615 a 0.12.3\n",
         3,
         1,
-        b"4 2, IN 2 0 a, OUT 0 0 a, NET 1 0 9 a -, NET 1 0 18446744073709551615 a 0.12.3",
+        b"4 2 1, IN 2 0 a, OUT 0 0 a, NET 1 0 9 a -, NET 1 0 18446744073709551615 a 0.12.3",
     ),
+    // contexts
+    (b"#C BLIFWW 1 P 4 L 2 C 1\n", 3, 1, b"4 2 1"),
+    (b"#C BLIFWW 1 P 64 L 2 C 2\n", 3, 1, b"64 2 2"),
+    (b"#C BLIFWW 1 P 4 L 2 C 0\n", 3, 1, b"BadLine 1"),
+    (b"#C BLIFWW 1 P 32 L 2 C 2\n", 3, 1, b"BadLine 1"),
+    (b"#C BLIFWW 1 P 64 L 2 c 2\n", 3, 1, b"BadLine 1"),
     // faults
     (
         b"#C BLIFWW 1 P 0 L 2\n#C BLIFWW IN 0 0 a\n",

@@ -1,13 +1,33 @@
-//! The text of a pattern in extended RLE, as a definition that contracts cite, with its laws and some texts letter by
-//! letter.
+//! The text of a pattern in extended RLE and its ports, as a definition that contracts cite; that it reads as that
+//! pattern and those ports; laws of it, and some texts letter by letter.
 //!
-//! Theorem: `items_are_runs`, `wrapping_keeps_items`; definition `writer_text`.
+//! The functions here do nothing: their clauses are the laws and the cases.
+//!
+//! Theorem: `written_text_reads` (`pattern`, `ports`, `text`), `items_are_runs`, `wrapping_keeps_items`; definition
+//! `writer_text`.
 #![tactic(auto)]
 
-ghost use Rattle.std.specs.Prelude.{◌≡◌, ◌++◌, [], length};
+ghost use Rattle.std.specs.Prelude.{◌≡◌, ◌++◌, ℕ, List, [], length};
+ghost use Rattle.ww_rule.specs.Grid.{Grid};
+ghost use Rattle.pattern_reading.specs.declared.ports.Ports.{Ports};
+ghost use Rattle.pattern_reading.specs.Pattern.{ReadsAsPattern};
+ghost use Rattle.pattern_reading.specs.PortLines.{PortForm};
+ghost use Rattle.pattern_reading.specs.PortTable.{ReadsAsPorts};
+ghost use Rattle.pattern_reading.specs.Spelling.{IsPortName};
 ghost use Rattle.pattern_writing.specs.Writer.{writer_text};
 ghost use Rattle.pattern_writing.specs.Laws.{ItemsSpellTags, ItemsAreLongestRuns, WrappingKeepsItems, WrappedIsLines};
 ghost use Rattle.pattern_writing.specs.Samples.{or_grid, or_port_lines, or_net_lines, or_text, or_text_with_nets, bare_grid, bare_lines, bare_text, mixed_grid, mixed_text, empty_grid, empty_text};
+ghost use Rattle.pattern_writing.specs.SamplePorts.{or_ports, bare_ports};
+ghost use Rattle.pattern_writing.specs.NamedGate.{HasNamedGate};
+ghost use Rattle.pattern_writing.specs.WrittenText.{HasWrittenPattern, HasWrittenPorts, HasWrittenText};
+
+/// Does nothing: its clauses are laws of every pattern whose sizes fit 64 bits and of every port table whose lines can be spelled:
+/// what is written of them reads as them.
+pub fn written_text_reads()
+    ensures pattern { (grid : Grid) (forms : List PortForm) → HasWrittenPattern grid forms }
+    ensures ports { (grid : Grid) (forms : List PortForm) → HasWrittenPorts grid forms }
+    ensures text { (grid : Grid) (ports : Ports) → HasWrittenText grid ports }
+{}
 
 /// Does nothing: its clauses are facts about the definition, for an OR gate in a box of 33 by 32 cells, for a box without cells, for
 /// one with cells of all four states and empty rows, and for one of empty cells.
@@ -32,4 +52,23 @@ pub fn items_are_runs()
 pub fn wrapping_keeps_items()
     ensures kept { WrappingKeepsItems }
     ensures on_lines { WrappedIsLines }
+{}
+
+/// Does nothing: the text of an OR gate, with its net lines and without them, spells its drawing and its ports.
+pub fn gate_reads()
+    ensures pattern { ReadsAsPattern or_text or_grid }
+    ensures ports { ReadsAsPorts or_text 33 32 (record or_ports { nets = [] }) }
+    ensures pattern_with_nets { ReadsAsPattern or_text_with_nets or_grid }
+    ensures ports_with_nets { ReadsAsPorts or_text_with_nets 33 32 or_ports }
+{}
+
+/// Does nothing: the same of a gate with any names.
+pub fn named_gate_reads()
+    ensures { (a b y : List ℕ) → IsPortName a → IsPortName b → IsPortName y → HasNamedGate a b y }
+{}
+
+/// Does nothing: a text without ports spells a box without cells.
+pub fn bare_reads()
+    ensures pattern { ReadsAsPattern bare_text bare_grid }
+    ensures ports { ReadsAsPorts bare_text 0 0 bare_ports }
 {}

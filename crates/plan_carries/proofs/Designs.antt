@@ -164,7 +164,7 @@ designs_are_carried_in_contexts text design flat faultless clean h starts k = re
     ports = k.ports;
     spells = k.spells;
     names = names_ports design flat faultless clean h k.ports k.names;
-    apart = λ several. (let many = length-map starts (state_in_order design) in omega (arith, k.apart (omega (arith, several, many)), many));
+    contexts = k.contexts ∙ length-map starts (state_in_order design);
     shows = shows_contexts design flat faultless clean h (plane_of k.grid.rows) k.ports starts k.shows;
   };
   nets = seen_nets design flat;

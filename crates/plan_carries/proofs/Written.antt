@@ -14,11 +14,11 @@ use Rattle.netlist_core.specs.declared.flat.Net.{Net as FlatNet}
 use Rattle.netlist_meaning.specs.Flat.{class_of, nets_but_clocks, port_classes}
 use Rattle.pattern_reading.specs.declared.ports.Ports.{Ports}
 use Rattle.netlist_meaning.specs.FlatValuation.{start_bits}
-use Rattle.written_reads.specs.Laws.{HasWrittenText, pattern_text}
+use Rattle.pattern_writing.specs.WrittenText.{HasWrittenText, pattern_text}
 use Rattle.carries.specs.FlatContexts.{ShowsFlatContexts}
 use Rattle.carries.proofs.OneContext.{one_context_carries_flat}
 use Rattle.cell_meaning.specs.Listed.{listed_classes}
-use Rattle.plan_ports.specs.Laws.{TablesAreReadable}
+use Rattle.plan_ports.specs.Laws.{HasRoom, TablesAreReadable}
 use Rattle.plan_ports.proofs.Readable.{small_size}
 use Rattle.plan_carries.specs.Laws.{PlansHavePorts, TextsCarryFlats}
 use Rattle.plan_carries.specs.Pictures.{grid_with}
@@ -38,22 +38,23 @@ plans_have_ports flat list plan c p =
     }
 
 pub texts_carry_contexts : KeepsLaw shipped_drawing → PicturesArePlanes → ((grid : Grid) (ports : Ports) → HasWrittenText grid ports) → TablesAreReadable → PlanesShowContexts → TextsCarryContexts
-texts_carry_contexts law pictures written readable shown flat list plan ports k starts lit s =
+texts_carry_contexts law pictures written readable shown flat list plan ports starts some k lit s =
     let picture = pictures plan k.admissible lit in
     let size = small_size plan k.admissible in
-    let table = readable flat plan ports k.sound.in_range k.named k.names k.places k.admissible k.table in
-    let reads = written (grid_with plan lit) ports (record { in_rows = picture.box; width = omega (arith, size.0); height = omega (arith, size.1) }) table.sound table.inside table.no_returns in
     let many : length (map (loop_state list) starts) ≡ length starts = length-map starts (loop_state list) in
+    let fits : HasRoom plan (length starts) = record { some = λ e. omega (arith, some, e); room = λ more. omega (arith, contexts_apart plan (map (loop_state list) starts) lit s.on_plan, many) } in
+    let table = readable flat plan (length starts) ports k.sound.in_range k.named k.names k.places k.admissible fits k.table in
+    let reads = written (grid_with plan lit) ports (record { in_rows = picture.box; width = omega (arith, size.0); height = omega (arith, size.1) }) table.sound table.inside table.no_returns in
     record {
       grid = grid_with plan lit;
       ports = ports;
       spells = record { reads = reads.0; table = reads.1 };
+      contexts = k.table.contexts;
       names = record { ins = k.table.in_names; outs = k.table.out_names; nets = k.table.net_names };
-      apart = λ several. omega (arith, contexts_apart plan (map (loop_state list) starts) lit s.on_plan, many, k.table.period);
-      shows = subst (λ p. ShowsFlatContexts p ports flat starts) (sym picture.plane) (shown shipped_drawing law flat list plan ports k starts lit s);
+      shows = subst (λ p. ShowsFlatContexts p ports flat starts) (sym picture.plane) (shown shipped_drawing law flat list plan ports starts k lit s);
     }
 
 -- with the plan's own start edges
 pub texts_carry_flats : TextsCarryContexts → TextsCarryFlats
 texts_carry_flats carry flat list plan ports k =
-    (one_context_carries_flat (pattern_text (start_grid plan) ports) flat).1 (carry flat list plan ports k (start_bits flat ∷ []) (start_edges plan) (one_start flat list plan ports k))
+    (one_context_carries_flat (pattern_text (start_grid plan) ports) flat).1 (carry flat list plan ports (start_bits flat ∷ []) (omega arith) k (start_edges plan) (one_start flat list plan ports k))

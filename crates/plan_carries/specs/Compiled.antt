@@ -18,8 +18,8 @@ pub record ComputesFlat (flat : Flat) (list : CellList) : Type 0 where
   pub bits : (inputs state : List Bool) (bits : ℕ → Bool) → IsFlatValuation flat inputs state bits → HasBits flat list inputs state bits
 
 -- The flat netlist is sound and has an order, and its names and places can stand in a port table. The list computes it, the plan
--- computes the list, and the table is the plan's.
-pub record IsCompiled (flat : Flat) (list : CellList) (plan : Plan) (ports : Ports) : Type 0 where
+-- computes the list, and the table is the plan's, of so many contexts.
+pub record IsCompiled (flat : Flat) (list : CellList) (plan : Plan) (contexts : ℕ) (ports : Ports) : Type 0 where
   pub sound : IsSound flat
   pub order : List ℕ
   pub ordered : IsOrder flat order
@@ -29,4 +29,4 @@ pub record IsCompiled (flat : Flat) (list : CellList) (plan : Plan) (ports : Por
   pub list_computes : ComputesFlat flat list
   pub admissible : IsAdmissible plan
   pub plan_computes : ComputesByPlan list plan
-  pub table : IsTableOf flat plan ports
+  pub table : IsTableOf flat plan contexts ports

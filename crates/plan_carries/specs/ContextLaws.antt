@@ -1,5 +1,5 @@
 -- What is compiled of a flat netlist shows it in several contexts, where the loops' starts of each context lie on their ways back.
-use Rattle.std.specs.Prelude.{ℕ, ◌≡◌, Bool, List, length, map, All}
+use Rattle.std.specs.Prelude.{ℕ, ◌<◌, ◌≡◌, Bool, List, length, map, All}
 use Rattle.tile_core.specs.declared.kind.Kind.{Kind}
 use Rattle.tile_core.specs.Drawing.{Drawing}
 use Rattle.tile_library.specs.Drawings.{shipped_drawing}
@@ -19,7 +19,7 @@ use Rattle.netlist_meaning.specs.FlatOf.{IsFlatOf}
 use Rattle.netlist_rules.specs.ModelFaults.{AreFaultless}
 use Rattle.netlist_rules.specs.Clocks.{HasNoClockFault}
 use Rattle.pattern_reading.specs.declared.ports.Ports.{Ports}
-use Rattle.written_reads.specs.Laws.{pattern_text}
+use Rattle.pattern_writing.specs.WrittenText.{pattern_text}
 use Rattle.flat_designs.specs.Laws.{state_in_order}
 use Rattle.carries.specs.FlatContexts.{ShowsFlatContexts, CarriesFlatContexts}
 use Rattle.carries.specs.DesignContexts.{CarriesNetsInContexts}
@@ -35,19 +35,20 @@ pub record StartsLatches (flat : Flat) (list : CellList) (plan : Plan) (starts :
 -- each context
 abbrev pub PlanesShowContexts : Type 0
 PlanesShowContexts =
-    (library : Kind → Drawing) → KeepsLaw library → (flat : Flat) (list : CellList) (plan : Plan) (ports : Ports) → IsCompiled flat list plan ports
-    → (starts : List (List Bool)) (lit : Lit) → StartsLatches flat list plan starts lit
+    (library : Kind → Drawing) → KeepsLaw library → (flat : Flat) (list : CellList) (plan : Plan) (ports : Ports) (starts : List (List Bool)) → IsCompiled flat list plan (length starts) ports
+    → (lit : Lit) → StartsLatches flat list plan starts lit
     → ShowsFlatContexts (plane_with library plan lit) ports flat starts
 
 -- of every admissible plan and all lit edges, the rows of the drawing are its plane
 abbrev pub PicturesArePlanes : Type 0
 PicturesArePlanes = (plan : Plan) → IsAdmissible plan → (lit : Lit) → IsPatternOf (grid_with plan lit) (plane_with shipped_drawing plan lit)
 
--- and the text that is written of these rows and the plan's table carries the flat netlist in these contexts
+-- and the text that is written of these rows and the plan's table carries the flat netlist in these contexts, of which there is one
+-- or more
 abbrev pub TextsCarryContexts : Type 0
 TextsCarryContexts =
-    (flat : Flat) (list : CellList) (plan : Plan) (ports : Ports) → IsCompiled flat list plan ports
-    → (starts : List (List Bool)) (lit : Lit) → StartsLatches flat list plan starts lit
+    (flat : Flat) (list : CellList) (plan : Plan) (ports : Ports) (starts : List (List Bool)) → 0 < length starts → IsCompiled flat list plan (length starts) ports
+    → (lit : Lit) → StartsLatches flat list plan starts lit
     → CarriesFlatContexts (pattern_text (grid_with plan lit) ports) flat starts
 
 -- a text that carries the flat netlist of a design in contexts carries the design and its nets in them, whoever wrote the text

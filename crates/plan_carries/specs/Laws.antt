@@ -13,7 +13,7 @@ use Rattle.netlist_meaning.specs.FlatOf.{IsFlatOf}
 use Rattle.netlist_rules.specs.ModelFaults.{AreFaultless}
 use Rattle.netlist_rules.specs.Clocks.{HasNoClockFault}
 use Rattle.pattern_reading.specs.declared.ports.Ports.{Ports}
-use Rattle.written_reads.specs.Laws.{pattern_text}
+use Rattle.pattern_writing.specs.WrittenText.{pattern_text}
 use Rattle.carries.specs.FlatNets.{CarriesFlat, ShowsFlatRuns}
 use Rattle.carries.specs.Nets.{CarriesNets}
 use Rattle.cell_meaning.specs.Computes.{ComputesByPlan}
@@ -28,13 +28,13 @@ PlansHavePorts = (flat : Flat) (list : CellList) (plan : Plan) → ComputesFlat 
 abbrev pub PlanesShowRuns : Type 0
 PlanesShowRuns =
     (library : Kind → Drawing) → KeepsLaw library → (flat : Flat) (list : CellList) (plan : Plan) (ports : Ports)
-    → IsCompiled flat list plan ports → ShowsFlatRuns (start_plane library plan) ports flat
+    → IsCompiled flat list plan 1 ports → ShowsFlatRuns (start_plane library plan) ports flat
 
 -- and the text that is written of the plan's pattern and its table carries the flat netlist
 abbrev pub TextsCarryFlats : Type 0
 TextsCarryFlats =
     (flat : Flat) (list : CellList) (plan : Plan) (ports : Ports)
-    → IsCompiled flat list plan ports → CarriesFlat (pattern_text (start_grid plan) ports) flat
+    → IsCompiled flat list plan 1 ports → CarriesFlat (pattern_text (start_grid plan) ports) flat
 
 -- a text that carries the flat netlist of a design carries the design and its nets, whoever wrote the text
 abbrev pub DesignsAreCarried : Type 0

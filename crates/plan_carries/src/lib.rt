@@ -10,9 +10,9 @@ ghost use Rattle.plan_carries.specs.ContextLaws.{DesignsAreCarriedInContexts, Pi
 ghost use Rattle.plan_carries.specs.Laws.{DesignsAreCarried, PlansHavePorts, PlanesShowRuns, TextsCarryFlats};
 
 use grid_assembly::laws::keeps_law;
+use pattern_writing::written_text_reads;
 use plan_ports::tables_are_readable;
 use tile_library::Shipped;
-use written_reads::written_text_reads;
 
 /// A plan that computes the cells of a flat netlist has its inputs and outputs.
 pub fn plans_have_ports()

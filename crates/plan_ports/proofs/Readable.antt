@@ -19,7 +19,7 @@ use Rattle.pattern_reading.specs.SoundTable.{IsSoundPort}
 use Rattle.pattern_reading.specs.Laws.{IsPortInside}
 use Rattle.plan_ports.specs.Tables.{HasPortNames}
 use Rattle.plan_ports.proofs.NetLines.{nets_sound, nets_inside, nets_plain, one_net}
-use Rattle.plan_ports.specs.Laws.{TablesAreReadable}
+use Rattle.plan_ports.specs.Laws.{HasRoom, TablesAreReadable}
 
 -- lines have what their cells and their names give
 each_line : (P : ℕ × ℕ → Type 0) (Q : List ℕ → Type 0) (R : PortLine → Type 0) → ((line : PortLine) → P (line.x, line.y) → Q line.name → R line)
@@ -109,12 +109,18 @@ module _ (flat : Flat) (plan : Plan) (h : IsAdmissible plan) (names : HasPortNam
   lines_plain : AllByRecursion (λ line. All (λ b. b ≢ 13) line.name) lines
   lines_plain = each (λ line. All (λ b. b ≢ 13) line.name) (λ line at name k d lt. (name.1 k d lt).1)
 
+-- each period has room for one context
+pub one_has_room : (plan : Plan) → HasRoom plan 1
+one_has_room plan = record { some = λ e. omega (arith, e); room = λ more. omega (arith, more) }
+
 pub tables_are_readable : TablesAreReadable
-tables_are_readable flat plan ports range named names places h t = record {
+tables_are_readable flat plan c ports range named names places h room t = record {
   sound = record {
     period = λ e. (period_fits plan h).0 (sym t.period ∙ e);
     p = subst (λ n. n ≤ greatest_number) (sym t.period) (period_fits plan h).1;
     l = subst (λ n. n ≤ greatest_number) (sym t.latency) (omega (arith, h.size.columns));
+    contexts = λ e. room.some (sym t.contexts ∙ e);
+    room = rw (t.contexts, t.period) (room.room);
     ins = lines_sound flat plan h names flat.ins range.ins ports.ins 0 plan.ins h.ins (omega arith) t.in_cells t.in_names;
     outs = lines_sound flat plan h names flat.outs range.outs ports.outs (length plan.columns) plan.outs h.outs (omega arith) t.out_cells t.out_names;
     nets = nets_sound flat plan h names places ports.nets t.net_cells t.net_names (small_size plan h).0 (small_size plan h).1;

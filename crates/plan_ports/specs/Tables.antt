@@ -27,10 +27,12 @@ abbrev pub named_paths : List FlatNet → List (Name × List ℕ)
 named_paths nets = map (λ net. name_and_path net.place net.name) nets
 
 -- The period, the latency, the cells of ports, and the cells and the offsets of nets are the plan's. The names of ports, and the
--- names and places of nets, are the netlist's, in order: the nets are those that are no clock nets.
-pub record IsTableOf (flat : Flat) (plan : Plan) (ports : Ports) : Type 0 where
+-- names and places of nets, are the netlist's, in order: the nets are those that are no clock nets. So many contexts run in the
+-- pattern.
+pub record IsTableOf (flat : Flat) (plan : Plan) (c : ℕ) (ports : Ports) : Type 0 where
   pub period : ports.p ≡ period_of plan
   pub latency : ports.l ≡ latency_of plan
+  pub contexts : ports.c ≡ c
   pub in_cells : cells_of ports.ins ≡ input_cells plan
   pub in_names : names_of ports.ins ≡ names_of_ports flat flat.ins
   pub out_cells : cells_of ports.outs ≡ output_cells plan

@@ -61,12 +61,13 @@ fn output_lines(alloc: Global, flat: &Flat, plan: &Plan) -> Result<Vec<PortLine>
     Ok(lines)
 }
 
-/// The port table of a plan that has an input and an output for each of the netlist's, and a net for each but the clock nets.
-pub fn of_plan(alloc: Global, flat: &Flat, plan: &Plan) -> Result<Ports, PortsError>
+/// The port table of a plan that has an input and an output for each of the netlist's, and a net for each but the clock nets. In the
+/// pattern run `c` contexts.
+pub fn of_plan(alloc: Global, flat: &Flat, plan: &Plan, c: u64) -> Result<Ports, PortsError>
     requires in_range { IsInRange flat.now }
     requires admissible { IsAdmissible plan.now }
     requires ports { HasPortsOf flat.now plan.now }
-    ensures { IfOk result (IsTableOf flat.now plan.now) }
+    ensures { IfOk result (IsTableOf flat.now plan.now c) }
 {
     let ins = input_lines(alloc, flat, plan)?;
     let outs = output_lines(alloc, flat, plan)?;
@@ -74,6 +75,7 @@ pub fn of_plan(alloc: Global, flat: &Flat, plan: &Plan) -> Result<Ports, PortsEr
     Ok(Ports {
         p: period(plan),
         l: latency(plan),
+        c,
         ins: List::of(ins),
         outs: List::of(outs),
         nets: List::of(nets),

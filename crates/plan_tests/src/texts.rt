@@ -74,6 +74,7 @@ fn gate_ports(alloc: Global) -> Result<Ports, Fail> {
     Ok(Ports {
         p: 32,
         l: 32,
+        c: 1,
         ins,
         outs,
         nets,
@@ -137,6 +138,7 @@ fn no_ports(alloc: Global) -> Ports {
     Ports {
         p: 32,
         l: 3200,
+        c: 1,
         ins: List::of(Vec::new(alloc)),
         outs: List::of(Vec::new(alloc)),
         nets: List::of(Vec::new(alloc)),

@@ -35,15 +35,15 @@ any_push t [] form = or-false (t form) ∙ sym (by_cond (t form) false)
 any_push t (first ∷ forms) form = step_any (list_any t forms) _ (t form) (any_push t forms form) (t first)
 
 -- the tests of a line against others
-pub same_as_version : (p l : ℕ) (forms : List PortForm) → list_any (is_same_port (Version p l)) forms ≡ false
-same_as_version p l [] = refl
-same_as_version p l (form ∷ forms) = same_as_version p l forms
+pub same_as_version : (p l c : ℕ) (forms : List PortForm) → list_any (is_same_port (Version p l c)) forms ≡ false
+same_as_version p l c [] = refl
+same_as_version p l c (form ∷ forms) = same_as_version p l c forms
 
 pub same_as_input : (port : PortLine) (forms : List PortForm) → list_any (is_same_port (In port)) forms ≡ list_any (is_input port.name) forms
 same_as_input port forms = any_same _ _ by_form forms
   where
     by_form : (form : PortForm) → is_same_port (In port) form ≡ is_input port.name form
-    by_form (Version p l) = refl
+    by_form (Version p l c) = refl
     by_form (In a) = refl
     by_form (Out a) = refl
     by_form (Net a) = refl
@@ -52,7 +52,7 @@ pub same_as_output : (port : PortLine) (forms : List PortForm) → list_any (is_
 same_as_output port forms = any_same _ _ by_form forms
   where
     by_form : (form : PortForm) → is_same_port (Out port) form ≡ is_output port.name form
-    by_form (Version p l) = refl
+    by_form (Version p l c) = refl
     by_form (In a) = refl
     by_form (Out a) = refl
     by_form (Net a) = refl
@@ -61,7 +61,7 @@ pub same_as_net : (net : NetLine) (forms : List PortForm) → list_any (is_same_
 same_as_net net forms = any_same _ _ by_form forms
   where
     by_form : (form : PortForm) → is_same_port (Net net) form ≡ is_net net.name net.path form
-    by_form (Version p l) = refl
+    by_form (Version p l c) = refl
     by_form (In a) = refl
     by_form (Out a) = refl
     by_form (Net a) = refl

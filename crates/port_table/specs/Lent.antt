@@ -18,7 +18,7 @@ abbrev pub lent_net : NetWords → NetLine
 lent_net net = record { x = net.x; y = net.y; offset = net.offset; name = net.name.now; path = net.path.now }
 
 abbrev pub form_of : PortForm → lines.PortForm
-form_of (Version period latency) = lines.Version period latency
+form_of (Version period latency contexts) = lines.Version period latency contexts
 form_of (In port) = lines.In (lent_port port)
 form_of (Out port) = lines.Out (lent_port port)
 form_of (Net net) = lines.Net (lent_net net)

@@ -1,7 +1,7 @@
 // The table that lines make.
 ghost use Rattle.std.specs.Prelude.{◌≡◌, ◌++◌, IfOk, OnOk};
 ghost use Rattle.std.specs.Option.{option_to_list};
-ghost use Rattle.pattern_reading.specs.PortTable.{input_of, output_of, period_in, latency_in, ports_of};
+ghost use Rattle.pattern_reading.specs.PortTable.{input_of, output_of, period_in, latency_in, contexts_in, ports_of};
 ghost use Rattle.pattern_reading.specs.PortTable as table;
 ghost use Rattle.port_table.specs.Lent.{form_of, lent_port, lent_net, forms_in};
 
@@ -33,17 +33,25 @@ fn net_line(alloc: Global, net: NetWords<'_>) -> Result<NetLine, AllocError>
     })
 }
 
-// The period and the latency of the version line; 32 and 0 where there is none.
-fn version_of(lines: &[TableLine<'_>]) -> (u64, u64)
+// The period, the latency and the number of contexts of the version line; 32, 0 and 1 where there is none.
+fn version_of(lines: &[TableLine<'_>]) -> (u64, u64, u64)
     ensures period { result.0 ≡ period_in (forms_in lines.now) }
     ensures latency { result.1 ≡ latency_in (forms_in lines.now) }
+    ensures contexts { result.2 ≡ contexts_in (forms_in lines.now) }
 {
     for line in lines {
-        if let Some(PortForm::Version { period, latency }) = line.form {
-            return (period, latency);
+        if let Some(
+            PortForm::Version {
+                period,
+                latency,
+                contexts,
+            },
+        ) = line.form
+        {
+            return (period, latency, contexts);
         }
     }
-    (32, 0)
+    (32, 0, 1)
 }
 
 // The ports and nets of the lines so far.
@@ -74,7 +82,7 @@ impl Lists {
 pub fn ports_of(alloc: Global, lines: &[TableLine<'_>]) -> Result<Ports, AllocError>
     ensures { IfOk result (λ ports. ports ≡ ports_of (forms_in lines.now)) }
 {
-    let (p, l) = version_of(lines);
+    let (p, l, c) = version_of(lines);
     let mut lists = Lists {
         ins: Vec::new(alloc),
         outs: Vec::new(alloc),
@@ -88,6 +96,7 @@ pub fn ports_of(alloc: Global, lines: &[TableLine<'_>]) -> Result<Ports, AllocEr
     Ok(Ports {
         p,
         l,
+        c,
         ins: List::of(lists.ins),
         outs: List::of(lists.outs),
         nets: List::of(lists.nets),

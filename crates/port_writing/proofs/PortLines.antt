@@ -54,7 +54,7 @@ spelled_more some more rest =
 
 pub table_is : (here : List ℕ) (ports : Ports) (rest : List ℕ)
     → here ++ (ended_lines (port_lines ports) ++ rest)
-    ≡ here ++ (spelled_line (Version ports.p ports.l)
+    ≡ here ++ (spelled_line (Version ports.p ports.l ports.c)
     ++ (10 ∷ (ended_lines (map (port_text (codes "IN")) ports.ins)
     ++ (ended_lines (map (port_text (codes "OUT")) ports.outs) ++ (ended_lines (map (λ net. spelled_line (Net net)) ports.nets) ++ rest)))))
 table_is here ports rest =
@@ -67,7 +67,7 @@ table_is here ports rest =
     ∙ ap (λ l. ended_lines (map (port_text (codes "IN")) ports.ins) ++ (ended_lines (map (port_text (codes "OUT")) ports.outs) ++ (ended_lines l ++ rest))) (map-map spelled_line Net ports.nets))
   where
     first : List ℕ
-    first = spelled_line (Version ports.p ports.l)
+    first = spelled_line (Version ports.p ports.l ports.c)
 
 -- what is left of the lines of some things begins with the line of the next
 pub line_next : {X : Type 0} (text : X → List ℕ) (here : List ℕ) (xs : List X) (i : ℕ) (x : X) (rest : List ℕ) → i < length xs → x ≡ get_or xs i x
@@ -85,8 +85,8 @@ after_version : (ports : Ports) (n : ℕ) → n ≢ 0 → get_or (port_lines por
 after_version ports zero some = absurd (some refl)
 after_version ports (suc n) some = let e : suc n - 1 ≡ n = omega arith in ap (λ k. get_or (map spelled_line (forms ports)) k []) (sym e)
 
-spelled_at : (some : List PortForm) (n : ℕ) → n < length some → get_or (map spelled_line some) n [] ≡ spelled_line (get_or some n (Version 0 0))
-spelled_at some n within = get_or-map spelled_line some n (Version 0 0) [] within
+spelled_at : (some : List PortForm) (n : ℕ) → n < length some → get_or (map spelled_line some) n [] ≡ spelled_line (get_or some n (Version 0 0 1))
+spelled_at some n within = get_or-map spelled_line some n (Version 0 0 1) [] within
 
 three : {X : Type 0} (a b c : List X) → length (a ++ b ++ c) ≡ length a + length b + length c
 three a b c =
@@ -106,9 +106,9 @@ input_line ports n port some is =
     let both : length (map In ports.ins ++ map Out ports.outs) ≡ length (map In ports.ins) + length (map Out ports.outs) = length-append (map In ports.ins) (map Out ports.outs) in
     after_version ports n some
     ∙ spelled_at (forms ports) (n - 1) (omega (arith, within, many_forms ports))
-    ∙ ap spelled_line (get_or_append_left (map In ports.ins ++ map Out ports.outs) (map Net ports.nets) (Version 0 0) (n - 1) (omega (arith, within, ins, both))
-    ∙ get_or_append_left (map In ports.ins) (map Out ports.outs) (Version 0 0) (n - 1) (omega (arith, within, ins))
-    ∙ get_or-map In ports.ins (n - 1) port (Version 0 0) within ∙ ap In (get_or_from_slice_get ports.ins (n - 1) port port is))
+    ∙ ap spelled_line (get_or_append_left (map In ports.ins ++ map Out ports.outs) (map Net ports.nets) (Version 0 0 1) (n - 1) (omega (arith, within, ins, both))
+    ∙ get_or_append_left (map In ports.ins) (map Out ports.outs) (Version 0 0 1) (n - 1) (omega (arith, within, ins))
+    ∙ get_or-map In ports.ins (n - 1) port (Version 0 0 1) within ∙ ap In (get_or_from_slice_get ports.ins (n - 1) port port is))
 
 pub output_line : (ports : Ports) (n k : ℕ) (port : PortLine) → n ≢ 0 → n - 1 ≡ length ports.ins + k → slice_get ports.outs k ≡ Some port → get_or (port_lines ports) n [] ≡ port_text (codes "OUT") port
 output_line ports n k port some at is =
@@ -119,10 +119,10 @@ output_line ports n k port some at is =
     let place : n - 1 ≡ length (map In ports.ins) + k = omega (arith, at, ins) in
     after_version ports n some
     ∙ spelled_at (forms ports) (n - 1) (omega (arith, at, within, many_forms ports))
-    ∙ ap spelled_line (ap (λ i. get_or (forms ports) i (Version 0 0)) place
-    ∙ get_or_append_left (map In ports.ins ++ map Out ports.outs) (map Net ports.nets) (Version 0 0) (length (map In ports.ins) + k) (omega (arith, within, outs, both))
-    ∙ get_or-append-add (map In ports.ins) (map Out ports.outs) k (Version 0 0)
-    ∙ get_or-map Out ports.outs k port (Version 0 0) within ∙ ap Out (get_or_from_slice_get ports.outs k port port is))
+    ∙ ap spelled_line (ap (λ i. get_or (forms ports) i (Version 0 0 1)) place
+    ∙ get_or_append_left (map In ports.ins ++ map Out ports.outs) (map Net ports.nets) (Version 0 0 1) (length (map In ports.ins) + k) (omega (arith, within, outs, both))
+    ∙ get_or-append-add (map In ports.ins) (map Out ports.outs) k (Version 0 0 1)
+    ∙ get_or-map Out ports.outs k port (Version 0 0 1) within ∙ ap Out (get_or_from_slice_get ports.outs k port port is))
 
 pub net_line : (ports : Ports) (n k : ℕ) (net : NetLine) → n ≢ 0 → n - 1 ≡ length ports.ins + (length ports.outs + k) → slice_get ports.nets k ≡ Some net → get_or (port_lines ports) n [] ≡ spelled_line (Net net)
 net_line ports n k net some at is =
@@ -133,9 +133,9 @@ net_line ports n k net some at is =
     let place : n - 1 ≡ length (map In ports.ins ++ map Out ports.outs) + k = omega (arith, at, ins, outs, both) in
     after_version ports n some
     ∙ spelled_at (forms ports) (n - 1) (omega (arith, at, within, many_forms ports))
-    ∙ ap spelled_line (ap (λ i. get_or (forms ports) i (Version 0 0)) place
-    ∙ get_or-append-add (map In ports.ins ++ map Out ports.outs) (map Net ports.nets) k (Version 0 0)
-    ∙ get_or-map Net ports.nets k net (Version 0 0) within ∙ ap Net (get_or_from_slice_get ports.nets k net net is))
+    ∙ ap spelled_line (ap (λ i. get_or (forms ports) i (Version 0 0 1)) place
+    ∙ get_or-append-add (map In ports.ins ++ map Out ports.outs) (map Net ports.nets) k (Version 0 0 1)
+    ∙ get_or-map Net ports.nets k net (Version 0 0 1) within ∙ ap Net (get_or_from_slice_get ports.nets k net net is))
 
 -- as it is written
 pub line_with_end : (here : List ℕ) (ports : Ports) (n : ℕ) (text rest : List ℕ) → get_or (port_lines ports) n [] ≡ text → here ++ (ended_line ports n ++ rest) ≡ here ++ (text ++ (10 ∷ rest))

@@ -23,7 +23,7 @@ fn put_line<O: Sink>(sink: &mut O, page: &mut Page, ports: &Ports, n: usize) -> 
         (held page.old ++ (ended_line ports.now n ++ rest))) }
 {
     if n == 0 {
-        return write_version(sink, page, ports.p, ports.l);
+        return write_version(sink, page, ports.p, ports.l, ports.c);
     }
     let input = n - 1;
     if input < ports.ins.len() {

@@ -35,19 +35,25 @@ pub fn write_version<O: Sink>(
     page: &mut Page,
     period: u64,
     latency: u64,
+    contexts: u64,
 ) -> Result<(), Failed>
     ensures column { column_of page.new ≡ column_of page.old }
     ensures ok { OnOk result ((rest : List ℕ) →
         Wrote (O.written sink.old) (O.written sink.new) (O.faults sink.old) (O.faults sink.new)
-        (held page.old ++ (spelled_line (Version period latency) ++ (10 ∷ rest))) (held page.new ++ rest)) }
+        (held page.old ++ (spelled_line (Version period latency contexts) ++ (10 ∷ rest))) (held page.new ++ rest)) }
     ensures err { OnErr result ((rest : List ℕ) →
         Broke (O.written sink.old) (O.written sink.new) (O.faults sink.old) (O.faults sink.new)
-        (held page.old ++ (spelled_line (Version period latency) ++ (10 ∷ rest)))) }
+        (held page.old ++ (spelled_line (Version period latency contexts) ++ (10 ∷ rest)))) }
 {
     let mut p_digits = Buffer::new();
     let mut l_digits = Buffer::new();
+    let mut c_digits = Buffer::new();
     let p = p_digits.format(period).as_bytes();
     let l = l_digits.format(latency).as_bytes();
+    let c = c_digits.format(contexts).as_bytes();
+    if contexts > 1 {
+        return write_fields(sink, page, &[b"1", b"P", p, b"L", l, b"C", c]);
+    }
     write_fields(sink, page, &[b"1", b"P", p, b"L", l])
 }
 
@@ -141,7 +147,7 @@ pub fn write_table<O: Sink>(sink: &mut O, page: &mut Page, ports: &Ports) -> Res
         Broke (O.written sink.old) (O.written sink.new) (O.faults sink.old) (O.faults sink.new)
         (held page.old ++ (ended_lines (port_lines ports.now) ++ rest))) }
 {
-    write_version(sink, page, ports.p, ports.l)?;
+    write_version(sink, page, ports.p, ports.l, ports.c)?;
     write_ports(sink, page, b"IN", ports.ins.as_slice())?;
     write_ports(sink, page, b"OUT", ports.outs.as_slice())?;
     write_nets(sink, page, ports.nets.as_slice())

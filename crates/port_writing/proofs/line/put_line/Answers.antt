@@ -10,12 +10,12 @@ use Rattle.port_writing.proofs.line.put_line.Goals as goal
 
 pub returns-then-n-eq0-clause-ok : goal.returns-then-n-eq0-clause-ok
 returns-then-n-eq0-clause-ok g c =
-    let line : get_or (port_lines c.args.ports.now) c.args.n [] ≡ spelled_line (Version c.args.ports.now.p c.args.ports.now.l) = ap (λ n. get_or (port_lines c.args.ports.now) n []) c.if-n-eq0.true in
+    let line : get_or (port_lines c.args.ports.now) c.args.n [] ≡ spelled_line (Version c.args.ports.now.p c.args.ports.now.l c.args.ports.now.c) = ap (λ n. get_or (port_lines c.args.ports.now) n []) c.if-n-eq0.true in
     on_ok_weaker c.write_version.result (λ wrote rest. wrote_as (line_with_end (held c.args.page.now) c.args.ports.now c.args.n _ rest line) (wrote rest)) c.write_version.ensures.ok
 
 pub returns-then-n-eq0-clause-err : goal.returns-then-n-eq0-clause-err
 returns-then-n-eq0-clause-err g c =
-    let line : get_or (port_lines c.args.ports.now) c.args.n [] ≡ spelled_line (Version c.args.ports.now.p c.args.ports.now.l) = ap (λ n. get_or (port_lines c.args.ports.now) n []) c.if-n-eq0.true in
+    let line : get_or (port_lines c.args.ports.now) c.args.n [] ≡ spelled_line (Version c.args.ports.now.p c.args.ports.now.l c.args.ports.now.c) = ap (λ n. get_or (port_lines c.args.ports.now) n []) c.if-n-eq0.true in
     on_err_weaker c.write_version.result (λ broke rest. broke_as (line_with_end (held c.args.page.now) c.args.ports.now c.args.n _ rest line) (broke rest)) c.write_version.ensures.err
 
 pub returns-then-input-len-clause-ok : goal.returns-then-input-len-clause-ok

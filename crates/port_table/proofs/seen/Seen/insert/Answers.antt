@@ -6,7 +6,7 @@ use Rattle.port_table.proofs.SeenNames.{any_push, same_as_version, same_as_input
 use Rattle.port_table.proofs.seen.Seen.insert.Goals as goal
 
 pub returns-in-Version-clause-added : goal.returns-in-Version-clause-added
-returns-in-Version-clause-added c = λ before h. rw (c.in-Version.is, same_as_version c.in-Version.period c.in-Version.latency before) refl
+returns-in-Version-clause-added c = λ before h. rw (c.in-Version.is, same_as_version c.in-Version.period c.in-Version.latency c.in-Version.contexts before) refl
 
 pub returns-in_ok-is_new-in-In-clause-added : goal.returns-in_ok-is_new-in-In-clause-added
 returns-in_ok-is_new-in-In-clause-added c = λ before h.

@@ -4,7 +4,7 @@ use Rattle.pattern_reading.specs.Pattern.{ReadsAsPattern}
 use Rattle.pattern_reading.specs.PortTable.{ReadsAsPorts}
 use Rattle.pattern_reading.proofs.RleVerdict.{verdict_pattern}
 use Rattle.pattern_writing.specs.Samples.{or_grid, or_text, or_text_with_nets, or_items_text, bare_grid, bare_text}
-use Rattle.pattern_samples.specs.Ports.{or_ports, bare_ports}
+use Rattle.pattern_writing.specs.SamplePorts.{or_ports, bare_ports}
 
 pub or_items_read : ReadsAsPattern or_items_text or_grid
 or_items_read = verdict_pattern or_items_text or_grid refl refl

@@ -15,6 +15,7 @@ abbrev pub or_ports : Ports
 or_ports = record {
   p = 32;
   l = 32;
+  c = 1;
   ins = port_line_at 0 8 (codes "a") ∷ port_line_at 0 24 (codes "b") ∷ [];
   outs = port_line_at 32 8 (codes "y") ∷ [];
   nets = net_line_at 0 8 0 (codes "a") (codes "-") ∷ net_line_at 0 24 0 (codes "b") (codes "-") ∷ net_line_at 31 8 31 (codes "y") (codes "-") ∷ [];
@@ -22,4 +23,4 @@ or_ports = record {
 
 -- of a circuit without ports
 abbrev pub bare_ports : Ports
-bare_ports = record { p = 32; l = 0; ins = []; outs = []; nets = [] }
+bare_ports = record { p = 32; l = 0; c = 1; ins = []; outs = []; nets = [] }

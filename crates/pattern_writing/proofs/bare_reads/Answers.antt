@@ -1,5 +1,5 @@
-use Rattle.pattern_samples.proofs.Samples.{bare_reads, bare_has_ports}
-use Rattle.pattern_samples.proofs.bare_reads.Goals as goal
+use Rattle.pattern_writing.proofs.Samples.{bare_reads, bare_has_ports}
+use Rattle.pattern_writing.proofs.bare_reads.Goals as goal
 
 pub returns-clause-pattern : goal.returns-clause-pattern
 returns-clause-pattern c = bare_reads

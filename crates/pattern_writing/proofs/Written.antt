@@ -24,12 +24,12 @@ use Rattle.pattern_reading.proofs.SpelledPattern.{not_skipped, on_one_line, spel
 use Rattle.pattern_writing.specs.Writer as writer
 use Rattle.pattern_writing.specs.Laws.{spelled}
 use Rattle.pattern_writing.proofs.Runs.{spelled_runs}
-use Rattle.written_reads.specs.Laws.{HasWrittenPattern, HasWrittenPorts, HasWrittenText, IsWritable, pattern_text, written}
-use Rattle.written_reads.proofs.Look.{Mark, RowEnd, Of, look, look_grid, mark_of}
-use Rattle.written_reads.proofs.Inside.{AreInside, grid_inside}
-use Rattle.written_reads.proofs.Runs.{item, item_of, placed, run_states}
-use Rattle.written_reads.proofs.Faults.{IsKnown, run_faults, runs_known, some_runs}
-use Rattle.written_reads.proofs.Text.{AreLines, items_spelled, lines_of_runs, lines_spelled, meanings, meanings_of_lines, text_is}
+use Rattle.pattern_writing.specs.WrittenText.{HasWrittenPattern, HasWrittenPorts, HasWrittenText, IsWritable, pattern_text, written}
+use Rattle.pattern_writing.proofs.Look.{Mark, RowEnd, Of, look, look_grid, mark_of}
+use Rattle.pattern_writing.proofs.Inside.{AreInside, grid_inside}
+use Rattle.pattern_writing.proofs.ReadRuns.{item, item_of, placed, run_states}
+use Rattle.pattern_writing.proofs.Faults.{IsKnown, run_faults, runs_known, some_runs}
+use Rattle.pattern_writing.proofs.Text.{AreLines, items_spelled, lines_of_runs, lines_spelled, meanings, meanings_of_lines, text_is}
 use Rattle.pattern_reading.proofs.SpelledItems.{meaning}
 
 no_end : (n : ℕ) (m : Mark) → is_end (item n m) ≡ false

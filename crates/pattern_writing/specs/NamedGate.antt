@@ -5,11 +5,11 @@ use Rattle.pattern_reading.specs.Pattern.{ReadsAsPattern}
 use Rattle.pattern_reading.specs.PortTable.{ReadsAsPorts, ports_of}
 use Rattle.pattern_reading.specs.Spelling.{spelled_table}
 use Rattle.pattern_writing.specs.Samples.{or_grid, or_items_text}
-use Rattle.pattern_samples.specs.Ports.{port_line_at}
+use Rattle.pattern_writing.specs.SamplePorts.{port_line_at}
 
 -- the port lines of an OR gate whose inputs and output have these names
 abbrev pub named_or_forms : List ℕ → List ℕ → List ℕ → List PortForm
-named_or_forms a b y = Version 32 32 ∷ In (port_line_at 0 8 a) ∷ In (port_line_at 0 24 b) ∷ Out (port_line_at 32 8 y) ∷ []
+named_or_forms a b y = Version 32 32 1 ∷ In (port_line_at 0 8 a) ∷ In (port_line_at 0 24 b) ∷ Out (port_line_at 32 8 y) ∷ []
 
 abbrev pub named_or_text : List ℕ → List ℕ → List ℕ → List ℕ
 named_or_text a b y = spelled_table (named_or_forms a b y) ++ or_items_text

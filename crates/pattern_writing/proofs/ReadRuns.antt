@@ -10,7 +10,7 @@ use Rattle.pattern_reading.specs.Pattern.{state_at, state_in}
 use Rattle.pattern_reading.proofs.Places.{next_place}
 use Rattle.pattern_writing.specs.Writer as writer
 use Rattle.pattern_writing.specs.Laws.{spelled}
-use Rattle.written_reads.proofs.Look.{Mark, RowEnd, Of, look, mark_of}
+use Rattle.pattern_writing.proofs.Look.{Mark, RowEnd, Of, look, mark_of}
 use Rattle.pattern_reading.proofs.SpelledPattern.{on_one_line}
 use Rattle.std.proofs.lemmas.Bool.{ne_eqb, eq-eqb}
 

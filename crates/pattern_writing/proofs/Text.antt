@@ -18,9 +18,9 @@ use Rattle.pattern_reading.proofs.SpelledHeader.{spelled_count}
 use Rattle.pattern_writing.specs.Writer as writer
 use Rattle.pattern_writing.specs.Laws.{IsShort, joined}
 use Rattle.pattern_writing.proofs.Lines.{wrapped_is_lines}
-use Rattle.written_reads.proofs.Look.{Mark, RowEnd, Of, mark_of, tag}
-use Rattle.written_reads.proofs.Runs.{item, item_of}
-use Rattle.written_reads.proofs.Faults.{IsKnown}
+use Rattle.pattern_writing.proofs.Look.{Mark, RowEnd, Of, mark_of, tag}
+use Rattle.pattern_writing.proofs.ReadRuns.{item, item_of}
+use Rattle.pattern_writing.proofs.Faults.{IsKnown}
 use Rattle.pattern_reading.proofs.SpelledItems.{meaning}
 
 -- a run as an item, and the `!`

@@ -10,9 +10,9 @@ use Rattle.pattern_reading.specs.Items.{Item, Placed, column_after, row_after}
 use Rattle.pattern_reading.specs.Pattern.{RleFaultAt, fault_at, item_fault, run_fault}
 use Rattle.pattern_writing.specs.Writer as writer
 use Rattle.pattern_writing.specs.Laws.{spelled}
-use Rattle.written_reads.proofs.Look.{Mark, RowEnd, Of, mark_of, tag}
-use Rattle.written_reads.proofs.Inside.{AreInside, GoesOn}
-use Rattle.written_reads.proofs.Runs.{IsRun, Stands, after_cells, after_ends, item, item_of, placed}
+use Rattle.pattern_writing.proofs.Look.{Mark, RowEnd, Of, mark_of, tag}
+use Rattle.pattern_writing.proofs.Inside.{AreInside, GoesOn}
+use Rattle.pattern_writing.proofs.ReadRuns.{IsRun, Stands, after_cells, after_ends, item, item_of, placed}
 
 -- a run whose count can be written, of a tag that stands for something
 pub record IsKnown (run : writer.TagRun) : Type 0 where

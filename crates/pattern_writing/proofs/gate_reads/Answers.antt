@@ -1,5 +1,5 @@
-use Rattle.pattern_samples.proofs.Samples.{or_reads, or_with_nets_reads, or_has_ports, or_with_nets_has_ports}
-use Rattle.pattern_samples.proofs.gate_reads.Goals as goal
+use Rattle.pattern_writing.proofs.Samples.{or_reads, or_with_nets_reads, or_has_ports, or_with_nets_has_ports}
+use Rattle.pattern_writing.proofs.gate_reads.Goals as goal
 
 pub returns-clause-pattern : goal.returns-clause-pattern
 returns-clause-pattern c = or_reads

@@ -7,7 +7,7 @@ use Rattle.ww_rule.specs.declared.pattern.State.{State}
 use Rattle.ww_rule.specs.declared.pattern.State.TheVariants.{Empty}
 use Rattle.ww_rule.specs.Grid.{IsGrid}
 use Rattle.pattern_writing.specs.Writer.{grid_tags, row_tags, tag_of, unless_last, without_end}
-use Rattle.written_reads.proofs.Look.{Mark, RowEnd, Of, mark_of, mark_of_cell, tag}
+use Rattle.pattern_writing.proofs.Look.{Mark, RowEnd, Of, mark_of, mark_of_cell, tag}
 use Rattle.ww_rule.proofs.Boxes.{rows_within as few_rows}
 
 -- a tag that goes on in its row stands in the box, and so does the rest

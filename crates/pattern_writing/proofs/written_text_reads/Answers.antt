@@ -1,5 +1,5 @@
-use Rattle.written_reads.proofs.Written.{written_pattern, written_ports, written_text}
-use Rattle.written_reads.proofs.written_text_reads.Goals as goal
+use Rattle.pattern_writing.proofs.Written.{written_pattern, written_ports, written_text}
+use Rattle.pattern_writing.proofs.written_text_reads.Goals as goal
 
 pub returns-clause-pattern : goal.returns-clause-pattern
 returns-clause-pattern c = written_pattern

@@ -1,2 +1,0 @@
-pub mod NamedGate
-pub mod Samples
