@@ -4,8 +4,8 @@ ghost use Rattle.made_summary.specs.Laws.{FewCyclesAreInTime, RunsAreBounded, Wr
 use flat_designs::{flat_is_in_range, flat_is_named};
 use grid_assembly::laws::patterns_are_planes;
 use netlist_plans::texts_have_port_names;
-use plan_ports::tables_are_readable;
 use pattern_writing::written_text_reads;
+use plan_ports::tables_are_readable;
 
 /// The text of an admissible plan and its table reads as the plan's pattern and as the table.
 pub fn written_plans_read()

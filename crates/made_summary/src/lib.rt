@@ -3,10 +3,10 @@
 //! Theorem: `summarize` (`summary`, `refused`).
 #![tactic(auto)]
 
+mod drawing;
 mod error;
 pub mod laws;
 mod plans;
-mod streams;
 mod summarizing;
 pub mod texts;
 

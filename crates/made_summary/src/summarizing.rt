@@ -11,9 +11,9 @@ ghost use Rattle.made_summary.specs.Outputs.{AreOutputsIn, HasRunCause, IsToldOf
 ghost use Rattle.made_summary.specs.Summaries.{HasSummaryCause, Summarizes, outputs_by_name};
 ghost use Rattle.made_summary.specs.declared.error.SummaryError.TheVariants.{NoMemory};
 
+use crate::drawing::draw_streams;
 use crate::error::SummaryError;
 use crate::plans::plan_made;
-use crate::streams::draw_streams;
 use drive::{SimulateError, Streams, simulate};
 use grid_assembly::pattern_of;
 use lists::List;

@@ -2,7 +2,7 @@ use Rattle.std.proofs.Common.{◌≡◌, ◌==◌, ◌∙◌, ap, Bool, List, []
 use Rattle.made_netlists.specs.Draws.{state_after}
 use Rattle.made_summary.specs.Streams.{stream_after}
 use Rattle.made_summary.proofs.Drawn.{one_drawn}
-use Rattle.made_summary.proofs.streams.draw_stream.Goals as goal
+use Rattle.made_summary.proofs.drawing.draw_stream.Goals as goal
 
 pub loop-cycle-preserved : goal.loop-cycle-preserved
 loop-cycle-preserved c =

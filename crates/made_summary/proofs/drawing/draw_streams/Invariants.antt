@@ -2,7 +2,7 @@ use Rattle.std.proofs.Common.{◌≡◌, ◌<◌, ◌*◌, ◌^◌, map}
 use Rattle.std.specs.List.{range_with_len}
 use Rattle.made_netlists.specs.Draws.{state_after}
 use Rattle.made_summary.specs.Streams.{stream_after}
-use Rattle.made_summary.proofs.streams.draw_streams.Given as goal
+use Rattle.made_summary.proofs.drawing.draw_streams.Given as goal
 
 abbrev pub invariant-loop-input : goal.invariant-loop-input
 invariant-loop-input l =

@@ -1,7 +1,7 @@
 use Rattle.std.proofs.Common.{◌≡◌, ◌<◌, ◌^◌}
 use Rattle.made_netlists.specs.Draws.{state_after}
 use Rattle.made_summary.specs.Streams.{stream_after}
-use Rattle.made_summary.proofs.streams.draw_stream.Given as goal
+use Rattle.made_summary.proofs.drawing.draw_stream.Given as goal
 
 abbrev pub invariant-loop-cycle : goal.invariant-loop-cycle
 invariant-loop-cycle l =

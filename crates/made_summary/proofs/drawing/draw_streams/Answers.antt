@@ -3,7 +3,7 @@ use Rattle.std.specs.List.{range_with_len}
 use Rattle.std.proofs.lemmas.List.FromFn.{map-range_with_len_more}
 use Rattle.made_summary.specs.Streams.{stream_after}
 use Rattle.made_summary.proofs.Drawn.{one_stream}
-use Rattle.made_summary.proofs.streams.draw_streams.Goals as goal
+use Rattle.made_summary.proofs.drawing.draw_streams.Goals as goal
 
 pub loop-input-preserved : goal.loop-input-preserved
 loop-input-preserved c =
