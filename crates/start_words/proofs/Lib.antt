@@ -1,0 +1,4 @@
+pub mod Named
+pub mod NamedClass
+pub mod Sets
+pub mod Started

@@ -1,0 +1,12 @@
+//! Start words, as `1:q=0`: with which bit the latch of a net starts in a context.
+//!
+//! Theorem: `Starts::read` (`starts`, `fault`), `laws::starts_are_flat`, `laws::named_latches_are_joined`.
+#![tactic(auto)]
+
+mod error;
+pub mod laws;
+mod starts;
+mod words;
+
+pub use error::{StartError, StartFault, StartFaultKind};
+pub use starts::Starts;

@@ -1,0 +1,41 @@
+-- Where a word of the command line is cut: at its last `=`, and what stands before that, where it names a context, at its first `:`, as
+-- in `1:a=0110`.
+use Rattle.std.specs.Prelude.{ℕ, ◌==◌, ◌&&◌, ◌||◌, not, nat_lt, Bool, List, get_or, length}
+use Rattle.std.specs.Char.{is_ascii_digit}
+use Rattle.std.specs.List.{list_any, list_all, before_first, after_first, before_last, after_last}
+use Rattle.std.specs.Str.{byte}
+use Rattle.std.specs.Str.Parse.{digits_value}
+
+abbrev pub is_equals_sign : ℕ → Bool
+is_equals_sign b = b == byte "="
+
+-- a word is cut at its last `=`: what stands before it is a name
+abbrev pub name_in : List ℕ → List ℕ
+name_in word = before_last is_equals_sign word
+
+-- and the bits stand after it
+abbrev pub bits_in : List ℕ → List ℕ
+bits_in word = after_last is_equals_sign word
+
+abbrev pub is_colon : ℕ → Bool
+is_colon b = b == byte ":"
+
+-- one or more decimal digits, of which the first is no 0 where others follow
+abbrev pub is_unpadded : List ℕ → Bool
+is_unpadded digits = length digits == 1 || (nat_lt 1 (length digits) && not (get_or digits 0 0 == byte "0"))
+
+abbrev pub is_plain_number : List ℕ → Bool
+is_plain_number digits = list_all is_ascii_digit digits && is_unpadded digits
+
+-- whether a name has a `:`, and before its first one the number of one of so many contexts
+abbrev pub has_context : ℕ → List ℕ → Bool
+has_context contexts name =
+    let number = before_first is_colon name in
+    list_any is_colon name && (is_plain_number number && nat_lt (digits_value 10 number) contexts)
+
+-- that number, and the name after the `:`
+abbrev pub context_of : List ℕ → ℕ
+context_of name = digits_value 10 (before_first is_colon name)
+
+abbrev pub name_after : List ℕ → List ℕ
+name_after name = after_first is_colon name
