@@ -10,6 +10,8 @@ mod cover_values;
 #[cfg(test)]
 mod covers;
 #[cfg(test)]
+mod latch_starts;
+#[cfg(test)]
 mod logical_lines;
 #[cfg(test)]
 mod made;
