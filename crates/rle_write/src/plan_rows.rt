@@ -1,8 +1,10 @@
 // The rows of a plan's drawing, run by run.
-ghost use Rattle.std.specs.Prelude.{◌≡◌, ◌≤◌, ◌<◌, ◌+◌, ◌^◌, ℕ, List, ◌∷◌, ◌++◌, IfOk, OnErr, OnOk};
+ghost use Rattle.std.specs.Prelude.{◌≡◌, ◌≢◌, ◌≤◌, ◌<◌, ◌+◌, ◌^◌, ◌/◌, ◌%◌, ℕ, List, ◌∷◌, ◌++◌, IfOk, OnErr, OnOk};
 ghost use Rattle.ww_rule.specs.declared.pattern.State.{State};
 ghost use Rattle.lane_core.specs.Plans.{IsAdmissible};
 ghost use Rattle.lane_core.specs.Plans.{size_of};
+ghost use Rattle.plan_layout.specs.Layout.{tiling_of};
+ghost use Rattle.plan_layout.specs.Slots.{slot_of};
 ghost use Rattle.grid_assembly.specs.PlanDrawing.{start_row, start_grid};
 ghost use Rattle.pattern_writing.specs.Writer.{item_texts, wrapped};
 ghost use Rattle.rle_write.specs.Left.{rows_left, text_left};
@@ -11,10 +13,25 @@ ghost use Rattle.port_writing.specs.Progress.{Wrote, Broke};
 
 use crate::items::write_item;
 use crate::rows::{Kept, end_row, write_same};
-use grid_assembly::run_at;
+use grid_assembly::run_in;
 use lane_core::Plan;
+use plan_layout::{Slot, slot_at};
 use port_writing::Page;
 use ww_base::{Failed, Sink};
+
+// What stands in the block of the cell at column `x` and row `y`: it is looked up where the block begins, and is else
+// what stood there for the cell before.
+fn slot_from(plan: &Plan, y: u64, x: u64, before: Slot) -> Slot
+    requires admissible { IsAdmissible plan.now }
+    requires before { x % 32 ≢ 0 → slot_of before ≡ tiling_of plan.now (x / 32) (y / 16) }
+    ensures { slot_of result ≡ tiling_of plan.now (x / 32) (y / 16) }
+{
+    if x % 32 == 0 {
+        slot_at(plan, x / 32, y / 16)
+    } else {
+        before
+    }
+}
 
 // Writes row `y` up to its last cell that is not empty, and answers how many row ends are due then, its own among them.
 fn write_plan_row<O: Sink>(
@@ -39,8 +56,10 @@ fn write_plan_row<O: Sink>(
 {
     let mut kept = Kept::begin(ends);
     let mut x = 0;
+    let mut slot = Slot::Nothing;
     'runs: while x < width {
-        let (state, count) = run_at(plan, y, x, width - x);
+        slot = slot_from(plan, y, x, slot);
+        let (state, count) = run_in(plan, slot, y, x, width - x);
         kept = write_same(sink, page, kept, state, count as usize)?;
         x += count;
     }
