@@ -72,12 +72,25 @@ fn drawn_agrees(alloc: Global, draw: &mut Draw) -> Result<bool, Fail> {
     agrees(alloc, &list, &plan, draw)
 }
 
+// Where the generator stands after the first 1,000 lists.
+const AFTER_1000: u32 = 2_669_688_757;
+
 // Lists with constants as operands, doubled sources, cells that nothing reads, unused latches and inputs, outputs of one
-// source, outputs that are inputs, and none of any of these.
+// source, outputs that are inputs, and none of any of these: 2,000 of them, in two tests.
 #[test]
 fn plans_do_what_random_lists_do(rt: HostRuntime) -> Result<(), Fail> {
     let mut draw = Draw { state: 1 };
-    for turn in 0..2000u32 {
+    for turn in 0..1000u32 {
+        assert!(rt; drawn_agrees(rt.alloc(), &mut draw)?, "list {turn}");
+    }
+    assert_eq!(rt; draw.state, AFTER_1000);
+    Ok(())
+}
+
+#[test]
+fn plans_do_what_1000_more_lists_do(rt: HostRuntime) -> Result<(), Fail> {
+    let mut draw = Draw { state: AFTER_1000 };
+    for turn in 0..1000u32 {
         assert!(rt; drawn_agrees(rt.alloc(), &mut draw)?, "list {turn}");
     }
     Ok(())

@@ -9,6 +9,8 @@ use std::test::Fail;
 // A list, and for streams of input bits, a letter for each cycle, the streams of its outputs.
 struct Case {
     name: &'static str,
+    // Tiles of the list's smallest plan in four orders of its cells, without climbing.
+    plain: u64,
     list: Written<'static>,
     cycles: usize,
     ins: &'static [&'static [u8]],
@@ -18,6 +20,7 @@ struct Case {
 const CASES: [Case; 8] = [
     Case {
         name: "an OR",
+        plain: 2,
         list: Written {
             inputs: 2,
             cells: &[Cell::Or(Src::Input(0), Src::Input(1))],
@@ -32,6 +35,7 @@ const CASES: [Case; 8] = [
     },
     Case {
         name: "one and not the other",
+        plain: 2,
         list: Written {
             inputs: 2,
             cells: &[Cell::AndNot(Src::Input(0), Src::Input(1))],
@@ -46,6 +50,7 @@ const CASES: [Case; 8] = [
     },
     Case {
         name: "constant 0",
+        plain: 1,
         list: Written {
             inputs: 0,
             cells: &[],
@@ -60,6 +65,7 @@ const CASES: [Case; 8] = [
     },
     Case {
         name: "a crossing",
+        plain: 2,
         list: Written {
             inputs: 2,
             cells: &[],
@@ -74,6 +80,7 @@ const CASES: [Case; 8] = [
     },
     Case {
         name: "five copies",
+        plain: 55,
         list: Written {
             inputs: 1,
             cells: &[],
@@ -101,6 +108,7 @@ const CASES: [Case; 8] = [
     },
     Case {
         name: "a toggle",
+        plain: 66,
         list: Written {
             inputs: 0,
             cells: &[Cell::AndNot(Src::One, Src::Latch(0))],
@@ -115,6 +123,7 @@ const CASES: [Case; 8] = [
     },
     Case {
         name: "a counter of two bits",
+        plain: 171,
         list: Written {
             inputs: 0,
             cells: &[
@@ -132,6 +141,7 @@ const CASES: [Case; 8] = [
     },
     Case {
         name: "an adder of two bits",
+        plain: 120,
         list: Written {
             inputs: 5,
             cells: &[
@@ -191,6 +201,23 @@ fn small_circuits_do_what_they_say(rt: HostRuntime) -> Result<(), Fail> {
     for case in &CASES {
         let done = agrees_and_plays(rt.alloc(), case)?;
         assert_eq!(rt; done, (true, true), "{}", case.name);
+    }
+    Ok(())
+}
+
+// The tiles of the case's plan, with those of its loops.
+fn tiles_of(alloc: Global, case: &Case) -> Result<u64, Fail> {
+    let list = list_of(alloc, &case.list)?;
+    let plan = plan_of(alloc, &list)?;
+    let loops = u64::from(plan.latches);
+    let columns = (plan.columns.len() as u64).saturating_add(loops.saturating_mul(2));
+    Ok(columns.saturating_mul(u64::from(plan.lanes).saturating_add(loops)))
+}
+
+#[test]
+fn no_plan_is_larger_than_without_climbing(rt: HostRuntime) -> Result<(), Fail> {
+    for case in &CASES {
+        assert!(rt; tiles_of(rt.alloc(), case)? <= case.plain, "{}", case.name);
     }
     Ok(())
 }

@@ -18,7 +18,8 @@ pub struct Written<'a> {
     pub nets: &'a [Src],
 }
 
-fn must(holds: bool) -> Result<(), &'static str>
+/// An error where it does not hold.
+pub fn must(holds: bool) -> Result<(), &'static str>
     ensures { OnOk result (IsTrue holds) }
 {
     if holds {
