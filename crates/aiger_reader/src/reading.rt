@@ -1,0 +1,148 @@
+// The reading of a text.
+ghost use Rattle.std.specs.Prelude.{◌≡◌, ◌+◌, ◌^◌, ◌<◌, ◌≤◌, ◌++◌, [], List, Some, length, filter_map, slice_get, option_map, IfOk, IfErr, OnOk};
+ghost use Rattle.std.specs.Result.{IsErrOf, IsOkUnless};
+ghost use Rattle.aiger_text.specs.declared.aig.Aig.{Aig};
+ghost use Rattle.aiger_text.specs.declared.fault.AigFault.{AigFault};
+ghost use Rattle.aiger_text.specs.AigText.{HasAigFault, ReadsAsAig, aig_with, first_bytes, later_faults, later_lines};
+ghost use Rattle.aiger_text.specs.Entries.{and_of, input_of, latch_of, output_of};
+ghost use Rattle.aiger_text.specs.EntryFaults.{fault_on};
+ghost use Rattle.aiger_text.specs.Names.{name_faults, names_for};
+ghost use Rattle.aiger_text.specs.Symbols.{Symbol};
+ghost use Rattle.aiger_text.specs.declared.fault.AigFaultKind.TheVariants.{Undefined};
+ghost use Rattle.aiger_text.specs.declared.section.SymbolKind.TheVariants.{Input, Output};
+ghost use Rattle.aiger_reader.specs.Known.{KnowsDefined, KnowsSymbols};
+ghost use Rattle.aiger_reader.specs.Read.{IsFirstOf, lines_after, undefined_at};
+ghost use Rattle.aiger_reader.specs.declared.error.AigReadError.TheVariants.{Fault, NoMemory};
+
+use crate::check::reads_undefined;
+use crate::error::AigReadError;
+use crate::header::{counts_in, header_fault};
+use crate::names::{first_repeat, names_for};
+use crate::parts::{ands_of, inputs_of, latches_of, outputs_of};
+use crate::sections::{Sections, read_sections};
+use crate::symbols::{NameTables, read_symbols};
+use aiger_text::{Aig, AigFault, AigFaultKind, Counts, Entry, SymbolKind};
+use lists::{Bytes, List};
+use pattern_lines::split_line;
+use std::alloc::{AllocError, Global};
+use std::collections::BTreeSet;
+
+// The bytes of line 1 and the text after it, both empty where there is no line.
+fn split_header(text: &[u8]) -> (&[u8], &[u8])
+    ensures header { result.0.now ≡ first_bytes text.now }
+    ensures rest { later_lines text.now ≡ lines_after 1 result.1.now }
+    ensures shorter { length result.1.now ≤ length text.now }
+{
+    if text.is_empty() {
+        return (text, text);
+    }
+    let (line, rest) = split_line(0, text);
+    (line.bytes, rest)
+}
+
+// The line of the first entry that reads a literal which none defines.
+fn first_undefined(entries: &[Entry], defined: &BTreeSet<u64>) -> Option<u64>
+    requires few { 2 + length entries.now < 2 ^ 64 }
+    requires known { KnowsDefined defined.now entries.now }
+    ensures { option_map (λ line. fault_on line Undefined) result ≡ slice_get (undefined_at entries.now 2 entries.now) 0 }
+{
+    for (i, entry) in entries.iter().enumerate() {
+        if reads_undefined(defined, *entry) {
+            return Some(2 + i as u64);
+        }
+    }
+    None
+}
+
+// The names of the inputs and then those of the outputs, where no two have one.
+fn port_names(
+    alloc: Global,
+    counts: Counts,
+    tables: &NameTables<'_>,
+) -> Result<Vec<Bytes>, AigReadError>
+    requires few { 2 + counts.inputs + counts.latches + counts.outputs < 2 ^ 64 }
+    requires known { (symbols : List Symbol) × KnowsSymbols counts tables.now symbols }
+    ensures names { IfOk result (λ names. (symbols : List Symbol) → KnowsSymbols counts tables.now symbols →
+        names.items ≡ names_for symbols Input counts.inputs ++ names_for symbols Output counts.outputs) }
+    ensures apart { IfOk result (λ names. (symbols : List Symbol) → KnowsSymbols counts tables.now symbols → name_faults counts symbols ≡ []) }
+    ensures refused { IfErr result (λ e. (symbols : List Symbol) → KnowsSymbols counts tables.now symbols → IsFirstOf (name_faults counts symbols) e) }
+{
+    let mut names = names_for(alloc, SymbolKind::Input, &tables.inputs)?;
+    let mut outputs = names_for(alloc, SymbolKind::Output, &tables.outputs)?;
+    if let Some(line) = first_repeat(alloc, &names, 2)? {
+        return Err(AigReadError::Fault(AigFault {
+            kind: AigFaultKind::SameName,
+            line,
+        }));
+    }
+    if let Some(line) = first_repeat(alloc, &outputs, 2 + counts.inputs + counts.latches)? {
+        return Err(AigReadError::Fault(AigFault {
+            kind: AigFaultKind::SameName,
+            line,
+        }));
+    }
+    names.append(&mut outputs)?;
+    Ok(names)
+}
+
+// The circuit that entries and names make.
+fn aig_of(alloc: Global, m: u64, entries: &[Entry], names: Vec<Bytes>) -> Result<Aig, AllocError>
+    ensures { IfOk result (λ aig. aig ≡ record {
+      m = m;
+      inputs = filter_map input_of entries.now;
+      latches = filter_map latch_of entries.now;
+      outputs = filter_map output_of entries.now;
+      ands = filter_map and_of entries.now;
+      names = names.items;
+    }) }
+{
+    Ok(Aig {
+        m,
+        inputs: List::of(inputs_of(alloc, entries)?),
+        latches: List::of(latches_of(alloc, entries)?),
+        outputs: List::of(outputs_of(alloc, entries)?),
+        ands: List::of(ands_of(alloc, entries)?),
+        names: List::of(names),
+    })
+}
+
+// The circuit of the lines after a header with these counts.
+fn read_later(alloc: Global, counts: Counts, text: &[u8]) -> Result<Aig, AigReadError>
+    requires { 2 + length text.now < 2 ^ 64 }
+    ensures aig { IfOk result (λ aig. aig ≡ aig_with counts (lines_after 1 text.now)) }
+    ensures no_fault { OnOk result (later_faults counts (lines_after 1 text.now) ≡ []) }
+    ensures refused { IfErr result (IsFirstOf (later_faults counts (lines_after 1 text.now))) }
+{
+    let sections = read_sections(alloc, counts, text)?;
+    let tables = read_symbols(alloc, counts, sections.lines, sections.rest)?;
+    if let Some(line) = first_undefined(&sections.entries, &sections.defined) {
+        return Err(AigReadError::Fault(AigFault {
+            kind: AigFaultKind::Undefined,
+            line,
+        }));
+    }
+    let names = port_names(alloc, counts, &tables)?;
+    Ok(aig_of(alloc, counts.m, &sections.entries, names)?)
+}
+
+/// Reads an AIGER text in ASCII, whose lines end with byte 10, or with bytes 13 and 10: a header `aag M I L O A`; a line
+/// `lit` for each input, `lit next` or `lit next reset` for each latch, `lit` for each output and `lhs rhs0 rhs1` for each
+/// AND gate; and lines `i<n> name`, `l<n> name` and `o<n> name`, up to a line that begins with `c`. Numbers are decimal and
+/// parted by single spaces, and a name is all that follows the first space. Inputs and outputs without a name are called
+/// `i<n>` and `o<n>`.
+///
+/// `Fault` has the first fault of the text. The reader takes memory for lines that are there, whatever the header counts.
+pub fn read(alloc: Global, text: &[u8]) -> Result<Aig, AigReadError>
+    ensures aig { IfOk result (ReadsAsAig text.now) }
+    ensures reads { (aig : Aig) → ReadsAsAig text.now aig → IsOkUnless result NoMemory }
+    ensures fault { (fault : AigFault) → IsErrOf result (Fault fault) → HasAigFault text.now fault }
+{
+    let (header, later) = split_header(text);
+    match counts_in(alloc, header)? {
+        None => Err(AigReadError::Fault(AigFault {
+            kind: header_fault(header),
+            line: 1,
+        })),
+        Some(counts) => read_later(alloc, counts, later),
+    }
+}

@@ -1,0 +1,74 @@
+// What was read as text, and texts beside those that are wanted.
+ghost use Rattle.std.specs.Prelude.{◌≡◌, ◌≤◌, length, IfOk, IsOk};
+
+use aiger_reader::{Aig, AigAnd, AigFault, AigLatch};
+use std::alloc::{AllocError, Global};
+use std::test::Fail;
+
+fn push_lits(
+    alloc: Global,
+    line: &mut Vec<u8>,
+    kind: &str,
+    lits: &[u64],
+) -> Result<(), AllocError> {
+    for lit in lits {
+        line.extend_from_slice(format!(in alloc; ", {kind} {lit}")?.as_bytes())?;
+    }
+    Ok(())
+}
+
+fn push_latches(alloc: Global, line: &mut Vec<u8>, latches: &[AigLatch]) -> Result<(), AllocError> {
+    for latch in latches {
+        line.extend_from_slice(format!(in alloc;
+            ", latch {} {} {}",
+            latch.lit, latch.next, latch.reset
+        )?.as_bytes())?;
+    }
+    Ok(())
+}
+
+fn push_ands(alloc: Global, line: &mut Vec<u8>, ands: &[AigAnd]) -> Result<(), AllocError> {
+    for gate in ands {
+        line.extend_from_slice(format!(in alloc;
+            ", and {} {} {}",
+            gate.lhs, gate.rhs0, gate.rhs1
+        )?.as_bytes())?;
+    }
+    Ok(())
+}
+
+/// A circuit as one line: its greatest variable, its inputs, latches, outputs and gates, and then the names.
+pub fn circuit_shown(alloc: Global, aig: &Aig) -> Result<Vec<u8>, AllocError>
+    ensures { IfOk result (λ line. 0 ≤ length line.items) }
+{
+    let mut line = format!(in alloc; "m {}", aig.m)?.into_bytes();
+    push_lits(alloc, &mut line, "in", aig.inputs.as_slice())?;
+    push_latches(alloc, &mut line, aig.latches.as_slice())?;
+    push_lits(alloc, &mut line, "out", aig.outputs.as_slice())?;
+    push_ands(alloc, &mut line, aig.ands.as_slice())?;
+    for name in aig.names.as_slice() {
+        line.extend_from_slice(b", ")?;
+        line.extend_from_slice(name.as_slice())?;
+    }
+    Ok(line)
+}
+
+/// A fault as the program is to print it.
+pub fn fault_shown(alloc: Global, fault: AigFault) -> Result<Vec<u8>, AllocError>
+    ensures { IfOk result (λ line. 0 ≤ length line.items) }
+{
+    let kind = fault.kind;
+    let line = format!(in alloc; "A{} {} line {}", kind.number(), kind.name(), fault.line)?;
+    Ok(line.into_bytes())
+}
+
+/// Fails where a text is not the one that is wanted.
+pub fn expect(said: &[u8], want: &[u8]) -> Result<(), Fail>
+    ensures { IsOk result → said.now ≡ want.now }
+{
+    if said == want {
+        Ok(())
+    } else {
+        Err(Fail::new(format_args!("{said:?}, and not {want:?}")))
+    }
+}

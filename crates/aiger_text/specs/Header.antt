@@ -1,0 +1,49 @@
+-- The header of an AIGER text, `aag M I L O A`.
+use Rattle.std.specs.Prelude.{ℕ, Bool, ◌==◌, ◌&&◌, ◌||◌, nat_lt, if◌then◌else◌, List, [], ◌∷◌, length, Option, None, Some, codes, bytes_eq, is_some}
+use Rattle.std.specs.List.{list_all, slice_split, before_first, after_first}
+use Rattle.pattern_reading.specs.Numbers.{◌>>=◌, number_in}
+use Rattle.aiger_text.specs.declared.section.Counts.{Counts}
+use Rattle.aiger_text.specs.declared.fault.AigFaultKind.{AigFaultKind}
+use Rattle.aiger_text.specs.declared.fault.AigFaultKind.TheVariants.{BadHeader, Unsupported}
+
+-- Fields are parted by single spaces: they are what stands before the first, between two, and after the last.
+abbrev pub is_separator : ℕ → Bool
+is_separator b = b == 32
+
+abbrev pub fields_of : List ℕ → List (List ℕ)
+fields_of bytes = slice_split is_separator bytes
+
+abbrev pub is_number : List ℕ → Bool
+is_number field = is_some (number_in field)
+
+-- the first word of a line, and the fields after it
+abbrev pub first_word : List ℕ → List ℕ
+first_word bytes = before_first is_separator bytes
+
+abbrev pub later_fields : List ℕ → List (List ℕ)
+later_fields bytes = fields_of (after_first is_separator bytes)
+
+-- five numbers
+abbrev pub counts_of_fields : List (List ℕ) → Option Counts
+counts_of_fields (m ∷ inputs ∷ latches ∷ outputs ∷ ands ∷ []) = do
+  greatest ← number_in m
+  i ← number_in inputs
+  l ← number_in latches
+  o ← number_in outputs
+  a ← number_in ands
+  Some (record { m = greatest; inputs = i; latches = l; outputs = o; ands = a })
+counts_of_fields _ = None
+
+-- the numbers of a header, if the bytes are one
+abbrev pub counts_in : List ℕ → Option Counts
+counts_in bytes = if bytes_eq (first_word bytes) (codes "aag") then counts_of_fields (later_fields bytes) else None
+
+-- the header of a text in binary, or of one with sections that are left out
+abbrev pub is_unsupported : List ℕ → Bool
+is_unsupported bytes =
+    bytes_eq (first_word bytes) (codes "aig")
+    || (bytes_eq (first_word bytes) (codes "aag") && nat_lt 5 (length (later_fields bytes)) && list_all is_number (later_fields bytes))
+
+-- what is wrong in bytes that are no header
+abbrev pub header_fault : List ℕ → AigFaultKind
+header_fault bytes = if is_unsupported bytes then Unsupported else BadHeader

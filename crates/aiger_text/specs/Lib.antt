@@ -1,0 +1,9 @@
+pub mod FaultNames
+pub mod Header
+pub mod Entries
+pub mod EntryFaults
+pub mod Symbols
+pub mod Names
+pub mod AigText
+pub mod SoundAig
+pub mod Laws
