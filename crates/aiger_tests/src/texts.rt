@@ -1,5 +1,5 @@
 // What was read as text, and texts beside those that are wanted.
-ghost use Rattle.std.specs.Prelude.{◌≡◌, ◌≤◌, length, IfOk, IsOk};
+ghost use Rattle.std.specs.Prelude.{◌≡◌, IsOk};
 
 use aiger_reader::{Aig, AigAnd, AigFault, AigLatch};
 use std::alloc::{AllocError, Global};
@@ -38,9 +38,7 @@ fn push_ands(alloc: Global, line: &mut Vec<u8>, ands: &[AigAnd]) -> Result<(), A
 }
 
 /// A circuit as one line: its greatest variable, its inputs, latches, outputs and gates, and then the names.
-pub fn circuit_shown(alloc: Global, aig: &Aig) -> Result<Vec<u8>, AllocError>
-    ensures { IfOk result (λ line. 0 ≤ length line.items) }
-{
+pub fn circuit_shown(alloc: Global, aig: &Aig) -> Result<Vec<u8>, AllocError> {
     let mut line = format!(in alloc; "m {}", aig.m)?.into_bytes();
     push_lits(alloc, &mut line, "in", aig.inputs.as_slice())?;
     push_latches(alloc, &mut line, aig.latches.as_slice())?;
@@ -54,9 +52,7 @@ pub fn circuit_shown(alloc: Global, aig: &Aig) -> Result<Vec<u8>, AllocError>
 }
 
 /// A fault as the program is to print it.
-pub fn fault_shown(alloc: Global, fault: AigFault) -> Result<Vec<u8>, AllocError>
-    ensures { IfOk result (λ line. 0 ≤ length line.items) }
-{
+pub fn fault_shown(alloc: Global, fault: AigFault) -> Result<Vec<u8>, AllocError> {
     let kind = fault.kind;
     let line = format!(in alloc; "A{} {} line {}", kind.number(), kind.name(), fault.line)?;
     Ok(line.into_bytes())
