@@ -131,7 +131,7 @@ fn read_later(alloc: Global, counts: Counts, text: &[u8]) -> Result<Aig, AigRead
 /// parted by single spaces, and a name is all that follows the first space. Inputs and outputs without a name are called
 /// `i<n>` and `o<n>`.
 ///
-/// `Fault` has the first fault of the text. The reader takes memory for lines that are there, whatever the header counts.
+/// `Fault` has the first fault of the text.
 pub fn read(alloc: Global, text: &[u8]) -> Result<Aig, AigReadError>
     ensures aig { IfOk result (ReadsAsAig text.now) }
     ensures reads { (aig : Aig) → ReadsAsAig text.now aig → IsOkUnless result NoMemory }

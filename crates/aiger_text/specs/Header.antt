@@ -38,7 +38,7 @@ counts_of_fields _ = None
 abbrev pub counts_in : List ℕ → Option Counts
 counts_in bytes = if bytes_eq (first_word bytes) (codes "aag") then counts_of_fields (later_fields bytes) else None
 
--- the header of a text in binary, or of one with sections that are left out
+-- the header of a text in binary, or of one with sections that are not read here
 abbrev pub is_unsupported : List ℕ → Bool
 is_unsupported bytes =
     bytes_eq (first_word bytes) (codes "aig")

@@ -19,7 +19,7 @@ pub struct AigAnd {
 }
 
 /// A circuit of inputs, latches, AND gates and outputs. A literal is twice the number of a variable, plus 1 where it is
-/// negated; literal 0 is the constant 0. No variable is greater than `m`. `names` has the names of the inputs, and then
+/// negated; literal 0 is the constant 0. In a sound circuit (`IsSoundAig`) no variable is greater than `m`. `names` has the names of the inputs, and then
 /// those of the outputs.
 #[derive(Drop)]
 pub struct Aig {
