@@ -252,12 +252,13 @@ sound_table text width height ports h =
     let sound = sound_forms text in
     let new = lines_new width height [] (table_of text) h.no_fault in
     let version = sound_version forms sound in
+    let room = room_is (period_in forms) (contexts_in forms) version.3 in
     rw (h.ports_is) (record {
       period = version.0;
       p = version.1;
       l = version.2;
-      contexts = λ none. omega (arith, none, room_is _ _ version.3);
-      room = λ more. omega (arith, more, room_is _ _ version.3);
+      contexts = λ none. omega (arith, none, room);
+      room = λ more. omega (arith, more, room);
       ins = sound_ins forms sound;
       outs = sound_outs forms sound;
       nets = sound_nets forms sound;
