@@ -79,7 +79,10 @@ pub fn sources_of_data(
     sources: &[Option<Src>],
     latches: &[FlatLatch],
 ) -> Result<Vec<Src>, MapError>
-    ensures { IfOk result (λ found. found.items ≡ sources_at sources.now (map (λ latch. class_of flat.now latch.input) latches.now)) }
+    ensures { IfOk result (λ found.
+        found.items
+        ≡ sources_at sources.now (map (λ latch. class_of flat.now latch.input) latches.now)
+        ) }
 {
     let mut found = Vec::with_capacity(alloc, latches.len())?;
     for latch in latches {
@@ -94,7 +97,9 @@ pub fn sources_of_all(
     sources: &[Option<Src>],
     nets: &[Net],
 ) -> Result<Vec<Src>, MapError>
-    ensures { IfOk result (λ found. found.items ≡ sources_at sources.now (map (λ (net : flat_net.Net). net.class) nets.now)) }
+    ensures { IfOk result (λ found.
+        found.items ≡ sources_at sources.now (map (λ (net : flat_net.Net). net.class) nets.now)
+        ) }
 {
     let mut found = Vec::with_capacity(alloc, nets.len())?;
     for net in nets {

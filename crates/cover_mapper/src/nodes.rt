@@ -21,7 +21,9 @@ pub fn map_nodes(
 ) -> Result<(), MapError>
     requires sound { IsSound flat.now }
     requires ordered { IsOrder flat.now order.now }
-    requires ports { AreSourced flat.now (IsAmongFirst (length flat.now.ins) (length flat.now.latches) []) list.old sources.old }
+    requires ports { AreSourced
+        flat.now (IsAmongFirst (length flat.now.ins) (length flat.now.latches) []) list.old
+        sources.old }
     ensures { OnOk result (AreMapped flat.now list.old list.new sources.new order.now) }
 {
     let mut places = Places::new(alloc);

@@ -39,7 +39,10 @@ fn push_single(
     sources: &[Option<Src>],
     node: &Node,
 ) -> Result<(), MapError>
-    ensures { OnOk result (found.new.items ≡ found.old.items ++ option_to_list (single_source flat.now sources.now node.now)) }
+    ensures { OnOk result (
+        found.new.items
+        ≡ found.old.items ++ option_to_list (single_source flat.now sources.now node.now)
+        ) }
 {
     if let Some(source) = single_source(flat, sources, node) {
         found.push(source)?;

@@ -60,7 +60,9 @@ pub fn source_latches(flat: &Flat, list: &CellList, sources: &mut [Option<Src>])
     requires few { length flat.now.latches < 2 ^ 32 }
     requires starts { length list.now.starts ≡ length flat.now.latches }
     requires inputs { AreSourced flat.now (IsAmongFirst (length flat.now.ins) 0 []) list.now sources.old }
-    ensures { AreSourced flat.now (IsAmongFirst (length flat.now.ins) (length flat.now.latches) []) list.now sources.new }
+    ensures { AreSourced
+        flat.now (IsAmongFirst (length flat.now.ins) (length flat.now.latches) []) list.now
+        sources.new }
 {
     for (i, latch) in flat.latches.as_slice().iter().enumerate() {
         sources[class_of(flat, latch.output)] = Some(Src::Latch(i as u32));
