@@ -7,18 +7,9 @@ ghost use Rattle.cover_mapper.specs.Sourced.{sources_at};
 
 use crate::error::MapError;
 use cell_core::Src;
-use netlist_core::{Flat, FlatLatch, FlatPort, Net, NetId};
+use netlist_core::{Flat, FlatLatch, FlatPort, NetId};
+use netlist_meaning::class_of;
 use std::alloc::Global;
-
-/// The class of a net.
-pub fn class_of(flat: &Flat, id: NetId) -> usize
-    ensures { result ≡ class_of flat.now id }
-{
-    match flat.nets.as_slice().get(id.0 as usize) {
-        None => 0,
-        Some(net) => net.class as usize,
-    }
-}
 
 /// The source of a class, if it has one.
 pub fn source_of(sources: &[Option<Src>], class: usize) -> Option<Src>

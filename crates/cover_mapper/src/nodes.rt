@@ -4,11 +4,12 @@ ghost use Rattle.netlist_meaning.specs.Flat.{IsSound};
 ghost use Rattle.netlist_meaning.specs.FlatOrder.{IsOrder};
 ghost use Rattle.cover_mapper.specs.Sourced.{AreMapped, AreSourced, IsAmongFirst};
 
-use crate::classes::{class_of, sources_of_nets};
+use crate::classes::sources_of_nets;
 use crate::error::MapError;
 use cell_core::{CellList, Src};
 use cover_cells::{Places, map_cover};
 use netlist_core::Flat;
+use netlist_meaning::class_of;
 use std::alloc::Global;
 
 /// Adds the cells of all covers, and gives the classes of their outputs sources.

@@ -4,11 +4,11 @@ ghost use Rattle.netlist_meaning.specs.Flat.{IsSound};
 ghost use Rattle.cell_core.specs.declared.cells.Src.TheVariants.{Zero};
 ghost use Rattle.cover_mapper.specs.Sourced.{AreSourced, IsAmongFirst};
 
-use crate::classes::class_of;
 use crate::error::MapError;
 use cell_core::{CellList, Src};
 use lists::List;
 use netlist_core::{Flat, FlatLatch};
+use netlist_meaning::class_of;
 use std::alloc::Global;
 
 // How the latches begin: 1 where the init is 1.

@@ -1,8 +1,8 @@
 // Tables of known texts, and texts that are at fault.
-use crate::texts::expect;
 use port_table::{NetLine, PortLine, PortReadError, Ports, read};
 use std::alloc::{AllocError, Global};
 use std::test::Fail;
+use ww_base::expect;
 
 fn push_ports(
     alloc: Global,
