@@ -85,7 +85,7 @@ fn work<S: Source, O: Sink>(
 /// the seed, and the second what is told of it, compiled, simulated and evaluated.
 ///
 /// 0: all of it is on `out`. 1: the netlist's text breaks a rule. 2: the words are no command. 3: covers read each other in a
-/// circle. 4: the text has more than 16,777,216 bytes, the netlist weighs more than 1,024, the pattern's box has more than
+/// circle. 4: the text has more than 16,777,216 bytes, the netlist weighs more than 8,192, the pattern's box has more than
 /// 268,435,456 cells, or its last bits come after generation 4,294,967,296. 5: `src` failed. 6: `out` or `err` failed. 7: there
 /// was not enough memory. 8: the text is no pattern's, or its port table is at fault. 9: the words are no streams for the inputs, or
 /// the table has no net as asked for. Of several the first is answered: 2, 5, 4 (the text); then of a netlist 1 (lines and models),

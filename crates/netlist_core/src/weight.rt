@@ -7,6 +7,9 @@ ghost use Rattle.netlist_core.specs.OwnWeight.{port_weight, literals, rows_weigh
 use crate::model::{Model, Port};
 use lists::Bytes;
 
+/// The greatest weight of a netlist.
+pub const WEIGHT_LIMIT: u64 = 8192;
+
 // Whether a port has the name.
 fn is_named(ports: &[Port], name: &[u8]) -> bool
     ensures { result ≡ is_named ports.now name.now }
