@@ -1,5 +1,5 @@
 // Streams of bits for the inputs, read from words.
-ghost use Rattle.std.specs.Prelude.{◌≡◌, ◌<◌, ◌++◌, ◌*◌, ◌⊎◌, ℕ, [], ◌∷◌, List, All, length, map, string_bytes, IfOk, IfErr, OnOk};
+ghost use Rattle.std.specs.Prelude.{◌≡◌, ◌++◌, ◌*◌, ◌⊎◌, ℕ, [], List, All, length, map, string_bytes, IfOk, IfErr, OnOk};
 ghost use Rattle.std.specs.Option.{option_copied};
 ghost use Rattle.streams.specs.declared.error.StreamError.TheVariants.{NoMemory, Fault};
 ghost use Rattle.streams.specs.Streams.{HasStreams, HasStreamCause, IsMissing, bits_for, inputs_of_context, inputs_of_contexts, missing_fault, missing_inputs, stream_in, streams_of};
@@ -102,8 +102,6 @@ fn streams_of<'a>(
 }
 
 impl Streams {
-    ghost use Rattle.streams.specs.Rows.{in_context};
-
     /// The streams that words say for the inputs of these names in each of c contexts: with one context words as `a=0110`,
     /// with more as `1:a=0110`, with a context's number below c in front, without leading zeros. Each word has one bit for
     /// each cycle, and there is one word for each input of each context, in any order. A word is cut at its last `=`, and
@@ -125,16 +123,5 @@ impl Streams {
         let given = bits_by_input(alloc, words, names, cycles, c)?;
         let bits = streams_of(alloc, &given, names, c)?;
         Ok(Streams { cycles, c, bits })
-    }
-
-    /// The streams of the inputs of a context, where the streams are those of so many contexts.
-    pub fn lists_in(&self, context: u64) -> &[List<bool>]
-        requires { context < self.now.c }
-        ensures { result.now ≡ (in_context self.now context).bits }
-    {
-        let lists = self.bits.as_slice();
-        let inputs = lists.len() / self.c as usize;
-        let start = context as usize * inputs;
-        &lists[start..start + inputs]
     }
 }
