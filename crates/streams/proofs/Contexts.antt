@@ -94,18 +94,17 @@ pub inputs_are : (streams : Streams) (n : ℕ) → 0 < streams.c → length stre
 inputs_are streams n some many = ap (λ m. m / streams.c) many ∙ mul-div_cancel_left n some
 
 -- one context has all lists
+pub only_context : (streams : Streams) → streams.c ≡ 1 → in_context streams 0 ≡ streams
+only_context streams one =
+    let each : inputs_each streams ≡ length streams.bits = ap (λ n. length streams.bits / n) one ∙ div-one (length streams.bits) in
+    let first : 0 * inputs_each streams ≡ 0 = omega arith in
+    let lists : take (inputs_each streams) (drop (0 * inputs_each streams) streams.bits) ≡ streams.bits =
+    ap₂ (λ m n. take m (drop n streams.bits)) each first ∙ take-length streams.bits in
+    ap₂ (λ (n : ℕ) (bits : List (List Bool)). record { cycles = streams.cycles; c = n; bits = bits }) (sym one) lists
+
 pub one_context : (streams : Streams) → streams.c ≡ 1 → contexts_of streams ≡ rows_of streams ∷ []
 one_context streams one =
-    let whole : in_context streams 0 ≡ streams = all streams one in
-    ap (λ n. map (λ context. rows_of (in_context streams context)) (range_with_len 0 n)) one ∙ ap (λ (s : Streams). rows_of s ∷ []) whole
-  where
-    all : (streams : Streams) → streams.c ≡ 1 → in_context streams 0 ≡ streams
-    all streams one =
-        let each : inputs_each streams ≡ length streams.bits = ap (λ n. length streams.bits / n) one ∙ div-one (length streams.bits) in
-        let first : 0 * inputs_each streams ≡ 0 = omega arith in
-        let lists : take (inputs_each streams) (drop (0 * inputs_each streams) streams.bits) ≡ streams.bits =
-        ap₂ (λ m n. take m (drop n streams.bits)) each first ∙ take-length streams.bits in
-        ap₂ (λ (n : ℕ) (bits : List (List Bool)). record { cycles = streams.cycles; c = n; bits = bits }) (sym one) lists
+    ap (λ n. map (λ context. rows_of (in_context streams context)) (range_with_len 0 n)) one ∙ ap (λ (s : Streams). rows_of s ∷ []) (only_context streams one)
 
 pub contexts_many : (streams : Streams) → length (contexts_of streams) ≡ streams.c
 contexts_many streams = length-map-range_with_len (λ context. rows_of (in_context streams context)) 0 streams.c

@@ -1,5 +1,5 @@
 -- Lists over a range that grows.
-use Rattle.std.proofs.Common.{ℕ, zero, suc, ◌≡◌, ◌+◌, ◌++◌, ◌∷◌, [], refl, sym, ap, ◌∙◌, List, arith}
+use Rattle.std.proofs.Common.{ℕ, zero, suc, ◌≡◌, ◌<◌, ◌+◌, ◌++◌, ◌∷◌, [], refl, sym, ap, ap₂, ◌∙◌, List, arith}
 use Rattle.std.specs.Prelude.{flat_map}
 use Rattle.std.specs.List.{range_with_len}
 use Rattle.std.proofs.lemmas.List.{append-nil, append_assoc, map-id}
@@ -30,3 +30,15 @@ module _ {X : Type 0} (f : ℕ → List X) where
         ap (λ n. flat_map f (range_with_len 0 n)) next ∙ flat_map_more 0 (m + d) ∙ ap (λ xs. xs ++ f (0 + (m + d))) e
             ∙ append_assoc (flat_map f (range_with_len 0 m)) rest (f (0 + (m + d))),
       )
+
+-- functions that agree on a range
+pub flat_map_same : {X : Type 0} (f g : ℕ → List X) (n : ℕ) → ((i : ℕ) → i < n → f i ≡ g i) → flat_map f (range_with_len 0 n) ≡ flat_map g (range_with_len 0 n)
+flat_map_same f g zero same = refl
+flat_map_same f g (suc n) same =
+    let next : suc n ≡ n + 1 = omega arith in
+    let at : 0 + n ≡ n = omega arith in
+    ap (λ m. flat_map f (range_with_len 0 m)) next
+    ∙ flat_map_more f 0 n
+    ∙ ap₂ (λ xs ys. xs ++ ys) (flat_map_same f g n (λ i less. same i (omega (arith, less)))) (ap f at ∙ same n (omega arith) ∙ ap g (sym at))
+    ∙ sym (flat_map_more g 0 n)
+    ∙ ap (λ m. flat_map g (range_with_len 0 m)) (sym next)
