@@ -1,9 +1,9 @@
 -- A pattern driven by streams, and the bits that its outputs show.
-use Rattle.std.specs.Prelude.{◌≡◌, ◌≢◌, ◌<◌, ◌≤◌, ⊤, ℕ, pos, ◌+◌, ◌*◌, ◌-◌, Bool, List, [], length, map, flat_map, get_or, All, Some}
+use Rattle.std.specs.Prelude.{◌≡◌, ◌≢◌, ◌<◌, ◌≤◌, ⊤, ℕ, ◌+◌, ◌*◌, ◌-◌, Bool, List, [], length, map, flat_map, get_or, All, Some}
 use Rattle.std.specs.List.{range_with_len}
 use Rattle.std.specs.declared.option.Option.{Option}
 use Rattle.ww_rule.specs.declared.pattern.Injection.{Injection}
-use Rattle.ww_rule.specs.Wireworld.{Plane, Due, driven, is_head}
+use Rattle.ww_rule.specs.Wireworld.{Plane, Due, driven}
 use Rattle.ww_rule.specs.Injections.{injections_from}
 use Rattle.ww_rule.specs.Contexts.{due_of_contexts}
 use Rattle.pattern_reading.specs.declared.ports.Ports.{Ports}
@@ -14,6 +14,7 @@ use Rattle.streams.specs.Rows.{contexts_of}
 use Rattle.drive.specs.declared.error.SimulateError.{SimulateError}
 use Rattle.drive.specs.declared.error.SimulateError.TheVariants.{NoMemory, TooFar, NotQuiet}
 use Rattle.drive.specs.Misses.{first_of_misses}
+use Rattle.drive.specs.Shown.{column_of_cell, columns_of_cells}
 
 -- one stream for each context of the table and each of its inputs, each with a bit for each cycle; there is a context, and where there
 -- are more, each has 32 generations of the period
@@ -48,13 +49,11 @@ first_miss ports streams plane g = first_of_misses (injections_of ports streams)
 
 -- the bits that a cell shows in a context, cycle after cycle: 1 where it is a head at generation first + 32 c + t P
 abbrev pub bits_of_cell : Ports → Streams → Plane → (first context : ℕ) → ℕ × ℕ → List Bool
-bits_of_cell ports streams plane first context cell =
-    map (λ cycle. is_head (driven_by ports streams plane (first + 32 * context + cycle * ports.p) (pos cell.0) (pos cell.1))) (range_with_len 0 streams.cycles)
+bits_of_cell ports streams plane first context cell = column_of_cell (driven_by ports streams plane) ports.p streams.cycles first context cell
 
 -- those of each of these cells in each context: all cells of context 0 first
 abbrev pub bits_of_cells : Ports → Streams → Plane → (first : ℕ) → List (ℕ × ℕ) → List (List Bool)
-bits_of_cells ports streams plane first cells =
-    flat_map (λ context. map (bits_of_cell ports streams plane first context) cells) (range_with_len 0 ports.c)
+bits_of_cells ports streams plane first cells = columns_of_cells (driven_by ports streams plane) ports.c ports.p streams.cycles first cells
 
 -- the bits of an output in a context: its cell's from generation L on
 abbrev pub shown_at : Ports → Streams → Plane → (context : ℕ) → PortLine → List Bool

@@ -41,7 +41,7 @@ planes_of run = laid run.orientation (evolution run.bands)
 
 -- and the first miss up to each generation
 abbrev pub misses_of : Run → ℕ → Option Injection
-misses_of run g = option_map (injection_laid run.orientation) (miss_in_bands run.bands g)
+misses_of run = λ g. option_map (injection_laid run.orientation) (miss_in_bands run.bands g)
 
 -- What holds of each run; its width, its rows and the rows of a band are those of its bands. The injections from its next one on are
 -- those of later generations. One that is still shows at each later generation what it shows now, with no other miss.
