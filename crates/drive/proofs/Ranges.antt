@@ -1,0 +1,30 @@
+-- Pieces for each number of a range.
+use Rattle.std.proofs.Common.{ℕ, ◌≡◌, ◌+◌, refl, sym, ap, ◌∙◌, List, [], ◌∷◌, ◌++◌, map, arith}
+use Rattle.std.specs.Prelude.{flat_map}
+use Rattle.std.specs.List.{range_with_len}
+use Rattle.std.proofs.lemmas.Grind.{flat_map-append}
+use Rattle.std.proofs.lemmas.List.{append-nil, map-append}
+use Rattle.std.proofs.lemmas.List.Folds.{flat_map-map}
+use Rattle.std.proofs.lemmas.List.FromFn.{map-range_with_len_more}
+use Rattle.std.proofs.lemmas.Simd.{map-map}
+
+module _ {X : Type 0} (piece : ℕ → List X) where
+  -- one more number
+  pub pieces_more : (n : ℕ) → flat_map piece (range_with_len 0 (n + 1)) ≡ flat_map piece (range_with_len 0 n) ++ piece n
+  pieces_more n =
+      sym (flat_map-map piece (λ (k : ℕ). k) (range_with_len 0 (n + 1)))
+      ∙ ap (flat_map piece) (map-range_with_len_more (λ (k : ℕ). k) 0 n n (omega arith))
+      ∙ flat_map-append piece (map (λ (k : ℕ). k) (range_with_len 0 n)) (n ∷ [])
+      ∙ ap (λ (front : List X). front ++ (piece n ++ [])) (flat_map-map piece (λ (k : ℕ). k) (range_with_len 0 n))
+      ∙ ap (λ (last : List X). flat_map piece (range_with_len 0 n) ++ last) (append-nil (piece n))
+
+module _ {W X : Type 0} where
+  -- where each piece is empty, so is the whole
+  pub no_pieces : (piece : W → List X) (ws : List W) → ((w : W) → piece w ≡ []) → flat_map piece ws ≡ []
+  no_pieces piece [] none = refl
+  no_pieces piece (w ∷ ws) none = ap (λ (front : List X). front ++ flat_map piece ws) (none w) ∙ no_pieces piece ws none
+
+  -- a function of each element of the pieces
+  pub map-flat_map : {Y : Type 0} (f : X → Y) (piece : W → List X) (ws : List W) → map f (flat_map piece ws) ≡ flat_map (λ w. map f (piece w)) ws
+  map-flat_map f piece [] = refl
+  map-flat_map f piece (w ∷ ws) = map-append f (piece w) (flat_map piece ws) ∙ ap (λ (later : List _). map f (piece w) ++ later) (map-flat_map f piece ws)
