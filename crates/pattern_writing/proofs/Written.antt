@@ -114,8 +114,8 @@ pub written_ports : (grid : Grid) (forms : List PortForm) → HasWrittenPorts gr
 written_ports grid forms w h sound = ports_read grid w forms h sound
 
 pub written_text : (grid : Grid) (ports : Ports) → HasWrittenText grid ports
-written_text grid ports w table cells no_returns =
-    let spellable = spellable_lines ports table no_returns in
+written_text grid ports w table cells =
+    let spellable = spellable_lines ports table in
     let sound = sound_lines grid.width grid.height ports table cells in
     let read : ReadsAsPorts (pattern_text grid ports) grid.width grid.height (ports_of (port_forms ports)) = ports_read grid w (port_forms ports) spellable sound in
     (pattern_reads grid w (port_forms ports) spellable, rw (its_forms ports) at read)
