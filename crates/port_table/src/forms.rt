@@ -11,46 +11,21 @@ use crate::numbers::path_in;
 use pattern_lines::number_in;
 use std::alloc::{AllocError, Global};
 
-/// A port, and where its name stands in the text.
-#[derive(Clone, Copy)]
-pub struct PortWords<'a> {
-    pub x: u64,
-    pub y: u64,
-    pub name: &'a [u8],
-}
-
-/// A net, and where its name and path stand in the text.
-#[derive(Clone, Copy)]
-pub struct NetWords<'a> {
-    pub x: u64,
-    pub y: u64,
-    pub offset: u64,
-    pub name: &'a [u8],
-    pub path: &'a [u8],
-}
-
 /// What a line of the table says.
-#[derive(Clone, Copy)]
-pub enum PortForm<'a> {
-    /// `1 P p L l`, and ` C c` after it, which may be left out where c is 1
+#[derive(Drop)]
+pub enum PortForm {
+    /// `2 P p L l C c`; in version 1 `1 P p L l C c`, or `1 P p L l` where c is 1
     Version {
         period: u64,
         latency: u64,
         contexts: u64,
     },
     /// `IN x y name`
-    In(PortWords<'a>),
+    In(PortLine),
     /// `OUT x y name`
-    Out(PortWords<'a>),
+    Out(PortLine),
     /// `NET x y offset name path`
-    Net(NetWords<'a>),
-}
-
-// The bytes, if there is at least one.
-fn non_empty(bytes: &[u8]) -> Option<&[u8]>
-    ensures { option_copied result ≡ non_empty bytes.now }
-{
-    if bytes.is_empty() { None } else { Some(bytes) }
+    Net(NetLine),
 }
 
 // Whether a period has room for so many contexts: for one, and for more where each has 32 generations of it.
@@ -71,18 +46,18 @@ fn count_in(c_word: &[u8], c: &[u8]) -> Option<u64>
     }
 }
 
-// What a version line says: its period is not 0, and has room for its contexts.
-fn version_in<'a>(
-    version: &[u8],
+// What a version line of a known version says, by the fields after it: its period is not 0, and has room for its contexts.
+fn version_in(
+    is_known: bool,
     p_word: &[u8],
     p: &[u8],
     l_word: &[u8],
     l: &[u8],
     contexts: Option<u64>,
-) -> Option<PortForm<'a>>
-    ensures { option_map form_of result ≡ version_in version.now p_word.now p.now l_word.now l.now contexts }
+) -> Option<PortForm>
+    ensures { option_map form_of result ≡ version_in is_known p_word.now p.now l_word.now l.now contexts }
 {
-    if version != b"1".as_slice() || p_word != b"P".as_slice() || l_word != b"L".as_slice() {
+    if !is_known || p_word != b"P".as_slice() || l_word != b"L".as_slice() {
         return None;
     }
     let period = number_in(p)?;
@@ -98,77 +73,80 @@ fn version_in<'a>(
     })
 }
 
-fn port_in<'a>(x: &[u8], y: &[u8], name: &'a [u8]) -> Option<PortWords<'a>>
-    ensures { option_map lent_port result ≡ port_in x.now y.now name.now }
+// The form of a version line with these fields; only version 1 may leave out the number of contexts.
+fn counted_version(
+    version: &[u8],
+    p_word: &[u8],
+    p: &[u8],
+    l_word: &[u8],
+    l: &[u8],
+    contexts: Option<u64>,
+) -> Option<PortForm>
+    ensures { option_map form_of result ≡
+        version_in (bytes_eq version.now (codes "1") || bytes_eq version.now (codes "2")) p_word.now p.now l_word.now l.now contexts }
 {
-    Some(PortWords {
-        x: number_in(x)?,
-        y: number_in(y)?,
-        name: non_empty(name)?,
-    })
+    let is_known = version == b"1".as_slice() || version == b"2".as_slice();
+    version_in(is_known, p_word, p, l_word, l, contexts)
 }
 
-fn net_in<'a>(
-    x: &[u8],
-    y: &[u8],
-    offset: &[u8],
-    name: &'a [u8],
-    path: &'a [u8],
-) -> Option<NetWords<'a>>
-    ensures { option_map lent_net result ≡ net_in x.now y.now offset.now name.now path.now }
+fn port_in(alloc: Global, version: TableVersion, x: &[u8], y: &[u8], name: &[u8]) -> Result<Option<PortLine>, AllocError>
+    ensures { IfOk result (λ port. port ≡ port_in version x.now y.now name.now) }
 {
-    Some(NetWords {
-        x: number_in(x)?,
-        y: number_in(y)?,
-        offset: number_in(offset)?,
-        name: non_empty(name)?,
-        path: path_in(path)?,
-    })
+    let (Some(x), Some(y)) = (number_in(x), number_in(y)) else {
+        return Ok(None);
+    };
+    let Some(name) = name_in(alloc, version, name)? else {
+        return Ok(None);
+    };
+    Ok(Some(PortLine { x, y, name }))
 }
 
 // An input or an output.
-fn named_port<'a>(kind: &[u8], x: &[u8], y: &[u8], name: &'a [u8]) -> Option<PortForm<'a>>
-    ensures { option_map form_of result ≡ form_of_fields (kind.now ∷ x.now ∷ y.now ∷ name.now ∷ []) }
-{
-    if kind == b"IN".as_slice() {
-        return Some(PortForm::In(port_in(x, y, name)?));
-    }
-    if kind == b"OUT".as_slice() {
-        return Some(PortForm::Out(port_in(x, y, name)?));
-    }
-    None
-}
-
-// A net.
-fn named_net<'a>(
+fn named_port(
+    alloc: Global,
+    version: TableVersion,
     kind: &[u8],
     x: &[u8],
     y: &[u8],
-    offset: &[u8],
-    name: &'a [u8],
-    path: &'a [u8],
-) -> Option<PortForm<'a>>
-    ensures { option_map form_of result ≡ form_of_fields (kind.now ∷ x.now ∷ y.now ∷ offset.now ∷ name.now ∷ path.now ∷ []) }
+    name: &[u8],
+) -> Result<Option<PortForm>, AllocError>
+    ensures { IfOk result (λ form. option_map form_of form ≡ form_of_fields version (kind.now ∷ x.now ∷ y.now ∷ name.now ∷ [])) }
 {
-    if kind != b"NET".as_slice() {
-        return None;
+    let is_input = kind == b"IN".as_slice();
+    if !is_input && kind != b"OUT".as_slice() {
+        return Ok(None);
     }
-    Some(PortForm::Net(net_in(x, y, offset, name, path)?))
+    let Some(port) = port_in(alloc, version, x, y, name)? else {
+        return Ok(None);
+    };
+    Ok(Some(if is_input {
+        PortForm::In(port)
+    } else {
+        PortForm::Out(port)
+    }))
 }
 
-// The form of a line with these fields, if it has one of the four.
-fn form_of_fields<'a>(fields: &[&'a [u8]]) -> Option<PortForm<'a>>
-    ensures { option_map form_of result ≡ form_of_fields (map (λ f. f.now) fields.now) }
+// A net.
+fn named_net(
+    alloc: Global,
+    version: TableVersion,
+    place: (&[u8], &[u8], &[u8]),
+    name: &[u8],
+    path: &[u8],
+) -> Result<Option<NetLine>, AllocError>
+    ensures { IfOk result (λ net. net ≡ net_in version place.0.now place.1.now place.2.now name.now path.now) }
 {
-    match *fields {
-        [kind, x, y, name] => named_port(kind, x, y, name),
-        [version, p_word, p, l_word, l] => version_in(version, p_word, p, l_word, l, Some(1)),
-        [kind, x, y, offset, name, path] => named_net(kind, x, y, offset, name, path),
-        [version, p_word, p, l_word, l, c_word, c] => {
-            version_in(version, p_word, p, l_word, l, count_in(c_word, c))
-        }
-        _ => None,
-    }
+    let (Some(x), Some(y), Some(offset)) = (number_in(place.0), number_in(place.1), number_in(place.2)) else {
+        return Ok(None);
+    };
+    let Some(path) = path_in(path) else {
+        return Ok(None);
+    };
+    let Some(name) = name_in(alloc, version, name)? else {
+        return Ok(None);
+    };
+    let path = copied(alloc, path)?;
+    Ok(Some(NetLine { x, y, offset, name, path }))
 }
 
 // The first eight parts of an entry between its spaces: no form has more than seven.
