@@ -1,14 +1,15 @@
-// The forms of the table's lines, over the bytes of the text.
+// The forms of the table's lines.
 ghost use Rattle.std.specs.Prelude.{◌≡◌, ◌==◌, [], ◌∷◌, take, map, option_map, Some, IfOk};
 ghost use Rattle.std.specs.List.{slice_split};
-ghost use Rattle.std.specs.Option.{option_copied};
 ghost use Rattle.std.specs.Str.{byte};
-ghost use Rattle.lists.specs.Bytes.{non_empty};
 ghost use Rattle.pattern_reading.specs.PortLines.{form_of_fields, has_room, count_in, version_in, port_in, net_in};
-ghost use Rattle.port_table.specs.Lent.{form_of, lent_port, lent_net};
+ghost use Rattle.port_table.specs.Lent.{form_of};
 
+use crate::names::name_in;
 use crate::numbers::path_in;
+use lists::copied;
 use pattern_lines::number_in;
+use pattern_reading::{NetLine, PortLine, TableVersion};
 use std::alloc::{AllocError, Global};
 
 /// What a line of the table says.
@@ -73,32 +74,54 @@ fn version_in(
     })
 }
 
-// The form of a version line with these fields; only version 1 may leave out the number of contexts.
-fn counted_version(
-    version: &[u8],
-    p_word: &[u8],
-    p: &[u8],
-    l_word: &[u8],
-    l: &[u8],
-    contexts: Option<u64>,
-) -> Option<PortForm>
-    ensures { option_map form_of result ≡
-        version_in (bytes_eq version.now (codes "1") || bytes_eq version.now (codes "2")) p_word.now p.now l_word.now l.now contexts }
-{
-    let is_known = version == b"1".as_slice() || version == b"2".as_slice();
-    version_in(is_known, p_word, p, l_word, l, contexts)
-}
-
-fn port_in(alloc: Global, version: TableVersion, x: &[u8], y: &[u8], name: &[u8]) -> Result<Option<PortLine>, AllocError>
+fn port_in(
+    alloc: Global,
+    version: TableVersion,
+    x: &[u8],
+    y: &[u8],
+    name: &[u8],
+) -> Result<Option<PortLine>, AllocError>
     ensures { IfOk result (λ port. port ≡ port_in version x.now y.now name.now) }
 {
-    let (Some(x), Some(y)) = (number_in(x), number_in(y)) else {
+    let Some(x) = number_in(x) else {
+        return Ok(None);
+    };
+    let Some(y) = number_in(y) else {
         return Ok(None);
     };
     let Some(name) = name_in(alloc, version, name)? else {
         return Ok(None);
     };
     Ok(Some(PortLine { x, y, name }))
+}
+
+fn net_in(
+    alloc: Global,
+    version: TableVersion,
+    x: &[u8],
+    y: &[u8],
+    offset: &[u8],
+    name: &[u8],
+    path: &[u8],
+) -> Result<Option<NetLine>, AllocError>
+    ensures { IfOk result (λ net. net ≡ net_in version x.now y.now offset.now name.now path.now) }
+{
+    let Some(offset) = number_in(offset) else {
+        return Ok(None);
+    };
+    let Some(path) = path_in(path) else {
+        return Ok(None);
+    };
+    let Some(port) = port_in(alloc, version, x, y, name)? else {
+        return Ok(None);
+    };
+    Ok(Some(NetLine {
+        x: port.x,
+        y: port.y,
+        offset,
+        name: port.name,
+        path: copied(alloc, path)?,
+    }))
 }
 
 // An input or an output.
@@ -130,23 +153,49 @@ fn named_port(
 fn named_net(
     alloc: Global,
     version: TableVersion,
-    place: (&[u8], &[u8], &[u8]),
+    kind: &[u8],
+    x: &[u8],
+    y: &[u8],
+    offset: &[u8],
     name: &[u8],
     path: &[u8],
-) -> Result<Option<NetLine>, AllocError>
-    ensures { IfOk result (λ net. net ≡ net_in version place.0.now place.1.now place.2.now name.now path.now) }
+) -> Result<Option<PortForm>, AllocError>
+    ensures { IfOk result (λ form. option_map form_of form ≡
+        form_of_fields version (kind.now ∷ x.now ∷ y.now ∷ offset.now ∷ name.now ∷ path.now ∷ [])) }
 {
-    let (Some(x), Some(y), Some(offset)) = (number_in(place.0), number_in(place.1), number_in(place.2)) else {
+    if kind != b"NET".as_slice() {
+        return Ok(None);
+    }
+    let Some(net) = net_in(alloc, version, x, y, offset, name, path)? else {
         return Ok(None);
     };
-    let Some(path) = path_in(path) else {
-        return Ok(None);
-    };
-    let Some(name) = name_in(alloc, version, name)? else {
-        return Ok(None);
-    };
-    let path = copied(alloc, path)?;
-    Ok(Some(NetLine { x, y, offset, name, path }))
+    Ok(Some(PortForm::Net(net)))
+}
+
+// The form of a line with these fields in a table of a version, if it has one of the four. A version line of version 1 may leave out
+// the number of contexts.
+fn form_of_fields(
+    alloc: Global,
+    version: TableVersion,
+    fields: &[&[u8]],
+) -> Result<Option<PortForm>, AllocError>
+    ensures { IfOk result (λ form. option_map form_of form ≡ form_of_fields version (map (λ f. f.now) fields.now)) }
+{
+    match *fields {
+        [kind, x, y, name] => named_port(alloc, version, kind, x, y, name),
+        [number, p_word, p, l_word, l] => {
+            let is_known = number == b"1".as_slice();
+            Ok(version_in(is_known, p_word, p, l_word, l, Some(1)))
+        }
+        [kind, x, y, offset, name, path] => {
+            named_net(alloc, version, kind, x, y, offset, name, path)
+        }
+        [number, p_word, p, l_word, l, c_word, c] => {
+            let is_known = number == b"1".as_slice() || number == b"2".as_slice();
+            Ok(version_in(is_known, p_word, p, l_word, l, count_in(c_word, c)))
+        }
+        _ => Ok(None),
+    }
 }
 
 // The first eight parts of an entry between its spaces: no form has more than seven.
@@ -156,10 +205,14 @@ fn fields_of(alloc: Global, entry: &[u8]) -> Result<Vec<&[u8]>, AllocError>
     entry.split(|b| *b == b' ').take(8).collect(alloc)
 }
 
-/// The form of a line with this entry, whose fields are separated by single spaces, if it has one.
-pub fn form_in(alloc: Global, entry: &[u8]) -> Result<Option<PortForm<'_>>, AllocError>
-    ensures { IfOk result (λ form. option_map form_of form ≡ form_of_fields (slice_split (λ b. b == byte " ") entry.now)) }
+/// The form of a line with this entry in a table of a version, if it has one. The fields of a line are separated by single spaces.
+pub fn form_in(
+    alloc: Global,
+    version: TableVersion,
+    entry: &[u8],
+) -> Result<Option<PortForm>, AllocError>
+    ensures { IfOk result (λ form. option_map form_of form ≡ form_of_fields version (slice_split (λ b. b == byte " ") entry.now)) }
 {
     let fields = fields_of(alloc, entry)?;
-    Ok(form_of_fields(&fields))
+    form_of_fields(alloc, version, &fields)
 }
