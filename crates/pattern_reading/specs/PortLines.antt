@@ -1,10 +1,13 @@
 -- The lines of a port table. It stands in comments before the header, in a form of this program's own, so that other readers of
--- extended RLE pass over it.
+-- extended RLE pass over it. There are two versions: version 2 is written, and version 1 is still read.
 use Rattle.std.specs.Prelude.{ℕ, Bool, ◌&&◌, ◌||◌, not, ◌==◌, ◌*◌, nat_le, if◌then◌else◌, List, [], ◌∷◌, length, slice_index, Option, Some, None, codes, is_some, filter_map}
 use Rattle.std.specs.List.{list_all, slice_split}
 use Rattle.std.specs.Str.{bytes_eq, byte}
 use Rattle.pattern_reading.specs.declared.ports.PortLine.{PortLine}
 use Rattle.pattern_reading.specs.declared.ports.NetLine.{NetLine}
+use Rattle.pattern_reading.specs.declared.ports.TableVersion.{TableVersion}
+use Rattle.pattern_reading.specs.declared.ports.TableVersion.TheVariants.{One, Two}
+use Rattle.pattern_reading.specs.Escapes.{unescaped}
 use Rattle.pattern_reading.specs.Lines.{Line}
 use Rattle.pattern_reading.specs.Numbers.{◌>>=◌, number_in, after_prefix}
 use Rattle.lists.specs.Bytes.{non_empty}
@@ -12,7 +15,7 @@ use Rattle.pattern_reading.specs.Header.{lines_before_header}
 
 -- what a line of the table says, by its form
 pub data PortForm : Type 0 where
-  -- `1 P p L l`, and ` C c` after it, which may be left out where c is 1
+  -- `2 P p L l C c`; in version 1 `1 P p L l C c`, or `1 P p L l` where c is 1
   Version : ℕ → ℕ → ℕ → PortForm
   -- `IN x y name`
   In : PortLine → PortForm
@@ -38,10 +41,10 @@ has_room period contexts = contexts == 1 || (not (contexts == 0) && nat_le (32 *
 abbrev pub count_in : List ℕ → List ℕ → Option ℕ
 count_in c_word c = if bytes_eq c_word (codes "C") then number_in c else None
 
--- the period is not 0, and has room for the contexts
-abbrev pub version_in : List ℕ → List ℕ → List ℕ → List ℕ → List ℕ → Option ℕ → Option PortForm
-version_in version p_word p l_word l contexts =
-    if bytes_eq version (codes "1") && bytes_eq p_word (codes "P") && bytes_eq l_word (codes "L")
+-- a version line of a known version, by the fields after it: the period is not 0, and has room for the contexts
+abbrev pub version_in : Bool → List ℕ → List ℕ → List ℕ → List ℕ → Option ℕ → Option PortForm
+version_in is_known p_word p l_word l contexts =
+    if is_known && bytes_eq p_word (codes "P") && bytes_eq l_word (codes "L")
     then (do
       period ← number_in p
       latency ← number_in l
@@ -49,50 +52,65 @@ version_in version p_word p l_word l contexts =
       if period == 0 || not (has_room period count) then None else Some (Version period latency count))
     else None
 
--- a name is one or more bytes, and no space, since spaces separate the fields
-abbrev pub port_in : List ℕ → List ℕ → List ℕ → Option PortLine
-port_in x y name = do
+-- The name that a field says, of one or more bytes: in version 1 the field as it stands, and in version 2 with escapes. No space
+-- stands in a field, since spaces separate the fields.
+abbrev pub name_in : TableVersion → List ℕ → Option (List ℕ)
+name_in One field = non_empty field
+name_in Two field = unescaped field >>= non_empty
+
+abbrev pub port_in : TableVersion → List ℕ → List ℕ → List ℕ → Option PortLine
+port_in version x y name = do
   column ← number_in x
   row ← number_in y
-  word ← non_empty name
+  word ← name_in version name
   Some (record { x = column; y = row; name = word })
 
-abbrev pub net_in : List ℕ → List ℕ → List ℕ → List ℕ → List ℕ → Option NetLine
-net_in x y offset name path = do
+abbrev pub net_in : TableVersion → List ℕ → List ℕ → List ℕ → List ℕ → List ℕ → Option NetLine
+net_in version x y offset name path = do
   column ← number_in x
   row ← number_in y
   first ← number_in offset
-  word ← non_empty name
+  word ← name_in version name
   place ← path_in path
   Some (record { x = column; y = row; offset = first; name = word; path = place })
 
--- the form of a line with these fields, if it has one of the four
-abbrev pub form_of_fields : List (List ℕ) → Option PortForm
-form_of_fields (kind ∷ x ∷ y ∷ name ∷ []) =
-    if bytes_eq kind (codes "IN") then (port_in x y name >>= λ port. Some (In port))
-    else if bytes_eq kind (codes "OUT") then (port_in x y name >>= λ port. Some (Out port))
+-- the form of a line with these fields in a table of a version, if it has one of the four
+abbrev pub form_of_fields : TableVersion → List (List ℕ) → Option PortForm
+form_of_fields version (kind ∷ x ∷ y ∷ name ∷ []) =
+    if bytes_eq kind (codes "IN") then (port_in version x y name >>= λ port. Some (In port))
+    else if bytes_eq kind (codes "OUT") then (port_in version x y name >>= λ port. Some (Out port))
     else None
-form_of_fields (version ∷ p_word ∷ p ∷ l_word ∷ l ∷ []) = version_in version p_word p l_word l (Some 1)
-form_of_fields (version ∷ p_word ∷ p ∷ l_word ∷ l ∷ c_word ∷ c ∷ []) = version_in version p_word p l_word l (count_in c_word c)
-form_of_fields (kind ∷ x ∷ y ∷ offset ∷ name ∷ path ∷ []) =
-    if bytes_eq kind (codes "NET") then (net_in x y offset name path >>= λ net. Some (Net net)) else None
-form_of_fields _ = None
+form_of_fields version (number ∷ p_word ∷ p ∷ l_word ∷ l ∷ []) =
+    version_in (bytes_eq number (codes "1")) p_word p l_word l (Some 1)
+form_of_fields version (number ∷ p_word ∷ p ∷ l_word ∷ l ∷ c_word ∷ c ∷ []) =
+    version_in (bytes_eq number (codes "1") || bytes_eq number (codes "2")) p_word p l_word l (count_in c_word c)
+form_of_fields version (kind ∷ x ∷ y ∷ offset ∷ name ∷ path ∷ []) =
+    if bytes_eq kind (codes "NET") then (net_in version x y offset name path >>= λ net. Some (Net net)) else None
+form_of_fields version _ = None
 
 -- what follows `#C BLIFWW ` in a line that begins so: such lines before the header are the table
 abbrev pub table_entry : Line → Option (List ℕ)
 table_entry line = after_prefix (codes "#C BLIFWW ") line.bytes
+
+-- the version of a table, which its first entry names; version 1 where it names none
+abbrev pub version_of_entries : List (List ℕ) → TableVersion
+version_of_entries [] = One
+version_of_entries (entry ∷ entries) = if is_some (after_prefix (codes "2 ") entry) then Two else One
 
 -- a line of the table: its number, and its form, if it has one. The fields of a line are separated by single spaces
 pub record TableLine : Type 0 where
   pub number : ℕ
   pub form : Option PortForm
 
-abbrev pub table_line : Line → Option TableLine
-table_line line = do
+abbrev pub table_line : TableVersion → Line → Option TableLine
+table_line version line = do
   entry ← table_entry line
-  Some (record { number = line.number; form = form_of_fields (slice_split (λ b. b == byte " ") entry) })
+  Some (record { number = line.number; form = form_of_fields version (slice_split (λ b. b == byte " ") entry) })
+
+abbrev pub table_version : List ℕ → TableVersion
+table_version text = version_of_entries (filter_map table_entry (lines_before_header text))
 
 -- The lines of a text's table, in order. The header that they stand before is the first line that is neither a comment nor blank,
 -- whatever its form; where there is none, they are looked for in all lines.
 abbrev pub table_of : List ℕ → List TableLine
-table_of text = filter_map table_line (lines_before_header text)
+table_of text = filter_map (table_line (table_version text)) (lines_before_header text)

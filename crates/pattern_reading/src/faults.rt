@@ -25,7 +25,7 @@ pub enum RleFaultKind {
 #[derive(Clone, Copy, Debug, PartialEq, Eq)]
 pub enum PortFaultKind {
     /// A line of the table has none of the four forms, its period is 0, its number of contexts is 0 or has no room in the
-    /// period, or a number is past 18446744073709551615.
+    /// period, or a number is past 18446744073709551615. In version 2, a `%` in a name begins no escape, or a line feed's.
     BadLine,
     /// The first line of the table is not the version line, or a later line is one.
     BadOrder,

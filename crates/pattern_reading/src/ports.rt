@@ -1,6 +1,14 @@
 // Port tables as values.
 use lists::{Bytes, List};
 
+/// The versions of port tables, by how names stand in them: in version 1 as they are, and in version 2 with an escape of `%` and
+/// two hexadecimal digits for each byte that is `%` or that ASCII does not print.
+#[derive(Clone, Copy)]
+pub enum TableVersion {
+    One,
+    Two,
+}
+
 /// A port: the name of an input or an output, and its cell.
 #[derive(Drop)]
 pub struct PortLine {

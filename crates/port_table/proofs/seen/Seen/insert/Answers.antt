@@ -10,19 +10,19 @@ returns-in-Version-clause-added c = λ before h. rw (c.in-Version.is, same_as_ve
 
 pub returns-in_ok-is_new-in-In-clause-added : goal.returns-in_ok-is_new-in-In-clause-added
 returns-in_ok-is_new-in-In-clause-added c = λ before h.
-    rw (c.in-In.is, same_as_input (lent_port c.in-In.port) before) (c.in_ok-is_new-in-In.ensures.added ∙ ap not (h.has_ins c.in-In.port.name.now))
+    rw (c.in-In.is, same_as_input (c.in-In.port.now) before) (c.in_ok-is_new-in-In.ensures.added ∙ ap not (h.has_ins c.in-In.port.name.now))
 
 pub returns-in_ok-is_new-in-Out-clause-added : goal.returns-in_ok-is_new-in-Out-clause-added
 returns-in_ok-is_new-in-Out-clause-added c = λ before h.
-    rw (c.in-Out.is, same_as_output (lent_port c.in-Out.port) before) (c.in_ok-is_new-in-Out.ensures.added ∙ ap not (h.has_outs c.in-Out.port.name.now))
+    rw (c.in-Out.is, same_as_output (c.in-Out.port.now) before) (c.in_ok-is_new-in-Out.ensures.added ∙ ap not (h.has_outs c.in-Out.port.name.now))
 
 pub returns-in_ok-is_new-in-Net-clause-added : goal.returns-in_ok-is_new-in-Net-clause-added
 returns-in_ok-is_new-in-Net-clause-added c = λ before h.
-    rw (c.in-Net.is, same_as_net (lent_net c.in-Net.net) before) (c.in_ok-is_new-in-Net.ensures.added ∙ ap not (h.has_nets c.in-Net.net.name.now c.in-Net.net.path.now))
+    rw (c.in-Net.is, same_as_net (c.in-Net.net.now) before) (c.in_ok-is_new-in-Net.ensures.added ∙ ap not (h.has_nets c.in-Net.net.name.now c.in-Net.net.path.now))
 
 pub returns-in_ok-is_new-in-In-clause-seen : goal.returns-in_ok-is_new-in-In-clause-seen
 returns-in_ok-is_new-in-In-clause-seen c = λ before h.
-    let form = In (lent_port c.in-In.port) in
+    let form = In (c.in-In.port.now) in
     rw c.in-In.is (record {
       has_ins = has_name is_input c.args.self.now.ins c.insert.new.self c.in-In.port.name before form (λ name. refl) h.has_ins c.in_ok-is_new-in-In.ensures.updates;
       has_outs = λ name. h.has_outs name ∙ sym (any_push (is_output name) before form);
@@ -31,7 +31,7 @@ returns-in_ok-is_new-in-In-clause-seen c = λ before h.
 
 pub returns-in_ok-is_new-in-Out-clause-seen : goal.returns-in_ok-is_new-in-Out-clause-seen
 returns-in_ok-is_new-in-Out-clause-seen c = λ before h.
-    let form = Out (lent_port c.in-Out.port) in
+    let form = Out (c.in-Out.port.now) in
     rw c.in-Out.is (record {
       has_ins = λ name. h.has_ins name ∙ sym (any_push (is_input name) before form);
       has_outs = has_name is_output c.args.self.now.outs c.insert-in-Out.new.self c.in-Out.port.name before form (λ name. refl) h.has_outs c.in_ok-is_new-in-Out.ensures.updates;
@@ -40,7 +40,7 @@ returns-in_ok-is_new-in-Out-clause-seen c = λ before h.
 
 pub returns-in_ok-is_new-in-Net-clause-seen : goal.returns-in_ok-is_new-in-Net-clause-seen
 returns-in_ok-is_new-in-Net-clause-seen c = λ before h.
-    let form = Net (lent_net c.in-Net.net) in
+    let form = Net (c.in-Net.net.now) in
     rw c.in-Net.is (record {
       has_ins = λ name. h.has_ins name ∙ sym (any_push (is_input name) before form);
       has_outs = λ name. h.has_outs name ∙ sym (any_push (is_output name) before form);
