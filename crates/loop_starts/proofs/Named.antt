@@ -1,0 +1,185 @@
+-- The edges that the names of starts light.
+use Rattle.std.proofs.Common.{◌≡◌, refl, sym, ◌∙◌, ap, ap₂, subst, ℕ, zero, suc, ◌+◌, ◌-◌, ◌*◌, ◌<◌, ◌≤◌, Bool, true, false, ◌&&◌, ◌||◌, cond, ◌⊎◌, inl, inr, ⊎_elim, List, [], ◌∷◌, ◌++◌, length, get_or, arith}
+use Rattle.std.specs.Prelude.{◌==◌, All}
+use Rattle.std.specs.List.{list_any}
+use Rattle.std.specs.Cmp.{both_ways as same_bit}
+use Rattle.std.proofs.Math.Bool.{or-false}
+use Rattle.std.proofs.lemmas.Bool.{true≢false, and_parts, and_from, or_cases, or_left, or_right, eqb-true, eq-eqb, cases_eq}
+use Rattle.std.proofs.lemmas.List.Folds.{list_any-append}
+use Rattle.tiling.specs.Tiling.{Tiling, Edge, Lit}
+use Rattle.tiling.specs.Tiling.Edge.{Beside, Above}
+use Rattle.tiling.specs.Matched.{is_entered}
+use Rattle.lane_core.specs.declared.plan.Plan.{Plan}
+use Rattle.lane_core.specs.Plans.{IsAdmissible}
+use Rattle.lane_core.specs.Instrs.{bit_on}
+use Rattle.plan_layout.specs.Layout.{tiling_of}
+use Rattle.plan_waves.specs.Waves.{tiles_back}
+use Rattle.plan_waves.specs.WaysBack.{before_entry}
+use Rattle.plan_waves.proofs.Loops.{ways_back_are_apart}
+use Rattle.plan_waves.specs.Contexts.{contexts_on_ways, StartsContexts}
+use Rattle.plan_waves.proofs.RunningContexts.{ways_with_loops}
+use Rattle.loop_starts.specs.declared.edge.Start.{Start}
+use Rattle.loop_starts.specs.Starts.{name_of, is_named, lit_of, start_in, starts_of_loop, starts_of_loops, starts_of, StartsAreOnWays}
+
+-- a start with this name, in one of the first contexts of a loop
+abbrev StartOf : Plan → List (List Bool) → ℕ → ℕ → ℕ → Type 0
+StartOf plan starts loop x y = (c : ℕ) × (c < length starts) × (bit_on (get_or starts c []) loop ≡ true) × ((name_of (tiling_of plan) (before_entry plan loop c)).x ≡ x) × ((name_of (tiling_of plan) (before_entry plan loop c)).y ≡ y)
+
+module _ (plan : Plan) (starts : List (List Bool)) (x y : ℕ) where
+  named_in : (loop c : ℕ) (bit : Bool) → list_any (is_named x y) (cond bit (name_of (tiling_of plan) (before_entry plan loop c) ∷ []) []) ≡ true
+      → (bit ≡ true) × ((name_of (tiling_of plan) (before_entry plan loop c)).x ≡ x) × ((name_of (tiling_of plan) (before_entry plan loop c)).y ≡ y)
+  named_in loop c false e = absurd (true≢false (sym e))
+  named_in loop c true e =
+      let s = name_of (tiling_of plan) (before_entry plan loop c) in
+      let parts = and_parts (s.x == x) (s.y == y) (sym (or-false (is_named x y s)) ∙ e) in
+      (refl, eqb-true s.x x parts.0, eqb-true s.y y parts.1)
+
+  in_named : (loop c : ℕ) (bit : Bool) → bit ≡ true → (name_of (tiling_of plan) (before_entry plan loop c)).x ≡ x → (name_of (tiling_of plan) (before_entry plan loop c)).y ≡ y
+      → list_any (is_named x y) (cond bit (name_of (tiling_of plan) (before_entry plan loop c) ∷ []) []) ≡ true
+  in_named loop c false one ex ey = absurd (true≢false (sym one))
+  in_named loop c true one ex ey =
+      let s = name_of (tiling_of plan) (before_entry plan loop c) in
+      or_left (is_named x y s) false (and_from (s.x == x) (s.y == y) (eq-eqb s.x x ex) (eq-eqb s.y y ey))
+
+  of_loop : (loop n : ℕ) → n ≤ length starts → list_any (is_named x y) (starts_of_loop plan starts loop n) ≡ true → StartOf plan starts loop x y
+  of_loop loop zero within e = absurd (true≢false (sym e))
+  of_loop loop (suc n) within e =
+      ⊎_elim
+      (λ before. of_loop loop n (omega (arith, within)) before)
+      (λ last. (let is = named_in loop n (bit_on (get_or starts n []) loop) last in (n, omega (arith, within), is.0, is.1, is.2)))
+      (or_cases (list_any (is_named x y) (starts_of_loop plan starts loop n)) (list_any (is_named x y) (start_in plan starts loop n))
+      (sym (list_any-append (is_named x y) (starts_of_loop plan starts loop n) (start_in plan starts loop n)) ∙ e))
+
+  in_loop : (loop n c : ℕ) → c < n → bit_on (get_or starts c []) loop ≡ true → (name_of (tiling_of plan) (before_entry plan loop c)).x ≡ x → (name_of (tiling_of plan) (before_entry plan loop c)).y ≡ y
+      → list_any (is_named x y) (starts_of_loop plan starts loop n) ≡ true
+  in_loop loop zero c low one ex ey = absurd (omega (arith, low))
+  in_loop loop (suc n) c low one ex ey =
+      list_any-append (is_named x y) (starts_of_loop plan starts loop n) (start_in plan starts loop n)
+      ∙ ⊎_elim
+      (λ (last : c ≡ n). or_right _ _ (subst (λ (k : ℕ). list_any (is_named x y) (start_in plan starts loop k) ≡ true) last (in_named loop c (bit_on (get_or starts c []) loop) one ex ey)))
+      (λ other. or_left _ _ (in_loop loop n c (omega (arith, low, other)) one ex ey))
+      (cases_eq c n)
+
+  of_loops : (n : ℕ) → list_any (is_named x y) (starts_of_loops plan starts n) ≡ true → (loop : ℕ) × (loop < n) × StartOf plan starts loop x y
+  of_loops zero e = absurd (true≢false (sym e))
+  of_loops (suc n) e =
+      ⊎_elim
+      (λ before. (let f = of_loops n before in (f.0, omega (arith, f.1), f.2)))
+      (λ last. (n, omega arith, of_loop n (length starts) (omega arith) last))
+      (or_cases (list_any (is_named x y) (starts_of_loops plan starts n)) (list_any (is_named x y) (starts_of_loop plan starts n (length starts)))
+      (sym (list_any-append (is_named x y) (starts_of_loops plan starts n) (starts_of_loop plan starts n (length starts))) ∙ e))
+
+  in_loops : (n loop c : ℕ) → loop < n → c < length starts → bit_on (get_or starts c []) loop ≡ true → (name_of (tiling_of plan) (before_entry plan loop c)).x ≡ x → (name_of (tiling_of plan) (before_entry plan loop c)).y ≡ y
+      → list_any (is_named x y) (starts_of_loops plan starts n) ≡ true
+  in_loops zero loop c inside low one ex ey = absurd (omega (arith, inside))
+  in_loops (suc n) loop c inside low one ex ey =
+      list_any-append (is_named x y) (starts_of_loops plan starts n) (starts_of_loop plan starts n (length starts))
+      ∙ ⊎_elim
+      (λ (last : loop ≡ n). or_right _ _ (subst (λ (k : ℕ). list_any (is_named x y) (starts_of_loop plan starts k (length starts)) ≡ true) last (in_loop loop (length starts) c low one ex ey)))
+      (λ other. or_left _ _ (in_loops n loop c (omega (arith, inside, other)) low one ex ey))
+      (cases_eq loop n)
+
+-- of the edges with a cell at this place, on a west side or on a north side, there is one
+abbrev IsBeside : ℕ → ℕ → ℕ → ℕ → Type 0
+IsBeside q l x y = ((x ≡ 32 * q) ⊎ (x ≡ 32 * q - 1)) × (y ≡ 16 * l + 8)
+
+abbrev IsAbove : ℕ → ℕ → ℕ → ℕ → Type 0
+IsAbove q l x y = (x ≡ 32 * q + 16) × ((y ≡ 16 * l) ⊎ (y ≡ 16 * l - 1))
+
+side : (entered : Bool) (a x : ℕ) → (cond entered a (a - 1)) ≡ x → (x ≡ a) ⊎ (x ≡ a - 1)
+side true a x e = inl (sym e)
+side false a x e = inr (sym e)
+
+-- what a name is
+abbrev name_is : (tiling : Tiling) (edge : Edge) (x y : ℕ) → (name_of tiling edge).x ≡ x → (name_of tiling edge).y ≡ y → Type 0
+name_is tiling (Beside q l) x y ex ey = IsBeside q l x y
+name_is tiling (Above q l) x y ex ey = IsAbove q l x y
+
+named : (tiling : Tiling) (edge : Edge) (x y : ℕ) (ex : (name_of tiling edge).x ≡ x) (ey : (name_of tiling edge).y ≡ y) → name_is tiling edge x y ex ey
+named tiling (Beside q l) x y ex ey = (side (is_entered (tiling q l) 0 8) (32 * q) x ex, sym ey)
+named tiling (Above q l) x y ex ey = (sym ex, side (is_entered (tiling q l) 16 0) (16 * l) y ey)
+
+beside_is : (q l q' l' x y : ℕ) → IsBeside q l x y → IsBeside q' l' x y → (q ≡ q') × (l ≡ l')
+beside_is q l q' l' x y (inl a, b) (inl c, d) = (omega (arith, a, c), omega (arith, b, d))
+beside_is q l q' l' x y (inl a, b) (inr c, d) = (omega (arith, a, c), omega (arith, b, d))
+beside_is q l q' l' x y (inr a, b) (inl c, d) = (omega (arith, a, c), omega (arith, b, d))
+beside_is q l q' l' x y (inr a, b) (inr c, d) = (omega (arith, a, c), omega (arith, b, d))
+
+above_is : (q l q' l' x y : ℕ) → IsAbove q l x y → IsAbove q' l' x y → (q ≡ q') × (l ≡ l')
+above_is q l q' l' x y (a, inl b) (c, inl d) = (omega (arith, a, c), omega (arith, b, d))
+above_is q l q' l' x y (a, inl b) (c, inr d) = (omega (arith, a, c), omega (arith, b, d))
+above_is q l q' l' x y (a, inr b) (c, inl d) = (omega (arith, a, c), omega (arith, b, d))
+above_is q l q' l' x y (a, inr b) (c, inr d) = (omega (arith, a, c), omega (arith, b, d))
+
+apart : (q l q' l' x y : ℕ) → IsBeside q l x y → IsAbove q' l' x y → ⊥
+apart q l q' l' x y (inl a, b) (c, d) = omega (arith, a, c)
+apart q l q' l' x y (inr a, b) (c, d) = omega (arith, a, c)
+
+beside_named : (tiling : Tiling) (edge : Edge) (q l x y : ℕ) → (name_of tiling edge).x ≡ x → (name_of tiling edge).y ≡ y → IsBeside q l x y → edge ≡ Beside q l
+beside_named tiling (Beside q' l') q l x y ex ey is = let same = beside_is q' l' q l x y (named tiling (Beside q' l') x y ex ey) is in ap₂ Beside same.0 same.1
+beside_named tiling (Above q' l') q l x y ex ey is = absurd (apart q l q' l' x y is (named tiling (Above q' l') x y ex ey))
+
+above_named : (tiling : Tiling) (edge : Edge) (q l x y : ℕ) → (name_of tiling edge).x ≡ x → (name_of tiling edge).y ≡ y → IsAbove q l x y → edge ≡ Above q l
+above_named tiling (Above q' l') q l x y ex ey is = let same = above_is q' l' q l x y (named tiling (Above q' l') x y ex ey) is in ap₂ Above same.0 same.1
+above_named tiling (Beside q' l') q l x y ex ey is = absurd (apart q' l' q l x y (named tiling (Beside q' l') x y ex ey) is)
+
+-- an edge that is lit is the start of a context
+abbrev IsStart : Plan → List (List Bool) → Edge → Type 0
+IsStart plan starts edge = (c : ℕ) × (loop : ℕ) × (c < length starts) × (loop < plan.latches) × (bit_on (get_or starts c []) loop ≡ true) × (edge ≡ before_entry plan loop c)
+
+found : (plan : Plan) (starts : List (List Bool)) (edge : Edge) → lit_of (starts_of plan starts) edge ≡ true → IsStart plan starts edge
+found plan starts (Beside q l) e =
+    ⊎_elim
+    (λ entry. of (32 * q) (16 * l + 8) entry (inl refl, refl))
+    (λ exit. of (32 * q - 1) (16 * l + 8) exit (inr refl, refl))
+    (or_cases _ _ e)
+  where
+    of : (x y : ℕ) → list_any (is_named x y) (starts_of plan starts) ≡ true → IsBeside q l x y → IsStart plan starts (Beside q l)
+    of x y any is =
+        let f = of_loops plan starts x y plan.latches any in
+        (f.2.0, f.0, f.2.1, f.1, f.2.2, sym (beside_named (tiling_of plan) (before_entry plan f.0 f.2.0) q l x y f.2.3 f.2.4 is))
+found plan starts (Above q l) e =
+    ⊎_elim
+    (λ entry. of (32 * q + 16) (16 * l) entry (refl, inl refl))
+    (λ exit. of (32 * q + 16) (16 * l - 1) exit (refl, inr refl))
+    (or_cases _ _ e)
+  where
+    of : (x y : ℕ) → list_any (is_named x y) (starts_of plan starts) ≡ true → IsAbove q l x y → IsStart plan starts (Above q l)
+    of x y any is =
+        let f = of_loops plan starts x y plan.latches any in
+        (f.2.0, f.0, f.2.1, f.1, f.2.2, sym (above_named (tiling_of plan) (before_entry plan f.0 f.2.0) q l x y f.2.3 f.2.4 is))
+
+-- and an edge whose name stands in the list is lit
+name_lights : (tiling : Tiling) (list : List Start) (edge : Edge) → list_any (is_named (name_of tiling edge).x (name_of tiling edge).y) list ≡ true → lit_of list edge ≡ true
+name_lights tiling list (Beside q l) = by (is_entered (tiling q l) 0 8)
+  where
+    by : (b : Bool) → list_any (is_named (cond b (32 * q) (32 * q - 1)) (16 * l + 8)) list ≡ true → lit_of list (Beside q l) ≡ true
+    by true e = or_left _ _ e
+    by false e = or_right _ _ e
+name_lights tiling list (Above q l) = by (is_entered (tiling q l) 16 0)
+  where
+    by : (b : Bool) → list_any (is_named (32 * q + 16) (cond b (16 * l) (16 * l - 1))) list ≡ true → lit_of list (Above q l) ≡ true
+    by true e = or_left _ _ e
+    by false e = or_right _ _ e
+
+pub starts_are_on_ways : StartsAreOnWays
+starts_are_on_ways plan h starts fit long = record {
+  fit = fit;
+  long = long;
+  on_ways = λ c loop low inside. same_bit _ _ (to c loop low inside) (from c loop low inside);
+  only = λ edge e. (let f = found plan starts edge e in (f.0, f.1, f.2, f.3, f.5));
+}
+  where
+    on_way : (c loop : ℕ) → c < length starts → loop < plan.latches → c ≤ tiles_back plan
+    on_way c loop low inside = omega (arith, low, fit, ways_with_loops plan (omega (arith, inside)))
+
+    to : (c loop : ℕ) → c < length starts → loop < plan.latches → lit_of (starts_of plan starts) (before_entry plan loop c) ≡ true → bit_on (get_or starts c []) loop ≡ true
+    to c loop low inside e =
+        let f = found plan starts (before_entry plan loop c) e in
+        let same = ways_back_are_apart plan h loop f.1 c f.0 inside f.3 (on_way c loop low inside) (on_way f.0 f.1 f.2 f.3) f.5 in
+        ap₂ (λ k n. bit_on (get_or starts k []) n) same.1 same.0 ∙ f.4
+
+    from : (c loop : ℕ) → c < length starts → loop < plan.latches → bit_on (get_or starts c []) loop ≡ true → lit_of (starts_of plan starts) (before_entry plan loop c) ≡ true
+    from c loop low inside one =
+        let s = name_of (tiling_of plan) (before_entry plan loop c) in
+        name_lights (tiling_of plan) (starts_of plan starts) (before_entry plan loop c) (in_loops plan starts s.x s.y plan.latches loop c inside low one refl refl)
