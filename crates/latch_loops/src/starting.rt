@@ -5,7 +5,7 @@ ghost use Rattle.plan_layout.specs.Starts.{start_edges, HasStartEdges};
 ghost use Rattle.plan_waves.specs.Cycles.{cycle_steps};
 ghost use Rattle.plan_waves.specs.Contexts.{StartsContexts};
 ghost use Rattle.latch_loops.specs.Closed.{contexts_size, IsPadded};
-ghost use Rattle.latch_loops.specs.Padded.{IsPaddedPlan, DoesTheSame};
+ghost use Rattle.latch_loops.specs.Padded.{IsPaddedPlan, DoesAsPlan};
 
 use crate::CloseError;
 use lane_core::{Column, Plan};
@@ -40,7 +40,7 @@ fn contexts_size(loops: u32, contexts: usize) -> usize
 /// The plan in several contexts, the loops of each of which start with these bits, one list a context: no more contexts than
 /// macro steps in the plan's period. Where there are loops and too few columns for all starts to lie on the ways back of the
 /// loops, it adds columns without instructions.
-#[tactic(auto, using(crate::proofs::PaddedPlans::padded_admissible, crate::proofs::PaddedPlans::room, crate::proofs::PaddedPlans::does_the_same))]
+#[tactic(auto, using(crate::proofs::PaddedPlans::padded_admissible, crate::proofs::PaddedPlans::room, crate::proofs::PaddedPlans::does_as_plan))]
 pub fn start_contexts(
     alloc: Global,
     plan: Plan,
@@ -53,7 +53,7 @@ pub fn start_contexts(
     ensures admissible { IfOk result IsAdmissible }
     ensures edges { IfOk result HasStartEdges }
     ensures padded { IfOk result (IsPaddedPlan (contexts_size plan.latches (length starts.now)) plan) }
-    ensures same { IfOk result (DoesTheSame plan) }
+    ensures same { IfOk result (DoesAsPlan plan) }
     ensures contexts { IfOk result (λ p. StartsContexts p starts.now (start_edges p)) }
 {
     let size = contexts_size(plan.latches, starts.len());

@@ -1,6 +1,6 @@
 use Rattle.std.proofs.Common.{rules}
 use Rattle.latch_loops.proofs.Admissible.{closed_admissible, does_as_program}
-use Rattle.latch_loops.proofs.closing.close.Goals as goal
+use Rattle.latch_loops.proofs.closing.unstarted.Goals as goal
 
 pub returns-clause-closed : goal.returns-clause-closed
 returns-clause-closed c = search rules
