@@ -6,20 +6,31 @@ use Rattle.std.specs.Cmp.{both_ways as same_bit}
 use Rattle.std.proofs.Math.Bool.{or-false}
 use Rattle.std.proofs.lemmas.Bool.{true≢false, and_parts, and_from, or_cases, or_left, or_right, eqb-true, eq-eqb, cases_eq}
 use Rattle.std.proofs.lemmas.List.Folds.{list_any-append}
-use Rattle.tiling.specs.Tiling.{Tiling, Edge, Lit}
+use Rattle.tiling.specs.Tiling.{Tiling, Edge}
 use Rattle.tiling.specs.Tiling.Edge.{Beside, Above}
 use Rattle.tiling.specs.Matched.{is_entered}
+use Rattle.lane_core.specs.declared.starts.Start.{Start}
 use Rattle.lane_core.specs.declared.plan.Plan.{Plan}
 use Rattle.lane_core.specs.Plans.{IsAdmissible}
 use Rattle.lane_core.specs.Instrs.{bit_on}
+use Rattle.lane_core.specs.Starts.{is_start_at}
 use Rattle.plan_layout.specs.Layout.{tiling_of}
+use Rattle.plan_layout.specs.Starts.{named_edges, name_of, NamesEdge}
 use Rattle.plan_waves.specs.Waves.{tiles_back}
 use Rattle.plan_waves.specs.WaysBack.{before_entry}
-use Rattle.plan_waves.proofs.Loops.{ways_back_are_apart}
 use Rattle.plan_waves.specs.Contexts.{contexts_on_ways, StartsContexts}
+use Rattle.plan_waves.proofs.Loops.{ways_back_are_apart}
 use Rattle.plan_waves.proofs.RunningContexts.{ways_with_loops}
-use Rattle.loop_starts.specs.declared.edge.Start.{Start}
-use Rattle.loop_starts.specs.Starts.{name_of, is_named, lit_of, start_in, starts_of_loop, starts_of_loops, starts_of, StartsAreOnWays}
+use Rattle.loop_starts.specs.Starts.{start_in, starts_of_loop, starts_of_loops}
+use Rattle.loop_starts.proofs.Passed.{way_passed}
+
+-- the start has this name
+abbrev is_named : ℕ → ℕ → Start → Bool
+is_named x y start = start.x == x && start.y == y
+
+-- a list of starts has the names of these loops' starts, and no others
+abbrev pub HasNamesOf : Plan → List (List Bool) → List Start → Type 0
+HasNamesOf plan starts names = (x y : ℕ) → is_start_at names x y ≡ is_start_at (starts_of_loops plan starts plan.latches) x y
 
 -- a start with this name, in one of the first contexts of a loop
 abbrev StartOf : Plan → List (List Bool) → ℕ → ℕ → ℕ → Type 0
@@ -127,59 +138,81 @@ above_named tiling (Beside q' l') q l x y ex ey is = absurd (apart q' l' q l x y
 abbrev IsStart : Plan → List (List Bool) → Edge → Type 0
 IsStart plan starts edge = (c : ℕ) × (loop : ℕ) × (c < length starts) × (loop < plan.latches) × (bit_on (get_or starts c []) loop ≡ true) × (edge ≡ before_entry plan loop c)
 
-found : (plan : Plan) (starts : List (List Bool)) (edge : Edge) → lit_of (starts_of plan starts) edge ≡ true → IsStart plan starts edge
-found plan starts (Beside q l) e =
-    ⊎_elim
-    (λ entry. of (32 * q) (16 * l + 8) entry (inl refl, refl))
-    (λ exit. of (32 * q - 1) (16 * l + 8) exit (inr refl, refl))
-    (or_cases _ _ e)
-  where
-    of : (x y : ℕ) → list_any (is_named x y) (starts_of plan starts) ≡ true → IsBeside q l x y → IsStart plan starts (Beside q l)
-    of x y any is =
-        let f = of_loops plan starts x y plan.latches any in
-        (f.2.0, f.0, f.2.1, f.1, f.2.2, sym (beside_named (tiling_of plan) (before_entry plan f.0 f.2.0) q l x y f.2.3 f.2.4 is))
-found plan starts (Above q l) e =
-    ⊎_elim
-    (λ entry. of (32 * q + 16) (16 * l) entry (refl, inl refl))
-    (λ exit. of (32 * q + 16) (16 * l - 1) exit (refl, inr refl))
-    (or_cases _ _ e)
-  where
-    of : (x y : ℕ) → list_any (is_named x y) (starts_of plan starts) ≡ true → IsAbove q l x y → IsStart plan starts (Above q l)
-    of x y any is =
-        let f = of_loops plan starts x y plan.latches any in
-        (f.2.0, f.0, f.2.1, f.1, f.2.2, sym (above_named (tiling_of plan) (before_entry plan f.0 f.2.0) q l x y f.2.3 f.2.4 is))
+module _ (plan : Plan) (starts : List (List Bool)) (names : List Start) (all : HasNamesOf plan starts names) where
+  found : (edge : Edge) → named_edges names edge ≡ true → IsStart plan starts edge
+  found (Beside q l) e =
+      ⊎_elim
+      (λ entry. of (32 * q) (16 * l + 8) entry (inl refl, refl))
+      (λ exit. of (32 * q - 1) (16 * l + 8) exit (inr refl, refl))
+      (or_cases _ _ e)
+    where
+      of : (x y : ℕ) → is_start_at names x y ≡ true → IsBeside q l x y → IsStart plan starts (Beside q l)
+      of x y any is =
+          let f = of_loops plan starts x y plan.latches (sym (all x y) ∙ any) in
+          (f.2.0, f.0, f.2.1, f.1, f.2.2, sym (beside_named (tiling_of plan) (before_entry plan f.0 f.2.0) q l x y f.2.3 f.2.4 is))
+  found (Above q l) e =
+      ⊎_elim
+      (λ entry. of (32 * q + 16) (16 * l) entry (refl, inl refl))
+      (λ exit. of (32 * q + 16) (16 * l - 1) exit (refl, inr refl))
+      (or_cases _ _ e)
+    where
+      of : (x y : ℕ) → is_start_at names x y ≡ true → IsAbove q l x y → IsStart plan starts (Above q l)
+      of x y any is =
+          let f = of_loops plan starts x y plan.latches (sym (all x y) ∙ any) in
+          (f.2.0, f.0, f.2.1, f.1, f.2.2, sym (above_named (tiling_of plan) (before_entry plan f.0 f.2.0) q l x y f.2.3 f.2.4 is))
 
 -- and an edge whose name stands in the list is lit
-name_lights : (tiling : Tiling) (list : List Start) (edge : Edge) → list_any (is_named (name_of tiling edge).x (name_of tiling edge).y) list ≡ true → lit_of list edge ≡ true
-name_lights tiling list (Beside q l) = by (is_entered (tiling q l) 0 8)
+name_lights : (tiling : Tiling) (names : List Start) (edge : Edge) → is_start_at names (name_of tiling edge).x (name_of tiling edge).y ≡ true → named_edges names edge ≡ true
+name_lights tiling names (Beside q l) = by (is_entered (tiling q l) 0 8)
   where
-    by : (b : Bool) → list_any (is_named (cond b (32 * q) (32 * q - 1)) (16 * l + 8)) list ≡ true → lit_of list (Beside q l) ≡ true
+    by : (b : Bool) → is_start_at names (cond b (32 * q) (32 * q - 1)) (16 * l + 8) ≡ true → named_edges names (Beside q l) ≡ true
     by true e = or_left _ _ e
     by false e = or_right _ _ e
-name_lights tiling list (Above q l) = by (is_entered (tiling q l) 16 0)
+name_lights tiling names (Above q l) = by (is_entered (tiling q l) 16 0)
   where
-    by : (b : Bool) → list_any (is_named (32 * q + 16) (cond b (16 * l) (16 * l - 1))) list ≡ true → lit_of list (Above q l) ≡ true
+    by : (b : Bool) → is_start_at names (32 * q + 16) (cond b (16 * l) (16 * l - 1)) ≡ true → named_edges names (Above q l) ≡ true
     by true e = or_left _ _ e
     by false e = or_right _ _ e
 
-pub starts_are_on_ways : StartsAreOnWays
-starts_are_on_ways plan h starts fit long = record {
+pub starts_are_on_ways : (plan : Plan) → IsAdmissible plan → (starts : List (List Bool)) → length starts ≤ contexts_on_ways plan → All (λ bits. length bits ≡ plan.latches) starts
+    → (names : List Start) → HasNamesOf plan starts names → StartsContexts plan starts (named_edges names)
+starts_are_on_ways plan h starts fit long names all = record {
   fit = fit;
   long = long;
   on_ways = λ c loop low inside. same_bit _ _ (to c loop low inside) (from c loop low inside);
-  only = λ edge e. (let f = found plan starts edge e in (f.0, f.1, f.2, f.3, f.5));
+  only = λ edge e. (let f = found plan starts names all edge e in (f.0, f.1, f.2, f.3, f.5));
 }
   where
     on_way : (c loop : ℕ) → c < length starts → loop < plan.latches → c ≤ tiles_back plan
     on_way c loop low inside = omega (arith, low, fit, ways_with_loops plan (omega (arith, inside)))
 
-    to : (c loop : ℕ) → c < length starts → loop < plan.latches → lit_of (starts_of plan starts) (before_entry plan loop c) ≡ true → bit_on (get_or starts c []) loop ≡ true
+    to : (c loop : ℕ) → c < length starts → loop < plan.latches → named_edges names (before_entry plan loop c) ≡ true → bit_on (get_or starts c []) loop ≡ true
     to c loop low inside e =
-        let f = found plan starts (before_entry plan loop c) e in
+        let f = found plan starts names all (before_entry plan loop c) e in
         let same = ways_back_are_apart plan h loop f.1 c f.0 inside f.3 (on_way c loop low inside) (on_way f.0 f.1 f.2 f.3) f.5 in
         ap₂ (λ k n. bit_on (get_or starts k []) n) same.1 same.0 ∙ f.4
 
-    from : (c loop : ℕ) → c < length starts → loop < plan.latches → bit_on (get_or starts c []) loop ≡ true → lit_of (starts_of plan starts) (before_entry plan loop c) ≡ true
+    from : (c loop : ℕ) → c < length starts → loop < plan.latches → bit_on (get_or starts c []) loop ≡ true → named_edges names (before_entry plan loop c) ≡ true
     from c loop low inside one =
         let s = name_of (tiling_of plan) (before_entry plan loop c) in
-        name_lights (tiling_of plan) (starts_of plan starts) (before_entry plan loop c) (in_loops plan starts s.x s.y plan.latches loop c inside low one refl refl)
+        name_lights (tiling_of plan) names (before_entry plan loop c) (all s.x s.y ∙ in_loops plan starts s.x s.y plan.latches loop c inside low one refl refl)
+
+-- ---- each name is that of an edge of the drawing
+is_there : (names : List Start) (k : ℕ) (d : Start) → k < length names → is_start_at names (get_or names k d).x (get_or names k d).y ≡ true
+is_there [] k d within = absurd (omega (arith, within))
+is_there (s ∷ names) zero d within = or_left _ _ (and_from (s.x == s.x) (s.y == s.y) (eq-eqb s.x s.x refl) (eq-eqb s.y s.y refl))
+is_there (s ∷ names) (suc k) d within = or_right _ _ (is_there names k d (omega (arith, within)))
+
+same_start : (s t : Start) → t.x ≡ s.x → t.y ≡ s.y → s ≡ t
+same_start s t ex ey = ap₂ (λ (y : ℕ) (x : ℕ). record { y = y; x = x }) (sym ey) (sym ex)
+
+pub names_are_edges : (plan : Plan) → IsAdmissible plan → (starts : List (List Bool)) → length starts ≤ contexts_on_ways plan
+    → (names : List Start) → HasNamesOf plan starts names → All (NamesEdge (tiling_of plan)) names
+names_are_edges plan h starts fit names all k d within =
+    let s = get_or names k d in
+    let f = of_loops plan starts s.x s.y plan.latches (sym (all s.x s.y) ∙ is_there names k d within) in
+    record {
+      edge = before_entry plan f.0 f.2.0;
+      passed = way_passed plan h f.0 f.2.0 f.1 (omega (arith, f.2.1, fit, ways_with_loops plan (omega (arith, f.1))));
+      name = same_start s (name_of (tiling_of plan) (before_entry plan f.0 f.2.0)) f.2.3 f.2.4;
+    }

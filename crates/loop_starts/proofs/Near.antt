@@ -12,8 +12,9 @@ use Rattle.plan_layout.specs.Layout.{tiling_of}
 use Rattle.plan_waves.specs.Waves.{tiles_back, loop_entry}
 use Rattle.plan_waves.specs.Contexts.{contexts_on_ways}
 use Rattle.plan_waves.proofs.RunningContexts.{ways_with_loops}
-use Rattle.loop_starts.specs.declared.edge.Start.{Start}
-use Rattle.loop_starts.specs.Starts.{name_of, starts_of_loop, start_in}
+use Rattle.lane_core.specs.declared.starts.Start.{Start}
+use Rattle.plan_layout.specs.Starts.{name_of}
+use Rattle.loop_starts.specs.Starts.{starts_of_loop, start_in}
 use Rattle.tile_core.specs.declared.kind.Kind.{Kind}
 use Rattle.tile_core.specs.declared.kind.Kind.TheVariants.{Swap, Xor, Or, AndNot, Fork, East, South, North, EastSouth, SouthWest, WestNorth, NorthEast, West, WestSwap}
 use Rattle.tile_core.specs.Kinds.{entries}
@@ -24,7 +25,7 @@ use Rattle.tiling.specs.Tiling.Edge.{Beside, Above}
 use Rattle.tiling.specs.Matched.{is_left}
 use Rattle.plan_layout.proofs.Sides.{either}
 use Rattle.plan_waves.specs.WaysBack.{way_in, tile_before, before_entry}
-use Rattle.loop_starts.specs.Edges.{column_in, lane_in}
+use Rattle.plan_layout.specs.Edges.{column_in, lane_in}
 
 abbrev pub IsNear : ℕ → ℕ → Edge → Type 0
 IsNear q l edge = (column_in edge ≤ q + 1) × (lane_in edge ≤ l + 1)

@@ -4,10 +4,8 @@
 //! Theorem: `starts_of`.
 #![tactic(auto)]
 
-mod edge;
 mod starting;
 mod walking;
 
-pub use edge::Edge;
 pub use starting::starts_of;
-pub use walking::{name_of, tile_before};
+pub use walking::tile_before;

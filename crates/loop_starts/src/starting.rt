@@ -1,13 +1,15 @@
 // The starts of all loops in all contexts.
-ghost use Rattle.std.specs.Prelude.{◌≡◌, ◌<◌, ◌≤◌, ◌+◌, ◌++◌, cond, length, All, List, Bool, IfOk, OnOk, [], ◌∷◌};
+ghost use Rattle.std.specs.Prelude.{◌≡◌, ◌<◌, ◌≤◌, ◌++◌, cond, length, All, IfOk, OnOk, [], ◌∷◌};
 ghost use Rattle.lane_core.specs.Plans.{IsAdmissible};
+ghost use Rattle.plan_layout.specs.Layout.{tiling_of};
+ghost use Rattle.plan_layout.specs.Starts.{named_edges, NamesEdge};
 ghost use Rattle.plan_waves.specs.Contexts.{contexts_on_ways, StartsContexts};
-ghost use Rattle.loop_starts.specs.Starts.{lit_of, starts_of_loop, starts_of};
+ghost use Rattle.loop_starts.specs.Starts.{starts_of_loop};
 
-use crate::edge::{Edge, Start};
-use crate::walking::{name_of, tile_before};
-use lane_core::Plan;
+use crate::walking::tile_before;
+use lane_core::{Plan, Start, Starts};
 use lists::List;
+use plan_layout::{Edge, name_of};
 use std::alloc::{AllocError, Global};
 
 // Puts a start at the end, where the bit is 1.
@@ -43,23 +45,19 @@ fn push_loop(
     Ok(())
 }
 
-/// The edges that are lit at generation 0, for lists of bits with which the loops start, one list a context: that of context c
-/// lies c tiles before the loop's entry, on its way back.
-#[tactic(auto, using(crate::proofs::Named::starts_are_on_ways))]
-pub fn starts_of(
-    alloc: Global,
-    plan: &Plan,
-    starts: &[List<bool>],
-) -> Result<Vec<Start>, AllocError>
+/// The names of the edges that are lit at generation 0 where the loops of a plan start with these bits, one list a context and
+/// one bit a loop: those of context c lie c tiles before the loops' entries, on their ways back. There are no more contexts
+/// than tiles on a way back, and one without loops.
+pub fn starts_of(alloc: Global, plan: &Plan, starts: &[List<bool>]) -> Result<Starts, AllocError>
     requires admissible { IsAdmissible plan.now }
     requires fit { length starts.now ≤ contexts_on_ways plan.now }
     requires long { All (λ bits. length bits ≡ plan.now.latches) starts.now }
-    ensures list { IfOk result (λ v. v.items ≡ starts_of plan.now starts.now) }
-    ensures contexts { IfOk result (λ v. StartsContexts plan.now starts.now (lit_of v.items)) }
+    ensures edges { IfOk result (λ s. All (NamesEdge (tiling_of plan.now)) s.list) }
+    ensures contexts { IfOk result (λ s. StartsContexts plan.now starts.now (named_edges s.list)) }
 {
     let mut found = Vec::new(alloc);
     for number in 0..plan.latches {
         push_loop(&mut found, plan, starts, number)?;
     }
-    Ok(found)
+    Ok(Starts::of(found))
 }

@@ -1,8 +1,0 @@
-// Edges between blocks, as values.
-
-/// An edge, by the tile column and the lane of the block on whose west side (`Beside`) or north side (`Above`) it lies.
-#[derive(Clone, Copy)]
-pub enum Edge {
-    Beside(u64, u64),
-    Above(u64, u64),
-}
