@@ -1,5 +1,5 @@
 -- A name belongs to one edge.
-use Rattle.std.proofs.Common.{◌≡◌, refl, sym, ap₂, ℕ, ◌+◌, ◌-◌, ◌*◌, Bool, true, false, ◌⊎◌, inl, inr, cond, List, arith}
+use Rattle.std.proofs.Common.{◌≡◌, refl, ap₂, ℕ, ◌+◌, ◌-◌, ◌*◌, Bool, true, false, ◌⊎◌, inl, inr, cond, List, arith}
 use Rattle.std.proofs.lemmas.Bool.{or_left, or_right}
 use Rattle.tiling.specs.Tiling.{Tiling, Edge}
 use Rattle.tiling.specs.Tiling.Edge.{Beside, Above}

@@ -1,5 +1,5 @@
 -- Which edges of a plan are lit at generation 0, and how they are named.
-use Rattle.std.specs.Prelude.{zero, suc, ℕ, ◌+◌, ◌-◌, ◌*◌, ◌≡◌, Bool, true, ◌||◌, if◌then◌else◌, List, All}
+use Rattle.std.specs.Prelude.{ℕ, ◌+◌, ◌-◌, ◌*◌, ◌≡◌, nat_lt, Bool, true, ◌&&◌, ◌||◌, if◌then◌else◌, List, All}
 use Rattle.tiling.specs.Tiling.{Slot, Tiling, Edge, Lit}
 use Rattle.tiling.specs.Tiling.Edge.{Beside, Above}
 use Rattle.tiling.specs.Matched.{is_entered, is_left}
@@ -29,10 +29,8 @@ is_port slot x y = is_entered slot x y || is_left slot x y
 
 -- signals pass the edge: something is entered or left there
 abbrev pub is_passed : Tiling → Edge → Bool
-is_passed tiling (Beside zero l) = is_port (tiling 0 l) 0 8
-is_passed tiling (Beside (suc q) l) = is_port (tiling q l) 31 8 || is_port (tiling (suc q) l) 0 8
-is_passed tiling (Above q zero) = is_port (tiling q 0) 16 0
-is_passed tiling (Above q (suc l)) = is_port (tiling q l) 16 15 || is_port (tiling q (suc l)) 16 0
+is_passed tiling (Beside q l) = (nat_lt 0 q && is_port (tiling (q - 1) l) 31 8) || is_port (tiling q l) 0 8
+is_passed tiling (Above q l) = (nat_lt 0 l && is_port (tiling q (l - 1)) 16 15) || is_port (tiling q l) 16 0
 
 -- the start names an edge of the tiling
 pub record NamesEdge (tiling : Tiling) (start : Start) : Type 0 where

@@ -73,14 +73,12 @@ pub fn is_passed(plan: &Plan, edge: Edge) -> bool
     ensures { result ≡ is_passed (tiling_of plan.now) (as_edge edge) }
 {
     match edge {
-        Edge::Beside(0, lane) => is_port(slot_at(plan, 0, lane), (0, 8)),
         Edge::Beside(column, lane) => {
-            is_port(slot_at(plan, column - 1, lane), (31, 8))
+            column > 0 && is_port(slot_at(plan, column - 1, lane), (31, 8))
                 || is_port(slot_at(plan, column, lane), (0, 8))
         }
-        Edge::Above(column, 0) => is_port(slot_at(plan, column, 0), (16, 0)),
         Edge::Above(column, lane) => {
-            is_port(slot_at(plan, column, lane - 1), (16, 15))
+            lane > 0 && is_port(slot_at(plan, column, lane - 1), (16, 15))
                 || is_port(slot_at(plan, column, lane), (16, 0))
         }
     }
