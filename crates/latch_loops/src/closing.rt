@@ -81,6 +81,7 @@ pub fn close(
     ensures same { IfOk result (DoesAsProgram program.now) }
     ensures contexts { IfOk result (λ plan. StartsContexts plan starts.now (start_edges plan)) }
 {
-    let plan = unstarted(alloc, columns, program)?;
-    start_contexts(alloc, plan, starts)
+    let bare = unstarted(alloc, columns, program)?;
+    let plan = start_contexts(alloc, bare, starts)?;
+    Ok(plan)
 }

@@ -8,7 +8,6 @@ use Rattle.std.proofs.lemmas.Bool.{true≢false, and_parts, and_from, or_cases, 
 use Rattle.std.proofs.lemmas.List.Folds.{list_any-append}
 use Rattle.tiling.specs.Tiling.{Tiling, Edge}
 use Rattle.tiling.specs.Tiling.Edge.{Beside, Above}
-use Rattle.tiling.specs.Matched.{is_entered}
 use Rattle.lane_core.specs.declared.starts.Start.{Start}
 use Rattle.lane_core.specs.declared.plan.Plan.{Plan}
 use Rattle.lane_core.specs.Plans.{IsAdmissible}
@@ -16,6 +15,7 @@ use Rattle.lane_core.specs.Instrs.{bit_on}
 use Rattle.lane_core.specs.Starts.{is_start_at}
 use Rattle.plan_layout.specs.Layout.{tiling_of}
 use Rattle.plan_layout.specs.Starts.{named_edges, name_of, NamesEdge}
+use Rattle.plan_layout.proofs.EdgeNames.{HasCell, named, one_edge, name_lights}
 use Rattle.plan_waves.specs.Waves.{tiles_back}
 use Rattle.plan_waves.specs.WaysBack.{before_entry}
 use Rattle.plan_waves.specs.Contexts.{contexts_on_ways, StartsContexts}
@@ -90,49 +90,9 @@ module _ (plan : Plan) (starts : List (List Bool)) (x y : ℕ) where
       (λ other. or_left _ _ (in_loops n loop c (omega (arith, inside, other)) low one ex ey))
       (cases_eq loop n)
 
--- of the edges with a cell at this place, on a west side or on a north side, there is one
-abbrev IsBeside : ℕ → ℕ → ℕ → ℕ → Type 0
-IsBeside q l x y = ((x ≡ 32 * q) ⊎ (x ≡ 32 * q - 1)) × (y ≡ 16 * l + 8)
-
-abbrev IsAbove : ℕ → ℕ → ℕ → ℕ → Type 0
-IsAbove q l x y = (x ≡ 32 * q + 16) × ((y ≡ 16 * l) ⊎ (y ≡ 16 * l - 1))
-
-side : (entered : Bool) (a x : ℕ) → (cond entered a (a - 1)) ≡ x → (x ≡ a) ⊎ (x ≡ a - 1)
-side true a x e = inl (sym e)
-side false a x e = inr (sym e)
-
--- what a name is
-abbrev name_is : (tiling : Tiling) (edge : Edge) (x y : ℕ) → (name_of tiling edge).x ≡ x → (name_of tiling edge).y ≡ y → Type 0
-name_is tiling (Beside q l) x y ex ey = IsBeside q l x y
-name_is tiling (Above q l) x y ex ey = IsAbove q l x y
-
-named : (tiling : Tiling) (edge : Edge) (x y : ℕ) (ex : (name_of tiling edge).x ≡ x) (ey : (name_of tiling edge).y ≡ y) → name_is tiling edge x y ex ey
-named tiling (Beside q l) x y ex ey = (side (is_entered (tiling q l) 0 8) (32 * q) x ex, sym ey)
-named tiling (Above q l) x y ex ey = (sym ex, side (is_entered (tiling q l) 16 0) (16 * l) y ey)
-
-beside_is : (q l q' l' x y : ℕ) → IsBeside q l x y → IsBeside q' l' x y → (q ≡ q') × (l ≡ l')
-beside_is q l q' l' x y (inl a, b) (inl c, d) = (omega (arith, a, c), omega (arith, b, d))
-beside_is q l q' l' x y (inl a, b) (inr c, d) = (omega (arith, a, c), omega (arith, b, d))
-beside_is q l q' l' x y (inr a, b) (inl c, d) = (omega (arith, a, c), omega (arith, b, d))
-beside_is q l q' l' x y (inr a, b) (inr c, d) = (omega (arith, a, c), omega (arith, b, d))
-
-above_is : (q l q' l' x y : ℕ) → IsAbove q l x y → IsAbove q' l' x y → (q ≡ q') × (l ≡ l')
-above_is q l q' l' x y (a, inl b) (c, inl d) = (omega (arith, a, c), omega (arith, b, d))
-above_is q l q' l' x y (a, inl b) (c, inr d) = (omega (arith, a, c), omega (arith, b, d))
-above_is q l q' l' x y (a, inr b) (c, inl d) = (omega (arith, a, c), omega (arith, b, d))
-above_is q l q' l' x y (a, inr b) (c, inr d) = (omega (arith, a, c), omega (arith, b, d))
-
-apart : (q l q' l' x y : ℕ) → IsBeside q l x y → IsAbove q' l' x y → ⊥
-apart q l q' l' x y (inl a, b) (c, d) = omega (arith, a, c)
-apart q l q' l' x y (inr a, b) (c, d) = omega (arith, a, c)
-
-beside_named : (tiling : Tiling) (edge : Edge) (q l x y : ℕ) → (name_of tiling edge).x ≡ x → (name_of tiling edge).y ≡ y → IsBeside q l x y → edge ≡ Beside q l
-beside_named tiling (Beside q' l') q l x y ex ey is = let same = beside_is q' l' q l x y (named tiling (Beside q' l') x y ex ey) is in ap₂ Beside same.0 same.1
-beside_named tiling (Above q' l') q l x y ex ey is = absurd (apart q l q' l' x y is (named tiling (Above q' l') x y ex ey))
-
-above_named : (tiling : Tiling) (edge : Edge) (q l x y : ℕ) → (name_of tiling edge).x ≡ x → (name_of tiling edge).y ≡ y → IsAbove q l x y → edge ≡ Above q l
-above_named tiling (Above q' l') q l x y ex ey is = let same = above_is q' l' q l x y (named tiling (Above q' l') x y ex ey) is in ap₂ Above same.0 same.1
-above_named tiling (Beside q' l') q l x y ex ey is = absurd (apart q' l' q l x y (named tiling (Beside q' l') x y ex ey) is)
+-- an edge has a cell that is its name
+has_name : (tiling : Tiling) (edge : Edge) (x y : ℕ) → (name_of tiling edge).x ≡ x → (name_of tiling edge).y ≡ y → HasCell edge x y
+has_name tiling edge x y ex ey = subst (λ (n : ℕ). HasCell edge x n) ey (subst (λ (n : ℕ). HasCell edge n (name_of tiling edge).y) ex (named tiling edge))
 
 -- an edge that is lit is the start of a context
 abbrev IsStart : Plan → List (List Bool) → Edge → Type 0
@@ -146,33 +106,20 @@ module _ (plan : Plan) (starts : List (List Bool)) (names : List Start) (all : H
       (λ exit. of (32 * q - 1) (16 * l + 8) exit (inr refl, refl))
       (or_cases _ _ e)
     where
-      of : (x y : ℕ) → is_start_at names x y ≡ true → IsBeside q l x y → IsStart plan starts (Beside q l)
+      of : (x y : ℕ) → is_start_at names x y ≡ true → HasCell (Beside q l) x y → IsStart plan starts (Beside q l)
       of x y any is =
           let f = of_loops plan starts x y plan.latches (sym (all x y) ∙ any) in
-          (f.2.0, f.0, f.2.1, f.1, f.2.2, sym (beside_named (tiling_of plan) (before_entry plan f.0 f.2.0) q l x y f.2.3 f.2.4 is))
+          (f.2.0, f.0, f.2.1, f.1, f.2.2, one_edge (Beside q l) (before_entry plan f.0 f.2.0) x y is (has_name (tiling_of plan) (before_entry plan f.0 f.2.0) x y f.2.3 f.2.4))
   found (Above q l) e =
       ⊎_elim
       (λ entry. of (32 * q + 16) (16 * l) entry (refl, inl refl))
       (λ exit. of (32 * q + 16) (16 * l - 1) exit (refl, inr refl))
       (or_cases _ _ e)
     where
-      of : (x y : ℕ) → is_start_at names x y ≡ true → IsAbove q l x y → IsStart plan starts (Above q l)
+      of : (x y : ℕ) → is_start_at names x y ≡ true → HasCell (Above q l) x y → IsStart plan starts (Above q l)
       of x y any is =
           let f = of_loops plan starts x y plan.latches (sym (all x y) ∙ any) in
-          (f.2.0, f.0, f.2.1, f.1, f.2.2, sym (above_named (tiling_of plan) (before_entry plan f.0 f.2.0) q l x y f.2.3 f.2.4 is))
-
--- and an edge whose name stands in the list is lit
-name_lights : (tiling : Tiling) (names : List Start) (edge : Edge) → is_start_at names (name_of tiling edge).x (name_of tiling edge).y ≡ true → named_edges names edge ≡ true
-name_lights tiling names (Beside q l) = by (is_entered (tiling q l) 0 8)
-  where
-    by : (b : Bool) → is_start_at names (cond b (32 * q) (32 * q - 1)) (16 * l + 8) ≡ true → named_edges names (Beside q l) ≡ true
-    by true e = or_left _ _ e
-    by false e = or_right _ _ e
-name_lights tiling names (Above q l) = by (is_entered (tiling q l) 16 0)
-  where
-    by : (b : Bool) → is_start_at names (32 * q + 16) (cond b (16 * l) (16 * l - 1)) ≡ true → named_edges names (Above q l) ≡ true
-    by true e = or_left _ _ e
-    by false e = or_right _ _ e
+          (f.2.0, f.0, f.2.1, f.1, f.2.2, one_edge (Above q l) (before_entry plan f.0 f.2.0) x y is (has_name (tiling_of plan) (before_entry plan f.0 f.2.0) x y f.2.3 f.2.4))
 
 pub starts_are_on_ways : (plan : Plan) → IsAdmissible plan → (starts : List (List Bool)) → length starts ≤ contexts_on_ways plan → All (λ bits. length bits ≡ plan.latches) starts
     → (names : List Start) → HasNamesOf plan starts names → StartsContexts plan starts (named_edges names)
