@@ -1,5 +1,5 @@
 -- Which edges of a plan are lit at generation 0, and how they are named.
-use Rattle.std.specs.Prelude.{ℕ, ◌+◌, ◌-◌, ◌*◌, ◌≡◌, nat_lt, Bool, true, ◌&&◌, ◌||◌, if◌then◌else◌, List, All}
+use Rattle.std.specs.Prelude.{ℕ, ◌+◌, ◌-◌, ◌*◌, ◌≡◌, ◌⊎◌, nat_lt, Bool, true, ◌&&◌, ◌||◌, if◌then◌else◌, List, All}
 use Rattle.tiling.specs.Tiling.{Slot, Tiling, Edge, Lit}
 use Rattle.tiling.specs.Tiling.Edge.{Beside, Above}
 use Rattle.tiling.specs.Matched.{is_entered, is_left}
@@ -8,7 +8,12 @@ use Rattle.lane_core.specs.declared.plan.Plan.{Plan}
 use Rattle.lane_core.specs.Starts.{is_start_at}
 use Rattle.plan_layout.specs.Layout.{tiling_of}
 
--- the edges with these names: of an edge's two cells, on its two sides, one is a name
+-- one of the two cells of an edge, on its two sides, has this x and this y
+abbrev pub HasCell : Edge → ℕ → ℕ → Type 0
+HasCell (Beside q l) x y = ((x ≡ 32 * q) ⊎ (x ≡ 32 * q - 1)) × (y ≡ 16 * l + 8)
+HasCell (Above q l) x y = (x ≡ 32 * q + 16) × ((y ≡ 16 * l) ⊎ (y ≡ 16 * l - 1))
+
+-- the edges with these names: of an edge's two cells one is a name
 abbrev pub named_edges : List Start → Lit
 named_edges names (Beside q l) = is_start_at names (32 * q) (16 * l + 8) || is_start_at names (32 * q - 1) (16 * l + 8)
 named_edges names (Above q l) = is_start_at names (32 * q + 16) (16 * l) || is_start_at names (32 * q + 16) (16 * l - 1)
