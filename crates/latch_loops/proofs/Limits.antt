@@ -28,6 +28,14 @@ limit_with columns program some =
     let no : (length program.latches == 0) ≡ false = grind (arith, nat_tests) in
     cond-false (length program.latches == 0) 1 (2 * max (length columns) (length program.latches) + 4 * length program.latches) no
 
+-- one context fits
+pub one_fits : (columns : List Column) (program : Program) → 1 ≤ contexts_limit columns program
+one_fits columns program =
+    ⊎_elim
+    (λ none. omega (arith, limit_without columns program none))
+    (λ some. omega (arith, limit_with columns program (omega (arith, some)), some))
+    (cases_eq (length program.latches) 0)
+
 -- columns of a plan of one context at most
 pub count_is : (program : Program) (columns : List Column) (contexts : ℕ) (plan : Plan) → contexts ≤ 1 → IsClosed program columns contexts plan
     → length plan.columns ≡ max (max (length program.latches) (min program.lanes 1)) (length columns)

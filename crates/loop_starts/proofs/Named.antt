@@ -14,8 +14,8 @@ use Rattle.lane_core.specs.Plans.{IsAdmissible}
 use Rattle.lane_core.specs.Instrs.{bit_on}
 use Rattle.lane_core.specs.Starts.{is_start_at}
 use Rattle.plan_layout.specs.Layout.{tiling_of}
-use Rattle.plan_layout.specs.Starts.{named_edges, name_of, NamesEdge}
-use Rattle.plan_layout.proofs.EdgeNames.{HasCell, named, one_edge, name_lights}
+use Rattle.plan_layout.specs.Starts.{HasCell, named_edges, name_of, NamesEdge}
+use Rattle.plan_layout.proofs.EdgeNames.{named, one_edge, name_lights}
 use Rattle.plan_waves.specs.Waves.{tiles_back}
 use Rattle.plan_waves.specs.WaysBack.{before_entry}
 use Rattle.plan_waves.specs.Contexts.{contexts_on_ways, StartsContexts}
