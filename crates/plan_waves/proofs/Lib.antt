@@ -9,13 +9,11 @@ pub mod WayBack
 pub mod Loops
 pub mod Beginning
 pub mod Machine
-pub mod DrivenCycles
+pub mod CycleTimes
 pub mod EdgesShown
-pub mod Plane
 pub mod Rows
 pub mod FreePorts
 pub mod RunningContexts
 pub mod ShownContexts
 pub mod IsolatedContexts
 pub mod ContextRows
-pub mod OneContext

@@ -7,7 +7,6 @@ use Rattle.tiling.specs.Tiling.Edge.{Beside, Above}
 use Rattle.tiling.specs.MacroStep.{macro_step}
 use Rattle.lane_core.specs.declared.plan.Plan.{Plan}
 use Rattle.lane_core.specs.Plans.{left_of, row_of}
-use Rattle.lane_core.specs.Instrs.{bit_on}
 use Rattle.lane_core.specs.Entering.{first_loop_lane}
 use Rattle.plan_layout.specs.Layout.{end_of_body, tiling_of}
 
@@ -24,10 +23,6 @@ pub record GoesOn (plan : Plan) (edges : ℕ → Lit) : Type 0 where
 abbrev pub is_body_entry : Plan → Edge → Bool
 is_body_entry plan (Beside column lane) = column == plan.latches && nat_lt lane plan.lanes
 is_body_entry plan (Above column lane) = false
-
--- no other edges are lit than entries of the body's first column
-abbrev pub IsLitAtEntries : Plan → Lit → Type 0
-IsLitAtEntries plan lit = (edge : Edge) → is_body_entry plan edge ≡ false → lit edge ≡ false
 
 -- the bits at the entries of a column of the body, lane by lane; with the number of columns, the bits that leave the body
 abbrev pub bits_at : Plan → ℕ → Lit → List Bool
@@ -57,10 +52,3 @@ tiles_back plan = length plan.columns + 4 * plan.latches
 pub record DrivesInputs (plan : Plan) (due : Due) : Type 0 where
   pub on_time : (g : ℕ) (x y : ℤ) → due g x y ≡ true → g % 32 ≡ 0
   pub at_free_entries : (g : ℕ) (x y : ℤ) → due g x y ≡ true → (lane : ℕ) × (lane < first_loop_lane plan.lanes plan.latches) × (x ≡ pos (left_of plan 0)) × (y ≡ pos (row_of lane))
-
--- the edges of a plan at the beginning, its start edges and the injections of generation 0: a free entry is lit by an
--- injection, and a loop's entry by the bit that the loop starts with
-pub record StartsRight (plan : Plan) (due : Due) (lit : Lit) : Type 0 where
-  pub entries : IsLitAtEntries plan lit
-  pub inputs : (lane : ℕ) → lane < first_loop_lane plan.lanes plan.latches → lit (Beside plan.latches lane) ≡ due 0 (pos (left_of plan 0)) (pos (row_of lane))
-  pub loops : (loop : ℕ) → loop < plan.latches → lit (loop_entry plan loop) ≡ bit_on plan.starts loop
