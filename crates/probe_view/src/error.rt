@@ -43,7 +43,11 @@ impl From<SimulateError> for ProbeError {
         match error {
             SimulateError::NoMemory => ProbeError::NoMemory,
             SimulateError::TooFar { generations } => ProbeError::TooFar { generations },
-            SimulateError::NotQuiet { generation, x, y } => ProbeError::NotQuiet { generation, x, y },
+            SimulateError::NotQuiet { generation, x, y } => ProbeError::NotQuiet {
+                generation,
+                x,
+                y,
+            },
         }
     }
 }
