@@ -1,6 +1,5 @@
 -- The injections of contexts are exactly their bits that are 1.
-use Rattle.std.proofs.Common.{pos, ℕ, ◌≡◌, ◌<◌, ◌≤◌, ◌+◌, ◌*◌, refl, sym, ap, subst, ◌∙◌, Bool, true, false, List, [], ◌∷◌, ◌++◌, map, length, get_or, ⊎_elim, arith}
-use Rattle.std.specs.Prelude.{flat_map}
+use Rattle.std.proofs.Common.{pos, ℕ, ◌≡◌, ◌<◌, ◌+◌, ◌*◌, refl, sym, ap, subst, ◌∙◌, Bool, true, false, List, [], ◌∷◌, ◌++◌, map, length, get_or, ⊎_elim, arith}
 use Rattle.std.specs.List.{range_with_len}
 use Rattle.std.proofs.lemmas.Bool.{true≢false, cases_lt}
 use Rattle.std.proofs.lemmas.List.{map-append, get_or_past, length-map}
@@ -9,7 +8,7 @@ use Rattle.std.proofs.Math.ListN.{get_or-map}
 use Rattle.lists.proofs.Members.{In, in_from, contains_from, in_map, in_mapped, in_flat, in_flattened}
 use Rattle.ww_rule.specs.declared.pattern.Injection.{Injection}
 use Rattle.ww_rule.specs.Injections.{due_of_list, injections_of_row, injections_from}
-use Rattle.ww_rule.specs.Contexts.{due_of_contexts, context_row, IsBitOfContexts}
+use Rattle.ww_rule.specs.Contexts.{context_row, IsBitOfContexts}
 use Rattle.ww_rule.specs.Laws.{IsBitOfStreams}
 use Rattle.ww_rule.proofs.Streams.{streams_injected}
 use Rattle.ww_rule.proofs.Lists.{lists_are_injected}
@@ -57,7 +56,7 @@ bit_of h cells rows i is =
     let found = in_mapped (later h) (injections_from 0 32 cells rows) i (subst (In i) (from_zero h 32 cells rows) is) in
     let j = found.0 in
     let due = (lists_are_injected.exactly (injections_from 0 32 cells rows) j.generation (pos j.x) (pos j.y)).1
-        (record { injection = j; is_in = contains_from (injections_from 0 32 cells rows) j found.1; in_time = refl; column = refl; row = refl }) in
+    (record { injection = j; is_in = contains_from (injections_from 0 32 cells rows) j found.1; in_time = refl; column = refl; row = refl }) in
     let bit : IsBitOfStreams 32 cells rows j.generation (pos j.x) (pos j.y) = (streams_injected 32 cells rows j.generation (pos j.x) (pos j.y)).0 due in
     let time = bit.in_time in
     let same : i.generation ≡ h + j.generation = ap (λ (i : Injection). i.generation) found.2 in
@@ -84,7 +83,7 @@ of_bit : (h : ℕ) (cells : List (ℕ × ℕ)) (rows : List (List Bool)) (i : In
 of_bit h cells rows i b =
     let g = b.row * 32 in
     let bit : IsBitOfStreams 32 cells rows g (pos i.x) (pos i.y) =
-        record { cycle = b.row; input = b.input; in_time = refl; in_cells = b.in_cells; one = b.one; column = b.column; line = b.line } in
+    record { cycle = b.row; input = b.input; in_time = refl; in_cells = b.in_cells; one = b.one; column = b.column; line = b.line } in
     let from = injections_from 0 32 cells rows in
     let found = (lists_are_injected.exactly from g (pos i.x) (pos i.y)).0 ((streams_injected 32 cells rows g (pos i.x) (pos i.y)).1 bit) in
     let j = found.injection in
@@ -102,8 +101,8 @@ module _ (ports : Ports) (streams : Streams) where
       let found = in_flattened (λ (t : ℕ). injections_from (t * ports.p) 32 (cells_of ports.ins) (cycle_rows streams t)) (range_with_len 0 streams.cycles) i is in
       let bit = bit_of (found.0 * ports.p) (cells_of ports.ins) (cycle_rows streams found.0) i found.2 in
       let among : bit.row < length (contexts_of streams) =
-          ⊎_elim (λ lt. lt) (λ ge. absurd (true≢false (sym bit.one ∙ ap (λ (row : List Bool). get_or row bit.input false) (row_in bit.row found.0 ∙ ap (λ (rows : List (List Bool)). get_or rows found.0 []) (get_or_past (contexts_of streams) bit.row [] ge)))))
-          (cases_lt bit.row (length (contexts_of streams))) in
+      ⊎_elim (λ lt. lt) (λ ge. absurd (true≢false (sym bit.one ∙ ap (λ (row : List Bool). get_or row bit.input false) (row_in bit.row found.0 ∙ ap (λ (rows : List (List Bool)). get_or rows found.0 []) (get_or_past (contexts_of streams) bit.row [] ge)))))
+      (cases_lt bit.row (length (contexts_of streams))) in
       record {
         context = bit.row;
         cycle = found.0;
@@ -130,7 +129,7 @@ module _ (ports : Ports) (streams : Streams) where
   from i b =
       let early = in_cycles b.context b.cycle b.input b.in_contexts b.one in
       let in_range : In b.cycle (range_with_len 0 streams.cycles) = in_from (range_with_len 0 streams.cycles) b.cycle
-          (b.cycle, (let n = length-range_with_len 0 streams.cycles in omega (arith, early, n)), get_or-range_with_len 0 streams.cycles b.cycle b.cycle early ∙ (let e : 0 + b.cycle ≡ b.cycle = omega arith in e)) in
+      (b.cycle, (let n = length-range_with_len 0 streams.cycles in omega (arith, early, n)), get_or-range_with_len 0 streams.cycles b.cycle b.cycle early ∙ (let e : 0 + b.cycle ≡ b.cycle = omega arith in e)) in
       in_flat (λ (t : ℕ). injections_from (t * ports.p) 32 (cells_of ports.ins) (cycle_rows streams t)) (range_with_len 0 streams.cycles) b.cycle i in_range
       (of_bit (b.cycle * ports.p) (cells_of ports.ins) (cycle_rows streams b.cycle) i
       (record {

@@ -1,18 +1,19 @@
 -- The first injection at a cell that is no conductor, generation after generation.
-use Rattle.std.proofs.Common.{ℕ, suc, ◌≡◌, ◌≤◌, ◌<◌, ◌+◌, ◌==◌, refl, sym, ap, ap₂, subst, ◌∙◌, Bool, true, false, cond, Option, Some, None, List, [], ◌∷◌, ◌++◌, length, take, drop, filter, All, arith}
-use Rattle.std.specs.Prelude.{nat_le}
+use Rattle.std.proofs.Common.{pos, ℕ, suc, ◌≡◌, ◌≤◌, ◌<◌, ◌+◌, ◌==◌, refl, sym, ap, ap₂, subst, ◌∙◌, Bool, true, false, cond, Option, Some, List, [], ◌∷◌, ◌++◌, length, take, drop, filter, get_or, All, arith}
+use Rattle.std.specs.Prelude.{nat_le, not}
 use Rattle.std.specs.List.{find}
 use Rattle.std.specs.Option.{option_or}
 use Rattle.std.proofs.lemmas.Bool.{eqb-true, eqb-false}
 use Rattle.std.proofs.lemmas.Bool.Decides.{nat_tests}
-use Rattle.std.proofs.lemmas.List.{append-nil, drop_all}
+use Rattle.std.proofs.lemmas.List.{append-nil, drop_all, drop_more}
 use Rattle.std.proofs.lemmas.List.Elements.{All-nil, All-cons, All-head, All-tail, filter-append}
 use Rattle.std.proofs.lemmas.List.Folds.{find-append}
 use Rattle.ww_rule.specs.declared.pattern.Injection.{Injection}
 use Rattle.ww_rule.specs.Wireworld.{Plane, Due}
 use Rattle.ww_rule.specs.Due.{AreInOrderFrom, AreLeftAt, due_count}
 use Rattle.ww_rule.proofs.Due.{from_earlier}
-use Rattle.drive.specs.Misses.{misses, first_of_misses}
+use Rattle.ww_rule.specs.Injections.{before_injections}
+use Rattle.drive.specs.Misses.{is_conductor, misses, first_of_misses}
 
 -- the first of elements that two tests do not tell apart
 pub find_alike : {X : Type 0} (p q : X → Bool) (xs : List X) → All (λ x. p x ≡ q x) xs → find p xs ≡ find q xs
@@ -79,14 +80,14 @@ module _ (due : Due) (plane : Plane) where
   first_at_next g is left a =
       let front = take (due_count (g + 1) left) left in
       let next : filter (up_to (g + 1)) is ≡ a.used ++ front =
-          ap (filter (up_to (g + 1))) a.parts
-          ∙ filter-append (up_to (g + 1)) a.used left
-          ∙ ap₂ (λ (used left : List Injection). used ++ left) (all_up_to (g + 1) (g + 1) a.used (omega arith) a.earlier) (up_to_front (g + 1) left a.in_order) in
+      ap (filter (up_to (g + 1))) a.parts
+      ∙ filter-append (up_to (g + 1)) a.used left
+      ∙ ap₂ (λ (used left : List Injection). used ++ left) (all_up_to (g + 1) (g + 1) a.used (omega arith) a.earlier) (up_to_front (g + 1) left a.in_order) in
       let now : filter (up_to g) is ≡ a.used =
-          ap (filter (up_to g)) a.parts
-          ∙ filter-append (up_to g) a.used left
-          ∙ ap₂ (λ (used left : List Injection). used ++ left) (all_up_to g (g + 1) a.used (omega arith) a.earlier) (none_up_to g (g + 1) left (omega arith) a.in_order)
-          ∙ append-nil a.used in
+      ap (filter (up_to g)) a.parts
+      ∙ filter-append (up_to g) a.used left
+      ∙ ap₂ (λ (used left : List Injection). used ++ left) (all_up_to g (g + 1) a.used (omega arith) a.earlier) (none_up_to g (g + 1) left (omega arith) a.in_order)
+      ∙ append-nil a.used in
       ap (find (misses due plane)) next
       ∙ find-append (misses due plane) a.used front
       ∙ ap (λ (is : List Injection). option_or (find (misses due plane) is) (find (misses due plane) front)) (sym now)
@@ -100,3 +101,17 @@ module _ (due : Due) (plane : Plane) where
 pub all_past : (g n : ℕ) (is : List Injection) → AreLeftAt (g + 1) is (drop n is) → length is ≤ n → All (λ i. i.generation < g + 1) is
 all_past g n is a le =
     subst (All (λ (i : Injection). i.generation < g + 1)) (sym (a.parts ∙ ap (λ (left : List Injection). a.used ++ left) (drop_all n is le) ∙ append-nil a.used)) a.earlier
+
+-- the first element of those that are left, and the others
+module _ {X : Type 0} (p : X → Bool) (xs : List X) (n : ℕ) (d : X) where
+  pub found_here : n < length xs → p (get_or xs n d) ≡ true → find p (drop n xs) ≡ Some (get_or xs n d)
+  found_here lt e =
+      ap (find p) (drop_more xs n d lt) ∙ ap (λ (t : Bool). cond t (Some (get_or xs n d)) (find p (drop (n + 1) xs))) e
+
+  pub found_later : n < length xs → p (get_or xs n d) ≡ false → find p (drop n xs) ≡ find p (drop (n + 1) xs)
+  found_later lt e =
+      ap (find p) (drop_more xs n d lt) ∙ ap (λ (t : Bool). cond t (Some (get_or xs n d)) (find p (drop (n + 1) xs))) e
+
+-- an injection of generation 0 misses by the pattern as it stands
+pub misses_at_zero : (due : Due) (plane : Plane) (i : Injection) → i.generation ≡ 0 → misses due plane i ≡ not (is_conductor (plane (pos i.x) (pos i.y)))
+misses_at_zero due plane i e = ap (λ g. not (is_conductor (before_injections due plane g (pos i.x) (pos i.y)))) e

@@ -4,6 +4,7 @@ pub mod CycleRows
 pub mod ContextBits
 pub mod Streamed
 pub mod Inside
+pub mod Columns
 pub mod Sweeps
 pub mod Still
 pub mod Turned

@@ -1,5 +1,5 @@
 -- The first miss in a pattern that lies turned in its bands.
-use Rattle.std.proofs.Common.{pos, ℕ, zero, suc, ◌≡◌, refl, sym, ap, ap₂, ◌∙◌, Bool, true, false, cond, Option, Some, None, List, [], ◌∷◌, map, filter}
+use Rattle.std.proofs.Common.{pos, ℕ, zero, suc, ◌≡◌, refl, ap, ◌∙◌, Bool, true, false, cond, Some, List, [], ◌∷◌, map, filter}
 use Rattle.std.specs.Prelude.{nat_le, not}
 use Rattle.std.specs.List.{find}
 use Rattle.std.specs.Option.{option_map}
@@ -10,7 +10,7 @@ use Rattle.ww_rule.specs.Wireworld.{Plane, next_plane, driven}
 use Rattle.ww_rule.specs.Turns.{turned, injection_turned}
 use Rattle.ww_rule.proofs.Turns.{next_plane_turned}
 use Rattle.drive.specs.Misses.{is_conductor, misses, first_of_misses}
-use Rattle.drive.proofs.FirstMisses.{find_alike, up_to}
+use Rattle.drive.proofs.FirstMisses.{up_to}
 use Rattle.drive.proofs.Turned.{turned_back}
 
 filter_turned : (g : ℕ) (is : List Injection) → filter (up_to g) (map injection_turned is) ≡ map injection_turned (filter (up_to g) is)
@@ -45,4 +45,4 @@ module _ (injections : List Injection) (p q : Plane) (is : q ≡ turned p) where
       ap (λ (is : List Injection). option_map injection_turned (find turned_misses is)) (filter_turned g injections)
       ∙ find_turned turned_misses (filter (up_to g) injections)
       ∙ ap (λ (test : Injection → Bool). find test (filter (up_to g) injections))
-          (fun_ext (λ i. ap (λ (plane : Plane). not (is_conductor (plane (pos i.y) (pos i.x)))) (before_turned i.generation)))
+      (fun_ext (λ i. ap (λ (plane : Plane). not (is_conductor (plane (pos i.y) (pos i.x)))) (before_turned i.generation)))

@@ -1,4 +1,4 @@
-use Rattle.std.proofs.Common.{◌≡◌, ◌<◌, ◌+◌, ◌*◌, ◌++◌, [], sym, subst, ap, ap₂, ◌∙◌, map, take, drop, length, arith, List, Bool, ℕ}
+use Rattle.std.proofs.Common.{◌*◌, ◌++◌, sym, ap, ap₂, ◌∙◌, map, take, drop, length, List, Bool}
 use Rattle.std.specs.List.{range_with_len}
 use Rattle.std.proofs.lemmas.Bool.{eqb-true}
 use Rattle.ww_rule.specs.declared.pattern.Injection.{Injection}
@@ -23,7 +23,7 @@ loop-cycle-preserved c =
     let pieces = λ (inputs : List PortLine) (bits : List Bool). map (λ context. take (length inputs) (drop (context * length inputs) bits)) (range_with_len 0 ports.c) in
     c.in_ok-push_cycle.ensures
     ∙ ap₂ (λ (inputs : List PortLine) (bits : List Bool). c.loop-cycle.due.items ++ injections_from (t * ports.p) 32 (cells_of inputs) (pieces inputs bits))
-        c.as_slice-inputs.ensures (c.deref.ensures.value ∙ c.in_ok-bits.ensures ∙ ap (λ (lists : List (List Bool)). bits_across lists t) c.as_slice.ensures)
+    c.as_slice-inputs.ensures (c.deref.ensures.value ∙ c.in_ok-bits.ensures ∙ ap (λ (lists : List (List Bool)). bits_across lists t) c.as_slice.ensures)
     ∙ ap (λ (rows : List (List Bool)). c.loop-cycle.due.items ++ injections_from (t * ports.p) 32 (cells_of ports.ins) rows) (sym (cycle_rows_are ports streams c.requires t c.loop-cycle-test.true))
     ∙ ap (λ (due : List Injection). due ++ at_cycle ports streams t) c.loop-cycle.invariant
     ∙ sym (pieces_more (at_cycle ports streams) t)

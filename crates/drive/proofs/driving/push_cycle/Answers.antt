@@ -20,7 +20,7 @@ loop-context-preserved c =
     let long : length rows ≡ context = length-map-range_with_len piece 0 context in
     c.in_ok-push_row.ensures
     ∙ ap (λ n. c.loop-context.due.items ++ injections_of_row (g + 32 * context) cells (take n (drop (context * length inputs) c.args.bits.now)))
-        (let e : context * length inputs + length inputs - context * length inputs ≡ length inputs = omega arith in e)
+    (let e : context * length inputs + length inputs - context * length inputs ≡ length inputs = omega arith in e)
     ∙ ap (λ (due : List Injection). due ++ injections_of_row (g + 32 * context) cells (piece context)) c.loop-context.invariant
     ∙ append_assoc before (injections_from g 32 cells rows) (injections_of_row (g + 32 * context) cells (piece context))
     ∙ ap (λ (due : List Injection). before ++ due) (sym (rows_more g 32 cells rows (piece context) (g + 32 * context) (omega (arith, long))))

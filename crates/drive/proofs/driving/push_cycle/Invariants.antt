@@ -7,4 +7,4 @@ use Rattle.drive.proofs.driving.push_cycle.Given as goal
 abbrev pub invariant-loop-context : goal.invariant-loop-context
 invariant-loop-context l =
     l.due.items ≡ l.fn.due.items ++ injections_from l.generation 32 (cells_of l.inputs)
-        (map (λ context. take (length l.inputs) (drop (context * length l.inputs) l.bits)) (range_with_len 0 l.context))
+    (map (λ context. take (length l.inputs) (drop (context * length l.inputs) l.bits)) (range_with_len 0 l.context))

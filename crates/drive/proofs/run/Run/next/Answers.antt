@@ -1,4 +1,4 @@
-use Rattle.std.proofs.Common.{◌≡◌, ◌+◌, ◌≤◌, ◌<◌, ◌∙◌, ap, ap₂, sym, subst, arith, leb, length, drop, ℕ, List, All, Option}
+use Rattle.std.proofs.Common.{◌≡◌, ◌+◌, ◌≤◌, ◌∙◌, ap, ap₂, sym, subst, arith, leb, length, drop, ℕ, List}
 use Rattle.std.specs.Option.{option_map}
 use Rattle.std.proofs.lemmas.Bool.{and_parts, leb-true}
 use Rattle.std.proofs.Math.Path.{fun_ext}
@@ -8,7 +8,7 @@ use Rattle.ww_rule.specs.Grid.{Grid, plane_of}
 use Rattle.ww_rule.specs.Injections.{due_of_list}
 use Rattle.ww_rule.specs.Wireworld.{Plane, driven}
 use Rattle.drive.specs.Misses.{first_of_misses}
-use Rattle.drive.specs.Runs.{evolution, injection_laid, laid, miss_in_bands}
+use Rattle.drive.specs.Runs.{evolution, injection_laid, laid}
 use Rattle.drive.proofs.FirstMisses.{all_past, first_stays}
 use Rattle.drive.proofs.Still.{stays_still}
 use Rattle.drive.proofs.Sweeps.{whole_too}
@@ -32,7 +32,8 @@ returns-clause-run c =
     let new = c.move_all-is_asleep.new.bands in
     let is = c.requires.run in
     let same = c.move_all-is_asleep.ensures.same in
-    let ahead = c.look_ahead.result in
+    let ahead = c.look_ahead-next_injection.result in
+    let none_left = subst (λ (is : List Injection). length is ≤ run.next_injection) c.injections.ensures in
     let shows : evolution new ≡ evolution run.bands =
     ap₂ (λ (grid : Grid) (injections : List Injection). driven (due_of_list injections) (plane_of grid.rows)) same.grid same.injections in
     let now = λ (h : ℕ). ap (λ (e : ℕ → Plane). e h) shows in
@@ -43,17 +44,17 @@ returns-clause-run c =
       height = same.height ∙ is.height;
       width = is.width ∙ sym (ap (λ (grid : Grid). grid.width) same.grid);
       rows = is.rows ∙ sym (ap (λ (grid : Grid). length grid.rows) same.grid);
-      next = subst (λ (injections : List Injection). ahead.0 ≤ length injections) (sym same.injections) c.look_ahead.ensures.next;
-      left = subst (λ (injections : List Injection). AreLeftAt (g + 1 + 1) injections (drop ahead.0 injections)) (sym same.injections) c.look_ahead.ensures.left;
-      missed = c.look_ahead.ensures.missed ∙ sym (miss (g + 1));
+      next = subst (λ (injections : List Injection). ahead.0 ≤ length injections) (sym same.injections) c.look_ahead-next_injection.ensures.next;
+      left = subst (λ (injections : List Injection). AreLeftAt (g + 1 + 1) injections (drop ahead.0 injections)) (sym same.injections) c.look_ahead-next_injection.ensures.left;
+      missed = c.look_ahead-next_injection.ensures.missed ∙ sym (miss (g + 1));
       still = λ e h le.
-          let parts = and_parts (leb (length injections) run.next_injection) c.move_all-is_asleep.result e in
-          let past = all_past g run.next_injection injections is.left (leb-true (length injections) run.next_injection parts.0) in
+          let parts = and_parts (leb (length c.injections.result.now) run.next_injection) c.move_all-is_asleep.result e in
+          let past = all_past g run.next_injection injections is.left (none_left (leb-true (length c.injections.result.now) run.next_injection parts.0)) in
           let stays = stays_still run.bands g is.whole is.at (c.move_all-is_asleep.ensures.asleep parts.1) past in
           now h ∙ stays h (omega (arith, le)) ∙ sym (stays (g + 1) (omega arith)) ∙ sym (now (g + 1));
       no_more = λ e h le.
-          let parts = and_parts (leb (length injections) run.next_injection) c.move_all-is_asleep.result e in
-          let past = all_past g run.next_injection injections is.left (leb-true (length injections) run.next_injection parts.0) in
+          let parts = and_parts (leb (length c.injections.result.now) run.next_injection) c.move_all-is_asleep.result e in
+          let past = all_past g run.next_injection injections is.left (none_left (leb-true (length c.injections.result.now) run.next_injection parts.0)) in
           let stays = λ (h : ℕ) (later : g ≤ h). first_stays (due_of_list injections) (plane_of run.bands.grid.rows) g h injections later past in
           miss h ∙ stays h (omega (arith, le)) ∙ sym (stays (g + 1) (omega arith)) ∙ sym (miss (g + 1));
     }
