@@ -1,8 +1,9 @@
 // The names in the fields of a line.
 ghost use Rattle.std.specs.Prelude.{◌≡◌, ◌<◌, length, option_map, IfSome, IfOk};
-ghost use Rattle.pattern_reading.specs.Escapes.{escape_in, unescaped, onto};
-ghost use Rattle.pattern_reading.specs.Numbers.{◌>>=◌};
+ghost use Rattle.lists.specs.Bytes.{non_empty};
+ghost use Rattle.pattern_reading.specs.Escapes.{escape_in, unescaped};
 ghost use Rattle.pattern_reading.specs.PortLines.{name_in};
+ghost use Rattle.port_table.specs.Names.{from_first};
 
 use lists::{Bytes, List, copied};
 use pattern_reading::TableVersion;
@@ -21,7 +22,7 @@ fn escape_in(high: u8, low: u8) -> Option<u8>
 // The first byte that a text with escapes stands for, and the text after it.
 fn first_byte(text: &[u8]) -> Option<(u8, &[u8])>
     requires some { 0 < length text.now }
-    ensures first { unescaped text.now ≡ (result >>= λ first. onto first.0 (unescaped first.1.now)) }
+    ensures first { unescaped text.now ≡ from_first result }
     ensures shorter { IfSome result (λ first. length first.1.now < length text.now) }
 {
     match text {
@@ -48,21 +49,28 @@ fn unescaped(alloc: Global, text: &[u8]) -> Result<Option<Vec<u8>>, AllocError>
     Ok(Some(bytes))
 }
 
+// The bytes, if there is at least one.
+fn non_empty(bytes: Bytes) -> Option<Bytes>
+    ensures { result ≡ non_empty bytes }
+{
+    if bytes.len() == 0 { None } else { Some(bytes) }
+}
+
 /// The name that a field says in a table of a version, if it says one.
-pub fn name_in(alloc: Global, version: TableVersion, field: &[u8]) -> Result<Option<Bytes>, AllocError>
+pub fn name_in(
+    alloc: Global,
+    version: TableVersion,
+    field: &[u8],
+) -> Result<Option<Bytes>, AllocError>
     ensures { IfOk result (λ name. name ≡ name_in version field.now) }
 {
-    if field.is_empty() {
-        return Ok(None);
-    }
-    let name = match version {
-        TableVersion::One => copied(alloc, field)?,
+    match version {
+        TableVersion::One => Ok(non_empty(copied(alloc, field)?)),
         TableVersion::Two => {
-            let Some(name) = unescaped(alloc, field)? else {
+            let Some(bytes) = unescaped(alloc, field)? else {
                 return Ok(None);
             };
-            List::of(name)
+            Ok(non_empty(List::of(bytes)))
         }
-    };
-    Ok(Some(name))
+    }
 }

@@ -41,7 +41,9 @@ impl<'a> Seen<'a> {
             PortForm::Version { .. } => true,
             PortForm::In(port) => self.ins.insert(port.name.as_slice())?,
             PortForm::Out(port) => self.outs.insert(port.name.as_slice())?,
-            PortForm::Net(net) => self.nets.insert((net.name.as_slice(), net.path.as_slice()))?,
+            PortForm::Net(net) => self
+                .nets
+                .insert((net.name.as_slice(), net.path.as_slice()))?,
         };
         Ok(is_new)
     }
