@@ -14,22 +14,30 @@ class Pattern:
     height: int = 0
     period: int = 32
     latency: int = 0
+    contexts: int = 1
     runs: list = field(default_factory=list)
     inputs: dict = field(default_factory=dict)  # name: (x, y)
     outputs: dict = field(default_factory=dict)  # name: (x, y)
     nets: list = field(default_factory=list)  # (x, y, offset, name, path)
+    coloured: dict = field(default_factory=dict)  # (x, y): (letter, context), of heads and tails whose context is to be seen
 
 
-def read_table_line(pattern, words):
-    """Adds a line of the port table, which begins `#C BLIFWW`, to a pattern."""
+def unescaped(name):
+    """Returns the name that a name with escapes spells, a character a byte."""
+    return re.sub("%([0-9A-Fa-f]{2})", lambda found: chr(int(found[1], 16)), name)
+
+
+def read_table_line(pattern, words, version):
+    """Adds a line of the port table, which begins `#C BLIFWW`, to a pattern. In version 2 names have escapes."""
+    said = unescaped if version == "2" else str
     if words[0] == "IN":
-        pattern.inputs[words[3]] = (int(words[1]), int(words[2]))
+        pattern.inputs[said(words[3])] = (int(words[1]), int(words[2]))
     elif words[0] == "OUT":
-        pattern.outputs[words[3]] = (int(words[1]), int(words[2]))
+        pattern.outputs[said(words[3])] = (int(words[1]), int(words[2]))
     elif words[0] == "NET":
-        pattern.nets.append((int(words[1]), int(words[2]), int(words[3]), words[4], words[5]))
+        pattern.nets.append((int(words[1]), int(words[2]), int(words[3]), said(words[4]), words[5]))
     elif words[0].isdecimal():
-        pattern.period, pattern.latency = int(words[2]), int(words[4])
+        pattern.period, pattern.latency, pattern.contexts = int(words[2]), int(words[4]), int(words[6]) if len(words) > 6 else 1
 
 
 def read_cells(pattern, items):
@@ -52,9 +60,12 @@ def read_pattern(text):
     lines = text.split("\n")
     pattern = Pattern()
     body = []
+    version = None
     for line in lines:
         if line.startswith("#C BLIFWW "):
-            read_table_line(pattern, line.rstrip("\r").split(" ")[2:])
+            words = line.rstrip("\r").split(" ")[2:]
+            version = version or words[0]
+            read_table_line(pattern, words, version)
         elif not line.startswith("#"):
             body.append(line)
     if not body or not body[0].strip():
