@@ -9,9 +9,9 @@ pub mod WayBack
 pub mod Loops
 pub mod Beginning
 pub mod Machine
-pub mod CycleTimes
+pub mod CycleSteps
 pub mod EdgesShown
-pub mod Rows
+pub mod InputCells
 pub mod FreePorts
 pub mod RunningContexts
 pub mod ShownContexts

@@ -28,7 +28,7 @@ use Rattle.plan_waves.proofs.Columns.{length-bits_at, bit_on-bits_at, columns_pa
 use Rattle.plan_waves.proofs.Loops.{ways_back, ways_back_are_apart, loops_return, loops_come_round}
 use Rattle.plan_waves.proofs.Beginning.{after_dark, body_begins_dark}
 use Rattle.plan_waves.proofs.Machine.{steps_with_loops, both_bits, edges_run_by_cycles}
-use Rattle.plan_waves.proofs.CycleTimes.{cycle_time, same_entering}
+use Rattle.plan_waves.proofs.CycleSteps.{cycle_time, same_entering}
 use Rattle.plan_waves.specs.Contexts.{contexts_on_ways, StartsContexts, DrivesContexts, injected_in, context_bits, RunsByContexts}
 
 -- columns make nothing of nothing
@@ -44,15 +44,7 @@ ways_with_loops plan some =
     let no : (plan.latches == 0) ≡ false = grind (arith, nat_tests) in
     cond-false (plan.latches == 0) 1 (tiles_back plan) no
 
--- so one can be started at least
-pub one_on_ways : (plan : Plan) → 1 ≤ contexts_on_ways plan
-one_on_ways plan = by (plan.latches == 0) refl
-  where
-    by : (b : Bool) → (plan.latches == 0) ≡ b → 1 ≤ cond b 1 (tiles_back plan)
-    by true e = omega arith
-    by false e = let some : 0 < plan.latches = grind (arith, nat_tests) in omega (arith, some)
-
--- and contexts begin one after the other within a cycle
+-- so contexts begin one after the other within a cycle
 pub contexts_in_cycle : (plan : Plan) → contexts_on_ways plan ≤ cycle_steps plan
 contexts_in_cycle plan = by (plan.latches == 0) (tiles_back plan) (length plan.columns + tiles_back plan) (omega arith)
   where

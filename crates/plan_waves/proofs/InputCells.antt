@@ -1,4 +1,4 @@
--- The lanes and cells of a plan's inputs.
+-- The lanes and the cells of inputs.
 use Rattle.std.proofs.Common.{◌≡◌, refl, sym, ◌∙◌, ℕ, zero, suc, ◌<◌, Bool, true, false, ◌&&◌, ⊎_elim, List, [], ◌∷◌, length, get_or, arith}
 use Rattle.std.specs.Prelude.{◌==◌}
 use Rattle.std.proofs.lemmas.Bool.{true≢false, or_cases, and_parts, eqb-true, or_left, or_right, and_from, eq-eqb}

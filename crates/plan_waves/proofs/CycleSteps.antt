@@ -1,4 +1,4 @@
--- The times of a plan's cycles, and what enters the body in them.
+-- The macro steps of a cycle, and what enters in it.
 use Rattle.std.proofs.Common.{◌≡◌, refl, sym, ◌∙◌, ap, ap₂, ℕ, zero, suc, ◌+◌, ◌*◌, Bool, true, false, cond, List, ◌++◌, length, drop, reverse, arith}
 use Rattle.std.specs.Prelude.{◌==◌}
 use Rattle.std.proofs.Math.Nat.{mul_assoc, mul_comm}
