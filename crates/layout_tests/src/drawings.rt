@@ -2,12 +2,11 @@
 ghost use Rattle.std.specs.Prelude.{◌≡◌, ◌<◌, IfOk};
 ghost use Rattle.lane_core.specs.Plans.{IsAdmissible};
 
-use crate::plans::{OR, Written, admitted, in_cells, out_cells, started};
+use crate::plans::{OR, Written, admitted, in_cells, out_cells, plan_of, started};
 use grid_assembly::{cell, fill_row, size};
-use lane_core::{Instr, Plan, Start, period, run_columns};
-use macro_grid::{Edges, macro_step};
+use lane_core::{Instr, Plan, Start, Starts, period, run_columns};
+use macro_grid::{Edges, admissible, macro_step};
 use std::alloc::Global;
-use std::slice::from_ref;
 use std::test::Fail;
 use ww_rule::{CellRows, Plane, RuleError, State, step_driven};
 
@@ -359,11 +358,17 @@ const NAMES: &[(&Written<'static>, Start, bool)] = &[
     (&OR, Start { x: 32, y: 24 }, false),
 ];
 
+// Whether a plan that starts there alone is admissible.
+fn may_start(alloc: Global, written: &Written<'_>, start: Start) -> Result<bool, Fail> {
+    let mut plan = plan_of(alloc, written)?;
+    plan.starts = Starts::of(vec![in alloc; start]?);
+    Ok(admissible(&plan))
+}
+
 #[test]
 fn starts_name_edges_of_the_drawing(rt: HostRuntime) -> Result<(), Fail> {
     for (written, start, want) in NAMES {
-        let plan = started(rt.alloc(), written, from_ref(start));
-        assert_eq!(rt; plan.is_ok(), *want, "{start:?}");
+        assert_eq!(rt; may_start(rt.alloc(), written, *start)?, *want, "{start:?}");
     }
     Ok(())
 }
