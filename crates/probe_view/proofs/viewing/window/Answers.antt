@@ -3,8 +3,8 @@ use Rattle.ww_rule.specs.Wireworld.{Plane}
 use Rattle.probe_view.specs.Windows.{window_text}
 use Rattle.probe_view.proofs.viewing.window.Goals as goal
 
-pub returns : goal.returns
-returns c =
+pub returns-clause-text : goal.returns-clause-text
+returns-clause-text c =
     let planes = c.go_on.ensures.planes ∙ c.in_ok-run.ensures.planes in
     c.of.ensures
     ∙ c.in_ok-text.ensures
