@@ -2,8 +2,8 @@
 use Rattle.std.proofs.Common.{pos, ℕ, ◌≡◌, ◌<◌, ◌+◌, ◌*◌, refl, sym, ap, subst, ◌∙◌, Bool, true, false, List, [], ◌∷◌, ◌++◌, map, length, get_or, ⊎_elim, arith}
 use Rattle.std.specs.List.{range_with_len}
 use Rattle.std.proofs.lemmas.Bool.{true≢false, cases_lt}
-use Rattle.std.proofs.lemmas.List.{map-append, get_or_past, length-map}
-use Rattle.std.proofs.lemmas.List.FromFn.{get_or-range_with_len, length-range_with_len, length-map-range_with_len, get_or-map-range_with_len}
+use Rattle.std.proofs.lemmas.List.{map-append, get_or_past}
+use Rattle.std.proofs.lemmas.List.FromFn.{get_or-range_with_len, length-range_with_len}
 use Rattle.std.proofs.Math.ListN.{get_or-map}
 use Rattle.lists.proofs.Members.{In, in_from, contains_from, in_map, in_mapped, in_flat, in_flattened}
 use Rattle.ww_rule.specs.declared.pattern.Injection.{Injection}
@@ -16,7 +16,8 @@ use Rattle.ww_rule.proofs.Contexts.{contexts_are_injected}
 use Rattle.pattern_reading.specs.declared.ports.Ports.{Ports}
 use Rattle.pattern_reading.specs.Ports.{cells_of}
 use Rattle.streams.specs.declared.streams.Streams.{Streams}
-use Rattle.streams.specs.Rows.{rows_of, stream_row, in_context, contexts_of}
+use Rattle.streams.specs.Rows.{contexts_of}
+use Rattle.streams.proofs.Contexts.{contexts_long}
 use Rattle.drive.specs.Driving.{cycle_rows, injections_of, due_by}
 
 -- an injection so many generations later
@@ -118,11 +119,9 @@ module _ (ports : Ports) (streams : Streams) where
   -- a bit is of one of the cycles
   in_cycles : (context cycle input : ℕ) → context < length (contexts_of streams) → get_or (context_row (contexts_of streams) context cycle) input false ≡ true → cycle < streams.cycles
   in_cycles context cycle input among one =
-      let many : length (contexts_of streams) ≡ streams.c = length-map (range_with_len 0 streams.c) (λ (context : ℕ). rows_of (in_context streams context)) ∙ length-range_with_len 0 streams.c in
-      let rows = rows_of (in_context streams context) in
-      let is : get_or (contexts_of streams) context [] ≡ rows = get_or-map-range_with_len (λ (context : ℕ). rows_of (in_context streams context)) 0 streams.c context context [] (omega (arith, among, many)) (omega arith) in
-      let long : length rows ≡ streams.cycles = length-map-range_with_len (stream_row (in_context streams context)) 0 streams.cycles in
-      ⊎_elim (λ lt. lt) (λ ge. absurd (true≢false (sym one ∙ ap (λ (rows : List (List Bool)). get_or (get_or rows cycle []) input false) is ∙ ap (λ (row : List Bool). get_or row input false) (get_or_past rows cycle [] (omega (arith, ge, long))))))
+      let rows = get_or (contexts_of streams) context [] in
+      let long : length rows ≡ streams.cycles = contexts_long streams context [] among in
+      ⊎_elim (λ lt. lt) (λ ge. absurd (true≢false (sym one ∙ ap (λ (row : List Bool). get_or row input false) (get_or_past rows cycle [] (omega (arith, ge, long))))))
       (cases_lt cycle streams.cycles)
 
   from : (i : Injection) → IsBitOfContexts ports.p (cells_of ports.ins) (contexts_of streams) i.generation (pos i.x) (pos i.y) → In i (injections_of ports streams)

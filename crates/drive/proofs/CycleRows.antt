@@ -1,23 +1,21 @@
 -- The rows of bits of a cycle, one for each context.
-use Rattle.std.proofs.Common.{ℕ, ◌≡◌, ◌<◌, ◌*◌, ◌/◌, sym, ap, ◌∙◌, Bool, false, List, [], map, take, drop, length, get_or, arith}
+use Rattle.std.proofs.Common.{ℕ, ◌≡◌, ◌<◌, ◌*◌, sym, ap, ◌∙◌, Bool, false, List, [], map, take, drop, length, get_or, arith}
 use Rattle.std.specs.Prelude.{slice_get, unwrap_or}
 use Rattle.std.specs.List.{range_with_len}
-use Rattle.std.proofs.Math.Nat.{mul-div_cancel_left}
 use Rattle.std.proofs.Math.Path.{fun_ext}
 use Rattle.std.proofs.lemmas.List.{take-map, drop-map, length-map}
-use Rattle.std.proofs.lemmas.List.FromFn.{get_or-map-range_with_len, length-range_with_len}
+use Rattle.std.proofs.lemmas.List.FromFn.{get_or-map-range_with_len}
 use Rattle.std.proofs.lemmas.Simd.{map-map}
 use Rattle.pattern_reading.specs.declared.ports.Ports.{Ports}
 use Rattle.streams.specs.declared.streams.Streams.{Streams}
 use Rattle.streams.specs.Rows.{bits_across, rows_of, stream_row, in_context, inputs_each, contexts_of}
+use Rattle.streams.proofs.Contexts.{inputs_are, contexts_many}
 use Rattle.drive.specs.Driving.{AreFor, cycle_rows}
 
 module _ (ports : Ports) (streams : Streams) (are : AreFor ports streams) where
   -- each context has the inputs of the table
   each_has : inputs_each streams ≡ length ports.ins
-  each_has =
-      let some : 0 < ports.c = omega (arith, are.contexts) in
-      ap (λ n. length streams.bits / n) are.same ∙ ap (λ n. n / ports.c) are.many ∙ mul-div_cancel_left (length ports.ins) some
+  each_has = inputs_are streams (length ports.ins) (omega (arith, are.same, are.contexts)) (are.many ∙ ap (λ c. c * length ports.ins) (sym are.same))
 
   -- the rows of a cycle stand behind one another in its bits
   pub cycle_rows_are : (cycle : ℕ) → cycle < streams.cycles
@@ -41,6 +39,5 @@ module _ (ports : Ports) (streams : Streams) (are : AreFor ports streams) where
   pub many_rows : (cycle : ℕ) → length (cycle_rows streams cycle) ≡ ports.c
   many_rows cycle =
       length-map (contexts_of streams) (λ (rows : List (List Bool)). get_or rows cycle [])
-      ∙ length-map (range_with_len 0 streams.c) (λ (context : ℕ). rows_of (in_context streams context))
-      ∙ length-range_with_len 0 streams.c
+      ∙ contexts_many streams
       ∙ are.same

@@ -1,21 +1,15 @@
 -- Pieces for each number of a range.
-use Rattle.std.proofs.Common.{ℕ, ◌≡◌, ◌+◌, refl, sym, ap, ◌∙◌, List, [], ◌∷◌, ◌++◌, map, arith}
+use Rattle.std.proofs.Common.{ℕ, ◌≡◌, ◌+◌, refl, ap, ◌∙◌, List, [], ◌∷◌, ◌++◌, map, arith}
 use Rattle.std.specs.Prelude.{flat_map}
 use Rattle.std.specs.List.{range_with_len}
-use Rattle.std.proofs.lemmas.Grind.{flat_map-append}
-use Rattle.std.proofs.lemmas.List.{append-nil, map-append}
-use Rattle.std.proofs.lemmas.List.Folds.{flat_map-map}
-use Rattle.std.proofs.lemmas.List.FromFn.{map-range_with_len_more}
+use Rattle.std.proofs.lemmas.List.{map-append}
+use Rattle.streams.proofs.Ranges.{flat_map_more}
 
-module _ {X : Type 0} (piece : ℕ → List X) where
-  -- one more number
-  pub pieces_more : (n : ℕ) → flat_map piece (range_with_len 0 (n + 1)) ≡ flat_map piece (range_with_len 0 n) ++ piece n
-  pieces_more n =
-      sym (flat_map-map piece (λ (k : ℕ). k) (range_with_len 0 (n + 1)))
-      ∙ ap (flat_map piece) (map-range_with_len_more (λ (k : ℕ). k) 0 n n (omega arith))
-      ∙ flat_map-append piece (map (λ (k : ℕ). k) (range_with_len 0 n)) (n ∷ [])
-      ∙ ap (λ (front : List X). front ++ (piece n ++ [])) (flat_map-map piece (λ (k : ℕ). k) (range_with_len 0 n))
-      ∙ ap (λ (last : List X). flat_map piece (range_with_len 0 n) ++ last) (append-nil (piece n))
+-- one more number
+pub pieces_more : {X : Type 0} (piece : ℕ → List X) (n : ℕ) → flat_map piece (range_with_len 0 (n + 1)) ≡ flat_map piece (range_with_len 0 n) ++ piece n
+pieces_more piece n =
+    let same : 0 + n ≡ n = omega arith in
+    flat_map_more piece 0 n ∙ ap (λ k. flat_map piece (range_with_len 0 n) ++ piece k) same
 
 module _ {W X : Type 0} where
   -- where each piece is empty, so is the whole
