@@ -1,9 +1,9 @@
 -- A text's table line by line, and its faults.
-use Rattle.std.proofs.Common.{ℕ, suc, ◌+◌, ◌<◌, ◌≡◌, refl, sym, ap, ◌∙◌, subst, Bool, true, false, cond, not, ◌==◌, List, [], ◌∷◌, ◌++◌, length, map, take, drop, get_or, Option, Some, None, arith, drop-cons}
+use Rattle.std.proofs.Common.{ℕ, suc, ◌+◌, ◌<◌, ◌≡◌, refl, sym, ap, ◌∙◌, subst, Bool, true, false, cond, not, ◌==◌, List, [], ◌∷◌, ◌++◌, length, map, drop, get_or, Option, Some, None, arith, drop-cons}
 use Rattle.std.specs.Prelude.{filter_map, option_map, slice_get, take_while, if◌then◌else◌, codes, is_some}
 use Rattle.std.specs.List.{cons_option, list_any}
 use Rattle.std.specs.Option.{option_to_list}
-use Rattle.std.proofs.lemmas.List.{take_more, append-nil}
+use Rattle.std.proofs.lemmas.List.{append-nil}
 use Rattle.std.proofs.lemmas.List.Elements.{filter_map-append}
 use Rattle.std.proofs.lemmas.Option.{none-some}
 use Rattle.std.proofs.lemmas.List.Sums.{take_while-cons}
@@ -18,7 +18,7 @@ use Rattle.pattern_reading.specs.declared.faults.PortFaultKind.{PortFaultKind}
 use Rattle.pattern_reading.specs.declared.faults.PortFaultKind.TheVariants.{Twice}
 use Rattle.std.proofs.lemmas.Bool.{ne_eqb}
 use Rattle.port_table.specs.declared.table.TableLine as lent
-use Rattle.port_table.specs.Lent.{table_line_of, form_of, forms_in}
+use Rattle.port_table.specs.Lent.{table_line_of, form_of, forms_in, said_by}
 use Rattle.port_table.proofs.Walk.{BeginsWithLine, table_from, version_from}
 
 -- the table ends before a line that is not skipped
@@ -102,14 +102,12 @@ one_more read (Some form) = by_read (read form) refl
     by_read None e = rw e refl
     by_read (Some x) e = rw e refl
 
-pub said_more : {A : Type 0} (read : PortForm → Option A) (lines : List lent.TableLine) (i : ℕ) (d : lent.TableLine) (form : Option PortForm) → i < length lines → option_map form_of (get_or lines i d).form ≡ form → filter_map read (forms_in (take (i + 1) lines)) ≡ filter_map read (forms_in (take i lines)) ++ option_to_list (form >>= read)
-said_more read lines i d form l e =
+pub said_more : {A : Type 0} (read : PortForm → Option A) (lines : List lent.TableLine) (line : lent.TableLine) → filter_map read (forms_in (lines ++ line ∷ [])) ≡ filter_map read (forms_in lines) ++ said_by read line.form
+said_more read lines line =
     let forms : lent.TableLine → Option PortForm = λ x. option_map form_of x.form in
-    ap (λ ls. filter_map read (forms_in ls)) (take_more lines i d l)
-    ∙ ap (λ fs. filter_map read fs) (filter_map-append forms (take i lines) (get_or lines i d ∷ []))
-    ∙ filter_map-append read (forms_in (take i lines)) (cons_option (forms (get_or lines i d)) [])
-    ∙ ap (λ f. filter_map read (forms_in (take i lines)) ++ filter_map read (cons_option f [])) e
-    ∙ ap (λ xs. filter_map read (forms_in (take i lines)) ++ xs) (one_more read form)
+    ap (λ fs. filter_map read fs) (filter_map-append forms lines (line ∷ []))
+    ∙ filter_map-append read (forms_in lines) (cons_option (forms line) [])
+    ∙ ap (λ xs. filter_map read (forms_in lines) ++ xs) (one_more read (forms line))
 
 -- the walk over a text's table, one line further
 pub walked_on : (v : TableVersion) (n : ℕ) (text rest : List ℕ) (line : Line) (lines : List lent.TableLine) (t : Option lent.TableLine) (all : List TableLine) → BeginsWithLine n text line rest → is_skipped line ≡ true → option_map table_line_of t ≡ table_line v line → map table_line_of lines ++ table_from v n text ≡ all → (found : Option lent.TableLine) → t ≡ found → map table_line_of (lines ++ option_to_list found) ++ table_from v (n + 1) rest ≡ all

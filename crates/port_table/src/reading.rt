@@ -50,5 +50,5 @@ pub fn read(alloc: Global, text: &[u8], width: u64, height: u64) -> Result<Ports
     if let Some(fault) = first_fault(alloc, &lines, width, height)? {
         return Err(PortReadError::Fault(fault));
     }
-    Ok(ports_of(alloc, &lines)?)
+    Ok(ports_of(alloc, lines)?)
 }

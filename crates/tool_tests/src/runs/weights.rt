@@ -64,6 +64,6 @@ fn a_netlist_of_the_greatest_weight_is_compiled(rt: HostRuntime) -> Result<(), F
     let alloc = rt.alloc();
     let text = wide(alloc, 8190)?;
     let got = run_over(alloc, COMPILE, &text, (4096, &[]), (1 << 20, 0))?;
-    assert!(rt; got.status == 0 && got.out.starts_with(b"#C BLIFWW 1 P 32 L "));
+    assert!(rt; got.status == 0 && got.out.starts_with(b"#C BLIFWW 2 P 32 L "));
     Ok(())
 }
