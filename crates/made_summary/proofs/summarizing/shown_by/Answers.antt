@@ -11,4 +11,3 @@ pattern_of-requires c = c.requires.admissible
 pub simulate-requires-clause-in_box : goal.simulate-requires-clause-in_box
 simulate-requires-clause-in_box c =
     subst (λ (grid : Grid). AreInBox grid.width grid.height (cells_of c.args.planned.now.ports.ins)) (sym c.in-Ok.ensures) c.requires.in_box
-
