@@ -12,7 +12,7 @@ use Rattle.pattern_reading.specs.declared.ports.TableVersion.{TableVersion}
 use Rattle.pattern_reading.specs.Lines.{Line}
 use Rattle.pattern_reading.specs.Header.{lines_before_header}
 use Rattle.pattern_reading.specs.Numbers.{◌>>=◌, number_in}
-use Rattle.pattern_reading.specs.PortLines.{PortForm, Version, In, Out, Net, TableLine, count_in, form_of_fields, has_room, net_in, port_in, table_entry, table_line, table_version}
+use Rattle.pattern_reading.specs.PortLines.{PortForm, Version, In, Out, Net, TableLine, count_in, form_of_fields, has_room, net_in, port_in, table_entry, table_line, table_version, uncounted, version_in, version_named}
 use Rattle.pattern_reading.specs.PortTable.{ReadsAsPorts, contexts_in, forms_of, period_in}
 
 abbrev HasPeriod : PortForm → Type 0
@@ -49,6 +49,10 @@ by_version true (Some p) (Some l) None = tt
 by_version true (Some p) (Some l) (Some c) = by_zero p l c (p == 0) (not (has_room p c)) refl refl
 by_version false p l c = tt
 
+by_name : (o : Option TableVersion) (form : TableVersion → Option PortForm) → ((named : TableVersion) → MayHavePeriod (form named)) → MayHavePeriod (o >>= form)
+by_name None form h = tt
+by_name (Some named) form h = h named
+
 form_period : (version : TableVersion) (fields : List (List ℕ)) → MayHavePeriod (form_of_fields version fields)
 form_period version [] = tt
 form_period version (a ∷ []) = tt
@@ -57,11 +61,13 @@ form_period version (a ∷ b ∷ c ∷ []) = tt
 form_period version (kind ∷ x ∷ y ∷ name ∷ []) =
     by_port (bytes_eq kind (codes "IN")) (bytes_eq kind (codes "OUT")) (port_in version x y name)
 form_period version (number ∷ p_word ∷ p ∷ l_word ∷ l ∷ []) =
-    by_version (bytes_eq number (codes "1") && bytes_eq p_word (codes "P") && bytes_eq l_word (codes "L")) (number_in p) (number_in l) (Some 1)
+    by_name (version_named number) (λ named. version_in p_word p l_word l (uncounted named))
+    (λ named. by_version (bytes_eq p_word (codes "P") && bytes_eq l_word (codes "L")) (number_in p) (number_in l) (uncounted named))
 form_period version (kind ∷ x ∷ y ∷ offset ∷ name ∷ path ∷ []) =
     by_net (bytes_eq kind (codes "NET")) (net_in version x y offset name path)
 form_period version (number ∷ p_word ∷ p ∷ l_word ∷ l ∷ c_word ∷ c ∷ []) =
-    by_version ((bytes_eq number (codes "1") || bytes_eq number (codes "2")) && bytes_eq p_word (codes "P") && bytes_eq l_word (codes "L")) (number_in p) (number_in l) (count_in c_word c)
+    by_name (version_named number) (λ named. version_in p_word p l_word l (count_in c_word c))
+    (λ named. by_version (bytes_eq p_word (codes "P") && bytes_eq l_word (codes "L")) (number_in p) (number_in l) (count_in c_word c))
 form_period version (a ∷ b ∷ c ∷ d ∷ e ∷ f ∷ g ∷ i ∷ fields) = tt
 
 with_form : (o : Option PortForm) (forms : List PortForm) → MayHavePeriod o → AllByRecursion HasPeriod forms → AllByRecursion HasPeriod (cons_option o forms)

@@ -13,12 +13,12 @@ use Rattle.pattern_reading.specs.declared.faults.PortFaultKind.TheVariants.{BadO
 use Rattle.pattern_reading.specs.declared.ports.PortLine.{PortLine}
 use Rattle.pattern_reading.specs.declared.ports.NetLine.{NetLine}
 use Rattle.pattern_reading.specs.declared.ports.TableVersion.{TableVersion}
-use Rattle.pattern_reading.specs.declared.ports.TableVersion.TheVariants.{One, Two}
+use Rattle.pattern_reading.specs.declared.ports.TableVersion.TheVariants.{Raw, Escaped}
 use Rattle.pattern_reading.specs.Lines.{Line}
 use Rattle.pattern_reading.specs.Numbers.{◌>>=◌, greatest_number, number_in}
 use Rattle.lists.specs.Bytes.{non_empty}
 use Rattle.pattern_reading.specs.Header.{lines_before_header}
-use Rattle.pattern_reading.specs.PortLines.{PortForm, Version, In, Out, Net, TableLine, count_in, form_of_fields, has_room, name_in, net_in, path_in, port_in, table_entry, table_line, table_of, table_version}
+use Rattle.pattern_reading.specs.PortLines.{PortForm, Version, In, Out, Net, TableLine, count_in, form_of_fields, has_room, name_of_field, net_in, path_in, port_in, table_entry, table_line, table_of, table_version, uncounted, version_named}
 use Rattle.pattern_reading.specs.PortTable.{contexts_in, fault_of_form, faults_after, forms_of, input_of, is_same_port, latency_in, net_of, output_of, period_in}
 use Rattle.pattern_reading.specs.SoundTable.{HasSoundTable, IsSoundNet, IsSoundPort}
 use Rattle.pattern_reading.specs.Spelling.{IsPortName}
@@ -45,9 +45,9 @@ some_bytes (b ∷ bs) word e = let same : (b ∷ bs) ≡ word = cc in (rw (← s
 no_feeds : (field : List ℕ) → IsFieldText field → HasNoFeed field
 no_feeds field h k d l = (h k d l).0
 
-name_is : (version : TableVersion) (field word : List ℕ) → name_in version field ≡ Some word → IsFieldText field → IsPortName word
-name_is One field word e h = let is = some_bytes field word e in (is.0, rw (← is.1) (no_feeds field h))
-name_is Two field word e h =
+name_is : (version : TableVersion) (field word : List ℕ) → name_of_field version field ≡ Some word → IsFieldText field → IsPortName word
+name_is Raw field word e h = let is = some_bytes field word e in (is.0, rw (← is.1) (no_feeds field h))
+name_is Escaped field word e h =
     let a = bind_some (unescaped field) _ word e in
     let is = some_bytes a.0 word a.2 in
     (is.0, rw (← is.1) (unescaped_feedless field a.0 a.1 (no_feeds field h)))
@@ -59,7 +59,7 @@ port_is : (version : TableVersion) (x y name : List ℕ) (port : PortLine) → I
 port_is version x y name port h e =
     let a = bind_some (number_in x) _ port e in
     let b = bind_some (number_in y) _ port a.2 in
-    let c = bind_some (name_in version name) _ port b.2 in
+    let c = bind_some (name_of_field version name) _ port b.2 in
     let same : record { x = a.0; y = b.0; name = c.0 } ≡ port = cc in
     rw (← same) (record { x = small_number x a.0 a.1; y = small_number y b.0 b.1; name = name_is version name c.0 c.1 h })
 
@@ -68,7 +68,7 @@ net_is version x y offset name path net h e =
     let a = bind_some (number_in x) _ net e in
     let b = bind_some (number_in y) _ net a.2 in
     let o = bind_some (number_in offset) _ net b.2 in
-    let c = bind_some (name_in version name) _ net o.2 in
+    let c = bind_some (name_of_field version name) _ net o.2 in
     let d = bind_some (path_in path) _ net c.2 in
     let same : record { x = a.0; y = b.0; offset = o.0; name = c.0; path = d.0 } ≡ net = cc in
     rw (← same) (record { x = small_number x a.0 a.1; y = small_number y b.0 b.1; offset = small_number offset o.0 o.1; name = name_is version name c.0 c.1 h; path = path_kept path d.0 d.1 })
@@ -122,10 +122,13 @@ fields_form v (a ∷ []) form h e = absurd (none-some form e)
 fields_form v (a ∷ b ∷ []) form h e = absurd (none-some form e)
 fields_form v (a ∷ b ∷ c ∷ []) form h e = absurd (none-some form e)
 fields_form v (a ∷ b ∷ c ∷ d ∷ []) form h e = port_form v b c d form (bytes_eq a (codes "IN")) (bytes_eq a (codes "OUT")) h.1.1.1.0 e
-fields_form v (a ∷ b ∷ c ∷ d ∷ f ∷ []) form h e = version_by (bytes_eq a (codes "1") && bytes_eq b (codes "P") && bytes_eq d (codes "L")) c f (Some 1) form e
+fields_form v (a ∷ b ∷ c ∷ d ∷ f ∷ []) form h e =
+    let named = bind_some (version_named a) _ form e in
+    version_by (bytes_eq b (codes "P") && bytes_eq d (codes "L")) c f (uncounted named.0) form named.2
 fields_form v (a ∷ b ∷ c ∷ d ∷ f ∷ g ∷ []) form h e = net_form v b c d f g form (bytes_eq a (codes "NET")) h.1.1.1.1.0 e
 fields_form v (a ∷ b ∷ c ∷ d ∷ f ∷ g ∷ i ∷ []) form h e =
-    version_by ((bytes_eq a (codes "1") || bytes_eq a (codes "2")) && bytes_eq b (codes "P") && bytes_eq d (codes "L")) c f (count_in g i) form e
+    let named = bind_some (version_named a) _ form e in
+    version_by (bytes_eq b (codes "P") && bytes_eq d (codes "L")) c f (count_in g i) form named.2
 fields_form v (a ∷ b ∷ c ∷ d ∷ f ∷ g ∷ i ∷ j ∷ fields) form h e = absurd (none-some form e)
 
 entry_form : (version : TableVersion) (entry : List ℕ) (forms : List PortForm) (o : Option PortForm) → HasNoFeed entry → form_of_fields version (slice_split (λ b. b == byte " ") entry) ≡ o → AllByRecursion IsSoundForm forms → AllByRecursion IsSoundForm (cons_option o forms)

@@ -293,6 +293,11 @@ ports_examples =
     (port_line_at 2 0 (195 ∷ 169 ∷ []) ∷ [])
     (net_line_at 1 0 9 (codes "a b\r") (codes "0.1") ∷ [])
     ∷ reads_as_escapes (codes "#C BLIFWW IN 0 0 a\tb\n") (port_line_at 0 0 (codes "a\tb") ∷ []) [] []
+    ∷ reads_as_escapes
+    (codes "#C BLIFWW IN 0 0 %2541\n#C BLIFWW IN 1 0 %00%FF\n#C BLIFWW OUT 2 0 %0D%20\n" ++ wire_cells)
+    (port_line_at 0 0 (codes "%41") ∷ port_line_at 1 0 (0 ∷ 255 ∷ []) ∷ [])
+    (port_line_at 2 0 (codes "\r ") ∷ [])
+    []
     ∷ record { text = codes "#C BLIFWW 2 P 64 L 0 C 2\n"; width = 0; height = 0; ports = record bare_ports { p = 64; c = 2 } }
     -- version 1: names as they stand
     ∷ reads_as_ports
@@ -354,6 +359,8 @@ bad_line_examples =
     -- version 2 without the number of contexts, or with none
     ∷ has_port_fault (codes "#C BLIFWW 2 P 4 L 2\n" ++ wire_cells) port.BadLine 1
     ∷ has_port_fault (codes "#C BLIFWW 2 P 4 L 2 C 0\n" ++ wire_cells) port.BadLine 1
+    ∷ has_port_fault (codes "#C BLIFWW 2 P 63 L 2 C 2\n" ++ wire_cells) port.BadLine 1
+    ∷ has_port_fault (version_two ++ codes "#C BLIFWW 3 P 4 L 2 C 1\n" ++ wire_cells) port.BadLine 2
     -- a percent sign that begins no escape, and a line feed's escape
     ∷ is_no_escaped_line (codes "IN 0 0 %4")
     ∷ is_no_escaped_line (codes "IN 0 0 %")
@@ -394,6 +401,7 @@ bad_order_examples =
     ∷ has_port_fault (wire_in ++ version_four ++ wire_cells) port.BadOrder 1
     ∷ has_port_fault (version_four ++ wire_in ++ version_four ++ wire_cells) port.BadOrder 3
     ∷ has_port_fault (version_two ++ wire_in ++ version_two ++ wire_cells) port.BadOrder 3
+    ∷ has_port_fault (version_two ++ version_four ++ wire_cells) port.BadOrder 2
     -- a table without a version has names as they stand
     ∷ has_port_fault (codes "#C BLIFWW IN 0 0 %4\n" ++ version_two ++ wire_cells) port.BadOrder 1
     -- also where the line's cell is outside
@@ -416,6 +424,7 @@ twice_examples =
     ∷ has_port_fault (version_four ++ codes "#C BLIFWW NET 0 0 0 a 1\n#C BLIFWW NET 1 0 7 a 1\n" ++ wire_cells) port.Twice 3
     -- names are compared as they are meant
     ∷ has_port_fault (version_two ++ wire_in ++ codes "#C BLIFWW IN 1 0 %61\n" ++ wire_cells) port.Twice 3
+    ∷ has_port_fault (version_two ++ codes "#C BLIFWW OUT 0 0 \t\n#C BLIFWW OUT 1 0 %09\n" ++ wire_cells) port.Twice 3
     ∷ has_port_fault (version_two ++ codes "#C BLIFWW NET 0 0 0 %4a 1\n#C BLIFWW NET 1 0 7 %4A 1\n" ++ wire_cells) port.Twice 3
     -- the earlier line of two comes first
     ∷ has_port_fault (version_four ++ wire_in ++ wire_in ++ version_four ++ wire_cells) port.Twice 3

@@ -16,7 +16,7 @@ use Rattle.std.specs.Str.{byte, bytes_eq}
 use Rattle.std.proofs.lemmas.Slice.Eq.{bytes_eq-Decides}
 use Rattle.std.proofs.lemmas.Option.{cond_some}
 use Rattle.pattern_reading.specs.Numbers.{greatest_number, number_in}
-use Rattle.pattern_reading.specs.declared.ports.TableVersion.TheVariants.{Two}
+use Rattle.pattern_reading.specs.declared.ports.TableVersion.TheVariants.{Escaped}
 use Rattle.pattern_reading.specs.PortLines.{PortForm, Version, In, Out, Net, has_room, table_line, form_of_fields, path_in, is_path_number}
 use Rattle.pattern_reading.specs.Laws.{IsLineText}
 use Rattle.pattern_reading.specs.Spelling.{IsField, IsSpellable, fields_of, spelled_line}
@@ -146,7 +146,7 @@ fields_fit (Net net) h =
     (letters_field (codes "NET") refl, (decimal_field net.x h.0, (decimal_field net.y h.1, (decimal_field net.offset h.2, (escaped_field net.name, (path_field net.path h.4, tt))))))
 
 -- are read as its form
-form_spelled : (form : PortForm) → IsSpellable form → form_of_fields Two (fields_of form) ≡ Some form
+form_spelled : (form : PortForm) → IsSpellable form → form_of_fields Escaped (fields_of form) ≡ Some form
 form_spelled (Version p l c) h =
     rw (number_in-decimal p h.1, number_in-decimal l h.2, number_in-decimal c (small_count p c h.1 h.3), ne_eqb p 0 h.0, h.3) refl
 form_spelled (In port) h = rw (number_in-decimal port.x h.0, number_in-decimal port.y h.1, (its_name port.name h.2).1) refl
@@ -164,9 +164,9 @@ some_fields (Out port) e = cc
 some_fields (Net net) e = cc
 
 -- a spelled line is a line of the table, of its form
-pub spelled_is : (n : ℕ) (form : PortForm) (e : Bool) → IsSpellable form → table_line Two (record { number = n; bytes = spelled_line form; is_ended = e }) ≡ Some (record { number = n; form = Some form })
+pub spelled_is : (n : ℕ) (form : PortForm) (e : Bool) → IsSpellable form → table_line Escaped (record { number = n; bytes = spelled_line form; is_ended = e }) ≡ Some (record { number = n; form = Some form })
 spelled_is n form e h =
-    ap (λ f. Some (record { number = n; form = f })) (ap (form_of_fields Two) (split_fields (fields_of form) (some_fields form) (fields_fit form h)) ∙ form_spelled form h)
+    ap (λ f. Some (record { number = n; form = f })) (ap (form_of_fields Escaped) (split_fields (fields_of form) (some_fields form) (fields_fit form h)) ∙ form_spelled form h)
 
 line_fields : (fields : List (List ℕ)) → fields ≢ [] → AllByRecursion IsField fields → IsLineText (join_with_byte 32 fields)
 line_fields [] some h = absurd (some refl)

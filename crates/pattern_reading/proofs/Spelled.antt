@@ -9,7 +9,7 @@ use Rattle.pattern_reading.specs.Lines.{Line, lines_of}
 use Rattle.pattern_reading.specs.Numbers.{◌>>=◌}
 use Rattle.pattern_reading.specs.Header.{is_skipped, lines_before_header}
 use Rattle.pattern_reading.specs.declared.ports.TableVersion.{TableVersion}
-use Rattle.pattern_reading.specs.declared.ports.TableVersion.TheVariants.{Two}
+use Rattle.pattern_reading.specs.declared.ports.TableVersion.TheVariants.{Escaped}
 use Rattle.pattern_reading.specs.PortLines.{PortForm, Version, In, Out, Net, TableLine, table_entry, table_line, table_of, table_version, version_of_entries, form_of_fields}
 use Rattle.pattern_reading.specs.PortTable.{PortFaultAt, fault_of_form, faults_after, ports_of}
 use Rattle.pattern_reading.specs.Laws.{later_by}
@@ -59,14 +59,14 @@ skipped_later form text h =
     ∙ ap (λ ls. comment_line (after_sign form) ∷ ls) (take_while_mapped (later_by 1) is_skipped is_skipped (λ line. refl) (lines_of text))
 
 -- the table of a text after one more line
-table_later : (form : PortForm) (text : List ℕ) → IsSpellable form → table_by Two (spelled_line form ++ 10 ∷ text) ≡ record { number = 1; form = Some form } ∷ map (later_entry 1) (table_by Two text)
+table_later : (form : PortForm) (text : List ℕ) → IsSpellable form → table_by Escaped (spelled_line form ++ 10 ∷ text) ≡ record { number = 1; form = Some form } ∷ map (later_entry 1) (table_by Escaped text)
 table_later form text h =
-    ap (filter_map (table_line Two)) (skipped_later form text h)
-    ∙ ap (λ o. cons_option o (filter_map (table_line Two) (map (later_by 1) (lines_before_header text)))) (spelled_is 1 form true h)
-    ∙ ap (λ ls. record { number = 1; form = Some form } ∷ ls) (filter_map_later (later_by 1) (table_line Two) (table_line Two) (later_entry 1) (table_line_later Two 1) (lines_before_header text))
+    ap (filter_map (table_line Escaped)) (skipped_later form text h)
+    ∙ ap (λ o. cons_option o (filter_map (table_line Escaped) (map (later_by 1) (lines_before_header text)))) (spelled_is 1 form true h)
+    ∙ ap (λ ls. record { number = 1; form = Some form } ∷ ls) (filter_map_later (later_by 1) (table_line Escaped) (table_line Escaped) (later_entry 1) (table_line_later Escaped 1) (lines_before_header text))
 
 -- a text whose first line is a version line has a table of version 2, and one without a table has none by any version
-version_first : (p l c : ℕ) (text : List ℕ) → IsSpellable (Version p l c) → table_version (spelled_line (Version p l c) ++ 10 ∷ text) ≡ Two
+version_first : (p l c : ℕ) (text : List ℕ) → IsSpellable (Version p l c) → table_version (spelled_line (Version p l c) ++ 10 ∷ text) ≡ Escaped
 version_first p l c text h = ap (λ ls. version_of_entries (filter_map table_entry ls)) (skipped_later (Version p l c) text h)
 
 no_entries : (v w : TableVersion) (lines : List Line) → filter_map (table_line v) lines ≡ [] → filter_map (table_line w) lines ≡ []
@@ -82,11 +82,11 @@ no_entries v w (line ∷ lines) e = by_entry (table_entry line) e (no_entries v 
     by_entry None k rest = rest k
     by_entry (Some entry) k rest = absurd (cc)
 
-none_by : (rest : List ℕ) → table_of rest ≡ [] → table_by Two rest ≡ []
-none_by rest none = no_entries (table_version rest) Two (lines_before_header rest) none
+none_by : (rest : List ℕ) → table_of rest ≡ [] → table_by Escaped rest ≡ []
+none_by rest none = no_entries (table_version rest) Escaped (lines_before_header rest) none
 
 -- so the version of a table that is sound is 2
-table_is : (forms : List PortForm) (rest : List ℕ) (width height : ℕ) → AllByRecursion IsSpellable forms → IsSoundAfter width height [] forms → table_of rest ≡ [] → table_of (spelled_table forms ++ rest) ≡ table_by Two (spelled_table forms ++ rest)
+table_is : (forms : List PortForm) (rest : List ℕ) (width height : ℕ) → AllByRecursion IsSpellable forms → IsSoundAfter width height [] forms → table_of rest ≡ [] → table_of (spelled_table forms ++ rest) ≡ table_by Escaped (spelled_table forms ++ rest)
 table_is [] rest width height h sound none = none ∙ sym (none_by rest none)
 table_is (Version p l c ∷ forms) rest width height h sound none =
     let text = spelled_table (Version p l c ∷ forms) ++ rest in
@@ -108,24 +108,24 @@ faults_later k width height before (line ∷ lines) =
     ap (cons_option (fault_of_form width height before line.form >>= λ kind. Some (record { kind = kind; line = k + line.number }))) (faults_later k width height (before ++ line.form ∷ []) lines)
     ∙ fault_later k line.number (fault_of_form width height before line.form) _
 
-no_faults : (forms : List PortForm) (rest : List ℕ) (width height : ℕ) (before : List (Option PortForm)) → AllByRecursion IsSpellable forms → IsSoundAfter width height before forms → table_by Two rest ≡ [] → faults_after width height before (table_by Two (spelled_table forms ++ rest)) ≡ []
+no_faults : (forms : List PortForm) (rest : List ℕ) (width height : ℕ) (before : List (Option PortForm)) → AllByRecursion IsSpellable forms → IsSoundAfter width height before forms → table_by Escaped rest ≡ [] → faults_after width height before (table_by Escaped (spelled_table forms ++ rest)) ≡ []
 no_faults [] rest width height before h sound none = ap (faults_after width height before) none
 no_faults (form ∷ forms) rest width height before h sound none =
-    ap (λ t. faults_after width height before (table_by Two t)) (table_before form forms rest)
+    ap (λ t. faults_after width height before (table_by Escaped t)) (table_before form forms rest)
     ∙ ap (faults_after width height before) (table_later form (spelled_table forms ++ rest) h.0)
-    ∙ ap (λ o. cons_option (o >>= λ kind. Some (record { kind = kind; line = 1 })) (faults_after width height (before ++ Some form ∷ []) (map (later_entry 1) (table_by Two (spelled_table forms ++ rest))))) sound.0
-    ∙ faults_later 1 width height (before ++ Some form ∷ []) (table_by Two (spelled_table forms ++ rest))
+    ∙ ap (λ o. cons_option (o >>= λ kind. Some (record { kind = kind; line = 1 })) (faults_after width height (before ++ Some form ∷ []) (map (later_entry 1) (table_by Escaped (spelled_table forms ++ rest))))) sound.0
+    ∙ faults_later 1 width height (before ++ Some form ∷ []) (table_by Escaped (spelled_table forms ++ rest))
     ∙ ap (map (later_port_fault 1)) (no_faults forms rest width height (before ++ Some form ∷ []) h.1 sound.1 none)
 
 abbrev forms_by : List TableLine → List PortForm
 forms_by lines = filter_map (λ line. line.form) lines
 
-forms_are : (forms : List PortForm) (rest : List ℕ) → AllByRecursion IsSpellable forms → table_by Two rest ≡ [] → forms_by (table_by Two (spelled_table forms ++ rest)) ≡ forms
+forms_are : (forms : List PortForm) (rest : List ℕ) → AllByRecursion IsSpellable forms → table_by Escaped rest ≡ [] → forms_by (table_by Escaped (spelled_table forms ++ rest)) ≡ forms
 forms_are [] rest h none = ap forms_by none
 forms_are (form ∷ forms) rest h none =
-    ap (λ text. forms_by (table_by Two text)) (table_before form forms rest)
+    ap (λ text. forms_by (table_by Escaped text)) (table_before form forms rest)
     ∙ ap forms_by (table_later form (spelled_table forms ++ rest) h.0)
-    ∙ ap (λ fs. form ∷ fs) (filter_map_mapped (later_entry 1) (λ line. line.form) (λ line. line.form) (λ line. refl) (table_by Two (spelled_table forms ++ rest)) ∙ forms_are forms rest h.1 none)
+    ∙ ap (λ fs. form ∷ fs) (filter_map_mapped (later_entry 1) (λ line. line.form) (λ line. line.form) (λ line. refl) (table_by Escaped (spelled_table forms ++ rest)) ∙ forms_are forms rest h.1 none)
 
 -- and it reads as the table of its lines
 pub spelled_ports : (forms : List PortForm) (rest : List ℕ) → HasSpelledPorts forms rest

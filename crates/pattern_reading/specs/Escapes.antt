@@ -5,7 +5,8 @@ use Rattle.std.specs.Fmt.{digit_glyph}
 use Rattle.std.specs.Str.{byte}
 use Rattle.pattern_reading.specs.Numbers.{◌>>=◌}
 
--- A byte as it is written: itself where it is plain, and else an escape, whose digits are in upper case. (No byte is over 255.)
+-- A byte as it is written: itself where it is plain, and else an escape, whose digits are in upper case. A number over 255, which
+-- is no byte, stands for itself.
 abbrev pub escaped_byte : (ℕ → Bool) → ℕ → List ℕ
 escaped_byte is_plain b =
     if is_plain b || nat_lt 255 b then b ∷ []
@@ -29,13 +30,15 @@ escape_in high low =
 abbrev pub onto : ℕ → Option (List ℕ) → Option (List ℕ)
 onto b bytes = option_map (λ bs. b ∷ bs) bytes
 
--- The bytes that a text with escapes stands for: each `%` begins an escape, and any other byte stands for itself.
+-- The bytes that a text with escapes stands for: each `%` begins an escape, else the text stands for nothing, and any other byte
+-- stands for itself.
 abbrev pub unescaped : List ℕ → Option (List ℕ)
 unescaped [] = Some []
 unescaped (b ∷ high ∷ low ∷ rest) =
     let after_escape = unescaped rest in
     let after_byte = unescaped (high ∷ low ∷ rest) in
     if b == byte "%" then (escape_in high low >>= λ e. onto e after_escape) else onto b after_byte
+-- (here fewer than two bytes follow)
 unescaped (b ∷ rest) =
     let after_byte = unescaped rest in
     if b == byte "%" then None else onto b after_byte

@@ -1,12 +1,12 @@
 -- The lines of a port table. It stands in comments before the header, in a form of this program's own, so that other readers of
 -- extended RLE pass over it. There are two versions: version 2 is written, and version 1 is still read.
-use Rattle.std.specs.Prelude.{ℕ, Bool, ◌&&◌, ◌||◌, not, ◌==◌, ◌*◌, nat_le, if◌then◌else◌, List, [], ◌∷◌, length, slice_index, Option, Some, None, codes, is_some, filter_map}
+use Rattle.std.specs.Prelude.{ℕ, Bool, ◌&&◌, ◌||◌, not, ◌==◌, ◌*◌, nat_le, if◌then◌else◌, List, [], ◌∷◌, length, slice_index, Option, Some, None, codes, is_some, filter_map, take_while, unwrap_or}
 use Rattle.std.specs.List.{list_all, slice_split}
 use Rattle.std.specs.Str.{bytes_eq, byte}
 use Rattle.pattern_reading.specs.declared.ports.PortLine.{PortLine}
 use Rattle.pattern_reading.specs.declared.ports.NetLine.{NetLine}
 use Rattle.pattern_reading.specs.declared.ports.TableVersion.{TableVersion}
-use Rattle.pattern_reading.specs.declared.ports.TableVersion.TheVariants.{One, Two}
+use Rattle.pattern_reading.specs.declared.ports.TableVersion.TheVariants.{Raw, Escaped}
 use Rattle.pattern_reading.specs.Escapes.{unescaped}
 use Rattle.pattern_reading.specs.Lines.{Line}
 use Rattle.pattern_reading.specs.Numbers.{◌>>=◌, number_in, after_prefix}
@@ -41,10 +41,19 @@ has_room period contexts = contexts == 1 || (not (contexts == 0) && nat_le (32 *
 abbrev pub count_in : List ℕ → List ℕ → Option ℕ
 count_in c_word c = if bytes_eq c_word (codes "C") then number_in c else None
 
--- a version line of a known version, by the fields after it: the period is not 0, and has room for the contexts
-abbrev pub version_in : Bool → List ℕ → List ℕ → List ℕ → List ℕ → Option ℕ → Option PortForm
-version_in is_known p_word p l_word l contexts =
-    if is_known && bytes_eq p_word (codes "P") && bytes_eq l_word (codes "L")
+-- the version that a word names
+abbrev pub version_named : List ℕ → Option TableVersion
+version_named word = if bytes_eq word (codes "1") then Some Raw else if bytes_eq word (codes "2") then Some Escaped else None
+
+-- the number of contexts where a version line does not say it: version 2 always says it
+abbrev pub uncounted : TableVersion → Option ℕ
+uncounted Raw = Some 1
+uncounted Escaped = None
+
+-- a version line, by the fields after the version: the period is not 0, and has room for the contexts
+abbrev pub version_in : List ℕ → List ℕ → List ℕ → List ℕ → Option ℕ → Option PortForm
+version_in p_word p l_word l contexts =
+    if bytes_eq p_word (codes "P") && bytes_eq l_word (codes "L")
     then (do
       period ← number_in p
       latency ← number_in l
@@ -54,15 +63,15 @@ version_in is_known p_word p l_word l contexts =
 
 -- The name that a field says, of one or more bytes: in version 1 the field as it stands, and in version 2 with escapes. No space
 -- stands in a field, since spaces separate the fields.
-abbrev pub name_in : TableVersion → List ℕ → Option (List ℕ)
-name_in One field = non_empty field
-name_in Two field = unescaped field >>= non_empty
+abbrev pub name_of_field : TableVersion → List ℕ → Option (List ℕ)
+name_of_field Raw field = non_empty field
+name_of_field Escaped field = unescaped field >>= non_empty
 
 abbrev pub port_in : TableVersion → List ℕ → List ℕ → List ℕ → Option PortLine
 port_in version x y name = do
   column ← number_in x
   row ← number_in y
-  word ← name_in version name
+  word ← name_of_field version name
   Some (record { x = column; y = row; name = word })
 
 abbrev pub net_in : TableVersion → List ℕ → List ℕ → List ℕ → List ℕ → List ℕ → Option NetLine
@@ -70,7 +79,7 @@ net_in version x y offset name path = do
   column ← number_in x
   row ← number_in y
   first ← number_in offset
-  word ← name_in version name
+  word ← name_of_field version name
   place ← path_in path
   Some (record { x = column; y = row; offset = first; name = word; path = place })
 
@@ -81,9 +90,9 @@ form_of_fields version (kind ∷ x ∷ y ∷ name ∷ []) =
     else if bytes_eq kind (codes "OUT") then (port_in version x y name >>= λ port. Some (Out port))
     else None
 form_of_fields version (number ∷ p_word ∷ p ∷ l_word ∷ l ∷ []) =
-    version_in (bytes_eq number (codes "1")) p_word p l_word l (Some 1)
+    version_named number >>= λ named. version_in p_word p l_word l (uncounted named)
 form_of_fields version (number ∷ p_word ∷ p ∷ l_word ∷ l ∷ c_word ∷ c ∷ []) =
-    version_in (bytes_eq number (codes "1") || bytes_eq number (codes "2")) p_word p l_word l (count_in c_word c)
+    version_named number >>= λ named. version_in p_word p l_word l (count_in c_word c)
 form_of_fields version (kind ∷ x ∷ y ∷ offset ∷ name ∷ path ∷ []) =
     if bytes_eq kind (codes "NET") then (net_in version x y offset name path >>= λ net. Some (Net net)) else None
 form_of_fields version _ = None
@@ -92,10 +101,15 @@ form_of_fields version _ = None
 abbrev pub table_entry : Line → Option (List ℕ)
 table_entry line = after_prefix (codes "#C BLIFWW ") line.bytes
 
--- the version of a table, which its first entry names; version 1 where it names none
+-- the first field of an entry
+abbrev pub first_field : List ℕ → List ℕ
+first_field entry = take_while (λ b. not (b == byte " ")) entry
+
+-- The version of a table, which the first field of its first entry names. Where it names none, names are read as they stand: then that
+-- entry, which is no version line, is in the wrong order if it has a form.
 abbrev pub version_of_entries : List (List ℕ) → TableVersion
-version_of_entries [] = One
-version_of_entries (entry ∷ entries) = if is_some (after_prefix (codes "2 ") entry) then Two else One
+version_of_entries [] = Raw
+version_of_entries (entry ∷ entries) = unwrap_or (version_named (first_field entry)) Raw
 
 -- a line of the table: its number, and its form, if it has one. The fields of a line are separated by single spaces
 pub record TableLine : Type 0 where

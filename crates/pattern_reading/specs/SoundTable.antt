@@ -25,7 +25,7 @@ pub record IsSoundNet (net : NetLine) : Type 0 where
   pub path : path_in net.path ≡ Some net.path
 
 -- The period is not 0, there is a context, and where there are more each has 32 generations of the period. All numbers fit 64 bits,
--- all names can stand in a table, and no two inputs, no two outputs and no two nets of one path have one name.
+-- all names have one or more bytes and no line feed, and no two inputs, no two outputs and no two nets of one path have one name.
 pub record IsSoundTable (ports : Ports) : Type 0 where
   pub period : ports.p ≢ 0
   pub p : ports.p ≤ greatest_number

@@ -4,9 +4,9 @@ use Rattle.std.specs.List.{All, AllByRecursion, join_with_byte}
 use Rattle.std.specs.Str.{byte}
 use Rattle.ww_rule.specs.Grid.{Grid}
 use Rattle.pattern_reading.specs.declared.ports.Ports.{Ports}
-use Rattle.pattern_reading.specs.declared.ports.TableVersion.TheVariants.{Two}
+use Rattle.pattern_reading.specs.declared.ports.TableVersion.TheVariants.{Escaped}
 use Rattle.pattern_reading.specs.Escapes.{escaped, is_plain_in_name, unescaped}
-use Rattle.pattern_reading.specs.PortLines.{PortForm, Version, In, Out, Net, has_room, name_in, path_in, table_of}
+use Rattle.pattern_reading.specs.PortLines.{PortForm, Version, In, Out, Net, has_room, name_of_field, path_in, table_of}
 use Rattle.pattern_reading.specs.Pattern.{ReadsAsPattern}
 use Rattle.pattern_reading.specs.PortTable.{ReadsAsPorts, fault_of_form, ports_of}
 
@@ -47,13 +47,13 @@ IsField bytes = All (λ b. (b ≢ 10) × (b ≢ 13) × (b ≢ 32)) bytes
 abbrev pub IsPortName : List ℕ → Type 0
 IsPortName name = (name ≢ []) × All (λ b. b ≢ 10) name
 
--- Escapes read back: any bytes without a line feed, by any test for which `%` is not plain.
+-- Whatever test tells the plain bytes, as long as `%` is not one of them, bytes without a line feed are read back from their escapes.
 abbrev pub HasItsEscapes : (ℕ → Bool) → List ℕ → Type 0
 HasItsEscapes is_plain bytes = is_plain (byte "%") ≡ false → All (λ b. b ≢ 10) bytes → unescaped (escaped is_plain bytes) ≡ Some bytes
 
 -- So a name with escapes is a field, and in version 2 it says the name.
 abbrev pub HasItsName : List ℕ → Type 0
-HasItsName name = IsPortName name → IsField (escaped_name name) × (name_in Two (escaped_name name) ≡ Some name)
+HasItsName name = IsPortName name → IsField (escaped_name name) × (name_of_field Escaped (escaped_name name) ≡ Some name)
 
 -- a line that can be spelled: its numbers can be written, its period is not 0 and has room for its contexts, and it has a name and a
 -- path that can stand in a table

@@ -1,12 +1,15 @@
 // Port tables as values.
 use lists::{Bytes, List};
 
-/// The versions of port tables, by how names stand in them: in version 1 as they are, and in version 2 with an escape of `%` and
-/// two hexadecimal digits for each byte that is `%` or that ASCII does not print.
+/// The versions of port tables, by how names stand in them. Version 1 has them as they are. Version 2, which is written, has an
+/// escape for each byte outside 33 to 126 and for each `%`: `%` and two hexadecimal digits. Its reader takes any other byte
+/// as it stands.
 #[derive(Clone, Copy)]
 pub enum TableVersion {
-    One,
-    Two,
+    /// Version 1.
+    Raw,
+    /// Version 2.
+    Escaped,
 }
 
 /// A port: the name of an input or an output, and its cell.

@@ -1,6 +1,6 @@
 -- A text's table line by line, and its faults.
 use Rattle.std.proofs.Common.{ℕ, suc, ◌+◌, ◌<◌, ◌≡◌, refl, sym, ap, ◌∙◌, subst, Bool, true, false, cond, not, ◌==◌, List, [], ◌∷◌, ◌++◌, length, map, drop, get_or, Option, Some, None, arith, drop-cons}
-use Rattle.std.specs.Prelude.{filter_map, option_map, slice_get, take_while, if◌then◌else◌, codes, is_some}
+use Rattle.std.specs.Prelude.{filter_map, option_map, slice_get, take_while, if◌then◌else◌, unwrap_or}
 use Rattle.std.specs.List.{cons_option, list_any}
 use Rattle.std.specs.Option.{option_to_list}
 use Rattle.std.proofs.lemmas.List.{append-nil}
@@ -8,11 +8,11 @@ use Rattle.std.proofs.lemmas.List.Elements.{filter_map-append}
 use Rattle.std.proofs.lemmas.Option.{none-some}
 use Rattle.std.proofs.lemmas.List.Sums.{take_while-cons}
 use Rattle.pattern_reading.specs.Lines.{Line, lines_from, with_line_feeds}
-use Rattle.pattern_reading.specs.Numbers.{◌>>=◌, after_prefix}
+use Rattle.pattern_reading.specs.Numbers.{◌>>=◌}
 use Rattle.pattern_reading.specs.declared.ports.TableVersion.{TableVersion}
-use Rattle.pattern_reading.specs.declared.ports.TableVersion.TheVariants.{One, Two}
+use Rattle.pattern_reading.specs.declared.ports.TableVersion.TheVariants.{Raw}
 use Rattle.pattern_reading.specs.Header.{is_skipped}
-use Rattle.pattern_reading.specs.PortLines.{PortForm, TableLine, table_entry, table_line, table_of, version_of_entries}
+use Rattle.pattern_reading.specs.PortLines.{PortForm, TableLine, table_entry, table_line, table_of, first_field, version_named, version_of_entries}
 use Rattle.pattern_reading.specs.PortTable.{PortFaultAt, is_version, is_outside, is_same_port, is_misplaced, fault_of_form, faults_after, ports_of, ReadsAsPorts}
 use Rattle.pattern_reading.specs.declared.faults.PortFaultKind.{PortFaultKind}
 use Rattle.pattern_reading.specs.declared.faults.PortFaultKind.TheVariants.{Twice}
@@ -25,7 +25,7 @@ use Rattle.port_table.proofs.Walk.{BeginsWithLine, table_from, version_from}
 table_ends : (v : TableVersion) (n : ℕ) (text rest : List ℕ) (line : Line) → BeginsWithLine n text line rest → is_skipped line ≡ false → table_from v n text ≡ []
 table_ends v n text rest line first skipped = rw (first, skipped) refl
 
-pub version_ends : (n : ℕ) (text rest : List ℕ) (line : Line) → BeginsWithLine n text line rest → is_skipped line ≡ false → version_from n text ≡ One
+pub version_ends : (n : ℕ) (text rest : List ℕ) (line : Line) → BeginsWithLine n text line rest → is_skipped line ≡ false → version_from n text ≡ Raw
 version_ends n text rest line first skipped = rw (first, skipped) refl
 
 -- a line that is skipped, and perhaps is one of the table
@@ -47,7 +47,7 @@ table_goes_on v n text rest line t first skipped is = goes_on (table_line v) n t
 
 -- the first line of the table names its version
 pub version_is : (n : ℕ) (text rest : List ℕ) (line : Line) (entry : List ℕ) → BeginsWithLine n text line rest → is_skipped line ≡ true → table_entry line ≡ Some entry
-    → version_from n text ≡ (if is_some (after_prefix (codes "2 ") entry) then Two else One)
+    → version_from n text ≡ unwrap_or (version_named (first_field entry)) Raw
 version_is n text rest line entry first skipped is = ap version_of_entries (goes_on table_entry n text rest line (Some entry) first skipped is)
 
 pub version_goes_on : (n : ℕ) (text rest : List ℕ) (line : Line) → BeginsWithLine n text line rest → is_skipped line ≡ true → table_entry line ≡ None → version_from n text ≡ version_from (n + 1) rest

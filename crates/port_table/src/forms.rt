@@ -2,10 +2,11 @@
 ghost use Rattle.std.specs.Prelude.{◌≡◌, ◌==◌, [], ◌∷◌, take, map, option_map, Some, IfOk};
 ghost use Rattle.std.specs.List.{slice_split};
 ghost use Rattle.std.specs.Str.{byte};
-ghost use Rattle.pattern_reading.specs.PortLines.{form_of_fields, has_room, count_in, version_in, port_in, net_in};
+ghost use Rattle.pattern_reading.specs.PortLines.{form_of_fields, has_room, count_in, uncounted, version_in, version_named, port_in, net_in};
+ghost use Rattle.pattern_reading.specs.declared.ports.TableVersion.TheVariants.{Raw};
 ghost use Rattle.port_table.specs.Lent.{form_of};
 
-use crate::names::name_in;
+use crate::names::name_of_field;
 use crate::numbers::path_in;
 use lists::copied;
 use pattern_lines::number_in;
@@ -47,18 +48,40 @@ fn count_in(c_word: &[u8], c: &[u8]) -> Option<u64>
     }
 }
 
-// What a version line of a known version says, by the fields after it: its period is not 0, and has room for its contexts.
+/// The version that a word names.
+pub fn version_named(word: &[u8]) -> Option<TableVersion>
+    ensures { result ≡ version_named word.now }
+{
+    if word == b"1".as_slice() {
+        Some(TableVersion::Raw)
+    } else if word == b"2".as_slice() {
+        Some(TableVersion::Escaped)
+    } else {
+        None
+    }
+}
+
+// The number of contexts where a version line does not say it.
+fn uncounted(version: TableVersion) -> Option<u64>
+    ensures { result ≡ uncounted version }
+{
+    match version {
+        TableVersion::Raw => Some(1),
+        TableVersion::Escaped => None,
+    }
+}
+
+// What a version line says, by the fields after the version: its period is not 0, and has room for its contexts.
 fn version_in(
-    is_known: bool,
     p_word: &[u8],
     p: &[u8],
     l_word: &[u8],
     l: &[u8],
     contexts: Option<u64>,
 ) -> Option<PortForm>
-    ensures { option_map form_of result ≡ version_in is_known p_word.now p.now l_word.now l.now contexts }
+    ensures { option_map form_of result ≡ version_in p_word.now p.now l_word.now l.now contexts }
 {
-    if !is_known || p_word != b"P".as_slice() || l_word != b"L".as_slice() {
+    if p_word != b"P".as_slice() || l_word != b"L".as_slice() {
         return None;
     }
     let period = number_in(p)?;
@@ -72,6 +95,38 @@ fn version_in(
         latency,
         contexts,
     })
+}
+
+// A version line that does not say the number of contexts.
+fn uncounted_line(
+    number: &[u8],
+    p_word: &[u8],
+    p: &[u8],
+    l_word: &[u8],
+    l: &[u8],
+) -> Option<PortForm>
+    ensures { option_map form_of result ≡
+        form_of_fields Raw (number.now ∷ p_word.now ∷ p.now ∷ l_word.now ∷ l.now ∷ []) }
+{
+    let version = version_named(number)?;
+    version_in(p_word, p, l_word, l, uncounted(version))
+}
+
+// A version line that says it.
+fn counted_line(
+    number: &[u8],
+    p_word: &[u8],
+    p: &[u8],
+    l_word: &[u8],
+    l: &[u8],
+    c_word: &[u8],
+    c: &[u8],
+) -> Option<PortForm>
+    ensures { option_map form_of result ≡
+        form_of_fields Raw (number.now ∷ p_word.now ∷ p.now ∷ l_word.now ∷ l.now ∷ c_word.now ∷ c.now ∷ []) }
+{
+    version_named(number)?;
+    version_in(p_word, p, l_word, l, count_in(c_word, c))
 }
 
 fn port_in(
@@ -89,7 +144,7 @@ fn port_in(
     let Some(y) = number_in(y) else {
         return Ok(None);
     };
-    let Some(name) = name_in(alloc, version, name)? else {
+    let Some(name) = name_of_field(alloc, version, name)? else {
         return Ok(None);
     };
     Ok(Some(PortLine { x, y, name }))
@@ -172,8 +227,7 @@ fn named_net(
     Ok(Some(PortForm::Net(net)))
 }
 
-// The form of a line with these fields in a table of a version, if it has one of the four. A version line of version 1 may leave out
-// the number of contexts.
+// The form of a line with these fields in a table of a version, if it has one of the four.
 fn form_of_fields(
     alloc: Global,
     version: TableVersion,
@@ -183,16 +237,12 @@ fn form_of_fields(
 {
     match *fields {
         [kind, x, y, name] => named_port(alloc, version, kind, x, y, name),
-        [number, p_word, p, l_word, l] => {
-            let is_known = number == b"1".as_slice();
-            Ok(version_in(is_known, p_word, p, l_word, l, Some(1)))
-        }
+        [number, p_word, p, l_word, l] => Ok(uncounted_line(number, p_word, p, l_word, l)),
         [kind, x, y, offset, name, path] => {
             named_net(alloc, version, kind, x, y, offset, name, path)
         }
         [number, p_word, p, l_word, l, c_word, c] => {
-            let is_known = number == b"1".as_slice() || number == b"2".as_slice();
-            Ok(version_in(is_known, p_word, p, l_word, l, count_in(c_word, c)))
+            Ok(counted_line(number, p_word, p, l_word, l, c_word, c))
         }
         _ => Ok(None),
     }

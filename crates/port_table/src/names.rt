@@ -2,7 +2,7 @@
 ghost use Rattle.std.specs.Prelude.{◌≡◌, ◌<◌, length, option_map, IfSome, IfOk};
 ghost use Rattle.lists.specs.Bytes.{non_empty};
 ghost use Rattle.pattern_reading.specs.Escapes.{escape_in, unescaped};
-ghost use Rattle.pattern_reading.specs.PortLines.{name_in};
+ghost use Rattle.pattern_reading.specs.PortLines.{name_of_field};
 ghost use Rattle.port_table.specs.Names.{from_first};
 
 use lists::{Bytes, List, copied};
@@ -57,16 +57,16 @@ fn non_empty(bytes: Bytes) -> Option<Bytes>
 }
 
 /// The name that a field says in a table of a version, if it says one.
-pub fn name_in(
+pub fn name_of_field(
     alloc: Global,
     version: TableVersion,
     field: &[u8],
 ) -> Result<Option<Bytes>, AllocError>
-    ensures { IfOk result (λ name. name ≡ name_in version field.now) }
+    ensures { IfOk result (λ name. name ≡ name_of_field version field.now) }
 {
     match version {
-        TableVersion::One => Ok(non_empty(copied(alloc, field)?)),
-        TableVersion::Two => {
+        TableVersion::Raw => Ok(non_empty(copied(alloc, field)?)),
+        TableVersion::Escaped => {
             let Some(bytes) = unescaped(alloc, field)? else {
                 return Ok(None);
             };

@@ -1,13 +1,13 @@
 // The lines of a text's table.
-ghost use Rattle.std.specs.Prelude.{◌≡◌, if◌then◌else◌, is_some, map, option_map, IfOk, codes};
+ghost use Rattle.std.specs.Prelude.{◌≡◌, ◌==◌, not, map, option_map, IfOk, codes};
+ghost use Rattle.std.specs.List.{prefix_len};
 ghost use Rattle.std.specs.Option.{option_copied};
 ghost use Rattle.pattern_reading.specs.Numbers.{after_prefix};
-ghost use Rattle.pattern_reading.specs.PortLines.{table_line, table_of, table_version};
-ghost use Rattle.pattern_reading.specs.declared.ports.TableVersion.TheVariants.{One, Two};
+ghost use Rattle.pattern_reading.specs.PortLines.{first_field, table_line, table_of, table_version};
 ghost use Rattle.pattern_lines.specs.Lines.{line_of};
 ghost use Rattle.port_table.specs.Lent.{table_line_of};
 
-use crate::forms::{PortForm, form_in};
+use crate::forms::{PortForm, form_in, version_named};
 use pattern_lines::{Line, split_line};
 use pattern_reading::TableVersion;
 use std::alloc::{AllocError, Global};
@@ -26,15 +26,18 @@ fn table_entry(bytes: &[u8]) -> Option<&[u8]>
     bytes.strip_prefix(b"#C BLIFWW ")
 }
 
-// The version of a table whose first line has this entry.
-fn version_named(entry: &[u8]) -> TableVersion
-    ensures { result ≡ (if is_some (after_prefix (codes "2 ") entry.now) then Two else One) }
+// How many bytes stand before the first space, which are all where there is none.
+fn bytes_before_space(entry: &[u8]) -> usize
+    ensures { result ≡ prefix_len (λ b. not (b == 32)) entry.now }
 {
-    if entry.strip_prefix(b"2 ").is_some() {
-        TableVersion::Two
-    } else {
-        TableVersion::One
-    }
+    entry.iter().take_while(|b| **b != b' ').count()
+}
+
+// The first field of an entry.
+fn first_field(entry: &[u8]) -> &[u8]
+    ensures { result.now ≡ first_field entry.now }
+{
+    &entry[..bytes_before_space(entry)]
 }
 
 // The version of a text's table, which its first line names.
@@ -46,15 +49,15 @@ fn table_version(text: &[u8]) -> TableVersion
     while !rest.is_empty() {
         let (line, after) = split_line(lines_before, rest);
         if !line.is_skipped() {
-            return TableVersion::One;
+            return TableVersion::Raw;
         }
         if let Some(entry) = table_entry(line.bytes) {
-            return version_named(entry);
+            return version_named(first_field(entry)).unwrap_or(TableVersion::Raw);
         }
         lines_before += 1;
         rest = after;
     }
-    TableVersion::One
+    TableVersion::Raw
 }
 
 // The line as one of a table of a version, if it is one.
