@@ -9,8 +9,8 @@ use Rattle.carries.specs.Carries.{Carries}
 use Rattle.carries.specs.Nets.{CarriesNets}
 use Rattle.carries.specs.DesignContexts.{CarriesContexts, CarriesNetsInContexts}
 use Rattle.cell_meaning.specs.Needs.{any_needs_one}
-use Rattle.latch_loops.specs.Closed.{contexts_size}
-use Rattle.latch_loops.specs.Padded.{IsPaddedPlan}
+use Rattle.blifww_tool.specs.Stand.{contexts_size}
+use Rattle.blifww_tool.specs.Stand.{IsPaddedPlan}
 use Rattle.netlist_core.specs.declared.model.Design.{Design}
 use Rattle.netlist_core.specs.declared.flat.Flat.{Flat}
 use Rattle.netlist_meaning.specs.Weight.{weight}

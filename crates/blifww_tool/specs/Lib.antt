@@ -4,6 +4,7 @@ pub mod Simulation
 pub mod Driven
 pub mod Probing
 pub mod Viewing
+pub mod Stand
 pub mod Compilation
 pub mod Evaluation
 pub mod Summary

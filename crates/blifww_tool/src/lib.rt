@@ -16,6 +16,7 @@ mod output;
 mod probe;
 mod refusals;
 mod simulate;
+mod stand;
 mod summary;
 mod told;
 mod top;
