@@ -113,9 +113,14 @@ many_at_places {X} {Y} {Z} design items f g = go (places_in_order design)
     go [] = refl
     go (place ∷ places) =
         let rest = go places in
-        omega (arith, length-append (map (f place) (found place)) (flat_map (λ p. map (f p) (found p)) places),
-        length-append (map (g place) (found place)) (flat_map (λ p. map (g p) (found p)) places),
-        length-map (found place) (f place), length-map (found place) (g place), rest)
+        omega (
+          arith,
+          length-append (map (f place) (found place)) (flat_map (λ p. map (f p) (found p)) places),
+          length-append (map (g place) (found place)) (flat_map (λ p. map (g p) (found p)) places),
+          length-map (found place) (f place),
+          length-map (found place) (g place),
+          rest,
+        )
 
 many_latches : (design : Design) (flat : Flat) → IsFlatOf design flat → length flat.latches ≡ latch_count design
 many_latches design flat is =

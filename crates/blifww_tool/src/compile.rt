@@ -62,10 +62,7 @@ fn started(
     designs_are_carried_in_contexts();
     let limit = planned.ports.p / 32;
     if contexts > limit {
-        return Err(TextError::Refused(Cause::TooManyContexts {
-            contexts,
-            limit,
-        }));
+        return Err(TextError::Refused(Cause::TooManyContexts { contexts, limit }));
     }
     if contexts == 1 && words.is_empty() {
         return Ok(Output::Drawing(planned));

@@ -15,7 +15,13 @@ use netlist_core::{Flat, Order};
 use netlist_plans::{NetlistPlanError, Planned};
 use std::alloc::Global;
 
-pub fn plan_contexts(_alloc: Global, flat: &Flat, order: &Order, planned: Planned, starts: &[List<bool>]) -> Result<Planned, NetlistPlanError>
+pub fn plan_contexts(
+    _alloc: Global,
+    flat: &Flat,
+    order: &Order,
+    planned: Planned,
+    starts: &[List<bool>],
+) -> Result<Planned, NetlistPlanError>
     requires sound { IsSound flat.now }
     requires ordered { IsOrder flat.now order.now.nodes }
     requires named { IsNamed flat.now }
@@ -32,6 +38,11 @@ pub fn plan_contexts(_alloc: Global, flat: &Flat, order: &Order, planned: Planne
     ensures table { IfOk result (λ p. IsTableOf flat.now p.plan (length starts.now) p.ports) }
     ensures carries { IfOk result (λ p. CarriesFlatContexts (pattern_text (start_grid p.plan) p.ports) flat.now starts.now) }
 {
-    let _unused = (flat.weight, order.nodes.as_slice().len(), planned.ports.p, starts.len());
+    let _unused = (
+        flat.weight,
+        order.nodes.as_slice().len(),
+        planned.ports.p,
+        starts.len(),
+    );
     Err(NetlistPlanError::NoMemory)
 }
