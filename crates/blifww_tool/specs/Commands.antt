@@ -33,8 +33,9 @@ reads_text (window view words) = true
 reads_text (make seed size) = false
 reads_text (self_ seed size cycles) = false
 
--- the command accepts the text: it is a netlist, in which the words say starts of contexts that every plan has room for; with the words a simulation in time; with the words an evaluation; a simulation that
--- has the net and shows it in time; a simulation; always; or where no plan of the made netlist can need more generations than are run
+-- the command accepts the text: it is a netlist, in which the words say starts of as many contexts as every plan has room for; with the
+-- words a simulation in time; with the words an evaluation; a simulation that has the net and shows it in time; a simulation; always; or
+-- where no plan of the made netlist can need more generations than are run
 abbrev pub Accepts : CommandValues → List ℕ → Type 0
 Accepts (compile contexts starts) text = (design : Design) × HasStarts contexts starts text design × (contexts ≤ least_room design)
 Accepts (simulate cycles words) text = (s : Simulation) × Simulates cycles words text s
@@ -44,8 +45,8 @@ Accepts (window view words) text = (s : Simulation) × IsSimulation (cycles_in w
 Accepts (make seed size) text = ⊤
 Accepts (self_ seed size cycles) text = most_generations (weight (made_design seed size)) cycles ≤ greatest_generation
 
--- of such a text it prints this output: a pattern that carries the netlist in these contexts; a line for each output of the pattern, or of the netlist; the
--- line of the net; the lines of a part of the plane; the made text; or what is told of the made netlist
+-- of such a text it prints this output: a pattern that carries the netlist in these contexts; a line for each output of the pattern, or of the
+-- netlist; the line of the net; the lines of a part of the plane; the made text; or what is told of the made netlist
 abbrev pub Prints : CommandValues → (text output : List ℕ) → Type 0
 Prints (compile contexts starts) text output = Compiles contexts starts text output
 Prints (simulate cycles words) text output = (s : Simulation) × Simulates cycles words text s × (output ≡ simulation_text s)
