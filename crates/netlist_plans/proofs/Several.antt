@@ -38,20 +38,30 @@ bits_are : (list : CellList) (plan : Plan) (bits : List Bool) → plan.latches �
 bits_are list plan bits loops long =
     ap (λ b. bits ++ cond b (true ∷ []) []) (one_more (length bits) plan.latches (names_one list) (loops ∙ ap (λ n. n + cond (names_one list) 1 0) (sym long)))
 
-pub all_bits_are : (list : CellList) (plan : Plan) (starts : List (List Bool)) → plan.latches ≡ loop_count list → All (λ bits. length bits ≡ length list.starts) starts
+all_bits_are : (list : CellList) (plan : Plan) (starts : List (List Bool)) → plan.latches ≡ loop_count list → All (λ bits. length bits ≡ length list.starts) starts
     → map (loop_bits plan) starts ≡ map (loop_state list) starts
 all_bits_are list plan [] loops long = refl
 all_bits_are list plan (bits ∷ starts) loops long =
     ap₂ (λ (b : List Bool) (bs : List (List Bool)). b ∷ bs) (bits_are list plan bits loops (long 0 bits (omega arith)))
     (all_bits_are list plan starts loops (λ k d within. long (suc k) d (omega (arith, within))))
 
-pub all_long : (list : CellList) (plan : Plan) (starts : List (List Bool)) → plan.latches ≡ loop_count list → All (λ bits. length bits ≡ length list.starts) starts
+all_long : (list : CellList) (plan : Plan) (starts : List (List Bool)) → plan.latches ≡ loop_count list → All (λ bits. length bits ≡ length list.starts) starts
     → All (λ bits. length bits ≡ plan.latches) (map (loop_state list) starts)
 all_long list plan [] loops long = λ k d within. absurd (omega (arith, within))
 all_long list plan (bits ∷ starts) loops long =
     All-cons (λ (b : List Bool). length b ≡ plan.latches) (loop_state list bits) (map (loop_state list) starts)
     (length-append bits _ ∙ ap₂ (λ (n : ℕ) (m : ℕ). n + m) (long 0 bits (omega arith)) (length_if (names_one list) true) ∙ sym loops)
     (all_long list plan starts loops (λ k d within. long (suc k) d (omega (arith, within))))
+
+module _ (flat : Flat) (plan : Plan) (w : IsWeighed flat) (k : IsPlanned flat plan) (starts : List (List Bool)) (long : All (λ start. length start ≡ length flat.latches) starts) where
+  latches_long : All (λ bits. length bits ≡ length k.list.starts) starts
+  latches_long i d within = long i d within ∙ sym (starts_many flat k.list k.computes.mapped w)
+
+  pub loops_are : map (loop_bits plan) starts ≡ map (loop_state k.list) starts
+  loops_are = all_bits_are k.list plan starts k.is.computes.loops latches_long
+
+  pub loops_long : All (λ bits. length bits ≡ plan.latches) (map (loop_bits plan) starts)
+  loops_long = subst (λ (all : List (List Bool)). All (λ bits. length bits ≡ plan.latches) all) (sym loops_are) (all_long k.list plan starts k.is.computes.loops latches_long)
 
 -- ---- what is asked of the plan
 pub contexts_fit : (plan : Plan) (contexts : ℕ) → 32 * contexts ≤ period_of plan → contexts ≤ cycle_steps plan
