@@ -1,15 +1,33 @@
 -- What the parts of a compilation give together.
-use Rattle.std.proofs.Common.{ℕ, ◌≡◌, ◌≤◌, ◌+◌, ◌*◌, refl, subst, List, length, false}
+use Rattle.std.proofs.Common.{ℕ, ◌≡◌, ◌≢◌, ◌≤◌, ◌<◌, ◌+◌, ◌-◌, ◌*◌, ◌/◌, ◌^◌, ◌==◌, ◌&&◌, true≢false, max, cond, refl, sym, ap, ap₂, ◌∙◌, subst, Bool, true, false, List, [], ◌∷◌, length, map, flat_map, arith, length-append}
+use Rattle.std.specs.Prelude.{None, All, get_or}
+use Rattle.std.specs.List.{range_with_len}
+use Rattle.std.proofs.lemmas.List.Elements.{All-map}
+use Rattle.std.proofs.lemmas.List.FromFn.{length-map-range_with_len}
+use Rattle.std.proofs.Math.Nat.{max-le}
+use Rattle.std.proofs.Math.Path.{fun_ext}
+use Rattle.std.proofs.lemmas.Bool.{and_parts, eqb-false, eqb-true}
+use Rattle.std.proofs.lemmas.List.{append-nil, length-map}
 use Rattle.lane_core.specs.declared.plan.Plan.{Plan}
-use Rattle.lane_core.specs.Plans.{IsAdmissible}
+use Rattle.lane_core.specs.Plans.{IsAdmissible, period_of}
+use Rattle.plan_layout.specs.Starts.{HasStartEdges}
 use Rattle.grid_assembly.specs.PlanDrawing.{start_grid}
 use Rattle.pattern_reading.specs.declared.ports.Ports.{Ports}
 use Rattle.pattern_writing.specs.WrittenText.{pattern_text}
 use Rattle.cell_meaning.specs.Needs.{any_needs_one}
+use Rattle.latch_loops.specs.Closed.{contexts_size}
+use Rattle.latch_loops.specs.Padded.{IsPaddedPlan}
 use Rattle.netlist_core.specs.declared.model.Design.{Design}
+use Rattle.netlist_core.specs.declared.model.Model.{Model}
 use Rattle.netlist_core.specs.declared.flat.Flat.{Flat}
+use Rattle.netlist_core.specs.Names.{Name}
+use Rattle.netlist_meaning.specs.Places.{Place, model_at}
+use Rattle.netlist_meaning.specs.InOrder.{of_some, places_in_order}
 use Rattle.netlist_meaning.specs.Weight.{weight}
-use Rattle.flat_designs.specs.Laws.{FlatIsOne}
+use Rattle.netlist_meaning.specs.FlatOf.{IsFlatOf, at_places, flat_latch}
+use Rattle.netlist_meaning.specs.Valuation.{LatchState, start_state}
+use Rattle.flat_designs.specs.Laws.{FlatIsOne, state_in_order}
+use Rattle.flat_designs.proofs.Weights.{parts_are_few}
 use Rattle.netlist_text.specs.NetlistText.{IsNetlist}
 use Rattle.netlist_text.specs.Parts.{AreParts}
 use Rattle.netlist_text.specs.Causes.{HasNetlistCause}
@@ -17,35 +35,70 @@ use Rattle.netlist_text.specs.declared.error.NetlistError.{NetlistError}
 use Rattle.netlist_text.specs.declared.error.NetlistError.TheVariants as netlist_of
 use Rattle.netlist_plans.specs.Planned.{ComputesCells, HasLanes, IsSmall}
 use Rattle.netlist_plans.specs.NetPlaces.{HasNetPlaces}
+use Rattle.carries.specs.Carries.{Carries}
 use Rattle.carries.specs.Nets.{CarriesNets}
 use Rattle.carries.specs.FlatNets.{CarriesFlat}
+use Rattle.carries.specs.FlatContexts.{CarriesFlatContexts}
+use Rattle.carries.specs.DesignContexts.{CarriesContexts, CarriesNetsInContexts}
+use Rattle.carries.specs.ContextLaws.{OneContextCarries, OneContextCarriesNets}
 use Rattle.plan_carries.specs.Laws.{DesignsAreCarried}
+use Rattle.plan_carries.specs.ContextLaws.{DesignsAreCarriedInContexts}
 use Rattle.plan_ports.specs.Tables.{IsTableOf}
+use Rattle.start_words.specs.declared.error.StartError.{StartError}
+use Rattle.start_words.specs.declared.error.StartError.TheVariants as starts_of
+use Rattle.start_words.specs.Flats.{flat_latches, flat_start_bit, flat_start_bits, flat_starts}
+use Rattle.start_words.specs.Words.{HasStartCause, first_fault}
+use Rattle.start_words.specs.Starts.{latches_of, start_of_words, starts_of_words}
+use Rattle.start_words.specs.Laws.{LatchesAreFlat, NoWordsMeanStart, StartsAreFlat}
 use Rattle.command_words.specs.Shapes.{compile}
 use Rattle.blifww_tool.specs.Commands.{HasTextCause}
-use Rattle.blifww_tool.specs.Compilation.{Compiles}
-use Rattle.blifww_tool.specs.Refusals.{netlist_error}
+use Rattle.blifww_tool.specs.Compilation.{Compiles, HasNoRoom, HasStarts, IsCarriedBy, latch_count, least_room}
+use Rattle.blifww_tool.specs.Refusals.{netlist_error, starts_error}
 
--- a text that gives no netlist
-pub compile_refused : (text : List ℕ) (e : NetlistError) → HasNetlistCause text e → HasTextCause compile text (netlist_error e)
-compile_refused text (netlist_of.Fault fault) h = h
-compile_refused text (netlist_of.TooLarge weight) h = h
-compile_refused text (netlist_of.Loop names) h = h
-compile_refused text netlist_of.NoMemory h = tt
+-- a text that gives no netlist,
+pub compile_refused : (contexts : ℕ) (starts : List (List ℕ)) (text : List ℕ) (e : NetlistError) → HasNetlistCause text e → HasTextCause (compile contexts starts) text (netlist_error e)
+compile_refused contexts starts text (netlist_of.Fault fault) h = h
+compile_refused contexts starts text (netlist_of.TooLarge weight) h = h
+compile_refused contexts starts text (netlist_of.Loop names) h = h
+compile_refused contexts starts text netlist_of.NoMemory h = tt
 
--- and what it gives
-pub compiles : FlatIsOne → DesignsAreCarried → (text : List ℕ) (design : Design) (flat : Flat) (order : List ℕ) (plan : Plan) (ports : Ports) → IsNetlist text design → AreParts design flat order
-    → IsAdmissible plan → IsTableOf flat plan 1 ports → ComputesCells flat plan → HasLanes flat plan → HasNetPlaces flat plan → CarriesFlat (pattern_text (start_grid plan) ports) flat → IsSmall flat plan → (length flat.latches ≡ 0 → any_needs_one flat ≡ false → ports.p ≡ 32)
-    → Compiles text (pattern_text (start_grid plan) ports)
-compiles one law text design flat order plan ports is p admissible table cells size places carries few period =
+-- and a netlist in which the words say no starts
+same_latches : LatchesAreFlat → (design : Design) (flat : Flat) (order : List ℕ) → AreParts design flat order → flat_latches flat ≡ latches_of design
+same_latches law design flat order p = fun_ext (λ name. law design flat p.faultless p.is_flat name)
+
+pub starts_refused : LatchesAreFlat → (contexts : ℕ) (starts : List (List ℕ)) (text : List ℕ) (design : Design) (flat : Flat) (order : List ℕ) (e : StartError) → IsNetlist text design → AreParts design flat order
+    → HasStartCause (flat_latches flat) contexts starts e → HasTextCause (compile contexts starts) text (starts_error e)
+starts_refused law contexts starts text design flat order starts_of.NoMemory is p h = tt
+starts_refused law contexts starts text design flat order (starts_of.Fault fault) is p h = record {
+  design = design;
+  netlist = is;
+  at_fault = ap (λ latches. first_fault latches contexts starts) (sym (same_latches law design flat order p)) ∙ h;
+}
+
+pub has_starts : LatchesAreFlat → (contexts : ℕ) (starts : List (List ℕ)) (text : List ℕ) (design : Design) (flat : Flat) (order : List ℕ) → IsNetlist text design → AreParts design flat order
+    → first_fault (flat_latches flat) contexts starts ≡ None → HasStarts contexts starts text design
+has_starts law contexts starts text design flat order is p none = record {
+  netlist = is;
+  no_fault = ap (λ latches. first_fault latches contexts starts) (sym (same_latches law design flat order p)) ∙ none;
+}
+
+-- a netlist has few latches
+pub few_latches : (design : Design) (flat : Flat) (order : List ℕ) → AreParts design flat order → length flat.latches < 2 ^ 32
+few_latches design flat order p =
+    let few = parts_are_few design flat p.is_flat in
+    let light : weight design ≤ 1024 = p.light in
+    omega (arith, few, light)
+
+-- the plan by which a design is carried
+pub carried_by : FlatIsOne → DesignsAreCarried → (design : Design) (flat : Flat) (order : List ℕ) (plan : Plan) (ports : Ports) → AreParts design flat order
+    → IsAdmissible plan → HasStartEdges plan → IsTableOf flat plan 1 ports → ComputesCells flat plan → HasLanes flat plan → HasNetPlaces flat plan → CarriesFlat (pattern_text (start_grid plan) ports) flat → IsSmall flat plan
+    → (length flat.latches ≡ 0 → any_needs_one flat ≡ false → ports.p ≡ 32)
+    → IsCarriedBy design plan ports
+carried_by one law design flat order plan ports p admissible edges table cells size places carries few period =
     let nets : CarriesNets (pattern_text (start_grid plan) ports) design = law (pattern_text (start_grid plan) ports) design flat p.faultless p.clocks p.is_flat carries in
     record {
-      design = design;
-      netlist = is;
-      plan = plan;
-      ports = ports;
       admissible = admissible;
-      written = refl;
+      edges = edges;
       carries = nets.carried;
       nets = nets;
       lanes = subst (λ (w : ℕ). plan.lanes ≤ 4 * w + 4) p.is_flat.weight few.lanes;
@@ -56,3 +109,186 @@ compiles one law text design flat order plan ports is p admissible table cells s
       places = λ other h. subst (λ (f : Flat). HasNetPlaces f plan) (one design flat other p.is_flat h) places;
       period = λ other h. subst (λ (f : Flat). length f.latches ≡ 0 → any_needs_one f ≡ false → ports.p ≡ 32) (one design flat other p.is_flat h) period;
     }
+
+-- ---- room
+
+-- what is listed at places is as many, whatever is made of it
+many_at_places : {X Y Z : Type 0} (design : Design) (items : Model → List X) (f : Place → X → Y) (g : Place → X → Z) → length (at_places design items f) ≡ length (at_places design items g)
+many_at_places {X} {Y} {Z} design items f g = go (places_in_order design)
+  where
+    found : Place → List X
+    found place = of_some items (model_at design place)
+
+    go : (places : List Place) → length (flat_map (λ place. map (f place) (found place)) places) ≡ length (flat_map (λ place. map (g place) (found place)) places)
+    go [] = refl
+    go (place ∷ places) =
+        let rest = go places in
+        omega (
+          arith,
+          length-append (map (f place) (found place)) (flat_map (λ p. map (f p) (found p)) places),
+          length-append (map (g place) (found place)) (flat_map (λ p. map (g p) (found p)) places),
+          length-map (found place) (f place),
+          length-map (found place) (g place),
+          rest,
+        )
+
+many_latches : (design : Design) (flat : Flat) → IsFlatOf design flat → length flat.latches ≡ latch_count design
+many_latches design flat is =
+    ap (λ latches. length latches) is.latches
+    ∙ many_at_places design (λ (model : Model). model.latches) (flat_latch design) (λ place latch. latch)
+
+-- of the period of a plan
+room_of_period : (plan : Plan) (latches : ℕ) → IsAdmissible plan → latches ≤ plan.latches → max 1 (6 * latches) ≤ period_of plan / 32
+room_of_period plan latches admissible few = go (plan.latches == 0) refl
+  where
+    go : (b : Bool) → (plan.latches == 0) ≡ b → max 1 (6 * latches) ≤ cond b 32 (32 * (2 * length plan.columns + 4 * plan.latches)) / 32
+    go true none =
+        let zero : plan.latches ≡ 0 = eqb-true plan.latches 0 none in
+        max-le (omega arith) (omega (arith, few, zero))
+    go false some =
+        let columns = admissible.size.loops_in_columns in
+        let not_zero : plan.latches ≢ 0 = eqb-false plan.latches 0 some in
+        max-le (omega (arith, columns, not_zero)) (omega (arith, few, columns))
+
+pub least_room_of : (design : Design) (flat : Flat) (plan : Plan) (ports : Ports) → IsFlatOf design flat → IsCarriedBy design plan ports → least_room design ≤ ports.p / 32
+least_room_of design flat plan ports is h =
+    let cells = (h.cells flat is).loops in
+    let few : length flat.latches ≤ plan.latches = omega (arith, cells) in
+    subst (λ (p : ℕ). least_room design ≤ p / 32) (sym (h.table flat is).period)
+    (subst (λ (n : ℕ). max 1 (6 * n) ≤ period_of plan / 32) (many_latches design flat is) (room_of_period plan (length flat.latches) h.admissible few))
+
+pub room_refused : (contexts : ℕ) (starts : List (List ℕ)) (text : List ℕ) (design : Design) (flat : Flat) (plan : Plan) (ports : Ports) → HasStarts contexts starts text design → IsFlatOf design flat
+    → IsCarriedBy design plan ports → ports.p / 32 < contexts → HasNoRoom contexts starts text (ports.p / 32)
+room_refused contexts starts text design flat plan ports has is h over = record {
+  design = design;
+  has = has;
+  plan = plan;
+  ports = ports;
+  is_carried = h;
+  limit_is = refl;
+  least = least_room_of design flat plan ports is h;
+  over = over;
+}
+
+-- ---- starts
+
+pub many_starts : (flat : Flat) (starts : List (List ℕ)) (contexts : ℕ) (bits : List (List Bool)) → bits ≡ flat_starts flat starts contexts → length bits ≡ contexts
+many_starts flat starts contexts bits e = ap (λ (l : List (List Bool)). length l) e ∙ length-map-range_with_len (flat_start_bits flat starts) 0 contexts
+
+pub long_starts : (flat : Flat) (starts : List (List ℕ)) (contexts : ℕ) (bits : List (List Bool)) → bits ≡ flat_starts flat starts contexts
+    → All (λ (b : List Bool). length b ≡ length flat.latches) bits
+long_starts flat starts contexts bits e =
+    subst (All (λ (b : List Bool). length b ≡ length flat.latches)) (sym e)
+    (All-map (λ (b : List Bool). length b ≡ length flat.latches) (flat_start_bits flat starts) (range_with_len 0 contexts)
+    (λ i d lt. length-map flat.latches (flat_start_bit flat starts (get_or (range_with_len 0 contexts) i d))))
+
+-- ---- what is written
+
+-- no columns are added for one context,
+one_needs_none : (loops : ℕ) → contexts_size loops 1 ≡ 0
+one_needs_none loops = go (loops == 0) refl
+  where
+    go : (b : Bool) → (loops == 0) ≡ b → cond b 0 (1 - 4 * loops) ≡ 0
+    go true e = refl
+    go false e = let not_zero : loops ≢ 0 = eqb-false loops 0 e in omega (arith, not_zero)
+
+unpadded : (plan : Plan) → IsPaddedPlan (contexts_size plan.latches 1) plan plan
+unpadded plan = record {
+  lanes = refl;
+  latches = refl;
+  ins = refl;
+  outs = refl;
+  nets = refl;
+  columns = record {
+    more = [];
+    is = sym (append-nil plan.columns);
+    empty = λ i d lt. absurd (omega (arith, lt));
+    count = omega (arith, one_needs_none plan.latches);
+  };
+}
+
+no_words : NoWordsMeanStart → (design : Design) → start_state design ∷ [] ≡ starts_of_words design [] 1
+no_words law design = ap (λ (s : LatchState). s ∷ []) (sym (law design 0))
+
+-- the plan itself, in one context and without words
+pub compiles_alone : OneContextCarries → OneContextCarriesNets → NoWordsMeanStart → (text : List ℕ) (design : Design) (plan : Plan) (ports : Ports) → HasStarts 1 [] text design → IsCarriedBy design plan ports
+    → 1 ≤ ports.p / 32 → Compiles 1 [] text (pattern_text (start_grid plan) ports)
+compiles_alone carry carry_nets none text design plan ports has h room =
+    let output = pattern_text (start_grid plan) ports in
+    record {
+      design = design;
+      has = has;
+      base = plan;
+      base_ports = ports;
+      is_carried = h;
+      room = room;
+      plan = plan;
+      ports = ports;
+      admissible = h.admissible;
+      edges = h.edges;
+      padded = unpadded plan;
+      alone = λ one empty. (refl, refl);
+      table = h.table;
+      places = h.places;
+      written = refl;
+      carries = subst (CarriesContexts output design) (no_words none design) ((carry output design).0 h.carries);
+      nets = subst (CarriesNetsInContexts output design) (no_words none design) ((carry_nets output design).0 h.nets);
+    }
+
+-- where this is what is asked for
+pub alone : {X : Type 0} (f : X → List ℕ) (contexts : ℕ) (words : List X) → (contexts == 1 && length words == 0) ≡ true → (contexts ≡ 1) × (map f words ≡ [])
+alone f contexts [] e = (eqb-true contexts 1 (and_parts (contexts == 1) true e).0, refl)
+alone f contexts (w ∷ ws) e = let none : length (w ∷ ws) ≡ 0 = eqb-true (length (w ∷ ws)) 0 (and_parts (contexts == 1) (length (w ∷ ws) == 0) e).1 in absurd (omega (arith, none))
+
+pub not_alone : {X : Type 0} (f : X → List ℕ) (contexts : ℕ) (words : List X) → (contexts == 1 && length words == 0) ≡ false → contexts ≡ 1 → map f words ≡ [] → ⊥
+not_alone f contexts [] e one empty = true≢false (sym (ap (λ (n : ℕ). n == 1 && true) one) ∙ e)
+not_alone f contexts (w ∷ ws) e one empty = cc
+
+pub compiles_plain : OneContextCarries → OneContextCarriesNets → NoWordsMeanStart → (contexts : ℕ) (starts : List (List ℕ)) → (contexts ≡ 1) × (starts ≡ []) → (text : List ℕ) (design : Design) (plan : Plan) (ports : Ports)
+    → HasStarts contexts starts text design → IsCarriedBy design plan ports → contexts ≤ ports.p / 32 → Compiles contexts starts text (pattern_text (start_grid plan) ports)
+compiles_plain carry carry_nets none contexts starts (one, empty) text design plan ports has h room =
+    let output = pattern_text (start_grid plan) ports in
+    subst (λ (n : ℕ). Compiles n starts text output) (sym one)
+    (subst (λ (ws : List (List ℕ)). Compiles 1 ws text output) (sym empty)
+    (compiles_alone carry carry_nets none text design plan ports
+    (subst (λ (n : ℕ). HasStarts n [] text design) one (subst (λ (ws : List (List ℕ)). HasStarts contexts ws text design) empty has)) h (subst (λ (n : ℕ). n ≤ ports.p / 32) one room)))
+
+-- and in contexts, from the starts that the words say
+pub compiles : FlatIsOne → DesignsAreCarriedInContexts → StartsAreFlat → (contexts : ℕ) (starts : List (List ℕ)) (text : List ℕ) (design : Design) (flat : Flat) (order : List ℕ) (base : Plan) (base_ports : Ports) (plan : Plan) (ports : Ports)
+    → HasStarts contexts starts text design → AreParts design flat order → IsCarriedBy design base base_ports → contexts ≤ base_ports.p / 32
+    → (contexts ≡ 1 → starts ≡ [] → ⊥) → IsAdmissible plan → HasStartEdges plan → IsPaddedPlan (contexts_size base.latches contexts) base plan
+    → IsTableOf flat plan contexts ports → HasNetPlaces flat plan → CarriesFlatContexts (pattern_text (start_grid plan) ports) flat (flat_starts flat starts contexts)
+    → Compiles contexts starts text (pattern_text (start_grid plan) ports)
+compiles one law flat_law contexts starts text design flat order base base_ports plan ports has p h room several admissible edges padded table places carries =
+    let output = pattern_text (start_grid plan) ports in
+    let states = starts_of_words design starts contexts in
+    let by_states : CarriesFlatContexts output flat (map (state_in_order design) states) =
+    subst (CarriesFlatContexts output flat) (flat_law design flat p.faultless p.is_flat starts contexts) carries in
+    let nets : CarriesNetsInContexts output design states = law output design flat p.faultless p.clocks p.is_flat states by_states in
+    record {
+      design = design;
+      has = has;
+      base = base;
+      base_ports = base_ports;
+      is_carried = h;
+      room = room;
+      plan = plan;
+      ports = ports;
+      admissible = admissible;
+      edges = edges;
+      padded = padded;
+      alone = λ is_one empty. absurd (several is_one empty);
+      table = λ other is. subst (λ (f : Flat). IsTableOf f plan contexts ports) (one design flat other p.is_flat is) table;
+      places = λ other is. subst (λ (f : Flat). HasNetPlaces f plan) (one design flat other p.is_flat is) places;
+      written = refl;
+      carries = nets.carried;
+      nets = nets;
+    }
+
+-- what is written of a design in one context and without words carries it, and its nets
+pub carries_alone : (text output : List ℕ) → (c : Compiles 1 [] text output) → Carries output c.design × CarriesNets output c.design
+carries_alone text output c =
+    let same = c.alone refl refl in
+    let written : pattern_text (start_grid c.base) c.base_ports ≡ output =
+    ap₂ (λ (plan : Plan) (ports : Ports). pattern_text (start_grid plan) ports) (sym same.0) (sym same.1) ∙ sym c.written in
+    (subst (λ (text : List ℕ). Carries text c.design) written c.is_carried.carries, subst (λ (text : List ℕ). CarriesNets text c.design) written c.is_carried.nets)

@@ -3,11 +3,12 @@ use Rattle.std.proofs.Common.{ℕ, ◌≡◌, refl, subst, List}
 use Rattle.command_words.specs.Shapes.{CommandValues, compile, simulate, eval, probe, window, make, self_}
 use Rattle.blifww_tool.specs.Commands.{Accepts, Prints, Refuses, MustRefuse, AreAlike}
 use Rattle.blifww_tool.specs.declared.causes.Cause.{Cause}
-use Rattle.blifww_tool.specs.declared.causes.Cause.TheVariants.{NetlistFault, WeightTooLarge, Loop, Pattern, GridTooLarge, PortTable, Streams, NoSuchNet, TooFar}
+use Rattle.blifww_tool.specs.declared.causes.Cause.TheVariants.{NetlistFault, WeightTooLarge, Loop, Pattern, GridTooLarge, PortTable, Streams, StartWord, NoSuchNet, TooFar, TooManyContexts}
 use Rattle.made_summary.proofs.InTime.{few_cycles_are_in_time}
 use Rattle.blifww_tool.proofs.SimulationOrNot.{simulation_or_not, one_streams_cause, simulates_or_not, one_cause as one_cause_of_simulation}
 use Rattle.blifww_tool.proofs.ProbeOrNot.{probes_or_not, one_cause as one_cause_of_probe}
-use Rattle.blifww_tool.proofs.EvaluationOrNot.{netlist_or_not, one_cause_of_netlist, evaluates_or_not, one_cause as one_cause_of_evaluation}
+use Rattle.blifww_tool.proofs.EvaluationOrNot.{evaluates_or_not, one_cause as one_cause_of_evaluation}
+use Rattle.blifww_tool.proofs.CompilationOrNot.{accepts_or_not, compiles_or_not, one_cause as one_cause_of_compilation}
 
 -- a made netlist whose plans all run in time is not refused
 in_time_or_not : (seed size cycles : ℕ) (text : List ℕ) (cause : Cause) → Accepts (self_ seed size cycles) text → Refuses (self_ seed size cycles) text cause → ⊥
@@ -18,11 +19,13 @@ in_time_or_not seed size cycles text (Pattern f) h k = k
 in_time_or_not seed size cycles text (GridTooLarge x y) h k = k
 in_time_or_not seed size cycles text (PortTable f) h k = k
 in_time_or_not seed size cycles text (Streams f) h k = k
+in_time_or_not seed size cycles text (StartWord f) h k = k
 in_time_or_not seed size cycles text (NoSuchNet name) h k = k
 in_time_or_not seed size cycles text (TooFar n) h k = few_cycles_are_in_time seed size cycles n h k
+in_time_or_not seed size cycles text (TooManyContexts n limit) h k = k
 
 pub accepted_or_refused : (command : CommandValues) (text : List ℕ) (cause : Cause) → Accepts command text → Refuses command text cause → ⊥
-accepted_or_refused compile text cause h k = netlist_or_not text h.0 cause h.1 k
+accepted_or_refused (compile contexts starts) text cause h k = accepts_or_not contexts starts text h.0 cause h.1 h.2 k
 accepted_or_refused (simulate cycles words) text cause h k = simulates_or_not cycles words text h.0 cause h.1 k
 accepted_or_refused (eval cycles words) text cause h k = evaluates_or_not cycles words text h.0 cause h.1 k
 accepted_or_refused (probe cycles net path words) text cause h k = probes_or_not cycles net path words text h.0 cause h.1 k
@@ -32,7 +35,7 @@ accepted_or_refused (self_ seed size cycles) text cause h k = in_time_or_not see
 
 -- what is printed is of a text that the command need not refuse
 pub printed_or_refused : (command : CommandValues) (text output : List ℕ) (cause : Cause) → Prints command text output → MustRefuse command text cause → ⊥
-printed_or_refused compile text output cause h k = netlist_or_not text h.design cause h.netlist k
+printed_or_refused (compile contexts starts) text output cause h k = compiles_or_not contexts starts text h.design cause h.has k
 printed_or_refused (simulate cycles words) text output cause h k = simulates_or_not cycles words text h.0 cause h.1 k
 printed_or_refused (eval cycles words) text output cause h k = evaluates_or_not cycles words text h.evaluation cause h.is k
 printed_or_refused (probe cycles net path words) text output cause h k = probes_or_not cycles net path words text h.0 cause h.1 k
@@ -52,11 +55,13 @@ alike_if_same a b e = subst (AreAlike a) e (itself a)
     itself (GridTooLarge x y) = refl
     itself (PortTable f) = refl
     itself (Streams f) = refl
+    itself (StartWord f) = refl
     itself (NoSuchNet name) = refl
     itself (TooFar n) = refl
+    itself (TooManyContexts n limit) = refl
 
 pub one_cause : (command : CommandValues) (text : List ℕ) (a b : Cause) → Refuses command text a → MustRefuse command text b → AreAlike a b
-one_cause compile text a b h k = one_cause_of_netlist text a b h k
+one_cause (compile contexts starts) text a b h k = one_cause_of_compilation contexts starts text a b h k
 one_cause (simulate cycles words) text a b h k = alike_if_same a b (one_cause_of_simulation cycles words text a b h k)
 one_cause (eval cycles words) text a b h k = one_cause_of_evaluation cycles words text a b h k
 one_cause (probe cycles net path words) text a b h k = alike_if_same a b (one_cause_of_probe cycles net path words text a b h k)

@@ -15,7 +15,7 @@ use Rattle.blifww_tool.specs.Commands.{AreAlike}
 use Rattle.blifww_tool.specs.Compilation.{HasNoNetlist}
 use Rattle.blifww_tool.specs.Evaluation.{Evaluation, IsEvaluation, HasNoEvaluation}
 use Rattle.blifww_tool.specs.declared.causes.Cause.{Cause}
-use Rattle.blifww_tool.specs.declared.causes.Cause.TheVariants.{NetlistFault, WeightTooLarge, Loop, Pattern, GridTooLarge, PortTable, Streams, NoSuchNet, TooFar}
+use Rattle.blifww_tool.specs.declared.causes.Cause.TheVariants.{NetlistFault, WeightTooLarge, Loop, Pattern, GridTooLarge, PortTable, Streams, StartWord, NoSuchNet, TooFar, TooManyContexts}
 
 -- a netlist with its IN names, as a text has them
 pub record IsRead (text : List ℕ) (design : Design) (names : List Name) : Type 0 where
@@ -37,8 +37,10 @@ reason_of cycles words text (Pattern fault) h = absurd h
 reason_of cycles words text (GridTooLarge width height) h = absurd h
 reason_of cycles words text (PortTable fault) h = absurd h
 reason_of cycles words text (Streams fault) h = by_streams fault refl h.0 h.1 (record { netlist = h.2; are_names = h.3 }) h.4
+reason_of cycles words text (StartWord fault) h = absurd h
 reason_of cycles words text (NoSuchNet name) h = absurd h
 reason_of cycles words text (TooFar generations) h = absurd h
+reason_of cycles words text (TooManyContexts contexts limit) h = absurd h
 
 -- the IN names of a text are one list
 same_names : (text : List ℕ) (a b : Design) (ns ms : List Name) → IsRead text a ns → IsRead text b ms → ns ≡ ms
@@ -63,7 +65,7 @@ not_refused cycles words text e r h (by_streams fault is design names read k) = 
 pub evaluates_or_not : (cycles : ℕ) (words : List (List ℕ)) (text : List ℕ) (e : Evaluation) (r : Cause) → IsEvaluation cycles words text e → HasNoEvaluation cycles words text r → ⊥
 evaluates_or_not cycles words text e r h k = not_refused cycles words text e r h (reason_of cycles words text r k)
 
-alike : (r r' a b : Cause) → r ≡ a → r' ≡ b → AreAlike a b → AreAlike r r'
+pub alike : (r r' a b : Cause) → r ≡ a → r' ≡ b → AreAlike a b → AreAlike r r'
 alike r r' a b e f h = subst (λ (x : Cause). AreAlike x r') (sym e) (subst (AreAlike a) (sym f) h)
 
 one_reason : (cycles : ℕ) (words : List (List ℕ)) (text : List ℕ) (r r' : Cause) → Reason cycles words text r → Reason cycles words text r' → AreAlike r r'
@@ -97,8 +99,10 @@ netlist_or_not text design (Pattern fault) h k = k
 netlist_or_not text design (GridTooLarge width height) h k = k
 netlist_or_not text design (PortTable fault) h k = k
 netlist_or_not text design (Streams fault) h k = k
+netlist_or_not text design (StartWord fault) h k = k
 netlist_or_not text design (NoSuchNet name) h k = k
 netlist_or_not text design (TooFar generations) h k = k
+netlist_or_not text design (TooManyContexts contexts limit) h k = k
 
 no_evaluation : (text : List ℕ) (r : Cause) → HasNoNetlist text r → HasNoEvaluation 1 [] text r
 no_evaluation text (NetlistFault fault) h = h
@@ -108,8 +112,10 @@ no_evaluation text (Pattern fault) h = absurd h
 no_evaluation text (GridTooLarge width height) h = absurd h
 no_evaluation text (PortTable fault) h = absurd h
 no_evaluation text (Streams fault) h = absurd h
+no_evaluation text (StartWord fault) h = absurd h
 no_evaluation text (NoSuchNet name) h = absurd h
 no_evaluation text (TooFar generations) h = absurd h
+no_evaluation text (TooManyContexts contexts limit) h = absurd h
 
 pub one_cause_of_netlist : (text : List ℕ) (r r' : Cause) → HasNoNetlist text r → HasNoNetlist text r' → AreAlike r r'
 one_cause_of_netlist text r r' h k = one_cause 1 [] text r r' (no_evaluation text r h) (no_evaluation text r' k)

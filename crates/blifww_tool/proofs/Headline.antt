@@ -1,17 +1,31 @@
 -- What `compile` has written carries what it read.
-use Rattle.std.proofs.Common.{◌≡◌, ℕ, subst, List}
+use Rattle.std.proofs.Common.{◌≡◌, ℕ, subst, List, []}
 use Rattle.blif_text.specs.Faults.{IsDesignOf}
 use Rattle.command_words.specs.Shapes.{CommandValues, compile}
 use Rattle.blifww_tool.specs.Commands.{Prints}
-use Rattle.blifww_tool.specs.Headline.{WritesWhatItRead}
+use Rattle.blifww_tool.specs.Compilation.{Compiles}
+use Rattle.blifww_tool.specs.Headline.{WritesInContexts, WritesWhatItRead}
 use Rattle.blifww_tool.specs.Run.{Asks, Reading, Writing, GaveAll, HasText, Does}
 use Rattle.blifww_tool.proofs.Given.{gave_whole, gained_whole, one_command}
+use Rattle.blifww_tool.proofs.Compiled.{carries_alone}
 
-pub headline : (words : List (List ℕ)) (src : Reading) (out : Writing) → Does words src out (λ output. output) → Asks words compile → WritesWhatItRead src out
-headline words src out d asks text before has held =
-    let same : d.command ≡ compile = one_command words d.command compile d.asked.asks asks in
-    let prints : Prints compile d.text d.output = subst (λ (v : CommandValues). Prints v d.text d.output) same d.prints in
-    let given : GaveAll src d.text = subst (λ (v : CommandValues). HasText v src d.text) same d.given in
-    let is : IsDesignOf text prints.design =
-    subst (λ (t : List ℕ). IsDesignOf t prints.design) (gave_whole src.left src.left_after d.text text given.consumed given.end has) prints.netlist.is.design_of in
-    (d.output, gained_whole out.written out.written_after d.output before d.wrote held, prints.design, is, prints.carries, prints.nets)
+module _ (words : List (List ℕ)) (src : Reading) (out : Writing) (d : Does words src out (λ output. output)) where
+  prints : (contexts : ℕ) (starts : List (List ℕ)) → Asks words (compile contexts starts) → Compiles contexts starts d.text d.output
+  prints contexts starts asks = subst (λ (v : CommandValues). Prints v d.text d.output) (one_command words d.command (compile contexts starts) d.asked.asks asks) d.prints
+
+  read : (contexts : ℕ) (starts : List (List ℕ)) (asks : Asks words (compile contexts starts)) (text : List ℕ) → src.left ≡ Some text → IsDesignOf text (prints contexts starts asks).design
+  read contexts starts asks text has =
+      let given : GaveAll src d.text = subst (λ (v : CommandValues). HasText v src d.text) (one_command words d.command (compile contexts starts) d.asked.asks asks) d.given in
+      let p = prints contexts starts asks in
+      subst (λ (t : List ℕ). IsDesignOf t p.design) (gave_whole src.left src.left_after d.text text given.consumed given.end has) p.has.netlist.is.design_of
+
+  pub headline : Asks words (compile 1 []) → WritesWhatItRead src out
+  headline asks text before has held =
+      let p = prints 1 [] asks in
+      let carries = carries_alone d.text d.output p in
+      (d.output, gained_whole out.written out.written_after d.output before d.wrote held, p.design, read 1 [] asks text has, carries.0, carries.1)
+
+  pub in_contexts : (contexts : ℕ) (starts : List (List ℕ)) → Asks words (compile contexts starts) → WritesInContexts contexts starts src out
+  in_contexts contexts starts asks text before has held =
+      let p = prints contexts starts asks in
+      (d.output, gained_whole out.written out.written_after d.output before d.wrote held, p.design, read contexts starts asks text has, p.carries, p.nets)

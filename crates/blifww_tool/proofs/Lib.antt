@@ -5,6 +5,7 @@ pub mod OutputLines
 pub mod SimulationOrNot
 pub mod ProbeOrNot
 pub mod EvaluationOrNot
+pub mod CompilationOrNot
 pub mod Evaluated
 pub mod Compiled
 pub mod Simulated

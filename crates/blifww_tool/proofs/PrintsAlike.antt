@@ -20,6 +20,7 @@ use Rattle.blifww_tool.specs.Lines.{bits_line}
 use Rattle.blifww_tool.specs.Simulation.{Simulation, IsSimulation, simulation_text}
 use Rattle.blifww_tool.specs.Evaluation.{Evaluation, IsEvaluation, evaluation_text}
 use Rattle.blifww_tool.specs.PrintsAlike.{CarriersPrintAlike, CompiledPrintAlike}
+use Rattle.blifww_tool.proofs.Compiled.{carries_alone}
 
 -- the lines of a pattern with a table
 abbrev lines_shown : Streams → Ports → Grid → List ℕ
@@ -51,4 +52,4 @@ carriers_print_alike law match decided text netlist design is carried cycles wor
 
 pub compiled_print_alike : CarriersShowRuns → StreamsMatch → TextsAreDecided → CompiledPrintAlike
 compiled_print_alike law match decided text netlist compiled cycles words shown evaluated simulated evaluates =
-    carriers_print_alike law match decided text netlist compiled.design compiled.netlist compiled.carries cycles words shown evaluated simulated evaluates
+    carriers_print_alike law match decided text netlist compiled.design compiled.has.netlist (carries_alone netlist text compiled).0 cycles words shown evaluated simulated evaluates

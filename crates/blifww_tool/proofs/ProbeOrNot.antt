@@ -8,7 +8,7 @@ use Rattle.probe_view.specs.Probes.{net_named, last_probed, IsTooFar}
 use Rattle.blifww_tool.specs.Simulation.{Simulation, IsSimulation, HasNoStreams}
 use Rattle.blifww_tool.specs.Probing.{Probes, HasNoProbe}
 use Rattle.blifww_tool.specs.declared.causes.Cause.{Cause}
-use Rattle.blifww_tool.specs.declared.causes.Cause.TheVariants.{NetlistFault, WeightTooLarge, Loop, Pattern, GridTooLarge, PortTable, Streams, NoSuchNet, TooFar}
+use Rattle.blifww_tool.specs.declared.causes.Cause.TheVariants.{NetlistFault, WeightTooLarge, Loop, Pattern, GridTooLarge, PortTable, Streams, StartWord, NoSuchNet, TooFar, TooManyContexts}
 use Rattle.blifww_tool.proofs.SimulationOrNot.{read_of, same_ports, simulation_or_not, one_streams_cause}
 
 -- the ways to be refused
@@ -25,8 +25,10 @@ reason_of cycles name path words text (Pattern fault) h = early h
 reason_of cycles name path words text (GridTooLarge width height) h = early h
 reason_of cycles name path words text (PortTable fault) h = early h
 reason_of cycles name path words text (Streams fault) h = early h
+reason_of cycles name path words text (StartWord fault) h = early h
 reason_of cycles name path words text (NoSuchNet told) h = by_net (ap NoSuchNet h.2) h.0 h.1 h.3
 reason_of cycles name path words text (TooFar generations) h = late generations refl h.0 h.1 h.2
+reason_of cycles name path words text (TooManyContexts contexts limit) h = early h
 
 -- two simulations of a text have one net of a name and path
 same_net : (cycles : ℕ) (name path : List ℕ) (words : List (List ℕ)) (text : List ℕ) (s t : Simulation) → IsSimulation cycles words text s → IsSimulation cycles words text t

@@ -9,7 +9,7 @@ use Rattle.blifww_tool.specs.Probing.{HasNoProbe}
 use Rattle.blifww_tool.specs.Refusals.{probe_error}
 use Rattle.blifww_tool.specs.Simulation.{Simulation, IsSimulation, HasNoStreams, HasStreamsCause}
 use Rattle.blifww_tool.specs.declared.causes.Cause.{Cause}
-use Rattle.blifww_tool.specs.declared.causes.Cause.TheVariants.{NetlistFault, WeightTooLarge, Loop, Pattern, GridTooLarge, PortTable, Streams, NoSuchNet, TooFar}
+use Rattle.blifww_tool.specs.declared.causes.Cause.TheVariants.{NetlistFault, WeightTooLarge, Loop, Pattern, GridTooLarge, PortTable, Streams, StartWord, NoSuchNet, TooFar, TooManyContexts}
 use Rattle.blifww_tool.specs.declared.causes.TextError.{TextError}
 use Rattle.blifww_tool.specs.declared.causes.TextError.TheVariants.{Refused, NoMemory}
 
@@ -21,8 +21,10 @@ cause_of cycles name path words text (Pattern f) h = h
 cause_of cycles name path words text (GridTooLarge x y) h = h
 cause_of cycles name path words text (PortTable f) h = h
 cause_of cycles name path words text (Streams f) h = h
+cause_of cycles name path words text (StartWord f) h = h
 cause_of cycles name path words text (NoSuchNet n) h = absurd h
 cause_of cycles name path words text (TooFar n) h = absurd h
+cause_of cycles name path words text (TooManyContexts n limit) h = h
 
 -- a text and words that are no simulation,
 pub simulation_refused : (cycles : ℕ) (name path : List ℕ) (words : List (List ℕ)) (text : List ℕ) (e : TextError) → HasStreamsCause cycles words text e → HasTextCause (probe cycles name path words) text e

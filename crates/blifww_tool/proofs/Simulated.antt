@@ -14,7 +14,7 @@ use Rattle.blifww_tool.specs.Commands.{HasTextCause}
 use Rattle.blifww_tool.specs.Refusals.{simulate_error}
 use Rattle.blifww_tool.specs.Simulation.{Simulation, IsSimulation, last_shown, HasNoStreams, HasNoSimulation, HasStreamsCause}
 use Rattle.blifww_tool.specs.declared.causes.Cause.{Cause}
-use Rattle.blifww_tool.specs.declared.causes.Cause.TheVariants.{NetlistFault, WeightTooLarge, Loop, Pattern, GridTooLarge, PortTable, Streams, NoSuchNet, TooFar}
+use Rattle.blifww_tool.specs.declared.causes.Cause.TheVariants.{NetlistFault, WeightTooLarge, Loop, Pattern, GridTooLarge, PortTable, Streams, StartWord, NoSuchNet, TooFar, TooManyContexts}
 use Rattle.blifww_tool.specs.declared.causes.TextError.{TextError}
 use Rattle.blifww_tool.specs.declared.causes.TextError.TheVariants.{Refused, NoMemory}
 
@@ -30,8 +30,10 @@ cause_of cycles words text (Pattern f) h = h
 cause_of cycles words text (GridTooLarge x y) h = h
 cause_of cycles words text (PortTable f) h = h
 cause_of cycles words text (Streams f) h = h
+cause_of cycles words text (StartWord f) h = h
 cause_of cycles words text (NoSuchNet name) h = h
 cause_of cycles words text (TooFar n) h = absurd h
+cause_of cycles words text (TooManyContexts n limit) h = h
 
 -- a text and words that are no simulation
 pub simulation_refused : (cycles : ℕ) (words : List (List ℕ)) (text : List ℕ) (e : TextError) → HasStreamsCause cycles words text e → HasTextCause (simulate cycles words) text e

@@ -19,7 +19,7 @@ use Rattle.drive.specs.Driving.{last_generation, greatest_generation}
 use Rattle.pattern_reading.specs.Ports.{names_of}
 use Rattle.blifww_tool.specs.Simulation.{Simulation, IsSimulation, Simulates, HasNoStreams, HasNoSimulation}
 use Rattle.blifww_tool.specs.declared.causes.Cause.{Cause}
-use Rattle.blifww_tool.specs.declared.causes.Cause.TheVariants.{NetlistFault, WeightTooLarge, Loop, Pattern, GridTooLarge, PortTable, Streams, NoSuchNet, TooFar}
+use Rattle.blifww_tool.specs.declared.causes.Cause.TheVariants.{NetlistFault, WeightTooLarge, Loop, Pattern, GridTooLarge, PortTable, Streams, StartWord, NoSuchNet, TooFar, TooManyContexts}
 
 -- a pattern with ports, as a text has them
 pub record IsRead (text : List ℕ) (grid : Grid) (ports : Ports) : Type 0 where
@@ -41,8 +41,10 @@ reason_of cycles words text (Pattern fault) h = by_pattern fault refl h
 reason_of cycles words text (GridTooLarge width height) h = by_box width height refl h
 reason_of cycles words text (PortTable fault) h = by_table fault refl h.0 h.1 h.2
 reason_of cycles words text (Streams fault) h = by_streams fault refl h.0 h.1 record { pattern = h.2; table = h.3 } h.4
+reason_of cycles words text (StartWord fault) h = absurd h
 reason_of cycles words text (NoSuchNet name) h = absurd h
 reason_of cycles words text (TooFar generations) h = absurd h
+reason_of cycles words text (TooManyContexts contexts limit) h = absurd h
 
 pub read_of : (cycles : ℕ) (words : List (List ℕ)) (text : List ℕ) (s : Simulation) → IsSimulation cycles words text s → IsRead text s.grid s.ports
 read_of cycles words text s h = record { pattern = h.pattern; table = h.table }
@@ -151,8 +153,10 @@ late_of cycles words text (Pattern fault) h = early h
 late_of cycles words text (GridTooLarge width height) h = early h
 late_of cycles words text (PortTable fault) h = early h
 late_of cycles words text (Streams fault) h = early h
+late_of cycles words text (StartWord fault) h = early h
 late_of cycles words text (NoSuchNet name) h = early h
 late_of cycles words text (TooFar generations) h = late generations refl h.0 h.1 h.2 h.3
+late_of cycles words text (TooManyContexts contexts limit) h = early h
 
 -- a simulation that is near enough is not refused
 near_or_late : (cycles : ℕ) (words : List (List ℕ)) (text : List ℕ) (s : Simulation) (r : Cause) → Simulates cycles words text s → Late cycles words text r → ⊥

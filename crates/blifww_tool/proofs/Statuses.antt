@@ -1,17 +1,19 @@
 -- Each status of a run comes only where its cause is.
-use Rattle.std.proofs.Common.{ℕ, zero, ◌≡◌, ◌≢◌, ◌⊎◌, refl, sym, ◌∙◌, subst, List, inl, inr, arith}
+use Rattle.std.proofs.Common.{ℕ, zero, ◌≡◌, ◌≢◌, ◌≤◌, ◌*◌, ◌⊎◌, refl, sym, ◌∙◌, subst, List, [], inl, inr, arith}
+use Rattle.std.proofs.Math.Nat.{le-max_left}
 use Rattle.std.proofs.lemmas.Bool.{cases_eq}
 use Rattle.command_words.specs.Shapes.{CommandValues, compile, simulate, eval, probe, window, make, self_, IsCommand}
 use Rattle.netlist_core.specs.Names.{Name}
 use Rattle.netlist_rules.specs.declared.fault.Fault.{Fault}
 use Rattle.netlist_text.specs.NetlistText.{IsAtFault, IsTooHeavy, HasLoop}
 use Rattle.blifww_tool.specs.Commands.{Refuses}
+use Rattle.blifww_tool.specs.Compilation.{HasNoRoom, latch_count, least_room}
 use Rattle.blifww_tool.specs.Refusals.{status_of, status_of_cause}
 use Rattle.blifww_tool.specs.Run.{Call, Reading, Asks, IsAsked, GaveTooMany, GaveAll, HasText, ReadFailed, WriteFailed, HasReason, RefusesText, IsRefused, CutsLine, CutsOutput, Ends}
 use Rattle.blifww_tool.specs.Statuses.{StatusesHaveCauses, IsOverALimit, HasNoPattern, WordsDoNotFit}
 use Rattle.blifww_tool.proofs.Given.{one_command}
 use Rattle.blifww_tool.specs.declared.causes.Cause.{Cause}
-use Rattle.blifww_tool.specs.declared.causes.Cause.TheVariants.{NetlistFault, WeightTooLarge, Loop, Pattern, GridTooLarge, PortTable, Streams, NoSuchNet, TooFar}
+use Rattle.blifww_tool.specs.declared.causes.Cause.TheVariants.{NetlistFault, WeightTooLarge, Loop, Pattern, GridTooLarge, PortTable, Streams, StartWord, NoSuchNet, TooFar, TooManyContexts}
 use Rattle.blifww_tool.specs.declared.refusals.Refusal.{Refusal}
 use Rattle.blifww_tool.specs.declared.refusals.Refusal.TheVariants.{Usage, TooLong, ReadFault, WriteFault, NoMemory, Text}
 
@@ -23,13 +25,15 @@ not_cause (Pattern f) = (λ e. cc, λ e. cc)
 not_cause (GridTooLarge x y) = (λ e. cc, λ e. cc)
 not_cause (PortTable f) = (λ e. cc, λ e. cc)
 not_cause (Streams f) = (λ e. cc, λ e. cc)
+not_cause (StartWord f) = (λ e. cc, λ e. cc)
 not_cause (NoSuchNet name) = (λ e. cc, λ e. cc)
 not_cause (TooFar n) = (λ e. cc, λ e. cc)
+not_cause (TooManyContexts n limit) = (λ e. cc, λ e. cc)
 
 -- by its status a cause is a fault, a loop, or too great a weight where the text is a netlist's
 at_fault_by : (command : CommandValues) (src : Reading) (text : List ℕ) (cause : Cause) → status_of_cause cause ≡ 1 → HasText command src text → Refuses command text cause
     → (read : List ℕ) × (fault : Fault) × GaveAll src read × IsAtFault read fault
-at_fault_by compile src text (NetlistFault f) e given h = (text, f, given, h)
+at_fault_by (compile contexts starts) src text (NetlistFault f) e given h = (text, f, given, h)
 at_fault_by (simulate cycles words) src text (NetlistFault f) e given h = absurd h
 at_fault_by (eval cycles words) src text (NetlistFault f) e given h = (text, f, given, h)
 at_fault_by (probe cycles net path words) src text (NetlistFault f) e given h = absurd h
@@ -42,14 +46,16 @@ at_fault_by command src text (Pattern f) e given h = absurd (omega (arith, e))
 at_fault_by command src text (GridTooLarge x y) e given h = absurd (omega (arith, e))
 at_fault_by command src text (PortTable f) e given h = absurd (omega (arith, e))
 at_fault_by command src text (Streams f) e given h = absurd (omega (arith, e))
+at_fault_by command src text (StartWord f) e given h = absurd (omega (arith, e))
 at_fault_by command src text (NoSuchNet name) e given h = absurd (omega (arith, e))
 at_fault_by command src text (TooFar n) e given h = absurd (omega (arith, e))
+at_fault_by command src text (TooManyContexts n limit) e given h = absurd (omega (arith, e))
 
 a_loop_by : (command : CommandValues) (src : Reading) (text : List ℕ) (cause : Cause) → status_of_cause cause ≡ 3 → HasText command src text → Refuses command text cause
     → (read : List ℕ) × (names : List Name) × GaveAll src read × HasLoop read names
 a_loop_by command src text (NetlistFault f) e given h = absurd (omega (arith, e))
 a_loop_by command src text (WeightTooLarge w) e given h = absurd (omega (arith, e))
-a_loop_by compile src text (Loop names) e given h = (text, names, given, h)
+a_loop_by (compile contexts starts) src text (Loop names) e given h = (text, names, given, h)
 a_loop_by (simulate cycles words) src text (Loop names) e given h = absurd h
 a_loop_by (eval cycles words) src text (Loop names) e given h = (text, names, given, h)
 a_loop_by (probe cycles net path words) src text (Loop names) e given h = absurd h
@@ -60,19 +66,27 @@ a_loop_by command src text (Pattern f) e given h = absurd (omega (arith, e))
 a_loop_by command src text (GridTooLarge x y) e given h = absurd (omega (arith, e))
 a_loop_by command src text (PortTable f) e given h = absurd (omega (arith, e))
 a_loop_by command src text (Streams f) e given h = absurd (omega (arith, e))
+a_loop_by command src text (StartWord f) e given h = absurd (omega (arith, e))
 a_loop_by command src text (NoSuchNet name) e given h = absurd (omega (arith, e))
 a_loop_by command src text (TooFar n) e given h = absurd (omega (arith, e))
+a_loop_by command src text (TooManyContexts n limit) e given h = absurd (omega (arith, e))
 
-too_heavy_by : (text : List ℕ) (cause : Cause) → status_of_cause cause ≡ 4 → Refuses compile text cause → (weight : ℕ) × IsTooHeavy text weight
-too_heavy_by text (NetlistFault f) e h = absurd (omega (arith, e))
-too_heavy_by text (WeightTooLarge w) e h = (w, h)
-too_heavy_by text (Loop names) e h = absurd (omega (arith, e))
-too_heavy_by text (Pattern f) e h = absurd h
-too_heavy_by text (GridTooLarge x y) e h = absurd h
-too_heavy_by text (PortTable f) e h = absurd h
-too_heavy_by text (Streams f) e h = absurd h
-too_heavy_by text (NoSuchNet name) e h = absurd h
-too_heavy_by text (TooFar n) e h = absurd h
+-- too great a weight, or too many contexts
+abbrev IsTooLarge : (contexts : ℕ) → (starts : List (List ℕ)) → List ℕ → Type 0
+IsTooLarge contexts starts text = ((weight : ℕ) × IsTooHeavy text weight) ⊎ ((limit : ℕ) × HasNoRoom contexts starts text limit)
+
+too_large_by : (contexts : ℕ) (starts : List (List ℕ)) (text : List ℕ) (cause : Cause) → status_of_cause cause ≡ 4 → Refuses (compile contexts starts) text cause → IsTooLarge contexts starts text
+too_large_by contexts starts text (NetlistFault f) e h = absurd (omega (arith, e))
+too_large_by contexts starts text (WeightTooLarge w) e h = inl (w, h)
+too_large_by contexts starts text (Loop names) e h = absurd (omega (arith, e))
+too_large_by contexts starts text (Pattern f) e h = absurd h
+too_large_by contexts starts text (GridTooLarge x y) e h = absurd h
+too_large_by contexts starts text (PortTable f) e h = absurd h
+too_large_by contexts starts text (Streams f) e h = absurd h
+too_large_by contexts starts text (StartWord f) e h = absurd (omega (arith, e))
+too_large_by contexts starts text (NoSuchNet name) e h = absurd h
+too_large_by contexts starts text (TooFar n) e h = absurd h
+too_large_by contexts starts text (TooManyContexts n limit) e h = inr (limit, h.1)
 
 at_fault : (words : List (List ℕ)) (src : Reading) (r : Refusal) → HasReason words src r → status_of r ≡ 1 → (text : List ℕ) × (fault : Fault) × GaveAll src text × IsAtFault text fault
 at_fault words src Usage h e = absurd (omega (arith, e))
@@ -106,18 +120,23 @@ asked words src WriteFault h two seven = absurd h
 asked words src NoMemory h two seven = absurd (seven refl)
 asked words src (Text cause) h two seven = (h.command, h.asked)
 
-too_large : (words : List (List ℕ)) (src : Reading) (r : Refusal) → HasReason words src r → status_of r ≡ 4 → Asks words compile
-    → GaveTooMany words src ⊎ ((text : List ℕ) × (weight : ℕ) × GaveAll src text × IsTooHeavy text weight)
-too_large words src Usage h e asks = absurd (omega (arith, e))
-too_large words src TooLong h e asks = inl h
-too_large words src ReadFault h e asks = absurd (omega (arith, e))
-too_large words src WriteFault h e asks = absurd h
-too_large words src NoMemory h e asks = absurd (omega (arith, e))
-too_large words src (Text cause) h e asks =
-    let same : h.command ≡ compile = one_command words h.command compile h.asked.asks asks in
+no_room : (words : List (List ℕ)) (src : Reading) (r : Refusal) (contexts : ℕ) (starts : List (List ℕ)) → HasReason words src r → status_of r ≡ 4 → Asks words (compile contexts starts)
+    → GaveTooMany words src ⊎ ((text : List ℕ) × GaveAll src text × IsTooLarge contexts starts text)
+no_room words src Usage contexts starts h e asks = absurd (omega (arith, e))
+no_room words src TooLong contexts starts h e asks = inl h
+no_room words src ReadFault contexts starts h e asks = absurd (omega (arith, e))
+no_room words src WriteFault contexts starts h e asks = absurd h
+no_room words src NoMemory contexts starts h e asks = absurd (omega (arith, e))
+no_room words src (Text cause) contexts starts h e asks =
+    let same : h.command ≡ compile contexts starts = one_command words h.command (compile contexts starts) h.asked.asks asks in
     let given : GaveAll src h.text = subst (λ (v : CommandValues). HasText v src h.text) same h.given in
-    let heavy = too_heavy_by h.text cause e (subst (λ (v : CommandValues). Refuses v h.text cause) same h.refused) in
-    inr (h.text, heavy.0, given, heavy.1)
+    inr (h.text, given, too_large_by contexts starts h.text cause e (subst (λ (v : CommandValues). Refuses v h.text cause) same h.refused))
+
+-- one context always has room
+one_has_room : (starts : List (List ℕ)) (text : List ℕ) (limit : ℕ) → HasNoRoom 1 starts text limit → ⊥
+one_has_room starts text limit h =
+    let one : 1 ≤ least_room h.design = le-max_left 1 (6 * latch_count h.design) in
+    omega (arith, one, h.least, h.over)
 
 over_a_limit_by : (c : Call) (cause : Cause) → status_of_cause cause ≡ 4 → RefusesText c.words c.src cause → IsOverALimit c
 over_a_limit_by c (NetlistFault f) e h = absurd (omega (arith, e))
@@ -127,8 +146,10 @@ over_a_limit_by c (Pattern f) e h = absurd (omega (arith, e))
 over_a_limit_by c (GridTooLarge x y) e h = inr (inr (inl (x, y, h)))
 over_a_limit_by c (PortTable f) e h = absurd (omega (arith, e))
 over_a_limit_by c (Streams f) e h = absurd (omega (arith, e))
+over_a_limit_by c (StartWord f) e h = absurd (omega (arith, e))
 over_a_limit_by c (NoSuchNet name) e h = absurd (omega (arith, e))
-over_a_limit_by c (TooFar n) e h = inr (inr (inr (n, h)))
+over_a_limit_by c (TooFar n) e h = inr (inr (inr (inl (n, h))))
+over_a_limit_by c (TooManyContexts n limit) e h = inr (inr (inr (inr (n, limit, h))))
 
 over_a_limit : (c : Call) (r : Refusal) → HasReason c.words c.src r → status_of r ≡ 4 → IsOverALimit c
 over_a_limit c Usage h e = absurd (omega (arith, e))
@@ -146,8 +167,10 @@ no_pattern_by c (Pattern f) e h = inl (f, h)
 no_pattern_by c (GridTooLarge x y) e h = absurd (omega (arith, e))
 no_pattern_by c (PortTable f) e h = inr (f, h)
 no_pattern_by c (Streams f) e h = absurd (omega (arith, e))
+no_pattern_by c (StartWord f) e h = absurd (omega (arith, e))
 no_pattern_by c (NoSuchNet name) e h = absurd (omega (arith, e))
 no_pattern_by c (TooFar n) e h = absurd (omega (arith, e))
+no_pattern_by c (TooManyContexts n limit) e h = absurd (omega (arith, e))
 
 no_pattern : (c : Call) (r : Refusal) → HasReason c.words c.src r → status_of r ≡ 8 → HasNoPattern c
 no_pattern c Usage h e = absurd (omega (arith, e))
@@ -165,8 +188,10 @@ misfit_by c (Pattern f) e h = absurd (omega (arith, e))
 misfit_by c (GridTooLarge x y) e h = absurd (omega (arith, e))
 misfit_by c (PortTable f) e h = absurd (omega (arith, e))
 misfit_by c (Streams f) e h = inl (f, h)
-misfit_by c (NoSuchNet name) e h = inr (name, h)
+misfit_by c (StartWord f) e h = inr (inl (f, h))
+misfit_by c (NoSuchNet name) e h = inr (inr (name, h))
 misfit_by c (TooFar n) e h = absurd (omega (arith, e))
+misfit_by c (TooManyContexts n limit) e h = absurd (omega (arith, e))
 
 misfit : (c : Call) (r : Refusal) → HasReason c.words c.src r → status_of r ≡ 9 → WordsDoNotFit c
 misfit c Usage h e = absurd (omega (arith, e))
@@ -209,8 +234,24 @@ refused c status n h not_zero not_six e = by_refusal c status n e (h.refused (λ
 usage_of : (c : Call) → Refused c 2 → IsCommand c.words → ⊥
 usage_of c r = usage c.words c.src r.refusal r.reason r.status_is
 
-too_large_of : (c : Call) → Refused c 4 → Asks c.words compile → GaveTooMany c.words c.src ⊎ ((text : List ℕ) × (weight : ℕ) × GaveAll c.src text × IsTooHeavy text weight)
-too_large_of c r = too_large c.words c.src r.refusal r.reason r.status_is
+no_room_of : (c : Call) → Refused c 4 → (contexts : ℕ) (starts : List (List ℕ)) → Asks c.words (compile contexts starts)
+    → GaveTooMany c.words c.src ⊎ (((text : List ℕ) × (weight : ℕ) × GaveAll c.src text × IsTooHeavy text weight) ⊎ ((text : List ℕ) × (limit : ℕ) × GaveAll c.src text × HasNoRoom contexts starts text limit))
+no_room_of c r contexts starts asks = by (no_room c.words c.src r.refusal contexts starts r.reason r.status_is asks)
+  where
+    by : GaveTooMany c.words c.src ⊎ ((text : List ℕ) × GaveAll c.src text × IsTooLarge contexts starts text)
+        → GaveTooMany c.words c.src ⊎ (((text : List ℕ) × (weight : ℕ) × GaveAll c.src text × IsTooHeavy text weight) ⊎ ((text : List ℕ) × (limit : ℕ) × GaveAll c.src text × HasNoRoom contexts starts text limit))
+    by (inl many) = inl many
+    by (inr (text, given, inl (weight, heavy))) = inr (inl (text, weight, given, heavy))
+    by (inr (text, given, inr (limit, room))) = inr (inr (text, limit, given, room))
+
+too_large_of : (c : Call) → Refused c 4 → Asks c.words (compile 1 []) → GaveTooMany c.words c.src ⊎ ((text : List ℕ) × (weight : ℕ) × GaveAll c.src text × IsTooHeavy text weight)
+too_large_of c r asks = by (no_room_of c r 1 [] asks)
+  where
+    by : GaveTooMany c.words c.src ⊎ (((text : List ℕ) × (weight : ℕ) × GaveAll c.src text × IsTooHeavy text weight) ⊎ ((text : List ℕ) × (limit : ℕ) × GaveAll c.src text × HasNoRoom 1 [] text limit))
+        → GaveTooMany c.words c.src ⊎ ((text : List ℕ) × (weight : ℕ) × GaveAll c.src text × IsTooHeavy text weight)
+    by (inl many) = inl many
+    by (inr (inl heavy)) = inr heavy
+    by (inr (inr room)) = absurd (one_has_room [] room.0 room.1 room.3)
 
 at_fault_of : (c : Call) → Refused c 1 → (text : List ℕ) × (fault : Fault) × GaveAll c.src text × IsAtFault text fault
 at_fault_of c r = at_fault c.words c.src r.refusal r.reason r.status_is
@@ -228,6 +269,7 @@ statuses_have_causes c status h = record {
   at_fault = λ e. at_fault_of c (refused c status 1 h (λ z. cc) (λ z. cc) e);
   a_loop = λ e. a_loop_of c (refused c status 3 h (λ z. cc) (λ z. cc) e);
   too_large = λ e. too_large_of c (refused c status 4 h (λ z. cc) (λ z. cc) e);
+  no_room = λ contexts starts e asks. no_room_of c (refused c status 4 h (λ z. cc) (λ z. cc) e) contexts starts asks;
   over_a_limit = λ e. let r = refused c status 4 h (λ z. cc) (λ z. cc) e in over_a_limit c r.refusal r.reason r.status_is;
   read_fault = λ e. read_fault_of c (refused c status 5 h (λ z. cc) (λ z. cc) e);
   write_fault = λ e. write_fault c (h.cut e);

@@ -11,21 +11,21 @@ use Rattle.made_summary.specs.Summaries.{HasSummaryCause}
 use Rattle.made_summary.specs.Laws.{most_generations}
 use Rattle.made_summary.specs.declared.error.SummaryError.TheVariants as summarizing
 use Rattle.blifww_tool.specs.Lines.{bits_line}
-use Rattle.blifww_tool.specs.Compilation.{Compiles, HasNoNetlist}
+use Rattle.blifww_tool.specs.Compilation.{Compiles, HasNoCompilation, HasStarts, least_room}
 use Rattle.blifww_tool.specs.Simulation.{Simulation, IsSimulation, Simulates, simulation_text, HasNoStreams, HasNoSimulation}
 use Rattle.blifww_tool.specs.Probing.{Probes, HasNoProbe}
 use Rattle.blifww_tool.specs.Viewing.{cycles_in, ShowsPart}
 use Rattle.blifww_tool.specs.Evaluation.{Evaluation, IsEvaluation, Evaluates, HasNoEvaluation}
 use Rattle.blifww_tool.specs.Summary.{TellsSummary}
 use Rattle.blifww_tool.specs.declared.causes.Cause.{Cause}
-use Rattle.blifww_tool.specs.declared.causes.Cause.TheVariants.{NetlistFault, Loop, TooFar}
+use Rattle.blifww_tool.specs.declared.causes.Cause.TheVariants.{NetlistFault, Loop, TooFar, TooManyContexts}
 use Rattle.netlist_text.specs.Laws.{AreAlikeFaults}
 use Rattle.blifww_tool.specs.declared.causes.TextError.{TextError}
 use Rattle.blifww_tool.specs.declared.causes.TextError.TheVariants.{Refused, NoMemory}
 
 -- whether the command reads a text; those that do not have the empty one
 abbrev pub reads_text : CommandValues → Bool
-reads_text compile = true
+reads_text (compile contexts starts) = true
 reads_text (simulate cycles words) = true
 reads_text (eval cycles words) = true
 reads_text (probe cycles net path words) = true
@@ -33,10 +33,11 @@ reads_text (window view words) = true
 reads_text (make seed size) = false
 reads_text (self_ seed size cycles) = false
 
--- the command accepts the text: it is a netlist; with the words a simulation in time; with the words an evaluation; a simulation that
--- has the net and shows it in time; a simulation; always; or where no plan of the made netlist can need more generations than are run
+-- the command accepts the text: it is a netlist, in which the words say starts of as many contexts as every plan has room for; with the
+-- words a simulation in time; with the words an evaluation; a simulation that has the net and shows it in time; a simulation; always; or
+-- where no plan of the made netlist can need more generations than are run
 abbrev pub Accepts : CommandValues → List ℕ → Type 0
-Accepts compile text = (design : Design) × IsNetlist text design
+Accepts (compile contexts starts) text = (design : Design) × HasStarts contexts starts text design × (contexts ≤ least_room design)
 Accepts (simulate cycles words) text = (s : Simulation) × Simulates cycles words text s
 Accepts (eval cycles words) text = (e : Evaluation) × IsEvaluation cycles words text e
 Accepts (probe cycles net path words) text = (bits : List Bool) × Probes cycles net path words text bits
@@ -44,10 +45,10 @@ Accepts (window view words) text = (s : Simulation) × IsSimulation (cycles_in w
 Accepts (make seed size) text = ⊤
 Accepts (self_ seed size cycles) text = most_generations (weight (made_design seed size)) cycles ≤ greatest_generation
 
--- of such a text it prints this output: a pattern that carries the netlist; a line for each output of the pattern, or of the netlist; the
--- line of the net; the lines of a part of the plane; the made text; or what is told of the made netlist
+-- of such a text it prints this output: a pattern that carries the netlist in these contexts; a line for each output of the pattern, or of the
+-- netlist; the line of the net; the lines of a part of the plane; the made text; or what is told of the made netlist
 abbrev pub Prints : CommandValues → (text output : List ℕ) → Type 0
-Prints compile text output = Compiles text output
+Prints (compile contexts starts) text output = Compiles contexts starts text output
 Prints (simulate cycles words) text output = (s : Simulation) × Simulates cycles words text s × (output ≡ simulation_text s)
 Prints (eval cycles words) text output = Evaluates cycles words text output
 Prints (probe cycles net path words) text output = (bits : List Bool) × Probes cycles net path words text bits × (output ≡ bits_line net bits)
@@ -57,7 +58,7 @@ Prints (self_ seed size cycles) text output = TellsSummary seed size cycles outp
 
 -- the command refuses the text for this cause
 abbrev pub Refuses : CommandValues → List ℕ → Cause → Type 0
-Refuses compile text cause = HasNoNetlist text cause
+Refuses (compile contexts starts) text cause = HasNoCompilation contexts starts text cause
 Refuses (simulate cycles words) text cause = HasNoSimulation cycles words text cause
 Refuses (eval cycles words) text cause = HasNoEvaluation cycles words text cause
 Refuses (probe cycles net path words) text cause = HasNoProbe cycles net path words text cause
@@ -66,10 +67,11 @@ Refuses (make seed size) text cause = ⊥
 Refuses (self_ seed size cycles) text (TooFar generations) = HasSummaryCause seed size cycles (summarizing.TooFar generations)
 Refuses (self_ seed size cycles) text cause = ⊥
 
--- The command refuses the text for this cause whenever nothing fails and there is memory: but for `self`, whose plan is free, where it
--- refuses it at all.
+-- The command refuses the text for this cause whenever nothing fails and there is memory: but for `self`, and for the room that `compile` has
+-- for contexts, as the plan is free, where it refuses it at all.
 abbrev pub MustRefuse : CommandValues → List ℕ → Cause → Type 0
 MustRefuse (self_ seed size cycles) text cause = ⊥
+MustRefuse (compile contexts starts) text (TooManyContexts told limit) = ⊥
 MustRefuse command text cause = Refuses command text cause
 
 -- Two causes are of one kind, and the same, but that there may be several loops, and on one line several words at fault.

@@ -1,37 +1,40 @@
 -- What is written of a netlist.
-use Rattle.std.specs.Prelude.{ℕ, ◌≡◌, ◌≤◌, ◌+◌, ◌*◌, List, length, false}
+use Rattle.std.specs.Prelude.{ℕ, ◌≡◌, ◌≤◌, ◌<◌, ◌+◌, ◌*◌, ◌/◌, max, List, [], length, false, Some, None}
 use Rattle.lane_core.specs.declared.plan.Plan.{Plan}
 use Rattle.lane_core.specs.Plans.{IsAdmissible}
+use Rattle.plan_layout.specs.Starts.{HasStartEdges}
 use Rattle.grid_assembly.specs.PlanDrawing.{start_grid}
 use Rattle.pattern_reading.specs.declared.ports.Ports.{Ports}
 use Rattle.pattern_writing.specs.WrittenText.{pattern_text}
 use Rattle.carries.specs.Carries.{Carries}
 use Rattle.carries.specs.Nets.{CarriesNets}
+use Rattle.carries.specs.DesignContexts.{CarriesContexts, CarriesNetsInContexts}
 use Rattle.cell_meaning.specs.Needs.{any_needs_one}
+use Rattle.latch_loops.specs.Closed.{contexts_size}
+use Rattle.latch_loops.specs.Padded.{IsPaddedPlan}
 use Rattle.netlist_core.specs.declared.model.Design.{Design}
 use Rattle.netlist_core.specs.declared.flat.Flat.{Flat}
 use Rattle.netlist_meaning.specs.Weight.{weight}
-use Rattle.netlist_meaning.specs.FlatOf.{IsFlatOf}
+use Rattle.netlist_meaning.specs.FlatOf.{IsFlatOf, at_places}
 use Rattle.netlist_plans.specs.Planned.{ComputesCells, HasLanes}
 use Rattle.netlist_plans.specs.NetPlaces.{HasNetPlaces}
 use Rattle.plan_ports.specs.Tables.{IsTableOf}
 use Rattle.netlist_text.specs.NetlistText.{IsNetlist, IsAtFault, IsTooHeavy, HasLoop}
+use Rattle.start_words.specs.declared.error.StartFault.{StartFault}
+use Rattle.start_words.specs.Words.{first_fault}
+use Rattle.start_words.specs.Starts.{latches_of, starts_of_words}
 use Rattle.blifww_tool.specs.declared.causes.Cause.{Cause}
-use Rattle.blifww_tool.specs.declared.causes.Cause.TheVariants.{NetlistFault, WeightTooLarge, Loop}
+use Rattle.blifww_tool.specs.declared.causes.Cause.TheVariants.{NetlistFault, WeightTooLarge, Loop, StartWord, TooManyContexts}
 
--- The text is a netlist, and the output is the written text of an admissible plan and its table that carries the design and its nets. The
--- plan computes the cells of the design's flat netlist: so it has a loop for each latch, and exactly where constant 1 is named one more. It is
--- small, by the design's weight, and has no lane and no column exactly where there is no net but clock nets; each net has a place, by what
--- drives it; where there is no latch and no cover needs constant 1 the period is 32.
-pub record Compiles (text output : List ℕ) : Type 0 where
-  pub design : Design
-  pub netlist : IsNetlist text design
-  pub plan : Plan
-  pub ports : Ports
+-- The written text of the plan and its table carries the design and its nets. The plan can be drawn, with its starts. It computes the cells of the
+-- design's flat netlist: so it has a loop for each latch, and exactly where constant 1 is named one more. It is small, by the design's weight,
+-- and has no lane and no column exactly where there is no net but clock nets; each net has a place, by what drives it; where there is no latch
+-- and no cover needs constant 1 the period is 32.
+pub record IsCarriedBy (design : Design) (plan : Plan) (ports : Ports) : Type 0 where
   pub admissible : IsAdmissible plan
-  pub written : output ≡ pattern_text (start_grid plan) ports
-  pub carries : Carries output design
-  pub nets : CarriesNets output design
+  pub edges : HasStartEdges plan
+  pub carries : Carries (pattern_text (start_grid plan) ports) design
+  pub nets : CarriesNets (pattern_text (start_grid plan) ports) design
   pub lanes : plan.lanes ≤ 4 * weight design + 4
   pub columns : length plan.columns ≤ 256 * ((weight design + 1) * (weight design + 1))
   pub table : (flat : Flat) → IsFlatOf design flat → IsTableOf flat plan 1 ports
@@ -40,9 +43,69 @@ pub record Compiles (text output : List ℕ) : Type 0 where
   pub places : (flat : Flat) → IsFlatOf design flat → HasNetPlaces flat plan
   pub period : (flat : Flat) → IsFlatOf design flat → length flat.latches ≡ 0 → any_needs_one flat ≡ false → ports.p ≡ 32
 
+-- the text is the netlist of this design, in which the words say starts for so many contexts
+pub record HasStarts (contexts : ℕ) (starts : List (List ℕ)) (text : List ℕ) (design : Design) : Type 0 where
+  pub netlist : IsNetlist text design
+  pub no_fault : first_fault (latches_of design) contexts starts ≡ None
+
+-- The text is a netlist, in which the words say starts. The output is the written text of a plan and its table that carries the design and its
+-- nets in these contexts, each from its start. They have room in the period of a plan by which the design is carried, 32 generations each;
+-- the written plan is that one, but for its starts and for columns that the contexts may need more. In one context, and without words, it is
+-- that plan.
+pub record Compiles (contexts : ℕ) (starts : List (List ℕ)) (text output : List ℕ) : Type 0 where
+  pub design : Design
+  pub has : HasStarts contexts starts text design
+  pub base : Plan
+  pub base_ports : Ports
+  pub is_carried : IsCarriedBy design base base_ports
+  pub room : contexts ≤ base_ports.p / 32
+  pub plan : Plan
+  pub ports : Ports
+  pub admissible : IsAdmissible plan
+  pub edges : HasStartEdges plan
+  pub padded : IsPaddedPlan (contexts_size base.latches contexts) base plan
+  pub alone : contexts ≡ 1 → starts ≡ [] → (plan ≡ base) × (ports ≡ base_ports)
+  pub table : (flat : Flat) → IsFlatOf design flat → IsTableOf flat plan contexts ports
+  pub places : (flat : Flat) → IsFlatOf design flat → HasNetPlaces flat plan
+  pub written : output ≡ pattern_text (start_grid plan) ports
+  pub carries : CarriesContexts output design (starts_of_words design starts contexts)
+  pub nets : CarriesNetsInContexts output design (starts_of_words design starts contexts)
+
 -- why the text is no netlist: it is at fault, or too heavy, or its covers read each other in a circle
 abbrev pub HasNoNetlist : List ℕ → Cause → Type 0
 HasNoNetlist text (NetlistFault fault) = IsAtFault text fault
 HasNoNetlist text (WeightTooLarge weight) = IsTooHeavy text weight
 HasNoNetlist text (Loop names) = HasLoop text names
 HasNoNetlist text _ = ⊥
+
+-- the text is a netlist, in which this is the first fault of the words
+pub record HasStartFault (contexts : ℕ) (starts : List (List ℕ)) (text : List ℕ) (fault : StartFault) : Type 0 where
+  pub design : Design
+  pub netlist : IsNetlist text design
+  pub at_fault : first_fault (latches_of design) contexts starts ≡ Some fault
+
+-- the number of a design's latches, of all places
+abbrev pub latch_count : Design → ℕ
+latch_count design = length (at_places design (λ model. model.latches) (λ place latch. latch))
+
+-- as many contexts as any plan has room for
+abbrev pub least_room : Design → ℕ
+least_room design = max 1 (6 * latch_count design)
+
+-- The text is a netlist, in which the words say starts, but the contexts have no room in the period of a plan by which the design is carried:
+-- it has room for so many.
+pub record HasNoRoom (contexts : ℕ) (starts : List (List ℕ)) (text : List ℕ) (limit : ℕ) : Type 0 where
+  pub design : Design
+  pub has : HasStarts contexts starts text design
+  pub plan : Plan
+  pub ports : Ports
+  pub is_carried : IsCarriedBy design plan ports
+  pub limit_is : limit ≡ ports.p / 32
+  pub least : least_room design ≤ limit
+  pub over : limit < contexts
+
+-- why the text is not compiled: it is no netlist, or the words are at fault in it, or the contexts have no room
+abbrev pub HasNoCompilation : (contexts : ℕ) → (starts : List (List ℕ)) → List ℕ → Cause → Type 0
+HasNoCompilation contexts starts text (StartWord fault) = HasStartFault contexts starts text fault
+HasNoCompilation contexts starts text (TooManyContexts told limit) = (told ≡ contexts) × HasNoRoom contexts starts text limit
+HasNoCompilation contexts starts text cause = HasNoNetlist text cause

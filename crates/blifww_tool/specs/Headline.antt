@@ -1,9 +1,11 @@
--- The headline.
+-- The headline, and what it is the case of: one context, without words.
 use Rattle.std.specs.Prelude.{◌≡◌, ℕ, List, ◌++◌, Some}
 use Rattle.netlist_core.specs.declared.model.Design.{Design}
 use Rattle.blif_text.specs.Faults.{IsDesignOf}
 use Rattle.carries.specs.Carries.{Carries}
 use Rattle.carries.specs.Nets.{CarriesNets}
+use Rattle.carries.specs.DesignContexts.{CarriesContexts, CarriesNetsInContexts}
+use Rattle.start_words.specs.Starts.{starts_of_words}
 use Rattle.blifww_tool.specs.Run.{Reading, Writing}
 
 -- Where the source tells the bytes that it had left, and the output the bytes that it held: the bytes that the output gained carry
@@ -13,3 +15,12 @@ WritesWhatItRead src out =
     (text before : List ℕ) → src.left ≡ Some text → out.written ≡ Some before
     → (pattern : List ℕ) × (out.written_after ≡ Some (before ++ pattern))
     × (design : Design) × IsDesignOf text design × Carries pattern design × CarriesNets pattern design
+
+-- where the words say starts for contexts: the bytes that the output gained carry the design in these contexts, each from its start, and
+-- its nets
+abbrev pub WritesInContexts : (contexts : ℕ) → (starts : List (List ℕ)) → Reading → Writing → Type 0
+WritesInContexts contexts starts src out =
+    (text before : List ℕ) → src.left ≡ Some text → out.written ≡ Some before
+    → (pattern : List ℕ) × (out.written_after ≡ Some (before ++ pattern))
+    × (design : Design) × IsDesignOf text design
+    × CarriesContexts pattern design (starts_of_words design starts contexts) × CarriesNetsInContexts pattern design (starts_of_words design starts contexts)

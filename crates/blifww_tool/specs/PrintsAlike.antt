@@ -1,5 +1,5 @@
 -- What `simulate` prints of a text that carries a netlist is what `eval` prints of the netlist, and what `probe` prints of it is a net's bits.
-use Rattle.std.specs.Prelude.{ℕ, ◌≡◌, List}
+use Rattle.std.specs.Prelude.{ℕ, ◌≡◌, List, []}
 use Rattle.netlist_core.specs.declared.model.Design.{Design}
 use Rattle.netlist_meaning.specs.Nets.{Net, IsNet, IsClockNet}
 use Rattle.netlist_meaning.specs.Valuation.{Valuation, IsRun}
@@ -22,10 +22,10 @@ CarriersPrintAlike =
     → (cycles : ℕ) (words : List (List ℕ)) (shown evaluated : List ℕ)
     → Prints (simulate cycles words) text shown → Prints (eval cycles words) netlist evaluated → shown ≡ evaluated
 
--- and so of what `compile` writes of the netlist
+-- and so of what `compile` writes of the netlist, in one context and without words
 abbrev pub CompiledPrintAlike : Type 0
 CompiledPrintAlike =
-    (text netlist : List ℕ) → Prints compile netlist text
+    (text netlist : List ℕ) → Prints (compile 1 []) netlist text
     → (cycles : ℕ) (words : List (List ℕ)) (shown evaluated : List ℕ)
     → Prints (simulate cycles words) text shown → Prints (eval cycles words) netlist evaluated → shown ≡ evaluated
 

@@ -12,6 +12,10 @@ use Rattle.pattern_reading.specs.declared.faults.PortFaultKind.{PortFaultKind}
 use Rattle.pattern_reading.specs.declared.faults.PortFaultKind.TheVariants as port
 use Rattle.streams.specs.declared.error.StreamFaultKind.{StreamFaultKind}
 use Rattle.streams.specs.declared.error.StreamFaultKind.TheVariants as stream
+use Rattle.start_words.specs.declared.error.StartFaultKind.{StartFaultKind}
+use Rattle.start_words.specs.declared.error.StartFaultKind.TheVariants as start
+use Rattle.start_words.specs.declared.error.StartError.{StartError}
+use Rattle.start_words.specs.declared.error.StartError.TheVariants as starts_of
 use Rattle.ww_base.specs.declared.whole.ReadAllError.{ReadAllError}
 use Rattle.ww_base.specs.declared.whole.ReadAllError.TheVariants as read_all
 use Rattle.command_words.specs.declared.error.WordsError.{WordsError}
@@ -29,7 +33,7 @@ use Rattle.probe_view.specs.declared.error.ProbeError.TheVariants as probing
 use Rattle.made_summary.specs.declared.error.SummaryError.{SummaryError}
 use Rattle.made_summary.specs.declared.error.SummaryError.TheVariants as summarizing
 use Rattle.blifww_tool.specs.declared.causes.Cause.{Cause}
-use Rattle.blifww_tool.specs.declared.causes.Cause.TheVariants.{NetlistFault, WeightTooLarge, Loop, Pattern, GridTooLarge, PortTable, Streams, NoSuchNet, TooFar}
+use Rattle.blifww_tool.specs.declared.causes.Cause.TheVariants.{NetlistFault, WeightTooLarge, Loop, Pattern, GridTooLarge, PortTable, Streams, StartWord, NoSuchNet, TooFar, TooManyContexts}
 use Rattle.blifww_tool.specs.declared.causes.TextError.{TextError}
 use Rattle.blifww_tool.specs.declared.causes.TextError.TheVariants as text
 use Rattle.blifww_tool.specs.declared.refusals.Refusal.{Refusal}
@@ -44,8 +48,10 @@ status_of_cause (Pattern fault) = 8
 status_of_cause (GridTooLarge width height) = 4
 status_of_cause (PortTable fault) = 8
 status_of_cause (Streams fault) = 9
+status_of_cause (StartWord fault) = 9
 status_of_cause (NoSuchNet name) = 9
 status_of_cause (TooFar generations) = 4
+status_of_cause (TooManyContexts contexts limit) = 4
 
 -- the exit status of a refusal
 abbrev pub status_of : Refusal → ℕ
@@ -82,11 +88,19 @@ stream_fault_name stream.BadBit = codes "BadBit"
 stream_fault_name stream.BadLength = codes "BadLength"
 stream_fault_name stream.MissingInput = codes "MissingInput"
 
+-- those of start words
+abbrev pub start_fault_name : StartFaultKind → List ℕ
+start_fault_name start.NoEquals = codes "NoEquals"
+start_fault_name start.BadContext = codes "BadContext"
+start_fault_name start.NoSuchLatch = codes "NoSuchLatch"
+start_fault_name start.TwiceLatch = codes "TwiceLatch"
+start_fault_name start.BadBit = codes "BadBit"
+
 -- a fault on a line of a text, as `G4 BadItem line 2`
 abbrev pub fault_line : List ℕ → ℕ → List ℕ
 fault_line name line = name ++ (codes " line " ++ (decimal line ++ codes "\n"))
 
--- a fault of streams and the word at fault, as `stream: BadLength b=0`
+-- a fault of streams or of start words and the word at fault, as `stream: BadLength b=0`
 abbrev pub stream_line : List ℕ → List ℕ → List ℕ
 stream_line name word = codes "stream: " ++ (name ++ (codes " " ++ (word ++ codes "\n")))
 
@@ -115,8 +129,11 @@ cause_line (Pattern fault) = fault_line (rle_fault_name fault.kind) fault.line
 cause_line (GridTooLarge width height) = codes "too large: grid " ++ (decimal width ++ (codes " by " ++ (decimal height ++ codes "\n")))
 cause_line (PortTable fault) = fault_line (port_fault_name fault.kind) fault.line
 cause_line (Streams fault) = stream_line (stream_fault_name fault.kind) fault.word
+cause_line (StartWord fault) = stream_line (start_fault_name fault.kind) fault.word
 cause_line (NoSuchNet name) = stream_line (codes "NoSuchNet") name
 cause_line (TooFar generations) = codes "too large: generations " ++ (decimal generations ++ codes "\n")
+cause_line (TooManyContexts contexts limit) =
+    codes "too large: contexts " ++ (decimal contexts ++ (codes " limit " ++ (decimal limit ++ codes "\n")))
 
 -- the one line that tells a refusal
 abbrev pub refusal_line : Refusal → List ℕ
@@ -165,6 +182,11 @@ table_error ports_of.NoMemory = text.NoMemory
 abbrev pub streams_error : StreamError → TextError
 streams_error (streams_of.Fault fault) = text.Refused (Streams fault)
 streams_error streams_of.NoMemory = text.NoMemory
+
+-- the start words are at fault,
+abbrev pub starts_error : StartError → TextError
+starts_error (starts_of.Fault fault) = text.Refused (StartWord fault)
+starts_error starts_of.NoMemory = text.NoMemory
 
 -- the pattern is not run,
 abbrev pub simulate_error : SimulateError → TextError

@@ -1,33 +1,38 @@
 -- What each status of a run says by itself.
-use Rattle.std.specs.Prelude.{◌≡◌, ◌≢◌, ◌⊎◌, ℕ, List}
+use Rattle.std.specs.Prelude.{◌≡◌, ◌≢◌, ◌⊎◌, ℕ, List, []}
 use Rattle.netlist_core.specs.Names.{Name}
 use Rattle.netlist_rules.specs.declared.fault.Fault.{Fault}
 use Rattle.rle_read.specs.declared.error.RleFault.{RleFault}
 use Rattle.port_table.specs.declared.faults.PortFault.{PortFault}
 use Rattle.streams.specs.declared.error.StreamFault.{StreamFault}
 use Rattle.netlist_text.specs.NetlistText.{IsAtFault, IsTooHeavy, HasLoop}
+use Rattle.start_words.specs.declared.error.StartFault.{StartFault}
 use Rattle.command_words.specs.Shapes.{CommandValues, compile, IsCommand}
+use Rattle.blifww_tool.specs.Compilation.{HasNoRoom}
 use Rattle.blifww_tool.specs.Run.{Call, Asks, IsAsked, GaveTooMany, GaveAll, ReadFailed, WriteFailed, RefusesText, Ends}
-use Rattle.blifww_tool.specs.declared.causes.Cause.TheVariants.{WeightTooLarge, Pattern, GridTooLarge, PortTable, Streams, NoSuchNet, TooFar}
+use Rattle.blifww_tool.specs.declared.causes.Cause.TheVariants.{WeightTooLarge, Pattern, GridTooLarge, PortTable, Streams, StartWord, NoSuchNet, TooFar, TooManyContexts}
 
 -- the source gave too many bytes, or the command refuses the text that it has: for the netlist's weight, the size of the pattern's box,
--- or the number of generations
+-- the number of generations, or that of contexts
 abbrev pub IsOverALimit : Call → Type 0
 IsOverALimit c =
     GaveTooMany c.words c.src
     ⊎ (((weight : ℕ) × RefusesText c.words c.src (WeightTooLarge weight))
     ⊎ (((width height : ℕ) × RefusesText c.words c.src (GridTooLarge width height))
-    ⊎ ((generations : ℕ) × RefusesText c.words c.src (TooFar generations))))
+    ⊎ (((generations : ℕ) × RefusesText c.words c.src (TooFar generations))
+    ⊎ ((contexts limit : ℕ) × RefusesText c.words c.src (TooManyContexts contexts limit)))))
 
 -- the command refuses the text as no pattern's, or for its port table
 abbrev pub HasNoPattern : Call → Type 0
 HasNoPattern c =
     ((fault : RleFault) × RefusesText c.words c.src (Pattern fault)) ⊎ ((fault : PortFault) × RefusesText c.words c.src (PortTable fault))
 
--- the words do not fit what the command reads: they are no streams for its inputs, or ask for a net that it does not have
+-- the words do not fit what the command reads: they are no streams for its inputs, or no starts for its latches, or ask for a net that it
+-- does not have
 abbrev pub WordsDoNotFit : Call → Type 0
 WordsDoNotFit c =
-    ((fault : StreamFault) × RefusesText c.words c.src (Streams fault)) ⊎ ((name : Name) × RefusesText c.words c.src (NoSuchNet name))
+    ((fault : StreamFault) × RefusesText c.words c.src (Streams fault))
+    ⊎ (((fault : StartFault) × RefusesText c.words c.src (StartWord fault)) ⊎ ((name : Name) × RefusesText c.words c.src (NoSuchNet name)))
 
 -- Each status but 7 comes only where its cause is; of 0 a command was asked.
 pub record HaveCauses (c : Call) (status : ℕ) : Type 0 where
@@ -35,8 +40,11 @@ pub record HaveCauses (c : Call) (status : ℕ) : Type 0 where
   pub usage : status ≡ 2 → IsCommand c.words → ⊥
   pub asked : status ≢ 2 → status ≢ 6 → status ≢ 7 → (command : CommandValues) × IsAsked c.words command
   pub a_loop : status ≡ 3 → (text : List ℕ) × (names : List Name) × GaveAll c.src text × HasLoop text names
-  pub too_large : status ≡ 4 → Asks c.words compile
+  pub too_large : status ≡ 4 → Asks c.words (compile 1 [])
       → GaveTooMany c.words c.src ⊎ ((text : List ℕ) × (weight : ℕ) × GaveAll c.src text × IsTooHeavy text weight)
+  pub no_room : (contexts : ℕ) (starts : List (List ℕ)) → status ≡ 4 → Asks c.words (compile contexts starts)
+      → GaveTooMany c.words c.src ⊎ (((text : List ℕ) × (weight : ℕ) × GaveAll c.src text × IsTooHeavy text weight)
+      ⊎ ((text : List ℕ) × (limit : ℕ) × GaveAll c.src text × HasNoRoom contexts starts text limit))
   pub over_a_limit : status ≡ 4 → IsOverALimit c
   pub read_fault : status ≡ 5 → ReadFailed c.src
   pub write_fault : status ≡ 6 → WriteFailed c.out ⊎ WriteFailed c.err

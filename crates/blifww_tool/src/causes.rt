@@ -13,6 +13,7 @@ use netlist_text::NetlistError;
 use port_table::{PortFault, PortReadError};
 use probe_view::WindowError;
 use rle_read::{RleFault, RleReadError};
+use start_words::{StartError, StartFault};
 use std::alloc::AllocError;
 
 /// Why a command refuses a text.
@@ -32,10 +33,14 @@ pub enum Cause {
     PortTable(PortFault),
     /// The words say no streams for the inputs.
     Streams(StreamFault),
+    /// The words say no starts for the latches.
+    StartWord(StartFault),
     /// No net of the pattern's port table has this name, which is asked for, and the path.
     NoSuchNet(Name),
     /// The simulation needs so many generations, which is over the limit.
     TooFar { generations: u128 },
+    /// The plan has no room for so many contexts, but for this number.
+    TooManyContexts { contexts: u64, limit: u64 },
 }
 
 impl Cause {
@@ -48,9 +53,12 @@ impl Cause {
         match self {
             Cause::NetlistFault(_) => 1,
             Cause::Loop(_) => 3,
-            Cause::WeightTooLarge { .. } | Cause::GridTooLarge { .. } | Cause::TooFar { .. } => 4,
+            Cause::WeightTooLarge { .. }
+            | Cause::GridTooLarge { .. }
+            | Cause::TooFar { .. }
+            | Cause::TooManyContexts { .. } => 4,
             Cause::Pattern(_) | Cause::PortTable(_) => 8,
-            Cause::Streams(_) | Cause::NoSuchNet(_) => 9,
+            Cause::Streams(_) | Cause::StartWord(_) | Cause::NoSuchNet(_) => 9,
         }
     }
 }
@@ -141,6 +149,19 @@ impl From<StreamError> for TextError {
         match error {
             StreamError::Fault(fault) => TextError::Refused(Cause::Streams(fault)),
             StreamError::NoMemory => TextError::NoMemory,
+        }
+    }
+}
+
+impl From<StartError> for TextError {
+    ghost use Rattle.blifww_tool.specs.Refusals.{starts_error};
+
+    ghost from_gives = { λ e r. r ≡ starts_error e };
+
+    fn from(error: StartError) -> Self {
+        match error {
+            StartError::Fault(fault) => TextError::Refused(Cause::StartWord(fault)),
+            StartError::NoMemory => TextError::NoMemory,
         }
     }
 }

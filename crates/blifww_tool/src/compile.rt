@@ -1,28 +1,105 @@
 // `compile`: the pattern of a netlist.
-ghost use Rattle.std.specs.Prelude.{IfOk, IfErr};
+ghost use Rattle.std.specs.Prelude.{◌≡◌, ◌==◌, ◌&&◌, ◌<◌, ℕ, List, length, map, string_bytes, IfOk, IfErr};
+ghost use Rattle.netlist_text.specs.Parts.{AreParts};
+ghost use Rattle.plan_ports.specs.Tables.{HasPortNames};
+ghost use Rattle.netlist_plans.specs.Lists.{IsPlanned};
+ghost use Rattle.start_words.specs.Flats.{AreBitsSet, flat_latches};
 ghost use Rattle.command_words.specs.Shapes.{compile};
 ghost use Rattle.blifww_tool.specs.Answer.{output_text, IsWritableOutput};
 ghost use Rattle.blifww_tool.specs.Commands.{Prints, HasTextCause};
+ghost use Rattle.blifww_tool.specs.Compilation.{Compiles, HasStarts, IsCarriedBy};
 
-use crate::causes::TextError;
+use crate::causes::{Cause, TextError};
 use crate::output::Output;
+use carries::one_context_carries;
 use flat_designs::{flat_is_one, flat_is_sound, flat_is_weighed};
-use netlist_plans::plan_netlist;
-use netlist_text::netlist_of;
-use plan_carries::designs_are_carried;
+use netlist_plans::{NetlistPlanError, Planned, plan_contexts, plan_netlist};
+use netlist_text::{Netlist, netlist_of};
+use plan_carries::{designs_are_carried, designs_are_carried_in_contexts};
+use start_words::Starts;
+use start_words::laws::{latches_are_flat, no_words_mean_start, starts_are_flat};
 use std::alloc::Global;
 
-/// The pattern of the netlist whose text this is, with the lines that say where its ports and nets are.
-pub fn compile(alloc: Global, text: &[u8]) -> Result<Output, TextError>
-    ensures printed { IfOk result (λ output. Prints compile text.now (output_text output)) }
-    ensures writable { IfOk result IsWritableOutput }
-    ensures refused { IfErr result (λ e. HasTextCause compile text.now e) }
+// The plan of a netlist, for one context.
+fn plan_of(alloc: Global, netlist: &Netlist) -> Result<Planned, NetlistPlanError>
+    requires parts { AreParts netlist.now.design netlist.now.flat netlist.now.order.nodes }
+    requires names { HasPortNames netlist.now.flat }
+    ensures carried { IfOk result (λ p. IsCarriedBy netlist.now.design p.plan p.ports) }
+    ensures planned { IfOk result (λ p. IsPlanned netlist.now.flat p.plan) }
 {
-    let netlist = netlist_of(alloc, text)?;
     flat_is_sound();
     flat_is_weighed();
     flat_is_one();
     designs_are_carried();
     let planned = plan_netlist(alloc, &netlist.flat, &netlist.order)?;
-    Ok(Output::Drawing(planned))
+    Ok(planned)
+}
+
+// Whether one context is asked for, without words.
+fn is_alone(contexts: u64, words: &[String]) -> bool
+    ensures { result ≡ (contexts == 1 && length words.now == 0) }
+{
+    contexts == 1 && words.is_empty()
+}
+
+// The plan with the starts that words have set in so many contexts.
+fn started(
+    alloc: Global,
+    netlist: &Netlist,
+    planned: Planned,
+    contexts: u64,
+    words: &[String],
+    starts: &Starts,
+) -> Result<Output, TextError>
+    requires parts { AreParts netlist.now.design netlist.now.flat netlist.now.order.nodes }
+    requires names { HasPortNames netlist.now.flat }
+    requires carried { IsCarriedBy netlist.now.design planned.plan planned.ports }
+    requires planned { IsPlanned netlist.now.flat planned.plan }
+    requires some { 0 < contexts }
+    requires set { AreBitsSet (flat_latches netlist.now.flat) starts.now.bits (map string_bytes words.now) }
+    ensures printed { IfOk result (λ output. (text : List ℕ) → HasStarts contexts (map string_bytes words.now) text netlist.now.design
+        → Compiles contexts (map string_bytes words.now) text (output_text output)) }
+    ensures writable { IfOk result IsWritableOutput }
+    ensures refused { IfErr result (λ e. (text : List ℕ) → HasStarts contexts (map string_bytes words.now) text netlist.now.design
+        → HasTextCause (compile contexts (map string_bytes words.now)) text e) }
+{
+    flat_is_sound();
+    flat_is_weighed();
+    flat_is_one();
+    one_context_carries();
+    no_words_mean_start();
+    starts_are_flat();
+    designs_are_carried_in_contexts();
+    let limit = planned.ports.p / 32;
+    if contexts > limit {
+        return Err(TextError::Refused(Cause::TooManyContexts { contexts, limit }));
+    }
+    if is_alone(contexts, words) {
+        return Ok(Output::Drawing(planned));
+    }
+    let bits = starts.in_contexts(alloc, &netlist.flat, contexts)?;
+    let started = plan_contexts(alloc, &netlist.flat, planned.plan, bits.as_slice())?;
+    Ok(Output::Drawing(started))
+}
+
+/// The pattern of the netlist whose text this is, in so many contexts, with the lines that say where its ports and nets are. The
+/// words say with which bits its latches start.
+pub fn compile(
+    alloc: Global,
+    contexts: u64,
+    words: &[String],
+    text: &[u8],
+) -> Result<Output, TextError>
+    requires some { 0 < contexts }
+    ensures printed { IfOk result (λ output.
+        Prints (compile contexts (map string_bytes words.now)) text.now (output_text output)) }
+    ensures writable { IfOk result IsWritableOutput }
+    ensures refused { IfErr result (λ e.
+        HasTextCause (compile contexts (map string_bytes words.now)) text.now e) }
+{
+    let netlist = netlist_of(alloc, text)?;
+    latches_are_flat();
+    let starts = Starts::read(alloc, &netlist.flat, words, contexts)?;
+    let planned = plan_of(alloc, &netlist)?;
+    started(alloc, &netlist, planned, contexts, words, &starts)
 }

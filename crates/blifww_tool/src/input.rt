@@ -17,7 +17,7 @@ fn reads_text(command: &Command) -> bool
     ensures { result ≡ reads_text (values_of command.now) }
 {
     match command {
-        Command::Compile
+        Command::Compile { .. }
         | Command::Simulate { .. }
         | Command::Eval { .. }
         | Command::Probe { .. }

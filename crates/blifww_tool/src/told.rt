@@ -4,7 +4,7 @@ ghost use Rattle.std.specs.Io.KnownBytes.{Appends};
 ghost use Rattle.ww_base.specs.Faults.{HasCause};
 ghost use Rattle.port_writing.specs.Pages.{held};
 ghost use Rattle.port_writing.specs.Progress.{Wrote, Broke};
-ghost use Rattle.blifww_tool.specs.Refusals.{rle_fault_name, port_fault_name, stream_fault_name, fault_line, stream_line, fault_text, netlist_line, spaced, loop_line, cause_line, refusal_line};
+ghost use Rattle.blifww_tool.specs.Refusals.{rle_fault_name, port_fault_name, start_fault_name, stream_fault_name, fault_line, stream_line, fault_text, netlist_line, spaced, loop_line, cause_line, refusal_line};
 
 use crate::causes::Cause;
 use crate::refusals::Refusal;
@@ -15,6 +15,7 @@ use lists::Bytes;
 use netlist_core::WEIGHT_LIMIT;
 use pattern_reading::{PortFaultKind, RleFaultKind};
 use port_writing::{Page, write_pieces};
+use start_words::StartFaultKind;
 use ww_base::{Failed, Sink, write_all};
 
 // A fault of a pattern's text as it is printed.
@@ -55,6 +56,19 @@ fn stream_fault_name(kind: StreamFaultKind) -> &'static [u8]
         StreamFaultKind::BadBit => b"BadBit",
         StreamFaultKind::BadLength => b"BadLength",
         StreamFaultKind::MissingInput => b"MissingInput",
+    }
+}
+
+// A fault of start words as it is printed.
+fn start_fault_name(kind: StartFaultKind) -> &'static [u8]
+    ensures { result.now ≡ start_fault_name kind }
+{
+    match kind {
+        StartFaultKind::NoEquals => b"NoEquals",
+        StartFaultKind::BadContext => b"BadContext",
+        StartFaultKind::NoSuchLatch => b"NoSuchLatch",
+        StartFaultKind::TwiceLatch => b"TwiceLatch",
+        StartFaultKind::BadBit => b"BadBit",
     }
 }
 
@@ -101,7 +115,26 @@ fn tell_generations<E: Sink>(err: &mut E, generations: u128) -> Result<(), Faile
     write_pieces(err, &[b"too large: generations ", count, b"\n"])
 }
 
-// Tells a fault of streams, and the word at fault.
+// Tells how many contexts are too many.
+fn tell_contexts<E: Sink>(err: &mut E, contexts: u64, limit: u64) -> Result<(), Failed>
+    ensures ok { OnOk result
+        (Appends (E.written err.old) (E.written err.new) (cause_line (Cause.TooManyContexts contexts limit))) }
+    ensures front { OnErr result
+        ((n : ℕ) × Appends (E.written err.old) (E.written err.new)
+        (take n (cause_line (Cause.TooManyContexts contexts limit)))) }
+    ensures cause { HasCause (E.faults err.old) (E.faults err.new) result }
+{
+    let mut digits = Buffer::new();
+    let mut limits = Buffer::new();
+    let count = digits.format(contexts).as_bytes();
+    let limit = limits.format(limit).as_bytes();
+    write_pieces(
+        err,
+        &[b"too large: contexts ", count, b" limit ", limit, b"\n"],
+    )
+}
+
+// Tells a fault of streams or of start words, and the word at fault.
 fn tell_streams<'a, E: Sink>(err: &mut E, name: &'a [u8], word: &'a [u8]) -> Result<(), Failed>
     ensures ok { OnOk result (Appends (E.written err.old) (E.written err.new) (stream_line name.now word.now)) }
     ensures front { OnErr result
@@ -216,8 +249,12 @@ impl Cause {
             Cause::Streams(fault) => {
                 tell_streams(err, stream_fault_name(fault.kind), fault.word.as_slice())
             }
+            Cause::StartWord(fault) => {
+                tell_streams(err, start_fault_name(fault.kind), fault.word.as_slice())
+            }
             Cause::NoSuchNet(name) => tell_streams(err, b"NoSuchNet", name.as_slice()),
             Cause::TooFar { generations } => tell_generations(err, *generations),
+            Cause::TooManyContexts { contexts, limit } => tell_contexts(err, *contexts, *limit),
         }
     }
 }

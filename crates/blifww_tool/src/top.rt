@@ -1,7 +1,7 @@
 // The top call.
-ghost use Rattle.std.specs.Prelude.{◌≡◌, ℕ, List, map, string_bytes, IfOk, IfErr, OnOk, IsErrOf};
+ghost use Rattle.std.specs.Prelude.{◌≡◌, ℕ, List, [], map, string_bytes, IfOk, IfErr, OnOk, IsErrOf};
 ghost use Rattle.command_words.specs.Shapes.{compile, values_of, HasNumbersInRange};
-ghost use Rattle.blifww_tool.specs.Headline.{WritesWhatItRead};
+ghost use Rattle.blifww_tool.specs.Headline.{WritesInContexts, WritesWhatItRead};
 ghost use Rattle.blifww_tool.specs.Commands.{Prints, HasTextCause};
 ghost use Rattle.blifww_tool.specs.Answer.{output_text, IsWritableOutput, HasStopped};
 ghost use Rattle.blifww_tool.specs.Run.{Asks, AsksForNoText, reading, writing, call, Gave, Does, Ends};
@@ -29,7 +29,9 @@ fn answer(alloc: Global, command: &Command, text: &[u8]) -> Result<Output, TextE
     ensures refused { IfErr result (λ e. HasTextCause (values_of command.now) text.now e) }
 {
     match command {
-        Command::Compile => compile(alloc, text),
+        Command::Compile { contexts, starts } => {
+            compile(alloc, *contexts, starts.as_slice(), text)
+        }
         Command::Simulate { cycles, streams } => simulate(alloc, *cycles, streams.as_slice(), text),
         Command::Eval { cycles, streams } => eval(alloc, *cycles, streams.as_slice(), text),
         Command::Probe {
@@ -76,7 +78,9 @@ fn work<S: Source, O: Sink>(
 /// Does what the words say, and answers the exit status. `words` begins with the program's name.
 ///
 /// `compile` reads the BLIF text of a netlist from `src` and writes a pattern that carries it to `out` as extended RLE, with lines
-/// that say where its ports are. `simulate --cycles N name=bits..` reads such a pattern, with any ports, and writes a
+/// that say where its ports are. `compile --contexts C c:net=bit..` writes a pattern in which C machines run on the same wires, each 32
+/// generations after the one before; a word sets the bit with which the latch that drives a net of the main model starts in
+/// context c, and a latch that no word sets starts as the netlist says. `simulate --cycles N name=bits..` reads such a pattern, with any ports, and writes a
 /// line `name=bits` for each output, with the bits that its cell shows when the streams of the words drive the inputs.
 /// `eval --cycles N name=bits..` reads a netlist and writes such lines with the bits of its run on the streams.
 /// `probe --cycles N --net NAME [--path PATH] name=bits..` reads a pattern and writes such a line for a net of its port table, and
@@ -86,11 +90,12 @@ fn work<S: Source, O: Sink>(
 ///
 /// 0: all of it is on `out`. 1: the netlist's text breaks a rule. 2: the words are no command. 3: covers read each other in a
 /// circle. 4: the text has more than 16,777,216 bytes, the netlist weighs more than 8,192, the pattern's box has more than
-/// 268,435,456 cells, or its last bits come after generation 4,294,967,296. 5: `src` failed. 6: `out` or `err` failed. 7: there
+/// 268,435,456 cells, its last bits come after generation 4,294,967,296, or the pattern has no room for so many contexts: it has
+/// room for at least 6 for each latch. 5: `src` failed. 6: `out` or `err` failed. 7: there
 /// was not enough memory. 8: the text is no pattern's, or its port table is at fault. 9: the words are no streams for the inputs, or
-/// the table has no net as asked for. Of several the first is answered: 2, 5, 4 (the text); then of a netlist 1 (lines and models),
+/// no starts for the latches, or the table has no net as asked for. Of several the first is answered: 2, 5, 4 (the text); then of a netlist 1 (lines and models),
 /// 4 (the weight), 1 (clocks), 3, and of a pattern 8 (the header), 4 (the box), 8 (the items), 8 (the table); then 9 (words),
-/// 9 (the net), 4 (generations), 6. With each but 0 and 6 one line on `err` tells it, and nothing is on `out`.
+/// 9 (the net), 4 (generations), 4 (contexts), 6. With each but 0 and 6 one line on `err` tells it, and nothing is on `out`.
 pub fn run<S: Source, O: Sink, E: Sink>(
     alloc: Global,
     words: &[String],
@@ -98,9 +103,13 @@ pub fn run<S: Source, O: Sink, E: Sink>(
     out: &mut O,
     err: &mut E,
 ) -> u8
-    // The bytes that `compile` has written carry the design of the text that `src` had left.
-    ensures headline { result ≡ 0 → Asks (map string_bytes words.now) compile
+    // The bytes that `compile` has written carry the design of the text that `src` had left,
+    ensures headline { result ≡ 0 → Asks (map string_bytes words.now) (compile 1 [])
         → WritesWhatItRead (reading S.left S.faults src.old src.new) (writing O.written O.faults out.old out.new) }
+
+    // and with `--contexts` carry it in so many contexts, each from the state that the words give it.
+    ensures contexts { result ≡ 0 → (contexts : ℕ) (starts : List (List ℕ)) → Asks (map string_bytes words.now) (compile contexts starts)
+        → WritesInContexts contexts starts (reading S.left S.faults src.old src.new) (writing O.written O.faults out.old out.new) }
 
     // How the run ends, for every command: done, refused or cut off, each status only where its cause is; and a cause in the words or the
     // text is told wherever it is, but for failed reads and writes and want of memory.

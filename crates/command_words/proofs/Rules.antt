@@ -62,6 +62,9 @@ leaf name rules = record (new_shape name) {
   is_built = true;
 }
 
+abbrev pub compile_rules : List Rule
+compile_rules = option_rule (codes "contexts") false ∷ words_rule ∷ []
+
 abbrev pub driven_rules : List Rule
 driven_rules = option_rule (codes "cycles") true ∷ words_rule ∷ []
 
@@ -81,7 +84,7 @@ self_rules = option_rule (codes "seed") true ∷ option_rule (codes "size") true
 
 abbrev pub shapes : List Shape
 shapes =
-    leaf (codes "compile") [] ∷ leaf (codes "simulate") driven_rules ∷ leaf (codes "eval") driven_rules ∷ leaf (codes "probe") probe_rules
+    leaf (codes "compile") compile_rules ∷ leaf (codes "simulate") driven_rules ∷ leaf (codes "eval") driven_rules ∷ leaf (codes "probe") probe_rules
     ∷ leaf (codes "window") window_rules ∷ leaf (codes "make") make_rules ∷ leaf (codes "self") self_rules ∷ []
 
 -- the program's own level

@@ -13,11 +13,11 @@ use Rattle.clap.specs.Simple.{subcommand_of}
 use Rattle.clap.specs.declared.parser.matches.ValueSource.TheVariants.{CommandLine}
 use Rattle.clap.specs.declared.builder.value_parser.Reading.TheVariants.{AsWritten}
 use Rattle.command_words.specs.App.{blifww_app}
-use Rattle.command_words.specs.Numbers.{NumberRange, are_digits, number_taken, cycles_range, generation_range, x_range, y_range, width_range, height_range, seed_range, size_range}
-use Rattle.command_words.specs.Shapes.{CommandValues, compile, simulate, eval, probe, window, make, self_, simulate_or_eval_by, values_met, command_values, is_plain_word, option_words, streams_met, IsCommand, IsSimulateOrEval, IsPlain, IsWritten, GivesPath, MeetsRanges, Writes}
+use Rattle.command_words.specs.Numbers.{NumberRange, are_digits, number_taken, cycles_range, generation_range, x_range, y_range, width_range, height_range, seed_range, size_range, contexts_range}
+use Rattle.command_words.specs.Shapes.{CommandValues, compile, simulate, eval, probe, window, make, self_, simulate_or_eval_by, values_met, command_values, is_plain_word, option_words, streams_met, IsCommand, IsSimulateOrEval, IsPlain, IsWritten, GivesContexts, GivesPath, MeetsContexts, MeetsRanges, Writes}
 use Rattle.command_words.specs.declared.command.View.{View}
 use Rattle.command_words.proofs.Entered.{IsNamed, entered_own, takes_own}
-use Rattle.command_words.proofs.Rules.{leaf, words_rule, driven_rules, probe_rules, window_rules, make_rules, self_rules}
+use Rattle.command_words.proofs.Rules.{leaf, words_rule, compile_rules, driven_rules, probe_rules, window_rules, make_rules, self_rules}
 use Rattle.command_words.proofs.Walks.{HasNoHyphen, HaveWords, IsGiven, IsOption, Pending, all_pass, all_walked, options_pass, plain_walk}
 
 -- ---- values are no flags
@@ -132,8 +132,12 @@ module _ (command : Text) (own : List Rule) (options : List (Text × Text)) (str
       ∙ ap (λ (rows : List Row). Some (command, rows)) r.rows
 
   -- it is a command, where each number that the options give is in its range
-  plain_command : length words ≤ usize_max → MeetsRanges (Some (command, rows_for options streams)) → IsCommand words
-  plain_command short within = record { taken = plain_taken short; in_range = subst MeetsRanges (sym plain_entered) within }
+  plain_command : length words ≤ usize_max → MeetsRanges (Some (command, rows_for options streams)) → MeetsContexts (Some (command, rows_for options streams)) → IsCommand words
+  plain_command short within beside = record {
+    taken = plain_taken short;
+    in_range = subst MeetsRanges (sym plain_entered) within;
+    beside = subst MeetsContexts (sym plain_entered) beside;
+  }
 
   plain_values : (v : CommandValues) → values_met (Some (command, rows_for options streams)) ≡ Some v → command_values words ≡ Some v
   plain_values v e = ap values_met plain_entered ∙ e
@@ -147,6 +151,9 @@ words_met own (p ∷ options) streams given =
     ∙ words_met own options streams given.1
 
 -- ---- each command
+
+compile_contexts : IsOption compile_rules (codes "contexts")
+compile_contexts = record { required = false; by_long = refl; by_id = refl; long = refl; whole = refl; same = refl; other = refl }
 
 driven_cycles : IsOption driven_rules (codes "cycles")
 driven_cycles = record { required = true; by_long = refl; by_id = refl; long = refl; whole = refl; same = refl; other = refl }
@@ -190,7 +197,7 @@ self_size = record { required = true; by_long = refl; by_id = refl; long = refl;
 self_cycles : IsOption self_rules (codes "cycles")
 self_cycles = record { required = true; by_long = refl; by_id = refl; long = refl; whole = refl; same = refl; other = refl }
 
-compile_read : IsRead (codes "compile") [] ([]) []
+compile_read : IsRead (codes "compile") compile_rules [] []
 compile_read = record {
   named = record { named = refl; shape = refl };
   given = tt;
@@ -200,6 +207,25 @@ compile_read = record {
   valid = refl;
   rows = refl;
 }
+
+contexts_read : (n : Text) (starts : List Text) → HasNoHyphen n → IsRead (codes "compile") compile_rules ((codes "contexts", n) ∷ []) starts
+contexts_read n starts en = record {
+  named = record { named = refl; shape = refl };
+  given = ((compile_contexts, en), tt);
+  have = have_words compile_rules starts refl;
+  take = take_words compile_rules starts refl;
+  passes = refl;
+  valid = valid starts;
+  rows = rows starts;
+}
+  where
+    valid : (vs : List Text) → after_passes (codes "compile") compile_rules (plain_walk compile_rules [] None ((codes "contexts", n) ∷ []) vs) ≡ true
+    valid [] = refl
+    valid (v ∷ vs) = refl
+
+    rows : (vs : List Text) → finished compile_rules (plain_walk compile_rules [] None ((codes "contexts", n) ∷ []) vs).held ≡ rows_for ((codes "contexts", n) ∷ []) vs
+    rows [] = refl
+    rows (v ∷ vs) = refl
 
 simulate_read : (n : Text) (streams : List Text) → HasNoHyphen n → IsRead (codes "simulate") driven_rules ((codes "cycles", n) ∷ []) streams
 simulate_read n streams en = record {
@@ -323,27 +349,31 @@ self_read s k n es ek en = record {
 is_written : (o : Option ℕ) (n : ℕ) → o ≡ Some n → is_some o ≡ true
 is_written o n e = ap (λ (p : Option ℕ). is_some p) e
 
+contexts_ranges : (n : Text) (starts : List Text) → is_some (number_taken contexts_range n) ≡ true → MeetsRanges (Some (codes "compile", rows_for ((codes "contexts", n) ∷ []) starts))
+contexts_ranges n [] en = (tt, (tt, (tt, (tt, (tt, (tt, (tt, (tt, (en, tt)))))))))
+contexts_ranges n (v ∷ vs) en = (tt, (tt, (tt, (tt, (tt, (tt, (tt, (tt, (en, tt)))))))))
+
 driven_ranges : (command : Text) (n : Text) (streams : List Text) → is_some (number_taken cycles_range n) ≡ true → MeetsRanges (Some (command, rows_for ((codes "cycles", n) ∷ []) streams))
-driven_ranges command n [] en = (en, (tt, (tt, (tt, (tt, (tt, (tt, (tt, tt))))))))
-driven_ranges command n (v ∷ vs) en = (en, (tt, (tt, (tt, (tt, (tt, (tt, (tt, tt))))))))
+driven_ranges command n [] en = (en, (tt, (tt, (tt, (tt, (tt, (tt, (tt, (tt, tt)))))))))
+driven_ranges command n (v ∷ vs) en = (en, (tt, (tt, (tt, (tt, (tt, (tt, (tt, (tt, tt)))))))))
 
 probe_ranges : (command : Text) (n net : Text) (streams : List Text) → is_some (number_taken cycles_range n) ≡ true → MeetsRanges (Some (command, rows_for ((codes "cycles", n) ∷ (codes "net", net) ∷ []) streams))
-probe_ranges command n net [] en = (en, (tt, (tt, (tt, (tt, (tt, (tt, (tt, tt))))))))
-probe_ranges command n net (v ∷ vs) en = (en, (tt, (tt, (tt, (tt, (tt, (tt, (tt, tt))))))))
+probe_ranges command n net [] en = (en, (tt, (tt, (tt, (tt, (tt, (tt, (tt, (tt, tt)))))))))
+probe_ranges command n net (v ∷ vs) en = (en, (tt, (tt, (tt, (tt, (tt, (tt, (tt, (tt, tt)))))))))
 
 path_ranges : (command : Text) (n net path : Text) (streams : List Text) → is_some (number_taken cycles_range n) ≡ true → MeetsRanges (Some (command, rows_for ((codes "cycles", n) ∷ (codes "net", net) ∷ (codes "path", path) ∷ []) streams))
-path_ranges command n net path [] en = (en, (tt, (tt, (tt, (tt, (tt, (tt, (tt, tt))))))))
-path_ranges command n net path (v ∷ vs) en = (en, (tt, (tt, (tt, (tt, (tt, (tt, (tt, tt))))))))
+path_ranges command n net path [] en = (en, (tt, (tt, (tt, (tt, (tt, (tt, (tt, (tt, tt)))))))))
+path_ranges command n net path (v ∷ vs) en = (en, (tt, (tt, (tt, (tt, (tt, (tt, (tt, (tt, tt)))))))))
 
 window_ranges : (command : Text) (g x y w h : Text) (streams : List Text) → is_some (number_taken generation_range g) ≡ true → is_some (number_taken x_range x) ≡ true → is_some (number_taken y_range y) ≡ true → is_some (number_taken width_range w) ≡ true → is_some (number_taken height_range h) ≡ true → MeetsRanges (Some (command, rows_for ((codes "gen", g) ∷ (codes "x", x) ∷ (codes "y", y) ∷ (codes "width", w) ∷ (codes "height", h) ∷ []) streams))
-window_ranges command g x y w h [] eg ex ey ew eh = (tt, (eg, (ex, (ey, (ew, (eh, (tt, (tt, tt))))))))
-window_ranges command g x y w h (v ∷ vs) eg ex ey ew eh = (tt, (eg, (ex, (ey, (ew, (eh, (tt, (tt, tt))))))))
+window_ranges command g x y w h [] eg ex ey ew eh = (tt, (eg, (ex, (ey, (ew, (eh, (tt, (tt, (tt, tt)))))))))
+window_ranges command g x y w h (v ∷ vs) eg ex ey ew eh = (tt, (eg, (ex, (ey, (ew, (eh, (tt, (tt, (tt, tt)))))))))
 
 make_ranges : (command : Text) (s k : Text) → is_some (number_taken seed_range s) ≡ true → is_some (number_taken size_range k) ≡ true → MeetsRanges (Some (command, rows_for ((codes "seed", s) ∷ (codes "size", k) ∷ []) []))
-make_ranges command s k es ek = (tt, (tt, (tt, (tt, (tt, (tt, (es, (ek, tt))))))))
+make_ranges command s k es ek = (tt, (tt, (tt, (tt, (tt, (tt, (es, (ek, (tt, tt)))))))))
 
 self_ranges : (command : Text) (s k n : Text) → is_some (number_taken seed_range s) ≡ true → is_some (number_taken size_range k) ≡ true → is_some (number_taken cycles_range n) ≡ true → MeetsRanges (Some (command, rows_for ((codes "seed", s) ∷ (codes "size", k) ∷ (codes "cycles", n) ∷ []) []))
-self_ranges command s k n es ek en = (en, (tt, (tt, (tt, (tt, (tt, (es, (ek, tt))))))))
+self_ranges command s k n es ek en = (en, (tt, (tt, (tt, (tt, (tt, (es, (ek, (tt, tt)))))))))
 
 -- ---- and their values
 
@@ -373,20 +403,55 @@ no_path : (n net : Text) (streams : List Text) → first_of (codes "path") (rows
 no_path n net [] = refl
 no_path n net (v ∷ vs) = refl
 
+-- words of another command need no number of contexts
+not_compile : (command : Text) (rows : List Row) → bytes_eq command (codes "compile") ≡ false → MeetsContexts (Some (command, rows))
+not_compile command rows other is = absurd (true≢false (sym is ∙ other))
+
 -- what is said of a command and words in its plainest form
 pub record IsWell (v : CommandValues) (words : List Text) : Type 0 where
   pub command : length words ≤ usize_max → IsCommand words
   pub values : command_values words ≡ Some v
 
+-- `compile` in one context, without words
+one_well : (words : List Text) → IsPlain (codes "compile") [] [] words → IsWell (compile 1 []) words
+one_well words w = record {
+  command = λ short. plain_command (codes "compile") compile_rules [] [] words w compile_read short (tt, (tt, (tt, (tt, (tt, (tt, (tt, (tt, (tt, tt))))))))) (λ is none. refl);
+  values = plain_values (codes "compile") compile_rules [] [] words w compile_read (compile 1 []) refl;
+}
+
+-- and in several, with words for their states
+contexts_well : (contexts : ℕ) (starts words : List Text) (n : Text) → IsPlain (codes "compile") ((codes "contexts", n) ∷ []) starts words → Writes contexts_range n contexts
+    → IsWell (compile contexts starts) words
+contexts_well contexts starts words n w e =
+    let options = (codes "contexts", n) ∷ [] in
+    let read = contexts_read n starts (number_plain contexts_range n contexts e) in
+    let rows = rows_for options starts in
+    record {
+      command = λ short. plain_command (codes "compile") compile_rules options starts words w read short (contexts_ranges n starts (is_written _ contexts e)) (λ is none. absurd (true≢false none));
+      values =
+          plain_values (codes "compile") compile_rules options starts words w read (compile contexts starts)
+          (ap₂ (λ (o : Option ℕ) (ws : List Text). option_map (λ c. compile c ws) o) e (words_met compile_rules options starts read.given));
+    }
+
+compile_well : (contexts : ℕ) (starts words : List Text) (options : List (Text × Text)) → IsPlain (codes "compile") options starts words → GivesContexts options contexts starts
+    → IsWell (compile contexts starts) words
+compile_well contexts starts words [] w is =
+    subst (λ (c : ℕ). IsWell (compile c starts) words) (sym is.0) (subst (λ (ws : List Text). IsPlain (codes "compile") [] ws words → IsWell (compile 1 ws) words) (sym is.1) (one_well words) w)
+compile_well contexts starts words (given ∷ []) w is =
+    contexts_well contexts starts words given.1 (subst (λ (name : Text). IsPlain (codes "compile") ((name, given.1) ∷ []) starts words) is.0 w) is.1
+compile_well contexts starts words (p ∷ q ∷ options) w is = absurd is
+
 driven_well : (command : Text) (by_cycles : ℕ → List Text → CommandValues) (cycles : ℕ) (streams words : List Text)
     → ((n : Text) → HasNoHyphen n → IsRead command driven_rules ((codes "cycles", n) ∷ []) streams)
-    → ((rows : List Row) → values_met (Some (command, rows)) ≡ simulate_or_eval_by by_cycles rows) → IsSimulateOrEval command cycles streams words → IsWell (by_cycles cycles streams) words
-driven_well command by_cycles cycles streams words reads by w =
+    → ((rows : List Row) → values_met (Some (command, rows)) ≡ simulate_or_eval_by by_cycles rows) → bytes_eq command (codes "compile") ≡ false
+    → IsSimulateOrEval command cycles streams words → IsWell (by_cycles cycles streams) words
+driven_well command by_cycles cycles streams words reads by other w =
     let n = w.0 in
     let plain = number_plain cycles_range n cycles w.2 in
     let options = (codes "cycles", n) ∷ [] in
+    let others : MeetsContexts (Some (command, rows_for options streams)) = not_compile command (rows_for options streams) other in
     record {
-      command = λ short. plain_command command driven_rules options streams words w.1 (reads n plain) short (driven_ranges command n streams (is_written _ cycles w.2));
+      command = λ short. plain_command command driven_rules options streams words w.1 (reads n plain) short (driven_ranges command n streams (is_written _ cycles w.2)) others;
       values =
           plain_values command driven_rules options streams words w.1 (reads n plain) (by_cycles cycles streams)
           (by (rows_for options streams) ∙ driven_valued by_cycles n cycles streams plain w.2);
@@ -400,7 +465,7 @@ probe_well cycles net path streams words n [] w e plain is =
     let read = probe_read n net streams (number_plain cycles_range n cycles e) (plain_word net plain) in
     let rows = rows_for options streams in
     record {
-      command = λ short. plain_command (codes "probe") probe_rules options streams words w read short (probe_ranges (codes "probe") n net streams (is_written _ cycles e));
+      command = λ short. plain_command (codes "probe") probe_rules options streams words w read short (probe_ranges (codes "probe") n net streams (is_written _ cycles e)) (not_compile (codes "probe") rows refl);
       values =
           plain_values (codes "probe") probe_rules options streams words w read (probe cycles net path streams)
           (ap (λ (o : Option Text). option_and_then (λ c. Some (probe c net (unwrap_or o (codes "-")) (streams_met rows))) (number_taken cycles_range n)) (no_path n net streams)
@@ -415,7 +480,7 @@ probe_well cycles net path streams words n (p ∷ []) w e plain is =
         let options = (codes "cycles", n) ∷ (codes "net", net) ∷ (codes "path", path) ∷ [] in
         let read = path_read n net path streams (number_plain cycles_range n cycles e) (plain_word net plain) (plain_word path is.1) in
         record {
-          command = λ short. plain_command (codes "probe") probe_rules options streams words w read short (path_ranges (codes "probe") n net path streams (is_written _ cycles e));
+          command = λ short. plain_command (codes "probe") probe_rules options streams words w read short (path_ranges (codes "probe") n net path streams (is_written _ cycles e)) (not_compile (codes "probe") (rows_for options streams) refl);
           values =
               plain_values (codes "probe") probe_rules options streams words w read (probe cycles net path streams)
               (probe_valued (number_taken cycles_range n) net path cycles (streams_met (rows_for options streams)) streams e (words_met probe_rules options streams read.given));
@@ -424,12 +489,9 @@ probe_well cycles net path streams words n (p ∷ q ∷ options) w e plain is = 
 
 -- words in the plainest form of a command are a command, and have its values
 pub well : (v : CommandValues) (words : List Text) → IsWritten v words → IsWell v words
-well compile words w = record {
-  command = λ short. plain_command (codes "compile") [] [] [] words w compile_read short (tt, (tt, (tt, (tt, (tt, (tt, (tt, (tt, tt))))))));
-  values = plain_values (codes "compile") [] [] [] words w compile_read compile refl;
-}
-well (simulate cycles streams) words w = driven_well (codes "simulate") simulate cycles streams words (λ n plain. simulate_read n streams plain) (λ rows. refl) w
-well (eval cycles streams) words w = driven_well (codes "eval") eval cycles streams words (λ n plain. eval_read n streams plain) (λ rows. refl) w
+well (compile contexts starts) words w = compile_well contexts starts words w.0 w.1 w.2
+well (simulate cycles streams) words w = driven_well (codes "simulate") simulate cycles streams words (λ n plain. simulate_read n streams plain) (λ rows. refl) refl w
+well (eval cycles streams) words w = driven_well (codes "eval") eval cycles streams words (λ n plain. eval_read n streams plain) (λ rows. refl) refl w
 well (probe cycles net path streams) words w = probe_well cycles net path streams words w.0 w.1 w.2 w.3 w.4 w.5
 well (window view streams) words p =
     let g = p.0 in
@@ -444,7 +506,8 @@ well (window view streams) words p =
     let viewed = five (number_taken generation_range g) (number_taken x_range x) (number_taken y_range y) (number_taken width_range w) (number_taken height_range h) view p.6 p.7 p.8 p.9 p.10 in
     record {
       command = λ short. plain_command (codes "window") window_rules options streams words p.5 read short
-          (window_ranges (codes "window") g x y w h streams (is_written _ view.generation p.6) (is_written _ view.x p.7) (is_written _ view.y p.8) (is_written _ view.width p.9) (is_written _ view.height p.10));
+          (window_ranges (codes "window") g x y w h streams (is_written _ view.generation p.6) (is_written _ view.x p.7) (is_written _ view.y p.8) (is_written _ view.width p.9) (is_written _ view.height p.10))
+          (not_compile (codes "window") (rows_for options streams) refl);
       values =
           plain_values (codes "window") window_rules options streams words p.5 read (window view streams)
           (ap₂ (λ (o : Option View) (ws : List Text). option_map (λ v. window v ws) o) viewed (words_met window_rules options streams read.given));
@@ -455,7 +518,8 @@ well (make seed size) words p =
     let options = (codes "seed", s) ∷ (codes "size", k) ∷ [] in
     let read = make_read s k (number_plain seed_range s seed p.3) (number_plain size_range k size p.4) in
     record {
-      command = λ short. plain_command (codes "make") make_rules options [] words p.2 read short (make_ranges (codes "make") s k (is_written _ seed p.3) (is_written _ size p.4));
+      command = λ short. plain_command (codes "make") make_rules options [] words p.2 read short (make_ranges (codes "make") s k (is_written _ seed p.3) (is_written _ size p.4))
+          (not_compile (codes "make") (rows_for options []) refl);
       values =
           plain_values (codes "make") make_rules options [] words p.2 read (make seed size)
           (two (λ a b. make a b) (number_taken seed_range s) (number_taken size_range k) seed size p.3 p.4);
@@ -468,7 +532,8 @@ well (self_ seed size cycles) words p =
     let read = self_read s k n (number_plain seed_range s seed p.4) (number_plain size_range k size p.5) (number_plain cycles_range n cycles p.6) in
     record {
       command = λ short. plain_command (codes "self") self_rules options [] words p.3 read short
-          (self_ranges (codes "self") s k n (is_written _ seed p.4) (is_written _ size p.5) (is_written _ cycles p.6));
+          (self_ranges (codes "self") s k n (is_written _ seed p.4) (is_written _ size p.5) (is_written _ cycles p.6))
+          (not_compile (codes "self") (rows_for options []) refl);
       values =
           plain_values (codes "self") self_rules options [] words p.3 read (self_ seed size cycles)
           (three (λ a b c. self_ a b c) (number_taken seed_range s) (number_taken size_range k) (number_taken cycles_range n) seed size cycles p.4 p.5 p.6);

@@ -23,7 +23,7 @@ with_required a [] = a
 with_required a (name ∷ names) = with_required (with_rule a (required_option name)) names
 
 abbrev pub compile_app : App
-compile_app = new_app (codes "compile")
+compile_app = with_rule (with_rule (new_app (codes "compile")) (free_option (codes "contexts"))) stream_words
 
 -- `simulate` or `eval`, by its name
 abbrev pub driven_app : Text → App

@@ -50,9 +50,13 @@ seed_range = record { name = codes "seed"; least = 0; most = 2147483647 }
 abbrev pub size_range : NumberRange
 size_range = record { name = codes "size"; least = 1; most = 128 }
 
+abbrev pub contexts_range : NumberRange
+contexts_range = record { name = codes "contexts"; least = 1; most = 4294967295 }
+
 -- the options that take numbers
 abbrev pub number_ranges : List NumberRange
-number_ranges = cycles_range ∷ generation_range ∷ x_range ∷ y_range ∷ width_range ∷ height_range ∷ seed_range ∷ size_range ∷ []
+number_ranges =
+    cycles_range ∷ generation_range ∷ x_range ∷ y_range ∷ width_range ∷ height_range ∷ seed_range ∷ size_range ∷ contexts_range ∷ []
 
 -- the option takes this number
 abbrev pub TakesNumber : NumberRange → ℕ → Type 0

@@ -7,14 +7,14 @@ use Rattle.clap.specs.Simple.{subcommand_of}
 use Rattle.clap.specs.Takes.{takes}
 use Rattle.clap.specs.Faults.{fault_of}
 use Rattle.command_words.specs.App.{blifww_app}
-use Rattle.command_words.specs.Numbers.{NumberRange, number_taken, number_ranges, TakesNumber, cycles_range, generation_range, x_range, y_range, width_range, height_range, seed_range, size_range}
+use Rattle.command_words.specs.Numbers.{NumberRange, number_taken, number_ranges, TakesNumber, cycles_range, generation_range, x_range, y_range, width_range, height_range, seed_range, size_range, contexts_range}
 use Rattle.command_words.specs.declared.command.View.{View}
 use Rattle.command_words.specs.declared.command.Command.{Command}
 use Rattle.command_words.specs.declared.command.Command.TheVariants.{Compile, Simulate, Eval, Probe, Window, Make, Self_}
 
--- a command with its values, of which the words that give the streams stand last
+-- a command with its values, of which the words that give the streams, or the start states of contexts, stand last
 pub data CommandValues : Type 0 where
-  compile : CommandValues
+  compile : (contexts : ℕ) → (starts : List Text) → CommandValues
   simulate : (cycles : ℕ) → (streams : List Text) → CommandValues
   eval : (cycles : ℕ) → (streams : List Text) → CommandValues
   probe : (cycles : ℕ) → (net path : Text) → (streams : List Text) → CommandValues
@@ -23,7 +23,7 @@ pub data CommandValues : Type 0 where
   self_ : (seed size cycles : ℕ) → CommandValues
 
 abbrev pub values_of : Command → CommandValues
-values_of Compile = compile
+values_of (Compile contexts starts) = compile contexts (map string_bytes starts)
 values_of (Simulate cycles streams) = simulate cycles (map string_bytes streams)
 values_of (Eval cycles streams) = eval cycles (map string_bytes streams)
 values_of (Probe cycles net path streams) = probe cycles (string_bytes net) (string_bytes path) (map string_bytes streams)
@@ -39,7 +39,7 @@ HasViewInRange view =
 
 -- each number of the command is one that its option takes
 abbrev pub HasNumbersInRange : CommandValues → Type 0
-HasNumbersInRange compile = ⊤
+HasNumbersInRange (compile contexts starts) = TakesNumber contexts_range contexts
 HasNumbersInRange (simulate cycles streams) = TakesNumber cycles_range cycles
 HasNumbersInRange (eval cycles streams) = TakesNumber cycles_range cycles
 HasNumbersInRange (probe cycles net path streams) = TakesNumber cycles_range cycles
@@ -55,7 +55,19 @@ number_met range rows = option_and_then (number_taken range) (first_of range.nam
 abbrev pub streams_met : List Row → List Text
 streams_met rows = unwrap_or (all_of (codes "streams") rows) []
 
+-- how many contexts there are, by the text that gives them and the words: without a text there is one, and there are no words
+abbrev pub contexts_by : Option Text → List Text → Option ℕ
+contexts_by (Some text) words = number_taken contexts_range text
+contexts_by None [] = Some 1
+contexts_by None (word ∷ words) = None
+
+abbrev pub contexts_met : List Row → Option ℕ
+contexts_met rows = contexts_by (first_of contexts_range.name rows) (streams_met rows)
+
 -- for each command its values by the matches of its options and words
+abbrev pub compile_by : List Row → Option CommandValues
+compile_by rows = option_map (λ contexts. compile contexts (streams_met rows)) (contexts_met rows)
+
 abbrev pub simulate_or_eval_by : (ℕ → List Text → CommandValues) → List Row → Option CommandValues
 simulate_or_eval_by command rows = option_map (λ cycles. command cycles (streams_met rows)) (number_met cycles_range rows)
 
@@ -84,7 +96,7 @@ self_by rows =
 -- the values that a command of this name has by the matches of its options and words
 abbrev pub values_by_name : Text → List Row → Option CommandValues
 values_by_name name rows =
-    if bytes_eq name (codes "compile") then Some compile
+    if bytes_eq name (codes "compile") then compile_by rows
     else if bytes_eq name (codes "simulate") then simulate_or_eval_by simulate rows
     else if bytes_eq name (codes "eval") then simulate_or_eval_by eval rows
     else if bytes_eq name (codes "probe") then probe_by rows
@@ -108,10 +120,16 @@ text_met name = option_and_then (λ met. first_of name met.1)
 abbrev pub MeetsRanges : Option (Text × List Row) → Type 0
 MeetsRanges met = AllByRecursion (λ range. IfSome (text_met range.name met) (λ text. is_some (number_taken range text) ≡ true)) number_ranges
 
--- The words are a command: a parse of them by clap can fail for want of memory alone, and each number lies in its range.
+-- words of `compile` stand beside a number of contexts alone
+abbrev pub MeetsContexts : Option (Text × List Row) → Type 0
+MeetsContexts met = IfSome met (λ met. bytes_eq met.0 (codes "compile") ≡ true → is_some (first_of (codes "contexts") met.1) ≡ false → streams_met met.1 ≡ [])
+
+-- The words are a command: a parse of them by clap can fail for want of memory alone, each number lies in its range, and `compile`
+-- has words with `--contexts` alone.
 pub record IsCommand (words : List Text) : Type 0 where
   pub taken : takes blifww_app words ≡ true
   pub in_range : MeetsRanges (subcommand_of blifww_app words)
+  pub beside : MeetsContexts (subcommand_of blifww_app words)
 
 -- clap finds no fault in the words
 abbrev pub IsTaken : List Text → Type 0
@@ -143,14 +161,21 @@ GivesPath [] path = path ≡ codes "-"
 GivesPath (given ∷ []) path = (given ≡ (codes "path", path)) × (is_plain_word path ≡ true)
 GivesPath _ path = ⊥
 
+-- these options give words this number of contexts: there is none, it is 1, and there are no words, or there is one
+abbrev pub GivesContexts : List (Text × Text) → ℕ → List Text → Type 0
+GivesContexts [] contexts starts = (contexts ≡ 1) × (starts ≡ [])
+GivesContexts (given ∷ []) contexts starts = (given.0 ≡ codes "contexts") × Writes contexts_range given.1 contexts
+GivesContexts _ contexts starts = ⊥
+
 -- `simulate` or `eval`
 abbrev pub IsSimulateOrEval : Text → ℕ → List Text → List Text → Type 0
 IsSimulateOrEval command cycles streams words = (n : Text) × IsPlain command ((codes "cycles", n) ∷ []) streams words × Writes cycles_range n cycles
 
 -- The plainest form of a command with these values: the program's name, the command's, its options in the order of the table, each as
--- two words with numbers in digits and in their ranges, and then its words. Of `probe` the path may be missing.
+-- two words with numbers in digits and in their ranges, and then its words. Of `probe` the path may be missing, and of `compile` the contexts.
 abbrev pub IsWritten : CommandValues → List Text → Type 0
-IsWritten compile words = IsPlain (codes "compile") [] [] words
+IsWritten (compile contexts starts) words =
+    (options : List (Text × Text)) × IsPlain (codes "compile") options starts words × GivesContexts options contexts starts
 IsWritten (simulate cycles streams) words = IsSimulateOrEval (codes "simulate") cycles streams words
 IsWritten (eval cycles streams) words = IsSimulateOrEval (codes "eval") cycles streams words
 IsWritten (probe cycles net path streams) words =

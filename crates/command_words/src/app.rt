@@ -3,7 +3,7 @@ ghost use Rattle.std.specs.Prelude.{◌≡◌, IfOk, false, map};
 ghost use Rattle.clap.specs.Simple.{App, with_rule};
 ghost use Rattle.clap.specs.Words.{app_of, rule_of, new_app};
 ghost use Rattle.clap.specs.declared.builder.command.Command.TheViews.{out-Command as fields_of};
-ghost use Rattle.command_words.specs.App.{driven_app, free_option, probe_app, required_option, stream_words, window_app, with_required};
+ghost use Rattle.command_words.specs.App.{compile_app, driven_app, free_option, probe_app, required_option, stream_words, window_app, with_required};
 
 use clap::{Arg, ArgAction, Command};
 use std::alloc::{AllocError, Global};
@@ -67,6 +67,14 @@ fn with_arg<'a>(
         Ok(command) => command.arg(arg),
         Err(error) => Err(error),
     }
+}
+
+pub fn compile_command<'a>(alloc: Global) -> Result<Command<'a>, AllocError>
+    ensures app { IfOk result (λ c. app_of c ≡ compile_app) }
+    ensures plain { IfOk result (λ c. (fields_of c).has_globals ≡ false) }
+{
+    let compile = with_options(alloc, "compile", &[]);
+    with_arg(with_arg(compile, free(alloc, "contexts")), streams(alloc))
 }
 
 // A command of this name with `--cycles N`, and any words.

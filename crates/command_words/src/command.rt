@@ -1,12 +1,12 @@
 // The command that words ask for.
-ghost use Rattle.std.specs.Prelude.{◌≡◌, ◌≤◌, IfOk, IfSome, OnOk, IsErrOf, MatchResult, Some, length, map, option_map, string_bytes};
+ghost use Rattle.std.specs.Prelude.{◌≡◌, ◌≤◌, ◌==◌, not, IfOk, IfSome, OnOk, IsErrOf, MatchResult, Some, length, map, option_map, string_bytes};
 ghost use Rattle.clap.specs.Simple.{subcommand_rows_of};
 ghost use Rattle.clap.specs.Lexer.{usize_max};
 ghost use Rattle.clap.specs.Walk.{first_of, rows_of};
 ghost use Rattle.clap.specs.Words.{found_of};
 ghost use Rattle.command_words.specs.Driven.{Reads, values_by};
-ghost use Rattle.command_words.specs.Numbers.{TakesNumber, cycles_range, seed_range, size_range};
-ghost use Rattle.command_words.specs.Shapes.{CommandValues, HasNumbersInRange, HasViewInRange, IsCommand, IsTaken, IsWritten, command_values, simulate_or_eval_by, make_by, number_met, probe_by, self_by, streams_met, values_met, values_of, view_met, window_by};
+ghost use Rattle.command_words.specs.Numbers.{TakesNumber, contexts_range, cycles_range, seed_range, size_range};
+ghost use Rattle.command_words.specs.Shapes.{CommandValues, HasNumbersInRange, HasViewInRange, IsCommand, IsTaken, IsWritten, command_values, compile_by, contexts_met, simulate_or_eval_by, make_by, number_met, probe_by, self_by, streams_met, values_met, values_of, view_met, window_by};
 
 use crate::WordsError;
 use crate::numbers::number_between;
@@ -28,7 +28,12 @@ pub struct View {
 /// A command with its values. `cycles` says how many, and `streams` are the words that give the streams.
 #[derive(Drop)]
 pub enum Command {
-    Compile,
+    /// `contexts` is 1, and there are no `starts`, where the words give no number of contexts. `starts` are the words that give the
+    /// start states.
+    Compile {
+        contexts: u64,
+        starts: List<String>,
+    },
     Simulate {
         cycles: usize,
         streams: List<String>,
@@ -150,7 +155,34 @@ fn view_in(found: &ArgMatches<'_>) -> Option<View>
     })
 }
 
+// Whether there are last words.
+fn has_words(found: &ArgMatches<'_>) -> bool
+    ensures { result ≡ not (length (streams_met (rows_of (found_of found.now))) == 0) }
+{
+    !found.get_strs("streams").unwrap_or(&[]).is_empty()
+}
+
+// How many contexts there are: one where the words do not say it, and then no last words are taken.
+fn contexts_in(found: &ArgMatches<'_>) -> Option<u64>
+    ensures value { result ≡ contexts_met (rows_of (found_of found.now)) }
+    ensures bounds { IfSome result (TakesNumber contexts_range) }
+{
+    match text_in(found, "contexts") {
+        Some(text) => number_between(text, 1, 4_294_967_295),
+        None if has_words(found) => None,
+        None => Some(1),
+    }
+}
+
 // Each command by what clap has found for its options and words.
+fn compile_in(alloc: Global, found: &ArgMatches<'_>) -> Result<Command, WordsError>
+    ensures { Reads (compile_by (rows_of (found_of found.now))) result }
+{
+    let contexts = contexts_in(found).ok_or(WordsError::Usage)?;
+    let starts = streams_in(alloc, found)?;
+    Ok(Command::Compile { contexts, starts })
+}
+
 fn driven_in(alloc: Global, driven: Driven, found: &ArgMatches<'_>) -> Result<Command, WordsError>
     ensures { Reads (simulate_or_eval_by (values_by driven) (rows_of (found_of found.now))) result }
 {
@@ -206,7 +238,7 @@ fn command_in(alloc: Global, found: &ArgMatches<'_>) -> Result<Command, WordsErr
     ensures { Reads (values_met (subcommand_rows_of found.now)) result }
 {
     match found.subcommand() {
-        Some(("compile", _)) => Ok(Command::Compile),
+        Some(("compile", inner)) => compile_in(alloc, inner),
         Some(("simulate", inner)) => driven_in(alloc, Driven::Simulate, inner),
         Some(("eval", inner)) => driven_in(alloc, Driven::Eval, inner),
         Some(("probe", inner)) => probe_in(alloc, inner),
@@ -225,10 +257,10 @@ fn length_fits(words: &[String])
 }
 
 /// The command that the words of a command line ask for. The first word is the program's name, and after it stands one of
-/// `compile`, `simulate --cycles N word..`, `eval --cycles N word..`, `probe --cycles N --net NAME [--path PATH] word..`,
+/// `compile [--contexts C word..]`, `simulate --cycles N word..`, `eval --cycles N word..`, `probe --cycles N --net NAME [--path PATH] word..`,
 /// `window --gen G --x X --y Y --width W --height H word..`, `make --seed S --size K`, `self --seed S --size K --cycles N`.
-/// Numbers are in decimal digits, with or without leading zeros: N from 1 to 1,048,576, G to 4,294,967,296, X and Y to 4,294,967,295,
-/// W and H from 1 to 4,096, S to 2,147,483,647, K from 1 to 128.
+/// Numbers are in decimal digits, with or without leading zeros: C from 1 to 4,294,967,295, N from 1 to 1,048,576, G to 4,294,967,296,
+/// X and Y to 4,294,967,295, W and H from 1 to 4,096, S to 2,147,483,647, K from 1 to 128.
 /// `Usage` comes only where the words are no command, and each other answer but `NoMemory` only where they have its values.
 pub fn command_of(alloc: Global, words: &[String]) -> Result<Command, WordsError>
     ensures ok { IfOk result (λ c. command_values (map string_bytes words.now) ≡ Some (values_of c)) }

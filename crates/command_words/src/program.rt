@@ -6,7 +6,7 @@ ghost use Rattle.clap.specs.declared.builder.command.Command.TheViews.{out-Comma
 ghost use Rattle.command_words.specs.App.{bare_app, blifww_app};
 ghost use Rattle.command_words.specs.Program.{first_app};
 
-use crate::app::{driven_command, probe_command, window_command, with_options};
+use crate::app::{compile_command, driven_command, probe_command, window_command, with_options};
 use clap::Command;
 use std::alloc::{AllocError, Global};
 
@@ -39,8 +39,7 @@ fn with_command<'a>(
 fn first_commands<'a>(alloc: Global) -> Result<Command<'a>, AllocError>
     ensures { IfOk result (λ c. app_of c ≡ first_app) }
 {
-    let compile = Command::new(alloc, "compile");
-    let first = bare_command(alloc).subcommand(compile)?;
+    let first = with_command(bare_command(alloc), compile_command(alloc))?;
     let second = with_command(first, driven_command(alloc, "simulate"))?;
     with_command(second, driven_command(alloc, "eval"))
 }

@@ -2,6 +2,7 @@
 ghost use Rattle.std.specs.Prelude.{◌≡◌, ◌≤◌, length, IfOk};
 
 mod compiling;
+mod contexts;
 mod evaluating;
 mod failing;
 mod hierarchies;

@@ -4,11 +4,11 @@ use command_words::{Command, View, WordsError, command_of};
 use std::alloc::Global;
 use std::test::Fail;
 
-// What is asked for, with the stream words.
+// What is asked for, with the words that stand last.
 #[derive(Clone, Copy)]
 enum Asked {
     Usage,
-    Compile,
+    Compile(u64, &'static [&'static str]),
     Simulate(usize, &'static [&'static str]),
     Eval(usize, &'static [&'static str]),
     Probe(usize, &'static str, &'static str, &'static [&'static str]),
@@ -20,8 +20,30 @@ enum Asked {
 const CASES: &[(&[&str], Asked)] = &[
     (&[], Asked::Usage),
     (&["blifww"], Asked::Usage),
-    (&["blifww", "compile"], Asked::Compile),
-    (&["blifww", "compile", "x"], Asked::Usage),
+    (&["blifww", "compile"], Asked::Compile(1, &[])),
+    (&["blifww", "compile", "1:q=1"], Asked::Usage),
+    (
+        &["blifww", "compile", "--contexts", "1"],
+        Asked::Compile(1, &[]),
+    ),
+    (
+        &["blifww", "compile", "--contexts", "2", "1:q=1", "0:q=0"],
+        Asked::Compile(2, &["1:q=1", "0:q=0"]),
+    ),
+    (
+        &["blifww", "compile", "1:q=1", "--contexts=02"],
+        Asked::Compile(2, &["1:q=1"]),
+    ),
+    (
+        &["blifww", "compile", "--contexts", "4294967295"],
+        Asked::Compile(4_294_967_295, &[]),
+    ),
+    (
+        &["blifww", "compile", "--contexts", "4294967296"],
+        Asked::Usage,
+    ),
+    (&["blifww", "compile", "--contexts", "0"], Asked::Usage),
+    (&["blifww", "compile", "--contexts"], Asked::Usage),
     (&["blifww", "Compile"], Asked::Usage),
     (&["blifww", "simulate"], Asked::Usage),
     (&["blifww", "simulate", "a=01"], Asked::Usage),
@@ -143,7 +165,9 @@ fn are_words(streams: &[String], words: &[&str]) -> bool {
 // Whether the command is the one that was asked for.
 fn is_asked(command: &Command, asked: Asked) -> bool {
     match (command, asked) {
-        (Command::Compile, Asked::Compile) => true,
+        (Command::Compile { contexts, starts }, Asked::Compile(count, words)) => {
+            *contexts == count && are_words(starts.as_slice(), words)
+        }
         (Command::Simulate { cycles, streams }, Asked::Simulate(count, words))
         | (Command::Eval { cycles, streams }, Asked::Eval(count, words)) => {
             *cycles == count && are_words(streams.as_slice(), words)

@@ -14,8 +14,8 @@ fn words_of(
     Ok(words)
 }
 
-// The pattern that `compile` writes of a netlist.
-fn compiled(alloc: Global, text: &[u8]) -> Result<Vec<u8>, Fail> {
+/// The pattern that `compile` writes of a netlist.
+pub fn compiled(alloc: Global, text: &[u8]) -> Result<Vec<u8>, Fail> {
     let got = run_over(
         alloc,
         &["blifww", "compile"],
@@ -33,7 +33,8 @@ fn compiled(alloc: Global, text: &[u8]) -> Result<Vec<u8>, Fail> {
 const COUNTER: &[u8] =
     b".model k\n.outputs q0 q1\n.latch n0 q0 0\n.latch n1 q1 0\n.names q0 n0\n0 1\n.names q0 q1 n1\n10 1\n01 1\n.end\n";
 
-const TOGGLE: &[u8] = b".model t\n.outputs q\n.latch n q 0\n.names q n\n0 1\n.end\n";
+/// A latch that turns in each cycle.
+pub const TOGGLE: &[u8] = b".model t\n.outputs q\n.latch n q 0\n.names q n\n0 1\n.end\n";
 
 // An adder of two bits, of two full adders.
 const ADDER: &[u8] =

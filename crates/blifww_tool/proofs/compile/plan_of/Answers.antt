@@ -1,0 +1,35 @@
+use Rattle.std.proofs.Common.{arith}
+use Rattle.flat_designs.proofs.Whole.{flat_is_named}
+use Rattle.netlist_text.proofs.SoundParts.{sound, weighed, small}
+use Rattle.plan_carries.proofs.SeenNets.{places_fit}
+use Rattle.blifww_tool.proofs.Compiled.{carried_by}
+use Rattle.blifww_tool.proofs.compile.plan_of.Goals as goal
+
+pub plan_netlist-requires-clause-sound : goal.plan_netlist-requires-clause-sound
+plan_netlist-requires-clause-sound c = sound c.args.netlist.now.design c.args.netlist.now.flat _ c.requires.parts c.flat_is_sound.ensures
+
+pub plan_netlist-requires-clause-weighed : goal.plan_netlist-requires-clause-weighed
+plan_netlist-requires-clause-weighed c = weighed c.args.netlist.now.design c.args.netlist.now.flat _ c.requires.parts c.flat_is_weighed.ensures
+
+pub plan_netlist-requires-clause-small : goal.plan_netlist-requires-clause-small
+plan_netlist-requires-clause-small c = small c.args.netlist.now.design c.args.netlist.now.flat _ c.requires.parts
+
+pub plan_netlist-requires-clause-ordered : goal.plan_netlist-requires-clause-ordered
+plan_netlist-requires-clause-ordered c = c.requires.parts.is_order
+
+pub plan_netlist-requires-clause-named : goal.plan_netlist-requires-clause-named
+plan_netlist-requires-clause-named c = flat_is_named c.args.netlist.now.design c.args.netlist.now.flat c.requires.parts.faultless c.requires.parts.is_flat
+
+pub plan_netlist-requires-clause-names : goal.plan_netlist-requires-clause-names
+plan_netlist-requires-clause-names c = c.requires.names
+
+pub plan_netlist-requires-clause-places : goal.plan_netlist-requires-clause-places
+plan_netlist-requires-clause-places c =
+    places_fit c.args.netlist.now.design c.args.netlist.now.flat c.requires.parts.faultless
+    (omega (arith, small c.args.netlist.now.design c.args.netlist.now.flat _ c.requires.parts, c.requires.parts.is_flat.weight)) c.requires.parts.is_flat
+
+pub returns-clause-carried : goal.returns-clause-carried
+returns-clause-carried c =
+    let p = c.in_ok-planned.ensures in
+    carried_by c.flat_is_one.ensures c.designs_are_carried.ensures c.args.netlist.now.design c.args.netlist.now.flat _ c.in_ok-planned.planned.plan c.in_ok-planned.planned.ports c.requires.parts
+    p.admissible p.edges p.table p.cells p.lanes p.places p.carries p.small p.period
