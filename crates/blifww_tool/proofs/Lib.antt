@@ -4,6 +4,7 @@ pub mod Headline
 pub mod OutputLines
 pub mod SimulationOrNot
 pub mod ProbeOrNot
+pub mod ViewOrNot
 pub mod EvaluationOrNot
 pub mod CompilationOrNot
 pub mod Evaluated
