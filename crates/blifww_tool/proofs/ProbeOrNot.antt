@@ -59,7 +59,7 @@ module _ (name path : List ℕ) (s : Simulation) where
       let same = same_last far.net h.net far.is_there h.is_there in
       omega (arith, h.near, same, far.needed, far.far)
   shown_or_not bits r h (by_miss g x y e k) =
-      none-some _ (sym h.quiet ∙ ap missed_until (one_net h.net k.net h.is_there k.is_there) ∙ k.miss)
+      none-some _ (sym h.quiet ∙ ap missed_until (one_net h.net k.net h.is_there k.is_there) ∙ k.first)
 
   one_miss : (r r' : Cause) → Miss name path s r → Miss name path s r' → r ≡ r'
   one_miss r r' (by_net e none) (by_net e' none') = e ∙ sym e'
@@ -78,7 +78,7 @@ module _ (name path : List ℕ) (s : Simulation) where
       e
       ∙ ap (λ (i : Injection). NotQuiet i.generation i.x i.y)
       (same_Some (record { generation = g; x = x; y = y }) (record { generation = g'; x = x'; y = y' })
-      (sym k.miss ∙ ap missed_until (one_net k.net k'.net k.is_there k'.is_there) ∙ k'.miss))
+      (sym k.first ∙ ap missed_until (one_net k.net k'.net k.is_there k'.is_there) ∙ k'.first))
       ∙ sym e'
 
 module _ (cycles : ℕ) (name path : List ℕ) (words : List (List ℕ)) (text : List ℕ) where
