@@ -18,3 +18,4 @@ pub mod Stopped
 pub mod Statuses
 pub mod PrintsAlike
 pub mod PrintsNet
+pub mod RunsQuietly
