@@ -10,12 +10,13 @@ use Rattle.std.proofs.lemmas.Bool.{eqb-false, eqb-true}
 use Rattle.std.proofs.lemmas.List.{append-nil, length-map}
 use Rattle.lane_core.specs.declared.plan.Plan.{Plan}
 use Rattle.lane_core.specs.Plans.{IsAdmissible, period_of}
+use Rattle.plan_layout.specs.Starts.{HasStartEdges}
 use Rattle.grid_assembly.specs.PlanDrawing.{start_grid}
 use Rattle.pattern_reading.specs.declared.ports.Ports.{Ports}
 use Rattle.pattern_writing.specs.WrittenText.{pattern_text}
 use Rattle.cell_meaning.specs.Needs.{any_needs_one}
-use Rattle.blifww_tool.specs.Stand.{IsPadded, contexts_size}
-use Rattle.blifww_tool.specs.Stand.{IsPaddedPlan}
+use Rattle.latch_loops.specs.Closed.{contexts_size}
+use Rattle.latch_loops.specs.Padded.{IsPaddedPlan}
 use Rattle.netlist_core.specs.declared.model.Design.{Design}
 use Rattle.netlist_core.specs.declared.model.Model.{Model}
 use Rattle.netlist_core.specs.declared.flat.Flat.{Flat}
@@ -82,13 +83,14 @@ has_starts law contexts starts text design flat order is p none = record {
 
 -- the plan by which a design is carried
 pub carried_by : FlatIsOne → DesignsAreCarried → (design : Design) (flat : Flat) (order : List ℕ) (plan : Plan) (ports : Ports) → AreParts design flat order
-    → IsAdmissible plan → IsTableOf flat plan 1 ports → ComputesCells flat plan → HasLanes flat plan → HasNetPlaces flat plan → CarriesFlat (pattern_text (start_grid plan) ports) flat → IsSmall flat plan
+    → IsAdmissible plan → HasStartEdges plan → IsTableOf flat plan 1 ports → ComputesCells flat plan → HasLanes flat plan → HasNetPlaces flat plan → CarriesFlat (pattern_text (start_grid plan) ports) flat → IsSmall flat plan
     → (length flat.latches ≡ 0 → any_needs_one flat ≡ false → ports.p ≡ 32)
     → IsCarriedBy design plan ports
-carried_by one law design flat order plan ports p admissible table cells size places carries few period =
+carried_by one law design flat order plan ports p admissible edges table cells size places carries few period =
     let nets : CarriesNets (pattern_text (start_grid plan) ports) design = law (pattern_text (start_grid plan) ports) design flat p.faultless p.clocks p.is_flat carries in
     record {
       admissible = admissible;
+      edges = edges;
       carries = nets.carried;
       nets = nets;
       lanes = subst (λ (w : ℕ). plan.lanes ≤ 4 * w + 4) p.is_flat.weight few.lanes;
@@ -215,9 +217,11 @@ compiles_alone carry carry_nets none text design plan ports has h room =
       plan = plan;
       ports = ports;
       admissible = h.admissible;
+      edges = h.edges;
       padded = unpadded plan;
       alone = λ one empty. (refl, refl);
       table = h.table;
+      places = h.places;
       written = refl;
       carries = subst (CarriesContexts output design) (no_words none design) ((carry output design).0 h.carries);
       nets = subst (CarriesNetsInContexts output design) (no_words none design) ((carry_nets output design).0 h.nets);
@@ -226,10 +230,10 @@ compiles_alone carry carry_nets none text design plan ports has h room =
 -- and in contexts, from the starts that the words say
 pub compiles : FlatIsOne → DesignsAreCarriedInContexts → StartsAreFlat → (contexts : ℕ) (starts : List (List ℕ)) (text : List ℕ) (design : Design) (flat : Flat) (order : List ℕ) (base : Plan) (base_ports : Ports) (plan : Plan) (ports : Ports)
     → HasStarts contexts starts text design → AreParts design flat order → IsCarriedBy design base base_ports → contexts ≤ base_ports.p / 32
-    → (contexts ≡ 1 → starts ≡ [] → ⊥) → IsAdmissible plan → IsPaddedPlan (contexts_size base.latches contexts) base plan
-    → IsTableOf flat plan contexts ports → CarriesFlatContexts (pattern_text (start_grid plan) ports) flat (flat_starts flat starts contexts)
+    → (contexts ≡ 1 → starts ≡ [] → ⊥) → IsAdmissible plan → HasStartEdges plan → IsPaddedPlan (contexts_size base.latches contexts) base plan
+    → IsTableOf flat plan contexts ports → HasNetPlaces flat plan → CarriesFlatContexts (pattern_text (start_grid plan) ports) flat (flat_starts flat starts contexts)
     → Compiles contexts starts text (pattern_text (start_grid plan) ports)
-compiles one law flat_law contexts starts text design flat order base base_ports plan ports has p h room several admissible padded table carries =
+compiles one law flat_law contexts starts text design flat order base base_ports plan ports has p h room several admissible edges padded table places carries =
     let output = pattern_text (start_grid plan) ports in
     let states = starts_of_words design starts contexts in
     let by_states : CarriesFlatContexts output flat (map (state_in_order design) states) =
@@ -245,9 +249,11 @@ compiles one law flat_law contexts starts text design flat order base base_ports
       plan = plan;
       ports = ports;
       admissible = admissible;
+      edges = edges;
       padded = padded;
       alone = λ is_one empty. absurd (several is_one empty);
       table = λ other is. subst (λ (f : Flat). IsTableOf f plan contexts ports) (one design flat other p.is_flat is) table;
+      places = λ other is. subst (λ (f : Flat). HasNetPlaces f plan) (one design flat other p.is_flat is) places;
       written = refl;
       carries = nets.carried;
       nets = nets;

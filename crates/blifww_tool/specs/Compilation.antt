@@ -2,6 +2,7 @@
 use Rattle.std.specs.Prelude.{ℕ, ◌≡◌, ◌≤◌, ◌<◌, ◌+◌, ◌*◌, ◌/◌, max, List, [], length, false, Some, None}
 use Rattle.lane_core.specs.declared.plan.Plan.{Plan}
 use Rattle.lane_core.specs.Plans.{IsAdmissible}
+use Rattle.plan_layout.specs.Starts.{HasStartEdges}
 use Rattle.grid_assembly.specs.PlanDrawing.{start_grid}
 use Rattle.pattern_reading.specs.declared.ports.Ports.{Ports}
 use Rattle.pattern_writing.specs.WrittenText.{pattern_text}
@@ -9,8 +10,8 @@ use Rattle.carries.specs.Carries.{Carries}
 use Rattle.carries.specs.Nets.{CarriesNets}
 use Rattle.carries.specs.DesignContexts.{CarriesContexts, CarriesNetsInContexts}
 use Rattle.cell_meaning.specs.Needs.{any_needs_one}
-use Rattle.blifww_tool.specs.Stand.{contexts_size}
-use Rattle.blifww_tool.specs.Stand.{IsPaddedPlan}
+use Rattle.latch_loops.specs.Closed.{contexts_size}
+use Rattle.latch_loops.specs.Padded.{IsPaddedPlan}
 use Rattle.netlist_core.specs.declared.model.Design.{Design}
 use Rattle.netlist_core.specs.declared.flat.Flat.{Flat}
 use Rattle.netlist_meaning.specs.Weight.{weight}
@@ -25,12 +26,13 @@ use Rattle.start_words.specs.Starts.{latches_of, starts_of_words}
 use Rattle.blifww_tool.specs.declared.causes.Cause.{Cause}
 use Rattle.blifww_tool.specs.declared.causes.Cause.TheVariants.{NetlistFault, WeightTooLarge, Loop, StartWord, TooManyContexts}
 
--- The written text of the plan and its table carries the design and its nets, and the plan can be drawn. It computes the cells of the
+-- The written text of the plan and its table carries the design and its nets. The plan can be drawn, with its starts. It computes the cells of the
 -- design's flat netlist: so it has a loop for each latch, and exactly where constant 1 is named one more. It is small, by the design's weight,
 -- and has no lane and no column exactly where there is no net but clock nets; each net has a place, by what drives it; where there is no latch
 -- and no cover needs constant 1 the period is 32.
 pub record IsCarriedBy (design : Design) (plan : Plan) (ports : Ports) : Type 0 where
   pub admissible : IsAdmissible plan
+  pub edges : HasStartEdges plan
   pub carries : Carries (pattern_text (start_grid plan) ports) design
   pub nets : CarriesNets (pattern_text (start_grid plan) ports) design
   pub lanes : plan.lanes ≤ 4 * weight design + 4
@@ -60,9 +62,11 @@ pub record Compiles (contexts : ℕ) (starts : List (List ℕ)) (text output : L
   pub plan : Plan
   pub ports : Ports
   pub admissible : IsAdmissible plan
+  pub edges : HasStartEdges plan
   pub padded : IsPaddedPlan (contexts_size base.latches contexts) base plan
   pub alone : contexts ≡ 1 → starts ≡ [] → (plan ≡ base) × (ports ≡ base_ports)
   pub table : (flat : Flat) → IsFlatOf design flat → IsTableOf flat plan contexts ports
+  pub places : (flat : Flat) → IsFlatOf design flat → HasNetPlaces flat plan
   pub written : output ≡ pattern_text (start_grid plan) ports
   pub carries : CarriesContexts output design (starts_of_words design starts contexts)
   pub nets : CarriesNetsInContexts output design (starts_of_words design starts contexts)

@@ -4,7 +4,6 @@ pub mod Simulation
 pub mod Driven
 pub mod Probing
 pub mod Viewing
-pub mod Stand
 pub mod Compilation
 pub mod Evaluation
 pub mod Summary

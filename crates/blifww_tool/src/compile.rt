@@ -2,6 +2,7 @@
 ghost use Rattle.std.specs.Prelude.{◌≡◌, ◌<◌, ℕ, List, map, string_bytes, IfOk, IfErr};
 ghost use Rattle.netlist_text.specs.Parts.{AreParts};
 ghost use Rattle.plan_ports.specs.Tables.{HasPortNames};
+ghost use Rattle.netlist_plans.specs.Lists.{IsPlanned};
 ghost use Rattle.start_words.specs.Flats.{AreBitsSet, flat_latches};
 ghost use Rattle.command_words.specs.Shapes.{compile};
 ghost use Rattle.blifww_tool.specs.Answer.{output_text, IsWritableOutput};
@@ -10,10 +11,9 @@ ghost use Rattle.blifww_tool.specs.Compilation.{Compiles, HasStarts, IsCarriedBy
 
 use crate::causes::{Cause, TextError};
 use crate::output::Output;
-use crate::stand::plan_contexts;
 use carries::one_context_carries;
 use flat_designs::{flat_is_one, flat_is_sound, flat_is_weighed};
-use netlist_plans::{NetlistPlanError, Planned, plan_netlist};
+use netlist_plans::{NetlistPlanError, Planned, plan_contexts, plan_netlist};
 use netlist_text::{Netlist, netlist_of};
 use plan_carries::{designs_are_carried, designs_are_carried_in_contexts};
 use start_words::Starts;
@@ -24,7 +24,8 @@ use std::alloc::Global;
 fn plan_of(alloc: Global, netlist: &Netlist) -> Result<Planned, NetlistPlanError>
     requires parts { AreParts netlist.now.design netlist.now.flat netlist.now.order.nodes }
     requires names { HasPortNames netlist.now.flat }
-    ensures { IfOk result (λ p. IsCarriedBy netlist.now.design p.plan p.ports) }
+    ensures carried { IfOk result (λ p. IsCarriedBy netlist.now.design p.plan p.ports) }
+    ensures planned { IfOk result (λ p. IsPlanned netlist.now.flat p.plan) }
 {
     flat_is_sound();
     flat_is_weighed();
@@ -46,6 +47,7 @@ fn started(
     requires parts { AreParts netlist.now.design netlist.now.flat netlist.now.order.nodes }
     requires names { HasPortNames netlist.now.flat }
     requires carried { IsCarriedBy netlist.now.design planned.plan planned.ports }
+    requires planned { IsPlanned netlist.now.flat planned.plan }
     requires some { 0 < contexts }
     requires set { AreBitsSet (flat_latches netlist.now.flat) starts.now.bits (map string_bytes words.now) }
     ensures printed { IfOk result (λ output. (text : List ℕ) → HasStarts contexts (map string_bytes words.now) text netlist.now.design
@@ -55,6 +57,7 @@ fn started(
         → HasTextCause (compile contexts (map string_bytes words.now)) text e) }
 {
     flat_is_sound();
+    flat_is_weighed();
     flat_is_one();
     one_context_carries();
     no_words_mean_start();
@@ -68,13 +71,7 @@ fn started(
         return Ok(Output::Drawing(planned));
     }
     let bits = starts.in_contexts(alloc, &netlist.flat, contexts)?;
-    let started = plan_contexts(
-        alloc,
-        &netlist.flat,
-        &netlist.order,
-        planned,
-        bits.as_slice(),
-    )?;
+    let started = plan_contexts(alloc, &netlist.flat, planned.plan, bits.as_slice())?;
     Ok(Output::Drawing(started))
 }
 

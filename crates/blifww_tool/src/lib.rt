@@ -16,7 +16,6 @@ mod output;
 mod probe;
 mod refusals;
 mod simulate;
-mod stand;
 mod summary;
 mod told;
 mod top;

@@ -2,7 +2,7 @@
 use Rattle.std.specs.Prelude.{ℕ, ◌≡◌, Bool, List, length, map, Option}
 use Rattle.cell_core.specs.declared.list.CellList.{CellList}
 use Rattle.cell_core.specs.Meaning.{bit_of, Fits}
-use Rattle.cell_core.specs.Loops.{loop_state}
+use Rattle.cell_core.specs.Loops.{loop_state, loop_count}
 use Rattle.lane_core.specs.declared.plan.NetPlace.{NetPlace}
 use Rattle.lane_core.specs.declared.plan.Program.{Program}
 use Rattle.lane_core.specs.declared.plan.Plan.{Plan}
@@ -28,9 +28,9 @@ pub record ComputesByProgram (list : CellList) (program : Program) : Type 0 wher
   pub bits : ComputeOnLanes list (first_loop_lane program.lanes (length program.latches)) program.ins program.outs program.nets
       (bits_after after_instrs program.instrs) (after_instrs program.instrs)
 
--- and so does a plan
+-- and so does a plan, whichever bits its loops start with
 pub record ComputesByPlan (list : CellList) (plan : Plan) : Type 0 where
-  pub starts : plan.starts ≡ loop_state list list.starts
+  pub loops : plan.latches ≡ loop_count list
   pub inputs : length plan.ins ≡ list.inputs
   pub bits : ComputeOnLanes list (first_loop_lane plan.lanes plan.latches) plan.ins plan.outs plan.nets
       (bits_after after_columns plan.columns) (after_columns plan.columns)

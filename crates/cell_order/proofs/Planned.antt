@@ -13,13 +13,20 @@ use Rattle.cell_order.specs.Alike.{ComputeAlike, AlikeIsPlanned}
 same_loops : (a b : CellList) → ComputeAlike a b → (state : List Bool) → loop_state a state ≡ loop_state b state
 same_loops a b alike state = ap (λ one. state ++ cond one (true ∷ []) []) (sym alike.one)
 
+same_count : (a b : CellList) → ComputeAlike a b → loop_count b ≡ loop_count a
+same_count a b alike = ap₂ (λ (s : List Bool) (one : Bool). length s + cond one 1 0) alike.starts alike.one
+
+-- the loops start alike
+pub loops_start_alike : (a b : CellList) → ComputeAlike a b → loop_state b b.starts ≡ loop_state a a.starts
+loops_start_alike a b alike = sym (same_loops a b alike b.starts) ∙ ap (loop_state a) alike.starts
+
 pub alike_is_planned : AlikeIsPlanned
 alike_is_planned a b plan alike by =
     let free = first_loop_lane plan.lanes plan.latches in
     let fits : (inputs state : List Bool) → Fits a inputs state → Fits b inputs state =
     λ inputs state f. record { row = f.row ∙ sym alike.inputs; latches = f.latches ∙ ap length (sym alike.starts) } in
     record {
-      starts = by.starts ∙ sym (same_loops a b alike b.starts) ∙ ap (loop_state a) alike.starts;
+      loops = by.loops ∙ same_count a b alike;
       inputs = by.inputs ∙ alike.inputs;
       bits = record {
         outs_have = λ inputs state f.
@@ -48,7 +55,7 @@ as_many b a f g e = sym (length-map b f) ∙ ap length e ∙ length-map a g
 pub count_alike : (a b : CellList) → ComputeAlike a b → CountAlike a b
 count_alike a b alike =
     record {
-      loops = ap₂ (λ (s : List Bool) (one : Bool). length s + cond one 1 0) alike.starts alike.one;
+      loops = same_count a b alike;
       outs = as_many b.outs a.outs (bit_of b [] []) (bit_of a [] []) (alike.outs [] []);
       nets = as_many b.nets a.nets (bit_of b [] []) (bit_of a [] []) (alike.nets [] []);
     }

@@ -1,5 +1,5 @@
 -- A plan of a list is one of each that computes alike.
-use Rattle.std.proofs.Common.{◌≡◌, sym, ◌∙◌, ap, ap₂, subst, ℕ, ◌≤◌, ◌<◌, ◌+◌, ◌-◌, ◌*◌, ◌^◌, max, Bool, List, length, get_or, map, Option, Some, None, arith}
+use Rattle.std.proofs.Common.{◌≡◌, sym, ◌∙◌, ap, ap₂, subst, ℕ, ◌≤◌, ◌<◌, ◌+◌, ◌-◌, ◌*◌, ◌^◌, max, Bool, List, [], ◌∷◌, length, get_or, map, Option, Some, None, arith}
 use Rattle.std.proofs.lemmas.List.{get_or-map}
 use Rattle.std.proofs.lemmas.Option.{none-some, same_Some}
 use Rattle.cell_core.specs.declared.cells.Src.{Src}
@@ -11,7 +11,9 @@ use Rattle.lane_core.specs.declared.plan.NetPlace.{NetPlace}
 use Rattle.lane_core.specs.declared.plan.Plan.{Plan}
 use Rattle.cell_meaning.specs.Origins.{entry_source, maker_on}
 use Rattle.cell_order.specs.Alike.{ComputeAlike}
-use Rattle.cell_order.proofs.Planned.{CountAlike, count_alike, alike_is_planned}
+use Rattle.cell_order.proofs.Planned.{CountAlike, count_alike, loops_start_alike, alike_is_planned}
+use Rattle.plan_layout.specs.Starts.{start_edges}
+use Rattle.plan_waves.specs.Contexts.{StartsContexts}
 use Rattle.cell_plans.specs.Counts.{instr_count}
 use Rattle.cell_plans.specs.PlanOf.{IsPlanOf}
 use Rattle.row_placer.specs.Entries.{IsEntryOf, AreAtEntries}
@@ -70,6 +72,8 @@ plan_by a b plan alike of =
     let cells_of : (f : ℕ → ℕ) → f (length b.cells) ≡ f (length a.cells) = λ f. ap f alike.cells in
     record {
       admissible = of.admissible;
+      edges = of.edges;
+      starts = subst (λ (bits : List Bool). StartsContexts plan (bits ∷ []) (start_edges plan)) (loops_start_alike a b alike) of.starts;
       computes = alike_is_planned a b plan alike of.computes;
       lanes = subst (λ (bound : ℕ). plan.lanes ≤ bound)
           (ap₂ (λ (i : ℕ) (l : ℕ). i + 2 * l + length b.outs + length b.cells + 2 + max i (length b.outs)) alike.inputs n.loops

@@ -50,7 +50,7 @@ in_column instrs columns n instr p got =
     (p.each (get_or (column_numbers instrs) n 0)) (stands (column_numbers instrs) instrs n instr got low)
 
 -- and where columns were added
-in_padded : (size : ℕ) (columns padded : List Column) (c : ℕ) (instr : Instr) → IsPadded size columns padded → Contains (instrs_in columns c) instr → Contains (instrs_in padded c) instr
+pub in_padded : (size : ℕ) (columns padded : List Column) (c : ℕ) (instr : Instr) → IsPadded size columns padded → Contains (instrs_in columns c) instr → Contains (instrs_in padded c) instr
 in_padded size columns padded c instr p h =
     ⊎_elim
     (λ low. (let same : instrs_in padded c ≡ instrs_in columns c =

@@ -1,5 +1,5 @@
 pub mod Drawn
 pub mod Counted
 mod Alike
-mod Exits
+pub mod Exits
 mod Single

@@ -1,18 +1,23 @@
 -- What a plan of a list of cells is.
-use Rattle.std.specs.Prelude.{ℕ, ◌≡◌, ◌≤◌, ◌<◌, ◌+◌, ◌*◌, ◌^◌, max, List, length, get_or}
+use Rattle.std.specs.Prelude.{ℕ, ◌≡◌, ◌≤◌, ◌<◌, ◌+◌, ◌*◌, ◌^◌, max, List, [], ◌∷◌, length, get_or}
 use Rattle.cell_core.specs.declared.list.CellList.{CellList}
-use Rattle.cell_core.specs.Loops.{loop_count}
+use Rattle.cell_core.specs.Loops.{loop_count, loop_state}
 use Rattle.cell_meaning.specs.Computes.{ComputesByPlan}
 use Rattle.cell_plans.specs.Counts.{instr_count}
 use Rattle.lane_core.specs.declared.plan.Plan.{Plan}
 use Rattle.lane_core.specs.Plans.{IsAdmissible}
+use Rattle.plan_layout.specs.Starts.{start_edges, HasStartEdges}
+use Rattle.plan_waves.specs.Contexts.{StartsContexts}
 use Rattle.row_placer.specs.Empty.{IsEmpty}
 use Rattle.row_placer.specs.Entries.{AreAtEntries}
 use Rattle.cell_plans.specs.Exits.{AreAtExits}
 
--- it is admissible, computes the list, is small by the list's own counts, and has nets at the entries of their sources or the exits of their cells
+-- It is admissible and computes the list; its starts are edges of its drawing, and start one context as the list starts. It is small by the list's own
+-- counts, and has nets at the entries of their sources or the exits of their cells.
 pub record IsPlanOf (list : CellList) (plan : Plan) : Type 0 where
   pub admissible : IsAdmissible plan
+  pub edges : HasStartEdges plan
+  pub starts : StartsContexts plan (loop_state list list.starts ∷ []) (start_edges plan)
   pub computes : ComputesByPlan list plan
   pub lanes : plan.lanes ≤ list.inputs + 2 * loop_count list + length list.outs + length list.cells + 2 + max list.inputs (length list.outs)
   pub empty : IsEmpty list → plan.lanes ≡ 0

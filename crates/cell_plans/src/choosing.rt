@@ -1,11 +1,13 @@
 // The plan of one of several lists of cells.
-ghost use Rattle.std.specs.Prelude.{◌≡◌, ◌≤◌, ◌<◌, ◌+◌, ◌*◌, ◌^◌, max, length, All, IfOk, IfSome};
-ghost use Rattle.cell_core.specs.Loops.{loop_count};
+ghost use Rattle.std.specs.Prelude.{◌≡◌, ◌≤◌, ◌<◌, ◌+◌, ◌*◌, ◌^◌, [], ◌∷◌, max, length, All, IfOk, IfSome};
+ghost use Rattle.cell_core.specs.Loops.{loop_count, loop_state};
 ghost use Rattle.cell_meaning.specs.Computes.{ComputesByPlan};
 ghost use Rattle.cell_plans.specs.Counts.{instr_count, tiles};
 ghost use Rattle.cell_plans.specs.Exits.{AreAtExits};
 ghost use Rattle.cell_plans.specs.PlanOf.{IsShort, IsPlanOf, IsPlanOfOne};
 ghost use Rattle.lane_core.specs.Plans.{IsAdmissible};
+ghost use Rattle.plan_layout.specs.Starts.{start_edges, HasStartEdges};
+ghost use Rattle.plan_waves.specs.Contexts.{StartsContexts};
 ghost use Rattle.row_placer.specs.Empty.{IsEmpty};
 ghost use Rattle.row_placer.specs.Entries.{AreAtEntries};
 
@@ -162,6 +164,8 @@ fn one_plan(alloc: Global, list: &CellList) -> Result<Plan, PlanError>
 pub fn plan_of(alloc: Global, list: &CellList) -> Result<Plan, PlanError>
     requires small { list.now.inputs + loop_count list.now + length list.now.outs + length list.now.cells < 2 ^ 18 }
     ensures admissible { IfOk result IsAdmissible }
+    ensures edges { IfOk result HasStartEdges }
+    ensures starts { IfOk result (λ plan. StartsContexts plan (loop_state list.now list.now.starts ∷ []) (start_edges plan)) }
     ensures computes { IfOk result (ComputesByPlan list.now) }
     ensures lanes { IfOk result (λ plan. plan.lanes ≤ list.now.inputs + 2 * loop_count list.now + length list.now.outs + length list.now.cells + 2 + max list.now.inputs (length list.now.outs)) }
     ensures empty { IfOk result (λ plan. IsEmpty list.now → plan.lanes ≡ 0) }

@@ -17,6 +17,7 @@ use order_climbing::Climbed;
 use row_placer::{place, place_at};
 use std::alloc::Global;
 use std::ops::Range;
+use std::slice::from_ref;
 
 // The most cells of a list for which all orders are tried.
 const LONG_LIST: usize = 4096;
@@ -30,7 +31,7 @@ fn closed(alloc: Global, list: &CellList, program: &Program) -> Result<Plan, Pla
     let _list = list;
     let columns = pack(alloc, program)?;
     closing_keeps_cells();
-    let plan = close(alloc, columns, program)?;
+    let plan = close(alloc, columns, program, from_ref(&program.latches))?;
     Ok(plan)
 }
 

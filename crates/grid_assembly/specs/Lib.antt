@@ -1,2 +1,3 @@
+pub mod PortCells
 pub mod PlanDrawing
 pub mod Laws

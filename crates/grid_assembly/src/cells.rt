@@ -1,8 +1,8 @@
 // A cell of a block, by what stands in the block.
-ghost use Rattle.std.specs.Prelude.{◌≡◌, ◌&&◌, ◌<◌, ◌^◌, pos, true, ℕ};
-ghost use Rattle.ww_rule.specs.declared.pattern.State.TheVariants.{Empty};
-ghost use Rattle.std.specs.Ordering.{int_eq};
+ghost use Rattle.std.specs.Prelude.{◌≡◌, ◌<◌, ◌^◌, pos, true, false, cond, ℕ};
+ghost use Rattle.ww_rule.specs.declared.pattern.State.TheVariants.{Conductor, Empty};
 ghost use Rattle.lane_core.specs.Plans.{IsAdmissible};
+ghost use Rattle.plan_layout.specs.Layout.{tiling_of};
 ghost use Rattle.plan_layout.specs.Starts.{start_edges};
 ghost use Rattle.plan_layout.specs.Slots.{piece_of, slot_of};
 ghost use Rattle.tile_core.specs.Drawing.{is_cell_of};
@@ -10,36 +10,37 @@ ghost use Rattle.tile_core.specs.Kinds.{interface};
 ghost use Rattle.tile_library.specs.Drawings.{shipped_drawing};
 ghost use Rattle.tiling.specs.Tiling.{Lit, drawn_piece, drawn_slot, edge_of, heads_of, is_entry_lit, is_exit_lit, tails_of};
 ghost use Rattle.tiling.specs.Tiling.Piece.{Tile, Output};
+ghost use Rattle.grid_assembly.specs.PortCells.{is_at, head_at, tail_at};
 
 use lane_core::Plan;
-use plan_layout::{Piece, Slot, is_start};
+use plan_layout::{Edge, Piece, Slot, is_start};
 use tile_core::{Kind, Library};
 use tile_library::Shipped;
 use ww_rule::State;
 
-// Whether the edge at a port is lit at the beginning, by the port's place in the box of a piece whose first block is at
-// this tile column and lane.
+// Whether the edge at a port is lit at generation 0, by the port's place in the box of a piece whose first block is at this
+// tile column and lane.
 fn is_port_lit(plan: &Plan, column: u64, lane: u64, port: (u32, u32)) -> bool
-    requires admissible { IsAdmissible plan.now }
-    requires far { column < 2 ^ 63 }
-    requires low { lane < 2 ^ 62 }
+    requires far { column < 2 ^ 57 }
+    requires low { lane < 2 ^ 57 }
     ensures { result ≡ start_edges plan.now (edge_of column lane port) }
 {
     let (x, y) = port;
     if x == 0 {
-        is_start(plan, column, lane + y as u64 / 16)
+        is_start(plan, Edge::Beside(column, lane + y as u64 / 16))
     } else if x == 31 {
-        is_start(plan, column + 1, lane + y as u64 / 16)
+        is_start(plan, Edge::Beside(column + 1, lane + y as u64 / 16))
+    } else if y == 0 {
+        is_start(plan, Edge::Above(column, lane))
     } else {
-        false
+        is_start(plan, Edge::Above(column, lane + (y as u64 + 1) / 16))
     }
 }
 
-// Whether the n-th entry of a tile is lit at the beginning, counted from 0.
-pub fn is_entry_lit(plan: &Plan, column: u64, lane: u64, kind: Kind, n: usize) -> bool
-    requires admissible { IsAdmissible plan.now }
-    requires far { column < 2 ^ 63 }
-    requires low { lane < 2 ^ 62 }
+// Whether the n-th entry of a tile is lit at generation 0, counted from 0.
+fn is_entry_lit(plan: &Plan, column: u64, lane: u64, kind: Kind, n: usize) -> bool
+    requires far { column < 2 ^ 57 }
+    requires low { lane < 2 ^ 57 }
     requires two { n < 2 }
     ensures { result ≡ is_entry_lit (start_edges plan.now) column lane (interface kind) n }
 {
@@ -49,11 +50,10 @@ pub fn is_entry_lit(plan: &Plan, column: u64, lane: u64, kind: Kind, n: usize) -
     is_port_lit(plan, column, lane, kind.entries()[n])
 }
 
-// Whether the n-th exit of a tile is lit at the beginning, counted from 0.
-pub fn is_exit_lit(plan: &Plan, column: u64, lane: u64, kind: Kind, n: usize) -> bool
-    requires admissible { IsAdmissible plan.now }
-    requires far { column < 2 ^ 63 }
-    requires low { lane < 2 ^ 62 }
+// Whether the n-th exit of a tile is lit at generation 0, counted from 0.
+fn is_exit_lit(plan: &Plan, column: u64, lane: u64, kind: Kind, n: usize) -> bool
+    requires far { column < 2 ^ 57 }
+    requires low { lane < 2 ^ 57 }
     requires two { n < 2 }
     ensures { result ≡ is_exit_lit (start_edges plan.now) column lane (interface kind) n }
 {
@@ -63,46 +63,110 @@ pub fn is_exit_lit(plan: &Plan, column: u64, lane: u64, kind: Kind, n: usize) ->
     is_port_lit(plan, column, lane, kind.exits()[n])
 }
 
-// Whether a place is that of a lit port.
-fn is_lit_at(lit: bool, port: (u32, u32), place: (u32, u32)) -> bool
-    ensures { result ≡ (lit && int_eq (pos place.0) (pos port.0) && int_eq (pos place.1) (pos port.1)) }
+// Whether a place is that of a port.
+fn is_at(place: (u32, u32), port: (u32, u32)) -> bool
+    ensures { result ≡ is_at place.0 place.1 port }
 {
-    lit && place.0 == port.0 && place.1 == port.1
+    place.0 == port.0 && place.1 == port.1
+}
+
+// Whether the n-th entry of a tile is at a place of its box, and lit. Few places are that of a port, so this is looked at
+// first.
+fn is_lit_entry(
+    plan: &Plan,
+    column: u64,
+    lane: u64,
+    kind: Kind,
+    n: usize,
+    place: (u32, u32),
+) -> bool
+    requires far { column < 2 ^ 57 }
+    requires low { lane < 2 ^ 57 }
+    requires two { n < 2 }
+    ensures { result ≡ head_at (start_edges plan.now) column lane kind n place.0 place.1 }
+{
+    is_at(place, kind.entries()[n]) && is_entry_lit(plan, column, lane, kind, n)
+}
+
+// Whether the n-th exit of a tile is at a place of its box, and lit.
+fn is_lit_exit(plan: &Plan, column: u64, lane: u64, kind: Kind, n: usize, place: (u32, u32)) -> bool
+    requires far { column < 2 ^ 57 }
+    requires low { lane < 2 ^ 57 }
+    requires two { n < 2 }
+    ensures { result ≡ tail_at (start_edges plan.now) column lane kind n place.0 place.1 }
+{
+    is_at(place, kind.exits()[n]) && is_exit_lit(plan, column, lane, kind, n)
 }
 
 // Whether a tile has a head at a place of its box: an entry cell at a lit edge.
 #[tactic(auto, using(crate::proofs::Ports::heads_at))]
 fn is_head(plan: &Plan, column: u64, lane: u64, kind: Kind, place: (u32, u32)) -> bool
-    requires admissible { IsAdmissible plan.now }
-    requires far { column < 2 ^ 63 }
-    requires low { lane < 2 ^ 62 }
+    requires far { column < 2 ^ 57 }
+    requires low { lane < 2 ^ 57 }
     ensures { result ≡ is_cell_of (pos place.0) (pos place.1) (heads_of (start_edges plan.now) column lane (interface kind)) }
 {
-    let upper = is_entry_lit(plan, column, lane, kind, 0);
-    let lower = is_entry_lit(plan, column, lane, kind, 1);
-    let entries = kind.entries();
-    is_lit_at(upper, entries[0], place) || is_lit_at(lower, entries[1], place)
+    is_lit_entry(plan, column, lane, kind, 0, place)
+        || is_lit_entry(plan, column, lane, kind, 1, place)
 }
 
 // Whether a tile has a tail at a place of its box: an exit cell at a lit edge.
 #[tactic(auto, using(crate::proofs::Ports::tails_at))]
 fn is_tail(plan: &Plan, column: u64, lane: u64, kind: Kind, place: (u32, u32)) -> bool
-    requires admissible { IsAdmissible plan.now }
-    requires far { column < 2 ^ 63 }
-    requires low { lane < 2 ^ 62 }
+    requires far { column < 2 ^ 57 }
+    requires low { lane < 2 ^ 57 }
     ensures { result ≡ is_cell_of (pos place.0) (pos place.1) (tails_of (start_edges plan.now) column lane (interface kind)) }
 {
-    let upper = is_exit_lit(plan, column, lane, kind, 0);
-    let lower = is_exit_lit(plan, column, lane, kind, 1);
-    let exits = kind.exits();
-    is_lit_at(upper, exits[0], place) || is_lit_at(lower, exits[1], place)
+    is_lit_exit(plan, column, lane, kind, 0, place)
+        || is_lit_exit(plan, column, lane, kind, 1, place)
+}
+
+// Whether no electron stands at generation 0 in a row of a tile's box.
+#[tactic(auto, using(crate::proofs::Ports::dark_row))]
+pub fn is_row_dark(plan: &Plan, column: u64, lane: u64, kind: Kind, y: u32) -> bool
+    requires far { column < 2 ^ 57 }
+    requires low { lane < 2 ^ 57 }
+    ensures { result ≡ true → (x : ℕ) →
+        drawn_piece shipped_drawing (start_edges plan.now) column lane (Tile kind) x y
+        ≡ cond (shipped_drawing kind (pos x) (pos y)) Conductor Empty }
+{
+    !has_electron(plan, column, lane, kind, 0, y) && !has_electron(plan, column, lane, kind, 1, y)
+}
+
+// Whether the n-th entry or the n-th exit of a tile is in a row of its box, and lit.
+fn has_electron(plan: &Plan, column: u64, lane: u64, kind: Kind, n: usize, y: u32) -> bool
+    requires far { column < 2 ^ 57 }
+    requires low { lane < 2 ^ 57 }
+    requires two { n < 2 }
+    ensures head { result ≡ false → (x : ℕ) → head_at (start_edges plan.now) column lane kind n x y ≡ false }
+    ensures tail { result ≡ false → (x : ℕ) → tail_at (start_edges plan.now) column lane kind n x y ≡ false }
+{
+    has_head(plan, column, lane, kind, n, y) || has_tail(plan, column, lane, kind, n, y)
+}
+
+// Whether the n-th entry of a tile is in a row of its box, and lit.
+fn has_head(plan: &Plan, column: u64, lane: u64, kind: Kind, n: usize, y: u32) -> bool
+    requires far { column < 2 ^ 57 }
+    requires low { lane < 2 ^ 57 }
+    requires two { n < 2 }
+    ensures { result ≡ false → (x : ℕ) → head_at (start_edges plan.now) column lane kind n x y ≡ false }
+{
+    kind.entries()[n].1 == y && is_entry_lit(plan, column, lane, kind, n)
+}
+
+// Whether the n-th exit of a tile is in a row of its box, and lit.
+fn has_tail(plan: &Plan, column: u64, lane: u64, kind: Kind, n: usize, y: u32) -> bool
+    requires far { column < 2 ^ 57 }
+    requires low { lane < 2 ^ 57 }
+    requires two { n < 2 }
+    ensures { result ≡ false → (x : ℕ) → tail_at (start_edges plan.now) column lane kind n x y ≡ false }
+{
+    kind.exits()[n].1 == y && is_exit_lit(plan, column, lane, kind, n)
 }
 
 // A cell of a tile whose first block is at this tile column and lane, by its place in the tile's box.
 pub fn tile_cell(plan: &Plan, column: u64, lane: u64, kind: Kind, place: (u32, u32)) -> State
-    requires admissible { IsAdmissible plan.now }
-    requires far { column < 2 ^ 63 }
-    requires low { lane < 2 ^ 62 }
+    requires far { column < 2 ^ 57 }
+    requires low { lane < 2 ^ 57 }
     ensures { result ≡ drawn_piece shipped_drawing (start_edges plan.now) column lane (Tile kind) place.0 place.1 }
 {
     if !Shipped.cell(kind, place.0, place.1) {
@@ -118,9 +182,8 @@ pub fn tile_cell(plan: &Plan, column: u64, lane: u64, kind: Kind, place: (u32, u
 
 // A cell of a piece whose first block is at this tile column and lane, by its place in the piece's box.
 fn piece_cell(plan: &Plan, column: u64, lane: u64, piece: Piece, place: (u32, u32)) -> State
-    requires admissible { IsAdmissible plan.now }
-    requires far { column < 2 ^ 63 }
-    requires low { lane < 2 ^ 62 }
+    requires far { column < 2 ^ 57 }
+    requires low { lane < 2 ^ 57 }
     ensures { result ≡ drawn_piece shipped_drawing (start_edges plan.now) column lane (piece_of piece) place.0 place.1 }
 {
     match piece {
@@ -131,12 +194,13 @@ fn piece_cell(plan: &Plan, column: u64, lane: u64, piece: Piece, place: (u32, u3
 
 // A cell of a block where an output cell stands.
 pub fn output_cell(plan: &Plan, column: u64, lane: u64, place: (u32, u32)) -> State
-    requires admissible { IsAdmissible plan.now }
+    requires far { column < 2 ^ 57 }
+    requires low { lane < 2 ^ 57 }
     ensures { result ≡ drawn_piece shipped_drawing (start_edges plan.now) column lane Output place.0 place.1 }
 {
     if place != (0, 8) {
         State::Empty
-    } else if is_start(plan, column, lane) {
+    } else if is_start(plan, Edge::Beside(column, lane)) {
         State::Head
     } else {
         State::Conductor
@@ -146,8 +210,7 @@ pub fn output_cell(plan: &Plan, column: u64, lane: u64, place: (u32, u32)) -> St
 /// A cell of the block of this tile column and lane, in which `slot` stands, by its place in the block.
 pub fn slot_cell(plan: &Plan, column: u64, lane: u64, slot: Slot, x: u32, y: u32) -> State
     requires admissible { IsAdmissible plan.now }
-    requires far { column < 2 ^ 63 }
-    requires low { lane < 2 ^ 62 }
+    requires slot { slot_of slot ≡ tiling_of plan.now column lane }
     requires in_block { y < 16 }
     ensures { result ≡ drawn_slot shipped_drawing (start_edges plan.now) column lane (slot_of slot) x y }
 {

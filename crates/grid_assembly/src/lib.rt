@@ -1,4 +1,4 @@
-//! The cells of a plan: its tiles by the shipped drawings, and the electrons of the loops that start with 1.
+//! The cells of a plan: its tiles by the shipped drawings, and electrons at the edges that its starts name.
 //!
 //! Theorem: `patterns_are_planes`, `steps_by_edges`.
 #![tactic(auto)]

@@ -1,6 +1,5 @@
 // Runs of equal cells in a row, block by block.
-ghost use Rattle.std.specs.Prelude.{◌≡◌, ◌-◌, ◌<◌, ◌≤◌, ◌^◌, ◌/◌, ◌%◌, ℕ, pos, true, cond};
-ghost use Rattle.ww_rule.specs.declared.pattern.State.TheVariants.{Conductor, Empty};
+ghost use Rattle.std.specs.Prelude.{◌≡◌, ◌-◌, ◌<◌, ◌≤◌, ◌^◌, ◌/◌, ◌%◌, ℕ, pos};
 ghost use Rattle.lane_core.specs.Plans.{IsAdmissible};
 ghost use Rattle.plan_layout.specs.Layout.{tiling_of};
 ghost use Rattle.plan_layout.specs.Planes.{start_plane};
@@ -11,33 +10,17 @@ ghost use Rattle.tiling.specs.Tiling.{drawn_piece, drawn_slot};
 ghost use Rattle.tiling.specs.Tiling.Piece.{Tile};
 ghost use Rattle.tile_library.specs.RowRuns.{IsRowRun};
 
-use crate::cells::{is_entry_lit, is_exit_lit, output_cell, tile_cell};
+use crate::cells::{is_row_dark, output_cell, tile_cell};
 use lane_core::Plan;
 use plan_layout::{Piece, Slot, slot_at};
 use tile_core::Kind;
 use tile_library::Shipped;
 use ww_rule::State;
 
-// Whether no electron stands in a tile at the beginning.
-fn is_dark(plan: &Plan, column: u64, lane: u64, kind: Kind) -> bool
-    requires admissible { IsAdmissible plan.now }
-    requires far { column < 2 ^ 63 }
-    requires low { lane < 2 ^ 62 }
-    ensures { result ≡ true → (x y : ℕ) →
-        drawn_piece shipped_drawing (start_edges plan.now) column lane (Tile kind) x y
-        ≡ cond (shipped_drawing kind (pos x) (pos y)) Conductor Empty }
-{
-    let entered = is_entry_lit(plan, column, lane, kind, 0)
-        || is_entry_lit(plan, column, lane, kind, 1);
-    let left = is_exit_lit(plan, column, lane, kind, 0) || is_exit_lit(plan, column, lane, kind, 1);
-    !entered && !left
-}
-
 // Equal cells of a tile whose first block is at this tile column and lane, from a place in the tile's box on.
 fn tile_run(plan: &Plan, column: u64, lane: u64, kind: Kind, place: (u32, u32)) -> (State, u32)
-    requires admissible { IsAdmissible plan.now }
-    requires far { column < 2 ^ 63 }
-    requires low { lane < 2 ^ 62 }
+    requires far { column < 2 ^ 57 }
+    requires low { lane < 2 ^ 57 }
     requires in_box { place.0 < 32 }
     ensures { IsRowRun (λ x. drawn_piece shipped_drawing (start_edges plan.now) column lane (Tile kind) x place.1)
         place.0 (32 - place.0) result }
@@ -48,7 +31,7 @@ fn tile_run(plan: &Plan, column: u64, lane: u64, kind: Kind, place: (u32, u32)) 
     let (drawn, count) = Shipped.run_at(kind, place.0, place.1);
     if !drawn {
         (State::Empty, count)
-    } else if is_dark(plan, column, lane, kind) {
+    } else if is_row_dark(plan, column, lane, kind, place.1) {
         (State::Conductor, count)
     } else {
         (tile_cell(plan, column, lane, kind, place), 1)
@@ -57,9 +40,8 @@ fn tile_run(plan: &Plan, column: u64, lane: u64, kind: Kind, place: (u32, u32)) 
 
 // Equal cells of a piece whose first block is at this tile column and lane, from a place in the piece's box on.
 fn piece_run(plan: &Plan, column: u64, lane: u64, piece: Piece, place: (u32, u32)) -> (State, u32)
-    requires admissible { IsAdmissible plan.now }
-    requires far { column < 2 ^ 63 }
-    requires low { lane < 2 ^ 62 }
+    requires far { column < 2 ^ 57 }
+    requires low { lane < 2 ^ 57 }
     requires in_box { place.0 < 32 }
     ensures { IsRowRun (λ x. drawn_piece shipped_drawing (start_edges plan.now) column lane (piece_of piece) x place.1)
         place.0 (32 - place.0) result }
@@ -73,8 +55,7 @@ fn piece_run(plan: &Plan, column: u64, lane: u64, piece: Piece, place: (u32, u32
 // Equal cells of the block of this tile column and lane, in which `slot` stands, from a place in the block on.
 fn slot_run(plan: &Plan, column: u64, lane: u64, slot: Slot, x: u32, y: u32) -> (State, u32)
     requires admissible { IsAdmissible plan.now }
-    requires far { column < 2 ^ 63 }
-    requires low { lane < 2 ^ 62 }
+    requires slot { slot_of slot ≡ tiling_of plan.now column lane }
     requires in_box { x < 32 }
     requires in_block { y < 16 }
     ensures { IsRowRun (λ x. drawn_slot shipped_drawing (start_edges plan.now) column lane (slot_of slot) x y)

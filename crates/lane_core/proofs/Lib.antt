@@ -2,3 +2,4 @@ pub mod Lookup
 pub mod Commuting
 pub mod Dark
 pub mod Lengths
+pub mod Naming

@@ -13,9 +13,8 @@ pub record HasFittingSize (plan : Plan) : Type 0 where
   pub both : (plan.lanes ≡ 0) ↔ (length plan.columns ≡ 0)
   pub loops_on_lanes : plan.latches ≤ plan.lanes
   pub loops_in_columns : plan.latches ≤ length plan.columns
-  pub starts : length plan.starts ≡ plan.latches
 
--- The plan can be drawn. Where it has no lanes, these rules leave each of its lists empty.
+-- The plan can be drawn, wherever it starts. Where it has no lanes, these rules leave no columns, ports or nets.
 pub record IsAdmissible (plan : Plan) : Type 0 where
   pub size : HasFittingSize plan
   pub instrs : All (IsColumnOnLanes plan.lanes) plan.columns

@@ -9,8 +9,10 @@ pub mod laws;
 mod places;
 mod plan;
 mod run;
+mod starts;
 
 pub use instr::{Column, Instr};
 pub use places::{in_cell, latency, net_cell, out_cell, period};
 pub use plan::{NetPlace, Plan, Program};
 pub use run::{run_columns, run_instrs};
+pub use starts::{Start, Starts};

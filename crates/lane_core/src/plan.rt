@@ -3,7 +3,7 @@ ghost use Rattle.std.specs.Prelude.{◌-◌, ◌≤◌, length, All};
 ghost use Rattle.lane_core.specs.Instrs.{IsOnLanes};
 ghost use Rattle.lane_core.specs.Places.{AreDistinctBelow, IsPlaceWithin};
 
-use crate::{Column, Instr};
+use crate::{Column, Instr, Starts};
 use lists::List;
 
 /// Where the bit of a net is found: a lane, at the start (`None`) or after the instruction (of a program) or the column
@@ -32,14 +32,14 @@ pub struct Program {
     pub ghost nets_fit: { All (IsPlaceWithin lanes (length instrs)) nets },
 }
 
-/// Columns of instructions, with the ports as of a program. `latches` is the number of loops, and `starts` says which of
-/// them start with 1.
+/// Columns of instructions, with the ports as of a program. `latches` is the number of loops, and `starts` names the edges
+/// that are lit at generation 0.
 #[derive(Drop)]
 pub struct Plan {
     pub lanes: u32,
     pub columns: List<Column>,
     pub latches: u32,
-    pub starts: List<bool>,
+    pub starts: Starts,
     pub ins: List<u32>,
     pub outs: List<u32>,
     pub nets: List<NetPlace>,

@@ -1,5 +1,5 @@
 -- A closed plan is admissible, and does what its program does.
-use Rattle.std.proofs.Common.{◌≡◌, sym, ◌∙◌, ap, ap₂, subst, ℕ, zero, suc, ◌+◌, ◌-◌, ◌<◌, ◌≤◌, ◌^◌, max, Bool, true, false, cond, List, [], ◌∷◌, length, take, map, All, Option, Some, None, arith}
+use Rattle.std.proofs.Common.{◌≡◌, sym, ◌∙◌, ap, ap₂, subst, ℕ, zero, suc, ◌+◌, ◌-◌, ◌<◌, ◌≤◌, ◌^◌, max, min, Bool, true, false, cond, List, [], ◌∷◌, length, take, map, All, Option, Some, None, arith}
 use Rattle.std.specs.Prelude.{◌==◌}
 use Rattle.std.proofs.lemmas.List.{get_or-map}
 use Rattle.std.proofs.lemmas.List.Elements.{All-nil, All-cons, All-head, All-tail, All-append}
@@ -19,8 +19,8 @@ use Rattle.column_packer.specs.Numbers.{used_by, column_numbers, numbered, colum
 use Rattle.column_packer.specs.Packing.{instrs_in, IsPacked}
 use Rattle.column_packer.proofs.Packed.{packed_same}
 use Rattle.latch_loops.specs.Places.{last_of, column_of_place, closed_place}
-use Rattle.latch_loops.specs.Closed.{IsPadded, least_size, IsClosed, DoesAsProgram}
-use Rattle.latch_loops.proofs.Padding.{IsEmpty, padded_after}
+use Rattle.latch_loops.specs.Closed.{IsPadded, contexts_size, least_size, IsClosed, DoesAsProgram}
+use Rattle.latch_loops.proofs.Padding.{IsEmpty, small_size, padded_after, empty_on_lanes}
 use Rattle.latch_loops.proofs.Uses.{used_in_columns, place_bits}
 use Rattle.lane_core.proofs.Lookup.{columns_apart as all_apart}
 
@@ -37,9 +37,6 @@ columns_on_lanes : (lanes : ℕ) (instrs : List Instr) (columns : List Column) �
 columns_on_lanes lanes instrs columns p all c d within =
     subst (All (IsOnLanes lanes)) (get_or-map (λ (column : Column). column.instrs) columns c d [] within)
     (All-permutation (IsOnLanes lanes) (column_instrs instrs c) (instrs_in columns c) (p.each c) (all_numbered (IsOnLanes lanes) c (column_numbers instrs) instrs all))
-
-empty_on_lanes : (lanes : ℕ) (columns : List Column) → All IsEmpty columns → All (IsColumnOnLanes lanes) columns
-empty_on_lanes lanes columns empty c d within = subst (All (IsOnLanes lanes)) (sym (empty c d within)) (All-nil (IsOnLanes lanes))
 
 padded_on_lanes : (lanes least : ℕ) (instrs : List Instr) (columns padded : List Column) → IsPacked instrs columns → IsPadded least columns padded → All (IsOnLanes lanes) instrs → All (IsColumnOnLanes lanes) padded
 padded_on_lanes lanes least instrs columns padded k p all =
@@ -67,15 +64,15 @@ places_within instrs columns k lanes n low (place ∷ places) all =
     (record { lane = (All-head (IsPlaceWithin lanes (length instrs)) place places all).lane; after = after_below instrs columns k place.lane n low place.after })
     (places_within instrs columns k lanes n low places (All-tail (IsPlaceWithin lanes (length instrs)) place places all))
 
-pub does_as_program : (program : Program) (columns : List Column) (plan : Plan) → IsPacked program.instrs columns → IsClosed program columns plan → DoesAsProgram program plan
+pub does_as_program : (program : Program) (columns : List Column) (plan : Plan) → IsPacked program.instrs columns → IsClosed program columns 0 plan → DoesAsProgram program plan
 does_as_program program columns plan k c = record {
-  end = λ bits. padded_after (least_size program) columns plan.columns c.padded bits ∙ packed_same program.instrs columns k bits;
+  end = λ bits. padded_after (least_size program 0) columns plan.columns c.padded bits ∙ packed_same program.instrs columns k bits;
   nets = λ bits.
       ap (map (λ place. bit_on (bits_after after_columns plan.columns place.after bits) place.lane)) c.nets
-      ∙ place_bits (least_size program) program.instrs columns plan.columns k c.padded bits program.nets;
+      ∙ place_bits (least_size program 0) program.instrs columns plan.columns k c.padded bits program.nets;
 }
 
-pub closed_admissible : (program : Program) (columns : List Column) (plan : Plan) → program.lanes < 2 ^ 32 → length columns < 2 ^ 40 → IsPacked program.instrs columns → IsClosed program columns plan → IsAdmissible plan
+pub closed_admissible : (program : Program) (columns : List Column) (plan : Plan) → program.lanes < 2 ^ 32 → length columns < 2 ^ 40 → IsPacked program.instrs columns → IsClosed program columns 0 plan → IsAdmissible plan
 closed_admissible program columns plan small few k c = record {
   size = record {
     lanes = omega (arith, small, c.lanes);
@@ -83,10 +80,9 @@ closed_admissible program columns plan small few k c = record {
     both = (λ none. omega (arith, count, none, c.lanes, loops, without none), λ none. omega (arith, count, none, c.lanes));
     loops_on_lanes = omega (arith, loops, c.latches, c.lanes);
     loops_in_columns = omega (arith, count, c.latches);
-    starts = ap length c.starts ∙ sym c.latches;
   };
   instrs = subst (λ n. All (IsColumnOnLanes n) plan.columns) (sym c.lanes)
-      (padded_on_lanes program.lanes (least_size program) program.instrs columns plan.columns k c.padded program.instrs_fit);
+      (padded_on_lanes program.lanes (least_size program 0) program.instrs columns plan.columns k c.padded program.instrs_fit);
   apart = all_apart plan.columns;
   ins = subst (AreDistinctBelow (plan.lanes - plan.latches)) (sym c.ins) (subst (λ n. AreDistinctBelow n program.ins) free program.ins_fit);
   outs = subst (AreDistinctBelow (plan.lanes - plan.latches)) (sym c.outs) (subst (λ n. AreDistinctBelow n program.outs) free program.outs_fit);
@@ -95,8 +91,11 @@ closed_admissible program columns plan small few k c = record {
       (places_within program.instrs columns k program.lanes (length plan.columns) (omega (arith, count)) program.nets program.nets_fit));
 }
   where
-    count : length plan.columns ≡ max (least_size program) (length columns)
-    count = c.padded.count
+    none : contexts_size (length program.latches) 0 ≡ 0
+    none = small_size (length program.latches) 0 (omega arith)
+
+    count : length plan.columns ≡ max (max (length program.latches) (min program.lanes 1)) (length columns)
+    count = omega (arith, c.padded.count, none)
 
     loops : length program.latches ≤ program.lanes
     loops = program.loops_fit

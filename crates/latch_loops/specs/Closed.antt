@@ -1,5 +1,5 @@
 -- Plans made of columns and programs.
-use Rattle.std.specs.Prelude.{ℕ, ◌≡◌, max, min, Bool, List, [], ◌++◌, map, length, All}
+use Rattle.std.specs.Prelude.{ℕ, ◌+◌, ◌-◌, ◌*◌, ◌≡◌, ◌==◌, max, min, cond, Bool, List, [], ◌++◌, map, length, All}
 use Rattle.lane_core.specs.declared.instr.Column.{Column}
 use Rattle.lane_core.specs.declared.plan.Program.{Program}
 use Rattle.lane_core.specs.declared.plan.Plan.{Plan}
@@ -17,20 +17,28 @@ pub record IsPadded (size : ℕ) (columns padded : List Column) : Type 0 where
   pub empty : All (λ column. column.instrs ≡ []) more
   pub count : length padded ≡ max size (length columns)
 
--- the greatest of the number of loops and, where there are lanes, 1
-abbrev pub least_size : Program → ℕ
-least_size program = max (length program.latches) (min program.lanes 1)
+-- columns enough for the starts of so many contexts on the ways back of so many loops; without loops there is nothing to start
+abbrev pub contexts_size : ℕ → ℕ → ℕ
+contexts_size loops contexts = cond (loops == 0) 0 (contexts - 4 * loops)
 
--- The plan has the program's lanes, loops, ports and nets, and these columns, which are at least as many as loops, and at
--- least 1 where there are lanes.
-pub record IsClosed (program : Program) (columns : List Column) (plan : Plan) : Type 0 where
+-- the greatest of the number of loops, of 1 where there are lanes, and of what so many contexts need
+abbrev pub least_size : Program → ℕ → ℕ
+least_size program contexts = max (max (length program.latches) (min program.lanes 1)) (contexts_size (length program.latches) contexts)
+
+-- The plan has the program's lanes, loops, ports and nets, and these columns, which are at least as many as loops, at least 1
+-- where there are lanes, and enough for the starts of so many contexts.
+pub record IsClosed (program : Program) (columns : List Column) (contexts : ℕ) (plan : Plan) : Type 0 where
   pub lanes : plan.lanes ≡ program.lanes
   pub latches : plan.latches ≡ length program.latches
-  pub starts : plan.starts ≡ program.latches
   pub ins : plan.ins ≡ program.ins
   pub outs : plan.outs ≡ program.outs
-  pub padded : IsPadded (least_size program) columns plan.columns
+  pub padded : IsPadded (least_size program contexts) columns plan.columns
   pub nets : plan.nets ≡ map (closed_place program.instrs) program.nets
+
+-- as many contexts as a loop of the plan of one context has tiles; 1 without loops
+abbrev pub contexts_limit : List Column → Program → ℕ
+contexts_limit columns program =
+    cond (length program.latches == 0) 1 (2 * max (length columns) (length program.latches) + 4 * length program.latches)
 
 -- the plan does what the program does: at the end, and at each place of a net
 pub record DoesAsProgram (program : Program) (plan : Plan) : Type 0 where
@@ -42,5 +50,5 @@ pub record DoesAsProgram (program : Program) (plan : Plan) : Type 0 where
 -- so it computes what the program computes
 abbrev pub ClosingKeepsCells : Type 0
 ClosingKeepsCells =
-    (list : CellList) (program : Program) (columns : List Column) (plan : Plan) → IsClosed program columns plan → DoesAsProgram program plan
+    (list : CellList) (program : Program) (columns : List Column) (contexts : ℕ) (plan : Plan) → IsClosed program columns contexts plan → DoesAsProgram program plan
     → ComputesByProgram list program → ComputesByPlan list plan

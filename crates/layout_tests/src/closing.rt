@@ -4,9 +4,10 @@ ghost use Rattle.lane_core.specs.Plans.{IsAdmissible};
 
 use crate::programs::{Listed, program_of};
 use column_packer::pack;
-use lane_core::{Instr, NetPlace, Plan, latency, period};
+use lane_core::{Instr, NetPlace, Plan, Start, latency, period};
 use latch_loops::close;
 use std::alloc::Global;
+use std::slice::from_ref;
 use std::test::Fail;
 
 // Three columns; net 1 names an instruction that does not work on its lane, and net 2 a lane before its first use.
@@ -62,7 +63,7 @@ fn closed(alloc: Global, listed: &Listed<'_>) -> Result<Plan, Fail>
 {
     let program = program_of(alloc, listed)?;
     let columns = pack(alloc, &program)?;
-    Ok(close(alloc, columns, &program)?)
+    Ok(close(alloc, columns, &program, from_ref(&program.latches))?)
 }
 
 // Where the nets of the five lanes are found.
@@ -99,8 +100,8 @@ fn places_are_those_of_last_uses(rt: HostRuntime) -> Result<(), Fail> {
 fn there_are_as_many_columns_as_loops(rt: HostRuntime) -> Result<(), Fail> {
     let plan = closed(rt.alloc(), &BARE)?;
     assert_eq!(rt;
-        (plan.columns.len(), plan.latches, plan.starts.as_slice()),
-        (2, 2, [true, false].as_slice())
+        (plan.columns.len(), plan.latches, plan.starts.list.as_slice()),
+        (2, 2, [Start { x: 64, y: 8 }].as_slice())
     );
     Ok(())
 }

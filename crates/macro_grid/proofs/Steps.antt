@@ -1,23 +1,16 @@
 -- The macro step of a plan, with the answers of the two blocks that meet at an edge.
-use Rattle.std.proofs.Common.{◌≡◌, refl, ◌∙◌, ap, ℕ, ◌+◌, ◌-◌, ◌≤◌, Bool, true, false, ◌&&◌, ◌||◌, cond, ltb, ⊎_elim, arith}
-use Rattle.std.specs.Prelude.{◌==◌}
-use Rattle.std.specs.List.{list_any}
+use Rattle.std.proofs.Common.{◌≡◌, ◌∙◌, ap, ℕ, ◌+◌, ◌-◌, ◌≤◌, Bool, true, false, ◌||◌, ⊎_elim, arith}
 use Rattle.std.proofs.lemmas.Bool.{cases_lt}
-use Rattle.std.proofs.lemmas.Bool.Decides.{nat_tests}
-use Rattle.tile_core.specs.declared.kind.Kind.{Kind}
-use Rattle.tile_core.specs.declared.kind.Kind.TheVariants as kind
-use Rattle.tiling.specs.Tiling.Piece.{Tile, Output}
-use Rattle.tiling.specs.Tiling.Slot.{Nothing, Whole}
+use Rattle.tiling.specs.Tiling.Slot.{Nothing}
 use Rattle.lane_core.specs.declared.plan.Plan.{Plan}
 use Rattle.macro_grid.specs.Edges.{edge_columns, edge_lanes}
-use Rattle.plan_layout.specs.Layout.{turn_slot, end_of_body, upper_left, in_body, upper_right, lower_left, on_return, lower_right, upper_part, lower_part, tiling_of}
+use Rattle.plan_layout.specs.Layout.{tiling_of}
 use Rattle.plan_layout.proofs.Matched.{tiling_of-below}
-use Rattle.plan_layout.proofs.Sides.{either}
+use Rattle.plan_layout.proofs.Within.{tiling_of-right}
 use Rattle.tiling.specs.Tiling.{Tiling, Lit}
 use Rattle.tiling.specs.Tiling.Edge.{Beside, Above}
 use Rattle.tiling.specs.MacroStep.{macro_step, slot_answers}
 use Rattle.tiling.proofs.AtEdges.{beside_first, beside_next, above_first, above_next}
-use Rattle.plan_layout.proofs.Columns.{by_column-right}
 
 -- one of two answers, where the first one decides
 pub answered : (r m a b : Bool) → m ≡ (a || b) → r ≡ a → r ≡ true → r ≡ m
@@ -27,28 +20,6 @@ answered r m false b e f g = cc
 pub not_answered : (r own m a b : Bool) → m ≡ (a || b) → r ≡ a → r ≡ false → own ≡ b → own ≡ m
 not_answered r own m true b e f g h = cc
 not_answered r own m false b e f g h = cc
-
--- beyond the drawing nothing stands
-turn_slot-far : (loops away off : ℕ) (along corner across : Kind) → loops ≤ away → turn_slot loops away off along corner across ≡ Nothing
-turn_slot-far loops away off along corner across far =
-    let no : ltb away loops ≡ false = grind (arith, nat_tests) in
-    ap (λ b. cond (b && ltb off loops) (Whole (Tile (cond (ltb away off) along (cond (away == off) corner across)))) Nothing) no
-
-upper_right-far : (plan : Plan) (q l : ℕ) → end_of_body plan + plan.latches + 1 ≤ q → upper_right plan q l ≡ Nothing
-upper_right-far plan q l far =
-    let no : (q == end_of_body plan) ≡ false = grind (arith, nat_tests) in
-    let beyond : turn_slot plan.latches (q - end_of_body plan) (plan.lanes - 1 - l) kind.East kind.EastSouth kind.South ≡ Nothing =
-    turn_slot-far plan.latches (q - end_of_body plan) (plan.lanes - 1 - l) kind.East kind.EastSouth kind.South (omega arith) in
-    ap (λ t. cond (t && list_any (λ out. out == l) plan.outs) (Whole Output) (turn_slot plan.latches (q - end_of_body plan) (plan.lanes - 1 - l) kind.East kind.EastSouth kind.South)) no ∙ beyond
-
-pub tiling_of-right : (plan : Plan) (q l : ℕ) → end_of_body plan + plan.latches + 1 ≤ q → tiling_of plan q l ≡ Nothing
-tiling_of-right plan q l far =
-    let above : upper_part plan q l ≡ Nothing =
-    by_column-right plan q (upper_left plan q l) (in_body plan q l) (upper_right plan q l) (omega arith) ∙ upper_right-far plan q l far in
-    let below : lower_part plan q l ≡ Nothing =
-    by_column-right plan q (lower_left plan q l) (on_return plan q l) (lower_right plan q l) (omega arith)
-    ∙ turn_slot-far plan.latches (q - end_of_body plan) (l - plan.lanes) kind.West kind.SouthWest kind.South (omega arith) in
-    either (λ s. s ≡ Nothing) (ltb l plan.lanes) above (either (λ s. s ≡ Nothing) (ltb l (plan.lanes + plan.latches)) below refl)
 
 -- between blocks where nothing stands no edge is lit
 beside_dark : (tiling : Tiling) (lit : Lit) (q l p : ℕ) → p + 1 ≡ q → tiling p l ≡ Nothing → tiling q l ≡ Nothing → macro_step tiling lit (Beside q l) ≡ false

@@ -1,14 +1,14 @@
 // Which edges of a plan are lit. An edge is a side at which two blocks meet, named by the tile column and the lane of the
 // block east of it (`beside`) or south of it (`above`).
-ghost use Rattle.std.specs.Prelude.{◌≡◌, ℕ, ◌+◌, ◌*◌, ◌/◌, ◌%◌, ◌<◌, ◌&&◌, nat_lt, get_or, false, length, IfOk};
-ghost use Rattle.tiling.specs.Tiling.{Edge};
+ghost use Rattle.std.specs.Prelude.{◌≡◌, ℕ, ◌+◌, ◌*◌, ◌/◌, ◌%◌, ◌^◌, ◌<◌, ◌≤◌, ◌&&◌, nat_lt, get_or, false, length, IfOk};
+ghost use Rattle.tiling.specs.Tiling as tiling;
 ghost use Rattle.tiling.specs.Tiling.Edge.{Beside, Above};
 ghost use Rattle.lane_core.specs.Plans.{IsAdmissible};
-ghost use Rattle.plan_layout.specs.Starts.{start_edges};
+ghost use Rattle.plan_layout.specs.Starts.{start_edges, HasStartEdges};
 ghost use Rattle.macro_grid.specs.Edges.{IsEdgesOf, edge_columns, edge_lanes, lit_of};
 
 use lane_core::Plan;
-use plan_layout::is_start;
+use plan_layout::{Edge, is_start};
 use std::alloc::{AllocError, Global};
 use std::marker::Model;
 
@@ -46,19 +46,21 @@ impl Model for Edges {
 }
 
 impl Edges {
-    /// The edges that are lit at the beginning: one for each loop that starts with 1, where it enters the body.
+    /// The edges that are lit at generation 0.
     pub fn start(alloc: Global, plan: &Plan) -> Result<Edges, EdgesError>
-        requires { IsAdmissible plan.now }
+        requires admissible { IsAdmissible plan.now }
+        requires starts { HasStartEdges plan.now }
         ensures made { IfOk result (IsEdgesOf plan.now) }
-        ensures lit { IfOk result (λ e. (edge : Edge) → lit_of e edge ≡ start_edges plan.now edge) }
+        ensures lit { IfOk result (λ e. (edge : tiling.Edge) → lit_of e edge ≡ start_edges plan.now edge) }
     {
         let lanes = edge_lanes(plan);
         let Some(count) = edge_columns(plan).checked_mul(lanes) else {
             return Err(EdgesError::NoMemory);
         };
         let mut beside = vec![in alloc; false; count]?;
-        let above = vec![in alloc; false; count]?;
-        light_starts(plan, lanes, &mut beside);
+        let mut above = vec![in alloc; false; count]?;
+        light_beside(plan, lanes, &mut beside);
+        light_above(plan, lanes, &mut above);
         Ok(Edges {
             lanes,
             beside,
@@ -94,13 +96,29 @@ fn edge_lanes(plan: &Plan) -> usize
     plan.lanes as usize + plan.latches as usize + 1
 }
 
-fn light_starts(plan: &Plan, lanes: usize, bits: &mut [bool])
-    requires admissible { IsAdmissible plan.now }
+// Writes the edges on the west sides of blocks that are lit at generation 0.
+#[tactic(auto, using(crate::proofs::Bits::column_near))]
+fn light_beside(plan: &Plan, lanes: usize, bits: &mut [bool])
     requires some { 0 < lanes }
+    requires few { lanes < 2 ^ 40 }
+    requires columns { length bits.old ≤ 2 ^ 50 * lanes }
     ensures { (k : ℕ) → k < length bits.new → get_or bits.new k false ≡ start_edges plan.now (Beside (k / lanes) (k % lanes)) }
 {
     for (i, lit) in bits.iter_mut().enumerate() {
-        *lit = is_start(plan, (i / lanes) as u64, (i % lanes) as u64);
+        *lit = is_start(plan, Edge::Beside((i / lanes) as u64, (i % lanes) as u64));
+    }
+}
+
+// Writes those on the north sides.
+#[tactic(auto, using(crate::proofs::Bits::column_near))]
+fn light_above(plan: &Plan, lanes: usize, bits: &mut [bool])
+    requires some { 0 < lanes }
+    requires few { lanes < 2 ^ 40 }
+    requires columns { length bits.old ≤ 2 ^ 50 * lanes }
+    ensures { (k : ℕ) → k < length bits.new → get_or bits.new k false ≡ start_edges plan.now (Above (k / lanes) (k % lanes)) }
+{
+    for (i, lit) in bits.iter_mut().enumerate() {
+        *lit = is_start(plan, Edge::Above((i / lanes) as u64, (i % lanes) as u64));
     }
 }
 

@@ -7,6 +7,7 @@ mod edges;
 mod laws;
 mod ports;
 mod rules;
+mod starts;
 mod step;
 
 pub use edges::{Edges, EdgesError};

@@ -6,17 +6,25 @@ ghost use Rattle.lane_core.specs.Places.{IsPlaceWithin};
 ghost use Rattle.lane_core.specs.Plans.{IsAdmissible, HasFittingSize};
 ghost use Rattle.tiling.specs.Matched.{IsMatched};
 ghost use Rattle.plan_layout.specs.Layout.{tiling_of};
+ghost use Rattle.plan_layout.specs.Starts.{HasStartEdges};
 
 use crate::ports::are_distinct_below;
+use crate::starts::has_start_edges;
 use lane_core::{Column, Instr, NetPlace, Plan};
 
-/// Whether a plan keeps the rules that a drawing of it needs. It takes no memory but 64 KiB of the stack. For each span of
-/// 65,536 lanes that has ports of a list it clears these and goes over the list twice; it goes over the list twice more, and
-/// over all else once.
+/// Whether a plan keeps the rules that a drawing of it needs, and each of its starts names an edge of the drawing. It takes
+/// no memory but 64 KiB of the stack. For each span of 65,536 lanes that has ports of a list it clears these and goes over
+/// the list twice; it goes over the list twice more, and over all else once.
 pub fn admissible(plan: &Plan) -> bool
-    ensures exact { IsTrue result ↔ IsAdmissible plan.now }
+    ensures exact { IsTrue result ↔ (IsAdmissible plan.now × HasStartEdges plan.now) }
     // the tiles of such a plan fit together
     ensures matched { IsTrue result → IsMatched (tiling_of plan.now) }
+{
+    keeps_rules(plan) && has_start_edges(plan)
+}
+
+fn keeps_rules(plan: &Plan) -> bool
+    ensures { IsTrue result ↔ IsAdmissible plan.now }
 {
     if !has_fitting_size(plan) {
         return false;
@@ -78,5 +86,4 @@ fn has_fitting_size(plan: &Plan) -> bool
         && (plan.lanes == 0) == (columns == 0)
         && plan.latches <= plan.lanes
         && plan.latches as u64 <= columns
-        && plan.starts.len() == plan.latches as usize
 }

@@ -1,17 +1,19 @@
 -- How small a plan is, by the weight of the flat netlist.
-use Rattle.std.proofs.Common.{◌≡◌, sym, ◌∙◌, ap, ℕ, ◌+◌, ◌*◌, ◌<◌, ◌≤◌, true, false, true≢false, cond, [], ◌∷◌, ◌++◌, length, arith}
+use Rattle.std.proofs.Common.{◌≡◌, sym, ◌∙◌, ap, subst, ℕ, ◌+◌, ◌*◌, ◌<◌, ◌≤◌, Bool, true, false, true≢false, cond, List, [], ◌∷◌, length, arith}
 use Rattle.std.specs.Prelude.{◌==◌, ◌^◌, max}
 use Rattle.std.proofs.lemmas.Bool.{false_from_ne_true}
-use Rattle.std.proofs.lemmas.List.{length-map, length-append}
+use Rattle.std.proofs.lemmas.List.{length-map}
 use Rattle.std.proofs.Math.Nat.{mul-le-mul, mul-mul-mul_comm}
-use Rattle.lists.proofs.Numbers.{at_most_one, length_if, one_if}
+use Rattle.lists.proofs.Numbers.{at_most_one, one_if}
 use Rattle.lane_core.specs.declared.plan.Plan.{Plan}
 use Rattle.lane_core.specs.Plans.{IsAdmissible, period_of}
 use Rattle.netlist_core.specs.declared.flat.Flat.{Flat}
 use Rattle.netlist_core.specs.declared.flat.FlatPort.{FlatPort}
 use Rattle.netlist_meaning.specs.Flat.{IsWeighed, class_of, port_classes}
 use Rattle.cell_core.specs.declared.list.CellList.{CellList}
-use Rattle.cell_core.specs.Loops.{names_one, loop_count}
+use Rattle.plan_layout.specs.Starts.{start_edges}
+use Rattle.plan_waves.specs.Contexts.{StartsContexts}
+use Rattle.cell_core.specs.Loops.{names_one, loop_state, loop_count}
 use Rattle.cell_meaning.specs.Computes.{ComputesByPlan}
 use Rattle.cell_meaning.specs.Mapped.{IsMapped}
 use Rattle.cell_meaning.specs.Needs.{any_needs_one}
@@ -43,7 +45,7 @@ module _ (flat : Flat) (list : CellList) (m : IsMapped flat list) (w : IsWeighed
 
   module _ (plan : Plan) (h : IsAdmissible plan) (c : ComputesByPlan list plan) where
     pub loops_many : plan.latches ≡ length list.starts + cond (names_one list) 1 0
-    loops_many = sym h.size.starts ∙ ap length c.starts ∙ length-append list.starts _ ∙ ap (λ n. length list.starts + n) (length_if (names_one list) true)
+    loops_many = c.loops
 
     no_more : any_needs_one flat ≡ false → plan.latches ≡ length flat.latches
     no_more e =
@@ -69,13 +71,13 @@ module _ (flat : Flat) (list : CellList) (m : IsMapped flat list) (w : IsWeighed
     pub short_period : length flat.latches ≡ 0 → any_needs_one flat ≡ false → period_of plan ≡ 32
     short_period none e = ap (λ n. cond (n == 0) 32 (32 * (2 * length plan.columns + 4 * n))) (no_more e ∙ none)
 
-    pub computes_cells : AreAtEntries list plan.lanes plan.ins plan.nets → AreAtExits list plan.columns plan.nets → ComputesCells flat plan
-    computes_cells entries exits = record {
+    pub computes_cells : StartsContexts plan (loop_state list list.starts ∷ []) (start_edges plan) → AreAtEntries list plan.lanes plan.ins plan.nets → AreAtExits list plan.columns plan.nets → ComputesCells flat plan
+    computes_cells starts entries exits = record {
       list = list;
       mapped = m;
       computes = c;
       entries = entries;
       exits = exits;
       loops = omega (arith, loops_many, starts_many);
-      starts = c.starts ∙ ap (λ starts. starts ++ cond (names_one list) (true ∷ []) []) m.starts;
+      starts = subst (λ (bits : List Bool). StartsContexts plan (bits ∷ []) (start_edges plan)) (ap (loop_state list) m.starts) starts;
     }

@@ -3,6 +3,7 @@ mod Bounds
 mod Lanes
 mod NetPlaces
 mod OfOne
+mod Several
 mod Newlines
 mod Lines
 mod Words

@@ -1,13 +1,16 @@
 -- What a plan of a flat netlist is.
-use Rattle.std.specs.Prelude.{◌+◌, ◌*◌, ◌≤◌, ◌≡◌, ◌≢◌, ◌==◌, true, false, cond, [], ◌∷◌, ◌++◌, length, map}
+use Rattle.std.specs.Prelude.{◌+◌, ◌*◌, ◌≤◌, ◌≡◌, ◌≢◌, false, cond, [], ◌∷◌, length}
 use Rattle.lane_core.specs.declared.plan.Plan.{Plan}
 use Rattle.netlist_core.specs.declared.flat.Flat.{Flat}
 use Rattle.netlist_meaning.specs.Flat.{nets_but_clocks}
+use Rattle.netlist_meaning.specs.FlatValuation.{start_bits}
 use Rattle.cell_core.specs.declared.list.CellList.{CellList}
-use Rattle.cell_core.specs.Loops.{names_one}
+use Rattle.cell_core.specs.Loops.{names_one, loop_state}
 use Rattle.cell_meaning.specs.Computes.{ComputesByPlan}
 use Rattle.cell_plans.specs.Counts.{instr_count}
 use Rattle.cell_plans.specs.Exits.{AreAtExits}
+use Rattle.plan_layout.specs.Starts.{start_edges}
+use Rattle.plan_waves.specs.Contexts.{StartsContexts}
 use Rattle.row_placer.specs.Entries.{AreAtEntries}
 use Rattle.cell_meaning.specs.Mapped.{IsMapped}
 use Rattle.cell_meaning.specs.Needs.{any_needs_one}
@@ -21,8 +24,8 @@ pub record IsSmall (flat : Flat) (plan : Plan) : Type 0 where
   pub loops : plan.latches ≤ length flat.latches + 1
   pub no_more_loops : any_needs_one flat ≡ false → plan.latches ≡ length flat.latches
 
--- The plan computes a list of cells of the flat netlist. Its nets are at the entries of their sources or at the exits of their cells. Its loops are the latches in order, each with its start, and exactly where the
--- list names constant 1 one more, which starts with 1.
+-- The plan computes a list of cells of the flat netlist. Its nets are at the entries of their sources or at the exits of their cells. Its loops are the latches in order, and exactly where the
+-- list names constant 1 one more. Its start edges start one context, each latch with its start, and constant 1 with 1.
 pub record ComputesCells (flat : Flat) (plan : Plan) : Type 0 where
   pub list : CellList
   pub mapped : IsMapped flat list
@@ -30,7 +33,7 @@ pub record ComputesCells (flat : Flat) (plan : Plan) : Type 0 where
   pub entries : AreAtEntries list plan.lanes plan.ins plan.nets
   pub exits : AreAtExits list plan.columns plan.nets
   pub loops : plan.latches ≡ length flat.latches + cond (names_one list) 1 0
-  pub starts : plan.starts ≡ map (λ latch. latch.init == 1) flat.latches ++ cond (names_one list) (true ∷ []) []
+  pub starts : StartsContexts plan (loop_state list (start_bits flat) ∷ []) (start_edges plan)
 
 -- Where there are no nets but clock nets there is no lane and no column; else there are some of both.
 pub record HasLanes (flat : Flat) (plan : Plan) : Type 0 where

@@ -2,7 +2,9 @@
 use cell_plans::PlanError;
 use cell_rewriting::RewriteError;
 use cover_mapper::MapError;
+use latch_loops::CloseError;
 use plan_ports::PortsError;
+use std::alloc::AllocError;
 use thiserror::Error;
 
 /// Why there is no plan. Each sound netlist with an order has one.
@@ -33,6 +35,20 @@ impl From<PortsError> for NetlistPlanError {
         match error {
             PortsError::NoMemory => NetlistPlanError::NoMemory,
         }
+    }
+}
+
+impl From<CloseError> for NetlistPlanError {
+    fn from(error: CloseError) -> Self {
+        match error {
+            CloseError::NoMemory => NetlistPlanError::NoMemory,
+        }
+    }
+}
+
+impl From<AllocError> for NetlistPlanError {
+    fn from(_: AllocError) -> Self {
+        NetlistPlanError::NoMemory
     }
 }
 

@@ -1,14 +1,16 @@
 //! Makes a plan and its port table of a flat netlist with an order of its covers; their text carries the flat netlist.
 //!
-//! Theorem: `plan_netlist` (`carries`, `small`, `places`).
+//! Theorem: `plan_netlist` (`carries`, `small`, `places`), `plan_contexts` (`carries`).
 #![tactic(auto)]
 
+mod contexts;
 mod error;
 mod planning;
 
 ghost use Rattle.netlist_plans.specs.Names.{TextsHavePortNames};
 ghost use Rattle.netlist_plans.specs.TextNames.{NamesAreWords, NetsAreWords};
 
+pub use contexts::plan_contexts;
 pub use error::NetlistPlanError;
 pub use planning::{Planned, plan_netlist};
 

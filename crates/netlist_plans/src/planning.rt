@@ -2,6 +2,7 @@
 ghost use Rattle.std.specs.Prelude.{◌≡◌, ◌<◌, ◌^◌, false, length, All, IfOk};
 ghost use Rattle.grid_assembly.specs.PlanDrawing.{start_grid};
 ghost use Rattle.lane_core.specs.Plans.{IsAdmissible};
+ghost use Rattle.plan_layout.specs.Starts.{HasStartEdges};
 ghost use Rattle.netlist_meaning.specs.Flat.{IsNamed, IsSound, IsWeighed};
 ghost use Rattle.netlist_meaning.specs.FlatOrder.{IsOrder};
 ghost use Rattle.cell_meaning.specs.Needs.{any_needs_one};
@@ -72,6 +73,8 @@ pub fn plan_netlist(alloc: Global, flat: &Flat, order: &Order) -> Result<Planned
     requires names { HasPortNames flat.now }
     requires places { HasTablePlaces flat.now }
     ensures admissible { IfOk result (λ p. IsAdmissible p.plan) }
+    ensures edges { IfOk result (λ p. HasStartEdges p.plan) }
+    ensures planned { IfOk result (λ p. IsPlanned flat.now p.plan) }
     ensures table { IfOk result (λ p. IsTableOf flat.now p.plan 1 p.ports) }
     ensures carries { IfOk result (λ p. CarriesFlat (pattern_text (start_grid p.plan) p.ports) flat.now) }
     ensures small { IfOk result (λ p. IsSmall flat.now p.plan) }

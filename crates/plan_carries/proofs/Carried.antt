@@ -27,7 +27,6 @@ use Rattle.plan_waves.specs.Contexts.{StartsContexts}
 use Rattle.plan_waves.specs.ShownContexts.{ShowsContextBits}
 use Rattle.plan_waves.specs.ContextRows.{drive_of_contexts, bits_of_context_rows}
 use Rattle.plan_waves.proofs.ContextRows.{plans_show_context_rows}
-use Rattle.plan_waves.proofs.OneContext.{one_context_starts}
 use Rattle.cell_core.specs.declared.list.CellList.{CellList}
 use Rattle.cell_core.specs.Meaning.{Fits}
 use Rattle.cell_core.specs.Loops.{loop_state}
@@ -47,7 +46,7 @@ use Rattle.carries.proofs.OneContext.{flat_from_contexts}
 use Rattle.plan_ports.specs.Tables.{IsTableOf}
 use Rattle.plan_ports.proofs.GatheredNets.{place_of_line}
 use Rattle.plan_carries.specs.Compiled.{ComputesFlat, IsCompiled}
-use Rattle.plan_carries.specs.Laws.{PlanesShowRuns}
+use Rattle.plan_carries.specs.Laws.{StartsAsFlat, PlanesShowRuns}
 use Rattle.plan_carries.specs.ContextLaws.{StartsLatches, PlanesShowContexts}
 use Rattle.plan_carries.proofs.Runs.{state_long, has_run}
 
@@ -261,13 +260,13 @@ planes_show_contexts library law flat list plan ports starts k lit s = record {
   nets = nets_shown library law flat list plan ports starts k lit s;
 }
 
--- the plan's own start edges start one context, from the flat netlist's start on
-pub one_start : (flat : Flat) (list : CellList) (plan : Plan) (ports : Ports) → IsCompiled flat list plan 1 ports → StartsLatches flat list plan (start_bits flat ∷ []) (start_edges plan)
-one_start flat list plan ports k = record {
+-- a plan whose loops start as its list does starts as the flat netlist
+pub starts_as_flat : (flat : Flat) (list : CellList) (plan : Plan) → ComputesFlat flat list → StartsContexts plan (loop_state list list.starts ∷ []) (start_edges plan) → StartsAsFlat flat list plan
+starts_as_flat flat list plan k s = record {
   long = All-cons (λ (bits : List Bool). length bits ≡ length flat.latches) (start_bits flat) [] (length-map flat.latches _) (All-nil (λ (bits : List Bool). length bits ≡ length flat.latches));
-  on_plan = subst (λ (bits : List Bool). StartsContexts plan (bits ∷ []) (start_edges plan)) (k.plan_computes.starts ∙ ap (loop_state list) k.list_computes.mapped.starts) (one_context_starts plan k.admissible);
+  on_plan = subst (λ (bits : List Bool). StartsContexts plan (bits ∷ []) (start_edges plan)) (ap (loop_state list) k.mapped.starts) s;
 }
 
 pub planes_show_runs : PlanesShowRuns
-planes_show_runs library law flat list plan ports k =
-    flat_from_contexts (start_plane library plan) ports flat (planes_show_contexts library law flat list plan ports (start_bits flat ∷ []) k (start_edges plan) (one_start flat list plan ports k))
+planes_show_runs library law flat list plan ports k s =
+    flat_from_contexts (start_plane library plan) ports flat (planes_show_contexts library law flat list plan ports (start_bits flat ∷ []) k (start_edges plan) s)

@@ -2,6 +2,6 @@ mod Alike
 pub mod SeenNets
 mod Runs
 mod Designs
-mod Carried
+pub mod Carried
 mod Written
 mod Pictures

@@ -23,7 +23,6 @@ use Rattle.plan_ports.proofs.Readable.{small_size}
 use Rattle.plan_carries.specs.Laws.{PlansHavePorts, TextsCarryFlats}
 use Rattle.plan_carries.specs.Pictures.{grid_with}
 use Rattle.plan_carries.specs.ContextLaws.{PlanesShowContexts, PicturesArePlanes, TextsCarryContexts}
-use Rattle.plan_carries.proofs.Carried.{one_start}
 
 pub plans_have_ports : PlansHavePorts
 plans_have_ports flat list plan c p =
@@ -56,5 +55,5 @@ texts_carry_contexts law pictures written readable shown flat list plan ports st
 
 -- with the plan's own start edges
 pub texts_carry_flats : TextsCarryContexts → TextsCarryFlats
-texts_carry_flats carry flat list plan ports k =
-    (one_context_carries_flat (pattern_text (start_grid plan) ports) flat).1 (carry flat list plan ports (start_bits flat ∷ []) (omega arith) k (start_edges plan) (one_start flat list plan ports k))
+texts_carry_flats carry flat list plan ports k s =
+    (one_context_carries_flat (pattern_text (start_grid plan) ports) flat).1 (carry flat list plan ports (start_bits flat ∷ []) (omega arith) k (start_edges plan) s)

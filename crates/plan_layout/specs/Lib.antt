@@ -1,5 +1,6 @@
 pub mod Layout
 pub mod Slots
+pub mod Edges
 pub mod Starts
 pub mod Planes
 pub mod Laws

@@ -11,6 +11,6 @@ use Rattle.plan_layout.specs.Starts.{start_edges}
 abbrev pub plane_with : (Kind → Drawing) → Plan → Lit → Plane
 plane_with library plan lit = drawn library (tiling_of plan) lit
 
--- the plan's plane at the beginning, with the edges lit where loops start with 1
+-- the plan's plane at generation 0
 abbrev pub start_plane : (Kind → Drawing) → Plan → Plane
 start_plane library plan = plane_with library plan (start_edges plan)

@@ -3,11 +3,15 @@
 //! Theorem: `plans_fit_together`, `slot_at`.
 #![tactic(auto)]
 
+mod edge;
 pub mod laws;
 mod layout;
+mod ports;
 mod slot;
 mod starts;
 
+pub use edge::Edge;
 pub use layout::slot_at;
+pub use ports::{is_entered, is_left};
 pub use slot::{Piece, Slot};
-pub use starts::is_start;
+pub use starts::{is_passed, is_start, name_of};

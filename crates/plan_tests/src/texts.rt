@@ -1,5 +1,5 @@
 // Plans of ORs, and their texts.
-use lane_core::{Column, Instr, Plan};
+use lane_core::{Column, Instr, Plan, Starts};
 use lists::{List, copied};
 use macro_grid::admissible;
 use pattern_reading::{NetLine, PortLine, Ports};
@@ -20,7 +20,7 @@ fn plan_of(alloc: Global, columns: usize) -> Result<Plan, Fail> {
         lanes: 2,
         columns: List::of(made),
         latches: 0,
-        starts: List::of(Vec::new(alloc)),
+        starts: Starts::of(Vec::new(alloc)),
         ins: List::of(vec![in alloc; 0, 1]?),
         outs: List::of(vec![in alloc; 0]?),
         nets: List::of(Vec::new(alloc)),

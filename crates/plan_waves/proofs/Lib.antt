@@ -9,13 +9,11 @@ pub mod WayBack
 pub mod Loops
 pub mod Beginning
 pub mod Machine
-pub mod DrivenCycles
+pub mod CycleSteps
 pub mod EdgesShown
-pub mod Plane
-pub mod Rows
+pub mod InputCells
 pub mod FreePorts
 pub mod RunningContexts
 pub mod ShownContexts
 pub mod IsolatedContexts
 pub mod ContextRows
-pub mod OneContext

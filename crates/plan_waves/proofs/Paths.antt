@@ -13,7 +13,7 @@ use Rattle.lane_core.specs.Plans.{IsAdmissible}
 use Rattle.lane_core.specs.Entering.{first_loop_lane}
 use Rattle.plan_layout.specs.Layout.{end_of_body, tiling_of}
 use Rattle.plan_layout.proofs.Matched.{tiling_is_matched}
-use Rattle.plan_waves.specs.Waves.{is_free_entry, GoesOn, is_body_entry, IsLitAtEntries, is_inside}
+use Rattle.plan_waves.specs.Waves.{is_free_entry, GoesOn, is_body_entry, is_inside}
 use Rattle.plan_waves.specs.WaysBack.{tile_before, tiles_before}
 use Rattle.plan_waves.proofs.Passing.{PassesOn, beside_same, above_same, east_passes, south_passes, west_passes, north_passes}
 
@@ -34,13 +34,6 @@ pub record Reaches (plan : Plan) (edges : ℕ → Lit) (n : ℕ) (before after :
 
 pub arrives : (plan : Plan) (edges : ℕ → Lit) (n : ℕ) (before after : Edge) → Reaches plan edges n before after → (m : ℕ) → edges (m + n) after ≡ edges m before
 arrives plan edges n before after r m = r.along m n (omega arith) ∙ ap (edges m) r.back
-
--- where entries of the body alone are lit at first, the edge is dark so long
-pub begins_dark : (plan : Plan) (edges : ℕ → Lit) (n : ℕ) (before after : Edge) → Reaches plan edges n before after → IsLitAtEntries plan (edges 0)
-    → (m : ℕ) → 0 < m → m ≤ n → edges m after ≡ false
-begins_dark plan edges n before after r begins m some within =
-    let now : m ≡ 0 + m = omega arith in
-    ap (λ k. edges k after) now ∙ r.along 0 m within ∙ begins (tiles_before (tiling_of plan) m after) (r.outside m some within)
 
 -- a tile passes on what it is given, to an edge that is no free entry
 pub passed_on : (plan : Plan) (edges : ℕ → Lit) → GoesOn plan edges → (before after : Edge) → is_body_entry plan before ≡ false → is_free_entry plan after ≡ false → is_inside plan after ≡ false

@@ -28,7 +28,7 @@ use Rattle.plan_waves.proofs.Columns.{length-bits_at, bit_on-bits_at, columns_pa
 use Rattle.plan_waves.proofs.Loops.{ways_back, ways_back_are_apart, loops_return, loops_come_round}
 use Rattle.plan_waves.proofs.Beginning.{after_dark, body_begins_dark}
 use Rattle.plan_waves.proofs.Machine.{steps_with_loops, both_bits, edges_run_by_cycles}
-use Rattle.plan_waves.proofs.DrivenCycles.{cycle_time, same_entering}
+use Rattle.plan_waves.proofs.CycleSteps.{cycle_time, same_entering}
 use Rattle.plan_waves.specs.Contexts.{contexts_on_ways, StartsContexts, DrivesContexts, injected_in, context_bits, RunsByContexts}
 
 -- columns make nothing of nothing

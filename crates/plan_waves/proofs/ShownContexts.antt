@@ -27,7 +27,7 @@ use Rattle.plan_waves.specs.ShownEdges.{ShowsEachStep, ShowsDrivenEdges}
 use Rattle.plan_waves.proofs.Parts.{some_columns}
 use Rattle.plan_waves.proofs.Columns.{bit_on-bits_at}
 use Rattle.plan_waves.proofs.EdgesShown.{plans_show_edges}
-use Rattle.plan_waves.proofs.DrivenCycles.{cycle_time}
+use Rattle.plan_waves.proofs.CycleSteps.{cycle_time}
 use Rattle.plan_waves.specs.Contexts.{StartsContexts, DrivesContexts, context_bits, RunsByContexts}
 use Rattle.plan_waves.specs.ShownContexts.{ShowsEachContext, ShowsContextBits}
 use Rattle.plan_waves.proofs.RunningContexts.{free_dark, inputs_of_contexts, plans_run_by_contexts}

@@ -31,28 +31,3 @@ EdgesRunByCycles =
     (plan : Plan) → IsAdmissible plan → (edges : ℕ → Lit) → GoesOn plan edges → (first t c : ℕ) → c ≤ length plan.columns
     → bits_at plan c (edges (first + t * cycle_steps plan + c))
     ≡ after_columns (take c plan.columns) (entering_bits (first_loop_lane plan.lanes plan.latches) plan.columns (λ i. free_bits plan (edges (first + i * cycle_steps plan))) (loop_bits plan (edges first)) t)
-
--- heads are injected at multiples of the period, and in the cells of free entries alone
-pub record DrivesCycles (plan : Plan) (due : Due) : Type 0 where
-  pub on_time : (g : ℕ) (x y : ℤ) → due g x y ≡ true → (t : ℕ) × (g ≡ t * period_of plan)
-  pub at_free_entries : (g : ℕ) (x y : ℤ) → due g x y ≡ true → (lane : ℕ) × (lane < first_loop_lane plan.lanes plan.latches) × (x ≡ pos (left_of plan 0)) × (y ≡ pos (row_of lane))
-
--- a period is a multiple of 32 generations, so that these are injections at inputs
-abbrev pub CyclesAreInputs : Type 0
-CyclesAreInputs = (plan : Plan) (due : Due) → DrivesCycles plan due → DrivesInputs plan due
-
--- the bits that are injected in a cycle, on the lanes that no loop enters
-abbrev pub injected_bits : Plan → Due → ℕ → List Bool
-injected_bits plan due t = map (λ lane. due (t * period_of plan) (pos (left_of plan 0)) (pos (row_of lane))) (range_with_len 0 (first_loop_lane plan.lanes plan.latches))
-
--- The entries of column c, or with c the number of columns the outputs, have the bits of cycle t at the macro time at
--- which the cycle begins and c more, and are dark at all others.
-pub record RunsByCycles (plan : Plan) (due : Due) (edges : ℕ → Lit) : Type 0 where
-  pub lit : (t c : ℕ) → c ≤ length plan.columns
-      → bits_at plan c (edges (t * cycle_steps plan + c)) ≡ after_columns (take c plan.columns) (entering_bits (first_loop_lane plan.lanes plan.latches) plan.columns (injected_bits plan due) plan.starts t)
-  pub dark : (m c : ℕ) → c ≤ length plan.columns → ((t : ℕ) → m ≢ t * cycle_steps plan + c) → bits_at plan c (edges m) ≡ replicate plan.lanes false
-
--- so it is of every admissible plan that is driven so from its start edges on
-abbrev pub PlansRunByCycles : Type 0
-PlansRunByCycles =
-    (plan : Plan) → IsAdmissible plan → (due : Due) → DrivesCycles plan due → RunsByCycles plan due (driven_edges (tiling_of plan) due (start_edges plan))

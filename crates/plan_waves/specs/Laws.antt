@@ -11,8 +11,7 @@ use Rattle.lane_core.specs.Instrs.{bit_on}
 use Rattle.lane_core.specs.Columns.{after_columns}
 use Rattle.lane_core.specs.Entering.{first_loop_lane}
 use Rattle.plan_layout.specs.Layout.{tiling_of}
-use Rattle.plan_layout.specs.Starts.{start_edges}
-use Rattle.plan_waves.specs.Waves.{is_free_entry, GoesOn, IsLitAtEntries, IsDarkInside, bits_at, loop_exit, loop_entry, tiles_back, DrivesInputs, StartsRight}
+use Rattle.plan_waves.specs.Waves.{is_free_entry, GoesOn, IsDarkInside, bits_at, loop_exit, loop_entry, tiles_back, DrivesInputs}
 
 -- the edges after macro steps go on
 abbrev pub StepsGoOn : Type 0
@@ -35,10 +34,6 @@ abbrev pub InputsEnter : Type 0
 InputsEnter =
     (plan : Plan) → IsAdmissible plan → (due : Due) (lit : Lit) (m lane : ℕ) → lane < first_loop_lane plan.lanes plan.latches
     → driven_edges (tiling_of plan) due lit (suc m) (Beside plan.latches lane) ≡ due (32 * suc m) (pos (left_of plan 0)) (pos (row_of lane))
-
--- the edges of a plan that is driven from its start edges on, at the beginning
-abbrev pub PlansStart : Type 0
-PlansStart = (plan : Plan) → IsAdmissible plan → (due : Due) → DrivesInputs plan due → StartsRight plan due (driven_edges (tiling_of plan) due (start_edges plan) 0)
 
 -- each macro time starts a wave: what enters the body goes through its columns, one column a macro step
 abbrev pub ColumnsPass : Type 0
@@ -65,9 +60,3 @@ abbrev pub BodyBeginsDark : Type 0
 BodyBeginsDark =
     (plan : Plan) → IsAdmissible plan → (edges : ℕ → Lit) → GoesOn plan edges → IsDarkInside plan (edges 0)
     → (m c : ℕ) → m < c → c ≤ length plan.columns → bits_at plan c (edges m) ≡ replicate plan.lanes false
-
--- where entries of the first column alone are lit at first, the loops bring nothing after that until a period has passed
-abbrev pub LoopsBeginDark : Type 0
-LoopsBeginDark =
-    (plan : Plan) → IsAdmissible plan → (edges : ℕ → Lit) → GoesOn plan edges → IsLitAtEntries plan (edges 0)
-    → (m loop : ℕ) → loop < plan.latches → 0 < m → m < length plan.columns + tiles_back plan → edges m (loop_entry plan loop) ≡ false

@@ -3,10 +3,7 @@ pub mod WaysBack
 pub mod Laws
 pub mod Cycles
 pub mod ShownEdges
-pub mod Shown
-pub mod InputRows
 pub mod Beside
 pub mod Contexts
 pub mod ShownContexts
 pub mod ContextRows
-pub mod OneContext

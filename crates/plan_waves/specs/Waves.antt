@@ -25,10 +25,6 @@ abbrev pub is_body_entry : Plan → Edge → Bool
 is_body_entry plan (Beside column lane) = column == plan.latches && nat_lt lane plan.lanes
 is_body_entry plan (Above column lane) = false
 
--- no other edges are lit than entries of the body's first column
-abbrev pub IsLitAtEntries : Plan → Lit → Type 0
-IsLitAtEntries plan lit = (edge : Edge) → is_body_entry plan edge ≡ false → lit edge ≡ false
-
 -- the bits at the entries of a column of the body, lane by lane; with the number of columns, the bits that leave the body
 abbrev pub bits_at : Plan → ℕ → Lit → List Bool
 bits_at plan column lit = map (λ lane. lit (Beside (plan.latches + column) lane)) (range_with_len 0 plan.lanes)
@@ -57,10 +53,3 @@ tiles_back plan = length plan.columns + 4 * plan.latches
 pub record DrivesInputs (plan : Plan) (due : Due) : Type 0 where
   pub on_time : (g : ℕ) (x y : ℤ) → due g x y ≡ true → g % 32 ≡ 0
   pub at_free_entries : (g : ℕ) (x y : ℤ) → due g x y ≡ true → (lane : ℕ) × (lane < first_loop_lane plan.lanes plan.latches) × (x ≡ pos (left_of plan 0)) × (y ≡ pos (row_of lane))
-
--- the edges of a plan at the beginning, its start edges and the injections of generation 0: a free entry is lit by an
--- injection, and a loop's entry by the bit that the loop starts with
-pub record StartsRight (plan : Plan) (due : Due) (lit : Lit) : Type 0 where
-  pub entries : IsLitAtEntries plan lit
-  pub inputs : (lane : ℕ) → lane < first_loop_lane plan.lanes plan.latches → lit (Beside plan.latches lane) ≡ due 0 (pos (left_of plan 0)) (pos (row_of lane))
-  pub loops : (loop : ℕ) → loop < plan.latches → lit (loop_entry plan loop) ≡ bit_on plan.starts loop

@@ -2,7 +2,6 @@
 ghost use Rattle.plan_waves.specs.Contexts.{PlansRunByContexts};
 ghost use Rattle.plan_waves.specs.ShownContexts.{PlansShowContexts, ContextsAreIsolated};
 ghost use Rattle.plan_waves.specs.ContextRows.{ContextRowsAreInjected, PlansShowContextRows};
-ghost use Rattle.plan_waves.specs.OneContext.{OneContextStarts, OneContextIsDriven};
 
 /// Where an admissible plan is driven from edges on that start contexts, by heads 32 generations later in each context than
 /// in the one before, the entries of each column, and the outputs, have the bits of each cycle of each context once, and
@@ -31,10 +30,4 @@ pub fn context_rows_are_injected()
 /// bits of the cycle's row and of those that its loops bring.
 pub fn plans_show_context_rows()
     ensures { PlansShowContextRows }
-{}
-
-/// A plan's own start edges start one context, and the rows of one context drive it as rows do.
-pub fn one_context_is_the_plan()
-    ensures starts { OneContextStarts }
-    ensures drive { OneContextIsDriven }
 {}

@@ -1,5 +1,5 @@
 // What is lit at the free entries of a plan, and that all other edges go on by macro steps.
-ghost use Rattle.plan_waves.specs.Laws.{StepsGoOn, InputsAreEntries, DrivenEdgesGoOn, FreeEntriesGoDark, InputsEnter, PlansStart};
+ghost use Rattle.plan_waves.specs.Laws.{StepsGoOn, InputsAreEntries, DrivenEdgesGoOn, FreeEntriesGoDark, InputsEnter};
 
 /// The edges after so many macro steps go on.
 pub fn steps_go_on()
@@ -24,10 +24,4 @@ pub fn free_entries_go_dark()
 /// After the beginning, a free entry of an admissible plan is lit exactly when a head is injected in its cell.
 pub fn inputs_enter()
     ensures { InputsEnter }
-{}
-
-/// At macro time 0 of a plan that is driven from its start edges on, entries of the body alone are lit: those on free lanes
-/// by injections, and those on lanes of loops by the bits that the loops start with.
-pub fn plans_start()
-    ensures { PlansStart }
 {}

@@ -1,8 +1,9 @@
-//! How signals run through the body of a plan and round its loops, cycle by cycle, and what the plane shows of them.
+//! How signals run through the body of a plan and round its loops, cycle by cycle, for each of several contexts, and what the
+//! plane shows of them.
 //!
 //! The functions here do nothing: their clauses are the laws.
 //!
-//! Theorem: `plans_show_rows`, `plans_show_context_rows`, `contexts_are_isolated`, `plans_show_edges`.
+//! Theorem: `plans_show_context_rows`, `contexts_are_isolated`, `plans_show_edges`.
 #![tactic(auto)]
 
 mod beside;
@@ -14,16 +15,15 @@ mod waves;
 
 pub use beside::ports_stand_free;
 pub use contexts::{
-    context_rows_are_injected, contexts_are_isolated, one_context_is_the_plan,
-    plans_run_by_contexts, plans_show_context_rows, plans_show_contexts,
+    context_rows_are_injected, contexts_are_isolated, plans_run_by_contexts,
+    plans_show_context_rows, plans_show_contexts,
 };
-pub use cycles::{cycles_are_inputs, edges_run_by_cycles, plans_run_by_cycles};
+pub use cycles::edges_run_by_cycles;
 pub use entries::{
-    driven_edges_go_on, free_entries_go_dark, inputs_are_entries, inputs_enter, plans_start,
-    steps_go_on,
+    driven_edges_go_on, free_entries_go_dark, inputs_are_entries, inputs_enter, steps_go_on,
 };
-pub use shown::{plans_show_edges, plans_show_rows, plans_show_runs, rows_are_injected};
+pub use shown::plans_show_edges;
 pub use waves::{
-    body_begins_dark, columns_pass, loops_begin_dark, loops_come_round, loops_have_ways_back,
-    loops_return, ways_back_are_apart,
+    body_begins_dark, columns_pass, loops_come_round, loops_have_ways_back, loops_return,
+    ways_back_are_apart,
 };

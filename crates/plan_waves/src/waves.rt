@@ -1,6 +1,6 @@
 // What comes out of the columns of an admissible plan, and comes back to them.
 ghost use Rattle.plan_waves.specs.WaysBack.{LoopsHaveWaysBack, WaysBackAreApart};
-ghost use Rattle.plan_waves.specs.Laws.{ColumnsPass, LoopsReturn, LoopsComeRound, BodyBeginsDark, LoopsBeginDark};
+ghost use Rattle.plan_waves.specs.Laws.{ColumnsPass, LoopsReturn, LoopsComeRound, BodyBeginsDark};
 
 /// The bits at the entries of the body at any macro time leave its c-th column c macro steps later, as c columns make of them.
 pub fn columns_pass()
@@ -32,9 +32,4 @@ pub fn loops_come_round()
 /// Where no edge inside the body is lit at macro time 0, the entries of its c-th column, counted from 0, are dark before macro time c.
 pub fn body_begins_dark()
     ensures { BodyBeginsDark }
-{}
-
-/// Where entries of the body alone are lit at macro time 0, those on the lanes of loops are dark after that until a period has passed.
-pub fn loops_begin_dark()
-    ensures { LoopsBeginDark }
 {}

@@ -28,8 +28,8 @@ plan_netlist-requires-clause-places c =
     places_fit c.args.netlist.now.design c.args.netlist.now.flat c.requires.parts.faultless
     (omega (arith, small c.args.netlist.now.design c.args.netlist.now.flat _ c.requires.parts, c.requires.parts.is_flat.weight)) c.requires.parts.is_flat
 
-pub returns : goal.returns
-returns c =
+pub returns-clause-carried : goal.returns-clause-carried
+returns-clause-carried c =
     let p = c.in_ok-planned.ensures in
     carried_by c.flat_is_one.ensures c.designs_are_carried.ensures c.args.netlist.now.design c.args.netlist.now.flat _ c.in_ok-planned.planned.plan c.in_ok-planned.planned.ports c.requires.parts
-    p.admissible p.table p.cells p.lanes p.places p.carries p.small p.period
+    p.admissible p.edges p.table p.cells p.lanes p.places p.carries p.small p.period

@@ -1,17 +1,14 @@
-use Rattle.std.proofs.Common.{rules, ◌≡◌, ◌&&◌, get_or}
 use Rattle.plan_layout.specs.Starts.{start_edges}
-use Rattle.macro_grid.proofs.Steps.{not_answered}
-use Rattle.tile_core.specs.Kinds.{interface, exits}
-use Rattle.tiling.specs.Tiling.{is_exit_lit}
-use Rattle.grid_assembly.proofs.Ports.{is_at, tails_at}
+use Rattle.macro_grid.proofs.Steps.{answered, not_answered}
+use Rattle.grid_assembly.proofs.Ports.{tails_at}
 use Rattle.grid_assembly.proofs.cells.is_tail.Goals as goal
 
-pub returns-else-is_lit_at : goal.returns-else-is_lit_at
-returns-else-is_lit_at c =
-    let lit = start_edges c.args.plan.now in
-    let kind = c.args.kind in
-    let x = c.args.place.0 in
-    let y = c.args.place.1 in
-    let upper : c.is_lit_at.result ≡ (is_exit_lit lit c.args.column c.args.lane (interface kind) 0 && is_at x y (get_or (exits kind) 0 (0, 0))) = search rules in
-    let lower : c.is_lit_at-else-is_lit_at.result ≡ (is_exit_lit lit c.args.column c.args.lane (interface kind) 1 && is_at x y (get_or (exits kind) 1 (0, 0))) = search rules in
-    not_answered _ _ _ _ _ (tails_at lit c.args.column c.args.lane kind x y) upper c.if-is_lit_at.false lower
+pub returns-then-is_lit_exit : goal.returns-then-is_lit_exit
+returns-then-is_lit_exit c =
+    answered _ _ _ _ (tails_at (start_edges c.args.plan.now) c.args.column c.args.lane c.args.kind c.args.place.0 c.args.place.1)
+    c.is_lit_exit.ensures c.if-is_lit_exit.true
+
+pub returns-else-is_lit_exit : goal.returns-else-is_lit_exit
+returns-else-is_lit_exit c =
+    not_answered _ _ _ _ _ (tails_at (start_edges c.args.plan.now) c.args.column c.args.lane c.args.kind c.args.place.0 c.args.place.1)
+    c.is_lit_exit.ensures c.if-is_lit_exit.false c.is_lit_exit-else-is_lit_exit.ensures

@@ -1,4 +1,4 @@
-use Rattle.std.proofs.Common.{rules, ◌≤◌, arith}
+use Rattle.std.proofs.Common.{rules, ◌≤◌}
 use Rattle.plan_layout.specs.Layout.{tiling_of}
 use Rattle.plan_layout.specs.Slots.{slot_of}
 use Rattle.plan_layout.specs.Starts.{start_edges}

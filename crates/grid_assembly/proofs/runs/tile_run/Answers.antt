@@ -6,8 +6,8 @@ use Rattle.tiling.specs.Tiling.Piece.{Tile}
 use Rattle.grid_assembly.proofs.RowRuns.{one_cell}
 use Rattle.grid_assembly.proofs.runs.tile_run.Goals as goal
 
-pub returns-else-is_dark : goal.returns-else-is_dark
-returns-else-is_dark c =
+pub returns-else-is_row_dark : goal.returns-else-is_row_dark
+returns-else-is_row_dark c =
     one_cell (λ x. drawn_piece shipped_drawing (start_edges c.args.plan.now) c.args.column c.args.lane (Tile c.args.kind) x c.args.place.1) c.args.place.0 (32 - c.args.place.0) c.tile_cell.result
     (omega (arith, c.requires.in_box))
     c.tile_cell.ensures

@@ -1,4 +1,5 @@
 use Rattle.std.proofs.Common.{◌∙◌}
+use Rattle.plan_carries.proofs.Carried.{starts_as_flat}
 use Rattle.netlist_plans.proofs.Bounds.{is_small, computes_cells, loops_many, short_period}
 use Rattle.netlist_plans.proofs.Lanes.{has_lanes}
 use Rattle.netlist_plans.proofs.NetPlaces.{net_places}
@@ -26,7 +27,7 @@ returns-clause-carries c =
       admissible = p.is.admissible;
       plan_computes = p.is.computes;
       table = c.in_ok-ports.ensures;
-    })
+    }) (starts_as_flat c.args.flat.now p.list c.in_ok-plan.plan p.computes p.is.starts)
 
 pub returns-clause-small : goal.returns-clause-small
 returns-clause-small c =
@@ -36,7 +37,7 @@ returns-clause-small c =
 pub returns-clause-cells : goal.returns-clause-cells
 returns-clause-cells c =
     let p = c.in_ok-plan.ensures in
-    computes_cells c.args.flat.now p.list p.computes.mapped c.requires.weighed c.in_ok-plan.plan p.is.admissible p.is.computes p.is.entries p.is.exits
+    computes_cells c.args.flat.now p.list p.computes.mapped c.requires.weighed c.in_ok-plan.plan p.is.admissible p.is.computes p.is.starts p.is.entries p.is.exits
 
 pub returns-clause-lanes : goal.returns-clause-lanes
 returns-clause-lanes c =

@@ -1,0 +1,41 @@
+// Where electrons stand at generation 0.
+ghost use Rattle.std.specs.Prelude.{◌≡◌, ℕ, IsTrue};
+ghost use Rattle.lane_core.specs.Starts.{are_in_order, is_start_at};
+
+use lists::List;
+
+/// An edge between tiles that is lit at generation 0, named by a cell beside it: the one in which a tile is entered there,
+/// or else the one in which a tile is left. A name further north comes first, and of one row the one further west.
+#[derive(Clone, Copy, Debug, PartialEq, Eq, PartialOrd, Ord)]
+pub struct Start {
+    pub y: u64,
+    pub x: u64,
+}
+
+/// Names in order, each of them once, so that one is found by binary search.
+#[derive(Drop)]
+pub struct Starts {
+    pub list: List<Start>,
+    pub ghost in_order: { IsTrue (are_in_order list) },
+}
+
+impl Starts {
+    /// The names of a list, in whatever order they stand there, and however often.
+    pub fn of(names: Vec<Start>) -> Starts
+        ensures { (x y : ℕ) → is_start_at result.list x y ≡ is_start_at names.items x y }
+    {
+        let mut names = names;
+        names.sort_unstable();
+        names.dedup();
+        Starts {
+            list: List::of(names),
+        }
+    }
+
+    /// Whether the cell at `x` and `y` is one of the names.
+    pub fn has(&self, x: u64, y: u64) -> bool
+        ensures { result ≡ is_start_at self.now.list x y }
+    {
+        self.list.as_slice().binary_search(&Start { y, x }).is_ok()
+    }
+}

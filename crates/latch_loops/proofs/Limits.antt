@@ -1,0 +1,100 @@
+-- How many contexts fit, and closing in two steps.
+use Rattle.std.proofs.Common.{◌≡◌, sym, ◌∙◌, ap, subst, ℕ, ◌+◌, ◌*◌, ◌<◌, ◌≤◌, ◌^◌, max, min, Bool, false, cond, ⊎_elim, List, [], length, map, All, arith}
+use Rattle.std.specs.Prelude.{◌==◌}
+use Rattle.std.proofs.lemmas.Bool.{cases_eq, cond-true, cond-false, eq-eqb}
+use Rattle.std.proofs.lemmas.Bool.Decides.{nat_tests}
+use Rattle.lane_core.specs.declared.instr.Column.{Column}
+use Rattle.lane_core.specs.declared.plan.Program.{Program}
+use Rattle.lane_core.specs.declared.plan.Plan.{Plan}
+use Rattle.lane_core.specs.Instrs.{bit_on}
+use Rattle.lane_core.specs.Columns.{after_columns}
+use Rattle.lane_core.specs.Entering.{bits_after}
+use Rattle.lane_core.specs.Plans.{period_of}
+use Rattle.plan_waves.specs.Waves.{tiles_back}
+use Rattle.plan_waves.specs.Cycles.{cycle_steps}
+use Rattle.plan_waves.proofs.Machine.{steps_with_loops}
+use Rattle.latch_loops.specs.Closed.{IsPadded, contexts_size, least_size, IsClosed, contexts_limit, DoesAsProgram}
+use Rattle.latch_loops.specs.Padded.{IsPaddedPlan, DoesAsPlan}
+use Rattle.latch_loops.proofs.Padding.{small_size, padded_more}
+use Rattle.latch_loops.proofs.PaddedPlans.{steps_without}
+
+limit_without : (columns : List Column) (program : Program) → length program.latches ≡ 0 → contexts_limit columns program ≡ 1
+limit_without columns program none =
+    cond-true (length program.latches == 0) 1 (2 * max (length columns) (length program.latches) + 4 * length program.latches) (eq-eqb (length program.latches) 0 none)
+
+limit_with : (columns : List Column) (program : Program) → 0 < length program.latches
+    → contexts_limit columns program ≡ 2 * max (length columns) (length program.latches) + 4 * length program.latches
+limit_with columns program some =
+    let no : (length program.latches == 0) ≡ false = grind (arith, nat_tests) in
+    cond-false (length program.latches == 0) 1 (2 * max (length columns) (length program.latches) + 4 * length program.latches) no
+
+-- one context fits
+pub one_fits : (columns : List Column) (program : Program) → 1 ≤ contexts_limit columns program
+one_fits columns program =
+    ⊎_elim
+    (λ none. omega (arith, limit_without columns program none))
+    (λ some. omega (arith, limit_with columns program (omega (arith, some)), some))
+    (cases_eq (length program.latches) 0)
+
+-- columns of a plan of one context at most
+pub count_is : (program : Program) (columns : List Column) (contexts : ℕ) (plan : Plan) → contexts ≤ 1 → IsClosed program columns contexts plan
+    → length plan.columns ≡ max (max (length program.latches) (min program.lanes 1)) (length columns)
+count_is program columns contexts plan few c = omega (arith, c.padded.count, small_size (length program.latches) contexts few)
+
+-- as many contexts fit as its period has macro steps
+pub limit_is_steps : (program : Program) (columns : List Column) (contexts : ℕ) (plan : Plan) → contexts ≤ 1 → IsClosed program columns contexts plan
+    → contexts_limit columns program ≡ cycle_steps plan
+limit_is_steps program columns contexts plan few c =
+    ⊎_elim
+    (λ none. limit_without columns program none ∙ sym (steps_without plan (c.latches ∙ none)))
+    (λ some. (let loops : 0 < length program.latches = omega (arith, some) in
+    omega (arith, limit_with columns program loops, steps_with_loops plan (omega (arith, loops, c.latches)), count_is program columns contexts plan few c, c.latches, loops, program.loops_fit)))
+    (cases_eq (length program.latches) 0)
+
+period_is_steps : (plan : Plan) → period_of plan ≡ 32 * cycle_steps plan
+period_is_steps plan =
+    ⊎_elim
+    (λ none. cond-true (plan.latches == 0) 32 (32 * (2 * length plan.columns + 4 * plan.latches)) (eq-eqb plan.latches 0 none) ∙ ap (λ n. 32 * n) (sym (steps_without plan none)))
+    (λ some. (let no : (plan.latches == 0) ≡ false = grind (arith, nat_tests) in
+    let period = cond-false (plan.latches == 0) 32 (32 * (2 * length plan.columns + 4 * plan.latches)) no in
+    omega (arith, period, steps_with_loops plan (omega (arith, some)))))
+    (cases_eq plan.latches 0)
+
+pub limit_is_period : (program : Program) (columns : List Column) (plan : Plan) → IsClosed program columns 1 plan → period_of plan ≡ 32 * contexts_limit columns program
+limit_is_period program columns plan c = period_is_steps plan ∙ ap (λ n. 32 * n) (sym (limit_is_steps program columns 1 plan (omega arith) c))
+
+-- ---- a plan without starts, then the same with those of contexts
+pub closed_more : (program : Program) (columns : List Column) (contexts : ℕ) (middle plan : Plan) → IsClosed program columns 0 middle → IsPaddedPlan (contexts_size middle.latches contexts) middle plan
+    → IsClosed program columns contexts plan
+closed_more program columns contexts middle plan c p = record {
+  lanes = p.lanes ∙ c.lanes;
+  latches = p.latches ∙ c.latches;
+  ins = p.ins ∙ c.ins;
+  outs = p.outs ∙ c.outs;
+  padded = subst (λ (size : ℕ). IsPadded size columns plan.columns) sizes (padded_more (least_size program 0) (contexts_size middle.latches contexts) columns middle.columns plan.columns c.padded p.columns);
+  nets = p.nets ∙ c.nets;
+}
+  where
+    sizes : max (least_size program 0) (contexts_size middle.latches contexts) ≡ least_size program contexts
+    sizes =
+        let none = small_size (length program.latches) 0 (omega arith) in
+        let same : contexts_size middle.latches contexts ≡ contexts_size (length program.latches) contexts = ap (λ k. contexts_size k contexts) c.latches in
+        omega (arith, none, same)
+
+pub does_as_padded : (program : Program) (middle plan : Plan) → DoesAsProgram program middle → DoesAsPlan middle plan → DoesAsProgram program plan
+does_as_padded program middle plan d s = record { end = λ bits. s.end bits ∙ d.end bits; nets = λ bits. s.nets bits ∙ d.nets bits }
+
+-- what is asked of the plan in between
+pub fits_between : (program : Program) (columns : List Column) (contexts : ℕ) (middle : Plan) → IsClosed program columns 0 middle → contexts ≤ contexts_limit columns program → contexts ≤ cycle_steps middle
+fits_between program columns contexts middle c fit = omega (arith, fit, limit_is_steps program columns 0 middle (omega arith) c)
+
+pub long_between : (program : Program) (columns : List Column) (starts : List (List Bool)) (middle : Plan) → IsClosed program columns 0 middle
+    → All (λ bits. length bits ≡ length program.latches) starts → All (λ bits. length bits ≡ middle.latches) starts
+long_between program columns starts middle c long = λ k d within. long k d within ∙ sym c.latches
+
+pub few_between : (program : Program) (columns : List Column) (contexts : ℕ) (middle : Plan) → IsClosed program columns 0 middle → program.lanes < 2 ^ 32
+    → (1 < contexts → length columns < 2 ^ 39) → 1 < contexts → length middle.columns < 2 ^ 39
+few_between program columns contexts middle c small few more =
+    let n = few more in
+    let loops = program.loops_fit in
+    omega (arith, n, loops, small, count_is program columns 0 middle (omega arith) c)

@@ -1,0 +1,59 @@
+use Rattle.std.proofs.Common.{◌≡◌, sym, ◌∙◌, ap, subst, ◌<◌, ◌≤◌, Bool, List, length, map, arith}
+use Rattle.std.specs.Prelude.{All}
+use Rattle.std.proofs.lemmas.List.{length-map}
+use Rattle.cell_core.specs.Loops.{loop_state}
+use Rattle.latch_loops.specs.Closed.{contexts_size}
+use Rattle.plan_layout.specs.Starts.{start_edges}
+use Rattle.plan_waves.specs.Contexts.{StartsContexts}
+use Rattle.latch_loops.specs.Padded.{IsPaddedPlan}
+use Rattle.netlist_plans.specs.Contexts.{loop_bits}
+use Rattle.netlist_plans.proofs.Several.{loops_are, loops_long, contexts_fit, few_columns, padded_places}
+use Rattle.netlist_plans.proofs.contexts.plan_contexts.Goals as goal
+
+pub start_contexts-requires-clause-fit : goal.start_contexts-requires-clause-fit
+start_contexts-requires-clause-fit c =
+    let many : length c.deref.result.now ≡ length c.args.starts.now = ap length (c.deref.ensures.value ∙ c.in_ok-loops.ensures) ∙ length-map c.args.starts.now (loop_bits c.args.plan) in
+    omega (arith, many, contexts_fit c.args.plan (length c.args.starts.now) c.requires.fit)
+
+pub start_contexts-requires-clause-long : goal.start_contexts-requires-clause-long
+start_contexts-requires-clause-long c =
+    subst (λ (all : List (List Bool)). All (λ bits. length bits ≡ c.args.plan.latches) all) (sym (c.deref.ensures.value ∙ c.in_ok-loops.ensures))
+    (loops_long c.args.flat.now c.args.plan c.requires.weighed c.requires.planned c.args.starts.now c.requires.long)
+
+pub start_contexts-requires-clause-few : goal.start_contexts-requires-clause-few
+start_contexts-requires-clause-few c more = few_columns c.args.flat.now c.args.plan c.requires.weighed c.requires.small c.requires.planned
+
+pub of_plan-requires-clause-ports : goal.of_plan-requires-clause-ports
+of_plan-requires-clause-ports c =
+    let k = c.requires.planned in
+    c.plans_have_ports.ensures c.args.flat.now k.list c.in_ok-plan.plan k.computes
+    (c.padding_keeps_cells.ensures k.list _ c.args.plan c.in_ok-plan.plan c.in_ok-plan.ensures.padded c.in_ok-plan.ensures.same k.is.computes)
+
+pub returns-clause-padded : goal.returns-clause-padded
+returns-clause-padded c =
+    let many : length c.deref.result.now ≡ length c.args.starts.now = ap length (c.deref.ensures.value ∙ c.in_ok-loops.ensures) ∙ length-map c.args.starts.now (loop_bits c.args.plan) in
+    subst (λ n. IsPaddedPlan (contexts_size c.args.plan.latches n) c.args.plan c.in_ok-plan.plan) many c.in_ok-plan.ensures.padded
+
+pub returns-clause-carries : goal.returns-clause-carries
+returns-clause-carries c =
+    let k = c.requires.planned in
+    let plan = c.in_ok-plan.plan in
+    let is = c.deref.ensures.value ∙ c.in_ok-loops.ensures ∙ loops_are c.args.flat.now c.args.plan c.requires.weighed k c.args.starts.now c.requires.long in
+    c.texts_carry_contexts.ensures c.args.flat.now k.list plan c.in_ok-ports.ports c.args.starts.now c.requires.some (record {
+      sound = c.requires.sound;
+      order = c.requires.ordered.0;
+      ordered = c.requires.ordered.1;
+      named = c.requires.named;
+      names = c.requires.names;
+      places = c.requires.places;
+      list_computes = k.computes;
+      admissible = c.in_ok-plan.ensures.admissible;
+      plan_computes = c.padding_keeps_cells.ensures k.list _ c.args.plan plan c.in_ok-plan.ensures.padded c.in_ok-plan.ensures.same k.is.computes;
+      table = c.in_ok-ports.ensures;
+    }) (start_edges plan) (record {
+      long = c.requires.long;
+      on_plan = subst (λ (bits : List (List Bool)). StartsContexts plan bits (start_edges plan)) is c.in_ok-plan.ensures.contexts;
+    })
+
+pub returns-clause-places : goal.returns-clause-places
+returns-clause-places c = padded_places c.args.flat.now c.args.plan c.in_ok-plan.plan _ c.requires.planned c.in_ok-plan.ensures.padded

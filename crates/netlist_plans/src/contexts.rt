@@ -1,0 +1,95 @@
+// The plan of a flat netlist in several contexts.
+ghost use Rattle.std.specs.Prelude.{◌≡◌, ◌<◌, ◌≤◌, ◌*◌, ◌^◌, ◌++◌, ℕ, List, true, [], ◌∷◌, cond, length, map, All, IfOk, OnOk};
+ghost use Rattle.carries.specs.FlatContexts.{CarriesFlatContexts};
+ghost use Rattle.grid_assembly.specs.PlanDrawing.{start_grid};
+ghost use Rattle.lane_core.specs.Plans.{IsAdmissible, period_of};
+ghost use Rattle.latch_loops.specs.Closed.{contexts_size};
+ghost use Rattle.latch_loops.specs.Padded.{IsPaddedPlan};
+ghost use Rattle.netlist_meaning.specs.Flat.{IsNamed, IsSound, IsWeighed};
+ghost use Rattle.netlist_meaning.specs.FlatOrder.{IsOrder};
+ghost use Rattle.pattern_writing.specs.WrittenText.{pattern_text};
+ghost use Rattle.plan_layout.specs.Starts.{HasStartEdges};
+ghost use Rattle.plan_ports.specs.Tables.{HasPortNames, HasTablePlaces, IsTableOf};
+ghost use Rattle.netlist_plans.specs.Contexts.{loop_bits};
+ghost use Rattle.netlist_plans.specs.Lists.{IsPlanned};
+ghost use Rattle.netlist_plans.specs.NetPlaces.{HasNetPlaces};
+
+use crate::{NetlistPlanError, Planned};
+use lane_core::Plan;
+use latch_loops::laws::padding_keeps_cells;
+use latch_loops::start_contexts;
+use lists::List;
+use netlist_core::Flat;
+use plan_carries::{plans_have_ports, texts_carry_contexts};
+use plan_ports::of_plan;
+use std::alloc::{AllocError, Global};
+
+// Puts a bit 1 at the end, if it is wanted.
+fn push_one(bits: &mut Vec<bool>, wanted: bool) -> Result<(), AllocError>
+    ensures { OnOk result (bits.new.items ≡ bits.old.items ++ cond wanted (true ∷ []) []) }
+{
+    if wanted {
+        bits.push(true)?;
+    }
+    Ok(())
+}
+
+// The bits with which the loops of a plan start, where the latches start with these.
+fn loop_bits(alloc: Global, plan: &Plan, latches: &List<bool>) -> Result<List<bool>, AllocError>
+    ensures { IfOk result (λ bits. bits ≡ loop_bits plan.now latches.now) }
+{
+    let mut bits = latches.as_slice().to_vec(alloc)?;
+    push_one(&mut bits, latches.len() < plan.latches as usize)?;
+    Ok(List::of(bits))
+}
+
+// Those of all contexts.
+fn all_loop_bits(
+    alloc: Global,
+    plan: &Plan,
+    starts: &[List<bool>],
+) -> Result<Vec<List<bool>>, AllocError>
+    ensures { IfOk result (λ all. all.items ≡ map (loop_bits plan.now) starts.now) }
+{
+    let mut all = Vec::new(alloc);
+    for latches in starts {
+        all.push(loop_bits(alloc, plan, latches)?)?;
+    }
+    Ok(all)
+}
+
+/// The plan that `plan_netlist` makes of a flat netlist, in several contexts, in each of which the latches start with these
+/// bits, in order: no more contexts than its period has times 32 generations. Where the starts of all contexts have no room on
+/// the ways back of its loops, it gets columns without instructions.
+pub fn plan_contexts(
+    alloc: Global,
+    flat: &Flat,
+    plan: Plan,
+    starts: &[List<bool>],
+) -> Result<Planned, NetlistPlanError>
+    requires sound { IsSound flat.now }
+    requires weighed { IsWeighed flat.now }
+    requires small { flat.now.weight < 2 ^ 16 }
+    requires ordered { (order : List ℕ) × IsOrder flat.now order }
+    requires named { IsNamed flat.now }
+    requires names { HasPortNames flat.now }
+    requires places { HasTablePlaces flat.now }
+    requires planned { IsPlanned flat.now plan }
+    requires some { 0 < length starts.now }
+    requires fit { 32 * length starts.now ≤ period_of plan }
+    requires long { All (λ start. length start ≡ length flat.now.latches) starts.now }
+    ensures admissible { IfOk result (λ p. IsAdmissible p.plan) }
+    ensures edges { IfOk result (λ p. HasStartEdges p.plan) }
+    ensures padded { IfOk result (λ p. IsPaddedPlan (contexts_size plan.latches (length starts.now)) plan p.plan) }
+    ensures table { IfOk result (λ p. IsTableOf flat.now p.plan (length starts.now) p.ports) }
+    ensures carries { IfOk result (λ p. CarriesFlatContexts (pattern_text (start_grid p.plan) p.ports) flat.now starts.now) }
+    ensures places { IfOk result (λ p. HasNetPlaces flat.now p.plan) }
+{
+    let loops = all_loop_bits(alloc, &plan, starts)?;
+    let plan = start_contexts(alloc, plan, &loops)?;
+    padding_keeps_cells();
+    plans_have_ports();
+    let ports = of_plan(alloc, flat, &plan, starts.len() as u64)?;
+    texts_carry_contexts();
+    Ok(Planned { plan, ports })
+}
