@@ -107,6 +107,13 @@ impl Bands {
         row.state(x as usize)
     }
 
+    /// The injections that drive the pattern, as they were given.
+    pub fn injections(&self) -> &[Injection]
+        ensures { result.now ≡ self.now.injections }
+    {
+        &self.injections
+    }
+
     /// Moves a band on by one generation. It is refused where a neighbour is neither at the band's generation nor one
     /// further; the upper one is looked at first.
     pub fn advance(&mut self, b: usize) -> Result<(), NotReady>

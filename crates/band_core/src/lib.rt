@@ -11,5 +11,6 @@ mod error;
 mod making;
 mod moving;
 
+pub use band::due_count;
 pub use bands::Bands;
 pub use error::{BandsError, NotReady, NotSkipped};

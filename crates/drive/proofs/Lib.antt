@@ -1,7 +1,12 @@
+pub mod Ranges
 pub mod Rows
-pub mod Inside
+pub mod CycleRows
+pub mod ContextBits
 pub mod Streamed
+pub mod Inside
+pub mod Columns
 pub mod Sweeps
 pub mod Still
-pub mod Last
 pub mod Turned
+pub mod FirstMisses
+pub mod TurnedMisses

@@ -8,7 +8,7 @@ use Rattle.std.proofs.Math.Bool.{and-false}
 use Rattle.ww_rule.specs.declared.pattern.State.{State}
 use Rattle.ww_rule.specs.declared.pattern.State.TheVariants.{Empty, Head, Tail, Conductor}
 use Rattle.ww_rule.specs.declared.pattern.Injection.{Injection}
-use Rattle.ww_rule.specs.Wireworld.{Plane, heads_around, next_state, next_plane, injected, driven}
+use Rattle.ww_rule.specs.Wireworld.{Plane, count_head, heads_around, next_state, next_plane, injected, driven}
 use Rattle.ww_rule.specs.Grid.{in_box, plane_of}
 use Rattle.ww_rule.specs.Injections.{due_of_list}
 use Rattle.ww_rule.proofs.Lists.{lists_are_injected}
@@ -45,17 +45,21 @@ dark_around p x y dark =
 dark_stays : (p : Plane) → IsDark p → next_plane p ≡ p
 dark_stays p dark = fun_ext (λ x. fun_ext (λ y. stays (p x y) (heads_around p x y) (dark x y).0 (dark x y).1 (dark_around p x y dark)))
 
--- after the last one no injection is due
-none_due : (injections : List Injection) (last g : ℕ) (x y : ℤ) → All (λ i. i.generation ≤ last) injections → last < g → due_of_list injections g x y ≡ false
+-- where all injections are of earlier generations, none is due
+none_due : (injections : List Injection) (last g : ℕ) (x y : ℤ) → All (λ i. i.generation < last) injections → last ≤ g → due_of_list injections g x y ≡ false
 none_due injections last g x y all later =
     elim (cases_Bool (due_of_list injections g x y)) [
       | inr e ↦ e
       | inl e ↦
           let is = (lists_are_injected.exactly injections g x y).0 e in
           let at = is.in_time in
-          let most = All-contains (λ (i : Injection). i.generation ≤ last) injections is.injection all is.is_in in
+          let most = All-contains (λ (i : Injection). i.generation < last) injections is.injection all is.is_in in
           absurd (omega (arith, at, most, later))
     ]
+
+-- beside the rows there is nothing
+pub nothing_outside : (p : BandedPattern) (g : ℕ) (x y : ℤ) → IsBandedPattern p → in_box p.grid.width (length p.grid.rows) x y ≡ false → evolution p g x y ≡ Empty
+nothing_outside p g x y whole out = (bands.evolution p.grid.width p.grid.height p.grid.rows p.injections whole.grid whole.inside).empty g x y out
 
 -- cells of bands that are asleep are neither heads nor tails
 asleep_is_dark : (p : BandedPattern) (g : ℕ) → IsBandedPattern p → AreAt g p → ((b x y : ℕ) → b < length p.generations → IsAwake p b x y → ⊥) → IsDark (evolution p g)
@@ -68,7 +72,7 @@ asleep_is_dark p g whole at asleep x y = (unlit Head (λ e. cc) (λ b x y cell i
     wakes s = (b x y : ℕ) → IsCellOf p b x y → driven (due_of_list p.injections) (plane_of p.grid.rows) (generation_of p b) (pos x) (pos y) ≡ s → IsAwake p b x y
 
     outside : (s : State) → s ≢ Empty → (x y : ℤ) → in_box p.grid.width rows x y ≡ false → evolution p g x y ≢ s
-    outside s lit x y out e = lit (sym e ∙ (bands.evolution p.grid.width p.grid.height p.grid.rows p.injections whole.grid whole.inside).empty g x y out)
+    outside s lit x y out e = lit (sym e ∙ nothing_outside p g x y whole out)
 
     inside : (s : State) → wakes s → (x y : ℕ) → x < p.grid.width → y < rows → evolution p g (pos x) (pos y) ≢ s
     inside s wakes x y column row e =
@@ -85,17 +89,17 @@ asleep_is_dark p g whole at asleep x y = (unlit Head (λ e. cc) (λ b x y cell i
     unlit s lit wakes (pos x) (negsuc y) = outside s lit (pos x) (negsuc y) refl
     unlit s lit wakes (negsuc x) y = outside s lit (negsuc x) y refl
 
--- beside the rows there is nothing
+-- so not beyond the last column or row
 pub empty_outside : (p : BandedPattern) (g x y : ℕ) → IsBandedPattern p → (p.grid.width ≤ x) ⊎ (length p.grid.rows ≤ y) → evolution p g (pos x) (pos y) ≡ Empty
-empty_outside p g x y whole out = (bands.evolution p.grid.width p.grid.height p.grid.rows p.injections whole.grid whole.inside).empty g (pos x) (pos y) (outside out)
+empty_outside p g x y whole out = nothing_outside p g (pos x) (pos y) whole (outside out)
   where
     outside : (p.grid.width ≤ x) ⊎ (length p.grid.rows ≤ y) → in_box p.grid.width (length p.grid.rows) (pos x) (pos y) ≡ false
     outside (inl le) = ap (λ (t : Bool). t && nat_lt y (length p.grid.rows)) (le-ltb x p.grid.width le)
     outside (inr le) = ap (λ (t : Bool). nat_lt x p.grid.width && t) (le-ltb y (length p.grid.rows) le) ∙ and-false (nat_lt x p.grid.width)
 
 -- where all bands are asleep and no injection is to come, each later generation is this one
-pub stays_still : (p : BandedPattern) (g last : ℕ) → IsBandedPattern p → AreAt g p → ((b x y : ℕ) → b < length p.generations → IsAwake p b x y → ⊥) → All (λ i. i.generation ≤ last) p.injections → last ≤ g → (h : ℕ) → g ≤ h → evolution p h ≡ evolution p g
-stays_still p g last whole at asleep all past h le = let k : h ≡ g + (h - g) = omega (arith, le) in ap (evolution p) k ∙ go (h - g)
+pub stays_still : (p : BandedPattern) (g : ℕ) → IsBandedPattern p → AreAt g p → ((b x y : ℕ) → b < length p.generations → IsAwake p b x y → ⊥) → All (λ i. i.generation < g + 1) p.injections → (h : ℕ) → g ≤ h → evolution p h ≡ evolution p g
+stays_still p g whole at asleep all h le = let k : h ≡ g + (h - g) = omega (arith, le) in ap (evolution p) k ∙ go (h - g)
   where
     go : (k : ℕ) → evolution p (g + k) ≡ evolution p g
     go zero = ap (evolution p) (let e : g + 0 ≡ g = omega arith in e)
@@ -105,4 +109,17 @@ stays_still p g last whole at asleep all past h le = let k : h ≡ g + (h - g) =
         ap (evolution p) e
         ∙ ap (λ (q : Plane). injected (due (suc (g + k))) (next_plane q)) (go k)
         ∙ ap (injected (due (suc (g + k)))) (dark_stays (evolution p g) (asleep_is_dark p g whole at asleep))
-        ∙ fun_ext (λ x. fun_ext (λ y. ap (λ (t : Bool). cond t Head (evolution p g x y)) (none_due p.injections last (suc (g + k)) x y all (omega (arith, past)))))
+        ∙ fun_ext (λ x. fun_ext (λ y. ap (λ (t : Bool). cond t Head (evolution p g x y)) (none_due p.injections (g + 1) (suc (g + k)) x y all (omega arith))))
+
+-- before the first column and the first row there is no head
+pub no_head_before : (p : BandedPattern) (g x y : ℕ) → IsBandedPattern p → (x ≡ 0) ⊎ (y ≡ 0) → count_head (evolution p g (pos x -ℤ pos 1) (pos y -ℤ pos 1)) ≡ 0
+no_head_before p g x y whole (inl e) =
+    ap (λ n. count_head (evolution p g (pos n -ℤ pos 1) (pos y -ℤ pos 1))) e
+    ∙ ap count_head (nothing_outside p g (negsuc 0) (pos y -ℤ pos 1) whole refl)
+no_head_before p g x y whole (inr e) =
+    ap (λ n. count_head (evolution p g (pos x -ℤ pos 1) (pos n -ℤ pos 1))) e
+    ∙ ap count_head (nothing_outside p g (pos x -ℤ pos 1) (negsuc 0) whole (no_row (pos x -ℤ pos 1)))
+  where
+    no_row : (x : ℤ) → in_box p.grid.width (length p.grid.rows) x (negsuc 0) ≡ false
+    no_row (pos x) = refl
+    no_row (negsuc x) = refl

@@ -1,2 +1,4 @@
 pub mod Driving
+pub mod Misses
 pub mod Runs
+pub mod Shown

@@ -1,13 +1,18 @@
 -- A pattern's run in bands that are all at one generation.
-use Rattle.std.specs.Prelude.{◌≡◌, ◌≤◌, ◌<◌, ℕ, true, length, All}
+use Rattle.std.specs.Prelude.{◌≡◌, ◌≤◌, ◌<◌, ◌+◌, ℕ, true, length, drop}
+use Rattle.std.specs.Option.{option_map}
+use Rattle.std.specs.declared.option.Option.{Option}
+use Rattle.ww_rule.specs.declared.pattern.Injection.{Injection}
 use Rattle.ww_rule.specs.Wireworld.{Plane, driven}
 use Rattle.ww_rule.specs.Grid.{plane_of}
 use Rattle.ww_rule.specs.Injections.{due_of_list}
+use Rattle.ww_rule.specs.Due.{AreLeftAt}
 use Rattle.band_core.specs.Bands.{BandedPattern, IsBandedPattern, generation_of}
-use Rattle.ww_rule.specs.Turns.{turned}
+use Rattle.ww_rule.specs.Turns.{turned, injection_turned}
 use Rattle.drive.specs.declared.run.Orientation.{Orientation}
 use Rattle.drive.specs.declared.run.Orientation.TheVariants.{Upright, Turned}
 use Rattle.drive.specs.declared.run.Run.{Run}
+use Rattle.drive.specs.Misses.{first_of_misses}
 
 -- all bands have come to a generation
 abbrev pub AreAt : ℕ → BandedPattern → Type 0
@@ -17,21 +22,44 @@ AreAt g pattern = (b : ℕ) → b < length pattern.generations → generation_of
 abbrev pub evolution : BandedPattern → ℕ → Plane
 evolution pattern = driven (due_of_list pattern.injections) (plane_of pattern.grid.rows)
 
--- the planes of a pattern that lies in its bands in an orientation
+-- the first injection up to a generation at a cell that is no conductor before it
+abbrev pub miss_in_bands : BandedPattern → ℕ → Option Injection
+miss_in_bands pattern g = first_of_misses pattern.injections (due_of_list pattern.injections) (plane_of pattern.grid.rows) g
+
+-- the planes of a pattern that lies in its bands in an orientation, and an injection of it
 abbrev pub laid : Orientation → (ℕ → Plane) → ℕ → Plane
 laid Upright planes = planes
 laid Turned planes = λ g. turned (planes g)
+
+abbrev pub injection_laid : Orientation → Injection → Injection
+injection_laid Upright injection = injection
+injection_laid Turned injection = injection_turned injection
 
 -- the planes that a run shows, generation after generation
 abbrev pub planes_of : Run → ℕ → Plane
 planes_of run = laid run.orientation (evolution run.bands)
 
--- What holds of each run; its width, its rows and the rows of a band are those of its bands. One that is still shows at each later generation what it shows now.
+-- and the first miss up to each generation
+abbrev pub misses_of : Run → ℕ → Option Injection
+misses_of run = λ g. option_map (injection_laid run.orientation) (miss_in_bands run.bands g)
+
+-- What holds of each run; its width, its rows and the rows of a band are those of its bands. The injections from its next one on are
+-- those of later generations. One that is still shows at each later generation what it shows now, with no other miss.
 pub record IsBandRun (run : Run) : Type 0 where
   pub whole : IsBandedPattern run.bands
   pub at : AreAt run.generation run.bands
   pub height : run.bands.height ≡ run.band_rows
   pub width : run.width ≡ run.bands.grid.width
   pub rows : run.rows ≡ length run.bands.grid.rows
-  pub last : All (λ i. i.generation ≤ run.last_injection) run.bands.injections
+  pub next : run.next_injection ≤ length run.bands.injections
+  pub left : AreLeftAt (run.generation + 1) run.bands.injections (drop run.next_injection run.bands.injections)
+  pub missed : run.missed ≡ miss_in_bands run.bands run.generation
   pub still : run.is_still ≡ true → (g : ℕ) → run.generation ≤ g → evolution run.bands g ≡ evolution run.bands run.generation
+  pub no_more : run.is_still ≡ true → (g : ℕ) → run.generation ≤ g → miss_in_bands run.bands g ≡ miss_in_bands run.bands run.generation
+
+-- A run has gone on, to a generation at most.
+pub record HasGoneOn (last : ℕ) (old new : Run) : Type 0 where
+  pub run : IsBandRun new
+  pub order : new.generation ≤ last
+  pub planes : planes_of new ≡ planes_of old
+  pub misses : misses_of new ≡ misses_of old

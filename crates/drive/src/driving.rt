@@ -1,6 +1,7 @@
 // The injections that streams say.
-ghost use Rattle.std.specs.Prelude.{◌≡◌, ◌++◌, length, IfOk, OnOk};
-ghost use Rattle.ww_rule.specs.Injections.{injections_of_row};
+ghost use Rattle.std.specs.Prelude.{◌≡◌, ◌+◌, ◌*◌, ◌<◌, ◌^◌, ◌++◌, length, map, take, drop, IfOk, OnOk};
+ghost use Rattle.std.specs.List.{range_with_len};
+ghost use Rattle.ww_rule.specs.Injections.{injections_of_row, injections_from};
 ghost use Rattle.pattern_reading.specs.Ports.{cells_of};
 ghost use Rattle.drive.specs.Driving.{AreFor, injections_of};
 
@@ -9,6 +10,9 @@ use pattern_reading::{PortLine, Ports};
 use std::alloc::Global;
 use streams::{Streams, bits_across};
 use ww_rule::Injection;
+
+// How many generations a context comes after the one before it.
+const CONTEXT_GENERATIONS: u128 = 32;
 
 // Puts the injections of a row at the end: at a generation, the cells of the inputs whose bits are 1.
 fn push_row(
@@ -32,9 +36,38 @@ fn push_row(
     Ok(())
 }
 
-/// The cells that streams make heads, each with its generation: the cell of an input at generation `t p` for each
-/// cycle t in which its bit is 1, where p is the table's period. They are sorted by generation, and at one generation
-/// stand in the order of the inputs.
+// Puts the injections of a cycle at the end, which begins at a generation: those of one context after the other, each with a
+// row of the bits.
+fn push_cycle(
+    due: &mut Vec<Injection>,
+    generation: u128,
+    contexts: usize,
+    inputs: &[PortLine],
+    bits: &[bool],
+) -> Result<(), DriveError>
+    requires room { generation + 32 * contexts < 2 ^ 128 }
+    requires many { length bits.now ≡ contexts * length inputs.now }
+    ensures { OnOk result (due.new.items ≡ due.old.items ++ injections_from generation 32 (cells_of inputs.now)
+        (map (λ context. take (length inputs.now) (drop (context * length inputs.now) bits.now)) (range_with_len 0 contexts))) }
+{
+    let long = inputs.len();
+    for context in 0..contexts {
+        let first = context * long;
+        let row = &bits[first..first + long];
+        push_row(
+            due,
+            generation + CONTEXT_GENERATIONS * context as u128,
+            inputs,
+            row,
+        )?;
+    }
+    Ok(())
+}
+
+/// The cells that streams make heads, each with its generation: the cell of an input at generation `32 c + t p` for each
+/// context c and each cycle t in which its bit is 1, where p is the table's period. They are sorted by generation, and at one
+/// generation stand in the order of the inputs. A call asks for one stream of as many bits as there are cycles for each context
+/// and input.
 pub fn injections(
     alloc: Global,
     ports: &Ports,
@@ -44,10 +77,14 @@ pub fn injections(
     ensures { IfOk result (λ due. due.items ≡ injections_of ports.now streams.now) }
 {
     let mut due = Vec::new(alloc);
+    let inputs = ports.ins.as_slice();
+    if inputs.is_empty() {
+        return Ok(due);
+    }
     for cycle in 0..streams.cycles {
-        let row = bits_across(alloc, streams.bits.as_slice(), cycle)?;
+        let bits = bits_across(alloc, streams.bits.as_slice(), cycle)?;
         let generation = cycle as u128 * ports.p as u128;
-        push_row(&mut due, generation, ports.ins.as_slice(), &row)?;
+        push_cycle(&mut due, generation, ports.c as usize, inputs, &bits)?;
     }
     Ok(due)
 }

@@ -3,6 +3,7 @@ ghost use Rattle.std.specs.Prelude.{◌≡◌};
 
 use band_core::BandsError;
 use std::alloc::{AllocError, AllocFailed};
+use ww_rule::Injection;
 
 /// Why there are no injections.
 #[derive(Clone, Copy)]
@@ -18,6 +19,9 @@ pub enum SimulateError {
     NoMemory,
     /// The run needs so many generations, which is over the limit of 4,294,967,296.
     TooFar { generations: u128 },
+    /// An injection is due at this generation and this cell, by its column and row, which is no conductor before the
+    /// injections of that generation.
+    NotQuiet { generation: u128, x: u64, y: u64 },
 }
 
 ghost use Rattle.drive.specs.declared.error.DriveError.TheVariants as driving;
@@ -60,5 +64,15 @@ impl From<DriveError> for SimulateError {
 
     fn from(_: DriveError) -> Self {
         SimulateError::NoMemory
+    }
+}
+
+impl SimulateError {
+    /// The cause of an injection whose cell is no conductor.
+    pub fn not_quiet(injection: Injection) -> SimulateError
+        ensures { result ≡ simulating.NotQuiet injection.generation injection.x injection.y }
+    {
+        let Injection { generation, x, y } = injection;
+        SimulateError::NotQuiet { generation, x, y }
     }
 }

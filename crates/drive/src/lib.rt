@@ -1,16 +1,19 @@
 //! Streams of bits for the inputs of a pattern, and the pattern's run under them.
 //!
-//! Theorem: `simulate` (`near`, `bits`, `refused`).
+//! Theorem: `simulate` (`near`, `quiet`, `bits`, `refused`).
 #![tactic(auto)]
 
+mod bits;
 mod driving;
 mod error;
+mod misses;
 mod moving;
 mod run;
 mod simulation;
 
+pub use bits::{GREATEST_GENERATION, bits_of_cells};
 pub use driving::injections;
 pub use error::{DriveError, SimulateError};
 pub use run::Run;
-pub use simulation::{GREATEST_GENERATION, simulate};
+pub use simulation::simulate;
 pub use streams::{StreamError, StreamFault, StreamFaultKind, Streams};

@@ -1,19 +1,22 @@
 // A pattern's run under injections, in bands of rows that are all at one generation.
-ghost use Rattle.std.specs.Prelude.{◌≡◌, ◌≤◌, ◌<◌, ◌+◌, ◌^◌, All, IfOk, map, pos};
-ghost use Rattle.ww_rule.specs.Due.{AreInOrderFrom};
-ghost use Rattle.ww_rule.specs.Injections.{AreInside};
+ghost use Rattle.std.specs.Prelude.{◌≡◌, ◌≤◌, ◌<◌, ◌+◌, ◌-ℤ◌, ◌^◌, All, IfOk, drop, length, map, pos};
+ghost use Rattle.std.specs.List.{find};
+ghost use Rattle.ww_rule.specs.Due.{AreInOrderFrom, AreLeftAt};
+ghost use Rattle.ww_rule.specs.Injections.{AreInside, due_of_list};
 ghost use Rattle.ww_rule.specs.Patterns.{grid_of};
 ghost use Rattle.ww_rule.specs.Grid.{AreInBox, plane_of};
-ghost use Rattle.ww_rule.specs.Wireworld.{is_head};
+ghost use Rattle.ww_rule.specs.Wireworld.{count_head, heads_around, is_head};
 ghost use Rattle.pattern_reading.specs.Ports.{cells_of};
-ghost use Rattle.drive.specs.Driving.{AreFor, driven_by};
+ghost use Rattle.drive.specs.Driving.{AreFor, driven_by, first_miss};
+ghost use Rattle.drive.specs.Misses.{misses};
 ghost use Rattle.ww_rule.specs.Turns.{injection_turned};
-ghost use Rattle.drive.specs.Runs.{IsBandRun, evolution, planes_of};
+ghost use Rattle.drive.specs.Runs.{IsBandRun, evolution, miss_in_bands, misses_of, planes_of};
 
 use crate::driving::injections;
 use crate::error::DriveError;
+use crate::misses::first_on_pattern;
 use crate::moving::move_all;
-use band_core::Bands;
+use band_core::{Bands, due_count};
 use pattern_reading::Ports;
 use std::alloc::Global;
 use streams::Streams;
@@ -41,8 +44,9 @@ pub enum Orientation {
     Turned,
 }
 
-/// A driven pattern in bands, in an orientation, how many columns and rows lie there, and the generation of its bands. No
-/// injection comes after the last one's generation; where the run is still, no cell changes any more.
+/// A driven pattern in bands, in an orientation, how many columns and rows lie there, and the generation of its bands. The
+/// injections from the next one on are of later generations; `missed` is the first of the others at a cell that was no
+/// conductor before it. Where the run is still, no cell changes any more.
 #[derive(Drop)]
 pub struct Run {
     bands: Bands,
@@ -50,20 +54,10 @@ pub struct Run {
     orientation: Orientation,
     width: u64,
     rows: usize,
-    last_injection: u128,
+    next_injection: usize,
+    missed: Option<Injection>,
     generation: u64,
     is_still: bool,
-}
-
-// The generation of the last of injections in the order of their generations, and 0 where there are none.
-fn last_generation(injections: &[Injection]) -> u128
-    requires { AreInOrderFrom 0 injections.now }
-    ensures { All (λ i. i.generation ≤ result) injections.now }
-{
-    match injections.last() {
-        Some(injection) => injection.generation,
-        None => 0,
-    }
 }
 
 // How many rows a band has, where there are so many rows: a generation looks at each band, also where it sleeps.
@@ -116,7 +110,8 @@ impl Run {
     {
         let width = pattern.width;
         let rows = pattern.rows.len();
-        let last_injection = last_generation(&injections);
+        let next_injection = due_count(0, &injections);
+        let missed = first_on_pattern(&pattern, &injections[..next_injection]);
         let band_rows = band_rows(rows);
         let bands = Bands::new(alloc, pattern, injections, band_rows)?;
         Ok(Run {
@@ -125,14 +120,15 @@ impl Run {
             orientation,
             width,
             rows,
-            last_injection,
+            next_injection,
+            missed,
             generation: 0,
             is_still: false,
         })
     }
 
-    /// The run of a pattern that streams drive, at generation 0. A call asks for one stream for each input, of any number of
-    /// cycles, and for inputs inside the pattern's box. `NoMemory` is the one error.
+    /// The run of a pattern that streams drive, at generation 0. A call asks for one stream for each context and input, of any
+    /// number of cycles, and for inputs inside the pattern's box. `NoMemory` is the one error.
     pub fn of_streams(
         alloc: Global,
         pattern: Pattern,
@@ -144,6 +140,7 @@ impl Run {
         ensures run { IfOk result IsBandRun }
         ensures begun { IfOk result (λ run. run.generation ≡ 0) }
         ensures planes { IfOk result (λ run. planes_of run ≡ driven_by ports.now streams.now (plane_of pattern.rows)) }
+        ensures misses { IfOk result (λ run. misses_of run ≡ first_miss ports.now streams.now (plane_of pattern.rows)) }
     {
         let due = injections(alloc, ports, streams)?;
         if !is_narrow(&pattern) {
@@ -153,17 +150,94 @@ impl Run {
         Run::begin(alloc, turned, turned_all(due), Orientation::Turned)
     }
 
+    // 1 where the cell before this column and before this row in the bands, each counted from 1, is a head.
+    fn head_before(&self, x: u128, y: u128) -> usize
+        requires { IsBandRun self.now }
+        ensures counted { result ≡ count_head (evolution self.now.bands self.now.generation (pos x -ℤ pos 1) (pos y -ℤ pos 1)) }
+        ensures few { result ≤ 1 }
+    {
+        if x == 0 || y == 0 {
+            return 0;
+        }
+        match self.state_in_bands(x - 1, y - 1) {
+            State::Head => 1,
+            _ => 0,
+        }
+    }
+
+    // How many of the eight cells around a cell of the bands are heads.
+    fn heads_around(&self, x: u128, y: u128) -> usize
+        requires run { IsBandRun self.now }
+        requires room { x + 2 < 2 ^ 128 }
+        requires room_below { y + 2 < 2 ^ 128 }
+        ensures { result ≡ heads_around (evolution self.now.bands self.now.generation) (pos x) (pos y) }
+    {
+        let over = self.head_before(x, y) + self.head_before(x + 1, y) + self.head_before(x + 2, y);
+        let beside = self.head_before(x, y + 1) + self.head_before(x + 2, y + 1);
+        let under = self.head_before(x, y + 2)
+            + self.head_before(x + 1, y + 2)
+            + self.head_before(x + 2, y + 2);
+        over + beside + under
+    }
+
+    // Whether the cell of an injection of the next generation will be no conductor before it.
+    fn misses(&self, injection: &Injection) -> bool
+        requires run { IsBandRun self.now }
+        requires next { injection.now.generation ≡ self.now.generation + 1 }
+        ensures { result ≡ misses (due_of_list self.now.bands.injections) (plane_of self.now.bands.grid.rows) injection.now }
+    {
+        let x = injection.x as u128;
+        let y = injection.y as u128;
+        let next = self.state_in_bands(x, y).next(self.heads_around(x, y));
+        !matches!(next, State::Conductor)
+    }
+
+    // The first of injections of the next generation whose cell will be no conductor before it.
+    fn first_missed(&self, due: &[Injection]) -> Option<Injection>
+        requires run { IsBandRun self.now }
+        requires next { All (λ i. i.generation ≡ self.now.generation + 1) due.now }
+        ensures { result ≡ find (misses (due_of_list self.now.bands.injections) (plane_of self.now.bands.grid.rows)) due.now }
+    {
+        for injection in due {
+            if self.misses(injection) {
+                return Some(*injection);
+            }
+        }
+        None
+    }
+
+    // The place of the first injection that will be left at the next generation, and the first miss up to it.
+    fn look_ahead(&self) -> (usize, Option<Injection>)
+        requires { IsBandRun self.now }
+        ensures next { result.0 ≤ length self.now.bands.injections }
+        ensures left { AreLeftAt (self.now.generation + 1 + 1) self.now.bands.injections
+            (drop result.0 self.now.bands.injections) }
+        ensures missed { result.1 ≡ miss_in_bands self.now.bands (self.now.generation + 1) }
+    {
+        let left = &self.bands.injections()[self.next_injection..];
+        let count = due_count(self.generation as u128 + 1, left);
+        let missed = match self.missed {
+            Some(injection) => Some(injection),
+            None => self.first_missed(&left[..count]),
+        };
+        (self.next_injection + count, missed)
+    }
+
     // Goes on by one generation.
     fn next(&mut self)
         requires run { IsBandRun self.old }
         requires room { self.old.generation + 1 < 2 ^ 64 }
         ensures run { IsBandRun self.new }
         ensures planes { planes_of self.new ≡ planes_of self.old }
+        ensures misses { misses_of self.new ≡ misses_of self.old }
         ensures comes { self.new.generation ≡ self.old.generation + 1 }
     {
-        let is_past = self.last_injection <= self.generation as u128;
+        let is_past = self.next_injection >= self.bands.injections().len();
+        let (next_injection, missed) = self.look_ahead();
         let is_asleep = move_all(&mut self.bands, self.generation);
         self.is_still = is_past & is_asleep;
+        self.next_injection = next_injection;
+        self.missed = missed;
         self.generation += 1;
     }
 
@@ -175,6 +249,8 @@ impl Run {
         ensures order { self.new.generation ≤ generation }
         ensures planes { planes_of self.new ≡ planes_of self.old }
         ensures shows { planes_of self.new self.new.generation ≡ planes_of self.new generation }
+        ensures misses { misses_of self.new ≡ misses_of self.old }
+        ensures missed { misses_of self.new self.new.generation ≡ misses_of self.new generation }
     {
         while self.generation < generation && !self.is_still {
             self.next();
@@ -210,5 +286,18 @@ impl Run {
         ensures { result ≡ is_head (planes_of self.now self.now.generation (pos x) (pos y)) }
     {
         matches!(self.state(x as u128, y as u128), State::Head)
+    }
+
+    /// The first injection up to the run's generation at a cell that was no conductor before the injections of its own
+    /// generation.
+    pub fn missed(&self) -> Option<Injection>
+        requires { IsBandRun self.now }
+        ensures { result ≡ misses_of self.now self.now.generation }
+    {
+        let injection = self.missed?;
+        match self.orientation {
+            Orientation::Upright => Some(injection),
+            Orientation::Turned => Some(injection.turned()),
+        }
     }
 }

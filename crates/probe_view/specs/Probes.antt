@@ -1,15 +1,17 @@
 -- The bits that a net of a driven pattern shows.
-use Rattle.std.specs.Prelude.{◌≡◌, ◌≤◌, ◌<◌, ◌&&◌, ⊤, ℕ, pos, ◌+◌, ◌*◌, ◌-◌, Bool, List, map, Some, None}
+use Rattle.std.specs.Prelude.{◌≡◌, ◌≤◌, ◌<◌, ◌&&◌, ⊤, ℕ, Bool, List, map, Some, None}
 use Rattle.std.specs.declared.option.Option.{Option}
 use Rattle.std.specs.List.{range_with_len, find}
 use Rattle.std.specs.Str.{bytes_eq}
-use Rattle.ww_rule.specs.Wireworld.{Plane, is_head}
+use Rattle.ww_rule.specs.Wireworld.{Plane}
 use Rattle.pattern_reading.specs.declared.ports.NetLine.{NetLine}
 use Rattle.pattern_reading.specs.declared.ports.Ports.{Ports}
 use Rattle.streams.specs.declared.streams.Streams.{Streams}
-use Rattle.drive.specs.Driving.{driven_by, greatest_generation}
+use Rattle.drive.specs.Driving.{bits_of_cell, first_miss, greatest_generation, last_from}
+use Rattle.drive.specs.declared.error.SimulateError.{SimulateError}
+use Rattle.drive.specs.declared.error.SimulateError.TheVariants as simulating
 use Rattle.probe_view.specs.declared.error.ProbeError.{ProbeError}
-use Rattle.probe_view.specs.declared.error.ProbeError.TheVariants.{NoMemory, NoSuchNet, TooFar}
+use Rattle.probe_view.specs.declared.error.ProbeError.TheVariants.{NoMemory, NoSuchNet, TooFar, NotQuiet}
 
 abbrev pub has_name_and_path : (name path : List ℕ) → NetLine → Bool
 has_name_and_path name path net = bytes_eq net.name name && bytes_eq net.path path
@@ -18,20 +20,25 @@ has_name_and_path name path net = bytes_eq net.name name && bytes_eq net.path pa
 abbrev pub net_named : Ports → (name path : List ℕ) → Option NetLine
 net_named ports name path = find (has_name_and_path name path) ports.nets
 
--- its bits, cycle after cycle: 1 where its cell is a head at generation offset + t P
-abbrev pub probed_bits : Ports → Streams → Plane → NetLine → List Bool
-probed_bits ports streams plane net =
-    map (λ cycle. is_head (driven_by ports streams plane (net.offset + cycle * ports.p) (pos net.x) (pos net.y))) (range_with_len 0 streams.cycles)
+-- its bits in a context, cycle after cycle: 1 where its cell is a head at generation offset + 32 c + t P
+abbrev pub probed_at : Ports → Streams → Plane → (context : ℕ) → NetLine → List Bool
+probed_at ports streams plane context net = bits_of_cell ports streams plane net.offset context (net.x, net.y)
+
+-- those in each context
+abbrev pub probed_bits : Ports → Streams → Plane → NetLine → List (List Bool)
+probed_bits ports streams plane net = map (λ context. probed_at ports streams plane context net) (range_with_len 0 ports.c)
 
 -- the generation of the last of them
 abbrev pub last_probed : Ports → Streams → NetLine → ℕ
-last_probed ports streams net = net.offset + (streams.cycles - 1) * ports.p
+last_probed ports streams net = last_from net.offset ports streams
 
--- There is such a net, all its bits are shown within the limit of generations, and these are they.
-pub record HasProbed (ports : Ports) (streams : Streams) (plane : Plane) (name path : List ℕ) (bits : List Bool) : Type 0 where
+-- There is such a net, all its bits are shown within the limit of generations, each injection up to there meets a conductor, and these are
+-- the bits.
+pub record HasProbed (ports : Ports) (streams : Streams) (plane : Plane) (name path : List ℕ) (bits : List (List Bool)) : Type 0 where
   pub net : NetLine
   pub is_there : net_named ports name path ≡ Some net
   pub near : last_probed ports streams net ≤ greatest_generation
+  pub quiet : first_miss ports streams plane (last_probed ports streams net) ≡ None
   pub bits_are : bits ≡ probed_bits ports streams plane net
 
 -- There is such a net, and its last bit is shown at this generation, which is over the limit.
@@ -41,8 +48,22 @@ pub record IsTooFar (ports : Ports) (streams : Streams) (name path : List ℕ) (
   pub needed : generations ≡ last_probed ports streams net
   pub far : greatest_generation < generations
 
+-- There is such a net, all its bits are shown within the limit, and the first injection up to there that meets no conductor is this one.
+pub record IsNotQuiet (ports : Ports) (streams : Streams) (plane : Plane) (name path : List ℕ) (generation x y : ℕ) : Type 0 where
+  pub net : NetLine
+  pub is_there : net_named ports name path ≡ Some net
+  pub near : last_probed ports streams net ≤ greatest_generation
+  pub first : first_miss ports streams plane (last_probed ports streams net) ≡ Some (record { generation = generation; x = x; y = y })
+
 -- why a probe gives no bits
-abbrev pub HasProbeCause : Ports → Streams → (name path : List ℕ) → ProbeError → Type 0
-HasProbeCause ports streams name path NoMemory = ⊤
-HasProbeCause ports streams name path NoSuchNet = net_named ports name path ≡ None
-HasProbeCause ports streams name path (TooFar generations) = IsTooFar ports streams name path generations
+abbrev pub HasProbeCause : Ports → Streams → Plane → (name path : List ℕ) → ProbeError → Type 0
+HasProbeCause ports streams plane name path NoMemory = ⊤
+HasProbeCause ports streams plane name path NoSuchNet = net_named ports name path ≡ None
+HasProbeCause ports streams plane name path (TooFar generations) = IsTooFar ports streams name path generations
+HasProbeCause ports streams plane name path (NotQuiet generation x y) = IsNotQuiet ports streams plane name path generation x y
+
+-- why the cell of a net gives no bits
+abbrev pub probe_error : SimulateError → ProbeError
+probe_error simulating.NoMemory = NoMemory
+probe_error (simulating.TooFar generations) = TooFar generations
+probe_error (simulating.NotQuiet generation x y) = NotQuiet generation x y

@@ -1,7 +1,7 @@
 // Why a net or a part of a pattern is not shown.
 ghost use Rattle.std.specs.Prelude.{◌≡◌};
 
-use drive::DriveError;
+use drive::{DriveError, SimulateError};
 use std::alloc::{AllocError, AllocFailed};
 use thiserror::Error;
 
@@ -16,6 +16,10 @@ pub enum ProbeError {
     /// The run needs so many generations, which is over the limit of 4,294,967,296.
     #[error("the run needs {generations} generations")]
     TooFar { generations: u128 },
+    /// An injection of this generation is due at this cell, by its column and row, which is no conductor before the
+    /// injections of that generation.
+    #[error("generation {generation}: cell {x} {y} is no conductor")]
+    NotQuiet { generation: u128, x: u64, y: u64 },
 }
 
 /// Why a part of a plane is not shown.
@@ -23,32 +27,28 @@ pub enum ProbeError {
 pub enum WindowError {
     #[error("out of memory")]
     NoMemory,
+    /// An injection of this generation is due at this cell, by its column and row, which is no conductor before the
+    /// injections of that generation.
+    #[error("generation {generation}: cell {x} {y} is no conductor")]
+    NotQuiet { generation: u128, x: u64, y: u64 },
 }
 
-ghost use Rattle.probe_view.specs.declared.error.ProbeError.TheVariants as probing;
+ghost use Rattle.probe_view.specs.Probes.{probe_error};
 ghost use Rattle.probe_view.specs.declared.error.WindowError.TheVariants as viewing;
 
-impl From<AllocError> for ProbeError {
-    ghost from_gives = { λ _ e. e ≡ probing.NoMemory };
+impl From<SimulateError> for ProbeError {
+    ghost from_gives = { λ simulated probed. probed ≡ probe_error simulated };
 
-    fn from(_: AllocError) -> Self {
-        ProbeError::NoMemory
-    }
-}
-
-impl<T: Drop> From<AllocFailed<T>> for ProbeError {
-    ghost from_gives = { λ _ e. e ≡ probing.NoMemory };
-
-    fn from(_: AllocFailed<T>) -> Self {
-        ProbeError::NoMemory
-    }
-}
-
-impl From<DriveError> for ProbeError {
-    ghost from_gives = { λ _ e. e ≡ probing.NoMemory };
-
-    fn from(_: DriveError) -> Self {
-        ProbeError::NoMemory
+    fn from(error: SimulateError) -> Self {
+        match error {
+            SimulateError::NoMemory => ProbeError::NoMemory,
+            SimulateError::TooFar { generations } => ProbeError::TooFar { generations },
+            SimulateError::NotQuiet { generation, x, y } => ProbeError::NotQuiet {
+                generation,
+                x,
+                y,
+            },
+        }
     }
 }
 

@@ -1,14 +1,14 @@
 // The bits that a net shows.
-ghost use Rattle.std.specs.Prelude.{◌≡◌, ◌≤◌, ◌<◌, IfOk, IfErr};
+ghost use Rattle.std.specs.Prelude.{◌≡◌, ◌<◌, IfOk, IfErr};
 ghost use Rattle.std.specs.List.{find};
 ghost use Rattle.std.specs.Option.{option_copied};
 ghost use Rattle.ww_rule.specs.Grid.{AreInBox, plane_of};
 ghost use Rattle.pattern_reading.specs.Ports.{cells_of};
-ghost use Rattle.drive.specs.Driving.{AreFor, greatest_generation};
-ghost use Rattle.probe_view.specs.Probes.{HasProbed, HasProbeCause, has_name_and_path, last_probed, probed_bits};
+ghost use Rattle.drive.specs.Driving.{AreFor};
+ghost use Rattle.probe_view.specs.Probes.{HasProbed, HasProbeCause, has_name_and_path};
 
 use crate::error::ProbeError;
-use drive::{DriveError, GREATEST_GENERATION, Run, Streams};
+use drive::{Streams, bits_of_cells};
 use lists::List;
 use pattern_reading::{NetLine, Ports};
 use std::alloc::Global;
@@ -33,33 +33,12 @@ fn net_named<'a>(nets: &'a [NetLine], name: &[u8], path: &[u8]) -> Option<&'a Ne
     None
 }
 
-// The bits of a net.
-fn probed_bits(
-    alloc: Global,
-    pattern: Pattern,
-    ports: &Ports,
-    streams: &Streams,
-    net: &NetLine,
-) -> Result<Vec<bool>, DriveError>
-    requires streams { AreFor ports.now streams.now }
-    requires in_box { AreInBox pattern.width pattern.height (cells_of ports.now.ins) }
-    requires near { last_probed ports.now streams.now net.now ≤ greatest_generation }
-    ensures { IfOk result (λ bits. bits.items ≡ probed_bits ports.now streams.now (plane_of pattern.rows) net.now) }
-{
-    let mut run = Run::of_streams(alloc, pattern, ports, streams)?;
-    let mut bits = Vec::with_capacity(alloc, streams.cycles)?;
-    for cycle in 0..streams.cycles {
-        run.go_on(net.offset + cycle as u64 * ports.p);
-        bits.push(run.is_head(net.x, net.y))?;
-    }
-    Ok(bits)
-}
-
-/// The bits that a net shows, cycle after cycle, while streams drive the pattern: bit t is 1 exactly where the net's cell
-/// is a head at generation `offset + t p`. The net is the one of this name in the model of this path, which is `-` for the
-/// main model. A call asks for at least one cycle, for one stream of as many bits for each input, and for inputs inside the
-/// pattern's box; the net's cell may lie anywhere. `TooFar` comes where the last of these generations is over
-/// 4,294,967,296, and nothing is then run.
+/// The bits that a net shows in each context, cycle after cycle, while streams drive the pattern: bit t in context c is 1
+/// exactly where the net's cell is a head at generation `offset + 32 c + t p`. The net is the one of this name in the model
+/// of this path, which is `-` for the main model. A call asks for at least one cycle, for one stream of as many bits for each
+/// context and input, and for inputs inside the pattern's box; the net's cell may lie anywhere. `TooFar` comes where the last
+/// of these generations is over 4,294,967,296, and nothing is then run; `NotQuiet` names the first injection up to that
+/// generation whose cell is no conductor before the injections of its own.
 pub fn probe(
     alloc: Global,
     pattern: Pattern,
@@ -67,20 +46,16 @@ pub fn probe(
     streams: &Streams,
     name: &[u8],
     path: &[u8],
-) -> Result<List<bool>, ProbeError>
+) -> Result<List<List<bool>>, ProbeError>
     requires cycles { 0 < streams.now.cycles }
     requires streams { AreFor ports.now streams.now }
     requires in_box { AreInBox pattern.width pattern.height (cells_of ports.now.ins) }
     ensures bits { IfOk result (HasProbed ports.now streams.now (plane_of pattern.rows) name.now path.now) }
-    ensures refused { IfErr result (HasProbeCause ports.now streams.now name.now path.now) }
+    ensures refused { IfErr result (HasProbeCause ports.now streams.now (plane_of pattern.rows) name.now path.now) }
 {
     let Some(net) = net_named(ports.nets.as_slice(), name, path) else {
         return Err(ProbeError::NoSuchNet);
     };
-    let generations = net.offset as u128 + (streams.cycles as u128 - 1) * ports.p as u128;
-    if generations > GREATEST_GENERATION {
-        return Err(ProbeError::TooFar { generations });
-    }
-    let bits = probed_bits(alloc, pattern, ports, streams, net)?;
-    Ok(List::of(bits))
+    let cells = [(net.x, net.y)];
+    Ok(bits_of_cells(alloc, pattern, ports, streams, net.offset, &cells)?)
 }

@@ -1,18 +1,18 @@
 // A part of a pattern's plane, as text.
-ghost use Rattle.std.specs.Prelude.{◌≡◌, ◌+◌, ◌++◌, IfOk, OnOk};
+ghost use Rattle.std.specs.Prelude.{◌≡◌, ◌+◌, ◌++◌, IfOk, IfErr, OnOk, None};
 ghost use Rattle.ww_rule.specs.Grid.{AreInBox, plane_of};
 ghost use Rattle.pattern_reading.specs.Ports.{cells_of};
 ghost use Rattle.pattern_writing.specs.Writer.{tag_of};
-ghost use Rattle.drive.specs.Driving.{AreFor, driven_by};
+ghost use Rattle.drive.specs.Driving.{AreFor, driven_by, first_miss};
 ghost use Rattle.drive.specs.Runs.{IsBandRun, planes_of};
-ghost use Rattle.probe_view.specs.Windows.{window_tags, window_text};
+ghost use Rattle.probe_view.specs.Windows.{HasWindowCause, window_tags, window_text};
 
 use crate::error::WindowError;
 use drive::{Run, Streams};
 use lists::Bytes;
 use pattern_reading::Ports;
 use std::alloc::{AllocError, Global};
-use ww_rule::{Pattern, State};
+use ww_rule::{Injection, Pattern, State};
 
 // The letter of a state.
 fn tag_of(state: State) -> u8
@@ -60,8 +60,9 @@ fn lines_of(
 
 /// A part of the plane that a pattern has come to at a generation, while streams drive it: `height` lines of `width` tags,
 /// `.`, `A`, `B` or `C`, each ended by byte 10. The first tag is that of column x and row y, counted from the pattern's
-/// upper left cell; all beyond the pattern's box is empty. A call asks for one stream for each input, of any number of
-/// cycles, and for inputs inside the pattern's box.
+/// upper left cell; all beyond the pattern's box is empty. A call asks for one stream, of any number of
+/// cycles, for each context and input, and for inputs inside the pattern's box. `NotQuiet` names the first injection up to
+/// the generation whose cell is no conductor before the injections of its own.
 pub fn window(
     alloc: Global,
     pattern: Pattern,
@@ -75,10 +76,16 @@ pub fn window(
 ) -> Result<Bytes, WindowError>
     requires streams { AreFor ports.now streams.now }
     requires in_box { AreInBox pattern.width pattern.height (cells_of ports.now.ins) }
-    ensures { IfOk result (λ text. text ≡ window_text (driven_by ports.now streams.now (plane_of pattern.rows) generation) x y width height) }
+    ensures text { IfOk result (λ text. text ≡
+        window_text (driven_by ports.now streams.now (plane_of pattern.rows) generation) x y width height) }
+    ensures quiet { OnOk result (first_miss ports.now streams.now (plane_of pattern.rows) generation ≡ None) }
+    ensures refused { IfErr result (HasWindowCause ports.now streams.now (plane_of pattern.rows) generation) }
 {
     let mut run = Run::of_streams(alloc, pattern, ports, streams)?;
     run.go_on(generation);
+    if let Some(Injection { generation, x, y }) = run.missed() {
+        return Err(WindowError::NotQuiet { generation, x, y });
+    }
     let text = lines_of(alloc, &run, x, y, width, height)?;
     Ok(Bytes::of(text))
 }

@@ -1,3 +1,5 @@
+pub mod ShownContexts
 pub mod Shown
 pub mod ShownNets
+pub mod Quiet
 pub mod Matching

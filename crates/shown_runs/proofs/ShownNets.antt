@@ -1,8 +1,8 @@
 -- The bits that the cell of a net's line shows are those of the net in a run of the design.
-use Rattle.std.proofs.Common.{ℕ, ◌≡◌, ◌<◌, ◌+◌, ◌*◌, sym, ap, ◌∙◌, subst, inl, inr, List, [], ◌∷◌, length, map, get_or, pos, arith}
+use Rattle.std.proofs.Common.{ℕ, ◌≡◌, ◌<◌, ◌+◌, ◌*◌, Bool, refl, sym, ap, ◌∙◌, subst, inl, inr, List, [], ◌∷◌, length, map, get_or, pos, arith}
 use Rattle.std.specs.Prelude.{Some, slice_get}
+use Rattle.std.specs.List.{range_with_len}
 use Rattle.std.proofs.lemmas.List.{length-map, get_or-map}
-use Rattle.std.proofs.lemmas.List.FromFn.{length-map-range_with_len}
 use Rattle.std.proofs.lemmas.Option.{slice_get-get_or, slice_get_within, get_or_from_slice_get}
 use Rattle.ww_rule.specs.Grid.{plane_of}
 use Rattle.pattern_reading.specs.declared.ports.NetLine.{NetLine}
@@ -11,18 +11,21 @@ use Rattle.netlist_core.specs.declared.model.Design.{Design}
 use Rattle.netlist_core.specs.Names.{Name}
 use Rattle.netlist_meaning.specs.Nets.{Net, net_at, IsClockNet}
 use Rattle.netlist_meaning.specs.InOrder.{nets_in_order}
-use Rattle.netlist_meaning.specs.Valuation.{Valuation, IsRun}
+use Rattle.netlist_meaning.specs.Valuation.{Valuation, LatchState, IsRun, IsRunFrom, start_state}
 use Rattle.flat_designs.proofs.Listed.{net_is}
 use Rattle.lists.proofs.Members.{In, in_got}
 use Rattle.carries.specs.Nets.{CarriesNets, WithoutClocks}
-use Rattle.carries.proofs.Cycles.{carries_net_cycles}
+use Rattle.carries.specs.DesignContexts.{CarriesNetsInContexts}
+use Rattle.carries.proofs.ContextCycles.{carries_nets_of_each_context}
+use Rattle.carries.proofs.OneContext.{nets_to_contexts}
 use Rattle.streams.specs.declared.streams.Streams.{Streams}
-use Rattle.streams.specs.Rows.{stream_row, rows_of}
+use Rattle.streams.specs.Rows.{contexts_of, in_context, rows_of}
 use Rattle.drive.specs.Driving.{AreFor, driven_by}
 use Rattle.netlist_run.proofs.Ran.{same_on_range}
-use Rattle.probe_view.specs.Probes.{probed_bits}
-use Rattle.shown_runs.specs.ShownRuns.{IsLineOf, net_bits_in_run, CarriersShowNets}
-use Rattle.shown_runs.proofs.Shown.{head_is, input_rows}
+use Rattle.probe_view.specs.Probes.{probed_at}
+use Rattle.shown_runs.specs.ShownRuns.{IsLineOf, net_bits_in_run, CarriersShowNets, CarriersShowNetsInContexts}
+use Rattle.shown_runs.proofs.Shown.{all_rows, as_context}
+use Rattle.shown_runs.proofs.ShownContexts.{contexts, head_is, own_rows}
 
 -- what is kept of a list is of it, and is no clock net
 kept : (design : Design) (nets rest : List Net) (net : Net) → WithoutClocks design nets rest → In net rest → In net nets × ¬ IsClockNet design net
@@ -31,7 +34,7 @@ kept design (first ∷ nets) rest net (WithoutClocks.kept free more) (inl same) 
 kept design (first ∷ nets) rest net (WithoutClocks.kept {rest = others} free more) (inr i) = let found = kept design nets others net more i in (inr found.0, found.1)
 kept design (first ∷ nets) rest net (WithoutClocks.left_out clock more) i = let found = kept design nets rest net more i in (inr found.0, found.1)
 
-module _ (text : List ℕ) (design : Design) (c : CarriesNets text design) (number : ℕ) (line : NetLine) (at : slice_get c.carried.ports.nets number ≡ Some line) where
+module _ (text : List ℕ) (design : Design) (starts : List LatchState) (c : CarriesNetsInContexts text design starts) (number : ℕ) (line : NetLine) (at : slice_get c.carried.ports.nets number ≡ Some line) where
   abbrev any : Net
   any = net_at [] []
 
@@ -67,12 +70,36 @@ module _ (text : List ℕ) (design : Design) (c : CarriesNets text design) (numb
       let found = kept design (nets_in_order design) c.nets net c.are_nets (in_got c.nets number net is_net) in
       record { is_net = net_is design net found.0; no_clock = found.1; name = ap (λ p. p.0) named; path = ap (λ p. p.1) named }
 
-  pub shown_in_run : (streams : Streams) → AreFor c.carried.ports streams → (run : ℕ → Valuation) → IsRun design (rows_of streams) run
-      → probed_bits c.carried.ports streams (plane_of c.carried.grid.rows) line ≡ net_bits_in_run run streams.cycles net
-  shown_in_run streams are run is = same_on_range _ _ streams.cycles (λ t less.
-      head_is (driven_by c.carried.ports streams (plane_of c.carried.grid.rows) (line.offset + t * c.carried.ports.p) (pos line.x) (pos line.y)) (run t net.place net.name)
-      (carries_net_cycles text design c (rows_of streams) (input_rows design c.carried.ports streams c.carried.names are) run is number net line is_net at t
-      (subst (λ (n : ℕ). t < n) (sym (length-map-range_with_len (stream_row streams) 0 streams.cycles)) less)))
+  pub shown_in_context : (streams : Streams) → AreFor c.carried.ports streams → (context : ℕ) (start : LatchState) → slice_get starts context ≡ Some start
+      → (run : ℕ → Valuation) → IsRunFrom design start (rows_of (in_context streams context)) run
+      → probed_at c.carried.ports streams (plane_of c.carried.grid.rows) context line ≡ net_bits_in_run run streams.cycles net
+  shown_in_context streams are context start is_start run is = same_on_range _ _ streams.cycles (λ t less.
+      head_is (driven_by c.carried.ports streams (plane_of c.carried.grid.rows) (line.offset + 32 * context + t * c.carried.ports.p) (pos line.x) (pos line.y)) (run t net.place net.name)
+      (carries_nets_of_each_context text design starts c streams.cycles (contexts_of streams) (contexts text design starts c.carried streams are) context start is_start run
+      (subst (λ (rows : List (List Bool)). IsRunFrom design start rows run) (sym (own_rows text design starts c.carried streams are context start is_start)) is)
+      number net line is_net at t less))
+
+pub carriers_show_nets_in_contexts : CarriersShowNetsInContexts
+carriers_show_nets_in_contexts text design starts c number line at =
+    (net text design starts c number line at, line_of text design starts c number line at, shown_in_context text design starts c number line at)
+
+-- what carries the nets of a design carries them in one context
+abbrev nets_as_context : {text : List ℕ} {design : Design} → CarriesNets text design → CarriesNetsInContexts text design (start_state design ∷ [])
+nets_as_context {text} {design} c = record {
+  carried = as_context c.carried;
+  nets = c.nets;
+  are_nets = c.are_nets;
+  names = c.names;
+  shows = nets_to_contexts (plane_of c.carried.grid.rows) c.carried.ports design c.nets c.shows;
+}
 
 pub carriers_show_nets : CarriersShowNets
-carriers_show_nets text design c number line at = (net text design c number line at, line_of text design c number line at, shown_in_run text design c number line at)
+carriers_show_nets text design c number line at =
+    let found = carriers_show_nets_in_contexts text design (start_state design ∷ []) (nets_as_context c) number line at in (
+      found.0,
+      found.1,
+      λ streams are run is.
+          ap (λ n. map (λ context. probed_at c.carried.ports streams (plane_of c.carried.grid.rows) context line) (range_with_len 0 n)) c.carried.contexts
+          ∙ ap (λ (bits : List Bool). bits ∷ [])
+          (found.2 streams are 0 (start_state design) refl run (subst (λ (rows : List (List Bool)). IsRun design rows run) (sym (all_rows text design c.carried streams are)) is)),
+    )

@@ -1,4 +1,5 @@
-pub mod Cuts
+pub mod Ranges
 pub mod Found
 pub mod GivenWords
 pub mod Across
+pub mod Contexts

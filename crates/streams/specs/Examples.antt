@@ -1,10 +1,10 @@
--- Stream words whose reading is known, for inputs a and b, or one input `a=b`, and two cycles.
+-- Stream words whose reading is known, for inputs a and b, or one input `a=b`, and two cycles, in one context or in two.
 use Rattle.std.specs.Prelude.{ℕ, true, false, List, [], ◌∷◌, codes}
 use Rattle.streams.specs.declared.error.StreamFaultKind.{StreamFaultKind}
-use Rattle.streams.specs.declared.error.StreamFaultKind.TheVariants.{NoEquals, UnknownInput, TwiceInput, BadBit, BadLength, MissingInput}
+use Rattle.streams.specs.declared.error.StreamFaultKind.TheVariants.{NoEquals, BadContext, UnknownInput, TwiceInput, BadBit, BadLength, MissingInput}
 use Rattle.streams.specs.Streams.{HasStreams, HasStreamFault, stream_fault}
 
--- words, and what is said of them: the fault, and the word at fault or the missing name
+-- words, and what is said of them: the fault, and the word at fault or the missing input
 pub record FaultExample : Type 0 where
   pub words : List (List ℕ)
   pub kind : StreamFaultKind
@@ -13,8 +13,8 @@ pub record FaultExample : Type 0 where
 abbrev pub said : List (List ℕ) → StreamFaultKind → List ℕ → FaultExample
 said words kind at = record { words = words; kind = kind; at = at }
 
-abbrev pub SaysStreamFault : FaultExample → Type 0
-SaysStreamFault e = HasStreamFault e.words (codes "a" ∷ codes "b" ∷ []) 2 (stream_fault e.at e.kind)
+abbrev pub SaysStreamFault : (contexts : ℕ) → FaultExample → Type 0
+SaysStreamFault contexts e = HasStreamFault contexts e.words (codes "a" ∷ codes "b" ∷ []) 2 (stream_fault e.at e.kind)
 
 abbrev pub fault_examples : List FaultExample
 fault_examples =
@@ -31,13 +31,38 @@ fault_examples =
     ∷ said (codes "a=0" ∷ codes "b" ∷ []) BadLength (codes "a=0")
     -- cut at the last `=`
     ∷ said (codes "a=1=01" ∷ []) UnknownInput (codes "a=1=01")
+    -- a `:` is of the name
+    ∷ said (codes "0:a=01" ∷ []) UnknownInput (codes "0:a=01")
+    ∷ []
+
+abbrev pub fault_examples_in_contexts : List FaultExample
+fault_examples_in_contexts =
+    -- no number, one that is no context's, one with a zero in front, and none before the `:`
+    said (codes "a=01" ∷ []) BadContext (codes "a=01")
+    ∷ said (codes "2:a=01" ∷ []) BadContext (codes "2:a=01")
+    ∷ said (codes "01:a=01" ∷ []) BadContext (codes "01:a=01")
+    ∷ said (codes ":a=01" ∷ []) BadContext (codes ":a=01")
+    ∷ said (codes "1:a" ∷ []) NoEquals (codes "1:a")
+    ∷ said (codes "1:c=01" ∷ []) UnknownInput (codes "1:c=01")
+    ∷ said (codes "1:a=01" ∷ codes "0:a=01" ∷ codes "1:a=11" ∷ []) TwiceInput (codes "1:a=11")
+    ∷ said (codes "1:a=2" ∷ []) BadBit (codes "1:a=2")
+    ∷ said (codes "1:a=0" ∷ []) BadLength (codes "1:a=0")
+    -- the lowest context first, and in it the first input
+    ∷ said (codes "1:b=01" ∷ codes "0:a=01" ∷ []) MissingInput (codes "0:b")
+    ∷ said (codes "0:b=01" ∷ codes "0:a=01" ∷ []) MissingInput (codes "1:a")
     ∷ []
 
 -- the words in any order
 abbrev pub HasStreamsOfTwo : Type 0
 HasStreamsOfTwo =
-    HasStreams (codes "b=11" ∷ codes "a=01" ∷ []) (codes "a" ∷ codes "b" ∷ []) 2 ((false ∷ true ∷ []) ∷ (true ∷ true ∷ []) ∷ [])
+    HasStreams 1 (codes "b=11" ∷ codes "a=01" ∷ []) (codes "a" ∷ codes "b" ∷ []) 2 ((false ∷ true ∷ []) ∷ (true ∷ true ∷ []) ∷ [])
 
 -- a name with a `=`
 abbrev pub HasStreamOfNameWithEquals : Type 0
-HasStreamOfNameWithEquals = HasStreams (codes "a=b=10" ∷ []) (codes "a=b" ∷ []) 2 ((true ∷ false ∷ []) ∷ [])
+HasStreamOfNameWithEquals = HasStreams 1 (codes "a=b=10" ∷ []) (codes "a=b" ∷ []) 2 ((true ∷ false ∷ []) ∷ [])
+
+-- in two contexts, all inputs of context 0 first, and a name with a `:`
+abbrev pub HasStreamsInContexts : Type 0
+HasStreamsInContexts =
+    HasStreams 2 (codes "1:a=11" ∷ codes "0::=10" ∷ codes "1::=00" ∷ codes "0:a=01" ∷ []) (codes "a" ∷ codes ":" ∷ []) 2
+    ((false ∷ true ∷ []) ∷ (true ∷ false ∷ []) ∷ (true ∷ true ∷ []) ∷ (false ∷ false ∷ []) ∷ [])

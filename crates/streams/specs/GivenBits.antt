@@ -4,7 +4,8 @@ use Rattle.std.specs.BTreeMap as map
 use Rattle.std.specs.BTreeSet as set
 use Rattle.std.specs.Cmp.Lexicographic.{slice_cmp}
 use Rattle.std.specs.Option.{option_copied}
-use Rattle.std.specs.Ordering.{nat_cmp}
+use Rattle.std.specs.declared.cmp.Ordering.{Ordering}
+use Rattle.std.specs.Ordering.{nat_cmp, ordering_then}
 use denote.Ref.{Bor}
 use Rattle.lists.specs.Names.{is_among}
 use Rattle.streams.specs.Streams.{bits_for}
@@ -13,6 +14,11 @@ use Rattle.streams.specs.Streams.{bits_for}
 abbrev pub AreNamesOf : set.BTreeSet (Bor (List ℕ)) → List (List ℕ) → Type 0
 AreNamesOf known names = (name : List ℕ) → set.contains_by (λ k. slice_cmp nat_cmp name k.now) known ≡ is_among name names
 
--- A map has, for each name, the bits of the first of these words that has it.
-abbrev pub AreBitsOf : map.BTreeMap (Bor (List ℕ)) (Bor (List ℕ)) → List (List ℕ) → Type 0
-AreBitsOf bits words = (name : List ℕ) → option_copied (map.get_by (λ k. slice_cmp nat_cmp name k.now) bits) ≡ bits_for words name
+-- inputs in the order of their contexts, and in a context of their names' bytes
+abbrev pub input_cmp : ℕ × Bor (List ℕ) → ℕ × Bor (List ℕ) → Ordering
+input_cmp a b = ordering_then (nat_cmp a.0 b.0) (slice_cmp nat_cmp a.1.now b.1.now)
+
+-- A map has, for each input, the bits of the first of these words that is for it.
+abbrev pub AreBitsOf : (contexts : ℕ) → map.BTreeMap (ℕ × Bor (List ℕ)) (Bor (List ℕ)) → List (List ℕ) → Type 0
+AreBitsOf contexts bits words =
+    (input : ℕ × Bor (List ℕ)) → option_copied (map.get input_cmp bits input) ≡ bits_for contexts words (input.0, input.1.now)

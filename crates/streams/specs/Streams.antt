@@ -1,66 +1,84 @@
--- What stream words say for the inputs of these names, or their first fault.
-use Rattle.std.specs.Prelude.{◌≡◌, ◌==◌, ℕ, not, Bool, List, [], ◌∷◌, ◌++◌, map, filter, slice_get, unwrap_or, Some, ⊤}
-use Rattle.std.specs.List.{list_any, cons_option, find}
+-- What stream words say for the inputs of these names in so many contexts, or their first fault.
+use Rattle.std.specs.Prelude.{◌≡◌, ◌==◌, ℕ, not, Bool, List, [], ◌∷◌, ◌++◌, map, flat_map, filter, slice_get, unwrap_or, Some, ⊤}
+use Rattle.std.specs.List.{list_any, cons_option, find, range_with_len}
 use Rattle.std.specs.Option.{option_map}
 use Rattle.std.specs.declared.option.Option.{Option}
 use Rattle.std.specs.Str.{byte}
+use Rattle.word_cuts.specs.Cuts.{bits_in, with_context}
 use Rattle.streams.specs.declared.error.StreamFault.{StreamFault}
 use Rattle.streams.specs.declared.error.StreamFaultKind.{StreamFaultKind}
 use Rattle.streams.specs.declared.error.StreamFaultKind.TheVariants.{MissingInput}
 use Rattle.streams.specs.declared.error.StreamError.{StreamError}
 use Rattle.streams.specs.declared.error.StreamError.TheVariants.{NoMemory, Fault}
-use Rattle.streams.specs.Words.{word_has_name, bits_in, fault_of_word}
+use Rattle.streams.specs.Words.{is_word_for, fault_of_word}
 
 abbrev pub stream_fault : List ℕ → StreamFaultKind → StreamFault
 stream_fault word kind = record { kind = kind; word = word }
 
 -- the words at fault among the later ones, in order, where others stand before them
-abbrev pub stream_faults_after : (names : List (List ℕ)) → (cycles : ℕ) → (before later : List (List ℕ)) → List StreamFault
-stream_faults_after names cycles before [] = []
-stream_faults_after names cycles before (word ∷ words) =
-    cons_option (option_map (stream_fault word) (fault_of_word names cycles before word))
-    (stream_faults_after names cycles (before ++ word ∷ []) words)
+abbrev pub stream_faults_after : (contexts : ℕ) → (names : List (List ℕ)) → (cycles : ℕ) → (before later : List (List ℕ)) → List StreamFault
+stream_faults_after contexts names cycles before [] = []
+stream_faults_after contexts names cycles before (word ∷ words) =
+    cons_option (option_map (stream_fault word) (fault_of_word contexts names cycles before word))
+    (stream_faults_after contexts names cycles (before ++ word ∷ []) words)
 
--- the names that no word has, in order
-abbrev pub missing_names : List (List ℕ) → List (List ℕ) → List (List ℕ)
-missing_names words names = filter (λ name. not (list_any (word_has_name name) words)) names
+-- an input: the number of its context, and its name
+abbrev pub Input : Type 0
+Input = ℕ × List ℕ
+
+-- the inputs of a context, in the order of their names
+abbrev pub inputs_of_context : (context : ℕ) → (names : List (List ℕ)) → List Input
+inputs_of_context context names = map (λ name. (context, name)) names
+
+-- those of one context after the other
+abbrev pub inputs_of_contexts : (contexts : ℕ) → (names : List (List ℕ)) → List Input
+inputs_of_contexts contexts names = flat_map (λ context. inputs_of_context context names) (range_with_len 0 contexts)
+
+-- those that no word is for, in order
+abbrev pub missing_inputs : (contexts : ℕ) → List (List ℕ) → List Input → List Input
+missing_inputs contexts words inputs = filter (λ input. not (list_any (is_word_for contexts input.0 input.1) words)) inputs
+
+-- the fault where no word is for an input
+abbrev pub missing_fault : (contexts : ℕ) → Input → StreamFault
+missing_fault contexts input = stream_fault (with_context contexts input.0 input.1) MissingInput
 
 -- the faults of the words, from left to right, and then the missing inputs
-abbrev pub stream_faults : (words names : List (List ℕ)) → (cycles : ℕ) → List StreamFault
-stream_faults words names cycles =
-    stream_faults_after names cycles [] words ++ map (λ name. stream_fault name MissingInput) (missing_names words names)
+abbrev pub stream_faults : (contexts : ℕ) → (words names : List (List ℕ)) → (cycles : ℕ) → List StreamFault
+stream_faults contexts words names cycles =
+    stream_faults_after contexts names cycles [] words
+    ++ map (missing_fault contexts) (missing_inputs contexts words (inputs_of_contexts contexts names))
 
 -- This is the first fault.
-abbrev pub HasStreamFault : (words names : List (List ℕ)) → (cycles : ℕ) → StreamFault → Type 0
-HasStreamFault words names cycles fault = slice_get (stream_faults words names cycles) 0 ≡ Some fault
+abbrev pub HasStreamFault : (contexts : ℕ) → (words names : List (List ℕ)) → (cycles : ℕ) → StreamFault → Type 0
+HasStreamFault contexts words names cycles fault = slice_get (stream_faults contexts words names cycles) 0 ≡ Some fault
 
--- the bits that the words say for the input of a name, if one of them has it
-abbrev pub bits_for : List (List ℕ) → List ℕ → Option (List ℕ)
-bits_for words name = option_map bits_in (find (word_has_name name) words)
+-- the bits that the words say for an input, if one of them is for it
+abbrev pub bits_for : (contexts : ℕ) → List (List ℕ) → Input → Option (List ℕ)
+bits_for contexts words input = option_map bits_in (find (is_word_for contexts input.0 input.1) words)
 
 -- the stream that bits spell: `1` is 1
 abbrev pub stream_in : List ℕ → List Bool
 stream_in bits = map (λ b. b == byte "1") bits
 
--- the streams of the inputs, in the order of their names
-abbrev pub streams_of : (words names : List (List ℕ)) → List (List Bool)
-streams_of words names = map (λ name. stream_in (unwrap_or (bits_for words name) [])) names
+-- the streams of inputs, in order
+abbrev pub streams_of : (contexts : ℕ) → List (List ℕ) → List Input → List (List Bool)
+streams_of contexts words inputs = map (λ input. stream_in (unwrap_or (bits_for contexts words input) [])) inputs
 
--- There is no fault, and these are the streams.
-pub record HasStreams (words names : List (List ℕ)) (cycles : ℕ) (bits : List (List Bool)) : Type 0 where
-  pub no_fault : stream_faults words names cycles ≡ []
-  pub bits_is : bits ≡ streams_of words names
+-- There is no fault, and these are the streams: with n names, list c n + i is that of input i in context c.
+pub record HasStreams (contexts : ℕ) (words names : List (List ℕ)) (cycles : ℕ) (bits : List (List Bool)) : Type 0 where
+  pub no_fault : stream_faults contexts words names cycles ≡ []
+  pub bits_is : bits ≡ streams_of contexts words (inputs_of_contexts contexts names)
 
 -- why the words give no streams
-abbrev pub HasStreamCause : (words names : List (List ℕ)) → (cycles : ℕ) → StreamError → Type 0
-HasStreamCause words names cycles NoMemory = ⊤
-HasStreamCause words names cycles (Fault fault) = HasStreamFault words names cycles fault
+abbrev pub HasStreamCause : (contexts : ℕ) → (words names : List (List ℕ)) → (cycles : ℕ) → StreamError → Type 0
+HasStreamCause contexts words names cycles NoMemory = ⊤
+HasStreamCause contexts words names cycles (Fault fault) = HasStreamFault contexts words names cycles fault
 
--- why not each name has a word
-abbrev pub IsMissing : (words names : List (List ℕ)) → StreamError → Type 0
-IsMissing words names NoMemory = ⊤
-IsMissing words names (Fault fault) =
-    slice_get (map (λ name. stream_fault name MissingInput) (missing_names words names)) 0 ≡ Some fault
+-- why not each of these inputs has a word
+abbrev pub IsMissing : (contexts : ℕ) → List (List ℕ) → List Input → StreamError → Type 0
+IsMissing contexts words inputs NoMemory = ⊤
+IsMissing contexts words inputs (Fault fault) =
+    slice_get (map (missing_fault contexts) (missing_inputs contexts words inputs)) 0 ≡ Some fault
 
 -- why words give no bits, by their faults in order
 abbrev pub HasWordFault : List StreamFault → StreamError → Type 0

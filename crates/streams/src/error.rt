@@ -10,19 +10,21 @@ use std::alloc::{AllocError, AllocFailed};
 pub enum StreamFaultKind {
     /// The word has no `=`.
     NoEquals,
-    /// What stands before the last `=` is no input's name.
+    /// There are several contexts, and before the last `=` there is no `:`, or before its first one no number of a context.
+    BadContext,
+    /// What stands before the last `=`, after the number of a context where there are several, is no input's name.
     UnknownInput,
-    /// An earlier word has the name.
+    /// An earlier word is for the same input of the same context.
     TwiceInput,
     /// A character after the last `=` is neither `0` nor `1`.
     BadBit,
     /// There are not as many bits as cycles.
     BadLength,
-    /// No word has the name of this input.
+    /// No word is for this input, in this context.
     MissingInput,
 }
 
-/// A fault, and the word at fault, or the name of the input that is missing.
+/// A fault, and the word at fault, or the name of the input that is missing, with several contexts as `1:a`.
 #[derive(Drop)]
 pub struct StreamFault {
     pub kind: StreamFaultKind,

@@ -1,4 +1,4 @@
-// Stream words without a fault, by name.
+// Stream words without a fault, by input.
 ghost use Rattle.std.specs.Prelude.{◌≡◌, ◌⊎◌, [], map, string_bytes, IfOk, IfErr};
 ghost use Rattle.streams.specs.Streams.{HasWordFault, stream_fault, stream_faults_after};
 ghost use Rattle.streams.specs.GivenBits.{AreNamesOf, AreBitsOf};
@@ -34,23 +34,24 @@ fn names_of(alloc: Global, names: &[Bytes]) -> Result<BTreeSet<&[u8]>, AllocErro
     Ok(known)
 }
 
-/// The bits that words give to inputs of these names, or the first word at fault.
-pub fn bits_by_name<'a>(
+/// The bits that words give to inputs of these names in so many contexts, or the first word at fault.
+pub fn bits_by_input<'a>(
     alloc: Global,
     words: &'a [String],
     names: &[Bytes],
     cycles: usize,
-) -> Result<BTreeMap<&'a [u8], &'a [u8]>, StreamError>
-    ensures bits { IfOk result (λ given. AreBitsOf given (map string_bytes words.now)) }
-    ensures sound { IfOk result (λ given. stream_faults_after names.now cycles [] (map string_bytes words.now) ≡ []) }
-    ensures fault { IfErr result (HasWordFault (stream_faults_after names.now cycles [] (map string_bytes words.now))) }
+    contexts: u64,
+) -> Result<BTreeMap<(u64, &'a [u8]), &'a [u8]>, StreamError>
+    ensures bits { IfOk result (λ given. AreBitsOf contexts given (map string_bytes words.now)) }
+    ensures sound { IfOk result (λ given. stream_faults_after contexts names.now cycles [] (map string_bytes words.now) ≡ []) }
+    ensures fault { IfErr result (HasWordFault (stream_faults_after contexts names.now cycles [] (map string_bytes words.now))) }
 {
     let known = names_of(alloc, names)?;
     let mut given = BTreeMap::new(alloc);
     for word in words {
-        match cut_sound(&known, &given, cycles, word.as_bytes()) {
-            Ok((name, bits)) => {
-                given.insert(name, bits)?;
+        match cut_sound(&known, &given, cycles, contexts, word.as_bytes()) {
+            Ok(cut) => {
+                given.insert((cut.context, cut.name), cut.bits)?;
             }
             Err(kind) => return Err(refusal(alloc, kind, word.as_bytes())),
         }

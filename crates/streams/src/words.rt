@@ -1,29 +1,21 @@
 // One stream word: the name of an input and its bits, or what is at fault in it.
-ghost use Rattle.std.specs.Prelude.{◌≡◌, ℕ, List, true, false, Some, None, position, reverse, IfOk, IfErr};
+ghost use Rattle.std.specs.Prelude.{◌≡◌, ◌&&◌, ℕ, List, true, false, Some, None, IfOk, IfErr};
 ghost use Rattle.std.specs.List.{list_any, list_all};
-ghost use Rattle.std.specs.Option.{MatchOption};
-ghost use Rattle.streams.specs.Words.{is_equals_sign, name_in, bits_in, word_has_name, is_bit, fault_of_word};
+ghost use Rattle.word_cuts.specs.Cuts.{is_equals_sign, name_in, bits_in, names_context};
+ghost use Rattle.streams.specs.Words.{context_in, input_in, is_word_for, is_bit, fault_of_word};
 ghost use Rattle.streams.specs.GivenBits.{AreNamesOf, AreBitsOf};
 ghost use Rattle.lists.specs.Names.{is_among};
 
 use crate::error::StreamFaultKind;
 use std::collections::{BTreeMap, BTreeSet};
+use word_cuts::{cut, cut_context};
 
-// How many bytes stand after the last `=`.
-fn bits_after(word: &[u8]) -> Option<usize>
-    ensures { result ≡ position is_equals_sign (reverse word.now) }
-{
-    word.iter().rev().position(|b| *b == b'=')
-}
-
-// The name before the last `=` of a word, and the bits after it.
-fn cut(word: &[u8]) -> Option<(&[u8], &[u8])>
-    ensures { MatchOption result (list_any is_equals_sign word.now ≡ false)
-        (λ parts. (list_any is_equals_sign word.now ≡ true) × (parts.0.now ≡ name_in word.now) × (parts.1.now ≡ bits_in word.now)) }
-{
-    let count = bits_after(word)?;
-    let start = word.len() - count;
-    Some((&word[..start - 1], &word[start..]))
+/// The bits of a word without a fault, and the input that it is for.
+#[derive(Clone, Copy)]
+pub struct StreamWord<'a> {
+    pub context: u64,
+    pub name: &'a [u8],
+    pub bits: &'a [u8],
 }
 
 // Whether all bytes are `0` or `1`.
@@ -40,34 +32,39 @@ fn is_input(known: &BTreeSet<&[u8]>, name: &[u8]) -> bool
     known.contains(name)
 }
 
-// Whether a word has given this name its bits.
-fn is_taken(given: &BTreeMap<&[u8], &[u8]>, name: &[u8]) -> bool
-    ensures { (before : List (List ℕ)) → AreBitsOf given.now before → result ≡ list_any (word_has_name name.now) before }
+// Whether a word has given this input its bits.
+fn is_taken<'a>(given: &BTreeMap<(u64, &'a [u8]), &'a [u8]>, context: u64, name: &'a [u8]) -> bool
+    ensures { (contexts : ℕ) (before : List (List ℕ)) → AreBitsOf contexts given.now before → result ≡ list_any (is_word_for contexts context name.now) before }
 {
-    given.contains_key(name)
+    given.contains_key(&(context, name))
 }
 
-/// The name and the bits of a word that stands after those that gave their bits, or what is at fault in it.
+/// The input and the bits of a word that stands after those that gave their bits, or what is at fault in it.
 pub fn cut_sound<'a>(
     known: &BTreeSet<&[u8]>,
-    given: &BTreeMap<&[u8], &[u8]>,
+    given: &BTreeMap<(u64, &'a [u8]), &'a [u8]>,
     cycles: usize,
+    contexts: u64,
     word: &'a [u8],
-) -> Result<(&'a [u8], &'a [u8]), StreamFaultKind>
-    ensures sound { IfOk result (λ parts. (names before : List (List ℕ)) → AreNamesOf known.now names → AreBitsOf given.now before → fault_of_word names cycles before word.now ≡ None) }
-    ensures untaken { IfOk result (λ parts. (before : List (List ℕ)) → AreBitsOf given.now before → list_any (word_has_name (name_in word.now)) before ≡ false) }
-    ensures is_cut { IfOk result (λ parts. list_any is_equals_sign word.now ≡ true) }
-    ensures name { IfOk result (λ parts. parts.0.now ≡ name_in word.now) }
-    ensures bits { IfOk result (λ parts. parts.1.now ≡ bits_in word.now) }
-    ensures fault { IfErr result (λ kind. (names before : List (List ℕ)) → AreNamesOf known.now names → AreBitsOf given.now before → fault_of_word names cycles before word.now ≡ Some kind) }
+) -> Result<StreamWord<'a>, StreamFaultKind>
+    ensures sound { IfOk result (λ cut. (names before : List (List ℕ)) → AreNamesOf known.now names → AreBitsOf contexts given.now before → fault_of_word contexts names cycles before word.now ≡ None) }
+    ensures untaken { IfOk result (λ cut. (before : List (List ℕ)) → AreBitsOf contexts given.now before → list_any (is_word_for contexts (context_in contexts word.now) (input_in contexts word.now)) before ≡ false) }
+    ensures is_cut { IfOk result (λ cut. (list_any is_equals_sign word.now && names_context contexts (name_in word.now)) ≡ true) }
+    ensures context { IfOk result (λ cut. cut.context ≡ context_in contexts word.now) }
+    ensures name { IfOk result (λ cut. cut.name.now ≡ input_in contexts word.now) }
+    ensures bits { IfOk result (λ cut. cut.bits.now ≡ bits_in word.now) }
+    ensures fault { IfErr result (λ kind. (names before : List (List ℕ)) → AreNamesOf known.now names → AreBitsOf contexts given.now before → fault_of_word contexts names cycles before word.now ≡ Some kind) }
 {
-    let Some((name, bits)) = cut(word) else {
+    let Some((numbered, bits)) = cut(word) else {
         return Err(StreamFaultKind::NoEquals);
+    };
+    let Some((context, name)) = cut_context(numbered, contexts) else {
+        return Err(StreamFaultKind::BadContext);
     };
     if !is_input(known, name) {
         return Err(StreamFaultKind::UnknownInput);
     }
-    if is_taken(given, name) {
+    if is_taken(given, context, name) {
         return Err(StreamFaultKind::TwiceInput);
     }
     if !are_bits(bits) {
@@ -76,5 +73,9 @@ pub fn cut_sound<'a>(
     if bits.len() != cycles {
         return Err(StreamFaultKind::BadLength);
     }
-    Ok((name, bits))
+    Ok(StreamWord {
+        context,
+        name,
+        bits,
+    })
 }

@@ -1,6 +1,6 @@
 -- Where a word of the command line is cut: at its last `=`, and what stands before that, where it names a context, at its first `:`, as
 -- in `1:a=0110`.
-use Rattle.std.specs.Prelude.{ℕ, ◌==◌, ◌&&◌, ◌||◌, not, nat_lt, Bool, List, get_or, length}
+use Rattle.std.specs.Prelude.{ℕ, ◌==◌, ◌&&◌, ◌||◌, ◌∷◌, ◌++◌, not, if◌then◌else◌, nat_lt, Bool, List, get_or, length, decimal}
 use Rattle.std.specs.Char.{is_ascii_digit}
 use Rattle.std.specs.List.{list_any, list_all, before_first, after_first, before_last, after_last}
 use Rattle.std.specs.Str.{byte}
@@ -39,3 +39,19 @@ context_of name = digits_value 10 (before_first is_colon name)
 
 abbrev pub name_after : List ℕ → List ℕ
 name_after name = after_first is_colon name
+
+-- Where there is one context, names stand alone, and are of context 0; where there are more, a name has the number of its context and a
+-- `:` before it. Whether a name is so of one of so many contexts
+abbrev pub names_context : (contexts : ℕ) → List ℕ → Bool
+names_context contexts name = contexts == 1 || has_context contexts name
+
+-- that context, and the name without it
+abbrev pub context_named : (contexts : ℕ) → List ℕ → ℕ
+context_named contexts name = if contexts == 1 then 0 else context_of name
+
+abbrev pub without_context : (contexts : ℕ) → List ℕ → List ℕ
+without_context contexts name = if contexts == 1 then name else name_after name
+
+-- a name as it is written for a context
+abbrev pub with_context : (contexts context : ℕ) → List ℕ → List ℕ
+with_context contexts context name = if contexts == 1 then name else decimal context ++ byte ":" ∷ name

@@ -1,13 +1,16 @@
 // Names that begin with the number of a context.
-ghost use Rattle.std.specs.Prelude.{◌≡◌, ◌&&◌, nat_lt, true, false};
+ghost use Rattle.std.specs.Prelude.{◌≡◌, ◌&&◌, ◌++◌, ◌∷◌, nat_lt, true, false, decimal, IfOk};
 ghost use Rattle.std.specs.Bool.{then_some};
 ghost use Rattle.std.specs.Char.{is_ascii_digit};
 ghost use Rattle.std.specs.List.{list_all};
 ghost use Rattle.std.specs.Option.{MatchOption};
+ghost use Rattle.std.specs.Str.{byte};
 ghost use Rattle.std.specs.Str.Parse.{digits_value};
-ghost use Rattle.word_cuts.specs.Cuts.{context_of, has_context, is_plain_number, is_unpadded, name_after};
+ghost use Rattle.word_cuts.specs.Cuts.{context_named, context_of, has_context, is_plain_number, is_unpadded, name_after, names_context, with_context, without_context};
 
 use crate::cuts::cut_at_colon;
+use itoa::Buffer;
+use std::alloc::{AllocError, Global};
 
 // Whether the first digit is no 0 where others follow.
 fn is_unpadded(digits: &[u8]) -> bool
@@ -69,4 +72,44 @@ pub fn cut_at_context(name: &[u8], contexts: u64) -> Option<(u64, &[u8])>
     let (number, rest) = cut_at_colon(name)?;
     let context = context_in(number, contexts)?;
     Some((context, rest))
+}
+
+/// The context of a name, and the name without it: with one context a name stands alone, and with more a number and a `:`
+/// stand before it. `None` comes where no number of a context does.
+pub fn cut_context(name: &[u8], contexts: u64) -> Option<(u64, &[u8])>
+    ensures { MatchOption result (names_context contexts name.now ≡ false)
+        (λ parts. (names_context contexts name.now ≡ true) × (parts.0 ≡ context_named contexts name.now) × (parts.1.now ≡ without_context contexts name.now)) }
+{
+    if contexts == 1 {
+        Some((0, name))
+    } else {
+        cut_at_context(name, contexts)
+    }
+}
+
+// A name after the number of a context and a `:`.
+fn numbered(alloc: Global, context: u64, name: &[u8]) -> Result<Vec<u8>, AllocError>
+    ensures { IfOk result (λ text. text.items ≡ decimal context ++ byte ":" ∷ name.now) }
+{
+    let mut digits = Buffer::new();
+    let mut text = Vec::from_slice(alloc, digits.format(context).as_bytes())?;
+    text.push(b':')?;
+    text.extend_from_slice(name)?;
+    Ok(text)
+}
+
+/// A name as it is written for one of so many contexts: alone with one, else after the number of the context and a `:`.
+pub fn with_context(
+    alloc: Global,
+    name: &[u8],
+    context: u64,
+    contexts: u64,
+) -> Result<Vec<u8>, AllocError>
+    ensures { IfOk result (λ text. text.items ≡ with_context contexts context name.now) }
+{
+    if contexts == 1 {
+        name.to_vec(alloc)
+    } else {
+        numbered(alloc, context, name)
+    }
 }

@@ -2,7 +2,7 @@ use Rattle.std.proofs.Common.{ℕ, ◌+◌, ◌++◌, ◌∷◌, [], sym, ap, �
 use Rattle.std.proofs.lemmas.List.{append_assoc}
 use Rattle.drive.specs.Runs.{planes_of}
 use Rattle.probe_view.specs.Windows.{window_tags, window_text}
-use Rattle.probe_view.proofs.Lines.{lines_more}
+use Rattle.streams.proofs.Ranges.{flat_map_more}
 use Rattle.probe_view.proofs.viewing.lines_of.Goals as goal
 
 pub loop-i-preserved : goal.loop-i-preserved
@@ -17,4 +17,4 @@ loop-i-preserved c =
     c.in_ok-push.ensures.items
     ∙ ap (λ (text : List ℕ). text ++ 10 ∷ []) (c.in_ok-push_tags.ensures ∙ ap (λ (text : List ℕ). text ++ tags) c.loop-i.invariant)
     ∙ append_assoc (window_text plane x y width i) tags (10 ∷ [])
-    ∙ sym (lines_more (λ row. window_tags plane row x width ++ 10 ∷ []) y i)
+    ∙ sym (flat_map_more (λ row. window_tags plane row x width ++ 10 ∷ []) y i)
