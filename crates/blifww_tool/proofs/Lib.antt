@@ -12,6 +12,7 @@ pub mod Compiled
 pub mod Simulated
 pub mod Probed
 pub mod Viewed
+pub mod ViewRefused
 pub mod Decided
 pub mod Ended
 pub mod Stopped

@@ -133,7 +133,15 @@ fn tell_miss<E: Sink>(err: &mut E, generation: u64, x: u64, y: u64) -> Result<()
     let row = rows.format(y).as_bytes();
     write_pieces(
         err,
-        &[b"not quiet: generation ", when, b" cell ", column, b" ", row, b"\n"],
+        &[
+            b"not quiet: generation ",
+            when,
+            b" cell ",
+            column,
+            b" ",
+            row,
+            b"\n",
+        ],
     )
 }
 
