@@ -1,12 +1,12 @@
 -- What the parts of a compilation give together.
-use Rattle.std.proofs.Common.{ℕ, ◌≡◌, ◌≢◌, ◌≤◌, ◌<◌, ◌+◌, ◌-◌, ◌*◌, ◌/◌, ◌==◌, max, cond, refl, sym, ap, ap₂, ◌∙◌, subst, Bool, true, false, List, [], ◌∷◌, length, map, flat_map, arith, length-append}
+use Rattle.std.proofs.Common.{ℕ, ◌≡◌, ◌≢◌, ◌≤◌, ◌<◌, ◌+◌, ◌-◌, ◌*◌, ◌/◌, ◌^◌, ◌==◌, ◌&&◌, true≢false, max, cond, refl, sym, ap, ap₂, ◌∙◌, subst, Bool, true, false, List, [], ◌∷◌, length, map, flat_map, arith, length-append}
 use Rattle.std.specs.Prelude.{None, All, get_or}
 use Rattle.std.specs.List.{range_with_len}
 use Rattle.std.proofs.lemmas.List.Elements.{All-map}
 use Rattle.std.proofs.lemmas.List.FromFn.{length-map-range_with_len}
 use Rattle.std.proofs.Math.Nat.{max-le}
 use Rattle.std.proofs.Math.Path.{fun_ext}
-use Rattle.std.proofs.lemmas.Bool.{eqb-false, eqb-true}
+use Rattle.std.proofs.lemmas.Bool.{and_parts, eqb-false, eqb-true}
 use Rattle.std.proofs.lemmas.List.{append-nil, length-map}
 use Rattle.lane_core.specs.declared.plan.Plan.{Plan}
 use Rattle.lane_core.specs.Plans.{IsAdmissible, period_of}
@@ -27,6 +27,7 @@ use Rattle.netlist_meaning.specs.Weight.{weight}
 use Rattle.netlist_meaning.specs.FlatOf.{IsFlatOf, at_places, flat_latch}
 use Rattle.netlist_meaning.specs.Valuation.{LatchState, start_state}
 use Rattle.flat_designs.specs.Laws.{FlatIsOne, state_in_order}
+use Rattle.flat_designs.proofs.Weights.{parts_are_few}
 use Rattle.netlist_text.specs.NetlistText.{IsNetlist}
 use Rattle.netlist_text.specs.Parts.{AreParts}
 use Rattle.netlist_text.specs.Causes.{HasNetlistCause}
@@ -80,6 +81,13 @@ has_starts law contexts starts text design flat order is p none = record {
   netlist = is;
   no_fault = ap (λ latches. first_fault latches contexts starts) (sym (same_latches law design flat order p)) ∙ none;
 }
+
+-- a netlist has few latches
+pub few_latches : (design : Design) (flat : Flat) (order : List ℕ) → AreParts design flat order → length flat.latches < 2 ^ 32
+few_latches design flat order p =
+    let few = parts_are_few design flat p.is_flat in
+    let light : weight design ≤ 1024 = p.light in
+    omega (arith, few, light)
 
 -- the plan by which a design is carried
 pub carried_by : FlatIsOne → DesignsAreCarried → (design : Design) (flat : Flat) (order : List ℕ) (plan : Plan) (ports : Ports) → AreParts design flat order
@@ -226,6 +234,24 @@ compiles_alone carry carry_nets none text design plan ports has h room =
       carries = subst (CarriesContexts output design) (no_words none design) ((carry output design).0 h.carries);
       nets = subst (CarriesNetsInContexts output design) (no_words none design) ((carry_nets output design).0 h.nets);
     }
+
+-- where this is what is asked for
+pub alone : {X : Type 0} (f : X → List ℕ) (contexts : ℕ) (words : List X) → (contexts == 1 && length words == 0) ≡ true → (contexts ≡ 1) × (map f words ≡ [])
+alone f contexts [] e = (eqb-true contexts 1 (and_parts (contexts == 1) true e).0, refl)
+alone f contexts (w ∷ ws) e = absurd (true≢false (sym (and_parts (contexts == 1) false e).1))
+
+pub not_alone : {X : Type 0} (f : X → List ℕ) (contexts : ℕ) (words : List X) → (contexts == 1 && length words == 0) ≡ false → contexts ≡ 1 → map f words ≡ [] → ⊥
+not_alone f contexts [] e one empty = true≢false (sym (ap (λ (n : ℕ). n == 1 && true) one) ∙ e)
+not_alone f contexts (w ∷ ws) e one empty = cc
+
+pub compiles_plain : OneContextCarries → OneContextCarriesNets → NoWordsMeanStart → (contexts : ℕ) (starts : List (List ℕ)) → (contexts ≡ 1) × (starts ≡ []) → (text : List ℕ) (design : Design) (plan : Plan) (ports : Ports)
+    → HasStarts contexts starts text design → IsCarriedBy design plan ports → contexts ≤ ports.p / 32 → Compiles contexts starts text (pattern_text (start_grid plan) ports)
+compiles_plain carry carry_nets none contexts starts (one, empty) text design plan ports has h room =
+    let output = pattern_text (start_grid plan) ports in
+    subst (λ (n : ℕ). Compiles n starts text output) (sym one)
+    (subst (λ (ws : List (List ℕ)). Compiles 1 ws text output) (sym empty)
+    (compiles_alone carry carry_nets none text design plan ports
+    (subst (λ (n : ℕ). HasStarts n [] text design) one (subst (λ (ws : List (List ℕ)). HasStarts contexts ws text design) empty has)) h (subst (λ (n : ℕ). n ≤ ports.p / 32) one room)))
 
 -- and in contexts, from the starts that the words say
 pub compiles : FlatIsOne → DesignsAreCarriedInContexts → StartsAreFlat → (contexts : ℕ) (starts : List (List ℕ)) (text : List ℕ) (design : Design) (flat : Flat) (order : List ℕ) (base : Plan) (base_ports : Ports) (plan : Plan) (ports : Ports)

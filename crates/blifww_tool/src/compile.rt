@@ -1,5 +1,5 @@
 // `compile`: the pattern of a netlist.
-ghost use Rattle.std.specs.Prelude.{◌≡◌, ◌<◌, ℕ, List, map, string_bytes, IfOk, IfErr};
+ghost use Rattle.std.specs.Prelude.{◌≡◌, ◌==◌, ◌&&◌, ◌<◌, ℕ, List, length, map, string_bytes, IfOk, IfErr};
 ghost use Rattle.netlist_text.specs.Parts.{AreParts};
 ghost use Rattle.plan_ports.specs.Tables.{HasPortNames};
 ghost use Rattle.netlist_plans.specs.Lists.{IsPlanned};
@@ -35,6 +35,13 @@ fn plan_of(alloc: Global, netlist: &Netlist) -> Result<Planned, NetlistPlanError
     Ok(planned)
 }
 
+// Whether one context is asked for, without words.
+fn is_alone(contexts: u64, words: &[String]) -> bool
+    ensures { result ≡ (contexts == 1 && length words.now == 0) }
+{
+    contexts == 1 && words.is_empty()
+}
+
 // The plan with the starts that words have set in so many contexts.
 fn started(
     alloc: Global,
@@ -67,7 +74,7 @@ fn started(
     if contexts > limit {
         return Err(TextError::Refused(Cause::TooManyContexts { contexts, limit }));
     }
-    if contexts == 1 && words.is_empty() {
+    if is_alone(contexts, words) {
         return Ok(Output::Drawing(planned));
     }
     let bits = starts.in_contexts(alloc, &netlist.flat, contexts)?;

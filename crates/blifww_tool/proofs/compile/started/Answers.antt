@@ -1,8 +1,98 @@
-use Rattle.std.proofs.Common.{◌≡◌, ◌∙◌, ◌≤◌, ◌*◌, ◌/◌, ap, subst, sym, arith, length, List, ℕ, Bool, map, string_bytes}
+use Rattle.std.proofs.Common.{◌≡◌, ◌∙◌, ◌≤◌, ◌/◌, refl, subst, sym, arith, ℕ, List, Bool, map, length, string_bytes}
 use Rattle.std.proofs.lemmas.Result.{err_from_is_err_and}
 use Rattle.flat_designs.proofs.Whole.{flat_is_named}
-use Rattle.netlist_text.proofs.SoundParts.{sound, small}
+use Rattle.grid_assembly.specs.PlanDrawing.{start_grid}
+use Rattle.pattern_writing.specs.WrittenText.{pattern_text}
+use Rattle.carries.specs.FlatContexts.{CarriesFlatContexts}
+use Rattle.latch_loops.specs.Closed.{contexts_size}
+use Rattle.latch_loops.specs.Padded.{IsPaddedPlan}
+use Rattle.plan_ports.specs.Tables.{IsTableOf}
+use Rattle.netlist_text.proofs.SoundParts.{sound, weighed, small}
 use Rattle.plan_carries.proofs.SeenNets.{places_fit}
-use Rattle.start_words.specs.Flats.{flat_starts}
-use Rattle.blifww_tool.proofs.Compiled.{compiles, compiles_alone, long_starts, many_starts, room_refused}
+use Rattle.blifww_tool.proofs.Compiled.{alone, compiles, compiles_plain, long_starts, many_starts, not_alone, room_refused}
 use Rattle.blifww_tool.proofs.compile.started.Goals as goal
+
+pub returns-then-contexts-limit-clause-refused : goal.returns-then-contexts-limit-clause-refused
+returns-then-contexts-limit-clause-refused c = λ text has. (
+  refl,
+  room_refused c.args.contexts (map string_bytes c.args.words.now) text c.args.netlist.now.design c.args.netlist.now.flat c.args.planned.plan c.args.planned.ports has
+      c.requires.parts.is_flat c.requires.carried c.if-contexts-limit.true,
+)
+
+pub returns-then-is_alone-clause-printed : goal.returns-then-is_alone-clause-printed
+returns-then-is_alone-clause-printed c = λ text has.
+    let room : c.args.contexts ≤ c.args.planned.ports.p / 32 = omega (arith, c.if-contexts-limit.false) in
+    compiles_plain c.one_context_carries.ensures.design c.one_context_carries.ensures.nets c.no_words_mean_start.ensures c.args.contexts (map string_bytes c.args.words.now)
+    (alone string_bytes c.args.contexts c.args.words.now (sym c.is_alone.ensures ∙ c.if-is_alone.true)) text c.args.netlist.now.design c.args.planned.plan c.args.planned.ports has c.requires.carried room
+
+pub returns-in_err-bits-clause-refused : goal.returns-in_err-bits-clause-refused
+returns-in_err-bits-clause-refused c =
+    let p = err_from_is_err_and c.from_residual.result c.from_residual.ensures.1 in
+    rw (p.1, p.2) (λ text has. tt)
+
+pub returns-in_err-started-clause-refused : goal.returns-in_err-started-clause-refused
+returns-in_err-started-clause-refused c =
+    let p = err_from_is_err_and c.from_residual-in_err-started.result c.from_residual-in_err-started.ensures.1 in
+    rw (p.1, p.2) (λ text has. tt)
+
+pub plan_contexts-requires-clause-sound : goal.plan_contexts-requires-clause-sound
+plan_contexts-requires-clause-sound c = sound c.args.netlist.now.design c.args.netlist.now.flat _ c.requires.parts c.flat_is_sound.ensures
+
+pub plan_contexts-requires-clause-weighed : goal.plan_contexts-requires-clause-weighed
+plan_contexts-requires-clause-weighed c = weighed c.args.netlist.now.design c.args.netlist.now.flat _ c.requires.parts c.flat_is_weighed.ensures
+
+pub plan_contexts-requires-clause-small : goal.plan_contexts-requires-clause-small
+plan_contexts-requires-clause-small c = small c.args.netlist.now.design c.args.netlist.now.flat _ c.requires.parts
+
+pub plan_contexts-requires-clause-ordered : goal.plan_contexts-requires-clause-ordered
+plan_contexts-requires-clause-ordered c = (c.args.netlist.now.order.nodes, c.requires.parts.is_order)
+
+pub plan_contexts-requires-clause-named : goal.plan_contexts-requires-clause-named
+plan_contexts-requires-clause-named c = flat_is_named c.args.netlist.now.design c.args.netlist.now.flat c.requires.parts.faultless c.requires.parts.is_flat
+
+pub plan_contexts-requires-clause-names : goal.plan_contexts-requires-clause-names
+plan_contexts-requires-clause-names c = c.requires.names
+
+pub plan_contexts-requires-clause-places : goal.plan_contexts-requires-clause-places
+plan_contexts-requires-clause-places c =
+    places_fit c.args.netlist.now.design c.args.netlist.now.flat c.requires.parts.faultless
+    (omega (arith, small c.args.netlist.now.design c.args.netlist.now.flat _ c.requires.parts, c.requires.parts.is_flat.weight)) c.requires.parts.is_flat
+
+pub plan_contexts-requires-clause-planned : goal.plan_contexts-requires-clause-planned
+plan_contexts-requires-clause-planned c = c.requires.planned
+
+pub plan_contexts-requires-clause-some : goal.plan_contexts-requires-clause-some
+plan_contexts-requires-clause-some c =
+    let bits = c.as_slice.ensures ∙ c.in_ok-bits.ensures (map string_bytes c.args.words.now) c.requires.set in
+    let many = many_starts c.args.netlist.now.flat (map string_bytes c.args.words.now) c.args.contexts c.as_slice.result.now bits in
+    omega (arith, many, c.requires.some)
+
+pub plan_contexts-requires-clause-fit : goal.plan_contexts-requires-clause-fit
+plan_contexts-requires-clause-fit c =
+    let bits = c.as_slice.ensures ∙ c.in_ok-bits.ensures (map string_bytes c.args.words.now) c.requires.set in
+    let many = many_starts c.args.netlist.now.flat (map string_bytes c.args.words.now) c.args.contexts c.as_slice.result.now bits in
+    let period = (c.requires.carried.table c.args.netlist.now.flat c.requires.parts.is_flat).period in
+    omega (arith, many, period, c.if-contexts-limit.false)
+
+pub plan_contexts-requires-clause-long : goal.plan_contexts-requires-clause-long
+plan_contexts-requires-clause-long c =
+    let bits = c.as_slice.ensures ∙ c.in_ok-bits.ensures (map string_bytes c.args.words.now) c.requires.set in
+    long_starts c.args.netlist.now.flat (map string_bytes c.args.words.now) c.args.contexts c.as_slice.result.now bits
+
+pub returns-clause-printed : goal.returns-clause-printed
+returns-clause-printed c = λ text has.
+    let words = map string_bytes c.args.words.now in
+    let flat = c.args.netlist.now.flat in
+    let contexts = c.args.contexts in
+    let base = c.args.planned.plan in
+    let plan = c.in_ok-started.started.plan in
+    let ports = c.in_ok-started.started.ports in
+    let p = c.in_ok-started.ensures in
+    let room : contexts ≤ c.args.planned.ports.p / 32 = omega (arith, c.if-contexts-limit.false) in
+    let bits = c.as_slice.ensures ∙ c.in_ok-bits.ensures words c.requires.set in
+    let many : length c.as_slice.result.now ≡ contexts = many_starts flat words contexts c.as_slice.result.now bits in
+    compiles c.flat_is_one.ensures c.designs_are_carried_in_contexts.ensures c.starts_are_flat.ensures contexts words text c.args.netlist.now.design flat _ base c.args.planned.ports plan ports has
+    c.requires.parts c.requires.carried room (not_alone string_bytes contexts c.args.words.now (sym c.is_alone.ensures ∙ c.if-is_alone.false)) p.admissible p.edges
+    (subst (λ (n : ℕ). IsPaddedPlan (contexts_size base.latches n) base plan) many p.padded)
+    (subst (λ (n : ℕ). IsTableOf flat plan n ports) many p.table) p.places
+    (subst (CarriesFlatContexts (pattern_text (start_grid plan) ports) flat) bits p.carries)
