@@ -1,17 +1,13 @@
 -- What a plan does from cycle to cycle: it is a machine whose state lies on the lanes of its loops.
-use Rattle.std.specs.Prelude.{ℤ, pos, ℕ, ◌+◌, ◌*◌, ◌<◌, ◌≤◌, ◌≡◌, ◌≢◌, ◌==◌, cond, Bool, true, false, List, length, map, take, replicate}
+use Rattle.std.specs.Prelude.{ℕ, ◌+◌, ◌*◌, ◌≤◌, ◌≡◌, ◌==◌, cond, Bool, List, length, map, take}
 use Rattle.std.specs.List.{range_with_len}
-use Rattle.ww_rule.specs.Wireworld.{Due}
 use Rattle.tiling.specs.Tiling.{Lit}
 use Rattle.tiling.specs.Tiling.Edge.{Beside}
-use Rattle.tiling.specs.Steps.{driven_edges}
 use Rattle.lane_core.specs.declared.plan.Plan.{Plan}
 use Rattle.lane_core.specs.Columns.{after_columns}
-use Rattle.lane_core.specs.Plans.{IsAdmissible, left_of, row_of, period_of}
+use Rattle.lane_core.specs.Plans.{IsAdmissible}
 use Rattle.lane_core.specs.Entering.{first_loop_lane, entering_bits}
-use Rattle.plan_layout.specs.Layout.{tiling_of}
-use Rattle.plan_layout.specs.Starts.{start_edges}
-use Rattle.plan_waves.specs.Waves.{GoesOn, bits_at, loop_entry, tiles_back, DrivesInputs}
+use Rattle.plan_waves.specs.Waves.{GoesOn, bits_at, loop_entry, tiles_back}
 
 -- macro steps from cycle to cycle: the tiles of a loop, in the body and on the way back; without loops one
 abbrev pub cycle_steps : Plan → ℕ
