@@ -37,7 +37,8 @@ runs_are_bounded seed size cycles plan ports is =
     let most = most_columns (weight (made_design seed size)) in
     let first : ports.l ≤ 32 * most = subst (λ (l : ℕ). l ≤ 32 * most) (sym is.latency) (omega (arith, is.columns)) in
     let each : ports.p ≤ 32 * (2 * most + 12) = subst (λ (p : ℕ). p ≤ 32 * (2 * most + 12)) (sym is.period) (round (length plan.columns) plan.latches most is.columns is.loops) in
-    rounds ports.l ports.p (cycles - 1) most first each
+    let from_first : ports.l + 32 * (ports.c - 1) + (cycles - 1) * ports.p ≡ ports.l + (cycles - 1) * ports.p = (let one = is.contexts in omega (arith, one)) in
+    subst (λ (n : ℕ). n ≤ most_generations (weight (made_design seed size)) cycles) (sym from_first) (rounds ports.l ports.p (cycles - 1) most first each)
 
 pub few_cycles_are_in_time : FewCyclesAreInTime
 few_cycles_are_in_time seed size cycles generations few cause =

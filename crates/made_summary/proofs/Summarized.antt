@@ -31,17 +31,18 @@ use Rattle.carries.proofs.OneWay.{one_spelling}
 use Rattle.plan_carries.specs.Laws.{DesignsAreCarried}
 use Rattle.plan_ports.specs.Tables.{IsTableOf}
 use Rattle.streams.specs.declared.streams.Streams.{Streams}
-use Rattle.drive.specs.declared.error.SimulateError.{SimulateError}
-use Rattle.drive.specs.declared.error.SimulateError.TheVariants as simulating
 use Rattle.streams.specs.Rows.{rows_of}
-use Rattle.drive.specs.Driving.{AreFor, shown_bits, last_generation, greatest_generation, HasSimulateCause}
+use Rattle.drive.specs.Driving.{AreFor, first_miss, shown_bits, last_generation, greatest_generation}
 use Rattle.netlist_run.specs.Runs.{bits_in_run, ShowsRun}
-use Rattle.shown_runs.specs.ShownRuns.{CarriersShowRuns}
+use Rattle.shown_runs.specs.ShownRuns.{CarriersShowRuns, OneContextIsQuiet}
+use Rattle.shown_runs.proofs.Shown.{shown_alone}
 use Rattle.made_netlists.specs.Text.{made_text, made_state}
 use Rattle.made_netlists.specs.Design.{made_design}
 use Rattle.made_summary.specs.MadeNetlists.{MadeAreNetlists, MadeHaveSizes}
 use Rattle.made_summary.specs.Streams.{streams_after, drawn_streams}
-use Rattle.made_summary.specs.Errors.{summary_error}
+use Rattle.made_summary.specs.Outputs.{HasRunCause, IsQuietUnder}
+use Rattle.made_summary.specs.declared.error.SummaryError.{SummaryError}
+use Rattle.made_summary.specs.declared.error.SummaryError.TheVariants.{NoMemory, TooFar}
 use Rattle.made_summary.specs.Plans.{IsMadeWithPlan}
 use Rattle.made_summary.specs.Laws.{ReadsAsPlan, WrittenPlansRead}
 use Rattle.made_summary.specs.Summaries.{IsMadePlan, Summarizes, HasSummaryCause, output_at, outputs_by_name, output_in_run}
@@ -70,6 +71,7 @@ is_planned law netlists sizes decided read seed size some few netlist planned is
       is_plan = record {
         admissible = admissible;
         carries = (law (pattern_text (start_grid plan) ports) (made_design seed size) flat made.is.design_of.faultless made.clocks of_made carries).carried;
+        contexts = table.contexts;
         period = table.period;
         latency = table.latency;
         lanes = subst (λ (w : ℕ). plan.lanes ≤ 4 * w + 4) weighs slight.lanes;
@@ -88,7 +90,15 @@ many_and_long state cycles n streams are many =
 pub streams_fit : (seed size cycles : ℕ) (netlist : Netlist) (planned : Planned) (streams : Streams) → IsMadeWithPlan seed size netlist planned → streams ≡ drawn_streams seed size cycles → AreFor planned.ports streams
 streams_fit seed size cycles netlist planned streams is are =
     let both = many_and_long (made_state seed size) cycles (length planned.ports.ins) streams are is.ins in
-    record { many = both.0; long = both.1 }
+    let one : planned.ports.c ≡ 1 = is.is_plan.contexts in
+    let whole : planned.ports.c * length planned.ports.ins ≡ length planned.ports.ins = ap (λ (n : ℕ). n * length planned.ports.ins) one ∙ (let e : 1 * length planned.ports.ins ≡ length planned.ports.ins = omega arith in e) in
+    record {
+      same = ap (λ (s : Streams). s.c) are ∙ sym one;
+      contexts = λ none. omega (arith, none, one);
+      room = λ more. absurd (omega (arith, more, one));
+      many = both.0 ∙ sym whole;
+      long = both.1;
+    }
 
 pub streams_feed : (seed size cycles : ℕ) (netlist : Netlist) (planned : Planned) (streams : Streams) → IsMadeWithPlan seed size netlist planned → streams ≡ drawn_streams seed size cycles
     → (length streams.bits ≡ length netlist.flat.ins) × All (λ bits. length bits ≡ streams.cycles) streams.bits
@@ -96,14 +106,23 @@ streams_feed seed size cycles netlist planned streams is are = many_and_long (ma
 
 -- a simulation that is not run
 pub not_run : (seed size cycles : ℕ) (netlist : Netlist) (planned : Planned) (streams : Streams) → IsMadeWithPlan seed size netlist planned → streams ≡ drawn_streams seed size cycles
-    → (e : SimulateError) → HasSimulateCause (last_generation planned.ports streams) e → HasSummaryCause seed size cycles (summary_error e)
-not_run seed size cycles netlist planned streams is are simulating.NoMemory cause = tt
-not_run seed size cycles netlist planned streams is are (simulating.TooFar generations) cause =
-    (planned.plan, planned.ports, is.is_plan, cause.0 ∙ ap (last_generation planned.ports) are, subst (λ (n : ℕ). greatest_generation < n) (sym cause.0) cause.1)
+    → (e : SummaryError) → HasRunCause (last_generation planned.ports streams) e → HasSummaryCause seed size cycles e
+not_run seed size cycles netlist planned streams is are NoMemory cause = tt
+not_run seed size cycles netlist planned streams is are (TooFar generations) cause =
+    (planned.plan, planned.ports, is.is_plan, cause.0 ∙ ap (last_generation planned.ports) are, cause.1)
 
 -- the one reading of the text is that of the plan
 same_reading : (seed size : ℕ) (plan : Plan) (ports : Ports) (is : IsMadePlan seed size plan ports) → ReadsAsPlan plan ports → (is.carries.grid ≡ start_grid plan) × (is.carries.ports ≡ ports)
 same_reading seed size plan ports is reads = one_spelling (pattern_text (start_grid plan) ports) is.carries.grid (start_grid plan) is.carries.ports ports is.carries.spells reads.spells
+
+-- each injection meets a conductor
+pub is_quiet : OneContextIsQuiet → (seed size cycles : ℕ) (netlist : Netlist) (planned : Planned) (streams : Streams) → IsMadeWithPlan seed size netlist planned → streams ≡ drawn_streams seed size cycles → IsQuietUnder planned streams
+is_quiet law seed size cycles netlist planned streams is are =
+    let c = is.is_plan.carries in
+    let same = same_reading seed size planned.plan planned.ports is.is_plan is.reads in
+    let g = last_generation planned.ports streams in
+    ap₂ (λ (p : Ports) (grid : Grid). first_miss p streams (plane_of grid.rows) g) (sym same.1) (sym same.0)
+    ∙ law (pattern_text (start_grid planned.plan) planned.ports) (made_design seed size) c streams (subst (λ (p : Ports). AreFor p streams) (sym same.1) (streams_fit seed size cycles netlist planned streams is are)) g
 
 -- what the pattern shows in each run
 shown_is : CarriersShowRuns → (seed size : ℕ) (plan : Plan) (ports : Ports) (streams : Streams) → IsMadePlan seed size plan ports → ReadsAsPlan plan ports → AreFor ports streams
@@ -113,7 +132,7 @@ shown_is law seed size plan ports streams is reads are run is_run =
     let c = is.carries in
     let same = same_reading seed size plan ports is reads in
     let each = law (pattern_text (start_grid plan) ports) (made_design seed size) c streams (subst (λ (p : Ports). AreFor p streams) (sym same.1) are) in
-    ap₂ (λ (p : Ports) (grid : Grid). shown_bits p streams (plane_of grid.rows)) (sym same.1) (sym same.0) ∙ (each.shown run is_run).all
+    ap₂ (λ (p : Ports) (grid : Grid). shown_bits p streams (plane_of grid.rows)) (sym same.1) (sym same.0) ∙ each.whole run is_run
 
 -- an output, by what its parts are
 pub output_is : (names : List Name) (simulated evaluated : List (List Bool)) (k : ℕ) (name : Name) (shown given : List Bool) (output : OutputBits) → k < length names
@@ -179,7 +198,7 @@ pub shown_many : (seed size : ℕ) (netlist : Netlist) (planned : Planned) (stre
 shown_many seed size netlist planned streams names rows is named shown =
     let same = same_reading seed size planned.plan planned.ports is.is_plan is.reads in
     let outs : names_of planned.ports.outs ≡ main_outputs (made_design seed size) = ap (λ (p : Ports). names_of p.outs) (sym same.1) ∙ is.is_plan.carries.names.outs in
-    ap (λ (bits : List (List Bool)). length bits) shown ∙ length-map planned.ports.outs _ ∙ sym (length-map planned.ports.outs (λ (line : PortLine). line.name))
+    ap (λ (bits : List (List Bool)). length bits) (shown ∙ shown_alone planned.ports streams (plane_of (start_grid planned.plan).rows) is.is_plan.contexts) ∙ length-map planned.ports.outs _ ∙ sym (length-map planned.ports.outs (λ (line : PortLine). line.name))
     ∙ ap (λ (n : List Name). length n) (outs ∙ ap main_outputs (sym is.design) ∙ sym named)
 
 pub evaluated_many : (design : Design) (streams : Streams) (names : List Name) (rows : List (List Bool)) → names ≡ main_outputs design → ShowsRun design streams rows → length rows ≡ length names

@@ -1,5 +1,4 @@
 pub mod Streams
-pub mod Errors
 pub mod Summaries
 pub mod Laws
 pub mod Plans

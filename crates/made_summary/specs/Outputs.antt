@@ -1,5 +1,5 @@
 -- The outputs of a run of a netlist, and what is told of it.
-use Rattle.std.specs.Prelude.{ℕ, ◌≡◌, ◌≤◌, Bool, List, length}
+use Rattle.std.specs.Prelude.{ℕ, ◌≡◌, ◌≤◌, ◌<◌, ⊤, Bool, List, None, length}
 use Rattle.ww_rule.specs.Grid.{plane_of}
 use Rattle.grid_assembly.specs.PlanDrawing.{start_grid}
 use Rattle.netlist_core.specs.declared.model.Design.{Design}
@@ -7,12 +7,11 @@ use Rattle.netlist_meaning.specs.Places.{main_outputs}
 use Rattle.netlist_text.specs.declared.netlist.Netlist.{Netlist}
 use Rattle.netlist_plans.specs.declared.planning.Planned.{Planned}
 use Rattle.streams.specs.declared.streams.Streams.{Streams}
-use Rattle.drive.specs.declared.error.SimulateError.{SimulateError}
-use Rattle.drive.specs.Driving.{HasSimulateCause, greatest_generation, last_generation, shown_bits}
+use Rattle.drive.specs.Driving.{first_miss, greatest_generation, last_generation, shown_bits}
 use Rattle.netlist_run.specs.Runs.{ShowsRun}
-use Rattle.made_summary.specs.Errors.{summary_error}
 use Rattle.made_summary.specs.Summaries.{outputs_by_name}
 use Rattle.made_summary.specs.declared.error.SummaryError.{SummaryError}
+use Rattle.made_summary.specs.declared.error.SummaryError.TheVariants.{NoMemory, TooFar}
 use Rattle.made_summary.specs.declared.summarizing.OutputBits.{OutputBits}
 use Rattle.made_summary.specs.declared.summarizing.Summary.{Summary}
 
@@ -32,6 +31,11 @@ pub record IsToldOf (netlist : Netlist) (planned : Planned) (streams : Streams) 
   pub near : last_generation planned.ports streams ≤ greatest_generation
   pub outputs : AreOutputsIn netlist.design streams (shown_bits planned.ports streams (plane_of (start_grid planned.plan).rows)) summary.outputs
 
--- the error is that of a simulation up to this generation
+-- the plan's pattern is quiet where the streams drive it, up to the last bits that are shown
+abbrev pub IsQuietUnder : Planned → Streams → Type 0
+IsQuietUnder planned streams = first_miss planned.ports streams (plane_of (start_grid planned.plan).rows) (last_generation planned.ports streams) ≡ None
+
+-- why a run up to this generation is not told
 abbrev pub HasRunCause : ℕ → SummaryError → Type 0
-HasRunCause last e = (cause : SimulateError) × (e ≡ summary_error cause) × HasSimulateCause last cause
+HasRunCause last NoMemory = ⊤
+HasRunCause last (TooFar generations) = (generations ≡ last) × (greatest_generation < generations)

@@ -21,11 +21,12 @@ use Rattle.made_summary.specs.declared.summarizing.Summary.{Summary}
 use Rattle.made_summary.specs.declared.error.SummaryError.{SummaryError}
 use Rattle.made_summary.specs.declared.error.SummaryError.TheVariants.{NoMemory, TooFar}
 
--- The plan is admissible, and the written text of it and its table carries the made design. It is small, by the design's weight, with a
+-- The plan is admissible, and the written text of it and its table, of one context, carries the made design. It is small, by the design's weight, with a
 -- loop for each of the two latches and at most one more.
 pub record IsMadePlan (seed size : ℕ) (plan : Plan) (ports : Ports) : Type 0 where
   pub admissible : IsAdmissible plan
   pub carries : Carries (pattern_text (start_grid plan) ports) (made_design seed size)
+  pub contexts : ports.c ≡ 1
   pub period : ports.p ≡ period_of plan
   pub latency : ports.l ≡ latency_of plan
   pub lanes : plan.lanes ≤ 4 * weight (made_design seed size) + 4

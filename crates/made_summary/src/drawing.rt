@@ -22,7 +22,7 @@ fn draw_stream(alloc: Global, state: &mut u32, cycles: usize) -> Result<Vec<bool
     Ok(stream)
 }
 
-/// Draws the streams of the four inputs of a made netlist, one after another.
+/// Draws the streams of the four inputs of a made netlist in one context, one after another.
 pub fn draw_streams(alloc: Global, state: u32, cycles: usize) -> Result<Streams, AllocError>
     requires { state < 2 ^ 31 }
     ensures { IfOk result (λ streams. streams ≡ streams_after state cycles) }
@@ -34,6 +34,7 @@ pub fn draw_streams(alloc: Global, state: u32, cycles: usize) -> Result<Streams,
     }
     Ok(Streams {
         cycles,
+        c: 1,
         bits: List::of(bits),
     })
 }

@@ -2,7 +2,6 @@
 ghost use Rattle.std.specs.Prelude.{◌≡◌};
 ghost use Rattle.made_summary.specs.declared.error.SummaryError.TheVariants.{NoMemory};
 
-use drive::SimulateError;
 use made_netlists::MakeError;
 use netlist_plans::NetlistPlanError;
 use netlist_run::RunError;
@@ -61,19 +60,6 @@ impl From<RunError> for SummaryError {
     fn from(error: RunError) -> Self {
         match error {
             RunError::NoMemory => SummaryError::NoMemory,
-        }
-    }
-}
-
-impl From<SimulateError> for SummaryError {
-    ghost use Rattle.made_summary.specs.Errors.{summary_error};
-
-    ghost from_gives = { λ e r. r ≡ summary_error e };
-
-    fn from(error: SimulateError) -> Self {
-        match error {
-            SimulateError::TooFar { generations } => SummaryError::TooFar { generations },
-            SimulateError::NoMemory => SummaryError::NoMemory,
         }
     }
 }

@@ -6,8 +6,8 @@ ghost use Rattle.grid_assembly.specs.PlanDrawing.{start_grid};
 ghost use Rattle.pattern_reading.specs.Ports.{cells_of};
 ghost use Rattle.netlist_meaning.specs.Places.{main_outputs};
 ghost use Rattle.netlist_text.specs.Parts.{AreParts};
-ghost use Rattle.drive.specs.Driving.{AreFor, HasSimulateCause, greatest_generation, last_generation, shown_bits};
-ghost use Rattle.made_summary.specs.Outputs.{AreOutputsIn, HasRunCause, IsToldOf};
+ghost use Rattle.drive.specs.Driving.{AreFor, greatest_generation, last_generation, shown_bits};
+ghost use Rattle.made_summary.specs.Outputs.{AreOutputsIn, HasRunCause, IsQuietUnder, IsToldOf};
 ghost use Rattle.made_summary.specs.Summaries.{HasSummaryCause, Summarizes, outputs_by_name};
 ghost use Rattle.made_summary.specs.declared.error.SummaryError.TheVariants.{NoMemory};
 
@@ -21,7 +21,7 @@ use netlist_core::Name;
 use netlist_plans::Planned;
 use netlist_run::run;
 use netlist_text::Netlist;
-use shown_runs::carriers_show_runs;
+use shown_runs::{carriers_are_quiet, carriers_show_runs};
 use std::alloc::{AllocError, Global};
 
 /// An output's bits, cycle after cycle: those that the pattern shows at the output's cell, and those that the netlist gives.
@@ -110,18 +110,24 @@ fn shown_by(
     alloc: Global,
     planned: &Planned,
     streams: &Streams,
-) -> Result<List<List<bool>>, SimulateError>
+) -> Result<List<List<bool>>, SummaryError>
     requires admissible { IsAdmissible planned.now.plan }
     requires cycles { 0 < streams.now.cycles }
     requires streams { AreFor planned.now.ports streams.now }
     requires in_box { AreInBox (start_grid planned.now.plan).width (start_grid planned.now.plan).height (cells_of planned.now.ports.ins) }
+    requires quiet { IsQuietUnder planned.now streams.now }
     ensures near { OnOk result (last_generation planned.now.ports streams.now ≤ greatest_generation) }
     ensures bits { IfOk result (λ bits. bits ≡ shown_bits planned.now.ports streams.now (plane_of (start_grid planned.now.plan).rows)) }
-    ensures refused { IfErr result (HasSimulateCause (last_generation planned.now.ports streams.now)) }
+    ensures refused { IfErr result (HasRunCause (last_generation planned.now.ports streams.now)) }
 {
-    match pattern_of(alloc, &planned.plan) {
-        Ok(pattern) => simulate(alloc, pattern, &planned.ports, streams),
-        Err(_) => Err(SimulateError::NoMemory),
+    let Ok(pattern) = pattern_of(alloc, &planned.plan) else {
+        return Err(SummaryError::NoMemory);
+    };
+    match simulate(alloc, pattern, &planned.ports, streams) {
+        Ok(bits) => Ok(bits),
+        Err(SimulateError::NoMemory) => Err(SummaryError::NoMemory),
+        Err(SimulateError::TooFar { generations }) => Err(SummaryError::TooFar { generations }),
+        Err(SimulateError::NotQuiet { .. }) => unreachable!(),
     }
 }
 
@@ -159,7 +165,8 @@ fn told_by(
     requires parts { AreParts netlist.design netlist.flat netlist.order.nodes }
     requires many { length streams.now.bits ≡ length netlist.flat.ins }
     requires long { All (λ bits. length bits ≡ streams.now.cycles) streams.now.bits }
-    requires outputs { length planned.now.ports.outs ≡ length (main_outputs netlist.design) }
+    requires quiet { IsQuietUnder planned.now streams.now }
+    requires outputs { length (shown_bits planned.now.ports streams.now (plane_of (start_grid planned.now.plan).rows)) ≡ length (main_outputs netlist.design) }
     ensures told { IfOk result (IsToldOf netlist planned.now streams.now) }
     ensures refused { IfErr result (HasRunCause (last_generation planned.now.ports streams.now)) }
 {
@@ -185,6 +192,7 @@ pub fn summarize(
     ensures refused { IfErr result (HasSummaryCause seed size cycles) }
 {
     carriers_show_runs();
+    carriers_are_quiet();
     let made = plan_made(alloc, seed, size)?;
     let streams = draw_streams(alloc, made.state, cycles)?;
     told_by(alloc, made.netlist, &made.planned, &streams)

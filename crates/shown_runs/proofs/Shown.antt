@@ -3,6 +3,8 @@ use Rattle.std.proofs.Common.{ℕ, ◌≡◌, refl, sym, ap, ◌∙◌, subst, �
 use Rattle.std.specs.List.{range_with_len}
 use Rattle.std.proofs.lemmas.List.{append-nil}
 use Rattle.ww_rule.specs.Grid.{plane_of}
+use Rattle.ww_rule.specs.Wireworld.{Plane}
+use Rattle.pattern_reading.specs.declared.ports.Ports.{Ports}
 use Rattle.netlist_core.specs.declared.model.Design.{Design}
 use Rattle.netlist_meaning.specs.Places.{main_outputs}
 use Rattle.netlist_meaning.specs.Valuation.{Valuation, IsRun, start_state}
@@ -21,6 +23,11 @@ use Rattle.shown_runs.proofs.ShownContexts.{carriers_show_contexts, shows_the_ru
 abbrev pub as_context : {text : List ℕ} {design : Design} → Carries text design → CarriesContexts text design (start_state design ∷ [])
 as_context {text} {design} c = record { grid = c.grid; ports = c.ports; spells = c.spells; contexts = c.contexts; names = c.names; shows = to_contexts (plane_of c.grid.rows) c.ports design c.shows }
 
+-- where there is one context, its bits are all
+pub shown_alone : (ports : Ports) (streams : Streams) (plane : Plane) → ports.c ≡ 1 → shown_bits ports streams plane ≡ map (shown_at ports streams plane 0) ports.outs
+shown_alone ports streams plane one =
+    ap (λ n. flat_map (λ context. map (shown_at ports streams plane context) ports.outs) (range_with_len 0 n)) one ∙ append-nil (map (shown_at ports streams plane 0) ports.outs)
+
 module _ (text : List ℕ) (design : Design) (c : Carries text design) (streams : Streams) (are : AreFor c.ports streams) where
   -- its rows are all rows
   pub all_rows : rows_of (in_context streams 0) ≡ rows_of streams
@@ -34,9 +41,7 @@ module _ (text : List ℕ) (design : Design) (c : Carries text design) (streams 
 
   whole_run : (run : ℕ → Valuation) → IsRun design (rows_of streams) run → shown_bits c.ports streams (plane_of c.grid.rows) ≡ map (bits_in_run run streams.cycles) (main_outputs design)
   whole_run run is =
-      ap (λ n. flat_map (λ context. map (shown_at c.ports streams (plane_of c.grid.rows) context) c.ports.outs) (range_with_len 0 n)) c.contexts
-      ∙ append-nil (map (shown_at c.ports streams (plane_of c.grid.rows) 0) c.ports.outs)
-      ∙ (shown_in_run run is).all
+      shown_alone c.ports streams (plane_of c.grid.rows) c.contexts ∙ (shown_in_run run is).all
 
 pub carriers_show_runs : CarriersShowRuns
 carriers_show_runs text design c streams are =

@@ -24,4 +24,4 @@ pub returns : goal.returns
 returns c =
     let e : c.loop-input.input ≡ 4 = omega (arith, c.loop-input.auto.input-end, c.loop-input-test.false) in
     let bits = c.of-2.ensures ∙ c.loop-input.invariant.bits ∙ ap (λ (n : ℕ). map (λ i. stream_after c.args.state (i * c.args.cycles) c.args.cycles) (range_with_len 0 n)) e in
-    ap (λ (b : List (List Bool)). record { cycles = c.args.cycles; bits = b }) bits
+    ap (λ (b : List (List Bool)). record { cycles = c.args.cycles; c = 1; bits = b }) bits

@@ -12,7 +12,3 @@ pub simulate-requires-clause-in_box : goal.simulate-requires-clause-in_box
 simulate-requires-clause-in_box c =
     subst (λ (grid : Grid). AreInBox grid.width grid.height (cells_of c.args.planned.now.ports.ins)) (sym c.in-Ok.ensures) c.requires.in_box
 
-pub returns-in-Ok-clause-bits : goal.returns-in-Ok-clause-bits
-returns-in-Ok-clause-bits c =
-    IfOk-weaker c.simulate.result _ _
-    (λ m h. h ∙ ap (λ (grid : Grid). shown_bits c.args.planned.now.ports c.args.streams.now (plane_of grid.rows)) c.in-Ok.ensures) c.simulate.ensures.bits

@@ -8,7 +8,7 @@ use Rattle.streams.specs.declared.streams.Streams.{Streams}
 use Rattle.drive.specs.Driving.{shown_bits}
 use Rattle.made_summary.specs.Streams.{streams_after}
 use Rattle.made_summary.specs.Summaries.{HasSummaryCause}
-use Rattle.made_summary.proofs.Summarized.{streams_fit, streams_feed, not_run, shown_many, summarizes}
+use Rattle.made_summary.proofs.Summarized.{streams_fit, streams_feed, is_quiet, not_run, shown_many, summarizes}
 use Rattle.made_summary.proofs.summarizing.summarize.Goals as goal
 
 pub plan_made-requires-clause-seed : goal.plan_made-requires-clause-seed
@@ -50,12 +50,16 @@ told_by-requires-clause-long c =
     let are = c.in_ok-streams.ensures ∙ ap (λ (s : ℕ). streams_after s c.args.cycles) c.in_ok-made.ensures.state in
     (streams_feed c.args.seed c.args.size c.args.cycles c.in_ok-made.made.netlist c.in_ok-made.made.planned c.in_ok-streams.streams c.in_ok-made.ensures.plan are).1
 
+pub told_by-requires-clause-quiet : goal.told_by-requires-clause-quiet
+told_by-requires-clause-quiet c =
+    let are = c.in_ok-streams.ensures ∙ ap (λ (s : ℕ). streams_after s c.args.cycles) c.in_ok-made.ensures.state in
+    is_quiet c.carriers_are_quiet.ensures.one c.args.seed c.args.size c.args.cycles c.in_ok-made.made.netlist c.in_ok-made.made.planned c.in_ok-streams.streams c.in_ok-made.ensures.plan are
+
 pub told_by-requires-clause-outputs : goal.told_by-requires-clause-outputs
 told_by-requires-clause-outputs c =
     let planned = c.in_ok-made.made.planned in
     let bits = shown_bits planned.ports c.in_ok-streams.streams (plane_of (start_grid planned.plan).rows) in
-    sym (length-map planned.ports.outs _)
-    ∙ shown_many c.args.seed c.args.size c.in_ok-made.made.netlist planned c.in_ok-streams.streams (main_outputs c.in_ok-made.made.netlist.design) bits c.in_ok-made.ensures.plan refl refl
+    shown_many c.args.seed c.args.size c.in_ok-made.made.netlist planned c.in_ok-streams.streams (main_outputs c.in_ok-made.made.netlist.design) bits c.in_ok-made.ensures.plan refl refl
 
 pub returns-clause-summary : goal.returns-clause-summary
 returns-clause-summary c =
@@ -70,8 +74,7 @@ pub returns-clause-refused : goal.returns-clause-refused
 returns-clause-refused c =
     let are = c.in_ok-streams.ensures ∙ ap (λ (s : ℕ). streams_after s c.args.cycles) c.in_ok-made.ensures.state in
     IfErr-weaker c.told_by.result _ _
-    (λ e h. subst (HasSummaryCause c.args.seed c.args.size c.args.cycles) (sym h.1)
-    (not_run c.args.seed c.args.size c.args.cycles c.in_ok-made.made.netlist c.in_ok-made.made.planned c.in_ok-streams.streams c.in_ok-made.ensures.plan are h.0 h.2))
+    (not_run c.args.seed c.args.size c.args.cycles c.in_ok-made.made.netlist c.in_ok-made.made.planned c.in_ok-streams.streams c.in_ok-made.ensures.plan are)
     c.told_by.ensures.refused
 
 pub returns-in_err-made-clause-refused : goal.returns-in_err-made-clause-refused

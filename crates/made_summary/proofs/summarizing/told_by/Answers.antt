@@ -1,7 +1,5 @@
 use Rattle.std.proofs.Common.{◌∙◌, subst, sym, ap, List, Bool, length}
-use Rattle.std.proofs.lemmas.List.{length-map}
 use Rattle.std.proofs.lemmas.Result.{err_from_is_err_and}
-use Rattle.drive.specs.declared.error.SimulateError.TheVariants as simulating
 use Rattle.made_summary.specs.Outputs.{AreOutputsIn}
 use Rattle.made_summary.specs.declared.summarizing.OutputBits.{OutputBits}
 use Rattle.made_summary.proofs.summarizing.told_by.Goals as goal
@@ -18,6 +16,9 @@ shown_by-requires-clause-streams c = c.requires.streams
 pub shown_by-requires-clause-in_box : goal.shown_by-requires-clause-in_box
 shown_by-requires-clause-in_box c = c.requires.in_box
 
+pub shown_by-requires-clause-quiet : goal.shown_by-requires-clause-quiet
+shown_by-requires-clause-quiet c = c.requires.quiet
+
 pub outputs_in-requires-clause-parts : goal.outputs_in-requires-clause-parts
 outputs_in-requires-clause-parts c = c.requires.parts
 
@@ -29,7 +30,7 @@ outputs_in-requires-clause-long c = c.requires.long
 
 pub outputs_in-requires-clause-simulated : goal.outputs_in-requires-clause-simulated
 outputs_in-requires-clause-simulated c =
-    ap (λ (rows : List (List Bool)). length rows) (c.as_slice.ensures ∙ c.in_ok-simulated.ensures.bits) ∙ length-map c.args.planned.now.ports.outs _ ∙ c.requires.outputs
+    ap (λ (rows : List (List Bool)). length rows) (c.as_slice.ensures ∙ c.in_ok-simulated.ensures.bits) ∙ c.requires.outputs
 
 pub returns-clause-told : goal.returns-clause-told
 returns-clause-told c = record {
@@ -49,7 +50,7 @@ returns-in_err-simulated-clause-told c = rw ((err_from_is_err_and c.from_residua
 pub returns-in_err-simulated-clause-refused : goal.returns-in_err-simulated-clause-refused
 returns-in_err-simulated-clause-refused c =
     let p = err_from_is_err_and c.from_residual.result c.from_residual.ensures.1 in
-    rw (p.1) (c.in_err-simulated.field-0.0, p.2, c.in_err-simulated.ensures.refused)
+    rw (p.1, p.2) c.in_err-simulated.ensures.refused
 
 pub returns-in_err-outputs-clause-told : goal.returns-in_err-outputs-clause-told
 returns-in_err-outputs-clause-told c = rw ((err_from_is_err_and c.from_residual-in_err-outputs.result c.from_residual-in_err-outputs.ensures.1).1) tt
@@ -57,4 +58,4 @@ returns-in_err-outputs-clause-told c = rw ((err_from_is_err_and c.from_residual-
 pub returns-in_err-outputs-clause-refused : goal.returns-in_err-outputs-clause-refused
 returns-in_err-outputs-clause-refused c =
     let p = err_from_is_err_and c.from_residual-in_err-outputs.result c.from_residual-in_err-outputs.ensures.1 in
-    rw (p.1) (simulating.NoMemory, p.2 ∙ c.in_err-outputs.ensures.refused, tt)
+    rw (p.1, p.2, c.in_err-outputs.ensures.refused) tt
