@@ -1,5 +1,5 @@
 -- A pattern's run in bands that are all at one generation.
-use Rattle.std.specs.Prelude.{◌≡◌, ◌≤◌, ◌<◌, ◌+◌, ℕ, true, length, drop}
+use Rattle.std.specs.Prelude.{◌≡◌, ◌≤◌, ◌<◌, ◌+◌, ℕ, Bool, true, length, drop}
 use Rattle.std.specs.Option.{option_map}
 use Rattle.std.specs.declared.option.Option.{Option}
 use Rattle.ww_rule.specs.declared.pattern.Injection.{Injection}
@@ -12,7 +12,7 @@ use Rattle.ww_rule.specs.Turns.{turned, injection_turned}
 use Rattle.drive.specs.declared.run.Orientation.{Orientation}
 use Rattle.drive.specs.declared.run.Orientation.TheVariants.{Upright, Turned}
 use Rattle.drive.specs.declared.run.Run.{Run}
-use Rattle.drive.specs.Misses.{first_of_misses}
+use Rattle.drive.specs.Misses.{misses, first_of_misses}
 
 -- all bands have come to a generation
 abbrev pub AreAt : ℕ → BandedPattern → Type 0
@@ -22,9 +22,12 @@ AreAt g pattern = (b : ℕ) → b < length pattern.generations → generation_of
 abbrev pub evolution : BandedPattern → ℕ → Plane
 evolution pattern = driven (due_of_list pattern.injections) (plane_of pattern.grid.rows)
 
--- the first injection up to a generation at a cell that is no conductor before it
-abbrev pub miss_in_bands : BandedPattern → ℕ → Option Injection
-miss_in_bands pattern g = first_of_misses pattern.injections (due_of_list pattern.injections) (plane_of pattern.grid.rows) g
+-- whether the cell of one of the injections is no conductor before it, and the first such up to a generation
+abbrev pub injection_misses : BandedPattern → Injection → Bool
+injection_misses pattern = misses (due_of_list pattern.injections) (plane_of pattern.grid.rows)
+
+abbrev pub first_miss_in : BandedPattern → ℕ → Option Injection
+first_miss_in pattern g = first_of_misses pattern.injections (due_of_list pattern.injections) (plane_of pattern.grid.rows) g
 
 -- the planes of a pattern that lies in its bands in an orientation, and an injection of it
 abbrev pub laid : Orientation → (ℕ → Plane) → ℕ → Plane
@@ -41,7 +44,7 @@ planes_of run = laid run.orientation (evolution run.bands)
 
 -- and the first miss up to each generation
 abbrev pub misses_of : Run → ℕ → Option Injection
-misses_of run = λ g. option_map (injection_laid run.orientation) (miss_in_bands run.bands g)
+misses_of run = λ g. option_map (injection_laid run.orientation) (first_miss_in run.bands g)
 
 -- What holds of each run; its width, its rows and the rows of a band are those of its bands. The injections from its next one on are
 -- those of later generations. One that is still shows at each later generation what it shows now, with no other miss.
@@ -53,9 +56,9 @@ pub record IsBandRun (run : Run) : Type 0 where
   pub rows : run.rows ≡ length run.bands.grid.rows
   pub next : run.next_injection ≤ length run.bands.injections
   pub left : AreLeftAt (run.generation + 1) run.bands.injections (drop run.next_injection run.bands.injections)
-  pub missed : run.missed ≡ miss_in_bands run.bands run.generation
+  pub missed : run.missed ≡ first_miss_in run.bands run.generation
   pub still : run.is_still ≡ true → (g : ℕ) → run.generation ≤ g → evolution run.bands g ≡ evolution run.bands run.generation
-  pub no_more : run.is_still ≡ true → (g : ℕ) → run.generation ≤ g → miss_in_bands run.bands g ≡ miss_in_bands run.bands run.generation
+  pub no_more : run.is_still ≡ true → (g : ℕ) → run.generation ≤ g → first_miss_in run.bands g ≡ first_miss_in run.bands run.generation
 
 -- A run has gone on, to a generation at most.
 pub record HasGoneOn (last : ℕ) (old new : Run) : Type 0 where

@@ -103,12 +103,12 @@ fn columns_of_cells(
     columns_of(alloc, &rows, rows[0].len())
 }
 
-/// The bits that cells show in each context, cycle after cycle, while streams drive a pattern: all cells of context 0 come
-/// first, and bit t of a cell in context c is 1 exactly where the cell is a head at generation `first + 32 c + t p`. A call
-/// asks for at least one cycle, for one stream of as many bits for each context and input, and for inputs inside the
-/// pattern's box; the cells may lie anywhere. `TooFar` comes where the last of these generations is over 4,294,967,296, and
-/// nothing is then run; `NotQuiet` names the first injection up to that generation whose cell is no conductor before the
-/// injections of its own.
+/// The bits that cells show in each context, cycle after cycle, while streams drive a pattern: all cells of context 0
+/// come first, and bit t of a cell in context c is 1 exactly where the cell is a head at generation `first + 32 c + t
+/// p`. A call asks for at least one cycle, for one stream of as many bits for each context and input, and for inputs
+/// inside the pattern's box; the cells may lie anywhere. `TooFar` comes where the last of these generations is over
+/// 4,294,967,296, and nothing is then run; `NotQuiet` names the first injection up to that generation whose cell is no
+/// conductor before the injections of its own.
 pub fn bits_of_cells(
     alloc: Global,
     pattern: Pattern,
@@ -123,7 +123,8 @@ pub fn bits_of_cells(
     ensures near { OnOk result (last_from first ports.now streams.now ≤ greatest_generation) }
     ensures quiet { OnOk result (
         first_miss ports.now streams.now (plane_of pattern.rows) (last_from first ports.now streams.now) ≡ None) }
-    ensures bits { IfOk result (λ bits. bits ≡ bits_of_cells ports.now streams.now (plane_of pattern.rows) first cells.now) }
+    ensures bits { IfOk result (λ bits.
+        bits ≡ bits_of_cells ports.now streams.now (plane_of pattern.rows) first cells.now) }
     ensures refused { IfErr result (
         HasSimulateCause ports.now streams.now (plane_of pattern.rows) (last_from first ports.now streams.now)) }
 {

@@ -22,7 +22,8 @@ fn push_row(
     row: &[bool],
 ) -> Result<(), DriveError>
     requires { length inputs.now ≡ length row.now }
-    ensures { OnOk result (due.new.items ≡ due.old.items ++ injections_of_row generation (cells_of inputs.now) row.now) }
+    ensures { OnOk result (
+        due.new.items ≡ due.old.items ++ injections_of_row generation (cells_of inputs.now) row.now) }
 {
     for (input, bit) in inputs.iter().zip(row) {
         if *bit {
@@ -36,8 +37,8 @@ fn push_row(
     Ok(())
 }
 
-// Puts the injections of a cycle at the end, which begins at a generation: those of one context after the other, each with a
-// row of the bits.
+// Puts the injections of a cycle at the end, which begins at a generation: those of one context after the other, each
+// with a row of the bits.
 fn push_cycle(
     due: &mut Vec<Injection>,
     generation: u128,
@@ -48,7 +49,8 @@ fn push_cycle(
     requires room { generation + 32 * contexts < 2 ^ 128 }
     requires many { length bits.now ≡ contexts * length inputs.now }
     ensures { OnOk result (due.new.items ≡ due.old.items ++ injections_from generation 32 (cells_of inputs.now)
-        (map (λ context. take (length inputs.now) (drop (context * length inputs.now) bits.now)) (range_with_len 0 contexts))) }
+        (map (λ context. take (length inputs.now) (drop (context * length inputs.now) bits.now))
+        (range_with_len 0 contexts))) }
 {
     let long = inputs.len();
     for context in 0..contexts {
@@ -64,10 +66,10 @@ fn push_cycle(
     Ok(())
 }
 
-/// The cells that streams make heads, each with its generation: the cell of an input at generation `32 c + t p` for each
-/// context c and each cycle t in which its bit is 1, where p is the table's period. They are sorted by generation, and at one
-/// generation stand in the order of the inputs. A call asks for one stream of as many bits as there are cycles for each context
-/// and input.
+/// The cells that streams make heads, each with its generation: the cell of an input at generation `32 c + t p` for
+/// each context c and each cycle t in which its bit is 1, where p is the table's period. They are sorted by generation,
+/// and at one generation stand in the order of the inputs. A call asks for one stream of as many bits as there are
+/// cycles for each context and input.
 pub fn injections(
     alloc: Global,
     ports: &Ports,

@@ -2,15 +2,14 @@
 ghost use Rattle.std.specs.Prelude.{◌≡◌, ◌≤◌, ◌<◌, ◌+◌, ◌-ℤ◌, ◌^◌, All, IfOk, drop, length, map, pos};
 ghost use Rattle.std.specs.List.{find};
 ghost use Rattle.ww_rule.specs.Due.{AreInOrderFrom, AreLeftAt};
-ghost use Rattle.ww_rule.specs.Injections.{AreInside, due_of_list};
+ghost use Rattle.ww_rule.specs.Injections.{AreInside};
 ghost use Rattle.ww_rule.specs.Patterns.{grid_of};
 ghost use Rattle.ww_rule.specs.Grid.{AreInBox, plane_of};
 ghost use Rattle.ww_rule.specs.Wireworld.{count_head, heads_around, is_head};
 ghost use Rattle.pattern_reading.specs.Ports.{cells_of};
 ghost use Rattle.drive.specs.Driving.{AreFor, driven_by, first_miss};
-ghost use Rattle.drive.specs.Misses.{misses};
 ghost use Rattle.ww_rule.specs.Turns.{injection_turned};
-ghost use Rattle.drive.specs.Runs.{IsBandRun, evolution, miss_in_bands, misses_of, planes_of};
+ghost use Rattle.drive.specs.Runs.{IsBandRun, evolution, first_miss_in, injection_misses, misses_of, planes_of};
 
 use crate::driving::injections;
 use crate::error::DriveError;
@@ -44,9 +43,9 @@ pub enum Orientation {
     Turned,
 }
 
-/// A driven pattern in bands, in an orientation, how many columns and rows lie there, and the generation of its bands. The
-/// injections from the next one on are of later generations; `missed` is the first of the others at a cell that was no
-/// conductor before it. Where the run is still, no cell changes any more.
+/// A driven pattern in bands, in an orientation, how many columns and rows lie there, and the generation of its bands.
+/// The injections from the next one on are of later generations; `missed` is the first of the others at a cell that was
+/// no conductor before it. Where the run is still, no cell changes any more.
 #[derive(Drop)]
 pub struct Run {
     bands: Bands,
@@ -127,8 +126,8 @@ impl Run {
         })
     }
 
-    /// The run of a pattern that streams drive, at generation 0. A call asks for one stream for each context and input, of any
-    /// number of cycles, and for inputs inside the pattern's box. `NoMemory` is the one error.
+    /// The run of a pattern that streams drive, at generation 0. A call asks for one stream for each context and input,
+    /// of any number of cycles, and for inputs inside the pattern's box. `NoMemory` is the one error.
     pub fn of_streams(
         alloc: Global,
         pattern: Pattern,
@@ -139,8 +138,10 @@ impl Run {
         requires in_box { AreInBox pattern.width pattern.height (cells_of ports.now.ins) }
         ensures run { IfOk result IsBandRun }
         ensures begun { IfOk result (λ run. run.generation ≡ 0) }
-        ensures planes { IfOk result (λ run. planes_of run ≡ driven_by ports.now streams.now (plane_of pattern.rows)) }
-        ensures misses { IfOk result (λ run. misses_of run ≡ first_miss ports.now streams.now (plane_of pattern.rows)) }
+        ensures planes { IfOk result (λ run.
+            planes_of run ≡ driven_by ports.now streams.now (plane_of pattern.rows)) }
+        ensures misses { IfOk result (λ run.
+            misses_of run ≡ first_miss ports.now streams.now (plane_of pattern.rows)) }
     {
         let due = injections(alloc, ports, streams)?;
         if !is_narrow(&pattern) {
@@ -153,7 +154,8 @@ impl Run {
     // 1 where the cell before this column and before this row in the bands, each counted from 1, is a head.
     fn head_before(&self, x: u128, y: u128) -> usize
         requires { IsBandRun self.now }
-        ensures counted { result ≡ count_head (evolution self.now.bands self.now.generation (pos x -ℤ pos 1) (pos y -ℤ pos 1)) }
+        ensures counted { result ≡ count_head (
+            evolution self.now.bands self.now.generation (pos x -ℤ pos 1) (pos y -ℤ pos 1)) }
         ensures few { result ≤ 1 }
     {
         if x == 0 || y == 0 {
@@ -184,7 +186,7 @@ impl Run {
     fn misses(&self, injection: &Injection) -> bool
         requires run { IsBandRun self.now }
         requires next { injection.now.generation ≡ self.now.generation + 1 }
-        ensures { result ≡ misses (due_of_list self.now.bands.injections) (plane_of self.now.bands.grid.rows) injection.now }
+        ensures { result ≡ injection_misses self.now.bands injection.now }
     {
         let x = injection.x as u128;
         let y = injection.y as u128;
@@ -196,7 +198,7 @@ impl Run {
     fn first_missed(&self, due: &[Injection]) -> Option<Injection>
         requires run { IsBandRun self.now }
         requires next { All (λ i. i.generation ≡ self.now.generation + 1) due.now }
-        ensures { result ≡ find (misses (due_of_list self.now.bands.injections) (plane_of self.now.bands.grid.rows)) due.now }
+        ensures { result ≡ find (injection_misses self.now.bands) due.now }
     {
         for injection in due {
             if self.misses(injection) {
@@ -212,7 +214,7 @@ impl Run {
         ensures next { result.0 ≤ length self.now.bands.injections }
         ensures left { AreLeftAt (self.now.generation + 1 + 1) self.now.bands.injections
             (drop result.0 self.now.bands.injections) }
-        ensures missed { result.1 ≡ miss_in_bands self.now.bands (self.now.generation + 1) }
+        ensures missed { result.1 ≡ first_miss_in self.now.bands (self.now.generation + 1) }
     {
         let left = &self.bands.injections()[self.next_injection..];
         let count = due_count(self.generation as u128 + 1, left);

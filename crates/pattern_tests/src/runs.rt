@@ -1,5 +1,5 @@
 // Streams from words, and patterns that streams drive.
-ghost use Rattle.std.specs.Prelude.{◌≡◌, ◌<◌, All, length, IfOk};
+ghost use Rattle.std.specs.Prelude.{◌≡◌, ◌*◌, ◌<◌, All, length, IfOk};
 ghost use Rattle.pattern_reading.specs.Ports.{cells_of};
 ghost use Rattle.ww_rule.specs.Grid.{AreInBox};
 ghost use Rattle.drive.specs.Driving.{AreFor};
@@ -98,20 +98,22 @@ fn fault_shown(alloc: Global, error: StreamError) -> Result<Vec<u8>, AllocError>
     Ok(text)
 }
 
-// The streams that words say for inputs.
+// The streams that words say for inputs of so many contexts.
 fn streams_for(
     alloc: Global,
     inputs: &[PortLine],
     words: &[&str],
     cycles: usize,
+    contexts: u64,
 ) -> Result<Streams, StreamError>
     ensures cycles { IfOk result (λ streams. streams.cycles ≡ cycles) }
-    ensures many { IfOk result (λ streams. length streams.bits ≡ length inputs.now) }
+    ensures contexts { IfOk result (λ streams. streams.c ≡ contexts) }
+    ensures many { IfOk result (λ streams. length streams.bits ≡ contexts * length inputs.now) }
     ensures long { IfOk result (λ streams. All (λ bits. length bits ≡ cycles) streams.bits) }
 {
     let words = strings_of(alloc, words)?;
     let names = names_of(alloc, inputs)?;
-    Streams::read(alloc, &words, &names, cycles)
+    Streams::read(alloc, &words, &names, cycles, contexts)
 }
 
 // What the outputs of a pattern show, or why it is not run.
@@ -130,6 +132,9 @@ fn run(
         Err(SimulateError::TooFar { generations }) => {
             Ok(format!(in alloc; "TooFar {generations}")?.into_bytes())
         }
+        Err(SimulateError::NotQuiet { generation, x, y }) => {
+            Ok(format!(in alloc; "NotQuiet {generation} {x} {y}")?.into_bytes())
+        }
         Err(SimulateError::NoMemory) => Err(AllocError),
     }
 }
@@ -140,7 +145,7 @@ fn said(alloc: Global, text: &[u8], words: &[&str], cycles: usize) -> Result<Vec
 {
     let pattern = rle_read::read(alloc, text)?;
     let ports = port_table::read(alloc, text, pattern.width, pattern.height)?;
-    let said = match streams_for(alloc, ports.ins.as_slice(), words, cycles) {
+    let said = match streams_for(alloc, ports.ins.as_slice(), words, cycles, ports.c) {
         Ok(streams) => run(alloc, pattern, &ports, &streams),
         Err(error) => fault_shown(alloc, error),
     };
@@ -166,6 +171,9 @@ fn said_of(
 // A table with two inputs on the wire.
 const TWO_INPUTS: &[u8] =
     b"#C BLIFWW 1 P 4 L 2\n#C BLIFWW IN 0 0 a\n#C BLIFWW IN 1 0 b\n#C BLIFWW OUT 2 0 y\n";
+
+// A table of two contexts.
+const TWO_CONTEXTS: &[u8] = b"#C BLIFWW 1 P 64 L 2 C 2\n#C BLIFWW IN 0 0 a\n";
 
 // Tables, patterns, words, cycles, and what is said.
 const RUNS: &[(&[u8], &[u8], &[&str], usize, &[u8])] = &[
@@ -196,7 +204,7 @@ const RUNS: &[(&[u8], &[u8], &[&str], usize, &[u8])] = &[
         WIRE,
         &["a=11"],
         2,
-        b"10,",
+        b"NotQuiet 1 0 0",
     ),
     (
         b"#C BLIFWW 1 P 4 L 2\n#C BLIFWW IN 0 0 a\n#C BLIFWW OUT 0 2 y\n",
@@ -220,11 +228,49 @@ const RUNS: &[(&[u8], &[u8], &[&str], usize, &[u8])] = &[
         b"10,",
     ),
     (
-        b"#C BLIFWW 1 P 1 L 2\n#C BLIFWW IN 0 0 a\n#C BLIFWW OUT 0 2 y\n",
+        b"#C BLIFWW 1 P 1 L 1\n#C BLIFWW IN 0 1 a\n#C BLIFWW OUT 0 2 y\n",
         WIRE_DOWN,
         &["a=11"],
         2,
-        b"10,",
+        b"NotQuiet 1 0 1",
+    ),
+    // an empty cell, a cell that another input lights, and no output
+    (
+        b"#C BLIFWW 1 P 32 L 32\n#C BLIFWW IN 9 8 a\n#C BLIFWW OUT 32 8 y\n",
+        OR_GATE,
+        &["a=01"],
+        2,
+        b"NotQuiet 32 9 8",
+    ),
+    (TWO_INPUTS, WIRE, &["a=10", "b=10"], 2, b"00,"),
+    (
+        b"#C BLIFWW 1 P 1 L 0\n#C BLIFWW IN 0 0 a\n",
+        WIRE,
+        &["a=11"],
+        2,
+        b"NotQuiet 1 0 0",
+    ),
+    // two contexts on one wire, on a gate, and with an empty cell
+    (
+        b"#C BLIFWW 1 P 64 L 2 C 2\n#C BLIFWW IN 0 0 a\n#C BLIFWW OUT 2 0 y\n#C BLIFWW OUT 0 0 z\n",
+        WIRE,
+        &["1:a=01", "0:a=10"],
+        2,
+        b"10,00,01,00,",
+    ),
+    (
+        b"#C BLIFWW 1 P 64 L 32 C 2\n#C BLIFWW IN 0 8 a\n#C BLIFWW IN 0 24 b\n#C BLIFWW OUT 32 8 y\n",
+        OR_GATE,
+        &["0:a=100", "0:b=010", "1:a=001", "1:b=001"],
+        3,
+        b"110,001,",
+    ),
+    (
+        b"#C BLIFWW 1 P 64 L 32 C 2\n#C BLIFWW IN 0 8 a\n#C BLIFWW IN 9 8 b\n#C BLIFWW OUT 32 8 y\n",
+        OR_GATE,
+        &["0:a=11", "0:b=01", "1:a=11", "1:b=11"],
+        2,
+        b"NotQuiet 32 9 8",
     ),
     // the second bit is dark, or nothing is seen
     (
@@ -237,7 +283,7 @@ const RUNS: &[(&[u8], &[u8], &[&str], usize, &[u8])] = &[
     (
         b"#C BLIFWW 1 P 4294967294 L 2\n#C BLIFWW IN 0 0 a\n",
         WIRE,
-        &["a=11"],
+        &["a=10"],
         2,
         b"",
     ),
@@ -267,6 +313,13 @@ const RUNS: &[(&[u8], &[u8], &[&str], usize, &[u8])] = &[
         2,
         b"TooFar 4294967298",
     ),
+    (
+        b"#C BLIFWW 1 P 4294967264 L 1 C 2\n#C BLIFWW IN 0 0 a\n#C BLIFWW OUT 2 0 y\n",
+        WIRE,
+        &["0:a=10", "1:a=00"],
+        2,
+        b"TooFar 4294967297",
+    ),
     // a name with an equals sign
     (
         b"#C BLIFWW 1 P 4 L 2\n#C BLIFWW IN 0 0 a=b\n#C BLIFWW OUT 2 0 y\n",
@@ -291,6 +344,8 @@ const RUNS: &[(&[u8], &[u8], &[&str], usize, &[u8])] = &[
     (TWO_INPUTS, WIRE, &["a=01", "a=2"], 2, b"TwiceInput a=2"),
     (TWO_INPUTS, WIRE, &["a=0", "a=01"], 2, b"BadLength a=0"),
     (TWO_INPUTS, WIRE, &[], 2, b"MissingInput a"),
+    (TWO_CONTEXTS, WIRE, &["a=01"], 2, b"BadContext a=01"),
+    (TWO_CONTEXTS, WIRE, &["0:a=01"], 2, b"MissingInput 1:a"),
 ];
 
 #[test]

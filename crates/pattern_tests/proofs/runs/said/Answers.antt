@@ -3,7 +3,14 @@ use Rattle.std.proofs.lemmas.List.Elements.{All-from_recursion, All-map}
 use Rattle.pattern_reading.specs.declared.ports.PortLine.{PortLine}
 use Rattle.pattern_reading.specs.Laws.{IsPortInside}
 use Rattle.pattern_reading.proofs.PortsInside.{ports_inside}
+use Rattle.pattern_laws.proofs.SoundTable.{sound_table}
 use Rattle.pattern_tests.proofs.runs.said.Goals as goal
+
+pub run-said-requires-clause-streams : goal.run-said-requires-clause-streams
+run-said-requires-clause-streams c =
+    let ports = c.in_ok-ports.ports in
+    let sound = sound_table c.args.text.now c.in_ok-pattern.pattern.width c.in_ok-pattern.pattern.height ports c.in_ok-ports.ensures.table in
+    ?
 
 pub run-said-requires-clause-in_box : goal.run-said-requires-clause-in_box
 run-said-requires-clause-in_box c =
