@@ -14,12 +14,10 @@ use Rattle.pattern_reading.specs.Ports.{names_of}
 use Rattle.lists.proofs.Members.{In, got_from}
 use Rattle.carries.proofs.OneWay.{one_spelling}
 use Rattle.streams.specs.Streams.{HasStreams}
-use Rattle.streams.specs.Rows.{rows_of}
 use Rattle.drive.specs.Driving.{AreFor}
 use Rattle.probe_view.specs.Probes.{has_name_and_path, net_named, probed_bits}
 use Rattle.pattern_laws.proofs.SoundTable.{sound_table}
-use Rattle.shown_runs.specs.ShownRuns.{CarriersShowNets, StreamsAreFor, net_bits_in_run}
-use Rattle.shown_runs.proofs.Shown.{input_rows}
+use Rattle.shown_runs.specs.ShownRuns.{CarriersShowNets, CarriersShowRuns, StreamsAreFor, net_bits_in_run}
 use Rattle.blifww_tool.specs.Lines.{bits_line}
 use Rattle.blifww_tool.specs.Probing.{net_text}
 use Rattle.blifww_tool.specs.Simulation.{Simulation, IsSimulation}
@@ -45,8 +43,8 @@ are_for law cycles words text s is =
 one_line : (contexts : ℕ) (name : List ℕ) (bits : List Bool) → contexts ≡ 1 → net_text contexts name (bits ∷ []) ≡ bits_line name bits
 one_line contexts name bits one = ap (λ (n : ℕ). net_text n name (bits ∷ [])) one ∙ append-nil (bits_line name bits)
 
-pub carriers_print_nets : CarriersShowNets → StreamsAreFor → CarriersPrintNets
-carriers_print_nets law streams_for text design c cycles name path words output printed =
+pub carriers_print_nets : CarriersShowNets → CarriersShowRuns → StreamsAreFor → CarriersPrintNets
+carriers_print_nets law runs streams_for text design c cycles name path words output printed =
     let probes = printed.probes in
     let s = probes.simulation in
     let ports : Ports = c.carried.ports in
@@ -62,12 +60,12 @@ carriers_print_nets law streams_for text design c cycles name path words output 
     let same = and_parts (bytes_eq line.name name) (bytes_eq line.path path) passing.1 in
     let at = got_from ports.nets line passing.0 in
     let (net, of_net, shown) = law text design c at.0 line at.1 in
-    let (run, is_run) = c.carried.shows.runs (rows_of s.streams) (input_rows design ports s.streams c.carried.names are) in
+    let ran = runs text design c.carried s.streams are in
     record {
       fed = s.streams;
       feeds = record { in_names = names_of ports.ins; names = c.carried.names.ins; many = probes.is.many; contexts = probes.is.contexts ∙ one; streams = fed };
-      run = run;
-      is_run = is_run;
+      run = ran.run;
+      is_run = ran.is_run;
       net = net;
       is_net = of_net.is_net;
       no_clock = of_net.no_clock;

@@ -26,6 +26,7 @@ pub fn carriers_print_nets()
     ensures { CarriersPrintNets }
 {
     carriers_show_nets();
+    carriers_show_runs();
     streams_match();
 }
 
