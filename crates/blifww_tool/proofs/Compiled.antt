@@ -238,7 +238,7 @@ compiles_alone carry carry_nets none text design plan ports has h room =
 -- where this is what is asked for
 pub alone : {X : Type 0} (f : X → List ℕ) (contexts : ℕ) (words : List X) → (contexts == 1 && length words == 0) ≡ true → (contexts ≡ 1) × (map f words ≡ [])
 alone f contexts [] e = (eqb-true contexts 1 (and_parts (contexts == 1) true e).0, refl)
-alone f contexts (w ∷ ws) e = absurd (true≢false (sym (and_parts (contexts == 1) false e).1))
+alone f contexts (w ∷ ws) e = let none : length (w ∷ ws) ≡ 0 = eqb-true (length (w ∷ ws)) 0 (and_parts (contexts == 1) (length (w ∷ ws) == 0) e).1 in absurd (omega (arith, none))
 
 pub not_alone : {X : Type 0} (f : X → List ℕ) (contexts : ℕ) (words : List X) → (contexts == 1 && length words == 0) ≡ false → contexts ≡ 1 → map f words ≡ [] → ⊥
 not_alone f contexts [] e one empty = true≢false (sym (ap (λ (n : ℕ). n == 1 && true) one) ∙ e)
