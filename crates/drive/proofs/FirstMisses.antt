@@ -5,6 +5,7 @@ use Rattle.std.specs.List.{find}
 use Rattle.std.specs.Option.{option_or}
 use Rattle.std.proofs.lemmas.Bool.{eqb-true, eqb-false}
 use Rattle.std.proofs.lemmas.Bool.Decides.{nat_tests}
+use Rattle.std.proofs.lemmas.Option.{none-some, same_Some}
 use Rattle.std.proofs.lemmas.List.{append-nil, drop_all, drop_more}
 use Rattle.std.proofs.lemmas.List.Elements.{All-nil, All-cons, All-head, All-tail, filter-append}
 use Rattle.std.proofs.lemmas.List.Folds.{find-append}
@@ -115,3 +116,36 @@ module _ {X : Type 0} (p : X → Bool) (xs : List X) (n : ℕ) (d : X) where
 -- an injection of generation 0 misses by the pattern as it stands
 pub misses_at_zero : (due : Due) (plane : Plane) (i : Injection) → i.generation ≡ 0 → misses due plane i ≡ not (is_conductor (plane (pos i.x) (pos i.y)))
 misses_at_zero due plane i e = ap (λ g. not (is_conductor (before_injections due plane g (pos i.x) (pos i.y)))) e
+
+-- the first of those up to a generation, in lists in order
+module _ (p : Injection → Bool) (g : ℕ) (i : Injection) where
+  -- it is the first up to each later generation
+  pub first_found : (h from : ℕ) (is : List Injection) → AreInOrderFrom from is → g ≤ h → find p (filter (up_to g) is) ≡ Some i → find p (filter (up_to h) is) ≡ Some i
+  first_found h from [] order le e = absurd (none-some i e)
+  first_found h from (j ∷ js) order le e = go (nat_le j.generation g) refl (first_found h j.generation js order.1 le) e
+    where
+      at : (t : Bool) → (find p (filter (up_to g) js) ≡ Some i → find p (filter (up_to h) js) ≡ Some i) → cond t (Some j) (find p (filter (up_to g) js)) ≡ Some i → cond t (Some j) (find p (filter (up_to h) js)) ≡ Some i
+      at true later e = e
+      at false later e = later e
+
+      go : (t : Bool) → nat_le j.generation g ≡ t → (find p (filter (up_to g) js) ≡ Some i → find p (filter (up_to h) js) ≡ Some i)
+          → find p (cond t (j ∷ filter (up_to g) js) (filter (up_to g) js)) ≡ Some i → find p (filter (up_to h) (j ∷ js)) ≡ Some i
+      go true early later e =
+          let here : nat_le j.generation h ≡ true = grind (arith, nat_tests, early, le) in
+          ap (λ (t : Bool). find p (cond t (j ∷ filter (up_to h) js) (filter (up_to h) js))) here ∙ at (p j) later e
+      go false late later e =
+          let after : g < j.generation = grind (arith, nat_tests, late) in
+          absurd (none-some i (sym (ap (find p) (none_up_to g j.generation js after order.1)) ∙ e))
+
+  -- and not after that generation
+  pub found_early : (is : List Injection) → find p (filter (up_to g) is) ≡ Some i → i.generation ≤ g
+  found_early [] e = absurd (none-some i e)
+  found_early (j ∷ js) e = go (nat_le j.generation g) refl (found_early js) e
+    where
+      at : (t : Bool) → j.generation ≤ g → (find p (filter (up_to g) js) ≡ Some i → i.generation ≤ g) → cond t (Some j) (find p (filter (up_to g) js)) ≡ Some i → i.generation ≤ g
+      at true early later e = subst (λ (i : Injection). i.generation ≤ g) (same_Some j i e) early
+      at false early later e = later e
+
+      go : (t : Bool) → nat_le j.generation g ≡ t → (find p (filter (up_to g) js) ≡ Some i → i.generation ≤ g) → find p (cond t (j ∷ filter (up_to g) js) (filter (up_to g) js)) ≡ Some i → i.generation ≤ g
+      go true early later e = at (p j) (grind (arith, nat_tests, early)) later e
+      go false late later e = later e

@@ -9,4 +9,5 @@ pub mod Sweeps
 pub mod Still
 pub mod Turned
 pub mod FirstMisses
+pub mod LaterMisses
 pub mod TurnedMisses

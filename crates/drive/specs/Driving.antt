@@ -16,8 +16,8 @@ use Rattle.drive.specs.declared.error.SimulateError.TheVariants.{NoMemory, TooFa
 use Rattle.drive.specs.Misses.{first_of_misses}
 use Rattle.drive.specs.Shown.{column_of_cell, columns_of_cells}
 
--- one stream for each context of the table and each of its inputs, each with a bit for each cycle; there is a context, and where there
--- are more, each has 32 generations of the period
+-- for each context and each input of the table one stream, with a bit for each cycle; there is a context, and where there are more, each
+-- has 32 generations of the period
 pub record AreFor (ports : Ports) (streams : Streams) : Type 0 where
   pub same : streams.c ≡ ports.c
   pub contexts : ports.c ≢ 0
@@ -29,7 +29,7 @@ pub record AreFor (ports : Ports) (streams : Streams) : Type 0 where
 abbrev pub cycle_rows : Streams → ℕ → List (List Bool)
 cycle_rows streams cycle = map (λ rows. get_or rows cycle []) (contexts_of streams)
 
--- one injection at generation 32 c + t P, at the cell of input i, for each context c, cycle t and input i whose bit is 1: cycle after
+-- one injection at generation 32 k + t P, at the cell of input i, for each context k, cycle t and input i whose bit is 1: cycle after
 -- cycle, in a cycle context after context, and in a context in the order of the inputs
 abbrev pub injections_of : Ports → Streams → List Injection
 injections_of ports streams =
@@ -47,7 +47,7 @@ driven_by ports streams plane = driven (due_by ports streams) plane
 abbrev pub first_miss : Ports → Streams → Plane → ℕ → Option Injection
 first_miss ports streams plane g = first_of_misses (injections_of ports streams) (due_by ports streams) plane g
 
--- the bits that a cell shows in a context, cycle after cycle: 1 where it is a head at generation first + 32 c + t P
+-- the bits that a cell shows in a context, cycle after cycle: 1 where it is a head at generation first + 32 k + t P, k being the context
 abbrev pub bits_of_cell : Ports → Streams → Plane → (first context : ℕ) → ℕ × ℕ → List Bool
 bits_of_cell ports streams plane first context cell = column_of_cell (driven_by ports streams plane) ports.p streams.cycles first context cell
 
@@ -75,9 +75,15 @@ last_from first ports streams = first + 32 * (ports.c - 1) + (streams.cycles - 1
 abbrev pub last_generation : Ports → Streams → ℕ
 last_generation ports streams = last_from ports.l ports streams
 
+-- why a run does not go on, where this is its first miss
+abbrev pub HasRunCause : Option Injection → SimulateError → Type 0
+HasRunCause miss NoMemory = ⊤
+HasRunCause miss (TooFar generations) = ⊥
+HasRunCause miss (NotQuiet generation x y) = miss ≡ Some (record { generation = generation; x = x; y = y })
+
 -- why a run that needs so many generations gives no bits
 abbrev pub HasSimulateCause : Ports → Streams → Plane → (needed : ℕ) → SimulateError → Type 0
 HasSimulateCause ports streams plane needed NoMemory = ⊤
 HasSimulateCause ports streams plane needed (TooFar generations) = (generations ≡ needed) × (greatest_generation < needed)
 HasSimulateCause ports streams plane needed (NotQuiet generation x y) =
-    (needed ≤ greatest_generation) × (first_miss ports streams plane needed ≡ Some (record { generation = generation; x = x; y = y }))
+    (needed ≤ greatest_generation) × HasRunCause (first_miss ports streams plane needed) (NotQuiet generation x y)

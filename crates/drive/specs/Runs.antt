@@ -43,8 +43,8 @@ abbrev pub planes_of : Run → ℕ → Plane
 planes_of run = laid run.orientation (evolution run.bands)
 
 -- and the first miss up to each generation
-abbrev pub misses_of : Run → ℕ → Option Injection
-misses_of run = λ g. option_map (injection_laid run.orientation) (first_miss_in run.bands g)
+abbrev pub first_miss_of : Run → ℕ → Option Injection
+first_miss_of run = λ g. option_map (injection_laid run.orientation) (first_miss_in run.bands g)
 
 -- What holds of each run; its width, its rows and the rows of a band are those of its bands. The injections from its next one on are
 -- those of later generations. One that is still shows at each later generation what it shows now, with no other miss.
@@ -65,4 +65,4 @@ pub record HasGoneOn (last : ℕ) (old new : Run) : Type 0 where
   pub run : IsBandRun new
   pub order : new.generation ≤ last
   pub planes : planes_of new ≡ planes_of old
-  pub misses : misses_of new ≡ misses_of old
+  pub misses : first_miss_of new ≡ first_miss_of old

@@ -2,10 +2,12 @@
 ghost use Rattle.std.specs.Prelude.{◌≡◌, ◌+◌, ◌*◌, ◌-◌, ◌<◌, ◌≤◌, ◌≢◌, ◌++◌, IfOk, IfErr, OnOk, None};
 ghost use Rattle.ww_rule.specs.Grid.{AreInBox, plane_of};
 ghost use Rattle.pattern_reading.specs.Ports.{cells_of};
-ghost use Rattle.drive.specs.Driving.{AreFor, bits_of_cells, first_miss, greatest_generation, last_from, HasSimulateCause};
-ghost use Rattle.drive.specs.Runs.{HasGoneOn, IsBandRun, planes_of};
+ghost use Rattle.drive.specs.Driving.{AreFor, bits_of_cells, first_miss, greatest_generation, last_from};
+ghost use Rattle.drive.specs.Driving.{HasRunCause, HasSimulateCause};
+ghost use Rattle.drive.specs.Runs.{HasGoneOn, IsBandRun, first_miss_of, planes_of};
 ghost use Rattle.drive.specs.Shown.{bits_on, columns_of_cells, row_of_cycle, rows_of_cycles};
 
+use crate::driving::CONTEXT_GENERATIONS;
 use crate::error::SimulateError;
 use crate::run::Run;
 use lists::List;
@@ -16,9 +18,6 @@ use ww_rule::Pattern;
 
 /// The most generations that a run may need.
 pub const GREATEST_GENERATION: u128 = 4_294_967_296;
-
-// How many generations a context comes after the one before it.
-const CONTEXT_GENERATIONS: u64 = 32;
 
 // Puts the bits that cells show at the end of a row.
 fn push_bits(row: &mut Vec<bool>, run: &Run, cells: &[(u64, u64)]) -> Result<(), AllocError>
@@ -53,7 +52,7 @@ fn row_of_cycle(
     Ok(row)
 }
 
-// Those of each cycle.
+// Those of each cycle, up to the first in which an injection's cell is no conductor.
 fn rows_of_cycles(
     alloc: Global,
     run: &mut Run,
@@ -61,7 +60,7 @@ fn rows_of_cycles(
     streams: &Streams,
     first: u64,
     cells: &[(u64, u64)],
-) -> Result<Vec<List<bool>>, AllocError>
+) -> Result<Vec<List<bool>>, SimulateError>
     requires run { IsBandRun run.old }
     requires order { run.old.generation ≤ first }
     requires streams { AreFor ports.now streams.now }
@@ -69,11 +68,13 @@ fn rows_of_cycles(
     ensures gone { OnOk result (HasGoneOn (last_from first ports.now streams.now) run.old run.new) }
     ensures rows { IfOk result (λ rows. rows.items ≡
         rows_of_cycles (planes_of run.old) ports.now.c ports.now.p streams.now.cycles first cells.now) }
+    ensures refused { IfErr result (HasRunCause (first_miss_of run.old (last_from first ports.now streams.now))) }
 {
     let mut rows = Vec::new(alloc);
     for cycle in 0..streams.cycles {
         let shown_at = first + cycle as u64 * ports.p;
         rows.push(List::of(row_of_cycle(alloc, run, ports.c, shown_at, cells)?))?;
+        run.quiet()?;
     }
     Ok(rows)
 }
@@ -86,7 +87,7 @@ fn columns_of_cells(
     streams: &Streams,
     first: u64,
     cells: &[(u64, u64)],
-) -> Result<List<List<bool>>, AllocError>
+) -> Result<List<List<bool>>, SimulateError>
     requires run { IsBandRun run.old }
     requires order { run.old.generation ≤ first }
     requires cycles { 0 < streams.now.cycles }
@@ -95,16 +96,17 @@ fn columns_of_cells(
     ensures gone { OnOk result (HasGoneOn (last_from first ports.now streams.now) run.old run.new) }
     ensures bits { IfOk result (λ bits. bits ≡
         columns_of_cells (planes_of run.old) ports.now.c ports.now.p streams.now.cycles first cells.now) }
+    ensures refused { IfErr result (HasRunCause (first_miss_of run.old (last_from first ports.now streams.now))) }
 {
     if cells.is_empty() {
         return Ok(List::of(Vec::new(alloc)));
     }
     let rows = rows_of_cycles(alloc, run, ports, streams, first, cells)?;
-    columns_of(alloc, &rows, rows[0].len())
+    Ok(columns_of(alloc, &rows, rows[0].len())?)
 }
 
 /// The bits that cells show in each context, cycle after cycle, while streams drive a pattern: all cells of context 0
-/// come first, and bit t of a cell in context c is 1 exactly where the cell is a head at generation `first + 32 c + t
+/// come first, and bit t of a cell in context k is 1 exactly where the cell is a head at generation `first + 32 k + t
 /// p`. A call asks for at least one cycle, for one stream of as many bits for each context and input, and for inputs
 /// inside the pattern's box; the cells may lie anywhere. `TooFar` comes where the last of these generations is over
 /// 4,294,967,296, and nothing is then run; `NotQuiet` names the first injection up to that generation whose cell is no
@@ -137,8 +139,6 @@ pub fn bits_of_cells(
     let mut run = Run::of_streams(alloc, pattern, ports, streams)?;
     let bits = columns_of_cells(alloc, &mut run, ports, streams, first, cells)?;
     run.go_on(generations as u64);
-    match run.missed() {
-        Some(injection) => Err(SimulateError::not_quiet(injection)),
-        None => Ok(bits),
-    }
+    run.quiet()?;
+    Ok(bits)
 }

@@ -1,9 +1,10 @@
 // The injections that streams say.
 ghost use Rattle.std.specs.Prelude.{◌≡◌, ◌+◌, ◌*◌, ◌<◌, ◌^◌, ◌++◌, length, map, take, drop, IfOk, OnOk};
 ghost use Rattle.std.specs.List.{range_with_len};
-ghost use Rattle.ww_rule.specs.Injections.{injections_of_row, injections_from};
+ghost use Rattle.ww_rule.specs.Due.{AreInOrderFrom};
+ghost use Rattle.ww_rule.specs.Injections.{due_of_list, injections_of_row, injections_from};
 ghost use Rattle.pattern_reading.specs.Ports.{cells_of};
-ghost use Rattle.drive.specs.Driving.{AreFor, injections_of};
+ghost use Rattle.drive.specs.Driving.{AreFor, due_by, injections_of};
 
 use crate::error::DriveError;
 use pattern_reading::{PortLine, Ports};
@@ -11,8 +12,8 @@ use std::alloc::Global;
 use streams::{Streams, bits_across};
 use ww_rule::Injection;
 
-// How many generations a context comes after the one before it.
-const CONTEXT_GENERATIONS: u128 = 32;
+/// How many generations a context comes after the one before it.
+pub const CONTEXT_GENERATIONS: u64 = 32;
 
 // Puts the injections of a row at the end: at a generation, the cells of the inputs whose bits are 1.
 fn push_row(
@@ -58,7 +59,7 @@ fn push_cycle(
         let row = &bits[first..first + long];
         push_row(
             due,
-            generation + CONTEXT_GENERATIONS * context as u128,
+            generation + CONTEXT_GENERATIONS as u128 * context as u128,
             inputs,
             row,
         )?;
@@ -66,17 +67,19 @@ fn push_cycle(
     Ok(())
 }
 
-/// The cells that streams make heads, each with its generation: the cell of an input at generation `32 c + t p` for
-/// each context c and each cycle t in which its bit is 1, where p is the table's period. They are sorted by generation,
-/// and at one generation stand in the order of the inputs. A call asks for one stream of as many bits as there are
-/// cycles for each context and input.
+/// The cells that streams make heads, each with its generation: the cell of an input at generation `32 k + t p` for
+/// each context k and each cycle t in which its bit is 1, where p is the table's period. They are sorted by generation;
+/// those of one generation are of one context, in the order of the inputs. A call asks for one stream of as many bits as
+/// there are cycles for each context and input.
 pub fn injections(
     alloc: Global,
     ports: &Ports,
     streams: &Streams,
 ) -> Result<Vec<Injection>, DriveError>
     requires { AreFor ports.now streams.now }
-    ensures { IfOk result (λ due. due.items ≡ injections_of ports.now streams.now) }
+    ensures list { IfOk result (λ due. due.items ≡ injections_of ports.now streams.now) }
+    ensures due { IfOk result (λ due. due_of_list due.items ≡ due_by ports.now streams.now) }
+    ensures sorted { IfOk result (λ due. AreInOrderFrom 0 due.items) }
 {
     let mut due = Vec::new(alloc);
     let inputs = ports.ins.as_slice();

@@ -1,5 +1,5 @@
 // What a call answers where it gives no injections or no bits.
-ghost use Rattle.std.specs.Prelude.{◌≡◌};
+ghost use Rattle.std.specs.Prelude.{◌≡◌, ◌<◌, ◌^◌};
 
 use band_core::BandsError;
 use std::alloc::{AllocError, AllocFailed};
@@ -21,7 +21,7 @@ pub enum SimulateError {
     TooFar { generations: u128 },
     /// An injection is due at this generation and this cell, by its column and row, which is no conductor before the
     /// injections of that generation.
-    NotQuiet { generation: u128, x: u64, y: u64 },
+    NotQuiet { generation: u64, x: u64, y: u64 },
 }
 
 ghost use Rattle.drive.specs.declared.error.DriveError.TheVariants as driving;
@@ -59,6 +59,14 @@ impl From<AllocError> for SimulateError {
     }
 }
 
+impl<T: Drop> From<AllocFailed<T>> for SimulateError {
+    ghost from_gives = { λ _ e. e ≡ simulating.NoMemory };
+
+    fn from(_: AllocFailed<T>) -> Self {
+        SimulateError::NoMemory
+    }
+}
+
 impl From<DriveError> for SimulateError {
     ghost from_gives = { λ _ e. e ≡ simulating.NoMemory };
 
@@ -70,9 +78,14 @@ impl From<DriveError> for SimulateError {
 impl SimulateError {
     /// The cause of an injection whose cell is no conductor.
     pub fn not_quiet(injection: Injection) -> SimulateError
+        requires { injection.generation < 2 ^ 64 }
         ensures { result ≡ simulating.NotQuiet injection.generation injection.x injection.y }
     {
         let Injection { generation, x, y } = injection;
-        SimulateError::NotQuiet { generation, x, y }
+        SimulateError::NotQuiet {
+            generation: generation as u64,
+            x,
+            y,
+        }
     }
 }

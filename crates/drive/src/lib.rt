@@ -1,6 +1,6 @@
 //! Streams of bits for the inputs of a pattern, and the pattern's run under them.
 //!
-//! Theorem: `simulate` (`near`, `quiet`, `bits`, `refused`).
+//! Theorem: `simulate`, `bits_of_cells` (`near`, `quiet`, `bits`, `refused`); `injections` (`list`, `due`, `sorted`).
 #![tactic(auto)]
 
 mod bits;

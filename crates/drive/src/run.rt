@@ -1,5 +1,5 @@
 // A pattern's run under injections, in bands of rows that are all at one generation.
-ghost use Rattle.std.specs.Prelude.{◌≡◌, ◌≤◌, ◌<◌, ◌+◌, ◌-ℤ◌, ◌^◌, All, IfOk, drop, length, map, pos};
+ghost use Rattle.std.specs.Prelude.{◌≡◌, ◌≤◌, ◌<◌, ◌+◌, ◌-ℤ◌, ◌^◌, All, IfErr, IfOk, IfSome, None, OnOk, drop, length, map, pos};
 ghost use Rattle.std.specs.List.{find};
 ghost use Rattle.ww_rule.specs.Due.{AreInOrderFrom, AreLeftAt};
 ghost use Rattle.ww_rule.specs.Injections.{AreInside};
@@ -7,12 +7,12 @@ ghost use Rattle.ww_rule.specs.Patterns.{grid_of};
 ghost use Rattle.ww_rule.specs.Grid.{AreInBox, plane_of};
 ghost use Rattle.ww_rule.specs.Wireworld.{count_head, heads_around, is_head};
 ghost use Rattle.pattern_reading.specs.Ports.{cells_of};
-ghost use Rattle.drive.specs.Driving.{AreFor, driven_by, first_miss};
+ghost use Rattle.drive.specs.Driving.{AreFor, HasRunCause, driven_by, first_miss};
 ghost use Rattle.ww_rule.specs.Turns.{injection_turned};
-ghost use Rattle.drive.specs.Runs.{IsBandRun, evolution, first_miss_in, injection_misses, misses_of, planes_of};
+ghost use Rattle.drive.specs.Runs.{IsBandRun, evolution, first_miss_in, injection_misses, first_miss_of, planes_of};
 
 use crate::driving::injections;
-use crate::error::DriveError;
+use crate::error::{DriveError, SimulateError};
 use crate::misses::first_on_pattern;
 use crate::moving::move_all;
 use band_core::{Bands, due_count};
@@ -141,7 +141,7 @@ impl Run {
         ensures planes { IfOk result (λ run.
             planes_of run ≡ driven_by ports.now streams.now (plane_of pattern.rows)) }
         ensures misses { IfOk result (λ run.
-            misses_of run ≡ first_miss ports.now streams.now (plane_of pattern.rows)) }
+            first_miss_of run ≡ first_miss ports.now streams.now (plane_of pattern.rows)) }
     {
         let due = injections(alloc, ports, streams)?;
         if !is_narrow(&pattern) {
@@ -151,7 +151,8 @@ impl Run {
         Run::begin(alloc, turned, turned_all(due), Orientation::Turned)
     }
 
-    // 1 where the cell before this column and before this row in the bands, each counted from 1, is a head.
+    // 1 where the cell at column `x - 1` and row `y - 1` in the bands is a head; 0 stands for a place left of the bands or
+    // above them.
     fn head_before(&self, x: u128, y: u128) -> usize
         requires { IsBandRun self.now }
         ensures counted { result ≡ count_head (
@@ -231,7 +232,7 @@ impl Run {
         requires room { self.old.generation + 1 < 2 ^ 64 }
         ensures run { IsBandRun self.new }
         ensures planes { planes_of self.new ≡ planes_of self.old }
-        ensures misses { misses_of self.new ≡ misses_of self.old }
+        ensures misses { first_miss_of self.new ≡ first_miss_of self.old }
         ensures comes { self.new.generation ≡ self.old.generation + 1 }
     {
         let is_past = self.next_injection >= self.bands.injections().len();
@@ -243,7 +244,7 @@ impl Run {
         self.generation += 1;
     }
 
-    /// Goes on to a generation that is not before the run's own, or to an earlier one from which on no cell changes.
+    /// Goes on to this generation, which is not before the run's own, or stops before it where no cell changes any more.
     pub fn go_on(&mut self, generation: u64)
         requires run { IsBandRun self.old }
         requires order { self.old.generation ≤ generation }
@@ -251,8 +252,8 @@ impl Run {
         ensures order { self.new.generation ≤ generation }
         ensures planes { planes_of self.new ≡ planes_of self.old }
         ensures shows { planes_of self.new self.new.generation ≡ planes_of self.new generation }
-        ensures misses { misses_of self.new ≡ misses_of self.old }
-        ensures missed { misses_of self.new self.new.generation ≡ misses_of self.new generation }
+        ensures misses { first_miss_of self.new ≡ first_miss_of self.old }
+        ensures missed { first_miss_of self.new self.new.generation ≡ first_miss_of self.new generation }
     {
         while self.generation < generation && !self.is_still {
             self.next();
@@ -294,12 +295,26 @@ impl Run {
     /// generation.
     pub fn missed(&self) -> Option<Injection>
         requires { IsBandRun self.now }
-        ensures { result ≡ misses_of self.now self.now.generation }
+        ensures first { result ≡ first_miss_of self.now self.now.generation }
+        ensures early { IfSome result (λ i. i.generation ≤ self.now.generation) }
     {
         let injection = self.missed?;
         match self.orientation {
             Orientation::Upright => Some(injection),
             Orientation::Turned => Some(injection.turned()),
+        }
+    }
+
+    /// Whether there is no such injection, or else which.
+    pub fn quiet(&self) -> Result<(), SimulateError>
+        requires run { IsBandRun self.now }
+        requires room { self.now.generation < 2 ^ 64 }
+        ensures quiet { OnOk result (first_miss_of self.now self.now.generation ≡ None) }
+        ensures refused { IfErr result (HasRunCause (first_miss_of self.now self.now.generation)) }
+    {
+        match self.missed() {
+            Some(injection) => Err(SimulateError::not_quiet(injection)),
+            None => Ok(()),
         }
     }
 }

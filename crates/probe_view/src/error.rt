@@ -19,7 +19,7 @@ pub enum ProbeError {
     /// An injection of this generation is due at this cell, by its column and row, which is no conductor before the
     /// injections of that generation.
     #[error("generation {generation}: cell {x} {y} is no conductor")]
-    NotQuiet { generation: u128, x: u64, y: u64 },
+    NotQuiet { generation: u64, x: u64, y: u64 },
 }
 
 /// Why a part of a plane is not shown.
@@ -30,7 +30,7 @@ pub enum WindowError {
     /// An injection of this generation is due at this cell, by its column and row, which is no conductor before the
     /// injections of that generation.
     #[error("generation {generation}: cell {x} {y} is no conductor")]
-    NotQuiet { generation: u128, x: u64, y: u64 },
+    NotQuiet { generation: u64, x: u64, y: u64 },
 }
 
 ghost use Rattle.probe_view.specs.Probes.{probe_error};

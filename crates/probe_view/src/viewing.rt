@@ -84,7 +84,11 @@ pub fn window(
     let mut run = Run::of_streams(alloc, pattern, ports, streams)?;
     run.go_on(generation);
     if let Some(Injection { generation, x, y }) = run.missed() {
-        return Err(WindowError::NotQuiet { generation, x, y });
+        return Err(WindowError::NotQuiet {
+            generation: generation as u64,
+            x,
+            y,
+        });
     }
     let text = lines_of(alloc, &run, x, y, width, height)?;
     Ok(Bytes::of(text))

@@ -9,7 +9,7 @@ use Rattle.std.proofs.lemmas.List.{append_assoc, length-map, drop_more, map_more
 use Rattle.std.proofs.lemmas.Simd.{map-map}
 use Rattle.word_cuts.specs.Cuts.{is_equals_sign, name_in, bits_in, names_context}
 use Rattle.streams.specs.declared.error.StreamFaultKind.TheVariants.{NoEquals, BadContext, UnknownInput, TwiceInput, BadBit, BadLength}
-use Rattle.streams.specs.Words.{context_in, input_in, is_word_for, is_bit, fault_of_word}
+use Rattle.streams.specs.Words.{context_of_word, input_of_word, is_word_for, is_bit, fault_of_word}
 use Rattle.streams.specs.Streams.{Input, stream_fault, stream_faults_after, bits_for, stream_in, streams_of, missing_fault, missing_inputs, inputs_of_context}
 
 -- an input has bits exactly when a word is for it
@@ -77,8 +77,8 @@ last_holds false false false false false false h = cc
 has_all_bits : (contexts : ℕ) (names : List (List ℕ)) (cycles : ℕ) (before : List (List ℕ)) (word : List ℕ) → fault_of_word contexts names cycles before word ≡ None → length (bits_in word) ≡ cycles
 has_all_bits contexts names cycles before word h =
     eqb-true (length (bits_in word)) cycles
-    (last_holds (not (list_any is_equals_sign word)) (not (names_context contexts (name_in word))) (not (list_any (bytes_eq (input_in contexts word)) names))
-    (list_any (is_word_for contexts (context_in contexts word) (input_in contexts word)) before) (not (list_all is_bit (bits_in word))) (length (bits_in word) == cycles) h)
+    (last_holds (not (list_any is_equals_sign word)) (not (names_context contexts (name_in word))) (not (list_any (bytes_eq (input_of_word contexts word)) names))
+    (list_any (is_word_for contexts (context_of_word contexts word) (input_of_word contexts word)) before) (not (list_all is_bit (bits_in word))) (length (bits_in word) == cycles) h)
 
 -- where no word is at fault, each input's bits are as many
 pub bits_long : (contexts : ℕ) (names : List (List ℕ)) (cycles : ℕ) (before words : List (List ℕ)) → stream_faults_after contexts names cycles before words ≡ [] → (input : Input) (bits : List ℕ) → bits_for contexts words input ≡ Some bits → length bits ≡ cycles

@@ -22,7 +22,7 @@ use Rattle.lists.proofs.NameSets.{name_added}
 use Rattle.word_cuts.specs.Cuts.{is_equals_sign, name_in, bits_in, names_context}
 use Rattle.streams.specs.declared.error.StreamFaultKind.{StreamFaultKind}
 use Rattle.streams.specs.declared.words.StreamWord.{StreamWord}
-use Rattle.streams.specs.Words.{context_in, input_in, is_word_for, fault_of_word}
+use Rattle.streams.specs.Words.{context_of_word, input_of_word, is_word_for, fault_of_word}
 use Rattle.streams.specs.Streams.{Input, bits_for, stream_fault, stream_faults_after}
 use Rattle.streams.specs.GivenBits.{AreNamesOf, AreBitsOf, input_cmp}
 
@@ -36,8 +36,8 @@ name_more old new key names i name within is had updates asked =
 
 -- the bits of an input after one more word, which is for an input that no earlier word is for
 pub bits_more : (contexts : ℕ) (words : List (List ℕ)) (word : List ℕ) (input : Input) → (list_any is_equals_sign word && names_context contexts (name_in word)) ≡ true
-    → list_any (is_word_for contexts (context_in contexts word) (input_in contexts word)) words ≡ false
-    → bits_for contexts (words ++ word ∷ []) input ≡ cond (context_in contexts word == input.0 && bytes_eq (input_in contexts word) input.1) (Some (bits_in word)) (bits_for contexts words input)
+    → list_any (is_word_for contexts (context_of_word contexts word) (input_of_word contexts word)) words ≡ false
+    → bits_for contexts (words ++ word ∷ []) input ≡ cond (context_of_word contexts word == input.0 && bytes_eq (input_of_word contexts word) input.1) (Some (bits_in word)) (bits_for contexts words input)
 bits_more contexts words word input has new =
     ap (option_map bits_in) (find-append is words (word ∷ []))
     ∙ ap (λ b. option_map bits_in (option_or (find is words) (cond (b && same) (Some word) None))) has
@@ -47,7 +47,7 @@ bits_more contexts words word input has new =
     is = is_word_for contexts input.0 input.1
 
     same : Bool
-    same = context_in contexts word == input.0 && bytes_eq (input_in contexts word) input.1
+    same = context_of_word contexts word == input.0 && bytes_eq (input_of_word contexts word) input.1
 
     none : (words : List (List ℕ)) → list_any is words ≡ false → find is words ≡ None
     none [] e = refl
@@ -63,9 +63,9 @@ bits_more contexts words word input has new =
 
     by : (b : Bool) → same ≡ b → option_map bits_in (option_or (find is words) (cond b (Some word) None)) ≡ cond b (Some (bits_in word)) (bits_for contexts words input)
     by true h =
-        let parts = and_parts (context_in contexts word == input.0) (bytes_eq (input_in contexts word) input.1) h in
-        let context : context_in contexts word ≡ input.0 = eqb-true _ _ parts.0 in
-        let name : input_in contexts word ≡ input.1 = (bytes_eq-Decides (input_in contexts word) input.1).0 parts.1 in
+        let parts = and_parts (context_of_word contexts word == input.0) (bytes_eq (input_of_word contexts word) input.1) h in
+        let context : context_of_word contexts word ≡ input.0 = eqb-true _ _ parts.0 in
+        let name : input_of_word contexts word ≡ input.1 = (bytes_eq-Decides (input_of_word contexts word) input.1).0 parts.1 in
         ap (λ found. option_map bits_in (option_or found (Some word))) (none words (ap₂ (λ c n. list_any (is_word_for contexts c n) words) (sym context) (sym name) ∙ new))
     by false h = rest (find is words)
 
@@ -79,14 +79,14 @@ input_is a b =
 
 -- one more word
 pub word_more : (contexts : ℕ) (old new : tree.BTreeMap (ℕ × Bor (List ℕ)) (Bor (List ℕ))) (words : List (List ℕ)) (word : List ℕ) (cut : StreamWord) → (list_any is_equals_sign word && names_context contexts (name_in word)) ≡ true
-    → list_any (is_word_for contexts (context_in contexts word) (input_in contexts word)) words ≡ false → cut.context ≡ context_in contexts word → cut.name.now ≡ input_in contexts word → cut.bits.now ≡ bits_in word
+    → list_any (is_word_for contexts (context_of_word contexts word) (input_of_word contexts word)) words ≡ false → cut.context ≡ context_of_word contexts word → cut.name.now ≡ input_of_word contexts word → cut.bits.now ≡ bits_in word
     → AreBitsOf contexts old words → tree.UpdatesBy input_cmp (input_cmp (cut.context, cut.name)) old new (Some cut.bits) → AreBitsOf contexts new (words ++ word ∷ [])
 word_more contexts old new words word cut has fresh is_context is_name is_bits had updates input =
     ap option_copied (updates.0 input)
     ∙ pushed (is_eq (input_cmp (cut.context, cut.name) input))
     ∙ ap₂ (λ (b : Bool) (o : Option (List ℕ)). cond b (Some cut.bits.now) o) (input_is (cut.context, cut.name) input) (had input)
     ∙ ap₂ (λ (c : ℕ) (n : List ℕ). cond (c == input.0 && bytes_eq n input.1.now) (Some cut.bits.now) before) is_context is_name
-    ∙ ap (λ (bits : List ℕ). cond (context_in contexts word == input.0 && bytes_eq (input_in contexts word) input.1.now) (Some bits) before) is_bits
+    ∙ ap (λ (bits : List ℕ). cond (context_of_word contexts word == input.0 && bytes_eq (input_of_word contexts word) input.1.now) (Some bits) before) is_bits
     ∙ sym (bits_more contexts words word (input.0, input.1.now) has fresh)
   where
     before : Option (List ℕ)

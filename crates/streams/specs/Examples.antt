@@ -37,24 +37,30 @@ fault_examples =
 
 abbrev pub fault_examples_in_contexts : List FaultExample
 fault_examples_in_contexts =
-    -- no number, one that is no context's, one with a zero in front, and none before the `:`
+    -- no number, numbers that are no context's, zeros in front, and what is no number
     said (codes "a=01" ∷ []) BadContext (codes "a=01")
     ∷ said (codes "2:a=01" ∷ []) BadContext (codes "2:a=01")
+    ∷ said (codes "18446744073709551617:a=01" ∷ []) BadContext (codes "18446744073709551617:a=01")
     ∷ said (codes "01:a=01" ∷ []) BadContext (codes "01:a=01")
+    ∷ said (codes "00:a=01" ∷ []) BadContext (codes "00:a=01")
     ∷ said (codes ":a=01" ∷ []) BadContext (codes ":a=01")
+    ∷ said (codes "+1:a=01" ∷ []) BadContext (codes "+1:a=01")
+    ∷ said (codes " 1:a=01" ∷ []) BadContext (codes " 1:a=01")
     ∷ said (codes "1:a" ∷ []) NoEquals (codes "1:a")
     ∷ said (codes "1:c=01" ∷ []) UnknownInput (codes "1:c=01")
+    ∷ said (codes "1:=01" ∷ []) UnknownInput (codes "1:=01")
     ∷ said (codes "1:a=01" ∷ codes "0:a=01" ∷ codes "1:a=11" ∷ []) TwiceInput (codes "1:a=11")
     ∷ said (codes "1:a=2" ∷ []) BadBit (codes "1:a=2")
     ∷ said (codes "1:a=0" ∷ []) BadLength (codes "1:a=0")
+    ∷ said (codes "1:a=" ∷ []) BadLength (codes "1:a=")
     -- the lowest context first, and in it the first input
     ∷ said (codes "1:b=01" ∷ codes "0:a=01" ∷ []) MissingInput (codes "0:b")
     ∷ said (codes "0:b=01" ∷ codes "0:a=01" ∷ []) MissingInput (codes "1:a")
     ∷ []
 
 -- the words in any order
-abbrev pub HasStreamsOfTwo : Type 0
-HasStreamsOfTwo =
+abbrev pub HasStreamsInAnyOrder : Type 0
+HasStreamsInAnyOrder =
     HasStreams 1 (codes "b=11" ∷ codes "a=01" ∷ []) (codes "a" ∷ codes "b" ∷ []) 2 ((false ∷ true ∷ []) ∷ (true ∷ true ∷ []) ∷ [])
 
 -- a name with a `=`

@@ -7,11 +7,11 @@ use Rattle.streams.specs.declared.streams.Streams.{Streams}
 abbrev pub bits_across : List (List Bool) → ℕ → List Bool
 bits_across lists place = map (λ bits. unwrap_or (slice_get bits place) false) lists
 
--- the bits of all inputs in a cycle
+-- where there is one context: the bits of all inputs in a cycle
 abbrev pub stream_row : Streams → ℕ → List Bool
 stream_row streams cycle = bits_across streams.bits cycle
 
--- a row of input bits for each cycle
+-- and a row of input bits for each cycle
 abbrev pub rows_of : Streams → List (List Bool)
 rows_of streams = map (stream_row streams) (range_with_len 0 streams.cycles)
 

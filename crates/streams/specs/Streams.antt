@@ -64,7 +64,7 @@ stream_in bits = map (λ b. b == byte "1") bits
 abbrev pub streams_of : (contexts : ℕ) → List (List ℕ) → List Input → List (List Bool)
 streams_of contexts words inputs = map (λ input. stream_in (unwrap_or (bits_for contexts words input) [])) inputs
 
--- There is no fault, and these are the streams: with n names, list c n + i is that of input i in context c.
+-- There is no fault, and these are the streams: with n names, list k n + i is that of input i in context k.
 pub record HasStreams (contexts : ℕ) (words names : List (List ℕ)) (cycles : ℕ) (bits : List (List Bool)) : Type 0 where
   pub no_fault : stream_faults contexts words names cycles ≡ []
   pub bits_is : bits ≡ streams_of contexts words (inputs_of_contexts contexts names)

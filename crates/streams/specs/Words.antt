@@ -8,17 +8,17 @@ use Rattle.streams.specs.declared.error.StreamFaultKind.{StreamFaultKind}
 use Rattle.streams.specs.declared.error.StreamFaultKind.TheVariants.{NoEquals, BadContext, UnknownInput, TwiceInput, BadBit, BadLength}
 
 -- a word is cut at its last `=`: before it stand the number of a context, where there are several, and the name of an input
-abbrev pub context_in : (contexts : ℕ) → List ℕ → ℕ
-context_in contexts word = context_named contexts (name_in word)
+abbrev pub context_of_word : (contexts : ℕ) → List ℕ → ℕ
+context_of_word contexts word = context_named contexts (name_in word)
 
-abbrev pub input_in : (contexts : ℕ) → List ℕ → List ℕ
-input_in contexts word = without_context contexts (name_in word)
+abbrev pub input_of_word : (contexts : ℕ) → List ℕ → List ℕ
+input_of_word contexts word = without_context contexts (name_in word)
 
 -- whether the word is for the input of that name in that context
 abbrev pub is_word_for : (contexts context : ℕ) → List ℕ → List ℕ → Bool
 is_word_for contexts context name word =
     (list_any is_equals_sign word && names_context contexts (name_in word))
-    && (context_in contexts word == context && bytes_eq (input_in contexts word) name)
+    && (context_of_word contexts word == context && bytes_eq (input_of_word contexts word) name)
 
 abbrev pub is_bit : ℕ → Bool
 is_bit b = b == byte "0" || b == byte "1"
@@ -29,8 +29,8 @@ abbrev pub fault_of_word : (contexts : ℕ) → (names : List (List ℕ)) → (c
 fault_of_word contexts names cycles before word =
     if not (list_any is_equals_sign word) then Some NoEquals
     else if not (names_context contexts (name_in word)) then Some BadContext
-    else if not (list_any (bytes_eq (input_in contexts word)) names) then Some UnknownInput
-    else if list_any (is_word_for contexts (context_in contexts word) (input_in contexts word)) before then Some TwiceInput
+    else if not (list_any (bytes_eq (input_of_word contexts word)) names) then Some UnknownInput
+    else if list_any (is_word_for contexts (context_of_word contexts word) (input_of_word contexts word)) before then Some TwiceInput
     else if not (list_all is_bit (bits_in word)) then Some BadBit
     else if not (length (bits_in word) == cycles) then Some BadLength
     else None

@@ -10,7 +10,8 @@ use std::alloc::{AllocError, AllocFailed};
 pub enum StreamFaultKind {
     /// The word has no `=`.
     NoEquals,
-    /// There are several contexts, and before the last `=` there is no `:`, or before its first one no number of a context.
+    /// There are several contexts, or none, and the word does not begin with the number of one, in decimal digits without
+    /// leading zeros, and a `:` before its last `=`.
     BadContext,
     /// What stands before the last `=`, after the number of a context where there are several, is no input's name.
     UnknownInput,

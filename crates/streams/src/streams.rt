@@ -12,8 +12,8 @@ use std::alloc::{AllocError, Global};
 use std::collections::BTreeMap;
 use word_cuts::with_context;
 
-/// Streams of bits for the inputs in each of c contexts, all for as many cycles: with n inputs, list `c n + i` is the stream
-/// of input i in context c, and its bit t is the input's in cycle t.
+/// Streams of bits for the inputs in each of `c` contexts, all for as many cycles: with n inputs, list `k n + i` is the
+/// stream of input i in context k, and its bit t is the input's in cycle t.
 #[derive(Drop)]
 pub struct Streams {
     pub cycles: usize,
@@ -43,7 +43,7 @@ fn bits_for<'a>(
 fn missing(alloc: Global, name: &[u8], context: u64, contexts: u64) -> StreamError
     ensures { (result ≡ NoMemory) ⊎ (result ≡ Fault (missing_fault contexts (context, name.now))) }
 {
-    match with_context(alloc, name, context, contexts) {
+    match with_context(alloc, contexts, context, name) {
         Ok(word) => StreamError::Fault(StreamFault {
             kind: StreamFaultKind::MissingInput,
             word: List::of(word),
@@ -105,7 +105,8 @@ impl Streams {
     /// The streams that words say for the inputs of these names in each of c contexts: with one context words as `a=0110`,
     /// with more as `1:a=0110`, with a context's number below c in front, without leading zeros. Each word has one bit for
     /// each cycle, and there is one word for each input of each context, in any order. A word is cut at its last `=`, and
-    /// before that at its first `:`, so that a name may have both.
+    /// before that at its first `:`, so that a name may have both. With a c of 0 there are no streams, and each word is at
+    /// fault.
     pub fn read(
         alloc: Global,
         words: &[String],

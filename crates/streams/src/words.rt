@@ -2,13 +2,13 @@
 ghost use Rattle.std.specs.Prelude.{◌≡◌, ◌&&◌, ℕ, List, true, false, Some, None, IfOk, IfErr};
 ghost use Rattle.std.specs.List.{list_any, list_all};
 ghost use Rattle.word_cuts.specs.Cuts.{is_equals_sign, name_in, bits_in, names_context};
-ghost use Rattle.streams.specs.Words.{context_in, input_in, is_word_for, is_bit, fault_of_word};
+ghost use Rattle.streams.specs.Words.{context_of_word, input_of_word, is_word_for, is_bit, fault_of_word};
 ghost use Rattle.streams.specs.GivenBits.{AreNamesOf, AreBitsOf};
 ghost use Rattle.lists.specs.Names.{is_among};
 
 use crate::error::StreamFaultKind;
 use std::collections::{BTreeMap, BTreeSet};
-use word_cuts::{cut, cut_context};
+use word_cuts::{cut, cut_if_several};
 
 /// The bits of a word without a fault, and the input that it is for.
 #[derive(Clone, Copy)]
@@ -48,17 +48,17 @@ pub fn cut_sound<'a>(
     word: &'a [u8],
 ) -> Result<StreamWord<'a>, StreamFaultKind>
     ensures sound { IfOk result (λ cut. (names before : List (List ℕ)) → AreNamesOf known.now names → AreBitsOf contexts given.now before → fault_of_word contexts names cycles before word.now ≡ None) }
-    ensures untaken { IfOk result (λ cut. (before : List (List ℕ)) → AreBitsOf contexts given.now before → list_any (is_word_for contexts (context_in contexts word.now) (input_in contexts word.now)) before ≡ false) }
+    ensures untaken { IfOk result (λ cut. (before : List (List ℕ)) → AreBitsOf contexts given.now before → list_any (is_word_for contexts (context_of_word contexts word.now) (input_of_word contexts word.now)) before ≡ false) }
     ensures is_cut { IfOk result (λ cut. (list_any is_equals_sign word.now && names_context contexts (name_in word.now)) ≡ true) }
-    ensures context { IfOk result (λ cut. cut.context ≡ context_in contexts word.now) }
-    ensures name { IfOk result (λ cut. cut.name.now ≡ input_in contexts word.now) }
+    ensures context { IfOk result (λ cut. cut.context ≡ context_of_word contexts word.now) }
+    ensures name { IfOk result (λ cut. cut.name.now ≡ input_of_word contexts word.now) }
     ensures bits { IfOk result (λ cut. cut.bits.now ≡ bits_in word.now) }
     ensures fault { IfErr result (λ kind. (names before : List (List ℕ)) → AreNamesOf known.now names → AreBitsOf contexts given.now before → fault_of_word contexts names cycles before word.now ≡ Some kind) }
 {
     let Some((numbered, bits)) = cut(word) else {
         return Err(StreamFaultKind::NoEquals);
     };
-    let Some((context, name)) = cut_context(numbered, contexts) else {
+    let Some((context, name)) = cut_if_several(numbered, contexts) else {
         return Err(StreamFaultKind::BadContext);
     };
     if !is_input(known, name) {

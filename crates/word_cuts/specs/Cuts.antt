@@ -20,18 +20,19 @@ bits_in word = after_last is_equals_sign word
 abbrev pub is_colon : ℕ → Bool
 is_colon b = b == byte ":"
 
--- one or more decimal digits, of which the first is no 0 where others follow
+-- whether there are one or more bytes, of which the first is no `0` where others follow
 abbrev pub is_unpadded : List ℕ → Bool
 is_unpadded digits = length digits == 1 || (nat_lt 1 (length digits) && not (get_or digits 0 0 == byte "0"))
 
-abbrev pub is_plain_number : List ℕ → Bool
-is_plain_number digits = list_all is_ascii_digit digits && is_unpadded digits
+-- whether these are decimal digits without leading zeros
+abbrev pub is_unpadded_number : List ℕ → Bool
+is_unpadded_number digits = list_all is_ascii_digit digits && is_unpadded digits
 
 -- whether a name has a `:`, and before its first one the number of one of so many contexts
 abbrev pub has_context : ℕ → List ℕ → Bool
 has_context contexts name =
     let number = before_first is_colon name in
-    list_any is_colon name && (is_plain_number number && nat_lt (digits_value 10 number) contexts)
+    list_any is_colon name && (is_unpadded_number number && nat_lt (digits_value 10 number) contexts)
 
 -- that number, and the name after the `:`
 abbrev pub context_of : List ℕ → ℕ

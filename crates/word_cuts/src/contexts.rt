@@ -6,7 +6,7 @@ ghost use Rattle.std.specs.List.{list_all};
 ghost use Rattle.std.specs.Option.{MatchOption};
 ghost use Rattle.std.specs.Str.{byte};
 ghost use Rattle.std.specs.Str.Parse.{digits_value};
-ghost use Rattle.word_cuts.specs.Cuts.{context_named, context_of, has_context, is_plain_number, is_unpadded, name_after, names_context, with_context, without_context};
+ghost use Rattle.word_cuts.specs.Cuts.{context_named, context_of, has_context, is_unpadded_number, is_unpadded, name_after, names_context, with_context, without_context};
 
 use crate::cuts::cut_at_colon;
 use itoa::Buffer;
@@ -27,8 +27,8 @@ fn are_digits(bytes: &[u8]) -> bool
 }
 
 // Whether bytes are decimal digits without leading zeros.
-fn is_plain_number(bytes: &[u8]) -> bool
-    ensures { result ≡ is_plain_number bytes.now }
+fn is_unpadded_number(bytes: &[u8]) -> bool
+    ensures { result ≡ is_unpadded_number bytes.now }
 {
     are_digits(bytes) && is_unpadded(bytes)
 }
@@ -55,16 +55,17 @@ fn number_below(digits: &[u8], bound: u64) -> Option<u64>
 
 // The number of one of so many contexts, if the bytes write one, without leading zeros.
 fn context_in(bytes: &[u8], contexts: u64) -> Option<u64>
-    ensures { result ≡ then_some (is_plain_number bytes.now && nat_lt (digits_value 10 bytes.now) contexts) (digits_value 10 bytes.now) }
+    ensures { result ≡ then_some (is_unpadded_number bytes.now && nat_lt (digits_value 10 bytes.now) contexts) (digits_value 10 bytes.now) }
 {
-    if is_plain_number(bytes) {
+    if is_unpadded_number(bytes) {
         number_below(bytes, contexts)
     } else {
         None
     }
 }
 
-/// The number of one of so many contexts that stands before the first `:` of a name, and what stands after it.
+/// The number of one of so many contexts that stands before the first `:` of a name, and what stands after it; it stands
+/// there also where there is one context.
 pub fn cut_at_context(name: &[u8], contexts: u64) -> Option<(u64, &[u8])>
     ensures { MatchOption result (has_context contexts name.now ≡ false)
         (λ parts. (has_context contexts name.now ≡ true) × (parts.0 ≡ context_of name.now) × (parts.1.now ≡ name_after name.now)) }
@@ -74,9 +75,10 @@ pub fn cut_at_context(name: &[u8], contexts: u64) -> Option<(u64, &[u8])>
     Some((context, rest))
 }
 
-/// The context of a name, and the name without it: with one context a name stands alone, and with more a number and a `:`
-/// stand before it. `None` comes where no number of a context does.
-pub fn cut_context(name: &[u8], contexts: u64) -> Option<(u64, &[u8])>
+/// The context of a name, and the name without it: with one context a name stands alone, and with more the number of its
+/// context and a `:` before it. `None` comes where there are several contexts, or none, and the name does not begin with the
+/// number of one and a `:`.
+pub fn cut_if_several(name: &[u8], contexts: u64) -> Option<(u64, &[u8])>
     ensures { MatchOption result (names_context contexts name.now ≡ false)
         (λ parts. (names_context contexts name.now ≡ true) × (parts.0 ≡ context_named contexts name.now) × (parts.1.now ≡ without_context contexts name.now)) }
 {
@@ -101,9 +103,9 @@ fn numbered(alloc: Global, context: u64, name: &[u8]) -> Result<Vec<u8>, AllocEr
 /// A name as it is written for one of so many contexts: alone with one, else after the number of the context and a `:`.
 pub fn with_context(
     alloc: Global,
-    name: &[u8],
-    context: u64,
     contexts: u64,
+    context: u64,
+    name: &[u8],
 ) -> Result<Vec<u8>, AllocError>
     ensures { IfOk result (λ text. text.items ≡ with_context contexts context name.now) }
 {

@@ -1,10 +1,10 @@
 //! Cuts words of the command line, as `1:a=0110`: into a name and bits, and the name into the number of a context and a name.
 //!
-//! Theorem: `cut`, `cut_at_context`, `cut_context`, `with_context`.
+//! Theorem: `cut`, `cut_at_context`, `cut_if_several`, `with_context`.
 #![tactic(auto)]
 
 mod contexts;
 mod cuts;
 
-pub use contexts::{cut_at_context, cut_context, with_context};
+pub use contexts::{cut_at_context, cut_if_several, with_context};
 pub use cuts::cut;

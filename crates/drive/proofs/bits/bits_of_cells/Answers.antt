@@ -2,12 +2,27 @@ use Rattle.std.proofs.Common.{◌≡◌, ◌+◌, ◌*◌, ◌-◌, sym, ap, sub
 use Rattle.ww_rule.specs.declared.pattern.Injection.{Injection}
 use Rattle.ww_rule.specs.Grid.{plane_of}
 use Rattle.ww_rule.specs.Wireworld.{Plane}
-use Rattle.drive.specs.Driving.{HasSimulateCause, first_miss, last_from}
+use Rattle.drive.specs.Driving.{HasRunCause, first_miss, last_from}
 use Rattle.drive.specs.Shown.{columns_of_cells}
+use Rattle.std.proofs.lemmas.Result.{err_from_is_err_and}
+use Rattle.drive.proofs.LaterMisses.{simulate_cause}
 use Rattle.drive.proofs.bits.bits_of_cells.Goals as goal
 
-pub returns-in-Some-clause-refused : goal.returns-in-Some-clause-refused
-returns-in-Some-clause-refused c =
+pub returns-in_err-bits-clause-refused : goal.returns-in_err-bits-clause-refused
+returns-in_err-bits-clause-refused c =
+    let ports = c.args.ports.now in
+    let streams = c.args.streams.now in
+    let plane = plane_of c.args.pattern.rows in
+    let last = last_from c.args.first ports streams in
+    let near = c.if-generations-gt-GREATEST_GENERATION.false in
+    let error = c.in_err-bits.field-0.0 in
+    let p = err_from_is_err_and c.from_residual-in_err-bits.result c.from_residual-in_err-bits.ensures.1 in
+    rw (p.1, p.2)
+    (simulate_cause ports streams plane last error (omega (arith, near))
+    (subst (λ (m : ℕ → Option Injection). HasRunCause (m last) error) c.in_ok-run.ensures.misses c.in_err-bits.ensures.refused))
+
+pub returns-in_err-quiet-clause-refused : goal.returns-in_err-quiet-clause-refused
+returns-in_err-quiet-clause-refused c =
     let ports = c.args.ports.now in
     let streams = c.args.streams.now in
     let plane = plane_of c.args.pattern.rows in
@@ -15,11 +30,13 @@ returns-in-Some-clause-refused c =
     let generations = c.args.first + (32 * (ports.c - 1) + (streams.cycles - 1) * ports.p) in
     let same : generations ≡ last = omega arith in
     let near = c.if-generations-gt-GREATEST_GENERATION.false in
-    let seen : c.missed.result ≡ first_miss ports streams plane last =
-    c.missed.ensures ∙ c.go_on.ensures.missed
-    ∙ ap (λ (m : ℕ → Option Injection). m generations) (c.go_on.ensures.misses ∙ c.in_ok-bits.ensures.gone.misses ∙ c.in_ok-run.ensures.misses)
-    ∙ ap (first_miss ports streams plane) same in
-    subst (HasSimulateCause ports streams plane last) (sym c.not_quiet.ensures) (omega (arith, near), sym seen ∙ c.in-Some.is)
+    let error = c.in_err-quiet.field-0.0 in
+    let misses = c.go_on.ensures.misses ∙ c.in_ok-bits.ensures.gone.misses ∙ c.in_ok-run.ensures.misses in
+    let seen = c.go_on.ensures.missed ∙ ap (λ (m : ℕ → Option Injection). m generations) misses ∙ ap (first_miss ports streams plane) same in
+    let p = err_from_is_err_and c.from_residual-in_err-quiet.result c.from_residual-in_err-quiet.ensures.1 in
+    rw (p.1, p.2)
+    (simulate_cause ports streams plane last error (omega (arith, near))
+    (subst (λ (m : Option Injection). HasRunCause m error) seen c.in_err-quiet.ensures.refused))
 
 pub returns-clause-quiet : goal.returns-clause-quiet
 returns-clause-quiet c =
@@ -30,9 +47,9 @@ returns-clause-quiet c =
     let generations = c.args.first + (32 * (ports.c - 1) + (streams.cycles - 1) * ports.p) in
     let same : generations ≡ last = omega arith in
     ap (first_miss ports streams plane) (sym same)
-    ∙ sym (c.missed.ensures ∙ c.go_on.ensures.missed
+    ∙ sym (c.go_on.ensures.missed
     ∙ ap (λ (m : ℕ → Option Injection). m generations) (c.go_on.ensures.misses ∙ c.in_ok-bits.ensures.gone.misses ∙ c.in_ok-run.ensures.misses))
-    ∙ c.in-None.is
+    ∙ c.in_ok-quiet.ensures.quiet
 
 pub returns-clause-bits : goal.returns-clause-bits
 returns-clause-bits c =

@@ -1,5 +1,4 @@
 use Rattle.std.proofs.Common.{◌≡◌, ◌<◌, sym, ap, ap₂, subst, ◌∙◌, map, length, get_or, arith, ℕ, List, Bool, All}
-use Rattle.std.specs.Prelude.{IfOk}
 use Rattle.std.specs.List.{range_with_len}
 use Rattle.std.proofs.lemmas.Bool.{eqb-true}
 use Rattle.std.proofs.lemmas.List.{nil_from_length}
@@ -58,4 +57,4 @@ returns-clause-bits c =
     let bits : map (bits_across c.deref.result.now) (range_with_len 0 c.len.result) ≡ columns_of_cells planes ports.c ports.p cycles c.args.first c.args.cells.now =
     ap₂ (λ (rows : List (List Bool)) (n : ℕ). map (bits_across rows) (range_with_len 0 n)) (c.deref.ensures.value ∙ c.in_ok-rows.ensures.rows) first
     ∙ columns_of_rows planes ports.c ports.p cycles c.args.first c.args.cells.now in
-    subst (λ (shown : List (List Bool)). IfOk c.columns_of.result (λ bits. bits ≡ shown)) bits c.columns_of.ensures
+    c.in_ok-columns_of.ensures ∙ bits

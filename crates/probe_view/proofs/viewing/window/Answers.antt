@@ -14,9 +14,9 @@ returns-clause-text c =
 pub returns-in-Some-clause-refused : goal.returns-in-Some-clause-refused
 returns-in-Some-clause-refused c =
     let misses = c.go_on.ensures.misses ∙ c.in_ok-run.ensures.misses in
-    sym (c.in-Some.ensures ∙ c.go_on.ensures.missed ∙ ap (λ (m : ℕ → Option Injection). m c.args.generation) misses)
+    sym (c.in-Some.ensures.first ∙ c.go_on.ensures.missed ∙ ap (λ (m : ℕ → Option Injection). m c.args.generation) misses)
 
 pub returns-clause-quiet : goal.returns-clause-quiet
 returns-clause-quiet c =
     let misses = c.go_on.ensures.misses ∙ c.in_ok-run.ensures.misses in
-    sym (c.in_default.ensures ∙ c.go_on.ensures.missed ∙ ap (λ (m : ℕ → Option Injection). m c.args.generation) misses)
+    sym (c.in_default.ensures.first ∙ c.go_on.ensures.missed ∙ ap (λ (m : ℕ → Option Injection). m c.args.generation) misses)

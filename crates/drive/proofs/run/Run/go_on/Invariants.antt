@@ -1,5 +1,5 @@
 use Rattle.std.proofs.Common.{◌≡◌, ◌≤◌, ◌-◌}
-use Rattle.drive.specs.Runs.{IsBandRun, misses_of, planes_of}
+use Rattle.drive.specs.Runs.{IsBandRun, first_miss_of, planes_of}
 use Rattle.drive.proofs.run.Run.go_on.Given as goal
 
 abbrev pub invariant-loop-self : goal.invariant-loop-self
@@ -7,7 +7,7 @@ invariant-loop-self l =
     record {
       run : IsBandRun l.self;
       planes : planes_of l.self ≡ planes_of l.fn.self;
-      misses : misses_of l.self ≡ misses_of l.fn.self;
+      misses : first_miss_of l.self ≡ first_miss_of l.fn.self;
       order : l.self.generation ≤ l.generation;
     }
 
