@@ -11,7 +11,7 @@ use Rattle.streams.specs.Streams.{HasStreams, inputs_of_contexts, missing_fault,
 use Rattle.drive.specs.Driving.{AreFor}
 use Rattle.streams.proofs.Contexts.{inputs_many}
 use Rattle.streams.proofs.Found.{bits_long, streams_long}
-use Rattle.shown_runs.specs.ShownRuns.{StreamsAreFor, StreamsMatch}
+use Rattle.shown_runs.specs.ShownRuns.{StreamsAreFor, StreamsMatch, StreamsMatchInContexts}
 use Rattle.lists.proofs.Appends.{append_nil_left, append_nil_right}
 use Rattle.pattern_reading.proofs.Later.{none_mapped}
 
@@ -36,6 +36,12 @@ are_for words ports streams some room same has =
 
 pub streams_are_for : StreamsAreFor
 streams_are_for ports words streams sound same has = are_for words ports streams sound.contexts sound.room same has
+
+pub streams_match_in_contexts : StreamsMatchInContexts
+streams_match_in_contexts text design starts k words names streams in_names sound many has =
+    let same : names ≡ names_of k.ports.ins = in_names_are_one design names (names_of k.ports.ins) in_names k.names.ins in
+    let of_table : HasStreams streams.c words (names_of k.ports.ins) streams.cycles streams.bits = subst (λ (ns : List (List ℕ)). HasStreams streams.c words ns streams.cycles streams.bits) same has in
+    (of_table, streams_are_for k.ports words streams sound (many ∙ sym k.contexts) of_table)
 
 pub streams_match : StreamsMatch
 streams_match text design c words names streams others in_names one other_one many has other =

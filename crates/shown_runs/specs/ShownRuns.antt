@@ -71,6 +71,14 @@ abbrev pub StreamsAreFor : Type 0
 StreamsAreFor =
     (ports : Ports) (words : List (List ℕ)) (streams : Streams) → IsSoundTable ports → streams.c ≡ ports.c → HasStreams streams.c words (names_of ports.ins) streams.cycles streams.bits → AreFor ports streams
 
+-- What words say for the IN names of the design, in as many contexts as it is carried in, they say for the inputs of the table, and they
+-- are streams for it.
+abbrev pub StreamsMatchInContexts : Type 0
+StreamsMatchInContexts =
+    (text : List ℕ) (design : Design) (starts : List LatchState) (k : CarriesContexts text design starts) (words names : List (List ℕ)) (streams : Streams) → IsInNames design names
+    → IsSoundTable k.ports → streams.c ≡ length starts → HasStreams streams.c words names streams.cycles streams.bits
+    → HasStreams streams.c words (names_of k.ports.ins) streams.cycles streams.bits × AreFor k.ports streams
+
 -- In one context, words say the same streams for the inputs of the table and for the IN names of the design, one for each input.
 abbrev pub StreamsMatch : Type 0
 StreamsMatch =

@@ -5,7 +5,7 @@
 //! Theorem: `carriers_show_contexts`, `carriers_show_runs`, `carriers_show_nets`, `carriers_are_quiet`, `streams_match`.
 #![tactic(auto)]
 
-ghost use Rattle.shown_runs.specs.ShownRuns.{CarriersAreQuiet, CarriersShowContexts, CarriersShowNets, CarriersShowNetsInContexts, CarriersShowRuns, OneContextIsQuiet, StreamsAreFor, StreamsMatch};
+ghost use Rattle.shown_runs.specs.ShownRuns.{CarriersAreQuiet, CarriersShowContexts, CarriersShowNets, CarriersShowNetsInContexts, CarriersShowRuns, OneContextIsQuiet, StreamsAreFor, StreamsMatch, StreamsMatchInContexts};
 
 /// Of a text that carries a design in contexts: under streams for its inputs there is a run of the design in each context, from the
 /// context's start on, and the bits that each output of the pattern shows there are those of the main output of its name in every
@@ -35,6 +35,7 @@ pub fn carriers_are_quiet()
 
 /// Of a text that carries a design: what words say for the inputs of its table they say for the inputs of the design.
 pub fn streams_match()
-    ensures contexts { StreamsAreFor }
+    ensures table { StreamsAreFor }
+    ensures contexts { StreamsMatchInContexts }
     ensures one { StreamsMatch }
 {}

@@ -1,5 +1,4 @@
 use Rattle.std.proofs.Common.{ℕ, ◌<◌, ◌∙◌, refl, sym, ap, subst}
-use Rattle.std.proofs.lemmas.List.{length-map}
 use Rattle.std.proofs.lemmas.Result.{err_from_is_err_and, IfErr-weaker, IfOk-weaker}
 use Rattle.ww_rule.specs.Grid.{plane_of}
 use Rattle.grid_assembly.specs.PlanDrawing.{start_grid}
@@ -7,7 +6,6 @@ use Rattle.netlist_meaning.specs.Places.{main_outputs}
 use Rattle.streams.specs.declared.streams.Streams.{Streams}
 use Rattle.drive.specs.Driving.{shown_bits}
 use Rattle.made_summary.specs.Streams.{streams_after}
-use Rattle.made_summary.specs.Summaries.{HasSummaryCause}
 use Rattle.made_summary.proofs.Summarized.{streams_fit, streams_feed, is_quiet, not_run, shown_many, summarizes}
 use Rattle.made_summary.proofs.summarizing.summarize.Goals as goal
 
