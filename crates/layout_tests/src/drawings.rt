@@ -2,10 +2,10 @@
 ghost use Rattle.std.specs.Prelude.{◌≡◌, ◌<◌, IfOk};
 ghost use Rattle.lane_core.specs.Plans.{IsAdmissible};
 
-use crate::plans::{OR, Written, admitted, in_cells, out_cells};
+use crate::plans::{OR, Written, admitted, in_cells, out_cells, plan_of, started};
 use grid_assembly::{cell, fill_row, size};
-use lane_core::{Instr, Plan, period, run_columns};
-use macro_grid::{Edges, macro_step};
+use lane_core::{Instr, Plan, Start, Starts, period, run_columns};
+use macro_grid::{Edges, admissible, macro_step};
 use std::alloc::Global;
 use std::test::Fail;
 use ww_rule::{CellRows, Plane, RuleError, State, step_driven};
@@ -222,7 +222,7 @@ const LOOP: Written<'static> = Written {
     lanes: 2,
     columns: &[&[Instr::Or(0)], &[Instr::Fork(0)]],
     latches: 1,
-    starts: &[true],
+    starts: &[Start { x: 32, y: 24 }],
     ins: &[0],
     outs: &[0],
     nets: &[],
@@ -240,10 +240,10 @@ fn heads_of(plane: &Plane) -> usize {
 }
 
 // Whether the heads are at these cells, of which no two are the same.
-fn has_heads_at(plane: &Plane, cells: &[(u64, u64)]) -> bool {
+fn has_heads_at(plane: &Plane, cells: &[Start]) -> bool {
     let mut same = heads_of(plane) == cells.len();
-    for (x, y) in cells {
-        same = same && is_head(plane, *x, *y);
+    for cell in cells {
+        same = same && is_head(plane, cell.x, cell.y);
     }
     same
 }
@@ -308,16 +308,16 @@ fn a_loop_goes_round_by_macro_steps(rt: HostRuntime) -> Result<(), Fail> {
 
 // The heads after each 32 generations, through the Or and the Fork, to the output and round: the cells were read off the
 // drawing by hand.
-const LOOP_HEADS: &[&[(u64, u64)]] = &[
-    &[(32, 24)],
-    &[(64, 8)],
-    &[(96, 8), (96, 24)],
-    &[(112, 32)],
-    &[(95, 40)],
-    &[(63, 40)],
-    &[(31, 40)],
-    &[(16, 31)],
-    &[(32, 24)],
+const LOOP_HEADS: &[&[Start]] = &[
+    &[Start { x: 32, y: 24 }],
+    &[Start { x: 64, y: 8 }],
+    &[Start { x: 96, y: 8 }, Start { x: 96, y: 24 }],
+    &[Start { x: 112, y: 32 }],
+    &[Start { x: 95, y: 40 }],
+    &[Start { x: 63, y: 40 }],
+    &[Start { x: 31, y: 40 }],
+    &[Start { x: 16, y: 31 }],
+    &[Start { x: 32, y: 24 }],
 ];
 
 #[test]
@@ -328,6 +328,47 @@ fn a_loop_goes_round_by_the_rule(rt: HostRuntime) -> Result<(), Fail> {
     for (step, want) in LOOP_HEADS.iter().enumerate() {
         assert!(rt; has_heads_at(&plane, want), "after {step} steps");
         plane = evolved(alloc, plane, 32)?;
+    }
+    Ok(())
+}
+
+// A plan that starts on these edges has its heads there, and goes on from them.
+#[test]
+fn a_loop_starts_anywhere_on_its_way(rt: HostRuntime) -> Result<(), Fail> {
+    let alloc = rt.alloc();
+    for (step, starts) in LOOP_HEADS.iter().enumerate() {
+        let plan = started(alloc, &LOOP, starts)?;
+        let plane = drawn(alloc, &plan)?;
+        assert!(rt; has_heads_at(&plane, starts), "at {step} steps");
+    }
+    Ok(())
+}
+
+// A plan, a cell, and whether it names an edge: that by which a tile is entered, or left where nothing is entered.
+const NAMES: &[(&Written<'static>, Start, bool)] = &[
+    (&LOOP, Start { x: 32, y: 24 }, true),
+    (&LOOP, Start { x: 31, y: 24 }, false),
+    (&LOOP, Start { x: 33, y: 24 }, false),
+    (&LOOP, Start { x: 16, y: 31 }, true),
+    (&LOOP, Start { x: 16, y: 32 }, false),
+    (&LOOP, Start { x: 95, y: 40 }, true),
+    (&LOOP, Start { x: 96, y: 40 }, false),
+    (&LOOP, Start { x: 128, y: 8 }, false),
+    (&OR, Start { x: 31, y: 24 }, true),
+    (&OR, Start { x: 32, y: 24 }, false),
+];
+
+// Whether a plan that starts there alone is admissible.
+fn may_start(alloc: Global, written: &Written<'_>, start: Start) -> Result<bool, Fail> {
+    let mut plan = plan_of(alloc, written)?;
+    plan.starts = Starts::of(vec![in alloc; start]?);
+    Ok(admissible(&plan))
+}
+
+#[test]
+fn starts_name_edges_of_the_drawing(rt: HostRuntime) -> Result<(), Fail> {
+    for (written, start, want) in NAMES {
+        assert_eq!(rt; may_start(rt.alloc(), written, *start)?, *want, "{start:?}");
     }
     Ok(())
 }

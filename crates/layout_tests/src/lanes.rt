@@ -3,7 +3,7 @@ ghost use Rattle.std.specs.Prelude.{◌≡◌, length};
 ghost use Rattle.lane_core.specs.Plans.{IsAdmissible};
 
 use crate::plans::{OR, Written, admitted, column_of, in_cells, net_cells, out_cells};
-use lane_core::{Instr, Plan, latency, period, run_columns, run_instrs};
+use lane_core::{Instr, Plan, Start, latency, period, run_columns, run_instrs};
 use std::test::Fail;
 
 // Three columns without instructions, and two loops.
@@ -11,7 +11,7 @@ const LOOPS: Written<'static> = Written {
     lanes: 5,
     columns: &[&[], &[], &[]],
     latches: 2,
-    starts: &[false, true],
+    starts: &[Start { x: 64, y: 72 }],
     ins: &[],
     outs: &[2],
     nets: &[],

@@ -2,8 +2,9 @@
 ghost use Rattle.std.specs.Prelude.{◌≡◌, length, IsTrue, IfOk};
 ghost use Rattle.lane_core.specs.Instrs.{are_sorted_apart, is_above};
 ghost use Rattle.lane_core.specs.Plans.{IsAdmissible};
+ghost use Rattle.plan_layout.specs.Starts.{HasStartEdges};
 
-use lane_core::{Column, Instr, NetPlace, Plan, in_cell, net_cell, out_cell};
+use lane_core::{Column, Instr, NetPlace, Plan, Start, Starts, in_cell, net_cell, out_cell};
 use lists::List;
 use macro_grid::admissible;
 use std::alloc::{AllocError, Global};
@@ -15,7 +16,7 @@ pub struct Written<'a> {
     pub lanes: u32,
     pub columns: &'a [&'a [Instr]],
     pub latches: u32,
-    pub starts: &'a [bool],
+    pub starts: &'a [Start],
     pub ins: &'a [u32],
     pub outs: &'a [u32],
     pub nets: &'a [NetPlace],
@@ -45,12 +46,12 @@ pub const OR: Written<'static> = Written {
     ],
 };
 
-/// Three loops alone.
+/// Three loops alone, of which the first starts with 1.
 pub const BARE: Written<'static> = Written {
     lanes: 3,
     columns: &[&[], &[], &[]],
     latches: 3,
-    starts: &[true, false, false],
+    starts: &[Start { x: 96, y: 8 }],
     ins: &[],
     outs: &[],
     nets: &[],
@@ -99,29 +100,48 @@ pub fn plan_of(alloc: Global, written: &Written<'_>) -> Result<Plan, Fail>
         lanes: written.lanes,
         columns: columns_of(alloc, written.columns)?,
         latches: written.latches,
-        starts: List::of(Vec::new(alloc)),
+        starts: Starts::of(Vec::new(alloc)),
         ins: List::of(Vec::new(alloc)),
         outs: List::of(Vec::new(alloc)),
         nets: List::of(Vec::new(alloc)),
     };
-    plan.starts = List::of(written.starts.to_vec(alloc)?);
+    plan.starts = Starts::of(written.starts.to_vec(alloc)?);
     plan.ins = List::of(written.ins.to_vec(alloc)?);
     plan.outs = List::of(written.outs.to_vec(alloc)?);
     plan.nets = List::of(written.nets.to_vec(alloc)?);
     Ok(plan)
 }
 
-/// The plan that is written down, where it is admissible.
-pub fn admitted(alloc: Global, written: &Written<'_>) -> Result<Plan, Fail>
+// The plan, where it is admissible.
+fn checked(plan: Plan) -> Result<Plan, Fail>
     ensures admissible { IfOk result IsAdmissible }
-    ensures lanes { IfOk result (λ plan. plan.lanes ≡ written.now.lanes) }
+    ensures starts { IfOk result HasStartEdges }
+    ensures lanes { IfOk result (λ p. p.lanes ≡ plan.lanes) }
 {
-    let plan = plan_of(alloc, written)?;
     if admissible(&plan) {
         Ok(plan)
     } else {
         Err(Fail::new("the plan is refused"))
     }
+}
+
+/// The plan that is written down, where it is admissible.
+pub fn admitted(alloc: Global, written: &Written<'_>) -> Result<Plan, Fail>
+    ensures admissible { IfOk result IsAdmissible }
+    ensures starts { IfOk result HasStartEdges }
+    ensures lanes { IfOk result (λ plan. plan.lanes ≡ written.now.lanes) }
+{
+    checked(plan_of(alloc, written)?)
+}
+
+/// The same with other starts.
+pub fn started(alloc: Global, written: &Written<'_>, starts: &[Start]) -> Result<Plan, Fail>
+    ensures admissible { IfOk result IsAdmissible }
+    ensures lanes { IfOk result (λ plan. plan.lanes ≡ written.now.lanes) }
+{
+    let mut plan = plan_of(alloc, written)?;
+    plan.starts = Starts::of(starts.to_vec(alloc)?);
+    checked(plan)
 }
 
 /// The cells of the inputs.

@@ -2,7 +2,7 @@
 ghost use Rattle.lane_core.specs.Plans.{IsAdmissible};
 
 use crate::plans::{BARE, OR, Written, admitted};
-use lane_core::{Instr, Plan};
+use lane_core::{Instr, Plan, Start};
 use plan_layout::{Piece, Slot, slot_at};
 use std::test::Fail;
 use tile_core::Kind;
@@ -12,7 +12,7 @@ const LOOP: Written<'static> = Written {
     lanes: 2,
     columns: &[&[Instr::Fork(0)], &[Instr::Or(0)]],
     latches: 1,
-    starts: &[true],
+    starts: &[Start { x: 32, y: 24 }],
     ins: &[0],
     outs: &[0],
     nets: &[],

@@ -1,5 +1,5 @@
 -- The lanes and the cells of inputs.
-use Rattle.std.proofs.Common.{◌≡◌, refl, sym, ◌∙◌, ℕ, zero, suc, ◌+◌, ◌<◌, Bool, true, false, ◌&&◌, ⊎_elim, List, [], ◌∷◌, length, get_or, arith}
+use Rattle.std.proofs.Common.{◌≡◌, refl, sym, ◌∙◌, ℕ, zero, suc, ◌<◌, Bool, true, false, ◌&&◌, ⊎_elim, List, [], ◌∷◌, length, get_or, arith}
 use Rattle.std.specs.Prelude.{◌==◌}
 use Rattle.std.proofs.lemmas.Bool.{true≢false, or_cases, and_parts, eqb-true, or_left, or_right, and_from, eq-eqb}
 use Rattle.std.proofs.lemmas.List.{get_or-map, get_or_past}
