@@ -11,14 +11,14 @@ use Rattle.carries.proofs.OneWay.{one_spelling}
 use Rattle.drive.specs.Driving.{AreFor, first_miss}
 use Rattle.shown_runs.specs.ShownRuns.{CarriersAreQuiet, StreamsAreFor}
 use Rattle.command_words.specs.Shapes.{CommandValues, compile, simulate, eval, probe, window, make, self_}
-use Rattle.blifww_tool.specs.Simulation.{Simulation, IsSimulation, MissesAt, first_miss_of}
+use Rattle.blifww_tool.specs.Simulation.{Simulation, IsSimulation, MissesAt, miss_up_to}
 use Rattle.blifww_tool.specs.PrintsAlike.{CarriersRunQuietly}
 use Rattle.blifww_tool.proofs.PrintsNet.{are_for}
 use Rattle.blifww_tool.proofs.SimulationOrNot.{miss_or_not}
 
 module _ (quiet : CarriersAreQuiet) (streams_for : StreamsAreFor) (text : List ℕ) (design : Design) (starts : List LatchState) (k : CarriesContexts text design starts) where
   -- a simulation of it has no miss
-  no_miss : (cycles : ℕ) (words : List (List ℕ)) (s : Simulation) → IsSimulation cycles words text s → (g : ℕ) → first_miss_of s g ≡ None
+  no_miss : (cycles : ℕ) (words : List (List ℕ)) (s : Simulation) → IsSimulation cycles words text s → (g : ℕ) → miss_up_to s g ≡ None
   no_miss cycles words s is g =
       let read = one_spelling text k.grid s.grid k.ports s.ports k.spells (record { reads = is.pattern.0; table = is.table }) in
       let are : AreFor k.ports s.streams = subst (λ (p : Ports). AreFor p s.streams) (sym read.1) (are_for streams_for cycles words text s is) in

@@ -18,7 +18,7 @@ use Rattle.streams.specs.declared.error.StreamFault.{StreamFault}
 use Rattle.streams.specs.Streams.{HasStreamFault, inputs_of_contexts, streams_of}
 use Rattle.drive.specs.Driving.{greatest_generation}
 use Rattle.pattern_reading.specs.Ports.{names_of}
-use Rattle.blifww_tool.specs.Simulation.{Simulation, IsSimulation, Simulates, HasNoStreams, HasNoSimulation, MissesAt, first_miss_of, last_shown}
+use Rattle.blifww_tool.specs.Simulation.{Simulation, IsSimulation, Simulates, HasNoStreams, HasNoSimulation, MissesAt, miss_up_to, last_shown}
 use Rattle.blifww_tool.specs.declared.causes.Cause.{Cause}
 use Rattle.blifww_tool.specs.declared.causes.Cause.TheVariants.{NetlistFault, WeightTooLarge, Loop, Pattern, GridTooLarge, PortTable, Streams, StartWord, NoSuchNet, TooFar, TooManyContexts, NotQuiet}
 
@@ -177,7 +177,7 @@ miss_at g x y = record { generation = g; x = x; y = y }
 pub one_miss : (s : Simulation) (at g x y g' x' y' : ℕ) → MissesAt s at g x y → MissesAt s at g' x' y' → NotQuiet g x y ≡ NotQuiet g' x' y'
 one_miss s at g x y g' x' y' h k = ap (λ (i : Injection). NotQuiet i.generation i.x i.y) (same_Some (miss_at g x y) (miss_at g' x' y') (sym h ∙ k))
 
-pub miss_or_not : (s : Simulation) (at g x y : ℕ) → MissesAt s at g x y → first_miss_of s at ≡ None → ⊥
+pub miss_or_not : (s : Simulation) (at g x y : ℕ) → MissesAt s at g x y → miss_up_to s at ≡ None → ⊥
 miss_or_not s at g x y h quiet = none-some _ (sym quiet ∙ h)
 
 -- a simulation that is near enough and has no miss is not refused

@@ -45,18 +45,18 @@ abbrev pub last_shown : Simulation → ℕ
 last_shown s = last_generation s.ports s.streams
 
 -- the first injection up to a generation at a cell that is no conductor before it
-abbrev pub first_miss_of : Simulation → ℕ → Option Injection
-first_miss_of s g = first_miss s.ports s.streams (plane_of s.grid.rows) g
+abbrev pub miss_up_to : Simulation → ℕ → Option Injection
+miss_up_to s g = first_miss s.ports s.streams (plane_of s.grid.rows) g
 
 -- up to a generation, this is the first
 abbrev pub MissesAt : Simulation → (g generation x y : ℕ) → Type 0
-MissesAt s g generation x y = first_miss_of s g ≡ Some (record { generation = generation; x = x; y = y })
+MissesAt s g generation x y = miss_up_to s g ≡ Some (record { generation = generation; x = x; y = y })
 
 -- the text and the words are a simulation whose last bits are shown in time, and each injection up to there meets a conductor
 pub record Simulates (cycles : ℕ) (words : List (List ℕ)) (text : List ℕ) (s : Simulation) : Type 0 where
   pub is : IsSimulation cycles words text s
   pub near : last_shown s ≤ greatest_generation
-  pub quiet : first_miss_of s (last_shown s) ≡ None
+  pub quiet : miss_up_to s (last_shown s) ≡ None
 
 -- why the text and the words are no simulation: the text is no pattern's, or its box is too large; its port table is at fault; or the
 -- streams are

@@ -5,7 +5,7 @@ use Rattle.command_words.specs.declared.command.View.{View}
 use Rattle.word_cuts.specs.Cuts.{bits_in}
 use Rattle.drive.specs.Driving.{driven_by}
 use Rattle.probe_view.specs.Windows.{window_text}
-use Rattle.blifww_tool.specs.Simulation.{Simulation, IsSimulation, HasNoStreams, MissesAt, first_miss_of}
+use Rattle.blifww_tool.specs.Simulation.{Simulation, IsSimulation, HasNoStreams, MissesAt, miss_up_to}
 use Rattle.blifww_tool.specs.declared.causes.Cause.{Cause}
 use Rattle.blifww_tool.specs.declared.causes.Cause.TheVariants.{NotQuiet}
 
@@ -17,7 +17,7 @@ cycles_in (word ∷ words) = length (bits_in word)
 -- the text and the words are a simulation, in which each injection up to the view's generation meets a conductor
 pub record HasView (view : View) (words : List (List ℕ)) (text : List ℕ) (s : Simulation) : Type 0 where
   pub is : IsSimulation (cycles_in words) words text s
-  pub quiet : first_miss_of s view.generation ≡ None
+  pub quiet : miss_up_to s view.generation ≡ None
 
 -- They are, and these are the lines of that part of its plane at that generation.
 pub record ShowsPart (view : View) (words : List (List ℕ)) (text output : List ℕ) : Type 0 where

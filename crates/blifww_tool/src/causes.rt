@@ -42,7 +42,7 @@ pub enum Cause {
     /// The plan has no room for so many contexts, but for this number.
     TooManyContexts { contexts: u64, limit: u64 },
     /// An injection is due at this generation and cell, which is no conductor before the injections of that generation.
-    NotQuiet { generation: u128, x: u64, y: u64 },
+    NotQuiet { generation: u64, x: u64, y: u64 },
 }
 
 impl Cause {

@@ -117,7 +117,7 @@ fn tell_generations<E: Sink>(err: &mut E, generations: u128) -> Result<(), Faile
 }
 
 // Tells an injection that meets no conductor.
-fn tell_miss<E: Sink>(err: &mut E, generation: u128, x: u64, y: u64) -> Result<(), Failed>
+fn tell_miss<E: Sink>(err: &mut E, generation: u64, x: u64, y: u64) -> Result<(), Failed>
     ensures ok { OnOk result
         (Appends (E.written err.old) (E.written err.new) (cause_line (Cause.NotQuiet generation x y))) }
     ensures front { OnErr result
