@@ -12,7 +12,7 @@ use Rattle.command_words.specs.Shapes.{compile}
 use Rattle.blifww_tool.specs.Commands.{AreAlike, MustRefuse}
 use Rattle.blifww_tool.specs.Compilation.{HasNoCompilation, HasNoNetlist, HasNoRoom, HasStartFault, HasStarts, least_room}
 use Rattle.blifww_tool.specs.declared.causes.Cause.{Cause}
-use Rattle.blifww_tool.specs.declared.causes.Cause.TheVariants.{NetlistFault, WeightTooLarge, Loop, Pattern, GridTooLarge, PortTable, Streams, StartWord, NoSuchNet, TooFar, TooManyContexts}
+use Rattle.blifww_tool.specs.declared.causes.Cause.TheVariants.{NetlistFault, WeightTooLarge, Loop, Pattern, GridTooLarge, PortTable, Streams, StartWord, NoSuchNet, TooFar, TooManyContexts, NotQuiet}
 use Rattle.blifww_tool.proofs.EvaluationOrNot.{alike, netlist_or_not, one_cause_of_netlist}
 
 -- the ways to be refused by the text and the words,
@@ -37,6 +37,7 @@ why contexts starts text (StartWord fault) h = by_text (by_start fault refl h)
 why contexts starts text (NoSuchNet name) h = absurd h
 why contexts starts text (TooFar generations) h = absurd h
 why contexts starts text (TooManyContexts told limit) h = by_room limit h.1
+why contexts starts text (NotQuiet generation x y) h = absurd h
 
 reason_of : (contexts : ℕ) (starts : List (List ℕ)) (text : List ℕ) (r : Cause) → MustRefuse (compile contexts starts) text r → Reason contexts starts text r
 reason_of contexts starts text (NetlistFault fault) h = early h
@@ -50,6 +51,7 @@ reason_of contexts starts text (StartWord fault) h = by_start fault refl h
 reason_of contexts starts text (NoSuchNet name) h = absurd h
 reason_of contexts starts text (TooFar generations) h = absurd h
 reason_of contexts starts text (TooManyContexts told limit) h = absurd h
+reason_of contexts starts text (NotQuiet generation x y) h = absurd h
 
 module _ (contexts : ℕ) (starts : List (List ℕ)) (text : List ℕ) where
   same_design : (a b : Design) → IsNetlist text a → IsNetlist text b → a ≡ b

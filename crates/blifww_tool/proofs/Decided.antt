@@ -3,9 +3,10 @@ use Rattle.std.proofs.Common.{ℕ, ◌≡◌, refl, subst, List}
 use Rattle.command_words.specs.Shapes.{CommandValues, compile, simulate, eval, probe, window, make, self_}
 use Rattle.blifww_tool.specs.Commands.{Accepts, Prints, Refuses, MustRefuse, AreAlike}
 use Rattle.blifww_tool.specs.declared.causes.Cause.{Cause}
-use Rattle.blifww_tool.specs.declared.causes.Cause.TheVariants.{NetlistFault, WeightTooLarge, Loop, Pattern, GridTooLarge, PortTable, Streams, StartWord, NoSuchNet, TooFar, TooManyContexts}
+use Rattle.blifww_tool.specs.declared.causes.Cause.TheVariants.{NetlistFault, WeightTooLarge, Loop, Pattern, GridTooLarge, PortTable, Streams, StartWord, NoSuchNet, TooFar, TooManyContexts, NotQuiet}
 use Rattle.made_summary.proofs.InTime.{few_cycles_are_in_time}
-use Rattle.blifww_tool.proofs.SimulationOrNot.{simulation_or_not, one_streams_cause, simulates_or_not, one_cause as one_cause_of_simulation}
+use Rattle.blifww_tool.proofs.SimulationOrNot.{simulates_or_not, one_cause as one_cause_of_simulation}
+use Rattle.blifww_tool.proofs.ViewOrNot.{view_or_not, one_cause as one_cause_of_view}
 use Rattle.blifww_tool.proofs.ProbeOrNot.{probes_or_not, one_cause as one_cause_of_probe}
 use Rattle.blifww_tool.proofs.EvaluationOrNot.{evaluates_or_not, one_cause as one_cause_of_evaluation}
 use Rattle.blifww_tool.proofs.CompilationOrNot.{accepts_or_not, compiles_or_not, one_cause as one_cause_of_compilation}
@@ -23,13 +24,14 @@ in_time_or_not seed size cycles text (StartWord f) h k = k
 in_time_or_not seed size cycles text (NoSuchNet name) h k = k
 in_time_or_not seed size cycles text (TooFar n) h k = few_cycles_are_in_time seed size cycles n h k
 in_time_or_not seed size cycles text (TooManyContexts n limit) h k = k
+in_time_or_not seed size cycles text (NotQuiet g x y) h k = k
 
 pub accepted_or_refused : (command : CommandValues) (text : List ℕ) (cause : Cause) → Accepts command text → Refuses command text cause → ⊥
 accepted_or_refused (compile contexts starts) text cause h k = accepts_or_not contexts starts text h.0 cause h.1 h.2 k
 accepted_or_refused (simulate cycles words) text cause h k = simulates_or_not cycles words text h.0 cause h.1 k
 accepted_or_refused (eval cycles words) text cause h k = evaluates_or_not cycles words text h.0 cause h.1 k
 accepted_or_refused (probe cycles net path words) text cause h k = probes_or_not cycles net path words text h.0 cause h.1 k
-accepted_or_refused (window view words) text cause h k = simulation_or_not _ words text h.0 cause h.1 k
+accepted_or_refused (window view words) text cause h k = view_or_not view words text h.0 cause h.1 k
 accepted_or_refused (make seed size) text cause h k = k
 accepted_or_refused (self_ seed size cycles) text cause h k = in_time_or_not seed size cycles text cause h k
 
@@ -38,8 +40,8 @@ pub printed_or_refused : (command : CommandValues) (text output : List ℕ) (cau
 printed_or_refused (compile contexts starts) text output cause h k = compiles_or_not contexts starts text h.design cause h.has k
 printed_or_refused (simulate cycles words) text output cause h k = simulates_or_not cycles words text h.0 cause h.1 k
 printed_or_refused (eval cycles words) text output cause h k = evaluates_or_not cycles words text h.evaluation cause h.is k
-printed_or_refused (probe cycles net path words) text output cause h k = probes_or_not cycles net path words text h.0 cause h.1 k
-printed_or_refused (window view words) text output cause h k = simulation_or_not _ words text h.simulation cause h.is k
+printed_or_refused (probe cycles net path words) text output cause h k = probes_or_not cycles net path words text h.bits cause h.probes k
+printed_or_refused (window view words) text output cause h k = view_or_not view words text h.simulation cause h.has k
 printed_or_refused (make seed size) text output cause h k = k
 printed_or_refused (self_ seed size cycles) text output cause h k = k
 
@@ -59,12 +61,13 @@ alike_if_same a b e = subst (AreAlike a) e (itself a)
     itself (NoSuchNet name) = refl
     itself (TooFar n) = refl
     itself (TooManyContexts n limit) = refl
+    itself (NotQuiet g x y) = refl
 
 pub one_cause : (command : CommandValues) (text : List ℕ) (a b : Cause) → Refuses command text a → MustRefuse command text b → AreAlike a b
 one_cause (compile contexts starts) text a b h k = one_cause_of_compilation contexts starts text a b h k
 one_cause (simulate cycles words) text a b h k = alike_if_same a b (one_cause_of_simulation cycles words text a b h k)
 one_cause (eval cycles words) text a b h k = one_cause_of_evaluation cycles words text a b h k
 one_cause (probe cycles net path words) text a b h k = alike_if_same a b (one_cause_of_probe cycles net path words text a b h k)
-one_cause (window view words) text a b h k = alike_if_same a b (one_streams_cause _ words text a b h k)
+one_cause (window view words) text a b h k = alike_if_same a b (one_cause_of_view view words text a b h k)
 one_cause (make seed size) text a b h k = absurd k
 one_cause (self_ seed size cycles) text a b h k = absurd k

@@ -35,7 +35,7 @@ pub streams_refused : (cycles : ℕ) (words : List (List ℕ)) (text : List ℕ)
 streams_refused cycles words text design (streams_of.Fault fault) is h = (design, h.0, is, h.1, h.2)
 streams_refused cycles words text design streams_of.NoMemory is h = tt
 
-pub inputs_at_fault : (cycles : ℕ) (words : List (List ℕ)) (design : Design) (names : List Name) (e : StreamError) → IsInNames design names → HasStreamCause words names cycles e → HasInputsCause cycles words design e
+pub inputs_at_fault : (cycles : ℕ) (words : List (List ℕ)) (design : Design) (names : List Name) (e : StreamError) → IsInNames design names → HasStreamCause 1 words names cycles e → HasInputsCause cycles words design e
 inputs_at_fault cycles words design names (streams_of.Fault fault) are h = (names, are, h)
 inputs_at_fault cycles words design names streams_of.NoMemory are h = tt
 
@@ -44,7 +44,7 @@ pub run_printed : (cycles : ℕ) (words : List (List ℕ)) (text : List ℕ) (de
     → PrintsRun design fed output → Evaluates cycles words text output
 run_printed cycles words text design fed output is inputs printed = record {
   evaluation = record { design = design; in_names = inputs.in_names; streams = fed };
-  is = record { netlist = is; names = inputs.names; many = inputs.many; streams = inputs.streams };
+  is = record { netlist = is; names = inputs.names; many = inputs.many; contexts = inputs.contexts; streams = inputs.streams };
   run = printed.run;
   is_run = printed.is_run;
   lines = printed.lines;

@@ -15,7 +15,7 @@ use Rattle.blifww_tool.specs.Commands.{AreAlike}
 use Rattle.blifww_tool.specs.Compilation.{HasNoNetlist}
 use Rattle.blifww_tool.specs.Evaluation.{Evaluation, IsEvaluation, HasNoEvaluation}
 use Rattle.blifww_tool.specs.declared.causes.Cause.{Cause}
-use Rattle.blifww_tool.specs.declared.causes.Cause.TheVariants.{NetlistFault, WeightTooLarge, Loop, Pattern, GridTooLarge, PortTable, Streams, StartWord, NoSuchNet, TooFar, TooManyContexts}
+use Rattle.blifww_tool.specs.declared.causes.Cause.TheVariants.{NetlistFault, WeightTooLarge, Loop, Pattern, GridTooLarge, PortTable, Streams, StartWord, NoSuchNet, TooFar, TooManyContexts, NotQuiet}
 
 -- a netlist with its IN names, as a text has them
 pub record IsRead (text : List ℕ) (design : Design) (names : List Name) : Type 0 where
@@ -27,7 +27,7 @@ pub data Reason (cycles : ℕ) (words : List (List ℕ)) (text : List ℕ) (r : 
   by_fault : (fault : Fault) → r ≡ NetlistFault fault → IsAtFault text fault → Reason cycles words text r
   by_weight : (weight : ℕ) → r ≡ WeightTooLarge weight → IsTooHeavy text weight → Reason cycles words text r
   by_loop : (names : List Name) → r ≡ Loop names → HasLoop text names → Reason cycles words text r
-  by_streams : (fault : StreamFault) → r ≡ Streams fault → (design : Design) (names : List Name) → IsRead text design names → HasStreamFault words names cycles fault → Reason cycles words text r
+  by_streams : (fault : StreamFault) → r ≡ Streams fault → (design : Design) (names : List Name) → IsRead text design names → HasStreamFault 1 words names cycles fault → Reason cycles words text r
 
 reason_of : (cycles : ℕ) (words : List (List ℕ)) (text : List ℕ) (r : Cause) → HasNoEvaluation cycles words text r → Reason cycles words text r
 reason_of cycles words text (NetlistFault fault) h = by_fault fault refl h
@@ -41,6 +41,7 @@ reason_of cycles words text (StartWord fault) h = absurd h
 reason_of cycles words text (NoSuchNet name) h = absurd h
 reason_of cycles words text (TooFar generations) h = absurd h
 reason_of cycles words text (TooManyContexts contexts limit) h = absurd h
+reason_of cycles words text (NotQuiet generation x y) h = absurd h
 
 -- the IN names of a text are one list
 same_names : (text : List ℕ) (a b : Design) (ns ms : List Name) → IsRead text a ns → IsRead text b ms → ns ≡ ms
@@ -49,10 +50,10 @@ same_names text a b ns ms h k =
     in_names_are_one b ns ms (subst (λ (d : Design). IsInNames d ns) same h.are_names) k.are_names
 
 streams_or_not : (cycles : ℕ) (words : List (List ℕ)) (text : List ℕ) (fault : StreamFault) (design : Design) (names : List Name) (e : Evaluation)
-    → IsRead text design names → HasStreamFault words names cycles fault → IsEvaluation cycles words text e → ⊥
+    → IsRead text design names → HasStreamFault 1 words names cycles fault → IsEvaluation cycles words text e → ⊥
 streams_or_not cycles words text fault design names e h bad k =
     let same : names ≡ e.in_names = same_names text design e.design names e.in_names h (record { netlist = k.netlist; are_names = k.names }) in
-    let here : HasStreamFault words e.in_names cycles fault = subst (λ (ns : List Name). HasStreamFault words ns cycles fault) same bad in
+    let here : HasStreamFault 1 words e.in_names cycles fault = subst (λ (ns : List Name). HasStreamFault 1 words ns cycles fault) same bad in
     none-some _ (ap (λ faults. slice_get faults 0) (sym k.streams.no_fault) ∙ here)
 
 -- an evaluation is not refused
@@ -85,7 +86,7 @@ one_reason cycles words text r r' (by_streams f e d ns read h) (by_fault g e' k)
 one_reason cycles words text r r' (by_streams f e d ns read h) (by_weight v e' k) = absurd ((texts_are_decided text).not_heavy d v read.netlist k)
 one_reason cycles words text r r' (by_streams f e d ns read h) (by_loop ms e' k) = absurd ((texts_are_decided text).not_a_loop d ms read.netlist k)
 one_reason cycles words text r r' (by_streams f e d ns read h) (by_streams g e' d' ms read' k) =
-    alike r r' _ _ e e' (ap Streams (same_Some f g (sym (subst (λ (x : List Name). HasStreamFault words x cycles f) (same_names text d d' ns ms read read') h) ∙ k)))
+    alike r r' _ _ e e' (ap Streams (same_Some f g (sym (subst (λ (x : List Name). HasStreamFault 1 words x cycles f) (same_names text d d' ns ms read read') h) ∙ k)))
 
 pub one_cause : (cycles : ℕ) (words : List (List ℕ)) (text : List ℕ) (r r' : Cause) → HasNoEvaluation cycles words text r → HasNoEvaluation cycles words text r' → AreAlike r r'
 one_cause cycles words text r r' h k = one_reason cycles words text r r' (reason_of cycles words text r h) (reason_of cycles words text r' k)
@@ -103,6 +104,7 @@ netlist_or_not text design (StartWord fault) h k = k
 netlist_or_not text design (NoSuchNet name) h k = k
 netlist_or_not text design (TooFar generations) h k = k
 netlist_or_not text design (TooManyContexts contexts limit) h k = k
+netlist_or_not text design (NotQuiet generation x y) h k = k
 
 no_evaluation : (text : List ℕ) (r : Cause) → HasNoNetlist text r → HasNoEvaluation 1 [] text r
 no_evaluation text (NetlistFault fault) h = h
@@ -116,6 +118,7 @@ no_evaluation text (StartWord fault) h = absurd h
 no_evaluation text (NoSuchNet name) h = absurd h
 no_evaluation text (TooFar generations) h = absurd h
 no_evaluation text (TooManyContexts contexts limit) h = absurd h
+no_evaluation text (NotQuiet generation x y) h = absurd h
 
 pub one_cause_of_netlist : (text : List ℕ) (r r' : Cause) → HasNoNetlist text r → HasNoNetlist text r' → AreAlike r r'
 one_cause_of_netlist text r r' h k = one_cause 1 [] text r r' (no_evaluation text r h) (no_evaluation text r' k)

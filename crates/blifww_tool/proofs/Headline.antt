@@ -1,5 +1,5 @@
 -- What `compile` has written carries what it read.
-use Rattle.std.proofs.Common.{◌≡◌, ℕ, subst, List, []}
+use Rattle.std.proofs.Common.{◌≡◌, ℕ, Some, subst, List, []}
 use Rattle.blif_text.specs.Faults.{IsDesignOf}
 use Rattle.command_words.specs.Shapes.{CommandValues, compile}
 use Rattle.blifww_tool.specs.Commands.{Prints}

@@ -4,6 +4,7 @@ pub mod Headline
 pub mod OutputLines
 pub mod SimulationOrNot
 pub mod ProbeOrNot
+pub mod ViewOrNot
 pub mod EvaluationOrNot
 pub mod CompilationOrNot
 pub mod Evaluated
@@ -11,9 +12,11 @@ pub mod Compiled
 pub mod Simulated
 pub mod Probed
 pub mod Viewed
+pub mod ViewRefused
 pub mod Decided
 pub mod Ended
 pub mod Stopped
 pub mod Statuses
 pub mod PrintsAlike
 pub mod PrintsNet
+pub mod RunsQuietly

@@ -1,5 +1,6 @@
 -- What the parts of a probe give together.
 use Rattle.std.proofs.Common.{ℕ, ◌≡◌, ◌⊎◌, refl, sym, subst, List, inl, inr}
+use Rattle.ww_rule.specs.Grid.{plane_of}
 use Rattle.command_words.specs.Shapes.{probe}
 use Rattle.probe_view.specs.declared.error.ProbeError.{ProbeError}
 use Rattle.probe_view.specs.declared.error.ProbeError.TheVariants as probing
@@ -9,7 +10,7 @@ use Rattle.blifww_tool.specs.Probing.{HasNoProbe}
 use Rattle.blifww_tool.specs.Refusals.{probe_error}
 use Rattle.blifww_tool.specs.Simulation.{Simulation, IsSimulation, HasNoStreams, HasStreamsCause}
 use Rattle.blifww_tool.specs.declared.causes.Cause.{Cause}
-use Rattle.blifww_tool.specs.declared.causes.Cause.TheVariants.{NetlistFault, WeightTooLarge, Loop, Pattern, GridTooLarge, PortTable, Streams, StartWord, NoSuchNet, TooFar, TooManyContexts}
+use Rattle.blifww_tool.specs.declared.causes.Cause.TheVariants.{NetlistFault, WeightTooLarge, Loop, Pattern, GridTooLarge, PortTable, Streams, StartWord, NoSuchNet, TooFar, TooManyContexts, NotQuiet}
 use Rattle.blifww_tool.specs.declared.causes.TextError.{TextError}
 use Rattle.blifww_tool.specs.declared.causes.TextError.TheVariants.{Refused, NoMemory}
 
@@ -25,6 +26,7 @@ cause_of cycles name path words text (StartWord f) h = h
 cause_of cycles name path words text (NoSuchNet n) h = absurd h
 cause_of cycles name path words text (TooFar n) h = absurd h
 cause_of cycles name path words text (TooManyContexts n limit) h = h
+cause_of cycles name path words text (NotQuiet g x y) h = absurd h
 
 -- a text and words that are no simulation,
 pub simulation_refused : (cycles : ℕ) (name path : List ℕ) (words : List (List ℕ)) (text : List ℕ) (e : TextError) → HasStreamsCause cycles words text e → HasTextCause (probe cycles name path words) text e
@@ -32,13 +34,14 @@ simulation_refused cycles name path words text (Refused cause) h = cause_of cycl
 simulation_refused cycles name path words text NoMemory h = tt
 
 told_cause : (cycles : ℕ) (name path : List ℕ) (words : List (List ℕ)) (text : List ℕ) (s : Simulation) (e : ProbeError) → IsSimulation cycles words text s
-    → HasProbeCause s.ports s.streams name path e → HasTextCause (probe cycles name path words) text (probe_error name e)
+    → HasProbeCause s.ports s.streams (plane_of s.grid.rows) name path e → HasTextCause (probe cycles name path words) text (probe_error name e)
 told_cause cycles name path words text s probing.NoMemory is h = tt
 told_cause cycles name path words text s probing.NoSuchNet is h = (s, is, refl, h)
 told_cause cycles name path words text s (probing.TooFar generations) is h = (s, is, h)
+told_cause cycles name path words text s (probing.NotQuiet generation x y) is h = (s, is, h)
 
 -- and a net that is not shown
 pub probe_refused : (cycles : ℕ) (name path : List ℕ) (words : List (List ℕ)) (text : List ℕ) (s : Simulation) (e : ProbeError) (told : TextError) → IsSimulation cycles words text s
-    → HasProbeCause s.ports s.streams name path e → (told ≡ NoMemory) ⊎ (told ≡ probe_error name e) → HasTextCause (probe cycles name path words) text told
+    → HasProbeCause s.ports s.streams (plane_of s.grid.rows) name path e → (told ≡ NoMemory) ⊎ (told ≡ probe_error name e) → HasTextCause (probe cycles name path words) text told
 probe_refused cycles name path words text s e told is h (inl no_memory) = subst (HasTextCause (probe cycles name path words) text) (sym no_memory) tt
 probe_refused cycles name path words text s e told is h (inr same) = subst (HasTextCause (probe cycles name path words) text) (sym same) (told_cause cycles name path words text s e is h)

@@ -1,6 +1,6 @@
 -- What the parts of a simulation give together.
 use Rattle.std.proofs.Common.{ℕ, ◌<◌, sym, subst, List}
-use Rattle.ww_rule.specs.Grid.{AreInBox}
+use Rattle.ww_rule.specs.Grid.{AreInBox, plane_of}
 use Rattle.pattern_reading.specs.declared.ports.Ports.{Ports}
 use Rattle.pattern_reading.specs.PortTable.{ReadsAsPorts}
 use Rattle.pattern_reading.proofs.PortsInside.{ports_inside}
@@ -14,7 +14,7 @@ use Rattle.blifww_tool.specs.Commands.{HasTextCause}
 use Rattle.blifww_tool.specs.Refusals.{simulate_error}
 use Rattle.blifww_tool.specs.Simulation.{Simulation, IsSimulation, last_shown, HasNoStreams, HasNoSimulation, HasStreamsCause}
 use Rattle.blifww_tool.specs.declared.causes.Cause.{Cause}
-use Rattle.blifww_tool.specs.declared.causes.Cause.TheVariants.{NetlistFault, WeightTooLarge, Loop, Pattern, GridTooLarge, PortTable, Streams, StartWord, NoSuchNet, TooFar, TooManyContexts}
+use Rattle.blifww_tool.specs.declared.causes.Cause.TheVariants.{NetlistFault, WeightTooLarge, Loop, Pattern, GridTooLarge, PortTable, Streams, StartWord, NoSuchNet, TooFar, TooManyContexts, NotQuiet}
 use Rattle.blifww_tool.specs.declared.causes.TextError.{TextError}
 use Rattle.blifww_tool.specs.declared.causes.TextError.TheVariants.{Refused, NoMemory}
 
@@ -34,6 +34,7 @@ cause_of cycles words text (StartWord f) h = h
 cause_of cycles words text (NoSuchNet name) h = h
 cause_of cycles words text (TooFar n) h = absurd h
 cause_of cycles words text (TooManyContexts n limit) h = h
+cause_of cycles words text (NotQuiet g x y) h = absurd h
 
 -- a text and words that are no simulation
 pub simulation_refused : (cycles : ℕ) (words : List (List ℕ)) (text : List ℕ) (e : TextError) → HasStreamsCause cycles words text e → HasTextCause (simulate cycles words) text e
@@ -42,7 +43,8 @@ simulation_refused cycles words text NoMemory h = tt
 
 -- a simulation that is not run
 pub time_refused : (cycles : ℕ) (words : List (List ℕ)) (text : List ℕ) (s : Simulation) (e : SimulateError) → IsSimulation cycles words text s
-    → HasSimulateCause (last_shown s) e → HasTextCause (simulate cycles words) text (simulate_error e)
+    → HasSimulateCause s.ports s.streams (plane_of s.grid.rows) (last_shown s) e → HasTextCause (simulate cycles words) text (simulate_error e)
 time_refused cycles words text s simulating.NoMemory h cause = tt
 time_refused cycles words text s (simulating.TooFar generations) h cause =
     (s, h, cause.0, subst (λ (n : ℕ). greatest_generation < n) (sym cause.0) cause.1)
+time_refused cycles words text s (simulating.NotQuiet generation x y) h cause = (s, h, cause.0, cause.1)

@@ -1,7 +1,8 @@
 -- A text and words give a simulation, or are refused in one way.
-use Rattle.std.proofs.Common.{ℕ, ◌≡◌, ◌<◌, ◌+◌, ◌-◌, ◌*◌, refl, sym, ap, ap₂, ◌∙◌, subst, List, arith}
-use Rattle.std.specs.Prelude.{slice_get}
+use Rattle.std.proofs.Common.{ℕ, ◌≡◌, ◌<◌, ◌≤◌, refl, sym, ap, ap₂, ◌∙◌, subst, Bool, List, arith}
+use Rattle.std.specs.Prelude.{slice_get, None}
 use Rattle.std.proofs.lemmas.Option.{none-some, same_Some}
+use Rattle.ww_rule.specs.declared.pattern.Injection.{Injection}
 use Rattle.ww_rule.specs.Grid.{Grid}
 use Rattle.pattern_reading.specs.declared.ports.Ports.{Ports}
 use Rattle.pattern_reading.specs.declared.faults.RleFaultKind.{RleFaultKind}
@@ -14,12 +15,12 @@ use Rattle.pattern_reading.proofs.Large.{one_reader_answer}
 use Rattle.rle_read.specs.declared.error.RleFault.{RleFault}
 use Rattle.port_table.specs.declared.faults.PortFault.{PortFault}
 use Rattle.streams.specs.declared.error.StreamFault.{StreamFault}
-use Rattle.streams.specs.Streams.{HasStreamFault}
-use Rattle.drive.specs.Driving.{last_generation, greatest_generation}
+use Rattle.streams.specs.Streams.{HasStreamFault, inputs_of_contexts, streams_of}
+use Rattle.drive.specs.Driving.{greatest_generation}
 use Rattle.pattern_reading.specs.Ports.{names_of}
-use Rattle.blifww_tool.specs.Simulation.{Simulation, IsSimulation, Simulates, HasNoStreams, HasNoSimulation}
+use Rattle.blifww_tool.specs.Simulation.{Simulation, IsSimulation, Simulates, HasNoStreams, HasNoSimulation, MissesAt, miss_up_to, last_shown}
 use Rattle.blifww_tool.specs.declared.causes.Cause.{Cause}
-use Rattle.blifww_tool.specs.declared.causes.Cause.TheVariants.{NetlistFault, WeightTooLarge, Loop, Pattern, GridTooLarge, PortTable, Streams, StartWord, NoSuchNet, TooFar, TooManyContexts}
+use Rattle.blifww_tool.specs.declared.causes.Cause.TheVariants.{NetlistFault, WeightTooLarge, Loop, Pattern, GridTooLarge, PortTable, Streams, StartWord, NoSuchNet, TooFar, TooManyContexts, NotQuiet}
 
 -- a pattern with ports, as a text has them
 pub record IsRead (text : List ℕ) (grid : Grid) (ports : Ports) : Type 0 where
@@ -31,7 +32,7 @@ pub data Reason (cycles : ℕ) (words : List (List ℕ)) (text : List ℕ) (r : 
   by_pattern : (fault : RleFault) → r ≡ Pattern fault → HasReaderFault text fault.kind fault.line → Reason cycles words text r
   by_box : (width height : ℕ) → r ≡ GridTooLarge width height → HasLargeBox text width height → Reason cycles words text r
   by_table : (fault : PortFault) → r ≡ PortTable fault → (grid : Grid) → ReadsWithinLimit text grid → HasPortFault text grid.width grid.height fault.kind fault.line → Reason cycles words text r
-  by_streams : (fault : StreamFault) → r ≡ Streams fault → (grid : Grid) → (ports : Ports) → IsRead text grid ports → HasStreamFault words (names_of ports.ins) cycles fault → Reason cycles words text r
+  by_streams : (fault : StreamFault) → r ≡ Streams fault → (grid : Grid) → (ports : Ports) → IsRead text grid ports → HasStreamFault ports.c words (names_of ports.ins) cycles fault → Reason cycles words text r
 
 reason_of : (cycles : ℕ) (words : List (List ℕ)) (text : List ℕ) (r : Cause) → HasNoStreams cycles words text r → Reason cycles words text r
 reason_of cycles words text (NetlistFault fault) h = absurd h
@@ -45,6 +46,7 @@ reason_of cycles words text (StartWord fault) h = absurd h
 reason_of cycles words text (NoSuchNet name) h = absurd h
 reason_of cycles words text (TooFar generations) h = absurd h
 reason_of cycles words text (TooManyContexts contexts limit) h = absurd h
+reason_of cycles words text (NotQuiet generation x y) h = absurd h
 
 pub read_of : (cycles : ℕ) (words : List (List ℕ)) (text : List ℕ) (s : Simulation) → IsSimulation cycles words text s → IsRead text s.grid s.ports
 read_of cycles words text s h = record { pattern = h.pattern; table = h.table }
@@ -71,17 +73,25 @@ table_or_read text kind line a b ports h fault k =
     (subst (λ (g : Grid). HasPortFault text g.width g.height kind line) (same_grid text a b h k.pattern) fault)
 
 streams_or_not : (cycles : ℕ) (words : List (List ℕ)) (text : List ℕ) (fault : StreamFault) (grid : Grid) (ports : Ports) (s : Simulation)
-    → IsRead text grid ports → HasStreamFault words (names_of ports.ins) cycles fault → IsSimulation cycles words text s → ⊥
+    → IsRead text grid ports → HasStreamFault ports.c words (names_of ports.ins) cycles fault → IsSimulation cycles words text s → ⊥
 streams_or_not cycles words text fault grid ports s h bad k =
     let same = same_ports text grid s.grid ports s.ports h (read_of cycles words text s k) in
-    let here = subst (λ (p : Ports). HasStreamFault words (names_of p.ins) cycles fault) same bad in
+    let here = subst (λ (p : Ports). HasStreamFault p.c words (names_of p.ins) cycles fault) same bad in
     none-some _ (ap (λ faults. slice_get faults 0) (sym k.streams.no_fault) ∙ here)
 
-same_last : (cycles : ℕ) (words : List (List ℕ)) (text : List ℕ) (s t : Simulation) → IsSimulation cycles words text s → IsSimulation cycles words text t
-    → last_generation s.ports s.streams ≡ last_generation t.ports t.streams
-same_last cycles words text s t h k =
-    let ports = same_ports text s.grid t.grid s.ports t.ports (read_of cycles words text s h) (read_of cycles words text t k) in
-    ap₂ (λ (p : Ports) (n : ℕ). p.l + (n - 1) * p.p) ports (h.many ∙ sym k.many)
+abbrev simulation : Grid → Ports → (cycles contexts : ℕ) → List (List Bool) → Simulation
+simulation grid ports cycles contexts bits = record { grid = grid; ports = ports; streams = record { cycles = cycles; c = contexts; bits = bits } }
+
+-- a text and words are one simulation
+pub same_simulation : (cycles : ℕ) (words : List (List ℕ)) (text : List ℕ) (s t : Simulation) → IsSimulation cycles words text s → IsSimulation cycles words text t → s ≡ t
+same_simulation cycles words text s t h k =
+    let ports : s.ports ≡ t.ports = same_ports text s.grid t.grid s.ports t.ports (read_of cycles words text s h) (read_of cycles words text t k) in
+    let contexts : s.streams.c ≡ t.streams.c = h.contexts ∙ ap (λ (p : Ports). p.c) ports ∙ sym k.contexts in
+    let bits : s.streams.bits ≡ t.streams.bits =
+    h.streams.bits_is ∙ ap (λ (p : Ports). streams_of p.c words (inputs_of_contexts p.c (names_of p.ins))) ports ∙ sym k.streams.bits_is in
+    ap₂ (λ (g : Grid) (p : Ports). simulation g p s.streams.cycles s.streams.c s.streams.bits) (same_grid text s.grid t.grid h.pattern k.pattern) ports
+    ∙ ap₂ (λ (n c : ℕ). simulation t.grid t.ports n c s.streams.bits) (h.many ∙ sym k.many) contexts
+    ∙ ap (simulation t.grid t.ports t.streams.cycles t.streams.c) bits
 
 abbrev rle_fault : RleFaultKind → ℕ → RleFault
 rle_fault k l = record { kind = k; line = l }
@@ -111,10 +121,10 @@ same_table text a b g k reads h reads' h' =
     let same = one_port_fault text g.width g.height a.kind b.kind a.line b.line h here in
     let e : port_fault a.kind a.line ≡ port_fault b.kind b.line = ap₂ port_fault same.0 same.1 in e
 
-same_streams : (cycles : ℕ) (words : List (List ℕ)) (p q : Ports) (a b : StreamFault) → p ≡ q → HasStreamFault words (names_of p.ins) cycles a
-    → HasStreamFault words (names_of q.ins) cycles b → a ≡ b
+same_streams : (cycles : ℕ) (words : List (List ℕ)) (p q : Ports) (a b : StreamFault) → p ≡ q → HasStreamFault p.c words (names_of p.ins) cycles a
+    → HasStreamFault q.c words (names_of q.ins) cycles b → a ≡ b
 same_streams cycles words p q a b same h k =
-    same_Some a b (sym (subst (λ (x : Ports). HasStreamFault words (names_of x.ins) cycles a) same h) ∙ k)
+    same_Some a b (sym (subst (λ (x : Ports). HasStreamFault x.c words (names_of x.ins) cycles a) same h) ∙ k)
 
 -- each stage's refusal is one
 one_reason : (cycles : ℕ) (words : List (List ℕ)) (text : List ℕ) (r r' : Cause) → Reason cycles words text r → Reason cycles words text r' → r ≡ r'
@@ -143,7 +153,8 @@ one_streams_cause cycles words text r r' h k = one_reason cycles words text r r'
 -- the ways to be not simulated
 data Late (cycles : ℕ) (words : List (List ℕ)) (text : List ℕ) (r : Cause) : Type 0 where
   early : HasNoStreams cycles words text r → Late cycles words text r
-  late : (generations : ℕ) → r ≡ TooFar generations → (s : Simulation) → IsSimulation cycles words text s → generations ≡ last_generation s.ports s.streams → greatest_generation < generations → Late cycles words text r
+  late : (generations : ℕ) → r ≡ TooFar generations → (s : Simulation) → IsSimulation cycles words text s → generations ≡ last_shown s → greatest_generation < generations → Late cycles words text r
+  by_miss : (g x y : ℕ) → r ≡ NotQuiet g x y → (s : Simulation) → IsSimulation cycles words text s → last_shown s ≤ greatest_generation → MissesAt s (last_shown s) g x y → Late cycles words text r
 
 late_of : (cycles : ℕ) (words : List (List ℕ)) (text : List ℕ) (r : Cause) → HasNoSimulation cycles words text r → Late cycles words text r
 late_of cycles words text (NetlistFault fault) h = early h
@@ -157,22 +168,47 @@ late_of cycles words text (StartWord fault) h = early h
 late_of cycles words text (NoSuchNet name) h = early h
 late_of cycles words text (TooFar generations) h = late generations refl h.0 h.1 h.2 h.3
 late_of cycles words text (TooManyContexts contexts limit) h = early h
+late_of cycles words text (NotQuiet generation x y) h = by_miss generation x y refl h.0 h.1 h.2 h.3
 
--- a simulation that is near enough is not refused
+-- one miss is the first, where there is one
+abbrev miss_at : (g x y : ℕ) → Injection
+miss_at g x y = record { generation = g; x = x; y = y }
+
+pub one_miss : (s : Simulation) (at g x y g' x' y' : ℕ) → MissesAt s at g x y → MissesAt s at g' x' y' → NotQuiet g x y ≡ NotQuiet g' x' y'
+one_miss s at g x y g' x' y' h k = ap (λ (i : Injection). NotQuiet i.generation i.x i.y) (same_Some (miss_at g x y) (miss_at g' x' y') (sym h ∙ k))
+
+pub miss_or_not : (s : Simulation) (at g x y : ℕ) → MissesAt s at g x y → miss_up_to s at ≡ None → ⊥
+miss_or_not s at g x y h quiet = none-some _ (sym quiet ∙ h)
+
+-- a simulation that is near enough and has no miss is not refused
 near_or_late : (cycles : ℕ) (words : List (List ℕ)) (text : List ℕ) (s : Simulation) (r : Cause) → Simulates cycles words text s → Late cycles words text r → ⊥
 near_or_late cycles words text s r h (early k) = simulation_or_not cycles words text s r h.is k
 near_or_late cycles words text s r h (late generations e t k is far) =
-    let same = same_last cycles words text t s k h.is in
+    let same : last_shown t ≡ last_shown s = ap (λ (x : Simulation). last_shown x) (same_simulation cycles words text t s k h.is) in
     omega (arith, h.near, same, is, far)
+near_or_late cycles words text s r h (by_miss g x y e t k near misses) =
+    miss_or_not s (last_shown s) g x y (subst (λ (u : Simulation). MissesAt u (last_shown u) g x y) (same_simulation cycles words text t s k h.is) misses) h.quiet
 
 pub simulates_or_not : (cycles : ℕ) (words : List (List ℕ)) (text : List ℕ) (s : Simulation) (r : Cause) → Simulates cycles words text s → HasNoSimulation cycles words text r → ⊥
 simulates_or_not cycles words text s r h k = near_or_late cycles words text s r h (late_of cycles words text r k)
 
+far_or_near : (cycles : ℕ) (words : List (List ℕ)) (text : List ℕ) (n : ℕ) (s t : Simulation) → IsSimulation cycles words text s → IsSimulation cycles words text t → n ≡ last_shown s → greatest_generation < n → last_shown t ≤ greatest_generation → ⊥
+far_or_near cycles words text n s t h k is far near =
+    let same : last_shown s ≡ last_shown t = ap (λ (x : Simulation). last_shown x) (same_simulation cycles words text s t h k) in
+    omega (arith, same, is, far, near)
+
 one_late : (cycles : ℕ) (words : List (List ℕ)) (text : List ℕ) (r r' : Cause) → Late cycles words text r → Late cycles words text r' → r ≡ r'
 one_late cycles words text r r' (early h) (early k) = one_streams_cause cycles words text r r' h k
 one_late cycles words text r r' (early h) (late n e s k is far) = absurd (simulation_or_not cycles words text s r k h)
+one_late cycles words text r r' (early h) (by_miss g x y e s k near misses) = absurd (simulation_or_not cycles words text s r k h)
 one_late cycles words text r r' (late n e s k is far) (early h) = absurd (simulation_or_not cycles words text s r' k h)
-one_late cycles words text r r' (late n e s k is far) (late n' e' s' k' is' far') = e ∙ ap TooFar (is ∙ same_last cycles words text s s' k k' ∙ sym is') ∙ sym e'
+one_late cycles words text r r' (late n e s k is far) (late n' e' s' k' is' far') =
+    e ∙ ap TooFar (is ∙ ap (λ (x : Simulation). last_shown x) (same_simulation cycles words text s s' k k') ∙ sym is') ∙ sym e'
+one_late cycles words text r r' (late n e s k is far) (by_miss g x y e' s' k' near misses) = absurd (far_or_near cycles words text n s s' k k' is far near)
+one_late cycles words text r r' (by_miss g x y e s k near misses) (early h) = absurd (simulation_or_not cycles words text s r' k h)
+one_late cycles words text r r' (by_miss g x y e s k near misses) (late n e' s' k' is far) = absurd (far_or_near cycles words text n s' s k' k is far near)
+one_late cycles words text r r' (by_miss g x y e s k near misses) (by_miss g' x' y' e' s' k' near' misses') =
+    e ∙ one_miss s' (last_shown s') g x y g' x' y' (subst (λ (u : Simulation). MissesAt u (last_shown u) g x y) (same_simulation cycles words text s s' k k') misses) misses' ∙ sym e'
 
 pub one_cause : (cycles : ℕ) (words : List (List ℕ)) (text : List ℕ) (r r' : Cause) → HasNoSimulation cycles words text r → HasNoSimulation cycles words text r' → r ≡ r'
 one_cause cycles words text r r' h k = one_late cycles words text r r' (late_of cycles words text r h) (late_of cycles words text r' k)

@@ -10,10 +10,10 @@ use Rattle.blifww_tool.specs.Commands.{Refuses}
 use Rattle.blifww_tool.specs.Compilation.{HasNoRoom, latch_count, least_room}
 use Rattle.blifww_tool.specs.Refusals.{status_of, status_of_cause}
 use Rattle.blifww_tool.specs.Run.{Call, Reading, Asks, IsAsked, GaveTooMany, GaveAll, HasText, ReadFailed, WriteFailed, HasReason, RefusesText, IsRefused, CutsLine, CutsOutput, Ends}
-use Rattle.blifww_tool.specs.Statuses.{StatusesHaveCauses, IsOverALimit, HasNoPattern, WordsDoNotFit}
+use Rattle.blifww_tool.specs.Statuses.{StatusesHaveCauses, IsOverALimit, HasNoPattern, WordsDoNotFit, IsNotQuiet}
 use Rattle.blifww_tool.proofs.Given.{one_command}
 use Rattle.blifww_tool.specs.declared.causes.Cause.{Cause}
-use Rattle.blifww_tool.specs.declared.causes.Cause.TheVariants.{NetlistFault, WeightTooLarge, Loop, Pattern, GridTooLarge, PortTable, Streams, StartWord, NoSuchNet, TooFar, TooManyContexts}
+use Rattle.blifww_tool.specs.declared.causes.Cause.TheVariants.{NetlistFault, WeightTooLarge, Loop, Pattern, GridTooLarge, PortTable, Streams, StartWord, NoSuchNet, TooFar, TooManyContexts, NotQuiet}
 use Rattle.blifww_tool.specs.declared.refusals.Refusal.{Refusal}
 use Rattle.blifww_tool.specs.declared.refusals.Refusal.TheVariants.{Usage, TooLong, ReadFault, WriteFault, NoMemory, Text}
 
@@ -29,6 +29,7 @@ not_cause (StartWord f) = (λ e. cc, λ e. cc)
 not_cause (NoSuchNet name) = (λ e. cc, λ e. cc)
 not_cause (TooFar n) = (λ e. cc, λ e. cc)
 not_cause (TooManyContexts n limit) = (λ e. cc, λ e. cc)
+not_cause (NotQuiet g x y) = (λ e. cc, λ e. cc)
 
 -- by its status a cause is a fault, a loop, or too great a weight where the text is a netlist's
 at_fault_by : (command : CommandValues) (src : Reading) (text : List ℕ) (cause : Cause) → status_of_cause cause ≡ 1 → HasText command src text → Refuses command text cause
@@ -50,6 +51,7 @@ at_fault_by command src text (StartWord f) e given h = absurd (omega (arith, e))
 at_fault_by command src text (NoSuchNet name) e given h = absurd (omega (arith, e))
 at_fault_by command src text (TooFar n) e given h = absurd (omega (arith, e))
 at_fault_by command src text (TooManyContexts n limit) e given h = absurd (omega (arith, e))
+at_fault_by command src text (NotQuiet g x y) e given h = absurd (omega (arith, e))
 
 a_loop_by : (command : CommandValues) (src : Reading) (text : List ℕ) (cause : Cause) → status_of_cause cause ≡ 3 → HasText command src text → Refuses command text cause
     → (read : List ℕ) × (names : List Name) × GaveAll src read × HasLoop read names
@@ -70,6 +72,7 @@ a_loop_by command src text (StartWord f) e given h = absurd (omega (arith, e))
 a_loop_by command src text (NoSuchNet name) e given h = absurd (omega (arith, e))
 a_loop_by command src text (TooFar n) e given h = absurd (omega (arith, e))
 a_loop_by command src text (TooManyContexts n limit) e given h = absurd (omega (arith, e))
+a_loop_by command src text (NotQuiet g x y) e given h = absurd (omega (arith, e))
 
 -- too great a weight, or too many contexts
 abbrev IsTooLarge : (contexts : ℕ) → (starts : List (List ℕ)) → List ℕ → Type 0
@@ -87,6 +90,7 @@ too_large_by contexts starts text (StartWord f) e h = absurd (omega (arith, e))
 too_large_by contexts starts text (NoSuchNet name) e h = absurd h
 too_large_by contexts starts text (TooFar n) e h = absurd h
 too_large_by contexts starts text (TooManyContexts n limit) e h = inr (limit, h.1)
+too_large_by contexts starts text (NotQuiet g x y) e h = absurd h
 
 at_fault : (words : List (List ℕ)) (src : Reading) (r : Refusal) → HasReason words src r → status_of r ≡ 1 → (text : List ℕ) × (fault : Fault) × GaveAll src text × IsAtFault text fault
 at_fault words src Usage h e = absurd (omega (arith, e))
@@ -150,6 +154,7 @@ over_a_limit_by c (StartWord f) e h = absurd (omega (arith, e))
 over_a_limit_by c (NoSuchNet name) e h = absurd (omega (arith, e))
 over_a_limit_by c (TooFar n) e h = inr (inr (inr (inl (n, h))))
 over_a_limit_by c (TooManyContexts n limit) e h = inr (inr (inr (inr (n, limit, h))))
+over_a_limit_by c (NotQuiet g x y) e h = absurd (omega (arith, e))
 
 over_a_limit : (c : Call) (r : Refusal) → HasReason c.words c.src r → status_of r ≡ 4 → IsOverALimit c
 over_a_limit c Usage h e = absurd (omega (arith, e))
@@ -171,6 +176,7 @@ no_pattern_by c (StartWord f) e h = absurd (omega (arith, e))
 no_pattern_by c (NoSuchNet name) e h = absurd (omega (arith, e))
 no_pattern_by c (TooFar n) e h = absurd (omega (arith, e))
 no_pattern_by c (TooManyContexts n limit) e h = absurd (omega (arith, e))
+no_pattern_by c (NotQuiet g x y) e h = absurd (omega (arith, e))
 
 no_pattern : (c : Call) (r : Refusal) → HasReason c.words c.src r → status_of r ≡ 8 → HasNoPattern c
 no_pattern c Usage h e = absurd (omega (arith, e))
@@ -192,6 +198,7 @@ misfit_by c (StartWord f) e h = inr (inl (f, h))
 misfit_by c (NoSuchNet name) e h = inr (inr (name, h))
 misfit_by c (TooFar n) e h = absurd (omega (arith, e))
 misfit_by c (TooManyContexts n limit) e h = absurd (omega (arith, e))
+misfit_by c (NotQuiet g x y) e h = absurd (omega (arith, e))
 
 misfit : (c : Call) (r : Refusal) → HasReason c.words c.src r → status_of r ≡ 9 → WordsDoNotFit c
 misfit c Usage h e = absurd (omega (arith, e))
@@ -200,6 +207,28 @@ misfit c ReadFault h e = absurd (omega (arith, e))
 misfit c WriteFault h e = absurd h
 misfit c NoMemory h e = absurd (omega (arith, e))
 misfit c (Text cause) h e = misfit_by c cause e h
+
+not_quiet_by : (c : Call) (cause : Cause) → status_of_cause cause ≡ 10 → RefusesText c.words c.src cause → IsNotQuiet c
+not_quiet_by c (NetlistFault f) e h = absurd (omega (arith, e))
+not_quiet_by c (WeightTooLarge w) e h = absurd (omega (arith, e))
+not_quiet_by c (Loop names) e h = absurd (omega (arith, e))
+not_quiet_by c (Pattern f) e h = absurd (omega (arith, e))
+not_quiet_by c (GridTooLarge x y) e h = absurd (omega (arith, e))
+not_quiet_by c (PortTable f) e h = absurd (omega (arith, e))
+not_quiet_by c (Streams f) e h = absurd (omega (arith, e))
+not_quiet_by c (StartWord f) e h = absurd (omega (arith, e))
+not_quiet_by c (NoSuchNet name) e h = absurd (omega (arith, e))
+not_quiet_by c (TooFar n) e h = absurd (omega (arith, e))
+not_quiet_by c (TooManyContexts n limit) e h = absurd (omega (arith, e))
+not_quiet_by c (NotQuiet g x y) e h = (g, x, y, h)
+
+not_quiet : (c : Call) (r : Refusal) → HasReason c.words c.src r → status_of r ≡ 10 → IsNotQuiet c
+not_quiet c Usage h e = absurd (omega (arith, e))
+not_quiet c TooLong h e = absurd (omega (arith, e))
+not_quiet c ReadFault h e = absurd (omega (arith, e))
+not_quiet c WriteFault h e = absurd h
+not_quiet c NoMemory h e = absurd (omega (arith, e))
+not_quiet c (Text cause) h e = not_quiet_by c cause e h
 
 read_fault : (words : List (List ℕ)) (src : Reading) (r : Refusal) → HasReason words src r → status_of r ≡ 5 → ReadFailed src
 read_fault words src Usage h e = cc
@@ -275,4 +304,5 @@ statuses_have_causes c status h = record {
   write_fault = λ e. write_fault c (h.cut e);
   no_pattern = λ e. let r = refused c status 8 h (λ z. cc) (λ z. cc) e in no_pattern c r.refusal r.reason r.status_is;
   misfit = λ e. let r = refused c status 9 h (λ z. cc) (λ z. cc) e in misfit c r.refusal r.reason r.status_is;
+  not_quiet = λ e. let r = refused c status 10 h (λ z. cc) (λ z. cc) e in not_quiet c r.refusal r.reason r.status_is;
 }

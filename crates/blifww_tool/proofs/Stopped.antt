@@ -1,5 +1,5 @@
 -- How the part of a run that reads and writes stops.
-use Rattle.std.proofs.Common.{ℕ, true, ◌≡◌, ◌<◌, refl, List, length}
+use Rattle.std.proofs.Common.{ℕ, true, ◌≡◌, ◌<◌, refl, List, length, take}
 use Rattle.std.specs.Prelude.{Option, Some, None}
 use Rattle.std.specs.Io.KnownBytes.{Keeps}
 use Rattle.command_words.specs.Shapes.{CommandValues, IsCommand}
@@ -10,9 +10,10 @@ use Rattle.ww_base.specs.declared.whole.ReadAllError.TheVariants as read_error
 use Rattle.blifww_tool.specs.declared.causes.TextError.{TextError}
 use Rattle.blifww_tool.specs.declared.causes.TextError.TheVariants as text_error
 use Rattle.blifww_tool.specs.Answer.{HasStopped}
-use Rattle.blifww_tool.specs.Commands.{reads_text, HasTextCause}
+use Rattle.blifww_tool.specs.Commands.{reads_text, HasTextCause, Prints}
 use Rattle.blifww_tool.specs.Refusals.{words_refusal, read_refusal, text_refusal}
-use Rattle.blifww_tool.specs.Run.{Reading, Writing, IsAsked, Gave, HasText, GainedNothing, ReadFailed, text_limit}
+use Rattle.blifww_tool.specs.Run.{Reading, Writing, IsAsked, Gave, Gained, HasText, GainedNothing, ReadFailed, WriteFailed, text_limit}
+use Rattle.blifww_tool.specs.declared.refusals.Refusal.TheVariants.{WriteFault}
 
 -- what is not written to stays
 pub kept : (held : Option (List ℕ)) → Keeps held held
@@ -32,8 +33,14 @@ by_read words src out command read_error.TooLong nothing asked reads failed long
     let l = long refl in (nothing, record { command = command; asked = asked; reads = reads; given = l.0; gave = l.1; many = l.2 })
 by_read words src out command read_error.NoMemory nothing asked reads failed long = (nothing, tt)
 
--- and at a text that gives no output
+-- at a text that gives no output,
 pub by_text : (words : List (List ℕ)) (src : Reading) (out : Writing) (command : CommandValues) (text : List ℕ) (e : TextError) → GainedNothing out → IsAsked words command → HasText command src text
     → HasTextCause command text e → HasStopped words src out (text_refusal e)
 by_text words src out command text (text_error.Refused cause) nothing asked given h = (nothing, record { command = command; asked = asked; text = text; given = given; refused = h })
 by_text words src out command text text_error.NoMemory nothing asked given h = (nothing, tt)
+
+-- and at an output that is cut off
+pub by_write : (words : List (List ℕ)) (src : Reading) (out : Writing) (command : CommandValues) (text output : List ℕ) (n : ℕ) → IsAsked words command → HasText command src text → Prints command text output
+    → WriteFailed out → Gained out (take n output) → HasStopped words src out WriteFault
+by_write words src out command text output n asked given prints failed gained =
+    (n, failed, record { command = command; asked = asked; text = text; given = given; output = output; prints = prints; wrote = gained })

@@ -10,11 +10,10 @@ use Rattle.made_netlists.specs.Design.{made_design}
 use Rattle.made_summary.specs.Summaries.{HasSummaryCause}
 use Rattle.made_summary.specs.Laws.{most_generations}
 use Rattle.made_summary.specs.declared.error.SummaryError.TheVariants as summarizing
-use Rattle.blifww_tool.specs.Lines.{bits_line}
 use Rattle.blifww_tool.specs.Compilation.{Compiles, HasNoCompilation, HasStarts, least_room}
-use Rattle.blifww_tool.specs.Simulation.{Simulation, IsSimulation, Simulates, simulation_text, HasNoStreams, HasNoSimulation}
-use Rattle.blifww_tool.specs.Probing.{Probes, HasNoProbe}
-use Rattle.blifww_tool.specs.Viewing.{cycles_in, ShowsPart}
+use Rattle.blifww_tool.specs.Simulation.{Simulation, Simulates, simulation_text, HasNoSimulation}
+use Rattle.blifww_tool.specs.Probing.{Probes, PrintsProbe, HasNoProbe}
+use Rattle.blifww_tool.specs.Viewing.{HasView, ShowsPart, HasNoView}
 use Rattle.blifww_tool.specs.Evaluation.{Evaluation, IsEvaluation, Evaluates, HasNoEvaluation}
 use Rattle.blifww_tool.specs.Summary.{TellsSummary}
 use Rattle.blifww_tool.specs.declared.causes.Cause.{Cause}
@@ -34,24 +33,24 @@ reads_text (make seed size) = false
 reads_text (self_ seed size cycles) = false
 
 -- the command accepts the text: it is a netlist, in which the words say starts of as many contexts as every plan has room for; with the
--- words a simulation in time; with the words an evaluation; a simulation that has the net and shows it in time; a simulation; always; or
--- where no plan of the made netlist can need more generations than are run
+-- words a simulation in time, without a miss; with the words an evaluation; a simulation that has the net and shows it so; a simulation
+-- without a miss up to the view; always; or where no plan of the made netlist can need more generations than are run
 abbrev pub Accepts : CommandValues → List ℕ → Type 0
 Accepts (compile contexts starts) text = (design : Design) × HasStarts contexts starts text design × (contexts ≤ least_room design)
 Accepts (simulate cycles words) text = (s : Simulation) × Simulates cycles words text s
 Accepts (eval cycles words) text = (e : Evaluation) × IsEvaluation cycles words text e
-Accepts (probe cycles net path words) text = (bits : List Bool) × Probes cycles net path words text bits
-Accepts (window view words) text = (s : Simulation) × IsSimulation (cycles_in words) words text s
+Accepts (probe cycles net path words) text = (bits : List (List Bool)) × Probes cycles net path words text bits
+Accepts (window view words) text = (s : Simulation) × HasView view words text s
 Accepts (make seed size) text = ⊤
 Accepts (self_ seed size cycles) text = most_generations (weight (made_design seed size)) cycles ≤ greatest_generation
 
 -- of such a text it prints this output: a pattern that carries the netlist in these contexts; a line for each output of the pattern, or of the
--- netlist; the line of the net; the lines of a part of the plane; the made text; or what is told of the made netlist
+-- netlist; the lines of the net; those of a part of the plane; the made text; or what is told of the made netlist
 abbrev pub Prints : CommandValues → (text output : List ℕ) → Type 0
 Prints (compile contexts starts) text output = Compiles contexts starts text output
 Prints (simulate cycles words) text output = (s : Simulation) × Simulates cycles words text s × (output ≡ simulation_text s)
 Prints (eval cycles words) text output = Evaluates cycles words text output
-Prints (probe cycles net path words) text output = (bits : List Bool) × Probes cycles net path words text bits × (output ≡ bits_line net bits)
+Prints (probe cycles net path words) text output = PrintsProbe cycles net path words text output
 Prints (window view words) text output = ShowsPart view words text output
 Prints (make seed size) text output = output ≡ made_text seed size
 Prints (self_ seed size cycles) text output = TellsSummary seed size cycles output
@@ -62,7 +61,7 @@ Refuses (compile contexts starts) text cause = HasNoCompilation contexts starts 
 Refuses (simulate cycles words) text cause = HasNoSimulation cycles words text cause
 Refuses (eval cycles words) text cause = HasNoEvaluation cycles words text cause
 Refuses (probe cycles net path words) text cause = HasNoProbe cycles net path words text cause
-Refuses (window view words) text cause = HasNoStreams (cycles_in words) words text cause
+Refuses (window view words) text cause = HasNoView view words text cause
 Refuses (make seed size) text cause = ⊥
 Refuses (self_ seed size cycles) text (TooFar generations) = HasSummaryCause seed size cycles (summarizing.TooFar generations)
 Refuses (self_ seed size cycles) text cause = ⊥

@@ -28,18 +28,20 @@ pub record IsEvaluation (cycles : ℕ) (words : List (List ℕ)) (text : List �
   pub netlist : IsNetlist text e.design
   pub names : IsInNames e.design e.in_names
   pub many : e.streams.cycles ≡ cycles
-  pub streams : HasStreams words e.in_names cycles e.streams.bits
+  pub contexts : e.streams.c ≡ 1
+  pub streams : HasStreams 1 words e.in_names cycles e.streams.bits
 
 -- the words say these streams for the IN names of a design,
 pub record FeedsInputs (cycles : ℕ) (words : List (List ℕ)) (design : Design) (fed : Streams) : Type 0 where
   pub in_names : List Name
   pub names : IsInNames design in_names
   pub many : fed.cycles ≡ cycles
-  pub streams : HasStreams words in_names cycles fed.bits
+  pub contexts : fed.c ≡ 1
+  pub streams : HasStreams 1 words in_names cycles fed.bits
 
 -- or none for them
 abbrev pub HasInputsCause : ℕ → List (List ℕ) → Design → StreamError → Type 0
-HasInputsCause cycles words design (streams_of.Fault fault) = (names : List Name) × IsInNames design names × HasStreamFault words names cycles fault
+HasInputsCause cycles words design (streams_of.Fault fault) = (names : List Name) × IsInNames design names × HasStreamFault 1 words names cycles fault
 HasInputsCause cycles words design streams_of.NoMemory = ⊤
 
 -- the lines are those of a run of a design on streams
@@ -63,5 +65,5 @@ pub record Evaluates (cycles : ℕ) (words : List (List ℕ)) (text output : Lis
 -- why the text and the words are none: the text is no netlist, or the streams are at fault
 abbrev pub HasNoEvaluation : ℕ → List (List ℕ) → List ℕ → Cause → Type 0
 HasNoEvaluation cycles words text (OfStreams fault) =
-    (design : Design) × (names : List Name) × IsNetlist text design × IsInNames design names × HasStreamFault words names cycles fault
+    (design : Design) × (names : List Name) × IsNetlist text design × IsInNames design names × HasStreamFault 1 words names cycles fault
 HasNoEvaluation cycles words text cause = HasNoNetlist text cause

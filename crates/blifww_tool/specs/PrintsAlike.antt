@@ -2,18 +2,20 @@
 use Rattle.std.specs.Prelude.{ℕ, ◌≡◌, List, []}
 use Rattle.netlist_core.specs.declared.model.Design.{Design}
 use Rattle.netlist_meaning.specs.Nets.{Net, IsNet, IsClockNet}
-use Rattle.netlist_meaning.specs.Valuation.{Valuation, IsRun}
+use Rattle.netlist_meaning.specs.Valuation.{Valuation, LatchState, IsRun}
 use Rattle.netlist_text.specs.NetlistText.{IsNetlist}
 use Rattle.place_paths.specs.Paths.{path_of}
 use Rattle.carries.specs.Carries.{Carries}
 use Rattle.carries.specs.Nets.{CarriesNets}
+use Rattle.carries.specs.DesignContexts.{CarriesContexts}
 use Rattle.streams.specs.declared.streams.Streams.{Streams}
 use Rattle.streams.specs.Rows.{rows_of}
 use Rattle.shown_runs.specs.ShownRuns.{net_bits_in_run}
-use Rattle.command_words.specs.Shapes.{compile, simulate, eval, probe}
+use Rattle.command_words.specs.Shapes.{CommandValues, compile, simulate, eval, probe}
 use Rattle.blifww_tool.specs.Lines.{bits_line}
 use Rattle.blifww_tool.specs.Evaluation.{FeedsInputs}
-use Rattle.blifww_tool.specs.Commands.{Prints}
+use Rattle.blifww_tool.specs.Commands.{Prints, Refuses}
+use Rattle.blifww_tool.specs.declared.causes.Cause.TheVariants.{NotQuiet}
 
 -- under the same words, whoever made the text
 abbrev pub CarriersPrintAlike : Type 0
@@ -49,3 +51,9 @@ CarriersPrintNets =
     (text : List ℕ) (design : Design) → CarriesNets text design
     → (cycles : ℕ) (name path : List ℕ) (words : List (List ℕ)) (output : List ℕ)
     → Prints (probe cycles name path words) text output → PrintsNet cycles name path words design output
+
+-- no command finds that an injection meets no conductor in a text that carries a design in contexts, whoever made the text
+abbrev pub CarriersRunQuietly : Type 0
+CarriersRunQuietly =
+    (text : List ℕ) (design : Design) (starts : List LatchState) → CarriesContexts text design starts
+    → (command : CommandValues) (generation x y : ℕ) → Refuses command text (NotQuiet generation x y) → ⊥

@@ -30,10 +30,12 @@ use Rattle.drive.specs.declared.error.SimulateError.{SimulateError}
 use Rattle.drive.specs.declared.error.SimulateError.TheVariants as simulating
 use Rattle.probe_view.specs.declared.error.ProbeError.{ProbeError}
 use Rattle.probe_view.specs.declared.error.ProbeError.TheVariants as probing
+use Rattle.probe_view.specs.declared.error.WindowError.{WindowError}
+use Rattle.probe_view.specs.declared.error.WindowError.TheVariants as viewing
 use Rattle.made_summary.specs.declared.error.SummaryError.{SummaryError}
 use Rattle.made_summary.specs.declared.error.SummaryError.TheVariants as summarizing
 use Rattle.blifww_tool.specs.declared.causes.Cause.{Cause}
-use Rattle.blifww_tool.specs.declared.causes.Cause.TheVariants.{NetlistFault, WeightTooLarge, Loop, Pattern, GridTooLarge, PortTable, Streams, StartWord, NoSuchNet, TooFar, TooManyContexts}
+use Rattle.blifww_tool.specs.declared.causes.Cause.TheVariants.{NetlistFault, WeightTooLarge, Loop, Pattern, GridTooLarge, PortTable, Streams, StartWord, NoSuchNet, TooFar, TooManyContexts, NotQuiet}
 use Rattle.blifww_tool.specs.declared.causes.TextError.{TextError}
 use Rattle.blifww_tool.specs.declared.causes.TextError.TheVariants as text
 use Rattle.blifww_tool.specs.declared.refusals.Refusal.{Refusal}
@@ -52,6 +54,7 @@ status_of_cause (StartWord fault) = 9
 status_of_cause (NoSuchNet name) = 9
 status_of_cause (TooFar generations) = 4
 status_of_cause (TooManyContexts contexts limit) = 4
+status_of_cause (NotQuiet generation x y) = 10
 
 -- the exit status of a refusal
 abbrev pub status_of : Refusal → ℕ
@@ -82,6 +85,7 @@ port_fault_name port.Twice = codes "H4 Twice"
 -- those of streams
 abbrev pub stream_fault_name : StreamFaultKind → List ℕ
 stream_fault_name stream.NoEquals = codes "NoEquals"
+stream_fault_name stream.BadContext = codes "BadContext"
 stream_fault_name stream.UnknownInput = codes "UnknownInput"
 stream_fault_name stream.TwiceInput = codes "TwiceInput"
 stream_fault_name stream.BadBit = codes "BadBit"
@@ -134,6 +138,8 @@ cause_line (NoSuchNet name) = stream_line (codes "NoSuchNet") name
 cause_line (TooFar generations) = codes "too large: generations " ++ (decimal generations ++ codes "\n")
 cause_line (TooManyContexts contexts limit) =
     codes "too large: contexts " ++ (decimal contexts ++ (codes " limit " ++ (decimal limit ++ codes "\n")))
+cause_line (NotQuiet generation x y) =
+    codes "not quiet: generation " ++ (decimal generation ++ (codes " cell " ++ (decimal x ++ (codes " " ++ (decimal y ++ codes "\n")))))
 
 -- the one line that tells a refusal
 abbrev pub refusal_line : Refusal → List ℕ
@@ -191,13 +197,20 @@ starts_error starts_of.NoMemory = text.NoMemory
 -- the pattern is not run,
 abbrev pub simulate_error : SimulateError → TextError
 simulate_error (simulating.TooFar generations) = text.Refused (TooFar generations)
+simulate_error (simulating.NotQuiet generation x y) = text.Refused (NotQuiet generation x y)
 simulate_error simulating.NoMemory = text.NoMemory
 
 -- its net is not shown,
 abbrev pub probe_error : List ℕ → ProbeError → TextError
 probe_error name probing.NoSuchNet = text.Refused (NoSuchNet name)
 probe_error name (probing.TooFar generations) = text.Refused (TooFar generations)
+probe_error name (probing.NotQuiet generation x y) = text.Refused (NotQuiet generation x y)
 probe_error name probing.NoMemory = text.NoMemory
+
+-- a part of its plane is not,
+abbrev pub window_error : WindowError → TextError
+window_error (viewing.NotQuiet generation x y) = text.Refused (NotQuiet generation x y)
+window_error viewing.NoMemory = text.NoMemory
 
 -- or a made netlist is not
 abbrev pub summarizing_error : SummaryError → TextError

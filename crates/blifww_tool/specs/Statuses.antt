@@ -10,7 +10,7 @@ use Rattle.start_words.specs.declared.error.StartFault.{StartFault}
 use Rattle.command_words.specs.Shapes.{CommandValues, compile, IsCommand}
 use Rattle.blifww_tool.specs.Compilation.{HasNoRoom}
 use Rattle.blifww_tool.specs.Run.{Call, Asks, IsAsked, GaveTooMany, GaveAll, ReadFailed, WriteFailed, RefusesText, Ends}
-use Rattle.blifww_tool.specs.declared.causes.Cause.TheVariants.{WeightTooLarge, Pattern, GridTooLarge, PortTable, Streams, StartWord, NoSuchNet, TooFar, TooManyContexts}
+use Rattle.blifww_tool.specs.declared.causes.Cause.TheVariants.{WeightTooLarge, Pattern, GridTooLarge, PortTable, Streams, StartWord, NoSuchNet, TooFar, TooManyContexts, NotQuiet}
 
 -- the source gave too many bytes, or the command refuses the text that it has: for the netlist's weight, the size of the pattern's box,
 -- the number of generations, or that of contexts
@@ -34,6 +34,10 @@ WordsDoNotFit c =
     ((fault : StreamFault) × RefusesText c.words c.src (Streams fault))
     ⊎ (((fault : StartFault) × RefusesText c.words c.src (StartWord fault)) ⊎ ((name : Name) × RefusesText c.words c.src (NoSuchNet name)))
 
+-- the command refuses the text, for an injection that meets no conductor
+abbrev pub IsNotQuiet : Call → Type 0
+IsNotQuiet c = (generation x y : ℕ) × RefusesText c.words c.src (NotQuiet generation x y)
+
 -- Each status but 7 comes only where its cause is; of 0 a command was asked.
 pub record HaveCauses (c : Call) (status : ℕ) : Type 0 where
   pub at_fault : status ≡ 1 → (text : List ℕ) × (fault : Fault) × GaveAll c.src text × IsAtFault text fault
@@ -50,6 +54,7 @@ pub record HaveCauses (c : Call) (status : ℕ) : Type 0 where
   pub write_fault : status ≡ 6 → WriteFailed c.out ⊎ WriteFailed c.err
   pub no_pattern : status ≡ 8 → HasNoPattern c
   pub misfit : status ≡ 9 → WordsDoNotFit c
+  pub not_quiet : status ≡ 10 → IsNotQuiet c
 
 abbrev pub StatusesHaveCauses : Type 0
 StatusesHaveCauses = (c : Call) (status : ℕ) → Ends c status → HaveCauses c status

@@ -41,6 +41,8 @@ pub enum Cause {
     TooFar { generations: u128 },
     /// The plan has no room for so many contexts, but for this number.
     TooManyContexts { contexts: u64, limit: u64 },
+    /// An injection is due at this generation and cell, which is no conductor before the injections of that generation.
+    NotQuiet { generation: u64, x: u64, y: u64 },
 }
 
 impl Cause {
@@ -59,6 +61,7 @@ impl Cause {
             | Cause::TooManyContexts { .. } => 4,
             Cause::Pattern(_) | Cause::PortTable(_) => 8,
             Cause::Streams(_) | Cause::StartWord(_) | Cause::NoSuchNet(_) => 9,
+            Cause::NotQuiet { .. } => 10,
         }
     }
 }
@@ -176,18 +179,24 @@ impl From<SimulateError> for TextError {
             SimulateError::TooFar { generations } => {
                 TextError::Refused(Cause::TooFar { generations })
             }
+            SimulateError::NotQuiet { generation, x, y } => {
+                TextError::Refused(Cause::NotQuiet { generation, x, y })
+            }
             SimulateError::NoMemory => TextError::NoMemory,
         }
     }
 }
 
 impl From<WindowError> for TextError {
-    ghost use Rattle.blifww_tool.specs.declared.causes.TextError.TheVariants.{NoMemory};
+    ghost use Rattle.blifww_tool.specs.Refusals.{window_error};
 
-    ghost from_gives = { λ _ r. r ≡ NoMemory };
+    ghost from_gives = { λ e r. r ≡ window_error e };
 
     fn from(error: WindowError) -> Self {
         match error {
+            WindowError::NotQuiet { generation, x, y } => {
+                TextError::Refused(Cause::NotQuiet { generation, x, y })
+            }
             WindowError::NoMemory => TextError::NoMemory,
         }
     }

@@ -1,16 +1,18 @@
 // A text's pattern, and the streams that drive it.
-ghost use Rattle.std.specs.Prelude.{◌≡◌, map, string_bytes, IfOk, IfErr};
+ghost use Rattle.std.specs.Prelude.{◌≡◌, ◌++◌, map, flat_map, string_bytes, IfOk, IfErr, OnOk};
+ghost use Rattle.std.specs.List.{range_with_len};
 ghost use Rattle.ww_rule.specs.Grid.{AreInBox};
 ghost use Rattle.pattern_reading.specs.Ports.{cells_of, names_of};
 ghost use Rattle.drive.specs.Driving.{AreFor};
 ghost use Rattle.blifww_tool.specs.Simulation.{IsSimulation, HasStreamsCause};
-ghost use Rattle.blifww_tool.specs.Driven.{simulation_of};
+ghost use Rattle.blifww_tool.specs.Driven.{names_in_context, simulation_of};
 
 use crate::causes::TextError;
 use drive::Streams;
 use lists::Bytes;
 use pattern_reading::{PortLine, Ports};
 use std::alloc::{AllocError, Global};
+use word_cuts::with_context;
 use ww_rule::Pattern;
 
 /// A pattern, its ports, and streams for its inputs.
@@ -32,7 +34,39 @@ pub fn names_of(alloc: Global, ports: &[PortLine]) -> Result<Vec<Bytes>, AllocEr
     Ok(names)
 }
 
-/// The text's pattern and ports, where the words are the streams of the inputs.
+// Puts the names of ports at the end, as they stand before their bits in one of so many contexts.
+fn push_names(
+    alloc: Global,
+    names: &mut Vec<Bytes>,
+    ports: &[PortLine],
+    context: u64,
+    contexts: u64,
+) -> Result<(), AllocError>
+    ensures { OnOk result (names.new.items ≡ names.old.items ++ names_in_context contexts ports.now context) }
+{
+    for port in ports {
+        let name = with_context(alloc, port.name.as_slice(), context, contexts)?;
+        names.push(Bytes::of(name))?;
+    }
+    Ok(())
+}
+
+/// The names of ports as they stand before their bits in each of so many contexts: all those of context 0 first.
+pub fn names_in_contexts(
+    alloc: Global,
+    ports: &[PortLine],
+    contexts: u64,
+) -> Result<Vec<Bytes>, AllocError>
+    ensures { IfOk result (λ names. names.items ≡ flat_map (names_in_context contexts ports.now) (range_with_len 0 contexts)) }
+{
+    let mut names = Vec::new(alloc);
+    for context in 0..contexts {
+        push_names(alloc, &mut names, ports, context, contexts)?;
+    }
+    Ok(names)
+}
+
+/// The text's pattern and ports, where the words are the streams of the inputs in each of the table's contexts.
 pub fn driven_by(
     alloc: Global,
     cycles: usize,
@@ -47,7 +81,7 @@ pub fn driven_by(
     let pattern = rle_read::read(alloc, text)?;
     let ports = port_table::read(alloc, text, pattern.width, pattern.height)?;
     let names = names_of(alloc, ports.ins.as_slice())?;
-    let streams = Streams::read(alloc, words, &names, cycles)?;
+    let streams = Streams::read(alloc, words, &names, cycles, ports.c)?;
     Ok(Driven {
         pattern,
         ports,

@@ -29,7 +29,7 @@ fn streams_for(
     ensures fault { IfErr result (HasInputsCause cycles (map string_bytes words.now) netlist.now.design) }
 {
     let ins = netlist.in_names(alloc)?;
-    let streams = Streams::read(alloc, words, ins.as_slice(), cycles)?;
+    let streams = Streams::read(alloc, words, ins.as_slice(), cycles, 1)?;
     Ok(streams)
 }
 

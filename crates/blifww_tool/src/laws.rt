@@ -1,9 +1,9 @@
 //! What is proved of statuses, and of what commands print.
-ghost use Rattle.blifww_tool.specs.PrintsAlike.{CarriersPrintAlike, CarriersPrintNets, CompiledPrintAlike};
+ghost use Rattle.blifww_tool.specs.PrintsAlike.{CarriersPrintAlike, CarriersPrintNets, CarriersRunQuietly, CompiledPrintAlike};
 ghost use Rattle.blifww_tool.specs.Statuses.{StatusesHaveCauses};
 
 use netlist_text::laws::texts_are_decided;
-use shown_runs::{carriers_show_nets, carriers_show_runs, streams_match};
+use shown_runs::{carriers_are_quiet, carriers_show_nets, carriers_show_runs, streams_match};
 
 /// Each status of a run comes only where its cause is.
 pub fn statuses_have_causes()
@@ -26,4 +26,15 @@ pub fn carriers_print_nets()
     ensures { CarriersPrintNets }
 {
     carriers_show_nets();
+    carriers_show_runs();
+    streams_match();
+}
+
+/// No injection meets another cell than a conductor in a text that carries a netlist in contexts, as what `compile` writes does: of it
+/// no run ends with status 10.
+pub fn carriers_run_quietly()
+    ensures { CarriersRunQuietly }
+{
+    carriers_are_quiet();
+    streams_match();
 }

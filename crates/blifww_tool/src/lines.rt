@@ -26,15 +26,6 @@ pub fn push_line(lines: &mut Vec<u8>, name: &[u8], bits: &[bool]) -> Result<(), 
     Ok(())
 }
 
-/// The line of one.
-pub fn output_line(alloc: Global, name: &[u8], bits: &[bool]) -> Result<Bytes, AllocError>
-    ensures { IfOk result (λ line. line ≡ bits_line name.now bits.now) }
-{
-    let mut line = Vec::new(alloc);
-    push_line(&mut line, name, bits)?;
-    Ok(Bytes::of(line))
-}
-
 /// A line for each output, by their names and bits.
 pub fn output_lines(
     alloc: Global,

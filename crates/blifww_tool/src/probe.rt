@@ -3,15 +3,17 @@ ghost use Rattle.std.specs.Prelude.{◌≡◌, ◌<◌, ◌⊎◌, map, string_b
 ghost use Rattle.command_words.specs.Shapes.{probe};
 ghost use Rattle.blifww_tool.specs.Answer.{output_text, IsWritableOutput};
 ghost use Rattle.blifww_tool.specs.Commands.{Prints, HasTextCause};
+ghost use Rattle.blifww_tool.specs.Probing.{names_in_contexts, net_text};
 ghost use Rattle.blifww_tool.specs.Refusals.{probe_error};
 
 use crate::causes::{Cause, TextError};
 use crate::driven::driven_by;
-use crate::lines::output_line;
+use crate::lines::output_lines;
 use crate::output::Output;
-use lists::Bytes;
+use lists::{Bytes, List};
 use probe_view::ProbeError;
-use std::alloc::Global;
+use std::alloc::{AllocError, Global};
+use word_cuts::with_context;
 
 // The answer where the net is not shown: where there is no such net, with a copy of its name.
 fn refusal(alloc: Global, error: ProbeError, name: &[u8]) -> TextError
@@ -23,11 +25,39 @@ fn refusal(alloc: Global, error: ProbeError, name: &[u8]) -> TextError
             Err(_) => TextError::NoMemory,
         },
         ProbeError::TooFar { generations } => TextError::Refused(Cause::TooFar { generations }),
+        ProbeError::NotQuiet { generation, x, y } => {
+            TextError::Refused(Cause::NotQuiet { generation, x, y })
+        }
         ProbeError::NoMemory => TextError::NoMemory,
     }
 }
 
-/// The line of a net of the text's pattern, with the bits that its cell shows, where the words are the streams of the inputs.
+// A net's name as it stands before its bits in each of so many contexts.
+fn names_in_contexts(alloc: Global, contexts: u64, name: &[u8]) -> Result<Vec<Bytes>, AllocError>
+    ensures { IfOk result (λ names. names.items ≡ names_in_contexts contexts name.now) }
+{
+    let mut names = Vec::new(alloc);
+    for context in 0..contexts {
+        names.push(Bytes::of(with_context(alloc, name, context, contexts)?))?;
+    }
+    Ok(names)
+}
+
+// A line for each context, with a net's bits in it.
+fn net_lines(
+    alloc: Global,
+    contexts: u64,
+    name: &[u8],
+    bits: &[List<bool>],
+) -> Result<Bytes, AllocError>
+    ensures { IfOk result (λ lines. lines ≡ net_text contexts name.now bits.now) }
+{
+    let names = names_in_contexts(alloc, contexts, name)?;
+    output_lines(alloc, &names, bits)
+}
+
+/// A line for each context with the bits that the cell of a net of the text's pattern shows, where the words are the streams of the
+/// inputs.
 pub fn probe(
     alloc: Global,
     cycles: usize,
@@ -52,7 +82,7 @@ pub fn probe(
         name,
         path,
     ) {
-        Ok(bits) => Ok(Output::Lines(output_line(alloc, name, bits.as_slice())?)),
+        Ok(bits) => Ok(Output::Lines(net_lines(alloc, driven.ports.c, name, bits.as_slice())?)),
         Err(error) => Err(refusal(alloc, error, name)),
     }
 }

@@ -5,12 +5,13 @@ ghost use Rattle.blifww_tool.specs.Answer.{output_text, IsWritableOutput};
 ghost use Rattle.blifww_tool.specs.Commands.{Prints, HasTextCause};
 
 use crate::causes::TextError;
-use crate::driven::{driven_by, names_of};
+use crate::driven::{driven_by, names_in_contexts};
 use crate::lines::output_lines;
 use crate::output::Output;
 use std::alloc::Global;
 
-/// A line for each output of the text's pattern, with the bits that it shows, where the words are the streams of the inputs.
+/// A line for each output of the text's pattern in each of its contexts, with the bits that it shows, where the words are the streams of
+/// the inputs. All outputs of context 0 come first.
 pub fn simulate(
     alloc: Global,
     cycles: usize,
@@ -24,7 +25,7 @@ pub fn simulate(
     ensures refused { IfErr result (λ e. HasTextCause (simulate cycles (map string_bytes words.now)) text.now e) }
 {
     let driven = driven_by(alloc, cycles, words, text)?;
-    let outs = names_of(alloc, driven.ports.outs.as_slice())?;
     let bits = drive::simulate(alloc, driven.pattern, &driven.ports, &driven.streams)?;
+    let outs = names_in_contexts(alloc, driven.ports.outs.as_slice(), driven.ports.c)?;
     Ok(Output::Lines(output_lines(alloc, &outs, bits.as_slice())?))
 }

@@ -51,6 +51,7 @@ fn stream_fault_name(kind: StreamFaultKind) -> &'static [u8]
 {
     match kind {
         StreamFaultKind::NoEquals => b"NoEquals",
+        StreamFaultKind::BadContext => b"BadContext",
         StreamFaultKind::UnknownInput => b"UnknownInput",
         StreamFaultKind::TwiceInput => b"TwiceInput",
         StreamFaultKind::BadBit => b"BadBit",
@@ -113,6 +114,35 @@ fn tell_generations<E: Sink>(err: &mut E, generations: u128) -> Result<(), Faile
     let mut digits = Buffer::new();
     let count = digits.format(generations).as_bytes();
     write_pieces(err, &[b"too large: generations ", count, b"\n"])
+}
+
+// Tells an injection that meets no conductor.
+fn tell_miss<E: Sink>(err: &mut E, generation: u64, x: u64, y: u64) -> Result<(), Failed>
+    ensures ok { OnOk result
+        (Appends (E.written err.old) (E.written err.new) (cause_line (Cause.NotQuiet generation x y))) }
+    ensures front { OnErr result
+        ((n : ℕ) × Appends (E.written err.old) (E.written err.new)
+        (take n (cause_line (Cause.NotQuiet generation x y)))) }
+    ensures cause { HasCause (E.faults err.old) (E.faults err.new) result }
+{
+    let mut digits = Buffer::new();
+    let mut columns = Buffer::new();
+    let mut rows = Buffer::new();
+    let when = digits.format(generation).as_bytes();
+    let column = columns.format(x).as_bytes();
+    let row = rows.format(y).as_bytes();
+    write_pieces(
+        err,
+        &[
+            b"not quiet: generation ",
+            when,
+            b" cell ",
+            column,
+            b" ",
+            row,
+            b"\n",
+        ],
+    )
 }
 
 // Tells how many contexts are too many.
@@ -255,6 +285,7 @@ impl Cause {
             Cause::NoSuchNet(name) => tell_streams(err, b"NoSuchNet", name.as_slice()),
             Cause::TooFar { generations } => tell_generations(err, *generations),
             Cause::TooManyContexts { contexts, limit } => tell_contexts(err, *contexts, *limit),
+            Cause::NotQuiet { generation, x, y } => tell_miss(err, *generation, *x, *y),
         }
     }
 }

@@ -81,7 +81,8 @@ fn work<S: Source, O: Sink>(
 /// that say where its ports are. `compile --contexts C c:net=bit..` writes a pattern in which C machines run on the same wires, each 32
 /// generations after the one before; a word sets the bit with which the latch that drives a net of the main model starts in
 /// context c, and a latch that no word sets starts as the netlist says. `simulate --cycles N name=bits..` reads such a pattern, with any ports, and writes a
-/// line `name=bits` for each output, with the bits that its cell shows when the streams of the words drive the inputs.
+/// line `name=bits` for each output, with the bits that its cell shows when the streams of the words drive the inputs; where the
+/// table has more contexts than one, words and lines are `c:name=bits`.
 /// `eval --cycles N name=bits..` reads a netlist and writes such lines with the bits of its run on the streams.
 /// `probe --cycles N --net NAME [--path PATH] name=bits..` reads a pattern and writes such a line for a net of its port table, and
 /// `window --gen G --x X --y Y --width W --height H name=bits..` the cells of a part of its plane at a generation.
@@ -93,9 +94,9 @@ fn work<S: Source, O: Sink>(
 /// 268,435,456 cells, its last bits come after generation 4,294,967,296, or the pattern has no room for so many contexts: it has
 /// room for at least 6 for each latch. 5: `src` failed. 6: `out` or `err` failed. 7: there
 /// was not enough memory. 8: the text is no pattern's, or its port table is at fault. 9: the words are no streams for the inputs, or
-/// no starts for the latches, or the table has no net as asked for. Of several the first is answered: 2, 5, 4 (the text); then of a netlist 1 (lines and models),
+/// no starts for the latches, or the table has no net as asked for. 10: an injection is due at a cell that is no conductor. Of several the first is answered: 2, 5, 4 (the text); then of a netlist 1 (lines and models),
 /// 4 (the weight), 1 (clocks), 3, and of a pattern 8 (the header), 4 (the box), 8 (the items), 8 (the table); then 9 (words),
-/// 9 (the net), 4 (generations), 4 (contexts), 6. With each but 0 and 6 one line on `err` tells it, and nothing is on `out`.
+/// 9 (the net), 4 (generations), 10, 4 (contexts), 6. With each but 0 and 6 one line on `err` tells it, and nothing is on `out`.
 pub fn run<S: Source, O: Sink, E: Sink>(
     alloc: Global,
     words: &[String],

@@ -225,12 +225,7 @@ fn what_compile_writes_is_simulated(rt: HostRuntime) -> Result<(), Fail> {
 }
 
 // Periods of the wire, and what two heads on its input show.
-const PERIODS: &[(&[u8], &[u8])] = &[
-    (b"4", b"y=11\n"),
-    (b"3", b"y=11\n"),
-    (b"2", b"y=10\n"),
-    (b"1", b"y=10\n"),
-];
+const PERIODS: &[(&[u8], &[u8])] = &[(b"4", b"y=11\n"), (b"3", b"y=11\n"), (b"2", b"y=10\n")];
 
 #[test]
 fn a_wire_shows_what_its_period_lets_through(rt: HostRuntime) -> Result<(), Fail> {
@@ -288,6 +283,12 @@ const REFUSED_PATTERNS: &[(&[&str], &[u8], u8, &[u8])] = &[
         b"#C BLIFWW 2 P 4 L 2 C 1\n#C BLIFWW IN 0 0 %4\n#C BLIFWW OUT 2 0 y\nx = 3, y = 1, rule = WireWorld\n3C!\n",
         8,
         b"H1 BadLine line 2\n",
+    ),
+    (
+        TWO_CYCLES,
+        b"#C BLIFWW 1 P 1 L 2\n#C BLIFWW IN 0 0 a\n#C BLIFWW OUT 2 0 y\nx = 3, y = 1, rule = WireWorld\n3C!\n",
+        10,
+        b"not quiet: generation 1 cell 0 0\n",
     ),
     (
         ONE_CYCLE,

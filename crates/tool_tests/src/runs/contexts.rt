@@ -1,4 +1,4 @@
-// What `compile` makes of several contexts.
+// What `compile` makes of several contexts, and what such patterns show.
 use crate::runs::compiling::{TOGGLE, compiled};
 use crate::runs::{GATE, expect_run, joined, run_over};
 use itoa::Buffer;
@@ -93,7 +93,7 @@ fn number_at(text: &[u8]) -> u64 {
 // As many contexts as the period of a netlist's pattern has room for.
 fn room_of(alloc: Global, netlist: &[u8]) -> Result<u64, Fail> {
     let text = compiled(alloc, netlist)?;
-    match text.strip_prefix(b"#C BLIFWW 1 P ") {
+    match text.strip_prefix(b"#C BLIFWW 2 P ") {
         Some(rest) => Ok(number_at(rest) / 32),
         None => Err(Fail::new("the text begins otherwise")),
     }
@@ -137,5 +137,92 @@ fn one_context_is_what_compile_writes(rt: HostRuntime) -> Result<(), Fail> {
     let words = ["blifww", "compile", "--contexts", "1"];
     let got = run_over(alloc, &words, TOGGLE, (4096, &[]), (1 << 20, 0))?;
     assert!(rt; got.status == 0 && got.out == compiled(alloc, TOGGLE)?);
+    Ok(())
+}
+
+const BOTH: &[&str] = &["blifww", "compile", "--contexts", "2", "1:q=1"];
+
+// Commands, and what they print of the toggle in two contexts, of which one starts with 1.
+const SHOWN: &[(&[&str], &[u8])] = &[
+    (
+        &["blifww", "simulate", "--cycles", "4"],
+        b"0:q=0101\n1:q=1010\n",
+    ),
+    (
+        &["blifww", "probe", "--cycles", "4", "--net", "n"],
+        b"0:n=1010\n1:n=0101\n",
+    ),
+];
+
+#[test]
+fn each_context_starts_as_its_words_say(rt: HostRuntime) -> Result<(), Fail> {
+    let alloc = rt.alloc();
+    let got = run_over(alloc, BOTH, TOGGLE, (4096, &[]), (1 << 20, 0))?;
+    for (words, lines) in SHOWN {
+        expect_run(alloc, words, &got.out, 0, lines, b"")?;
+    }
+    Ok(())
+}
+
+// A wire of three cells in two contexts.
+const WIRE: &[u8] =
+    b"#C BLIFWW 1 P 64 L 2 C 2\n#C BLIFWW IN 0 0 a\n#C BLIFWW OUT 2 0 y\n#C BLIFWW NET 1 0 1 m -\nx = 3, y = 1, rule = WireWorld\n3C!\n";
+
+// Words, the status, and what is printed and told of the wire.
+const DRIVEN: &[(&[&str], u8, &[u8], &[u8])] = &[
+    (
+        &["blifww", "simulate", "--cycles", "2", "1:a=10", "0:a=01"],
+        0,
+        b"0:y=01\n1:y=10\n",
+        b"",
+    ),
+    (
+        &[
+            "blifww", "probe", "--cycles", "2", "--net", "m", "1:a=10", "0:a=01",
+        ],
+        0,
+        b"0:m=01\n1:m=10\n",
+        b"",
+    ),
+    (
+        &[
+            "blifww", "window", "--gen", "33", "--x", "0", "--y", "0", "--width", "3", "--height",
+            "1", "1:a=10", "0:a=01",
+        ],
+        0,
+        b"BAC\n",
+        b"",
+    ),
+    (
+        &["blifww", "simulate", "--cycles", "2", "a=01"],
+        9,
+        b"",
+        b"stream: BadContext a=01\n",
+    ),
+    (
+        &["blifww", "simulate", "--cycles", "2", "2:a=01"],
+        9,
+        b"",
+        b"stream: BadContext 2:a=01\n",
+    ),
+    (
+        &["blifww", "simulate", "--cycles", "2", "0:a=01", "0:a=10"],
+        9,
+        b"",
+        b"stream: TwiceInput 0:a=10\n",
+    ),
+    (
+        &["blifww", "simulate", "--cycles", "2", "0:a=01"],
+        9,
+        b"",
+        b"stream: MissingInput 1:a\n",
+    ),
+];
+
+#[test]
+fn a_wire_in_two_contexts_is_driven(rt: HostRuntime) -> Result<(), Fail> {
+    for (words, status, out, err) in DRIVEN {
+        expect_run(rt.alloc(), words, WIRE, *status, out, err)?;
+    }
     Ok(())
 }

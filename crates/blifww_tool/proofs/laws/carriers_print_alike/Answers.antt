@@ -2,7 +2,7 @@ use Rattle.blifww_tool.proofs.PrintsAlike.{carriers_print_alike, compiled_print_
 use Rattle.blifww_tool.proofs.laws.carriers_print_alike.Goals as goal
 
 pub returns-clause-carriers : goal.returns-clause-carriers
-returns-clause-carriers c = carriers_print_alike c.carriers_show_runs.ensures c.streams_match.ensures c.texts_are_decided.ensures
+returns-clause-carriers c = carriers_print_alike c.carriers_show_runs.ensures c.streams_match.ensures.one c.texts_are_decided.ensures
 
 pub returns-clause-compiled : goal.returns-clause-compiled
-returns-clause-compiled c = compiled_print_alike c.carriers_show_runs.ensures c.streams_match.ensures c.texts_are_decided.ensures
+returns-clause-compiled c = compiled_print_alike c.carriers_show_runs.ensures c.streams_match.ensures.one c.texts_are_decided.ensures

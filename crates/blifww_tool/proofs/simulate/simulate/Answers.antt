@@ -1,12 +1,13 @@
 use Rattle.std.proofs.Common.{ap, ap₂, ◌∙◌, ℕ, List, Bool, map, flat_map, zip, string_bytes}
+use Rattle.std.specs.List.{range_with_len}
 use Rattle.std.proofs.lemmas.Result.{err_from_is_err_and}
 use Rattle.ww_rule.specs.Grid.{plane_of}
+use Rattle.word_cuts.specs.Cuts.{with_context}
 use Rattle.pattern_reading.specs.declared.ports.PortLine.{PortLine}
-use Rattle.pattern_reading.specs.Ports.{names_of}
 use Rattle.drive.specs.Driving.{shown_at}
 use Rattle.blifww_tool.specs.Simulation.{Simulation}
-use Rattle.blifww_tool.specs.Driven.{simulation_of}
-use Rattle.blifww_tool.proofs.OutputLines.{line, lines_by}
+use Rattle.blifww_tool.specs.Driven.{names_in_context, simulation_of}
+use Rattle.blifww_tool.proofs.OutputLines.{line, lines_in_contexts}
 use Rattle.blifww_tool.proofs.Simulated.{simulation_refused, time_refused}
 use Rattle.blifww_tool.proofs.simulate.simulate.Goals as goal
 
@@ -25,9 +26,9 @@ pub returns-clause-printed : goal.returns-clause-printed
 returns-clause-printed c =
     let s : Simulation = simulation_of c.in_ok-driven.driven in (
       s,
-      record { is = c.in_ok-driven.ensures.is; near = c.in_ok-bits.ensures.near },
+      record { is = c.in_ok-driven.ensures.is; near = c.in_ok-bits.ensures.near; quiet = c.in_ok-bits.ensures.quiet },
       c.in_ok-output_lines.ensures
-          ∙ ap₂ (λ (outs : List (List ℕ)) (bits : List (List Bool)). flat_map line (zip outs bits)) (c.deref.ensures.value ∙ c.in_ok-outs.ensures ∙ ap names_of c.as_slice.ensures)
+          ∙ ap₂ (λ (outs : List (List ℕ)) (bits : List (List Bool)). flat_map line (zip outs bits)) (c.deref.ensures.value ∙ c.in_ok-outs.ensures ∙ ap (λ ports. flat_map (names_in_context s.ports.c ports) (range_with_len 0 s.ports.c)) c.as_slice.ensures)
           (c.as_slice-2.ensures ∙ c.in_ok-bits.ensures.bits)
-          ∙ lines_by (λ (p : PortLine). p.name) (shown_at s.ports s.streams (plane_of s.grid.rows)) s.ports.outs,
+          ∙ lines_in_contexts (λ context (p : PortLine). with_context s.ports.c context p.name) (shown_at s.ports s.streams (plane_of s.grid.rows)) s.ports.outs (range_with_len 0 s.ports.c),
     )

@@ -1,8 +1,9 @@
 use Rattle.std.proofs.Common.{ap, subst, ℕ, List, Err}
 use Rattle.std.proofs.lemmas.Result.{err_from_is_err_and}
 use Rattle.command_words.specs.Shapes.{values_of}
-use Rattle.blifww_tool.specs.Commands.{HasTextCause}
-use Rattle.blifww_tool.proofs.Stopped.{kept, by_words, by_read, by_text}
+use Rattle.blifww_tool.specs.Answer.{output_text}
+use Rattle.blifww_tool.specs.Commands.{HasTextCause, Prints}
+use Rattle.blifww_tool.proofs.Stopped.{kept, by_words, by_read, by_text, by_write}
 use Rattle.blifww_tool.proofs.top.work.Goals as goal
 
 pub returns-in_err-command-clause-stopped : goal.returns-in_err-command-clause-stopped
@@ -25,3 +26,12 @@ returns-in_err-output-clause-stopped g c =
     (record { asks = c.in_ok-command.ensures.ok; taken = c.in_ok-command.ensures.taken })
     c.in_ok-text.ensures.given
     (subst (λ (t : List ℕ). HasTextCause command t c.in_err-output.field-0.0) c.as_slice.ensures c.in_err-output.ensures.refused))
+
+pub returns-in_err-write-clause-stopped : goal.returns-in_err-write-clause-stopped
+returns-in_err-write-clause-stopped g c =
+    let p = err_from_is_err_and c.from_residual-in_err-write.result c.from_residual-in_err-write.ensures.1 in
+    let command = values_of c.in_ok-command.command in
+    let output = output_text c.in_ok-output.output in
+    let front = c.in_err-write.ensures.front in
+    rw (p.1, p.2) (by_write _ _ _ command c.in_ok-text.text output front.0 (record { asks = c.in_ok-command.ensures.ok; taken = c.in_ok-command.ensures.taken }) c.in_ok-text.ensures.given
+    (subst (λ (t : List ℕ). Prints command t output) c.as_slice.ensures c.in_ok-output.ensures.printed) c.in_err-write.ensures.cause.failed front.1)
