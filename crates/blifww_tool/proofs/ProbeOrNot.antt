@@ -49,7 +49,7 @@ module _ (name path : List ℕ) (s : Simulation) where
   there_or_not : (a : NetLine) → net_named s.ports name path ≡ Some a → net_named s.ports name path ≡ None → ⊥
   there_or_not a h none = none-some _ (sym none ∙ h)
 
-  missed_until : NetLine → Option Injection
+  abbrev missed_until : NetLine → Option Injection
   missed_until net = first_miss s.ports s.streams (plane_of s.grid.rows) (last_probed s.ports s.streams net)
 
   -- a net that is shown is not refused
