@@ -9,13 +9,8 @@ use Rattle.carries.specs.DesignContexts.{CarriesContexts}
 use Rattle.carries.proofs.OneWay.{one_spelling}
 use Rattle.drive.specs.Driving.{AreFor, first_miss}
 use Rattle.shown_runs.specs.ShownRuns.{CarriersAreQuiet, StreamsAreFor}
-<<<<<<< HEAD
-use Rattle.command_words.specs.Shapes.{CommandValues, compile, simulate, eval, probe, window, make, self_}
-use Rattle.blifww_tool.specs.Simulation.{Simulation, IsSimulation, MissesAt, miss_up_to}
-=======
 use Rattle.command_words.specs.Shapes.{compile, simulate, eval, probe, window, make, self_}
-use Rattle.blifww_tool.specs.Simulation.{Simulation, IsSimulation, MissesAt, first_miss_of}
->>>>>>> 3414dcc3 (blifww_tool: imports)
+use Rattle.blifww_tool.specs.Simulation.{Simulation, IsSimulation, MissesAt, miss_up_to}
 use Rattle.blifww_tool.specs.PrintsAlike.{CarriersRunQuietly}
 use Rattle.blifww_tool.proofs.PrintsNet.{are_for}
 use Rattle.blifww_tool.proofs.SimulationOrNot.{miss_or_not}

@@ -305,7 +305,7 @@ impl Run {
         }
     }
 
-    /// Whether there is no such injection, or else which.
+    /// Nothing where there is no such injection, and else `NotQuiet` with it.
     pub fn quiet(&self) -> Result<(), SimulateError>
         requires run { IsBandRun self.now }
         requires room { self.now.generation < 2 ^ 64 }

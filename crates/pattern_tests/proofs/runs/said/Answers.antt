@@ -1,4 +1,4 @@
-use Rattle.std.proofs.Common.{ℕ, ◌<◌}
+use Rattle.std.proofs.Common.{ℕ, ◌<◌, ◌≡◌, ◌*◌, ◌∙◌, sym, ap, subst, List, All, length}
 use Rattle.std.proofs.lemmas.List.Elements.{All-from_recursion, All-map}
 use Rattle.pattern_reading.specs.declared.ports.PortLine.{PortLine}
 use Rattle.pattern_reading.specs.Laws.{IsPortInside}
@@ -10,7 +10,14 @@ pub run-said-requires-clause-streams : goal.run-said-requires-clause-streams
 run-said-requires-clause-streams c =
     let ports = c.in_ok-ports.ports in
     let sound = sound_table c.args.text.now c.in_ok-pattern.pattern.width c.in_ok-pattern.pattern.height ports c.in_ok-ports.ensures.table in
-    ?
+    let read = c.in-Ok.ensures in
+    record {
+      same = read.contexts;
+      contexts = sound.contexts;
+      room = sound.room;
+      many = read.many ∙ ap (λ (ins : List PortLine). ports.c * length ins) c.as_slice.ensures;
+      long = subst (λ (cycles : ℕ). All (λ bits. length bits ≡ cycles) c.in-Ok.streams.bits) (sym read.cycles) read.long;
+    }
 
 pub run-said-requires-clause-in_box : goal.run-said-requires-clause-in_box
 run-said-requires-clause-in_box c =
