@@ -17,7 +17,8 @@ pub record IsPadded (size : ℕ) (columns padded : List Column) : Type 0 where
   pub empty : All (λ column. column.instrs ≡ []) more
   pub count : length padded ≡ max size (length columns)
 
--- columns enough for the starts of so many contexts on the ways back of so many loops; without loops there is nothing to start
+-- columns enough for the starts of so many contexts on the ways back of so many loops; without loops there is nothing
+-- to start
 abbrev pub contexts_size : ℕ → ℕ → ℕ
 contexts_size loops contexts = cond (loops == 0) 0 (contexts - 4 * loops)
 
@@ -25,8 +26,8 @@ contexts_size loops contexts = cond (loops == 0) 0 (contexts - 4 * loops)
 abbrev pub least_size : Program → ℕ → ℕ
 least_size program contexts = max (max (length program.latches) (min program.lanes 1)) (contexts_size (length program.latches) contexts)
 
--- The plan has the program's lanes, loops, ports and nets, and these columns, which are at least as many as loops, at least 1
--- where there are lanes, and enough for the starts of so many contexts.
+-- The plan has the program's lanes, loops, ports and nets, and these columns, which are at least as many as loops, at
+-- least 1 where there are lanes, and enough for the starts of so many contexts.
 pub record IsClosed (program : Program) (columns : List Column) (contexts : ℕ) (plan : Plan) : Type 0 where
   pub lanes : plan.lanes ≡ program.lanes
   pub latches : plan.latches ≡ length program.latches

@@ -1,4 +1,5 @@
-//! Makes a plan of the columns of a program, with loops that bring back what leaves the columns, in one or several contexts.
+//! Makes a plan of the columns of a program, with loops that bring back what leaves the columns, in one or several
+//! contexts.
 //!
 //! Theorem: `close` (`admissible`, `closed`, `same`, `contexts`), `start_contexts`, `most_contexts`.
 #![tactic(auto)]

@@ -37,9 +37,9 @@ fn contexts_size(loops: u32, contexts: usize) -> usize
     }
 }
 
-/// The plan in several contexts, the loops of each of which start with these bits, one list a context: no more contexts than
-/// macro steps in the plan's period. Where there are loops and too few columns for all starts to lie on the ways back of the
-/// loops, it adds columns without instructions.
+/// The plan in several contexts, the loops of each of which start with these bits, one list a context: no more contexts
+/// than macro steps in the plan's period. Where there are loops and too few columns for all starts to lie on the ways
+/// back of the loops, it adds columns without instructions.
 #[tactic(auto, using(crate::proofs::PaddedPlans::padded_admissible, crate::proofs::PaddedPlans::room, crate::proofs::PaddedPlans::does_as_plan))]
 pub fn start_contexts(alloc: Global, plan: Plan, starts: &[List<bool>]) -> Result<Plan, CloseError>
     requires admissible { IsAdmissible plan }

@@ -100,7 +100,11 @@ fn places_are_those_of_last_uses(rt: HostRuntime) -> Result<(), Fail> {
 fn there_are_as_many_columns_as_loops(rt: HostRuntime) -> Result<(), Fail> {
     let plan = closed(rt.alloc(), &BARE)?;
     assert_eq!(rt;
-        (plan.columns.len(), plan.latches, plan.starts.list.as_slice()),
+        (
+            plan.columns.len(),
+            plan.latches,
+            plan.starts.list.as_slice()
+        ),
         (2, 2, [Start { x: 64, y: 8 }].as_slice())
     );
     Ok(())

@@ -1,5 +1,5 @@
-//! Where the loops of a plan start in several contexts: in context c at the edge that lies c tiles before a loop's entry, on
-//! its way back.
+//! Where the loops of a plan start in several contexts: in context c at the edge that lies c tiles before a loop's
+//! entry, on its way back.
 //!
 //! Theorem: `starts_of`.
 #![tactic(auto)]

@@ -1,5 +1,5 @@
-//! How signals run through the body of a plan and round its loops, cycle by cycle, for each of several contexts, and what the
-//! plane shows of them.
+//! How signals run through the body of a plan and round its loops, cycle by cycle, for each of several contexts, and
+//! what the plane shows of them.
 //!
 //! The functions here do nothing: their clauses are the laws.
 //!
