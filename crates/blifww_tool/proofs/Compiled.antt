@@ -20,7 +20,6 @@ use Rattle.latch_loops.specs.Padded.{IsPaddedPlan}
 use Rattle.netlist_core.specs.declared.model.Design.{Design}
 use Rattle.netlist_core.specs.declared.model.Model.{Model}
 use Rattle.netlist_core.specs.declared.flat.Flat.{Flat}
-use Rattle.netlist_core.specs.Names.{Name}
 use Rattle.netlist_meaning.specs.Places.{Place, model_at}
 use Rattle.netlist_meaning.specs.InOrder.{of_some, places_in_order}
 use Rattle.netlist_meaning.specs.Weight.{weight}
@@ -48,7 +47,7 @@ use Rattle.start_words.specs.declared.error.StartError.{StartError}
 use Rattle.start_words.specs.declared.error.StartError.TheVariants as starts_of
 use Rattle.start_words.specs.Flats.{flat_latches, flat_start_bit, flat_start_bits, flat_starts}
 use Rattle.start_words.specs.Words.{HasStartCause, first_fault}
-use Rattle.start_words.specs.Starts.{latches_of, start_of_words, starts_of_words}
+use Rattle.start_words.specs.Starts.{latches_of, starts_of_words}
 use Rattle.start_words.specs.Laws.{LatchesAreFlat, NoWordsMeanStart, StartsAreFlat}
 use Rattle.command_words.specs.Shapes.{compile}
 use Rattle.blifww_tool.specs.Commands.{HasTextCause}

@@ -1,7 +1,6 @@
 -- In a text that carries a design in contexts each injection meets a conductor.
 use Rattle.std.proofs.Common.{ℕ, ◌≡◌, sym, ap, ◌∙◌, subst, List}
-use Rattle.std.specs.Prelude.{Some, None, Option}
-use Rattle.ww_rule.specs.declared.pattern.Injection.{Injection}
+use Rattle.std.specs.Prelude.{None}
 use Rattle.ww_rule.specs.Grid.{Grid, plane_of}
 use Rattle.pattern_reading.specs.declared.ports.Ports.{Ports}
 use Rattle.netlist_core.specs.declared.model.Design.{Design}
@@ -10,7 +9,7 @@ use Rattle.carries.specs.DesignContexts.{CarriesContexts}
 use Rattle.carries.proofs.OneWay.{one_spelling}
 use Rattle.drive.specs.Driving.{AreFor, first_miss}
 use Rattle.shown_runs.specs.ShownRuns.{CarriersAreQuiet, StreamsAreFor}
-use Rattle.command_words.specs.Shapes.{CommandValues, compile, simulate, eval, probe, window, make, self_}
+use Rattle.command_words.specs.Shapes.{compile, simulate, eval, probe, window, make, self_}
 use Rattle.blifww_tool.specs.Simulation.{Simulation, IsSimulation, MissesAt, miss_up_to}
 use Rattle.blifww_tool.specs.PrintsAlike.{CarriersRunQuietly}
 use Rattle.blifww_tool.proofs.PrintsNet.{are_for}

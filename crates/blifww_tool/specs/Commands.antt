@@ -3,7 +3,6 @@ use Rattle.std.specs.Prelude.{◌≡◌, ◌≤◌, ℕ, Bool, true, false, List
 use Rattle.command_words.specs.Shapes.{CommandValues, compile, simulate, eval, probe, window, make, self_}
 use Rattle.netlist_core.specs.declared.model.Design.{Design}
 use Rattle.netlist_meaning.specs.Weight.{weight}
-use Rattle.netlist_text.specs.NetlistText.{IsNetlist}
 use Rattle.drive.specs.Driving.{greatest_generation}
 use Rattle.made_netlists.specs.Text.{made_text}
 use Rattle.made_netlists.specs.Design.{made_design}

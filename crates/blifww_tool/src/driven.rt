@@ -45,7 +45,7 @@ fn push_names(
     ensures { OnOk result (names.new.items ≡ names.old.items ++ names_in_context contexts ports.now context) }
 {
     for port in ports {
-        let name = with_context(alloc, port.name.as_slice(), context, contexts)?;
+        let name = with_context(alloc, contexts, context, port.name.as_slice())?;
         names.push(Bytes::of(name))?;
     }
     Ok(())

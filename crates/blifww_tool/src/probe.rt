@@ -38,7 +38,7 @@ fn names_in_contexts(alloc: Global, contexts: u64, name: &[u8]) -> Result<Vec<By
 {
     let mut names = Vec::new(alloc);
     for context in 0..contexts {
-        names.push(Bytes::of(with_context(alloc, name, context, contexts)?))?;
+        names.push(Bytes::of(with_context(alloc, contexts, context, name)?))?;
     }
     Ok(names)
 }

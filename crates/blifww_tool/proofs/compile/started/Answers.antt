@@ -1,4 +1,4 @@
-use Rattle.std.proofs.Common.{◌≡◌, ◌∙◌, ◌≤◌, ◌/◌, refl, subst, sym, arith, ℕ, List, Bool, map, length, string_bytes}
+use Rattle.std.proofs.Common.{◌≡◌, ◌∙◌, ◌≤◌, ◌/◌, refl, subst, sym, arith, ℕ, map, length, string_bytes}
 use Rattle.std.proofs.lemmas.Result.{err_from_is_err_and}
 use Rattle.flat_designs.proofs.Whole.{flat_is_named}
 use Rattle.grid_assembly.specs.PlanDrawing.{start_grid}

@@ -1,4 +1,4 @@
-use Rattle.std.proofs.Common.{subst, sym, ℕ, map, string_bytes}
+use Rattle.std.proofs.Common.{subst, ℕ, map, string_bytes}
 use Rattle.std.proofs.lemmas.Result.{err_from_is_err_and}
 use Rattle.blifww_tool.specs.Driven.{simulation_of}
 use Rattle.blifww_tool.specs.Simulation.{HasStreamsCause, IsSimulation}
