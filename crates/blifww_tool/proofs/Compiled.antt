@@ -29,6 +29,7 @@ use Rattle.flat_designs.specs.Laws.{FlatIsOne, state_in_order}
 use Rattle.flat_designs.proofs.Weights.{parts_are_few}
 use Rattle.netlist_text.specs.NetlistText.{IsNetlist}
 use Rattle.netlist_text.specs.Parts.{AreParts}
+use Rattle.netlist_text.proofs.SoundParts.{small}
 use Rattle.netlist_text.specs.Causes.{HasNetlistCause}
 use Rattle.netlist_text.specs.declared.error.NetlistError.{NetlistError}
 use Rattle.netlist_text.specs.declared.error.NetlistError.TheVariants as netlist_of
@@ -85,8 +86,8 @@ has_starts law contexts starts text design flat order is p none = record {
 pub few_latches : (design : Design) (flat : Flat) (order : List ℕ) → AreParts design flat order → length flat.latches < 2 ^ 32
 few_latches design flat order p =
     let few = parts_are_few design flat p.is_flat in
-    let light : weight design ≤ 1024 = p.light in
-    omega (arith, few, light)
+    let same : flat.weight ≡ weight design = p.is_flat.weight in
+    omega (arith, few, same, small design flat order p)
 
 -- the plan by which a design is carried
 pub carried_by : FlatIsOne → DesignsAreCarried → (design : Design) (flat : Flat) (order : List ℕ) (plan : Plan) (ports : Ports) → AreParts design flat order
