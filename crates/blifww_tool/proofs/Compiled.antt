@@ -15,6 +15,7 @@ use Rattle.grid_assembly.specs.PlanDrawing.{start_grid}
 use Rattle.pattern_reading.specs.declared.ports.Ports.{Ports}
 use Rattle.pattern_writing.specs.WrittenText.{pattern_text}
 use Rattle.cell_meaning.specs.Needs.{any_needs_one}
+use Rattle.cell_plans.specs.Counts.{instr_count}
 use Rattle.latch_loops.specs.Closed.{contexts_size}
 use Rattle.latch_loops.specs.Padded.{IsPaddedPlan}
 use Rattle.netlist_core.specs.declared.model.Design.{Design}
@@ -103,6 +104,7 @@ carried_by one law design flat order plan ports p admissible edges table cells s
       nets = nets;
       lanes = subst (λ (w : ℕ). plan.lanes ≤ 4 * w + 4) p.is_flat.weight few.lanes;
       columns = subst (λ (w : ℕ). length plan.columns ≤ 256 * ((w + 1) * (w + 1))) p.is_flat.weight few.columns;
+      instrs = subst (λ (w : ℕ). instr_count plan.columns ≤ 256 * ((w + 1) * (w + 1))) p.is_flat.weight few.instrs;
       table = λ other h. subst (λ (f : Flat). IsTableOf f plan 1 ports) (one design flat other p.is_flat h) table;
       cells = λ other h. subst (λ (f : Flat). ComputesCells f plan) (one design flat other p.is_flat h) cells;
       size = λ other h. subst (λ (f : Flat). HasLanes f plan) (one design flat other p.is_flat h) size;
