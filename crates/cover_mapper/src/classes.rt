@@ -7,7 +7,7 @@ ghost use Rattle.cover_mapper.specs.Sourced.{sources_at};
 
 use crate::error::MapError;
 use cell_core::Src;
-use netlist_core::{Flat, FlatLatch, FlatPort, NetId};
+use netlist_core::{Flat, FlatLatch, FlatPort, Net, NetId};
 use netlist_meaning::class_of;
 use std::alloc::Global;
 
