@@ -26,10 +26,11 @@ use Rattle.start_words.specs.Starts.{latches_of, starts_of_words}
 use Rattle.blifww_tool.specs.declared.causes.Cause.{Cause}
 use Rattle.blifww_tool.specs.declared.causes.Cause.TheVariants.{NetlistFault, WeightTooLarge, Loop, StartWord, TooManyContexts}
 
--- The written text of the plan and its table carries the design and its nets. The plan can be drawn, with its starts. It computes the cells of the
--- design's flat netlist: so it has a loop for each latch, and exactly where constant 1 is named one more. It is small, by the design's weight,
--- and has no lane and no column exactly where there is no net but clock nets; each net has a place, by what drives it; where there is no latch
--- and no cover needs constant 1 the period is 32.
+-- The written text of the plan and its table carries the design and its nets. The plan can be drawn, with its starts.
+-- The plan computes the cells of the design's flat netlist: so it has a loop for each latch, and exactly where constant
+-- 1 is named one more. It is small, by the design's weight, and has no lane and no column exactly where there is no net
+-- but clock nets; each net has a place, by what drives it; where there is no latch and no cover needs constant 1 the
+-- period is 32.
 pub record IsCarriedBy (design : Design) (plan : Plan) (ports : Ports) : Type 0 where
   pub admissible : IsAdmissible plan
   pub edges : HasStartEdges plan
@@ -48,10 +49,10 @@ pub record HasStarts (contexts : ℕ) (starts : List (List ℕ)) (text : List �
   pub netlist : IsNetlist text design
   pub no_fault : first_fault (latches_of design) contexts starts ≡ None
 
--- The text is a netlist, in which the words say starts. The output is the written text of a plan and its table that carries the design and its
--- nets in these contexts, each from its start. They have room in the period of a plan by which the design is carried, 32 generations each;
--- the written plan is that one, but for its starts and for columns that the contexts may need more. In one context, and without words, it is
--- that plan.
+-- The text is a netlist, in which the words say starts. A plan of one context carries the design, and its period has 32
+-- generations for each of the contexts. The output is the written text of a plan and its table that carries the design
+-- and its nets in these contexts, each from its start. The written plan is that of one context, but for its starts and
+-- for the further columns that the contexts need; in one context, and without words, it is that plan.
 pub record Compiles (contexts : ℕ) (starts : List (List ℕ)) (text output : List ℕ) : Type 0 where
   pub design : Design
   pub has : HasStarts contexts starts text design
@@ -88,12 +89,12 @@ pub record HasStartFault (contexts : ℕ) (starts : List (List ℕ)) (text : Lis
 abbrev pub latch_count : Design → ℕ
 latch_count design = length (at_places design (λ model. model.latches) (λ place latch. latch))
 
--- as many contexts as any plan has room for
+-- so many contexts every plan of the design has room for
 abbrev pub least_room : Design → ℕ
 least_room design = max 1 (6 * latch_count design)
 
--- The text is a netlist, in which the words say starts, but the contexts have no room in the period of a plan by which the design is carried:
--- it has room for so many.
+-- The text is a netlist, in which the words say starts. A plan of one context carries the design, and its period has
+-- room for `limit` contexts, 32 generations each; more are asked for.
 pub record HasNoRoom (contexts : ℕ) (starts : List (List ℕ)) (text : List ℕ) (limit : ℕ) : Type 0 where
   pub design : Design
   pub has : HasStarts contexts starts text design
