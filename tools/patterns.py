@@ -1,6 +1,7 @@
 """Reads patterns in extended RLE with their port tables, for the scripts in this folder. Texts are read as Latin-1: a character a byte."""
 import re
 from dataclasses import dataclass, field
+from urllib.parse import unquote
 
 TILE = 32  # a tile's columns; the generations that an electron needs for it
 LANE = 16  # a lane's rows
@@ -14,22 +15,35 @@ class Pattern:
     height: int = 0
     period: int = 32
     latency: int = 0
+    contexts: int = 1
     runs: list = field(default_factory=list)
     inputs: dict = field(default_factory=dict)  # name: (x, y)
     outputs: dict = field(default_factory=dict)  # name: (x, y)
     nets: list = field(default_factory=list)  # (x, y, offset, name, path)
+    coloured: dict = field(default_factory=dict)  # (x, y): (letter, context), of heads and tails whose context is to be seen
+    has_escapes: bool = False  # whether its table is of version 2
+
+    def name_in(self, word):
+        """Returns the name that a word of the table says."""
+        return unquote(word, "latin-1") if self.has_escapes else word
+
+
+def escaped(name):
+    """Returns a name as it is written in a table of version 2."""
+    return "".join(it if "!" <= it <= "~" and it != "%" else f"%{ord(it):02X}" for it in name)
 
 
 def read_table_line(pattern, words):
     """Adds a line of the port table, which begins `#C BLIFWW`, to a pattern."""
     if words[0] == "IN":
-        pattern.inputs[words[3]] = (int(words[1]), int(words[2]))
+        pattern.inputs[pattern.name_in(words[3])] = (int(words[1]), int(words[2]))
     elif words[0] == "OUT":
-        pattern.outputs[words[3]] = (int(words[1]), int(words[2]))
+        pattern.outputs[pattern.name_in(words[3])] = (int(words[1]), int(words[2]))
     elif words[0] == "NET":
-        pattern.nets.append((int(words[1]), int(words[2]), int(words[3]), words[4], words[5]))
+        pattern.nets.append((int(words[1]), int(words[2]), int(words[3]), pattern.name_in(words[4]), words[5]))
     elif words[0].isdecimal():
-        pattern.period, pattern.latency = int(words[2]), int(words[4])
+        pattern.period, pattern.latency, pattern.contexts = int(words[2]), int(words[4]), int(words[6]) if len(words) > 6 else 1
+        pattern.has_escapes = words[0] == "2"
 
 
 def read_cells(pattern, items):

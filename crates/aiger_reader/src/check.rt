@@ -59,8 +59,16 @@ fn defined_by(entry: Entry) -> Option<u64>
 
 // Adds the literal that an entry defines, and answers whether no earlier one did.
 fn define(defined: &mut BTreeSet<u64>, entry: Entry) -> Result<bool, AllocError>
-    ensures fresh { IfOk result (λ fresh. (before : List entries.Entry) → KnowsDefined defined.old before → fresh ≡ not (is_defined_before before entry)) }
-    ensures known { OnOk result ((before : List entries.Entry) → KnowsDefined defined.old before → KnowsDefined defined.new (before ++ entry ∷ [])) }
+    ensures fresh { IfOk result (λ fresh.
+        (before : List entries.Entry)
+        → KnowsDefined defined.old before
+        → fresh ≡ not (is_defined_before before entry)
+        ) }
+    ensures known { OnOk result (
+        (before : List entries.Entry)
+        → KnowsDefined defined.old before
+        → KnowsDefined defined.new (before ++ entry ∷ [])
+        ) }
 {
     match defined_by(entry) {
         None => Ok(true),
@@ -75,8 +83,17 @@ pub fn entry_fault(
     counts: Counts,
     entry: Entry,
 ) -> Result<Option<AigFaultKind>, AllocError>
-    ensures fault { IfOk result (λ fault. (before : List entries.Entry) → KnowsDefined defined.old before → fault ≡ entry_fault counts before (Some entry)) }
-    ensures known { IfOk result (λ fault. (before : List entries.Entry) → KnowsDefined defined.old before → fault ≡ None → KnowsDefined defined.new (before ++ entry ∷ [])) }
+    ensures fault { IfOk result (λ fault.
+        (before : List entries.Entry)
+        → KnowsDefined defined.old before
+        → fault ≡ entry_fault counts before (Some entry)
+        ) }
+    ensures known { IfOk result (λ fault.
+        (before : List entries.Entry)
+        → KnowsDefined defined.old before
+        → fault ≡ None
+        → KnowsDefined defined.new (before ++ entry ∷ [])
+        ) }
 {
     if has_bad_literal(counts, entry) {
         return Ok(Some(AigFaultKind::BadLiteral));
@@ -100,7 +117,9 @@ fn is_undefined(defined: &BTreeSet<u64>, lit: u64) -> bool
 
 /// Whether an entry reads a literal that no line defines.
 pub fn reads_undefined(defined: &BTreeSet<u64>, entry: Entry) -> bool
-    ensures { (entries : List entries.Entry) → KnowsDefined defined.now entries → result ≡ reads_undefined entries entry }
+    ensures { (entries : List entries.Entry)
+        → KnowsDefined defined.now entries
+        → result ≡ reads_undefined entries entry }
 {
     match entry {
         Entry::Input(_) => false,

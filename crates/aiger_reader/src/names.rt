@@ -39,7 +39,11 @@ pub fn names_for(
     kind: SymbolKind,
     table: &[Option<&[u8]>],
 ) -> Result<Vec<Bytes>, AllocError>
-    ensures { IfOk result (λ names. (symbols : List Symbol) → KnowsNames kind table.now symbols → names.items ≡ names_for symbols kind (length table.now)) }
+    ensures { IfOk result (λ names.
+        (symbols : List Symbol)
+        → KnowsNames kind table.now symbols
+        → names.items ≡ names_for symbols kind (length table.now)
+        ) }
 {
     let mut names = Vec::with_capacity(alloc, table.len())?;
     for place in 0..table.len() {
@@ -55,7 +59,10 @@ pub fn names_for(
 /// The line of the first name that stands among those before it, where the first name is that of this line.
 pub fn first_repeat(alloc: Global, names: &[Bytes], line: u64) -> Result<Option<u64>, AllocError>
     requires { line + length names.now < 2 ^ 64 }
-    ensures { IfOk result (λ found. option_map (λ at. fault_on at SameName) found ≡ slice_get (repeats_after [] line names.now) 0) }
+    ensures { IfOk result (λ found.
+        option_map (λ at. fault_on at SameName) found
+        ≡ slice_get (repeats_after [] line names.now) 0
+        ) }
 {
     let mut seen = BTreeSet::new(alloc);
     for (i, name) in names.iter().enumerate() {

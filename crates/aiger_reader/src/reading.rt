@@ -44,7 +44,8 @@ fn split_header(text: &[u8]) -> (&[u8], &[u8])
 fn first_undefined(entries: &[Entry], defined: &BTreeSet<u64>) -> Option<u64>
     requires few { 2 + length entries.now < 2 ^ 64 }
     requires known { KnowsDefined defined.now entries.now }
-    ensures { option_map (λ line. fault_on line Undefined) result ≡ slice_get (undefined_at entries.now 2 entries.now) 0 }
+    ensures { option_map (λ line. fault_on line Undefined) result
+        ≡ slice_get (undefined_at entries.now 2 entries.now) 0 }
 {
     for (i, entry) in entries.iter().enumerate() {
         if reads_undefined(defined, *entry) {
@@ -64,8 +65,16 @@ fn port_names(
     requires known { (symbols : List Symbol) × KnowsSymbols counts tables.now symbols }
     ensures names { IfOk result (λ names. (symbols : List Symbol) → KnowsSymbols counts tables.now symbols →
         names.items ≡ names_for symbols Input counts.inputs ++ names_for symbols Output counts.outputs) }
-    ensures apart { IfOk result (λ names. (symbols : List Symbol) → KnowsSymbols counts tables.now symbols → name_faults counts symbols ≡ []) }
-    ensures refused { IfErr result (λ e. (symbols : List Symbol) → KnowsSymbols counts tables.now symbols → IsFirstOf (name_faults counts symbols) e) }
+    ensures apart { IfOk result (λ names.
+        (symbols : List Symbol)
+        → KnowsSymbols counts tables.now symbols
+        → name_faults counts symbols ≡ []
+        ) }
+    ensures refused { IfErr result (λ e.
+        (symbols : List Symbol)
+        → KnowsSymbols counts tables.now symbols
+        → IsFirstOf (name_faults counts symbols) e
+        ) }
 {
     let mut names = names_for(alloc, SymbolKind::Input, &tables.inputs)?;
     let mut outputs = names_for(alloc, SymbolKind::Output, &tables.outputs)?;

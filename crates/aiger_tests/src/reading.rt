@@ -1,8 +1,9 @@
 // Texts of circuits, and texts that are at fault.
-use crate::texts::{circuit_shown, expect, fault_shown};
+use crate::texts::{circuit_shown, fault_shown};
 use aiger_reader::{AigReadError, read};
 use std::alloc::{AllocError, Global};
 use std::test::Fail;
+use ww_base::expect;
 
 // The circuit of a text as one line, or its fault.
 fn said(alloc: Global, text: &[u8]) -> Result<Vec<u8>, AllocError> {

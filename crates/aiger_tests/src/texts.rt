@@ -1,9 +1,7 @@
-// What was read as text, and texts beside those that are wanted.
-ghost use Rattle.std.specs.Prelude.{◌≡◌, IsOk};
+// What was read, as text.
 
 use aiger_reader::{Aig, AigAnd, AigFault, AigLatch};
 use std::alloc::{AllocError, Global};
-use std::test::Fail;
 
 fn push_lits(
     alloc: Global,
@@ -56,15 +54,4 @@ pub fn fault_shown(alloc: Global, fault: AigFault) -> Result<Vec<u8>, AllocError
     let kind = fault.kind;
     let line = format!(in alloc; "A{} {} line {}", kind.number(), kind.name(), fault.line)?;
     Ok(line.into_bytes())
-}
-
-/// Fails where a text is not the one that is wanted.
-pub fn expect(said: &[u8], want: &[u8]) -> Result<(), Fail>
-    ensures { IsOk result → said.now ≡ want.now }
-{
-    if said == want {
-        Ok(())
-    } else {
-        Err(Fail::new(format_args!("{said:?}, and not {want:?}")))
-    }
 }

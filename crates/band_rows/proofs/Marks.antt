@@ -8,7 +8,9 @@ use Rattle.std.proofs.lemmas.Bool.{cases_eq, cases_lt, eq-eqb, ne_eqb}
 use Rattle.std.proofs.lemmas.Grind.{get_or-set_at}
 use Rattle.std.proofs.lemmas.List.{get_or-set_other, get_or_past, get_or-replicate, length-replicate}
 use Rattle.std.proofs.lemmas.Nat.Bits.{bit_at_set_same, bit_at_set_other, bit_at_clear_same, bit_at_clear_other}
-use Rattle.std.proofs.Math.Bool.{or-false}
+use Rattle.std.proofs.Math.Bool.{or-false, and-true, and-false}
+use Rattle.std.specs.Int.Bits.{or_zero_r}
+use mir.Val.{bool_byte}
 use Rattle.ww_rule.specs.declared.pattern.State.{State}
 use Rattle.ww_rule.specs.declared.pattern.State.TheVariants.{Empty, Head, Tail, Conductor}
 use Rattle.lane_kernel.specs.Rows.{is_set, state_of, row_state, AreDisjoint}
@@ -41,6 +43,21 @@ set_one words x k lt =
                 ∙ sym (ap (λ t. t || is_set words k) (ne_eqb k x (λ q. ne (ap (λ n. n % 64) q))))
           ]
     ]
+
+-- the bit of a cell set where it is asked for
+pub set_if : (words : List ℕ) (x k : ℕ) (asked : Bool) → x / 64 < length words
+    → is_set (slice_set words (x / 64) (bit_or (get_or words (x / 64) 0) (bool_byte asked * 2 ^ (x % 64) % 2 ^ 64))) k ≡ (k == x && asked || is_set words k)
+set_if words x k true lt = set_one words x k lt ∙ sym (ap (λ t. t || is_set words k) (and-true (k == x)))
+set_if words x k false lt =
+    let w = get_or words (x / 64) 0 in
+    let nothing : 0 * 2 ^ (x % 64) % 2 ^ 64 ≡ 0 = omega arith in
+    let none : bit_or w (0 * 2 ^ (x % 64) % 2 ^ 64) ≡ w = ap (bit_or w) nothing ∙ or_zero_r w in
+    ap (λ v. is_set (slice_set words (x / 64) v) k) none
+    ∙ elim (cases_eq (k / 64) (x / 64)) [
+      | inr ne ↦ other_word words x k w ne
+      | inl e ↦ same_word words x k w lt e ∙ ap (λ j. has_bit (get_or words j 0) (k % 64)) (sym e)
+    ]
+    ∙ sym (ap (λ t. t || is_set words k) (and-false (k == x)))
 
 pub clear_one : (words : List ℕ) (x k : ℕ) → x / 64 < length words → is_set (slice_set words (x / 64) (bit_and (get_or words (x / 64) 0) (bit_not w64 (1 * 2 ^ (x % 64) % 2 ^ 64)))) k ≡ (not (k == x) && is_set words k)
 clear_one words x k lt =

@@ -33,8 +33,15 @@ pub fn step_band(
     ensures lit { AreMarked lit.new rows.new }
     ensures long_lit { length lit.new ≡ length lit.old }
     ensures near { length near.new ≡ length near.old }
-    ensures tails { (k j : ℕ) → k < length rows.old → get_or (row_tails rows.new k) j 0 ≡ get_or (row_heads rows.old k) j 0 }
-    ensures steps { (p : Plane) (y : ℤ) → IsEmptyWest p → ShowRows rows.old p y → ShowsHeads up.now p (y -ℤ pos 1) → ShowsHeads down.now p (y +ℤ pos (length rows.old)) → ShowRows rows.new (next_plane p) y }
+    ensures tails { (k j : ℕ)
+        → k < length rows.old
+        → get_or (row_tails rows.new k) j 0 ≡ get_or (row_heads rows.old k) j 0 }
+    ensures steps { (p : Plane) (y : ℤ)
+        → IsEmptyWest p
+        → ShowRows rows.old p y
+        → ShowsHeads up.now p (y -ℤ pos 1)
+        → ShowsHeads down.now p (y +ℤ pos (length rows.old))
+        → ShowRows rows.new (next_plane p) y }
 {
     mark_near(
         lit,

@@ -33,6 +33,15 @@ fn clear_bit(words: &mut [u64], x: usize)
     words[x / 64] &= !(1 << (x % 64));
 }
 
+// Sets the bit of a cell, if asked to, without a branch.
+fn set_bit_if(words: &mut [u64], x: usize, is_asked: bool)
+    requires { x / 64 < length words.old }
+    ensures long { length words.new ≡ length words.old }
+    ensures cells { (k : ℕ) → is_set words.new k ≡ ((k == x && is_asked) || is_set words.old k) }
+{
+    words[x / 64] |= (is_asked as u64) << (x % 64);
+}
+
 // Sets the bit of a cell in the row of its state.
 fn mark(heads: &mut [u64], tails: &mut [u64], wires: &mut [u64], x: usize, state: State)
     requires heads { x / 64 < length heads.old }
@@ -45,12 +54,9 @@ fn mark(heads: &mut [u64], tails: &mut [u64], wires: &mut [u64], x: usize, state
     ensures tails { (k : ℕ) → is_set tails.new k ≡ ((k == x && marks_tail state) || is_set tails.old k) }
     ensures wires { (k : ℕ) → is_set wires.new k ≡ ((k == x && marks_wire state) || is_set wires.old k) }
 {
-    match state {
-        State::Empty => {}
-        State::Head => set_bit(heads, x),
-        State::Tail => set_bit(tails, x),
-        State::Conductor => set_bit(wires, x),
-    }
+    set_bit_if(heads, x, matches!(state, State::Head));
+    set_bit_if(tails, x, matches!(state, State::Tail));
+    set_bit_if(wires, x, matches!(state, State::Conductor));
 }
 
 /// Sets the bits of cells, from the first on, in rows that have none set.

@@ -63,7 +63,11 @@ fn step_in_word(
     ensures dark_tails { IsDarkBeyond result.first result.end tails.new }
     ensures apart { AreDisjoint heads.new tails.new wires.new }
     ensures tails { (i : ℕ) → get_or tails.new i 0 ≡ get_or heads.old i 0 }
-    ensures cells { (x : ℕ) → row_state heads.new tails.new wires.new x ≡ next_plane (plane_of_rows above.now heads.old below.now tails.old wires.old) (pos x) (pos 1) }
+    ensures cells { (x : ℕ)
+        → row_state heads.new tails.new wires.new x
+        ≡ next_plane (plane_of_rows above.now heads.old below.now tails.old wires.old) (pos x) (
+        pos 1
+        ) }
 {
     all_fit(heads);
     let is_lit = step_one_word(above, heads, below, tails, wires, j);
@@ -78,7 +82,11 @@ fn is_in_word(above: &[u64], heads: &[u64], below: &[u64], near: Span) -> bool
     requires within { near.end ≤ length heads.now }
     requires above { length above.now ≡ length heads.now }
     requires below { length below.now ≡ length heads.now }
-    ensures { result ≡ (near.first + 1 == near.end && stays_within near.first (near.first + 1) above.now heads.now below.now) }
+    ensures { result
+        ≡ (
+        near.first + 1 == near.end
+        && stays_within near.first (near.first + 1) above.now heads.now below.now
+        ) }
 {
     if near.is_empty() {
         return false;
@@ -114,7 +122,11 @@ fn step_in_span(
     ensures dark_heads { IsDarkBeyond result.first result.end tails.new }
     ensures dark_tails { IsDarkBeyond result.first result.end heads.now }
     ensures apart { AreDisjoint tails.new heads.now wires.new }
-    ensures cells { (x : ℕ) → row_state tails.new heads.now wires.new x ≡ next_plane (plane_of_rows above.now heads.now below.now tails.old wires.old) (pos x) (pos 1) }
+    ensures cells { (x : ℕ)
+        → row_state tails.new heads.now wires.new x
+        ≡ next_plane (plane_of_rows above.now heads.now below.now tails.old wires.old) (pos x) (
+        pos 1
+        ) }
 {
     let lo = western_end(above, heads, below, near.first);
     let hi = eastern_end(above, heads, below, near.end);
@@ -182,7 +194,11 @@ impl Row {
         requires stays { stays_within j (j + 1) above.now self.old.heads.items below.now ≡ true }
         ensures long { length self.new.heads.items ≡ length self.old.heads.items }
         ensures tails { (j : ℕ) → get_or self.new.tails.items j 0 ≡ get_or self.old.heads.items j 0 }
-        ensures cells { (x : ℕ) → row_state self.new.heads.items self.new.tails.items self.new.wires.items x ≡ next_plane (plane_of_rows above.now self.old.heads.items below.now self.old.tails.items self.old.wires.items) (pos x) (pos 1) }
+        ensures cells { (x : ℕ)
+            → row_state self.new.heads.items self.new.tails.items self.new.wires.items x
+            ≡ next_plane (plane_of_rows above.now self.old.heads.items below.now self.old.tails.items self.old.wires.items) (pos x) (
+            pos 1
+            ) }
     {
         self.span = step_in_word(
             above,
@@ -206,7 +222,11 @@ impl Row {
         requires dark_tails { IsDarkBeyond near.first near.end self.old.tails.items }
         ensures long { length self.new.heads.items ≡ length self.old.heads.items }
         ensures tails { (j : ℕ) → get_or self.new.tails.items j 0 ≡ get_or self.old.heads.items j 0 }
-        ensures cells { (x : ℕ) → row_state self.new.heads.items self.new.tails.items self.new.wires.items x ≡ next_plane (plane_of_rows above.now self.old.heads.items below.now self.old.tails.items self.old.wires.items) (pos x) (pos 1) }
+        ensures cells { (x : ℕ)
+            → row_state self.new.heads.items self.new.tails.items self.new.wires.items x
+            ≡ next_plane (plane_of_rows above.now self.old.heads.items below.now self.old.tails.items self.old.wires.items) (pos x) (
+            pos 1
+            ) }
     {
         self.span = step_in_span(
             above,
@@ -230,7 +250,11 @@ impl Row {
         requires dark_below { IsDarkBeyond below_span.first below_span.end below.now }
         ensures long { length self.new.heads.items ≡ length self.old.heads.items }
         ensures tails { (j : ℕ) → get_or self.new.tails.items j 0 ≡ get_or self.old.heads.items j 0 }
-        ensures cells { (x : ℕ) → row_state self.new.heads.items self.new.tails.items self.new.wires.items x ≡ next_plane (plane_of_rows above.now self.old.heads.items below.now self.old.tails.items self.old.wires.items) (pos x) (pos 1) }
+        ensures cells { (x : ℕ)
+            → row_state self.new.heads.items self.new.tails.items self.new.wires.items x
+            ≡ next_plane (plane_of_rows above.now self.old.heads.items below.now self.old.tails.items self.old.wires.items) (pos x) (
+            pos 1
+            ) }
     {
         let near = hull(above_span, hull(self.span, below_span));
         if near.is_empty() {

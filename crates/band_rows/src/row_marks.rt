@@ -53,7 +53,11 @@ pub fn next_marked(marks: &[u64], from: usize) -> usize
 fn spread_marks(marks: &[u64], near: &mut [u64])
     requires { length near.old ≡ length marks.now }
     ensures long { length near.new ≡ length marks.now }
-    ensures clear { (k m : ℕ) → k < 64 * length marks.now → is_set near.new k ≡ false → IsBeside m k → is_set marks.now m ≡ false }
+    ensures clear { (k m : ℕ)
+        → k < 64 * length marks.now
+        → is_set near.new k ≡ false
+        → IsBeside m k
+        → is_set marks.now m ≡ false }
 {
     for j in 0..near.len() {
         near[j] = spread(words_near(marks, j));

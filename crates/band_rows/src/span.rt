@@ -94,7 +94,10 @@ pub fn trimmed(heads: &[u64], tails: &[u64], first: usize, end: usize) -> Span
 /// A span that has the word j besides.
 pub fn widened(span: Span, j: usize) -> Span
     requires { j + 1 < 2 ^ 64 }
-    ensures wider { (old new : List ℕ) → ((i : ℕ) → i ≢ j → get_or new i 0 ≡ get_or old i 0) → IsDarkBeyond span.first span.end old → IsDarkBeyond result.first result.end new }
+    ensures wider { (old new : List ℕ)
+        → ((i : ℕ) → i ≢ j → get_or new i 0 ≡ get_or old i 0)
+        → IsDarkBeyond span.first span.end old
+        → IsDarkBeyond result.first result.end new }
     ensures within { (n : ℕ) → j < n → span.end ≤ n → result.end ≤ n }
 {
     if span.is_empty() {

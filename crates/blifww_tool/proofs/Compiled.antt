@@ -15,6 +15,7 @@ use Rattle.grid_assembly.specs.PlanDrawing.{start_grid}
 use Rattle.pattern_reading.specs.declared.ports.Ports.{Ports}
 use Rattle.pattern_writing.specs.WrittenText.{pattern_text}
 use Rattle.cell_meaning.specs.Needs.{any_needs_one}
+use Rattle.cell_plans.specs.Counts.{instr_count}
 use Rattle.latch_loops.specs.Closed.{contexts_size}
 use Rattle.latch_loops.specs.Padded.{IsPaddedPlan}
 use Rattle.netlist_core.specs.declared.model.Design.{Design}
@@ -29,6 +30,7 @@ use Rattle.flat_designs.specs.Laws.{FlatIsOne, state_in_order}
 use Rattle.flat_designs.proofs.Weights.{parts_are_few}
 use Rattle.netlist_text.specs.NetlistText.{IsNetlist}
 use Rattle.netlist_text.specs.Parts.{AreParts}
+use Rattle.netlist_text.proofs.SoundParts.{small}
 use Rattle.netlist_text.specs.Causes.{HasNetlistCause}
 use Rattle.netlist_text.specs.declared.error.NetlistError.{NetlistError}
 use Rattle.netlist_text.specs.declared.error.NetlistError.TheVariants as netlist_of
@@ -85,8 +87,8 @@ has_starts law contexts starts text design flat order is p none = record {
 pub few_latches : (design : Design) (flat : Flat) (order : List ℕ) → AreParts design flat order → length flat.latches < 2 ^ 32
 few_latches design flat order p =
     let few = parts_are_few design flat p.is_flat in
-    let light : weight design ≤ 1024 = p.light in
-    omega (arith, few, light)
+    let same : flat.weight ≡ weight design = p.is_flat.weight in
+    omega (arith, few, same, small design flat order p)
 
 -- the plan by which a design is carried
 pub carried_by : FlatIsOne → DesignsAreCarried → (design : Design) (flat : Flat) (order : List ℕ) (plan : Plan) (ports : Ports) → AreParts design flat order
@@ -102,6 +104,7 @@ carried_by one law design flat order plan ports p admissible edges table cells s
       nets = nets;
       lanes = subst (λ (w : ℕ). plan.lanes ≤ 4 * w + 4) p.is_flat.weight few.lanes;
       columns = subst (λ (w : ℕ). length plan.columns ≤ 256 * ((w + 1) * (w + 1))) p.is_flat.weight few.columns;
+      instrs = subst (λ (w : ℕ). instr_count plan.columns ≤ 256 * ((w + 1) * (w + 1))) p.is_flat.weight few.instrs;
       table = λ other h. subst (λ (f : Flat). IsTableOf f plan 1 ports) (one design flat other p.is_flat h) table;
       cells = λ other h. subst (λ (f : Flat). ComputesCells f plan) (one design flat other p.is_flat h) cells;
       size = λ other h. subst (λ (f : Flat). HasLanes f plan) (one design flat other p.is_flat h) size;

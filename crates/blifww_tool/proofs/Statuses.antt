@@ -1,5 +1,5 @@
 -- Each status of a run comes only where its cause is.
-use Rattle.std.proofs.Common.{ℕ, ◌≡◌, ◌≢◌, ◌≤◌, ◌*◌, ◌⊎◌, refl, sym, ◌∙◌, subst, List, [], inl, inr, arith}
+use Rattle.std.proofs.Common.{ℕ, ◌≡◌, ◌≢◌, ◌≤◌, ◌<◌, ◌*◌, ◌⊎◌, refl, sym, ◌∙◌, subst, List, inl, inr, arith}
 use Rattle.std.proofs.Math.Nat.{le-max_left}
 use Rattle.std.proofs.lemmas.Bool.{cases_eq}
 use Rattle.command_words.specs.Shapes.{CommandValues, compile, simulate, eval, probe, window, make, self_, IsCommand}
@@ -10,7 +10,7 @@ use Rattle.blifww_tool.specs.Commands.{Refuses}
 use Rattle.blifww_tool.specs.Compilation.{HasNoRoom, latch_count, least_room}
 use Rattle.blifww_tool.specs.Refusals.{status_of, status_of_cause}
 use Rattle.blifww_tool.specs.Run.{Call, Reading, Asks, IsAsked, GaveTooMany, GaveAll, HasText, ReadFailed, WriteFailed, HasReason, RefusesText, IsRefused, CutsLine, CutsOutput, Ends}
-use Rattle.blifww_tool.specs.Statuses.{StatusesHaveCauses, IsOverALimit, HasNoPattern, WordsDoNotFit, IsNotQuiet}
+use Rattle.blifww_tool.specs.Statuses.{StatusesHaveCauses, IsOverALimit, IsTooLarge, HasNoPattern, WordsDoNotFit, IsNotQuiet}
 use Rattle.blifww_tool.proofs.Given.{one_command}
 use Rattle.blifww_tool.specs.declared.causes.Cause.{Cause}
 use Rattle.blifww_tool.specs.declared.causes.Cause.TheVariants.{NetlistFault, WeightTooLarge, Loop, Pattern, GridTooLarge, PortTable, Streams, StartWord, NoSuchNet, TooFar, TooManyContexts, NotQuiet}
@@ -75,10 +75,10 @@ a_loop_by command src text (TooManyContexts n limit) e given h = absurd (omega (
 a_loop_by command src text (NotQuiet g x y) e given h = absurd (omega (arith, e))
 
 -- too great a weight, or too many contexts
-abbrev IsTooLarge : (contexts : ℕ) → (starts : List (List ℕ)) → List ℕ → Type 0
-IsTooLarge contexts starts text = ((weight : ℕ) × IsTooHeavy text weight) ⊎ ((limit : ℕ) × HasNoRoom contexts starts text limit)
+abbrev IsRefusedAsLarge : (contexts : ℕ) → (starts : List (List ℕ)) → List ℕ → Type 0
+IsRefusedAsLarge contexts starts text = ((weight : ℕ) × IsTooHeavy text weight) ⊎ ((limit : ℕ) × HasNoRoom contexts starts text limit)
 
-too_large_by : (contexts : ℕ) (starts : List (List ℕ)) (text : List ℕ) (cause : Cause) → status_of_cause cause ≡ 4 → Refuses (compile contexts starts) text cause → IsTooLarge contexts starts text
+too_large_by : (contexts : ℕ) (starts : List (List ℕ)) (text : List ℕ) (cause : Cause) → status_of_cause cause ≡ 4 → Refuses (compile contexts starts) text cause → IsRefusedAsLarge contexts starts text
 too_large_by contexts starts text (NetlistFault f) e h = absurd (omega (arith, e))
 too_large_by contexts starts text (WeightTooLarge w) e h = inl (w, h)
 too_large_by contexts starts text (Loop names) e h = absurd (omega (arith, e))
@@ -125,7 +125,7 @@ asked words src NoMemory h two seven = absurd (seven refl)
 asked words src (Text cause) h two seven = (h.command, h.asked)
 
 no_room : (words : List (List ℕ)) (src : Reading) (r : Refusal) (contexts : ℕ) (starts : List (List ℕ)) → HasReason words src r → status_of r ≡ 4 → Asks words (compile contexts starts)
-    → GaveTooMany words src ⊎ ((text : List ℕ) × GaveAll src text × IsTooLarge contexts starts text)
+    → GaveTooMany words src ⊎ ((text : List ℕ) × GaveAll src text × IsRefusedAsLarge contexts starts text)
 no_room words src Usage contexts starts h e asks = absurd (omega (arith, e))
 no_room words src TooLong contexts starts h e asks = inl h
 no_room words src ReadFault contexts starts h e asks = absurd (omega (arith, e))
@@ -136,9 +136,9 @@ no_room words src (Text cause) contexts starts h e asks =
     let given : GaveAll src h.text = subst (λ (v : CommandValues). HasText v src h.text) same h.given in
     inr (h.text, given, too_large_by contexts starts h.text cause e (subst (λ (v : CommandValues). Refuses v h.text cause) same h.refused))
 
--- one context always has room
-one_has_room : (starts : List (List ℕ)) (text : List ℕ) (limit : ℕ) → HasNoRoom 1 starts text limit → ⊥
-one_has_room starts text limit h =
+-- where there is no room there are several contexts
+several : (contexts : ℕ) (starts : List (List ℕ)) (text : List ℕ) (limit : ℕ) → HasNoRoom contexts starts text limit → 1 < contexts
+several contexts starts text limit h =
     let one : 1 ≤ least_room h.design = le-max_left 1 (6 * latch_count h.design) in
     omega (arith, one, h.least, h.over)
 
@@ -263,24 +263,13 @@ refused c status n h not_zero not_six e = by_refusal c status n e (h.refused (λ
 usage_of : (c : Call) → Refused c 2 → IsCommand c.words → ⊥
 usage_of c r = usage c.words c.src r.refusal r.reason r.status_is
 
-no_room_of : (c : Call) → Refused c 4 → (contexts : ℕ) (starts : List (List ℕ)) → Asks c.words (compile contexts starts)
-    → GaveTooMany c.words c.src ⊎ (((text : List ℕ) × (weight : ℕ) × GaveAll c.src text × IsTooHeavy text weight) ⊎ ((text : List ℕ) × (limit : ℕ) × GaveAll c.src text × HasNoRoom contexts starts text limit))
-no_room_of c r contexts starts asks = by (no_room c.words c.src r.refusal contexts starts r.reason r.status_is asks)
+too_large_of : (c : Call) → Refused c 4 → (contexts : ℕ) (starts : List (List ℕ)) → Asks c.words (compile contexts starts) → IsTooLarge c contexts starts
+too_large_of c r contexts starts asks = by (no_room c.words c.src r.refusal contexts starts r.reason r.status_is asks)
   where
-    by : GaveTooMany c.words c.src ⊎ ((text : List ℕ) × GaveAll c.src text × IsTooLarge contexts starts text)
-        → GaveTooMany c.words c.src ⊎ (((text : List ℕ) × (weight : ℕ) × GaveAll c.src text × IsTooHeavy text weight) ⊎ ((text : List ℕ) × (limit : ℕ) × GaveAll c.src text × HasNoRoom contexts starts text limit))
+    by : GaveTooMany c.words c.src ⊎ ((text : List ℕ) × GaveAll c.src text × IsRefusedAsLarge contexts starts text) → IsTooLarge c contexts starts
     by (inl many) = inl many
     by (inr (text, given, inl (weight, heavy))) = inr (inl (text, weight, given, heavy))
-    by (inr (text, given, inr (limit, room))) = inr (inr (text, limit, given, room))
-
-too_large_of : (c : Call) → Refused c 4 → Asks c.words (compile 1 []) → GaveTooMany c.words c.src ⊎ ((text : List ℕ) × (weight : ℕ) × GaveAll c.src text × IsTooHeavy text weight)
-too_large_of c r asks = by (no_room_of c r 1 [] asks)
-  where
-    by : GaveTooMany c.words c.src ⊎ (((text : List ℕ) × (weight : ℕ) × GaveAll c.src text × IsTooHeavy text weight) ⊎ ((text : List ℕ) × (limit : ℕ) × GaveAll c.src text × HasNoRoom 1 [] text limit))
-        → GaveTooMany c.words c.src ⊎ ((text : List ℕ) × (weight : ℕ) × GaveAll c.src text × IsTooHeavy text weight)
-    by (inl many) = inl many
-    by (inr (inl heavy)) = inr heavy
-    by (inr (inr room)) = absurd (one_has_room [] room.0 room.1 room.3)
+    by (inr (text, given, inr (limit, room))) = inr (inr (text, limit, given, several contexts starts text limit room, room))
 
 at_fault_of : (c : Call) → Refused c 1 → (text : List ℕ) × (fault : Fault) × GaveAll c.src text × IsAtFault text fault
 at_fault_of c r = at_fault c.words c.src r.refusal r.reason r.status_is
@@ -297,8 +286,7 @@ statuses_have_causes c status h = record {
   asked = λ two six seven. asked_by c status h two six seven (cases_eq status 0);
   at_fault = λ e. at_fault_of c (refused c status 1 h (λ z. cc) (λ z. cc) e);
   a_loop = λ e. a_loop_of c (refused c status 3 h (λ z. cc) (λ z. cc) e);
-  too_large = λ e. too_large_of c (refused c status 4 h (λ z. cc) (λ z. cc) e);
-  no_room = λ contexts starts e asks. no_room_of c (refused c status 4 h (λ z. cc) (λ z. cc) e) contexts starts asks;
+  too_large = λ e contexts starts asks. too_large_of c (refused c status 4 h (λ z. cc) (λ z. cc) e) contexts starts asks;
   over_a_limit = λ e. let r = refused c status 4 h (λ z. cc) (λ z. cc) e in over_a_limit c r.refusal r.reason r.status_is;
   read_fault = λ e. read_fault_of c (refused c status 5 h (λ z. cc) (λ z. cc) e);
   write_fault = λ e. write_fault c (h.cut e);

@@ -10,6 +10,7 @@ use Rattle.carries.specs.Carries.{Carries}
 use Rattle.carries.specs.Nets.{CarriesNets}
 use Rattle.carries.specs.DesignContexts.{CarriesContexts, CarriesNetsInContexts}
 use Rattle.cell_meaning.specs.Needs.{any_needs_one}
+use Rattle.cell_plans.specs.Counts.{instr_count}
 use Rattle.latch_loops.specs.Closed.{contexts_size}
 use Rattle.latch_loops.specs.Padded.{IsPaddedPlan}
 use Rattle.netlist_core.specs.declared.model.Design.{Design}
@@ -28,9 +29,9 @@ use Rattle.blifww_tool.specs.declared.causes.Cause.TheVariants.{NetlistFault, We
 
 -- The written text of the plan and its table carries the design and its nets. The plan can be drawn, with its starts.
 -- The plan computes the cells of the design's flat netlist: so it has a loop for each latch, and exactly where constant
--- 1 is named one more. It is small, by the design's weight, and has no lane and no column exactly where there is no net
--- but clock nets; each net has a place, by what drives it; where there is no latch and no cover needs constant 1 the
--- period is 32.
+-- 1 is named one more. The design's weight bounds its lanes, its columns and its instructions, and it has no lane and no
+-- column exactly where there is no net but clock nets. Each net has a place, by what drives it. Where there is no latch
+-- and no cover needs constant 1 the period is 32.
 pub record IsCarriedBy (design : Design) (plan : Plan) (ports : Ports) : Type 0 where
   pub admissible : IsAdmissible plan
   pub edges : HasStartEdges plan
@@ -38,6 +39,7 @@ pub record IsCarriedBy (design : Design) (plan : Plan) (ports : Ports) : Type 0 
   pub nets : CarriesNets (pattern_text (start_grid plan) ports) design
   pub lanes : plan.lanes ≤ 4 * weight design + 4
   pub columns : length plan.columns ≤ 256 * ((weight design + 1) * (weight design + 1))
+  pub instrs : instr_count plan.columns ≤ 256 * ((weight design + 1) * (weight design + 1))
   pub table : (flat : Flat) → IsFlatOf design flat → IsTableOf flat plan 1 ports
   pub cells : (flat : Flat) → IsFlatOf design flat → ComputesCells flat plan
   pub size : (flat : Flat) → IsFlatOf design flat → HasLanes flat plan
@@ -89,7 +91,7 @@ pub record HasStartFault (contexts : ℕ) (starts : List (List ℕ)) (text : Lis
 abbrev pub latch_count : Design → ℕ
 latch_count design = length (at_places design (λ model. model.latches) (λ place latch. latch))
 
--- so many contexts every plan of the design has room for
+-- so many contexts every plan has room for: one, and six for each latch
 abbrev pub least_room : Design → ℕ
 least_room design = max 1 (6 * latch_count design)
 

@@ -3,7 +3,7 @@ use Rattle.std.specs.Prelude.{ℕ, List, ◌++◌, flat_map, codes, decimal}
 use Rattle.netlist_core.specs.Names.{Name}
 use Rattle.netlist_rules.specs.declared.fault.Fault.{Fault}
 use Rattle.netlist_rules.specs.FaultNames.{number_of, name_of}
-use Rattle.netlist_flatten.specs.Limit.{weight_limit}
+use Rattle.netlist_core.specs.Limit.{weight_limit}
 use Rattle.netlist_text.specs.declared.error.NetlistError.{NetlistError}
 use Rattle.netlist_text.specs.declared.error.NetlistError.TheVariants as netlist_of
 use Rattle.pattern_reading.specs.declared.faults.RleFaultKind.{RleFaultKind}

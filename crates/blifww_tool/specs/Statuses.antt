@@ -1,5 +1,5 @@
 -- What each status of a run says by itself.
-use Rattle.std.specs.Prelude.{◌≡◌, ◌≢◌, ◌⊎◌, ℕ, List, []}
+use Rattle.std.specs.Prelude.{◌≡◌, ◌≢◌, ◌<◌, ◌⊎◌, ℕ, List}
 use Rattle.netlist_core.specs.Names.{Name}
 use Rattle.netlist_rules.specs.declared.fault.Fault.{Fault}
 use Rattle.rle_read.specs.declared.error.RleFault.{RleFault}
@@ -21,6 +21,13 @@ IsOverALimit c =
     ⊎ (((width height : ℕ) × RefusesText c.words c.src (GridTooLarge width height))
     ⊎ (((generations : ℕ) × RefusesText c.words c.src (TooFar generations))
     ⊎ ((contexts limit : ℕ) × RefusesText c.words c.src (TooManyContexts contexts limit)))))
+
+-- of `compile`: the source gave too many bytes, or a netlist that weighs too much, or one in which several contexts have no room
+abbrev pub IsTooLarge : Call → (contexts : ℕ) → (starts : List (List ℕ)) → Type 0
+IsTooLarge c contexts starts =
+    GaveTooMany c.words c.src
+    ⊎ (((text : List ℕ) × (weight : ℕ) × GaveAll c.src text × IsTooHeavy text weight)
+    ⊎ ((text : List ℕ) × (limit : ℕ) × GaveAll c.src text × (1 < contexts) × HasNoRoom contexts starts text limit))
 
 -- the command refuses the text as no pattern's, or for its port table
 abbrev pub HasNoPattern : Call → Type 0
@@ -44,11 +51,7 @@ pub record HaveCauses (c : Call) (status : ℕ) : Type 0 where
   pub usage : status ≡ 2 → IsCommand c.words → ⊥
   pub asked : status ≢ 2 → status ≢ 6 → status ≢ 7 → (command : CommandValues) × IsAsked c.words command
   pub a_loop : status ≡ 3 → (text : List ℕ) × (names : List Name) × GaveAll c.src text × HasLoop text names
-  pub too_large : status ≡ 4 → Asks c.words (compile 1 [])
-      → GaveTooMany c.words c.src ⊎ ((text : List ℕ) × (weight : ℕ) × GaveAll c.src text × IsTooHeavy text weight)
-  pub no_room : (contexts : ℕ) (starts : List (List ℕ)) → status ≡ 4 → Asks c.words (compile contexts starts)
-      → GaveTooMany c.words c.src ⊎ (((text : List ℕ) × (weight : ℕ) × GaveAll c.src text × IsTooHeavy text weight)
-      ⊎ ((text : List ℕ) × (limit : ℕ) × GaveAll c.src text × HasNoRoom contexts starts text limit))
+  pub too_large : status ≡ 4 → (contexts : ℕ) (starts : List (List ℕ)) → Asks c.words (compile contexts starts) → IsTooLarge c contexts starts
   pub over_a_limit : status ≡ 4 → IsOverALimit c
   pub read_fault : status ≡ 5 → ReadFailed c.src
   pub write_fault : status ≡ 6 → WriteFailed c.out ⊎ WriteFailed c.err

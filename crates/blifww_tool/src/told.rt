@@ -13,7 +13,7 @@ use blif_text::Fault;
 use drive::StreamFaultKind;
 use itoa::Buffer;
 use lists::Bytes;
-use netlist_flatten::WEIGHT_LIMIT;
+use netlist_core::WEIGHT_LIMIT;
 use pattern_reading::{PortFaultKind, RleFaultKind};
 use port_writing::{Page, write_pieces};
 use start_words::StartFaultKind;

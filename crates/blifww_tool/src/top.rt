@@ -91,7 +91,7 @@ fn work<S: Source, O: Sink>(
 /// of a netlist that is made from the seed, and the second what is told of it, compiled, simulated and evaluated.
 ///
 /// 0: all of it is on `out`. 1: the netlist's text breaks a rule. 2: the words are no command. 3: covers read each
-/// other in a circle. 4: the text has more than 16,777,216 bytes, the netlist weighs more than 1,024, the pattern's box
+/// other in a circle. 4: the text has more than 16,777,216 bytes, the netlist weighs more than 8,192, the pattern's box
 /// has more than 268,435,456 cells, its last bits come after generation 4,294,967,296, or the pattern has no room for
 /// so many contexts: it has room for at least one, and for 6 for each latch. 5: `src` failed. 6: `out` or `err` failed.
 /// 7: there was not enough memory. 8: the text is no pattern's, or its port table is at fault. 9: the words are no

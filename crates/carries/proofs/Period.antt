@@ -8,10 +8,11 @@ use Rattle.std.specs.Str.{bytes_eq, byte}
 use Rattle.pattern_reading.specs.declared.ports.NetLine.{NetLine}
 use Rattle.pattern_reading.specs.declared.ports.PortLine.{PortLine}
 use Rattle.pattern_reading.specs.declared.ports.Ports.{Ports}
+use Rattle.pattern_reading.specs.declared.ports.TableVersion.{TableVersion}
 use Rattle.pattern_reading.specs.Lines.{Line}
 use Rattle.pattern_reading.specs.Header.{lines_before_header}
 use Rattle.pattern_reading.specs.Numbers.{◌>>=◌, number_in}
-use Rattle.pattern_reading.specs.PortLines.{PortForm, Version, In, Out, Net, TableLine, count_in, form_of_fields, has_room, net_in, port_in, table_entry, table_line}
+use Rattle.pattern_reading.specs.PortLines.{PortForm, Version, In, Out, Net, TableLine, count_in, form_of_fields, has_room, net_in, port_in, table_entry, table_line, table_version, uncounted, version_in, version_named}
 use Rattle.pattern_reading.specs.PortTable.{ReadsAsPorts, contexts_in, forms_of, period_in}
 
 abbrev HasPeriod : PortForm → Type 0
@@ -48,35 +49,41 @@ by_version true (Some p) (Some l) None = tt
 by_version true (Some p) (Some l) (Some c) = by_zero p l c (p == 0) (not (has_room p c)) refl refl
 by_version false p l c = tt
 
-form_period : (fields : List (List ℕ)) → MayHavePeriod (form_of_fields fields)
-form_period [] = tt
-form_period (a ∷ []) = tt
-form_period (a ∷ b ∷ []) = tt
-form_period (a ∷ b ∷ c ∷ []) = tt
-form_period (kind ∷ x ∷ y ∷ name ∷ []) =
-    by_port (bytes_eq kind (codes "IN")) (bytes_eq kind (codes "OUT")) (port_in x y name)
-form_period (version ∷ p_word ∷ p ∷ l_word ∷ l ∷ []) =
-    by_version (bytes_eq version (codes "1") && bytes_eq p_word (codes "P") && bytes_eq l_word (codes "L")) (number_in p) (number_in l) (Some 1)
-form_period (kind ∷ x ∷ y ∷ offset ∷ name ∷ path ∷ []) =
-    by_net (bytes_eq kind (codes "NET")) (net_in x y offset name path)
-form_period (version ∷ p_word ∷ p ∷ l_word ∷ l ∷ c_word ∷ c ∷ []) =
-    by_version (bytes_eq version (codes "1") && bytes_eq p_word (codes "P") && bytes_eq l_word (codes "L")) (number_in p) (number_in l) (count_in c_word c)
-form_period (a ∷ b ∷ c ∷ d ∷ e ∷ f ∷ g ∷ i ∷ fields) = tt
+by_name : (o : Option TableVersion) (form : TableVersion → Option PortForm) → ((named : TableVersion) → MayHavePeriod (form named)) → MayHavePeriod (o >>= form)
+by_name None form h = tt
+by_name (Some named) form h = h named
+
+form_period : (version : TableVersion) (fields : List (List ℕ)) → MayHavePeriod (form_of_fields version fields)
+form_period version [] = tt
+form_period version (a ∷ []) = tt
+form_period version (a ∷ b ∷ []) = tt
+form_period version (a ∷ b ∷ c ∷ []) = tt
+form_period version (kind ∷ x ∷ y ∷ name ∷ []) =
+    by_port (bytes_eq kind (codes "IN")) (bytes_eq kind (codes "OUT")) (port_in version x y name)
+form_period version (number ∷ p_word ∷ p ∷ l_word ∷ l ∷ []) =
+    by_name (version_named number) (λ named. version_in p_word p l_word l (uncounted named))
+    (λ named. by_version (bytes_eq p_word (codes "P") && bytes_eq l_word (codes "L")) (number_in p) (number_in l) (uncounted named))
+form_period version (kind ∷ x ∷ y ∷ offset ∷ name ∷ path ∷ []) =
+    by_net (bytes_eq kind (codes "NET")) (net_in version x y offset name path)
+form_period version (number ∷ p_word ∷ p ∷ l_word ∷ l ∷ c_word ∷ c ∷ []) =
+    by_name (version_named number) (λ named. version_in p_word p l_word l (count_in c_word c))
+    (λ named. by_version (bytes_eq p_word (codes "P") && bytes_eq l_word (codes "L")) (number_in p) (number_in l) (count_in c_word c))
+form_period version (a ∷ b ∷ c ∷ d ∷ e ∷ f ∷ g ∷ i ∷ fields) = tt
 
 with_form : (o : Option PortForm) (forms : List PortForm) → MayHavePeriod o → AllByRecursion HasPeriod forms → AllByRecursion HasPeriod (cons_option o forms)
 with_form None forms h k = k
 with_form (Some form) forms h k = (h, k)
 
-abbrev table_line_of : Line → List ℕ → TableLine
-table_line_of line entry = record { number = line.number; form = form_of_fields (slice_split (λ b. b == byte " ") entry) }
+abbrev table_line_of : TableVersion → Line → List ℕ → TableLine
+table_line_of version line entry = record { number = line.number; form = form_of_fields version (slice_split (λ b. b == byte " ") entry) }
 
-lines_period : (lines : List Line) → AllByRecursion HasPeriod (filter_map (λ line. line.form) (filter_map table_line lines))
-lines_period [] = tt
-lines_period (line ∷ lines) = by_entry (table_entry line) (lines_period lines)
+lines_period : (version : TableVersion) (lines : List Line) → AllByRecursion HasPeriod (filter_map (λ line. line.form) (filter_map (table_line version) lines))
+lines_period version [] = tt
+lines_period version (line ∷ lines) = by_entry (table_entry line) (lines_period version lines)
   where
-    by_entry : (entry : Option (List ℕ)) → AllByRecursion HasPeriod (filter_map (λ line. line.form) (filter_map table_line lines)) → AllByRecursion HasPeriod (filter_map (λ line. line.form) (cons_option (entry >>= λ entry. Some (table_line_of line entry)) (filter_map table_line lines)))
+    by_entry : (entry : Option (List ℕ)) → AllByRecursion HasPeriod (filter_map (λ line. line.form) (filter_map (table_line version) lines)) → AllByRecursion HasPeriod (filter_map (λ line. line.form) (cons_option (entry >>= λ entry. Some (table_line_of version line entry)) (filter_map (table_line version) lines)))
     by_entry None rest = rest
-    by_entry (Some entry) rest = with_form _ _ (form_period (slice_split (λ b. b == byte " ") entry)) rest
+    by_entry (Some entry) rest = with_form _ _ (form_period version (slice_split (λ b. b == byte " ") entry)) rest
 
 period_of_forms : (forms : List PortForm) → AllByRecursion HasPeriod forms → period_in forms ≢ 0
 period_of_forms [] h = λ e. omega (arith, e)
@@ -87,7 +94,7 @@ period_of_forms (Net net ∷ forms) h = period_of_forms forms h.1
 
 pub has_period : (text : List ℕ) (width height : ℕ) (ports : Ports) → ReadsAsPorts text width height ports → ports.p ≢ 0
 has_period text width height ports table e =
-    period_of_forms (forms_of text) (lines_period (lines_before_header text)) (sym (ap (λ ports. ports.p) table.ports_is) ∙ e)
+    period_of_forms (forms_of text) (lines_period (table_version text) (lines_before_header text)) (sym (ap (λ ports. ports.p) table.ports_is) ∙ e)
 
 room_of_forms : (forms : List PortForm) → AllByRecursion HasPeriod forms → has_room (period_in forms) (contexts_in forms) ≡ true
 room_of_forms [] h = refl
@@ -102,5 +109,5 @@ room period contexts e more = grind (arith, nat_tests, e, more)
 pub contexts_have_room : (text : List ℕ) (width height : ℕ) (ports : Ports) → ReadsAsPorts text width height ports → 1 < ports.c → 32 * ports.c ≤ ports.p
 contexts_have_room text width height ports table more =
     room ports.p ports.c
-    (ap₂ has_room (ap (λ ports. ports.p) table.ports_is) (ap (λ ports. ports.c) table.ports_is) ∙ room_of_forms (forms_of text) (lines_period (lines_before_header text)))
+    (ap₂ has_room (ap (λ ports. ports.p) table.ports_is) (ap (λ ports. ports.c) table.ports_is) ∙ room_of_forms (forms_of text) (lines_period (table_version text) (lines_before_header text)))
     more

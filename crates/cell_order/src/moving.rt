@@ -88,7 +88,11 @@ impl Moved {
 
     /// The sources under the new numbers, if each has come.
     pub fn sources(&self, alloc: Global, sources: &[Src]) -> Result<Option<Vec<Src>>, OrderError>
-        ensures { IfOk result (λ o. IfSome o (λ found. map (renamed self.now.numbers.items) sources.now ≡ map Some found.items)) }
+        ensures { IfOk result (λ o.
+            IfSome o (λ found.
+            map (renamed self.now.numbers.items) sources.now ≡ map Some found.items
+            )
+            ) }
     {
         let mut found = Vec::with_capacity(alloc, sources.len())?;
         for src in sources {
@@ -102,9 +106,22 @@ impl Moved {
 
     /// What the list's outputs, latches and nets read under the new numbers, if each has come.
     pub fn ends(&self, alloc: Global, list: &CellList) -> Result<Option<Ends>, OrderError>
-        ensures outs { IfOk result (λ o. IfSome o (λ ends. map (renamed self.now.numbers.items) list.now.outs ≡ map Some ends.outs.items)) }
-        ensures latches { IfOk result (λ o. IfSome o (λ ends. map (renamed self.now.numbers.items) list.now.latches ≡ map Some ends.latches.items)) }
-        ensures nets { IfOk result (λ o. IfSome o (λ ends. map (renamed self.now.numbers.items) list.now.nets ≡ map Some ends.nets.items)) }
+        ensures outs { IfOk result (λ o.
+            IfSome o (λ ends.
+            map (renamed self.now.numbers.items) list.now.outs ≡ map Some ends.outs.items
+            )
+            ) }
+        ensures latches { IfOk result (λ o.
+            IfSome o (λ ends.
+            map (renamed self.now.numbers.items) list.now.latches
+            ≡ map Some ends.latches.items
+            )
+            ) }
+        ensures nets { IfOk result (λ o.
+            IfSome o (λ ends.
+            map (renamed self.now.numbers.items) list.now.nets ≡ map Some ends.nets.items
+            )
+            ) }
     {
         let Some(outs) = self.sources(alloc, list.outs.as_slice())? else {
             return Ok(None);

@@ -73,7 +73,10 @@ fn stays(old: &CellList, new: &CellList, news: &[Option<Src>], src: Src) -> bool
 
 /// Whether those of the sources that are cells stay the cells that they are.
 pub fn stay_cells(old: &CellList, new: &CellList, news: &[Option<Src>], sources: &[Src]) -> bool
-    ensures { result ≡ true → (src : Src) → Contains sources.now src → StaysCell old.now new.now (goes_to news.now) src }
+    ensures { result ≡ true
+        → (src : Src)
+        → Contains sources.now src
+        → StaysCell old.now new.now (goes_to news.now) src }
 {
     for src in sources {
         if !stays(old, new, news, *src) {

@@ -42,7 +42,9 @@ fn has_same_clock(flat: &Flat, a: &FlatLatch, b: &FlatLatch) -> bool
 /// The first latch that differs from the first one in type or control.
 pub fn other_clock(flat: &Flat) -> Option<FlatLatch>
     requires { IsInRange flat.now }
-    ensures found { MatchOption result (HasOneFlatClock flat.now) (λ found. IsFlatTwoClocks flat.now found.line (flat_control_word flat.now found.control)) }
+    ensures found { MatchOption result (HasOneFlatClock flat.now) (λ found.
+        IsFlatTwoClocks flat.now found.line (flat_control_word flat.now found.control)
+        ) }
     ensures control { IfSome result (λ found. MatchOption found.control ⊤ (IsNetId flat.now)) }
 {
     let latches = flat.latches.as_slice();

@@ -1,7 +1,7 @@
 // A cover as cells: a constant, one cell, or cells that a search found, or its rows.
 ghost use Rattle.std.specs.Prelude.{◌≡◌, ◌==◌, [], ◌⊎◌, ◌≤◌, ◌*◌, min, true, length, IsTrue, IfOk, IfSome, Some};
 ghost use Rattle.std.specs.List.{list_any};
-ghost use Rattle.netlist_core.specs.OwnWeight.{literals, rows_weight};
+ghost use Rattle.netlist_core.specs.OwnWeight.{rows_weight};
 ghost use Rattle.cell_core.specs.Meaning.{bit_in};
 ghost use Rattle.cell_core.specs.Sources.{is_one, reads_one, read_one};
 ghost use Rattle.cover_cells.specs.Grown.{HasSources, bits_of, Answers};
@@ -22,27 +22,8 @@ use crate::singles::{constant_source, single_cell};
 use crate::words::{computes, rows_word};
 use cell_core::{Cell, CellError, CellList, Src};
 use lists::Bytes;
+use netlist_core::rows_weight;
 use std::alloc::Global;
-
-// How many characters of a row are `0` or `1`.
-fn literals(row: &[u8]) -> usize
-    ensures { result ≡ literals row.now }
-{
-    row.iter()
-        .filter(|character| **character == b'0' || **character == b'1')
-        .count()
-}
-
-// The weight of a cover with these rows, at most the greatest u64.
-fn rows_weight(rows: &[Bytes]) -> u64
-    ensures { result ≡ min (rows_weight rows.now) u64.MAX }
-{
-    let mut weight = (rows.len() as u64).saturating_add(1);
-    for row in rows {
-        weight = weight.saturating_add(literals(row.as_slice()) as u64);
-    }
-    weight
-}
 
 // Whether some of the cells reads constant 1.
 fn read_one(cells: &[Cell]) -> bool

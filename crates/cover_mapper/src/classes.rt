@@ -8,17 +8,8 @@ ghost use Rattle.cover_mapper.specs.Sourced.{sources_at};
 use crate::error::MapError;
 use cell_core::Src;
 use netlist_core::{Flat, FlatLatch, FlatPort, Net, NetId};
+use netlist_meaning::class_of;
 use std::alloc::Global;
-
-/// The class of a net.
-pub fn class_of(flat: &Flat, id: NetId) -> usize
-    ensures { result ≡ class_of flat.now id }
-{
-    match flat.nets.as_slice().get(id.0 as usize) {
-        None => 0,
-        Some(net) => net.class as usize,
-    }
-}
 
 /// The source of a class, if it has one.
 pub fn source_of(sources: &[Option<Src>], class: usize) -> Option<Src>
@@ -79,7 +70,10 @@ pub fn sources_of_data(
     sources: &[Option<Src>],
     latches: &[FlatLatch],
 ) -> Result<Vec<Src>, MapError>
-    ensures { IfOk result (λ found. found.items ≡ sources_at sources.now (map (λ latch. class_of flat.now latch.input) latches.now)) }
+    ensures { IfOk result (λ found.
+        found.items
+        ≡ sources_at sources.now (map (λ latch. class_of flat.now latch.input) latches.now)
+        ) }
 {
     let mut found = Vec::with_capacity(alloc, latches.len())?;
     for latch in latches {
@@ -94,7 +88,9 @@ pub fn sources_of_all(
     sources: &[Option<Src>],
     nets: &[Net],
 ) -> Result<Vec<Src>, MapError>
-    ensures { IfOk result (λ found. found.items ≡ sources_at sources.now (map (λ (net : flat_net.Net). net.class) nets.now)) }
+    ensures { IfOk result (λ found.
+        found.items ≡ sources_at sources.now (map (λ (net : flat_net.Net). net.class) nets.now)
+        ) }
 {
     let mut found = Vec::with_capacity(alloc, nets.len())?;
     for net in nets {

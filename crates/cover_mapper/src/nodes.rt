@@ -4,11 +4,12 @@ ghost use Rattle.netlist_meaning.specs.Flat.{IsSound};
 ghost use Rattle.netlist_meaning.specs.FlatOrder.{IsOrder};
 ghost use Rattle.cover_mapper.specs.Sourced.{AreMapped, AreSourced, IsAmongFirst};
 
-use crate::classes::{class_of, sources_of_nets};
+use crate::classes::sources_of_nets;
 use crate::error::MapError;
 use cell_core::{CellList, Src};
 use cover_cells::{Places, map_cover};
 use netlist_core::Flat;
+use netlist_meaning::class_of;
 use std::alloc::Global;
 
 /// Adds the cells of all covers, and gives the classes of their outputs sources.
@@ -21,7 +22,9 @@ pub fn map_nodes(
 ) -> Result<(), MapError>
     requires sound { IsSound flat.now }
     requires ordered { IsOrder flat.now order.now }
-    requires ports { AreSourced flat.now (IsAmongFirst (length flat.now.ins) (length flat.now.latches) []) list.old sources.old }
+    requires ports { AreSourced
+        flat.now (IsAmongFirst (length flat.now.ins) (length flat.now.latches) []) list.old
+        sources.old }
     ensures { OnOk result (AreMapped flat.now list.old list.new sources.new order.now) }
 {
     let mut places = Places::new(alloc);

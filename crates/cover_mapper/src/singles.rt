@@ -4,11 +4,12 @@ ghost use Rattle.std.specs.List.{filter_map};
 ghost use Rattle.std.specs.Option.{option_to_list};
 ghost use Rattle.cover_mapper.specs.Singles.{is_single, single_source};
 
-use crate::classes::{class_of, source_of};
+use crate::classes::source_of;
 use crate::error::MapError;
 use cell_core::Src;
 use cover_cells::single_cell;
 use netlist_core::{Flat, Node};
+use netlist_meaning::class_of;
 use std::alloc::Global;
 
 // Whether the cover of a node is one cell, whichever sources it reads.
@@ -39,7 +40,10 @@ fn push_single(
     sources: &[Option<Src>],
     node: &Node,
 ) -> Result<(), MapError>
-    ensures { OnOk result (found.new.items ≡ found.old.items ++ option_to_list (single_source flat.now sources.now node.now)) }
+    ensures { OnOk result (
+        found.new.items
+        ≡ found.old.items ++ option_to_list (single_source flat.now sources.now node.now)
+        ) }
 {
     if let Some(source) = single_source(flat, sources, node) {
         found.push(source)?;

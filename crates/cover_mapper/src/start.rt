@@ -4,11 +4,11 @@ ghost use Rattle.netlist_meaning.specs.Flat.{IsSound};
 ghost use Rattle.cell_core.specs.declared.cells.Src.TheVariants.{Zero};
 ghost use Rattle.cover_mapper.specs.Sourced.{AreSourced, IsAmongFirst};
 
-use crate::classes::class_of;
 use crate::error::MapError;
 use cell_core::{CellList, Src};
 use lists::List;
 use netlist_core::{Flat, FlatLatch};
+use netlist_meaning::class_of;
 use std::alloc::Global;
 
 // How the latches begin: 1 where the init is 1.
@@ -60,7 +60,9 @@ pub fn source_latches(flat: &Flat, list: &CellList, sources: &mut [Option<Src>])
     requires few { length flat.now.latches < 2 ^ 32 }
     requires starts { length list.now.starts ≡ length flat.now.latches }
     requires inputs { AreSourced flat.now (IsAmongFirst (length flat.now.ins) 0 []) list.now sources.old }
-    ensures { AreSourced flat.now (IsAmongFirst (length flat.now.ins) (length flat.now.latches) []) list.now sources.new }
+    ensures { AreSourced
+        flat.now (IsAmongFirst (length flat.now.ins) (length flat.now.latches) []) list.now
+        sources.new }
 {
     for (i, latch) in flat.latches.as_slice().iter().enumerate() {
         sources[class_of(flat, latch.output)] = Some(Src::Latch(i as u32));

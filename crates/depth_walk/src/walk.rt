@@ -81,7 +81,10 @@ impl Walk {
     // Puts a number on top of the path.
     fn open(&mut self, n: usize) -> Result<(), WalkError>
         requires { n < length self.old.marks.items }
-        ensures marks { OnOk result (self.new.marks.items ≡ slice_set self.old.marks.items n (Open (length self.old.stack.items))) }
+        ensures marks { OnOk result (
+            self.new.marks.items
+            ≡ slice_set self.old.marks.items n (Open (length self.old.stack.items))
+            ) }
         ensures next { self.new.next.items ≡ self.old.next.items }
         ensures stack { OnOk result (self.new.stack.items ≡ self.old.stack.items ++ n ∷ []) }
         ensures order { self.new.order.items ≡ self.old.order.items }
@@ -96,9 +99,14 @@ impl Walk {
     // Takes the number on top of the path to the order.
     fn close(&mut self, n: usize) -> Result<(), WalkError>
         requires { n < length self.old.marks.items }
-        ensures marks { OnOk result (self.new.marks.items ≡ slice_set self.old.marks.items n (Done (length self.old.order.items))) }
+        ensures marks { OnOk result (
+            self.new.marks.items
+            ≡ slice_set self.old.marks.items n (Done (length self.old.order.items))
+            ) }
         ensures next { self.new.next.items ≡ self.old.next.items }
-        ensures stack { OnOk result (self.new.stack.items ≡ take (length self.old.stack.items - 1) self.old.stack.items) }
+        ensures stack { OnOk result (
+            self.new.stack.items ≡ take (length self.old.stack.items - 1) self.old.stack.items
+            ) }
         ensures order { OnOk result (self.new.order.items ≡ self.old.order.items ++ n ∷ []) }
         ensures refused { IfErr result (λ e. e ≡ WalkError.NoMemory) }
     {
@@ -120,7 +128,10 @@ impl Walk {
         requires walk { IsWalkOf links.now self.old }
         requires top { IsTop self.old.stack.items n }
         ensures walk { OnOk result (IsWalkOf links.now self.new) }
-        ensures less { OnOk result (work self.new.marks.items self.new.stack.items < work self.old.marks.items self.old.stack.items) }
+        ensures less { OnOk result (
+            work self.new.marks.items self.new.stack.items
+            < work self.old.marks.items self.old.stack.items
+            ) }
         ensures seen { OnOk result (AreStillSeen self.old.marks.items self.new.marks.items) }
         ensures refused { IfErr result (IsWalkRefusal links.now) }
     {

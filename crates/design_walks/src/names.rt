@@ -55,7 +55,9 @@ impl<'a> ModelNames<'a> {
 
     /// Where a name stands among the names.
     pub fn position(&self, name: &[u8]) -> Option<usize>
-        ensures { MatchOption result (¬ Contains self.now name.now) (λ position. slice_get self.now position ≡ Some name.now) }
+        ensures { MatchOption result (¬ Contains self.now name.now) (λ position.
+            slice_get self.now position ≡ Some name.now
+            ) }
     {
         self.positions.get(name).copied()
     }
@@ -76,7 +78,12 @@ fn push_new<'a>(
     positions: &mut BTreeMap<&'a [u8], usize>,
     name: &'a [u8],
 ) -> Result<(), AllocError>
-    ensures names { OnOk result (bytes_of names.new.items ≡ append_unless (is_some (position_in positions.old name.now)) (bytes_of names.old.items) name.now) }
+    ensures names { OnOk result (
+        bytes_of names.new.items
+        ≡ append_unless
+        (is_some (position_in positions.old name.now)) (bytes_of names.old.items)
+        name.now
+        ) }
     ensures positions { OnOk result (HasPositions positions.old (bytes_of names.old.items)
         → HasPositions positions.new (bytes_of names.new.items)) }
 {

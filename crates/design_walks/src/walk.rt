@@ -30,7 +30,11 @@ fn push_line(
     line: &Subckt,
 ) -> Result<(), AllocError>
     requires { parent.line < 2 ^ 32 }
-    ensures { OnOk result (to_come.new.items ≡ to_come.old.items ++ placed_by named.now outer.now parent.number parent.line line.now) }
+    ensures { OnOk result (
+        to_come.new.items
+        ≡ to_come.old.items
+        ++ placed_by named.now outer.now parent.number parent.line line.now
+        ) }
 {
     match named.find(line.model.as_slice()) {
         None => Ok(()),
@@ -56,7 +60,10 @@ fn push_inside(
     lines: &[Subckt],
 ) -> Result<(), AllocError>
     requires { length lines.now ≤ 2 ^ 32 }
-    ensures { OnOk result (to_come.new.items ≡ to_come.old.items ++ placed_by_lines named.now outer.now number 0 lines.now) }
+    ensures { OnOk result (
+        to_come.new.items
+        ≡ to_come.old.items ++ placed_by_lines named.now outer.now number 0 lines.now
+        ) }
 {
     for line in (0..lines.len()).rev() {
         push_line(

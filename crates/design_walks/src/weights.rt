@@ -23,7 +23,10 @@ fn weight_of_line(named: &NamedModels, weights: &[u64], line: &Subckt) -> u64
 
 // The weight of a model, by the weights of those that its lines place.
 fn weight_at(named: &NamedModels, weights: &[u64], model: &Model) -> u64
-    ensures { result ≡ min (own_weight model.now + sum_by (line_weight named.now weights.now) model.now.subckts) u64.MAX }
+    ensures { result
+        ≡ min
+        (own_weight model.now + sum_by (line_weight named.now weights.now) model.now.subckts)
+        u64.MAX }
 {
     let mut weight = weight_of(model);
     for line in model.subckts.as_slice() {

@@ -23,7 +23,10 @@ fn push_row(lanes: &mut Vec<u32>, first: u32, count: u32) -> Result<(), AllocErr
 // Lanes for so many inputs, the lowest ones above `above`, and lane 0 where one is to stay dark.
 fn own_lanes(alloc: Global, above: u32, inputs: u32, is_dark: bool) -> Result<Vec<u32>, AllocError>
     requires { inputs ≤ above }
-    ensures { IfOk result (λ lanes. lanes.items ≡ map (λ i. above - inputs + i) (range_with_len 0 inputs) ++ cond is_dark (0 ∷ []) []) }
+    ensures { IfOk result (λ lanes.
+        lanes.items
+        ≡ map (λ i. above - inputs + i) (range_with_len 0 inputs) ++ cond is_dark (0 ∷ []) []
+        ) }
 {
     let mut lanes = Vec::new(alloc);
     push_row(&mut lanes, above - inputs, inputs)?;

@@ -21,8 +21,13 @@ fn step_one(
     requires wires { length wires.old ≡ length heads.now }
     ensures long_tails { length tails.new ≡ length heads.now }
     ensures long_wires { length wires.new ≡ length heads.now }
-    ensures heads { (k : ℕ) → k < 1 → get_or tails.new (j + k) 0 ≡ heads_word above.now heads.now below.now wires.old (j + k) }
-    ensures wires { (k : ℕ) → k < 1 → get_or wires.new (j + k) 0 ≡ wires_word above.now heads.now below.now tails.old wires.old (j + k) }
+    ensures heads { (k : ℕ)
+        → k < 1
+        → get_or tails.new (j + k) 0 ≡ heads_word above.now heads.now below.now wires.old (j + k) }
+    ensures wires { (k : ℕ)
+        → k < 1
+        → get_or wires.new (j + k) 0
+        ≡ wires_word above.now heads.now below.now tails.old wires.old (j + k) }
     ensures other_tails { (k : ℕ) → (k < j) ⊎ (j + 1 ≤ k) → get_or tails.new k 0 ≡ get_or tails.old k 0 }
     ensures other_wires { (k : ℕ) → (k < j) ⊎ (j + 1 ≤ k) → get_or wires.new k 0 ≡ get_or wires.old k 0 }
 {
@@ -45,8 +50,12 @@ pub fn step_words(above: &[u64], heads: &[u64], below: &[u64], tails: &mut [u64]
     requires wires { length wires.old ≡ length heads.now }
     ensures long_tails { length tails.new ≡ length heads.now }
     ensures long_wires { length wires.new ≡ length heads.now }
-    ensures heads { (j : ℕ) → j < length heads.now → get_or tails.new j 0 ≡ heads_word above.now heads.now below.now wires.old j }
-    ensures wires { (j : ℕ) → j < length heads.now → get_or wires.new j 0 ≡ wires_word above.now heads.now below.now tails.old wires.old j }
+    ensures heads { (j : ℕ)
+        → j < length heads.now
+        → get_or tails.new j 0 ≡ heads_word above.now heads.now below.now wires.old j }
+    ensures wires { (j : ℕ)
+        → j < length heads.now
+        → get_or wires.new j 0 ≡ wires_word above.now heads.now below.now tails.old wires.old j }
 {
     let mut j = 0;
     while j < heads.len() {
@@ -79,10 +88,26 @@ pub fn step_rows(
     requires wires { length wires.now ≡ length heads.now }
     requires new_heads { length new_heads.old ≡ length heads.now }
     requires new_wires { length new_wires.old ≡ length heads.now }
-    ensures heads { (x : ℕ) → is_set new_heads.new x ≡ (is_set wires.now x && is_one_or_two (heads_around (plane_of_rows above.now heads.now below.now tails.now wires.now) (pos x) (pos 1))) }
-    ensures wires { (x : ℕ) → is_set new_wires.new x ≡ ((is_set wires.now x && not (is_set new_heads.new x)) || is_set tails.now x) }
+    ensures heads { (x : ℕ)
+        → is_set new_heads.new x
+        ≡ (
+        is_set wires.now x
+        && is_one_or_two (
+        heads_around (plane_of_rows above.now heads.now below.now tails.now wires.now) (pos x) (
+        pos 1
+        )
+        )
+        ) }
+    ensures wires { (x : ℕ)
+        → is_set new_wires.new x
+        ≡ ((is_set wires.now x && not (is_set new_heads.new x)) || is_set tails.now x) }
     ensures apart { AreDisjoint heads.now tails.now wires.now → AreDisjoint new_heads.new heads.now new_wires.new }
-    ensures cells { AreDisjoint heads.now tails.now wires.now → (x : ℕ) → row_state new_heads.new heads.now new_wires.new x ≡ next_plane (plane_of_rows above.now heads.now below.now tails.now wires.now) (pos x) (pos 1) }
+    ensures cells { AreDisjoint heads.now tails.now wires.now
+        → (x : ℕ)
+        → row_state new_heads.new heads.now new_wires.new x
+        ≡ next_plane (plane_of_rows above.now heads.now below.now tails.now wires.now) (pos x) (
+        pos 1
+        ) }
 {
     new_heads.copy_from_slice(tails);
     new_wires.copy_from_slice(wires);

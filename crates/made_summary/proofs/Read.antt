@@ -29,5 +29,5 @@ written_plans_read in_range named names patterns written readable text design fl
     let size = small_size plan admissible in
     let range = in_range design flat faultless is_flat (let w : weight design < 2 ^ 31 = light in omega (arith, w)) in
     let sound = readable flat plan 1 ports range (named design flat faultless is_flat) (names text design flat of_text is_flat) (places_fit design flat faultless light is_flat) admissible (one_has_room plan) table in
-    let reads = written (start_grid plan) ports (record { in_rows = (patterns plan admissible).box; width = omega (arith, size.0); height = omega (arith, size.1) }) sound.sound sound.inside sound.no_returns in
+    let reads = written (start_grid plan) ports (record { in_rows = (patterns plan admissible).box; width = omega (arith, size.0); height = omega (arith, size.1) }) sound.sound sound.inside in
     record { spells = record { reads = reads.0; table = reads.1 }; inside = lines_in_box (size_of plan).0 (size_of plan).1 ports.ins sound.inside.ins }

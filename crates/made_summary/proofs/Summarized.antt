@@ -78,7 +78,7 @@ is_planned law netlists sizes decided read seed size some few netlist planned is
         columns = subst (λ (w : ℕ). length plan.columns ≤ 256 * ((w + 1) * (w + 1))) weighs slight.columns;
         loops = omega (arith, slight.loops, has.latches);
       };
-      reads = read (made_text seed size) design flat plan ports is.is.design_of (let few : weight design ≤ 1024 = p.light in omega (arith, few)) p.is_flat admissible table;
+      reads = read (made_text seed size) design flat plan ports is.is.design_of (let few : weight design ≤ 8192 = p.light in omega (arith, few)) p.is_flat admissible table;
       ins = sym (length-map ports.ins (λ (line : PortLine). line.name)) ∙ ap (λ (names : List Name). length names) table.in_names ∙ length-map flat.ins (λ (port : FlatPort). name_of_net flat port.net) ∙ has.ins;
     }
 

@@ -16,7 +16,10 @@ pub struct Earliest<'a> {
 
 // The earlier of two words, the first of two on one line.
 fn earlier<'a>(first: Word<'a>, second: Word<'a>) -> Word<'a>
-    ensures { word_port result ≡ cond (nat_le first.entry.line second.entry.line) (word_port first.entry) (word_port second.entry) }
+    ensures { word_port result
+        ≡ cond (nat_le first.entry.line second.entry.line) (word_port first.entry) (
+        word_port second.entry
+        ) }
 {
     if first.line <= second.line {
         first

@@ -19,7 +19,10 @@ pub struct PortNames<'a> {
 
 // Adds the names of ports to a set.
 fn push_ports<'a>(names: &mut BTreeSet<&'a [u8]>, ports: &'a [Port]) -> Result<(), AllocError>
-    ensures { OnOk result ((name : Name) → holds_name names.new name ≡ (holds_name names.old name || is_named ports.now name)) }
+    ensures { OnOk result (
+        (name : Name)
+        → holds_name names.new name ≡ (holds_name names.old name || is_named ports.now name)
+        ) }
 {
     for port in ports {
         names.insert(port.name.as_slice())?;

@@ -67,7 +67,10 @@ pub fn offer_duplicates<'a>(
 ) -> Result<(), AllocError>
     requires numbers { HaveNumbers words.now }
     requires ports { ArePortsOf words.now model.now }
-    ensures { OnOk result (earliest_word earliest.new ≡ earliest_after (earliest_word earliest.old) (duplicate_ports model.now)) }
+    ensures { OnOk result (
+        earliest_word earliest.new
+        ≡ earliest_after (earliest_word earliest.old) (duplicate_ports model.now)
+        ) }
 {
     let names = &words.names;
     let inputs = FirstLines::of(alloc, names, &words.inputs)?;

@@ -42,7 +42,12 @@ fn offer_model<'a>(
     placed: &PlacedPorts<'_, 'a>,
     earliest: &mut EarliestWords<'a>,
 ) -> Result<(), AllocError>
-    ensures duplicate_port { OnOk result (earliest_word earliest.new.duplicate_port ≡ earliest_after (earliest_word earliest.old.duplicate_port) (duplicate_ports model.now)) }
+    ensures duplicate_port { OnOk result (
+        earliest_word earliest.new.duplicate_port
+        ≡ earliest_after (earliest_word earliest.old.duplicate_port) (
+        duplicate_ports model.now
+        )
+        ) }
     ensures second_driver { OnOk result ((models : List Model) → KnowsPlaced placed.now models model.now →
         earliest_word earliest.new.second_driver ≡ earliest_after (earliest_word earliest.old.second_driver) (second_drivers models model.now)) }
     ensures undriven { OnOk result ((models : List Model) → KnowsPlaced placed.now models model.now →

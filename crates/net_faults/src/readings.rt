@@ -43,7 +43,10 @@ fn push_latch_inputs<'a>(words: &mut Vec<Word<'a>>, latch: &'a LatchRow) -> Resu
 
 // Adds what the covers of a model read.
 fn push_covers<'a>(words: &mut Vec<Word<'a>>, covers: &'a [Cover]) -> Result<(), AllocError>
-    ensures { OnOk result (word_ports words.new.items ≡ word_ports words.old.items ++ flat_map cover_readings covers.now) }
+    ensures { OnOk result (
+        word_ports words.new.items
+        ≡ word_ports words.old.items ++ flat_map cover_readings covers.now
+        ) }
 {
     for cover in covers {
         push_cover_inputs(words, cover)?;
@@ -53,7 +56,10 @@ fn push_covers<'a>(words: &mut Vec<Word<'a>>, covers: &'a [Cover]) -> Result<(),
 
 // Adds what the latches of a model read.
 fn push_latches<'a>(words: &mut Vec<Word<'a>>, latches: &'a [LatchRow]) -> Result<(), AllocError>
-    ensures { OnOk result (word_ports words.new.items ≡ word_ports words.old.items ++ flat_map latch_readings latches.now) }
+    ensures { OnOk result (
+        word_ports words.new.items
+        ≡ word_ports words.old.items ++ flat_map latch_readings latches.now
+        ) }
 {
     for latch in latches {
         push_latch_inputs(words, latch)?;

@@ -75,7 +75,10 @@ pub fn offer_repeats<'a>(
     earliest: &mut Earliest<'a>,
 ) -> Result<(), AllocError>
     requires { AreNumbered names.now words.now }
-    ensures { OnOk result (earliest_word earliest.new ≡ earliest_after (earliest_word earliest.old) (repeats (numbered_ports words.now))) }
+    ensures { OnOk result (
+        earliest_word earliest.new
+        ≡ earliest_after (earliest_word earliest.old) (repeats (numbered_ports words.now))
+        ) }
 {
     let mut repeats = Repeats::new(alloc, names, words)?;
     for word in words {

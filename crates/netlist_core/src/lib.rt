@@ -11,4 +11,4 @@ mod weight;
 pub use flat::{Flat, FlatLatch, FlatPort, Net, NetId, Node, Order};
 pub use latch_names::latch_named;
 pub use model::{Cover, Design, LatchRow, Model, Name, Pin, Port, Subckt, Trigger};
-pub use weight::weight_of;
+pub use weight::{WEIGHT_LIMIT, rows_weight, weight_of};

@@ -2,9 +2,13 @@
 
 ghost use Rattle.std.specs.Prelude.{◌≡◌, min};
 ghost use Rattle.netlist_core.specs.Names.{is_named};
-ghost use Rattle.netlist_core.specs.OwnWeight.{port_weight, literals, cover_weight, own_weight};
+ghost use Rattle.netlist_core.specs.OwnWeight.{port_weight, literals, rows_weight, own_weight};
 
-use crate::model::{Cover, Model, Port};
+use crate::model::{Model, Port};
+use lists::Bytes;
+
+/// The greatest weight of a netlist.
+pub const WEIGHT_LIMIT: u64 = 8192;
 
 // Whether a port has the name.
 fn is_named(ports: &[Port], name: &[u8]) -> bool
@@ -22,12 +26,13 @@ fn literals(row: &[u8]) -> usize
         .count()
 }
 
-// One for the cover, one for each row and one for each literal, at most the greatest u64.
-fn cover_weight(cover: &Cover) -> u64
-    ensures { result ≡ min (cover_weight cover.now) u64.MAX }
+/// The weight of a cover with these rows, at most the greatest u64: one for the cover, one for each row and one for each
+/// `0` and `1` in it.
+pub fn rows_weight(rows: &[Bytes]) -> u64
+    ensures { result ≡ min (rows_weight rows.now) u64.MAX }
 {
-    let mut weight = (cover.rows.len() as u64).saturating_add(1);
-    for row in cover.rows.as_slice() {
+    let mut weight = (rows.len() as u64).saturating_add(1);
+    for row in rows {
         weight = weight.saturating_add(literals(row.as_slice()) as u64);
     }
     weight
@@ -58,7 +63,7 @@ pub fn weight_of(model: &Model) -> u64
         .saturating_add((model.latches.len() as u64).saturating_mul(2))
         .saturating_add(model.subckts.len() as u64);
     for cover in model.covers.as_slice() {
-        weight = weight.saturating_add(cover_weight(cover));
+        weight = weight.saturating_add(rows_weight(cover.rows.as_slice()));
     }
     weight
 }

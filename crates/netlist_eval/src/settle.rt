@@ -86,8 +86,14 @@ pub fn run_cycle(
     requires state { length state.old ≡ length flat.now.latches }
     requires inputs { length inputs.now ≡ length flat.now.ins }
     requires outputs { length outputs.old ≡ length flat.now.outs }
-    ensures outputs { outputs.new ≡ map (λ port. class_bit (evaluated flat.now order.now inputs.now state.old bits.old) (class_of flat.now port.net)) flat.now.outs }
-    ensures state { state.new ≡ map (λ latch. class_bit (evaluated flat.now order.now inputs.now state.old bits.old) (class_of flat.now latch.input)) flat.now.latches }
+    ensures outputs { outputs.new
+        ≡ map
+        (λ port. class_bit (evaluated flat.now order.now inputs.now state.old bits.old) (class_of flat.now port.net))
+        flat.now.outs }
+    ensures state { state.new
+        ≡ map
+        (λ latch. class_bit (evaluated flat.now order.now inputs.now state.old bits.old) (class_of flat.now latch.input))
+        flat.now.latches }
 {
     put_inputs(flat, inputs, bits);
     put_state(flat, state, bits);

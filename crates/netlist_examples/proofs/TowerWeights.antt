@@ -11,10 +11,10 @@ use Rattle.lists.proofs.Names.{bytes_eq-same, bytes_eq-other}
 adder : weight adder_design ≡ 74
 adder = refl
 
-widest : weight (wide_design 1022) ≡ 1024
+widest : weight (wide_design 8190) ≡ 8192
 widest = refl
 
-too_wide : weight (wide_design 1023) ≡ 1025
+too_wide : weight (wide_design 8191) ≡ 8193
 too_wide = refl
 
 -- names of storeys are one only where their numbers are

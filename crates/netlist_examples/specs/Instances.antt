@@ -40,8 +40,8 @@ TowerWeighs = (n : ℕ) → n < 2 ^ 64 → weight (tower_design n) + 2 ≡ 3 * 2
 -- weights
 pub record HasWeights : Type 0 where
   pub adder : weight adder_design ≡ 74
-  pub widest : weight (wide_design 1022) ≡ 1024
-  pub too_wide : weight (wide_design 1023) ≡ 1025
+  pub widest : weight (wide_design 8190) ≡ 8192
+  pub too_wide : weight (wide_design 8191) ≡ 8193
   pub tower : weight (tower_design 40) ≡ 3298534883326
 
 -- the latches' control gets no IN name

@@ -1,4 +1,3 @@
-pub mod Limit
 pub mod Numbered
 pub mod Tables
 pub mod Inputs

@@ -64,7 +64,10 @@ fn classes_at(
     requires few { weight numbers.now < 2 ^ 32 }
     requires place { at < length (places_in_order numbers.now) }
     requires settled { settled.now ≡ map (class_of_net numbers.now) (nets_before numbers.now at) }
-    ensures { IfOk result (λ own. own.items ≡ map (class_of_net numbers.now) (nets_at numbers.now (place_at numbers.now at))) }
+    ensures { IfOk result (λ own.
+        own.items
+        ≡ map (class_of_net numbers.now) (nets_at numbers.now (place_at numbers.now at))
+        ) }
 {
     let mut own = own_numbers(alloc, numbers, at)?;
     match numbers.parent(at) {

@@ -3,7 +3,7 @@ ghost use Rattle.std.specs.Prelude.{ℕ, ◌≡◌, ◌<◌, ◌≤◌, ◌^◌,
 ghost use Rattle.netlist_meaning.specs.FlatOf.{IsFlatOf};
 ghost use Rattle.netlist_meaning.specs.Weight.{weight};
 ghost use Rattle.netlist_rules.specs.ModelFaults.{AreFaultless};
-ghost use Rattle.netlist_flatten.specs.Limit.{weight_limit};
+ghost use Rattle.netlist_core.specs.Limit.{weight_limit};
 ghost use Rattle.netlist_flatten.specs.declared.error.FlattenError.TheVariants.{TooLarge, NoMemory};
 
 use crate::classes::classes_of;
@@ -15,11 +15,8 @@ use crate::numbers::Numbers;
 use crate::ports::flat_ports;
 use design_walks::weight;
 use lists::List;
-use netlist_core::{Design, Flat};
+use netlist_core::{Design, Flat, WEIGHT_LIMIT};
 use std::alloc::{AllocError, Global};
-
-/// The greatest weight of a netlist.
-pub const WEIGHT_LIMIT: u64 = 1024;
 
 // The flat netlist of a numbered design of a known weight.
 fn flat_of(alloc: Global, numbers: &Numbers<'_>, found: u64) -> Result<Flat, AllocError>

@@ -38,7 +38,15 @@ fn push_latches(
     at: usize,
 ) -> Result<(), AllocError>
     requires { at < length (places_in_order numbers.now) }
-    ensures { OnOk result (latches.new.items ≡ latches.old.items ++ map (flat_latch numbers.now (place_at numbers.now at)) (of_some (λ model. model.latches) (model_at numbers.now (place_at numbers.now at)))) }
+    ensures { OnOk result (
+        latches.new.items
+        ≡ latches.old.items
+        ++ map (flat_latch numbers.now (place_at numbers.now at)) (
+        of_some (λ model. model.latches) (
+        model_at numbers.now (place_at numbers.now at)
+        )
+        )
+        ) }
 {
     for latch in numbers.model(at).latches.as_slice() {
         latches.push(latch_of(numbers, at, latch))?;
@@ -48,7 +56,9 @@ fn push_latches(
 
 /// The latches of all places.
 pub fn latches_of(alloc: Global, numbers: &Numbers<'_>) -> Result<Vec<FlatLatch>, AllocError>
-    ensures { IfOk result (λ latches. latches.items ≡ at_places numbers.now (λ model. model.latches) (flat_latch numbers.now)) }
+    ensures { IfOk result (λ latches.
+        latches.items ≡ at_places numbers.now (λ model. model.latches) (flat_latch numbers.now)
+        ) }
 {
     let mut latches = Vec::new(alloc);
     for at in 0..numbers.len() {

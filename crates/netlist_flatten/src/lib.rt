@@ -15,4 +15,4 @@ mod ports;
 mod tables;
 
 pub use error::FlattenError;
-pub use flattening::{WEIGHT_LIMIT, flatten};
+pub use flattening::flatten;

@@ -31,7 +31,11 @@ fn push_nets(
 ) -> Result<(), AllocError>
     requires place { at < length (places_in_order numbers.now) }
     requires classes { classes.now ≡ map (class_of_net numbers.now) (nets_in_order numbers.now) }
-    ensures { OnOk result (nets.new.items ≡ nets.old.items ++ map (flat_net numbers.now) (nets_at numbers.now (place_at numbers.now at))) }
+    ensures { OnOk result (
+        nets.new.items
+        ≡ nets.old.items
+        ++ map (flat_net numbers.now) (nets_at numbers.now (place_at numbers.now at))
+        ) }
 {
     let mut number = numbers.first(at) as usize;
     for name in numbers.names(at) {

@@ -60,7 +60,15 @@ fn push_nodes(
     at: usize,
 ) -> Result<(), AllocError>
     requires { at < length (places_in_order numbers.now) }
-    ensures { OnOk result (nodes.new.items ≡ nodes.old.items ++ map (flat_node numbers.now (place_at numbers.now at)) (of_some (λ model. model.covers) (model_at numbers.now (place_at numbers.now at)))) }
+    ensures { OnOk result (
+        nodes.new.items
+        ≡ nodes.old.items
+        ++ map (flat_node numbers.now (place_at numbers.now at)) (
+        of_some (λ model. model.covers) (
+        model_at numbers.now (place_at numbers.now at)
+        )
+        )
+        ) }
 {
     for cover in numbers.model(at).covers.as_slice() {
         nodes.push(node_of(alloc, numbers, at, cover)?)?;
@@ -70,7 +78,9 @@ fn push_nodes(
 
 /// The covers of all places.
 pub fn nodes_of(alloc: Global, numbers: &Numbers<'_>) -> Result<Vec<Node>, AllocError>
-    ensures { IfOk result (λ nodes. nodes.items ≡ at_places numbers.now (λ model. model.covers) (flat_node numbers.now)) }
+    ensures { IfOk result (λ nodes.
+        nodes.items ≡ at_places numbers.now (λ model. model.covers) (flat_node numbers.now)
+        ) }
 {
     let mut nodes = Vec::new(alloc);
     for at in 0..numbers.len() {

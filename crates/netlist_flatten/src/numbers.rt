@@ -102,7 +102,8 @@ impl<'a> Numbers<'a> {
     /// The names of the nets at a place, in order.
     pub fn names(&self, at: usize) -> &[&'a [u8]]
         requires { at < length (places_in_order self.now) }
-        ensures { nets_at self.now (place_at self.now at) ≡ map (λ name. net_at (place_at self.now at) name.now) result.now }
+        ensures { nets_at self.now (place_at self.now at)
+            ≡ map (λ name. net_at (place_at self.now at) name.now) result.now }
     {
         self.model_names(at).as_slice()
     }
@@ -119,7 +120,8 @@ impl<'a> Numbers<'a> {
     pub fn position(&self, at: usize, name: &[u8]) -> usize
         requires place { at < length (places_in_order self.now) }
         requires net { IsNet self.now (net_at (place_at self.now at) name.now) }
-        ensures { slice_get (nets_at self.now (place_at self.now at)) result ≡ Some (net_at (place_at self.now at) name.now) }
+        ensures { slice_get (nets_at self.now (place_at self.now at)) result
+            ≡ Some (net_at (place_at self.now at) name.now) }
     {
         self.model_names(at).position(name).unwrap_or(0)
     }

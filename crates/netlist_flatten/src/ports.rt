@@ -116,8 +116,13 @@ pub fn flat_ports(
     requires classes { classes.now ≡ map (class_of_net numbers.now) (nets_in_order numbers.now) }
     requires latches { latches.now ≡ at_places numbers.now (λ model. model.latches) (flat_latch numbers.now) }
     ensures ins { IfOk result (λ ports. AreInputs numbers.now (main_ports (λ model. model.ins) numbers.now) ports.ins) }
-    ensures outs { IfOk result (λ ports. ports.outs ≡ map (flat_port numbers.now) (main_ports (λ model. model.outs) numbers.now)) }
-    ensures clocks { IfOk result (λ ports. ports.clocks ≡ map (flat_port numbers.now) (main_ports (λ model. model.clocks) numbers.now)) }
+    ensures outs { IfOk result (λ ports.
+        ports.outs ≡ map (flat_port numbers.now) (main_ports (λ model. model.outs) numbers.now)
+        ) }
+    ensures clocks { IfOk result (λ ports.
+        ports.clocks
+        ≡ map (flat_port numbers.now) (main_ports (λ model. model.clocks) numbers.now)
+        ) }
 {
     let main = numbers.model(0);
     let ins = inputs_of(alloc, numbers, main.ins.as_slice(), classes, latches)?;

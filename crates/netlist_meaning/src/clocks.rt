@@ -32,7 +32,12 @@ fn mark_ports(flat: &Flat, marks: &mut [bool], ports: &[FlatPort], mark: bool)
     requires in_range { IsInRange flat.now }
     requires marks { length marks.old ≡ length flat.now.nets }
     requires ports { All (λ port. IsNetId flat.now port.net) ports.now }
-    ensures { (class : ℕ) → class < length flat.now.nets → get_or marks.new class false ≡ cond (list_any (λ marked. marked == class) (port_classes flat.now ports.now)) mark (get_or marks.old class false) }
+    ensures { (class : ℕ)
+        → class < length flat.now.nets
+        → get_or marks.new class false
+        ≡ cond (list_any (λ marked. marked == class) (port_classes flat.now ports.now)) mark (
+        get_or marks.old class false
+        ) }
 {
     for port in ports {
         marks[class_of(flat, port.net)] = mark;

@@ -6,12 +6,14 @@ use lists::{Bytes, copied};
 use netlist_core::{Flat, NetId};
 use std::alloc::{AllocError, Global};
 
-/// The class of a net.
+/// The class of a net, and 0 where there is no net of this number.
 pub fn class_of(flat: &Flat, id: NetId) -> usize
-    requires { IsNetId flat.now id }
     ensures { result ≡ class_of flat.now id }
 {
-    flat.nets.get(id.0 as usize).class as usize
+    match flat.nets.as_slice().get(id.0 as usize) {
+        None => 0,
+        Some(net) => net.class as usize,
+    }
 }
 
 /// The name of a net at its place.

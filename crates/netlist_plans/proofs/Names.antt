@@ -8,7 +8,7 @@ use Rattle.netlist_core.specs.declared.flat.Net.{Net as FlatNet}
 use Rattle.netlist_core.specs.Names.{Name}
 use Rattle.netlist_meaning.specs.InOrder.{nets_in_order}
 use Rattle.netlist_meaning.specs.FlatOf.{flat_net}
-use Rattle.blif_text.specs.LogicalLines.{is_space, is_newline}
+use Rattle.blif_text.specs.LogicalLines.{is_newline}
 use Rattle.netlist_plans.specs.TextNames.{IsNameWord}
 use Rattle.netlist_plans.proofs.Words.{nets_are_words}
 use Rattle.sound_designs.proofs.Sound.{not_recursive}
@@ -25,14 +25,7 @@ other : (p : ℕ → Bool) (b n : ℕ) → p b ≡ false → p n ≡ true → b 
 other p b n fails passes same = true≢false (sym passes ∙ sym (ap p same) ∙ fails)
 
 port_name : (name : Name) → IsNameWord name → IsPortName name
-port_name name w = (
-  w.some,
-  λ k d lt. (
-    other is_newline (get_or name k d) 10 (none_at is_newline name w.one_line k d lt) refl,
-    other is_space (get_or name k d) 13 (none_at is_space name w.plain k d lt) refl,
-    other is_space (get_or name k d) 32 (none_at is_space name w.plain k d lt) refl,
-  ),
-)
+port_name name w = (w.some, λ k d lt. other is_newline (get_or name k d) 10 (none_at is_newline name w.one_line k d lt) refl)
 
 pub texts_have_port_names : TextsHavePortNames
 texts_have_port_names text design flat of_text h =

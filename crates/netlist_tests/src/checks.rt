@@ -1,10 +1,10 @@
 // Texts whose models are a design, and texts whose models are at fault.
-use crate::texts::expect;
 use blif_check::{CheckError, Fault, check};
 use blif_lex::lines;
 use blif_reader::read;
 use std::alloc::{AllocError, Global};
 use std::test::Fail;
+use ww_base::expect;
 
 fn fault_shown(alloc: Global, fault: &Fault) -> Result<Vec<u8>, AllocError> {
     let start = format!(in alloc; "B{} line {}: ", fault.kind.number(), fault.line)?;

@@ -1,4 +1,3 @@
-use crate::texts::expect;
 use lists::{Bytes, List};
 use model_circles::circle_fault;
 use model_index::NamedModels;
@@ -6,6 +5,7 @@ use netlist_core::{Model, Subckt};
 use netlist_rules::Fault;
 use std::alloc::{AllocError, Global};
 use std::test::Fail;
+use ww_base::expect;
 
 fn name_of(alloc: Global, letter: u8) -> Result<Bytes, AllocError> {
     Ok(List::of([letter].to_vec(alloc)?))

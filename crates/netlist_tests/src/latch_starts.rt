@@ -1,10 +1,10 @@
 // Words that say with which bits latches start, context by context.
-use crate::texts::expect;
 use lists::List;
 use netlist_text::netlist_of;
 use start_words::{StartError, StartFault, StartFaultKind, Starts};
 use std::alloc::{AllocError, Global};
 use std::test::Fail;
+use ww_base::expect;
 
 // Two latches, of which the second starts with 1; the main model joins q0 with a net of another model, and drives n by a cover.
 const COUNTER: &[u8] =

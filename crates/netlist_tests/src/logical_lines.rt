@@ -1,8 +1,9 @@
 // Texts with their logical lines, written out as `number:word,word`.
-use crate::texts::{expect, push_all};
+use crate::texts::push_all;
 use blif_lex::{Logical, lines};
 use std::alloc::{AllocError, Global};
 use std::test::Fail;
+use ww_base::expect;
 
 fn push_line(alloc: Global, shown: &mut Vec<u8>, line: &Logical) -> Result<(), AllocError> {
     shown.extend_from_slice(format!(in alloc; "{}:", line.line)?.as_bytes())?;

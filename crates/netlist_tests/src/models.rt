@@ -1,11 +1,12 @@
 // Lines with their models, and lines that are at fault.
-use crate::texts::{expect, push_all};
+use crate::texts::push_all;
 use blif_lex::lines;
 use blif_reader::{Fault, Model, ReadError, read};
 use lists::{Bytes, List};
 use netlist_core::{Cover, LatchRow, Port, Subckt};
 use std::alloc::{AllocError, Global};
 use std::test::Fail;
+use ww_base::expect;
 
 fn fault_shown(alloc: Global, fault: &Fault) -> Result<Vec<u8>, AllocError> {
     let start = format!(in alloc; "B{} line {}: ", fault.kind.number(), fault.line)?;

@@ -1,8 +1,7 @@
-// Texts beside those that are wanted.
-ghost use Rattle.std.specs.Prelude.{◌≡◌, ◌≤◌, length, IfOk, IsOk};
+// Texts of several parts.
+ghost use Rattle.std.specs.Prelude.{◌≤◌, length, IfOk};
 
 use std::alloc::AllocError;
-use std::test::Fail;
 
 /// Adds parts, one after the other.
 pub fn push_all(text: &mut Vec<u8>, parts: &[&[u8]]) -> Result<(), AllocError>
@@ -12,15 +11,4 @@ pub fn push_all(text: &mut Vec<u8>, parts: &[&[u8]]) -> Result<(), AllocError>
         text.extend_from_slice(part)?;
     }
     Ok(())
-}
-
-/// Fails where a text is not the one that is wanted.
-pub fn expect(said: &[u8], want: &[u8]) -> Result<(), Fail>
-    ensures { IsOk result → said.now ≡ want.now }
-{
-    if said == want {
-        Ok(())
-    } else {
-        Err(Fail::new(format_args!("{said:?}, and not {want:?}")))
-    }
 }

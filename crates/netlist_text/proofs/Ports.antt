@@ -12,7 +12,7 @@ use Rattle.flat_designs.proofs.Whole.{ports_are_flat}
 use Rattle.netlist_text.specs.Parts.{AreParts}
 
 pub in_range : (design : Design) (flat : Flat) (order : List ℕ) → AreParts design flat order → IsInRange flat
-in_range design flat order p = flat_is_in_range design flat p.faultless p.is_flat (let light : weight design ≤ 1024 = p.light in omega (arith, light))
+in_range design flat order p = flat_is_in_range design flat p.faultless p.is_flat (let light : weight design ≤ 8192 = p.light in omega (arith, light))
 
 pub in_names : (design : Design) (flat : Flat) (order : List ℕ) (names : List Name) → AreParts design flat order → names ≡ names_of_ports flat flat.ins → IsInNames design names
 in_names design flat order names p e = subst (IsInNames design) (sym e) (ports_are_flat design flat p.faultless p.is_flat).ins

@@ -43,7 +43,7 @@ pub design_is : (text : List ℕ) (models : List Model) (design : Design) → Ha
 design_is text models design m same faultless = record { models = subst (λ (ms : List Model). HasModels (logical_lines text) ms) (sym same) m; faultless = subst AreFaultless (sym same) faultless }
 
 pub in_range : (text : List ℕ) (design : Design) (flat : Flat) → IsLight text design → IsFlatOf design flat → IsInRange flat
-in_range text design flat is h = flat_is_in_range design flat is.design_of.faultless h (let light : weight design ≤ 1024 = is.light in omega (arith, light))
+in_range text design flat is h = flat_is_in_range design flat is.design_of.faultless h (let light : weight design ≤ 8192 = is.light in omega (arith, light))
 
 -- or its clocks at fault
 pub unclocked : (text : List ℕ) (design : Design) (flat : Flat) (e : ClockError) → IsLight text design → IsFlatOf design flat → ((fault : Fault) → (e ≡ clock.Fault fault) → IsFlatClockFault flat fault)
@@ -55,7 +55,7 @@ pub no_clock_fault : (design : Design) (flat : Flat) → AreFaultless design.mod
 no_clock_fault design flat faultless h none fault k = none fault ((clock_faults_are_flat design flat faultless h fault).0 k)
 
 pub sound : (text : List ℕ) (design : Design) (flat : Flat) → IsLight text design → HasNoClockFault design → IsFlatOf design flat → IsSound flat
-sound text design flat is clean h = flat_is_sound design flat is.design_of.faultless clean h (let light : weight design ≤ 1024 = is.light in omega (arith, light))
+sound text design flat is clean h = flat_is_sound design flat is.design_of.faultless clean h (let light : weight design ≤ 8192 = is.light in omega (arith, light))
 
 -- where there is no loop it is a netlist
 pub netlist_is : (text : List ℕ) (design : Design) (flat : Flat) → IsLight text design → HasNoClockFault design → IsFlatOf design flat → ((classes : List ℕ) → IsFlatLoop flat classes → ⊥) → IsNetlist text design

@@ -9,10 +9,10 @@ use Rattle.netlist_text.specs.Parts.{AreParts}
 
 module _ (design : Design) (flat : Flat) (order : List ℕ) (p : AreParts design flat order) where
   pub sound : FlatIsSound → IsSound flat
-  sound law = law design flat p.faultless p.clocks p.is_flat (let light : weight design ≤ 1024 = p.light in omega (arith, light))
+  sound law = law design flat p.faultless p.clocks p.is_flat (let light : weight design ≤ 8192 = p.light in omega (arith, light))
 
   pub weighed : FlatIsWeighed → IsWeighed flat
-  weighed law = law design flat p.faultless p.is_flat (let light : weight design ≤ 1024 = p.light in omega (arith, light))
+  weighed law = law design flat p.faultless p.is_flat (let light : weight design ≤ 8192 = p.light in omega (arith, light))
 
   pub small : flat.weight < 2 ^ 16
-  small = let light : weight design ≤ 1024 = p.light in let same : flat.weight ≡ weight design = p.is_flat.weight in omega (arith, light, same)
+  small = let light : weight design ≤ 8192 = p.light in let same : flat.weight ≡ weight design = p.is_flat.weight in omega (arith, light, same)

@@ -10,7 +10,7 @@ use Rattle.netlist_rules.specs.declared.fault.Fault.{Fault}
 use Rattle.netlist_rules.specs.Clocks.{IsClockFault, HasNoClockFault}
 use Rattle.blif_text.specs.LogicalLines.{logical_lines}
 use Rattle.blif_text.specs.Faults.{HasFault, IsDesignOf}
-use Rattle.netlist_flatten.specs.Limit.{weight_limit}
+use Rattle.netlist_core.specs.Limit.{weight_limit}
 
 -- the text is this design, whose weight is within the limit
 pub record IsLight (text : List ℕ) (design : Design) : Type 0 where

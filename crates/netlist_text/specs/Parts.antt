@@ -7,7 +7,7 @@ use Rattle.netlist_meaning.specs.FlatOf.{IsFlatOf}
 use Rattle.netlist_meaning.specs.FlatOrder.{IsOrder}
 use Rattle.netlist_rules.specs.ModelFaults.{AreFaultless}
 use Rattle.netlist_rules.specs.Clocks.{HasNoClockFault}
-use Rattle.netlist_flatten.specs.Limit.{weight_limit}
+use Rattle.netlist_core.specs.Limit.{weight_limit}
 
 -- A design without a fault, of a weight within the limit, its flat netlist, and an order of the covers.
 pub record AreParts (design : Design) (flat : Flat) (order : List ℕ) : Type 0 where

@@ -4,4 +4,5 @@ pub mod OneRun
 pub mod PortExamples
 pub mod RleExamples
 pub mod SoundTable
+pub mod Unescaped
 pub mod Whole

@@ -12,13 +12,18 @@ use Rattle.std.proofs.lemmas.Slice.Eq.{bytes_eq-Decides}
 use Rattle.pattern_reading.specs.declared.faults.PortFaultKind.TheVariants.{BadOrder, CellOutside, Twice}
 use Rattle.pattern_reading.specs.declared.ports.PortLine.{PortLine}
 use Rattle.pattern_reading.specs.declared.ports.NetLine.{NetLine}
+use Rattle.pattern_reading.specs.declared.ports.TableVersion.{TableVersion}
+use Rattle.pattern_reading.specs.declared.ports.TableVersion.TheVariants.{Raw, Escaped}
 use Rattle.pattern_reading.specs.Lines.{Line}
 use Rattle.pattern_reading.specs.Numbers.{◌>>=◌, greatest_number, number_in}
 use Rattle.lists.specs.Bytes.{non_empty}
 use Rattle.pattern_reading.specs.Header.{lines_before_header}
-use Rattle.pattern_reading.specs.PortLines.{PortForm, Version, In, Out, Net, TableLine, count_in, form_of_fields, has_room, net_in, path_in, port_in, table_entry, table_line, table_of}
+use Rattle.pattern_reading.specs.PortLines.{PortForm, Version, In, Out, Net, TableLine, count_in, form_of_fields, has_room, name_of_field, net_in, path_in, port_in, table_entry, table_line, table_of, table_version, uncounted, version_named}
 use Rattle.pattern_reading.specs.PortTable.{contexts_in, fault_of_form, faults_after, forms_of, input_of, is_same_port, latency_in, net_of, output_of, period_in}
-use Rattle.pattern_reading.specs.SoundTable.{HasSoundTable, IsSoundNet, IsSoundPort, IsWord}
+use Rattle.pattern_reading.specs.SoundTable.{HasSoundTable, IsSoundNet, IsSoundPort}
+use Rattle.pattern_reading.specs.Spelling.{IsPortName}
+use Rattle.pattern_reading.specs.Escapes.{unescaped}
+use Rattle.pattern_laws.proofs.Unescaped.{unescaped_feedless}
 use Rattle.pattern_laws.proofs.LineBytes.{IsFeedless, IsFieldText, feedless_after, feedless_before_header, fields_are}
 use Rattle.pattern_reading.proofs.FirstLine.{HasNoFeed}
 use Rattle.pattern_reading.proofs.PortText.{room_is}
@@ -33,30 +38,40 @@ IsSoundForm (In port) = IsSoundPort port
 IsSoundForm (Out port) = IsSoundPort port
 IsSoundForm (Net net) = IsSoundNet net
 
-word_is : (bytes word : List ℕ) → non_empty bytes ≡ Some word → IsFieldText bytes → IsWord word
-word_is [] word e h = absurd (none-some word e)
-word_is (b ∷ bs) word e h = let same : (b ∷ bs) ≡ word = cc in rw (← same) (record { not_empty = λ k. cc; bytes = h })
+some_bytes : (bytes word : List ℕ) → non_empty bytes ≡ Some word → (word ≢ []) × (bytes ≡ word)
+some_bytes [] word e = absurd (none-some word e)
+some_bytes (b ∷ bs) word e = let same : (b ∷ bs) ≡ word = cc in (rw (← same) (λ k. cc), same)
+
+no_feeds : (field : List ℕ) → IsFieldText field → HasNoFeed field
+no_feeds field h k d l = (h k d l).0
+
+name_is : (version : TableVersion) (field word : List ℕ) → name_of_field version field ≡ Some word → IsFieldText field → IsPortName word
+name_is Raw field word e h = let is = some_bytes field word e in (is.0, rw (← is.1) (no_feeds field h))
+name_is Escaped field word e h =
+    let a = bind_some (unescaped field) _ word e in
+    let is = some_bytes a.0 word a.2 in
+    (is.0, rw (← is.1) (unescaped_feedless field a.0 a.1 (no_feeds field h)))
 
 path_kept : (field path : List ℕ) → path_in field ≡ Some path → path_in path ≡ Some path
 path_kept field path e = let same = (cond_some _ field path e).1 in rw (← same) (e ∙ ap Some (sym same))
 
-port_is : (x y name : List ℕ) (port : PortLine) → IsFieldText name → port_in x y name ≡ Some port → IsSoundPort port
-port_is x y name port h e =
+port_is : (version : TableVersion) (x y name : List ℕ) (port : PortLine) → IsFieldText name → port_in version x y name ≡ Some port → IsSoundPort port
+port_is version x y name port h e =
     let a = bind_some (number_in x) _ port e in
     let b = bind_some (number_in y) _ port a.2 in
-    let c = bind_some (non_empty name) _ port b.2 in
+    let c = bind_some (name_of_field version name) _ port b.2 in
     let same : record { x = a.0; y = b.0; name = c.0 } ≡ port = cc in
-    rw (← same) (record { x = small_number x a.0 a.1; y = small_number y b.0 b.1; name = word_is name c.0 c.1 h })
+    rw (← same) (record { x = small_number x a.0 a.1; y = small_number y b.0 b.1; name = name_is version name c.0 c.1 h })
 
-net_is : (x y offset name path : List ℕ) (net : NetLine) → IsFieldText name → net_in x y offset name path ≡ Some net → IsSoundNet net
-net_is x y offset name path net h e =
+net_is : (version : TableVersion) (x y offset name path : List ℕ) (net : NetLine) → IsFieldText name → net_in version x y offset name path ≡ Some net → IsSoundNet net
+net_is version x y offset name path net h e =
     let a = bind_some (number_in x) _ net e in
     let b = bind_some (number_in y) _ net a.2 in
     let o = bind_some (number_in offset) _ net b.2 in
-    let c = bind_some (non_empty name) _ net o.2 in
+    let c = bind_some (name_of_field version name) _ net o.2 in
     let d = bind_some (path_in path) _ net c.2 in
     let same : record { x = a.0; y = b.0; offset = o.0; name = c.0; path = d.0 } ≡ net = cc in
-    rw (← same) (record { x = small_number x a.0 a.1; y = small_number y b.0 b.1; offset = small_number offset o.0 o.1; name = word_is name c.0 c.1 h; path = path_kept path d.0 d.1 })
+    rw (← same) (record { x = small_number x a.0 a.1; y = small_number y b.0 b.1; offset = small_number offset o.0 o.1; name = name_is version name c.0 c.1 h; path = path_kept path d.0 d.1 })
 
 version_is : (form : PortForm) (period latency count : ℕ) (zero room : Bool) → (period == 0) ≡ zero → has_room period count ≡ room → period ≤ greatest_number → latency ≤ greatest_number → (if zero || not room then None else Some (Version period latency count)) ≡ Some form → IsSoundForm form
 version_is form period latency count true room k r small small' e = absurd (none-some form e)
@@ -75,23 +90,23 @@ abbrev port_lines : Bool → Bool → Option PortLine → Option PortForm
 port_lines is_in is_out port =
     if is_in then (port >>= λ port. Some (In port)) else if is_out then (port >>= λ port. Some (Out port)) else None
 
-port_form : (x y name : List ℕ) (form : PortForm) (is_in is_out : Bool) → IsFieldText name → port_lines is_in is_out (port_in x y name) ≡ Some form → IsSoundForm form
-port_form x y name form true is_out h e =
-    let a = bind_some (port_in x y name) _ form e in
+port_form : (version : TableVersion) (x y name : List ℕ) (form : PortForm) (is_in is_out : Bool) → IsFieldText name → port_lines is_in is_out (port_in version x y name) ≡ Some form → IsSoundForm form
+port_form version x y name form true is_out h e =
+    let a = bind_some (port_in version x y name) _ form e in
     let same : In a.0 ≡ form = cc in
-    rw (← same) (port_is x y name a.0 h a.1)
-port_form x y name form false true h e =
-    let a = bind_some (port_in x y name) _ form e in
+    rw (← same) (port_is version x y name a.0 h a.1)
+port_form version x y name form false true h e =
+    let a = bind_some (port_in version x y name) _ form e in
     let same : Out a.0 ≡ form = cc in
-    rw (← same) (port_is x y name a.0 h a.1)
-port_form x y name form false false h e = absurd (none-some form e)
+    rw (← same) (port_is version x y name a.0 h a.1)
+port_form version x y name form false false h e = absurd (none-some form e)
 
-net_form : (x y offset name path : List ℕ) (form : PortForm) (is_net : Bool) → IsFieldText name → (if is_net then (net_in x y offset name path >>= λ net. Some (Net net)) else None) ≡ Some form → IsSoundForm form
-net_form x y offset name path form true h e =
-    let a = bind_some (net_in x y offset name path) _ form e in
+net_form : (version : TableVersion) (x y offset name path : List ℕ) (form : PortForm) (is_net : Bool) → IsFieldText name → (if is_net then (net_in version x y offset name path >>= λ net. Some (Net net)) else None) ≡ Some form → IsSoundForm form
+net_form version x y offset name path form true h e =
+    let a = bind_some (net_in version x y offset name path) _ form e in
     let same : Net a.0 ≡ form = cc in
-    rw (← same) (net_is x y offset name path a.0 h a.1)
-net_form x y offset name path form false h e = absurd (none-some form e)
+    rw (← same) (net_is version x y offset name path a.0 h a.1)
+net_form version x y offset name path form false h e = absurd (none-some form e)
 
 version_by : (t : Bool) (p l : List ℕ) (contexts : Option ℕ) (form : PortForm) → version_forms t p l contexts ≡ Some form → IsSoundForm form
 version_by true p l contexts form e =
@@ -101,31 +116,35 @@ version_by true p l contexts form e =
     version_is form a.0 b.0 c.0 _ _ refl refl (small_number p a.0 a.1) (small_number l b.0 b.1) c.2
 version_by false p l contexts form e = absurd (none-some form e)
 
-fields_form : (fields : List (List ℕ)) (form : PortForm) → AllByRecursion IsFieldText fields → form_of_fields fields ≡ Some form → IsSoundForm form
-fields_form [] form h e = absurd (none-some form e)
-fields_form (a ∷ []) form h e = absurd (none-some form e)
-fields_form (a ∷ b ∷ []) form h e = absurd (none-some form e)
-fields_form (a ∷ b ∷ c ∷ []) form h e = absurd (none-some form e)
-fields_form (a ∷ b ∷ c ∷ d ∷ []) form h e = port_form b c d form (bytes_eq a (codes "IN")) (bytes_eq a (codes "OUT")) h.1.1.1.0 e
-fields_form (a ∷ b ∷ c ∷ d ∷ f ∷ []) form h e = version_by (bytes_eq a (codes "1") && bytes_eq b (codes "P") && bytes_eq d (codes "L")) c f (Some 1) form e
-fields_form (a ∷ b ∷ c ∷ d ∷ f ∷ g ∷ []) form h e = net_form b c d f g form (bytes_eq a (codes "NET")) h.1.1.1.1.0 e
-fields_form (a ∷ b ∷ c ∷ d ∷ f ∷ g ∷ i ∷ []) form h e = version_by (bytes_eq a (codes "1") && bytes_eq b (codes "P") && bytes_eq d (codes "L")) c f (count_in g i) form e
-fields_form (a ∷ b ∷ c ∷ d ∷ f ∷ g ∷ i ∷ j ∷ fields) form h e = absurd (none-some form e)
+fields_form : (version : TableVersion) (fields : List (List ℕ)) (form : PortForm) → AllByRecursion IsFieldText fields → form_of_fields version fields ≡ Some form → IsSoundForm form
+fields_form v [] form h e = absurd (none-some form e)
+fields_form v (a ∷ []) form h e = absurd (none-some form e)
+fields_form v (a ∷ b ∷ []) form h e = absurd (none-some form e)
+fields_form v (a ∷ b ∷ c ∷ []) form h e = absurd (none-some form e)
+fields_form v (a ∷ b ∷ c ∷ d ∷ []) form h e = port_form v b c d form (bytes_eq a (codes "IN")) (bytes_eq a (codes "OUT")) h.1.1.1.0 e
+fields_form v (a ∷ b ∷ c ∷ d ∷ f ∷ []) form h e =
+    let named = bind_some (version_named a) _ form e in
+    version_by (bytes_eq b (codes "P") && bytes_eq d (codes "L")) c f (uncounted named.0) form named.2
+fields_form v (a ∷ b ∷ c ∷ d ∷ f ∷ g ∷ []) form h e = net_form v b c d f g form (bytes_eq a (codes "NET")) h.1.1.1.1.0 e
+fields_form v (a ∷ b ∷ c ∷ d ∷ f ∷ g ∷ i ∷ []) form h e =
+    let named = bind_some (version_named a) _ form e in
+    version_by (bytes_eq b (codes "P") && bytes_eq d (codes "L")) c f (count_in g i) form named.2
+fields_form v (a ∷ b ∷ c ∷ d ∷ f ∷ g ∷ i ∷ j ∷ fields) form h e = absurd (none-some form e)
 
-entry_form : (entry : List ℕ) (forms : List PortForm) (o : Option PortForm) → HasNoFeed entry → form_of_fields (slice_split (λ b. b == byte " ") entry) ≡ o → AllByRecursion IsSoundForm forms → AllByRecursion IsSoundForm (cons_option o forms)
-entry_form entry forms None h e hs = hs
-entry_form entry forms (Some form) h e hs = (fields_form (slice_split (λ b. b == byte " ") entry) form (fields_are entry h) e, hs)
+entry_form : (version : TableVersion) (entry : List ℕ) (forms : List PortForm) (o : Option PortForm) → HasNoFeed entry → form_of_fields version (slice_split (λ b. b == byte " ") entry) ≡ o → AllByRecursion IsSoundForm forms → AllByRecursion IsSoundForm (cons_option o forms)
+entry_form v entry forms None h e hs = hs
+entry_form v entry forms (Some form) h e hs = (fields_form v (slice_split (λ b. b == byte " ") entry) form (fields_are entry h) e, hs)
 
-lines_forms : (lines : List Line) → AllByRecursion IsFeedless lines → AllByRecursion IsSoundForm (filter_map (λ line. line.form) (filter_map table_line lines))
-lines_forms [] h = tt
-lines_forms (line ∷ lines) h = by_entry (table_entry line) refl (lines_forms lines h.1)
+lines_forms : (version : TableVersion) (lines : List Line) → AllByRecursion IsFeedless lines → AllByRecursion IsSoundForm (filter_map (λ line. line.form) (filter_map (table_line version) lines))
+lines_forms v [] h = tt
+lines_forms v (line ∷ lines) h = by_entry (table_entry line) refl (lines_forms v lines h.1)
   where
-    by_entry : (o : Option (List ℕ)) → table_entry line ≡ o → AllByRecursion IsSoundForm (filter_map (λ l. l.form) (filter_map table_line lines)) → AllByRecursion IsSoundForm (filter_map (λ (l : TableLine). l.form) (cons_option (o >>= λ entry. Some (record { number = line.number; form = form_of_fields (slice_split (λ b. b == byte " ") entry) })) (filter_map table_line lines)))
+    by_entry : (o : Option (List ℕ)) → table_entry line ≡ o → AllByRecursion IsSoundForm (filter_map (λ l. l.form) (filter_map (table_line v) lines)) → AllByRecursion IsSoundForm (filter_map (λ (l : TableLine). l.form) (cons_option (o >>= λ entry. Some (record { number = line.number; form = form_of_fields v (slice_split (λ b. b == byte " ") entry) })) (filter_map (table_line v) lines)))
     by_entry None e rest = rest
-    by_entry (Some entry) e rest = entry_form entry _ _ (feedless_after (codes "#C BLIFWW ") line.bytes entry e h.0) refl rest
+    by_entry (Some entry) e rest = entry_form v entry _ _ (feedless_after (codes "#C BLIFWW ") line.bytes entry e h.0) refl rest
 
 sound_forms : (text : List ℕ) → AllByRecursion IsSoundForm (forms_of text)
-sound_forms text = lines_forms (lines_before_header text) (feedless_before_header text)
+sound_forms text = lines_forms (table_version text) (lines_before_header text) (feedless_before_header text)
 
 -- the values of a table
 sound_version : (forms : List PortForm) → AllByRecursion IsSoundForm forms → (period_in forms ≢ 0) × (period_in forms ≤ greatest_number) × (latency_in forms ≤ greatest_number) × (has_room (period_in forms) (contexts_in forms) ≡ true)

@@ -246,6 +246,19 @@ reads_as_contexts p_word c_word p c = record {
   ports = record { p = p; l = 2; c = c; ins = []; outs = []; nets = [] };
 }
 
+-- the version line of version 2, of a period of 4, a latency of 2 and one context
+abbrev pub version_two : List ℕ
+version_two = codes "#C BLIFWW 2 P 4 L 2 C 1\n"
+
+-- a table of this version line and these lines
+abbrev pub reads_as_escapes : List ℕ → List PortLine → List PortLine → List NetLine → PortsExample
+reads_as_escapes lines ins outs nets = record {
+  text = version_two ++ lines;
+  width = 3;
+  height = 1;
+  ports = record { p = 4; l = 2; c = 1; ins = ins; outs = outs; nets = nets };
+}
+
 -- The tables here are without fault.
 abbrev pub ports_examples : List PortsExample
 ports_examples =
@@ -273,6 +286,25 @@ ports_examples =
     ∷ reads_as_contexts (codes "4") (codes "001") 4 1
     ∷ reads_as_contexts (codes "64") (codes "2") 64 2
     ∷ reads_as_contexts (codes "18446744073709551615") (codes "576460752303423487") 18446744073709551615 576460752303423487
+    -- version 2: escapes with digits of both cases, which may be of a byte that needs none, and bytes as they stand
+    ∷ reads_as_escapes
+    (codes "#C BLIFWW IN 0 0 %61\n#C BLIFWW IN 1 0 a%25\n#C BLIFWW IN 2 0 %2561\n#C BLIFWW OUT 2 0 %c3%A9\n#C BLIFWW NET 1 0 9 a%20b%0D 0.1\n" ++ wire_cells)
+    (port_line_at 0 0 (codes "a") ∷ port_line_at 1 0 (codes "a%") ∷ port_line_at 2 0 (codes "%61") ∷ [])
+    (port_line_at 2 0 (195 ∷ 169 ∷ []) ∷ [])
+    (net_line_at 1 0 9 (codes "a b\r") (codes "0.1") ∷ [])
+    ∷ reads_as_escapes (codes "#C BLIFWW IN 0 0 a\tb\n") (port_line_at 0 0 (codes "a\tb") ∷ []) [] []
+    ∷ reads_as_escapes
+    (codes "#C BLIFWW IN 0 0 %2541\n#C BLIFWW IN 1 0 %00%FF\n#C BLIFWW OUT 2 0 %0D%20\n" ++ wire_cells)
+    (port_line_at 0 0 (codes "%41") ∷ port_line_at 1 0 (0 ∷ 255 ∷ []) ∷ [])
+    (port_line_at 2 0 (codes "\r ") ∷ [])
+    []
+    ∷ record { text = codes "#C BLIFWW 2 P 64 L 0 C 2\n"; width = 0; height = 0; ports = record bare_ports { p = 64; c = 2 } }
+    -- version 1: names as they stand
+    ∷ reads_as_ports
+    (codes "#C BLIFWW IN 0 0 a\n#C BLIFWW IN 1 0 %61\n#C BLIFWW OUT 2 0 %4\n#C BLIFWW NET 1 0 9 %0A -\n" ++ wire_cells)
+    (port_line_at 0 0 (codes "a") ∷ port_line_at 1 0 (codes "%61") ∷ [])
+    (port_line_at 2 0 (codes "%4") ∷ [])
+    (net_line_at 1 0 9 (codes "%0A") (codes "-") ∷ [])
     -- paths of one number and of zeros
     ∷ reads_as_ports
     (codes "#C BLIFWW NET 1 0 9 a 0\n#C BLIFWW NET 1 0 9 a 0.0\n" ++ wire_cells)
@@ -297,6 +329,10 @@ has_port_fault text kind line = record { text = text; width = 3; height = 1; kin
 abbrev pub is_no_port_line : List ℕ → PortFaultExample
 is_no_port_line entry = has_port_fault (version_four ++ codes "#C BLIFWW " ++ entry ++ codes "\n" ++ wire_cells) port.BadLine 2
 
+-- the same in version 2
+abbrev pub is_no_escaped_line : List ℕ → PortFaultExample
+is_no_escaped_line entry = has_port_fault (version_two ++ codes "#C BLIFWW " ++ entry ++ codes "\n" ++ wire_cells) port.BadLine 2
+
 abbrev pub bad_line_examples : List PortFaultExample
 bad_line_examples =
     -- the period is 0
@@ -317,8 +353,23 @@ bad_line_examples =
     ∷ has_port_fault (codes "#C BLIFWW 1 P 64 L 2 c 2\n" ++ wire_cells) port.BadLine 1
     ∷ has_port_fault (codes "#C BLIFWW 1 P 64 L 2 C 2 \n" ++ wire_cells) port.BadLine 1
     -- other versions
-    ∷ has_port_fault (codes "#C BLIFWW 2 P 4 L 2\n" ++ wire_cells) port.BadLine 1
+    ∷ has_port_fault (codes "#C BLIFWW 3 P 4 L 2 C 1\n" ++ wire_cells) port.BadLine 1
     ∷ has_port_fault (codes "#C BLIFWW 01 P 4 L 2\n" ++ wire_cells) port.BadLine 1
+    ∷ has_port_fault (codes "#C BLIFWW 02 P 4 L 2 C 1\n" ++ wire_cells) port.BadLine 1
+    -- version 2 without the number of contexts, or with none
+    ∷ has_port_fault (codes "#C BLIFWW 2 P 4 L 2\n" ++ wire_cells) port.BadLine 1
+    ∷ has_port_fault (codes "#C BLIFWW 2 P 4 L 2 C 0\n" ++ wire_cells) port.BadLine 1
+    ∷ has_port_fault (codes "#C BLIFWW 2 P 63 L 2 C 2\n" ++ wire_cells) port.BadLine 1
+    ∷ has_port_fault (version_two ++ codes "#C BLIFWW 3 P 4 L 2 C 1\n" ++ wire_cells) port.BadLine 2
+    -- a percent sign that begins no escape, and a line feed's escape
+    ∷ is_no_escaped_line (codes "IN 0 0 %4")
+    ∷ is_no_escaped_line (codes "IN 0 0 %")
+    ∷ is_no_escaped_line (codes "OUT 0 0 a%4g")
+    ∷ is_no_escaped_line (codes "OUT 0 0 %g4")
+    ∷ is_no_escaped_line (codes "NET 0 0 0 %%41 -")
+    ∷ is_no_escaped_line (codes "NET 0 0 0 %0A -")
+    ∷ is_no_escaped_line (codes "IN 0 0 a%0a")
+    ∷ is_no_escaped_line (codes "IN 0 0 ")
     -- no form
     ∷ is_no_port_line []
     ∷ is_no_port_line (codes "in 0 0 a")
@@ -349,6 +400,10 @@ bad_order_examples =
     has_port_fault (wire_in ++ wire_out ++ wire_cells) port.BadOrder 1
     ∷ has_port_fault (wire_in ++ version_four ++ wire_cells) port.BadOrder 1
     ∷ has_port_fault (version_four ++ wire_in ++ version_four ++ wire_cells) port.BadOrder 3
+    ∷ has_port_fault (version_two ++ wire_in ++ version_two ++ wire_cells) port.BadOrder 3
+    ∷ has_port_fault (version_two ++ version_four ++ wire_cells) port.BadOrder 2
+    -- a table without a version has names as they stand
+    ∷ has_port_fault (codes "#C BLIFWW IN 0 0 %4\n" ++ version_two ++ wire_cells) port.BadOrder 1
     -- also where the line's cell is outside
     ∷ has_port_fault (codes "#C BLIFWW OUT 3 0 y\n" ++ wire_cells) port.BadOrder 1
     ∷ []
@@ -367,6 +422,10 @@ twice_examples =
     has_port_fault (version_four ++ wire_in ++ wire_in ++ wire_out ++ wire_cells) port.Twice 3
     ∷ has_port_fault (version_four ++ wire_out ++ wire_in ++ codes "#C BLIFWW OUT 0 0 y\n" ++ wire_cells) port.Twice 4
     ∷ has_port_fault (version_four ++ codes "#C BLIFWW NET 0 0 0 a 1\n#C BLIFWW NET 1 0 7 a 1\n" ++ wire_cells) port.Twice 3
+    -- names are compared as they are meant
+    ∷ has_port_fault (version_two ++ wire_in ++ codes "#C BLIFWW IN 1 0 %61\n" ++ wire_cells) port.Twice 3
+    ∷ has_port_fault (version_two ++ codes "#C BLIFWW OUT 0 0 \t\n#C BLIFWW OUT 1 0 %09\n" ++ wire_cells) port.Twice 3
+    ∷ has_port_fault (version_two ++ codes "#C BLIFWW NET 0 0 0 %4a 1\n#C BLIFWW NET 1 0 7 %4A 1\n" ++ wire_cells) port.Twice 3
     -- the earlier line of two comes first
     ∷ has_port_fault (version_four ++ wire_in ++ wire_in ++ version_four ++ wire_cells) port.Twice 3
     ∷ []

@@ -1,6 +1,6 @@
 // What the definitions of a text's readings imply, proved once for every text.
 
-ghost use Rattle.std.specs.Prelude.{List, ℕ};
+ghost use Rattle.std.specs.Prelude.{Bool, List, ℕ};
 ghost use Rattle.pattern_reading.specs.Laws.{HasOnePattern, HasOneRleFault, HasNoFaultIfRead, HasPatternOrFault};
 ghost use Rattle.pattern_reading.specs.Laws.{HasReaderAnswer, HasOneReaderAnswer, HasSmallBox, HasOneRun};
 ghost use Rattle.pattern_reading.specs.Laws.{HasOneTable, HasOnePortFault, HasNoPortFaultIfRead, HasTableOrFault, HasPortsInside};
@@ -11,7 +11,7 @@ ghost use Rattle.pattern_reading.specs.Items.{Item};
 ghost use Rattle.ww_rule.specs.Grid.{Grid};
 ghost use Rattle.pattern_reading.specs.PortLines.{PortForm};
 ghost use Rattle.pattern_reading.specs.SpelledPattern.{SpelledItem, HasSpelledPattern, HasSpelledHeader, HasSpelledCount};
-ghost use Rattle.pattern_reading.specs.Spelling.{HasItsForms, HasSpelledPorts, HasSamePattern};
+ghost use Rattle.pattern_reading.specs.Spelling.{HasItsEscapes, HasItsForms, HasItsName, HasSpelledPorts, HasSamePattern};
 ghost use Rattle.pattern_reading.specs.declared.ports.Ports.{Ports};
 
 /// Each text of extended RLE reads as exactly one pattern, or has exactly one first fault.
@@ -29,8 +29,8 @@ pub fn reader_laws()
     ensures small { (text : List ℕ) (width height : ℕ) → HasSmallBox text width height }
 {}
 
-/// In each box the port table of a text reads as exactly one table, whose cells lie in the box and whose names are words, each of one
-/// port, or has exactly one first fault.
+/// In each box the port table of a text reads as exactly one table, whose cells lie in the box and whose names can stand in a table, each
+/// of one port, or has exactly one first fault.
 pub fn port_laws()
     ensures table { (text : List ℕ) (width height : ℕ) → HasOneTable text width height }
     ensures fault { (text : List ℕ) (width height : ℕ) → HasOnePortFault text width height }
@@ -64,11 +64,14 @@ pub fn place_laws()
     ensures one_run { (text : List ℕ) → HasOneRun text }
 {}
 
-/// A port table that is spelled before a text is read as it was meant, and changes nothing in the text's pattern.
+/// A port table that is spelled before a text is read as it was meant, and changes nothing in the text's pattern. Its names are any
+/// of one or more bytes without a line feed.
 pub fn spelled_table_laws()
     ensures ports { (forms : List PortForm) (rest : List ℕ) → HasSpelledPorts forms rest }
     ensures pattern { (forms : List PortForm) (rest : List ℕ) → HasSamePattern forms rest }
     ensures forms { (ports : Ports) → HasItsForms ports }
+    ensures escapes { (is_plain : ℕ → Bool) (bytes : List ℕ) → HasItsEscapes is_plain bytes }
+    ensures names { (name : List ℕ) → HasItsName name }
     ensures spellable { (ports : Ports) → HasSpellableLines ports }
     ensures sound { (width height : ℕ) (ports : Ports) → HasSoundLines width height ports }
 {}

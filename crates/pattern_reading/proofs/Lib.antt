@@ -3,6 +3,7 @@ pub mod RleVerdict
 pub mod RleLaws
 pub mod PortLaws
 pub mod LineText
+pub mod Escapes
 pub mod PortText
 pub mod Later
 pub mod Spelled

@@ -1,11 +1,11 @@
 -- Spelled lines of a port table read back.
 use Rattle.std.proofs.Common.{ℕ, ◌*◌, ◌^◌, ◌<◌, ◌≤◌, ◌≡◌, ◌≢◌, ◌⊎◌, inl, inr, refl, sym, ap, ◌∙◌, Bool, true, false, true≢false, not, ◌&&◌, ◌||◌, ◌==◌, List, [], ◌∷◌, length, get_or, arith}
-use Rattle.std.specs.Prelude.{if◌then◌else◌, nat_le, nat_lt, Some, None, codes, decimal, is_some}
+use Rattle.std.specs.Prelude.{if◌then◌else◌, nat_le, Some, None, codes, decimal, is_some}
 use Rattle.std.specs.List.{All, AllByRecursion, list_all, slice_split, join_with_byte}
 use Rattle.std.specs.Char.{is_ascii_digit}
 use Rattle.std.specs.Int.{IsInRange}
 use Rattle.std.specs.Str.Parse.{IsNumeral, AllDigits, digits_value}
-use Rattle.std.proofs.lemmas.Bool.{eqb-false, eqb-true, le-leb, leb-true, ltb-false, and_parts}
+use Rattle.std.proofs.lemmas.Bool.{eqb-false, eqb-true, le-leb, leb-true, and_parts}
 use Rattle.std.proofs.lemmas.List.Elements.{All-append, All-cons}
 use Rattle.std.proofs.lemmas.List.Splits.{slice_split_at, slice_split_none, join_with_byte-slice_split}
 use Rattle.std.proofs.lemmas.List.Sums.{list_all-from_AllPass, AllPass-from_list_all}
@@ -16,10 +16,11 @@ use Rattle.std.specs.Str.{byte, bytes_eq}
 use Rattle.std.proofs.lemmas.Slice.Eq.{bytes_eq-Decides}
 use Rattle.std.proofs.lemmas.Option.{cond_some}
 use Rattle.pattern_reading.specs.Numbers.{greatest_number, number_in}
-use Rattle.lists.specs.Bytes.{non_empty}
+use Rattle.pattern_reading.specs.declared.ports.TableVersion.TheVariants.{Escaped}
 use Rattle.pattern_reading.specs.PortLines.{PortForm, Version, In, Out, Net, has_room, table_line, form_of_fields, path_in, is_path_number}
 use Rattle.pattern_reading.specs.Laws.{IsLineText}
-use Rattle.pattern_reading.specs.Spelling.{IsField, IsSpellable, count_fields, fields_of, spelled_line}
+use Rattle.pattern_reading.specs.Spelling.{IsField, IsSpellable, fields_of, spelled_line}
+use Rattle.pattern_reading.proofs.Escapes.{escaped_field, its_name}
 use Rattle.std.proofs.lemmas.Bool.{ne_eqb}
 
 digit_in_range : (ds : List ℕ) → AllDigits 10 ds → (k d : ℕ) → k < length ds → IsInRange 48 57 (get_or ds k d)
@@ -136,34 +137,21 @@ small_count : (p c : ℕ) → p < 2 ^ 64 → has_room p c ≡ true → c < 2 ^ 6
 small_count p c small h = omega (arith, small, room_is p c h)
 
 -- the fields of a spelled line
-count_fits : (c : ℕ) (some : Bool) → c < 2 ^ 64 → AllByRecursion IsField (if some then codes "C" ∷ decimal c ∷ [] else [])
-count_fits c true small = (letters_field (codes "C") refl, (decimal_field c small, tt))
-count_fits c false small = tt
-
 fields_fit : (form : PortForm) → IsSpellable form → AllByRecursion IsField (fields_of form)
 fields_fit (Version p l c) h =
-    (letters_field (codes "1") refl, (letters_field (codes "P") refl, (decimal_field p h.1, (letters_field (codes "L") refl, (decimal_field l h.2, count_fits c (nat_lt 1 c) (small_count p c h.1 h.3))))))
-fields_fit (In port) h = (letters_field (codes "IN") refl, (decimal_field port.x h.0, (decimal_field port.y h.1, (h.2.1, tt))))
-fields_fit (Out port) h = (letters_field (codes "OUT") refl, (decimal_field port.x h.0, (decimal_field port.y h.1, (h.2.1, tt))))
+    (letters_field (codes "2") refl, (letters_field (codes "P") refl, (decimal_field p h.1, (letters_field (codes "L") refl, (decimal_field l h.2, (letters_field (codes "C") refl, (decimal_field c (small_count p c h.1 h.3), tt)))))))
+fields_fit (In port) h = (letters_field (codes "IN") refl, (decimal_field port.x h.0, (decimal_field port.y h.1, (escaped_field port.name, tt))))
+fields_fit (Out port) h = (letters_field (codes "OUT") refl, (decimal_field port.x h.0, (decimal_field port.y h.1, (escaped_field port.name, tt))))
 fields_fit (Net net) h =
-    (letters_field (codes "NET") refl, (decimal_field net.x h.0, (decimal_field net.y h.1, (decimal_field net.offset h.2, (h.3.1, (path_field net.path h.4, tt))))))
-
-some_bytes : (bytes : List ℕ) → bytes ≢ [] → non_empty bytes ≡ Some bytes
-some_bytes [] h = absurd (h refl)
-some_bytes (b ∷ bs) h = refl
+    (letters_field (codes "NET") refl, (decimal_field net.x h.0, (decimal_field net.y h.1, (decimal_field net.offset h.2, (escaped_field net.name, (path_field net.path h.4, tt))))))
 
 -- are read as its form
-form_spelled : (form : PortForm) → IsSpellable form → form_of_fields (fields_of form) ≡ Some form
-form_spelled (Version p l c) h = by_count (nat_lt 1 c) refl
-  where
-    by_count : (some : Bool) → nat_lt 1 c ≡ some → form_of_fields (codes "1" ∷ codes "P" ∷ decimal p ∷ codes "L" ∷ decimal l ∷ (if some then codes "C" ∷ decimal c ∷ [] else [])) ≡ Some (Version p l c)
-    by_count true e = rw (number_in-decimal p h.1, number_in-decimal l h.2, number_in-decimal c (small_count p c h.1 h.3), ne_eqb p 0 h.0, h.3) refl
-    by_count false e =
-        let one : c ≡ 1 = omega (arith, ltb-false _ _ e, room_is p c h.3) in
-        rw (one, number_in-decimal p h.1, number_in-decimal l h.2, ne_eqb p 0 h.0) refl
-form_spelled (In port) h = rw (number_in-decimal port.x h.0, number_in-decimal port.y h.1, some_bytes port.name h.2.0) refl
-form_spelled (Out port) h = rw (number_in-decimal port.x h.0, number_in-decimal port.y h.1, some_bytes port.name h.2.0) refl
-form_spelled (Net net) h = rw (number_in-decimal net.x h.0, number_in-decimal net.y h.1, number_in-decimal net.offset h.2, some_bytes net.name h.3.0, h.4) refl
+form_spelled : (form : PortForm) → IsSpellable form → form_of_fields Escaped (fields_of form) ≡ Some form
+form_spelled (Version p l c) h =
+    rw (number_in-decimal p h.1, number_in-decimal l h.2, number_in-decimal c (small_count p c h.1 h.3), ne_eqb p 0 h.0, h.3) refl
+form_spelled (In port) h = rw (number_in-decimal port.x h.0, number_in-decimal port.y h.1, (its_name port.name h.2).1) refl
+form_spelled (Out port) h = rw (number_in-decimal port.x h.0, number_in-decimal port.y h.1, (its_name port.name h.2).1) refl
+form_spelled (Net net) h = rw (number_in-decimal net.x h.0, number_in-decimal net.y h.1, number_in-decimal net.offset h.2, (its_name net.name h.3).1, h.4) refl
 
 split_fields : (fields : List (List ℕ)) → fields ≢ [] → AllByRecursion IsField fields → words_in (join_with_byte 32 fields) ≡ fields
 split_fields [] some h = absurd (some refl)
@@ -176,9 +164,9 @@ some_fields (Out port) e = cc
 some_fields (Net net) e = cc
 
 -- a spelled line is a line of the table, of its form
-pub spelled_is : (n : ℕ) (form : PortForm) (e : Bool) → IsSpellable form → table_line (record { number = n; bytes = spelled_line form; is_ended = e }) ≡ Some (record { number = n; form = Some form })
+pub spelled_is : (n : ℕ) (form : PortForm) (e : Bool) → IsSpellable form → table_line Escaped (record { number = n; bytes = spelled_line form; is_ended = e }) ≡ Some (record { number = n; form = Some form })
 spelled_is n form e h =
-    ap (λ f. Some (record { number = n; form = f })) (ap form_of_fields (split_fields (fields_of form) (some_fields form) (fields_fit form h)) ∙ form_spelled form h)
+    ap (λ f. Some (record { number = n; form = f })) (ap (form_of_fields Escaped) (split_fields (fields_of form) (some_fields form) (fields_fit form h)) ∙ form_spelled form h)
 
 line_fields : (fields : List (List ℕ)) → fields ≢ [] → AllByRecursion IsField fields → IsLineText (join_with_byte 32 fields)
 line_fields [] some h = absurd (some refl)

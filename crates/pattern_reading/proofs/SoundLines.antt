@@ -16,30 +16,24 @@ use Rattle.pattern_reading.specs.PortLines.{PortForm, Version, In, Out, Net, has
 use Rattle.pattern_reading.specs.PortTable.{fault_of_form, input_of, is_outside, is_same_port, is_version, net_of, output_of}
 use Rattle.pattern_reading.specs.Laws.{IsNetInside, IsPortInside}
 use Rattle.pattern_reading.specs.Spelling.{IsPortName, IsSoundAfter, IsSpellable}
-use Rattle.pattern_reading.specs.SoundTable.{HasSoundLines, HasSpellableLines, IsSoundNet, IsSoundPort, IsWord}
+use Rattle.pattern_reading.specs.SoundTable.{HasSoundLines, HasSpellableLines, IsSoundNet, IsSoundPort}
 use Rattle.lists.proofs.Names.{bytes_eq-other}
 use Rattle.pattern_reading.proofs.PortForms.{none_of}
 
 -- the lines can be spelled
-abbrev HasNoReturn : List ℕ → Type 0
-HasNoReturn name = All (λ b. b ≢ 13) name
-
-field_name : (name : List ℕ) → IsWord name → HasNoReturn name → IsPortName name
-field_name name h k = (h.not_empty, λ i d l. ((h.bytes i d l).0, k i d l, (h.bytes i d l).1))
-
 small : (n : ℕ) → n ≤ greatest_number → n < 2 ^ 64
 small n h = omega (arith, h)
 
 module _ (form : PortLine → PortForm) (spellable : (port : PortLine) → (port.x < 2 ^ 64) × (port.y < 2 ^ 64) × IsPortName port.name → IsSpellable (form port)) where
-  ports_spellable : (ports : List PortLine) (forms : List PortForm) → AllByRecursion IsSoundPort ports → AllByRecursion (λ port. HasNoReturn port.name) ports → AllByRecursion IsSpellable forms → AllByRecursion IsSpellable (map form ports ++ forms)
-  ports_spellable [] forms h k rest = rest
-  ports_spellable (port ∷ ports) forms h k rest =
-      (spellable port (small port.x h.0.x, small port.y h.0.y, field_name port.name h.0.name k.0), ports_spellable ports forms h.1 k.1 rest)
+  ports_spellable : (ports : List PortLine) (forms : List PortForm) → AllByRecursion IsSoundPort ports → AllByRecursion IsSpellable forms → AllByRecursion IsSpellable (map form ports ++ forms)
+  ports_spellable [] forms h rest = rest
+  ports_spellable (port ∷ ports) forms h rest =
+      (spellable port (small port.x h.0.x, small port.y h.0.y, h.0.name), ports_spellable ports forms h.1 rest)
 
-nets_spellable : (nets : List NetLine) → AllByRecursion IsSoundNet nets → AllByRecursion (λ net. HasNoReturn net.name) nets → AllByRecursion IsSpellable (map Net nets)
-nets_spellable [] h k = tt
-nets_spellable (net ∷ nets) h k =
-    ((small net.x h.0.x, small net.y h.0.y, small net.offset h.0.offset, field_name net.name h.0.name k.0, h.0.path), nets_spellable nets h.1 k.1)
+nets_spellable : (nets : List NetLine) → AllByRecursion IsSoundNet nets → AllByRecursion IsSpellable (map Net nets)
+nets_spellable [] h = tt
+nets_spellable (net ∷ nets) h =
+    ((small net.x h.0.x, small net.y h.0.y, small net.offset h.0.offset, h.0.name, h.0.path), nets_spellable nets h.1)
 
 three_kinds : (ins outs : List PortLine) (nets : List NetLine) → map In ins ++ map Out outs ++ map Net nets ≡ map In ins ++ (map Out outs ++ map Net nets)
 three_kinds ins outs nets = append_assoc (map In ins) (map Out outs) (map Net nets)
@@ -53,11 +47,11 @@ room_of p c some room = by_one (c == 1) refl
     by_one false e = rw (ne_eqb c 0 some, le-leb (32 * c) p (room (omega (arith, some, eqb-false c 1 e)))) refl
 
 pub spellable_lines : (ports : Ports) → HasSpellableLines ports
-spellable_lines ports h k = (
+spellable_lines ports h = (
   (h.period, small ports.p h.p, small ports.l h.l, room_of ports.p ports.c h.contexts h.room),
   rw (three_kinds ports.ins ports.outs ports.nets) (
-      ports_spellable In (λ port s. s) ports.ins (map Out ports.outs ++ map Net ports.nets) h.ins k.ins (
-      ports_spellable Out (λ port s. s) ports.outs (map Net ports.nets) h.outs k.outs (nets_spellable ports.nets h.nets k.nets))),
+      ports_spellable In (λ port s. s) ports.ins (map Out ports.outs ++ map Net ports.nets) h.ins (
+      ports_spellable Out (λ port s. s) ports.outs (map Net ports.nets) h.outs (nets_spellable ports.nets h.nets))),
 )
 
 -- none is at fault

@@ -4,6 +4,7 @@ pub mod Header
 pub mod Items
 pub mod Pattern
 pub mod Ports
+pub mod Escapes
 pub mod PortLines
 pub mod PortTable
 pub mod Laws

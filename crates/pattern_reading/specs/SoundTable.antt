@@ -1,6 +1,6 @@
 -- What the values of a port table are that a text reads as.
 use Rattle.std.specs.Prelude.{◌≡◌, ◌≢◌, ◌≤◌, ◌<◌, ◌*◌, ℕ, List, [], Some}
-use Rattle.std.specs.List.{All, AllByRecursion, AllPairs}
+use Rattle.std.specs.List.{AllByRecursion, AllPairs}
 use Rattle.pattern_reading.specs.declared.ports.PortLine.{PortLine}
 use Rattle.pattern_reading.specs.declared.ports.NetLine.{NetLine}
 use Rattle.pattern_reading.specs.declared.ports.Ports.{Ports}
@@ -8,29 +8,24 @@ use Rattle.pattern_reading.specs.Numbers.{greatest_number}
 use Rattle.pattern_reading.specs.PortLines.{path_in}
 use Rattle.pattern_reading.specs.PortTable.{ReadsAsPorts}
 use Rattle.pattern_reading.specs.Laws.{HasCellsInside}
-use Rattle.pattern_reading.specs.Spelling.{IsSoundAfter, IsSpellable, port_forms}
-
--- a name as a line of the table has it: one or more bytes, none of them a line feed or a space
-pub record IsWord (name : List ℕ) : Type 0 where
-  pub not_empty : name ≢ []
-  pub bytes : All (λ b. (b ≢ 10) × (b ≢ 32)) name
+use Rattle.pattern_reading.specs.Spelling.{IsPortName, IsSoundAfter, IsSpellable, port_forms}
 
 -- a port's numbers fit 64 bits, and it has a name
 pub record IsSoundPort (port : PortLine) : Type 0 where
   pub x : port.x ≤ greatest_number
   pub y : port.y ≤ greatest_number
-  pub name : IsWord port.name
+  pub name : IsPortName port.name
 
 -- a net's as well, and it has a path
 pub record IsSoundNet (net : NetLine) : Type 0 where
   pub x : net.x ≤ greatest_number
   pub y : net.y ≤ greatest_number
   pub offset : net.offset ≤ greatest_number
-  pub name : IsWord net.name
+  pub name : IsPortName net.name
   pub path : path_in net.path ≡ Some net.path
 
 -- The period is not 0, there is a context, and where there are more each has 32 generations of the period. All numbers fit 64 bits,
--- all names are words, and no two inputs, no two outputs and no two nets of one path have one name.
+-- all names have one or more bytes and no line feed, and no two inputs, no two outputs and no two nets of one path have one name.
 pub record IsSoundTable (ports : Ports) : Type 0 where
   pub period : ports.p ≢ 0
   pub p : ports.p ≤ greatest_number
@@ -52,12 +47,6 @@ HasSoundTable text width height = (ports : Ports) → ReadsAsPorts text width he
 abbrev pub HasSoundLines : ℕ → ℕ → Ports → Type 0
 HasSoundLines width height ports = IsSoundTable ports → HasCellsInside width height ports → IsSoundAfter width height [] (port_forms ports)
 
--- no carriage return is in a name of the table
-pub record HasNoReturns (ports : Ports) : Type 0 where
-  pub ins : AllByRecursion (λ port. All (λ b. b ≢ 13) port.name) ports.ins
-  pub outs : AllByRecursion (λ port. All (λ b. b ≢ 13) port.name) ports.outs
-  pub nets : AllByRecursion (λ net. All (λ b. b ≢ 13) net.name) ports.nets
-
--- Where this is so as well, its lines can be spelled.
+-- They can be spelled.
 abbrev pub HasSpellableLines : Ports → Type 0
-HasSpellableLines ports = IsSoundTable ports → HasNoReturns ports → AllByRecursion IsSpellable (port_forms ports)
+HasSpellableLines ports = IsSoundTable ports → AllByRecursion IsSpellable (port_forms ports)

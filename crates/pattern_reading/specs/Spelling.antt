@@ -1,22 +1,25 @@
--- How a port table is spelled: each line in one way, its numbers without leading zeros.
-use Rattle.std.specs.Prelude.{◌≡◌, ◌≢◌, ℕ, ◌^◌, ◌<◌, nat_lt, true, if◌then◌else◌, List, [], ◌∷◌, ◌++◌, flat_map, map, Option, Some, None, codes, decimal}
+-- How a port table of version 2 is spelled: each line in one way, its numbers without leading zeros.
+use Rattle.std.specs.Prelude.{◌≡◌, ◌≢◌, ℕ, ◌^◌, ◌<◌, Bool, true, false, List, [], ◌∷◌, ◌++◌, flat_map, map, Option, Some, None, codes, decimal}
 use Rattle.std.specs.List.{All, AllByRecursion, join_with_byte}
+use Rattle.std.specs.Str.{byte}
 use Rattle.ww_rule.specs.Grid.{Grid}
 use Rattle.pattern_reading.specs.declared.ports.Ports.{Ports}
-use Rattle.pattern_reading.specs.PortLines.{PortForm, Version, In, Out, Net, has_room, path_in, table_of}
+use Rattle.pattern_reading.specs.declared.ports.TableVersion.TheVariants.{Escaped}
+use Rattle.pattern_reading.specs.Escapes.{escaped, is_plain_in_name, unescaped}
+use Rattle.pattern_reading.specs.PortLines.{PortForm, Version, In, Out, Net, has_room, name_of_field, path_in, table_of}
 use Rattle.pattern_reading.specs.Pattern.{ReadsAsPattern}
 use Rattle.pattern_reading.specs.PortTable.{ReadsAsPorts, fault_of_form, ports_of}
 
--- the fields that say how many contexts there are; one is not written
-abbrev pub count_fields : ℕ → List (List ℕ)
-count_fields c = if nat_lt 1 c then codes "C" ∷ decimal c ∷ [] else []
+-- a name with escapes
+abbrev pub escaped_name : List ℕ → List ℕ
+escaped_name name = escaped is_plain_in_name name
 
 -- the fields of a line
 abbrev pub fields_of : PortForm → List (List ℕ)
-fields_of (Version p l c) = codes "1" ∷ codes "P" ∷ decimal p ∷ codes "L" ∷ decimal l ∷ count_fields c
-fields_of (In port) = codes "IN" ∷ decimal port.x ∷ decimal port.y ∷ port.name ∷ []
-fields_of (Out port) = codes "OUT" ∷ decimal port.x ∷ decimal port.y ∷ port.name ∷ []
-fields_of (Net net) = codes "NET" ∷ decimal net.x ∷ decimal net.y ∷ decimal net.offset ∷ net.name ∷ net.path ∷ []
+fields_of (Version p l c) = codes "2" ∷ codes "P" ∷ decimal p ∷ codes "L" ∷ decimal l ∷ codes "C" ∷ decimal c ∷ []
+fields_of (In port) = codes "IN" ∷ decimal port.x ∷ decimal port.y ∷ escaped_name port.name ∷ []
+fields_of (Out port) = codes "OUT" ∷ decimal port.x ∷ decimal port.y ∷ escaped_name port.name ∷ []
+fields_of (Net net) = codes "NET" ∷ decimal net.x ∷ decimal net.y ∷ decimal net.offset ∷ escaped_name net.name ∷ net.path ∷ []
 
 -- a line, with a space between each two fields, and lines with their line ends
 abbrev pub spelled_line : PortForm → List ℕ
@@ -40,12 +43,20 @@ HasItsForms ports = ports_of (port_forms ports) ≡ ports
 abbrev pub IsField : List ℕ → Type 0
 IsField bytes = All (λ b. (b ≢ 10) × (b ≢ 13) × (b ≢ 32)) bytes
 
--- a name of such bytes
+-- a name that a table can have: one or more bytes, none of them a line feed
 abbrev pub IsPortName : List ℕ → Type 0
-IsPortName name = (name ≢ []) × IsField name
+IsPortName name = (name ≢ []) × All (λ b. b ≢ 10) name
 
--- a line that can be spelled: its numbers can be written, its period is not 0 and has room for its contexts, and its name and its
--- path are such
+-- Whatever test tells the plain bytes, as long as `%` is not one of them, bytes without a line feed are read back from their escapes.
+abbrev pub HasItsEscapes : (ℕ → Bool) → List ℕ → Type 0
+HasItsEscapes is_plain bytes = is_plain (byte "%") ≡ false → All (λ b. b ≢ 10) bytes → unescaped (escaped is_plain bytes) ≡ Some bytes
+
+-- So a name with escapes is a field, and in version 2 it says the name.
+abbrev pub HasItsName : List ℕ → Type 0
+HasItsName name = IsPortName name → IsField (escaped_name name) × (name_of_field Escaped (escaped_name name) ≡ Some name)
+
+-- a line that can be spelled: its numbers can be written, its period is not 0 and has room for its contexts, and it has a name and a
+-- path that can stand in a table
 abbrev pub IsSpellable : PortForm → Type 0
 IsSpellable (Version p l c) = (p ≢ 0) × (p < 2 ^ 64) × (l < 2 ^ 64) × (has_room p c ≡ true)
 IsSpellable (In port) = (port.x < 2 ^ 64) × (port.y < 2 ^ 64) × IsPortName port.name

@@ -24,8 +24,10 @@ pub enum RleFaultKind {
 /// The faults of a port table. Of one text the earliest line is answered, and of one line the first of these.
 #[derive(Clone, Copy, Debug, PartialEq, Eq)]
 pub enum PortFaultKind {
-    /// A line of the table has none of the four forms, its period is 0, its number of contexts is 0 or has no room in the
-    /// period, or a number is past 18446744073709551615.
+    /// A line of the table has none of the four forms: so a version other than 1 and 2, a version line of version 2 without
+    /// its number of contexts, and, in version 2, a name in which a `%` is not followed by two hexadecimal digits, or in
+    /// which these stand for a line feed. Or its period is 0, its number of contexts is 0 or has no room in the period, or a
+    /// number is past 18446744073709551615.
     BadLine,
     /// The first line of the table is not the version line, or a later line is one.
     BadOrder,

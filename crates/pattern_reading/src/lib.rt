@@ -7,4 +7,4 @@ mod faults;
 mod ports;
 
 pub use faults::{PortFaultKind, RleFaultKind};
-pub use ports::{NetLine, PortLine, Ports};
+pub use ports::{NetLine, PortLine, Ports, TableVersion};

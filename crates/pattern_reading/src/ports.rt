@@ -1,6 +1,17 @@
 // Port tables as values.
 use lists::{Bytes, List};
 
+/// The versions of port tables, by how names stand in them. Version 1 has them as they are. Version 2, which is written, has an
+/// escape for each byte outside 33 to 126 and for each `%`: `%` and two hexadecimal digits. Its reader takes any other byte
+/// as it stands.
+#[derive(Clone, Copy)]
+pub enum TableVersion {
+    /// Version 1.
+    Raw,
+    /// Version 2.
+    Escaped,
+}
+
 /// A port: the name of an input or an output, and its cell.
 #[derive(Drop)]
 pub struct PortLine {

@@ -5,12 +5,12 @@ ghost use Rattle.band_core.specs.Bands.{IsSamePattern};
 mod orders;
 mod shown;
 
-use crate::texts::expect;
 use band_core::{Bands, NotReady, NotSkipped};
 use rle_read::read;
 use shown::shown_row;
 use std::alloc::{AllocError, Global};
 use std::test::Fail;
+use ww_base::expect;
 
 // The bands of a text's pattern, which has this size and no injections.
 fn bands_of(alloc: Global, text: &[u8], width: u64, rows: usize, height: u32) -> Result<Bands, Fail>

@@ -1,8 +1,9 @@
 // Texts, and what each of them says: rows in the letters of extended RLE, or a fault and its line.
-use crate::texts::{drawn, expect};
+use crate::texts::drawn;
 use rle_read::{RleReadError, read};
 use std::alloc::{AllocError, Global};
 use std::test::Fail;
+use ww_base::expect;
 
 // The rows of the pattern of a text, or the text's fault and its line, or the size of a box past the limit.
 fn said(alloc: Global, text: &[u8]) -> Result<Vec<u8>, AllocError> {

@@ -1,8 +1,9 @@
 // Small patterns by hand, in the letters of RLE: '.' is empty, A a head, B a tail and C a conductor.
-use crate::texts::{drawn, expect};
+use crate::texts::drawn;
 use rle_read::read;
 use std::alloc::Global;
 use std::test::Fail;
+use ww_base::expect;
 use ww_rule::{Plane, mirror_x, step_driven, step_plain};
 
 fn plane_of(alloc: Global, text: &[u8]) -> Result<Plane, Fail> {

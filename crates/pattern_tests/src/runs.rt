@@ -4,12 +4,12 @@ ghost use Rattle.pattern_reading.specs.Ports.{cells_of};
 ghost use Rattle.ww_rule.specs.Grid.{AreInBox};
 ghost use Rattle.drive.specs.Driving.{AreFor};
 
-use crate::texts::expect;
 use drive::{SimulateError, StreamError, Streams, simulate};
 use lists::{Bytes, List};
 use pattern_reading::{PortLine, Ports};
 use std::alloc::{AllocError, Global};
 use std::test::Fail;
+use ww_base::expect;
 use ww_rule::Pattern;
 
 // A wire of three cells.

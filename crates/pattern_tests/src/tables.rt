@@ -1,8 +1,9 @@
 // Tables of known texts, and texts that are at fault.
-use crate::texts::expect;
-use port_table::{NetLine, PortLine, PortReadError, Ports, read};
+use lists::List;
+use port_table::{NetLine, PortLine, PortReadError, Ports, read, write_line};
 use std::alloc::{AllocError, Global};
 use std::test::Fail;
+use ww_base::{MemSink, expect};
 
 fn push_ports(
     alloc: Global,
@@ -52,7 +53,7 @@ fn said(alloc: Global, text: &[u8], width: u64, height: u64) -> Result<Vec<u8>, 
 
 // The OR gate's table.
 const OR_LINES: &[u8] =
-    b"#C BLIFWW 1 P 32 L 32\n#C BLIFWW IN 0 8 a\n#C BLIFWW IN 0 24 b\n#C BLIFWW OUT 32 8 y\n#C BLIFWW NET 0 8 0 a -\n#C BLIFWW NET 0 24 0 b -\n#C BLIFWW NET 31 8 31 y -\nx = 33, y = 32, rule = WireWorld\n!\n";
+    b"#C BLIFWW 2 P 32 L 32 C 1\n#C BLIFWW IN 0 8 a\n#C BLIFWW IN 0 24 b\n#C BLIFWW OUT 32 8 y\n#C BLIFWW NET 0 8 0 a -\n#C BLIFWW NET 0 24 0 b -\n#C BLIFWW NET 31 8 31 y -\nx = 33, y = 32, rule = WireWorld\n!\n";
 
 // Texts, the sizes of their patterns, and the tables as lines, or the kinds and lines of their first faults.
 const TABLES: &[(&[u8], u64, u64, &[u8])] = &[
@@ -69,7 +70,7 @@ const TABLES: &[(&[u8], u64, u64, &[u8])] = &[
         b"4 2 1, IN 0 0 a, OUT 2 0 y",
     ),
     (
-        b"#C BLIFWW 1 P 32 L 0\nx = 0, y = 0, rule = WireWorld\n!\n",
+        b"#C BLIFWW 2 P 32 L 0 C 1\nx = 0, y = 0, rule = WireWorld\n!\n",
         0,
         0,
         b"32 0 1",
@@ -98,9 +99,40 @@ const TABLES: &[(&[u8], u64, u64, &[u8])] = &[
         1,
         b"4 2 1, IN 2 0 a, OUT 0 0 a, NET 1 0 9 a -, NET 1 0 18446744073709551615 a 0.12.3",
     ),
+    // escapes, which version 1 does not have
+    (
+        b"#C BLIFWW 2 P 4 L 2 C 1\n#C BLIFWW IN 0 0 %61\n#C BLIFWW OUT 2 0 a%25\n#C BLIFWW NET 1 0 9 %c3%A9%20 0.1\n",
+        3,
+        1,
+        b"4 2 1, IN 0 0 a, OUT 2 0 a%, NET 1 0 9 \xc3\xa9  0.1",
+    ),
+    (
+        b"#C BLIFWW 1 P 4 L 2\n#C BLIFWW IN 0 0 %4\n#C BLIFWW IN 1 0 %61\n#C BLIFWW IN 2 0 a\n",
+        3,
+        1,
+        b"4 2 1, IN 0 0 %4, IN 1 0 %61, IN 2 0 a",
+    ),
+    (
+        b"#C BLIFWW 2 P 4 L 2 C 1\n#C BLIFWW IN 0 0 %4\n",
+        3,
+        1,
+        b"BadLine 2",
+    ),
+    (
+        b"#C BLIFWW 2 P 4 L 2 C 1\n#C BLIFWW NET 0 0 0 %0a -\n",
+        3,
+        1,
+        b"BadLine 2",
+    ),
+    (
+        b"#C BLIFWW 2 P 4 L 2 C 1\n#C BLIFWW IN 0 0 %61\n#C BLIFWW IN 1 0 a\n",
+        3,
+        1,
+        b"Twice 3",
+    ),
     // contexts
     (b"#C BLIFWW 1 P 4 L 2 C 1\n", 3, 1, b"4 2 1"),
-    (b"#C BLIFWW 1 P 64 L 2 C 2\n", 3, 1, b"64 2 2"),
+    (b"#C BLIFWW 2 P 64 L 2 C 2\n", 3, 1, b"64 2 2"),
     (b"#C BLIFWW 1 P 4 L 2 C 0\n", 3, 1, b"BadLine 1"),
     (b"#C BLIFWW 1 P 32 L 2 C 2\n", 3, 1, b"BadLine 1"),
     (b"#C BLIFWW 1 P 64 L 2 c 2\n", 3, 1, b"BadLine 1"),
@@ -119,6 +151,7 @@ const TABLES: &[(&[u8], u64, u64, &[u8])] = &[
     ),
     (b"#C BLIFWW 2 P 4 L 2\n", 3, 1, b"BadLine 1"),
     (b"#C BLIFWW 01 P 4 L 2\n", 3, 1, b"BadLine 1"),
+    (b"#C BLIFWW 3 P 4 L 2 C 1\n", 3, 1, b"BadLine 1"),
     (b"#C BLIFWW 1 P 4 L 2\n#C BLIFWW \n", 3, 1, b"BadLine 2"),
     (
         b"#C BLIFWW 1 P 4 L 2\n#C BLIFWW IN  0 0 a\n",
@@ -182,4 +215,46 @@ fn tables_are_read(rt: HostRuntime) -> Result<(), Fail> {
         expect(&said(rt.alloc(), text, *width, *height)?, want)?;
     }
     Ok(())
+}
+
+// Each byte but the line feed.
+fn name_of_all_bytes(alloc: Global) -> Result<Vec<u8>, AllocError> {
+    let mut name = Vec::new(alloc);
+    for byte in 0..=255u8 {
+        if byte != b'\n' {
+            name.push(byte)?;
+        }
+    }
+    Ok(name)
+}
+
+// The text of a table whose one input has a name.
+fn text_of(alloc: Global, name: Vec<u8>) -> Result<MemSink, Fail> {
+    let mut ins = Vec::new(alloc);
+    ins.push(PortLine {
+        x: 0,
+        y: 0,
+        name: List::of(name),
+    })?;
+    let ports = Ports {
+        p: 32,
+        l: 0,
+        c: 1,
+        ins: List::of(ins),
+        outs: List::of(Vec::new(alloc)),
+        nets: List::of(Vec::new(alloc)),
+    };
+    let mut sink = MemSink::new(alloc, 1000, 1000, &[])?;
+    write_line(&ports, 0, &mut sink)?;
+    write_line(&ports, 1, &mut sink)?;
+    Ok(sink)
+}
+
+#[test]
+fn a_name_of_all_bytes_is_read_back(rt: HostRuntime) -> Result<(), Fail> {
+    let alloc = rt.alloc();
+    let sink = text_of(alloc, name_of_all_bytes(alloc)?)?;
+    let mut want = b"32 0 1, IN 0 0 ".as_slice().to_vec(alloc)?;
+    want.extend_from_slice(&name_of_all_bytes(alloc)?)?;
+    expect(&said(alloc, sink.held(), 1, 1)?, &want)
 }

@@ -1,8 +1,7 @@
-// Cells as letters, and texts beside those that are wanted.
-ghost use Rattle.std.specs.Prelude.{◌≡◌, ◌≤◌, ◌+◌, length, IfOk, IsOk};
+// Cells as letters.
+ghost use Rattle.std.specs.Prelude.{◌≤◌, ◌+◌, length, IfOk};
 
 use std::alloc::{AllocError, Global};
-use std::test::Fail;
 use ww_rule::{CellRows, State};
 
 /// The letter of a cell, as in RLE.
@@ -37,15 +36,4 @@ pub fn drawn(alloc: Global, rows: &CellRows) -> Result<Vec<u8>, AllocError>
         text.push(b'$')?;
     }
     Ok(text)
-}
-
-/// Fails where a text is not the one that is wanted.
-pub fn expect(said: &[u8], want: &[u8]) -> Result<(), Fail>
-    ensures { IsOk result → said.now ≡ want.now }
-{
-    if said == want {
-        Ok(())
-    } else {
-        Err(Fail::new(format_args!("{said:?}, and not {want:?}")))
-    }
 }

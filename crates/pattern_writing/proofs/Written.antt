@@ -8,7 +8,7 @@ use Rattle.ww_rule.specs.Grid.{Grid}
 use Rattle.pattern_reading.specs.Lines.{Line, lines_of}
 use Rattle.pattern_reading.specs.Header.{is_skipped}
 use Rattle.pattern_reading.specs.Items.{Item, End, is_end, placed_after}
-use Rattle.pattern_reading.specs.PortLines.{PortForm, table_line, table_of}
+use Rattle.pattern_reading.specs.PortLines.{PortForm, table_entry, table_line, table_of, version_of_entries}
 use Rattle.pattern_reading.specs.Pattern.{ReadsAsPattern, fault_at, state_at}
 use Rattle.pattern_reading.specs.PortTable.{ReadsAsPorts, ports_of}
 use Rattle.pattern_reading.specs.Laws.{later_by}
@@ -95,8 +95,9 @@ module _ (grid : Grid) (w : IsWritable grid) where
   unfolding body
   no_table lines =
       let header = spelled_header_is grid w.width w.height in
-      ap (λ ls. filter_map table_line (take_while is_skipped ls)) (first_line (spelled_header grid.width grid.height) (lines_text lines ++ []) header.0)
-      ∙ ap (filter_map table_line) (ended (record { number = 1; bytes = spelled_header grid.width grid.height; is_ended = true }) (map (later_by 1) (lines_of (lines_text lines ++ []))) (not_skipped 1 (spelled_header grid.width grid.height) _ header.1.1))
+      ap (λ ls. filter_map (table_line (version_of_entries (filter_map table_entry ls))) ls) (
+      ap (take_while is_skipped) (first_line (spelled_header grid.width grid.height) (lines_text lines ++ []) header.0)
+      ∙ ended (record { number = 1; bytes = spelled_header grid.width grid.height; is_ended = true }) (map (later_by 1) (lines_of (lines_text lines ++ []))) (not_skipped 1 (spelled_header grid.width grid.height) _ header.1.1))
     where
       ended : (line : Line) (rest : List Line) → is_skipped line ≡ false → take_while is_skipped (line ∷ rest) ≡ []
       ended line rest e = take_while-cons is_skipped line rest ∙ rw e refl
@@ -114,8 +115,8 @@ pub written_ports : (grid : Grid) (forms : List PortForm) → HasWrittenPorts gr
 written_ports grid forms w h sound = ports_read grid w forms h sound
 
 pub written_text : (grid : Grid) (ports : Ports) → HasWrittenText grid ports
-written_text grid ports w table cells no_returns =
-    let spellable = spellable_lines ports table no_returns in
+written_text grid ports w table cells =
+    let spellable = spellable_lines ports table in
     let sound = sound_lines grid.width grid.height ports table cells in
     let read : ReadsAsPorts (pattern_text grid ports) grid.width grid.height (ports_of (port_forms ports)) = ports_read grid w (port_forms ports) spellable sound in
     (pattern_reads grid w (port_forms ports) spellable, rw (its_forms ports) at read)

@@ -51,7 +51,7 @@ or_grid = record { width = 33; height = 32; rows = map drawn_row or_rows }
 -- the lines that say where its ports are
 abbrev pub or_port_lines : List (List ℕ)
 or_port_lines =
-    codes "#C BLIFWW 1 P 32 L 32"
+    codes "#C BLIFWW 2 P 32 L 32 C 1"
     ∷ codes "#C BLIFWW IN 0 8 a"
     ∷ codes "#C BLIFWW IN 0 24 b"
     ∷ codes "#C BLIFWW OUT 32 8 y"
@@ -72,19 +72,19 @@ or_items_text =
     ++ codes "8$5C18.10C$5.C16.C$6.C14.C$7.C12.C$8.C10.C$9.C.2C5.C$10.2C.C3.C$11.2C.\n"
     ++ codes "C.C$15.C$11.2C.C$10.2C.C$9.C.2C$8.C$7.C$6.C$5.C$5C26.C!\n"
 
--- the whole text with ports, of 242 bytes
+-- the whole text with ports, of 246 bytes
 abbrev pub or_text : List ℕ
 or_text =
-    codes "#C BLIFWW 1 P 32 L 32\n"
+    codes "#C BLIFWW 2 P 32 L 32 C 1\n"
     ++ codes "#C BLIFWW IN 0 8 a\n"
     ++ codes "#C BLIFWW IN 0 24 b\n"
     ++ codes "#C BLIFWW OUT 32 8 y\n"
     ++ or_items_text
 
--- the whole text with ports and nets, of 317 bytes
+-- the whole text with ports and nets, of 321 bytes
 abbrev pub or_text_with_nets : List ℕ
 or_text_with_nets =
-    codes "#C BLIFWW 1 P 32 L 32\n"
+    codes "#C BLIFWW 2 P 32 L 32 C 1\n"
     ++ codes "#C BLIFWW IN 0 8 a\n"
     ++ codes "#C BLIFWW IN 0 24 b\n"
     ++ codes "#C BLIFWW OUT 32 8 y\n"
@@ -98,10 +98,10 @@ abbrev pub bare_grid : Grid
 bare_grid = record { width = 0; height = 0; rows = [] }
 
 abbrev pub bare_lines : List (List ℕ)
-bare_lines = codes "#C BLIFWW 1 P 32 L 0" ∷ []
+bare_lines = codes "#C BLIFWW 2 P 32 L 0 C 1" ∷ []
 
 abbrev pub bare_text : List ℕ
-bare_text = codes "#C BLIFWW 1 P 32 L 0\nx = 0, y = 0, rule = WireWorld\n!\n"
+bare_text = codes "#C BLIFWW 2 P 32 L 0 C 1\nx = 0, y = 0, rule = WireWorld\n!\n"
 
 -- a box of cells of all states, whose empty ends of rows, empty rows and empty last row are left out
 abbrev pub mixed_grid : Grid

@@ -7,7 +7,7 @@ use Rattle.pattern_reading.specs.PortLines.{PortForm}
 use Rattle.pattern_reading.specs.PortTable.{ReadsAsPorts, ports_of}
 use Rattle.pattern_reading.specs.Pattern.{ReadsAsPattern}
 use Rattle.pattern_reading.specs.Laws.{HasCellsInside}
-use Rattle.pattern_reading.specs.SoundTable.{HasNoReturns, IsSoundTable}
+use Rattle.pattern_reading.specs.SoundTable.{IsSoundTable}
 use Rattle.pattern_reading.specs.Spelling.{IsSpellable, IsSoundAfter, port_lines, spelled_line}
 use Rattle.pattern_writing.specs.Writer.{writer_text}
 
@@ -34,8 +34,8 @@ abbrev pub HasWrittenPorts : Grid → List PortForm → Type 0
 HasWrittenPorts grid forms =
     IsWritable grid → AllByRecursion IsSpellable forms → IsSoundAfter grid.width grid.height [] forms → ReadsAsPorts (written grid forms) grid.width grid.height (ports_of forms)
 
--- The writer's text of a pattern and its ports reads as both, where the ports' cells lie in the pattern's box, and their names are
--- words without carriage returns, each of one port.
+-- The writer's text of a pattern and its ports reads as both, where the ports' cells lie in the pattern's box, and their names can
+-- stand in a table, each of one port.
 abbrev pub HasWrittenText : Grid → Ports → Type 0
 HasWrittenText grid ports =
-    IsWritable grid → IsSoundTable ports → HasCellsInside grid.width grid.height ports → HasNoReturns ports → ReadsAsPattern (pattern_text grid ports) grid × ReadsAsPorts (pattern_text grid ports) grid.width grid.height ports
+    IsWritable grid → IsSoundTable ports → HasCellsInside grid.width grid.height ports → ReadsAsPattern (pattern_text grid ports) grid × ReadsAsPorts (pattern_text grid ports) grid.width grid.height ports

@@ -21,7 +21,10 @@ use std::collections::BTreeSet;
 
 // Offers the ports whose names are not in the set.
 fn offer_others<'a>(earliest: &mut Earliest<'a>, names: &BTreeSet<&[u8]>, ports: &'a [Port])
-    ensures { earliest_word earliest.new ≡ earliest_after (earliest_word earliest.old) (ports_unless (holds_name names.now) ports.now) }
+    ensures { earliest_word earliest.new
+        ≡ earliest_after (earliest_word earliest.old) (
+        ports_unless (holds_name names.now) ports.now
+        ) }
 {
     for port in ports {
         let word = Word {
@@ -48,7 +51,10 @@ fn line_fault(
     named: &NamedModels<'_>,
     line: &Subckt,
 ) -> Result<Option<Fault>, AllocError>
-    ensures { IfOk result (λ found. found ≡ option_map (fault_of_port PinMissing) (slice_get (missing_pin named.now line.now) 0)) }
+    ensures { IfOk result (λ found.
+        found
+        ≡ option_map (fault_of_port PinMissing) (slice_get (missing_pin named.now line.now) 0)
+        ) }
 {
     let Some(placed) = named.model(line.model.as_slice()) else {
         return Ok(None);

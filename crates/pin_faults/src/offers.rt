@@ -8,7 +8,10 @@ use model_words::{Earliest, Word};
 
 /// Offers a word, if it breaks the rule.
 pub fn offer_if<'a>(earliest: &mut Earliest<'a>, breaks: bool, word: Word<'a>)
-    ensures { earliest_word earliest.new ≡ earliest_after (earliest_word earliest.old) (option_to_list (then_some breaks (word_port word.entry))) }
+    ensures { earliest_word earliest.new
+        ≡ earliest_after (earliest_word earliest.old) (
+        option_to_list (then_some breaks (word_port word.entry))
+        ) }
 {
     if breaks {
         earliest.offer(word);

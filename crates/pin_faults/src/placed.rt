@@ -14,7 +14,8 @@ use std::alloc::{AllocError, Global};
 
 // Offers the model that a line names, where there is none.
 fn offer_line<'a>(earliest: &mut Earliest<'a>, named: &NamedModels<'_>, line: &'a Subckt)
-    ensures { earliest_word earliest.new ≡ earliest_after (earliest_word earliest.old) (missing_model named.now line.now) }
+    ensures { earliest_word earliest.new
+        ≡ earliest_after (earliest_word earliest.old) (missing_model named.now line.now) }
 {
     let word = Word {
         line: line.line,

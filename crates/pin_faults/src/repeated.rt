@@ -19,7 +19,10 @@ fn offer_line<'a>(
     earliest: &mut Earliest<'a>,
     line: &'a Subckt,
 ) -> Result<(), AllocError>
-    ensures { OnOk result (earliest_word earliest.new ≡ earliest_after (earliest_word earliest.old) (repeats (formals_of line.now))) }
+    ensures { OnOk result (
+        earliest_word earliest.new
+        ≡ earliest_after (earliest_word earliest.old) (repeats (formals_of line.now))
+        ) }
 {
     let mut seen = BTreeSet::new(alloc);
     for pin in line.pins.as_slice() {

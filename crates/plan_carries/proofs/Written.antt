@@ -43,7 +43,7 @@ texts_carry_contexts law pictures written readable shown flat list plan ports st
     let many : length (map (loop_state list) starts) ≡ length starts = length-map starts (loop_state list) in
     let fits : HasRoom plan (length starts) = record { some = λ e. omega (arith, some, e); room = λ more. omega (arith, contexts_apart plan (map (loop_state list) starts) lit s.on_plan, many) } in
     let table = readable flat plan (length starts) ports k.sound.in_range k.named k.names k.places k.admissible fits k.table in
-    let reads = written (grid_with plan lit) ports (record { in_rows = picture.box; width = omega (arith, size.0); height = omega (arith, size.1) }) table.sound table.inside table.no_returns in
+    let reads = written (grid_with plan lit) ports (record { in_rows = picture.box; width = omega (arith, size.0); height = omega (arith, size.1) }) table.sound table.inside in
     record {
       grid = grid_with plan lit;
       ports = ports;

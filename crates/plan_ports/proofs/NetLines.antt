@@ -85,15 +85,12 @@ module _ (flat : Flat) (plan : Plan) (h : IsAdmissible plan) (names : HasPortNam
     x = omega (arith, at.0, wide);
     y = omega (arith, at.1, high);
     offset = at.2;
-    name = record { not_empty = words.0.0; bytes = λ k d lt. ((words.0.1 k d lt).0, (words.0.1 k d lt).2) };
+    name = words.0;
     path = words.1;
   })
 
   pub nets_inside : AllByRecursion (IsNetInside (size_of plan).0 (size_of plan).1) lines
   nets_inside = each (IsNetInside (size_of plan).0 (size_of plan).1) (λ line at words. (at.0, at.1))
-
-  pub nets_plain : AllByRecursion (λ (line : NetLine). All (λ b. b ≢ 13) line.name) lines
-  nets_plain = each (λ (line : NetLine). All (λ b. b ≢ 13) line.name) (λ line at words k d lt. (words.0.1 k d lt).1)
 
   abbrev seen : List FlatNet
   seen = nets_but_clocks flat

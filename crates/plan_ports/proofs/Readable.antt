@@ -18,7 +18,7 @@ use Rattle.pattern_reading.specs.Spelling.{IsPortName}
 use Rattle.pattern_reading.specs.SoundTable.{IsSoundPort}
 use Rattle.pattern_reading.specs.Laws.{IsPortInside}
 use Rattle.plan_ports.specs.Tables.{HasPortNames}
-use Rattle.plan_ports.proofs.NetLines.{nets_sound, nets_inside, nets_plain, one_net}
+use Rattle.plan_ports.proofs.NetLines.{nets_sound, nets_inside, one_net}
 use Rattle.plan_ports.specs.Laws.{HasRoom, TablesAreReadable}
 
 -- lines have what their cells and their names give
@@ -100,14 +100,11 @@ module _ (flat : Flat) (plan : Plan) (h : IsAdmissible plan) (names : HasPortNam
   lines_sound = each IsSoundPort (λ line at name. record {
     x = omega (arith, at.0, (small_size plan h).0);
     y = omega (arith, at.1, (small_size plan h).1);
-    name = record { not_empty = name.0; bytes = λ k d lt. ((name.1 k d lt).0, (name.1 k d lt).2) };
+    name = name;
   })
 
   lines_inside : AllByRecursion (IsPortInside (size_of plan).0 (size_of plan).1) lines
   lines_inside = each (IsPortInside (size_of plan).0 (size_of plan).1) (λ line at name. at)
-
-  lines_plain : AllByRecursion (λ line. All (λ b. b ≢ 13) line.name) lines
-  lines_plain = each (λ line. All (λ b. b ≢ 13) line.name) (λ line at name k d lt. (name.1 k d lt).1)
 
 -- each period has room for one context
 pub one_has_room : (plan : Plan) → HasRoom plan 1
@@ -132,10 +129,5 @@ tables_are_readable flat plan c ports range named names places h room t = record
     ins = lines_inside flat plan h names flat.ins range.ins ports.ins 0 plan.ins h.ins (omega arith) t.in_cells t.in_names;
     outs = lines_inside flat plan h names flat.outs range.outs ports.outs (length plan.columns) plan.outs h.outs (omega arith) t.out_cells t.out_names;
     nets = nets_inside flat plan h names places ports.nets t.net_cells t.net_names;
-  };
-  no_returns = record {
-    ins = lines_plain flat plan h names flat.ins range.ins ports.ins 0 plan.ins h.ins (omega arith) t.in_cells t.in_names;
-    outs = lines_plain flat plan h names flat.outs range.outs ports.outs (length plan.columns) plan.outs h.outs (omega arith) t.out_cells t.out_names;
-    nets = nets_plain flat plan h names places ports.nets t.net_cells t.net_names;
   };
 }

@@ -5,7 +5,7 @@ use Rattle.lane_core.specs.Plans.{IsAdmissible, period_of, size_of}
 use Rattle.netlist_core.specs.declared.flat.Flat.{Flat}
 use Rattle.netlist_meaning.specs.Flat.{IsInRange, IsNamed}
 use Rattle.pattern_reading.specs.declared.ports.Ports.{Ports}
-use Rattle.pattern_reading.specs.SoundTable.{IsSoundTable, HasNoReturns}
+use Rattle.pattern_reading.specs.SoundTable.{IsSoundTable}
 use Rattle.pattern_reading.specs.Laws.{HasCellsInside}
 use Rattle.plan_ports.specs.Tables.{IsTableOf, HasPortNames, HasTablePlaces}
 
@@ -13,7 +13,6 @@ use Rattle.plan_ports.specs.Tables.{IsTableOf, HasPortNames, HasTablePlaces}
 pub record IsReadable (width height : ℕ) (ports : Ports) : Type 0 where
   pub sound : IsSoundTable ports
   pub inside : HasCellsInside width height ports
-  pub no_returns : HasNoReturns ports
 
 -- a plan's period has room for so many contexts: for one, and for more where each has 32 generations of it
 pub record HasRoom (plan : Plan) (c : ℕ) : Type 0 where

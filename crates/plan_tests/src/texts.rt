@@ -81,8 +81,8 @@ fn gate_ports(alloc: Global) -> Result<Ports, Fail> {
     })
 }
 
-// 317 bytes.
-const TEXT_WITH_NETS: &[u8] = b"#C BLIFWW 1 P 32 L 32
+// 321 bytes.
+const TEXT_WITH_NETS: &[u8] = b"#C BLIFWW 2 P 32 L 32 C 1
 #C BLIFWW IN 0 8 a
 #C BLIFWW IN 0 24 b
 #C BLIFWW OUT 32 8 y
@@ -116,7 +116,7 @@ fn a_plan_is_written_by_its_cells_and_ports(rt: HostRuntime) -> Result<(), Fail>
 const FAILING: [(usize, usize, u64, usize); 4] = [
     (0, 1000, 9, 0),
     (100, 1000, 9, 100),
-    (316, 1000, 9, 316),
+    (320, 1000, 9, 320),
     (1000, 7, 2, 14),
 ];
 
@@ -163,7 +163,9 @@ fn a_wide_plan_is_written_in_lines_of_70_bytes(rt: HostRuntime) -> Result<(), Fa
     let sink = wide_text(rt.alloc())?;
     assert!(rt; sink.held().len() > 8192);
     assert!(rt;
-        sink.held().starts_with(b"#C BLIFWW 1 P 32 L 3200\nx = 3201, y = 32, rule = WireWorld\n")
+        sink.held().starts_with(
+            b"#C BLIFWW 2 P 32 L 3200 C 1\nx = 3201, y = 32, rule = WireWorld\n"
+        )
     );
     assert!(rt; sink.held().ends_with(b"C!\n"));
     Ok(())

@@ -2,3 +2,4 @@ pub mod Fields
 pub mod SeenNames
 pub mod Walking
 pub mod Walk
+pub mod EscapedNames

@@ -1,39 +1,57 @@
 -- A text's table line by line, and its faults.
-use Rattle.std.proofs.Common.{ℕ, suc, ◌+◌, ◌<◌, ◌≡◌, refl, sym, ap, ◌∙◌, subst, Bool, true, false, cond, not, ◌==◌, List, [], ◌∷◌, ◌++◌, length, map, take, drop, get_or, Option, Some, None, arith, drop-cons}
-use Rattle.std.specs.Prelude.{filter_map, option_map, slice_get, take_while, if◌then◌else◌}
+use Rattle.std.proofs.Common.{ℕ, suc, ◌+◌, ◌<◌, ◌≡◌, refl, sym, ap, ◌∙◌, subst, Bool, true, false, cond, not, ◌==◌, List, [], ◌∷◌, ◌++◌, length, map, drop, get_or, Option, Some, None, arith, drop-cons}
+use Rattle.std.specs.Prelude.{filter_map, option_map, slice_get, take_while, if◌then◌else◌, unwrap_or}
 use Rattle.std.specs.List.{cons_option, list_any}
 use Rattle.std.specs.Option.{option_to_list}
-use Rattle.std.proofs.lemmas.List.{take_more, append-nil}
+use Rattle.std.proofs.lemmas.List.{append-nil}
 use Rattle.std.proofs.lemmas.List.Elements.{filter_map-append}
 use Rattle.std.proofs.lemmas.Option.{none-some}
 use Rattle.std.proofs.lemmas.List.Sums.{take_while-cons}
 use Rattle.pattern_reading.specs.Lines.{Line, lines_from, with_line_feeds}
 use Rattle.pattern_reading.specs.Numbers.{◌>>=◌}
+use Rattle.pattern_reading.specs.declared.ports.TableVersion.{TableVersion}
+use Rattle.pattern_reading.specs.declared.ports.TableVersion.TheVariants.{Raw}
 use Rattle.pattern_reading.specs.Header.{is_skipped}
-use Rattle.pattern_reading.specs.PortLines.{PortForm, TableLine, table_line, table_of}
+use Rattle.pattern_reading.specs.PortLines.{PortForm, TableLine, table_entry, table_line, table_of, first_field, version_named, version_of_entries}
 use Rattle.pattern_reading.specs.PortTable.{PortFaultAt, is_version, is_outside, is_same_port, is_misplaced, fault_of_form, faults_after, ports_of, ReadsAsPorts}
 use Rattle.pattern_reading.specs.declared.faults.PortFaultKind.{PortFaultKind}
 use Rattle.pattern_reading.specs.declared.faults.PortFaultKind.TheVariants.{Twice}
 use Rattle.std.proofs.lemmas.Bool.{ne_eqb}
 use Rattle.port_table.specs.declared.table.TableLine as lent
-use Rattle.port_table.specs.Lent.{table_line_of, form_of, forms_in}
-use Rattle.port_table.proofs.Walk.{BeginsWithLine, table_from}
+use Rattle.port_table.specs.Lent.{table_line_of, form_of, forms_in, said_by}
+use Rattle.port_table.proofs.Walk.{BeginsWithLine, table_from, version_from}
 
 -- the table ends before a line that is not skipped
-table_ends : (n : ℕ) (text rest : List ℕ) (line : Line) → BeginsWithLine n text line rest → is_skipped line ≡ false → table_from n text ≡ []
-table_ends n text rest line first skipped = rw (first, skipped) refl
+table_ends : (v : TableVersion) (n : ℕ) (text rest : List ℕ) (line : Line) → BeginsWithLine n text line rest → is_skipped line ≡ false → table_from v n text ≡ []
+table_ends v n text rest line first skipped = rw (first, skipped) refl
+
+pub version_ends : (n : ℕ) (text rest : List ℕ) (line : Line) → BeginsWithLine n text line rest → is_skipped line ≡ false → version_from n text ≡ Raw
+version_ends n text rest line first skipped = rw (first, skipped) refl
 
 -- a line that is skipped, and perhaps is one of the table
-by_entry : (t : Option TableLine) (line : Line) (lines : List Line) → table_line line ≡ t → filter_map table_line (line ∷ lines) ≡ cons_option t (filter_map table_line lines)
-by_entry None line lines e = rw e refl
-by_entry (Some x) line lines e = rw e refl
+module _ {A : Type 0} (read : Line → Option A) where
+  by_read : (t : Option A) (line : Line) (lines : List Line) → read line ≡ t → filter_map read (line ∷ lines) ≡ cons_option t (filter_map read lines)
+  by_read None line lines e = rw e refl
+  by_read (Some x) line lines e = rw e refl
 
-table_goes_on : (n : ℕ) (text rest : List ℕ) (line : Line) (t : Option TableLine) → BeginsWithLine n text line rest → is_skipped line ≡ true → t ≡ table_line line → table_from n text ≡ cons_option t (table_from (n + 1) rest)
-table_goes_on n text rest line t first skipped is =
-    let lines = lines_from (n + 1) (with_line_feeds rest) in
-    ap (λ ls. filter_map table_line (take_while is_skipped ls)) first
-    ∙ ap (λ ls. filter_map table_line ls) (take_while-cons is_skipped line lines ∙ ap (λ b. cond b (line ∷ take_while is_skipped lines) []) skipped)
-    ∙ by_entry t line (take_while is_skipped lines) (sym is)
+  goes_on : (n : ℕ) (text rest : List ℕ) (line : Line) (t : Option A) → BeginsWithLine n text line rest → is_skipped line ≡ true → read line ≡ t
+      → filter_map read (take_while is_skipped (lines_from n (with_line_feeds text))) ≡ cons_option t (filter_map read (take_while is_skipped (lines_from (n + 1) (with_line_feeds rest))))
+  goes_on n text rest line t first skipped is =
+      let lines = lines_from (n + 1) (with_line_feeds rest) in
+      ap (λ ls. filter_map read (take_while is_skipped ls)) first
+      ∙ ap (λ ls. filter_map read ls) (take_while-cons is_skipped line lines ∙ ap (λ b. cond b (line ∷ take_while is_skipped lines) []) skipped)
+      ∙ by_read t line (take_while is_skipped lines) is
+
+table_goes_on : (v : TableVersion) (n : ℕ) (text rest : List ℕ) (line : Line) (t : Option TableLine) → BeginsWithLine n text line rest → is_skipped line ≡ true → t ≡ table_line v line → table_from v n text ≡ cons_option t (table_from v (n + 1) rest)
+table_goes_on v n text rest line t first skipped is = goes_on (table_line v) n text rest line t first skipped (sym is)
+
+-- the first line of the table names its version
+pub version_is : (n : ℕ) (text rest : List ℕ) (line : Line) (entry : List ℕ) → BeginsWithLine n text line rest → is_skipped line ≡ true → table_entry line ≡ Some entry
+    → version_from n text ≡ unwrap_or (version_named (first_field entry)) Raw
+version_is n text rest line entry first skipped is = ap version_of_entries (goes_on table_entry n text rest line (Some entry) first skipped is)
+
+pub version_goes_on : (n : ℕ) (text rest : List ℕ) (line : Line) → BeginsWithLine n text line rest → is_skipped line ≡ true → table_entry line ≡ None → version_from n text ≡ version_from (n + 1) rest
+version_goes_on n text rest line first skipped is = ap version_of_entries (goes_on table_entry n text rest line None first skipped is)
 
 -- all of some forms
 pub kept_forms : (forms : List PortForm) → filter_map (λ line. line) (map Some forms) ≡ forms
@@ -84,21 +102,19 @@ one_more read (Some form) = by_read (read form) refl
     by_read None e = rw e refl
     by_read (Some x) e = rw e refl
 
-pub said_more : {A : Type 0} (read : PortForm → Option A) (lines : List lent.TableLine) (i : ℕ) (d : lent.TableLine) (form : Option PortForm) → i < length lines → option_map form_of (get_or lines i d).form ≡ form → filter_map read (forms_in (take (i + 1) lines)) ≡ filter_map read (forms_in (take i lines)) ++ option_to_list (form >>= read)
-said_more read lines i d form l e =
+pub said_more : {A : Type 0} (read : PortForm → Option A) (lines : List lent.TableLine) (line : lent.TableLine) → filter_map read (forms_in (lines ++ line ∷ [])) ≡ filter_map read (forms_in lines) ++ said_by read line.form
+said_more read lines line =
     let forms : lent.TableLine → Option PortForm = λ x. option_map form_of x.form in
-    ap (λ ls. filter_map read (forms_in ls)) (take_more lines i d l)
-    ∙ ap (λ fs. filter_map read fs) (filter_map-append forms (take i lines) (get_or lines i d ∷ []))
-    ∙ filter_map-append read (forms_in (take i lines)) (cons_option (forms (get_or lines i d)) [])
-    ∙ ap (λ f. filter_map read (forms_in (take i lines)) ++ filter_map read (cons_option f [])) e
-    ∙ ap (λ xs. filter_map read (forms_in (take i lines)) ++ xs) (one_more read form)
+    ap (λ fs. filter_map read fs) (filter_map-append forms lines (line ∷ []))
+    ∙ filter_map-append read (forms_in lines) (cons_option (forms line) [])
+    ∙ ap (λ xs. filter_map read (forms_in lines) ++ xs) (one_more read (forms line))
 
 -- the walk over a text's table, one line further
-pub walked_on : (n : ℕ) (text rest : List ℕ) (line : Line) (lines : List lent.TableLine) (t : Option lent.TableLine) (all : List TableLine) → BeginsWithLine n text line rest → is_skipped line ≡ true → option_map table_line_of t ≡ table_line line → map table_line_of lines ++ table_from n text ≡ all → (found : Option lent.TableLine) → t ≡ found → map table_line_of (lines ++ option_to_list found) ++ table_from (n + 1) rest ≡ all
-walked_on n text rest line lines t all first skipped is e found same =
-    by_found found (table_from (n + 1) rest) lines
-    ∙ ap (λ f. map table_line_of lines ++ cons_option (option_map table_line_of f) (table_from (n + 1) rest)) (sym same)
-    ∙ ap (λ ls. map table_line_of lines ++ ls) (sym (table_goes_on n text rest line (option_map table_line_of t) first skipped is))
+pub walked_on : (v : TableVersion) (n : ℕ) (text rest : List ℕ) (line : Line) (lines : List lent.TableLine) (t : Option lent.TableLine) (all : List TableLine) → BeginsWithLine n text line rest → is_skipped line ≡ true → option_map table_line_of t ≡ table_line v line → map table_line_of lines ++ table_from v n text ≡ all → (found : Option lent.TableLine) → t ≡ found → map table_line_of (lines ++ option_to_list found) ++ table_from v (n + 1) rest ≡ all
+walked_on v n text rest line lines t all first skipped is e found same =
+    by_found found (table_from v (n + 1) rest) lines
+    ∙ ap (λ f. map table_line_of lines ++ cons_option (option_map table_line_of f) (table_from v (n + 1) rest)) (sym same)
+    ∙ ap (λ ls. map table_line_of lines ++ ls) (sym (table_goes_on v n text rest line (option_map table_line_of t) first skipped is))
     ∙ e
   where
     by_found : (o : Option lent.TableLine) (more : List TableLine) (ls : List lent.TableLine) → map table_line_of (ls ++ option_to_list o) ++ more ≡ map table_line_of ls ++ cons_option (option_map table_line_of o) more
@@ -106,9 +122,9 @@ walked_on n text rest line lines t all first skipped is e found same =
     by_found (Some x) more [] = refl
     by_found o more (l ∷ ls) = ap (λ xs. table_line_of l ∷ xs) (by_found o more ls)
 
-pub walk_ends : (n : ℕ) (text rest : List ℕ) (line : Line) (lines : List TableLine) (all : List TableLine) → BeginsWithLine n text line rest → is_skipped line ≡ false → lines ++ table_from n text ≡ all → lines ≡ all
-walk_ends n text rest line lines all first skipped e =
-    sym (append-nil lines) ∙ ap (λ ls. lines ++ ls) (sym (table_ends n text rest line first skipped)) ∙ e
+pub walk_ends : (v : TableVersion) (n : ℕ) (text rest : List ℕ) (line : Line) (lines : List TableLine) (all : List TableLine) → BeginsWithLine n text line rest → is_skipped line ≡ false → lines ++ table_from v n text ≡ all → lines ≡ all
+walk_ends v n text rest line lines all first skipped e =
+    sym (append-nil lines) ∙ ap (λ ls. lines ++ ls) (sym (table_ends v n text rest line first skipped)) ∙ e
 
 -- a line with a form and no fault
 pub has_form : (width height : ℕ) (before : List (Option PortForm)) (form : Option PortForm) → None ≡ fault_of_form width height before form → (f : PortForm) × (form ≡ Some f)

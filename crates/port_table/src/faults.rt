@@ -19,15 +19,15 @@ pub struct PortFault {
 }
 
 // Whether a line is the version line.
-fn is_version(form: PortForm<'_>) -> bool
-    ensures { result ≡ is_version (form_of form.entry) }
+fn is_version(form: &PortForm) -> bool
+    ensures { result ≡ is_version (form_of form.now) }
 {
     matches!(form, PortForm::Version { .. })
 }
 
 // Whether the cell of a line is outside a box; a version line has no cell.
-fn is_outside(width: u64, height: u64, form: PortForm<'_>) -> bool
-    ensures { result ≡ is_outside width height (form_of form.entry) }
+fn is_outside(width: u64, height: u64, form: &PortForm) -> bool
+    ensures { result ≡ is_outside width height (form_of form.now) }
 {
     match form {
         PortForm::Version { .. } => false,
@@ -43,12 +43,12 @@ fn fault_of_form<'a>(
     is_first: bool,
     width: u64,
     height: u64,
-    form: Option<PortForm<'a>>,
+    form: &'a Option<PortForm>,
 ) -> Result<Option<PortFaultKind>, AllocError>
     ensures fault { IfOk result (λ fault. (before : List lines.PortForm) → HasSeen seen.old before → is_first ≡ (length before == 0) →
-        fault ≡ fault_of_form width height (map Some before) (option_map form_of form.entry)) }
+        fault ≡ fault_of_form width height (map Some before) (option_map form_of form.now)) }
     ensures seen { IfOk result (λ fault. (before : List lines.PortForm) (next : lines.PortForm) → HasSeen seen.old before → fault ≡ None →
-        option_map form_of form.entry ≡ Some next → HasSeen seen.new (before ++ next ∷ [])) }
+        option_map form_of form.now ≡ Some next → HasSeen seen.new (before ++ next ∷ [])) }
 {
     let Some(form) = form else {
         return Ok(Some(PortFaultKind::BadLine));
@@ -70,7 +70,7 @@ fn fault_of_form<'a>(
 /// The first fault of a table's lines in a box of this width and height, if they have one.
 pub fn first_fault(
     alloc: Global,
-    lines: &[TableLine<'_>],
+    lines: &[TableLine],
     width: u64,
     height: u64,
 ) -> Result<Option<PortFault>, AllocError>
@@ -79,7 +79,7 @@ pub fn first_fault(
 {
     let mut seen = Seen::new(alloc);
     for (index, line) in lines.iter().enumerate() {
-        if let Some(kind) = fault_of_form(&mut seen, index == 0, width, height, line.form)? {
+        if let Some(kind) = fault_of_form(&mut seen, index == 0, width, height, &line.form)? {
             return Ok(Some(PortFault {
                 kind,
                 line: line.number,

@@ -1,56 +1,33 @@
-// The forms of the table's lines, over the bytes of the text.
+// The forms of the table's lines.
 ghost use Rattle.std.specs.Prelude.{◌≡◌, ◌==◌, [], ◌∷◌, take, map, option_map, Some, IfOk};
 ghost use Rattle.std.specs.List.{slice_split};
-ghost use Rattle.std.specs.Option.{option_copied};
 ghost use Rattle.std.specs.Str.{byte};
-ghost use Rattle.lists.specs.Bytes.{non_empty};
-ghost use Rattle.pattern_reading.specs.PortLines.{form_of_fields, has_room, count_in, version_in, port_in, net_in};
-ghost use Rattle.port_table.specs.Lent.{form_of, lent_port, lent_net};
+ghost use Rattle.pattern_reading.specs.PortLines.{form_of_fields, has_room, count_in, uncounted, version_in, version_named, port_in, net_in};
+ghost use Rattle.pattern_reading.specs.declared.ports.TableVersion.TheVariants.{Raw};
+ghost use Rattle.port_table.specs.Lent.{form_of};
 
+use crate::names::name_of_field;
 use crate::numbers::path_in;
+use lists::copied;
 use pattern_lines::number_in;
+use pattern_reading::{NetLine, PortLine, TableVersion};
 use std::alloc::{AllocError, Global};
 
-/// A port, and where its name stands in the text.
-#[derive(Clone, Copy)]
-pub struct PortWords<'a> {
-    pub x: u64,
-    pub y: u64,
-    pub name: &'a [u8],
-}
-
-/// A net, and where its name and path stand in the text.
-#[derive(Clone, Copy)]
-pub struct NetWords<'a> {
-    pub x: u64,
-    pub y: u64,
-    pub offset: u64,
-    pub name: &'a [u8],
-    pub path: &'a [u8],
-}
-
 /// What a line of the table says.
-#[derive(Clone, Copy)]
-pub enum PortForm<'a> {
-    /// `1 P p L l`, and ` C c` after it, which may be left out where c is 1
+#[derive(Drop)]
+pub enum PortForm {
+    /// `2 P p L l C c`; in version 1 `1 P p L l C c`, or `1 P p L l` where c is 1
     Version {
         period: u64,
         latency: u64,
         contexts: u64,
     },
     /// `IN x y name`
-    In(PortWords<'a>),
+    In(PortLine),
     /// `OUT x y name`
-    Out(PortWords<'a>),
+    Out(PortLine),
     /// `NET x y offset name path`
-    Net(NetWords<'a>),
-}
-
-// The bytes, if there is at least one.
-fn non_empty(bytes: &[u8]) -> Option<&[u8]>
-    ensures { option_copied result ≡ non_empty bytes.now }
-{
-    if bytes.is_empty() { None } else { Some(bytes) }
+    Net(NetLine),
 }
 
 // Whether a period has room for so many contexts: for one, and for more where each has 32 generations of it.
@@ -71,18 +48,40 @@ fn count_in(c_word: &[u8], c: &[u8]) -> Option<u64>
     }
 }
 
-// What a version line says: its period is not 0, and has room for its contexts.
-fn version_in<'a>(
-    version: &[u8],
+/// The version that a word names.
+pub fn version_named(word: &[u8]) -> Option<TableVersion>
+    ensures { result ≡ version_named word.now }
+{
+    if word == b"1".as_slice() {
+        Some(TableVersion::Raw)
+    } else if word == b"2".as_slice() {
+        Some(TableVersion::Escaped)
+    } else {
+        None
+    }
+}
+
+// The number of contexts where a version line does not say it.
+fn uncounted(version: TableVersion) -> Option<u64>
+    ensures { result ≡ uncounted version }
+{
+    match version {
+        TableVersion::Raw => Some(1),
+        TableVersion::Escaped => None,
+    }
+}
+
+// What a version line says, by the fields after the version: its period is not 0, and has room for its contexts.
+fn version_in(
     p_word: &[u8],
     p: &[u8],
     l_word: &[u8],
     l: &[u8],
     contexts: Option<u64>,
-) -> Option<PortForm<'a>>
-    ensures { option_map form_of result ≡ version_in version.now p_word.now p.now l_word.now l.now contexts }
+) -> Option<PortForm>
+    ensures { option_map form_of result ≡ version_in p_word.now p.now l_word.now l.now contexts }
 {
-    if version != b"1".as_slice() || p_word != b"P".as_slice() || l_word != b"L".as_slice() {
+    if p_word != b"P".as_slice() || l_word != b"L".as_slice() {
         return None;
     }
     let period = number_in(p)?;
@@ -98,76 +97,154 @@ fn version_in<'a>(
     })
 }
 
-fn port_in<'a>(x: &[u8], y: &[u8], name: &'a [u8]) -> Option<PortWords<'a>>
-    ensures { option_map lent_port result ≡ port_in x.now y.now name.now }
+// A version line that does not say the number of contexts.
+fn uncounted_line(
+    number: &[u8],
+    p_word: &[u8],
+    p: &[u8],
+    l_word: &[u8],
+    l: &[u8],
+) -> Option<PortForm>
+    ensures { option_map form_of result ≡
+        form_of_fields Raw (number.now ∷ p_word.now ∷ p.now ∷ l_word.now ∷ l.now ∷ []) }
 {
-    Some(PortWords {
-        x: number_in(x)?,
-        y: number_in(y)?,
-        name: non_empty(name)?,
-    })
+    let version = version_named(number)?;
+    version_in(p_word, p, l_word, l, uncounted(version))
 }
 
-fn net_in<'a>(
+// A version line that says it.
+fn counted_line(
+    number: &[u8],
+    p_word: &[u8],
+    p: &[u8],
+    l_word: &[u8],
+    l: &[u8],
+    c_word: &[u8],
+    c: &[u8],
+) -> Option<PortForm>
+    ensures { option_map form_of result ≡
+        form_of_fields Raw (number.now ∷ p_word.now ∷ p.now ∷ l_word.now ∷ l.now ∷ c_word.now ∷ c.now ∷ []) }
+{
+    version_named(number)?;
+    version_in(p_word, p, l_word, l, count_in(c_word, c))
+}
+
+fn port_in(
+    alloc: Global,
+    version: TableVersion,
+    x: &[u8],
+    y: &[u8],
+    name: &[u8],
+) -> Result<Option<PortLine>, AllocError>
+    ensures { IfOk result (λ port. port ≡ port_in version x.now y.now name.now) }
+{
+    let Some(x) = number_in(x) else {
+        return Ok(None);
+    };
+    let Some(y) = number_in(y) else {
+        return Ok(None);
+    };
+    let Some(name) = name_of_field(alloc, version, name)? else {
+        return Ok(None);
+    };
+    Ok(Some(PortLine { x, y, name }))
+}
+
+fn net_in(
+    alloc: Global,
+    version: TableVersion,
     x: &[u8],
     y: &[u8],
     offset: &[u8],
-    name: &'a [u8],
-    path: &'a [u8],
-) -> Option<NetWords<'a>>
-    ensures { option_map lent_net result ≡ net_in x.now y.now offset.now name.now path.now }
+    name: &[u8],
+    path: &[u8],
+) -> Result<Option<NetLine>, AllocError>
+    ensures { IfOk result (λ net. net ≡ net_in version x.now y.now offset.now name.now path.now) }
 {
-    Some(NetWords {
-        x: number_in(x)?,
-        y: number_in(y)?,
-        offset: number_in(offset)?,
-        name: non_empty(name)?,
-        path: path_in(path)?,
-    })
+    let Some(offset) = number_in(offset) else {
+        return Ok(None);
+    };
+    let Some(path) = path_in(path) else {
+        return Ok(None);
+    };
+    let Some(port) = port_in(alloc, version, x, y, name)? else {
+        return Ok(None);
+    };
+    Ok(Some(NetLine {
+        x: port.x,
+        y: port.y,
+        offset,
+        name: port.name,
+        path: copied(alloc, path)?,
+    }))
 }
 
 // An input or an output.
-fn named_port<'a>(kind: &[u8], x: &[u8], y: &[u8], name: &'a [u8]) -> Option<PortForm<'a>>
-    ensures { option_map form_of result ≡ form_of_fields (kind.now ∷ x.now ∷ y.now ∷ name.now ∷ []) }
+fn named_port(
+    alloc: Global,
+    version: TableVersion,
+    kind: &[u8],
+    x: &[u8],
+    y: &[u8],
+    name: &[u8],
+) -> Result<Option<PortForm>, AllocError>
+    ensures { IfOk result (λ form. option_map form_of form ≡ form_of_fields version (kind.now ∷ x.now ∷ y.now ∷ name.now ∷ [])) }
 {
-    if kind == b"IN".as_slice() {
-        return Some(PortForm::In(port_in(x, y, name)?));
+    let is_input = kind == b"IN".as_slice();
+    if !is_input && kind != b"OUT".as_slice() {
+        return Ok(None);
     }
-    if kind == b"OUT".as_slice() {
-        return Some(PortForm::Out(port_in(x, y, name)?));
-    }
-    None
+    let Some(port) = port_in(alloc, version, x, y, name)? else {
+        return Ok(None);
+    };
+    Ok(Some(if is_input {
+        PortForm::In(port)
+    } else {
+        PortForm::Out(port)
+    }))
 }
 
 // A net.
-fn named_net<'a>(
+fn named_net(
+    alloc: Global,
+    version: TableVersion,
     kind: &[u8],
     x: &[u8],
     y: &[u8],
     offset: &[u8],
-    name: &'a [u8],
-    path: &'a [u8],
-) -> Option<PortForm<'a>>
-    ensures { option_map form_of result ≡ form_of_fields (kind.now ∷ x.now ∷ y.now ∷ offset.now ∷ name.now ∷ path.now ∷ []) }
+    name: &[u8],
+    path: &[u8],
+) -> Result<Option<PortForm>, AllocError>
+    ensures { IfOk result (λ form. option_map form_of form ≡
+        form_of_fields version (kind.now ∷ x.now ∷ y.now ∷ offset.now ∷ name.now ∷ path.now ∷ [])) }
 {
     if kind != b"NET".as_slice() {
-        return None;
+        return Ok(None);
     }
-    Some(PortForm::Net(net_in(x, y, offset, name, path)?))
+    let Some(net) = net_in(alloc, version, x, y, offset, name, path)? else {
+        return Ok(None);
+    };
+    Ok(Some(PortForm::Net(net)))
 }
 
-// The form of a line with these fields, if it has one of the four.
-fn form_of_fields<'a>(fields: &[&'a [u8]]) -> Option<PortForm<'a>>
-    ensures { option_map form_of result ≡ form_of_fields (map (λ f. f.now) fields.now) }
+// The form of a line with these fields in a table of a version, if it has one of the four.
+fn form_of_fields(
+    alloc: Global,
+    version: TableVersion,
+    fields: &[&[u8]],
+) -> Result<Option<PortForm>, AllocError>
+    ensures { IfOk result (λ form. option_map form_of form ≡ form_of_fields version (map (λ f. f.now) fields.now)) }
 {
     match *fields {
-        [kind, x, y, name] => named_port(kind, x, y, name),
-        [version, p_word, p, l_word, l] => version_in(version, p_word, p, l_word, l, Some(1)),
-        [kind, x, y, offset, name, path] => named_net(kind, x, y, offset, name, path),
-        [version, p_word, p, l_word, l, c_word, c] => {
-            version_in(version, p_word, p, l_word, l, count_in(c_word, c))
+        [kind, x, y, name] => named_port(alloc, version, kind, x, y, name),
+        [number, p_word, p, l_word, l] => Ok(uncounted_line(number, p_word, p, l_word, l)),
+        [kind, x, y, offset, name, path] => {
+            named_net(alloc, version, kind, x, y, offset, name, path)
         }
-        _ => None,
+        [number, p_word, p, l_word, l, c_word, c] => {
+            Ok(counted_line(number, p_word, p, l_word, l, c_word, c))
+        }
+        _ => Ok(None),
     }
 }
 
@@ -178,10 +255,14 @@ fn fields_of(alloc: Global, entry: &[u8]) -> Result<Vec<&[u8]>, AllocError>
     entry.split(|b| *b == b' ').take(8).collect(alloc)
 }
 
-/// The form of a line with this entry, whose fields are separated by single spaces, if it has one.
-pub fn form_in(alloc: Global, entry: &[u8]) -> Result<Option<PortForm<'_>>, AllocError>
-    ensures { IfOk result (λ form. option_map form_of form ≡ form_of_fields (slice_split (λ b. b == byte " ") entry.now)) }
+/// The form of a line with this entry in a table of a version, if it has one. The fields of a line are separated by single spaces.
+pub fn form_in(
+    alloc: Global,
+    version: TableVersion,
+    entry: &[u8],
+) -> Result<Option<PortForm>, AllocError>
+    ensures { IfOk result (λ form. option_map form_of form ≡ form_of_fields version (slice_split (λ b. b == byte " ") entry.now)) }
 {
     let fields = fields_of(alloc, entry)?;
-    Ok(form_of_fields(&fields))
+    form_of_fields(alloc, version, &fields)
 }

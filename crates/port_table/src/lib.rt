@@ -6,6 +6,7 @@
 
 mod faults;
 mod forms;
+mod names;
 mod numbers;
 mod ports;
 mod reading;

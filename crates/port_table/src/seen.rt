@@ -31,17 +31,19 @@ impl<'a> Seen<'a> {
     }
 
     /// Adds a line, and answers whether its name was new, and for a net its name and path.
-    pub fn insert(&mut self, form: PortForm<'a>) -> Result<bool, AllocError>
+    pub fn insert(&mut self, form: &'a PortForm) -> Result<bool, AllocError>
         ensures added { IfOk result (λ added. (before : List lines.PortForm) → HasSeen self.old before →
-            added ≡ not (list_any (is_same_port (form_of form.entry)) before)) }
+            added ≡ not (list_any (is_same_port (form_of form.now)) before)) }
         ensures seen { OnOk result ((before : List lines.PortForm) → HasSeen self.old before →
-            HasSeen self.new (before ++ form_of form.entry ∷ [])) }
+            HasSeen self.new (before ++ form_of form.now ∷ [])) }
     {
         let is_new = match form {
             PortForm::Version { .. } => true,
-            PortForm::In(port) => self.ins.insert(port.name)?,
-            PortForm::Out(port) => self.outs.insert(port.name)?,
-            PortForm::Net(net) => self.nets.insert((net.name, net.path))?,
+            PortForm::In(port) => self.ins.insert(port.name.as_slice())?,
+            PortForm::Out(port) => self.outs.insert(port.name.as_slice())?,
+            PortForm::Net(net) => self
+                .nets
+                .insert((net.name.as_slice(), net.path.as_slice()))?,
         };
         Ok(is_new)
     }

@@ -1,20 +1,22 @@
 // The lines of a text's table.
-ghost use Rattle.std.specs.Prelude.{◌≡◌, map, option_map, IfOk, codes};
+ghost use Rattle.std.specs.Prelude.{◌≡◌, ◌==◌, not, map, option_map, IfOk, codes};
+ghost use Rattle.std.specs.List.{prefix_len};
 ghost use Rattle.std.specs.Option.{option_copied};
 ghost use Rattle.pattern_reading.specs.Numbers.{after_prefix};
-ghost use Rattle.pattern_reading.specs.PortLines.{table_line, table_of};
+ghost use Rattle.pattern_reading.specs.PortLines.{first_field, table_line, table_of, table_version};
 ghost use Rattle.pattern_lines.specs.Lines.{line_of};
 ghost use Rattle.port_table.specs.Lent.{table_line_of};
 
-use crate::forms::{PortForm, form_in};
+use crate::forms::{PortForm, form_in, version_named};
 use pattern_lines::{Line, split_line};
+use pattern_reading::TableVersion;
 use std::alloc::{AllocError, Global};
 
 /// A line of the table: its number, and its form, if it has one.
-#[derive(Clone, Copy)]
-pub struct TableLine<'a> {
+#[derive(Drop)]
+pub struct TableLine {
     pub number: u64,
-    pub form: Option<PortForm<'a>>,
+    pub form: Option<PortForm>,
 }
 
 // What follows the word that each line of the table begins with.
@@ -24,23 +26,62 @@ fn table_entry(bytes: &[u8]) -> Option<&[u8]>
     bytes.strip_prefix(b"#C BLIFWW ")
 }
 
-// The line as one of the table, if it is one.
-fn table_line(alloc: Global, line: Line<'_>) -> Result<Option<TableLine<'_>>, AllocError>
-    ensures { IfOk result (λ found. option_map table_line_of found ≡ table_line (line_of line.entry)) }
+// How many bytes stand before the first space, which are all where there is none.
+fn bytes_before_space(entry: &[u8]) -> usize
+    ensures { result ≡ prefix_len (λ b. not (b == 32)) entry.now }
+{
+    entry.iter().take_while(|b| **b != b' ').count()
+}
+
+// The first field of an entry.
+fn first_field(entry: &[u8]) -> &[u8]
+    ensures { result.now ≡ first_field entry.now }
+{
+    &entry[..bytes_before_space(entry)]
+}
+
+// The version of a text's table, which its first line names.
+fn table_version(text: &[u8]) -> TableVersion
+    ensures { result ≡ table_version text.now }
+{
+    let mut lines_before = 0;
+    let mut rest = text;
+    while !rest.is_empty() {
+        let (line, after) = split_line(lines_before, rest);
+        if !line.is_skipped() {
+            return TableVersion::Raw;
+        }
+        if let Some(entry) = table_entry(line.bytes) {
+            return version_named(first_field(entry)).unwrap_or(TableVersion::Raw);
+        }
+        lines_before += 1;
+        rest = after;
+    }
+    TableVersion::Raw
+}
+
+// The line as one of a table of a version, if it is one.
+fn table_line(
+    alloc: Global,
+    version: TableVersion,
+    line: Line<'_>,
+) -> Result<Option<TableLine>, AllocError>
+    ensures { IfOk result (λ found. option_map table_line_of found ≡ table_line version (line_of line.entry)) }
 {
     match table_entry(line.bytes) {
         None => Ok(None),
         Some(entry) => Ok(Some(TableLine {
             number: line.number,
-            form: form_in(alloc, entry)?,
+            form: form_in(alloc, version, entry)?,
         })),
     }
 }
 
 /// The lines of a text's table, in order, which are those before its header; all where it has none.
-pub fn table_lines(alloc: Global, text: &[u8]) -> Result<Vec<TableLine<'_>>, AllocError>
+pub fn table_lines(alloc: Global, text: &[u8]) -> Result<Vec<TableLine>, AllocError>
     ensures { IfOk result (λ lines. map table_line_of lines.items ≡ table_of text.now) }
 {
+    let version = table_version(text);
     let mut table = Vec::new(alloc);
     let mut lines_before = 0;
     let mut rest = text;
@@ -49,7 +90,7 @@ pub fn table_lines(alloc: Global, text: &[u8]) -> Result<Vec<TableLine<'_>>, All
         if !line.is_skipped() {
             return Ok(table);
         }
-        if let Some(entry) = table_line(alloc, line)? {
+        if let Some(entry) = table_line(alloc, version, line)? {
             table.push(entry)?;
         }
         lines_before += 1;

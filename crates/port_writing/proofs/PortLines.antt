@@ -4,12 +4,13 @@ use Rattle.std.specs.Prelude.{Some, slice_get}
 use Rattle.std.specs.List.{join_with_byte}
 use Rattle.std.proofs.lemmas.List.{append-nil, drop_more, map-append, get_or-map, get_or_append_left, get_or-append-add, length-append, length-map}
 use Rattle.std.proofs.lemmas.Option.{slice_get_within, get_or_from_slice_get}
+use Rattle.std.proofs.lemmas.Grind.{flat_map-append}
 use Rattle.std.proofs.lemmas.Simd.{map-map}
 use Rattle.pattern_reading.specs.declared.ports.NetLine.{NetLine}
 use Rattle.pattern_reading.specs.declared.ports.PortLine.{PortLine}
 use Rattle.pattern_reading.specs.declared.ports.Ports.{Ports}
 use Rattle.pattern_reading.specs.PortLines.{PortForm, Version, In, Out, Net}
-use Rattle.pattern_reading.specs.Spelling.{spelled_line, port_forms, port_lines}
+use Rattle.pattern_reading.specs.Spelling.{escaped_name, spelled_line, port_forms, port_lines}
 use Rattle.pattern_writing.specs.Writer.{ended_lines}
 use Rattle.port_writing.specs.Lines.{port_text, ended_line}
 
@@ -39,6 +40,24 @@ pub line_is : (here first : List ℕ) (fields written : List (List ℕ)) (rest :
     → here ++ ((codes "#C BLIFWW " ++ join_with_byte 32 (first ∷ fields)) ++ rest) ≡ here ++ (codes "#C BLIFWW" ++ (flat_map (λ f. 32 ∷ f) (first ∷ written) ++ rest))
 line_is here first fields written rest e =
     ap (λ l. here ++ (codes "#C BLIFWW" ++ (l ++ rest))) (sym (joined first fields)) ∙ ap (λ l. here ++ (codes "#C BLIFWW" ++ (flat_map (λ f. 32 ∷ f) (first ∷ l) ++ rest))) e
+
+-- fields of which one is a name
+with_name : (first : List ℕ) (before : List (List ℕ)) (name : List ℕ) (after : List (List ℕ)) (rest : List ℕ)
+    → flat_map (λ f. 32 ∷ f) (first ∷ (before ++ name ∷ after)) ++ rest ≡ flat_map (λ f. 32 ∷ f) (first ∷ before) ++ (32 ∷ (name ++ (flat_map (λ f. 32 ∷ f) after ++ rest)))
+with_name first before name after rest =
+    ap (λ l. l ++ rest) (flat_map-append (λ f. 32 ∷ f) (first ∷ before) (name ∷ after))
+    ∙ append_assoc (flat_map (λ f. 32 ∷ f) (first ∷ before)) ((32 ∷ name) ++ flat_map (λ f. 32 ∷ f) after) rest
+    ∙ ap (λ l. flat_map (λ f. 32 ∷ f) (first ∷ before) ++ l) (append_assoc (32 ∷ name) (flat_map (λ f. 32 ∷ f) after) rest)
+
+pub named_line_is : (here first : List ℕ) (before written : List (List ℕ)) (name said : List ℕ) (after tail : List (List ℕ)) (rest : List ℕ) → before ≡ written → name ≡ said → after ≡ tail
+    → here ++ ((codes "#C BLIFWW " ++ join_with_byte 32 (first ∷ (before ++ escaped_name name ∷ after))) ++ rest)
+    ≡ here ++ (codes "#C BLIFWW" ++ (flat_map (λ f. 32 ∷ f) (first ∷ written) ++ (32 ∷ (escaped_name said ++ (flat_map (λ f. 32 ∷ f) tail ++ rest)))))
+named_line_is here first before written name said after tail rest e f g =
+    line_is here first (before ++ escaped_name name ∷ after) (before ++ escaped_name name ∷ after) rest refl
+    ∙ ap (λ l. here ++ (codes "#C BLIFWW" ++ l)) (with_name first before (escaped_name name) after rest)
+    ∙ ap (λ l. here ++ (codes "#C BLIFWW" ++ (flat_map (λ f. 32 ∷ f) (first ∷ l) ++ (32 ∷ (escaped_name name ++ (flat_map (λ f. 32 ∷ f) after ++ rest)))))) e
+    ∙ ap (λ l. here ++ (codes "#C BLIFWW" ++ (flat_map (λ f. 32 ∷ f) (first ∷ written) ++ (32 ∷ (escaped_name l ++ (flat_map (λ f. 32 ∷ f) after ++ rest)))))) f
+    ∙ ap (λ l. here ++ (codes "#C BLIFWW" ++ (flat_map (λ f. 32 ∷ f) (first ∷ written) ++ (32 ∷ (escaped_name said ++ (flat_map (λ f. 32 ∷ f) l ++ rest)))))) g
 
 -- the lines of a table, kind by kind
 ended_more : (lines more : List (List ℕ)) (rest : List ℕ) → ended_lines (lines ++ more) ++ rest ≡ ended_lines lines ++ (ended_lines more ++ rest)

@@ -4,6 +4,7 @@
 #![tactic(auto)]
 
 mod line;
+mod names;
 mod page;
 mod pieces;
 mod table;

@@ -1,32 +1,109 @@
 // The lines of a port table.
-ghost use Rattle.std.specs.Prelude.{◌≡◌, ℕ, List, ◌∷◌, ◌++◌, flat_map, map, codes, OnOk, OnErr};
+ghost use Rattle.std.specs.Prelude.{◌≡◌, ℕ, List, ◌∷◌, ◌++◌, map, codes, OnOk, OnErr};
 ghost use Rattle.pattern_reading.specs.PortLines.{Version, Net};
 ghost use Rattle.pattern_reading.specs.Spelling.{spelled_line, port_lines};
 ghost use Rattle.pattern_writing.specs.Writer.{ended_lines};
 ghost use Rattle.port_writing.specs.Pages.{held, column_of};
 ghost use Rattle.port_writing.specs.Progress.{Wrote, Broke};
-ghost use Rattle.port_writing.specs.Lines.{port_text};
+ghost use Rattle.port_writing.specs.Lines.{named_line, port_text, spaced};
 
+use crate::names::put_name;
 use crate::page::Page;
 use itoa::Buffer;
 use pattern_reading::{NetLine, PortLine, Ports};
 use ww_base::{Failed, Sink};
 
-// Writes the line of the table with these fields.
-fn write_fields<O: Sink>(sink: &mut O, page: &mut Page, fields: &[&[u8]]) -> Result<(), Failed>
+// Puts a field on the page, after a space.
+fn put_field<O: Sink>(sink: &mut O, page: &mut Page, field: &[u8]) -> Result<(), Failed>
     ensures column { column_of page.new ≡ column_of page.old }
     ensures ok { OnOk result ((rest : List ℕ) →
         Wrote (O.written sink.old) (O.written sink.new) (O.faults sink.old) (O.faults sink.new)
-        (held page.old ++ (codes "#C BLIFWW" ++ (flat_map (λ field. 32 ∷ field.now) fields.now ++ (10 ∷ rest)))) (held page.new ++ rest)) }
+        (held page.old ++ (32 ∷ (field.now ++ rest))) (held page.new ++ rest)) }
     ensures err { OnErr result ((rest : List ℕ) →
         Broke (O.written sink.old) (O.written sink.new) (O.faults sink.old) (O.faults sink.new)
-        (held page.old ++ (codes "#C BLIFWW" ++ (flat_map (λ field. 32 ∷ field.now) fields.now ++ (10 ∷ rest))))) }
+        (held page.old ++ (32 ∷ (field.now ++ rest)))) }
+{
+    page.put(sink, b" ")?;
+    page.put(sink, field)
+}
+
+// Puts fields on the page, each after a space.
+fn put_fields<O: Sink>(sink: &mut O, page: &mut Page, fields: &[&[u8]]) -> Result<(), Failed>
+    ensures column { column_of page.new ≡ column_of page.old }
+    ensures ok { OnOk result ((rest : List ℕ) →
+        Wrote (O.written sink.old) (O.written sink.new) (O.faults sink.old) (O.faults sink.new)
+        (held page.old ++ (spaced fields.now ++ rest)) (held page.new ++ rest)) }
+    ensures err { OnErr result ((rest : List ℕ) →
+        Broke (O.written sink.old) (O.written sink.new) (O.faults sink.old) (O.faults sink.new)
+        (held page.old ++ (spaced fields.now ++ rest))) }
+{
+    for field in fields {
+        put_field(sink, page, field)?;
+    }
+    Ok(())
+}
+
+// Begins a line of the table with these fields.
+fn begin_line<O: Sink>(sink: &mut O, page: &mut Page, fields: &[&[u8]]) -> Result<(), Failed>
+    ensures column { column_of page.new ≡ column_of page.old }
+    ensures ok { OnOk result ((rest : List ℕ) →
+        Wrote (O.written sink.old) (O.written sink.new) (O.faults sink.old) (O.faults sink.new)
+        (held page.old ++ (codes "#C BLIFWW" ++ (spaced fields.now ++ rest))) (held page.new ++ rest)) }
+    ensures err { OnErr result ((rest : List ℕ) →
+        Broke (O.written sink.old) (O.written sink.new) (O.faults sink.old) (O.faults sink.new)
+        (held page.old ++ (codes "#C BLIFWW" ++ (spaced fields.now ++ rest)))) }
 {
     page.put(sink, b"#C BLIFWW")?;
-    for field in fields {
-        page.put(sink, b" ")?;
-        page.put(sink, field)?;
-    }
+    put_fields(sink, page, fields)
+}
+
+// Ends a line with these fields.
+fn end_line<O: Sink>(sink: &mut O, page: &mut Page, fields: &[&[u8]]) -> Result<(), Failed>
+    ensures column { column_of page.new ≡ column_of page.old }
+    ensures ok { OnOk result ((rest : List ℕ) →
+        Wrote (O.written sink.old) (O.written sink.new) (O.faults sink.old) (O.faults sink.new)
+        (held page.old ++ (spaced fields.now ++ (10 ∷ rest))) (held page.new ++ rest)) }
+    ensures err { OnErr result ((rest : List ℕ) →
+        Broke (O.written sink.old) (O.written sink.new) (O.faults sink.old) (O.faults sink.new)
+        (held page.old ++ (spaced fields.now ++ (10 ∷ rest)))) }
+{
+    put_fields(sink, page, fields)?;
+    page.put(sink, b"\n")
+}
+
+// Writes a line with these fields, of which one is a name.
+fn write_named<O: Sink>(
+    sink: &mut O,
+    page: &mut Page,
+    before: &[&[u8]],
+    name: &[u8],
+    after: &[&[u8]],
+) -> Result<(), Failed>
+    ensures column { column_of page.new ≡ column_of page.old }
+    ensures ok { OnOk result ((rest : List ℕ) →
+        Wrote (O.written sink.old) (O.written sink.new) (O.faults sink.old) (O.faults sink.new)
+        (held page.old ++ named_line before.now name.now after.now rest) (held page.new ++ rest)) }
+    ensures err { OnErr result ((rest : List ℕ) →
+        Broke (O.written sink.old) (O.written sink.new) (O.faults sink.old) (O.faults sink.new)
+        (held page.old ++ named_line before.now name.now after.now rest)) }
+{
+    begin_line(sink, page, before)?;
+    page.put(sink, b" ")?;
+    put_name(sink, page, name)?;
+    end_line(sink, page, after)
+}
+
+// Writes a line with these fields, of which none is a name.
+fn write_unnamed<O: Sink>(sink: &mut O, page: &mut Page, fields: &[&[u8]]) -> Result<(), Failed>
+    ensures column { column_of page.new ≡ column_of page.old }
+    ensures ok { OnOk result ((rest : List ℕ) →
+        Wrote (O.written sink.old) (O.written sink.new) (O.faults sink.old) (O.faults sink.new)
+        (held page.old ++ (codes "#C BLIFWW" ++ (spaced fields.now ++ (10 ∷ rest)))) (held page.new ++ rest)) }
+    ensures err { OnErr result ((rest : List ℕ) →
+        Broke (O.written sink.old) (O.written sink.new) (O.faults sink.old) (O.faults sink.new)
+        (held page.old ++ (codes "#C BLIFWW" ++ (spaced fields.now ++ (10 ∷ rest))))) }
+{
+    begin_line(sink, page, fields)?;
     page.put(sink, b"\n")
 }
 
@@ -51,10 +128,7 @@ pub fn write_version<O: Sink>(
     let p = p_digits.format(period).as_bytes();
     let l = l_digits.format(latency).as_bytes();
     let c = c_digits.format(contexts).as_bytes();
-    if contexts > 1 {
-        return write_fields(sink, page, &[b"1", b"P", p, b"L", l, b"C", c]);
-    }
-    write_fields(sink, page, &[b"1", b"P", p, b"L", l])
+    write_unnamed(sink, page, &[b"2", b"P", p, b"L", l, b"C", c])
 }
 
 // The line of an input or an output.
@@ -76,7 +150,7 @@ pub fn write_port<O: Sink>(
     let mut y_digits = Buffer::new();
     let x = x_digits.format(port.x).as_bytes();
     let y = y_digits.format(port.y).as_bytes();
-    write_fields(sink, page, &[kind, x, y, port.name.as_slice()])
+    write_named(sink, page, &[kind, x, y], port.name.as_slice(), &[])
 }
 
 pub fn write_net<O: Sink>(sink: &mut O, page: &mut Page, net: &NetLine) -> Result<(), Failed>
@@ -95,11 +169,8 @@ pub fn write_net<O: Sink>(sink: &mut O, page: &mut Page, net: &NetLine) -> Resul
     let y = y_digits.format(net.y).as_bytes();
     let offset = offset_digits.format(net.offset).as_bytes();
     let name = net.name.as_slice();
-    write_fields(
-        sink,
-        page,
-        &[b"NET", x, y, offset, name, net.path.as_slice()],
-    )
+    let path = net.path.as_slice();
+    write_named(sink, page, &[b"NET", x, y, offset], name, &[path])
 }
 
 fn write_ports<O: Sink>(

@@ -23,7 +23,8 @@ pub enum LineEnd {
 // Draws the items of a line, up to the pattern's end or an item at fault.
 fn draw_line(drawing: &mut Drawing, line: Line<'_>) -> Result<LineEnd, RleFault>
     requires in_rows { IsGrid drawing.old.width drawing.old.height drawing.old.rows }
-    ensures drawn { reached_of result (drawn_of drawing.new) ≡ drawn_with (drawn_of drawing.old) (items_of_line (line_of line.entry)) }
+    ensures drawn { reached_of result (drawn_of drawing.new)
+        ≡ drawn_with (drawn_of drawing.old) (items_of_line (line_of line.entry)) }
     ensures in_rows { IsGrid drawing.new.width drawing.new.height drawing.new.rows }
 {
     if line.is_comment() {

@@ -50,7 +50,10 @@ impl Drawing {
 
     /// What is at fault in an item that begins at this place.
     pub fn item_fault(&self, item: Item) -> Option<RleFaultKind>
-        ensures { result ≡ item_fault self.now.width self.now.height (place_of 0 (drawn_of self.now) (item_of item)) (item_of item) }
+        ensures { result
+            ≡ item_fault self.now.width self.now.height (place_of 0 (drawn_of self.now) (item_of item)) (
+            item_of item
+            ) }
     {
         match item {
             Item::NoItem => Some(RleFaultKind::BadItem),
@@ -68,7 +71,10 @@ impl Drawing {
     fn draw_run(&mut self, count: u64, state: State)
         requires in_rows { IsGrid self.old.width self.old.height self.old.rows }
         requires counted { 0 < count }
-        requires sound { run_fault self.old.width self.old.height (place_of 0 (drawn_of self.old) (Cells count state)) count state ≡ None }
+        requires sound { run_fault
+            self.old.width self.old.height (place_of 0 (drawn_of self.old) (Cells count state))
+            count state
+            ≡ None }
         ensures { drawn_of self.new ≡ drawn_after (Cells count state) (drawn_of self.old) }
     {
         match state {
@@ -85,7 +91,10 @@ impl Drawing {
     pub fn draw(&mut self, item: Item)
         requires in_rows { IsGrid self.old.width self.old.height self.old.rows }
         requires counted { IsCounted (item_of item) }
-        requires sound { item_fault self.old.width self.old.height (place_of 0 (drawn_of self.old) (item_of item)) (item_of item) ≡ None }
+        requires sound { item_fault self.old.width self.old.height (place_of 0 (drawn_of self.old) (item_of item)) (
+            item_of item
+            )
+            ≡ None }
         ensures { drawn_of self.new ≡ drawn_after (item_of item) (drawn_of self.old) }
     {
         match item {

@@ -69,7 +69,12 @@ impl<'a> Lanes<'a> {
         ensures long { IfOk result (λ r. length r.tags.items ≡ length job.now.start) }
         ensures made { IfOk result (λ r. length r.made.items ≡ length job.now.gates) }
         ensures job { IfOk result (λ r. r.job.now ≡ job.now) }
-        ensures count { IfOk result (λ r. length r.instrs.items ≤ length job.now.gates * (3 * length job.now.start) + length job.now.ports * length job.now.start + loops * length job.now.start) }
+        ensures count { IfOk result (λ r.
+            length r.instrs.items
+            ≤ length job.now.gates * (3 * length job.now.start)
+            + length job.now.ports * length job.now.start
+            + loops * length job.now.start
+            ) }
     {
         let mut lanes = Lanes::new(alloc, job)?;
         lanes.place_gates(left)?;
@@ -82,7 +87,10 @@ impl<'a> Lanes<'a> {
     fn step(&mut self, instr: Instr, upper: Tag, lower: Tag) -> Result<(), PlaceError>
         requires within { lane_of instr + 1 < length self.old.tags.items }
         requires answers { PutsTags self.old.job.now self.old.tags.items instr upper lower }
-        ensures tags { OnOk result (self.new.tags.items ≡ set (set self.old.tags.items (lane_of instr) upper) (lane_of instr + 1) lower) }
+        ensures tags { OnOk result (
+            self.new.tags.items
+            ≡ set (set self.old.tags.items (lane_of instr) upper) (lane_of instr + 1) lower
+            ) }
         ensures instrs { OnOk result (self.new.instrs.items ≡ self.old.instrs.items ++ instr ∷ []) }
         ensures made { self.new.made.items ≡ self.old.made.items }
         ensures job { self.new.job ≡ self.old.job }
@@ -100,7 +108,11 @@ impl<'a> Lanes<'a> {
     /// Exchanges two neighbouring lanes.
     fn swap(&mut self, lane: u32) -> Result<(), PlaceError>
         requires { lane + 1 < length self.old.tags.items }
-        ensures lanes { OnOk result ((l : ℕ) → get_or self.new.tags.items l free_tag ≡ get_or self.old.tags.items (swapped lane l) free_tag) }
+        ensures lanes { OnOk result (
+            (l : ℕ)
+            → get_or self.new.tags.items l free_tag
+            ≡ get_or self.old.tags.items (swapped lane l) free_tag
+            ) }
         ensures long { OnOk result (length self.new.tags.items ≡ length self.old.tags.items) }
         ensures same { OnOk result (SameTags self.old.tags.items self.new.tags.items) }
         ensures count { OnOk result (length self.new.instrs.items ≡ length self.old.instrs.items + 1) }
@@ -116,9 +128,18 @@ impl<'a> Lanes<'a> {
     /// Copies a lane to the next one.
     fn fork(&mut self, lane: u32) -> Result<(), PlaceError>
         requires { lane + 1 < length self.old.tags.items }
-        ensures upper { OnOk result (get_or self.new.tags.items lane free_tag ≡ get_or self.old.tags.items lane free_tag) }
-        ensures lower { OnOk result (get_or self.new.tags.items (lane + 1) free_tag ≡ get_or self.old.tags.items lane free_tag) }
-        ensures exchanged { OnOk result (Exchanged self.old.tags.items self.new.tags.items (get_or self.old.tags.items (lane + 1) free_tag) (get_or self.old.tags.items lane free_tag)) }
+        ensures upper { OnOk result (
+            get_or self.new.tags.items lane free_tag ≡ get_or self.old.tags.items lane free_tag
+            ) }
+        ensures lower { OnOk result (
+            get_or self.new.tags.items (lane + 1) free_tag
+            ≡ get_or self.old.tags.items lane free_tag
+            ) }
+        ensures exchanged { OnOk result (
+            Exchanged self.old.tags.items self.new.tags.items (get_or self.old.tags.items (lane + 1) free_tag) (
+            get_or self.old.tags.items lane free_tag
+            )
+            ) }
         ensures long { OnOk result (length self.new.tags.items ≡ length self.old.tags.items) }
         ensures count { OnOk result (length self.new.instrs.items ≡ length self.old.instrs.items + 1) }
         ensures made { self.new.made.items ≡ self.old.made.items }
@@ -133,7 +154,10 @@ impl<'a> Lanes<'a> {
     fn mark(&mut self, lane: u32, role: Role)
         requires within { lane < length self.old.tags.items }
         requires some { 0 < role_code (get_or self.old.tags.items lane free_tag).role }
-        ensures tags { self.new.tags.items ≡ set self.old.tags.items lane (tag (get_or self.old.tags.items lane free_tag).value role) }
+        ensures tags { self.new.tags.items
+            ≡ set self.old.tags.items lane (
+            tag (get_or self.old.tags.items lane free_tag).value role
+            ) }
         ensures count { length self.new.instrs.items ≡ length self.old.instrs.items }
         ensures made { self.new.made.items ≡ self.old.made.items }
         ensures job { self.new.job ≡ self.old.job }
@@ -159,7 +183,9 @@ impl<'a> Lanes<'a> {
     /// Frees the lane of a value that has no use.
     fn end(&mut self, value: u32, uses: u32)
         requires { 1 ≤ count value Kept self.old.tags.items }
-        ensures exchanged { Exchanged self.old.tags.items self.new.tags.items (cond (uses == 0) (tag value Kept) free_tag) free_tag }
+        ensures exchanged { Exchanged
+            self.old.tags.items self.new.tags.items (cond (uses == 0) (tag value Kept) free_tag)
+            free_tag }
         ensures long { length self.new.tags.items ≡ length self.old.tags.items }
         ensures count { length self.new.instrs.items ≡ length self.old.instrs.items }
         ensures made { self.new.made.items ≡ self.old.made.items }
@@ -192,7 +218,11 @@ impl<'a> Lanes<'a> {
     fn bring(&mut self, from: u32, to: u32) -> Result<(), PlaceError>
         requires from { from < length self.old.tags.items }
         requires to { to < length self.old.tags.items }
-        ensures lanes { OnOk result ((l : ℕ) → get_or self.new.tags.items l free_tag ≡ get_or self.old.tags.items (brought from to l) free_tag) }
+        ensures lanes { OnOk result (
+            (l : ℕ)
+            → get_or self.new.tags.items l free_tag
+            ≡ get_or self.old.tags.items (brought from to l) free_tag
+            ) }
         ensures long { OnOk result (length self.new.tags.items ≡ length self.old.tags.items) }
         ensures same { OnOk result (SameTags self.old.tags.items self.new.tags.items) }
         ensures count { OnOk result (length self.new.instrs.items ≡ length self.old.instrs.items + distance from to) }
@@ -212,7 +242,11 @@ impl<'a> Lanes<'a> {
     fn bring_down(&mut self, from: u32, to: u32) -> Result<(), PlaceError>
         requires order { from ≤ to }
         requires to { to < length self.old.tags.items }
-        ensures lanes { OnOk result ((l : ℕ) → get_or self.new.tags.items l free_tag ≡ get_or self.old.tags.items (brought from to l) free_tag) }
+        ensures lanes { OnOk result (
+            (l : ℕ)
+            → get_or self.new.tags.items l free_tag
+            ≡ get_or self.old.tags.items (brought from to l) free_tag
+            ) }
         ensures long { OnOk result (length self.new.tags.items ≡ length self.old.tags.items) }
         ensures same { OnOk result (SameTags self.old.tags.items self.new.tags.items) }
         ensures count { OnOk result (length self.new.instrs.items ≡ length self.old.instrs.items + distance from to) }
@@ -231,7 +265,11 @@ impl<'a> Lanes<'a> {
     fn bring_up(&mut self, from: u32, to: u32) -> Result<(), PlaceError>
         requires order { to ≤ from }
         requires from { from < length self.old.tags.items }
-        ensures lanes { OnOk result ((l : ℕ) → get_or self.new.tags.items l free_tag ≡ get_or self.old.tags.items (brought from to l) free_tag) }
+        ensures lanes { OnOk result (
+            (l : ℕ)
+            → get_or self.new.tags.items l free_tag
+            ≡ get_or self.old.tags.items (brought from to l) free_tag
+            ) }
         ensures long { OnOk result (length self.new.tags.items ≡ length self.old.tags.items) }
         ensures same { OnOk result (SameTags self.old.tags.items self.new.tags.items) }
         ensures count { OnOk result (length self.new.instrs.items ≡ length self.old.instrs.items + distance from to) }
@@ -275,11 +313,18 @@ impl<'a> Lanes<'a> {
         requires low { upper ≤ at }
         requires high { at < lower }
         requires within { lower < length self.old.tags.items }
-        ensures first { OnOk result (get_or self.new.tags.items at free_tag ≡ get_or self.old.tags.items upper free_tag) }
-        ensures second { OnOk result (get_or self.new.tags.items (at + 1) free_tag ≡ get_or self.old.tags.items lower free_tag) }
+        ensures first { OnOk result (
+            get_or self.new.tags.items at free_tag ≡ get_or self.old.tags.items upper free_tag
+            ) }
+        ensures second { OnOk result (
+            get_or self.new.tags.items (at + 1) free_tag
+            ≡ get_or self.old.tags.items lower free_tag
+            ) }
         ensures long { OnOk result (length self.new.tags.items ≡ length self.old.tags.items) }
         ensures same { OnOk result (SameTags self.old.tags.items self.new.tags.items) }
-        ensures count { OnOk result (length self.new.instrs.items + 1 ≡ length self.old.instrs.items + (lower - upper)) }
+        ensures count { OnOk result (
+            length self.new.instrs.items + 1 ≡ length self.old.instrs.items + (lower - upper)
+            ) }
         ensures made { self.new.made.items ≡ self.old.made.items }
         ensures job { self.new.job ≡ self.old.job }
     {
@@ -360,11 +405,23 @@ impl<'a> Lanes<'a> {
         requires some { 0 < role_code (get_or self.old.tags.items lane free_tag).role }
         requires free { 1 ≤ count 0 Free self.old.tags.items }
         ensures within { IfOk result (λ r. r + 1 < length self.old.tags.items) }
-        ensures upper { IfOk result (λ r. get_or self.new.tags.items r free_tag ≡ get_or self.old.tags.items lane free_tag) }
-        ensures lower { IfOk result (λ r. get_or self.new.tags.items (r + 1) free_tag ≡ get_or self.old.tags.items lane free_tag) }
-        ensures exchanged { OnOk result (Exchanged self.old.tags.items self.new.tags.items free_tag (get_or self.old.tags.items lane free_tag)) }
+        ensures upper { IfOk result (λ r.
+            get_or self.new.tags.items r free_tag ≡ get_or self.old.tags.items lane free_tag
+            ) }
+        ensures lower { IfOk result (λ r.
+            get_or self.new.tags.items (r + 1) free_tag
+            ≡ get_or self.old.tags.items lane free_tag
+            ) }
+        ensures exchanged { OnOk result (
+            Exchanged self.old.tags.items self.new.tags.items free_tag (
+            get_or self.old.tags.items lane free_tag
+            )
+            ) }
         ensures long { OnOk result (length self.new.tags.items ≡ length self.old.tags.items) }
-        ensures count { OnOk result (length self.new.instrs.items ≤ length self.old.instrs.items + length self.old.tags.items) }
+        ensures count { OnOk result (
+            length self.new.instrs.items
+            ≤ length self.old.instrs.items + length self.old.tags.items
+            ) }
         ensures made { self.new.made.items ≡ self.old.made.items }
         ensures job { self.new.job ≡ self.old.job }
     {
@@ -387,9 +444,16 @@ impl<'a> Lanes<'a> {
     fn fetch(&mut self, value: u32, role: Role, last: bool, partner: u32) -> Result<(), PlaceError>
         requires has { 1 ≤ count value Kept self.old.tags.items }
         requires free { last ≡ false → 1 ≤ count 0 Free self.old.tags.items }
-        ensures exchanged { OnOk result (Exchanged self.old.tags.items self.new.tags.items (cond last (tag value Kept) free_tag) (tag value role)) }
+        ensures exchanged { OnOk result (
+            Exchanged self.old.tags.items self.new.tags.items (cond last (tag value Kept) free_tag) (
+            tag value role
+            )
+            ) }
         ensures long { OnOk result (length self.new.tags.items ≡ length self.old.tags.items) }
-        ensures count { OnOk result (length self.new.instrs.items ≤ length self.old.instrs.items + length self.old.tags.items) }
+        ensures count { OnOk result (
+            length self.new.instrs.items
+            ≤ length self.old.instrs.items + length self.old.tags.items
+            ) }
         ensures made { self.new.made.items ≡ self.old.made.items }
         ensures job { self.new.job ≡ self.old.job }
     {
@@ -412,8 +476,15 @@ impl<'a> Lanes<'a> {
     fn note(&mut self, lane: u32) -> Result<(), PlaceError>
         requires lane { lane < length self.old.tags.items }
         requires some { 0 < length self.old.instrs.items }
-        requires here { get_or self.old.tags.items lane free_tag ≡ tag (self.old.job.now.base + length self.old.made.items) Kept }
-        requires last { (gate : NumberedCell) → slice_get self.old.instrs.items (length self.old.instrs.items - 1) ≡ Some (gate_instr (get_or self.old.job.now.gates (length self.old.made.items) gate).kind lane) }
+        requires here { get_or self.old.tags.items lane free_tag
+            ≡ tag (self.old.job.now.base + length self.old.made.items) Kept }
+        requires last { (gate : NumberedCell)
+            → slice_get self.old.instrs.items (length self.old.instrs.items - 1)
+            ≡ Some (
+            gate_instr
+            (get_or self.old.job.now.gates (length self.old.made.items) gate).kind
+            lane
+            ) }
         ensures tags { self.new.tags.items ≡ self.old.tags.items }
         ensures instrs { self.new.instrs.items ≡ self.old.instrs.items }
         ensures made { OnOk result (length self.new.made.items ≡ length self.old.made.items + 1) }
@@ -432,8 +503,10 @@ impl<'a> Lanes<'a> {
         requires lane { lane + 1 < length self.old.tags.items }
         requires within { length self.old.made.items < length self.old.job.now.gates }
         requires known { get_or self.old.job.now.gates (length self.old.made.items) gate ≡ gate }
-        requires upper { get_or self.old.tags.items lane free_tag ≡ cond turned (tag gate.second Second) (tag gate.first First) }
-        requires lower { get_or self.old.tags.items (lane + 1) free_tag ≡ cond turned (tag gate.first First) (tag gate.second Second) }
+        requires upper { get_or self.old.tags.items lane free_tag
+            ≡ cond turned (tag gate.second Second) (tag gate.first First) }
+        requires lower { get_or self.old.tags.items (lane + 1) free_tag
+            ≡ cond turned (tag gate.first First) (tag gate.second Second) }
         requires order { gate.kind ≡ AndNot → turned ≡ false }
         ensures exchanged { OnOk result (BothExchanged self.old.tags.items self.new.tags.items (tag gate.first First) (tag gate.second Second)
             (tag (self.old.job.now.base + length self.old.made.items) Kept) free_tag) }
@@ -468,7 +541,10 @@ impl<'a> Lanes<'a> {
         ensures exchanged { OnOk result (BothExchanged self.old.tags.items self.new.tags.items (tag gate.first First) (tag gate.second Second)
             (tag (self.old.job.now.base + length self.old.made.items) Kept) free_tag) }
         ensures long { OnOk result (length self.new.tags.items ≡ length self.old.tags.items) }
-        ensures count { OnOk result (length self.new.instrs.items ≤ length self.old.instrs.items + length self.old.tags.items) }
+        ensures count { OnOk result (
+            length self.new.instrs.items
+            ≤ length self.old.instrs.items + length self.old.tags.items
+            ) }
         ensures made { OnOk result (length self.new.made.items ≡ length self.old.made.items + 1) }
         ensures job { self.new.job ≡ self.old.job }
     {
@@ -506,10 +582,17 @@ impl<'a> Lanes<'a> {
         requires has { 1 ≤ count value Kept self.old.tags.items }
         requires some { 1 ≤ get_or left.old value 0 }
         requires free { get_or left.old value 0 ≢ 1 → 1 ≤ count 0 Free self.old.tags.items }
-        ensures exchanged { OnOk result (Exchanged self.old.tags.items self.new.tags.items (cond (get_or left.old value 0 == 1) (tag value Kept) free_tag) (tag value role)) }
+        ensures exchanged { OnOk result (
+            Exchanged self.old.tags.items self.new.tags.items (cond (get_or left.old value 0 == 1) (tag value Kept) free_tag) (
+            tag value role
+            )
+            ) }
         ensures left { left.new ≡ set left.old value (get_or left.old value 0 - 1) }
         ensures long { OnOk result (length self.new.tags.items ≡ length self.old.tags.items) }
-        ensures count { OnOk result (length self.new.instrs.items ≤ length self.old.instrs.items + length self.old.tags.items) }
+        ensures count { OnOk result (
+            length self.new.instrs.items
+            ≤ length self.old.instrs.items + length self.old.tags.items
+            ) }
         ensures made { self.new.made.items ≡ self.old.made.items }
         ensures job { self.new.job ≡ self.old.job }
     {
@@ -536,9 +619,15 @@ impl<'a> Lanes<'a> {
         requires within { length self.old.made.items < length self.old.job.now.gates }
         requires ready { ReadyForGate self.old.job.now (length self.old.made.items) self.old.tags.items left.old }
         requires wide { self.old.job.now.base + length self.old.job.now.gates ≤ length left.old }
-        ensures ready { OnOk result (ReadyForGate self.old.job.now (length self.old.made.items + 1) self.new.tags.items left.new) }
+        ensures ready { OnOk result (
+            ReadyForGate
+            self.old.job.now (length self.old.made.items + 1) self.new.tags.items left.new
+            ) }
         ensures long { OnOk result (length self.new.tags.items ≡ length self.old.tags.items) }
-        ensures count { OnOk result (length self.new.instrs.items ≤ length self.old.instrs.items + 3 * length self.old.tags.items) }
+        ensures count { OnOk result (
+            length self.new.instrs.items
+            ≤ length self.old.instrs.items + 3 * length self.old.tags.items
+            ) }
         ensures made { OnOk result (length self.new.made.items ≡ length self.old.made.items + 1) }
         ensures job { self.new.job ≡ self.old.job }
         ensures left { OnOk result (length left.new ≡ length left.old) }
@@ -561,7 +650,11 @@ impl<'a> Lanes<'a> {
         requires wide { self.old.job.now.base + length self.old.job.now.gates ≤ length left.old }
         ensures ready { OnOk result (ReadyForPort self.old.job.now 0 self.new.tags.items left.new) }
         ensures long { OnOk result (length self.new.tags.items ≡ length self.old.tags.items) }
-        ensures count { OnOk result (length self.new.instrs.items ≤ length self.old.instrs.items + length self.old.job.now.gates * (3 * length self.old.tags.items)) }
+        ensures count { OnOk result (
+            length self.new.instrs.items
+            ≤ length self.old.instrs.items
+            + length self.old.job.now.gates * (3 * length self.old.tags.items)
+            ) }
         ensures made { OnOk result (length self.new.made.items ≡ length self.old.job.now.gates) }
         ensures job { self.new.job ≡ self.old.job }
         ensures left { OnOk result (length left.new ≡ length left.old) }
@@ -578,7 +671,11 @@ impl<'a> Lanes<'a> {
         requires known { All (λ v. v < self.old.job.now.base + length self.old.job.now.gates) self.old.job.now.ports }
         ensures held { OnOk result (HoldPorts self.old.job.now (length self.old.job.now.ports) self.new.tags.items) }
         ensures long { OnOk result (length self.new.tags.items ≡ length self.old.tags.items) }
-        ensures count { OnOk result (length self.new.instrs.items ≤ length self.old.instrs.items + length self.old.job.now.ports * length self.old.tags.items) }
+        ensures count { OnOk result (
+            length self.new.instrs.items
+            ≤ length self.old.instrs.items
+            + length self.old.job.now.ports * length self.old.tags.items
+            ) }
         ensures made { self.new.made.items ≡ self.old.made.items }
         ensures job { self.new.job ≡ self.old.job }
     {
@@ -600,7 +697,10 @@ impl<'a> Lanes<'a> {
         ensures held { OnOk result (HoldPorts self.old.job.now (length self.old.job.now.ports) self.new.tags.items) }
         ensures settled { OnOk result (AreSettled self.old.job.now loops self.new.tags.items) }
         ensures long { OnOk result (length self.new.tags.items ≡ length self.old.tags.items) }
-        ensures count { OnOk result (length self.new.instrs.items ≤ length self.old.instrs.items + loops * length self.old.tags.items) }
+        ensures count { OnOk result (
+            length self.new.instrs.items
+            ≤ length self.old.instrs.items + loops * length self.old.tags.items
+            ) }
         ensures made { self.new.made.items ≡ self.old.made.items }
         ensures job { self.new.job ≡ self.old.job }
     {

@@ -35,7 +35,10 @@ pub fn ports_of(alloc: Global, list: &CellList, loops: u32) -> Result<Vec<u32>, 
 
 fn push_one(list: &CellList, ports: &mut Vec<u32>) -> Result<(), PlaceError>
     requires small { list.now.inputs + loop_count list.now + 1 + length list.now.cells < 2 ^ 32 }
-    ensures { OnOk result (ports.new.items ≡ ports.old.items ++ map (number list.now) (cond (names_one list.now) (One ∷ []) [])) }
+    ensures { OnOk result (
+        ports.new.items
+        ≡ ports.old.items ++ map (number list.now) (cond (names_one list.now) (One ∷ []) [])
+        ) }
 {
     if list.names_one() {
         ports.push(list.inputs + list.starts.len() as u32)?;
@@ -174,7 +177,9 @@ fn ends_of(
     requires made { length lanes.now.made.items ≡ length list.now.cells }
     ensures long { IfOk result (λ r. length r.outs.items + loops ≡ length lanes.now.job.now.ports) }
     ensures outs { IfOk result (λ r. AreOuts lanes.now.job.now loops lanes.now.tags.items r.outs.items) }
-    ensures nets { IfOk result (λ r. r.nets.items ≡ map (net_place_of list.now homes.now lanes.now.made.items) list.now.nets) }
+    ensures nets { IfOk result (λ r.
+        r.nets.items ≡ map (net_place_of list.now homes.now lanes.now.made.items) list.now.nets
+        ) }
 {
     let outs = lanes.find_outs(alloc, loops)?;
     let nets = places_of(alloc, list, loops, homes, &lanes.made)?;
@@ -193,8 +198,20 @@ fn place_with(
     requires small { list.now.inputs + loop_count list.now + length list.now.outs + length list.now.cells < 2 ^ 20 }
     requires spare { spare < 2 ^ 20 }
     ensures computes { IfOk result (λ r. ComputesByProgram list.now r.program) }
-    ensures instrs { IfOk result (λ r. length r.program.instrs ≤ (3 * length list.now.cells + length list.now.outs + 2 * loop_count list.now) * r.program.lanes) }
-    ensures lanes { IfOk result (λ r. r.program.lanes ≤ list.now.inputs + 2 * loop_count list.now + length list.now.outs + length list.now.cells + 2 + spare) }
+    ensures instrs { IfOk result (λ r.
+        length r.program.instrs
+        ≤ (3 * length list.now.cells + length list.now.outs + 2 * loop_count list.now)
+        * r.program.lanes
+        ) }
+    ensures lanes { IfOk result (λ r.
+        r.program.lanes
+        ≤ list.now.inputs
+        + 2 * loop_count list.now
+        + length list.now.outs
+        + length list.now.cells
+        + 2
+        + spare
+        ) }
     ensures empty { IfOk result (λ r. IsEmpty list.now → spare ≡ 0 → r.program.lanes ≡ 0) }
     ensures entries { IfOk result (λ r. AreAtEntries list.now r.program.lanes r.program.ins r.program.nets) }
     ensures made { IfOk result (λ r. AreAtCells list.now r.program.instrs r.program.nets) }
@@ -231,8 +248,20 @@ fn most_spare(list: &CellList) -> u32
 pub fn place(alloc: Global, list: &CellList) -> Result<Program, PlaceError>
     requires small { list.now.inputs + loop_count list.now + length list.now.outs + length list.now.cells < 2 ^ 20 }
     ensures computes { IfOk result (λ p. ComputesByProgram list.now p) }
-    ensures instrs { IfOk result (λ p. length p.instrs ≤ (3 * length list.now.cells + length list.now.outs + 2 * loop_count list.now) * p.lanes) }
-    ensures lanes { IfOk result (λ p. p.lanes ≤ list.now.inputs + 2 * loop_count list.now + length list.now.outs + length list.now.cells + 2 + max list.now.inputs (length list.now.outs)) }
+    ensures instrs { IfOk result (λ p.
+        length p.instrs
+        ≤ (3 * length list.now.cells + length list.now.outs + 2 * loop_count list.now)
+        * p.lanes
+        ) }
+    ensures lanes { IfOk result (λ p.
+        p.lanes
+        ≤ list.now.inputs
+        + 2 * loop_count list.now
+        + length list.now.outs
+        + length list.now.cells
+        + 2
+        + max list.now.inputs (length list.now.outs)
+        ) }
     ensures empty { IfOk result (λ p. IsEmpty list.now → p.lanes ≡ 0) }
     ensures entries { IfOk result (λ p. AreAtEntries list.now p.lanes p.ins p.nets) }
     ensures made { IfOk result (λ p. AreAtCells list.now p.instrs p.nets) }
@@ -257,8 +286,20 @@ pub fn place_at(
 ) -> Result<Program, PlaceError>
     requires small { list.now.inputs + loop_count list.now + length list.now.outs + length list.now.cells < 2 ^ 20 }
     ensures computes { IfOk result (λ p. ComputesByProgram list.now p) }
-    ensures instrs { IfOk result (λ p. length p.instrs ≤ (3 * length list.now.cells + length list.now.outs + 2 * loop_count list.now) * p.lanes) }
-    ensures lanes { IfOk result (λ p. p.lanes ≤ list.now.inputs + 2 * loop_count list.now + length list.now.outs + length list.now.cells + 2 + max list.now.inputs (length list.now.outs)) }
+    ensures instrs { IfOk result (λ p.
+        length p.instrs
+        ≤ (3 * length list.now.cells + length list.now.outs + 2 * loop_count list.now)
+        * p.lanes
+        ) }
+    ensures lanes { IfOk result (λ p.
+        p.lanes
+        ≤ list.now.inputs
+        + 2 * loop_count list.now
+        + length list.now.outs
+        + length list.now.cells
+        + 2
+        + max list.now.inputs (length list.now.outs)
+        ) }
     ensures empty { IfOk result (λ p. IsEmpty list.now → p.lanes ≡ 0) }
     ensures entries { IfOk result (λ p. AreAtEntries list.now p.lanes p.ins p.nets) }
     ensures made { IfOk result (λ p. AreAtCells list.now p.instrs p.nets) }

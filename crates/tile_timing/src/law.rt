@@ -85,7 +85,10 @@ fn exits_are_dark(cells: &[State], kind: Kind) -> bool
 }
 
 fn exits_answer(cells: &[State], kind: Kind, lit: [bool; 2]) -> bool
-    ensures { IsTrue result ↔ AreLitAs (exit_cells (interface kind)) (lit_exits (interface kind) (get_or lit 0 false) (get_or lit 1 false)) (shown cells.now 32) }
+    ensures { IsTrue result
+        ↔ AreLitAs (exit_cells (interface kind)) (lit_exits (interface kind) (get_or lit 0 false) (get_or lit 1 false)) (
+        shown cells.now 32
+        ) }
 {
     let lanes = kind.lanes() as usize;
     let exits = kind.exits();
@@ -93,7 +96,10 @@ fn exits_answer(cells: &[State], kind: Kind, lit: [bool; 2]) -> bool
 }
 
 fn exits_are_in_time(cells: &[State], kind: Kind, lit: [bool; 2], generation: usize) -> bool
-    ensures { IsTrue result ↔ ExitsInTime (interface kind) (get_or lit 0 false) (get_or lit 1 false) generation (shown cells.now 32) }
+    ensures { IsTrue result
+        ↔ ExitsInTime (interface kind) (get_or lit 0 false) (get_or lit 1 false) generation (
+        shown cells.now 32
+        ) }
 {
     if generation == 31 {
         exits_answer(cells, kind, lit)
@@ -104,7 +110,10 @@ fn exits_are_in_time(cells: &[State], kind: Kind, lit: [bool; 2], generation: us
 
 // What the timing law says of the ports at one generation.
 fn is_in_time(cells: &[State], kind: Kind, lit: [bool; 2], generation: usize) -> bool
-    ensures { IsTrue result ↔ IsInTime (interface kind) (get_or lit 0 false) (get_or lit 1 false) generation (shown cells.now 32) }
+    ensures { IsTrue result
+        ↔ IsInTime (interface kind) (get_or lit 0 false) (get_or lit 1 false) generation (
+        shown cells.now 32
+        ) }
 {
     if !exits_are_in_time(cells, kind, lit, generation) {
         return false;
@@ -116,7 +125,10 @@ fn is_in_time(cells: &[State], kind: Kind, lit: [bool; 2], generation: usize) ->
 fn marked_at(base: &[State], ports: &[(u32, u32)], bits: [bool; 2], mark: State, i: usize) -> State
     requires few { length ports.now ≤ 2 }
     requires inside { i < length base.now }
-    ensures { result ≡ marked (drawing_of base.now) (chosen (map cell_at ports.now) bits) mark (pos (i % 32)) (pos (i / 32)) }
+    ensures { result
+        ≡ marked (drawing_of base.now) (chosen (map cell_at ports.now) bits) mark (pos (i % 32)) (
+        pos (i / 32)
+        ) }
 {
     match base[i] {
         State::Empty => State::Empty,
@@ -162,7 +174,11 @@ fn is_marked(
 ) -> bool
     requires few { length ports.now ≤ 2 }
     requires same_length { length cells.now ≡ length base.now }
-    ensures { IsTrue result ↔ (shown cells.now 32 ≡ marked (drawing_of base.now) (chosen (map cell_at ports.now) bits) mark) }
+    ensures { IsTrue result
+        ↔ (
+        shown cells.now 32
+        ≡ marked (drawing_of base.now) (chosen (map cell_at ports.now) bits) mark
+        ) }
 {
     for (i, cell) in cells.iter().enumerate() {
         if !is_same(*cell, marked_at(base, ports, bits, mark, i)) {
@@ -175,7 +191,8 @@ fn is_marked(
 // The drawing with the chosen entries lit.
 fn light(base: &[State], cells: &mut [State], kind: Kind, lit: [bool; 2])
     requires same_length { length cells.old ≡ length base.now }
-    ensures shows { shown cells.new 32 ≡ started (interface kind) (drawing_of base.now) (get_or lit 0 false) (get_or lit 1 false) }
+    ensures shows { shown cells.new 32
+        ≡ started (interface kind) (drawing_of base.now) (get_or lit 0 false) (get_or lit 1 false) }
     ensures same_length { length cells.new ≡ length base.now }
 {
     let lanes = kind.lanes() as usize;
@@ -186,7 +203,13 @@ fn light(base: &[State], cells: &mut [State], kind: Kind, lit: [bool; 2])
 // Whether the exits that were lit are tails, and the drawing's other cells conductors.
 fn is_at_rest(base: &[State], cells: &[State], kind: Kind, lit: [bool; 2]) -> bool
     requires same_length { length cells.now ≡ length base.now }
-    ensures { IsTrue result ↔ (shown cells.now 32 ≡ picture (drawing_of base.now) [] (lit_exits (interface kind) (get_or lit 0 false) (get_or lit 1 false))) }
+    ensures { IsTrue result
+        ↔ (
+        shown cells.now 32
+        ≡ picture (drawing_of base.now) [] (
+        lit_exits (interface kind) (get_or lit 0 false) (get_or lit 1 false)
+        )
+        ) }
 {
     let lanes = kind.lanes() as usize;
     let exits = kind.exits();
@@ -204,7 +227,10 @@ fn keeps_time(
     requires whole { length base.now % 32 ≡ 0 }
     requires now_length { length now.old ≡ length base.now }
     requires next_length { length next.old ≡ length base.now }
-    ensures { IsTrue result ↔ KeepsTime (interface kind) (drawing_of base.now) (get_or lit 0 false) (get_or lit 1 false) }
+    ensures { IsTrue result
+        ↔ KeepsTime (interface kind) (drawing_of base.now) (get_or lit 0 false) (
+        get_or lit 1 false
+        ) }
 {
     light(base, now, kind, lit);
     for generation in 0..32 {

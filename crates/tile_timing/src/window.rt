@@ -48,17 +48,7 @@ fn next_at(cells: &[State], width: usize, x: usize, y: usize) -> State
     requires in_rows { y < length cells.now / width }
     ensures { result ≡ next_plane (shown cells.now width) (pos x) (pos y) }
 {
-    let heads = heads_near(cells, width, x, y);
-    match cells[y * width + x] {
-        State::Empty => State::Empty,
-        State::Head => State::Tail,
-        State::Tail => State::Conductor,
-        State::Conductor => if heads == 1 || heads == 2 {
-            State::Head
-        } else {
-            State::Conductor
-        },
-    }
+    cells[y * width + x].next(heads_near(cells, width, x, y))
 }
 
 /// One generation of Wireworld in a window: `old` has rows of `width` cells, row after row, all cells outside it are

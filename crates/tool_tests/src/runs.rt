@@ -17,9 +17,9 @@ const COMPILE: &[&str] = &["blifww", "compile"];
 
 const GATE: &[u8] = b".model or\n.inputs a b\n.outputs y\n.names a b y\n1- 1\n-1 1\n.end\n";
 
-// What is written for it: 317 bytes.
+// What is written for it: 321 bytes.
 const PATTERN: &[u8] =
-    b"#C BLIFWW 1 P 32 L 32\n#C BLIFWW IN 0 8 a\n#C BLIFWW IN 0 24 b\n#C BLIFWW OUT 32 8 y\n#C BLIFWW NET 0 8 0 a -\n#C BLIFWW NET 0 24 0 b -\n#C BLIFWW NET 31 8 31 y -\nx = 33, y = 32, rule = WireWorld\n8$5C18.10C$5.C16.C$6.C14.C$7.C12.C$8.C10.C$9.C.2C5.C$10.2C.C3.C$11.2C.\nC.C$15.C$11.2C.C$10.2C.C$9.C.2C$8.C$7.C$6.C$5.C$5C26.C!\n";
+    b"#C BLIFWW 2 P 32 L 32 C 1\n#C BLIFWW IN 0 8 a\n#C BLIFWW IN 0 24 b\n#C BLIFWW OUT 32 8 y\n#C BLIFWW NET 0 8 0 a -\n#C BLIFWW NET 0 24 0 b -\n#C BLIFWW NET 31 8 31 y -\nx = 33, y = 32, rule = WireWorld\n8$5C18.10C$5.C16.C$6.C14.C$7.C12.C$8.C10.C$9.C.2C5.C$10.2C.C3.C$11.2C.\nC.C$15.C$11.2C.C$10.2C.C$9.C.2C$8.C$7.C$6.C$5.C$5C26.C!\n";
 
 const USAGE: &[u8] = b"usage: blifww compile|simulate|eval|probe|window|make|self\n";
 
@@ -130,7 +130,7 @@ fn expect_run(
 #[test]
 fn an_or_gate_is_compiled(rt: HostRuntime) -> Result<(), Fail> {
     let ending = (0, PATTERN, b"".as_slice());
-    expect_run_over(rt.alloc(), COMPILE, GATE, (16, &[]), (317, 0), ending)
+    expect_run_over(rt.alloc(), COMPILE, GATE, (16, &[]), (321, 0), ending)
 }
 
 #[test]
@@ -139,30 +139,30 @@ fn an_or_gate_is_compiled_by_its_names(rt: HostRuntime) -> Result<(), Fail> {
         b".model X\n.inputs X sum_of_2_inputs_0\n.outputs _9\n.names X sum_of_2_inputs_0 _9\n1- 1\n-1 1\n.end\n";
     let got = run_over(rt.alloc(), COMPILE, named, (16, &[]), (400, 0))?;
     let ports =
-        b"#C BLIFWW 1 P 32 L 32\n#C BLIFWW IN 0 8 X\n#C BLIFWW IN 0 24 sum_of_2_inputs_0\n#C BLIFWW OUT 32 8 _9\n#C BLIFWW NET 0 8 0 X -\n#C BLIFWW NET 0 24 0 sum_of_2_inputs_0 -\n#C BLIFWW NET 31 8 31 _9 -\nx = 33, y = 32, rule";
-    let is_named = got.out.starts_with(ports) && got.out.ends_with(&PATTERN[175..]);
+        b"#C BLIFWW 2 P 32 L 32 C 1\n#C BLIFWW IN 0 8 X\n#C BLIFWW IN 0 24 sum_of_2_inputs_0\n#C BLIFWW OUT 32 8 _9\n#C BLIFWW NET 0 8 0 X -\n#C BLIFWW NET 0 24 0 sum_of_2_inputs_0 -\n#C BLIFWW NET 31 8 31 _9 -\nx = 33, y = 32, rule";
+    let is_named = got.out.starts_with(ports) && got.out.ends_with(&PATTERN[179..]);
     assert!(rt; got.status == 0 && is_named);
     Ok(())
 }
 
 // Words, the calls of the source that fail, the rooms of the sinks, the status, how many bytes of the pattern are written, and what is told.
 const FAILURES: &[(&[&str], &[u64], (usize, usize), u8, usize, &[u8])] = &[
-    (COMPILE, &[9], (175, 99), 6, 175, b"write fault\n"),
-    (COMPILE, &[9], (175, 5), 6, 175, b"write"),
-    (COMPILE, &[1], (317, 99), 5, 0, b"read fault\n"),
-    (COMPILE, &[1], (317, 4), 6, 0, b"read"),
-    (&["blifww"], &[0], (317, 99), 2, 0, USAGE),
+    (COMPILE, &[9], (179, 99), 6, 179, b"write fault\n"),
+    (COMPILE, &[9], (179, 5), 6, 179, b"write"),
+    (COMPILE, &[1], (321, 99), 5, 0, b"read fault\n"),
+    (COMPILE, &[1], (321, 4), 6, 0, b"read"),
+    (&["blifww"], &[0], (321, 99), 2, 0, USAGE),
     (
         &["blifww", "compile", "compile"],
         &[0],
-        (317, 99),
+        (321, 99),
         2,
         0,
         USAGE,
     ),
-    (&["blifww", "simulate"], &[0], (317, 99), 2, 0, USAGE),
-    (&["blifww"], &[0], (317, 20), 6, 0, b"usage: blifww compil"),
-    (CORNER, &[0], (317, 99), 5, 0, b"read fault\n"),
+    (&["blifww", "simulate"], &[0], (321, 99), 2, 0, USAGE),
+    (&["blifww"], &[0], (321, 20), 6, 0, b"usage: blifww compil"),
+    (CORNER, &[0], (321, 99), 5, 0, b"read fault\n"),
     (
         &["blifww", "make", "--seed", "1", "--size", "2"],
         &[0],
@@ -180,7 +180,7 @@ fn each_failure_is_told(rt: HostRuntime) -> Result<(), Fail> {
         let is_front = got.out.len() == *written && PATTERN.starts_with(&got.out);
         assert!(rt; is_front && got.is(*status, &got.out, err), "{words:?}");
     }
-    assert!(rt; PATTERN[..175].ends_with(b"x = 33, y = 32, ru"));
+    assert!(rt; PATTERN[..179].ends_with(b"x = 33, y = 32, ru"));
     Ok(())
 }
 
@@ -196,7 +196,7 @@ fn a_text_past_the_limit_is_too_long(rt: HostRuntime) -> Result<(), Fail> {
     for (length, status, line) in LONG_TEXTS {
         let text = vec![in alloc; b'#'; *length]?;
         let ending = (*status, b"".as_slice(), *line);
-        expect_run_over(alloc, COMPILE, &text, (1 << 20, &[]), (317, 99), ending)?;
+        expect_run_over(alloc, COMPILE, &text, (1 << 20, &[]), (321, 99), ending)?;
     }
     Ok(())
 }
@@ -217,7 +217,7 @@ fn wire(alloc: Global, period: &[u8]) -> Result<Vec<u8>, AllocError> {
 #[test]
 fn what_compile_writes_is_simulated(rt: HostRuntime) -> Result<(), Fail> {
     let alloc = rt.alloc();
-    let compiled = run_over(alloc, COMPILE, GATE, (16, &[]), (317, 0))?;
+    let compiled = run_over(alloc, COMPILE, GATE, (16, &[]), (321, 0))?;
     let whole = (0, b"y=0111\n".as_slice(), b"".as_slice());
     expect_run_over(alloc, OR_STREAMS, &compiled.out, (16, &[]), (7, 0), whole)?;
     let front = (6, b"y=01".as_slice(), b"write fault\n".as_slice());
@@ -235,6 +235,15 @@ fn a_wire_shows_what_its_period_lets_through(rt: HostRuntime) -> Result<(), Fail
     }
     let bare = b"#CXRLE Pos=0,0\nx = 3, y = 1, rule = wireworld\n3C$!";
     expect_run(alloc, ONE_CYCLE, bare, 0, b"", b"")
+}
+
+#[test]
+fn names_with_escapes_are_driven_and_printed_as_they_are_meant(
+    rt: HostRuntime,
+) -> Result<(), Fail> {
+    let wire =
+        b"#C BLIFWW 2 P 4 L 2 C 1\n#C BLIFWW IN 0 0 %61\n#C BLIFWW OUT 2 0 %25%c3%A9\nx = 3, y = 1, rule = WireWorld\n3C!\n";
+    expect_run(rt.alloc(), TWO_CYCLES, wire, 0, b"%\xc3\xa9=11\n", b"")
 }
 
 // Words, a pattern, the status, and the line that is told.
@@ -268,6 +277,12 @@ const REFUSED_PATTERNS: &[(&[&str], &[u8], u8, &[u8])] = &[
         b"#C BLIFWW 1 P 4 L 2\n#C BLIFWW IN 0 0 a\n#C BLIFWW IN 0 0 a\n#C BLIFWW OUT 2 0 y\nx = 3, y = 1, rule = WireWorld\n3C!\n",
         8,
         b"H4 Twice line 3\n",
+    ),
+    (
+        TWO_CYCLES,
+        b"#C BLIFWW 2 P 4 L 2 C 1\n#C BLIFWW IN 0 0 %4\n#C BLIFWW OUT 2 0 y\nx = 3, y = 1, rule = WireWorld\n3C!\n",
+        8,
+        b"H1 BadLine line 2\n",
     ),
     (
         TWO_CYCLES,

@@ -74,7 +74,12 @@ impl Source for MemSource {
         ensures bytes { ReadConsumes (Some (bytes_left self.old)) (Some (bytes_left self.new)) result buf.new }
         ensures cause { HasCause (source_faults self.old) (source_faults self.new) result }
         ensures fails { IsErr result ↔ Contains (source_fails self.old) (source_call self.old) }
-        ensures count { IfOk result (λ n. n ≡ min (length (bytes_left self.old)) (min (source_chunk self.old) (length buf.new))) }
+        ensures count { IfOk result (λ n.
+            n
+            ≡ min (length (bytes_left self.old)) (
+            min (source_chunk self.old) (length buf.new)
+            )
+            ) }
         ensures call { source_call self.new ≡ next_count (source_call self.old) }
         ensures fails_stay { source_fails self.new ≡ source_fails self.old }
         ensures chunk { source_chunk self.new ≡ source_chunk self.old }

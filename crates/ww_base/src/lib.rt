@@ -6,9 +6,11 @@
 mod fakes;
 mod standard;
 mod streams;
+mod wanted;
 mod whole;
 
 pub use fakes::{FakeError, MemSink, MemSource};
 pub use standard::{StdSink, StdSource};
 pub use streams::{Failed, Sink, Source};
+pub use wanted::expect;
 pub use whole::{ReadAllError, read_all, write_all};

@@ -63,7 +63,10 @@ fn fill_run(row: &mut [State], x: usize, count: usize, state: State)
 fn fill_in(cells: &mut [State], width: usize, x: usize, y: usize, count: usize, state: State)
     requires in_cells { y * width + width ≤ length cells.old }
     requires in_row { x + count ≤ width }
-    ensures { cells.new ≡ with_row cells.old width y (with_run (take width (drop (y * width) cells.old)) x count state) }
+    ensures { cells.new
+        ≡ with_row cells.old width y (
+        with_run (take width (drop (y * width) cells.old)) x count state
+        ) }
 {
     let start = y * width;
     fill_run(&mut cells[start..start + width], x, count, state);

@@ -93,5 +93,6 @@ pub fn contexts_are_injected()
 
 /// Rows of bits behind others change nothing before their own cycles, and rows of 0 bits nothing at all.
 pub fn streams_go_on()
-    ensures { (period : ℕ) (cells : List (ℕ × ℕ)) (rows later : List (List Bool)) → StreamsGoOn period cells rows later }
+    ensures { (period : ℕ) (cells : List (ℕ × ℕ)) (rows later : List (List Bool))
+        → StreamsGoOn period cells rows later }
 {}

@@ -12,7 +12,10 @@ use std::alloc::Global;
 pub fn mirror_x(alloc: Global, pattern: &Pattern) -> Result<Pattern, RuleError>
     ensures width { IfOk result (λ mirror. mirror.width ≡ pattern.now.width) }
     ensures height { IfOk result (λ mirror. mirror.height ≡ pattern.now.height) }
-    ensures cells { IfOk result (λ mirror. plane_of mirror.rows ≡ mirrored (pos pattern.now.width -ℤ pos 1) (plane_of pattern.now.rows)) }
+    ensures cells { IfOk result (λ mirror.
+        plane_of mirror.rows
+        ≡ mirrored (pos pattern.now.width -ℤ pos 1) (plane_of pattern.now.rows)
+        ) }
 {
     let rows = reversed(alloc, &pattern.rows)?;
     Ok(Pattern {

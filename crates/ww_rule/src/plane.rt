@@ -105,7 +105,10 @@ pub fn step_driven(
     requires in_box { AreInBox plane.now.width plane.now.height injections.now }
     ensures width { IfOk result (λ next. next.width ≡ plane.now.width) }
     ensures height { IfOk result (λ next. next.height ≡ plane.now.height) }
-    ensures cells { IfOk result (λ next. plane_of next.rows ≡ injected (has_cell injections.now) (next_plane (plane_of plane.now.rows))) }
+    ensures cells { IfOk result (λ next.
+        plane_of next.rows
+        ≡ injected (has_cell injections.now) (next_plane (plane_of plane.now.rows))
+        ) }
 {
     let next = step_plain(alloc, plane)?;
     Ok(next.inject(injections))

@@ -241,20 +241,24 @@ fn each_net_is_evaluated_as_it_is_probed(rt: HostRuntime) -> Result<(), Fail> {
     Ok(())
 }
 
-// Netlists, and how their patterns begin.
+// Netlists, and how their patterns begin: with the times, and with names that have escapes.
 const BEGUN: &[(&[u8], &[u8])] = &[
     (
         b".model m\n.end\n",
-        b"#C BLIFWW 1 P 32 L 0\nx = 0, y = 0, rule = WireWorld\n!\n",
+        b"#C BLIFWW 2 P 32 L 0 C 1\nx = 0, y = 0, rule = WireWorld\n!\n",
     ),
     (
         b".model or\n.inputs a b\n.outputs y\n.names a b y\n10 1\n.end\n",
-        b"#C BLIFWW 1 P 32 L 32\n",
+        b"#C BLIFWW 2 P 32 L 32 C 1\n",
+    ),
+    (
+        b".model or\n.inputs a% \xc3\xa9\n.outputs y\n.names a% \xc3\xa9 y\n1- 1\n-1 1\n.end\n",
+        b"#C BLIFWW 2 P 32 L 32 C 1\n#C BLIFWW IN 0 8 a%25\n#C BLIFWW IN 0 24 %C3%A9\n#C BLIFWW OUT 32 8 y\n#C BLIFWW NET 0 8 0 a%25 -\n",
     ),
 ];
 
 #[test]
-fn what_compile_writes_begins_with_its_times(rt: HostRuntime) -> Result<(), Fail> {
+fn what_compile_writes_begins_with_its_times_and_names(rt: HostRuntime) -> Result<(), Fail> {
     let alloc = rt.alloc();
     for (text, begin) in BEGUN {
         assert!(rt; compiled(alloc, text)?.starts_with(begin));

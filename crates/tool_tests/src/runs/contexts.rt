@@ -93,7 +93,7 @@ fn number_at(text: &[u8]) -> u64 {
 // As many contexts as the period of a netlist's pattern has room for.
 fn room_of(alloc: Global, netlist: &[u8]) -> Result<u64, Fail> {
     let text = compiled(alloc, netlist)?;
-    match text.strip_prefix(b"#C BLIFWW 1 P ") {
+    match text.strip_prefix(b"#C BLIFWW 2 P ") {
         Some(rest) => Ok(number_at(rest) / 32),
         None => Err(Fail::new("the text begins otherwise")),
     }

@@ -14,15 +14,15 @@ fn each_read_that_fails_is_told(rt: HostRuntime) -> Result<(), Fail> {
     // The text has 61 bytes, and one read more finds its end.
     for call in 0..62u64 {
         let ending = (5, b"".as_slice(), b"read fault\n".as_slice());
-        expect_run_over(rt.alloc(), COMPILE, GATE, (1, &[call]), (317, 99), ending)?;
+        expect_run_over(rt.alloc(), COMPILE, GATE, (1, &[call]), (321, 99), ending)?;
     }
     let ending = (0, PATTERN, b"".as_slice());
-    expect_run_over(rt.alloc(), COMPILE, GATE, (1, &[62]), (317, 0), ending)
+    expect_run_over(rt.alloc(), COMPILE, GATE, (1, &[62]), (321, 0), ending)
 }
 
 #[test]
 fn output_is_cut_where_there_is_no_room(rt: HostRuntime) -> Result<(), Fail> {
-    for room in 0..317 {
+    for room in 0..321 {
         let got = run_over(rt.alloc(), COMPILE, GATE, (4096, &[]), (room, 99))?;
         let is_cut = got.out.len() == room && PATTERN.starts_with(&got.out);
         assert!(rt;
@@ -36,7 +36,7 @@ fn output_is_cut_where_there_is_no_room(rt: HostRuntime) -> Result<(), Fail> {
 #[test]
 fn output_is_whole_where_there_is_room(rt: HostRuntime) -> Result<(), Fail> {
     let ending = (0, PATTERN, b"".as_slice());
-    expect_run_over(rt.alloc(), COMPILE, GATE, (4096, &[]), (317, 0), ending)
+    expect_run_over(rt.alloc(), COMPILE, GATE, (4096, &[]), (321, 0), ending)
 }
 
 const INVERTER: &[u8] = b".model n\n.inputs a\n.outputs y\n.names a y\n0 1\n";

@@ -36,15 +36,15 @@ fn deep(alloc: Global, models: usize) -> Result<Vec<u8>, AllocError> {
 
 // Numbers of inputs, the status, and the line that is told.
 const WIDE: &[(usize, u8, &[u8])] = &[
-    (1022, 9, b"stream: MissingInput i0\n"),
-    (1023, 4, b"too large: weight 1025 limit 1024\n"),
+    (8190, 9, b"stream: MissingInput i0\n"),
+    (8191, 4, b"too large: weight 8193 limit 8192\n"),
 ];
 
 // Numbers of models that each place the next twice, and the line that is told.
 const DEEP: &[(usize, &[u8])] = &[
-    (40, b"too large: weight 3298534883326 limit 1024\n"),
-    (62, b"too large: weight 13835058055282163710 limit 1024\n"),
-    (63, b"too large: weight 18446744073709551615 limit 1024\n"),
+    (40, b"too large: weight 3298534883326 limit 8192\n"),
+    (62, b"too large: weight 13835058055282163710 limit 8192\n"),
+    (63, b"too large: weight 18446744073709551615 limit 8192\n"),
 ];
 
 #[test]
@@ -62,8 +62,8 @@ fn a_netlist_past_the_limit_is_too_large(rt: HostRuntime) -> Result<(), Fail> {
 #[test]
 fn a_netlist_of_the_greatest_weight_is_compiled(rt: HostRuntime) -> Result<(), Fail> {
     let alloc = rt.alloc();
-    let text = wide(alloc, 1022)?;
+    let text = wide(alloc, 8190)?;
     let got = run_over(alloc, COMPILE, &text, (4096, &[]), (1 << 20, 0))?;
-    assert!(rt; got.status == 0 && got.out.starts_with(b"#C BLIFWW 1 P 32 L "));
+    assert!(rt; got.status == 0 && got.out.starts_with(b"#C BLIFWW 2 P 32 L "));
     Ok(())
 }

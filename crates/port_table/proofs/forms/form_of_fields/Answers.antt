@@ -10,6 +10,6 @@ returns-in_default c =
     let fields : List (List ℕ) = map (λ f. f.now) c.args.fields.now in
     let n : length fields ≡ length c.args.fields.now = length-map c.args.fields.now (λ f. f.now) in
     elim c.in_default.branch [
-      | in_default-via-then-fields-lt4 w ↦ sym (no_form fields (λ e. omega (arith, n, e, ltb-true, ltb-false)) (λ e. omega (arith, n, e, ltb-true, ltb-false)) (λ e. omega (arith, n, e, ltb-true, ltb-false)) (λ e. omega (arith, n, e, ltb-true, ltb-false)))
-      | in_default-via-else-fields-lt4+else-fields-lt5+else-fields-lt6+else-fields-lt7+else-fields-lt8 w ↦ sym (no_form fields (λ e. omega (arith, n, e, ltb-true, ltb-false)) (λ e. omega (arith, n, e, ltb-true, ltb-false)) (λ e. omega (arith, n, e, ltb-true, ltb-false)) (λ e. omega (arith, n, e, ltb-true, ltb-false)))
+      | in_default-via-then-fields-lt4 w ↦ sym (no_form c.args.version fields (λ e. omega (arith, n, e, ltb-true, ltb-false)) (λ e. omega (arith, n, e, ltb-true, ltb-false)) (λ e. omega (arith, n, e, ltb-true, ltb-false)) (λ e. omega (arith, n, e, ltb-true, ltb-false)))
+      | in_default-via-else-fields-lt4+else-fields-lt5+else-fields-lt6+else-fields-lt7+else-fields-lt8 w ↦ sym (no_form c.args.version fields (λ e. omega (arith, n, e, ltb-true, ltb-false)) (λ e. omega (arith, n, e, ltb-true, ltb-false)) (λ e. omega (arith, n, e, ltb-true, ltb-false)) (λ e. omega (arith, n, e, ltb-true, ltb-false)))
     ]

@@ -1,32 +1,15 @@
-use Rattle.std.proofs.Common.{sym, ap, ◌∙◌, ◌++◌, Some, None}
-use Rattle.std.specs.Prelude.{option_map}
-use Rattle.std.specs.Option.{option_to_list}
-use Rattle.std.proofs.lemmas.List.{append-nil}
+use Rattle.std.proofs.Common.{sym, ap, ◌∙◌, ◌++◌}
 use Rattle.pattern_reading.specs.PortTable.{input_of, output_of, net_of}
-use Rattle.port_table.specs.Lent.{form_of}
+use Rattle.port_table.specs.Lent.{said_by}
 use Rattle.port_table.proofs.Walking.{said_more}
 use Rattle.port_table.proofs.ports.ports_of.Goals as goal
-use Rattle.port_table.proofs.ports.ports_of.Goals.{in-Some+in_ok-push, in_default}
 
 pub loop-line-preserved : goal.loop-line-preserved
 loop-line-preserved c =
-    let lines = c.args.lines.now in
-    let i = c.loop-line.line-index in
     let so_far = c.loop-line.invariant in
-    elim c.match-line.branch [
-      | in-Some+in_ok-push w ↦
-          let form = Some (form_of w.in-Some.form) in
-          let is = ap (λ f. option_map form_of f) w.in-Some.is in
-          rw w.lists-is (record {
-            ins_so_far = w.in_ok-push.ensures.ins ∙ ap (λ xs. xs ++ option_to_list (input_of (form_of w.in-Some.form))) so_far.ins_so_far ∙ sym (said_more input_of lines i _ form c.loop-line-test.true is);
-            outs_so_far = w.in_ok-push.ensures.outs ∙ ap (λ xs. xs ++ option_to_list (output_of (form_of w.in-Some.form))) so_far.outs_so_far ∙ sym (said_more output_of lines i _ form c.loop-line-test.true is);
-            nets_so_far = w.in_ok-push.ensures.nets ∙ ap (λ xs. xs ++ option_to_list (net_of (form_of w.in-Some.form))) so_far.nets_so_far ∙ sym (said_more net_of lines i _ form c.loop-line-test.true is);
-          })
-      | in_default w ↦
-          let is = ap (λ f. option_map form_of f) w.in_default.is in
-          rw w.lists-is (record {
-            ins_so_far = so_far.ins_so_far ∙ sym (said_more input_of lines i _ None c.loop-line-test.true is ∙ append-nil _);
-            outs_so_far = so_far.outs_so_far ∙ sym (said_more output_of lines i _ None c.loop-line-test.true is ∙ append-nil _);
-            nets_so_far = so_far.nets_so_far ∙ sym (said_more net_of lines i _ None c.loop-line-test.true is ∙ append-nil _);
-          })
-    ]
+    let line = c.in-Some.line in
+    record {
+      ins_so_far = c.in_ok-push.ensures.ins ∙ ap (λ xs. xs ++ said_by input_of line.form) so_far.ins_so_far ∙ sym (said_more input_of c.loop-line.yielded line);
+      outs_so_far = c.in_ok-push.ensures.outs ∙ ap (λ xs. xs ++ said_by output_of line.form) so_far.outs_so_far ∙ sym (said_more output_of c.loop-line.yielded line);
+      nets_so_far = c.in_ok-push.ensures.nets ∙ ap (λ xs. xs ++ said_by net_of line.form) so_far.nets_so_far ∙ sym (said_more net_of c.loop-line.yielded line);
+    }

@@ -1,4 +1,4 @@
-use Rattle.std.proofs.Common.{◌≡◌, take}
+use Rattle.std.proofs.Common.{◌≡◌}
 use Rattle.std.specs.Prelude.{filter_map}
 use Rattle.pattern_reading.specs.PortTable.{input_of, output_of, net_of}
 use Rattle.port_table.specs.Lent.{forms_in}
@@ -6,7 +6,7 @@ use Rattle.port_table.proofs.ports.ports_of.Given as goal
 
 abbrev pub invariant-loop-line : goal.invariant-loop-line
 invariant-loop-line l = record {
-  ins_so_far : l.lists.ins.items ≡ filter_map input_of (forms_in (take l.line-index l.lines));
-  outs_so_far : l.lists.outs.items ≡ filter_map output_of (forms_in (take l.line-index l.lines));
-  nets_so_far : l.lists.nets.items ≡ filter_map net_of (forms_in (take l.line-index l.lines));
+  ins_so_far : l.lists.ins.items ≡ filter_map input_of (forms_in l.yielded);
+  outs_so_far : l.lists.outs.items ≡ filter_map output_of (forms_in l.yielded);
+  nets_so_far : l.lists.nets.items ≡ filter_map net_of (forms_in l.yielded);
 }

@@ -1,12 +1,13 @@
-use Rattle.std.proofs.Common.{◌≡◌, ℕ, List, ◌∷◌, ◌++◌, flat_map, drop}
+use Rattle.std.proofs.Common.{◌≡◌, ℕ, List, ◌++◌, drop}
+use Rattle.port_writing.specs.Lines.{spaced}
 use Rattle.port_writing.specs.Pages.{held, column_of}
 use Rattle.port_writing.specs.Progress.{Wrote}
-use Rattle.port_writing.proofs.table.write_fields.Given as goal
+use Rattle.port_writing.proofs.table.put_fields.Given as goal
 
 abbrev pub invariant-loop-field : goal.invariant-loop-field
 invariant-loop-field g l = record {
   column : column_of l.page ≡ column_of l.initial.page;
   wrote : (rest : List ℕ) →
       Wrote (g.O.Sink.written l.initial.sink) (g.O.Sink.written l.sink) (g.O.Sink.faults l.initial.sink) (g.O.Sink.faults l.sink)
-      (held l.initial.page ++ (flat_map (λ field. 32 ∷ field.now) l.fields ++ rest)) (held l.page ++ (flat_map (λ field. 32 ∷ field.now) (drop l.field-index l.fields) ++ rest));
+      (held l.initial.page ++ (spaced l.fields ++ rest)) (held l.page ++ (spaced (drop l.field-index l.fields) ++ rest));
 }

@@ -3,4 +3,4 @@ use Rattle.std.specs.Prelude.{ℕ}
 
 -- the greatest weight of a netlist
 abbrev pub weight_limit : ℕ
-weight_limit = 1024
+weight_limit = 8192

@@ -1,0 +1,13 @@
+use Rattle.std.proofs.Common.{◌++◌}
+use Rattle.std.proofs.lemmas.Result.{on_ok_weaker, on_err_weaker}
+use Rattle.port_writing.specs.Lines.{spaced}
+use Rattle.port_writing.proofs.Steps.{wrote_then, wrote_broke}
+use Rattle.port_writing.proofs.table.begin_line.Goals as goal
+
+pub returns-clause-ok : goal.returns-clause-ok
+returns-clause-ok g c =
+    on_ok_weaker c.put_fields.result (λ wrote rest. wrote_then (c.in_ok-put.ensures.ok (spaced c.args.fields.now ++ rest)) (wrote rest)) c.put_fields.ensures.ok
+
+pub returns-clause-err : goal.returns-clause-err
+returns-clause-err g c =
+    on_err_weaker c.put_fields.result (λ broke rest. wrote_broke (c.in_ok-put.ensures.ok (spaced c.args.fields.now ++ rest)) (broke rest)) c.put_fields.ensures.err

@@ -1,0 +1,15 @@
+// What tests compare.
+ghost use Rattle.std.specs.Prelude.{◌≡◌, IsOk};
+
+use std::test::Fail;
+
+/// Fails where a text is not the one that is wanted, and tells both.
+pub fn expect(said: &[u8], want: &[u8]) -> Result<(), Fail>
+    ensures { IsOk result → said.now ≡ want.now }
+{
+    if said == want {
+        Ok(())
+    } else {
+        Err(Fail::new(format_args!("{said:?}, and not {want:?}")))
+    }
+}
