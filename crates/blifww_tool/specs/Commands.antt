@@ -1,4 +1,5 @@
--- For each command whether it reads a text, which texts it accepts, what it prints of them, and why it refuses the others.
+-- For each command whether it reads a text, which texts it accepts, what it prints of them, and why it refuses the
+-- others.
 use Rattle.std.specs.Prelude.{◌≡◌, ◌≤◌, ℕ, Bool, true, false, List, ⊤}
 use Rattle.command_words.specs.Shapes.{CommandValues, compile, simulate, eval, probe, window, make, self_}
 use Rattle.netlist_core.specs.declared.model.Design.{Design}
@@ -31,9 +32,13 @@ reads_text (window view words) = true
 reads_text (make seed size) = false
 reads_text (self_ seed size cycles) = false
 
--- the command accepts the text: it is a netlist, in which the words say starts of as many contexts as every plan has room for; with the
--- words a simulation in time, without a miss; with the words an evaluation; a simulation that has the net and shows it so; a simulation
--- without a miss up to the view; always; or where no plan of the made netlist can need more generations than are run
+-- The command accepts the text.
+-- `compile`: the text is a netlist, in which the words say starts, for no more contexts than every plan has room for.
+-- `simulate`: the text and the words are a simulation, with its last bits in time, whose injections meet conductors.
+-- `eval`: the text is a netlist, and the words are streams for it.
+-- `probe`: they are a simulation that has the net and shows its bits in time, and the injections meet conductors.
+-- `window`: they are a simulation whose injections meet conductors up to the generation that is shown.
+-- `make` always does; `self` where no plan of the made netlist can need more generations than are run.
 abbrev pub Accepts : CommandValues → List ℕ → Type 0
 Accepts (compile contexts starts) text = (design : Design) × HasStarts contexts starts text design × (contexts ≤ least_room design)
 Accepts (simulate cycles words) text = (s : Simulation) × Simulates cycles words text s
@@ -43,8 +48,9 @@ Accepts (window view words) text = (s : Simulation) × HasView view words text s
 Accepts (make seed size) text = ⊤
 Accepts (self_ seed size cycles) text = most_generations (weight (made_design seed size)) cycles ≤ greatest_generation
 
--- of such a text it prints this output: a pattern that carries the netlist in these contexts; a line for each output of the pattern, or of the
--- netlist; the lines of the net; those of a part of the plane; the made text; or what is told of the made netlist
+-- of such a text it prints this output: a pattern that carries the netlist in these contexts; a line for each output of
+-- the pattern, or of the netlist; the lines of the net; those of a part of the plane; the made text; or what is told of
+-- the made netlist
 abbrev pub Prints : CommandValues → (text output : List ℕ) → Type 0
 Prints (compile contexts starts) text output = Compiles contexts starts text output
 Prints (simulate cycles words) text output = (s : Simulation) × Simulates cycles words text s × (output ≡ simulation_text s)
@@ -65,14 +71,16 @@ Refuses (make seed size) text cause = ⊥
 Refuses (self_ seed size cycles) text (TooFar generations) = HasSummaryCause seed size cycles (summarizing.TooFar generations)
 Refuses (self_ seed size cycles) text cause = ⊥
 
--- The command refuses the text for this cause whenever nothing fails and there is memory: but for `self`, and for the room that `compile` has
--- for contexts, as the plan is free, where it refuses it at all.
+-- The command refuses the text for this cause whenever nothing fails and there is memory. Two causes are left out,
+-- since they depend on the plan, which is free: that `self` needs too many generations, and that `compile` has no room
+-- for the contexts. `self` and `compile` may refuse a text for them, where `Refuses` says so.
 abbrev pub MustRefuse : CommandValues → List ℕ → Cause → Type 0
 MustRefuse (self_ seed size cycles) text cause = ⊥
 MustRefuse (compile contexts starts) text (TooManyContexts told limit) = ⊥
 MustRefuse command text cause = Refuses command text cause
 
--- Two causes are of one kind, and the same, but that there may be several loops, and on one line several words at fault.
+-- Two causes are of one kind, and the same, but that there may be several loops, and on one line several words at
+-- fault.
 abbrev pub AreAlike : Cause → Cause → Type 0
 AreAlike (NetlistFault a) (NetlistFault b) = AreAlikeFaults a b
 AreAlike (Loop a) (Loop b) = ⊤

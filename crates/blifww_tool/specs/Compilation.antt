@@ -27,10 +27,11 @@ use Rattle.start_words.specs.Starts.{latches_of, starts_of_words}
 use Rattle.blifww_tool.specs.declared.causes.Cause.{Cause}
 use Rattle.blifww_tool.specs.declared.causes.Cause.TheVariants.{NetlistFault, WeightTooLarge, Loop, StartWord, TooManyContexts}
 
--- The written text of the plan and its table carries the design and its nets. The plan can be drawn, with its starts. It computes the cells of the
--- design's flat netlist: so it has a loop for each latch, and exactly where constant 1 is named one more. The design's weight bounds its lanes,
--- its columns and its instructions, and it has no lane and no column exactly where there is no net but clock nets. Each net has a place, by
--- what drives it. Where there is no latch and no cover needs constant 1 the period is 32.
+-- The written text of the plan and its table carries the design and its nets. The plan can be drawn, with its starts.
+-- The plan computes the cells of the design's flat netlist: so it has a loop for each latch, and exactly where constant
+-- 1 is named one more. The design's weight bounds its lanes, its columns and its instructions, and it has no lane and no
+-- column exactly where there is no net but clock nets. Each net has a place, by what drives it. Where there is no latch
+-- and no cover needs constant 1 the period is 32.
 pub record IsCarriedBy (design : Design) (plan : Plan) (ports : Ports) : Type 0 where
   pub admissible : IsAdmissible plan
   pub edges : HasStartEdges plan
@@ -50,10 +51,10 @@ pub record HasStarts (contexts : ℕ) (starts : List (List ℕ)) (text : List �
   pub netlist : IsNetlist text design
   pub no_fault : first_fault (latches_of design) contexts starts ≡ None
 
--- The text is a netlist, in which the words say starts. The output is the written text of a plan and its table that carries the design and its
--- nets in these contexts, each from its start. They have room in the period of a plan by which the design is carried, 32 generations each;
--- the written plan is that one, but for its starts and for columns that the contexts may need more. In one context, and without words, it is
--- that plan.
+-- The text is a netlist, in which the words say starts. A plan of one context carries the design, and its period has 32
+-- generations for each of the contexts. The output is the written text of a plan and its table that carries the design
+-- and its nets in these contexts, each from its start. The written plan is that of one context, but for its starts and
+-- for the further columns that the contexts need; in one context, and without words, it is that plan.
 pub record Compiles (contexts : ℕ) (starts : List (List ℕ)) (text output : List ℕ) : Type 0 where
   pub design : Design
   pub has : HasStarts contexts starts text design
@@ -94,8 +95,8 @@ latch_count design = length (at_places design (λ model. model.latches) (λ plac
 abbrev pub least_room : Design → ℕ
 least_room design = max 1 (6 * latch_count design)
 
--- The text is a netlist, in which the words say starts, but the contexts have no room in the period of a plan by which the design is carried:
--- it has room for so many.
+-- The text is a netlist, in which the words say starts. A plan of one context carries the design, and its period has
+-- room for `limit` contexts, 32 generations each; more are asked for.
 pub record HasNoRoom (contexts : ℕ) (starts : List (List ℕ)) (text : List ℕ) (limit : ℕ) : Type 0 where
   pub design : Design
   pub has : HasStarts contexts starts text design

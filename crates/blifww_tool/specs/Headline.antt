@@ -1,4 +1,4 @@
--- The headline, and what it is the case of: one context, without words.
+-- The headline, and what it is a case of: one context, without words.
 use Rattle.std.specs.Prelude.{◌≡◌, ℕ, List, ◌++◌, Some}
 use Rattle.netlist_core.specs.declared.model.Design.{Design}
 use Rattle.blif_text.specs.Faults.{IsDesignOf}
@@ -8,16 +8,16 @@ use Rattle.carries.specs.DesignContexts.{CarriesContexts, CarriesNetsInContexts}
 use Rattle.start_words.specs.Starts.{starts_of_words}
 use Rattle.blifww_tool.specs.Run.{Reading, Writing}
 
--- Where the source tells the bytes that it had left, and the output the bytes that it held: the bytes that the output gained carry
--- the design of the bytes that the source had left, and its nets.
+-- Where the source tells the bytes that it had left, and the output the bytes that it held: the bytes that the output
+-- gained carry the design of the bytes that the source had left, and its nets.
 abbrev pub WritesWhatItRead : Reading → Writing → Type 0
 WritesWhatItRead src out =
     (text before : List ℕ) → src.left ≡ Some text → out.written ≡ Some before
     → (pattern : List ℕ) × (out.written_after ≡ Some (before ++ pattern))
     × (design : Design) × IsDesignOf text design × Carries pattern design × CarriesNets pattern design
 
--- where the words say starts for contexts: the bytes that the output gained carry the design in these contexts, each from its start, and
--- its nets
+-- the bytes that the output gained carry the design of the bytes that the source had left in these contexts, each from
+-- the start that the words give it, and its nets
 abbrev pub WritesInContexts : (contexts : ℕ) → (starts : List (List ℕ)) → Reading → Writing → Type 0
 WritesInContexts contexts starts src out =
     (text before : List ℕ) → src.left ≡ Some text → out.written ≡ Some before

@@ -1,4 +1,5 @@
--- What `simulate` prints of a text that carries a netlist is what `eval` prints of the netlist, and what `probe` prints of it is a net's bits.
+-- What `simulate` prints of a text that carries a netlist is what `eval` prints of the netlist, and what `probe` prints
+-- of it is a net's bits.
 use Rattle.std.specs.Prelude.{ℕ, ◌≡◌, List, []}
 use Rattle.netlist_core.specs.declared.model.Design.{Design}
 use Rattle.netlist_meaning.specs.Nets.{Net, IsNet, IsClockNet}
@@ -31,8 +32,8 @@ CompiledPrintAlike =
     → (cycles : ℕ) (words : List (List ℕ)) (shown evaluated : List ℕ)
     → Prints (simulate cycles words) text shown → Prints (eval cycles words) netlist evaluated → shown ≡ evaluated
 
--- The words say streams for the IN names of the design, which has a run on them. The design has a net of this name at the place of this
--- path that is no clock net, and the output is the line of its bits in each such run.
+-- The words say streams for the IN names of the design, which has a run on them. The design has a net of this name at
+-- the place of this path that is no clock net, and the output is the line of its bits in each such run.
 pub record PrintsNet (cycles : ℕ) (name path : List ℕ) (words : List (List ℕ)) (design : Design) (output : List ℕ) : Type 0 where
   pub fed : Streams
   pub feeds : FeedsInputs cycles words design fed
@@ -52,7 +53,8 @@ CarriersPrintNets =
     → (cycles : ℕ) (name path : List ℕ) (words : List (List ℕ)) (output : List ℕ)
     → Prints (probe cycles name path words) text output → PrintsNet cycles name path words design output
 
--- no command finds that an injection meets no conductor in a text that carries a design in contexts, whoever made the text
+-- no command finds that an injection meets no conductor in a text that carries a design in contexts, whoever made the
+-- text
 abbrev pub CarriersRunQuietly : Type 0
 CarriersRunQuietly =
     (text : List ℕ) (design : Design) (starts : List LatchState) → CarriesContexts text design starts

@@ -9,8 +9,8 @@ use Rattle.blifww_tool.specs.Simulation.{Simulation, IsSimulation, HasNoStreams}
 use Rattle.blifww_tool.specs.declared.causes.Cause.{Cause}
 use Rattle.blifww_tool.specs.declared.causes.Cause.TheVariants.{NoSuchNet, TooFar, NotQuiet}
 
--- The text and the words are a simulation, whose table has the net of this name and path, and these are its bits in each context, the last
--- of which is shown in time; each injection up to there meets a conductor.
+-- The text and the words are a simulation, whose table has the net of this name and path, and these are its bits in
+-- each context, the last of which is shown in time; each injection up to there meets a conductor.
 pub record Probes (cycles : ℕ) (name path : List ℕ) (words : List (List ℕ)) (text : List ℕ) (bits : List (List Bool)) : Type 0 where
   pub simulation : Simulation
   pub is : IsSimulation cycles words text simulation
@@ -30,8 +30,8 @@ pub record PrintsProbe (cycles : ℕ) (name path : List ℕ) (words : List (List
   pub probes : Probes cycles name path words text bits
   pub lines : output ≡ net_text probes.simulation.ports.c name bits
 
--- why they are not: they are no simulation; its table has no such net; the net's last bit is shown too late; or in time, but an injection
--- up to there meets no conductor
+-- why they are not: they are no simulation; its table has no such net; the net's last bit is shown too late; or in
+-- time, but an injection up to there meets no conductor
 abbrev pub HasNoProbe : ℕ → (name path : List ℕ) → List (List ℕ) → List ℕ → Cause → Type 0
 HasNoProbe cycles name path words text (NoSuchNet told) =
     (s : Simulation) × IsSimulation cycles words text s × (told ≡ name) × (net_named s.ports name path ≡ None)

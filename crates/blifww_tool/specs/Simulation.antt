@@ -32,7 +32,8 @@ shown_line s context out = context_line s.ports.c context out.name (shown_at s.p
 abbrev pub simulation_text : Simulation → List ℕ
 simulation_text s = flat_map (λ context. flat_map (shown_line s context) s.ports.outs) (range_with_len 0 s.ports.c)
 
--- The text reads as this pattern with these ports, and the words say these streams for its inputs in each of the table's contexts.
+-- The text reads as this pattern with these ports, and the words say these streams for its inputs in each of the
+-- table's contexts.
 pub record IsSimulation (cycles : ℕ) (words : List (List ℕ)) (text : List ℕ) (s : Simulation) : Type 0 where
   pub pattern : ReadsWithinLimit text s.grid
   pub table : ReadsAsPorts text s.grid.width s.grid.height s.ports
@@ -52,14 +53,15 @@ miss_up_to s g = first_miss s.ports s.streams (plane_of s.grid.rows) g
 abbrev pub MissesAt : Simulation → (g generation x y : ℕ) → Type 0
 MissesAt s g generation x y = miss_up_to s g ≡ Some (record { generation = generation; x = x; y = y })
 
--- the text and the words are a simulation whose last bits are shown in time, and each injection up to there meets a conductor
+-- the text and the words are a simulation whose last bits are shown in time, and each injection up to there meets a
+-- conductor
 pub record Simulates (cycles : ℕ) (words : List (List ℕ)) (text : List ℕ) (s : Simulation) : Type 0 where
   pub is : IsSimulation cycles words text s
   pub near : last_shown s ≤ greatest_generation
   pub quiet : miss_up_to s (last_shown s) ≡ None
 
--- why the text and the words are no simulation: the text is no pattern's, or its box is too large; its port table is at fault; or the
--- streams are
+-- why the text and the words are no simulation: the text is no pattern's, or its box is too large; its port table is at
+-- fault; or the streams are
 abbrev pub HasNoStreams : ℕ → List (List ℕ) → List ℕ → Cause → Type 0
 HasNoStreams cycles words text (Pattern fault) = HasReaderFault text fault.kind fault.line
 HasNoStreams cycles words text (GridTooLarge width height) = HasLargeBox text width height
@@ -70,8 +72,8 @@ HasNoStreams cycles words text (OfStreams fault) =
     × HasStreamFault ports.c words (names_of ports.ins) cycles fault
 HasNoStreams cycles words text _ = ⊥
 
--- why they are not simulated: they are no simulation, or its last bits are shown too late, or in time, but an injection up to there meets
--- no conductor
+-- why they are not simulated: they are no simulation, or its last bits are shown too late, or in time, but an injection
+-- up to there meets no conductor
 abbrev pub HasNoSimulation : ℕ → List (List ℕ) → List ℕ → Cause → Type 0
 HasNoSimulation cycles words text (TooFar generations) =
     (s : Simulation) × IsSimulation cycles words text s × (generations ≡ last_shown s) × (greatest_generation < generations)

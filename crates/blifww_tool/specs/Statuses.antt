@@ -12,8 +12,8 @@ use Rattle.blifww_tool.specs.Compilation.{HasNoRoom}
 use Rattle.blifww_tool.specs.Run.{Call, Asks, IsAsked, GaveTooMany, GaveAll, ReadFailed, WriteFailed, RefusesText, Ends}
 use Rattle.blifww_tool.specs.declared.causes.Cause.TheVariants.{WeightTooLarge, Pattern, GridTooLarge, PortTable, Streams, StartWord, NoSuchNet, TooFar, TooManyContexts, NotQuiet}
 
--- the source gave too many bytes, or the command refuses the text that it has: for the netlist's weight, the size of the pattern's box,
--- the number of generations, or that of contexts
+-- the source gave too many bytes, or the command refuses the text that it has: for the netlist's weight, the size of
+-- the pattern's box, the number of generations, or that of contexts
 abbrev pub IsOverALimit : Call → Type 0
 IsOverALimit c =
     GaveTooMany c.words c.src
@@ -34,8 +34,8 @@ abbrev pub HasNoPattern : Call → Type 0
 HasNoPattern c =
     ((fault : RleFault) × RefusesText c.words c.src (Pattern fault)) ⊎ ((fault : PortFault) × RefusesText c.words c.src (PortTable fault))
 
--- the words do not fit what the command reads: they are no streams for its inputs, or no starts for its latches, or ask for a net that it
--- does not have
+-- the words do not fit what the command reads: they are no streams for its inputs, or no starts for its latches, or ask
+-- for a net that it does not have
 abbrev pub WordsDoNotFit : Call → Type 0
 WordsDoNotFit c =
     ((fault : StreamFault) × RefusesText c.words c.src (Streams fault))

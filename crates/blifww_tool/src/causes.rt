@@ -39,7 +39,7 @@ pub enum Cause {
     NoSuchNet(Name),
     /// The simulation needs so many generations, which is over the limit.
     TooFar { generations: u128 },
-    /// The plan has no room for so many contexts, but for this number.
+    /// The plan has room for `limit` contexts, and more are asked for.
     TooManyContexts { contexts: u64, limit: u64 },
     /// An injection is due at this generation and cell, which is no conductor before the injections of that generation.
     NotQuiet { generation: u64, x: u64, y: u64 },

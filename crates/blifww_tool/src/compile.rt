@@ -57,10 +57,12 @@ fn started(
     requires planned { IsPlanned netlist.now.flat planned.plan }
     requires some { 0 < contexts }
     requires set { AreBitsSet (flat_latches netlist.now.flat) starts.now.bits (map string_bytes words.now) }
-    ensures printed { IfOk result (λ output. (text : List ℕ) → HasStarts contexts (map string_bytes words.now) text netlist.now.design
+    ensures printed { IfOk result (λ output. (text : List ℕ)
+        → HasStarts contexts (map string_bytes words.now) text netlist.now.design
         → Compiles contexts (map string_bytes words.now) text (output_text output)) }
     ensures writable { IfOk result IsWritableOutput }
-    ensures refused { IfErr result (λ e. (text : List ℕ) → HasStarts contexts (map string_bytes words.now) text netlist.now.design
+    ensures refused { IfErr result (λ e. (text : List ℕ)
+        → HasStarts contexts (map string_bytes words.now) text netlist.now.design
         → HasTextCause (compile contexts (map string_bytes words.now)) text e) }
 {
     flat_is_sound();
@@ -82,8 +84,8 @@ fn started(
     Ok(Output::Drawing(started))
 }
 
-/// The pattern of the netlist whose text this is, in so many contexts, with the lines that say where its ports and nets are. The
-/// words say with which bits its latches start.
+/// The pattern of the netlist whose text this is, in so many contexts, with the lines that say where its ports and nets
+/// are. The words say with which bits its latches start.
 pub fn compile(
     alloc: Global,
     contexts: u64,

@@ -57,7 +57,8 @@ pub fn names_in_contexts(
     ports: &[PortLine],
     contexts: u64,
 ) -> Result<Vec<Bytes>, AllocError>
-    ensures { IfOk result (λ names. names.items ≡ flat_map (names_in_context contexts ports.now) (range_with_len 0 contexts)) }
+    ensures { IfOk result (λ names.
+        names.items ≡ flat_map (names_in_context contexts ports.now) (range_with_len 0 contexts)) }
 {
     let mut names = Vec::new(alloc);
     for context in 0..contexts {

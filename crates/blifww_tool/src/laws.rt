@@ -10,8 +10,8 @@ pub fn statuses_have_causes()
     ensures { StatusesHaveCauses }
 {}
 
-/// What `simulate` prints of a text that carries a netlist, as what `compile` writes does, is what `eval` prints of the netlist under
-/// the same words.
+/// What `simulate` prints of a text that carries a netlist, as what `compile` writes does, is what `eval` prints of the
+/// netlist under the same words.
 pub fn carriers_print_alike()
     ensures carriers { CarriersPrintAlike }
     ensures compiled { CompiledPrintAlike }
@@ -21,7 +21,8 @@ pub fn carriers_print_alike()
     texts_are_decided();
 }
 
-/// What `probe` prints of a text that carries the nets of a netlist is the line of a net's bits in each run of the netlist.
+/// What `probe` prints of a text that carries the nets of a netlist is the line of a net's bits in each run of the
+/// netlist.
 pub fn carriers_print_nets()
     ensures { CarriersPrintNets }
 {
@@ -30,8 +31,8 @@ pub fn carriers_print_nets()
     streams_match();
 }
 
-/// No injection meets another cell than a conductor in a text that carries a netlist in contexts, as what `compile` writes does: of it
-/// no run ends with status 10.
+/// No injection meets another cell than a conductor in a text that carries a netlist in contexts, as what `compile`
+/// writes does: of it no run ends with status 10.
 pub fn carriers_run_quietly()
     ensures { CarriersRunQuietly }
 {

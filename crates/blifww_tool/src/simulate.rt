@@ -10,8 +10,8 @@ use crate::lines::output_lines;
 use crate::output::Output;
 use std::alloc::Global;
 
-/// A line for each output of the text's pattern in each of its contexts, with the bits that it shows, where the words are the streams of
-/// the inputs. All outputs of context 0 come first.
+/// A line for each output of the text's pattern in each of its contexts, with the bits that it shows, where the words
+/// are the streams of the inputs. All outputs of context 0 come first.
 pub fn simulate(
     alloc: Global,
     cycles: usize,

@@ -55,7 +55,8 @@ number_met range rows = option_and_then (number_taken range) (first_of range.nam
 abbrev pub streams_met : List Row → List Text
 streams_met rows = unwrap_or (all_of (codes "streams") rows) []
 
--- how many contexts there are, by the text that gives them and the words: without a text there is one, and there are no words
+-- how many contexts there are, by the text that gives them and the words: without a text there is one, and there are no
+-- words
 abbrev pub contexts_by : Option Text → List Text → Option ℕ
 contexts_by (Some text) words = number_taken contexts_range text
 contexts_by None [] = Some 1
@@ -124,8 +125,8 @@ MeetsRanges met = AllByRecursion (λ range. IfSome (text_met range.name met) (λ
 abbrev pub MeetsContexts : Option (Text × List Row) → Type 0
 MeetsContexts met = IfSome met (λ met. bytes_eq met.0 (codes "compile") ≡ true → is_some (first_of (codes "contexts") met.1) ≡ false → streams_met met.1 ≡ [])
 
--- The words are a command: a parse of them by clap can fail for want of memory alone, each number lies in its range, and `compile`
--- has words with `--contexts` alone.
+-- The words are a command: a parse of them by clap can fail for want of memory alone, each number lies in its range,
+-- and `compile` has words with `--contexts` alone.
 pub record IsCommand (words : List Text) : Type 0 where
   pub taken : takes blifww_app words ≡ true
   pub in_range : MeetsRanges (subcommand_of blifww_app words)
@@ -145,7 +146,8 @@ abbrev pub option_words : List (Text × Text) → List Text
 option_words [] = []
 option_words (given ∷ options) = (45 ∷ 45 ∷ given.0) ∷ given.1 ∷ option_words options
 
--- the words are the program's name, a command's, these options, and then these words, none of which is empty or begins with a hyphen
+-- the words are the program's name, a command's, these options, and then these words, none of which is empty or begins
+-- with a hyphen
 pub record IsPlain (command : Text) (options : List (Text × Text)) (streams words : List Text) : Type 0 where
   pub program : Text
   pub words_are : words ≡ program ∷ command ∷ option_words options ++ streams
@@ -171,8 +173,9 @@ GivesContexts _ contexts starts = ⊥
 abbrev pub IsSimulateOrEval : Text → ℕ → List Text → List Text → Type 0
 IsSimulateOrEval command cycles streams words = (n : Text) × IsPlain command ((codes "cycles", n) ∷ []) streams words × Writes cycles_range n cycles
 
--- The plainest form of a command with these values: the program's name, the command's, its options in the order of the table, each as
--- two words with numbers in digits and in their ranges, and then its words. Of `probe` the path may be missing, and of `compile` the contexts.
+-- The plainest form of a command with these values: the program's name, the command's, its options in the order of the
+-- table, each as two words with numbers in digits and in their ranges, and then its words. Of `probe` the path may be
+-- missing, and of `compile` the contexts.
 abbrev pub IsWritten : CommandValues → List Text → Type 0
 IsWritten (compile contexts starts) words =
     (options : List (Text × Text)) × IsPlain (codes "compile") options starts words × GivesContexts options contexts starts

@@ -43,6 +43,8 @@ const CASES: &[(&[&str], Asked)] = &[
         Asked::Usage,
     ),
     (&["blifww", "compile", "--contexts", "0"], Asked::Usage),
+    (&["blifww", "compile", "--contexts", "+2"], Asked::Usage),
+    (&["blifww", "compile", "--contexts", ""], Asked::Usage),
     (&["blifww", "compile", "--contexts"], Asked::Usage),
     (&["blifww", "Compile"], Asked::Usage),
     (&["blifww", "simulate"], Asked::Usage),

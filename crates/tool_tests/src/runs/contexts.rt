@@ -226,3 +226,17 @@ fn a_wire_in_two_contexts_is_driven(rt: HostRuntime) -> Result<(), Fail> {
     }
     Ok(())
 }
+
+// Constant 1 holds in each context.
+const INVERTER: &[u8] = b".model n\n.inputs a\n.outputs y\n.names a y\n0 1\n";
+
+#[test]
+fn constant_1_holds_in_each_context(rt: HostRuntime) -> Result<(), Fail> {
+    let alloc = rt.alloc();
+    let compile = ["blifww", "compile", "--contexts", "2"];
+    let got = run_over(alloc, &compile, INVERTER, (4096, &[]), (1 << 20, 0))?;
+    let simulate = [
+        "blifww", "simulate", "--cycles", "4", "0:a=0110", "1:a=0011",
+    ];
+    expect_run(alloc, &simulate, &got.out, 0, b"0:y=1001\n1:y=1100\n", b"")
+}
