@@ -40,7 +40,7 @@ inputs_at_fault cycles words design names (streams_of.Fault fault) are h = (name
 inputs_at_fault cycles words design names streams_of.NoMemory are h = tt
 
 -- the lines of a run are what is printed
-pub run_printed : (cycles : ℕ) (words : List (List ℕ)) (text : List ℕ) (design : Design) (fed : Streams) (output : List ℕ) → IsNetlist text design → FeedsInputs cycles words design fed
+pub run_printed : (cycles : ℕ) (words : List (List ℕ)) (text : List ℕ) (design : Design) (fed : Streams) (output : List ℕ) → IsNetlist text design → FeedsInputs 1 cycles words design fed
     → PrintsRun design fed output → Evaluates cycles words text output
 run_printed cycles words text design fed output is inputs printed = record {
   evaluation = record { design = design; in_names = inputs.in_names; streams = fed };

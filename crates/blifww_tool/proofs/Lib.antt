@@ -18,5 +18,8 @@ pub mod Ended
 pub mod Stopped
 pub mod Statuses
 pub mod PrintsAlike
+pub mod Fed
+pub mod PrintsRuns
 pub mod PrintsNet
+pub mod PrintsNetInContexts
 pub mod RunsQuietly

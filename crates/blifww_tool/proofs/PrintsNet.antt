@@ -16,28 +16,20 @@ use Rattle.carries.proofs.OneWay.{one_spelling}
 use Rattle.streams.specs.Streams.{HasStreams}
 use Rattle.drive.specs.Driving.{AreFor}
 use Rattle.probe_view.specs.Probes.{has_name_and_path, net_named, probed_bits}
-use Rattle.pattern_laws.proofs.SoundTable.{sound_table}
 use Rattle.shown_runs.specs.ShownRuns.{CarriersShowNets, CarriersShowRuns, StreamsAreFor, net_bits_in_run}
 use Rattle.blifww_tool.specs.Lines.{bits_line}
 use Rattle.blifww_tool.specs.Probing.{net_text}
-use Rattle.blifww_tool.specs.Simulation.{Simulation, IsSimulation}
 use Rattle.blifww_tool.specs.PrintsAlike.{CarriersPrintNets}
+use Rattle.blifww_tool.proofs.Fed.{are_for}
 
 -- what is found is of the list, and passes
-found : {X : Type 0} (p : X → Bool) (xs : List X) (x : X) → find p xs ≡ Some x → In x xs × (p x ≡ true)
+pub found : {X : Type 0} (p : X → Bool) (xs : List X) (x : X) → find p xs ≡ Some x → In x xs × (p x ≡ true)
 found p [] x e = absurd (none-some x e)
 found p (y ∷ ys) x e = by (p y) refl (found p ys x) e
   where
     by : (b : Bool) → p y ≡ b → (find p ys ≡ Some x → In x ys × (p x ≡ true)) → cond b (Some y) (find p ys) ≡ Some x → In x (y ∷ ys) × (p x ≡ true)
     by true h rest same = (inl (sym (same_Some y x same)), ap p (sym (same_Some y x same)) ∙ h)
     by false h rest later = let r = rest later in (inr r.0, r.1)
-
--- a simulation's streams are for its table
-pub are_for : StreamsAreFor → (cycles : ℕ) (words : List (List ℕ)) (text : List ℕ) (s : Simulation) → IsSimulation cycles words text s → AreFor s.ports s.streams
-are_for law cycles words text s is =
-    law s.ports words s.streams (sound_table text s.grid.width s.grid.height s.ports is.table) is.contexts
-    (subst (λ (n : ℕ). HasStreams n words (names_of s.ports.ins) s.streams.cycles s.streams.bits) (sym is.contexts)
-    (subst (λ (n : ℕ). HasStreams s.ports.c words (names_of s.ports.ins) n s.streams.bits) (sym is.many) is.streams))
 
 -- the line of a net in one context
 one_line : (contexts : ℕ) (name : List ℕ) (bits : List Bool) → contexts ≡ 1 → net_text contexts name (bits ∷ []) ≡ bits_line name bits

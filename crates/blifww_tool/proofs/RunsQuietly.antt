@@ -12,7 +12,7 @@ use Rattle.shown_runs.specs.ShownRuns.{CarriersAreQuiet, StreamsAreFor}
 use Rattle.command_words.specs.Shapes.{compile, simulate, eval, probe, window, make, self_}
 use Rattle.blifww_tool.specs.Simulation.{Simulation, IsSimulation, MissesAt, miss_up_to}
 use Rattle.blifww_tool.specs.PrintsAlike.{CarriersRunQuietly}
-use Rattle.blifww_tool.proofs.PrintsNet.{are_for}
+use Rattle.blifww_tool.proofs.Fed.{are_for}
 use Rattle.blifww_tool.proofs.SimulationOrNot.{miss_or_not}
 
 module _ (quiet : CarriersAreQuiet) (streams_for : StreamsAreFor) (text : List ℕ) (design : Design) (starts : List LatchState) (k : CarriesContexts text design starts) where

@@ -31,15 +31,15 @@ pub record IsEvaluation (cycles : ℕ) (words : List (List ℕ)) (text : List �
   pub contexts : e.streams.c ≡ 1
   pub streams : HasStreams 1 words e.in_names cycles e.streams.bits
 
--- the words say these streams for the IN names of a design,
-pub record FeedsInputs (cycles : ℕ) (words : List (List ℕ)) (design : Design) (fed : Streams) : Type 0 where
+-- the words say these streams for the IN names of a design, in so many contexts,
+pub record FeedsInputs (count cycles : ℕ) (words : List (List ℕ)) (design : Design) (fed : Streams) : Type 0 where
   pub in_names : List Name
   pub names : IsInNames design in_names
   pub many : fed.cycles ≡ cycles
-  pub contexts : fed.c ≡ 1
-  pub streams : HasStreams 1 words in_names cycles fed.bits
+  pub contexts : fed.c ≡ count
+  pub streams : HasStreams count words in_names cycles fed.bits
 
--- or none for them
+-- or none for them in one context
 abbrev pub HasInputsCause : ℕ → List (List ℕ) → Design → StreamError → Type 0
 HasInputsCause cycles words design (streams_of.Fault fault) = (names : List Name) × IsInNames design names × HasStreamFault 1 words names cycles fault
 HasInputsCause cycles words design streams_of.NoMemory = ⊤

@@ -23,7 +23,7 @@ fn streams_for(
     netlist: &Netlist,
 ) -> Result<Streams, StreamError>
     requires { AreParts netlist.now.design netlist.now.flat netlist.now.order.nodes }
-    ensures streams { IfOk result (FeedsInputs cycles (map string_bytes words.now) netlist.now.design) }
+    ensures streams { IfOk result (FeedsInputs 1 cycles (map string_bytes words.now) netlist.now.design) }
     ensures many { IfOk result (λ streams. length streams.bits ≡ length netlist.now.flat.ins) }
     ensures long { IfOk result (λ streams. All (λ bits. length bits ≡ streams.cycles) streams.bits) }
     ensures fault { IfErr result (HasInputsCause cycles (map string_bytes words.now) netlist.now.design) }

@@ -1,9 +1,12 @@
 //! What is proved of statuses, and of what commands print.
-ghost use Rattle.blifww_tool.specs.PrintsAlike.{CarriersPrintAlike, CarriersPrintNets, CarriersRunQuietly, CompiledPrintAlike};
+ghost use Rattle.blifww_tool.specs.PrintsAlike.{CarriersPrintAlike, CarriersPrintNets, CarriersPrintNetsInContexts, CarriersPrintRuns, CarriersRunQuietly, CompiledPrintAlike, CompiledPrintNets, CompiledPrintRuns};
 ghost use Rattle.blifww_tool.specs.Statuses.{StatusesHaveCauses};
 
 use netlist_text::laws::texts_are_decided;
-use shown_runs::{carriers_are_quiet, carriers_show_nets, carriers_show_runs, streams_match};
+use shown_runs::{
+    carriers_are_quiet, carriers_show_contexts, carriers_show_nets, carriers_show_runs,
+    streams_match,
+};
 
 /// Each status of a run comes only where its cause is.
 pub fn statuses_have_causes()
@@ -21,11 +24,25 @@ pub fn carriers_print_alike()
     texts_are_decided();
 }
 
-/// What `probe` prints of a text that carries the nets of a netlist is the line of a net's bits in each run of the netlist.
+/// What `simulate` prints of a text that carries a design in contexts, as what `compile --contexts` writes does, is the lines of runs
+/// of the design, one in each context on the words' streams for it, from the context's start on.
+pub fn carriers_print_runs()
+    ensures carriers { CarriersPrintRuns }
+    ensures compiled { CompiledPrintRuns }
+{
+    carriers_show_contexts();
+    streams_match();
+}
+
+/// What `probe` prints of a text that carries the nets of a netlist is the line of a net's bits in each run of the netlist. In
+/// contexts it is the lines of a net's bits in runs, one in each context, from the context's start on.
 pub fn carriers_print_nets()
-    ensures { CarriersPrintNets }
+    ensures one { CarriersPrintNets }
+    ensures contexts { CarriersPrintNetsInContexts }
+    ensures compiled { CompiledPrintNets }
 {
     carriers_show_nets();
+    carriers_show_contexts();
     carriers_show_runs();
     streams_match();
 }
