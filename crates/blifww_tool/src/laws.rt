@@ -24,8 +24,8 @@ pub fn carriers_print_alike()
     texts_are_decided();
 }
 
-/// What `simulate` prints of a text that carries a design in contexts, as what `compile --contexts` writes does, is the lines of runs of the
-/// design, one in each context on the words' streams for it, from the context's start on.
+/// What `simulate` prints of a text that carries a design in contexts, as what `compile --contexts` writes does, is the lines of runs
+/// of the design, one in each context on the words' streams for it, from the context's start on.
 pub fn carriers_print_runs()
     ensures carriers { CarriersPrintRuns }
     ensures compiled { CompiledPrintRuns }
@@ -34,8 +34,8 @@ pub fn carriers_print_runs()
     streams_match();
 }
 
-/// What `probe` prints of a text that carries the nets of a netlist is the line of a net's bits in each run of the netlist. In contexts it
-/// is the lines of a net's bits in runs, one in each context, from the context's start on.
+/// What `probe` prints of a text that carries the nets of a netlist is the line of a net's bits in each run of the netlist. In
+/// contexts it is the lines of a net's bits in runs, one in each context, from the context's start on.
 pub fn carriers_print_nets()
     ensures one { CarriersPrintNets }
     ensures contexts { CarriersPrintNetsInContexts }

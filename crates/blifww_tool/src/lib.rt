@@ -1,7 +1,7 @@
 //! The top call of the program: `compile` and `eval` for the text of a netlist, `simulate`, `probe` and `window` for
 //! the text of a pattern, and `make` and `self` for made netlists.
 //!
-//! Theorem: `run` (`headline`, `ends`), `carriers_print_alike`.
+//! Theorem: `run` (`headline`, `contexts`, `ends`), `carriers_print_alike`, `carriers_print_runs`.
 #![tactic(auto)]
 
 mod causes;
