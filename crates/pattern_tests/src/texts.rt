@@ -1,5 +1,5 @@
 // Cells as letters.
-ghost use Rattle.std.specs.Prelude.{◌≤◌, ◌+◌, length, IfOk};
+ghost use Rattle.std.specs.Prelude.{◌≡◌, ◌≤◌, ◌+◌, length, IfOk};
 
 use std::alloc::{AllocError, Global};
 use ww_rule::{CellRows, State};
