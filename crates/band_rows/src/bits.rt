@@ -74,7 +74,9 @@ pub fn mark_all(heads: &mut [u64], tails: &mut [u64], wires: &mut [u64], cells: 
     ensures cells { (x : ℕ) → row_state heads.new tails.new wires.new x ≡ get_or cells.now x Empty }
 {
     for (x, state) in cells.iter().enumerate() {
-        mark(heads, tails, wires, x, *state);
+        if !matches!(state, State::Empty) {
+            mark(heads, tails, wires, x, *state);
+        }
     }
 }
 

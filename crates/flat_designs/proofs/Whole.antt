@@ -1,6 +1,6 @@
 -- The flat netlist is there, its ports are the main model's, and what follows of orders and cycles.
 use Rattle.std.proofs.Common.{ℕ, ◌≡◌, ◌≢◌, List, [], ◌∷◌, Option, Some, None, option_map, unwrap_or, get_or, map, length, refl, sym, ap, ◌∙◌, subst}
-use Rattle.std.specs.Prelude.{AllPairs}
+use Rattle.std.specs.Prelude.{AllPairs, Bool, true}
 use Rattle.std.proofs.lemmas.List.{length-map}
 use Rattle.std.proofs.lemmas.Simd.{map-map}
 use Rattle.netlist_core.specs.declared.model.Design.{Design}
@@ -51,8 +51,9 @@ flat_is_there design faultless =
         latches = at_places design (λ (m : Model). m.latches) (flat_latch design);
         control = first_control (at_places design (λ (m : Model). m.latches) (flat_latch design));
         weight = weight design;
+        listed = true;
       },
-      record { in_ports = in_ports; are_in_ports = are_in_ports; nets = refl; nodes = refl; latches = refl; ins = refl; outs = refl; clocks = refl; control = refl; weight = refl },
+      record { in_ports = in_ports; are_in_ports = are_in_ports; nets = refl; nodes = refl; latches = refl; ins = refl; outs = refl; clocks = refl; control = refl; weight = refl; listed = refl },
     )
 
 port_net : (design : Design) (flat : Flat) → AreFaultless design.models → IsFlatOf design flat → (p : Port) → IsNet design (net_at [] p.name) → get_or flat.nets (id_of design [] p.name).0 no_net ≡ flat_net design (net_at [] p.name)
@@ -140,22 +141,24 @@ flat_of design in_ports = record {
   latches = at_places design (λ (m : Model). m.latches) (flat_latch design);
   control = first_control (at_places design (λ (m : Model). m.latches) (flat_latch design));
   weight = weight design;
+  listed = true;
 }
 
-abbrev with_fields : List FlatNet → List FlatPort → List FlatPort → List FlatPort → List Rattle.netlist_core.specs.declared.flat.Node.Node → List FlatLatch → Rattle.std.specs.Prelude.Option Rattle.netlist_core.specs.declared.flat.NetId.NetId → ℕ → Flat
-with_fields a b c d e f g w = record { nets = a; ins = b; outs = c; clocks = d; nodes = e; latches = f; control = g; weight = w }
+abbrev with_fields : List FlatNet → List FlatPort → List FlatPort → List FlatPort → List Rattle.netlist_core.specs.declared.flat.Node.Node → List FlatLatch → Rattle.std.specs.Prelude.Option Rattle.netlist_core.specs.declared.flat.NetId.NetId → ℕ → Bool → Flat
+with_fields a b c d e f g w l = record { nets = a; ins = b; outs = c; clocks = d; nodes = e; latches = f; control = g; weight = w; listed = l }
 
 is_flat_of : (design : Design) (flat : Flat) (h : IsFlatOf design flat) → flat ≡ flat_of design h.in_ports
 unfolding flat_of
 is_flat_of design flat h =
-    ap (λ x. with_fields x flat.ins flat.outs flat.clocks flat.nodes flat.latches flat.control flat.weight) h.nets
-    ∙ ap (λ x. with_fields (map (flat_net design) (nets_in_order design)) x flat.outs flat.clocks flat.nodes flat.latches flat.control flat.weight) h.ins
-    ∙ ap (λ x. with_fields (map (flat_net design) (nets_in_order design)) (map (flat_port design) h.in_ports) x flat.clocks flat.nodes flat.latches flat.control flat.weight) h.outs
-    ∙ ap (λ x. with_fields (map (flat_net design) (nets_in_order design)) (map (flat_port design) h.in_ports) (map (flat_port design) (main_ports (λ (m : Model). m.outs) design)) x flat.nodes flat.latches flat.control flat.weight) h.clocks
-    ∙ ap (λ x. with_fields (map (flat_net design) (nets_in_order design)) (map (flat_port design) h.in_ports) (map (flat_port design) (main_ports (λ (m : Model). m.outs) design)) (map (flat_port design) (main_ports (λ (m : Model). m.clocks) design)) x flat.latches flat.control flat.weight) h.nodes
-    ∙ ap (λ x. with_fields (map (flat_net design) (nets_in_order design)) (map (flat_port design) h.in_ports) (map (flat_port design) (main_ports (λ (m : Model). m.outs) design)) (map (flat_port design) (main_ports (λ (m : Model). m.clocks) design)) (at_places design (λ (m : Model). m.covers) (flat_node design)) flat.latches x flat.weight) h.control
-    ∙ ap (λ x. with_fields (map (flat_net design) (nets_in_order design)) (map (flat_port design) h.in_ports) (map (flat_port design) (main_ports (λ (m : Model). m.outs) design)) (map (flat_port design) (main_ports (λ (m : Model). m.clocks) design)) (at_places design (λ (m : Model). m.covers) (flat_node design)) x (first_control x) flat.weight) h.latches
-    ∙ ap (λ x. with_fields (map (flat_net design) (nets_in_order design)) (map (flat_port design) h.in_ports) (map (flat_port design) (main_ports (λ (m : Model). m.outs) design)) (map (flat_port design) (main_ports (λ (m : Model). m.clocks) design)) (at_places design (λ (m : Model). m.covers) (flat_node design)) (at_places design (λ (m : Model). m.latches) (flat_latch design)) (first_control (at_places design (λ (m : Model). m.latches) (flat_latch design))) x) h.weight
+    ap (λ x. with_fields x flat.ins flat.outs flat.clocks flat.nodes flat.latches flat.control flat.weight flat.listed) h.nets
+    ∙ ap (λ x. with_fields (map (flat_net design) (nets_in_order design)) x flat.outs flat.clocks flat.nodes flat.latches flat.control flat.weight flat.listed) h.ins
+    ∙ ap (λ x. with_fields (map (flat_net design) (nets_in_order design)) (map (flat_port design) h.in_ports) x flat.clocks flat.nodes flat.latches flat.control flat.weight flat.listed) h.outs
+    ∙ ap (λ x. with_fields (map (flat_net design) (nets_in_order design)) (map (flat_port design) h.in_ports) (map (flat_port design) (main_ports (λ (m : Model). m.outs) design)) x flat.nodes flat.latches flat.control flat.weight flat.listed) h.clocks
+    ∙ ap (λ x. with_fields (map (flat_net design) (nets_in_order design)) (map (flat_port design) h.in_ports) (map (flat_port design) (main_ports (λ (m : Model). m.outs) design)) (map (flat_port design) (main_ports (λ (m : Model). m.clocks) design)) x flat.latches flat.control flat.weight flat.listed) h.nodes
+    ∙ ap (λ x. with_fields (map (flat_net design) (nets_in_order design)) (map (flat_port design) h.in_ports) (map (flat_port design) (main_ports (λ (m : Model). m.outs) design)) (map (flat_port design) (main_ports (λ (m : Model). m.clocks) design)) (at_places design (λ (m : Model). m.covers) (flat_node design)) flat.latches x flat.weight flat.listed) h.control
+    ∙ ap (λ x. with_fields (map (flat_net design) (nets_in_order design)) (map (flat_port design) h.in_ports) (map (flat_port design) (main_ports (λ (m : Model). m.outs) design)) (map (flat_port design) (main_ports (λ (m : Model). m.clocks) design)) (at_places design (λ (m : Model). m.covers) (flat_node design)) x (first_control x) flat.weight flat.listed) h.latches
+    ∙ ap (λ x. with_fields (map (flat_net design) (nets_in_order design)) (map (flat_port design) h.in_ports) (map (flat_port design) (main_ports (λ (m : Model). m.outs) design)) (map (flat_port design) (main_ports (λ (m : Model). m.clocks) design)) (at_places design (λ (m : Model). m.covers) (flat_node design)) (at_places design (λ (m : Model). m.latches) (flat_latch design)) (first_control (at_places design (λ (m : Model). m.latches) (flat_latch design))) x flat.listed) h.weight
+    ∙ ap (λ x. with_fields (map (flat_net design) (nets_in_order design)) (map (flat_port design) h.in_ports) (map (flat_port design) (main_ports (λ (m : Model). m.outs) design)) (map (flat_port design) (main_ports (λ (m : Model). m.clocks) design)) (at_places design (λ (m : Model). m.covers) (flat_node design)) (at_places design (λ (m : Model). m.latches) (flat_latch design)) (first_control (at_places design (λ (m : Model). m.latches) (flat_latch design))) (weight design) x) h.listed
 
 pub flat_is_one : FlatIsOne
 flat_is_one design flat other h k =

@@ -33,7 +33,8 @@ pub struct Program {
 }
 
 /// Columns of instructions, with the ports as of a program. `latches` is the number of loops, and `starts` names the edges
-/// that are lit at generation 0.
+/// that are lit at generation 0. `tape` has the bits that run in by themselves, one list for each input with a bit for
+/// each cycle; without a list no bits do.
 #[derive(Drop)]
 pub struct Plan {
     pub lanes: u32,
@@ -43,4 +44,5 @@ pub struct Plan {
     pub ins: List<u32>,
     pub outs: List<u32>,
     pub nets: List<NetPlace>,
+    pub tape: List<List<bool>>,
 }

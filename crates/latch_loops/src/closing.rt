@@ -56,6 +56,7 @@ fn unstarted(alloc: Global, columns: Vec<Column>, program: &Program) -> Result<P
         ins: List::of(ins),
         outs: List::of(outs),
         nets: List::of(nets),
+        tape: List::of(Vec::new(alloc)),
     })
 }
 

@@ -62,6 +62,7 @@ pub fn start_contexts(alloc: Global, plan: Plan, starts: &[List<bool>]) -> Resul
         ins: plan.ins,
         outs: plan.outs,
         nets: plan.nets,
+        tape: plan.tape,
     };
     plan.starts = starts_of(alloc, &plan, starts)?;
     Ok(plan)

@@ -104,6 +104,7 @@ pub fn plan_of(alloc: Global, written: &Written<'_>) -> Result<Plan, Fail>
         ins: List::of(Vec::new(alloc)),
         outs: List::of(Vec::new(alloc)),
         nets: List::of(Vec::new(alloc)),
+        tape: List::of(Vec::new(alloc)),
     };
     plan.starts = Starts::of(written.starts.to_vec(alloc)?);
     plan.ins = List::of(written.ins.to_vec(alloc)?);

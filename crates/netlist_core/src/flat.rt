@@ -45,7 +45,8 @@ pub struct FlatLatch {
 
 /// A flat netlist: `ins` are the nets of the IN names, `outs` those of the main outputs, `clocks` those of the main
 /// model's `.clock` names, and `control` is the first latch's. Nets stand by place, and there by where the name first
-/// stands in the model's text; nodes and latches stand by place and line.
+/// stands in the model's text; nodes and latches stand by place and line. Port tables list the nets where `listed` is
+/// true, as it is for the flat netlist of a design.
 #[derive(Drop)]
 pub struct Flat {
     pub nets: List<Net>,
@@ -56,6 +57,7 @@ pub struct Flat {
     pub latches: List<FlatLatch>,
     pub control: Option<NetId>,
     pub weight: u64,
+    pub listed: bool,
 }
 
 /// The positions of a flat netlist's nodes, each after those that drive what it reads.

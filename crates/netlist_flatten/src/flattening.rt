@@ -39,6 +39,7 @@ fn flat_of(alloc: Global, numbers: &Numbers<'_>, found: u64) -> Result<Flat, All
         control: first_control(&latches),
         latches: List::of(latches),
         weight: found,
+        listed: true,
     })
 }
 

@@ -1,5 +1,5 @@
 -- Flat netlists: what drives and what reads a class of joined nets. Nothing here asks for a design.
-use Rattle.std.specs.Prelude.{ℕ, ◌≡◌, ◌≢◌, ◌<◌, ◌≤◌, ◌+◌, ◌*◌, ◌^◌, ◌⊎◌, ◌==◌, ◌&&◌, ◌||◌, not, Bool, List, [], length, map, filter, sum_by, get_or, slice_get, false, Some, Contains, All, AllPairs, MatchOption, ⊤}
+use Rattle.std.specs.Prelude.{ℕ, ◌≡◌, ◌≢◌, ◌<◌, ◌≤◌, ◌+◌, ◌*◌, ◌^◌, ◌⊎◌, ◌==◌, ◌&&◌, ◌||◌, not, cond, Bool, List, [], length, map, filter, sum_by, get_or, slice_get, false, Some, Contains, All, AllPairs, MatchOption, ⊤}
 use Rattle.std.specs.List.{list_any}
 use Rattle.std.specs.Option.{option_map_or}
 use Rattle.netlist_core.specs.declared.flat.NetId.{NetId}
@@ -67,6 +67,10 @@ is_clock_class flat class =
 
 abbrev pub nets_but_clocks : Flat → List FlatNet
 nets_but_clocks flat = filter (λ net. not (is_clock_class flat net.class)) flat.nets
+
+-- the nets that a port table lists: all but the clock nets, or none
+abbrev pub listed_nets : Flat → List FlatNet
+listed_nets flat = cond flat.listed (nets_but_clocks flat) []
 
 -- every number is in range, and the numbers of nodes are u32, as an order has them. Class numbers are below the number of nets, so that a table of classes is no longer than the nets
 pub record IsInRange (flat : Flat) : Type 0 where

@@ -92,3 +92,4 @@ pub record IsFlatOf (design : Design) (flat : Flat) : Type 0 where
   pub clocks : flat.clocks ≡ map (flat_port design) (main_ports (λ model. model.clocks) design)
   pub control : flat.control ≡ first_control flat.latches
   pub weight : flat.weight ≡ weight design
+  pub listed : flat.listed ≡ true

@@ -24,6 +24,7 @@ fn plan_of(alloc: Global, columns: usize) -> Result<Plan, Fail> {
         ins: List::of(vec![in alloc; 0, 1]?),
         outs: List::of(vec![in alloc; 0]?),
         nets: List::of(Vec::new(alloc)),
+        tape: List::of(Vec::new(alloc)),
     })
 }
 

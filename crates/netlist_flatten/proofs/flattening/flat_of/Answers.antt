@@ -15,4 +15,5 @@ returns c =
       clocks = ports.clocks;
       control = c.first_control.ensures ∙ ap first_control (c.deref-4.ensures.value ∙ sym c.of-3.ensures);
       weight = c.requires.weight;
+      listed = refl;
     }
