@@ -1,0 +1,6 @@
+pub mod Blocks
+pub mod Fit
+pub mod RunIn
+pub mod Rows
+pub mod Begin
+pub mod Shown
