@@ -1,19 +1,14 @@
 -- Texts that run by themselves.
-use Rattle.std.proofs.Common.{All, pos, ℕ, suc, Bool, true, false, ◌+◌, ◌*◌, ◌<◌, ◌≤◌, ◌≡◌, ◌≢◌, ◌↔◌, refl, sym, ap, ◌∙◌, subst, ⊎_elim, List, ◌++◌, length, replicate, arith}
-use Rattle.std.proofs.lemmas.Bool.{cases_lt}
+use Rattle.std.proofs.Common.{All, ℕ, Bool, false, ◌+◌, ◌*◌, ◌<◌, ◌≤◌, ◌≡◌, ◌≢◌, refl, ap, ◌∙◌, List, ◌++◌, length, replicate, arith}
 use Rattle.std.proofs.lemmas.List.{append_assoc, length-append, length-replicate}
 use Rattle.std.proofs.lemmas.List.Elements.{All-append, All-replicate}
-use Rattle.std.proofs.Math.Nat.{mul-le-mul_right, le-mul_of_pos_right}
-use Rattle.ww_rule.specs.declared.pattern.State.TheVariants.{Head}
+use Rattle.std.proofs.Math.Nat.{le-mul_of_pos_right}
 use Rattle.ww_rule.specs.Wireworld.{Plane, evolve}
 use Rattle.ww_rule.specs.Grid.{plane_of}
-use Rattle.netlist_core.specs.declared.model.Design.{Design}
-use Rattle.netlist_core.specs.declared.flat.Flat.{Flat}
-use Rattle.netlist_meaning.specs.Valuation.{Valuation, AreInputRows, output_bit}
-use Rattle.netlist_meaning.specs.FlatValuation.{AreFlatRows}
+use Rattle.netlist_meaning.specs.Valuation.{AreInputRows, output_bit}
 use Rattle.carries.specs.Cells.{ShowsBitsFrom}
-use Rattle.carries.specs.ByItself.{ThenZeros, IsRunOnward, RunsByItself, RunsByItselfFlat}
-use Rattle.carries.specs.ByItselfLaws.{RunsInOneWay, ShowsBitsForever, RunsWithoutEnd, RunnersGoOn, ZerosChangeNothing}
+use Rattle.carries.specs.ByItself.{ThenZeros}
+use Rattle.carries.specs.ByItselfLaws.{RunsInOneWay, ShowsBitsForever, RunnersGoOn, ZerosChangeNothing}
 use Rattle.carries.proofs.OneWay.{one_spelling}
 use Rattle.carries.proofs.Period.{has_period}
 
