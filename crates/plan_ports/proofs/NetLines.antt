@@ -19,7 +19,7 @@ use Rattle.pattern_reading.specs.PortLines.{path_in}
 use Rattle.pattern_reading.specs.Spelling.{IsPortName}
 use Rattle.pattern_reading.specs.SoundTable.{IsSoundNet}
 use Rattle.pattern_reading.specs.Laws.{IsNetInside}
-use Rattle.place_paths.specs.Paths.{name_and_path, names_and_paths, HasTableNumbers}
+use Rattle.place_paths.specs.Paths.{name_and_path, names_and_paths}
 use Rattle.place_paths.proofs.Paths.{paths_are_read, paths_are_distinct}
 use Rattle.plan_ports.specs.Tables.{HasPortNames, HasTablePlaces, named_paths, net_cells_of}
 
