@@ -1,5 +1,5 @@
 -- What holds of all nets holds of those that tables list.
-use Rattle.std.proofs.Common.{ℕ, Bool, true, false, not, cond, [], arith}
+use Rattle.std.proofs.Common.{Bool, true, false, not, cond, [], arith}
 use Rattle.std.specs.List.{All, AllPairs}
 use Rattle.std.proofs.lemmas.List.Elements.{All-filter}
 use Rattle.std.proofs.lemmas.List.Kept.{AllPairs-filter}
