@@ -1,6 +1,6 @@
 -- The edges that are lit at the beginning where a plan has a tape.
-use Rattle.std.proofs.Common.{◌≡◌, refl, sym, ◌∙◌, ap, ap₂, pos, ℕ, ◌+◌, ◌-◌, ◌*◌, ◌/◌, ◌<◌, ◌≤◌, Bool, true, false, ◌&&◌, ◌||◌, ◌⊎◌, cond, ltb, ⊎_elim, inl, inr, arith}
-use Rattle.std.specs.Prelude.{◌==◌, nat_le, nat_lt}
+use Rattle.std.proofs.Common.{◌≡◌, sym, ◌∙◌, ap, ap₂, pos, ℕ, ◌+◌, ◌-◌, ◌*◌, ◌/◌, ◌<◌, ◌≤◌, Bool, true, false, ◌&&◌, ◌||◌, ◌⊎◌, cond, ltb, ⊎_elim, inl, inr, arith}
+use Rattle.std.specs.Prelude.{nat_le, nat_lt}
 use Rattle.std.proofs.lemmas.Bool.{true≢false, false_from_ne_true, cases_lt, cond-true, cond-false, or_from, and_parts, and_right}
 use Rattle.std.proofs.Math.Bool.{or-false, or_comm}
 use Rattle.std.proofs.lemmas.Bool.Decides.{nat_tests}
@@ -14,13 +14,14 @@ use Rattle.lane_core.specs.Entering.{first_loop_lane, lane_bit}
 use Rattle.plan_layout.specs.Layout.{tiling_of}
 use Rattle.plan_layout.specs.Starts.{start_edges, is_port, is_passed, HasStartEdges}
 use Rattle.plan_layout.proofs.EdgeNames.{lit_is_passed}
-use Rattle.plan_waves.specs.Waves.{is_free_entry, DrivesInputs}
 use Rattle.plan_waves.proofs.Inputs.{not_injected, or_none}
 use Rattle.plan_waves.proofs.InputCells.{input_of_lane}
-use Rattle.plan_waves.proofs.Parts.{nothing_left}
-use Rattle.tape_waves.specs.Low.{HasFittingTape, cycle_tiles, tape_row, tape_rows, tape_shift, tape_bit, is_taped, drawn_edges}
+use Rattle.plan_layout.proofs.Parts.{nothing_left}
+use Rattle.lane_core.specs.Tape.{HasFittingTape, cycle_tiles, tape_row, tape_rows, tape_shift, tape_bit}
+use Rattle.plan_layout.specs.Tape.{is_taped, drawn_edges}
 use Rattle.tape_waves.specs.Tape.{drive_of_rows, is_due_on, is_before_body, taped_edges}
-use Rattle.tape_waves.proofs.Blocks.{IsOfPlan, on_tape, off_tape, beside_kept, above_kept}
+use Rattle.plan_layout.proofs.Taped.{IsOfPlan}
+use Rattle.tape_waves.proofs.Blocks.{on_tape, off_tape, beside_kept}
 use Rattle.tape_waves.proofs.Rows.{rows_drive, tape_is_due}
 
 -- before the body no start is lit on a lane that no loop enters

@@ -1,9 +1,8 @@
 -- The blocks of a plan with a tape, and what they answer: those of the plan, further east, answer as they do there.
-use Rattle.std.proofs.Common.{◌≡◌, refl, sym, ◌∙◌, ap, ap₂, pos, ℕ, ◌+◌, ◌-◌, ◌*◌, ◌/◌, ◌<◌, ◌≤◌, Bool, true, false, ◌&&◌, cond, ltb, ◌⊎◌, ⊎_elim, inl, inr, List, [], ◌∷◌, get_or, arith}
-use Rattle.std.specs.Prelude.{◌==◌, nat_le, nat_lt, All}
+use Rattle.std.proofs.Common.{◌≡◌, refl, sym, ◌∙◌, ap, ap₂, pos, ℕ, ◌+◌, ◌-◌, ◌*◌, ◌/◌, ◌<◌, ◌≤◌, Bool, true, false, ◌&&◌, cond, ltb, ⊎_elim, inl, inr, [], ◌∷◌, get_or, arith}
+use Rattle.std.specs.Prelude.{◌==◌, nat_le}
 use Rattle.std.specs.List.{list_any}
-use Rattle.std.proofs.lemmas.Bool.{true≢false, cases_lt, cond-true, cond-false, or_from, and_right}
-use Rattle.std.proofs.lemmas.List.Elements.{All-head, All-tail}
+use Rattle.std.proofs.lemmas.Bool.{true≢false, cases_lt, cond-false}
 use Rattle.std.proofs.lemmas.Bool.Decides.{nat_tests}
 use Rattle.ww_rule.specs.Wireworld.{Due}
 use Rattle.tile_core.specs.declared.kind.Kind.TheVariants as kind
@@ -18,19 +17,13 @@ use Rattle.tiling.specs.MacroStep.{piece_answers, slot_answers}
 use Rattle.lane_core.specs.declared.plan.Plan.{Plan}
 use Rattle.lane_core.specs.Plans.{IsAdmissible}
 use Rattle.lane_core.specs.Entering.{first_loop_lane}
-use Rattle.plan_layout.specs.Layout.{upper_left, in_body, upper_right, lower_left, on_return, lower_right, tiling_of}
-use Rattle.plan_layout.proofs.Columns.{by_column-left}
+use Rattle.plan_layout.specs.Layout.{tiling_of}
 use Rattle.plan_layout.proofs.Halves.{is_lower}
-use Rattle.plan_layout.proofs.Matched.{tiling_of-upper, tiling_of-lower, tiling_of-below}
-use Rattle.plan_layout.proofs.Sides.{either, upper_left_has, lower_left_has}
-use Rattle.plan_waves.proofs.Parts.{nothing_left}
+use Rattle.plan_layout.proofs.Sides.{either}
 use Rattle.plan_waves.proofs.Passing.{chosen_first}
-use Rattle.tape_waves.specs.Low.{is_on_tape, taped_tiling}
+use Rattle.plan_layout.specs.Tape.{taped_tiling}
+use Rattle.plan_layout.proofs.Taped.{IsOfPlan, tape_slot, plan_block, left_whole}
 use Rattle.tape_waves.specs.Tape.{is_before_body, is_due_on, taped_edges}
-
--- in the plan without a tape, not before the body on a lane that no loop enters
-abbrev pub IsOfPlan : Plan → ℕ → ℕ → Type 0
-IsOfPlan plan q l = (plan.latches ≤ q) ⊎ (first_loop_lane plan.lanes plan.latches ≤ l)
 
 pub of_plan : (plan : Plan) (shift q l : ℕ) → IsOfPlan plan q l → is_before_body plan shift (shift + q) l ≡ false
 of_plan plan shift q l far = ⊎_elim (λ right. grind (arith, nat_tests)) (λ low. grind (arith, nat_tests)) far
@@ -41,61 +34,10 @@ on_tape plan shift q l left free = grind (arith, nat_tests)
 pub off_tape : (plan : Plan) (shift q l : ℕ) → first_loop_lane plan.lanes plan.latches ≤ l → is_before_body plan shift q l ≡ false
 off_tape plan shift q l low = grind (arith, nat_tests)
 
--- what may stand on the tape: on the lane of an input, and no more tiles than the tape has before the body
-abbrev pub tape_slot : Plan → (shift tiles q l : ℕ) → Slot
-tape_slot plan shift tiles q l = cond (nat_le (shift + plan.latches) (q + tiles) && list_any (λ input. input == l) plan.ins) (Whole (Tile kind.East)) Nothing
-
-no_input : (lanes : List ℕ) (limit l : ℕ) → limit ≤ l → All (λ lane. lane < limit) lanes → list_any (λ lane. lane == l) lanes ≡ false
-no_input [] limit l high below = refl
-no_input (lane ∷ lanes) limit l high below =
-    let low : lane < limit = All-head (λ lane. lane < limit) lane lanes below in
-    let other : (lane == l) ≡ false = grind (arith, nat_tests) in
-    or_from _ _ other (no_input lanes limit l high (All-tail (λ lane. lane < limit) lane lanes below))
-
-no_tape_low : (plan : Plan) → IsAdmissible plan → (shift tiles q l : ℕ) → first_loop_lane plan.lanes plan.latches ≤ l → is_on_tape plan shift tiles q l ≡ false
-no_tape_low plan h shift tiles q l high = and_right _ _ (no_input plan.ins (first_loop_lane plan.lanes plan.latches) l high h.ins.below)
-
--- what stands on the tape, in the plan, and in the room that the tape leaves
-pub tape_block : (plan : Plan) → IsAdmissible plan → (shift tiles q l : ℕ) → q < shift + plan.latches → l < first_loop_lane plan.lanes plan.latches
-    → taped_tiling plan shift tiles q l ≡ tape_slot plan shift tiles q l
-tape_block plan h shift tiles q l left free =
-    let near : nat_lt q (shift + plan.latches) ≡ true = grind (arith, nat_tests) in
-    ap₂ (λ x slot. cond ((x && nat_le (shift + plan.latches) (q + tiles)) && list_any (λ input. input == l) plan.ins) (Whole (Tile kind.East)) slot) near nothing
-  where
-    nothing : cond (ltb q shift) Nothing (tiling_of plan (q - shift) l) ≡ Nothing
-    nothing =
-        ⊎_elim
-        (λ room. (let yes : ltb q shift ≡ true = grind (arith, nat_tests) in cond-true (ltb q shift) Nothing (tiling_of plan (q - shift) l) yes))
-        (λ own. (let no : ltb q shift ≡ false = grind (arith, nat_tests) in
-        cond-false (ltb q shift) Nothing (tiling_of plan (q - shift) l) no ∙ nothing_left plan h (q - shift) l (omega (arith, own, left)) free))
-        (cases_lt q shift)
-
-pub plan_block : (plan : Plan) → IsAdmissible plan → (shift tiles q l : ℕ) → IsOfPlan plan q l → taped_tiling plan shift tiles (shift + q) l ≡ tiling_of plan q l
-plan_block plan h shift tiles q l far =
-    let no : ltb (shift + q) shift ≡ false = grind (arith, nat_tests) in
-    let column : shift + q - shift ≡ q = omega arith in
-    cond-false (is_on_tape plan shift tiles (shift + q) l) (Whole (Tile kind.East)) (cond (ltb (shift + q) shift) Nothing (tiling_of plan (shift + q - shift) l)) none
-    ∙ cond-false (ltb (shift + q) shift) Nothing (tiling_of plan (shift + q - shift) l) no
-    ∙ ap (λ n. tiling_of plan n l) column
-  where
-    none : is_on_tape plan shift tiles (shift + q) l ≡ false
-    none =
-        ⊎_elim
-        (λ right. (let far : nat_lt (shift + q) (shift + plan.latches) ≡ false = grind (arith, nat_tests) in
-        ap (λ b. (b && nat_le (shift + plan.latches) (shift + q + tiles)) && list_any (λ input. input == l) plan.ins) far))
-        (λ high. no_tape_low plan h shift tiles (shift + q) l high)
-        far
-
-pub room_block : (plan : Plan) → IsAdmissible plan → (shift tiles q l : ℕ) → q < shift → first_loop_lane plan.lanes plan.latches ≤ l → taped_tiling plan shift tiles q l ≡ Nothing
-room_block plan h shift tiles q l left low =
-    let yes : ltb q shift ≡ true = grind (arith, nat_tests) in
-    cond-false (is_on_tape plan shift tiles q l) (Whole (Tile kind.East)) (cond (ltb q shift) Nothing (tiling_of plan (q - shift) l)) (no_tape_low plan h shift tiles q l low)
-    ∙ cond-true (ltb q shift) Nothing (tiling_of plan (q - shift) l) yes
-
 -- a tape is left in the east alone
 pub tape_not_left : (plan : Plan) (shift tiles q l x y : ℕ) → is_left (Whole (Tile kind.East)) x y ≡ false → is_left (tape_slot plan shift tiles q l) x y ≡ false
 tape_not_left plan shift tiles q l x y none =
-    either (λ s. is_left s x y ≡ false) (nat_le (shift + plan.latches) (q + tiles) && list_any (λ input. input == l) plan.ins) none refl
+    either (λ s. is_left s x y ≡ false) (list_any (λ input. input == l) plan.ins && nat_le (shift + plan.latches) (q + tiles)) none refl
 
 -- and passes on there what it is given
 pub tape_goes : (lit : Lit) (q l : ℕ) (b : Bool) → slot_answers lit q l (cond b (Whole (Tile kind.East)) Nothing) 31 8 ≡ (b && lit (Beside q l))
@@ -103,19 +45,6 @@ tape_goes lit q l false = refl
 tape_goes lit q l true =
     let same : l + 0 ≡ l = omega arith in
     chosen_first (pos 31) (pos 8) (cell_at (31, 8)) (lit (Beside q (l + 0))) (false ∷ []) refl ∙ ap (λ n. lit (Beside q n)) same
-
--- left of its body a plan has no lower half of a tile
-pub left_whole : (plan : Plan) (q l : ℕ) → q < plan.latches → is_lower (tiling_of plan q l) ≡ false
-left_whole plan q l left =
-    ⊎_elim
-    (λ above. (ap is_lower (tiling_of-upper plan q l above ∙ by_column-left plan q (upper_left plan q l) (in_body plan q l) (upper_right plan q l) left)
-    ∙ upper_left_has (λ s. is_lower s ≡ false) plan q l refl refl refl refl))
-    (λ below. ⊎_elim
-    (λ within. (ap is_lower (tiling_of-lower plan q l below within ∙ by_column-left plan q (lower_left plan q l) (on_return plan q l) (lower_right plan q l) left)
-    ∙ lower_left_has (λ s. is_lower s ≡ false) plan q l refl refl refl refl))
-    (λ out. ap is_lower (tiling_of-below plan q l out))
-    (cases_lt l (plan.lanes + plan.latches)))
-    (cases_lt l plan.lanes)
 
 module _ (plan : Plan) (shift : ℕ) (due : Due) (edges : ℕ → Lit) (m : ℕ) where
   abbrev now : Lit

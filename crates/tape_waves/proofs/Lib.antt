@@ -1,5 +1,4 @@
 pub mod Blocks
-pub mod Fit
 pub mod RunIn
 pub mod Rows
 pub mod Begin

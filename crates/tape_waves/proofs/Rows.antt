@@ -1,10 +1,9 @@
 -- What the rows of a tape drive: the tape has room for them, and its bits are what is due.
-use Rattle.std.proofs.Common.{◌≡◌, ◌≢◌, refl, sym, ◌∙◌, ap, ap₂, ℤ, pos, ℕ, ◌+◌, ◌-◌, ◌*◌, ◌/◌, ◌%◌, ◌<◌, ◌≤◌, Bool, true, false, ◌&&◌, cond, ⊎_elim, List, [], length, map, get_or, arith}
+use Rattle.std.proofs.Common.{◌≡◌, ◌≢◌, refl, sym, ◌∙◌, ap, ap₂, ℤ, pos, ℕ, ◌+◌, ◌-◌, ◌*◌, ◌/◌, ◌%◌, ◌<◌, ◌≤◌, Bool, true, false, cond, ⊎_elim, List, [], length, get_or, arith}
 use Rattle.std.specs.Prelude.{◌==◌, unwrap_or, slice_get}
 use Rattle.std.specs.Cmp.{both_ways as same_bit}
-use Rattle.std.specs.List.{list_any, range_with_len}
+use Rattle.std.specs.List.{list_any}
 use Rattle.std.proofs.lemmas.Bool.{true≢false, false_from_ne_true, cases_lt, and_parts, and_from, eqb-true, eqb-false, eq-eqb}
-use Rattle.std.proofs.lemmas.Bool.Decides.{nat_tests}
 use Rattle.std.proofs.lemmas.Int.{ints}
 use Rattle.std.proofs.lemmas.List.{get_or-map, get_or_past, length-map}
 use Rattle.std.proofs.lemmas.List.Elements.{All-get_or}
@@ -20,7 +19,7 @@ use Rattle.plan_waves.specs.Cycles.{cycle_steps}
 use Rattle.plan_waves.specs.Waves.{DrivesInputs, tiles_back}
 use Rattle.plan_waves.proofs.CycleSteps.{period_is, cycle_time}
 use Rattle.plan_waves.proofs.InputCells.{lane_of_input, input_of_lane, input_cell}
-use Rattle.tape_waves.specs.Low.{HasFittingTape, tape_cycles, tape_row, tape_rows, cycle_tiles, tape_tiles, tape_shift, tape_bit}
+use Rattle.lane_core.specs.Tape.{HasFittingTape, tape_cycles, tape_row, tape_rows, cycle_tiles, tape_tiles, tape_shift, tape_bit}
 use Rattle.tape_waves.specs.Tape.{drive_of_rows, is_due_on}
 use Rattle.tape_waves.specs.Laws.{FitsTape}
 

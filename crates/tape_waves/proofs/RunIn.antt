@@ -18,12 +18,13 @@ use Rattle.plan_layout.specs.Layout.{tiling_of}
 use Rattle.plan_layout.proofs.Sides.{body_goes_east}
 use Rattle.plan_waves.specs.Waves.{GoesOn, DrivesInputs}
 use Rattle.plan_waves.proofs.Inputs.{driven_edges_go_on, inputs_enter}
-use Rattle.plan_waves.proofs.Parts.{some_columns, body_at, nothing_left}
+use Rattle.plan_layout.proofs.Parts.{some_columns, body_at, nothing_left}
 use Rattle.plan_waves.proofs.Passing.{answers_none}
-use Rattle.tape_waves.specs.Low.{taped_tiling}
+use Rattle.plan_layout.specs.Tape.{taped_tiling}
 use Rattle.tape_waves.specs.Tape.{is_before_body, is_due_on, taped_edges}
 use Rattle.tape_waves.specs.Laws.{FitsTape}
-use Rattle.tape_waves.proofs.Blocks.{IsOfPlan, on_tape, off_tape, tape_block, plan_block, room_block, tape_not_left, tape_goes, beside_kept, above_kept, answers_kept}
+use Rattle.plan_layout.proofs.Taped.{IsOfPlan, tape_block, plan_block, room_block}
+use Rattle.tape_waves.proofs.Blocks.{on_tape, off_tape, tape_not_left, tape_goes, beside_kept, above_kept, answers_kept}
 
 -- tests that a bit implies change nothing in it
 guarded : (a b d : Bool) → (a ≡ false → d ≡ false) → (b ≡ false → d ≡ false) → ((a && b) && d) ≡ d
@@ -78,11 +79,11 @@ module _ (plan : Plan) (h : IsAdmissible plan) (shift tiles : ℕ) (due : Due) (
       beside_next (taped_tiling plan shift tiles) now q l p before
       ∙ ap₂ (λ x y. x || y)
       (ap (λ s. slot_answers now p l s 31 8) (tape_block plan h shift tiles p l (omega arith) low)
-      ∙ tape_goes now p l (b && a)
-      ∙ ap (λ d. (b && a) && d) (tape_lit p l (omega arith) low)
-      ∙ guarded b a (is_due_on plan due (32 * (m + (shift + plan.latches - p))) l)
-      (λ short. fits.within (m + (shift + plan.latches - p)) l (beyond p short))
+      ∙ tape_goes now p l (a && b)
+      ∙ ap (λ d. (a && b) && d) (tape_lit p l (omega arith) low)
+      ∙ guarded a b (is_due_on plan due (32 * (m + (shift + plan.latches - p))) l)
       (λ none. fits.on_inputs (32 * (m + (shift + plan.latches - p))) l none)
+      (λ short. fits.within (m + (shift + plan.latches - p)) l (beyond p short))
       ∙ ap (λ n. is_due_on plan due (32 * n) l) late)
       (west_dark q l left low)
       ∙ or_none (is_due_on plan due (32 * (suc m + (shift + plan.latches - q))) l)))

@@ -1,5 +1,5 @@
 -- The cells of a plan with a tape.
-use Rattle.std.proofs.Common.{◌≡◌, refl, sym, ◌∙◌, ap, pos, ℕ, zero, suc, ◌+◌, ◌-◌, ◌*◌, ◌/◌, ◌%◌, ◌<◌, ◌≤◌, Bool, true, inl, length, Option, Some, None, arith}
+use Rattle.std.proofs.Common.{◌≡◌, refl, sym, ◌∙◌, ap, pos, ℕ, zero, suc, ◌+◌, ◌-◌, ◌*◌, ◌/◌, ◌%◌, ◌<◌, ◌≤◌, true, inl, length, Option, Some, None, arith}
 use Rattle.std.specs.Prelude.{◌↔◌, ◌==◌, slice_index}
 use Rattle.std.proofs.lemmas.Bool.{cond-true, and_from}
 use Rattle.std.proofs.lemmas.Bool.Decides.{nat_tests}
@@ -34,13 +34,15 @@ use Rattle.plan_layout.specs.Starts.{start_edges, HasStartEdges}
 use Rattle.plan_waves.specs.Waves.{DrivesInputs}
 use Rattle.plan_waves.specs.ShownEdges.{ShowsEachStep, ShowsDrivenEdges}
 use Rattle.plan_waves.proofs.EdgesShown.{plans_show_edges}
-use Rattle.plan_waves.proofs.Parts.{some_columns, body_at}
+use Rattle.plan_layout.proofs.Parts.{some_columns, body_at}
 use Rattle.plan_waves.proofs.Passing.{step_east}
-use Rattle.tape_waves.specs.Low.{HasFittingTape, tape_rows, tape_tiles, tape_shift, taped_tiling, drawn_edges, drawn_plane}
+use Rattle.lane_core.specs.Tape.{HasFittingTape, tape_rows, tape_tiles, tape_shift}
+use Rattle.plan_layout.specs.Tape.{taped_tiling, drawn_edges, drawn_plane}
 use Rattle.tape_waves.specs.Tape.{drive_of_rows, taped_edges}
 use Rattle.tape_waves.specs.Laws.{ShowsWithoutDrive, ShowsByItself}
-use Rattle.tape_waves.proofs.Blocks.{plan_block, beside_kept}
-use Rattle.tape_waves.proofs.Fit.{fits_together}
+use Rattle.plan_layout.proofs.Taped.{plan_block}
+use Rattle.plan_layout.proofs.TapesFit.{fits_together}
+use Rattle.tape_waves.proofs.Blocks.{beside_kept}
 use Rattle.tape_waves.proofs.Begin.{begins}
 use Rattle.tape_waves.proofs.Rows.{rows_drive, tapes_fit}
 use Rattle.tape_waves.proofs.RunIn.{runs_in}

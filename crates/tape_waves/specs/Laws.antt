@@ -3,18 +3,18 @@ use Rattle.std.specs.Prelude.{pos, ℕ, suc, ◌+◌, ◌*◌, ◌<◌, ◌≤�
 use Rattle.std.specs.List.{list_any}
 use Rattle.ww_rule.specs.declared.pattern.State.TheVariants.{Head}
 use Rattle.ww_rule.specs.Wireworld.{Due, evolve, driven}
-use Rattle.ww_rule.specs.Grid.{IsEmptyOutside}
 use Rattle.tile_core.specs.declared.kind.Kind.{Kind}
 use Rattle.tile_core.specs.Drawing.{Drawing}
 use Rattle.tiling.specs.Tiling.{Edge, Lit}
 use Rattle.tiling.specs.MacroStep.{macro_step}
 use Rattle.tiling.specs.Steps.{KeepsLaw, driven_edges}
 use Rattle.lane_core.specs.declared.plan.Plan.{Plan}
-use Rattle.lane_core.specs.Plans.{IsAdmissible, size_of, out_cell_of, net_cell_of}
+use Rattle.lane_core.specs.Plans.{IsAdmissible, out_cell_of, net_cell_of}
 use Rattle.plan_layout.specs.Layout.{tiling_of}
 use Rattle.plan_layout.specs.Planes.{start_plane}
 use Rattle.plan_layout.specs.Starts.{HasStartEdges, start_edges}
-use Rattle.tape_waves.specs.Low.{tape_rows, tape_shift, moved_east, taped_tiling, drawn_edges, drawn_plane}
+use Rattle.lane_core.specs.Tape.{tape_rows, tape_shift, moved_east}
+use Rattle.plan_layout.specs.Tape.{taped_tiling, drawn_edges, drawn_plane}
 use Rattle.plan_waves.specs.Waves.{DrivesInputs}
 use Rattle.tape_waves.specs.Tape.{drive_of_rows, is_due_on, taped_edges}
 
@@ -53,8 +53,3 @@ pub record ShowsByItself (library : Kind → Drawing) (plan : Plan) : Type 0 whe
 abbrev pub TapesShowRows : Type 0
 TapesShowRows =
     (library : Kind → Drawing) → KeepsLaw library → (plan : Plan) → IsAdmissible plan → HasStartEdges plan → ShowsByItself library plan
-
--- outside its box the drawing is empty
-abbrev pub TapesStayInBox : Type 0
-TapesStayInBox =
-    (library : Kind → Drawing) (plan : Plan) → IsAdmissible plan → IsEmptyOutside (size_of plan).0 (size_of plan).1 (drawn_plane library plan)
