@@ -1,0 +1,3 @@
+pub mod SameRuns
+pub mod Carried
+pub mod Cycles

@@ -1,0 +1,2 @@
+pub mod CarriesAig
+pub mod Laws
