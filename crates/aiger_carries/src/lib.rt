@@ -2,9 +2,10 @@
 //!
 //! The functions here do nothing: their clauses are laws of the definition.
 //!
-//! Theorem: `aigs_are_carried`, `carries_aig_cycles`; definition `CarriesAig`.
+//! Theorem: `aigs_are_carried`, `carries_aig_cycles`, `flats_of_aigs_ask_alike`; definition `CarriesAig`.
 #![tactic(auto)]
 
+ghost use Rattle.aiger_carries.specs.Needs.{FlatsOfAigsAskAlike};
 ghost use Rattle.aiger_carries.specs.Laws.{AigsAreCarried, CarriesAigCycles, OneAigRunIsShown};
 
 /// A text that carries the flat netlist of a circuit carries the circuit.
@@ -18,4 +19,10 @@ pub fn aigs_are_carried()
 pub fn carries_aig_cycles()
     ensures outputs { CarriesAigCycles }
     ensures one_run { OneAigRunIsShown }
+{}
+
+/// The flat netlist of a circuit has as many latches, and asks for a constant 1 exactly where the circuit has a gate whose sides
+/// are both negated, or a negated literal that a latch or an output reads.
+pub fn flats_of_aigs_ask_alike()
+    ensures { FlatsOfAigsAskAlike }
 {}
