@@ -1,0 +1,31 @@
+use Rattle.std.proofs.Common.{[]}
+use Rattle.std.proofs.lemmas.Result.{on_ok_weaker, on_err_weaker}
+use Rattle.ww_base.specs.Pieces.{joined_pieces}
+use Rattle.ww_base.specs.Pages.{held}
+use Rattle.lists.proofs.Results.{on_err}
+use Rattle.ww_base.proofs.Steps.{begun, wrote_then, wrote_broke, wrote_as, wrote_whole, broke_as, front_of, broke_cause, cause_of}
+use Rattle.ww_base.proofs.pieces.write_pieces.Goals as goal
+
+pub returns-in_err-put_pieces-clause-front : goal.returns-in_err-put_pieces-clause-front
+returns-in_err-put_pieces-clause-front g c =
+    let start = begun (held c.new-page.result) (joined_pieces c.args.pieces.now) c.new-page.ensures.held in
+    on_err _ (front_of (broke_as start (c.in_err-put_pieces.ensures.err [])))
+
+pub returns-in_err-put_pieces-clause-cause : goal.returns-in_err-put_pieces-clause-cause
+returns-in_err-put_pieces-clause-cause g c = broke_cause _ (c.in_err-put_pieces.ensures.err [])
+
+pub returns-clause-ok : goal.returns-clause-ok
+returns-clause-ok g c =
+    let start = begun (held c.new-page.result) (joined_pieces c.args.pieces.now) c.new-page.ensures.held in
+    on_ok_weaker c.flush.result (λ wrote. wrote_whole (wrote_as start (wrote_then (c.in_ok-put_pieces.ensures.ok []) (wrote [])))) c.flush.ensures.ok
+
+pub returns-clause-front : goal.returns-clause-front
+returns-clause-front g c =
+    let start = begun (held c.new-page.result) (joined_pieces c.args.pieces.now) c.new-page.ensures.held in
+    on_err_weaker c.flush.result (λ broke. front_of (broke_as start (wrote_broke (c.in_ok-put_pieces.ensures.ok []) (broke [])))) c.flush.ensures.err
+
+pub returns-clause-cause : goal.returns-clause-cause
+returns-clause-cause g c =
+    let done = c.in_ok-put_pieces.ensures.ok [] in
+    cause_of c.flush.result (λ wrote. (wrote_then done (wrote [])).later) (λ broke. ((wrote_broke done (broke [])).later, (wrote_broke done (broke [])).rose))
+    c.flush.ensures.ok c.flush.ensures.err
