@@ -7,7 +7,7 @@ use crate::running::plays;
 use aiger_meaning::LowerError;
 use aiger_reader::{Aig, read};
 use aiger_text::laws::read_aigs_are_sound;
-use circuit_plans::plan_circuit;
+use aiger_plans::plan_circuit;
 use netlist_plans::Planned;
 use std::alloc::Global;
 use std::test::Fail;

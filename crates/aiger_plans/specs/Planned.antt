@@ -9,7 +9,7 @@ use Rattle.pattern_reading.specs.declared.ports.Ports.{Ports}
 use Rattle.pattern_writing.specs.WrittenText.{pattern_text}
 use Rattle.aiger_text.specs.declared.aig.Aig.{Aig}
 use Rattle.aiger_meaning.specs.Circuit.{aig_weight}
-use Rattle.aiger_meaning.specs.Needs.{aig_needs_one}
+use Rattle.aiger_carries.specs.Needs.{aig_needs_one}
 use Rattle.aiger_carries.specs.CarriesAig.{CarriesAig}
 
 -- The plan can be drawn, and starts at its start edges. It is small, by the circuit's weight w: at most 4 w + 4 lanes, and at most

@@ -5,10 +5,9 @@ ghost use Rattle.aiger_text.specs.SoundAig.{IsSoundAig};
 ghost use Rattle.aiger_meaning.specs.Causes.{HasLowerCause};
 ghost use Rattle.aiger_meaning.specs.Circuit.{aig_weight};
 ghost use Rattle.aiger_meaning.specs.Loop.{IsAigLoop};
-ghost use Rattle.circuit_plans.specs.Planned.{IsPlanOfAig};
+ghost use Rattle.aiger_plans.specs.Planned.{IsPlanOfAig};
 
-use aiger_carries::aigs_are_carried;
-use aiger_meaning::laws::needs_of_aigs;
+use aiger_carries::{aigs_are_carried, flats_of_aigs_ask_alike};
 use aiger_meaning::{LowerError, lower};
 use aiger_text::Aig;
 use netlist_plans::{NetlistPlanError, Planned, plan_netlist};
@@ -24,7 +23,7 @@ pub fn plan_circuit(alloc: Global, aig: &Aig) -> Result<Planned, LowerError>
     ensures refused { IfErr result (HasLowerCause aig.now) }
 {
     aigs_are_carried();
-    needs_of_aigs();
+    flats_of_aigs_ask_alike();
     let lowered = lower(alloc, aig)?;
     match plan_netlist(alloc, &lowered.flat, &lowered.order) {
         Ok(planned) => Ok(planned),

@@ -1,6 +1,5 @@
 -- The plan of the flat netlist of a circuit is one of the circuit.
-use Rattle.std.proofs.Common.{◌≡◌, sym, ◌∙◌, ap, subst, ◌+◌, ◌*◌, ◌≤◌, false, length}
-use Rattle.std.proofs.lemmas.List.{length-map}
+use Rattle.std.proofs.Common.{◌≡◌, ◌∙◌, subst, ◌+◌, ◌*◌, ◌≤◌, false, length}
 use Rattle.lane_core.specs.declared.plan.Plan.{Plan}
 use Rattle.lane_core.specs.Plans.{IsAdmissible}
 use Rattle.plan_layout.specs.Starts.{HasStartEdges}
@@ -15,13 +14,13 @@ use Rattle.netlist_plans.specs.Planned.{IsSmall}
 use Rattle.aiger_text.specs.declared.aig.Aig.{Aig}
 use Rattle.aiger_meaning.specs.FlatOf.{IsFlatOfAig}
 use Rattle.aiger_meaning.specs.Lowered.{IsLowered}
-use Rattle.aiger_meaning.specs.Laws.{NeedsOfAigs}
 use Rattle.aiger_carries.specs.Laws.{AigsAreCarried}
-use Rattle.circuit_plans.specs.Planned.{IsPlanOfAig}
+use Rattle.aiger_carries.specs.Needs.{AsksAlike, FlatsOfAigsAskAlike}
+use Rattle.aiger_plans.specs.Planned.{IsPlanOfAig}
 
-module _ (needs : NeedsOfAigs) (carried : AigsAreCarried) (aig : Aig) (flat : Flat) (is_flat : IsFlatOfAig aig flat) (lowered : IsLowered aig flat) (plan : Plan) (ports : Ports) where
-  latches_many : length flat.latches ≡ length aig.latches
-  latches_many = sym (length-map flat.latches _) ∙ ap length lowered.starts ∙ length-map aig.latches _
+module _ (alike : FlatsOfAigsAskAlike) (carried : AigsAreCarried) (aig : Aig) (flat : Flat) (is_flat : IsFlatOfAig aig flat) (lowered : IsLowered aig flat) (plan : Plan) (ports : Ports) where
+  asks : AsksAlike aig flat
+  asks = alike aig flat is_flat
 
   pub is_plan : IsAdmissible plan → HasStartEdges plan → IsSmall flat plan → (length flat.latches ≡ 0 → any_needs_one flat ≡ false → ports.p ≡ 32)
       → CarriesFlat (pattern_text (start_grid plan) ports) flat → IsPlanOfAig aig plan ports
@@ -31,6 +30,6 @@ module _ (needs : NeedsOfAigs) (carried : AigsAreCarried) (aig : Aig) (flat : Fl
     lanes = subst (λ w. plan.lanes ≤ 4 * w + 4) lowered.weight small.lanes;
     columns = subst (λ w. length plan.columns ≤ 256 * ((w + 1) * (w + 1))) lowered.weight small.columns;
     instrs = subst (λ w. instr_count plan.columns ≤ 256 * ((w + 1) * (w + 1))) lowered.weight small.instrs;
-    period = λ none e. short (latches_many ∙ none) (needs aig flat is_flat ∙ e);
+    period = λ none e. short (asks.latches ∙ none) (asks.one ∙ e);
     carries = carried (pattern_text (start_grid plan) ports) aig flat carries lowered;
   }

@@ -1,7 +1,7 @@
 use Rattle.std.proofs.Common.{◌<◌, ◌^◌, arith}
-use Rattle.circuit_plans.proofs.Named.{port_names, table_places}
-use Rattle.circuit_plans.proofs.OfFlat.{is_plan}
-use Rattle.circuit_plans.proofs.planning.plan_circuit.Goals as goal
+use Rattle.aiger_plans.proofs.Named.{port_names, table_places}
+use Rattle.aiger_plans.proofs.OfFlat.{is_plan}
+use Rattle.aiger_plans.proofs.planning.plan_circuit.Goals as goal
 
 pub plan_netlist-requires-clause-small : goal.plan_netlist-requires-clause-small
 plan_netlist-requires-clause-small c = omega (arith, c.in_ok-lowered.ensures.lowered.weight, c.in_ok-lowered.ensures.light)
