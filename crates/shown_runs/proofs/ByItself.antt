@@ -1,5 +1,5 @@
 -- A text that runs by itself shows a run of its design, whatever streams one gives.
-use Rattle.std.proofs.Common.{ℕ, ◌≡◌, ◌≢◌, ◌+◌, ◌*◌, ◌<◌, ◌≤◌, suc, refl, sym, ap, ap₂, ◌∙◌, subst, ℤ, pos, Bool, true, false, List, [], ◌∷◌, length, map, flat_map, get_or, arith}
+use Rattle.std.proofs.Common.{ℕ, ◌≡◌, ◌≢◌, ◌+◌, ◌*◌, ◌<◌, ◌≤◌, refl, sym, ap, ◌∙◌, subst, ℤ, pos, Bool, true, false, List, [], ◌∷◌, ◌++◌, length, map, flat_map, get_or, arith}
 use Rattle.std.specs.Prelude.{◌↔◌, All, Some, None, slice_get}
 use Rattle.std.specs.List.{range_with_len}
 use Rattle.std.proofs.lemmas.Bool.{false_from_ne_true}
@@ -21,15 +21,14 @@ use Rattle.pattern_reading.specs.Ports.{cells_of, names_of}
 use Rattle.netlist_core.specs.declared.model.Design.{Design}
 use Rattle.netlist_core.specs.Names.{Name}
 use Rattle.netlist_meaning.specs.Nets.{Net}
-use Rattle.netlist_meaning.specs.Places.{main_outputs}
 use Rattle.netlist_meaning.specs.Valuation.{Valuation, AreInputRows, IsRun, output_bit}
 use Rattle.carries.specs.ByItself.{ThenZeros, RunsByItself}
 use Rattle.carries.proofs.Cycles.{in_time, in_cycle}
 use Rattle.carries.proofs.Period.{has_period}
 use Rattle.streams.specs.declared.streams.Streams.{Streams}
 use Rattle.streams.specs.Rows.{contexts_of}
-use Rattle.drive.specs.Driving.{AreFor, due_by, driven_by, cycle_rows, injections_of, first_miss, shown_at, shown_bits}
-use Rattle.drive.specs.Misses.{misses, first_of_misses}
+use Rattle.drive.specs.Driving.{AreFor, due_by, driven_by, cycle_rows, injections_of, first_miss, shown_at}
+use Rattle.drive.specs.Misses.{first_of_misses}
 use Rattle.netlist_run.specs.Runs.{bits_in_run}
 use Rattle.netlist_run.proofs.Ran.{same_on_range}
 use Rattle.probe_view.specs.Probes.{probed_at}
