@@ -1,4 +1,6 @@
 pub mod Ports
+pub mod Boxed
 pub mod Pattern
 pub mod Blank
 pub mod RowRuns
+pub mod Near

@@ -72,19 +72,19 @@ nothing_left plan h q l left low =
     ∙ by_column-left plan q (upper_left plan q l) (in_body plan q l) (upper_right plan q l) left
     ∙ turn_beyond plan.latches (plan.latches - 1 - q) (plan.lanes - 1 - l) kind.East kind.NorthEast kind.North (omega arith)
 
--- no output has its cell on the lane of a loop
-no_output : (outs : List ℕ) (limit l : ℕ) → limit ≤ l → All (λ lane. lane < limit) outs → list_any (λ out. out == l) outs ≡ false
-no_output [] limit l high below = refl
-no_output (out ∷ outs) limit l high below =
+-- no port of a list is on the lane of a loop
+pub none_on : (outs : List ℕ) (limit l : ℕ) → limit ≤ l → All (λ lane. lane < limit) outs → list_any (λ out. out == l) outs ≡ false
+none_on [] limit l high below = refl
+none_on (out ∷ outs) limit l high below =
     let low : out < limit = All-head (λ lane. lane < limit) out outs below in
     let other : (out == l) ≡ false = grind (arith, nat_tests) in
-    or_from _ _ other (no_output outs limit l high (All-tail (λ lane. lane < limit) out outs below))
+    or_from _ _ other (none_on outs limit l high (All-tail (λ lane. lane < limit) out outs below))
 
 -- right of the body, on the lanes of loops and below
 right_at : (plan : Plan) → IsAdmissible plan → (q l : ℕ) → end_of_body plan ≤ q → first_loop_lane plan.lanes plan.latches ≤ l → l < plan.lanes
     → tiling_of plan q l ≡ turn_slot plan.latches (q - end_of_body plan) (plan.lanes - 1 - l) kind.East kind.EastSouth kind.South
 right_at plan h q l right high low =
-    let none : list_any (λ out. out == l) plan.outs ≡ false = no_output plan.outs (first_loop_lane plan.lanes plan.latches) l high h.outs.below in
+    let none : list_any (λ out. out == l) plan.outs ≡ false = none_on plan.outs (first_loop_lane plan.lanes plan.latches) l high h.outs.below in
     tiling_of-upper plan q l low
     ∙ by_column-right plan q (upper_left plan q l) (in_body plan q l) (upper_right plan q l) right
     ∙ cond-false (q == end_of_body plan && list_any (λ out. out == l) plan.outs) (Whole Output)
