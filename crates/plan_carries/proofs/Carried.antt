@@ -37,7 +37,7 @@ use Rattle.pattern_reading.specs.declared.ports.Ports.{Ports}
 use Rattle.netlist_core.specs.declared.flat.Flat.{Flat}
 use Rattle.netlist_core.specs.declared.flat.FlatPort.{FlatPort}
 use Rattle.netlist_core.specs.declared.flat.Net.{Net as FlatNet}
-use Rattle.netlist_meaning.specs.Flat.{class_of, nets_but_clocks}
+use Rattle.netlist_meaning.specs.Flat.{class_of, listed_nets}
 use Rattle.netlist_meaning.specs.FlatValuation.{AreFlatRows, IsFlatRun, start_bits, flat_state_in, flat_output_bit}
 use Rattle.cell_meaning.specs.Mapped.{HasBits}
 use Rattle.carries.specs.Contexts.{AreRunsFrom, context_drive, ShowsBitsInContexts, ShowsOutputsInContexts, ShowsNetLinesInContexts}
@@ -116,16 +116,16 @@ module _ (flat : Flat) (list : CellList) (plan : Plan) (f : ComputesFlat flat li
       ∙ ap (λ bits. get_or bits i false) (map-map (run t) (λ (port : FlatPort). class_of flat port.net) flat.outs)
 
   -- and so is a net's, after the column of its place
-  pub net_shown : (i t : ℕ) (net : FlatNet) → i < length plan.nets → t < length rows → slice_get (nets_but_clocks flat) i ≡ Some net
+  pub net_shown : (i t : ℕ) (net : FlatNet) → i < length plan.nets → t < length rows → slice_get (listed_nets flat) i ≡ Some net
       → bit_on (bits_after after_columns plan.columns (net_place plan i).after (entering_run t)) (net_place plan i).lane ≡ run t net.class
   net_shown i t net within lt is_net =
       ap (λ bits. bit_on (bits_after after_columns plan.columns (net_place plan i).after bits) (net_place plan i).lane) (enters t (omega arith))
       ∙ sym (get_or-map (λ (place : NetPlace). bit_on (bits_after after_columns plan.columns place.after (entry_bits free plan.ins (row t) (loop_state list (state t)))) place.lane) plan.nets i (record { lane = 0; after = None }) false within)
       ∙ ap (λ bits. get_or bits i false) (c.bits.nets_have (row t) (state t) (fits t lt))
       ∙ ap (λ bits. get_or bits i false) (has t lt).nets
-      ∙ ap (λ bits. get_or bits i false) (map-map (run t) (λ (net : FlatNet). net.class) (nets_but_clocks flat))
-      ∙ get_or-map (λ (net : FlatNet). run t net.class) (nets_but_clocks flat) i net false (slice_get_within (nets_but_clocks flat) i net is_net)
-      ∙ ap (λ (net : FlatNet). run t net.class) (get_or_from_slice_get (nets_but_clocks flat) i net net is_net)
+      ∙ ap (λ bits. get_or bits i false) (map-map (run t) (λ (net : FlatNet). net.class) (listed_nets flat))
+      ∙ get_or-map (λ (net : FlatNet). run t net.class) (listed_nets flat) i net false (slice_get_within (listed_nets flat) i net is_net)
+      ∙ ap (λ (net : FlatNet). run t net.class) (get_or_from_slice_get (listed_nets flat) i net net is_net)
 
 -- where the cell of an output is
 abbrev out_place : Plan → ℕ → ℕ × ℕ
@@ -235,7 +235,7 @@ module _ (library : Kind → Drawing) (law : KeepsLaw library) (flat : Flat) (li
         (subst (λ p. ShowsBitsInContexts (latency_of plan) p (length contexts) cycles bits g (driven (drive_of_contexts plan contexts) (plane_with library plan lit) g) cell.x cell.y) (sym k.table.period)
         (subst (λ (at : ℕ × ℕ). ShowsBitsInContexts (latency_of plan) (period_of plan) (length contexts) cycles bits g (driven (drive_of_contexts plan contexts) (plane_with library plan lit) g) at.0 at.1) (sym place.1) shown)))
 
-    nets_shown : ShowsNetLinesInContexts (plane_with library plan lit) ports cycles contexts (nets_but_clocks flat) (λ c t net. runs c t net.class)
+    nets_shown : ShowsNetLinesInContexts (plane_with library plan lit) ports cycles contexts (listed_nets flat) (λ c t net. runs c t net.class)
     nets_shown number net line is_net is_line g early =
         let place = net_cell_is flat plan (length starts) ports k.table number line is_line in
         let cell = net_cell_of plan number in

@@ -11,7 +11,7 @@ use Rattle.netlist_core.specs.declared.flat.Net.{Net as FlatNet}
 use Rattle.netlist_core.specs.declared.flat.FlatPort.{FlatPort}
 use Rattle.netlist_core.specs.Names.{Name}
 use Rattle.netlist_meaning.specs.Nets.{Net, IsInNames}
-use Rattle.netlist_meaning.specs.Flat.{nets_but_clocks, names_of_ports, name_of_net}
+use Rattle.netlist_meaning.specs.Flat.{listed_nets, names_of_ports, name_of_net}
 use Rattle.netlist_meaning.specs.FlatOf.{class_of_net, flat_net, IsFlatOf}
 use Rattle.netlist_meaning.specs.FlatValuation.{IsFlatValuation, IsFlatRun, AreFlatRows, flat_state_in, flat_output_bit}
 use Rattle.netlist_meaning.specs.Valuation.{Valuation, LatchState, IsValuation, AreInputRows, IsRunFrom, start_state, latches_in, output_bit}
@@ -104,7 +104,7 @@ module _ (design : Design) (flat : Flat) (faultless : AreFaultless design.models
     unfolding own
     same_net number net e t lt = seen_has_bit design flat faultless clean h (row t) (latches t) (run t) (solves t lt) number net e
 
-  seen_at : (number : ℕ) (net : Net) → slice_get (seen_nets design flat) number ≡ Some net → slice_get (nets_but_clocks flat) number ≡ Some (flat_net design net)
+  seen_at : (number : ℕ) (net : Net) → slice_get (seen_nets design flat) number ≡ Some net → slice_get (listed_nets flat) number ≡ Some (flat_net design net)
   seen_at number net e =
       ap (λ (nets : List FlatNet). slice_get nets number) (seen_are_flat design flat h)
       ∙ slice_get-map (flat_net design) (seen_nets design flat) number

@@ -11,7 +11,7 @@ use Rattle.cell_core.specs.Meaning.{Fits}
 use Rattle.cell_core.specs.Loops.{loop_state}
 use Rattle.netlist_core.specs.declared.flat.FlatPort.{FlatPort}
 use Rattle.netlist_core.specs.declared.flat.Net.{Net as FlatNet}
-use Rattle.netlist_meaning.specs.Flat.{class_of, nets_but_clocks, port_classes}
+use Rattle.netlist_meaning.specs.Flat.{class_of, listed_nets, port_classes}
 use Rattle.pattern_reading.specs.declared.ports.Ports.{Ports}
 use Rattle.netlist_meaning.specs.FlatValuation.{start_bits}
 use Rattle.pattern_writing.specs.WrittenText.{HasWrittenText, pattern_text}
@@ -33,7 +33,7 @@ plans_have_ports flat list plan c p =
       outs = sym (length-map plan.outs _) ∙ ap length (p.bits.outs_have (replicate list.inputs false) (replicate (length list.starts) false) fits) ∙ length-map list.outs _
           ∙ ap length c.mapped.outs ∙ length-map (port_classes flat flat.outs) c.mapped.sources ∙ length-map flat.outs (λ (port : FlatPort). class_of flat port.net);
       nets = sym (length-map plan.nets _) ∙ ap length (p.bits.nets_have (replicate list.inputs false) (replicate (length list.starts) false) fits) ∙ length-map list.nets _
-          ∙ ap length c.mapped.nets ∙ length-map (listed_classes flat) c.mapped.sources ∙ length-map (nets_but_clocks flat) (λ (net : FlatNet). net.class);
+          ∙ ap length c.mapped.nets ∙ length-map (listed_classes flat) c.mapped.sources ∙ length-map (listed_nets flat) (λ (net : FlatNet). net.class);
     }
 
 pub texts_carry_contexts : KeepsLaw shipped_drawing → PicturesArePlanes → ((grid : Grid) (ports : Ports) → HasWrittenText grid ports) → TablesAreReadable → PlanesShowContexts → TextsCarryContexts

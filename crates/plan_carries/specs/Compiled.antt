@@ -12,7 +12,7 @@ use Rattle.cell_meaning.specs.Computes.{ComputesByPlan}
 use Rattle.pattern_reading.specs.declared.ports.Ports.{Ports}
 use Rattle.plan_ports.specs.Tables.{IsTableOf, HasPortNames, HasTablePlaces}
 
--- the list computes the flat netlist: in each of its valuations, outputs, latches' data and nets have their bits
+-- the list computes the flat netlist: in each of its valuations, outputs, latches' data and listed nets have their bits
 pub record ComputesFlat (flat : Flat) (list : CellList) : Type 0 where
   pub mapped : IsMapped flat list
   pub bits : (inputs state : List Bool) (bits : ℕ → Bool) → IsFlatValuation flat inputs state bits → HasBits flat list inputs state bits

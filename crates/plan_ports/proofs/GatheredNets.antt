@@ -9,10 +9,10 @@ use Rattle.lane_core.specs.declared.plan.Plan.{Plan}
 use Rattle.lane_core.specs.Plans.{cell_after, net_cell_of, net_cells}
 use Rattle.netlist_core.specs.declared.flat.Net.{Net as FlatNet}
 use Rattle.netlist_core.specs.declared.flat.Flat.{Flat}
-use Rattle.netlist_meaning.specs.Flat.{is_clock_class}
+use Rattle.netlist_meaning.specs.Flat.{is_clock_class, nets_but_clocks}
 use Rattle.pattern_reading.specs.declared.ports.NetLine.{NetLine}
 use Rattle.place_paths.specs.Paths.{path_of, names_and_paths}
-use Rattle.plan_ports.specs.Tables.{HasPortsOf, named_paths, net_cells_of}
+use Rattle.plan_ports.specs.Tables.{named_paths, net_cells_of}
 use Rattle.plan_ports.proofs.NetLines.{line_words, net_words}
 
 abbrev pub is_seen : Flat → FlatNet → Bool
@@ -44,12 +44,12 @@ filtered flat i net b within is e =
     ∙ ap (λ s. filter (is_seen flat) (take i flat.nets) ++ cond s (net ∷ []) []) e
 
 -- the plan has one more where the next net is no clock net
-pub one_more_there : (flat : Flat) (plan : Plan) (i : ℕ) (lines : List NetLine) (net : FlatNet) → HasPortsOf flat plan → AreNetLines flat plan i lines → i < length flat.nets → net ≡ get_or flat.nets i net → is_seen flat net ≡ true
+pub one_more_there : (flat : Flat) (plan : Plan) (i : ℕ) (lines : List NetLine) (net : FlatNet) → length plan.nets ≡ length (nets_but_clocks flat) → AreNetLines flat plan i lines → i < length flat.nets → net ≡ get_or flat.nets i net → is_seen flat net ≡ true
     → length lines < length plan.nets
-one_more_there flat plan i lines net ports g within is seen =
+one_more_there flat plan i lines net all g within is seen =
     let more : length (filter (is_seen flat) (take (i + 1) flat.nets)) ≡ length (filter (is_seen flat) (take i flat.nets)) + 1 =
     ap length (filtered flat i net true within is seen) ∙ length-append (filter (is_seen flat) (take i flat.nets)) (net ∷ []) in
-    omega (arith, count flat plan i lines g, more, few (is_seen flat) flat.nets (i + 1), ports.nets)
+    omega (arith, count flat plan i lines g, more, few (is_seen flat) flat.nets (i + 1), all)
 
 -- with its line
 pub with_line : (flat : Flat) (plan : Plan) (i : ℕ) (lines new : List NetLine) (line : NetLine) (net : FlatNet) → AreNetLines flat plan i lines → i < length flat.nets → net ≡ get_or flat.nets i net → is_seen flat net ≡ true
@@ -83,8 +83,8 @@ without_line flat plan i lines net g within is unseen = record {
 }
 
 -- the lines of all nets
-pub all_lines : (flat : Flat) (plan : Plan) (lines : List NetLine) → HasPortsOf flat plan → AreNetLines flat plan (length flat.nets) lines → net_cells_of lines ≡ net_cells plan
-all_lines flat plan lines ports g =
+pub all_lines : (flat : Flat) (plan : Plan) (lines : List NetLine) → length plan.nets ≡ length (nets_but_clocks flat) → AreNetLines flat plan (length flat.nets) lines → net_cells_of lines ≡ net_cells plan
+all_lines flat plan lines all g =
     let long : length lines ≡ length (net_cells plan) =
-    count flat plan (length flat.nets) lines g ∙ ap (λ nets. length (filter (is_seen flat) nets)) (take-length flat.nets) ∙ sym ports.nets ∙ sym (length-map {B = ℕ × ℕ × ℕ} plan.nets _) in
+    count flat plan (length flat.nets) lines g ∙ ap (λ nets. length (filter (is_seen flat) nets)) (take-length flat.nets) ∙ sym all ∙ sym (length-map {B = ℕ × ℕ × ℕ} plan.nets _) in
     g.cells ∙ ap (λ n. take n (net_cells plan)) long ∙ take-length (net_cells plan)

@@ -10,14 +10,13 @@ use Rattle.lane_core.specs.Plans.{IsAdmissible, left_of, row_of, period_of, size
 use Rattle.lane_core.specs.Places.{AreDistinctBelow}
 use Rattle.netlist_core.specs.declared.flat.FlatPort.{FlatPort}
 use Rattle.netlist_core.specs.declared.flat.Flat.{Flat}
-use Rattle.netlist_meaning.specs.Flat.{IsNetId, no_net, name_of_net, names_of_ports}
+use Rattle.netlist_meaning.specs.Flat.{names_of_ports}
 use Rattle.pattern_reading.specs.declared.ports.PortLine.{PortLine}
 use Rattle.pattern_reading.specs.Numbers.{greatest_number}
 use Rattle.pattern_reading.specs.Ports.{cells_of, names_of}
 use Rattle.pattern_reading.specs.Spelling.{IsPortName}
 use Rattle.pattern_reading.specs.SoundTable.{IsSoundPort}
 use Rattle.pattern_reading.specs.Laws.{IsPortInside}
-use Rattle.plan_ports.specs.Tables.{HasPortNames}
 use Rattle.plan_ports.proofs.NetLines.{nets_sound, nets_inside, one_net}
 use Rattle.plan_ports.specs.Laws.{HasRoom, TablesAreReadable}
 
@@ -75,9 +74,6 @@ period_fits plan h =
 
 -- The names of ports.
 
-names_are : (flat : Flat) → HasPortNames flat → (ports : List FlatPort) → All (λ port. IsNetId flat port.net) ports → All IsPortName (names_of_ports flat ports)
-names_are flat names ports there = All-map IsPortName (λ port. name_of_net flat port.net) ports (λ k d lt. names (get_or ports k d).net.0 no_net (there k d lt))
-
 distinct : (lines : List PortLine) → AllPairs (λ a b. a ≢ b) (names_of lines) → AllPairs (λ a b. a.name ≢ b.name) lines
 distinct lines h i j d before within =
     let first = get_or-map (λ (line : PortLine). line.name) lines i d d.name (omega (arith, before, within)) in
@@ -85,7 +81,7 @@ distinct lines h i j d before within =
     λ same. h i j d.name before (omega (arith, within, length-map lines (λ (line : PortLine). line.name))) (first ∙ same ∙ sym second)
 
 -- Port lines with such cells and names.
-module _ (flat : Flat) (plan : Plan) (h : IsAdmissible plan) (names : HasPortNames flat) (ports : List FlatPort) (there : All (λ port. IsNetId flat port.net) ports)
+module _ (flat : Flat) (plan : Plan) (h : IsAdmissible plan) (ports : List FlatPort) (names : All IsPortName (names_of_ports flat ports))
     (lines : List PortLine) (column : ℕ) (lanes : List ℕ) (below : AreDistinctBelow (plan.lanes - plan.latches) lanes) (near : column ≤ length plan.columns)
     (cells : cells_of lines ≡ map (λ lane. (left_of plan column, row_of lane)) lanes) (named : names_of lines ≡ names_of_ports flat ports) where
   abbrev Each : (PortLine → Type 0) → Type 0
@@ -94,7 +90,7 @@ module _ (flat : Flat) (plan : Plan) (h : IsAdmissible plan) (names : HasPortNam
   each : (R : PortLine → Type 0) → Each R
   each R both =
       each_line (Inside (size_of plan)) IsPortName R both lines (subst (All (Inside (size_of plan))) (sym cells) (lanes_inside plan column lanes below near))
-      (subst (All IsPortName) (sym named) (names_are flat names ports there))
+      (subst (All IsPortName) (sym named) names)
 
   lines_sound : AllByRecursion IsSoundPort lines
   lines_sound = each IsSoundPort (λ line at name. record {
@@ -118,16 +114,16 @@ tables_are_readable flat plan c ports range named names places h room t = record
     l = subst (λ n. n ≤ greatest_number) (sym t.latency) (omega (arith, h.size.columns));
     contexts = λ e. room.some (sym t.contexts ∙ e);
     room = rw (t.contexts, t.period) (room.room);
-    ins = lines_sound flat plan h names flat.ins range.ins ports.ins 0 plan.ins h.ins (omega arith) t.in_cells t.in_names;
-    outs = lines_sound flat plan h names flat.outs range.outs ports.outs (length plan.columns) plan.outs h.outs (omega arith) t.out_cells t.out_names;
+    ins = lines_sound flat plan h flat.ins names.ins ports.ins 0 plan.ins h.ins (omega arith) t.in_cells t.in_names;
+    outs = lines_sound flat plan h flat.outs names.outs ports.outs (length plan.columns) plan.outs h.outs (omega arith) t.out_cells t.out_names;
     nets = nets_sound flat plan h names places ports.nets t.net_cells t.net_names (small_size plan h).0 (small_size plan h).1;
     one_input = distinct ports.ins (subst (AllPairs (λ a b. a ≢ b)) (sym t.in_names) named.ins.distinct);
     one_output = distinct ports.outs (subst (AllPairs (λ a b. a ≢ b)) (sym t.out_names) named.outs.distinct);
     one_net = one_net flat plan h names places ports.nets t.net_cells t.net_names;
   };
   inside = record {
-    ins = lines_inside flat plan h names flat.ins range.ins ports.ins 0 plan.ins h.ins (omega arith) t.in_cells t.in_names;
-    outs = lines_inside flat plan h names flat.outs range.outs ports.outs (length plan.columns) plan.outs h.outs (omega arith) t.out_cells t.out_names;
+    ins = lines_inside flat plan h flat.ins names.ins ports.ins 0 plan.ins h.ins (omega arith) t.in_cells t.in_names;
+    outs = lines_inside flat plan h flat.outs names.outs ports.outs (length plan.columns) plan.outs h.outs (omega arith) t.out_cells t.out_names;
     nets = nets_inside flat plan h names places ports.nets t.net_cells t.net_names;
   };
 }

@@ -2,7 +2,7 @@
 ghost use Rattle.std.specs.Prelude.{◌≡◌, ◌<◌, length, IfOk};
 ghost use Rattle.lane_core.specs.Plans.{IsAdmissible, net_cells, net_cell_of};
 ghost use Rattle.netlist_core.specs.declared.flat.Net as flat_net;
-ghost use Rattle.netlist_meaning.specs.Flat.{IsInRange, nets_but_clocks};
+ghost use Rattle.netlist_meaning.specs.Flat.{IsInRange, listed_nets, nets_but_clocks};
 ghost use Rattle.place_paths.specs.Paths as paths;
 ghost use Rattle.plan_ports.specs.Tables.{HasPortsOf, named_paths, net_cells_of};
 
@@ -35,11 +35,11 @@ fn net_line(alloc: Global, plan: &Plan, i: usize, net: &Net) -> Result<NetLine, 
     })
 }
 
-/// The lines of all nets but the clock nets, in order.
-pub fn net_lines(alloc: Global, flat: &Flat, plan: &Plan) -> Result<Vec<NetLine>, PortsError>
+// The lines of all nets but the clock nets, in order.
+fn plain_lines(alloc: Global, flat: &Flat, plan: &Plan) -> Result<Vec<NetLine>, PortsError>
     requires in_range { IsInRange flat.now }
     requires admissible { IsAdmissible plan.now }
-    requires ports { HasPortsOf flat.now plan.now }
+    requires many { length plan.now.nets ≡ length (nets_but_clocks flat.now) }
     ensures cells { IfOk result (λ lines. net_cells_of lines.items ≡ net_cells plan.now) }
     ensures names { IfOk result (λ lines. paths.names_and_paths lines.items ≡ named_paths (nets_but_clocks flat.now)) }
 {
@@ -52,4 +52,18 @@ pub fn net_lines(alloc: Global, flat: &Flat, plan: &Plan) -> Result<Vec<NetLine>
         }
     }
     Ok(lines)
+}
+
+/// The lines of the nets that tables list, in order.
+pub fn net_lines(alloc: Global, flat: &Flat, plan: &Plan) -> Result<Vec<NetLine>, PortsError>
+    requires in_range { IsInRange flat.now }
+    requires admissible { IsAdmissible plan.now }
+    requires ports { HasPortsOf flat.now plan.now }
+    ensures cells { IfOk result (λ lines. net_cells_of lines.items ≡ net_cells plan.now) }
+    ensures names { IfOk result (λ lines. paths.names_and_paths lines.items ≡ named_paths (listed_nets flat.now)) }
+{
+    if !flat.listed {
+        return Ok(Vec::new(alloc));
+    }
+    plain_lines(alloc, flat, plan)
 }

@@ -61,7 +61,7 @@ fn output_lines(alloc: Global, flat: &Flat, plan: &Plan) -> Result<Vec<PortLine>
     Ok(lines)
 }
 
-/// The port table of a plan that has an input and an output for each of the netlist's, and a net for each but the clock nets. In the
+/// The port table of a plan that has an input and an output for each of the netlist's, and a net for each that tables list. In the
 /// pattern run `c` contexts.
 pub fn of_plan(alloc: Global, flat: &Flat, plan: &Plan, c: u64) -> Result<Ports, PortsError>
     requires in_range { IsInRange flat.now }

@@ -5,8 +5,8 @@ use Rattle.netlist_core.specs.declared.flat.Flat.{Flat}
 use Rattle.netlist_meaning.specs.Flat.{is_clock_class}
 use Rattle.pattern_reading.specs.declared.ports.NetLine.{NetLine}
 use Rattle.plan_ports.proofs.GatheredNets.{is_seen, one_more_there, with_line, without_line, all_lines, AreNetLines}
-use Rattle.plan_ports.proofs.nets.net_lines.Goals as goal
-use Rattle.plan_ports.proofs.nets.net_lines.Goals.{then-not-is_clock_class+in_ok-line+in_ok-push, else-not-is_clock_class}
+use Rattle.plan_ports.proofs.nets.plain_lines.Goals as goal
+use Rattle.plan_ports.proofs.nets.plain_lines.Goals.{then-not-is_clock_class+in_ok-line+in_ok-push, else-not-is_clock_class}
 
 pub net_line-requires-clause-known : goal.net_line-requires-clause-known
 net_line-requires-clause-known c =
@@ -15,7 +15,7 @@ net_line-requires-clause-known c =
     let seen : is_seen c.args.flat.now c.net-item.result ≡ true =
     ap not (ap (λ (flat : Flat). is_clock_class flat c.net-item.result.class) (sym c.in_ok-clocks.ensures) ∙ sym c.is_clock_class.ensures ∙ c.if-not-is_clock_class.true) in
     let there : length c.loop-net.lines.items < length c.args.plan.now.nets =
-    one_more_there c.args.flat.now c.args.plan.now c.loop-net.net-index c.loop-net.lines.items c.net-item.result c.requires.ports c.loop-net.invariant within is seen in
+    one_more_there c.args.flat.now c.args.plan.now c.loop-net.net-index c.loop-net.lines.items c.net-item.result c.requires.many c.loop-net.invariant within is seen in
     omega (arith, there, c.len-then-not-is_clock_class.ensures, c.loop-net.lines.ok)
 
 pub loop-net-preserved : goal.loop-net-preserved
@@ -33,7 +33,7 @@ loop-net-preserved c =
           let seen : is_seen flat net ≡ true = ap not (sym same ∙ w.if-not-is_clock_class.true) in
           let number : w.len-then-not-is_clock_class.result ≡ length old = omega (arith, w.len-then-not-is_clock_class.ensures, c.loop-net.lines.ok) in
           with_line flat plan i old c.if-not-is_clock_class.lines.items w.in_ok-line.line net c.loop-net.invariant within is seen
-          (one_more_there flat plan i old net c.requires.ports c.loop-net.invariant within is seen)
+          (one_more_there flat plan i old net c.requires.many c.loop-net.invariant within is seen)
           (ap (λ (lines : Vec NetLine Global). lines.items) w.lines-is ∙ w.in_ok-push.ensures.items)
           (w.in_ok-line.ensures.cell ∙ ap (net_cell_of plan) number) w.in_ok-line.ensures.name w.in_ok-line.ensures.path)
       | else-not-is_clock_class w ↦ subst (λ (lines : List NetLine). AreNetLines flat plan (i + 1) lines) (ap (λ (lines : Vec NetLine Global). lines.items) (sym w.lines-is))
@@ -42,5 +42,5 @@ loop-net-preserved c =
 
 pub returns-clause-cells : goal.returns-clause-cells
 returns-clause-cells c =
-    all_lines c.args.flat.now c.args.plan.now c.loop-net.lines.items c.requires.ports
+    all_lines c.args.flat.now c.args.plan.now c.loop-net.lines.items c.requires.many
     (subst (λ n. AreNetLines c.args.flat.now c.args.plan.now n c.loop-net.lines.items) (omega (arith, c.loop-net-test.false, c.loop-net.auto.net-index-end, ap length c.as_slice-net-items.ensures)) c.loop-net.invariant)
