@@ -1,5 +1,5 @@
 -- Every plan with the ports of a flat netlist has a table.
-use Rattle.std.proofs.Common.{◌≡◌, refl, sym, ◌∙◌, ap, ap₂, ℕ, suc, Bool, true, false, List, [], ◌∷◌, length, map, arith}
+use Rattle.std.proofs.Common.{◌≡◌, refl, sym, ◌∙◌, ap₂, ℕ, ◌+◌, ◌*◌, Bool, true, false, List, [], ◌∷◌, length, map, arith}
 use Rattle.std.specs.Prelude.{◌==◌, if◌then◌else◌}
 use Rattle.std.proofs.lemmas.List.{length-map}
 use Rattle.lane_core.specs.declared.plan.NetPlace.{NetPlace}
@@ -25,14 +25,14 @@ zipped make d (x ∷ xs) (y ∷ ys) = make x y ∷ zipped make d xs ys
 
 firsts : {X Y Z : Type 0} (make : X → Y → Z) (d : Y) (f : Z → X) → ((x : X) (y : Y) → f (make x y) ≡ x) → (xs : List X) (ys : List Y) → map f (zipped make d xs ys) ≡ xs
 firsts make d f is [] ys = refl
-firsts make d f is (x ∷ xs) [] = ap₂ (λ a as. a ∷ as) (is x d) (firsts make d f is xs [])
-firsts make d f is (x ∷ xs) (y ∷ ys) = ap₂ (λ a as. a ∷ as) (is x y) (firsts make d f is xs ys)
+firsts make d f is (x ∷ xs) [] = ap₂ (λ first rest. first ∷ rest) (is x d) (firsts make d f is xs [])
+firsts make d f is (x ∷ xs) (y ∷ ys) = ap₂ (λ first rest. first ∷ rest) (is x y) (firsts make d f is xs ys)
 
 seconds : {X Y Z : Type 0} (make : X → Y → Z) (d : Y) (f : Z → Y) → ((x : X) (y : Y) → f (make x y) ≡ y) → (xs : List X) (ys : List Y) → length xs ≡ length ys → map f (zipped make d xs ys) ≡ ys
 seconds make d f is [] [] many = refl
 seconds make d f is [] (y ∷ ys) many = absurd (omega (arith, many))
 seconds make d f is (x ∷ xs) [] many = absurd (omega (arith, many))
-seconds make d f is (x ∷ xs) (y ∷ ys) many = ap₂ (λ a as. a ∷ as) (is x y) (seconds make d f is xs ys (omega (arith, many)))
+seconds make d f is (x ∷ xs) (y ∷ ys) many = ap₂ (λ first rest. first ∷ rest) (is x y) (seconds make d f is xs ys (omega (arith, many)))
 
 abbrev port_line : ℕ × ℕ → Name → PortLine
 port_line cell name = record { x = cell.0; y = cell.1; name = name }

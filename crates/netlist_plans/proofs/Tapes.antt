@@ -1,26 +1,19 @@
 -- Streams of a netlist's inputs as the tape of its plan.
-use Rattle.std.proofs.Common.{◌≡◌, refl, sym, ◌∙◌, ap, ap₂, subst, ℕ, zero, suc, ◌<◌, ◌≤◌, Bool, false, List, [], ◌∷◌, length, map, arith}
+use Rattle.std.proofs.Common.{◌≡◌, refl, sym, ◌∙◌, subst, ℕ, ◌<◌, ◌≤◌, Bool, false, List, [], ◌∷◌, length, map, arith}
 use Rattle.std.specs.Prelude.{All}
 use Rattle.std.specs.List.{range_with_len}
 use Rattle.std.proofs.lemmas.List.Elements.{All-map}
 use Rattle.lane_core.specs.declared.plan.Plan.{Plan}
-use Rattle.lane_core.specs.Plans.{input_cells}
 use Rattle.lane_core.specs.Tape.{AreTapeLists, cycles_of, tape_rows}
 use Rattle.tape_loader.specs.Loaded.{with_tape}
 use Rattle.netlist_core.specs.declared.flat.Flat.{Flat}
-use Rattle.netlist_core.specs.Names.{Name}
-use Rattle.netlist_meaning.specs.Flat.{names_of_ports, listed_nets}
 use Rattle.netlist_meaning.specs.FlatValuation.{AreFlatRows}
-use Rattle.pattern_reading.specs.declared.ports.NetLine.{NetLine}
-use Rattle.pattern_reading.specs.declared.ports.PortLine.{PortLine}
-use Rattle.pattern_reading.specs.declared.ports.Ports.{Ports}
-use Rattle.pattern_reading.specs.Ports.{cells_of, names_of}
-use Rattle.place_paths.specs.Paths.{names_and_paths}
-use Rattle.carries.specs.ByItself.{RunsByItselfFlat, ThenZeros}
+use Rattle.carries.specs.ByItself.{RunsByItselfFlat}
 use Rattle.carries.specs.ByItselfLaws.{ZerosChangeNothing}
-use Rattle.plan_ports.specs.Tables.{HasPortsOf, IsTableOf, net_cells_of}
+use Rattle.plan_ports.specs.Tables.{HasPortsOf}
 use Rattle.streams.specs.declared.streams.Streams.{Streams}
 use Rattle.streams.specs.Rows.{bits_across, rows_of}
+use Rattle.netlist_plans.specs.Planned.{IsSmall}
 
 -- lists of bits of so many cycles make a tape
 pub are_lists : (lists : List (List Bool)) (cycles : ℕ) → 1 ≤ cycles → cycles ≤ 4096 → All (λ bits. length bits ≡ cycles) lists → AreTapeLists lists
@@ -52,3 +45,10 @@ rows_are text flat zeros (first ∷ rest) cycles many long runs =
 pub runs_on_streams : (text : List ℕ) (flat : Flat) (plan : Plan) (streams : Streams) → ZerosChangeNothing → length streams.bits ≡ length flat.ins → All (λ bits. length bits ≡ streams.cycles) streams.bits
     → RunsByItselfFlat text flat (tape_rows (with_tape streams.bits plan)) → RunsByItselfFlat text flat (rows_of streams)
 runs_on_streams text flat plan streams zeros many long runs = rows_are text flat zeros streams.bits streams.cycles many long runs
+
+-- a plan with other bits on its tape has the same ports, edges and size
+pub ports_with_tape : (flat : Flat) (plan : Plan) (bits : List (List Bool)) → HasPortsOf flat plan → HasPortsOf flat (with_tape bits plan)
+ports_with_tape flat plan bits many = record { ins = many.ins; outs = many.outs; nets = many.nets }
+
+pub small_with_tape : (flat : Flat) (plan : Plan) (bits : List (List Bool)) → IsSmall flat plan → IsSmall flat (with_tape bits plan)
+small_with_tape flat plan bits s = record { lanes = s.lanes; columns = s.columns; instrs = s.instrs; loops = s.loops; no_more_loops = s.no_more_loops }

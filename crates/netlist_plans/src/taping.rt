@@ -1,5 +1,5 @@
 // The plan of a flat netlist with the bits of its inputs on its tape.
-ghost use Rattle.std.specs.Prelude.{◌≡◌, ◌≤◌, ◌×◌, ℕ, List, [], length, All, IfOk};
+ghost use Rattle.std.specs.Prelude.{◌≡◌, ◌≤◌, ℕ, List, [], length, All, IfOk};
 ghost use Rattle.carries.specs.ByItself.{RunsByItselfFlat};
 ghost use Rattle.grid_assembly.specs.PlanDrawing.{start_grid};
 ghost use Rattle.lane_core.specs.Plans.{IsAdmissible};
@@ -14,6 +14,7 @@ ghost use Rattle.netlist_plans.specs.Lists.{IsPlanned};
 ghost use Rattle.netlist_plans.specs.Planned.{IsSmall};
 
 use crate::{NetlistPlanError, Planned};
+use carries::runners_go_on;
 use lane_core::Plan;
 use netlist_core::Flat;
 use plan_carries::{plans_have_ports, tapes_run_by_themselves};
@@ -52,5 +53,6 @@ pub fn load_netlist(
     let plan = load(alloc, plan, streams.bits.as_slice())?;
     let ports = of_plan(alloc, flat, &plan, 1)?;
     tapes_run_by_themselves();
+    runners_go_on();
     Ok(Planned { plan, ports })
 }
