@@ -128,3 +128,16 @@ starts_are_of_loops plan h holds same =
 
 pub where_in_order : (lanes loops : ℕ) (holds : ℕ → Bool) → IsTrue (are_in_order (starts_where lanes loops holds))
 where_in_order lanes loops holds = in_order lanes loops holds loops 0
+
+from_at_loops : (lanes loops : ℕ) (holds : ℕ → Bool) (left from : ℕ) → from + left ≤ loops → All (IsLoopStart lanes loops) (starts_from lanes loops holds left from)
+from_at_loops lanes loops holds zero from fit = λ k d lt. absurd (omega arith)
+from_at_loops lanes loops holds (suc left) from fit = go (holds from) (from_at_loops lanes loops holds left (from + 1) (omega (arith, fit)))
+  where
+    go : (b : Bool) → All (IsLoopStart lanes loops) (starts_from lanes loops holds left (from + 1))
+        → All (IsLoopStart lanes loops) (cond b (loop_start lanes loops from ∷ []) [] ++ starts_from lanes loops holds left (from + 1))
+    go false rest k d lt = rest k d lt
+    go true rest zero d lt = (from, omega (arith, fit), refl)
+    go true rest (suc k) d lt = rest k d (omega arith)
+
+pub where_at_loops : (lanes loops : ℕ) (holds : ℕ → Bool) → All (IsLoopStart lanes loops) (starts_where lanes loops holds)
+where_at_loops lanes loops holds = from_at_loops lanes loops holds loops 0 (omega arith)
