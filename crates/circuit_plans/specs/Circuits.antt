@@ -21,6 +21,19 @@ pub record IsCircuit (plan : Plan) : Type 0 where
   pub no_tape : plan.tape ≡ []
   pub at_loops : All (IsLoopStart plan.lanes plan.latches) plan.starts.list
 
+-- the plan without the places of its nets
+abbrev pub without_nets : Plan → Plan
+without_nets plan = record {
+  lanes = plan.lanes;
+  columns = plan.columns;
+  latches = plan.latches;
+  starts = plan.starts;
+  ins = plan.ins;
+  outs = plan.outs;
+  nets = [];
+  tape = plan.tape;
+}
+
 -- whether a loop starts with 1: where it enters is a start
 abbrev pub starts_with_one : List Start → (lanes loops loop : ℕ) → Bool
 starts_with_one starts lanes loops loop = is_start_at starts (loop_start lanes loops loop).x (loop_start lanes loops loop).y

@@ -18,7 +18,7 @@ use Rattle.cell_core.specs.Sources.{are_in_order, are_there, is_one, read_one}
 use Rattle.cell_core.specs.Meaning.{bit_in, bit_of, Fits}
 use Rattle.cell_core.specs.Loops.{names_one, loop_state}
 use Rattle.cell_meaning.specs.Computes.{ComputesByPlan}
-use Rattle.circuit_plans.specs.Circuits.{starts_with_one, first_bits}
+use Rattle.circuit_plans.specs.Circuits.{starts_with_one, first_bits, without_nets}
 use Rattle.plan_cells.specs.Lifted.{Lanes, source_on, with_inputs, entry_sources, entry_lanes, lift_columns, sources_on, sources_leaving}
 use Rattle.plan_cells.specs.Lists.{IsListOf}
 use Rattle.plan_cells.proofs.Steps.{IsSound, IsLifted, columns_lifted, there_at, there_set, plain_at, plain_set, both_false, neither, lift_length}
@@ -188,6 +188,14 @@ computes plan h bare list is = record {
 
     long : length sources ≡ plan.lanes
     long = lift_length plan.columns (entry_lanes plan) ∙ length-fold plan (length-entry_sources plan) h
+
+-- and whatever its nets, what the plan without them computes
+pub computes_bare : (plan : Plan) → IsAdmissible plan → (list : CellList) → IsListOf plan list → ComputesByPlan list (without_nets plan)
+computes_bare plan h list is =
+    computes (without_nets plan)
+    (record { size = record { lanes = h.size.lanes; columns = h.size.columns; both = h.size.both; loops_on_lanes = h.size.loops_on_lanes; loops_in_columns = h.size.loops_in_columns }; instrs = h.instrs; apart = h.apart; ins = h.ins; outs = h.outs; nets = λ k d lt. absurd (omega (arith, lt)) })
+    refl list
+    (record { inputs = is.inputs; cells = is.cells; outs = is.outs; latches = is.latches; starts = is.starts; nets = is.nets })
 
 -- what the type of lists asks of that list
 pub record IsKept (inputs : ℕ) (cells : List Cell) (outs latches : List Src) (starts : List Bool) : Type 0 where

@@ -5,7 +5,7 @@ ghost use Rattle.lane_core.specs.Columns.{IsColumnOnLanes};
 ghost use Rattle.lane_core.specs.Plans.{IsAdmissible};
 ghost use Rattle.cell_core.specs.Loops.{names_one};
 ghost use Rattle.cell_meaning.specs.Computes.{ComputesByPlan};
-ghost use Rattle.circuit_plans.specs.Circuits.{first_bits};
+ghost use Rattle.circuit_plans.specs.Circuits.{first_bits, without_nets};
 ghost use Rattle.plan_cells.specs.Lifted.{lanes_of, cells_made, upper_source, lower_source, lift_instr, lift_instrs, lift_columns, entry_sources};
 ghost use Rattle.plan_cells.specs.Lists.{IsListOf};
 
@@ -129,12 +129,13 @@ fn list_of(
     })
 }
 
-/// The cells that the columns of a plan make, with its loops as latches. A list of them names no constant 1: where a plan
-/// was made with a loop of constant 1, that is a latch here, which starts with 1 and feeds itself.
+/// The cells that the columns of a plan make, column by column and in each by lane, with its loops as latches. Its nets are
+/// not looked at, and the list has none. It names no constant 1: where a plan was made with a loop of constant 1, that is a
+/// latch here, which starts with 1 and feeds itself.
 pub fn cells_of(alloc: Global, plan: &Plan) -> Result<CellList, LiftError>
     requires admissible { IsAdmissible plan.now }
-    requires bare { plan.now.nets ≡ [] }
-    ensures computes { IfOk result (λ list. ComputesByPlan list plan.now) }
+    ensures list { IfOk result (IsListOf plan.now) }
+    ensures computes { IfOk result (λ list. ComputesByPlan list (without_nets plan.now)) }
     ensures starts { IfOk result (λ list. list.starts ≡ first_bits plan.now) }
     ensures no_one { IfOk result (λ list. names_one list ≡ false) }
 {

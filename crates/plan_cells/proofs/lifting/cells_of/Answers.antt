@@ -3,15 +3,15 @@ use Rattle.std.proofs.lemmas.Result.{IfOk-weaker}
 use Rattle.cell_core.specs.declared.list.CellList.{CellList}
 use Rattle.cell_core.specs.Loops.{names_one}
 use Rattle.cell_meaning.specs.Computes.{ComputesByPlan}
-use Rattle.circuit_plans.specs.Circuits.{first_bits}
+use Rattle.circuit_plans.specs.Circuits.{first_bits, without_nets}
 use Rattle.plan_cells.specs.Lists.{IsListOf}
-use Rattle.plan_cells.proofs.Whole.{computes, is_plain}
+use Rattle.plan_cells.proofs.Whole.{computes_bare, is_plain}
 use Rattle.plan_cells.proofs.lifting.cells_of.Goals as goal
 
 pub returns-clause-computes : goal.returns-clause-computes
 returns-clause-computes c =
-    IfOk-weaker c.list_of.result (IsListOf c.args.plan.now) (λ (list : CellList). ComputesByPlan list c.args.plan.now)
-    (λ list is. computes c.args.plan.now c.requires.admissible c.requires.bare list is) c.list_of.ensures
+    IfOk-weaker c.list_of.result (IsListOf c.args.plan.now) (λ (list : CellList). ComputesByPlan list (without_nets c.args.plan.now))
+    (λ list is. computes_bare c.args.plan.now c.requires.admissible list is) c.list_of.ensures
 
 pub returns-clause-starts : goal.returns-clause-starts
 returns-clause-starts c =
