@@ -4,3 +4,5 @@ pub mod Pattern
 pub mod Blank
 pub mod RowRuns
 pub mod Near
+pub mod Wires
+pub mod WestRuns

@@ -6,7 +6,7 @@ use Rattle.std.proofs.Math.Nat.{mul-le-mul}
 use Rattle.tiling.specs.Tiling.{Slot}
 use Rattle.tiling.specs.Tiling.Slot.{Nothing, Whole, Upper, Lower}
 use Rattle.lane_core.specs.declared.plan.Plan.{Plan}
-use Rattle.lane_core.specs.Plans.{IsAdmissible}
+use Rattle.lane_core.specs.Plans.{IsAdmissible, size_of}
 use Rattle.lane_core.specs.Tape.{cycles_of, AreTapeLists, tape_cycles, cycle_tiles, tape_shift}
 use Rattle.plan_layout.specs.Layout.{end_of_body}
 use Rattle.plan_layout.specs.Tape.{drawn_tiling}
@@ -49,3 +49,14 @@ near plan h q l slot is some =
           (λ low. absurd (true≢false (sym some ∙ ap stands (is ∙ drawn_below plan h q l low))))
           (cases_lt l (plan.lanes + plan.latches)),
     )
+
+-- the box of a drawing is not large
+pub size_near : (plan : Plan) → IsAdmissible plan → ((size_of plan).0 < 2 ^ 60) × ((size_of plan).1 < 2 ^ 60)
+size_near plan h = by (plan.lanes == 0)
+  where
+    sized : Bool → ℕ × ℕ
+    sized b = cond b (0, 0) (32 * (tape_shift plan + (length plan.columns + 2 * plan.latches)) + 1, 16 * (plan.lanes + plan.latches))
+
+    by : (b : Bool) → ((sized b).0 < 2 ^ 60) × ((sized b).1 < 2 ^ 60)
+    by true = (omega arith, omega arith)
+    by false = (omega (arith, shift_near plan h, h.size.columns, h.size.lanes, h.size.loops_on_lanes), omega (arith, h.size.lanes, h.size.loops_on_lanes))
