@@ -14,10 +14,10 @@ use Rattle.clap.specs.declared.parser.matches.ValueSource.TheVariants.{CommandLi
 use Rattle.clap.specs.declared.builder.value_parser.Reading.TheVariants.{AsWritten}
 use Rattle.command_words.specs.App.{blifww_app}
 use Rattle.command_words.specs.Numbers.{NumberRange, are_digits, number_taken, cycles_range, generation_range, x_range, y_range, width_range, height_range, seed_range, size_range, contexts_range}
-use Rattle.command_words.specs.Shapes.{CommandValues, compile, simulate, eval, probe, window, make, self_, simulate_or_eval_by, values_met, command_values, is_plain_word, option_words, streams_met, IsCommand, IsSimulateOrEval, IsPlain, IsWritten, GivesContexts, GivesPath, MeetsContexts, MeetsRanges, Writes}
+use Rattle.command_words.specs.Shapes.{CommandValues, compile, simulate, eval, probe, window, make, self_, aiger, simulate_or_eval_by, values_met, command_values, is_plain_word, option_words, streams_met, IsCommand, IsSimulateOrEval, IsPlain, IsWritten, GivesContexts, GivesPath, MeetsContexts, MeetsRanges, Writes}
 use Rattle.command_words.specs.declared.command.View.{View}
 use Rattle.command_words.proofs.Entered.{IsNamed, entered_own, takes_own}
-use Rattle.command_words.proofs.Rules.{leaf, words_rule, compile_rules, driven_rules, probe_rules, window_rules, make_rules, self_rules}
+use Rattle.command_words.proofs.Rules.{leaf, words_rule, compile_rules, driven_rules, probe_rules, window_rules, make_rules, self_rules, aiger_rules}
 use Rattle.command_words.proofs.Walks.{HasNoHyphen, HaveWords, IsGiven, IsOption, Pending, all_pass, all_walked, options_pass, plain_walk}
 
 -- ---- values are no flags
@@ -344,6 +344,17 @@ self_read s k n es ek en = record {
   rows = refl;
 }
 
+aiger_read : IsRead (codes "aiger") aiger_rules [] []
+aiger_read = record {
+  named = record { named = refl; shape = refl };
+  given = tt;
+  have = tt;
+  take = tt;
+  passes = refl;
+  valid = refl;
+  rows = refl;
+}
+
 -- ---- their numbers
 
 is_written : (o : Option ℕ) (n : ℕ) → o ≡ Some n → is_some o ≡ true
@@ -538,3 +549,8 @@ well (self_ seed size cycles) words p =
           plain_values (codes "self") self_rules options [] words p.3 read (self_ seed size cycles)
           (three (λ a b c. self_ a b c) (number_taken seed_range s) (number_taken size_range k) (number_taken cycles_range n) seed size cycles p.4 p.5 p.6);
     }
+well aiger words p = record {
+  command = λ short. plain_command (codes "aiger") aiger_rules [] [] words p aiger_read short (tt, (tt, (tt, (tt, (tt, (tt, (tt, (tt, (tt, tt)))))))))
+      (not_compile (codes "aiger") [] refl);
+  values = plain_values (codes "aiger") aiger_rules [] [] words p aiger_read aiger refl;
+}

@@ -45,6 +45,9 @@ make_app = with_required (new_app (codes "make")) (codes "seed" ∷ codes "size"
 abbrev pub self_app : App
 self_app = with_required (new_app (codes "self")) (codes "seed" ∷ codes "size" ∷ codes "cycles" ∷ [])
 
+abbrev pub aiger_app : App
+aiger_app = new_app (codes "aiger")
+
 -- the program, which has neither a help nor a version of clap's own
 abbrev pub bare_app : App
 bare_app = let a = new_app (codes "blifww") in record a {
@@ -64,4 +67,4 @@ with_subcommands a (sub ∷ subs) = with_subcommands (with_subcommand a sub.top)
 abbrev pub blifww_app : App
 blifww_app =
     with_subcommands bare_app
-    (compile_app ∷ driven_app (codes "simulate") ∷ driven_app (codes "eval") ∷ probe_app ∷ window_app ∷ make_app ∷ self_app ∷ [])
+    (compile_app ∷ driven_app (codes "simulate") ∷ driven_app (codes "eval") ∷ probe_app ∷ window_app ∷ make_app ∷ self_app ∷ aiger_app ∷ [])

@@ -10,7 +10,7 @@ use Rattle.command_words.specs.App.{blifww_app}
 use Rattle.command_words.specs.Numbers.{NumberRange, number_taken, number_ranges, TakesNumber, cycles_range, generation_range, x_range, y_range, width_range, height_range, seed_range, size_range, contexts_range}
 use Rattle.command_words.specs.declared.command.View.{View}
 use Rattle.command_words.specs.declared.command.Command.{Command}
-use Rattle.command_words.specs.declared.command.Command.TheVariants.{Compile, Simulate, Eval, Probe, Window, Make, Self_}
+use Rattle.command_words.specs.declared.command.Command.TheVariants.{Compile, Simulate, Eval, Probe, Window, Make, Self_, Aiger}
 
 -- a command with its values, of which the words that give the streams, or the start states of contexts, stand last
 pub data CommandValues : Type 0 where
@@ -21,6 +21,7 @@ pub data CommandValues : Type 0 where
   window : View → (streams : List Text) → CommandValues
   make : (seed size : ℕ) → CommandValues
   self_ : (seed size cycles : ℕ) → CommandValues
+  aiger : CommandValues
 
 abbrev pub values_of : Command → CommandValues
 values_of (Compile contexts starts) = compile contexts (map string_bytes starts)
@@ -30,6 +31,7 @@ values_of (Probe cycles net path streams) = probe cycles (string_bytes net) (str
 values_of (Window view streams) = window view (map string_bytes streams)
 values_of (Make seed size) = make seed size
 values_of (Self_ seed size cycles) = self_ seed size cycles
+values_of Aiger = aiger
 
 -- each number of the view is one that its option takes
 abbrev pub HasViewInRange : View → Type 0
@@ -46,6 +48,7 @@ HasNumbersInRange (probe cycles net path streams) = TakesNumber cycles_range cyc
 HasNumbersInRange (window view streams) = HasViewInRange view
 HasNumbersInRange (make seed size) = TakesNumber seed_range seed × TakesNumber size_range size
 HasNumbersInRange (self_ seed size cycles) = TakesNumber seed_range seed × TakesNumber size_range size × TakesNumber cycles_range cycles
+HasNumbersInRange aiger = ⊤
 
 -- the number that the matches give an option, where it is in its range
 abbrev pub number_met : NumberRange → List Row → Option ℕ
@@ -104,6 +107,7 @@ values_by_name name rows =
     else if bytes_eq name (codes "window") then window_by rows
     else if bytes_eq name (codes "make") then make_by rows
     else if bytes_eq name (codes "self") then self_by rows
+    else if bytes_eq name (codes "aiger") then Some aiger
     else None
 
 abbrev pub values_met : Option (Text × List Row) → Option CommandValues
@@ -194,3 +198,4 @@ IsWritten (make seed size) words =
 IsWritten (self_ seed size cycles) words =
     (s k n : Text) × IsPlain (codes "self") ((codes "seed", s) ∷ (codes "size", k) ∷ (codes "cycles", n) ∷ []) [] words
     × Writes seed_range s seed × Writes size_range k size × Writes cycles_range n cycles
+IsWritten aiger words = IsPlain (codes "aiger") [] [] words

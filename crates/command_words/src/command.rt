@@ -63,6 +63,7 @@ pub enum Command {
         size: u32,
         cycles: usize,
     },
+    Aiger,
 }
 
 // A command that is driven by streams.
@@ -246,6 +247,7 @@ fn command_in(alloc: Global, found: &ArgMatches<'_>) -> Result<Command, WordsErr
         Some(("window", inner)) => window_in(alloc, inner),
         Some(("make", inner)) => make_in(inner),
         Some(("self", inner)) => self_in(inner),
+        Some(("aiger", _)) => Ok(Command::Aiger),
         _ => Err(WordsError::Usage),
     }
 }
@@ -260,8 +262,8 @@ fn length_fits(words: &[String])
 /// The command that the words of a command line ask for. The first word is the program's name, and after it stands one
 /// of `compile [--contexts C word..]`, `simulate --cycles N word..`, `eval --cycles N word..`, `probe --cycles N --net
 /// NAME [--path PATH] word..`, `window --gen G --x X --y Y --width W --height H word..`, `make --seed S --size K`,
-/// `self --seed S --size K --cycles N`. Numbers are in decimal digits, with or without leading zeros: C from 1 to
-/// 4,294,967,295, N from 1 to 1,048,576, G to 4,294,967,296, X and Y to 4,294,967,295, W and H from 1 to 4,096, S to
+/// `self --seed S --size K --cycles N`, `aiger`. Numbers are in decimal digits, with or without leading zeros: C from 1
+/// to 4,294,967,295, N from 1 to 1,048,576, G to 4,294,967,296, X and Y to 4,294,967,295, W and H from 1 to 4,096, S to
 /// 2,147,483,647, K from 1 to 128. `Usage` comes only where the words are no command, and each other answer but
 /// `NoMemory` only where they have its values.
 pub fn command_of(alloc: Global, words: &[String]) -> Result<Command, WordsError>
