@@ -11,8 +11,8 @@ use Rattle.start_words.specs.Starts.{latches_of}
 use Rattle.command_words.specs.Shapes.{compile}
 use Rattle.blifww_tool.specs.Commands.{AreAlike, MustRefuse}
 use Rattle.blifww_tool.specs.Compilation.{HasNoCompilation, HasNoNetlist, HasNoRoom, HasStartFault, HasStarts, least_room}
-use Rattle.blifww_tool.specs.declared.causes.Cause.{Cause}
-use Rattle.blifww_tool.specs.declared.causes.Cause.TheVariants.{NetlistFault, WeightTooLarge, Loop, Pattern, GridTooLarge, PortTable, Streams, StartWord, NoSuchNet, TooFar, TooManyContexts, NotQuiet}
+use Rattle.refusals.specs.declared.causes.Cause.{Cause}
+use Rattle.refusals.specs.declared.causes.Cause.TheVariants.{NetlistFault, WeightTooLarge, Loop, Pattern, GridTooLarge, PortTable, Streams, StartWord, NoSuchNet, TooFar, TooManyContexts, NotQuiet}
 use Rattle.blifww_tool.proofs.EvaluationOrNot.{alike, netlist_or_not, one_cause_of_netlist}
 
 -- the ways to be refused by the text and the words,

@@ -1,4 +1,3 @@
-pub mod SameTexts
 pub mod Given
 pub mod Headline
 pub mod OutputLines

@@ -19,8 +19,8 @@ use Rattle.streams.specs.Streams.{HasStreamFault, inputs_of_contexts, streams_of
 use Rattle.drive.specs.Driving.{greatest_generation}
 use Rattle.pattern_reading.specs.Ports.{names_of}
 use Rattle.blifww_tool.specs.Simulation.{Simulation, IsSimulation, Simulates, HasNoStreams, HasNoSimulation, MissesAt, miss_up_to, last_shown}
-use Rattle.blifww_tool.specs.declared.causes.Cause.{Cause}
-use Rattle.blifww_tool.specs.declared.causes.Cause.TheVariants.{NetlistFault, WeightTooLarge, Loop, Pattern, GridTooLarge, PortTable, Streams, StartWord, NoSuchNet, TooFar, TooManyContexts, NotQuiet}
+use Rattle.refusals.specs.declared.causes.Cause.{Cause}
+use Rattle.refusals.specs.declared.causes.Cause.TheVariants.{NetlistFault, WeightTooLarge, Loop, Pattern, GridTooLarge, PortTable, Streams, StartWord, NoSuchNet, TooFar, TooManyContexts, NotQuiet}
 
 -- a pattern with ports, as a text has them
 pub record IsRead (text : List ℕ) (grid : Grid) (ports : Ports) : Type 0 where

@@ -8,14 +8,14 @@ use Rattle.netlist_rules.specs.declared.fault.Fault.{Fault}
 use Rattle.netlist_text.specs.NetlistText.{IsAtFault, IsTooHeavy, HasLoop}
 use Rattle.blifww_tool.specs.Commands.{Refuses}
 use Rattle.blifww_tool.specs.Compilation.{HasNoRoom, latch_count, least_room}
-use Rattle.blifww_tool.specs.Refusals.{status_of, status_of_cause}
+use Rattle.refusals.specs.Refusals.{status_of, status_of_cause}
 use Rattle.blifww_tool.specs.Run.{Call, Reading, Asks, IsAsked, GaveTooMany, GaveAll, HasText, ReadFailed, WriteFailed, HasReason, RefusesText, IsRefused, CutsLine, CutsOutput, Ends}
 use Rattle.blifww_tool.specs.Statuses.{StatusesHaveCauses, IsOverALimit, IsTooLarge, HasNoPattern, WordsDoNotFit, IsNotQuiet}
 use Rattle.blifww_tool.proofs.Given.{one_command}
-use Rattle.blifww_tool.specs.declared.causes.Cause.{Cause}
-use Rattle.blifww_tool.specs.declared.causes.Cause.TheVariants.{NetlistFault, WeightTooLarge, Loop, Pattern, GridTooLarge, PortTable, Streams, StartWord, NoSuchNet, TooFar, TooManyContexts, NotQuiet}
-use Rattle.blifww_tool.specs.declared.refusals.Refusal.{Refusal}
-use Rattle.blifww_tool.specs.declared.refusals.Refusal.TheVariants.{Usage, TooLong, ReadFault, WriteFault, NoMemory, Text}
+use Rattle.refusals.specs.declared.causes.Cause.{Cause}
+use Rattle.refusals.specs.declared.causes.Cause.TheVariants.{NetlistFault, WeightTooLarge, Loop, Pattern, GridTooLarge, PortTable, Streams, StartWord, NoSuchNet, TooFar, TooManyContexts, NotQuiet}
+use Rattle.refusals.specs.declared.refusal.Refusal.{Refusal}
+use Rattle.refusals.specs.declared.refusal.Refusal.TheVariants.{Usage, TooLong, ReadFault, WriteFault, NoMemory, Text}
 
 not_cause : (cause : Cause) → (status_of_cause cause ≢ 2) × (status_of_cause cause ≢ 5)
 not_cause (NetlistFault f) = (λ e. cc, λ e. cc)

@@ -6,8 +6,8 @@ use Rattle.pattern_writing.specs.WrittenText.{pattern_text}
 use Rattle.blifww_tool.specs.Run.{Reading, Writing, GainedNothing, WriteFailed, Does, HasReason}
 use Rattle.blifww_tool.specs.declared.output.Output.{Output}
 use Rattle.blifww_tool.specs.declared.output.Output.TheVariants.{Lines, Drawing}
-use Rattle.blifww_tool.specs.declared.refusals.Refusal.{Refusal}
-use Rattle.blifww_tool.specs.declared.refusals.Refusal.TheVariants.{WriteFault}
+use Rattle.refusals.specs.declared.refusal.Refusal.{Refusal}
+use Rattle.refusals.specs.declared.refusal.Refusal.TheVariants.{WriteFault}
 
 -- its bytes
 abbrev pub output_text : Output → List ℕ

@@ -16,11 +16,11 @@ use Rattle.blifww_tool.specs.Probing.{Probes, PrintsProbe, HasNoProbe}
 use Rattle.blifww_tool.specs.Viewing.{HasView, ShowsPart, HasNoView}
 use Rattle.blifww_tool.specs.Evaluation.{Evaluation, IsEvaluation, Evaluates, HasNoEvaluation}
 use Rattle.blifww_tool.specs.Summary.{TellsSummary}
-use Rattle.blifww_tool.specs.declared.causes.Cause.{Cause}
-use Rattle.blifww_tool.specs.declared.causes.Cause.TheVariants.{NetlistFault, Loop, TooFar, TooManyContexts}
+use Rattle.refusals.specs.declared.causes.Cause.{Cause}
+use Rattle.refusals.specs.declared.causes.Cause.TheVariants.{NetlistFault, Loop, TooFar, TooManyContexts}
 use Rattle.netlist_text.specs.Laws.{AreAlikeFaults}
-use Rattle.blifww_tool.specs.declared.causes.TextError.{TextError}
-use Rattle.blifww_tool.specs.declared.causes.TextError.TheVariants.{Refused, NoMemory}
+use Rattle.refusals.specs.declared.causes.TextError.{TextError}
+use Rattle.refusals.specs.declared.causes.TextError.TheVariants.{Refused, NoMemory}
 
 -- whether the command reads a text; those that do not have the empty one
 abbrev pub reads_text : CommandValues → Bool

@@ -1,4 +1,3 @@
-pub mod Refusals
 pub mod Lines
 pub mod Simulation
 pub mod Driven

@@ -10,7 +10,7 @@ use Rattle.start_words.specs.declared.error.StartFault.{StartFault}
 use Rattle.command_words.specs.Shapes.{CommandValues, compile, IsCommand}
 use Rattle.blifww_tool.specs.Compilation.{HasNoRoom}
 use Rattle.blifww_tool.specs.Run.{Call, Asks, IsAsked, GaveTooMany, GaveAll, ReadFailed, WriteFailed, RefusesText, Ends}
-use Rattle.blifww_tool.specs.declared.causes.Cause.TheVariants.{WeightTooLarge, Pattern, GridTooLarge, PortTable, Streams, StartWord, NoSuchNet, TooFar, TooManyContexts, NotQuiet}
+use Rattle.refusals.specs.declared.causes.Cause.TheVariants.{WeightTooLarge, Pattern, GridTooLarge, PortTable, Streams, StartWord, NoSuchNet, TooFar, TooManyContexts, NotQuiet}
 
 -- the source gave too many bytes, or the command refuses the text that it has: for the netlist's weight, the size of
 -- the pattern's box, the number of generations, or that of contexts

@@ -9,7 +9,6 @@ ghost use Rattle.blifww_tool.specs.Answer.{output_text, IsWritableOutput};
 ghost use Rattle.blifww_tool.specs.Commands.{Prints, HasTextCause};
 ghost use Rattle.blifww_tool.specs.Compilation.{Compiles, HasStarts, IsCarriedBy};
 
-use crate::causes::{Cause, TextError};
 use crate::output::Output;
 use carries::one_context_carries;
 use flat_designs::{flat_is_one, flat_is_sound, flat_is_weighed};
@@ -18,6 +17,7 @@ use netlist_text::{Netlist, netlist_of};
 use plan_carries::{designs_are_carried, designs_are_carried_in_contexts};
 use start_words::Starts;
 use start_words::laws::{latches_are_flat, no_words_mean_start, starts_are_flat};
+use refusals::{Cause, TextError};
 use std::alloc::Global;
 
 // The plan of a netlist, for one context.

@@ -4,7 +4,6 @@
 //! Theorem: `run` (`headline`, `contexts`, `ends`), `carriers_print_alike`, `carriers_print_runs`.
 #![tactic(auto)]
 
-mod causes;
 mod compile;
 mod driven;
 mod eval;
@@ -14,10 +13,8 @@ mod lines;
 mod make;
 mod output;
 mod probe;
-mod refusals;
 mod simulate;
 mod summary;
-mod told;
 mod top;
 mod window;
 

@@ -6,18 +6,17 @@ ghost use Rattle.blifww_tool.specs.Commands.{Prints, HasTextCause};
 ghost use Rattle.blifww_tool.specs.Answer.{output_text, IsWritableOutput, HasStopped};
 ghost use Rattle.blifww_tool.specs.Run.{Asks, AsksForNoText, reading, writing, call, Gave, Does, Ends};
 
-use crate::causes::TextError;
 use crate::compile::compile;
 use crate::eval::eval;
 use crate::input::text_for;
 use crate::make::make;
 use crate::output::Output;
 use crate::probe::probe;
-use crate::refusals::Refusal;
 use crate::simulate::simulate;
 use crate::summary::summary;
 use crate::window::window;
 use command_words::{Command, command_of};
+use refusals::{Refusal, TextError};
 use std::alloc::Global;
 use ww_base::{Failed, Sink, Source};
 
