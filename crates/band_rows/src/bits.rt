@@ -42,7 +42,7 @@ fn set_bit_if(words: &mut [u64], x: usize, is_asked: bool)
     words[x / 64] |= (is_asked as u64) << (x % 64);
 }
 
-// Sets the bit of a cell in the row of its state.
+// Sets the bit of a cell in the row of its state. Most cells are empty: one test passes over them.
 fn mark(heads: &mut [u64], tails: &mut [u64], wires: &mut [u64], x: usize, state: State)
     requires heads { x / 64 < length heads.old }
     requires tails { length tails.old ≡ length heads.old }
@@ -54,6 +54,9 @@ fn mark(heads: &mut [u64], tails: &mut [u64], wires: &mut [u64], x: usize, state
     ensures tails { (k : ℕ) → is_set tails.new k ≡ ((k == x && marks_tail state) || is_set tails.old k) }
     ensures wires { (k : ℕ) → is_set wires.new k ≡ ((k == x && marks_wire state) || is_set wires.old k) }
 {
+    if matches!(state, State::Empty) {
+        return;
+    }
     set_bit_if(heads, x, matches!(state, State::Head));
     set_bit_if(tails, x, matches!(state, State::Tail));
     set_bit_if(wires, x, matches!(state, State::Conductor));
@@ -74,9 +77,7 @@ pub fn mark_all(heads: &mut [u64], tails: &mut [u64], wires: &mut [u64], cells: 
     ensures cells { (x : ℕ) → row_state heads.new tails.new wires.new x ≡ get_or cells.now x Empty }
 {
     for (x, state) in cells.iter().enumerate() {
-        if !matches!(state, State::Empty) {
-            mark(heads, tails, wires, x, *state);
-        }
+        mark(heads, tails, wires, x, *state);
     }
 }
 

@@ -4,7 +4,7 @@ use Rattle.std.specs.Prelude.{Some, slice_get}
 use Rattle.std.proofs.lemmas.Option.{slice_get-get_or}
 use Rattle.pattern_reading.specs.declared.ports.Ports.{Ports}
 use Rattle.pattern_reading.specs.Ports.{names_of}
-use Rattle.pattern_laws.proofs.SoundTable.{sound_table}
+use Rattle.port_table.proofs.SoundTable.{sound_table}
 use Rattle.netlist_core.specs.declared.model.Design.{Design}
 use Rattle.netlist_meaning.specs.Valuation.{Valuation, LatchState, IsRunFrom, start_state}
 use Rattle.carries.specs.DesignContexts.{CarriesContexts}

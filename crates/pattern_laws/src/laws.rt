@@ -4,7 +4,7 @@ ghost use Rattle.std.specs.Prelude.{Bool, List, ℕ};
 ghost use Rattle.pattern_reading.specs.Laws.{HasOnePattern, HasOneRleFault, HasNoFaultIfRead, HasPatternOrFault};
 ghost use Rattle.pattern_reading.specs.Laws.{HasReaderAnswer, HasOneReaderAnswer, HasSmallBox, HasOneRun};
 ghost use Rattle.pattern_reading.specs.Laws.{HasOneTable, HasOnePortFault, HasNoPortFaultIfRead, HasTableOrFault, HasPortsInside};
-ghost use Rattle.pattern_reading.specs.SoundTable.{HasSoundLines, HasSoundTable, HasSpellableLines};
+ghost use Rattle.pattern_reading.specs.SoundTable.{HasSoundLines, HasSpellableLines};
 ghost use Rattle.pattern_laws.specs.Whole.{HasAnswer, HasOneAnswer};
 ghost use Rattle.pattern_reading.specs.Laws.{HasAllInLines, HasNumberedLines, HasLinesOfRust, IsLineText, HasFirstLine, HasLineThenRest, HasLoneLine, HasNextPlace};
 ghost use Rattle.pattern_reading.specs.Items.{Item};
@@ -29,15 +29,13 @@ pub fn reader_laws()
     ensures small { (text : List ℕ) (width height : ℕ) → HasSmallBox text width height }
 {}
 
-/// In each box the port table of a text reads as exactly one table, whose cells lie in the box and whose names can stand in a table, each
-/// of one port, or has exactly one first fault.
+/// In each box the port table of a text reads as exactly one table, whose cells lie in the box, or has exactly one first fault.
 pub fn port_laws()
     ensures table { (text : List ℕ) (width height : ℕ) → HasOneTable text width height }
     ensures fault { (text : List ℕ) (width height : ℕ) → HasOnePortFault text width height }
     ensures apart { (text : List ℕ) (width height : ℕ) → HasNoPortFaultIfRead text width height }
     ensures total { (text : List ℕ) (width height : ℕ) → HasTableOrFault text width height }
     ensures inside { (text : List ℕ) (width height : ℕ) → HasPortsInside text width height }
-    ensures sound { (text : List ℕ) (width height : ℕ) → HasSoundTable text width height }
 {}
 
 /// Of each text exactly one holds: it reads as a pattern with its port table, its pattern has a fault, its box is too large, or its

@@ -3,3 +3,6 @@ pub mod SeenNames
 pub mod Walking
 pub mod Walk
 pub mod EscapedNames
+pub mod LineBytes
+pub mod Unescaped
+pub mod SoundTable

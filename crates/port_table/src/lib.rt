@@ -6,6 +6,7 @@
 
 mod faults;
 mod forms;
+pub mod laws;
 mod names;
 mod numbers;
 mod ports;

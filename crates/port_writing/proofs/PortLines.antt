@@ -12,6 +12,7 @@ use Rattle.pattern_reading.specs.declared.ports.Ports.{Ports}
 use Rattle.pattern_reading.specs.PortLines.{PortForm, Version, In, Out, Net}
 use Rattle.pattern_reading.specs.Spelling.{escaped_name, spelled_line, port_forms, port_lines}
 use Rattle.pattern_writing.specs.Writer.{ended_lines}
+use Rattle.ww_base.proofs.LeftPieces.{piece_next, pieces_none}
 use Rattle.port_writing.specs.Lines.{port_text, ended_line}
 
 -- the rest of a list begins with the item that is next
@@ -19,17 +20,6 @@ pub items_next : {A : Type 0} (xs : List A) (i : ℕ) (x y : A) → i < length x
 items_next xs i x y inside is e =
     let next : drop i xs ≡ get_or xs i x ∷ drop (i + 1) xs = rw add-one (drop-cons xs i x inside) in
     next ∙ ap (λ z. z ∷ drop (i + 1) xs) (sym (e ∙ is))
-
--- what is left of fields, or of lines, begins with the next
-module _ {X : Type 0} (f : X → List ℕ) where
-  pub piece_next : (here : List ℕ) (xs : List X) (i : ℕ) (d : X) (rest : List ℕ) → i < length xs
-      → here ++ (flat_map f (drop i xs) ++ rest) ≡ here ++ (f (get_or xs i d) ++ (flat_map f (drop (i + 1) xs) ++ rest))
-  piece_next here xs i d rest within =
-      ap (λ l. here ++ (flat_map f l ++ rest)) (drop_more xs i d within)
-      ∙ ap (λ l. here ++ l) (append_assoc (f (get_or xs i d)) (flat_map f (drop (i + 1) xs)) rest)
-
-  pub pieces_none : (here : List ℕ) (xs : List X) (i : ℕ) (rest : List ℕ) → length xs ≤ i → here ++ (flat_map f (drop i xs) ++ rest) ≡ here ++ rest
-  pieces_none here xs i rest past = ap (λ l. here ++ (flat_map f l ++ rest)) (drop_of_length-le xs past)
 
 -- a space before each field, as it stands between them
 joined : (field : List ℕ) (fields : List (List ℕ)) → flat_map (λ f. 32 ∷ f) (field ∷ fields) ≡ 32 ∷ join_with_byte 32 (field ∷ fields)

@@ -1,4 +1,1 @@
 pub mod Lines
-pub mod Pages
-pub mod Progress
-pub mod Pieces

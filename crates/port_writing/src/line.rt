@@ -4,13 +4,12 @@ ghost use Rattle.std.specs.Io.KnownBytes.{Appends};
 ghost use Rattle.ww_base.specs.Faults.{HasCause};
 ghost use Rattle.pattern_reading.specs.Spelling.{port_lines};
 ghost use Rattle.port_writing.specs.Lines.{ended_line};
-ghost use Rattle.port_writing.specs.Pages.{held};
-ghost use Rattle.port_writing.specs.Progress.{Wrote, Broke};
+ghost use Rattle.ww_base.specs.Pages.{held};
+ghost use Rattle.ww_base.specs.Progress.{Wrote, Broke};
 
-use crate::page::Page;
 use crate::table::{write_net, write_port, write_version};
 use pattern_reading::Ports;
-use ww_base::{Failed, Sink};
+use ww_base::{Failed, Page, Sink};
 
 // Puts the line on a page.
 fn put_line<O: Sink>(sink: &mut O, page: &mut Page, ports: &Ports, n: usize) -> Result<(), Failed>

@@ -3,11 +3,10 @@ ghost use Rattle.std.specs.Prelude.{◌≡◌, ◌<◌, ℕ, List, true, ◌∷�
 ghost use Rattle.std.specs.Fmt.{digit_glyph};
 ghost use Rattle.pattern_reading.specs.Escapes.{is_plain_in_name, escaped_byte};
 ghost use Rattle.pattern_reading.specs.Spelling.{escaped_name};
-ghost use Rattle.port_writing.specs.Pages.{held, column_of};
-ghost use Rattle.port_writing.specs.Progress.{Wrote, Broke};
+ghost use Rattle.ww_base.specs.Pages.{held, column_of};
+ghost use Rattle.ww_base.specs.Progress.{Wrote, Broke};
 
-use crate::page::Page;
-use ww_base::{Failed, Sink};
+use ww_base::{Failed, Page, Sink};
 
 // Whether a byte stands for itself in a name.
 fn is_plain_in_name(byte: u8) -> bool

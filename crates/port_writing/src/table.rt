@@ -3,15 +3,14 @@ ghost use Rattle.std.specs.Prelude.{◌≡◌, ℕ, List, ◌∷◌, ◌++◌, m
 ghost use Rattle.pattern_reading.specs.PortLines.{Version, Net};
 ghost use Rattle.pattern_reading.specs.Spelling.{spelled_line, port_lines};
 ghost use Rattle.pattern_writing.specs.Writer.{ended_lines};
-ghost use Rattle.port_writing.specs.Pages.{held, column_of};
-ghost use Rattle.port_writing.specs.Progress.{Wrote, Broke};
+ghost use Rattle.ww_base.specs.Pages.{held, column_of};
+ghost use Rattle.ww_base.specs.Progress.{Wrote, Broke};
 ghost use Rattle.port_writing.specs.Lines.{named_line, port_text, spaced};
 
 use crate::names::put_name;
-use crate::page::Page;
 use itoa::Buffer;
 use pattern_reading::{NetLine, PortLine, Ports};
-use ww_base::{Failed, Sink};
+use ww_base::{Failed, Page, Sink};
 
 // Puts a field on the page, after a space.
 fn put_field<O: Sink>(sink: &mut O, page: &mut Page, field: &[u8]) -> Result<(), Failed>

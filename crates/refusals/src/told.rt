@@ -3,8 +3,8 @@
 ghost use Rattle.std.specs.Prelude.{◌≡◌, ℕ, List, ◌++◌, take, OnOk, OnErr};
 ghost use Rattle.std.specs.Io.KnownBytes.{Appends};
 ghost use Rattle.ww_base.specs.Faults.{HasCause};
-ghost use Rattle.port_writing.specs.Pages.{held};
-ghost use Rattle.port_writing.specs.Progress.{Wrote, Broke};
+ghost use Rattle.ww_base.specs.Pages.{held};
+ghost use Rattle.ww_base.specs.Progress.{Wrote, Broke};
 ghost use Rattle.refusals.specs.Refusals.{rle_fault_name, port_fault_name, start_fault_name, stream_fault_name, fault_line, stream_line, fault_text, netlist_line, spaced, loop_line, cause_line, refusal_line};
 
 use crate::causes::Cause;
@@ -15,9 +15,8 @@ use itoa::Buffer;
 use lists::Bytes;
 use netlist_core::WEIGHT_LIMIT;
 use pattern_reading::{PortFaultKind, RleFaultKind};
-use port_writing::{Page, write_pieces};
 use start_words::StartFaultKind;
-use ww_base::{Failed, Sink, write_all};
+use ww_base::{Failed, Page, Sink, write_all, write_pieces};
 
 // A fault of a pattern's text as it is printed.
 fn rle_fault_name(kind: RleFaultKind) -> &'static [u8]

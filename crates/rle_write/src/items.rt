@@ -2,12 +2,11 @@
 ghost use Rattle.std.specs.Prelude.{◌≡◌, ◌≤◌, ◌+◌, ℕ, List, ◌∷◌, ◌++◌, length, OnOk, OnErr};
 ghost use Rattle.pattern_writing.specs.Writer.{count_text, run_text, line_break, used_after};
 ghost use Rattle.rle_write.specs.Left.{line_left};
-ghost use Rattle.port_writing.specs.Pages.{held, column_of};
-ghost use Rattle.port_writing.specs.Progress.{Wrote, Broke};
+ghost use Rattle.ww_base.specs.Pages.{held, column_of};
+ghost use Rattle.ww_base.specs.Progress.{Wrote, Broke};
 
 use itoa::Buffer;
-use port_writing::Page;
-use ww_base::{Failed, Sink};
+use ww_base::{Failed, Page, Sink};
 
 // The most bytes that a line of items has.
 const LINE: usize = 70;

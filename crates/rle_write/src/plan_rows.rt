@@ -8,16 +8,15 @@ ghost use Rattle.plan_layout.specs.Slots.{slot_of};
 ghost use Rattle.grid_assembly.specs.PlanDrawing.{start_row, start_grid};
 ghost use Rattle.pattern_writing.specs.Writer.{item_texts, wrapped};
 ghost use Rattle.rle_write.specs.Left.{rows_left, text_left};
-ghost use Rattle.port_writing.specs.Pages.{held, column_of};
-ghost use Rattle.port_writing.specs.Progress.{Wrote, Broke};
+ghost use Rattle.ww_base.specs.Pages.{held, column_of};
+ghost use Rattle.ww_base.specs.Progress.{Wrote, Broke};
 
 use crate::items::write_item;
 use crate::rows::{Kept, end_row, write_same};
 use grid_assembly::run_in;
 use lane_core::Plan;
 use plan_layout::{Slot, slot_at};
-use port_writing::Page;
-use ww_base::{Failed, Sink};
+use ww_base::{Failed, Page, Sink};
 
 // What stands in the block of the cell at column `x` and row `y`: it is looked up where the block begins, and is else
 // what stood there for the cell before.

@@ -3,12 +3,11 @@ ghost use Rattle.std.specs.Prelude.{◌≡◌, ◌≢◌, ◌≤◌, ◌<◌, �
 ghost use Rattle.ww_rule.specs.declared.pattern.State.{State};
 ghost use Rattle.pattern_writing.specs.Writer.{TagRun, tag_of, row_end};
 ghost use Rattle.rle_write.specs.Left.{rows_left, row_left, end_items, items_left, text_left, IsRunBefore};
-ghost use Rattle.port_writing.specs.Pages.{held, column_of};
-ghost use Rattle.port_writing.specs.Progress.{Wrote, Broke};
+ghost use Rattle.ww_base.specs.Pages.{held, column_of};
+ghost use Rattle.ww_base.specs.Progress.{Wrote, Broke};
 
 use crate::items::write_item;
-use port_writing::Page;
-use ww_base::{Failed, Sink};
+use ww_base::{Failed, Page, Sink};
 use ww_rule::State;
 
 /// The tag of an empty cell.

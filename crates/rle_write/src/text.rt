@@ -6,16 +6,16 @@ ghost use Rattle.lane_core.specs.Plans.{IsAdmissible};
 ghost use Rattle.grid_assembly.specs.PlanDrawing.{start_grid};
 ghost use Rattle.pattern_reading.specs.Spelling.{port_lines};
 ghost use Rattle.pattern_writing.specs.Writer.{header_text, writer_text};
-ghost use Rattle.port_writing.specs.Pages.{held, column_of};
-ghost use Rattle.port_writing.specs.Progress.{Wrote, Broke};
+ghost use Rattle.ww_base.specs.Pages.{held, column_of};
+ghost use Rattle.ww_base.specs.Progress.{Wrote, Broke};
 
 use crate::plan_rows::write_plan_rows;
 use grid_assembly::size;
 use itoa::Buffer;
 use lane_core::Plan;
 use pattern_reading::Ports;
-use port_writing::{Page, write_table};
-use ww_base::{Failed, Sink};
+use port_writing::write_table;
+use ww_base::{Failed, Page, Sink};
 
 // Writes the digits of a number.
 fn write_number<O: Sink>(sink: &mut O, page: &mut Page, number: u64) -> Result<(), Failed>

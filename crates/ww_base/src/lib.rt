@@ -1,15 +1,20 @@
-//! Byte sources and sinks, over the standard streams and in memory, and the calls that read or write everything.
+//! Byte sources and sinks, over the standard streams and in memory, the calls that read or write everything, and texts
+//! in pieces that are gathered on pages.
 //!
-//! Theorem: `read_all` (`all`, `front`), `write_all` (`ok`, `front`).
+//! Theorem: `read_all` (`all`, `front`), `write_all` (`ok`, `front`), `write_pieces` (`ok`, `front`, `cause`).
 #![tactic(auto)]
 
 mod fakes;
+mod page;
+mod pieces;
 mod standard;
 mod streams;
 mod wanted;
 mod whole;
 
 pub use fakes::{FakeError, MemSink, MemSource};
+pub use page::Page;
+pub use pieces::{put_pieces, write_pieces};
 pub use standard::{StdSink, StdSource};
 pub use streams::{Failed, Sink, Source};
 pub use wanted::expect;

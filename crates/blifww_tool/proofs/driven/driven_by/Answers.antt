@@ -2,7 +2,7 @@ use Rattle.std.proofs.Common.{◌≡◌, ◌*◌, ap, sym, ◌∙◌, subst, ℕ
 use Rattle.std.proofs.lemmas.List.{length-map}
 use Rattle.pattern_reading.specs.declared.ports.PortLine.{PortLine}
 use Rattle.pattern_reading.specs.Ports.{names_of}
-use Rattle.pattern_laws.proofs.SoundTable.{sound_table}
+use Rattle.port_table.proofs.SoundTable.{sound_table}
 use Rattle.streams.specs.Streams.{HasStreams}
 use Rattle.blifww_tool.proofs.Simulated.{ins_in_box}
 use Rattle.blifww_tool.proofs.driven.driven_by.Goals as goal

@@ -1,5 +1,4 @@
 use Rattle.pattern_reading.proofs.PortsInside.{ports_inside}
-use Rattle.pattern_laws.proofs.SoundTable.{sound_table}
 use Rattle.pattern_reading.proofs.PortLaws.{one_table, one_port_fault, no_port_fault_if_read, table_or_fault}
 use Rattle.pattern_laws.proofs.laws.port_laws.Goals as goal
 
@@ -17,6 +16,3 @@ returns-clause-total c = table_or_fault
 
 pub returns-clause-inside : goal.returns-clause-inside
 returns-clause-inside c = ports_inside
-
-pub returns-clause-sound : goal.returns-clause-sound
-returns-clause-sound c = sound_table

@@ -3,7 +3,7 @@ use Rattle.std.proofs.lemmas.List.Elements.{All-from_recursion, All-map}
 use Rattle.pattern_reading.specs.declared.ports.PortLine.{PortLine}
 use Rattle.pattern_reading.specs.Laws.{IsPortInside}
 use Rattle.pattern_reading.proofs.PortsInside.{ports_inside}
-use Rattle.pattern_laws.proofs.SoundTable.{sound_table}
+use Rattle.port_table.proofs.SoundTable.{sound_table}
 use Rattle.pattern_tests.proofs.runs.said.Goals as goal
 
 pub run-said-requires-clause-streams : goal.run-said-requires-clause-streams

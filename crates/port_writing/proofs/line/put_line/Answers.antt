@@ -3,8 +3,8 @@ use Rattle.std.proofs.lemmas.Result.{on_ok_weaker, on_err_weaker}
 use Rattle.pattern_reading.specs.PortLines.{Version, Net}
 use Rattle.pattern_reading.specs.Spelling.{spelled_line, port_lines}
 use Rattle.port_writing.specs.Lines.{port_text}
-use Rattle.port_writing.specs.Pages.{held}
-use Rattle.port_writing.proofs.Steps.{wrote_as, broke_as}
+use Rattle.ww_base.specs.Pages.{held}
+use Rattle.ww_base.proofs.Steps.{wrote_as, broke_as}
 use Rattle.port_writing.proofs.PortLines.{input_line, output_line, net_line, line_with_end}
 use Rattle.port_writing.proofs.line.put_line.Goals as goal
 

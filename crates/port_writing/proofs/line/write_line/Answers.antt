@@ -1,9 +1,9 @@
 use Rattle.std.proofs.Common.{[]}
 use Rattle.std.proofs.lemmas.Result.{on_ok_weaker, on_err_weaker}
 use Rattle.port_writing.specs.Lines.{ended_line}
-use Rattle.port_writing.specs.Pages.{held}
+use Rattle.ww_base.specs.Pages.{held}
 use Rattle.lists.proofs.Results.{on_err}
-use Rattle.port_writing.proofs.Steps.{begun, wrote_then, wrote_broke, wrote_as, wrote_whole, broke_as, front_of, broke_cause, cause_of}
+use Rattle.ww_base.proofs.Steps.{begun, wrote_then, wrote_broke, wrote_as, wrote_whole, broke_as, front_of, broke_cause, cause_of}
 use Rattle.port_writing.proofs.line.write_line.Goals as goal
 
 pub returns-in_err-put_line-clause-front : goal.returns-in_err-put_line-clause-front

@@ -2,9 +2,9 @@ use Rattle.std.proofs.Common.{◌+◌, ℕ, List, ◌++◌, drop, ◌∙◌}
 use Rattle.pattern_reading.specs.Escapes.{escaped_byte, is_plain_in_name}
 use Rattle.pattern_reading.specs.Spelling.{escaped_name}
 use Rattle.lists.proofs.Results.{on_err}
-use Rattle.port_writing.specs.Pages.{held}
-use Rattle.port_writing.proofs.Steps.{wrote_then, wrote_broke, wrote_to}
-use Rattle.port_writing.proofs.PortLines.{piece_next}
+use Rattle.ww_base.specs.Pages.{held}
+use Rattle.ww_base.proofs.Steps.{wrote_then, wrote_broke, wrote_to}
+use Rattle.ww_base.proofs.LeftPieces.{piece_next}
 use Rattle.port_writing.proofs.names.put_name.Goals as goal
 
 pub returns-in_err-put_byte-clause-err : goal.returns-in_err-put_byte-clause-err

@@ -1,7 +1,7 @@
 use Rattle.std.proofs.Common.{◌≡◌, ℕ, List, ◌++◌, drop}
 use Rattle.pattern_reading.specs.Spelling.{escaped_name}
-use Rattle.port_writing.specs.Pages.{held, column_of}
-use Rattle.port_writing.specs.Progress.{Wrote}
+use Rattle.ww_base.specs.Pages.{held, column_of}
+use Rattle.ww_base.specs.Progress.{Wrote}
 use Rattle.port_writing.proofs.names.put_name.Given as goal
 
 abbrev pub invariant-loop-byte : goal.invariant-loop-byte

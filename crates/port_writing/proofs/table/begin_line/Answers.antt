@@ -1,7 +1,7 @@
 use Rattle.std.proofs.Common.{◌++◌}
 use Rattle.std.proofs.lemmas.Result.{on_ok_weaker, on_err_weaker}
 use Rattle.port_writing.specs.Lines.{spaced}
-use Rattle.port_writing.proofs.Steps.{wrote_then, wrote_broke}
+use Rattle.ww_base.proofs.Steps.{wrote_then, wrote_broke}
 use Rattle.port_writing.proofs.table.begin_line.Goals as goal
 
 pub returns-clause-ok : goal.returns-clause-ok

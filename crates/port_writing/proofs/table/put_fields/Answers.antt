@@ -1,9 +1,9 @@
 use Rattle.std.proofs.Common.{◌+◌, ℕ, List, [], ◌∷◌, ◌++◌, drop, ◌∙◌}
 use Rattle.lists.proofs.Results.{on_err}
 use Rattle.port_writing.specs.Lines.{spaced}
-use Rattle.port_writing.specs.Pages.{held}
-use Rattle.port_writing.proofs.Steps.{wrote_then, wrote_broke, wrote_to}
-use Rattle.port_writing.proofs.PortLines.{piece_next}
+use Rattle.ww_base.specs.Pages.{held}
+use Rattle.ww_base.proofs.Steps.{wrote_then, wrote_broke, wrote_to}
+use Rattle.ww_base.proofs.LeftPieces.{piece_next}
 use Rattle.port_writing.proofs.table.put_fields.Goals as goal
 
 pub returns-in_err-put_field-clause-err : goal.returns-in_err-put_field-clause-err

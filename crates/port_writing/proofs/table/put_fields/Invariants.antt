@@ -1,7 +1,7 @@
 use Rattle.std.proofs.Common.{◌≡◌, ℕ, List, ◌++◌, drop}
 use Rattle.port_writing.specs.Lines.{spaced}
-use Rattle.port_writing.specs.Pages.{held, column_of}
-use Rattle.port_writing.specs.Progress.{Wrote}
+use Rattle.ww_base.specs.Pages.{held, column_of}
+use Rattle.ww_base.specs.Progress.{Wrote}
 use Rattle.port_writing.proofs.table.put_fields.Given as goal
 
 abbrev pub invariant-loop-field : goal.invariant-loop-field

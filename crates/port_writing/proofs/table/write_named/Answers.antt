@@ -3,7 +3,7 @@ use Rattle.std.proofs.lemmas.Result.{on_ok_weaker, on_err_weaker}
 use Rattle.lists.proofs.Results.{on_err}
 use Rattle.pattern_reading.specs.Spelling.{escaped_name}
 use Rattle.port_writing.specs.Lines.{spaced}
-use Rattle.port_writing.proofs.Steps.{wrote_then, wrote_broke}
+use Rattle.ww_base.proofs.Steps.{wrote_then, wrote_broke}
 use Rattle.port_writing.proofs.table.write_named.Goals as goal
 
 pub returns-in_err-put-clause-err : goal.returns-in_err-put-clause-err

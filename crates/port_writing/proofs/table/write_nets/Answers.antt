@@ -2,9 +2,9 @@ use Rattle.std.proofs.Common.{◌+◌, ℕ, List, ◌++◌, map, drop, ◌∙◌
 use Rattle.pattern_reading.specs.PortLines.{Net}
 use Rattle.pattern_reading.specs.Spelling.{spelled_line}
 use Rattle.pattern_writing.specs.Writer.{ended_lines}
-use Rattle.port_writing.specs.Pages.{held}
+use Rattle.ww_base.specs.Pages.{held}
 use Rattle.lists.proofs.Results.{on_err}
-use Rattle.port_writing.proofs.Steps.{wrote_then, wrote_broke, wrote_to}
+use Rattle.ww_base.proofs.Steps.{wrote_then, wrote_broke, wrote_to}
 use Rattle.port_writing.proofs.PortLines.{line_next}
 use Rattle.port_writing.proofs.table.write_nets.Goals as goal
 

@@ -2,8 +2,8 @@ use Rattle.std.proofs.Common.{◌≡◌, ℕ, List, ◌++◌, map, drop}
 use Rattle.pattern_reading.specs.PortLines.{Net}
 use Rattle.pattern_reading.specs.Spelling.{spelled_line}
 use Rattle.pattern_writing.specs.Writer.{ended_lines}
-use Rattle.port_writing.specs.Pages.{held, column_of}
-use Rattle.port_writing.specs.Progress.{Wrote}
+use Rattle.ww_base.specs.Pages.{held, column_of}
+use Rattle.ww_base.specs.Progress.{Wrote}
 use Rattle.port_writing.proofs.table.write_nets.Given as goal
 
 abbrev pub invariant-loop-net : goal.invariant-loop-net

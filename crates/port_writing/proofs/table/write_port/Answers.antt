@@ -1,7 +1,7 @@
 use Rattle.std.proofs.Common.{◌≡◌, refl, [], ◌∷◌, decimal}
 use Rattle.std.proofs.lemmas.Result.{on_ok_weaker, on_err_weaker}
-use Rattle.port_writing.specs.Pages.{held}
-use Rattle.port_writing.proofs.Steps.{wrote_as, broke_as}
+use Rattle.ww_base.specs.Pages.{held}
+use Rattle.ww_base.proofs.Steps.{wrote_as, broke_as}
 use Rattle.port_writing.proofs.PortLines.{named_line_is}
 use Rattle.port_writing.proofs.table.write_port.Goals as goal
 

@@ -1,8 +1,8 @@
 use Rattle.std.proofs.Common.{◌≡◌, ℕ, List, ◌++◌, map, drop}
 use Rattle.port_writing.specs.Lines.{port_text}
 use Rattle.pattern_writing.specs.Writer.{ended_lines}
-use Rattle.port_writing.specs.Pages.{held, column_of}
-use Rattle.port_writing.specs.Progress.{Wrote}
+use Rattle.ww_base.specs.Pages.{held, column_of}
+use Rattle.ww_base.specs.Progress.{Wrote}
 use Rattle.port_writing.proofs.table.write_ports.Given as goal
 
 abbrev pub invariant-loop-port : goal.invariant-loop-port

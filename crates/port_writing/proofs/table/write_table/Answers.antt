@@ -4,9 +4,9 @@ use Rattle.pattern_reading.specs.PortLines.{Net}
 use Rattle.pattern_reading.specs.Spelling.{spelled_line}
 use Rattle.pattern_writing.specs.Writer.{ended_lines}
 use Rattle.port_writing.specs.Lines.{port_text}
-use Rattle.port_writing.specs.Pages.{held}
+use Rattle.ww_base.specs.Pages.{held}
 use Rattle.lists.proofs.Results.{on_err}
-use Rattle.port_writing.proofs.Steps.{wrote_then, wrote_broke, wrote_as, broke_as}
+use Rattle.ww_base.proofs.Steps.{wrote_then, wrote_broke, wrote_as, broke_as}
 use Rattle.port_writing.proofs.PortLines.{table_is}
 use Rattle.port_writing.proofs.table.write_table.Goals as goal
 

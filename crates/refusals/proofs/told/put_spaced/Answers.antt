@@ -1,8 +1,8 @@
 use Rattle.std.proofs.Common.{◌≡◌, ◌<◌, ◌+◌, ℕ, List, ◌∷◌, ◌++◌, length, drop, get_or, refl, sym, ap, ◌∙◌}
 use Rattle.lists.proofs.Results.{on_err}
-use Rattle.port_writing.specs.Pages.{held}
-use Rattle.port_writing.proofs.Steps.{wrote_then, wrote_broke, wrote_to}
-use Rattle.port_writing.proofs.PortLines.{piece_next}
+use Rattle.ww_base.specs.Pages.{held}
+use Rattle.ww_base.proofs.Steps.{wrote_then, wrote_broke, wrote_to}
+use Rattle.ww_base.proofs.LeftPieces.{piece_next}
 use Rattle.refusals.specs.Refusals.{spaced}
 use Rattle.refusals.proofs.told.put_spaced.Goals as goal
 

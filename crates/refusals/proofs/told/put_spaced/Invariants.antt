@@ -1,6 +1,6 @@
 use Rattle.std.proofs.Common.{ℕ, List, ◌++◌, drop}
-use Rattle.port_writing.specs.Pages.{held}
-use Rattle.port_writing.specs.Progress.{Wrote}
+use Rattle.ww_base.specs.Pages.{held}
+use Rattle.ww_base.specs.Progress.{Wrote}
 use Rattle.refusals.specs.Refusals.{spaced}
 use Rattle.refusals.proofs.told.put_spaced.Given as goal
 

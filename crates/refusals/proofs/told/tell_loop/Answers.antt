@@ -1,8 +1,8 @@
 use Rattle.std.proofs.Common.{◌≡◌, ℕ, List, [], ◌++◌, sym, ap, codes}
 use Rattle.std.proofs.lemmas.Result.{on_ok_weaker, on_err_weaker}
 use Rattle.lists.proofs.Results.{on_err}
-use Rattle.port_writing.specs.Pages.{held}
-use Rattle.port_writing.proofs.Steps.{wrote_then, wrote_broke, wrote_as, wrote_whole, broke_as, front_of, broke_cause, cause_of}
+use Rattle.ww_base.specs.Pages.{held}
+use Rattle.ww_base.proofs.Steps.{wrote_then, wrote_broke, wrote_as, wrote_whole, broke_as, front_of, broke_cause, cause_of}
 use Rattle.refusals.specs.Refusals.{spaced, loop_line}
 use Rattle.refusals.proofs.told.tell_loop.Goals as goal
 

@@ -1,9 +1,9 @@
 use Rattle.std.proofs.Common.{◌≡◌, ◌+◌, ℕ, List, ◌∷◌, ◌++◌, length, sym, ap, ◌∙◌}
 use Rattle.pattern_writing.specs.Writer.{count_text, run_text, line_break, used_after, wrapped}
-use Rattle.port_writing.specs.Pages.{held, column_of}
+use Rattle.ww_base.specs.Pages.{held, column_of}
 use Rattle.rle_write.proofs.ItemBytes.{item_long, item_cut}
 use Rattle.lists.proofs.Results.{on_err}
-use Rattle.port_writing.proofs.Steps.{wrote_then, wrote_broke, wrote_as, wrote_to, broke_as}
+use Rattle.ww_base.proofs.Steps.{wrote_then, wrote_broke, wrote_as, wrote_to, broke_as}
 use Rattle.rle_write.proofs.items.write_item.Goals as goal
 
 pub returns-in_err-put-clause-err : goal.returns-in_err-put-clause-err

@@ -2,9 +2,9 @@ use Rattle.std.proofs.Common.{◌≢◌, ℕ, List, [], ◌∷◌, ◌++◌, ap,
 use Rattle.ww_rule.specs.declared.pattern.State.{State}
 use Rattle.pattern_writing.specs.Writer.{TagRun, run_text, runs_of}
 use Rattle.rle_write.specs.Left.{row_left, items_left, IsRunBefore}
-use Rattle.port_writing.specs.Pages.{held, column_of}
+use Rattle.ww_base.specs.Pages.{held, column_of}
 use Rattle.lists.proofs.Results.{on_err}
-use Rattle.port_writing.proofs.Steps.{wrote_then, wrote_broke, wrote_as, broke_as}
+use Rattle.ww_base.proofs.Steps.{wrote_then, wrote_broke, wrote_as, broke_as}
 use Rattle.rle_write.proofs.Tags.{row_left_run}
 use Rattle.rle_write.proofs.rows.write_run.Goals as goal
 

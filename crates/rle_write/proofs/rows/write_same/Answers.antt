@@ -2,10 +2,10 @@ use Rattle.std.proofs.Common.{◌≡◌, ◌+◌, ℕ, List, ◌++◌, replicate
 use Rattle.ww_rule.specs.declared.pattern.State.{State}
 use Rattle.pattern_writing.specs.Writer.{tag_of}
 use Rattle.rle_write.specs.Left.{row_left, text_left}
-use Rattle.port_writing.specs.Pages.{held, column_of}
+use Rattle.ww_base.specs.Pages.{held, column_of}
 use Rattle.rle_write.proofs.Lefts.{left_by}
 use Rattle.lists.proofs.Results.{on_err}
-use Rattle.port_writing.proofs.Steps.{wrote_as, wrote_none, broke_as}
+use Rattle.ww_base.proofs.Steps.{wrote_as, wrote_none, broke_as}
 use Rattle.rle_write.proofs.Tags.{run_before_run, run_joined}
 use Rattle.rle_write.proofs.rows.write_same.Goals as goal
 

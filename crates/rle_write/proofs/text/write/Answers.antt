@@ -3,9 +3,9 @@ use Rattle.std.proofs.lemmas.Result.{on_ok_weaker, on_err_weaker}
 use Rattle.grid_assembly.specs.PlanDrawing.{start_grid}
 use Rattle.pattern_reading.specs.Spelling.{port_lines}
 use Rattle.pattern_writing.specs.Writer.{ended_lines, header_text, item_texts, wrapped}
-use Rattle.port_writing.specs.Pages.{held}
+use Rattle.ww_base.specs.Pages.{held}
 use Rattle.lists.proofs.Results.{on_err}
-use Rattle.port_writing.proofs.Steps.{wrote_then, wrote_broke, wrote_as, wrote_whole, broke_as, front_of, broke_cause, cause_of}
+use Rattle.ww_base.proofs.Steps.{wrote_then, wrote_broke, wrote_as, wrote_whole, broke_as, front_of, broke_cause, cause_of}
 use Rattle.rle_write.proofs.text.write.Goals as goal
 
 joined : (l h w e : List ℕ) → ((l ++ h) ++ w) ++ e ≡ l ++ (h ++ (w ++ e))

@@ -2,12 +2,12 @@
 ghost use Rattle.std.specs.Prelude.{ℕ, List, ◌++◌, take, OnOk, OnErr};
 ghost use Rattle.std.specs.Io.KnownBytes.{Appends};
 ghost use Rattle.ww_base.specs.Faults.{HasCause};
-ghost use Rattle.port_writing.specs.Pages.{held};
-ghost use Rattle.port_writing.specs.Pieces.{joined_pieces};
-ghost use Rattle.port_writing.specs.Progress.{Wrote, Broke};
+ghost use Rattle.ww_base.specs.Pages.{held};
+ghost use Rattle.ww_base.specs.Pieces.{joined_pieces};
+ghost use Rattle.ww_base.specs.Progress.{Wrote, Broke};
 
 use crate::page::Page;
-use ww_base::{Failed, Sink};
+use crate::streams::{Failed, Sink};
 
 /// Puts the pieces on a page, one after the other.
 pub fn put_pieces<O: Sink>(sink: &mut O, page: &mut Page, pieces: &[&[u8]]) -> Result<(), Failed>

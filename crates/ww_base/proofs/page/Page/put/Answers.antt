@@ -1,8 +1,8 @@
 use Rattle.std.proofs.Common.{◌≡◌, ℕ, List, [], ◌++◌, sym, ap}
 use Rattle.std.proofs.lemmas.Result.{on_ok_weaker, on_err_weaker}
-use Rattle.port_writing.specs.Pages.{held}
-use Rattle.port_writing.proofs.Steps.{wrote_then, wrote_broke, wrote_to}
-use Rattle.port_writing.proofs.page.Page.put.Goals as goal
+use Rattle.ww_base.specs.Pages.{held}
+use Rattle.ww_base.proofs.Steps.{wrote_then, wrote_broke, wrote_to}
+use Rattle.ww_base.proofs.page.Page.put.Goals as goal
 
 pub returns-then-piece-gt-PAGE-clause-ok : goal.returns-then-piece-gt-PAGE-clause-ok
 returns-then-piece-gt-PAGE-clause-ok g c =

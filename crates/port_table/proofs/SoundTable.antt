@@ -23,8 +23,8 @@ use Rattle.pattern_reading.specs.PortTable.{contexts_in, fault_of_form, faults_a
 use Rattle.pattern_reading.specs.SoundTable.{HasSoundTable, IsSoundNet, IsSoundPort}
 use Rattle.pattern_reading.specs.Spelling.{IsPortName}
 use Rattle.pattern_reading.specs.Escapes.{unescaped}
-use Rattle.pattern_laws.proofs.Unescaped.{unescaped_feedless}
-use Rattle.pattern_laws.proofs.LineBytes.{IsFeedless, IsFieldText, feedless_after, feedless_before_header, fields_are}
+use Rattle.port_table.proofs.Unescaped.{unescaped_feedless}
+use Rattle.port_table.proofs.LineBytes.{IsFeedless, IsFieldText, feedless_after, feedless_before_header, fields_are}
 use Rattle.pattern_reading.proofs.FirstLine.{HasNoFeed}
 use Rattle.pattern_reading.proofs.PortText.{room_is}
 use Rattle.pattern_reading.proofs.PortsInside.{no_first}

@@ -1,10 +1,10 @@
 use Rattle.std.proofs.Common.{[]}
 use Rattle.std.proofs.lemmas.Result.{on_ok_weaker, on_err_weaker}
-use Rattle.port_writing.specs.Pieces.{joined_pieces}
-use Rattle.port_writing.specs.Pages.{held}
+use Rattle.ww_base.specs.Pieces.{joined_pieces}
+use Rattle.ww_base.specs.Pages.{held}
 use Rattle.lists.proofs.Results.{on_err}
-use Rattle.port_writing.proofs.Steps.{begun, wrote_then, wrote_broke, wrote_as, wrote_whole, broke_as, front_of, broke_cause, cause_of}
-use Rattle.port_writing.proofs.pieces.write_pieces.Goals as goal
+use Rattle.ww_base.proofs.Steps.{begun, wrote_then, wrote_broke, wrote_as, wrote_whole, broke_as, front_of, broke_cause, cause_of}
+use Rattle.ww_base.proofs.pieces.write_pieces.Goals as goal
 
 pub returns-in_err-put_pieces-clause-front : goal.returns-in_err-put_pieces-clause-front
 returns-in_err-put_pieces-clause-front g c =

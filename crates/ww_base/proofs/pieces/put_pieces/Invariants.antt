@@ -1,8 +1,8 @@
 use Rattle.std.proofs.Common.{ℕ, List, ◌++◌, drop}
-use Rattle.port_writing.specs.Pages.{held}
-use Rattle.port_writing.specs.Pieces.{joined_pieces}
-use Rattle.port_writing.specs.Progress.{Wrote}
-use Rattle.port_writing.proofs.pieces.put_pieces.Given as goal
+use Rattle.ww_base.specs.Pages.{held}
+use Rattle.ww_base.specs.Pieces.{joined_pieces}
+use Rattle.ww_base.specs.Progress.{Wrote}
+use Rattle.ww_base.proofs.pieces.put_pieces.Given as goal
 
 abbrev pub invariant-loop-piece : goal.invariant-loop-piece
 invariant-loop-piece g l = (rest : List ℕ) →

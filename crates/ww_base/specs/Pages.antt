@@ -1,6 +1,6 @@
 -- What a page holds.
 use Rattle.std.specs.Prelude.{ℕ, List, take}
-use Rattle.port_writing.specs.declared.page.Page.{Page}
+use Rattle.ww_base.specs.declared.page.Page.{Page}
 
 -- the bytes that are still to be sent
 abbrev pub held : Page → List ℕ

@@ -1,8 +1,9 @@
 // Pieces, and a page on which they are gathered, to be sent when it is full.
 ghost use Rattle.std.specs.Prelude.{◌<◌, ◌≡◌, ◌≤◌, ◌+◌, ℕ, List, [], ◌++◌, length, OnOk, OnErr};
-ghost use Rattle.port_writing.specs.Progress.{Wrote, Broke};
+ghost use Rattle.ww_base.specs.Progress.{Wrote, Broke};
 
-use ww_base::{Failed, Sink, write_all};
+use crate::streams::{Failed, Sink};
+use crate::whole::write_all;
 
 // Writes a piece, or a front of it where a write fails.
 fn send<O: Sink>(sink: &mut O, piece: &[u8]) -> Result<(), Failed>
@@ -28,7 +29,7 @@ pub struct Page {
 }
 
 impl Page {
-    ghost use Rattle.port_writing.specs.Pages.{held, column_of};
+    ghost use Rattle.ww_base.specs.Pages.{held, column_of};
 
     /// An empty page.
     pub fn new() -> Self

@@ -8,7 +8,7 @@ use Rattle.std.specs.Io.KnownBytes.{Appends}
 use Rattle.std.proofs.KnownBytes.{Appends-nil, Appends-trans}
 use Rattle.lists.proofs.Results.{on_err}
 use Rattle.ww_base.specs.Faults.{Rose, HasCause}
-use Rattle.port_writing.specs.Progress.{Wrote, Broke}
+use Rattle.ww_base.specs.Progress.{Wrote, Broke}
 
 pub both_err : {T E : Type 0} (r : Result T E) {P Q R : Type 0} → (P → Q → R) → OnErr r P → OnErr r Q → OnErr r R
 both_err (Ok x) f p q = tt

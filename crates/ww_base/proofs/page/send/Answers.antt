@@ -1,5 +1,5 @@
-use Rattle.port_writing.proofs.Steps.{both_err, broke_piece}
-use Rattle.port_writing.proofs.page.send.Goals as goal
+use Rattle.ww_base.proofs.Steps.{both_err, broke_piece}
+use Rattle.ww_base.proofs.page.send.Goals as goal
 
 pub returns-clause-err : goal.returns-clause-err
 returns-clause-err g c =
