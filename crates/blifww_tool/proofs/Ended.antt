@@ -8,7 +8,7 @@ use Rattle.blifww_tool.specs.Run.{Asks, AsksNothing, Reading, Writing, Call, Gav
 use Rattle.blifww_tool.proofs.Given.{gave_whole, no_more, one_command}
 use Rattle.blifww_tool.proofs.Decided.{printed_or_refused, accepted_or_refused, one_cause}
 use Rattle.refusals.specs.declared.causes.Cause.{Cause}
-use Rattle.refusals.specs.declared.causes.Cause.TheVariants.{NetlistFault, WeightTooLarge, Loop, Pattern, GridTooLarge, PortTable, Streams, StartWord, NoSuchNet, TooFar, TooManyContexts, NotQuiet}
+use Rattle.refusals.specs.declared.causes.Cause.TheVariants.{NetlistFault, WeightTooLarge, Loop, AigAtFault, AigLoop, Pattern, GridTooLarge, PortTable, Streams, StartWord, NoSuchNet, TooFar, TooManyContexts, NotQuiet}
 use Rattle.refusals.specs.declared.refusal.Refusal.{Refusal}
 use Rattle.refusals.specs.declared.refusal.Refusal.TheVariants.{Usage, TooLong, ReadFault, WriteFault, NoMemory, Text}
 
@@ -180,6 +180,8 @@ cause_is : (cause : Cause) → (status_of_cause cause ≢ 0) × (status_of_cause
 cause_is (NetlistFault f) = (λ e. cc, λ e. cc)
 cause_is (WeightTooLarge w) = (λ e. cc, λ e. cc)
 cause_is (Loop names) = (λ e. cc, λ e. cc)
+cause_is (AigAtFault fault) = (λ e. cc, λ e. cc)
+cause_is (AigLoop literals) = (λ e. cc, λ e. cc)
 cause_is (Pattern f) = (λ e. cc, λ e. cc)
 cause_is (GridTooLarge x y) = (λ e. cc, λ e. cc)
 cause_is (PortTable f) = (λ e. cc, λ e. cc)

@@ -1,10 +1,13 @@
--- What `compile` has written carries what it read.
-use Rattle.std.proofs.Common.{◌≡◌, ℕ, Some, subst, List, []}
+-- What `compile` and `aiger` have written carries what they read.
+use Rattle.std.proofs.Common.{◌≡◌, ℕ, Some, subst, sym, List, []}
 use Rattle.blif_text.specs.Faults.{IsDesignOf}
-use Rattle.command_words.specs.Shapes.{CommandValues, compile}
+use Rattle.aiger_text.specs.AigText.{ReadsAsAig}
+use Rattle.aiger_carries.specs.CarriesAig.{CarriesAig}
+use Rattle.command_words.specs.Shapes.{CommandValues, aiger, compile}
+use Rattle.blifww_tool.specs.Aigs.{CompilesAig}
 use Rattle.blifww_tool.specs.Commands.{Prints}
 use Rattle.blifww_tool.specs.Compilation.{Compiles}
-use Rattle.blifww_tool.specs.Headline.{WritesInContexts, WritesWhatItRead}
+use Rattle.blifww_tool.specs.Headline.{WritesInContexts, WritesItsAig, WritesWhatItRead}
 use Rattle.blifww_tool.specs.Run.{Asks, Reading, Writing, GaveAll, HasText, Does}
 use Rattle.blifww_tool.proofs.Given.{gave_whole, gained_whole, one_command}
 use Rattle.blifww_tool.proofs.Compiled.{carries_alone}
@@ -29,3 +32,19 @@ module _ (words : List (List ℕ)) (src : Reading) (out : Writing) (d : Does wor
   in_contexts contexts starts asks text before has held =
       let p = prints contexts starts asks in
       (d.output, gained_whole out.written out.written_after d.output before d.wrote held, p.design, read contexts starts asks text has, p.carries, p.nets)
+
+  aig_prints : Asks words aiger → CompilesAig d.text d.output
+  aig_prints asks = subst (λ (v : CommandValues). Prints v d.text d.output) (one_command words d.command aiger d.asked.asks asks) d.prints
+
+  pub aigs : Asks words aiger → WritesItsAig src out
+  aigs asks text before has held =
+      let p = aig_prints asks in
+      let given : GaveAll src d.text = subst (λ (v : CommandValues). HasText v src d.text) (one_command words d.command aiger d.asked.asks asks) d.given in
+      let same : d.text ≡ text = gave_whole src.left src.left_after d.text text given.consumed given.end has in
+      (
+        d.output,
+        gained_whole out.written out.written_after d.output before d.wrote held,
+        p.aig,
+        subst (λ (t : List ℕ). ReadsAsAig t p.aig) same p.is.reads,
+        subst (λ (o : List ℕ). CarriesAig o p.aig) (sym p.written) p.is_plan.carries,
+      )

@@ -6,6 +6,8 @@ pub mod ProbeOrNot
 pub mod ViewOrNot
 pub mod EvaluationOrNot
 pub mod CompilationOrNot
+pub mod AigOrNot
+pub mod AigRead
 pub mod Evaluated
 pub mod Compiled
 pub mod Simulated

@@ -10,7 +10,7 @@ use Rattle.blifww_tool.specs.Probing.{HasNoProbe}
 use Rattle.refusals.specs.Refusals.{probe_error}
 use Rattle.blifww_tool.specs.Simulation.{Simulation, IsSimulation, HasNoStreams, HasStreamsCause}
 use Rattle.refusals.specs.declared.causes.Cause.{Cause}
-use Rattle.refusals.specs.declared.causes.Cause.TheVariants.{NetlistFault, WeightTooLarge, Loop, Pattern, GridTooLarge, PortTable, Streams, StartWord, NoSuchNet, TooFar, TooManyContexts, NotQuiet}
+use Rattle.refusals.specs.declared.causes.Cause.TheVariants.{NetlistFault, WeightTooLarge, Loop, AigAtFault, AigLoop, Pattern, GridTooLarge, PortTable, Streams, StartWord, NoSuchNet, TooFar, TooManyContexts, NotQuiet}
 use Rattle.refusals.specs.declared.causes.TextError.{TextError}
 use Rattle.refusals.specs.declared.causes.TextError.TheVariants.{Refused, NoMemory}
 
@@ -18,6 +18,8 @@ cause_of : (cycles : ℕ) (name path : List ℕ) (words : List (List ℕ)) (text
 cause_of cycles name path words text (NetlistFault f) h = h
 cause_of cycles name path words text (WeightTooLarge w) h = h
 cause_of cycles name path words text (Loop names) h = h
+cause_of cycles name path words text (AigAtFault fault) h = h
+cause_of cycles name path words text (AigLoop literals) h = h
 cause_of cycles name path words text (Pattern f) h = h
 cause_of cycles name path words text (GridTooLarge x y) h = h
 cause_of cycles name path words text (PortTable f) h = h

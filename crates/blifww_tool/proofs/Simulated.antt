@@ -14,7 +14,7 @@ use Rattle.blifww_tool.specs.Commands.{HasTextCause}
 use Rattle.refusals.specs.Refusals.{simulate_error}
 use Rattle.blifww_tool.specs.Simulation.{Simulation, IsSimulation, last_shown, HasNoStreams, HasNoSimulation, HasStreamsCause}
 use Rattle.refusals.specs.declared.causes.Cause.{Cause}
-use Rattle.refusals.specs.declared.causes.Cause.TheVariants.{NetlistFault, WeightTooLarge, Loop, Pattern, GridTooLarge, PortTable, Streams, StartWord, NoSuchNet, TooFar, TooManyContexts, NotQuiet}
+use Rattle.refusals.specs.declared.causes.Cause.TheVariants.{NetlistFault, WeightTooLarge, Loop, AigAtFault, AigLoop, Pattern, GridTooLarge, PortTable, Streams, StartWord, NoSuchNet, TooFar, TooManyContexts, NotQuiet}
 use Rattle.refusals.specs.declared.causes.TextError.{TextError}
 use Rattle.refusals.specs.declared.causes.TextError.TheVariants.{Refused, NoMemory}
 
@@ -26,6 +26,8 @@ cause_of : (cycles : ℕ) (words : List (List ℕ)) (text : List ℕ) (cause : C
 cause_of cycles words text (NetlistFault f) h = h
 cause_of cycles words text (WeightTooLarge w) h = h
 cause_of cycles words text (Loop names) h = h
+cause_of cycles words text (AigAtFault fault) h = h
+cause_of cycles words text (AigLoop literals) h = h
 cause_of cycles words text (Pattern f) h = h
 cause_of cycles words text (GridTooLarge x y) h = h
 cause_of cycles words text (PortTable f) h = h

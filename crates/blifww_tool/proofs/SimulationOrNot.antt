@@ -20,7 +20,7 @@ use Rattle.drive.specs.Driving.{greatest_generation}
 use Rattle.pattern_reading.specs.Ports.{names_of}
 use Rattle.blifww_tool.specs.Simulation.{Simulation, IsSimulation, Simulates, HasNoStreams, HasNoSimulation, MissesAt, miss_up_to, last_shown}
 use Rattle.refusals.specs.declared.causes.Cause.{Cause}
-use Rattle.refusals.specs.declared.causes.Cause.TheVariants.{NetlistFault, WeightTooLarge, Loop, Pattern, GridTooLarge, PortTable, Streams, StartWord, NoSuchNet, TooFar, TooManyContexts, NotQuiet}
+use Rattle.refusals.specs.declared.causes.Cause.TheVariants.{NetlistFault, WeightTooLarge, Loop, AigAtFault, AigLoop, Pattern, GridTooLarge, PortTable, Streams, StartWord, NoSuchNet, TooFar, TooManyContexts, NotQuiet}
 
 -- a pattern with ports, as a text has them
 pub record IsRead (text : List ℕ) (grid : Grid) (ports : Ports) : Type 0 where
@@ -38,6 +38,8 @@ reason_of : (cycles : ℕ) (words : List (List ℕ)) (text : List ℕ) (r : Caus
 reason_of cycles words text (NetlistFault fault) h = absurd h
 reason_of cycles words text (WeightTooLarge weight) h = absurd h
 reason_of cycles words text (Loop names) h = absurd h
+reason_of cycles words text (AigAtFault fault) h = absurd h
+reason_of cycles words text (AigLoop literals) h = absurd h
 reason_of cycles words text (Pattern fault) h = by_pattern fault refl h
 reason_of cycles words text (GridTooLarge width height) h = by_box width height refl h
 reason_of cycles words text (PortTable fault) h = by_table fault refl h.0 h.1 h.2
@@ -160,6 +162,8 @@ late_of : (cycles : ℕ) (words : List (List ℕ)) (text : List ℕ) (r : Cause)
 late_of cycles words text (NetlistFault fault) h = early h
 late_of cycles words text (WeightTooLarge weight) h = early h
 late_of cycles words text (Loop names) h = early h
+late_of cycles words text (AigAtFault fault) h = early h
+late_of cycles words text (AigLoop literals) h = early h
 late_of cycles words text (Pattern fault) h = early h
 late_of cycles words text (GridTooLarge width height) h = early h
 late_of cycles words text (PortTable fault) h = early h

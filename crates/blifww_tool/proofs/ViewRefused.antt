@@ -11,7 +11,7 @@ use Rattle.refusals.specs.Refusals.{window_error}
 use Rattle.blifww_tool.specs.Simulation.{Simulation, IsSimulation, HasNoStreams, HasStreamsCause}
 use Rattle.blifww_tool.specs.Viewing.{cycles_in, HasNoView}
 use Rattle.refusals.specs.declared.causes.Cause.{Cause}
-use Rattle.refusals.specs.declared.causes.Cause.TheVariants.{NetlistFault, WeightTooLarge, Loop, Pattern, GridTooLarge, PortTable, Streams, StartWord, NoSuchNet, TooFar, TooManyContexts, NotQuiet}
+use Rattle.refusals.specs.declared.causes.Cause.TheVariants.{NetlistFault, WeightTooLarge, Loop, AigAtFault, AigLoop, Pattern, GridTooLarge, PortTable, Streams, StartWord, NoSuchNet, TooFar, TooManyContexts, NotQuiet}
 use Rattle.refusals.specs.declared.causes.TextError.{TextError}
 use Rattle.refusals.specs.declared.causes.TextError.TheVariants.{Refused, NoMemory}
 
@@ -19,6 +19,8 @@ cause_of : (view : View) (words : List (List ℕ)) (text : List ℕ) (cause : Ca
 cause_of view words text (NetlistFault f) h = h
 cause_of view words text (WeightTooLarge w) h = h
 cause_of view words text (Loop names) h = h
+cause_of view words text (AigAtFault fault) h = h
+cause_of view words text (AigLoop literals) h = h
 cause_of view words text (Pattern f) h = h
 cause_of view words text (GridTooLarge x y) h = h
 cause_of view words text (PortTable f) h = h

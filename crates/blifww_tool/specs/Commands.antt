@@ -1,8 +1,9 @@
 -- For each command whether it reads a text, which texts it accepts, what it prints of them, and why it refuses the
 -- others.
 use Rattle.std.specs.Prelude.{◌≡◌, ◌≤◌, ℕ, Bool, true, false, List, ⊤}
-use Rattle.command_words.specs.Shapes.{CommandValues, compile, simulate, eval, probe, window, make, self_}
+use Rattle.command_words.specs.Shapes.{CommandValues, compile, simulate, eval, probe, window, make, self_, aiger}
 use Rattle.netlist_core.specs.declared.model.Design.{Design}
+use Rattle.aiger_text.specs.declared.aig.Aig.{Aig}
 use Rattle.netlist_meaning.specs.Weight.{weight}
 use Rattle.drive.specs.Driving.{greatest_generation}
 use Rattle.made_netlists.specs.Text.{made_text}
@@ -15,9 +16,10 @@ use Rattle.blifww_tool.specs.Simulation.{Simulation, Simulates, simulation_text,
 use Rattle.blifww_tool.specs.Probing.{Probes, PrintsProbe, HasNoProbe}
 use Rattle.blifww_tool.specs.Viewing.{HasView, ShowsPart, HasNoView}
 use Rattle.blifww_tool.specs.Evaluation.{Evaluation, IsEvaluation, Evaluates, HasNoEvaluation}
+use Rattle.blifww_tool.specs.Aigs.{IsAig, CompilesAig, HasNoAig}
 use Rattle.blifww_tool.specs.Summary.{TellsSummary}
 use Rattle.refusals.specs.declared.causes.Cause.{Cause}
-use Rattle.refusals.specs.declared.causes.Cause.TheVariants.{NetlistFault, Loop, TooFar, TooManyContexts}
+use Rattle.refusals.specs.declared.causes.Cause.TheVariants.{NetlistFault, Loop, AigLoop, TooFar, TooManyContexts}
 use Rattle.netlist_text.specs.Laws.{AreAlikeFaults}
 use Rattle.refusals.specs.declared.causes.TextError.{TextError}
 use Rattle.refusals.specs.declared.causes.TextError.TheVariants.{Refused, NoMemory}
@@ -31,6 +33,7 @@ reads_text (probe cycles net path words) = true
 reads_text (window view words) = true
 reads_text (make seed size) = false
 reads_text (self_ seed size cycles) = false
+reads_text aiger = true
 
 -- The command accepts the text.
 -- `compile`: the text is a netlist, in which the words say starts, for no more contexts than every plan has room for.
@@ -39,6 +42,7 @@ reads_text (self_ seed size cycles) = false
 -- `probe`: they are a simulation that has the net and shows its bits in time, and the injections meet conductors.
 -- `window`: they are a simulation whose injections meet conductors up to the generation that is shown.
 -- `make` always does; `self` where no plan of the made netlist can need more generations than are run.
+-- `aiger`: the text is a circuit.
 abbrev pub Accepts : CommandValues → List ℕ → Type 0
 Accepts (compile contexts starts) text = (design : Design) × HasStarts contexts starts text design × (contexts ≤ least_room design)
 Accepts (simulate cycles words) text = (s : Simulation) × Simulates cycles words text s
@@ -47,10 +51,11 @@ Accepts (probe cycles net path words) text = (bits : List (List Bool)) × Probes
 Accepts (window view words) text = (s : Simulation) × HasView view words text s
 Accepts (make seed size) text = ⊤
 Accepts (self_ seed size cycles) text = most_generations (weight (made_design seed size)) cycles ≤ greatest_generation
+Accepts aiger text = (aig : Aig) × IsAig text aig
 
 -- of such a text it prints this output: a pattern that carries the netlist in these contexts; a line for each output of
--- the pattern, or of the netlist; the lines of the net; those of a part of the plane; the made text; or what is told of
--- the made netlist
+-- the pattern, or of the netlist; the lines of the net; those of a part of the plane; the made text; what is told of the
+-- made netlist; or a pattern that carries the circuit
 abbrev pub Prints : CommandValues → (text output : List ℕ) → Type 0
 Prints (compile contexts starts) text output = Compiles contexts starts text output
 Prints (simulate cycles words) text output = (s : Simulation) × Simulates cycles words text s × (output ≡ simulation_text s)
@@ -59,6 +64,7 @@ Prints (probe cycles net path words) text output = PrintsProbe cycles net path w
 Prints (window view words) text output = ShowsPart view words text output
 Prints (make seed size) text output = output ≡ made_text seed size
 Prints (self_ seed size cycles) text output = TellsSummary seed size cycles output
+Prints aiger text output = CompilesAig text output
 
 -- the command refuses the text for this cause
 abbrev pub Refuses : CommandValues → List ℕ → Cause → Type 0
@@ -70,6 +76,7 @@ Refuses (window view words) text cause = HasNoView view words text cause
 Refuses (make seed size) text cause = ⊥
 Refuses (self_ seed size cycles) text (TooFar generations) = HasSummaryCause seed size cycles (summarizing.TooFar generations)
 Refuses (self_ seed size cycles) text cause = ⊥
+Refuses aiger text cause = HasNoAig text cause
 
 -- The command refuses the text for this cause whenever nothing fails and there is memory. Two causes are left out,
 -- since they depend on the plan, which is free: that `self` needs too many generations, and that `compile` has no room
@@ -84,6 +91,7 @@ MustRefuse command text cause = Refuses command text cause
 abbrev pub AreAlike : Cause → Cause → Type 0
 AreAlike (NetlistFault a) (NetlistFault b) = AreAlikeFaults a b
 AreAlike (Loop a) (Loop b) = ⊤
+AreAlike (AigLoop a) (AigLoop b) = ⊤
 AreAlike a b = a ≡ b
 
 -- why a text gives no output: the command refuses it, or there is not enough memory

@@ -1,4 +1,4 @@
--- The headline, and what it is a case of: one context, without words.
+-- The headline, what it is a case of (one context, without words), and the headline of circuits.
 use Rattle.std.specs.Prelude.{◌≡◌, ℕ, List, ◌++◌, Some}
 use Rattle.netlist_core.specs.declared.model.Design.{Design}
 use Rattle.blif_text.specs.Faults.{IsDesignOf}
@@ -6,6 +6,9 @@ use Rattle.carries.specs.Carries.{Carries}
 use Rattle.carries.specs.Nets.{CarriesNets}
 use Rattle.carries.specs.DesignContexts.{CarriesContexts, CarriesNetsInContexts}
 use Rattle.start_words.specs.Starts.{starts_of_words}
+use Rattle.aiger_text.specs.declared.aig.Aig.{Aig}
+use Rattle.aiger_text.specs.AigText.{ReadsAsAig}
+use Rattle.aiger_carries.specs.CarriesAig.{CarriesAig}
 use Rattle.blifww_tool.specs.Run.{Reading, Writing}
 
 -- Where the source tells the bytes that it had left, and the output the bytes that it held: the bytes that the output
@@ -24,3 +27,10 @@ WritesInContexts contexts starts src out =
     → (pattern : List ℕ) × (out.written_after ≡ Some (before ++ pattern))
     × (design : Design) × IsDesignOf text design
     × CarriesContexts pattern design (starts_of_words design starts contexts) × CarriesNetsInContexts pattern design (starts_of_words design starts contexts)
+
+-- the bytes that the output gained carry the circuit that the bytes read as that the source had left
+abbrev pub WritesItsAig : Reading → Writing → Type 0
+WritesItsAig src out =
+    (text before : List ℕ) → src.left ≡ Some text → out.written ≡ Some before
+    → (pattern : List ℕ) × (out.written_after ≡ Some (before ++ pattern))
+    × (aig : Aig) × ReadsAsAig text aig × CarriesAig pattern aig

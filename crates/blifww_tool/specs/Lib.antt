@@ -5,6 +5,7 @@ pub mod Probing
 pub mod Viewing
 pub mod Compilation
 pub mod Evaluation
+pub mod Aigs
 pub mod Summary
 pub mod Commands
 pub mod Run

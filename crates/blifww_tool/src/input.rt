@@ -21,7 +21,8 @@ fn reads_text(command: &Command) -> bool
         | Command::Simulate { .. }
         | Command::Eval { .. }
         | Command::Probe { .. }
-        | Command::Window { .. } => true,
+        | Command::Window { .. }
+        | Command::Aiger => true,
         Command::Make { .. } | Command::Self_ { .. } => false,
     }
 }

@@ -1,9 +1,10 @@
-//! The top call of the program: `compile` and `eval` for the text of a netlist, `simulate`, `probe` and `window` for
-//! the text of a pattern, and `make` and `self` for made netlists.
+//! The top call of the program: `compile` and `eval` for the text of a netlist, `aiger` for that of a circuit,
+//! `simulate`, `probe` and `window` for that of a pattern, and `make` and `self` for made netlists.
 //!
-//! Theorem: `run` (`headline`, `contexts`, `ends`), `carriers_print_alike`, `carriers_print_runs`.
+//! Theorem: `run` (`headline`, `contexts`, `aigs`, `ends`), `carriers_print_alike`, `carriers_print_runs`.
 #![tactic(auto)]
 
+mod aiger;
 mod compile;
 mod driven;
 mod eval;

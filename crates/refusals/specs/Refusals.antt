@@ -4,6 +4,12 @@ use Rattle.netlist_core.specs.Names.{Name}
 use Rattle.netlist_rules.specs.declared.fault.Fault.{Fault}
 use Rattle.netlist_rules.specs.FaultNames.{number_of, name_of}
 use Rattle.netlist_core.specs.Limit.{weight_limit}
+use Rattle.aiger_text.specs.declared.fault.AigFault.{AigFault}
+use Rattle.aiger_text.specs.FaultNames.{number_of as aig_number_of, name_of as aig_name_of}
+use Rattle.aiger_reader.specs.declared.error.AigReadError.{AigReadError}
+use Rattle.aiger_reader.specs.declared.error.AigReadError.TheVariants as aig_of
+use Rattle.circuit_plans.specs.declared.error.CircuitError.{CircuitError}
+use Rattle.circuit_plans.specs.declared.error.CircuitError.TheVariants as planning
 use Rattle.netlist_text.specs.declared.error.NetlistError.{NetlistError}
 use Rattle.netlist_text.specs.declared.error.NetlistError.TheVariants as netlist_of
 use Rattle.pattern_reading.specs.declared.faults.RleFaultKind.{RleFaultKind}
@@ -35,7 +41,7 @@ use Rattle.probe_view.specs.declared.error.WindowError.TheVariants as viewing
 use Rattle.made_summary.specs.declared.error.SummaryError.{SummaryError}
 use Rattle.made_summary.specs.declared.error.SummaryError.TheVariants as summarizing
 use Rattle.refusals.specs.declared.causes.Cause.{Cause}
-use Rattle.refusals.specs.declared.causes.Cause.TheVariants.{NetlistFault, WeightTooLarge, Loop, Pattern, GridTooLarge, PortTable, Streams, StartWord, NoSuchNet, TooFar, TooManyContexts, NotQuiet}
+use Rattle.refusals.specs.declared.causes.Cause.TheVariants.{NetlistFault, WeightTooLarge, Loop, AigAtFault, AigLoop, Pattern, GridTooLarge, PortTable, Streams, StartWord, NoSuchNet, TooFar, TooManyContexts, NotQuiet}
 use Rattle.refusals.specs.declared.causes.TextError.{TextError}
 use Rattle.refusals.specs.declared.causes.TextError.TheVariants as text
 use Rattle.refusals.specs.declared.refusal.Refusal.{Refusal}
@@ -46,6 +52,8 @@ abbrev pub status_of_cause : Cause → ℕ
 status_of_cause (NetlistFault fault) = 1
 status_of_cause (WeightTooLarge weight) = 4
 status_of_cause (Loop names) = 3
+status_of_cause (AigAtFault fault) = 1
+status_of_cause (AigLoop literals) = 3
 status_of_cause (Pattern fault) = 8
 status_of_cause (GridTooLarge width height) = 4
 status_of_cause (PortTable fault) = 8
@@ -124,11 +132,29 @@ spaced names = flat_map (λ name. codes " " ++ name) names
 abbrev pub loop_line : List Name → List ℕ
 loop_line names = codes "loop:" ++ (spaced names ++ codes "\n")
 
+-- a fault of a circuit's text by its number, its name and its line, as `A4 BadLiteral line 3`
+abbrev pub aig_fault_text : (number name line : List ℕ) → List ℕ
+aig_fault_text number name line =
+    codes "A" ++ (number ++ (codes " " ++ (name ++ (codes " line " ++ (line ++ codes "\n")))))
+
+abbrev pub aig_fault_line : AigFault → List ℕ
+aig_fault_line fault = aig_fault_text (decimal (aig_number_of fault.kind)) (aig_name_of fault.kind) (decimal fault.line)
+
+-- each number after a blank
+abbrev pub spaced_numbers : List ℕ → List ℕ
+spaced_numbers numbers = flat_map (λ number. codes " " ++ decimal number) numbers
+
+-- a loop of a circuit, by the literals of its left sides, as `loop: 6 8`
+abbrev pub aig_loop_line : List ℕ → List ℕ
+aig_loop_line literals = codes "loop:" ++ (spaced_numbers literals ++ codes "\n")
+
 -- the one line that tells such a cause
 abbrev pub cause_line : Cause → List ℕ
 cause_line (NetlistFault fault) = netlist_line fault
 cause_line (WeightTooLarge weight) = codes "too large: weight " ++ (decimal weight ++ (codes " limit " ++ (decimal weight_limit ++ codes "\n")))
 cause_line (Loop names) = loop_line names
+cause_line (AigAtFault fault) = aig_fault_line fault
+cause_line (AigLoop literals) = aig_loop_line literals
 cause_line (Pattern fault) = fault_line (rle_fault_name fault.kind) fault.line
 cause_line (GridTooLarge width height) = codes "too large: grid " ++ (decimal width ++ (codes " by " ++ (decimal height ++ codes "\n")))
 cause_line (PortTable fault) = fault_line (port_fault_name fault.kind) fault.line
@@ -143,7 +169,7 @@ cause_line (NotQuiet generation x y) =
 
 -- the one line that tells a refusal
 abbrev pub refusal_line : Refusal → List ℕ
-refusal_line Usage = codes "usage: blifww compile|simulate|eval|probe|window|make|self\n"
+refusal_line Usage = codes "usage: blifww compile|simulate|eval|probe|window|make|self|aiger\n"
 refusal_line TooLong = codes "too long: limit 16777216\n"
 refusal_line ReadFault = codes "read fault\n"
 refusal_line WriteFault = codes "write fault\n"
@@ -173,7 +199,18 @@ netlist_error (netlist_of.TooLarge weight) = text.Refused (WeightTooLarge weight
 netlist_error (netlist_of.Loop names) = text.Refused (Loop names)
 netlist_error netlist_of.NoMemory = text.NoMemory
 
--- no pattern's,
+-- no circuit's,
+abbrev pub aig_error : AigReadError → TextError
+aig_error (aig_of.Fault fault) = text.Refused (AigAtFault fault)
+aig_error aig_of.NoMemory = text.NoMemory
+
+-- its circuit has no plan,
+abbrev pub circuit_error : CircuitError → TextError
+circuit_error (planning.TooLarge weight) = text.Refused (WeightTooLarge weight)
+circuit_error (planning.Loop literals) = text.Refused (AigLoop literals)
+circuit_error planning.NoMemory = text.NoMemory
+
+-- it is no pattern's,
 abbrev pub pattern_error : RleReadError → TextError
 pattern_error (pattern_of.Fault fault) = text.Refused (Pattern fault)
 pattern_error (pattern_of.TooLarge width height) = text.Refused (GridTooLarge width height)

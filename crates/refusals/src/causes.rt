@@ -1,7 +1,10 @@
 // Why a text gives no output.
 ghost use Rattle.std.specs.Prelude.{◌≡◌};
 
+use aiger_reader::AigReadError;
+use aiger_text::AigFault;
 use blif_text::Fault;
+use circuit_plans::CircuitError;
 use drive::{SimulateError, StreamError, StreamFault};
 use lists::List;
 use made_netlists::MakeError;
@@ -21,10 +24,14 @@ use std::alloc::AllocError;
 pub enum Cause {
     /// The netlist's text breaks a rule.
     NetlistFault(Fault),
-    /// The netlist weighs more than the limit.
+    /// The netlist, or the circuit, weighs more than the limit.
     WeightTooLarge { weight: u64 },
     /// Covers read each other in a circle, whose nets have these names.
     Loop(List<Name>),
+    /// The circuit's text breaks a rule.
+    AigAtFault(AigFault),
+    /// AND gates read each other in a circle, whose left sides are these literals.
+    AigLoop(List<u64>),
     /// The text is no pattern's.
     Pattern(RleFault),
     /// The pattern's box has more cells than are read.
@@ -53,8 +60,8 @@ impl Cause {
         ensures { result ≡ status_of_cause self.now }
     {
         match self {
-            Cause::NetlistFault(_) => 1,
-            Cause::Loop(_) => 3,
+            Cause::NetlistFault(_) | Cause::AigAtFault(_) => 1,
+            Cause::Loop(_) | Cause::AigLoop(_) => 3,
             Cause::WeightTooLarge { .. }
             | Cause::GridTooLarge { .. }
             | Cause::TooFar { .. }
@@ -86,6 +93,35 @@ impl From<NetlistError> for TextError {
             }
             NetlistError::Loop(names) => TextError::Refused(Cause::Loop(names)),
             NetlistError::NoMemory => TextError::NoMemory,
+        }
+    }
+}
+
+impl From<AigReadError> for TextError {
+    ghost use Rattle.refusals.specs.Refusals.{aig_error};
+
+    ghost from_gives = { λ e r. r ≡ aig_error e };
+
+    fn from(error: AigReadError) -> Self {
+        match error {
+            AigReadError::Fault(fault) => TextError::Refused(Cause::AigAtFault(fault)),
+            AigReadError::NoMemory => TextError::NoMemory,
+        }
+    }
+}
+
+impl From<CircuitError> for TextError {
+    ghost use Rattle.refusals.specs.Refusals.{circuit_error};
+
+    ghost from_gives = { λ e r. r ≡ circuit_error e };
+
+    fn from(error: CircuitError) -> Self {
+        match error {
+            CircuitError::TooLarge { weight } => {
+                TextError::Refused(Cause::WeightTooLarge { weight })
+            }
+            CircuitError::Loop(literals) => TextError::Refused(Cause::AigLoop(literals)),
+            CircuitError::NoMemory => TextError::NoMemory,
         }
     }
 }

@@ -5,10 +5,11 @@ ghost use Rattle.std.specs.Io.KnownBytes.{Appends};
 ghost use Rattle.ww_base.specs.Faults.{HasCause};
 ghost use Rattle.ww_base.specs.Pages.{held};
 ghost use Rattle.ww_base.specs.Progress.{Wrote, Broke};
-ghost use Rattle.refusals.specs.Refusals.{rle_fault_name, port_fault_name, start_fault_name, stream_fault_name, fault_line, stream_line, fault_text, netlist_line, spaced, loop_line, cause_line, refusal_line};
+ghost use Rattle.refusals.specs.Refusals.{rle_fault_name, port_fault_name, start_fault_name, stream_fault_name, fault_line, stream_line, fault_text, netlist_line, spaced, loop_line, aig_fault_text, aig_fault_line, spaced_numbers, aig_loop_line, cause_line, refusal_line};
 
 use crate::causes::Cause;
 use crate::refusal::Refusal;
+use aiger_text::AigFault;
 use blif_text::Fault;
 use drive::StreamFaultKind;
 use itoa::Buffer;
@@ -212,6 +213,38 @@ fn tell_netlist_fault<E: Sink>(err: &mut E, fault: &Fault) -> Result<(), Failed>
     write_fault(err, number, name, line, fault.word.as_slice())
 }
 
+// Writes a fault of a circuit's text, by its parts.
+fn write_aig_fault<'a, E: Sink>(
+    err: &mut E,
+    number: &'a [u8],
+    name: &'a [u8],
+    line: &'a [u8],
+) -> Result<(), Failed>
+    ensures ok { OnOk result
+        (Appends (E.written err.old) (E.written err.new) (aig_fault_text number.now name.now line.now)) }
+    ensures front { OnErr result
+        ((n : ℕ) × Appends (E.written err.old) (E.written err.new)
+        (take n (aig_fault_text number.now name.now line.now))) }
+    ensures cause { HasCause (E.faults err.old) (E.faults err.new) result }
+{
+    write_pieces(err, &[b"A", number, b" ", name, b" line ", line, b"\n"])
+}
+
+// Tells a fault of a circuit's text.
+fn tell_aig_fault<E: Sink>(err: &mut E, fault: AigFault) -> Result<(), Failed>
+    ensures ok { OnOk result (Appends (E.written err.old) (E.written err.new) (aig_fault_line fault)) }
+    ensures front { OnErr result
+        ((n : ℕ) × Appends (E.written err.old) (E.written err.new) (take n (aig_fault_line fault))) }
+    ensures cause { HasCause (E.faults err.old) (E.faults err.new) result }
+{
+    let mut digits = Buffer::new();
+    let mut lines = Buffer::new();
+    let number = digits.format(fault.kind.number()).as_bytes();
+    let line = lines.format(fault.line).as_bytes();
+    let name = fault.kind.name().as_bytes();
+    write_aig_fault(err, number, name, line)
+}
+
 // Tells that a netlist weighs too much.
 fn tell_weight<E: Sink>(err: &mut E, weight: u64) -> Result<(), Failed>
     ensures ok { OnOk result
@@ -261,6 +294,37 @@ fn tell_loop<E: Sink>(err: &mut E, names: &[Bytes]) -> Result<(), Failed>
     page.flush(err)
 }
 
+// Puts each number on a page, in decimal, after a blank.
+fn put_numbers<E: Sink>(err: &mut E, page: &mut Page, numbers: &[u64]) -> Result<(), Failed>
+    ensures ok { OnOk result ((rest : List ℕ) →
+        Wrote (E.written err.old) (E.written err.new) (E.faults err.old) (E.faults err.new)
+        (held page.old ++ (spaced_numbers numbers.now ++ rest)) (held page.new ++ rest)) }
+    ensures err { OnErr result ((rest : List ℕ) →
+        Broke (E.written err.old) (E.written err.new) (E.faults err.old) (E.faults err.new)
+        (held page.old ++ (spaced_numbers numbers.now ++ rest))) }
+{
+    for number in numbers {
+        let mut digits = Buffer::new();
+        page.put(err, b" ")?;
+        page.put(err, digits.format(*number).as_bytes())?;
+    }
+    Ok(())
+}
+
+// Tells a loop of a circuit by the literals of its left sides.
+fn tell_aig_loop<E: Sink>(err: &mut E, literals: &[u64]) -> Result<(), Failed>
+    ensures ok { OnOk result (Appends (E.written err.old) (E.written err.new) (aig_loop_line literals.now)) }
+    ensures front { OnErr result
+        ((n : ℕ) × Appends (E.written err.old) (E.written err.new) (take n (aig_loop_line literals.now))) }
+    ensures cause { HasCause (E.faults err.old) (E.faults err.new) result }
+{
+    let mut page = Page::new();
+    page.put(err, b"loop:")?;
+    put_numbers(err, &mut page, literals)?;
+    page.put(err, b"\n")?;
+    page.flush(err)
+}
+
 impl Cause {
     // Writes the one line that tells the cause, or a front of it where a write fails.
     fn tell<E: Sink>(&self, err: &mut E) -> Result<(), Failed>
@@ -273,6 +337,8 @@ impl Cause {
             Cause::NetlistFault(fault) => tell_netlist_fault(err, fault),
             Cause::WeightTooLarge { weight } => tell_weight(err, *weight),
             Cause::Loop(names) => tell_loop(err, names.as_slice()),
+            Cause::AigAtFault(fault) => tell_aig_fault(err, *fault),
+            Cause::AigLoop(literals) => tell_aig_loop(err, literals.as_slice()),
             Cause::Pattern(fault) => tell_fault(err, rle_fault_name(fault.kind), fault.line),
             Cause::GridTooLarge { width, height } => tell_grid(err, *width, *height),
             Cause::PortTable(fault) => tell_fault(err, port_fault_name(fault.kind), fault.line),
@@ -301,7 +367,7 @@ impl Refusal {
         match self {
             Refusal::Usage => write_all(
                 err,
-                b"usage: blifww compile|simulate|eval|probe|window|make|self\n",
+                b"usage: blifww compile|simulate|eval|probe|window|make|self|aiger\n",
             ),
             Refusal::TooLong => write_all(err, b"too long: limit 16777216\n"),
             Refusal::ReadFault => write_all(err, b"read fault\n"),
