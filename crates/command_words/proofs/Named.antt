@@ -9,7 +9,7 @@ use Rattle.clap.specs.Takes.{built_takes, entered_passes, level_passes, settle_p
 use Rattle.clap.specs.Walk.{Row, Rule, Text, answers_to, first_of, nothing_held, rows_after, stop_after, walk, walk_from}
 use Rattle.command_words.specs.App.{blifww_app}
 use Rattle.command_words.specs.Numbers.{NumberRange, number_taken, cycles_range, generation_range, x_range, y_range, width_range, height_range, seed_range, size_range, contexts_range}
-use Rattle.command_words.specs.Shapes.{CommandValues, IsCommand, MeetsContexts, MeetsRanges, command_values, compile, compile_by, contexts_by, number_met, streams_met, simulate, eval, simulate_or_eval_by, probe_by, window_by, make_by, self_by, values_met}
+use Rattle.command_words.specs.Shapes.{CommandValues, IsCommand, MeetsContexts, MeetsRanges, command_values, compile, compile_by, contexts_by, number_met, streams_met, simulate, eval, vcd, driven_command_by, probe_by, window_by, make_by, self_by, values_met}
 use Rattle.command_words.proofs.Entered.{names}
 use Rattle.command_words.proofs.Given.{AreGiven, IsOwn, required_given}
 use Rattle.command_words.proofs.Rules.{app_built, built_app, leaf, option_rule, words_rule, compile_rules, driven_rules, probe_rules, window_rules, make_rules, self_rules, aiger_rules, shapes, top}
@@ -120,7 +120,7 @@ module _ (rows : List Row) (name : Text) (within : MeetsRanges (Some (name, rows
       mapped (λ contexts. compile contexts (streams_met rows)) _
       (contexts_given (first_of (codes "contexts") rows) (streams_met rows) within.1.1.1.1.1.1.1.1.0 beside)
 
-  driven_valued : (command : ℕ → List Text → CommandValues) → AreGiven rows driven_rules → is_some (simulate_or_eval_by command rows) ≡ true
+  driven_valued : (command : ℕ → List Text → CommandValues) → AreGiven rows driven_rules → is_some (driven_command_by command rows) ≡ true
   driven_valued command g = mapped _ (number_met cycles_range rows) (number_of cycles_range (g.0 refl refl) within.0)
 
   probe_valued : AreGiven rows probe_rules → is_some (probe_by rows) ≡ true
@@ -165,7 +165,8 @@ met_valued met (inr (inr (inr (inr (inl is))))) within b = met_by (codes "window
 met_valued met (inr (inr (inr (inr (inr (inl is)))))) within b = met_by (codes "make") make_rules met make_own is within b (λ rows w beside g. make_valued rows (codes "make") w g)
 met_valued met (inr (inr (inr (inr (inr (inr (inl is))))))) within b = met_by (codes "self") self_rules met self_own is within b (λ rows w beside g. self_valued rows (codes "self") w g)
 met_valued met (inr (inr (inr (inr (inr (inr (inr (inl is)))))))) within b = met_by (codes "aiger") aiger_rules met tt is within b (λ rows w beside g. refl)
-met_valued met (inr (inr (inr (inr (inr (inr (inr (inr none)))))))) within b = absurd none
+met_valued met (inr (inr (inr (inr (inr (inr (inr (inr (inl is))))))))) within b = met_by (codes "vcd") driven_rules met driven_own is within b (λ rows w beside g. driven_valued rows (codes "vcd") w vcd g)
+met_valued met (inr (inr (inr (inr (inr (inr (inr (inr (inr none))))))))) within b = absurd none
 
 has_values : (words : List Text) → IsCommand words → is_some (command_values words) ≡ true
 has_values words i = met_valued (subcommand_of blifww_app words) (taken_met words i.taken) i.in_range i.beside

@@ -14,7 +14,7 @@ use Rattle.clap.specs.declared.parser.matches.ValueSource.TheVariants.{CommandLi
 use Rattle.clap.specs.declared.builder.value_parser.Reading.TheVariants.{AsWritten}
 use Rattle.command_words.specs.App.{blifww_app}
 use Rattle.command_words.specs.Numbers.{NumberRange, are_digits, number_taken, cycles_range, generation_range, x_range, y_range, width_range, height_range, seed_range, size_range, contexts_range}
-use Rattle.command_words.specs.Shapes.{CommandValues, compile, simulate, eval, probe, window, make, self_, aiger, simulate_or_eval_by, values_met, command_values, is_plain_word, option_words, streams_met, IsCommand, IsSimulateOrEval, IsPlain, IsWritten, GivesContexts, GivesPath, MeetsContexts, MeetsRanges, Writes}
+use Rattle.command_words.specs.Shapes.{CommandValues, compile, simulate, eval, probe, window, make, self_, aiger, vcd, driven_command_by, values_met, command_values, is_plain_word, option_words, streams_met, IsCommand, IsDrivenCommand, IsPlain, IsWritten, GivesContexts, GivesPath, MeetsContexts, MeetsRanges, Writes}
 use Rattle.command_words.specs.declared.command.View.{View}
 use Rattle.command_words.proofs.Entered.{IsNamed, entered_own, takes_own}
 use Rattle.command_words.proofs.Rules.{leaf, words_rule, compile_rules, driven_rules, probe_rules, window_rules, make_rules, self_rules, aiger_rules}
@@ -355,6 +355,25 @@ aiger_read = record {
   rows = refl;
 }
 
+vcd_read : (n : Text) (streams : List Text) → HasNoHyphen n → IsRead (codes "vcd") driven_rules ((codes "cycles", n) ∷ []) streams
+vcd_read n streams en = record {
+  named = record { named = refl; shape = refl };
+  given = ((driven_cycles, en), tt);
+  have = have_words driven_rules streams refl;
+  take = take_words driven_rules streams refl;
+  passes = refl;
+  valid = valid streams;
+  rows = rows streams;
+}
+  where
+    valid : (vs : List Text) → after_passes (codes "vcd") driven_rules (plain_walk driven_rules [] None ((codes "cycles", n) ∷ []) vs) ≡ true
+    valid [] = refl
+    valid (v ∷ vs) = refl
+
+    rows : (vs : List Text) → finished driven_rules (plain_walk driven_rules [] None ((codes "cycles", n) ∷ []) vs).held ≡ rows_for ((codes "cycles", n) ∷ []) vs
+    rows [] = refl
+    rows (v ∷ vs) = refl
+
 -- ---- their numbers
 
 is_written : (o : Option ℕ) (n : ℕ) → o ≡ Some n → is_some o ≡ true
@@ -401,7 +420,7 @@ five : (a b c d e : Option ℕ) (v : View) → a ≡ Some v.generation → b ≡
 five a b c d e v ea eb ec ed ee = rw (ea, eb, ec, ed, ee) refl
 
 driven_valued : (command : ℕ → List Text → CommandValues) (n : Text) (cycles : ℕ) (streams : List Text) → HasNoHyphen n → Writes cycles_range n cycles
-    → simulate_or_eval_by command (rows_for ((codes "cycles", n) ∷ []) streams) ≡ Some (command cycles streams)
+    → driven_command_by command (rows_for ((codes "cycles", n) ∷ []) streams) ≡ Some (command cycles streams)
 driven_valued command n cycles streams plain e =
     ap₂ (λ (o : Option ℕ) (ws : List Text). option_map (λ c. command c ws) o) e
     (words_met driven_rules ((codes "cycles", n) ∷ []) streams ((driven_cycles, plain), tt))
@@ -454,8 +473,8 @@ compile_well contexts starts words (p ∷ q ∷ options) w is = absurd is
 
 driven_well : (command : Text) (by_cycles : ℕ → List Text → CommandValues) (cycles : ℕ) (streams words : List Text)
     → ((n : Text) → HasNoHyphen n → IsRead command driven_rules ((codes "cycles", n) ∷ []) streams)
-    → ((rows : List Row) → values_met (Some (command, rows)) ≡ simulate_or_eval_by by_cycles rows) → bytes_eq command (codes "compile") ≡ false
-    → IsSimulateOrEval command cycles streams words → IsWell (by_cycles cycles streams) words
+    → ((rows : List Row) → values_met (Some (command, rows)) ≡ driven_command_by by_cycles rows) → bytes_eq command (codes "compile") ≡ false
+    → IsDrivenCommand command cycles streams words → IsWell (by_cycles cycles streams) words
 driven_well command by_cycles cycles streams words reads by other w =
     let n = w.0 in
     let plain = number_plain cycles_range n cycles w.2 in
@@ -554,3 +573,4 @@ well aiger words p = record {
       (not_compile (codes "aiger") [] refl);
   values = plain_values (codes "aiger") aiger_rules [] [] words p aiger_read aiger refl;
 }
+well (vcd cycles streams) words w = driven_well (codes "vcd") vcd cycles streams words (λ n plain. vcd_read n streams plain) (λ rows. refl) refl w

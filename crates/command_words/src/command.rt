@@ -6,7 +6,7 @@ ghost use Rattle.clap.specs.Walk.{first_of, rows_of};
 ghost use Rattle.clap.specs.Words.{found_of};
 ghost use Rattle.command_words.specs.Driven.{Reads, values_by};
 ghost use Rattle.command_words.specs.Numbers.{TakesNumber, contexts_range, cycles_range, seed_range, size_range};
-ghost use Rattle.command_words.specs.Shapes.{CommandValues, HasNumbersInRange, HasViewInRange, IsCommand, IsTaken, IsWritten, command_values, compile_by, contexts_met, simulate_or_eval_by, make_by, number_met, probe_by, self_by, streams_met, values_met, values_of, view_met, window_by};
+ghost use Rattle.command_words.specs.Shapes.{CommandValues, HasNumbersInRange, HasViewInRange, IsCommand, IsTaken, IsWritten, command_values, compile_by, contexts_met, driven_command_by, make_by, number_met, probe_by, self_by, streams_met, values_met, values_of, view_met, window_by};
 
 use crate::WordsError;
 use crate::numbers::number_between;
@@ -64,6 +64,10 @@ pub enum Command {
         cycles: usize,
     },
     Aiger,
+    Vcd {
+        cycles: usize,
+        streams: List<String>,
+    },
 }
 
 // A command that is driven by streams.
@@ -71,6 +75,7 @@ pub enum Command {
 enum Driven {
     Simulate,
     Eval,
+    Vcd,
 }
 
 impl Driven {
@@ -81,6 +86,7 @@ impl Driven {
         match self {
             Driven::Simulate => Command::Simulate { cycles, streams },
             Driven::Eval => Command::Eval { cycles, streams },
+            Driven::Vcd => Command::Vcd { cycles, streams },
         }
     }
 }
@@ -186,7 +192,7 @@ fn compile_in(alloc: Global, found: &ArgMatches<'_>) -> Result<Command, WordsErr
 }
 
 fn driven_in(alloc: Global, driven: Driven, found: &ArgMatches<'_>) -> Result<Command, WordsError>
-    ensures { Reads (simulate_or_eval_by (values_by driven) (rows_of (found_of found.now))) result }
+    ensures { Reads (driven_command_by (values_by driven) (rows_of (found_of found.now))) result }
 {
     let cycles = cycles_in(found).ok_or(WordsError::Usage)?;
     let streams = streams_in(alloc, found)?;
@@ -248,6 +254,7 @@ fn command_in(alloc: Global, found: &ArgMatches<'_>) -> Result<Command, WordsErr
         Some(("make", inner)) => make_in(inner),
         Some(("self", inner)) => self_in(inner),
         Some(("aiger", _)) => Ok(Command::Aiger),
+        Some(("vcd", inner)) => driven_in(alloc, Driven::Vcd, inner),
         _ => Err(WordsError::Usage),
     }
 }
@@ -262,10 +269,10 @@ fn length_fits(words: &[String])
 /// The command that the words of a command line ask for. The first word is the program's name, and after it stands one
 /// of `compile [--contexts C word..]`, `simulate --cycles N word..`, `eval --cycles N word..`, `probe --cycles N --net
 /// NAME [--path PATH] word..`, `window --gen G --x X --y Y --width W --height H word..`, `make --seed S --size K`,
-/// `self --seed S --size K --cycles N`, `aiger`. Numbers are in decimal digits, with or without leading zeros: C from 1
-/// to 4,294,967,295, N from 1 to 1,048,576, G to 4,294,967,296, X and Y to 4,294,967,295, W and H from 1 to 4,096, S to
-/// 2,147,483,647, K from 1 to 128. `Usage` comes only where the words are no command, and each other answer but
-/// `NoMemory` only where they have its values.
+/// `self --seed S --size K --cycles N`, `aiger`, `vcd --cycles N word..`. Numbers are in decimal digits, with or without
+/// leading zeros: C from 1 to 4,294,967,295, N from 1 to 1,048,576, G to 4,294,967,296, X and Y to 4,294,967,295, W and
+/// H from 1 to 4,096, S to 2,147,483,647, K from 1 to 128. `Usage` comes only where the words are no command, and each
+/// other answer but `NoMemory` only where they have its values.
 pub fn command_of(alloc: Global, words: &[String]) -> Result<Command, WordsError>
     ensures ok { IfOk result (λ c. command_values (map string_bytes words.now) ≡ Some (values_of c)) }
     ensures taken { OnOk result (IsTaken (map string_bytes words.now)) }

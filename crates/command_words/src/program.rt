@@ -61,5 +61,6 @@ pub fn blifww_command<'a>(alloc: Global) -> Result<Command<'a>, AllocError>
     ensures { IfOk result (λ c. app_of c ≡ blifww_app) }
 {
     let older = older_commands(alloc)?;
-    with_command(older, with_options(alloc, "aiger", &[]))
+    let last = with_command(older, with_options(alloc, "aiger", &[]))?;
+    with_command(last, driven_command(alloc, "vcd"))
 }
