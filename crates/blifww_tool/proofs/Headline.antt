@@ -1,13 +1,15 @@
--- What `compile` and `aiger` have written carries what they read.
+-- What `compile` and `aiger` have written carries what they read, and what `vcd` has written is a dump of it.
 use Rattle.std.proofs.Common.{◌≡◌, ℕ, Some, subst, sym, List, []}
 use Rattle.blif_text.specs.Faults.{IsDesignOf}
 use Rattle.aiger_text.specs.AigText.{ReadsAsAig}
 use Rattle.aiger_carries.specs.CarriesAig.{CarriesAig}
-use Rattle.command_words.specs.Shapes.{CommandValues, aiger, compile}
+use Rattle.command_words.specs.Shapes.{CommandValues, aiger, compile, vcd}
 use Rattle.blifww_tool.specs.Aigs.{CompilesAig}
 use Rattle.blifww_tool.specs.Commands.{Prints}
 use Rattle.blifww_tool.specs.Compilation.{Compiles}
-use Rattle.blifww_tool.specs.Headline.{WritesInContexts, WritesItsAig, WritesWhatItRead}
+use Rattle.blifww_tool.specs.Simulation.{IsSimulation}
+use Rattle.blifww_tool.specs.Dumping.{Dumps}
+use Rattle.blifww_tool.specs.Headline.{WritesDump, WritesInContexts, WritesItsAig, WritesWhatItRead}
 use Rattle.blifww_tool.specs.Run.{Asks, Reading, Writing, GaveAll, HasText, Does}
 use Rattle.blifww_tool.proofs.Given.{gave_whole, gained_whole, one_command}
 use Rattle.blifww_tool.proofs.Compiled.{carries_alone}
@@ -47,4 +49,21 @@ module _ (words : List (List ℕ)) (src : Reading) (out : Writing) (d : Does wor
         p.aig,
         subst (λ (t : List ℕ). ReadsAsAig t p.aig) same p.is.reads,
         subst (λ (o : List ℕ). CarriesAig o p.aig) (sym p.written) p.is_plan.carries,
+      )
+
+  dump_prints : (cycles : ℕ) (given : List (List ℕ)) → Asks words (vcd cycles given) → Dumps cycles given d.text d.output
+  dump_prints cycles given asks = subst (λ (v : CommandValues). Prints v d.text d.output) (one_command words d.command (vcd cycles given) d.asked.asks asks) d.prints
+
+  pub dumps : (cycles : ℕ) (given : List (List ℕ)) → Asks words (vcd cycles given) → WritesDump cycles given src out
+  dumps cycles given asks text before has held =
+      let p = dump_prints cycles given asks in
+      let all : GaveAll src d.text = subst (λ (v : CommandValues). HasText v src d.text) (one_command words d.command (vcd cycles given) d.asked.asks asks) d.given in
+      let same : d.text ≡ text = gave_whole src.left src.left_after d.text text all.consumed all.end has in
+      (
+        d.output,
+        gained_whole out.written out.written_after d.output before d.wrote held,
+        p.simulation,
+        subst (λ (t : List ℕ). IsSimulation cycles given t p.simulation) same p.runs.is,
+        p.written,
+        p.says,
       )

@@ -11,6 +11,7 @@ pub mod AigRead
 pub mod Evaluated
 pub mod Compiled
 pub mod Simulated
+pub mod Dumped
 pub mod Probed
 pub mod Viewed
 pub mod ViewRefused

@@ -3,6 +3,7 @@ pub mod Simulation
 pub mod Driven
 pub mod Probing
 pub mod Viewing
+pub mod Dumping
 pub mod Compilation
 pub mod Evaluation
 pub mod Aigs

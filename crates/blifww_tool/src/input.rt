@@ -22,7 +22,8 @@ fn reads_text(command: &Command) -> bool
         | Command::Eval { .. }
         | Command::Probe { .. }
         | Command::Window { .. }
-        | Command::Aiger => true,
+        | Command::Aiger
+        | Command::Vcd { .. } => true,
         Command::Make { .. } | Command::Self_ { .. } => false,
     }
 }

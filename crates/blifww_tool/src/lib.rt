@@ -1,7 +1,7 @@
 //! The top call of the program: `compile` and `eval` for the text of a netlist, `aiger` for that of a circuit,
-//! `simulate`, `probe` and `window` for that of a pattern, and `make` and `self` for made netlists.
+//! `simulate`, `probe`, `window` and `vcd` for that of a pattern, and `make` and `self` for made netlists.
 //!
-//! Theorem: `run` (`headline`, `contexts`, `aigs`, `ends`), `carriers_print_alike`, `carriers_print_runs`.
+//! Theorem: `run` (`headline`, `contexts`, `aigs`, `dumps`, `ends`), `carriers_print_alike`, `carriers_print_runs`.
 #![tactic(auto)]
 
 mod aiger;
@@ -17,6 +17,7 @@ mod probe;
 mod simulate;
 mod summary;
 mod top;
+mod vcd;
 mod window;
 
 pub use top::run;

@@ -1,7 +1,7 @@
 // The top call.
 ghost use Rattle.std.specs.Prelude.{◌≡◌, ℕ, List, [], map, string_bytes, IfOk, IfErr, OnOk, IsErrOf};
-ghost use Rattle.command_words.specs.Shapes.{aiger, compile, values_of, HasNumbersInRange};
-ghost use Rattle.blifww_tool.specs.Headline.{WritesInContexts, WritesItsAig, WritesWhatItRead};
+ghost use Rattle.command_words.specs.Shapes.{aiger, compile, values_of, vcd, HasNumbersInRange};
+ghost use Rattle.blifww_tool.specs.Headline.{WritesDump, WritesInContexts, WritesItsAig, WritesWhatItRead};
 ghost use Rattle.blifww_tool.specs.Commands.{Prints, HasTextCause};
 ghost use Rattle.blifww_tool.specs.Answer.{output_text, IsWritableOutput, HasStopped};
 ghost use Rattle.blifww_tool.specs.Run.{Asks, AsksForNoText, reading, writing, call, Gave, Does, Ends};
@@ -15,6 +15,7 @@ use crate::output::Output;
 use crate::probe::probe;
 use crate::simulate::simulate;
 use crate::summary::summary;
+use crate::vcd::vcd;
 use crate::window::window;
 use command_words::{Command, command_of};
 use refusals::{Refusal, TextError};
@@ -51,6 +52,7 @@ fn answer(alloc: Global, command: &Command, text: &[u8]) -> Result<Output, TextE
         Command::Make { seed, size } => make(alloc, *seed, *size),
         Command::Self_ { seed, size, cycles } => summary(alloc, *seed, *size, *cycles),
         Command::Aiger => aiger(alloc, text),
+        Command::Vcd { cycles, streams } => vcd(alloc, *cycles, streams.as_slice(), text),
     }
 }
 
@@ -91,7 +93,8 @@ fn work<S: Source, O: Sink>(
 /// generation. `make --seed S --size K` and `self --seed S --size K --cycles N` read nothing: the first writes the text
 /// of a netlist that is made from the seed, and the second what is told of it, compiled, simulated and evaluated.
 /// `aiger` reads a circuit in the AIGER format's ASCII form and writes a pattern that carries it, as `compile` does of a
-/// netlist, but without lines for nets.
+/// netlist, but without lines for nets. `vcd --cycles N name=bits..` reads a pattern and writes the bits that all nets of
+/// its port table show as a VCD text: a variable for each net in each context, with all nets of context 0 first.
 ///
 /// 0: all of it is on `out`. 1: the netlist's text, or the circuit's, breaks a rule. 2: the words are no command. 3:
 /// covers, or the circuit's gates, read each other in a circle. 4: the text has more than 16,777,216 bytes, the netlist weighs more than 8,192, the pattern's box
@@ -123,6 +126,12 @@ pub fn run<S: Source, O: Sink, E: Sink>(
     // The bytes that `aiger` has written carry the circuit of the text that `src` had left.
     ensures aigs { result ≡ 0 → Asks (map string_bytes words.now) aiger
         → WritesItsAig (reading S.left S.faults src.old src.new) (writing O.written O.faults out.old out.new) }
+
+    // The bytes that `vcd` has written are a VCD text of what the nets of the pattern show that `src` had left, driven by
+    // the streams of the words, and read as that alone.
+    ensures dumps { result ≡ 0 → (cycles : ℕ) (streams : List (List ℕ)) → Asks (map string_bytes words.now) (vcd cycles streams)
+        → WritesDump cycles streams (reading S.left S.faults src.old src.new)
+        (writing O.written O.faults out.old out.new) }
 
     // How the run ends, for every command: done, refused or cut off, each status only where its cause is; and a cause
     // in the words or the text is told wherever it is, but for failed reads and writes and want of memory.
