@@ -1,6 +1,6 @@
 -- A command never both accepts and refuses a text, and refuses it for one cause, or for causes that are alike.
 use Rattle.std.proofs.Common.{ℕ, ◌≡◌, refl, subst, List}
-use Rattle.command_words.specs.Shapes.{CommandValues, compile, simulate, eval, probe, window, make, self_, aiger, vcd}
+use Rattle.command_words.specs.Shapes.{CommandValues, compile, simulate, eval, probe, window, make, self_, tape, aiger, vcd}
 use Rattle.blifww_tool.specs.Commands.{Accepts, Prints, Refuses, MustRefuse, AreAlike}
 use Rattle.blifww_tool.specs.Dumping.{last_dumped}
 use Rattle.blifww_tool.specs.Simulation.{last_shown}
@@ -39,6 +39,7 @@ accepted_or_refused (probe cycles net path words) text cause h k = probes_or_not
 accepted_or_refused (window view words) text cause h k = view_or_not view words text h.0 cause h.1 k
 accepted_or_refused (make seed size) text cause h k = k
 accepted_or_refused (self_ seed size cycles) text cause h k = in_time_or_not seed size cycles text cause h k
+accepted_or_refused (tape cycles words) text cause h k = evaluates_or_not cycles words text h.0 cause h.1 k
 accepted_or_refused aiger text cause h k = aig_or_not text h.0 cause h.1 k
 accepted_or_refused (vcd cycles words) text cause h k = runs_or_not last_dumped cycles words text h.0 cause h.1 k
 
@@ -51,6 +52,7 @@ printed_or_refused (probe cycles net path words) text output cause h k = probes_
 printed_or_refused (window view words) text output cause h k = view_or_not view words text h.simulation cause h.has k
 printed_or_refused (make seed size) text output cause h k = k
 printed_or_refused (self_ seed size cycles) text output cause h k = k
+printed_or_refused (tape cycles words) text output cause h k = evaluates_or_not cycles words text h.evaluation cause h.is k
 printed_or_refused aiger text output cause h k = aig_or_not text h.aig cause h.is k
 printed_or_refused (vcd cycles words) text output cause h k = runs_or_not last_dumped cycles words text h.simulation cause h.runs k
 
@@ -82,5 +84,6 @@ one_cause (probe cycles net path words) text a b h k = alike_if_same a b (one_ca
 one_cause (window view words) text a b h k = alike_if_same a b (one_cause_of_view view words text a b h k)
 one_cause (make seed size) text a b h k = absurd k
 one_cause (self_ seed size cycles) text a b h k = absurd k
+one_cause (tape cycles words) text a b h k = one_cause_of_evaluation cycles words text a b h k
 one_cause aiger text a b h k = one_cause_of_aig text a b h k
 one_cause (vcd cycles words) text a b h k = alike_if_same a b (one_cause_of_run last_dumped cycles words text a b h k)

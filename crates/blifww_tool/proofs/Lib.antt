@@ -9,6 +9,7 @@ pub mod CompilationOrNot
 pub mod AigOrNot
 pub mod AigRead
 pub mod Evaluated
+pub mod Taped
 pub mod Compiled
 pub mod Simulated
 pub mod Dumped

@@ -2,7 +2,7 @@
 use Rattle.std.proofs.Common.{ℕ, ◌≡◌, ◌≢◌, ◌≤◌, ◌<◌, ◌*◌, ◌⊎◌, refl, sym, ap, ◌∙◌, subst, List, Some, inl, inr, arith}
 use Rattle.std.proofs.Math.Nat.{le-max_left}
 use Rattle.std.proofs.lemmas.Bool.{cases_eq}
-use Rattle.command_words.specs.Shapes.{CommandValues, compile, simulate, eval, probe, window, make, self_, aiger, vcd, IsCommand}
+use Rattle.command_words.specs.Shapes.{CommandValues, compile, simulate, eval, probe, window, make, self_, tape, aiger, vcd, IsCommand}
 use Rattle.netlist_core.specs.Names.{Name}
 use Rattle.netlist_rules.specs.declared.fault.Fault.{Fault}
 use Rattle.netlist_text.specs.NetlistText.{IsAtFault, IsTooHeavy, HasLoop}
@@ -46,6 +46,7 @@ at_fault_by (probe cycles net path words) src text (NetlistFault f) other e give
 at_fault_by (window view words) src text (NetlistFault f) other e given h = absurd h
 at_fault_by (make seed size) src text (NetlistFault f) other e given h = absurd h
 at_fault_by (self_ seed size cycles) src text (NetlistFault f) other e given h = absurd h
+at_fault_by (tape cycles words) src text (NetlistFault f) other e given h = (text, f, given, h)
 at_fault_by aiger src text (NetlistFault f) other e given h = absurd h
 at_fault_by (vcd cycles words) src text (NetlistFault f) other e given h = absurd h
 at_fault_by command src text (WeightTooLarge w) other e given h = absurd (omega (arith, e))
@@ -57,6 +58,7 @@ at_fault_by (probe cycles net path words) src text (AigAtFault f) other e given 
 at_fault_by (window view words) src text (AigAtFault f) other e given h = absurd h
 at_fault_by (make seed size) src text (AigAtFault f) other e given h = absurd h
 at_fault_by (self_ seed size cycles) src text (AigAtFault f) other e given h = absurd h
+at_fault_by (tape cycles words) src text (AigAtFault f) other e given h = absurd h
 at_fault_by aiger src text (AigAtFault f) other e given h = absurd (other refl)
 at_fault_by (vcd cycles words) src text (AigAtFault f) other e given h = absurd h
 at_fault_by command src text (AigLoop literals) other e given h = absurd (omega (arith, e))
@@ -82,6 +84,7 @@ a_loop_by (probe cycles net path words) src text (Loop names) other e given h = 
 a_loop_by (window view words) src text (Loop names) other e given h = absurd h
 a_loop_by (make seed size) src text (Loop names) other e given h = absurd h
 a_loop_by (self_ seed size cycles) src text (Loop names) other e given h = absurd h
+a_loop_by (tape cycles words) src text (Loop names) other e given h = (text, names, given, h)
 a_loop_by aiger src text (Loop names) other e given h = absurd h
 a_loop_by (vcd cycles words) src text (Loop names) other e given h = absurd h
 a_loop_by command src text (AigAtFault f) other e given h = absurd (omega (arith, e))
@@ -92,6 +95,7 @@ a_loop_by (probe cycles net path words) src text (AigLoop literals) other e give
 a_loop_by (window view words) src text (AigLoop literals) other e given h = absurd h
 a_loop_by (make seed size) src text (AigLoop literals) other e given h = absurd h
 a_loop_by (self_ seed size cycles) src text (AigLoop literals) other e given h = absurd h
+a_loop_by (tape cycles words) src text (AigLoop literals) other e given h = absurd h
 a_loop_by aiger src text (AigLoop literals) other e given h = absurd (other refl)
 a_loop_by (vcd cycles words) src text (AigLoop literals) other e given h = absurd h
 a_loop_by command src text (Pattern f) other e given h = absurd (omega (arith, e))

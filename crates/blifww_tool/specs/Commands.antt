@@ -1,7 +1,7 @@
 -- For each command whether it reads a text, which texts it accepts, what it prints of them, and why it refuses the
 -- others.
 use Rattle.std.specs.Prelude.{◌≡◌, ◌≤◌, ℕ, Bool, true, false, List, ⊤}
-use Rattle.command_words.specs.Shapes.{CommandValues, compile, simulate, eval, probe, window, make, self_, aiger, vcd}
+use Rattle.command_words.specs.Shapes.{CommandValues, compile, simulate, eval, probe, window, make, self_, tape, aiger, vcd}
 use Rattle.netlist_core.specs.declared.model.Design.{Design}
 use Rattle.aiger_text.specs.declared.aig.Aig.{Aig}
 use Rattle.netlist_meaning.specs.Weight.{weight}
@@ -17,6 +17,7 @@ use Rattle.blifww_tool.specs.Probing.{Probes, PrintsProbe, HasNoProbe}
 use Rattle.blifww_tool.specs.Viewing.{HasView, ShowsPart, HasNoView}
 use Rattle.blifww_tool.specs.Dumping.{last_dumped, Dumps, HasNoDump}
 use Rattle.blifww_tool.specs.Evaluation.{Evaluation, IsEvaluation, Evaluates, HasNoEvaluation}
+use Rattle.blifww_tool.specs.Taping.{Tapes}
 use Rattle.blifww_tool.specs.Aigs.{IsAig, CompilesAig, HasNoAig}
 use Rattle.blifww_tool.specs.Summary.{TellsSummary}
 use Rattle.refusals.specs.declared.causes.Cause.{Cause}
@@ -34,6 +35,7 @@ reads_text (probe cycles net path words) = true
 reads_text (window view words) = true
 reads_text (make seed size) = false
 reads_text (self_ seed size cycles) = false
+reads_text (tape cycles words) = true
 reads_text aiger = true
 reads_text (vcd cycles words) = true
 
@@ -44,6 +46,7 @@ reads_text (vcd cycles words) = true
 -- `probe`: they are a simulation that has the net and shows its bits in time, and the injections meet conductors.
 -- `window`: they are a simulation whose injections meet conductors up to the generation that is shown.
 -- `make` always does; `self` where no plan of the made netlist can need more generations than are run.
+-- `tape`: the text is a netlist, and the words are streams for it.
 -- `aiger`: the text is a circuit.
 -- `vcd`: they are a simulation whose nets show their last bits in time, and whose injections up to there meet conductors.
 abbrev pub Accepts : CommandValues → List ℕ → Type 0
@@ -54,12 +57,13 @@ Accepts (probe cycles net path words) text = (bits : List (List Bool)) × Probes
 Accepts (window view words) text = (s : Simulation) × HasView view words text s
 Accepts (make seed size) text = ⊤
 Accepts (self_ seed size cycles) text = most_generations (weight (made_design seed size)) cycles ≤ greatest_generation
+Accepts (tape cycles words) text = (e : Evaluation) × IsEvaluation cycles words text e
 Accepts aiger text = (aig : Aig) × IsAig text aig
 Accepts (vcd cycles words) text = (s : Simulation) × RunsInTime last_dumped cycles words text s
 
 -- of such a text it prints this output: a pattern that carries the netlist in these contexts; a line for each output of
 -- the pattern, or of the netlist; the lines of the net; those of a part of the plane; the made text; what is told of the
--- made netlist; a pattern that carries the circuit; or the dump of the nets
+-- made netlist; a pattern that runs by itself; one that carries the circuit; or the dump of the nets
 abbrev pub Prints : CommandValues → (text output : List ℕ) → Type 0
 Prints (compile contexts starts) text output = Compiles contexts starts text output
 Prints (simulate cycles words) text output = (s : Simulation) × Simulates cycles words text s × (output ≡ simulation_text s)
@@ -68,6 +72,7 @@ Prints (probe cycles net path words) text output = PrintsProbe cycles net path w
 Prints (window view words) text output = ShowsPart view words text output
 Prints (make seed size) text output = output ≡ made_text seed size
 Prints (self_ seed size cycles) text output = TellsSummary seed size cycles output
+Prints (tape cycles words) text output = Tapes cycles words text output
 Prints aiger text output = CompilesAig text output
 Prints (vcd cycles words) text output = Dumps cycles words text output
 
@@ -81,6 +86,7 @@ Refuses (window view words) text cause = HasNoView view words text cause
 Refuses (make seed size) text cause = ⊥
 Refuses (self_ seed size cycles) text (TooFar generations) = HasSummaryCause seed size cycles (summarizing.TooFar generations)
 Refuses (self_ seed size cycles) text cause = ⊥
+Refuses (tape cycles words) text cause = HasNoEvaluation cycles words text cause
 Refuses aiger text cause = HasNoAig text cause
 Refuses (vcd cycles words) text cause = HasNoDump cycles words text cause
 

@@ -7,6 +7,7 @@ pub mod Dumping
 pub mod Compilation
 pub mod Evaluation
 pub mod Aigs
+pub mod Taping
 pub mod Summary
 pub mod Commands
 pub mod Run

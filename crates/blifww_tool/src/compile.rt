@@ -1,8 +1,9 @@
 // `compile`: the pattern of a netlist.
-ghost use Rattle.std.specs.Prelude.{◌≡◌, ◌==◌, ◌&&◌, ◌<◌, ℕ, List, length, map, string_bytes, IfOk, IfErr};
+ghost use Rattle.std.specs.Prelude.{◌≡◌, ◌==◌, ◌&&◌, ◌<◌, ℕ, List, [], length, map, string_bytes, IfOk, IfErr};
 ghost use Rattle.netlist_text.specs.Parts.{AreParts};
 ghost use Rattle.plan_ports.specs.Tables.{HasPortNames};
 ghost use Rattle.netlist_plans.specs.Lists.{IsPlanned};
+ghost use Rattle.netlist_plans.specs.Planned.{IsSmall};
 ghost use Rattle.start_words.specs.Flats.{AreBitsSet, flat_latches};
 ghost use Rattle.command_words.specs.Shapes.{compile};
 ghost use Rattle.blifww_tool.specs.Answer.{output_text, IsWritableOutput};
@@ -20,12 +21,14 @@ use start_words::laws::{latches_are_flat, no_words_mean_start, starts_are_flat};
 use refusals::{Cause, TextError};
 use std::alloc::Global;
 
-// The plan of a netlist, for one context.
-fn plan_of(alloc: Global, netlist: &Netlist) -> Result<Planned, NetlistPlanError>
+/// The plan of a netlist, for one context and without a tape.
+pub fn plan_of(alloc: Global, netlist: &Netlist) -> Result<Planned, NetlistPlanError>
     requires parts { AreParts netlist.now.design netlist.now.flat netlist.now.order.nodes }
     requires names { HasPortNames netlist.now.flat }
     ensures carried { IfOk result (λ p. IsCarriedBy netlist.now.design p.plan p.ports) }
     ensures planned { IfOk result (λ p. IsPlanned netlist.now.flat p.plan) }
+    ensures bare { IfOk result (λ p. p.plan.tape ≡ []) }
+    ensures small { IfOk result (λ p. IsSmall netlist.now.flat p.plan) }
 {
     flat_is_sound();
     flat_is_weighed();

@@ -15,8 +15,8 @@ use netlist_text::{Netlist, netlist_of};
 use refusals::TextError;
 use std::alloc::Global;
 
-// The streams of a netlist's inputs, as the words say them.
-fn streams_for(
+/// The streams of a netlist's inputs, as the words say them.
+pub fn streams_for(
     alloc: Global,
     cycles: usize,
     words: &[String],

@@ -22,6 +22,7 @@ fn reads_text(command: &Command) -> bool
         | Command::Eval { .. }
         | Command::Probe { .. }
         | Command::Window { .. }
+        | Command::Tape { .. }
         | Command::Aiger
         | Command::Vcd { .. } => true,
         Command::Make { .. } | Command::Self_ { .. } => false,

@@ -1,7 +1,7 @@
-//! The top call of the program: `compile` and `eval` for the text of a netlist, `aiger` for that of a circuit,
+//! The top call of the program: `compile`, `eval` and `tape` for the text of a netlist, `aiger` for that of a circuit,
 //! `simulate`, `probe`, `window` and `vcd` for that of a pattern, and `make` and `self` for made netlists.
 //!
-//! Theorem: `run` (`headline`, `contexts`, `aigs`, `dumps`, `ends`), `carriers_print_alike`, `carriers_print_runs`.
+//! Theorem: `run` (`headline`, `contexts`, `tapes`, `aigs`, `dumps`, `ends`), `carriers_print_alike`, `carriers_print_runs`.
 #![tactic(auto)]
 
 mod aiger;
@@ -16,6 +16,7 @@ mod output;
 mod probe;
 mod simulate;
 mod summary;
+mod tape;
 mod top;
 mod vcd;
 mod window;

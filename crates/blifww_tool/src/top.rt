@@ -1,7 +1,7 @@
 // The top call.
 ghost use Rattle.std.specs.Prelude.{◌≡◌, ℕ, List, [], map, string_bytes, IfOk, IfErr, OnOk, IsErrOf};
-ghost use Rattle.command_words.specs.Shapes.{aiger, compile, values_of, vcd, HasNumbersInRange};
-ghost use Rattle.blifww_tool.specs.Headline.{WritesDump, WritesInContexts, WritesItsAig, WritesWhatItRead};
+ghost use Rattle.command_words.specs.Shapes.{aiger, compile, tape, values_of, vcd, HasNumbersInRange};
+ghost use Rattle.blifww_tool.specs.Headline.{WritesDump, WritesInContexts, WritesItsAig, WritesTape, WritesWhatItRead};
 ghost use Rattle.blifww_tool.specs.Commands.{Prints, HasTextCause};
 ghost use Rattle.blifww_tool.specs.Answer.{output_text, IsWritableOutput, HasStopped};
 ghost use Rattle.blifww_tool.specs.Run.{Asks, AsksForNoText, reading, writing, call, Gave, Does, Ends};
@@ -15,6 +15,7 @@ use crate::output::Output;
 use crate::probe::probe;
 use crate::simulate::simulate;
 use crate::summary::summary;
+use crate::tape::tape;
 use crate::vcd::vcd;
 use crate::window::window;
 use command_words::{Command, command_of};
@@ -51,6 +52,7 @@ fn answer(alloc: Global, command: &Command, text: &[u8]) -> Result<Output, TextE
         Command::Window { view, streams } => window(alloc, *view, streams.as_slice(), text),
         Command::Make { seed, size } => make(alloc, *seed, *size),
         Command::Self_ { seed, size, cycles } => summary(alloc, *seed, *size, *cycles),
+        Command::Tape { cycles, streams } => tape(alloc, *cycles, streams.as_slice(), text),
         Command::Aiger => aiger(alloc, text),
         Command::Vcd { cycles, streams } => vcd(alloc, *cycles, streams.as_slice(), text),
     }
@@ -92,7 +94,8 @@ fn work<S: Source, O: Sink>(
 /// context, and `window --gen G --x X --y Y --width W --height H name=bits..` the cells of a part of its plane at a
 /// generation. `make --seed S --size K` and `self --seed S --size K --cycles N` read nothing: the first writes the text
 /// of a netlist that is made from the seed, and the second what is told of it, compiled, simulated and evaluated.
-/// `aiger` reads a circuit in the AIGER format's ASCII form and writes a pattern that carries it, as `compile` does of a
+/// `tape --cycles N name=bits..` reads a netlist and writes a pattern that needs no driving: the streams lie in it, and it
+/// goes on with zeros. `aiger` reads a circuit in the AIGER format's ASCII form and writes a pattern that carries it, as `compile` does of a
 /// netlist, but without lines for nets. `vcd --cycles N name=bits..` reads a pattern and writes the bits that all nets of
 /// its port table show as a VCD text: a variable for each net in each context, with all nets of context 0 first.
 ///
@@ -121,6 +124,12 @@ pub fn run<S: Source, O: Sink, E: Sink>(
     ensures contexts { result ≡ 0 → (contexts : ℕ) (starts : List (List ℕ))
         → Asks (map string_bytes words.now) (compile contexts starts)
         → WritesInContexts contexts starts (reading S.left S.faults src.old src.new)
+        (writing O.written O.faults out.old out.new) }
+
+    // The bytes that `tape` has written run by themselves as the netlist of the text that `src` had left, on the streams
+    // of the words, and on zeros after them.
+    ensures tapes { result ≡ 0 → (cycles : ℕ) (streams : List (List ℕ)) → Asks (map string_bytes words.now) (tape cycles streams)
+        → WritesTape cycles streams (reading S.left S.faults src.old src.new)
         (writing O.written O.faults out.old out.new) }
 
     // The bytes that `aiger` has written carry the circuit of the text that `src` had left.

@@ -88,8 +88,8 @@ aiger_rules = []
 abbrev pub shapes : List Shape
 shapes =
     leaf (codes "compile") compile_rules ∷ leaf (codes "simulate") driven_rules ∷ leaf (codes "eval") driven_rules ∷ leaf (codes "probe") probe_rules
-    ∷ leaf (codes "window") window_rules ∷ leaf (codes "make") make_rules ∷ leaf (codes "self") self_rules ∷ leaf (codes "aiger") aiger_rules
-    ∷ leaf (codes "vcd") driven_rules ∷ []
+    ∷ leaf (codes "window") window_rules ∷ leaf (codes "make") make_rules ∷ leaf (codes "self") self_rules ∷ leaf (codes "tape") driven_rules
+    ∷ leaf (codes "aiger") aiger_rules ∷ leaf (codes "vcd") driven_rules ∷ []
 
 -- the program's own level
 abbrev pub top : Shape

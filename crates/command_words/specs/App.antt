@@ -25,7 +25,7 @@ with_required a (name ∷ names) = with_required (with_rule a (required_option n
 abbrev pub compile_app : App
 compile_app = with_rule (with_rule (new_app (codes "compile")) (free_option (codes "contexts"))) stream_words
 
--- `simulate`, `eval` or `vcd`, by its name
+-- `simulate`, `eval`, `vcd` or `tape`, by its name
 abbrev pub driven_app : Text → App
 driven_app name = with_rule (with_required (new_app name) (codes "cycles" ∷ [])) stream_words
 
@@ -67,5 +67,5 @@ with_subcommands a (sub ∷ subs) = with_subcommands (with_subcommand a sub.top)
 abbrev pub blifww_app : App
 blifww_app =
     with_subcommands bare_app
-    (compile_app ∷ driven_app (codes "simulate") ∷ driven_app (codes "eval") ∷ probe_app ∷ window_app ∷ make_app ∷ self_app ∷ aiger_app
-    ∷ driven_app (codes "vcd") ∷ [])
+    (compile_app ∷ driven_app (codes "simulate") ∷ driven_app (codes "eval") ∷ probe_app ∷ window_app ∷ make_app ∷ self_app ∷ driven_app (codes "tape")
+    ∷ aiger_app ∷ driven_app (codes "vcd") ∷ [])

@@ -61,6 +61,7 @@ pub fn blifww_command<'a>(alloc: Global) -> Result<Command<'a>, AllocError>
     ensures { IfOk result (λ c. app_of c ≡ blifww_app) }
 {
     let older = older_commands(alloc)?;
-    let last = with_command(older, with_options(alloc, "aiger", &[]))?;
+    let taped = with_command(older, driven_command(alloc, "tape"))?;
+    let last = with_command(taped, with_options(alloc, "aiger", &[]))?;
     with_command(last, driven_command(alloc, "vcd"))
 }
