@@ -15,6 +15,7 @@ enum Asked {
     Window(View, &'static [&'static str]),
     Make(u32, u32),
     OfMade(u32, u32, usize),
+    Aiger,
 }
 
 const CASES: &[(&[&str], Asked)] = &[
@@ -152,6 +153,9 @@ const CASES: &[(&[&str], Asked)] = &[
         ],
         Asked::OfMade(1, 2, 4),
     ),
+    (&["blifww", "aiger"], Asked::Aiger),
+    (&["blifww", "aiger", "x"], Asked::Usage),
+    (&["blifww", "aiger", "--cycles", "1"], Asked::Usage),
     (&["blifww", "--help"], Asked::Usage),
     (&["blifww", "-h"], Asked::Usage),
     (&["blifww", "help"], Asked::Usage),
@@ -196,6 +200,7 @@ fn is_asked(command: &Command, asked: Asked) -> bool {
         (Command::Self_ { seed, size, cycles }, Asked::OfMade(first, count, many)) => {
             *seed == first && *size == count && *cycles == many
         }
+        (Command::Aiger, Asked::Aiger) => true,
         _ => false,
     }
 }
