@@ -4,8 +4,8 @@ use Rattle.aiger_text.specs.declared.aig.Aig.{Aig}
 use Rattle.aiger_text.specs.declared.fault.AigFault.{AigFault}
 use Rattle.aiger_text.specs.AigText.{ReadsAsAig, HasAigFault}
 use Rattle.aiger_text.proofs.OneThing.{texts_say_one_thing}
-use Rattle.circuit_plans.specs.declared.error.CircuitError.TheVariants as planning
-use Rattle.circuit_plans.specs.Circuit.{HasCircuitCause}
+use Rattle.aiger_meaning.specs.declared.error.LowerError.TheVariants as planning
+use Rattle.aiger_meaning.specs.Causes.{HasLowerCause}
 use Rattle.aiger_meaning.specs.Loop.{IsAigLoop}
 use Rattle.blifww_tool.specs.Commands.{AreAlike}
 use Rattle.blifww_tool.specs.Aigs.{IsAig, HasNoAig}
@@ -16,8 +16,8 @@ use Rattle.refusals.specs.declared.causes.Cause.TheVariants.{NetlistFault, Weigh
 -- the ways to be refused
 data Reason (text : List ℕ) (r : Cause) : Type 0 where
   by_fault : (fault : AigFault) → r ≡ AigAtFault fault → HasAigFault text fault → Reason text r
-  by_weight : (told : ℕ) → r ≡ WeightTooLarge told → (aig : Aig) → ReadsAsAig text aig → HasCircuitCause aig (planning.TooLarge told) → Reason text r
-  by_loop : (literals : List ℕ) → r ≡ AigLoop literals → (aig : Aig) → ReadsAsAig text aig → HasCircuitCause aig (planning.Loop literals) → Reason text r
+  by_weight : (told : ℕ) → r ≡ WeightTooLarge told → (aig : Aig) → ReadsAsAig text aig → HasLowerCause aig (planning.TooLarge told) → Reason text r
+  by_loop : (literals : List ℕ) → r ≡ AigLoop literals → (aig : Aig) → ReadsAsAig text aig → HasLowerCause aig (planning.Loop literals) → Reason text r
 
 reason_of : (text : List ℕ) (r : Cause) → HasNoAig text r → Reason text r
 reason_of text (NetlistFault fault) h = absurd h
@@ -46,24 +46,24 @@ module _ (text : List ℕ) where
   not_refused : (aig : Aig) (r : Cause) → IsAig text aig → Reason text r → ⊥
   not_refused aig r h (by_fault fault e k) = fault_or_read fault aig k h.reads
   not_refused aig r h (by_weight told e heavy reads k) =
-      let here = subst (λ (a : Aig). HasCircuitCause a (planning.TooLarge told)) (same_aig heavy aig reads h.reads) k in
+      let here = subst (λ (a : Aig). HasLowerCause a (planning.TooLarge told)) (same_aig heavy aig reads h.reads) k in
       omega (arith, here.0, h.light)
   not_refused aig r h (by_loop literals e looped reads k) =
-      let here = subst (λ (a : Aig). HasCircuitCause a (planning.Loop literals)) (same_aig looped aig reads h.reads) k in
+      let here = subst (λ (a : Aig). HasLowerCause a (planning.Loop literals)) (same_aig looped aig reads h.reads) k in
       h.no_loop literals here.1
 
   pub aig_or_not : (aig : Aig) (r : Cause) → IsAig text aig → HasNoAig text r → ⊥
   aig_or_not aig r h k = not_refused aig r h (reason_of text r k)
 
   -- one circuit is not too heavy and within the limit
-  heavy_or_loop : (told : ℕ) (literals : List ℕ) (a b : Aig) → ReadsAsAig text a → ReadsAsAig text b → HasCircuitCause a (planning.TooLarge told) → HasCircuitCause b (planning.Loop literals) → ⊥
+  heavy_or_loop : (told : ℕ) (literals : List ℕ) (a b : Aig) → ReadsAsAig text a → ReadsAsAig text b → HasLowerCause a (planning.TooLarge told) → HasLowerCause b (planning.Loop literals) → ⊥
   heavy_or_loop told literals a b reads reads' h k =
-      let here = subst (λ (x : Aig). HasCircuitCause x (planning.TooLarge told)) (same_aig a b reads reads') h in
+      let here = subst (λ (x : Aig). HasLowerCause x (planning.TooLarge told)) (same_aig a b reads reads') h in
       omega (arith, here.0, k.0)
 
-  same_weight : (m n : ℕ) (a b : Aig) → ReadsAsAig text a → ReadsAsAig text b → HasCircuitCause a (planning.TooLarge m) → HasCircuitCause b (planning.TooLarge n) → m ≡ n
+  same_weight : (m n : ℕ) (a b : Aig) → ReadsAsAig text a → ReadsAsAig text b → HasLowerCause a (planning.TooLarge m) → HasLowerCause b (planning.TooLarge n) → m ≡ n
   same_weight m n a b reads reads' h k =
-      let here = subst (λ (x : Aig). HasCircuitCause x (planning.TooLarge m)) (same_aig a b reads reads') h in
+      let here = subst (λ (x : Aig). HasLowerCause x (planning.TooLarge m)) (same_aig a b reads reads') h in
       here.1 ∙ sym k.1
 
   one_reason : (r r' : Cause) → Reason text r → Reason text r' → AreAlike r r'

@@ -7,10 +7,11 @@ use Rattle.pattern_writing.specs.WrittenText.{pattern_text}
 use Rattle.netlist_core.specs.Limit.{weight_limit}
 use Rattle.aiger_text.specs.declared.aig.Aig.{Aig}
 use Rattle.aiger_text.specs.AigText.{ReadsAsAig, HasAigFault}
-use Rattle.circuit_plans.specs.declared.error.CircuitError.TheVariants as planning
+use Rattle.aiger_meaning.specs.declared.error.LowerError.TheVariants as planning
 use Rattle.aiger_meaning.specs.Circuit.{aig_weight}
 use Rattle.aiger_meaning.specs.Loop.{IsAigLoop}
-use Rattle.circuit_plans.specs.Circuit.{IsPlanOfCircuit, HasCircuitCause}
+use Rattle.aiger_meaning.specs.Causes.{HasLowerCause}
+use Rattle.aiger_plans.specs.Planned.{IsPlanOfAig}
 use Rattle.refusals.specs.declared.causes.Cause.{Cause}
 use Rattle.refusals.specs.declared.causes.Cause.TheVariants.{WeightTooLarge, AigAtFault, AigLoop}
 
@@ -27,13 +28,13 @@ pub record CompilesAig (text output : List ℕ) : Type 0 where
   pub is : IsAig text aig
   pub plan : Plan
   pub ports : Ports
-  pub is_plan : IsPlanOfCircuit aig plan ports
+  pub is_plan : IsPlanOfAig aig plan ports
   pub written : output ≡ pattern_text (start_grid plan) ports
 
 -- why the text is no circuit: it is at fault; or it reads as one that is too heavy, or within the limit has gates that read each other
 -- in a circle
 abbrev pub HasNoAig : List ℕ → Cause → Type 0
 HasNoAig text (AigAtFault fault) = HasAigFault text fault
-HasNoAig text (WeightTooLarge told) = (aig : Aig) × ReadsAsAig text aig × HasCircuitCause aig (planning.TooLarge told)
-HasNoAig text (AigLoop literals) = (aig : Aig) × ReadsAsAig text aig × HasCircuitCause aig (planning.Loop literals)
+HasNoAig text (WeightTooLarge told) = (aig : Aig) × ReadsAsAig text aig × HasLowerCause aig (planning.TooLarge told)
+HasNoAig text (AigLoop literals) = (aig : Aig) × ReadsAsAig text aig × HasLowerCause aig (planning.Loop literals)
 HasNoAig text _ = ⊥

@@ -5,9 +5,9 @@ ghost use Rattle.blifww_tool.specs.Answer.{output_text, IsWritableOutput};
 ghost use Rattle.blifww_tool.specs.Commands.{Prints, HasTextCause};
 
 use crate::output::Output;
+use aiger_plans::plan_circuit;
 use aiger_reader::read;
 use aiger_text::laws::read_aigs_are_sound;
-use circuit_plans::plan_circuit;
 use refusals::TextError;
 use std::alloc::Global;
 

@@ -8,8 +8,8 @@ use Rattle.aiger_text.specs.declared.fault.AigFault.{AigFault}
 use Rattle.aiger_text.specs.FaultNames.{number_of as aig_number_of, name_of as aig_name_of}
 use Rattle.aiger_reader.specs.declared.error.AigReadError.{AigReadError}
 use Rattle.aiger_reader.specs.declared.error.AigReadError.TheVariants as aig_of
-use Rattle.circuit_plans.specs.declared.error.CircuitError.{CircuitError}
-use Rattle.circuit_plans.specs.declared.error.CircuitError.TheVariants as planning
+use Rattle.aiger_meaning.specs.declared.error.LowerError.{LowerError}
+use Rattle.aiger_meaning.specs.declared.error.LowerError.TheVariants as planning
 use Rattle.netlist_text.specs.declared.error.NetlistError.{NetlistError}
 use Rattle.netlist_text.specs.declared.error.NetlistError.TheVariants as netlist_of
 use Rattle.pattern_reading.specs.declared.faults.RleFaultKind.{RleFaultKind}
@@ -205,10 +205,10 @@ aig_error (aig_of.Fault fault) = text.Refused (AigAtFault fault)
 aig_error aig_of.NoMemory = text.NoMemory
 
 -- its circuit has no plan,
-abbrev pub circuit_error : CircuitError → TextError
-circuit_error (planning.TooLarge weight) = text.Refused (WeightTooLarge weight)
-circuit_error (planning.Loop literals) = text.Refused (AigLoop literals)
-circuit_error planning.NoMemory = text.NoMemory
+abbrev pub lower_error : LowerError → TextError
+lower_error (planning.TooLarge weight) = text.Refused (WeightTooLarge weight)
+lower_error (planning.Loop literals) = text.Refused (AigLoop literals)
+lower_error planning.NoMemory = text.NoMemory
 
 -- it is no pattern's,
 abbrev pub pattern_error : RleReadError → TextError

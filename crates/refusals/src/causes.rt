@@ -1,10 +1,10 @@
 // Why a text gives no output.
 ghost use Rattle.std.specs.Prelude.{◌≡◌};
 
+use aiger_meaning::LowerError;
 use aiger_reader::AigReadError;
 use aiger_text::AigFault;
 use blif_text::Fault;
-use circuit_plans::CircuitError;
 use drive::{SimulateError, StreamError, StreamFault};
 use lists::List;
 use made_netlists::MakeError;
@@ -110,18 +110,18 @@ impl From<AigReadError> for TextError {
     }
 }
 
-impl From<CircuitError> for TextError {
-    ghost use Rattle.refusals.specs.Refusals.{circuit_error};
+impl From<LowerError> for TextError {
+    ghost use Rattle.refusals.specs.Refusals.{lower_error};
 
-    ghost from_gives = { λ e r. r ≡ circuit_error e };
+    ghost from_gives = { λ e r. r ≡ lower_error e };
 
-    fn from(error: CircuitError) -> Self {
+    fn from(error: LowerError) -> Self {
         match error {
-            CircuitError::TooLarge { weight } => {
+            LowerError::TooLarge { weight } => {
                 TextError::Refused(Cause::WeightTooLarge { weight })
             }
-            CircuitError::Loop(literals) => TextError::Refused(Cause::AigLoop(literals)),
-            CircuitError::NoMemory => TextError::NoMemory,
+            LowerError::Loop(literals) => TextError::Refused(Cause::AigLoop(literals)),
+            LowerError::NoMemory => TextError::NoMemory,
         }
     }
 }

@@ -16,6 +16,7 @@ enum Asked {
     Make(u32, u32),
     OfMade(u32, u32, usize),
     Aiger,
+    Vcd(usize, &'static [&'static str]),
 }
 
 const CASES: &[(&[&str], Asked)] = &[
@@ -156,6 +157,12 @@ const CASES: &[(&[&str], Asked)] = &[
     (&["blifww", "aiger"], Asked::Aiger),
     (&["blifww", "aiger", "x"], Asked::Usage),
     (&["blifww", "aiger", "--cycles", "1"], Asked::Usage),
+    (
+        &["blifww", "vcd", "--cycles", "1048576", "a=01"],
+        Asked::Vcd(1_048_576, &["a=01"]),
+    ),
+    (&["blifww", "vcd", "--cycles", "0"], Asked::Usage),
+    (&["blifww", "vcd", "a=01"], Asked::Usage),
     (&["blifww", "--help"], Asked::Usage),
     (&["blifww", "-h"], Asked::Usage),
     (&["blifww", "help"], Asked::Usage),
@@ -175,7 +182,8 @@ fn is_asked(command: &Command, asked: Asked) -> bool {
             *contexts == count && are_words(starts.as_slice(), words)
         }
         (Command::Simulate { cycles, streams }, Asked::Simulate(count, words))
-        | (Command::Eval { cycles, streams }, Asked::Eval(count, words)) => {
+        | (Command::Eval { cycles, streams }, Asked::Eval(count, words))
+        | (Command::Vcd { cycles, streams }, Asked::Vcd(count, words)) => {
             *cycles == count && are_words(streams.as_slice(), words)
         }
         (

@@ -63,6 +63,7 @@ const COMMANDS: &[(&[&str], &[u8])] = &[
         PATTERN,
     ),
     (&["blifww", "aiger"], NAND),
+    (&["blifww", "vcd", "--cycles", "1", "a=0", "b=1"], PATTERN),
 ];
 
 #[test]
