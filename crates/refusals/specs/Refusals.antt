@@ -169,7 +169,7 @@ cause_line (NotQuiet generation x y) =
 
 -- the one line that tells a refusal
 abbrev pub refusal_line : Refusal → List ℕ
-refusal_line Usage = codes "usage: blifww compile|simulate|eval|probe|window|make|self|aiger|vcd\n"
+refusal_line Usage = codes "usage: blifww compile|simulate|eval|probe|window|make|self|tape|aiger|vcd\n"
 refusal_line TooLong = codes "too long: limit 16777216\n"
 refusal_line ReadFault = codes "read fault\n"
 refusal_line WriteFault = codes "write fault\n"

@@ -367,7 +367,7 @@ impl Refusal {
         match self {
             Refusal::Usage => write_all(
                 err,
-                b"usage: blifww compile|simulate|eval|probe|window|make|self|aiger|vcd\n",
+                b"usage: blifww compile|simulate|eval|probe|window|make|self|tape|aiger|vcd\n",
             ),
             Refusal::TooLong => write_all(err, b"too long: limit 16777216\n"),
             Refusal::ReadFault => write_all(err, b"read fault\n"),

@@ -15,6 +15,7 @@ enum Asked {
     Window(View, &'static [&'static str]),
     Make(u32, u32),
     OfMade(u32, u32, usize),
+    Tape(usize, &'static [&'static str]),
     Aiger,
     Vcd(usize, &'static [&'static str]),
 }
@@ -154,6 +155,13 @@ const CASES: &[(&[&str], Asked)] = &[
         ],
         Asked::OfMade(1, 2, 4),
     ),
+    (
+        &["blifww", "tape", "--cycles", "4096", "a=01"],
+        Asked::Tape(4096, &["a=01"]),
+    ),
+    (&["blifww", "tape", "--cycles", "4097"], Asked::Usage),
+    (&["blifww", "tape", "--cycles", "0"], Asked::Usage),
+    (&["blifww", "tape"], Asked::Usage),
     (&["blifww", "aiger"], Asked::Aiger),
     (&["blifww", "aiger", "x"], Asked::Usage),
     (&["blifww", "aiger", "--cycles", "1"], Asked::Usage),
@@ -183,6 +191,7 @@ fn is_asked(command: &Command, asked: Asked) -> bool {
         }
         (Command::Simulate { cycles, streams }, Asked::Simulate(count, words))
         | (Command::Eval { cycles, streams }, Asked::Eval(count, words))
+        | (Command::Tape { cycles, streams }, Asked::Tape(count, words))
         | (Command::Vcd { cycles, streams }, Asked::Vcd(count, words)) => {
             *cycles == count && are_words(streams.as_slice(), words)
         }

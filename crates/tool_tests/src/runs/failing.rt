@@ -62,6 +62,7 @@ const COMMANDS: &[(&[&str], &[u8])] = &[
         ],
         PATTERN,
     ),
+    (&["blifww", "tape", "--cycles", "1", "a=0"], INVERTER),
     (&["blifww", "aiger"], NAND),
     (&["blifww", "vcd", "--cycles", "1", "a=0", "b=1"], PATTERN),
 ];
