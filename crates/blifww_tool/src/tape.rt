@@ -2,7 +2,7 @@
 ghost use Rattle.std.specs.Prelude.{◌≡◌, ◌≤◌, All, map, length, string_bytes, IfOk, IfErr};
 ghost use Rattle.netlist_text.specs.Parts.{AreParts};
 ghost use Rattle.plan_ports.specs.Tables.{HasPortNames};
-ghost use Rattle.command_words.specs.Shapes.{tape, HasNumbersInRange};
+ghost use Rattle.command_words.specs.Shapes.{tape};
 ghost use Rattle.blifww_tool.specs.Answer.{output_text, IsWritableOutput};
 ghost use Rattle.blifww_tool.specs.Commands.{Prints, HasTextCause};
 ghost use Rattle.blifww_tool.specs.Taping.{IsTapeOf};
@@ -49,7 +49,8 @@ pub fn tape(
     words: &[String],
     text: &[u8],
 ) -> Result<Output, TextError>
-    requires numbers { HasNumbersInRange (tape cycles (map string_bytes words.now)) }
+    requires some_cycle { 1 ≤ cycles }
+    requires few_cycles { cycles ≤ 4096 }
     ensures printed { IfOk result (λ output.
         Prints (tape cycles (map string_bytes words.now)) text.now (output_text output)) }
     ensures writable { IfOk result IsWritableOutput }

@@ -9,9 +9,6 @@ returns-in_err-netlist-clause-refused c =
     let p = err_from_is_err_and c.from_residual.result c.from_residual.ensures.1 in
     rw (p.1, p.2) (netlist_refused c.args.cycles (map string_bytes c.args.words.now) c.args.text.now c.in_err-netlist.field-0.0 c.in_err-netlist.ensures.refused)
 
-pub streams_for-requires : goal.streams_for-requires
-streams_for-requires c = c.in_ok-netlist.ensures.parts
-
 pub returns-in_err-streams-clause-refused : goal.returns-in_err-streams-clause-refused
 returns-in_err-streams-clause-refused c =
     let p = err_from_is_err_and c.from_residual-in_err-streams.result c.from_residual-in_err-streams.ensures.1 in
@@ -34,10 +31,10 @@ pub taped-requires-clause-long : goal.taped-requires-clause-long
 taped-requires-clause-long c = c.in_ok-streams.ensures.long
 
 pub taped-requires-clause-some : goal.taped-requires-clause-some
-taped-requires-clause-some c = let many = c.in_ok-streams.ensures.streams.many in omega (arith, many, c.requires.0)
+taped-requires-clause-some c = let many = c.in_ok-streams.ensures.streams.many in omega (arith, many, c.requires.some_cycle)
 
 pub taped-requires-clause-few : goal.taped-requires-clause-few
-taped-requires-clause-few c = let many = c.in_ok-streams.ensures.streams.many in omega (arith, many, c.requires.1)
+taped-requires-clause-few c = let many = c.in_ok-streams.ensures.streams.many in omega (arith, many, c.requires.few_cycles)
 
 pub returns-clause-printed : goal.returns-clause-printed
 returns-clause-printed c =
