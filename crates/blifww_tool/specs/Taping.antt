@@ -2,7 +2,6 @@
 use Rattle.std.specs.Prelude.{◌≡◌, ℕ, List, []}
 use Rattle.lane_core.specs.declared.plan.Plan.{Plan}
 use Rattle.lane_core.specs.Plans.{IsAdmissible}
-use Rattle.lane_core.specs.Tape.{with_tape}
 use Rattle.plan_layout.specs.Starts.{HasStartEdges}
 use Rattle.grid_assembly.specs.PlanDrawing.{start_grid}
 use Rattle.pattern_reading.specs.declared.ports.Ports.{Ports}
@@ -14,6 +13,7 @@ use Rattle.netlist_meaning.specs.FlatOf.{IsFlatOf}
 use Rattle.plan_ports.specs.Tables.{IsTableOf}
 use Rattle.streams.specs.declared.streams.Streams.{Streams}
 use Rattle.streams.specs.Rows.{rows_of}
+use Rattle.tape_loader.specs.Loaded.{with_tape}
 use Rattle.blifww_tool.specs.Compilation.{IsCarriedBy}
 use Rattle.blifww_tool.specs.Evaluation.{Evaluation, IsEvaluation}
 

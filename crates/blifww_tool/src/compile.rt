@@ -3,7 +3,6 @@ ghost use Rattle.std.specs.Prelude.{◌≡◌, ◌==◌, ◌&&◌, ◌<◌, ℕ,
 ghost use Rattle.netlist_text.specs.Parts.{AreParts};
 ghost use Rattle.plan_ports.specs.Tables.{HasPortNames};
 ghost use Rattle.netlist_plans.specs.Lists.{IsPlanned};
-ghost use Rattle.netlist_plans.specs.Planned.{IsSmall};
 ghost use Rattle.start_words.specs.Flats.{AreBitsSet, flat_latches};
 ghost use Rattle.command_words.specs.Shapes.{compile};
 ghost use Rattle.blifww_tool.specs.Answer.{output_text, IsWritableOutput};
@@ -28,7 +27,6 @@ pub fn plan_of(alloc: Global, netlist: &Netlist) -> Result<Planned, NetlistPlanE
     ensures carried { IfOk result (λ p. IsCarriedBy netlist.now.design p.plan p.ports) }
     ensures planned { IfOk result (λ p. IsPlanned netlist.now.flat p.plan) }
     ensures bare { IfOk result (λ p. p.plan.tape ≡ []) }
-    ensures small { IfOk result (λ p. IsSmall netlist.now.flat p.plan) }
 {
     flat_is_sound();
     flat_is_weighed();

@@ -12,7 +12,7 @@ use crate::compile::plan_of;
 use crate::eval::streams_for;
 use crate::output::Output;
 use drive::Streams;
-use flat_designs::{flat_is_one, flat_is_sound, flat_is_weighed};
+use flat_designs::{flat_is_one, flat_is_sound};
 use netlist_plans::load_netlist;
 use netlist_text::{Netlist, netlist_of};
 use plan_carries::designs_run_by_themselves;
@@ -23,7 +23,6 @@ use std::alloc::Global;
 fn taped(alloc: Global, netlist: &Netlist, streams: &Streams) -> Result<Output, TextError>
     requires parts { AreParts netlist.now.design netlist.now.flat netlist.now.order.nodes }
     requires names { HasPortNames netlist.now.flat }
-    requires one { streams.now.c ≡ 1 }
     requires many { length streams.now.bits ≡ length netlist.now.flat.ins }
     requires long { All (λ bits. length bits ≡ streams.now.cycles) streams.now.bits }
     requires some { 1 ≤ streams.now.cycles }
@@ -33,7 +32,6 @@ fn taped(alloc: Global, netlist: &Netlist, streams: &Streams) -> Result<Output, 
     ensures refused { IfErr result (λ e. e ≡ NoMemory) }
 {
     flat_is_sound();
-    flat_is_weighed();
     flat_is_one();
     designs_run_by_themselves();
     let planned = plan_of(alloc, netlist)?;

@@ -36,6 +36,3 @@ returns-clause-carried c =
 
 pub returns-clause-bare : goal.returns-clause-bare
 returns-clause-bare c = c.in_ok-planned.ensures.bare
-
-pub returns-clause-small : goal.returns-clause-small
-returns-clause-small c = c.in_ok-planned.ensures.small

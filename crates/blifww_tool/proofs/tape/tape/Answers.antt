@@ -21,9 +21,6 @@ pub taped-requires-clause-names : goal.taped-requires-clause-names
 taped-requires-clause-names c =
     texts_have_port_names c.args.text.now c.in_ok-netlist.netlist.design c.in_ok-netlist.netlist.flat c.in_ok-netlist.ensures.netlist.is.design_of c.in_ok-netlist.ensures.parts.is_flat
 
-pub taped-requires-clause-one : goal.taped-requires-clause-one
-taped-requires-clause-one c = c.in_ok-streams.ensures.streams.contexts
-
 pub taped-requires-clause-many : goal.taped-requires-clause-many
 taped-requires-clause-many c = c.in_ok-streams.ensures.many
 

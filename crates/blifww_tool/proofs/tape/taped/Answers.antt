@@ -4,7 +4,7 @@ use Rattle.flat_designs.proofs.Whole.{flat_is_named}
 use Rattle.grid_assembly.specs.PlanDrawing.{start_grid}
 use Rattle.netlist_core.specs.declared.flat.Flat.{Flat}
 use Rattle.pattern_writing.specs.WrittenText.{pattern_text}
-use Rattle.netlist_text.proofs.SoundParts.{sound, weighed, small}
+use Rattle.netlist_text.proofs.SoundParts.{sound, small}
 use Rattle.plan_carries.proofs.SeenNets.{places_fit}
 use Rattle.plan_ports.specs.Tables.{IsTableOf}
 use Rattle.streams.specs.Rows.{rows_of}
@@ -18,12 +18,6 @@ plan_of-requires-clause-names c = c.requires.names
 
 pub load_netlist-requires-clause-sound : goal.load_netlist-requires-clause-sound
 load_netlist-requires-clause-sound c = sound c.args.netlist.now.design c.args.netlist.now.flat _ c.requires.parts c.flat_is_sound.ensures
-
-pub load_netlist-requires-clause-weighed : goal.load_netlist-requires-clause-weighed
-load_netlist-requires-clause-weighed c = weighed c.args.netlist.now.design c.args.netlist.now.flat _ c.requires.parts c.flat_is_weighed.ensures
-
-pub load_netlist-requires-clause-small : goal.load_netlist-requires-clause-small
-load_netlist-requires-clause-small c = small c.args.netlist.now.design c.args.netlist.now.flat _ c.requires.parts
 
 pub load_netlist-requires-clause-ordered : goal.load_netlist-requires-clause-ordered
 load_netlist-requires-clause-ordered c = (c.args.netlist.now.order.nodes, c.requires.parts.is_order)
@@ -41,15 +35,6 @@ load_netlist-requires-clause-places c =
 
 pub load_netlist-requires-clause-planned : goal.load_netlist-requires-clause-planned
 load_netlist-requires-clause-planned c = c.in_ok-planned.ensures.planned
-
-pub load_netlist-requires-clause-bare : goal.load_netlist-requires-clause-bare
-load_netlist-requires-clause-bare c = c.in_ok-planned.ensures.bare
-
-pub load_netlist-requires-clause-fits_small : goal.load_netlist-requires-clause-fits_small
-load_netlist-requires-clause-fits_small c = c.in_ok-planned.ensures.small
-
-pub load_netlist-requires-clause-one : goal.load_netlist-requires-clause-one
-load_netlist-requires-clause-one c = c.requires.one
 
 pub load_netlist-requires-clause-many : goal.load_netlist-requires-clause-many
 load_netlist-requires-clause-many c = c.requires.many
