@@ -46,7 +46,7 @@ reason_of cycles words text (TooManyContexts contexts limit) h = absurd h
 reason_of cycles words text (NotQuiet generation x y) h = absurd h
 
 -- the IN names of a text are one list
-same_names : (text : List ℕ) (a b : Design) (ns ms : List Name) → IsRead text a ns → IsRead text b ms → ns ≡ ms
+pub same_names : (text : List ℕ) (a b : Design) (ns ms : List Name) → IsRead text a ns → IsRead text b ms → ns ≡ ms
 same_names text a b ns ms h k =
     let same : a ≡ b = (texts_are_decided text).one_design a b h.netlist k.netlist in
     in_names_are_one b ns ms (subst (λ (d : Design). IsInNames d ns) same h.are_names) k.are_names

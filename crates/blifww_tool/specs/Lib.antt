@@ -15,3 +15,4 @@ pub mod Statuses
 pub mod Headline
 pub mod Answer
 pub mod PrintsAlike
+pub mod TapePrints
