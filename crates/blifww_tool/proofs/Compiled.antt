@@ -207,6 +207,7 @@ unpadded plan = record {
     empty = λ i d lt. absurd (omega (arith, lt));
     count = omega (arith, one_needs_none plan.latches);
   };
+  tape = refl;
 }
 
 no_words : NoWordsMeanStart → (design : Design) → start_state design ∷ [] ≡ starts_of_words design [] 1

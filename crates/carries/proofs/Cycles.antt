@@ -26,12 +26,12 @@ one_cycle first period t u some e =
           ]
     ]
 
-in_time : (first period cycles t : ℕ) → period ≢ 0 → t < cycles → first + t * period < first + cycles * period
+pub in_time : (first period cycles t : ℕ) → period ≢ 0 → t < cycles → first + t * period < first + cycles * period
 in_time first period cycles t some lt =
     let less : t * period < cycles * period = mul-lt-mul_of_pos_right lt (omega (arith, some)) in omega (arith, less)
 
 -- at the generation of a cycle a cell shows the cycle's bit
-in_cycle : (first period cycles t : ℕ) (bit : ℕ → Bool) (plane : Plane) (x y : ℕ) → period ≢ 0 → t < cycles
+pub in_cycle : (first period cycles t : ℕ) (bit : ℕ → Bool) (plane : Plane) (x y : ℕ) → period ≢ 0 → t < cycles
     → ShowsBitsFrom first period cycles bit (first + t * period) plane x y → (plane (pos x) (pos y) ≡ Head) ↔ (bit t ≡ true)
 in_cycle first period cycles t bit plane x y some lt shown = (
   λ head. (let found = shown.0 head in ap bit (one_cycle first period t found.0 some found.2) ∙ found.3),

@@ -3,3 +3,4 @@ pub mod Period
 pub mod Cycles
 pub mod ContextCycles
 pub mod OneContext
+pub mod ByItself

@@ -12,7 +12,7 @@ use Rattle.netlist_core.specs.declared.flat.Flat.{Flat}
 use Rattle.netlist_core.specs.declared.flat.Net.{Net as FlatNet}
 use Rattle.netlist_core.specs.declared.model.Design.{Design}
 use Rattle.netlist_meaning.specs.Nets.{Net}
-use Rattle.netlist_meaning.specs.Flat.{nets_but_clocks}
+use Rattle.netlist_meaning.specs.Flat.{listed_nets}
 use Rattle.netlist_meaning.specs.FlatValuation.{AreFlatRows, IsFlatRun, start_bits, flat_output_bit}
 use Rattle.netlist_meaning.specs.Valuation.{Valuation, LatchState, AreInputRows, IsRunFrom, start_state, output_bit}
 use Rattle.carries.specs.Cells.{ShowsBitsFrom, ShowsOutputs, ShowsNetLines, drive}
@@ -147,7 +147,7 @@ module _ (plane : Plane) (ports : Ports) (flat : Flat) where
     conductors = conductors_to (List Bool) (ℕ → Bool) (AreFlatRows flat) (IsFlatRun flat) (start_bits flat) plane ports shows.conductors;
     runs = runs_to (List Bool) (ℕ → Bool) (AreFlatRows flat) (IsFlatRun flat) (start_bits flat) plane ports shows.runs;
     heads = heads_to (List Bool) (ℕ → Bool) (AreFlatRows flat) (IsFlatRun flat) (start_bits flat) plane ports (flat_output_bit flat) shows.heads;
-    nets = nets_to (List Bool) (ℕ → Bool) (AreFlatRows flat) (IsFlatRun flat) (start_bits flat) plane ports FlatNet (nets_but_clocks flat) class_bit shows.nets;
+    nets = nets_to (List Bool) (ℕ → Bool) (AreFlatRows flat) (IsFlatRun flat) (start_bits flat) plane ports FlatNet (listed_nets flat) class_bit shows.nets;
   }
 
   pub flat_from_contexts : ShowsFlatContexts plane ports flat (start_bits flat ∷ []) → ShowsFlatRuns plane ports flat
@@ -155,7 +155,7 @@ module _ (plane : Plane) (ports : Ports) (flat : Flat) where
     conductors = conductors_from (List Bool) (ℕ → Bool) (AreFlatRows flat) (IsFlatRun flat) (start_bits flat) plane ports shows.conductors;
     runs = runs_from (List Bool) (ℕ → Bool) (AreFlatRows flat) (IsFlatRun flat) (start_bits flat) plane ports shows.runs;
     heads = heads_from (List Bool) (ℕ → Bool) (AreFlatRows flat) (IsFlatRun flat) (start_bits flat) plane ports (flat_output_bit flat) shows.heads;
-    nets = nets_from (List Bool) (ℕ → Bool) (AreFlatRows flat) (IsFlatRun flat) (start_bits flat) plane ports FlatNet (nets_but_clocks flat) class_bit shows.nets;
+    nets = nets_from (List Bool) (ℕ → Bool) (AreFlatRows flat) (IsFlatRun flat) (start_bits flat) plane ports FlatNet (listed_nets flat) class_bit shows.nets;
   }
 
 pub one_context_carries : OneContextCarries

@@ -6,7 +6,7 @@ use Rattle.ww_rule.specs.Grid.{Grid, plane_of}
 use Rattle.ww_rule.specs.Injections.{MeetsConductors}
 use Rattle.pattern_reading.specs.declared.ports.Ports.{Ports}
 use Rattle.netlist_core.specs.declared.flat.Flat.{Flat}
-use Rattle.netlist_meaning.specs.Flat.{nets_but_clocks}
+use Rattle.netlist_meaning.specs.Flat.{listed_nets}
 use Rattle.netlist_meaning.specs.FlatValuation.{AreFlatRows, IsFlatRun, flat_output_bit}
 use Rattle.carries.specs.Cells.{Spells}
 use Rattle.carries.specs.FlatNets.{NamesFlat}
@@ -17,15 +17,15 @@ abbrev pub AreFlatContexts : Flat → (count cycles : ℕ) → List (List (List 
 AreFlatContexts flat count cycles contexts = AreContextRows (AreFlatRows flat) count cycles contexts
 
 -- Driven by any rows of input bits, for any number of cycles: there is a run of the flat netlist for each context, from its start on, and
--- in all such runs each output cell shows the output's bits, and the cell of each net's line those of the net's class. A start has a
--- bit for each latch, in order.
+-- in all such runs each output cell shows the output's bits, and the cell of each listed net those of its class. A start has a bit
+-- for each latch, in order.
 pub record ShowsFlatContexts (plane : Plane) (ports : Ports) (flat : Flat) (starts : List (List Bool)) : Type 0 where
   pub conductors : (cycles : ℕ) (contexts : List (List (List Bool))) → AreFlatContexts flat (length starts) cycles contexts → MeetsConductors (context_drive ports contexts) plane
   pub runs : (cycles : ℕ) (contexts : List (List (List Bool))) → AreFlatContexts flat (length starts) cycles contexts → (runs : ℕ → ℕ → ℕ → Bool) × AreRunsFrom (IsFlatRun flat) starts contexts runs
   pub heads : (cycles : ℕ) (contexts : List (List (List Bool))) → AreFlatContexts flat (length starts) cycles contexts → (runs : ℕ → ℕ → ℕ → Bool) → AreRunsFrom (IsFlatRun flat) starts contexts runs
       → ShowsOutputsInContexts plane ports cycles contexts (λ c t. flat_output_bit flat (runs c t))
   pub nets : (cycles : ℕ) (contexts : List (List (List Bool))) → AreFlatContexts flat (length starts) cycles contexts → (runs : ℕ → ℕ → ℕ → Bool) → AreRunsFrom (IsFlatRun flat) starts contexts runs
-      → ShowsNetLinesInContexts plane ports cycles contexts (nets_but_clocks flat) (λ c t net. runs c t net.class)
+      → ShowsNetLinesInContexts plane ports cycles contexts (listed_nets flat) (λ c t net. runs c t net.class)
 
 -- A text carries a flat netlist in contexts with these starts: it spells a pattern and a port table of so many contexts, the table's
 -- names are the netlist's, and the pattern shows the netlist's runs

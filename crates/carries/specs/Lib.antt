@@ -8,3 +8,5 @@ pub mod Contexts
 pub mod FlatContexts
 pub mod DesignContexts
 pub mod ContextLaws
+pub mod ByItself
+pub mod ByItselfLaws

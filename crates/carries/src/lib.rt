@@ -1,11 +1,12 @@
 //! What it means that a text carries a design, or a flat netlist, also in several contexts: the pattern that it spells
-//! shows its runs.
+//! shows its runs; and what it means that a text runs by itself.
 //!
 //! The functions here do nothing: their clauses are laws of the definition.
 //!
-//! Theorem: `carries_cycles`, `carries_onward`, `contexts_are_isolated`; definitions `Carries`, `CarriesNets`, `CarriesFlat`, `CarriesContexts`.
+//! Theorem: `carries_cycles`, `carries_onward`, `contexts_are_isolated`; definitions `Carries`, `CarriesNets`, `CarriesFlat`, `CarriesContexts`, `RunsByItself`.
 #![tactic(auto)]
 
+ghost use Rattle.carries.specs.ByItselfLaws.{RunnersGoOn, RunsInOneWay, ZerosChangeNothing};
 ghost use Rattle.carries.specs.Laws.{OutputsHaveLines};
 ghost use Rattle.carries.specs.ContextLaws.{CarriesEachContext, CarriesNetsOfEachContext, OutputsAreIsolated, NetsAreIsolated, OneContextCarries, OneContextCarriesNets, OneContextCarriesFlat};
 ghost use Rattle.carries.specs.Shown.{CarriesCycles, CarriesNetCycles, CarriesOnward, CarriesEachFront};
@@ -50,4 +51,14 @@ pub fn one_context_carries()
     ensures design { OneContextCarries }
     ensures nets { OneContextCarriesNets }
     ensures flat { OneContextCarriesFlat }
+{}
+
+/// A text that runs by itself on rows of input bits has one pattern and one table. In a run that goes on with bits 0 it
+/// has the cell of an output as a head at a generation exactly when this is L + t P for a cycle t in which the output's
+/// bit is 1, without a last generation; and the cell of a net so with offset for L. On the rows with rows of 0 after
+/// them it runs by itself, too.
+pub fn runners_go_on()
+    ensures one_way { RunsInOneWay }
+    ensures onward { RunnersGoOn }
+    ensures zeros { ZerosChangeNothing }
 {}

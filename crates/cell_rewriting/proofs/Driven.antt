@@ -1,4 +1,4 @@
--- In a sound netlist the classes that are driven are those of listed nets.
+-- In a sound netlist whose nets are listed, the classes that are driven are those of listed nets.
 use Rattle.std.proofs.Common.{◌≡◌, refl, sym, ◌∙◌, ap, ℕ, Bool, true, false, not, cond, inl, inr, List, [], ◌∷◌, get_or, subst}
 use Rattle.std.specs.Prelude.{Contains, filter}
 use Rattle.std.proofs.lemmas.Option.{slice_get_within, get_or_from_slice_get, slice_get-get_or}
@@ -10,7 +10,7 @@ use Rattle.netlist_core.specs.declared.flat.FlatPort.{FlatPort}
 use Rattle.netlist_core.specs.declared.flat.FlatLatch.{FlatLatch}
 use Rattle.netlist_core.specs.declared.flat.Node.{Node}
 use Rattle.netlist_core.specs.declared.flat.Flat.{Flat}
-use Rattle.netlist_meaning.specs.Flat.{no_net, no_node, IsNetId, class_of, node_at, FlatDriver, FlatDrives, IsClockClass, is_clock_class, nets_but_clocks, IsSound}
+use Rattle.netlist_meaning.specs.Flat.{no_net, no_node, IsNetId, class_of, node_at, FlatDriver, FlatDrives, IsClockClass, is_clock_class, nets_but_clocks, listed_nets, IsSound}
 use Rattle.netlist_meaning.proofs.ClockTest.{is_clock_class-Decides}
 use Rattle.cell_meaning.specs.Listed.{listed_classes}
 use Rattle.cell_rewriting.specs.Mapping.{AreDrivenListed}
@@ -24,12 +24,13 @@ stays_in p (y ∷ ys) x (inr i) passes = by (p y) (stays_in p ys x i passes)
     by true j = inr j
     by false j = j
 
-net_listed : (flat : Flat) (id : NetId) → IsNetId flat id → ¬ IsClockClass flat (class_of flat id) → Contains (listed_classes flat) (class_of flat id)
-net_listed flat id is no_clock =
+net_listed : (flat : Flat) → flat.listed ≡ true → (id : NetId) → IsNetId flat id → ¬ IsClockClass flat (class_of flat id) → Contains (listed_classes flat) (class_of flat id)
+net_listed flat listed id is no_clock =
     let net : FlatNet = get_or flat.nets id.0 no_net in
     let here : In net flat.nets = in_got flat.nets id.0 net (slice_get-get_or flat.nets id.0 no_net is) in
     let kept : not (is_clock_class flat net.class) ≡ true = by_test (is_clock_class flat net.class) refl in
-    contains_from (listed_classes flat) net.class (in_map (λ (n : FlatNet). n.class) (nets_but_clocks flat) net (stays_in (λ (n : FlatNet). not (is_clock_class flat n.class)) flat.nets net here kept))
+    contains_from (listed_classes flat) net.class (in_map (λ (n : FlatNet). n.class) (listed_nets flat) net
+    (subst (λ b. In net (cond b (nets_but_clocks flat) [])) (sym listed) (stays_in (λ (n : FlatNet). not (is_clock_class flat n.class)) flat.nets net here kept)))
   where
     by_test : (b : Bool) → is_clock_class flat (class_of flat id) ≡ b → not b ≡ true
     by_test false e = refl
@@ -53,7 +54,7 @@ driven_net flat sound class (FlatDriver.node n) (within, is) =
     ((node_at flat n).out, All-get_or (λ (m : Node). IsNetId flat m.out) flat.nodes n no_node within sound.in_range.node_outs, is)
 
 pub driven_are_listed : (flat : Flat) → IsSound flat → AreDrivenListed flat
-driven_are_listed flat sound class d drives =
+driven_are_listed flat sound listed class d drives =
     let (id, in_range, is) = driven_net flat sound class d drives in
     subst (λ c. Contains (listed_classes flat) c) is
-    (net_listed flat id in_range (λ clock. sound.clocks_undriven class d drives (subst (λ c. IsClockClass flat c) is clock)))
+    (net_listed flat listed id in_range (λ clock. sound.clocks_undriven class d drives (subst (λ c. IsClockClass flat c) is clock)))

@@ -79,18 +79,18 @@ mapped_stays flat old new kept sound with same =
       latches = m.latches_go ∙ ap (map to) mapped.latches ∙ mapped_twice (λ latch. s (class_of flat latch.input)) to flat.latches;
       nets = m.nets_go ∙ ap (map to) mapped.nets ∙ mapped_twice s to (listed_classes flat);
       own = λ class d drives. own_stays to m.stays d (s class) (mapped.own class d drives);
-      bits = λ inputs state bits valuation class d drives.
+      bits = λ listed inputs state bits valuation class d drives.
           agree (bit_of new inputs state) (bit_of old inputs state) to old.nets (s class)
           (ap (map (bit_of new inputs state)) (sym m.nets_go) ∙ m.nets inputs state)
-          (subst (λ l. In (s class) l) (sym mapped.nets) (in_map s (listed_classes flat) class (in_from (listed_classes flat) class (driven_are_listed flat sound class d drives))))
-          ∙ mapped.bits inputs state bits valuation class d drives;
-      single = λ n cell within e.
+          (subst (λ l. In (s class) l) (sym mapped.nets) (in_map s (listed_classes flat) class (in_from (listed_classes flat) class (driven_are_listed flat sound listed class d drives))))
+          ∙ mapped.bits listed inputs state bits valuation class d drives;
+      single = λ listed n cell within e.
           let before : (c : Cell) × (single_cell (map s (in_classes flat n)) (node_at flat n).rows (node_at flat n).on ≡ Some c) × (cell_over to c ≡ cell) =
           some_before to (single_cell (map s (in_classes flat n)) (node_at flat n).rows (node_at flat n).on) cell
           (sym (single_by to (map s (in_classes flat n)) (node_at flat n).rows (node_at flat n).on)
           ∙ ap (λ l. single_cell l (node_at flat n).rows (node_at flat n).on) (mapped_twice s to (in_classes flat n)) ∙ e) in
           subst (λ c. IsCell new (to (s (out_class flat n))) c) before.2
-          (same.cells (s (out_class flat n)) (with.among n before.0 within before.1) before.0 (mapped.single n before.0 within before.1));
+          (same.cells (s (out_class flat n)) (with.among listed n before.0 within before.1) before.0 (mapped.single listed n before.0 within before.1));
       constant = λ n src within e. ap to (mapped.constant n src within e) ∙ m.stays src (constant_is_none (length (node_at flat n).ins) (node_at flat n).rows (node_at flat n).on src e);
       few = let a = same.few in let b = mapped.few in omega (arith, a, b);
       one = λ e. mapped.one (same.one e);

@@ -1,5 +1,5 @@
 -- A list that is mapped from a flat netlist stays so where it is rewritten.
-use Rattle.std.specs.Prelude.{ℕ, ◌≡◌, Bool, List, Contains}
+use Rattle.std.specs.Prelude.{ℕ, ◌≡◌, Bool, true, List, Contains}
 use Rattle.netlist_core.specs.declared.flat.Flat.{Flat}
 use Rattle.netlist_meaning.specs.Flat.{FlatDriver, FlatDrives, IsSound}
 use Rattle.netlist_meaning.specs.FlatValuation.{IsFlatValuation}
@@ -9,9 +9,9 @@ use Rattle.cell_meaning.specs.Listed.{listed_classes}
 use Rattle.cell_meaning.specs.Mapped.{IsMapped, IsMappedWith, HasBits}
 use Rattle.cell_rewriting.specs.Same.{Rewrites}
 
--- each class that is driven is that of a listed net
+-- where the nets are listed, each class that is driven is that of a listed net
 abbrev pub AreDrivenListed : Flat → Type 0
-AreDrivenListed flat = (class : ℕ) (d : FlatDriver) → FlatDrives flat d class → Contains (listed_classes flat) class
+AreDrivenListed flat = flat.listed ≡ true → (class : ℕ) (d : FlatDriver) → FlatDrives flat d class → Contains (listed_classes flat) class
 
 -- a list that computes the same as a mapped one, and keeps the covers of one cell, is mapped from the same netlist
 abbrev pub MappedStays : Type 0

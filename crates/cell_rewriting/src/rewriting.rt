@@ -102,11 +102,32 @@ fn begun(alloc: Global, list: &CellList, kept: &[Src]) -> Result<KeptList, Rewri
     })
 }
 
+// The new list, if it is no larger and has fewer cells.
+fn if_fewer(now: &KeptList, new: Option<KeptList>) -> Option<KeptList>
+    requires { IfSome new (λ n. Keeps now.now.list now.now.kept.items n.list n.kept.items) }
+    ensures { IfSome result (λ n. IsRewritten now.now.list now.now.kept.items n.list n.kept.items) }
+{
+    match if_no_larger(now, new) {
+        Some(new) if new.list.cells.len() < now.list.cells.len() => Some(new),
+        _ => None,
+    }
+}
+
+// A copy of a list and of its kept sources, without the cells that nothing reads.
+fn swept(alloc: Global, list: &CellList, kept: &[Src]) -> Result<KeptList, RewriteError>
+    ensures { IfOk result (λ n. IsRewritten list.now kept.now n.list n.kept.items) }
+{
+    let now = begun(alloc, list, kept)?;
+    let new = replaced(alloc, &now, &[])?;
+    let fewer = if_fewer(&now, new);
+    Ok(next_or(now, fewer))
+}
+
 // The list after rounds in which cells become fewer, as long as they do.
 fn reduced(alloc: Global, list: &CellList, kept: &[Src]) -> Result<KeptList, RewriteError>
     ensures { IfOk result (λ n. IsRewritten list.now kept.now n.list n.kept.items) }
 {
-    let mut now = begun(alloc, list, kept)?;
+    let mut now = swept(alloc, list, kept)?;
     let mut chances = Chances::new(0);
     for _ in 0..ROUNDS {
         let next = next_list(alloc, &now, Round::Fewer, &mut chances)?;

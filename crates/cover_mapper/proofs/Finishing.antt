@@ -15,7 +15,7 @@ use Rattle.netlist_core.specs.declared.flat.FlatPort.{FlatPort}
 use Rattle.netlist_core.specs.declared.flat.FlatLatch.{FlatLatch}
 use Rattle.netlist_core.specs.declared.flat.Node.{Node}
 use Rattle.netlist_core.specs.declared.flat.Flat.{Flat}
-use Rattle.netlist_meaning.specs.Flat.{class_of, node_at, no_node, no_net, port_classes, is_clock_class, IsNetId, IsClockClass, IsSound, FlatDriver, FlatDrives}
+use Rattle.netlist_meaning.specs.Flat.{class_of, node_at, no_node, no_net, port_classes, is_clock_class, nets_but_clocks, IsNetId, IsClockClass, IsSound, FlatDriver, FlatDrives}
 use Rattle.netlist_meaning.specs.FlatOrder.{IsOrder}
 use Rattle.netlist_meaning.specs.FlatValuation.{IsFlatValuation}
 use Rattle.cell_core.specs.declared.cells.Src.{Src}
@@ -130,14 +130,14 @@ plain_known flat sources [] told = λ p lt. absurd (omega (arith, lt))
 plain_known flat sources (class ∷ classes) told = one_known flat sources class classes (is_clock_class flat class) refl (told 0 (omega arith)).1 (plain_known flat sources classes (λ p lt. told (suc p) (omega (arith, lt))))
 
 -- ---- the whole list
--- its ports and nets are the sources of their classes
+-- its ports and listed nets are the sources of their classes
 pub record Has (flat : Flat) (list new : CellList) (sources : ClassSources) : Type 0 where
   pub inputs : new.inputs ≡ list.inputs
   pub cells : new.cells ≡ list.cells
   pub starts : new.starts ≡ list.starts
   pub outs : new.outs ≡ sources_at sources (port_classes flat flat.outs)
   pub latches : new.latches ≡ sources_at sources (map (λ (latch : FlatLatch). class_of flat latch.input) flat.latches)
-  pub nets : new.nets ≡ sources_at sources (map (λ (net : FlatNet). net.class) flat.nets)
+  pub nets : new.nets ≡ sources_at sources (cond flat.listed (map (λ (net : FlatNet). net.class) flat.nets) [])
 
 -- these are the sources of classes that are known
 pub record Ports (flat : Flat) (list : CellList) (sources : ClassSources) : Type 0 where
@@ -146,7 +146,7 @@ pub record Ports (flat : Flat) (list : CellList) (sources : ClassSources) : Type
   pub outs_known : AreKnown sources (port_classes flat flat.outs)
   pub data_known : AreKnown sources (map (λ (latch : FlatLatch). class_of flat latch.input) flat.latches)
   pub nets_known : AreKnown sources (listed_classes flat)
-  pub nets : sources_at sources (map (λ (net : FlatNet). net.class) flat.nets) ≡ map (source_at sources) (listed_classes flat)
+  pub nets : sources_at sources (cond flat.listed (map (λ (net : FlatNet). net.class) flat.nets) []) ≡ map (source_at sources) (listed_classes flat)
 
 pub ports : (flat : Flat) → IsSound flat → (list : CellList) (sources : ClassSources) → IsComplete flat list sources → Ports flat list sources
 ports flat sound list sources whole =
@@ -156,9 +156,18 @@ ports flat sound list sources whole =
       sourced = whole.mapped.sourced;
       outs_known = outs_known flat sound whole.order whole.ordered list sources whole.mapped.sourced;
       data_known = data_known flat sound whole.order whole.ordered list sources whole.mapped.sourced;
-      nets_known = subst (AreKnown sources) (sym (classes_of_filtered flat flat.nets)) (plain_known flat sources (map (λ (net : FlatNet). net.class) flat.nets) told);
-      nets = plain_gathered flat sources (map (λ (net : FlatNet). net.class) flat.nets) told ∙ ap (map (source_at sources)) (sym (classes_of_filtered flat flat.nets));
+      nets_known = listed_known flat.listed (subst (AreKnown sources) (sym (classes_of_filtered flat flat.nets)) (plain_known flat sources (map (λ (net : FlatNet). net.class) flat.nets) told));
+      nets = listed_gathered flat.listed (plain_gathered flat sources (map (λ (net : FlatNet). net.class) flat.nets) told ∙ ap (map (source_at sources)) (sym (classes_of_filtered flat flat.nets)));
     }
+  where
+    listed_known : (listed : Bool) → AreKnown sources (map (λ (net : FlatNet). net.class) (nets_but_clocks flat)) → AreKnown sources (map (λ (net : FlatNet). net.class) (cond listed (nets_but_clocks flat) []))
+    listed_known true known = known
+    listed_known false known = λ p lt. absurd (omega (arith, lt))
+
+    listed_gathered : (listed : Bool) → sources_at sources (map (λ (net : FlatNet). net.class) flat.nets) ≡ map (source_at sources) (map (λ (net : FlatNet). net.class) (nets_but_clocks flat))
+        → sources_at sources (cond listed (map (λ (net : FlatNet). net.class) flat.nets) []) ≡ map (source_at sources) (map (λ (net : FlatNet). net.class) (cond listed (nets_but_clocks flat) []))
+    listed_gathered true e = e
+    listed_gathered false e = refl
 
 -- known classes have sources that are there
 pub gathered_there : (flat : Flat) (made : FlatDriver → Type 0) (list : CellList) (sources : ClassSources) (classes : List ℕ) (found : List Src) → AreSourced flat made list sources → AreKnown sources classes → found ≡ map (source_at sources) classes
@@ -178,10 +187,10 @@ finished flat sound list new sources whole has =
       latches = latches ∙ map-map (source_at sources) (λ (latch : FlatLatch). class_of flat latch.input) flat.latches;
       nets = nets;
       own = λ class d drives. first.own class d (source_at sources class) drives (made d class drives) (known_at sources class (driven_known flat whole.order whole.ordered list sources first class d drives));
-      bits = λ inputs state bits solves class d drives.
+      bits = λ listed inputs state bits solves class d drives.
           ap (λ cells. bit_in cells inputs state (source_at sources class)) has.cells
           ∙ first.bits inputs state bits solves class (source_at sources class) (known_at sources class (driven_known flat whole.order whole.ordered list sources first class d drives));
-      single = λ n cell lt e.
+      single = λ listed n cell lt e.
           let (j, within, is) = node_number flat whole.order whole.ordered n lt in
           let (k, at, cell_at) = subst (HasSingle flat list sources) is (whole.mapped.single j within) cell e in
           (k, at, ap (λ (cells : List Cell). slice_get cells k) has.cells ∙ cell_at);
@@ -230,7 +239,7 @@ finished flat sound list new sources whole has =
 
 -- with the sources of the covers that are one cell
 pub finished_with : (flat : Flat) → IsSound flat → (list new : CellList) (sources : ClassSources) → IsComplete flat list sources → Has flat list new sources
-    → (singles : List Src) → singles ≡ filter_map (single_source flat sources) flat.nodes → IsMappedWith flat new singles
+    → (singles : List Src) → singles ≡ cond flat.listed (filter_map (single_source flat sources) flat.nodes) [] → IsMappedWith flat new singles
 unfolding finished
 finished_with flat sound list new sources whole has singles are =
     record { mapped = finished flat sound list new sources whole has; among = singles_among flat sources singles are }

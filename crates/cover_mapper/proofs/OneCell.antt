@@ -59,10 +59,11 @@ is_one_cell flat sources n cell e =
     let over = single_over (map sources (in_classes flat n)) (node_at flat n).rows (node_at flat n).on cell e in
     and_from _ _ (eq-eqb (length (node_at flat n).ins) 2 (sym (length-map (node_at flat n).ins (class_of flat)) ∙ sym (length-map (in_classes flat n) sources) ∙ over.0)) over.1
 
-pub singles_among : (flat : Flat) (sources : ClassSources) (singles : List Src) → singles ≡ filter_map (single_source flat sources) flat.nodes → AreSinglesAmong flat (source_at sources) singles
-singles_among flat sources singles is n cell lt e =
+pub singles_among : (flat : Flat) (sources : ClassSources) (singles : List Src) → singles ≡ cond flat.listed (filter_map (single_source flat sources) flat.nodes) [] → AreSinglesAmong flat (source_at sources) singles
+singles_among flat sources singles is listed n cell lt e =
     let node = node_at flat n in
     let made : single_source flat sources node ≡ Some (source_at sources (out_class flat n)) =
     ap (λ b. cond b (Some (source_at sources (out_class flat n))) None) (is_one_cell flat (source_at sources) n cell e) in
     contains_from singles (source_at sources (out_class flat n))
-    (subst (λ l. In (source_at sources (out_class flat n)) l) (sym is) (filtered_in (single_source flat sources) flat.nodes node (source_at sources (out_class flat n)) (in_from flat.nodes node (Contains-get_or flat.nodes n no_node lt)) made))
+    (subst (λ l. In (source_at sources (out_class flat n)) l)
+    (sym (is ∙ ap (λ b. cond b (filter_map (single_source flat sources) flat.nodes) []) listed)) (filtered_in (single_source flat sources) flat.nodes node (source_at sources (out_class flat n)) (in_from flat.nodes node (Contains-get_or flat.nodes n no_node lt)) made))

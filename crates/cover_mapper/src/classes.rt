@@ -1,5 +1,5 @@
 // Classes of nets, and their sources.
-ghost use Rattle.std.specs.Prelude.{◌≡◌, ◌++◌, map, get_or, None, IfOk, OnOk};
+ghost use Rattle.std.specs.Prelude.{◌≡◌, ◌++◌, [], cond, map, get_or, None, IfOk, OnOk};
 ghost use Rattle.std.specs.Option.{option_to_list};
 ghost use Rattle.netlist_core.specs.declared.flat.Net as flat_net;
 ghost use Rattle.netlist_meaning.specs.Flat.{class_of, port_classes};
@@ -82,8 +82,8 @@ pub fn sources_of_data(
     Ok(found)
 }
 
-/// The sources of all nets that have one.
-pub fn sources_of_all(
+// The sources of all nets that have one.
+fn sources_of_all(
     alloc: Global,
     sources: &[Option<Src>],
     nets: &[Net],
@@ -97,4 +97,21 @@ pub fn sources_of_all(
         push_source(&mut found, sources, net.class as usize)?;
     }
     Ok(found)
+}
+
+/// The sources of the nets that port tables list.
+pub fn sources_of_listed(
+    alloc: Global,
+    flat: &Flat,
+    sources: &[Option<Src>],
+) -> Result<Vec<Src>, MapError>
+    ensures { IfOk result (λ found.
+        found.items
+        ≡ sources_at sources.now (cond flat.now.listed (map (λ (net : flat_net.Net). net.class) flat.now.nets) [])
+        ) }
+{
+    if !flat.listed {
+        return Ok(Vec::new(alloc));
+    }
+    sources_of_all(alloc, sources, flat.nets.as_slice())
 }

@@ -6,24 +6,24 @@ ghost use Rattle.netlist_meaning.specs.FlatValuation.{IsFlatValuation};
 ghost use Rattle.cell_meaning.specs.Mapped.{HasBits, IsMappedWith};
 ghost use Rattle.cover_mapper.specs.Sourced.{IsComplete};
 
-use crate::classes::{sources_of_all, sources_of_data, sources_of_ports};
+use crate::classes::{sources_of_data, sources_of_listed, sources_of_ports};
 use crate::error::MapError;
 use crate::nodes::map_nodes;
-use crate::singles::sources_of_singles;
+use crate::singles::listed_singles;
 use crate::start::{source_inputs, source_latches, start_list};
 use cell_core::{CellList, Src};
 use lists::List;
 use netlist_core::{Flat, Order};
 use std::alloc::Global;
 
-/// The cells of a flat netlist, and the sources of those of its covers that are one cell each.
+/// The cells of a flat netlist, and where its nets are listed, the sources of those of its covers that are one cell each.
 #[derive(Drop)]
 pub struct Mapped {
     pub list: CellList,
     pub singles: Vec<Src>,
 }
 
-// The list with its ports and nets.
+// The list with its ports and listed nets.
 fn with_ports(
     alloc: Global,
     flat: &Flat,
@@ -38,8 +38,8 @@ fn with_ports(
 {
     let outs = sources_of_ports(alloc, flat, sources, flat.outs.as_slice())?;
     let latches = sources_of_data(alloc, flat, sources, flat.latches.as_slice())?;
-    let nets = sources_of_all(alloc, sources, flat.nets.as_slice())?;
-    let singles = sources_of_singles(alloc, flat, sources, flat.nodes.as_slice())?;
+    let nets = sources_of_listed(alloc, flat, sources)?;
+    let singles = listed_singles(alloc, flat, sources)?;
     let list = CellList {
         inputs: list.inputs,
         cells: list.cells,
@@ -76,7 +76,8 @@ fn map_from(
 /// The cells of a sound flat netlist, for an order of its covers in which each comes after those that it reads.
 ///
 /// A cover without rows, or of no nets, is a constant. A cover of two nets that is an OR, an XOR or an AND-NOT is one
-/// cell, which other covers may share, and its source is among the singles; how the products of other covers are formed is free.
+/// cell, which other covers may share, and where port tables list the nets, its source is among the singles; how the
+/// products of other covers are formed is free. Where they list none, neither does the list of cells, and there are no singles.
 pub fn map(alloc: Global, flat: &Flat, order: &Order) -> Result<Mapped, MapError>
     requires sound { IsSound flat.now }
     requires weighed { IsWeighed flat.now }

@@ -1,5 +1,5 @@
 // Covers that are one cell each.
-ghost use Rattle.std.specs.Prelude.{◌≡◌, ◌++◌, IfOk, OnOk};
+ghost use Rattle.std.specs.Prelude.{◌≡◌, ◌++◌, [], cond, IfOk, OnOk};
 ghost use Rattle.std.specs.List.{filter_map};
 ghost use Rattle.std.specs.Option.{option_to_list};
 ghost use Rattle.cover_mapper.specs.Singles.{is_single, single_source};
@@ -51,8 +51,8 @@ fn push_single(
     Ok(())
 }
 
-/// The sources of those of the nodes whose covers are one cell, in order.
-pub fn sources_of_singles(
+// The sources of those of the nodes whose covers are one cell, in order.
+fn sources_of_singles(
     alloc: Global,
     flat: &Flat,
     sources: &[Option<Src>],
@@ -65,4 +65,21 @@ pub fn sources_of_singles(
         push_single(&mut found, flat, sources, node)?;
     }
     Ok(found)
+}
+
+/// The sources of all covers that are one cell, in order, where port tables list the nets.
+pub fn listed_singles(
+    alloc: Global,
+    flat: &Flat,
+    sources: &[Option<Src>],
+) -> Result<Vec<Src>, MapError>
+    ensures { IfOk result (λ found.
+        found.items
+        ≡ cond flat.now.listed (filter_map (single_source flat.now sources.now) flat.now.nodes) []
+        ) }
+{
+    if !flat.listed {
+        return Ok(Vec::new(alloc));
+    }
+    sources_of_singles(alloc, flat, sources, flat.nodes.as_slice())
 }

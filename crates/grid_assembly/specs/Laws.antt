@@ -4,14 +4,13 @@ use Rattle.tiling.specs.Steps.{StepsByMacro}
 use Rattle.tile_library.specs.Drawings.{shipped_drawing}
 use Rattle.lane_core.specs.declared.plan.Plan.{Plan}
 use Rattle.lane_core.specs.Plans.{IsAdmissible}
-use Rattle.plan_layout.specs.Planes.{start_plane}
-use Rattle.plan_layout.specs.Layout.{tiling_of}
+use Rattle.plan_layout.specs.Tape.{drawn_plane, drawn_tiling}
 use Rattle.grid_assembly.specs.PlanDrawing.{start_grid, IsPatternOf}
 
--- every admissible plan, whichever edges are lit, goes on by macro steps
+-- the drawing of every admissible plan, whichever edges are lit, goes on by macro steps
 abbrev pub StepsByEdges : Type 0
-StepsByEdges = (plan : Plan) → IsAdmissible plan → (lit : Lit) → StepsByMacro shipped_drawing (tiling_of plan) lit
+StepsByEdges = (plan : Plan) → IsAdmissible plan → (lit : Lit) → StepsByMacro shipped_drawing (drawn_tiling plan) lit
 
--- every admissible plan's pattern is the plan's plane at generation 0
+-- every admissible plan's pattern is the plane of its drawing at generation 0
 abbrev pub PatternsArePlanes : Type 0
-PatternsArePlanes = (plan : Plan) → IsAdmissible plan → IsPatternOf (start_grid plan) (start_plane shipped_drawing plan)
+PatternsArePlanes = (plan : Plan) → IsAdmissible plan → IsPatternOf (start_grid plan) (drawn_plane shipped_drawing plan)

@@ -1,3 +1,4 @@
 pub mod PortCells
 pub mod PlanDrawing
+pub mod West
 pub mod Laws

@@ -2,8 +2,7 @@
 ghost use Rattle.std.specs.Prelude.{◌≡◌, ◌<◌, ◌^◌, pos, true, false, cond, ℕ};
 ghost use Rattle.ww_rule.specs.declared.pattern.State.TheVariants.{Conductor, Empty};
 ghost use Rattle.lane_core.specs.Plans.{IsAdmissible};
-ghost use Rattle.plan_layout.specs.Layout.{tiling_of};
-ghost use Rattle.plan_layout.specs.Starts.{start_edges};
+ghost use Rattle.plan_layout.specs.Tape.{drawn_edges, drawn_tiling};
 ghost use Rattle.plan_layout.specs.Slots.{piece_of, slot_of};
 ghost use Rattle.tile_core.specs.Drawing.{is_cell_of};
 ghost use Rattle.tile_core.specs.Kinds.{interface};
@@ -13,7 +12,7 @@ ghost use Rattle.tiling.specs.Tiling.Piece.{Tile, Output};
 ghost use Rattle.grid_assembly.specs.PortCells.{is_at, head_at, tail_at};
 
 use lane_core::Plan;
-use plan_layout::{Edge, Piece, Slot, is_start};
+use plan_layout::{Edge, Piece, Slot, is_lit};
 use tile_core::{Kind, Library};
 use tile_library::Shipped;
 use ww_rule::State;
@@ -21,28 +20,30 @@ use ww_rule::State;
 // Whether the edge at a port is lit at generation 0, by the port's place in the box of a piece whose first block is at this
 // tile column and lane.
 fn is_port_lit(plan: &Plan, column: u64, lane: u64, port: (u32, u32)) -> bool
+    requires admissible { IsAdmissible plan.now }
     requires far { column < 2 ^ 57 }
     requires low { lane < 2 ^ 57 }
-    ensures { result ≡ start_edges plan.now (edge_of column lane port) }
+    ensures { result ≡ drawn_edges plan.now (edge_of column lane port) }
 {
     let (x, y) = port;
     if x == 0 {
-        is_start(plan, Edge::Beside(column, lane + y as u64 / 16))
+        is_lit(plan, Edge::Beside(column, lane + y as u64 / 16))
     } else if x == 31 {
-        is_start(plan, Edge::Beside(column + 1, lane + y as u64 / 16))
+        is_lit(plan, Edge::Beside(column + 1, lane + y as u64 / 16))
     } else if y == 0 {
-        is_start(plan, Edge::Above(column, lane))
+        is_lit(plan, Edge::Above(column, lane))
     } else {
-        is_start(plan, Edge::Above(column, lane + (y as u64 + 1) / 16))
+        is_lit(plan, Edge::Above(column, lane + (y as u64 + 1) / 16))
     }
 }
 
 // Whether the n-th entry of a tile is lit at generation 0, counted from 0.
 fn is_entry_lit(plan: &Plan, column: u64, lane: u64, kind: Kind, n: usize) -> bool
+    requires admissible { IsAdmissible plan.now }
     requires far { column < 2 ^ 57 }
     requires low { lane < 2 ^ 57 }
     requires two { n < 2 }
-    ensures { result ≡ is_entry_lit (start_edges plan.now) column lane (interface kind) n }
+    ensures { result ≡ is_entry_lit (drawn_edges plan.now) column lane (interface kind) n }
 {
     if n as u32 >= kind.lanes() {
         return false;
@@ -52,10 +53,11 @@ fn is_entry_lit(plan: &Plan, column: u64, lane: u64, kind: Kind, n: usize) -> bo
 
 // Whether the n-th exit of a tile is lit at generation 0, counted from 0.
 fn is_exit_lit(plan: &Plan, column: u64, lane: u64, kind: Kind, n: usize) -> bool
+    requires admissible { IsAdmissible plan.now }
     requires far { column < 2 ^ 57 }
     requires low { lane < 2 ^ 57 }
     requires two { n < 2 }
-    ensures { result ≡ is_exit_lit (start_edges plan.now) column lane (interface kind) n }
+    ensures { result ≡ is_exit_lit (drawn_edges plan.now) column lane (interface kind) n }
 {
     if n as u32 >= kind.lanes() {
         return false;
@@ -80,20 +82,22 @@ fn is_lit_entry(
     n: usize,
     place: (u32, u32),
 ) -> bool
+    requires admissible { IsAdmissible plan.now }
     requires far { column < 2 ^ 57 }
     requires low { lane < 2 ^ 57 }
     requires two { n < 2 }
-    ensures { result ≡ head_at (start_edges plan.now) column lane kind n place.0 place.1 }
+    ensures { result ≡ head_at (drawn_edges plan.now) column lane kind n place.0 place.1 }
 {
     is_at(place, kind.entries()[n]) && is_entry_lit(plan, column, lane, kind, n)
 }
 
 // Whether the n-th exit of a tile is at a place of its box, and lit.
 fn is_lit_exit(plan: &Plan, column: u64, lane: u64, kind: Kind, n: usize, place: (u32, u32)) -> bool
+    requires admissible { IsAdmissible plan.now }
     requires far { column < 2 ^ 57 }
     requires low { lane < 2 ^ 57 }
     requires two { n < 2 }
-    ensures { result ≡ tail_at (start_edges plan.now) column lane kind n place.0 place.1 }
+    ensures { result ≡ tail_at (drawn_edges plan.now) column lane kind n place.0 place.1 }
 {
     is_at(place, kind.exits()[n]) && is_exit_lit(plan, column, lane, kind, n)
 }
@@ -101,9 +105,10 @@ fn is_lit_exit(plan: &Plan, column: u64, lane: u64, kind: Kind, n: usize, place:
 // Whether a tile has a head at a place of its box: an entry cell at a lit edge.
 #[tactic(auto, using(crate::proofs::Ports::heads_at))]
 fn is_head(plan: &Plan, column: u64, lane: u64, kind: Kind, place: (u32, u32)) -> bool
+    requires admissible { IsAdmissible plan.now }
     requires far { column < 2 ^ 57 }
     requires low { lane < 2 ^ 57 }
-    ensures { result ≡ is_cell_of (pos place.0) (pos place.1) (heads_of (start_edges plan.now) column lane (interface kind)) }
+    ensures { result ≡ is_cell_of (pos place.0) (pos place.1) (heads_of (drawn_edges plan.now) column lane (interface kind)) }
 {
     is_lit_entry(plan, column, lane, kind, 0, place)
         || is_lit_entry(plan, column, lane, kind, 1, place)
@@ -112,9 +117,10 @@ fn is_head(plan: &Plan, column: u64, lane: u64, kind: Kind, place: (u32, u32)) -
 // Whether a tile has a tail at a place of its box: an exit cell at a lit edge.
 #[tactic(auto, using(crate::proofs::Ports::tails_at))]
 fn is_tail(plan: &Plan, column: u64, lane: u64, kind: Kind, place: (u32, u32)) -> bool
+    requires admissible { IsAdmissible plan.now }
     requires far { column < 2 ^ 57 }
     requires low { lane < 2 ^ 57 }
-    ensures { result ≡ is_cell_of (pos place.0) (pos place.1) (tails_of (start_edges plan.now) column lane (interface kind)) }
+    ensures { result ≡ is_cell_of (pos place.0) (pos place.1) (tails_of (drawn_edges plan.now) column lane (interface kind)) }
 {
     is_lit_exit(plan, column, lane, kind, 0, place)
         || is_lit_exit(plan, column, lane, kind, 1, place)
@@ -123,10 +129,11 @@ fn is_tail(plan: &Plan, column: u64, lane: u64, kind: Kind, place: (u32, u32)) -
 // Whether no electron stands at generation 0 in a row of a tile's box.
 #[tactic(auto, using(crate::proofs::Ports::dark_row))]
 pub fn is_row_dark(plan: &Plan, column: u64, lane: u64, kind: Kind, y: u32) -> bool
+    requires admissible { IsAdmissible plan.now }
     requires far { column < 2 ^ 57 }
     requires low { lane < 2 ^ 57 }
     ensures { result ≡ true → (x : ℕ) →
-        drawn_piece shipped_drawing (start_edges plan.now) column lane (Tile kind) x y
+        drawn_piece shipped_drawing (drawn_edges plan.now) column lane (Tile kind) x y
         ≡ cond (shipped_drawing kind (pos x) (pos y)) Conductor Empty }
 {
     !has_electron(plan, column, lane, kind, 0, y) && !has_electron(plan, column, lane, kind, 1, y)
@@ -134,40 +141,44 @@ pub fn is_row_dark(plan: &Plan, column: u64, lane: u64, kind: Kind, y: u32) -> b
 
 // Whether the n-th entry or the n-th exit of a tile is in a row of its box, and lit.
 fn has_electron(plan: &Plan, column: u64, lane: u64, kind: Kind, n: usize, y: u32) -> bool
+    requires admissible { IsAdmissible plan.now }
     requires far { column < 2 ^ 57 }
     requires low { lane < 2 ^ 57 }
     requires two { n < 2 }
-    ensures head { result ≡ false → (x : ℕ) → head_at (start_edges plan.now) column lane kind n x y ≡ false }
-    ensures tail { result ≡ false → (x : ℕ) → tail_at (start_edges plan.now) column lane kind n x y ≡ false }
+    ensures head { result ≡ false → (x : ℕ) → head_at (drawn_edges plan.now) column lane kind n x y ≡ false }
+    ensures tail { result ≡ false → (x : ℕ) → tail_at (drawn_edges plan.now) column lane kind n x y ≡ false }
 {
     has_head(plan, column, lane, kind, n, y) || has_tail(plan, column, lane, kind, n, y)
 }
 
 // Whether the n-th entry of a tile is in a row of its box, and lit.
 fn has_head(plan: &Plan, column: u64, lane: u64, kind: Kind, n: usize, y: u32) -> bool
+    requires admissible { IsAdmissible plan.now }
     requires far { column < 2 ^ 57 }
     requires low { lane < 2 ^ 57 }
     requires two { n < 2 }
-    ensures { result ≡ false → (x : ℕ) → head_at (start_edges plan.now) column lane kind n x y ≡ false }
+    ensures { result ≡ false → (x : ℕ) → head_at (drawn_edges plan.now) column lane kind n x y ≡ false }
 {
     kind.entries()[n].1 == y && is_entry_lit(plan, column, lane, kind, n)
 }
 
 // Whether the n-th exit of a tile is in a row of its box, and lit.
 fn has_tail(plan: &Plan, column: u64, lane: u64, kind: Kind, n: usize, y: u32) -> bool
+    requires admissible { IsAdmissible plan.now }
     requires far { column < 2 ^ 57 }
     requires low { lane < 2 ^ 57 }
     requires two { n < 2 }
-    ensures { result ≡ false → (x : ℕ) → tail_at (start_edges plan.now) column lane kind n x y ≡ false }
+    ensures { result ≡ false → (x : ℕ) → tail_at (drawn_edges plan.now) column lane kind n x y ≡ false }
 {
     kind.exits()[n].1 == y && is_exit_lit(plan, column, lane, kind, n)
 }
 
 // A cell of a tile whose first block is at this tile column and lane, by its place in the tile's box.
 pub fn tile_cell(plan: &Plan, column: u64, lane: u64, kind: Kind, place: (u32, u32)) -> State
+    requires admissible { IsAdmissible plan.now }
     requires far { column < 2 ^ 57 }
     requires low { lane < 2 ^ 57 }
-    ensures { result ≡ drawn_piece shipped_drawing (start_edges plan.now) column lane (Tile kind) place.0 place.1 }
+    ensures { result ≡ drawn_piece shipped_drawing (drawn_edges plan.now) column lane (Tile kind) place.0 place.1 }
 {
     if !Shipped.cell(kind, place.0, place.1) {
         State::Empty
@@ -182,9 +193,10 @@ pub fn tile_cell(plan: &Plan, column: u64, lane: u64, kind: Kind, place: (u32, u
 
 // A cell of a piece whose first block is at this tile column and lane, by its place in the piece's box.
 fn piece_cell(plan: &Plan, column: u64, lane: u64, piece: Piece, place: (u32, u32)) -> State
+    requires admissible { IsAdmissible plan.now }
     requires far { column < 2 ^ 57 }
     requires low { lane < 2 ^ 57 }
-    ensures { result ≡ drawn_piece shipped_drawing (start_edges plan.now) column lane (piece_of piece) place.0 place.1 }
+    ensures { result ≡ drawn_piece shipped_drawing (drawn_edges plan.now) column lane (piece_of piece) place.0 place.1 }
 {
     match piece {
         Piece::Tile(kind) => tile_cell(plan, column, lane, kind, place),
@@ -194,13 +206,14 @@ fn piece_cell(plan: &Plan, column: u64, lane: u64, piece: Piece, place: (u32, u3
 
 // A cell of a block where an output cell stands.
 pub fn output_cell(plan: &Plan, column: u64, lane: u64, place: (u32, u32)) -> State
+    requires admissible { IsAdmissible plan.now }
     requires far { column < 2 ^ 57 }
     requires low { lane < 2 ^ 57 }
-    ensures { result ≡ drawn_piece shipped_drawing (start_edges plan.now) column lane Output place.0 place.1 }
+    ensures { result ≡ drawn_piece shipped_drawing (drawn_edges plan.now) column lane Output place.0 place.1 }
 {
     if place != (0, 8) {
         State::Empty
-    } else if is_start(plan, Edge::Beside(column, lane)) {
+    } else if is_lit(plan, Edge::Beside(column, lane)) {
         State::Head
     } else {
         State::Conductor
@@ -210,9 +223,9 @@ pub fn output_cell(plan: &Plan, column: u64, lane: u64, place: (u32, u32)) -> St
 /// A cell of the block of this tile column and lane, in which `slot` stands, by its place in the block.
 pub fn slot_cell(plan: &Plan, column: u64, lane: u64, slot: Slot, x: u32, y: u32) -> State
     requires admissible { IsAdmissible plan.now }
-    requires slot { slot_of slot ≡ tiling_of plan.now column lane }
+    requires slot { slot_of slot ≡ drawn_tiling plan.now column lane }
     requires in_block { y < 16 }
-    ensures { result ≡ drawn_slot shipped_drawing (start_edges plan.now) column lane (slot_of slot) x y }
+    ensures { result ≡ drawn_slot shipped_drawing (drawn_edges plan.now) column lane (slot_of slot) x y }
 {
     match slot {
         Slot::Nothing => State::Empty,

@@ -7,6 +7,8 @@ mod cells;
 pub mod laws;
 mod rows;
 mod runs;
+mod west;
 
 pub use rows::{cell, fill_row, pattern_of, size};
 pub use runs::{run_at, run_in};
+pub use west::{West, run_on_tape, tape_end, west_of};

@@ -3,13 +3,13 @@ ghost use Rattle.std.specs.Prelude.{◌≡◌, ◌≤◌, ◌+◌, ◌^◌, pos,
 ghost use Rattle.ww_rule.specs.Grid.{IsEmptyOutside};
 ghost use Rattle.ww_rule.specs.Patterns.{grid_of};
 ghost use Rattle.lane_core.specs.Plans.{IsAdmissible, size_of};
+ghost use Rattle.plan_layout.specs.Tape.{drawn_plane};
 ghost use Rattle.tile_library.specs.Drawings.{shipped_drawing};
-ghost use Rattle.plan_layout.specs.Planes.{start_plane};
 ghost use Rattle.grid_assembly.specs.PlanDrawing.{AreCellsOfRow, start_grid};
 
 use crate::cells::{is_slot_blank, slot_cell};
-use lane_core::Plan;
-use plan_layout::slot_at;
+use lane_core::{Plan, tape_shift};
+use plan_layout::slot_drawn_at;
 use std::alloc::{AllocError, Global};
 use ww_rule::{CellRows, Pattern, State};
 
@@ -17,14 +17,14 @@ use ww_rule::{CellRows, Pattern, State};
 pub fn size(plan: &Plan) -> (u64, u64)
     requires { IsAdmissible plan.now }
     ensures exact { result ≡ size_of plan.now }
-    ensures outside { IsEmptyOutside result.0 result.1 (start_plane shipped_drawing plan.now) }
+    ensures outside { IsEmptyOutside result.0 result.1 (drawn_plane shipped_drawing plan.now) }
 {
     if plan.lanes == 0 {
         return (0, 0);
     }
     let loops = plan.latches as u64;
     (
-        32 * (plan.columns.len() as u64 + 2 * loops) + 1,
+        32 * (tape_shift(plan) + (plan.columns.len() as u64 + 2 * loops)) + 1,
         16 * (plan.lanes as u64 + loops),
     )
 }
@@ -33,14 +33,14 @@ pub fn size(plan: &Plan) -> (u64, u64)
 /// empty.
 pub fn cell(plan: &Plan, x: u64, y: u64) -> State
     requires { IsAdmissible plan.now }
-    ensures { result ≡ start_plane shipped_drawing plan.now (pos x) (pos y) }
+    ensures { result ≡ drawn_plane shipped_drawing plan.now (pos x) (pos y) }
 {
     let (column, lane) = (x / 32, y / 16);
     slot_cell(
         plan,
         column,
         lane,
-        slot_at(plan, column, lane),
+        slot_drawn_at(plan, column, lane),
         (x % 32) as u32,
         (y % 16) as u32,
     )
@@ -55,13 +55,13 @@ pub fn fill_row(plan: &Plan, y: u64, x: u64, row: &mut [State])
     let lane = y / 16;
     let below = (y % 16) as u32;
     let mut column = x / 32;
-    let mut slot = slot_at(plan, column, lane);
+    let mut slot = slot_drawn_at(plan, column, lane);
     let mut is_blank = is_slot_blank(slot, below);
     for (i, cell) in row.iter_mut().enumerate() {
         let place = x + i as u64;
         if place / 32 != column {
             column = place / 32;
-            slot = slot_at(plan, column, lane);
+            slot = slot_drawn_at(plan, column, lane);
             is_blank = is_slot_blank(slot, below);
         }
         *cell = if is_blank {

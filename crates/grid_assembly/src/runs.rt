@@ -1,10 +1,8 @@
 // Runs of equal cells in a row, block by block.
 ghost use Rattle.std.specs.Prelude.{◌≡◌, ◌-◌, ◌<◌, ◌≤◌, ◌^◌, ◌/◌, ◌%◌, ℕ, pos};
 ghost use Rattle.lane_core.specs.Plans.{IsAdmissible};
-ghost use Rattle.plan_layout.specs.Layout.{tiling_of};
-ghost use Rattle.plan_layout.specs.Planes.{start_plane};
+ghost use Rattle.plan_layout.specs.Tape.{drawn_edges, drawn_plane, drawn_tiling};
 ghost use Rattle.plan_layout.specs.Slots.{piece_of, slot_of};
-ghost use Rattle.plan_layout.specs.Starts.{start_edges};
 ghost use Rattle.tile_library.specs.Drawings.{shipped_drawing};
 ghost use Rattle.tiling.specs.Tiling.{drawn_piece, drawn_slot};
 ghost use Rattle.tiling.specs.Tiling.Piece.{Tile};
@@ -12,17 +10,18 @@ ghost use Rattle.tile_library.specs.RowRuns.{IsRowRun};
 
 use crate::cells::{is_row_dark, output_cell, tile_cell};
 use lane_core::Plan;
-use plan_layout::{Piece, Slot, slot_at};
+use plan_layout::{Piece, Slot, slot_drawn_at};
 use tile_core::Kind;
 use tile_library::Shipped;
 use ww_rule::State;
 
 // Equal cells of a tile whose first block is at this tile column and lane, from a place in the tile's box on.
 fn tile_run(plan: &Plan, column: u64, lane: u64, kind: Kind, place: (u32, u32)) -> (State, u32)
+    requires admissible { IsAdmissible plan.now }
     requires far { column < 2 ^ 57 }
     requires low { lane < 2 ^ 57 }
     requires in_box { place.0 < 32 }
-    ensures { IsRowRun (λ x. drawn_piece shipped_drawing (start_edges plan.now) column lane (Tile kind) x place.1)
+    ensures { IsRowRun (λ x. drawn_piece shipped_drawing (drawn_edges plan.now) column lane (Tile kind) x place.1)
         place.0 (32 - place.0) result }
 {
     if Shipped.is_row_blank(kind, place.1) {
@@ -40,10 +39,11 @@ fn tile_run(plan: &Plan, column: u64, lane: u64, kind: Kind, place: (u32, u32)) 
 
 // Equal cells of a piece whose first block is at this tile column and lane, from a place in the piece's box on.
 fn piece_run(plan: &Plan, column: u64, lane: u64, piece: Piece, place: (u32, u32)) -> (State, u32)
+    requires admissible { IsAdmissible plan.now }
     requires far { column < 2 ^ 57 }
     requires low { lane < 2 ^ 57 }
     requires in_box { place.0 < 32 }
-    ensures { IsRowRun (λ x. drawn_piece shipped_drawing (start_edges plan.now) column lane (piece_of piece) x place.1)
+    ensures { IsRowRun (λ x. drawn_piece shipped_drawing (drawn_edges plan.now) column lane (piece_of piece) x place.1)
         place.0 (32 - place.0) result }
 {
     match piece {
@@ -55,10 +55,10 @@ fn piece_run(plan: &Plan, column: u64, lane: u64, piece: Piece, place: (u32, u32
 // Equal cells of the block of this tile column and lane, in which `slot` stands, from a place in the block on.
 fn slot_run(plan: &Plan, column: u64, lane: u64, slot: Slot, x: u32, y: u32) -> (State, u32)
     requires admissible { IsAdmissible plan.now }
-    requires slot { slot_of slot ≡ tiling_of plan.now column lane }
+    requires slot { slot_of slot ≡ drawn_tiling plan.now column lane }
     requires in_box { x < 32 }
     requires in_block { y < 16 }
-    ensures { IsRowRun (λ x. drawn_slot shipped_drawing (start_edges plan.now) column lane (slot_of slot) x y)
+    ensures { IsRowRun (λ x. drawn_slot shipped_drawing (drawn_edges plan.now) column lane (slot_of slot) x y)
         x (32 - x) result }
 {
     match slot {
@@ -75,9 +75,9 @@ fn slot_run(plan: &Plan, column: u64, lane: u64, slot: Slot, x: u32, y: u32) -> 
 /// the run.
 pub fn run_in(plan: &Plan, slot: Slot, y: u64, x: u64, limit: u64) -> (State, u64)
     requires admissible { IsAdmissible plan.now }
-    requires slot { slot_of slot ≡ tiling_of plan.now (x / 32) (y / 16) }
+    requires slot { slot_of slot ≡ drawn_tiling plan.now (x / 32) (y / 16) }
     requires some { 1 ≤ limit }
-    ensures run { IsRowRun (λ x. start_plane shipped_drawing plan.now (pos x) (pos y)) x limit result }
+    ensures run { IsRowRun (λ x. drawn_plane shipped_drawing plan.now (pos x) (pos y)) x limit result }
     ensures in_block { result.1 ≤ 32 - x % 32 }
 {
     let (column, lane) = (x / 32, y / 16);
@@ -91,7 +91,7 @@ pub fn run_in(plan: &Plan, slot: Slot, y: u64, x: u64, limit: u64) -> (State, u6
 pub fn run_at(plan: &Plan, y: u64, x: u64, limit: u64) -> (State, u64)
     requires admissible { IsAdmissible plan.now }
     requires some { 1 ≤ limit }
-    ensures { IsRowRun (λ x. start_plane shipped_drawing plan.now (pos x) (pos y)) x limit result }
+    ensures { IsRowRun (λ x. drawn_plane shipped_drawing plan.now (pos x) (pos y)) x limit result }
 {
-    run_in(plan, slot_at(plan, x / 32, y / 16), y, x, limit)
+    run_in(plan, slot_drawn_at(plan, x / 32, y / 16), y, x, limit)
 }

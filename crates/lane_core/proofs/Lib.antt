@@ -3,3 +3,4 @@ pub mod Commuting
 pub mod Dark
 pub mod Lengths
 pub mod Naming
+pub mod TapeBits

@@ -1,6 +1,8 @@
 pub mod Instrs
 pub mod Columns
 pub mod Places
+pub mod Times
+pub mod Tape
 pub mod Plans
 pub mod Starts
 pub mod Entering

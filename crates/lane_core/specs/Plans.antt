@@ -1,10 +1,12 @@
--- Which plans have a drawing, and where their signals are found in it. A lane is 16 rows high, and its signals run along
--- its row 8. A column is 32 cells wide, and a signal takes 32 generations through it.
-use Rattle.std.specs.Prelude.{ℕ, ◌+◌, ◌-◌, ◌*◌, ◌^◌, ◌<◌, ◌≤◌, ◌≡◌, ◌==◌, ◌↔◌, cond, length, All, slice_index, slice_index_or, Option, Some, None, List, map, if◌then◌else◌}
+-- Which plans have a drawing, and where their signals are found in it, without a tape. A lane is 16 rows high, and its
+-- signals run along its row 8. A column is 32 cells wide, and a signal takes 32 generations through it.
+use Rattle.std.specs.Prelude.{ℕ, ◌+◌, ◌-◌, ◌*◌, ◌^◌, ◌<◌, ◌≤◌, ◌≡◌, ◌==◌, ◌↔◌, length, All, slice_index, slice_index_or, Option, Some, None, List, map, if◌then◌else◌}
 use Rattle.lane_core.specs.declared.plan.NetPlace.{NetPlace}
 use Rattle.lane_core.specs.declared.plan.Plan.{Plan}
 use Rattle.lane_core.specs.Columns.{IsColumnOnLanes, IsColumnApart}
 use Rattle.lane_core.specs.Places.{AreDistinctBelow, IsPlaceWithin}
+use Rattle.lane_core.specs.Tape.{HasFittingTape, tape_shift}
+pub use Rattle.lane_core.specs.Times.{latency_of, period_of}
 
 -- how many lanes, columns and loops there may be; without lanes there are no columns
 pub record HasFittingSize (plan : Plan) : Type 0 where
@@ -22,15 +24,7 @@ pub record IsAdmissible (plan : Plan) : Type 0 where
   pub ins : AreDistinctBelow (plan.lanes - plan.latches) plan.ins
   pub outs : AreDistinctBelow (plan.lanes - plan.latches) plan.outs
   pub nets : All (IsPlaceWithin plan.lanes (length plan.columns)) plan.nets
-
--- generations from an input at the entry of the first column to the outputs
-abbrev pub latency_of : Plan → ℕ
-latency_of plan = 32 * length plan.columns
-
--- generations from cycle to cycle: what a signal takes round a loop, which goes through each column twice and has four
--- tiles more for each loop; without loops the least that tiles allow
-abbrev pub period_of : Plan → ℕ
-period_of plan = cond (plan.latches == 0) 32 (32 * (2 * length plan.columns + 4 * plan.latches))
+  pub tape : HasFittingTape plan
 
 -- the row of a lane on which its signals run
 abbrev pub row_of : ℕ → ℕ
@@ -74,8 +68,8 @@ abbrev pub net_cells : Plan → List (ℕ × ℕ × ℕ)
 net_cells plan = map (λ place. cell_after plan place.lane place.after) plan.nets
 
 -- width and height of the drawing in cells: a tile is 32 cells wide and a lane 16 high, and the cells of the outputs
--- stand one column further out; a plan without lanes has no cells
+-- stand one column further out; a tape makes it wider, and a plan without lanes has no cells
 abbrev pub size_of : Plan → ℕ × ℕ
 size_of plan =
     if plan.lanes == 0 then (0, 0)
-    else (32 * (length plan.columns + 2 * plan.latches) + 1, 16 * (plan.lanes + plan.latches))
+    else (32 * (tape_shift plan + (length plan.columns + 2 * plan.latches)) + 1, 16 * (plan.lanes + plan.latches))

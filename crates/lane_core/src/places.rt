@@ -1,14 +1,26 @@
 // The times of a plan, and the cells where its signals are found. Each cell comes with x, y and an offset: the number of
-// generations from the start of a cycle to the generation at which the cell shows that cycle's bit.
-ghost use Rattle.std.specs.Prelude.{◌≡◌, ◌+◌, ◌*◌, ◌<◌, length};
-ghost use Rattle.lane_core.specs.Plans.{IsAdmissible, latency_of, period_of, in_cell_of, out_cell_of, net_cell_of};
+// generations from the start of a cycle to the generation at which the cell shows that cycle's bit. A plan with a tape is
+// drawn further east.
+ghost use Rattle.std.specs.Prelude.{◌≡◌, ◌+◌, ◌*◌, ◌^◌, ◌<◌, length};
+ghost use Rattle.lane_core.specs.Plans.{IsAdmissible, latency_of, period_of, left_of, in_cell_of, out_cell_of, net_cell_of};
+ghost use Rattle.lane_core.specs.Tape.{tape_shift, moved_east};
 
-use crate::Plan;
+use crate::{Plan, tape_shift};
 
 fn row_of(lane: u32) -> u64
     ensures { result ≡ 16 * lane + 8 }
 {
     16 * lane as u64 + 8
+}
+
+// x of the west side of a column, where the plan is drawn.
+fn left_of(plan: &Plan, column: u64) -> u64
+    requires admissible { IsAdmissible plan.now }
+    requires near { column < 2 ^ 42 }
+    ensures exact { result ≡ 32 * tape_shift plan.now + left_of plan.now column }
+    ensures few { result < 2 ^ 60 }
+{
+    32 * (tape_shift(plan) + plan.latches as u64 + column)
 }
 
 /// The generations from an input to the outputs that depend on it.
@@ -35,20 +47,20 @@ pub fn period(plan: &Plan) -> u64
 pub fn in_cell(plan: &Plan, i: usize) -> (u64, u64, u64)
     requires admissible { IsAdmissible plan.now }
     requires known { i < length plan.now.ins }
-    ensures { result ≡ in_cell_of plan.now i }
+    ensures { result ≡ moved_east (tape_shift plan.now) (in_cell_of plan.now i) }
 {
-    (32 * plan.latches as u64, row_of(*plan.ins.get(i)), 0)
+    (left_of(plan, 0), row_of(*plan.ins.get(i)), 0)
 }
 
 /// x, y and the offset of the cell of output `i`; the offset is the latency.
 pub fn out_cell(plan: &Plan, i: usize) -> (u64, u64, u64)
     requires admissible { IsAdmissible plan.now }
     requires known { i < length plan.now.outs }
-    ensures { result ≡ out_cell_of plan.now i }
+    ensures { result ≡ moved_east (tape_shift plan.now) (out_cell_of plan.now i) }
 {
     let columns = plan.columns.len() as u64;
     (
-        32 * (plan.latches as u64 + columns),
+        left_of(plan, columns),
         row_of(*plan.outs.get(i)),
         32 * columns,
     )
@@ -58,13 +70,12 @@ pub fn out_cell(plan: &Plan, i: usize) -> (u64, u64, u64)
 pub fn net_cell(plan: &Plan, i: usize) -> (u64, u64, u64)
     requires admissible { IsAdmissible plan.now }
     requires known { i < length plan.now.nets }
-    ensures { result ≡ net_cell_of plan.now i }
+    ensures { result ≡ moved_east (tape_shift plan.now) (net_cell_of plan.now i) }
 {
     let place = plan.nets.get(i);
-    let left = 32 * plan.latches as u64;
     let y = row_of(place.lane);
     match place.after {
-        None => (left, y, 0),
-        Some(column) => (left + 32 * column + 31, y, 32 * column + 31),
+        None => (left_of(plan, 0), y, 0),
+        Some(column) => (left_of(plan, column) + 31, y, 32 * column + 31),
     }
 }

@@ -1,5 +1,5 @@
 -- A closed plan is admissible, and does what its program does.
-use Rattle.std.proofs.Common.{◌≡◌, sym, ◌∙◌, ap, ap₂, subst, ℕ, zero, suc, ◌+◌, ◌-◌, ◌<◌, ◌≤◌, ◌^◌, max, min, Bool, true, false, cond, List, [], ◌∷◌, length, take, map, All, Option, Some, None, arith}
+use Rattle.std.proofs.Common.{◌≡◌, sym, ◌∙◌, ap, ap₂, subst, ℕ, zero, suc, ◌+◌, ◌-◌, ◌<◌, ◌≤◌, ◌^◌, max, min, Bool, true, false, cond, List, [], ◌∷◌, length, take, map, All, Option, Some, None, inl, arith}
 use Rattle.std.specs.Prelude.{◌==◌}
 use Rattle.std.proofs.lemmas.List.{get_or-map}
 use Rattle.std.proofs.lemmas.List.Elements.{All-nil, All-cons, All-head, All-tail, All-append}
@@ -15,12 +15,13 @@ use Rattle.lane_core.specs.Columns.{after_columns, IsColumnOnLanes}
 use Rattle.lane_core.specs.Entering.{bits_after}
 use Rattle.lane_core.specs.Places.{AreDistinctBelow, IsPlaceWithin}
 use Rattle.lane_core.specs.Plans.{IsAdmissible}
+use Rattle.lane_core.specs.Tape.{cycles_of, AreTapeLists, HasFittingTape}
 use Rattle.column_packer.specs.Numbers.{used_by, column_numbers, numbered, column_instrs}
 use Rattle.column_packer.specs.Packing.{instrs_in, IsPacked}
 use Rattle.column_packer.proofs.Packed.{packed_same}
 use Rattle.latch_loops.specs.Places.{last_of, column_of_place, closed_place}
 use Rattle.latch_loops.specs.Closed.{IsPadded, contexts_size, least_size, IsClosed, DoesAsProgram}
-use Rattle.latch_loops.proofs.Padding.{IsEmpty, small_size, padded_after, empty_on_lanes}
+use Rattle.latch_loops.proofs.Padding.{small_size, padded_after, empty_on_lanes}
 use Rattle.latch_loops.proofs.Uses.{used_in_columns, place_bits}
 use Rattle.lane_core.proofs.Lookup.{columns_apart as all_apart}
 
@@ -72,6 +73,13 @@ does_as_program program columns plan k c = record {
       ∙ place_bits (least_size program 0) program.instrs columns plan.columns k c.padded bits program.nets;
 }
 
+-- a plan without a tape fits
+no_tape : (plan : Plan) → plan.tape ≡ [] → HasFittingTape plan
+no_tape plan none = record {
+  each_input = inl none;
+  lists = subst AreTapeLists (sym none) (record { range = All-nil (λ bits. (1 ≤ length bits) × (length bits ≤ 4096)); alike = All-nil (λ bits. length bits ≡ cycles_of []) });
+}
+
 pub closed_admissible : (program : Program) (columns : List Column) (plan : Plan) → program.lanes < 2 ^ 32 → length columns < 2 ^ 40 → IsPacked program.instrs columns → IsClosed program columns 0 plan → IsAdmissible plan
 closed_admissible program columns plan small few k c = record {
   size = record {
@@ -89,6 +97,7 @@ closed_admissible program columns plan small few k c = record {
   nets = subst (All (IsPlaceWithin plan.lanes (length plan.columns))) (sym c.nets)
       (subst (λ n. All (IsPlaceWithin n (length plan.columns)) (map (closed_place program.instrs) program.nets)) (sym c.lanes)
       (places_within program.instrs columns k program.lanes (length plan.columns) (omega (arith, count)) program.nets program.nets_fit));
+  tape = no_tape plan c.tape;
 }
   where
     none : contexts_size (length program.latches) 0 ≡ 0

@@ -1,5 +1,5 @@
 -- A closed plan computes what its program computes, and a padded plan what the plan computes.
-use Rattle.std.proofs.Common.{◌≡◌, ◌∙◌, ap, ap₂, ◌+◌, ◌-◌, ℕ, true, List, [], ◌∷◌, Bool, Option, length, map}
+use Rattle.std.proofs.Common.{◌≡◌, ◌∙◌, ap, ap₂, ◌+◌, ◌-◌, ℕ, true, List, Bool, Option, length, map}
 use Rattle.std.proofs.lemmas.List.{length-append}
 use Rattle.lists.proofs.Numbers.{length_if}
 use Rattle.lane_core.specs.declared.plan.NetPlace.{NetPlace}

@@ -1,16 +1,12 @@
 -- How many contexts fit, and closing in two steps.
-use Rattle.std.proofs.Common.{◌≡◌, sym, ◌∙◌, ap, subst, ℕ, ◌+◌, ◌*◌, ◌<◌, ◌≤◌, ◌^◌, max, min, Bool, false, cond, ⊎_elim, List, [], length, map, All, arith}
+use Rattle.std.proofs.Common.{◌≡◌, sym, ◌∙◌, ap, subst, ℕ, ◌+◌, ◌*◌, ◌<◌, ◌≤◌, ◌^◌, max, min, Bool, false, ⊎_elim, List, length, All, arith}
 use Rattle.std.specs.Prelude.{◌==◌}
 use Rattle.std.proofs.lemmas.Bool.{cases_eq, cond-true, cond-false, eq-eqb}
 use Rattle.std.proofs.lemmas.Bool.Decides.{nat_tests}
 use Rattle.lane_core.specs.declared.instr.Column.{Column}
 use Rattle.lane_core.specs.declared.plan.Program.{Program}
 use Rattle.lane_core.specs.declared.plan.Plan.{Plan}
-use Rattle.lane_core.specs.Instrs.{bit_on}
-use Rattle.lane_core.specs.Columns.{after_columns}
-use Rattle.lane_core.specs.Entering.{bits_after}
 use Rattle.lane_core.specs.Plans.{period_of}
-use Rattle.plan_waves.specs.Waves.{tiles_back}
 use Rattle.plan_waves.specs.Cycles.{cycle_steps}
 use Rattle.plan_waves.proofs.Machine.{steps_with_loops}
 use Rattle.latch_loops.specs.Closed.{IsPadded, contexts_size, least_size, IsClosed, contexts_limit, DoesAsProgram}
@@ -73,6 +69,7 @@ closed_more program columns contexts middle plan c p = record {
   outs = p.outs ∙ c.outs;
   padded = subst (λ (size : ℕ). IsPadded size columns plan.columns) sizes (padded_more (least_size program 0) (contexts_size middle.latches contexts) columns middle.columns plan.columns c.padded p.columns);
   nets = p.nets ∙ c.nets;
+  tape = p.tape ∙ c.tape;
 }
   where
     sizes : max (least_size program 0) (contexts_size middle.latches contexts) ≡ least_size program contexts

@@ -1,10 +1,9 @@
 -- A padded plan is admissible, does what the plan does, and has room for the starts.
-use Rattle.std.proofs.Common.{◌≡◌, refl, sym, ◌∙◌, ap, ap₂, subst, ℕ, ◌+◌, ◌-◌, ◌*◌, ◌<◌, ◌≤◌, ◌^◌, Bool, cond, ⊎_elim, List, [], ◌∷◌, length, take, map, All, Option, Some, None, arith}
+use Rattle.std.proofs.Common.{◌≡◌, refl, sym, ◌∙◌, ap, ap₂, subst, ℕ, ◌+◌, ◌-◌, ◌*◌, ◌<◌, ◌≤◌, ◌^◌, Bool, ⊎_elim, inl, inr, List, [], ◌∷◌, length, map, All, Option, Some, None, arith}
 use Rattle.std.specs.Prelude.{◌==◌}
 use Rattle.std.specs.Option.{ForSome}
 use Rattle.std.proofs.lemmas.Bool.{cases_eq, cases_lt, cond-true, eq-eqb}
 use Rattle.std.proofs.lemmas.List.Elements.{All-head, All-tail, All-append}
-use Rattle.lane_core.specs.declared.instr.Column.{Column}
 use Rattle.lane_core.specs.declared.plan.NetPlace.{NetPlace}
 use Rattle.lane_core.specs.declared.plan.Plan.{Plan}
 use Rattle.lane_core.specs.Instrs.{bit_on}
@@ -12,6 +11,7 @@ use Rattle.lane_core.specs.Columns.{after_columns, IsColumnOnLanes}
 use Rattle.lane_core.specs.Entering.{bits_after}
 use Rattle.lane_core.specs.Places.{AreDistinctBelow, IsPlaceWithin}
 use Rattle.lane_core.specs.Plans.{IsAdmissible}
+use Rattle.lane_core.specs.Tape.{AreTapeLists}
 use Rattle.lane_core.proofs.Lookup.{columns_apart as all_apart}
 use Rattle.plan_waves.specs.Waves.{tiles_back}
 use Rattle.plan_waves.specs.Cycles.{cycle_steps}
@@ -80,6 +80,10 @@ padded_admissible plan padded contexts few fit h p = record {
   nets = subst (All (IsPlaceWithin padded.lanes (length padded.columns))) (sym p.nets)
       (subst (λ n. All (IsPlaceWithin n (length padded.columns)) plan.nets) (sym p.lanes)
       (places_more plan.lanes (length plan.columns) (length padded.columns) many plan.nets h.nets));
+  tape = record {
+    each_input = ⊎_elim (λ none. inl (p.tape ∙ none)) (λ each. inr (ap length p.tape ∙ each ∙ ap length (sym p.ins))) h.tape.each_input;
+    lists = subst AreTapeLists (sym p.tape) h.tape.lists;
+  };
 }
   where
     many : length plan.columns ≤ length padded.columns

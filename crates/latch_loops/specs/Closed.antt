@@ -26,8 +26,8 @@ contexts_size loops contexts = cond (loops == 0) 0 (contexts - 4 * loops)
 abbrev pub least_size : Program → ℕ → ℕ
 least_size program contexts = max (max (length program.latches) (min program.lanes 1)) (contexts_size (length program.latches) contexts)
 
--- The plan has the program's lanes, loops, ports and nets, and these columns, which are at least as many as loops, at
--- least 1 where there are lanes, and enough for the starts of so many contexts.
+-- The plan has the program's lanes, loops, ports and nets, no tape, and these columns, which are at least as many as loops,
+-- at least 1 where there are lanes, and enough for the starts of so many contexts.
 pub record IsClosed (program : Program) (columns : List Column) (contexts : ℕ) (plan : Plan) : Type 0 where
   pub lanes : plan.lanes ≡ program.lanes
   pub latches : plan.latches ≡ length program.latches
@@ -35,6 +35,7 @@ pub record IsClosed (program : Program) (columns : List Column) (contexts : ℕ)
   pub outs : plan.outs ≡ program.outs
   pub padded : IsPadded (least_size program contexts) columns plan.columns
   pub nets : plan.nets ≡ map (closed_place program.instrs) program.nets
+  pub tape : plan.tape ≡ []
 
 -- as many contexts as a loop of the plan of one context has tiles; 1 without loops
 abbrev pub contexts_limit : List Column → Program → ℕ

@@ -16,6 +16,7 @@ pub record IsPaddedPlan (size : ℕ) (plan padded : Plan) : Type 0 where
   pub outs : padded.outs ≡ plan.outs
   pub nets : padded.nets ≡ plan.nets
   pub columns : IsPadded size plan.columns padded.columns
+  pub tape : padded.tape ≡ plan.tape
 
 -- it does what the plan does: at the end, and at each place of a net
 pub record DoesAsPlan (plan padded : Plan) : Type 0 where

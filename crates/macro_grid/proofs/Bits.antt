@@ -1,18 +1,11 @@
 -- Bits in rows of one length are a test on pairs of numbers.
-use Rattle.std.proofs.Common.{◌≡◌, refl, sym, ◌∙◌, ap, ℕ, ◌+◌, ◌*◌, ◌/◌, ◌%◌, ◌^◌, ◌<◌, ◌≤◌, Bool, true, false, ◌&&◌, ltb, ⊎_elim, List, length, get_or, arith}
+use Rattle.std.proofs.Common.{◌≡◌, sym, ◌∙◌, ap, ℕ, ◌+◌, ◌*◌, ◌/◌, ◌%◌, ◌^◌, ◌<◌, ◌≤◌, Bool, true, false, ◌&&◌, ltb, ⊎_elim, List, length, get_or, arith}
 use Rattle.std.specs.Prelude.{nat_lt}
 use Rattle.std.proofs.lemmas.Bool.{cases_lt}
 use Rattle.std.proofs.lemmas.Bool.Decides.{nat_tests}
 use Rattle.std.proofs.lemmas.List.{get_or_past}
 use Rattle.std.proofs.lemmas.Nat.{mul-add-lt, div-mul-add, mod-mul-add, mul-le}
 use Rattle.std.proofs.Math.Nat.{mul_comm}
-use Rattle.tiling.specs.Tiling.{Edge}
-use Rattle.lane_core.specs.declared.plan.Plan.{Plan}
-use Rattle.plan_layout.specs.Edges.{column_in, lane_in}
-use Rattle.plan_layout.specs.Starts.{HasStartEdges, start_edges}
-use Rattle.plan_layout.proofs.EdgeNames.{lit_is_passed}
-use Rattle.plan_layout.proofs.Within.{IsWithin, passed_within}
-use Rattle.macro_grid.specs.Edges.{edge_columns, edge_lanes}
 use Rattle.std.proofs.Math.Nat.{div-lt_iff_lt-mul}
 
 -- where the bit at each place is the test's at its row and column, and the test fails beyond, all agree
@@ -37,19 +30,7 @@ bits_read width height bits test long each right below q l =
     (cases_lt l height)
 
 -- a place in bits lies in a column that is not far
-pub column_near : (i n lanes : ℕ) → 0 < lanes → i < n → n ≤ 2 ^ 50 * lanes → i / lanes < 2 ^ 58
+pub column_near : (i n lanes : ℕ) → 0 < lanes → i < n → n ≤ 2 ^ 57 * lanes → i / lanes < 2 ^ 58
 column_near i n lanes some within few =
-    let near : i / lanes < 2 ^ 50 = (div-lt_iff_lt-mul some).1 (omega (arith, within, few)) in
+    let near : i / lanes < 2 ^ 57 = (div-lt_iff_lt-mul some).1 (omega (arith, within, few)) in
     omega (arith, near)
-
--- no edge round the drawing is lit at generation 0
-module _ (plan : Plan) (h : HasStartEdges plan) where
-  dark : (edge : Edge) → (IsWithin plan edge → ⊥) → (b : Bool) → start_edges plan edge ≡ b → b ≡ false
-  dark edge beyond false e = refl
-  dark edge beyond true e = absurd (beyond (passed_within plan edge (lit_is_passed plan h edge e)))
-
-  pub dark_right : (edge : Edge) → edge_columns plan ≤ column_in edge → start_edges plan edge ≡ false
-  dark_right edge far = dark edge (λ w. omega (arith, w.0, far)) (start_edges plan edge) refl
-
-  pub dark_below : (edge : Edge) → edge_lanes plan ≤ lane_in edge → start_edges plan edge ≡ false
-  dark_below edge far = dark edge (λ w. omega (arith, w.1, far)) (start_edges plan edge) refl

@@ -4,9 +4,9 @@ use Rattle.std.proofs.lemmas.Bool.{cases_lt}
 use Rattle.tiling.specs.Tiling.Slot.{Nothing}
 use Rattle.lane_core.specs.declared.plan.Plan.{Plan}
 use Rattle.macro_grid.specs.Edges.{edge_columns, edge_lanes}
-use Rattle.plan_layout.specs.Layout.{tiling_of}
-use Rattle.plan_layout.proofs.Matched.{tiling_of-below}
-use Rattle.plan_layout.proofs.Within.{tiling_of-right}
+use Rattle.lane_core.specs.Plans.{IsAdmissible}
+use Rattle.plan_layout.specs.Tape.{drawn_tiling}
+use Rattle.macro_grid.proofs.Drawings.{drawn_right, drawn_below}
 use Rattle.tiling.specs.Tiling.{Tiling, Lit}
 use Rattle.tiling.specs.Tiling.Edge.{Beside, Above}
 use Rattle.tiling.specs.MacroStep.{macro_step, slot_answers}
@@ -34,24 +34,24 @@ above_dark tiling lit q l p h e f =
     ∙ ap (λ s. slot_answers lit q p s 16 15 || slot_answers lit q l (tiling q l) 16 0) e
     ∙ ap (λ s. slot_answers lit q l s 16 0) f
 
-pub beside_right : (plan : Plan) (lit : Lit) (q l : ℕ) → edge_columns plan ≤ q → macro_step (tiling_of plan) lit (Beside q l) ≡ false
-beside_right plan lit q l far =
-    beside_dark (tiling_of plan) lit q l (q - 1) (omega arith) (tiling_of-right plan (q - 1) l (omega arith)) (tiling_of-right plan q l (omega arith))
+pub beside_right : (plan : Plan) → IsAdmissible plan → (lit : Lit) (q l : ℕ) → edge_columns plan ≤ q → macro_step (drawn_tiling plan) lit (Beside q l) ≡ false
+beside_right plan h lit q l far =
+    beside_dark (drawn_tiling plan) lit q l (q - 1) (omega arith) (drawn_right plan h (q - 1) l (omega arith)) (drawn_right plan h q l (omega arith))
 
-pub above_right : (plan : Plan) (lit : Lit) (q l : ℕ) → edge_columns plan ≤ q → macro_step (tiling_of plan) lit (Above q l) ≡ false
-above_right plan lit q l far =
+pub above_right : (plan : Plan) → IsAdmissible plan → (lit : Lit) (q l : ℕ) → edge_columns plan ≤ q → macro_step (drawn_tiling plan) lit (Above q l) ≡ false
+above_right plan h lit q l far =
     ⊎_elim
-    (λ first. above_first (tiling_of plan) lit q l (omega arith) ∙ ap (λ s. slot_answers lit q l s 16 0) (tiling_of-right plan q l (omega arith)))
-    (λ more. above_dark (tiling_of plan) lit q l (l - 1) (omega arith) (tiling_of-right plan q (l - 1) (omega arith)) (tiling_of-right plan q l (omega arith)))
+    (λ first. above_first (drawn_tiling plan) lit q l (omega arith) ∙ ap (λ s. slot_answers lit q l s 16 0) (drawn_right plan h q l (omega arith)))
+    (λ more. above_dark (drawn_tiling plan) lit q l (l - 1) (omega arith) (drawn_right plan h q (l - 1) (omega arith)) (drawn_right plan h q l (omega arith)))
     (cases_lt l 1)
 
-pub beside_below : (plan : Plan) (lit : Lit) (q l : ℕ) → edge_lanes plan ≤ l → macro_step (tiling_of plan) lit (Beside q l) ≡ false
-beside_below plan lit q l far =
+pub beside_below : (plan : Plan) → IsAdmissible plan → (lit : Lit) (q l : ℕ) → edge_lanes plan ≤ l → macro_step (drawn_tiling plan) lit (Beside q l) ≡ false
+beside_below plan h lit q l far =
     ⊎_elim
-    (λ first. beside_first (tiling_of plan) lit q l (omega arith) ∙ ap (λ s. slot_answers lit q l s 0 8) (tiling_of-below plan q l (omega arith)))
-    (λ more. beside_dark (tiling_of plan) lit q l (q - 1) (omega arith) (tiling_of-below plan (q - 1) l (omega arith)) (tiling_of-below plan q l (omega arith)))
+    (λ first. beside_first (drawn_tiling plan) lit q l (omega arith) ∙ ap (λ s. slot_answers lit q l s 0 8) (drawn_below plan h q l (omega arith)))
+    (λ more. beside_dark (drawn_tiling plan) lit q l (q - 1) (omega arith) (drawn_below plan h (q - 1) l (omega arith)) (drawn_below plan h q l (omega arith)))
     (cases_lt q 1)
 
-pub above_below : (plan : Plan) (lit : Lit) (q l : ℕ) → edge_lanes plan ≤ l → macro_step (tiling_of plan) lit (Above q l) ≡ false
-above_below plan lit q l far =
-    above_dark (tiling_of plan) lit q l (l - 1) (omega arith) (tiling_of-below plan q (l - 1) (omega arith)) (tiling_of-below plan q l (omega arith))
+pub above_below : (plan : Plan) → IsAdmissible plan → (lit : Lit) (q l : ℕ) → edge_lanes plan ≤ l → macro_step (drawn_tiling plan) lit (Above q l) ≡ false
+above_below plan h lit q l far =
+    above_dark (drawn_tiling plan) lit q l (l - 1) (omega arith) (drawn_below plan h q (l - 1) (omega arith)) (drawn_below plan h q l (omega arith))

@@ -3,6 +3,7 @@ use Rattle.std.specs.Prelude.{ℕ, ◌+◌, ◌*◌, ◌≡◌, nat_lt, Bool, fa
 use Rattle.tiling.specs.Tiling.{Lit}
 use Rattle.tiling.specs.Tiling.Edge.{Beside, Above}
 use Rattle.lane_core.specs.declared.plan.Plan.{Plan}
+use Rattle.lane_core.specs.Tape.{tape_shift}
 use Rattle.plan_layout.specs.Layout.{end_of_body}
 
 -- A bit for each edge. The blocks of a tile column follow one another, `lanes` of them, and the tile columns too; a
@@ -19,7 +20,7 @@ lit_of bits (Above column lane) = nat_lt lane bits.lanes && get_or bits.above (c
 
 -- the tile columns and lanes that have bits: those of the drawing, and some round it, where nothing stands
 abbrev pub edge_columns : Plan → ℕ
-edge_columns plan = end_of_body plan + plan.latches + 2
+edge_columns plan = tape_shift plan + (end_of_body plan + plan.latches + 2)
 
 abbrev pub edge_lanes : Plan → ℕ
 edge_lanes plan = plan.lanes + plan.latches + 1

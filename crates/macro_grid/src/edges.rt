@@ -1,14 +1,15 @@
-// Which edges of a plan are lit. An edge is a side at which two blocks meet, named by the tile column and the lane of the
+// Which edges of a plan's drawing are lit. An edge is a side at which two blocks meet, named by the tile column and the lane of the
 // block east of it (`beside`) or south of it (`above`).
 ghost use Rattle.std.specs.Prelude.{◌≡◌, ℕ, ◌+◌, ◌*◌, ◌/◌, ◌%◌, ◌^◌, ◌<◌, ◌≤◌, ◌&&◌, nat_lt, get_or, false, length, IfOk};
 ghost use Rattle.tiling.specs.Tiling as tiling;
 ghost use Rattle.tiling.specs.Tiling.Edge.{Beside, Above};
 ghost use Rattle.lane_core.specs.Plans.{IsAdmissible};
-ghost use Rattle.plan_layout.specs.Starts.{start_edges, HasStartEdges};
+ghost use Rattle.plan_layout.specs.Starts.{HasStartEdges};
+ghost use Rattle.plan_layout.specs.Tape.{drawn_edges};
 ghost use Rattle.macro_grid.specs.Edges.{IsEdgesOf, edge_columns, edge_lanes, lit_of};
 
-use lane_core::Plan;
-use plan_layout::{Edge, is_start};
+use lane_core::{Plan, tape_shift};
+use plan_layout::{Edge, is_lit};
 use std::alloc::{AllocError, Global};
 use std::marker::Model;
 
@@ -51,7 +52,7 @@ impl Edges {
         requires admissible { IsAdmissible plan.now }
         requires starts { HasStartEdges plan.now }
         ensures made { IfOk result (IsEdgesOf plan.now) }
-        ensures lit { IfOk result (λ e. (edge : tiling.Edge) → lit_of e edge ≡ start_edges plan.now edge) }
+        ensures lit { IfOk result (λ e. (edge : tiling.Edge) → lit_of e edge ≡ drawn_edges plan.now edge) }
     {
         let lanes = edge_lanes(plan);
         let Some(count) = edge_columns(plan).checked_mul(lanes) else {
@@ -85,9 +86,10 @@ impl Edges {
 
 fn edge_columns(plan: &Plan) -> usize
     requires { IsAdmissible plan.now }
-    ensures { result ≡ edge_columns plan.now }
+    ensures exact { result ≡ edge_columns plan.now }
+    ensures few { result ≤ 2 ^ 57 }
 {
-    2 * plan.latches as usize + plan.columns.len() + 2
+    tape_shift(plan) as usize + 2 * plan.latches as usize + plan.columns.len() + 2
 }
 
 fn edge_lanes(plan: &Plan) -> usize
@@ -99,26 +101,28 @@ fn edge_lanes(plan: &Plan) -> usize
 // Writes the edges on the west sides of blocks that are lit at generation 0.
 #[tactic(auto, using(crate::proofs::Bits::column_near))]
 fn light_beside(plan: &Plan, lanes: usize, bits: &mut [bool])
+    requires admissible { IsAdmissible plan.now }
     requires some { 0 < lanes }
     requires few { lanes < 2 ^ 40 }
-    requires columns { length bits.old ≤ 2 ^ 50 * lanes }
-    ensures { (k : ℕ) → k < length bits.new → get_or bits.new k false ≡ start_edges plan.now (Beside (k / lanes) (k % lanes)) }
+    requires columns { length bits.old ≤ 2 ^ 57 * lanes }
+    ensures { (k : ℕ) → k < length bits.new → get_or bits.new k false ≡ drawn_edges plan.now (Beside (k / lanes) (k % lanes)) }
 {
     for (i, lit) in bits.iter_mut().enumerate() {
-        *lit = is_start(plan, Edge::Beside((i / lanes) as u64, (i % lanes) as u64));
+        *lit = is_lit(plan, Edge::Beside((i / lanes) as u64, (i % lanes) as u64));
     }
 }
 
 // Writes those on the north sides.
 #[tactic(auto, using(crate::proofs::Bits::column_near))]
 fn light_above(plan: &Plan, lanes: usize, bits: &mut [bool])
+    requires admissible { IsAdmissible plan.now }
     requires some { 0 < lanes }
     requires few { lanes < 2 ^ 40 }
-    requires columns { length bits.old ≤ 2 ^ 50 * lanes }
-    ensures { (k : ℕ) → k < length bits.new → get_or bits.new k false ≡ start_edges plan.now (Above (k / lanes) (k % lanes)) }
+    requires columns { length bits.old ≤ 2 ^ 57 * lanes }
+    ensures { (k : ℕ) → k < length bits.new → get_or bits.new k false ≡ drawn_edges plan.now (Above (k / lanes) (k % lanes)) }
 {
     for (i, lit) in bits.iter_mut().enumerate() {
-        *lit = is_start(plan, Edge::Above((i / lanes) as u64, (i % lanes) as u64));
+        *lit = is_lit(plan, Edge::Above((i / lanes) as u64, (i % lanes) as u64));
     }
 }
 

@@ -1,24 +1,26 @@
 // Which plans can be drawn.
-ghost use Rattle.std.specs.Prelude.{◌+◌, ◌-◌, ◌<◌, ◌↔◌, IsTrue, All};
+ghost use Rattle.std.specs.Prelude.{◌≡◌, ◌+◌, ◌-◌, ◌<◌, ◌≤◌, ◌↔◌, IsTrue, All, length};
 ghost use Rattle.lane_core.specs.Columns.{IsColumnOnLanes};
 ghost use Rattle.lane_core.specs.Instrs.{IsOnLanes};
 ghost use Rattle.lane_core.specs.Places.{IsPlaceWithin};
 ghost use Rattle.lane_core.specs.Plans.{IsAdmissible, HasFittingSize};
+ghost use Rattle.lane_core.specs.Tape.{HasFittingTape};
 ghost use Rattle.tiling.specs.Matched.{IsMatched};
-ghost use Rattle.plan_layout.specs.Layout.{tiling_of};
+ghost use Rattle.plan_layout.specs.Tape.{drawn_tiling};
 ghost use Rattle.plan_layout.specs.Starts.{HasStartEdges};
 
 use crate::ports::are_distinct_below;
 use crate::starts::has_start_edges;
-use lane_core::{Column, Instr, NetPlace, Plan};
+use lane_core::{Column, Instr, NetPlace, Plan, tape_cycles};
+use lists::List;
 
 /// Whether a plan keeps the rules that a drawing of it needs, and each of its starts names an edge of the drawing. It takes
 /// no memory but 64 KiB of the stack. For each span of 65,536 lanes that has ports of a list it clears these and goes over
 /// the list twice; it goes over the list twice more, and over all else once.
 pub fn admissible(plan: &Plan) -> bool
     ensures exact { IsTrue result ↔ (IsAdmissible plan.now × HasStartEdges plan.now) }
-    // the tiles of such a plan fit together
-    ensures matched { IsTrue result → IsMatched (tiling_of plan.now) }
+    // the tiles of such a plan's drawing fit together
+    ensures matched { IsTrue result → IsMatched (drawn_tiling plan.now) }
 {
     keeps_rules(plan) && has_start_edges(plan)
 }
@@ -39,7 +41,10 @@ fn keeps_rules(plan: &Plan) -> bool
     if !are_columns_on_lanes(plan.columns.as_slice(), plan.lanes) {
         return false;
     }
-    are_places_within(plan.nets.as_slice(), plan.lanes, plan.columns.len() as u64)
+    if !are_places_within(plan.nets.as_slice(), plan.lanes, plan.columns.len() as u64) {
+        return false;
+    }
+    has_fitting_tape(plan)
 }
 
 fn are_on_lanes(instrs: &[Instr], lanes: u32) -> bool
@@ -76,6 +81,22 @@ fn are_places_within(places: &[NetPlace], lanes: u32, steps: u64) -> bool
     places
         .iter()
         .all(|place| is_place_within(place, lanes, steps))
+}
+
+// Whether each list has this many bits, which is from 1 to 4,096.
+fn are_tape_lists(lists: &[List<bool>], cycles: usize) -> bool
+    ensures { IsTrue result ↔ All (λ bits. (1 ≤ length bits) × (length bits ≤ 4096) × (length bits ≡ cycles)) lists.now }
+{
+    lists.iter().all(|bits| 1 <= bits.len() && bits.len() <= 4096 && bits.len() == cycles)
+}
+
+fn has_fitting_tape(plan: &Plan) -> bool
+    ensures { IsTrue result ↔ HasFittingTape plan.now }
+{
+    if plan.tape.len() != 0 && plan.tape.len() != plan.ins.len() {
+        return false;
+    }
+    are_tape_lists(plan.tape.as_slice(), tape_cycles(plan))
 }
 
 fn has_fitting_size(plan: &Plan) -> bool

@@ -11,12 +11,12 @@ ghost use Rattle.tiling.specs.Tiling.Piece.{Tile};
 ghost use Rattle.tiling.specs.MacroStep.{macro_step as next_edges, slot_answers, piece_answers};
 ghost use Rattle.lane_core.specs.Plans.{IsAdmissible};
 ghost use Rattle.macro_grid.specs.Edges.{IsEdgesOf, lit_of};
-ghost use Rattle.plan_layout.specs.Layout.{tiling_of};
+ghost use Rattle.plan_layout.specs.Tape.{drawn_tiling};
 ghost use Rattle.plan_layout.specs.Slots.{slot_of};
 
 use crate::Edges;
 use lane_core::Plan;
-use plan_layout::{Piece, Slot, slot_at};
+use plan_layout::{Piece, Slot, slot_drawn_at};
 use tile_core::Kind;
 
 // Whether the edge at a port is lit, by the port's place in the box of a piece whose first block is at this tile column
@@ -101,9 +101,9 @@ fn beside_after(plan: &Plan, old: &Edges, column: u64, lane: u64) -> bool
     requires admissible { IsAdmissible plan.now }
     requires far { column < 2 ^ 63 }
     requires low { lane < 2 ^ 62 }
-    ensures { result ≡ next_edges (tiling_of plan.now) (lit_of old.now) (Beside column lane) }
+    ensures { result ≡ next_edges (drawn_tiling plan.now) (lit_of old.now) (Beside column lane) }
 {
-    let from_east = is_answered(old, column, lane, slot_at(plan, column, lane), 0, 8);
+    let from_east = is_answered(old, column, lane, slot_drawn_at(plan, column, lane), 0, 8);
     if column == 0 {
         return from_east;
     }
@@ -111,7 +111,7 @@ fn beside_after(plan: &Plan, old: &Edges, column: u64, lane: u64) -> bool
         old,
         column - 1,
         lane,
-        slot_at(plan, column - 1, lane),
+        slot_drawn_at(plan, column - 1, lane),
         31,
         8,
     ) || from_east
@@ -122,9 +122,9 @@ fn above_after(plan: &Plan, old: &Edges, column: u64, lane: u64) -> bool
     requires admissible { IsAdmissible plan.now }
     requires far { column < 2 ^ 63 }
     requires low { lane < 2 ^ 62 }
-    ensures { result ≡ next_edges (tiling_of plan.now) (lit_of old.now) (Above column lane) }
+    ensures { result ≡ next_edges (drawn_tiling plan.now) (lit_of old.now) (Above column lane) }
 {
-    let from_below = is_answered(old, column, lane, slot_at(plan, column, lane), 16, 0);
+    let from_below = is_answered(old, column, lane, slot_drawn_at(plan, column, lane), 16, 0);
     if lane == 0 {
         return from_below;
     }
@@ -132,7 +132,7 @@ fn above_after(plan: &Plan, old: &Edges, column: u64, lane: u64) -> bool
         old,
         column,
         lane - 1,
-        slot_at(plan, column, lane - 1),
+        slot_drawn_at(plan, column, lane - 1),
         16,
         15,
     ) || from_below
@@ -143,7 +143,7 @@ fn step_beside(plan: &Plan, old: &Edges, lanes: usize, bits: &mut [bool])
     requires admissible { IsAdmissible plan.now }
     requires some { 0 < lanes }
     requires few { lanes < 2 ^ 62 }
-    ensures { (k : ℕ) → k < length bits.new → get_or bits.new k false ≡ next_edges (tiling_of plan.now) (lit_of old.now) (Beside (k / lanes) (k % lanes)) }
+    ensures { (k : ℕ) → k < length bits.new → get_or bits.new k false ≡ next_edges (drawn_tiling plan.now) (lit_of old.now) (Beside (k / lanes) (k % lanes)) }
 {
     for (i, lit) in bits.iter_mut().enumerate() {
         *lit = beside_after(plan, old, (i / lanes) as u64, (i % lanes) as u64);
@@ -155,7 +155,7 @@ fn step_above(plan: &Plan, old: &Edges, lanes: usize, bits: &mut [bool])
     requires admissible { IsAdmissible plan.now }
     requires some { 0 < lanes }
     requires few { lanes < 2 ^ 62 }
-    ensures { (k : ℕ) → k < length bits.new → get_or bits.new k false ≡ next_edges (tiling_of plan.now) (lit_of old.now) (Above (k / lanes) (k % lanes)) }
+    ensures { (k : ℕ) → k < length bits.new → get_or bits.new k false ≡ next_edges (drawn_tiling plan.now) (lit_of old.now) (Above (k / lanes) (k % lanes)) }
 {
     for (i, lit) in bits.iter_mut().enumerate() {
         *lit = above_after(plan, old, (i / lanes) as u64, (i % lanes) as u64);
@@ -167,10 +167,10 @@ pub fn macro_step(plan: &Plan, old: &Edges, new: &mut Edges)
     requires admissible { IsAdmissible plan.now }
     requires made { IsEdgesOf plan.now new.old }
     ensures made { IsEdgesOf plan.now new.new }
-    ensures step { (edge : Edge) → lit_of new.new edge ≡ next_edges (tiling_of plan.now) (lit_of old.now) edge }
+    ensures step { (edge : Edge) → lit_of new.new edge ≡ next_edges (drawn_tiling plan.now) (lit_of old.now) edge }
     // whatever the drawings of the tiles, if they keep the timing law
-    ensures plane { (library : Kind → Drawing) → KeepsLaw library → IsDrawnAfter32 library (tiling_of plan.now) (lit_of old.now) (lit_of new.new) }
-    ensures later { (library : Kind → Drawing) → KeepsLaw library → StepsByMacro library (tiling_of plan.now) (lit_of old.now) }
+    ensures plane { (library : Kind → Drawing) → KeepsLaw library → IsDrawnAfter32 library (drawn_tiling plan.now) (lit_of old.now) (lit_of new.new) }
+    ensures later { (library : Kind → Drawing) → KeepsLaw library → StepsByMacro library (drawn_tiling plan.now) (lit_of old.now) }
 {
     let lanes = new.lanes;
     step_beside(plan, old, lanes, &mut new.beside);

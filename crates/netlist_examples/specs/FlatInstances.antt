@@ -34,6 +34,7 @@ small_flat read = record {
   latches = data_latch ∷ [];
   control = Some (net_id 4);
   weight = 0;
+  listed = true;
 }
 
 -- the second node reads the input

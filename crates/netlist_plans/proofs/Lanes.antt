@@ -1,4 +1,4 @@
--- A plan has lanes exactly where there are nets but clock nets.
+-- A plan has no lane where there are no nets but clock nets, and some where nets are listed.
 use Rattle.std.proofs.Common.{◌≡◌, ◌≢◌, refl, sym, ◌∙◌, ap, ℕ, zero, suc, ◌<◌, ◌≤◌, Bool, true, false, not, cond, List, [], ◌∷◌, length, get_or, map, replicate, arith}
 use Rattle.std.specs.Prelude.{None, filter, sum_by}
 use Rattle.std.specs.List.{list_any}
@@ -15,7 +15,7 @@ use Rattle.netlist_core.specs.declared.flat.NetId.{NetId}
 use Rattle.netlist_core.specs.declared.flat.Net.{Net as FlatNet}
 use Rattle.netlist_core.specs.declared.flat.Node.{Node}
 use Rattle.netlist_core.specs.OwnWeight.{rows_weight}
-use Rattle.netlist_meaning.specs.Flat.{IsSound, IsWeighed, IsNetId, IsClockClass, FlatDriver, FlatDrives, class_of, is_clock_class, no_net, no_node, node_at, nets_but_clocks}
+use Rattle.netlist_meaning.specs.Flat.{IsSound, IsWeighed, IsNetId, IsClockClass, FlatDriver, FlatDrives, class_of, is_clock_class, no_net, no_node, node_at, listed_nets, nets_but_clocks}
 use Rattle.netlist_meaning.proofs.ClockTest.{is_clock_class-Decides}
 use Rattle.cell_core.specs.declared.list.CellList.{CellList}
 use Rattle.cell_core.specs.Loops.{names_one}
@@ -43,8 +43,8 @@ nothing : {X : Type 0} (xs : List X) → (0 < length xs → ⊥) → length xs �
 nothing [] f = refl
 nothing (x ∷ xs) f = absurd (f (omega arith))
 
-pub nets_many : (flat : Flat) (list : CellList) → IsMapped flat list → length list.nets ≡ length (nets_but_clocks flat)
-nets_many flat list m = ap length m.nets ∙ length-map (map (λ (net : FlatNet). net.class) (nets_but_clocks flat)) m.sources ∙ length-map (nets_but_clocks flat) (λ (net : FlatNet). net.class)
+pub nets_many : (flat : Flat) (list : CellList) → IsMapped flat list → length list.nets ≡ length (listed_nets flat)
+nets_many flat list m = ap length m.nets ∙ length-map (map (λ (net : FlatNet). net.class) (listed_nets flat)) m.sources ∙ length-map (listed_nets flat) (λ (net : FlatNet). net.class)
 
 module _ (flat : Flat) (sound : IsSound flat) (none : nets_but_clocks flat ≡ []) where
   -- each net is a clock net
@@ -52,6 +52,10 @@ module _ (flat : Flat) (sound : IsSound flat) (none : nets_but_clocks flat ≡ [
   all_clocks id is =
       (is_clock_class-Decides flat (class_of flat id)).0
       (not-false (is_clock_class flat (class_of flat id)) (none_passes (λ (net : FlatNet). not (is_clock_class flat net.class)) flat.nets none id.0 no_net is))
+
+  none_listed : (listed : Bool) → cond listed (nets_but_clocks flat) [] ≡ []
+  none_listed true = none
+  none_listed false = refl
 
   undriven : (id : NetId) → IsNetId flat id → (d : FlatDriver) → FlatDrives flat d (class_of flat id) → ⊥
   undriven id is d drives = sound.clocks_undriven (class_of flat id) d drives (all_clocks id is)
@@ -81,7 +85,7 @@ module _ (flat : Flat) (sound : IsSound flat) (none : nets_but_clocks flat ≡ [
     is_empty w =
         let one : cond {A = ℕ} (names_one list) 1 0 ≡ 0 = ap (λ b. cond {A = ℕ} b 1 0) (none_named flat list m w (ap (list_any needs_one) no_nodes)) in
         let light : covers_weight flat ≡ 0 = ap (sum_by (λ (node : Node). rows_weight node.rows)) no_nodes in
-        let nets : length list.nets ≡ 0 = nets_many flat list m ∙ ap length none in
+        let nets : length list.nets ≡ 0 = nets_many flat list m ∙ ap length (none_listed flat.listed) in
         omega (arith, m.inputs, no_ins, outs_many flat list m w, no_outs, starts_many flat list m w, no_latches, one, light, m.few, nets)
 
 some_net : (nets : List FlatNet) → nets ≢ [] → 0 < length nets
@@ -102,9 +106,9 @@ module _ (flat : Flat) (list : CellList) (m : IsMapped flat list) (plan : Plan) 
   places_many : length plan.nets ≡ length list.nets
   places_many = sym (length-map plan.nets _) ∙ ap length (c.bits.nets_have inputs state fits) ∙ length-map list.nets _
 
-  have_lanes : nets_but_clocks flat ≢ [] → (1 ≤ plan.lanes) × (1 ≤ length plan.columns)
+  have_lanes : listed_nets flat ≢ [] → (1 ≤ plan.lanes) × (1 ≤ length plan.columns)
   have_lanes f =
-      let some : 0 < length plan.nets = omega (arith, places_many, nets_many flat list m, some_net (nets_but_clocks flat) f) in
+      let some : 0 < length plan.nets = omega (arith, places_many, nets_many flat list m, some_net (listed_nets flat) f) in
       let place : NetPlace = record { lane = 0; after = None } in
       let lane = (h.nets 0 place some).lane in
       let lanes : 1 ≤ plan.lanes = omega (arith, lane) in

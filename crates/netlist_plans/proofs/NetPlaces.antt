@@ -7,7 +7,7 @@ use Rattle.lane_core.specs.declared.plan.Plan.{Plan}
 use Rattle.lane_core.specs.declared.plan.NetPlace.{NetPlace}
 use Rattle.netlist_core.specs.declared.flat.Flat.{Flat}
 use Rattle.netlist_core.specs.declared.flat.Net.{Net as FlatNet}
-use Rattle.netlist_meaning.specs.Flat.{nets_but_clocks, class_of, node_at, in_classes, out_class, FlatDriver}
+use Rattle.netlist_meaning.specs.Flat.{listed_nets, nets_but_clocks, class_of, node_at, in_classes, out_class, FlatDriver}
 use Rattle.cell_core.specs.declared.cells.Src.{Src}
 use Rattle.cell_core.specs.declared.cells.Src.TheVariants.{Input, Latch, One, Zero, Cell as Made}
 use Rattle.cell_core.specs.declared.cells.Cell.{Cell}
@@ -46,6 +46,11 @@ of_kind : (rows : List (List ℕ)) (on : Bool) (a b c d : Src) (cell : Cell) →
 of_kind rows on a b c d cell e =
     same_kind on (are_pair rows (codes "1-") (codes "-1")) (are_pair rows (codes "10") (codes "01")) (is_only rows (codes "10")) (is_only rows (codes "01")) a b c d cell e
 
+-- where there is a listed net, the nets are listed
+are_listed : (listed : Bool) (nets : List FlatNet) (k : ℕ) → k < length (cond listed nets []) → listed ≡ true
+are_listed true nets k lt = refl
+are_listed false nets k lt = absurd (omega (arith, lt))
+
 two : (xs : List Src) → length xs ≡ 2 → xs ≡ get_or xs 0 Zero ∷ get_or xs 1 Zero ∷ []
 two [] e = absurd (omega (arith, e))
 two (a ∷ []) e = absurd (omega (arith, e))
@@ -54,26 +59,26 @@ two (a ∷ b ∷ c ∷ xs) e = absurd (omega (arith, e))
 
 module _ (flat : Flat) (list : CellList) (m : IsMapped flat list) (plan : Plan) (loops : plan.latches ≡ loop_count list)
     (entries : AreAtEntries list plan.lanes plan.ins plan.nets) (exits : AreAtExits list plan.columns plan.nets) where
-  few : (k : ℕ) → k < length (nets_but_clocks flat) → k < length list.nets
+  few : (k : ℕ) → k < length (listed_nets flat) → k < length list.nets
   few k lt = let n = nets_many flat list m in omega (arith, lt, n)
 
   -- the source of a net is that of its class
-  source_is : (k : ℕ) (net : FlatNet) → k < length (nets_but_clocks flat) → get_or list.nets k Zero ≡ m.sources (get_or (nets_but_clocks flat) k net).class
+  source_is : (k : ℕ) (net : FlatNet) → k < length (listed_nets flat) → get_or list.nets k Zero ≡ m.sources (get_or (listed_nets flat) k net).class
   source_is k net lt =
       ap (λ l. get_or l k Zero) m.nets
-      ∙ get_or-map m.sources (map (λ (n : FlatNet). n.class) (nets_but_clocks flat)) k 0 Zero (let l = length-map (nets_but_clocks flat) (λ (n : FlatNet). n.class) in omega (arith, lt, l))
-      ∙ ap m.sources (get_or-map (λ (n : FlatNet). n.class) (nets_but_clocks flat) k net 0 lt)
+      ∙ get_or-map m.sources (map (λ (n : FlatNet). n.class) (listed_nets flat)) k 0 Zero (let l = length-map (listed_nets flat) (λ (n : FlatNet). n.class) in omega (arith, lt, l))
+      ∙ ap m.sources (get_or-map (λ (n : FlatNet). n.class) (listed_nets flat) k net 0 lt)
 
-  entry_at : (k : ℕ) (place : NetPlace) (src : Src) → k < length (nets_but_clocks flat) → get_or list.nets k Zero ≡ src → IsEntryOf list plan.lanes plan.ins src (get_or plan.nets k place)
+  entry_at : (k : ℕ) (place : NetPlace) (src : Src) → k < length (listed_nets flat) → get_or list.nets k Zero ≡ src → IsEntryOf list plan.lanes plan.ins src (get_or plan.nets k place)
   entry_at k place src lt is = subst (λ s. IsEntryOf list plan.lanes plan.ins s (get_or plan.nets k place)) is (entries.each k Zero place (few k lt))
 
-  owned : (k : ℕ) (net : FlatNet) (place : NetPlace) (src : Src) → k < length (nets_but_clocks flat) → m.sources (get_or (nets_but_clocks flat) k net).class ≡ src → IsEntryOf list plan.lanes plan.ins src (get_or plan.nets k place)
+  owned : (k : ℕ) (net : FlatNet) (place : NetPlace) (src : Src) → k < length (listed_nets flat) → m.sources (get_or (listed_nets flat) k net).class ≡ src → IsEntryOf list plan.lanes plan.ins src (get_or plan.nets k place)
   owned k net place src lt is = entry_at k place src lt (source_is k net lt ∙ is)
 
   latch_lane : (i : ℕ) → plan.lanes - loop_count list + i ≡ plan.lanes - plan.latches + i
   latch_lane i = ap (λ n. plan.lanes - n + i) (sym loops)
 
-  by_source : (k : ℕ) (place : NetPlace) (src : Src) → k < length (nets_but_clocks flat) → get_or list.nets k Zero ≡ src → IsThere list (length list.cells) src
+  by_source : (k : ℕ) (place : NetPlace) (src : Src) → k < length (listed_nets flat) → get_or list.nets k Zero ≡ src → IsThere list (length list.cells) src
       → ((get_or plan.nets k place).after ≡ None) ⊎ IsCellExit plan (get_or plan.nets k place)
   by_source k place (Input i) lt is there = inl ((entry_at k place (Input i) lt is).1)
   by_source k place (Latch i) lt is there = inl ((entry_at k place (Latch i) lt is).1)
@@ -99,7 +104,7 @@ module _ (flat : Flat) (list : CellList) (m : IsMapped flat list) (plan : Plan) 
       let sources : List Src = map m.sources (in_classes flat n) in
       let long : length sources ≡ 2 = length-map (in_classes flat n) m.sources ∙ length-map (node_at flat n).ins (class_of flat) ∙ many in
       let kind = of_kind (node_at flat n).rows (node_at flat n).on a b (get_or sources 0 Zero) (get_or sources 1 Zero) cell e in
-      let is : IsCell list (m.sources (out_class flat n)) kind.0 = m.single n kind.0 h.1.0 (ap (λ l. single_cell l (node_at flat n).rows (node_at flat n).on) (two sources long) ∙ kind.1) in
+      let is : IsCell list (m.sources (out_class flat n)) kind.0 = m.single (are_listed flat.listed (nets_but_clocks flat) k h.0) n kind.0 h.1.0 (ap (λ l. single_cell l (node_at flat n).rows (node_at flat n).on) (two sources long) ∙ kind.1) in
       let lane : ℕ = (get_or plan.nets k place).lane in
       let at : get_or list.nets k Zero ≡ Made is.0 = source_is k net h.0 ∙ ap m.sources (sym h.1.1) ∙ is.1 in
       let made : maker_on list.cells lane (get_or list.nets k Zero) ≡ Some (cell_instr lane kind.0) = ap (maker_on list.cells lane) at ∙ ap (option_map (cell_instr lane)) is.2 in
@@ -108,8 +113,8 @@ module _ (flat : Flat) (list : CellList) (m : IsMapped flat list) (plan : Plan) 
   pub net_places : HasNetPlaces flat plan
   net_places = record {
     many = entries.long ∙ nets_many flat list m;
-    inputs = λ k i net place h. owned k net place (Input i) h.0 (m.own (get_or (nets_but_clocks flat) k net).class (FlatDriver.input i) h.1);
-    latches = λ k i net place h. (let e = owned k net place (Latch i) h.0 (m.own (get_or (nets_but_clocks flat) k net).class (FlatDriver.latch i) h.1) in (e.0 ∙ latch_lane i, e.1));
+    inputs = λ k i net place h. owned k net place (Input i) h.0 (m.own (get_or (listed_nets flat) k net).class (FlatDriver.input i) h.1);
+    latches = λ k i net place h. (let e = owned k net place (Latch i) h.0 (m.own (get_or (listed_nets flat) k net).class (FlatDriver.latch i) h.1) in (e.0 ∙ latch_lane i, e.1));
     covers = λ k n net place h. by_source k place (get_or list.nets k Zero) h.0 refl ((sources_there list).nets k Zero (few k h.0));
     constants = λ k n net place h. (constant_entry k n net place Zero h, one_entry k n net place h);
     singles = single_at;

@@ -1,4 +1,4 @@
--- Where the nets of a flat netlist are found in its plan.
+-- Where the listed nets of a flat netlist are found in its plan.
 use Rattle.std.specs.Prelude.{ℕ, ◌+◌, ◌-◌, ◌<◌, ◌≡◌, ◌⊎◌, [], ◌∷◌, Some, None, length, get_or}
 use Rattle.cell_core.specs.declared.cells.Src.{Src}
 use Rattle.cell_core.specs.declared.cells.Src.TheVariants.{One, Zero}
@@ -11,7 +11,7 @@ use Rattle.lane_core.specs.declared.plan.NetPlace.{NetPlace}
 use Rattle.lane_core.specs.declared.plan.Plan.{Plan}
 use Rattle.netlist_core.specs.declared.flat.Net.{Net as FlatNet}
 use Rattle.netlist_core.specs.declared.flat.Flat.{Flat}
-use Rattle.netlist_meaning.specs.Flat.{nets_but_clocks, node_at, FlatDriver, FlatDrives}
+use Rattle.netlist_meaning.specs.Flat.{listed_nets, node_at, FlatDriver, FlatDrives}
 
 -- at the entry of a lane
 abbrev pub IsEntry : ℕ → NetPlace → Type 0
@@ -21,16 +21,16 @@ IsEntry lane place = (place.lane ≡ lane) × (place.after ≡ None)
 abbrev pub IsCellExit : Plan → NetPlace → Type 0
 IsCellExit plan place = (cell : Cell) × IsExitOf plan.columns (cell_instr place.lane cell) place.after
 
--- Net k is driven by this input, latch or cover
+-- listed net k is driven by this input, latch or cover
 abbrev pub DrivesNet : Flat → FlatDriver → ℕ → FlatNet → Type 0
-DrivesNet flat driver k net = (k < length (nets_but_clocks flat)) × FlatDrives flat driver (get_or (nets_but_clocks flat) k net).class
+DrivesNet flat driver k net = (k < length (listed_nets flat)) × FlatDrives flat driver (get_or (listed_nets flat) k net).class
 
--- Each net but the clock nets, in order, has a place. Where an input or a latch drives it, this is the entry of the input's lane or of the lane of the latch's loop;
+-- Each listed net, in order, has a place. Where an input or a latch drives it, this is the entry of the input's lane or of the lane of the latch's loop;
 -- where a cover does, it is an entry, or the exit of a column that makes a cell there;
 -- where the cover is a constant by its text, it is an entry, for constant 1 that of the lane of its loop, the one after those of the latches;
 -- and where a cover of two nets is an OR, an XOR or an AND-NOT, it is the exit of a column with that instruction.
 pub record HasNetPlaces (flat : Flat) (plan : Plan) : Type 0 where
-  pub many : length plan.nets ≡ length (nets_but_clocks flat)
+  pub many : length plan.nets ≡ length (listed_nets flat)
   pub inputs : (k i : ℕ) (net : FlatNet) (place : NetPlace) → DrivesNet flat (FlatDriver.input i) k net → IsEntry (get_or plan.ins i 0) (get_or plan.nets k place)
   pub latches : (k i : ℕ) (net : FlatNet) (place : NetPlace) → DrivesNet flat (FlatDriver.latch i) k net → IsEntry (plan.lanes - plan.latches + i) (get_or plan.nets k place)
   pub covers : (k n : ℕ) (net : FlatNet) (place : NetPlace) → DrivesNet flat (FlatDriver.node n) k net → ((get_or plan.nets k place).after ≡ None) ⊎ IsCellExit plan (get_or plan.nets k place)

@@ -2,7 +2,7 @@
 use Rattle.std.specs.Prelude.{◌+◌, ◌*◌, ◌≤◌, ◌≡◌, ◌≢◌, false, cond, [], ◌∷◌, length}
 use Rattle.lane_core.specs.declared.plan.Plan.{Plan}
 use Rattle.netlist_core.specs.declared.flat.Flat.{Flat}
-use Rattle.netlist_meaning.specs.Flat.{nets_but_clocks}
+use Rattle.netlist_meaning.specs.Flat.{listed_nets, nets_but_clocks}
 use Rattle.netlist_meaning.specs.FlatValuation.{start_bits}
 use Rattle.cell_core.specs.declared.list.CellList.{CellList}
 use Rattle.cell_core.specs.Loops.{names_one, loop_state}
@@ -24,7 +24,7 @@ pub record IsSmall (flat : Flat) (plan : Plan) : Type 0 where
   pub loops : plan.latches ≤ length flat.latches + 1
   pub no_more_loops : any_needs_one flat ≡ false → plan.latches ≡ length flat.latches
 
--- The plan computes a list of cells of the flat netlist. Its nets are at the entries of their sources or at the exits of their cells. Its loops are the latches in order, and exactly where the
+-- The plan computes a list of cells of the flat netlist. Its listed nets are at the entries of their sources or at the exits of their cells. Its loops are the latches in order, and exactly where the
 -- list names constant 1 one more. Its start edges start one context, each latch with its start, and constant 1 with 1.
 pub record ComputesCells (flat : Flat) (plan : Plan) : Type 0 where
   pub list : CellList
@@ -35,7 +35,7 @@ pub record ComputesCells (flat : Flat) (plan : Plan) : Type 0 where
   pub loops : plan.latches ≡ length flat.latches + cond (names_one list) 1 0
   pub starts : StartsContexts plan (loop_state list (start_bits flat) ∷ []) (start_edges plan)
 
--- Where there are no nets but clock nets there is no lane and no column; else there are some of both.
+-- Where there are no nets but clock nets there is no lane and no column. Where nets are listed there are some of both.
 pub record HasLanes (flat : Flat) (plan : Plan) : Type 0 where
   pub none : nets_but_clocks flat ≡ [] → (plan.lanes ≡ 0) × (plan.columns ≡ [])
-  pub some : nets_but_clocks flat ≢ [] → (1 ≤ plan.lanes) × (1 ≤ length plan.columns)
+  pub some : listed_nets flat ≢ [] → (1 ≤ plan.lanes) × (1 ≤ length plan.columns)

@@ -15,7 +15,7 @@ use Rattle.netlist_meaning.specs.Places.{Place, main_model, model_placed, model_
 use Rattle.netlist_meaning.specs.Nets.{Net, IsNet, IsClockNet}
 use Rattle.netlist_meaning.specs.Weight.{weight}
 use Rattle.netlist_meaning.specs.InOrder.{nets_in_order}
-use Rattle.netlist_meaning.specs.Flat.{IsClockClass, is_clock_class, nets_but_clocks}
+use Rattle.netlist_meaning.specs.Flat.{IsClockClass, is_clock_class, listed_nets, nets_but_clocks}
 use Rattle.netlist_meaning.specs.Valuation.{Valuation, LatchState, IsValuation}
 use Rattle.netlist_meaning.specs.FlatOf.{class_of_net, flat_net, IsFlatOf}
 use Rattle.netlist_meaning.proofs.ClockTest.{is_clock_class-Decides}
@@ -36,6 +36,7 @@ use Rattle.flat_designs.proofs.Valuations.{same_bit}
 use Rattle.sound_designs.proofs.FewLines.{lines_are_few}
 use Rattle.place_paths.specs.Paths.{HasTableNumbers, name_and_path}
 use Rattle.plan_ports.specs.Tables.{HasTablePlaces, named_paths}
+use Rattle.plan_ports.proofs.Listed.{all_listed, pairs_listed}
 use Rattle.carries.specs.Nets.{WithoutClocks, AreSeenNets}
 
 -- The numbers of places are no greater than a table may write.
@@ -59,13 +60,15 @@ place_fits design faultless small net (m, is_m, named) =
 -- the places of the nets of a design's flat netlist can stand in a port table
 pub places_fit : (design : Design) (flat : Flat) → AreFaultless design.models → weight design < 2 ^ 31 → IsFlatOf design flat → HasTablePlaces flat
 places_fit design flat faultless small h = record {
-  numbers = subst (All (λ (net : FlatNet). HasTableNumbers net.place)) (sym h.nets)
+  numbers = all_listed (λ (net : FlatNet). HasTableNumbers net.place) flat
+      (subst (All (λ (net : FlatNet). HasTableNumbers net.place)) (sym h.nets)
       (All-map (λ (net : FlatNet). HasTableNumbers net.place) (flat_net design) (nets_in_order design)
-      (all_of (λ (net : Net). HasTableNumbers net.place) (nets_in_order design) (λ net i. place_fits design faultless small net (net_is design net i))));
-  apart = subst (AllPairs (λ (a b : FlatNet). a.name ≡ b.name → a.place ≢ b.place)) (sym h.nets)
+      (all_of (λ (net : Net). HasTableNumbers net.place) (nets_in_order design) (λ net i. place_fits design faultless small net (net_is design net i)))));
+  apart = pairs_listed (λ (a b : FlatNet). a.name ≡ b.name → a.place ≢ b.place) flat
+      (subst (AllPairs (λ (a b : FlatNet). a.name ≡ b.name → a.place ≢ b.place)) (sym h.nets)
       (all_pairs (λ (a b : FlatNet). a.name ≡ b.name → a.place ≢ b.place) (map (flat_net design) (nets_in_order design))
       (pairs_map (λ (a b : Net). a ≢ b) (λ (a b : FlatNet). a.name ≡ b.name → a.place ≢ b.place) (flat_net design) (nets_in_order design)
-      (λ a b other same_name same_place. other (ap₂ net_of same_place same_name)) (nets_once design)));
+      (λ a b other same_name same_place. other (ap₂ net_of same_place same_name)) (nets_once design))));
 }
   where
     net_of : Place → List ℕ → Net
@@ -112,11 +115,13 @@ filtered design flat (net ∷ nets) = one (is_seen design flat net) _ (filtered 
     one true rest e = ap (λ l. flat_net design net ∷ l) e
     one false rest e = e
 
-pub seen_are_flat : (design : Design) (flat : Flat) → IsFlatOf design flat → nets_but_clocks flat ≡ map (flat_net design) (seen_nets design flat)
-seen_are_flat design flat h = ap (filter (λ (net : FlatNet). not (is_clock_class flat net.class))) h.nets ∙ filtered design flat (nets_in_order design)
+pub seen_are_flat : (design : Design) (flat : Flat) → IsFlatOf design flat → listed_nets flat ≡ map (flat_net design) (seen_nets design flat)
+seen_are_flat design flat h =
+    ap (λ listed. cond listed (nets_but_clocks flat) []) h.listed
+    ∙ ap (filter (λ (net : FlatNet). not (is_clock_class flat net.class))) h.nets ∙ filtered design flat (nets_in_order design)
 
 -- with their names and paths
-pub seen_are_named : (design : Design) (flat : Flat) → IsFlatOf design flat → named_paths (nets_but_clocks flat) ≡ map (λ (net : Net). name_and_path net.place net.name) (seen_nets design flat)
+pub seen_are_named : (design : Design) (flat : Flat) → IsFlatOf design flat → named_paths (listed_nets flat) ≡ map (λ (net : Net). name_and_path net.place net.name) (seen_nets design flat)
 seen_are_named design flat h = ap named_paths (seen_are_flat design flat h) ∙ map-map (λ (net : FlatNet). name_and_path net.place net.name) (flat_net design) (seen_nets design flat)
 
 kept_in : {X : Type 0} (p : X → Bool) (xs : List X) (x : X) → In x (filter p xs) → In x xs × (p x ≡ true)

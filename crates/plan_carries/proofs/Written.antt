@@ -4,24 +4,25 @@ use Rattle.std.proofs.lemmas.List.{length-map, length-replicate}
 use Rattle.ww_rule.specs.Grid.{Grid}
 use Rattle.tiling.specs.Steps.{KeepsLaw}
 use Rattle.tile_library.specs.Drawings.{shipped_drawing}
-use Rattle.grid_assembly.specs.PlanDrawing.{start_grid}
 use Rattle.plan_layout.specs.Starts.{start_edges}
 use Rattle.plan_waves.proofs.IsolatedContexts.{contexts_apart}
 use Rattle.cell_core.specs.Meaning.{Fits}
 use Rattle.cell_core.specs.Loops.{loop_state}
 use Rattle.netlist_core.specs.declared.flat.FlatPort.{FlatPort}
 use Rattle.netlist_core.specs.declared.flat.Net.{Net as FlatNet}
-use Rattle.netlist_meaning.specs.Flat.{class_of, nets_but_clocks, port_classes}
+use Rattle.netlist_meaning.specs.Flat.{class_of, listed_nets, port_classes}
 use Rattle.pattern_reading.specs.declared.ports.Ports.{Ports}
 use Rattle.netlist_meaning.specs.FlatValuation.{start_bits}
 use Rattle.pattern_writing.specs.WrittenText.{HasWrittenText, pattern_text}
 use Rattle.carries.specs.FlatContexts.{ShowsFlatContexts}
+use Rattle.carries.specs.FlatNets.{CarriesFlat}
 use Rattle.carries.proofs.OneContext.{one_context_carries_flat}
 use Rattle.cell_meaning.specs.Listed.{listed_classes}
 use Rattle.plan_ports.specs.Laws.{HasRoom, TablesAreReadable}
 use Rattle.plan_ports.proofs.Readable.{small_size}
 use Rattle.plan_carries.specs.Laws.{PlansHavePorts, TextsCarryFlats}
 use Rattle.plan_carries.specs.Pictures.{grid_with}
+use Rattle.plan_carries.proofs.Bare.{bare_in_names, bare_grid}
 use Rattle.plan_carries.specs.ContextLaws.{PlanesShowContexts, PicturesArePlanes, TextsCarryContexts}
 
 pub plans_have_ports : PlansHavePorts
@@ -33,7 +34,7 @@ plans_have_ports flat list plan c p =
       outs = sym (length-map plan.outs _) ∙ ap length (p.bits.outs_have (replicate list.inputs false) (replicate (length list.starts) false) fits) ∙ length-map list.outs _
           ∙ ap length c.mapped.outs ∙ length-map (port_classes flat flat.outs) c.mapped.sources ∙ length-map flat.outs (λ (port : FlatPort). class_of flat port.net);
       nets = sym (length-map plan.nets _) ∙ ap length (p.bits.nets_have (replicate list.inputs false) (replicate (length list.starts) false) fits) ∙ length-map list.nets _
-          ∙ ap length c.mapped.nets ∙ length-map (listed_classes flat) c.mapped.sources ∙ length-map (nets_but_clocks flat) (λ (net : FlatNet). net.class);
+          ∙ ap length c.mapped.nets ∙ length-map (listed_classes flat) c.mapped.sources ∙ length-map (listed_nets flat) (λ (net : FlatNet). net.class);
     }
 
 pub texts_carry_contexts : KeepsLaw shipped_drawing → PicturesArePlanes → ((grid : Grid) (ports : Ports) → HasWrittenText grid ports) → TablesAreReadable → PlanesShowContexts → TextsCarryContexts
@@ -49,11 +50,12 @@ texts_carry_contexts law pictures written readable shown flat list plan ports st
       ports = ports;
       spells = record { reads = reads.0; table = reads.1 };
       contexts = k.table.contexts;
-      names = record { ins = k.table.in_names; outs = k.table.out_names; nets = k.table.net_names };
+      names = record { ins = bare_in_names plan k.bare flat (length starts) ports k.table; outs = k.table.out_names; nets = k.table.net_names };
       shows = subst (λ p. ShowsFlatContexts p ports flat starts) (sym picture.plane) (shown shipped_drawing law flat list plan ports starts k lit s);
     }
 
 -- with the plan's own start edges
 pub texts_carry_flats : TextsCarryContexts → TextsCarryFlats
 texts_carry_flats carry flat list plan ports k s =
-    (one_context_carries_flat (pattern_text (start_grid plan) ports) flat).1 (carry flat list plan ports (start_bits flat ∷ []) (omega arith) k (start_edges plan) s)
+    subst (λ (grid : Grid). CarriesFlat (pattern_text grid ports) flat) (sym (bare_grid plan k.bare))
+    ((one_context_carries_flat (pattern_text (grid_with plan (start_edges plan)) ports) flat).1 (carry flat list plan ports (start_bits flat ∷ []) (omega arith) k (start_edges plan) s))

@@ -5,3 +5,7 @@ pub mod Columns
 pub mod PortCells
 pub mod EdgeNames
 pub mod Within
+pub mod Parts
+pub mod Taped
+pub mod TapesFit
+pub mod Bare

@@ -1,7 +1,17 @@
-//! A law of layouts: the function does nothing, and its contract is the law.
-ghost use Rattle.plan_layout.specs.Laws.{PlansFitTogether};
+//! Laws of layouts: the functions do nothing, and their contracts are the laws.
+ghost use Rattle.plan_layout.specs.Laws.{PlansFitTogether, TapesFitTogether, BarePlansAreMachines};
 
 /// The tiles of an admissible plan fit together.
 pub fn plans_fit_together()
     ensures { PlansFitTogether }
+{}
+
+/// The tiles of an admissible plan and those of its tape fit together.
+pub fn tapes_fit_together()
+    ensures { TapesFitTogether }
+{}
+
+/// A plan without a tape is drawn as its tiles stand and its starts are named.
+pub fn bare_plans_are_machines()
+    ensures { BarePlansAreMachines }
 {}

@@ -1,8 +1,10 @@
-//! The layout of a plan: which tile stands in which block, and that the tiles of an admissible plan fit together.
+//! The layout of a plan: which tile stands in which block, and that the tiles of an admissible plan fit together; and its
+//! drawing, in which the tape lies before the body.
 //!
-//! Theorem: `plans_fit_together`, `slot_at`.
+//! Theorem: `plans_fit_together`, `tapes_fit_together`, `slot_at`, `slot_drawn_at`, `is_lit`.
 #![tactic(auto)]
 
+mod drawing;
 mod edge;
 pub mod laws;
 mod layout;
@@ -10,6 +12,7 @@ mod ports;
 mod slot;
 mod starts;
 
+pub use drawing::{body_column, is_lit, slot_drawn_at};
 pub use edge::Edge;
 pub use layout::slot_at;
 pub use ports::{is_entered, is_left};

@@ -1,8 +1,10 @@
-//! Tests of the public calls that make plans of lists of cells and write them as texts.
+//! Tests of the public calls that make plans of lists of cells and of AIGER circuits, and write them as texts.
 #![tactic(auto)]
 
 #[cfg(test)]
 mod choosing;
+#[cfg(test)]
+mod circuits;
 #[cfg(test)]
 mod drawing;
 #[cfg(test)]

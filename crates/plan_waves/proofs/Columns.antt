@@ -26,7 +26,7 @@ use Rattle.plan_layout.proofs.Halves.{instrs_sorted, instrs_on_lanes}
 use Rattle.plan_layout.proofs.Matched.{tiling_is_matched}
 use Rattle.plan_waves.specs.Waves.{is_free_entry, GoesOn, bits_at}
 use Rattle.plan_waves.proofs.Passing.{step_east, chosen_first}
-use Rattle.plan_waves.proofs.Parts.{body_at}
+use Rattle.plan_layout.proofs.Parts.{body_at}
 use Rattle.plan_waves.proofs.LaneBits.{answer_on, answers_agree, bit_after}
 use Rattle.lane_core.proofs.Lengths.{length-after_instrs}
 

@@ -28,7 +28,7 @@ use Rattle.plan_layout.proofs.Sides.{in_body_has}
 use Rattle.plan_waves.specs.Waves.{GoesOn, DrivesInputs}
 use Rattle.plan_waves.specs.ShownEdges.{ShowsEachStep, ShowsDrivenEdges}
 use Rattle.plan_waves.proofs.Passing.{step_east}
-use Rattle.plan_waves.proofs.Parts.{body_at}
+use Rattle.plan_layout.proofs.Parts.{body_at}
 use Rattle.plan_waves.proofs.Inputs.{body_entry, inputs_are_entries, driven_edges_go_on}
 use Rattle.plan_waves.proofs.Columns.{east_kind, not_free}
 use Rattle.plan_layout.proofs.Columns.{by_column-right}

@@ -20,7 +20,7 @@ use Rattle.plan_layout.specs.Planes.{plane_with}
 use Rattle.plan_layout.proofs.Matched.{tiling_of-upper}
 use Rattle.plan_layout.proofs.Columns.{by_column-right}
 use Rattle.plan_waves.specs.Beside.{PortsStandFree}
-use Rattle.plan_waves.proofs.Parts.{nothing_left, turn_beyond}
+use Rattle.plan_layout.proofs.Parts.{nothing_left, turn_beyond}
 
 -- an output cell draws nothing beyond its first column
 output_alone : (library : Kind → Drawing) (lit : Lit) (q l x y : ℕ) → 0 < x → drawn_piece library lit q l Output x y ≡ Empty

@@ -22,7 +22,7 @@ use Rattle.plan_layout.proofs.Sides.{in_body_has, body_goes_east}
 use Rattle.tiling.proofs.AtEdges.{beside_first, beside_next}
 use Rattle.plan_waves.specs.Waves.{is_free_entry, GoesOn, DrivesInputs}
 use Rattle.plan_waves.proofs.Passing.{answers_none}
-use Rattle.plan_waves.proofs.Parts.{some_columns, body_at, nothing_left}
+use Rattle.plan_layout.proofs.Parts.{some_columns, body_at, nothing_left}
 
 pub free_place : (plan : Plan) (q l : ℕ) → is_free_entry plan (Beside q l) ≡ true → (q ≡ plan.latches) × (l < first_loop_lane plan.lanes plan.latches)
 free_place plan q l h =

@@ -1,5 +1,4 @@
 pub mod Passing
-pub mod Parts
 pub mod Inputs
 pub mod LaneBits
 pub mod Columns

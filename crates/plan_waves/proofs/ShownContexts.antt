@@ -24,7 +24,7 @@ use Rattle.lane_core.specs.Entering.{bits_after}
 use Rattle.plan_layout.specs.Planes.{plane_with}
 use Rattle.plan_waves.specs.Cycles.{cycle_steps}
 use Rattle.plan_waves.specs.ShownEdges.{ShowsEachStep, ShowsDrivenEdges}
-use Rattle.plan_waves.proofs.Parts.{some_columns}
+use Rattle.plan_layout.proofs.Parts.{some_columns}
 use Rattle.plan_waves.proofs.Columns.{bit_on-bits_at}
 use Rattle.plan_waves.proofs.EdgesShown.{plans_show_edges}
 use Rattle.plan_waves.proofs.CycleSteps.{cycle_time}

@@ -8,7 +8,7 @@ use Rattle.plan_layout.specs.Layout.{end_of_body, tiling_of}
 use Rattle.plan_layout.proofs.Matched.{tiling_is_matched}
 use Rattle.plan_waves.specs.Waves.{GoesOn, loop_exit}
 use Rattle.plan_waves.proofs.Passing.{above_same, beside_same, east_south_passes, south_west_passes, west_north_passes, north_east_passes}
-use Rattle.plan_waves.proofs.Parts.{right_along, right_upper_corner, right_across, right_lower_corner, right_back, left_back, left_lower_corner, left_across, left_upper_corner, left_along}
+use Rattle.plan_layout.proofs.Parts.{right_along, right_upper_corner, right_across, right_lower_corner, right_back, left_back, left_lower_corner, left_across, left_upper_corner, left_along}
 use Rattle.plan_waves.proofs.Paths.{Reaches, passed_on, loop_lane, below_body, other_column, below_inside, left_inside, right_inside, once, joined, renamed, east, south, west, north}
 
 -- from where loop s leaves the body to the beginning of its way back

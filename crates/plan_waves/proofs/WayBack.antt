@@ -18,7 +18,7 @@ use Rattle.plan_layout.specs.Layout.{return_slot, end_of_body, tiling_of}
 use Rattle.plan_layout.proofs.Matched.{tiling_is_matched}
 use Rattle.plan_waves.specs.Waves.{GoesOn}
 use Rattle.plan_waves.proofs.Passing.{beside_same, west_passes, upper_swap_passes, lower_swap_passes}
-use Rattle.plan_waves.proofs.Parts.{return_at}
+use Rattle.plan_layout.proofs.Parts.{return_at}
 use Rattle.plan_waves.proofs.Paths.{Reaches, Follows, passed_on, loop_lane, below_body, below_inside, once, joined, renamed, chain, west}
 
 -- what stands on the way back, by the two tests

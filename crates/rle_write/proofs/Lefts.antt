@@ -7,7 +7,7 @@ use Rattle.ww_rule.specs.declared.pattern.State.TheVariants.{Empty}
 use Rattle.lane_core.specs.declared.plan.Plan.{Plan}
 use Rattle.lane_core.specs.Plans.{size_of}
 use Rattle.tile_library.specs.Drawings.{shipped_drawing}
-use Rattle.plan_layout.specs.Planes.{start_plane}
+use Rattle.plan_layout.specs.Tape.{drawn_plane}
 use Rattle.grid_assembly.specs.PlanDrawing.{AreCellsOfRow, start_row, start_grid}
 use Rattle.grid_assembly.proofs.Pattern.{cell_at}
 use Rattle.tile_library.specs.RowRuns.{IsRowRun}
@@ -21,7 +21,7 @@ pub left_by : (held : List ℕ) (column ends count tag : ℕ) (rows : List (List
 left_by held column ends count tag rows e = ap (λ l. text_left held column (row_left ends (replicate count tag ++ l) rows)) e
 
 row_long : (plan : Plan) (y : ℕ) → length (start_row plan y) ≡ (size_of plan).0
-row_long plan y = length-map-range_with_len (λ x. start_plane shipped_drawing plan (pos x) (pos y)) 0 (size_of plan).0
+row_long plan y = length-map-range_with_len (λ x. drawn_plane shipped_drawing plan (pos x) (pos y)) 0 (size_of plan).0
 
 -- the rest of a row begins with a piece that has its cells
 piece_next : (plan : Plan) (y x : ℕ) (cells : List State) → AreCellsOfRow plan y x cells → x + length cells ≤ (size_of plan).0
@@ -38,7 +38,7 @@ piece_next plan y x cells are within =
 
 -- the rest of a row begins with a run of it
 pub run_next : (plan : Plan) (y x limit : ℕ) (run : State × ℕ)
-    → IsRowRun (λ x. start_plane shipped_drawing plan (pos x) (pos y)) x limit run → x + limit ≤ (size_of plan).0
+    → IsRowRun (λ x. drawn_plane shipped_drawing plan (pos x) (pos y)) x limit run → x + limit ≤ (size_of plan).0
     → map tag_of (drop x (start_row plan y)) ≡ replicate run.1 (tag_of run.0) ++ map tag_of (drop (x + run.1) (start_row plan y))
 run_next plan y x limit run is inside =
     let cells : List State = replicate run.1 run.0 in

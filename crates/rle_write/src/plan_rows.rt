@@ -3,7 +3,7 @@ ghost use Rattle.std.specs.Prelude.{◌≡◌, ◌≢◌, ◌≤◌, ◌<◌, �
 ghost use Rattle.ww_rule.specs.declared.pattern.State.{State};
 ghost use Rattle.lane_core.specs.Plans.{IsAdmissible};
 ghost use Rattle.lane_core.specs.Plans.{size_of};
-ghost use Rattle.plan_layout.specs.Layout.{tiling_of};
+ghost use Rattle.plan_layout.specs.Tape.{drawn_tiling};
 ghost use Rattle.plan_layout.specs.Slots.{slot_of};
 ghost use Rattle.grid_assembly.specs.PlanDrawing.{start_row, start_grid};
 ghost use Rattle.pattern_writing.specs.Writer.{item_texts, wrapped};
@@ -15,18 +15,18 @@ use crate::items::write_item;
 use crate::rows::{Kept, end_row, write_same};
 use grid_assembly::run_in;
 use lane_core::Plan;
-use plan_layout::{Slot, slot_at};
+use plan_layout::{Slot, slot_drawn_at};
 use ww_base::{Failed, Page, Sink};
 
 // What stands in the block of the cell at column `x` and row `y`: it is looked up where the block begins, and is else
 // what stood there for the cell before.
 fn slot_from(plan: &Plan, y: u64, x: u64, before: Slot) -> Slot
     requires admissible { IsAdmissible plan.now }
-    requires before { x % 32 ≢ 0 → slot_of before ≡ tiling_of plan.now (x / 32) (y / 16) }
-    ensures { slot_of result ≡ tiling_of plan.now (x / 32) (y / 16) }
+    requires before { x % 32 ≢ 0 → slot_of before ≡ drawn_tiling plan.now (x / 32) (y / 16) }
+    ensures { slot_of result ≡ drawn_tiling plan.now (x / 32) (y / 16) }
 {
     if x % 32 == 0 {
-        slot_at(plan, x / 32, y / 16)
+        slot_drawn_at(plan, x / 32, y / 16)
     } else {
         before
     }

@@ -1,12 +1,9 @@
 use Rattle.std.proofs.Common.{◌≡◌, ◌==◌, refl, sym, ◌∙◌, ap, List, map, length}
-use Rattle.std.specs.List.{filter_map}
 use Rattle.std.proofs.lemmas.List.{length-map}
 use Rattle.netlist_core.specs.declared.flat.FlatPort.{FlatPort}
 use Rattle.netlist_core.specs.declared.flat.FlatLatch.{FlatLatch}
-use Rattle.netlist_core.specs.declared.flat.Net.{Net as FlatNet}
 use Rattle.netlist_meaning.specs.Flat.{class_of, port_classes}
 use Rattle.cell_meaning.specs.Listed.{listed_classes}
-use Rattle.cover_mapper.specs.Singles.{single_source}
 use Rattle.cover_mapper.specs.Sourced.{sources_at, source_at}
 use Rattle.cover_mapper.proofs.Known.{all_gathered}
 use Rattle.cover_mapper.proofs.Finishing.{Ports, ports, gathered_there, finished_with, with_bits}
@@ -22,7 +19,7 @@ invariant_of-list c =
     let read : c.of-2.result ≡ map (source_at sources) (map (λ (latch : FlatLatch). class_of flat latch.input) flat.latches) =
     c.of-2.ensures ∙ c.in_ok-latches.ensures ∙ ap (λ (l : List FlatLatch). sources_at sources (map (λ (latch : FlatLatch). class_of flat latch.input) l)) c.as_slice-2.ensures ∙ all_gathered sources _ at.data_known in
     let nets : c.of-3.result ≡ map (source_at sources) (listed_classes flat) =
-    c.of-3.ensures ∙ c.in_ok-nets.ensures ∙ ap (λ (l : List FlatNet). sources_at sources (map (λ (net : FlatNet). net.class) l)) c.as_slice-3.ensures ∙ at.nets in
+    c.of-3.ensures ∙ c.in_ok-nets.ensures ∙ at.nets in
     record {
       in_order = c.args.list.in_order;
       outs_there = gathered_there flat _ c.args.list sources _ c.of.result at.sourced at.outs_known outs;
@@ -43,9 +40,9 @@ returns-clause-mapped c =
       starts = refl;
       outs = c.of.ensures ∙ c.in_ok-outs.ensures ∙ ap (λ (l : List FlatPort). sources_at sources (port_classes flat l)) c.as_slice.ensures;
       latches = c.of-2.ensures ∙ c.in_ok-latches.ensures ∙ ap (λ (l : List FlatLatch). sources_at sources (map (λ (latch : FlatLatch). class_of flat latch.input) l)) c.as_slice-2.ensures;
-      nets = c.of-3.ensures ∙ c.in_ok-nets.ensures ∙ ap (λ (l : List FlatNet). sources_at sources (map (λ (net : FlatNet). net.class) l)) c.as_slice-3.ensures;
+      nets = c.of-3.ensures ∙ c.in_ok-nets.ensures;
     })
-    c.in_ok-singles.singles.items (c.in_ok-singles.ensures ∙ ap (filter_map (single_source flat sources)) c.as_slice-4.ensures)
+    c.in_ok-singles.singles.items c.in_ok-singles.ensures
 
 pub returns-clause-bits : goal.returns-clause-bits
 returns-clause-bits c =
@@ -58,5 +55,5 @@ returns-clause-bits c =
       starts = refl;
       outs = c.of.ensures ∙ c.in_ok-outs.ensures ∙ ap (λ (l : List FlatPort). sources_at sources (port_classes flat l)) c.as_slice.ensures;
       latches = c.of-2.ensures ∙ c.in_ok-latches.ensures ∙ ap (λ (l : List FlatLatch). sources_at sources (map (λ (latch : FlatLatch). class_of flat latch.input) l)) c.as_slice-2.ensures;
-      nets = c.of-3.ensures ∙ c.in_ok-nets.ensures ∙ ap (λ (l : List FlatNet). sources_at sources (map (λ (net : FlatNet). net.class) l)) c.as_slice-3.ensures;
+      nets = c.of-3.ensures ∙ c.in_ok-nets.ensures;
     })

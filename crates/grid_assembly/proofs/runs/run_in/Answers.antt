@@ -1,7 +1,7 @@
 use Rattle.std.proofs.Common.{rules, ◌≤◌}
-use Rattle.plan_layout.specs.Layout.{tiling_of}
+use Rattle.plan_layout.specs.Tape.{drawn_tiling}
 use Rattle.plan_layout.specs.Slots.{slot_of}
-use Rattle.plan_layout.specs.Starts.{start_edges}
+use Rattle.plan_layout.specs.Tape.{drawn_edges}
 use Rattle.grid_assembly.proofs.RowRuns.{in_plane}
 use Rattle.grid_assembly.proofs.runs.run_in.Goals as goal
 
@@ -11,5 +11,5 @@ returns-clause-run c =
     let few : c.min.result ≤ c.slot_run-state.result.1 = search rules in
     let within : c.min.result ≤ c.args.limit = search rules in
     let some : 1 ≤ c.min.result = search rules in
-    in_plane (tiling_of plan) (start_edges plan) (slot_of c.args.slot) c.args.x c.args.y c.args.limit c.slot_run-state.result.1 c.slot_run-state.result.0
+    in_plane (drawn_tiling plan) (drawn_edges plan) (slot_of c.args.slot) c.args.x c.args.y c.args.limit c.slot_run-state.result.1 c.slot_run-state.result.0
     c.requires.slot c.slot_run-state.ensures c.min.result some few within

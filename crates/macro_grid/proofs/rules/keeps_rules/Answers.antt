@@ -11,6 +11,7 @@ returns c = (
     ins = search rules;
     outs = search rules;
     nets = search rules;
+    tape = search rules;
   },
-  λ h. (let nets = h.nets in search rules),
+  λ h. (let tape = h.tape in search rules),
 )

@@ -1,22 +1,28 @@
-use Rattle.std.proofs.Common.{◌∙◌, ap, ◌-◌, arith}
+use Rattle.std.proofs.Common.{sym, ◌∙◌, ap, ◌-◌, arith}
 use Rattle.tiling.specs.MacroStep.{slot_answers}
 use Rattle.macro_grid.specs.Edges.{lit_of}
-use Rattle.plan_layout.specs.Layout.{tiling_of}
-use Rattle.tiling.proofs.AtEdges.{beside_next}
+use Rattle.plan_layout.specs.Tape.{drawn_tiling}
+use Rattle.tiling.proofs.AtEdges.{beside_first, beside_next}
 use Rattle.macro_grid.proofs.Steps.{answered, not_answered}
 use Rattle.macro_grid.proofs.step.beside_after.Goals as goal
 
 pub returns-then-is_answered : goal.returns-then-is_answered
 returns-then-is_answered c =
     answered _ _ _ _
-    (beside_next (tiling_of c.args.plan.now) (lit_of c.args.old.now) c.args.column c.args.lane (c.args.column - 1) (omega arith))
-    (c.is_answered.ensures ∙ ap (λ s. slot_answers (lit_of c.args.old.now) (c.args.column - 1) c.args.lane s 31 8) c.slot_at-2.ensures)
+    (beside_next (drawn_tiling c.args.plan.now) (lit_of c.args.old.now) c.args.column c.args.lane (c.args.column - 1) (omega arith))
+    (c.is_answered.ensures ∙ ap (λ s. slot_answers (lit_of c.args.old.now) (c.args.column - 1) c.args.lane s 31 8) c.slot_drawn_at-2.ensures)
     c.if-is_answered.true
 
 pub returns-else-is_answered : goal.returns-else-is_answered
 returns-else-is_answered c =
     not_answered c.is_answered.result _ _ _ _
-    (beside_next (tiling_of c.args.plan.now) (lit_of c.args.old.now) c.args.column c.args.lane (c.args.column - 1) (omega arith))
-    (c.is_answered.ensures ∙ ap (λ s. slot_answers (lit_of c.args.old.now) (c.args.column - 1) c.args.lane s 31 8) c.slot_at-2.ensures)
+    (beside_next (drawn_tiling c.args.plan.now) (lit_of c.args.old.now) c.args.column c.args.lane (c.args.column - 1) (omega arith))
+    (c.is_answered.ensures ∙ ap (λ s. slot_answers (lit_of c.args.old.now) (c.args.column - 1) c.args.lane s 31 8) c.slot_drawn_at-2.ensures)
     c.if-is_answered.false
-    (c.is_answered-from_east.ensures ∙ ap (λ s. slot_answers (lit_of c.args.old.now) c.args.column c.args.lane s 0 8) c.slot_at.ensures)
+    (c.is_answered-from_east.ensures ∙ ap (λ s. slot_answers (lit_of c.args.old.now) c.args.column c.args.lane s 0 8) c.slot_drawn_at.ensures)
+
+pub returns-then-column-eq0 : goal.returns-then-column-eq0
+returns-then-column-eq0 c =
+    c.is_answered-from_east.ensures
+    ∙ ap (λ s. slot_answers (lit_of c.args.old.now) c.args.column c.args.lane s 0 8) c.slot_drawn_at.ensures
+    ∙ sym (beside_first (drawn_tiling c.args.plan.now) (lit_of c.args.old.now) c.args.column c.args.lane c.if-column-eq0.true)

@@ -4,7 +4,7 @@ use Rattle.std.proofs.lemmas.List.{take_at}
 use Rattle.tiling.specs.Tiling.Edge.{Beside, Above}
 use Rattle.tiling.specs.MacroStep.{macro_step as next_edges}
 use Rattle.macro_grid.specs.Edges.{edge_columns, edge_lanes, lit_of}
-use Rattle.plan_layout.specs.Layout.{tiling_of}
+use Rattle.plan_layout.specs.Tape.{drawn_tiling}
 use Rattle.macro_grid.proofs.Bits.{bits_read}
 use Rattle.macro_grid.proofs.Steps.{beside_right, beside_below, above_right, above_below}
 use Rattle.macro_grid.proofs.Planes.{drawn_after, steps_of}
@@ -18,10 +18,10 @@ returns-clause-step c (Beside q l) =
     let same : length bits ≡ c.new.inside.beside.len = search rules in
     let long : length bits ≡ edge_columns c.args.plan.now * lanes = search rules in
     ap (λ (v : List Bool). nat_lt l lanes && get_or v (q * lanes + l) false) (take_at bits (drop (length bits) c.new.inside.beside.items) c.new.inside.beside.len same)
-    ∙ bits_read (edge_columns c.args.plan.now) lanes bits (λ x y. next_edges (tiling_of c.args.plan.now) (lit_of c.args.old.now) (Beside x y))
+    ∙ bits_read (edge_columns c.args.plan.now) lanes bits (λ x y. next_edges (drawn_tiling c.args.plan.now) (lit_of c.args.old.now) (Beside x y))
     long c.step_beside.ensures
-    (λ x y far. beside_right c.args.plan.now (lit_of c.args.old.now) x y far)
-    (λ x y far. beside_below c.args.plan.now (lit_of c.args.old.now) x y (omega arith)) q l
+    (λ x y far. beside_right c.args.plan.now c.requires.admissible (lit_of c.args.old.now) x y far)
+    (λ x y far. beside_below c.args.plan.now c.requires.admissible (lit_of c.args.old.now) x y (omega arith)) q l
 returns-clause-step c (Above q l) =
     let bits = c.step_above.new.bits in
     let lanes = c.new.inside.lanes in
@@ -29,10 +29,10 @@ returns-clause-step c (Above q l) =
     let same : length bits ≡ c.new.inside.above.len = search rules in
     let long : length bits ≡ edge_columns c.args.plan.now * lanes = search rules in
     ap (λ (v : List Bool). nat_lt l lanes && get_or v (q * lanes + l) false) (take_at bits (drop (length bits) c.new.inside.above.items) c.new.inside.above.len same)
-    ∙ bits_read (edge_columns c.args.plan.now) lanes bits (λ x y. next_edges (tiling_of c.args.plan.now) (lit_of c.args.old.now) (Above x y))
+    ∙ bits_read (edge_columns c.args.plan.now) lanes bits (λ x y. next_edges (drawn_tiling c.args.plan.now) (lit_of c.args.old.now) (Above x y))
     long c.step_above.ensures
-    (λ x y far. above_right c.args.plan.now (lit_of c.args.old.now) x y far)
-    (λ x y far. above_below c.args.plan.now (lit_of c.args.old.now) x y (omega arith)) q l
+    (λ x y far. above_right c.args.plan.now c.requires.admissible (lit_of c.args.old.now) x y far)
+    (λ x y far. above_below c.args.plan.now c.requires.admissible (lit_of c.args.old.now) x y (omega arith)) q l
 
 pub returns-clause-plane : goal.returns-clause-plane
 returns-clause-plane c = λ library law.

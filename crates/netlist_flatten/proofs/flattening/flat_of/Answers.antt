@@ -1,4 +1,4 @@
-use Rattle.std.proofs.Common.{◌∙◌, sym, ap}
+use Rattle.std.proofs.Common.{◌∙◌, sym, ap, refl}
 use Rattle.netlist_meaning.specs.FlatOf.{first_control}
 use Rattle.netlist_flatten.proofs.flattening.flat_of.Goals as goal
 

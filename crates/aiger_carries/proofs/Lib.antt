@@ -1,0 +1,4 @@
+pub mod SameRuns
+pub mod Carried
+pub mod Cycles
+pub mod Needs

@@ -1,0 +1,3 @@
+pub mod CarriesAig
+pub mod Laws
+pub mod Needs

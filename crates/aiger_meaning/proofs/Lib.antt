@@ -1,0 +1,11 @@
+pub mod NetLists
+pub mod Pushes
+pub mod View
+pub mod Within
+pub mod Drivers
+pub mod Weights
+pub mod PortNames
+pub mod Values
+pub mod Valuations
+pub mod Loops
+pub mod NetIndex

@@ -1,0 +1,6 @@
+mod Ids
+mod Values
+mod Order
+mod OneForm
+mod Alike
+mod References
