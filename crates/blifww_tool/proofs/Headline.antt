@@ -45,8 +45,7 @@ module _ (words : List (List ℕ)) (src : Reading) (out : Writing) (d : Does wor
   tapes cycles given asks text before has held =
       let p = tape_prints cycles given asks in
       let all : GaveAll src d.text = subst (λ (v : CommandValues). HasText v src d.text) (one_command words d.command (tape cycles given) d.asked.asks asks) d.given in
-      let same : d.text ≡ text = gave_whole src.left src.left_after d.text text all.consumed all.end has in
-      (
+      let same : d.text ≡ text = gave_whole src.left src.left_after d.text text all.consumed all.end has in (
         d.output,
         gained_whole out.written out.written_after d.output before d.wrote held,
         p.evaluation,
@@ -61,8 +60,7 @@ module _ (words : List (List ℕ)) (src : Reading) (out : Writing) (d : Does wor
   aigs asks text before has held =
       let p = aig_prints asks in
       let given : GaveAll src d.text = subst (λ (v : CommandValues). HasText v src d.text) (one_command words d.command aiger d.asked.asks asks) d.given in
-      let same : d.text ≡ text = gave_whole src.left src.left_after d.text text given.consumed given.end has in
-      (
+      let same : d.text ≡ text = gave_whole src.left src.left_after d.text text given.consumed given.end has in (
         d.output,
         gained_whole out.written out.written_after d.output before d.wrote held,
         p.aig,
@@ -77,8 +75,7 @@ module _ (words : List (List ℕ)) (src : Reading) (out : Writing) (d : Does wor
   dumps cycles given asks text before has held =
       let p = dump_prints cycles given asks in
       let all : GaveAll src d.text = subst (λ (v : CommandValues). HasText v src d.text) (one_command words d.command (vcd cycles given) d.asked.asks asks) d.given in
-      let same : d.text ≡ text = gave_whole src.left src.left_after d.text text all.consumed all.end has in
-      (
+      let same : d.text ≡ text = gave_whole src.left src.left_after d.text text all.consumed all.end has in (
         d.output,
         gained_whole out.written out.written_after d.output before d.wrote held,
         p.simulation,

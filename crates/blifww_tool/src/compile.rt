@@ -15,9 +15,9 @@ use flat_designs::{flat_is_one, flat_is_sound, flat_is_weighed};
 use netlist_plans::{NetlistPlanError, Planned, plan_contexts, plan_netlist};
 use netlist_text::{Netlist, netlist_of};
 use plan_carries::{designs_are_carried, designs_are_carried_in_contexts};
+use refusals::{Cause, TextError};
 use start_words::Starts;
 use start_words::laws::{latches_are_flat, no_words_mean_start, starts_are_flat};
-use refusals::{Cause, TextError};
 use std::alloc::Global;
 
 /// The plan of a netlist, for one context and without a tape.
