@@ -100,15 +100,16 @@ fn work<S: Source, O: Sink>(
 /// its port table show as a VCD text: a variable for each net in each context, with all nets of context 0 first.
 ///
 /// 0: all of it is on `out`. 1: the netlist's text, or the circuit's, breaks a rule. 2: the words are no command. 3:
-/// covers, or the circuit's gates, read each other in a circle. 4: the text has more than 16,777,216 bytes, the netlist weighs more than 8,192, the pattern's box
-/// has more than 268,435,456 cells, its last bits come after generation 4,294,967,296, or the pattern has no room for
-/// so many contexts: it has room for at least one, and for 6 for each latch. 5: `src` failed. 6: `out` or `err` failed.
-/// 7: there was not enough memory. 8: the text is no pattern's, or its port table is at fault. 9: the words are no
-/// streams for the inputs, or no starts for the latches, or the table has no net as asked for. 10: an injection is due
-/// at a cell that is no conductor then. Of several the first is answered: 2, 5, 4 (the text); then of a netlist 1
-/// (lines and models), 4 (the weight), 1 (clocks), 3, of a circuit 1, 4 (the weight), 3, and of a pattern 8 (the header), 4 (the box), 8 (the items), 8
-/// (the table); then 9 (words), 9 (the net), 4 (generations), 10, 4 (contexts), 6. With each but 0 and 6 one line on
-/// `err` tells it, and nothing is on `out`.
+/// covers, or the circuit's gates, read each other in a circle. 4: the text has more than 16,777,216 bytes, the
+/// netlist, or the circuit, weighs more than 8,192, the pattern's box has more than 268,435,456 cells, its last bits
+/// come after generation 4,294,967,296, or the pattern has no room for so many contexts: it has room for at least one,
+/// and for 6 for each latch. 5: `src` failed. 6: `out` or `err` failed. 7: there was not enough memory. 8: the text is
+/// no pattern's, or its port table is at fault. 9: the words are no streams for the inputs, or no starts for the
+/// latches, or the table has no net as asked for. 10: an injection is due at a cell that is no conductor then. Of
+/// several the first is answered: 2, 5, 4 (the text); then of a netlist 1 (lines and models), 4 (the weight), 1
+/// (clocks), 3, of a circuit 1, 4 (the weight), 3, and of a pattern 8 (the header), 4 (the box), 8 (the items), 8 (the
+/// table); then 9 (words), 9 (the net), 4 (generations), 10, 4 (contexts), 6. With each but 0 and 6 one line on `err`
+/// tells it, and nothing is on `out`.
 pub fn run<S: Source, O: Sink, E: Sink>(
     alloc: Global,
     words: &[String],
