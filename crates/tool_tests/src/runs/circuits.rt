@@ -68,6 +68,13 @@ const REFUSED: &[(&[u8], u8, &[u8])] = &[
         1,
         b"A9 SameName line 3\n",
     ),
+    (
+        b"aag 1 1 0 2 0\n2\n2\n2\no0 y\no1 y\n",
+        1,
+        b"A9 SameName line 4\n",
+    ),
+    // A symbol is looked at before what is read and not defined.
+    (b"aag 2 1 0 1 0\n2\n4\nx\n", 1, b"A8 BadSymbol line 4\n"),
     (b"aag 1 0 0 1 1\n2\n2 2 2\n", 3, b"loop: 2\n"),
     (
         b".model m\n.outputs y\n.names y\n.end\n",
