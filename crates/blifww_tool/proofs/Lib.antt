@@ -21,6 +21,7 @@ pub mod Ended
 pub mod Stopped
 pub mod Statuses
 pub mod PrintsAlike
+pub mod DumpsNets
 pub mod TapePrints
 pub mod Fed
 pub mod PrintsRuns

@@ -15,4 +15,5 @@ pub mod Statuses
 pub mod Headline
 pub mod Answer
 pub mod PrintsAlike
+pub mod DumpsNets
 pub mod TapePrints

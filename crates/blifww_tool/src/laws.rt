@@ -1,4 +1,5 @@
 //! What is proved of statuses, and of what commands print.
+ghost use Rattle.blifww_tool.specs.DumpsNets.{CarriersDumpNets};
 ghost use Rattle.blifww_tool.specs.PrintsAlike.{CarriersPrintAlike, CarriersPrintNets, CarriersPrintNetsInContexts, CarriersPrintRuns, CarriersRunQuietly, CompiledPrintAlike, CompiledPrintNets, CompiledPrintRuns};
 ghost use Rattle.blifww_tool.specs.Statuses.{StatusesHaveCauses};
 ghost use Rattle.blifww_tool.specs.TapePrints.{TapesPrintAlike, TapesPrintRuns};
@@ -45,6 +46,16 @@ pub fn carriers_print_nets()
     carriers_show_nets();
     carriers_show_contexts();
     carriers_show_runs();
+    streams_match();
+}
+
+/// What `vcd` writes of a text that carries the nets of a design in contexts, as what `compile` writes does, reads as the
+/// nets' bits in runs, one in each context, from the context's start on.
+pub fn carriers_dump_nets()
+    ensures { CarriersDumpNets }
+{
+    carriers_show_nets();
+    carriers_show_contexts();
     streams_match();
 }
 
