@@ -1,6 +1,8 @@
 -- What `vcd` writes of a text that carries the nets of a design is the nets' bits in its runs.
-use Rattle.std.proofs.Common.{ℕ, ◌≡◌, ◌<◌, ◌+◌, ◌*◌, sym, ap, ◌∙◌, subst, Bool, false, List, length, map, get_or, arith}
+use Rattle.std.proofs.Common.{ℕ, zero, suc, ◌≡◌, ◌<◌, ◌≤◌, ◌+◌, ◌*◌, refl, sym, ap, ◌∙◌, subst, Bool, false, List, length, flat_map, get_or, length-append, arith}
+use Rattle.std.specs.List.{range_with_len}
 use Rattle.std.specs.Prelude.{Some, slice_get}
+use Rattle.std.proofs.Math.Nat.{mul-le-mul}
 use Rattle.std.proofs.lemmas.List.{length-map}
 use Rattle.std.proofs.lemmas.List.FromFn.{get_or-map-range_with_len}
 use Rattle.std.proofs.lemmas.Option.{slice_get_within}
@@ -14,30 +16,39 @@ use Rattle.carries.specs.DesignContexts.{CarriesNetsInContexts}
 use Rattle.drive.specs.Driving.{AreFor}
 use Rattle.probe_view.specs.Probes.{probed_at}
 use Rattle.shown_runs.specs.ShownRuns.{CarriersShowContexts, CarriersShowNetsInContexts, StreamsAreFor, net_bits_in_run}
-use Rattle.vcd_text.specs.Reading.{VcdForm, ReadsAsVcd, value_at}
-use Rattle.vcd_text.specs.Writing.{Waves, form_of, id_of}
-use Rattle.vcd_write.specs.NetWaves.{NetInContext, net_waves, nets_in_contexts, reference_of}
-use Rattle.vcd_write.proofs.Variables.{nets_have_their_bits, variable_at}
+use Rattle.vcd_text.specs.Reading.{ReadsAsVcd}
+use Rattle.vcd_text.specs.Writing.{form_of}
+use Rattle.vcd_write.specs.NetWaves.{NetInContext, NetsHaveTheirBits, nets_in, nets_in_contexts, reference_of}
 use Rattle.blifww_tool.specs.Dumping.{waves_of}
 use Rattle.blifww_tool.specs.PrintsAlike.{AreRunsOn}
 use Rattle.blifww_tool.specs.Simulation.{Simulation}
 use Rattle.blifww_tool.specs.DumpsNets.{CarriersDumpNets}
 use Rattle.blifww_tool.proofs.Fed.{as_many, feeds, for_table, is_start, own_run, read, start_of}
 
+-- each context has a variable for each net
+variables_many : (nets : List NetLine) (first many : ℕ) → length (flat_map (λ c. nets_in c nets) (range_with_len first many)) ≡ many * length nets
+variables_many nets first zero = refl
+variables_many nets first (suc many) =
+    let rest : List NetInContext = flat_map (λ c. nets_in c nets) (range_with_len (first + 1) many) in
+    omega (arith, length-append (nets_in first nets) rest, length-map nets (λ net. record { context = first; net = net }), variables_many nets (first + 1) many)
+
 -- a net's variable is one of the dump's
-is_variable : (s : Simulation) (context number : ℕ) (line : NetLine) → context < s.ports.c → slice_get s.ports.nets number ≡ Some line
+is_variable : (s : Simulation) (context number : ℕ) → context < s.ports.c → number < length s.ports.nets
     → context * length s.ports.nets + number < length (waves_of s).references
-is_variable s context number line low at =
-    let within = slice_get_within (nets_in_contexts s.ports) (context * length s.ports.nets + number) (record { context = context; net = line }) (variable_at s.ports context number line low at) in
-    let many = length-map (nets_in_contexts s.ports) (reference_of s.ports.c) in
-    omega (arith, within, many)
+is_variable s context number low within =
+    let all : length (waves_of s).references ≡ length (nets_in_contexts s.ports) = length-map (nets_in_contexts s.ports) (reference_of s.ports.c) in
+    let many : length (nets_in_contexts s.ports) ≡ s.ports.c * length s.ports.nets = variables_many s.ports.nets 0 s.ports.c in
+    let next : suc context ≤ s.ports.c = omega (arith, low) in
+    let nets : length s.ports.nets ≤ length s.ports.nets = omega arith in
+    let after : suc context * length s.ports.nets ≤ s.ports.c * length s.ports.nets = mul-le-mul next nets in
+    omega (arith, within, all, many, after)
 
 -- a net's bit in a cycle of a run
 bit_in_run : (run : ℕ → Valuation) (cycles cycle : ℕ) (net : Net) → cycle < cycles → get_or (net_bits_in_run run cycles net) cycle false ≡ run cycle net.place net.name
 bit_in_run run cycles cycle net low = get_or-map-range_with_len (λ t. run t net.place net.name) 0 cycles cycle cycle false low (omega arith)
 
-pub carriers_dump_nets : CarriersShowNetsInContexts → CarriersShowContexts → StreamsAreFor → CarriersDumpNets
-carriers_dump_nets law shows streams_for text design starts c cycles words output printed =
+pub carriers_dump_nets : NetsHaveTheirBits → CarriersShowNetsInContexts → CarriersShowContexts → StreamsAreFor → CarriersDumpNets
+carriers_dump_nets their_bits law shows streams_for text design starts c cycles words output printed =
     let s = printed.simulation in
     let k = c.carried in
     let is = printed.runs.is in
@@ -61,9 +72,9 @@ carriers_dump_nets law shows streams_for text design starts c cycles words outpu
             λ context less others are_others cycle low.
                 let inside : context < s.ports.c = omega (arith, less, many) in
                 let early : cycle < s.streams.cycles = omega (arith, low, is.many) in
-                printed.says.bits (context * length s.ports.nets + number) cycle (is_variable s context number line inside at) early
+                printed.says.bits (context * length s.ports.nets + number) cycle (is_variable s context number inside (slice_get_within s.ports.nets number line at)) early
                 ∙ ap Some (
-                nets_have_their_bits s.ports s.streams (plane_of s.grid.rows) context number line cycle inside at
+                their_bits s.ports s.streams (plane_of s.grid.rows) context number line cycle inside at
                 ∙ ap (λ (p : Ports). get_or (probed_at p s.streams (plane_of s.grid.rows) context line) cycle false) (sym same.1)
                 ∙ ap (λ (grid : Grid). get_or (probed_at k.ports s.streams (plane_of grid.rows) context line) cycle false) (sym same.0)
                 ∙ ap (λ (bits : List Bool). get_or bits cycle false)

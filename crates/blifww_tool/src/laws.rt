@@ -9,6 +9,7 @@ use shown_runs::{
     carriers_are_quiet, carriers_show_contexts, carriers_show_nets, carriers_show_runs,
     runners_show_runs, streams_match,
 };
+use vcd_write::nets_have_their_bits;
 
 /// Each status of a run comes only where its cause is.
 pub fn statuses_have_causes()
@@ -54,6 +55,7 @@ pub fn carriers_print_nets()
 pub fn carriers_dump_nets()
     ensures { CarriersDumpNets }
 {
+    nets_have_their_bits();
     carriers_show_nets();
     carriers_show_contexts();
     streams_match();

@@ -8,6 +8,7 @@ use crate::driven::driven_by;
 use crate::output::Output;
 use refusals::TextError;
 use std::alloc::Global;
+use vcd_text::texts_say_waves;
 
 /// The dump of the bits that the nets of the text's pattern show in each of its contexts, where the words are the streams
 /// of the inputs. All nets of context 0 come first.
@@ -19,6 +20,7 @@ pub fn vcd(alloc: Global, cycles: usize, words: &[String], text: &[u8]) -> Resul
     ensures refused { IfErr result (λ e. HasTextCause (vcd cycles (map string_bytes words.now)) text.now e) }
 {
     let driven = driven_by(alloc, cycles, words, text)?;
+    texts_say_waves();
     let waves = vcd_write::of(alloc, driven.pattern, &driven.ports, &driven.streams)?;
     Ok(Output::Waves(waves))
 }
