@@ -48,8 +48,8 @@ const OR_CELLS: &[(u64, u64, State)] = &[
     (0, 40, State::Empty),
 ];
 
-// Whether the plan's drawing has these cells.
-fn has_cells(plan: &Plan, cells: &[(u64, u64, State)]) -> bool
+/// Whether the plan's drawing has these cells.
+pub fn has_cells(plan: &Plan, cells: &[(u64, u64, State)]) -> bool
     requires { IsAdmissible plan.now }
 {
     let mut same = true;
@@ -217,8 +217,8 @@ fn a_circuit_answers_by_the_rule(rt: HostRuntime) -> Result<(), Fail> {
     Ok(())
 }
 
-// Two lanes and a loop that starts with 1: the Or takes its bit, and the Fork gives it to the output and back to the loop.
-const LOOP: Written<'static> = Written {
+/// Two lanes and a loop that starts with 1: the Or takes its bit, and the Fork gives it to the output and back to the loop.
+pub const LOOP: Written<'static> = Written {
     lanes: 2,
     columns: &[&[Instr::Or(0)], &[Instr::Fork(0)]],
     latches: 1,

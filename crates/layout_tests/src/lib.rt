@@ -22,6 +22,8 @@ mod programs;
 #[cfg(test)]
 mod slots;
 #[cfg(test)]
+mod tapes;
+#[cfg(test)]
 mod tiles;
 #[cfg(test)]
 mod windows;

@@ -113,8 +113,8 @@ pub fn plan_of(alloc: Global, written: &Written<'_>) -> Result<Plan, Fail>
     Ok(plan)
 }
 
-// The plan, where it is admissible.
-fn checked(plan: Plan) -> Result<Plan, Fail>
+/// The plan, where it is admissible.
+pub fn checked(plan: Plan) -> Result<Plan, Fail>
     ensures admissible { IfOk result IsAdmissible }
     ensures starts { IfOk result HasStartEdges }
     ensures lanes { IfOk result (λ p. p.lanes ≡ plan.lanes) }

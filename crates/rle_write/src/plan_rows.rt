@@ -1,11 +1,14 @@
 // The rows of a plan's drawing, run by run.
-ghost use Rattle.std.specs.Prelude.{◌≡◌, ◌≢◌, ◌≤◌, ◌<◌, ◌+◌, ◌^◌, ◌/◌, ◌%◌, ℕ, List, ◌∷◌, ◌++◌, IfOk, OnErr, OnOk};
+ghost use Rattle.std.specs.Prelude.{◌≡◌, ◌≢◌, ◌≤◌, ◌<◌, ◌+◌, ◌^◌, ◌/◌, ◌%◌, ℕ, pos, List, ◌∷◌, ◌++◌, IfOk, OnErr, OnOk};
 ghost use Rattle.ww_rule.specs.declared.pattern.State.{State};
+ghost use Rattle.tile_library.specs.Drawings.{shipped_drawing};
+ghost use Rattle.tile_library.specs.RowRuns.{IsRowRun};
 ghost use Rattle.lane_core.specs.Plans.{IsAdmissible};
 ghost use Rattle.lane_core.specs.Plans.{size_of};
-ghost use Rattle.plan_layout.specs.Tape.{drawn_tiling};
+ghost use Rattle.plan_layout.specs.Tape.{drawn_plane, drawn_tiling};
 ghost use Rattle.plan_layout.specs.Slots.{slot_of};
 ghost use Rattle.grid_assembly.specs.PlanDrawing.{start_row, start_grid};
+ghost use Rattle.grid_assembly.specs.West.{tape_end, IsWest};
 ghost use Rattle.pattern_writing.specs.Writer.{item_texts, wrapped};
 ghost use Rattle.rle_write.specs.Left.{rows_left, text_left};
 ghost use Rattle.ww_base.specs.Pages.{held, column_of};
@@ -13,10 +16,11 @@ ghost use Rattle.ww_base.specs.Progress.{Wrote, Broke};
 
 use crate::items::write_item;
 use crate::rows::{Kept, end_row, write_same};
-use grid_assembly::run_in;
+use grid_assembly::{West, run_in, run_on_tape, tape_end, west_of};
 use lane_core::Plan;
 use plan_layout::{Slot, slot_drawn_at};
 use ww_base::{Failed, Page, Sink};
+use ww_rule::State;
 
 // What stands in the block of the cell at column `x` and row `y`: it is looked up where the block begins, and is else
 // what stood there for the cell before.
@@ -32,6 +36,32 @@ fn slot_from(plan: &Plan, y: u64, x: u64, before: Slot) -> Slot
     }
 }
 
+// The next run of a row, and what stands in the block to which it goes: west of the plan no block is looked up.
+fn next_run(
+    plan: &Plan,
+    west: West,
+    before: Slot,
+    y: u64,
+    x: u64,
+    limit: u64,
+) -> (Slot, (State, u64))
+    requires admissible { IsAdmissible plan.now }
+    requires row { IsWest plan.now y west }
+    requires before { tape_end plan.now ≤ x → x % 32 ≢ 0 → slot_of before ≡ drawn_tiling plan.now (x / 32) (y / 16) }
+    requires low { y < 2 ^ 60 }
+    requires some { 1 ≤ limit }
+    ensures run { IsRowRun (λ x. drawn_plane shipped_drawing plan.now (pos x) (pos y)) x limit result.1 }
+    ensures slot { tape_end plan.now ≤ x + result.1.1 → (x + result.1.1) % 32 ≢ 0 →
+        slot_of result.0 ≡ drawn_tiling plan.now ((x + result.1.1) / 32) (y / 16) }
+{
+    if x < tape_end(plan) {
+        (before, run_on_tape(plan, west, y, x, limit))
+    } else {
+        let slot = slot_from(plan, y, x, before);
+        (slot, run_in(plan, slot, y, x, limit))
+    }
+}
+
 // Writes row `y` up to its last cell that is not empty, and answers how many row ends are due then, its own among them.
 fn write_plan_row<O: Sink>(
     sink: &mut O,
@@ -43,6 +73,7 @@ fn write_plan_row<O: Sink>(
 ) -> Result<usize, Failed>
     requires admissible { IsAdmissible plan.now }
     requires wide { width ≡ (size_of plan.now).0 }
+    requires low { y < 2 ^ 60 }
     requires few { ends + 1 < 2 ^ 64 }
     ensures one_more { IfOk result (λ after. after ≤ ends + 1) }
     ensures ok { IfOk result (λ after. (rows : List (List State)) →
@@ -53,12 +84,13 @@ fn write_plan_row<O: Sink>(
         Broke (O.written sink.old) (O.written sink.new) (O.faults sink.old) (O.faults sink.new)
         (text_left (held page.old) (column_of page.old) (rows_left ends (start_row plan.now y ∷ rows)))) }
 {
+    let west = west_of(plan, y);
     let mut kept = Kept::begin(ends);
     let mut x = 0;
     let mut slot = Slot::Nothing;
     'runs: while x < width {
-        slot = slot_from(plan, y, x, slot);
-        let (state, count) = run_in(plan, slot, y, x, width - x);
+        let (block, (state, count)) = next_run(plan, west, slot, y, x, width - x);
+        slot = block;
         kept = write_same(sink, page, kept, state, count as usize)?;
         x += count;
     }
