@@ -11,8 +11,8 @@ use Rattle.start_words.specs.Starts.{latches_of}
 use Rattle.command_words.specs.Shapes.{compile}
 use Rattle.blifww_tool.specs.Commands.{AreAlike, MustRefuse}
 use Rattle.blifww_tool.specs.Compilation.{HasNoCompilation, HasNoNetlist, HasNoRoom, HasStartFault, HasStarts, least_room}
-use Rattle.blifww_tool.specs.declared.causes.Cause.{Cause}
-use Rattle.blifww_tool.specs.declared.causes.Cause.TheVariants.{NetlistFault, WeightTooLarge, Loop, Pattern, GridTooLarge, PortTable, Streams, StartWord, NoSuchNet, TooFar, TooManyContexts, NotQuiet}
+use Rattle.refusals.specs.declared.causes.Cause.{Cause}
+use Rattle.refusals.specs.declared.causes.Cause.TheVariants.{NetlistFault, WeightTooLarge, Loop, AigAtFault, AigLoop, Pattern, GridTooLarge, PortTable, Streams, StartWord, NoSuchNet, TooFar, TooManyContexts, NotQuiet}
 use Rattle.blifww_tool.proofs.EvaluationOrNot.{alike, netlist_or_not, one_cause_of_netlist}
 
 -- the ways to be refused by the text and the words,
@@ -29,6 +29,8 @@ why : (contexts : ℕ) (starts : List (List ℕ)) (text : List ℕ) (r : Cause) 
 why contexts starts text (NetlistFault fault) h = by_text (early h)
 why contexts starts text (WeightTooLarge weight) h = by_text (early h)
 why contexts starts text (Loop names) h = by_text (early h)
+why contexts starts text (AigAtFault fault) h = absurd h
+why contexts starts text (AigLoop literals) h = absurd h
 why contexts starts text (Pattern fault) h = absurd h
 why contexts starts text (GridTooLarge width height) h = absurd h
 why contexts starts text (PortTable fault) h = absurd h
@@ -43,6 +45,8 @@ reason_of : (contexts : ℕ) (starts : List (List ℕ)) (text : List ℕ) (r : C
 reason_of contexts starts text (NetlistFault fault) h = early h
 reason_of contexts starts text (WeightTooLarge weight) h = early h
 reason_of contexts starts text (Loop names) h = early h
+reason_of contexts starts text (AigAtFault fault) h = absurd h
+reason_of contexts starts text (AigLoop literals) h = absurd h
 reason_of contexts starts text (Pattern fault) h = absurd h
 reason_of contexts starts text (GridTooLarge width height) h = absurd h
 reason_of contexts starts text (PortTable fault) h = absurd h

@@ -54,7 +54,7 @@ use Rattle.start_words.specs.Laws.{LatchesAreFlat, NoWordsMeanStart, StartsAreFl
 use Rattle.command_words.specs.Shapes.{compile}
 use Rattle.blifww_tool.specs.Commands.{HasTextCause}
 use Rattle.blifww_tool.specs.Compilation.{Compiles, HasNoRoom, HasStarts, IsCarriedBy, latch_count, least_room}
-use Rattle.blifww_tool.specs.Refusals.{netlist_error, starts_error}
+use Rattle.refusals.specs.Refusals.{netlist_error, starts_error}
 
 -- a text that gives no netlist,
 pub compile_refused : (contexts : ℕ) (starts : List (List ℕ)) (text : List ℕ) (e : NetlistError) → HasNetlistCause text e → HasTextCause (compile contexts starts) text (netlist_error e)

@@ -2,15 +2,15 @@
 use Rattle.std.proofs.Common.{ℕ, Bool, true, false, ◌≡◌, ◌≢◌, ◌≤◌, ◌<◌, ◌⊎◌, refl, sym, ap, ◌∙◌, subst, List, length, take, arith, inl, inr}
 use Rattle.command_words.specs.Shapes.{CommandValues}
 use Rattle.blifww_tool.specs.Commands.{reads_text, Accepts, Prints, Refuses, MustRefuse}
-use Rattle.blifww_tool.specs.Refusals.{status_of, status_of_cause, refusal_line}
+use Rattle.refusals.specs.Refusals.{status_of, status_of_cause, refusal_line}
 use Rattle.blifww_tool.specs.Answer.{HasStopped}
 use Rattle.blifww_tool.specs.Run.{Asks, AsksNothing, Reading, Writing, Call, Gave, GaveIfRead, HasText, HoldsIfRead, Gained, GainedNothing, WriteFailed, text_limit, Does, RefusesText, GaveTooMany, HasReason, TellsRefusal, TellsCause, TellsLike, TellsOr7, IsDone, IsRefused, CutsLine, CutsOutput, IsCalm, Ends}
 use Rattle.blifww_tool.proofs.Given.{gave_whole, no_more, one_command}
 use Rattle.blifww_tool.proofs.Decided.{printed_or_refused, accepted_or_refused, one_cause}
-use Rattle.blifww_tool.specs.declared.causes.Cause.{Cause}
-use Rattle.blifww_tool.specs.declared.causes.Cause.TheVariants.{NetlistFault, WeightTooLarge, Loop, Pattern, GridTooLarge, PortTable, Streams, StartWord, NoSuchNet, TooFar, TooManyContexts, NotQuiet}
-use Rattle.blifww_tool.specs.declared.refusals.Refusal.{Refusal}
-use Rattle.blifww_tool.specs.declared.refusals.Refusal.TheVariants.{Usage, TooLong, ReadFault, WriteFault, NoMemory, Text}
+use Rattle.refusals.specs.declared.causes.Cause.{Cause}
+use Rattle.refusals.specs.declared.causes.Cause.TheVariants.{NetlistFault, WeightTooLarge, Loop, AigAtFault, AigLoop, Pattern, GridTooLarge, PortTable, Streams, StartWord, NoSuchNet, TooFar, TooManyContexts, NotQuiet}
+use Rattle.refusals.specs.declared.refusal.Refusal.{Refusal}
+use Rattle.refusals.specs.declared.refusal.Refusal.TheVariants.{Usage, TooLong, ReadFault, WriteFault, NoMemory, Text}
 
 -- the three ends
 pub data Ending (c : Call) (status : ℕ) : Type 0 where
@@ -180,6 +180,8 @@ cause_is : (cause : Cause) → (status_of_cause cause ≢ 0) × (status_of_cause
 cause_is (NetlistFault f) = (λ e. cc, λ e. cc)
 cause_is (WeightTooLarge w) = (λ e. cc, λ e. cc)
 cause_is (Loop names) = (λ e. cc, λ e. cc)
+cause_is (AigAtFault fault) = (λ e. cc, λ e. cc)
+cause_is (AigLoop literals) = (λ e. cc, λ e. cc)
 cause_is (Pattern f) = (λ e. cc, λ e. cc)
 cause_is (GridTooLarge x y) = (λ e. cc, λ e. cc)
 cause_is (PortTable f) = (λ e. cc, λ e. cc)

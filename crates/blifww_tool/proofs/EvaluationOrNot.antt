@@ -14,8 +14,8 @@ use Rattle.streams.specs.Streams.{HasStreamFault}
 use Rattle.blifww_tool.specs.Commands.{AreAlike}
 use Rattle.blifww_tool.specs.Compilation.{HasNoNetlist}
 use Rattle.blifww_tool.specs.Evaluation.{Evaluation, IsEvaluation, HasNoEvaluation}
-use Rattle.blifww_tool.specs.declared.causes.Cause.{Cause}
-use Rattle.blifww_tool.specs.declared.causes.Cause.TheVariants.{NetlistFault, WeightTooLarge, Loop, Pattern, GridTooLarge, PortTable, Streams, StartWord, NoSuchNet, TooFar, TooManyContexts, NotQuiet}
+use Rattle.refusals.specs.declared.causes.Cause.{Cause}
+use Rattle.refusals.specs.declared.causes.Cause.TheVariants.{NetlistFault, WeightTooLarge, Loop, AigAtFault, AigLoop, Pattern, GridTooLarge, PortTable, Streams, StartWord, NoSuchNet, TooFar, TooManyContexts, NotQuiet}
 
 -- a netlist with its IN names, as a text has them
 pub record IsRead (text : List ℕ) (design : Design) (names : List Name) : Type 0 where
@@ -33,6 +33,8 @@ reason_of : (cycles : ℕ) (words : List (List ℕ)) (text : List ℕ) (r : Caus
 reason_of cycles words text (NetlistFault fault) h = by_fault fault refl h
 reason_of cycles words text (WeightTooLarge weight) h = by_weight weight refl h
 reason_of cycles words text (Loop names) h = by_loop names refl h
+reason_of cycles words text (AigAtFault fault) h = absurd h
+reason_of cycles words text (AigLoop literals) h = absurd h
 reason_of cycles words text (Pattern fault) h = absurd h
 reason_of cycles words text (GridTooLarge width height) h = absurd h
 reason_of cycles words text (PortTable fault) h = absurd h
@@ -44,7 +46,7 @@ reason_of cycles words text (TooManyContexts contexts limit) h = absurd h
 reason_of cycles words text (NotQuiet generation x y) h = absurd h
 
 -- the IN names of a text are one list
-same_names : (text : List ℕ) (a b : Design) (ns ms : List Name) → IsRead text a ns → IsRead text b ms → ns ≡ ms
+pub same_names : (text : List ℕ) (a b : Design) (ns ms : List Name) → IsRead text a ns → IsRead text b ms → ns ≡ ms
 same_names text a b ns ms h k =
     let same : a ≡ b = (texts_are_decided text).one_design a b h.netlist k.netlist in
     in_names_are_one b ns ms (subst (λ (d : Design). IsInNames d ns) same h.are_names) k.are_names
@@ -96,6 +98,8 @@ pub netlist_or_not : (text : List ℕ) (design : Design) (r : Cause) → IsNetli
 netlist_or_not text design (NetlistFault fault) h k = (texts_are_decided text).not_at_fault design fault h k
 netlist_or_not text design (WeightTooLarge weight) h k = (texts_are_decided text).not_heavy design weight h k
 netlist_or_not text design (Loop names) h k = (texts_are_decided text).not_a_loop design names h k
+netlist_or_not text design (AigAtFault fault) h k = k
+netlist_or_not text design (AigLoop literals) h k = k
 netlist_or_not text design (Pattern fault) h k = k
 netlist_or_not text design (GridTooLarge width height) h k = k
 netlist_or_not text design (PortTable fault) h k = k
@@ -110,6 +114,8 @@ no_evaluation : (text : List ℕ) (r : Cause) → HasNoNetlist text r → HasNoE
 no_evaluation text (NetlistFault fault) h = h
 no_evaluation text (WeightTooLarge weight) h = h
 no_evaluation text (Loop names) h = h
+no_evaluation text (AigAtFault fault) h = absurd h
+no_evaluation text (AigLoop literals) h = absurd h
 no_evaluation text (Pattern fault) h = absurd h
 no_evaluation text (GridTooLarge width height) h = absurd h
 no_evaluation text (PortTable fault) h = absurd h

@@ -1,4 +1,3 @@
-pub mod SameTexts
 pub mod Given
 pub mod Headline
 pub mod OutputLines
@@ -7,9 +6,13 @@ pub mod ProbeOrNot
 pub mod ViewOrNot
 pub mod EvaluationOrNot
 pub mod CompilationOrNot
+pub mod AigOrNot
+pub mod AigRead
 pub mod Evaluated
+pub mod Taped
 pub mod Compiled
 pub mod Simulated
+pub mod Dumped
 pub mod Probed
 pub mod Viewed
 pub mod ViewRefused
@@ -18,6 +21,8 @@ pub mod Ended
 pub mod Stopped
 pub mod Statuses
 pub mod PrintsAlike
+pub mod DumpsNets
+pub mod TapePrints
 pub mod Fed
 pub mod PrintsRuns
 pub mod PrintsNet

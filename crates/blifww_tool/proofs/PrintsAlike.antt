@@ -25,12 +25,12 @@ use Rattle.blifww_tool.specs.PrintsAlike.{CarriersPrintAlike, CompiledPrintAlike
 use Rattle.blifww_tool.proofs.Compiled.{carries_alone}
 
 -- the lines of a pattern with a table, in so many contexts
-abbrev lines_shown : (contexts : ℕ) → Streams → Ports → Grid → List ℕ
+abbrev pub lines_shown : (contexts : ℕ) → Streams → Ports → Grid → List ℕ
 lines_shown contexts streams ports grid =
     flat_map (λ context. flat_map (λ out. context_line contexts context out.name (shown_at ports streams (plane_of grid.rows) context out)) ports.outs) (range_with_len 0 contexts)
 
 -- and in one
-one_context : (contexts : ℕ) (streams : Streams) (ports : Ports) (grid : Grid) → contexts ≡ 1
+pub one_context : (contexts : ℕ) (streams : Streams) (ports : Ports) (grid : Grid) → contexts ≡ 1
     → lines_shown contexts streams ports grid ≡ flat_map (λ out. bits_line out.name (shown_at ports streams (plane_of grid.rows) 0 out)) ports.outs
 one_context contexts streams ports grid one =
     ap (λ (n : ℕ). lines_shown n streams ports grid) one ∙ append-nil (flat_map (λ out. bits_line out.name (shown_at ports streams (plane_of grid.rows) 0 out)) ports.outs)

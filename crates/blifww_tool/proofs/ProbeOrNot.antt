@@ -9,8 +9,8 @@ use Rattle.drive.specs.Driving.{first_miss}
 use Rattle.probe_view.specs.Probes.{net_named, last_probed, HasProbed, IsNotQuiet, IsTooFar}
 use Rattle.blifww_tool.specs.Simulation.{Simulation, IsSimulation, HasNoStreams}
 use Rattle.blifww_tool.specs.Probing.{Probes, HasNoProbe}
-use Rattle.blifww_tool.specs.declared.causes.Cause.{Cause}
-use Rattle.blifww_tool.specs.declared.causes.Cause.TheVariants.{NetlistFault, WeightTooLarge, Loop, Pattern, GridTooLarge, PortTable, Streams, StartWord, NoSuchNet, TooFar, TooManyContexts, NotQuiet}
+use Rattle.refusals.specs.declared.causes.Cause.{Cause}
+use Rattle.refusals.specs.declared.causes.Cause.TheVariants.{NetlistFault, WeightTooLarge, Loop, AigAtFault, AigLoop, Pattern, GridTooLarge, PortTable, Streams, StartWord, NoSuchNet, TooFar, TooManyContexts, NotQuiet}
 use Rattle.blifww_tool.proofs.SimulationOrNot.{same_simulation, simulation_or_not, one_streams_cause}
 
 -- the ways to be refused for the net, in a simulation
@@ -28,6 +28,8 @@ reason_of : (cycles : ℕ) (name path : List ℕ) (words : List (List ℕ)) (tex
 reason_of cycles name path words text (NetlistFault fault) h = early h
 reason_of cycles name path words text (WeightTooLarge weight) h = early h
 reason_of cycles name path words text (Loop names) h = early h
+reason_of cycles name path words text (AigAtFault fault) h = early h
+reason_of cycles name path words text (AigLoop literals) h = early h
 reason_of cycles name path words text (Pattern fault) h = early h
 reason_of cycles name path words text (GridTooLarge width height) h = early h
 reason_of cycles name path words text (PortTable fault) h = early h

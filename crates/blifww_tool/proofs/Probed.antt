@@ -7,17 +7,19 @@ use Rattle.probe_view.specs.declared.error.ProbeError.TheVariants as probing
 use Rattle.probe_view.specs.Probes.{HasProbeCause}
 use Rattle.blifww_tool.specs.Commands.{HasTextCause}
 use Rattle.blifww_tool.specs.Probing.{HasNoProbe}
-use Rattle.blifww_tool.specs.Refusals.{probe_error}
+use Rattle.refusals.specs.Refusals.{probe_error}
 use Rattle.blifww_tool.specs.Simulation.{Simulation, IsSimulation, HasNoStreams, HasStreamsCause}
-use Rattle.blifww_tool.specs.declared.causes.Cause.{Cause}
-use Rattle.blifww_tool.specs.declared.causes.Cause.TheVariants.{NetlistFault, WeightTooLarge, Loop, Pattern, GridTooLarge, PortTable, Streams, StartWord, NoSuchNet, TooFar, TooManyContexts, NotQuiet}
-use Rattle.blifww_tool.specs.declared.causes.TextError.{TextError}
-use Rattle.blifww_tool.specs.declared.causes.TextError.TheVariants.{Refused, NoMemory}
+use Rattle.refusals.specs.declared.causes.Cause.{Cause}
+use Rattle.refusals.specs.declared.causes.Cause.TheVariants.{NetlistFault, WeightTooLarge, Loop, AigAtFault, AigLoop, Pattern, GridTooLarge, PortTable, Streams, StartWord, NoSuchNet, TooFar, TooManyContexts, NotQuiet}
+use Rattle.refusals.specs.declared.causes.TextError.{TextError}
+use Rattle.refusals.specs.declared.causes.TextError.TheVariants.{Refused, NoMemory}
 
 cause_of : (cycles : ℕ) (name path : List ℕ) (words : List (List ℕ)) (text : List ℕ) (cause : Cause) → HasNoStreams cycles words text cause → HasNoProbe cycles name path words text cause
 cause_of cycles name path words text (NetlistFault f) h = h
 cause_of cycles name path words text (WeightTooLarge w) h = h
 cause_of cycles name path words text (Loop names) h = h
+cause_of cycles name path words text (AigAtFault fault) h = h
+cause_of cycles name path words text (AigLoop literals) h = h
 cause_of cycles name path words text (Pattern f) h = h
 cause_of cycles name path words text (GridTooLarge x y) h = h
 cause_of cycles name path words text (PortTable f) h = h

@@ -18,9 +18,9 @@ use Rattle.streams.specs.declared.error.StreamFault.{StreamFault}
 use Rattle.streams.specs.Streams.{HasStreamFault, inputs_of_contexts, streams_of}
 use Rattle.drive.specs.Driving.{greatest_generation}
 use Rattle.pattern_reading.specs.Ports.{names_of}
-use Rattle.blifww_tool.specs.Simulation.{Simulation, IsSimulation, Simulates, HasNoStreams, HasNoSimulation, MissesAt, miss_up_to, last_shown}
-use Rattle.blifww_tool.specs.declared.causes.Cause.{Cause}
-use Rattle.blifww_tool.specs.declared.causes.Cause.TheVariants.{NetlistFault, WeightTooLarge, Loop, Pattern, GridTooLarge, PortTable, Streams, StartWord, NoSuchNet, TooFar, TooManyContexts, NotQuiet}
+use Rattle.blifww_tool.specs.Simulation.{Simulation, IsSimulation, RunsInTime, HasNoStreams, HasNoRun, MissesAt, miss_up_to}
+use Rattle.refusals.specs.declared.causes.Cause.{Cause}
+use Rattle.refusals.specs.declared.causes.Cause.TheVariants.{NetlistFault, WeightTooLarge, Loop, AigAtFault, AigLoop, Pattern, GridTooLarge, PortTable, Streams, StartWord, NoSuchNet, TooFar, TooManyContexts, NotQuiet}
 
 -- a pattern with ports, as a text has them
 pub record IsRead (text : List ℕ) (grid : Grid) (ports : Ports) : Type 0 where
@@ -38,6 +38,8 @@ reason_of : (cycles : ℕ) (words : List (List ℕ)) (text : List ℕ) (r : Caus
 reason_of cycles words text (NetlistFault fault) h = absurd h
 reason_of cycles words text (WeightTooLarge weight) h = absurd h
 reason_of cycles words text (Loop names) h = absurd h
+reason_of cycles words text (AigAtFault fault) h = absurd h
+reason_of cycles words text (AigLoop literals) h = absurd h
 reason_of cycles words text (Pattern fault) h = by_pattern fault refl h
 reason_of cycles words text (GridTooLarge width height) h = by_box width height refl h
 reason_of cycles words text (PortTable fault) h = by_table fault refl h.0 h.1 h.2
@@ -150,25 +152,27 @@ one_reason cycles words text r r' (by_streams f e g p reads h) (by_streams f' e'
 pub one_streams_cause : (cycles : ℕ) (words : List (List ℕ)) (text : List ℕ) (r r' : Cause) → HasNoStreams cycles words text r → HasNoStreams cycles words text r' → r ≡ r'
 one_streams_cause cycles words text r r' h k = one_reason cycles words text r r' (reason_of cycles words text r h) (reason_of cycles words text r' k)
 
--- the ways to be not simulated
-data Late (cycles : ℕ) (words : List (List ℕ)) (text : List ℕ) (r : Cause) : Type 0 where
-  early : HasNoStreams cycles words text r → Late cycles words text r
-  late : (generations : ℕ) → r ≡ TooFar generations → (s : Simulation) → IsSimulation cycles words text s → generations ≡ last_shown s → greatest_generation < generations → Late cycles words text r
-  by_miss : (g x y : ℕ) → r ≡ NotQuiet g x y → (s : Simulation) → IsSimulation cycles words text s → last_shown s ≤ greatest_generation → MissesAt s (last_shown s) g x y → Late cycles words text r
+-- the ways to be not run, up to the generation that is wanted
+data Late (last : Simulation → ℕ) (cycles : ℕ) (words : List (List ℕ)) (text : List ℕ) (r : Cause) : Type 0 where
+  early : HasNoStreams cycles words text r → Late last cycles words text r
+  late : (generations : ℕ) → r ≡ TooFar generations → (s : Simulation) → IsSimulation cycles words text s → generations ≡ last s → greatest_generation < generations → Late last cycles words text r
+  by_miss : (g x y : ℕ) → r ≡ NotQuiet g x y → (s : Simulation) → IsSimulation cycles words text s → last s ≤ greatest_generation → MissesAt s (last s) g x y → Late last cycles words text r
 
-late_of : (cycles : ℕ) (words : List (List ℕ)) (text : List ℕ) (r : Cause) → HasNoSimulation cycles words text r → Late cycles words text r
-late_of cycles words text (NetlistFault fault) h = early h
-late_of cycles words text (WeightTooLarge weight) h = early h
-late_of cycles words text (Loop names) h = early h
-late_of cycles words text (Pattern fault) h = early h
-late_of cycles words text (GridTooLarge width height) h = early h
-late_of cycles words text (PortTable fault) h = early h
-late_of cycles words text (Streams fault) h = early h
-late_of cycles words text (StartWord fault) h = early h
-late_of cycles words text (NoSuchNet name) h = early h
-late_of cycles words text (TooFar generations) h = late generations refl h.0 h.1 h.2 h.3
-late_of cycles words text (TooManyContexts contexts limit) h = early h
-late_of cycles words text (NotQuiet generation x y) h = by_miss generation x y refl h.0 h.1 h.2 h.3
+late_of : (last : Simulation → ℕ) (cycles : ℕ) (words : List (List ℕ)) (text : List ℕ) (r : Cause) → HasNoRun last cycles words text r → Late last cycles words text r
+late_of last cycles words text (NetlistFault fault) h = early h
+late_of last cycles words text (WeightTooLarge weight) h = early h
+late_of last cycles words text (Loop names) h = early h
+late_of last cycles words text (AigAtFault fault) h = early h
+late_of last cycles words text (AigLoop literals) h = early h
+late_of last cycles words text (Pattern fault) h = early h
+late_of last cycles words text (GridTooLarge width height) h = early h
+late_of last cycles words text (PortTable fault) h = early h
+late_of last cycles words text (Streams fault) h = early h
+late_of last cycles words text (StartWord fault) h = early h
+late_of last cycles words text (NoSuchNet name) h = early h
+late_of last cycles words text (TooFar generations) h = late generations refl h.0 h.1 h.2 h.3
+late_of last cycles words text (TooManyContexts contexts limit) h = early h
+late_of last cycles words text (NotQuiet generation x y) h = by_miss generation x y refl h.0 h.1 h.2 h.3
 
 -- one miss is the first, where there is one
 abbrev miss_at : (g x y : ℕ) → Injection
@@ -181,34 +185,34 @@ pub miss_or_not : (s : Simulation) (at g x y : ℕ) → MissesAt s at g x y → 
 miss_or_not s at g x y h quiet = none-some _ (sym quiet ∙ h)
 
 -- a simulation that is near enough and has no miss is not refused
-near_or_late : (cycles : ℕ) (words : List (List ℕ)) (text : List ℕ) (s : Simulation) (r : Cause) → Simulates cycles words text s → Late cycles words text r → ⊥
-near_or_late cycles words text s r h (early k) = simulation_or_not cycles words text s r h.is k
-near_or_late cycles words text s r h (late generations e t k is far) =
-    let same : last_shown t ≡ last_shown s = ap (λ (x : Simulation). last_shown x) (same_simulation cycles words text t s k h.is) in
+near_or_late : (last : Simulation → ℕ) (cycles : ℕ) (words : List (List ℕ)) (text : List ℕ) (s : Simulation) (r : Cause) → RunsInTime last cycles words text s → Late last cycles words text r → ⊥
+near_or_late last cycles words text s r h (early k) = simulation_or_not cycles words text s r h.is k
+near_or_late last cycles words text s r h (late generations e t k is far) =
+    let same : last t ≡ last s = ap (λ (x : Simulation). last x) (same_simulation cycles words text t s k h.is) in
     omega (arith, h.near, same, is, far)
-near_or_late cycles words text s r h (by_miss g x y e t k near misses) =
-    miss_or_not s (last_shown s) g x y (subst (λ (u : Simulation). MissesAt u (last_shown u) g x y) (same_simulation cycles words text t s k h.is) misses) h.quiet
+near_or_late last cycles words text s r h (by_miss g x y e t k near misses) =
+    miss_or_not s (last s) g x y (subst (λ (u : Simulation). MissesAt u (last u) g x y) (same_simulation cycles words text t s k h.is) misses) h.quiet
 
-pub simulates_or_not : (cycles : ℕ) (words : List (List ℕ)) (text : List ℕ) (s : Simulation) (r : Cause) → Simulates cycles words text s → HasNoSimulation cycles words text r → ⊥
-simulates_or_not cycles words text s r h k = near_or_late cycles words text s r h (late_of cycles words text r k)
+pub runs_or_not : (last : Simulation → ℕ) (cycles : ℕ) (words : List (List ℕ)) (text : List ℕ) (s : Simulation) (r : Cause) → RunsInTime last cycles words text s → HasNoRun last cycles words text r → ⊥
+runs_or_not last cycles words text s r h k = near_or_late last cycles words text s r h (late_of last cycles words text r k)
 
-far_or_near : (cycles : ℕ) (words : List (List ℕ)) (text : List ℕ) (n : ℕ) (s t : Simulation) → IsSimulation cycles words text s → IsSimulation cycles words text t → n ≡ last_shown s → greatest_generation < n → last_shown t ≤ greatest_generation → ⊥
-far_or_near cycles words text n s t h k is far near =
-    let same : last_shown s ≡ last_shown t = ap (λ (x : Simulation). last_shown x) (same_simulation cycles words text s t h k) in
+far_or_near : (last : Simulation → ℕ) (cycles : ℕ) (words : List (List ℕ)) (text : List ℕ) (n : ℕ) (s t : Simulation) → IsSimulation cycles words text s → IsSimulation cycles words text t → n ≡ last s → greatest_generation < n → last t ≤ greatest_generation → ⊥
+far_or_near last cycles words text n s t h k is far near =
+    let same : last s ≡ last t = ap (λ (x : Simulation). last x) (same_simulation cycles words text s t h k) in
     omega (arith, same, is, far, near)
 
-one_late : (cycles : ℕ) (words : List (List ℕ)) (text : List ℕ) (r r' : Cause) → Late cycles words text r → Late cycles words text r' → r ≡ r'
-one_late cycles words text r r' (early h) (early k) = one_streams_cause cycles words text r r' h k
-one_late cycles words text r r' (early h) (late n e s k is far) = absurd (simulation_or_not cycles words text s r k h)
-one_late cycles words text r r' (early h) (by_miss g x y e s k near misses) = absurd (simulation_or_not cycles words text s r k h)
-one_late cycles words text r r' (late n e s k is far) (early h) = absurd (simulation_or_not cycles words text s r' k h)
-one_late cycles words text r r' (late n e s k is far) (late n' e' s' k' is' far') =
-    e ∙ ap TooFar (is ∙ ap (λ (x : Simulation). last_shown x) (same_simulation cycles words text s s' k k') ∙ sym is') ∙ sym e'
-one_late cycles words text r r' (late n e s k is far) (by_miss g x y e' s' k' near misses) = absurd (far_or_near cycles words text n s s' k k' is far near)
-one_late cycles words text r r' (by_miss g x y e s k near misses) (early h) = absurd (simulation_or_not cycles words text s r' k h)
-one_late cycles words text r r' (by_miss g x y e s k near misses) (late n e' s' k' is far) = absurd (far_or_near cycles words text n s' s k' k is far near)
-one_late cycles words text r r' (by_miss g x y e s k near misses) (by_miss g' x' y' e' s' k' near' misses') =
-    e ∙ one_miss s' (last_shown s') g x y g' x' y' (subst (λ (u : Simulation). MissesAt u (last_shown u) g x y) (same_simulation cycles words text s s' k k') misses) misses' ∙ sym e'
+one_late : (last : Simulation → ℕ) (cycles : ℕ) (words : List (List ℕ)) (text : List ℕ) (r r' : Cause) → Late last cycles words text r → Late last cycles words text r' → r ≡ r'
+one_late last cycles words text r r' (early h) (early k) = one_streams_cause cycles words text r r' h k
+one_late last cycles words text r r' (early h) (late n e s k is far) = absurd (simulation_or_not cycles words text s r k h)
+one_late last cycles words text r r' (early h) (by_miss g x y e s k near misses) = absurd (simulation_or_not cycles words text s r k h)
+one_late last cycles words text r r' (late n e s k is far) (early h) = absurd (simulation_or_not cycles words text s r' k h)
+one_late last cycles words text r r' (late n e s k is far) (late n' e' s' k' is' far') =
+    e ∙ ap TooFar (is ∙ ap (λ (x : Simulation). last x) (same_simulation cycles words text s s' k k') ∙ sym is') ∙ sym e'
+one_late last cycles words text r r' (late n e s k is far) (by_miss g x y e' s' k' near misses) = absurd (far_or_near last cycles words text n s s' k k' is far near)
+one_late last cycles words text r r' (by_miss g x y e s k near misses) (early h) = absurd (simulation_or_not cycles words text s r' k h)
+one_late last cycles words text r r' (by_miss g x y e s k near misses) (late n e' s' k' is far) = absurd (far_or_near last cycles words text n s' s k' k is far near)
+one_late last cycles words text r r' (by_miss g x y e s k near misses) (by_miss g' x' y' e' s' k' near' misses') =
+    e ∙ one_miss s' (last s') g x y g' x' y' (subst (λ (u : Simulation). MissesAt u (last u) g x y) (same_simulation cycles words text s s' k k') misses) misses' ∙ sym e'
 
-pub one_cause : (cycles : ℕ) (words : List (List ℕ)) (text : List ℕ) (r r' : Cause) → HasNoSimulation cycles words text r → HasNoSimulation cycles words text r' → r ≡ r'
-one_cause cycles words text r r' h k = one_late cycles words text r r' (late_of cycles words text r h) (late_of cycles words text r' k)
+pub one_cause : (last : Simulation → ℕ) (cycles : ℕ) (words : List (List ℕ)) (text : List ℕ) (r r' : Cause) → HasNoRun last cycles words text r → HasNoRun last cycles words text r' → r ≡ r'
+one_cause last cycles words text r r' h k = one_late last cycles words text r r' (late_of last cycles words text r h) (late_of last cycles words text r' k)

@@ -1,26 +1,31 @@
 -- Each status of a run comes only where its cause is.
-use Rattle.std.proofs.Common.{ℕ, ◌≡◌, ◌≢◌, ◌≤◌, ◌<◌, ◌*◌, ◌⊎◌, refl, sym, ◌∙◌, subst, List, inl, inr, arith}
+use Rattle.std.proofs.Common.{ℕ, ◌≡◌, ◌≢◌, ◌≤◌, ◌<◌, ◌*◌, ◌⊎◌, refl, sym, ap, ◌∙◌, subst, List, Some, inl, inr, arith}
 use Rattle.std.proofs.Math.Nat.{le-max_left}
 use Rattle.std.proofs.lemmas.Bool.{cases_eq}
-use Rattle.command_words.specs.Shapes.{CommandValues, compile, simulate, eval, probe, window, make, self_, IsCommand}
+use Rattle.command_words.specs.Shapes.{CommandValues, compile, simulate, eval, probe, window, make, self_, tape, aiger, vcd, IsCommand}
 use Rattle.netlist_core.specs.Names.{Name}
 use Rattle.netlist_rules.specs.declared.fault.Fault.{Fault}
 use Rattle.netlist_text.specs.NetlistText.{IsAtFault, IsTooHeavy, HasLoop}
+use Rattle.aiger_text.specs.declared.fault.AigFault.{AigFault}
+use Rattle.aiger_text.specs.AigText.{HasAigFault}
+use Rattle.blifww_tool.specs.Aigs.{HasNoAig}
 use Rattle.blifww_tool.specs.Commands.{Refuses}
 use Rattle.blifww_tool.specs.Compilation.{HasNoRoom, latch_count, least_room}
-use Rattle.blifww_tool.specs.Refusals.{status_of, status_of_cause}
+use Rattle.refusals.specs.Refusals.{status_of, status_of_cause}
 use Rattle.blifww_tool.specs.Run.{Call, Reading, Asks, IsAsked, GaveTooMany, GaveAll, HasText, ReadFailed, WriteFailed, HasReason, RefusesText, IsRefused, CutsLine, CutsOutput, Ends}
 use Rattle.blifww_tool.specs.Statuses.{StatusesHaveCauses, IsOverALimit, IsTooLarge, HasNoPattern, WordsDoNotFit, IsNotQuiet}
 use Rattle.blifww_tool.proofs.Given.{one_command}
-use Rattle.blifww_tool.specs.declared.causes.Cause.{Cause}
-use Rattle.blifww_tool.specs.declared.causes.Cause.TheVariants.{NetlistFault, WeightTooLarge, Loop, Pattern, GridTooLarge, PortTable, Streams, StartWord, NoSuchNet, TooFar, TooManyContexts, NotQuiet}
-use Rattle.blifww_tool.specs.declared.refusals.Refusal.{Refusal}
-use Rattle.blifww_tool.specs.declared.refusals.Refusal.TheVariants.{Usage, TooLong, ReadFault, WriteFault, NoMemory, Text}
+use Rattle.refusals.specs.declared.causes.Cause.{Cause}
+use Rattle.refusals.specs.declared.causes.Cause.TheVariants.{NetlistFault, WeightTooLarge, Loop, AigAtFault, AigLoop, Pattern, GridTooLarge, PortTable, Streams, StartWord, NoSuchNet, TooFar, TooManyContexts, NotQuiet}
+use Rattle.refusals.specs.declared.refusal.Refusal.{Refusal}
+use Rattle.refusals.specs.declared.refusal.Refusal.TheVariants.{Usage, TooLong, ReadFault, WriteFault, NoMemory, Text}
 
 not_cause : (cause : Cause) → (status_of_cause cause ≢ 2) × (status_of_cause cause ≢ 5)
 not_cause (NetlistFault f) = (λ e. cc, λ e. cc)
 not_cause (WeightTooLarge w) = (λ e. cc, λ e. cc)
 not_cause (Loop names) = (λ e. cc, λ e. cc)
+not_cause (AigAtFault f) = (λ e. cc, λ e. cc)
+not_cause (AigLoop literals) = (λ e. cc, λ e. cc)
 not_cause (Pattern f) = (λ e. cc, λ e. cc)
 not_cause (GridTooLarge x y) = (λ e. cc, λ e. cc)
 not_cause (PortTable f) = (λ e. cc, λ e. cc)
@@ -31,48 +36,110 @@ not_cause (TooFar n) = (λ e. cc, λ e. cc)
 not_cause (TooManyContexts n limit) = (λ e. cc, λ e. cc)
 not_cause (NotQuiet g x y) = (λ e. cc, λ e. cc)
 
--- by its status a cause is a fault, a loop, or too great a weight where the text is a netlist's
-at_fault_by : (command : CommandValues) (src : Reading) (text : List ℕ) (cause : Cause) → status_of_cause cause ≡ 1 → HasText command src text → Refuses command text cause
+-- by its status a cause is a fault of a netlist's text,
+at_fault_by : (command : CommandValues) (src : Reading) (text : List ℕ) (cause : Cause) → (command ≡ aiger → ⊥) → status_of_cause cause ≡ 1 → HasText command src text → Refuses command text cause
     → (read : List ℕ) × (fault : Fault) × GaveAll src read × IsAtFault read fault
-at_fault_by (compile contexts starts) src text (NetlistFault f) e given h = (text, f, given, h)
-at_fault_by (simulate cycles words) src text (NetlistFault f) e given h = absurd h
-at_fault_by (eval cycles words) src text (NetlistFault f) e given h = (text, f, given, h)
-at_fault_by (probe cycles net path words) src text (NetlistFault f) e given h = absurd h
-at_fault_by (window view words) src text (NetlistFault f) e given h = absurd h
-at_fault_by (make seed size) src text (NetlistFault f) e given h = absurd h
-at_fault_by (self_ seed size cycles) src text (NetlistFault f) e given h = absurd h
-at_fault_by command src text (WeightTooLarge w) e given h = absurd (omega (arith, e))
-at_fault_by command src text (Loop names) e given h = absurd (omega (arith, e))
-at_fault_by command src text (Pattern f) e given h = absurd (omega (arith, e))
-at_fault_by command src text (GridTooLarge x y) e given h = absurd (omega (arith, e))
-at_fault_by command src text (PortTable f) e given h = absurd (omega (arith, e))
-at_fault_by command src text (Streams f) e given h = absurd (omega (arith, e))
-at_fault_by command src text (StartWord f) e given h = absurd (omega (arith, e))
-at_fault_by command src text (NoSuchNet name) e given h = absurd (omega (arith, e))
-at_fault_by command src text (TooFar n) e given h = absurd (omega (arith, e))
-at_fault_by command src text (TooManyContexts n limit) e given h = absurd (omega (arith, e))
-at_fault_by command src text (NotQuiet g x y) e given h = absurd (omega (arith, e))
+at_fault_by (compile contexts starts) src text (NetlistFault f) other e given h = (text, f, given, h)
+at_fault_by (simulate cycles words) src text (NetlistFault f) other e given h = absurd h
+at_fault_by (eval cycles words) src text (NetlistFault f) other e given h = (text, f, given, h)
+at_fault_by (probe cycles net path words) src text (NetlistFault f) other e given h = absurd h
+at_fault_by (window view words) src text (NetlistFault f) other e given h = absurd h
+at_fault_by (make seed size) src text (NetlistFault f) other e given h = absurd h
+at_fault_by (self_ seed size cycles) src text (NetlistFault f) other e given h = absurd h
+at_fault_by (tape cycles words) src text (NetlistFault f) other e given h = (text, f, given, h)
+at_fault_by aiger src text (NetlistFault f) other e given h = absurd h
+at_fault_by (vcd cycles words) src text (NetlistFault f) other e given h = absurd h
+at_fault_by command src text (WeightTooLarge w) other e given h = absurd (omega (arith, e))
+at_fault_by command src text (Loop names) other e given h = absurd (omega (arith, e))
+at_fault_by (compile contexts starts) src text (AigAtFault f) other e given h = absurd h
+at_fault_by (simulate cycles words) src text (AigAtFault f) other e given h = absurd h
+at_fault_by (eval cycles words) src text (AigAtFault f) other e given h = absurd h
+at_fault_by (probe cycles net path words) src text (AigAtFault f) other e given h = absurd h
+at_fault_by (window view words) src text (AigAtFault f) other e given h = absurd h
+at_fault_by (make seed size) src text (AigAtFault f) other e given h = absurd h
+at_fault_by (self_ seed size cycles) src text (AigAtFault f) other e given h = absurd h
+at_fault_by (tape cycles words) src text (AigAtFault f) other e given h = absurd h
+at_fault_by aiger src text (AigAtFault f) other e given h = absurd (other refl)
+at_fault_by (vcd cycles words) src text (AigAtFault f) other e given h = absurd h
+at_fault_by command src text (AigLoop literals) other e given h = absurd (omega (arith, e))
+at_fault_by command src text (Pattern f) other e given h = absurd (omega (arith, e))
+at_fault_by command src text (GridTooLarge x y) other e given h = absurd (omega (arith, e))
+at_fault_by command src text (PortTable f) other e given h = absurd (omega (arith, e))
+at_fault_by command src text (Streams f) other e given h = absurd (omega (arith, e))
+at_fault_by command src text (StartWord f) other e given h = absurd (omega (arith, e))
+at_fault_by command src text (NoSuchNet name) other e given h = absurd (omega (arith, e))
+at_fault_by command src text (TooFar n) other e given h = absurd (omega (arith, e))
+at_fault_by command src text (TooManyContexts n limit) other e given h = absurd (omega (arith, e))
+at_fault_by command src text (NotQuiet g x y) other e given h = absurd (omega (arith, e))
 
-a_loop_by : (command : CommandValues) (src : Reading) (text : List ℕ) (cause : Cause) → status_of_cause cause ≡ 3 → HasText command src text → Refuses command text cause
+-- a loop of one,
+a_loop_by : (command : CommandValues) (src : Reading) (text : List ℕ) (cause : Cause) → (command ≡ aiger → ⊥) → status_of_cause cause ≡ 3 → HasText command src text → Refuses command text cause
     → (read : List ℕ) × (names : List Name) × GaveAll src read × HasLoop read names
-a_loop_by command src text (NetlistFault f) e given h = absurd (omega (arith, e))
-a_loop_by command src text (WeightTooLarge w) e given h = absurd (omega (arith, e))
-a_loop_by (compile contexts starts) src text (Loop names) e given h = (text, names, given, h)
-a_loop_by (simulate cycles words) src text (Loop names) e given h = absurd h
-a_loop_by (eval cycles words) src text (Loop names) e given h = (text, names, given, h)
-a_loop_by (probe cycles net path words) src text (Loop names) e given h = absurd h
-a_loop_by (window view words) src text (Loop names) e given h = absurd h
-a_loop_by (make seed size) src text (Loop names) e given h = absurd h
-a_loop_by (self_ seed size cycles) src text (Loop names) e given h = absurd h
-a_loop_by command src text (Pattern f) e given h = absurd (omega (arith, e))
-a_loop_by command src text (GridTooLarge x y) e given h = absurd (omega (arith, e))
-a_loop_by command src text (PortTable f) e given h = absurd (omega (arith, e))
-a_loop_by command src text (Streams f) e given h = absurd (omega (arith, e))
-a_loop_by command src text (StartWord f) e given h = absurd (omega (arith, e))
-a_loop_by command src text (NoSuchNet name) e given h = absurd (omega (arith, e))
-a_loop_by command src text (TooFar n) e given h = absurd (omega (arith, e))
-a_loop_by command src text (TooManyContexts n limit) e given h = absurd (omega (arith, e))
-a_loop_by command src text (NotQuiet g x y) e given h = absurd (omega (arith, e))
+a_loop_by command src text (NetlistFault f) other e given h = absurd (omega (arith, e))
+a_loop_by command src text (WeightTooLarge w) other e given h = absurd (omega (arith, e))
+a_loop_by (compile contexts starts) src text (Loop names) other e given h = (text, names, given, h)
+a_loop_by (simulate cycles words) src text (Loop names) other e given h = absurd h
+a_loop_by (eval cycles words) src text (Loop names) other e given h = (text, names, given, h)
+a_loop_by (probe cycles net path words) src text (Loop names) other e given h = absurd h
+a_loop_by (window view words) src text (Loop names) other e given h = absurd h
+a_loop_by (make seed size) src text (Loop names) other e given h = absurd h
+a_loop_by (self_ seed size cycles) src text (Loop names) other e given h = absurd h
+a_loop_by (tape cycles words) src text (Loop names) other e given h = (text, names, given, h)
+a_loop_by aiger src text (Loop names) other e given h = absurd h
+a_loop_by (vcd cycles words) src text (Loop names) other e given h = absurd h
+a_loop_by command src text (AigAtFault f) other e given h = absurd (omega (arith, e))
+a_loop_by (compile contexts starts) src text (AigLoop literals) other e given h = absurd h
+a_loop_by (simulate cycles words) src text (AigLoop literals) other e given h = absurd h
+a_loop_by (eval cycles words) src text (AigLoop literals) other e given h = absurd h
+a_loop_by (probe cycles net path words) src text (AigLoop literals) other e given h = absurd h
+a_loop_by (window view words) src text (AigLoop literals) other e given h = absurd h
+a_loop_by (make seed size) src text (AigLoop literals) other e given h = absurd h
+a_loop_by (self_ seed size cycles) src text (AigLoop literals) other e given h = absurd h
+a_loop_by (tape cycles words) src text (AigLoop literals) other e given h = absurd h
+a_loop_by aiger src text (AigLoop literals) other e given h = absurd (other refl)
+a_loop_by (vcd cycles words) src text (AigLoop literals) other e given h = absurd h
+a_loop_by command src text (Pattern f) other e given h = absurd (omega (arith, e))
+a_loop_by command src text (GridTooLarge x y) other e given h = absurd (omega (arith, e))
+a_loop_by command src text (PortTable f) other e given h = absurd (omega (arith, e))
+a_loop_by command src text (Streams f) other e given h = absurd (omega (arith, e))
+a_loop_by command src text (StartWord f) other e given h = absurd (omega (arith, e))
+a_loop_by command src text (NoSuchNet name) other e given h = absurd (omega (arith, e))
+a_loop_by command src text (TooFar n) other e given h = absurd (omega (arith, e))
+a_loop_by command src text (TooManyContexts n limit) other e given h = absurd (omega (arith, e))
+a_loop_by command src text (NotQuiet g x y) other e given h = absurd (omega (arith, e))
+
+-- and of `aiger` a fault or a loop of a circuit
+aig_at_fault_by : (text : List ℕ) (cause : Cause) → status_of_cause cause ≡ 1 → HasNoAig text cause → (fault : AigFault) × HasAigFault text fault
+aig_at_fault_by text (NetlistFault f) e h = absurd h
+aig_at_fault_by text (WeightTooLarge w) e h = absurd (omega (arith, e))
+aig_at_fault_by text (Loop names) e h = absurd (omega (arith, e))
+aig_at_fault_by text (AigAtFault f) e h = (f, h)
+aig_at_fault_by text (AigLoop literals) e h = absurd (omega (arith, e))
+aig_at_fault_by text (Pattern f) e h = absurd (omega (arith, e))
+aig_at_fault_by text (GridTooLarge x y) e h = absurd (omega (arith, e))
+aig_at_fault_by text (PortTable f) e h = absurd (omega (arith, e))
+aig_at_fault_by text (Streams f) e h = absurd (omega (arith, e))
+aig_at_fault_by text (StartWord f) e h = absurd (omega (arith, e))
+aig_at_fault_by text (NoSuchNet name) e h = absurd (omega (arith, e))
+aig_at_fault_by text (TooFar n) e h = absurd (omega (arith, e))
+aig_at_fault_by text (TooManyContexts n limit) e h = absurd (omega (arith, e))
+aig_at_fault_by text (NotQuiet g x y) e h = absurd (omega (arith, e))
+
+aig_loop_by : (text : List ℕ) (cause : Cause) → status_of_cause cause ≡ 3 → HasNoAig text cause → (literals : List ℕ) × HasNoAig text (AigLoop literals)
+aig_loop_by text (NetlistFault f) e h = absurd (omega (arith, e))
+aig_loop_by text (WeightTooLarge w) e h = absurd (omega (arith, e))
+aig_loop_by text (Loop names) e h = absurd h
+aig_loop_by text (AigAtFault f) e h = absurd (omega (arith, e))
+aig_loop_by text (AigLoop literals) e h = (literals, h)
+aig_loop_by text (Pattern f) e h = absurd (omega (arith, e))
+aig_loop_by text (GridTooLarge x y) e h = absurd (omega (arith, e))
+aig_loop_by text (PortTable f) e h = absurd (omega (arith, e))
+aig_loop_by text (Streams f) e h = absurd (omega (arith, e))
+aig_loop_by text (StartWord f) e h = absurd (omega (arith, e))
+aig_loop_by text (NoSuchNet name) e h = absurd (omega (arith, e))
+aig_loop_by text (TooFar n) e h = absurd (omega (arith, e))
+aig_loop_by text (TooManyContexts n limit) e h = absurd (omega (arith, e))
+aig_loop_by text (NotQuiet g x y) e h = absurd (omega (arith, e))
 
 -- too great a weight, or too many contexts
 abbrev IsRefusedAsLarge : (contexts : ℕ) → (starts : List (List ℕ)) → List ℕ → Type 0
@@ -82,6 +149,8 @@ too_large_by : (contexts : ℕ) (starts : List (List ℕ)) (text : List ℕ) (ca
 too_large_by contexts starts text (NetlistFault f) e h = absurd (omega (arith, e))
 too_large_by contexts starts text (WeightTooLarge w) e h = inl (w, h)
 too_large_by contexts starts text (Loop names) e h = absurd (omega (arith, e))
+too_large_by contexts starts text (AigAtFault f) e h = absurd (omega (arith, e))
+too_large_by contexts starts text (AigLoop literals) e h = absurd (omega (arith, e))
 too_large_by contexts starts text (Pattern f) e h = absurd h
 too_large_by contexts starts text (GridTooLarge x y) e h = absurd h
 too_large_by contexts starts text (PortTable f) e h = absurd h
@@ -92,21 +161,54 @@ too_large_by contexts starts text (TooFar n) e h = absurd h
 too_large_by contexts starts text (TooManyContexts n limit) e h = inr (limit, h.1)
 too_large_by contexts starts text (NotQuiet g x y) e h = absurd h
 
-at_fault : (words : List (List ℕ)) (src : Reading) (r : Refusal) → HasReason words src r → status_of r ≡ 1 → (text : List ℕ) × (fault : Fault) × GaveAll src text × IsAtFault text fault
-at_fault words src Usage h e = absurd (omega (arith, e))
-at_fault words src TooLong h e = absurd (omega (arith, e))
-at_fault words src ReadFault h e = absurd (omega (arith, e))
-at_fault words src WriteFault h e = absurd h
-at_fault words src NoMemory h e = absurd (omega (arith, e))
-at_fault words src (Text cause) h e = at_fault_by h.command src h.text cause e h.given h.refused
+module _ (words : List (List ℕ)) (src : Reading) where
+  -- what is asked is no circuit's, where the words ask for none
+  no_aig : (command : CommandValues) → Asks words command → ¬ Asks words aiger → command ≡ aiger → ⊥
+  no_aig command asks none same = none (asks ∙ ap Some same)
 
-a_loop : (words : List (List ℕ)) (src : Reading) (r : Refusal) → HasReason words src r → status_of r ≡ 3 → (text : List ℕ) × (names : List Name) × GaveAll src text × HasLoop text names
-a_loop words src Usage h e = absurd (omega (arith, e))
-a_loop words src TooLong h e = absurd (omega (arith, e))
-a_loop words src ReadFault h e = absurd (omega (arith, e))
-a_loop words src WriteFault h e = absurd h
-a_loop words src NoMemory h e = absurd (omega (arith, e))
-a_loop words src (Text cause) h e = a_loop_by h.command src h.text cause e h.given h.refused
+  at_fault : (r : Refusal) → HasReason words src r → status_of r ≡ 1 → ¬ Asks words aiger → (text : List ℕ) × (fault : Fault) × GaveAll src text × IsAtFault text fault
+  at_fault Usage h e none = absurd (omega (arith, e))
+  at_fault TooLong h e none = absurd (omega (arith, e))
+  at_fault ReadFault h e none = absurd (omega (arith, e))
+  at_fault WriteFault h e none = absurd h
+  at_fault NoMemory h e none = absurd (omega (arith, e))
+  at_fault (Text cause) h e none = at_fault_by h.command src h.text cause (no_aig h.command h.asked.asks none) e h.given h.refused
+
+  a_loop : (r : Refusal) → HasReason words src r → status_of r ≡ 3 → ¬ Asks words aiger → (text : List ℕ) × (names : List Name) × GaveAll src text × HasLoop text names
+  a_loop Usage h e none = absurd (omega (arith, e))
+  a_loop TooLong h e none = absurd (omega (arith, e))
+  a_loop ReadFault h e none = absurd (omega (arith, e))
+  a_loop WriteFault h e none = absurd h
+  a_loop NoMemory h e none = absurd (omega (arith, e))
+  a_loop (Text cause) h e none = a_loop_by h.command src h.text cause (no_aig h.command h.asked.asks none) e h.given h.refused
+
+  -- what a circuit's text is refused for
+  aig_refused : (cause : Cause) → RefusesText words src cause → Asks words aiger → (text : List ℕ) × GaveAll src text × HasNoAig text cause
+  aig_refused cause h asks =
+      let same : h.command ≡ aiger = one_command words h.command aiger h.asked.asks asks in
+      (h.text, subst (λ (v : CommandValues). HasText v src h.text) same h.given, subst (λ (v : CommandValues). Refuses v h.text cause) same h.refused)
+
+  aig_at_fault : (r : Refusal) → HasReason words src r → status_of r ≡ 1 → Asks words aiger → (text : List ℕ) × (fault : AigFault) × GaveAll src text × HasAigFault text fault
+  aig_at_fault Usage h e asks = absurd (omega (arith, e))
+  aig_at_fault TooLong h e asks = absurd (omega (arith, e))
+  aig_at_fault ReadFault h e asks = absurd (omega (arith, e))
+  aig_at_fault WriteFault h e asks = absurd h
+  aig_at_fault NoMemory h e asks = absurd (omega (arith, e))
+  aig_at_fault (Text cause) h e asks =
+      let read = aig_refused cause h asks in
+      let fault = aig_at_fault_by read.0 cause e read.2 in
+      (read.0, fault.0, read.1, fault.1)
+
+  aig_loop : (r : Refusal) → HasReason words src r → status_of r ≡ 3 → Asks words aiger → (text : List ℕ) × (literals : List ℕ) × GaveAll src text × HasNoAig text (AigLoop literals)
+  aig_loop Usage h e asks = absurd (omega (arith, e))
+  aig_loop TooLong h e asks = absurd (omega (arith, e))
+  aig_loop ReadFault h e asks = absurd (omega (arith, e))
+  aig_loop WriteFault h e asks = absurd h
+  aig_loop NoMemory h e asks = absurd (omega (arith, e))
+  aig_loop (Text cause) h e asks =
+      let read = aig_refused cause h asks in
+      let looped = aig_loop_by read.0 cause e read.2 in
+      (read.0, looped.0, read.1, looped.1)
 
 usage : (words : List (List ℕ)) (src : Reading) (r : Refusal) → HasReason words src r → status_of r ≡ 2 → IsCommand words → ⊥
 usage words src Usage h e = h
@@ -146,6 +248,8 @@ over_a_limit_by : (c : Call) (cause : Cause) → status_of_cause cause ≡ 4 →
 over_a_limit_by c (NetlistFault f) e h = absurd (omega (arith, e))
 over_a_limit_by c (WeightTooLarge w) e h = inr (inl (w, h))
 over_a_limit_by c (Loop names) e h = absurd (omega (arith, e))
+over_a_limit_by c (AigAtFault f) e h = absurd (omega (arith, e))
+over_a_limit_by c (AigLoop literals) e h = absurd (omega (arith, e))
 over_a_limit_by c (Pattern f) e h = absurd (omega (arith, e))
 over_a_limit_by c (GridTooLarge x y) e h = inr (inr (inl (x, y, h)))
 over_a_limit_by c (PortTable f) e h = absurd (omega (arith, e))
@@ -168,6 +272,8 @@ no_pattern_by : (c : Call) (cause : Cause) → status_of_cause cause ≡ 8 → R
 no_pattern_by c (NetlistFault f) e h = absurd (omega (arith, e))
 no_pattern_by c (WeightTooLarge w) e h = absurd (omega (arith, e))
 no_pattern_by c (Loop names) e h = absurd (omega (arith, e))
+no_pattern_by c (AigAtFault f) e h = absurd (omega (arith, e))
+no_pattern_by c (AigLoop literals) e h = absurd (omega (arith, e))
 no_pattern_by c (Pattern f) e h = inl (f, h)
 no_pattern_by c (GridTooLarge x y) e h = absurd (omega (arith, e))
 no_pattern_by c (PortTable f) e h = inr (f, h)
@@ -190,6 +296,8 @@ misfit_by : (c : Call) (cause : Cause) → status_of_cause cause ≡ 9 → Refus
 misfit_by c (NetlistFault f) e h = absurd (omega (arith, e))
 misfit_by c (WeightTooLarge w) e h = absurd (omega (arith, e))
 misfit_by c (Loop names) e h = absurd (omega (arith, e))
+misfit_by c (AigAtFault f) e h = absurd (omega (arith, e))
+misfit_by c (AigLoop literals) e h = absurd (omega (arith, e))
 misfit_by c (Pattern f) e h = absurd (omega (arith, e))
 misfit_by c (GridTooLarge x y) e h = absurd (omega (arith, e))
 misfit_by c (PortTable f) e h = absurd (omega (arith, e))
@@ -212,6 +320,8 @@ not_quiet_by : (c : Call) (cause : Cause) → status_of_cause cause ≡ 10 → R
 not_quiet_by c (NetlistFault f) e h = absurd (omega (arith, e))
 not_quiet_by c (WeightTooLarge w) e h = absurd (omega (arith, e))
 not_quiet_by c (Loop names) e h = absurd (omega (arith, e))
+not_quiet_by c (AigAtFault f) e h = absurd (omega (arith, e))
+not_quiet_by c (AigLoop literals) e h = absurd (omega (arith, e))
 not_quiet_by c (Pattern f) e h = absurd (omega (arith, e))
 not_quiet_by c (GridTooLarge x y) e h = absurd (omega (arith, e))
 not_quiet_by c (PortTable f) e h = absurd (omega (arith, e))
@@ -271,12 +381,6 @@ too_large_of c r contexts starts asks = by (no_room c.words c.src r.refusal cont
     by (inr (text, given, inl (weight, heavy))) = inr (inl (text, weight, given, heavy))
     by (inr (text, given, inr (limit, room))) = inr (inr (text, limit, given, several contexts starts text limit room, room))
 
-at_fault_of : (c : Call) → Refused c 1 → (text : List ℕ) × (fault : Fault) × GaveAll c.src text × IsAtFault text fault
-at_fault_of c r = at_fault c.words c.src r.refusal r.reason r.status_is
-
-a_loop_of : (c : Call) → Refused c 3 → (text : List ℕ) × (names : List Name) × GaveAll c.src text × HasLoop text names
-a_loop_of c r = a_loop c.words c.src r.refusal r.reason r.status_is
-
 read_fault_of : (c : Call) → Refused c 5 → ReadFailed c.src
 read_fault_of c r = read_fault c.words c.src r.refusal r.reason r.status_is
 
@@ -284,8 +388,10 @@ pub statuses_have_causes : StatusesHaveCauses
 statuses_have_causes c status h = record {
   usage = λ e. usage_of c (refused c status 2 h (λ z. cc) (λ z. cc) e);
   asked = λ two six seven. asked_by c status h two six seven (cases_eq status 0);
-  at_fault = λ e. at_fault_of c (refused c status 1 h (λ z. cc) (λ z. cc) e);
-  a_loop = λ e. a_loop_of c (refused c status 3 h (λ z. cc) (λ z. cc) e);
+  at_fault = λ e. let r = refused c status 1 h (λ z. cc) (λ z. cc) e in at_fault c.words c.src r.refusal r.reason r.status_is;
+  aig_at_fault = λ e. let r = refused c status 1 h (λ z. cc) (λ z. cc) e in aig_at_fault c.words c.src r.refusal r.reason r.status_is;
+  a_loop = λ e. let r = refused c status 3 h (λ z. cc) (λ z. cc) e in a_loop c.words c.src r.refusal r.reason r.status_is;
+  aig_loop = λ e. let r = refused c status 3 h (λ z. cc) (λ z. cc) e in aig_loop c.words c.src r.refusal r.reason r.status_is;
   too_large = λ e contexts starts asks. too_large_of c (refused c status 4 h (λ z. cc) (λ z. cc) e) contexts starts asks;
   over_a_limit = λ e. let r = refused c status 4 h (λ z. cc) (λ z. cc) e in over_a_limit c r.refusal r.reason r.status_is;
   read_fault = λ e. read_fault_of c (refused c status 5 h (λ z. cc) (λ z. cc) e);

@@ -7,13 +7,13 @@ use Rattle.command_words.specs.declared.error.WordsError.{WordsError}
 use Rattle.command_words.specs.declared.error.WordsError.TheVariants as words_error
 use Rattle.ww_base.specs.declared.whole.ReadAllError.{ReadAllError}
 use Rattle.ww_base.specs.declared.whole.ReadAllError.TheVariants as read_error
-use Rattle.blifww_tool.specs.declared.causes.TextError.{TextError}
-use Rattle.blifww_tool.specs.declared.causes.TextError.TheVariants as text_error
+use Rattle.refusals.specs.declared.causes.TextError.{TextError}
+use Rattle.refusals.specs.declared.causes.TextError.TheVariants as text_error
 use Rattle.blifww_tool.specs.Answer.{HasStopped}
 use Rattle.blifww_tool.specs.Commands.{reads_text, HasTextCause, Prints}
-use Rattle.blifww_tool.specs.Refusals.{words_refusal, read_refusal, text_refusal}
+use Rattle.refusals.specs.Refusals.{words_refusal, read_refusal, text_refusal}
 use Rattle.blifww_tool.specs.Run.{Reading, Writing, IsAsked, Gave, Gained, HasText, GainedNothing, ReadFailed, WriteFailed, text_limit}
-use Rattle.blifww_tool.specs.declared.refusals.Refusal.TheVariants.{WriteFault}
+use Rattle.refusals.specs.declared.refusal.Refusal.TheVariants.{WriteFault}
 
 -- what is not written to stays
 pub kept : (held : Option (List ℕ)) → Keeps held held

@@ -3,8 +3,8 @@ use Rattle.std.proofs.Common.{ℕ, ◌≡◌, refl, sym, ◌∙◌, subst, List}
 use Rattle.command_words.specs.declared.command.View.{View}
 use Rattle.blifww_tool.specs.Simulation.{Simulation, IsSimulation, HasNoStreams, MissesAt}
 use Rattle.blifww_tool.specs.Viewing.{cycles_in, HasView, HasNoView}
-use Rattle.blifww_tool.specs.declared.causes.Cause.{Cause}
-use Rattle.blifww_tool.specs.declared.causes.Cause.TheVariants.{NetlistFault, WeightTooLarge, Loop, Pattern, GridTooLarge, PortTable, Streams, StartWord, NoSuchNet, TooFar, TooManyContexts, NotQuiet}
+use Rattle.refusals.specs.declared.causes.Cause.{Cause}
+use Rattle.refusals.specs.declared.causes.Cause.TheVariants.{NetlistFault, WeightTooLarge, Loop, AigAtFault, AigLoop, Pattern, GridTooLarge, PortTable, Streams, StartWord, NoSuchNet, TooFar, TooManyContexts, NotQuiet}
 use Rattle.blifww_tool.proofs.SimulationOrNot.{miss_or_not, one_miss, one_streams_cause, same_simulation, simulation_or_not}
 
 -- the ways to be refused
@@ -16,6 +16,8 @@ reason_of : (view : View) (words : List (List ℕ)) (text : List ℕ) (r : Cause
 reason_of view words text (NetlistFault fault) h = early h
 reason_of view words text (WeightTooLarge weight) h = early h
 reason_of view words text (Loop names) h = early h
+reason_of view words text (AigAtFault fault) h = early h
+reason_of view words text (AigLoop literals) h = early h
 reason_of view words text (Pattern fault) h = early h
 reason_of view words text (GridTooLarge width height) h = early h
 reason_of view words text (PortTable fault) h = early h

@@ -7,18 +7,20 @@ use Rattle.probe_view.specs.Windows.{HasWindowCause}
 use Rattle.command_words.specs.declared.command.View.{View}
 use Rattle.command_words.specs.Shapes.{window}
 use Rattle.blifww_tool.specs.Commands.{HasTextCause}
-use Rattle.blifww_tool.specs.Refusals.{window_error}
+use Rattle.refusals.specs.Refusals.{window_error}
 use Rattle.blifww_tool.specs.Simulation.{Simulation, IsSimulation, HasNoStreams, HasStreamsCause}
 use Rattle.blifww_tool.specs.Viewing.{cycles_in, HasNoView}
-use Rattle.blifww_tool.specs.declared.causes.Cause.{Cause}
-use Rattle.blifww_tool.specs.declared.causes.Cause.TheVariants.{NetlistFault, WeightTooLarge, Loop, Pattern, GridTooLarge, PortTable, Streams, StartWord, NoSuchNet, TooFar, TooManyContexts, NotQuiet}
-use Rattle.blifww_tool.specs.declared.causes.TextError.{TextError}
-use Rattle.blifww_tool.specs.declared.causes.TextError.TheVariants.{Refused, NoMemory}
+use Rattle.refusals.specs.declared.causes.Cause.{Cause}
+use Rattle.refusals.specs.declared.causes.Cause.TheVariants.{NetlistFault, WeightTooLarge, Loop, AigAtFault, AigLoop, Pattern, GridTooLarge, PortTable, Streams, StartWord, NoSuchNet, TooFar, TooManyContexts, NotQuiet}
+use Rattle.refusals.specs.declared.causes.TextError.{TextError}
+use Rattle.refusals.specs.declared.causes.TextError.TheVariants.{Refused, NoMemory}
 
 cause_of : (view : View) (words : List (List ℕ)) (text : List ℕ) (cause : Cause) → HasNoStreams (cycles_in words) words text cause → HasNoView view words text cause
 cause_of view words text (NetlistFault f) h = h
 cause_of view words text (WeightTooLarge w) h = h
 cause_of view words text (Loop names) h = h
+cause_of view words text (AigAtFault fault) h = h
+cause_of view words text (AigLoop literals) h = h
 cause_of view words text (Pattern f) h = h
 cause_of view words text (GridTooLarge x y) h = h
 cause_of view words text (PortTable f) h = h

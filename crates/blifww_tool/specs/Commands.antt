@@ -1,8 +1,9 @@
 -- For each command whether it reads a text, which texts it accepts, what it prints of them, and why it refuses the
 -- others.
 use Rattle.std.specs.Prelude.{◌≡◌, ◌≤◌, ℕ, Bool, true, false, List, ⊤}
-use Rattle.command_words.specs.Shapes.{CommandValues, compile, simulate, eval, probe, window, make, self_}
+use Rattle.command_words.specs.Shapes.{CommandValues, compile, simulate, eval, probe, window, make, self_, tape, aiger, vcd}
 use Rattle.netlist_core.specs.declared.model.Design.{Design}
+use Rattle.aiger_text.specs.declared.aig.Aig.{Aig}
 use Rattle.netlist_meaning.specs.Weight.{weight}
 use Rattle.drive.specs.Driving.{greatest_generation}
 use Rattle.made_netlists.specs.Text.{made_text}
@@ -11,16 +12,19 @@ use Rattle.made_summary.specs.Summaries.{HasSummaryCause}
 use Rattle.made_summary.specs.Laws.{most_generations}
 use Rattle.made_summary.specs.declared.error.SummaryError.TheVariants as summarizing
 use Rattle.blifww_tool.specs.Compilation.{Compiles, HasNoCompilation, HasStarts, least_room}
-use Rattle.blifww_tool.specs.Simulation.{Simulation, Simulates, simulation_text, HasNoSimulation}
+use Rattle.blifww_tool.specs.Simulation.{Simulation, RunsInTime, Simulates, simulation_text, HasNoSimulation}
 use Rattle.blifww_tool.specs.Probing.{Probes, PrintsProbe, HasNoProbe}
 use Rattle.blifww_tool.specs.Viewing.{HasView, ShowsPart, HasNoView}
+use Rattle.blifww_tool.specs.Dumping.{last_dumped, Dumps, HasNoDump}
 use Rattle.blifww_tool.specs.Evaluation.{Evaluation, IsEvaluation, Evaluates, HasNoEvaluation}
+use Rattle.blifww_tool.specs.Taping.{Tapes}
+use Rattle.blifww_tool.specs.Aigs.{IsAig, CompilesAig, HasNoAig}
 use Rattle.blifww_tool.specs.Summary.{TellsSummary}
-use Rattle.blifww_tool.specs.declared.causes.Cause.{Cause}
-use Rattle.blifww_tool.specs.declared.causes.Cause.TheVariants.{NetlistFault, Loop, TooFar, TooManyContexts}
+use Rattle.refusals.specs.declared.causes.Cause.{Cause}
+use Rattle.refusals.specs.declared.causes.Cause.TheVariants.{NetlistFault, Loop, AigLoop, TooFar, TooManyContexts}
 use Rattle.netlist_text.specs.Laws.{AreAlikeFaults}
-use Rattle.blifww_tool.specs.declared.causes.TextError.{TextError}
-use Rattle.blifww_tool.specs.declared.causes.TextError.TheVariants.{Refused, NoMemory}
+use Rattle.refusals.specs.declared.causes.TextError.{TextError}
+use Rattle.refusals.specs.declared.causes.TextError.TheVariants.{Refused, NoMemory}
 
 -- whether the command reads a text; those that do not have the empty one
 abbrev pub reads_text : CommandValues → Bool
@@ -31,6 +35,9 @@ reads_text (probe cycles net path words) = true
 reads_text (window view words) = true
 reads_text (make seed size) = false
 reads_text (self_ seed size cycles) = false
+reads_text (tape cycles words) = true
+reads_text aiger = true
+reads_text (vcd cycles words) = true
 
 -- The command accepts the text.
 -- `compile`: the text is a netlist, in which the words say starts, for no more contexts than every plan has room for.
@@ -39,6 +46,9 @@ reads_text (self_ seed size cycles) = false
 -- `probe`: they are a simulation that has the net and shows its bits in time, and the injections meet conductors.
 -- `window`: they are a simulation whose injections meet conductors up to the generation that is shown.
 -- `make` always does; `self` where no plan of the made netlist can need more generations than are run.
+-- `tape`: the text is a netlist, and the words are streams for it.
+-- `aiger`: the text is a circuit.
+-- `vcd`: they are a simulation whose nets show their last bits in time, and whose injections up to there meet conductors.
 abbrev pub Accepts : CommandValues → List ℕ → Type 0
 Accepts (compile contexts starts) text = (design : Design) × HasStarts contexts starts text design × (contexts ≤ least_room design)
 Accepts (simulate cycles words) text = (s : Simulation) × Simulates cycles words text s
@@ -47,10 +57,13 @@ Accepts (probe cycles net path words) text = (bits : List (List Bool)) × Probes
 Accepts (window view words) text = (s : Simulation) × HasView view words text s
 Accepts (make seed size) text = ⊤
 Accepts (self_ seed size cycles) text = most_generations (weight (made_design seed size)) cycles ≤ greatest_generation
+Accepts (tape cycles words) text = (e : Evaluation) × IsEvaluation cycles words text e
+Accepts aiger text = (aig : Aig) × IsAig text aig
+Accepts (vcd cycles words) text = (s : Simulation) × RunsInTime last_dumped cycles words text s
 
 -- of such a text it prints this output: a pattern that carries the netlist in these contexts; a line for each output of
--- the pattern, or of the netlist; the lines of the net; those of a part of the plane; the made text; or what is told of
--- the made netlist
+-- the pattern, or of the netlist; the lines of the net; those of a part of the plane; the made text; what is told of the
+-- made netlist; a pattern that runs by itself; one that carries the circuit; or the dump of the nets
 abbrev pub Prints : CommandValues → (text output : List ℕ) → Type 0
 Prints (compile contexts starts) text output = Compiles contexts starts text output
 Prints (simulate cycles words) text output = (s : Simulation) × Simulates cycles words text s × (output ≡ simulation_text s)
@@ -59,6 +72,9 @@ Prints (probe cycles net path words) text output = PrintsProbe cycles net path w
 Prints (window view words) text output = ShowsPart view words text output
 Prints (make seed size) text output = output ≡ made_text seed size
 Prints (self_ seed size cycles) text output = TellsSummary seed size cycles output
+Prints (tape cycles words) text output = Tapes cycles words text output
+Prints aiger text output = CompilesAig text output
+Prints (vcd cycles words) text output = Dumps cycles words text output
 
 -- the command refuses the text for this cause
 abbrev pub Refuses : CommandValues → List ℕ → Cause → Type 0
@@ -70,6 +86,9 @@ Refuses (window view words) text cause = HasNoView view words text cause
 Refuses (make seed size) text cause = ⊥
 Refuses (self_ seed size cycles) text (TooFar generations) = HasSummaryCause seed size cycles (summarizing.TooFar generations)
 Refuses (self_ seed size cycles) text cause = ⊥
+Refuses (tape cycles words) text cause = HasNoEvaluation cycles words text cause
+Refuses aiger text cause = HasNoAig text cause
+Refuses (vcd cycles words) text cause = HasNoDump cycles words text cause
 
 -- The command refuses the text for this cause whenever nothing fails and there is memory. Two causes are left out,
 -- since they depend on the plan, which is free: that `self` needs too many generations, and that `compile` has no room
@@ -84,6 +103,7 @@ MustRefuse command text cause = Refuses command text cause
 abbrev pub AreAlike : Cause → Cause → Type 0
 AreAlike (NetlistFault a) (NetlistFault b) = AreAlikeFaults a b
 AreAlike (Loop a) (Loop b) = ⊤
+AreAlike (AigLoop a) (AigLoop b) = ⊤
 AreAlike a b = a ≡ b
 
 -- why a text gives no output: the command refuses it, or there is not enough memory

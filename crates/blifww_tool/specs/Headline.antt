@@ -1,11 +1,21 @@
--- The headline, and what it is a case of: one context, without words.
+-- The headline, what it is a case of (one context, without words), those of tapes and of circuits, and what a dump is.
 use Rattle.std.specs.Prelude.{◌≡◌, ℕ, List, ◌++◌, Some}
 use Rattle.netlist_core.specs.declared.model.Design.{Design}
 use Rattle.blif_text.specs.Faults.{IsDesignOf}
 use Rattle.carries.specs.Carries.{Carries}
 use Rattle.carries.specs.Nets.{CarriesNets}
 use Rattle.carries.specs.DesignContexts.{CarriesContexts, CarriesNetsInContexts}
+use Rattle.carries.specs.ByItself.{RunsByItself}
+use Rattle.streams.specs.Rows.{rows_of}
 use Rattle.start_words.specs.Starts.{starts_of_words}
+use Rattle.aiger_text.specs.declared.aig.Aig.{Aig}
+use Rattle.aiger_text.specs.AigText.{ReadsAsAig}
+use Rattle.aiger_carries.specs.CarriesAig.{CarriesAig}
+use Rattle.vcd_text.specs.Laws.{SaysWaves}
+use Rattle.vcd_text.specs.Writing.{vcd_text}
+use Rattle.blifww_tool.specs.Simulation.{Simulation, IsSimulation}
+use Rattle.blifww_tool.specs.Evaluation.{Evaluation, IsEvaluation}
+use Rattle.blifww_tool.specs.Dumping.{waves_of}
 use Rattle.blifww_tool.specs.Run.{Reading, Writing}
 
 -- Where the source tells the bytes that it had left, and the output the bytes that it held: the bytes that the output
@@ -24,3 +34,25 @@ WritesInContexts contexts starts src out =
     → (pattern : List ℕ) × (out.written_after ≡ Some (before ++ pattern))
     × (design : Design) × IsDesignOf text design
     × CarriesContexts pattern design (starts_of_words design starts contexts) × CarriesNetsInContexts pattern design (starts_of_words design starts contexts)
+
+-- the bytes that the output gained run by themselves as the netlist of the bytes that the source had left, on the streams of the words
+abbrev pub WritesTape : (cycles : ℕ) → (words : List (List ℕ)) → Reading → Writing → Type 0
+WritesTape cycles words src out =
+    (text before : List ℕ) → src.left ≡ Some text → out.written ≡ Some before
+    → (pattern : List ℕ) × (out.written_after ≡ Some (before ++ pattern))
+    × (e : Evaluation) × IsEvaluation cycles words text e × RunsByItself pattern e.design (rows_of e.streams)
+
+-- the bytes that the output gained carry the circuit that the bytes read as that the source had left
+abbrev pub WritesItsAig : Reading → Writing → Type 0
+WritesItsAig src out =
+    (text before : List ℕ) → src.left ≡ Some text → out.written ≡ Some before
+    → (pattern : List ℕ) × (out.written_after ≡ Some (before ++ pattern))
+    × (aig : Aig) × ReadsAsAig text aig × CarriesAig pattern aig
+
+-- the bytes that the output gained are the text of what the nets show in the simulation that the source and the words gave, and read
+-- as that alone
+abbrev pub WritesDump : (cycles : ℕ) → (words : List (List ℕ)) → Reading → Writing → Type 0
+WritesDump cycles words src out =
+    (text before : List ℕ) → src.left ≡ Some text → out.written ≡ Some before
+    → (dump : List ℕ) × (out.written_after ≡ Some (before ++ dump))
+    × (s : Simulation) × IsSimulation cycles words text s × (dump ≡ vcd_text (waves_of s)) × SaysWaves (waves_of s)

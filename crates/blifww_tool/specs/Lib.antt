@@ -1,11 +1,13 @@
-pub mod Refusals
 pub mod Lines
 pub mod Simulation
 pub mod Driven
 pub mod Probing
 pub mod Viewing
+pub mod Dumping
 pub mod Compilation
 pub mod Evaluation
+pub mod Aigs
+pub mod Taping
 pub mod Summary
 pub mod Commands
 pub mod Run
@@ -13,3 +15,5 @@ pub mod Statuses
 pub mod Headline
 pub mod Answer
 pub mod PrintsAlike
+pub mod DumpsNets
+pub mod TapePrints

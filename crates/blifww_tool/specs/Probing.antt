@@ -6,8 +6,8 @@ use Rattle.word_cuts.specs.Cuts.{with_context}
 use Rattle.probe_view.specs.Probes.{net_named, HasProbed, IsTooFar, IsNotQuiet}
 use Rattle.blifww_tool.specs.Lines.{bits_line}
 use Rattle.blifww_tool.specs.Simulation.{Simulation, IsSimulation, HasNoStreams}
-use Rattle.blifww_tool.specs.declared.causes.Cause.{Cause}
-use Rattle.blifww_tool.specs.declared.causes.Cause.TheVariants.{NoSuchNet, TooFar, NotQuiet}
+use Rattle.refusals.specs.declared.causes.Cause.{Cause}
+use Rattle.refusals.specs.declared.causes.Cause.TheVariants.{NoSuchNet, TooFar, NotQuiet}
 
 -- The text and the words are a simulation, whose table has the net of this name and path, and these are its bits in
 -- each context, the last of which is shown in time; each injection up to there meets a conductor.

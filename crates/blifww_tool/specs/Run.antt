@@ -6,10 +6,10 @@ use Rattle.std.specs.Io.KnownBytes.{Consumes, Appends, Keeps, IsAtEnd}
 use Rattle.ww_base.specs.Faults.{Rose}
 use Rattle.command_words.specs.Shapes.{CommandValues, command_values, IsCommand, IsTaken}
 use Rattle.blifww_tool.specs.Commands.{reads_text, Accepts, Prints, Refuses, MustRefuse, AreAlike}
-use Rattle.blifww_tool.specs.Refusals.{status_of, refusal_line}
-use Rattle.blifww_tool.specs.declared.causes.Cause.{Cause}
-use Rattle.blifww_tool.specs.declared.refusals.Refusal.{Refusal}
-use Rattle.blifww_tool.specs.declared.refusals.Refusal.TheVariants.{Usage, TooLong, ReadFault, WriteFault, NoMemory, Text}
+use Rattle.refusals.specs.Refusals.{status_of, refusal_line}
+use Rattle.refusals.specs.declared.causes.Cause.{Cause}
+use Rattle.refusals.specs.declared.refusal.Refusal.{Refusal}
+use Rattle.refusals.specs.declared.refusal.Refusal.TheVariants.{Usage, TooLong, ReadFault, WriteFault, NoMemory, Text}
 
 -- the words ask for this command, with these values
 abbrev pub Asks : List (List ℕ) → CommandValues → Type 0

@@ -13,10 +13,10 @@ use Rattle.streams.specs.declared.streams.Streams.{Streams}
 use Rattle.streams.specs.Streams.{HasStreams, HasStreamFault}
 use Rattle.drive.specs.Driving.{first_miss, shown_at, last_generation, greatest_generation}
 use Rattle.blifww_tool.specs.Lines.{context_line}
-use Rattle.blifww_tool.specs.declared.causes.Cause.{Cause}
-use Rattle.blifww_tool.specs.declared.causes.Cause.TheVariants.{Pattern, GridTooLarge, PortTable, Streams as OfStreams, TooFar, NotQuiet}
-use Rattle.blifww_tool.specs.declared.causes.TextError.{TextError}
-use Rattle.blifww_tool.specs.declared.causes.TextError.TheVariants.{Refused, NoMemory}
+use Rattle.refusals.specs.declared.causes.Cause.{Cause}
+use Rattle.refusals.specs.declared.causes.Cause.TheVariants.{Pattern, GridTooLarge, PortTable, Streams as OfStreams, TooFar, NotQuiet}
+use Rattle.refusals.specs.declared.causes.TextError.{TextError}
+use Rattle.refusals.specs.declared.causes.TextError.TheVariants.{Refused, NoMemory}
 
 -- a pattern, its ports, and streams for its inputs in each context
 pub record Simulation : Type 0 where
@@ -53,12 +53,16 @@ miss_up_to s g = first_miss s.ports s.streams (plane_of s.grid.rows) g
 abbrev pub MissesAt : Simulation → (g generation x y : ℕ) → Type 0
 MissesAt s g generation x y = miss_up_to s g ≡ Some (record { generation = generation; x = x; y = y })
 
--- the text and the words are a simulation whose last bits are shown in time, and each injection up to there meets a
--- conductor
-pub record Simulates (cycles : ℕ) (words : List (List ℕ)) (text : List ℕ) (s : Simulation) : Type 0 where
+-- the text and the words are a simulation, which is run up to the last generation that is wanted of it: this is in time, and
+-- each injection up to there meets a conductor
+pub record RunsInTime (last : Simulation → ℕ) (cycles : ℕ) (words : List (List ℕ)) (text : List ℕ) (s : Simulation) : Type 0 where
   pub is : IsSimulation cycles words text s
-  pub near : last_shown s ≤ greatest_generation
-  pub quiet : miss_up_to s (last_shown s) ≡ None
+  pub near : last s ≤ greatest_generation
+  pub quiet : miss_up_to s (last s) ≡ None
+
+-- and this is the generation of its last bits
+abbrev pub Simulates : ℕ → List (List ℕ) → List ℕ → Simulation → Type 0
+Simulates cycles words text s = RunsInTime last_shown cycles words text s
 
 -- why the text and the words are no simulation: the text is no pattern's, or its box is too large; its port table is at
 -- fault; or the streams are
@@ -72,14 +76,17 @@ HasNoStreams cycles words text (OfStreams fault) =
     × HasStreamFault ports.c words (names_of ports.ins) cycles fault
 HasNoStreams cycles words text _ = ⊥
 
--- why they are not simulated: they are no simulation, or its last bits are shown too late, or in time, but an injection
--- up to there meets no conductor
+-- why it is not so run: they are no simulation, or the last generation that is wanted comes too late, or in time, but an
+-- injection up to there meets no conductor
+abbrev pub HasNoRun : (Simulation → ℕ) → ℕ → List (List ℕ) → List ℕ → Cause → Type 0
+HasNoRun last cycles words text (TooFar generations) =
+    (s : Simulation) × IsSimulation cycles words text s × (generations ≡ last s) × (greatest_generation < generations)
+HasNoRun last cycles words text (NotQuiet generation x y) =
+    (s : Simulation) × IsSimulation cycles words text s × (last s ≤ greatest_generation) × MissesAt s (last s) generation x y
+HasNoRun last cycles words text cause = HasNoStreams cycles words text cause
+
 abbrev pub HasNoSimulation : ℕ → List (List ℕ) → List ℕ → Cause → Type 0
-HasNoSimulation cycles words text (TooFar generations) =
-    (s : Simulation) × IsSimulation cycles words text s × (generations ≡ last_shown s) × (greatest_generation < generations)
-HasNoSimulation cycles words text (NotQuiet generation x y) =
-    (s : Simulation) × IsSimulation cycles words text s × (last_shown s ≤ greatest_generation) × MissesAt s (last_shown s) generation x y
-HasNoSimulation cycles words text cause = HasNoStreams cycles words text cause
+HasNoSimulation cycles words text cause = HasNoRun last_shown cycles words text cause
 
 -- why no simulation is read: they are none, or there is not enough memory
 abbrev pub HasStreamsCause : ℕ → List (List ℕ) → List ℕ → TextError → Type 0

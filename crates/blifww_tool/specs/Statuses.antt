@@ -6,11 +6,14 @@ use Rattle.rle_read.specs.declared.error.RleFault.{RleFault}
 use Rattle.port_table.specs.declared.faults.PortFault.{PortFault}
 use Rattle.streams.specs.declared.error.StreamFault.{StreamFault}
 use Rattle.netlist_text.specs.NetlistText.{IsAtFault, IsTooHeavy, HasLoop}
+use Rattle.aiger_text.specs.declared.fault.AigFault.{AigFault}
+use Rattle.aiger_text.specs.AigText.{HasAigFault}
 use Rattle.start_words.specs.declared.error.StartFault.{StartFault}
-use Rattle.command_words.specs.Shapes.{CommandValues, compile, IsCommand}
+use Rattle.command_words.specs.Shapes.{CommandValues, compile, aiger, IsCommand}
 use Rattle.blifww_tool.specs.Compilation.{HasNoRoom}
+use Rattle.blifww_tool.specs.Aigs.{HasNoAig}
 use Rattle.blifww_tool.specs.Run.{Call, Asks, IsAsked, GaveTooMany, GaveAll, ReadFailed, WriteFailed, RefusesText, Ends}
-use Rattle.blifww_tool.specs.declared.causes.Cause.TheVariants.{WeightTooLarge, Pattern, GridTooLarge, PortTable, Streams, StartWord, NoSuchNet, TooFar, TooManyContexts, NotQuiet}
+use Rattle.refusals.specs.declared.causes.Cause.TheVariants.{WeightTooLarge, AigLoop, Pattern, GridTooLarge, PortTable, Streams, StartWord, NoSuchNet, TooFar, TooManyContexts, NotQuiet}
 
 -- the source gave too many bytes, or the command refuses the text that it has: for the netlist's weight, the size of
 -- the pattern's box, the number of generations, or that of contexts
@@ -47,10 +50,12 @@ IsNotQuiet c = (generation x y : ℕ) × RefusesText c.words c.src (NotQuiet gen
 
 -- Each status but 7 comes only where its cause is; of 0 a command was asked.
 pub record HaveCauses (c : Call) (status : ℕ) : Type 0 where
-  pub at_fault : status ≡ 1 → (text : List ℕ) × (fault : Fault) × GaveAll c.src text × IsAtFault text fault
+  pub at_fault : status ≡ 1 → ¬ Asks c.words aiger → (text : List ℕ) × (fault : Fault) × GaveAll c.src text × IsAtFault text fault
+  pub aig_at_fault : status ≡ 1 → Asks c.words aiger → (text : List ℕ) × (fault : AigFault) × GaveAll c.src text × HasAigFault text fault
   pub usage : status ≡ 2 → IsCommand c.words → ⊥
   pub asked : status ≢ 2 → status ≢ 6 → status ≢ 7 → (command : CommandValues) × IsAsked c.words command
-  pub a_loop : status ≡ 3 → (text : List ℕ) × (names : List Name) × GaveAll c.src text × HasLoop text names
+  pub a_loop : status ≡ 3 → ¬ Asks c.words aiger → (text : List ℕ) × (names : List Name) × GaveAll c.src text × HasLoop text names
+  pub aig_loop : status ≡ 3 → Asks c.words aiger → (text : List ℕ) × (literals : List ℕ) × GaveAll c.src text × HasNoAig text (AigLoop literals)
   pub too_large : status ≡ 4 → (contexts : ℕ) (starts : List (List ℕ)) → Asks c.words (compile contexts starts) → IsTooLarge c contexts starts
   pub over_a_limit : status ≡ 4 → IsOverALimit c
   pub read_fault : status ≡ 5 → ReadFailed c.src

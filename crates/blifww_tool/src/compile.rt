@@ -1,5 +1,5 @@
 // `compile`: the pattern of a netlist.
-ghost use Rattle.std.specs.Prelude.{◌≡◌, ◌==◌, ◌&&◌, ◌<◌, ℕ, List, length, map, string_bytes, IfOk, IfErr};
+ghost use Rattle.std.specs.Prelude.{◌≡◌, ◌==◌, ◌&&◌, ◌<◌, ℕ, List, [], length, map, string_bytes, IfOk, IfErr};
 ghost use Rattle.netlist_text.specs.Parts.{AreParts};
 ghost use Rattle.plan_ports.specs.Tables.{HasPortNames};
 ghost use Rattle.netlist_plans.specs.Lists.{IsPlanned};
@@ -9,23 +9,24 @@ ghost use Rattle.blifww_tool.specs.Answer.{output_text, IsWritableOutput};
 ghost use Rattle.blifww_tool.specs.Commands.{Prints, HasTextCause};
 ghost use Rattle.blifww_tool.specs.Compilation.{Compiles, HasStarts, IsCarriedBy};
 
-use crate::causes::{Cause, TextError};
 use crate::output::Output;
 use carries::one_context_carries;
 use flat_designs::{flat_is_one, flat_is_sound, flat_is_weighed};
 use netlist_plans::{NetlistPlanError, Planned, plan_contexts, plan_netlist};
 use netlist_text::{Netlist, netlist_of};
 use plan_carries::{designs_are_carried, designs_are_carried_in_contexts};
+use refusals::{Cause, TextError};
 use start_words::Starts;
 use start_words::laws::{latches_are_flat, no_words_mean_start, starts_are_flat};
 use std::alloc::Global;
 
-// The plan of a netlist, for one context.
-fn plan_of(alloc: Global, netlist: &Netlist) -> Result<Planned, NetlistPlanError>
+/// The plan of a netlist, for one context and without a tape.
+pub fn plan_of(alloc: Global, netlist: &Netlist) -> Result<Planned, NetlistPlanError>
     requires parts { AreParts netlist.now.design netlist.now.flat netlist.now.order.nodes }
     requires names { HasPortNames netlist.now.flat }
     ensures carried { IfOk result (λ p. IsCarriedBy netlist.now.design p.plan p.ports) }
     ensures planned { IfOk result (λ p. IsPlanned netlist.now.flat p.plan) }
+    ensures bare { IfOk result (λ p. p.plan.tape ≡ []) }
 {
     flat_is_sound();
     flat_is_weighed();

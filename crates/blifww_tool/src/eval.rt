@@ -5,18 +5,18 @@ ghost use Rattle.netlist_text.specs.Parts.{AreParts};
 ghost use Rattle.blifww_tool.specs.Answer.{output_text, IsWritableOutput};
 ghost use Rattle.blifww_tool.specs.Commands.{Prints, HasTextCause};
 ghost use Rattle.blifww_tool.specs.Evaluation.{FeedsInputs, HasInputsCause, PrintsRun};
-ghost use Rattle.blifww_tool.specs.declared.causes.TextError.TheVariants.{NoMemory};
+ghost use Rattle.refusals.specs.declared.causes.TextError.TheVariants.{NoMemory};
 
-use crate::causes::TextError;
 use crate::lines::output_lines;
 use crate::output::Output;
 use drive::{StreamError, Streams};
 use netlist_run::run;
 use netlist_text::{Netlist, netlist_of};
+use refusals::TextError;
 use std::alloc::Global;
 
-// The streams of a netlist's inputs, as the words say them.
-fn streams_for(
+/// The streams of a netlist's inputs, as the words say them.
+pub fn streams_for(
     alloc: Global,
     cycles: usize,
     words: &[String],

@@ -21,7 +21,10 @@ fn reads_text(command: &Command) -> bool
         | Command::Simulate { .. }
         | Command::Eval { .. }
         | Command::Probe { .. }
-        | Command::Window { .. } => true,
+        | Command::Window { .. }
+        | Command::Tape { .. }
+        | Command::Aiger
+        | Command::Vcd { .. } => true,
         Command::Make { .. } | Command::Self_ { .. } => false,
     }
 }

@@ -1,12 +1,15 @@
 //! What is proved of statuses, and of what commands print.
+ghost use Rattle.blifww_tool.specs.DumpsNets.{CarriersDumpNets};
 ghost use Rattle.blifww_tool.specs.PrintsAlike.{CarriersPrintAlike, CarriersPrintNets, CarriersPrintNetsInContexts, CarriersPrintRuns, CarriersRunQuietly, CompiledPrintAlike, CompiledPrintNets, CompiledPrintRuns};
 ghost use Rattle.blifww_tool.specs.Statuses.{StatusesHaveCauses};
+ghost use Rattle.blifww_tool.specs.TapePrints.{TapesPrintAlike, TapesPrintRuns};
 
 use netlist_text::laws::texts_are_decided;
 use shown_runs::{
     carriers_are_quiet, carriers_show_contexts, carriers_show_nets, carriers_show_runs,
-    streams_match,
+    runners_show_runs, streams_match,
 };
+use vcd_write::nets_have_their_bits;
 
 /// Each status of a run comes only where its cause is.
 pub fn statuses_have_causes()
@@ -47,6 +50,17 @@ pub fn carriers_print_nets()
     streams_match();
 }
 
+/// What `vcd` writes of a text that carries the nets of a design in contexts, as what `compile` writes does, reads as the
+/// nets' bits in runs, one in each context, from the context's start on.
+pub fn carriers_dump_nets()
+    ensures { CarriersDumpNets }
+{
+    nets_have_their_bits();
+    carriers_show_nets();
+    carriers_show_contexts();
+    streams_match();
+}
+
 /// No injection meets another cell than a conductor in a text that carries a netlist in contexts, as what `compile`
 /// writes does: of it no run ends with status 10.
 pub fn carriers_run_quietly()
@@ -54,4 +68,16 @@ pub fn carriers_run_quietly()
 {
     carriers_are_quiet();
     streams_match();
+}
+
+/// What `simulate` prints of what `tape` writes, for as many cycles as the tape has, is what `eval` prints of the netlist
+/// under the words of the tape; and for any number of cycles it is the lines of the netlist's runs on the streams, and on
+/// 0 after them.
+pub fn tapes_print_alike()
+    ensures runs { TapesPrintRuns }
+    ensures alike { TapesPrintAlike }
+{
+    runners_show_runs();
+    streams_match();
+    texts_are_decided();
 }

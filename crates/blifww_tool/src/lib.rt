@@ -1,10 +1,10 @@
-//! The top call of the program: `compile` and `eval` for the text of a netlist, `simulate`, `probe` and `window` for
-//! the text of a pattern, and `make` and `self` for made netlists.
+//! The top call of the program: `compile`, `eval` and `tape` for the text of a netlist, `aiger` for that of a circuit,
+//! `simulate`, `probe`, `window` and `vcd` for that of a pattern, and `make` and `self` for made netlists.
 //!
-//! Theorem: `run` (`headline`, `contexts`, `ends`), `carriers_print_alike`, `carriers_print_runs`.
+//! Theorem: `run` (`headline`, `contexts`, `tapes`, `aigs`, `dumps`, `ends`), `carriers_print_alike`, `carriers_print_runs`.
 #![tactic(auto)]
 
-mod causes;
+mod aiger;
 mod compile;
 mod driven;
 mod eval;
@@ -14,11 +14,11 @@ mod lines;
 mod make;
 mod output;
 mod probe;
-mod refusals;
 mod simulate;
 mod summary;
-mod told;
+mod tape;
 mod top;
+mod vcd;
 mod window;
 
 pub use top::run;

@@ -5,6 +5,7 @@ ghost use Rattle.ww_base.specs.Faults.{HasCause};
 
 use lists::Bytes;
 use netlist_plans::Planned;
+use vcd_write::Vcd;
 use ww_base::{Failed, Sink, write_all};
 
 /// The output of a command, made in memory.
@@ -14,6 +15,8 @@ pub enum Output {
     Lines(Bytes),
     /// A plan and its port table, whose text is written row by row.
     Drawing(Planned),
+    /// What nets show, whose text is written cycle by cycle.
+    Waves(Vcd),
 }
 
 impl Output {
@@ -30,6 +33,7 @@ impl Output {
         match self {
             Output::Lines(text) => write_all(out, text.as_slice()),
             Output::Drawing(planned) => rle_write::write(&planned.plan, &planned.ports, out),
+            Output::Waves(vcd) => vcd_write::write(vcd, out),
         }
     }
 }

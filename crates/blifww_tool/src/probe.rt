@@ -4,14 +4,14 @@ ghost use Rattle.command_words.specs.Shapes.{probe};
 ghost use Rattle.blifww_tool.specs.Answer.{output_text, IsWritableOutput};
 ghost use Rattle.blifww_tool.specs.Commands.{Prints, HasTextCause};
 ghost use Rattle.blifww_tool.specs.Probing.{names_in_contexts, net_text};
-ghost use Rattle.blifww_tool.specs.Refusals.{probe_error};
+ghost use Rattle.refusals.specs.Refusals.{probe_error};
 
-use crate::causes::{Cause, TextError};
 use crate::driven::driven_by;
 use crate::lines::output_lines;
 use crate::output::Output;
 use lists::{Bytes, List};
 use probe_view::ProbeError;
+use refusals::{Cause, TextError};
 use std::alloc::{AllocError, Global};
 use word_cuts::with_context;
 

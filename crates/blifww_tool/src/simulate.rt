@@ -4,10 +4,10 @@ ghost use Rattle.command_words.specs.Shapes.{simulate};
 ghost use Rattle.blifww_tool.specs.Answer.{output_text, IsWritableOutput};
 ghost use Rattle.blifww_tool.specs.Commands.{Prints, HasTextCause};
 
-use crate::causes::TextError;
 use crate::driven::{driven_by, names_in_contexts};
 use crate::lines::output_lines;
 use crate::output::Output;
+use refusals::TextError;
 use std::alloc::Global;
 
 /// A line for each output of the text's pattern in each of its contexts, with the bits that it shows, where the words

@@ -5,12 +5,12 @@ ghost use Rattle.blifww_tool.specs.Answer.{output_text, IsWritableOutput};
 ghost use Rattle.blifww_tool.specs.Commands.{HasTextCause};
 ghost use Rattle.blifww_tool.specs.Summary.{number_line, output_lines, summary_text, TellsSummary};
 
-use crate::causes::TextError;
 use crate::lines::push_line;
 use crate::output::Output;
 use itoa::Buffer;
 use lists::Bytes;
 use made_summary::{OutputBits, Summary, summarize};
+use refusals::TextError;
 use std::alloc::{AllocError, Global};
 
 // Puts a number's line at the end.

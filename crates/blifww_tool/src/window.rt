@@ -6,10 +6,10 @@ ghost use Rattle.blifww_tool.specs.Answer.{output_text, IsWritableOutput};
 ghost use Rattle.blifww_tool.specs.Commands.{Prints, HasTextCause};
 ghost use Rattle.blifww_tool.specs.Viewing.{cycles_in};
 
-use crate::causes::TextError;
 use crate::driven::driven_by;
 use crate::output::Output;
 use command_words::View;
+use refusals::TextError;
 use std::alloc::Global;
 
 // How many bytes stand after the last `=`.

@@ -8,11 +8,11 @@ use Rattle.clap.specs.Simple.{App, Shape, entered, is_simple, label_of, names_of
 use Rattle.clap.specs.Takes.{built_takes, entered_passes, level_passes, settle_passes, takes, walk_passes}
 use Rattle.clap.specs.Walk.{Row, Rule, Text, answers_to, first_of, nothing_held, rows_after, stop_after, walk, walk_from}
 use Rattle.command_words.specs.App.{blifww_app}
-use Rattle.command_words.specs.Numbers.{NumberRange, number_taken, cycles_range, generation_range, x_range, y_range, width_range, height_range, seed_range, size_range, contexts_range}
-use Rattle.command_words.specs.Shapes.{CommandValues, IsCommand, MeetsContexts, MeetsRanges, command_values, compile, compile_by, contexts_by, number_met, streams_met, simulate, eval, simulate_or_eval_by, probe_by, window_by, make_by, self_by, values_met}
+use Rattle.command_words.specs.Numbers.{NumberRange, number_taken, cycles_range, generation_range, x_range, y_range, width_range, height_range, seed_range, size_range, contexts_range, number_ranges, tape_cycles_range}
+use Rattle.command_words.specs.Shapes.{AreInRanges, CommandValues, IsCommand, MeetsContexts, MeetsRanges, command_values, compile, compile_by, contexts_by, number_met, streams_met, simulate, eval, tape, vcd, driven_command_by, probe_by, window_by, make_by, self_by, values_met}
 use Rattle.command_words.proofs.Entered.{names}
 use Rattle.command_words.proofs.Given.{AreGiven, IsOwn, required_given}
-use Rattle.command_words.proofs.Rules.{app_built, built_app, leaf, option_rule, words_rule, compile_rules, driven_rules, probe_rules, window_rules, make_rules, self_rules, shapes, top}
+use Rattle.command_words.proofs.Rules.{app_built, built_app, leaf, option_rule, words_rule, compile_rules, driven_rules, probe_rules, window_rules, make_rules, self_rules, aiger_rules, shapes, top}
 
 -- what was met is the command with this shape, with words that clap takes
 abbrev IsMet : Option (Text × List Row) → Shape → Type 0
@@ -111,7 +111,11 @@ contexts_given None words within beside = ap (λ (ws : List Text). is_some (cont
 abbrev InRange : NumberRange → List Row → Type 0
 InRange range rows = IfSome (first_of range.name rows) (λ text. is_some (number_taken range text) ≡ true)
 
-module _ (rows : List Row) (name : Text) (within : MeetsRanges (Some (name, rows))) where
+-- the number of cycles of a tape
+taped_valued : (rows : List Row) → AreInRanges (tape_cycles_range ∷ []) rows → AreGiven rows driven_rules → is_some (driven_command_by tape_cycles_range tape rows) ≡ true
+taped_valued rows within g = mapped _ (number_met tape_cycles_range rows) (number_given tape_cycles_range (first_of tape_cycles_range.name rows) (g.0 refl refl) within.0)
+
+module _ (rows : List Row) (within : AreInRanges number_ranges rows) where
   number_of : (range : NumberRange) → is_some (first_of range.name rows) ≡ true → InRange range rows → is_some (number_met range rows) ≡ true
   number_of range e in_range = number_given range (first_of range.name rows) e in_range
 
@@ -120,7 +124,7 @@ module _ (rows : List Row) (name : Text) (within : MeetsRanges (Some (name, rows
       mapped (λ contexts. compile contexts (streams_met rows)) _
       (contexts_given (first_of (codes "contexts") rows) (streams_met rows) within.1.1.1.1.1.1.1.1.0 beside)
 
-  driven_valued : (command : ℕ → List Text → CommandValues) → AreGiven rows driven_rules → is_some (simulate_or_eval_by command rows) ≡ true
+  driven_valued : (command : ℕ → List Text → CommandValues) → AreGiven rows driven_rules → is_some (driven_command_by cycles_range command rows) ≡ true
   driven_valued command g = mapped _ (number_met cycles_range rows) (number_of cycles_range (g.0 refl refl) within.0)
 
   probe_valued : AreGiven rows probe_rules → is_some (probe_by rows) ≡ true
@@ -157,14 +161,17 @@ met_by command own met all is within beside each =
     ∙ each rows (subst MeetsRanges is.1 within) (subst MeetsContexts is.1 beside) (required_given command own all is.0 is.2)
 
 met_valued : (met : Option (Text × List Row)) → IsAnyMet met shapes → MeetsRanges met → MeetsContexts met → is_some (values_met met) ≡ true
-met_valued met (inl is) within b = met_by (codes "compile") compile_rules met compile_own is within b (λ rows w beside g. compile_valued rows (codes "compile") w (beside refl))
-met_valued met (inr (inl is)) within b = met_by (codes "simulate") driven_rules met driven_own is within b (λ rows w beside g. driven_valued rows (codes "simulate") w simulate g)
-met_valued met (inr (inr (inl is))) within b = met_by (codes "eval") driven_rules met driven_own is within b (λ rows w beside g. driven_valued rows (codes "eval") w eval g)
-met_valued met (inr (inr (inr (inl is)))) within b = met_by (codes "probe") probe_rules met probe_own is within b (λ rows w beside g. probe_valued rows (codes "probe") w g)
-met_valued met (inr (inr (inr (inr (inl is))))) within b = met_by (codes "window") window_rules met window_own is within b (λ rows w beside g. window_valued rows (codes "window") w g)
-met_valued met (inr (inr (inr (inr (inr (inl is)))))) within b = met_by (codes "make") make_rules met make_own is within b (λ rows w beside g. make_valued rows (codes "make") w g)
-met_valued met (inr (inr (inr (inr (inr (inr (inl is))))))) within b = met_by (codes "self") self_rules met self_own is within b (λ rows w beside g. self_valued rows (codes "self") w g)
-met_valued met (inr (inr (inr (inr (inr (inr (inr none))))))) within b = absurd none
+met_valued met (inl is) within b = met_by (codes "compile") compile_rules met compile_own is within b (λ rows w beside g. compile_valued rows w (beside refl))
+met_valued met (inr (inl is)) within b = met_by (codes "simulate") driven_rules met driven_own is within b (λ rows w beside g. driven_valued rows w simulate g)
+met_valued met (inr (inr (inl is))) within b = met_by (codes "eval") driven_rules met driven_own is within b (λ rows w beside g. driven_valued rows w eval g)
+met_valued met (inr (inr (inr (inl is)))) within b = met_by (codes "probe") probe_rules met probe_own is within b (λ rows w beside g. probe_valued rows w g)
+met_valued met (inr (inr (inr (inr (inl is))))) within b = met_by (codes "window") window_rules met window_own is within b (λ rows w beside g. window_valued rows w g)
+met_valued met (inr (inr (inr (inr (inr (inl is)))))) within b = met_by (codes "make") make_rules met make_own is within b (λ rows w beside g. make_valued rows w g)
+met_valued met (inr (inr (inr (inr (inr (inr (inl is))))))) within b = met_by (codes "self") self_rules met self_own is within b (λ rows w beside g. self_valued rows w g)
+met_valued met (inr (inr (inr (inr (inr (inr (inr (inl is)))))))) within b = met_by (codes "tape") driven_rules met driven_own is within b (λ rows w beside g. taped_valued rows w g)
+met_valued met (inr (inr (inr (inr (inr (inr (inr (inr (inl is))))))))) within b = met_by (codes "aiger") aiger_rules met tt is within b (λ rows w beside g. refl)
+met_valued met (inr (inr (inr (inr (inr (inr (inr (inr (inr (inl is)))))))))) within b = met_by (codes "vcd") driven_rules met driven_own is within b (λ rows w beside g. driven_valued rows w vcd g)
+met_valued met (inr (inr (inr (inr (inr (inr (inr (inr (inr (inr none)))))))))) within b = absurd none
 
 has_values : (words : List Text) → IsCommand words → is_some (command_values words) ≡ true
 has_values words i = met_valued (subcommand_of blifww_app words) (taken_met words i.taken) i.in_range i.beside

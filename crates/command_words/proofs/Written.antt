@@ -13,11 +13,11 @@ use Rattle.clap.specs.Simple.{subcommand_of}
 use Rattle.clap.specs.declared.parser.matches.ValueSource.TheVariants.{CommandLine}
 use Rattle.clap.specs.declared.builder.value_parser.Reading.TheVariants.{AsWritten}
 use Rattle.command_words.specs.App.{blifww_app}
-use Rattle.command_words.specs.Numbers.{NumberRange, are_digits, number_taken, cycles_range, generation_range, x_range, y_range, width_range, height_range, seed_range, size_range, contexts_range}
-use Rattle.command_words.specs.Shapes.{CommandValues, compile, simulate, eval, probe, window, make, self_, simulate_or_eval_by, values_met, command_values, is_plain_word, option_words, streams_met, IsCommand, IsSimulateOrEval, IsPlain, IsWritten, GivesContexts, GivesPath, MeetsContexts, MeetsRanges, Writes}
+use Rattle.command_words.specs.Numbers.{NumberRange, are_digits, number_taken, cycles_range, generation_range, x_range, y_range, width_range, height_range, seed_range, size_range, contexts_range, number_ranges, tape_cycles_range}
+use Rattle.command_words.specs.Shapes.{CommandValues, compile, simulate, eval, probe, window, make, self_, tape, aiger, vcd, driven_command_by, values_met, command_values, is_plain_word, option_words, streams_met, IsCommand, IsDrivenCommand, IsPlain, IsWritten, GivesContexts, GivesPath, AreInRanges, MeetsContexts, MeetsRanges, Writes, number_met}
 use Rattle.command_words.specs.declared.command.View.{View}
 use Rattle.command_words.proofs.Entered.{IsNamed, entered_own, takes_own}
-use Rattle.command_words.proofs.Rules.{leaf, words_rule, compile_rules, driven_rules, probe_rules, window_rules, make_rules, self_rules}
+use Rattle.command_words.proofs.Rules.{leaf, words_rule, compile_rules, driven_rules, probe_rules, window_rules, make_rules, self_rules, aiger_rules}
 use Rattle.command_words.proofs.Walks.{HasNoHyphen, HaveWords, IsGiven, IsOption, Pending, all_pass, all_walked, options_pass, plain_walk}
 
 -- ---- values are no flags
@@ -344,36 +344,89 @@ self_read s k n es ek en = record {
   rows = refl;
 }
 
+tape_read : (n : Text) (streams : List Text) → HasNoHyphen n → IsRead (codes "tape") driven_rules ((codes "cycles", n) ∷ []) streams
+tape_read n streams en = record {
+  named = record { named = refl; shape = refl };
+  given = ((driven_cycles, en), tt);
+  have = have_words driven_rules streams refl;
+  take = take_words driven_rules streams refl;
+  passes = refl;
+  valid = valid streams;
+  rows = rows streams;
+}
+  where
+    valid : (vs : List Text) → after_passes (codes "tape") driven_rules (plain_walk driven_rules [] None ((codes "cycles", n) ∷ []) vs) ≡ true
+    valid [] = refl
+    valid (v ∷ vs) = refl
+
+    rows : (vs : List Text) → finished driven_rules (plain_walk driven_rules [] None ((codes "cycles", n) ∷ []) vs).held ≡ rows_for ((codes "cycles", n) ∷ []) vs
+    rows [] = refl
+    rows (v ∷ vs) = refl
+
+aiger_read : IsRead (codes "aiger") aiger_rules [] []
+aiger_read = record {
+  named = record { named = refl; shape = refl };
+  given = tt;
+  have = tt;
+  take = tt;
+  passes = refl;
+  valid = refl;
+  rows = refl;
+}
+
+vcd_read : (n : Text) (streams : List Text) → HasNoHyphen n → IsRead (codes "vcd") driven_rules ((codes "cycles", n) ∷ []) streams
+vcd_read n streams en = record {
+  named = record { named = refl; shape = refl };
+  given = ((driven_cycles, en), tt);
+  have = have_words driven_rules streams refl;
+  take = take_words driven_rules streams refl;
+  passes = refl;
+  valid = valid streams;
+  rows = rows streams;
+}
+  where
+    valid : (vs : List Text) → after_passes (codes "vcd") driven_rules (plain_walk driven_rules [] None ((codes "cycles", n) ∷ []) vs) ≡ true
+    valid [] = refl
+    valid (v ∷ vs) = refl
+
+    rows : (vs : List Text) → finished driven_rules (plain_walk driven_rules [] None ((codes "cycles", n) ∷ []) vs).held ≡ rows_for ((codes "cycles", n) ∷ []) vs
+    rows [] = refl
+    rows (v ∷ vs) = refl
+
 -- ---- their numbers
 
 is_written : (o : Option ℕ) (n : ℕ) → o ≡ Some n → is_some o ≡ true
 is_written o n e = ap (λ (p : Option ℕ). is_some p) e
 
-contexts_ranges : (n : Text) (starts : List Text) → is_some (number_taken contexts_range n) ≡ true → MeetsRanges (Some (codes "compile", rows_for ((codes "contexts", n) ∷ []) starts))
+contexts_ranges : (n : Text) (starts : List Text) → is_some (number_taken contexts_range n) ≡ true → AreInRanges number_ranges (rows_for ((codes "contexts", n) ∷ []) starts)
 contexts_ranges n [] en = (tt, (tt, (tt, (tt, (tt, (tt, (tt, (tt, (en, tt)))))))))
 contexts_ranges n (v ∷ vs) en = (tt, (tt, (tt, (tt, (tt, (tt, (tt, (tt, (en, tt)))))))))
 
-driven_ranges : (command : Text) (n : Text) (streams : List Text) → is_some (number_taken cycles_range n) ≡ true → MeetsRanges (Some (command, rows_for ((codes "cycles", n) ∷ []) streams))
-driven_ranges command n [] en = (en, (tt, (tt, (tt, (tt, (tt, (tt, (tt, (tt, tt)))))))))
-driven_ranges command n (v ∷ vs) en = (en, (tt, (tt, (tt, (tt, (tt, (tt, (tt, (tt, tt)))))))))
+driven_ranges : (n : Text) (streams : List Text) → is_some (number_taken cycles_range n) ≡ true → AreInRanges number_ranges (rows_for ((codes "cycles", n) ∷ []) streams)
+driven_ranges n [] en = (en, (tt, (tt, (tt, (tt, (tt, (tt, (tt, (tt, tt)))))))))
+driven_ranges n (v ∷ vs) en = (en, (tt, (tt, (tt, (tt, (tt, (tt, (tt, (tt, tt)))))))))
 
-probe_ranges : (command : Text) (n net : Text) (streams : List Text) → is_some (number_taken cycles_range n) ≡ true → MeetsRanges (Some (command, rows_for ((codes "cycles", n) ∷ (codes "net", net) ∷ []) streams))
-probe_ranges command n net [] en = (en, (tt, (tt, (tt, (tt, (tt, (tt, (tt, (tt, tt)))))))))
-probe_ranges command n net (v ∷ vs) en = (en, (tt, (tt, (tt, (tt, (tt, (tt, (tt, (tt, tt)))))))))
+tape_ranges : (n : Text) (streams : List Text) → is_some (number_taken tape_cycles_range n) ≡ true → AreInRanges (tape_cycles_range ∷ []) (rows_for ((codes "cycles", n) ∷ []) streams)
+tape_ranges n [] en = (en, tt)
+tape_ranges n (v ∷ vs) en = (en, tt)
 
-path_ranges : (command : Text) (n net path : Text) (streams : List Text) → is_some (number_taken cycles_range n) ≡ true → MeetsRanges (Some (command, rows_for ((codes "cycles", n) ∷ (codes "net", net) ∷ (codes "path", path) ∷ []) streams))
-path_ranges command n net path [] en = (en, (tt, (tt, (tt, (tt, (tt, (tt, (tt, (tt, tt)))))))))
-path_ranges command n net path (v ∷ vs) en = (en, (tt, (tt, (tt, (tt, (tt, (tt, (tt, (tt, tt)))))))))
+probe_ranges : (n net : Text) (streams : List Text) → is_some (number_taken cycles_range n) ≡ true → AreInRanges number_ranges (rows_for ((codes "cycles", n) ∷ (codes "net", net) ∷ []) streams)
+probe_ranges n net [] en = (en, (tt, (tt, (tt, (tt, (tt, (tt, (tt, (tt, tt)))))))))
+probe_ranges n net (v ∷ vs) en = (en, (tt, (tt, (tt, (tt, (tt, (tt, (tt, (tt, tt)))))))))
 
-window_ranges : (command : Text) (g x y w h : Text) (streams : List Text) → is_some (number_taken generation_range g) ≡ true → is_some (number_taken x_range x) ≡ true → is_some (number_taken y_range y) ≡ true → is_some (number_taken width_range w) ≡ true → is_some (number_taken height_range h) ≡ true → MeetsRanges (Some (command, rows_for ((codes "gen", g) ∷ (codes "x", x) ∷ (codes "y", y) ∷ (codes "width", w) ∷ (codes "height", h) ∷ []) streams))
-window_ranges command g x y w h [] eg ex ey ew eh = (tt, (eg, (ex, (ey, (ew, (eh, (tt, (tt, (tt, tt)))))))))
-window_ranges command g x y w h (v ∷ vs) eg ex ey ew eh = (tt, (eg, (ex, (ey, (ew, (eh, (tt, (tt, (tt, tt)))))))))
+path_ranges : (n net path : Text) (streams : List Text) → is_some (number_taken cycles_range n) ≡ true → AreInRanges number_ranges (rows_for ((codes "cycles", n) ∷ (codes "net", net) ∷ (codes "path", path) ∷ []) streams)
+path_ranges n net path [] en = (en, (tt, (tt, (tt, (tt, (tt, (tt, (tt, (tt, tt)))))))))
+path_ranges n net path (v ∷ vs) en = (en, (tt, (tt, (tt, (tt, (tt, (tt, (tt, (tt, tt)))))))))
 
-make_ranges : (command : Text) (s k : Text) → is_some (number_taken seed_range s) ≡ true → is_some (number_taken size_range k) ≡ true → MeetsRanges (Some (command, rows_for ((codes "seed", s) ∷ (codes "size", k) ∷ []) []))
-make_ranges command s k es ek = (tt, (tt, (tt, (tt, (tt, (tt, (es, (ek, (tt, tt)))))))))
+window_ranges : (g x y w h : Text) (streams : List Text) → is_some (number_taken generation_range g) ≡ true → is_some (number_taken x_range x) ≡ true → is_some (number_taken y_range y) ≡ true → is_some (number_taken width_range w) ≡ true → is_some (number_taken height_range h) ≡ true → AreInRanges number_ranges (rows_for ((codes "gen", g) ∷ (codes "x", x) ∷ (codes "y", y) ∷ (codes "width", w) ∷ (codes "height", h) ∷ []) streams)
+window_ranges g x y w h [] eg ex ey ew eh = (tt, (eg, (ex, (ey, (ew, (eh, (tt, (tt, (tt, tt)))))))))
+window_ranges g x y w h (v ∷ vs) eg ex ey ew eh = (tt, (eg, (ex, (ey, (ew, (eh, (tt, (tt, (tt, tt)))))))))
 
-self_ranges : (command : Text) (s k n : Text) → is_some (number_taken seed_range s) ≡ true → is_some (number_taken size_range k) ≡ true → is_some (number_taken cycles_range n) ≡ true → MeetsRanges (Some (command, rows_for ((codes "seed", s) ∷ (codes "size", k) ∷ (codes "cycles", n) ∷ []) []))
-self_ranges command s k n es ek en = (en, (tt, (tt, (tt, (tt, (tt, (es, (ek, (tt, tt)))))))))
+make_ranges : (s k : Text) → is_some (number_taken seed_range s) ≡ true → is_some (number_taken size_range k) ≡ true → AreInRanges number_ranges (rows_for ((codes "seed", s) ∷ (codes "size", k) ∷ []) [])
+make_ranges s k es ek = (tt, (tt, (tt, (tt, (tt, (tt, (es, (ek, (tt, tt)))))))))
+
+self_ranges : (s k n : Text) → is_some (number_taken seed_range s) ≡ true → is_some (number_taken size_range k) ≡ true → is_some (number_taken cycles_range n) ≡ true → AreInRanges number_ranges (rows_for ((codes "seed", s) ∷ (codes "size", k) ∷ (codes "cycles", n) ∷ []) [])
+self_ranges s k n es ek en = (en, (tt, (tt, (tt, (tt, (tt, (es, (ek, (tt, tt)))))))))
 
 -- ---- and their values
 
@@ -389,10 +442,11 @@ five : (a b c d e : Option ℕ) (v : View) → a ≡ Some v.generation → b ≡
     record { generation = g; x = x; y = y; width = w; height = h }) e) d) c) b) a ≡ Some v
 five a b c d e v ea eb ec ed ee = rw (ea, eb, ec, ed, ee) refl
 
-driven_valued : (command : ℕ → List Text → CommandValues) (n : Text) (cycles : ℕ) (streams : List Text) → HasNoHyphen n → Writes cycles_range n cycles
-    → simulate_or_eval_by command (rows_for ((codes "cycles", n) ∷ []) streams) ≡ Some (command cycles streams)
-driven_valued command n cycles streams plain e =
-    ap₂ (λ (o : Option ℕ) (ws : List Text). option_map (λ c. command c ws) o) e
+driven_valued : (range : NumberRange) (command : ℕ → List Text → CommandValues) (n : Text) (cycles : ℕ) (streams : List Text) → HasNoHyphen n
+    → number_met range (rows_for ((codes "cycles", n) ∷ []) streams) ≡ number_taken range n → Writes range n cycles
+    → driven_command_by range command (rows_for ((codes "cycles", n) ∷ []) streams) ≡ Some (command cycles streams)
+driven_valued range command n cycles streams plain met e =
+    ap₂ (λ (o : Option ℕ) (ws : List Text). option_map (λ c. command c ws) o) (met ∙ e)
     (words_met driven_rules ((codes "cycles", n) ∷ []) streams ((driven_cycles, plain), tt))
 
 probe_valued : (o : Option ℕ) (net path : Text) (cycles : ℕ) (ws streams : List Text) → o ≡ Some cycles → ws ≡ streams
@@ -441,20 +495,22 @@ compile_well contexts starts words (given ∷ []) w is =
     contexts_well contexts starts words given.1 (subst (λ (name : Text). IsPlain (codes "compile") ((name, given.1) ∷ []) starts words) is.0 w) is.1
 compile_well contexts starts words (p ∷ q ∷ options) w is = absurd is
 
-driven_well : (command : Text) (by_cycles : ℕ → List Text → CommandValues) (cycles : ℕ) (streams words : List Text)
+driven_well : (command : Text) (range : NumberRange) (by_cycles : ℕ → List Text → CommandValues) (cycles : ℕ) (streams words : List Text)
     → ((n : Text) → HasNoHyphen n → IsRead command driven_rules ((codes "cycles", n) ∷ []) streams)
-    → ((rows : List Row) → values_met (Some (command, rows)) ≡ simulate_or_eval_by by_cycles rows) → bytes_eq command (codes "compile") ≡ false
-    → IsSimulateOrEval command cycles streams words → IsWell (by_cycles cycles streams) words
-driven_well command by_cycles cycles streams words reads by other w =
+    → ((n : Text) → number_met range (rows_for ((codes "cycles", n) ∷ []) streams) ≡ number_taken range n)
+    → ((n : Text) → is_some (number_taken range n) ≡ true → MeetsRanges (Some (command, rows_for ((codes "cycles", n) ∷ []) streams)))
+    → ((rows : List Row) → values_met (Some (command, rows)) ≡ driven_command_by range by_cycles rows) → bytes_eq command (codes "compile") ≡ false
+    → IsDrivenCommand command range cycles streams words → IsWell (by_cycles cycles streams) words
+driven_well command range by_cycles cycles streams words reads met within by other w =
     let n = w.0 in
-    let plain = number_plain cycles_range n cycles w.2 in
+    let plain = number_plain range n cycles w.2 in
     let options = (codes "cycles", n) ∷ [] in
     let others : MeetsContexts (Some (command, rows_for options streams)) = not_compile command (rows_for options streams) other in
     record {
-      command = λ short. plain_command command driven_rules options streams words w.1 (reads n plain) short (driven_ranges command n streams (is_written _ cycles w.2)) others;
+      command = λ short. plain_command command driven_rules options streams words w.1 (reads n plain) short (within n (is_written _ cycles w.2)) others;
       values =
           plain_values command driven_rules options streams words w.1 (reads n plain) (by_cycles cycles streams)
-          (by (rows_for options streams) ∙ driven_valued by_cycles n cycles streams plain w.2);
+          (by (rows_for options streams) ∙ driven_valued range by_cycles n cycles streams plain (met n) w.2);
     }
 
 probe_well : (cycles : ℕ) (net path : Text) (streams words : List Text) (n : Text) (options : List (Text × Text))
@@ -465,7 +521,7 @@ probe_well cycles net path streams words n [] w e plain is =
     let read = probe_read n net streams (number_plain cycles_range n cycles e) (plain_word net plain) in
     let rows = rows_for options streams in
     record {
-      command = λ short. plain_command (codes "probe") probe_rules options streams words w read short (probe_ranges (codes "probe") n net streams (is_written _ cycles e)) (not_compile (codes "probe") rows refl);
+      command = λ short. plain_command (codes "probe") probe_rules options streams words w read short (probe_ranges n net streams (is_written _ cycles e)) (not_compile (codes "probe") rows refl);
       values =
           plain_values (codes "probe") probe_rules options streams words w read (probe cycles net path streams)
           (ap (λ (o : Option Text). option_and_then (λ c. Some (probe c net (unwrap_or o (codes "-")) (streams_met rows))) (number_taken cycles_range n)) (no_path n net streams)
@@ -480,7 +536,7 @@ probe_well cycles net path streams words n (p ∷ []) w e plain is =
         let options = (codes "cycles", n) ∷ (codes "net", net) ∷ (codes "path", path) ∷ [] in
         let read = path_read n net path streams (number_plain cycles_range n cycles e) (plain_word net plain) (plain_word path is.1) in
         record {
-          command = λ short. plain_command (codes "probe") probe_rules options streams words w read short (path_ranges (codes "probe") n net path streams (is_written _ cycles e)) (not_compile (codes "probe") (rows_for options streams) refl);
+          command = λ short. plain_command (codes "probe") probe_rules options streams words w read short (path_ranges n net path streams (is_written _ cycles e)) (not_compile (codes "probe") (rows_for options streams) refl);
           values =
               plain_values (codes "probe") probe_rules options streams words w read (probe cycles net path streams)
               (probe_valued (number_taken cycles_range n) net path cycles (streams_met (rows_for options streams)) streams e (words_met probe_rules options streams read.given));
@@ -490,8 +546,10 @@ probe_well cycles net path streams words n (p ∷ q ∷ options) w e plain is = 
 -- words in the plainest form of a command are a command, and have its values
 pub well : (v : CommandValues) (words : List Text) → IsWritten v words → IsWell v words
 well (compile contexts starts) words w = compile_well contexts starts words w.0 w.1 w.2
-well (simulate cycles streams) words w = driven_well (codes "simulate") simulate cycles streams words (λ n plain. simulate_read n streams plain) (λ rows. refl) refl w
-well (eval cycles streams) words w = driven_well (codes "eval") eval cycles streams words (λ n plain. eval_read n streams plain) (λ rows. refl) refl w
+well (simulate cycles streams) words w =
+    driven_well (codes "simulate") cycles_range simulate cycles streams words (λ n plain. simulate_read n streams plain) (λ n. refl) (λ n e. driven_ranges n streams e) (λ rows. refl) refl w
+well (eval cycles streams) words w =
+    driven_well (codes "eval") cycles_range eval cycles streams words (λ n plain. eval_read n streams plain) (λ n. refl) (λ n e. driven_ranges n streams e) (λ rows. refl) refl w
 well (probe cycles net path streams) words w = probe_well cycles net path streams words w.0 w.1 w.2 w.3 w.4 w.5
 well (window view streams) words p =
     let g = p.0 in
@@ -506,7 +564,7 @@ well (window view streams) words p =
     let viewed = five (number_taken generation_range g) (number_taken x_range x) (number_taken y_range y) (number_taken width_range w) (number_taken height_range h) view p.6 p.7 p.8 p.9 p.10 in
     record {
       command = λ short. plain_command (codes "window") window_rules options streams words p.5 read short
-          (window_ranges (codes "window") g x y w h streams (is_written _ view.generation p.6) (is_written _ view.x p.7) (is_written _ view.y p.8) (is_written _ view.width p.9) (is_written _ view.height p.10))
+          (window_ranges g x y w h streams (is_written _ view.generation p.6) (is_written _ view.x p.7) (is_written _ view.y p.8) (is_written _ view.width p.9) (is_written _ view.height p.10))
           (not_compile (codes "window") (rows_for options streams) refl);
       values =
           plain_values (codes "window") window_rules options streams words p.5 read (window view streams)
@@ -518,7 +576,7 @@ well (make seed size) words p =
     let options = (codes "seed", s) ∷ (codes "size", k) ∷ [] in
     let read = make_read s k (number_plain seed_range s seed p.3) (number_plain size_range k size p.4) in
     record {
-      command = λ short. plain_command (codes "make") make_rules options [] words p.2 read short (make_ranges (codes "make") s k (is_written _ seed p.3) (is_written _ size p.4))
+      command = λ short. plain_command (codes "make") make_rules options [] words p.2 read short (make_ranges s k (is_written _ seed p.3) (is_written _ size p.4))
           (not_compile (codes "make") (rows_for options []) refl);
       values =
           plain_values (codes "make") make_rules options [] words p.2 read (make seed size)
@@ -532,9 +590,18 @@ well (self_ seed size cycles) words p =
     let read = self_read s k n (number_plain seed_range s seed p.4) (number_plain size_range k size p.5) (number_plain cycles_range n cycles p.6) in
     record {
       command = λ short. plain_command (codes "self") self_rules options [] words p.3 read short
-          (self_ranges (codes "self") s k n (is_written _ seed p.4) (is_written _ size p.5) (is_written _ cycles p.6))
+          (self_ranges s k n (is_written _ seed p.4) (is_written _ size p.5) (is_written _ cycles p.6))
           (not_compile (codes "self") (rows_for options []) refl);
       values =
           plain_values (codes "self") self_rules options [] words p.3 read (self_ seed size cycles)
           (three (λ a b c. self_ a b c) (number_taken seed_range s) (number_taken size_range k) (number_taken cycles_range n) seed size cycles p.4 p.5 p.6);
     }
+well (tape cycles streams) words w =
+    driven_well (codes "tape") tape_cycles_range tape cycles streams words (λ n plain. tape_read n streams plain) (λ n. refl) (λ n e. tape_ranges n streams e) (λ rows. refl) refl w
+well aiger words p = record {
+  command = λ short. plain_command (codes "aiger") aiger_rules [] [] words p aiger_read short (tt, (tt, (tt, (tt, (tt, (tt, (tt, (tt, (tt, tt)))))))))
+      (not_compile (codes "aiger") [] refl);
+  values = plain_values (codes "aiger") aiger_rules [] [] words p aiger_read aiger refl;
+}
+well (vcd cycles streams) words w =
+    driven_well (codes "vcd") cycles_range vcd cycles streams words (λ n plain. vcd_read n streams plain) (λ n. refl) (λ n e. driven_ranges n streams e) (λ rows. refl) refl w

@@ -25,7 +25,7 @@ with_required a (name ∷ names) = with_required (with_rule a (required_option n
 abbrev pub compile_app : App
 compile_app = with_rule (with_rule (new_app (codes "compile")) (free_option (codes "contexts"))) stream_words
 
--- `simulate` or `eval`, by its name
+-- `simulate`, `eval`, `vcd` or `tape`, by its name
 abbrev pub driven_app : Text → App
 driven_app name = with_rule (with_required (new_app name) (codes "cycles" ∷ [])) stream_words
 
@@ -44,6 +44,9 @@ make_app = with_required (new_app (codes "make")) (codes "seed" ∷ codes "size"
 
 abbrev pub self_app : App
 self_app = with_required (new_app (codes "self")) (codes "seed" ∷ codes "size" ∷ codes "cycles" ∷ [])
+
+abbrev pub aiger_app : App
+aiger_app = new_app (codes "aiger")
 
 -- the program, which has neither a help nor a version of clap's own
 abbrev pub bare_app : App
@@ -64,4 +67,5 @@ with_subcommands a (sub ∷ subs) = with_subcommands (with_subcommand a sub.top)
 abbrev pub blifww_app : App
 blifww_app =
     with_subcommands bare_app
-    (compile_app ∷ driven_app (codes "simulate") ∷ driven_app (codes "eval") ∷ probe_app ∷ window_app ∷ make_app ∷ self_app ∷ [])
+    (compile_app ∷ driven_app (codes "simulate") ∷ driven_app (codes "eval") ∷ probe_app ∷ window_app ∷ make_app ∷ self_app ∷ driven_app (codes "tape")
+    ∷ aiger_app ∷ driven_app (codes "vcd") ∷ [])

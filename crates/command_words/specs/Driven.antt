@@ -1,10 +1,11 @@
 -- What the commands are read as.
 use Rattle.std.specs.Prelude.{◌≡◌, ⊤, ℕ, List, Option, Some, None, Ok, Err, Result}
 use Rattle.clap.specs.Walk.{Text}
-use Rattle.command_words.specs.Shapes.{CommandValues, HasNumbersInRange, values_of, simulate, eval}
+use Rattle.command_words.specs.Numbers.{NumberRange, cycles_range, tape_cycles_range}
+use Rattle.command_words.specs.Shapes.{CommandValues, HasNumbersInRange, values_of, simulate, eval, tape, vcd}
 use Rattle.command_words.specs.declared.command.Command.{Command}
 use Rattle.command_words.specs.declared.command.Driven.{Driven}
-use Rattle.command_words.specs.declared.command.Driven.TheVariants.{Simulate, Eval}
+use Rattle.command_words.specs.declared.command.Driven.TheVariants.{Simulate, Eval, Tape, Vcd}
 use Rattle.command_words.specs.declared.error.WordsError.{WordsError}
 use Rattle.command_words.specs.declared.error.WordsError.TheVariants.{Usage, NoMemory}
 
@@ -12,6 +13,13 @@ use Rattle.command_words.specs.declared.error.WordsError.TheVariants.{Usage, NoM
 abbrev pub values_by : Driven → ℕ → List Text → CommandValues
 values_by Simulate cycles streams = simulate cycles streams
 values_by Eval cycles streams = eval cycles streams
+values_by Tape cycles streams = tape cycles streams
+values_by Vcd cycles streams = vcd cycles streams
+
+-- the numbers of cycles that it takes
+abbrev pub range_of : Driven → NumberRange
+range_of Tape = tape_cycles_range
+range_of _ = cycles_range
 
 -- a command has the values that were met, with numbers in their ranges, and where words are refused as none there are no values
 abbrev pub Reads : Option CommandValues → Result Command WordsError → Type 0

@@ -2,6 +2,7 @@
 use Rattle.std.specs.Prelude.{◌≤◌, ℕ, Bool, ◌&&◌, nat_le, if◌then◌else◌, List, [], ◌∷◌, Option, Some, None, false, codes}
 use Rattle.std.specs.List.{list_all}
 use Rattle.std.specs.Char.{is_ascii_digit}
+use Rattle.std.specs.Str.{bytes_eq}
 use Rattle.std.specs.Str.Parse.{digits_value}
 
 -- one or more decimal digits, and no sign
@@ -29,6 +30,10 @@ number_taken range text = number_between range.least range.most text
 abbrev pub cycles_range : NumberRange
 cycles_range = record { name = codes "cycles"; least = 1; most = 1048576 }
 
+-- `tape` takes fewer cycles than the others
+abbrev pub tape_cycles_range : NumberRange
+tape_cycles_range = record { name = codes "cycles"; least = 1; most = 4096 }
+
 abbrev pub generation_range : NumberRange
 generation_range = record { name = codes "gen"; least = 0; most = 4294967296 }
 
@@ -53,10 +58,14 @@ size_range = record { name = codes "size"; least = 1; most = 128 }
 abbrev pub contexts_range : NumberRange
 contexts_range = record { name = codes "contexts"; least = 1; most = 4294967295 }
 
--- the options that take numbers
+-- the options of the commands but `tape` that take numbers
 abbrev pub number_ranges : List NumberRange
 number_ranges =
     cycles_range ∷ generation_range ∷ x_range ∷ y_range ∷ width_range ∷ height_range ∷ seed_range ∷ size_range ∷ contexts_range ∷ []
+
+-- the options of a command of this name that take numbers
+abbrev pub ranges_of : List ℕ → List NumberRange
+ranges_of command = if bytes_eq command (codes "tape") then tape_cycles_range ∷ [] else number_ranges
 
 -- the option takes this number
 abbrev pub TakesNumber : NumberRange → ℕ → Type 0

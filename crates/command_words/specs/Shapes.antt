@@ -7,10 +7,10 @@ use Rattle.clap.specs.Simple.{subcommand_of}
 use Rattle.clap.specs.Takes.{takes}
 use Rattle.clap.specs.Faults.{fault_of}
 use Rattle.command_words.specs.App.{blifww_app}
-use Rattle.command_words.specs.Numbers.{NumberRange, number_taken, number_ranges, TakesNumber, cycles_range, generation_range, x_range, y_range, width_range, height_range, seed_range, size_range, contexts_range}
+use Rattle.command_words.specs.Numbers.{NumberRange, number_taken, ranges_of, TakesNumber, cycles_range, tape_cycles_range, generation_range, x_range, y_range, width_range, height_range, seed_range, size_range, contexts_range}
 use Rattle.command_words.specs.declared.command.View.{View}
 use Rattle.command_words.specs.declared.command.Command.{Command}
-use Rattle.command_words.specs.declared.command.Command.TheVariants.{Compile, Simulate, Eval, Probe, Window, Make, Self_}
+use Rattle.command_words.specs.declared.command.Command.TheVariants.{Compile, Simulate, Eval, Probe, Window, Make, Self_, Tape, Aiger, Vcd}
 
 -- a command with its values, of which the words that give the streams, or the start states of contexts, stand last
 pub data CommandValues : Type 0 where
@@ -21,6 +21,9 @@ pub data CommandValues : Type 0 where
   window : View → (streams : List Text) → CommandValues
   make : (seed size : ℕ) → CommandValues
   self_ : (seed size cycles : ℕ) → CommandValues
+  tape : (cycles : ℕ) → (streams : List Text) → CommandValues
+  aiger : CommandValues
+  vcd : (cycles : ℕ) → (streams : List Text) → CommandValues
 
 abbrev pub values_of : Command → CommandValues
 values_of (Compile contexts starts) = compile contexts (map string_bytes starts)
@@ -30,6 +33,9 @@ values_of (Probe cycles net path streams) = probe cycles (string_bytes net) (str
 values_of (Window view streams) = window view (map string_bytes streams)
 values_of (Make seed size) = make seed size
 values_of (Self_ seed size cycles) = self_ seed size cycles
+values_of (Tape cycles streams) = tape cycles (map string_bytes streams)
+values_of Aiger = aiger
+values_of (Vcd cycles streams) = vcd cycles (map string_bytes streams)
 
 -- each number of the view is one that its option takes
 abbrev pub HasViewInRange : View → Type 0
@@ -46,6 +52,9 @@ HasNumbersInRange (probe cycles net path streams) = TakesNumber cycles_range cyc
 HasNumbersInRange (window view streams) = HasViewInRange view
 HasNumbersInRange (make seed size) = TakesNumber seed_range seed × TakesNumber size_range size
 HasNumbersInRange (self_ seed size cycles) = TakesNumber seed_range seed × TakesNumber size_range size × TakesNumber cycles_range cycles
+HasNumbersInRange (tape cycles streams) = TakesNumber tape_cycles_range cycles
+HasNumbersInRange aiger = ⊤
+HasNumbersInRange (vcd cycles streams) = TakesNumber cycles_range cycles
 
 -- the number that the matches give an option, where it is in its range
 abbrev pub number_met : NumberRange → List Row → Option ℕ
@@ -69,8 +78,8 @@ contexts_met rows = contexts_by (first_of contexts_range.name rows) (streams_met
 abbrev pub compile_by : List Row → Option CommandValues
 compile_by rows = option_map (λ contexts. compile contexts (streams_met rows)) (contexts_met rows)
 
-abbrev pub simulate_or_eval_by : (ℕ → List Text → CommandValues) → List Row → Option CommandValues
-simulate_or_eval_by command rows = option_map (λ cycles. command cycles (streams_met rows)) (number_met cycles_range rows)
+abbrev pub driven_command_by : NumberRange → (ℕ → List Text → CommandValues) → List Row → Option CommandValues
+driven_command_by range command rows = option_map (λ cycles. command cycles (streams_met rows)) (number_met range rows)
 
 abbrev pub probe_by : List Row → Option CommandValues
 probe_by rows =
@@ -98,12 +107,15 @@ self_by rows =
 abbrev pub values_by_name : Text → List Row → Option CommandValues
 values_by_name name rows =
     if bytes_eq name (codes "compile") then compile_by rows
-    else if bytes_eq name (codes "simulate") then simulate_or_eval_by simulate rows
-    else if bytes_eq name (codes "eval") then simulate_or_eval_by eval rows
+    else if bytes_eq name (codes "simulate") then driven_command_by cycles_range simulate rows
+    else if bytes_eq name (codes "eval") then driven_command_by cycles_range eval rows
     else if bytes_eq name (codes "probe") then probe_by rows
     else if bytes_eq name (codes "window") then window_by rows
     else if bytes_eq name (codes "make") then make_by rows
     else if bytes_eq name (codes "self") then self_by rows
+    else if bytes_eq name (codes "tape") then driven_command_by tape_cycles_range tape rows
+    else if bytes_eq name (codes "aiger") then Some aiger
+    else if bytes_eq name (codes "vcd") then driven_command_by cycles_range vcd rows
     else None
 
 abbrev pub values_met : Option (Text × List Row) → Option CommandValues
@@ -113,13 +125,13 @@ values_met = option_and_then (λ met. values_by_name met.0 met.1)
 abbrev pub command_values : List Text → Option CommandValues
 command_values words = values_met (subcommand_of blifww_app words)
 
--- the text that clap's matches give an option of this name
-abbrev pub text_met : Text → Option (Text × List Row) → Option Text
-text_met name = option_and_then (λ met. first_of name met.1)
+-- each number that the rows give an option of these is in its range
+abbrev pub AreInRanges : List NumberRange → List Row → Type 0
+AreInRanges ranges rows = AllByRecursion (λ range. IfSome (first_of range.name rows) (λ text. is_some (number_taken range text) ≡ true)) ranges
 
--- each number that the matches give is in its range
+-- each number that the matches give the command is in its range
 abbrev pub MeetsRanges : Option (Text × List Row) → Type 0
-MeetsRanges met = AllByRecursion (λ range. IfSome (text_met range.name met) (λ text. is_some (number_taken range text) ≡ true)) number_ranges
+MeetsRanges met = IfSome met (λ met. AreInRanges (ranges_of met.0) met.1)
 
 -- words of `compile` stand beside a number of contexts alone
 abbrev pub MeetsContexts : Option (Text × List Row) → Type 0
@@ -169,9 +181,9 @@ GivesContexts [] contexts starts = (contexts ≡ 1) × (starts ≡ [])
 GivesContexts (given ∷ []) contexts starts = (given.0 ≡ codes "contexts") × Writes contexts_range given.1 contexts
 GivesContexts _ contexts starts = ⊥
 
--- `simulate` or `eval`
-abbrev pub IsSimulateOrEval : Text → ℕ → List Text → List Text → Type 0
-IsSimulateOrEval command cycles streams words = (n : Text) × IsPlain command ((codes "cycles", n) ∷ []) streams words × Writes cycles_range n cycles
+-- `simulate`, `eval`, `vcd` or `tape`, with the range of its cycles
+abbrev pub IsDrivenCommand : Text → NumberRange → ℕ → List Text → List Text → Type 0
+IsDrivenCommand command range cycles streams words = (n : Text) × IsPlain command ((codes "cycles", n) ∷ []) streams words × Writes range n cycles
 
 -- The plainest form of a command with these values: the program's name, the command's, its options in the order of the
 -- table, each as two words with numbers in digits and in their ranges, and then its words. Of `probe` the path may be
@@ -179,8 +191,8 @@ IsSimulateOrEval command cycles streams words = (n : Text) × IsPlain command ((
 abbrev pub IsWritten : CommandValues → List Text → Type 0
 IsWritten (compile contexts starts) words =
     (options : List (Text × Text)) × IsPlain (codes "compile") options starts words × GivesContexts options contexts starts
-IsWritten (simulate cycles streams) words = IsSimulateOrEval (codes "simulate") cycles streams words
-IsWritten (eval cycles streams) words = IsSimulateOrEval (codes "eval") cycles streams words
+IsWritten (simulate cycles streams) words = IsDrivenCommand (codes "simulate") cycles_range cycles streams words
+IsWritten (eval cycles streams) words = IsDrivenCommand (codes "eval") cycles_range cycles streams words
 IsWritten (probe cycles net path streams) words =
     (n : Text) × (options : List (Text × Text)) × IsPlain (codes "probe") ((codes "cycles", n) ∷ (codes "net", net) ∷ options) streams words
     × Writes cycles_range n cycles × (is_plain_word net ≡ true) × GivesPath options path
@@ -194,3 +206,6 @@ IsWritten (make seed size) words =
 IsWritten (self_ seed size cycles) words =
     (s k n : Text) × IsPlain (codes "self") ((codes "seed", s) ∷ (codes "size", k) ∷ (codes "cycles", n) ∷ []) [] words
     × Writes seed_range s seed × Writes size_range k size × Writes cycles_range n cycles
+IsWritten (tape cycles streams) words = IsDrivenCommand (codes "tape") tape_cycles_range cycles streams words
+IsWritten aiger words = IsPlain (codes "aiger") [] [] words
+IsWritten (vcd cycles streams) words = IsDrivenCommand (codes "vcd") cycles_range cycles streams words

@@ -4,9 +4,9 @@ ghost use Rattle.clap.specs.Simple.{subcommand_rows_of};
 ghost use Rattle.clap.specs.Lexer.{usize_max};
 ghost use Rattle.clap.specs.Walk.{first_of, rows_of};
 ghost use Rattle.clap.specs.Words.{found_of};
-ghost use Rattle.command_words.specs.Driven.{Reads, values_by};
-ghost use Rattle.command_words.specs.Numbers.{TakesNumber, contexts_range, cycles_range, seed_range, size_range};
-ghost use Rattle.command_words.specs.Shapes.{CommandValues, HasNumbersInRange, HasViewInRange, IsCommand, IsTaken, IsWritten, command_values, compile_by, contexts_met, simulate_or_eval_by, make_by, number_met, probe_by, self_by, streams_met, values_met, values_of, view_met, window_by};
+ghost use Rattle.command_words.specs.Driven.{Reads, range_of, values_by};
+ghost use Rattle.command_words.specs.Numbers.{TakesNumber, contexts_range, cycles_range, seed_range, size_range, tape_cycles_range};
+ghost use Rattle.command_words.specs.Shapes.{CommandValues, HasNumbersInRange, HasViewInRange, IsCommand, IsTaken, IsWritten, command_values, compile_by, contexts_met, driven_command_by, make_by, number_met, probe_by, self_by, streams_met, values_met, values_of, view_met, window_by};
 
 use crate::WordsError;
 use crate::numbers::number_between;
@@ -63,6 +63,15 @@ pub enum Command {
         size: u32,
         cycles: usize,
     },
+    Tape {
+        cycles: usize,
+        streams: List<String>,
+    },
+    Aiger,
+    Vcd {
+        cycles: usize,
+        streams: List<String>,
+    },
 }
 
 // A command that is driven by streams.
@@ -70,16 +79,33 @@ pub enum Command {
 enum Driven {
     Simulate,
     Eval,
+    Tape,
+    Vcd,
 }
 
 impl Driven {
+    // How many cycles the options give it.
+    fn cycles_in(self, found: &ArgMatches<'_>) -> Option<usize>
+        ensures value { result ≡ number_met (range_of self) (rows_of (found_of found.now)) }
+        ensures bounds { IfSome result (TakesNumber (range_of self)) }
+    {
+        match self {
+            Driven::Tape => tape_cycles_in(found),
+            Driven::Simulate | Driven::Eval | Driven::Vcd => cycles_in(found),
+        }
+    }
+
     // The command with its values.
     fn with(self, cycles: usize, streams: List<String>) -> Command
-        ensures { values_of result ≡ values_by self cycles (map string_bytes streams) }
+        requires { TakesNumber (range_of self) cycles }
+        ensures values { values_of result ≡ values_by self cycles (map string_bytes streams) }
+        ensures numbers { HasNumbersInRange (values_of result) }
     {
         match self {
             Driven::Simulate => Command::Simulate { cycles, streams },
             Driven::Eval => Command::Eval { cycles, streams },
+            Driven::Tape => Command::Tape { cycles, streams },
+            Driven::Vcd => Command::Vcd { cycles, streams },
         }
     }
 }
@@ -122,6 +148,13 @@ fn cycles_in(found: &ArgMatches<'_>) -> Option<usize>
     ensures bounds { IfSome result (TakesNumber cycles_range) }
 {
     Some(number_in(found, "cycles", 1, 1_048_576)? as usize)
+}
+
+fn tape_cycles_in(found: &ArgMatches<'_>) -> Option<usize>
+    ensures value { result ≡ number_met tape_cycles_range (rows_of (found_of found.now)) }
+    ensures bounds { IfSome result (TakesNumber tape_cycles_range) }
+{
+    Some(number_in(found, "cycles", 1, 4_096)? as usize)
 }
 
 fn seed_in(found: &ArgMatches<'_>) -> Option<u32>
@@ -185,9 +218,9 @@ fn compile_in(alloc: Global, found: &ArgMatches<'_>) -> Result<Command, WordsErr
 }
 
 fn driven_in(alloc: Global, driven: Driven, found: &ArgMatches<'_>) -> Result<Command, WordsError>
-    ensures { Reads (simulate_or_eval_by (values_by driven) (rows_of (found_of found.now))) result }
+    ensures { Reads (driven_command_by (range_of driven) (values_by driven) (rows_of (found_of found.now))) result }
 {
-    let cycles = cycles_in(found).ok_or(WordsError::Usage)?;
+    let cycles = driven.cycles_in(found).ok_or(WordsError::Usage)?;
     let streams = streams_in(alloc, found)?;
     Ok(driven.with(cycles, streams))
 }
@@ -246,6 +279,9 @@ fn command_in(alloc: Global, found: &ArgMatches<'_>) -> Result<Command, WordsErr
         Some(("window", inner)) => window_in(alloc, inner),
         Some(("make", inner)) => make_in(inner),
         Some(("self", inner)) => self_in(inner),
+        Some(("tape", inner)) => driven_in(alloc, Driven::Tape, inner),
+        Some(("aiger", _)) => Ok(Command::Aiger),
+        Some(("vcd", inner)) => driven_in(alloc, Driven::Vcd, inner),
         _ => Err(WordsError::Usage),
     }
 }
@@ -260,10 +296,11 @@ fn length_fits(words: &[String])
 /// The command that the words of a command line ask for. The first word is the program's name, and after it stands one
 /// of `compile [--contexts C word..]`, `simulate --cycles N word..`, `eval --cycles N word..`, `probe --cycles N --net
 /// NAME [--path PATH] word..`, `window --gen G --x X --y Y --width W --height H word..`, `make --seed S --size K`,
-/// `self --seed S --size K --cycles N`. Numbers are in decimal digits, with or without leading zeros: C from 1 to
-/// 4,294,967,295, N from 1 to 1,048,576, G to 4,294,967,296, X and Y to 4,294,967,295, W and H from 1 to 4,096, S to
-/// 2,147,483,647, K from 1 to 128. `Usage` comes only where the words are no command, and each other answer but
-/// `NoMemory` only where they have its values.
+/// `self --seed S --size K --cycles N`, `tape --cycles N word..`, `aiger`, `vcd --cycles N word..`. Numbers are in
+/// decimal digits, with or without leading zeros: C from 1 to 4,294,967,295, N from 1 to 1,048,576, but of `tape` to
+/// 4,096, G to 4,294,967,296, X and Y to 4,294,967,295, W and H from 1 to 4,096, S to 2,147,483,647, K from 1 to 128.
+/// `Usage` comes only where the words are no command, and each other answer but `NoMemory` only where they have its
+/// values.
 pub fn command_of(alloc: Global, words: &[String]) -> Result<Command, WordsError>
     ensures ok { IfOk result (λ c. command_values (map string_bytes words.now) ≡ Some (values_of c)) }
     ensures taken { OnOk result (IsTaken (map string_bytes words.now)) }

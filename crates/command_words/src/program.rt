@@ -4,7 +4,7 @@ ghost use Rattle.clap.specs.Simple.{App, with_subcommand};
 ghost use Rattle.clap.specs.Words.{app_of};
 ghost use Rattle.clap.specs.declared.builder.command.Command.TheViews.{out-Command as fields_of};
 ghost use Rattle.command_words.specs.App.{bare_app, blifww_app};
-ghost use Rattle.command_words.specs.Program.{first_app};
+ghost use Rattle.command_words.specs.Program.{first_app, older_app};
 
 use crate::app::{compile_command, driven_command, probe_command, window_command, with_options};
 use clap::Command;
@@ -44,9 +44,9 @@ fn first_commands<'a>(alloc: Global) -> Result<Command<'a>, AllocError>
     with_command(second, driven_command(alloc, "eval"))
 }
 
-/// The program's command line, with one subcommand for each command.
-pub fn blifww_command<'a>(alloc: Global) -> Result<Command<'a>, AllocError>
-    ensures { IfOk result (λ c. app_of c ≡ blifww_app) }
+// The program with these and `probe`, `window`, `make` and `self`.
+fn older_commands<'a>(alloc: Global) -> Result<Command<'a>, AllocError>
+    ensures { IfOk result (λ c. app_of c ≡ older_app) }
 {
     let first = first_commands(alloc)?;
     let second = with_command(first, probe_command(alloc))?;
@@ -54,4 +54,14 @@ pub fn blifww_command<'a>(alloc: Global) -> Result<Command<'a>, AllocError>
     let fourth = with_command(third, with_options(alloc, "make", &["seed", "size"]))?;
     let last = with_options(alloc, "self", &["seed", "size", "cycles"]);
     with_command(fourth, last)
+}
+
+/// The program's command line, with one subcommand for each command.
+pub fn blifww_command<'a>(alloc: Global) -> Result<Command<'a>, AllocError>
+    ensures { IfOk result (λ c. app_of c ≡ blifww_app) }
+{
+    let older = older_commands(alloc)?;
+    let taped = with_command(older, driven_command(alloc, "tape"))?;
+    let last = with_command(taped, with_options(alloc, "aiger", &[]))?;
+    with_command(last, driven_command(alloc, "vcd"))
 }

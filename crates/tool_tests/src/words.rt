@@ -15,6 +15,9 @@ enum Asked {
     Window(View, &'static [&'static str]),
     Make(u32, u32),
     OfMade(u32, u32, usize),
+    Tape(usize, &'static [&'static str]),
+    Aiger,
+    Vcd(usize, &'static [&'static str]),
 }
 
 const CASES: &[(&[&str], Asked)] = &[
@@ -152,6 +155,22 @@ const CASES: &[(&[&str], Asked)] = &[
         ],
         Asked::OfMade(1, 2, 4),
     ),
+    (
+        &["blifww", "tape", "--cycles", "4096", "a=01"],
+        Asked::Tape(4096, &["a=01"]),
+    ),
+    (&["blifww", "tape", "--cycles", "4097"], Asked::Usage),
+    (&["blifww", "tape", "--cycles", "0"], Asked::Usage),
+    (&["blifww", "tape"], Asked::Usage),
+    (&["blifww", "aiger"], Asked::Aiger),
+    (&["blifww", "aiger", "x"], Asked::Usage),
+    (&["blifww", "aiger", "--cycles", "1"], Asked::Usage),
+    (
+        &["blifww", "vcd", "--cycles", "1048576", "a=01"],
+        Asked::Vcd(1_048_576, &["a=01"]),
+    ),
+    (&["blifww", "vcd", "--cycles", "0"], Asked::Usage),
+    (&["blifww", "vcd", "a=01"], Asked::Usage),
     (&["blifww", "--help"], Asked::Usage),
     (&["blifww", "-h"], Asked::Usage),
     (&["blifww", "help"], Asked::Usage),
@@ -171,7 +190,9 @@ fn is_asked(command: &Command, asked: Asked) -> bool {
             *contexts == count && are_words(starts.as_slice(), words)
         }
         (Command::Simulate { cycles, streams }, Asked::Simulate(count, words))
-        | (Command::Eval { cycles, streams }, Asked::Eval(count, words)) => {
+        | (Command::Eval { cycles, streams }, Asked::Eval(count, words))
+        | (Command::Tape { cycles, streams }, Asked::Tape(count, words))
+        | (Command::Vcd { cycles, streams }, Asked::Vcd(count, words)) => {
             *cycles == count && are_words(streams.as_slice(), words)
         }
         (
@@ -196,6 +217,7 @@ fn is_asked(command: &Command, asked: Asked) -> bool {
         (Command::Self_ { seed, size, cycles }, Asked::OfMade(first, count, many)) => {
             *seed == first && *size == count && *cycles == many
         }
+        (Command::Aiger, Asked::Aiger) => true,
         _ => false,
     }
 }

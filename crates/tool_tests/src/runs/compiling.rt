@@ -14,20 +14,19 @@ fn words_of(
     Ok(words)
 }
 
-/// The pattern that `compile` writes of a netlist.
-pub fn compiled(alloc: Global, text: &[u8]) -> Result<Vec<u8>, Fail> {
-    let got = run_over(
-        alloc,
-        &["blifww", "compile"],
-        text,
-        (4096, &[]),
-        (1 << 20, 0),
-    )?;
+/// The pattern that a command writes of a text.
+pub fn written(alloc: Global, command: &[&str], text: &[u8]) -> Result<Vec<u8>, Fail> {
+    let got = run_over(alloc, command, text, (4096, &[]), (1 << 20, 0))?;
     if got.status == 0 {
         Ok(got.out)
     } else {
-        Err(Fail::new("the netlist is not compiled"))
+        Err(Fail::new("no pattern is written"))
     }
+}
+
+/// The pattern that `compile` writes of a netlist.
+pub fn compiled(alloc: Global, text: &[u8]) -> Result<Vec<u8>, Fail> {
+    written(alloc, &["blifww", "compile"], text)
 }
 
 const COUNTER: &[u8] =
@@ -101,8 +100,8 @@ const SHOWN: &[(&[u8], &[&str], &[u8])] = &[
     ),
 ];
 
-// Fails where a command with a number of cycles and streams prints something else.
-fn expect_shown(
+/// Fails where a command with a number of cycles and streams prints something else.
+pub fn expect_shown(
     alloc: Global,
     command: &'static str,
     words: &[&'static str],

@@ -49,6 +49,7 @@ fn a_netlist_shows_its_run(rt: HostRuntime) -> Result<(), Fail> {
 const REFUSED_TEXTS: &[(&[u8], u8, &[u8])] = &[
     (b"", 1, b"B22 NoModel line 1: -\n"),
     (b".inputs a\n", 1, b"B1 NoModelYet line 1: .inputs\n"),
+    (b"aag 0 0 0 0 0\n", 1, b"B1 NoModelYet line 1: aag\n"),
     (
         b".model m\n.end\n.names y\n",
         1,

@@ -1,6 +1,7 @@
 // Reads and writes that fail, one after another, for each command.
 ghost use Rattle.std.specs.Prelude.{◌≤◌};
 
+use crate::runs::circuits::NAND;
 use crate::runs::{GATE, PATTERN, USAGE, expect_run_over, run_over, strings_of};
 use blifww_tool::run;
 use std::alloc::Global;
@@ -61,6 +62,9 @@ const COMMANDS: &[(&[&str], &[u8])] = &[
         ],
         PATTERN,
     ),
+    (&["blifww", "tape", "--cycles", "1", "a=0"], INVERTER),
+    (&["blifww", "aiger"], NAND),
+    (&["blifww", "vcd", "--cycles", "1", "a=0", "b=1"], PATTERN),
 ];
 
 #[test]
@@ -76,7 +80,7 @@ fn each_command_tells_what_failed(rt: HostRuntime) -> Result<(), Fail> {
     expect_run_over(rt.alloc(), &["blifww"], b"", (16, &[]), (99, 0), silent)
 }
 
-// The numbers of calls of a sink that takes 7 bytes at a time: the usage line takes 9 of them.
+// The numbers of calls of a sink that takes 7 bytes at a time: the usage line takes fewer of them.
 const CALLS: &[u64] = &[0, 1, 2, 3, 4, 5, 6, 7, 8, 9, 10, 11];
 
 // Fails where a run calls a sink again that has failed. Each call of `out` from this number on fails, and so does each one of `err`.
@@ -112,5 +116,5 @@ fn a_sink_that_failed_is_not_called_again(rt: HostRuntime) -> Result<(), Fail> {
     }
     // All calls fail: the first one on each sink is its last.
     expect_failures(alloc, COMPILE, (0, 0), (6, 1, 1, 0, 0))?;
-    expect_failures(alloc, &["blifww"], (0, 9), (2, 0, 0, 0, USAGE.len()))
+    expect_failures(alloc, &["blifww"], (0, 11), (2, 0, 0, 0, USAGE.len()))
 }

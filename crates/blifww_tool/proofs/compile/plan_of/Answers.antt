@@ -33,3 +33,6 @@ returns-clause-carried c =
     let p = c.in_ok-planned.ensures in
     carried_by c.flat_is_one.ensures c.designs_are_carried.ensures c.args.netlist.now.design c.args.netlist.now.flat _ c.in_ok-planned.planned.plan c.in_ok-planned.planned.ports c.requires.parts
     p.admissible p.edges p.table p.cells p.lanes p.places p.carries p.small p.period
+
+pub returns-clause-bare : goal.returns-clause-bare
+returns-clause-bare c = c.in_ok-planned.ensures.bare

@@ -1,5 +1,5 @@
 use Rattle.std.proofs.Common.{refl}
-use Rattle.blifww_tool.proofs.Headline.{headline, in_contexts}
+use Rattle.blifww_tool.proofs.Headline.{aigs, dumps, headline, in_contexts, tapes}
 use Rattle.blifww_tool.proofs.Ended.{done, told, untold, ends}
 use Rattle.blifww_tool.proofs.Stopped.{kept}
 use Rattle.blifww_tool.proofs.top.run.Goals as goal
@@ -9,6 +9,15 @@ returns-in-Ok-clause-headline g c = λ e asks. headline _ _ _ c.in-Ok.ensures.do
 
 pub returns-in-Ok-clause-contexts : goal.returns-in-Ok-clause-contexts
 returns-in-Ok-clause-contexts g c = λ e contexts starts asks. in_contexts _ _ _ c.in-Ok.ensures.done contexts starts asks
+
+pub returns-in-Ok-clause-aigs : goal.returns-in-Ok-clause-aigs
+returns-in-Ok-clause-aigs g c = λ e asks. aigs _ _ _ c.in-Ok.ensures.done asks
+
+pub returns-in-Ok-clause-dumps : goal.returns-in-Ok-clause-dumps
+returns-in-Ok-clause-dumps g c = λ e cycles streams asks. dumps _ _ _ c.in-Ok.ensures.done cycles streams asks
+
+pub returns-in-Ok-clause-tapes : goal.returns-in-Ok-clause-tapes
+returns-in-Ok-clause-tapes g c = λ e cycles streams asks. tapes _ _ _ c.in-Ok.ensures.done cycles streams asks
 
 pub returns-in-Ok-clause-ends : goal.returns-in-Ok-clause-ends
 returns-in-Ok-clause-ends g c = ends _ 0 (done refl (record { done = c.in-Ok.ensures.done; silent = kept _ })) c.work.ensures.front

@@ -1,20 +1,19 @@
-use Rattle.std.proofs.Common.{ap, refl, ◌≡◌, ◌∙◌}
+use Rattle.std.proofs.Common.{ap, codes, refl, ◌≡◌, ◌∙◌}
 use Rattle.std.proofs.lemmas.Result.{IfOk-weaker}
 use Rattle.clap.specs.Simple.{App, with_subcommand}
-use Rattle.command_words.specs.App.{blifww_app, make_app, probe_app, self_app, window_app}
-use Rattle.command_words.specs.Program.{first_app}
+use Rattle.command_words.specs.App.{aiger_app, blifww_app, driven_app}
+use Rattle.command_words.specs.Program.{older_app}
 use Rattle.command_words.proofs.program.blifww_command.Goals as goal
 
-whole : with_subcommand (with_subcommand (with_subcommand (with_subcommand first_app probe_app.top) window_app.top) make_app.top) self_app.top ≡ blifww_app
+whole : with_subcommand (with_subcommand (with_subcommand older_app (driven_app (codes "tape")).top) aiger_app.top) (driven_app (codes "vcd")).top ≡ blifww_app
 whole = refl
 
 pub returns : goal.returns
 returns c =
-    IfOk-weaker c.with_command-4.result _ _
+    IfOk-weaker c.with_command-3.result _ _
     (λ m h. h
-    ∙ ap (λ (a : App). with_subcommand a self_app.top) (c.in_ok-fourth.ensures make_app c.with_options.ensures.app c.with_options.ensures.plain
-    ∙ ap (λ (a : App). with_subcommand a make_app.top) (c.in_ok-third.ensures window_app c.window_command.ensures.app c.window_command.ensures.plain
-    ∙ ap (λ (a : App). with_subcommand a window_app.top) (c.in_ok-second.ensures probe_app c.probe_command.ensures.app c.probe_command.ensures.plain
-    ∙ ap (λ (a : App). with_subcommand a probe_app.top) c.in_ok-first.ensures)))
+    ∙ ap (λ (a : App). with_subcommand a (driven_app (codes "vcd")).top) (c.in_ok-last.ensures aiger_app c.with_options.ensures.app c.with_options.ensures.plain
+    ∙ ap (λ (a : App). with_subcommand a aiger_app.top) (c.in_ok-taped.ensures (driven_app (codes "tape")) c.driven_command.ensures.app c.driven_command.ensures.plain
+    ∙ ap (λ (a : App). with_subcommand a (driven_app (codes "tape")).top) c.in_ok-older.ensures))
     ∙ whole)
-    (c.with_command-4.ensures self_app c.with_options-last.ensures.app c.with_options-last.ensures.plain)
+    (c.with_command-3.ensures (driven_app (codes "vcd")) c.driven_command-2.ensures.app c.driven_command-2.ensures.plain)

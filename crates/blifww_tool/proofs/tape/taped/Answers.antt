@@ -1,0 +1,74 @@
+use Rattle.std.proofs.Common.{arith, refl, subst}
+use Rattle.std.proofs.lemmas.Result.{err_from_is_err_and}
+use Rattle.flat_designs.proofs.Whole.{flat_is_named}
+use Rattle.grid_assembly.specs.PlanDrawing.{start_grid}
+use Rattle.netlist_core.specs.declared.flat.Flat.{Flat}
+use Rattle.pattern_writing.specs.WrittenText.{pattern_text}
+use Rattle.netlist_text.proofs.SoundParts.{sound, small}
+use Rattle.plan_carries.proofs.SeenNets.{places_fit}
+use Rattle.plan_ports.specs.Tables.{IsTableOf}
+use Rattle.streams.specs.Rows.{rows_of}
+use Rattle.blifww_tool.proofs.tape.taped.Goals as goal
+
+pub plan_of-requires-clause-parts : goal.plan_of-requires-clause-parts
+plan_of-requires-clause-parts c = c.requires.parts
+
+pub plan_of-requires-clause-names : goal.plan_of-requires-clause-names
+plan_of-requires-clause-names c = c.requires.names
+
+pub load_netlist-requires-clause-sound : goal.load_netlist-requires-clause-sound
+load_netlist-requires-clause-sound c = sound c.args.netlist.now.design c.args.netlist.now.flat _ c.requires.parts c.flat_is_sound.ensures
+
+pub load_netlist-requires-clause-ordered : goal.load_netlist-requires-clause-ordered
+load_netlist-requires-clause-ordered c = (c.args.netlist.now.order.nodes, c.requires.parts.is_order)
+
+pub load_netlist-requires-clause-named : goal.load_netlist-requires-clause-named
+load_netlist-requires-clause-named c = flat_is_named c.args.netlist.now.design c.args.netlist.now.flat c.requires.parts.faultless c.requires.parts.is_flat
+
+pub load_netlist-requires-clause-names : goal.load_netlist-requires-clause-names
+load_netlist-requires-clause-names c = c.requires.names
+
+pub load_netlist-requires-clause-places : goal.load_netlist-requires-clause-places
+load_netlist-requires-clause-places c =
+    places_fit c.args.netlist.now.design c.args.netlist.now.flat c.requires.parts.faultless
+    (omega (arith, small c.args.netlist.now.design c.args.netlist.now.flat _ c.requires.parts, c.requires.parts.is_flat.weight)) c.requires.parts.is_flat
+
+pub load_netlist-requires-clause-planned : goal.load_netlist-requires-clause-planned
+load_netlist-requires-clause-planned c = c.in_ok-planned.ensures.planned
+
+pub load_netlist-requires-clause-many : goal.load_netlist-requires-clause-many
+load_netlist-requires-clause-many c = c.requires.many
+
+pub load_netlist-requires-clause-long : goal.load_netlist-requires-clause-long
+load_netlist-requires-clause-long c = c.requires.long
+
+pub load_netlist-requires-clause-some : goal.load_netlist-requires-clause-some
+load_netlist-requires-clause-some c = c.requires.some
+
+pub load_netlist-requires-clause-few : goal.load_netlist-requires-clause-few
+load_netlist-requires-clause-few c = c.requires.few
+
+pub returns-clause-taped : goal.returns-clause-taped
+returns-clause-taped c =
+    let design = c.args.netlist.now.design in
+    let flat = c.args.netlist.now.flat in
+    let parts = c.requires.parts in
+    let machine = c.in_ok-planned.planned in
+    let loaded = c.in_ok-loaded.loaded in
+    record {
+      machine = machine.plan;
+      machine_ports = machine.ports;
+      is_carried = c.in_ok-planned.ensures.carried;
+      bare = c.in_ok-planned.ensures.bare;
+      plan = loaded.plan;
+      ports = loaded.ports;
+      loaded = c.in_ok-loaded.ensures.loaded;
+      admissible = c.in_ok-loaded.ensures.admissible;
+      edges = c.in_ok-loaded.ensures.edges;
+      table = λ other h. subst (λ (f : Flat). IsTableOf f loaded.plan 1 loaded.ports) (c.flat_is_one.ensures design flat other parts.is_flat h) c.in_ok-loaded.ensures.table;
+      written = refl;
+      runs = c.designs_run_by_themselves.ensures (pattern_text (start_grid loaded.plan) loaded.ports) design flat (rows_of c.args.streams.now) parts.faultless parts.clocks parts.is_flat c.in_ok-loaded.ensures.runs;
+    }
+
+pub returns-clause-writable : goal.returns-clause-writable
+returns-clause-writable c = c.in_ok-loaded.ensures.admissible

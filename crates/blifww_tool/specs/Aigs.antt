@@ -1,0 +1,40 @@
+-- What is written of the text of a circuit in AIGER.
+use Rattle.std.specs.Prelude.{ℕ, ◌≡◌, ◌≤◌, List}
+use Rattle.lane_core.specs.declared.plan.Plan.{Plan}
+use Rattle.grid_assembly.specs.PlanDrawing.{start_grid}
+use Rattle.pattern_reading.specs.declared.ports.Ports.{Ports}
+use Rattle.pattern_writing.specs.WrittenText.{pattern_text}
+use Rattle.netlist_core.specs.Limit.{weight_limit}
+use Rattle.aiger_text.specs.declared.aig.Aig.{Aig}
+use Rattle.aiger_text.specs.AigText.{ReadsAsAig, HasAigFault}
+use Rattle.aiger_meaning.specs.declared.error.LowerError.TheVariants as planning
+use Rattle.aiger_meaning.specs.Circuit.{aig_weight}
+use Rattle.aiger_meaning.specs.Loop.{IsAigLoop}
+use Rattle.aiger_meaning.specs.Causes.{HasLowerCause}
+use Rattle.aiger_plans.specs.Planned.{IsPlanOfAig}
+use Rattle.refusals.specs.declared.causes.Cause.{Cause}
+use Rattle.refusals.specs.declared.causes.Cause.TheVariants.{WeightTooLarge, AigAtFault, AigLoop}
+
+-- The text reads as this circuit, whose weight is within the limit, and no gates of which read each other in a circle.
+pub record IsAig (text : List ℕ) (aig : Aig) : Type 0 where
+  pub reads : ReadsAsAig text aig
+  pub light : aig_weight aig ≤ weight_limit
+  pub no_loop : (literals : List ℕ) → ¬ IsAigLoop aig literals
+
+-- The text is a circuit. The output is the written text of a plan and its table, which carries the circuit; the plan is small, by the
+-- circuit's weight.
+pub record CompilesAig (text output : List ℕ) : Type 0 where
+  pub aig : Aig
+  pub is : IsAig text aig
+  pub plan : Plan
+  pub ports : Ports
+  pub is_plan : IsPlanOfAig aig plan ports
+  pub written : output ≡ pattern_text (start_grid plan) ports
+
+-- why the text is no circuit: it is at fault; or it reads as one that is too heavy, or within the limit has gates that read each other
+-- in a circle
+abbrev pub HasNoAig : List ℕ → Cause → Type 0
+HasNoAig text (AigAtFault fault) = HasAigFault text fault
+HasNoAig text (WeightTooLarge told) = (aig : Aig) × ReadsAsAig text aig × HasLowerCause aig (planning.TooLarge told)
+HasNoAig text (AigLoop literals) = (aig : Aig) × ReadsAsAig text aig × HasLowerCause aig (planning.Loop literals)
+HasNoAig text _ = ⊥

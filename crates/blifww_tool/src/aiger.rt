@@ -1,0 +1,24 @@
+// `aiger`: the pattern of a circuit.
+ghost use Rattle.std.specs.Prelude.{IfOk, IfErr};
+ghost use Rattle.command_words.specs.Shapes.{aiger};
+ghost use Rattle.blifww_tool.specs.Answer.{output_text, IsWritableOutput};
+ghost use Rattle.blifww_tool.specs.Commands.{Prints, HasTextCause};
+
+use crate::output::Output;
+use aiger_plans::plan_circuit;
+use aiger_reader::read;
+use aiger_text::laws::read_aigs_are_sound;
+use refusals::TextError;
+use std::alloc::Global;
+
+/// The pattern of the circuit whose AIGER text this is, with the lines that say where its ports are.
+pub fn aiger(alloc: Global, text: &[u8]) -> Result<Output, TextError>
+    ensures printed { IfOk result (λ output. Prints aiger text.now (output_text output)) }
+    ensures writable { IfOk result IsWritableOutput }
+    ensures refused { IfErr result (λ e. HasTextCause aiger text.now e) }
+{
+    let circuit = read(alloc, text)?;
+    read_aigs_are_sound();
+    let planned = plan_circuit(alloc, &circuit)?;
+    Ok(Output::Drawing(planned))
+}

@@ -1,0 +1,60 @@
+// `tape`: the pattern of a netlist with its streams on a tape.
+ghost use Rattle.std.specs.Prelude.{◌≡◌, ◌≤◌, All, map, length, string_bytes, IfOk, IfErr};
+ghost use Rattle.netlist_text.specs.Parts.{AreParts};
+ghost use Rattle.plan_ports.specs.Tables.{HasPortNames};
+ghost use Rattle.command_words.specs.Shapes.{tape};
+ghost use Rattle.blifww_tool.specs.Answer.{output_text, IsWritableOutput};
+ghost use Rattle.blifww_tool.specs.Commands.{Prints, HasTextCause};
+ghost use Rattle.blifww_tool.specs.Taping.{IsTapeOf};
+ghost use Rattle.refusals.specs.declared.causes.TextError.TheVariants.{NoMemory};
+
+use crate::compile::plan_of;
+use crate::eval::streams_for;
+use crate::output::Output;
+use drive::Streams;
+use flat_designs::{flat_is_one, flat_is_sound};
+use netlist_plans::load_netlist;
+use netlist_text::{Netlist, netlist_of};
+use plan_carries::designs_run_by_themselves;
+use refusals::TextError;
+use std::alloc::Global;
+
+// The pattern of a netlist with these streams on its tape.
+fn taped(alloc: Global, netlist: &Netlist, streams: &Streams) -> Result<Output, TextError>
+    requires parts { AreParts netlist.now.design netlist.now.flat netlist.now.order.nodes }
+    requires names { HasPortNames netlist.now.flat }
+    requires many { length streams.now.bits ≡ length netlist.now.flat.ins }
+    requires long { All (λ bits. length bits ≡ streams.now.cycles) streams.now.bits }
+    requires some { 1 ≤ streams.now.cycles }
+    requires few { streams.now.cycles ≤ 4096 }
+    ensures taped { IfOk result (λ output. IsTapeOf netlist.now.design streams.now (output_text output)) }
+    ensures writable { IfOk result IsWritableOutput }
+    ensures refused { IfErr result (λ e. e ≡ NoMemory) }
+{
+    flat_is_sound();
+    flat_is_one();
+    designs_run_by_themselves();
+    let planned = plan_of(alloc, netlist)?;
+    let loaded = load_netlist(alloc, &netlist.flat, planned.plan, streams)?;
+    Ok(Output::Drawing(loaded))
+}
+
+/// The pattern of the netlist whose text this is, which runs by itself on the streams that the words say for its inputs,
+/// and on zeros after them. Its table names no inputs.
+pub fn tape(
+    alloc: Global,
+    cycles: usize,
+    words: &[String],
+    text: &[u8],
+) -> Result<Output, TextError>
+    requires some_cycle { 1 ≤ cycles }
+    requires few_cycles { cycles ≤ 4096 }
+    ensures printed { IfOk result (λ output.
+        Prints (tape cycles (map string_bytes words.now)) text.now (output_text output)) }
+    ensures writable { IfOk result IsWritableOutput }
+    ensures refused { IfErr result (λ e. HasTextCause (tape cycles (map string_bytes words.now)) text.now e) }
+{
+    let netlist = netlist_of(alloc, text)?;
+    let streams = streams_for(alloc, cycles, words, &netlist)?;
+    taped(alloc, &netlist, &streams)
+}

@@ -1,0 +1,276 @@
+// Why a text gives no output.
+ghost use Rattle.std.specs.Prelude.{◌≡◌};
+
+use aiger_meaning::LowerError;
+use aiger_reader::AigReadError;
+use aiger_text::AigFault;
+use blif_text::Fault;
+use drive::{SimulateError, StreamError, StreamFault};
+use lists::List;
+use made_netlists::MakeError;
+use made_summary::SummaryError;
+use netlist_core::Name;
+use netlist_plans::NetlistPlanError;
+use netlist_run::RunError;
+use netlist_text::NetlistError;
+use port_table::{PortFault, PortReadError};
+use probe_view::WindowError;
+use rle_read::{RleFault, RleReadError};
+use start_words::{StartError, StartFault};
+use std::alloc::AllocError;
+
+/// Why a command refuses a text.
+#[derive(Drop)]
+pub enum Cause {
+    /// The netlist's text breaks a rule.
+    NetlistFault(Fault),
+    /// The netlist, or the circuit, weighs more than the limit.
+    WeightTooLarge { weight: u64 },
+    /// Covers read each other in a circle, whose nets have these names.
+    Loop(List<Name>),
+    /// The circuit's text breaks a rule.
+    AigAtFault(AigFault),
+    /// AND gates read each other in a circle, whose left sides are these literals.
+    AigLoop(List<u64>),
+    /// The text is no pattern's.
+    Pattern(RleFault),
+    /// The pattern's box has more cells than are read.
+    GridTooLarge { width: u64, height: u64 },
+    /// The pattern's port table is at fault.
+    PortTable(PortFault),
+    /// The words say no streams for the inputs.
+    Streams(StreamFault),
+    /// The words say no starts for the latches.
+    StartWord(StartFault),
+    /// No net of the pattern's port table has this name, which is asked for, and the path.
+    NoSuchNet(Name),
+    /// The simulation needs so many generations, which is over the limit.
+    TooFar { generations: u128 },
+    /// The plan has room for `limit` contexts, and more are asked for.
+    TooManyContexts { contexts: u64, limit: u64 },
+    /// An injection is due at this generation and cell, which is no conductor before the injections of that generation.
+    NotQuiet { generation: u64, x: u64, y: u64 },
+}
+
+impl Cause {
+    ghost use Rattle.refusals.specs.Refusals.{status_of_cause};
+
+    /// The exit status.
+    pub fn status(&self) -> u8
+        ensures { result ≡ status_of_cause self.now }
+    {
+        match self {
+            Cause::NetlistFault(_) | Cause::AigAtFault(_) => 1,
+            Cause::Loop(_) | Cause::AigLoop(_) => 3,
+            Cause::WeightTooLarge { .. }
+            | Cause::GridTooLarge { .. }
+            | Cause::TooFar { .. }
+            | Cause::TooManyContexts { .. } => 4,
+            Cause::Pattern(_) | Cause::PortTable(_) => 8,
+            Cause::Streams(_) | Cause::StartWord(_) | Cause::NoSuchNet(_) => 9,
+            Cause::NotQuiet { .. } => 10,
+        }
+    }
+}
+
+/// Why a text gives no output.
+#[derive(Drop)]
+pub enum TextError {
+    Refused(Cause),
+    NoMemory,
+}
+
+impl From<NetlistError> for TextError {
+    ghost use Rattle.refusals.specs.Refusals.{netlist_error};
+
+    ghost from_gives = { λ e r. r ≡ netlist_error e };
+
+    fn from(error: NetlistError) -> Self {
+        match error {
+            NetlistError::Fault(fault) => TextError::Refused(Cause::NetlistFault(fault)),
+            NetlistError::TooLarge { weight } => {
+                TextError::Refused(Cause::WeightTooLarge { weight })
+            }
+            NetlistError::Loop(names) => TextError::Refused(Cause::Loop(names)),
+            NetlistError::NoMemory => TextError::NoMemory,
+        }
+    }
+}
+
+impl From<AigReadError> for TextError {
+    ghost use Rattle.refusals.specs.Refusals.{aig_error};
+
+    ghost from_gives = { λ e r. r ≡ aig_error e };
+
+    fn from(error: AigReadError) -> Self {
+        match error {
+            AigReadError::Fault(fault) => TextError::Refused(Cause::AigAtFault(fault)),
+            AigReadError::NoMemory => TextError::NoMemory,
+        }
+    }
+}
+
+impl From<LowerError> for TextError {
+    ghost use Rattle.refusals.specs.Refusals.{lower_error};
+
+    ghost from_gives = { λ e r. r ≡ lower_error e };
+
+    fn from(error: LowerError) -> Self {
+        match error {
+            LowerError::TooLarge { weight } => {
+                TextError::Refused(Cause::WeightTooLarge { weight })
+            }
+            LowerError::Loop(literals) => TextError::Refused(Cause::AigLoop(literals)),
+            LowerError::NoMemory => TextError::NoMemory,
+        }
+    }
+}
+
+impl From<NetlistPlanError> for TextError {
+    ghost use Rattle.refusals.specs.declared.causes.TextError.TheVariants.{NoMemory};
+
+    ghost from_gives = { λ _ r. r ≡ NoMemory };
+
+    fn from(error: NetlistPlanError) -> Self {
+        match error {
+            NetlistPlanError::NoMemory => TextError::NoMemory,
+        }
+    }
+}
+
+impl From<RunError> for TextError {
+    ghost use Rattle.refusals.specs.declared.causes.TextError.TheVariants.{NoMemory};
+
+    ghost from_gives = { λ _ r. r ≡ NoMemory };
+
+    fn from(error: RunError) -> Self {
+        match error {
+            RunError::NoMemory => TextError::NoMemory,
+        }
+    }
+}
+
+impl From<RleReadError> for TextError {
+    ghost use Rattle.refusals.specs.Refusals.{pattern_error};
+
+    ghost from_gives = { λ e r. r ≡ pattern_error e };
+
+    fn from(error: RleReadError) -> Self {
+        match error {
+            RleReadError::Fault(fault) => TextError::Refused(Cause::Pattern(fault)),
+            RleReadError::TooLarge { width, height } => {
+                TextError::Refused(Cause::GridTooLarge { width, height })
+            }
+            RleReadError::NoMemory => TextError::NoMemory,
+        }
+    }
+}
+
+impl From<PortReadError> for TextError {
+    ghost use Rattle.refusals.specs.Refusals.{table_error};
+
+    ghost from_gives = { λ e r. r ≡ table_error e };
+
+    fn from(error: PortReadError) -> Self {
+        match error {
+            PortReadError::Fault(fault) => TextError::Refused(Cause::PortTable(fault)),
+            PortReadError::NoMemory => TextError::NoMemory,
+        }
+    }
+}
+
+impl From<StreamError> for TextError {
+    ghost use Rattle.refusals.specs.Refusals.{streams_error};
+
+    ghost from_gives = { λ e r. r ≡ streams_error e };
+
+    fn from(error: StreamError) -> Self {
+        match error {
+            StreamError::Fault(fault) => TextError::Refused(Cause::Streams(fault)),
+            StreamError::NoMemory => TextError::NoMemory,
+        }
+    }
+}
+
+impl From<StartError> for TextError {
+    ghost use Rattle.refusals.specs.Refusals.{starts_error};
+
+    ghost from_gives = { λ e r. r ≡ starts_error e };
+
+    fn from(error: StartError) -> Self {
+        match error {
+            StartError::Fault(fault) => TextError::Refused(Cause::StartWord(fault)),
+            StartError::NoMemory => TextError::NoMemory,
+        }
+    }
+}
+
+impl From<SimulateError> for TextError {
+    ghost use Rattle.refusals.specs.Refusals.{simulate_error};
+
+    ghost from_gives = { λ e r. r ≡ simulate_error e };
+
+    fn from(error: SimulateError) -> Self {
+        match error {
+            SimulateError::TooFar { generations } => {
+                TextError::Refused(Cause::TooFar { generations })
+            }
+            SimulateError::NotQuiet { generation, x, y } => {
+                TextError::Refused(Cause::NotQuiet { generation, x, y })
+            }
+            SimulateError::NoMemory => TextError::NoMemory,
+        }
+    }
+}
+
+impl From<WindowError> for TextError {
+    ghost use Rattle.refusals.specs.Refusals.{window_error};
+
+    ghost from_gives = { λ e r. r ≡ window_error e };
+
+    fn from(error: WindowError) -> Self {
+        match error {
+            WindowError::NotQuiet { generation, x, y } => {
+                TextError::Refused(Cause::NotQuiet { generation, x, y })
+            }
+            WindowError::NoMemory => TextError::NoMemory,
+        }
+    }
+}
+
+impl From<MakeError> for TextError {
+    ghost use Rattle.refusals.specs.declared.causes.TextError.TheVariants.{NoMemory};
+
+    ghost from_gives = { λ _ r. r ≡ NoMemory };
+
+    fn from(error: MakeError) -> Self {
+        match error {
+            MakeError::NoMemory => TextError::NoMemory,
+        }
+    }
+}
+
+impl From<SummaryError> for TextError {
+    ghost use Rattle.refusals.specs.Refusals.{summarizing_error};
+
+    ghost from_gives = { λ e r. r ≡ summarizing_error e };
+
+    fn from(error: SummaryError) -> Self {
+        match error {
+            SummaryError::TooFar { generations } => {
+                TextError::Refused(Cause::TooFar { generations })
+            }
+            SummaryError::NoMemory => TextError::NoMemory,
+        }
+    }
+}
+
+impl From<AllocError> for TextError {
+    ghost use Rattle.refusals.specs.declared.causes.TextError.TheVariants.{NoMemory};
+
+    ghost from_gives = { λ _ r. r ≡ NoMemory };
+
+    fn from(_: AllocError) -> Self {
+        TextError::NoMemory
+    }
+}

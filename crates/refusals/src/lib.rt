@@ -1,0 +1,11 @@
+//! Why a run of the program does not end well: the causes, each with its exit status and the one line that tells it.
+//!
+//! Theorem: `Refusal::status`, `Refusal::tell`.
+#![tactic(auto)]
+
+mod causes;
+mod refusal;
+mod told;
+
+pub use causes::{Cause, TextError};
+pub use refusal::Refusal;
