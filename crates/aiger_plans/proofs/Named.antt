@@ -1,5 +1,5 @@
 -- The names of the flat netlist of a circuit can stand in a port table.
-use Rattle.std.proofs.Common.{◌≡◌, sym, ap, subst, ℕ, ◌<◌, false, cond, List, [], length, arith}
+use Rattle.std.proofs.Common.{◌≡◌, sym, ap, subst, false, cond, List, [], length, arith}
 use Rattle.std.specs.Prelude.{◌≢◌, All, AllPairs}
 use Rattle.std.proofs.lemmas.List.Elements.{All-take, All-drop}
 use Rattle.netlist_core.specs.declared.flat.Net.{Net as FlatNet}

@@ -72,6 +72,7 @@ plan_by a b plan alike of =
     let cells_of : (f : ℕ → ℕ) → f (length b.cells) ≡ f (length a.cells) = λ f. ap f alike.cells in
     record {
       admissible = of.admissible;
+      bare = of.bare;
       edges = of.edges;
       starts = subst (λ (bits : List Bool). StartsContexts plan (bits ∷ []) (start_edges plan)) (loops_start_alike a b alike) of.starts;
       computes = alike_is_planned a b plan alike of.computes;

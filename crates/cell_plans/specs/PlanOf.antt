@@ -12,10 +12,11 @@ use Rattle.row_placer.specs.Empty.{IsEmpty}
 use Rattle.row_placer.specs.Entries.{AreAtEntries}
 use Rattle.cell_plans.specs.Exits.{AreAtExits}
 
--- It is admissible and computes the list; its starts are edges of its drawing, and start one context as the list starts. It is small by the list's own
+-- It is admissible, has no tape and computes the list; its starts are edges of its drawing, and start one context as the list starts. It is small by the list's own
 -- counts, and has nets at the entries of their sources or the exits of their cells.
 pub record IsPlanOf (list : CellList) (plan : Plan) : Type 0 where
   pub admissible : IsAdmissible plan
+  pub bare : plan.tape ≡ []
   pub edges : HasStartEdges plan
   pub starts : StartsContexts plan (loop_state list list.starts ∷ []) (start_edges plan)
   pub computes : ComputesByPlan list plan

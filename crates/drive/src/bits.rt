@@ -138,7 +138,7 @@ pub fn bits_of_cells(
     }
     let mut run = Run::of_streams(alloc, pattern, ports, streams)?;
     let bits = columns_of_cells(alloc, &mut run, ports, streams, first, cells)?;
-    run.go_on(generations as u64);
+    run.pass_injections(generations as u64);
     run.quiet()?;
     Ok(bits)
 }

@@ -12,7 +12,7 @@ mod run;
 mod simulation;
 
 pub use bits::{GREATEST_GENERATION, bits_of_cells};
-pub use driving::injections;
+pub use driving::{CONTEXT_GENERATIONS, injections};
 pub use error::{DriveError, SimulateError};
 pub use run::Run;
 pub use simulation::simulate;

@@ -1,5 +1,5 @@
 // A pattern's run under injections, in bands of rows that are all at one generation.
-ghost use Rattle.std.specs.Prelude.{◌≡◌, ◌≤◌, ◌<◌, ◌+◌, ◌-ℤ◌, ◌^◌, All, IfErr, IfOk, IfSome, None, OnOk, drop, length, map, pos};
+ghost use Rattle.std.specs.Prelude.{◌≡◌, ◌≤◌, ◌<◌, ◌+◌, ◌-ℤ◌, ◌^◌, All, IfErr, IfOk, IfSome, None, OnOk, drop, length, map, pos, true};
 ghost use Rattle.std.specs.List.{find};
 ghost use Rattle.ww_rule.specs.Due.{AreInOrderFrom, AreLeftAt};
 ghost use Rattle.ww_rule.specs.Injections.{AreInside};
@@ -256,6 +256,30 @@ impl Run {
         ensures missed { first_miss_of self.new self.new.generation ≡ first_miss_of self.new generation }
     {
         while self.generation < generation && !self.is_still {
+            self.next();
+        }
+    }
+
+    // Whether no injection of a later generation is left.
+    fn is_past(&self) -> bool
+        requires { IsBandRun self.now }
+        ensures { result ≡ true → All (λ i. i.generation < self.now.generation + 1) self.now.bands.injections }
+    {
+        self.next_injection >= self.bands.injections().len()
+    }
+
+    /// Goes on to this generation, which is not before the run's own, or stops before it where no injection is left: then
+    /// nothing more can miss, whatever the pattern shows.
+    pub fn pass_injections(&mut self, generation: u64)
+        requires run { IsBandRun self.old }
+        requires order { self.old.generation ≤ generation }
+        ensures run { IsBandRun self.new }
+        ensures order { self.new.generation ≤ generation }
+        ensures planes { planes_of self.new ≡ planes_of self.old }
+        ensures misses { first_miss_of self.new ≡ first_miss_of self.old }
+        ensures missed { first_miss_of self.new self.new.generation ≡ first_miss_of self.new generation }
+    {
+        while self.generation < generation && !self.is_past() {
             self.next();
         }
     }

@@ -7,3 +7,5 @@ mod Several
 mod Newlines
 mod Lines
 mod Words
+mod Tables
+mod Tapes

@@ -80,6 +80,7 @@ pub fn plan_contexts(
     requires long { All (λ start. length start ≡ length flat.now.latches) starts.now }
     ensures admissible { IfOk result (λ p. IsAdmissible p.plan) }
     ensures edges { IfOk result (λ p. HasStartEdges p.plan) }
+    ensures bare { IfOk result (λ p. p.plan.tape ≡ []) }
     ensures padded { IfOk result (λ p. IsPaddedPlan (contexts_size plan.latches (length starts.now)) plan p.plan) }
     ensures table { IfOk result (λ p. IsTableOf flat.now p.plan (length starts.now) p.ports) }
     ensures carries { IfOk result (λ p. CarriesFlatContexts (pattern_text (start_grid p.plan) p.ports) flat.now starts.now) }

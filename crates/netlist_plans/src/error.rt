@@ -5,6 +5,7 @@ use cover_mapper::MapError;
 use latch_loops::CloseError;
 use plan_ports::PortsError;
 use std::alloc::AllocError;
+use tape_loader::LoadError;
 use thiserror::Error;
 
 /// Why there is no plan. Each sound netlist with an order has one.
@@ -56,6 +57,14 @@ impl From<RewriteError> for NetlistPlanError {
     fn from(error: RewriteError) -> Self {
         match error {
             RewriteError::NoMemory => NetlistPlanError::NoMemory,
+        }
+    }
+}
+
+impl From<LoadError> for NetlistPlanError {
+    fn from(error: LoadError) -> Self {
+        match error {
+            LoadError::NoMemory(_) => NetlistPlanError::NoMemory,
         }
     }
 }

@@ -1,11 +1,13 @@
-//! Makes a plan and its port table of a flat netlist with an order of its covers; their text carries the flat netlist.
+//! Makes a plan and its port table of a flat netlist with an order of its covers; their text carries the flat netlist. With
+//! streams of its inputs on its tape it runs by itself.
 //!
-//! Theorem: `plan_netlist` (`carries`, `small`, `places`), `plan_contexts` (`carries`).
+//! Theorem: `plan_netlist` (`carries`, `small`, `places`), `plan_contexts` (`carries`), `load_netlist` (`runs`).
 #![tactic(auto)]
 
 mod contexts;
 mod error;
 mod planning;
+mod taping;
 
 ghost use Rattle.netlist_plans.specs.Names.{TextsHavePortNames};
 ghost use Rattle.netlist_plans.specs.TextNames.{NamesAreWords, NetsAreWords};
@@ -13,6 +15,7 @@ ghost use Rattle.netlist_plans.specs.TextNames.{NamesAreWords, NetsAreWords};
 pub use contexts::plan_contexts;
 pub use error::NetlistPlanError;
 pub use planning::{Planned, plan_netlist};
+pub use taping::load_netlist;
 
 /// The names of a text's models, and so those of its design's nets, have a byte and no blank.
 pub fn names_are_words()

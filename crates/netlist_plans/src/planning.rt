@@ -1,5 +1,5 @@
 // The plan of a flat netlist, by its list of cells.
-ghost use Rattle.std.specs.Prelude.{◌≡◌, ◌<◌, ◌^◌, false, length, All, IfOk};
+ghost use Rattle.std.specs.Prelude.{◌≡◌, ◌<◌, ◌^◌, [], false, length, All, IfOk};
 ghost use Rattle.grid_assembly.specs.PlanDrawing.{start_grid};
 ghost use Rattle.lane_core.specs.Plans.{IsAdmissible};
 ghost use Rattle.plan_layout.specs.Starts.{HasStartEdges};
@@ -74,6 +74,7 @@ pub fn plan_netlist(alloc: Global, flat: &Flat, order: &Order) -> Result<Planned
     requires places { HasTablePlaces flat.now }
     ensures admissible { IfOk result (λ p. IsAdmissible p.plan) }
     ensures edges { IfOk result (λ p. HasStartEdges p.plan) }
+    ensures bare { IfOk result (λ p. p.plan.tape ≡ []) }
     ensures planned { IfOk result (λ p. IsPlanned flat.now p.plan) }
     ensures table { IfOk result (λ p. IsTableOf flat.now p.plan 1 p.ports) }
     ensures carries { IfOk result (λ p. CarriesFlat (pattern_text (start_grid p.plan) p.ports) flat.now) }

@@ -48,6 +48,7 @@ use Rattle.plan_ports.proofs.GatheredNets.{place_of_line}
 use Rattle.plan_carries.specs.Compiled.{ComputesFlat, IsCompiled}
 use Rattle.plan_carries.specs.Laws.{StartsAsFlat, PlanesShowRuns}
 use Rattle.plan_carries.specs.ContextLaws.{StartsLatches, PlanesShowContexts}
+use Rattle.plan_carries.proofs.Bare.{bare_in_cells, bare_out_cells, bare_net_cells}
 use Rattle.plan_carries.proofs.Runs.{state_long, has_run}
 
 -- what shows a bit in each cycle of each context shows it in the first cycles
@@ -68,8 +69,8 @@ in_contexts period first count cycles g head shown bit same early is = (
         (λ ge. (let more : cycles * period ≤ t * period = mul-le-mul_right period ge in absurd (omega (arith, early, e, more))))
         (cases_lt t cycles)
 
-pub same_drive : (flat : Flat) (plan : Plan) (n : ℕ) (ports : Ports) → IsTableOf flat plan n ports → (contexts : List (List (List Bool))) → context_drive ports contexts ≡ drive_of_contexts plan contexts
-same_drive flat plan n ports table contexts = ap₂ (λ p cells. due_of_contexts p cells contexts) table.period table.in_cells
+pub same_drive : (flat : Flat) (plan : Plan) (n : ℕ) (ports : Ports) → IsTableOf flat plan n ports → plan.tape ≡ [] → (contexts : List (List (List Bool))) → context_drive ports contexts ≡ drive_of_contexts plan contexts
+same_drive flat plan n ports table none contexts = ap₂ (λ p cells. due_of_contexts p cells contexts) table.period (bare_in_cells plan none flat n ports table)
 
 -- a run on rows from a start on, of a list that computes the flat netlist and a plan that computes the list
 module _ (flat : Flat) (list : CellList) (plan : Plan) (f : ComputesFlat flat list) (c : ComputesByPlan list plan)
@@ -134,18 +135,18 @@ out_place plan lane = (left_of plan (length plan.columns), row_of lane)
 abbrev line_place : PortLine → ℕ × ℕ
 line_place line = (line.x, line.y)
 
-cell_is : (flat : Flat) (plan : Plan) (n : ℕ) (ports : Ports) → IsTableOf flat plan n ports → (output : ℕ) (cell : PortLine) → slice_get ports.outs output ≡ Some cell
+cell_is : (flat : Flat) (plan : Plan) (n : ℕ) (ports : Ports) → IsTableOf flat plan n ports → plan.tape ≡ [] → (output : ℕ) (cell : PortLine) → slice_get ports.outs output ≡ Some cell
     → (output < length plan.outs) × (line_place cell ≡ out_place plan (slice_index plan.outs output))
-cell_is flat plan n ports table output cell e =
+cell_is flat plan n ports table none output cell e =
     let low : output < length ports.outs = slice_get_within ports.outs output cell e in
     let one : length (map line_place ports.outs) ≡ length ports.outs = length-map ports.outs line_place in
     let two : length (map (out_place plan) plan.outs) ≡ length plan.outs = length-map plan.outs (out_place plan) in
-    let all : length (map line_place ports.outs) ≡ length (map (out_place plan) plan.outs) = ap length table.out_cells in
+    let all : length (map line_place ports.outs) ≡ length (map (out_place plan) plan.outs) = ap length (bare_out_cells plan none flat n ports table) in
     let within : output < length plan.outs = omega (arith, low, one, two, all) in (
       within,
       ap line_place (sym (get_or_from_slice_get ports.outs output cell cell e))
           ∙ sym (get_or-map line_place ports.outs output cell (0, 0) low)
-          ∙ ap (λ cells. get_or cells output (0, 0)) table.out_cells
+          ∙ ap (λ cells. get_or cells output (0, 0)) (bare_out_cells plan none flat n ports table)
           ∙ get_or-map (out_place plan) plan.outs output 0 (0, 0) within,
     )
 
@@ -153,18 +154,18 @@ abbrev net_cell : Plan → NetPlace → ℕ × ℕ × ℕ
 net_cell plan place = cell_after plan place.lane place.after
 
 -- where the cell of a net is
-net_cell_is : (flat : Flat) (plan : Plan) (n : ℕ) (ports : Ports) → IsTableOf flat plan n ports → (number : ℕ) (line : NetLine) → slice_get ports.nets number ≡ Some line
+net_cell_is : (flat : Flat) (plan : Plan) (n : ℕ) (ports : Ports) → IsTableOf flat plan n ports → plan.tape ≡ [] → (number : ℕ) (line : NetLine) → slice_get ports.nets number ≡ Some line
     → (number < length plan.nets) × (place_of_line line ≡ net_cell_of plan number)
-net_cell_is flat plan n ports table number line e =
+net_cell_is flat plan n ports table none number line e =
     let low : number < length ports.nets = slice_get_within ports.nets number line e in
     let one : length (map place_of_line ports.nets) ≡ length ports.nets = length-map ports.nets place_of_line in
     let two : length (map (net_cell plan) plan.nets) ≡ length plan.nets = length-map plan.nets (net_cell plan) in
-    let all : length (map place_of_line ports.nets) ≡ length (map (net_cell plan) plan.nets) = ap length table.net_cells in
+    let all : length (map place_of_line ports.nets) ≡ length (map (net_cell plan) plan.nets) = ap length (bare_net_cells plan none flat n ports table) in
     let within : number < length plan.nets = omega (arith, low, one, two, all) in (
       within,
       ap place_of_line (sym (get_or_from_slice_get ports.nets number line line e))
           ∙ sym (get_or-map place_of_line ports.nets number line (0, 0, 0) low)
-          ∙ ap (λ cells. get_or cells number (0, 0, 0)) table.net_cells
+          ∙ ap (λ cells. get_or cells number (0, 0, 0)) (bare_net_cells plan none flat n ports table)
           ∙ get_or-map (net_cell plan) plan.nets number (record { lane = 0; after = None }) (0, 0, 0) within,
     )
 
@@ -187,7 +188,7 @@ module _ (library : Kind → Drawing) (law : KeepsLaw library) (flat : Flat) (li
 
   conductors : (cycles : ℕ) (contexts : List (List (List Bool))) → AreFlatContexts flat (length starts) cycles contexts → MeetsConductors (context_drive ports contexts) (plane_with library plan lit)
   conductors cycles contexts are =
-      subst (λ due. MeetsConductors due (plane_with library plan lit)) (sym (same_drive flat plan (length starts) ports k.table contexts)) (shows contexts are.many).conductors
+      subst (λ due. MeetsConductors due (plane_with library plan lit)) (sym (same_drive flat plan (length starts) ports k.table k.bare contexts)) (shows contexts are.many).conductors
 
   has_runs : (cycles : ℕ) (contexts : List (List (List Bool))) → AreFlatContexts flat (length starts) cycles contexts → (runs : ℕ → ℕ → ℕ → Bool) × AreRunsFrom (IsFlatRun flat) starts contexts runs
   has_runs cycles contexts are = (λ c. (of c).0, λ c start e. (of c).1 start e)
@@ -220,7 +221,7 @@ module _ (library : Kind → Drawing) (law : KeepsLaw library) (flat : Flat) (li
 
     outputs_shown : ShowsOutputsInContexts (plane_with library plan lit) ports cycles contexts (λ c t. flat_output_bit flat (runs c t))
     outputs_shown output cell e g early =
-        let place = cell_is flat plan (length starts) ports k.table output cell e in
+        let place = cell_is flat plan (length starts) ports k.table k.bare output cell e in
         let bits : ℕ → ℕ → Bool = λ c t. flat_output_bit flat (runs c t) output in
         let soon : g < latency_of plan + cycles * period_of plan = subst (λ n. g < n) (ap₂ (λ l p. l + cycles * p) k.table.latency k.table.period) early in
         let shown = in_contexts (period_of plan) (latency_of plan) (length contexts) cycles g
@@ -230,14 +231,14 @@ module _ (library : Kind → Drawing) (law : KeepsLaw library) (flat : Flat) (li
         ∙ output_shown flat list plan k.list_computes k.plan_computes (start_of c) (long c (start_of c) (some_start c low)) (get_or contexts c []) (are.each c [] low) (runs c) (each c (start_of c) (some_start c low))
         output t place.0 (omega (arith, lt, are.long c [] low)))
         soon ((shows contexts are.many).outs output place.0 g) in
-        subst (λ due. ShowsBitsInContexts ports.l ports.p (length contexts) cycles bits g (driven due (plane_with library plan lit) g) cell.x cell.y) (sym (same_drive flat plan (length starts) ports k.table contexts))
+        subst (λ due. ShowsBitsInContexts ports.l ports.p (length contexts) cycles bits g (driven due (plane_with library plan lit) g) cell.x cell.y) (sym (same_drive flat plan (length starts) ports k.table k.bare contexts))
         (subst (λ l. ShowsBitsInContexts l ports.p (length contexts) cycles bits g (driven (drive_of_contexts plan contexts) (plane_with library plan lit) g) cell.x cell.y) (sym k.table.latency)
         (subst (λ p. ShowsBitsInContexts (latency_of plan) p (length contexts) cycles bits g (driven (drive_of_contexts plan contexts) (plane_with library plan lit) g) cell.x cell.y) (sym k.table.period)
         (subst (λ (at : ℕ × ℕ). ShowsBitsInContexts (latency_of plan) (period_of plan) (length contexts) cycles bits g (driven (drive_of_contexts plan contexts) (plane_with library plan lit) g) at.0 at.1) (sym place.1) shown)))
 
     nets_shown : ShowsNetLinesInContexts (plane_with library plan lit) ports cycles contexts (listed_nets flat) (λ c t net. runs c t net.class)
     nets_shown number net line is_net is_line g early =
-        let place = net_cell_is flat plan (length starts) ports k.table number line is_line in
+        let place = net_cell_is flat plan (length starts) ports k.table k.bare number line is_line in
         let cell = net_cell_of plan number in
         let bits : ℕ → ℕ → Bool = λ c t. runs c t net.class in
         let soon : g < cell.2 + cycles * period_of plan = subst (λ n. g < n) (ap₂ (λ at p. at + cycles * p) (ap (λ c. c.2) place.1) k.table.period) early in
@@ -248,7 +249,7 @@ module _ (library : Kind → Drawing) (law : KeepsLaw library) (flat : Flat) (li
         ∙ net_shown flat list plan k.list_computes k.plan_computes (start_of c) (long c (start_of c) (some_start c low)) (get_or contexts c []) (are.each c [] low) (runs c) (each c (start_of c) (some_start c low))
         number t net place.0 (omega (arith, lt, are.long c [] low)) is_net)
         soon ((shows contexts are.many).nets number place.0 g) in
-        subst (λ due. ShowsBitsInContexts line.offset ports.p (length contexts) cycles bits g (driven due (plane_with library plan lit) g) line.x line.y) (sym (same_drive flat plan (length starts) ports k.table contexts))
+        subst (λ due. ShowsBitsInContexts line.offset ports.p (length contexts) cycles bits g (driven due (plane_with library plan lit) g) line.x line.y) (sym (same_drive flat plan (length starts) ports k.table k.bare contexts))
         (subst (λ p. ShowsBitsInContexts line.offset p (length contexts) cycles bits g (driven (drive_of_contexts plan contexts) (plane_with library plan lit) g) line.x line.y) (sym k.table.period)
         (subst (λ (at : ℕ × ℕ × ℕ). ShowsBitsInContexts at.2 (period_of plan) (length contexts) cycles bits g (driven (drive_of_contexts plan contexts) (plane_with library plan lit) g) at.0 at.1) (sym place.1) shown))
 

@@ -3,7 +3,7 @@ use Rattle.std.proofs.Common.{◌≡◌, refl, sym, ◌∙◌, ap, subst, ℕ, z
 use Rattle.std.specs.Prelude.{Option, Some, None, slice_get, option_map, All}
 use Rattle.std.proofs.lemmas.List.{length-map}
 use Rattle.std.proofs.lemmas.Option.{slice_get-map, slice_get-get_or, slice_get_within, none-some, same_Some}
-use Rattle.ww_rule.specs.Wireworld.{Plane, driven}
+use Rattle.ww_rule.specs.Wireworld.{Plane, driven, evolve}
 use Rattle.ww_rule.specs.Grid.{plane_of}
 use Rattle.netlist_core.specs.declared.model.Design.{Design}
 use Rattle.netlist_core.specs.declared.flat.Flat.{Flat}
@@ -13,7 +13,7 @@ use Rattle.netlist_core.specs.Names.{Name}
 use Rattle.netlist_meaning.specs.Nets.{Net, IsInNames}
 use Rattle.netlist_meaning.specs.Flat.{listed_nets, names_of_ports, name_of_net}
 use Rattle.netlist_meaning.specs.FlatOf.{class_of_net, flat_net, IsFlatOf}
-use Rattle.netlist_meaning.specs.FlatValuation.{IsFlatValuation, IsFlatRun, AreFlatRows, flat_state_in, flat_output_bit}
+use Rattle.netlist_meaning.specs.FlatValuation.{IsFlatValuation, IsFlatRun, AreFlatRows, flat_state_in, flat_output_bit, start_bits}
 use Rattle.netlist_meaning.specs.Valuation.{Valuation, LatchState, IsValuation, AreInputRows, IsRunFrom, start_state, latches_in, output_bit}
 use Rattle.netlist_meaning.proofs.Joined.{in_names_are_one}
 use Rattle.netlist_rules.specs.ModelFaults.{AreFaultless}
@@ -23,6 +23,8 @@ use Rattle.flat_designs.proofs.Valuations.{valuations_are_flat}
 use Rattle.flat_designs.proofs.Whole.{ports_are_flat}
 use Rattle.pattern_reading.specs.declared.ports.Ports.{Ports}
 use Rattle.carries.specs.Carries.{NamesPorts}
+use Rattle.carries.specs.Cells.{ShowsBitsFrom}
+use Rattle.carries.specs.ByItself.{ShowsRunsByItself, ShowsFlatRunsByItself}
 use Rattle.carries.specs.FlatNets.{NamesFlat}
 use Rattle.carries.specs.Contexts.{AreRunsFrom, context_drive, ShowsBitsInContexts}
 use Rattle.carries.specs.FlatContexts.{AreFlatContexts, ShowsFlatContexts, CarriesFlatContexts}
@@ -30,6 +32,7 @@ use Rattle.carries.specs.DesignContexts.{AreInputContexts, ShowsContexts, ShowsN
 use Rattle.carries.proofs.OneContext.{one_context_carries_nets, one_context_carries_flat}
 use Rattle.plan_carries.specs.Laws.{DesignsAreCarried}
 use Rattle.plan_carries.specs.ContextLaws.{DesignsAreCarriedInContexts}
+use Rattle.plan_carries.specs.TapeLaws.{DesignsRunByThemselves}
 use Rattle.plan_carries.proofs.Alike.{outputs_alike, latches_alike}
 use Rattle.plan_carries.proofs.SeenNets.{seen_nets, are_seen, seen_are_flat, seen_are_named, seen_has_bit}
 
@@ -39,6 +42,13 @@ same_shown : (first period count cycles : ℕ) (bit other : ℕ → ℕ → Bool
 same_shown first period count cycles bit other g plane x y same shown = (
   λ head. (let found = shown.0 head in (found.0, found.1, found.2, found.3, found.4, sym (same found.0 found.1 found.2 found.3) ∙ found.5)),
   λ at. shown.1 (at.0, at.1, at.2, at.3, at.4, same at.0 at.1 at.2 at.3 ∙ at.5),
+)
+
+same_from : (first period cycles : ℕ) (bit other : ℕ → Bool) (g : ℕ) (plane : Plane) (x y : ℕ) → ((t : ℕ) → t < cycles → bit t ≡ other t)
+    → ShowsBitsFrom first period cycles bit g plane x y → ShowsBitsFrom first period cycles other g plane x y
+same_from first period cycles bit other g plane x y same shown = (
+  λ head. (let found = shown.0 head in (found.0, found.1, found.2, sym (same found.0 found.1) ∙ found.3)),
+  λ at. shown.1 (at.0, at.1, at.2, same at.0 at.1 ∙ at.3),
 )
 
 module _ (design : Design) (flat : Flat) (faultless : AreFaultless design.models) (clean : HasNoClockFault design) (h : IsFlatOf design flat) where
@@ -152,6 +162,35 @@ module _ (design : Design) (flat : Flat) (faultless : AreFaultless design.models
         (λ c t low lt. same_net (get_or starts c (start_state design)) (get_or contexts c []) (runs c) (run_in cycles contexts are runs each c low) number net is_net t (omega (arith, lt, are.long c [] low)))
         (shown.nets cycles contexts (flat_contexts cycles contexts are) (λ c. own (runs c)) (own_runs contexts runs each) number (flat_net design net) line (seen_at number net is_net) is_line g early)
 
+  -- rows of the flat netlist are input rows of the design
+  design_rows : (rows : List (List Bool)) → AreFlatRows flat rows → AreInputRows design rows
+  design_rows rows long =
+      (names_of_ports flat flat.ins, (ports_are_flat design flat faultless h).ins, subst (λ n. All (λ row. length row ≡ n) rows) (sym (length-map flat.ins (λ (port : FlatPort). name_of_net flat port.net))) long)
+
+  -- in runs from the start on
+  module _ (plane : Plane) (ports : Ports) (rows : List (List Bool)) (shown : ShowsFlatRunsByItself plane ports flat rows) where
+    start_is : start_bits flat ≡ state_in_order design (start_state design)
+    start_is = have.starts
+
+    own_from_start : (all : List (List Bool)) (run : ℕ → Valuation) → IsRunFrom design (start_state design) all run → IsFlatRun flat (start_bits flat) all (own run)
+    own_from_start all run is = subst (λ (bits : List Bool). IsFlatRun flat bits all (own run)) (sym start_is) (own_run (start_state design) all run is)
+
+    pub shows_by_itself : ShowsRunsByItself plane ports design (seen_nets design flat) rows
+    shows_by_itself = record {
+      run = (
+        run_of shown.run.0,
+        λ all after are. is_run (start_state design) all shown.run.0 (subst (λ (bits : List Bool). IsFlatRun flat bits all shown.run.0) start_is (shown.run.1 all after (flat_rows all are))),
+      );
+      heads = λ all after are run is output cell e g early.
+          same_from ports.l ports.p (length all) (λ t. flat_output_bit flat (own run t) output) (λ t. output_bit design (run t) output) g (evolve g plane) cell.x cell.y
+          (λ t lt. same_output (start_state design) all run is output t lt)
+          (shown.heads all after (flat_rows all are) (own run) (own_from_start all run is) output cell e g early);
+      nets = λ all after are run is number net line is_net is_line g early.
+          same_from line.offset ports.p (length all) (λ t. own run t (class_of_net design net)) (λ t. run t net.place net.name) g (evolve g plane) line.x line.y
+          (λ t lt. same_net (start_state design) all run is number net is_net t lt)
+          (shown.nets all after (flat_rows all are) (own run) (own_from_start all run is) number (flat_net design net) line (seen_at number net is_net) is_line g early);
+    }
+
   pub names_ports : (ports : Ports) → NamesFlat ports flat → NamesPorts ports design
   names_ports ports named =
       let flat_ports = ports_are_flat design flat faultless h in
@@ -179,3 +218,18 @@ designs_are_carried text design flat faultless clean h k =
     (one_context_carries_nets text design).1
     (designs_are_carried_in_contexts text design flat faultless clean h (start_state design ∷ [])
     (subst (λ (bits : List Bool). CarriesFlatContexts text flat (bits ∷ [])) starts ((one_context_carries_flat text flat).0 k)))
+
+pub designs_run_by_themselves : DesignsRunByThemselves
+designs_run_by_themselves text design flat rows faultless clean h k = record {
+  grid = k.grid;
+  ports = k.ports;
+  spells = k.spells;
+  contexts = k.contexts;
+  no_inputs = k.no_inputs;
+  outs = k.outs ∙ (ports_are_flat design flat faultless h).outs;
+  seen = seen_nets design flat;
+  are_seen = are_seen design flat faultless clean h;
+  nets = k.nets ∙ seen_are_named design flat h;
+  rows_fit = design_rows design flat faultless clean h rows k.rows_fit;
+  shows = shows_by_itself design flat faultless clean h (plane_of k.grid.rows) k.ports rows k.shows;
+}

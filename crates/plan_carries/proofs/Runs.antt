@@ -20,12 +20,18 @@ pub state_long : (flat : Flat) (start : List Bool) (run : ℕ → ℕ → Bool) 
 state_long flat start run zero long = long
 state_long flat start run (suc t) long = length-map flat.latches (λ (latch : FlatLatch). run t (class_of flat latch.input))
 
-pub has_run : (flat : Flat) → IsSound flat → (order : List ℕ) → IsOrder flat order → (start : List Bool) → length start ≡ length flat.latches
-    → (rows : List (List Bool)) → AreFlatRows flat rows → (run : ℕ → ℕ → Bool) × IsFlatRun flat start rows run
-has_run flat sound order ordered start long rows are = (run, is_run)
+-- the row of a cycle: beyond the rows it has a bit 0 for each input
+abbrev pub row_onward : Flat → List (List Bool) → ℕ → List Bool
+row_onward flat rows t = get_or rows t (replicate (length flat.ins) false)
+
+-- there is a run on them that goes on without end
+pub goes_on : (flat : Flat) → IsSound flat → (order : List ℕ) → IsOrder flat order → (start : List Bool) → length start ≡ length flat.latches
+    → (rows : List (List Bool)) → AreFlatRows flat rows
+    → (run : ℕ → ℕ → Bool) × ((t : ℕ) → IsFlatValuation flat (row_onward flat rows t) (flat_state_in flat start run t) (run t))
+goes_on flat sound order ordered start long rows are = (run, solves)
   where
     row : ℕ → List Bool
-    row t = get_or rows t (replicate (length flat.ins) false)
+    row t = row_onward flat rows t
 
     value : (state : List Bool) → length state ≡ length flat.latches → (t : ℕ) → (bits : ℕ → Bool) × IsFlatValuation flat (row t) state bits
     value state fits t = let (bits, is, alone) = one_valuation flat sound order ordered (row t) state (row_long (length flat.ins) rows t are) fits in (bits, is)
@@ -41,5 +47,8 @@ has_run flat sound order ordered start long rows are = (run, is_run)
     solves zero = (value start long zero).1
     solves (suc t) = (value (flat_state_after flat (run t)) (after_long (run t)) (suc t)).1
 
-    is_run : IsFlatRun flat start rows run
-    is_run t given e = subst (λ r. IsFlatValuation flat r (flat_state_in flat start run t) (run t)) (get_or_from_slice_get rows t given (replicate (length flat.ins) false) e) (solves t)
+pub has_run : (flat : Flat) → IsSound flat → (order : List ℕ) → IsOrder flat order → (start : List Bool) → length start ≡ length flat.latches
+    → (rows : List (List Bool)) → AreFlatRows flat rows → (run : ℕ → ℕ → Bool) × IsFlatRun flat start rows run
+has_run flat sound order ordered start long rows are =
+    let onward = goes_on flat sound order ordered start long rows are in
+    (onward.0, λ t given e. subst (λ r. IsFlatValuation flat r (flat_state_in flat start onward.0 t) (onward.0 t)) (get_or_from_slice_get rows t given (replicate (length flat.ins) false) e) (onward.1 t))

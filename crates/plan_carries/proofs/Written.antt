@@ -4,7 +4,6 @@ use Rattle.std.proofs.lemmas.List.{length-map, length-replicate}
 use Rattle.ww_rule.specs.Grid.{Grid}
 use Rattle.tiling.specs.Steps.{KeepsLaw}
 use Rattle.tile_library.specs.Drawings.{shipped_drawing}
-use Rattle.grid_assembly.specs.PlanDrawing.{start_grid}
 use Rattle.plan_layout.specs.Starts.{start_edges}
 use Rattle.plan_waves.proofs.IsolatedContexts.{contexts_apart}
 use Rattle.cell_core.specs.Meaning.{Fits}
@@ -16,12 +15,14 @@ use Rattle.pattern_reading.specs.declared.ports.Ports.{Ports}
 use Rattle.netlist_meaning.specs.FlatValuation.{start_bits}
 use Rattle.pattern_writing.specs.WrittenText.{HasWrittenText, pattern_text}
 use Rattle.carries.specs.FlatContexts.{ShowsFlatContexts}
+use Rattle.carries.specs.FlatNets.{CarriesFlat}
 use Rattle.carries.proofs.OneContext.{one_context_carries_flat}
 use Rattle.cell_meaning.specs.Listed.{listed_classes}
 use Rattle.plan_ports.specs.Laws.{HasRoom, TablesAreReadable}
 use Rattle.plan_ports.proofs.Readable.{small_size}
 use Rattle.plan_carries.specs.Laws.{PlansHavePorts, TextsCarryFlats}
 use Rattle.plan_carries.specs.Pictures.{grid_with}
+use Rattle.plan_carries.proofs.Bare.{bare_in_names, bare_grid}
 use Rattle.plan_carries.specs.ContextLaws.{PlanesShowContexts, PicturesArePlanes, TextsCarryContexts}
 
 pub plans_have_ports : PlansHavePorts
@@ -49,11 +50,12 @@ texts_carry_contexts law pictures written readable shown flat list plan ports st
       ports = ports;
       spells = record { reads = reads.0; table = reads.1 };
       contexts = k.table.contexts;
-      names = record { ins = k.table.in_names; outs = k.table.out_names; nets = k.table.net_names };
+      names = record { ins = bare_in_names plan k.bare flat (length starts) ports k.table; outs = k.table.out_names; nets = k.table.net_names };
       shows = subst (λ p. ShowsFlatContexts p ports flat starts) (sym picture.plane) (shown shipped_drawing law flat list plan ports starts k lit s);
     }
 
 -- with the plan's own start edges
 pub texts_carry_flats : TextsCarryContexts → TextsCarryFlats
 texts_carry_flats carry flat list plan ports k s =
-    (one_context_carries_flat (pattern_text (start_grid plan) ports) flat).1 (carry flat list plan ports (start_bits flat ∷ []) (omega arith) k (start_edges plan) s)
+    subst (λ (grid : Grid). CarriesFlat (pattern_text grid ports) flat) (sym (bare_grid plan k.bare))
+    ((one_context_carries_flat (pattern_text (grid_with plan (start_edges plan)) ports) flat).1 (carry flat list plan ports (start_bits flat ∷ []) (omega arith) k (start_edges plan) s))

@@ -1,5 +1,5 @@
 -- What a compiler makes of a flat netlist, part by part: each part by what the one before it is.
-use Rattle.std.specs.Prelude.{ℕ, Bool, List}
+use Rattle.std.specs.Prelude.{◌≡◌, ℕ, Bool, List, []}
 use Rattle.netlist_core.specs.declared.flat.Flat.{Flat}
 use Rattle.netlist_meaning.specs.Flat.{IsSound, IsNamed}
 use Rattle.netlist_meaning.specs.FlatOrder.{IsOrder}
@@ -18,7 +18,7 @@ pub record ComputesFlat (flat : Flat) (list : CellList) : Type 0 where
   pub bits : (inputs state : List Bool) (bits : ℕ → Bool) → IsFlatValuation flat inputs state bits → HasBits flat list inputs state bits
 
 -- The flat netlist is sound and has an order, and its names and places can stand in a port table. The list computes it, the plan
--- computes the list, and the table is the plan's, of so many contexts.
+-- computes the list and has no tape, and the table is the plan's, of so many contexts.
 pub record IsCompiled (flat : Flat) (list : CellList) (plan : Plan) (contexts : ℕ) (ports : Ports) : Type 0 where
   pub sound : IsSound flat
   pub order : List ℕ
@@ -28,5 +28,6 @@ pub record IsCompiled (flat : Flat) (list : CellList) (plan : Plan) (contexts : 
   pub places : HasTablePlaces flat
   pub list_computes : ComputesFlat flat list
   pub admissible : IsAdmissible plan
+  pub bare : plan.tape ≡ []
   pub plan_computes : ComputesByPlan list plan
   pub table : IsTableOf flat plan contexts ports

@@ -2,3 +2,4 @@ pub mod Compiled
 pub mod Laws
 pub mod Pictures
 pub mod ContextLaws
+pub mod TapeLaws

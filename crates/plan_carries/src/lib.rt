@@ -1,17 +1,20 @@
 //! The text of a plan that computes the cells of a flat netlist carries it, and so the design that it is the flat netlist
-//! of; with the starts of several contexts on its loops it carries them in each of these.
+//! of; with the starts of several contexts on its loops it carries them in each of these, and with bits of the inputs on
+//! its tape it runs by itself.
 //!
 //! The functions here do nothing: their clauses are the laws.
 //!
-//! Theorem: `texts_carry_flats`, `designs_are_carried`, `texts_carry_contexts`, `designs_are_carried_in_contexts`.
+//! Theorem: `texts_carry_flats`, `designs_are_carried`, `texts_carry_contexts`, `designs_are_carried_in_contexts`, `tapes_run_by_themselves`, `designs_run_by_themselves`.
 #![tactic(auto)]
 
 ghost use Rattle.plan_carries.specs.ContextLaws.{DesignsAreCarriedInContexts, PicturesArePlanes, PlanesShowContexts, TextsCarryContexts};
 ghost use Rattle.plan_carries.specs.Laws.{DesignsAreCarried, PlansHavePorts, PlanesShowRuns, TextsCarryFlats};
+ghost use Rattle.plan_carries.specs.TapeLaws.{DesignsRunByThemselves, TapesRunByThemselves};
 
-use grid_assembly::laws::keeps_law;
+use grid_assembly::laws::{keeps_law, patterns_are_planes};
 use pattern_writing::written_text_reads;
 use plan_ports::tables_are_readable;
+use tape_waves::tapes_show_rows;
 use tile_library::Shipped;
 
 /// A plan that computes the cells of a flat netlist has its inputs and outputs.
@@ -62,4 +65,23 @@ pub fn texts_carry_flats()
 /// A text that carries the flat netlist of a design without a fault carries the design and its nets.
 pub fn designs_are_carried()
     ensures { DesignsAreCarried }
+{}
+
+/// The text that is written of the plan with bits of the inputs on its tape, and of the table of that plan, runs by itself
+/// as the flat netlist does on these bits.
+pub fn tapes_run_by_themselves()
+    ensures { TapesRunByThemselves }
+{
+    keeps_law(&Shipped);
+    patterns_are_planes();
+    written_text_reads();
+    tables_are_readable();
+    tapes_show_rows();
+    plans_have_ports();
+    planes_show_runs();
+}
+
+/// A text that runs by itself as the flat netlist of a design without a fault does so as the design.
+pub fn designs_run_by_themselves()
+    ensures { DesignsRunByThemselves }
 {}

@@ -6,13 +6,14 @@ use Rattle.std.proofs.lemmas.List.Elements.{filter-append, filter_more}
 use Rattle.std.proofs.Math.Seq.{take-length}
 use Rattle.lane_core.specs.declared.plan.NetPlace.{NetPlace}
 use Rattle.lane_core.specs.declared.plan.Plan.{Plan}
-use Rattle.lane_core.specs.Plans.{cell_after, net_cell_of, net_cells}
+use Rattle.lane_core.specs.Plans.{cell_after, net_cell_of}
+use Rattle.lane_core.specs.Tape.{tape_shift, moved_east}
 use Rattle.netlist_core.specs.declared.flat.Net.{Net as FlatNet}
 use Rattle.netlist_core.specs.declared.flat.Flat.{Flat}
 use Rattle.netlist_meaning.specs.Flat.{is_clock_class, nets_but_clocks}
 use Rattle.pattern_reading.specs.declared.ports.NetLine.{NetLine}
 use Rattle.place_paths.specs.Paths.{path_of, names_and_paths}
-use Rattle.plan_ports.specs.Tables.{named_paths, net_cells_of}
+use Rattle.plan_ports.specs.Tables.{drawn_net_cells, named_paths, net_cells_of}
 use Rattle.plan_ports.proofs.NetLines.{line_words, net_words}
 
 abbrev pub is_seen : Flat → FlatNet → Bool
@@ -23,7 +24,7 @@ place_of_line line = (line.x, line.y, line.offset)
 
 -- the lines of the first nets, but of clock nets
 pub record AreNetLines (flat : Flat) (plan : Plan) (nets : ℕ) (lines : List NetLine) : Type 0 where
-  pub cells : net_cells_of lines ≡ take (length lines) (net_cells plan)
+  pub cells : net_cells_of lines ≡ take (length lines) (drawn_net_cells plan)
   pub names : names_and_paths lines ≡ named_paths (filter (is_seen flat) (take nets flat.nets))
 
 -- as many as there are such nets
@@ -53,13 +54,13 @@ one_more_there flat plan i lines net all g within is seen =
 
 -- with its line
 pub with_line : (flat : Flat) (plan : Plan) (i : ℕ) (lines new : List NetLine) (line : NetLine) (net : FlatNet) → AreNetLines flat plan i lines → i < length flat.nets → net ≡ get_or flat.nets i net → is_seen flat net ≡ true
-    → length lines < length plan.nets → new ≡ lines ++ line ∷ [] → place_of_line line ≡ net_cell_of plan (length lines)
+    → length lines < length plan.nets → new ≡ lines ++ line ∷ [] → place_of_line line ≡ moved_east (tape_shift plan) (net_cell_of plan (length lines))
     → line.name ≡ net.name → line.path ≡ path_of net.place → AreNetLines flat plan (i + 1) new
 with_line flat plan i lines new line net g within is seen there pushed cell named path = record {
   cells =
       ap net_cells_of pushed ∙ map-append place_of_line lines (line ∷ []) ∙ ap₂ (λ cells c. cells ++ c ∷ []) g.cells (cell ∙ sym (get_or-map cell_of plan.nets (length lines) no_place (0, 0, 0) there))
-      ∙ sym (take_more (net_cells plan) (length lines) (0, 0, 0) (omega (arith, there, length-map {B = ℕ × ℕ × ℕ} plan.nets cell_of)))
-      ∙ ap (λ n. take n (net_cells plan)) (sym (ap length pushed ∙ length-append lines (line ∷ [])));
+      ∙ sym (take_more (drawn_net_cells plan) (length lines) (0, 0, 0) (omega (arith, there, length-map {B = ℕ × ℕ × ℕ} plan.nets cell_of)))
+      ∙ ap (λ n. take n (drawn_net_cells plan)) (sym (ap length pushed ∙ length-append lines (line ∷ [])));
   names =
       ap names_and_paths pushed ∙ map-append line_words lines (line ∷ []) ∙ ap₂ (λ words w. words ++ w ∷ []) g.names words_same
       ∙ sym (map-append net_words (filter (is_seen flat) (take i flat.nets)) (net ∷ []))
@@ -67,7 +68,7 @@ with_line flat plan i lines new line net g within is seen there pushed cell name
 }
   where
     cell_of : NetPlace → ℕ × ℕ × ℕ
-    cell_of place = cell_after plan place.lane place.after
+    cell_of place = moved_east (tape_shift plan) (cell_after plan place.lane place.after)
 
     no_place : NetPlace
     no_place = record { lane = 0; after = None }
@@ -83,8 +84,8 @@ without_line flat plan i lines net g within is unseen = record {
 }
 
 -- the lines of all nets
-pub all_lines : (flat : Flat) (plan : Plan) (lines : List NetLine) → length plan.nets ≡ length (nets_but_clocks flat) → AreNetLines flat plan (length flat.nets) lines → net_cells_of lines ≡ net_cells plan
+pub all_lines : (flat : Flat) (plan : Plan) (lines : List NetLine) → length plan.nets ≡ length (nets_but_clocks flat) → AreNetLines flat plan (length flat.nets) lines → net_cells_of lines ≡ drawn_net_cells plan
 all_lines flat plan lines all g =
-    let long : length lines ≡ length (net_cells plan) =
+    let long : length lines ≡ length (drawn_net_cells plan) =
     count flat plan (length flat.nets) lines g ∙ ap (λ nets. length (filter (is_seen flat) nets)) (take-length flat.nets) ∙ sym all ∙ sym (length-map {B = ℕ × ℕ × ℕ} plan.nets _) in
-    g.cells ∙ ap (λ n. take n (net_cells plan)) long ∙ take-length (net_cells plan)
+    g.cells ∙ ap (λ n. take n (drawn_net_cells plan)) long ∙ take-length (drawn_net_cells plan)

@@ -8,7 +8,8 @@ use Rattle.std.proofs.lemmas.List.{get_or-map, length-map}
 use Rattle.std.proofs.lemmas.List.Elements.{All-head, All-tail, All-map}
 use Rattle.lane_core.specs.declared.plan.NetPlace.{NetPlace}
 use Rattle.lane_core.specs.declared.plan.Plan.{Plan}
-use Rattle.lane_core.specs.Plans.{IsAdmissible, cell_after, net_cells, size_of}
+use Rattle.lane_core.specs.Plans.{IsAdmissible, cell_after, size_of}
+use Rattle.lane_core.specs.Tape.{tape_shift, moved_east}
 use Rattle.netlist_core.specs.declared.flat.Net.{Net as FlatNet}
 use Rattle.netlist_core.specs.declared.flat.Flat.{Flat}
 use Rattle.netlist_core.specs.Names.{Name}
@@ -21,7 +22,7 @@ use Rattle.pattern_reading.specs.SoundTable.{IsSoundNet}
 use Rattle.pattern_reading.specs.Laws.{IsNetInside}
 use Rattle.place_paths.specs.Paths.{name_and_path, names_and_paths}
 use Rattle.place_paths.proofs.Paths.{paths_are_read, paths_are_distinct}
-use Rattle.plan_ports.specs.Tables.{HasPortNames, HasTablePlaces, named_paths, net_cells_of}
+use Rattle.plan_ports.specs.Tables.{HasPortNames, HasTablePlaces, drawn_net_cells, named_paths, net_cells_of}
 
 -- lines have what their cells and their names give
 each_line : (P : ℕ × ℕ × ℕ → Type 0) (Q : Name × List ℕ → Type 0) (R : NetLine → Type 0) → ((line : NetLine) → P (line.x, line.y, line.offset) → Q (line.name, line.path) → R line)
@@ -42,20 +43,20 @@ net_words net = name_and_path net.place net.name
 abbrev Fits : ℕ × ℕ → ℕ × ℕ × ℕ → Type 0
 Fits size cell = (cell.0 < size.0) × (cell.1 < size.1) × (cell.2 ≤ greatest_number)
 
-box : (empty : Bool) (lanes loops columns x lane offset : ℕ) → (empty ≡ true → lanes ≡ 0) → lane < lanes → x ≤ 32 * (columns + loops) → offset ≤ greatest_number
-    → Fits (if empty then (0, 0) else (32 * (columns + 2 * loops) + 1, 16 * (lanes + loops))) (x, 16 * lane + 8, offset)
-box true lanes loops columns x lane offset none low near small = absurd (omega (arith, none refl, low))
-box false lanes loops columns x lane offset none low near small = (omega (arith, near), omega (arith, low), small)
+box : (empty : Bool) (lanes loops columns shift x lane offset : ℕ) → (empty ≡ true → lanes ≡ 0) → lane < lanes → x ≤ 32 * (columns + loops) → offset ≤ greatest_number
+    → Fits (if empty then (0, 0) else (32 * (shift + (columns + 2 * loops)) + 1, 16 * (lanes + loops))) (32 * shift + x, 16 * lane + 8, offset)
+box true lanes loops columns shift x lane offset none low near small = absurd (omega (arith, none refl, low))
+box false lanes loops columns shift x lane offset none low near small = (omega (arith, near), omega (arith, low), small)
 
-place_fits : (plan : Plan) → IsAdmissible plan → (lane : ℕ) (after : Option ℕ) → lane < plan.lanes → ForSome after (λ step. step < length plan.columns) → Fits (size_of plan) (cell_after plan lane after)
-place_fits plan h lane None low is = box (plan.lanes == 0) plan.lanes plan.latches (length plan.columns) (32 * (plan.latches + 0)) lane 0 (eqb-true plan.lanes 0) low (omega arith) (omega arith)
+place_fits : (plan : Plan) → IsAdmissible plan → (lane : ℕ) (after : Option ℕ) → lane < plan.lanes → ForSome after (λ step. step < length plan.columns) → Fits (size_of plan) (moved_east (tape_shift plan) (cell_after plan lane after))
+place_fits plan h lane None low is = box (plan.lanes == 0) plan.lanes plan.latches (length plan.columns) (tape_shift plan) (32 * (plan.latches + 0)) lane 0 (eqb-true plan.lanes 0) low (omega arith) (omega arith)
 place_fits plan h lane (Some column) low is =
     let step : column < length plan.columns = is column refl in
-    box (plan.lanes == 0) plan.lanes plan.latches (length plan.columns) (32 * (plan.latches + column) + 31) lane (32 * column + 31) (eqb-true plan.lanes 0) low (omega (arith, step)) (omega (arith, step, h.size.columns))
+    box (plan.lanes == 0) plan.lanes plan.latches (length plan.columns) (tape_shift plan) (32 * (plan.latches + column) + 31) lane (32 * column + 31) (eqb-true plan.lanes 0) low (omega (arith, step)) (omega (arith, step, h.size.columns))
 
-cells_fit : (plan : Plan) → IsAdmissible plan → All (Fits (size_of plan)) (net_cells plan)
+cells_fit : (plan : Plan) → IsAdmissible plan → All (Fits (size_of plan)) (drawn_net_cells plan)
 cells_fit plan h =
-    All-map (Fits (size_of plan)) (λ (place : NetPlace). cell_after plan place.lane place.after) plan.nets
+    All-map (Fits (size_of plan)) (λ (place : NetPlace). moved_east (tape_shift plan) (cell_after plan place.lane place.after)) plan.nets
     (λ k d lt. place_fits plan h (get_or plan.nets k d).lane (get_or plan.nets k d).after (h.nets k d lt).lane (h.nets k d lt).after)
 
 -- a name and a path that can stand in a table
@@ -69,7 +70,7 @@ names_fit flat names places =
 
 -- Lines of nets with such cells and names.
 module _ (flat : Flat) (plan : Plan) (h : IsAdmissible plan) (names : HasPortNames flat) (places : HasTablePlaces flat) (lines : List NetLine)
-    (cells : net_cells_of lines ≡ net_cells plan) (named : names_and_paths lines ≡ named_paths (listed_nets flat)) where
+    (cells : net_cells_of lines ≡ drawn_net_cells plan) (named : names_and_paths lines ≡ named_paths (listed_nets flat)) where
   each : (R : NetLine → Type 0) → ((line : NetLine) → Fits (size_of plan) (line.x, line.y, line.offset) → IsNamed (line.name, line.path) → R line) → AllByRecursion R lines
   each R both =
       each_line (Fits (size_of plan)) IsNamed R both lines (subst (All (Fits (size_of plan))) (sym cells) (cells_fit plan h))

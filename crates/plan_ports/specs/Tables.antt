@@ -1,7 +1,8 @@
 -- The port table of a plan that was made of a flat netlist.
-use Rattle.std.specs.Prelude.{ℕ, ◌≡◌, ◌≢◌, List, length, map, All, AllPairs}
+use Rattle.std.specs.Prelude.{ℕ, ◌+◌, ◌*◌, ◌≡◌, ◌≢◌, ◌==◌, if◌then◌else◌, List, [], length, map, All, AllPairs}
 use Rattle.lane_core.specs.declared.plan.Plan.{Plan}
-use Rattle.lane_core.specs.Plans.{period_of, latency_of, input_cells, output_cells, net_cells}
+use Rattle.lane_core.specs.Plans.{period_of, latency_of, left_of, row_of, cell_after}
+use Rattle.lane_core.specs.Tape.{tape_shift, moved_east}
 use Rattle.netlist_core.specs.declared.flat.Net.{Net as FlatNet}
 use Rattle.netlist_core.specs.declared.flat.Flat.{Flat}
 use Rattle.netlist_core.specs.Names.{Name}
@@ -18,6 +19,21 @@ pub record HasPortsOf (flat : Flat) (plan : Plan) : Type 0 where
   pub outs : length plan.outs ≡ length flat.outs
   pub nets : length plan.nets ≡ length (listed_nets flat)
 
+-- what a table lists of the inputs of a plan: each, or none where their bits are on a tape, since nothing drives them then
+abbrev pub driven_inputs : {X : Type 0} → Plan → List X → List X
+driven_inputs plan inputs = if length plan.tape == 0 then inputs else []
+
+-- x and y of the cells of inputs and of outputs, where the plan is drawn
+abbrev pub drawn_input_cells : Plan → List (ℕ × ℕ)
+drawn_input_cells plan = map (λ lane. (32 * tape_shift plan + left_of plan 0, row_of lane)) plan.ins
+
+abbrev pub drawn_output_cells : Plan → List (ℕ × ℕ)
+drawn_output_cells plan = map (λ lane. (32 * tape_shift plan + left_of plan (length plan.columns), row_of lane)) plan.outs
+
+-- and those of nets, with the generations from the inputs to them
+abbrev pub drawn_net_cells : Plan → List (ℕ × ℕ × ℕ)
+drawn_net_cells plan = map (λ place. moved_east (tape_shift plan) (cell_after plan place.lane place.after)) plan.nets
+
 -- the cells of nets, each with its offset
 abbrev pub net_cells_of : List NetLine → List (ℕ × ℕ × ℕ)
 net_cells_of lines = map (λ line. (line.x, line.y, line.offset)) lines
@@ -27,16 +43,17 @@ abbrev pub named_paths : List FlatNet → List (Name × List ℕ)
 named_paths nets = map (λ net. name_and_path net.place net.name) nets
 
 -- The period, the latency, the cells of ports, and the cells and the offsets of nets are the plan's. The names of ports, and the
--- names and places of nets, are the netlist's, in order: the nets are those that tables list. So many contexts run in the pattern.
+-- names and places of nets, are the netlist's, in order: the nets are those that tables list, and of a plan with a tape no input is
+-- named. So many contexts run in the pattern.
 pub record IsTableOf (flat : Flat) (plan : Plan) (c : ℕ) (ports : Ports) : Type 0 where
   pub period : ports.p ≡ period_of plan
   pub latency : ports.l ≡ latency_of plan
   pub contexts : ports.c ≡ c
-  pub in_cells : cells_of ports.ins ≡ input_cells plan
-  pub in_names : names_of ports.ins ≡ names_of_ports flat flat.ins
-  pub out_cells : cells_of ports.outs ≡ output_cells plan
+  pub in_cells : cells_of ports.ins ≡ driven_inputs plan (drawn_input_cells plan)
+  pub in_names : names_of ports.ins ≡ driven_inputs plan (names_of_ports flat flat.ins)
+  pub out_cells : cells_of ports.outs ≡ drawn_output_cells plan
   pub out_names : names_of ports.outs ≡ names_of_ports flat flat.outs
-  pub net_cells : net_cells_of ports.nets ≡ net_cells plan
+  pub net_cells : net_cells_of ports.nets ≡ drawn_net_cells plan
   pub net_names : names_and_paths ports.nets ≡ named_paths (listed_nets flat)
 
 -- the names of ports and of listed nets can stand in a port table

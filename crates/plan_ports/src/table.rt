@@ -1,9 +1,9 @@
 // The table of a plan, port by port.
 ghost use Rattle.std.specs.Prelude.{◌≡◌, All, IfOk};
-ghost use Rattle.lane_core.specs.Plans.{IsAdmissible, input_cells, output_cells};
+ghost use Rattle.lane_core.specs.Plans.{IsAdmissible};
 ghost use Rattle.netlist_meaning.specs.Flat.{IsInRange, IsNetId, name_of_net, names_of_ports};
 ghost use Rattle.pattern_reading.specs.Ports.{cells_of, names_of};
-ghost use Rattle.plan_ports.specs.Tables.{HasPortsOf, IsTableOf};
+ghost use Rattle.plan_ports.specs.Tables.{HasPortsOf, IsTableOf, driven_inputs, drawn_input_cells, drawn_output_cells};
 
 use crate::PortsError;
 use crate::nets::net_lines;
@@ -35,7 +35,7 @@ fn input_lines(alloc: Global, flat: &Flat, plan: &Plan) -> Result<Vec<PortLine>,
     requires there { All (λ port. IsNetId flat.now port.net) flat.now.ins }
     requires admissible { IsAdmissible plan.now }
     requires ports { HasPortsOf flat.now plan.now }
-    ensures cells { IfOk result (λ lines. cells_of lines.items ≡ input_cells plan.now) }
+    ensures cells { IfOk result (λ lines. cells_of lines.items ≡ drawn_input_cells plan.now) }
     ensures names { IfOk result (λ lines. names_of lines.items ≡ names_of_ports flat.now flat.now.ins) }
 {
     let mut lines = Vec::with_capacity(alloc, flat.ins.len())?;
@@ -46,11 +46,25 @@ fn input_lines(alloc: Global, flat: &Flat, plan: &Plan) -> Result<Vec<PortLine>,
     Ok(lines)
 }
 
+// The lines of the inputs that are driven: none where their bits are on a tape.
+fn driven_lines(alloc: Global, flat: &Flat, plan: &Plan) -> Result<Vec<PortLine>, PortsError>
+    requires there { All (λ port. IsNetId flat.now port.net) flat.now.ins }
+    requires admissible { IsAdmissible plan.now }
+    requires ports { HasPortsOf flat.now plan.now }
+    ensures cells { IfOk result (λ lines. cells_of lines.items ≡ driven_inputs plan.now (drawn_input_cells plan.now)) }
+    ensures names { IfOk result (λ lines. names_of lines.items ≡ driven_inputs plan.now (names_of_ports flat.now flat.now.ins)) }
+{
+    if plan.tape.len() > 0 {
+        return Ok(Vec::new(alloc));
+    }
+    input_lines(alloc, flat, plan)
+}
+
 fn output_lines(alloc: Global, flat: &Flat, plan: &Plan) -> Result<Vec<PortLine>, PortsError>
     requires there { All (λ port. IsNetId flat.now port.net) flat.now.outs }
     requires admissible { IsAdmissible plan.now }
     requires ports { HasPortsOf flat.now plan.now }
-    ensures cells { IfOk result (λ lines. cells_of lines.items ≡ output_cells plan.now) }
+    ensures cells { IfOk result (λ lines. cells_of lines.items ≡ drawn_output_cells plan.now) }
     ensures names { IfOk result (λ lines. names_of lines.items ≡ names_of_ports flat.now flat.now.outs) }
 {
     let mut lines = Vec::with_capacity(alloc, flat.outs.len())?;
@@ -62,14 +76,14 @@ fn output_lines(alloc: Global, flat: &Flat, plan: &Plan) -> Result<Vec<PortLine>
 }
 
 /// The port table of a plan that has an input and an output for each of the netlist's, and a net for each that tables list. In the
-/// pattern run `c` contexts.
+/// pattern run `c` contexts. Where the bits of the inputs are on the plan's tape, no input has a line.
 pub fn of_plan(alloc: Global, flat: &Flat, plan: &Plan, c: u64) -> Result<Ports, PortsError>
     requires in_range { IsInRange flat.now }
     requires admissible { IsAdmissible plan.now }
     requires ports { HasPortsOf flat.now plan.now }
     ensures { IfOk result (IsTableOf flat.now plan.now c) }
 {
-    let ins = input_lines(alloc, flat, plan)?;
+    let ins = driven_lines(alloc, flat, plan)?;
     let outs = output_lines(alloc, flat, plan)?;
     let nets = net_lines(alloc, flat, plan)?;
     Ok(Ports {

@@ -5,9 +5,9 @@ ghost use Rattle.aiger_text.specs.SoundAig.{IsSoundAig};
 
 use crate::running::plays;
 use aiger_meaning::LowerError;
+use aiger_plans::plan_circuit;
 use aiger_reader::{Aig, read};
 use aiger_text::laws::read_aigs_are_sound;
-use aiger_plans::plan_circuit;
 use netlist_plans::Planned;
 use std::alloc::Global;
 use std::test::Fail;

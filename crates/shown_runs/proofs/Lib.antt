@@ -3,3 +3,4 @@ pub mod Shown
 pub mod ShownNets
 pub mod Quiet
 pub mod Matching
+pub mod ByItself

@@ -39,11 +39,11 @@ head_is Tail false same = refl
 head_is Conductor false same = refl
 
 -- in the order of the outputs
-same_in : (f : PortLine → List Bool) (g : Name → List Bool) (outs : List PortLine) → All (λ out. f out ≡ g out.name) outs → map f outs ≡ map g (names_of outs)
+pub same_in : (f : PortLine → List Bool) (g : Name → List Bool) (outs : List PortLine) → All (λ out. f out ≡ g out.name) outs → map f outs ≡ map g (names_of outs)
 same_in f g [] h = refl
 same_in f g (out ∷ outs) h = ap₂ (λ (bits : List Bool) (rest : List (List Bool)). bits ∷ rest) (h 0 out (omega arith)) (same_in f g outs (λ k d lt. h (suc k) d (omega (arith, lt))))
 
-same_lines : (line : Name → List Bool → List ℕ) (f : PortLine → List Bool) (g : Name → List Bool) (outs : List PortLine) → All (λ out. f out ≡ g out.name) outs
+pub same_lines : (line : Name → List Bool → List ℕ) (f : PortLine → List Bool) (g : Name → List Bool) (outs : List PortLine) → All (λ out. f out ≡ g out.name) outs
     → flat_map (λ out. line out.name (f out)) outs ≡ flat_map (λ name. line name (g name)) (names_of outs)
 same_lines line f g [] h = refl
 same_lines line f g (out ∷ outs) h = ap₂ (λ (bits : List Bool) (rest : List ℕ). line out.name bits ++ rest) (h 0 out (omega arith)) (same_lines line f g outs (λ k d lt. h (suc k) d (omega (arith, lt))))

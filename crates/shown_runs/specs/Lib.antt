@@ -1,1 +1,2 @@
 pub mod ShownRuns
+pub mod ByItself

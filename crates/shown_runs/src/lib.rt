@@ -1,10 +1,12 @@
-//! What a pattern shows under streams of bits, in each context, is what its netlist gives under them.
+//! What a pattern shows under streams of bits, in each context, is what its netlist gives under them; and what a pattern shows
+//! that runs by itself.
 //!
 //! The functions here do nothing: their clauses are the laws.
 //!
-//! Theorem: `carriers_show_contexts`, `carriers_show_runs`, `carriers_show_nets`, `carriers_are_quiet`, `streams_match`.
+//! Theorem: `carriers_show_contexts`, `carriers_show_runs`, `carriers_show_nets`, `carriers_are_quiet`, `streams_match`, `runners_show_runs`.
 #![tactic(auto)]
 
+ghost use Rattle.shown_runs.specs.ByItself.{RunnersShowRuns};
 ghost use Rattle.shown_runs.specs.ShownRuns.{CarriersAreQuiet, CarriersShowContexts, CarriersShowNets, CarriersShowNetsInContexts, CarriersShowRuns, OneContextIsQuiet, StreamsAreFor, StreamsMatch, StreamsMatchInContexts};
 
 /// Of a text that carries a design in contexts: under streams for its inputs there is a run of the design in each context, from the
@@ -38,4 +40,10 @@ pub fn streams_match()
     ensures table { StreamsAreFor }
     ensures contexts { StreamsMatchInContexts }
     ensures one { StreamsMatch }
+{}
+
+/// Of a text that runs by itself as a design does on rows of input bits: for any number of cycles its outputs and nets show
+/// the bits of every run on the rows and on rows of 0 after them, and no stream is injected.
+pub fn runners_show_runs()
+    ensures { RunnersShowRuns }
 {}

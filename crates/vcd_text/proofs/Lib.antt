@@ -1,6 +1,6 @@
 mod Ids
 mod Values
-mod Order
 mod OneForm
-mod Alike
-mod References
+pub mod Order
+pub mod Alike
+pub mod References

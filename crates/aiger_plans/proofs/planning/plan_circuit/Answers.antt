@@ -1,4 +1,4 @@
-use Rattle.std.proofs.Common.{◌<◌, ◌^◌, arith}
+use Rattle.std.proofs.Common.{arith}
 use Rattle.aiger_plans.proofs.Named.{port_names, table_places}
 use Rattle.aiger_plans.proofs.OfFlat.{is_plan}
 use Rattle.aiger_plans.proofs.planning.plan_circuit.Goals as goal
@@ -11,3 +11,12 @@ plan_netlist-requires-clause-names c = port_names c.args.aig.now c.in_ok-lowered
 
 pub plan_netlist-requires-clause-places : goal.plan_netlist-requires-clause-places
 plan_netlist-requires-clause-places c = table_places c.args.aig.now c.in_ok-lowered.lowered.flat c.in_ok-lowered.ensures.lowered
+
+pub returns-in-Ok-clause-plan : goal.returns-in-Ok-clause-plan
+returns-in-Ok-clause-plan c =
+    let made = c.in-Ok.ensures in
+    is_plan c.flats_of_aigs_ask_alike.ensures c.aigs_are_carried.ensures c.args.aig.now c.in_ok-lowered.lowered.flat c.in_ok-lowered.ensures.is_flat c.in_ok-lowered.ensures.lowered
+    c.in-Ok.planned.plan c.in-Ok.planned.ports made.admissible made.edges made.small made.period made.carries
+
+pub returns-clause-refused : goal.returns-clause-refused
+returns-clause-refused c = tt

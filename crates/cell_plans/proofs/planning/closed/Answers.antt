@@ -32,6 +32,7 @@ returns c =
     let count : length plan.columns ≡ max (max (length program.latches) (min program.lanes 1)) (length columns) = count_is program columns (length starts) plan (omega (arith, c.from_ref.ensures.len)) closed in
     record {
       admissible = c.in_ok-plan.ensures.admissible;
+      bare = closed.tape;
       edges = c.in_ok-plan.ensures.edges;
       starts = subst (λ (s : List (List Bool)). StartsContexts plan s (start_edges plan)) (c.from_ref.ensures.value ∙ ap (λ (bits : List Bool). bits ∷ []) c.requires.placed.computes.starts) c.in_ok-plan.ensures.contexts;
       computes = c.closing_keeps_cells.ensures list program columns (length starts) plan closed c.in_ok-plan.ensures.same c.requires.placed.computes;

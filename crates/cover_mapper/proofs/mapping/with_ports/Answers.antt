@@ -1,12 +1,9 @@
 use Rattle.std.proofs.Common.{◌≡◌, ◌==◌, refl, sym, ◌∙◌, ap, List, map, length}
-use Rattle.std.specs.List.{filter_map}
 use Rattle.std.proofs.lemmas.List.{length-map}
 use Rattle.netlist_core.specs.declared.flat.FlatPort.{FlatPort}
 use Rattle.netlist_core.specs.declared.flat.FlatLatch.{FlatLatch}
-use Rattle.netlist_core.specs.declared.flat.Net.{Net as FlatNet}
 use Rattle.netlist_meaning.specs.Flat.{class_of, port_classes}
 use Rattle.cell_meaning.specs.Listed.{listed_classes}
-use Rattle.cover_mapper.specs.Singles.{single_source}
 use Rattle.cover_mapper.specs.Sourced.{sources_at, source_at}
 use Rattle.cover_mapper.proofs.Known.{all_gathered}
 use Rattle.cover_mapper.proofs.Finishing.{Ports, ports, gathered_there, finished_with, with_bits}

@@ -31,8 +31,8 @@ returns-in_err-quiet-clause-refused c =
     let same : generations ≡ last = omega arith in
     let near = c.if-generations-gt-GREATEST_GENERATION.false in
     let error = c.in_err-quiet.field-0.0 in
-    let misses = c.go_on.ensures.misses ∙ c.in_ok-bits.ensures.gone.misses ∙ c.in_ok-run.ensures.misses in
-    let seen = c.go_on.ensures.missed ∙ ap (λ (m : ℕ → Option Injection). m generations) misses ∙ ap (first_miss ports streams plane) same in
+    let misses = c.pass_injections.ensures.misses ∙ c.in_ok-bits.ensures.gone.misses ∙ c.in_ok-run.ensures.misses in
+    let seen = c.pass_injections.ensures.missed ∙ ap (λ (m : ℕ → Option Injection). m generations) misses ∙ ap (first_miss ports streams plane) same in
     let p = err_from_is_err_and c.from_residual-in_err-quiet.result c.from_residual-in_err-quiet.ensures.1 in
     rw (p.1, p.2)
     (simulate_cause ports streams plane last error (omega (arith, near))
@@ -47,8 +47,8 @@ returns-clause-quiet c =
     let generations = c.args.first + (32 * (ports.c - 1) + (streams.cycles - 1) * ports.p) in
     let same : generations ≡ last = omega arith in
     ap (first_miss ports streams plane) (sym same)
-    ∙ sym (c.go_on.ensures.missed
-    ∙ ap (λ (m : ℕ → Option Injection). m generations) (c.go_on.ensures.misses ∙ c.in_ok-bits.ensures.gone.misses ∙ c.in_ok-run.ensures.misses))
+    ∙ sym (c.pass_injections.ensures.missed
+    ∙ ap (λ (m : ℕ → Option Injection). m generations) (c.pass_injections.ensures.misses ∙ c.in_ok-bits.ensures.gone.misses ∙ c.in_ok-run.ensures.misses))
     ∙ c.in_ok-quiet.ensures.quiet
 
 pub returns-clause-bits : goal.returns-clause-bits

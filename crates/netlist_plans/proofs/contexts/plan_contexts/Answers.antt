@@ -1,11 +1,14 @@
-use Rattle.std.proofs.Common.{◌≡◌, sym, ◌∙◌, ap, subst, ◌<◌, ◌≤◌, Bool, List, length, map, arith}
+use Rattle.std.proofs.Common.{◌≡◌, sym, ◌∙◌, ap, subst, Bool, List, [], length, arith}
 use Rattle.std.specs.Prelude.{All}
 use Rattle.std.proofs.lemmas.List.{length-map}
-use Rattle.cell_core.specs.Loops.{loop_state}
+use Rattle.ww_rule.specs.Grid.{Grid}
 use Rattle.latch_loops.specs.Closed.{contexts_size}
 use Rattle.plan_layout.specs.Starts.{start_edges}
 use Rattle.plan_waves.specs.Contexts.{StartsContexts}
 use Rattle.latch_loops.specs.Padded.{IsPaddedPlan}
+use Rattle.pattern_writing.specs.WrittenText.{pattern_text}
+use Rattle.carries.specs.FlatContexts.{CarriesFlatContexts}
+use Rattle.plan_carries.proofs.Bare.{bare_grid}
 use Rattle.netlist_plans.specs.Contexts.{loop_bits}
 use Rattle.netlist_plans.proofs.Several.{loops_are, loops_long, contexts_fit, few_columns, padded_places}
 use Rattle.netlist_plans.proofs.contexts.plan_contexts.Goals as goal
@@ -29,6 +32,9 @@ of_plan-requires-clause-ports c =
     c.plans_have_ports.ensures c.args.flat.now k.list c.in_ok-plan.plan k.computes
     (c.padding_keeps_cells.ensures k.list _ c.args.plan c.in_ok-plan.plan c.in_ok-plan.ensures.padded c.in_ok-plan.ensures.same k.is.computes)
 
+pub returns-clause-bare : goal.returns-clause-bare
+returns-clause-bare c = c.in_ok-plan.ensures.padded.tape ∙ c.requires.planned.is.bare
+
 pub returns-clause-padded : goal.returns-clause-padded
 returns-clause-padded c =
     let many : length c.deref.result.now ≡ length c.args.starts.now = ap length (c.deref.ensures.value ∙ c.in_ok-loops.ensures) ∙ length-map c.args.starts.now (loop_bits c.args.plan) in
@@ -39,7 +45,9 @@ returns-clause-carries c =
     let k = c.requires.planned in
     let plan = c.in_ok-plan.plan in
     let is = c.deref.ensures.value ∙ c.in_ok-loops.ensures ∙ loops_are c.args.flat.now c.args.plan c.requires.weighed k c.args.starts.now c.requires.long in
-    c.texts_carry_contexts.ensures c.args.flat.now k.list plan c.in_ok-ports.ports c.args.starts.now c.requires.some (record {
+    let bare : plan.tape ≡ [] = c.in_ok-plan.ensures.padded.tape ∙ k.is.bare in
+    subst (λ (grid : Grid). CarriesFlatContexts (pattern_text grid c.in_ok-ports.ports) c.args.flat.now c.args.starts.now) (sym (bare_grid plan bare))
+    (c.texts_carry_contexts.ensures c.args.flat.now k.list plan c.in_ok-ports.ports c.args.starts.now c.requires.some (record {
       sound = c.requires.sound;
       order = c.requires.ordered.0;
       ordered = c.requires.ordered.1;
@@ -48,12 +56,13 @@ returns-clause-carries c =
       places = c.requires.places;
       list_computes = k.computes;
       admissible = c.in_ok-plan.ensures.admissible;
+      bare = bare;
       plan_computes = c.padding_keeps_cells.ensures k.list _ c.args.plan plan c.in_ok-plan.ensures.padded c.in_ok-plan.ensures.same k.is.computes;
       table = c.in_ok-ports.ensures;
     }) (start_edges plan) (record {
       long = c.requires.long;
       on_plan = subst (λ (bits : List (List Bool)). StartsContexts plan bits (start_edges plan)) is c.in_ok-plan.ensures.contexts;
-    })
+    }))
 
 pub returns-clause-places : goal.returns-clause-places
 returns-clause-places c = padded_places c.args.flat.now c.args.plan c.in_ok-plan.plan _ c.requires.planned c.in_ok-plan.ensures.padded

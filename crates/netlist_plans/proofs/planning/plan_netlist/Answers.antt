@@ -25,6 +25,7 @@ returns-clause-carries c =
       places = c.requires.places;
       list_computes = p.computes;
       admissible = p.is.admissible;
+      bare = p.is.bare;
       plan_computes = p.is.computes;
       table = c.in_ok-ports.ensures;
     }) (starts_as_flat c.args.flat.now p.list c.in_ok-plan.plan p.computes p.is.starts)

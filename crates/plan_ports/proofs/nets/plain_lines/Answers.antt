@@ -1,5 +1,6 @@
 use Rattle.std.proofs.Common.{◌≡◌, ◌∙◌, sym, ap, subst, ◌+◌, ◌<◌, length, get_or, not, true, arith, List, Vec, Global}
 use Rattle.lane_core.specs.Plans.{net_cell_of}
+use Rattle.lane_core.specs.Tape.{tape_shift, moved_east}
 use Rattle.netlist_core.specs.declared.flat.Net.{Net as FlatNet}
 use Rattle.netlist_core.specs.declared.flat.Flat.{Flat}
 use Rattle.netlist_meaning.specs.Flat.{is_clock_class}
@@ -35,7 +36,7 @@ loop-net-preserved c =
           with_line flat plan i old c.if-not-is_clock_class.lines.items w.in_ok-line.line net c.loop-net.invariant within is seen
           (one_more_there flat plan i old net c.requires.many c.loop-net.invariant within is seen)
           (ap (λ (lines : Vec NetLine Global). lines.items) w.lines-is ∙ w.in_ok-push.ensures.items)
-          (w.in_ok-line.ensures.cell ∙ ap (net_cell_of plan) number) w.in_ok-line.ensures.name w.in_ok-line.ensures.path)
+          (w.in_ok-line.ensures.cell ∙ ap (λ n. moved_east (tape_shift plan) (net_cell_of plan n)) number) w.in_ok-line.ensures.name w.in_ok-line.ensures.path)
       | else-not-is_clock_class w ↦ subst (λ (lines : List NetLine). AreNetLines flat plan (i + 1) lines) (ap (λ (lines : Vec NetLine Global). lines.items) (sym w.lines-is))
           (without_line flat plan i old net c.loop-net.invariant within is (ap not (sym same ∙ w.if-not-is_clock_class.false)))
     ]

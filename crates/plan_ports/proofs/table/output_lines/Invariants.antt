@@ -1,11 +1,11 @@
 use Rattle.std.proofs.Common.{◌≡◌, take}
-use Rattle.lane_core.specs.Plans.{output_cells}
 use Rattle.netlist_meaning.specs.Flat.{names_of_ports}
 use Rattle.pattern_reading.specs.Ports.{cells_of, names_of}
+use Rattle.plan_ports.specs.Tables.{drawn_output_cells}
 use Rattle.plan_ports.proofs.table.output_lines.Given as goal
 
 abbrev pub invariant-loop-i : goal.invariant-loop-i
 invariant-loop-i l = record {
-  cells : cells_of l.lines.items ≡ take l.i (output_cells l.plan);
+  cells : cells_of l.lines.items ≡ take l.i (drawn_output_cells l.plan);
   names : names_of l.lines.items ≡ take l.i (names_of_ports l.flat l.flat.outs);
 }

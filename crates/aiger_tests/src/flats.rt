@@ -1,0 +1,117 @@
+// What a circuit's flat netlist is and does, as text.
+ghost use Rattle.std.specs.Prelude.{◌≡◌, length};
+ghost use Rattle.netlist_meaning.specs.Flat.{IsSound};
+ghost use Rattle.netlist_meaning.specs.FlatOrder.{IsOrder};
+ghost use Rattle.aiger_text.specs.SoundAig.{IsSoundAig};
+
+use aiger_meaning::{LowerError, Lowered, lower};
+use aiger_reader::{Aig, read};
+use aiger_text::laws::read_aigs_are_sound;
+use netlist_core::{Flat, Order};
+use netlist_eval::Machine;
+use std::alloc::{AllocError, Global};
+
+// Sets each bit where the row has a `1`.
+fn set_bits(bits: &mut [bool], row: &[u8])
+    ensures { length bits.new ≡ length bits.old }
+{
+    for k in 0..bits.len() {
+        bits[k] = row.get(k).copied() == Some(b'1');
+    }
+}
+
+fn push_bits(line: &mut Vec<u8>, bits: &[bool]) -> Result<(), AllocError> {
+    for bit in bits {
+        line.push(if *bit { b'1' } else { b'0' })?;
+    }
+    Ok(())
+}
+
+// One cycle: adds a space and the bits of the outputs.
+fn push_cycle(
+    line: &mut Vec<u8>,
+    alloc: Global,
+    machine: &mut Machine<'_>,
+    flat: &Flat,
+    row: &[u8],
+) -> Result<(), AllocError>
+    requires { machine.old.flat ≡ flat.now }
+    ensures { machine.new.flat ≡ machine.old.flat }
+{
+    let mut inputs = vec![in alloc; false; flat.ins.len()]?;
+    let mut outputs = vec![in alloc; false; flat.outs.len()]?;
+    set_bits(inputs.as_mut_slice(), row);
+    machine.cycle(&inputs, outputs.as_mut_slice());
+    line.push(b' ')?;
+    push_bits(line, &outputs)
+}
+
+fn push_cycles(
+    line: &mut Vec<u8>,
+    alloc: Global,
+    machine: &mut Machine<'_>,
+    flat: &Flat,
+    rows: &[&[u8]],
+) -> Result<(), AllocError>
+    requires { machine.old.flat ≡ flat.now }
+{
+    for row in rows {
+        push_cycle(line, alloc, machine, flat, row)?;
+    }
+    Ok(())
+}
+
+// The weight, and the bits of the outputs in each cycle.
+fn flat_said(
+    alloc: Global,
+    flat: &Flat,
+    order: Order,
+    rows: &[&[u8]],
+) -> Result<Vec<u8>, AllocError>
+    requires sound { IsSound flat.now }
+    requires order { IsOrder flat.now order.nodes }
+{
+    let mut line = format!(in alloc; "weight {}", flat.weight)?.into_bytes();
+    match Machine::new(alloc, flat, order) {
+        Ok(machine) => {
+            let mut machine = machine;
+            push_cycles(&mut line, alloc, &mut machine, flat, rows)?;
+            Ok(line)
+        }
+        Err(_) => Err(AllocError),
+    }
+}
+
+fn loop_said(alloc: Global, lits: &[u64]) -> Result<Vec<u8>, AllocError> {
+    let mut line = b"loop:".to_vec(alloc)?;
+    for lit in lits {
+        line.extend_from_slice(format!(in alloc; " {lit}")?.as_bytes())?;
+    }
+    Ok(line)
+}
+
+fn aig_said(alloc: Global, aig: &Aig, rows: &[&[u8]]) -> Result<Vec<u8>, AllocError>
+    requires { IsSoundAig aig.now }
+{
+    match lower(alloc, aig) {
+        Ok(lowered) => {
+            let Lowered { flat, order } = lowered;
+            flat_said(alloc, &flat, order, rows)
+        }
+        Err(LowerError::TooLarge { weight }) => {
+            Ok(format!(in alloc; "too large: weight {weight}")?.into_bytes())
+        }
+        Err(LowerError::Loop(lits)) => loop_said(alloc, lits.as_slice()),
+        Err(LowerError::NoMemory) => Err(AllocError),
+    }
+}
+
+/// What is said of the circuit of a text: the weight of its flat netlist and the bits of the outputs for each row of input
+/// bits, or why there is no flat netlist.
+pub fn lowered_said(alloc: Global, text: &[u8], rows: &[&[u8]]) -> Result<Vec<u8>, AllocError> {
+    read_aigs_are_sound();
+    match read(alloc, text) {
+        Ok(aig) => aig_said(alloc, &aig, rows),
+        Err(_) => Err(AllocError),
+    }
+}

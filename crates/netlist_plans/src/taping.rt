@@ -1,0 +1,58 @@
+// The plan of a flat netlist with the bits of its inputs on its tape.
+ghost use Rattle.std.specs.Prelude.{◌≡◌, ◌≤◌, ℕ, List, [], length, All, IfOk};
+ghost use Rattle.carries.specs.ByItself.{RunsByItselfFlat};
+ghost use Rattle.grid_assembly.specs.PlanDrawing.{start_grid};
+ghost use Rattle.lane_core.specs.Plans.{IsAdmissible};
+ghost use Rattle.netlist_meaning.specs.Flat.{IsNamed, IsSound};
+ghost use Rattle.netlist_meaning.specs.FlatOrder.{IsOrder};
+ghost use Rattle.pattern_writing.specs.WrittenText.{pattern_text};
+ghost use Rattle.plan_layout.specs.Starts.{HasStartEdges};
+ghost use Rattle.plan_ports.specs.Tables.{HasPortNames, HasTablePlaces, IsTableOf};
+ghost use Rattle.streams.specs.Rows.{rows_of};
+ghost use Rattle.tape_loader.specs.Loaded.{with_tape};
+ghost use Rattle.netlist_plans.specs.Lists.{IsPlanned};
+ghost use Rattle.netlist_plans.specs.Planned.{IsSmall};
+
+use crate::{NetlistPlanError, Planned};
+use carries::runners_go_on;
+use lane_core::Plan;
+use netlist_core::Flat;
+use plan_carries::{plans_have_ports, tapes_run_by_themselves};
+use plan_ports::of_plan;
+use std::alloc::Global;
+use streams::Streams;
+use tape_loader::load;
+
+/// The plan that `plan_netlist` makes of a flat netlist, with streams of its inputs on its tape, and the table of that plan,
+/// which names no input. The text of both runs by itself: nothing drives it, and it shows the run on the streams, and on 0
+/// from then on. There are streams for one context, of 1 to 4,096 cycles.
+pub fn load_netlist(
+    alloc: Global,
+    flat: &Flat,
+    plan: Plan,
+    streams: &Streams,
+) -> Result<Planned, NetlistPlanError>
+    requires sound { IsSound flat.now }
+    requires ordered { (order : List ℕ) × IsOrder flat.now order }
+    requires named { IsNamed flat.now }
+    requires names { HasPortNames flat.now }
+    requires places { HasTablePlaces flat.now }
+    requires planned { IsPlanned flat.now plan }
+    requires many { length streams.now.bits ≡ length flat.now.ins }
+    requires long { All (λ bits. length bits ≡ streams.now.cycles) streams.now.bits }
+    requires some { 1 ≤ streams.now.cycles }
+    requires few { streams.now.cycles ≤ 4096 }
+    ensures admissible { IfOk result (λ p. IsAdmissible p.plan) }
+    ensures edges { IfOk result (λ p. HasStartEdges p.plan) }
+    ensures loaded { IfOk result (λ p. p.plan ≡ with_tape streams.now.bits plan) }
+    ensures table { IfOk result (λ p. IsTableOf flat.now p.plan 1 p.ports) }
+    ensures small { IsSmall flat.now plan → IfOk result (λ p. IsSmall flat.now p.plan) }
+    ensures runs { IfOk result (λ p. RunsByItselfFlat (pattern_text (start_grid p.plan) p.ports) flat.now (rows_of streams.now)) }
+{
+    plans_have_ports();
+    let plan = load(alloc, plan, streams.bits.as_slice())?;
+    let ports = of_plan(alloc, flat, &plan, 1)?;
+    tapes_run_by_themselves();
+    runners_go_on();
+    Ok(Planned { plan, ports })
+}

@@ -1,0 +1,5 @@
+pub mod Blocks
+pub mod RunIn
+pub mod Rows
+pub mod Begin
+pub mod Shown

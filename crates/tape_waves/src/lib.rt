@@ -1,0 +1,25 @@
+//! Plans with a tape: the bits of their inputs lie before the body and run in by themselves.
+//!
+//! The functions here do nothing: their clauses are the laws.
+//!
+//! Theorem: `tapes_run_in`, `tapes_begin`, `tapes_show_rows`.
+#![tactic(auto)]
+
+ghost use Rattle.tape_waves.specs.Laws.{TapesRunIn, TapesBegin, TapesShowRows};
+
+/// A macro step of an admissible plan with a tape is one of the plan that is driven, with the tape a tile further east.
+pub fn tapes_run_in()
+    ensures { TapesRunIn }
+{}
+
+/// What is lit at the beginning of an admissible plan with a tape is what the rows of the tape, and the starts of the
+/// loops, light.
+pub fn tapes_begin()
+    ensures { TapesBegin }
+{}
+
+/// Without any drive, outputs and nets of an admissible plan with a tape show what they show in the plan that the rows of
+/// the tape drive.
+pub fn tapes_show_rows()
+    ensures { TapesShowRows }
+{}

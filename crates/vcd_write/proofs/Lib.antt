@@ -1,0 +1,9 @@
+mod Packed
+mod DueOrder
+mod DueSteps
+mod Variables
+mod FirstBits
+mod Named
+mod Words
+mod Texts
+mod Dumped

@@ -1,0 +1,46 @@
+use Rattle.std.proofs.Common.{arith}
+use Rattle.vcd_write.proofs.DueSteps.{all_right, begin_with, fewer_left, step, taken_was}
+use Rattle.vcd_write.proofs.Packed.{zeros_at, zeros_long}
+use Rattle.vcd_write.proofs.reading.read_bits.Goals as goal
+
+pub bits-init : goal.bits-init
+bits-init c =
+    let raster = c.args.raster.now in
+    begin_with raster c.args.first.items c.args.run.now c.of-due.result c.in_ok-bits.bits c.requires.run c.requires.near c.requires.order c.requires.within
+    c.of-due.ensures.unbegun c.of-due.ensures.begun (zeros_long c.in_ok-bits.bits raster.bits c.in_ok-bits.ensures) (zeros_at c.in_ok-bits.bits raster.bits c.in_ok-bits.ensures)
+
+pub read_bit-requires : goal.read_bit-requires
+read_bit-requires c =
+    let p = c.bits.invariant in
+    let bit = c.in-Some.bit in
+    let order = c.in-Some.ensures.order p.at c.args.raster.now.period p.order in
+    let place = (p.within bit (taken_was bit c.bits.due c.take_earliest.new.self c.in-Some.ensures.taken)).place in
+    record { run = p.gone.run; order = (let o = order.0 in let a = p.after in omega (arith, o, a)); place = (let long = p.long in omega (arith, place, long)) }
+
+pub put_next-requires : goal.put_next-requires
+put_next-requires c = c.bits.invariant.within c.in-Some.bit (taken_was c.in-Some.bit c.bits.due c.take_earliest.new.self c.in-Some.ensures.taken)
+
+pub bits-preserved : goal.bits-preserved
+bits-preserved c =
+    let p = c.bits.invariant in
+    let bit = c.in-Some.bit in
+    let order = c.in-Some.ensures.order p.at c.args.raster.now.period p.order in
+    step c.args.raster.now bit c.bits.due c.take_earliest.new.self c.put_next.new.self c.in-Some.ensures.taken c.in_ok-put_next.ensures.unbegun c.in_ok-put_next.ensures.begun
+    c.args.first.items c.args.run.now c.bits.run c.read_bit.new.run c.bits.bits c.read_bit.new.bits p order.1 c.read_bit.ensures.gone c.read_bit.ensures.long c.read_bit.ensures.bits
+
+pub bits-smaller : goal.bits-smaller
+bits-smaller c =
+    let p = c.bits.invariant in
+    let bit = c.in-Some.bit in
+    fewer_left c.args.raster.now bit c.bits.due c.take_earliest.new.self c.put_next.new.self (p.within bit (taken_was bit c.bits.due c.take_earliest.new.self c.in-Some.ensures.taken))
+    c.in-Some.ensures.taken c.in_ok-put_next.ensures.unbegun c.in_ok-put_next.ensures.begun
+
+pub returns-clause-gone : goal.returns-clause-gone
+returns-clause-gone c = c.bits.invariant.gone
+
+pub returns-clause-long : goal.returns-clause-long
+returns-clause-long c = c.bits.invariant.long
+
+pub returns-clause-bits : goal.returns-clause-bits
+returns-clause-bits c shown at_first k low =
+    all_right c.args.raster.now c.args.first.items c.args.run.now c.bits.run c.bits.due c.bits.bits c.bits.invariant c.in_default.ensures.taken.0 c.in_default.ensures.taken.1 shown at_first k low

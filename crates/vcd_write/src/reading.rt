@@ -1,0 +1,52 @@
+// The bits that a run shows, read in the order of their generations.
+ghost use Rattle.std.specs.Prelude.{◌≡◌, ◌≤◌, ◌<◌, ◌==◌, ◌&&◌, ◌||◌, ℕ, Bool, false, pos, All, IfOk, OnOk, length, get_or};
+ghost use Rattle.ww_rule.specs.Wireworld.{is_head};
+ghost use Rattle.drive.specs.Runs.{HasGoneOn, IsBandRun, planes_of};
+ghost use Rattle.vcd_write.specs.DueBits.{AreDueFrom, AreFirstBits, IsWithin};
+
+use crate::due_bits::{DueBit, DueBits, Raster};
+use crate::packed_bits::PackedBits;
+use drive::Run;
+use std::alloc::{AllocError, Global};
+
+// Reads a bit that is due.
+fn read_bit(run: &mut Run, bits: &mut PackedBits, bit: DueBit)
+    requires run { IsBandRun run.old }
+    requires order { run.old.generation ≤ bit.generation }
+    requires place { bit.place < length bits.old }
+    ensures gone { HasGoneOn bit.generation run.old run.new }
+    ensures long { length bits.new ≡ length bits.old }
+    ensures bits { (k : ℕ) → get_or bits.new k false
+        ≡ ((k == bit.place && is_head (planes_of run.old bit.generation (pos bit.x) (pos bit.y))) || get_or bits.old k false) }
+{
+    run.go_on(bit.generation);
+    if run.is_head(bit.x, bit.y) {
+        bits.set(bit.place);
+    }
+}
+
+/// The bits that a run shows at the places of a raster, where these are the first ones of its variables, in the order of
+/// their generations. The run goes on to the last of them.
+pub fn read_bits(
+    alloc: Global,
+    run: &mut Run,
+    first: Vec<DueBit>,
+    raster: &Raster,
+) -> Result<PackedBits, AllocError>
+    requires run { IsBandRun run.old }
+    requires near { run.old.generation ≤ raster.now.last }
+    requires order { AreDueFrom run.old.generation first.items }
+    requires within { All (IsWithin raster.now) first.items }
+    ensures gone { OnOk result (HasGoneOn raster.now.last run.old run.new) }
+    ensures long { IfOk result (λ bits. length bits ≡ raster.now.bits) }
+    ensures bits { IfOk result (λ bits. (shown : ℕ → Bool) → AreFirstBits shown (planes_of run.old) raster.now first.items
+        → (k : ℕ) → k < raster.now.bits → get_or bits k false ≡ shown k) }
+{
+    let mut bits = PackedBits::zeros(alloc, raster.bits)?;
+    let mut due = DueBits::of(alloc, first);
+    'bits: while let Some(bit) = due.take_earliest() {
+        read_bit(run, &mut bits, bit);
+        due.put_next(bit, raster)?;
+    }
+    Ok(bits)
+}
