@@ -1,14 +1,17 @@
 // The names of inputs and outputs.
-ghost use Rattle.std.specs.Prelude.{◌≡◌, ◌+◌, ◌^◌, ◌<◌, List, [], length, slice_get, option_map, IfOk};
+ghost use Rattle.std.specs.Prelude.{◌≡◌, ◌+◌, ◌^◌, ◌<◌, ◌≤◌, List, [], not, true, Some, length, get_or, take, slice_get, option_map, IfOk};
+ghost use Rattle.lists.specs.Names.{is_among};
 ghost use Rattle.aiger_text.specs.EntryFaults.{fault_on};
 ghost use Rattle.aiger_text.specs.Names.{letter_of, names_for, plain_name, repeats_after};
 ghost use Rattle.aiger_text.specs.Symbols.{Symbol};
 ghost use Rattle.aiger_text.specs.declared.fault.AigFaultKind.TheVariants.{SameName};
+ghost use Rattle.aiger_reader.specs.Earlier.{KnowsEarlier, is_earlier, number_of_name};
 ghost use Rattle.aiger_reader.specs.Known.{KnowsNames};
 
 use aiger_text::SymbolKind;
 use itoa::Buffer;
 use lists::{Bytes, copied};
+use pattern_lines::number_in;
 use std::alloc::{AllocError, Global};
 use std::collections::BTreeSet;
 
@@ -56,6 +59,59 @@ pub fn names_for(
     Ok(names)
 }
 
+// The number after the first byte of a name, as it stands in a plain name.
+fn number_of_name(name: &[u8]) -> Option<u64>
+    ensures { result ≡ number_of_name name.now }
+{
+    match name {
+        [_, digits @ ..] => number_in(digits),
+        [] => None,
+    }
+}
+
+// Whether the number is that of a place.
+fn is_number_at(number: Option<u64>, place: usize) -> bool
+    ensures { result ≡ true → number ≡ Some place }
+{
+    match number {
+        Some(k) => k == place as u64,
+        None => false,
+    }
+}
+
+// Whether the name of a number is an earlier one, and the same.
+fn is_earlier(names: &[Bytes], i: usize, name: &[u8], number: Option<u64>) -> bool
+    requires { i ≤ length names.now }
+    ensures { result ≡ is_earlier names.now i name.now number }
+{
+    let Some(k) = number else { return false };
+    k < i as u64 && names[k as usize].as_slice() == name
+}
+
+// Whether a name is none of those before it, and then notes it. Plain names are found at their numbers, so a text of many of them takes no set.
+fn note<'a>(seen: &mut BTreeSet<&'a [u8]>, names: &'a [Bytes], i: usize) -> Result<bool, AllocError>
+    requires { i < length names.now }
+    ensures fresh { IfOk result (λ fresh.
+        KnowsEarlier names.now i seen.old
+        → fresh ≡ not (is_among (get_or names.now i []) (take i names.now))
+        ) }
+    ensures known { IfOk result (λ fresh.
+        KnowsEarlier names.now i seen.old
+        → fresh ≡ true
+        → KnowsEarlier names.now (i + 1) seen.new
+        ) }
+{
+    let name = names[i].as_slice();
+    let number = number_of_name(name);
+    if is_earlier(names, i, name, number) {
+        return Ok(false);
+    }
+    if is_number_at(number, i) {
+        return Ok(!seen.contains(name));
+    }
+    Ok(seen.insert(name)?)
+}
+
 /// The line of the first name that stands among those before it, where the first name is that of this line.
 pub fn first_repeat(alloc: Global, names: &[Bytes], line: u64) -> Result<Option<u64>, AllocError>
     requires { line + length names.now < 2 ^ 64 }
@@ -65,8 +121,8 @@ pub fn first_repeat(alloc: Global, names: &[Bytes], line: u64) -> Result<Option<
         ) }
 {
     let mut seen = BTreeSet::new(alloc);
-    for (i, name) in names.iter().enumerate() {
-        let is_new = seen.insert(name.as_slice())?;
+    for i in 0..names.len() {
+        let is_new = note(&mut seen, names, i)?;
         if !is_new {
             return Ok(Some(line + i as u64));
         }

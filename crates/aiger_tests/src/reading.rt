@@ -54,6 +54,11 @@ const CIRCUITS: &[(&[u8], &[u8])] = &[
         b"aag 2 1 1 1 0\n2\n4 2\n4\no0 y\nl0 y\ni0 y\n",
         b"m 2, in 2, latch 4 2 0, out 4, y, y",
     ),
+    // names of one number, and the plain name of another place
+    (
+        b"aag 3 3 0 0 0\n2\n4\n6\ni0 a0\ni1 b0\ni2 i3\n",
+        b"m 3, in 2, in 4, in 6, a0, b0, i3",
+    ),
 ];
 
 // Texts with a fault, and the first one.
@@ -101,6 +106,15 @@ const FAULTS: &[(&[u8], &[u8])] = &[
     (b"aag 1 0 1 0 0\n2 0\nl0 a\nl0 b\n", b"A8 BadSymbol line 4"),
     // one name twice: a plain name is a name too, and inputs come before outputs
     (b"aag 2 2 0 0 0\n2\n4\ni0 i1\n", b"A9 SameName line 3"),
+    (b"aag 2 2 0 0 0\n2\n4\ni1 i0\n", b"A9 SameName line 3"),
+    (
+        b"aag 2 2 0 0 0\n2\n4\ni0 x00\ni1 x00\n",
+        b"A9 SameName line 3",
+    ),
+    (
+        b"aag 3 3 0 0 0\n2\n4\n6\ni0 a7\ni2 a7\n",
+        b"A9 SameName line 4",
+    ),
     (
         b"aag 2 1 1 2 0\n2\n4 0\n2\n3\no0 y\no1 y\n",
         b"A9 SameName line 5",

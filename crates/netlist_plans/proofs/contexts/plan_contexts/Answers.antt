@@ -1,8 +1,7 @@
-use Rattle.std.proofs.Common.{◌≡◌, sym, ◌∙◌, ap, subst, ◌<◌, ◌≤◌, Bool, List, [], length, map, arith}
+use Rattle.std.proofs.Common.{◌≡◌, sym, ◌∙◌, ap, subst, Bool, List, [], length, arith}
 use Rattle.std.specs.Prelude.{All}
 use Rattle.std.proofs.lemmas.List.{length-map}
 use Rattle.ww_rule.specs.Grid.{Grid}
-use Rattle.cell_core.specs.Loops.{loop_state}
 use Rattle.latch_loops.specs.Closed.{contexts_size}
 use Rattle.plan_layout.specs.Starts.{start_edges}
 use Rattle.plan_waves.specs.Contexts.{StartsContexts}
