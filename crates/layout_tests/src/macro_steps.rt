@@ -2,7 +2,7 @@
 ghost use Rattle.lane_core.specs.Plans.{IsAdmissible};
 ghost use Rattle.macro_grid.specs.Edges.{IsEdgesOf, lit_of};
 ghost use Rattle.macro_grid.specs.Planes.{IsDrawnAfter32};
-ghost use Rattle.plan_layout.specs.Layout.{tiling_of};
+ghost use Rattle.plan_layout.specs.Tape.{drawn_tiling};
 ghost use Rattle.tile_library.specs.Drawings.{shipped_drawing};
 
 use crate::plans::{BARE, OR, Written, admitted, plan_of};
@@ -39,7 +39,7 @@ fn step_shipped(plan: &Plan, old: &Edges, new: &mut Edges)
     requires admissible { IsAdmissible plan.now }
     requires made { IsEdgesOf plan.now new.old }
     ensures made { IsEdgesOf plan.now new.new }
-    ensures plane { IsDrawnAfter32 shipped_drawing (tiling_of plan.now) (lit_of old.now) (lit_of new.new) }
+    ensures plane { IsDrawnAfter32 shipped_drawing (drawn_tiling plan.now) (lit_of old.now) (lit_of new.new) }
 {
     keeps_law(&Shipped);
     macro_step(plan, old, new);
