@@ -17,3 +17,5 @@ mod runs;
 mod tables;
 #[cfg(test)]
 mod texts;
+#[cfg(test)]
+mod waves;

@@ -4,6 +4,7 @@ ghost use Rattle.pattern_reading.specs.Ports.{cells_of};
 ghost use Rattle.ww_rule.specs.Grid.{AreInBox};
 ghost use Rattle.drive.specs.Driving.{AreFor};
 
+use crate::waves::dump_said;
 use drive::{SimulateError, StreamError, Streams, simulate};
 use lists::{Bytes, List};
 use pattern_reading::{PortLine, Ports};
@@ -13,13 +14,13 @@ use ww_base::expect;
 use ww_rule::Pattern;
 
 // A wire of three cells.
-const WIRE: &[u8] = b"x = 3, y = 1, rule = WireWorld\n3C!";
+pub const WIRE: &[u8] = b"x = 3, y = 1, rule = WireWorld\n3C!";
 
 // The same, one below the other.
 const WIRE_DOWN: &[u8] = b"x = 1, y = 3, rule = WireWorld\nC$C$C!";
 
 // An OR gate: the inputs enter at (0, 8) and (0, 24), the output is at (32, 8).
-const OR_GATE: &[u8] = b"x = 33, y = 32, rule = WireWorld
+pub const OR_GATE: &[u8] = b"x = 33, y = 32, rule = WireWorld
 .................................$
 .................................$
 .................................$
@@ -116,8 +117,28 @@ fn streams_for(
     Streams::read(alloc, &words, &names, cycles, contexts)
 }
 
+/// What is asked of a pattern that streams drive: what its outputs show, or a dump of its nets.
+#[derive(Clone, Copy)]
+pub enum Asked {
+    Outputs,
+    Dump,
+}
+
+/// Why a pattern is not run.
+pub fn refusal_said(alloc: Global, error: SimulateError) -> Result<Vec<u8>, AllocError> {
+    match error {
+        SimulateError::TooFar { generations } => {
+            Ok(format!(in alloc; "TooFar {generations}")?.into_bytes())
+        }
+        SimulateError::NotQuiet { generation, x, y } => {
+            Ok(format!(in alloc; "NotQuiet {generation} {x} {y}")?.into_bytes())
+        }
+        SimulateError::NoMemory => Err(AllocError),
+    }
+}
+
 // What the outputs of a pattern show, or why it is not run.
-fn run(
+fn outputs_said(
     alloc: Global,
     pattern: Pattern,
     ports: &Ports,
@@ -129,44 +150,66 @@ fn run(
 {
     match simulate(alloc, pattern, ports, streams) {
         Ok(outputs) => shown(alloc, outputs.as_slice()),
-        Err(SimulateError::TooFar { generations }) => {
-            Ok(format!(in alloc; "TooFar {generations}")?.into_bytes())
-        }
-        Err(SimulateError::NotQuiet { generation, x, y }) => {
-            Ok(format!(in alloc; "NotQuiet {generation} {x} {y}")?.into_bytes())
-        }
-        Err(SimulateError::NoMemory) => Err(AllocError),
+        Err(error) => refusal_said(alloc, error),
+    }
+}
+
+// What a driven pattern shows, or why it is not run.
+fn run(
+    alloc: Global,
+    pattern: Pattern,
+    ports: &Ports,
+    streams: &Streams,
+    asked: Asked,
+) -> Result<Vec<u8>, AllocError>
+    requires cycles { 0 < streams.now.cycles }
+    requires streams { AreFor ports.now streams.now }
+    requires in_box { AreInBox pattern.width pattern.height (cells_of ports.now.ins) }
+{
+    match asked {
+        Asked::Outputs => outputs_said(alloc, pattern, ports, streams),
+        Asked::Dump => dump_said(alloc, pattern, ports, streams),
     }
 }
 
 // What a text's pattern shows in so many cycles, or why there are no streams or no run.
-fn said(alloc: Global, text: &[u8], words: &[&str], cycles: usize) -> Result<Vec<u8>, Fail>
+fn said(
+    alloc: Global,
+    text: &[u8],
+    words: &[&str],
+    cycles: usize,
+    asked: Asked,
+) -> Result<Vec<u8>, Fail>
     requires { 0 < cycles }
 {
     let pattern = rle_read::read(alloc, text)?;
     let ports = port_table::read(alloc, text, pattern.width, pattern.height)?;
     let said = match streams_for(alloc, ports.ins.as_slice(), words, cycles, ports.c) {
-        Ok(streams) => run(alloc, pattern, &ports, &streams),
+        Ok(streams) => run(alloc, pattern, &ports, &streams, asked),
         Err(error) => fault_shown(alloc, error),
     };
     Ok(said?)
 }
 
-// A table and a pattern as one text, and what is said of it.
-fn said_of(
+/// A table and a pattern as one text, and what is said of it.
+pub fn said_of(
     alloc: Global,
     table: &[u8],
     pattern: &[u8],
     words: &[&str],
     cycles: usize,
+    asked: Asked,
 ) -> Result<Vec<u8>, Fail> {
     if cycles == 0 {
         return Err(Fail::new("no cycles"));
     }
     let mut text = table.to_vec(alloc)?;
     text.extend_from_slice(pattern)?;
-    said(alloc, &text, words, cycles)
+    said(alloc, &text, words, cycles, asked)
 }
+
+// A ring on which an electron goes round for ever.
+const RING: &[u8] = b"x = 4, y = 3, rule = WireWorld\n.BA$C2.C$.2C!";
 
 // A table with two inputs on the wire.
 const TWO_INPUTS: &[u8] =
@@ -287,6 +330,21 @@ const RUNS: &[(&[u8], &[u8], &[&str], usize, &[u8])] = &[
         2,
         b"",
     ),
+    // a ring without outputs, whose last injection comes long before the last generation, and one that misses
+    (
+        b"#C BLIFWW 1 P 4294967294 L 2\n#C BLIFWW IN 1 2 a\n",
+        RING,
+        &["a=10"],
+        2,
+        b"",
+    ),
+    (
+        b"#C BLIFWW 1 P 64 L 2\n#C BLIFWW IN 1 2 a\n#C BLIFWW IN 1 1 b\n",
+        RING,
+        &["a=10", "b=01"],
+        2,
+        b"NotQuiet 64 1 1",
+    ),
     // a gate, and one head and each generation up to 32
     (
         b"#C BLIFWW 1 P 32 L 32\n#C BLIFWW IN 0 8 a\n#C BLIFWW IN 0 24 b\n#C BLIFWW OUT 32 8 y\n",
@@ -351,7 +409,8 @@ const RUNS: &[(&[u8], &[u8], &[&str], usize, &[u8])] = &[
 #[test]
 fn patterns_are_driven(rt: HostRuntime) -> Result<(), Fail> {
     for (table, pattern, words, cycles, want) in RUNS {
-        expect(&said_of(rt.alloc(), table, pattern, words, *cycles)?, want)?;
+        let said = said_of(rt.alloc(), table, pattern, words, *cycles, Asked::Outputs)?;
+        expect(&said, want)?;
     }
     Ok(())
 }

@@ -1,0 +1,171 @@
+// Dumps of the nets of patterns that streams drive.
+ghost use Rattle.std.specs.Prelude.{◌<◌};
+ghost use Rattle.pattern_reading.specs.Ports.{cells_of};
+ghost use Rattle.ww_rule.specs.Grid.{AreInBox};
+ghost use Rattle.drive.specs.Driving.{AreFor};
+
+use crate::runs::{Asked, OR_GATE, WIRE, refusal_said, said_of};
+use drive::Streams;
+use pattern_reading::Ports;
+use std::alloc::{AllocError, Global};
+use std::test::Fail;
+use vcd_write::{Vcd, of, write};
+use ww_base::{MemSink, expect};
+use ww_rule::Pattern;
+
+// The text of variables.
+fn written(alloc: Global, vcd: &Vcd) -> Result<Vec<u8>, AllocError> {
+    let Ok(mut sink) = MemSink::new(alloc, 8000, 1000, &[]) else {
+        return Err(AllocError);
+    };
+    if write(vcd, &mut sink).is_err() {
+        return Err(AllocError);
+    }
+    sink.held().to_vec(alloc)
+}
+
+/// The dump of the nets of a pattern, or why it is not run.
+pub fn dump_said(
+    alloc: Global,
+    pattern: Pattern,
+    ports: &Ports,
+    streams: &Streams,
+) -> Result<Vec<u8>, AllocError>
+    requires cycles { 0 < streams.now.cycles }
+    requires streams { AreFor ports.now streams.now }
+    requires in_box { AreInBox pattern.width pattern.height (cells_of ports.now.ins) }
+{
+    match of(alloc, pattern, ports, streams) {
+        Ok(vcd) => written(alloc, &vcd),
+        Err(error) => refusal_said(alloc, error),
+    }
+}
+
+// A table of a wire without nets, of the greatest period that two cycles allow.
+const NO_NETS: &[u8] = b"#C BLIFWW 1 P 4294967296 L 2\n#C BLIFWW IN 0 0 a\n";
+
+// The same with an input on no cell of the wire.
+const OFF_WIRE: &[u8] = b"#C BLIFWW 1 P 32 L 2\n#C BLIFWW IN 0 0 a\n#C BLIFWW IN 0 1 b\n";
+
+// A wire of two rows, of which the second is empty.
+const TWO_ROWS: &[u8] = b"x = 3, y = 2, rule = WireWorld\n3C!";
+
+// Tables, patterns, words, cycles, and what is said.
+const DUMPS: &[(&[u8], &[u8], &[&str], usize, &[u8])] = &[
+    // a gate, of which a net changes in the second cycle alone
+    (
+        b"#C BLIFWW 1 P 32 L 32\n#C BLIFWW IN 0 8 a\n#C BLIFWW IN 0 24 b\n#C BLIFWW OUT 32 8 y
+#C BLIFWW NET 0 8 0 a -\n#C BLIFWW NET 0 24 0 b -\n#C BLIFWW NET 32 8 32 y -\n",
+        OR_GATE,
+        &["a=01", "b=00"],
+        2,
+        b"$var wire 1 ! a $end\n$var wire 1 \" b $end\n$var wire 1 # y $end\n$enddefinitions $end
+#0\n0!\n0\"\n0#\n#1\n1!\n1#\n#2\n",
+    ),
+    // no net
+    (
+        b"#C BLIFWW 1 P 4 L 2\n#C BLIFWW IN 0 0 a\n#C BLIFWW OUT 2 0 y\n",
+        WIRE,
+        &["a=1"],
+        1,
+        b"$enddefinitions $end\n#0\n#1\n",
+    ),
+    (
+        NO_NETS,
+        WIRE,
+        &["a=11"],
+        2,
+        b"$enddefinitions $end\n#0\n#1\n#2\n",
+    ),
+    // nets that begin in any order, one of them after a period and more
+    (
+        b"#C BLIFWW 1 P 4 L 2\n#C BLIFWW IN 0 0 a
+#C BLIFWW NET 2 0 2 y -\n#C BLIFWW NET 1 0 9 z -\n#C BLIFWW NET 0 0 0 a -\n",
+        WIRE,
+        &["a=1101"],
+        4,
+        b"$var wire 1 ! y $end\n$var wire 1 \" z $end\n$var wire 1 # a $end\n$enddefinitions $end
+#0\n1!\n0\"\n1#\n#1\n1\"\n#2\n0!\n0\"\n0#\n#3\n1!\n1#\n#4\n",
+    ),
+    // all nets of a context before those of the next
+    (
+        b"#C BLIFWW 1 P 64 L 2 C 2\n#C BLIFWW IN 0 0 a\n#C BLIFWW NET 2 0 2 y -\n#C BLIFWW NET 0 0 0 a 1.0\n",
+        WIRE,
+        &["1:a=01", "0:a=10"],
+        2,
+        b"$var wire 1 ! 0:y $end\n$var wire 1 \" 0:1.0/a $end
+$var wire 1 # 1:y $end\n$var wire 1 $ 1:1.0/a $end\n$enddefinitions $end
+#0\n1!\n1\"\n0#\n0$\n#1\n0!\n0\"\n1#\n1$\n#2\n",
+    ),
+    // escapes
+    (
+        b"#C BLIFWW 2 P 4 L 2 C 1\n#C BLIFWW IN 0 0 a\n#C BLIFWW NET 2 0 2 %24$%25%20b 0\n",
+        WIRE,
+        &["a=1"],
+        1,
+        b"$var wire 1 ! 0/%24%24%25%20b $end\n$enddefinitions $end\n#0\n1!\n#1\n",
+    ),
+    // an injection that meets no conductor, with nets and without them, where generation 0 alone is needed
+    (
+        b"#C BLIFWW 1 P 1 L 2\n#C BLIFWW IN 0 0 a\n#C BLIFWW NET 2 0 2 y -\n",
+        WIRE,
+        &["a=11"],
+        2,
+        b"NotQuiet 1 0 0",
+    ),
+    (OFF_WIRE, TWO_ROWS, &["a=00", "b=10"], 2, b"NotQuiet 0 0 1"),
+    (
+        OFF_WIRE,
+        TWO_ROWS,
+        &["a=00", "b=01"],
+        2,
+        b"$enddefinitions $end\n#0\n#1\n#2\n",
+    ),
+    // past the greatest generation
+    (
+        b"#C BLIFWW 1 P 4294967296 L 2\n#C BLIFWW IN 0 0 a\n#C BLIFWW NET 0 0 0 a -\n#C BLIFWW NET 2 0 2 y -\n",
+        WIRE,
+        &["a=11"],
+        2,
+        b"TooFar 4294967298",
+    ),
+];
+
+#[test]
+fn nets_are_dumped(rt: HostRuntime) -> Result<(), Fail> {
+    for (table, pattern, words, cycles, want) in DUMPS {
+        let said = said_of(rt.alloc(), table, pattern, words, *cycles, Asked::Dump)?;
+        expect(&said, want)?;
+    }
+    Ok(())
+}
+
+// A table of a wire with so many nets.
+fn table_of(alloc: Global, nets: usize) -> Result<Vec<u8>, AllocError> {
+    let mut table = b"#C BLIFWW 1 P 4 L 2\n#C BLIFWW IN 0 0 a\n".to_vec(alloc)?;
+    for net in 0..nets {
+        let line = format!(in alloc; "#C BLIFWW NET 0 0 0 n{net} -\n")?;
+        table.extend_from_slice(line.as_bytes())?;
+    }
+    Ok(table)
+}
+
+// The lines of a text from one of them on, so many.
+fn lines(alloc: Global, text: &[u8], first: usize, many: usize) -> Result<Vec<u8>, AllocError> {
+    let mut found = Vec::new(alloc);
+    for line in text.split(|b| *b == b'\n').skip(first).take(many) {
+        found.extend_from_slice(line)?;
+        found.push(b'\n')?;
+    }
+    Ok(found)
+}
+
+// The last id of one digit, and the first of two.
+#[test]
+fn ids_have_digits(rt: HostRuntime) -> Result<(), Fail> {
+    let alloc = rt.alloc();
+    let table = table_of(alloc, 95)?;
+    let said = said_of(alloc, &table, WIRE, &["a=1"], 1, Asked::Dump)?;
+    let ids = lines(alloc, &said, 93, 2)?;
+    expect(&ids, b"$var wire 1 ~ n93 $end\n$var wire 1 !\" n94 $end\n")
+}
