@@ -29,6 +29,7 @@ use Rattle.netlist_plans.specs.Planned.{IsSmall}
 use Rattle.carries.specs.FlatNets.{CarriesFlat}
 use Rattle.carries.proofs.OneWay.{one_spelling}
 use Rattle.plan_carries.specs.Laws.{DesignsAreCarried}
+use Rattle.plan_carries.proofs.Bare.{bare_in_names}
 use Rattle.plan_ports.specs.Tables.{IsTableOf}
 use Rattle.streams.specs.declared.streams.Streams.{Streams}
 use Rattle.streams.specs.Rows.{rows_of}
@@ -52,9 +53,9 @@ use Rattle.made_summary.proofs.Drawn.{streams_long, streams_many}
 
 pub is_planned : DesignsAreCarried → MadeAreNetlists → MadeHaveSizes → TextsAreDecided → WrittenPlansRead → (seed size : ℕ) → 0 < size → size ≤ 128
     → (netlist : Netlist) (planned : Planned) → IsNetlist (made_text seed size) netlist.design → AreParts netlist.design netlist.flat netlist.order.nodes
-    → IsAdmissible planned.plan → IsTableOf netlist.flat planned.plan 1 planned.ports → CarriesFlat (pattern_text (start_grid planned.plan) planned.ports) netlist.flat → IsSmall netlist.flat planned.plan
+    → IsAdmissible planned.plan → planned.plan.tape ≡ [] → IsTableOf netlist.flat planned.plan 1 planned.ports → CarriesFlat (pattern_text (start_grid planned.plan) planned.ports) netlist.flat → IsSmall netlist.flat planned.plan
     → IsMadeWithPlan seed size netlist planned
-is_planned law netlists sizes decided read seed size some few netlist planned is p admissible table carries slight =
+is_planned law netlists sizes decided read seed size some few netlist planned is p admissible bare table carries slight =
     let design = netlist.design in
     let flat = netlist.flat in
     let plan = planned.plan in
@@ -79,7 +80,7 @@ is_planned law netlists sizes decided read seed size some few netlist planned is
         loops = omega (arith, slight.loops, has.latches);
       };
       reads = read (made_text seed size) design flat plan ports is.is.design_of (let few : weight design ≤ 8192 = p.light in omega (arith, few)) p.is_flat admissible table;
-      ins = sym (length-map ports.ins (λ (line : PortLine). line.name)) ∙ ap (λ (names : List Name). length names) table.in_names ∙ length-map flat.ins (λ (port : FlatPort). name_of_net flat port.net) ∙ has.ins;
+      ins = sym (length-map ports.ins (λ (line : PortLine). line.name)) ∙ ap (λ (names : List Name). length names) (bare_in_names plan bare flat 1 ports table) ∙ length-map flat.ins (λ (port : FlatPort). name_of_net flat port.net) ∙ has.ins;
     }
 
 -- the drawn streams are for the inputs

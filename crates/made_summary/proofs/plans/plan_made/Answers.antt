@@ -43,7 +43,7 @@ returns-clause-plan c =
     let text = c.as_slice.ensures ∙ c.in_ok-made.ensures.text in
     is_planned c.designs_are_carried.ensures c.made_are_netlists.ensures c.made_have_sizes.ensures c.texts_are_decided.ensures c.written_plans_read.ensures c.args.seed c.args.size c.requires.some_gate c.requires.few_gates
     c.in_ok-netlist.netlist c.in_ok-planned.planned (subst (λ (t : List ℕ). IsNetlist t c.in_ok-netlist.netlist.design) text c.in_ok-netlist.ensures.netlist) c.in_ok-netlist.ensures.parts
-    c.in_ok-planned.ensures.admissible c.in_ok-planned.ensures.table c.in_ok-planned.ensures.carries c.in_ok-planned.ensures.small
+    c.in_ok-planned.ensures.admissible c.in_ok-planned.ensures.bare c.in_ok-planned.ensures.table c.in_ok-planned.ensures.carries c.in_ok-planned.ensures.small
 
 pub make-requires-clause-seed : goal.make-requires-clause-seed
 make-requires-clause-seed c = c.requires.seed
