@@ -2,7 +2,7 @@
 use Rattle.std.proofs.Common.{ℕ, zero, suc, ◌≡◌, ◌<◌, ◌≤◌, ◌+◌, ◌*◌, refl, sym, ap, ◌∙◌, subst, Bool, false, List, length, flat_map, get_or, length-append, arith}
 use Rattle.std.specs.List.{range_with_len}
 use Rattle.std.specs.Prelude.{Some, slice_get}
-use Rattle.std.proofs.Math.Nat.{mul-le-mul}
+use Rattle.std.proofs.Math.Nat.{mul-le-mul_right, suc-mul, zero-mul}
 use Rattle.std.proofs.lemmas.List.{length-map}
 use Rattle.std.proofs.lemmas.List.FromFn.{get_or-map-range_with_len}
 use Rattle.std.proofs.lemmas.Option.{slice_get_within}
@@ -27,10 +27,11 @@ use Rattle.blifww_tool.proofs.Fed.{as_many, feeds, for_table, is_start, own_run,
 
 -- each context has a variable for each net
 variables_many : (nets : List NetLine) (first many : ℕ) → length (flat_map (λ c. nets_in c nets) (range_with_len first many)) ≡ many * length nets
-variables_many nets first zero = refl
+variables_many nets first zero = sym (zero-mul (length nets))
 variables_many nets first (suc many) =
     let rest : List NetInContext = flat_map (λ c. nets_in c nets) (range_with_len (first + 1) many) in
-    omega (arith, length-append (nets_in first nets) rest, length-map nets (λ net. record { context = first; net = net }), variables_many nets (first + 1) many)
+    let here : length (nets_in first nets) ≡ length nets = length-map nets (λ net. record { context = first; net = net }) in
+    omega (arith, length-append (nets_in first nets) rest, here, variables_many nets (first + 1) many, suc-mul many (length nets))
 
 -- a net's variable is one of the dump's
 is_variable : (s : Simulation) (context number : ℕ) → context < s.ports.c → number < length s.ports.nets
@@ -39,9 +40,8 @@ is_variable s context number low within =
     let all : length (waves_of s).references ≡ length (nets_in_contexts s.ports) = length-map (nets_in_contexts s.ports) (reference_of s.ports.c) in
     let many : length (nets_in_contexts s.ports) ≡ s.ports.c * length s.ports.nets = variables_many s.ports.nets 0 s.ports.c in
     let next : suc context ≤ s.ports.c = omega (arith, low) in
-    let nets : length s.ports.nets ≤ length s.ports.nets = omega arith in
-    let after : suc context * length s.ports.nets ≤ s.ports.c * length s.ports.nets = mul-le-mul next nets in
-    omega (arith, within, all, many, after)
+    let after : suc context * length s.ports.nets ≤ s.ports.c * length s.ports.nets = mul-le-mul_right (length s.ports.nets) next in
+    omega (arith, within, all, many, after, suc-mul context (length s.ports.nets))
 
 -- a net's bit in a cycle of a run
 bit_in_run : (run : ℕ → Valuation) (cycles cycle : ℕ) (net : Net) → cycle < cycles → get_or (net_bits_in_run run cycles net) cycle false ≡ run cycle net.place net.name
