@@ -18,9 +18,21 @@ use crate::items::write_item;
 use crate::rows::{Kept, end_row, write_same};
 use grid_assembly::{West, run_in, run_on_tape, tape_end, west_of};
 use lane_core::Plan;
-use plan_layout::{Slot, slot_drawn_at};
+use plan_layout::{Slot, slot_at, slot_drawn_at};
 use ww_base::{Failed, Page, Sink};
 use ww_rule::State;
+
+// What stands in a block of the drawing: without a tape, what the plan has there.
+fn block_at(plan: &Plan, column: u64, lane: u64) -> Slot
+    requires admissible { IsAdmissible plan.now }
+    ensures { slot_of result ≡ drawn_tiling plan.now column lane }
+{
+    if plan.tape.len() == 0 {
+        slot_at(plan, column, lane)
+    } else {
+        slot_drawn_at(plan, column, lane)
+    }
+}
 
 // What stands in the block of the cell at column `x` and row `y`: it is looked up where the block begins, and is else
 // what stood there for the cell before.
@@ -30,7 +42,7 @@ fn slot_from(plan: &Plan, y: u64, x: u64, before: Slot) -> Slot
     ensures { slot_of result ≡ drawn_tiling plan.now (x / 32) (y / 16) }
 {
     if x % 32 == 0 {
-        slot_drawn_at(plan, x / 32, y / 16)
+        block_at(plan, x / 32, y / 16)
     } else {
         before
     }
@@ -39,6 +51,7 @@ fn slot_from(plan: &Plan, y: u64, x: u64, before: Slot) -> Slot
 // The next run of a row, and what stands in the block to which it goes: west of the plan no block is looked up.
 fn next_run(
     plan: &Plan,
+    end: u64,
     west: West,
     before: Slot,
     y: u64,
@@ -46,6 +59,7 @@ fn next_run(
     limit: u64,
 ) -> (Slot, (State, u64))
     requires admissible { IsAdmissible plan.now }
+    requires end { end ≡ tape_end plan.now }
     requires row { IsWest plan.now y west }
     requires before { tape_end plan.now ≤ x → x % 32 ≢ 0 → slot_of before ≡ drawn_tiling plan.now (x / 32) (y / 16) }
     requires low { y < 2 ^ 60 }
@@ -54,7 +68,7 @@ fn next_run(
     ensures slot { tape_end plan.now ≤ x + result.1.1 → (x + result.1.1) % 32 ≢ 0 →
         slot_of result.0 ≡ drawn_tiling plan.now ((x + result.1.1) / 32) (y / 16) }
 {
-    if x < tape_end(plan) {
+    if x < end {
         (before, run_on_tape(plan, west, y, x, limit))
     } else {
         let slot = slot_from(plan, y, x, before);
@@ -84,12 +98,12 @@ fn write_plan_row<O: Sink>(
         Broke (O.written sink.old) (O.written sink.new) (O.faults sink.old) (O.faults sink.new)
         (text_left (held page.old) (column_of page.old) (rows_left ends (start_row plan.now y ∷ rows)))) }
 {
-    let west = west_of(plan, y);
+    let (end, west) = (tape_end(plan), west_of(plan, y));
     let mut kept = Kept::begin(ends);
     let mut x = 0;
     let mut slot = Slot::Nothing;
     'runs: while x < width {
-        let (block, (state, count)) = next_run(plan, west, slot, y, x, width - x);
+        let (block, (state, count)) = next_run(plan, end, west, slot, y, x, width - x);
         slot = block;
         kept = write_same(sink, page, kept, state, count as usize)?;
         x += count;

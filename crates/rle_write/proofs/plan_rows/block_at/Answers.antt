@@ -1,0 +1,9 @@
+use Rattle.std.proofs.Common.{sym, ◌∙◌, ap}
+use Rattle.std.proofs.lemmas.List.{nil_from_length}
+use Rattle.plan_layout.proofs.Bare.{bare}
+use Rattle.rle_write.proofs.plan_rows.block_at.Goals as goal
+
+pub returns-then-len-eq0 : goal.returns-then-len-eq0
+returns-then-len-eq0 c =
+    let none = nil_from_length c.args.plan.now.tape (sym c.len.ensures ∙ c.if-len-eq0.true) in
+    c.slot_at.ensures ∙ sym (ap (λ t. t c.args.column c.args.lane) (bare c.args.plan.now none).tiling)
