@@ -71,7 +71,7 @@ const CHAINS: &[(u64, u64, bool, &[u8])] = &[
     (186, 2000, false, b"weight 8192 1 1 0"),
     (187, 2000, false, b"too large: weight 8193"),
     (187, 2000, true, b"too large: weight 8193"),
-    (1, 50000, false, b"too large: weight 200007"),
+    (1, 5000, false, b"too large: weight 20007"),
     (3, 4, true, b"loop: 10 12 14 8"),
 ];
 

@@ -9,7 +9,7 @@ use drive::Streams;
 use pattern_reading::Ports;
 use std::alloc::{AllocError, Global};
 use std::test::Fail;
-use vcd_write::{Vcd, of, write};
+use vcd_write::{PackedBits, Vcd, of, write};
 use ww_base::{MemSink, expect};
 use ww_rule::Pattern;
 
@@ -168,4 +168,27 @@ fn ids_have_digits(rt: HostRuntime) -> Result<(), Fail> {
     let said = said_of(alloc, &table, WIRE, &["a=1"], 1, Asked::Dump)?;
     let ids = lines(alloc, &said, 93, 2)?;
     expect(&ids, b"$var wire 1 ~ n93 $end\n$var wire 1 !\" n94 $end\n")
+}
+
+// Some bits around the borders of words, where two are set.
+fn packed(alloc: Global) -> Result<Vec<u8>, AllocError> {
+    let mut bits = PackedBits::zeros(alloc, 130)?;
+    if bits.len() < 130 {
+        return Err(AllocError);
+    }
+    bits.set(64);
+    bits.set(129);
+    let shown = [
+        bits.get(0),
+        bits.get(63),
+        bits.get(64),
+        bits.get(65),
+        bits.get(129),
+    ];
+    shown.iter().map(|bit| b'0' + u8::from(*bit)).collect(alloc)
+}
+
+#[test]
+fn bits_are_packed(rt: HostRuntime) -> Result<(), Fail> {
+    expect(&packed(rt.alloc())?, b"00101")
 }

@@ -193,7 +193,7 @@ computes plan h bare list is = record {
 pub computes_bare : (plan : Plan) → IsAdmissible plan → (list : CellList) → IsListOf plan list → ComputesByPlan list (without_nets plan)
 computes_bare plan h list is =
     computes (without_nets plan)
-    (record { size = record { lanes = h.size.lanes; columns = h.size.columns; both = h.size.both; loops_on_lanes = h.size.loops_on_lanes; loops_in_columns = h.size.loops_in_columns }; instrs = h.instrs; apart = h.apart; ins = h.ins; outs = h.outs; nets = λ k d lt. absurd (omega (arith, lt)) })
+    (record { size = record { lanes = h.size.lanes; columns = h.size.columns; both = h.size.both; loops_on_lanes = h.size.loops_on_lanes; loops_in_columns = h.size.loops_in_columns }; instrs = h.instrs; apart = h.apart; ins = h.ins; outs = h.outs; nets = λ k d lt. absurd (omega (arith, lt)); tape = record { each_input = h.tape.each_input; lists = record { range = h.tape.lists.range; alike = h.tape.lists.alike } } })
     refl list
     (record { inputs = is.inputs; cells = is.cells; outs = is.outs; latches = is.latches; starts = is.starts; nets = is.nets })
 

@@ -1,8 +1,8 @@
 // The bits that all nets show in all contexts.
-ghost use Rattle.std.specs.Prelude.{◌≡◌, ◌≢◌, ◌≤◌, ◌<◌, ◌+◌, ◌*◌, ◌^◌, ℕ, false, pos, Some, IfOk, IfSome, OnOk, length, get_or, slice_get};
+ghost use Rattle.std.specs.Prelude.{◌≡◌, ◌≢◌, ◌≤◌, ◌<◌, ◌+◌, ◌*◌, ◌^◌, ℕ, false, pos, Some, IfErr, IfOk, IfSome, OnOk, length, get_or, slice_get};
 ghost use Rattle.ww_rule.specs.Wireworld.{is_head};
-ghost use Rattle.drive.specs.Driving.{AreFor};
-ghost use Rattle.drive.specs.Runs.{HasGoneOn, IsBandRun, planes_of};
+ghost use Rattle.drive.specs.Driving.{AreFor, HasRunCause};
+ghost use Rattle.drive.specs.Runs.{HasGoneOn, IsBandRun, first_miss_of, planes_of};
 ghost use Rattle.vcd_write.specs.NetWaves.{NetInContext, greatest_offset, last_of_all_nets, nets_in_contexts};
 ghost use Rattle.vcd_write.specs.NetBits.{FitsNets};
 
@@ -10,9 +10,9 @@ use crate::due_bits::Raster;
 use crate::first_bits::sorted_first_bits;
 use crate::packed_bits::PackedBits;
 use crate::reading::read_bits;
-use drive::{CONTEXT_GENERATIONS, Run};
+use drive::{CONTEXT_GENERATIONS, Run, SimulateError};
 use pattern_reading::{NetLine, Ports};
-use std::alloc::{AllocError, Global};
+use std::alloc::Global;
 use streams::Streams;
 
 // The greatest of the generations at which nets show their first bits.
@@ -57,13 +57,13 @@ pub fn raster_of(ports: &Ports, cycles: usize, variables: usize, last: u64) -> O
 }
 
 /// The bits that nets show in a run, at the places of a raster: one row a cycle, with the nets of context 0 first. The run
-/// goes on to the last of them.
+/// goes on to the last of them, or to the first after an injection whose cell was no conductor.
 pub fn bits_of_nets(
     alloc: Global,
     run: &mut Run,
     ports: &Ports,
     raster: &Raster,
-) -> Result<PackedBits, AllocError>
+) -> Result<PackedBits, SimulateError>
     requires run { IsBandRun run.old }
     requires begun { run.old.generation ≡ 0 }
     requires fits { (cycles : ℕ) × FitsNets ports.now cycles raster.now }
@@ -73,6 +73,7 @@ pub fn bits_of_nets(
         → cycle * raster.now.variables + n < raster.now.bits
         → get_or bits (cycle * raster.now.variables + n) false
         ≡ is_head (planes_of run.old (variable.net.offset + 32 * variable.context + cycle * ports.now.p) (pos variable.net.x) (pos variable.net.y))) }
+    ensures refused { IfErr result (HasRunCause (first_miss_of run.old raster.now.last)) }
 {
     let first = sorted_first_bits(alloc, ports)?;
     read_bits(alloc, run, first, raster)

@@ -1,13 +1,14 @@
 // The bits that a run shows, read in the order of their generations.
-ghost use Rattle.std.specs.Prelude.{◌≡◌, ◌≤◌, ◌<◌, ◌==◌, ◌&&◌, ◌||◌, ℕ, Bool, false, pos, All, IfOk, OnOk, length, get_or};
+ghost use Rattle.std.specs.Prelude.{◌≡◌, ◌≤◌, ◌<◌, ◌==◌, ◌&&◌, ◌||◌, ℕ, Bool, false, pos, All, IfErr, IfOk, OnOk, length, get_or};
 ghost use Rattle.ww_rule.specs.Wireworld.{is_head};
-ghost use Rattle.drive.specs.Runs.{HasGoneOn, IsBandRun, planes_of};
+ghost use Rattle.drive.specs.Driving.{HasRunCause};
+ghost use Rattle.drive.specs.Runs.{HasGoneOn, IsBandRun, first_miss_of, planes_of};
 ghost use Rattle.vcd_write.specs.DueBits.{AreDueFrom, AreFirstBits, IsWithin};
 
 use crate::due_bits::{DueBit, DueBits, Raster};
 use crate::packed_bits::PackedBits;
-use drive::Run;
-use std::alloc::{AllocError, Global};
+use drive::{Run, SimulateError};
+use std::alloc::Global;
 
 // Reads a bit that is due.
 fn read_bit(run: &mut Run, bits: &mut PackedBits, bit: DueBit)
@@ -26,13 +27,13 @@ fn read_bit(run: &mut Run, bits: &mut PackedBits, bit: DueBit)
 }
 
 /// The bits that a run shows at the places of a raster, where these are the first ones of its variables, in the order of
-/// their generations. The run goes on to the last of them.
+/// their generations. The run goes on to the last of them, or to the first after an injection whose cell was no conductor.
 pub fn read_bits(
     alloc: Global,
     run: &mut Run,
     first: Vec<DueBit>,
     raster: &Raster,
-) -> Result<PackedBits, AllocError>
+) -> Result<PackedBits, SimulateError>
     requires run { IsBandRun run.old }
     requires near { run.old.generation ≤ raster.now.last }
     requires order { AreDueFrom run.old.generation first.items }
@@ -41,11 +42,13 @@ pub fn read_bits(
     ensures long { IfOk result (λ bits. length bits ≡ raster.now.bits) }
     ensures bits { IfOk result (λ bits. (shown : ℕ → Bool) → AreFirstBits shown (planes_of run.old) raster.now first.items
         → (k : ℕ) → k < raster.now.bits → get_or bits k false ≡ shown k) }
+    ensures refused { IfErr result (HasRunCause (first_miss_of run.old raster.now.last)) }
 {
     let mut bits = PackedBits::zeros(alloc, raster.bits)?;
     let mut due = DueBits::of(alloc, first);
     'bits: while let Some(bit) = due.take_earliest() {
         read_bit(run, &mut bits, bit);
+        run.quiet()?;
         due.put_next(bit, raster)?;
     }
     Ok(bits)

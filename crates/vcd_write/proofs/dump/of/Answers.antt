@@ -62,3 +62,18 @@ returns-in_err-quiet-clause-refused c =
     rw (p.1, p.2)
     (simulate_cause ports streams plane last error near
     (subst (λ (m : Option Injection). HasRunCause m error) seen c.in_err-quiet.ensures.refused))
+
+pub returns-in_err-bits-clause-refused : goal.returns-in_err-bits-clause-refused
+returns-in_err-bits-clause-refused c =
+    let ports = c.args.ports.now in
+    let streams = c.args.streams.now in
+    let plane = plane_of c.args.pattern.rows in
+    let last = last_of_all_nets ports streams in
+    let near : last ≤ greatest_generation = omega (arith, c.if-generations-gt-GREATEST_GENERATION.false, c.last_of_all_nets-generations.ensures) in
+    let error = c.in_err-bits.field-0.0 in
+    let same : c.in-Some.raster.last ≡ last = ap (λ r. r.last) c.in-Some.ensures.raster ∙ c.last_of_all_nets-generations.ensures in
+    let seen = ap (λ (m : ℕ → Option Injection). m c.in-Some.raster.last) c.in_ok-run.ensures.misses ∙ ap (first_miss ports streams plane) same in
+    let p = err_from_is_err_and c.from_residual-in_err-bits.result c.from_residual-in_err-bits.ensures.1 in
+    rw (p.1, p.2)
+    (simulate_cause ports streams plane last error near
+    (subst (λ (m : Option Injection). HasRunCause m error) seen c.in_err-bits.ensures.refused))

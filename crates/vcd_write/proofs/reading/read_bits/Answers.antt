@@ -1,4 +1,8 @@
-use Rattle.std.proofs.Common.{arith}
+use Rattle.std.proofs.Common.{◌≡◌, ◌≤◌, ◌<◌, ◌+◌, ◌*◌, ◌∙◌, subst, ℕ, Option, arith}
+use Rattle.std.proofs.lemmas.Result.{err_from_is_err_and}
+use Rattle.ww_rule.specs.declared.pattern.Injection.{Injection}
+use Rattle.drive.specs.Driving.{HasRunCause}
+use Rattle.drive.proofs.LaterMisses.{later_cause}
 use Rattle.vcd_write.proofs.DueSteps.{all_right, begin_with, fewer_left, step, taken_was}
 use Rattle.vcd_write.proofs.Packed.{zeros_at, zeros_long}
 use Rattle.vcd_write.proofs.reading.read_bits.Goals as goal
@@ -44,3 +48,20 @@ returns-clause-long c = c.bits.invariant.long
 pub returns-clause-bits : goal.returns-clause-bits
 returns-clause-bits c shown at_first k low =
     all_right c.args.raster.now c.args.first.items c.args.run.now c.bits.run c.bits.due c.bits.bits c.bits.invariant c.in_default.ensures.taken.0 c.in_default.ensures.taken.1 shown at_first k low
+
+pub returns-in_err-quiet-clause-refused : goal.returns-in_err-quiet-clause-refused
+returns-in_err-quiet-clause-refused c =
+    let p = c.bits.invariant in
+    let raster = c.args.raster.now in
+    let bit = c.in-Some.bit in
+    let here = p.within bit (taken_was bit c.bits.due c.take_earliest.new.self c.in-Some.ensures.taken) in
+    let low = here.place in
+    let early : bit.generation + 0 * raster.period ≤ raster.last = here.early 0 (omega (arith, low)) in
+    let went = c.read_bit.ensures.gone in
+    let order = went.order in
+    let new = c.read_bit.new.run in
+    let error = c.in_err-quiet.field-0.0 in
+    let cause = later_cause new new.generation raster.last error went.run (omega (arith, order, early)) c.in_err-quiet.ensures.refused in
+    let q = err_from_is_err_and c.from_residual-in_err-quiet.result c.from_residual-in_err-quiet.ensures.1 in
+    rw (q.1, q.2)
+    (subst (λ (m : ℕ → Option Injection). HasRunCause (m raster.last) error) (went.misses ∙ p.gone.misses) cause)
