@@ -11,7 +11,7 @@ const TOGGLE_TAPE: &[&str] = &["blifww", "tape", "--cycles", "4"];
 const OR_BEGIN: &[u8] =
     b"#C BLIFWW 2 P 32 L 32 C 1\n#C BLIFWW OUT 64 8 y\n#C BLIFWW NET 32 8 0 a -\n#C BLIFWW NET 32 24 0 b -\n#C BLIFWW NET 63 8 31 y -\nx = 65, y = 32, rule = WireWorld\n8$A36C18.10C$";
 
-const OR_END: &[u8] = b"A30CBA4C26.C!\n";
+const OR_END: &[u8] = b"A30CBA4C\n26.C!\n";
 
 #[test]
 fn streams_lie_before_the_gate(rt: HostRuntime) -> Result<(), Fail> {
