@@ -8,6 +8,8 @@ mod circuits;
 #[cfg(test)]
 mod drawing;
 #[cfg(test)]
+mod lifting;
+#[cfg(test)]
 mod plans;
 #[cfg(test)]
 mod rows;
