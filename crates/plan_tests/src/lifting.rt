@@ -28,7 +28,13 @@ fn lifted(alloc: Global, written: &Written<'_>) -> Result<CellList, Fail> {
 fn a_plan_makes_the_cells_of_its_list(rt: HostRuntime) -> Result<(), Fail> {
     let list = lifted(rt.alloc(), &TOGGLE)?;
     assert_eq!(rt;
-        (list.inputs, list.cells.as_slice(), list.outs.as_slice(), list.latches.as_slice(), list.starts.as_slice()),
+        (
+            list.inputs,
+            list.cells.as_slice(),
+            list.outs.as_slice(),
+            list.latches.as_slice(),
+            list.starts.as_slice()
+        ),
         (1, TOGGLE.cells, TOGGLE.outs, TOGGLE.latches, TOGGLE.starts)
     );
     Ok(())
@@ -37,9 +43,15 @@ fn a_plan_makes_the_cells_of_its_list(rt: HostRuntime) -> Result<(), Fail> {
 #[test]
 fn loops_start_where_they_enter(rt: HostRuntime) -> Result<(), Fail> {
     let starts = starts_of_bits(rt.alloc(), 4, &[false, true])?;
-    assert_eq!(rt; (starts.has(64, 40), starts.has(64, 56), starts.list.len()), (false, true, 1));
+    assert_eq!(rt;
+        (starts.has(64, 40), starts.has(64, 56), starts.list.len()),
+        (false, true, 1)
+    );
     let list = list_of(rt.alloc(), &TOGGLE)?;
     let plan = plan_of(rt.alloc(), &list)?;
-    assert_eq!(rt; first_bits(rt.alloc(), &plan)?.as_slice(), [true].as_slice());
+    assert_eq!(rt;
+        first_bits(rt.alloc(), &plan)?.as_slice(),
+        [true].as_slice()
+    );
     Ok(())
 }
