@@ -7,10 +7,10 @@ use plan_cells::cells_of;
 use std::alloc::Global;
 use std::test::Fail;
 
-// A bit that flips where the input is 1, and starts with 1.
-const TOGGLE: Written<'static> = Written {
+// A bit that is 1 after each cycle in which the input is 1 and it was 0, and starts with 1.
+const PULSE: Written<'static> = Written {
     inputs: 1,
-    cells: &[Cell::Xor(Src::Input(0), Src::Latch(0))],
+    cells: &[Cell::AndNot(Src::Input(0), Src::Latch(0))],
     outs: &[Src::Latch(0)],
     latches: &[Src::Cell(0)],
     starts: &[true],
@@ -26,7 +26,7 @@ fn lifted(alloc: Global, written: &Written<'_>) -> Result<CellList, Fail> {
 
 #[test]
 fn a_plan_makes_the_cells_of_its_list(rt: HostRuntime) -> Result<(), Fail> {
-    let list = lifted(rt.alloc(), &TOGGLE)?;
+    let list = lifted(rt.alloc(), &PULSE)?;
     assert_eq!(rt;
         (
             list.inputs,
@@ -35,7 +35,7 @@ fn a_plan_makes_the_cells_of_its_list(rt: HostRuntime) -> Result<(), Fail> {
             list.latches.as_slice(),
             list.starts.as_slice()
         ),
-        (1, TOGGLE.cells, TOGGLE.outs, TOGGLE.latches, TOGGLE.starts)
+        (1, PULSE.cells, PULSE.outs, PULSE.latches, PULSE.starts)
     );
     Ok(())
 }
@@ -47,7 +47,7 @@ fn loops_start_where_they_enter(rt: HostRuntime) -> Result<(), Fail> {
         (starts.has(64, 40), starts.has(64, 56), starts.list.len()),
         (false, true, 1)
     );
-    let list = list_of(rt.alloc(), &TOGGLE)?;
+    let list = list_of(rt.alloc(), &PULSE)?;
     let plan = plan_of(rt.alloc(), &list)?;
     assert_eq!(rt;
         first_bits(rt.alloc(), &plan)?.as_slice(),
