@@ -1,5 +1,5 @@
 // The names of inputs and outputs.
-ghost use Rattle.std.specs.Prelude.{◌≡◌, ◌+◌, ◌^◌, ◌<◌, ◌≤◌, List, [], not, true, Some, length, get_or, take, slice_get, option_map, IfOk};
+ghost use Rattle.std.specs.Prelude.{◌≡◌, ◌+◌, ◌^◌, ◌<◌, ◌≤◌, ◌++◌, List, [], not, true, Some, length, get_or, take, slice_get, option_map, IfOk, OnOk};
 ghost use Rattle.lists.specs.Names.{is_among};
 ghost use Rattle.aiger_text.specs.EntryFaults.{fault_on};
 ghost use Rattle.aiger_text.specs.Names.{letter_of, names_for, plain_name, repeats_after};
@@ -36,19 +36,20 @@ fn plain_name(alloc: Global, kind: SymbolKind, place: usize) -> Result<Bytes, Al
     Ok(Bytes::of(name))
 }
 
-/// The names of all of a kind, in order.
-pub fn names_for(
+/// Adds the names of all of a kind, in order.
+pub fn push_names(
+    names: &mut Vec<Bytes>,
     alloc: Global,
     kind: SymbolKind,
     table: &[Option<&[u8]>],
-) -> Result<Vec<Bytes>, AllocError>
-    ensures { IfOk result (λ names.
+) -> Result<(), AllocError>
+    ensures long { OnOk result (length names.new.items ≡ length names.old.items + length table.now) }
+    ensures names { OnOk result (
         (symbols : List Symbol)
         → KnowsNames kind table.now symbols
-        → names.items ≡ names_for symbols kind (length table.now)
+        → names.new.items ≡ names.old.items ++ names_for symbols kind (length table.now)
         ) }
 {
-    let mut names = Vec::with_capacity(alloc, table.len())?;
     for place in 0..table.len() {
         let name = match table[place] {
             Some(name) => copied(alloc, name)?,
@@ -56,7 +57,7 @@ pub fn names_for(
         };
         names.push(name)?;
     }
-    Ok(names)
+    Ok(())
 }
 
 // The number after the first byte of a name, as it stands in a plain name.

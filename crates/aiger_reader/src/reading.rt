@@ -17,7 +17,7 @@ ghost use Rattle.aiger_reader.specs.declared.error.AigReadError.TheVariants.{Fau
 use crate::check::reads_undefined;
 use crate::error::AigReadError;
 use crate::header::{counts_in, header_fault};
-use crate::names::{first_repeat, names_for};
+use crate::names::{first_repeat, push_names};
 use crate::parts::{ands_of, inputs_of, latches_of, outputs_of};
 use crate::sections::{Sections, read_sections};
 use crate::symbols::{NameTables, read_symbols};
@@ -76,21 +76,22 @@ fn port_names(
         → IsFirstOf (name_faults counts symbols) e
         ) }
 {
-    let mut names = names_for(alloc, SymbolKind::Input, &tables.inputs)?;
-    let mut outputs = names_for(alloc, SymbolKind::Output, &tables.outputs)?;
+    let mut names = Vec::with_capacity(alloc, (counts.inputs + counts.outputs) as usize)?;
+    push_names(&mut names, alloc, SymbolKind::Input, &tables.inputs)?;
     if let Some(line) = first_repeat(alloc, &names, 2)? {
         return Err(AigReadError::Fault(AigFault {
             kind: AigFaultKind::SameName,
             line,
         }));
     }
-    if let Some(line) = first_repeat(alloc, &outputs, 2 + counts.inputs + counts.latches)? {
+    let inputs = names.len();
+    push_names(&mut names, alloc, SymbolKind::Output, &tables.outputs)?;
+    if let Some(line) = first_repeat(alloc, &names[inputs..], 2 + counts.inputs + counts.latches)? {
         return Err(AigReadError::Fault(AigFault {
             kind: AigFaultKind::SameName,
             line,
         }));
     }
-    names.append(&mut outputs)?;
     Ok(names)
 }
 
