@@ -17,7 +17,7 @@ use Rattle.cell_core.specs.Sources.{is_there, is_one}
 use Rattle.cell_core.specs.Loops.{names_one}
 use Rattle.cell_core.proofs.OwnBits.{cell_in_order}
 use Rattle.lifted_designs.specs.Names.{mark, gate_name, source_name}
-use Rattle.lifted_designs.specs.Lifted.{first_of, second_of, cell_covers, line_after, output_covers, lifted_model, lifted_design}
+use Rattle.lifted_designs.specs.Lifted.{first_of, second_of, cell_covers, line_past_cells, output_covers, lifted_model, lifted_design}
 use Rattle.lifted_designs.specs.Runs.{ArePortNames}
 use Rattle.lifted_designs.specs.NoLoop.{LiftedHaveNoLoop}
 use Rattle.lifted_designs.proofs.Lifted.{neither, plain_source, reads_parts, plain_parts, is_flat}
@@ -106,8 +106,8 @@ module _ (list : CellList) (ins outs : List Name) (long : length ins ≡ list.in
   writes_of c (inr there) input i =
       ⊎_elim
       (λ cells. cell_writes c (cell_cover_is (mark (ins ++ outs)) ins (5 + length list.latches) 0 list.cells c cells))
-      (λ outputs. output_writes c (output_cover_is (mark (ins ++ outs)) ins (line_after (5 + length list.latches) list.cells) outs list.outs c outputs))
-      (in_parts (cell_covers (mark (ins ++ outs)) ins (5 + length list.latches) 0 list.cells) (output_covers (mark (ins ++ outs)) ins (line_after (5 + length list.latches) list.cells) outs list.outs) c there)
+      (λ outputs. output_writes c (output_cover_is (mark (ins ++ outs)) ins (line_past_cells (5 + length list.latches) list.cells) outs list.outs c outputs))
+      (in_parts (cell_covers (mark (ins ++ outs)) ins (5 + length list.latches) 0 list.cells) (output_covers (mark (ins ++ outs)) ins (line_past_cells (5 + length list.latches) list.cells) outs list.outs) c there)
 
   -- from a net that is read to one that is written: to an output, or to a gate after each that the first may be
   record IsStep (a b : Net) : Type 0 where

@@ -3,7 +3,7 @@ use Rattle.std.proofs.Common.{[], ◌∷◌, codes, refl, arith, Contains}
 use Rattle.netlist_core.specs.declared.model.Pin.{Pin}
 use Rattle.netlist_meaning.specs.Nets.{Net, net_at, Joined, by_pin, itself, reversed, followed}
 use Rattle.netlist_meaning.specs.Loop.{Feeds}
-use Rattle.netlist_examples.specs.Designs.{loop_main, circle_line, circle_main, buffer, circle_design}
+use Rattle.netlist_examples.specs.Designs.{loop_main, circle_line, circle_main, buffer_model, circle_design}
 use Rattle.one_cover.specs.Parts.{cover_with, pin_with}
 use Rattle.netlist_examples.specs.Instances.{CoverReadsItself, IsLoopThroughPins}
 
@@ -35,7 +35,7 @@ feeds : (read written : Net) → Joined circle_design read (net_at (0 ∷ []) (c
 feeds read written r w =
     record {
       place = 0 ∷ [];
-      model = buffer;
+      model = buffer_model;
       cover = cover_with 8 (codes "i" ∷ []) (codes "o") (codes "1" ∷ []);
       input = codes "i";
       has_model = refl;

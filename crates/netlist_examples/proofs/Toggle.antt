@@ -12,7 +12,7 @@ use Rattle.netlist_meaning.specs.Valuation.{Valuation, LatchState, IsValuation, 
 use Rattle.netlist_meaning.specs.Loop.{Feeds, FeedsThrough}
 use Rattle.netlist_examples.specs.Designs.{toggle_main, toggle_design}
 use Rattle.one_cover.specs.Parts.{cover_with, plain_latch}
-use Rattle.netlist_examples.specs.Instances.{is_odd, LatchToggles, LatchBreaksLoop}
+use Rattle.netlist_examples.specs.Instances.{is_odd_cycle, LatchToggles, LatchBreaksLoop}
 use Rattle.lists.proofs.Names.{bytes_eq-same, bytes_eq-other}
 use Rattle.netlist_meaning.proofs.Names.{contains-one}
 use Rattle.netlist_meaning.proofs.SingleModel.{IsFlat, model_at-flat, joined-flat, latch_at-flat}
@@ -50,12 +50,12 @@ latch_is n q place number latch h =
 
 -- the run
 run_of : Name → ℕ → Valuation
-run_of q cycle = bits_of q (is_odd cycle)
+run_of q cycle = bits_of q (is_odd_cycle cycle)
 
-state_is : (n q : Name) → n ≢ q → (cycle : ℕ) → latches_in (toggle_design n q) (start_state (toggle_design n q)) (run_of q) cycle [] 0 ≡ is_odd cycle
+state_is : (n q : Name) → n ≢ q → (cycle : ℕ) → latches_in (toggle_design n q) (start_state (toggle_design n q)) (run_of q) cycle [] 0 ≡ is_odd_cycle cycle
 unfolding run_of
 state_is n q apart zero = refl
-state_is n q apart (suc cycle) = bits_at_n n q (is_odd cycle) [] apart
+state_is n q apart (suc cycle) = bits_at_n n q (is_odd_cycle cycle) [] apart
 
 solves : (n q : Name) → n ≢ q → (cycle : ℕ) (row : List Bool) → length row ≡ 0 → IsValuation (toggle_design n q) row (latches_in (toggle_design n q) (start_state (toggle_design n q)) (run_of q) cycle) (run_of q cycle)
 unfolding run_of
@@ -75,9 +75,9 @@ solves n q apart cycle row empty =
 
     the_one : (place : Place) → run_of q cycle place n ≡ cover_value (codes "0" ∷ []) true (run_of q cycle place q ∷ [])
     the_one place =
-        bits_at_n n q (is_odd cycle) place apart
-        ∙ ap not (sym (bits_at_q q (is_odd cycle) place))
-        ∙ sym (inverts (bits_of q (is_odd cycle) place q))
+        bits_at_n n q (is_odd_cycle cycle) place apart
+        ∙ ap not (sym (bits_at_q q (is_odd_cycle cycle) place))
+        ∙ sym (inverts (bits_of q (is_odd_cycle cycle) place q))
 
     holds : (place : Place) (model : Model) (cover : Cover) → model ≡ toggle_main n q → Contains model.covers cover → run_of q cycle place cover.out ≡ cover_value cover.rows cover.on (map (run_of q cycle place) cover.ins)
     holds place model cover is_main has_cover =
@@ -88,7 +88,7 @@ solves n q apart cycle row empty =
     state = latches_in (toggle_design n q) (start_state (toggle_design n q)) (run_of q) cycle
 
     at_q : run_of q cycle [] q ≡ state [] 0
-    at_q = bits_at_q q (is_odd cycle) [] ∙ sym (state_is n q apart cycle)
+    at_q = bits_at_q q (is_odd_cycle cycle) [] ∙ sym (state_is n q apart cycle)
 
     latched : (place : Place) (number : ℕ) (latch : LatchRow) → (place ≡ []) × (number ≡ 0) × (latch ≡ plain_latch 3 n q 0) → run_of q cycle place latch.output ≡ state place number
     latched place number latch (is_top, is_first, is_it) =
@@ -97,7 +97,7 @@ solves n q apart cycle row empty =
         (subst (λ l. run_of q cycle [] l.output ≡ state [] 0) (sym is_it) at_q))
 
 -- in every run the output is 0 and 1 in turn
-alternates : (n q : Name) (rows : List (List Bool)) (run : ℕ → Valuation) → IsRun (toggle_design n q) rows run → (cycle : ℕ) → cycle < length rows → run cycle [] q ≡ is_odd cycle
+alternates : (n q : Name) (rows : List (List Bool)) (run : ℕ → Valuation) → IsRun (toggle_design n q) rows run → (cycle : ℕ) → cycle < length rows → run cycle [] q ≡ is_odd_cycle cycle
 alternates n q rows run is_run = go
   where
     valued : (cycle : ℕ) → cycle < length rows → IsValuation (toggle_design n q) (get_or rows cycle []) (latches_in (toggle_design n q) (start_state (toggle_design n q)) run cycle) (run cycle)
@@ -109,7 +109,7 @@ alternates n q rows run is_run = go
     at_n : (cycle : ℕ) → cycle < length rows → run cycle [] n ≡ not (run cycle [] q)
     at_n cycle lt = (valued cycle lt).covers_hold [] (toggle_main n q) (cover_with 4 (q ∷ []) n (codes "0" ∷ [])) refl (0, omega arith, refl) ∙ inverts (run cycle [] q)
 
-    go : (cycle : ℕ) → cycle < length rows → run cycle [] q ≡ is_odd cycle
+    go : (cycle : ℕ) → cycle < length rows → run cycle [] q ≡ is_odd_cycle cycle
     go zero lt = at_q zero lt
     go (suc cycle) lt = at_q (suc cycle) lt ∙ at_n cycle (omega arith) ∙ ap not (go cycle (omega arith))
 

@@ -237,8 +237,8 @@ circle_main =
     }
 
 -- .model b / .inputs i / .outputs o / .names i o / 1 1 / .end
-abbrev pub buffer : Model
-buffer =
+abbrev pub buffer_model : Model
+buffer_model =
     record {
       line = 5;
       name = codes "b";
@@ -251,7 +251,7 @@ buffer =
     }
 
 abbrev pub circle_design : Design
-circle_design = design_with (circle_main ∷ buffer ∷ [])
+circle_design = design_with (circle_main ∷ buffer_model ∷ [])
 
 -- .subckt s x=d k=clk z=r
 abbrev pub shared_line : Subckt

@@ -12,14 +12,14 @@ use Rattle.netlist_meaning.specs.Loop.{IsCombinationalLoop}
 use Rattle.netlist_meaning.specs.Weight.{weight}
 
 -- 0 in the cycles of even numbers, and 1 in those of odd ones
-abbrev pub is_odd : ℕ → Bool
-is_odd zero = false
-is_odd (suc n) = not (is_odd n)
+abbrev pub is_odd_cycle : ℕ → Bool
+is_odd_cycle zero = false
+is_odd_cycle (suc n) = not (is_odd_cycle n)
 
 -- there is a run on every list of rows without bits, and in every run the one output is 0 and 1 in turn
 pub record IsToggle (design : Design) : Type 0 where
   pub runs : (rows : List (List Bool)) → All (λ row. length row ≡ 0) rows → (run : ℕ → Valuation) × IsRun design rows run
-  pub gives : (rows : List (List Bool)) (run : ℕ → Valuation) → IsRun design rows run → (cycle : ℕ) → cycle < length rows → output_bits design (run cycle) ≡ is_odd cycle ∷ []
+  pub gives : (rows : List (List Bool)) (run : ℕ → Valuation) → IsRun design rows run → (cycle : ℕ) → cycle < length rows → output_bits design (run cycle) ≡ is_odd_cycle cycle ∷ []
 
 -- a latch that starts as 0 and takes the inverse of its output is a toggle
 abbrev pub LatchToggles : Type 0
