@@ -10,10 +10,10 @@ use Rattle.std.proofs.lemmas.Option.{none-some}
 use Rattle.aiger_text.specs.declared.section.Counts.{Counts}
 use Rattle.aiger_text.specs.declared.section.SymbolKind.{SymbolKind}
 use Rattle.aiger_text.specs.declared.fault.AigFaultKind.TheVariants.{BadSymbol}
-use Rattle.aiger_text.specs.Symbols.{Symbol, is_for, is_same_kind, count_of, is_bad_symbol, symbol_fault}
+use Rattle.aiger_text.specs.Symbols.{Symbol, is_for, is_same_kind, count_of_kind, is_bad_symbol, symbol_fault}
 use Rattle.aiger_text.specs.Names.{name_for, plain_name}
 use Rattle.aiger_reader.specs.declared.symbols.SymbolWords.{SymbolWords}
-use Rattle.aiger_reader.specs.Known.{given_name, symbol_of, KnowsNames}
+use Rattle.aiger_reader.specs.Known.{given_name, symbol_of, KnowsNamesOfKind}
 
 abbrev blank : ℕ → List (Option (Bor (List ℕ)))
 blank n = replicate n None
@@ -23,7 +23,7 @@ none_at zero place = refl
 none_at (suc n) zero = refl
 none_at (suc n) (suc place) = none_at n place
 
-pub blank_knows : (kind : SymbolKind) (table : List (Option (Bor (List ℕ)))) (n : ℕ) → table ≡ replicate n None → KnowsNames kind table []
+pub blank_knows : (kind : SymbolKind) (table : List (Option (Bor (List ℕ)))) (n : ℕ) → table ≡ replicate n None → KnowsNamesOfKind kind table []
 blank_knows kind table n e place = ap (λ (t : List (Option (Bor (List ℕ)))). option_copied (get_or t place None)) e ∙ none_at n place
 
 pub blank_many : (table : List (Option (Bor (List ℕ)))) (n : ℕ) → table ≡ replicate n None → length table ≡ n
@@ -67,13 +67,13 @@ mapped_none None e = refl
 mapped_none (Some x) e = absurd (none-some _ (sym e))
 
 -- a symbol for another kind
-pub other_kind : (kind : SymbolKind) (table : List (Option (Bor (List ℕ)))) (symbols : List Symbol) (symbol : Symbol) → is_same_kind kind symbol.kind ≡ false → KnowsNames kind table symbols → KnowsNames kind table (symbols ++ symbol ∷ [])
+pub other_kind : (kind : SymbolKind) (table : List (Option (Bor (List ℕ)))) (symbols : List Symbol) (symbol : Symbol) → is_same_kind kind symbol.kind ≡ false → KnowsNamesOfKind kind table symbols → KnowsNamesOfKind kind table (symbols ++ symbol ∷ [])
 other_kind kind table symbols symbol other h place =
     h place ∙ sym (ap (option_map (λ (s : Symbol). s.name)) (find_other (is_for kind place) symbols symbol (ap (λ b. b && (symbol.place == place)) other)))
 
 -- a symbol for a place that has no name
 pub after_put : (kind : SymbolKind) (table new : List (Option (Bor (List ℕ)))) (symbols : List Symbol) (symbol : Symbol) (name : Bor (List ℕ)) → is_same_kind kind symbol.kind ≡ true → name.now ≡ symbol.name
-    → KnowsNames kind table symbols → symbol.place < length table → is_some (get_or table symbol.place None) ≡ false → new ≡ slice_set table symbol.place (Some name) → KnowsNames kind new (symbols ++ symbol ∷ [])
+    → KnowsNamesOfKind kind table symbols → symbol.place < length table → is_some (get_or table symbol.place None) ≡ false → new ≡ slice_set table symbol.place (Some name) → KnowsNamesOfKind kind new (symbols ++ symbol ∷ [])
 after_put kind table new symbols symbol name same is_name h low free put place = by (symbol.place == place) refl
   where
     by : (b : Bool) → (symbol.place == place) ≡ b → option_copied (get_or new place None) ≡ given_name (symbols ++ symbol ∷ []) kind place
@@ -93,7 +93,7 @@ after_put kind table new symbols symbol name same is_name h low free put place =
         itself n = grind (arith, nat_tests)
 
 -- whether a symbol is for a place that has no name
-pub is_free : (kind : SymbolKind) (table : List (Option (Bor (List ℕ)))) (symbols : List Symbol) (place count : ℕ) → KnowsNames kind table symbols → length table ≡ count
+pub is_free : (kind : SymbolKind) (table : List (Option (Bor (List ℕ)))) (symbols : List Symbol) (place count : ℕ) → KnowsNamesOfKind kind table symbols → length table ≡ count
     → (nat_lt place (length table) && not (is_some (get_or table place None))) ≡ not (not (nat_lt place count) || list_any (is_for kind place) symbols)
 is_free kind table symbols place count h many =
     ap₂ (λ n b. nat_lt place n && not b) many (sym (copied_some (get_or table place None)) ∙ ap is_some (h place) ∙ mapped_some (find (is_for kind place) symbols) ∙ sym (any_found (is_for kind place) symbols))
@@ -117,18 +117,18 @@ put_parts place count o e = let p = and_parts (nat_lt place count) (not (is_some
     flip false h = refl
 
 -- a name is put just where its symbol has no fault
-pub taken : (kind : SymbolKind) (table : List (Option (Bor (List ℕ)))) (c : Counts) (before : List Symbol) (words : SymbolWords) → KnowsNames kind table before → length table ≡ count_of c kind → words.kind ≡ kind
+pub taken : (kind : SymbolKind) (table : List (Option (Bor (List ℕ)))) (c : Counts) (before : List Symbol) (words : SymbolWords) → KnowsNamesOfKind kind table before → length table ≡ count_of_kind c kind → words.kind ≡ kind
     → (nat_lt words.place (length table) && not (is_some (get_or table words.place None))) ≡ not (is_bad_symbol c before (symbol_of words))
 taken kind table c before words h many is =
-    is_free kind table before words.place (count_of c kind) h many
-    ∙ ap (λ k. not (not (nat_lt words.place (count_of c k)) || list_any (is_for k words.place) before)) (sym is)
+    is_free kind table before words.place (count_of_kind c kind) h many
+    ∙ ap (λ k. not (not (nat_lt words.place (count_of_kind c k)) || list_any (is_for k words.place) before)) (sym is)
 
 -- what is put
 pub record IsPutAt (kind : SymbolKind) (table new : List (Option (Bor (List ℕ)))) (before : List Symbol) (words : SymbolWords) : Type 0 where
-  pub knows : KnowsNames kind new (before ++ symbol_of words ∷ [])
+  pub knows : KnowsNamesOfKind kind new (before ++ symbol_of words ∷ [])
   pub many : length new ≡ length table
 
-pub put_here : (kind : SymbolKind) (table new : List (Option (Bor (List ℕ)))) (before : List Symbol) (words : SymbolWords) → KnowsNames kind table before → is_same_kind kind words.kind ≡ true
+pub put_here : (kind : SymbolKind) (table new : List (Option (Bor (List ℕ)))) (before : List Symbol) (words : SymbolWords) → KnowsNamesOfKind kind table before → is_same_kind kind words.kind ≡ true
     → (nat_lt words.place (length table) && not (is_some (get_or table words.place None))) ≡ true → new ≡ slice_set table words.place (Some words.name) → IsPutAt kind table new before words
 put_here kind table new before words h same free put =
     let p = put_parts words.place (length table) (get_or table words.place None) free in
@@ -142,6 +142,6 @@ none_bad true h = absurd (true≢false (sym h))
 none_bad false h = refl
 
 -- the name of a place in a table
-pub given_here : (kind : SymbolKind) (table : List (Option (Bor (List ℕ)))) (symbols : List Symbol) (place : ℕ) (o : Option (Bor (List ℕ))) → KnowsNames kind table symbols → get_or table place None ≡ o
+pub given_here : (kind : SymbolKind) (table : List (Option (Bor (List ℕ)))) (symbols : List Symbol) (place : ℕ) (o : Option (Bor (List ℕ))) → KnowsNamesOfKind kind table symbols → get_or table place None ≡ o
     → unwrap_or (option_copied o) (plain_name kind place) ≡ name_for symbols kind place
 given_here kind table symbols place o h e = ap (λ n. unwrap_or n (plain_name kind place)) (sym (ap option_copied e) ∙ h place)

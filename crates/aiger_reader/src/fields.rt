@@ -1,7 +1,7 @@
 // The fields of a line.
 ghost use Rattle.std.specs.Prelude.{◌≡◌, ◌==◌, not, map, take, IfOk};
 ghost use Rattle.std.specs.List.{prefix_len, before_first, after_first};
-ghost use Rattle.aiger_text.specs.Header.{is_separator, fields_of};
+ghost use Rattle.aiger_text.specs.Header.{is_separator, header_fields};
 
 use std::alloc::{AllocError, Global};
 
@@ -27,7 +27,7 @@ pub fn split_word(bytes: &[u8]) -> (&[u8], &[u8])
 
 /// The first six fields of a line: no form has more than five.
 pub fn first_fields(alloc: Global, bytes: &[u8]) -> Result<Vec<&[u8]>, AllocError>
-    ensures { IfOk result (λ fields. map (λ f. f.now) fields.items ≡ take 6 (fields_of bytes.now)) }
+    ensures { IfOk result (λ fields. map (λ f. f.now) fields.items ≡ take 6 (header_fields bytes.now)) }
 {
     bytes.split(|b| *b == b' ').take(6).collect(alloc)
 }

@@ -1,12 +1,12 @@
 // The names of inputs and outputs.
 ghost use Rattle.std.specs.Prelude.{◌≡◌, ◌+◌, ◌^◌, ◌<◌, ◌≤◌, ◌++◌, List, [], not, true, Some, length, get_or, take, slice_get, option_map, IfOk, OnOk};
 ghost use Rattle.lists.specs.Names.{is_among};
-ghost use Rattle.aiger_text.specs.EntryFaults.{fault_on};
-ghost use Rattle.aiger_text.specs.Names.{letter_of, names_for, plain_name, repeats_after};
+ghost use Rattle.aiger_text.specs.EntryFaults.{aig_fault_on};
+ghost use Rattle.aiger_text.specs.Names.{letter_of, names_for, plain_name, repeated_names};
 ghost use Rattle.aiger_text.specs.Symbols.{Symbol};
 ghost use Rattle.aiger_text.specs.declared.fault.AigFaultKind.TheVariants.{SameName};
 ghost use Rattle.aiger_reader.specs.Earlier.{KnowsEarlier, is_earlier, number_of_name};
-ghost use Rattle.aiger_reader.specs.Known.{KnowsNames};
+ghost use Rattle.aiger_reader.specs.Known.{KnowsNamesOfKind};
 
 use aiger_text::SymbolKind;
 use itoa::Buffer;
@@ -46,7 +46,7 @@ pub fn push_names(
     ensures long { OnOk result (length names.new.items ≡ length names.old.items + length table.now) }
     ensures names { OnOk result (
         (symbols : List Symbol)
-        → KnowsNames kind table.now symbols
+        → KnowsNamesOfKind kind table.now symbols
         → names.new.items ≡ names.old.items ++ names_for symbols kind (length table.now)
         ) }
 {
@@ -117,8 +117,8 @@ fn note<'a>(seen: &mut BTreeSet<&'a [u8]>, names: &'a [Bytes], i: usize) -> Resu
 pub fn first_repeat(alloc: Global, names: &[Bytes], line: u64) -> Result<Option<u64>, AllocError>
     requires { line + length names.now < 2 ^ 64 }
     ensures { IfOk result (λ found.
-        option_map (λ at. fault_on at SameName) found
-        ≡ slice_get (repeats_after [] line names.now) 0
+        option_map (λ at. aig_fault_on at SameName) found
+        ≡ slice_get (repeated_names [] line names.now) 0
         ) }
 {
     let mut seen = BTreeSet::new(alloc);

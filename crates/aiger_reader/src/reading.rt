@@ -4,8 +4,8 @@ ghost use Rattle.std.specs.Result.{IsErrOf, IsOkUnless};
 ghost use Rattle.aiger_text.specs.declared.aig.Aig.{Aig};
 ghost use Rattle.aiger_text.specs.declared.fault.AigFault.{AigFault};
 ghost use Rattle.aiger_text.specs.AigText.{HasAigFault, ReadsAsAig, aig_with, first_bytes, later_faults, later_lines};
-ghost use Rattle.aiger_text.specs.Entries.{and_of, input_of, latch_of, output_of};
-ghost use Rattle.aiger_text.specs.EntryFaults.{fault_on};
+ghost use Rattle.aiger_text.specs.Entries.{and_of, literal_of_input, latch_of, literal_of_output};
+ghost use Rattle.aiger_text.specs.EntryFaults.{aig_fault_on};
 ghost use Rattle.aiger_text.specs.Names.{name_faults, names_for};
 ghost use Rattle.aiger_text.specs.Symbols.{Symbol};
 ghost use Rattle.aiger_text.specs.declared.fault.AigFaultKind.TheVariants.{Undefined};
@@ -44,7 +44,7 @@ fn split_header(text: &[u8]) -> (&[u8], &[u8])
 fn first_undefined(entries: &[Entry], defined: &BTreeSet<u64>) -> Option<u64>
     requires few { 2 + length entries.now < 2 ^ 64 }
     requires known { KnowsDefined defined.now entries.now }
-    ensures { option_map (λ line. fault_on line Undefined) result
+    ensures { option_map (λ line. aig_fault_on line Undefined) result
         ≡ slice_get (undefined_at entries.now 2 entries.now) 0 }
 {
     for (i, entry) in entries.iter().enumerate() {
@@ -99,9 +99,9 @@ fn port_names(
 fn aig_of(alloc: Global, m: u64, entries: &[Entry], names: Vec<Bytes>) -> Result<Aig, AllocError>
     ensures { IfOk result (λ aig. aig ≡ record {
       m = m;
-      inputs = filter_map input_of entries.now;
+      inputs = filter_map literal_of_input entries.now;
       latches = filter_map latch_of entries.now;
-      outputs = filter_map output_of entries.now;
+      outputs = filter_map literal_of_output entries.now;
       ands = filter_map and_of entries.now;
       names = names.items;
     }) }

@@ -21,13 +21,13 @@ use Rattle.aiger_text.specs.declared.section.SymbolKind.{SymbolKind}
 use Rattle.aiger_text.specs.declared.section.SymbolKind.TheVariants.{Input, Latch, Output}
 use Rattle.aiger_text.specs.declared.fault.AigFaultKind.TheVariants.{SameName}
 use Rattle.aiger_text.specs.Header.{is_separator}
-use Rattle.aiger_text.specs.EntryFaults.{fault_on}
+use Rattle.aiger_text.specs.EntryFaults.{aig_fault_on}
 use Rattle.aiger_text.specs.Symbols.{Symbol, SymbolLine, symbol_in, symbol_kind, symbol_line, is_symbol_line, symbol_lines, symbols_of, is_for}
-use Rattle.aiger_text.specs.Names.{letter_of, plain_name, name_for, names_for, repeats_after}
+use Rattle.aiger_text.specs.Names.{letter_of, plain_name, name_for, names_for, repeated_names}
 use Rattle.aiger_text.specs.SoundAig.{IsAigName}
 
 -- names of which none is among those before it
-pub apart : (before : List (List ℕ)) (line : ℕ) (names : List (List ℕ)) → repeats_after before line names ≡ [] → AllPairs (λ a b. a ≢ b) before → AllPairs (λ a b. a ≢ b) (before ++ names)
+pub apart : (before : List (List ℕ)) (line : ℕ) (names : List (List ℕ)) → repeated_names before line names ≡ [] → AllPairs (λ a b. a ≢ b) before → AllPairs (λ a b. a ≢ b) (before ++ names)
 apart before line [] e h = subst (AllPairs (λ a b. a ≢ b)) (sym (append-nil before)) h
 apart before line (name ∷ names) e h = by (is_among name before) refl (λ f k. apart (before ++ name ∷ []) (line + 1) names f k) e
   where
@@ -38,8 +38,8 @@ apart before line (name ∷ names) e h = by (is_among name before) refl (λ f k.
     new : is_among name before ≡ false → (k : ℕ) (d : List ℕ) → k < length before → get_or before k d ≢ name
     new is k d l same = true≢false (sym (passes_somewhere _ before (get_or before k d) (Contains-get_or before k d l) ((bytes_eq-Decides name (get_or before k d)).1 (sym same))) ∙ is)
 
-    by : (b : Bool) → is_among name before ≡ b → (repeats_after (before ++ name ∷ []) (line + 1) names ≡ [] → AllPairs (λ a b. a ≢ b) (before ++ name ∷ []) → AllPairs (λ a b. a ≢ b) ((before ++ name ∷ []) ++ names))
-        → cond b (fault_on line SameName ∷ repeats_after (before ++ name ∷ []) (line + 1) names) (repeats_after (before ++ name ∷ []) (line + 1) names) ≡ [] → AllPairs (λ a b. a ≢ b) (before ++ name ∷ names)
+    by : (b : Bool) → is_among name before ≡ b → (repeated_names (before ++ name ∷ []) (line + 1) names ≡ [] → AllPairs (λ a b. a ≢ b) (before ++ name ∷ []) → AllPairs (λ a b. a ≢ b) ((before ++ name ∷ []) ++ names))
+        → cond b (aig_fault_on line SameName ∷ repeated_names (before ++ name ∷ []) (line + 1) names) (repeated_names (before ++ name ∷ []) (line + 1) names) ≡ [] → AllPairs (λ a b. a ≢ b) (before ++ name ∷ names)
     by true is rest f = absurd (cc)
     by false is rest f = subst (AllPairs (λ a b. a ≢ b)) (regroup before) (rest f (all_pairs_push (λ a b. a ≢ b) before name h (new is)))
 

@@ -4,25 +4,25 @@ use Rattle.aiger_text.specs.declared.fault.AigFaultKind.{AigFaultKind}
 use Rattle.aiger_text.specs.declared.fault.AigFaultKind.TheVariants.{BadHeader, Unsupported, BadLine, BadLiteral, DefinedTwice, Undefined, BadReset, BadSymbol, SameName}
 
 -- the number of a fault
-abbrev pub number_of : AigFaultKind → ℕ
-number_of BadHeader = 1
-number_of Unsupported = 2
-number_of BadLine = 3
-number_of BadLiteral = 4
-number_of DefinedTwice = 5
-number_of Undefined = 6
-number_of BadReset = 7
-number_of BadSymbol = 8
-number_of SameName = 9
+abbrev pub aig_fault_number : AigFaultKind → ℕ
+aig_fault_number BadHeader = 1
+aig_fault_number Unsupported = 2
+aig_fault_number BadLine = 3
+aig_fault_number BadLiteral = 4
+aig_fault_number DefinedTwice = 5
+aig_fault_number Undefined = 6
+aig_fault_number BadReset = 7
+aig_fault_number BadSymbol = 8
+aig_fault_number SameName = 9
 
 -- its name, in ASCII
-abbrev pub name_of : AigFaultKind → List ℕ
-name_of BadHeader = codes "BadHeader"
-name_of Unsupported = codes "Unsupported"
-name_of BadLine = codes "BadLine"
-name_of BadLiteral = codes "BadLiteral"
-name_of DefinedTwice = codes "DefinedTwice"
-name_of Undefined = codes "Undefined"
-name_of BadReset = codes "BadReset"
-name_of BadSymbol = codes "BadSymbol"
-name_of SameName = codes "SameName"
+abbrev pub aig_fault_name : AigFaultKind → List ℕ
+aig_fault_name BadHeader = codes "BadHeader"
+aig_fault_name Unsupported = codes "Unsupported"
+aig_fault_name BadLine = codes "BadLine"
+aig_fault_name BadLiteral = codes "BadLiteral"
+aig_fault_name DefinedTwice = codes "DefinedTwice"
+aig_fault_name Undefined = codes "Undefined"
+aig_fault_name BadReset = codes "BadReset"
+aig_fault_name BadSymbol = codes "BadSymbol"
+aig_fault_name SameName = codes "SameName"

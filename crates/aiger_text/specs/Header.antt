@@ -10,18 +10,18 @@ use Rattle.aiger_text.specs.declared.fault.AigFaultKind.TheVariants.{BadHeader, 
 abbrev pub is_separator : ℕ → Bool
 is_separator b = b == 32
 
-abbrev pub fields_of : List ℕ → List (List ℕ)
-fields_of bytes = slice_split is_separator bytes
+abbrev pub header_fields : List ℕ → List (List ℕ)
+header_fields bytes = slice_split is_separator bytes
 
 abbrev pub is_number : List ℕ → Bool
 is_number field = is_some (number_in field)
 
 -- the first word of a line, and the fields after it
-abbrev pub first_word : List ℕ → List ℕ
-first_word bytes = before_first is_separator bytes
+abbrev pub leading_field : List ℕ → List ℕ
+leading_field bytes = before_first is_separator bytes
 
 abbrev pub later_fields : List ℕ → List (List ℕ)
-later_fields bytes = fields_of (after_first is_separator bytes)
+later_fields bytes = header_fields (after_first is_separator bytes)
 
 -- five numbers
 abbrev pub counts_of_fields : List (List ℕ) → Option Counts
@@ -36,13 +36,13 @@ counts_of_fields _ = None
 
 -- the numbers of a header, if the bytes are one
 abbrev pub counts_in : List ℕ → Option Counts
-counts_in bytes = if bytes_eq (first_word bytes) (codes "aag") then counts_of_fields (later_fields bytes) else None
+counts_in bytes = if bytes_eq (leading_field bytes) (codes "aag") then counts_of_fields (later_fields bytes) else None
 
 -- the header of a text in binary, or of one with sections that are not read here
 abbrev pub is_unsupported : List ℕ → Bool
 is_unsupported bytes =
-    bytes_eq (first_word bytes) (codes "aig")
-    || (bytes_eq (first_word bytes) (codes "aag") && nat_lt 5 (length (later_fields bytes)) && list_all is_number (later_fields bytes))
+    bytes_eq (leading_field bytes) (codes "aig")
+    || (bytes_eq (leading_field bytes) (codes "aag") && nat_lt 5 (length (later_fields bytes)) && list_all is_number (later_fields bytes))
 
 -- what is wrong in bytes that are no header
 abbrev pub header_fault : List ℕ → AigFaultKind

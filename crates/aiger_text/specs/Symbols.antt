@@ -13,7 +13,7 @@ use Rattle.aiger_text.specs.declared.fault.AigFault.{AigFault}
 use Rattle.aiger_text.specs.declared.fault.AigFaultKind.{AigFaultKind}
 use Rattle.aiger_text.specs.declared.fault.AigFaultKind.TheVariants.{BadSymbol}
 use Rattle.aiger_text.specs.Header.{is_separator}
-use Rattle.aiger_text.specs.EntryFaults.{fault_on}
+use Rattle.aiger_text.specs.EntryFaults.{aig_fault_on}
 
 -- a name for the input, the latch or the output of that number, from 0
 pub record Symbol : Type 0 where
@@ -38,10 +38,10 @@ symbol_in (letter ∷ bytes) = do
   Some (record { kind = kind; place = place; name = name })
 
 -- how many there are of a kind
-abbrev pub count_of : Counts → SymbolKind → ℕ
-count_of c Input = c.inputs
-count_of c Latch = c.latches
-count_of c Output = c.outputs
+abbrev pub count_of_kind : Counts → SymbolKind → ℕ
+count_of_kind c Input = c.inputs
+count_of_kind c Latch = c.latches
+count_of_kind c Output = c.outputs
 
 abbrev pub is_same_kind : SymbolKind → SymbolKind → Bool
 is_same_kind Input Input = true
@@ -73,7 +73,7 @@ symbols_of lines = filter_map (λ line. line.symbol) lines
 
 -- a symbol for what is not there, or has a name in an earlier line
 abbrev pub is_bad_symbol : Counts → List Symbol → Symbol → Bool
-is_bad_symbol c before symbol = not (nat_lt symbol.place (count_of c symbol.kind)) || list_any (is_for symbol.kind symbol.place) before
+is_bad_symbol c before symbol = not (nat_lt symbol.place (count_of_kind c symbol.kind)) || list_any (is_for symbol.kind symbol.place) before
 
 abbrev pub symbol_fault : Counts → List Symbol → Option Symbol → Option AigFaultKind
 symbol_fault c before None = Some BadSymbol
@@ -83,4 +83,4 @@ symbol_fault c before (Some symbol) = if is_bad_symbol c before symbol then Some
 abbrev pub symbol_faults_after : Counts → List Symbol → List SymbolLine → List AigFault
 symbol_faults_after c before [] = []
 symbol_faults_after c before (line ∷ lines) =
-    cons_option (option_map (fault_on line.number) (symbol_fault c before line.symbol)) (symbol_faults_after c (before ++ option_to_list line.symbol) lines)
+    cons_option (option_map (aig_fault_on line.number) (symbol_fault c before line.symbol)) (symbol_faults_after c (before ++ option_to_list line.symbol) lines)

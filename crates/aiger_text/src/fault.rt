@@ -1,6 +1,6 @@
 // The faults of an AIGER text.
 ghost use Rattle.std.specs.Prelude.{◌≡◌};
-ghost use Rattle.aiger_text.specs.FaultNames.{name_of, number_of};
+ghost use Rattle.aiger_text.specs.FaultNames.{aig_fault_name, aig_fault_number};
 
 /// The faults, in the order of their numbers, from 1. Of one text the first fault is answered: what is wrong in the
 /// header; then the earliest line at fault by any rule but `Undefined` and `SameName`, and of that line the lowest
@@ -32,7 +32,7 @@ pub enum AigFaultKind {
 impl AigFaultKind {
     /// The number that stands after `A` where a fault is told.
     pub fn number(self) -> u8
-        ensures { result ≡ number_of self }
+        ensures { result ≡ aig_fault_number self }
     {
         match self {
             AigFaultKind::BadHeader => 1,
@@ -49,7 +49,7 @@ impl AigFaultKind {
 
     /// The name of the fault, as it is told.
     pub fn name(self) -> &'static str
-        ensures { result.now ≡ name_of self }
+        ensures { result.now ≡ aig_fault_name self }
     {
         match self {
             AigFaultKind::BadHeader => "BadHeader",

@@ -17,7 +17,7 @@ use Rattle.drive.specs.Driving.{AreFor}
 use Rattle.probe_view.specs.Probes.{probed_at}
 use Rattle.shown_runs.specs.ShownRuns.{CarriersShowContexts, CarriersShowNetsInContexts, StreamsAreFor, net_bits_in_run}
 use Rattle.vcd_text.specs.Reading.{ReadsAsVcd}
-use Rattle.vcd_text.specs.Writing.{form_of}
+use Rattle.vcd_text.specs.Writing.{vcd_form}
 use Rattle.vcd_write.specs.NetWaves.{NetInContext, NetsHaveTheirBits, nets_in, nets_in_contexts, reference_of}
 use Rattle.blifww_tool.specs.Dumping.{waves_of}
 use Rattle.blifww_tool.specs.PrintsAlike.{AreRunsOn}
@@ -61,8 +61,8 @@ carriers_dump_nets their_bits law shows streams_for text design starts c cycles 
       feeds = feeds streams_for text design starts k cycles words s is;
       runs = ran.runs;
       are_runs = ran.are_runs;
-      form = form_of (waves_of s);
-      reads = subst (λ (t : List ℕ). ReadsAsVcd t (form_of (waves_of s))) (sym printed.written) printed.says.reads;
+      form = vcd_form (waves_of s);
+      reads = subst (λ (t : List ℕ). ReadsAsVcd t (vcd_form (waves_of s))) (sym printed.written) printed.says.reads;
       lines = s.ports.nets;
       nets = λ number line at.
           let here : slice_get k.ports.nets number ≡ Some line = ap (λ (p : Ports). slice_get p.nets number) same.1 ∙ at in

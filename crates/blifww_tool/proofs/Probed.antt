@@ -7,7 +7,7 @@ use Rattle.probe_view.specs.declared.error.ProbeError.TheVariants as probing
 use Rattle.probe_view.specs.Probes.{HasProbeCause}
 use Rattle.blifww_tool.specs.Commands.{HasTextCause}
 use Rattle.blifww_tool.specs.Probing.{HasNoProbe}
-use Rattle.refusals.specs.Refusals.{probe_error}
+use Rattle.refusals.specs.Refusals.{probe_refusal}
 use Rattle.blifww_tool.specs.Simulation.{Simulation, IsSimulation, HasNoStreams, HasStreamsCause}
 use Rattle.refusals.specs.declared.causes.Cause.{Cause}
 use Rattle.refusals.specs.declared.causes.Cause.TheVariants.{NetlistFault, WeightTooLarge, Loop, AigAtFault, AigLoop, Pattern, GridTooLarge, PortTable, Streams, StartWord, NoSuchNet, TooFar, TooManyContexts, NotQuiet}
@@ -36,7 +36,7 @@ simulation_refused cycles name path words text (Refused cause) h = cause_of cycl
 simulation_refused cycles name path words text NoMemory h = tt
 
 told_cause : (cycles : ℕ) (name path : List ℕ) (words : List (List ℕ)) (text : List ℕ) (s : Simulation) (e : ProbeError) → IsSimulation cycles words text s
-    → HasProbeCause s.ports s.streams (plane_of s.grid.rows) name path e → HasTextCause (probe cycles name path words) text (probe_error name e)
+    → HasProbeCause s.ports s.streams (plane_of s.grid.rows) name path e → HasTextCause (probe cycles name path words) text (probe_refusal name e)
 told_cause cycles name path words text s probing.NoMemory is h = tt
 told_cause cycles name path words text s probing.NoSuchNet is h = (s, is, refl, h)
 told_cause cycles name path words text s (probing.TooFar generations) is h = (s, is, h)
@@ -44,6 +44,6 @@ told_cause cycles name path words text s (probing.NotQuiet generation x y) is h 
 
 -- and a net that is not shown
 pub probe_refused : (cycles : ℕ) (name path : List ℕ) (words : List (List ℕ)) (text : List ℕ) (s : Simulation) (e : ProbeError) (told : TextError) → IsSimulation cycles words text s
-    → HasProbeCause s.ports s.streams (plane_of s.grid.rows) name path e → (told ≡ NoMemory) ⊎ (told ≡ probe_error name e) → HasTextCause (probe cycles name path words) text told
+    → HasProbeCause s.ports s.streams (plane_of s.grid.rows) name path e → (told ≡ NoMemory) ⊎ (told ≡ probe_refusal name e) → HasTextCause (probe cycles name path words) text told
 probe_refused cycles name path words text s e told is h (inl no_memory) = subst (HasTextCause (probe cycles name path words) text) (sym no_memory) tt
 probe_refused cycles name path words text s e told is h (inr same) = subst (HasTextCause (probe cycles name path words) text) (sym same) (told_cause cycles name path words text s e is h)

@@ -8,7 +8,7 @@ use Rattle.carries.specs.DesignContexts.{CarriesNetsInContexts}
 use Rattle.streams.specs.declared.streams.Streams.{Streams}
 use Rattle.shown_runs.specs.ShownRuns.{IsLineOf}
 use Rattle.vcd_text.specs.Reading.{VcdForm, ReadsAsVcd, value_at}
-use Rattle.vcd_text.specs.Writing.{id_of}
+use Rattle.vcd_text.specs.Writing.{vcd_id}
 use Rattle.command_words.specs.Shapes.{vcd}
 use Rattle.blifww_tool.specs.Evaluation.{FeedsInputs}
 use Rattle.blifww_tool.specs.Commands.{Prints}
@@ -28,7 +28,7 @@ pub record DumpsNets (cycles : ℕ) (words : List (List ℕ)) (design : Design) 
   pub nets : (number : ℕ) (line : NetLine) → slice_get lines number ≡ Some line
       → (net : Net) × IsLineOf design line net
       × ((context : ℕ) → context < length starts → (others : ℕ → ℕ → Valuation) → AreRunsOn design starts fed others → (cycle : ℕ) → cycle < cycles
-      → value_at form (id_of (context * length lines + number)) cycle ≡ Some (others context cycle net.place net.name))
+      → value_at form (vcd_id (context * length lines + number)) cycle ≡ Some (others context cycle net.place net.name))
 
 -- whoever made the text
 abbrev pub CarriersDumpNets : Type 0

@@ -4,7 +4,7 @@ ghost use Rattle.command_words.specs.Shapes.{probe};
 ghost use Rattle.blifww_tool.specs.Answer.{output_text, IsWritableOutput};
 ghost use Rattle.blifww_tool.specs.Commands.{Prints, HasTextCause};
 ghost use Rattle.blifww_tool.specs.Probing.{names_in_contexts, net_text};
-ghost use Rattle.refusals.specs.Refusals.{probe_error};
+ghost use Rattle.refusals.specs.Refusals.{probe_refusal};
 
 use crate::driven::driven_by;
 use crate::lines::output_lines;
@@ -17,7 +17,7 @@ use word_cuts::with_context;
 
 // The answer where the net is not shown: where there is no such net, with a copy of its name.
 fn refusal(alloc: Global, error: ProbeError, name: &[u8]) -> TextError
-    ensures { (result ≡ TextError.NoMemory) ⊎ (result ≡ probe_error name.now error) }
+    ensures { (result ≡ TextError.NoMemory) ⊎ (result ≡ probe_refusal name.now error) }
 {
     match error {
         ProbeError::NoSuchNet => match name.to_vec(alloc) {

@@ -1,7 +1,7 @@
 // An order of cells in which the next is the one that is worth most. Of what is found only the range is told: who takes it checks it.
 ghost use Rattle.std.specs.Prelude.{◌≤◌, ◌<◌, length, All, IfOk};
 
-use crate::OrderError;
+use crate::ReorderError;
 use cell_core::{Cell, CellList, Src};
 use std::alloc::Global;
 use std::cmp::Reverse;
@@ -63,7 +63,7 @@ struct Search {
 }
 
 // So many values that nothing reads.
-fn unread_values(alloc: Global, count: usize) -> Result<Vec<Value>, OrderError> {
+fn unread_values(alloc: Global, count: usize) -> Result<Vec<Value>, ReorderError> {
     let mut values = Vec::with_capacity(alloc, count)?;
     for _value in 0..count {
         values.push(Value {
@@ -76,7 +76,7 @@ fn unread_values(alloc: Global, count: usize) -> Result<Vec<Value>, OrderError> 
 
 impl Search {
     // Before anything is read.
-    fn begin(alloc: Global, list: &CellList, reach: u32) -> Result<Search, OrderError> {
+    fn begin(alloc: Global, list: &CellList, reach: u32) -> Result<Search, ReorderError> {
         let inputs = list.inputs as usize;
         let latches = list.starts.len();
         let cells = list.cells.len();
@@ -125,7 +125,7 @@ impl Search {
     }
 
     // A cell reads a source.
-    fn read_by_cell(&mut self, src: Src, cell: u32) -> Result<(), OrderError> {
+    fn read_by_cell(&mut self, src: Src, cell: u32) -> Result<(), ReorderError> {
         let Some(number) = self.number(src) else {
             return Ok(());
         };
@@ -142,7 +142,7 @@ impl Search {
     }
 
     // The cell may come next, where it waits for nothing.
-    fn offer(&mut self, cell: u32) -> Result<(), OrderError> {
+    fn offer(&mut self, cell: u32) -> Result<(), ReorderError> {
         if let Some(pending) = self.pending.get(cell as usize) {
             if pending.waits == 0 && !pending.is_taken {
                 self.ready.push((pending.worth, Reverse(cell)))?;
@@ -152,7 +152,7 @@ impl Search {
     }
 
     // The cells that read a value are worth so much more.
-    fn raise_readers(&mut self, number: usize, more: u32) -> Result<(), OrderError> {
+    fn raise_readers(&mut self, number: usize, more: u32) -> Result<(), ReorderError> {
         let count = match self.values.get(number) {
             Some(value) if more > 0 => value.readers.len(),
             _ => 0,
@@ -166,7 +166,7 @@ impl Search {
     }
 
     // A cell is worth so much more.
-    fn raise(&mut self, cell: u32, more: u32) -> Result<(), OrderError> {
+    fn raise(&mut self, cell: u32, more: u32) -> Result<(), ReorderError> {
         if let Some(pending) = self.pending.get_mut(cell as usize) {
             pending.worth = pending.worth.saturating_add(more);
         }
@@ -188,7 +188,7 @@ impl Search {
     }
 
     // A source is read once less.
-    fn use_up(&mut self, src: Src) -> Result<(), OrderError> {
+    fn use_up(&mut self, src: Src) -> Result<(), ReorderError> {
         let Some(number) = self.number(src) else {
             return Ok(());
         };
@@ -201,7 +201,7 @@ impl Search {
     }
 
     // A reader of a value has one cell less to wait for.
-    fn wait_less(&mut self, number: usize, reader: usize) -> Result<(), OrderError> {
+    fn wait_less(&mut self, number: usize, reader: usize) -> Result<(), ReorderError> {
         let Some(cell) = self.reader(number, reader) else {
             return Ok(());
         };
@@ -224,7 +224,7 @@ impl Search {
     }
 
     // The cell comes next.
-    fn take(&mut self, list: &CellList, cell: u32) -> Result<(), OrderError> {
+    fn take(&mut self, list: &CellList, cell: u32) -> Result<(), ReorderError> {
         if let Some(pending) = self.pending.get_mut(cell as usize) {
             pending.is_taken = true;
         }
@@ -247,7 +247,7 @@ impl Search {
     }
 
     // What cells and ports read.
-    fn read(&mut self, list: &CellList) -> Result<(), OrderError> {
+    fn read(&mut self, list: &CellList) -> Result<(), ReorderError> {
         self.read_by_ports(list.outs.as_slice());
         self.read_by_ports(list.latches.as_slice());
         for cell in 0..list.cells.len() {
@@ -257,7 +257,7 @@ impl Search {
     }
 
     // What a cell reads.
-    fn read_cell(&mut self, list: &CellList, cell: usize) -> Result<(), OrderError> {
+    fn read_cell(&mut self, list: &CellList, cell: usize) -> Result<(), ReorderError> {
         let Some(number) = u32::try_from(cell).ok() else {
             return Ok(());
         };
@@ -273,7 +273,7 @@ impl Search {
     }
 
     // What all cells are worth by the values that they read.
-    fn weigh_readers(&mut self) -> Result<(), OrderError> {
+    fn weigh_readers(&mut self) -> Result<(), ReorderError> {
         for number in 0..self.values.len() {
             self.raise_readers(number, worth(self.reach, self.uses(number)))?;
         }
@@ -281,7 +281,7 @@ impl Search {
     }
 
     // What all cells are worth by the value that they make, whose making is a use as well.
-    fn weigh_results(&mut self) -> Result<(), OrderError> {
+    fn weigh_results(&mut self) -> Result<(), ReorderError> {
         for cell in 0..self.pending.len() {
             let uses = self.uses(self.made_by(cell)).saturating_add(1);
             if let Ok(number) = u32::try_from(cell) {
@@ -292,14 +292,14 @@ impl Search {
     }
 
     // What all cells are worth before any has come.
-    fn weigh(&mut self, list: &CellList) -> Result<(), OrderError> {
+    fn weigh(&mut self, list: &CellList) -> Result<(), ReorderError> {
         self.read(list)?;
         self.weigh_readers()?;
         self.weigh_results()
     }
 
     // The numbers of the cells that come, in their order.
-    fn take_all(&mut self, alloc: Global, list: &CellList) -> Result<Vec<u32>, OrderError>
+    fn take_all(&mut self, alloc: Global, list: &CellList) -> Result<Vec<u32>, ReorderError>
         ensures few { IfOk result (λ order. length order.items ≤ length list.now.cells) }
         ensures below { IfOk result (λ order. All (λ cell. cell < length list.now.cells) order.items) }
     {
@@ -321,7 +321,7 @@ impl Search {
 
 /// The numbers of cells of the list in another order: the next is one that waits for no other, and of these one that is worth most, as the
 /// last reader of values or a reader of values with fewer than `reach` uses left, and of these the first of the list.
-pub fn ending_order(alloc: Global, list: &CellList, reach: u32) -> Result<Vec<u32>, OrderError>
+pub fn ending_order(alloc: Global, list: &CellList, reach: u32) -> Result<Vec<u32>, ReorderError>
     ensures few { IfOk result (λ order. length order.items ≤ length list.now.cells) }
     ensures below { IfOk result (λ order. All (λ cell. cell < length list.now.cells) order.items) }
 {

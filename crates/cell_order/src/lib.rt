@@ -10,5 +10,5 @@ mod moving;
 mod reordering;
 
 pub use ending::ending_order;
-pub use error::OrderError;
+pub use error::ReorderError;
 pub use reordering::in_order;

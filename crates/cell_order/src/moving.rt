@@ -2,7 +2,7 @@
 ghost use Rattle.std.specs.Prelude.{◌≡◌, ◌<◌, map, slice_get, IfOk, IfSome, OnOk, Some};
 ghost use Rattle.cell_order.specs.Renamed.{renamed, renamed_cell, AreMoved};
 
-use crate::OrderError;
+use crate::ReorderError;
 use cell_core::{Cell, CellList, Src};
 use std::alloc::Global;
 
@@ -53,7 +53,7 @@ pub struct Moved {
 
 impl Moved {
     /// None has come.
-    pub fn begin(alloc: Global, list: &CellList) -> Result<Moved, OrderError>
+    pub fn begin(alloc: Global, list: &CellList) -> Result<Moved, ReorderError>
         ensures { IfOk result (λ moved. AreMoved list.now moved.cells.items moved.numbers.items) }
     {
         let many = list.cells.len();
@@ -66,7 +66,7 @@ impl Moved {
     }
 
     /// A cell comes, if it is one of the list, and what it reads has come.
-    pub fn add(&mut self, list: &CellList, number: u32) -> Result<(), OrderError>
+    pub fn add(&mut self, list: &CellList, number: u32) -> Result<(), ReorderError>
         requires { AreMoved list.now self.old.cells.items self.old.numbers.items }
         ensures { OnOk result (AreMoved list.now self.new.cells.items self.new.numbers.items) }
     {
@@ -87,7 +87,7 @@ impl Moved {
     }
 
     /// The sources under the new numbers, if each has come.
-    pub fn sources(&self, alloc: Global, sources: &[Src]) -> Result<Option<Vec<Src>>, OrderError>
+    pub fn sources(&self, alloc: Global, sources: &[Src]) -> Result<Option<Vec<Src>>, ReorderError>
         ensures { IfOk result (λ o.
             IfSome o (λ found.
             map (renamed self.now.numbers.items) sources.now ≡ map Some found.items
@@ -105,7 +105,7 @@ impl Moved {
     }
 
     /// What the list's outputs, latches and nets read under the new numbers, if each has come.
-    pub fn ends(&self, alloc: Global, list: &CellList) -> Result<Option<Ends>, OrderError>
+    pub fn ends(&self, alloc: Global, list: &CellList) -> Result<Option<Ends>, ReorderError>
         ensures outs { IfOk result (λ o.
             IfSome o (λ ends.
             map (renamed self.now.numbers.items) list.now.outs ≡ map Some ends.outs.items

@@ -3,7 +3,7 @@ ghost use Rattle.std.specs.Prelude.{IfOk, IfSome};
 ghost use Rattle.cell_order.specs.Alike.{ComputeAlike};
 ghost use Rattle.cell_order.specs.Renamed.{AreMoved};
 
-use crate::OrderError;
+use crate::ReorderError;
 use crate::moving::Moved;
 use cell_core::CellList;
 use lists::List;
@@ -11,7 +11,7 @@ use std::alloc::Global;
 
 // The list with the cells that have come, if all have that its ports read, and they are as many.
 #[tactic(auto, using(crate::proofs::Moves::bits_follow, crate::proofs::Moves::there_follow))]
-fn with_moved(alloc: Global, list: &CellList, moved: Moved) -> Result<Option<CellList>, OrderError>
+fn with_moved(alloc: Global, list: &CellList, moved: Moved) -> Result<Option<CellList>, ReorderError>
     requires { AreMoved list.now moved.cells.items moved.numbers.items }
     ensures { IfOk result (λ new. IfSome new (ComputeAlike list.now)) }
 {
@@ -42,7 +42,7 @@ pub fn in_order(
     alloc: Global,
     list: &CellList,
     order: &[u32],
-) -> Result<Option<CellList>, OrderError>
+) -> Result<Option<CellList>, ReorderError>
     ensures { IfOk result (λ new. IfSome new (ComputeAlike list.now)) }
 {
     let mut moved = Moved::begin(alloc, list)?;

@@ -28,8 +28,8 @@ pub record IsPlanOf (list : CellList) (plan : Plan) : Type 0 where
   pub exits : AreAtExits list plan.columns plan.nets
 
 -- the list is short enough for a plan
-abbrev pub IsShort : CellList → Type 0
-IsShort list = list.inputs + loop_count list + length list.outs + length list.cells < 2 ^ 18
+abbrev pub IsPlannable : CellList → Type 0
+IsPlannable list = list.inputs + loop_count list + length list.outs + length list.cells < 2 ^ 18
 
 -- it is a plan of the list of this number
 abbrev pub IsPlanOfOne : List CellList → ℕ → Plan → Type 0

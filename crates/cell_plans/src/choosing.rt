@@ -4,7 +4,7 @@ ghost use Rattle.cell_core.specs.Loops.{loop_count, loop_state};
 ghost use Rattle.cell_meaning.specs.Computes.{ComputesByPlan};
 ghost use Rattle.cell_plans.specs.Counts.{instr_count, tiles};
 ghost use Rattle.cell_plans.specs.Exits.{AreAtExits};
-ghost use Rattle.cell_plans.specs.PlanOf.{IsShort, IsPlanOf, IsPlanOfOne};
+ghost use Rattle.cell_plans.specs.PlanOf.{IsPlannable, IsPlanOf, IsPlanOfOne};
 ghost use Rattle.lane_core.specs.Plans.{IsAdmissible};
 ghost use Rattle.plan_layout.specs.Starts.{start_edges, HasStartEdges};
 ghost use Rattle.plan_waves.specs.Contexts.{StartsContexts};
@@ -45,7 +45,7 @@ fn smaller(lists: &[CellList], first: Chosen, second: Chosen) -> Chosen
 // The plan of a list, by its number, in one of a few orders.
 fn plain(alloc: Global, lists: &[CellList], number: usize) -> Result<Chosen, PlanError>
     requires within { number < length lists.now }
-    requires short { All IsShort lists.now }
+    requires short { All IsPlannable lists.now }
     ensures { IfOk result (λ chosen. IsPlanOfOne lists.now chosen.list chosen.plan) }
 {
     let plan = plain_plan(alloc, &lists[number])?;
@@ -55,7 +55,7 @@ fn plain(alloc: Global, lists: &[CellList], number: usize) -> Result<Chosen, Pla
 // The smallest of the plans of the lists in a few orders.
 fn best_plain(alloc: Global, lists: &[CellList]) -> Result<Chosen, PlanError>
     requires some { 0 < length lists.now }
-    requires short { All IsShort lists.now }
+    requires short { All IsPlannable lists.now }
     ensures { IfOk result (λ chosen. IsPlanOfOne lists.now chosen.list chosen.plan) }
 {
     let mut best = plain(alloc, lists, 0)?;
@@ -120,7 +120,7 @@ fn better(
 ) -> Result<Chosen, PlanError>
     requires chosen { IsPlanOfOne lists.now chosen.list chosen.plan }
     requires within { found.now.list < length lists.now }
-    requires short { All IsShort lists.now }
+    requires short { All IsPlannable lists.now }
     ensures plan { IfOk result (λ next. IsPlanOfOne lists.now next.list next.plan) }
     ensures no_larger { IfOk result (λ next. tiles next.plan ≤ tiles chosen.plan) }
 {
@@ -140,7 +140,7 @@ fn better(
 /// list in an order, on lanes of its inputs and on a number of lanes that were climbed to from these.
 pub fn best_plan(alloc: Global, lists: &[CellList]) -> Result<Chosen, PlanError>
     requires some { 0 < length lists.now }
-    requires short { All IsShort lists.now }
+    requires short { All IsPlannable lists.now }
     ensures { IfOk result (λ chosen. IsPlanOfOne lists.now chosen.list chosen.plan) }
 {
     let chosen = best_plain(alloc, lists)?;
@@ -153,7 +153,7 @@ pub fn best_plan(alloc: Global, lists: &[CellList]) -> Result<Chosen, PlanError>
 // The plan of one list.
 #[tactic(auto, using(crate::proofs::Single::one_short))]
 fn one_plan(alloc: Global, list: &CellList) -> Result<Plan, PlanError>
-    requires short { IsShort list.now }
+    requires short { IsPlannable list.now }
     ensures { IfOk result (IsPlanOf list.now) }
 {
     let chosen = best_plan(alloc, from_ref(list))?;

@@ -1,5 +1,5 @@
 // What is answered where no plan is made.
-use cell_order::OrderError;
+use cell_order::ReorderError;
 use column_packer::PackError;
 use latch_loops::CloseError;
 use order_climbing::ClimbError;
@@ -38,10 +38,10 @@ impl From<CloseError> for PlanError {
     }
 }
 
-impl From<OrderError> for PlanError {
-    fn from(error: OrderError) -> Self {
+impl From<ReorderError> for PlanError {
+    fn from(error: ReorderError) -> Self {
         match error {
-            OrderError::NoMemory => PlanError::NoMemory,
+            ReorderError::NoMemory => PlanError::NoMemory,
         }
     }
 }

@@ -6,7 +6,7 @@ use Rattle.std.proofs.lemmas.Bool.{cases_eq, and_from, and_parts}
 use Rattle.std.proofs.lemmas.Bool.Decides.{nat_tests}
 use Rattle.std.proofs.lemmas.List.Elements.{All-head, All-tail}
 use Rattle.lane_core.specs.declared.starts.Start.{Start}
-use Rattle.lane_core.specs.Starts.{is_before, are_in_order}
+use Rattle.lane_core.specs.Starts.{is_before, are_starts_in_order}
 use Rattle.circuit_plans.specs.Circuits.{loop_start, IsLoopStart, starts_with_one, starts_from, starts_where}
 use Rattle.circuit_plans.specs.Laws.{StartsAreOfLoops}
 
@@ -24,12 +24,12 @@ module _ (lanes loops : ℕ) where
       go true rest = and_from _ _ (before a from lt) rest
       go false rest = rest
 
-  pub in_order : (holds : ℕ → Bool) (left from : ℕ) → are_in_order (starts_from lanes loops holds left from) ≡ true
+  pub in_order : (holds : ℕ → Bool) (left from : ℕ) → are_starts_in_order (starts_from lanes loops holds left from) ≡ true
   in_order holds zero from = refl
   in_order holds (suc left) from = go (holds from) (in_order holds left (from + 1))
     where
-      go : (b : Bool) → are_in_order (starts_from lanes loops holds left (from + 1)) ≡ true
-          → are_in_order (cond b (loop_start lanes loops from ∷ []) [] ++ starts_from lanes loops holds left (from + 1)) ≡ true
+      go : (b : Bool) → are_starts_in_order (starts_from lanes loops holds left (from + 1)) ≡ true
+          → are_starts_in_order (cond b (loop_start lanes loops from ∷ []) [] ++ starts_from lanes loops holds left (from + 1)) ≡ true
       go true rest = and_from _ _ (all_before holds from left (from + 1) (omega arith)) rest
       go false rest = rest
 
@@ -59,17 +59,17 @@ module _ (lanes loops : ℕ) where
   all_after from end k (start ∷ starts) before all (suc i) d lt =
       all_after from end k starts (and_parts _ _ before).1 (All-tail (IsFrom from end) start starts all) i d (omega (arith, lt))
 
-  rising : (from end : ℕ) (starts : List Start) → are_in_order starts ≡ true → All (IsFrom from end) starts → Rising from end starts
+  rising : (from end : ℕ) (starts : List Start) → are_starts_in_order starts ≡ true → All (IsFrom from end) starts → Rising from end starts
   rising from end [] order all = tt
   rising from end (start ∷ starts) order all =
       let first : IsFrom from end start = All-head (IsFrom from end) start starts all in
       let before : list_all (is_before (loop_start lanes loops first.0)) starts ≡ true =
-      ap (λ s. list_all (is_before s) starts) (sym first.3) ∙ (and_parts (list_all (is_before start) starts) (are_in_order starts) order).0 in (
+      ap (λ s. list_all (is_before s) starts) (sym first.3) ∙ (and_parts (list_all (is_before start) starts) (are_starts_in_order starts) order).0 in (
         first.0,
         first.1,
         first.2,
         first.3,
-        rising (first.0 + 1) end starts (and_parts (list_all (is_before start) starts) (are_in_order starts) order).1
+        rising (first.0 + 1) end starts (and_parts (list_all (is_before start) starts) (are_starts_in_order starts) order).1
             (all_after from end first.0 starts before (All-tail (IsFrom from end) start starts all)),
       )
 
@@ -126,7 +126,7 @@ starts_are_of_loops plan h holds same =
     (rising plan.lanes plan.latches 0 (0 + plan.latches) plan.starts.list plan.starts.in_order (all_from plan.lanes plan.latches plan.starts.list h.at_loops))
     (λ loop low high. same loop (omega (arith, high)))
 
-pub where_in_order : (lanes loops : ℕ) (holds : ℕ → Bool) → IsTrue (are_in_order (starts_where lanes loops holds))
+pub where_in_order : (lanes loops : ℕ) (holds : ℕ → Bool) → IsTrue (are_starts_in_order (starts_where lanes loops holds))
 where_in_order lanes loops holds = in_order lanes loops holds loops 0
 
 from_at_loops : (lanes loops : ℕ) (holds : ℕ → Bool) (left from : ℕ) → from + left ≤ loops → All (IsLoopStart lanes loops) (starts_from lanes loops holds left from)

@@ -12,7 +12,7 @@ use Rattle.netlist_core.specs.declared.flat.FlatLatch.{FlatLatch}
 use Rattle.netlist_core.specs.declared.flat.Flat.{Flat}
 use Rattle.netlist_meaning.specs.Flat.{class_of, is_clock_class}
 use Rattle.clock_check.specs.declared.uses.NetUse.{NetUse}
-use Rattle.clock_check.specs.Uses.{uses_on, uses_of_node, uses_of_latch, uses_of_outs, flat_uses, is_before, earlier, earliest_with, earliest_among}
+use Rattle.clock_check.specs.Uses.{uses_on, uses_of_node, uses_of_latch, uses_of_outs, flat_uses, stands_before, earlier, earliest_with, earliest_among}
 
 -- more uses
 pub among_more : (flat : Flat) (found : Option NetUse) (uses others : List NetUse) → earliest_among flat found (uses ++ others) ≡ earliest_among flat (earliest_among flat found uses) others
@@ -30,11 +30,11 @@ uses_of_outs_more first (port ∷ ports) others = let same : suc first + length 
 -- a loop over words, outputs or lines
 pub on_more : (flat : Flat) (found before after : Option NetUse) (line i : ℕ) (nets : List NetId) (d : NetId) → i < length nets → before ≡ earliest_among flat found (uses_on line 0 (take i nets)) → after ≡ earliest_with flat before (record { line = line; position = i; net = get_or nets i d })
     → after ≡ earliest_among flat found (uses_on line 0 (take (i + 1) nets))
-on_more flat found before after line i nets d within is_before is_after =
+on_more flat found before after line i nets d within stands_before is_after =
     let long : length (take i nets) ≡ i = length-take-le i nets (omega arith) in
     let at : 0 + length (take i nets) ≡ i = omega arith in
     is_after
-    ∙ ap (λ o. earliest_with flat o (record { line = line; position = i; net = get_or nets i d })) is_before
+    ∙ ap (λ o. earliest_with flat o (record { line = line; position = i; net = get_or nets i d })) stands_before
     ∙ sym (among_more flat found (uses_on line 0 (take i nets)) (uses_on line i (get_or nets i d ∷ [])))
     ∙ ap (λ n. earliest_among flat found (uses_on line 0 (take i nets) ++ uses_on line n (get_or nets i d ∷ []))) (sym at)
     ∙ ap (earliest_among flat found) (sym (uses_on_more line 0 (take i nets) (get_or nets i d ∷ [])))
@@ -42,11 +42,11 @@ on_more flat found before after line i nets d within is_before is_after =
 
 pub outs_more : (flat : Flat) (found before after : Option NetUse) (i : ℕ) (ports : List FlatPort) (d : FlatPort) → i < length ports → before ≡ earliest_among flat found (uses_of_outs 0 (take i ports)) → after ≡ earliest_with flat before (record { line = (get_or ports i d).line; position = i; net = (get_or ports i d).net })
     → after ≡ earliest_among flat found (uses_of_outs 0 (take (i + 1) ports))
-outs_more flat found before after i ports d within is_before is_after =
+outs_more flat found before after i ports d within stands_before is_after =
     let long : length (take i ports) ≡ i = length-take-le i ports (omega arith) in
     let at : 0 + length (take i ports) ≡ i = omega arith in
     is_after
-    ∙ ap (λ o. earliest_with flat o (record { line = (get_or ports i d).line; position = i; net = (get_or ports i d).net })) is_before
+    ∙ ap (λ o. earliest_with flat o (record { line = (get_or ports i d).line; position = i; net = (get_or ports i d).net })) stands_before
     ∙ sym (among_more flat found (uses_of_outs 0 (take i ports)) (uses_of_outs i (get_or ports i d ∷ [])))
     ∙ ap (λ n. earliest_among flat found (uses_of_outs 0 (take i ports) ++ uses_of_outs n (get_or ports i d ∷ []))) (sym at)
     ∙ ap (earliest_among flat found) (sym (uses_of_outs_more 0 (take i ports) (get_or ports i d ∷ [])))
@@ -54,9 +54,9 @@ outs_more flat found before after i ports d within is_before is_after =
 
 pub lines_more : {X : Type 0} (uses : X → List NetUse) (flat : Flat) (found before after : Option NetUse) (i : ℕ) (xs : List X) (d : X) → i < length xs → before ≡ earliest_among flat found (flat_map uses (take i xs)) → after ≡ earliest_among flat before (uses (get_or xs i d))
     → after ≡ earliest_among flat found (flat_map uses (take (i + 1) xs))
-lines_more {X} uses flat found before after i xs d within is_before is_after =
+lines_more {X} uses flat found before after i xs d within stands_before is_after =
     is_after
-    ∙ ap (λ o. earliest_among flat o (uses (get_or xs i d))) is_before
+    ∙ ap (λ o. earliest_among flat o (uses (get_or xs i d))) stands_before
     ∙ sym (among_more flat found (flat_map uses (take i xs)) (uses (get_or xs i d)))
     ∙ ap (earliest_among flat found) (flat_map_more uses [] (take i xs) (get_or xs i d))
     ∙ ap (λ (ys : List X). earliest_among flat found (flat_map uses ys)) (sym (take_more xs i d within))
@@ -85,13 +85,13 @@ up_to_next a b c (inl l) (inr m) = inl (let e : b.line ≡ c.line = m.0 in omega
 up_to_next a b c (inr l) (inl m) = inl (let e : a.line ≡ b.line = l.0 in omega arith)
 up_to_next a b c (inr l) (inr m) = inr (l.0 ∙ m.0, (let p : a.position ≤ b.position = l.1 in let q : b.position ≤ c.position = m.1 in omega arith))
 
-before_is_up_to : (a b : NetUse) → is_before a b ≡ true → IsUpTo a b
+before_is_up_to : (a b : NetUse) → stands_before a b ≡ true → IsUpTo a b
 before_is_up_to a b e = elim (or_cases (nat_lt a.line b.line) ((a.line == b.line) && nat_lt a.position b.position) e) as (λ _. IsUpTo a b) [
   | inl l ↦ inl (ltb-true a.line b.line l)
   | inr m ↦ let (same, less) = and_parts (a.line == b.line) (nat_lt a.position b.position) m in inr ((Decides-eqb a.line b.line).0 same, (let l : a.position < b.position = ltb-true a.position b.position less in omega arith))
 ]
 
-others_are_up_to : (a b : NetUse) → is_before a b ≡ false → IsUpTo b a
+others_are_up_to : (a b : NetUse) → stands_before a b ≡ false → IsUpTo b a
 others_are_up_to a b e =
     let late : b.line ≤ a.line = ltb-false a.line b.line (or_false_left _ _ e) in
     by late (a.line == b.line) refl (or_false_right (nat_lt a.line b.line) _ e)
@@ -125,14 +125,14 @@ earliest_more flat uses o next h = by o h (clock_of flat next) refl
     last : In next (uses ++ next ∷ [])
     last = in_right uses (next ∷ []) next (inl refl)
 
-    choose : (found : NetUse) → In found uses → clock_of flat found ≡ true → ((other : NetUse) → In other uses → clock_of flat other ≡ true → IsUpTo found other) → clock_of flat next ≡ true → (b : Bool) → is_before next found ≡ b → IsEarliest flat (uses ++ next ∷ []) (Some (cond b next found))
+    choose : (found : NetUse) → In found uses → clock_of flat found ≡ true → ((other : NetUse) → In other uses → clock_of flat other ≡ true → IsUpTo found other) → clock_of flat next ≡ true → (b : Bool) → stands_before next found ≡ b → IsEarliest flat (uses ++ next ∷ []) (Some (cond b next found))
     choose found i c least e true sooner = (last, e, with_one next (up_to_itself next) (λ other j d. up_to_next next found other (before_is_up_to next found sooner) (least other j d)))
     choose found i c least e false later = (in_left uses (next ∷ []) found i, c, with_one found (others_are_up_to next found later) least)
 
     by : (o : Option NetUse) → IsEarliest flat uses o → (b : Bool) → clock_of flat next ≡ b → IsEarliest flat (uses ++ next ∷ []) (cond b (Some (earlier o next)) o)
     by None h true e = (last, e, with_one next (up_to_itself next) (λ other i d. absurd (true≢false (sym d ∙ h other i))))
     by None h false e = none h e
-    by (Some found) h true e = choose found h.0 h.1 h.2 e (is_before next found) refl
+    by (Some found) h true e = choose found h.0 h.1 h.2 e (stands_before next found) refl
     by (Some found) h false e = (in_left uses (next ∷ []) found h.0, h.1, without found e h.2)
 
 earliest_on_from : (flat : Flat) (before : List NetUse) (o : Option NetUse) (uses : List NetUse) → IsEarliest flat before o → IsEarliest flat (before ++ uses) (earliest_among flat o uses)

@@ -15,8 +15,8 @@ use Rattle.netlist_meaning.specs.Flat.{class_of, IsInRange, IsNetId, name_of_net
 use Rattle.netlist_meaning.proofs.ClockTest.{is_clock_class-Decides}
 use Rattle.netlist_rules.specs.declared.fault.Fault.{Fault}
 use Rattle.netlist_rules.specs.FlatClocks.{IsFlatUse, by_node, by_data, by_output, IsFlatClockRead, IsFlatClockFault, two_clocks, clock_read, HasOneFlatClock}
-use Rattle.clock_check.specs.declared.error.CheckError.{CheckError}
-use Rattle.clock_check.specs.declared.error.CheckError.TheVariants as error
+use Rattle.clock_check.specs.declared.error.ClockError.{ClockError}
+use Rattle.clock_check.specs.declared.error.ClockError.TheVariants as error
 use Rattle.clock_check.specs.declared.uses.NetUse.{NetUse}
 use Rattle.clock_check.specs.Uses.{uses_on, uses_of_node, uses_of_latch, uses_of_outs, flat_uses, earliest_among}
 use Rattle.clock_check.proofs.Earliest.{IsEarliest, is_earliest}
@@ -178,7 +178,7 @@ none_is_read flat e line word read =
     true≢false (sym ((is_clock_class-Decides flat (class_of flat read.id)).1 read.is_use.1) ∙ h used i)
 
 -- the fault that is told
-pub told_fault : {T : Type 0} (flat : Flat) (r : CheckError) (told fault : Fault) → r ≡ error.Fault told → IsErrOf {T = T} (Err r) (error.Fault fault) → IsFlatClockFault flat told → IsFlatClockFault flat fault
+pub told_fault : {T : Type 0} (flat : Flat) (r : ClockError) (told fault : Fault) → r ≡ error.Fault told → IsErrOf {T = T} (Err r) (error.Fault fault) → IsFlatClockFault flat told → IsFlatClockFault flat fault
 told_fault flat r told fault is e h = let same : told ≡ fault = cc in subst (IsFlatClockFault flat) same h
 
 -- where there is neither fault there is none

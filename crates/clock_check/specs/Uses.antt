@@ -28,13 +28,13 @@ abbrev pub flat_uses : Flat → List NetUse
 flat_uses flat = flat_map uses_of_node flat.nodes ++ flat_map uses_of_latch flat.latches ++ uses_of_outs 0 flat.outs
 
 -- whether a use stands before another
-abbrev pub is_before : NetUse → NetUse → Bool
-is_before a b = nat_lt a.line b.line || ((a.line == b.line) && nat_lt a.position b.position)
+abbrev pub stands_before : NetUse → NetUse → Bool
+stands_before a b = nat_lt a.line b.line || ((a.line == b.line) && nat_lt a.position b.position)
 
 -- the earlier of two uses
 abbrev pub earlier : Option NetUse → NetUse → NetUse
 earlier None next = next
-earlier (Some found) next = cond (is_before next found) next found
+earlier (Some found) next = cond (stands_before next found) next found
 
 -- the earliest use of a clock, with one more use
 abbrev pub earliest_with : Flat → Option NetUse → NetUse → Option NetUse

@@ -7,7 +7,7 @@ ghost use Rattle.netlist_rules.specs.declared.fault.Fault as rules;
 ghost use Rattle.netlist_rules.specs.FlatClocks.{HasOneFlatClock, IsFlatClockRead, IsFlatClockFault};
 
 use crate::control::{control_word, other_clock};
-use crate::error::CheckError;
+use crate::error::ClockError;
 use crate::uses::earliest_use;
 use netlist_core::Flat;
 use netlist_meaning::{ClockClasses, name_of_net};
@@ -15,25 +15,25 @@ use netlist_rules::FaultKind;
 use std::alloc::Global;
 
 // Whether all latches have one clock.
-fn check_latches(alloc: Global, flat: &Flat) -> Result<(), CheckError>
+fn check_latches(alloc: Global, flat: &Flat) -> Result<(), ClockError>
     requires { IsInRange flat.now }
-    ensures fault { (fault : rules.Fault) → IsErrOf result (CheckError.Fault fault) → IsFlatClockFault flat.now fault }
+    ensures fault { (fault : rules.Fault) → IsErrOf result (ClockError.Fault fault) → IsFlatClockFault flat.now fault }
     ensures one { OnOk result (HasOneFlatClock flat.now) }
 {
     match other_clock(flat) {
         None => Ok(()),
         Some(latch) => {
             let word = control_word(alloc, flat, latch.control)?;
-            Err(CheckError::at_word(FaultKind::TwoClocks, latch.line, word))
+            Err(ClockError::at_word(FaultKind::TwoClocks, latch.line, word))
         }
     }
 }
 
 // Whether nothing but latches' controls uses a clock net.
-fn check_uses(alloc: Global, flat: &Flat) -> Result<(), CheckError>
+fn check_uses(alloc: Global, flat: &Flat) -> Result<(), ClockError>
     requires in_range { IsInRange flat.now }
     requires one_clock { HasOneFlatClock flat.now }
-    ensures fault { (fault : rules.Fault) → IsErrOf result (CheckError.Fault fault) → IsFlatClockFault flat.now fault }
+    ensures fault { (fault : rules.Fault) → IsErrOf result (ClockError.Fault fault) → IsFlatClockFault flat.now fault }
     ensures unused { OnOk result ((line : ℕ) (word : Name) → ¬ IsFlatClockRead flat.now line word) }
 {
     let clocks = ClockClasses::new(alloc, flat)?;
@@ -41,16 +41,16 @@ fn check_uses(alloc: Global, flat: &Flat) -> Result<(), CheckError>
         None => Ok(()),
         Some(first) => {
             let word = name_of_net(alloc, flat, first.net)?;
-            Err(CheckError::at_word(FaultKind::ClockRead, first.line, word))
+            Err(ClockError::at_word(FaultKind::ClockRead, first.line, word))
         }
     }
 }
 
 /// The check of a flat netlist's clocks. `Fault` has the first latch that differs from the first one in type or control;
 /// where there is none, the earliest use of a clock net by a node, as a latch's data or as an output.
-pub fn check_clock(alloc: Global, flat: &Flat) -> Result<(), CheckError>
+pub fn check_clock(alloc: Global, flat: &Flat) -> Result<(), ClockError>
     requires in_range { IsInRange flat.now }
-    ensures fault { (fault : rules.Fault) → IsErrOf result (CheckError.Fault fault) → IsFlatClockFault flat.now fault }
+    ensures fault { (fault : rules.Fault) → IsErrOf result (ClockError.Fault fault) → IsFlatClockFault flat.now fault }
     ensures none { OnOk result ((fault : rules.Fault) → ¬ IsFlatClockFault flat.now fault) }
 {
     check_latches(alloc, flat)?;

@@ -10,4 +10,4 @@ mod error;
 mod uses;
 
 pub use check::check_clock;
-pub use error::CheckError;
+pub use error::ClockError;

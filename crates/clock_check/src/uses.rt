@@ -2,7 +2,7 @@
 ghost use Rattle.std.specs.Prelude.{◌≡◌, ◌<◌, flat_map, All, None};
 ghost use Rattle.netlist_core.specs.declared.flat.Node as flat_node;
 ghost use Rattle.netlist_meaning.specs.Flat.{IsNetId};
-ghost use Rattle.clock_check.specs.Uses.{uses_on, uses_of_node, uses_of_latch, uses_of_outs, flat_uses, is_before, earlier, earliest_with, earliest_among};
+ghost use Rattle.clock_check.specs.Uses.{uses_on, uses_of_node, uses_of_latch, uses_of_outs, flat_uses, stands_before, earlier, earliest_with, earliest_among};
 
 use netlist_core::{FlatLatch, FlatPort, NetId, Node};
 use netlist_meaning::ClockClasses;
@@ -15,8 +15,8 @@ pub struct NetUse {
     pub net: NetId,
 }
 
-fn is_before(a: NetUse, b: NetUse) -> bool
-    ensures { result ≡ is_before a b }
+fn stands_before(a: NetUse, b: NetUse) -> bool
+    ensures { result ≡ stands_before a b }
 {
     a.line < b.line || (a.line == b.line && a.position < b.position)
 }
@@ -26,7 +26,7 @@ fn earlier(found: Option<NetUse>, next: NetUse) -> NetUse
 {
     match found {
         None => next,
-        Some(found) => { if is_before(next, found) { next } else { found } }
+        Some(found) => { if stands_before(next, found) { next } else { found } }
     }
 }
 

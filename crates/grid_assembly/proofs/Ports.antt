@@ -7,19 +7,19 @@ use Rattle.tile_core.specs.Interface.{cell_at, chosen}
 use Rattle.tile_core.specs.Kinds.{interface}
 use Rattle.tiling.specs.Tiling.{Lit, heads_of, tails_of}
 use Rattle.std.proofs.Math.Bool.{or-false as or_false}
-use Rattle.grid_assembly.specs.PortCells.{is_at, head_at, tail_at}
+use Rattle.grid_assembly.specs.PortCells.{is_port_at, head_at, tail_at}
 use Rattle.ww_rule.specs.declared.pattern.State.TheVariants.{Empty, Head, Tail, Conductor}
 use Rattle.tile_library.specs.Drawings.{shipped_drawing}
 use Rattle.tiling.specs.Tiling.{drawn_piece}
 use Rattle.tiling.specs.Tiling.Piece.{Tile}
 
-pair : (x y : ℕ) (c d : ℕ × ℕ) (a b : Bool) → is_cell_of (pos x) (pos y) (chosen (cell_at c ∷ cell_at d ∷ []) (a ∷ b ∷ [])) ≡ ((a && is_at x y c) || (b && is_at x y d))
-pair x y c d true true = ap (λ v. is_at x y c || v) (or_false (is_at x y d))
+pair : (x y : ℕ) (c d : ℕ × ℕ) (a b : Bool) → is_cell_of (pos x) (pos y) (chosen (cell_at c ∷ cell_at d ∷ []) (a ∷ b ∷ [])) ≡ ((a && is_port_at x y c) || (b && is_port_at x y d))
+pair x y c d true true = ap (λ v. is_port_at x y c || v) (or_false (is_port_at x y d))
 pair x y c d true false = refl
-pair x y c d false true = or_false (is_at x y d)
+pair x y c d false true = or_false (is_port_at x y d)
 pair x y c d false false = refl
 
-single : (x y : ℕ) (c : ℕ × ℕ) (a b : Bool) → is_cell_of (pos x) (pos y) (chosen (cell_at c ∷ []) (a ∷ b ∷ [])) ≡ ((a && is_at x y c) || false)
+single : (x y : ℕ) (c : ℕ × ℕ) (a b : Bool) → is_cell_of (pos x) (pos y) (chosen (cell_at c ∷ []) (a ∷ b ∷ [])) ≡ ((a && is_port_at x y c) || false)
 single x y c true b = refl
 single x y c false b = refl
 

@@ -15,7 +15,7 @@ use Rattle.tiling.specs.Tiling.Piece.{Tile}
 use Rattle.tiling.specs.Tiling.Edge.{Beside}
 use Rattle.grid_assembly.proofs.Blank.{undrawn}
 use Rattle.grid_assembly.proofs.Ports.{heads_at, tails_at}
-use Rattle.grid_assembly.specs.PortCells.{is_at, head_at, tail_at}
+use Rattle.grid_assembly.specs.PortCells.{is_port_at, head_at, tail_at}
 
 abbrev blank : List ℕ
 blank = replicate 32 46
@@ -65,13 +65,13 @@ wire_cell lit q l x head tail within h t =
 -- its head is at its first cell, and its tail at its last one
 no_head : (lit : Lit) (q l x : ℕ) → 0 < x → is_cell_of (pos x) (pos 8) (heads_of lit q l (interface East)) ≡ false
 no_head lit q l x some =
-    let off : is_at x 8 (0, 8) ≡ false = grind (arith, nat_tests) in
-    heads_at lit q l East x 8 ∙ or_from (head_at lit q l East 0 x 8) (head_at lit q l East 1 x 8) (and_right (lit (Beside q (l + 0))) (is_at x 8 (0, 8)) off) refl
+    let off : is_port_at x 8 (0, 8) ≡ false = grind (arith, nat_tests) in
+    heads_at lit q l East x 8 ∙ or_from (head_at lit q l East 0 x 8) (head_at lit q l East 1 x 8) (and_right (lit (Beside q (l + 0))) (is_port_at x 8 (0, 8)) off) refl
 
 no_tail : (lit : Lit) (q l x : ℕ) → x ≢ 31 → is_cell_of (pos x) (pos 8) (tails_of lit q l (interface East)) ≡ false
 no_tail lit q l x other =
-    let off : is_at x 8 (31, 8) ≡ false = grind (arith, nat_tests) in
-    tails_at lit q l East x 8 ∙ or_from (tail_at lit q l East 0 x 8) (tail_at lit q l East 1 x 8) (and_right (lit (Beside (q + 1) (l + 0))) (is_at x 8 (31, 8)) off) refl
+    let off : is_port_at x 8 (31, 8) ≡ false = grind (arith, nat_tests) in
+    tails_at lit q l East x 8 ∙ or_from (tail_at lit q l East 0 x 8) (tail_at lit q l East 1 x 8) (and_right (lit (Beside (q + 1) (l + 0))) (is_port_at x 8 (31, 8)) off) refl
 
 same_lane : (l : ℕ) → l + 0 ≡ l
 same_lane l = omega arith

@@ -9,7 +9,7 @@ ghost use Rattle.tile_core.specs.Kinds.{interface};
 ghost use Rattle.tile_library.specs.Drawings.{shipped_drawing};
 ghost use Rattle.tiling.specs.Tiling.{Lit, drawn_piece, drawn_slot, edge_of, heads_of, is_entry_lit, is_exit_lit, tails_of};
 ghost use Rattle.tiling.specs.Tiling.Piece.{Tile, Output};
-ghost use Rattle.grid_assembly.specs.PortCells.{is_at, head_at, tail_at};
+ghost use Rattle.grid_assembly.specs.PortCells.{is_port_at, head_at, tail_at};
 
 use lane_core::Plan;
 use plan_layout::{Edge, Piece, Slot, is_lit};
@@ -66,8 +66,8 @@ fn is_exit_lit(plan: &Plan, column: u64, lane: u64, kind: Kind, n: usize) -> boo
 }
 
 // Whether a place is that of a port.
-fn is_at(place: (u32, u32), port: (u32, u32)) -> bool
-    ensures { result ≡ is_at place.0 place.1 port }
+fn is_port_at(place: (u32, u32), port: (u32, u32)) -> bool
+    ensures { result ≡ is_port_at place.0 place.1 port }
 {
     place.0 == port.0 && place.1 == port.1
 }
@@ -88,7 +88,7 @@ fn is_lit_entry(
     requires two { n < 2 }
     ensures { result ≡ head_at (drawn_edges plan.now) column lane kind n place.0 place.1 }
 {
-    is_at(place, kind.entries()[n]) && is_entry_lit(plan, column, lane, kind, n)
+    is_port_at(place, kind.entries()[n]) && is_entry_lit(plan, column, lane, kind, n)
 }
 
 // Whether the n-th exit of a tile is at a place of its box, and lit.
@@ -99,7 +99,7 @@ fn is_lit_exit(plan: &Plan, column: u64, lane: u64, kind: Kind, n: usize, place:
     requires two { n < 2 }
     ensures { result ≡ tail_at (drawn_edges plan.now) column lane kind n place.0 place.1 }
 {
-    is_at(place, kind.exits()[n]) && is_exit_lit(plan, column, lane, kind, n)
+    is_port_at(place, kind.exits()[n]) && is_exit_lit(plan, column, lane, kind, n)
 }
 
 // Whether a tile has a head at a place of its box: an entry cell at a lit edge.

@@ -14,7 +14,7 @@ use Rattle.std.proofs.lemmas.List.Folds.{list_any-from_Any, list_any_none}
 use Rattle.std.proofs.lemmas.List.Kept.{IsStrictlySortedBy-dedup}
 use Rattle.std.proofs.lemmas.List.Sorted.{list_any-IsPermutation, searchable_from_sorted}
 use Rattle.lane_core.specs.declared.starts.Start.{Start}
-use Rattle.lane_core.specs.Starts.{is_before, are_in_order, is_start_at}
+use Rattle.lane_core.specs.Starts.{is_before, are_starts_in_order, is_start_at}
 use Rattle.lists.proofs.Bools.{and_true_left as and_left, and_true_right as and_right}
 
 -- how one name compares with another
@@ -84,12 +84,12 @@ all_before : (a : Start) (names : List Start) → AllByRecursion (λ b. compared
 all_before a [] h = refl
 all_before a (b ∷ names) h = and_from (is_before a b) (list_all (is_before a) names) (less a b h.0) (all_before a names h.1)
 
-in_order : (names : List Start) → IsStrictlySortedBy compared names → IsTrue (are_in_order names)
+in_order : (names : List Start) → IsStrictlySortedBy compared names → IsTrue (are_starts_in_order names)
 unfolding IsStrictlySortedBy
 in_order [] h = refl
-in_order (a ∷ names) h = and_from (list_all (is_before a) names) (are_in_order names) (all_before a names h.0) (in_order names h.1)
+in_order (a ∷ names) h = and_from (list_all (is_before a) names) (are_starts_in_order names) (all_before a names h.0) (in_order names h.1)
 
-pub sorted_once : (names : List Start) → IsSorted compared names → IsTrue (are_in_order (dedup same names))
+pub sorted_once : (names : List Start) → IsSorted compared names → IsTrue (are_starts_in_order (dedup same names))
 sorted_once names h = in_order (dedup same names) (IsStrictlySortedBy-dedup total ties names h)
 
 -- what stands twice is found once
@@ -122,18 +122,18 @@ pub keeps_names : (names sorted : List Start) → IsPermutation names sorted →
 keeps_names names sorted moved x y = any_once x y sorted ∙ sym (list_any-IsPermutation (is_at x y) names sorted moved)
 
 -- names in order ascend
-ascending : (names : List Start) → IsTrue (are_in_order names) → IsSorted compared names
+ascending : (names : List Start) → IsTrue (are_starts_in_order names) → IsSorted compared names
 ascending [] h k d low within = absurd (omega (arith, within))
 ascending (a ∷ []) h k d low within = absurd (omega (arith, within))
 ascending (a ∷ (b ∷ names)) h zero d low within =
-    not_less a b (and_left (is_before a b) (list_all (is_before a) names) (and_left (list_all (is_before a) (b ∷ names)) (are_in_order (b ∷ names)) h))
+    not_less a b (and_left (is_before a b) (list_all (is_before a) names) (and_left (list_all (is_before a) (b ∷ names)) (are_starts_in_order (b ∷ names)) h))
 ascending (a ∷ (b ∷ names)) h (suc k) d low within =
     let next : suc k + 1 ≡ suc (k + 1) = omega arith in
     ap (λ n. is_lt (compared (get_or (a ∷ (b ∷ names)) n d) (get_or (b ∷ names) k d))) next
-    ∙ ascending (b ∷ names) (and_right (list_all (is_before a) (b ∷ names)) (are_in_order (b ∷ names)) h) k d (omega arith) (omega (arith, within))
+    ∙ ascending (b ∷ names) (and_right (list_all (is_before a) (b ∷ names)) (are_starts_in_order (b ∷ names)) h) k d (omega arith) (omega (arith, within))
 
 -- so a name is found by binary search
-pub searched : (names : List Start) (x y : ℕ) (r : Result ℕ ℕ) → IsTrue (are_in_order names) → IsSearchInRange r (length names)
+pub searched : (names : List Start) (x y : ℕ) (r : Result ℕ ℕ) → IsTrue (are_starts_in_order names) → IsSearchInRange r (length names)
     → IsBinarySearchResult (λ a. compared a (record { y = y; x = x })) names r → is_ok r ≡ is_start_at names x y
 searched names x y (Ok i) order within at =
     let here : Start = get_or names i (record { y = y; x = x }) in

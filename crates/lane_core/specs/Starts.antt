@@ -8,9 +8,9 @@ abbrev pub is_before : Start → Start → Bool
 is_before a b = nat_lt a.y b.y || (a.y == b.y && nat_lt a.x b.x)
 
 -- the names are in this order, each of them once
-abbrev pub are_in_order : List Start → Bool
-are_in_order [] = true
-are_in_order (first ∷ rest) = list_all (is_before first) rest && are_in_order rest
+abbrev pub are_starts_in_order : List Start → Bool
+are_starts_in_order [] = true
+are_starts_in_order (first ∷ rest) = list_all (is_before first) rest && are_starts_in_order rest
 
 -- the cell with this x and this y is one of the names
 abbrev pub is_start_at : List Start → ℕ → ℕ → Bool

@@ -1,6 +1,6 @@
 // Where electrons stand at generation 0.
 ghost use Rattle.std.specs.Prelude.{◌≡◌, ℕ, IsTrue};
-ghost use Rattle.lane_core.specs.Starts.{are_in_order, is_start_at};
+ghost use Rattle.lane_core.specs.Starts.{are_starts_in_order, is_start_at};
 
 use lists::List;
 
@@ -16,7 +16,7 @@ pub struct Start {
 #[derive(Drop)]
 pub struct Starts {
     pub list: List<Start>,
-    pub ghost in_order: { IsTrue (are_in_order list) },
+    pub ghost in_order: { IsTrue (are_starts_in_order list) },
 }
 
 impl Starts {

@@ -69,10 +69,10 @@ module _ (list : CellList) (ins outs : List Name) (long : length ins ≡ list.in
       }
 
   -- what a cover with an input writes: a gate, or an output
-  record IsWriter (cover : Cover) : Type 0 where
+  record IsWriter (lifted_cover : Cover) : Type 0 where
     pub end : ℕ
-    pub reads : (input : Name) → In input cover.ins → IsReadBefore end input
-    pub writes : ((end < length list.cells) × (cover.out ≡ gate_name (mark (ins ++ outs)) end)) ⊎ ((j : ℕ) × (j < length outs) × (cover.out ≡ get_or outs j []))
+    pub reads : (input : Name) → In input lifted_cover.ins → IsReadBefore end input
+    pub writes : ((end < length list.cells) × (lifted_cover.out ≡ gate_name (mark (ins ++ outs)) end)) ⊎ ((j : ℕ) × (j < length outs) × (lifted_cover.out ≡ get_or outs j []))
 
   cell_writes : (c : Cover) → IsCellCover (mark (ins ++ outs)) ins 0 list.cells c → IsWriter c
   cell_writes c i =
@@ -102,7 +102,7 @@ module _ (list : CellList) (ins outs : List Name) (long : length ins ≡ list.in
 
   -- the covers of the model but the first, which reads nothing
   writes_of : (c : Cover) → In c (lifted_model ins outs list).covers → (input : Name) → In input c.ins → IsWriter c
-  writes_of c (inl e) input i = let none : In input [] = subst (λ (cover : Cover). In input cover.ins) e i in absurd none
+  writes_of c (inl e) input i = let none : In input [] = subst (λ (lifted_cover : Cover). In input lifted_cover.ins) e i in absurd none
   writes_of c (inr there) input i =
       ⊎_elim
       (λ cells. cell_writes c (cell_cover_is (mark (ins ++ outs)) ins (5 + length list.latches) 0 list.cells c cells))

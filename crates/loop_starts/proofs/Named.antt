@@ -14,7 +14,7 @@ use Rattle.lane_core.specs.Plans.{IsAdmissible}
 use Rattle.lane_core.specs.Instrs.{bit_on}
 use Rattle.lane_core.specs.Starts.{is_start_at}
 use Rattle.plan_layout.specs.Layout.{tiling_of}
-use Rattle.plan_layout.specs.Starts.{HasCell, named_edges, name_of, NamesEdge}
+use Rattle.plan_layout.specs.Starts.{HasCell, named_edges, edge_name, NamesEdge}
 use Rattle.plan_layout.proofs.EdgeNames.{named, one_edge, name_lights}
 use Rattle.plan_waves.specs.Waves.{tiles_back}
 use Rattle.plan_waves.specs.WaysBack.{before_entry}
@@ -34,22 +34,22 @@ HasNamesOf plan starts names = (x y : ℕ) → is_start_at names x y ≡ is_star
 
 -- a start with this name, in one of the first contexts of a loop
 abbrev StartOf : Plan → List (List Bool) → ℕ → ℕ → ℕ → Type 0
-StartOf plan starts loop x y = (c : ℕ) × (c < length starts) × (bit_on (get_or starts c []) loop ≡ true) × ((name_of (tiling_of plan) (before_entry plan loop c)).x ≡ x) × ((name_of (tiling_of plan) (before_entry plan loop c)).y ≡ y)
+StartOf plan starts loop x y = (c : ℕ) × (c < length starts) × (bit_on (get_or starts c []) loop ≡ true) × ((edge_name (tiling_of plan) (before_entry plan loop c)).x ≡ x) × ((edge_name (tiling_of plan) (before_entry plan loop c)).y ≡ y)
 
 module _ (plan : Plan) (starts : List (List Bool)) (x y : ℕ) where
-  named_in : (loop c : ℕ) (bit : Bool) → list_any (is_named x y) (cond bit (name_of (tiling_of plan) (before_entry plan loop c) ∷ []) []) ≡ true
-      → (bit ≡ true) × ((name_of (tiling_of plan) (before_entry plan loop c)).x ≡ x) × ((name_of (tiling_of plan) (before_entry plan loop c)).y ≡ y)
+  named_in : (loop c : ℕ) (bit : Bool) → list_any (is_named x y) (cond bit (edge_name (tiling_of plan) (before_entry plan loop c) ∷ []) []) ≡ true
+      → (bit ≡ true) × ((edge_name (tiling_of plan) (before_entry plan loop c)).x ≡ x) × ((edge_name (tiling_of plan) (before_entry plan loop c)).y ≡ y)
   named_in loop c false e = absurd (true≢false (sym e))
   named_in loop c true e =
-      let s = name_of (tiling_of plan) (before_entry plan loop c) in
+      let s = edge_name (tiling_of plan) (before_entry plan loop c) in
       let parts = and_parts (s.x == x) (s.y == y) (sym (or-false (is_named x y s)) ∙ e) in
       (refl, eqb-true s.x x parts.0, eqb-true s.y y parts.1)
 
-  in_named : (loop c : ℕ) (bit : Bool) → bit ≡ true → (name_of (tiling_of plan) (before_entry plan loop c)).x ≡ x → (name_of (tiling_of plan) (before_entry plan loop c)).y ≡ y
-      → list_any (is_named x y) (cond bit (name_of (tiling_of plan) (before_entry plan loop c) ∷ []) []) ≡ true
+  in_named : (loop c : ℕ) (bit : Bool) → bit ≡ true → (edge_name (tiling_of plan) (before_entry plan loop c)).x ≡ x → (edge_name (tiling_of plan) (before_entry plan loop c)).y ≡ y
+      → list_any (is_named x y) (cond bit (edge_name (tiling_of plan) (before_entry plan loop c) ∷ []) []) ≡ true
   in_named loop c false one ex ey = absurd (true≢false (sym one))
   in_named loop c true one ex ey =
-      let s = name_of (tiling_of plan) (before_entry plan loop c) in
+      let s = edge_name (tiling_of plan) (before_entry plan loop c) in
       or_left (is_named x y s) false (and_from (s.x == x) (s.y == y) (eq-eqb s.x x ex) (eq-eqb s.y y ey))
 
   of_loop : (loop n : ℕ) → n ≤ length starts → list_any (is_named x y) (starts_of_loop plan starts loop n) ≡ true → StartOf plan starts loop x y
@@ -61,7 +61,7 @@ module _ (plan : Plan) (starts : List (List Bool)) (x y : ℕ) where
       (or_cases (list_any (is_named x y) (starts_of_loop plan starts loop n)) (list_any (is_named x y) (start_in plan starts loop n))
       (sym (list_any-append (is_named x y) (starts_of_loop plan starts loop n) (start_in plan starts loop n)) ∙ e))
 
-  in_loop : (loop n c : ℕ) → c < n → bit_on (get_or starts c []) loop ≡ true → (name_of (tiling_of plan) (before_entry plan loop c)).x ≡ x → (name_of (tiling_of plan) (before_entry plan loop c)).y ≡ y
+  in_loop : (loop n c : ℕ) → c < n → bit_on (get_or starts c []) loop ≡ true → (edge_name (tiling_of plan) (before_entry plan loop c)).x ≡ x → (edge_name (tiling_of plan) (before_entry plan loop c)).y ≡ y
       → list_any (is_named x y) (starts_of_loop plan starts loop n) ≡ true
   in_loop loop zero c low one ex ey = absurd (omega (arith, low))
   in_loop loop (suc n) c low one ex ey =
@@ -80,7 +80,7 @@ module _ (plan : Plan) (starts : List (List Bool)) (x y : ℕ) where
       (or_cases (list_any (is_named x y) (starts_of_loops plan starts n)) (list_any (is_named x y) (starts_of_loop plan starts n (length starts)))
       (sym (list_any-append (is_named x y) (starts_of_loops plan starts n) (starts_of_loop plan starts n (length starts))) ∙ e))
 
-  in_loops : (n loop c : ℕ) → loop < n → c < length starts → bit_on (get_or starts c []) loop ≡ true → (name_of (tiling_of plan) (before_entry plan loop c)).x ≡ x → (name_of (tiling_of plan) (before_entry plan loop c)).y ≡ y
+  in_loops : (n loop c : ℕ) → loop < n → c < length starts → bit_on (get_or starts c []) loop ≡ true → (edge_name (tiling_of plan) (before_entry plan loop c)).x ≡ x → (edge_name (tiling_of plan) (before_entry plan loop c)).y ≡ y
       → list_any (is_named x y) (starts_of_loops plan starts n) ≡ true
   in_loops zero loop c inside low one ex ey = absurd (omega (arith, inside))
   in_loops (suc n) loop c inside low one ex ey =
@@ -91,8 +91,8 @@ module _ (plan : Plan) (starts : List (List Bool)) (x y : ℕ) where
       (cases_eq loop n)
 
 -- an edge has a cell that is its name
-has_name : (tiling : Tiling) (edge : Edge) (x y : ℕ) → (name_of tiling edge).x ≡ x → (name_of tiling edge).y ≡ y → HasCell edge x y
-has_name tiling edge x y ex ey = subst (λ (n : ℕ). HasCell edge x n) ey (subst (λ (n : ℕ). HasCell edge n (name_of tiling edge).y) ex (named tiling edge))
+has_name : (tiling : Tiling) (edge : Edge) (x y : ℕ) → (edge_name tiling edge).x ≡ x → (edge_name tiling edge).y ≡ y → HasCell edge x y
+has_name tiling edge x y ex ey = subst (λ (n : ℕ). HasCell edge x n) ey (subst (λ (n : ℕ). HasCell edge n (edge_name tiling edge).y) ex (named tiling edge))
 
 -- an edge that is lit is the start of a context
 abbrev IsStart : Plan → List (List Bool) → Edge → Type 0
@@ -141,7 +141,7 @@ starts_are_on_ways plan h starts fit long names all = record {
 
     from : (c loop : ℕ) → c < length starts → loop < plan.latches → bit_on (get_or starts c []) loop ≡ true → named_edges names (before_entry plan loop c) ≡ true
     from c loop low inside one =
-        let s = name_of (tiling_of plan) (before_entry plan loop c) in
+        let s = edge_name (tiling_of plan) (before_entry plan loop c) in
         name_lights (tiling_of plan) names (before_entry plan loop c) (all s.x s.y ∙ in_loops plan starts s.x s.y plan.latches loop c inside low one refl refl)
 
 -- ---- each name is that of an edge of the drawing
@@ -161,5 +161,5 @@ names_are_edges plan h starts fit names all k d within =
     record {
       edge = before_entry plan f.0 f.2.0;
       passed = way_passed plan h f.0 f.2.0 f.1 (omega (arith, f.2.1, fit, ways_with_loops plan (omega (arith, f.1))));
-      name = same_start s (name_of (tiling_of plan) (before_entry plan f.0 f.2.0)) f.2.3 f.2.4;
+      name = same_start s (edge_name (tiling_of plan) (before_entry plan f.0 f.2.0)) f.2.3 f.2.4;
     }

@@ -13,7 +13,7 @@ use Rattle.plan_waves.specs.Waves.{tiles_back, loop_entry}
 use Rattle.plan_waves.specs.Contexts.{contexts_on_ways}
 use Rattle.plan_waves.proofs.RunningContexts.{ways_with_loops}
 use Rattle.lane_core.specs.declared.starts.Start.{Start}
-use Rattle.plan_layout.specs.Starts.{name_of}
+use Rattle.plan_layout.specs.Starts.{edge_name}
 use Rattle.loop_starts.specs.Starts.{starts_of_loop, start_in}
 use Rattle.tile_core.specs.declared.kind.Kind.{Kind}
 use Rattle.tile_core.specs.declared.kind.Kind.TheVariants.{Swap, Xor, Or, AndNot, Fork, East, South, North, EastSouth, SouthWest, WestNorth, NorthEast, West, WestSwap}
@@ -107,14 +107,14 @@ begun plan starts loop first edge h inside is = record {
 }
 
 pub one_more : (plan : Plan) (starts : List (List Bool)) (loop : ℕ) (first found more : List Start) (edge next : Edge) (start : Start) (bit : Bool) (n : ℕ) → IsWalked plan starts loop first found edge n
-    → start ≡ name_of (tiling_of plan) edge → bit ≡ bit_on (get_or starts n []) loop → more ≡ found ++ cond bit (start ∷ []) [] → next ≡ tile_before (tiling_of plan) edge
+    → start ≡ edge_name (tiling_of plan) edge → bit ≡ bit_on (get_or starts n []) loop → more ≡ found ++ cond bit (start ∷ []) [] → next ≡ tile_before (tiling_of plan) edge
     → IsWalked plan starts loop first more next (n + 1)
 one_more plan starts loop first found more edge next start bit n w named is pushed stepped =
     let one : n + 1 ≡ suc n = omega arith in
     let near = tile_near (tiling_of plan) edge in
     subst (IsWalked plan starts loop first more next) (sym one) (record {
       list = pushed
-          ∙ ap₂ (λ l s. l ++ s) w.list (ap₂ (λ (b : Bool) (s : Start). cond b (s ∷ []) []) is (named ∙ ap (name_of (tiling_of plan)) w.at))
+          ∙ ap₂ (λ l s. l ++ s) w.list (ap₂ (λ (b : Bool) (s : Start). cond b (s ∷ []) []) is (named ∙ ap (edge_name (tiling_of plan)) w.at))
           ∙ append_assoc first (starts_of_loop plan starts loop n) (start_in plan starts loop n);
       at = stepped ∙ ap (tile_before (tiling_of plan)) w.at;
       column = (let c : column_in next ≤ column_in edge + 1 = subst (λ (e : Edge). column_in e ≤ column_in edge + 1) (sym stepped) near.0 in omega (arith, c, w.column));

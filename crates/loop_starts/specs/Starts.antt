@@ -4,12 +4,12 @@ use Rattle.lane_core.specs.declared.starts.Start.{Start}
 use Rattle.lane_core.specs.declared.plan.Plan.{Plan}
 use Rattle.lane_core.specs.Instrs.{bit_on}
 use Rattle.plan_layout.specs.Layout.{tiling_of}
-use Rattle.plan_layout.specs.Starts.{name_of}
+use Rattle.plan_layout.specs.Starts.{edge_name}
 use Rattle.plan_waves.specs.WaysBack.{before_entry}
 
 -- the start of a loop in a context, where its bit is 1
 abbrev pub start_in : Plan → List (List Bool) → ℕ → ℕ → List Start
-start_in plan starts loop c = cond (bit_on (get_or starts c []) loop) (name_of (tiling_of plan) (before_entry plan loop c) ∷ []) []
+start_in plan starts loop c = cond (bit_on (get_or starts c []) loop) (edge_name (tiling_of plan) (before_entry plan loop c) ∷ []) []
 
 -- those of a loop in the first contexts, and of the first loops in all contexts
 abbrev pub starts_of_loop : Plan → List (List Bool) → ℕ → ℕ → List Start

@@ -9,7 +9,7 @@ ghost use Rattle.loop_starts.specs.Starts.{starts_of_loop};
 use crate::walking::tile_before;
 use lane_core::{Plan, Start, Starts};
 use lists::List;
-use plan_layout::{Edge, name_of};
+use plan_layout::{Edge, edge_name};
 use std::alloc::{AllocError, Global};
 
 // Puts a start at the end, where the bit is 1.
@@ -39,7 +39,7 @@ fn push_loop(
     let lane = (plan.lanes - plan.latches) as u64 + number as u64;
     let mut edge = Edge::Beside(plan.latches as u64, lane);
     for bits in starts {
-        push_if(found, *bits.get(number as usize), name_of(plan, edge))?;
+        push_if(found, *bits.get(number as usize), edge_name(plan, edge))?;
         edge = tile_before(plan, edge);
     }
     Ok(())

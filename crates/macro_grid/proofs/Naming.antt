@@ -4,7 +4,7 @@ use Rattle.std.specs.Prelude.{◌==◌}
 use Rattle.std.proofs.lemmas.Bool.{and_parts, and_from, eqb-true, eq-eqb}
 use Rattle.tiling.specs.Tiling.{Tiling, Edge}
 use Rattle.lane_core.specs.declared.starts.Start.{Start}
-use Rattle.plan_layout.specs.Starts.{HasCell, name_of, is_passed, NamesEdge}
+use Rattle.plan_layout.specs.Starts.{HasCell, edge_name, is_passed, NamesEdge}
 use Rattle.plan_layout.proofs.EdgeNames.{named, named_is}
 
 -- the test of two names
@@ -26,8 +26,8 @@ to_same a b e = and_from (a.y == b.y) (a.x == b.x) (eq-eqb a.y b.y (ap (λ (s : 
 pub passed_there : (tiling : Tiling) (start : Start) (edge : Edge) → HasCell edge start.x start.y → NamesEdge tiling start → is_passed tiling edge ≡ true
 passed_there tiling start edge at names = subst (λ (e : Edge). is_passed tiling e ≡ true) (sym (named_is tiling start edge names at)) names.passed
 
-pub named_there : (tiling : Tiling) (start : Start) (edge : Edge) → HasCell edge start.x start.y → NamesEdge tiling start → name_of tiling edge ≡ start
-named_there tiling start edge at names = ap (name_of tiling) (named_is tiling start edge names at) ∙ sym names.name
+pub named_there : (tiling : Tiling) (start : Start) (edge : Edge) → HasCell edge start.x start.y → NamesEdge tiling start → edge_name tiling edge ≡ start
+named_there tiling start edge at names = ap (edge_name tiling) (named_is tiling start edge names at) ∙ sym names.name
 
 -- a start has a cell of the edge that it names
 pub at : (tiling : Tiling) (start : Start) (names : NamesEdge tiling start) → HasCell names.edge start.x start.y

@@ -7,7 +7,7 @@ ghost use Rattle.plan_layout.specs.Layout.{tiling_of};
 ghost use Rattle.plan_layout.specs.Starts.{HasCell, NamesEdge, HasStartEdges};
 
 use lane_core::{Plan, Start};
-use plan_layout::{Edge, is_passed, name_of};
+use plan_layout::{Edge, is_passed, edge_name};
 
 // The edge that has the cell at this `x` and `y`.
 fn edge_at(x: u64, y: u64) -> Option<Edge>
@@ -29,7 +29,7 @@ fn names_edge(plan: &Plan, start: &Start) -> bool
     ensures { IsTrue result ↔ NamesEdge (tiling_of plan.now) start.now }
 {
     match edge_at(start.x, start.y) {
-        Some(edge) => is_passed(plan, edge) && name_of(plan, edge) == *start,
+        Some(edge) => is_passed(plan, edge) && edge_name(plan, edge) == *start,
         None => false,
     }
 }

@@ -41,7 +41,7 @@ use Rattle.made_netlists.specs.Text.{made_text, made_state}
 use Rattle.made_netlists.specs.Design.{made_design}
 use Rattle.made_summary.specs.MadeNetlists.{MadeAreNetlists, MadeHaveSizes}
 use Rattle.made_summary.specs.Streams.{streams_after, drawn_streams}
-use Rattle.made_summary.specs.Outputs.{HasRunCause, IsQuietUnder}
+use Rattle.made_summary.specs.Outputs.{HasTooFarCause, IsQuietUnder}
 use Rattle.made_summary.specs.declared.error.SummaryError.{SummaryError}
 use Rattle.made_summary.specs.declared.error.SummaryError.TheVariants.{NoMemory, TooFar}
 use Rattle.made_summary.specs.Plans.{IsMadeWithPlan}
@@ -107,7 +107,7 @@ streams_feed seed size cycles netlist planned streams is are = many_and_long (ma
 
 -- a simulation that is not run
 pub not_run : (seed size cycles : ℕ) (netlist : Netlist) (planned : Planned) (streams : Streams) → IsMadeWithPlan seed size netlist planned → streams ≡ drawn_streams seed size cycles
-    → (e : SummaryError) → HasRunCause (last_generation planned.ports streams) e → HasSummaryCause seed size cycles e
+    → (e : SummaryError) → HasTooFarCause (last_generation planned.ports streams) e → HasSummaryCause seed size cycles e
 not_run seed size cycles netlist planned streams is are NoMemory cause = tt
 not_run seed size cycles netlist planned streams is are (TooFar generations) cause =
     (planned.plan, planned.ports, is.is_plan, cause.0 ∙ ap (last_generation planned.ports) are, cause.1)

@@ -36,6 +36,6 @@ abbrev pub IsQuietUnder : Planned → Streams → Type 0
 IsQuietUnder planned streams = first_miss planned.ports streams (plane_of (start_grid planned.plan).rows) (last_generation planned.ports streams) ≡ None
 
 -- why a run up to this generation is not told
-abbrev pub HasRunCause : ℕ → SummaryError → Type 0
-HasRunCause last NoMemory = ⊤
-HasRunCause last (TooFar generations) = (generations ≡ last) × (greatest_generation < generations)
+abbrev pub HasTooFarCause : ℕ → SummaryError → Type 0
+HasTooFarCause last NoMemory = ⊤
+HasTooFarCause last (TooFar generations) = (generations ≡ last) × (greatest_generation < generations)

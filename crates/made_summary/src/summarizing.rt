@@ -7,7 +7,7 @@ ghost use Rattle.pattern_reading.specs.Ports.{cells_of};
 ghost use Rattle.netlist_meaning.specs.Places.{main_outputs};
 ghost use Rattle.netlist_text.specs.Parts.{AreParts};
 ghost use Rattle.drive.specs.Driving.{AreFor, greatest_generation, last_generation, shown_bits};
-ghost use Rattle.made_summary.specs.Outputs.{AreOutputsIn, HasRunCause, IsQuietUnder, IsToldOf};
+ghost use Rattle.made_summary.specs.Outputs.{AreOutputsIn, HasTooFarCause, IsQuietUnder, IsToldOf};
 ghost use Rattle.made_summary.specs.Summaries.{HasSummaryCause, Summarizes, outputs_by_name};
 ghost use Rattle.made_summary.specs.declared.error.SummaryError.TheVariants.{NoMemory};
 
@@ -118,7 +118,7 @@ fn shown_by(
     requires quiet { IsQuietUnder planned.now streams.now }
     ensures near { OnOk result (last_generation planned.now.ports streams.now ≤ greatest_generation) }
     ensures bits { IfOk result (λ bits. bits ≡ shown_bits planned.now.ports streams.now (plane_of (start_grid planned.now.plan).rows)) }
-    ensures refused { IfErr result (HasRunCause (last_generation planned.now.ports streams.now)) }
+    ensures refused { IfErr result (HasTooFarCause (last_generation planned.now.ports streams.now)) }
 {
     let Ok(pattern) = pattern_of(alloc, &planned.plan) else {
         return Err(SummaryError::NoMemory);
@@ -168,7 +168,7 @@ fn told_by(
     requires quiet { IsQuietUnder planned.now streams.now }
     requires outputs { length (shown_bits planned.now.ports streams.now (plane_of (start_grid planned.now.plan).rows)) ≡ length (main_outputs netlist.design) }
     ensures told { IfOk result (IsToldOf netlist planned.now streams.now) }
-    ensures refused { IfErr result (HasRunCause (last_generation planned.now.ports streams.now)) }
+    ensures refused { IfErr result (HasTooFarCause (last_generation planned.now.ports streams.now)) }
 {
     let weight = netlist.flat.weight;
     let simulated = shown_by(alloc, planned, streams)?;

@@ -1,13 +1,13 @@
 // The value of a cover under bits for the classes of nets.
 ghost use Rattle.std.specs.Prelude.{◌≡◌, ◌<◌, length, map, All};
-ghost use Rattle.netlist_meaning.specs.CoverValue.{fits, product_holds, any_holds, cover_value};
+ghost use Rattle.netlist_meaning.specs.CoverValue.{product_holds, any_holds, cover_value};
 ghost use Rattle.netlist_meaning.specs.Flat.{IsInRange, IsNetId, class_of};
 ghost use Rattle.netlist_eval.specs.Eval.{class_bit};
 ghost use Rattle.netlist_meaning.specs.FlatValuation.{node_value};
 
 use lists::Bytes;
 use netlist_core::{Flat, NetId};
-use netlist_meaning::class_of;
+use netlist_meaning::{class_of, fits};
 
 /// The bit of a net.
 pub fn net_bit(flat: &Flat, bits: &[bool], net: NetId) -> bool
@@ -17,17 +17,6 @@ pub fn net_bit(flat: &Flat, bits: &[bool], net: NetId) -> bool
     ensures { result ≡ class_bit bits.now (class_of flat.now net) }
 {
     bits[class_of(flat, net)]
-}
-
-// A character of a row under a bit.
-fn fits(character: u8, bit: bool) -> bool
-    ensures { result ≡ fits character bit }
-{
-    if bit {
-        character != b'0'
-    } else {
-        character != b'1'
-    }
 }
 
 fn product_holds(flat: &Flat, bits: &[bool], ins: &[NetId], row: &[u8]) -> bool

@@ -10,7 +10,7 @@ use Rattle.netlist_core.specs.declared.flat.FlatPort.{FlatPort}
 use Rattle.netlist_core.specs.declared.flat.FlatLatch.{FlatLatch}
 use Rattle.netlist_meaning.specs.Flat.{class_of, in_classes, FlatDriver, input, latch, node, FlatDrives, IsSound, IsInRange, IsClockClass}
 use Rattle.netlist_meaning.specs.FlatOrder.{IsFlatLoop}
-use Rattle.netlist_examples.specs.FlatInstances.{net_id, small_net, small_port, data_latch, small_node, small_flat, chained_flat, looped_flat}
+use Rattle.netlist_examples.specs.FlatInstances.{net_numbered, small_net, small_port, data_latch, small_node, small_flat, chained_flat, looped_flat}
 
 driver_of : ℕ → FlatDriver
 driver_of zero = input 0
@@ -37,7 +37,7 @@ clock_is : (read : List NetId) (class : ℕ) → IsClockClass (small_flat read) 
 clock_is read class (inl e) = sym e
 clock_is read class (inr (c, n)) = let less : c.0 < 0 = c.1 in absurd (omega arith)
 
-driven_at : (read : List NetId) (n : ℕ) → n < 5 → ¬ IsClockClass (small_flat read) (class_of (small_flat read) (net_id n)) → (d : FlatDriver) × FlatDrives (small_flat read) d (class_of (small_flat read) (net_id n))
+driven_at : (read : List NetId) (n : ℕ) → n < 5 → ¬ IsClockClass (small_flat read) (class_of (small_flat read) (net_numbered n)) → (d : FlatDriver) × FlatDrives (small_flat read) d (class_of (small_flat read) (net_numbered n))
 driven_at read zero l c = (input 0, (small_port 0, refl, refl))
 driven_at read (suc zero) l c = (latch 0, (data_latch, refl, refl))
 driven_at read (suc (suc zero)) l c = (node 0, (lit< tt, refl))
@@ -54,11 +54,11 @@ low_one : (a class : ℕ) → a < 4 → Contains (a ∷ []) class → class < 4
 low_one a class la (zero, l, e) = subst (λ v. v < 4) e la
 low_one a class la (suc k, l, e) = let less : suc k < 1 = l in absurd (omega arith)
 
-low_read : (m : ℕ) → m < 4 → (n class : ℕ) → Contains (in_classes (small_flat (net_id m ∷ [])) n) class → class < 4
+low_read : (m : ℕ) → m < 4 → (n class : ℕ) → Contains (in_classes (small_flat (net_numbered m ∷ [])) n) class → class < 4
 low_read m lm zero class c = low_pair 3 1 class (lit< tt) (lit< tt) c
-low_read m lm (suc zero) class c = low_one (class_of (small_flat (net_id m ∷ [])) (net_id m)) class (low m lm) c
+low_read m lm (suc zero) class c = low_one (class_of (small_flat (net_numbered m ∷ [])) (net_numbered m)) class (low m lm) c
   where
-    low : (m : ℕ) → m < 4 → class_of (small_flat (net_id m ∷ [])) (net_id m) < 4
+    low : (m : ℕ) → m < 4 → class_of (small_flat (net_numbered m ∷ [])) (net_numbered m) < 4
     low zero l = lit< tt
     low (suc zero) l = lit< tt
     low (suc (suc zero)) l = lit< tt
@@ -66,7 +66,7 @@ low_read m lm (suc zero) class c = low_one (class_of (small_flat (net_id m ∷ [
     low (suc (suc (suc (suc m)))) l = absurd (omega arith)
 low_read m lm (suc (suc n)) class c = let less : c.0 < 0 = c.1 in absurd (omega arith)
 
-in_range : (m : ℕ) → m < 4 → IsInRange (small_flat (net_id m ∷ []))
+in_range : (m : ℕ) → m < 4 → IsInRange (small_flat (net_numbered m ∷ []))
 in_range m l = record {
   few = lit< tt;
   classes = All-cons (λ (n : Net). n.class < 5) (small_net 0) (small_net 1 ∷ small_net 2 ∷ small_net 3 ∷ small_net 4 ∷ []) (lit< tt) (All-cons (λ (n : Net). n.class < 5) (small_net 1) (small_net 2 ∷ small_net 3 ∷ small_net 4 ∷ []) (lit< tt) (All-cons (λ (n : Net). n.class < 5) (small_net 2) (small_net 3 ∷ small_net 4 ∷ []) (lit< tt) (All-cons (λ (n : Net). n.class < 5) (small_net 3) (small_net 4 ∷ []) (lit< tt) (All-cons (λ (n : Net). n.class < 5) (small_net 4) [] (lit< tt) (All-nil (λ (n : Net). n.class < 5))))));
@@ -76,20 +76,20 @@ in_range m l = record {
   latches = All-cons (λ (p : FlatLatch). (p.input.0 < 5) × (p.output.0 < 5)) data_latch [] (lit< tt, lit< tt) (All-nil (λ (p : FlatLatch). (p.input.0 < 5) × (p.output.0 < 5)));
   controls = All-cons (λ (p : FlatLatch). MatchOption p.control ⊤ (λ n. n.0 < 5)) data_latch [] (lit< tt) (All-nil (λ (p : FlatLatch). MatchOption p.control ⊤ (λ n. n.0 < 5)));
   control = lit< tt;
-  node_ins = All-cons (λ (p : Node). All (λ (n : NetId). n.0 < 5) p.ins) (small_node (net_id 3 ∷ net_id 1 ∷ []) 2) (small_node (net_id m ∷ []) 3 ∷ []) (All-cons (λ (n : NetId). n.0 < 5) (net_id 3) (net_id 1 ∷ []) (lit< tt) (All-cons (λ (n : NetId). n.0 < 5) (net_id 1) [] (lit< tt) (All-nil (λ (n : NetId). n.0 < 5))))
-      (All-cons (λ (p : Node). All (λ (n : NetId). n.0 < 5) p.ins) (small_node (net_id m ∷ []) 3) [] (All-cons (λ (n : NetId). n.0 < 5) (net_id m) [] (omega arith) (All-nil (λ (n : NetId). n.0 < 5))) (All-nil (λ (p : Node). All (λ (n : NetId). n.0 < 5) p.ins)));
-  node_outs = All-cons (λ (p : Node). p.out.0 < 5) (small_node (net_id 3 ∷ net_id 1 ∷ []) 2) (small_node (net_id m ∷ []) 3 ∷ []) (lit< tt) (All-cons (λ (p : Node). p.out.0 < 5) (small_node (net_id m ∷ []) 3) [] (lit< tt) (All-nil (λ (p : Node). p.out.0 < 5)));
+  node_ins = All-cons (λ (p : Node). All (λ (n : NetId). n.0 < 5) p.ins) (small_node (net_numbered 3 ∷ net_numbered 1 ∷ []) 2) (small_node (net_numbered m ∷ []) 3 ∷ []) (All-cons (λ (n : NetId). n.0 < 5) (net_numbered 3) (net_numbered 1 ∷ []) (lit< tt) (All-cons (λ (n : NetId). n.0 < 5) (net_numbered 1) [] (lit< tt) (All-nil (λ (n : NetId). n.0 < 5))))
+      (All-cons (λ (p : Node). All (λ (n : NetId). n.0 < 5) p.ins) (small_node (net_numbered m ∷ []) 3) [] (All-cons (λ (n : NetId). n.0 < 5) (net_numbered m) [] (omega arith) (All-nil (λ (n : NetId). n.0 < 5))) (All-nil (λ (p : Node). All (λ (n : NetId). n.0 < 5) p.ins)));
+  node_outs = All-cons (λ (p : Node). p.out.0 < 5) (small_node (net_numbered 3 ∷ net_numbered 1 ∷ []) 2) (small_node (net_numbered m ∷ []) 3 ∷ []) (lit< tt) (All-cons (λ (p : Node). p.out.0 < 5) (small_node (net_numbered m ∷ []) 3) [] (lit< tt) (All-nil (λ (p : Node). p.out.0 < 5)));
 }
 
-small_is_sound : (m : ℕ) → m < 4 → IsSound (small_flat (net_id m ∷ []))
+small_is_sound : (m : ℕ) → m < 4 → IsSound (small_flat (net_numbered m ∷ []))
 small_is_sound m l = record {
   in_range = in_range m l;
-  one_driver = λ class d e a b. (told (net_id m ∷ []) d class a).0 ∙ sym (told (net_id m ∷ []) e class b).0;
-  driven = λ net is c. driven_at (net_id m ∷ []) net.0 is c;
-  clocks_undriven = λ class d a c. (let low : class < 4 = (told (net_id m ∷ []) d class a).1 in let e : class ≡ 4 = clock_is (net_id m ∷ []) class c in absurd (omega arith));
-  clocks_unread = λ n class a c. (let low : class < 4 = low_read m l n class a in let e : class ≡ 4 = clock_is (net_id m ∷ []) class c in absurd (omega arith));
-  clocks_no_outs = All-cons (λ (p : FlatPort). ¬ IsClockClass (small_flat (net_id m ∷ [])) (class_of (small_flat (net_id m ∷ [])) p.net)) (small_port 2) [] (λ c. (let e : 2 ≡ 4 = clock_is (net_id m ∷ []) 2 c in absurd (omega arith))) (All-nil (λ (p : FlatPort). ¬ IsClockClass (small_flat (net_id m ∷ [])) (class_of (small_flat (net_id m ∷ [])) p.net)));
-  clocks_no_data = All-cons (λ (p : FlatLatch). ¬ IsClockClass (small_flat (net_id m ∷ [])) (class_of (small_flat (net_id m ∷ [])) p.input)) data_latch [] (λ c. (let e : 2 ≡ 4 = clock_is (net_id m ∷ []) 2 c in absurd (omega arith))) (All-nil (λ (p : FlatLatch). ¬ IsClockClass (small_flat (net_id m ∷ [])) (class_of (small_flat (net_id m ∷ [])) p.input)));
+  one_driver = λ class d e a b. (told (net_numbered m ∷ []) d class a).0 ∙ sym (told (net_numbered m ∷ []) e class b).0;
+  driven = λ net is c. driven_at (net_numbered m ∷ []) net.0 is c;
+  clocks_undriven = λ class d a c. (let low : class < 4 = (told (net_numbered m ∷ []) d class a).1 in let e : class ≡ 4 = clock_is (net_numbered m ∷ []) class c in absurd (omega arith));
+  clocks_unread = λ n class a c. (let low : class < 4 = low_read m l n class a in let e : class ≡ 4 = clock_is (net_numbered m ∷ []) class c in absurd (omega arith));
+  clocks_no_outs = All-cons (λ (p : FlatPort). ¬ IsClockClass (small_flat (net_numbered m ∷ [])) (class_of (small_flat (net_numbered m ∷ [])) p.net)) (small_port 2) [] (λ c. (let e : 2 ≡ 4 = clock_is (net_numbered m ∷ []) 2 c in absurd (omega arith))) (All-nil (λ (p : FlatPort). ¬ IsClockClass (small_flat (net_numbered m ∷ [])) (class_of (small_flat (net_numbered m ∷ [])) p.net)));
+  clocks_no_data = All-cons (λ (p : FlatLatch). ¬ IsClockClass (small_flat (net_numbered m ∷ [])) (class_of (small_flat (net_numbered m ∷ [])) p.input)) data_latch [] (λ c. (let e : 2 ≡ 4 = clock_is (net_numbered m ∷ []) 2 c in absurd (omega arith))) (All-nil (λ (p : FlatLatch). ¬ IsClockClass (small_flat (net_numbered m ∷ [])) (class_of (small_flat (net_numbered m ∷ [])) p.input)));
 }
 
 pub chained_is_sound : IsSound chained_flat

@@ -8,20 +8,20 @@ use Rattle.netlist_core.specs.declared.flat.FlatPort.{FlatPort}
 use Rattle.netlist_core.specs.declared.flat.FlatLatch.{FlatLatch}
 use Rattle.netlist_core.specs.declared.flat.Flat.{Flat}
 
-abbrev pub net_id : ℕ → NetId
-net_id n = record { 0 = n }
+abbrev pub net_numbered : ℕ → NetId
+net_numbered n = record { 0 = n }
 
 abbrev pub small_net : ℕ → Net
 small_net n = record { place = []; name = []; class = n }
 
 abbrev pub small_port : ℕ → FlatPort
-small_port n = record { line = 0; net = net_id n }
+small_port n = record { line = 0; net = net_numbered n }
 
 abbrev pub data_latch : FlatLatch
-data_latch = record { line = 0; input = net_id 2; output = net_id 1; kind = Some Rise; control = Some (net_id 4); init = 0 }
+data_latch = record { line = 0; input = net_numbered 2; output = net_numbered 1; kind = Some Rise; control = Some (net_numbered 4); init = 0 }
 
 abbrev pub small_node : List NetId → ℕ → Node
-small_node ins out = record { line = 0; ins = ins; out = net_id out; rows = []; on = true }
+small_node ins out = record { line = 0; ins = ins; out = net_numbered out; rows = []; on = true }
 
 -- net 0 is an input, net 1 the latch's output, net 4 the clock
 abbrev pub small_flat : List NetId → Flat
@@ -30,17 +30,17 @@ small_flat read = record {
   ins = small_port 0 ∷ [];
   outs = small_port 2 ∷ [];
   clocks = [];
-  nodes = small_node (net_id 3 ∷ net_id 1 ∷ []) 2 ∷ small_node read 3 ∷ [];
+  nodes = small_node (net_numbered 3 ∷ net_numbered 1 ∷ []) 2 ∷ small_node read 3 ∷ [];
   latches = data_latch ∷ [];
-  control = Some (net_id 4);
+  control = Some (net_numbered 4);
   weight = 0;
   listed = true;
 }
 
 -- the second node reads the input
 abbrev pub chained_flat : Flat
-chained_flat = small_flat (net_id 0 ∷ [])
+chained_flat = small_flat (net_numbered 0 ∷ [])
 
 -- the second node reads the first
 abbrev pub looped_flat : Flat
-looped_flat = small_flat (net_id 2 ∷ [])
+looped_flat = small_flat (net_numbered 2 ∷ [])

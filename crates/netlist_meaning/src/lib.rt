@@ -15,8 +15,8 @@ pub use flat_nets::{class_of, name_of_net};
 use lists::Bytes;
 use netlist_core::Cover;
 
-// Whether a character of a row takes the bit under it.
-fn fits(character: u8, bit: bool) -> bool
+/// Whether a character of a row takes the bit under it.
+pub fn fits(character: u8, bit: bool) -> bool
     ensures { result ≡ fits character bit }
 {
     if bit {

@@ -6,7 +6,7 @@ use Rattle.lane_core.specs.declared.plan.Plan.{Plan}
 use Rattle.netlist_core.specs.declared.flat.Flat.{Flat}
 use Rattle.netlist_meaning.specs.Flat.{IsWeighed}
 use Rattle.cell_core.specs.declared.list.CellList.{CellList}
-use Rattle.cell_plans.specs.PlanOf.{IsPlanOfOne, IsShort}
+use Rattle.cell_plans.specs.PlanOf.{IsPlanOfOne, IsPlannable}
 use Rattle.plan_carries.specs.Compiled.{ComputesFlat}
 use Rattle.netlist_plans.specs.Lists.{IsPlanned}
 use Rattle.netlist_plans.proofs.Bounds.{list_fits}
@@ -20,5 +20,5 @@ is_planned flat (first ∷ rest) number plan all (within, is) =
       is = is first;
     }
 
-pub all_short : (flat : Flat) (lists : List CellList) → IsWeighed flat → flat.weight < 2 ^ 16 → All (ComputesFlat flat) lists → All IsShort lists
+pub all_short : (flat : Flat) (lists : List CellList) → IsWeighed flat → flat.weight < 2 ^ 16 → All (ComputesFlat flat) lists → All IsPlannable lists
 all_short flat lists weighed small all = λ i d lt. list_fits flat _ (all i d lt).mapped weighed small

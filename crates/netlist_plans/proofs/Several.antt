@@ -23,7 +23,7 @@ use Rattle.cell_plans.proofs.Exits.{in_padded}
 use Rattle.latch_loops.specs.Closed.{IsPadded}
 use Rattle.latch_loops.specs.Padded.{IsPaddedPlan}
 use Rattle.row_placer.specs.Entries.{AreAtEntries}
-use Rattle.netlist_plans.specs.Contexts.{loop_bits}
+use Rattle.netlist_plans.specs.Contexts.{loop_starting_bits}
 use Rattle.netlist_plans.specs.Lists.{IsPlanned}
 use Rattle.netlist_plans.specs.NetPlaces.{HasNetPlaces}
 use Rattle.netlist_plans.proofs.Bounds.{outs_many, starts_many}
@@ -34,12 +34,12 @@ one_more : (n m : ℕ) (b : Bool) → m ≡ n + cond b 1 0 → nat_lt n m ≡ b
 one_more n m true e = (let more : n < m = omega (arith, e) in grind (arith, nat_tests))
 one_more n m false e = (let same : n ≡ m = omega (arith, e) in grind (arith, nat_tests))
 
-bits_are : (list : CellList) (plan : Plan) (bits : List Bool) → plan.latches ≡ loop_count list → length bits ≡ length list.starts → loop_bits plan bits ≡ loop_state list bits
+bits_are : (list : CellList) (plan : Plan) (bits : List Bool) → plan.latches ≡ loop_count list → length bits ≡ length list.starts → loop_starting_bits plan bits ≡ loop_state list bits
 bits_are list plan bits loops long =
     ap (λ b. bits ++ cond b (true ∷ []) []) (one_more (length bits) plan.latches (names_one list) (loops ∙ ap (λ n. n + cond (names_one list) 1 0) (sym long)))
 
 all_bits_are : (list : CellList) (plan : Plan) (starts : List (List Bool)) → plan.latches ≡ loop_count list → All (λ bits. length bits ≡ length list.starts) starts
-    → map (loop_bits plan) starts ≡ map (loop_state list) starts
+    → map (loop_starting_bits plan) starts ≡ map (loop_state list) starts
 all_bits_are list plan [] loops long = refl
 all_bits_are list plan (bits ∷ starts) loops long =
     ap₂ (λ (b : List Bool) (bs : List (List Bool)). b ∷ bs) (bits_are list plan bits loops (long 0 bits (omega arith)))
@@ -57,10 +57,10 @@ module _ (flat : Flat) (plan : Plan) (w : IsWeighed flat) (k : IsPlanned flat pl
   latches_long : All (λ bits. length bits ≡ length k.list.starts) starts
   latches_long i d within = long i d within ∙ sym (starts_many flat k.list k.computes.mapped w)
 
-  pub loops_are : map (loop_bits plan) starts ≡ map (loop_state k.list) starts
+  pub loops_are : map (loop_starting_bits plan) starts ≡ map (loop_state k.list) starts
   loops_are = all_bits_are k.list plan starts k.is.computes.loops latches_long
 
-  pub loops_long : All (λ bits. length bits ≡ plan.latches) (map (loop_bits plan) starts)
+  pub loops_long : All (λ bits. length bits ≡ plan.latches) (map (loop_starting_bits plan) starts)
   loops_long = subst (λ (all : List (List Bool)). All (λ bits. length bits ≡ plan.latches) all) (sym loops_are) (all_long k.list plan starts k.is.computes.loops latches_long)
 
 -- ---- what is asked of the plan

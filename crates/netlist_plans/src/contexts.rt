@@ -10,7 +10,7 @@ ghost use Rattle.netlist_meaning.specs.FlatOrder.{IsOrder};
 ghost use Rattle.pattern_writing.specs.WrittenText.{pattern_text};
 ghost use Rattle.plan_layout.specs.Starts.{HasStartEdges};
 ghost use Rattle.plan_ports.specs.Tables.{HasPortNames, HasTablePlaces, IsTableOf};
-ghost use Rattle.netlist_plans.specs.Contexts.{loop_bits};
+ghost use Rattle.netlist_plans.specs.Contexts.{loop_starting_bits};
 ghost use Rattle.netlist_plans.specs.Lists.{IsPlanned};
 ghost use Rattle.netlist_plans.specs.NetPlaces.{HasNetPlaces};
 
@@ -35,8 +35,8 @@ fn push_one(bits: &mut Vec<bool>, wanted: bool) -> Result<(), AllocError>
 }
 
 // The bits with which the loops of a plan start, where the latches start with these.
-fn loop_bits(alloc: Global, plan: &Plan, latches: &List<bool>) -> Result<List<bool>, AllocError>
-    ensures { IfOk result (λ bits. bits ≡ loop_bits plan.now latches.now) }
+fn loop_starting_bits(alloc: Global, plan: &Plan, latches: &List<bool>) -> Result<List<bool>, AllocError>
+    ensures { IfOk result (λ bits. bits ≡ loop_starting_bits plan.now latches.now) }
 {
     let mut bits = latches.as_slice().to_vec(alloc)?;
     push_one(&mut bits, latches.len() < plan.latches as usize)?;
@@ -49,11 +49,11 @@ fn all_loop_bits(
     plan: &Plan,
     starts: &[List<bool>],
 ) -> Result<Vec<List<bool>>, AllocError>
-    ensures { IfOk result (λ all. all.items ≡ map (loop_bits plan.now) starts.now) }
+    ensures { IfOk result (λ all. all.items ≡ map (loop_starting_bits plan.now) starts.now) }
 {
     let mut all = Vec::new(alloc);
     for latches in starts {
-        all.push(loop_bits(alloc, plan, latches)?)?;
+        all.push(loop_starting_bits(alloc, plan, latches)?)?;
     }
     Ok(all)
 }

@@ -3,6 +3,7 @@ ghost use Rattle.std.specs.Prelude.{◌≡◌};
 ghost use Rattle.netlist_rules.specs.FaultNames.{name_of, number_of};
 
 use lists::Bytes;
+use std::fmt;
 
 /// The faults, in the order of their numbers, from 1. `TwoClocks` and `ClockRead` are faults of the
 /// netlist with all its places; the others are faults of the lines and the models.
@@ -100,4 +101,13 @@ pub struct Fault {
     pub kind: FaultKind,
     pub line: u64,
     pub word: Bytes,
+}
+
+impl fmt::Debug for Fault {
+    fn fmt<W: fmt::Write>(&self, f: &mut fmt::Formatter<W>) -> fmt::Result {
+        f.debug_struct("Fault")
+            .field("kind", &self.kind)
+            .field("line", &self.line)
+            .finish()
+    }
 }

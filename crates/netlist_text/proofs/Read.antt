@@ -22,8 +22,8 @@ use Rattle.blif_reader.specs.declared.error.ReadError.{ReadError}
 use Rattle.blif_reader.specs.declared.error.ReadError.TheVariants as read
 use Rattle.blif_check.specs.declared.error.CheckError.{CheckError}
 use Rattle.blif_check.specs.declared.error.CheckError.TheVariants as check
-use Rattle.clock_check.specs.declared.error.CheckError.{CheckError as ClockError}
-use Rattle.clock_check.specs.declared.error.CheckError.TheVariants as clock
+use Rattle.clock_check.specs.declared.error.ClockError.{ClockError}
+use Rattle.clock_check.specs.declared.error.ClockError.TheVariants as clock
 use Rattle.netlist_text.specs.Errors.{read_error, check_error, clock_error}
 use Rattle.netlist_text.specs.Causes.{HasNetlistCause}
 use Rattle.netlist_text.specs.NetlistText.{IsLight, IsNetlist, of_text, of_clocks}

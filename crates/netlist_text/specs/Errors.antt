@@ -7,8 +7,8 @@ use Rattle.blif_check.specs.declared.error.CheckError.{CheckError}
 use Rattle.blif_check.specs.declared.error.CheckError.TheVariants as check
 use Rattle.netlist_flatten.specs.declared.error.FlattenError.{FlattenError}
 use Rattle.netlist_flatten.specs.declared.error.FlattenError.TheVariants as flatten
-use Rattle.clock_check.specs.declared.error.CheckError.{CheckError as ClockError}
-use Rattle.clock_check.specs.declared.error.CheckError.TheVariants as clock
+use Rattle.clock_check.specs.declared.error.ClockError.{ClockError}
+use Rattle.clock_check.specs.declared.error.ClockError.TheVariants as clock
 use Rattle.netlist_text.specs.declared.error.NetlistError.{NetlistError}
 use Rattle.netlist_text.specs.declared.error.NetlistError.TheVariants.{NoMemory, Fault, TooLarge}
 

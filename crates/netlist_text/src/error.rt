@@ -6,7 +6,7 @@ use blif_check::CheckError;
 use blif_lex::LexError;
 use blif_reader::ReadError;
 use blif_text::Fault;
-use clock_check::CheckError as ClockError;
+use clock_check::ClockError;
 use lists::List;
 use netlist_core::Name;
 use netlist_flatten::FlattenError;
@@ -105,11 +105,7 @@ impl From<AllocError> for NetlistError {
 impl fmt::Debug for NetlistError {
     fn fmt<W: fmt::Write>(&self, f: &mut fmt::Formatter<W>) -> fmt::Result {
         match self {
-            NetlistError::Fault(fault) => f
-                .debug_struct("Fault")
-                .field("kind", &fault.kind)
-                .field("line", &fault.line)
-                .finish(),
+            NetlistError::Fault(fault) => f.debug_tuple("Fault").field(fault).finish(),
             NetlistError::TooLarge { weight } => {
                 f.debug_struct("TooLarge").field("weight", weight).finish()
             }

@@ -16,7 +16,7 @@ use Rattle.lane_core.specs.Tape.{tape_shift}
 use Rattle.tile_library.specs.Drawings.{shipped_drawing}
 use Rattle.plan_layout.specs.Planes.{plane_with}
 use Rattle.grid_assembly.specs.PlanDrawing.{IsPatternOf}
-use Rattle.plan_carries.specs.Pictures.{row_with, grid_with}
+use Rattle.plan_carries.specs.Pictures.{picture_row, grid_with}
 
 abbrev sized : Bool → ℕ → ℕ → ℕ × ℕ
 sized bare columns rows = cond bare (0, 0) (columns + 1, rows)
@@ -50,21 +50,21 @@ no_rows false columns zero e = refl
 no_rows false columns (suc rows) e =
     let le : columns + 1 ≤ (columns + 1) * suc rows = le-mul_of_pos_right (columns + 1) (omega arith) in absurd (omega (arith, e, le))
 
-row_at : (plan : Plan) (lit : Lit) (y : ℕ) → y < (size_of plan).1 → get_or (grid_with plan lit).rows y [] ≡ row_with plan lit y
-row_at plan lit y lt = get_or-map-range_with_len (row_with plan lit) 0 (size_of plan).1 y y [] lt (omega arith)
+row_at : (plan : Plan) (lit : Lit) (y : ℕ) → y < (size_of plan).1 → get_or (grid_with plan lit).rows y [] ≡ picture_row plan lit y
+row_at plan lit y lt = get_or-map-range_with_len (picture_row plan lit) 0 (size_of plan).1 y y [] lt (omega arith)
 
-cell_at : (plan : Plan) (lit : Lit) (x y : ℕ) → x < (size_of plan).0 → get_or (row_with plan lit y) x Empty ≡ plane_with shipped_drawing plan lit (pos x) (pos y)
+cell_at : (plan : Plan) (lit : Lit) (x y : ℕ) → x < (size_of plan).0 → get_or (picture_row plan lit y) x Empty ≡ plane_with shipped_drawing plan lit (pos x) (pos y)
 cell_at plan lit x y lt = get_or-map-range_with_len (λ x. plane_with shipped_drawing plan lit (pos x) (pos y)) 0 (size_of plan).0 x x Empty lt (omega arith)
 
 pub is_grid : (plan : Plan) (lit : Lit) → IsGrid (size_of plan).0 (size_of plan).1 (grid_with plan lit).rows
 is_grid plan lit =
-    let many : length (grid_with plan lit).rows ≡ (size_of plan).1 = length-map-range_with_len (row_with plan lit) 0 (size_of plan).1 in
+    let many : length (grid_with plan lit).rows ≡ (size_of plan).1 = length-map-range_with_len (picture_row plan lit) 0 (size_of plan).1 in
     record {
       long = λ y d lt.
-          let row : get_or (grid_with plan lit).rows y d ≡ row_with plan lit y = get_or-map-range_with_len (row_with plan lit) 0 (size_of plan).1 y y d (omega (arith, lt, many)) (omega arith) in
+          let row : get_or (grid_with plan lit).rows y d ≡ picture_row plan lit y = get_or-map-range_with_len (picture_row plan lit) 0 (size_of plan).1 y y d (omega (arith, lt, many)) (omega arith) in
           ap length row ∙ length-map-range_with_len (λ x. plane_with shipped_drawing plan lit (pos x) (pos y)) 0 (size_of plan).0;
       many = λ _. many;
-      none = λ e. ap (λ n. map (row_with plan lit) (range_with_len 0 n)) (no_rows (plan.lanes == 0) (32 * (tape_shift plan + (length plan.columns + 2 * plan.latches))) (16 * (plan.lanes + plan.latches)) e);
+      none = λ e. ap (λ n. map (picture_row plan lit) (range_with_len 0 n)) (no_rows (plan.lanes == 0) (32 * (tape_shift plan + (length plan.columns + 2 * plan.latches))) (16 * (plan.lanes + plan.latches)) e);
     }
 
 same_cell : (plan : Plan) (lit : Lit) → IsAdmissible plan → (x y : ℤ) (b : Bool) → in_box (size_of plan).0 (size_of plan).1 x y ≡ b → plane_of (grid_with plan lit).rows x y ≡ plane_with shipped_drawing plan lit x y

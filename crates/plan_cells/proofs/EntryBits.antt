@@ -13,13 +13,13 @@ use Rattle.lane_core.specs.declared.plan.Plan.{Plan}
 use Rattle.cell_core.specs.declared.cells.Src.{Src}
 use Rattle.cell_core.specs.declared.cells.Src.TheVariants.{Input, Latch, Zero}
 use Rattle.cell_core.specs.Meaning.{bit_in}
-use Rattle.plan_cells.specs.Lifted.{source_on, with_inputs, entry_sources}
+use Rattle.plan_cells.specs.Lifted.{source_on, sources_with_inputs, entry_sources}
 
 -- the bit of a source at the entry
 abbrev entry_bit : List Bool → List Bool → Src → Bool
 entry_bit row state src = bit_in [] row state src
 
-length-with_inputs : (i : ℕ) (ins : List ℕ) (sources : List Src) → length (with_inputs i ins sources) ≡ length sources
+length-with_inputs : (i : ℕ) (ins : List ℕ) (sources : List Src) → length (sources_with_inputs i ins sources) ≡ length sources
 length-with_inputs i [] sources = refl
 length-with_inputs i (lane ∷ ins) sources = length-with_inputs (i + 1) ins (set sources lane (Input i)) ∙ length-set sources lane (Input i)
 
@@ -38,7 +38,7 @@ pairs_tail first ins pairs i j d order within = pairs (suc i) (suc j) d (omega a
 input_at : (row state : List Bool) (i : ℕ) (ins : List ℕ) (bits : List Bool) (sources : List Src) (lane : ℕ) → lane < length sources
     → ((k : ℕ) → get_or bits k false ≡ get_or row (i + k) false) → length ins ≤ length bits
     → AllPairs (λ a b. a ≢ b) ins → All (λ l. entry_bit row state (source_on sources l) ≡ false) ins
-    → entry_bit row state (source_on (with_inputs i ins sources) lane) ≡ (lane_bit ins bits lane || entry_bit row state (source_on sources lane))
+    → entry_bit row state (source_on (sources_with_inputs i ins sources) lane) ≡ (lane_bit ins bits lane || entry_bit row state (source_on sources lane))
 input_at row state i [] bits sources lane within same long apart dark = refl
 input_at row state i (first ∷ ins) [] sources lane within same long apart dark = absurd (omega arith)
 input_at row state i (first ∷ ins) (bit ∷ bits) sources lane within same long apart dark =
@@ -68,9 +68,9 @@ bit_of_source row state (s ∷ sources) zero = refl
 bit_of_source row state (s ∷ sources) (suc lane) = bit_of_source row state sources lane
 
 pub inputs_enter : (row state : List Bool) (free : ℕ) (ins : List ℕ) → length row ≡ length ins → AllPairs (λ a b. a ≢ b) ins → All (λ lane. lane < free) ins
-    → map (entry_bit row state) (with_inputs 0 ins (replicate free Zero)) ≡ row_bits free ins row
+    → map (entry_bit row state) (sources_with_inputs 0 ins (replicate free Zero)) ≡ row_bits free ins row
 inputs_enter row state free ins long apart below =
-    let sources = with_inputs 0 ins (replicate free Zero) in
+    let sources = sources_with_inputs 0 ins (replicate free Zero) in
     let wide : length sources ≡ free = length-with_inputs 0 ins (replicate free Zero) ∙ length-replicate free Zero in
     let many : length (map (entry_bit row state) sources) ≡ length sources = length-map sources (entry_bit row state) in
     ext_get_or false (map (entry_bit row state) sources) (row_bits free ins row) (many ∙ wide ∙ sym (length-map-range_with_len (lane_bit ins row) 0 free))
@@ -99,13 +99,13 @@ pub entry_is : (plan : Plan) (row state : List Bool) → length row ≡ length p
     → map (bit_in [] row state) (entry_sources plan) ≡ entry_bits (first_loop_lane plan.lanes plan.latches) plan.ins row state
 entry_is plan row state long loops apart below =
     let free = first_loop_lane plan.lanes plan.latches in
-    map-append (entry_bit row state) (with_inputs 0 plan.ins (replicate (first_loop_lane plan.lanes plan.latches) Zero)) (map Latch (range_with_len 0 plan.latches))
+    map-append (entry_bit row state) (sources_with_inputs 0 plan.ins (replicate (first_loop_lane plan.lanes plan.latches) Zero)) (map Latch (range_with_len 0 plan.latches))
     ∙ ap₂ (λ a b. a ++ b) (inputs_enter row state (first_loop_lane plan.lanes plan.latches) plan.ins long apart below) (loops_enter row state plan.latches loops)
 
 pub length-entry_sources : (plan : Plan) → length (entry_sources plan) ≡ first_loop_lane plan.lanes plan.latches + plan.latches
 length-entry_sources plan =
     let free = first_loop_lane plan.lanes plan.latches in
-    let first : length (with_inputs 0 plan.ins (replicate (first_loop_lane plan.lanes plan.latches) Zero)) ≡ first_loop_lane plan.lanes plan.latches =
+    let first : length (sources_with_inputs 0 plan.ins (replicate (first_loop_lane plan.lanes plan.latches) Zero)) ≡ first_loop_lane plan.lanes plan.latches =
     length-with_inputs 0 plan.ins (replicate (first_loop_lane plan.lanes plan.latches) Zero) ∙ length-replicate (first_loop_lane plan.lanes plan.latches) Zero in
     let last : length (map Latch (range_with_len 0 plan.latches)) ≡ plan.latches = length-map-range_with_len Latch 0 plan.latches in
     simp length-append (omega (arith, first, last))

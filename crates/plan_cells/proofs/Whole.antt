@@ -19,19 +19,19 @@ use Rattle.cell_core.specs.Meaning.{bit_in, bit_of, Fits}
 use Rattle.cell_core.specs.Loops.{names_one, loop_state}
 use Rattle.cell_meaning.specs.Computes.{ComputesByPlan}
 use Rattle.circuit_plans.specs.Circuits.{starts_with_one, first_bits, without_nets}
-use Rattle.plan_cells.specs.Lifted.{Lanes, source_on, with_inputs, entry_sources, entry_lanes, lift_columns, sources_on, sources_leaving}
+use Rattle.plan_cells.specs.Lifted.{Lanes, source_on, sources_with_inputs, entry_sources, entry_lanes, lift_columns, sources_on, sources_leaving}
 use Rattle.plan_cells.specs.Lists.{IsListOf}
 use Rattle.plan_cells.proofs.Steps.{IsSound, IsLifted, columns_lifted, there_at, there_set, plain_at, plain_set, both_false, neither, lift_length}
 use Rattle.plan_cells.proofs.EntryBits.{entry_is, length-entry_sources}
 
 -- the entry is sound
-inputs_there : (inputs latches i : ℕ) (ins : List ℕ) (sources : List Src) → i + length ins ≤ inputs → are_there inputs latches 0 sources ≡ true → are_there inputs latches 0 (with_inputs i ins sources) ≡ true
+inputs_there : (inputs latches i : ℕ) (ins : List ℕ) (sources : List Src) → i + length ins ≤ inputs → are_there inputs latches 0 sources ≡ true → are_there inputs latches 0 (sources_with_inputs i ins sources) ≡ true
 inputs_there inputs latches i [] sources fits h = h
 inputs_there inputs latches i (lane ∷ ins) sources fits h =
     inputs_there inputs latches (i + 1) ins (set sources lane (Input i)) (omega (arith, fits))
     (there_set inputs latches 0 sources lane (Input i) h (lt-ltb i inputs (omega (arith, fits))))
 
-inputs_plain : (i : ℕ) (ins : List ℕ) (sources : List Src) → list_any is_one sources ≡ false → list_any is_one (with_inputs i ins sources) ≡ false
+inputs_plain : (i : ℕ) (ins : List ℕ) (sources : List Src) → list_any is_one sources ≡ false → list_any is_one (sources_with_inputs i ins sources) ≡ false
 inputs_plain i [] sources h = h
 inputs_plain i (lane ∷ ins) sources h = inputs_plain (i + 1) ins (set sources lane (Input i)) (plain_set sources lane (Input i) h refl)
 
@@ -65,11 +65,11 @@ entry_sound plan =
     let free = first_loop_lane plan.lanes plan.latches in
     record {
       order = refl;
-      there = there_append (length plan.ins) plan.latches (with_inputs 0 plan.ins (replicate (first_loop_lane plan.lanes plan.latches) Zero)) (map Latch (range_with_len 0 plan.latches))
+      there = there_append (length plan.ins) plan.latches (sources_with_inputs 0 plan.ins (replicate (first_loop_lane plan.lanes plan.latches) Zero)) (map Latch (range_with_len 0 plan.latches))
           (inputs_there (length plan.ins) plan.latches 0 plan.ins (replicate (first_loop_lane plan.lanes plan.latches) Zero) (omega arith) (dark_there (length plan.ins) plan.latches (first_loop_lane plan.lanes plan.latches)))
           (loops_there (length plan.ins) plan.latches 0 plan.latches (omega arith));
       cells_plain = refl;
-      plain = plain_append (with_inputs 0 plan.ins (replicate (first_loop_lane plan.lanes plan.latches) Zero)) (map Latch (range_with_len 0 plan.latches))
+      plain = plain_append (sources_with_inputs 0 plan.ins (replicate (first_loop_lane plan.lanes plan.latches) Zero)) (map Latch (range_with_len 0 plan.latches))
           (inputs_plain 0 plan.ins (replicate (first_loop_lane plan.lanes plan.latches) Zero) (dark_plain (first_loop_lane plan.lanes plan.latches))) (loops_plain 0 plan.latches);
     }
 

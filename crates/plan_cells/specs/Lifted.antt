@@ -65,14 +65,14 @@ abbrev pub lift_columns : Lanes → List Column → Lanes
 lift_columns lanes columns = fold lift_column lanes columns
 
 -- inputs put on lanes, from the one of this number on
-abbrev pub with_inputs : ℕ → List ℕ → List Src → List Src
-with_inputs i [] sources = sources
-with_inputs i (lane ∷ lanes) sources = with_inputs (i + 1) lanes (slice_set sources lane (Input i))
+abbrev pub sources_with_inputs : ℕ → List ℕ → List Src → List Src
+sources_with_inputs i [] sources = sources
+sources_with_inputs i (lane ∷ lanes) sources = sources_with_inputs (i + 1) lanes (slice_set sources lane (Input i))
 
 -- what enters the columns: the inputs, constant 0 on the other lanes that no loop enters, and the loops
 abbrev pub entry_sources : Plan → List Src
 entry_sources plan =
-    with_inputs 0 plan.ins (replicate (first_loop_lane plan.lanes plan.latches) Zero) ++ map Latch (range_with_len 0 plan.latches)
+    sources_with_inputs 0 plan.ins (replicate (first_loop_lane plan.lanes plan.latches) Zero) ++ map Latch (range_with_len 0 plan.latches)
 
 abbrev pub entry_lanes : Plan → Lanes
 entry_lanes plan = record { cells = []; sources = entry_sources plan }

@@ -9,7 +9,7 @@ use Rattle.tiling.specs.Tiling.Edge.{Beside, Above}
 use Rattle.tiling.specs.Matched.{is_entered}
 use Rattle.lane_core.specs.declared.starts.Start.{Start}
 use Rattle.lane_core.specs.Starts.{is_start_at}
-use Rattle.plan_layout.specs.Starts.{HasCell, name_of, named_edges, is_passed, NamesEdge, HasStartEdges, start_edges}
+use Rattle.plan_layout.specs.Starts.{HasCell, edge_name, named_edges, is_passed, NamesEdge, HasStartEdges, start_edges}
 use Rattle.plan_layout.specs.Layout.{tiling_of}
 use Rattle.lane_core.specs.declared.plan.Plan.{Plan}
 
@@ -18,7 +18,7 @@ side true a = inl refl
 side false a = inr refl
 
 -- the name is one of its cells
-pub named : (tiling : Tiling) (edge : Edge) → HasCell edge (name_of tiling edge).x (name_of tiling edge).y
+pub named : (tiling : Tiling) (edge : Edge) → HasCell edge (edge_name tiling edge).x (edge_name tiling edge).y
 named tiling (Beside q l) = (side (is_entered (tiling q l) 0 8) (32 * q), refl)
 named tiling (Above q l) = (refl, side (is_entered (tiling q l) 16 0) (16 * l))
 
@@ -38,7 +38,7 @@ one_edge (Above q l) (Beside q' l') x y (c, d) (inl a, b) = absurd (omega (arith
 one_edge (Above q l) (Beside q' l') x y (c, d) (inr a, b) = absurd (omega (arith, a, c))
 
 -- an edge whose name stands among some is one of those that they name
-pub name_lights : (tiling : Tiling) (names : List Start) (edge : Edge) → is_start_at names (name_of tiling edge).x (name_of tiling edge).y ≡ true → named_edges names edge ≡ true
+pub name_lights : (tiling : Tiling) (names : List Start) (edge : Edge) → is_start_at names (edge_name tiling edge).x (edge_name tiling edge).y ≡ true → named_edges names edge ≡ true
 name_lights tiling names (Beside q l) = by (is_entered (tiling q l) 0 8)
   where
     by : (b : Bool) → is_start_at names (cond b (32 * q) (32 * q - 1)) (16 * l + 8) ≡ true → named_edges names (Beside q l) ≡ true

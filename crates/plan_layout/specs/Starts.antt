@@ -24,9 +24,9 @@ start_edges plan = named_edges plan.starts.list
 
 -- An edge is named by its entry cell, or by its exit cell where nothing is entered there. Signals of a plan that go west or
 -- north always enter something, so such an exit cell lies west or north of its edge.
-abbrev pub name_of : Tiling → Edge → Start
-name_of tiling (Beside q l) = record { x = if is_entered (tiling q l) 0 8 then 32 * q else 32 * q - 1; y = 16 * l + 8 }
-name_of tiling (Above q l) = record { x = 32 * q + 16; y = if is_entered (tiling q l) 16 0 then 16 * l else 16 * l - 1 }
+abbrev pub edge_name : Tiling → Edge → Start
+edge_name tiling (Beside q l) = record { x = if is_entered (tiling q l) 0 8 then 32 * q else 32 * q - 1; y = 16 * l + 8 }
+edge_name tiling (Above q l) = record { x = 32 * q + 16; y = if is_entered (tiling q l) 16 0 then 16 * l else 16 * l - 1 }
 
 -- what stands in a block is entered or left at this place of the block
 abbrev pub is_port : Slot → ℕ → ℕ → Bool
@@ -41,7 +41,7 @@ is_passed tiling (Above q l) = (nat_lt 0 l && is_port (tiling q (l - 1)) 16 15) 
 pub record NamesEdge (tiling : Tiling) (start : Start) : Type 0 where
   pub edge : Edge
   pub passed : is_passed tiling edge ≡ true
-  pub name : start ≡ name_of tiling edge
+  pub name : start ≡ edge_name tiling edge
 
 -- each start names an edge of the drawing
 abbrev pub HasStartEdges : Plan → Type 0

@@ -4,7 +4,7 @@ ghost use Rattle.lane_core.specs.Plans.{IsAdmissible};
 ghost use Rattle.plan_layout.specs.Edges.{as_edge, column_in, lane_in};
 ghost use Rattle.plan_layout.specs.Layout.{tiling_of};
 ghost use Rattle.plan_layout.specs.Slots.{slot_of};
-ghost use Rattle.plan_layout.specs.Starts.{start_edges, name_of, is_port, is_passed};
+ghost use Rattle.plan_layout.specs.Starts.{start_edges, edge_name, is_port, is_passed};
 
 use crate::ports::{is_entered, is_left};
 use crate::{Edge, Slot, slot_at};
@@ -29,11 +29,11 @@ pub fn is_start(plan: &Plan, edge: Edge) -> bool
 }
 
 /// The name of an edge: its entry cell, or its exit cell where no tile is entered there.
-pub fn name_of(plan: &Plan, edge: Edge) -> Start
+pub fn edge_name(plan: &Plan, edge: Edge) -> Start
     requires admissible { IsAdmissible plan.now }
     requires far { column_in (as_edge edge) < 2 ^ 58 }
     requires low { lane_in (as_edge edge) < 2 ^ 58 }
-    ensures { result ≡ name_of (tiling_of plan.now) (as_edge edge) }
+    ensures { result ≡ edge_name (tiling_of plan.now) (as_edge edge) }
 {
     match edge {
         Edge::Beside(column, lane) => {

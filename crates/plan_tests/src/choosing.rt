@@ -1,6 +1,6 @@
 // Which list's plan is kept, and how large it is.
 ghost use Rattle.std.specs.Prelude.{All, IfOk};
-ghost use Rattle.cell_plans.specs.PlanOf.{IsShort};
+ghost use Rattle.cell_plans.specs.PlanOf.{IsPlannable};
 
 use crate::written::{Written, list_of, must};
 use cell_core::{Cell, CellList, Src};
@@ -62,7 +62,7 @@ const CHOICES: &[(&[Written<'static>], (usize, u32, usize))] = &[
 ];
 
 fn lists_of(alloc: Global, written: &[Written<'_>]) -> Result<Vec<CellList>, Fail>
-    ensures { IfOk result (λ lists. All IsShort lists.items) }
+    ensures { IfOk result (λ lists. All IsPlannable lists.items) }
 {
     let mut lists = Vec::new(alloc);
     for one in written {

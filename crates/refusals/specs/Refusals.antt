@@ -2,10 +2,10 @@
 use Rattle.std.specs.Prelude.{ℕ, List, ◌++◌, flat_map, codes, decimal}
 use Rattle.netlist_core.specs.Names.{Name}
 use Rattle.netlist_rules.specs.declared.fault.Fault.{Fault}
-use Rattle.netlist_rules.specs.FaultNames.{number_of, name_of}
+use Rattle.netlist_rules.specs.FaultNames.{aig_fault_number, aig_fault_name}
 use Rattle.netlist_core.specs.Limit.{weight_limit}
 use Rattle.aiger_text.specs.declared.fault.AigFault.{AigFault}
-use Rattle.aiger_text.specs.FaultNames.{number_of as aig_number_of, name_of as aig_name_of}
+use Rattle.aiger_text.specs.FaultNames.{aig_fault_number as aig_number_of, aig_fault_name as aig_name_of}
 use Rattle.aiger_reader.specs.declared.error.AigReadError.{AigReadError}
 use Rattle.aiger_reader.specs.declared.error.AigReadError.TheVariants as aig_of
 use Rattle.aiger_meaning.specs.declared.error.LowerError.{LowerError}
@@ -122,15 +122,15 @@ fault_text number name line word =
     codes "B" ++ (number ++ (codes " " ++ (name ++ (codes " line " ++ (line ++ (codes ": " ++ (word ++ codes "\n")))))))
 
 abbrev pub netlist_line : Fault → List ℕ
-netlist_line fault = fault_text (decimal (number_of fault.kind)) (name_of fault.kind) (decimal fault.line) fault.word
+netlist_line fault = fault_text (decimal (aig_fault_number fault.kind)) (aig_fault_name fault.kind) (decimal fault.line) fault.word
 
 -- each name after a blank
-abbrev pub spaced : List Name → List ℕ
-spaced names = flat_map (λ name. codes " " ++ name) names
+abbrev pub after_blanks : List Name → List ℕ
+after_blanks names = flat_map (λ name. codes " " ++ name) names
 
 -- a loop, by the names of its nets, as `loop: x y`
 abbrev pub loop_line : List Name → List ℕ
-loop_line names = codes "loop:" ++ (spaced names ++ codes "\n")
+loop_line names = codes "loop:" ++ (after_blanks names ++ codes "\n")
 
 -- a fault of a circuit's text by its number, its name and its line, as `A4 BadLiteral line 3`
 abbrev pub aig_fault_text : (number name line : List ℕ) → List ℕ
@@ -238,11 +238,11 @@ simulate_error (simulating.NotQuiet generation x y) = text.Refused (NotQuiet gen
 simulate_error simulating.NoMemory = text.NoMemory
 
 -- its net is not shown,
-abbrev pub probe_error : List ℕ → ProbeError → TextError
-probe_error name probing.NoSuchNet = text.Refused (NoSuchNet name)
-probe_error name (probing.TooFar generations) = text.Refused (TooFar generations)
-probe_error name (probing.NotQuiet generation x y) = text.Refused (NotQuiet generation x y)
-probe_error name probing.NoMemory = text.NoMemory
+abbrev pub probe_refusal : List ℕ → ProbeError → TextError
+probe_refusal name probing.NoSuchNet = text.Refused (NoSuchNet name)
+probe_refusal name (probing.TooFar generations) = text.Refused (TooFar generations)
+probe_refusal name (probing.NotQuiet generation x y) = text.Refused (NotQuiet generation x y)
+probe_refusal name probing.NoMemory = text.NoMemory
 
 -- a part of its plane is not,
 abbrev pub window_error : WindowError → TextError

@@ -5,7 +5,7 @@ ghost use Rattle.std.specs.Io.KnownBytes.{Appends};
 ghost use Rattle.ww_base.specs.Faults.{HasCause};
 ghost use Rattle.ww_base.specs.Pages.{held};
 ghost use Rattle.ww_base.specs.Progress.{Wrote, Broke};
-ghost use Rattle.refusals.specs.Refusals.{rle_fault_name, port_fault_name, start_fault_name, stream_fault_name, fault_line, stream_line, fault_text, netlist_line, spaced, loop_line, aig_fault_text, aig_fault_line, spaced_numbers, aig_loop_line, cause_line, refusal_line};
+ghost use Rattle.refusals.specs.Refusals.{rle_fault_name, port_fault_name, start_fault_name, stream_fault_name, fault_line, stream_line, fault_text, netlist_line, after_blanks, loop_line, aig_fault_text, aig_fault_line, spaced_numbers, aig_loop_line, cause_line, refusal_line};
 
 use crate::causes::Cause;
 use crate::refusal::Refusal;
@@ -268,10 +268,10 @@ fn tell_weight<E: Sink>(err: &mut E, weight: u64) -> Result<(), Failed>
 fn put_spaced<E: Sink>(err: &mut E, page: &mut Page, names: &[Bytes]) -> Result<(), Failed>
     ensures ok { OnOk result ((rest : List ℕ) →
         Wrote (E.written err.old) (E.written err.new) (E.faults err.old) (E.faults err.new)
-        (held page.old ++ (spaced names.now ++ rest)) (held page.new ++ rest)) }
+        (held page.old ++ (after_blanks names.now ++ rest)) (held page.new ++ rest)) }
     ensures err { OnErr result ((rest : List ℕ) →
         Broke (E.written err.old) (E.written err.new) (E.faults err.old) (E.faults err.new)
-        (held page.old ++ (spaced names.now ++ rest))) }
+        (held page.old ++ (after_blanks names.now ++ rest))) }
 {
     for name in names {
         page.put(err, b" ")?;

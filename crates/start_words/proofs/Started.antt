@@ -20,7 +20,7 @@ use Rattle.netlist_rules.specs.ModelFaults.{AreFaultless}
 use Rattle.flat_designs.specs.Laws.{state_in_order}
 use Rattle.flat_designs.proofs.Classes.{class_is}
 use Rattle.flat_designs.proofs.Valuations.{latch_bits}
-use Rattle.start_words.specs.Words.{Latches, bit_set, context_in, net_in, sets, is_one}
+use Rattle.start_words.specs.Words.{Latches, bit_set, context_in, net_of_word, sets, is_char_one}
 use Rattle.word_cuts.specs.Cuts.{bits_in}
 use Rattle.start_words.specs.Flats.{flat_latches, flat_start_bit, flat_start_bits}
 use Rattle.start_words.specs.Starts.{latches_of, output_class, start_by_words, start_of_words}
@@ -31,11 +31,11 @@ use Rattle.start_words.proofs.Named.{latches_are_flat, output_is_net}
 pub same_bit : (a b : Latches) → ((name : Name) → a name ≡ b name) → (context class : ℕ) (words : List (List ℕ)) → bit_set a context class words ≡ bit_set b context class words
 same_bit a b same context class [] = refl
 same_bit a b same context class (word ∷ words) =
-    ap (λ (t : Bool). option_map bit (cond t (Some word) (find (sets a context class) words))) (ap (λ (o : Option ℕ). context_in word == context && option_map_or (λ named. named == class) o false) (same (net_in word)))
+    ap (λ (t : Bool). option_map bit (cond t (Some word) (find (sets a context class) words))) (ap (λ (o : Option ℕ). context_in word == context && option_map_or (λ named. named == class) o false) (same (net_of_word word)))
     ∙ by (same_bit a b same context class words) (sets b context class word)
   where
     bit : List ℕ → Bool
-    bit word = is_one (bits_in word)
+    bit word = is_char_one (bits_in word)
 
     by : bit_set a context class words ≡ bit_set b context class words → (t : Bool) → option_map bit (cond t (Some word) (find (sets a context class) words)) ≡ option_map bit (cond t (Some word) (find (sets b context class) words))
     by later true = refl

@@ -22,33 +22,33 @@ Latches = Name → Option ℕ
 abbrev pub context_in : List ℕ → ℕ
 context_in word = context_of (name_in word)
 
-abbrev pub net_in : List ℕ → Name
-net_in word = name_after (name_in word)
+abbrev pub net_of_word : List ℕ → Name
+net_of_word word = name_after (name_in word)
 
 -- whether a word's bits are the one character `1`; whether they are one character, `0` or `1`
-abbrev pub is_one : List ℕ → Bool
-is_one bits = bytes_eq bits (codes "1")
+abbrev pub is_char_one : List ℕ → Bool
+is_char_one bits = bytes_eq bits (codes "1")
 
 abbrev pub is_one_bit : List ℕ → Bool
-is_one_bit bits = is_one bits || bytes_eq bits (codes "0")
+is_one_bit bits = is_char_one bits || bytes_eq bits (codes "0")
 
 -- whether the word sets the latch whose output is of this class in this context
 abbrev pub sets : Latches → ℕ → ℕ → List ℕ → Bool
 sets latches context class word =
-    context_in word == context && option_map_or (λ named. named == class) (latches (net_in word)) false
+    context_in word == context && option_map_or (λ named. named == class) (latches (net_of_word word)) false
 
 -- whether one of these words sets the latch of this name in this context
-abbrev pub is_set : Latches → ℕ → Name → List (List ℕ) → Bool
-is_set latches context name words = option_map_or (λ class. list_any (sets latches context class) words) (latches name) false
+abbrev pub is_latch_set : Latches → ℕ → Name → List (List ℕ) → Bool
+is_latch_set latches context name words = option_map_or (λ class. list_any (sets latches context class) words) (latches name) false
 
 -- What is at fault in a word that stands after these others, where there are so many contexts; of several faults the first in this
 -- order.
-abbrev pub fault_of_word : Latches → (contexts : ℕ) → (before : List (List ℕ)) → List ℕ → Option StartFaultKind
-fault_of_word latches contexts before word =
+abbrev pub start_word_fault : Latches → (contexts : ℕ) → (before : List (List ℕ)) → List ℕ → Option StartFaultKind
+start_word_fault latches contexts before word =
     if not (list_any is_equals_sign word) then Some NoEquals
     else if not (has_context contexts (name_in word)) then Some BadContext
-    else if not (is_some (latches (net_in word))) then Some NoSuchLatch
-    else if is_set latches (context_in word) (net_in word) before then Some TwiceLatch
+    else if not (is_some (latches (net_of_word word))) then Some NoSuchLatch
+    else if is_latch_set latches (context_in word) (net_of_word word) before then Some TwiceLatch
     else if not (is_one_bit (bits_in word)) then Some BadBit
     else None
 
@@ -59,7 +59,7 @@ start_fault word kind = record { kind = kind; word = word }
 abbrev pub first_fault_after : Latches → (contexts : ℕ) → (before later : List (List ℕ)) → Option StartFault
 first_fault_after latches contexts before [] = None
 first_fault_after latches contexts before (word ∷ words) =
-    option_or (option_map (start_fault word) (fault_of_word latches contexts before word))
+    option_or (option_map (start_fault word) (start_word_fault latches contexts before word))
     (first_fault_after latches contexts (before ++ word ∷ []) words)
 
 -- the first fault of the words, from left to right
@@ -73,4 +73,4 @@ HasStartCause latches contexts words (Fault fault) = first_fault latches context
 
 -- the bit that the words give to the latch whose output is of this class, in this context, where one of them does
 abbrev pub bit_set : Latches → (context class : ℕ) → List (List ℕ) → Option Bool
-bit_set latches context class words = option_map (λ word. is_one (bits_in word)) (find (sets latches context class) words)
+bit_set latches context class words = option_map (λ word. is_char_one (bits_in word)) (find (sets latches context class) words)

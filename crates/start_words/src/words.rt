@@ -5,7 +5,7 @@ ghost use Rattle.std.specs.List.{list_any};
 ghost use Rattle.word_cuts.specs.Cuts.{bits_in};
 ghost use Rattle.netlist_meaning.specs.Flat.{class_of};
 ghost use Rattle.start_words.specs.Flats.{AreBitsSet, flat_latches};
-ghost use Rattle.start_words.specs.Words.{Latches, context_in, fault_of_word, is_one, is_one_bit, net_in, sets};
+ghost use Rattle.start_words.specs.Words.{Latches, context_in, start_word_fault, is_char_one, is_one_bit, net_of_word, sets};
 
 use crate::error::StartFaultKind;
 use netlist_core::{Flat, FlatLatch, latch_named};
@@ -41,7 +41,7 @@ fn latch_class(flat: &Flat, name: &[u8]) -> Option<u32>
 
 // The bit, if the bytes are the one character `0` or `1`.
 fn one_bit(bytes: &[u8]) -> Option<bool>
-    ensures { result ≡ then_some (is_one_bit bytes.now) (is_one bytes.now) }
+    ensures { result ≡ then_some (is_one_bit bytes.now) (is_char_one bytes.now) }
 {
     if bytes == b"1".as_slice() {
         Some(true)
@@ -53,7 +53,7 @@ fn one_bit(bytes: &[u8]) -> Option<bool>
 }
 
 // Whether a word has set the latch in the context.
-fn is_set(set: &BTreeMap<(u64, u32), bool>, context: u64, class: u32) -> bool
+fn is_latch_set(set: &BTreeMap<(u64, u32), bool>, context: u64, class: u32) -> bool
     ensures { (latches : Latches) (before : List (List ℕ)) → AreBitsSet latches set.now before → result ≡ list_any (sets latches context class) before }
 {
     set.contains_key(&(context, class))
@@ -67,12 +67,12 @@ pub fn start_in(
     word: &[u8],
 ) -> Result<LatchStart, StartFaultKind>
     requires { length flat.now.latches < 2 ^ 32 }
-    ensures sound { IfOk result (λ start. (before : List (List ℕ)) → AreBitsSet (flat_latches flat.now) set.now before → fault_of_word (flat_latches flat.now) contexts before word.now ≡ None) }
+    ensures sound { IfOk result (λ start. (before : List (List ℕ)) → AreBitsSet (flat_latches flat.now) set.now before → start_word_fault (flat_latches flat.now) contexts before word.now ≡ None) }
     ensures unset { IfOk result (λ start. (before : List (List ℕ)) → AreBitsSet (flat_latches flat.now) set.now before → list_any (sets (flat_latches flat.now) start.context start.class) before ≡ false) }
     ensures context { IfOk result (λ start. start.context ≡ context_in word.now) }
-    ensures class { IfOk result (λ start. flat_latches flat.now (net_in word.now) ≡ Some start.class) }
-    ensures bit { IfOk result (λ start. start.bit ≡ is_one (bits_in word.now)) }
-    ensures fault { IfErr result (λ kind. (before : List (List ℕ)) → AreBitsSet (flat_latches flat.now) set.now before → fault_of_word (flat_latches flat.now) contexts before word.now ≡ Some kind) }
+    ensures class { IfOk result (λ start. flat_latches flat.now (net_of_word word.now) ≡ Some start.class) }
+    ensures bit { IfOk result (λ start. start.bit ≡ is_char_one (bits_in word.now)) }
+    ensures fault { IfErr result (λ kind. (before : List (List ℕ)) → AreBitsSet (flat_latches flat.now) set.now before → start_word_fault (flat_latches flat.now) contexts before word.now ≡ Some kind) }
 {
     let Some((name, bits)) = cut(word) else {
         return Err(StartFaultKind::NoEquals);
@@ -83,7 +83,7 @@ pub fn start_in(
     let Some(class) = latch_class(flat, net) else {
         return Err(StartFaultKind::NoSuchLatch);
     };
-    if is_set(set, context, class) {
+    if is_latch_set(set, context, class) {
         return Err(StartFaultKind::TwiceLatch);
     }
     let Some(bit) = one_bit(bits) else {

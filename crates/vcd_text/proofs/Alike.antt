@@ -4,7 +4,7 @@ use Rattle.std.specs.Prelude.{◌==◌}
 use Rattle.std.specs.List.{range_with_len}
 use Rattle.pattern_writing.specs.Writer.{ended_lines}
 use Rattle.vcd_text.specs.Reading.{VcdBlock, form_lines}
-use Rattle.vcd_text.specs.Writing.{Waves, id_of, are_other, value_of, values_of, var_of, block_of, last_block, form_of}
+use Rattle.vcd_text.specs.Writing.{Waves, vcd_id, are_other, value_of, values_at, var_of, block_of, last_block, vcd_form}
 use Rattle.vcd_text.specs.Laws.{AreSameWaves, SameWavesAreWrittenAlike}
 
 -- maps that agree on a range
@@ -21,18 +21,18 @@ module _ (a b : Waves) (same : AreSameWaves a b) where
   value_alike cycle n within lt =
       let now : a.bit n cycle ≡ b.bit n cycle = same.bits n cycle within lt in
       let was : a.bit n (cycle - 1) ≡ b.bit n (cycle - 1) = same.bits n (cycle - 1) within (omega (arith, lt)) in
-      ap₂ (λ now was. cond (cycle == 0 || are_other now was) (record { id = id_of n; bit = now } ∷ []) []) now was
+      ap₂ (λ now was. cond (cycle == 0 || are_other now was) (record { id = vcd_id n; bit = now } ∷ []) []) now was
 
   many_alike : length a.references ≡ length b.references
   many_alike = ap length same.references
 
-  values_alike : (cycle : ℕ) → cycle < b.cycles → values_of a cycle ≡ values_of b cycle
+  values_alike : (cycle : ℕ) → cycle < b.cycles → values_at a cycle ≡ values_at b cycle
   values_alike cycle lt =
       ap (λ many. flat_map (value_of a cycle) (range_with_len 0 many)) many_alike
       ∙ flat_alike (value_of a cycle) (value_of b cycle) 0 (length b.references) (λ n within. value_alike cycle n (omega (arith, within)) lt)
 
   vars_alike : map (var_of a) (range_with_len 0 (length a.references)) ≡ map (var_of b) (range_with_len 0 (length b.references))
-  vars_alike = ap (λ (references : List (List ℕ)). map (λ n. record { id = id_of n; reference = get_or references n [] }) (range_with_len 0 (length references))) same.references
+  vars_alike = ap (λ (references : List (List ℕ)). map (λ n. record { id = vcd_id n; reference = get_or references n [] }) (range_with_len 0 (length references))) same.references
 
   blocks_alike : map (block_of a) (range_with_len 0 a.cycles) ++ (last_block a ∷ []) ≡ map (block_of b) (range_with_len 0 b.cycles) ++ (last_block b ∷ [])
   blocks_alike =
@@ -40,7 +40,7 @@ module _ (a b : Waves) (same : AreSameWaves a b) where
       ∙ ap (λ (blocks : List VcdBlock). blocks ++ (last_block b ∷ []))
       (map_alike (block_of a) (block_of b) 0 b.cycles (λ cycle lt. ap (λ values. record { time = cycle; values = values }) (values_alike cycle (omega (arith, lt)))))
 
-  form_alike : form_of a ≡ form_of b
+  form_alike : vcd_form a ≡ vcd_form b
   form_alike = ap₂ (λ vars blocks. record { vars = vars; blocks = blocks }) vars_alike blocks_alike
 
 pub same_waves_are_written_alike : SameWavesAreWrittenAlike

@@ -7,7 +7,7 @@ use Rattle.std.proofs.lemmas.List.FromFn.{length-map-range_with_len, get_or-map-
 use Rattle.std.proofs.lemmas.List.Folds.{list_any_at}
 use Rattle.lists.proofs.Names.{bytes_eq-same}
 use Rattle.vcd_text.specs.Reading.{VcdVar, VcdValue, VcdBlock, ReadsAsVcd, last_time_after, IsWord, AreRising, BeginsAtZero, has_id, IsInOrder}
-use Rattle.vcd_text.specs.Writing.{Waves, id_of, var_of, is_written, value_of, block_of, last_block, form_of, vcd_text}
+use Rattle.vcd_text.specs.Writing.{Waves, vcd_id, var_of, is_written, value_of, block_of, last_block, vcd_form, vcd_text}
 use Rattle.vcd_text.specs.Laws.{TextsSayWaves}
 use Rattle.vcd_text.proofs.OneForm.{reads_as_one_form}
 use Rattle.vcd_text.proofs.Ids.{ids_are_distinct, digits_are_words}
@@ -58,17 +58,17 @@ module _ (w : Waves) where
   from_zero zero e = e
   from_zero (suc n) e = refl
 
-  known_id : (n : ℕ) → n < many → has_id vars (id_of n) ≡ true
+  known_id : (n : ℕ) → n < many → has_id vars (vcd_id n) ≡ true
   known_id n within =
-      list_any_at (λ var. bytes_eq var.id (id_of n)) vars n (var_of w n) (omega (arith, within, count))
-      (ap (λ (v : VcdVar). bytes_eq v.id (id_of n)) (var_at n (var_of w n) within) ∙ bytes_eq-same (id_of n))
+      list_any_at (λ var. bytes_eq var.id (vcd_id n)) vars n (var_of w n) (omega (arith, within, count))
+      (ap (λ (v : VcdVar). bytes_eq v.id (vcd_id n)) (var_at n (var_of w n) within) ∙ bytes_eq-same (vcd_id n))
 
   known_values : (cycle a n : ℕ) → a + n ≤ many → AllByRecursion (λ (value : VcdValue). has_id vars value.id ≡ true) (flat_map (value_of w cycle) (range_with_len a n))
   known_values cycle a zero within = tt
   known_values cycle a (suc n) within =
       all_joined (λ (value : VcdValue). has_id vars value.id ≡ true) (value_of w cycle a) (flat_map (value_of w cycle) (range_with_len (a + 1) n)) (one (is_written w cycle a)) (known_values cycle (a + 1) n (omega (arith, within)))
     where
-      one : (b : Bool) → AllByRecursion (λ (value : VcdValue). has_id vars value.id ≡ true) (cond b (record { id = id_of a; bit = w.bit a cycle } ∷ []) [])
+      one : (b : Bool) → AllByRecursion (λ (value : VcdValue). has_id vars value.id ≡ true) (cond b (record { id = vcd_id a; bit = w.bit a cycle } ∷ []) [])
       one true = (known_id a (omega (arith, within)), tt)
       one false = tt
 
@@ -76,7 +76,7 @@ module _ (w : Waves) where
   fit a zero end small = (small, tt)
   fit a (suc n) end small = (omega (arith, end, small), fit (a + 1) n (omega (arith, end)) small)
 
-  in_order : AllByRecursion IsWord w.references → w.cycles < 2 ^ 64 → IsInOrder (form_of w)
+  in_order : AllByRecursion IsWord w.references → w.cycles < 2 ^ 64 → IsInOrder (vcd_form w)
   in_order words small = record {
     words = all_of_range (λ (var : VcdVar). IsWord var.id × IsWord var.reference) (var_of w) 0 many (λ k from to. (digits_are_words k k, word_at w.references k words (omega (arith, to))));
     distinct = distinct;
@@ -94,10 +94,10 @@ last_is before (block ∷ blocks) last = last_is block.time blocks last
 
 pub texts_say_waves : TextsSayWaves
 texts_say_waves w words small =
-    let reads : ReadsAsVcd (vcd_text w) (form_of w) = record { lines = refl; in_order = in_order w words small } in
+    let reads : ReadsAsVcd (vcd_text w) (vcd_form w) = record { lines = refl; in_order = in_order w words small } in
     record {
       reads = reads;
-      alone = λ form other. reads_as_one_form (vcd_text w) form (form_of w) other reads;
+      alone = λ form other. reads_as_one_form (vcd_text w) form (vcd_form w) other reads;
       ends = last_is 0 (map (block_of w) (range_with_len 0 w.cycles)) (last_block w);
       bits = λ n cycle within lt. bit_is w n cycle within lt;
     }

@@ -2,7 +2,7 @@
 use Rattle.std.specs.Prelude.{◌≡◌, ◌<◌, ◌^◌, ℕ, List, length, Some}
 use Rattle.std.specs.List.{AllByRecursion}
 use Rattle.vcd_text.specs.Reading.{VcdForm, IsWord, ReadsAsVcd, last_time, value_at}
-use Rattle.vcd_text.specs.Writing.{Waves, form_of, id_of, vcd_text}
+use Rattle.vcd_text.specs.Writing.{Waves, vcd_form, vcd_id, vcd_text}
 
 -- A text reads as one form.
 abbrev pub ReadsAsOneForm : Type 0
@@ -11,10 +11,10 @@ ReadsAsOneForm = (text : List ℕ) (a b : VcdForm) → ReadsAsVcd text a → Rea
 -- The text reads as the variables in their order, with their references, and as nothing else; its last time is the number of cycles, and
 -- each variable has its bit at the time of each cycle.
 pub record SaysWaves (w : Waves) : Type 0 where
-  pub reads : ReadsAsVcd (vcd_text w) (form_of w)
-  pub alone : (form : VcdForm) → ReadsAsVcd (vcd_text w) form → form ≡ form_of w
-  pub ends : last_time (form_of w) ≡ w.cycles
-  pub bits : (n cycle : ℕ) → n < length w.references → cycle < w.cycles → value_at (form_of w) (id_of n) cycle ≡ Some (w.bit n cycle)
+  pub reads : ReadsAsVcd (vcd_text w) (vcd_form w)
+  pub alone : (form : VcdForm) → ReadsAsVcd (vcd_text w) form → form ≡ vcd_form w
+  pub ends : last_time (vcd_form w) ≡ w.cycles
+  pub bits : (n cycle : ℕ) → n < length w.references → cycle < w.cycles → value_at (vcd_form w) (vcd_id n) cycle ≡ Some (w.bit n cycle)
 
 -- where the references are words, and the number of cycles fits 64 bits
 abbrev pub TextsSayWaves : Type 0
@@ -22,7 +22,7 @@ TextsSayWaves = (w : Waves) → AllByRecursion IsWord w.references → w.cycles 
 
 -- No two numbers have one id.
 abbrev pub IdsAreDistinct : Type 0
-IdsAreDistinct = (n m : ℕ) → id_of n ≡ id_of m → n ≡ m
+IdsAreDistinct = (n m : ℕ) → vcd_id n ≡ vcd_id m → n ≡ m
 
 -- The text goes by the references and by the bits of the cycles alone.
 pub record AreSameWaves (a b : Waves) : Type 0 where

@@ -16,11 +16,11 @@ digits_94 zero n = (33 + n % 94) ∷ []
 digits_94 (suc more) n = (33 + n % 94) ∷ (if n / 94 == 0 then [] else digits_94 more (n / 94))
 
 -- the id of a variable, by its number from 0
-abbrev pub id_of : ℕ → List ℕ
-id_of n = digits_94 n n
+abbrev pub vcd_id : ℕ → List ℕ
+vcd_id n = digits_94 n n
 
 abbrev pub var_of : Waves → ℕ → VcdVar
-var_of w n = record { id = id_of n; reference = get_or w.references n [] }
+var_of w n = record { id = vcd_id n; reference = get_or w.references n [] }
 
 -- the two bits differ
 abbrev pub are_other : Bool → Bool → Bool
@@ -31,22 +31,22 @@ abbrev pub is_written : Waves → ℕ → ℕ → Bool
 is_written w cycle n = cycle == 0 || are_other (w.bit n cycle) (w.bit n (cycle - 1))
 
 abbrev pub value_of : Waves → ℕ → ℕ → List VcdValue
-value_of w cycle n = if is_written w cycle n then record { id = id_of n; bit = w.bit n cycle } ∷ [] else []
+value_of w cycle n = if is_written w cycle n then record { id = vcd_id n; bit = w.bit n cycle } ∷ [] else []
 
-abbrev pub values_of : Waves → ℕ → List VcdValue
-values_of w cycle = flat_map (value_of w cycle) (range_with_len 0 (length w.references))
+abbrev pub values_at : Waves → ℕ → List VcdValue
+values_at w cycle = flat_map (value_of w cycle) (range_with_len 0 (length w.references))
 
 abbrev pub block_of : Waves → ℕ → VcdBlock
-block_of w cycle = record { time = cycle; values = values_of w cycle }
+block_of w cycle = record { time = cycle; values = values_at w cycle }
 
 abbrev pub last_block : Waves → VcdBlock
 last_block w = record { time = w.cycles; values = [] }
 
-abbrev pub form_of : Waves → VcdForm
-form_of w = record {
+abbrev pub vcd_form : Waves → VcdForm
+vcd_form w = record {
   vars = map (var_of w) (range_with_len 0 (length w.references));
   blocks = map (block_of w) (range_with_len 0 w.cycles) ++ last_block w ∷ [];
 }
 
 abbrev pub vcd_text : Waves → List ℕ
-vcd_text w = ended_lines (form_lines (form_of w))
+vcd_text w = ended_lines (form_lines (vcd_form w))

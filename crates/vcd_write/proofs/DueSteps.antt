@@ -11,7 +11,7 @@ use Rattle.drive.specs.Runs.{HasGoneOn, IsBandRun, planes_of}
 use Rattle.vcd_write.specs.declared.due_bits.DueBit.{DueBit}
 use Rattle.vcd_write.specs.declared.due_bits.DueBits.{DueBits}
 use Rattle.vcd_write.specs.declared.due_bits.Raster.{Raster}
-use Rattle.vcd_write.specs.DueBits.{AreDueFrom, AreFirstBits, AreInOrder, AreShown, IsTaken, IsToCome, IsWithin, next_bit}
+use Rattle.vcd_write.specs.DueBits.{AreDueFrom, AreFirstBits, AreInOrder, ShowsDueBits, IsTakenFrom, IsToCome, IsWithin, next_bit}
 use Rattle.vcd_write.proofs.DueOrder.{from_before, one_more, up_to_more}
 
 -- a bit is due
@@ -19,11 +19,11 @@ abbrev pub IsDue : DueBit → DueBits → Type 0
 IsDue bit due = In bit due.unbegun.items ⊎ In bit due.begun.items
 
 -- what was taken was due, and so are all others
-pub taken_was : (bit : DueBit) (old new : DueBits) → IsTaken bit old new → IsDue bit old
+pub taken_was : (bit : DueBit) (old new : DueBits) → IsTakenFrom bit old new → IsDue bit old
 taken_was bit old new (inl is) = inl (subst (In bit) (sym is.0) (inl refl))
 taken_was bit old new (inr is) = inr (subst (In bit) (sym is.1) (inl refl))
 
-taken_still : (bit : DueBit) (old new : DueBits) (e : DueBit) → IsTaken bit old new → IsDue e new → IsDue e old
+taken_still : (bit : DueBit) (old new : DueBits) (e : DueBit) → IsTakenFrom bit old new → IsDue e new → IsDue e old
 taken_still bit old new e (inl is) (inl u) = inl (subst (In e) (sym is.0) (inr u))
 taken_still bit old new e (inl is) (inr b) = inr (subst (In e) (sym is.1) b)
 taken_still bit old new e (inr is) (inl u) = inl (subst (In e) (sym is.0) u)
@@ -33,7 +33,7 @@ first_or : (bit e : DueBit) (bits : List DueBit) {P : Type 0} → In e (bit ∷ 
 first_or bit e bits (inl is) later = inl is
 first_or bit e bits (inr i) later = inr (later i)
 
-taken_left : (bit : DueBit) (old new : DueBits) (e : DueBit) → IsTaken bit old new → IsDue e old → (e ≡ bit) ⊎ IsDue e new
+taken_left : (bit : DueBit) (old new : DueBits) (e : DueBit) → IsTakenFrom bit old new → IsDue e old → (e ≡ bit) ⊎ IsDue e new
 taken_left bit old new e (inl is) (inl u) = first_or bit e new.unbegun.items (subst (In e) is.0 u) (λ i. inl i)
 taken_left bit old new e (inl is) (inr b) = inr (inr (subst (In e) is.1 b))
 taken_left bit old new e (inr is) (inl u) = inr (inl (subst (In e) is.0 u))
@@ -70,7 +70,7 @@ module _ (raster : Raster) where
         omega (arith, f, g);
   }
 
-  shown_later : (shown : ℕ → Bool) (planes : ℕ → Plane) (bit : DueBit) → AreShown shown planes raster bit → AreShown shown planes raster (later bit)
+  shown_later : (shown : ℕ → Bool) (planes : ℕ → Plane) (bit : DueBit) → ShowsDueBits shown planes raster bit → ShowsDueBits shown planes raster (later bit)
   shown_later shown planes bit is j low =
       let e : bit.place + raster.variables + j * raster.variables ≡ bit.place + suc j * raster.variables = step_more bit.place raster.variables j in
       let f : bit.generation + raster.period + j * raster.period ≡ bit.generation + suc j * raster.period = step_more bit.generation raster.period j in
@@ -87,7 +87,7 @@ module _ (raster : Raster) where
   IsRead shown bits due k = (get_or bits k false ≡ shown k) ⊎ ((get_or bits k false ≡ false) × IsLeft due k)
 
   pub record AreRead (shown : ℕ → Bool) (planes : ℕ → Plane) (due : DueBits) (bits : List Bool) : Type 0 where
-    pub shows : (bit : DueBit) → IsDue bit due → AreShown shown planes raster bit
+    pub shows : (bit : DueBit) → IsDue bit due → ShowsDueBits shown planes raster bit
     pub each : (k : ℕ) → k < raster.bits → IsRead shown bits due k
 
   pub record Progress (first : List DueBit) (begun now : Run) (due : DueBits) (bits : List Bool) : Type 0 where
@@ -100,7 +100,7 @@ module _ (raster : Raster) where
     pub right : (shown : ℕ → Bool) → AreFirstBits shown (planes_of begun) raster first → AreRead shown (planes_of begun) due bits
 
   -- after a bit is read and the next of its variable is put
-  module _ (bit : DueBit) (old taken new : DueBits) (is : IsTaken bit old taken) (unbegun : new.unbegun.items ≡ taken.unbegun.items) (begun : new.begun.items ≡ taken.begun.items ++ next_bit raster bit) where
+  module _ (bit : DueBit) (old taken new : DueBits) (is : IsTakenFrom bit old taken) (unbegun : new.unbegun.items ≡ taken.unbegun.items) (begun : new.begun.items ≡ taken.begun.items ++ next_bit raster bit) where
     due_before : (e : DueBit) → IsDue e new → IsDue e old ⊎ In e (next_bit raster bit)
     due_before e (inl u) = inl (taken_still bit old taken e is (inl (subst (In e) unbegun u)))
     due_before e (inr b) =
@@ -160,7 +160,7 @@ module _ (raster : Raster) where
       read_step read = record {
         shows = λ e due.
             ⊎_elim (λ was. read.shows e was)
-            (λ i. let next = next_is bit e i in subst (AreShown shown planes raster) (sym next.1) (shown_later shown planes bit (read.shows bit (taken_was bit old taken is))))
+            (λ i. let next = next_is bit e i in subst (ShowsDueBits shown planes raster) (sym next.1) (shown_later shown planes bit (read.shows bit (taken_was bit old taken is))))
             (due_before e due);
         each = λ k low. ⊎_elim (λ e. inl (read_here k e (read.each k low))) (λ ne. read_other k low ne (read.each k low)) (cases_eq k bit.place);
       }
@@ -223,7 +223,7 @@ module _ (raster : Raster) where
     within = λ bit due. all_of (IsWithin raster) within bit due;
     long = long;
     right = λ shown at_first. record {
-      shows = λ bit due. all_of (AreShown shown (planes_of run) raster) at_first.each bit due;
+      shows = λ bit due. all_of (ShowsDueBits shown (planes_of run) raster) at_first.each bit due;
       each = λ k low. let to = at_first.all k low in inr (none k, record { bit = to.bit; is_due = inl (subst (In to.bit) (sym unbegun) (in_from first to.bit to.is_there)); cycles = to.cycles; is_later = to.is_later });
     };
   }
@@ -263,7 +263,7 @@ left_next raster bit is = by (nat_lt (bit.place + raster.variables) raster.bits)
     by true lt = let low = is.place in let some = is.some in omega (arith, low, some, ltb-true (bit.place + raster.variables) raster.bits lt)
     by false ge = let low = is.place in omega (arith, low)
 
-pub fewer_left : (raster : Raster) (bit : DueBit) (old taken new : DueBits) → IsWithin raster bit → IsTaken bit old taken → new.unbegun.items ≡ taken.unbegun.items → new.begun.items ≡ taken.begun.items ++ next_bit raster bit
+pub fewer_left : (raster : Raster) (bit : DueBit) (old taken new : DueBits) → IsWithin raster bit → IsTakenFrom bit old taken → new.unbegun.items ≡ taken.unbegun.items → new.begun.items ≡ taken.begun.items ++ next_bit raster bit
     → left raster.bits new.unbegun.items + left raster.bits new.begun.items < left raster.bits old.unbegun.items + left raster.bits old.begun.items
 unfolding left
 fewer_left raster bit old taken new within is unbegun begun =

@@ -16,23 +16,23 @@ use Rattle.pattern_reading.specs.declared.ports.NetLine.{NetLine}
 use Rattle.pattern_reading.specs.declared.ports.Ports.{Ports}
 use Rattle.vcd_write.specs.declared.due_bits.DueBit.{DueBit}
 use Rattle.vcd_write.specs.declared.due_bits.Raster.{Raster}
-use Rattle.vcd_write.specs.DueBits.{AreDueFrom, AreFirstBits, AreShown, IsToCome, IsWithin}
-use Rattle.vcd_write.specs.FirstBits.{first_bit, first_bits}
+use Rattle.vcd_write.specs.DueBits.{AreDueFrom, AreFirstBits, ShowsDueBits, IsToCome, IsWithin}
+use Rattle.vcd_write.specs.FirstBits.{first_bit, first_due_bits}
 use Rattle.vcd_write.specs.NetBits.{FitsNets}
 use Rattle.vcd_write.specs.NetWaves.{NetInContext, nets_in, nets_in_contexts}
 use Rattle.vcd_write.proofs.Variables.{context_low, contexts_more, net_there}
 
-pub bits_long : (place : ℕ) (variables : List NetInContext) → length (first_bits place variables) ≡ length variables
+pub bits_long : (place : ℕ) (variables : List NetInContext) → length (first_due_bits place variables) ≡ length variables
 bits_long place [] = refl
 bits_long place (variable ∷ variables) = ap suc (bits_long (place + 1) variables)
 
-pub bits_more : (place : ℕ) (a b : List NetInContext) → first_bits place (a ++ b) ≡ first_bits place a ++ first_bits (place + length a) b
-bits_more place [] b = let e : place ≡ place + 0 = omega arith in ap (λ p. first_bits p b) e
+pub bits_more : (place : ℕ) (a b : List NetInContext) → first_due_bits place (a ++ b) ≡ first_due_bits place a ++ first_due_bits (place + length a) b
+bits_more place [] b = let e : place ≡ place + 0 = omega arith in ap (λ p. first_due_bits p b) e
 bits_more place (variable ∷ a) b =
     let e : place + 1 + length a ≡ place + suc (length a) = omega arith in
-    ap (λ bits. first_bit place variable ∷ bits) (bits_more (place + 1) a b ∙ ap (λ p. first_bits (place + 1) a ++ first_bits p b) e)
+    ap (λ bits. first_bit place variable ∷ bits) (bits_more (place + 1) a b ∙ ap (λ p. first_due_bits (place + 1) a ++ first_due_bits p b) e)
 
-bit_at : (place : ℕ) (variables : List NetInContext) (n : ℕ) (variable : NetInContext) → slice_get variables n ≡ Some variable → slice_get (first_bits place variables) n ≡ Some (first_bit (place + n) variable)
+bit_at : (place : ℕ) (variables : List NetInContext) (n : ℕ) (variable : NetInContext) → slice_get variables n ≡ Some variable → slice_get (first_due_bits place variables) n ≡ Some (first_bit (place + n) variable)
 bit_at place [] n variable e = absurd (none-some variable e)
 bit_at place (v ∷ variables) zero variable e =
     let p : place ≡ place + 0 = omega arith in
@@ -41,10 +41,10 @@ bit_at place (v ∷ variables) (suc n) variable e =
     let p : place + 1 + n ≡ place + suc n = omega arith in
     bit_at (place + 1) variables n variable e ∙ ap (λ p. Some (first_bit p variable)) p
 
-all_bits : (P : DueBit → Type 0) (place : ℕ) (variables : List NetInContext) → ((n : ℕ) (variable : NetInContext) → slice_get variables n ≡ Some variable → P (first_bit (place + n) variable)) → All P (first_bits place variables)
+all_bits : (P : DueBit → Type 0) (place : ℕ) (variables : List NetInContext) → ((n : ℕ) (variable : NetInContext) → slice_get variables n ≡ Some variable → P (first_bit (place + n) variable)) → All P (first_due_bits place variables)
 all_bits P place [] each = All-nil P
 all_bits P place (v ∷ variables) each =
-    All-cons P (first_bit place v) (first_bits (place + 1) variables) (subst (λ p. P (first_bit p v)) (let e : place + 0 ≡ place = omega arith in e) (each 0 v refl))
+    All-cons P (first_bit place v) (first_due_bits (place + 1) variables) (subst (λ p. P (first_bit p v)) (let e : place + 0 ≡ place = omega arith in e) (each 0 v refl))
     (all_bits P (place + 1) variables (λ n variable e. subst (λ p. P (first_bit p variable)) (let s : place + suc n ≡ place + 1 + n = omega arith in s) (each (suc n) variable e)))
 
 module _ (ports : Ports) (cycles : ℕ) (raster : Raster) (fits : FitsNets ports cycles raster) where
@@ -78,9 +78,9 @@ module _ (ports : Ports) (cycles : ℕ) (raster : Raster) (fits : FitsNets ports
             omega (arith, before, same, last, context);
       }
 
-  pub all_within : (sorted : List DueBit) → IsPermutation (first_bits 0 variables) sorted → All (IsWithin raster) sorted
+  pub all_within : (sorted : List DueBit) → IsPermutation (first_due_bits 0 variables) sorted → All (IsWithin raster) sorted
   all_within sorted moved =
-      All-permutation (IsWithin raster) (first_bits 0 variables) sorted moved
+      All-permutation (IsWithin raster) (first_due_bits 0 variables) sorted moved
       (all_bits (IsWithin raster) 0 variables (λ n variable e. subst (λ p. IsWithin raster (first_bit p variable)) (let s : n ≡ 0 + n = omega arith in s) (within_first n variable e)))
 
   module _ (planes : ℕ → Plane) where
@@ -100,13 +100,13 @@ module _ (ports : Ports) (cycles : ℕ) (raster : Raster) (fits : FitsNets ports
         ap₂ (λ t m. shown_in t (slice_get variables m)) (div-mul-add cycle raster.variables n low) (mod-mul-add cycle raster.variables n low)
         ∙ ap (shown_in cycle) e
 
-    shown_first : (n : ℕ) (variable : NetInContext) → slice_get variables n ≡ Some variable → AreShown shown planes raster (first_bit n variable)
+    shown_first : (n : ℕ) (variable : NetInContext) → slice_get variables n ≡ Some variable → ShowsDueBits shown planes raster (first_bit n variable)
     shown_first n variable e j within =
         let turned : n + j * raster.variables ≡ j * raster.variables + n = omega arith in
         ap shown turned ∙ shown_at n j variable e
         ∙ ap (λ p. is_head (planes (variable.net.offset + 32 * variable.context + j * p) (pos variable.net.x) (pos variable.net.y))) (sym fits.period)
 
-    come : (sorted : List DueBit) → IsPermutation (first_bits 0 variables) sorted → (k : ℕ) → k < raster.bits → (0 < raster.variables) → (slice_get variables (k % raster.variables) ≡ Some (get_or variables (k % raster.variables) (record { context = 0; net = record { x = 0; y = 0; offset = 0; name = []; path = [] } }))) → IsToCome raster sorted k
+    come : (sorted : List DueBit) → IsPermutation (first_due_bits 0 variables) sorted → (k : ℕ) → k < raster.bits → (0 < raster.variables) → (slice_get variables (k % raster.variables) ≡ Some (get_or variables (k % raster.variables) (record { context = 0; net = record { x = 0; y = 0; offset = 0; name = []; path = [] } }))) → IsToCome raster sorted k
     come sorted moved k low some e =
         let n : ℕ = k % raster.variables in
         let variable : NetInContext = get_or variables n (record { context = 0; net = record { x = 0; y = 0; offset = 0; name = []; path = [] } }) in
@@ -114,16 +114,16 @@ module _ (ports : Ports) (cycles : ℕ) (raster : Raster) (fits : FitsNets ports
         let s : 0 + n ≡ n = omega arith in
         record {
           bit = first_bit n variable;
-          is_there = Contains-permutation (first_bits 0 variables) sorted (first_bit n variable) moved
-              (contains_from (first_bits 0 variables) (first_bit n variable) (in_got (first_bits 0 variables) n (first_bit n variable) (there ∙ ap (λ p. Some (first_bit p variable)) s)));
+          is_there = Contains-permutation (first_due_bits 0 variables) sorted (first_bit n variable) moved
+              (contains_from (first_due_bits 0 variables) (first_bit n variable) (in_got (first_due_bits 0 variables) n (first_bit n variable) (there ∙ ap (λ p. Some (first_bit p variable)) s)));
           cycles = k / raster.variables;
           is_later = (let parts = div-add-mod k raster.variables in omega (arith, parts));
         }
 
-    pub are_first : (sorted : List DueBit) → IsPermutation (first_bits 0 variables) sorted → AreFirstBits shown planes raster sorted
+    pub are_first : (sorted : List DueBit) → IsPermutation (first_due_bits 0 variables) sorted → AreFirstBits shown planes raster sorted
     are_first sorted moved = record {
-      each = All-permutation (AreShown shown planes raster) (first_bits 0 variables) sorted moved
-          (all_bits (AreShown shown planes raster) 0 variables (λ n variable e. subst (λ p. AreShown shown planes raster (first_bit p variable)) (let s : n ≡ 0 + n = omega arith in s) (shown_first n variable e)));
+      each = All-permutation (ShowsDueBits shown planes raster) (first_due_bits 0 variables) sorted moved
+          (all_bits (ShowsDueBits shown planes raster) 0 variables (λ n variable e. subst (λ p. ShowsDueBits shown planes raster (first_bit p variable)) (let s : n ≡ 0 + n = omega arith in s) (shown_first n variable e)));
       all = λ k low.
           let some : 0 < raster.variables = by_some k low (cases_lt 0 raster.variables) in
           let within : k % raster.variables < length variables = (let l = mod-lt k some in omega (arith, l, fits.variables)) in
@@ -138,31 +138,31 @@ module _ (ports : Ports) (cycles : ℕ) (raster : Raster) (fits : FitsNets ports
             absurd (omega (arith, low, nothing, fits.bits))
 
 -- one more net of a context
-pub push_net : (initial due new : List DueBit) (nets : List NetLine) (context i : ℕ) (net : NetLine) (bit : DueBit) → due ≡ initial ++ first_bits (length initial) (nets_in context (take i nets)) → i < length nets
-    → get_or nets i net ≡ net → bit ≡ first_bit (length due) (record { context = context; net = net }) → new ≡ due ++ bit ∷ [] → new ≡ initial ++ first_bits (length initial) (nets_in context (take (i + 1) nets))
+pub push_net : (initial due new : List DueBit) (nets : List NetLine) (context i : ℕ) (net : NetLine) (bit : DueBit) → due ≡ initial ++ first_due_bits (length initial) (nets_in context (take i nets)) → i < length nets
+    → get_or nets i net ≡ net → bit ≡ first_bit (length due) (record { context = context; net = net }) → new ≡ due ++ bit ∷ [] → new ≡ initial ++ first_due_bits (length initial) (nets_in context (take (i + 1) nets))
 push_net initial due new nets context i net bit before low is same pushed =
     let variable : NetInContext = record { context = context; net = net } in
     let front : List NetInContext = nets_in context (take i nets) in
     let more : nets_in context (take (i + 1) nets) ≡ front ++ variable ∷ [] =
     map_more (λ net. record { context = context; net = net }) nets i net low ∙ ap (λ n. front ++ (record { context = context; net = n } ∷ [])) is in
     let long : length due ≡ length initial + length front =
-    ap length before ∙ length-append initial (first_bits (length initial) front) ∙ ap (λ n. length initial + n) (bits_long (length initial) front) in
+    ap length before ∙ length-append initial (first_due_bits (length initial) front) ∙ ap (λ n. length initial + n) (bits_long (length initial) front) in
     pushed
     ∙ ap₂ (λ due bit. due ++ bit ∷ []) before (same ∙ ap (λ p. first_bit p variable) long)
-    ∙ append_assoc initial (first_bits (length initial) front) (first_bit (length initial + length front) variable ∷ [])
+    ∙ append_assoc initial (first_due_bits (length initial) front) (first_bit (length initial + length front) variable ∷ [])
     ∙ ap (λ bits. initial ++ bits) (sym (bits_more (length initial) front (variable ∷ [])))
-    ∙ ap (λ variables. initial ++ first_bits (length initial) variables) (sym more)
+    ∙ ap (λ variables. initial ++ first_due_bits (length initial) variables) (sym more)
 
 -- and those of one more context
-pub push_nets : (due new : List DueBit) (nets : List NetLine) (context : ℕ) → due ≡ first_bits 0 (flat_map (λ c. nets_in c nets) (range_with_len 0 context))
-    → new ≡ due ++ first_bits (length due) (nets_in context nets) → new ≡ first_bits 0 (flat_map (λ c. nets_in c nets) (range_with_len 0 (context + 1)))
+pub push_nets : (due new : List DueBit) (nets : List NetLine) (context : ℕ) → due ≡ first_due_bits 0 (flat_map (λ c. nets_in c nets) (range_with_len 0 context))
+    → new ≡ due ++ first_due_bits (length due) (nets_in context nets) → new ≡ first_due_bits 0 (flat_map (λ c. nets_in c nets) (range_with_len 0 (context + 1)))
 push_nets due new nets context before pushed =
     let front : List NetInContext = flat_map (λ c. nets_in c nets) (range_with_len 0 context) in
     let long : length due ≡ 0 + length front = ap length before ∙ bits_long 0 front ∙ (let s : length front ≡ 0 + length front = omega arith in s) in
     pushed
-    ∙ ap₂ (λ due n. due ++ first_bits n (nets_in context nets)) before long
+    ∙ ap₂ (λ due n. due ++ first_due_bits n (nets_in context nets)) before long
     ∙ sym (bits_more 0 front (nets_in context nets))
-    ∙ ap (first_bits 0) (sym (contexts_more nets context))
+    ∙ ap (first_due_bits 0) (sym (contexts_more nets context))
 
 pub no_nets : (nets : List NetLine) (first many : ℕ) → nets ≡ [] → flat_map (λ c. nets_in c nets) (range_with_len first many) ≡ []
 no_nets nets first zero e = refl

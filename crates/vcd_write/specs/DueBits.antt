@@ -23,8 +23,8 @@ pub record AreInOrder (g period : ℕ) (due : DueBits) : Type 0 where
   pub near : All (λ bit. bit.generation ≤ g + period) due.begun.items
 
 -- The bit was taken from the front of one of the queues.
-abbrev pub IsTaken : DueBit → DueBits → DueBits → Type 0
-IsTaken bit old new =
+abbrev pub IsTakenFrom : DueBit → DueBits → DueBits → Type 0
+IsTakenFrom bit old new =
     ((old.unbegun.items ≡ bit ∷ new.unbegun.items) × (old.begun.items ≡ new.begun.items))
     ⊎ ((old.unbegun.items ≡ new.unbegun.items) × (old.begun.items ≡ bit ∷ new.begun.items))
 
@@ -43,8 +43,8 @@ pub record IsWithin (raster : Raster) (bit : DueBit) : Type 0 where
 
 -- Planes show such bits at the cell of a bit that is due: its own at its generation, and those of the same variable after it, each a
 -- period later.
-abbrev pub AreShown : (shown : ℕ → Bool) → (ℕ → Plane) → Raster → DueBit → Type 0
-AreShown shown planes raster bit =
+abbrev pub ShowsDueBits : (shown : ℕ → Bool) → (ℕ → Plane) → Raster → DueBit → Type 0
+ShowsDueBits shown planes raster bit =
     (j : ℕ) → bit.place + j * raster.variables < raster.bits
     → shown (bit.place + j * raster.variables) ≡ is_head (planes (bit.generation + j * raster.period) (pos bit.x) (pos bit.y))
 
@@ -57,5 +57,5 @@ pub record IsToCome (raster : Raster) (due : List DueBit) (place : ℕ) : Type 0
 
 -- These bits are due at first, where planes show so: each of them is shown, and each place of the raster is to come.
 pub record AreFirstBits (shown : ℕ → Bool) (planes : ℕ → Plane) (raster : Raster) (due : List DueBit) : Type 0 where
-  pub each : All (AreShown shown planes raster) due
+  pub each : All (ShowsDueBits shown planes raster) due
   pub all : (place : ℕ) → place < raster.bits → IsToCome raster due place

@@ -1,6 +1,6 @@
 // Bits that are due, each at a generation.
 ghost use Rattle.std.specs.Prelude.{◌≡◌, ◌≤◌, ◌++◌, ℕ, [], IfSome, MatchOption, OnOk};
-ghost use Rattle.vcd_write.specs.DueBits.{AreDueFrom, AreInOrder, IsTaken, IsWithin, comes_first, next_bit};
+ghost use Rattle.vcd_write.specs.DueBits.{AreDueFrom, AreInOrder, IsTakenFrom, IsWithin, comes_first, next_bit};
 
 use std::alloc::{AllocError, Global};
 use std::collections::VecDeque;
@@ -57,7 +57,7 @@ impl DueBits {
 
     /// Takes the earliest bit.
     pub fn take_earliest(&mut self) -> Option<DueBit>
-        ensures taken { MatchOption result ((self.old.unbegun.items ≡ []) × (self.old.begun.items ≡ [])) (λ bit. IsTaken bit self.old self.new) }
+        ensures taken { MatchOption result ((self.old.unbegun.items ≡ []) × (self.old.begun.items ≡ [])) (λ bit. IsTakenFrom bit self.old self.new) }
         ensures order { IfSome result (λ bit. (g period : ℕ) → AreInOrder g period self.old
             → (g ≤ bit.generation) × AreInOrder bit.generation period self.new) }
     {

@@ -2,7 +2,7 @@
 ghost use Rattle.std.specs.Prelude.{◌≡◌, ◌≤◌, ◌+◌, ◌*◌, ◌-◌, ◌^◌, ◌<◌, ◌++◌, All, IfOk, OnOk, length};
 ghost use Rattle.std.specs.List.Sorted.{IsPermutation};
 ghost use Rattle.vcd_write.specs.DueBits.{AreDueFrom};
-ghost use Rattle.vcd_write.specs.FirstBits.{first_bits};
+ghost use Rattle.vcd_write.specs.FirstBits.{first_due_bits};
 ghost use Rattle.vcd_write.specs.NetWaves.{nets_in, nets_in_contexts};
 
 use crate::due_bits::DueBit;
@@ -13,7 +13,7 @@ use std::alloc::{AllocError, Global};
 // Puts the first bits of nets in a context at the end.
 fn push_context(due: &mut Vec<DueBit>, nets: &[NetLine], context: u64) -> Result<(), AllocError>
     requires room { All (λ net. net.offset + 32 * context < 2 ^ 64) nets.now }
-    ensures { OnOk result (due.new.items ≡ due.old.items ++ first_bits (length due.old.items) (nets_in context nets.now)) }
+    ensures { OnOk result (due.new.items ≡ due.old.items ++ first_due_bits (length due.old.items) (nets_in context nets.now)) }
 {
     for net in nets {
         let place = due.len();
@@ -30,7 +30,7 @@ fn push_context(due: &mut Vec<DueBit>, nets: &[NetLine], context: u64) -> Result
 // Those of one context after the other.
 fn unsorted(alloc: Global, ports: &Ports) -> Result<Vec<DueBit>, AllocError>
     requires room { All (λ net. net.offset + 32 * (ports.now.c - 1) < 2 ^ 64) ports.now.nets }
-    ensures { IfOk result (λ due. due.items ≡ first_bits 0 (nets_in_contexts ports.now)) }
+    ensures { IfOk result (λ due. due.items ≡ first_due_bits 0 (nets_in_contexts ports.now)) }
 {
     let mut due = Vec::new(alloc);
     if ports.nets.len() == 0 {
@@ -45,7 +45,7 @@ fn unsorted(alloc: Global, ports: &Ports) -> Result<Vec<DueBit>, AllocError>
 /// Those in the order of their generations.
 pub fn sorted_first_bits(alloc: Global, ports: &Ports) -> Result<Vec<DueBit>, AllocError>
     requires room { All (λ net. net.offset + 32 * (ports.now.c - 1) < 2 ^ 64) ports.now.nets }
-    ensures same { IfOk result (λ due. IsPermutation (first_bits 0 (nets_in_contexts ports.now)) due.items) }
+    ensures same { IfOk result (λ due. IsPermutation (first_due_bits 0 (nets_in_contexts ports.now)) due.items) }
     ensures order { IfOk result (λ due. AreDueFrom 0 due.items) }
 {
     let mut due = unsorted(alloc, ports)?;

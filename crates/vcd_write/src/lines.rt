@@ -3,7 +3,7 @@ ghost use Rattle.std.specs.Prelude.{◌≡◌, ◌≢◌, ◌<◌, ◌+◌, ◌%
 ghost use Rattle.ww_base.specs.Pages.{held};
 ghost use Rattle.ww_base.specs.Progress.{Wrote, Broke};
 ghost use Rattle.vcd_text.specs.Reading.{var_line, time_line, value_line};
-ghost use Rattle.vcd_text.specs.Writing.{id_of};
+ghost use Rattle.vcd_text.specs.Writing.{vcd_id};
 
 use itoa::Buffer;
 use ww_base::{Failed, Page, Sink};
@@ -26,10 +26,10 @@ fn bit_digit(bit: bool) -> u8
 fn write_id<O: Sink>(sink: &mut O, page: &mut Page, n: usize) -> Result<(), Failed>
     ensures ok { OnOk result ((rest : List ℕ) →
         Wrote (O.written sink.old) (O.written sink.new) (O.faults sink.old) (O.faults sink.new)
-        (held page.old ++ (id_of n ++ rest)) (held page.new ++ rest)) }
+        (held page.old ++ (vcd_id n ++ rest)) (held page.new ++ rest)) }
     ensures err { OnErr result ((rest : List ℕ) →
         Broke (O.written sink.old) (O.written sink.new) (O.faults sink.old) (O.faults sink.new)
-        (held page.old ++ (id_of n ++ rest))) }
+        (held page.old ++ (vcd_id n ++ rest))) }
 {
     page.put(sink, &[last_digit(n)])?;
     let mut left = n / 94;
@@ -49,10 +49,10 @@ pub fn write_var<O: Sink>(
 ) -> Result<(), Failed>
     ensures ok { OnOk result ((rest : List ℕ) →
         Wrote (O.written sink.old) (O.written sink.new) (O.faults sink.old) (O.faults sink.new)
-        (held page.old ++ (var_line (record { id = id_of n; reference = reference.now }) ++ (10 ∷ rest))) (held page.new ++ rest)) }
+        (held page.old ++ (var_line (record { id = vcd_id n; reference = reference.now }) ++ (10 ∷ rest))) (held page.new ++ rest)) }
     ensures err { OnErr result ((rest : List ℕ) →
         Broke (O.written sink.old) (O.written sink.new) (O.faults sink.old) (O.faults sink.new)
-        (held page.old ++ (var_line (record { id = id_of n; reference = reference.now }) ++ (10 ∷ rest)))) }
+        (held page.old ++ (var_line (record { id = vcd_id n; reference = reference.now }) ++ (10 ∷ rest)))) }
 {
     page.put(sink, b"$var wire 1 ")?;
     write_id(sink, page, n)?;
@@ -86,10 +86,10 @@ pub fn write_value<O: Sink>(
 ) -> Result<(), Failed>
     ensures ok { OnOk result ((rest : List ℕ) →
         Wrote (O.written sink.old) (O.written sink.new) (O.faults sink.old) (O.faults sink.new)
-        (held page.old ++ (value_line (record { id = id_of n; bit = bit }) ++ (10 ∷ rest))) (held page.new ++ rest)) }
+        (held page.old ++ (value_line (record { id = vcd_id n; bit = bit }) ++ (10 ∷ rest))) (held page.new ++ rest)) }
     ensures err { OnErr result ((rest : List ℕ) →
         Broke (O.written sink.old) (O.written sink.new) (O.faults sink.old) (O.faults sink.new)
-        (held page.old ++ (value_line (record { id = id_of n; bit = bit }) ++ (10 ∷ rest)))) }
+        (held page.old ++ (value_line (record { id = vcd_id n; bit = bit }) ++ (10 ∷ rest)))) }
 {
     page.put(sink, &[bit_digit(bit)])?;
     write_id(sink, page, n)?;

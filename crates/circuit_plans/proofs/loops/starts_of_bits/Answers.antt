@@ -1,6 +1,6 @@
 use Rattle.std.proofs.Common.{rules, ◌≡◌, sym, ◌∙◌, ap, subst, ℕ, ◌+◌, ◌-◌, ◌++◌, [], ◌∷◌, true, false, cond, length, get_or, List, arith, append_assoc, append-nil}
 use Rattle.lane_core.specs.declared.starts.Start.{Start}
-use Rattle.lane_core.specs.Starts.{are_in_order}
+use Rattle.lane_core.specs.Starts.{are_starts_in_order}
 use Rattle.circuit_plans.specs.Circuits.{loop_start, starts_from, starts_where}
 use Rattle.circuit_plans.proofs.Ordered.{one_loop, where_in_order}
 use Rattle.circuit_plans.proofs.loops.starts_of_bits.Goals as goal
@@ -25,5 +25,5 @@ invariant_of-result c =
     ∙ ap (λ k. c.loop-number.found.items ++ starts_from c.args.lanes (length c.args.bits.now) (λ loop. get_or c.args.bits.now loop false) k c.loop-number.number) (sym none)
     ∙ c.loop-number.invariant in
     record {
-      in_order = subst (λ (xs : List Start). are_in_order xs ≡ true) (sym (c.of.ensures ∙ all)) (where_in_order c.args.lanes (length c.args.bits.now) (λ loop. get_or c.args.bits.now loop false));
+      in_order = subst (λ (xs : List Start). are_starts_in_order xs ≡ true) (sym (c.of.ensures ∙ all)) (where_in_order c.args.lanes (length c.args.bits.now) (λ loop. get_or c.args.bits.now loop false));
     }

@@ -9,10 +9,10 @@ returns-then-is_passed c = (
   λ yes. record {
     edge = as_edge c.in-Some.edge;
     passed = sym c.is_passed.ensures ∙ c.if-is_passed.true;
-    name = sym (from_same c.name_of.result c.args.start.now (sym c.eq.ensures ∙ yes)) ∙ c.name_of.ensures;
+    name = sym (from_same c.edge_name.result c.args.start.now (sym c.eq.ensures ∙ yes)) ∙ c.edge_name.ensures;
   },
-  λ names. c.eq.ensures ∙ to_same c.name_of.result c.args.start.now
-      (c.name_of.ensures ∙ named_there (tiling_of c.args.plan.now) c.args.start.now (as_edge c.in-Some.edge) c.in-Some.ensures names),
+  λ names. c.eq.ensures ∙ to_same c.edge_name.result c.args.start.now
+      (c.edge_name.ensures ∙ named_there (tiling_of c.args.plan.now) c.args.start.now (as_edge c.in-Some.edge) c.in-Some.ensures names),
 )
 
 pub returns-else-is_passed : goal.returns-else-is_passed

@@ -9,13 +9,13 @@ use Rattle.latch_loops.specs.Padded.{IsPaddedPlan}
 use Rattle.pattern_writing.specs.WrittenText.{pattern_text}
 use Rattle.carries.specs.FlatContexts.{CarriesFlatContexts}
 use Rattle.plan_carries.proofs.Bare.{bare_grid}
-use Rattle.netlist_plans.specs.Contexts.{loop_bits}
+use Rattle.netlist_plans.specs.Contexts.{loop_starting_bits}
 use Rattle.netlist_plans.proofs.Several.{loops_are, loops_long, contexts_fit, few_columns, padded_places}
 use Rattle.netlist_plans.proofs.contexts.plan_contexts.Goals as goal
 
 pub start_contexts-requires-clause-fit : goal.start_contexts-requires-clause-fit
 start_contexts-requires-clause-fit c =
-    let many : length c.deref.result.now ≡ length c.args.starts.now = ap length (c.deref.ensures.value ∙ c.in_ok-loops.ensures) ∙ length-map c.args.starts.now (loop_bits c.args.plan) in
+    let many : length c.deref.result.now ≡ length c.args.starts.now = ap length (c.deref.ensures.value ∙ c.in_ok-loops.ensures) ∙ length-map c.args.starts.now (loop_starting_bits c.args.plan) in
     omega (arith, many, contexts_fit c.args.plan (length c.args.starts.now) c.requires.fit)
 
 pub start_contexts-requires-clause-long : goal.start_contexts-requires-clause-long
@@ -37,7 +37,7 @@ returns-clause-bare c = c.in_ok-plan.ensures.padded.tape ∙ c.requires.planned.
 
 pub returns-clause-padded : goal.returns-clause-padded
 returns-clause-padded c =
-    let many : length c.deref.result.now ≡ length c.args.starts.now = ap length (c.deref.ensures.value ∙ c.in_ok-loops.ensures) ∙ length-map c.args.starts.now (loop_bits c.args.plan) in
+    let many : length c.deref.result.now ≡ length c.args.starts.now = ap length (c.deref.ensures.value ∙ c.in_ok-loops.ensures) ∙ length-map c.args.starts.now (loop_starting_bits c.args.plan) in
     subst (λ n. IsPaddedPlan (contexts_size c.args.plan.latches n) c.args.plan c.in_ok-plan.plan) many c.in_ok-plan.ensures.padded
 
 pub returns-clause-carries : goal.returns-clause-carries

@@ -1,13 +1,13 @@
 use Rattle.std.proofs.Common.{List, subst, sym}
 use Rattle.std.specs.Prelude.{All}
 use Rattle.cell_core.specs.declared.list.CellList.{CellList}
-use Rattle.cell_plans.specs.PlanOf.{IsPlanOfOne, IsShort}
+use Rattle.cell_plans.specs.PlanOf.{IsPlanOfOne, IsPlannable}
 use Rattle.netlist_plans.proofs.OfOne.{is_planned, all_short}
 use Rattle.netlist_plans.proofs.planning.plan_of_cells.Goals as goal
 
 pub best_plan-requires-clause-short : goal.best_plan-requires-clause-short
 best_plan-requires-clause-short c =
-    subst (λ (l : List CellList). All IsShort l) (sym c.deref.ensures.value)
+    subst (λ (l : List CellList). All IsPlannable l) (sym c.deref.ensures.value)
     (all_short c.args.flat.now c.in_ok-lists.lists.items c.requires.weighed c.requires.small c.in_ok-lists.ensures.computes)
 
 pub returns : goal.returns

@@ -2,7 +2,7 @@ use Rattle.std.proofs.Common.{rules, ◌≤◌, ◌≡◌, sym, subst, Bool, tru
 use Rattle.std.specs.Prelude.{All, cond}
 use Rattle.std.proofs.lemmas.List.Elements.{All-push}
 use Rattle.cell_core.specs.Loops.{names_one}
-use Rattle.cell_plans.specs.PlanOf.{IsShort}
+use Rattle.cell_plans.specs.PlanOf.{IsPlannable}
 use Rattle.plan_tests.proofs.choosing.lists_of.Goals as goal
 
 at_most_one : (b : Bool) → cond b 1 0 ≤ 1
@@ -13,5 +13,5 @@ pub loop-one-preserved : goal.loop-one-preserved
 loop-one-preserved c =
     let list = c.in_ok-list.list in
     let items : c.push.new.self.items ≡ c.loop-one.lists.items ++ (list ∷ []) = search rules in
-    let short : IsShort list = omega (arith, at_most_one (names_one list), c.in_ok-list.ensures) in
-    subst (λ l. All IsShort l) (sym items) (All-push IsShort c.loop-one.lists.items list c.loop-one.invariant short)
+    let short : IsPlannable list = omega (arith, at_most_one (names_one list), c.in_ok-list.ensures) in
+    subst (λ l. All IsPlannable l) (sym items) (All-push IsPlannable c.loop-one.lists.items list c.loop-one.invariant short)

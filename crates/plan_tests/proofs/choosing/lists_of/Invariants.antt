@@ -1,6 +1,6 @@
 use Rattle.std.specs.Prelude.{All}
-use Rattle.cell_plans.specs.PlanOf.{IsShort}
+use Rattle.cell_plans.specs.PlanOf.{IsPlannable}
 use Rattle.plan_tests.proofs.choosing.lists_of.Given as goal
 
 abbrev pub invariant-loop-one : goal.invariant-loop-one
-invariant-loop-one l = All IsShort l.lists.items
+invariant-loop-one l = All IsPlannable l.lists.items

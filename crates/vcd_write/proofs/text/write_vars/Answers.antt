@@ -6,7 +6,7 @@ use Rattle.vcd_write.specs.Vcd.{waves_in, vars_text}
 use Rattle.vcd_write.proofs.text.write_vars.Goals as goal
 use Rattle.vcd_write.proofs.Texts.{vars_next, vars_none}
 use Rattle.vcd_text.specs.Reading.{var_line}
-use Rattle.vcd_text.specs.Writing.{id_of}
+use Rattle.vcd_text.specs.Writing.{vcd_id}
 
 pub reference-requires : goal.reference-requires
 reference-requires g c = omega (arith, c.loop-n-test.true, c.len-n-end.ensures)
@@ -17,7 +17,7 @@ returns-in_err-write_var-clause-err g c =
     let f = λ (rest : List ℕ).
     let later : List ℕ = vars_text (waves_in c.args.vcd.now) (n + 1) (length c.args.vcd.now.references - (n + 1)) ++ rest in
     let next = vars_next (waves_in c.args.vcd.now) (held c.loop-n.page) rest n (length c.args.vcd.now.references) (omega (arith, c.loop-n-test.true, c.len-n-end.ensures)) in
-    let here = ap (λ reference. held c.loop-n.page ++ (var_line (record { id = id_of n; reference = reference }) ++ (10 ∷ later))) (sym c.reference.ensures) in
+    let here = ap (λ reference. held c.loop-n.page ++ (var_line (record { id = vcd_id n; reference = reference }) ++ (10 ∷ later))) (sym c.reference.ensures) in
     wrote_broke (wrote_to (next ∙ here) (c.loop-n.invariant rest)) (c.in_err-write_var.ensures.err later) in
     on_err _ f
 
@@ -26,7 +26,7 @@ loop-n-preserved g c = λ rest.
     let n : ℕ = c.loop-n.n in
     let later : List ℕ = vars_text (waves_in c.args.vcd.now) (n + 1) (length c.args.vcd.now.references - (n + 1)) ++ rest in
     let next = vars_next (waves_in c.args.vcd.now) (held c.loop-n.page) rest n (length c.args.vcd.now.references) (omega (arith, c.loop-n-test.true, c.len-n-end.ensures)) in
-    let here = ap (λ reference. held c.loop-n.page ++ (var_line (record { id = id_of n; reference = reference }) ++ (10 ∷ later))) (sym c.reference.ensures) in
+    let here = ap (λ reference. held c.loop-n.page ++ (var_line (record { id = vcd_id n; reference = reference }) ++ (10 ∷ later))) (sym c.reference.ensures) in
     wrote_then (wrote_to (next ∙ here) (c.loop-n.invariant rest)) (c.in_ok-write_var.ensures.ok later)
 
 pub returns-clause-ok : goal.returns-clause-ok

@@ -3,7 +3,7 @@ use Rattle.std.specs.Prelude.{is_some, slice_set}
 use Rattle.std.proofs.lemmas.List.{with_items_is}
 use Rattle.aiger_text.specs.declared.section.SymbolKind.TheVariants.{Input, Latch, Output}
 use Rattle.aiger_text.specs.Symbols.{is_same_kind}
-use Rattle.aiger_reader.specs.Known.{KnowsNames, symbol_of}
+use Rattle.aiger_reader.specs.Known.{KnowsNamesOfKind, symbol_of}
 use Rattle.aiger_reader.proofs.SymbolTables.{IsPutAt, other_kind, put_here, taken}
 use Rattle.aiger_reader.proofs.symbols.NameTables.put.Goals as goal
 
@@ -27,7 +27,7 @@ returns-in-Input-clause-known c counts before k is_put =
       many_inputs = ap length is ∙ here.many ∙ k.many_inputs;
       many_latches = k.many_latches;
       many_outputs = k.many_outputs;
-      inputs = subst (λ (t : List (Option (Bor (List ℕ)))). KnowsNames Input t (before ++ symbol_of c.args.symbol ∷ [])) (sym is) here.knows;
+      inputs = subst (λ (t : List (Option (Bor (List ℕ)))). KnowsNamesOfKind Input t (before ++ symbol_of c.args.symbol ∷ [])) (sym is) here.knows;
       latches = other_kind Latch c.args.self.now.latches.items before (symbol_of c.args.symbol) (ap (is_same_kind Latch) c.in-Input.is) k.latches;
       outputs = other_kind Output c.args.self.now.outputs.items before (symbol_of c.args.symbol) (ap (is_same_kind Output) c.in-Input.is) k.outputs;
     }
@@ -53,7 +53,7 @@ returns-in-Latch-clause-known c counts before k is_put =
       many_latches = ap length is ∙ here.many ∙ k.many_latches;
       many_outputs = k.many_outputs;
       inputs = other_kind Input c.args.self.now.inputs.items before (symbol_of c.args.symbol) (ap (is_same_kind Input) c.in-Latch.is) k.inputs;
-      latches = subst (λ (t : List (Option (Bor (List ℕ)))). KnowsNames Latch t (before ++ symbol_of c.args.symbol ∷ [])) (sym is) here.knows;
+      latches = subst (λ (t : List (Option (Bor (List ℕ)))). KnowsNamesOfKind Latch t (before ++ symbol_of c.args.symbol ∷ [])) (sym is) here.knows;
       outputs = other_kind Output c.args.self.now.outputs.items before (symbol_of c.args.symbol) (ap (is_same_kind Output) c.in-Latch.is) k.outputs;
     }
 
@@ -79,5 +79,5 @@ returns-in-Output-clause-known c counts before k is_put =
       many_outputs = ap length is ∙ here.many ∙ k.many_outputs;
       inputs = other_kind Input c.args.self.now.inputs.items before (symbol_of c.args.symbol) (ap (is_same_kind Input) c.in-Output.is) k.inputs;
       latches = other_kind Latch c.args.self.now.latches.items before (symbol_of c.args.symbol) (ap (is_same_kind Latch) c.in-Output.is) k.latches;
-      outputs = subst (λ (t : List (Option (Bor (List ℕ)))). KnowsNames Output t (before ++ symbol_of c.args.symbol ∷ [])) (sym is) here.knows;
+      outputs = subst (λ (t : List (Option (Bor (List ℕ)))). KnowsNamesOfKind Output t (before ++ symbol_of c.args.symbol ∷ [])) (sym is) here.knows;
     }
