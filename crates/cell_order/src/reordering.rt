@@ -11,7 +11,11 @@ use std::alloc::Global;
 
 // The list with the cells that have come, if all have that its ports read, and they are as many.
 #[tactic(auto, using(crate::proofs::Moves::bits_follow, crate::proofs::Moves::there_follow))]
-fn with_moved(alloc: Global, list: &CellList, moved: Moved) -> Result<Option<CellList>, ReorderError>
+fn with_moved(
+    alloc: Global,
+    list: &CellList,
+    moved: Moved,
+) -> Result<Option<CellList>, ReorderError>
     requires { AreMoved list.now moved.cells.items moved.numbers.items }
     ensures { IfOk result (λ new. IfSome new (ComputeAlike list.now)) }
 {

@@ -26,7 +26,13 @@ fn earlier(found: Option<NetUse>, next: NetUse) -> NetUse
 {
     match found {
         None => next,
-        Some(found) => { if stands_before(next, found) { next } else { found } }
+        Some(found) => {
+            if stands_before(next, found) {
+                next
+            } else {
+                found
+            }
+        }
     }
 }
 

@@ -7,7 +7,7 @@ ghost use Rattle.plan_layout.specs.Layout.{tiling_of};
 ghost use Rattle.plan_layout.specs.Starts.{HasCell, NamesEdge, HasStartEdges};
 
 use lane_core::{Plan, Start};
-use plan_layout::{Edge, is_passed, edge_name};
+use plan_layout::{Edge, edge_name, is_passed};
 
 // The edge that has the cell at this `x` and `y`.
 fn edge_at(x: u64, y: u64) -> Option<Edge>

@@ -35,7 +35,11 @@ fn push_one(bits: &mut Vec<bool>, wanted: bool) -> Result<(), AllocError>
 }
 
 // The bits with which the loops of a plan start, where the latches start with these.
-fn loop_starting_bits(alloc: Global, plan: &Plan, latches: &List<bool>) -> Result<List<bool>, AllocError>
+fn loop_starting_bits(
+    alloc: Global,
+    plan: &Plan,
+    latches: &List<bool>,
+) -> Result<List<bool>, AllocError>
     ensures { IfOk result (λ bits. bits ≡ loop_starting_bits plan.now latches.now) }
 {
     let mut bits = latches.as_slice().to_vec(alloc)?;

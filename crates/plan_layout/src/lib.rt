@@ -17,4 +17,4 @@ pub use edge::Edge;
 pub use layout::slot_at;
 pub use ports::{is_entered, is_left};
 pub use slot::{Piece, Slot};
-pub use starts::{is_passed, is_start, edge_name};
+pub use starts::{edge_name, is_passed, is_start};
