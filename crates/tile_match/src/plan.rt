@@ -3,14 +3,13 @@ ghost use Rattle.std.specs.Prelude.{◌≡◌, ◌<◌, ◌≤◌, ◌-◌, ◌*
 ghost use Rattle.ww_rule.specs.Patterns.{grid_of};
 ghost use Rattle.lane_core.specs.Places.{AreDistinctBelow};
 ghost use Rattle.lane_core.specs.Plans.{input_cells, output_cells};
-ghost use Rattle.tile_match.specs.Blocks.{columns_shown, bits_shown};
 ghost use Rattle.tile_match.specs.Circuit.{HasSomePlan};
 ghost use Rattle.tile_match.specs.Read.{IsRead, IsBodyRead};
 
 use crate::columns::columns_shown;
 use crate::lanes::distinct_lanes;
 use crate::size::{Size, size_in};
-use crate::starts::bits_shown;
+use crate::starts::starts_shown;
 use lane_core::Plan;
 use lists::List;
 use pattern_reading::Ports;
@@ -24,15 +23,16 @@ fn body_shown(alloc: Global, rows: &CellRows, size: Size) -> Result<Plan, AllocE
     ensures { IfOk result (λ plan. IsBodyRead rows.now size.lanes size.columns size.loops plan) }
 {
     let columns = columns_shown(alloc, rows, size.lanes, size.loops, size.columns)?;
-    let starts = bits_shown(alloc, rows, size.lanes, size.loops)?;
+    let starts = starts_shown(alloc, rows, size.lanes, size.loops)?;
     Ok(Plan {
         lanes: size.lanes,
         columns: List::of(columns),
         latches: size.loops,
-        starts: List::of(starts),
+        starts,
         ins: List::of(Vec::new(alloc)),
         outs: List::of(Vec::new(alloc)),
         nets: List::of(Vec::new(alloc)),
+        tape: List::of(Vec::new(alloc)),
     })
 }
 
