@@ -18,7 +18,7 @@ use Rattle.circuit_plans.proofs.Ordered.{where_at_loops}
 use Rattle.lane_core.proofs.Lookup.{columns_apart}
 use Rattle.pattern_reading.specs.declared.ports.Ports.{Ports}
 use Rattle.tile_match.specs.Blocks.{instr_of_cells, is_filled_in, instr_in, column_shown, column_start, columns_shown, bit_shown}
-use Rattle.tile_match.specs.Circuit.{HasBoxAndPorts}
+use Rattle.tile_match.specs.Circuit.{HasBoxAndPorts, HasSomePlan}
 use Rattle.tile_match.specs.Sizes.{IsSizeOfPlan}
 use Rattle.tile_match.specs.Read.{IsPlanRead, IsBodyRead}
 use Rattle.lane_core.specs.Places.{AreDistinctBelow}
@@ -100,6 +100,9 @@ read_ports grid ports plan r = record {
   in_cells = r.in_cells;
   out_cells = r.out_cells;
 }
+
+pub some_plan : (grid : Grid) (ports : Ports) (plan : Plan) → IsPlanRead grid ports plan → plan.nets ≡ [] → HasSomePlan grid ports
+some_plan grid ports plan r none = (plan, read_circuit grid ports plan r none, read_ports grid ports plan r)
 
 -- the ports of a plan with a box and ports
 pub record ArePortsOn (limit x : ℕ) (lines : List PortLine) (lanes : List ℕ) : Type 0 where

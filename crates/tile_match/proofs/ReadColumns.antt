@@ -8,6 +8,7 @@ use Rattle.lane_core.specs.declared.instr.Instr.{Instr}
 use Rattle.lane_core.specs.declared.instr.Column.{Column}
 use Rattle.lane_core.specs.declared.plan.Plan.{Plan}
 use Rattle.circuit_plans.specs.Circuits.{IsCircuit}
+use Rattle.lane_core.specs.Columns.{IsColumnOnLanes}
 use Rattle.lane_core.specs.Instrs.{lane_of, instr_on, are_sorted_apart, IsOnLanes}
 use Rattle.plan_layout.specs.Starts.{start_edges}
 use Rattle.plan_layout.specs.Layout.{instrs_of, body_slot}
@@ -24,6 +25,13 @@ instrs_in column = column.instrs
 
 pub no_column : Column
 no_column = record { instrs = []; sorted_apart = refl }
+
+none_on : (lanes : ℕ) → All (IsOnLanes lanes) []
+none_on lanes = λ k d lt. absurd (omega (arith, lt))
+
+pub no_column_on : (lanes : ℕ) → IsColumnOnLanes lanes no_column
+unfolding no_column
+no_column_on lanes = none_on lanes
 
 -- the instructions of a column are that column's
 instrs_are : (plan : Plan) (c : ℕ) → c < length plan.columns → instrs_of plan c ≡ (get_or plan.columns c no_column).instrs
