@@ -1,16 +1,14 @@
 -- Some circuit has a box and ports just where they have the size of one.
-use Rattle.std.proofs.Common.{◌≡◌, refl, sym, ◌∙◌, ap, ap₂, subst, ⊎_elim, inl, inr, ℕ, zero, suc, ◌+◌, ◌-◌, ◌*◌, ◌<◌, ◌≤◌, Bool, true, false, cond, ◌==◌, List, [], ◌∷◌, map, length, get_or, replicate, arith}
-use Rattle.std.specs.Prelude.{All, AllPairs, ◌↔◌, ◌≢◌}
+use Rattle.std.proofs.Common.{◌≡◌, refl, sym, ◌∙◌, ap, subst, ⊎_elim, inl, inr, ℕ, ◌+◌, ◌-◌, ◌*◌, ◌<◌, false, cond, ◌==◌, List, [], ◌∷◌, map, length, replicate, arith}
+use Rattle.std.specs.Prelude.{All, ◌≢◌}
 use Rattle.std.proofs.lemmas.Bool.{cases_eq}
 use Rattle.std.proofs.lemmas.Bool.Decides.{nat_tests}
 use Rattle.std.proofs.lemmas.List.{get_or-replicate, length-replicate}
 use Rattle.ww_rule.specs.Grid.{Grid}
-use Rattle.lane_core.specs.declared.instr.Column.{Column}
 use Rattle.lane_core.specs.declared.starts.Starts.{Starts}
 use Rattle.lane_core.specs.declared.plan.Plan.{Plan}
 use Rattle.lane_core.specs.Columns.{IsColumnOnLanes}
 use Rattle.lane_core.specs.Places.{AreDistinctBelow}
-use Rattle.lane_core.specs.Plans.{IsAdmissible, row_of}
 use Rattle.lane_core.specs.Tape.{tape_shift}
 use Rattle.lane_core.proofs.Lookup.{columns_apart}
 use Rattle.circuit_plans.specs.Circuits.{IsCircuit, IsLoopStart}
@@ -18,7 +16,7 @@ use Rattle.pattern_reading.specs.declared.ports.PortLine.{PortLine}
 use Rattle.pattern_reading.specs.declared.ports.Ports.{Ports}
 use Rattle.pattern_reading.specs.Ports.{cells_of}
 use Rattle.tile_match.specs.Circuit.{HasBoxAndPorts, HasSomePlan}
-use Rattle.tile_match.specs.Equations.{ArePortsAt, IsBareBox, IsFilledBox, HasSomeSize}
+use Rattle.tile_match.specs.Equations.{IsBareBox, IsFilledBox}
 use Rattle.tile_match.specs.Laws.{SizesAreEquations}
 use Rattle.tile_match.specs.Sizes.{IsSizeOfPlan}
 use Rattle.tile_match.proofs.Sizes.{size_is, filled, bare, bare_height, bare_width}

@@ -57,7 +57,7 @@ pub fn columns_shown(
 ) -> Result<Vec<Column>, AllocError>
     requires { count < 2 ^ 40 }
     ensures { IfOk result (λ columns.
-            map (λ column. column.instrs) columns.items ≡ columns_shown rows.now lanes loops count
+        map (λ column. column.instrs) columns.items ≡ columns_shown rows.now lanes loops count
         ) }
 {
     let mut columns = Vec::new(alloc);

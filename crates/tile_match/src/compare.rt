@@ -50,10 +50,10 @@ fn drawn_run(plan: &Plan, slot: Slot, cells: &[State], y: u64, x: u64, until: u6
     requires some { x < until }
     requires in_row { until ≤ length cells.now }
     ensures drawn { IfSome result (λ count.
-            (1 ≤ count)
-            × (count ≤ 32 - x % 32)
-            × (x + count ≤ until)
-            × IsSpanDrawn plan.now cells.now y x (x + count)
+        (1 ≤ count)
+        × (count ≤ 32 - x % 32)
+        × (x + count ≤ until)
+        × IsSpanDrawn plan.now cells.now y x (x + count)
         ) }
     ensures other { IfNone result (IsSpanDrawn plan.now cells.now y x until → ⊥) }
 {
@@ -84,7 +84,14 @@ fn is_span_drawn(plan: &Plan, slot: Slot, cells: &[State], y: u64, from: u64, un
 }
 
 // Whether the rows of a block are the plan's, as far as `until`.
-fn is_block_drawn(plan: &Plan, slot: Slot, rows: &CellRows, column: u64, lane: u64, until: u64) -> bool
+fn is_block_drawn(
+    plan: &Plan,
+    slot: Slot,
+    rows: &CellRows,
+    column: u64,
+    lane: u64,
+    until: u64,
+) -> bool
     requires admissible { IsAdmissible plan.now }
     requires slot { slot_of slot ≡ drawn_tiling plan.now column lane }
     requires begun { 32 * column ≤ until }
@@ -115,7 +122,14 @@ fn is_lane_drawn(plan: &Plan, rows: &CellRows, width: u64, lane: u64, is_out: bo
 {
     for column in 0..width / 32 + 1 {
         let until = 32 * column + (width - 32 * column).min(32);
-        if !is_block_drawn(plan, slot_in(plan, column, lane, is_out), rows, column, lane, until) {
+        if !is_block_drawn(
+            plan,
+            slot_in(plan, column, lane, is_out),
+            rows,
+            column,
+            lane,
+            until,
+        ) {
             return false;
         }
     }
@@ -131,7 +145,13 @@ pub fn is_drawn(alloc: Global, pattern: &Pattern, plan: &Plan) -> Result<bool, A
 {
     let marks = marks_of(alloc, plan.outs.as_slice(), plan.lanes)?;
     for lane in 0..pattern.rows.len() as u64 / 16 {
-        if !is_lane_drawn(plan, &pattern.rows, pattern.width, lane, is_marked(&marks, lane)) {
+        if !is_lane_drawn(
+            plan,
+            &pattern.rows,
+            pattern.width,
+            lane,
+            is_marked(&marks, lane),
+        ) {
             return Ok(false);
         }
     }

@@ -24,7 +24,7 @@ pub fn are_distinct(alloc: Global, lanes: &[u32], limit: u32) -> Result<bool, Al
 pub fn marks_of(alloc: Global, lanes: &[u32], limit: u32) -> Result<Vec<bool>, AllocError>
     requires below { All (λ lane. lane < limit) lanes.now }
     ensures { IfOk result (λ marks.
-            (lane : ℕ) → get_or marks.items lane false ≡ list_any (λ out. out == lane) lanes.now
+        (lane : ℕ) → get_or marks.items lane false ≡ list_any (λ out. out == lane) lanes.now
         ) }
 {
     let mut marks = vec![in alloc; false; limit as usize]?;

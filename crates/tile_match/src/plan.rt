@@ -43,9 +43,9 @@ pub fn plan_shown(
     ports: &Ports,
 ) -> Result<Option<Plan>, AllocError>
     ensures { IfOk result (λ found.
-            MatchOption found (HasSomePlan (grid_of pattern.now) ports.now → ⊥) (λ plan.
-                IsPlanRead (grid_of pattern.now) ports.now plan × (plan.nets ≡ [])
-            )
+        MatchOption found (HasSomePlan (grid_of pattern.now) ports.now → ⊥) (λ plan.
+        IsPlanRead (grid_of pattern.now) ports.now plan × (plan.nets ≡ [])
+        )
         ) }
 {
     if ports.c != 1 {

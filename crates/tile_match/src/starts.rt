@@ -43,7 +43,7 @@ pub fn starts_shown(
 ) -> Result<Starts, AllocError>
     requires { loops ≤ lanes }
     ensures { IfOk result (λ starts.
-            starts.list ≡ starts_where lanes loops (bit_shown rows.now lanes loops)
+        starts.list ≡ starts_where lanes loops (bit_shown rows.now lanes loops)
         ) }
 {
     let bits = bits_shown(alloc, rows, lanes, loops)?;

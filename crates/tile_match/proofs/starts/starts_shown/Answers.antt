@@ -1,4 +1,4 @@
-use Rattle.std.proofs.Common.{◌≡◌, ◌∙◌, subst, IfOk, ℕ, List, length, arith}
+use Rattle.std.proofs.Common.{◌≡◌, ◌∙◌, subst, IfOk, List, length, arith}
 use Rattle.lane_core.specs.declared.starts.Start.{Start}
 use Rattle.tile_match.proofs.ReadStarts.{starts_of_shown, shown_long}
 use Rattle.tile_match.proofs.starts.starts_shown.Goals as goal
