@@ -15,6 +15,7 @@ use Rattle.pattern_writing.specs.WrittenText.{pattern_text}
 use Rattle.place_paths.specs.Paths.{names_and_paths}
 use Rattle.plan_ports.specs.Tables.{IsTableOf, driven_inputs, drawn_input_cells, named_paths}
 use Rattle.carries.specs.FlatNets.{CarriesFlat}
+use Rattle.netlist_plans.specs.Lists.{IsPlanned}
 use Rattle.netlist_plans.specs.Planned.{ComputesCells, IsSmall}
 use Rattle.aiger_text.specs.declared.aig.Aig.{Aig}
 use Rattle.aiger_meaning.specs.FlatOf.{IsFlatOfAig}
@@ -50,13 +51,13 @@ module _ (alike : FlatsOfAigsAskAlike) (carried : AigsAreCarried) (aig : Aig) (f
     };
   }
 
-  pub is_plan : IsAdmissible plan → HasStartEdges plan → plan.tape ≡ [] → ComputesCells flat plan → IsSmall flat plan → IsTableOf flat plan 1 ports
+  pub is_plan : IsAdmissible plan → HasStartEdges plan → plan.tape ≡ [] → IsPlanned flat plan → ComputesCells flat plan → IsSmall flat plan → IsTableOf flat plan 1 ports
       → (length flat.latches ≡ 0 → any_needs_one flat ≡ false → ports.p ≡ 32) → CarriesFlat (pattern_text (start_grid plan) ports) flat → IsPlanOfAig aig plan ports
-  is_plan admissible edges bare cells small table short carries = record {
+  is_plan admissible edges bare planned cells small table short carries = record {
     admissible = admissible;
     edges = edges;
     bare = bare;
-    cells = record { flat = flat; is_flat = is_flat; cells = cells };
+    planned = record { flat = flat; is_flat = is_flat; planned = planned; cells = cells };
     lanes = subst (λ w. plan.lanes ≤ 4 * w + 4) lowered.weight small.lanes;
     columns = subst (λ w. length plan.columns ≤ 256 * ((w + 1) * (w + 1))) lowered.weight small.columns;
     instrs = subst (λ w. instr_count plan.columns ≤ 256 * ((w + 1) * (w + 1))) lowered.weight small.instrs;

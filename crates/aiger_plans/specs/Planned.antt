@@ -10,6 +10,7 @@ use Rattle.pattern_reading.specs.Ports.{cells_of}
 use Rattle.pattern_writing.specs.WrittenText.{pattern_text}
 use Rattle.plan_ports.specs.Tables.{drawn_input_cells, drawn_output_cells}
 use Rattle.netlist_core.specs.declared.flat.Flat.{Flat}
+use Rattle.netlist_plans.specs.Lists.{IsPlanned}
 use Rattle.netlist_plans.specs.Planned.{ComputesCells}
 use Rattle.aiger_text.specs.declared.aig.Aig.{Aig}
 use Rattle.aiger_meaning.specs.Circuit.{aig_weight}
@@ -27,21 +28,22 @@ pub record IsTableOfAig (aig : Aig) (plan : Plan) (ports : Ports) : Type 0 where
   pub out_cells : cells_of ports.outs ≡ drawn_output_cells plan
   pub names : NamesAig ports aig
 
--- the plan computes the cells of the flat netlist of the circuit
-pub record ComputesCellsOfAig (aig : Aig) (plan : Plan) : Type 0 where
+-- A list of cells computes the flat netlist of the circuit, and so its outputs and what its latches read next; the plan is one of the list.
+pub record IsPlannedAig (aig : Aig) (plan : Plan) : Type 0 where
   pub flat : Flat
   pub is_flat : IsFlatOfAig aig flat
+  pub planned : IsPlanned flat plan
   pub cells : ComputesCells flat plan
 
--- The plan can be drawn, starts at its start edges and has no tape. It computes the circuit's cells: so it has a loop for each latch, and
--- exactly where constant 1 is named one more. It is small, by the circuit's weight w: at most 4 w + 4 lanes, and at most
--- 256 (w + 1) (w + 1) columns, and as many instructions. The table is the plan's. Its period is 32 where the circuit has no latch and needs
--- no constant 1. The text that is written of the plan and the table carries the circuit.
+-- The plan can be drawn, its starts are edges of its drawing, and it has no tape. It is one of cells that compute the circuit: so it has a
+-- loop for each latch, and exactly where constant 1 is named one more. It is small, by the circuit's weight w: at most 4 w + 4 lanes, and
+-- at most 256 (w + 1) (w + 1) columns, and as many instructions. The table is the plan's. Its period is 32 where the circuit has no latch
+-- and needs no constant 1. The text that is written of the plan and the table carries the circuit.
 pub record IsPlanOfAig (aig : Aig) (plan : Plan) (ports : Ports) : Type 0 where
   pub admissible : IsAdmissible plan
   pub edges : HasStartEdges plan
   pub bare : plan.tape ≡ []
-  pub cells : ComputesCellsOfAig aig plan
+  pub planned : IsPlannedAig aig plan
   pub lanes : plan.lanes ≤ 4 * aig_weight aig + 4
   pub columns : length plan.columns ≤ 256 * ((aig_weight aig + 1) * (aig_weight aig + 1))
   pub instrs : instr_count plan.columns ≤ 256 * ((aig_weight aig + 1) * (aig_weight aig + 1))
