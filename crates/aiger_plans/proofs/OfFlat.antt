@@ -7,7 +7,7 @@ use Rattle.plan_layout.specs.Starts.{HasStartEdges}
 use Rattle.grid_assembly.specs.PlanDrawing.{start_grid}
 use Rattle.cell_plans.specs.Counts.{instr_count}
 use Rattle.netlist_core.specs.declared.flat.Flat.{Flat}
-use Rattle.netlist_meaning.specs.Flat.{listed_nets, names_of_ports}
+use Rattle.netlist_meaning.specs.Flat.{names_of_ports}
 use Rattle.cell_meaning.specs.Needs.{any_needs_one}
 use Rattle.pattern_reading.specs.declared.ports.NetLine.{NetLine}
 use Rattle.pattern_reading.specs.declared.ports.Ports.{Ports}
