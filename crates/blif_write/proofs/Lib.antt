@@ -1,0 +1,4 @@
+mod Counted
+mod NamedWords
+mod Pieces
+mod TextsRead

@@ -41,10 +41,10 @@ fn write_words<O: Sink>(
 ) -> Result<(), Failed>
     ensures ok { OnOk result ((rest : List ℕ) →
         Wrote (O.written sink.old) (O.written sink.new) (O.faults sink.old) (O.faults sink.new)
-        (held page.old ++ (spaced (map (word_in lift.now) words.now) ++ rest)) (held page.new ++ rest)) }
+        (held page.old ++ (spaced (word_in lift.now) words.now ++ rest)) (held page.new ++ rest)) }
     ensures err { OnErr result ((rest : List ℕ) →
         Broke (O.written sink.old) (O.written sink.new) (O.faults sink.old) (O.faults sink.new)
-        (held page.old ++ (spaced (map (word_in lift.now) words.now) ++ rest))) }
+        (held page.old ++ (spaced (word_in lift.now) words.now ++ rest))) }
 {
     for word in words {
         write_after_space(sink, page, lift, *word)?;
@@ -61,10 +61,10 @@ fn write_names<O: Sink>(
 ) -> Result<(), Failed>
     ensures ok { OnOk result ((rest : List ℕ) →
         Wrote (O.written sink.old) (O.written sink.new) (O.faults sink.old) (O.faults sink.new)
-        (held page.old ++ (spaced (names_of ports.now) ++ rest)) (held page.new ++ rest)) }
+        (held page.old ++ (spaced (λ port. port.name) ports.now ++ rest)) (held page.new ++ rest)) }
     ensures err { OnErr result ((rest : List ℕ) →
         Broke (O.written sink.old) (O.written sink.new) (O.faults sink.old) (O.faults sink.new)
-        (held page.old ++ (spaced (names_of ports.now) ++ rest))) }
+        (held page.old ++ (spaced (λ port. port.name) ports.now ++ rest))) }
 {
     for port in ports {
         write_after_space(sink, page, lift, LineWord::Bytes(port.name.as_slice()))?;

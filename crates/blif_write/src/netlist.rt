@@ -56,16 +56,10 @@ pub fn write_latches<O: Sink>(sink: &mut O, page: &mut Page, lift: &Lift) -> Res
         Broke (O.written sink.old) (O.written sink.new) (O.faults sink.old) (O.faults sink.new)
         (held page.old ++ lines_text (latch_lines (mark_in lift.now) (ins_in lift.now) n 0 lift.now.list.latches lift.now.list.starts more))) }
 {
-    let (latches, starts) = (&lift.list.latches, &lift.list.starts);
-    for number in 0..latches.len() {
-        write_latch(
-            sink,
-            page,
-            lift,
-            number,
-            *latches.get(number),
-            *starts.get(number),
-        )?;
+    for number in 0..lift.list.latches.len() {
+        let source = *lift.list.latches.get(number);
+        let start = *lift.list.starts.get(number);
+        write_latch(sink, page, lift, number, source, start)?;
     }
     Ok(())
 }
@@ -145,7 +139,8 @@ pub fn write_gates<O: Sink>(sink: &mut O, page: &mut Page, lift: &Lift) -> Resul
         (held page.old ++ lines_text (cell_lines (mark_in lift.now) (ins_in lift.now) n 0 lift.now.list.cells more))) }
 {
     for number in 0..lift.list.cells.len() {
-        write_gate(sink, page, lift, number, *lift.list.cells.get(number))?;
+        let cell = *lift.list.cells.get(number);
+        write_gate(sink, page, lift, number, cell)?;
     }
     Ok(())
 }
@@ -179,10 +174,10 @@ pub fn write_outputs<O: Sink>(sink: &mut O, page: &mut Page, lift: &Lift) -> Res
         Broke (O.written sink.old) (O.written sink.new) (O.faults sink.old) (O.faults sink.new)
         (held page.old ++ lines_text (lines_of_outputs (mark_in lift.now) (ins_in lift.now) n (names_of lift.now.ports.now.outs) lift.now.list.outs))) }
 {
-    let ports = lift.ports.outs.as_slice();
     for number in 0..lift.list.outs.len() {
-        let name = ports[number].name.as_slice();
-        write_output(sink, page, lift, *lift.list.outs.get(number), name)?;
+        let source = *lift.list.outs.get(number);
+        let name = lift.ports.outs.get(number).name.as_slice();
+        write_output(sink, page, lift, source, name)?;
     }
     write_line(sink, page, lift, b".end", &[])
 }
