@@ -1,5 +1,5 @@
 -- The lines of a lifted netlist are numbered from 1.
-use Rattle.std.proofs.Common.{◌≡◌, refl, sym, ap, subst, ℕ, suc, ◌+◌, Bool, List, [], ◌∷◌, ◌++◌, map, length, arith, absurd}
+use Rattle.std.proofs.Common.{◌≡◌, refl, sym, ap, subst, ℕ, suc, ◌+◌, Bool, List, [], ◌∷◌, ◌++◌, map, length, arith}
 use Rattle.std.specs.Prelude.{codes}
 use Rattle.std.proofs.Math.Numerals.{add-one}
 use Rattle.netlist_core.specs.Names.{Name}

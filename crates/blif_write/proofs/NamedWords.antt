@@ -1,6 +1,6 @@
 -- The words of lifted lines are words of a text, where the names of ports are.
-use Rattle.std.proofs.Common.{◌≡◌, refl, ap, ap₂, ◌∙◌, ℕ, zero, suc, ◌+◌, ◌<◌, ◌≤◌, ◌^◌, Bool, true, false, ◌&&◌, ◌||◌, not, List, [], ◌∷◌, ◌++◌, map, length, get_or, replicate, arith, absurd, true≢false, sym}
-use Rattle.std.specs.Prelude.{codes, decimal, ◌==◌, IsTrue}
+use Rattle.std.proofs.Common.{◌≡◌, refl, ap, ap₂, ◌∙◌, ℕ, zero, suc, ◌+◌, ◌<◌, ◌≤◌, ◌^◌, Bool, true, false, ◌&&◌, ◌||◌, not, List, [], ◌∷◌, ◌++◌, map, length, get_or, replicate, arith, true≢false, sym}
+use Rattle.std.specs.Prelude.{codes, decimal, nat_le, ◌==◌}
 use Rattle.std.specs.List.{list_all, list_any}
 use Rattle.std.specs.Char.{is_ascii_digit}
 use Rattle.std.proofs.lemmas.Bool.{and_from, and_parts, leb-true, ltb-true, ne_eqb}
@@ -65,8 +65,8 @@ some_is_word (b ∷ w) some e = plain_is_word b w e
 
 digit_plain : (b : ℕ) → is_ascii_digit b ≡ true → is_plain b ≡ true
 digit_plain b e =
-    let low : 48 ≤ b = leb-true _ _ (and_parts _ _ e).0 in
-    let high : b ≤ 57 = leb-true _ _ (and_parts _ _ e).1 in
+    let low : 48 ≤ b = leb-true 48 b (and_parts (nat_le 48 b) (nat_le b 57) e).0 in
+    let high : b ≤ 57 = leb-true b 57 (and_parts (nat_le 48 b) (nat_le b 57) e).1 in
     rw (
       ne_eqb b 92 (λ h. omega (arith, high, h)),
       ne_eqb b 9 (λ h. omega (arith, low, h)),
@@ -193,8 +193,10 @@ module _ (k : ℕ) (ins : List Name) (inputs latches : ℕ) (long : length ins �
 words_with_mark : (k : ℕ) (ins outs : List Name) (list : CellList) → length ins ≡ list.inputs → list_all is_word ins ≡ true → list_all is_word outs ≡ true → length list.cells < 2 ^ 64
     → length list.latches < 2 ^ 64 → AreWords (lines_with_mark (replicate k 95) ins outs list)
 words_with_mark k ins outs list long ins_own outs_own few_cells few_latches =
-    let p = replicate k 95 in
+    let p : List ℕ = replicate k 95 in
     let loops : length list.starts < 2 ^ 64 = omega (arith, few_latches, list.starts_fit) in
+    let all_latches : 0 + length list.latches < 2 ^ 64 = omega (arith, few_latches) in
+    let all_cells : 0 + length list.cells < 2 ^ 64 = omega (arith, few_cells) in
     let after_latches = 5 + length list.latches in
     let past = line_past_cells after_latches list.cells in
     let outputs = lines_of_outputs p ins past outs list.outs in
@@ -207,8 +209,8 @@ words_with_mark k ins outs list long ins_own outs_own few_cells few_latches =
     (word_line 2 (codes ".inputs") ins (outs_line ∷ zero_line ∷ latches) refl ins_own
     (word_line 3 (codes ".outputs") outs (zero_line ∷ latches) refl outs_own
     (word_line 4 (codes ".names") (zero_name p ∷ []) latches refl (and_word (zero_name p) [] (marked_word k 122 [] refl refl) refl)
-    (word_latches k ins list.inputs (length list.starts) long loops ins_own (length list.cells) 5 0 list.latches list.starts cells few_cells few_latches list.latches_there
-    (word_cells k ins list.inputs (length list.starts) long loops ins_own after_latches 0 list.cells outputs few_cells list.in_order
+    (word_latches k ins list.inputs (length list.starts) long loops ins_own (length list.cells) 5 0 list.latches list.starts cells few_cells all_latches list.latches_there
+    (word_cells k ins list.inputs (length list.starts) long loops ins_own after_latches 0 list.cells outputs all_cells list.in_order
     (word_outputs k ins list.inputs (length list.starts) long loops ins_own (length list.cells) past outs list.outs few_cells outs_own list.outs_there))))))
 
 pub lifted_are_words : (ins outs : List Name) (list : CellList) → length ins ≡ list.inputs → list_all is_word ins ≡ true → list_all is_word outs ≡ true → length list.cells < 2 ^ 64

@@ -1,12 +1,10 @@
 -- What is left of the text of lines, piece by piece.
 use Rattle.std.proofs.Common.{◌≡◌, refl, sym, ap, ap₂, ◌∙◌, ℕ, suc, ◌+◌, ◌-◌, ◌<◌, ◌≤◌, Bool, List, [], ◌∷◌, ◌++◌, map, drop, length, replicate, arith, append_assoc, drop_of_length-le}
-use Rattle.std.specs.Prelude.{Option, Some, slice_get, option_map, codes}
+use Rattle.std.specs.Prelude.{Option, Some, slice_get, codes}
 use Rattle.std.proofs.Math.Numerals.{add-one}
 use Rattle.std.proofs.lemmas.List.{drop_more}
-use Rattle.std.proofs.lemmas.Option.{slice_get_within, get_or_from_slice_get, slice_get-map}
+use Rattle.std.proofs.lemmas.Option.{slice_get_within, get_or_from_slice_get}
 use Rattle.netlist_core.specs.Names.{Name}
-use Rattle.pattern_reading.specs.declared.ports.PortLine.{PortLine}
-use Rattle.pattern_reading.specs.Ports.{names_of}
 use Rattle.blif_text.specs.declared.logical.Logical.{Logical}
 use Rattle.cell_core.specs.declared.cells.Src.{Src}
 use Rattle.cell_core.specs.declared.cells.Cell.{Cell}
@@ -17,7 +15,7 @@ use Rattle.lifted_lines.specs.Lines.{worded_line, row, rows_then, cell_lines, li
 use Rattle.lifted_lines.specs.Words.{words_line}
 use Rattle.blif_write.specs.Text.{lines_text}
 use Rattle.blif_write.specs.Marks.{mark_after}
-use Rattle.blif_write.specs.Words.{spaced, mark_in, ins_in, head_then}
+use Rattle.blif_write.specs.Words.{spaced, mark_in, head_then}
 use Rattle.blif_write.specs.Lifts.{text_of_lift}
 use Rattle.blif_write.specs.declared.lift.Lift.{Lift}
 
@@ -48,6 +46,15 @@ words_spaced word w (x ∷ items) rest =
 pub line_joined : {X : Type 0} (word : X → List ℕ) (here : List ℕ) (n : ℕ) (w : List ℕ) (items : List X) (more : List Logical)
     → here ++ lines_text (worded_line n (w ∷ map word items) ∷ more) ≡ here ++ (w ++ (spaced word items ++ (10 ∷ lines_text more)))
 line_joined word here n w items more = ap (λ l. here ++ l) (words_spaced word w items (lines_text more))
+
+own_words : (ws : List (List ℕ)) → map (λ w. w) ws ≡ ws
+own_words [] = refl
+own_words (w ∷ ws) = ap (λ vs. w ∷ vs) (own_words ws)
+
+pub names_joined : (here : List ℕ) (n : ℕ) (w : List ℕ) (names : List (List ℕ)) (more : List Logical)
+    → here ++ lines_text (worded_line n (w ∷ names) ∷ more) ≡ here ++ (w ++ (spaced (λ name. name) names ++ (10 ∷ lines_text more)))
+names_joined here n w names more =
+    ap (λ ws. here ++ lines_text (worded_line n (w ∷ ws) ∷ more)) (sym (own_words names)) ∙ line_joined (λ name. name) here n w names more
 
 -- what is left of a list begins with the item that is read
 drop_at : {X : Type 0} (xs : List X) (i : ℕ) (x : X) → slice_get xs i ≡ Some x → drop i xs ≡ x ∷ drop (i + 1) xs
@@ -126,9 +133,9 @@ module _ (p : List ℕ) (ins : List Name) where
       → here ++ lines_text (lines_of_outputs p ins n (drop i names) (drop i sources)) ≡ here ++ lines_text (worded_line n (codes ".end" ∷ []) ∷ [])
   outputs_none here n i names sources past = ap (λ ns. here ++ lines_text (lines_of_outputs p ins n ns (drop i sources))) (drop_of_length-le names past)
 
--- a name of ports
-pub name_at : (ports : List PortLine) (i : ℕ) (port : PortLine) {name : Name} → slice_get ports i ≡ Some port → name ≡ port.name → slice_get (names_of ports) i ≡ Some name
-name_at ports i port e same = slice_get-map (λ line. line.name) ports i ∙ ap (option_map (λ line. line.name)) e ∙ ap Some (sym same)
+-- an item by another name
+pub same_at : {X : Type 0} (xs : List X) (i : ℕ) {x y : X} → slice_get xs i ≡ Some x → y ≡ x → slice_get xs i ≡ Some y
+same_at xs i e same = e ∙ ap Some (sym same)
 
 -- the first line of a gate
 pub gate_line : (p : List ℕ) (ins : List Name) (here : List ℕ) (n number : ℕ) (cell : Cell) (more : List Logical) {a b : Src} → a ≡ first_of cell → b ≡ second_of cell
@@ -140,15 +147,15 @@ gate_line p ins here n number cell more e f =
 -- the lines of a lift, part by part
 abbrev pub output_lines : Lift → List Logical
 output_lines lift =
-    lines_of_outputs (mark_in lift) (ins_in lift) (line_past_cells (5 + length lift.list.latches) lift.list.cells) (names_of lift.ports.now.outs) lift.list.outs
+    lines_of_outputs (mark_in lift) lift.ins (line_past_cells (5 + length lift.list.latches) lift.list.cells) lift.outs lift.list.outs
 
 abbrev pub gate_lines : Lift → List Logical
-gate_lines lift = cell_lines (mark_in lift) (ins_in lift) (5 + length lift.list.latches) 0 lift.list.cells (output_lines lift)
+gate_lines lift = cell_lines (mark_in lift) lift.ins (5 + length lift.list.latches) 0 lift.list.cells (output_lines lift)
 
 abbrev pub loop_lines : Lift → List Logical
-loop_lines lift = latch_lines (mark_in lift) (ins_in lift) 5 0 lift.list.latches lift.list.starts (gate_lines lift)
+loop_lines lift = latch_lines (mark_in lift) lift.ins 5 0 lift.list.latches lift.list.starts (gate_lines lift)
 
 pub text_start : (lift : Lift) (here : List ℕ) → here ≡ [] → text_of_lift lift ≡ here ++ lines_text (head_then lift (loop_lines lift))
 text_start lift here none =
-    ap (λ most. lines_text (lines_with_mark (mark_after most) (ins_in lift) (names_of lift.ports.now.outs) lift.list)) (sym lift.marked)
+    ap (λ most. lines_text (lines_with_mark (mark_after most) lift.ins lift.outs lift.list)) (sym lift.marked)
     ∙ ap (λ h. h ++ lines_text (head_then lift (loop_lines lift))) (sym none)

@@ -9,11 +9,11 @@ use Rattle.blif_write.proofs.lines.write_names.Goals as goal
 pub returns-in_err-write_after_space-clause-err : goal.returns-in_err-write_after_space-clause-err
 returns-in_err-write_after_space-clause-err g c =
     let f = λ (rest : List ℕ).
-    let next = piece_next (λ x. 32 ∷ (λ port. port.name) x) (held c.loop-port.page) c.args.ports.now c.loop-port.port-index c.port-item.result rest c.loop-port-test.true in
-    wrote_broke (wrote_to next (c.loop-port.invariant rest)) (c.in_err-write_after_space.ensures.err (spaced (λ port. port.name) (drop (c.loop-port.port-index + 1) c.args.ports.now) ++ rest)) in
+    let next = piece_next (λ x. 32 ∷ (λ name. name) x) (held c.loop-name.page) c.args.names.now c.loop-name.name-index c.name-item.result rest c.loop-name-test.true in
+    wrote_broke (wrote_to next (c.loop-name.invariant rest)) (c.in_err-write_after_space.ensures.err (spaced (λ name. name) (drop (c.loop-name.name-index + 1) c.args.names.now) ++ rest)) in
     on_err _ f
 
-pub loop-port-preserved : goal.loop-port-preserved
-loop-port-preserved g c = λ rest.
-    let next = piece_next (λ x. 32 ∷ (λ port. port.name) x) (held c.loop-port.page) c.args.ports.now c.loop-port.port-index c.port-item.result rest c.loop-port-test.true in
-    wrote_then (wrote_to next (c.loop-port.invariant rest)) (c.in_ok-write_after_space.ensures.ok (spaced (λ port. port.name) (drop (c.loop-port.port-index + 1) c.args.ports.now) ++ rest))
+pub loop-name-preserved : goal.loop-name-preserved
+loop-name-preserved g c = λ rest.
+    let next = piece_next (λ x. 32 ∷ (λ name. name) x) (held c.loop-name.page) c.args.names.now c.loop-name.name-index c.name-item.result rest c.loop-name-test.true in
+    wrote_then (wrote_to next (c.loop-name.invariant rest)) (c.in_ok-write_after_space.ensures.ok (spaced (λ name. name) (drop (c.loop-name.name-index + 1) c.args.names.now) ++ rest))

@@ -7,10 +7,9 @@ use Rattle.lists.proofs.Results.{on_err}
 use Rattle.ww_base.specs.Pages.{held}
 use Rattle.ww_base.proofs.Steps.{wrote_then, wrote_broke, wrote_to, wrote_as, broke_as}
 use Rattle.blif_text.specs.declared.logical.Logical.{Logical}
-use Rattle.pattern_reading.specs.Ports.{names_of}
 use Rattle.lifted_lines.specs.Lines.{worded_line, row, rows_then, cell_lines, latch_lines, lines_of_outputs}
 use Rattle.blif_write.specs.Text.{lines_text}
-use Rattle.blif_write.specs.Words.{ins_in, mark_in}
+use Rattle.blif_write.specs.Words.{mark_in}
 use Rattle.blif_write.proofs.Pieces as pieces
 use Rattle.blif_write.proofs.netlist.write_output.Goals as goal
 
