@@ -88,9 +88,7 @@ pub fn tapes_print_alike()
 /// no name of a port is bad: so of it a run ends with status 0, or 7 for want of memory, or where a read or a write fails.
 pub fn compiled_are_lifted()
     ensures { CompiledAreLifted }
-{
-    written_text_reads();
-}
+{}
 
 /// What `lift` writes of a text is one netlist, and what `simulate` prints of the text is what `eval` prints of that
 /// netlist under the same words.
@@ -100,6 +98,5 @@ pub fn lifted_print_alike()
 {
     carriers_show_runs();
     streams_match();
-    texts_are_decided();
     draws_one_plan();
 }
