@@ -64,7 +64,9 @@ fn broken_rule<'a>(
 
 /// The fault of models, if they have one.
 pub fn first_fault(alloc: Global, models: &[Model]) -> Result<Option<Fault>, AllocError>
-    ensures { IfOk result (λ found. MatchOption found (AreFaultless models.now) (HasModelFault models.now)) }
+    ensures { IfOk result (λ found.
+        MatchOption found (AreFaultless models.now) (HasModelFault models.now)
+        ) }
 {
     if let Some(fault) = no_model(alloc, models)? {
         return Ok(Some(fault));

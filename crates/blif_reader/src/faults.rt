@@ -92,7 +92,8 @@ fn mixed_word<'a>(
     row: Option<&'a Logical>,
     line: &'a Logical,
 ) -> Option<&'a [u8]>
-    ensures { option_copied result ≡ mixed_word (option_copied directive.entry) (option_copied row.entry) line.now }
+    ensures { option_copied result
+        ≡ mixed_word (option_copied directive.entry) (option_copied row.entry) line.now }
 {
     if is_row(line) && is_cover(directive) && differs_from_first(row, line) {
         Some(first_word(line))

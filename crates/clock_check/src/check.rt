@@ -17,7 +17,9 @@ use std::alloc::Global;
 // Whether all latches have one clock.
 fn check_latches(alloc: Global, flat: &Flat) -> Result<(), ClockError>
     requires { IsInRange flat.now }
-    ensures fault { (fault : rules.Fault) → IsErrOf result (ClockError.Fault fault) → IsFlatClockFault flat.now fault }
+    ensures fault { (fault : rules.Fault)
+        → IsErrOf result (ClockError.Fault fault)
+        → IsFlatClockFault flat.now fault }
     ensures one { OnOk result (HasOneFlatClock flat.now) }
 {
     match other_clock(flat) {
@@ -33,7 +35,9 @@ fn check_latches(alloc: Global, flat: &Flat) -> Result<(), ClockError>
 fn check_uses(alloc: Global, flat: &Flat) -> Result<(), ClockError>
     requires in_range { IsInRange flat.now }
     requires one_clock { HasOneFlatClock flat.now }
-    ensures fault { (fault : rules.Fault) → IsErrOf result (ClockError.Fault fault) → IsFlatClockFault flat.now fault }
+    ensures fault { (fault : rules.Fault)
+        → IsErrOf result (ClockError.Fault fault)
+        → IsFlatClockFault flat.now fault }
     ensures unused { OnOk result ((line : ℕ) (word : Name) → ¬ IsFlatClockRead flat.now line word) }
 {
     let clocks = ClockClasses::new(alloc, flat)?;
@@ -50,7 +54,9 @@ fn check_uses(alloc: Global, flat: &Flat) -> Result<(), ClockError>
 /// where there is none, the earliest use of a clock net by a node, as a latch's data or as an output.
 pub fn check_clock(alloc: Global, flat: &Flat) -> Result<(), ClockError>
     requires in_range { IsInRange flat.now }
-    ensures fault { (fault : rules.Fault) → IsErrOf result (ClockError.Fault fault) → IsFlatClockFault flat.now fault }
+    ensures fault { (fault : rules.Fault)
+        → IsErrOf result (ClockError.Fault fault)
+        → IsFlatClockFault flat.now fault }
     ensures none { OnOk result ((fault : rules.Fault) → ¬ IsFlatClockFault flat.now fault) }
 {
     check_latches(alloc, flat)?;

@@ -23,7 +23,9 @@ pub fn source_of(sources: &[Option<Src>], class: usize) -> Option<Src>
 
 // Adds the source of a class, if it has one.
 fn push_source(found: &mut Vec<Src>, sources: &[Option<Src>], class: usize) -> Result<(), MapError>
-    ensures { OnOk result (found.new.items ≡ found.old.items ++ option_to_list (get_or sources.now class None)) }
+    ensures { OnOk result (
+        found.new.items ≡ found.old.items ++ option_to_list (get_or sources.now class None)
+        ) }
 {
     if let Some(source) = source_of(sources, class) {
         found.push(source)?;
@@ -38,7 +40,9 @@ pub fn sources_of_nets(
     sources: &[Option<Src>],
     ids: &[NetId],
 ) -> Result<Vec<Src>, MapError>
-    ensures { IfOk result (λ found. found.items ≡ sources_at sources.now (map (class_of flat.now) ids.now)) }
+    ensures { IfOk result (λ found.
+        found.items ≡ sources_at sources.now (map (class_of flat.now) ids.now)
+        ) }
 {
     let mut found = Vec::with_capacity(alloc, ids.len())?;
     for id in ids {
@@ -54,7 +58,9 @@ pub fn sources_of_ports(
     sources: &[Option<Src>],
     ports: &[FlatPort],
 ) -> Result<Vec<Src>, MapError>
-    ensures { IfOk result (λ found. found.items ≡ sources_at sources.now (port_classes flat.now ports.now)) }
+    ensures { IfOk result (λ found.
+        found.items ≡ sources_at sources.now (port_classes flat.now ports.now)
+        ) }
 {
     let mut found = Vec::with_capacity(alloc, ports.len())?;
     for port in ports {

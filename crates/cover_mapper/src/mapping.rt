@@ -84,7 +84,9 @@ pub fn map(alloc: Global, flat: &Flat, order: &Order) -> Result<Mapped, MapError
     requires ordered { IsOrder flat.now order.now.nodes }
     ensures mapped { IfOk result (λ m. IsMappedWith flat.now m.list m.singles.items) }
     ensures few { IfOk result (λ m. length m.list.cells ≤ 2 * flat.now.weight) }
-    ensures ports { IfOk result (λ m. m.list.inputs + length m.list.outs + 2 * length m.list.starts ≤ flat.now.weight) }
+    ensures ports { IfOk result (λ m.
+        m.list.inputs + length m.list.outs + 2 * length m.list.starts ≤ flat.now.weight
+        ) }
     ensures bits { IfOk result (λ m. (inputs state : List Bool) (bits : ℕ → Bool)
         → IsFlatValuation flat.now inputs state bits → HasBits flat.now m.list inputs state bits) }
 {

@@ -58,7 +58,9 @@ fn sources_of_singles(
     sources: &[Option<Src>],
     nodes: &[Node],
 ) -> Result<Vec<Src>, MapError>
-    ensures { IfOk result (λ found. found.items ≡ filter_map (single_source flat.now sources.now) nodes.now) }
+    ensures { IfOk result (λ found.
+        found.items ≡ filter_map (single_source flat.now sources.now) nodes.now
+        ) }
 {
     let mut found = Vec::new(alloc);
     for node in nodes {

@@ -16,7 +16,9 @@ pub struct Word<'a> {
 
 // Adds a name.
 fn push_name<'a>(words: &mut Vec<Word<'a>>, line: u64, name: &'a Name) -> Result<(), AllocError>
-    ensures { OnOk result (as_ports words.new.items ≡ as_ports words.old.items ++ at_line line name.now ∷ []) }
+    ensures { OnOk result (
+        as_ports words.new.items ≡ as_ports words.old.items ++ at_line line name.now ∷ []
+        ) }
 {
     words.push(Word {
         line,
@@ -27,7 +29,9 @@ fn push_name<'a>(words: &mut Vec<Word<'a>>, line: u64, name: &'a Name) -> Result
 
 // Adds names of one line.
 fn push_names<'a>(words: &mut Vec<Word<'a>>, line: u64, names: &'a [Name]) -> Result<(), AllocError>
-    ensures { OnOk result (as_ports words.new.items ≡ as_ports words.old.items ++ map (at_line line) names.now) }
+    ensures { OnOk result (
+        as_ports words.new.items ≡ as_ports words.old.items ++ map (at_line line) names.now
+        ) }
 {
     for name in names {
         push_name(words, line, name)?;
@@ -72,7 +76,9 @@ fn push_subckt<'a>(words: &mut Vec<Word<'a>>, line: &'a Subckt) -> Result<(), Al
 }
 
 fn push_covers<'a>(words: &mut Vec<Word<'a>>, covers: &'a [Cover]) -> Result<(), AllocError>
-    ensures { OnOk result (as_ports words.new.items ≡ as_ports words.old.items ++ flat_map cover_words covers.now) }
+    ensures { OnOk result (
+        as_ports words.new.items ≡ as_ports words.old.items ++ flat_map cover_words covers.now
+        ) }
 {
     for cover in covers {
         push_cover(words, cover)?;
@@ -81,7 +87,9 @@ fn push_covers<'a>(words: &mut Vec<Word<'a>>, covers: &'a [Cover]) -> Result<(),
 }
 
 fn push_latches<'a>(words: &mut Vec<Word<'a>>, latches: &'a [LatchRow]) -> Result<(), AllocError>
-    ensures { OnOk result (as_ports words.new.items ≡ as_ports words.old.items ++ flat_map latch_words latches.now) }
+    ensures { OnOk result (
+        as_ports words.new.items ≡ as_ports words.old.items ++ flat_map latch_words latches.now
+        ) }
 {
     for latch in latches {
         push_latch(words, latch)?;
@@ -90,7 +98,9 @@ fn push_latches<'a>(words: &mut Vec<Word<'a>>, latches: &'a [LatchRow]) -> Resul
 }
 
 fn push_subckts<'a>(words: &mut Vec<Word<'a>>, lines: &'a [Subckt]) -> Result<(), AllocError>
-    ensures { OnOk result (as_ports words.new.items ≡ as_ports words.old.items ++ flat_map subckt_words lines.now) }
+    ensures { OnOk result (
+        as_ports words.new.items ≡ as_ports words.old.items ++ flat_map subckt_words lines.now
+        ) }
 {
     for line in lines {
         push_subckt(words, line)?;

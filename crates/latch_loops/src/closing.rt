@@ -21,7 +21,9 @@ use std::alloc::Global;
 pub fn most_contexts(columns: &[Column], program: &Program) -> u64
     requires few { length columns.now < 2 ^ 40 }
     ensures exact { result ≡ contexts_limit columns.now program.now }
-    ensures period { (plan : plan_of.Plan) → IsClosed program.now columns.now 1 plan → period_of plan ≡ 32 * result }
+    ensures period { (plan : plan_of.Plan)
+        → IsClosed program.now columns.now 1 plan
+        → period_of plan ≡ 32 * result }
 {
     let _lanes = program.lanes;
     let loops = program.latches.len() as u64;

@@ -28,7 +28,9 @@ fn outputs_of(alloc: Global, flat: &Flat, nodes: &[usize]) -> Result<Vec<NetId>,
 pub fn outputs_back(alloc: Global, flat: &Flat, nodes: &[usize]) -> Result<List<NetId>, AllocError>
     requires in_range { IsInRange flat.now }
     requires nodes { All (λ n. n < length flat.now.nodes) nodes.now }
-    ensures { IfOk result (AreFirstsFor flat.now (reverse (map (λ n. (node_at flat.now n).out) nodes.now))) }
+    ensures { IfOk result (
+        AreFirstsFor flat.now (reverse (map (λ n. (node_at flat.now n).out) nodes.now))
+        ) }
 {
     let firsts = first_nets(alloc, flat)?;
     let mut nets = outputs_of(alloc, flat, nodes)?;

@@ -34,7 +34,10 @@ fn push_loop(
     requires fit { length starts.now ≤ contexts_on_ways plan.now }
     requires long { All (λ bits. length bits ≡ plan.now.latches) starts.now }
     requires known { number < plan.now.latches }
-    ensures { OnOk result (found.new.items ≡ found.old.items ++ starts_of_loop plan.now starts.now number (length starts.now)) }
+    ensures { OnOk result (
+        found.new.items
+        ≡ found.old.items ++ starts_of_loop plan.now starts.now number (length starts.now)
+        ) }
 {
     let lane = (plan.lanes - plan.latches) as u64 + number as u64;
     let mut edge = Edge::Beside(plan.latches as u64, lane);

@@ -117,7 +117,10 @@ fn shown_by(
     requires in_box { AreInBox (start_grid planned.now.plan).width (start_grid planned.now.plan).height (cells_of planned.now.ports.ins) }
     requires quiet { IsQuietUnder planned.now streams.now }
     ensures near { OnOk result (last_generation planned.now.ports streams.now ≤ greatest_generation) }
-    ensures bits { IfOk result (λ bits. bits ≡ shown_bits planned.now.ports streams.now (plane_of (start_grid planned.now.plan).rows)) }
+    ensures bits { IfOk result (λ bits.
+        bits
+        ≡ shown_bits planned.now.ports streams.now (plane_of (start_grid planned.now.plan).rows)
+        ) }
     ensures refused { IfErr result (HasTooFarCause (last_generation planned.now.ports streams.now)) }
 {
     let Ok(pattern) = pattern_of(alloc, &planned.plan) else {
@@ -166,7 +169,10 @@ fn told_by(
     requires many { length streams.now.bits ≡ length netlist.flat.ins }
     requires long { All (λ bits. length bits ≡ streams.now.cycles) streams.now.bits }
     requires quiet { IsQuietUnder planned.now streams.now }
-    requires outputs { length (shown_bits planned.now.ports streams.now (plane_of (start_grid planned.now.plan).rows)) ≡ length (main_outputs netlist.design) }
+    requires outputs { length (
+        shown_bits planned.now.ports streams.now (plane_of (start_grid planned.now.plan).rows)
+        )
+        ≡ length (main_outputs netlist.design) }
     ensures told { IfOk result (IsToldOf netlist planned.now streams.now) }
     ensures refused { IfErr result (HasTooFarCause (last_generation planned.now.ports streams.now)) }
 {

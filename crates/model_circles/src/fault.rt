@@ -21,7 +21,9 @@ fn joined_names(
 ) -> Result<Vec<u8>, AllocError>
     requires first { first < length models.now }
     requires others { All (λ n. n < length models.now) others.now }
-    ensures { IfOk result (λ word. word.items ≡ join_with_byte 32 (map (name_at models.now) (first ∷ others.now))) }
+    ensures { IfOk result (λ word.
+        word.items ≡ join_with_byte 32 (map (name_at models.now) (first ∷ others.now))
+        ) }
 {
     let mut word = models[first].name.as_slice().to_vec(alloc)?;
     for n in others {

@@ -104,7 +104,9 @@ impl Search {
     ) -> Result<Vec<usize>, AllocError>
         requires search { IsSearchOf models.now first self.now }
         requires place { place < length self.now.found.items }
-        ensures { IfOk result (λ way. IsWayBack models.now first (get_or self.now.found.items place 0) way.items) }
+        ensures { IfOk result (λ way.
+            IsWayBack models.now first (get_or self.now.found.items place 0) way.items
+            ) }
     {
         let mut way = Vec::new(alloc);
         let mut at = place;

@@ -13,7 +13,9 @@ use std::alloc::{AllocError, Global};
 
 // Adds the outputs of some covers.
 fn push_cover_outputs<'a>(words: &mut Vec<Word<'a>>, covers: &'a [Cover]) -> Result<(), AllocError>
-    ensures { OnOk result (word_ports words.new.items ≡ word_ports words.old.items ++ map cover_output covers.now) }
+    ensures { OnOk result (
+        word_ports words.new.items ≡ word_ports words.old.items ++ map cover_output covers.now
+        ) }
 {
     for cover in covers {
         words.push(Word {
@@ -29,7 +31,9 @@ fn push_latch_outputs<'a>(
     words: &mut Vec<Word<'a>>,
     latches: &'a [LatchRow],
 ) -> Result<(), AllocError>
-    ensures { OnOk result (word_ports words.new.items ≡ word_ports words.old.items ++ map latch_output latches.now) }
+    ensures { OnOk result (
+        word_ports words.new.items ≡ word_ports words.old.items ++ map latch_output latches.now
+        ) }
 {
     for latch in latches {
         words.push(Word {

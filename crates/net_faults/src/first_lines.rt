@@ -117,7 +117,9 @@ impl FirstLines {
 
     /// Whether the name stands on any line.
     pub fn has_name(&self, names: &Numbering<'_>, name: &[u8]) -> bool
-        ensures { (ports : List Port) → AreFirstLines names.now self.now ports → result ≡ is_named ports name.now }
+        ensures { (ports : List Port)
+            → AreFirstLines names.now self.now ports
+            → result ≡ is_named ports name.now }
     {
         match names.find(name) {
             None => false,

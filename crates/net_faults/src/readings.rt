@@ -13,7 +13,9 @@ use std::alloc::{AllocError, Global};
 
 // Adds the inputs of a cover.
 fn push_cover_inputs<'a>(words: &mut Vec<Word<'a>>, cover: &'a Cover) -> Result<(), AllocError>
-    ensures { OnOk result (word_ports words.new.items ≡ word_ports words.old.items ++ cover_readings cover.now) }
+    ensures { OnOk result (
+        word_ports words.new.items ≡ word_ports words.old.items ++ cover_readings cover.now
+        ) }
 {
     for name in cover.ins.as_slice() {
         words.push(Word {
@@ -26,7 +28,9 @@ fn push_cover_inputs<'a>(words: &mut Vec<Word<'a>>, cover: &'a Cover) -> Result<
 
 // Adds the data and the control of a latch.
 fn push_latch_inputs<'a>(words: &mut Vec<Word<'a>>, latch: &'a LatchRow) -> Result<(), AllocError>
-    ensures { OnOk result (word_ports words.new.items ≡ word_ports words.old.items ++ latch_readings latch.now) }
+    ensures { OnOk result (
+        word_ports words.new.items ≡ word_ports words.old.items ++ latch_readings latch.now
+        ) }
 {
     words.push(Word {
         line: latch.line,

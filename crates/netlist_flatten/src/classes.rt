@@ -84,7 +84,9 @@ fn classes_at(
 pub fn classes_of(alloc: Global, numbers: &Numbers<'_>) -> Result<Vec<u32>, AllocError>
     requires faultless { AreFaultless numbers.now.models }
     requires few { weight numbers.now < 2 ^ 32 }
-    ensures { IfOk result (λ classes. classes.items ≡ map (class_of_net numbers.now) (nets_in_order numbers.now)) }
+    ensures { IfOk result (λ classes.
+        classes.items ≡ map (class_of_net numbers.now) (nets_in_order numbers.now)
+        ) }
 {
     let mut classes = Vec::new(alloc);
     for at in 0..numbers.len() {

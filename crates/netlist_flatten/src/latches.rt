@@ -14,7 +14,9 @@ use std::alloc::{AllocError, Global};
 // A latch at a place.
 fn latch_of(numbers: &Numbers<'_>, at: usize, latch: &LatchRow) -> FlatLatch
     requires place { at < length (places_in_order numbers.now) }
-    requires nets { All (λ name. IsNet numbers.now (net_at (place_at numbers.now at) name)) (latch_names latch.now) }
+    requires nets { All (λ name.
+        IsNet numbers.now (net_at (place_at numbers.now at) name)
+        ) (latch_names latch.now) }
     ensures { result ≡ flat_latch numbers.now (place_at numbers.now at) latch.now }
 {
     let control = match &latch.control {

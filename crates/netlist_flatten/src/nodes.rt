@@ -40,7 +40,9 @@ fn node_of(
     cover: &Cover,
 ) -> Result<Node, AllocError>
     requires place { at < length (places_in_order numbers.now) }
-    requires nets { All (λ name. IsNet numbers.now (net_at (place_at numbers.now at) name)) (cover_names cover.now) }
+    requires nets { All (λ name.
+        IsNet numbers.now (net_at (place_at numbers.now at) name)
+        ) (cover_names cover.now) }
     ensures { IfOk result (λ node. node ≡ flat_node numbers.now (place_at numbers.now at) cover.now) }
 {
     Ok(Node {

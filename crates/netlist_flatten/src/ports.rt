@@ -115,7 +115,9 @@ pub fn flat_ports(
     requires faultless { AreFaultless numbers.now.models }
     requires classes { classes.now ≡ map (class_of_net numbers.now) (nets_in_order numbers.now) }
     requires latches { latches.now ≡ at_places numbers.now (λ model. model.latches) (flat_latch numbers.now) }
-    ensures ins { IfOk result (λ ports. AreInputs numbers.now (main_ports (λ model. model.ins) numbers.now) ports.ins) }
+    ensures ins { IfOk result (λ ports.
+        AreInputs numbers.now (main_ports (λ model. model.ins) numbers.now) ports.ins
+        ) }
     ensures outs { IfOk result (λ ports.
         ports.outs ≡ map (flat_port numbers.now) (main_ports (λ model. model.outs) numbers.now)
         ) }

@@ -28,7 +28,8 @@ fn empty(alloc: Global, inputs: u32) -> CellList {
 }
 
 fn are_there(list: &CellList, sources: &[Src]) -> bool
-    ensures { result ≡ are_there list.now.inputs (length list.now.starts) (length list.now.cells) sources.now }
+    ensures { result
+        ≡ are_there list.now.inputs (length list.now.starts) (length list.now.cells) sources.now }
 {
     sources.iter().all(|src| {
         src.is_there(list.inputs as usize, list.starts.len(), list.cells.len())

@@ -9,7 +9,8 @@ use std::alloc::{AllocError, Global};
 use std::test::Fail;
 
 fn are_there(list: &CellList, sources: &[Src]) -> bool
-    ensures { result ≡ are_there list.now.inputs (length list.now.starts) (length list.now.cells) sources.now }
+    ensures { result
+        ≡ are_there list.now.inputs (length list.now.starts) (length list.now.cells) sources.now }
 {
     sources.iter().all(|src| {
         src.is_there(list.inputs as usize, list.starts.len(), list.cells.len())

@@ -76,7 +76,8 @@ pub fn spelled_table_laws()
 
 /// A header and items that are spelled are read as the pattern that they spell, however the items are cut into lines.
 pub fn spelled_pattern_laws()
-    ensures pattern { (header : List ℕ) (lines : List (List SpelledItem)) (rest : List ℕ) → HasSpelledPattern header lines rest }
+    ensures pattern { (header : List ℕ) (lines : List (List SpelledItem)) (rest : List ℕ)
+        → HasSpelledPattern header lines rest }
     ensures header { (grid : Grid) → HasSpelledHeader grid }
     ensures count { (count tag : ℕ) → HasSpelledCount count tag }
 {}

@@ -56,7 +56,8 @@ fn bytes_before_feed(text: &[u8]) -> usize
 pub fn split_line(lines_before: u64, text: &[u8]) -> (Line<'_>, &[u8])
     requires room { lines_before + length text.now < 2 ^ 64 }
     requires some { 0 < length text.now }
-    ensures lines { lines_from (lines_before + 1) (with_line_feeds text.now) ≡ line_of result.0 ∷ lines_from (lines_before + 1 + 1) (with_line_feeds result.1.now) }
+    ensures lines { lines_from (lines_before + 1) (with_line_feeds text.now)
+        ≡ line_of result.0 ∷ lines_from (lines_before + 1 + 1) (with_line_feeds result.1.now) }
     ensures number { result.0.number ≡ lines_before + 1 }
     ensures shorter { length result.1.now < length text.now }
 {

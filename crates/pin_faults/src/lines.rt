@@ -17,7 +17,9 @@ fn push_lines<'a>(lines: &mut Vec<&'a Subckt>, model: &'a Model) -> Result<(), A
 
 /// The subckt lines of the first model, then those of the next.
 pub fn subckt_lines(alloc: Global, models: &[Model]) -> Result<Vec<&Subckt>, AllocError>
-    ensures { IfOk result (λ lines. lines_now lines.items ≡ flat_map (λ (model : Model). model.subckts) models.now) }
+    ensures { IfOk result (λ lines.
+        lines_now lines.items ≡ flat_map (λ (model : Model). model.subckts) models.now
+        ) }
 {
     let mut lines = Vec::new(alloc);
     for model in models {

@@ -8,7 +8,9 @@ use std::alloc::{AllocError, Global};
 
 // Puts each number after a text, with a dot before it.
 fn push_inner(text: &mut Vec<u8>, numbers: &[u32]) -> Result<(), AllocError>
-    ensures { OnOk result (text.new.items ≡ text.old.items ++ flat_map (λ number. 46 ∷ decimal number) numbers.now) }
+    ensures { OnOk result (
+        text.new.items ≡ text.old.items ++ flat_map (λ number. 46 ∷ decimal number) numbers.now
+        ) }
 {
     for number in numbers {
         let mut digits = Buffer::new();

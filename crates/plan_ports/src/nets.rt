@@ -20,7 +20,10 @@ use std::alloc::Global;
 fn net_line(alloc: Global, plan: &Plan, i: usize, net: &Net) -> Result<NetLine, PortsError>
     requires admissible { IsAdmissible plan.now }
     requires known { i < length plan.now.nets }
-    ensures cell { IfOk result (λ line. (line.x, line.y, line.offset) ≡ moved_east (tape_shift plan.now) (net_cell_of plan.now i)) }
+    ensures cell { IfOk result (λ line.
+        (line.x, line.y, line.offset)
+        ≡ moved_east (tape_shift plan.now) (net_cell_of plan.now i)
+        ) }
     ensures name { IfOk result (λ line. line.name ≡ net.now.name) }
     ensures path { IfOk result (λ line. line.path ≡ paths.path_of net.now.place) }
 {
@@ -42,7 +45,9 @@ fn plain_lines(alloc: Global, flat: &Flat, plan: &Plan) -> Result<Vec<NetLine>, 
     requires admissible { IsAdmissible plan.now }
     requires many { length plan.now.nets ≡ length (nets_but_clocks flat.now) }
     ensures cells { IfOk result (λ lines. net_cells_of lines.items ≡ drawn_net_cells plan.now) }
-    ensures names { IfOk result (λ lines. paths.names_and_paths lines.items ≡ named_paths (nets_but_clocks flat.now)) }
+    ensures names { IfOk result (λ lines.
+        paths.names_and_paths lines.items ≡ named_paths (nets_but_clocks flat.now)
+        ) }
 {
     let clocks = ClockClasses::new(alloc, flat)?;
     let mut lines = Vec::with_capacity(alloc, plan.nets.len())?;
@@ -61,7 +66,9 @@ pub fn net_lines(alloc: Global, flat: &Flat, plan: &Plan) -> Result<Vec<NetLine>
     requires admissible { IsAdmissible plan.now }
     requires ports { HasPortsOf flat.now plan.now }
     ensures cells { IfOk result (λ lines. net_cells_of lines.items ≡ drawn_net_cells plan.now) }
-    ensures names { IfOk result (λ lines. paths.names_and_paths lines.items ≡ named_paths (listed_nets flat.now)) }
+    ensures names { IfOk result (λ lines.
+        paths.names_and_paths lines.items ≡ named_paths (listed_nets flat.now)
+        ) }
 {
     if !flat.listed {
         return Ok(Vec::new(alloc));

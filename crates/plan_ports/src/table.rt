@@ -51,8 +51,12 @@ fn driven_lines(alloc: Global, flat: &Flat, plan: &Plan) -> Result<Vec<PortLine>
     requires there { All (λ port. IsNetId flat.now port.net) flat.now.ins }
     requires admissible { IsAdmissible plan.now }
     requires ports { HasPortsOf flat.now plan.now }
-    ensures cells { IfOk result (λ lines. cells_of lines.items ≡ driven_inputs plan.now (drawn_input_cells plan.now)) }
-    ensures names { IfOk result (λ lines. names_of lines.items ≡ driven_inputs plan.now (names_of_ports flat.now flat.now.ins)) }
+    ensures cells { IfOk result (λ lines.
+        cells_of lines.items ≡ driven_inputs plan.now (drawn_input_cells plan.now)
+        ) }
+    ensures names { IfOk result (λ lines.
+        names_of lines.items ≡ driven_inputs plan.now (names_of_ports flat.now flat.now.ins)
+        ) }
 {
     if plan.tape.len() > 0 {
         return Ok(Vec::new(alloc));

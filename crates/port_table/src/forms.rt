@@ -188,7 +188,10 @@ fn named_port(
     y: &[u8],
     name: &[u8],
 ) -> Result<Option<PortForm>, AllocError>
-    ensures { IfOk result (λ form. option_map form_of form ≡ form_of_fields version (kind.now ∷ x.now ∷ y.now ∷ name.now ∷ [])) }
+    ensures { IfOk result (λ form.
+        option_map form_of form
+        ≡ form_of_fields version (kind.now ∷ x.now ∷ y.now ∷ name.now ∷ [])
+        ) }
 {
     let is_input = kind == b"IN".as_slice();
     if !is_input && kind != b"OUT".as_slice() {
@@ -233,7 +236,9 @@ fn form_of_fields(
     version: TableVersion,
     fields: &[&[u8]],
 ) -> Result<Option<PortForm>, AllocError>
-    ensures { IfOk result (λ form. option_map form_of form ≡ form_of_fields version (map (λ f. f.now) fields.now)) }
+    ensures { IfOk result (λ form.
+        option_map form_of form ≡ form_of_fields version (map (λ f. f.now) fields.now)
+        ) }
 {
     match *fields {
         [kind, x, y, name] => named_port(alloc, version, kind, x, y, name),
@@ -250,7 +255,9 @@ fn form_of_fields(
 
 // The first eight parts of an entry between its spaces: no form has more than seven.
 fn fields_of(alloc: Global, entry: &[u8]) -> Result<Vec<&[u8]>, AllocError>
-    ensures { IfOk result (λ fields. map (λ f. f.now) fields.items ≡ take 8 (slice_split (λ b. b == byte " ") entry.now)) }
+    ensures { IfOk result (λ fields.
+        map (λ f. f.now) fields.items ≡ take 8 (slice_split (λ b. b == byte " ") entry.now)
+        ) }
 {
     entry.split(|b| *b == b' ').take(8).collect(alloc)
 }
@@ -261,7 +268,10 @@ pub fn form_in(
     version: TableVersion,
     entry: &[u8],
 ) -> Result<Option<PortForm>, AllocError>
-    ensures { IfOk result (λ form. option_map form_of form ≡ form_of_fields version (slice_split (λ b. b == byte " ") entry.now)) }
+    ensures { IfOk result (λ form.
+        option_map form_of form
+        ≡ form_of_fields version (slice_split (λ b. b == byte " ") entry.now)
+        ) }
 {
     let fields = fields_of(alloc, entry)?;
     form_of_fields(alloc, version, &fields)

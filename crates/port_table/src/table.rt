@@ -66,7 +66,9 @@ fn table_line(
     version: TableVersion,
     line: Line<'_>,
 ) -> Result<Option<TableLine>, AllocError>
-    ensures { IfOk result (λ found. option_map table_line_of found ≡ table_line version (line_of line.entry)) }
+    ensures { IfOk result (λ found.
+        option_map table_line_of found ≡ table_line version (line_of line.entry)
+        ) }
 {
     match table_entry(line.bytes) {
         None => Ok(None),

@@ -43,7 +43,8 @@ impl Drawing {
 
     // Whether so many cells from the next item's place on lie in the box.
     fn has_room(&self, count: u64) -> bool
-        ensures { result ≡ (nat_le (self.now.x + count) self.now.width && nat_lt self.now.y self.now.height) }
+        ensures { result
+            ≡ (nat_le (self.now.x + count) self.now.width && nat_lt self.now.y self.now.height) }
     {
         count <= self.width && self.x <= self.width - count && self.y < self.height
     }

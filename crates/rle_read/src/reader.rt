@@ -26,7 +26,9 @@ const MOST_CELLS: u128 = 268_435_456;
 fn split_header(text: &[u8]) -> Result<(Line<'_>, &[u8]), RleFault>
     requires { length text.now < 2 ^ 64 }
     ensures found { IfOk result (λ parts. IsHeaderAt text.now parts) }
-    ensures none { IfErr result (λ fault. (header_line text.now ≡ None) × HasRleFault text.now fault.kind fault.line) }
+    ensures none { IfErr result (λ fault.
+        (header_line text.now ≡ None) × HasRleFault text.now fault.kind fault.line
+        ) }
 {
     let mut rest = text;
     let mut lines = 0;

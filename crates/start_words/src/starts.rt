@@ -41,9 +41,15 @@ impl Starts {
         contexts: u64,
     ) -> Result<Starts, StartError>
         requires { length flat.now.latches < 2 ^ 32 }
-        ensures starts { IfOk result (λ starts. AreBitsSet (flat_latches flat.now) starts.bits (map string_bytes words.now)) }
-        ensures sound { OnOk result (first_fault (flat_latches flat.now) contexts (map string_bytes words.now) ≡ None) }
-        ensures fault { IfErr result (HasStartCause (flat_latches flat.now) contexts (map string_bytes words.now)) }
+        ensures starts { IfOk result (λ starts.
+            AreBitsSet (flat_latches flat.now) starts.bits (map string_bytes words.now)
+            ) }
+        ensures sound { OnOk result (
+            first_fault (flat_latches flat.now) contexts (map string_bytes words.now) ≡ None
+            ) }
+        ensures fault { IfErr result (
+            HasStartCause (flat_latches flat.now) contexts (map string_bytes words.now)
+            ) }
     {
         let mut bits = BTreeMap::new(alloc);
         for word in words {
@@ -59,7 +65,9 @@ impl Starts {
 
     // The bit with which a latch starts in a context: the one that is set, else its init.
     fn bit(&self, flat: &Flat, latch: &FlatLatch, context: u64) -> bool
-        ensures { (words : List (List ℕ)) → AreBitsSet (flat_latches flat.now) self.now.bits words → result ≡ flat_start_bit flat.now words context latch.now }
+        ensures { (words : List (List ℕ))
+            → AreBitsSet (flat_latches flat.now) self.now.bits words
+            → result ≡ flat_start_bit flat.now words context latch.now }
     {
         let class = output_class(flat, latch);
         match self.bits.get(&(context, class)) {
@@ -70,7 +78,11 @@ impl Starts {
 
     // The bits with which the latches start in a context, in order.
     fn in_context(&self, alloc: Global, flat: &Flat, context: u64) -> Result<List<bool>, AllocError>
-        ensures { IfOk result (λ bits. (words : List (List ℕ)) → AreBitsSet (flat_latches flat.now) self.now.bits words → bits ≡ flat_start_bits flat.now words context) }
+        ensures { IfOk result (λ bits.
+            (words : List (List ℕ))
+            → AreBitsSet (flat_latches flat.now) self.now.bits words
+            → bits ≡ flat_start_bits flat.now words context
+            ) }
     {
         let latches = flat.latches.as_slice();
         let mut bits = Vec::with_capacity(alloc, latches.len())?;
@@ -88,7 +100,11 @@ impl Starts {
         flat: &Flat,
         contexts: u64,
     ) -> Result<List<List<bool>>, AllocError>
-        ensures { IfOk result (λ starts. (words : List (List ℕ)) → AreBitsSet (flat_latches flat.now) self.now.bits words → starts ≡ flat_starts flat.now words contexts) }
+        ensures { IfOk result (λ starts.
+            (words : List (List ℕ))
+            → AreBitsSet (flat_latches flat.now) self.now.bits words
+            → starts ≡ flat_starts flat.now words contexts
+            ) }
     {
         let mut starts = Vec::new(alloc);
         for context in 0..contexts {

@@ -54,7 +54,9 @@ fn one_bit(bytes: &[u8]) -> Option<bool>
 
 // Whether a word has set the latch in the context.
 fn is_latch_set(set: &BTreeMap<(u64, u32), bool>, context: u64, class: u32) -> bool
-    ensures { (latches : Latches) (before : List (List ℕ)) → AreBitsSet latches set.now before → result ≡ list_any (sets latches context class) before }
+    ensures { (latches : Latches) (before : List (List ℕ))
+        → AreBitsSet latches set.now before
+        → result ≡ list_any (sets latches context class) before }
 {
     set.contains_key(&(context, class))
 }
@@ -67,12 +69,24 @@ pub fn start_in(
     word: &[u8],
 ) -> Result<LatchStart, StartFaultKind>
     requires { length flat.now.latches < 2 ^ 32 }
-    ensures sound { IfOk result (λ start. (before : List (List ℕ)) → AreBitsSet (flat_latches flat.now) set.now before → start_word_fault (flat_latches flat.now) contexts before word.now ≡ None) }
-    ensures unset { IfOk result (λ start. (before : List (List ℕ)) → AreBitsSet (flat_latches flat.now) set.now before → list_any (sets (flat_latches flat.now) start.context start.class) before ≡ false) }
+    ensures sound { IfOk result (λ start.
+        (before : List (List ℕ))
+        → AreBitsSet (flat_latches flat.now) set.now before
+        → start_word_fault (flat_latches flat.now) contexts before word.now ≡ None
+        ) }
+    ensures unset { IfOk result (λ start.
+        (before : List (List ℕ))
+        → AreBitsSet (flat_latches flat.now) set.now before
+        → list_any (sets (flat_latches flat.now) start.context start.class) before ≡ false
+        ) }
     ensures context { IfOk result (λ start. start.context ≡ context_in word.now) }
     ensures class { IfOk result (λ start. flat_latches flat.now (net_of_word word.now) ≡ Some start.class) }
     ensures bit { IfOk result (λ start. start.bit ≡ is_char_one (bits_in word.now)) }
-    ensures fault { IfErr result (λ kind. (before : List (List ℕ)) → AreBitsSet (flat_latches flat.now) set.now before → start_word_fault (flat_latches flat.now) contexts before word.now ≡ Some kind) }
+    ensures fault { IfErr result (λ kind.
+        (before : List (List ℕ))
+        → AreBitsSet (flat_latches flat.now) set.now before
+        → start_word_fault (flat_latches flat.now) contexts before word.now ≡ Some kind
+        ) }
 {
     let Some((name, bits)) = cut(word) else {
         return Err(StartFaultKind::NoEquals);

@@ -43,8 +43,14 @@ pub fn bits_by_input<'a>(
     contexts: u64,
 ) -> Result<BTreeMap<(u64, &'a [u8]), &'a [u8]>, StreamError>
     ensures bits { IfOk result (λ given. AreBitsOf contexts given (map string_bytes words.now)) }
-    ensures sound { IfOk result (λ given. stream_faults_after contexts names.now cycles [] (map string_bytes words.now) ≡ []) }
-    ensures fault { IfErr result (HasWordFault (stream_faults_after contexts names.now cycles [] (map string_bytes words.now))) }
+    ensures sound { IfOk result (λ given.
+        stream_faults_after contexts names.now cycles [] (map string_bytes words.now) ≡ []
+        ) }
+    ensures fault { IfErr result (
+        HasWordFault (
+        stream_faults_after contexts names.now cycles [] (map string_bytes words.now)
+        )
+        ) }
 {
     let known = names_of(alloc, names)?;
     let mut given = BTreeMap::new(alloc);

@@ -34,7 +34,9 @@ fn bits_for<'a>(
     context: u64,
     name: &'a [u8],
 ) -> Option<&'a [u8]>
-    ensures { (contexts : ℕ) (words : List (List ℕ)) → AreBitsOf contexts given.now words → option_copied result ≡ bits_for contexts words (context, name.now) }
+    ensures { (contexts : ℕ) (words : List (List ℕ))
+        → AreBitsOf contexts given.now words
+        → option_copied result ≡ bits_for contexts words (context, name.now) }
 {
     given.get(&(context, name)).copied()
 }
@@ -116,7 +118,9 @@ impl Streams {
     ) -> Result<Streams, StreamError>
         ensures cycles { IfOk result (λ streams. streams.cycles ≡ cycles) }
         ensures contexts { IfOk result (λ streams. streams.c ≡ c) }
-        ensures streams { IfOk result (λ streams. HasStreams c (map string_bytes words.now) names.now cycles streams.bits) }
+        ensures streams { IfOk result (λ streams.
+            HasStreams c (map string_bytes words.now) names.now cycles streams.bits
+            ) }
         ensures many { IfOk result (λ streams. length streams.bits ≡ c * length names.now) }
         ensures long { IfOk result (λ streams. All (λ bits. length bits ≡ cycles) streams.bits) }
         ensures fault { IfErr result (HasStreamCause c (map string_bytes words.now) names.now cycles) }

@@ -34,7 +34,9 @@ fn is_input(known: &BTreeSet<&[u8]>, name: &[u8]) -> bool
 
 // Whether a word has given this input its bits.
 fn is_taken<'a>(given: &BTreeMap<(u64, &'a [u8]), &'a [u8]>, context: u64, name: &'a [u8]) -> bool
-    ensures { (contexts : ℕ) (before : List (List ℕ)) → AreBitsOf contexts given.now before → result ≡ list_any (is_word_for contexts context name.now) before }
+    ensures { (contexts : ℕ) (before : List (List ℕ))
+        → AreBitsOf contexts given.now before
+        → result ≡ list_any (is_word_for contexts context name.now) before }
 {
     given.contains_key(&(context, name))
 }
@@ -47,13 +49,32 @@ pub fn cut_sound<'a>(
     contexts: u64,
     word: &'a [u8],
 ) -> Result<StreamWord<'a>, StreamFaultKind>
-    ensures sound { IfOk result (λ cut. (names before : List (List ℕ)) → AreNamesOf known.now names → AreBitsOf contexts given.now before → fault_of_word contexts names cycles before word.now ≡ None) }
-    ensures untaken { IfOk result (λ cut. (before : List (List ℕ)) → AreBitsOf contexts given.now before → list_any (is_word_for contexts (context_of_word contexts word.now) (input_of_word contexts word.now)) before ≡ false) }
-    ensures is_cut { IfOk result (λ cut. (list_any is_equals_sign word.now && names_context contexts (name_in word.now)) ≡ true) }
+    ensures sound { IfOk result (λ cut.
+        (names before : List (List ℕ))
+        → AreNamesOf known.now names
+        → AreBitsOf contexts given.now before
+        → fault_of_word contexts names cycles before word.now ≡ None
+        ) }
+    ensures untaken { IfOk result (λ cut.
+        (before : List (List ℕ))
+        → AreBitsOf contexts given.now before
+        → list_any (
+        is_word_for contexts (context_of_word contexts word.now) (input_of_word contexts word.now)
+        ) before
+        ≡ false
+        ) }
+    ensures is_cut { IfOk result (λ cut.
+        (list_any is_equals_sign word.now && names_context contexts (name_in word.now)) ≡ true
+        ) }
     ensures context { IfOk result (λ cut. cut.context ≡ context_of_word contexts word.now) }
     ensures name { IfOk result (λ cut. cut.name.now ≡ input_of_word contexts word.now) }
     ensures bits { IfOk result (λ cut. cut.bits.now ≡ bits_in word.now) }
-    ensures fault { IfErr result (λ kind. (names before : List (List ℕ)) → AreNamesOf known.now names → AreBitsOf contexts given.now before → fault_of_word contexts names cycles before word.now ≡ Some kind) }
+    ensures fault { IfErr result (λ kind.
+        (names before : List (List ℕ))
+        → AreNamesOf known.now names
+        → AreBitsOf contexts given.now before
+        → fault_of_word contexts names cycles before word.now ≡ Some kind
+        ) }
 {
     let Some((numbered, bits)) = cut(word) else {
         return Err(StreamFaultKind::NoEquals);

@@ -57,7 +57,9 @@ impl DueBits {
 
     /// Takes the earliest bit.
     pub fn take_earliest(&mut self) -> Option<DueBit>
-        ensures taken { MatchOption result ((self.old.unbegun.items ≡ []) × (self.old.begun.items ≡ [])) (λ bit. IsTakenFrom bit self.old self.new) }
+        ensures taken { MatchOption result (
+            (self.old.unbegun.items ≡ []) × (self.old.begun.items ≡ [])
+            ) (λ bit. IsTakenFrom bit self.old self.new) }
         ensures order { IfSome result (λ bit. (g period : ℕ) → AreInOrder g period self.old
             → (g ≤ bit.generation) × AreInOrder bit.generation period self.new) }
     {

@@ -13,7 +13,10 @@ use std::alloc::{AllocError, Global};
 // Puts the first bits of nets in a context at the end.
 fn push_context(due: &mut Vec<DueBit>, nets: &[NetLine], context: u64) -> Result<(), AllocError>
     requires room { All (λ net. net.offset + 32 * context < 2 ^ 64) nets.now }
-    ensures { OnOk result (due.new.items ≡ due.old.items ++ first_due_bits (length due.old.items) (nets_in context nets.now)) }
+    ensures { OnOk result (
+        due.new.items
+        ≡ due.old.items ++ first_due_bits (length due.old.items) (nets_in context nets.now)
+        ) }
 {
     for net in nets {
         let place = due.len();

@@ -67,7 +67,9 @@ fn reference_of(
     context: u64,
     net: &NetLine,
 ) -> Result<Vec<u8>, AllocError>
-    ensures reference { IfOk result (λ text. text.items ≡ reference_of contexts (record { context = context; net = net.now })) }
+    ensures reference { IfOk result (λ text.
+        text.items ≡ reference_of contexts (record { context = context; net = net.now })
+        ) }
     ensures bytes { OnOk result (IsByteName net.now.name) }
 {
     let mut text = path_before(alloc, net.path.as_slice())?;
@@ -83,7 +85,10 @@ fn push_context(
     context: u64,
     nets: &[NetLine],
 ) -> Result<(), AllocError>
-    ensures references { OnOk result (references.new.items ≡ references.old.items ++ map (reference_of contexts) (nets_in context nets.now)) }
+    ensures references { OnOk result (
+        references.new.items
+        ≡ references.old.items ++ map (reference_of contexts) (nets_in context nets.now)
+        ) }
     ensures bytes { OnOk result (All (λ net. IsByteName net.name) nets.now) }
 {
     for net in nets {
@@ -95,7 +100,9 @@ fn push_context(
 /// The references of all nets in each context, those of context 0 first; and each name is one of bytes.
 pub fn references_of(alloc: Global, ports: &Ports) -> Result<List<Bytes>, AllocError>
     requires { 0 < ports.now.c }
-    ensures references { IfOk result (λ references. references ≡ map (reference_of ports.now.c) (nets_in_contexts ports.now)) }
+    ensures references { IfOk result (λ references.
+        references ≡ map (reference_of ports.now.c) (nets_in_contexts ports.now)
+        ) }
     ensures bytes { OnOk result (All (λ net. IsByteName net.name) ports.now.nets) }
 {
     let mut references = Vec::new(alloc);

@@ -129,8 +129,15 @@ fn write_blocks<O: Sink>(sink: &mut O, page: &mut Page, vcd: &Vcd) -> Result<(),
 /// those whose bit is not that of the cycle before, and last the time after the last cycle. Where a write fails, a front of the text
 /// stands written. It takes no memory.
 pub fn write<O: Sink>(vcd: &Vcd, sink: &mut O) -> Result<(), Failed>
-    ensures ok { OnOk result (Appends (O.written sink.old) (O.written sink.new) (vcd_text (waves_in vcd.now))) }
-    ensures front { OnErr result ((n : ℕ) × Appends (O.written sink.old) (O.written sink.new) (take n (vcd_text (waves_in vcd.now)))) }
+    ensures ok { OnOk result (
+        Appends (O.written sink.old) (O.written sink.new) (vcd_text (waves_in vcd.now))
+        ) }
+    ensures front { OnErr result (
+        (n : ℕ)
+        × Appends (O.written sink.old) (O.written sink.new) (
+        take n (vcd_text (waves_in vcd.now))
+        )
+        ) }
     ensures cause { HasCause (O.faults sink.old) (O.faults sink.new) result }
 {
     let mut page = Page::new();

@@ -63,7 +63,9 @@ pub fn read_all<S: Source>(alloc: Global, src: &mut S, limit: usize) -> Result<B
 /// Writes the whole piece, or a front of it where a write fails.
 pub fn write_all<O: Sink>(sink: &mut O, piece: &[u8]) -> Result<(), Failed>
     ensures ok { OnOk result (Appends (O.written sink.old) (O.written sink.new) piece.now) }
-    ensures front { OnErr result ((n : ℕ) × Appends (O.written sink.old) (O.written sink.new) (take n piece.now)) }
+    ensures front { OnErr result (
+        (n : ℕ) × Appends (O.written sink.old) (O.written sink.new) (take n piece.now)
+        ) }
     ensures cause { HasCause (O.faults sink.old) (O.faults sink.new) result }
 {
     let mut at = 0;
