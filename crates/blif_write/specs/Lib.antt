@@ -1,0 +1,5 @@
+pub mod Text
+pub mod Lifts
+pub mod Laws
+pub mod Marks
+pub mod Words

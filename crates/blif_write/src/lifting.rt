@@ -1,0 +1,56 @@
+// The circuit of a plan, with names of ports.
+ghost use Rattle.std.specs.Prelude.{◌≡◌, false, length, max, IfOk};
+ghost use Rattle.lane_core.specs.Plans.{IsAdmissible};
+ghost use Rattle.cell_core.specs.Loops.{names_one};
+ghost use Rattle.cell_meaning.specs.Computes.{ComputesByPlan};
+ghost use Rattle.circuit_plans.specs.Circuits.{without_nets};
+ghost use Rattle.pattern_reading.specs.Ports.{names_of};
+ghost use Rattle.lifted_designs.specs.Names.{leading, most_leading};
+ghost use Rattle.blif_write.specs.Lifts.{IsLiftOf};
+
+use crate::Lift;
+use lane_core::Plan;
+use pattern_reading::{PortLine, Ports};
+use plan_cells::{LiftError, cells_of};
+use std::alloc::Global;
+
+// With how many `_` a name begins.
+fn leading(name: &[u8]) -> usize
+    ensures { result ≡ leading name.now }
+{
+    for (i, byte) in name.iter().enumerate() {
+        if *byte != b'_' {
+            return i;
+        }
+    }
+    name.len()
+}
+
+// The most `_` with which a name of ports begins, or this many where that is more.
+fn most_leading(ports: &[PortLine], least: usize) -> usize
+    ensures { result ≡ max least (most_leading (names_of ports.now)) }
+{
+    let mut most = least;
+    for port in ports {
+        most = most.max(leading(port.name.as_slice()));
+    }
+    most
+}
+
+/// The circuit of a plan, whose inputs and outputs bear the names of these ports, in order. The plan's nets are not looked
+/// at. A call asks for a port for each output.
+pub fn of<'a>(alloc: Global, plan: &Plan, ports: &'a Ports) -> Result<Lift<'a>, LiftError>
+    requires admissible { IsAdmissible plan.now }
+    requires outs { length ports.now.outs ≡ length plan.now.outs }
+    ensures lift { IfOk result (IsLiftOf plan.now ports.now) }
+    ensures computes { IfOk result (λ lift. ComputesByPlan lift.list (without_nets plan.now)) }
+    ensures no_one { IfOk result (λ lift. names_one lift.list ≡ false) }
+{
+    let list = cells_of(alloc, plan)?;
+    let of_ins = most_leading(ports.ins.as_slice(), 0);
+    Ok(Lift {
+        list,
+        ports,
+        most_leading: most_leading(ports.outs.as_slice(), of_ins),
+    })
+}
