@@ -52,9 +52,9 @@ reads_text lift = true
 -- `window`: they are a simulation whose injections meet conductors up to the generation that is shown.
 -- `make` always does; `self` where no plan of the made netlist can need more generations than are run.
 -- `tape`: the text is a netlist, and the words are streams for it.
--- `aiger`: the text is a circuit.
+-- `aiger`: the text is an AIGER circuit.
 -- `vcd`: they are a simulation whose nets show their last bits in time, and whose injections up to there meet conductors.
--- `lift`: the text is that of a pattern with its port table that are the drawing of a circuit, and no name of a port is bad.
+-- `lift`: the text reads as a pattern with a port table; they are the drawing of a circuit's plan; and no port's name is bad.
 abbrev pub Accepts : CommandValues → List ℕ → Type 0
 Accepts (compile contexts starts) text = (design : Design) × HasStarts contexts starts text design × (contexts ≤ least_room design)
 Accepts (simulate cycles words) text = (s : Simulation) × Simulates cycles words text s
@@ -70,8 +70,8 @@ Accepts lift text = (grid : Grid) × (ports : Ports) × (plan : Plan) × IsCircu
 
 -- of such a text it prints this output: a pattern that carries the netlist in these contexts; a line for each output of
 -- the pattern, or of the netlist; the lines of the net; those of a part of the plane; the made text; what is told of the
--- made netlist; a pattern that runs by itself; one that carries the circuit; the dump of the nets; or the netlist of the
--- drawn circuit
+-- made netlist; a pattern that runs by itself; one that carries the AIGER circuit; the dump of the nets; or the netlist of
+-- the circuit that is drawn
 abbrev pub Prints : CommandValues → (text output : List ℕ) → Type 0
 Prints (compile contexts starts) text output = Compiles contexts starts text output
 Prints (simulate cycles words) text output = (s : Simulation) × Simulates cycles words text s × (output ≡ simulation_text s)

@@ -48,7 +48,8 @@ pub record Lifts (text output : List ℕ) : Type 0 where
   pub written : output ≡ lifted_text (names_of ports.ins) (names_of ports.outs) list
   pub netlist : IsNetlistOf text output (lifted_design (names_of ports.ins) (names_of ports.outs) list)
 
--- why the text is no circuit's: it is no pattern's, or its box is too large; its port table is at fault; or with this it is no circuit
+-- why the text is no circuit's: it is no pattern's, or its box is too large; its port table is at fault; or the pattern with this table
+-- is the drawing of no circuit, or has a bad name
 abbrev pub HasNoCircuit : List ℕ → Cause → Type 0
 HasNoCircuit text (Pattern fault) = HasReaderFault text fault.kind fault.line
 HasNoCircuit text (GridTooLarge width height) = HasLargeBox text width height

@@ -103,17 +103,18 @@ fn work<S: Source, O: Sink>(
 /// of context 0 first. `lift` reads a pattern and, where with its port table it is the drawing of a circuit, writes the
 /// BLIF text of a netlist that it carries.
 ///
-/// 0: all of it is on `out`. 1: the netlist's text, or the circuit's, breaks a rule. 2: the words are no command. 3:
-/// covers, or the circuit's gates, read each other in a circle. 4: the text has more than 16,777,216 bytes, the
-/// netlist, or the circuit, weighs more than 8,192, the pattern's box has more than 268,435,456 cells, its last bits
-/// come after generation 4,294,967,296, or the pattern has no room for so many contexts: it has room for at least one,
-/// and for 6 for each latch. 5: `src` failed. 6: `out` or `err` failed. 7: there was not enough memory. 8: the text is
-/// no pattern's, or its port table is at fault. 9: the words are no streams for the inputs, or no starts for the
-/// latches, or the table has no net as asked for. 10: an injection is due at a cell that is no conductor then. 12: the
-/// pattern with its port table is no circuit. Of several the first is answered: 2, 5, 4 (the text); then of a netlist 1
-/// (lines and models), 4 (the weight), 1 (clocks), 3, of a circuit 1, 4 (the weight), 3, and of a pattern 8 (the
-/// header), 4 (the box), 8 (the items), 8 (the table); then 9 (words), 9 (the net), 4 (generations), 10, 4 (contexts),
-/// 12, 6. With each but 0 and 6 one line on `err` tells it, and nothing is on `out`.
+/// 0: all of it is on `out`. 1: the netlist's text, or the AIGER circuit's, breaks a rule. 2: the words are no command.
+/// 3: covers, or the AIGER circuit's gates, read each other in a circle. 4: the text has more than 16,777,216 bytes,
+/// the netlist, or the AIGER circuit, weighs more than 8,192, the pattern's box has more than 268,435,456 cells, its
+/// last bits come after generation 4,294,967,296, or the pattern has no room for so many contexts: it has room for at
+/// least one, and for 6 for each latch. 5: `src` failed. 6: `out` or `err` failed. 7: there was not enough memory. 8:
+/// the text is no pattern's, or its port table is at fault. 9: the words are no streams for the inputs, or no starts
+/// for the latches, or the table has no net as asked for. 10: an injection is due at a cell that is no conductor then.
+/// 12: the pattern with its port table is the drawing of no circuit, or has a name that a netlist's text cannot have.
+/// Of several the first is answered: 2, 5, 4 (the text); then of a netlist 1 (lines and models), 4 (the weight), 1
+/// (clocks), 3, of an AIGER circuit 1, 4 (the weight), 3, and of a pattern 8 (the header), 4 (the box), 8 (the items),
+/// 8 (the table); then 9 (words), 9 (the net), 4 (generations), 10, 4 (contexts), 12, 6. With each but 0 and 6 one line
+/// on `err` tells it, and nothing is on `out`.
 pub fn run<S: Source, O: Sink, E: Sink>(
     alloc: Global,
     words: &[String],
@@ -137,7 +138,7 @@ pub fn run<S: Source, O: Sink, E: Sink>(
         → WritesTape cycles streams (reading S.left S.faults src.old src.new)
         (writing O.written O.faults out.old out.new) }
 
-    // The bytes that `aiger` has written carry the circuit of the text that `src` had left.
+    // The bytes that `aiger` has written carry the AIGER circuit of the text that `src` had left.
     ensures aigs { result ≡ 0 → Asks (map string_bytes words.now) aiger
         → WritesItsAig (reading S.left S.faults src.old src.new) (writing O.written O.faults out.old out.new) }
 

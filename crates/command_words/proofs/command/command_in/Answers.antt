@@ -2,7 +2,7 @@ use Rattle.std.proofs.Common.{rules, ap, refl, sym, ◌∙◌, ◌≡◌, Option
 use Rattle.clap.specs.Simple.{subcommand_rows_of}
 use Rattle.clap.specs.Walk.{rows_of}
 use Rattle.clap.specs.Words.{found_of}
-use Rattle.command_words.proofs.Met.{reads_met}
+use Rattle.command_words.proofs.ReadMet.{reads_met}
 use Rattle.command_words.proofs.command.command_in.Goals as goal
 
 pub returns-in-Some-tape-default : goal.returns-in-Some-tape-default
