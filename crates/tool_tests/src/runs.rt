@@ -8,6 +8,7 @@ mod dumps;
 mod evaluating;
 mod failing;
 mod hierarchies;
+mod lifts;
 mod tapes;
 mod weights;
 
