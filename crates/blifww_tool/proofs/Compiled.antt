@@ -47,7 +47,7 @@ use Rattle.carries.specs.ContextLaws.{OneContextCarries, OneContextCarriesNets}
 use Rattle.plan_carries.specs.Laws.{DesignsAreCarried}
 use Rattle.plan_carries.specs.ContextLaws.{DesignsAreCarriedInContexts}
 use Rattle.plan_ports.specs.Tables.{HasPortNames, HasTablePlaces, IsTableOf}
-use Rattle.lift_carries.specs.Compiled.{CompiledAreDrawings, OneContextIsCircuit, SpellsDrawing}
+use Rattle.lift_carries.specs.Compiled.{CompiledAreDrawings, OneContextIsCircuit, IsWrittenDrawing}
 use Rattle.start_words.specs.declared.error.StartError.{StartError}
 use Rattle.start_words.specs.declared.error.StartError.TheVariants as starts_of
 use Rattle.start_words.specs.Flats.{flat_latches, flat_start_bit, flat_start_bits, flat_starts}
@@ -95,7 +95,7 @@ few_latches design flat order p =
 
 -- what is written of a plan that starts one context spells the drawing of a circuit,
 pub drawn : OneContextIsCircuit → CompiledAreDrawings → (flat : Flat) (plan : Plan) (ports : Ports) → IsSound flat → IsNamed flat → HasPortNames flat → HasTablePlaces flat
-    → IsAdmissible plan → plan.tape ≡ [] → HasStartEdges plan → (bits : List Bool) → StartsContexts plan (bits ∷ []) (start_edges plan) → IsTableOf flat plan 1 ports → SpellsDrawing plan ports
+    → IsAdmissible plan → plan.tape ≡ [] → HasStartEdges plan → (bits : List Bool) → StartsContexts plan (bits ∷ []) (start_edges plan) → IsTableOf flat plan 1 ports → IsWrittenDrawing plan ports
 drawn circuit drawings flat plan ports sound named names places admissible bare edges bits starts table =
     drawings flat plan ports (record {
       sound = sound;
@@ -109,7 +109,7 @@ drawn circuit drawings flat plan ports sound named names places admissible bare 
 -- also where the context is one of a list
 pub drawn_in_one : OneContextIsCircuit → CompiledAreDrawings → (flat : Flat) (plan : Plan) (ports : Ports) → IsSound flat → IsNamed flat → HasPortNames flat → HasTablePlaces flat
     → IsAdmissible plan → plan.tape ≡ [] → HasStartEdges plan → (starts : List (List Bool)) → StartsContexts plan starts (start_edges plan) → length starts ≡ 1 → IsTableOf flat plan 1 ports
-    → SpellsDrawing plan ports
+    → IsWrittenDrawing plan ports
 drawn_in_one circuit drawings flat plan ports sound named names places admissible bare edges [] starts one table = absurd (omega (arith, one))
 drawn_in_one circuit drawings flat plan ports sound named names places admissible bare edges (bits ∷ []) starts one table =
     drawn circuit drawings flat plan ports sound named names places admissible bare edges bits starts table
@@ -118,7 +118,7 @@ drawn_in_one circuit drawings flat plan ports sound named names places admissibl
 -- the plan by which a design is carried
 pub carried_by : FlatIsOne → DesignsAreCarried → (design : Design) (flat : Flat) (order : List ℕ) (plan : Plan) (ports : Ports) → AreParts design flat order
     → IsAdmissible plan → HasStartEdges plan → IsTableOf flat plan 1 ports → ComputesCells flat plan → HasLanes flat plan → HasNetPlaces flat plan → CarriesFlat (pattern_text (start_grid plan) ports) flat → IsSmall flat plan
-    → (length flat.latches ≡ 0 → any_needs_one flat ≡ false → ports.p ≡ 32) → SpellsDrawing plan ports
+    → (length flat.latches ≡ 0 → any_needs_one flat ≡ false → ports.p ≡ 32) → IsWrittenDrawing plan ports
     → IsCarriedBy design plan ports
 carried_by one law design flat order plan ports p admissible edges table cells size places carries few period drawing =
     let nets : CarriesNets (pattern_text (start_grid plan) ports) design = law (pattern_text (start_grid plan) ports) design flat p.faultless p.clocks p.is_flat carries in
@@ -288,7 +288,7 @@ pub compiles : FlatIsOne → DesignsAreCarriedInContexts → StartsAreFlat → (
     → HasStarts contexts starts text design → AreParts design flat order → IsCarriedBy design base base_ports → contexts ≤ base_ports.p / 32
     → (contexts ≡ 1 → starts ≡ [] → ⊥) → IsAdmissible plan → HasStartEdges plan → IsPaddedPlan (contexts_size base.latches contexts) base plan
     → IsTableOf flat plan contexts ports → HasNetPlaces flat plan → CarriesFlatContexts (pattern_text (start_grid plan) ports) flat (flat_starts flat starts contexts)
-    → (contexts ≡ 1 → SpellsDrawing plan ports) → Compiles contexts starts text (pattern_text (start_grid plan) ports)
+    → (contexts ≡ 1 → IsWrittenDrawing plan ports) → Compiles contexts starts text (pattern_text (start_grid plan) ports)
 compiles one law flat_law contexts starts text design flat order base base_ports plan ports has p h room several admissible edges padded table places carries drawing =
     let output = pattern_text (start_grid plan) ports in
     let states = starts_of_words design starts contexts in

@@ -20,7 +20,7 @@ use Rattle.netlist_meaning.specs.FlatOf.{IsFlatOf, at_places}
 use Rattle.netlist_plans.specs.Planned.{ComputesCells, HasLanes}
 use Rattle.netlist_plans.specs.NetPlaces.{HasNetPlaces}
 use Rattle.plan_ports.specs.Tables.{IsTableOf}
-use Rattle.lift_carries.specs.Compiled.{SpellsDrawing}
+use Rattle.lift_carries.specs.Compiled.{IsWrittenDrawing}
 use Rattle.netlist_text.specs.NetlistText.{IsNetlist, IsAtFault, IsTooHeavy, HasLoop}
 use Rattle.start_words.specs.declared.error.StartFault.{StartFault}
 use Rattle.start_words.specs.Words.{first_fault}
@@ -46,7 +46,7 @@ pub record IsCarriedBy (design : Design) (plan : Plan) (ports : Ports) : Type 0 
   pub size : (flat : Flat) → IsFlatOf design flat → HasLanes flat plan
   pub places : (flat : Flat) → IsFlatOf design flat → HasNetPlaces flat plan
   pub period : (flat : Flat) → IsFlatOf design flat → length flat.latches ≡ 0 → any_needs_one flat ≡ false → ports.p ≡ 32
-  pub drawing : SpellsDrawing plan ports
+  pub drawing : IsWrittenDrawing plan ports
 
 -- the text is the netlist of this design, in which the words say starts for so many contexts
 pub record HasStarts (contexts : ℕ) (starts : List (List ℕ)) (text : List ℕ) (design : Design) : Type 0 where
@@ -74,7 +74,7 @@ pub record Compiles (contexts : ℕ) (starts : List (List ℕ)) (text output : L
   pub table : (flat : Flat) → IsFlatOf design flat → IsTableOf flat plan contexts ports
   pub places : (flat : Flat) → IsFlatOf design flat → HasNetPlaces flat plan
   pub written : output ≡ pattern_text (start_grid plan) ports
-  pub drawing : contexts ≡ 1 → SpellsDrawing plan ports
+  pub drawing : contexts ≡ 1 → IsWrittenDrawing plan ports
   pub carries : CarriesContexts output design (starts_of_words design starts contexts)
   pub nets : CarriesNetsInContexts output design (starts_of_words design starts contexts)
 
