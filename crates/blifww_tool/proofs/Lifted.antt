@@ -1,5 +1,5 @@
 -- What is written of a circuit is a netlist that its text carries; and why there is none.
-use Rattle.std.proofs.Common.{◌≡◌, ◌<◌, ◌^◌, refl, arith, ℕ, List, length}
+use Rattle.std.proofs.Common.{◌≡◌, ◌<◌, ◌^◌, refl, sym, ap₂, arith, ℕ, List, length}
 use Rattle.ww_rule.specs.Grid.{Grid}
 use Rattle.lane_core.specs.declared.plan.Plan.{Plan}
 use Rattle.pattern_reading.specs.declared.ports.Ports.{Ports}
@@ -13,14 +13,16 @@ use Rattle.lifted_designs.specs.Clocks.{LiftedHaveNoClockFault}
 use Rattle.lifted_designs.specs.Lifted.{lifted_design}
 use Rattle.lifted_designs.specs.NoLoop.{LiftedHaveNoLoop}
 use Rattle.lifted_designs.specs.Runs.{ArePortNames}
+use Rattle.blif_write.specs.declared.lift.Lift.{Lift}
 use Rattle.blif_write.specs.Laws.{LiftedTextsRead}
+use Rattle.blif_write.specs.Lifts.{IsLiftOf, text_of_lift}
 use Rattle.blif_write.specs.Text.{lifted_text}
 use Rattle.lift_carries.specs.Lifts.{LiftsCarry}
-use Rattle.lift_carries.proofs.Lifted.{loop_count_is, named_ins, named_outs}
+use Rattle.lift_carries.proofs.Lifted.{loop_count_is, many_outs, named_ins, named_outs}
 use Rattle.lift_carries.proofs.PortNames.{are_port_names, ins_are_words, outs_are_words}
-use Rattle.pattern_reading.specs.Pattern.{ReadsWithinLimit, HasReaderFault, HasLargeBox}
+use Rattle.pattern_reading.specs.Pattern.{ReadsWithinLimit}
 use Rattle.pattern_reading.specs.PortTable.{ReadsAsPorts, HasPortFault}
-use Rattle.rle_read.specs.declared.error.RleFault.{RleFault}
+use Rattle.rle_read.specs.Answers.{HasReadReason}
 use Rattle.rle_read.specs.declared.error.RleReadError.{RleReadError}
 use Rattle.rle_read.specs.declared.error.RleReadError.TheVariants as reading
 use Rattle.port_table.specs.declared.faults.PortFault.{PortFault}
@@ -29,6 +31,7 @@ use Rattle.port_table.specs.declared.reading.PortReadError.TheVariants as table
 use Rattle.tile_match.specs.declared.error.AuditError.{AuditError}
 use Rattle.tile_match.specs.declared.error.AuditError.TheVariants as auditing
 use Rattle.tile_match.specs.declared.error.CircuitFault.{CircuitFault}
+use Rattle.tile_match.specs.Circuit.{IsDrawingOf}
 use Rattle.tile_match.specs.Faults.{HasCircuitFault}
 use Rattle.command_words.specs.Shapes.{lift}
 use Rattle.refusals.specs.Refusals.{audit_error, pattern_error, table_error}
@@ -84,14 +87,20 @@ module _ (texts : LiftedTextsRead) (clocks : LiftedHaveNoClockFault) (loops : Li
     netlist = netlist_of;
   }
 
+-- a circuit's table has a line for each output
+pub many_outs_of : (grid : Grid) (ports : Ports) (plan : Plan) → IsDrawingOf grid ports plan → length ports.outs ≡ length plan.outs
+many_outs_of grid ports plan drawing = many_outs grid.width grid.height ports plan drawing.ports
+
+-- what is written of a lift is the text of its cells with the ports' names
+pub lifted_text_is : (plan : Plan) (ports : Ports) (lifted : Lift) → IsLiftOf plan ports lifted → lifted_text (names_of ports.ins) (names_of ports.outs) lifted.list ≡ text_of_lift lifted
+lifted_text_is plan ports lifted h = ap₂ (λ ins outs. lifted_text ins outs lifted.list) (sym h.ins) (sym h.outs)
+
 -- ---- refusals
 
-pub pattern_refused : (text : List ℕ) (e : RleReadError)
-    → ((f : RleFault) → e ≡ reading.Fault f → HasReaderFault text f.kind f.line) → ((width height : ℕ) → e ≡ reading.TooLarge width height → HasLargeBox text width height)
-    → HasTextCause lift text (pattern_error e)
-pattern_refused text (reading.Fault f) faults large = faults f refl
-pattern_refused text (reading.TooLarge width height) faults large = large width height refl
-pattern_refused text reading.NoMemory faults large = tt
+pub pattern_refused : (text : List ℕ) (e : RleReadError) → HasReadReason text e → HasTextCause lift text (pattern_error e)
+pattern_refused text (reading.Fault f) h = h
+pattern_refused text (reading.TooLarge width height) h = h
+pattern_refused text reading.NoMemory h = tt
 
 pub table_refused : (text : List ℕ) (grid : Grid) (e : PortReadError) → ReadsWithinLimit text grid
     → ((f : PortFault) → e ≡ table.Fault f → HasPortFault text grid.width grid.height f.kind f.line) → HasTextCause lift text (table_error e)

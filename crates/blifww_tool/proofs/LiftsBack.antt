@@ -44,12 +44,12 @@ abbrev text_by : (ins outs : List Name) → (latches : List Src) → (starts : L
 text_by ins outs latches starts cells sources =
     let p = mark (ins ++ outs) in
     lines_text (
-      worded_line 1 (codes ".model" ∷ codes "lifted" ∷ [])
-      ∷ worded_line 2 (codes ".inputs" ∷ ins)
-      ∷ worded_line 3 (codes ".outputs" ∷ outs)
-      ∷ worded_line 4 (codes ".names" ∷ zero_name p ∷ [])
-      ∷ latch_lines p ins 5 0 latches starts
-      (cell_lines p ins (5 + length latches) 0 cells (lines_of_outputs p ins (line_past_cells (5 + length latches) cells) outs sources))
+    worded_line 1 (codes ".model" ∷ codes "lifted" ∷ [])
+    ∷ worded_line 2 (codes ".inputs" ∷ ins)
+    ∷ worded_line 3 (codes ".outputs" ∷ outs)
+    ∷ worded_line 4 (codes ".names" ∷ zero_name p ∷ [])
+    ∷ latch_lines p ins 5 0 latches starts
+    (cell_lines p ins (5 + length latches) 0 cells (lines_of_outputs p ins (line_past_cells (5 + length latches) cells) outs sources))
     )
 
 text_is : (ins outs : List Name) (list : CellList) → lifted_text ins outs list ≡ text_by ins outs list.latches list.starts list.cells list.outs

@@ -160,7 +160,11 @@ fn tell_miss<E: Sink>(err: &mut E, generation: u64, x: u64, y: u64) -> Result<()
 
 // Tells why a pattern is no circuit.
 fn tell_circuit<E: Sink>(err: &mut E, fault: CircuitFault) -> Result<(), Failed>
-    ensures ok { OnOk result (Appends (E.written err.old) (E.written err.new) (circuit_line (circuit_fault_name fault))) }
+    ensures ok { OnOk result (
+        Appends (E.written err.old) (E.written err.new) (
+        circuit_line (circuit_fault_name fault)
+        )
+        ) }
     ensures front { OnErr result
         ((n : ℕ) × Appends (E.written err.old) (E.written err.new) (take n (circuit_line (circuit_fault_name fault)))) }
     ensures cause { HasCause (E.faults err.old) (E.faults err.new) result }
@@ -189,7 +193,9 @@ fn tell_contexts<E: Sink>(err: &mut E, contexts: u64, limit: u64) -> Result<(), 
 
 // Tells a fault of streams or of start words, and the word at fault.
 fn tell_streams<'a, E: Sink>(err: &mut E, name: &'a [u8], word: &'a [u8]) -> Result<(), Failed>
-    ensures ok { OnOk result (Appends (E.written err.old) (E.written err.new) (stream_line name.now word.now)) }
+    ensures ok { OnOk result (
+        Appends (E.written err.old) (E.written err.new) (stream_line name.now word.now)
+        ) }
     ensures front { OnErr result
         ((n : ℕ) × Appends (E.written err.old) (E.written err.new) (take n (stream_line name.now word.now))) }
     ensures cause { HasCause (E.faults err.old) (E.faults err.new) result }

@@ -105,7 +105,12 @@ const REFUSED: &[(usize, &[u8], u8, &[u8])] = &[
     (4, b"x = 34, y = 32, rule = WireWorld\n", 12, PORTS),
     (4, b"x = 33, y = 33, rule = WireWorld\n", 12, PORTS),
     (4, b"x = 33, y = 48, rule = WireWorld\n", 12, CELLS),
-    (4, b"x = 33, y = 32, rule = Life\n", 8, b"G3 OtherRule line 5\n"),
+    (
+        4,
+        b"x = 33, y = 32, rule = Life\n",
+        8,
+        b"G3 OtherRule line 5\n",
+    ),
     (
         4,
         b"x = 33554432, y = 9, rule = WireWorld\n",
@@ -295,14 +300,7 @@ fn what_is_lifted_prints_what_the_pattern_does(rt: HostRuntime) -> Result<(), Fa
 const ENDINGS: &[(&[&str], &[u8], (usize, usize), u8, &[u8], &[u8])] = &[
     (LIFT, GATE, (99, 99), 8, b"", b"G1 NoHeader line 1\n"),
     (LIFT, b"", (99, 99), 8, b"", b"G1 NoHeader line 1\n"),
-    (
-        &["blifww", "lift", "x"],
-        PATTERN,
-        (99, 99),
-        2,
-        b"",
-        USAGE,
-    ),
+    (&["blifww", "lift", "x"], PATTERN, (99, 99), 2, b"", USAGE),
     (
         LIFT,
         PATTERN,
@@ -317,7 +315,14 @@ const ENDINGS: &[(&[&str], &[u8], (usize, usize), u8, &[u8], &[u8])] = &[
 #[test]
 fn a_run_of_lift_ends_so(rt: HostRuntime) -> Result<(), Fail> {
     for (words, text, rooms, status, out, told) in ENDINGS {
-        expect_run_over(rt.alloc(), words, text, (16, &[]), *rooms, (*status, out, told))?;
+        expect_run_over(
+            rt.alloc(),
+            words,
+            text,
+            (16, &[]),
+            *rooms,
+            (*status, out, told),
+        )?;
     }
     Ok(())
 }

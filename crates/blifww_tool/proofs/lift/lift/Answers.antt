@@ -1,9 +1,7 @@
-use Rattle.std.proofs.Common.{ap, sym, subst, ◌∙◌, ◌≡◌, ℕ, List, Err}
+use Rattle.std.proofs.Common.{ap, subst, ℕ, List, Err}
 use Rattle.std.proofs.lemmas.Result.{err_from_is_err_and}
 use Rattle.ww_rule.specs.Grid.{Grid}
 use Rattle.ww_rule.specs.Patterns.{grid_of}
-use Rattle.pattern_reading.specs.Ports.{names_of}
-use Rattle.blif_write.specs.Text.{lifted_text}
 use Rattle.blifww_tool.specs.Lifting.{IsCircuitText, Lifts}
 use Rattle.blifww_tool.proofs.Lifted.{audit_refused, lifts, many_outs_of, pattern_refused, table_refused}
 use Rattle.blifww_tool.proofs.lift.lift.Goals as goal
@@ -11,8 +9,7 @@ use Rattle.blifww_tool.proofs.lift.lift.Goals as goal
 pub returns-in_err-pattern-clause-refused : goal.returns-in_err-pattern-clause-refused
 returns-in_err-pattern-clause-refused c =
     let p = err_from_is_err_and c.from_residual.result c.from_residual.ensures.1 in
-    rw (p.1, p.2) (pattern_refused c.args.text.now c.in_err-pattern.field-0.0 (λ f is. c.in_err-pattern.ensures.fault f (ap Err is))
-    (λ width height is. c.in_err-pattern.ensures.large width height (ap Err is)))
+    rw (p.1, p.2) (pattern_refused c.args.text.now c.in_err-pattern.field-0.0 c.in_err-pattern.ensures.refused)
 
 pub returns-in_err-ports-clause-refused : goal.returns-in_err-ports-clause-refused
 returns-in_err-ports-clause-refused c =
@@ -49,5 +46,5 @@ returns-clause-printed c =
       named = c.in_ok-plan.ensures.named;
     } in
     let of_names = c.in_ok-lifted.ensures.lift in
-    subst (λ (output : List ℕ). Lifts c.args.text.now output) (lifted_text_is lift ports of_names)
+    subst (λ (output : List ℕ). Lifts c.args.text.now output) (lifted_text_is plan ports lift of_names)
     (lifts c.lifted_texts_read.ensures c.lifted_have_no_clock_fault.ensures c.lifted_have_no_loop.ensures c.lifts_carry.ensures c.args.text.now grid ports plan is lift.list of_names.cells c.cells_fit.ensures)
