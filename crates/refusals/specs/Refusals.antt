@@ -2,10 +2,10 @@
 use Rattle.std.specs.Prelude.{ℕ, List, ◌++◌, flat_map, codes, decimal}
 use Rattle.netlist_core.specs.Names.{Name}
 use Rattle.netlist_rules.specs.declared.fault.Fault.{Fault}
-use Rattle.netlist_rules.specs.FaultNames.{aig_fault_number, aig_fault_name}
+use Rattle.netlist_rules.specs.FaultNames.{name_of, number_of}
 use Rattle.netlist_core.specs.Limit.{weight_limit}
 use Rattle.aiger_text.specs.declared.fault.AigFault.{AigFault}
-use Rattle.aiger_text.specs.FaultNames.{aig_fault_number as aig_number_of, aig_fault_name as aig_name_of}
+use Rattle.aiger_text.specs.FaultNames.{aig_fault_name, aig_fault_number}
 use Rattle.aiger_reader.specs.declared.error.AigReadError.{AigReadError}
 use Rattle.aiger_reader.specs.declared.error.AigReadError.TheVariants as aig_of
 use Rattle.aiger_meaning.specs.declared.error.LowerError.{LowerError}
@@ -133,7 +133,7 @@ fault_text number name line word =
     codes "B" ++ (number ++ (codes " " ++ (name ++ (codes " line " ++ (line ++ (codes ": " ++ (word ++ codes "\n")))))))
 
 abbrev pub netlist_line : Fault → List ℕ
-netlist_line fault = fault_text (decimal (aig_fault_number fault.kind)) (aig_fault_name fault.kind) (decimal fault.line) fault.word
+netlist_line fault = fault_text (decimal (number_of fault.kind)) (name_of fault.kind) (decimal fault.line) fault.word
 
 -- each name after a blank
 abbrev pub after_blanks : List Name → List ℕ
@@ -149,7 +149,7 @@ aig_fault_text number name line =
     codes "A" ++ (number ++ (codes " " ++ (name ++ (codes " line " ++ (line ++ codes "\n")))))
 
 abbrev pub aig_fault_line : AigFault → List ℕ
-aig_fault_line fault = aig_fault_text (decimal (aig_number_of fault.kind)) (aig_name_of fault.kind) (decimal fault.line)
+aig_fault_line fault = aig_fault_text (decimal (aig_fault_number fault.kind)) (aig_fault_name fault.kind) (decimal fault.line)
 
 -- each number after a blank
 abbrev pub spaced_numbers : List ℕ → List ℕ
