@@ -13,14 +13,16 @@ use Rattle.std.proofs.lemmas.Bool.Decides.{nat_tests}
 use Rattle.lane_core.specs.declared.instr.Instr.{Instr}
 use Rattle.lane_core.specs.declared.instr.Instr.TheVariants.{Swap, Fork, Xor, Or, AndNot}
 use Rattle.lane_core.specs.declared.plan.Plan.{Plan}
-use Rattle.lane_core.specs.Plans.{IsAdmissible}
+use Rattle.circuit_plans.specs.Circuits.{IsCircuit}
 use Rattle.lane_core.specs.Instrs.{lane_of, instr_on}
 use Rattle.plan_layout.specs.Starts.{start_edges}
 use Rattle.plan_layout.specs.Layout.{kind_of, body_slot, instrs_of, end_of_body, in_body, tiling_of}
-use Rattle.plan_waves.proofs.Parts.{body_at}
+use Rattle.plan_layout.proofs.Bare.{bare}
+use Rattle.plan_layout.proofs.Parts.{body_at}
 use Rattle.grid_assembly.specs.PlanDrawing.{start_grid}
 use Rattle.grid_assembly.proofs.Pattern.{patterns_are_planes}
-use Rattle.tile_match.specs.Blocks.{cell_in, is_filled, is_filled_in, instr_of_cells, instr_shown, instr_in, column_start}
+use Rattle.tile_timing.specs.Law.{is_filled}
+use Rattle.tile_match.specs.Blocks.{cell_shown, is_filled_in, instr_of_cells, instr_shown, instr_in, column_start}
 
 is_drawn : (wires head tail : Bool) → is_filled (cond wires (cond head Head (cond tail Tail Conductor)) Empty) ≡ wires
 is_drawn true true tail = refl
@@ -29,14 +31,14 @@ is_drawn true false false = refl
 is_drawn false head tail = refl
 
 -- a cell of the drawing, by its block and its place in the block
-pub cell_at : (plan : Plan) → IsAdmissible plan → (q l x y : ℕ) → x < 32 → y < 16
-    → cell_in (start_grid plan).rows (32 * q + x) (16 * l + y) ≡ drawn_slot shipped_drawing (start_edges plan) q l (tiling_of plan q l) x y
+pub cell_at : (plan : Plan) → IsCircuit plan → (q l x y : ℕ) → x < 32 → y < 16
+    → cell_shown (start_grid plan).rows (32 * q + x) (16 * l + y) ≡ drawn_slot shipped_drawing (start_edges plan) q l (tiling_of plan q l) x y
 cell_at plan h q l x y narrow low =
     let column : (32 * q + x) / 32 ≡ q = omega arith in
     let lane : (16 * l + y) / 16 ≡ l = omega arith in
     let right : (32 * q + x) % 32 ≡ x = omega arith in
     let down : (16 * l + y) % 16 ≡ y = omega arith in
-    ap (λ p. p (pos (32 * q + x)) (pos (16 * l + y))) (patterns_are_planes plan h).plane
+    ap (λ p. p (pos (32 * q + x)) (pos (16 * l + y))) ((patterns_are_planes plan h.admissible).plane ∙ (bare plan h.no_tape).plane shipped_drawing)
     ∙ ap (λ n. drawn_slot shipped_drawing (start_edges plan) n ((16 * l + y) / 16) (tiling_of plan n ((16 * l + y) / 16)) ((32 * q + x) % 32) ((16 * l + y) % 16)) column
     ∙ ap (λ n. drawn_slot shipped_drawing (start_edges plan) q n (tiling_of plan q n) ((32 * q + x) % 32) ((16 * l + y) % 16)) lane
     ∙ ap (λ n. drawn_slot shipped_drawing (start_edges plan) q l (tiling_of plan q l) n ((16 * l + y) % 16)) right
@@ -58,7 +60,7 @@ body_is plan c l within low =
     body_at plan (plan.latches + c) l (omega arith) (omega arith) low ∙ ap (λ n. body_slot l (instr_on (instrs_of plan n) l)) same
 
 -- the three cells by which a block is read
-pub shown_by : (plan : Plan) → IsAdmissible plan → (c l : ℕ) → c < length plan.columns → l < plan.lanes
+pub shown_by : (plan : Plan) → IsCircuit plan → (c l : ℕ) → c < length plan.columns → l < plan.lanes
     → instr_in (start_grid plan).rows (column_start plan.latches c) l
     ≡ instr_shown l (λ x y. is_filled (drawn_slot shipped_drawing (start_edges plan) (plan.latches + c) l (body_slot l (instr_on (instrs_of plan c) l)) x y))
 shown_by plan h c l within low =

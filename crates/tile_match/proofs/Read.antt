@@ -1,5 +1,5 @@
--- The plan that is read of a pattern with a table is admissible, and the only one that may draw it.
-use Rattle.std.proofs.Common.{◌≡◌, refl, sym, ◌∙◌, ap, ap₂, subst, ℕ, zero, suc, ◌+◌, ◌-◌, ◌*◌, ◌<◌, ◌≤◌, Bool, true, false, cond, ◌==◌, List, [], map, length, get_or, Option, Some, None, arith}
+-- The plan that is read of a pattern with a table is a circuit of its box and ports.
+use Rattle.std.proofs.Common.{◌≡◌, refl, sym, ◌∙◌, ap, ap₂, subst, ℕ, zero, suc, ◌+◌, ◌-◌, ◌*◌, ◌<◌, ◌≤◌, Bool, true, false, cond, ◌==◌, List, [], map, length, get_or, Some, inl, arith}
 use Rattle.std.specs.Prelude.{All}
 use Rattle.std.proofs.lemmas.List.{length-map, get_or-map}
 use Rattle.std.proofs.lemmas.List.FromFn.{length-map-range_with_len, get_or-map-range_with_len}
@@ -11,21 +11,22 @@ use Rattle.lane_core.specs.declared.instr.Column.{Column}
 use Rattle.lane_core.specs.declared.plan.Plan.{Plan}
 use Rattle.lane_core.specs.Instrs.{lane_of, IsOnLanes}
 use Rattle.lane_core.specs.Columns.{IsColumnOnLanes}
-use Rattle.lane_core.specs.Plans.{IsAdmissible, left_of, size_of, period_of, latency_of}
+use Rattle.lane_core.specs.Plans.{IsAdmissible}
+use Rattle.lane_core.specs.Tape.{AreTapeLists, tape_shift}
+use Rattle.circuit_plans.specs.Circuits.{IsCircuit, IsLoopStart, starts_where}
+use Rattle.circuit_plans.proofs.Ordered.{where_at_loops}
 use Rattle.lane_core.proofs.Lookup.{columns_apart}
-use Rattle.tile_library.specs.Drawings.{shipped_drawing}
-use Rattle.tiling.specs.Steps.{KeepsLaw}
-use Rattle.grid_assembly.specs.PlanDrawing.{start_grid}
 use Rattle.pattern_reading.specs.declared.ports.Ports.{Ports}
-use Rattle.tile_match.specs.Blocks.{instr_of_cells, is_filled_in, instr_in, column_shown, column_start, columns_shown, bits_shown}
-use Rattle.tile_match.specs.Circuit.{HasBoxAndPorts, IsDrawingOf, IsSize}
-use Rattle.tile_match.specs.Read.{IsRead, IsBodyRead}
+use Rattle.tile_match.specs.Blocks.{instr_of_cells, is_filled_in, instr_in, column_shown, column_start, columns_shown, bit_shown}
+use Rattle.tile_match.specs.Circuit.{HasBoxAndPorts}
+use Rattle.tile_match.specs.Sizes.{IsSizeOfPlan}
+use Rattle.tile_match.specs.Read.{IsPlanRead, IsBodyRead}
 use Rattle.lane_core.specs.Places.{AreDistinctBelow}
 use Rattle.pattern_reading.specs.declared.ports.PortLine.{PortLine}
 use Rattle.pattern_reading.specs.Ports.{cells_of}
-use Rattle.tile_match.proofs.Within.{Within, all_within, sorted_within, on_within}
-use Rattle.tile_match.proofs.Sizes.{size_is, one_size, IsOneSize}
-use Rattle.tile_match.proofs.One.{read_columns, read_starts, same_lanes, same_grid, cell_on}
+use Rattle.tile_match.proofs.Within.{Within, all_within, on_within}
+use Rattle.tile_match.proofs.Sizes.{size_is, one_size, bare_width}
+use Rattle.tile_match.proofs.One.{cell_on}
 
 -- what is shown on a lane is an instruction on it
 own_lane : (lane : ℕ) (climbs falls ends : Bool) (x : Instr) → instr_of_cells lane climbs falls ends ≡ Some x → lane_of x ≡ lane
@@ -54,102 +55,105 @@ columns_on rows lanes loops columns e k d lt =
     ∙ get_or-map-range_with_len (λ n. column_shown rows lanes (column_start loops n)) 0 (length columns) k k [] lt (omega arith) in
     subst (All (IsOnLanes lanes)) (sym is) (on_lanes rows lanes (column_start loops k))
 
-size_by : (b : Bool) (across down width height : ℕ) → width ≡ cond b 0 across → height ≡ cond b 0 down → cond {A = ℕ × ℕ} b (0, 0) (across, down) ≡ (width, height)
+pub size_by : (b : Bool) (across down width height : ℕ) → width ≡ cond b 0 across → height ≡ cond b 0 down → cond {A = ℕ × ℕ} b (0, 0) (across, down) ≡ (width, height)
 size_by true across down width height e f = ap₂ (λ (x y : ℕ). (x, y)) (sym e) (sym f)
 size_by false across down width height e f = ap₂ (λ (x y : ℕ). (x, y)) (sym e) (sym f)
 
-pub read_admissible : (grid : Grid) (ports : Ports) (plan : Plan) → IsRead grid ports plan → IsAdmissible plan
-read_admissible grid ports plan r = record {
+-- without a tape there are no lists of bits
+pub no_lists : (tape : List (List Bool)) → tape ≡ [] → AreTapeLists tape
+no_lists tape none = record {
+  range = λ k d lt. absurd (omega (arith, lt, ap length none));
+  alike = λ k d lt. absurd (omega (arith, lt, ap length none));
+}
+
+pub read_admissible : (grid : Grid) (ports : Ports) (plan : Plan) → IsPlanRead grid ports plan → plan.nets ≡ [] → IsAdmissible plan
+read_admissible grid ports plan r none = record {
   size = record {
     lanes = r.size.few_lanes;
     columns = r.size.few_columns;
     both = r.size.both;
     loops_on_lanes = r.size.loops_on_lanes;
     loops_in_columns = r.size.loops_in_columns;
-    starts = ap length r.starts ∙ length-map-range_with_len _ 0 plan.latches;
   };
   instrs = columns_on grid.rows plan.lanes plan.latches plan.columns r.columns;
   apart = columns_apart plan.columns;
   ins = r.ins;
   outs = r.outs;
-  nets = λ k d lt. absurd (omega (arith, lt, ap length r.nets));
+  nets = λ k d lt. absurd (omega (arith, lt, ap length none));
+  tape = record { each_input = inl r.no_tape; lists = no_lists plan.tape r.no_tape };
 }
 
-pub read_ports : (grid : Grid) (ports : Ports) (plan : Plan) → IsRead grid ports plan → HasBoxAndPorts grid.width grid.height ports plan
+pub read_circuit : (grid : Grid) (ports : Ports) (plan : Plan) → IsPlanRead grid ports plan → plan.nets ≡ [] → IsCircuit plan
+read_circuit grid ports plan r none = record {
+  admissible = read_admissible grid ports plan r none;
+  no_tape = r.no_tape;
+  at_loops = subst (All (IsLoopStart plan.lanes plan.latches)) (sym r.starts) (where_at_loops plan.lanes plan.latches (bit_shown grid.rows plan.lanes plan.latches));
+}
+
+pub read_ports : (grid : Grid) (ports : Ports) (plan : Plan) → IsPlanRead grid ports plan → HasBoxAndPorts grid.width grid.height ports plan
 read_ports grid ports plan r = record {
-  size = size_by (plan.lanes == 0) (32 * (length plan.columns + 2 * plan.latches) + 1) (16 * (plan.lanes + plan.latches)) grid.width grid.height r.size.width_is r.size.height_is;
+  size = size_by (plan.lanes == 0) (32 * (tape_shift plan + (length plan.columns + 2 * plan.latches)) + 1) (16 * (plan.lanes + plan.latches)) grid.width grid.height
+      (r.size.width_is ∙ ap (λ n. cond (plan.lanes == 0) 0 (32 * n + 1)) (sym (bare_width plan r.no_tape))) r.size.height_is;
+  contexts = r.contexts;
   period = r.size.period_is;
   latency = r.size.latency_is;
   in_cells = r.in_cells;
   out_cells = r.out_cells;
 }
 
--- a plan that draws the pattern is drawn as the one that is read
-pub read_is : KeepsLaw shipped_drawing → (grid : Grid) (ports : Ports) (plan : Plan) → IsRead grid ports plan → (other : Plan) → IsDrawingOf grid ports other
-    → grid ≡ start_grid plan
-read_is law grid ports plan r other d =
-    let one = one_size grid.width grid.height ports.p ports.l other.lanes plan.lanes (length other.columns) (length plan.columns) other.latches plan.latches
-    (size_is grid.width grid.height ports other d.admissible d.ports) r.size in
-    d.drawn ∙ same_grid other plan one.lanes_same
-    (sym (read_columns grid ports other d)
-    ∙ ap (λ n. columns_shown grid.rows n other.latches (length other.columns)) one.lanes_same
-    ∙ ap (λ n. columns_shown grid.rows plan.lanes n (length other.columns)) one.loops_same
-    ∙ ap (λ n. columns_shown grid.rows plan.lanes plan.latches n) one.columns_same
-    ∙ sym r.columns)
-    one.loops_same
-    (sym (read_starts law grid ports other d) ∙ ap (λ n. bits_shown grid.rows n other.latches) one.lanes_same ∙ ap (λ n. bits_shown grid.rows plan.lanes n) one.loops_same ∙ sym r.starts)
-    (same_lanes (left_of other (length other.columns)) (left_of plan (length plan.columns)) other.outs plan.outs (sym d.ports.out_cells ∙ r.out_cells))
-
 -- the ports of a plan with a box and ports
 pub record ArePortsOn (limit x : ℕ) (lines : List PortLine) (lanes : List ℕ) : Type 0 where
   pub distinct : AreDistinctBelow limit lanes
   pub cells : cells_of lines ≡ map (cell_on x) lanes
 
-pub ins_fit : (width height : ℕ) (ports : Ports) (lanes columns loops : ℕ) → IsSize width height ports.p ports.l lanes columns loops
-    → (plan : Plan) → IsAdmissible plan → HasBoxAndPorts width height ports plan → ArePortsOn (lanes - loops) (32 * loops) ports.ins plan.ins
+pub ins_fit : (width height : ℕ) (ports : Ports) (lanes columns loops : ℕ) → IsSizeOfPlan width height ports.p ports.l lanes columns loops
+    → (plan : Plan) → IsCircuit plan → HasBoxAndPorts width height ports plan → ArePortsOn (lanes - loops) (32 * loops) ports.ins plan.ins
 ins_fit width height ports lanes columns loops s plan h has =
     let one = one_size width height ports.p ports.l plan.lanes lanes (length plan.columns) columns plan.latches loops (size_is width height ports plan h has) s in
     let place : 32 * (plan.latches + 0) ≡ 32 * loops = omega (arith, one.loops_same) in
     record {
-      distinct = subst (λ n. AreDistinctBelow n plan.ins) (ap₂ (λ a b. a - b) one.lanes_same one.loops_same) h.ins;
+      distinct = subst (λ n. AreDistinctBelow n plan.ins) (ap₂ (λ a b. a - b) one.lanes_same one.loops_same) h.admissible.ins;
       cells = has.in_cells ∙ ap (λ x. map (cell_on x) plan.ins) place;
     }
 
-pub outs_fit : (width height : ℕ) (ports : Ports) (lanes columns loops : ℕ) → IsSize width height ports.p ports.l lanes columns loops
-    → (plan : Plan) → IsAdmissible plan → HasBoxAndPorts width height ports plan → ArePortsOn (lanes - loops) (32 * (loops + columns)) ports.outs plan.outs
+pub outs_fit : (width height : ℕ) (ports : Ports) (lanes columns loops : ℕ) → IsSizeOfPlan width height ports.p ports.l lanes columns loops
+    → (plan : Plan) → IsCircuit plan → HasBoxAndPorts width height ports plan → ArePortsOn (lanes - loops) (32 * (loops + columns)) ports.outs plan.outs
 outs_fit width height ports lanes columns loops s plan h has =
     let one = one_size width height ports.p ports.l plan.lanes lanes (length plan.columns) columns plan.latches loops (size_is width height ports plan h has) s in
     let place : 32 * (plan.latches + length plan.columns) ≡ 32 * (loops + columns) = omega (arith, one.loops_same, one.columns_same) in
     record {
-      distinct = subst (λ n. AreDistinctBelow n plan.outs) (ap₂ (λ a b. a - b) one.lanes_same one.loops_same) h.outs;
+      distinct = subst (λ n. AreDistinctBelow n plan.outs) (ap₂ (λ a b. a - b) one.lanes_same one.loops_same) h.admissible.outs;
       cells = has.out_cells ∙ ap (λ x. map (cell_on x) plan.outs) place;
     }
 
 abbrev with_ports : Plan → List ℕ → List ℕ → Plan
 with_ports body ins outs =
-    record { lanes = body.lanes; columns = body.columns; latches = body.latches; starts = body.starts; ins = ins; outs = outs; nets = body.nets }
+    record { lanes = body.lanes; columns = body.columns; latches = body.latches; starts = body.starts; ins = ins; outs = outs; nets = body.nets; tape = body.tape }
 
 -- what is read, with its ports
-pub is_read : (grid : Grid) (ports : Ports) (lanes columns loops : ℕ) → IsSize grid.width grid.height ports.p ports.l lanes columns loops
+pub is_read : (grid : Grid) (ports : Ports) (lanes columns loops : ℕ) → IsSizeOfPlan grid.width grid.height ports.p ports.l lanes columns loops → ports.c ≡ 1
     → (body : Plan) → IsBodyRead grid.rows lanes columns loops body → (ins outs : List ℕ) → ArePortsOn (lanes - loops) (32 * loops) ports.ins ins
-    → ArePortsOn (lanes - loops) (32 * (loops + columns)) ports.outs outs → IsRead grid ports (with_ports body ins outs)
-is_read grid ports lanes columns loops s body b ins outs own_ins own_outs =
+    → ArePortsOn (lanes - loops) (32 * (loops + columns)) ports.outs outs → IsPlanRead grid ports (with_ports body ins outs)
+is_read grid ports lanes columns loops s one body b ins outs own_ins own_outs =
     let many : length body.columns ≡ columns =
     sym (length-map body.columns (λ (column : Column). column.instrs)) ∙ ap length b.columns_are ∙ length-map-range_with_len (λ n. column_shown grid.rows lanes (column_start loops n)) 0 columns in
     let first : 32 * loops ≡ 32 * (body.latches + 0) = omega (arith, b.loops_are) in
     let last : 32 * (loops + columns) ≡ 32 * (body.latches + length body.columns) = omega (arith, b.loops_are, many) in
     record {
-      size = subst (λ n. IsSize grid.width grid.height ports.p ports.l n (length body.columns) body.latches) (sym b.lanes_are)
-          (subst (λ n. IsSize grid.width grid.height ports.p ports.l lanes n body.latches) (sym many)
-          (subst (λ n. IsSize grid.width grid.height ports.p ports.l lanes columns n) (sym b.loops_are) s));
+      size = subst (λ n. IsSizeOfPlan grid.width grid.height ports.p ports.l n (length body.columns) body.latches) (sym b.lanes_are)
+          (subst (λ n. IsSizeOfPlan grid.width grid.height ports.p ports.l lanes n body.latches) (sym many)
+          (subst (λ n. IsSizeOfPlan grid.width grid.height ports.p ports.l lanes columns n) (sym b.loops_are) s));
+      contexts = one;
       columns = b.columns_are
           ∙ ap (λ n. columns_shown grid.rows n loops columns) (sym b.lanes_are)
           ∙ ap (λ n. columns_shown grid.rows body.lanes n columns) (sym b.loops_are)
           ∙ ap (λ n. columns_shown grid.rows body.lanes body.latches n) (sym many);
-      starts = b.starts_are ∙ ap (λ n. bits_shown grid.rows n loops) (sym b.lanes_are) ∙ ap (λ n. bits_shown grid.rows body.lanes n) (sym b.loops_are);
+      starts = b.starts_are
+          ∙ ap (λ n. starts_where n loops (bit_shown grid.rows n loops)) (sym b.lanes_are)
+          ∙ ap (λ n. starts_where body.lanes n (bit_shown grid.rows body.lanes n)) (sym b.loops_are);
       ins = subst (λ n. AreDistinctBelow n ins) (ap₂ (λ a b. a - b) (sym b.lanes_are) (sym b.loops_are)) own_ins.distinct;
       in_cells = own_ins.cells ∙ ap (λ x. map (cell_on x) ins) first;
       outs = subst (λ n. AreDistinctBelow n outs) (ap₂ (λ a b. a - b) (sym b.lanes_are) (sym b.loops_are)) own_outs.distinct;
       out_cells = own_outs.cells ∙ ap (λ x. map (cell_on x) outs) last;
-      nets = b.nets_are;
+      no_tape = b.no_tape;
     }

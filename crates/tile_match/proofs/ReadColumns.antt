@@ -7,34 +7,35 @@ use Rattle.std.proofs.lemmas.List.FromFn.{length-map-range_with_len, get_or-map-
 use Rattle.lane_core.specs.declared.instr.Instr.{Instr}
 use Rattle.lane_core.specs.declared.instr.Column.{Column}
 use Rattle.lane_core.specs.declared.plan.Plan.{Plan}
-use Rattle.lane_core.specs.Plans.{IsAdmissible}
+use Rattle.circuit_plans.specs.Circuits.{IsCircuit}
 use Rattle.lane_core.specs.Instrs.{lane_of, instr_on, are_sorted_apart, IsOnLanes}
 use Rattle.plan_layout.specs.Starts.{start_edges}
 use Rattle.plan_layout.specs.Layout.{instrs_of, body_slot}
 use Rattle.tile_library.specs.Drawings.{shipped_drawing}
 use Rattle.tiling.specs.Tiling.{drawn_slot}
 use Rattle.grid_assembly.specs.PlanDrawing.{start_grid}
-use Rattle.tile_match.specs.Blocks.{is_filled, instr_shown, instrs_from, instr_in, column_shown, column_start, columns_shown}
+use Rattle.tile_timing.specs.Law.{is_filled}
+use Rattle.tile_match.specs.Blocks.{instr_shown, instrs_from, instr_in, column_shown, column_start, columns_shown}
 use Rattle.tile_match.proofs.Within.{AreShown, Within, reads_all, within_lanes, begins_first}
 use Rattle.tile_match.proofs.Cells.{shown_by, none_shown, begun_shown}
 
 abbrev instrs_in : Column → List Instr
 instrs_in column = column.instrs
 
-no_column : Column
+pub no_column : Column
 no_column = record { instrs = []; sorted_apart = refl }
 
 -- the instructions of a column are that column's
 instrs_are : (plan : Plan) (c : ℕ) → c < length plan.columns → instrs_of plan c ≡ (get_or plan.columns c no_column).instrs
 instrs_are plan c within = get_or-map instrs_in plan.columns c no_column [] within
 
-within_column : (plan : Plan) → IsAdmissible plan → (c : ℕ) → c < length plan.columns → Within 0 (plan.lanes - 1) (instrs_of plan c)
+within_column : (plan : Plan) → IsCircuit plan → (c : ℕ) → c < length plan.columns → Within 0 (plan.lanes - 1) (instrs_of plan c)
 within_column plan h c within =
     let column = get_or plan.columns c no_column in
     subst (Within 0 (plan.lanes - 1)) (sym (instrs_are plan c within))
-    (within_lanes plan.lanes 0 column.instrs column.sorted_apart (h.instrs c no_column within) (begins_first column.instrs))
+    (within_lanes plan.lanes 0 column.instrs column.sorted_apart (h.admissible.instrs c no_column within) (begins_first column.instrs))
 
-pub are_shown : (plan : Plan) → IsAdmissible plan → (c : ℕ) → c < length plan.columns
+pub are_shown : (plan : Plan) → IsCircuit plan → (c : ℕ) → c < length plan.columns
     → AreShown (instr_in (start_grid plan).rows (column_start plan.latches c)) (instrs_of plan c) 0 (plan.lanes - 1)
 are_shown plan h c within = record {
   none = λ lane low high e.
@@ -48,13 +49,13 @@ are_shown plan h c within = record {
 }
 
 -- a column shows its instructions
-pub column_is : (plan : Plan) → IsAdmissible plan → (c : ℕ) → c < length plan.columns
+pub column_is : (plan : Plan) → IsCircuit plan → (c : ℕ) → c < length plan.columns
     → column_shown (start_grid plan).rows plan.lanes (column_start plan.latches c) ≡ instrs_of plan c
 column_is plan h c within =
     reads_all (instr_in (start_grid plan).rows (column_start plan.latches c)) (plan.lanes - 1) (instrs_of plan c) (within_column plan h c within) (are_shown plan h c within)
 
 -- and all columns theirs
-pub columns_are : (plan : Plan) → IsAdmissible plan
+pub columns_are : (plan : Plan) → IsCircuit plan
     → columns_shown (start_grid plan).rows plan.lanes plan.latches (length plan.columns) ≡ map instrs_in plan.columns
 columns_are plan h =
     let rows = (start_grid plan).rows in

@@ -1,9 +1,10 @@
--- Which loops of a plan start with 1 is seen where they enter the body.
-use Rattle.std.proofs.Common.{pos, ◌≡◌, refl, sym, ◌∙◌, ap, ℕ, ◌+◌, ◌-◌, ◌*◌, ◌<◌, ◌≤◌, Bool, true, false, ◌&&◌, ◌==◌, List, [], length, get_or, arith}
-use Rattle.std.specs.Prelude.{◌↔◌, nat_le}
+-- Which loops of a circuit start with 1 is seen where they enter the body.
+use Rattle.std.proofs.Common.{pos, ◌≡◌, refl, sym, ◌∙◌, ap, ℕ, ◌+◌, ◌-◌, ◌*◌, ◌<◌, ◌≤◌, Bool, true, false, ◌&&◌, ◌||◌, ◌==◌, List, [], ◌∷◌, length, get_or, arith}
+use Rattle.std.specs.Prelude.{◌↔◌, All}
+use Rattle.std.specs.List.{list_any}
+use Rattle.std.proofs.Math.Bool.{or-false}
 use Rattle.std.proofs.lemmas.Bool.Decides.{nat_tests}
-use Rattle.std.proofs.lemmas.List.{ext_get_or}
-use Rattle.std.proofs.lemmas.List.FromFn.{length-map-range_with_len, get_or-map-range_with_len}
+use Rattle.std.proofs.lemmas.List.Elements.{All-head, All-tail}
 use Rattle.ww_rule.specs.declared.pattern.State.{State}
 use Rattle.ww_rule.specs.declared.pattern.State.TheVariants.{Empty, Head, Tail, Conductor}
 use Rattle.ww_rule.specs.Wireworld.{is_head}
@@ -13,17 +14,27 @@ use Rattle.tiling.specs.Tiling.Edge.{Beside}
 use Rattle.tiling.specs.Matched.{is_entered}
 use Rattle.tiling.specs.Steps.{KeepsLaw}
 use Rattle.tiling.proofs.Shown.{shows_edges}
+use Rattle.lane_core.specs.declared.starts.Start.{Start}
 use Rattle.lane_core.specs.declared.plan.Plan.{Plan}
-use Rattle.lane_core.specs.Plans.{IsAdmissible, row_of}
+use Rattle.lane_core.specs.declared.instr.Instr.{Instr}
+use Rattle.lane_core.specs.declared.instr.Instr.TheVariants as instr
+use Rattle.lane_core.specs.Plans.{row_of}
+use Rattle.lane_core.specs.Starts.{is_start_at}
 use Rattle.lane_core.specs.Entering.{first_loop_lane}
+use Rattle.circuit_plans.specs.Circuits.{IsCircuit, IsLoopStart, loop_start, starts_with_one, starts_where}
+use Rattle.circuit_plans.proofs.Ordered.{starts_are_of_loops}
+use Rattle.tiling.specs.Tiling.{Slot}
+use Rattle.tiling.specs.Tiling.Piece.{Tile}
+use Rattle.tiling.specs.Tiling.Slot.{Upper, Lower}
 use Rattle.plan_layout.specs.Starts.{start_edges}
-use Rattle.plan_layout.specs.Layout.{tiling_of}
+use Rattle.plan_layout.specs.Layout.{kind_of, in_body, tiling_of}
+use Rattle.plan_layout.proofs.Bare.{bare}
 use Rattle.plan_layout.proofs.Matched.{tiling_is_matched}
-use Rattle.plan_waves.proofs.Parts.{some_columns, body_at}
-use Rattle.plan_waves.proofs.Inputs.{body_entry}
+use Rattle.plan_layout.proofs.Parts.{some_columns, body_at}
+use Rattle.plan_layout.proofs.Sides.{in_body_has}
 use Rattle.grid_assembly.specs.PlanDrawing.{start_grid}
 use Rattle.grid_assembly.proofs.Pattern.{patterns_are_planes}
-use Rattle.tile_match.specs.Blocks.{cell_in, column_start, bit_shown, bits_shown}
+use Rattle.tile_match.specs.Blocks.{cell_shown, column_start, bit_shown}
 
 head_test : (state : State) (lit : Bool) → ((state ≡ Head) ↔ (lit ≡ true)) → is_head state ≡ lit
 head_test Head lit h = sym (h.0 refl)
@@ -34,39 +45,55 @@ head_test Empty true h = let e : Empty ≡ Head = h.1 refl in cc
 head_test Tail true h = let e : Tail ≡ Head = h.1 refl in cc
 head_test Conductor true h = let e : Conductor ≡ Head = h.1 refl in cc
 
+-- the body is entered at its west side
+abbrev IsEntry : Slot → Type 0
+IsEntry slot = is_entered slot 0 8 ≡ true
+
+entry_kind : (i : Instr) → IsEntry (Upper (Tile (kind_of i))) × IsEntry (Lower (Tile (kind_of i)))
+entry_kind (instr.Swap i) = (refl, refl)
+entry_kind (instr.Fork i) = (refl, refl)
+entry_kind (instr.Xor i) = (refl, refl)
+entry_kind (instr.Or i) = (refl, refl)
+entry_kind (instr.AndNot i) = (refl, refl)
+
+body_entry : (plan : Plan) (q l : ℕ) → IsEntry (in_body plan q l)
+body_entry plan q l = in_body_has IsEntry plan q l refl entry_kind
+
 -- the cell at which a lane enters the body
-entry_is : KeepsLaw shipped_drawing → (plan : Plan) → IsAdmissible plan → (lane : ℕ) → lane < plan.lanes
-    → is_head (cell_in (start_grid plan).rows (column_start plan.latches 0) (row_of lane)) ≡ start_edges plan (Beside plan.latches lane)
+entry_is : KeepsLaw shipped_drawing → (plan : Plan) → IsCircuit plan → (lane : ℕ) → lane < plan.lanes
+    → is_head (cell_shown (start_grid plan).rows (column_start plan.latches 0) (row_of lane)) ≡ start_edges plan (Beside plan.latches lane)
 entry_is law plan h lane low =
-    let some : 0 < length plan.columns = some_columns plan h (omega arith) in
+    let some : 0 < length plan.columns = some_columns plan h.admissible (omega arith) in
     let entered : is_entered (tiling_of plan plan.latches lane) 0 8 ≡ true =
     ap (λ slot. is_entered slot 0 8) (body_at plan plan.latches lane (omega arith) (omega arith) low) ∙ body_entry plan plan.latches lane in
-    let shown = (shows_edges shipped_drawing law (tiling_of plan) (tiling_is_matched plan h) (start_edges plan)).entry plan.latches lane 0 (omega arith) entered in
+    let shown = (shows_edges shipped_drawing law (tiling_of plan) (tiling_is_matched plan h.admissible) (start_edges plan)).entry plan.latches lane 0 (omega arith) entered in
     let column : column_start plan.latches 0 ≡ 32 * plan.latches = omega arith in
-    ap (λ x. is_head (cell_in (start_grid plan).rows x (row_of lane))) column
-    ∙ ap (λ p. is_head (p (pos (32 * plan.latches)) (pos (row_of lane)))) (patterns_are_planes plan h).plane
+    ap (λ x. is_head (cell_shown (start_grid plan).rows x (row_of lane))) column
+    ∙ ap (λ p. is_head (p (pos (32 * plan.latches)) (pos (row_of lane)))) ((patterns_are_planes plan h.admissible).plane ∙ (bare plan h.no_tape).plane shipped_drawing)
     ∙ head_test (drawn shipped_drawing (tiling_of plan) (start_edges plan) (pos (32 * plan.latches)) (pos (16 * lane + 8))) (start_edges plan (Beside plan.latches lane))
     (λ head. (shown.0 head).1, λ lit. shown.1 (refl, lit))
 
-start_is : KeepsLaw shipped_drawing → (plan : Plan) → IsAdmissible plan → (number : ℕ) → number < plan.latches
-    → bit_shown (start_grid plan).rows plan.lanes plan.latches number ≡ get_or plan.starts number false
-start_is law plan h number within =
-    let on_lanes : plan.latches ≤ plan.lanes = h.size.loops_on_lanes in
-    let first : ℕ = first_loop_lane plan.lanes plan.latches in
-    let here : (plan.latches == plan.latches) ≡ true = grind (arith, nat_tests) in
-    let low : nat_le (first_loop_lane plan.lanes plan.latches) (first_loop_lane plan.lanes plan.latches + number) ≡ true = grind (arith, nat_tests) in
-    let place : first_loop_lane plan.lanes plan.latches + number - first_loop_lane plan.lanes plan.latches ≡ number = omega arith in
-    entry_is law plan h (first_loop_lane plan.lanes plan.latches + number) (omega arith)
-    ∙ ap (λ b. b && nat_le (first_loop_lane plan.lanes plan.latches) (first_loop_lane plan.lanes plan.latches + number)
-    && get_or plan.starts (first_loop_lane plan.lanes plan.latches + number - first_loop_lane plan.lanes plan.latches) false) here
-    ∙ ap (λ b. b && get_or plan.starts (first_loop_lane plan.lanes plan.latches + number - first_loop_lane plan.lanes plan.latches) false) low
-    ∙ ap (λ n. get_or plan.starts n false) place
+-- no loop starts west of the edges at which loops enter
+none_west : (lanes loops y : ℕ) (starts : List Start) → All (IsLoopStart lanes loops) starts → is_start_at starts (32 * loops - 1) y ≡ false
+none_west lanes loops y [] all = refl
+none_west lanes loops y (start ∷ starts) all =
+    let first : IsLoopStart lanes loops start = All-head (IsLoopStart lanes loops) start starts all in
+    let some : first.0 < loops = first.1 in
+    let here : start.x ≡ 32 * loops = ap (λ (s : Start). s.x) first.2 in
+    let off : (start.x == 32 * loops - 1) ≡ false = grind (arith, nat_tests) in
+    ap (λ b. (b && start.y == y) || is_start_at starts (32 * loops - 1) y) off
+    ∙ none_west lanes loops y starts (All-tail (IsLoopStart lanes loops) start starts all)
 
-pub starts_are : KeepsLaw shipped_drawing → (plan : Plan) → IsAdmissible plan
-    → bits_shown (start_grid plan).rows plan.lanes plan.latches ≡ plan.starts
-starts_are law plan h =
-    let rows = (start_grid plan).rows in
-    let many : length (bits_shown rows plan.lanes plan.latches) ≡ plan.latches = length-map-range_with_len (bit_shown rows plan.lanes plan.latches) 0 plan.latches in
-    ext_get_or false (bits_shown rows plan.lanes plan.latches) plan.starts (many ∙ sym h.size.starts)
-    (λ number lt. (let within : number < plan.latches = omega (arith, lt, many) in
-    get_or-map-range_with_len (bit_shown rows plan.lanes plan.latches) 0 plan.latches number number false within (omega arith) ∙ start_is law plan h number within))
+bit_is : KeepsLaw shipped_drawing → (plan : Plan) → IsCircuit plan → (loop : ℕ) → loop < plan.latches
+    → bit_shown (start_grid plan).rows plan.lanes plan.latches loop ≡ starts_with_one plan.starts.list plan.lanes plan.latches loop
+bit_is law plan h loop within =
+    let on_lanes : plan.latches ≤ plan.lanes = h.admissible.size.loops_on_lanes in
+    entry_is law plan h (first_loop_lane plan.lanes plan.latches + loop) (omega arith)
+    ∙ ap (λ b. is_start_at plan.starts.list (32 * plan.latches) (row_of (first_loop_lane plan.lanes plan.latches + loop)) || b)
+    (none_west plan.lanes plan.latches (row_of (first_loop_lane plan.lanes plan.latches + loop)) plan.starts.list h.at_loops)
+    ∙ or-false _
+
+-- and these are the starts
+pub starts_are : KeepsLaw shipped_drawing → (plan : Plan) → IsCircuit plan
+    → starts_where plan.lanes plan.latches (bit_shown (start_grid plan).rows plan.lanes plan.latches) ≡ plan.starts.list
+starts_are law plan h = starts_are_of_loops plan h (bit_shown (start_grid plan).rows plan.lanes plan.latches) (bit_is law plan h)

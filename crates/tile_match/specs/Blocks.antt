@@ -11,12 +11,12 @@ use Rattle.lane_core.specs.Plans.{row_of}
 use Rattle.lane_core.specs.Entering.{first_loop_lane}
 
 -- the cell at column x and row y of rows of cells; past them it is empty
-abbrev pub cell_in : List (List State) → ℕ → ℕ → State
-cell_in rows x y = get_or (get_or rows y []) x Empty
+abbrev pub cell_shown : List (List State) → ℕ → ℕ → State
+cell_shown rows x y = get_or (get_or rows y []) x Empty
 
 -- whether there is a cell that is not empty
 abbrev pub is_filled_in : List (List State) → ℕ → ℕ → Bool
-is_filled_in rows x y = is_filled (cell_in rows x y)
+is_filled_in rows x y = is_filled (cell_shown rows x y)
 
 -- The instruction of which the upper half stands in a block, and none where there is a tile that only goes on, by three cells of the
 -- block: `climbs` at (3, 6), `falls` at (5, 9) and `ends` at (23, 8). Of the six drawings that may stand there, no two have the same
@@ -55,7 +55,7 @@ columns_shown rows lanes loops count = map (λ column. column_shown rows lanes (
 
 -- which loops start with 1: those with a head where they enter the body
 abbrev pub bit_shown : List (List State) → ℕ → ℕ → ℕ → Bool
-bit_shown rows lanes loops number = is_head (cell_in rows (column_start loops 0) (row_of (first_loop_lane lanes loops + number)))
+bit_shown rows lanes loops number = is_head (cell_shown rows (column_start loops 0) (row_of (first_loop_lane lanes loops + number)))
 
 abbrev pub bits_shown : List (List State) → ℕ → ℕ → List Bool
 bits_shown rows lanes loops = map (bit_shown rows lanes loops) (range_with_len 0 loops)

@@ -1,5 +1,6 @@
 pub mod Blocks
 pub mod Circuit
+pub mod Equations
 pub mod Sizes
 pub mod Names
 pub mod Faults

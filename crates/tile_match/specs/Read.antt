@@ -9,7 +9,7 @@ use Rattle.circuit_plans.specs.Circuits.{starts_where}
 use Rattle.pattern_reading.specs.declared.ports.Ports.{Ports}
 use Rattle.pattern_reading.specs.Ports.{cells_of}
 use Rattle.tile_match.specs.Blocks.{columns_shown, bit_shown}
-use Rattle.tile_match.specs.Sizes.{IsSize}
+use Rattle.tile_match.specs.Sizes.{IsSizeOfPlan}
 
 -- a plan of so many lanes, columns and loops has the columns and starts that rows of cells show
 pub record IsBodyRead (rows : List (List State)) (lanes columns loops : ℕ) (plan : Plan) : Type 0 where
@@ -20,9 +20,10 @@ pub record IsBodyRead (rows : List (List State)) (lanes columns loops : ℕ) (pl
   pub nets_are : plan.nets ≡ []
   pub no_tape : plan.tape ≡ []
 
--- it has the box, the period, the latency and the ports of a pattern with a table as well
-pub record IsRead (grid : Grid) (ports : Ports) (plan : Plan) : Type 0 where
-  pub size : IsSize grid.width grid.height ports.p ports.l plan.lanes (length plan.columns) plan.latches
+-- a plan has the box, the period, the latency and the ports of a pattern with the table of one context, and the columns and
+-- starts that the pattern shows
+pub record IsPlanRead (grid : Grid) (ports : Ports) (plan : Plan) : Type 0 where
+  pub size : IsSizeOfPlan grid.width grid.height ports.p ports.l plan.lanes (length plan.columns) plan.latches
   pub contexts : ports.c ≡ 1
   pub columns : map (λ column. column.instrs) plan.columns ≡ columns_shown grid.rows plan.lanes plan.latches (length plan.columns)
   pub starts : plan.starts.list ≡ starts_where plan.lanes plan.latches (bit_shown grid.rows plan.lanes plan.latches)
@@ -30,5 +31,4 @@ pub record IsRead (grid : Grid) (ports : Ports) (plan : Plan) : Type 0 where
   pub in_cells : cells_of ports.ins ≡ input_cells plan
   pub outs : AreDistinctBelow (plan.lanes - plan.latches) plan.outs
   pub out_cells : cells_of ports.outs ≡ output_cells plan
-  pub nets : plan.nets ≡ []
   pub no_tape : plan.tape ≡ []

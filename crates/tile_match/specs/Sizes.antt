@@ -2,7 +2,7 @@
 use Rattle.std.specs.Prelude.{ℕ, ◌<◌, ◌≡◌, ◌^◌, ◌*◌, ◌+◌, ◌≤◌, ◌==◌, ◌↔◌, cond}
 
 -- so many lanes, columns and loops are those of a plan with this box, this period and this latency
-pub record IsSize (width height period latency lanes columns loops : ℕ) : Type 0 where
+pub record IsSizeOfPlan (width height period latency lanes columns loops : ℕ) : Type 0 where
   pub few_lanes : lanes < 2 ^ 32
   pub few_columns : columns < 2 ^ 40
   pub both : (lanes ≡ 0) ↔ (columns ≡ 0)

@@ -1,5 +1,5 @@
 // Whether rows of cells are the drawing of a plan: block by block, and in a block row by row, by runs of equal cells.
-ghost use Rattle.std.specs.Prelude.{◌≡◌, ◌↔◌, ◌<◌, ◌≤◌, ◌+◌, ◌-◌, ◌*◌, ◌/◌, ◌%◌, ◌==◌, [], All, IsTrue, IfOk, IfSome, IfNone, length};
+ghost use Rattle.std.specs.Prelude.{◌≡◌, ◌↔◌, ◌<◌, ◌≤◌, ◌+◌, ◌-◌, ◌*◌, ◌/◌, ◌%◌, ◌==◌, [], All, IsTrue, IfOk, IfSome, IfNone, length, take, drop};
 ghost use Rattle.std.specs.List.{list_any};
 ghost use Rattle.lane_core.specs.Plans.{IsAdmissible, size_of};
 ghost use Rattle.plan_layout.specs.Slots.{slot_of};
@@ -34,6 +34,14 @@ fn are_all(cells: &[State], state: State) -> bool
     cells.iter().all(|cell| is_same(*cell, state))
 }
 
+// So many cells of a row from a place on.
+fn cells_from(cells: &[State], from: usize, count: usize) -> &[State]
+    requires { from + count ≤ length cells.now }
+    ensures { result.now ≡ take count (drop from cells.now) }
+{
+    &cells[from..from + count]
+}
+
 // How many cells from x on are alike in the plan's drawing, where the pattern's cells there are so too, and none where these
 // are not.
 fn drawn_run(plan: &Plan, slot: Slot, cells: &[State], y: u64, x: u64, until: u64) -> Option<u64>
@@ -45,7 +53,7 @@ fn drawn_run(plan: &Plan, slot: Slot, cells: &[State], y: u64, x: u64, until: u6
     ensures other { IfNone result (IsSpanDrawn plan.now cells.now y x until → ⊥) }
 {
     let (state, count) = run_in(plan, slot, y, x, until - x);
-    if are_all(&cells[x as usize..(x + count) as usize], state) {
+    if are_all(cells_from(cells, x as usize, count as usize), state) {
         Some(count)
     } else {
         None

@@ -1,10 +1,10 @@
 // The plan that a pattern with a port table shows, where some plan has its box and ports.
-ghost use Rattle.std.specs.Prelude.{◌≡◌, ◌<◌, ◌≤◌, ◌-◌, ◌*◌, ◌+◌, ◌^◌, map, length, IfOk, MatchOption};
+ghost use Rattle.std.specs.Prelude.{◌≡◌, ◌<◌, ◌≤◌, ◌-◌, ◌*◌, ◌+◌, ◌^◌, [], map, length, IfOk, MatchOption};
 ghost use Rattle.ww_rule.specs.Patterns.{grid_of};
 ghost use Rattle.lane_core.specs.Places.{AreDistinctBelow};
 ghost use Rattle.lane_core.specs.Plans.{input_cells, output_cells};
 ghost use Rattle.tile_match.specs.Circuit.{HasSomePlan};
-ghost use Rattle.tile_match.specs.Read.{IsRead, IsBodyRead};
+ghost use Rattle.tile_match.specs.Read.{IsPlanRead, IsBodyRead};
 
 use crate::columns::columns_shown;
 use crate::lanes::distinct_lanes;
@@ -42,8 +42,11 @@ pub fn plan_shown(
     pattern: &Pattern,
     ports: &Ports,
 ) -> Result<Option<Plan>, AllocError>
-    ensures { IfOk result (λ found. MatchOption found (HasSomePlan (grid_of pattern.now) ports.now → ⊥) (λ plan. IsRead (grid_of pattern.now) ports.now plan)) }
+    ensures { IfOk result (λ found. MatchOption found (HasSomePlan (grid_of pattern.now) ports.now → ⊥) (λ plan. IsPlanRead (grid_of pattern.now) ports.now plan × (plan.nets ≡ []))) }
 {
+    if ports.c != 1 {
+        return Ok(None);
+    }
     let Some(size) = size_in(pattern.width, pattern.height, ports.p, ports.l) else {
         return Ok(None);
     };

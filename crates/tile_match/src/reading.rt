@@ -1,14 +1,15 @@
 // What stands in a block, by its cells.
 ghost use Rattle.std.specs.Prelude.{◌≡◌, ◌+◌, ◌*◌, ◌<◌, ◌^◌};
 ghost use Rattle.ww_rule.specs.Wireworld.{is_head};
-ghost use Rattle.tile_match.specs.Blocks.{cell_in, is_filled, is_filled_in, instr_in};
+ghost use Rattle.tile_timing.specs.Law.{is_filled};
+ghost use Rattle.tile_match.specs.Blocks.{cell_shown, is_filled_in, instr_in};
 
 use lane_core::Instr;
 use ww_rule::{CellRows, State};
 
 /// The cell at column x and row y, and empty past the rows.
-pub fn cell_in(rows: &CellRows, x: u64, y: u64) -> State
-    ensures { result ≡ cell_in rows.now x y }
+pub fn cell_shown(rows: &CellRows, x: u64, y: u64) -> State
+    ensures { result ≡ cell_shown rows.now x y }
 {
     match rows.row_or_none(y as usize).get(x as usize) {
         Some(state) => *state,
@@ -28,7 +29,7 @@ fn is_filled(state: State) -> bool
 fn is_filled_in(rows: &CellRows, x: u64, y: u64) -> bool
     ensures { result ≡ is_filled_in rows.now x y }
 {
-    is_filled(cell_in(rows, x, y))
+    is_filled(cell_shown(rows, x, y))
 }
 
 /// Whether a state is a head.

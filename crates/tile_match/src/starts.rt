@@ -3,7 +3,7 @@ ghost use Rattle.std.specs.Prelude.{◌≡◌, ◌≤◌, IfOk};
 ghost use Rattle.circuit_plans.specs.Circuits.{starts_where};
 ghost use Rattle.tile_match.specs.Blocks.{bit_shown, bits_shown};
 
-use crate::reading::{cell_in, is_head};
+use crate::reading::{cell_shown, is_head};
 use circuit_plans::starts_of_bits;
 use lane_core::Starts;
 use std::alloc::{AllocError, Global};
@@ -14,7 +14,7 @@ fn bit_shown(rows: &CellRows, lanes: u32, loops: u32, number: u32) -> bool
     ensures { result ≡ bit_shown rows.now lanes loops number }
 {
     let lane = (lanes - loops) as u64 + number as u64;
-    is_head(cell_in(rows, 32 * loops as u64, 16 * lane + 8))
+    is_head(cell_shown(rows, 32 * loops as u64, 16 * lane + 8))
 }
 
 // A bit for each of so many loops.

@@ -1,0 +1,2 @@
+use Rattle.std.proofs.Common.{◌≡◌, refl, arith}
+use Rattle.tile_match.proofs.compare.is_drawn.Goals as goal
