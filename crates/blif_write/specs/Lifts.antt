@@ -7,11 +7,12 @@ use Rattle.plan_cells.specs.Lists.{IsListOf}
 use Rattle.blif_write.specs.declared.lift.Lift.{Lift}
 use Rattle.blif_write.specs.Text.{lifted_text}
 
--- it has the cells of the plan, and names of the ports
+-- it has the cells of the plan, and the names of the ports
 pub record IsLiftOf (plan : Plan) (ports : Ports) (lift : Lift) : Type 0 where
   pub cells : IsListOf plan lift.list
-  pub named_by : lift.ports.now ≡ ports
+  pub ins : lift.ins ≡ names_of ports.ins
+  pub outs : lift.outs ≡ names_of ports.outs
 
 -- its text
 abbrev pub text_of_lift : Lift → List ℕ
-text_of_lift lift = lifted_text (names_of lift.ports.now.ins) (names_of lift.ports.now.outs) lift.list
+text_of_lift lift = lifted_text lift.ins lift.outs lift.list

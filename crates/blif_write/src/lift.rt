@@ -1,18 +1,18 @@
 // A circuit that is lifted.
 ghost use Rattle.std.specs.Prelude.{◌≡◌, ◌++◌, length};
-ghost use Rattle.pattern_reading.specs.Ports.{names_of};
 ghost use Rattle.lifted_designs.specs.Names.{most_leading};
 
 use cell_core::CellList;
-use pattern_reading::Ports;
+use lists::{Bytes, List};
 
-/// The cells of a circuit, the ports that give its inputs and outputs their names, and the most `_` with which one of these
-/// names begins. It holds nothing of the text.
+/// The cells of a circuit, the names of its inputs and outputs, and the most `_` with which one of these names begins. It
+/// holds nothing else of the text.
 #[derive(Drop)]
-pub struct Lift<'a> {
+pub struct Lift {
     pub list: CellList,
-    pub ports: &'a Ports,
-    pub most_leading: usize,
-    pub ghost marked: { most_leading ≡ most_leading (names_of ports.now.ins ++ names_of ports.now.outs) },
-    pub ghost outs_named: { length ports.now.outs ≡ length list.outs },
+    pub ins: List<Bytes>,
+    pub outs: List<Bytes>,
+    pub leading: usize,
+    pub ghost marked: { leading ≡ most_leading (ins ++ outs) },
+    pub ghost outs_named: { length outs ≡ length list.outs },
 }

@@ -10,9 +10,22 @@ ghost use Rattle.blif_write.specs.Lifts.{IsLiftOf};
 
 use crate::Lift;
 use lane_core::Plan;
+use lists::{Bytes, List, copied};
 use pattern_reading::{PortLine, Ports};
 use plan_cells::{LiftError, cells_of};
-use std::alloc::Global;
+use std::alloc::{AllocError, Global};
+
+// Copies of the names of ports.
+fn names_of(alloc: Global, ports: &[PortLine]) -> Result<List<Bytes>, AllocError>
+    ensures { IfOk result (λ names. names ≡ names_of ports.now) }
+{
+    let mut names = Vec::new(alloc);
+    for port in ports {
+        let name = copied(alloc, port.name.as_slice())?;
+        names.push(name)?;
+    }
+    Ok(List::of(names))
+}
 
 // With how many `_` a name begins.
 fn leading(name: &[u8]) -> usize
@@ -26,20 +39,20 @@ fn leading(name: &[u8]) -> usize
     name.len()
 }
 
-// The most `_` with which a name of ports begins, or this many where that is more.
-fn most_leading(ports: &[PortLine], least: usize) -> usize
-    ensures { result ≡ max least (most_leading (names_of ports.now)) }
+// The most `_` with which one of the names begins, or this many where that is more.
+fn most_leading(names: &[Bytes], least: usize) -> usize
+    ensures { result ≡ max least (most_leading names.now) }
 {
     let mut most = least;
-    for port in ports {
-        most = most.max(leading(port.name.as_slice()));
+    for name in names {
+        most = most.max(leading(name.as_slice()));
     }
     most
 }
 
 /// The circuit of a plan, whose inputs and outputs bear the names of these ports, in order. The plan's nets are not looked
 /// at. A call asks for a port for each output.
-pub fn of<'a>(alloc: Global, plan: &Plan, ports: &'a Ports) -> Result<Lift<'a>, LiftError>
+pub fn of(alloc: Global, plan: &Plan, ports: &Ports) -> Result<Lift, LiftError>
     requires admissible { IsAdmissible plan.now }
     requires outs { length ports.now.outs ≡ length plan.now.outs }
     ensures lift { IfOk result (IsLiftOf plan.now ports.now) }
@@ -47,10 +60,14 @@ pub fn of<'a>(alloc: Global, plan: &Plan, ports: &'a Ports) -> Result<Lift<'a>, 
     ensures no_one { IfOk result (λ lift. names_one lift.list ≡ false) }
 {
     let list = cells_of(alloc, plan)?;
-    let of_ins = most_leading(ports.ins.as_slice(), 0);
+    let ins = names_of(alloc, ports.ins.as_slice())?;
+    let outs = names_of(alloc, ports.outs.as_slice())?;
+    let of_ins = most_leading(ins.as_slice(), 0);
+    let leading = most_leading(outs.as_slice(), of_ins);
     Ok(Lift {
         list,
-        ports,
-        most_leading: most_leading(ports.outs.as_slice(), of_ins),
+        ins,
+        outs,
+        leading,
     })
 }

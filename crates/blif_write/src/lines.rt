@@ -2,7 +2,6 @@
 ghost use Rattle.std.specs.Prelude.{ℕ, List, ◌∷◌, ◌++◌, map, OnOk, OnErr};
 ghost use Rattle.ww_base.specs.Pages.{held};
 ghost use Rattle.ww_base.specs.Progress.{Wrote, Broke};
-ghost use Rattle.pattern_reading.specs.Ports.{names_of};
 ghost use Rattle.blif_text.specs.declared.logical.Logical.{Logical};
 ghost use Rattle.lifted_lines.specs.Lines.{worded_line};
 ghost use Rattle.blif_write.specs.Text.{lines_text};
@@ -11,7 +10,7 @@ ghost use Rattle.blif_write.specs.Words.{spaced, word_in};
 use crate::Lift;
 use crate::word::LineWord;
 use crate::words::write_word;
-use pattern_reading::PortLine;
+use lists::Bytes;
 use ww_base::{Failed, Page, Sink};
 
 // Writes a space and a word.
@@ -23,10 +22,10 @@ fn write_after_space<O: Sink>(
 ) -> Result<(), Failed>
     ensures ok { OnOk result ((rest : List ℕ) →
         Wrote (O.written sink.old) (O.written sink.new) (O.faults sink.old) (O.faults sink.new)
-        (held page.old ++ ((32 ∷ word_in lift.now word) ++ rest)) (held page.new ++ rest)) }
+        (held page.old ++ ((32 ∷ word_in lift.now word.entry) ++ rest)) (held page.new ++ rest)) }
     ensures err { OnErr result ((rest : List ℕ) →
         Broke (O.written sink.old) (O.written sink.new) (O.faults sink.old) (O.faults sink.new)
-        (held page.old ++ ((32 ∷ word_in lift.now word) ++ rest))) }
+        (held page.old ++ ((32 ∷ word_in lift.now word.entry) ++ rest))) }
 {
     page.put(sink, b" ")?;
     write_word(sink, page, lift, word)
@@ -41,10 +40,10 @@ fn write_words<O: Sink>(
 ) -> Result<(), Failed>
     ensures ok { OnOk result ((rest : List ℕ) →
         Wrote (O.written sink.old) (O.written sink.new) (O.faults sink.old) (O.faults sink.new)
-        (held page.old ++ (spaced (map (word_in lift.now) words.now) ++ rest)) (held page.new ++ rest)) }
+        (held page.old ++ (spaced (word_in lift.now) words.now ++ rest)) (held page.new ++ rest)) }
     ensures err { OnErr result ((rest : List ℕ) →
         Broke (O.written sink.old) (O.written sink.new) (O.faults sink.old) (O.faults sink.new)
-        (held page.old ++ (spaced (map (word_in lift.now) words.now) ++ rest))) }
+        (held page.old ++ (spaced (word_in lift.now) words.now ++ rest))) }
 {
     for word in words {
         write_after_space(sink, page, lift, *word)?;
@@ -52,22 +51,22 @@ fn write_words<O: Sink>(
     Ok(())
 }
 
-// Writes the names of ports, each after a space.
+// Writes names, each after a space.
 fn write_names<O: Sink>(
     sink: &mut O,
     page: &mut Page,
     lift: &Lift,
-    ports: &[PortLine],
+    names: &[Bytes],
 ) -> Result<(), Failed>
     ensures ok { OnOk result ((rest : List ℕ) →
         Wrote (O.written sink.old) (O.written sink.new) (O.faults sink.old) (O.faults sink.new)
-        (held page.old ++ (spaced (names_of ports.now) ++ rest)) (held page.new ++ rest)) }
+        (held page.old ++ (spaced (λ name. name) names.now ++ rest)) (held page.new ++ rest)) }
     ensures err { OnErr result ((rest : List ℕ) →
         Broke (O.written sink.old) (O.written sink.new) (O.faults sink.old) (O.faults sink.new)
-        (held page.old ++ (spaced (names_of ports.now) ++ rest))) }
+        (held page.old ++ (spaced (λ name. name) names.now ++ rest))) }
 {
-    for port in ports {
-        write_after_space(sink, page, lift, LineWord::Bytes(port.name.as_slice()))?;
+    for name in names {
+        write_after_space(sink, page, lift, LineWord::Bytes(name.as_slice()))?;
     }
     Ok(())
 }
@@ -92,22 +91,22 @@ pub fn write_line<O: Sink>(
     page.put(sink, b"\n")
 }
 
-/// Writes a line of which the other words are names of ports.
-pub fn write_port_line<O: Sink>(
+/// Writes a line of its first word and of names.
+pub fn write_name_line<O: Sink>(
     sink: &mut O,
     page: &mut Page,
     lift: &Lift,
     first: &[u8],
-    ports: &[PortLine],
+    names: &[Bytes],
 ) -> Result<(), Failed>
     ensures ok { OnOk result ((n : ℕ) (more : List Logical) →
         Wrote (O.written sink.old) (O.written sink.new) (O.faults sink.old) (O.faults sink.new)
-        (held page.old ++ lines_text (worded_line n (first.now ∷ names_of ports.now) ∷ more)) (held page.new ++ lines_text more)) }
+        (held page.old ++ lines_text (worded_line n (first.now ∷ names.now) ∷ more)) (held page.new ++ lines_text more)) }
     ensures err { OnErr result ((n : ℕ) (more : List Logical) →
         Broke (O.written sink.old) (O.written sink.new) (O.faults sink.old) (O.faults sink.new)
-        (held page.old ++ lines_text (worded_line n (first.now ∷ names_of ports.now) ∷ more))) }
+        (held page.old ++ lines_text (worded_line n (first.now ∷ names.now) ∷ more))) }
 {
     page.put(sink, first)?;
-    write_names(sink, page, lift, ports)?;
+    write_names(sink, page, lift, names)?;
     page.put(sink, b"\n")
 }

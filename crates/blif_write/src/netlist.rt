@@ -6,9 +6,8 @@ ghost use Rattle.blif_text.specs.declared.logical.Logical.{Logical};
 ghost use Rattle.cell_core.specs.declared.cells.Cell.{Cell};
 ghost use Rattle.lifted_designs.specs.Lifted.{first_of, second_of};
 ghost use Rattle.lifted_lines.specs.Lines.{cell_lines, latch_lines, lines_of_outputs, row, rows_then, start_word};
-ghost use Rattle.pattern_reading.specs.Ports.{names_of};
 ghost use Rattle.blif_write.specs.Text.{lines_text};
-ghost use Rattle.blif_write.specs.Words.{ins_in, mark_in, output_then};
+ghost use Rattle.blif_write.specs.Words.{mark_in, output_then};
 
 use crate::Lift;
 use crate::lines::write_line;
@@ -34,10 +33,10 @@ fn write_latch<O: Sink>(
 ) -> Result<(), Failed>
     ensures ok { OnOk result ((n : ℕ) (more : List Logical) →
         Wrote (O.written sink.old) (O.written sink.new) (O.faults sink.old) (O.faults sink.new)
-        (held page.old ++ lines_text (latch_lines (mark_in lift.now) (ins_in lift.now) n number (source ∷ []) (start ∷ []) more)) (held page.new ++ lines_text more)) }
+        (held page.old ++ lines_text (latch_lines (mark_in lift.now) lift.now.ins n number (source ∷ []) (start ∷ []) more)) (held page.new ++ lines_text more)) }
     ensures err { OnErr result ((n : ℕ) (more : List Logical) →
         Broke (O.written sink.old) (O.written sink.new) (O.faults sink.old) (O.faults sink.new)
-        (held page.old ++ lines_text (latch_lines (mark_in lift.now) (ins_in lift.now) n number (source ∷ []) (start ∷ []) more))) }
+        (held page.old ++ lines_text (latch_lines (mark_in lift.now) lift.now.ins n number (source ∷ []) (start ∷ []) more))) }
 {
     let words = [
         LineWord::Net(source),
@@ -51,21 +50,15 @@ fn write_latch<O: Sink>(
 pub fn write_latches<O: Sink>(sink: &mut O, page: &mut Page, lift: &Lift) -> Result<(), Failed>
     ensures ok { OnOk result ((n : ℕ) (more : List Logical) →
         Wrote (O.written sink.old) (O.written sink.new) (O.faults sink.old) (O.faults sink.new)
-        (held page.old ++ lines_text (latch_lines (mark_in lift.now) (ins_in lift.now) n 0 lift.now.list.latches lift.now.list.starts more)) (held page.new ++ lines_text more)) }
+        (held page.old ++ lines_text (latch_lines (mark_in lift.now) lift.now.ins n 0 lift.now.list.latches lift.now.list.starts more)) (held page.new ++ lines_text more)) }
     ensures err { OnErr result ((n : ℕ) (more : List Logical) →
         Broke (O.written sink.old) (O.written sink.new) (O.faults sink.old) (O.faults sink.new)
-        (held page.old ++ lines_text (latch_lines (mark_in lift.now) (ins_in lift.now) n 0 lift.now.list.latches lift.now.list.starts more))) }
+        (held page.old ++ lines_text (latch_lines (mark_in lift.now) lift.now.ins n 0 lift.now.list.latches lift.now.list.starts more))) }
 {
-    let (latches, starts) = (&lift.list.latches, &lift.list.starts);
-    for number in 0..latches.len() {
-        write_latch(
-            sink,
-            page,
-            lift,
-            number,
-            *latches.get(number),
-            *starts.get(number),
-        )?;
+    for number in 0..lift.list.latches.len() {
+        let source = *lift.list.latches.get(number);
+        let start = *lift.list.starts.get(number);
+        write_latch(sink, page, lift, number, source, start)?;
     }
     Ok(())
 }
@@ -80,16 +73,16 @@ fn sources(cell: Cell) -> (Src, Src)
     }
 }
 
-// Writes a row of a cover.
-fn write_row<O: Sink>(sink: &mut O, page: &mut Page, lift: &Lift, row: &[u8]) -> Result<(), Failed>
+// Writes a row of a cover: these bits of what it reads, and 1.
+fn write_row<O: Sink>(sink: &mut O, page: &mut Page, lift: &Lift, bits: &[u8]) -> Result<(), Failed>
     ensures ok { OnOk result ((n : ℕ) (more : List Logical) →
         Wrote (O.written sink.old) (O.written sink.new) (O.faults sink.old) (O.faults sink.new)
-        (held page.old ++ lines_text (row n row.now (codes "1") ∷ more)) (held page.new ++ lines_text more)) }
+        (held page.old ++ lines_text (row n bits.now (codes "1") ∷ more)) (held page.new ++ lines_text more)) }
     ensures err { OnErr result ((n : ℕ) (more : List Logical) →
         Broke (O.written sink.old) (O.written sink.new) (O.faults sink.old) (O.faults sink.new)
-        (held page.old ++ lines_text (row n row.now (codes "1") ∷ more))) }
+        (held page.old ++ lines_text (row n bits.now (codes "1") ∷ more))) }
 {
-    write_line(sink, page, lift, row, &[LineWord::Bytes(b"1")])
+    write_line(sink, page, lift, bits, &[LineWord::Bytes(b"1")])
 }
 
 // Writes the rows of a gate.
@@ -124,10 +117,10 @@ fn write_gate<O: Sink>(
 ) -> Result<(), Failed>
     ensures ok { OnOk result ((n : ℕ) (more : List Logical) →
         Wrote (O.written sink.old) (O.written sink.new) (O.faults sink.old) (O.faults sink.new)
-        (held page.old ++ lines_text (cell_lines (mark_in lift.now) (ins_in lift.now) n number (cell ∷ []) more)) (held page.new ++ lines_text more)) }
+        (held page.old ++ lines_text (cell_lines (mark_in lift.now) lift.now.ins n number (cell ∷ []) more)) (held page.new ++ lines_text more)) }
     ensures err { OnErr result ((n : ℕ) (more : List Logical) →
         Broke (O.written sink.old) (O.written sink.new) (O.faults sink.old) (O.faults sink.new)
-        (held page.old ++ lines_text (cell_lines (mark_in lift.now) (ins_in lift.now) n number (cell ∷ []) more))) }
+        (held page.old ++ lines_text (cell_lines (mark_in lift.now) lift.now.ins n number (cell ∷ []) more))) }
 {
     let (a, b) = sources(cell);
     let words = [LineWord::Net(a), LineWord::Net(b), LineWord::Gate(number)];
@@ -139,13 +132,14 @@ fn write_gate<O: Sink>(
 pub fn write_gates<O: Sink>(sink: &mut O, page: &mut Page, lift: &Lift) -> Result<(), Failed>
     ensures ok { OnOk result ((n : ℕ) (more : List Logical) →
         Wrote (O.written sink.old) (O.written sink.new) (O.faults sink.old) (O.faults sink.new)
-        (held page.old ++ lines_text (cell_lines (mark_in lift.now) (ins_in lift.now) n 0 lift.now.list.cells more)) (held page.new ++ lines_text more)) }
+        (held page.old ++ lines_text (cell_lines (mark_in lift.now) lift.now.ins n 0 lift.now.list.cells more)) (held page.new ++ lines_text more)) }
     ensures err { OnErr result ((n : ℕ) (more : List Logical) →
         Broke (O.written sink.old) (O.written sink.new) (O.faults sink.old) (O.faults sink.new)
-        (held page.old ++ lines_text (cell_lines (mark_in lift.now) (ins_in lift.now) n 0 lift.now.list.cells more))) }
+        (held page.old ++ lines_text (cell_lines (mark_in lift.now) lift.now.ins n 0 lift.now.list.cells more))) }
 {
     for number in 0..lift.list.cells.len() {
-        write_gate(sink, page, lift, number, *lift.list.cells.get(number))?;
+        let cell = *lift.list.cells.get(number);
+        write_gate(sink, page, lift, number, cell)?;
     }
     Ok(())
 }
@@ -174,15 +168,15 @@ fn write_output<O: Sink>(
 pub fn write_outputs<O: Sink>(sink: &mut O, page: &mut Page, lift: &Lift) -> Result<(), Failed>
     ensures ok { OnOk result ((n : ℕ) →
         Wrote (O.written sink.old) (O.written sink.new) (O.faults sink.old) (O.faults sink.new)
-        (held page.old ++ lines_text (lines_of_outputs (mark_in lift.now) (ins_in lift.now) n (names_of lift.now.ports.now.outs) lift.now.list.outs)) (held page.new ++ [])) }
+        (held page.old ++ lines_text (lines_of_outputs (mark_in lift.now) lift.now.ins n lift.now.outs lift.now.list.outs)) (held page.new ++ [])) }
     ensures err { OnErr result ((n : ℕ) →
         Broke (O.written sink.old) (O.written sink.new) (O.faults sink.old) (O.faults sink.new)
-        (held page.old ++ lines_text (lines_of_outputs (mark_in lift.now) (ins_in lift.now) n (names_of lift.now.ports.now.outs) lift.now.list.outs))) }
+        (held page.old ++ lines_text (lines_of_outputs (mark_in lift.now) lift.now.ins n lift.now.outs lift.now.list.outs))) }
 {
-    let ports = lift.ports.outs.as_slice();
     for number in 0..lift.list.outs.len() {
-        let name = ports[number].name.as_slice();
-        write_output(sink, page, lift, *lift.list.outs.get(number), name)?;
+        let source = *lift.list.outs.get(number);
+        let name = lift.outs.get(number).as_slice();
+        write_output(sink, page, lift, source, name)?;
     }
     write_line(sink, page, lift, b".end", &[])
 }

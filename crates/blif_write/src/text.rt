@@ -5,21 +5,18 @@ ghost use Rattle.ww_base.specs.Faults.{HasCause};
 ghost use Rattle.ww_base.specs.Pages.{held};
 ghost use Rattle.ww_base.specs.Progress.{Wrote, Broke};
 ghost use Rattle.blif_text.specs.declared.logical.Logical.{Logical};
-ghost use Rattle.pattern_reading.specs.Ports.{names_of};
-ghost use Rattle.lifted_designs.specs.Names.{zero_name};
-ghost use Rattle.lifted_lines.specs.Lines.{worded_line};
 ghost use Rattle.blif_write.specs.Text.{lines_text};
 ghost use Rattle.blif_write.specs.Lifts.{text_of_lift};
-ghost use Rattle.blif_write.specs.Words.{ins_in, mark_in, head_then};
+ghost use Rattle.blif_write.specs.Words.{head_then};
 
 use crate::Lift;
-use crate::lines::{write_line, write_port_line};
+use crate::lines::{write_line, write_name_line};
 use crate::netlist::{write_gates, write_latches, write_outputs};
 use crate::word::LineWord;
 use cell_core::Src;
 use ww_base::{Failed, Page, Sink};
 
-// Writes the lines of the model, its ports, and constant 0.
+// Writes the lines of the model, its inputs and outputs, and constant 0.
 fn write_head<O: Sink>(sink: &mut O, page: &mut Page, lift: &Lift) -> Result<(), Failed>
     ensures ok { OnOk result ((more : List Logical) →
         Wrote (O.written sink.old) (O.written sink.new) (O.faults sink.old) (O.faults sink.new)
@@ -29,8 +26,8 @@ fn write_head<O: Sink>(sink: &mut O, page: &mut Page, lift: &Lift) -> Result<(),
         (held page.old ++ lines_text (head_then lift.now more))) }
 {
     write_line(sink, page, lift, b".model", &[LineWord::Bytes(b"lifted")])?;
-    write_port_line(sink, page, lift, b".inputs", lift.ports.ins.as_slice())?;
-    write_port_line(sink, page, lift, b".outputs", lift.ports.outs.as_slice())?;
+    write_name_line(sink, page, lift, b".inputs", lift.ins.as_slice())?;
+    write_name_line(sink, page, lift, b".outputs", lift.outs.as_slice())?;
     write_line(sink, page, lift, b".names", &[LineWord::Net(Src::Zero)])
 }
 

@@ -2,7 +2,6 @@
 ghost use Rattle.std.specs.Prelude.{◌≡◌, ℕ, List, [], ◌∷◌, ◌++◌, decimal, get_or, OnOk, OnErr};
 ghost use Rattle.ww_base.specs.Pages.{held};
 ghost use Rattle.ww_base.specs.Progress.{Wrote, Broke};
-ghost use Rattle.pattern_reading.specs.Ports.{names_of};
 ghost use Rattle.lifted_designs.specs.Names.{source_name, zero_name};
 ghost use Rattle.blif_write.specs.Marks.{mark_after};
 ghost use Rattle.blif_write.specs.Words.{source_in, word_in};
@@ -11,19 +10,19 @@ use crate::Lift;
 use crate::word::LineWord;
 use cell_core::Src;
 use itoa::Buffer;
-use pattern_reading::PortLine;
+use lists::Bytes;
 use ww_base::{Failed, Page, Sink};
 
 // Writes one `_` more than so many.
-fn write_mark<O: Sink>(sink: &mut O, page: &mut Page, most_leading: usize) -> Result<(), Failed>
+fn write_mark<O: Sink>(sink: &mut O, page: &mut Page, leading: usize) -> Result<(), Failed>
     ensures ok { OnOk result ((rest : List ℕ) →
         Wrote (O.written sink.old) (O.written sink.new) (O.faults sink.old) (O.faults sink.new)
-        (held page.old ++ (mark_after most_leading ++ rest)) (held page.new ++ rest)) }
+        (held page.old ++ (mark_after leading ++ rest)) (held page.new ++ rest)) }
     ensures err { OnErr result ((rest : List ℕ) →
         Broke (O.written sink.old) (O.written sink.new) (O.faults sink.old) (O.faults sink.new)
-        (held page.old ++ (mark_after most_leading ++ rest))) }
+        (held page.old ++ (mark_after leading ++ rest))) }
 {
-    for _ in 0..most_leading {
+    for _ in 0..leading {
         page.put(sink, b"_")?;
     }
     page.put(sink, b"_")
@@ -33,43 +32,43 @@ fn write_mark<O: Sink>(sink: &mut O, page: &mut Page, most_leading: usize) -> Re
 fn write_numbered<O: Sink>(
     sink: &mut O,
     page: &mut Page,
-    most_leading: usize,
+    leading: usize,
     letter: u8,
     number: usize,
 ) -> Result<(), Failed>
     ensures ok { OnOk result ((rest : List ℕ) →
         Wrote (O.written sink.old) (O.written sink.new) (O.faults sink.old) (O.faults sink.new)
-        (held page.old ++ ((mark_after most_leading ++ (letter ∷ decimal number)) ++ rest)) (held page.new ++ rest)) }
+        (held page.old ++ ((mark_after leading ++ (letter ∷ decimal number)) ++ rest)) (held page.new ++ rest)) }
     ensures err { OnErr result ((rest : List ℕ) →
         Broke (O.written sink.old) (O.written sink.new) (O.faults sink.old) (O.faults sink.new)
-        (held page.old ++ ((mark_after most_leading ++ (letter ∷ decimal number)) ++ rest))) }
+        (held page.old ++ ((mark_after leading ++ (letter ∷ decimal number)) ++ rest))) }
 {
     let mut buffer = Buffer::new();
     let digits = buffer.format(number);
-    write_mark(sink, page, most_leading)?;
+    write_mark(sink, page, leading)?;
     page.put(sink, &[letter])?;
     page.put(sink, digits.as_bytes())
 }
 
 // Writes the name of constant 0.
-fn write_zero<O: Sink>(sink: &mut O, page: &mut Page, most_leading: usize) -> Result<(), Failed>
+fn write_zero<O: Sink>(sink: &mut O, page: &mut Page, leading: usize) -> Result<(), Failed>
     ensures ok { OnOk result ((rest : List ℕ) →
         Wrote (O.written sink.old) (O.written sink.new) (O.faults sink.old) (O.faults sink.new)
-        (held page.old ++ (zero_name (mark_after most_leading) ++ rest)) (held page.new ++ rest)) }
+        (held page.old ++ (zero_name (mark_after leading) ++ rest)) (held page.new ++ rest)) }
     ensures err { OnErr result ((rest : List ℕ) →
         Broke (O.written sink.old) (O.written sink.new) (O.faults sink.old) (O.faults sink.new)
-        (held page.old ++ (zero_name (mark_after most_leading) ++ rest))) }
+        (held page.old ++ (zero_name (mark_after leading) ++ rest))) }
 {
-    write_mark(sink, page, most_leading)?;
+    write_mark(sink, page, leading)?;
     page.put(sink, b"z")
 }
 
-// The name of an input; one that is not there has none.
-fn input_name(ports: &[PortLine], number: usize) -> &[u8]
-    ensures { result.now ≡ get_or (names_of ports.now) number [] }
+// The name of an input, which is empty where the input is not there.
+fn name_at(names: &[Bytes], number: usize) -> &[u8]
+    ensures { result.now ≡ get_or names.now number [] }
 {
-    match ports.get(number) {
-        Some(port) => port.name.as_slice(),
+    match names.get(number) {
+        Some(name) => name.as_slice(),
         None => &[],
     }
 }
@@ -89,10 +88,10 @@ fn write_source<O: Sink>(
         (held page.old ++ (source_in lift.now source ++ rest))) }
 {
     match source {
-        Src::Input(i) => page.put(sink, input_name(lift.ports.ins.as_slice(), i as usize)),
-        Src::Latch(i) => write_numbered(sink, page, lift.most_leading, b'q', i as usize),
-        Src::One | Src::Zero => write_zero(sink, page, lift.most_leading),
-        Src::Cell(i) => write_numbered(sink, page, lift.most_leading, b'g', i as usize),
+        Src::Input(i) => page.put(sink, name_at(lift.ins.as_slice(), i as usize)),
+        Src::Latch(i) => write_numbered(sink, page, lift.leading, b'q', i as usize),
+        Src::One | Src::Zero => write_zero(sink, page, lift.leading),
+        Src::Cell(i) => write_numbered(sink, page, lift.leading, b'g', i as usize),
     }
 }
 
@@ -105,15 +104,15 @@ pub fn write_word<O: Sink>(
 ) -> Result<(), Failed>
     ensures ok { OnOk result ((rest : List ℕ) →
         Wrote (O.written sink.old) (O.written sink.new) (O.faults sink.old) (O.faults sink.new)
-        (held page.old ++ (word_in lift.now word ++ rest)) (held page.new ++ rest)) }
+        (held page.old ++ (word_in lift.now word.entry ++ rest)) (held page.new ++ rest)) }
     ensures err { OnErr result ((rest : List ℕ) →
         Broke (O.written sink.old) (O.written sink.new) (O.faults sink.old) (O.faults sink.new)
-        (held page.old ++ (word_in lift.now word ++ rest))) }
+        (held page.old ++ (word_in lift.now word.entry ++ rest))) }
 {
     match word {
         LineWord::Bytes(bytes) => page.put(sink, bytes),
         LineWord::Net(source) => write_source(sink, page, lift, source),
-        LineWord::Loop(number) => write_numbered(sink, page, lift.most_leading, b'q', number),
-        LineWord::Gate(number) => write_numbered(sink, page, lift.most_leading, b'g', number),
+        LineWord::Loop(number) => write_numbered(sink, page, lift.leading, b'q', number),
+        LineWord::Gate(number) => write_numbered(sink, page, lift.leading, b'g', number),
     }
 }
