@@ -1,4 +1,4 @@
--- What is compiled for one context is the drawing of a circuit.
+-- What is written of a plan that was compiled for one context is the plan's drawing.
 use Rattle.std.specs.Prelude.{◌≡◌, List, [], ◌∷◌, Bool}
 use Rattle.lane_core.specs.declared.plan.Plan.{Plan}
 use Rattle.lane_core.specs.Plans.{IsAdmissible}
@@ -19,17 +19,17 @@ pub record StartsOneContext (plan : Plan) (bits : List Bool) : Type 0 where
   pub edges : HasStartEdges plan
   pub on_loops : StartsContexts plan (bits ∷ []) (start_edges plan)
 
--- an admissible plan without a tape that starts one context is a circuit, whose loops start with these bits
+-- an admissible plan without a tape that starts one context is a circuit's plan, whose loops start with these bits
 abbrev pub OneContextIsCircuit : Type 0
 OneContextIsCircuit = (plan : Plan) → IsAdmissible plan → plan.tape ≡ [] → (bits : List Bool) → StartsOneContext plan bits → IsCircuit plan × (first_bits plan ≡ bits)
 
--- and the start edges of every circuit start one context
+-- and the start edges of every circuit's plan start one context
 abbrev pub CircuitsStartOneContext : Type 0
 CircuitsStartOneContext = (plan : Plan) → IsCircuit plan → StartsOneContext plan (first_bits plan)
 
--- What a compiler makes of a flat netlist for one context: a circuit and its port table. The netlist's names and places can stand in a
--- table.
-pub record IsCompiledCircuit (flat : Flat) (plan : Plan) (ports : Ports) : Type 0 where
+-- What a compiler makes of a flat netlist for one context: a plan that starts where its loops enter the columns, and its port table. The
+-- netlist's names and places can stand in a table.
+pub record IsCompiledForOne (flat : Flat) (plan : Plan) (ports : Ports) : Type 0 where
   pub sound : IsSound flat
   pub named : IsNamed flat
   pub names : HasPortNames flat
@@ -38,9 +38,9 @@ pub record IsCompiledCircuit (flat : Flat) (plan : Plan) (ports : Ports) : Type 
   pub table : IsTableOf flat plan 1 ports
 
 -- the written text of a plan and a table spells the plan's pattern and this table, and they are the drawing of the plan
-pub record SpellsDrawing (plan : Plan) (ports : Ports) : Type 0 where
+pub record IsWrittenDrawing (plan : Plan) (ports : Ports) : Type 0 where
   pub spells : Spells (pattern_text (start_grid plan) ports) (start_grid plan) ports
   pub drawing : IsDrawingOf (start_grid plan) ports plan
 
 abbrev pub CompiledAreDrawings : Type 0
-CompiledAreDrawings = (flat : Flat) (plan : Plan) (ports : Ports) → IsCompiledCircuit flat plan ports → SpellsDrawing plan ports
+CompiledAreDrawings = (flat : Flat) (plan : Plan) (ports : Ports) → IsCompiledForOne flat plan ports → IsWrittenDrawing plan ports

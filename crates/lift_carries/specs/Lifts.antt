@@ -1,4 +1,4 @@
--- A text that spells a circuit carries the netlist that is lifted of it.
+-- A text that spells the drawing of a plan carries the netlist that is lifted of it.
 use Rattle.std.specs.Prelude.{ℕ, ◌<◌, ◌^◌, ◌≡◌, false, List, length}
 use Rattle.ww_rule.specs.Grid.{Grid}
 use Rattle.lane_core.specs.declared.plan.Plan.{Plan}
@@ -12,9 +12,9 @@ use Rattle.lifted_designs.specs.Lifted.{lifted_design}
 use Rattle.tile_match.specs.Circuit.{IsDrawingOf}
 use Rattle.tile_match.specs.Names.{has_bad_name}
 
--- A text spells a circuit: it spells a pattern and a port table, which are the drawing of a plan, and no name in the table is bad. The
--- list has the cells of that plan.
-pub record SpellsCircuit (text : List ℕ) (grid : Grid) (ports : Ports) (plan : Plan) (list : CellList) : Type 0 where
+-- A text spells a plan: it spells a pattern and a port table, which are the drawing of the plan, and no name in the table is bad. The
+-- list has the cells of the plan.
+pub record SpellsPlan (text : List ℕ) (grid : Grid) (ports : Ports) (plan : Plan) (list : CellList) : Type 0 where
   pub spells : Spells text grid ports
   pub drawing : IsDrawingOf grid ports plan
   pub names : has_bad_name ports ≡ false
@@ -24,5 +24,5 @@ pub record SpellsCircuit (text : List ℕ) (grid : Grid) (ports : Ports) (plan :
 -- such a text carries the netlist of these cells, whose ports have the table's names
 abbrev pub LiftsCarry : Type 0
 LiftsCarry =
-    (text : List ℕ) (grid : Grid) (ports : Ports) (plan : Plan) (list : CellList) → SpellsCircuit text grid ports plan list
+    (text : List ℕ) (grid : Grid) (ports : Ports) (plan : Plan) (list : CellList) → SpellsPlan text grid ports plan list
     → Carries text (lifted_design (names_of ports.ins) (names_of ports.outs) list)
