@@ -15,7 +15,7 @@ use Rattle.lifted_designs.specs.NoLoop.{LiftedHaveNoLoop}
 use Rattle.lifted_designs.specs.Runs.{ArePortNames}
 use Rattle.blif_write.specs.declared.lift.Lift.{Lift}
 use Rattle.blif_write.specs.Laws.{LiftedTextsRead}
-use Rattle.blif_write.specs.Lifts.{IsLiftOf, text_of_lift}
+use Rattle.blif_write.specs.Lift.{IsLiftOf, text_of_lift}
 use Rattle.blif_write.specs.Text.{lifted_text}
 use Rattle.lift_carries.specs.Lifts.{LiftsCarry}
 use Rattle.lift_carries.proofs.Lifted.{loop_count_is, many_outs, named_ins, named_outs}

@@ -16,7 +16,7 @@ use Rattle.tile_match.specs.Laws.{DrawsOnePlan}
 use Rattle.netlist_core.specs.declared.model.Design.{Design}
 use Rattle.blif_text.proofs.OneFault.{one_design}
 use Rattle.netlist_core.specs.Names.{Name}
-use Rattle.blif_write.specs.Text.{lifted_text, lines_text}
+use Rattle.blif_write.specs.Text.{lifted_text, worded_text}
 use Rattle.lifted_designs.specs.Lifted.{lifted_design, line_past_cells}
 use Rattle.lifted_designs.specs.Names.{mark, zero_name}
 use Rattle.lifted_lines.specs.Lines.{cell_lines, latch_lines, lines_of_outputs, worded_line}
@@ -43,7 +43,7 @@ compiled_are_lifted starts netlist text written grid ports reads table named =
 abbrev text_by : (ins outs : List Name) → (latches : List Src) → (starts : List Bool) → List Cell → (sources : List Src) → List ℕ
 text_by ins outs latches starts cells sources =
     let p = mark (ins ++ outs) in
-    lines_text (
+    worded_text (
     worded_line 1 (codes ".model" ∷ codes "lifted" ∷ [])
     ∷ worded_line 2 (codes ".inputs" ∷ ins)
     ∷ worded_line 3 (codes ".outputs" ∷ outs)

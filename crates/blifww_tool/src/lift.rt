@@ -1,24 +1,16 @@
 // `lift`: the netlist of the circuit that a pattern draws.
-ghost use Rattle.std.specs.Prelude.{◌<◌, ◌^◌, length, IfOk, IfErr};
+ghost use Rattle.std.specs.Prelude.{IfOk, IfErr};
 ghost use Rattle.command_words.specs.Shapes.{lift};
 ghost use Rattle.blifww_tool.specs.Answer.{output_text, IsWritableOutput};
 ghost use Rattle.blifww_tool.specs.Commands.{Prints, HasTextCause};
 
 use crate::output::Output;
 use blif_write::laws::lifted_texts_read;
-use cell_core::CellList;
 use lift_carries::lifts_carry;
 use lifted_designs::{lifted_have_no_clock_fault, lifted_have_no_loop};
 use refusals::TextError;
 use std::alloc::Global;
 use tile_match::audit;
-
-// Does nothing: its clause says that a list has no more cells than the machine can count.
-fn cells_fit(list: &CellList)
-    ensures { length list.now.cells < 2 ^ 64 }
-{
-    list.cells.len();
-}
 
 /// The netlist that the text's pattern with its port table carries, where they are the drawing of a circuit.
 pub fn lift(alloc: Global, text: &[u8]) -> Result<Output, TextError>
@@ -34,6 +26,5 @@ pub fn lift(alloc: Global, text: &[u8]) -> Result<Output, TextError>
     lifted_have_no_loop();
     lifts_carry();
     let lifted = blif_write::of(alloc, &plan, &ports)?;
-    cells_fit(&lifted.list);
     Ok(Output::Lifted(lifted))
 }

@@ -47,4 +47,4 @@ returns-clause-printed c =
     } in
     let of_names = c.in_ok-lifted.ensures.lift in
     subst (λ (output : List ℕ). Lifts c.args.text.now output) (lifted_text_is plan ports lift of_names)
-    (lifts c.lifted_texts_read.ensures c.lifted_have_no_clock_fault.ensures c.lifted_have_no_loop.ensures c.lifts_carry.ensures c.args.text.now grid ports plan is lift.list of_names.cells c.cells_fit.ensures)
+    (lifts c.lifted_texts_read.ensures c.lifted_have_no_clock_fault.ensures c.lifted_have_no_loop.ensures c.lifts_carry.ensures c.args.text.now grid ports plan is lift.list of_names.cells c.in_ok-lifted.ensures.few)
