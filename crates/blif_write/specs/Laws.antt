@@ -1,4 +1,4 @@
--- The text of a lifted netlist is that netlist, without a fault.
+-- The text of a lifted netlist is that netlist, without a fault by a rule on lines or models.
 use Rattle.std.specs.Prelude.{◌<◌, ◌^◌, ◌≡◌, true, false, List, length}
 use Rattle.std.specs.List.{list_all}
 use Rattle.netlist_core.specs.Names.{Name}

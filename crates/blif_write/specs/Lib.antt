@@ -1,5 +1,5 @@
 pub mod Text
-pub mod Lifts
+pub mod Lift
 pub mod Laws
 pub mod Marks
 pub mod Words

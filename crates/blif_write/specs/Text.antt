@@ -7,9 +7,9 @@ use Rattle.lifted_lines.specs.Lines.{lifted_lines}
 use Rattle.lifted_lines.specs.Words.{text_of}
 
 -- the text that has the words of these lines: a space stands between two words, and byte 10 after each line
-abbrev pub lines_text : List Logical → List ℕ
-lines_text lines = text_of (map (λ line. line.words) lines)
+abbrev pub worded_text : List Logical → List ℕ
+worded_text lines = text_of (map (λ line. line.words) lines)
 
 -- the text of the lifted netlist, where the inputs and the outputs have these names
 abbrev pub lifted_text : (ins outs : List Name) → CellList → List ℕ
-lifted_text ins outs list = lines_text (lifted_lines ins outs list)
+lifted_text ins outs list = worded_text (lifted_lines ins outs list)

@@ -24,8 +24,8 @@ word_in lift (Loop number) = loop_name (mark_in lift) number
 word_in lift (Gate number) = gate_name (mark_in lift) number
 
 -- the words of these, each after a space
-abbrev pub spaced : {X : Type 0} → (X → List ℕ) → List X → List ℕ
-spaced word items = flat_map (λ item. 32 ∷ word item) items
+abbrev pub words_after_spaces : {X : Type 0} → (X → List ℕ) → List X → List ℕ
+words_after_spaces word items = flat_map (λ item. 32 ∷ word item) items
 
 -- the lines of an output, before others
 abbrev pub output_then : Lift → ℕ → Src → Name → List Logical → List Logical

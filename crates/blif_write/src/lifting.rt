@@ -1,12 +1,12 @@
 // The circuit of a plan, with names of ports.
-ghost use Rattle.std.specs.Prelude.{◌≡◌, false, length, max, IfOk};
+ghost use Rattle.std.specs.Prelude.{◌≡◌, ◌<◌, ◌^◌, false, length, max, IfOk};
 ghost use Rattle.lane_core.specs.Plans.{IsAdmissible};
 ghost use Rattle.cell_core.specs.Loops.{names_one};
 ghost use Rattle.cell_meaning.specs.Computes.{ComputesByPlan};
 ghost use Rattle.circuit_plans.specs.Circuits.{without_nets};
 ghost use Rattle.pattern_reading.specs.Ports.{names_of};
 ghost use Rattle.lifted_designs.specs.Names.{leading, most_leading};
-ghost use Rattle.blif_write.specs.Lifts.{IsLiftOf};
+ghost use Rattle.blif_write.specs.Lift.{IsLiftOf};
 
 use crate::Lift;
 use lane_core::Plan;
@@ -50,16 +50,18 @@ fn most_leading(names: &[Bytes], least: usize) -> usize
     most
 }
 
-/// The circuit of a plan, whose inputs and outputs bear the names of these ports, in order. The plan's nets are not looked
-/// at. A call asks for a port for each output.
+/// The circuit of a plan, whose inputs and outputs bear the names of these ports, in order, which are copied. The plan's nets
+/// are not looked at. A call asks for a port for each output; an input without a port has an empty name.
 pub fn of(alloc: Global, plan: &Plan, ports: &Ports) -> Result<Lift, LiftError>
     requires admissible { IsAdmissible plan.now }
     requires outs { length ports.now.outs ≡ length plan.now.outs }
     ensures lift { IfOk result (IsLiftOf plan.now ports.now) }
     ensures computes { IfOk result (λ lift. ComputesByPlan lift.list (without_nets plan.now)) }
     ensures no_one { IfOk result (λ lift. names_one lift.list ≡ false) }
+    ensures few { IfOk result (λ lift. length lift.list.cells < 2 ^ 64) }
 {
     let list = cells_of(alloc, plan)?;
+    let _cells = list.cells.len();
     let ins = names_of(alloc, ports.ins.as_slice())?;
     let outs = names_of(alloc, ports.outs.as_slice())?;
     let of_ins = most_leading(ins.as_slice(), 0);

@@ -4,8 +4,8 @@ ghost use Rattle.ww_base.specs.Pages.{held};
 ghost use Rattle.ww_base.specs.Progress.{Wrote, Broke};
 ghost use Rattle.blif_text.specs.declared.logical.Logical.{Logical};
 ghost use Rattle.lifted_lines.specs.Lines.{worded_line};
-ghost use Rattle.blif_write.specs.Text.{lines_text};
-ghost use Rattle.blif_write.specs.Words.{spaced, word_in};
+ghost use Rattle.blif_write.specs.Text.{worded_text};
+ghost use Rattle.blif_write.specs.Words.{words_after_spaces, word_in};
 
 use crate::Lift;
 use crate::word::LineWord;
@@ -40,10 +40,10 @@ fn write_words<O: Sink>(
 ) -> Result<(), Failed>
     ensures ok { OnOk result ((rest : List ℕ) →
         Wrote (O.written sink.old) (O.written sink.new) (O.faults sink.old) (O.faults sink.new)
-        (held page.old ++ (spaced (word_in lift.now) words.now ++ rest)) (held page.new ++ rest)) }
+        (held page.old ++ (words_after_spaces (word_in lift.now) words.now ++ rest)) (held page.new ++ rest)) }
     ensures err { OnErr result ((rest : List ℕ) →
         Broke (O.written sink.old) (O.written sink.new) (O.faults sink.old) (O.faults sink.new)
-        (held page.old ++ (spaced (word_in lift.now) words.now ++ rest))) }
+        (held page.old ++ (words_after_spaces (word_in lift.now) words.now ++ rest))) }
 {
     for word in words {
         write_after_space(sink, page, lift, *word)?;
@@ -60,10 +60,10 @@ fn write_names<O: Sink>(
 ) -> Result<(), Failed>
     ensures ok { OnOk result ((rest : List ℕ) →
         Wrote (O.written sink.old) (O.written sink.new) (O.faults sink.old) (O.faults sink.new)
-        (held page.old ++ (spaced (λ name. name) names.now ++ rest)) (held page.new ++ rest)) }
+        (held page.old ++ (words_after_spaces (λ name. name) names.now ++ rest)) (held page.new ++ rest)) }
     ensures err { OnErr result ((rest : List ℕ) →
         Broke (O.written sink.old) (O.written sink.new) (O.faults sink.old) (O.faults sink.new)
-        (held page.old ++ (spaced (λ name. name) names.now ++ rest))) }
+        (held page.old ++ (words_after_spaces (λ name. name) names.now ++ rest))) }
 {
     for name in names {
         write_after_space(sink, page, lift, LineWord::Bytes(name.as_slice()))?;
@@ -81,10 +81,10 @@ pub fn write_line<O: Sink>(
 ) -> Result<(), Failed>
     ensures ok { OnOk result ((n : ℕ) (more : List Logical) →
         Wrote (O.written sink.old) (O.written sink.new) (O.faults sink.old) (O.faults sink.new)
-        (held page.old ++ lines_text (worded_line n (first.now ∷ map (word_in lift.now) words.now) ∷ more)) (held page.new ++ lines_text more)) }
+        (held page.old ++ worded_text (worded_line n (first.now ∷ map (word_in lift.now) words.now) ∷ more)) (held page.new ++ worded_text more)) }
     ensures err { OnErr result ((n : ℕ) (more : List Logical) →
         Broke (O.written sink.old) (O.written sink.new) (O.faults sink.old) (O.faults sink.new)
-        (held page.old ++ lines_text (worded_line n (first.now ∷ map (word_in lift.now) words.now) ∷ more))) }
+        (held page.old ++ worded_text (worded_line n (first.now ∷ map (word_in lift.now) words.now) ∷ more))) }
 {
     page.put(sink, first)?;
     write_words(sink, page, lift, words)?;
@@ -101,10 +101,10 @@ pub fn write_name_line<O: Sink>(
 ) -> Result<(), Failed>
     ensures ok { OnOk result ((n : ℕ) (more : List Logical) →
         Wrote (O.written sink.old) (O.written sink.new) (O.faults sink.old) (O.faults sink.new)
-        (held page.old ++ lines_text (worded_line n (first.now ∷ names.now) ∷ more)) (held page.new ++ lines_text more)) }
+        (held page.old ++ worded_text (worded_line n (first.now ∷ names.now) ∷ more)) (held page.new ++ worded_text more)) }
     ensures err { OnErr result ((n : ℕ) (more : List Logical) →
         Broke (O.written sink.old) (O.written sink.new) (O.faults sink.old) (O.faults sink.new)
-        (held page.old ++ lines_text (worded_line n (first.now ∷ names.now) ∷ more))) }
+        (held page.old ++ worded_text (worded_line n (first.now ∷ names.now) ∷ more))) }
 {
     page.put(sink, first)?;
     write_names(sink, page, lift, names)?;

@@ -6,7 +6,7 @@ ghost use Rattle.blif_text.specs.declared.logical.Logical.{Logical};
 ghost use Rattle.cell_core.specs.declared.cells.Cell.{Cell};
 ghost use Rattle.lifted_designs.specs.Lifted.{first_of, second_of};
 ghost use Rattle.lifted_lines.specs.Lines.{cell_lines, latch_lines, lines_of_outputs, row, rows_then, start_word};
-ghost use Rattle.blif_write.specs.Text.{lines_text};
+ghost use Rattle.blif_write.specs.Text.{worded_text};
 ghost use Rattle.blif_write.specs.Words.{mark_in, output_then};
 
 use crate::Lift;
@@ -33,10 +33,10 @@ fn write_latch<O: Sink>(
 ) -> Result<(), Failed>
     ensures ok { OnOk result ((n : ℕ) (more : List Logical) →
         Wrote (O.written sink.old) (O.written sink.new) (O.faults sink.old) (O.faults sink.new)
-        (held page.old ++ lines_text (latch_lines (mark_in lift.now) lift.now.ins n number (source ∷ []) (start ∷ []) more)) (held page.new ++ lines_text more)) }
+        (held page.old ++ worded_text (latch_lines (mark_in lift.now) lift.now.ins n number (source ∷ []) (start ∷ []) more)) (held page.new ++ worded_text more)) }
     ensures err { OnErr result ((n : ℕ) (more : List Logical) →
         Broke (O.written sink.old) (O.written sink.new) (O.faults sink.old) (O.faults sink.new)
-        (held page.old ++ lines_text (latch_lines (mark_in lift.now) lift.now.ins n number (source ∷ []) (start ∷ []) more))) }
+        (held page.old ++ worded_text (latch_lines (mark_in lift.now) lift.now.ins n number (source ∷ []) (start ∷ []) more))) }
 {
     let words = [
         LineWord::Net(source),
@@ -50,10 +50,10 @@ fn write_latch<O: Sink>(
 pub fn write_latches<O: Sink>(sink: &mut O, page: &mut Page, lift: &Lift) -> Result<(), Failed>
     ensures ok { OnOk result ((n : ℕ) (more : List Logical) →
         Wrote (O.written sink.old) (O.written sink.new) (O.faults sink.old) (O.faults sink.new)
-        (held page.old ++ lines_text (latch_lines (mark_in lift.now) lift.now.ins n 0 lift.now.list.latches lift.now.list.starts more)) (held page.new ++ lines_text more)) }
+        (held page.old ++ worded_text (latch_lines (mark_in lift.now) lift.now.ins n 0 lift.now.list.latches lift.now.list.starts more)) (held page.new ++ worded_text more)) }
     ensures err { OnErr result ((n : ℕ) (more : List Logical) →
         Broke (O.written sink.old) (O.written sink.new) (O.faults sink.old) (O.faults sink.new)
-        (held page.old ++ lines_text (latch_lines (mark_in lift.now) lift.now.ins n 0 lift.now.list.latches lift.now.list.starts more))) }
+        (held page.old ++ worded_text (latch_lines (mark_in lift.now) lift.now.ins n 0 lift.now.list.latches lift.now.list.starts more))) }
 {
     for number in 0..lift.list.latches.len() {
         let source = *lift.list.latches.get(number);
@@ -77,10 +77,10 @@ fn sources(cell: Cell) -> (Src, Src)
 fn write_row<O: Sink>(sink: &mut O, page: &mut Page, lift: &Lift, bits: &[u8]) -> Result<(), Failed>
     ensures ok { OnOk result ((n : ℕ) (more : List Logical) →
         Wrote (O.written sink.old) (O.written sink.new) (O.faults sink.old) (O.faults sink.new)
-        (held page.old ++ lines_text (row n bits.now (codes "1") ∷ more)) (held page.new ++ lines_text more)) }
+        (held page.old ++ worded_text (row n bits.now (codes "1") ∷ more)) (held page.new ++ worded_text more)) }
     ensures err { OnErr result ((n : ℕ) (more : List Logical) →
         Broke (O.written sink.old) (O.written sink.new) (O.faults sink.old) (O.faults sink.new)
-        (held page.old ++ lines_text (row n bits.now (codes "1") ∷ more))) }
+        (held page.old ++ worded_text (row n bits.now (codes "1") ∷ more))) }
 {
     write_line(sink, page, lift, bits, &[LineWord::Bytes(b"1")])
 }
@@ -89,10 +89,10 @@ fn write_row<O: Sink>(sink: &mut O, page: &mut Page, lift: &Lift, bits: &[u8]) -
 fn write_rows<O: Sink>(sink: &mut O, page: &mut Page, lift: &Lift, cell: Cell) -> Result<(), Failed>
     ensures ok { OnOk result ((n : ℕ) (more : List Logical) →
         Wrote (O.written sink.old) (O.written sink.new) (O.faults sink.old) (O.faults sink.new)
-        (held page.old ++ lines_text (rows_then n cell more)) (held page.new ++ lines_text more)) }
+        (held page.old ++ worded_text (rows_then n cell more)) (held page.new ++ worded_text more)) }
     ensures err { OnErr result ((n : ℕ) (more : List Logical) →
         Broke (O.written sink.old) (O.written sink.new) (O.faults sink.old) (O.faults sink.new)
-        (held page.old ++ lines_text (rows_then n cell more))) }
+        (held page.old ++ worded_text (rows_then n cell more))) }
 {
     match cell {
         Cell::Or(_, _) => {
@@ -117,10 +117,10 @@ fn write_gate<O: Sink>(
 ) -> Result<(), Failed>
     ensures ok { OnOk result ((n : ℕ) (more : List Logical) →
         Wrote (O.written sink.old) (O.written sink.new) (O.faults sink.old) (O.faults sink.new)
-        (held page.old ++ lines_text (cell_lines (mark_in lift.now) lift.now.ins n number (cell ∷ []) more)) (held page.new ++ lines_text more)) }
+        (held page.old ++ worded_text (cell_lines (mark_in lift.now) lift.now.ins n number (cell ∷ []) more)) (held page.new ++ worded_text more)) }
     ensures err { OnErr result ((n : ℕ) (more : List Logical) →
         Broke (O.written sink.old) (O.written sink.new) (O.faults sink.old) (O.faults sink.new)
-        (held page.old ++ lines_text (cell_lines (mark_in lift.now) lift.now.ins n number (cell ∷ []) more))) }
+        (held page.old ++ worded_text (cell_lines (mark_in lift.now) lift.now.ins n number (cell ∷ []) more))) }
 {
     let (a, b) = sources(cell);
     let words = [LineWord::Net(a), LineWord::Net(b), LineWord::Gate(number)];
@@ -132,10 +132,10 @@ fn write_gate<O: Sink>(
 pub fn write_gates<O: Sink>(sink: &mut O, page: &mut Page, lift: &Lift) -> Result<(), Failed>
     ensures ok { OnOk result ((n : ℕ) (more : List Logical) →
         Wrote (O.written sink.old) (O.written sink.new) (O.faults sink.old) (O.faults sink.new)
-        (held page.old ++ lines_text (cell_lines (mark_in lift.now) lift.now.ins n 0 lift.now.list.cells more)) (held page.new ++ lines_text more)) }
+        (held page.old ++ worded_text (cell_lines (mark_in lift.now) lift.now.ins n 0 lift.now.list.cells more)) (held page.new ++ worded_text more)) }
     ensures err { OnErr result ((n : ℕ) (more : List Logical) →
         Broke (O.written sink.old) (O.written sink.new) (O.faults sink.old) (O.faults sink.new)
-        (held page.old ++ lines_text (cell_lines (mark_in lift.now) lift.now.ins n 0 lift.now.list.cells more))) }
+        (held page.old ++ worded_text (cell_lines (mark_in lift.now) lift.now.ins n 0 lift.now.list.cells more))) }
 {
     for number in 0..lift.list.cells.len() {
         let cell = *lift.list.cells.get(number);
@@ -154,10 +154,10 @@ fn write_output<O: Sink>(
 ) -> Result<(), Failed>
     ensures ok { OnOk result ((n : ℕ) (more : List Logical) →
         Wrote (O.written sink.old) (O.written sink.new) (O.faults sink.old) (O.faults sink.new)
-        (held page.old ++ lines_text (output_then lift.now n source name.now more)) (held page.new ++ lines_text more)) }
+        (held page.old ++ worded_text (output_then lift.now n source name.now more)) (held page.new ++ worded_text more)) }
     ensures err { OnErr result ((n : ℕ) (more : List Logical) →
         Broke (O.written sink.old) (O.written sink.new) (O.faults sink.old) (O.faults sink.new)
-        (held page.old ++ lines_text (output_then lift.now n source name.now more))) }
+        (held page.old ++ worded_text (output_then lift.now n source name.now more))) }
 {
     let words = [LineWord::Net(source), LineWord::Bytes(name)];
     write_line(sink, page, lift, b".names", &words)?;
@@ -168,10 +168,10 @@ fn write_output<O: Sink>(
 pub fn write_outputs<O: Sink>(sink: &mut O, page: &mut Page, lift: &Lift) -> Result<(), Failed>
     ensures ok { OnOk result ((n : ℕ) →
         Wrote (O.written sink.old) (O.written sink.new) (O.faults sink.old) (O.faults sink.new)
-        (held page.old ++ lines_text (lines_of_outputs (mark_in lift.now) lift.now.ins n lift.now.outs lift.now.list.outs)) (held page.new ++ [])) }
+        (held page.old ++ worded_text (lines_of_outputs (mark_in lift.now) lift.now.ins n lift.now.outs lift.now.list.outs)) (held page.new ++ [])) }
     ensures err { OnErr result ((n : ℕ) →
         Broke (O.written sink.old) (O.written sink.new) (O.faults sink.old) (O.faults sink.new)
-        (held page.old ++ lines_text (lines_of_outputs (mark_in lift.now) lift.now.ins n lift.now.outs lift.now.list.outs))) }
+        (held page.old ++ worded_text (lines_of_outputs (mark_in lift.now) lift.now.ins n lift.now.outs lift.now.list.outs))) }
 {
     for number in 0..lift.list.outs.len() {
         let source = *lift.list.outs.get(number);

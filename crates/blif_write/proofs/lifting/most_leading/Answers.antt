@@ -1,4 +1,4 @@
-use Rattle.std.proofs.Common.{◌≡◌, sym, ap, ◌∙◌, max, drop, arith}
+use Rattle.std.proofs.Common.{◌≡◌, ◌+◌, sym, ap, ◌∙◌, max, drop, arith}
 use Rattle.lifted_designs.specs.Names.{most_leading}
 use Rattle.blif_write.proofs.Leading.{most_next, most_none}
 use Rattle.blif_write.proofs.lifting.most_leading.Goals as goal
@@ -9,5 +9,5 @@ loop-name-preserved c =
     ∙ most_next c.args.names.now c.loop-name.name-index c.name-item.result c.loop-name.most c.loop-name-test.true c.name-item.is
     ∙ c.loop-name.invariant
 
-pub returns-clause : goal.returns-clause
-returns-clause c = most_none c.args.names.now c.loop-name.name-index c.loop-name.most c.loop-name-test.false ∙ c.loop-name.invariant
+pub returns : goal.returns
+returns c = most_none c.args.names.now c.loop-name.name-index c.loop-name.most c.loop-name-test.false ∙ c.loop-name.invariant

@@ -8,7 +8,7 @@ use Rattle.ww_base.specs.Pages.{held}
 use Rattle.ww_base.proofs.Steps.{wrote_then, wrote_broke, wrote_to, wrote_as, broke_as}
 use Rattle.blif_text.specs.declared.logical.Logical.{Logical}
 use Rattle.lifted_lines.specs.Lines.{worded_line, row, rows_then, cell_lines, latch_lines, lines_of_outputs}
-use Rattle.blif_write.specs.Text.{lines_text}
+use Rattle.blif_write.specs.Text.{worded_text}
 use Rattle.blif_write.specs.Words.{mark_in}
 use Rattle.blif_write.proofs.Pieces as pieces
 use Rattle.blif_write.proofs.netlist.write_latches.Goals as goal
