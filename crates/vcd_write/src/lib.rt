@@ -6,7 +6,7 @@
 
 mod due_bits;
 mod dump;
-mod first_due_bits;
+mod first_bits;
 mod laws;
 mod lines;
 mod net_bits;
