@@ -1,4 +1,4 @@
-use Rattle.std.proofs.Common.{◌≡◌, ◌+◌, sym, ap, ◌∙◌, max, drop, arith}
+use Rattle.std.proofs.Common.{◌≡◌, ◌+◌, ap, ◌∙◌, max, drop}
 use Rattle.lifted_designs.specs.Names.{leading, most_leading}
 use Rattle.blif_write.proofs.Leading.{most_next, most_none}
 use Rattle.blif_write.proofs.lifting.most_leading.Goals as goal
