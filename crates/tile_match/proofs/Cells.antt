@@ -1,14 +1,13 @@
 -- The cells of a plan's drawing, block by block.
-use Rattle.std.proofs.Common.{ℤ, pos, ◌==◌, ◌≡◌, refl, sym, ◌∙◌, ap, ℕ, ◌+◌, ◌-◌, ◌*◌, ◌/◌, ◌%◌, ◌<◌, ◌≤◌, Bool, true, false, cond, List, [], length, get_or, Option, Some, None, arith}
-use Rattle.ww_rule.specs.declared.pattern.State.{State}
+use Rattle.std.proofs.Common.{pos, ◌==◌, ◌≡◌, refl, sym, ◌∙◌, ap, ℕ, ◌+◌, ◌-◌, ◌*◌, ◌/◌, ◌%◌, ◌<◌, Bool, true, false, cond, length, Some, None, arith}
 use Rattle.ww_rule.specs.declared.pattern.State.TheVariants.{Empty, Head, Tail, Conductor}
 use Rattle.tile_core.specs.declared.kind.Kind.{Kind}
 use Rattle.tile_core.specs.declared.kind.Kind.TheVariants as kind
-use Rattle.tile_core.specs.Drawing.{Drawing, is_cell_of}
+use Rattle.tile_core.specs.Drawing.{is_cell_of}
 use Rattle.tile_library.specs.Drawings.{shipped_drawing}
-use Rattle.tiling.specs.Tiling.{Slot, Tiling, Lit, Piece, piece_drawing, drawn_slot, drawn_piece, heads_of, tails_of, interface_of}
-use Rattle.tiling.specs.Tiling.Piece.{Tile, Output}
-use Rattle.tiling.specs.Tiling.Slot.{Nothing, Whole, Upper, Lower}
+use Rattle.tiling.specs.Tiling.{Lit, drawn_slot, drawn_piece, heads_of, tails_of, interface_of}
+use Rattle.tiling.specs.Tiling.Piece.{Tile}
+use Rattle.tiling.specs.Tiling.Slot.{Upper, Lower}
 use Rattle.std.proofs.lemmas.Bool.Decides.{nat_tests}
 use Rattle.lane_core.specs.declared.instr.Instr.{Instr}
 use Rattle.lane_core.specs.declared.instr.Instr.TheVariants.{Swap, Fork, Xor, Or, AndNot}
@@ -16,7 +15,7 @@ use Rattle.lane_core.specs.declared.plan.Plan.{Plan}
 use Rattle.circuit_plans.specs.Circuits.{IsCircuit}
 use Rattle.lane_core.specs.Instrs.{lane_of, instr_on}
 use Rattle.plan_layout.specs.Starts.{start_edges}
-use Rattle.plan_layout.specs.Layout.{kind_of, body_slot, instrs_of, end_of_body, in_body, tiling_of}
+use Rattle.plan_layout.specs.Layout.{kind_of, body_slot, instrs_of, tiling_of}
 use Rattle.plan_layout.proofs.Bare.{bare}
 use Rattle.plan_layout.proofs.Parts.{body_at}
 use Rattle.grid_assembly.specs.PlanDrawing.{start_grid}

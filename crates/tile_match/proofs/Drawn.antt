@@ -1,5 +1,5 @@
 -- Spans of rows, and boxes, whose cells are a plan's.
-use Rattle.std.proofs.Common.{pos, ◌≡◌, sym, ◌∙◌, ap, subst, ⊎_elim, ℕ, ◌+◌, ◌-◌, ◌*◌, ◌<◌, ◌≤◌, List, [], length, get_or, take, drop, arith}
+use Rattle.std.proofs.Common.{pos, ◌≡◌, sym, ◌∙◌, subst, ⊎_elim, ℕ, ◌+◌, ◌-◌, ◌<◌, ◌≤◌, List, [], length, get_or, take, drop, arith}
 use Rattle.std.specs.Prelude.{All}
 use Rattle.std.proofs.lemmas.Bool.{cases_lt}
 use Rattle.std.proofs.lemmas.List.{get_or-take, get_or-drop, get_or_default, length-drop, length-take-le}

@@ -1,29 +1,27 @@
 -- Some circuit has a box and ports just where they have the size of one.
-use Rattle.std.proofs.Common.{◌≡◌, refl, sym, ◌∙◌, ap, ap₂, subst, ⊎_elim, inl, inr, ℕ, zero, suc, ◌+◌, ◌-◌, ◌*◌, ◌<◌, ◌≤◌, Bool, true, false, cond, ◌==◌, List, [], ◌∷◌, map, length, get_or, replicate, arith}
-use Rattle.std.specs.Prelude.{All, AllPairs, ◌↔◌, ◌≢◌}
+use Rattle.std.proofs.Common.{◌≡◌, refl, sym, ◌∙◌, ap, subst, ⊎_elim, inl, inr, ℕ, ◌+◌, ◌-◌, ◌*◌, ◌<◌, false, cond, ◌==◌, List, [], ◌∷◌, map, length, replicate, arith}
+use Rattle.std.specs.Prelude.{All, ◌≢◌}
 use Rattle.std.proofs.lemmas.Bool.{cases_eq}
 use Rattle.std.proofs.lemmas.Bool.Decides.{nat_tests}
 use Rattle.std.proofs.lemmas.List.{get_or-replicate, length-replicate}
 use Rattle.ww_rule.specs.Grid.{Grid}
-use Rattle.lane_core.specs.declared.instr.Column.{Column}
 use Rattle.lane_core.specs.declared.starts.Starts.{Starts}
 use Rattle.lane_core.specs.declared.plan.Plan.{Plan}
 use Rattle.lane_core.specs.Columns.{IsColumnOnLanes}
 use Rattle.lane_core.specs.Places.{AreDistinctBelow}
-use Rattle.lane_core.specs.Plans.{IsAdmissible, row_of}
 use Rattle.lane_core.specs.Tape.{tape_shift}
 use Rattle.lane_core.proofs.Lookup.{columns_apart}
-use Rattle.circuit_plans.specs.Circuits.{IsCircuit}
+use Rattle.circuit_plans.specs.Circuits.{IsCircuit, IsLoopStart}
 use Rattle.pattern_reading.specs.declared.ports.PortLine.{PortLine}
 use Rattle.pattern_reading.specs.declared.ports.Ports.{Ports}
 use Rattle.pattern_reading.specs.Ports.{cells_of}
 use Rattle.tile_match.specs.Circuit.{HasBoxAndPorts, HasSomePlan}
-use Rattle.tile_match.specs.Equations.{ArePortsAt, IsBareBox, IsFilledBox, HasSomeSize}
+use Rattle.tile_match.specs.Equations.{IsBareBox, IsFilledBox}
 use Rattle.tile_match.specs.Laws.{SizesAreEquations}
 use Rattle.tile_match.specs.Sizes.{IsSizeOfPlan}
 use Rattle.tile_match.proofs.Sizes.{size_is, filled, bare, bare_height, bare_width}
 use Rattle.tile_match.proofs.Read.{no_lists, size_by}
-use Rattle.tile_match.proofs.ReadColumns.{no_column}
+use Rattle.tile_match.proofs.ReadColumns.{no_column, no_column_on}
 use Rattle.tile_match.proofs.One.{cell_on}
 
 -- below no lane there are no ports
@@ -74,16 +72,19 @@ filled_box width height ports plan h has some =
     }
 
 -- a plan of so many lanes, columns and loops, without instructions
-no_starts : Starts
+abbrev no_starts : Starts
 no_starts = record { list = []; in_order = refl }
 
 abbrev blank_plan : ℕ → ℕ → ℕ → List ℕ → List ℕ → Plan
 blank_plan lanes columns loops ins outs =
     record { lanes = lanes; columns = replicate columns no_column; latches = loops; starts = no_starts; ins = ins; outs = outs; nets = []; tape = [] }
 
+none_at : (lanes loops : ℕ) → All (IsLoopStart lanes loops) []
+none_at lanes loops = λ k d lt. absurd (omega (arith, lt))
+
 blank_columns : (lanes columns : ℕ) → All (IsColumnOnLanes lanes) (replicate columns no_column)
 blank_columns lanes columns k d lt =
-    subst (IsColumnOnLanes lanes) (sym (get_or-replicate columns k no_column d (omega (arith, lt, length-replicate columns no_column)))) (λ i e none. absurd (omega (arith, none)))
+    subst (IsColumnOnLanes lanes) (sym (get_or-replicate columns k no_column d (omega (arith, lt, length-replicate columns no_column)))) (no_column_on lanes)
 
 -- it is a circuit, with this box and these ports
 record IsSizeOfPorts (width height : ℕ) (ports : Ports) (lanes columns loops : ℕ) (ins outs : List ℕ) : Type 0 where
@@ -115,13 +116,12 @@ blank_circuit width height ports lanes columns loops ins outs s =
         tape = record { each_input = inl refl; lists = no_lists [] refl };
       };
       no_tape = refl;
-      at_loops = λ k d lt. absurd (omega (arith, lt));
+      at_loops = none_at lanes loops;
     }
 
 blank_box : (width height : ℕ) (ports : Ports) (lanes columns loops : ℕ) (ins outs : List ℕ) → IsSizeOfPorts width height ports lanes columns loops ins outs
     → HasBoxAndPorts width height ports (blank_plan lanes columns loops ins outs)
 blank_box width height ports lanes columns loops ins outs s =
-    let plan : Plan = blank_plan lanes columns loops ins outs in
     let many : columns ≡ length (replicate columns no_column) = sym (length-replicate columns no_column) in
     record {
       size = size_by (lanes == 0) (32 * (tape_shift (blank_plan lanes columns loops ins outs) + (length (replicate columns no_column) + 2 * loops)) + 1) (16 * (lanes + loops)) width height

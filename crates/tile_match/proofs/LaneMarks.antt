@@ -42,8 +42,8 @@ marks_more limit lanes i lane marks within is low m = record {
 }
 
 -- the same of lanes of which none stands twice
-pub record AreMarkedOnce (limit : ℕ) (lanes : List ℕ) (marks : List Bool) : Type 0 where
-  pub marks : AreMarks limit lanes marks
+pub record AreMarkedOnce (limit : ℕ) (lanes : List ℕ) (bits : List Bool) : Type 0 where
+  pub marks : AreMarks limit lanes bits
   pub distinct : AllPairs (λ a b. a ≢ b) lanes
 
 pub none_marked : (limit : ℕ) → AreMarkedOnce limit [] (replicate limit false)

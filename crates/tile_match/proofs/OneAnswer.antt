@@ -1,5 +1,5 @@
 -- One answer at most holds of a pattern with a table.
-use Rattle.std.proofs.Common.{◌≡◌, refl, sym, ◌∙◌, true, false}
+use Rattle.std.proofs.Common.{◌≡◌, refl, sym, ◌∙◌, false}
 use Rattle.std.proofs.lemmas.Bool.{true≢false}
 use Rattle.ww_rule.specs.Grid.{Grid}
 use Rattle.lane_core.specs.declared.plan.Plan.{Plan}

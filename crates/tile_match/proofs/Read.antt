@@ -1,5 +1,5 @@
 -- The plan that is read of a pattern with a table is a circuit of its box and ports.
-use Rattle.std.proofs.Common.{◌≡◌, refl, sym, ◌∙◌, ap, ap₂, subst, ℕ, zero, suc, ◌+◌, ◌-◌, ◌*◌, ◌<◌, ◌≤◌, Bool, true, false, cond, ◌==◌, List, [], map, length, get_or, Some, inl, arith}
+use Rattle.std.proofs.Common.{◌≡◌, sym, ◌∙◌, ap, ap₂, subst, ℕ, zero, suc, ◌+◌, ◌-◌, ◌*◌, Bool, true, false, cond, ◌==◌, List, [], map, length, get_or, Some, inl, arith}
 use Rattle.std.specs.Prelude.{All}
 use Rattle.std.proofs.lemmas.List.{length-map, get_or-map}
 use Rattle.std.proofs.lemmas.List.FromFn.{length-map-range_with_len, get_or-map-range_with_len}
@@ -18,7 +18,7 @@ use Rattle.circuit_plans.proofs.Ordered.{where_at_loops}
 use Rattle.lane_core.proofs.Lookup.{columns_apart}
 use Rattle.pattern_reading.specs.declared.ports.Ports.{Ports}
 use Rattle.tile_match.specs.Blocks.{instr_of_cells, is_filled_in, instr_in, column_shown, column_start, columns_shown, bit_shown}
-use Rattle.tile_match.specs.Circuit.{HasBoxAndPorts}
+use Rattle.tile_match.specs.Circuit.{HasBoxAndPorts, HasSomePlan}
 use Rattle.tile_match.specs.Sizes.{IsSizeOfPlan}
 use Rattle.tile_match.specs.Read.{IsPlanRead, IsBodyRead}
 use Rattle.lane_core.specs.Places.{AreDistinctBelow}
@@ -100,6 +100,9 @@ read_ports grid ports plan r = record {
   in_cells = r.in_cells;
   out_cells = r.out_cells;
 }
+
+pub some_plan : (grid : Grid) (ports : Ports) (plan : Plan) → IsPlanRead grid ports plan → plan.nets ≡ [] → HasSomePlan grid ports
+some_plan grid ports plan r none = (plan, read_circuit grid ports plan r none, read_ports grid ports plan r)
 
 -- the ports of a plan with a box and ports
 pub record ArePortsOn (limit x : ℕ) (lines : List PortLine) (lanes : List ℕ) : Type 0 where

@@ -1,21 +1,21 @@
 -- What a plan's drawing shows is the plan.
-use Rattle.std.proofs.Common.{◌≡◌, refl, sym, ◌∙◌, ap, subst, ℕ, ◌+◌, ◌-◌, ◌*◌, ◌<◌, ◌≤◌, true, false, List, [], map, length, get_or, Option, Some, None, arith}
-use Rattle.std.specs.Prelude.{All, IsTrue}
-use Rattle.std.specs.List.{range_with_len}
-use Rattle.std.proofs.lemmas.List.{ext_get_or, length-map, get_or-map, get_or_past}
+use Rattle.std.proofs.Common.{◌≡◌, refl, sym, ◌∙◌, ap, subst, ℕ, ◌+◌, ◌-◌, ◌<◌, List, [], map, length, get_or, arith}
+use Rattle.std.specs.Prelude.{All}
+use Rattle.std.proofs.lemmas.List.{ext_get_or, length-map, get_or-map}
 use Rattle.std.proofs.lemmas.List.FromFn.{length-map-range_with_len, get_or-map-range_with_len}
 use Rattle.lane_core.specs.declared.instr.Instr.{Instr}
 use Rattle.lane_core.specs.declared.instr.Column.{Column}
 use Rattle.lane_core.specs.declared.plan.Plan.{Plan}
 use Rattle.circuit_plans.specs.Circuits.{IsCircuit}
-use Rattle.lane_core.specs.Instrs.{lane_of, instr_on, are_sorted_apart, IsOnLanes}
+use Rattle.lane_core.specs.Columns.{IsColumnOnLanes}
+use Rattle.lane_core.specs.Instrs.{IsOnLanes}
 use Rattle.plan_layout.specs.Starts.{start_edges}
 use Rattle.plan_layout.specs.Layout.{instrs_of, body_slot}
 use Rattle.tile_library.specs.Drawings.{shipped_drawing}
 use Rattle.tiling.specs.Tiling.{drawn_slot}
 use Rattle.grid_assembly.specs.PlanDrawing.{start_grid}
 use Rattle.tile_timing.specs.Law.{is_filled}
-use Rattle.tile_match.specs.Blocks.{instr_shown, instrs_from, instr_in, column_shown, column_start, columns_shown}
+use Rattle.tile_match.specs.Blocks.{instr_shown, instr_in, column_shown, column_start, columns_shown}
 use Rattle.tile_match.proofs.Within.{AreShown, Within, reads_all, within_lanes, begins_first}
 use Rattle.tile_match.proofs.Cells.{shown_by, none_shown, begun_shown}
 
@@ -24,6 +24,13 @@ instrs_in column = column.instrs
 
 pub no_column : Column
 no_column = record { instrs = []; sorted_apart = refl }
+
+none_on : (lanes : ℕ) → All (IsOnLanes lanes) []
+none_on lanes = λ k d lt. absurd (omega (arith, lt))
+
+pub no_column_on : (lanes : ℕ) → IsColumnOnLanes lanes no_column
+unfolding no_column
+no_column_on lanes = none_on lanes
 
 -- the instructions of a column are that column's
 instrs_are : (plan : Plan) (c : ℕ) → c < length plan.columns → instrs_of plan c ≡ (get_or plan.columns c no_column).instrs

@@ -1,10 +1,10 @@
 -- Which loops of a circuit start with 1 is seen where they enter the body.
-use Rattle.std.proofs.Common.{pos, ◌≡◌, refl, sym, ◌∙◌, ap, ℕ, ◌+◌, ◌-◌, ◌*◌, ◌<◌, ◌≤◌, Bool, true, false, ◌&&◌, ◌||◌, ◌==◌, List, [], ◌∷◌, length, get_or, arith}
+use Rattle.std.proofs.Common.{pos, ◌≡◌, refl, sym, ◌∙◌, ap, ap₂, ℕ, zero, suc, ◌+◌, ◌-◌, ◌*◌, ◌<◌, ◌≤◌, Bool, true, false, ◌&&◌, ◌||◌, ◌==◌, cond, List, [], ◌∷◌, ◌++◌, length, get_or, arith}
 use Rattle.std.specs.Prelude.{◌↔◌, All}
-use Rattle.std.specs.List.{list_any}
 use Rattle.std.proofs.Math.Bool.{or-false}
 use Rattle.std.proofs.lemmas.Bool.Decides.{nat_tests}
 use Rattle.std.proofs.lemmas.List.Elements.{All-head, All-tail}
+use Rattle.std.proofs.lemmas.List.FromFn.{length-map-range_with_len, get_or-map-range_with_len}
 use Rattle.ww_rule.specs.declared.pattern.State.{State}
 use Rattle.ww_rule.specs.declared.pattern.State.TheVariants.{Empty, Head, Tail, Conductor}
 use Rattle.ww_rule.specs.Wireworld.{is_head}
@@ -21,7 +21,7 @@ use Rattle.lane_core.specs.declared.instr.Instr.TheVariants as instr
 use Rattle.lane_core.specs.Plans.{row_of}
 use Rattle.lane_core.specs.Starts.{is_start_at}
 use Rattle.lane_core.specs.Entering.{first_loop_lane}
-use Rattle.circuit_plans.specs.Circuits.{IsCircuit, IsLoopStart, loop_start, starts_with_one, starts_where}
+use Rattle.circuit_plans.specs.Circuits.{IsCircuit, IsLoopStart, loop_start, starts_with_one, starts_from, starts_where}
 use Rattle.circuit_plans.proofs.Ordered.{starts_are_of_loops}
 use Rattle.tiling.specs.Tiling.{Slot}
 use Rattle.tiling.specs.Tiling.Piece.{Tile}
@@ -34,7 +34,7 @@ use Rattle.plan_layout.proofs.Parts.{some_columns, body_at}
 use Rattle.plan_layout.proofs.Sides.{in_body_has}
 use Rattle.grid_assembly.specs.PlanDrawing.{start_grid}
 use Rattle.grid_assembly.proofs.Pattern.{patterns_are_planes}
-use Rattle.tile_match.specs.Blocks.{cell_shown, column_start, bit_shown}
+use Rattle.tile_match.specs.Blocks.{cell_shown, column_start, bit_shown, bits_shown}
 
 head_test : (state : State) (lit : Bool) → ((state ≡ Head) ↔ (lit ≡ true)) → is_head state ≡ lit
 head_test Head lit h = sym (h.0 refl)
@@ -92,6 +92,26 @@ bit_is law plan h loop within =
     ∙ ap (λ b. is_start_at plan.starts.list (32 * plan.latches) (row_of (first_loop_lane plan.lanes plan.latches + loop)) || b)
     (none_west plan.lanes plan.latches (row_of (first_loop_lane plan.lanes plan.latches + loop)) plan.starts.list h.at_loops)
     ∙ or-false _
+
+-- tests that agree on the loops have the same starts
+same_from : (lanes loops : ℕ) (p q : ℕ → Bool) (left from : ℕ) → ((loop : ℕ) → from ≤ loop → loop < from + left → p loop ≡ q loop)
+    → starts_from lanes loops p left from ≡ starts_from lanes loops q left from
+same_from lanes loops p q zero from h = refl
+same_from lanes loops p q (suc left) from h =
+    ap₂ (λ b rest. cond b (loop_start lanes loops from ∷ []) [] ++ rest) (h from (omega arith) (omega arith))
+    (same_from lanes loops p q left (from + 1) (λ loop low high. h loop (omega (arith, low)) (omega (arith, high))))
+
+-- the bits that are shown, in a list
+pub starts_of_shown : (rows : List (List State)) (lanes loops : ℕ) (bits : List Bool) → bits ≡ bits_shown rows lanes loops
+    → starts_where lanes (length bits) (λ loop. get_or bits loop false) ≡ starts_where lanes loops (bit_shown rows lanes loops)
+starts_of_shown rows lanes loops bits e =
+    let many : length bits ≡ loops = ap length e ∙ length-map-range_with_len (bit_shown rows lanes loops) 0 loops in
+    ap (λ n. starts_where lanes n (λ loop. get_or bits loop false)) many
+    ∙ same_from lanes loops (λ loop. get_or bits loop false) (bit_shown rows lanes loops) loops 0
+    (λ loop low high. ap (λ bs. get_or bs loop false) e ∙ get_or-map-range_with_len (bit_shown rows lanes loops) 0 loops loop loop false (omega (arith, high)) (omega arith))
+
+pub shown_long : (rows : List (List State)) (lanes loops : ℕ) (bits : List Bool) → bits ≡ bits_shown rows lanes loops → length bits ≡ loops
+shown_long rows lanes loops bits e = ap length e ∙ length-map-range_with_len (bit_shown rows lanes loops) 0 loops
 
 -- and these are the starts
 pub starts_are : KeepsLaw shipped_drawing → (plan : Plan) → IsCircuit plan

@@ -1,5 +1,5 @@
 -- What rows of cells show of a plan, read at a few cells of each block.
-use Rattle.std.specs.Prelude.{ℕ, zero, suc, ◌+◌, ◌-◌, ◌*◌, Bool, true, false, cond, List, [], ◌++◌, map, get_or, Option, Some, None, option_to_list, is_some}
+use Rattle.std.specs.Prelude.{ℕ, zero, suc, ◌+◌, ◌-◌, ◌*◌, Bool, false, cond, List, [], ◌++◌, map, get_or, Option, Some, None, option_to_list, is_some}
 use Rattle.std.specs.List.{range_with_len}
 use Rattle.ww_rule.specs.declared.pattern.State.{State}
 use Rattle.ww_rule.specs.declared.pattern.State.TheVariants.{Empty}

@@ -25,7 +25,9 @@ pub fn audit(alloc: Global, pattern: &Pattern, ports: &Ports) -> Result<Plan, Au
     ensures drawn { IfOk result (λ plan. IsDrawingOf (grid_of pattern.now) ports.now plan) }
     ensures named { OnOk result (has_bad_name ports.now ≡ false) }
     ensures nets { IfOk result (λ plan. plan.nets ≡ []) }
-    ensures fault { (fault : CircuitFault) → IsErrOf result (NotCircuit fault) → HasCircuitFault (grid_of pattern.now) ports.now fault }
+    ensures fault { (fault : CircuitFault)
+        → IsErrOf result (NotCircuit fault)
+        → HasCircuitFault (grid_of pattern.now) ports.now fault }
 {
     keeps_law(&Shipped);
     let Some(plan) = plan_shown(alloc, pattern, ports)? else {

@@ -56,7 +56,9 @@ pub fn columns_shown(
     count: u64,
 ) -> Result<Vec<Column>, AllocError>
     requires { count < 2 ^ 40 }
-    ensures { IfOk result (λ columns. map (λ column. column.instrs) columns.items ≡ columns_shown rows.now lanes loops count) }
+    ensures { IfOk result (λ columns.
+        map (λ column. column.instrs) columns.items ≡ columns_shown rows.now lanes loops count
+        ) }
 {
     let mut columns = Vec::new(alloc);
     for column in 0..count {

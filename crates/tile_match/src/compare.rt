@@ -1,5 +1,5 @@
 // Whether rows of cells are the drawing of a plan: block by block, and in a block row by row, by runs of equal cells.
-ghost use Rattle.std.specs.Prelude.{◌≡◌, ◌↔◌, ◌<◌, ◌≤◌, ◌+◌, ◌-◌, ◌*◌, ◌/◌, ◌%◌, ◌==◌, [], All, IsTrue, IfOk, IfSome, IfNone, length, take, drop};
+ghost use Rattle.std.specs.Prelude.{◌≡◌, ◌↔◌, ◌<◌, ◌≤◌, ◌+◌, ◌-◌, ◌*◌, ◌^◌, ◌/◌, ◌%◌, ◌==◌, [], All, IsTrue, IfOk, IfSome, IfNone, length, take, drop};
 ghost use Rattle.std.specs.List.{list_any};
 ghost use Rattle.lane_core.specs.Plans.{IsAdmissible, size_of};
 ghost use Rattle.plan_layout.specs.Slots.{slot_of};
@@ -49,7 +49,12 @@ fn drawn_run(plan: &Plan, slot: Slot, cells: &[State], y: u64, x: u64, until: u6
     requires slot { slot_of slot ≡ drawn_tiling plan.now (x / 32) (y / 16) }
     requires some { x < until }
     requires in_row { until ≤ length cells.now }
-    ensures drawn { IfSome result (λ count. (1 ≤ count) × (count ≤ 32 - x % 32) × (x + count ≤ until) × IsSpanDrawn plan.now cells.now y x (x + count)) }
+    ensures drawn { IfSome result (λ count.
+        (1 ≤ count)
+        × (count ≤ 32 - x % 32)
+        × (x + count ≤ until)
+        × IsSpanDrawn plan.now cells.now y x (x + count)
+        ) }
     ensures other { IfNone result (IsSpanDrawn plan.now cells.now y x until → ⊥) }
 {
     let (state, count) = run_in(plan, slot, y, x, until - x);
@@ -79,13 +84,23 @@ fn is_span_drawn(plan: &Plan, slot: Slot, cells: &[State], y: u64, from: u64, un
 }
 
 // Whether the rows of a block are the plan's, as far as `until`.
-fn is_block_drawn(plan: &Plan, slot: Slot, rows: &CellRows, column: u64, lane: u64, until: u64) -> bool
+fn is_block_drawn(
+    plan: &Plan,
+    slot: Slot,
+    rows: &CellRows,
+    column: u64,
+    lane: u64,
+    until: u64,
+) -> bool
     requires admissible { IsAdmissible plan.now }
     requires slot { slot_of slot ≡ drawn_tiling plan.now column lane }
+    requires begun { 32 * column ≤ until }
     requires in_block { until ≤ 32 * column + 32 }
+    requires near { lane < 2 ^ 59 }
     requires in_rows { All (λ row. until ≤ length row) rows.now }
     requires low { 16 * lane + 16 ≤ length rows.now }
-    ensures { IsTrue result ↔ IsBoxDrawn plan.now rows.now (16 * lane) (16 * lane + 16) (32 * column) until }
+    ensures { IsTrue result
+        ↔ IsBoxDrawn plan.now rows.now (16 * lane) (16 * lane + 16) (32 * column) until }
 {
     for y in 16 * lane..16 * lane + 16 {
         if !is_span_drawn(plan, slot, rows.row(y as usize), y, 32 * column, until) {
@@ -100,13 +115,21 @@ fn is_lane_drawn(plan: &Plan, rows: &CellRows, width: u64, lane: u64, is_out: bo
     requires admissible { IsAdmissible plan.now }
     requires no_tape { plan.now.tape ≡ [] }
     requires out { is_out ≡ list_any (λ out. out == lane) plan.now.outs }
+    requires near { lane < 2 ^ 59 }
     requires wide { All (λ row. length row ≡ width) rows.now }
     requires low { 16 * lane + 16 ≤ length rows.now }
     ensures { IsTrue result ↔ IsBoxDrawn plan.now rows.now (16 * lane) (16 * lane + 16) 0 width }
 {
     for column in 0..width / 32 + 1 {
-        let until = width.min(32 * column + 32);
-        if !is_block_drawn(plan, slot_in(plan, column, lane, is_out), rows, column, lane, until) {
+        let until = 32 * column + (width - 32 * column).min(32);
+        if !is_block_drawn(
+            plan,
+            slot_in(plan, column, lane, is_out),
+            rows,
+            column,
+            lane,
+            until,
+        ) {
             return false;
         }
     }
@@ -122,7 +145,13 @@ pub fn is_drawn(alloc: Global, pattern: &Pattern, plan: &Plan) -> Result<bool, A
 {
     let marks = marks_of(alloc, plan.outs.as_slice(), plan.lanes)?;
     for lane in 0..pattern.rows.len() as u64 / 16 {
-        if !is_lane_drawn(plan, &pattern.rows, pattern.width, lane, is_marked(&marks, lane)) {
+        if !is_lane_drawn(
+            plan,
+            &pattern.rows,
+            pattern.width,
+            lane,
+            is_marked(&marks, lane),
+        ) {
             return Ok(false);
         }
     }

@@ -23,7 +23,9 @@ pub fn are_distinct(alloc: Global, lanes: &[u32], limit: u32) -> Result<bool, Al
 /// A mark for each of so many lanes: whether it is one of these.
 pub fn marks_of(alloc: Global, lanes: &[u32], limit: u32) -> Result<Vec<bool>, AllocError>
     requires below { All (λ lane. lane < limit) lanes.now }
-    ensures { IfOk result (λ marks. (lane : ℕ) → get_or marks.items lane false ≡ list_any (λ out. out == lane) lanes.now) }
+    ensures { IfOk result (λ marks.
+        (lane : ℕ) → get_or marks.items lane false ≡ list_any (λ out. out == lane) lanes.now
+        ) }
 {
     let mut marks = vec![in alloc; false; limit as usize]?;
     for lane in lanes {

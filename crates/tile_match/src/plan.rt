@@ -42,7 +42,11 @@ pub fn plan_shown(
     pattern: &Pattern,
     ports: &Ports,
 ) -> Result<Option<Plan>, AllocError>
-    ensures { IfOk result (λ found. MatchOption found (HasSomePlan (grid_of pattern.now) ports.now → ⊥) (λ plan. IsPlanRead (grid_of pattern.now) ports.now plan × (plan.nets ≡ []))) }
+    ensures { IfOk result (λ found.
+        MatchOption found (HasSomePlan (grid_of pattern.now) ports.now → ⊥) (λ plan.
+        IsPlanRead (grid_of pattern.now) ports.now plan × (plan.nets ≡ [])
+        )
+        ) }
 {
     if ports.c != 1 {
         return Ok(None);

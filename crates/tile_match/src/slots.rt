@@ -16,7 +16,8 @@ use tile_core::Kind;
 
 // What stands next to the body's end, `off` lanes above its lowest one.
 fn end_slot(loops: u32, off: u32, is_out: bool) -> Slot
-    ensures { slot_of result ≡ cond is_out (Whole Output) (turn_slot loops 0 off kind.East kind.EastSouth kind.South) }
+    ensures { slot_of result
+        ≡ cond is_out (Whole Output) (turn_slot loops 0 off kind.East kind.EastSouth kind.South) }
 {
     if is_out {
         Slot::Whole(Piece::Output)

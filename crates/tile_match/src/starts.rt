@@ -42,7 +42,9 @@ pub fn starts_shown(
     loops: u32,
 ) -> Result<Starts, AllocError>
     requires { loops ≤ lanes }
-    ensures { IfOk result (λ starts. starts.list ≡ starts_where lanes loops (bit_shown rows.now lanes loops)) }
+    ensures { IfOk result (λ starts.
+        starts.list ≡ starts_where lanes loops (bit_shown rows.now lanes loops)
+        ) }
 {
     let bits = bits_shown(alloc, rows, lanes, loops)?;
     starts_of_bits(alloc, lanes, &bits)

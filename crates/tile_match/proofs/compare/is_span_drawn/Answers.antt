@@ -1,4 +1,4 @@
-use Rattle.std.proofs.Common.{◌≡◌, refl, sym, subst, ◌/◌, arith}
+use Rattle.std.proofs.Common.{◌≡◌, refl, subst, ◌/◌, arith}
 use Rattle.std.proofs.lemmas.Bool.{false≢true}
 use Rattle.plan_layout.specs.Slots.{slot_of}
 use Rattle.plan_layout.specs.Tape.{drawn_tiling}

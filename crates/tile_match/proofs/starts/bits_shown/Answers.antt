@@ -1,4 +1,4 @@
-use Rattle.std.proofs.Common.{◌≡◌, sym, ◌∙◌, ap₂, ◌++◌, [], ◌∷◌, arith}
+use Rattle.std.proofs.Common.{sym, ◌∙◌, ap₂, ◌++◌, [], ◌∷◌, arith}
 use Rattle.std.proofs.lemmas.List.FromFn.{map-range_with_len_more}
 use Rattle.tile_match.specs.Blocks.{bit_shown}
 use Rattle.tile_match.proofs.starts.bits_shown.Goals as goal
