@@ -147,7 +147,6 @@ fn what_is_no_drawing_is_refused(rt: HostRuntime) -> Result<(), Fail> {
 
 // Lines, what stands in their place, and what is lifted.
 const NAMED: &[(usize, &[u8], &[u8])] = &[
-    (99, b"", LIFTED),
     (
         1,
         b"#C BLIFWW IN 0 8 a\\b\n",
