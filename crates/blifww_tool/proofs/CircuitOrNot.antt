@@ -10,7 +10,7 @@ use Rattle.rle_read.specs.declared.error.RleFault.{RleFault}
 use Rattle.port_table.specs.declared.faults.PortFault.{PortFault}
 use Rattle.tile_match.specs.declared.error.CircuitFault.{CircuitFault}
 use Rattle.tile_match.specs.declared.error.CircuitFault.TheVariants as fault
-use Rattle.tile_match.specs.Circuit.{HasSomePlan, IsDrawingOf}
+use Rattle.tile_match.specs.Circuit.{HasSomePlan, IsPlanDrawing}
 use Rattle.tile_match.specs.Faults.{HasCircuitFault}
 use Rattle.tile_match.specs.Names.{has_bad_name}
 use Rattle.blifww_tool.specs.Lifting.{IsCircuitText, HasNoCircuit}
@@ -25,7 +25,7 @@ named_or_bad : (b : Bool) → b ≡ true → b ≡ false → ⊥
 named_or_bad b bad named = true≢false (sym bad ∙ named)
 
 -- a drawing of a circuit has no fault
-drawn_or_not : (grid : Grid) (ports : Ports) (plan : Plan) (f : CircuitFault) → IsDrawingOf grid ports plan → has_bad_name ports ≡ false → HasCircuitFault grid ports f → ⊥
+drawn_or_not : (grid : Grid) (ports : Ports) (plan : Plan) (f : CircuitFault) → IsPlanDrawing grid ports plan → has_bad_name ports ≡ false → HasCircuitFault grid ports f → ⊥
 drawn_or_not grid ports plan fault.Ports drawn named h = h (plan, drawn.circuit, drawn.ports)
 drawn_or_not grid ports plan fault.Names drawn named h = named_or_bad (has_bad_name ports) h.1 named
 drawn_or_not grid ports plan fault.Cells drawn named h = h.2 plan drawn

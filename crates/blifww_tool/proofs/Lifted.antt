@@ -31,7 +31,7 @@ use Rattle.port_table.specs.declared.reading.PortReadError.TheVariants as table
 use Rattle.tile_match.specs.declared.error.AuditError.{AuditError}
 use Rattle.tile_match.specs.declared.error.AuditError.TheVariants as auditing
 use Rattle.tile_match.specs.declared.error.CircuitFault.{CircuitFault}
-use Rattle.tile_match.specs.Circuit.{IsDrawingOf}
+use Rattle.tile_match.specs.Circuit.{IsPlanDrawing}
 use Rattle.tile_match.specs.Faults.{HasCircuitFault}
 use Rattle.command_words.specs.Shapes.{lift}
 use Rattle.refusals.specs.Refusals.{audit_error, pattern_error, table_error}
@@ -88,7 +88,7 @@ module _ (texts : LiftedTextsRead) (clocks : LiftedHaveNoClockFault) (loops : Li
   }
 
 -- a circuit's table has a line for each output
-pub many_outs_of : (grid : Grid) (ports : Ports) (plan : Plan) → IsDrawingOf grid ports plan → length ports.outs ≡ length plan.outs
+pub many_outs_of : (grid : Grid) (ports : Ports) (plan : Plan) → IsPlanDrawing grid ports plan → length ports.outs ≡ length plan.outs
 many_outs_of grid ports plan drawing = many_outs grid.width grid.height ports plan drawing.ports
 
 -- what is written of a lift is the text of its cells with the ports' names

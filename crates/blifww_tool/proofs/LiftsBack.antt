@@ -11,7 +11,7 @@ use Rattle.cell_core.specs.declared.cells.Cell.{Cell}
 use Rattle.cell_core.specs.declared.list.CellList.{CellList}
 use Rattle.circuit_plans.specs.Circuits.{without_nets}
 use Rattle.plan_cells.specs.Lists.{IsListOf}
-use Rattle.tile_match.specs.Circuit.{IsDrawingOf}
+use Rattle.tile_match.specs.Circuit.{IsPlanDrawing}
 use Rattle.tile_match.specs.Laws.{DrawsOnePlan}
 use Rattle.netlist_core.specs.declared.model.Design.{Design}
 use Rattle.blif_text.proofs.OneFault.{one_design}
@@ -33,8 +33,8 @@ compiled_are_lifted starts netlist text written grid ports reads table named =
     let plan : Plan = written.plan in
     let spells : Spells text (start_grid plan) written.ports = subst (λ (t : List ℕ). Spells t (start_grid plan) written.ports) (sym written.written) drawn.spells in
     let same = one_spelling text (start_grid plan) grid written.ports ports spells (record { reads = reads.0; table = table }) in
-    let drawing : IsDrawingOf grid ports plan =
-    subst (λ (p : Ports). IsDrawingOf grid p plan) same.1 (subst (λ (g : Grid). IsDrawingOf g written.ports plan) same.0 drawn.drawing) in
+    let drawing : IsPlanDrawing grid ports plan =
+    subst (λ (p : Ports). IsPlanDrawing grid p plan) same.1 (subst (λ (g : Grid). IsPlanDrawing g written.ports plan) same.0 drawn.drawing) in
     (grid, ports, plan, record { pattern = reads; table = table; drawing = drawing; named = named })
 
 -- ---- one way
@@ -70,8 +70,8 @@ bare_list plan list h = record { inputs = h.inputs; cells = h.cells; outs = h.ou
 pub lifted_in_one_way : DrawsOnePlan → LiftedInOneWay
 lifted_in_one_way law text a b h k =
     let same = one_spelling text h.grid k.grid h.ports k.ports (record { reads = h.is.pattern.0; table = h.is.table }) (record { reads = k.is.pattern.0; table = k.is.table }) in
-    let drawing : IsDrawingOf k.grid k.ports h.plan =
-    subst (λ (p : Ports). IsDrawingOf k.grid p h.plan) same.1 (subst (λ (g : Grid). IsDrawingOf g h.ports h.plan) same.0 h.is.drawing) in
+    let drawing : IsPlanDrawing k.grid k.ports h.plan =
+    subst (λ (p : Ports). IsPlanDrawing k.grid p h.plan) same.1 (subst (λ (g : Grid). IsPlanDrawing g h.ports h.plan) same.0 h.is.drawing) in
     let plans : without_nets h.plan ≡ without_nets k.plan = law k.grid k.ports h.plan k.plan drawing k.is.drawing in
     let of_other : IsListOf (without_nets k.plan) h.list = subst (λ (p : Plan). IsListOf p h.list) plans (bare_list h.plan h.list h.of_plan) in
     h.written

@@ -6,7 +6,7 @@ use Rattle.pattern_reading.specs.declared.ports.Ports.{Ports}
 use Rattle.pattern_reading.specs.Ports.{names_of}
 use Rattle.pattern_reading.specs.Pattern.{ReadsWithinLimit, HasReaderFault, HasLargeBox}
 use Rattle.pattern_reading.specs.PortTable.{ReadsAsPorts, HasPortFault}
-use Rattle.tile_match.specs.Circuit.{IsDrawingOf}
+use Rattle.tile_match.specs.Circuit.{IsPlanDrawing}
 use Rattle.tile_match.specs.Faults.{HasCircuitFault}
 use Rattle.tile_match.specs.Names.{has_bad_name}
 use Rattle.cell_core.specs.declared.list.CellList.{CellList}
@@ -26,7 +26,7 @@ use Rattle.refusals.specs.declared.causes.Cause.TheVariants.{Pattern, GridTooLar
 pub record IsCircuitText (text : List ℕ) (grid : Grid) (ports : Ports) (plan : Plan) : Type 0 where
   pub pattern : ReadsWithinLimit text grid
   pub table : ReadsAsPorts text grid.width grid.height ports
-  pub drawing : IsDrawingOf grid ports plan
+  pub drawing : IsPlanDrawing grid ports plan
   pub named : has_bad_name ports ≡ false
 
 -- The netlist's text is this design, which breaks no rule and has no loop, and the text of the pattern carries it.

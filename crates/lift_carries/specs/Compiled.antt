@@ -12,7 +12,7 @@ use Rattle.pattern_writing.specs.WrittenText.{pattern_text}
 use Rattle.plan_ports.specs.Tables.{IsTableOf, HasPortNames, HasTablePlaces}
 use Rattle.carries.specs.Cells.{Spells}
 use Rattle.circuit_plans.specs.Circuits.{IsCircuit, first_bits}
-use Rattle.tile_match.specs.Circuit.{IsDrawingOf}
+use Rattle.tile_match.specs.Circuit.{IsPlanDrawing}
 
 -- The plan's start edges, which are edges of its drawing, start one context: the loops start with these bits where they enter the columns.
 pub record StartsOneContext (plan : Plan) (bits : List Bool) : Type 0 where
@@ -40,7 +40,7 @@ pub record IsCompiledForOne (flat : Flat) (plan : Plan) (ports : Ports) : Type 0
 -- the written text of a plan and a table spells the plan's pattern and this table, and they are the drawing of the plan
 pub record IsWrittenDrawing (plan : Plan) (ports : Ports) : Type 0 where
   pub spells : Spells (pattern_text (start_grid plan) ports) (start_grid plan) ports
-  pub drawing : IsDrawingOf (start_grid plan) ports plan
+  pub drawing : IsPlanDrawing (start_grid plan) ports plan
 
 abbrev pub CompiledAreDrawings : Type 0
 CompiledAreDrawings = (flat : Flat) (plan : Plan) (ports : Ports) → IsCompiledForOne flat plan ports → IsWrittenDrawing plan ports

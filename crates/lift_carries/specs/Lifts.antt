@@ -9,14 +9,14 @@ use Rattle.carries.specs.Cells.{Spells}
 use Rattle.carries.specs.Carries.{Carries}
 use Rattle.plan_cells.specs.Lists.{IsListOf}
 use Rattle.lifted_designs.specs.Lifted.{lifted_design}
-use Rattle.tile_match.specs.Circuit.{IsDrawingOf}
+use Rattle.tile_match.specs.Circuit.{IsPlanDrawing}
 use Rattle.tile_match.specs.Names.{has_bad_name}
 
 -- A text spells a plan: it spells a pattern and a port table, which are the drawing of the plan, and no name in the table is bad. The
 -- list has the cells of the plan.
 pub record SpellsPlan (text : List ℕ) (grid : Grid) (ports : Ports) (plan : Plan) (list : CellList) : Type 0 where
   pub spells : Spells text grid ports
-  pub drawing : IsDrawingOf grid ports plan
+  pub drawing : IsPlanDrawing grid ports plan
   pub names : has_bad_name ports ≡ false
   pub cells : IsListOf plan list
   pub few_cells : length list.cells < 2 ^ 64

@@ -3,6 +3,7 @@
 //! Theorem: `write` (`ok`, `front`, `cause`).
 #![tactic(auto)]
 
+mod blocks;
 mod items;
 mod plan_rows;
 mod rows;

@@ -10,39 +10,30 @@ ghost use Rattle.plan_layout.specs.Slots.{slot_of};
 ghost use Rattle.grid_assembly.specs.PlanDrawing.{start_row, start_grid};
 ghost use Rattle.grid_assembly.specs.West.{tape_end, IsWest};
 ghost use Rattle.pattern_writing.specs.Writer.{item_texts, wrapped};
+ghost use Rattle.rle_write.specs.Blocks.{AreBlocks};
 ghost use Rattle.rle_write.specs.Left.{rows_left, text_left};
 ghost use Rattle.ww_base.specs.Pages.{held, column_of};
 ghost use Rattle.ww_base.specs.Progress.{Wrote, Broke};
 
+use crate::blocks::{keep_blocks, kept_block};
 use crate::items::write_item;
 use crate::rows::{Kept, end_row, write_same};
 use grid_assembly::{West, run_in, run_on_tape, tape_end, west_of};
 use lane_core::Plan;
-use plan_layout::{Slot, slot_at, slot_drawn_at};
+use plan_layout::Slot;
 use ww_base::{Failed, Page, Sink};
 use ww_rule::State;
 
-// What stands in a block of the drawing: without a tape, what the plan has there.
-fn block_at(plan: &Plan, column: u64, lane: u64) -> Slot
-    requires admissible { IsAdmissible plan.now }
-    ensures { slot_of result ≡ drawn_tiling plan.now column lane }
-{
-    if plan.tape.len() == 0 {
-        slot_at(plan, column, lane)
-    } else {
-        slot_drawn_at(plan, column, lane)
-    }
-}
-
-// What stands in the block of the cell at column `x` and row `y`: it is looked up where the block begins, and is else
+// What stands in the block of the cell at column `x` and row `y`: it is taken anew where the block begins, and is else
 // what stood there for the cell before.
-fn slot_from(plan: &Plan, y: u64, x: u64, before: Slot) -> Slot
+fn slot_from(plan: &Plan, blocks: &[Slot], y: u64, x: u64, before: Slot) -> Slot
     requires admissible { IsAdmissible plan.now }
+    requires kept { AreBlocks plan.now (y / 16) blocks.now }
     requires before { x % 32 ≢ 0 → slot_of before ≡ drawn_tiling plan.now (x / 32) (y / 16) }
     ensures { slot_of result ≡ drawn_tiling plan.now (x / 32) (y / 16) }
 {
     if x % 32 == 0 {
-        block_at(plan, x / 32, y / 16)
+        kept_block(plan, blocks, x / 32, y / 16)
     } else {
         before
     }
@@ -51,6 +42,7 @@ fn slot_from(plan: &Plan, y: u64, x: u64, before: Slot) -> Slot
 // The next run of a row, and what stands in the block to which it goes: west of the plan no block is looked up.
 fn next_run(
     plan: &Plan,
+    blocks: &[Slot],
     end: u64,
     west: West,
     before: Slot,
@@ -59,6 +51,7 @@ fn next_run(
     limit: u64,
 ) -> (Slot, (State, u64))
     requires admissible { IsAdmissible plan.now }
+    requires kept { AreBlocks plan.now (y / 16) blocks.now }
     requires end { end ≡ tape_end plan.now }
     requires row { IsWest plan.now y west }
     requires before { tape_end plan.now ≤ x → x % 32 ≢ 0 → slot_of before ≡ drawn_tiling plan.now (x / 32) (y / 16) }
@@ -71,7 +64,7 @@ fn next_run(
     if x < end {
         (before, run_on_tape(plan, west, y, x, limit))
     } else {
-        let slot = slot_from(plan, y, x, before);
+        let slot = slot_from(plan, blocks, y, x, before);
         (slot, run_in(plan, slot, y, x, limit))
     }
 }
@@ -82,10 +75,12 @@ fn write_plan_row<O: Sink>(
     page: &mut Page,
     ends: usize,
     plan: &Plan,
+    blocks: &[Slot],
     width: u64,
     y: u64,
 ) -> Result<usize, Failed>
     requires admissible { IsAdmissible plan.now }
+    requires kept { AreBlocks plan.now (y / 16) blocks.now }
     requires wide { width ≡ (size_of plan.now).0 }
     requires low { y < 2 ^ 60 }
     requires few { ends + 1 < 2 ^ 64 }
@@ -103,7 +98,7 @@ fn write_plan_row<O: Sink>(
     let mut x = 0;
     let mut slot = Slot::Nothing;
     'runs: while x < width {
-        let (block, (state, count)) = next_run(plan, end, west, slot, y, x, width - x);
+        let (block, (state, count)) = next_run(plan, blocks, end, west, slot, y, x, width - x);
         slot = block;
         kept = write_same(sink, page, kept, state, count as usize)?;
         x += count;
@@ -111,11 +106,13 @@ fn write_plan_row<O: Sink>(
     end_row(sink, page, kept)
 }
 
-/// Writes the items of a plan's rows, the `!` after them and a line end on the page.
+/// Writes the items of a plan's rows, the `!` after them and a line end on the page. As many blocks of a lane as there is room
+/// for are looked up once for its rows.
 pub fn write_plan_rows<O: Sink>(
     sink: &mut O,
     page: &mut Page,
     plan: &Plan,
+    blocks: &mut [Slot],
     width: u64,
     height: u64,
 ) -> Result<(), Failed>
@@ -133,7 +130,8 @@ pub fn write_plan_rows<O: Sink>(
     let mut ends = 0;
     let mut y = 0;
     'rows: while y < height {
-        ends = write_plan_row(sink, page, ends, plan, width, y)?;
+        keep_blocks(plan, y, blocks);
+        ends = write_plan_row(sink, page, ends, plan, blocks, width, y)?;
         y += 1;
     }
     write_item(sink, page, 1, b'!')?;

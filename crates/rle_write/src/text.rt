@@ -1,5 +1,5 @@
 // The whole text: lines, the header, and the items.
-ghost use Rattle.std.specs.Prelude.{◌≡◌, ℕ, List, ◌++◌, take, decimal, OnOk, OnErr};
+ghost use Rattle.std.specs.Prelude.{◌≡◌, ◌≤◌, ℕ, List, ◌++◌, take, decimal, OnOk, OnErr};
 ghost use Rattle.std.specs.Io.KnownBytes.{Appends};
 ghost use Rattle.ww_base.specs.Faults.{HasCause};
 ghost use Rattle.lane_core.specs.Plans.{IsAdmissible};
@@ -14,8 +14,19 @@ use grid_assembly::size;
 use itoa::Buffer;
 use lane_core::Plan;
 use pattern_reading::Ports;
+use plan_layout::Slot;
 use port_writing::write_table;
 use ww_base::{Failed, Page, Sink};
+
+// The most blocks of a lane that are kept for its rows: 32 columns of cells each.
+const KEPT: usize = 4096;
+
+// How many blocks are kept of a drawing of this width.
+fn kept_blocks(width: u64) -> usize
+    ensures { result ≤ 4096 }
+{
+    (width / 32 + 1).min(KEPT as u64) as usize
+}
 
 // Writes the digits of a number.
 fn write_number<O: Sink>(sink: &mut O, page: &mut Page, number: u64) -> Result<(), Failed>
@@ -69,6 +80,8 @@ pub fn write<O: Sink>(plan: &Plan, ports: &Ports, sink: &mut O) -> Result<(), Fa
     let (width, height) = size(plan);
     write_table(sink, &mut page, ports)?;
     write_header(sink, &mut page, width, height)?;
-    write_plan_rows(sink, &mut page, plan, width, height)?;
+    let mut blocks = [Slot::Nothing; KEPT];
+    let kept = &mut blocks[..kept_blocks(width)];
+    write_plan_rows(sink, &mut page, plan, kept, width, height)?;
     page.flush(sink)
 }

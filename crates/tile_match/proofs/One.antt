@@ -17,7 +17,7 @@ use Rattle.tiling.specs.Steps.{KeepsLaw}
 use Rattle.grid_assembly.specs.PlanDrawing.{start_grid}
 use Rattle.pattern_reading.specs.declared.ports.Ports.{Ports}
 use Rattle.tile_match.specs.Blocks.{columns_shown, bit_shown}
-use Rattle.tile_match.specs.Circuit.{IsDrawingOf}
+use Rattle.tile_match.specs.Circuit.{IsPlanDrawing}
 use Rattle.tile_match.specs.Read.{IsPlanRead}
 use Rattle.tile_match.specs.Laws.{DrawsOnePlan}
 use Rattle.tile_match.proofs.ReadColumns.{columns_are}
@@ -99,7 +99,7 @@ one_read grid ports a b ra rb =
     (ra.no_tape ∙ sym rb.no_tape)
 
 -- what is read of the rows of a drawing is the plan's
-pub drawing_is_read : KeepsLaw shipped_drawing → (grid : Grid) (ports : Ports) (plan : Plan) → IsDrawingOf grid ports plan → IsPlanRead grid ports plan
+pub drawing_is_read : KeepsLaw shipped_drawing → (grid : Grid) (ports : Ports) (plan : Plan) → IsPlanDrawing grid ports plan → IsPlanRead grid ports plan
 drawing_is_read law grid ports plan d = record {
   size = size_is grid.width grid.height ports plan d.circuit d.ports;
   contexts = d.ports.contexts;
@@ -120,7 +120,7 @@ nets_aside : (plan : Plan) → start_grid plan ≡ start_grid (without_nets plan
 nets_aside plan = refl
 
 -- a plan that draws the pattern is drawn as the one that is read
-pub read_is : KeepsLaw shipped_drawing → (grid : Grid) (ports : Ports) (plan : Plan) → IsPlanRead grid ports plan → (other : Plan) → IsDrawingOf grid ports other
+pub read_is : KeepsLaw shipped_drawing → (grid : Grid) (ports : Ports) (plan : Plan) → IsPlanRead grid ports plan → (other : Plan) → IsPlanDrawing grid ports other
     → grid ≡ start_grid plan
 read_is law grid ports plan r other d =
     d.drawn ∙ nets_aside other ∙ ap start_grid (one_read grid ports other plan (drawing_is_read law grid ports other d) r) ∙ sym (nets_aside plan)

@@ -24,7 +24,7 @@ HasSomePlan grid ports = (plan : Plan) × IsCircuit plan × HasBoxAndPorts grid.
 
 -- A pattern with a table is the drawing of a circuit's plan: it has the plan's box and ports, and each of its cells is the
 -- plan's at generation 0.
-pub record IsDrawingOf (grid : Grid) (table : Ports) (plan : Plan) : Type 0 where
+pub record IsPlanDrawing (grid : Grid) (table : Ports) (plan : Plan) : Type 0 where
   pub circuit : IsCircuit plan
   pub ports : HasBoxAndPorts grid.width grid.height table plan
   pub drawn : grid ≡ start_grid plan

@@ -4,7 +4,7 @@ ghost use Rattle.std.specs.Result.{IsErrOf};
 ghost use Rattle.ww_rule.specs.Patterns.{grid_of};
 ghost use Rattle.tile_match.specs.declared.error.AuditError.TheVariants.{NotCircuit};
 ghost use Rattle.tile_match.specs.declared.error.CircuitFault.{CircuitFault};
-ghost use Rattle.tile_match.specs.Circuit.{IsDrawingOf};
+ghost use Rattle.tile_match.specs.Circuit.{IsPlanDrawing};
 ghost use Rattle.tile_match.specs.Faults.{HasCircuitFault};
 ghost use Rattle.tile_match.specs.Names.{has_bad_name};
 
@@ -22,7 +22,7 @@ use ww_rule::Pattern;
 /// The plan of which a pattern with a port table is the drawing, without the places of nets; or the first reason for which there
 /// is none.
 pub fn audit(alloc: Global, pattern: &Pattern, ports: &Ports) -> Result<Plan, AuditError>
-    ensures drawn { IfOk result (λ plan. IsDrawingOf (grid_of pattern.now) ports.now plan) }
+    ensures drawn { IfOk result (λ plan. IsPlanDrawing (grid_of pattern.now) ports.now plan) }
     ensures named { OnOk result (has_bad_name ports.now ≡ false) }
     ensures nets { IfOk result (λ plan. plan.nets ≡ []) }
     ensures fault { (fault : CircuitFault)

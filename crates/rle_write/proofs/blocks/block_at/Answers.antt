@@ -1,7 +1,7 @@
 use Rattle.std.proofs.Common.{sym, ◌∙◌, ap}
 use Rattle.std.proofs.lemmas.List.{nil_from_length}
 use Rattle.plan_layout.proofs.Bare.{bare}
-use Rattle.rle_write.proofs.plan_rows.block_at.Goals as goal
+use Rattle.rle_write.proofs.blocks.block_at.Goals as goal
 
 pub returns-then-len-eq0 : goal.returns-then-len-eq0
 returns-then-len-eq0 c =
