@@ -14,7 +14,7 @@ use Rattle.aiger_text.specs.SoundAig.{IsSoundAig}
 use Rattle.aiger_meaning.specs.Lowered.{IsLowered}
 
 -- no net is listed
-none_listed : (flat : Flat) → flat.listed ≡ false → [] ≡ listed_nets flat
+pub none_listed : (flat : Flat) → flat.listed ≡ false → [] ≡ listed_nets flat
 none_listed flat unlisted = sym (ap (λ listed. cond listed (nets_but_clocks flat) []) unlisted)
 
 module _ (aig : Aig) (flat : Flat) (lowered : IsLowered aig flat) where

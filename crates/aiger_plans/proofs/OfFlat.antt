@@ -1,35 +1,67 @@
 -- The plan of the flat netlist of a circuit is one of the circuit.
-use Rattle.std.proofs.Common.{◌≡◌, ◌∙◌, subst, ◌+◌, ◌*◌, ◌≤◌, false, length}
+use Rattle.std.proofs.Common.{◌≡◌, refl, sym, ◌∙◌, ap, subst, ◌+◌, ◌*◌, ◌≤◌, Bool, false, List, [], ◌∷◌, length, arith}
+use Rattle.std.specs.Prelude.{◌==◌, if◌then◌else◌}
 use Rattle.lane_core.specs.declared.plan.Plan.{Plan}
 use Rattle.lane_core.specs.Plans.{IsAdmissible}
 use Rattle.plan_layout.specs.Starts.{HasStartEdges}
 use Rattle.grid_assembly.specs.PlanDrawing.{start_grid}
 use Rattle.cell_plans.specs.Counts.{instr_count}
 use Rattle.netlist_core.specs.declared.flat.Flat.{Flat}
+use Rattle.netlist_meaning.specs.Flat.{names_of_ports}
 use Rattle.cell_meaning.specs.Needs.{any_needs_one}
+use Rattle.pattern_reading.specs.declared.ports.NetLine.{NetLine}
 use Rattle.pattern_reading.specs.declared.ports.Ports.{Ports}
 use Rattle.pattern_writing.specs.WrittenText.{pattern_text}
+use Rattle.place_paths.specs.Paths.{names_and_paths}
+use Rattle.plan_ports.specs.Tables.{IsTableOf, driven_inputs, drawn_input_cells, named_paths}
 use Rattle.carries.specs.FlatNets.{CarriesFlat}
-use Rattle.netlist_plans.specs.Planned.{IsSmall}
+use Rattle.netlist_plans.specs.Lists.{IsPlanned}
+use Rattle.netlist_plans.specs.Planned.{ComputesCells, IsSmall}
 use Rattle.aiger_text.specs.declared.aig.Aig.{Aig}
 use Rattle.aiger_meaning.specs.FlatOf.{IsFlatOfAig}
 use Rattle.aiger_meaning.specs.Lowered.{IsLowered}
 use Rattle.aiger_carries.specs.Laws.{AigsAreCarried}
 use Rattle.aiger_carries.specs.Needs.{AsksAlike, FlatsOfAigsAskAlike}
-use Rattle.aiger_plans.specs.Planned.{IsPlanOfAig}
+use Rattle.aiger_plans.specs.Planned.{IsTableOfAig, IsPlanOfAig}
+use Rattle.aiger_plans.proofs.Named.{none_listed}
+
+-- beside no tape each input is driven
+all_driven : {X : Type 0} (plan : Plan) (inputs : List X) → plan.tape ≡ [] → driven_inputs plan inputs ≡ inputs
+all_driven plan inputs bare = ap (λ (tape : List (List Bool)). if length tape == 0 then inputs else []) bare
+
+no_lines : (lines : List NetLine) → names_and_paths lines ≡ [] → lines ≡ []
+no_lines [] e = refl
+no_lines (line ∷ lines) e = absurd (omega (arith, ap length e))
 
 module _ (alike : FlatsOfAigsAskAlike) (carried : AigsAreCarried) (aig : Aig) (flat : Flat) (is_flat : IsFlatOfAig aig flat) (lowered : IsLowered aig flat) (plan : Plan) (ports : Ports) where
   asks : AsksAlike aig flat
   asks = alike aig flat is_flat
 
-  pub is_plan : IsAdmissible plan → HasStartEdges plan → IsSmall flat plan → (length flat.latches ≡ 0 → any_needs_one flat ≡ false → ports.p ≡ 32)
-      → CarriesFlat (pattern_text (start_grid plan) ports) flat → IsPlanOfAig aig plan ports
-  is_plan admissible edges small short carries = record {
+  table_of_aig : plan.tape ≡ [] → IsTableOf flat plan 1 ports → IsTableOfAig aig plan ports
+  table_of_aig bare table = record {
+    period = table.period;
+    latency = table.latency;
+    contexts = table.contexts;
+    in_cells = table.in_cells ∙ all_driven plan (drawn_input_cells plan) bare;
+    out_cells = table.out_cells;
+    names = record {
+      ins = table.in_names ∙ all_driven plan (names_of_ports flat flat.ins) bare ∙ lowered.in_names;
+      outs = table.out_names ∙ lowered.out_names;
+      nets = no_lines ports.nets (table.net_names ∙ ap named_paths (sym (none_listed flat lowered.unlisted)));
+    };
+  }
+
+  pub is_plan : IsAdmissible plan → HasStartEdges plan → plan.tape ≡ [] → IsPlanned flat plan → ComputesCells flat plan → IsSmall flat plan → IsTableOf flat plan 1 ports
+      → (length flat.latches ≡ 0 → any_needs_one flat ≡ false → ports.p ≡ 32) → CarriesFlat (pattern_text (start_grid plan) ports) flat → IsPlanOfAig aig plan ports
+  is_plan admissible edges bare planned cells small table short carries = record {
     admissible = admissible;
     edges = edges;
+    bare = bare;
+    planned = record { flat = flat; is_flat = is_flat; planned = planned; cells = cells };
     lanes = subst (λ w. plan.lanes ≤ 4 * w + 4) lowered.weight small.lanes;
     columns = subst (λ w. length plan.columns ≤ 256 * ((w + 1) * (w + 1))) lowered.weight small.columns;
     instrs = subst (λ w. instr_count plan.columns ≤ 256 * ((w + 1) * (w + 1))) lowered.weight small.instrs;
+    table = table_of_aig bare table;
     period = λ none e. short (asks.latches ∙ none) (asks.one ∙ e);
     carries = carried (pattern_text (start_grid plan) ports) aig flat carries lowered;
   }

@@ -11,7 +11,7 @@ use Rattle.blifww_tool.specs.Commands.{AreAlike}
 use Rattle.blifww_tool.specs.Aigs.{IsAig, HasNoAig}
 use Rattle.blifww_tool.proofs.EvaluationOrNot.{alike}
 use Rattle.refusals.specs.declared.causes.Cause.{Cause}
-use Rattle.refusals.specs.declared.causes.Cause.TheVariants.{NetlistFault, WeightTooLarge, Loop, AigAtFault, AigLoop, Pattern, GridTooLarge, PortTable, Streams, StartWord, NoSuchNet, TooFar, TooManyContexts, NotQuiet}
+use Rattle.refusals.specs.declared.causes.Cause.TheVariants.{NetlistFault, WeightTooLarge, Loop, AigAtFault, AigLoop, Pattern, GridTooLarge, PortTable, Streams, StartWord, NoSuchNet, TooFar, TooManyContexts, NotQuiet, NotCircuit}
 
 -- the ways to be refused
 data Reason (text : List ℕ) (r : Cause) : Type 0 where
@@ -34,6 +34,7 @@ reason_of text (NoSuchNet name) h = absurd h
 reason_of text (TooFar generations) h = absurd h
 reason_of text (TooManyContexts contexts limit) h = absurd h
 reason_of text (NotQuiet generation x y) h = absurd h
+reason_of text (NotCircuit fault) h = absurd h
 
 module _ (text : List ℕ) where
   same_aig : (a b : Aig) → ReadsAsAig text a → ReadsAsAig text b → a ≡ b

@@ -12,7 +12,7 @@ use Rattle.command_words.specs.Shapes.{compile}
 use Rattle.blifww_tool.specs.Commands.{AreAlike, MustRefuse}
 use Rattle.blifww_tool.specs.Compilation.{HasNoCompilation, HasNoNetlist, HasNoRoom, HasStartFault, HasStarts, least_room}
 use Rattle.refusals.specs.declared.causes.Cause.{Cause}
-use Rattle.refusals.specs.declared.causes.Cause.TheVariants.{NetlistFault, WeightTooLarge, Loop, AigAtFault, AigLoop, Pattern, GridTooLarge, PortTable, Streams, StartWord, NoSuchNet, TooFar, TooManyContexts, NotQuiet}
+use Rattle.refusals.specs.declared.causes.Cause.TheVariants.{NetlistFault, WeightTooLarge, Loop, AigAtFault, AigLoop, Pattern, GridTooLarge, PortTable, Streams, StartWord, NoSuchNet, TooFar, TooManyContexts, NotQuiet, NotCircuit}
 use Rattle.blifww_tool.proofs.EvaluationOrNot.{alike, netlist_or_not, one_cause_of_netlist}
 
 -- the ways to be refused by the text and the words,
@@ -40,6 +40,7 @@ why contexts starts text (NoSuchNet name) h = absurd h
 why contexts starts text (TooFar generations) h = absurd h
 why contexts starts text (TooManyContexts told limit) h = by_room limit h.1
 why contexts starts text (NotQuiet generation x y) h = absurd h
+why contexts starts text (NotCircuit fault) h = absurd h
 
 reason_of : (contexts : ℕ) (starts : List (List ℕ)) (text : List ℕ) (r : Cause) → MustRefuse (compile contexts starts) text r → Reason contexts starts text r
 reason_of contexts starts text (NetlistFault fault) h = early h
@@ -56,6 +57,7 @@ reason_of contexts starts text (NoSuchNet name) h = absurd h
 reason_of contexts starts text (TooFar generations) h = absurd h
 reason_of contexts starts text (TooManyContexts told limit) h = absurd h
 reason_of contexts starts text (NotQuiet generation x y) h = absurd h
+reason_of contexts starts text (NotCircuit fault) h = absurd h
 
 module _ (contexts : ℕ) (starts : List (List ℕ)) (text : List ℕ) where
   same_design : (a b : Design) → IsNetlist text a → IsNetlist text b → a ≡ b

@@ -10,7 +10,8 @@ use Rattle.std.proofs.lemmas.Bool.{and_parts, eqb-false, eqb-true}
 use Rattle.std.proofs.lemmas.List.{append-nil, length-map}
 use Rattle.lane_core.specs.declared.plan.Plan.{Plan}
 use Rattle.lane_core.specs.Plans.{IsAdmissible, period_of}
-use Rattle.plan_layout.specs.Starts.{HasStartEdges}
+use Rattle.plan_layout.specs.Starts.{HasStartEdges, start_edges}
+use Rattle.plan_waves.specs.Contexts.{StartsContexts}
 use Rattle.grid_assembly.specs.PlanDrawing.{start_grid}
 use Rattle.pattern_reading.specs.declared.ports.Ports.{Ports}
 use Rattle.pattern_writing.specs.WrittenText.{pattern_text}
@@ -23,6 +24,7 @@ use Rattle.netlist_core.specs.declared.model.Model.{Model}
 use Rattle.netlist_core.specs.declared.flat.Flat.{Flat}
 use Rattle.netlist_meaning.specs.Places.{Place, model_at}
 use Rattle.netlist_meaning.specs.InOrder.{of_some, places_in_order}
+use Rattle.netlist_meaning.specs.Flat.{IsNamed, IsSound}
 use Rattle.netlist_meaning.specs.Weight.{weight}
 use Rattle.netlist_meaning.specs.FlatOf.{IsFlatOf, at_places, flat_latch}
 use Rattle.netlist_meaning.specs.Valuation.{LatchState, start_state}
@@ -44,7 +46,8 @@ use Rattle.carries.specs.DesignContexts.{CarriesContexts, CarriesNetsInContexts}
 use Rattle.carries.specs.ContextLaws.{OneContextCarries, OneContextCarriesNets}
 use Rattle.plan_carries.specs.Laws.{DesignsAreCarried}
 use Rattle.plan_carries.specs.ContextLaws.{DesignsAreCarriedInContexts}
-use Rattle.plan_ports.specs.Tables.{IsTableOf}
+use Rattle.plan_ports.specs.Tables.{HasPortNames, HasTablePlaces, IsTableOf}
+use Rattle.lift_carries.specs.Compiled.{CompiledAreDrawings, OneContextIsCircuit, IsWrittenDrawing}
 use Rattle.start_words.specs.declared.error.StartError.{StartError}
 use Rattle.start_words.specs.declared.error.StartError.TheVariants as starts_of
 use Rattle.start_words.specs.Flats.{flat_latches, flat_start_bit, flat_start_bits, flat_starts}
@@ -90,12 +93,34 @@ few_latches design flat order p =
     let same : flat.weight ≡ weight design = p.is_flat.weight in
     omega (arith, few, same, small design flat order p)
 
+-- what is written of a plan that starts one context spells the drawing of a circuit,
+pub drawn : OneContextIsCircuit → CompiledAreDrawings → (flat : Flat) (plan : Plan) (ports : Ports) → IsSound flat → IsNamed flat → HasPortNames flat → HasTablePlaces flat
+    → IsAdmissible plan → plan.tape ≡ [] → HasStartEdges plan → (bits : List Bool) → StartsContexts plan (bits ∷ []) (start_edges plan) → IsTableOf flat plan 1 ports → IsWrittenDrawing plan ports
+drawn circuit drawings flat plan ports sound named names places admissible bare edges bits starts table =
+    drawings flat plan ports (record {
+      sound = sound;
+      named = named;
+      names = names;
+      places = places;
+      circuit = (circuit plan admissible bare bits (record { edges = edges; on_loops = starts })).0;
+      table = table;
+    })
+
+-- also where the context is one of a list
+pub drawn_in_one : OneContextIsCircuit → CompiledAreDrawings → (flat : Flat) (plan : Plan) (ports : Ports) → IsSound flat → IsNamed flat → HasPortNames flat → HasTablePlaces flat
+    → IsAdmissible plan → plan.tape ≡ [] → HasStartEdges plan → (starts : List (List Bool)) → StartsContexts plan starts (start_edges plan) → length starts ≡ 1 → IsTableOf flat plan 1 ports
+    → IsWrittenDrawing plan ports
+drawn_in_one circuit drawings flat plan ports sound named names places admissible bare edges [] starts one table = absurd (omega (arith, one))
+drawn_in_one circuit drawings flat plan ports sound named names places admissible bare edges (bits ∷ []) starts one table =
+    drawn circuit drawings flat plan ports sound named names places admissible bare edges bits starts table
+drawn_in_one circuit drawings flat plan ports sound named names places admissible bare edges (bits ∷ more ∷ others) starts one table = absurd (omega (arith, one))
+
 -- the plan by which a design is carried
 pub carried_by : FlatIsOne → DesignsAreCarried → (design : Design) (flat : Flat) (order : List ℕ) (plan : Plan) (ports : Ports) → AreParts design flat order
     → IsAdmissible plan → HasStartEdges plan → IsTableOf flat plan 1 ports → ComputesCells flat plan → HasLanes flat plan → HasNetPlaces flat plan → CarriesFlat (pattern_text (start_grid plan) ports) flat → IsSmall flat plan
-    → (length flat.latches ≡ 0 → any_needs_one flat ≡ false → ports.p ≡ 32)
+    → (length flat.latches ≡ 0 → any_needs_one flat ≡ false → ports.p ≡ 32) → IsWrittenDrawing plan ports
     → IsCarriedBy design plan ports
-carried_by one law design flat order plan ports p admissible edges table cells size places carries few period =
+carried_by one law design flat order plan ports p admissible edges table cells size places carries few period drawing =
     let nets : CarriesNets (pattern_text (start_grid plan) ports) design = law (pattern_text (start_grid plan) ports) design flat p.faultless p.clocks p.is_flat carries in
     record {
       admissible = admissible;
@@ -110,6 +135,7 @@ carried_by one law design flat order plan ports p admissible edges table cells s
       size = λ other h. subst (λ (f : Flat). HasLanes f plan) (one design flat other p.is_flat h) size;
       places = λ other h. subst (λ (f : Flat). HasNetPlaces f plan) (one design flat other p.is_flat h) places;
       period = λ other h. subst (λ (f : Flat). length f.latches ≡ 0 → any_needs_one f ≡ false → ports.p ≡ 32) (one design flat other p.is_flat h) period;
+      drawing = drawing;
     }
 
 -- ---- room
@@ -234,6 +260,7 @@ compiles_alone carry carry_nets none text design plan ports has h room =
       table = h.table;
       places = h.places;
       written = refl;
+      drawing = λ one. h.drawing;
       carries = subst (CarriesContexts output design) (no_words none design) ((carry output design).0 h.carries);
       nets = subst (CarriesNetsInContexts output design) (no_words none design) ((carry_nets output design).0 h.nets);
     }
@@ -261,8 +288,8 @@ pub compiles : FlatIsOne → DesignsAreCarriedInContexts → StartsAreFlat → (
     → HasStarts contexts starts text design → AreParts design flat order → IsCarriedBy design base base_ports → contexts ≤ base_ports.p / 32
     → (contexts ≡ 1 → starts ≡ [] → ⊥) → IsAdmissible plan → HasStartEdges plan → IsPaddedPlan (contexts_size base.latches contexts) base plan
     → IsTableOf flat plan contexts ports → HasNetPlaces flat plan → CarriesFlatContexts (pattern_text (start_grid plan) ports) flat (flat_starts flat starts contexts)
-    → Compiles contexts starts text (pattern_text (start_grid plan) ports)
-compiles one law flat_law contexts starts text design flat order base base_ports plan ports has p h room several admissible edges padded table places carries =
+    → (contexts ≡ 1 → IsWrittenDrawing plan ports) → Compiles contexts starts text (pattern_text (start_grid plan) ports)
+compiles one law flat_law contexts starts text design flat order base base_ports plan ports has p h room several admissible edges padded table places carries drawing =
     let output = pattern_text (start_grid plan) ports in
     let states = starts_of_words design starts contexts in
     let by_states : CarriesFlatContexts output flat (map (state_in_order design) states) =
@@ -284,6 +311,7 @@ compiles one law flat_law contexts starts text design flat order base base_ports
       table = λ other is. subst (λ (f : Flat). IsTableOf f plan contexts ports) (one design flat other p.is_flat is) table;
       places = λ other is. subst (λ (f : Flat). HasNetPlaces f plan) (one design flat other p.is_flat is) places;
       written = refl;
+      drawing = drawing;
       carries = nets.carried;
       nets = nets;
     }

@@ -1,17 +1,18 @@
 -- A command never both accepts and refuses a text, and refuses it for one cause, or for causes that are alike.
 use Rattle.std.proofs.Common.{ℕ, ◌≡◌, refl, subst, List}
-use Rattle.command_words.specs.Shapes.{CommandValues, compile, simulate, eval, probe, window, make, self_, tape, aiger, vcd}
+use Rattle.command_words.specs.Shapes.{CommandValues, compile, simulate, eval, probe, window, make, self_, tape, aiger, vcd, lift}
 use Rattle.blifww_tool.specs.Commands.{Accepts, Prints, Refuses, MustRefuse, AreAlike}
 use Rattle.blifww_tool.specs.Dumping.{last_dumped}
 use Rattle.blifww_tool.specs.Simulation.{last_shown}
 use Rattle.refusals.specs.declared.causes.Cause.{Cause}
-use Rattle.refusals.specs.declared.causes.Cause.TheVariants.{NetlistFault, WeightTooLarge, Loop, AigAtFault, AigLoop, Pattern, GridTooLarge, PortTable, Streams, StartWord, NoSuchNet, TooFar, TooManyContexts, NotQuiet}
+use Rattle.refusals.specs.declared.causes.Cause.TheVariants.{NetlistFault, WeightTooLarge, Loop, AigAtFault, AigLoop, Pattern, GridTooLarge, PortTable, Streams, StartWord, NoSuchNet, TooFar, TooManyContexts, NotQuiet, NotCircuit}
 use Rattle.made_summary.proofs.InTime.{few_cycles_are_in_time}
 use Rattle.blifww_tool.proofs.SimulationOrNot.{runs_or_not, one_cause as one_cause_of_run}
 use Rattle.blifww_tool.proofs.ViewOrNot.{view_or_not, one_cause as one_cause_of_view}
 use Rattle.blifww_tool.proofs.ProbeOrNot.{probes_or_not, one_cause as one_cause_of_probe}
 use Rattle.blifww_tool.proofs.EvaluationOrNot.{evaluates_or_not, one_cause as one_cause_of_evaluation}
 use Rattle.blifww_tool.proofs.AigOrNot.{aig_or_not, one_cause as one_cause_of_aig}
+use Rattle.blifww_tool.proofs.CircuitOrNot.{circuit_or_not, one_cause as one_cause_of_circuit}
 use Rattle.blifww_tool.proofs.CompilationOrNot.{accepts_or_not, compiles_or_not, one_cause as one_cause_of_compilation}
 
 -- a made netlist whose plans all run in time is not refused
@@ -30,6 +31,7 @@ in_time_or_not seed size cycles text (NoSuchNet name) h k = k
 in_time_or_not seed size cycles text (TooFar n) h k = few_cycles_are_in_time seed size cycles n h k
 in_time_or_not seed size cycles text (TooManyContexts n limit) h k = k
 in_time_or_not seed size cycles text (NotQuiet g x y) h k = k
+in_time_or_not seed size cycles text (NotCircuit fault) h k = k
 
 pub accepted_or_refused : (command : CommandValues) (text : List ℕ) (cause : Cause) → Accepts command text → Refuses command text cause → ⊥
 accepted_or_refused (compile contexts starts) text cause h k = accepts_or_not contexts starts text h.0 cause h.1 h.2 k
@@ -42,6 +44,7 @@ accepted_or_refused (self_ seed size cycles) text cause h k = in_time_or_not see
 accepted_or_refused (tape cycles words) text cause h k = evaluates_or_not cycles words text h.0 cause h.1 k
 accepted_or_refused aiger text cause h k = aig_or_not text h.0 cause h.1 k
 accepted_or_refused (vcd cycles words) text cause h k = runs_or_not last_dumped cycles words text h.0 cause h.1 k
+accepted_or_refused lift text cause h k = circuit_or_not text h.0 h.1 h.2 cause h.3 k
 
 -- what is printed is of a text that the command need not refuse
 pub printed_or_refused : (command : CommandValues) (text output : List ℕ) (cause : Cause) → Prints command text output → MustRefuse command text cause → ⊥
@@ -55,6 +58,7 @@ printed_or_refused (self_ seed size cycles) text output cause h k = k
 printed_or_refused (tape cycles words) text output cause h k = evaluates_or_not cycles words text h.evaluation cause h.is k
 printed_or_refused aiger text output cause h k = aig_or_not text h.aig cause h.is k
 printed_or_refused (vcd cycles words) text output cause h k = runs_or_not last_dumped cycles words text h.simulation cause h.runs k
+printed_or_refused lift text output cause h k = circuit_or_not text h.grid h.ports h.plan cause h.is k
 
 -- equal causes are alike
 alike_if_same : (a b : Cause) → a ≡ b → AreAlike a b
@@ -75,6 +79,7 @@ alike_if_same a b e = subst (AreAlike a) e (itself a)
     itself (TooFar n) = refl
     itself (TooManyContexts n limit) = refl
     itself (NotQuiet g x y) = refl
+    itself (NotCircuit fault) = refl
 
 pub one_cause : (command : CommandValues) (text : List ℕ) (a b : Cause) → Refuses command text a → MustRefuse command text b → AreAlike a b
 one_cause (compile contexts starts) text a b h k = one_cause_of_compilation contexts starts text a b h k
@@ -87,3 +92,4 @@ one_cause (self_ seed size cycles) text a b h k = absurd k
 one_cause (tape cycles words) text a b h k = one_cause_of_evaluation cycles words text a b h k
 one_cause aiger text a b h k = one_cause_of_aig text a b h k
 one_cause (vcd cycles words) text a b h k = alike_if_same a b (one_cause_of_run last_dumped cycles words text a b h k)
+one_cause lift text a b h k = alike_if_same a b (one_cause_of_circuit text a b h k)

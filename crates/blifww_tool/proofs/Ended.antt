@@ -8,7 +8,7 @@ use Rattle.blifww_tool.specs.Run.{Asks, AsksNothing, Reading, Writing, Call, Gav
 use Rattle.blifww_tool.proofs.Given.{gave_whole, no_more, one_command}
 use Rattle.blifww_tool.proofs.Decided.{printed_or_refused, accepted_or_refused, one_cause}
 use Rattle.refusals.specs.declared.causes.Cause.{Cause}
-use Rattle.refusals.specs.declared.causes.Cause.TheVariants.{NetlistFault, WeightTooLarge, Loop, AigAtFault, AigLoop, Pattern, GridTooLarge, PortTable, Streams, StartWord, NoSuchNet, TooFar, TooManyContexts, NotQuiet}
+use Rattle.refusals.specs.declared.causes.Cause.TheVariants.{NetlistFault, WeightTooLarge, Loop, AigAtFault, AigLoop, Pattern, GridTooLarge, PortTable, Streams, StartWord, NoSuchNet, TooFar, TooManyContexts, NotQuiet, NotCircuit}
 use Rattle.refusals.specs.declared.refusal.Refusal.{Refusal}
 use Rattle.refusals.specs.declared.refusal.Refusal.TheVariants.{Usage, TooLong, ReadFault, WriteFault, NoMemory, Text}
 
@@ -191,6 +191,7 @@ cause_is (NoSuchNet name) = (λ e. cc, λ e. cc)
 cause_is (TooFar n) = (λ e. cc, λ e. cc)
 cause_is (TooManyContexts n limit) = (λ e. cc, λ e. cc)
 cause_is (NotQuiet g x y) = (λ e. cc, λ e. cc)
+cause_is (NotCircuit fault) = (λ e. cc, λ e. cc)
 
 refused_as : (c : Call) (status : ℕ) (r : Refusal) → status ≡ status_of r → status_of r ≢ 0 → status_of r ≢ 6 → GainedNothing c.out × HasReason c.words c.src r → Gained c.err (refusal_line r) → Ending c status
 refused_as c status r e z s h line =

@@ -15,7 +15,7 @@ use Rattle.blifww_tool.specs.Commands.{AreAlike}
 use Rattle.blifww_tool.specs.Compilation.{HasNoNetlist}
 use Rattle.blifww_tool.specs.Evaluation.{Evaluation, IsEvaluation, HasNoEvaluation}
 use Rattle.refusals.specs.declared.causes.Cause.{Cause}
-use Rattle.refusals.specs.declared.causes.Cause.TheVariants.{NetlistFault, WeightTooLarge, Loop, AigAtFault, AigLoop, Pattern, GridTooLarge, PortTable, Streams, StartWord, NoSuchNet, TooFar, TooManyContexts, NotQuiet}
+use Rattle.refusals.specs.declared.causes.Cause.TheVariants.{NetlistFault, WeightTooLarge, Loop, AigAtFault, AigLoop, Pattern, GridTooLarge, PortTable, Streams, StartWord, NoSuchNet, TooFar, TooManyContexts, NotQuiet, NotCircuit}
 
 -- a netlist with its IN names, as a text has them
 pub record IsRead (text : List ℕ) (design : Design) (names : List Name) : Type 0 where
@@ -44,6 +44,7 @@ reason_of cycles words text (NoSuchNet name) h = absurd h
 reason_of cycles words text (TooFar generations) h = absurd h
 reason_of cycles words text (TooManyContexts contexts limit) h = absurd h
 reason_of cycles words text (NotQuiet generation x y) h = absurd h
+reason_of cycles words text (NotCircuit fault) h = absurd h
 
 -- the IN names of a text are one list
 pub same_names : (text : List ℕ) (a b : Design) (ns ms : List Name) → IsRead text a ns → IsRead text b ms → ns ≡ ms
@@ -109,6 +110,7 @@ netlist_or_not text design (NoSuchNet name) h k = k
 netlist_or_not text design (TooFar generations) h k = k
 netlist_or_not text design (TooManyContexts contexts limit) h k = k
 netlist_or_not text design (NotQuiet generation x y) h k = k
+netlist_or_not text design (NotCircuit fault) h k = k
 
 no_evaluation : (text : List ℕ) (r : Cause) → HasNoNetlist text r → HasNoEvaluation 1 [] text r
 no_evaluation text (NetlistFault fault) h = h
@@ -125,6 +127,7 @@ no_evaluation text (NoSuchNet name) h = absurd h
 no_evaluation text (TooFar generations) h = absurd h
 no_evaluation text (TooManyContexts contexts limit) h = absurd h
 no_evaluation text (NotQuiet generation x y) h = absurd h
+no_evaluation text (NotCircuit fault) h = absurd h
 
 pub one_cause_of_netlist : (text : List ℕ) (r r' : Cause) → HasNoNetlist text r → HasNoNetlist text r' → AreAlike r r'
 one_cause_of_netlist text r r' h k = one_cause 1 [] text r r' (no_evaluation text r h) (no_evaluation text r' k)

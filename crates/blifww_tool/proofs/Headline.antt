@@ -1,18 +1,22 @@
--- What `compile` and `aiger` have written carries what they read; what `tape` has written runs by itself; and what `vcd` has written is
--- a dump.
+-- What `compile` and `aiger` have written carries what they read; what `tape` has written runs by itself; what `vcd` has written is a
+-- dump; and what `lift` has written is carried by what it read.
 use Rattle.std.proofs.Common.{◌≡◌, ℕ, Some, subst, sym, List, []}
 use Rattle.blif_text.specs.Faults.{IsDesignOf}
 use Rattle.aiger_text.specs.AigText.{ReadsAsAig}
 use Rattle.aiger_carries.specs.CarriesAig.{CarriesAig}
-use Rattle.command_words.specs.Shapes.{CommandValues, aiger, compile, tape, vcd}
+use Rattle.command_words.specs.Shapes.{CommandValues, aiger, compile, lift, tape, vcd}
 use Rattle.blifww_tool.specs.Aigs.{CompilesAig}
 use Rattle.blifww_tool.specs.Commands.{Prints}
 use Rattle.blifww_tool.specs.Compilation.{Compiles}
 use Rattle.blifww_tool.specs.Simulation.{IsSimulation}
 use Rattle.blifww_tool.specs.Dumping.{Dumps}
 use Rattle.blifww_tool.specs.Evaluation.{IsEvaluation}
+use Rattle.lifted_designs.specs.Lifted.{lifted_design}
+use Rattle.netlist_core.specs.declared.model.Design.{Design}
+use Rattle.pattern_reading.specs.Ports.{names_of}
+use Rattle.blifww_tool.specs.Lifting.{IsNetlistOf, Lifts}
 use Rattle.blifww_tool.specs.Taping.{Tapes}
-use Rattle.blifww_tool.specs.Headline.{WritesDump, WritesInContexts, WritesItsAig, WritesTape, WritesWhatItRead}
+use Rattle.blifww_tool.specs.Headline.{WritesDump, WritesInContexts, WritesItsAig, WritesItsNetlist, WritesTape, WritesWhatItRead}
 use Rattle.blifww_tool.specs.Run.{Asks, Reading, Writing, GaveAll, HasText, Does}
 use Rattle.blifww_tool.proofs.Given.{gave_whole, gained_whole, one_command}
 use Rattle.blifww_tool.proofs.Compiled.{carries_alone}
@@ -82,4 +86,19 @@ module _ (words : List (List ℕ)) (src : Reading) (out : Writing) (d : Does wor
         subst (λ (t : List ℕ). IsSimulation cycles given t p.simulation) same p.runs.is,
         p.written,
         p.says,
+      )
+
+  lift_prints : Asks words lift → Lifts d.text d.output
+  lift_prints asks = subst (λ (v : CommandValues). Prints v d.text d.output) (one_command words d.command lift d.asked.asks asks) d.prints
+
+  pub lifts : Asks words lift → WritesItsNetlist src out
+  lifts asks text before has held =
+      let p = lift_prints asks in
+      let design : Design = lifted_design (names_of p.ports.ins) (names_of p.ports.outs) p.list in
+      let given : GaveAll src d.text = subst (λ (v : CommandValues). HasText v src d.text) (one_command words d.command lift d.asked.asks asks) d.given in
+      let same : d.text ≡ text = gave_whole src.left src.left_after d.text text given.consumed given.end has in (
+        d.output,
+        gained_whole out.written out.written_after d.output before d.wrote held,
+        design,
+        subst (λ (t : List ℕ). IsNetlistOf t d.output design) same p.netlist,
       )

@@ -8,6 +8,8 @@ pub mod EvaluationOrNot
 pub mod CompilationOrNot
 pub mod AigOrNot
 pub mod AigRead
+pub mod CircuitOrNot
+pub mod Lifted
 pub mod Evaluated
 pub mod Taped
 pub mod Compiled
@@ -23,6 +25,7 @@ pub mod Statuses
 pub mod PrintsAlike
 pub mod DumpsNets
 pub mod TapePrints
+pub mod LiftsBack
 pub mod Fed
 pub mod PrintsRuns
 pub mod PrintsNet

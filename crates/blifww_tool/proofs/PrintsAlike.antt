@@ -35,7 +35,7 @@ pub one_context : (contexts : ℕ) (streams : Streams) (ports : Ports) (grid : G
 one_context contexts streams ports grid one =
     ap (λ (n : ℕ). lines_shown n streams ports grid) one ∙ append-nil (flat_map (λ out. bits_line out.name (shown_at ports streams (plane_of grid.rows) 0 out)) ports.outs)
 
-same_lines : CarriersShowRuns → StreamsMatch → (text netlist : List ℕ) (cycles : ℕ) (words : List (List ℕ)) (s : Simulation) (e : Evaluation)
+pub same_lines : CarriersShowRuns → StreamsMatch → (text netlist : List ℕ) (cycles : ℕ) (words : List (List ℕ)) (s : Simulation) (e : Evaluation)
     → IsSimulation cycles words text s → IsEvaluation cycles words netlist e → Carries text e.design → (run : ℕ → Valuation) → IsRun e.design (rows_of e.streams) run
     → simulation_text s ≡ evaluation_text e run
 same_lines law match text netlist cycles words s e simulated evaluated c run is_run =

@@ -10,7 +10,7 @@ use Rattle.probe_view.specs.Probes.{net_named, last_probed, HasProbed, IsNotQuie
 use Rattle.blifww_tool.specs.Simulation.{Simulation, IsSimulation, HasNoStreams}
 use Rattle.blifww_tool.specs.Probing.{Probes, HasNoProbe}
 use Rattle.refusals.specs.declared.causes.Cause.{Cause}
-use Rattle.refusals.specs.declared.causes.Cause.TheVariants.{NetlistFault, WeightTooLarge, Loop, AigAtFault, AigLoop, Pattern, GridTooLarge, PortTable, Streams, StartWord, NoSuchNet, TooFar, TooManyContexts, NotQuiet}
+use Rattle.refusals.specs.declared.causes.Cause.TheVariants.{NetlistFault, WeightTooLarge, Loop, AigAtFault, AigLoop, Pattern, GridTooLarge, PortTable, Streams, StartWord, NoSuchNet, TooFar, TooManyContexts, NotQuiet, NotCircuit}
 use Rattle.blifww_tool.proofs.SimulationOrNot.{same_simulation, simulation_or_not, one_streams_cause}
 
 -- the ways to be refused for the net, in a simulation
@@ -39,6 +39,7 @@ reason_of cycles name path words text (NoSuchNet told) h = missed h.0 h.1 (by_ne
 reason_of cycles name path words text (TooFar generations) h = missed h.0 h.1 (late generations refl h.2)
 reason_of cycles name path words text (TooManyContexts contexts limit) h = early h
 reason_of cycles name path words text (NotQuiet generation x y) h = missed h.0 h.1 (by_miss generation x y refl h.2)
+reason_of cycles name path words text (NotCircuit fault) h = early h
 
 module _ (name path : List ℕ) (s : Simulation) where
   -- the net of a name is one

@@ -10,7 +10,7 @@ use Rattle.blifww_tool.specs.Probing.{HasNoProbe}
 use Rattle.refusals.specs.Refusals.{probe_refusal}
 use Rattle.blifww_tool.specs.Simulation.{Simulation, IsSimulation, HasNoStreams, HasStreamsCause}
 use Rattle.refusals.specs.declared.causes.Cause.{Cause}
-use Rattle.refusals.specs.declared.causes.Cause.TheVariants.{NetlistFault, WeightTooLarge, Loop, AigAtFault, AigLoop, Pattern, GridTooLarge, PortTable, Streams, StartWord, NoSuchNet, TooFar, TooManyContexts, NotQuiet}
+use Rattle.refusals.specs.declared.causes.Cause.TheVariants.{NetlistFault, WeightTooLarge, Loop, AigAtFault, AigLoop, Pattern, GridTooLarge, PortTable, Streams, StartWord, NoSuchNet, TooFar, TooManyContexts, NotQuiet, NotCircuit}
 use Rattle.refusals.specs.declared.causes.TextError.{TextError}
 use Rattle.refusals.specs.declared.causes.TextError.TheVariants.{Refused, NoMemory}
 
@@ -29,6 +29,7 @@ cause_of cycles name path words text (NoSuchNet n) h = absurd h
 cause_of cycles name path words text (TooFar n) h = absurd h
 cause_of cycles name path words text (TooManyContexts n limit) h = h
 cause_of cycles name path words text (NotQuiet g x y) h = absurd h
+cause_of cycles name path words text (NotCircuit fault) h = absurd h
 
 -- a text and words that are no simulation,
 pub simulation_refused : (cycles : ℕ) (name path : List ℕ) (words : List (List ℕ)) (text : List ℕ) (e : TextError) → HasStreamsCause cycles words text e → HasTextCause (probe cycles name path words) text e

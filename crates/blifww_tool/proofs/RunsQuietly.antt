@@ -9,7 +9,7 @@ use Rattle.carries.specs.DesignContexts.{CarriesContexts}
 use Rattle.carries.proofs.OneWay.{one_spelling}
 use Rattle.drive.specs.Driving.{AreFor, first_miss}
 use Rattle.shown_runs.specs.ShownRuns.{CarriersAreQuiet, StreamsAreFor}
-use Rattle.command_words.specs.Shapes.{compile, simulate, eval, probe, window, make, self_, tape, aiger, vcd}
+use Rattle.command_words.specs.Shapes.{compile, simulate, eval, probe, window, make, self_, tape, aiger, vcd, lift}
 use Rattle.blifww_tool.specs.Simulation.{Simulation, IsSimulation, MissesAt, miss_up_to}
 use Rattle.blifww_tool.specs.PrintsAlike.{CarriersRunQuietly}
 use Rattle.blifww_tool.proofs.Fed.{are_for}
@@ -39,3 +39,4 @@ carriers_run_quietly quiet for text design starts k (self_ seed size cycles) g x
 carriers_run_quietly quiet for text design starts k (tape cycles words) g x y h = h
 carriers_run_quietly quiet for text design starts k aiger g x y h = h
 carriers_run_quietly quiet for text design starts k (vcd cycles words) g x y h = never quiet for text design starts k cycles words h.0 h.1 _ g x y h.3
+carriers_run_quietly quiet for text design starts k lift g x y h = h

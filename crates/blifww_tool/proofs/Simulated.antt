@@ -14,7 +14,7 @@ use Rattle.blifww_tool.specs.Commands.{HasTextCause}
 use Rattle.refusals.specs.Refusals.{simulate_error}
 use Rattle.blifww_tool.specs.Simulation.{Simulation, IsSimulation, last_shown, HasNoStreams, HasNoRun, HasStreamsCause}
 use Rattle.refusals.specs.declared.causes.Cause.{Cause}
-use Rattle.refusals.specs.declared.causes.Cause.TheVariants.{NetlistFault, WeightTooLarge, Loop, AigAtFault, AigLoop, Pattern, GridTooLarge, PortTable, Streams, StartWord, NoSuchNet, TooFar, TooManyContexts, NotQuiet}
+use Rattle.refusals.specs.declared.causes.Cause.TheVariants.{NetlistFault, WeightTooLarge, Loop, AigAtFault, AigLoop, Pattern, GridTooLarge, PortTable, Streams, StartWord, NoSuchNet, TooFar, TooManyContexts, NotQuiet, NotCircuit}
 use Rattle.refusals.specs.declared.causes.TextError.{TextError}
 use Rattle.refusals.specs.declared.causes.TextError.TheVariants.{Refused, NoMemory}
 
@@ -37,6 +37,7 @@ cause_of last cycles words text (NoSuchNet name) h = h
 cause_of last cycles words text (TooFar n) h = absurd h
 cause_of last cycles words text (TooManyContexts n limit) h = h
 cause_of last cycles words text (NotQuiet g x y) h = absurd h
+cause_of last cycles words text (NotCircuit fault) h = absurd h
 
 -- a text and words that are no simulation
 pub simulation_refused : (cycles : ℕ) (words : List (List ℕ)) (text : List ℕ) (e : TextError) → HasStreamsCause cycles words text e → HasTextCause (simulate cycles words) text e

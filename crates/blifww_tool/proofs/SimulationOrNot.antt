@@ -20,7 +20,7 @@ use Rattle.drive.specs.Driving.{greatest_generation}
 use Rattle.pattern_reading.specs.Ports.{names_of}
 use Rattle.blifww_tool.specs.Simulation.{Simulation, IsSimulation, RunsInTime, HasNoStreams, HasNoRun, MissesAt, miss_up_to}
 use Rattle.refusals.specs.declared.causes.Cause.{Cause}
-use Rattle.refusals.specs.declared.causes.Cause.TheVariants.{NetlistFault, WeightTooLarge, Loop, AigAtFault, AigLoop, Pattern, GridTooLarge, PortTable, Streams, StartWord, NoSuchNet, TooFar, TooManyContexts, NotQuiet}
+use Rattle.refusals.specs.declared.causes.Cause.TheVariants.{NetlistFault, WeightTooLarge, Loop, AigAtFault, AigLoop, Pattern, GridTooLarge, PortTable, Streams, StartWord, NoSuchNet, TooFar, TooManyContexts, NotQuiet, NotCircuit}
 
 -- a pattern with ports, as a text has them
 pub record IsRead (text : List ℕ) (grid : Grid) (ports : Ports) : Type 0 where
@@ -49,27 +49,28 @@ reason_of cycles words text (NoSuchNet name) h = absurd h
 reason_of cycles words text (TooFar generations) h = absurd h
 reason_of cycles words text (TooManyContexts contexts limit) h = absurd h
 reason_of cycles words text (NotQuiet generation x y) h = absurd h
+reason_of cycles words text (NotCircuit fault) h = absurd h
 
 pub read_of : (cycles : ℕ) (words : List (List ℕ)) (text : List ℕ) (s : Simulation) → IsSimulation cycles words text s → IsRead text s.grid s.ports
 read_of cycles words text s h = record { pattern = h.pattern; table = h.table }
 
 -- no two stages of the reading fail at once
-fault_or_box : (text : List ℕ) (kind : RleFaultKind) (line width height : ℕ) → HasReaderFault text kind line → HasLargeBox text width height → ⊥
+pub fault_or_box : (text : List ℕ) (kind : RleFaultKind) (line width height : ℕ) → HasReaderFault text kind line → HasLargeBox text width height → ⊥
 fault_or_box text = (one_reader_answer text).fault_or_large
 
-fault_or_read : (text : List ℕ) (kind : RleFaultKind) (line : ℕ) (grid : Grid) → HasReaderFault text kind line → ReadsWithinLimit text grid → ⊥
+pub fault_or_read : (text : List ℕ) (kind : RleFaultKind) (line : ℕ) (grid : Grid) → HasReaderFault text kind line → ReadsWithinLimit text grid → ⊥
 fault_or_read text kind line grid h k = (one_reader_answer text).reads_or_fault grid kind line k h
 
-box_or_read : (text : List ℕ) (width height : ℕ) (grid : Grid) → HasLargeBox text width height → ReadsWithinLimit text grid → ⊥
+pub box_or_read : (text : List ℕ) (width height : ℕ) (grid : Grid) → HasLargeBox text width height → ReadsWithinLimit text grid → ⊥
 box_or_read text width height grid h k = (one_reader_answer text).reads_or_large grid width height k h
 
-same_grid : (text : List ℕ) (a b : Grid) → ReadsWithinLimit text a → ReadsWithinLimit text b → a ≡ b
+pub same_grid : (text : List ℕ) (a b : Grid) → ReadsWithinLimit text a → ReadsWithinLimit text b → a ≡ b
 same_grid text a b h k = one_pattern text a b h.0 k.0
 
 pub same_ports : (text : List ℕ) (a b : Grid) (p q : Ports) → IsRead text a p → IsRead text b q → p ≡ q
 same_ports text a b p q h k = h.table.ports_is ∙ sym k.table.ports_is
 
-table_or_read : (text : List ℕ) (kind : PortFaultKind) (line : ℕ) (a b : Grid) (ports : Ports) → ReadsWithinLimit text a → HasPortFault text a.width a.height kind line → IsRead text b ports → ⊥
+pub table_or_read : (text : List ℕ) (kind : PortFaultKind) (line : ℕ) (a b : Grid) (ports : Ports) → ReadsWithinLimit text a → HasPortFault text a.width a.height kind line → IsRead text b ports → ⊥
 table_or_read text kind line a b ports h fault k =
     no_port_fault_if_read text b.width b.height ports kind line k.table
     (subst (λ (g : Grid). HasPortFault text g.width g.height kind line) (same_grid text a b h k.pattern) fault)
@@ -111,12 +112,12 @@ not_refused cycles words text s r h (by_streams fault e grid ports reads k) = st
 pub simulation_or_not : (cycles : ℕ) (words : List (List ℕ)) (text : List ℕ) (s : Simulation) (r : Cause) → IsSimulation cycles words text s → HasNoStreams cycles words text r → ⊥
 simulation_or_not cycles words text s r h k = not_refused cycles words text s r h (reason_of cycles words text r k)
 
-same_pattern : (text : List ℕ) (a b : RleFault) → HasReaderFault text a.kind a.line → HasReaderFault text b.kind b.line → a ≡ b
+pub same_pattern : (text : List ℕ) (a b : RleFault) → HasReaderFault text a.kind a.line → HasReaderFault text b.kind b.line → a ≡ b
 same_pattern text a b h k =
     let same = one_fault text a.kind b.kind a.line b.line h.0 k.0 in
     let e : rle_fault a.kind a.line ≡ rle_fault b.kind b.line = ap₂ rle_fault same.0 same.1 in e
 
-same_table : (text : List ℕ) (a b : PortFault) (g k : Grid) → ReadsWithinLimit text g → HasPortFault text g.width g.height a.kind a.line
+pub same_table : (text : List ℕ) (a b : PortFault) (g k : Grid) → ReadsWithinLimit text g → HasPortFault text g.width g.height a.kind a.line
     → ReadsWithinLimit text k → HasPortFault text k.width k.height b.kind b.line → a ≡ b
 same_table text a b g k reads h reads' h' =
     let here = subst (λ (x : Grid). HasPortFault text x.width x.height b.kind b.line) (same_grid text k g reads' reads) h' in
@@ -173,6 +174,7 @@ late_of last cycles words text (NoSuchNet name) h = early h
 late_of last cycles words text (TooFar generations) h = late generations refl h.0 h.1 h.2 h.3
 late_of last cycles words text (TooManyContexts contexts limit) h = early h
 late_of last cycles words text (NotQuiet generation x y) h = by_miss generation x y refl h.0 h.1 h.2 h.3
+late_of last cycles words text (NotCircuit fault) h = early h
 
 -- one miss is the first, where there is one
 abbrev miss_at : (g x y : ℕ) → Injection

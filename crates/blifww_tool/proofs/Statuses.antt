@@ -2,7 +2,7 @@
 use Rattle.std.proofs.Common.{ℕ, ◌≡◌, ◌≢◌, ◌≤◌, ◌<◌, ◌*◌, ◌⊎◌, refl, sym, ap, ◌∙◌, subst, List, Some, inl, inr, arith}
 use Rattle.std.proofs.Math.Nat.{le-max_left}
 use Rattle.std.proofs.lemmas.Bool.{cases_eq}
-use Rattle.command_words.specs.Shapes.{CommandValues, compile, simulate, eval, probe, window, make, self_, tape, aiger, vcd, IsCommand}
+use Rattle.command_words.specs.Shapes.{CommandValues, compile, simulate, eval, probe, window, make, self_, tape, aiger, vcd, lift, IsCommand}
 use Rattle.netlist_core.specs.Names.{Name}
 use Rattle.netlist_rules.specs.declared.fault.Fault.{Fault}
 use Rattle.netlist_text.specs.NetlistText.{IsAtFault, IsTooHeavy, HasLoop}
@@ -13,10 +13,10 @@ use Rattle.blifww_tool.specs.Commands.{Refuses}
 use Rattle.blifww_tool.specs.Compilation.{HasNoRoom, latch_count, least_room}
 use Rattle.refusals.specs.Refusals.{status_of, status_of_cause}
 use Rattle.blifww_tool.specs.Run.{Call, Reading, Asks, IsAsked, GaveTooMany, GaveAll, HasText, ReadFailed, WriteFailed, HasReason, RefusesText, IsRefused, CutsLine, CutsOutput, Ends}
-use Rattle.blifww_tool.specs.Statuses.{StatusesHaveCauses, IsOverALimit, IsTooLarge, HasNoPattern, WordsDoNotFit, IsNotQuiet}
+use Rattle.blifww_tool.specs.Statuses.{StatusesHaveCauses, IsOverALimit, IsTooLarge, HasNoPattern, WordsDoNotFit, IsNotQuiet, IsNotCircuit}
 use Rattle.blifww_tool.proofs.Given.{one_command}
 use Rattle.refusals.specs.declared.causes.Cause.{Cause}
-use Rattle.refusals.specs.declared.causes.Cause.TheVariants.{NetlistFault, WeightTooLarge, Loop, AigAtFault, AigLoop, Pattern, GridTooLarge, PortTable, Streams, StartWord, NoSuchNet, TooFar, TooManyContexts, NotQuiet}
+use Rattle.refusals.specs.declared.causes.Cause.TheVariants.{NetlistFault, WeightTooLarge, Loop, AigAtFault, AigLoop, Pattern, GridTooLarge, PortTable, Streams, StartWord, NoSuchNet, TooFar, TooManyContexts, NotQuiet, NotCircuit}
 use Rattle.refusals.specs.declared.refusal.Refusal.{Refusal}
 use Rattle.refusals.specs.declared.refusal.Refusal.TheVariants.{Usage, TooLong, ReadFault, WriteFault, NoMemory, Text}
 
@@ -35,6 +35,7 @@ not_cause (NoSuchNet name) = (λ e. cc, λ e. cc)
 not_cause (TooFar n) = (λ e. cc, λ e. cc)
 not_cause (TooManyContexts n limit) = (λ e. cc, λ e. cc)
 not_cause (NotQuiet g x y) = (λ e. cc, λ e. cc)
+not_cause (NotCircuit fault) = (λ e. cc, λ e. cc)
 
 -- by its status a cause is a fault of a netlist's text,
 at_fault_by : (command : CommandValues) (src : Reading) (text : List ℕ) (cause : Cause) → (command ≡ aiger → ⊥) → status_of_cause cause ≡ 1 → HasText command src text → Refuses command text cause
@@ -49,6 +50,7 @@ at_fault_by (self_ seed size cycles) src text (NetlistFault f) other e given h =
 at_fault_by (tape cycles words) src text (NetlistFault f) other e given h = (text, f, given, h)
 at_fault_by aiger src text (NetlistFault f) other e given h = absurd h
 at_fault_by (vcd cycles words) src text (NetlistFault f) other e given h = absurd h
+at_fault_by lift src text (NetlistFault f) other e given h = absurd h
 at_fault_by command src text (WeightTooLarge w) other e given h = absurd (omega (arith, e))
 at_fault_by command src text (Loop names) other e given h = absurd (omega (arith, e))
 at_fault_by (compile contexts starts) src text (AigAtFault f) other e given h = absurd h
@@ -61,6 +63,7 @@ at_fault_by (self_ seed size cycles) src text (AigAtFault f) other e given h = a
 at_fault_by (tape cycles words) src text (AigAtFault f) other e given h = absurd h
 at_fault_by aiger src text (AigAtFault f) other e given h = absurd (other refl)
 at_fault_by (vcd cycles words) src text (AigAtFault f) other e given h = absurd h
+at_fault_by lift src text (AigAtFault f) other e given h = absurd h
 at_fault_by command src text (AigLoop literals) other e given h = absurd (omega (arith, e))
 at_fault_by command src text (Pattern f) other e given h = absurd (omega (arith, e))
 at_fault_by command src text (GridTooLarge x y) other e given h = absurd (omega (arith, e))
@@ -71,6 +74,7 @@ at_fault_by command src text (NoSuchNet name) other e given h = absurd (omega (a
 at_fault_by command src text (TooFar n) other e given h = absurd (omega (arith, e))
 at_fault_by command src text (TooManyContexts n limit) other e given h = absurd (omega (arith, e))
 at_fault_by command src text (NotQuiet g x y) other e given h = absurd (omega (arith, e))
+at_fault_by command src text (NotCircuit fault) other e given h = absurd (omega (arith, e))
 
 -- a loop of one,
 a_loop_by : (command : CommandValues) (src : Reading) (text : List ℕ) (cause : Cause) → (command ≡ aiger → ⊥) → status_of_cause cause ≡ 3 → HasText command src text → Refuses command text cause
@@ -87,6 +91,7 @@ a_loop_by (self_ seed size cycles) src text (Loop names) other e given h = absur
 a_loop_by (tape cycles words) src text (Loop names) other e given h = (text, names, given, h)
 a_loop_by aiger src text (Loop names) other e given h = absurd h
 a_loop_by (vcd cycles words) src text (Loop names) other e given h = absurd h
+a_loop_by lift src text (Loop names) other e given h = absurd h
 a_loop_by command src text (AigAtFault f) other e given h = absurd (omega (arith, e))
 a_loop_by (compile contexts starts) src text (AigLoop literals) other e given h = absurd h
 a_loop_by (simulate cycles words) src text (AigLoop literals) other e given h = absurd h
@@ -98,6 +103,7 @@ a_loop_by (self_ seed size cycles) src text (AigLoop literals) other e given h =
 a_loop_by (tape cycles words) src text (AigLoop literals) other e given h = absurd h
 a_loop_by aiger src text (AigLoop literals) other e given h = absurd (other refl)
 a_loop_by (vcd cycles words) src text (AigLoop literals) other e given h = absurd h
+a_loop_by lift src text (AigLoop literals) other e given h = absurd h
 a_loop_by command src text (Pattern f) other e given h = absurd (omega (arith, e))
 a_loop_by command src text (GridTooLarge x y) other e given h = absurd (omega (arith, e))
 a_loop_by command src text (PortTable f) other e given h = absurd (omega (arith, e))
@@ -107,6 +113,7 @@ a_loop_by command src text (NoSuchNet name) other e given h = absurd (omega (ari
 a_loop_by command src text (TooFar n) other e given h = absurd (omega (arith, e))
 a_loop_by command src text (TooManyContexts n limit) other e given h = absurd (omega (arith, e))
 a_loop_by command src text (NotQuiet g x y) other e given h = absurd (omega (arith, e))
+a_loop_by command src text (NotCircuit fault) other e given h = absurd (omega (arith, e))
 
 -- and of `aiger` a fault or a loop of a circuit
 aig_at_fault_by : (text : List ℕ) (cause : Cause) → status_of_cause cause ≡ 1 → HasNoAig text cause → (fault : AigFault) × HasAigFault text fault
@@ -124,6 +131,7 @@ aig_at_fault_by text (NoSuchNet name) e h = absurd (omega (arith, e))
 aig_at_fault_by text (TooFar n) e h = absurd (omega (arith, e))
 aig_at_fault_by text (TooManyContexts n limit) e h = absurd (omega (arith, e))
 aig_at_fault_by text (NotQuiet g x y) e h = absurd (omega (arith, e))
+aig_at_fault_by text (NotCircuit fault) e h = absurd (omega (arith, e))
 
 aig_loop_by : (text : List ℕ) (cause : Cause) → status_of_cause cause ≡ 3 → HasNoAig text cause → (literals : List ℕ) × HasNoAig text (AigLoop literals)
 aig_loop_by text (NetlistFault f) e h = absurd (omega (arith, e))
@@ -140,6 +148,7 @@ aig_loop_by text (NoSuchNet name) e h = absurd (omega (arith, e))
 aig_loop_by text (TooFar n) e h = absurd (omega (arith, e))
 aig_loop_by text (TooManyContexts n limit) e h = absurd (omega (arith, e))
 aig_loop_by text (NotQuiet g x y) e h = absurd (omega (arith, e))
+aig_loop_by text (NotCircuit fault) e h = absurd (omega (arith, e))
 
 -- too great a weight, or too many contexts
 abbrev IsRefusedAsLarge : (contexts : ℕ) → (starts : List (List ℕ)) → List ℕ → Type 0
@@ -160,6 +169,7 @@ too_large_by contexts starts text (NoSuchNet name) e h = absurd h
 too_large_by contexts starts text (TooFar n) e h = absurd h
 too_large_by contexts starts text (TooManyContexts n limit) e h = inr (limit, h.1)
 too_large_by contexts starts text (NotQuiet g x y) e h = absurd h
+too_large_by contexts starts text (NotCircuit fault) e h = absurd h
 
 module _ (words : List (List ℕ)) (src : Reading) where
   -- what is asked is no circuit's, where the words ask for none
@@ -259,6 +269,7 @@ over_a_limit_by c (NoSuchNet name) e h = absurd (omega (arith, e))
 over_a_limit_by c (TooFar n) e h = inr (inr (inr (inl (n, h))))
 over_a_limit_by c (TooManyContexts n limit) e h = inr (inr (inr (inr (n, limit, h))))
 over_a_limit_by c (NotQuiet g x y) e h = absurd (omega (arith, e))
+over_a_limit_by c (NotCircuit fault) e h = absurd (omega (arith, e))
 
 over_a_limit : (c : Call) (r : Refusal) → HasReason c.words c.src r → status_of r ≡ 4 → IsOverALimit c
 over_a_limit c Usage h e = absurd (omega (arith, e))
@@ -283,6 +294,7 @@ no_pattern_by c (NoSuchNet name) e h = absurd (omega (arith, e))
 no_pattern_by c (TooFar n) e h = absurd (omega (arith, e))
 no_pattern_by c (TooManyContexts n limit) e h = absurd (omega (arith, e))
 no_pattern_by c (NotQuiet g x y) e h = absurd (omega (arith, e))
+no_pattern_by c (NotCircuit fault) e h = absurd (omega (arith, e))
 
 no_pattern : (c : Call) (r : Refusal) → HasReason c.words c.src r → status_of r ≡ 8 → HasNoPattern c
 no_pattern c Usage h e = absurd (omega (arith, e))
@@ -307,6 +319,7 @@ misfit_by c (NoSuchNet name) e h = inr (inr (name, h))
 misfit_by c (TooFar n) e h = absurd (omega (arith, e))
 misfit_by c (TooManyContexts n limit) e h = absurd (omega (arith, e))
 misfit_by c (NotQuiet g x y) e h = absurd (omega (arith, e))
+misfit_by c (NotCircuit fault) e h = absurd (omega (arith, e))
 
 misfit : (c : Call) (r : Refusal) → HasReason c.words c.src r → status_of r ≡ 9 → WordsDoNotFit c
 misfit c Usage h e = absurd (omega (arith, e))
@@ -331,6 +344,7 @@ not_quiet_by c (NoSuchNet name) e h = absurd (omega (arith, e))
 not_quiet_by c (TooFar n) e h = absurd (omega (arith, e))
 not_quiet_by c (TooManyContexts n limit) e h = absurd (omega (arith, e))
 not_quiet_by c (NotQuiet g x y) e h = (g, x, y, h)
+not_quiet_by c (NotCircuit fault) e h = absurd (omega (arith, e))
 
 not_quiet : (c : Call) (r : Refusal) → HasReason c.words c.src r → status_of r ≡ 10 → IsNotQuiet c
 not_quiet c Usage h e = absurd (omega (arith, e))
@@ -339,6 +353,31 @@ not_quiet c ReadFault h e = absurd (omega (arith, e))
 not_quiet c WriteFault h e = absurd h
 not_quiet c NoMemory h e = absurd (omega (arith, e))
 not_quiet c (Text cause) h e = not_quiet_by c cause e h
+
+not_circuit_by : (c : Call) (cause : Cause) → status_of_cause cause ≡ 12 → RefusesText c.words c.src cause → IsNotCircuit c
+not_circuit_by c (NetlistFault f) e h = absurd (omega (arith, e))
+not_circuit_by c (WeightTooLarge w) e h = absurd (omega (arith, e))
+not_circuit_by c (Loop names) e h = absurd (omega (arith, e))
+not_circuit_by c (AigAtFault f) e h = absurd (omega (arith, e))
+not_circuit_by c (AigLoop literals) e h = absurd (omega (arith, e))
+not_circuit_by c (Pattern f) e h = absurd (omega (arith, e))
+not_circuit_by c (GridTooLarge x y) e h = absurd (omega (arith, e))
+not_circuit_by c (PortTable f) e h = absurd (omega (arith, e))
+not_circuit_by c (Streams f) e h = absurd (omega (arith, e))
+not_circuit_by c (StartWord f) e h = absurd (omega (arith, e))
+not_circuit_by c (NoSuchNet name) e h = absurd (omega (arith, e))
+not_circuit_by c (TooFar n) e h = absurd (omega (arith, e))
+not_circuit_by c (TooManyContexts n limit) e h = absurd (omega (arith, e))
+not_circuit_by c (NotQuiet g x y) e h = absurd (omega (arith, e))
+not_circuit_by c (NotCircuit fault) e h = (fault, h)
+
+not_circuit : (c : Call) (r : Refusal) → HasReason c.words c.src r → status_of r ≡ 12 → IsNotCircuit c
+not_circuit c Usage h e = absurd (omega (arith, e))
+not_circuit c TooLong h e = absurd (omega (arith, e))
+not_circuit c ReadFault h e = absurd (omega (arith, e))
+not_circuit c WriteFault h e = absurd h
+not_circuit c NoMemory h e = absurd (omega (arith, e))
+not_circuit c (Text cause) h e = not_circuit_by c cause e h
 
 read_fault : (words : List (List ℕ)) (src : Reading) (r : Refusal) → HasReason words src r → status_of r ≡ 5 → ReadFailed src
 read_fault words src Usage h e = cc
@@ -399,4 +438,5 @@ statuses_have_causes c status h = record {
   no_pattern = λ e. let r = refused c status 8 h (λ z. cc) (λ z. cc) e in no_pattern c r.refusal r.reason r.status_is;
   misfit = λ e. let r = refused c status 9 h (λ z. cc) (λ z. cc) e in misfit c r.refusal r.reason r.status_is;
   not_quiet = λ e. let r = refused c status 10 h (λ z. cc) (λ z. cc) e in not_quiet c r.refusal r.reason r.status_is;
+  not_circuit = λ e. let r = refused c status 12 h (λ z. cc) (λ z. cc) e in not_circuit c r.refusal r.reason r.status_is;
 }

@@ -4,7 +4,7 @@ use Rattle.command_words.specs.declared.command.View.{View}
 use Rattle.blifww_tool.specs.Simulation.{Simulation, IsSimulation, HasNoStreams, MissesAt}
 use Rattle.blifww_tool.specs.Viewing.{cycles_in, HasView, HasNoView}
 use Rattle.refusals.specs.declared.causes.Cause.{Cause}
-use Rattle.refusals.specs.declared.causes.Cause.TheVariants.{NetlistFault, WeightTooLarge, Loop, AigAtFault, AigLoop, Pattern, GridTooLarge, PortTable, Streams, StartWord, NoSuchNet, TooFar, TooManyContexts, NotQuiet}
+use Rattle.refusals.specs.declared.causes.Cause.TheVariants.{NetlistFault, WeightTooLarge, Loop, AigAtFault, AigLoop, Pattern, GridTooLarge, PortTable, Streams, StartWord, NoSuchNet, TooFar, TooManyContexts, NotQuiet, NotCircuit}
 use Rattle.blifww_tool.proofs.SimulationOrNot.{miss_or_not, one_miss, one_streams_cause, same_simulation, simulation_or_not}
 
 -- the ways to be refused
@@ -27,6 +27,7 @@ reason_of view words text (NoSuchNet name) h = early h
 reason_of view words text (TooFar generations) h = early h
 reason_of view words text (TooManyContexts contexts limit) h = early h
 reason_of view words text (NotQuiet generation x y) h = by_miss generation x y refl h.0 h.1 h.2
+reason_of view words text (NotCircuit fault) h = early h
 
 module _ (view : View) (words : List (List ℕ)) (text : List ℕ) where
   -- two simulations have one miss up to the view

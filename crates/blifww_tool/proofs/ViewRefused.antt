@@ -11,7 +11,7 @@ use Rattle.refusals.specs.Refusals.{window_error}
 use Rattle.blifww_tool.specs.Simulation.{Simulation, IsSimulation, HasNoStreams, HasStreamsCause}
 use Rattle.blifww_tool.specs.Viewing.{cycles_in, HasNoView}
 use Rattle.refusals.specs.declared.causes.Cause.{Cause}
-use Rattle.refusals.specs.declared.causes.Cause.TheVariants.{NetlistFault, WeightTooLarge, Loop, AigAtFault, AigLoop, Pattern, GridTooLarge, PortTable, Streams, StartWord, NoSuchNet, TooFar, TooManyContexts, NotQuiet}
+use Rattle.refusals.specs.declared.causes.Cause.TheVariants.{NetlistFault, WeightTooLarge, Loop, AigAtFault, AigLoop, Pattern, GridTooLarge, PortTable, Streams, StartWord, NoSuchNet, TooFar, TooManyContexts, NotQuiet, NotCircuit}
 use Rattle.refusals.specs.declared.causes.TextError.{TextError}
 use Rattle.refusals.specs.declared.causes.TextError.TheVariants.{Refused, NoMemory}
 
@@ -30,6 +30,7 @@ cause_of view words text (NoSuchNet name) h = h
 cause_of view words text (TooFar n) h = h
 cause_of view words text (TooManyContexts n limit) h = h
 cause_of view words text (NotQuiet g x y) h = absurd h
+cause_of view words text (NotCircuit fault) h = absurd h
 
 -- a text and words that are no simulation,
 pub simulation_refused : (view : View) (words : List (List ℕ)) (text : List ℕ) (e : TextError) → HasStreamsCause (cycles_in words) words text e → HasTextCause (window view words) text e

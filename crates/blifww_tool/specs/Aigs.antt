@@ -21,8 +21,7 @@ pub record IsAig (text : List ℕ) (aig : Aig) : Type 0 where
   pub light : aig_weight aig ≤ weight_limit
   pub no_loop : (literals : List ℕ) → ¬ IsAigLoop aig literals
 
--- The text is a circuit. The output is the written text of a plan and its table, which carries the circuit; the plan is small, by the
--- circuit's weight.
+-- The text is a circuit. The output is the written text of a plan of the circuit and of the plan's table.
 pub record CompilesAig (text output : List ℕ) : Type 0 where
   pub aig : Aig
   pub is : IsAig text aig

@@ -3,11 +3,12 @@ use Rattle.std.specs.Prelude.{ℕ, List, take, ⊤}
 use Rattle.lane_core.specs.Plans.{IsAdmissible}
 use Rattle.grid_assembly.specs.PlanDrawing.{start_grid}
 use Rattle.pattern_writing.specs.WrittenText.{pattern_text}
+use Rattle.blif_write.specs.Lift.{text_of_lift}
 use Rattle.vcd_text.specs.Writing.{vcd_text}
 use Rattle.vcd_write.specs.Vcd.{waves_in}
 use Rattle.blifww_tool.specs.Run.{Reading, Writing, GainedNothing, WriteFailed, Does, HasReason}
 use Rattle.blifww_tool.specs.declared.output.Output.{Output}
-use Rattle.blifww_tool.specs.declared.output.Output.TheVariants.{Lines, Drawing, Waves}
+use Rattle.blifww_tool.specs.declared.output.Output.TheVariants.{Lines, Drawing, Waves, Lifted}
 use Rattle.refusals.specs.declared.refusal.Refusal.{Refusal}
 use Rattle.refusals.specs.declared.refusal.Refusal.TheVariants.{WriteFault}
 
@@ -16,12 +17,14 @@ abbrev pub output_text : Output → List ℕ
 output_text (Lines text) = text
 output_text (Drawing planned) = pattern_text (start_grid planned.plan) planned.ports
 output_text (Waves vcd) = vcd_text (waves_in vcd)
+output_text (Lifted lift) = text_of_lift lift
 
 -- it can be written: a plan is admissible
 abbrev pub IsWritableOutput : Output → Type 0
 IsWritableOutput (Lines text) = ⊤
 IsWritableOutput (Drawing planned) = IsAdmissible planned.plan
 IsWritableOutput (Waves vcd) = ⊤
+IsWritableOutput (Lifted lift) = ⊤
 
 -- out was cut off, or gained nothing where there is another reason
 abbrev pub HasStopped : List (List ℕ) → Reading → Writing → Refusal → Type 0

@@ -1,11 +1,14 @@
 -- For each command whether it reads a text, which texts it accepts, what it prints of them, and why it refuses the
 -- others.
 use Rattle.std.specs.Prelude.{◌≡◌, ◌≤◌, ℕ, Bool, true, false, List, ⊤}
-use Rattle.command_words.specs.Shapes.{CommandValues, compile, simulate, eval, probe, window, make, self_, tape, aiger, vcd}
+use Rattle.command_words.specs.Shapes.{CommandValues, compile, simulate, eval, probe, window, make, self_, tape, aiger, vcd, lift}
 use Rattle.netlist_core.specs.declared.model.Design.{Design}
 use Rattle.aiger_text.specs.declared.aig.Aig.{Aig}
 use Rattle.netlist_meaning.specs.Weight.{weight}
 use Rattle.drive.specs.Driving.{greatest_generation}
+use Rattle.ww_rule.specs.Grid.{Grid}
+use Rattle.lane_core.specs.declared.plan.Plan.{Plan}
+use Rattle.pattern_reading.specs.declared.ports.Ports.{Ports}
 use Rattle.made_netlists.specs.Text.{made_text}
 use Rattle.made_netlists.specs.Design.{made_design}
 use Rattle.made_summary.specs.Summaries.{HasSummaryCause}
@@ -19,6 +22,7 @@ use Rattle.blifww_tool.specs.Dumping.{last_dumped, Dumps, HasNoDump}
 use Rattle.blifww_tool.specs.Evaluation.{Evaluation, IsEvaluation, Evaluates, HasNoEvaluation}
 use Rattle.blifww_tool.specs.Taping.{Tapes}
 use Rattle.blifww_tool.specs.Aigs.{IsAig, CompilesAig, HasNoAig}
+use Rattle.blifww_tool.specs.Lifting.{IsCircuitText, Lifts, HasNoCircuit}
 use Rattle.blifww_tool.specs.Summary.{TellsSummary}
 use Rattle.refusals.specs.declared.causes.Cause.{Cause}
 use Rattle.refusals.specs.declared.causes.Cause.TheVariants.{NetlistFault, Loop, AigLoop, TooFar, TooManyContexts}
@@ -38,6 +42,7 @@ reads_text (self_ seed size cycles) = false
 reads_text (tape cycles words) = true
 reads_text aiger = true
 reads_text (vcd cycles words) = true
+reads_text lift = true
 
 -- The command accepts the text.
 -- `compile`: the text is a netlist, in which the words say starts, for no more contexts than every plan has room for.
@@ -47,8 +52,9 @@ reads_text (vcd cycles words) = true
 -- `window`: they are a simulation whose injections meet conductors up to the generation that is shown.
 -- `make` always does; `self` where no plan of the made netlist can need more generations than are run.
 -- `tape`: the text is a netlist, and the words are streams for it.
--- `aiger`: the text is a circuit.
+-- `aiger`: the text is an AIGER circuit.
 -- `vcd`: they are a simulation whose nets show their last bits in time, and whose injections up to there meet conductors.
+-- `lift`: the text reads as a pattern with a port table; they are the drawing of a circuit's plan; and no port's name is bad.
 abbrev pub Accepts : CommandValues → List ℕ → Type 0
 Accepts (compile contexts starts) text = (design : Design) × HasStarts contexts starts text design × (contexts ≤ least_room design)
 Accepts (simulate cycles words) text = (s : Simulation) × Simulates cycles words text s
@@ -60,10 +66,12 @@ Accepts (self_ seed size cycles) text = most_generations (weight (made_design se
 Accepts (tape cycles words) text = (e : Evaluation) × IsEvaluation cycles words text e
 Accepts aiger text = (aig : Aig) × IsAig text aig
 Accepts (vcd cycles words) text = (s : Simulation) × RunsInTime last_dumped cycles words text s
+Accepts lift text = (grid : Grid) × (ports : Ports) × (plan : Plan) × IsCircuitText text grid ports plan
 
 -- of such a text it prints this output: a pattern that carries the netlist in these contexts; a line for each output of
 -- the pattern, or of the netlist; the lines of the net; those of a part of the plane; the made text; what is told of the
--- made netlist; a pattern that runs by itself; one that carries the circuit; or the dump of the nets
+-- made netlist; a pattern that runs by itself; one that carries the AIGER circuit; the dump of the nets; or the netlist of
+-- the circuit that is drawn
 abbrev pub Prints : CommandValues → (text output : List ℕ) → Type 0
 Prints (compile contexts starts) text output = Compiles contexts starts text output
 Prints (simulate cycles words) text output = (s : Simulation) × Simulates cycles words text s × (output ≡ simulation_text s)
@@ -75,6 +83,7 @@ Prints (self_ seed size cycles) text output = TellsSummary seed size cycles outp
 Prints (tape cycles words) text output = Tapes cycles words text output
 Prints aiger text output = CompilesAig text output
 Prints (vcd cycles words) text output = Dumps cycles words text output
+Prints lift text output = Lifts text output
 
 -- the command refuses the text for this cause
 abbrev pub Refuses : CommandValues → List ℕ → Cause → Type 0
@@ -89,6 +98,7 @@ Refuses (self_ seed size cycles) text cause = ⊥
 Refuses (tape cycles words) text cause = HasNoEvaluation cycles words text cause
 Refuses aiger text cause = HasNoAig text cause
 Refuses (vcd cycles words) text cause = HasNoDump cycles words text cause
+Refuses lift text cause = HasNoCircuit text cause
 
 -- The command refuses the text for this cause whenever nothing fails and there is memory. Two causes are left out,
 -- since they depend on the plan, which is free: that `self` needs too many generations, and that `compile` has no room

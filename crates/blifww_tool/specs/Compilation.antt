@@ -20,6 +20,7 @@ use Rattle.netlist_meaning.specs.FlatOf.{IsFlatOf, at_places}
 use Rattle.netlist_plans.specs.Planned.{ComputesCells, HasLanes}
 use Rattle.netlist_plans.specs.NetPlaces.{HasNetPlaces}
 use Rattle.plan_ports.specs.Tables.{IsTableOf}
+use Rattle.lift_carries.specs.Compiled.{IsWrittenDrawing}
 use Rattle.netlist_text.specs.NetlistText.{IsNetlist, IsAtFault, IsTooHeavy, HasLoop}
 use Rattle.start_words.specs.declared.error.StartFault.{StartFault}
 use Rattle.start_words.specs.Words.{first_fault}
@@ -31,7 +32,7 @@ use Rattle.refusals.specs.declared.causes.Cause.TheVariants.{NetlistFault, Weigh
 -- The plan computes the cells of the design's flat netlist: so it has a loop for each latch, and exactly where constant
 -- 1 is named one more. The design's weight bounds its lanes, its columns and its instructions, and it has no lane and no
 -- column exactly where there is no net but clock nets. Each net has a place, by what drives it. Where there is no latch
--- and no cover needs constant 1 the period is 32.
+-- and no cover needs constant 1 the period is 32. The text spells the drawing of a circuit.
 pub record IsCarriedBy (design : Design) (plan : Plan) (ports : Ports) : Type 0 where
   pub admissible : IsAdmissible plan
   pub edges : HasStartEdges plan
@@ -45,6 +46,7 @@ pub record IsCarriedBy (design : Design) (plan : Plan) (ports : Ports) : Type 0 
   pub size : (flat : Flat) → IsFlatOf design flat → HasLanes flat plan
   pub places : (flat : Flat) → IsFlatOf design flat → HasNetPlaces flat plan
   pub period : (flat : Flat) → IsFlatOf design flat → length flat.latches ≡ 0 → any_needs_one flat ≡ false → ports.p ≡ 32
+  pub drawing : IsWrittenDrawing plan ports
 
 -- the text is the netlist of this design, in which the words say starts for so many contexts
 pub record HasStarts (contexts : ℕ) (starts : List (List ℕ)) (text : List ℕ) (design : Design) : Type 0 where
@@ -54,7 +56,8 @@ pub record HasStarts (contexts : ℕ) (starts : List (List ℕ)) (text : List �
 -- The text is a netlist, in which the words say starts. A plan of one context carries the design, and its period has 32
 -- generations for each of the contexts. The output is the written text of a plan and its table that carries the design
 -- and its nets in these contexts, each from its start. The written plan is that of one context, but for its starts and
--- for the further columns that the contexts need; in one context, and without words, it is that plan.
+-- for the further columns that the contexts need; in one context, and without words, it is that plan. In one context what
+-- is written spells the drawing of a circuit.
 pub record Compiles (contexts : ℕ) (starts : List (List ℕ)) (text output : List ℕ) : Type 0 where
   pub design : Design
   pub has : HasStarts contexts starts text design
@@ -71,6 +74,7 @@ pub record Compiles (contexts : ℕ) (starts : List (List ℕ)) (text output : L
   pub table : (flat : Flat) → IsFlatOf design flat → IsTableOf flat plan contexts ports
   pub places : (flat : Flat) → IsFlatOf design flat → HasNetPlaces flat plan
   pub written : output ≡ pattern_text (start_grid plan) ports
+  pub drawing : contexts ≡ 1 → IsWrittenDrawing plan ports
   pub carries : CarriesContexts output design (starts_of_words design starts contexts)
   pub nets : CarriesNetsInContexts output design (starts_of_words design starts contexts)
 

@@ -1,4 +1,4 @@
--- The headline, what it is a case of (one context, without words), those of tapes and of circuits, and what a dump is.
+-- The headline, what it is a case of (one context, without words), those of tapes and of circuits, what a dump is, and what is lifted.
 use Rattle.std.specs.Prelude.{◌≡◌, ℕ, List, ◌++◌, Some}
 use Rattle.netlist_core.specs.declared.model.Design.{Design}
 use Rattle.blif_text.specs.Faults.{IsDesignOf}
@@ -16,6 +16,7 @@ use Rattle.vcd_text.specs.Writing.{vcd_text}
 use Rattle.blifww_tool.specs.Simulation.{Simulation, IsSimulation}
 use Rattle.blifww_tool.specs.Evaluation.{Evaluation, IsEvaluation}
 use Rattle.blifww_tool.specs.Dumping.{waves_of}
+use Rattle.blifww_tool.specs.Lifting.{IsNetlistOf}
 use Rattle.blifww_tool.specs.Run.{Reading, Writing}
 
 -- Where the source tells the bytes that it had left, and the output the bytes that it held: the bytes that the output
@@ -56,3 +57,10 @@ WritesDump cycles words src out =
     (text before : List ℕ) → src.left ≡ Some text → out.written ≡ Some before
     → (dump : List ℕ) × (out.written_after ≡ Some (before ++ dump))
     × (s : Simulation) × IsSimulation cycles words text s × (dump ≡ vcd_text (waves_of s)) × SaysWaves (waves_of s)
+
+-- the bytes that the output gained are the text of a netlist without a fault or a loop, which the bytes carry that the source had left
+abbrev pub WritesItsNetlist : Reading → Writing → Type 0
+WritesItsNetlist src out =
+    (text before : List ℕ) → src.left ≡ Some text → out.written ≡ Some before
+    → (netlist : List ℕ) × (out.written_after ≡ Some (before ++ netlist))
+    × (design : Design) × IsNetlistOf text netlist design

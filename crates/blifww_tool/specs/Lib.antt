@@ -4,6 +4,7 @@ pub mod Driven
 pub mod Probing
 pub mod Viewing
 pub mod Dumping
+pub mod Lifting
 pub mod Compilation
 pub mod Evaluation
 pub mod Aigs
@@ -17,3 +18,4 @@ pub mod Answer
 pub mod PrintsAlike
 pub mod DumpsNets
 pub mod TapePrints
+pub mod LiftsBack

@@ -11,9 +11,10 @@ use Rattle.aiger_text.specs.AigText.{HasAigFault}
 use Rattle.start_words.specs.declared.error.StartFault.{StartFault}
 use Rattle.command_words.specs.Shapes.{CommandValues, compile, aiger, IsCommand}
 use Rattle.blifww_tool.specs.Compilation.{HasNoRoom}
+use Rattle.tile_match.specs.declared.error.CircuitFault.{CircuitFault}
 use Rattle.blifww_tool.specs.Aigs.{HasNoAig}
 use Rattle.blifww_tool.specs.Run.{Call, Asks, IsAsked, GaveTooMany, GaveAll, ReadFailed, WriteFailed, RefusesText, Ends}
-use Rattle.refusals.specs.declared.causes.Cause.TheVariants.{WeightTooLarge, AigLoop, Pattern, GridTooLarge, PortTable, Streams, StartWord, NoSuchNet, TooFar, TooManyContexts, NotQuiet}
+use Rattle.refusals.specs.declared.causes.Cause.TheVariants.{WeightTooLarge, AigLoop, Pattern, GridTooLarge, PortTable, Streams, StartWord, NoSuchNet, TooFar, TooManyContexts, NotQuiet, NotCircuit}
 
 -- the source gave too many bytes, or the command refuses the text that it has: for the netlist's weight, the size of
 -- the pattern's box, the number of generations, or that of contexts
@@ -48,6 +49,10 @@ WordsDoNotFit c =
 abbrev pub IsNotQuiet : Call → Type 0
 IsNotQuiet c = (generation x y : ℕ) × RefusesText c.words c.src (NotQuiet generation x y)
 
+-- the command refuses the text of a pattern as no circuit's
+abbrev pub IsNotCircuit : Call → Type 0
+IsNotCircuit c = (fault : CircuitFault) × RefusesText c.words c.src (NotCircuit fault)
+
 -- Each status but 7 comes only where its cause is; of 0 a command was asked.
 pub record HaveCauses (c : Call) (status : ℕ) : Type 0 where
   pub at_fault : status ≡ 1 → ¬ Asks c.words aiger → (text : List ℕ) × (fault : Fault) × GaveAll c.src text × IsAtFault text fault
@@ -63,6 +68,7 @@ pub record HaveCauses (c : Call) (status : ℕ) : Type 0 where
   pub no_pattern : status ≡ 8 → HasNoPattern c
   pub misfit : status ≡ 9 → WordsDoNotFit c
   pub not_quiet : status ≡ 10 → IsNotQuiet c
+  pub not_circuit : status ≡ 12 → IsNotCircuit c
 
 abbrev pub StatusesHaveCauses : Type 0
 StatusesHaveCauses = (c : Call) (status : ℕ) → Ends c status → HaveCauses c status

@@ -12,6 +12,7 @@ ghost use Rattle.blifww_tool.specs.Compilation.{Compiles, HasStarts, IsCarriedBy
 use crate::output::Output;
 use carries::one_context_carries;
 use flat_designs::{flat_is_one, flat_is_sound, flat_is_weighed};
+use lift_carries::{compiled_are_drawings, one_context_is_circuit};
 use netlist_plans::{NetlistPlanError, Planned, plan_contexts, plan_netlist};
 use netlist_text::{Netlist, netlist_of};
 use plan_carries::{designs_are_carried, designs_are_carried_in_contexts};
@@ -32,6 +33,8 @@ pub fn plan_of(alloc: Global, netlist: &Netlist) -> Result<Planned, NetlistPlanE
     flat_is_weighed();
     flat_is_one();
     designs_are_carried();
+    one_context_is_circuit();
+    compiled_are_drawings();
     let planned = plan_netlist(alloc, &netlist.flat, &netlist.order)?;
     Ok(planned)
 }
@@ -73,6 +76,8 @@ fn started(
     no_words_mean_start();
     starts_are_flat();
     designs_are_carried_in_contexts();
+    one_context_is_circuit();
+    compiled_are_drawings();
     let limit = planned.ports.p / 32;
     if contexts > limit {
         return Err(TextError::Refused(Cause::TooManyContexts { contexts, limit }));

@@ -24,7 +24,8 @@ fn reads_text(command: &Command) -> bool
         | Command::Window { .. }
         | Command::Tape { .. }
         | Command::Aiger
-        | Command::Vcd { .. } => true,
+        | Command::Vcd { .. }
+        | Command::Lift => true,
         Command::Make { .. } | Command::Self_ { .. } => false,
     }
 }

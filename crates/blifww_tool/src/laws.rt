@@ -1,5 +1,6 @@
 //! What is proved of statuses, and of what commands print.
 ghost use Rattle.blifww_tool.specs.DumpsNets.{CarriersDumpNets};
+ghost use Rattle.blifww_tool.specs.LiftsBack.{CompiledAreLifted, LiftedInOneWay, LiftedPrintAlike};
 ghost use Rattle.blifww_tool.specs.PrintsAlike.{CarriersPrintAlike, CarriersPrintNets, CarriersPrintNetsInContexts, CarriersPrintRuns, CarriersRunQuietly, CompiledPrintAlike, CompiledPrintNets, CompiledPrintRuns};
 ghost use Rattle.blifww_tool.specs.Statuses.{StatusesHaveCauses};
 ghost use Rattle.blifww_tool.specs.TapePrints.{TapesPrintAlike, TapesPrintRuns};
@@ -9,6 +10,7 @@ use shown_runs::{
     carriers_are_quiet, carriers_show_contexts, carriers_show_nets, carriers_show_runs,
     runners_show_runs, streams_match,
 };
+use tile_match::laws::draws_one_plan;
 use vcd_write::nets_have_their_bits;
 
 /// Each status of a run comes only where its cause is.
@@ -80,4 +82,21 @@ pub fn tapes_print_alike()
     runners_show_runs();
     streams_match();
     texts_are_decided();
+}
+
+/// `lift` accepts each text that `compile` writes for one context, where its box is within the limit of what is read and
+/// no name of a port is bad: so of it a run ends with status 0, or 7 for want of memory, or where a read or a write fails.
+pub fn compiled_are_lifted()
+    ensures { CompiledAreLifted }
+{}
+
+/// What `lift` writes of a text is one netlist, and what `simulate` prints of the text is what `eval` prints of that
+/// netlist under the same words.
+pub fn lifted_print_alike()
+    ensures alike { LiftedPrintAlike }
+    ensures one_way { LiftedInOneWay }
+{
+    carriers_show_runs();
+    streams_match();
+    draws_one_plan();
 }

@@ -1,7 +1,8 @@
 //! The top call of the program: `compile`, `eval` and `tape` for the text of a netlist, `aiger` for that of a circuit,
-//! `simulate`, `probe`, `window` and `vcd` for that of a pattern, and `make` and `self` for made netlists.
+//! `simulate`, `probe`, `window`, `vcd` and `lift` for that of a pattern, and `make` and `self` for made netlists.
 //!
-//! Theorem: `run` (`headline`, `contexts`, `tapes`, `aigs`, `dumps`, `ends`), `carriers_print_alike`, `carriers_print_runs`.
+//! Theorem: `run` (`headline`, `contexts`, `tapes`, `aigs`, `dumps`, `lifts`, `ends`), `carriers_print_alike`, `carriers_print_runs`,
+//! `compiled_are_lifted`.
 #![tactic(auto)]
 
 mod aiger;
@@ -10,6 +11,7 @@ mod driven;
 mod eval;
 mod input;
 pub mod laws;
+mod lift;
 mod lines;
 mod make;
 mod output;

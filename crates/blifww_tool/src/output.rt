@@ -3,6 +3,7 @@ ghost use Rattle.std.specs.Prelude.{ℕ, take, OnOk, OnErr};
 ghost use Rattle.std.specs.Io.KnownBytes.{Appends};
 ghost use Rattle.ww_base.specs.Faults.{HasCause};
 
+use blif_write::Lift;
 use lists::Bytes;
 use netlist_plans::Planned;
 use vcd_write::Vcd;
@@ -17,6 +18,8 @@ pub enum Output {
     Drawing(Planned),
     /// What nets show, whose text is written cycle by cycle.
     Waves(Vcd),
+    /// The cells of a circuit with the names of its ports, whose netlist is written line by line.
+    Lifted(Lift),
 }
 
 impl Output {
@@ -34,6 +37,7 @@ impl Output {
             Output::Lines(text) => write_all(out, text.as_slice()),
             Output::Drawing(planned) => rle_write::write(&planned.plan, &planned.ports, out),
             Output::Waves(vcd) => vcd_write::write(vcd, out),
+            Output::Lifted(lift) => blif_write::write(lift, out),
         }
     }
 }

@@ -1,7 +1,7 @@
 // The top call.
 ghost use Rattle.std.specs.Prelude.{◌≡◌, ℕ, List, [], map, string_bytes, IfOk, IfErr, OnOk, IsErrOf};
-ghost use Rattle.command_words.specs.Shapes.{aiger, compile, tape, values_of, vcd, HasNumbersInRange};
-ghost use Rattle.blifww_tool.specs.Headline.{WritesDump, WritesInContexts, WritesItsAig, WritesTape, WritesWhatItRead};
+ghost use Rattle.command_words.specs.Shapes.{aiger, compile, lift, tape, values_of, vcd, HasNumbersInRange};
+ghost use Rattle.blifww_tool.specs.Headline.{WritesDump, WritesInContexts, WritesItsAig, WritesItsNetlist, WritesTape, WritesWhatItRead};
 ghost use Rattle.blifww_tool.specs.Commands.{Prints, HasTextCause};
 ghost use Rattle.blifww_tool.specs.Answer.{output_text, IsWritableOutput, HasStopped};
 ghost use Rattle.blifww_tool.specs.Run.{Asks, AsksForNoText, reading, writing, call, Gave, Does, Ends};
@@ -10,6 +10,7 @@ use crate::aiger::aiger;
 use crate::compile::compile;
 use crate::eval::eval;
 use crate::input::text_for;
+use crate::lift::lift;
 use crate::make::make;
 use crate::output::Output;
 use crate::probe::probe;
@@ -55,6 +56,7 @@ fn answer(alloc: Global, command: &Command, text: &[u8]) -> Result<Output, TextE
         Command::Tape { cycles, streams } => tape(alloc, *cycles, streams.as_slice(), text),
         Command::Aiger => aiger(alloc, text),
         Command::Vcd { cycles, streams } => vcd(alloc, *cycles, streams.as_slice(), text),
+        Command::Lift => lift(alloc, text),
     }
 }
 
@@ -93,23 +95,26 @@ fn work<S: Source, O: Sink>(
 /// NAME [--path PATH] name=bits..` reads a pattern and writes such a line for a net of its port table, one for each
 /// context, and `window --gen G --x X --y Y --width W --height H name=bits..` the cells of a part of its plane at a
 /// generation. `make --seed S --size K` and `self --seed S --size K --cycles N` read nothing: the first writes the text
-/// of a netlist that is made from the seed, and the second what is told of it, compiled, simulated and evaluated.
-/// `tape --cycles N name=bits..` reads a netlist and writes a pattern that needs no driving: the streams lie in it, and it
-/// goes on with zeros. `aiger` reads a circuit in the AIGER format's ASCII form and writes a pattern that carries it, as `compile` does of a
-/// netlist, but without lines for nets. `vcd --cycles N name=bits..` reads a pattern and writes the bits that all nets of
-/// its port table show as a VCD text: a variable for each net in each context, with all nets of context 0 first.
+/// of a netlist that is made from the seed, and the second what is told of it, compiled, simulated and evaluated. `tape
+/// --cycles N name=bits..` reads a netlist and writes a pattern that needs no driving: the streams lie in it, and it
+/// goes on with zeros. `aiger` reads a circuit in the AIGER format's ASCII form and writes a pattern that carries it,
+/// as `compile` does of a netlist, but without lines for nets. `vcd --cycles N name=bits..` reads a pattern and writes
+/// the bits that all nets of its port table show as a VCD text: a variable for each net in each context, with all nets
+/// of context 0 first. `lift` reads a pattern and, where with its port table it is the drawing of a circuit, writes the
+/// BLIF text of a netlist that it carries.
 ///
-/// 0: all of it is on `out`. 1: the netlist's text, or the circuit's, breaks a rule. 2: the words are no command. 3:
-/// covers, or the circuit's gates, read each other in a circle. 4: the text has more than 16,777,216 bytes, the
-/// netlist, or the circuit, weighs more than 8,192, the pattern's box has more than 268,435,456 cells, its last bits
-/// come after generation 4,294,967,296, or the pattern has no room for so many contexts: it has room for at least one,
-/// and for 6 for each latch. 5: `src` failed. 6: `out` or `err` failed. 7: there was not enough memory. 8: the text is
-/// no pattern's, or its port table is at fault. 9: the words are no streams for the inputs, or no starts for the
-/// latches, or the table has no net as asked for. 10: an injection is due at a cell that is no conductor then. Of
+/// 0: all of it is on `out`. 1: the netlist's text, or the AIGER circuit's, breaks a rule. 2: the words are no command.
+/// 3: covers, or the AIGER circuit's gates, read each other in a circle. 4: the text has more than 16,777,216 bytes,
+/// the netlist, or the AIGER circuit, weighs more than 8,192, the pattern's box has more than 268,435,456 cells, its
+/// last bits come after generation 4,294,967,296, or the pattern has no room for so many contexts: it has room for at
+/// least one, and for 6 for each latch. 5: `src` failed. 6: `out` or `err` failed. 7: there was not enough memory. 8:
+/// the text is no pattern's, or its port table is at fault. 9: the words are no streams for the inputs, or no starts
+/// for the latches, or the table has no net as asked for. 10: an injection is due at a cell that is no conductor then.
+/// 12: the pattern with its port table is the drawing of no circuit, or has names that no netlist's ports can have. Of
 /// several the first is answered: 2, 5, 4 (the text); then of a netlist 1 (lines and models), 4 (the weight), 1
-/// (clocks), 3, of a circuit 1, 4 (the weight), 3, and of a pattern 8 (the header), 4 (the box), 8 (the items), 8 (the
-/// table); then 9 (words), 9 (the net), 4 (generations), 10, 4 (contexts), 6. With each but 0 and 6 one line on `err`
-/// tells it, and nothing is on `out`.
+/// (clocks), 3, of an AIGER circuit 1, 4 (the weight), 3, and of a pattern 8 (the header), 4 (the box), 8 (the items),
+/// 8 (the table); then 9 (words), 9 (the net), 4 (generations), 10, 4 (contexts), 12, 6. With each but 0 and 6 one line
+/// on `err` tells it, and nothing is on `out`.
 pub fn run<S: Source, O: Sink, E: Sink>(
     alloc: Global,
     words: &[String],
@@ -133,7 +138,7 @@ pub fn run<S: Source, O: Sink, E: Sink>(
         → WritesTape cycles streams (reading S.left S.faults src.old src.new)
         (writing O.written O.faults out.old out.new) }
 
-    // The bytes that `aiger` has written carry the circuit of the text that `src` had left.
+    // The bytes that `aiger` has written carry the AIGER circuit of the text that `src` had left.
     ensures aigs { result ≡ 0 → Asks (map string_bytes words.now) aiger
         → WritesItsAig (reading S.left S.faults src.old src.new) (writing O.written O.faults out.old out.new) }
 
@@ -142,6 +147,11 @@ pub fn run<S: Source, O: Sink, E: Sink>(
     ensures dumps { result ≡ 0 → (cycles : ℕ) (streams : List (List ℕ)) → Asks (map string_bytes words.now) (vcd cycles streams)
         → WritesDump cycles streams (reading S.left S.faults src.old src.new)
         (writing O.written O.faults out.old out.new) }
+
+    // The bytes that `lift` has written are the text of a netlist without a fault or a loop, which the pattern carries that
+    // `src` had left.
+    ensures lifts { result ≡ 0 → Asks (map string_bytes words.now) lift
+        → WritesItsNetlist (reading S.left S.faults src.old src.new) (writing O.written O.faults out.old out.new) }
 
     // How the run ends, for every command: done, refused or cut off, each status only where its cause is; and a cause
     // in the words or the text is told wherever it is, but for failed reads and writes and want of memory.

@@ -4,6 +4,7 @@ pub mod Found
 pub mod Given
 pub mod Named
 pub mod Numerals
+pub mod ReadMet
 pub mod Parsed
 pub mod Rules
 pub mod Walks

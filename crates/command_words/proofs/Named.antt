@@ -12,7 +12,7 @@ use Rattle.command_words.specs.Numbers.{NumberRange, number_taken, cycles_range,
 use Rattle.command_words.specs.Shapes.{AreInRanges, CommandValues, IsCommand, MeetsContexts, MeetsRanges, command_values, compile, compile_by, contexts_by, number_met, streams_met, simulate, eval, tape, vcd, driven_command_by, probe_by, window_by, make_by, self_by, values_met}
 use Rattle.command_words.proofs.Entered.{names}
 use Rattle.command_words.proofs.Given.{AreGiven, IsOwn, required_given}
-use Rattle.command_words.proofs.Rules.{app_built, built_app, leaf, option_rule, words_rule, compile_rules, driven_rules, probe_rules, window_rules, make_rules, self_rules, aiger_rules, shapes, top}
+use Rattle.command_words.proofs.Rules.{app_built, built_app, leaf, option_rule, words_rule, compile_rules, driven_rules, probe_rules, window_rules, make_rules, self_rules, bare_rules, shapes, top}
 
 -- what was met is the command with this shape, with words that clap takes
 abbrev IsMet : Option (Text × List Row) → Shape → Type 0
@@ -169,9 +169,10 @@ met_valued met (inr (inr (inr (inr (inl is))))) within b = met_by (codes "window
 met_valued met (inr (inr (inr (inr (inr (inl is)))))) within b = met_by (codes "make") make_rules met make_own is within b (λ rows w beside g. make_valued rows w g)
 met_valued met (inr (inr (inr (inr (inr (inr (inl is))))))) within b = met_by (codes "self") self_rules met self_own is within b (λ rows w beside g. self_valued rows w g)
 met_valued met (inr (inr (inr (inr (inr (inr (inr (inl is)))))))) within b = met_by (codes "tape") driven_rules met driven_own is within b (λ rows w beside g. taped_valued rows w g)
-met_valued met (inr (inr (inr (inr (inr (inr (inr (inr (inl is))))))))) within b = met_by (codes "aiger") aiger_rules met tt is within b (λ rows w beside g. refl)
+met_valued met (inr (inr (inr (inr (inr (inr (inr (inr (inl is))))))))) within b = met_by (codes "aiger") bare_rules met tt is within b (λ rows w beside g. refl)
 met_valued met (inr (inr (inr (inr (inr (inr (inr (inr (inr (inl is)))))))))) within b = met_by (codes "vcd") driven_rules met driven_own is within b (λ rows w beside g. driven_valued rows w vcd g)
-met_valued met (inr (inr (inr (inr (inr (inr (inr (inr (inr (inr none)))))))))) within b = absurd none
+met_valued met (inr (inr (inr (inr (inr (inr (inr (inr (inr (inr (inl is))))))))))) within b = met_by (codes "lift") bare_rules met tt is within b (λ rows w beside g. refl)
+met_valued met (inr (inr (inr (inr (inr (inr (inr (inr (inr (inr (inr none))))))))))) within b = absurd none
 
 has_values : (words : List Text) → IsCommand words → is_some (command_values words) ≡ true
 has_values words i = met_valued (subcommand_of blifww_app words) (taken_met words i.taken) i.in_range i.beside

@@ -82,14 +82,15 @@ make_rules = option_rule (codes "seed") true ∷ option_rule (codes "size") true
 abbrev pub self_rules : List Rule
 self_rules = option_rule (codes "seed") true ∷ option_rule (codes "size") true ∷ option_rule (codes "cycles") true ∷ []
 
-abbrev pub aiger_rules : List Rule
-aiger_rules = []
+-- of `aiger` and `lift`
+abbrev pub bare_rules : List Rule
+bare_rules = []
 
 abbrev pub shapes : List Shape
 shapes =
     leaf (codes "compile") compile_rules ∷ leaf (codes "simulate") driven_rules ∷ leaf (codes "eval") driven_rules ∷ leaf (codes "probe") probe_rules
     ∷ leaf (codes "window") window_rules ∷ leaf (codes "make") make_rules ∷ leaf (codes "self") self_rules ∷ leaf (codes "tape") driven_rules
-    ∷ leaf (codes "aiger") aiger_rules ∷ leaf (codes "vcd") driven_rules ∷ []
+    ∷ leaf (codes "aiger") bare_rules ∷ leaf (codes "vcd") driven_rules ∷ leaf (codes "lift") bare_rules ∷ []
 
 -- the program's own level
 abbrev pub top : Shape

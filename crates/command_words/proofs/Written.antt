@@ -14,10 +14,10 @@ use Rattle.clap.specs.declared.parser.matches.ValueSource.TheVariants.{CommandLi
 use Rattle.clap.specs.declared.builder.value_parser.Reading.TheVariants.{AsWritten}
 use Rattle.command_words.specs.App.{blifww_app}
 use Rattle.command_words.specs.Numbers.{NumberRange, are_digits, number_taken, cycles_range, generation_range, x_range, y_range, width_range, height_range, seed_range, size_range, contexts_range, number_ranges, tape_cycles_range}
-use Rattle.command_words.specs.Shapes.{CommandValues, compile, simulate, eval, probe, window, make, self_, tape, aiger, vcd, driven_command_by, values_met, command_values, is_plain_word, option_words, streams_met, IsCommand, IsDrivenCommand, IsPlain, IsWritten, GivesContexts, GivesPath, AreInRanges, MeetsContexts, MeetsRanges, Writes, number_met}
+use Rattle.command_words.specs.Shapes.{CommandValues, compile, simulate, eval, probe, window, make, self_, tape, aiger, vcd, lift, driven_command_by, values_met, command_values, is_plain_word, option_words, streams_met, IsCommand, IsDrivenCommand, IsPlain, IsWritten, GivesContexts, GivesPath, AreInRanges, MeetsContexts, MeetsRanges, Writes, number_met}
 use Rattle.command_words.specs.declared.command.View.{View}
 use Rattle.command_words.proofs.Entered.{IsNamed, entered_own, takes_own}
-use Rattle.command_words.proofs.Rules.{leaf, words_rule, compile_rules, driven_rules, probe_rules, window_rules, make_rules, self_rules, aiger_rules}
+use Rattle.command_words.proofs.Rules.{leaf, words_rule, compile_rules, driven_rules, probe_rules, window_rules, make_rules, self_rules, bare_rules}
 use Rattle.command_words.proofs.Walks.{HasNoHyphen, HaveWords, IsGiven, IsOption, Pending, all_pass, all_walked, options_pass, plain_walk}
 
 -- ---- values are no flags
@@ -363,8 +363,19 @@ tape_read n streams en = record {
     rows [] = refl
     rows (v ∷ vs) = refl
 
-aiger_read : IsRead (codes "aiger") aiger_rules [] []
+aiger_read : IsRead (codes "aiger") bare_rules [] []
 aiger_read = record {
+  named = record { named = refl; shape = refl };
+  given = tt;
+  have = tt;
+  take = tt;
+  passes = refl;
+  valid = refl;
+  rows = refl;
+}
+
+lift_read : IsRead (codes "lift") bare_rules [] []
+lift_read = record {
   named = record { named = refl; shape = refl };
   given = tt;
   have = tt;
@@ -599,9 +610,14 @@ well (self_ seed size cycles) words p =
 well (tape cycles streams) words w =
     driven_well (codes "tape") tape_cycles_range tape cycles streams words (λ n plain. tape_read n streams plain) (λ n. refl) (λ n e. tape_ranges n streams e) (λ rows. refl) refl w
 well aiger words p = record {
-  command = λ short. plain_command (codes "aiger") aiger_rules [] [] words p aiger_read short (tt, (tt, (tt, (tt, (tt, (tt, (tt, (tt, (tt, tt)))))))))
+  command = λ short. plain_command (codes "aiger") bare_rules [] [] words p aiger_read short (tt, (tt, (tt, (tt, (tt, (tt, (tt, (tt, (tt, tt)))))))))
       (not_compile (codes "aiger") [] refl);
-  values = plain_values (codes "aiger") aiger_rules [] [] words p aiger_read aiger refl;
+  values = plain_values (codes "aiger") bare_rules [] [] words p aiger_read aiger refl;
 }
 well (vcd cycles streams) words w =
     driven_well (codes "vcd") cycles_range vcd cycles streams words (λ n plain. vcd_read n streams plain) (λ n. refl) (λ n e. driven_ranges n streams e) (λ rows. refl) refl w
+well lift words p = record {
+  command = λ short. plain_command (codes "lift") bare_rules [] [] words p lift_read short (tt, (tt, (tt, (tt, (tt, (tt, (tt, (tt, (tt, tt)))))))))
+      (not_compile (codes "lift") [] refl);
+  values = plain_values (codes "lift") bare_rules [] [] words p lift_read lift refl;
+}

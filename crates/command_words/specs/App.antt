@@ -48,6 +48,9 @@ self_app = with_required (new_app (codes "self")) (codes "seed" ∷ codes "size"
 abbrev pub aiger_app : App
 aiger_app = new_app (codes "aiger")
 
+abbrev pub lift_app : App
+lift_app = new_app (codes "lift")
+
 -- the program, which has neither a help nor a version of clap's own
 abbrev pub bare_app : App
 bare_app = let a = new_app (codes "blifww") in record a {
@@ -68,4 +71,4 @@ abbrev pub blifww_app : App
 blifww_app =
     with_subcommands bare_app
     (compile_app ∷ driven_app (codes "simulate") ∷ driven_app (codes "eval") ∷ probe_app ∷ window_app ∷ make_app ∷ self_app ∷ driven_app (codes "tape")
-    ∷ aiger_app ∷ driven_app (codes "vcd") ∷ [])
+    ∷ aiger_app ∷ driven_app (codes "vcd") ∷ lift_app ∷ [])

@@ -10,7 +10,7 @@ use Rattle.command_words.specs.App.{blifww_app}
 use Rattle.command_words.specs.Numbers.{NumberRange, number_taken, ranges_of, TakesNumber, cycles_range, tape_cycles_range, generation_range, x_range, y_range, width_range, height_range, seed_range, size_range, contexts_range}
 use Rattle.command_words.specs.declared.command.View.{View}
 use Rattle.command_words.specs.declared.command.Command.{Command}
-use Rattle.command_words.specs.declared.command.Command.TheVariants.{Compile, Simulate, Eval, Probe, Window, Make, Self_, Tape, Aiger, Vcd}
+use Rattle.command_words.specs.declared.command.Command.TheVariants.{Compile, Simulate, Eval, Probe, Window, Make, Self_, Tape, Aiger, Vcd, Lift}
 
 -- a command with its values, of which the words that give the streams, or the start states of contexts, stand last
 pub data CommandValues : Type 0 where
@@ -24,6 +24,7 @@ pub data CommandValues : Type 0 where
   tape : (cycles : ℕ) → (streams : List Text) → CommandValues
   aiger : CommandValues
   vcd : (cycles : ℕ) → (streams : List Text) → CommandValues
+  lift : CommandValues
 
 abbrev pub values_of : Command → CommandValues
 values_of (Compile contexts starts) = compile contexts (map string_bytes starts)
@@ -36,6 +37,7 @@ values_of (Self_ seed size cycles) = self_ seed size cycles
 values_of (Tape cycles streams) = tape cycles (map string_bytes streams)
 values_of Aiger = aiger
 values_of (Vcd cycles streams) = vcd cycles (map string_bytes streams)
+values_of Lift = lift
 
 -- each number of the view is one that its option takes
 abbrev pub HasViewInRange : View → Type 0
@@ -55,6 +57,7 @@ HasNumbersInRange (self_ seed size cycles) = TakesNumber seed_range seed × Take
 HasNumbersInRange (tape cycles streams) = TakesNumber tape_cycles_range cycles
 HasNumbersInRange aiger = ⊤
 HasNumbersInRange (vcd cycles streams) = TakesNumber cycles_range cycles
+HasNumbersInRange lift = ⊤
 
 -- the number that the matches give an option, where it is in its range
 abbrev pub number_met : NumberRange → List Row → Option ℕ
@@ -116,6 +119,7 @@ values_by_name name rows =
     else if bytes_eq name (codes "tape") then driven_command_by tape_cycles_range tape rows
     else if bytes_eq name (codes "aiger") then Some aiger
     else if bytes_eq name (codes "vcd") then driven_command_by cycles_range vcd rows
+    else if bytes_eq name (codes "lift") then Some lift
     else None
 
 abbrev pub values_met : Option (Text × List Row) → Option CommandValues
@@ -209,3 +213,4 @@ IsWritten (self_ seed size cycles) words =
 IsWritten (tape cycles streams) words = IsDrivenCommand (codes "tape") tape_cycles_range cycles streams words
 IsWritten aiger words = IsPlain (codes "aiger") [] [] words
 IsWritten (vcd cycles streams) words = IsDrivenCommand (codes "vcd") cycles_range cycles streams words
+IsWritten lift words = IsPlain (codes "lift") [] [] words

@@ -72,6 +72,7 @@ pub enum Command {
         cycles: usize,
         streams: List<String>,
     },
+    Lift,
 }
 
 // A command that is driven by streams.
@@ -282,6 +283,7 @@ fn command_in(alloc: Global, found: &ArgMatches<'_>) -> Result<Command, WordsErr
         Some(("tape", inner)) => driven_in(alloc, Driven::Tape, inner),
         Some(("aiger", _)) => Ok(Command::Aiger),
         Some(("vcd", inner)) => driven_in(alloc, Driven::Vcd, inner),
+        Some(("lift", _)) => Ok(Command::Lift),
         _ => Err(WordsError::Usage),
     }
 }
@@ -296,8 +298,8 @@ fn length_fits(words: &[String])
 /// The command that the words of a command line ask for. The first word is the program's name, and after it stands one
 /// of `compile [--contexts C word..]`, `simulate --cycles N word..`, `eval --cycles N word..`, `probe --cycles N --net
 /// NAME [--path PATH] word..`, `window --gen G --x X --y Y --width W --height H word..`, `make --seed S --size K`,
-/// `self --seed S --size K --cycles N`, `tape --cycles N word..`, `aiger`, `vcd --cycles N word..`. Numbers are in
-/// decimal digits, with or without leading zeros: C from 1 to 4,294,967,295, N from 1 to 1,048,576, but of `tape` to
+/// `self --seed S --size K --cycles N`, `tape --cycles N word..`, `aiger`, `vcd --cycles N word..`, `lift`. Numbers are
+/// in decimal digits, with or without leading zeros: C from 1 to 4,294,967,295, N from 1 to 1,048,576, but of `tape` to
 /// 4,096, G to 4,294,967,296, X and Y to 4,294,967,295, W and H from 1 to 4,096, S to 2,147,483,647, K from 1 to 128.
 /// `Usage` comes only where the words are no command, and each other answer but `NoMemory` only where they have its
 /// values.

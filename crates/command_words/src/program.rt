@@ -62,6 +62,8 @@ pub fn blifww_command<'a>(alloc: Global) -> Result<Command<'a>, AllocError>
 {
     let older = older_commands(alloc)?;
     let taped = with_command(older, driven_command(alloc, "tape"))?;
-    let last = with_command(taped, with_options(alloc, "aiger", &[]))?;
-    with_command(last, driven_command(alloc, "vcd"))
+    let circuits = with_command(taped, with_options(alloc, "aiger", &[]))?;
+    let dumped = with_command(circuits, driven_command(alloc, "vcd"))?;
+    let last = with_options(alloc, "lift", &[]);
+    with_command(dumped, last)
 }

@@ -2,10 +2,10 @@
 use Rattle.std.specs.Prelude.{ℕ, List, ◌++◌, flat_map, codes, decimal}
 use Rattle.netlist_core.specs.Names.{Name}
 use Rattle.netlist_rules.specs.declared.fault.Fault.{Fault}
-use Rattle.netlist_rules.specs.FaultNames.{aig_fault_number, aig_fault_name}
+use Rattle.netlist_rules.specs.FaultNames.{name_of, number_of}
 use Rattle.netlist_core.specs.Limit.{weight_limit}
 use Rattle.aiger_text.specs.declared.fault.AigFault.{AigFault}
-use Rattle.aiger_text.specs.FaultNames.{aig_fault_number as aig_number_of, aig_fault_name as aig_name_of}
+use Rattle.aiger_text.specs.FaultNames.{aig_fault_name, aig_fault_number}
 use Rattle.aiger_reader.specs.declared.error.AigReadError.{AigReadError}
 use Rattle.aiger_reader.specs.declared.error.AigReadError.TheVariants as aig_of
 use Rattle.aiger_meaning.specs.declared.error.LowerError.{LowerError}
@@ -34,6 +34,10 @@ use Rattle.streams.specs.declared.error.StreamError.{StreamError}
 use Rattle.streams.specs.declared.error.StreamError.TheVariants as streams_of
 use Rattle.drive.specs.declared.error.SimulateError.{SimulateError}
 use Rattle.drive.specs.declared.error.SimulateError.TheVariants as simulating
+use Rattle.tile_match.specs.declared.error.CircuitFault.{CircuitFault}
+use Rattle.tile_match.specs.declared.error.CircuitFault.TheVariants as circuit
+use Rattle.tile_match.specs.declared.error.AuditError.{AuditError}
+use Rattle.tile_match.specs.declared.error.AuditError.TheVariants as auditing
 use Rattle.probe_view.specs.declared.error.ProbeError.{ProbeError}
 use Rattle.probe_view.specs.declared.error.ProbeError.TheVariants as probing
 use Rattle.probe_view.specs.declared.error.WindowError.{WindowError}
@@ -41,7 +45,7 @@ use Rattle.probe_view.specs.declared.error.WindowError.TheVariants as viewing
 use Rattle.made_summary.specs.declared.error.SummaryError.{SummaryError}
 use Rattle.made_summary.specs.declared.error.SummaryError.TheVariants as summarizing
 use Rattle.refusals.specs.declared.causes.Cause.{Cause}
-use Rattle.refusals.specs.declared.causes.Cause.TheVariants.{NetlistFault, WeightTooLarge, Loop, AigAtFault, AigLoop, Pattern, GridTooLarge, PortTable, Streams, StartWord, NoSuchNet, TooFar, TooManyContexts, NotQuiet}
+use Rattle.refusals.specs.declared.causes.Cause.TheVariants.{NetlistFault, WeightTooLarge, Loop, AigAtFault, AigLoop, Pattern, GridTooLarge, PortTable, Streams, StartWord, NoSuchNet, TooFar, TooManyContexts, NotQuiet, NotCircuit}
 use Rattle.refusals.specs.declared.causes.TextError.{TextError}
 use Rattle.refusals.specs.declared.causes.TextError.TheVariants as text
 use Rattle.refusals.specs.declared.refusal.Refusal.{Refusal}
@@ -63,6 +67,7 @@ status_of_cause (NoSuchNet name) = 9
 status_of_cause (TooFar generations) = 4
 status_of_cause (TooManyContexts contexts limit) = 4
 status_of_cause (NotQuiet generation x y) = 10
+status_of_cause (NotCircuit fault) = 12
 
 -- the exit status of a refusal
 abbrev pub status_of : Refusal → ℕ
@@ -108,6 +113,12 @@ start_fault_name start.NoSuchLatch = codes "NoSuchLatch"
 start_fault_name start.TwiceLatch = codes "TwiceLatch"
 start_fault_name start.BadBit = codes "BadBit"
 
+-- why a pattern with its port table is no circuit
+abbrev pub circuit_fault_name : CircuitFault → List ℕ
+circuit_fault_name circuit.Ports = codes "Ports"
+circuit_fault_name circuit.Names = codes "Names"
+circuit_fault_name circuit.Cells = codes "Cells"
+
 -- a fault on a line of a text, as `G4 BadItem line 2`
 abbrev pub fault_line : List ℕ → ℕ → List ℕ
 fault_line name line = name ++ (codes " line " ++ (decimal line ++ codes "\n"))
@@ -122,7 +133,7 @@ fault_text number name line word =
     codes "B" ++ (number ++ (codes " " ++ (name ++ (codes " line " ++ (line ++ (codes ": " ++ (word ++ codes "\n")))))))
 
 abbrev pub netlist_line : Fault → List ℕ
-netlist_line fault = fault_text (decimal (aig_fault_number fault.kind)) (aig_fault_name fault.kind) (decimal fault.line) fault.word
+netlist_line fault = fault_text (decimal (number_of fault.kind)) (name_of fault.kind) (decimal fault.line) fault.word
 
 -- each name after a blank
 abbrev pub after_blanks : List Name → List ℕ
@@ -138,7 +149,7 @@ aig_fault_text number name line =
     codes "A" ++ (number ++ (codes " " ++ (name ++ (codes " line " ++ (line ++ codes "\n")))))
 
 abbrev pub aig_fault_line : AigFault → List ℕ
-aig_fault_line fault = aig_fault_text (decimal (aig_number_of fault.kind)) (aig_name_of fault.kind) (decimal fault.line)
+aig_fault_line fault = aig_fault_text (decimal (aig_fault_number fault.kind)) (aig_fault_name fault.kind) (decimal fault.line)
 
 -- each number after a blank
 abbrev pub spaced_numbers : List ℕ → List ℕ
@@ -147,6 +158,10 @@ spaced_numbers numbers = flat_map (λ number. codes " " ++ decimal number) numbe
 -- a loop of a circuit, by the literals of its left sides, as `loop: 6 8`
 abbrev pub aig_loop_line : List ℕ → List ℕ
 aig_loop_line literals = codes "loop:" ++ (spaced_numbers literals ++ codes "\n")
+
+-- a pattern that is no circuit, as `not a circuit: Cells`
+abbrev pub circuit_line : List ℕ → List ℕ
+circuit_line name = codes "not a circuit: " ++ (name ++ codes "\n")
 
 -- the one line that tells such a cause
 abbrev pub cause_line : Cause → List ℕ
@@ -166,10 +181,11 @@ cause_line (TooManyContexts contexts limit) =
     codes "too large: contexts " ++ (decimal contexts ++ (codes " limit " ++ (decimal limit ++ codes "\n")))
 cause_line (NotQuiet generation x y) =
     codes "not quiet: generation " ++ (decimal generation ++ (codes " cell " ++ (decimal x ++ (codes " " ++ (decimal y ++ codes "\n")))))
+cause_line (NotCircuit fault) = circuit_line (circuit_fault_name fault)
 
 -- the one line that tells a refusal
 abbrev pub refusal_line : Refusal → List ℕ
-refusal_line Usage = codes "usage: blifww compile|simulate|eval|probe|window|make|self|tape|aiger|vcd\n"
+refusal_line Usage = codes "usage: blifww compile|simulate|eval|probe|window|make|self|tape|aiger|vcd|lift\n"
 refusal_line TooLong = codes "too long: limit 16777216\n"
 refusal_line ReadFault = codes "read fault\n"
 refusal_line WriteFault = codes "write fault\n"
@@ -243,6 +259,11 @@ probe_refusal name probing.NoSuchNet = text.Refused (NoSuchNet name)
 probe_refusal name (probing.TooFar generations) = text.Refused (TooFar generations)
 probe_refusal name (probing.NotQuiet generation x y) = text.Refused (NotQuiet generation x y)
 probe_refusal name probing.NoMemory = text.NoMemory
+
+-- it is no circuit,
+abbrev pub audit_error : AuditError → TextError
+audit_error (auditing.NotCircuit fault) = text.Refused (NotCircuit fault)
+audit_error auditing.NoMemory = text.NoMemory
 
 -- a part of its plane is not,
 abbrev pub window_error : WindowError → TextError

@@ -13,11 +13,13 @@ use netlist_core::Name;
 use netlist_plans::NetlistPlanError;
 use netlist_run::RunError;
 use netlist_text::NetlistError;
+use plan_cells::LiftError;
 use port_table::{PortFault, PortReadError};
 use probe_view::WindowError;
 use rle_read::{RleFault, RleReadError};
 use start_words::{StartError, StartFault};
 use std::alloc::AllocError;
+use tile_match::{AuditError, CircuitFault};
 
 /// Why a command refuses a text.
 #[derive(Drop)]
@@ -50,6 +52,8 @@ pub enum Cause {
     TooManyContexts { contexts: u64, limit: u64 },
     /// An injection is due at this generation and cell, which is no conductor before the injections of that generation.
     NotQuiet { generation: u64, x: u64, y: u64 },
+    /// The pattern with its port table is no circuit.
+    NotCircuit(CircuitFault),
 }
 
 impl Cause {
@@ -69,6 +73,7 @@ impl Cause {
             Cause::Pattern(_) | Cause::PortTable(_) => 8,
             Cause::Streams(_) | Cause::StartWord(_) | Cause::NoSuchNet(_) => 9,
             Cause::NotQuiet { .. } => 10,
+            Cause::NotCircuit(_) => 12,
         }
     }
 }
@@ -234,6 +239,31 @@ impl From<WindowError> for TextError {
                 TextError::Refused(Cause::NotQuiet { generation, x, y })
             }
             WindowError::NoMemory => TextError::NoMemory,
+        }
+    }
+}
+
+impl From<AuditError> for TextError {
+    ghost use Rattle.refusals.specs.Refusals.{audit_error};
+
+    ghost from_gives = { λ e r. r ≡ audit_error e };
+
+    fn from(error: AuditError) -> Self {
+        match error {
+            AuditError::NotCircuit(fault) => TextError::Refused(Cause::NotCircuit(fault)),
+            AuditError::NoMemory => TextError::NoMemory,
+        }
+    }
+}
+
+impl From<LiftError> for TextError {
+    ghost use Rattle.refusals.specs.declared.causes.TextError.TheVariants.{NoMemory};
+
+    ghost from_gives = { λ _ r. r ≡ NoMemory };
+
+    fn from(error: LiftError) -> Self {
+        match error {
+            LiftError::NoMemory => TextError::NoMemory,
         }
     }
 }

@@ -5,7 +5,7 @@ ghost use Rattle.std.specs.Io.KnownBytes.{Appends};
 ghost use Rattle.ww_base.specs.Faults.{HasCause};
 ghost use Rattle.ww_base.specs.Pages.{held};
 ghost use Rattle.ww_base.specs.Progress.{Wrote, Broke};
-ghost use Rattle.refusals.specs.Refusals.{rle_fault_name, port_fault_name, start_fault_name, stream_fault_name, fault_line, stream_line, fault_text, netlist_line, after_blanks, loop_line, aig_fault_text, aig_fault_line, spaced_numbers, aig_loop_line, cause_line, refusal_line};
+ghost use Rattle.refusals.specs.Refusals.{rle_fault_name, port_fault_name, start_fault_name, stream_fault_name, circuit_fault_name, circuit_line, fault_line, stream_line, fault_text, netlist_line, after_blanks, loop_line, aig_fault_text, aig_fault_line, spaced_numbers, aig_loop_line, cause_line, refusal_line};
 
 use crate::causes::Cause;
 use crate::refusal::Refusal;
@@ -17,6 +17,7 @@ use lists::Bytes;
 use netlist_core::WEIGHT_LIMIT;
 use pattern_reading::{PortFaultKind, RleFaultKind};
 use start_words::StartFaultKind;
+use tile_match::CircuitFault;
 use ww_base::{Failed, Page, Sink, write_all, write_pieces};
 
 // A fault of a pattern's text as it is printed.
@@ -71,6 +72,17 @@ fn start_fault_name(kind: StartFaultKind) -> &'static [u8]
         StartFaultKind::NoSuchLatch => b"NoSuchLatch",
         StartFaultKind::TwiceLatch => b"TwiceLatch",
         StartFaultKind::BadBit => b"BadBit",
+    }
+}
+
+// Why a pattern is no circuit, as it is printed.
+fn circuit_fault_name(fault: CircuitFault) -> &'static [u8]
+    ensures { result.now ≡ circuit_fault_name fault }
+{
+    match fault {
+        CircuitFault::Ports => b"Ports",
+        CircuitFault::Names => b"Names",
+        CircuitFault::Cells => b"Cells",
     }
 }
 
@@ -146,6 +158,20 @@ fn tell_miss<E: Sink>(err: &mut E, generation: u64, x: u64, y: u64) -> Result<()
     )
 }
 
+// Tells why a pattern is no circuit.
+fn tell_circuit<E: Sink>(err: &mut E, fault: CircuitFault) -> Result<(), Failed>
+    ensures ok { OnOk result (
+        Appends (E.written err.old) (E.written err.new) (
+        circuit_line (circuit_fault_name fault)
+        )
+        ) }
+    ensures front { OnErr result
+        ((n : ℕ) × Appends (E.written err.old) (E.written err.new) (take n (circuit_line (circuit_fault_name fault)))) }
+    ensures cause { HasCause (E.faults err.old) (E.faults err.new) result }
+{
+    write_pieces(err, &[b"not a circuit: ", circuit_fault_name(fault), b"\n"])
+}
+
 // Tells how many contexts are too many.
 fn tell_contexts<E: Sink>(err: &mut E, contexts: u64, limit: u64) -> Result<(), Failed>
     ensures ok { OnOk result
@@ -167,7 +193,9 @@ fn tell_contexts<E: Sink>(err: &mut E, contexts: u64, limit: u64) -> Result<(), 
 
 // Tells a fault of streams or of start words, and the word at fault.
 fn tell_streams<'a, E: Sink>(err: &mut E, name: &'a [u8], word: &'a [u8]) -> Result<(), Failed>
-    ensures ok { OnOk result (Appends (E.written err.old) (E.written err.new) (stream_line name.now word.now)) }
+    ensures ok { OnOk result (
+        Appends (E.written err.old) (E.written err.new) (stream_line name.now word.now)
+        ) }
     ensures front { OnErr result
         ((n : ℕ) × Appends (E.written err.old) (E.written err.new) (take n (stream_line name.now word.now))) }
     ensures cause { HasCause (E.faults err.old) (E.faults err.new) result }
@@ -352,6 +380,7 @@ impl Cause {
             Cause::TooFar { generations } => tell_generations(err, *generations),
             Cause::TooManyContexts { contexts, limit } => tell_contexts(err, *contexts, *limit),
             Cause::NotQuiet { generation, x, y } => tell_miss(err, *generation, *x, *y),
+            Cause::NotCircuit(fault) => tell_circuit(err, *fault),
         }
     }
 }
@@ -367,7 +396,7 @@ impl Refusal {
         match self {
             Refusal::Usage => write_all(
                 err,
-                b"usage: blifww compile|simulate|eval|probe|window|make|self|tape|aiger|vcd\n",
+                b"usage: blifww compile|simulate|eval|probe|window|make|self|tape|aiger|vcd|lift\n",
             ),
             Refusal::TooLong => write_all(err, b"too long: limit 16777216\n"),
             Refusal::ReadFault => write_all(err, b"read fault\n"),

@@ -8,6 +8,7 @@ mod dumps;
 mod evaluating;
 mod failing;
 mod hierarchies;
+mod lifts;
 mod tapes;
 mod weights;
 
@@ -24,7 +25,8 @@ const GATE: &[u8] = b".model or\n.inputs a b\n.outputs y\n.names a b y\n1- 1\n-1
 const PATTERN: &[u8] =
     b"#C BLIFWW 2 P 32 L 32 C 1\n#C BLIFWW IN 0 8 a\n#C BLIFWW IN 0 24 b\n#C BLIFWW OUT 32 8 y\n#C BLIFWW NET 0 8 0 a -\n#C BLIFWW NET 0 24 0 b -\n#C BLIFWW NET 31 8 31 y -\nx = 33, y = 32, rule = WireWorld\n8$5C18.10C$5.C16.C$6.C14.C$7.C12.C$8.C10.C$9.C.2C5.C$10.2C.C3.C$11.2C.\nC.C$15.C$11.2C.C$10.2C.C$9.C.2C$8.C$7.C$6.C$5.C$5C26.C!\n";
 
-const USAGE: &[u8] = b"usage: blifww compile|simulate|eval|probe|window|make|self|tape|aiger|vcd\n";
+const USAGE: &[u8] =
+    b"usage: blifww compile|simulate|eval|probe|window|make|self|tape|aiger|vcd|lift\n";
 
 // The status, and what `out` and `err` hold.
 #[derive(Drop)]

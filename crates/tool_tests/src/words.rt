@@ -18,6 +18,7 @@ enum Asked {
     Tape(usize, &'static [&'static str]),
     Aiger,
     Vcd(usize, &'static [&'static str]),
+    Lift,
 }
 
 const CASES: &[(&[&str], Asked)] = &[
@@ -171,6 +172,9 @@ const CASES: &[(&[&str], Asked)] = &[
     ),
     (&["blifww", "vcd", "--cycles", "0"], Asked::Usage),
     (&["blifww", "vcd", "a=01"], Asked::Usage),
+    (&["blifww", "lift"], Asked::Lift),
+    (&["blifww", "lift", "x"], Asked::Usage),
+    (&["blifww", "lift", "--cycles", "1"], Asked::Usage),
     (&["blifww", "--help"], Asked::Usage),
     (&["blifww", "-h"], Asked::Usage),
     (&["blifww", "help"], Asked::Usage),
@@ -217,7 +221,7 @@ fn is_asked(command: &Command, asked: Asked) -> bool {
         (Command::Self_ { seed, size, cycles }, Asked::OfMade(first, count, many)) => {
             *seed == first && *size == count && *cycles == many
         }
-        (Command::Aiger, Asked::Aiger) => true,
+        (Command::Aiger, Asked::Aiger) | (Command::Lift, Asked::Lift) => true,
         _ => false,
     }
 }

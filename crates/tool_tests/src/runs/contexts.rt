@@ -66,7 +66,7 @@ const REFUSED: &[(&[&str], &[u8], u8, &[u8])] = &[
         &["blifww", "compile", "1:q=1"],
         TOGGLE,
         2,
-        b"usage: blifww compile|simulate|eval|probe|window|make|self|tape|aiger|vcd\n",
+        b"usage: blifww compile|simulate|eval|probe|window|make|self|tape|aiger|vcd|lift\n",
     ),
 ];
 

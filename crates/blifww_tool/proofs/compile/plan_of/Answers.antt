@@ -2,7 +2,7 @@ use Rattle.std.proofs.Common.{arith}
 use Rattle.flat_designs.proofs.Whole.{flat_is_named}
 use Rattle.netlist_text.proofs.SoundParts.{sound, weighed, small}
 use Rattle.plan_carries.proofs.SeenNets.{places_fit}
-use Rattle.blifww_tool.proofs.Compiled.{carried_by}
+use Rattle.blifww_tool.proofs.Compiled.{carried_by, drawn}
 use Rattle.blifww_tool.proofs.compile.plan_of.Goals as goal
 
 pub plan_netlist-requires-clause-sound : goal.plan_netlist-requires-clause-sound
@@ -33,6 +33,9 @@ returns-clause-carried c =
     let p = c.in_ok-planned.ensures in
     carried_by c.flat_is_one.ensures c.designs_are_carried.ensures c.args.netlist.now.design c.args.netlist.now.flat _ c.in_ok-planned.planned.plan c.in_ok-planned.planned.ports c.requires.parts
     p.admissible p.edges p.table p.cells p.lanes p.places p.carries p.small p.period
+    (drawn c.one_context_is_circuit.ensures c.compiled_are_drawings.ensures c.args.netlist.now.flat c.in_ok-planned.planned.plan c.in_ok-planned.planned.ports
+    (plan_netlist-requires-clause-sound c) (plan_netlist-requires-clause-named c) (plan_netlist-requires-clause-names c) (plan_netlist-requires-clause-places c)
+    p.admissible p.bare p.edges _ p.cells.starts p.table)
 
 pub returns-clause-bare : goal.returns-clause-bare
 returns-clause-bare c = c.in_ok-planned.ensures.bare

@@ -1,5 +1,7 @@
 use Rattle.std.proofs.Common.{◌≡◌, ◌∙◌, ◌≤◌, ◌/◌, refl, subst, sym, arith, ℕ, map, length, string_bytes}
+use Rattle.std.proofs.lemmas.List.{length-map}
 use Rattle.std.proofs.lemmas.Result.{err_from_is_err_and}
+use Rattle.netlist_plans.specs.Contexts.{loop_starting_bits}
 use Rattle.flat_designs.proofs.Whole.{flat_is_named}
 use Rattle.grid_assembly.specs.PlanDrawing.{start_grid}
 use Rattle.pattern_writing.specs.WrittenText.{pattern_text}
@@ -9,7 +11,7 @@ use Rattle.latch_loops.specs.Padded.{IsPaddedPlan}
 use Rattle.plan_ports.specs.Tables.{IsTableOf}
 use Rattle.netlist_text.proofs.SoundParts.{sound, weighed, small}
 use Rattle.plan_carries.proofs.SeenNets.{places_fit}
-use Rattle.blifww_tool.proofs.Compiled.{alone, compiles, compiles_plain, long_starts, many_starts, not_alone, room_refused}
+use Rattle.blifww_tool.proofs.Compiled.{alone, compiles, compiles_plain, drawn_in_one, long_starts, many_starts, not_alone, room_refused}
 use Rattle.blifww_tool.proofs.compile.started.Goals as goal
 
 pub returns-then-contexts-limit-clause-refused : goal.returns-then-contexts-limit-clause-refused
@@ -96,3 +98,6 @@ returns-clause-printed c = λ text has.
     (subst (λ (n : ℕ). IsPaddedPlan (contexts_size base.latches n) base plan) many p.padded)
     (subst (λ (n : ℕ). IsTableOf flat plan n ports) many p.table) p.places
     (subst (CarriesFlatContexts (pattern_text (start_grid plan) ports) flat) bits p.carries)
+    (λ one. drawn_in_one c.one_context_is_circuit.ensures c.compiled_are_drawings.ensures flat plan ports
+    (plan_contexts-requires-clause-sound c) (plan_contexts-requires-clause-named c) (plan_contexts-requires-clause-names c) (plan_contexts-requires-clause-places c)
+    p.admissible p.bare p.edges _ p.starts (length-map c.as_slice.result.now (loop_starting_bits base) ∙ many ∙ one) (subst (λ (n : ℕ). IsTableOf flat plan n ports) (many ∙ one) p.table))

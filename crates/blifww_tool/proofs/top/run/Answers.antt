@@ -1,5 +1,5 @@
 use Rattle.std.proofs.Common.{refl}
-use Rattle.blifww_tool.proofs.Headline.{aigs, dumps, headline, in_contexts, tapes}
+use Rattle.blifww_tool.proofs.Headline.{aigs, dumps, headline, in_contexts, lifts, tapes}
 use Rattle.blifww_tool.proofs.Ended.{done, told, untold, ends}
 use Rattle.blifww_tool.proofs.Stopped.{kept}
 use Rattle.blifww_tool.proofs.top.run.Goals as goal
@@ -15,6 +15,9 @@ returns-in-Ok-clause-aigs g c = λ e asks. aigs _ _ _ c.in-Ok.ensures.done asks
 
 pub returns-in-Ok-clause-dumps : goal.returns-in-Ok-clause-dumps
 returns-in-Ok-clause-dumps g c = λ e cycles streams asks. dumps _ _ _ c.in-Ok.ensures.done cycles streams asks
+
+pub returns-in-Ok-clause-lifts : goal.returns-in-Ok-clause-lifts
+returns-in-Ok-clause-lifts g c = λ e asks. lifts _ _ _ c.in-Ok.ensures.done asks
 
 pub returns-in-Ok-clause-tapes : goal.returns-in-Ok-clause-tapes
 returns-in-Ok-clause-tapes g c = λ e cycles streams asks. tapes _ _ _ c.in-Ok.ensures.done cycles streams asks

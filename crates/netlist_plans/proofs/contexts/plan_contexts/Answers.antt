@@ -40,6 +40,10 @@ returns-clause-padded c =
     let many : length c.deref.result.now ≡ length c.args.starts.now = ap length (c.deref.ensures.value ∙ c.in_ok-loops.ensures) ∙ length-map c.args.starts.now (loop_starting_bits c.args.plan) in
     subst (λ n. IsPaddedPlan (contexts_size c.args.plan.latches n) c.args.plan c.in_ok-plan.plan) many c.in_ok-plan.ensures.padded
 
+pub returns-clause-starts : goal.returns-clause-starts
+returns-clause-starts c =
+    subst (λ (bits : List (List Bool)). StartsContexts c.in_ok-plan.plan bits (start_edges c.in_ok-plan.plan)) (c.deref.ensures.value ∙ c.in_ok-loops.ensures) c.in_ok-plan.ensures.contexts
+
 pub returns-clause-carries : goal.returns-clause-carries
 returns-clause-carries c =
     let k = c.requires.planned in

@@ -1,0 +1,5 @@
+mod Counted
+mod Leading
+mod NamedWords
+mod Pieces
+mod TextsRead

@@ -1,0 +1,25 @@
+use Rattle.std.proofs.Common.{◌+◌, ℕ, List, drop, arith}
+use Rattle.lists.proofs.Results.{on_err}
+use Rattle.ww_base.specs.Pages.{held}
+use Rattle.ww_base.proofs.Steps.{wrote_then, wrote_broke, wrote_to}
+use Rattle.blif_text.specs.declared.logical.Logical.{Logical}
+use Rattle.lifted_lines.specs.Lines.{cell_lines}
+use Rattle.blif_write.specs.Words.{mark_in}
+use Rattle.blif_write.proofs.Pieces as pieces
+use Rattle.blif_write.proofs.netlist.write_gates.Goals as goal
+
+pub returns-in_err-write_gate-clause-err : goal.returns-in_err-write_gate-clause-err
+returns-in_err-write_gate-clause-err g c =
+    let i : ℕ = c.loop-number.number in
+    let f = λ (n : ℕ) (more : List Logical).
+    wrote_broke (wrote_to (pieces.cells_next (mark_in c.args.lift.now) c.args.lift.now.ins (held c.loop-number.page) n i c.args.lift.now.list.cells c.get-cell.result.now more c.get-cell.ensures) (c.loop-number.invariant n more)) (c.in_err-write_gate.ensures.err n (cell_lines (mark_in c.args.lift.now) c.args.lift.now.ins n (i + 1) (drop (i + 1) c.args.lift.now.list.cells) more)) in
+    on_err _ f
+
+pub loop-number-preserved : goal.loop-number-preserved
+loop-number-preserved g c = λ n more.
+    let i : ℕ = c.loop-number.number in
+    wrote_then (wrote_to (pieces.cells_next (mark_in c.args.lift.now) c.args.lift.now.ins (held c.loop-number.page) n i c.args.lift.now.list.cells c.get-cell.result.now more c.get-cell.ensures) (c.loop-number.invariant n more)) (c.in_ok-write_gate.ensures.ok n (cell_lines (mark_in c.args.lift.now) c.args.lift.now.ins n (i + 1) (drop (i + 1) c.args.lift.now.list.cells) more))
+
+pub returns-clause-ok : goal.returns-clause-ok
+returns-clause-ok g c = λ n more.
+    wrote_to (pieces.cells_none (mark_in c.args.lift.now) c.args.lift.now.ins (held c.loop-number.page) n c.loop-number.number c.args.lift.now.list.cells more (omega (arith, c.loop-number-test.false, c.len-number-end.ensures))) (c.loop-number.invariant n more)

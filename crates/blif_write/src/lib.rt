@@ -1,0 +1,18 @@
+//! Writes the netlist of a plan's cells as BLIF text. The text is made while it is written, without memory.
+//!
+//! Theorem: `of` (`lift`, `computes`, `no_one`); `write` (`ok`, `front`, `cause`); `laws::lifted_texts_read`; definition `lifted_text`.
+#![tactic(auto)]
+
+pub mod laws;
+mod lift;
+mod lifting;
+mod lines;
+mod netlist;
+mod text;
+mod word;
+mod words;
+
+pub use lift::Lift;
+pub use lifting::of;
+pub use plan_cells::LiftError;
+pub use text::write;

@@ -1,0 +1,75 @@
+// The circuit of a plan, with names of ports.
+ghost use Rattle.std.specs.Prelude.{◌≡◌, ◌<◌, ◌^◌, false, length, max, IfOk};
+ghost use Rattle.lane_core.specs.Plans.{IsAdmissible};
+ghost use Rattle.cell_core.specs.Loops.{names_one};
+ghost use Rattle.cell_meaning.specs.Computes.{ComputesByPlan};
+ghost use Rattle.circuit_plans.specs.Circuits.{without_nets};
+ghost use Rattle.pattern_reading.specs.Ports.{names_of};
+ghost use Rattle.lifted_designs.specs.Names.{leading, most_leading};
+ghost use Rattle.blif_write.specs.Lift.{IsLiftOf};
+
+use crate::Lift;
+use lane_core::Plan;
+use lists::{Bytes, List, copied};
+use pattern_reading::{PortLine, Ports};
+use plan_cells::{LiftError, cells_of};
+use std::alloc::{AllocError, Global};
+
+// Copies of the names of ports.
+fn names_of(alloc: Global, ports: &[PortLine]) -> Result<List<Bytes>, AllocError>
+    ensures { IfOk result (λ names. names ≡ names_of ports.now) }
+{
+    let mut names = Vec::new(alloc);
+    for port in ports {
+        let name = copied(alloc, port.name.as_slice())?;
+        names.push(name)?;
+    }
+    Ok(List::of(names))
+}
+
+// With how many `_` a name begins.
+fn leading(name: &[u8]) -> usize
+    ensures { result ≡ leading name.now }
+{
+    for (i, byte) in name.iter().enumerate() {
+        if *byte != b'_' {
+            return i;
+        }
+    }
+    name.len()
+}
+
+// The most `_` with which one of the names begins, or this many where that is more.
+fn most_leading(names: &[Bytes], least: usize) -> usize
+    ensures { result ≡ max least (most_leading names.now) }
+{
+    let mut most = least;
+    for name in names {
+        most = most.max(leading(name.as_slice()));
+    }
+    most
+}
+
+/// The circuit of a plan, whose inputs and outputs bear the names of these ports, in order, which are copied. The plan's nets
+/// are not looked at. A call asks for a port for each output; an input without a port has an empty name.
+pub fn of(alloc: Global, plan: &Plan, ports: &Ports) -> Result<Lift, LiftError>
+    requires admissible { IsAdmissible plan.now }
+    requires outs { length ports.now.outs ≡ length plan.now.outs }
+    ensures lift { IfOk result (IsLiftOf plan.now ports.now) }
+    ensures computes { IfOk result (λ lift. ComputesByPlan lift.list (without_nets plan.now)) }
+    ensures no_one { IfOk result (λ lift. names_one lift.list ≡ false) }
+    ensures few { IfOk result (λ lift. length lift.list.cells < 2 ^ 64) }
+{
+    let list = cells_of(alloc, plan)?;
+    let _cells = list.cells.len();
+    let ins = names_of(alloc, ports.ins.as_slice())?;
+    let outs = names_of(alloc, ports.outs.as_slice())?;
+    let of_ins = most_leading(ins.as_slice(), 0);
+    let leading = most_leading(outs.as_slice(), of_ins);
+    Ok(Lift {
+        list,
+        ins,
+        outs,
+        leading,
+    })
+}

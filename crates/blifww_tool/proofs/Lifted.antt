@@ -1,0 +1,113 @@
+-- What is written of a circuit is a netlist that its text carries; and why there is none.
+use Rattle.std.proofs.Common.{◌≡◌, ◌<◌, ◌^◌, refl, sym, ap₂, arith, ℕ, List, length}
+use Rattle.ww_rule.specs.Grid.{Grid}
+use Rattle.lane_core.specs.declared.plan.Plan.{Plan}
+use Rattle.pattern_reading.specs.declared.ports.Ports.{Ports}
+use Rattle.pattern_reading.specs.Ports.{names_of}
+use Rattle.port_table.proofs.SoundTable.{sound_table}
+use Rattle.cell_core.specs.declared.list.CellList.{CellList}
+use Rattle.netlist_core.specs.Names.{Name}
+use Rattle.plan_cells.specs.Lists.{IsListOf}
+use Rattle.plan_cells.proofs.Whole.{is_plain}
+use Rattle.lifted_designs.specs.Clocks.{LiftedHaveNoClockFault}
+use Rattle.lifted_designs.specs.Lifted.{lifted_design}
+use Rattle.lifted_designs.specs.NoLoop.{LiftedHaveNoLoop}
+use Rattle.lifted_designs.specs.Runs.{ArePortNames}
+use Rattle.blif_write.specs.declared.lift.Lift.{Lift}
+use Rattle.blif_write.specs.Laws.{LiftedTextsRead}
+use Rattle.blif_write.specs.Lift.{IsLiftOf, text_of_lift}
+use Rattle.blif_write.specs.Text.{lifted_text}
+use Rattle.lift_carries.specs.Lifts.{LiftsCarry}
+use Rattle.lift_carries.proofs.Lifted.{loop_count_is, many_outs, named_ins, named_outs}
+use Rattle.lift_carries.proofs.PortNames.{are_port_names, ins_are_words, outs_are_words}
+use Rattle.pattern_reading.specs.Pattern.{ReadsWithinLimit}
+use Rattle.pattern_reading.specs.PortTable.{ReadsAsPorts, HasPortFault}
+use Rattle.rle_read.specs.Answers.{HasReadReason}
+use Rattle.rle_read.specs.declared.error.RleReadError.{RleReadError}
+use Rattle.rle_read.specs.declared.error.RleReadError.TheVariants as reading
+use Rattle.port_table.specs.declared.faults.PortFault.{PortFault}
+use Rattle.port_table.specs.declared.reading.PortReadError.{PortReadError}
+use Rattle.port_table.specs.declared.reading.PortReadError.TheVariants as table
+use Rattle.tile_match.specs.declared.error.AuditError.{AuditError}
+use Rattle.tile_match.specs.declared.error.AuditError.TheVariants as auditing
+use Rattle.tile_match.specs.declared.error.CircuitFault.{CircuitFault}
+use Rattle.tile_match.specs.Circuit.{IsPlanDrawing}
+use Rattle.tile_match.specs.Faults.{HasCircuitFault}
+use Rattle.command_words.specs.Shapes.{lift}
+use Rattle.refusals.specs.Refusals.{audit_error, pattern_error, table_error}
+use Rattle.blifww_tool.specs.Commands.{HasTextCause}
+use Rattle.blifww_tool.specs.Lifting.{IsCircuitText, IsNetlistOf, Lifts}
+
+-- ---- the netlist
+
+module _ (texts : LiftedTextsRead) (clocks : LiftedHaveNoClockFault) (loops : LiftedHaveNoLoop) (carry : LiftsCarry)
+    (text : List ℕ) (grid : Grid) (ports : Ports) (plan : Plan) (is : IsCircuitText text grid ports plan)
+    (list : CellList) (cells : IsListOf plan list) (few : length list.cells < 2 ^ 64) where
+  abbrev ins : List Name
+  ins = names_of ports.ins
+
+  abbrev outs : List Name
+  outs = names_of ports.outs
+
+  long : length (names_of ports.ins) ≡ list.inputs
+  long = named_ins grid.width grid.height ports plan is.drawing.ports list cells
+
+  wide : length (names_of ports.outs) ≡ length list.outs
+  wide = named_outs grid.width grid.height ports plan is.drawing.ports list cells
+
+  few_latches : length list.latches < 2 ^ 64
+  few_latches = omega (arith, loop_count_is plan list cells, is.drawing.circuit.admissible.size.lanes, is.drawing.circuit.admissible.size.loops_on_lanes)
+
+  names : ArePortNames (names_of ports.ins) (names_of ports.outs)
+  names = are_port_names ports (sound_table text grid.width grid.height ports is.table) is.named
+
+  netlist_of : IsNetlistOf text (lifted_text (names_of ports.ins) (names_of ports.outs) list) (lifted_design (names_of ports.ins) (names_of ports.outs) list)
+  netlist_of = record {
+    design_of = texts list ins outs long wide (is_plain plan list cells) names (ins_are_words ports is.named) (outs_are_words ports is.named) few few_latches;
+    clocks = clocks list ins outs long wide (is_plain plan list cells);
+    no_loop = loops list ins outs long wide (is_plain plan list cells) names few few_latches;
+    carries = carry text grid ports plan list (record {
+      spells = record { reads = is.pattern.0; table = is.table };
+      drawing = is.drawing;
+      names = is.named;
+      cells = cells;
+      few_cells = few;
+    });
+  }
+
+  pub lifts : Lifts text (lifted_text (names_of ports.ins) (names_of ports.outs) list)
+  lifts = record {
+    grid = grid;
+    ports = ports;
+    plan = plan;
+    is = is;
+    list = list;
+    of_plan = cells;
+    written = refl;
+    netlist = netlist_of;
+  }
+
+-- a circuit's table has a line for each output
+pub many_outs_of : (grid : Grid) (ports : Ports) (plan : Plan) → IsPlanDrawing grid ports plan → length ports.outs ≡ length plan.outs
+many_outs_of grid ports plan drawing = many_outs grid.width grid.height ports plan drawing.ports
+
+-- what is written of a lift is the text of its cells with the ports' names
+pub lifted_text_is : (plan : Plan) (ports : Ports) (lifted : Lift) → IsLiftOf plan ports lifted → lifted_text (names_of ports.ins) (names_of ports.outs) lifted.list ≡ text_of_lift lifted
+lifted_text_is plan ports lifted h = ap₂ (λ ins outs. lifted_text ins outs lifted.list) (sym h.ins) (sym h.outs)
+
+-- ---- refusals
+
+pub pattern_refused : (text : List ℕ) (e : RleReadError) → HasReadReason text e → HasTextCause lift text (pattern_error e)
+pattern_refused text (reading.Fault f) h = h
+pattern_refused text (reading.TooLarge width height) h = h
+pattern_refused text reading.NoMemory h = tt
+
+pub table_refused : (text : List ℕ) (grid : Grid) (e : PortReadError) → ReadsWithinLimit text grid
+    → ((f : PortFault) → e ≡ table.Fault f → HasPortFault text grid.width grid.height f.kind f.line) → HasTextCause lift text (table_error e)
+table_refused text grid (table.Fault f) reads faults = (grid, reads, faults f refl)
+table_refused text grid table.NoMemory reads faults = tt
+
+pub audit_refused : (text : List ℕ) (grid : Grid) (ports : Ports) (e : AuditError) → ReadsWithinLimit text grid → ReadsAsPorts text grid.width grid.height ports
+    → ((f : CircuitFault) → e ≡ auditing.NotCircuit f → HasCircuitFault grid ports f) → HasTextCause lift text (audit_error e)
+audit_refused text grid ports (auditing.NotCircuit f) reads is faults = (grid, ports, reads, is, faults f refl)
+audit_refused text grid ports auditing.NoMemory reads is faults = tt

@@ -1,0 +1,30 @@
+// `lift`: the netlist of the circuit that a pattern draws.
+ghost use Rattle.std.specs.Prelude.{IfOk, IfErr};
+ghost use Rattle.command_words.specs.Shapes.{lift};
+ghost use Rattle.blifww_tool.specs.Answer.{output_text, IsWritableOutput};
+ghost use Rattle.blifww_tool.specs.Commands.{Prints, HasTextCause};
+
+use crate::output::Output;
+use blif_write::laws::lifted_texts_read;
+use lift_carries::lifts_carry;
+use lifted_designs::{lifted_have_no_clock_fault, lifted_have_no_loop};
+use refusals::TextError;
+use std::alloc::Global;
+use tile_match::audit;
+
+/// The netlist that the text's pattern with its port table carries, where they are the drawing of a circuit.
+pub fn lift(alloc: Global, text: &[u8]) -> Result<Output, TextError>
+    ensures printed { IfOk result (λ output. Prints lift text.now (output_text output)) }
+    ensures writable { IfOk result IsWritableOutput }
+    ensures refused { IfErr result (λ e. HasTextCause lift text.now e) }
+{
+    let pattern = rle_read::read(alloc, text)?;
+    let ports = port_table::read(alloc, text, pattern.width, pattern.height)?;
+    let plan = audit(alloc, &pattern, &ports)?;
+    lifted_texts_read();
+    lifted_have_no_clock_fault();
+    lifted_have_no_loop();
+    lifts_carry();
+    let lifted = blif_write::of(alloc, &plan, &ports)?;
+    Ok(Output::Lifted(lifted))
+}

@@ -1,0 +1,196 @@
+// Patterns with their tables: circuits, and why some are none.
+ghost use Rattle.std.specs.Prelude.{IfOk};
+ghost use Rattle.lane_core.specs.Plans.{IsAdmissible};
+
+use crate::plans::{BARE, Written, admitted};
+use grid_assembly::pattern_of;
+use lane_core::{Instr, Plan, latency, period};
+use lists::List;
+use pattern_reading::Ports;
+use std::alloc::Global;
+use std::test::Fail;
+use tile_match::{AuditError, CircuitFault, audit};
+use ww_base::expect;
+
+// A table, the items of its pattern, and what is said.
+struct Case {
+    table: &'static [u8],
+    items: &'static [u8],
+    said: &'static [u8],
+}
+
+// The table of an OR of two inputs, and its header and items.
+const TABLE: &[u8] =
+    b"#C BLIFWW 1 P 32 L 32\n#C BLIFWW IN 0 8 a\n#C BLIFWW IN 0 24 b\n#C BLIFWW OUT 32 8 y\n";
+
+const ITEMS: &[u8] =
+    b"x = 33, y = 32, rule = WireWorld\n8$5C18.10C$5.C16.C$6.C14.C$7.C12.C$8.C10.C$9.C.2C5.C$10.2C.C3.C$11.2C.C.C$15.C$11.2C.C$10.2C.C$9.C.2C$8.C$7.C$6.C$5.C$5C26.C!\n";
+
+const CASES: &[Case] = &[
+    Case {
+        table: TABLE,
+        items: ITEMS,
+        said: b"circuit",
+    },
+    Case {
+        table: b"",
+        items: b"x = 0, y = 0, rule = WireWorld\n!\n",
+        said: b"circuit",
+    },
+    // an input's line taken out
+    Case {
+        table: b"#C BLIFWW 1 P 32 L 32\n#C BLIFWW IN 0 8 a\n#C BLIFWW OUT 32 8 y\n",
+        items: ITEMS,
+        said: b"circuit",
+    },
+    // the inputs in another order, and the line of a net at any cell
+    Case {
+        table: b"#C BLIFWW 1 P 32 L 32\n#C BLIFWW IN 0 24 b\n#C BLIFWW IN 0 8 a\n#C BLIFWW OUT 32 8 y\n#C BLIFWW NET 3 3 7 n -\n",
+        items: ITEMS,
+        said: b"circuit",
+    },
+    // the last cell taken out
+    Case {
+        table: TABLE,
+        items: b"x = 33, y = 32, rule = WireWorld\n8$5C18.10C$5.C16.C$6.C14.C$7.C12.C$8.C10.C$9.C.2C5.C$10.2C.C3.C$11.2C.C.C$15.C$11.2C.C$10.2C.C$9.C.2C$8.C$7.C$6.C$5.C$5C!\n",
+        said: b"Cells",
+    },
+    // a start on an input's lane
+    Case {
+        table: TABLE,
+        items: b"x = 33, y = 32, rule = WireWorld\n8$A4C18.10C$5.C16.C$6.C14.C$7.C12.C$8.C10.C$9.C.2C5.C$10.2C.C3.C$11.2C.C.C$15.C$11.2C.C$10.2C.C$9.C.2C$8.C$7.C$6.C$5.C$5C26.C!\n",
+        said: b"Cells",
+    },
+    // an output's line taken out
+    Case {
+        table: b"#C BLIFWW 1 P 32 L 32\n#C BLIFWW IN 0 8 a\n#C BLIFWW IN 0 24 b\n",
+        items: ITEMS,
+        said: b"Cells",
+    },
+    // another latency, another period, two contexts, a cell beside an entry, and a box without cells that is wide
+    Case {
+        table: b"#C BLIFWW 1 P 32 L 33\n#C BLIFWW IN 0 8 a\n#C BLIFWW IN 0 24 b\n#C BLIFWW OUT 32 8 y\n",
+        items: ITEMS,
+        said: b"Ports",
+    },
+    Case {
+        table: b"#C BLIFWW 1 P 64 L 32\n",
+        items: ITEMS,
+        said: b"Ports",
+    },
+    Case {
+        table: b"#C BLIFWW 1 P 64 L 32 C 2\n",
+        items: ITEMS,
+        said: b"Ports",
+    },
+    Case {
+        table: b"#C BLIFWW 1 P 32 L 32\n#C BLIFWW IN 0 9 a\n",
+        items: ITEMS,
+        said: b"Ports",
+    },
+    Case {
+        table: b"",
+        items: b"x = 5, y = 0, rule = WireWorld\n!\n",
+        said: b"Ports",
+    },
+    // a name at whose end a line would go on, one with a byte 11, and one of an input and of an output
+    Case {
+        table: b"#C BLIFWW 1 P 32 L 32\n#C BLIFWW IN 0 8 a\\\n#C BLIFWW OUT 32 8 y\n",
+        items: ITEMS,
+        said: b"Names",
+    },
+    Case {
+        table: b"#C BLIFWW 2 P 32 L 32 C 1\n#C BLIFWW IN 0 8 a%0Bc\n#C BLIFWW OUT 32 8 y\n",
+        items: ITEMS,
+        said: b"Names",
+    },
+    Case {
+        table: b"#C BLIFWW 1 P 32 L 32\n#C BLIFWW IN 0 8 y\n#C BLIFWW OUT 32 8 y\n",
+        items: ITEMS,
+        said: b"Names",
+    },
+];
+
+fn answer_said(answer: &Result<Plan, AuditError>) -> &'static [u8] {
+    match answer {
+        Ok(_) => b"circuit",
+        Err(AuditError::NotCircuit(CircuitFault::Ports)) => b"Ports",
+        Err(AuditError::NotCircuit(CircuitFault::Names)) => b"Names",
+        Err(AuditError::NotCircuit(CircuitFault::Cells)) => b"Cells",
+        Err(AuditError::NoMemory) => b"no memory",
+    }
+}
+
+// What is said of a pattern with a table.
+fn said(alloc: Global, table: &[u8], items: &[u8]) -> Result<&'static [u8], Fail> {
+    let mut text = table.to_vec(alloc)?;
+    text.extend_from_slice(items)?;
+    let pattern = rle_read::read(alloc, &text)?;
+    let ports = port_table::read(alloc, &text, pattern.width, pattern.height)?;
+    Ok(answer_said(&audit(alloc, &pattern, &ports)))
+}
+
+#[test]
+fn patterns_are_circuits_or_not(rt: HostRuntime) -> Result<(), Fail> {
+    for case in CASES {
+        expect(said(rt.alloc(), case.table, case.items)?, case.said)?;
+    }
+    Ok(())
+}
+
+// Plans without ports: each instruction beside the one of its other half, and loops of which one starts with 1.
+const PLANS: &[Written<'static>] = &[
+    Written {
+        lanes: 4,
+        columns: &[
+            &[Instr::Swap(0), Instr::Fork(2)],
+            &[Instr::Xor(1)],
+            &[Instr::Or(0), Instr::AndNot(2)],
+            &[],
+        ],
+        latches: 0,
+        starts: &[],
+        ins: &[],
+        outs: &[],
+        nets: &[],
+    },
+    BARE,
+];
+
+// Whether a plan was answered that has these columns and starts.
+fn is_plan(answer: &Result<Plan, AuditError>, plan: &Plan) -> bool {
+    let Ok(read) = answer else {
+        return false;
+    };
+    let same = read
+        .columns
+        .as_slice()
+        .iter()
+        .zip(plan.columns.as_slice())
+        .all(|(a, b)| a.instrs.as_slice() == b.instrs.as_slice());
+    same && read.columns.len() == plan.columns.len()
+        && read.starts.list.as_slice() == plan.starts.list.as_slice()
+}
+
+// Whether the drawing of a plan without ports is read as the plan.
+fn is_read_again(alloc: Global, written: &Written<'_>) -> Result<bool, Fail> {
+    let plan = admitted(alloc, written)?;
+    let ports = Ports {
+        p: period(&plan),
+        l: latency(&plan),
+        c: 1,
+        ins: List::of(Vec::new(alloc)),
+        outs: List::of(Vec::new(alloc)),
+        nets: List::of(Vec::new(alloc)),
+    };
+    let pattern = pattern_of(alloc, &plan)?;
+    Ok(is_plan(&audit(alloc, &pattern, &ports), &plan))
+}
+
+#[test]
+fn drawings_are_read_as_their_plans(rt: HostRuntime) -> Result<(), Fail> {
+    for written in PLANS {
+        assert!(rt; is_read_again(rt.alloc(), written)?);
+    }
+    Ok(())
+}

@@ -1,0 +1,4 @@
+pub mod Starts
+pub mod PortNames
+pub mod Lifted
+pub mod Drawings

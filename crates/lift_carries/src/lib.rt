@@ -1,0 +1,47 @@
+//! A text that spells the drawing of a plan carries the netlist that is lifted of it; and what is compiled for one context
+//! is written as such a text.
+//!
+//! The functions here do nothing: their clauses are the laws.
+//!
+//! Theorem: `lifts_carry`, `compiled_are_drawings`, `one_context_is_circuit`, `circuits_start_one_context`.
+#![tactic(auto)]
+
+ghost use Rattle.lift_carries.specs.Compiled.{CircuitsStartOneContext, CompiledAreDrawings, OneContextIsCircuit};
+ghost use Rattle.lift_carries.specs.Lifts.{LiftsCarry};
+
+use grid_assembly::laws::{keeps_law, patterns_are_planes};
+use lifted_designs::{lifted_have_runs, lists_compute};
+use pattern_writing::written_text_reads;
+use plan_ports::tables_are_readable;
+use port_table::laws::tables_are_sound;
+use tile_library::Shipped;
+
+/// A text that spells the drawing of a plan carries the netlist of the plan's cells, with the names of the ports in the text.
+pub fn lifts_carry()
+    ensures { LiftsCarry }
+{
+    keeps_law(&Shipped);
+    patterns_are_planes();
+    tables_are_sound();
+    lists_compute();
+    lifted_have_runs();
+}
+
+/// An admissible plan without a tape that starts one context starts only where its loops enter the columns.
+pub fn one_context_is_circuit()
+    ensures { OneContextIsCircuit }
+{}
+
+/// Where electrons stand only where loops enter the columns, a plan starts one context.
+pub fn circuits_start_one_context()
+    ensures { CircuitsStartOneContext }
+{}
+
+/// The text that is written of what is compiled for one context spells the drawing of the plan.
+pub fn compiled_are_drawings()
+    ensures { CompiledAreDrawings }
+{
+    patterns_are_planes();
+    written_text_reads();
+    tables_are_readable();
+}

@@ -1,0 +1,9 @@
+pub mod Blocks
+pub mod Circuit
+pub mod Equations
+pub mod Sizes
+pub mod Names
+pub mod Faults
+pub mod Read
+pub mod Drawn
+pub mod Laws

@@ -1,0 +1,43 @@
+// What the audit answers where it gives no plan.
+ghost use Rattle.std.specs.Prelude.{◌≡◌};
+ghost use Rattle.tile_match.specs.declared.error.AuditError.TheVariants.{NoMemory};
+
+use std::alloc::{AllocError, AllocFailed};
+use thiserror::Error;
+
+/// Why a pattern with a port table is no circuit: the first that holds.
+#[derive(Clone, Copy, Debug, PartialEq, Eq)]
+pub enum CircuitFault {
+    /// No circuit's plan has the pattern's box, and the table's period, latency and port cells, or the table is that of
+    /// several contexts.
+    Ports,
+    /// A name cannot stand in a netlist's text, or is that of an input and of an output.
+    Names,
+    /// None of those plans draws the pattern.
+    Cells,
+}
+
+/// Why there is no plan.
+#[derive(Clone, Copy, Debug, Error)]
+pub enum AuditError {
+    #[error("not a circuit")]
+    NotCircuit(CircuitFault),
+    #[error("out of memory")]
+    NoMemory,
+}
+
+impl From<AllocError> for AuditError {
+    ghost from_gives = { λ _ e. e ≡ NoMemory };
+
+    fn from(_: AllocError) -> Self {
+        AuditError::NoMemory
+    }
+}
+
+impl<T: Drop> From<AllocFailed<T>> for AuditError {
+    ghost from_gives = { λ _ e. e ≡ NoMemory };
+
+    fn from(_: AllocFailed<T>) -> Self {
+        AuditError::NoMemory
+    }
+}
