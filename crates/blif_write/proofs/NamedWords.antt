@@ -1,5 +1,5 @@
 -- The words of lifted lines are words of a text, where the names of ports are.
-use Rattle.std.proofs.Common.{◌≡◌, refl, ap, ap₂, ◌∙◌, ℕ, zero, suc, ◌+◌, ◌<◌, ◌≤◌, ◌^◌, Bool, true, false, ◌&&◌, ◌||◌, not, List, [], ◌∷◌, ◌++◌, map, length, get_or, replicate, arith, true≢false, sym}
+use Rattle.std.proofs.Common.{◌≡◌, refl, ap, ap₂, ◌∙◌, ℕ, zero, suc, ◌+◌, ◌<◌, ◌≤◌, ◌^◌, Bool, true, false, ◌&&◌, ◌||◌, not, List, [], ◌∷◌, ◌++◌, map, length, replicate, arith, true≢false, sym}
 use Rattle.std.specs.Prelude.{codes, decimal, nat_le, ◌==◌}
 use Rattle.std.specs.List.{list_all, list_any}
 use Rattle.std.specs.Char.{is_ascii_digit}
@@ -17,9 +17,9 @@ use Rattle.cell_core.specs.declared.cells.Cell.{Cell}
 use Rattle.cell_core.specs.declared.cells.Cell.TheVariants.{Or, Xor, AndNot}
 use Rattle.cell_core.specs.declared.list.CellList.{CellList}
 use Rattle.cell_core.specs.Sources.{is_there, reads_there, are_in_order, are_there}
-use Rattle.lifted_designs.specs.Names.{mark, most_leading, zero_name, loop_name, gate_name, source_name}
+use Rattle.lifted_designs.specs.Names.{most_leading, zero_name, loop_name, gate_name, source_name}
 use Rattle.lifted_designs.specs.Lifted.{cell_rows, first_of, second_of, line_past_cells}
-use Rattle.lifted_lines.specs.Lines.{worded_line, row, rows_then, cell_lines, lines_of_outputs, start_word, latch_lines, lines_after_ports, lines_with_mark, lifted_lines}
+use Rattle.lifted_lines.specs.Lines.{worded_line, row, rows_then, cell_lines, lines_of_outputs, start_word, latch_lines, lines_with_mark, lifted_lines}
 use Rattle.lifted_lines.specs.Words.{ends_word, ends_well, is_word, is_line}
 
 -- a byte that neither ends a word nor is a `\`

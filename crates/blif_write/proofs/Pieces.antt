@@ -1,6 +1,6 @@
 -- What is left of the text of lines, piece by piece.
 use Rattle.std.proofs.Common.{◌≡◌, refl, sym, ap, ap₂, ◌∙◌, ℕ, suc, ◌+◌, ◌-◌, ◌<◌, ◌≤◌, Bool, List, [], ◌∷◌, ◌++◌, map, drop, length, replicate, arith, append_assoc, drop_of_length-le}
-use Rattle.std.specs.Prelude.{Option, Some, slice_get, codes}
+use Rattle.std.specs.Prelude.{Some, slice_get, codes}
 use Rattle.std.proofs.Math.Numerals.{add-one}
 use Rattle.std.proofs.lemmas.List.{drop_more}
 use Rattle.std.proofs.lemmas.Option.{slice_get_within, get_or_from_slice_get}

@@ -110,8 +110,8 @@ fn work<S: Source, O: Sink>(
 /// least one, and for 6 for each latch. 5: `src` failed. 6: `out` or `err` failed. 7: there was not enough memory. 8:
 /// the text is no pattern's, or its port table is at fault. 9: the words are no streams for the inputs, or no starts
 /// for the latches, or the table has no net as asked for. 10: an injection is due at a cell that is no conductor then.
-/// 12: the pattern with its port table is the drawing of no circuit, or has a name that a netlist's text cannot have.
-/// Of several the first is answered: 2, 5, 4 (the text); then of a netlist 1 (lines and models), 4 (the weight), 1
+/// 12: the pattern with its port table is the drawing of no circuit, or has names that no netlist's ports can have. Of
+/// several the first is answered: 2, 5, 4 (the text); then of a netlist 1 (lines and models), 4 (the weight), 1
 /// (clocks), 3, of an AIGER circuit 1, 4 (the weight), 3, and of a pattern 8 (the header), 4 (the box), 8 (the items),
 /// 8 (the table); then 9 (words), 9 (the net), 4 (generations), 10, 4 (contexts), 12, 6. With each but 0 and 6 one line
 /// on `err` tells it, and nothing is on `out`.

@@ -61,6 +61,20 @@ const CASES: &[Case] = &[
         outs: &[b"__"],
         text: b".model lifted\n.inputs _z a\\b\n.outputs __\n.names ___z\n.names _z a\\b ___g0\n10 1\n01 1\n.names ___g0 __\n1 1\n.end\n",
     },
+    // an input at two outputs, with names of other signs
+    Case {
+        written: Written {
+            inputs: 1,
+            cells: &[],
+            outs: &[Src::Input(0), Src::Input(0)],
+            latches: &[],
+            starts: &[],
+            nets: &[],
+        },
+        ins: &[b"a=b"],
+        outs: &[b".names", b"y\\1"],
+        text: b".model lifted\n.inputs a=b\n.outputs .names y\\1\n.names _z\n.names a=b .names\n1 1\n.names a=b y\\1\n1 1\n.end\n",
+    },
     // two loops, each of which reads the other
     Case {
         written: Written {

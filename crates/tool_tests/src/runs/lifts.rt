@@ -27,6 +27,11 @@ const LIFTS: &[(&[u8], &[u8])] = &[
         b"x = 0, y = 0, rule = WireWorld\n!\n",
         b".model lifted\n.inputs\n.outputs\n.names _z\n.end\n",
     ),
+    // Two gates, one below the other, of whatever hand.
+    (
+        b"#C BLIFWW 2 P 32 L 32 C 1\n#C BLIFWW IN 0 8 a\n#C BLIFWW IN 0 24 b\n#C BLIFWW IN 0 40 c\n#C BLIFWW IN 0 56 d\n#C BLIFWW OUT 32 8 y\n#C BLIFWW OUT 32 40 z\nx = 33, y = 64, rule = WireWorld\n8$5C18.10C$5.C16.C$6.C14.C$7.C12.C$8.C10.C$9.C.2C5.C$10.2C.C3.C$11.2C.\nC.C$15.C$11.2C.C$10.2C.C$9.C.2C$8.C$7.C$6.C$5.C$5C26.C16$5C18.10C$5.C16.C$6.C14.C$7.C12.C$8.C10.C$9.C.2C5.C$10.2C.C3.C$11.2C.\nC.C$15.C$11.2C.C$10.2C.C$9.C.2C$8.C$7.C$6.C$5.C$5C26.C!\n",
+        b".model lifted\n.inputs a b c d\n.outputs y z\n.names _z\n.names a b _g0\n1- 1\n-1 1\n.names c d _g1\n1- 1\n-1 1\n.names _g0 y\n1 1\n.names _g1 z\n1 1\n.end\n",
+    ),
 ];
 
 #[test]
@@ -65,10 +70,15 @@ const LINES: &[&[u8]] = &[
     b"5C26.C!\n",
 ];
 
-// The gate's text with another line.
-fn changed(alloc: Global, number: usize, line: &[u8]) -> Result<Vec<u8>, AllocError> {
+// A text of these lines with another one in the place of a line.
+fn changed(
+    alloc: Global,
+    lines: &[&[u8]],
+    number: usize,
+    line: &[u8],
+) -> Result<Vec<u8>, AllocError> {
     let mut text = Vec::new(alloc);
-    for (i, kept) in LINES.iter().enumerate() {
+    for (i, kept) in lines.iter().enumerate() {
         let part = if i == number { line } else { *kept };
         push_all(&mut text, &[part])?;
     }
@@ -139,7 +149,7 @@ const REFUSED: &[(usize, &[u8], u8, &[u8])] = &[
 fn what_is_no_drawing_is_refused(rt: HostRuntime) -> Result<(), Fail> {
     let alloc = rt.alloc();
     for (number, line, status, told) in REFUSED {
-        let text = changed(alloc, *number, line)?;
+        let text = changed(alloc, LINES, *number, line)?;
         expect_run(alloc, LIFT, &text, *status, b"", told)?;
     }
     Ok(())
@@ -147,7 +157,6 @@ fn what_is_no_drawing_is_refused(rt: HostRuntime) -> Result<(), Fail> {
 
 // Lines, what stands in their place, and what is lifted.
 const NAMED: &[(usize, &[u8], &[u8])] = &[
-    (99, b"", LIFTED),
     (
         1,
         b"#C BLIFWW IN 0 8 a\\b\n",
@@ -174,9 +183,86 @@ const NAMED: &[(usize, &[u8], &[u8])] = &[
 fn ports_keep_their_names(rt: HostRuntime) -> Result<(), Fail> {
     let alloc = rt.alloc();
     for (number, line, netlist) in NAMED {
-        let text = changed(alloc, *number, line)?;
+        let text = changed(alloc, LINES, *number, line)?;
         let got = written(alloc, LIFT, &text)?;
         assert!(rt; got.as_slice() == *netlist, "line {number}");
+    }
+    Ok(())
+}
+
+// Two loops that feed each other, the first of which starts with 1, line by line.
+const RING: &[&[u8]] = &[
+    b"#C BLIFWW 2 P 384 L 64 C 1\n",
+    b"#C BLIFWW OUT 128 8 q\n",
+    b"x = 193, y = 80, rule = WireWorld\n",
+    b"5$85.2C$67.19C.C11.C$66.C18.2C.2C8.C.C$64.2C23.9C3.28C$66.C18.2C.2C8.C\n",
+    b"$67.C16.2C.C11.C$68.C14.C.2C13.C$69.C12.C18.C$70.C.2C7.C20.C\n",
+    b"$71.2C.C5.C22.C$72.2C.2C2.C24.C$76.3C26.C$72.2C.2C2.C26.C\n",
+    b"$71.2C.C5.C26.C$70.C.2C7.C26.C$69.C12.C26.C$68.C14.C.2C23.C\n",
+    b"$67.C16.2C.C23.C$66.C18.2C.2C22.C\n",
+    b"$10.53CBAC23.8C16.70C\n",
+    b"$9.C56.C18.2C.2C93.C$10.4C53.19C.C92.3C$14.C70.2C92.C$15.C162.C\n",
+    b"$16.C160.C$16.C159.C$16.C159.C$16.C159.C$16.C159.C$17.9C151.9C\n",
+    b"$26.C159.C$17.9C151.9C$16.C159.C$16.C159.C$16.C159.C\n",
+    b"$16.C25.109C25.C\n",
+    b"$16.C24.C109.C24.C$16.C25.4C102.3C25.C$16.C29.C100.C28.C\n",
+    b"$16.C30.C98.C29.C\n",
+    b"$16.C31.C96.C30.C\n",
+    b"$16.C31.C95.C31.C$16.C31.C95.C31.C$16.C31.C95.C31.C$16.C31.C95.C31.C\n",
+    b"$17.9C22.C96.C31.9C$26.C20.C98.C39.C$17.9C20.C100.C29.9C\n",
+    b"$16.C28.C59.2C41.C27.C$16.C25.3C59.C.19C24.2C25.C\n",
+    b"$16.C24.C60.2C.2C18.C25.C24.C\n",
+    b"$16.C25.61C23.25C25.C\n",
+    b"$16.C85.2C.2C18.C50.C$16.C87.C.2C16.C51.C$16.C88.2C.C14.C52.C\n",
+    b"$16.C92.C12.C53.C$16.C93.C7.2C.C54.C$16.C94.C5.C.2C55.C\n",
+    b"$16.C95.C2.2C.2C56.C\n",
+    b"$16.C96.3C60.C\n",
+    b"$16.C95.C2.2C.2C56.C$16.C94.C5.C.2C56.C$15.C94.C7.2C.C56.C\n",
+    b"$14.C94.C12.C56.C$13.C91.2C.C14.C56.C$10.3C91.C.2C16.C56.2C\n",
+    b"$9.C92.2C.2C18.C57.C\n",
+    b"$10.93C23.57C\n",
+    b"$102.2C.2C18.C$104.C.19C$105.2C!\n",
+];
+
+// Lines of it, what stands in their place, the status, and what is written and told.
+const TURNED: &[(usize, &[u8], u8, &[u8], &[u8])] = &[
+    (0, b"#C BLIFWW 2 P 32 L 64 C 1\n", 12, b"", PORTS),
+    (0, b"#C BLIFWW 2 P 256 L 64 C 1\n", 12, b"", PORTS),
+    (1, b"#C BLIFWW OUT 128 24 q\n", 12, b"", PORTS),
+    (1, b"#C BLIFWW OUT 192 8 q\n", 12, b"", PORTS),
+    (2, b"x = 193, y = 96, rule = WireWorld\n", 12, b"", CELLS),
+    (2, b"x = 193, y = 81, rule = WireWorld\n", 12, b"", PORTS),
+    (
+        8,
+        b"$10.56C23.8C16.70C\n",
+        0,
+        b".model lifted\n.inputs\n.outputs q\n.names _z\n.latch _q1 _q0 0\n.latch _q0 _q1 0\n.names _q0 q\n1 1\n.end\n",
+        b"",
+    ),
+    (8, b"$10.54CAC23.8C16.70C\n", 12, b"", CELLS),
+    (8, b"$10.53CB2C23.8C16.70C\n", 12, b"", CELLS),
+    (8, b"$10.40CBA11CBAC23.8C16.70C\n", 12, b"", CELLS),
+    (
+        12,
+        b"$16.C25.21CBA86C25.C\n",
+        0,
+        b".model lifted\n.inputs\n.outputs q\n.names _z\n.latch _q1 _q0 1\n.latch _q0 _q1 1\n.names _q0 q\n1 1\n.end\n",
+        b"",
+    ),
+    (12, b"$16.C25.108C26.C\n", 12, b"", CELLS),
+    (15, b"$16.C31.C96.C\n", 12, b"", CELLS),
+    (20, b"$16.C25.30CA30C23.25C25.C\n", 12, b"", CELLS),
+    (24, b"$16.C96.2C61.C\n", 12, b"", CELLS),
+    (28, b"$10.92C24.57C\n", 12, b"", CELLS),
+];
+
+#[test]
+fn loops_are_lifted_cell_by_cell(rt: HostRuntime) -> Result<(), Fail> {
+    let alloc = rt.alloc();
+    for (number, line, status, out, told) in TURNED {
+        let text = changed(alloc, RING, *number, line)?;
+        let ending = (*status, *out, *told);
+        expect_run_over(alloc, LIFT, &text, (64, &[]), (999, 99), ending)?;
     }
     Ok(())
 }

@@ -1,4 +1,4 @@
-use Rattle.std.proofs.Common.{◌≡◌, sym, ap, ◌∙◌, max, length}
+use Rattle.std.proofs.Common.{sym, ap, ◌∙◌, max, length}
 use Rattle.std.proofs.lemmas.List.{length-map}
 use Rattle.pattern_reading.specs.Ports.{names_of}
 use Rattle.plan_cells.specs.Lifted.{source_on, lift_columns, entry_lanes}

@@ -1,14 +1,9 @@
-use Rattle.std.proofs.Common.{◌≡◌, ◌≤◌, ◌+◌, ℕ, List, [], ◌∷◌, ◌++◌, drop, length, ap, sym, ◌∙◌, arith}
-use Rattle.std.specs.Prelude.{Some, slice_get, codes, option_map}
+use Rattle.std.proofs.Common.{◌≤◌, ◌+◌, ℕ, [], drop, length, arith}
 use Rattle.std.proofs.lemmas.Result.{on_ok_weaker, on_err_weaker}
-use Rattle.std.proofs.lemmas.Option.{slice_get-map}
-use Rattle.std.proofs.lemmas.List.{length-map}
 use Rattle.lists.proofs.Results.{on_err}
 use Rattle.ww_base.specs.Pages.{held}
-use Rattle.ww_base.proofs.Steps.{wrote_then, wrote_broke, wrote_to, wrote_as, broke_as}
-use Rattle.blif_text.specs.declared.logical.Logical.{Logical}
-use Rattle.lifted_lines.specs.Lines.{worded_line, row, rows_then, cell_lines, latch_lines, lines_of_outputs}
-use Rattle.blif_write.specs.Text.{worded_text}
+use Rattle.ww_base.proofs.Steps.{wrote_then, wrote_broke, wrote_to}
+use Rattle.lifted_lines.specs.Lines.{lines_of_outputs}
 use Rattle.blif_write.specs.Words.{mark_in}
 use Rattle.blif_write.proofs.Pieces as pieces
 use Rattle.blif_write.proofs.netlist.write_outputs.Goals as goal

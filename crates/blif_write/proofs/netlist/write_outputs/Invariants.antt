@@ -1,7 +1,6 @@
-use Rattle.std.proofs.Common.{ℕ, List, ◌++◌, drop}
+use Rattle.std.proofs.Common.{ℕ, ◌++◌, drop}
 use Rattle.ww_base.specs.Pages.{held}
 use Rattle.ww_base.specs.Progress.{Wrote}
-use Rattle.blif_text.specs.declared.logical.Logical.{Logical}
 use Rattle.lifted_lines.specs.Lines.{lines_of_outputs}
 use Rattle.blif_write.specs.Text.{worded_text}
 use Rattle.blif_write.specs.Words.{mark_in}

@@ -1,14 +1,9 @@
-use Rattle.std.proofs.Common.{◌≡◌, ◌+◌, ℕ, List, [], ◌∷◌, ◌++◌, length}
-use Rattle.std.specs.Prelude.{codes}
+use Rattle.std.proofs.Common.{◌+◌, [], length}
 use Rattle.std.proofs.lemmas.Result.{on_ok_weaker, on_err_weaker}
 use Rattle.lists.proofs.Results.{on_err}
 use Rattle.ww_base.specs.Pages.{held}
 use Rattle.ww_base.proofs.Steps.{wrote_then, wrote_broke, wrote_as, wrote_whole, broke_as, front_of, broke_cause, cause_of}
-use Rattle.blif_text.specs.declared.logical.Logical.{Logical}
-use Rattle.lifted_designs.specs.Names.{zero_name}
 use Rattle.lifted_designs.specs.Lifted.{line_past_cells}
-use Rattle.lifted_lines.specs.Lines.{worded_line}
-use Rattle.blif_write.specs.Words.{mark_in}
 use Rattle.blif_write.proofs.Pieces.{output_lines, gate_lines, loop_lines, text_start}
 use Rattle.blif_write.proofs.text.write.Goals as goal
 
