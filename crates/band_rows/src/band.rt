@@ -11,6 +11,8 @@ use crate::span::Span;
 /// The next generation of rows, where the heads of the rows before and after them are known, and spans beyond which these
 /// have none. `lit` marks the rows that may be lit: these and the rows next to them are stepped, and no other is looked at.
 /// `near` holds anything.
+// It stands apart, so that its loop has the registers for itself.
+#[inline(never)]
 pub fn step_band(
     rows: &mut [Row],
     lit: &mut [u64],

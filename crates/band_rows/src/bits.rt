@@ -33,8 +33,8 @@ fn clear_bit(words: &mut [u64], x: usize)
     words[x / 64] &= !(1 << (x % 64));
 }
 
-// Sets the bit of a cell, if asked to, without a branch.
-fn set_bit_if(words: &mut [u64], x: usize, is_asked: bool)
+/// Sets the bit of a cell, if asked to, without a branch.
+pub fn set_bit_if(words: &mut [u64], x: usize, is_asked: bool)
     requires { x / 64 < length words.old }
     ensures long { length words.new ≡ length words.old }
     ensures cells { (k : ℕ) → is_set words.new k ≡ ((k == x && is_asked) || is_set words.old k) }

@@ -60,6 +60,9 @@ impl Kept {
         ensures long { length self.new.heads.items ≡ length self.old.heads.items }
         ensures same { (j : ℕ) → get_or self.new.heads.items j 0 ≡ get_or words.now j 0 }
     {
+        if self.span.is_empty() && span.is_empty() {
+            return;
+        }
         copy_heads(&mut self.heads, self.span, span, words);
         self.span = span;
     }

@@ -211,6 +211,8 @@ impl Row {
     }
 
     // Goes on by one generation, where the row's light and the heads beside it lie in a span.
+    // It stands apart, so that the loop over rows of one lit word stays small.
+    #[inline(never)]
     fn go_on_in_span(&mut self, above: &[u64], below: &[u64], near: Span)
         requires some { near.first < near.end }
         requires within { near.end ≤ length self.old.heads.items }

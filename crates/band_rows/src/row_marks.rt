@@ -4,9 +4,9 @@ ghost use Rattle.lane_kernel.specs.Rows.{is_set};
 ghost use Rattle.lane_kernel.specs.Words.{before, spread_of};
 ghost use Rattle.band_rows.specs.Rows.{AreMarked, IsFar, IsBeside};
 
-use crate::bits::set_bit;
+use crate::bits::set_bit_if;
 use crate::row::Row;
-use lane_kernel::{spread, words_near};
+use lane_kernel::{Near, spread};
 
 /// Marks a row, where it is lit.
 pub fn mark_row(marks: &mut [u64], k: usize, is_lit: bool)
@@ -14,9 +14,7 @@ pub fn mark_row(marks: &mut [u64], k: usize, is_lit: bool)
     ensures long { length marks.new ≡ length marks.old }
     ensures marks { (m : ℕ) → is_set marks.new m ≡ ((m == k && is_lit) || is_set marks.old m) }
 {
-    if is_lit {
-        set_bit(marks, k);
-    }
+    set_bit_if(marks, k, is_lit);
 }
 
 /// Whether no row is marked.
@@ -49,6 +47,14 @@ pub fn next_marked(marks: &[u64], from: usize) -> usize
     64 * marks.len()
 }
 
+// The word after word j, 0 where there is none.
+fn word_after(marks: &[u64], j: usize) -> u64
+    requires { j < length marks.now }
+    ensures { result ≡ get_or marks.now (j + 1) 0 }
+{
+    if j + 1 < marks.len() { marks[j + 1] } else { 0 }
+}
+
 // Marks the rows that are marked in other words, and those next to them.
 fn spread_marks(marks: &[u64], near: &mut [u64])
     requires { length near.old ≡ length marks.now }
@@ -59,8 +65,16 @@ fn spread_marks(marks: &[u64], near: &mut [u64])
         → IsBeside m k
         → is_set marks.now m ≡ false }
 {
+    let mut before = 0;
     for j in 0..near.len() {
-        near[j] = spread(words_near(marks, j));
+        let here = marks[j];
+        let after = word_after(marks, j);
+        near[j] = spread(Near {
+            before,
+            here,
+            after,
+        });
+        before = here;
     }
 }
 

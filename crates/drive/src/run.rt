@@ -22,7 +22,7 @@ use streams::Streams;
 use ww_rule::{Injection, Pattern, State};
 
 /// How many rows a band has at least.
-const LEAST_BAND_ROWS: usize = 256;
+const LEAST_BAND_ROWS: usize = 512;
 
 /// How many rows are marked in one word of a band: its rows are a multiple of them.
 const ROWS_OF_A_WORD: usize = 64;

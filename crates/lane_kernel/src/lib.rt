@@ -12,4 +12,4 @@ mod words;
 pub use one_word::step_one_word;
 pub use rows::step_rows;
 pub use spans::{eastern_end, put_words, stays_within, step_span, western_end};
-pub use words::{spread, words_near};
+pub use words::{Near, spread};

@@ -15,19 +15,19 @@ pub enum Role {
     Gone,
 }
 
-/// A cell, the cells that read it, and how often it is read by cells and ports.
+// A cell, the cells that read it, and how often it is read by cells and ports.
 #[derive(Drop)]
-pub struct Gate {
-    pub cell: Cell,
-    pub readers: Vec<u32>,
-    pub uses: u32,
-    pub role: Role,
+struct Gate {
+    cell: Cell,
+    readers: Vec<u32>,
+    uses: u32,
+    role: Role,
 }
 
 /// The cells of a list, and the readers of its inputs and latches.
 #[derive(Drop)]
 pub struct Network {
-    pub gates: Vec<Gate>,
+    gates: Vec<Gate>,
     inputs: Vec<Vec<u32>>,
     latches: Vec<Vec<u32>>,
     /// Whether constant 1 may be read.
@@ -92,9 +92,14 @@ impl Network {
         Ok(network)
     }
 
+    /// The number of the next cell that is added.
+    pub fn next_number(&self) -> u32 {
+        u32::try_from(self.gates.len()).unwrap_or(u32::MAX)
+    }
+
     /// Adds a cell at the end, and answers its number.
     pub fn add(&mut self, alloc: Global, cell: Cell) -> Result<u32, SearchError> {
-        let number = u32::try_from(self.gates.len()).unwrap_or(u32::MAX);
+        let number = self.next_number();
         self.gates.push(Gate {
             cell,
             readers: Vec::new(alloc),

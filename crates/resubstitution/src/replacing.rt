@@ -37,6 +37,10 @@ enum Most {
     Two,
 }
 
+// The most visits of one round: of cells that go with another, of readers, and of pairs of divisors. What the cell needs at
+// which they are spent comes on top.
+const MOST_VISITS: usize = 1 << 24;
+
 // A search in one round.
 #[derive(Drop)]
 struct Search {
@@ -45,6 +49,7 @@ struct Search {
     round: Round,
     chances: Chances,
     found: Vec<Replacement>,
+    visits_left: usize,
 }
 
 // New cells, and the source that is read in place of a cell.
@@ -125,7 +130,12 @@ impl Search {
             round,
             chances,
             found: Vec::new(alloc),
+            visits_left: MOST_VISITS,
         })
+    }
+
+    fn spend(&mut self, visits: usize) {
+        self.visits_left = self.visits_left.saturating_sub(visits);
     }
 
     // Whether a cell may also be replaced by as many as go.
@@ -150,7 +160,8 @@ impl Search {
             shuffle(&mut divisors, &mut self.chances);
         }
         let most = most_new(gone.len(), is_lucky);
-        let number = u32::try_from(self.network.gates.len()).unwrap_or(u32::MAX);
+        self.spend(divisors.len().saturating_mul(divisors.len()));
+        let number = self.network.next_number();
         made_of(alloc, divisors, word, own, most, number)
     }
 
@@ -216,11 +227,13 @@ impl Search {
         };
         let is_lucky = self.is_lucky();
         let gone = self.network.cone_of(alloc, number)?;
+        self.spend(gone.len());
         if self.round == Round::Wander && !is_lucky && gone.len() < 2 {
             return Ok(());
         }
         let cut = Cut::of(alloc, &self.network, number)?;
         self.window.fill(&self.network, &cut, number)?;
+        self.spend(self.window.visits);
         if let Some(made) = self.made(alloc, &cut, &gone, own, is_lucky)? {
             self.take(alloc, number, own, cut, made)?;
         }
@@ -230,6 +243,7 @@ impl Search {
 }
 
 /// The replacements of one round over the cells of a list, in the order in which they are to be made. The kept sources are not replaced.
+/// A round ends early where it has made 16.8 million visits, of cells or of pairs of them.
 pub fn replacements(
     alloc: Global,
     list: &CellList,
@@ -240,6 +254,9 @@ pub fn replacements(
     let count = u32::try_from(list.cells.len()).unwrap_or(0);
     let mut search = Search::begin(alloc, list, kept, round, *chances)?;
     for number in 0..count {
+        if search.visits_left == 0 {
+            break;
+        }
         search.replace_cell(alloc, number)?;
     }
     *chances = search.chances;

@@ -17,6 +17,8 @@ pub struct Window {
     pub order: Vec<u32>,
     /// The word of the cell of the cut.
     pub own: Option<u64>,
+    /// How many readers were looked at since the window was cleared.
+    pub visits: usize,
     cell: u32,
 }
 
@@ -37,6 +39,7 @@ impl Window {
             leaves: Vec::new(alloc),
             order: Vec::new(alloc),
             own: None,
+            visits: 0,
             cell: 0,
         })
     }
@@ -152,6 +155,7 @@ impl Window {
     // The words of the cells that read a source.
     fn add_readers(&mut self, network: &Network, src: Src) -> Result<(), SearchError> {
         if let Some(readers) = network.readers(src) {
+            self.visits = self.visits.saturating_add(readers.len());
             for reader in readers {
                 self.add(network, *reader)?;
             }
@@ -200,5 +204,6 @@ impl Window {
             }
         }
         self.own = None;
+        self.visits = 0;
     }
 }
