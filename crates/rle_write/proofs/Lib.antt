@@ -1,3 +1,4 @@
 pub mod ItemBytes
+pub mod ShortItems
 pub mod Tags
 pub mod Lefts

@@ -1,5 +1,5 @@
 // Items on lines.
-ghost use Rattle.std.specs.Prelude.{◌≡◌, ◌≤◌, ◌+◌, ℕ, List, ◌∷◌, ◌++◌, length, OnOk, OnErr};
+ghost use Rattle.std.specs.Prelude.{◌≡◌, ◌≢◌, ◌≤◌, ◌<◌, ◌+◌, ℕ, List, ◌∷◌, ◌++◌, length, OnOk, OnErr};
 ghost use Rattle.pattern_writing.specs.Writer.{count_text, run_text, line_break, used_after};
 ghost use Rattle.rle_write.specs.Left.{line_left};
 ghost use Rattle.ww_base.specs.Pages.{held, column_of};
@@ -11,14 +11,12 @@ use ww_base::{Failed, Page, Sink};
 // The most bytes that a line of items has.
 const LINE: usize = 70;
 
-// The digits of a count, if it is not 1.
+// The digits of a count that is not 1.
 fn count_digits(buffer: &mut Buffer, count: usize) -> &str
+    requires { count ≢ 1 }
     ensures text { result.now ≡ count_text count }
     ensures short { length result.now ≤ 40 }
 {
-    if count == 1 {
-        return "";
-    }
     buffer.format(count)
 }
 
@@ -43,13 +41,26 @@ fn break_line<O: Sink>(sink: &mut O, page: &mut Page, size: usize) -> Result<(),
     Ok(())
 }
 
-/// Puts an item on the line, or on the next where it does not fit.
-pub fn write_item<O: Sink>(
-    sink: &mut O,
-    page: &mut Page,
-    count: usize,
-    tag: u8,
-) -> Result<(), Failed>
+// Puts the bytes of an item on the line, or on the next where they do not fit.
+fn write_bytes<O: Sink>(sink: &mut O, page: &mut Page, item: &[u8]) -> Result<(), Failed>
+    requires { length item.now ≤ 41 }
+    ensures ok { OnOk result ((items : List (List ℕ)) →
+        Wrote (O.written sink.old) (O.written sink.new) (O.faults sink.old) (O.faults sink.new)
+        (line_left (held page.old) (column_of page.old) (item.now ∷ items))
+        (line_left (held page.new) (column_of page.new) items)) }
+    ensures err { OnErr result ((items : List (List ℕ)) →
+        Broke (O.written sink.old) (O.written sink.new) (O.faults sink.old) (O.faults sink.new)
+        (line_left (held page.old) (column_of page.old) (item.now ∷ items))) }
+{
+    break_line(sink, page, item.len())?;
+    page.put(sink, item)?;
+    page.advance(item.len());
+    Ok(())
+}
+
+// Puts an item whose count has more than two digits.
+fn write_long<O: Sink>(sink: &mut O, page: &mut Page, count: usize, tag: u8) -> Result<(), Failed>
+    requires { 100 ≤ count }
     ensures ok { OnOk result ((items : List (List ℕ)) →
         Wrote (O.written sink.old) (O.written sink.new) (O.faults sink.old) (O.faults sink.new)
         (line_left (held page.old) (column_of page.old) (run_text (record { count = count; tag = tag }) ∷ items))
@@ -66,4 +77,38 @@ pub fn write_item<O: Sink>(
     page.put(sink, &[tag])?;
     page.advance(size);
     Ok(())
+}
+
+// A decimal digit.
+fn digit(number: usize) -> u8
+    requires { number < 10 }
+    ensures { result ≡ 48 + number }
+{
+    b'0' + number as u8
+}
+
+/// Puts an item on the line, or on the next where it does not fit. The bytes of a short one are put at once.
+pub fn write_item<O: Sink>(
+    sink: &mut O,
+    page: &mut Page,
+    count: usize,
+    tag: u8,
+) -> Result<(), Failed>
+    ensures ok { OnOk result ((items : List (List ℕ)) →
+        Wrote (O.written sink.old) (O.written sink.new) (O.faults sink.old) (O.faults sink.new)
+        (line_left (held page.old) (column_of page.old) (run_text (record { count = count; tag = tag }) ∷ items))
+        (line_left (held page.new) (column_of page.new) items)) }
+    ensures err { OnErr result ((items : List (List ℕ)) →
+        Broke (O.written sink.old) (O.written sink.new) (O.faults sink.old) (O.faults sink.new)
+        (line_left (held page.old) (column_of page.old) (run_text (record { count = count; tag = tag }) ∷ items))) }
+{
+    if count == 1 {
+        write_bytes(sink, page, &[tag])
+    } else if count < 10 {
+        write_bytes(sink, page, &[digit(count), tag])
+    } else if count < 100 {
+        write_bytes(sink, page, &[digit(count / 10), digit(count % 10), tag])
+    } else {
+        write_long(sink, page, count, tag)
+    }
 }

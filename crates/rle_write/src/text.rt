@@ -19,11 +19,11 @@ use port_writing::write_table;
 use ww_base::{Failed, Page, Sink};
 
 // The most blocks of a lane that are kept for its rows: 32 columns of cells each.
-const KEPT: usize = 4096;
+const KEPT: usize = 1024;
 
 // How many blocks are kept of a drawing of this width.
 fn kept_blocks(width: u64) -> usize
-    ensures { result ≤ 4096 }
+    ensures { result ≤ 1024 }
 {
     (width / 32 + 1).min(KEPT as u64) as usize
 }
