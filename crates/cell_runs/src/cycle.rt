@@ -1,0 +1,154 @@
+// The bits of a list of cells, cycle by cycle.
+ghost use Rattle.std.specs.Prelude.{◌≡◌, ◌<◌, All, false, get_or, length, map, IfOk, OnOk};
+ghost use Rattle.cell_core.specs.Meaning.{source_bit, cell_bit, cell_bits, bit_of};
+ghost use Rattle.streams.specs.Rows.{bits_across};
+
+use cell_core::{Cell, CellList, Src};
+use lists::List;
+use std::alloc::{AllocError, Global};
+use std::mem;
+
+/// The bits of inputs, latches and cells in a cycle, and room for those that the latches have next.
+#[derive(Drop)]
+pub struct CycleBits {
+    row: Vec<bool>,
+    state: Vec<bool>,
+    made: Vec<bool>,
+    next: Vec<bool>,
+}
+
+// The bit of that number, and 0 where there is none.
+fn bit_at(bits: &[bool], number: u32) -> bool
+    ensures { result ≡ get_or bits.now number false }
+{
+    match bits.get(number as usize) {
+        Some(bit) => *bit,
+        None => false,
+    }
+}
+
+// The bit of a source, where the inputs, the latches and the first cells have these bits.
+fn source_bit(row: &[bool], state: &[bool], made: &[bool], source: Src) -> bool
+    ensures { result ≡ source_bit row.now state.now made.now source }
+{
+    match source {
+        Src::Input(number) => bit_at(row, number),
+        Src::Latch(number) => bit_at(state, number),
+        Src::One => true,
+        Src::Zero => false,
+        Src::Cell(number) => bit_at(made, number),
+    }
+}
+
+// The bit that a cell makes of them.
+fn cell_bit(row: &[bool], state: &[bool], made: &[bool], cell: Cell) -> bool
+    ensures { result ≡ cell_bit row.now state.now made.now cell }
+{
+    let bit = |source| source_bit(row, state, made, source);
+    match cell {
+        Cell::Or(a, b) => bit(a) || bit(b),
+        Cell::Xor(a, b) => bit(a) != bit(b),
+        Cell::AndNot(a, b) => bit(a) && !bit(b),
+    }
+}
+
+// Puts the bits of the inputs in a cycle in the place of others.
+fn put_row(streams: &[List<bool>], cycle: usize, row: &mut Vec<bool>) -> Result<(), AllocError>
+    requires { All (λ bits. cycle < length bits) streams.now }
+    ensures { OnOk result (row.new.items ≡ bits_across streams.now cycle) }
+{
+    row.clear();
+    for bits in streams {
+        row.push(*bits.get(cycle))?;
+    }
+    Ok(())
+}
+
+// Puts the bits of cells, the first of them first, in the place of others.
+fn put_cells(
+    cells: &[Cell],
+    row: &[bool],
+    state: &[bool],
+    made: &mut Vec<bool>,
+) -> Result<(), AllocError>
+    ensures { OnOk result (made.new.items ≡ cell_bits row.now state.now cells.now) }
+{
+    made.clear();
+    for cell in cells {
+        let bit = cell_bit(row, state, made, *cell);
+        made.push(bit)?;
+    }
+    Ok(())
+}
+
+// Puts the bits of sources in the place of others.
+fn put_sources(
+    sources: &[Src],
+    row: &[bool],
+    state: &[bool],
+    made: &[bool],
+    bits: &mut Vec<bool>,
+) -> Result<(), AllocError>
+    ensures { OnOk result (bits.new.items ≡ map (source_bit row.now state.now made.now) sources.now) }
+{
+    bits.clear();
+    for source in sources {
+        bits.push(source_bit(row, state, made, *source))?;
+    }
+    Ok(())
+}
+
+impl CycleBits {
+    /// The latches have the bits with which they start.
+    pub fn at_start(alloc: Global, list: &CellList) -> Result<CycleBits, AllocError>
+        ensures { IfOk result (λ bits. bits.state.items ≡ list.now.starts) }
+    {
+        let state = list.starts.as_slice().to_vec(alloc)?;
+        Ok(CycleBits {
+            row: Vec::new(alloc),
+            state,
+            made: Vec::new(alloc),
+            next: Vec::new(alloc),
+        })
+    }
+
+    /// The bits of the outputs in a cycle. The latches then have their next bits.
+    pub fn run_cycle(
+        &mut self,
+        alloc: Global,
+        list: &CellList,
+        streams: &[List<bool>],
+        cycle: usize,
+    ) -> Result<Vec<bool>, AllocError>
+        requires { All (λ bits. cycle < length bits) streams.now }
+        ensures outs { IfOk result (λ outs.
+            outs.items ≡ map (bit_of list.now (bits_across streams.now cycle) self.old.state.items) list.now.outs) }
+        ensures state { OnOk result (
+            self.new.state.items ≡ map (bit_of list.now (bits_across streams.now cycle) self.old.state.items) list.now.latches) }
+    {
+        let mut outs = Vec::with_capacity(alloc, list.outs.len())?;
+        put_row(streams, cycle, &mut self.row)?;
+        put_cells(
+            list.cells.as_slice(),
+            &self.row,
+            &self.state,
+            &mut self.made,
+        )?;
+        put_sources(
+            list.outs.as_slice(),
+            &self.row,
+            &self.state,
+            &self.made,
+            &mut outs,
+        )?;
+        put_sources(
+            list.latches.as_slice(),
+            &self.row,
+            &self.state,
+            &self.made,
+            &mut self.next,
+        )?;
+        mem::swap(&mut self.state, &mut self.next);
+        Ok(outs)
+    }
+}
