@@ -1,10 +1,9 @@
 //! A law of drawings: the function does nothing, and its contract is the law.
 ghost use Rattle.drawn_runs.specs.Laws.{DrawingsShowTheirLists};
 
-use cell_runs::laws::lists_run_as_designs;
+use cell_runs::lists_run_as_designs;
 use lift_carries::lifts_carry;
 use lifted_designs::lists_compute;
-use pattern_laws::{pattern_laws, port_laws};
 use pattern_writing::written_text_reads;
 use shown_runs::{carriers_are_quiet, carriers_show_runs};
 
@@ -14,8 +13,6 @@ pub fn drawings_show_their_lists()
     ensures { DrawingsShowTheirLists }
 {
     written_text_reads();
-    pattern_laws();
-    port_laws();
     lifts_carry();
     lists_compute();
     lists_run_as_designs();

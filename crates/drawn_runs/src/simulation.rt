@@ -1,68 +1,93 @@
 // The bits that a pattern shows, by its cells where it is a circuit's drawing.
-ghost use Rattle.std.specs.Prelude.{◌≡◌, ◌<◌, ◌≤◌, ◌×◌, IfOk, IfErr, OnOk, None, Some};
-ghost use Rattle.ww_rule.specs.Grid.{AreInBox, plane_of};
+ghost use Rattle.std.specs.Prelude.{◌≡◌, ◌<◌, ◌≤◌, ◌^◌, ⊤, length, IfOk, IfErr, OnOk, IsTrue, MatchOption, None};
+ghost use Rattle.ww_rule.specs.Grid.{plane_of};
 ghost use Rattle.ww_rule.specs.Patterns.{grid_of};
-ghost use Rattle.lane_core.specs.declared.plan.Plan as plan_of;
-ghost use Rattle.cell_core.specs.declared.list.CellList as list_of;
-ghost use Rattle.pattern_reading.specs.Ports.{cells_of};
+ghost use Rattle.lane_core.specs.Plans.{IsAdmissible};
 ghost use Rattle.pattern_reading.specs.Laws.{HasCellsInside};
 ghost use Rattle.pattern_reading.specs.SoundTable.{IsSoundTable};
 ghost use Rattle.drive.specs.Driving.{AreFor, first_miss, shown_bits, greatest_generation, last_generation, HasSimulateCause};
-ghost use Rattle.drawn_runs.specs.Laws.{IsListDrawn};
+ghost use Rattle.plan_cells.specs.Lists.{IsListOf};
+ghost use Rattle.drawn_runs.specs.Laws.{DrawsList};
 
+use crate::laws::drawings_show_their_lists;
 use cell_core::CellList;
 use drive::{GREATEST_GENERATION, SimulateError};
+use lane_core::Plan;
 use lists::List;
 use pattern_reading::Ports;
-use plan_cells::cells_of;
+use plan_cells::{LiftError, cells_of};
 use std::alloc::{AllocError, Global};
 use streams::Streams;
 use tile_match::{AuditError, audit};
 use ww_rule::Pattern;
 
-// A generation takes as long as so many cells of a box in the audit.
+// So many cells of a pattern are looked at in the time of one generation.
 const CELLS_A_GENERATION: u128 = 32;
 
-// The generation of the last bits that outputs show.
-fn last_generation(ports: &Ports, streams: &Streams) -> u128
-    requires cycles { 0 < streams.now.cycles }
-    requires streams { AreFor ports.now streams.now }
-    ensures { result ≡ last_generation ports.now streams.now }
-{
-    ports.l as u128
-        + 32 * (ports.c as u128 - 1)
-        + (streams.cycles as u128 - 1) * ports.p as u128
-}
-
-// Whether a run takes longer than an audit of the pattern, and goes not too far.
+// Whether there is one context, and its run takes longer than a look at each cell of the pattern, and goes not too far.
 fn pays(pattern: &Pattern, ports: &Ports, streams: &Streams) -> bool
-    requires cycles { 0 < streams.now.cycles }
-    requires streams { AreFor ports.now streams.now }
-    ensures near { IsTrue result → last_generation ports.now streams.now ≤ greatest_generation }
+    requires { 0 < streams.now.cycles }
+    ensures { IsTrue result → last_generation ports.now streams.now ≤ greatest_generation }
 {
-    let last = last_generation(ports, streams);
+    if ports.c != 1 {
+        return false;
+    }
+    let last = ports.l as u128 + (streams.cycles as u128 - 1) * ports.p as u128;
     let cells = pattern.width as u128 * pattern.height as u128;
     last <= GREATEST_GENERATION && cells <= CELLS_A_GENERATION * last
 }
 
-// The cells of the plan that a pattern with its table draws; none where they are no plan's drawing, or a name is bad.
-fn list_drawn(alloc: Global, pattern: &Pattern, ports: &Ports) -> Result<Option<CellList>, SimulateError>
-    requires sound { IsSoundTable ports.now }
-    requires inside { HasCellsInside pattern.now.width pattern.now.height ports.now }
-    ensures { IfOk result (λ found.
-        (list : list_of.CellList) → found ≡ Some list → (plan : plan_of.Plan) × IsListDrawn (grid_of pattern.now) ports.now plan list) }
+fn list_of(alloc: Global, plan: &Plan) -> Result<CellList, AllocError>
+    requires { IsAdmissible plan.now }
+    ensures cells { IfOk result (IsListOf plan.now) }
+    ensures few { IfOk result (λ list. length list.cells < 2 ^ 64) }
 {
-    match audit(alloc, pattern, ports) {
-        Ok(plan) => Ok(Some(cells_of(alloc, &plan)?)),
-        Err(AuditError::NotCircuit(_)) => Ok(None),
-        Err(AuditError::NoMemory) => Err(SimulateError::NoMemory),
+    match cells_of(alloc, plan) {
+        Ok(list) => {
+            let _cells = list.cells.len();
+            Ok(list)
+        }
+        Err(LiftError::NoMemory) => Err(AllocError),
     }
 }
 
-/// The bits that each output of a pattern shows in each context, as `drive::simulate` answers them, where the table is
-/// sound and its cells lie in the box. A pattern that is the drawing of a circuit's plan is not run generation by
-/// generation, where that would take longer than to find out: its cells are evaluated cycle after cycle, and the bits
-/// are the same.
+// The cells of the plan that a pattern with its table draws, and none where that is no plan, or a name is bad.
+fn list_drawn(
+    alloc: Global,
+    pattern: &Pattern,
+    ports: &Ports,
+) -> Result<Option<CellList>, AllocError>
+    ensures { IfOk result (λ found. MatchOption found ⊤ (DrawsList (grid_of pattern.now) ports.now)) }
+{
+    match audit(alloc, pattern, ports) {
+        Ok(plan) => Ok(Some(list_of(alloc, &plan)?)),
+        Err(AuditError::NotCircuit(_)) => Ok(None),
+        Err(AuditError::NoMemory) => Err(AllocError),
+    }
+}
+
+// The cells to run in the pattern's place: those that it draws, where that pays.
+fn list_to_run(
+    alloc: Global,
+    pattern: &Pattern,
+    ports: &Ports,
+    streams: &Streams,
+) -> Result<Option<CellList>, AllocError>
+    requires { 0 < streams.now.cycles }
+    ensures drawn { IfOk result (λ found. MatchOption found ⊤ (DrawsList (grid_of pattern.now) ports.now)) }
+    ensures near { IfOk result (λ found. MatchOption found ⊤ (λ _.
+        last_generation ports.now streams.now ≤ greatest_generation)) }
+{
+    if !pays(pattern, ports, streams) {
+        return Ok(None);
+    }
+    list_drawn(alloc, pattern, ports)
+}
+
+/// The bits that each output of a pattern shows in each context, as `drive::simulate` answers them. A call asks also for a
+/// table that is sound, and whose cells lie in the pattern's box. Where the pattern is the drawing of a circuit's plan, and
+/// its run takes longer than finding that out, no generation is run: the plan's cells are evaluated cycle after cycle, and
+/// the bits are the same.
 pub fn simulate(
     alloc: Global,
     pattern: Pattern,
@@ -80,11 +105,11 @@ pub fn simulate(
     ensures refused { IfErr result (
         HasSimulateCause ports.now streams.now (plane_of pattern.rows) (last_generation ports.now streams.now)) }
 {
-    if !pays(&pattern, ports, streams) {
-        return drive::simulate(alloc, pattern, ports, streams);
-    }
-    match list_drawn(alloc, &pattern, ports)? {
-        Some(list) => Ok(cell_runs::run(alloc, &list, streams)?),
+    match list_to_run(alloc, &pattern, ports, streams)? {
+        Some(list) => {
+            drawings_show_their_lists();
+            Ok(cell_runs::run(alloc, &list, streams)?)
+        }
         None => drive::simulate(alloc, pattern, ports, streams),
     }
 }
