@@ -89,7 +89,8 @@ fn put_sources(
     made: &[bool],
     bits: &mut Vec<bool>,
 ) -> Result<(), AllocError>
-    ensures { OnOk result (bits.new.items ≡ map (source_bit row.now state.now made.now) sources.now) }
+    ensures { OnOk result (
+        bits.new.items ≡ map (source_bit row.now state.now made.now) sources.now) }
 {
     bits.clear();
     for source in sources {
@@ -122,9 +123,11 @@ impl CycleBits {
     ) -> Result<Vec<bool>, AllocError>
         requires { All (λ bits. cycle < length bits) streams.now }
         ensures outs { IfOk result (λ outs.
-            outs.items ≡ map (bit_of list.now (bits_across streams.now cycle) self.old.state.items) list.now.outs) }
+            outs.items
+            ≡ map (bit_of list.now (bits_across streams.now cycle) self.old.state.items) list.now.outs) }
         ensures state { OnOk result (
-            self.new.state.items ≡ map (bit_of list.now (bits_across streams.now cycle) self.old.state.items) list.now.latches) }
+            self.new.state.items
+            ≡ map (bit_of list.now (bits_across streams.now cycle) self.old.state.items) list.now.latches) }
     {
         let mut outs = Vec::with_capacity(alloc, list.outs.len())?;
         put_row(streams, cycle, &mut self.row)?;

@@ -30,15 +30,16 @@ fn output_rows(
     Ok(rows)
 }
 
-/// The bits of each output, cycle after cycle, while the latches begin with their starts, and each input has the bits of
-/// the stream of its number: a call asks for streams of as many bits as there are cycles. An input without a stream has 0.
+/// The bits of each output, cycle after cycle: the latches begin with their starts, and each input has the bits of its
+/// stream. A call asks for streams of as many bits as there are cycles.
 pub fn run(
     alloc: Global,
     list: &CellList,
     streams: &Streams,
 ) -> Result<List<List<bool>>, AllocError>
     requires { All (λ bits. length bits ≡ streams.now.cycles) streams.now.bits }
-    ensures { IfOk result (λ bits. bits ≡ shown_by list.now (rows_of streams.now) streams.now.cycles) }
+    ensures { IfOk result (λ bits.
+        bits ≡ shown_by list.now (rows_of streams.now) streams.now.cycles) }
 {
     let rows = output_rows(alloc, list, streams)?;
     columns_of(alloc, &rows, list.outs.len())
