@@ -1,22 +1,16 @@
 -- A pattern that is the drawing of a plan shows the bits of the plan's cells.
-use Rattle.std.proofs.Common.{◌≡◌, sym, ◌∙◌, ap, ap₂, subst, ◌+◌, ◌*◌, ℕ, List, length, arith}
-use Rattle.std.proofs.lemmas.List.{length-map}
+use Rattle.std.proofs.Common.{◌≡◌, sym, ◌∙◌, ap, ap₂, subst, length, arith}
 use Rattle.std.proofs.lemmas.List.FromFn.{length-map-range_with_len}
 use Rattle.ww_rule.specs.Grid.{Grid, plane_of}
-use Rattle.lane_core.specs.declared.plan.Plan.{Plan}
-use Rattle.cell_core.specs.declared.list.CellList.{CellList}
 use Rattle.pattern_reading.specs.declared.ports.Ports.{Ports}
-use Rattle.pattern_reading.specs.declared.ports.PortLine.{PortLine}
 use Rattle.pattern_reading.specs.Ports.{names_of}
 use Rattle.pattern_reading.specs.Pattern.{ReadsAsPattern}
 use Rattle.pattern_reading.specs.PortTable.{ReadsAsPorts}
 use Rattle.pattern_reading.proofs.PortLaws.{one_table}
 use Rattle.pattern_reading.proofs.RleLaws.{one_pattern}
 use Rattle.pattern_writing.specs.WrittenText.{HasWrittenText, pattern_text}
-use Rattle.netlist_core.specs.declared.model.Design.{Design}
 use Rattle.netlist_meaning.specs.Places.{main_outputs}
 use Rattle.carries.specs.Carries.{Carries}
-use Rattle.streams.specs.declared.streams.Streams.{Streams}
 use Rattle.streams.specs.Rows.{rows_of, stream_row}
 use Rattle.drive.specs.Driving.{AreFor, first_miss, shown_bits}
 use Rattle.shown_runs.specs.ShownRuns.{CarriersShowRuns, OneContextIsQuiet, ShowsEachRun}
@@ -27,7 +21,7 @@ use Rattle.plan_cells.proofs.Whole.{is_plain}
 use Rattle.cell_runs.specs.Runs.{ListsRunAsDesigns}
 use Rattle.lift_carries.specs.Lifts.{LiftsCarry}
 use Rattle.lift_carries.proofs.Lifted.{named_ins, named_outs}
-use Rattle.drawn_runs.specs.Laws.{DrawingsShowTheirLists, IsListDrawn}
+use Rattle.drawn_runs.specs.Laws.{DrawingsShowTheirLists}
 
 pub drawings_show_their_lists : ((grid : Grid) (ports : Ports) → HasWrittenText grid ports) → LiftsCarry → ListsComputeLifted → ListsRunAsDesigns → CarriersShowRuns → OneContextIsQuiet
     → DrawingsShowTheirLists
@@ -77,12 +71,3 @@ drawings_show_their_lists written carry compute as_design show quiet grid table 
 
     many : length (rows_of streams) ≡ streams.cycles
     many = length-map-range_with_len (stream_row streams) 0 streams.cycles
-
--- streams for the table of a drawing have one for each input of the list
-pub one_for_each_input : (grid : Grid) (table : Ports) (plan : Plan) (list : CellList) (streams : Streams) → IsListDrawn grid table plan list → AreFor table streams → length streams.bits ≡ list.inputs
-one_for_each_input grid table plan list streams d for =
-    let once : table.c * length table.ins ≡ 1 * length table.ins = ap (λ c. c * length table.ins) d.drawing.ports.contexts in
-    let one : 1 * length table.ins ≡ length table.ins = omega arith in
-    for.many ∙ once ∙ one
-    ∙ sym (length-map table.ins (λ (line : PortLine). line.name))
-    ∙ named_ins grid.width grid.height table plan d.drawing.ports list d.cells

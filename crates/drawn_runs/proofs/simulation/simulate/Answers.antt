@@ -1,4 +1,4 @@
-use Rattle.std.proofs.Common.{◌≡◌, ◌<◌, ◌^◌, subst, sym, ◌∙◌, arith, ℕ, Some}
+use Rattle.std.proofs.Common.{◌<◌, subst, sym, ◌∙◌, arith, ℕ}
 use Rattle.std.specs.Prelude.{⊤, MatchOption}
 use Rattle.std.specs.declared.option.Option.{Option}
 use Rattle.std.proofs.lemmas.List.Elements.{All-from_recursion, All-map}
@@ -8,8 +8,7 @@ use Rattle.pattern_reading.specs.declared.ports.PortLine.{PortLine}
 use Rattle.pattern_reading.specs.Laws.{IsPortInside}
 use Rattle.pattern_writing.specs.WrittenText.{IsWritable}
 use Rattle.drive.specs.Driving.{last_generation}
-use Rattle.drawn_runs.specs.Laws.{DrawsList, ShowsItsList}
-use Rattle.drawn_runs.proofs.Drawn.{one_for_each_input}
+use Rattle.drawn_runs.specs.Laws.{DrawsList}
 use Rattle.drawn_runs.proofs.simulation.simulate.Goals as goal
 
 pub simulate-requires-clause-in_box : goal.simulate-requires-clause-in_box
@@ -17,11 +16,8 @@ simulate-requires-clause-in_box c =
     All-map (λ (cell : ℕ × ℕ). (cell.0 < c.args.pattern.width) × (cell.1 < c.args.pattern.height)) (λ (port : PortLine). (port.x, port.y)) c.args.ports.now.ins
     (All-from_recursion (IsPortInside c.args.pattern.width c.args.pattern.height) c.args.ports.now.ins c.requires.inside.ins)
 
-pub run-requires-clause-many : goal.run-requires-clause-many
-run-requires-clause-many c =
-    let drawn : DrawsList (grid_of c.args.pattern) c.args.ports.now c.in-Some.list =
-    subst (λ (found : Option CellList). MatchOption found ⊤ (DrawsList (grid_of c.args.pattern) c.args.ports.now)) c.in-Some.is c.in_ok-list.ensures.drawn in
-    one_for_each_input (grid_of c.args.pattern) c.args.ports.now drawn.0 c.in-Some.list c.args.streams.now drawn.1 c.requires.streams
+pub run-requires : goal.run-requires
+run-requires c = c.requires.streams.long
 
 pub returns-in_ok-run-in-Some-clause-quiet : goal.returns-in_ok-run-in-Some-clause-quiet
 returns-in_ok-run-in-Some-clause-quiet c =
