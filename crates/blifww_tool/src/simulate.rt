@@ -25,7 +25,7 @@ pub fn simulate(
     ensures refused { IfErr result (λ e. HasTextCause (simulate cycles (map string_bytes words.now)) text.now e) }
 {
     let driven = driven_by(alloc, cycles, words, text)?;
-    let bits = drive::simulate(alloc, driven.pattern, &driven.ports, &driven.streams)?;
+    let bits = drawn_runs::simulate(alloc, driven.pattern, &driven.ports, &driven.streams)?;
     let outs = names_in_contexts(alloc, driven.ports.outs.as_slice(), driven.ports.c)?;
     Ok(Output::Lines(output_lines(alloc, &outs, bits.as_slice())?))
 }

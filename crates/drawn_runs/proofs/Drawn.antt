@@ -1,0 +1,73 @@
+-- A pattern that is the drawing of a plan shows the bits of the plan's cells.
+use Rattle.std.proofs.Common.{◌≡◌, sym, ◌∙◌, ap, ap₂, subst, length, arith}
+use Rattle.std.proofs.lemmas.List.FromFn.{length-map-range_with_len}
+use Rattle.ww_rule.specs.Grid.{Grid, plane_of}
+use Rattle.pattern_reading.specs.declared.ports.Ports.{Ports}
+use Rattle.pattern_reading.specs.Ports.{names_of}
+use Rattle.pattern_reading.specs.Pattern.{ReadsAsPattern}
+use Rattle.pattern_reading.specs.PortTable.{ReadsAsPorts}
+use Rattle.pattern_reading.proofs.PortLaws.{one_table}
+use Rattle.pattern_reading.proofs.RleLaws.{one_pattern}
+use Rattle.pattern_writing.specs.WrittenText.{HasWrittenText, pattern_text}
+use Rattle.netlist_meaning.specs.Places.{main_outputs}
+use Rattle.carries.specs.Carries.{Carries}
+use Rattle.streams.specs.Rows.{rows_of, stream_row}
+use Rattle.drive.specs.Driving.{AreFor, first_miss, shown_bits}
+use Rattle.shown_runs.specs.ShownRuns.{CarriersShowRuns, OneContextIsQuiet, ShowsEachRun}
+use Rattle.lifted_designs.specs.Lifted.{lifted_design}
+use Rattle.lifted_designs.specs.Computes.{ComputesDesign, ListsComputeLifted}
+use Rattle.lifted_designs.proofs.Lifted.{names_at}
+use Rattle.plan_cells.proofs.Whole.{is_plain}
+use Rattle.cell_runs.specs.Runs.{ListsRunAsDesigns}
+use Rattle.lift_carries.specs.Lifts.{LiftsCarry}
+use Rattle.lift_carries.proofs.Lifted.{named_ins, named_outs}
+use Rattle.drawn_runs.specs.Laws.{DrawingsShowTheirLists}
+
+pub drawings_show_their_lists : ((grid : Grid) (ports : Ports) → HasWrittenText grid ports) → LiftsCarry → ListsComputeLifted → ListsRunAsDesigns → CarriersShowRuns → OneContextIsQuiet
+    → DrawingsShowTheirLists
+drawings_show_their_lists written carry compute as_design show quiet grid table writable sound inside list (plan, d) streams for = record {
+  bits = ap₂ (λ (p : Ports) (g : Grid). shown_bits p streams (plane_of g.rows)) (sym same_table) (sym same_grid)
+      ∙ each.whole each.run each.is_run
+      ∙ as_design list (lifted_design (names_of table.ins) (names_of table.outs) list) (rows_of streams) each.run streams.cycles computes many_outs each.is_run (omega (arith, many));
+  quiet = λ g.
+      ap₂ (λ (p : Ports) (at : Grid). first_miss p streams (plane_of at.rows) g) (sym same_table) (sym same_grid)
+      ∙ quiet (pattern_text grid table) (lifted_design (names_of table.ins) (names_of table.outs) list) carried streams for_it g;
+}
+  where
+    reads : ReadsAsPattern (pattern_text grid table) grid × ReadsAsPorts (pattern_text grid table) grid.width grid.height table
+    reads = written grid table writable sound inside
+
+    carried : Carries (pattern_text grid table) (lifted_design (names_of table.ins) (names_of table.outs) list)
+    carried = carry (pattern_text grid table) grid table plan list (record {
+      spells = record { reads = reads.0; table = reads.1 };
+      drawing = d.drawing;
+      names = d.names;
+      cells = d.cells;
+      few_cells = d.few_cells;
+    })
+
+    same_grid : carried.grid ≡ grid
+    same_grid = one_pattern (pattern_text grid table) carried.grid grid carried.spells.reads reads.0
+
+    same_table : carried.ports ≡ table
+    same_table = one_table (pattern_text grid table) grid.width grid.height carried.ports table
+        (subst (λ (g : Grid). ReadsAsPorts (pattern_text grid table) g.width g.height carried.ports) same_grid carried.spells.table)
+        reads.1
+
+    for_it : AreFor carried.ports streams
+    for_it = subst (λ (p : Ports). AreFor p streams) (sym same_table) for
+
+    each : ShowsEachRun carried streams
+    each = show (pattern_text grid table) (lifted_design (names_of table.ins) (names_of table.outs) list) carried streams for_it
+
+    wide : length (names_of table.outs) ≡ length list.outs
+    wide = named_outs grid.width grid.height table plan d.drawing.ports list d.cells
+
+    computes : ComputesDesign list (lifted_design (names_of table.ins) (names_of table.outs) list)
+    computes = compute list (names_of table.ins) (names_of table.outs) (named_ins grid.width grid.height table plan d.drawing.ports list d.cells) wide (is_plain plan list d.cells)
+
+    many_outs : length list.outs ≡ length (main_outputs (lifted_design (names_of table.ins) (names_of table.outs) list))
+    many_outs = sym (ap length (names_at 3 (names_of table.outs)) ∙ wide)
+
+    many : length (rows_of streams) ≡ streams.cycles
+    many = length-map-range_with_len (stream_row streams) 0 streams.cycles

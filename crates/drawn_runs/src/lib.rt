@@ -1,0 +1,10 @@
+//! What a pattern shows under streams: where it is the drawing of a circuit's plan, by the plan's cells, cycle after cycle,
+//! and else generation by generation.
+//!
+//! Theorem: `simulate` (`near`, `quiet`, `bits`, `refused`), `drawings_show_their_lists`.
+#![tactic(auto)]
+
+pub mod laws;
+mod simulation;
+
+pub use simulation::simulate;
