@@ -1,5 +1,5 @@
 -- A list of cells that computes a design goes through the states of each run, with the bits of its outputs.
-use Rattle.std.proofs.Common.{◌≡◌, sym, ◌∙◌, ap, ℕ, zero, suc, ◌<◌, ◌≤◌, Bool, List, [], length, map, get_or, arith}
+use Rattle.std.proofs.Common.{◌≡◌, sym, ◌∙◌, ap, ap₂, ℕ, zero, suc, ◌<◌, ◌≤◌, Bool, List, [], length, map, get_or, arith}
 use Rattle.std.specs.List.{range_with_len}
 use Rattle.std.proofs.lemmas.Option.{slice_get-get_or}
 use Rattle.netlist_core.specs.declared.model.Design.{Design}
@@ -13,7 +13,6 @@ use Rattle.cell_core.specs.declared.list.CellList.{CellList}
 use Rattle.cell_core.specs.Meaning.{bit_of}
 use Rattle.lifted_designs.specs.Computes.{ComputesDesign}
 use Rattle.cell_runs.specs.Runs.{state_in_cycle, bit_in_cycle, ListsRunAsDesigns}
-use Rattle.cell_runs.proofs.Rows.{output_rows, columns_shown}
 
 module _ (list : CellList) (design : Design) (rows : List (List Bool)) (run : ℕ → Valuation) (d : ComputesDesign list design) (is : IsRun design rows run) where
   abbrev row : ℕ → List Bool
@@ -39,10 +38,10 @@ module _ (list : CellList) (design : Design) (rows : List (List Bool)) (run : �
 pub lists_run_as_designs : ListsRunAsDesigns
 lists_run_as_designs list design rows run cycles d wide is enough =
     let names = main_outputs design in
-    let rows_of_run = map (λ t. output_bits design (run t)) (range_with_len 0 cycles) in
-    let same : rows_of_run ≡ output_rows list rows cycles =
+    let range = range_with_len 0 cycles in
+    let seen = map (λ t. map (bit_in_cycle list rows t) list.outs) range in
+    let same : map (λ t. output_bits design (run t)) range ≡ seen =
     same_on_range (λ t. output_bits design (run t)) (λ t. map (bit_in_cycle list rows t) list.outs) cycles (λ t lt. same_outputs list design rows run d is t (omega (arith, lt, enough))) in
-    sym (columns_are (λ name t. run t [] name) names (range_with_len 0 cycles))
-    ∙ ap (λ seen. map (bits_across seen) (range_with_len 0 (length names))) same
-    ∙ ap (λ n. map (bits_across (output_rows list rows cycles)) (range_with_len 0 n)) (sym wide)
-    ∙ columns_shown list rows cycles
+    sym (columns_are (λ name t. run t [] name) names range)
+    ∙ ap₂ (λ (given : List (List Bool)) (n : ℕ). map (bits_across given) (range_with_len 0 n)) same (sym wide)
+    ∙ columns_are (λ source t. bit_in_cycle list rows t source) list.outs range

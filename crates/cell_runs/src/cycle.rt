@@ -8,12 +8,14 @@ use lists::List;
 use std::alloc::{AllocError, Global};
 use std::mem;
 
-/// The bits of inputs, latches and cells in a cycle, and room for those that the latches have next.
+/// The bits of the latches, and those that the inputs, the cells and the outputs had in the cycle before; `next` is room
+/// for the latches' next bits.
 #[derive(Drop)]
 pub struct CycleBits {
     row: Vec<bool>,
-    state: Vec<bool>,
     made: Vec<bool>,
+    pub outs: Vec<bool>,
+    state: Vec<bool>,
     next: Vec<bool>,
 }
 
@@ -107,29 +109,32 @@ impl CycleBits {
         let state = list.starts.as_slice().to_vec(alloc)?;
         Ok(CycleBits {
             row: Vec::new(alloc),
-            state,
             made: Vec::new(alloc),
+            outs: Vec::new(alloc),
+            state,
             next: Vec::new(alloc),
         })
     }
 
-    /// The bits of the outputs in a cycle. The latches then have their next bits.
+    /// The bits of a cycle, and in place of the latches' bits their next ones.
     pub fn run_cycle(
         &mut self,
-        alloc: Global,
         list: &CellList,
         streams: &[List<bool>],
         cycle: usize,
-    ) -> Result<Vec<bool>, AllocError>
+    ) -> Result<(), AllocError>
         requires { All (λ bits. cycle < length bits) streams.now }
-        ensures outs { IfOk result (λ outs.
-            outs.items
-            ≡ map (bit_of list.now (bits_across streams.now cycle) self.old.state.items) list.now.outs) }
+        ensures outs { OnOk result (
+            self.new.outs.items
+            ≡ map
+            (bit_of list.now (bits_across streams.now cycle) self.old.state.items)
+            list.now.outs) }
         ensures state { OnOk result (
             self.new.state.items
-            ≡ map (bit_of list.now (bits_across streams.now cycle) self.old.state.items) list.now.latches) }
+            ≡ map
+            (bit_of list.now (bits_across streams.now cycle) self.old.state.items)
+            list.now.latches) }
     {
-        let mut outs = Vec::with_capacity(alloc, list.outs.len())?;
         put_row(streams, cycle, &mut self.row)?;
         put_cells(
             list.cells.as_slice(),
@@ -142,7 +147,7 @@ impl CycleBits {
             &self.row,
             &self.state,
             &self.made,
-            &mut outs,
+            &mut self.outs,
         )?;
         put_sources(
             list.latches.as_slice(),
@@ -152,6 +157,6 @@ impl CycleBits {
             &mut self.next,
         )?;
         mem::swap(&mut self.state, &mut self.next);
-        Ok(outs)
+        Ok(())
     }
 }

@@ -1,33 +1,47 @@
 // A list of cells run under streams.
-ghost use Rattle.std.specs.Prelude.{◌≡◌, All, length, map, IfOk};
-ghost use Rattle.std.specs.List.{range_with_len};
+ghost use Rattle.std.specs.Prelude.{◌≡◌, ◌<◌, ℕ, [], All, false, get_or, length, replicate, slice_set, IfOk};
 ghost use Rattle.streams.specs.Rows.{rows_of};
-ghost use Rattle.cell_runs.specs.Runs.{bit_in_cycle, shown_by};
+ghost use Rattle.cell_runs.specs.Runs.{shown_by};
 
 use crate::cycle::CycleBits;
 use cell_core::CellList;
 use lists::List;
 use std::alloc::{AllocError, Global};
-use streams::{Streams, columns_of};
+use streams::Streams;
 
-// The bits of the outputs, a row for each cycle.
-fn output_rows(
-    alloc: Global,
-    list: &CellList,
-    streams: &Streams,
-) -> Result<Vec<List<bool>>, AllocError>
-    requires { All (λ bits. length bits ≡ streams.now.cycles) streams.now.bits }
-    ensures { IfOk result (λ rows. rows.items
-        ≡ map (λ cycle. map (bit_in_cycle list.now (rows_of streams.now) cycle) list.now.outs)
-        (range_with_len 0 streams.now.cycles)) }
+// A list of so many bits of 0 for each output.
+fn dark_lists(alloc: Global, outputs: usize, cycles: usize) -> Result<Vec<List<bool>>, AllocError>
+    ensures { IfOk result (λ lists. lists.items ≡ replicate outputs (replicate cycles false)) }
 {
-    let mut bits = CycleBits::at_start(alloc, list)?;
-    let mut rows = Vec::with_capacity(alloc, streams.cycles)?;
-    for cycle in 0..streams.cycles {
-        let outs = bits.run_cycle(alloc, list, streams.bits.as_slice(), cycle)?;
-        rows.push(List::of(outs))?;
+    let mut lists = Vec::with_capacity(alloc, outputs)?;
+    for _ in 0..outputs {
+        lists.push(List::of(vec![in alloc; false; cycles]?))?;
     }
-    Ok(rows)
+    Ok(lists)
+}
+
+// Puts a bit at a place of a list.
+fn put_bit(lists: &mut [List<bool>], number: usize, place: usize, bit: bool)
+    requires number { number < length lists.old }
+    requires place { place < length (get_or lists.old number []) }
+    ensures { lists.new
+        ≡ slice_set lists.old number (slice_set (get_or lists.old number []) place bit) }
+{
+    lists[number].as_mut_slice()[place] = bit;
+}
+
+// Puts a bit for each list at a place of it.
+fn put_column(lists: &mut [List<bool>], place: usize, column: &[bool])
+    requires many { length column.now ≡ length lists.old }
+    requires long { All (λ bits. place < length bits) lists.old }
+    ensures many { length lists.new ≡ length lists.old }
+    ensures each { (k : ℕ) → k < length lists.old
+        → get_or lists.new k []
+        ≡ slice_set (get_or lists.old k []) place (get_or column.now k false) }
+{
+    for (number, bit) in column.iter().enumerate() {
+        put_bit(lists, number, place, *bit);
+    }
 }
 
 /// The bits of each output, cycle after cycle: the latches begin with their starts, and each input has the bits of its
@@ -41,6 +55,12 @@ pub fn run(
     ensures { IfOk result (λ bits.
         bits ≡ shown_by list.now (rows_of streams.now) streams.now.cycles) }
 {
-    let rows = output_rows(alloc, list, streams)?;
-    columns_of(alloc, &rows, list.outs.len())
+    let mut bits = CycleBits::at_start(alloc, list)?;
+    let mut shown = dark_lists(alloc, list.outs.len(), streams.cycles)?;
+    let lists = shown.as_mut_slice();
+    for cycle in 0..streams.cycles {
+        bits.run_cycle(list, streams.bits.as_slice(), cycle)?;
+        put_column(lists, cycle, &bits.outs);
+    }
+    Ok(List::of(shown))
 }
