@@ -7,7 +7,7 @@ use Rattle.aiger_text.proofs.OneThing.{texts_say_one_thing}
 use Rattle.aiger_meaning.specs.declared.error.LowerError.TheVariants as planning
 use Rattle.aiger_meaning.specs.Causes.{HasLowerCause}
 use Rattle.aiger_meaning.specs.Loop.{IsAigLoop}
-use Rattle.blifww_tool.specs.Commands.{AreAlike}
+use Rattle.blifww_tool.specs.Commands.{AreLikeCauses}
 use Rattle.blifww_tool.specs.Aigs.{IsAig, HasNoAig}
 use Rattle.blifww_tool.proofs.EvaluationOrNot.{alike}
 use Rattle.refusals.specs.declared.causes.Cause.{Cause}
@@ -67,7 +67,7 @@ module _ (text : List ℕ) where
       let here = subst (λ (x : Aig). HasLowerCause x (planning.TooLarge m)) (same_aig a b reads reads') h in
       here.1 ∙ sym k.1
 
-  one_reason : (r r' : Cause) → Reason text r → Reason text r' → AreAlike r r'
+  one_reason : (r r' : Cause) → Reason text r → Reason text r' → AreLikeCauses r r'
   one_reason r r' (by_fault f e h) (by_fault g e' k) = alike r r' _ _ e e' (ap AigAtFault ((texts_say_one_thing text).one_fault f g h k))
   one_reason r r' (by_fault f e h) (by_weight w e' a reads k) = absurd (fault_or_read f a h reads)
   one_reason r r' (by_fault f e h) (by_loop l e' a reads k) = absurd (fault_or_read f a h reads)
@@ -78,5 +78,5 @@ module _ (text : List ℕ) where
   one_reason r r' (by_loop l e a reads h) (by_weight v e' b reads' k) = absurd (heavy_or_loop v l b a reads' reads k h)
   one_reason r r' (by_loop l e a reads h) (by_loop m e' b reads' k) = alike r r' _ _ e e' tt
 
-  pub one_cause : (r r' : Cause) → HasNoAig text r → HasNoAig text r' → AreAlike r r'
+  pub one_cause : (r r' : Cause) → HasNoAig text r → HasNoAig text r' → AreLikeCauses r r'
   one_cause r r' h k = one_reason r r' (reason_of text r h) (reason_of text r' k)

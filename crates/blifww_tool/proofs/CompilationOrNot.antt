@@ -9,7 +9,7 @@ use Rattle.start_words.specs.declared.error.StartFault.{StartFault}
 use Rattle.start_words.specs.Words.{first_fault}
 use Rattle.start_words.specs.Starts.{latches_of}
 use Rattle.command_words.specs.Shapes.{compile}
-use Rattle.blifww_tool.specs.Commands.{AreAlike, MustRefuse}
+use Rattle.blifww_tool.specs.Commands.{AreLikeCauses, MustRefuse}
 use Rattle.blifww_tool.specs.Compilation.{HasNoCompilation, HasNoNetlist, HasNoRoom, HasStartFault, HasStarts, least_room}
 use Rattle.refusals.specs.declared.causes.Cause.{Cause}
 use Rattle.refusals.specs.declared.causes.Cause.TheVariants.{NetlistFault, WeightTooLarge, Loop, AigAtFault, AigLoop, Pattern, GridTooLarge, PortTable, Streams, StartWord, NoSuchNet, TooFar, TooManyContexts, NotQuiet, NotCircuit}
@@ -97,18 +97,18 @@ module _ (contexts : ℕ) (starts : List (List ℕ)) (text : List ℕ) where
       let here : first_fault (latches_of k.design) contexts starts ≡ Some f = subst (λ (d : Design). first_fault (latches_of d) contexts starts ≡ Some f) same h.at_fault in
       same_Some f g (sym here ∙ k.at_fault)
 
-  one_reason : (r r' : Cause) → Reason contexts starts text r → Reason contexts starts text r' → AreAlike r r'
+  one_reason : (r r' : Cause) → Reason contexts starts text r → Reason contexts starts text r' → AreLikeCauses r r'
   one_reason r r' (early h) (early k) = one_cause_of_netlist text r r' h k
   one_reason r r' (early h) (by_start f e k) = absurd (netlist_or_not text k.design r k.netlist h)
   one_reason r r' (by_start f e h) (early k) = absurd (netlist_or_not text h.design r' h.netlist k)
   one_reason r r' (by_start f e h) (by_start g e' k) = alike r r' _ _ e e' (ap StartWord (one_fault f g h k))
 
-  pub one_cause : (r r' : Cause) → HasNoCompilation contexts starts text r → MustRefuse (compile contexts starts) text r' → AreAlike r r'
+  pub one_cause : (r r' : Cause) → HasNoCompilation contexts starts text r → MustRefuse (compile contexts starts) text r' → AreLikeCauses r r'
   one_cause r r' h k = by (why contexts starts text r h)
     where
       must : Reason contexts starts text r'
       must = reason_of contexts starts text r' k
 
-      by : Why contexts starts text r → AreAlike r r'
+      by : Why contexts starts text r → AreLikeCauses r r'
       by (by_text reason) = one_reason r r' reason must
       by (by_room limit room) = absurd (not_refused room.design r' room.has must)

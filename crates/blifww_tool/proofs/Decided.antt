@@ -1,7 +1,7 @@
 -- A command never both accepts and refuses a text, and refuses it for one cause, or for causes that are alike.
 use Rattle.std.proofs.Common.{ℕ, ◌≡◌, refl, subst, List}
 use Rattle.command_words.specs.Shapes.{CommandValues, compile, simulate, eval, probe, window, make, self_, tape, aiger, vcd, lift}
-use Rattle.blifww_tool.specs.Commands.{Accepts, Prints, Refuses, MustRefuse, AreAlike}
+use Rattle.blifww_tool.specs.Commands.{Accepts, Prints, Refuses, MustRefuse, AreLikeCauses}
 use Rattle.blifww_tool.specs.Dumping.{last_dumped}
 use Rattle.blifww_tool.specs.Simulation.{last_shown}
 use Rattle.refusals.specs.declared.causes.Cause.{Cause}
@@ -61,10 +61,10 @@ printed_or_refused (vcd cycles words) text output cause h k = runs_or_not last_d
 printed_or_refused lift text output cause h k = circuit_or_not text h.grid h.ports h.plan cause h.is k
 
 -- equal causes are alike
-alike_if_same : (a b : Cause) → a ≡ b → AreAlike a b
-alike_if_same a b e = subst (AreAlike a) e (itself a)
+alike_if_same : (a b : Cause) → a ≡ b → AreLikeCauses a b
+alike_if_same a b e = subst (AreLikeCauses a) e (itself a)
   where
-    itself : (a : Cause) → AreAlike a a
+    itself : (a : Cause) → AreLikeCauses a a
     itself (NetlistFault f) = record { kind = refl; line = refl; whole = λ c r. refl }
     itself (WeightTooLarge w) = refl
     itself (Loop names) = tt
@@ -81,7 +81,7 @@ alike_if_same a b e = subst (AreAlike a) e (itself a)
     itself (NotQuiet g x y) = refl
     itself (NotCircuit fault) = refl
 
-pub one_cause : (command : CommandValues) (text : List ℕ) (a b : Cause) → Refuses command text a → MustRefuse command text b → AreAlike a b
+pub one_cause : (command : CommandValues) (text : List ℕ) (a b : Cause) → Refuses command text a → MustRefuse command text b → AreLikeCauses a b
 one_cause (compile contexts starts) text a b h k = one_cause_of_compilation contexts starts text a b h k
 one_cause (simulate cycles words) text a b h k = alike_if_same a b (one_cause_of_run last_shown cycles words text a b h k)
 one_cause (eval cycles words) text a b h k = one_cause_of_evaluation cycles words text a b h k

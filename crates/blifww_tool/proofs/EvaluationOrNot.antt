@@ -11,7 +11,7 @@ use Rattle.netlist_text.specs.NetlistText.{IsNetlist, IsAtFault, IsTooHeavy, Has
 use Rattle.netlist_text.proofs.Decided.{texts_are_decided}
 use Rattle.streams.specs.declared.error.StreamFault.{StreamFault}
 use Rattle.streams.specs.Streams.{HasStreamFault}
-use Rattle.blifww_tool.specs.Commands.{AreAlike}
+use Rattle.blifww_tool.specs.Commands.{AreLikeCauses}
 use Rattle.blifww_tool.specs.Compilation.{HasNoNetlist}
 use Rattle.blifww_tool.specs.Evaluation.{Evaluation, IsEvaluation, HasNoEvaluation}
 use Rattle.refusals.specs.declared.causes.Cause.{Cause}
@@ -69,10 +69,10 @@ not_refused cycles words text e r h (by_streams fault is design names read k) = 
 pub evaluates_or_not : (cycles : ℕ) (words : List (List ℕ)) (text : List ℕ) (e : Evaluation) (r : Cause) → IsEvaluation cycles words text e → HasNoEvaluation cycles words text r → ⊥
 evaluates_or_not cycles words text e r h k = not_refused cycles words text e r h (reason_of cycles words text r k)
 
-pub alike : (r r' a b : Cause) → r ≡ a → r' ≡ b → AreAlike a b → AreAlike r r'
-alike r r' a b e f h = subst (λ (x : Cause). AreAlike x r') (sym e) (subst (AreAlike a) (sym f) h)
+pub alike : (r r' a b : Cause) → r ≡ a → r' ≡ b → AreLikeCauses a b → AreLikeCauses r r'
+alike r r' a b e f h = subst (λ (x : Cause). AreLikeCauses x r') (sym e) (subst (AreLikeCauses a) (sym f) h)
 
-one_reason : (cycles : ℕ) (words : List (List ℕ)) (text : List ℕ) (r r' : Cause) → Reason cycles words text r → Reason cycles words text r' → AreAlike r r'
+one_reason : (cycles : ℕ) (words : List (List ℕ)) (text : List ℕ) (r r' : Cause) → Reason cycles words text r → Reason cycles words text r' → AreLikeCauses r r'
 one_reason cycles words text r r' (by_fault f e h) (by_fault g e' k) = alike r r' _ _ e e' ((texts_are_decided text).one_fault f g h k)
 one_reason cycles words text r r' (by_fault f e h) (by_weight w e' k) = absurd ((texts_are_decided text).fault_or_heavy f w h k)
 one_reason cycles words text r r' (by_fault f e h) (by_loop ns e' k) = absurd ((texts_are_decided text).fault_or_loop f ns h k)
@@ -91,7 +91,7 @@ one_reason cycles words text r r' (by_streams f e d ns read h) (by_loop ms e' k)
 one_reason cycles words text r r' (by_streams f e d ns read h) (by_streams g e' d' ms read' k) =
     alike r r' _ _ e e' (ap Streams (same_Some f g (sym (subst (λ (x : List Name). HasStreamFault 1 words x cycles f) (same_names text d d' ns ms read read') h) ∙ k)))
 
-pub one_cause : (cycles : ℕ) (words : List (List ℕ)) (text : List ℕ) (r r' : Cause) → HasNoEvaluation cycles words text r → HasNoEvaluation cycles words text r' → AreAlike r r'
+pub one_cause : (cycles : ℕ) (words : List (List ℕ)) (text : List ℕ) (r r' : Cause) → HasNoEvaluation cycles words text r → HasNoEvaluation cycles words text r' → AreLikeCauses r r'
 one_cause cycles words text r r' h k = one_reason cycles words text r r' (reason_of cycles words text r h) (reason_of cycles words text r' k)
 
 -- a text is a netlist, or is refused in one way
@@ -129,5 +129,5 @@ no_evaluation text (TooManyContexts contexts limit) h = absurd h
 no_evaluation text (NotQuiet generation x y) h = absurd h
 no_evaluation text (NotCircuit fault) h = absurd h
 
-pub one_cause_of_netlist : (text : List ℕ) (r r' : Cause) → HasNoNetlist text r → HasNoNetlist text r' → AreAlike r r'
+pub one_cause_of_netlist : (text : List ℕ) (r r' : Cause) → HasNoNetlist text r → HasNoNetlist text r' → AreLikeCauses r r'
 one_cause_of_netlist text r r' h k = one_cause 1 [] text r r' (no_evaluation text r h) (no_evaluation text r' k)

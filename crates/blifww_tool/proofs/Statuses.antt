@@ -13,7 +13,7 @@ use Rattle.blifww_tool.specs.Commands.{Refuses}
 use Rattle.blifww_tool.specs.Compilation.{HasNoRoom, latch_count, least_room}
 use Rattle.refusals.specs.Refusals.{status_of, status_of_cause}
 use Rattle.blifww_tool.specs.Run.{Call, Reading, Asks, IsAsked, GaveTooMany, GaveAll, HasText, ReadFailed, WriteFailed, HasReason, RefusesText, IsRefused, CutsLine, CutsOutput, Ends}
-use Rattle.blifww_tool.specs.Statuses.{StatusesHaveCauses, IsOverALimit, IsTooLarge, HasNoPattern, WordsDoNotFit, IsNotQuiet, IsNotCircuit}
+use Rattle.blifww_tool.specs.Statuses.{StatusesHaveCauses, IsOverALimit, IsTooLarge, HasNoPattern, WordsDoNotFit, IsFirstMiss, IsNotCircuit}
 use Rattle.blifww_tool.proofs.Given.{one_command}
 use Rattle.refusals.specs.declared.causes.Cause.{Cause}
 use Rattle.refusals.specs.declared.causes.Cause.TheVariants.{NetlistFault, WeightTooLarge, Loop, AigAtFault, AigLoop, Pattern, GridTooLarge, PortTable, Streams, StartWord, NoSuchNet, TooFar, TooManyContexts, NotQuiet, NotCircuit}
@@ -329,7 +329,7 @@ misfit c WriteFault h e = absurd h
 misfit c NoMemory h e = absurd (omega (arith, e))
 misfit c (Text cause) h e = misfit_by c cause e h
 
-not_quiet_by : (c : Call) (cause : Cause) → status_of_cause cause ≡ 10 → RefusesText c.words c.src cause → IsNotQuiet c
+not_quiet_by : (c : Call) (cause : Cause) → status_of_cause cause ≡ 10 → RefusesText c.words c.src cause → IsFirstMiss c
 not_quiet_by c (NetlistFault f) e h = absurd (omega (arith, e))
 not_quiet_by c (WeightTooLarge w) e h = absurd (omega (arith, e))
 not_quiet_by c (Loop names) e h = absurd (omega (arith, e))
@@ -346,7 +346,7 @@ not_quiet_by c (TooManyContexts n limit) e h = absurd (omega (arith, e))
 not_quiet_by c (NotQuiet g x y) e h = (g, x, y, h)
 not_quiet_by c (NotCircuit fault) e h = absurd (omega (arith, e))
 
-not_quiet : (c : Call) (r : Refusal) → HasReason c.words c.src r → status_of r ≡ 10 → IsNotQuiet c
+not_quiet : (c : Call) (r : Refusal) → HasReason c.words c.src r → status_of r ≡ 10 → IsFirstMiss c
 not_quiet c Usage h e = absurd (omega (arith, e))
 not_quiet c TooLong h e = absurd (omega (arith, e))
 not_quiet c ReadFault h e = absurd (omega (arith, e))

@@ -110,11 +110,11 @@ MustRefuse command text cause = Refuses command text cause
 
 -- Two causes are of one kind, and the same, but that there may be several loops, and on one line several words at
 -- fault.
-abbrev pub AreAlike : Cause → Cause → Type 0
-AreAlike (NetlistFault a) (NetlistFault b) = AreAlikeFaults a b
-AreAlike (Loop a) (Loop b) = ⊤
-AreAlike (AigLoop a) (AigLoop b) = ⊤
-AreAlike a b = a ≡ b
+abbrev pub AreLikeCauses : Cause → Cause → Type 0
+AreLikeCauses (NetlistFault a) (NetlistFault b) = AreAlikeFaults a b
+AreLikeCauses (Loop a) (Loop b) = ⊤
+AreLikeCauses (AigLoop a) (AigLoop b) = ⊤
+AreLikeCauses a b = a ≡ b
 
 -- why a text gives no output: the command refuses it, or there is not enough memory
 abbrev pub HasTextCause : CommandValues → List ℕ → TextError → Type 0

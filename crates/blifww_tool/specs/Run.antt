@@ -5,7 +5,7 @@ use Rattle.std.specs.declared.option.Option.{Option}
 use Rattle.std.specs.Io.KnownBytes.{Consumes, Appends, Keeps, IsAtEnd}
 use Rattle.ww_base.specs.Faults.{Rose}
 use Rattle.command_words.specs.Shapes.{CommandValues, command_values, IsCommand, IsTaken}
-use Rattle.blifww_tool.specs.Commands.{reads_text, Accepts, Prints, Refuses, MustRefuse, AreAlike}
+use Rattle.blifww_tool.specs.Commands.{reads_text, Accepts, Prints, Refuses, MustRefuse, AreLikeCauses}
 use Rattle.refusals.specs.Refusals.{status_of, refusal_line}
 use Rattle.refusals.specs.declared.causes.Cause.{Cause}
 use Rattle.refusals.specs.declared.refusal.Refusal.{Refusal}
@@ -201,7 +201,7 @@ pub record TellsCause (c : Call) (status : ℕ) (command : CommandValues) (text 
 pub record TellsLike (c : Call) (status : ℕ) (command : CommandValues) (text : List ℕ) (cause : Cause) : Type 0 where
   pub told : Cause
   pub refused : Refuses command text told
-  pub alike : AreAlike told cause
+  pub alike : AreLikeCauses told cause
   pub tells : TellsRefusal c.err status (Text told)
 
 -- the refusal is told, but for want of memory

@@ -46,8 +46,8 @@ WordsDoNotFit c =
     ⊎ (((fault : StartFault) × RefusesText c.words c.src (StartWord fault)) ⊎ ((name : Name) × RefusesText c.words c.src (NoSuchNet name)))
 
 -- the command refuses the text, for an injection that meets no conductor
-abbrev pub IsNotQuiet : Call → Type 0
-IsNotQuiet c = (generation x y : ℕ) × RefusesText c.words c.src (NotQuiet generation x y)
+abbrev pub IsFirstMiss : Call → Type 0
+IsFirstMiss c = (generation x y : ℕ) × RefusesText c.words c.src (NotQuiet generation x y)
 
 -- the command refuses the text of a pattern as no circuit's
 abbrev pub IsNotCircuit : Call → Type 0
@@ -67,7 +67,7 @@ pub record HaveCauses (c : Call) (status : ℕ) : Type 0 where
   pub write_fault : status ≡ 6 → WriteFailed c.out ⊎ WriteFailed c.err
   pub no_pattern : status ≡ 8 → HasNoPattern c
   pub misfit : status ≡ 9 → WordsDoNotFit c
-  pub not_quiet : status ≡ 10 → IsNotQuiet c
+  pub not_quiet : status ≡ 10 → IsFirstMiss c
   pub not_circuit : status ≡ 12 → IsNotCircuit c
 
 abbrev pub StatusesHaveCauses : Type 0

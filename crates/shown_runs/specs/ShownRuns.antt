@@ -34,7 +34,7 @@ pub record ShowsTheRun (plane : Plane) (ports : Ports) (design : Design) (stream
 
 -- Under streams for the table's inputs the design has a run in each context, from its start on, and whatever the runs are, the pattern
 -- shows those of each context.
-pub record ShowsEachContext {text : List ℕ} {design : Design} {starts : List LatchState} (k : CarriesContexts text design starts) (streams : Streams) : Type 0 where
+pub record ShowsContextsRuns {text : List ℕ} {design : Design} {starts : List LatchState} (k : CarriesContexts text design starts) (streams : Streams) : Type 0 where
   pub runs : ℕ → ℕ → Valuation
   pub are_runs : AreRunsFrom (IsRunFrom design) starts (contexts_of streams) runs
   pub shown : (context : ℕ) (start : LatchState) → slice_get starts context ≡ Some start → (run : ℕ → Valuation) → IsRunFrom design start (rows_of (in_context streams context)) run
@@ -44,7 +44,7 @@ pub record ShowsEachContext {text : List ℕ} {design : Design} {starts : List L
 
 abbrev pub CarriersShowContexts : Type 0
 CarriersShowContexts =
-    (text : List ℕ) (design : Design) (starts : List LatchState) (k : CarriesContexts text design starts) (streams : Streams) → AreFor k.ports streams → ShowsEachContext k streams
+    (text : List ℕ) (design : Design) (starts : List LatchState) (k : CarriesContexts text design starts) (streams : Streams) → AreFor k.ports streams → ShowsContextsRuns k streams
 
 -- Of a text that carries a design in one context: under streams for the table's inputs the design has a run, and each of its runs is so shown
 pub record ShowsEachRun {text : List ℕ} {design : Design} (c : Carries text design) (streams : Streams) : Type 0 where

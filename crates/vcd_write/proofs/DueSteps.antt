@@ -11,7 +11,7 @@ use Rattle.drive.specs.Runs.{HasGoneOn, IsBandRun, planes_of}
 use Rattle.vcd_write.specs.declared.due_bits.DueBit.{DueBit}
 use Rattle.vcd_write.specs.declared.due_bits.DueBits.{DueBits}
 use Rattle.vcd_write.specs.declared.due_bits.Raster.{Raster}
-use Rattle.vcd_write.specs.DueBits.{AreDueFrom, AreFirstBits, AreInOrder, ShowsDueBits, IsTakenFrom, IsToCome, IsWithin, next_bit}
+use Rattle.vcd_write.specs.DueBits.{AreDueFrom, AreFirstBits, AreInOrder, ShowsDueBits, IsTakenFrom, IsStillDue, IsWithin, next_bit}
 use Rattle.vcd_write.proofs.DueOrder.{from_before, one_more, up_to_more}
 
 -- a bit is due

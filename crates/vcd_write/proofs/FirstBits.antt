@@ -16,7 +16,7 @@ use Rattle.pattern_reading.specs.declared.ports.NetLine.{NetLine}
 use Rattle.pattern_reading.specs.declared.ports.Ports.{Ports}
 use Rattle.vcd_write.specs.declared.due_bits.DueBit.{DueBit}
 use Rattle.vcd_write.specs.declared.due_bits.Raster.{Raster}
-use Rattle.vcd_write.specs.DueBits.{AreDueFrom, AreFirstBits, ShowsDueBits, IsToCome, IsWithin}
+use Rattle.vcd_write.specs.DueBits.{AreDueFrom, AreFirstBits, ShowsDueBits, IsStillDue, IsWithin}
 use Rattle.vcd_write.specs.FirstBits.{first_bit, first_due_bits}
 use Rattle.vcd_write.specs.NetBits.{FitsNets}
 use Rattle.vcd_write.specs.NetWaves.{NetInContext, nets_in, nets_in_contexts}
@@ -106,7 +106,7 @@ module _ (ports : Ports) (cycles : ℕ) (raster : Raster) (fits : FitsNets ports
         ap shown turned ∙ shown_at n j variable e
         ∙ ap (λ p. is_head (planes (variable.net.offset + 32 * variable.context + j * p) (pos variable.net.x) (pos variable.net.y))) (sym fits.period)
 
-    come : (sorted : List DueBit) → IsPermutation (first_due_bits 0 variables) sorted → (k : ℕ) → k < raster.bits → (0 < raster.variables) → (slice_get variables (k % raster.variables) ≡ Some (get_or variables (k % raster.variables) (record { context = 0; net = record { x = 0; y = 0; offset = 0; name = []; path = [] } }))) → IsToCome raster sorted k
+    come : (sorted : List DueBit) → IsPermutation (first_due_bits 0 variables) sorted → (k : ℕ) → k < raster.bits → (0 < raster.variables) → (slice_get variables (k % raster.variables) ≡ Some (get_or variables (k % raster.variables) (record { context = 0; net = record { x = 0; y = 0; offset = 0; name = []; path = [] } }))) → IsStillDue raster sorted k
     come sorted moved k low some e =
         let n : ℕ = k % raster.variables in
         let variable : NetInContext = get_or variables n (record { context = 0; net = record { x = 0; y = 0; offset = 0; name = []; path = [] } }) in

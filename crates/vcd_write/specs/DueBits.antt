@@ -49,7 +49,7 @@ ShowsDueBits shown planes raster bit =
     → shown (bit.place + j * raster.variables) ≡ is_head (planes (bit.generation + j * raster.period) (pos bit.x) (pos bit.y))
 
 -- a place of one of these bits, or of one of the same variable after it
-pub record IsToCome (raster : Raster) (due : List DueBit) (place : ℕ) : Type 0 where
+pub record IsStillDue (raster : Raster) (due : List DueBit) (place : ℕ) : Type 0 where
   pub bit : DueBit
   pub is_there : Contains due bit
   pub cycles : ℕ
@@ -58,4 +58,4 @@ pub record IsToCome (raster : Raster) (due : List DueBit) (place : ℕ) : Type 0
 -- These bits are due at first, where planes show so: each of them is shown, and each place of the raster is to come.
 pub record AreFirstBits (shown : ℕ → Bool) (planes : ℕ → Plane) (raster : Raster) (due : List DueBit) : Type 0 where
   pub each : All (ShowsDueBits shown planes raster) due
-  pub all : (place : ℕ) → place < raster.bits → IsToCome raster due place
+  pub all : (place : ℕ) → place < raster.bits → IsStillDue raster due place

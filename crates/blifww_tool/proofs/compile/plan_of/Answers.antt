@@ -34,7 +34,10 @@ returns-clause-carried c =
     carried_by c.flat_is_one.ensures c.designs_are_carried.ensures c.args.netlist.now.design c.args.netlist.now.flat _ c.in_ok-planned.planned.plan c.in_ok-planned.planned.ports c.requires.parts
     p.admissible p.edges p.table p.cells p.lanes p.places p.carries p.small p.period
     (drawn c.one_context_is_circuit.ensures c.compiled_are_drawings.ensures c.args.netlist.now.flat c.in_ok-planned.planned.plan c.in_ok-planned.planned.ports
-    (plan_netlist-requires-clause-sound c) (plan_netlist-requires-clause-named c) (plan_netlist-requires-clause-names c) (plan_netlist-requires-clause-places c)
+    (sound c.args.netlist.now.design c.args.netlist.now.flat _ c.requires.parts c.flat_is_sound.ensures)
+    (flat_is_named c.args.netlist.now.design c.args.netlist.now.flat c.requires.parts.faultless c.requires.parts.is_flat) c.requires.names
+    (places_fit c.args.netlist.now.design c.args.netlist.now.flat c.requires.parts.faultless
+    (omega (arith, small c.args.netlist.now.design c.args.netlist.now.flat _ c.requires.parts, c.requires.parts.is_flat.weight)) c.requires.parts.is_flat)
     p.admissible p.bare p.edges _ p.cells.starts p.table)
 
 pub returns-clause-bare : goal.returns-clause-bare

@@ -99,5 +99,8 @@ returns-clause-printed c = λ text has.
     (subst (λ (n : ℕ). IsTableOf flat plan n ports) many p.table) p.places
     (subst (CarriesFlatContexts (pattern_text (start_grid plan) ports) flat) bits p.carries)
     (λ one. drawn_in_one c.one_context_is_circuit.ensures c.compiled_are_drawings.ensures flat plan ports
-    (plan_contexts-requires-clause-sound c) (plan_contexts-requires-clause-named c) (plan_contexts-requires-clause-names c) (plan_contexts-requires-clause-places c)
+    (sound c.args.netlist.now.design c.args.netlist.now.flat _ c.requires.parts c.flat_is_sound.ensures)
+    (flat_is_named c.args.netlist.now.design c.args.netlist.now.flat c.requires.parts.faultless c.requires.parts.is_flat) c.requires.names
+    (places_fit c.args.netlist.now.design c.args.netlist.now.flat c.requires.parts.faultless
+    (omega (arith, small c.args.netlist.now.design c.args.netlist.now.flat _ c.requires.parts, c.requires.parts.is_flat.weight)) c.requires.parts.is_flat)
     p.admissible p.bare p.edges _ p.starts (length-map c.as_slice.result.now (loop_starting_bits base) ∙ many ∙ one) (subst (λ (n : ℕ). IsTableOf flat plan n ports) (many ∙ one) p.table))

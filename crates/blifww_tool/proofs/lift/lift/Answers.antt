@@ -3,7 +3,7 @@ use Rattle.std.proofs.lemmas.Result.{err_from_is_err_and}
 use Rattle.ww_rule.specs.Grid.{Grid}
 use Rattle.ww_rule.specs.Patterns.{grid_of}
 use Rattle.blifww_tool.specs.Lifting.{IsCircuitText, Lifts}
-use Rattle.blifww_tool.proofs.Lifted.{audit_refused, lifts, many_outs_of, pattern_refused, table_refused}
+use Rattle.blifww_tool.proofs.Lifted.{audit_refused, lifted_text_is, lifts, many_outs_of, pattern_refused, table_refused}
 use Rattle.blifww_tool.proofs.lift.lift.Goals as goal
 
 pub returns-in_err-pattern-clause-refused : goal.returns-in_err-pattern-clause-refused
