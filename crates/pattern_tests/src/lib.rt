@@ -4,6 +4,8 @@
 #[cfg(test)]
 mod bands;
 #[cfg(test)]
+mod drawn;
+#[cfg(test)]
 mod kernel;
 #[cfg(test)]
 mod lines;

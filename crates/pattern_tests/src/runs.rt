@@ -1,6 +1,8 @@
 // Streams from words, and patterns that streams drive.
 ghost use Rattle.std.specs.Prelude.{◌≡◌, ◌*◌, ◌<◌, All, length, IfOk};
+ghost use Rattle.pattern_reading.specs.Laws.{HasCellsInside};
 ghost use Rattle.pattern_reading.specs.Ports.{cells_of};
+ghost use Rattle.pattern_reading.specs.SoundTable.{IsSoundTable};
 ghost use Rattle.ww_rule.specs.Grid.{AreInBox};
 ghost use Rattle.drive.specs.Driving.{AreFor};
 
@@ -117,10 +119,12 @@ fn streams_for(
     Streams::read(alloc, &words, &names, cycles, contexts)
 }
 
-/// What is asked of a pattern that streams drive: what its outputs show, or a dump of its nets.
+/// What is asked of a pattern that streams drive: what its outputs show, generation by generation, or by its cells where
+/// it is a drawing; or a dump of its nets.
 #[derive(Clone, Copy)]
 pub enum Asked {
     Outputs,
+    Drawn,
     Dump,
 }
 
@@ -137,18 +141,12 @@ pub fn refusal_said(alloc: Global, error: SimulateError) -> Result<Vec<u8>, Allo
     }
 }
 
-// What the outputs of a pattern show, or why it is not run.
+// What outputs show, or why a pattern is not run.
 fn outputs_said(
     alloc: Global,
-    pattern: Pattern,
-    ports: &Ports,
-    streams: &Streams,
-) -> Result<Vec<u8>, AllocError>
-    requires cycles { 0 < streams.now.cycles }
-    requires streams { AreFor ports.now streams.now }
-    requires in_box { AreInBox pattern.width pattern.height (cells_of ports.now.ins) }
-{
-    match simulate(alloc, pattern, ports, streams) {
+    outputs: Result<List<List<bool>>, SimulateError>,
+) -> Result<Vec<u8>, AllocError> {
+    match outputs {
         Ok(outputs) => shown(alloc, outputs.as_slice()),
         Err(error) => refusal_said(alloc, error),
     }
@@ -165,9 +163,12 @@ fn run(
     requires cycles { 0 < streams.now.cycles }
     requires streams { AreFor ports.now streams.now }
     requires in_box { AreInBox pattern.width pattern.height (cells_of ports.now.ins) }
+    requires sound { IsSoundTable ports.now }
+    requires inside { HasCellsInside pattern.width pattern.height ports.now }
 {
     match asked {
-        Asked::Outputs => outputs_said(alloc, pattern, ports, streams),
+        Asked::Outputs => outputs_said(alloc, simulate(alloc, pattern, ports, streams)),
+        Asked::Drawn => outputs_said(alloc, drawn_runs::simulate(alloc, pattern, ports, streams)),
         Asked::Dump => dump_said(alloc, pattern, ports, streams),
     }
 }
@@ -206,6 +207,21 @@ pub fn said_of(
     let mut text = table.to_vec(alloc)?;
     text.extend_from_slice(pattern)?;
     said(alloc, &text, words, cycles, asked)
+}
+
+/// Expects this of what the outputs show, in both ways.
+pub fn expect_shown(
+    alloc: Global,
+    table: &[u8],
+    pattern: &[u8],
+    words: &[&str],
+    cycles: usize,
+    want: &[u8],
+) -> Result<(), Fail> {
+    let driven = said_of(alloc, table, pattern, words, cycles, Asked::Outputs)?;
+    expect(&driven, want)?;
+    let drawn = said_of(alloc, table, pattern, words, cycles, Asked::Drawn)?;
+    Ok(expect(&drawn, want)?)
 }
 
 // A ring on which an electron goes round for ever.
@@ -409,8 +425,7 @@ const RUNS: &[(&[u8], &[u8], &[&str], usize, &[u8])] = &[
 #[test]
 fn patterns_are_driven(rt: HostRuntime) -> Result<(), Fail> {
     for (table, pattern, words, cycles, want) in RUNS {
-        let said = said_of(rt.alloc(), table, pattern, words, *cycles, Asked::Outputs)?;
-        expect(&said, want)?;
+        expect_shown(rt.alloc(), table, pattern, words, *cycles, want)?;
     }
     Ok(())
 }
