@@ -1,10 +1,12 @@
 // Small circuits as lists of cells, with streams of bits that they make.
+use crate::cycles::{lines, outputs_said};
 use crate::running::{agrees_for_all, plays};
 use crate::written::{Written, list_of};
 use cell_core::{Cell, Src};
 use cell_plans::plan_of;
 use std::alloc::Global;
 use std::test::Fail;
+use ww_base::expect;
 
 // A list, and for streams of input bits, a letter for each cycle, the streams of its outputs.
 struct Case {
@@ -201,6 +203,15 @@ fn small_circuits_do_what_they_say(rt: HostRuntime) -> Result<(), Fail> {
     for case in &CASES {
         let done = agrees_and_plays(rt.alloc(), case)?;
         assert_eq!(rt; done, (true, true), "{}", case.name);
+    }
+    Ok(())
+}
+
+#[test]
+fn small_lists_give_what_they_say(rt: HostRuntime) -> Result<(), Fail> {
+    for case in &CASES {
+        let said = outputs_said(rt.alloc(), &case.list, case.ins, case.cycles)?;
+        expect(&said, &lines(rt.alloc(), case.outs)?)?;
     }
     Ok(())
 }
