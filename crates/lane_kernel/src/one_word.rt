@@ -34,7 +34,8 @@ pub fn step_one_word(
     ensures long_heads { length heads.new ≡ length heads.old }
     ensures long_tails { length tails.new ≡ length heads.old }
     ensures long_wires { length wires.new ≡ length heads.old }
-    ensures heads { (i : ℕ) → get_or heads.new i 0 ≡ heads_word above.now heads.old below.now wires.old i }
+    ensures heads { (i : ℕ)
+        → get_or heads.new i 0 ≡ heads_word above.now heads.old below.now wires.old i }
     ensures tails { (i : ℕ) → get_or tails.new i 0 ≡ get_or heads.old i 0 }
     ensures wires { (i : ℕ)
         → get_or wires.new i 0 ≡ wires_word above.now heads.old below.now tails.old wires.old i }

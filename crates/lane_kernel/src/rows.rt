@@ -27,8 +27,12 @@ fn step_one(
         → k < 1
         → get_or wires.new (j + k) 0
         ≡ wires_word above.now heads.now below.now tails.old wires.old (j + k) }
-    ensures other_tails { (k : ℕ) → (k < j) ⊎ (j + 1 ≤ k) → get_or tails.new k 0 ≡ get_or tails.old k 0 }
-    ensures other_wires { (k : ℕ) → (k < j) ⊎ (j + 1 ≤ k) → get_or wires.new k 0 ≡ get_or wires.old k 0 }
+    ensures other_tails { (k : ℕ)
+        → (k < j) ⊎ (j + 1 ≤ k)
+        → get_or tails.new k 0 ≡ get_or tails.old k 0 }
+    ensures other_wires { (k : ℕ)
+        → (k < j) ⊎ (j + 1 ≤ k)
+        → get_or wires.new k 0 ≡ get_or wires.old k 0 }
 {
     let fired = new_heads(
         words_near(above, j),

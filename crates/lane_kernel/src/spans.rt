@@ -98,7 +98,8 @@ pub fn step_span(
     requires stays { stays_within lo hi above.now heads.now below.now ≡ true }
     ensures long_tails { length tails.new ≡ length heads.now }
     ensures long_wires { length wires.new ≡ length heads.now }
-    ensures heads { (j : ℕ) → get_or tails.new j 0 ≡ heads_word above.now heads.now below.now wires.old j }
+    ensures heads { (j : ℕ)
+        → get_or tails.new j 0 ≡ heads_word above.now heads.now below.now wires.old j }
     ensures wires { (j : ℕ)
         → get_or wires.new j 0 ≡ wires_word above.now heads.now below.now tails.old wires.old j }
     ensures dark { IsDarkBeyond lo hi tails.new }

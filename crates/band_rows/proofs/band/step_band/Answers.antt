@@ -50,7 +50,7 @@ below_of-requires-clause-long c lt =
     let t = c.split_at_mut-own in
     let w = parted rows s.result.0.now s.result.1.now t.result.0.now t.result.1.now r s.ensures.value s.ensures.front_len t.ensures.value t.ensures.front_len in
     let m = many_parts rows s.result.0.now t.result.0.now t.result.1.now r w in
-    ap length (field_after (λ row. row.heads.items) rows s.result.0.now t.result.0.now t.result.1.now r w) ∙ v.long (r + 1) (omega (arith, lt, m)) ∙ sym c.requires.down
+    ap length (field_after (λ row. row.heads.items) rows s.result.0.now t.result.0.now t.result.1.now r w) ∙ v.long (r + 1) (omega (arith, lt, m)) ∙ sym c.requires.facing.long_down
 
 pub step-requires : goal.step-requires
 step-requires c =
@@ -64,14 +64,16 @@ step-requires c =
     let below = c.below_of.ensures in
     let above_end = above.within in
     let below_end = below.within in
-    let down = c.requires.down in
+    let down = c.requires.facing.long_down in
     record {
-      above = above.long ∙ sym long;
-      below = below.long ∙ down ∙ sym long;
-      above_within = omega (arith, long, above_end);
-      below_within = omega (arith, long, down, below_end);
-      dark_above = above.dark;
-      dark_below = below.dark;
+      facing = record {
+        long_up = above.long ∙ sym long;
+        long_down = below.long ∙ down ∙ sym long;
+        up_within = omega (arith, long, above_end);
+        down_within = omega (arith, long, down, below_end);
+        dark_up = above.dark;
+        dark_down = below.dark;
+      };
     }
 
 pub loop-r-preserved : goal.loop-r-preserved
@@ -166,8 +168,8 @@ loop-r-preserved c =
     record {
       long_lit = c.mark_row.ensures.long ∙ i.long_lit;
       moved = jumped c.args.up.now c.args.down.now c.args.lit.now marks (not c.is_empty.result) (not c.is_empty-2.result) old new (r + 1) c.next_marked-r-in-loop-r.result c.requires.lit
-          (span_dark c.args.up_span.first c.args.up_span.end c.args.up.now c.is_empty.result c.is_empty.ensures c.requires.dark_up)
-          (span_dark c.args.down_span.first c.args.down_span.end c.args.down.now c.is_empty-2.result c.is_empty-2.ensures c.requires.dark_down)
+          (span_dark c.args.up_span.first c.args.up_span.end c.args.up.now c.is_empty.result c.is_empty.ensures c.requires.facing.dark_up)
+          (span_dark c.args.down_span.first c.args.down_span.end c.args.down.now c.is_empty-2.result c.is_empty-2.ensures c.requires.facing.dark_down)
           c.next_marked-r-in-loop-r.ensures.order (λ k ge lt inside. c.mark_near.ensures.far k inside (c.next_marked-r-in-loop-r.ensures.clear k ge lt)) moved;
     }
 
@@ -178,8 +180,8 @@ loop-r-init c =
     record {
       long_lit = c.fill.ensures.len;
       moved = jumped c.args.up.now c.args.down.now c.args.lit.now c.fill.new.self (not c.is_empty.result) (not c.is_empty-2.result) old old 0 c.next_marked-r.result q.lit
-          (span_dark c.args.up_span.first c.args.up_span.end c.args.up.now c.is_empty.result c.is_empty.ensures q.dark_up)
-          (span_dark c.args.down_span.first c.args.down_span.end c.args.down.now c.is_empty-2.result c.is_empty-2.ensures q.dark_down)
+          (span_dark c.args.up_span.first c.args.up_span.end c.args.up.now c.is_empty.result c.is_empty.ensures q.facing.dark_up)
+          (span_dark c.args.down_span.first c.args.down_span.end c.args.down.now c.is_empty-2.result c.is_empty-2.ensures q.facing.dark_down)
           c.next_marked-r.ensures.order (λ k ge lt inside. c.mark_near.ensures.far k inside (c.next_marked-r.ensures.clear k ge lt))
           (none_moved c.args.up.now c.args.down.now c.fill.new.self old q.long);
     }
