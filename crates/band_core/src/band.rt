@@ -67,7 +67,8 @@ fn keep_edges(rows: &[Row], top: &mut Kept, bottom: &mut Kept)
     ensures long_bottom { length bottom.new.heads.items ≡ length bottom.old.heads.items }
     ensures top { (j : ℕ) → get_or top.new.heads.items j 0 ≡ get_or (row_tails rows.now 0) j 0 }
     ensures bottom { (j : ℕ)
-        → get_or bottom.new.heads.items j 0 ≡ get_or (row_tails rows.now (length rows.now - 1)) j 0 }
+        → get_or bottom.new.heads.items j 0
+        ≡ get_or (row_tails rows.now (length rows.now - 1)) j 0 }
 {
     let last = rows.len() - 1;
     top.keep(rows[0].tails.as_slice(), rows[0].span);
@@ -106,7 +107,8 @@ fn step_with_due(
     ensures long_bottom { length bottom.new.heads.items ≡ length up.now }
     ensures top { (j : ℕ) → get_or top.new.heads.items j 0 ≡ get_or (row_heads rows.old 0) j 0 }
     ensures bottom { (j : ℕ)
-        → get_or bottom.new.heads.items j 0 ≡ get_or (row_heads rows.old (length rows.old - 1)) j 0 }
+        → get_or bottom.new.heads.items j 0
+        ≡ get_or (row_heads rows.old (length rows.old - 1)) j 0 }
     ensures shows { (p : Plane)
         → IsEmptyWest p
         → ShowRows rows.old p (pos y)

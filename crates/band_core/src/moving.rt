@@ -148,7 +148,8 @@ pub fn awake_cell(
         (e : ℕ → Plane) (due : Due) (width : ℕ)
         → IsEvolution e due width rows
         → AllShow e due height rows bands.now
-        → IsWaking e due (generation_at bands.now b) (b * height) (rows_in_band height rows b) cell.0 cell.1
+        → IsWaking e due (generation_at bands.now b)
+        (b * height) (rows_in_band height rows b) cell.0 cell.1
         ) }
     ensures none_due { result ≡ None → (d : Band) → HasNoneDue (get_or bands.now b d) }
     ensures quiet { result ≡ None

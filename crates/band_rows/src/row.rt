@@ -91,7 +91,8 @@ fn step_in_span(
     near: Span,
 ) -> Span
     requires some { near.first < near.end }
-    requires lit { IsLitWithin near.first near.end above.now heads.now below.now tails.old wires.old }
+    requires lit { IsLitWithin near.first near.end
+        above.now heads.now below.now tails.old wires.old }
     requires apart { AreDisjoint heads.now tails.old wires.old }
     ensures row { IsRow result tails.new heads.now wires.new }
     ensures cells { (x : ℕ)
@@ -111,7 +112,9 @@ impl Row {
     pub fn of_cells(alloc: Global, cells: &[State], words: usize) -> Result<Row, AllocError>
         requires { length cells.now ≤ 64 * words }
         ensures long { IfOk result (λ row. length row.heads.items ≡ words) }
-        ensures cells { IfOk result (λ row. (x : ℕ) → state_in_row row x ≡ get_or cells.now x Empty) }
+        ensures cells { IfOk result (λ row.
+            (x : ℕ) → state_in_row row x ≡ get_or cells.now x Empty
+            ) }
     {
         let mut heads = vec![in alloc; 0; words]?;
         let mut tails = vec![in alloc; 0; words]?;
@@ -207,7 +210,8 @@ impl Row {
     /// Goes on by one generation, between two other rows, of which the heads are asked for and spans beyond which they have
     /// none.
     pub fn step(&mut self, above: &[u64], above_span: Span, below: &[u64], below_span: Span)
-        requires facing { AreFacing (length self.old.heads.items) above.now above_span below.now below_span }
+        requires facing { AreFacing (length self.old.heads.items)
+            above.now above_span below.now below_span }
         ensures long { length self.new.heads.items ≡ length self.old.heads.items }
         ensures tails { (j : ℕ)
             → get_or self.new.tails.items j 0 ≡ get_or self.old.heads.items j 0 }
