@@ -10,3 +10,4 @@ pub mod Putting
 pub mod Resting
 pub mod Waking
 pub mod Lit
+pub mod OneBand

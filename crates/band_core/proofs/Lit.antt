@@ -1,5 +1,5 @@
 -- Marks of lit rows.
-use Rattle.std.proofs.Common.{ℕ, ◌<◌, ◌≡◌, sym, subst, false, inl, inr, List, length, get_or, arith}
+use Rattle.std.proofs.Common.{ℕ, ◌<◌, ◌≡◌, sym, subst, false, inl, inr, List, length, get_or}
 use Rattle.std.specs.Prelude.{All}
 use Rattle.std.proofs.lemmas.Bool.{cases_lt}
 use Rattle.std.proofs.lemmas.List.{get_or_past}

@@ -72,6 +72,13 @@ AllShow e due height rows bands =
 abbrev pub generations_of : List Band → List ℕ
 generations_of bands = map (λ band. band.generation) bands
 
+-- the generation of band b, and the number of its rows, where the bands are of a height over so many rows
+abbrev pub generation_at : List Band → ℕ → ℕ
+generation_at bands b = get_or (generations_of bands) b 0
+
+abbrev pub rows_in_band : (height rows b : ℕ) → ℕ
+rows_in_band height rows b = min height (rows - b * height)
+
 -- a head or a tail of rows from row y on
 pub data IsLitIn (rows : List Row) (y x z : ℕ) : Type 0 where
   head : (k : ℕ) → k < length rows → z ≡ y + k → is_set (row_heads rows k) x ≡ true → IsLitIn rows y x z

@@ -12,7 +12,9 @@ use band_rows::{Row, Span, first_bit, next_marked};
 // The column of a head or a tail of a row.
 fn lit_column(row: &Row) -> Option<usize>
     requires { length row.now.heads.items ≤ 2 ^ 58 }
-    ensures some { IfSome result (λ x. (is_set row.now.heads.items x ≡ true) ⊎ (is_set row.now.tails.items x ≡ true)) }
+    ensures some { IfSome result (λ x.
+        (is_set row.now.heads.items x ≡ true) ⊎ (is_set row.now.tails.items x ≡ true)
+        ) }
     ensures no_head { result ≡ None → (x : ℕ) → is_set row.now.heads.items x ≡ false }
     ensures no_tail { result ≡ None → (x : ℕ) → is_set row.now.tails.items x ≡ false }
 {
@@ -30,8 +32,14 @@ pub fn lit_cell(rows: &[Row], lit: &[u64], is_dark: bool, y: usize) -> Option<(u
     requires lit { AreMarked lit.now rows.now }
     requires dark { is_dark ≡ true → (j : ℕ) → get_or lit.now j 0 ≡ 0 }
     ensures some { IfSome result (λ cell. IsLitIn rows.now y cell.0 cell.1) }
-    ensures no_head { result ≡ None → (k x : ℕ) → k < length rows.now → is_set (row_heads rows.now k) x ≡ false }
-    ensures no_tail { result ≡ None → (k x : ℕ) → k < length rows.now → is_set (row_tails rows.now k) x ≡ false }
+    ensures no_head { result ≡ None
+        → (k x : ℕ)
+        → k < length rows.now
+        → is_set (row_heads rows.now k) x ≡ false }
+    ensures no_tail { result ≡ None
+        → (k x : ℕ)
+        → k < length rows.now
+        → is_set (row_tails rows.now k) x ≡ false }
 {
     if is_dark {
         return None;
@@ -62,7 +70,10 @@ pub fn faced_cell(
     requires few_up { length up.now ≤ 2 ^ 58 }
     requires few_down { length down.now ≤ 2 ^ 58 }
     requires room { y + many < 2 ^ 64 }
-    ensures some { IfSome result (λ cell. ((cell.1 + 1 ≡ y) × (is_set up.now cell.0 ≡ true)) ⊎ ((cell.1 ≡ y + many) × (is_set down.now cell.0 ≡ true))) }
+    ensures some { IfSome result (λ cell.
+        ((cell.1 + 1 ≡ y) × (is_set up.now cell.0 ≡ true))
+        ⊎ ((cell.1 ≡ y + many) × (is_set down.now cell.0 ≡ true))
+        ) }
     ensures none_up { result ≡ None → 0 < y → (x : ℕ) → is_set up.now x ≡ false }
     ensures none_down { result ≡ None → (x : ℕ) → is_set down.now x ≡ false }
 {
@@ -81,7 +92,8 @@ pub fn faced_cell(
 pub fn due_cell(band: &Band) -> Option<(u64, u64)>
     requires room { band.now.generation + 1 < 2 ^ 64 }
     ensures some { IfSome result (λ cell. IsNextDue band.now cell.0 cell.1) }
-    ensures none { result ≡ None → due_count (band.now.generation + 1) (drop band.now.done band.now.injections.items) ≡ 0 }
+    ensures none { result ≡ None
+        → due_count (band.now.generation + 1) (drop band.now.done band.now.injections.items) ≡ 0 }
 {
     if band.done >= band.injections.len() {
         return None;

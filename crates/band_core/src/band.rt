@@ -5,6 +5,7 @@ ghost use Rattle.ww_rule.specs.Wireworld.{Plane, Due, next_plane, injected};
 ghost use Rattle.ww_rule.specs.Injections.{has_cell};
 ghost use Rattle.lane_kernel.specs.Spans.{IsDarkBeyond};
 ghost use Rattle.band_rows.specs.Rows.{AreLong, AreMarked, IsEmptyWest, ShowRows, ShowsHeads, row_heads, row_tails};
+ghost use Rattle.band_rows.specs.Spans.{AreFacing};
 ghost use Rattle.band_core.specs.Band.{AreInRows, IsBand, IsEvolution, ShowsBand, bottom_at, top_at, injected_cells};
 
 use band_rows::{Kept, Row, Span, is_clear, mark_row, step_band};
@@ -45,7 +46,9 @@ pub fn inject(rows: &mut [Row], lit: &mut [u64], y: usize, words: usize, due: &[
     ensures long { AreLong words rows.new }
     ensures long_lit { length lit.new ≡ length lit.old }
     ensures lit { AreMarked lit.new rows.new }
-    ensures shows { (p : Plane) → ShowRows rows.old p (pos y) → ShowRows rows.new (injected (has_cell (injected_cells due.now)) p) (pos y) }
+    ensures shows { (p : Plane)
+        → ShowRows rows.old p (pos y)
+        → ShowRows rows.new (injected (has_cell (injected_cells due.now)) p) (pos y) }
 {
     for injection in due {
         let place = injection.y as usize - y;
@@ -58,11 +61,14 @@ pub fn inject(rows: &mut [Row], lit: &mut [u64], y: usize, words: usize, due: &[
 fn keep_edges(rows: &[Row], top: &mut Kept, bottom: &mut Kept)
     requires some { 0 < length rows.now }
     requires top { length (row_heads rows.now 0) ≡ length top.old.heads.items }
-    requires bottom { length (row_heads rows.now (length rows.now - 1)) ≡ length bottom.old.heads.items }
+    requires bottom { length (row_heads rows.now (length rows.now - 1))
+        ≡ length bottom.old.heads.items }
     ensures long_top { length top.new.heads.items ≡ length top.old.heads.items }
     ensures long_bottom { length bottom.new.heads.items ≡ length bottom.old.heads.items }
     ensures top { (j : ℕ) → get_or top.new.heads.items j 0 ≡ get_or (row_tails rows.now 0) j 0 }
-    ensures bottom { (j : ℕ) → get_or bottom.new.heads.items j 0 ≡ get_or (row_tails rows.now (length rows.now - 1)) j 0 }
+    ensures bottom { (j : ℕ)
+        → get_or bottom.new.heads.items j 0
+        ≡ get_or (row_tails rows.now (length rows.now - 1)) j 0 }
 {
     let last = rows.len() - 1;
     top.keep(rows[0].tails.as_slice(), rows[0].span);
@@ -88,11 +94,7 @@ fn step_with_due(
     requires long { AreLong (length up.now) rows.old }
     requires lit { AreMarked lit.old rows.old }
     requires near { length near.old ≡ length lit.old }
-    requires down { length down.now ≡ length up.now }
-    requires up_within { up_span.end ≤ length up.now }
-    requires down_within { down_span.end ≤ length up.now }
-    requires dark_up { IsDarkBeyond up_span.first up_span.end up.now }
-    requires dark_down { IsDarkBeyond down_span.first down_span.end down.now }
+    requires facing { AreFacing (length up.now) up.now up_span down.now down_span }
     requires top { length top.old.heads.items ≡ length up.now }
     requires bottom { length bottom.old.heads.items ≡ length up.now }
     requires inside { AreInRows (length up.now) y (length rows.old) due.now }
@@ -104,8 +106,15 @@ fn step_with_due(
     ensures long_top { length top.new.heads.items ≡ length up.now }
     ensures long_bottom { length bottom.new.heads.items ≡ length up.now }
     ensures top { (j : ℕ) → get_or top.new.heads.items j 0 ≡ get_or (row_heads rows.old 0) j 0 }
-    ensures bottom { (j : ℕ) → get_or bottom.new.heads.items j 0 ≡ get_or (row_heads rows.old (length rows.old - 1)) j 0 }
-    ensures shows { (p : Plane) → IsEmptyWest p → ShowRows rows.old p (pos y) → ShowsHeads up.now p (pos y -ℤ pos 1) → ShowsHeads down.now p (pos y +ℤ pos (length rows.old)) → ShowRows rows.new (injected (has_cell (injected_cells due.now)) (next_plane p)) (pos y) }
+    ensures bottom { (j : ℕ)
+        → get_or bottom.new.heads.items j 0
+        ≡ get_or (row_heads rows.old (length rows.old - 1)) j 0 }
+    ensures shows { (p : Plane)
+        → IsEmptyWest p
+        → ShowRows rows.old p (pos y)
+        → ShowsHeads up.now p (pos y -ℤ pos 1)
+        → ShowsHeads down.now p (pos y +ℤ pos (length rows.old))
+        → ShowRows rows.new (injected (has_cell (injected_cells due.now)) (next_plane p)) (pos y) }
 {
     step_band(rows, lit, near, up, up_span, down, down_span);
     keep_edges(rows, top, bottom);
@@ -146,14 +155,17 @@ impl Band {
     pub fn step(&mut self, y: usize, up: &[u64], up_span: Span, down: &[u64], down_span: Span)
         requires is { IsBand (length up.now) y (length self.old.rows.items) self.old }
         requires room { self.old.generation + 1 < 2 ^ 64 }
-        requires down { length down.now ≡ length up.now }
-        requires up_within { up_span.end ≤ length up.now }
-        requires down_within { down_span.end ≤ length up.now }
-        requires dark_up { IsDarkBeyond up_span.first up_span.end up.now }
-        requires dark_down { IsDarkBeyond down_span.first down_span.end down.now }
+        requires facing { AreFacing (length up.now) up.now up_span down.now down_span }
         ensures generation { self.new.generation ≡ self.old.generation + 1 }
         ensures is { IsBand (length up.now) y (length self.old.rows.items) self.new }
-        ensures shows { (e : ℕ → Plane) (due : Due) (width height : ℕ) → IsEvolution e due width height → ShowsBand e due y (length self.old.rows.items) self.old → ShowsHeads up.now (e self.old.generation) (pos y -ℤ pos 1) → ShowsHeads down.now (e self.old.generation) (pos y +ℤ pos (length self.old.rows.items)) → ShowsBand e due y (length self.old.rows.items) self.new }
+        ensures shows { (e : ℕ → Plane) (due : Due) (width height : ℕ)
+            → IsEvolution e due width height
+            → ShowsBand e due y (length self.old.rows.items) self.old
+            → ShowsHeads up.now (e self.old.generation) (pos y -ℤ pos 1)
+            → ShowsHeads down.now (e self.old.generation) (
+            pos y +ℤ pos (length self.old.rows.items)
+            )
+            → ShowsBand e due y (length self.old.rows.items) self.new }
     {
         self.generation += 1;
         let count = due_count(self.generation as u128, &self.injections[self.done..]);
@@ -185,7 +197,8 @@ impl Band {
         ensures done { self.new.done ≡ self.old.done }
         ensures injections { self.new.injections ≡ self.old.injections }
         ensures long_top { length self.new.top.heads.items ≡ length self.old.top.heads.items }
-        ensures long_bottom { length self.new.bottom.heads.items ≡ length self.old.bottom.heads.items }
+        ensures long_bottom { length self.new.bottom.heads.items
+            ≡ length self.old.bottom.heads.items }
         ensures top { (j : ℕ) → get_or self.new.top.heads.items j 0 ≡ 0 }
         ensures bottom { (j : ℕ) → get_or self.new.bottom.heads.items j 0 ≡ 0 }
     {

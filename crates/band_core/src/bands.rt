@@ -40,7 +40,9 @@ impl Model for Bands {
 // How many words a row of cells takes, where all rows are of one length.
 fn words_for(rows: &CellRows) -> usize
     ensures few { result ≤ 2 ^ 58 }
-    ensures wide { (width : ℕ) → All (λ row. length row ≡ width) rows.now → All (λ row. length row ≤ 64 * result) rows.now }
+    ensures wide { (width : ℕ)
+        → All (λ row. length row ≡ width) rows.now
+        → All (λ row. length row ≤ 64 * result) rows.now }
 {
     if rows.len() == 0 {
         return 0;

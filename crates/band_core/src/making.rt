@@ -37,7 +37,11 @@ fn shares(
     requires height { 0 < height }
     requires inside { All (λ i. i.y / height < count) injections.now }
     ensures many { IfOk result (λ shares. length shares.items ≡ count) }
-    ensures each { IfOk result (λ shares. (b : ℕ) → b < count → get_or shares.items b [] ≡ filter (λ i. i.y / height == b) injections.now) }
+    ensures each { IfOk result (λ shares.
+        (b : ℕ)
+        → b < count
+        → get_or shares.items b [] ≡ filter (λ i. i.y / height == b) injections.now
+        ) }
 {
     let mut shares = empty_lists(alloc, count)?;
     for injection in injections {
@@ -108,7 +112,12 @@ fn begin_band(
     requires in_order { AreInOrderFrom 0 injections.items }
     ensures is { IfOk result (λ band. IsBand words y many band) }
     ensures begun { IfOk result (λ band. band.generation ≡ 0) }
-    ensures shows { IfOk result (λ band. (e : ℕ → Plane) (due : Due) → e 0 ≡ injected (due 0) (plane_of cells.now) → AreDueIn injections.items due y many → ShowsBand e due y many band) }
+    ensures shows { IfOk result (λ band.
+        (e : ℕ → Plane) (due : Due)
+        → e 0 ≡ injected (due 0) (plane_of cells.now)
+        → AreDueIn injections.items due y many
+        → ShowsBand e due y many band
+        ) }
 {
     let mut rows = packed(alloc, cells, y, many, words)?;
     let mut lit = marks_of(alloc, &rows)?;
@@ -143,8 +152,14 @@ pub fn begin_bands(
     requires inside { AreInRows words 0 (length rows.now) injections.now }
     requires in_order { AreInOrderFrom 0 injections.now }
     ensures bands { IfOk result (λ bands. AreBands words height (length rows.now) bands.items) }
-    ensures begun { IfOk result (λ bands. generations_of bands.items ≡ replicate (bands_in (length rows.now) height) 0) }
-    ensures shows { IfOk result (λ bands. AllShow (driven (due_of_list injections.now) (plane_of rows.now)) (due_of_list injections.now) height (length rows.now) bands.items) }
+    ensures begun { IfOk result (λ bands.
+        generations_of bands.items ≡ replicate (bands_in (length rows.now) height) 0
+        ) }
+    ensures shows { IfOk result (λ bands.
+        AllShow (
+        driven (due_of_list injections.now) (plane_of rows.now)
+        ) (due_of_list injections.now) height (length rows.now) bands.items
+        ) }
 {
     let count = (rows.len() + (height - 1)) / height;
     let mut shares = shares(alloc, injections, height, count)?;

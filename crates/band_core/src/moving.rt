@@ -1,10 +1,10 @@
 // Bands that move on beside others.
-ghost use Rattle.std.specs.Prelude.{◌≡◌, ◌+◌, ◌-◌, ◌*◌, ◌<◌, ◌≤◌, ◌^◌, ℕ, length, get_or, min, slice_set, None, IfSome};
+ghost use Rattle.std.specs.Prelude.{◌≡◌, ◌+◌, ◌-◌, ◌*◌, ◌<◌, ◌≤◌, ◌^◌, ℕ, length, get_or, slice_set, None, IfSome};
 ghost use Rattle.ww_rule.specs.Wireworld.{Plane, Due};
 ghost use Rattle.lane_kernel.specs.Spans.{IsDarkBeyond};
 ghost use Rattle.band_core.specs.declared.band.Band.{Band};
 ghost use Rattle.band_core.specs.Bands.{not_ready, unready_neighbour};
-ghost use Rattle.band_core.specs.Band.{AreBands, AllShow, HasNoneDue, IsEvolution, IsQuiet, IsWaking, bottom_at, generations_of, top_at};
+ghost use Rattle.band_core.specs.Band.{AreBands, AllShow, HasNoneDue, IsEvolution, IsQuiet, IsWaking, bottom_at, generation_at, generations_of, rows_in_band, top_at};
 
 use crate::awake::{due_cell, faced_cell, lit_cell};
 use crate::band::Band;
@@ -15,7 +15,7 @@ use band_rows::Span;
 fn not_ready(bands: &[Band], b: usize, neighbour: usize) -> Option<NotReady>
     requires band { b < length bands.now }
     requires neighbour { neighbour < length bands.now }
-    requires room { get_or (generations_of bands.now) b 0 + 1 < 2 ^ 64 }
+    requires room { generation_at bands.now b + 1 < 2 ^ 64 }
     ensures { result ≡ not_ready (generations_of bands.now) b neighbour }
 {
     let own = bands[b].generation;
@@ -32,7 +32,7 @@ fn not_ready(bands: &[Band], b: usize, neighbour: usize) -> Option<NotReady>
 /// The neighbour beside which band b can't move on; the upper one is looked at first.
 pub fn unready_neighbour(bands: &[Band], b: usize) -> Option<NotReady>
     requires band { b < length bands.now }
-    requires room { get_or (generations_of bands.now) b 0 + 1 < 2 ^ 64 }
+    requires room { generation_at bands.now b + 1 < 2 ^ 64 }
     ensures { result ≡ unready_neighbour (generations_of bands.now) b }
 {
     if b > 0 {
@@ -49,10 +49,14 @@ pub fn unready_neighbour(bands: &[Band], b: usize) -> Option<NotReady>
 // The heads of the last row of bands at a generation, or of a dark row where there is no band, and a span beyond which it
 // has none.
 fn row_above<'a>(before: &'a [Band], generation: u64, dark: &'a [u64]) -> (&'a [u64], Span)
-    requires some { (d : Band) → 0 < length before.now → 0 < length (get_or before.now (length before.now - 1) d).rows.items }
+    requires some { (d : Band)
+        → 0 < length before.now
+        → 0 < length (get_or before.now (length before.now - 1) d).rows.items }
     requires dark { (j : ℕ) → get_or dark.now j 0 ≡ 0 }
     ensures first { length before.now ≡ 0 → result.0.now ≡ dark.now }
-    ensures later { (d : Band) → 0 < length before.now → result.0.now ≡ bottom_at generation (get_or before.now (length before.now - 1) d) }
+    ensures later { (d : Band)
+        → 0 < length before.now
+        → result.0.now ≡ bottom_at generation (get_or before.now (length before.now - 1) d) }
     ensures within { result.1.end ≤ length result.0.now }
     ensures dark { IsDarkBeyond result.1.first result.1.end result.0.now }
 {
@@ -64,10 +68,14 @@ fn row_above<'a>(before: &'a [Band], generation: u64, dark: &'a [u64]) -> (&'a [
 
 // The heads of the first row of bands, likewise.
 fn row_below<'a>(after: &'a [Band], generation: u64, dark: &'a [u64]) -> (&'a [u64], Span)
-    requires some { (d : Band) → 0 < length after.now → 0 < length (get_or after.now 0 d).rows.items }
+    requires some { (d : Band)
+        → 0 < length after.now
+        → 0 < length (get_or after.now 0 d).rows.items }
     requires dark { (j : ℕ) → get_or dark.now j 0 ≡ 0 }
     ensures last { length after.now ≡ 0 → result.0.now ≡ dark.now }
-    ensures earlier { (d : Band) → 0 < length after.now → result.0.now ≡ top_at generation (get_or after.now 0 d) }
+    ensures earlier { (d : Band)
+        → 0 < length after.now
+        → result.0.now ≡ top_at generation (get_or after.now 0 d) }
     ensures within { result.1.end ≤ length result.0.now }
     ensures dark { IsDarkBeyond result.1.first result.1.end result.0.now }
 {
@@ -82,13 +90,17 @@ fn row_below<'a>(after: &'a [Band], generation: u64, dark: &'a [u64]) -> (&'a [u
 #[inline(never)]
 pub fn move_band(bands: &mut [Band], b: usize, height: usize, rows: usize, dark: &[u64])
     requires band { b < length bands.old }
-    requires room { get_or (generations_of bands.old) b 0 + 1 < 2 ^ 64 }
+    requires room { generation_at bands.old b + 1 < 2 ^ 64 }
     requires ready { unready_neighbour (generations_of bands.old) b ≡ None }
     requires bands { AreBands (length dark.now) height rows bands.old }
     requires dark { (j : ℕ) → get_or dark.now j 0 ≡ 0 }
     ensures bands { AreBands (length dark.now) height rows bands.new }
-    ensures generations { generations_of bands.new ≡ slice_set (generations_of bands.old) b (get_or (generations_of bands.old) b 0 + 1) }
-    ensures shows { (e : ℕ → Plane) (due : Due) (width : ℕ) → IsEvolution e due width rows → AllShow e due height rows bands.old → AllShow e due height rows bands.new }
+    ensures generations { generations_of bands.new
+        ≡ slice_set (generations_of bands.old) b (generation_at bands.old b + 1) }
+    ensures shows { (e : ℕ → Plane) (due : Due) (width : ℕ)
+        → IsEvolution e due width rows
+        → AllShow e due height rows bands.old
+        → AllShow e due height rows bands.new }
 {
     let (before, rest) = bands.split_at_mut(b);
     let (own, after) = rest.split_at_mut(1);
@@ -101,11 +113,19 @@ pub fn move_band(bands: &mut [Band], b: usize, height: usize, rows: usize, dark:
 /// Moves band b on by one generation where nothing can change in it: its rows stay.
 pub fn rest_band(bands: &mut [Band], b: usize)
     requires band { b < length bands.old }
-    requires room { get_or (generations_of bands.old) b 0 + 1 < 2 ^ 64 }
+    requires room { generation_at bands.old b + 1 < 2 ^ 64 }
     requires none_due { (d : Band) → HasNoneDue (get_or bands.old b d) }
-    ensures bands { (words height rows : ℕ) → AreBands words height rows bands.old → AreBands words height rows bands.new }
-    ensures generations { generations_of bands.new ≡ slice_set (generations_of bands.old) b (get_or (generations_of bands.old) b 0 + 1) }
-    ensures shows { (e : ℕ → Plane) (due : Due) (width words height rows : ℕ) → IsEvolution e due width rows → AreBands words height rows bands.old → AllShow e due height rows bands.old → IsQuiet e due (get_or (generations_of bands.old) b 0) (b * height) (min height (rows - b * height)) → AllShow e due height rows bands.new }
+    ensures bands { (words height rows : ℕ)
+        → AreBands words height rows bands.old
+        → AreBands words height rows bands.new }
+    ensures generations { generations_of bands.new
+        ≡ slice_set (generations_of bands.old) b (generation_at bands.old b + 1) }
+    ensures shows { (e : ℕ → Plane) (due : Due) (width words height rows : ℕ)
+        → IsEvolution e due width rows
+        → AreBands words height rows bands.old
+        → AllShow e due height rows bands.old
+        → IsQuiet e due (generation_at bands.old b) (b * height) (rows_in_band height rows b)
+        → AllShow e due height rows bands.new }
 {
     bands[b].rest();
 }
@@ -119,14 +139,24 @@ pub fn awake_cell(
     dark: &[u64],
 ) -> Option<(u64, u64)>
     requires band { b < length bands.now }
-    requires room { get_or (generations_of bands.now) b 0 + 1 < 2 ^ 64 }
+    requires room { generation_at bands.now b + 1 < 2 ^ 64 }
     requires ready { unready_neighbour (generations_of bands.now) b ≡ None }
     requires bands { AreBands (length dark.now) height rows bands.now }
     requires dark { (j : ℕ) → get_or dark.now j 0 ≡ 0 }
     requires few { length dark.now ≤ 2 ^ 58 }
-    ensures some { IfSome result (λ cell. (e : ℕ → Plane) (due : Due) (width : ℕ) → IsEvolution e due width rows → AllShow e due height rows bands.now → IsWaking e due (get_or (generations_of bands.now) b 0) (b * height) (min height (rows - b * height)) cell.0 cell.1) }
+    ensures some { IfSome result (λ cell.
+        (e : ℕ → Plane) (due : Due) (width : ℕ)
+        → IsEvolution e due width rows
+        → AllShow e due height rows bands.now
+        → IsWaking e due (generation_at bands.now b)
+        (b * height) (rows_in_band height rows b) cell.0 cell.1
+        ) }
     ensures none_due { result ≡ None → (d : Band) → HasNoneDue (get_or bands.now b d) }
-    ensures quiet { result ≡ None → (e : ℕ → Plane) (due : Due) (width : ℕ) → IsEvolution e due width rows → AllShow e due height rows bands.now → IsQuiet e due (get_or (generations_of bands.now) b 0) (b * height) (min height (rows - b * height)) }
+    ensures quiet { result ≡ None
+        → (e : ℕ → Plane) (due : Due) (width : ℕ)
+        → IsEvolution e due width rows
+        → AllShow e due height rows bands.now
+        → IsQuiet e due (generation_at bands.now b) (b * height) (rows_in_band height rows b) }
 {
     let band = &bands[b];
     let y = b * height;

@@ -1,9 +1,9 @@
 -- Rows that are far from all light stay as they are.
-use Rattle.std.proofs.Common.{ℤ, pos, ◌+ℤ◌, ◌-ℤ◌, ℕ, ◌+◌, ◌-◌, ◌^◌, ◌<◌, ◌≡◌, refl, sym, ap, ap₂, subst, ◌∙◌, inl, inr, false, true, Bool, not, ◌&&◌, ◌||◌, ◌==◌, List, [], length, get_or, arith}
+use Rattle.std.proofs.Common.{ℤ, pos, ◌+ℤ◌, ◌-ℤ◌, ℕ, ◌+◌, ◌-◌, ◌<◌, ◌≡◌, refl, sym, ap, ap₂, subst, ◌∙◌, inl, inr, false, Bool, not, ◌&&◌, ◌||◌, ◌==◌, List, [], length, get_or, arith}
 use Rattle.std.proofs.lemmas.Bool.{cases_lt, eqb-true, not-false, or_parts}
 use Rattle.std.proofs.lemmas.Int.{ints}
 use Rattle.ww_rule.specs.Wireworld.{Plane, next_plane}
-use Rattle.lane_kernel.specs.Rows.{is_set, row_state, plane_of_rows, AreDisjoint}
+use Rattle.lane_kernel.specs.Rows.{is_set, row_state, next_in_rows, AreDisjoint}
 use Rattle.lane_kernel.specs.Spans.{IsDarkBeyond}
 use Rattle.lane_kernel.proofs.Parts.{dark_heads, dark_wires, wholly_dark}
 use Rattle.lane_kernel.proofs.Places.{Fit, stepped_cells, row_steps}
@@ -20,7 +20,7 @@ zero_fits : (words : List ℕ) → IsZero words → Fit words
 zero_fits words z j = let e = z j in omega (arith, e)
 
 -- a row without light between rows without heads is its own next one, and shows it
-pub dark_cells : (a h b t w : List ℕ) → IsZero a → IsZero h → IsZero b → IsZero t → AreDisjoint h t w → (x : ℕ) → row_state h t w x ≡ next_plane (plane_of_rows a h b t w) (pos x) (pos 1)
+pub dark_cells : (a h b t w : List ℕ) → IsZero a → IsZero h → IsZero b → IsZero t → AreDisjoint h t w → (x : ℕ) → row_state h t w x ≡ next_in_rows a h b t w x
 dark_cells a h b t w za zh zb zt apart =
     let none = dark_heads a h b w za zh zb in
     stepped_cells a h b t w h t w (zero_fits a za) (zero_fits h zh) (zero_fits b zb) (λ j. zh j ∙ sym (none j)) (λ j. zt j ∙ sym (zh j)) (λ j. sym (dark_wires a h b t w none zt j)) apart

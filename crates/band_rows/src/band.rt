@@ -3,6 +3,7 @@ ghost use Rattle.std.specs.Prelude.{◌≡◌, ◌+◌, ◌-◌, ◌<◌, ◌≤
 ghost use Rattle.ww_rule.specs.Wireworld.{Plane, next_plane};
 ghost use Rattle.lane_kernel.specs.Spans.{IsDarkBeyond};
 ghost use Rattle.band_rows.specs.Rows.{row_heads, row_tails, AreLong, AreMarked, IsEmptyWest, ShowRows, ShowsHeads};
+ghost use Rattle.band_rows.specs.Spans.{AreFacing};
 
 use crate::row::Row;
 use crate::row_marks::{mark_near, mark_row, next_marked};
@@ -25,11 +26,7 @@ pub fn step_band(
     requires long { AreLong (length up.now) rows.old }
     requires lit { AreMarked lit.old rows.old }
     requires near { length near.old ≡ length lit.old }
-    requires down { length down.now ≡ length up.now }
-    requires up_within { up_span.end ≤ length up.now }
-    requires down_within { down_span.end ≤ length up.now }
-    requires dark_up { IsDarkBeyond up_span.first up_span.end up.now }
-    requires dark_down { IsDarkBeyond down_span.first down_span.end down.now }
+    requires facing { AreFacing (length up.now) up.now up_span down.now down_span }
     ensures many { length rows.new ≡ length rows.old }
     ensures long { AreLong (length up.now) rows.new }
     ensures lit { AreMarked lit.new rows.new }
@@ -67,11 +64,13 @@ pub fn step_band(
 
 // The heads of the last of rows that have stepped, or of the row before a band, and a span beyond which it has none.
 fn above_of<'a>(before: &'a [Row], up: &'a [u64], up_span: Span) -> (&'a [u64], Span)
-    requires long { 0 < length before.now → length (row_heads before.now (length before.now - 1)) ≡ length up.now }
+    requires long { 0 < length before.now
+        → length (row_heads before.now (length before.now - 1)) ≡ length up.now }
     requires within { up_span.end ≤ length up.now }
     requires dark { IsDarkBeyond up_span.first up_span.end up.now }
     ensures first { length before.now ≡ 0 → result.0.now ≡ up.now }
-    ensures later { 0 < length before.now → result.0.now ≡ row_tails before.now (length before.now - 1) }
+    ensures later { 0 < length before.now
+        → result.0.now ≡ row_tails before.now (length before.now - 1) }
     ensures long { length result.0.now ≡ length up.now }
     ensures within { result.1.end ≤ length up.now }
     ensures dark { IsDarkBeyond result.1.first result.1.end result.0.now }

@@ -50,9 +50,12 @@ fn mark(heads: &mut [u64], tails: &mut [u64], wires: &mut [u64], x: usize, state
     ensures long_heads { length heads.new ≡ length heads.old }
     ensures long_tails { length tails.new ≡ length heads.old }
     ensures long_wires { length wires.new ≡ length heads.old }
-    ensures heads { (k : ℕ) → is_set heads.new k ≡ ((k == x && marks_head state) || is_set heads.old k) }
-    ensures tails { (k : ℕ) → is_set tails.new k ≡ ((k == x && marks_tail state) || is_set tails.old k) }
-    ensures wires { (k : ℕ) → is_set wires.new k ≡ ((k == x && marks_wire state) || is_set wires.old k) }
+    ensures heads { (k : ℕ)
+        → is_set heads.new k ≡ ((k == x && marks_head state) || is_set heads.old k) }
+    ensures tails { (k : ℕ)
+        → is_set tails.new k ≡ ((k == x && marks_tail state) || is_set tails.old k) }
+    ensures wires { (k : ℕ)
+        → is_set wires.new k ≡ ((k == x && marks_wire state) || is_set wires.old k) }
 {
     if matches!(state, State::Empty) {
         return;
@@ -91,7 +94,9 @@ pub fn put_head(heads: &mut [u64], tails: &mut [u64], wires: &mut [u64], x: usiz
     ensures long_tails { length tails.new ≡ length heads.old }
     ensures long_wires { length wires.new ≡ length heads.old }
     ensures apart { AreDisjoint heads.new tails.new wires.new }
-    ensures cells { (k : ℕ) → row_state heads.new tails.new wires.new k ≡ (if k == x then Head else row_state heads.old tails.old wires.old k) }
+    ensures cells { (k : ℕ)
+        → row_state heads.new tails.new wires.new k
+        ≡ (if k == x then Head else row_state heads.old tails.old wires.old k) }
     ensures other_heads { (j : ℕ) → j ≢ x / 64 → get_or heads.new j 0 ≡ get_or heads.old j 0 }
     ensures other_tails { (j : ℕ) → j ≢ x / 64 → get_or tails.new j 0 ≡ get_or tails.old j 0 }
 {

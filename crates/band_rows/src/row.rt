@@ -1,9 +1,9 @@
 // Rows that know where their light is.
-ghost use Rattle.std.specs.Prelude.{◌≡◌, ◌+◌, ◌-◌, ◌*◌, ◌/◌, ◌<◌, ◌≤◌, ◌^◌, ◌==◌, ◌&&◌, true, if◌then◌else◌, ℕ, pos, length, get_or, IfOk};
+ghost use Rattle.std.specs.Prelude.{◌≡◌, ◌+◌, ◌-◌, ◌*◌, ◌/◌, ◌<◌, ◌≤◌, ◌^◌, ◌==◌, ◌&&◌, true, if◌then◌else◌, ℕ, length, get_or, IfOk};
 ghost use Rattle.ww_rule.specs.declared.pattern.State.TheVariants.{Empty, Head};
-ghost use Rattle.ww_rule.specs.Wireworld.{next_plane};
-ghost use Rattle.lane_kernel.specs.Rows.{row_state, plane_of_rows, AreDisjoint};
-ghost use Rattle.lane_kernel.specs.Spans.{IsDarkBeyond, stays_within};
+ghost use Rattle.lane_kernel.specs.Rows.{row_state, next_in_rows, AreDisjoint};
+ghost use Rattle.lane_kernel.specs.Spans.{IsDarkBeyond, IsLitWithin, stays_within};
+ghost use Rattle.band_rows.specs.Spans.{AreFacing, IsRow};
 
 use crate::bits::{is_set, mark_all, put_head};
 use crate::span::{Span, hull, trimmed, widened};
@@ -44,30 +44,15 @@ fn step_in_word(
     wires: &mut [u64],
     j: usize,
 ) -> Span
-    requires within { j < length heads.old }
-    requires above { length above.now ≡ length heads.old }
-    requires below { length below.now ≡ length heads.old }
-    requires tails { length tails.old ≡ length heads.old }
-    requires wires { length wires.old ≡ length heads.old }
-    requires dark_above { IsDarkBeyond j (j + 1) above.now }
-    requires dark_heads { IsDarkBeyond j (j + 1) heads.old }
-    requires dark_below { IsDarkBeyond j (j + 1) below.now }
-    requires dark_tails { IsDarkBeyond j (j + 1) tails.old }
+    requires lit { IsLitWithin j (j + 1) above.now heads.old below.now tails.old wires.old }
     requires stays { stays_within j (j + 1) above.now heads.old below.now ≡ true }
     requires apart { AreDisjoint heads.old tails.old wires.old }
-    ensures long_heads { length heads.new ≡ length heads.old }
-    ensures long_tails { length tails.new ≡ length heads.old }
-    ensures long_wires { length wires.new ≡ length heads.old }
-    ensures within { result.end ≤ length heads.old }
-    ensures dark_heads { IsDarkBeyond result.first result.end heads.new }
-    ensures dark_tails { IsDarkBeyond result.first result.end tails.new }
-    ensures apart { AreDisjoint heads.new tails.new wires.new }
+    ensures long { length heads.new ≡ length heads.old }
+    ensures row { IsRow result heads.new tails.new wires.new }
     ensures tails { (i : ℕ) → get_or tails.new i 0 ≡ get_or heads.old i 0 }
     ensures cells { (x : ℕ)
         → row_state heads.new tails.new wires.new x
-        ≡ next_plane (plane_of_rows above.now heads.old below.now tails.old wires.old) (pos x) (
-        pos 1
-        ) }
+        ≡ next_in_rows above.now heads.old below.now tails.old wires.old x }
 {
     all_fit(heads);
     let is_lit = step_one_word(above, heads, below, tails, wires, j);
@@ -106,27 +91,13 @@ fn step_in_span(
     near: Span,
 ) -> Span
     requires some { near.first < near.end }
-    requires within { near.end ≤ length heads.now }
-    requires above { length above.now ≡ length heads.now }
-    requires below { length below.now ≡ length heads.now }
-    requires tails { length tails.old ≡ length heads.now }
-    requires wires { length wires.old ≡ length heads.now }
-    requires dark_above { IsDarkBeyond near.first near.end above.now }
-    requires dark_heads { IsDarkBeyond near.first near.end heads.now }
-    requires dark_below { IsDarkBeyond near.first near.end below.now }
-    requires dark_tails { IsDarkBeyond near.first near.end tails.old }
+    requires lit { IsLitWithin near.first near.end
+        above.now heads.now below.now tails.old wires.old }
     requires apart { AreDisjoint heads.now tails.old wires.old }
-    ensures long_tails { length tails.new ≡ length heads.now }
-    ensures long_wires { length wires.new ≡ length heads.now }
-    ensures within { result.end ≤ length heads.now }
-    ensures dark_heads { IsDarkBeyond result.first result.end tails.new }
-    ensures dark_tails { IsDarkBeyond result.first result.end heads.now }
-    ensures apart { AreDisjoint tails.new heads.now wires.new }
+    ensures row { IsRow result tails.new heads.now wires.new }
     ensures cells { (x : ℕ)
         → row_state tails.new heads.now wires.new x
-        ≡ next_plane (plane_of_rows above.now heads.now below.now tails.old wires.old) (pos x) (
-        pos 1
-        ) }
+        ≡ next_in_rows above.now heads.now below.now tails.old wires.old x }
 {
     let lo = western_end(above, heads, below, near.first);
     let hi = eastern_end(above, heads, below, near.end);
@@ -141,7 +112,9 @@ impl Row {
     pub fn of_cells(alloc: Global, cells: &[State], words: usize) -> Result<Row, AllocError>
         requires { length cells.now ≤ 64 * words }
         ensures long { IfOk result (λ row. length row.heads.items ≡ words) }
-        ensures cells { IfOk result (λ row. (x : ℕ) → state_in_row row x ≡ get_or cells.now x Empty) }
+        ensures cells { IfOk result (λ row.
+            (x : ℕ) → state_in_row row x ≡ get_or cells.now x Empty
+            ) }
     {
         let mut heads = vec![in alloc; 0; words]?;
         let mut tails = vec![in alloc; 0; words]?;
@@ -160,7 +133,8 @@ impl Row {
     pub fn make_head(&mut self, x: usize)
         requires { x / 64 < length self.old.heads.items }
         ensures long { length self.new.heads.items ≡ length self.old.heads.items }
-        ensures cells { (k : ℕ) → state_in_row self.new k ≡ (if k == x then Head else state_in_row self.old k) }
+        ensures cells { (k : ℕ)
+            → state_in_row self.new k ≡ (if k == x then Head else state_in_row self.old k) }
     {
         put_head(&mut self.heads, &mut self.tails, &mut self.wires, x);
         self.span = widened(self.span, x / 64);
@@ -184,21 +158,17 @@ impl Row {
     // Goes on by one generation, where the row's light and the heads beside it lie in word j and nothing comes over its
     // borders.
     fn go_on_in_word(&mut self, above: &[u64], below: &[u64], j: usize)
-        requires within { j < length self.old.heads.items }
-        requires above { length above.now ≡ length self.old.heads.items }
-        requires below { length below.now ≡ length self.old.heads.items }
-        requires dark_above { IsDarkBeyond j (j + 1) above.now }
-        requires dark_heads { IsDarkBeyond j (j + 1) self.old.heads.items }
-        requires dark_below { IsDarkBeyond j (j + 1) below.now }
-        requires dark_tails { IsDarkBeyond j (j + 1) self.old.tails.items }
+        requires lit { IsLitWithin j (j + 1)
+            above.now self.old.heads.items below.now
+            self.old.tails.items self.old.wires.items }
         requires stays { stays_within j (j + 1) above.now self.old.heads.items below.now ≡ true }
         ensures long { length self.new.heads.items ≡ length self.old.heads.items }
-        ensures tails { (j : ℕ) → get_or self.new.tails.items j 0 ≡ get_or self.old.heads.items j 0 }
+        ensures tails { (j : ℕ)
+            → get_or self.new.tails.items j 0 ≡ get_or self.old.heads.items j 0 }
         ensures cells { (x : ℕ)
             → row_state self.new.heads.items self.new.tails.items self.new.wires.items x
-            ≡ next_plane (plane_of_rows above.now self.old.heads.items below.now self.old.tails.items self.old.wires.items) (pos x) (
-            pos 1
-            ) }
+            ≡ next_in_rows above.now self.old.heads.items below.now
+            self.old.tails.items self.old.wires.items x }
     {
         self.span = step_in_word(
             above,
@@ -215,20 +185,16 @@ impl Row {
     #[inline(never)]
     fn go_on_in_span(&mut self, above: &[u64], below: &[u64], near: Span)
         requires some { near.first < near.end }
-        requires within { near.end ≤ length self.old.heads.items }
-        requires above { length above.now ≡ length self.old.heads.items }
-        requires below { length below.now ≡ length self.old.heads.items }
-        requires dark_above { IsDarkBeyond near.first near.end above.now }
-        requires dark_heads { IsDarkBeyond near.first near.end self.old.heads.items }
-        requires dark_below { IsDarkBeyond near.first near.end below.now }
-        requires dark_tails { IsDarkBeyond near.first near.end self.old.tails.items }
+        requires lit { IsLitWithin near.first near.end
+            above.now self.old.heads.items below.now
+            self.old.tails.items self.old.wires.items }
         ensures long { length self.new.heads.items ≡ length self.old.heads.items }
-        ensures tails { (j : ℕ) → get_or self.new.tails.items j 0 ≡ get_or self.old.heads.items j 0 }
+        ensures tails { (j : ℕ)
+            → get_or self.new.tails.items j 0 ≡ get_or self.old.heads.items j 0 }
         ensures cells { (x : ℕ)
             → row_state self.new.heads.items self.new.tails.items self.new.wires.items x
-            ≡ next_plane (plane_of_rows above.now self.old.heads.items below.now self.old.tails.items self.old.wires.items) (pos x) (
-            pos 1
-            ) }
+            ≡ next_in_rows above.now self.old.heads.items below.now
+            self.old.tails.items self.old.wires.items x }
     {
         self.span = step_in_span(
             above,
@@ -244,19 +210,15 @@ impl Row {
     /// Goes on by one generation, between two other rows, of which the heads are asked for and spans beyond which they have
     /// none.
     pub fn step(&mut self, above: &[u64], above_span: Span, below: &[u64], below_span: Span)
-        requires above { length above.now ≡ length self.old.heads.items }
-        requires below { length below.now ≡ length self.old.heads.items }
-        requires above_within { above_span.end ≤ length self.old.heads.items }
-        requires below_within { below_span.end ≤ length self.old.heads.items }
-        requires dark_above { IsDarkBeyond above_span.first above_span.end above.now }
-        requires dark_below { IsDarkBeyond below_span.first below_span.end below.now }
+        requires facing { AreFacing (length self.old.heads.items)
+            above.now above_span below.now below_span }
         ensures long { length self.new.heads.items ≡ length self.old.heads.items }
-        ensures tails { (j : ℕ) → get_or self.new.tails.items j 0 ≡ get_or self.old.heads.items j 0 }
+        ensures tails { (j : ℕ)
+            → get_or self.new.tails.items j 0 ≡ get_or self.old.heads.items j 0 }
         ensures cells { (x : ℕ)
             → row_state self.new.heads.items self.new.tails.items self.new.wires.items x
-            ≡ next_plane (plane_of_rows above.now self.old.heads.items below.now self.old.tails.items self.old.wires.items) (pos x) (
-            pos 1
-            ) }
+            ≡ next_in_rows above.now self.old.heads.items below.now
+            self.old.tails.items self.old.wires.items x }
     {
         let near = hull(above_span, hull(self.span, below_span));
         if near.is_empty() {

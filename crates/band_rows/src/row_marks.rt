@@ -84,7 +84,10 @@ pub fn mark_near(lit: &[u64], up_is_lit: bool, down_is_lit: bool, rows: usize, n
     requires near { length near.old ≡ length lit.now }
     requires enough { rows ≤ 64 * length lit.now }
     ensures long { length near.new ≡ length lit.now }
-    ensures far { (k : ℕ) → k < rows → is_set near.new k ≡ false → IsFar lit.now up_is_lit down_is_lit rows k }
+    ensures far { (k : ℕ)
+        → k < rows
+        → is_set near.new k ≡ false
+        → IsFar lit.now up_is_lit down_is_lit rows k }
 {
     if rows == 0 {
         return;

@@ -22,8 +22,12 @@ impl Span {
 
 /// A span that has both spans in it.
 pub fn hull(a: Span, b: Span) -> Span
-    ensures first { (words : List ℕ) → IsDarkBeyond a.first a.end words → IsDarkBeyond result.first result.end words }
-    ensures second { (words : List ℕ) → IsDarkBeyond b.first b.end words → IsDarkBeyond result.first result.end words }
+    ensures first { (words : List ℕ)
+        → IsDarkBeyond a.first a.end words
+        → IsDarkBeyond result.first result.end words }
+    ensures second { (words : List ℕ)
+        → IsDarkBeyond b.first b.end words
+        → IsDarkBeyond result.first result.end words }
     ensures within { (n : ℕ) → a.end ≤ n → b.end ≤ n → result.end ≤ n }
 {
     if a.is_empty() {

@@ -1,13 +1,13 @@
 -- A row whose light, with the heads beside it, lies in a span of words over whose borders nothing comes.
-use Rattle.std.proofs.Common.{ℕ, zero, suc, ◌+◌, ◌-◌, ◌*◌, ◌%◌, ◌/◌, ◌^◌, ◌<◌, ◌≤◌, ◌≡◌, refl, sym, ap, ap₂, ◌∙◌, inl, inr, Bool, true, false, not, ◌||◌, ◌==◌, List, length, get_or, arith}
-use Rattle.std.specs.Prelude.{◌≢◌, ◌⊎◌}
+use Rattle.std.proofs.Common.{ℕ, zero, suc, ◌+◌, ◌-◌, ◌*◌, ◌%◌, ◌/◌, ◌^◌, ◌<◌, ◌≤◌, ◌≡◌, refl, sym, ap, ap₂, ◌∙◌, inl, inr, true, false, ◌||◌, ◌==◌, List, length, get_or, arith}
+use Rattle.std.specs.Prelude.{◌⊎◌}
 use Rattle.std.proofs.lemmas.Bool.{cases_lt, cases_eq, or_cases, or_parts, and_parts, not-true, eqb-true, true≢false}
 use Rattle.std.proofs.lemmas.List.{get_or_past}
 use Rattle.std.proofs.lemmas.Nat.{and_comm}
 use Rattle.std.proofs.lemmas.Nat.Bits.{bit_at_lowest}
 use Rattle.std.specs.Int.RustNames.{bit_or, bit_and}
 use Rattle.lists.specs.Bits.{has_bit}
-use Rattle.lane_kernel.specs.Spans.{IsDarkBeyond, part, has_head, stays_west, stays_east, stays_within}
+use Rattle.lane_kernel.specs.Spans.{AreDarkWhere, IsBeyond, IsDarkBeyond, part, has_head, stays_within}
 use Rattle.lane_kernel.specs.Words.{ones_of, twos_of, from_west, from_east, fires, before, new_heads_of, new_wires_of, heads_word, wires_word}
 use Rattle.lane_kernel.proofs.Bits.{odd, most, ones_bit, twos_bit}
 use Rattle.lane_kernel.proofs.Parts.{same_heads, heads_by_wires, heads_of_none, no_heads, unchanged, part_inside, length_part}
@@ -59,12 +59,8 @@ before_dark lo hi xs dark (suc i) out =
 -- three rows of heads, and wires, that are dark beyond the words from lo up to hi, over whose borders nothing comes
 pub record IsAlone (lo hi : ℕ) (above heads below wires : List ℕ) : Type 0 where
   pub within : hi ≤ length heads
-  pub long_above : length above ≡ length heads
-  pub long_below : length below ≡ length heads
+  pub near : AreDarkWhere (IsBeyond lo hi) above heads below
   pub long_wires : length wires ≡ length heads
-  pub dark_above : IsDarkBeyond lo hi above
-  pub dark_heads : IsDarkBeyond lo hi heads
-  pub dark_below : IsDarkBeyond lo hi below
   pub fits_above : Fit above
   pub fits_heads : Fit heads
   pub fits_below : Fit below
@@ -88,9 +84,9 @@ module _ (lo hi : ℕ) (above heads below wires : List ℕ) (r : IsAlone lo hi a
             let lt : i < lo = omega (arith, e) in
             let le : i ≤ lo = omega (arith, e) in
             same_heads (get_or wires i 0)
-            (before_dark lo hi above r.dark_above i (inl le)) (r.dark_above i (inl lt)) (ap (λ k. get_or above k 0) e)
-            (before_dark lo hi heads r.dark_heads i (inl le)) (r.dark_heads i (inl lt)) (ap (λ k. get_or heads k 0) e)
-            (before_dark lo hi below r.dark_below i (inl le)) (r.dark_below i (inl lt)) (ap (λ k. get_or below k 0) e)
+            (before_dark lo hi above r.near.dark_above i (inl le)) (r.near.dark_above i (inl lt)) (ap (λ k. get_or above k 0) e)
+            (before_dark lo hi heads r.near.dark_heads i (inl le)) (r.near.dark_heads i (inl lt)) (ap (λ k. get_or heads k 0) e)
+            (before_dark lo hi below r.near.dark_below i (inl le)) (r.near.dark_below i (inl lt)) (ap (λ k. get_or below k 0) e)
             ∙ none_before (get_or above lo 0) (get_or heads lo 0) (get_or below lo 0) (get_or wires i 0) c.0 c.1 c.2
       ]
 
@@ -108,9 +104,9 @@ module _ (lo hi : ℕ) (above heads below wires : List ℕ) (r : IsAlone lo hi a
             let le : hi ≤ suc i = omega (arith, e) in
             let next : hi ≤ suc i + 1 = omega (arith, e) in
             same_heads {a0 = get_or above i 0} {h0 = get_or heads i 0} {b0 = get_or below i 0} (get_or wires (suc i) 0)
-            refl (r.dark_above (suc i) (inr le)) (r.dark_above (suc i + 1) (inr next))
-            refl (r.dark_heads (suc i) (inr le)) (r.dark_heads (suc i + 1) (inr next))
-            refl (r.dark_below (suc i) (inr le)) (r.dark_below (suc i + 1) (inr next))
+            refl (r.near.dark_above (suc i) (inr le)) (r.near.dark_above (suc i + 1) (inr next))
+            refl (r.near.dark_heads (suc i) (inr le)) (r.near.dark_heads (suc i + 1) (inr next))
+            refl (r.near.dark_below (suc i) (inr le)) (r.near.dark_below (suc i + 1) (inr next))
             ∙ none_after (get_or above i 0) (get_or heads i 0) (get_or below i 0) (get_or wires (suc i) 0) (r.fits_above i) (r.fits_heads i) (r.fits_below i) c.0 c.1 c.2
       ]
 
@@ -118,9 +114,9 @@ module _ (lo hi : ℕ) (above heads below wires : List ℕ) (r : IsAlone lo hi a
   heads_far : (i : ℕ) → (i + 1 < lo) ⊎ (hi < i) → heads_word above heads below wires i ≡ 0
   heads_far i out =
       same_heads (get_or wires i 0)
-      (before_dark lo hi above r.dark_above i (at_most out)) (r.dark_above i (here out)) (r.dark_above (i + 1) (next out))
-      (before_dark lo hi heads r.dark_heads i (at_most out)) (r.dark_heads i (here out)) (r.dark_heads (i + 1) (next out))
-      (before_dark lo hi below r.dark_below i (at_most out)) (r.dark_below i (here out)) (r.dark_below (i + 1) (next out))
+      (before_dark lo hi above r.near.dark_above i (at_most out)) (r.near.dark_above i (here out)) (r.near.dark_above (i + 1) (next out))
+      (before_dark lo hi heads r.near.dark_heads i (at_most out)) (r.near.dark_heads i (here out)) (r.near.dark_heads (i + 1) (next out))
+      (before_dark lo hi below r.near.dark_below i (at_most out)) (r.near.dark_below i (here out)) (r.near.dark_below (i + 1) (next out))
       ∙ no_heads (get_or wires i 0)
     where
       at_most : (i + 1 < lo) ⊎ (hi < i) → (i ≤ lo) ⊎ (hi < i)
@@ -145,9 +141,9 @@ module _ (lo hi : ℕ) (above heads below wires : List ℕ) (r : IsAlone lo hi a
   heads_beyond zero (inr le) =
       let next : hi ≤ 1 = omega (arith, le) in
       same_heads {a0 = 0} {h0 = 0} {b0 = 0} (get_or wires 0 0)
-      refl (r.dark_above 0 (inr le)) (r.dark_above 1 (inr next))
-      refl (r.dark_heads 0 (inr le)) (r.dark_heads 1 (inr next))
-      refl (r.dark_below 0 (inr le)) (r.dark_below 1 (inr next))
+      refl (r.near.dark_above 0 (inr le)) (r.near.dark_above 1 (inr next))
+      refl (r.near.dark_heads 0 (inr le)) (r.near.dark_heads 1 (inr next))
+      refl (r.near.dark_below 0 (inr le)) (r.near.dark_below 1 (inr next))
       ∙ no_heads (get_or wires 0 0)
   heads_beyond (suc i) (inr le) =
       elim (cases_eq (suc i) hi) [
@@ -177,9 +173,9 @@ module _ (lo hi : ℕ) (above heads below wires : List ℕ) (r : IsAlone lo hi a
     pub heads_inside : (k : ℕ) → lo + k < hi → heads_word (part lo hi above) (part lo hi heads) (part lo hi below) (part lo hi wires) k ≡ heads_word above heads below wires (lo + k)
     heads_inside k h =
         same_heads (get_or (part lo hi wires) k 0)
-        (before_same above r.dark_above k h) (part_inside lo hi above k h) (after_same above r.long_above r.dark_above k h)
-        (before_same heads r.dark_heads k h) (part_inside lo hi heads k h) (after_same heads refl r.dark_heads k h)
-        (before_same below r.dark_below k h) (part_inside lo hi below k h) (after_same below r.long_below r.dark_below k h)
+        (before_same above r.near.dark_above k h) (part_inside lo hi above k h) (after_same above r.near.long_above r.near.dark_above k h)
+        (before_same heads r.near.dark_heads k h) (part_inside lo hi heads k h) (after_same heads refl r.near.dark_heads k h)
+        (before_same below r.near.dark_below k h) (part_inside lo hi below k h) (after_same below r.near.long_below r.near.dark_below k h)
         ∙ heads_by_wires above heads below (lo + k) (part_inside lo hi wires k h)
 
     pub wires_inside : (tails : List ℕ) (k : ℕ) → lo + k < hi → wires_word (part lo hi above) (part lo hi heads) (part lo hi below) (part lo hi tails) (part lo hi wires) k ≡ wires_word above heads below tails wires (lo + k)

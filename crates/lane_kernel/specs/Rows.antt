@@ -1,8 +1,8 @@
 -- Rows of cells in words of bits: bit i of word j is cell 64 j + i.
-use Rattle.std.specs.Prelude.{ℕ, zero, suc, ◌/◌, ◌%◌, ◌≡◌, Bool, false, ◌&&◌, ◌||◌, ◌==◌, cond, List, get_or}
+use Rattle.std.specs.Prelude.{pos, ℕ, zero, suc, ◌/◌, ◌%◌, ◌≡◌, Bool, false, ◌&&◌, ◌||◌, ◌==◌, cond, List, get_or}
 use Rattle.ww_rule.specs.declared.pattern.State.{State}
 use Rattle.ww_rule.specs.declared.pattern.State.TheVariants.{Empty, Head, Tail, Conductor}
-use Rattle.ww_rule.specs.Wireworld.{Plane}
+use Rattle.ww_rule.specs.Wireworld.{Plane, heads_around, next_plane}
 use Rattle.ww_rule.specs.Grid.{framed}
 use Rattle.lists.specs.Bits.{has_bit}
 
@@ -28,6 +28,13 @@ three_rows above heads below tails wires x (suc (suc (suc y))) = Empty
 -- the plane of three rows that stand alone
 abbrev pub plane_of_rows : List ℕ → List ℕ → List ℕ → List ℕ → List ℕ → Plane
 plane_of_rows above heads below tails wires = framed (three_rows above heads below tails wires)
+
+-- the heads around the cell of column x of the middle row, and its state one generation on
+abbrev pub heads_in_rows : List ℕ → List ℕ → List ℕ → List ℕ → List ℕ → ℕ → ℕ
+heads_in_rows above heads below tails wires x = heads_around (plane_of_rows above heads below tails wires) (pos x) (pos 1)
+
+abbrev pub next_in_rows : List ℕ → List ℕ → List ℕ → List ℕ → List ℕ → ℕ → State
+next_in_rows above heads below tails wires x = next_plane (plane_of_rows above heads below tails wires) (pos x) (pos 1)
 
 -- no cell has its bit in two of the rows
 abbrev pub AreDisjoint : List ℕ → List ℕ → List ℕ → Type 0

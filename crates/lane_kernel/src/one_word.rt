@@ -2,7 +2,7 @@
 ghost use Rattle.std.specs.Prelude.{◌≡◌, ◌+◌, ◌<◌, ◌≢◌, ◌==◌, not, true, ℕ, length, get_or};
 ghost use Rattle.std.specs.Int.RustNames.{bit_or};
 ghost use Rattle.lane_kernel.specs.Words.{heads_word, wires_word, new_heads_of, new_wires_of};
-ghost use Rattle.lane_kernel.specs.Spans.{IsDarkBeyond, stays_within};
+ghost use Rattle.lane_kernel.specs.Spans.{AreDarkWhere, IsBeyond, IsDarkBeyond, IsLitWithin, stays_within};
 
 use crate::words::{alone, new_heads, new_wires};
 
@@ -10,12 +10,8 @@ use crate::words::{alone, new_heads, new_wires};
 // over its borders: no other word gets any.
 fn heads_in(above: &[u64], heads: &[u64], below: &[u64], wires: &[u64], j: usize) -> u64
     requires within { j < length heads.now }
-    requires above { length above.now ≡ length heads.now }
-    requires below { length below.now ≡ length heads.now }
+    requires near { AreDarkWhere (IsBeyond j (j + 1)) above.now heads.now below.now }
     requires wires { length wires.now ≡ length heads.now }
-    requires dark_above { IsDarkBeyond j (j + 1) above.now }
-    requires dark_heads { IsDarkBeyond j (j + 1) heads.now }
-    requires dark_below { IsDarkBeyond j (j + 1) below.now }
     requires stays { stays_within j (j + 1) above.now heads.now below.now ≡ true }
     ensures here { result ≡ heads_word above.now heads.now below.now wires.now j }
     ensures beside { (i : ℕ) → i ≢ j → heads_word above.now heads.now below.now wires.now i ≡ 0 }
@@ -33,22 +29,16 @@ pub fn step_one_word(
     wires: &mut [u64],
     j: usize,
 ) -> bool
-    requires within { j < length heads.old }
-    requires above { length above.now ≡ length heads.old }
-    requires below { length below.now ≡ length heads.old }
-    requires tails { length tails.old ≡ length heads.old }
-    requires wires { length wires.old ≡ length heads.old }
-    requires dark_above { IsDarkBeyond j (j + 1) above.now }
-    requires dark_heads { IsDarkBeyond j (j + 1) heads.old }
-    requires dark_below { IsDarkBeyond j (j + 1) below.now }
-    requires dark_tails { IsDarkBeyond j (j + 1) tails.old }
+    requires lit { IsLitWithin j (j + 1) above.now heads.old below.now tails.old wires.old }
     requires stays { stays_within j (j + 1) above.now heads.old below.now ≡ true }
     ensures long_heads { length heads.new ≡ length heads.old }
     ensures long_tails { length tails.new ≡ length heads.old }
     ensures long_wires { length wires.new ≡ length heads.old }
-    ensures heads { (i : ℕ) → get_or heads.new i 0 ≡ heads_word above.now heads.old below.now wires.old i }
+    ensures heads { (i : ℕ)
+        → get_or heads.new i 0 ≡ heads_word above.now heads.old below.now wires.old i }
     ensures tails { (i : ℕ) → get_or tails.new i 0 ≡ get_or heads.old i 0 }
-    ensures wires { (i : ℕ) → get_or wires.new i 0 ≡ wires_word above.now heads.old below.now tails.old wires.old i }
+    ensures wires { (i : ℕ)
+        → get_or wires.new i 0 ≡ wires_word above.now heads.old below.now tails.old wires.old i }
     ensures dark_heads { IsDarkBeyond j (j + 1) heads.new }
     ensures dark_tails { IsDarkBeyond j (j + 1) tails.new }
     ensures lit { result ≡ not (bit_or (get_or heads.new j 0) (get_or tails.new j 0) == 0) }

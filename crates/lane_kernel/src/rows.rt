@@ -1,7 +1,6 @@
 // Whole rows.
-ghost use Rattle.std.specs.Prelude.{◌≡◌, ◌+◌, ◌<◌, ◌≤◌, ◌⊎◌, ◌&&◌, ◌||◌, not, ℕ, pos, length, get_or};
-ghost use Rattle.ww_rule.specs.Wireworld.{heads_around, next_plane};
-ghost use Rattle.lane_kernel.specs.Rows.{is_one_or_two, is_set, row_state, plane_of_rows, AreDisjoint};
+ghost use Rattle.std.specs.Prelude.{◌≡◌, ◌+◌, ◌<◌, ◌≤◌, ◌⊎◌, ◌&&◌, ◌||◌, not, ℕ, length, get_or};
+ghost use Rattle.lane_kernel.specs.Rows.{is_one_or_two, is_set, row_state, heads_in_rows, next_in_rows, AreDisjoint};
 ghost use Rattle.lane_kernel.specs.Words.{heads_word, wires_word};
 
 use crate::lanes::step_four;
@@ -28,8 +27,12 @@ fn step_one(
         → k < 1
         → get_or wires.new (j + k) 0
         ≡ wires_word above.now heads.now below.now tails.old wires.old (j + k) }
-    ensures other_tails { (k : ℕ) → (k < j) ⊎ (j + 1 ≤ k) → get_or tails.new k 0 ≡ get_or tails.old k 0 }
-    ensures other_wires { (k : ℕ) → (k < j) ⊎ (j + 1 ≤ k) → get_or wires.new k 0 ≡ get_or wires.old k 0 }
+    ensures other_tails { (k : ℕ)
+        → (k < j) ⊎ (j + 1 ≤ k)
+        → get_or tails.new k 0 ≡ get_or tails.old k 0 }
+    ensures other_wires { (k : ℕ)
+        → (k < j) ⊎ (j + 1 ≤ k)
+        → get_or wires.new k 0 ≡ get_or wires.old k 0 }
 {
     let fired = new_heads(
         words_near(above, j),
@@ -92,22 +95,17 @@ pub fn step_rows(
         → is_set new_heads.new x
         ≡ (
         is_set wires.now x
-        && is_one_or_two (
-        heads_around (plane_of_rows above.now heads.now below.now tails.now wires.now) (pos x) (
-        pos 1
-        )
-        )
+        && is_one_or_two (heads_in_rows above.now heads.now below.now tails.now wires.now x)
         ) }
     ensures wires { (x : ℕ)
         → is_set new_wires.new x
         ≡ ((is_set wires.now x && not (is_set new_heads.new x)) || is_set tails.now x) }
-    ensures apart { AreDisjoint heads.now tails.now wires.now → AreDisjoint new_heads.new heads.now new_wires.new }
+    ensures apart { AreDisjoint heads.now tails.now wires.now
+        → AreDisjoint new_heads.new heads.now new_wires.new }
     ensures cells { AreDisjoint heads.now tails.now wires.now
         → (x : ℕ)
         → row_state new_heads.new heads.now new_wires.new x
-        ≡ next_plane (plane_of_rows above.now heads.now below.now tails.now wires.now) (pos x) (
-        pos 1
-        ) }
+        ≡ next_in_rows above.now heads.now below.now tails.now wires.now x }
 {
     new_heads.copy_from_slice(tails);
     new_wires.copy_from_slice(wires);

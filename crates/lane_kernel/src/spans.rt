@@ -1,7 +1,7 @@
 // A row that is dark but for a span of its words.
 ghost use Rattle.std.specs.Prelude.{◌≡◌, ◌-◌, ◌<◌, ◌≤◌, ◌⊎◌, ◌==◌, ◌&&◌, true, ℕ, length, get_or};
 ghost use Rattle.lane_kernel.specs.Words.{heads_word, wires_word};
-ghost use Rattle.lane_kernel.specs.Spans.{IsDarkBeyond, has_head, stays_east, stays_west, stays_within};
+ghost use Rattle.lane_kernel.specs.Spans.{AreDarkWhere, IsDarkBeyond, IsLitWithin, has_head, stays_east, stays_west, stays_within};
 
 use crate::rows::step_words;
 
@@ -54,11 +54,7 @@ pub fn stays_within(above: &[u64], heads: &[u64], below: &[u64], lo: usize, hi: 
 /// that border.
 pub fn western_end(above: &[u64], heads: &[u64], below: &[u64], first: usize) -> usize
     requires within { first < length heads.now }
-    requires above { length above.now ≡ length heads.now }
-    requires below { length below.now ≡ length heads.now }
-    requires dark_above { (j : ℕ) → j < first → get_or above.now j 0 ≡ 0 }
-    requires dark_heads { (j : ℕ) → j < first → get_or heads.now j 0 ≡ 0 }
-    requires dark_below { (j : ℕ) → j < first → get_or below.now j 0 ≡ 0 }
+    requires near { AreDarkWhere (λ j. j < first) above.now heads.now below.now }
     ensures order { result ≤ first }
     ensures stays { stays_west result above.now heads.now below.now ≡ true }
 {
@@ -73,11 +69,7 @@ pub fn western_end(above: &[u64], heads: &[u64], below: &[u64], first: usize) ->
 pub fn eastern_end(above: &[u64], heads: &[u64], below: &[u64], end: usize) -> usize
     requires some { 0 < end }
     requires within { end ≤ length heads.now }
-    requires above { length above.now ≡ length heads.now }
-    requires below { length below.now ≡ length heads.now }
-    requires dark_above { (j : ℕ) → end ≤ j → get_or above.now j 0 ≡ 0 }
-    requires dark_heads { (j : ℕ) → end ≤ j → get_or heads.now j 0 ≡ 0 }
-    requires dark_below { (j : ℕ) → end ≤ j → get_or below.now j 0 ≡ 0 }
+    requires near { AreDarkWhere (λ j. end ≤ j) above.now heads.now below.now }
     ensures order { end ≤ result }
     ensures within { result ≤ length heads.now }
     ensures stays { stays_east result above.now heads.now below.now ≡ true }
@@ -102,20 +94,14 @@ pub fn step_span(
     hi: usize,
 )
     requires order { lo ≤ hi }
-    requires within { hi ≤ length heads.now }
-    requires above { length above.now ≡ length heads.now }
-    requires below { length below.now ≡ length heads.now }
-    requires tails { length tails.old ≡ length heads.now }
-    requires wires { length wires.old ≡ length heads.now }
-    requires dark_above { IsDarkBeyond lo hi above.now }
-    requires dark_heads { IsDarkBeyond lo hi heads.now }
-    requires dark_below { IsDarkBeyond lo hi below.now }
-    requires dark_tails { IsDarkBeyond lo hi tails.old }
+    requires lit { IsLitWithin lo hi above.now heads.now below.now tails.old wires.old }
     requires stays { stays_within lo hi above.now heads.now below.now ≡ true }
     ensures long_tails { length tails.new ≡ length heads.now }
     ensures long_wires { length wires.new ≡ length heads.now }
-    ensures heads { (j : ℕ) → get_or tails.new j 0 ≡ heads_word above.now heads.now below.now wires.old j }
-    ensures wires { (j : ℕ) → get_or wires.new j 0 ≡ wires_word above.now heads.now below.now tails.old wires.old j }
+    ensures heads { (j : ℕ)
+        → get_or tails.new j 0 ≡ heads_word above.now heads.now below.now wires.old j }
+    ensures wires { (j : ℕ)
+        → get_or wires.new j 0 ≡ wires_word above.now heads.now below.now tails.old wires.old j }
     ensures dark { IsDarkBeyond lo hi tails.new }
 {
     step_words(

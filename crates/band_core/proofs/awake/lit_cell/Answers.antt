@@ -1,7 +1,6 @@
 use Rattle.std.proofs.Common.{ℕ, ◌+◌, ◌<◌, ◌≤◌, ◌≡◌, refl, ap, subst, ◌∙◌, inl, inr, false, List, length, arith}
 use Rattle.std.proofs.lemmas.Bool.{cases_lt, cases_eq}
 use Rattle.lane_kernel.specs.Rows.{is_set}
-use Rattle.band_rows.specs.declared.row.Row.{Row}
 use Rattle.band_rows.specs.Rows.{row_heads, row_tails}
 use Rattle.band_rows.proofs.Bands.{held}
 use Rattle.band_core.specs.Band.IsLitIn.{head, tail}

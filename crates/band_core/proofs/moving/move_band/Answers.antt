@@ -1,188 +1,98 @@
-use Rattle.std.proofs.Common.{pos, ◌+ℤ◌, ℕ, ◌+◌, ◌-◌, ◌*◌, min, ◌<◌, ◌≡◌, refl, sym, ap, subst, ◌∙◌, length, get_or, slice_set, arith}
-use Rattle.std.proofs.lemmas.List.{length-set, map-set, get_or-map, length-map}
+use Rattle.std.proofs.Common.{pos, ◌+ℤ◌, ◌+◌, ◌*◌, ◌≡◌, refl, sym, ap, subst, ◌∙◌, length, get_or, slice_set, arith}
+use Rattle.std.proofs.lemmas.List.{length-set, map-set}
 use Rattle.band_rows.specs.Rows.{ShowsHeads}
 use Rattle.band_core.specs.declared.band.Band.{Band}
-use Rattle.band_core.specs.Band.{AllShow, AreBands, IsBand, ShowsBand, generations_of}
-use Rattle.band_core.proofs.Facing.{IsAtOrAfter, above_long, below_long, above_shows, below_shows, upper_ready, lower_ready, first_of, later_of, last_of, earlier_of}
-use Rattle.band_rows.proofs.Parts.{parted, at_own, put_together}
+use Rattle.band_core.specs.Band.{AllShow, AreBands, IsBand, ShowsBand, generations_of, rows_in_band}
+use Rattle.band_core.proofs.OneBand.{AreSplit, is_band, own_generation, put_back, up_long, down_long, shows_band, up_shows, down_shows}
+use Rattle.band_rows.proofs.Parts.{parted}
 use Rattle.band_core.proofs.Putting.{put_one}
 use Rattle.band_core.proofs.moving.move_band.Goals as goal
+use Rattle.band_core.proofs.moving.move_band.Goals.{After-row_below}
 
--- what is said of a band of `many` rows, by its own number of them
-counted : (P : ℕ → Type 0) (m n : ℕ) → n ≡ m → P m → P n
-counted P m n e p = subst P (sym e) p
+-- the bands as they are split, the band itself, and the rows that face it
+split : (c : After-row_below) → AreSplit (length c.args.dark.now) c.args.height c.args.rows c.args.bands.now c.split_at_mut-before.result.0.now c.split_at_mut-own.result.0.now c.split_at_mut-own.result.1.now c.args.b
+split c =
+    let s = c.split_at_mut-before in
+    let t = c.split_at_mut-own in
+    record {
+      parts = parted c.args.bands.now s.result.0.now s.result.1.now t.result.0.now t.result.1.now c.args.b s.ensures.value s.ensures.front_len t.ensures.value t.ensures.front_len;
+      inside = c.requires.band;
+      are = c.requires.bands;
+    }
 
-some_height : (h n : ℕ) → 0 < min h n → 0 < h
-some_height h n lt = omega (arith, lt)
+own : (c : After-row_below) → IsBand (length c.args.dark.now) (c.args.b * c.args.height) (rows_in_band c.args.height c.args.rows c.args.b) (get_or c.split_at_mut-own.result.0.now 0 c.index-own-0.result)
+own c = is_band (split c) c.index-own-0.result
+
+up : (c : After-row_below) → length c.row_above.result.0.now ≡ length c.args.dark.now
+up c = up_long (split c) c.index-own-0.result c.args.dark.now refl c.row_above.result.0.now c.row_above.ensures.first c.row_above.ensures.later
+
+down : (c : After-row_below) → length c.row_below.result.0.now ≡ length c.args.dark.now
+down c = down_long (split c) c.index-own-0.result c.args.dark.now refl c.row_below.result.0.now c.row_below.ensures.last c.row_below.ensures.earlier
 
 pub step-requires-clause-is : goal.step-requires-clause-is
 step-requires-clause-is c =
-    let b = c.args.b in
-    let bands = c.args.bands.now in
-    let d = c.index-own-0.result in
-    let are = c.requires.bands in
-    let words = length c.args.dark.now in
-    let height = c.args.height in
-    let rows = c.args.rows in
-    let y = b * height in
-    let m = min height (rows - y) in
-    let s = c.split_at_mut-before in
-    let t = c.split_at_mut-own in
-    let w = parted bands s.result.0.now s.result.1.now t.result.0.now t.result.1.now b s.ensures.value s.ensures.front_len t.ensures.value t.ensures.front_len in
-    let band = get_or t.result.0.now 0 d in
-    let was : band ≡ get_or bands b d = at_own bands s.result.0.now t.result.0.now t.result.1.now b w d in
-    let g = band.generation in
-    let is = subst (IsBand words y m) (sym was) (are.each b d c.requires.band) in
-    let high = is.high in
-    let first = first_of bands s.result.0.now t.result.0.now t.result.1.now b w c.row_above.ensures.first in
-    let later = later_of bands s.result.0.now t.result.0.now t.result.1.now b w c.row_above.result.0.now g c.row_above.ensures.later in
-    let above = above_long words height rows bands are b d c.requires.band c.args.dark.now refl g c.row_above.result.0.now first later in
-    subst (λ w. IsBand w y (length band.rows.items) band) (sym above) (counted (λ n. IsBand words y n band) m (length band.rows.items) high is)
+    let k = (goal.at.step-requires-clause-is c).After-row_below in
+    let y = c.args.b * c.args.height in
+    let band = get_or c.split_at_mut-own.result.0.now 0 c.index-own-0.result in
+    subst (λ w. IsBand w y (length band.rows.items) band) (sym (up k)) (subst (λ n. IsBand (length c.args.dark.now) y n band) (sym (own k).high) (own k))
 
-pub step-requires-clause-down : goal.step-requires-clause-down
-step-requires-clause-down c =
-    let b = c.args.b in
-    let bands = c.args.bands.now in
-    let d = c.index-own-0.result in
-    let are = c.requires.bands in
-    let words = length c.args.dark.now in
-    let height = c.args.height in
-    let rows = c.args.rows in
-    let y = b * height in
-    let m = min height (rows - y) in
-    let s = c.split_at_mut-before in
-    let t = c.split_at_mut-own in
-    let w = parted bands s.result.0.now s.result.1.now t.result.0.now t.result.1.now b s.ensures.value s.ensures.front_len t.ensures.value t.ensures.front_len in
-    let band = get_or t.result.0.now 0 d in
-    let was : band ≡ get_or bands b d = at_own bands s.result.0.now t.result.0.now t.result.1.now b w d in
-    let g = band.generation in
-    let is = subst (IsBand words y m) (sym was) (are.each b d c.requires.band) in
-    let high = is.high in
-    let first = first_of bands s.result.0.now t.result.0.now t.result.1.now b w c.row_above.ensures.first in
-    let later = later_of bands s.result.0.now t.result.0.now t.result.1.now b w c.row_above.result.0.now g c.row_above.ensures.later in
-    let above = above_long words height rows bands are b d c.requires.band c.args.dark.now refl g c.row_above.result.0.now first later in
-    let last = last_of bands s.result.0.now t.result.0.now t.result.1.now b w c.row_below.ensures.last in
-    let earlier = earlier_of bands s.result.0.now t.result.0.now t.result.1.now b w c.row_below.result.0.now g c.row_below.ensures.earlier in
-    let below = below_long words height rows bands are b d c.requires.band c.args.dark.now refl g c.row_below.result.0.now last earlier in
-    below ∙ sym above
-
-pub step-requires-clause-down_within : goal.step-requires-clause-down_within
-step-requires-clause-down_within c =
-    let b = c.args.b in
-    let bands = c.args.bands.now in
-    let d = c.index-own-0.result in
-    let are = c.requires.bands in
-    let words = length c.args.dark.now in
-    let height = c.args.height in
-    let rows = c.args.rows in
-    let y = b * height in
-    let m = min height (rows - y) in
-    let s = c.split_at_mut-before in
-    let t = c.split_at_mut-own in
-    let w = parted bands s.result.0.now s.result.1.now t.result.0.now t.result.1.now b s.ensures.value s.ensures.front_len t.ensures.value t.ensures.front_len in
-    let band = get_or t.result.0.now 0 d in
-    let was : band ≡ get_or bands b d = at_own bands s.result.0.now t.result.0.now t.result.1.now b w d in
-    let g = band.generation in
-    let is = subst (IsBand words y m) (sym was) (are.each b d c.requires.band) in
-    let high = is.high in
-    let first = first_of bands s.result.0.now t.result.0.now t.result.1.now b w c.row_above.ensures.first in
-    let later = later_of bands s.result.0.now t.result.0.now t.result.1.now b w c.row_above.result.0.now g c.row_above.ensures.later in
-    let above = above_long words height rows bands are b d c.requires.band c.args.dark.now refl g c.row_above.result.0.now first later in
-    let last = last_of bands s.result.0.now t.result.0.now t.result.1.now b w c.row_below.ensures.last in
-    let earlier = earlier_of bands s.result.0.now t.result.0.now t.result.1.now b w c.row_below.result.0.now g c.row_below.ensures.earlier in
-    let below = below_long words height rows bands are b d c.requires.band c.args.dark.now refl g c.row_below.result.0.now last earlier in
+pub step-requires-clause-facing : goal.step-requires-clause-facing
+step-requires-clause-facing c =
+    let k = (goal.at.step-requires-clause-facing c).After-row_below in
     let within = c.row_below.ensures.within in
-    omega (arith, within, above, below)
+    let above = up k in
+    let below = down k in
+    record {
+      long_up = refl;
+      long_down = below ∙ sym above;
+      up_within = c.row_above.ensures.within;
+      down_within = omega (arith, within, above, below);
+      dark_up = c.row_above.ensures.dark;
+      dark_down = c.row_below.ensures.dark;
+    }
 
 pub returns-clause-bands : goal.returns-clause-bands
 returns-clause-bands c =
+    let k = (goal.at.returns-clause-bands c).After-row_below in
     let b = c.args.b in
     let bands = c.args.bands.now in
-    let d = c.index-own-0.result in
-    let are = c.requires.bands in
-    let words = length c.args.dark.now in
     let height = c.args.height in
     let rows = c.args.rows in
+    let words = length c.args.dark.now in
     let y = b * height in
-    let m = min height (rows - y) in
-    let s = c.split_at_mut-before in
-    let t = c.split_at_mut-own in
-    let w = parted bands s.result.0.now s.result.1.now t.result.0.now t.result.1.now b s.ensures.value s.ensures.front_len t.ensures.value t.ensures.front_len in
-    let band = get_or t.result.0.now 0 d in
-    let was : band ≡ get_or bands b d = at_own bands s.result.0.now t.result.0.now t.result.1.now b w d in
-    let g = band.generation in
-    let is = subst (IsBand words y m) (sym was) (are.each b d c.requires.band) in
-    let high = is.high in
-    let first = first_of bands s.result.0.now t.result.0.now t.result.1.now b w c.row_above.ensures.first in
-    let later = later_of bands s.result.0.now t.result.0.now t.result.1.now b w c.row_above.result.0.now g c.row_above.ensures.later in
-    let above = above_long words height rows bands are b d c.requires.band c.args.dark.now refl g c.row_above.result.0.now first later in
     let next = c.step.new.self in
-    let put = put_together bands s.result.0.now t.result.0.now t.result.1.now b w next in
-    let after : IsBand words y m next = subst (λ w. IsBand w y m next) above (subst (λ n. IsBand (length c.row_above.result.0.now) y n next) high c.step.ensures.is) in
-    subst (AreBands words height rows) (sym put)
+    let after : IsBand words y (rows_in_band height rows b) next = subst (λ w. IsBand w y (rows_in_band height rows b) next) (up k) (subst (λ n. IsBand (length c.row_above.result.0.now) y n next) (own k).high c.step.ensures.is) in
+    subst (AreBands words height rows) (sym (put_back (split k) c.index-own-0.result next))
     (record {
-      many = length-set bands b next ∙ are.many;
-      each = put_one (λ k band. IsBand words (k * height) (min height (rows - k * height)) band) bands b next c.requires.band after are.each;
+      many = length-set bands b next ∙ c.requires.bands.many;
+      each = put_one (λ k band. IsBand words (k * height) (rows_in_band height rows k) band) bands b next c.requires.band after c.requires.bands.each;
     })
 
 pub returns-clause-generations : goal.returns-clause-generations
 returns-clause-generations c =
+    let k = (goal.at.returns-clause-generations c).After-row_below in
     let b = c.args.b in
     let bands = c.args.bands.now in
     let d = c.index-own-0.result in
-    let are = c.requires.bands in
-    let words = length c.args.dark.now in
-    let height = c.args.height in
-    let rows = c.args.rows in
-    let y = b * height in
-    let m = min height (rows - y) in
-    let s = c.split_at_mut-before in
-    let t = c.split_at_mut-own in
-    let w = parted bands s.result.0.now s.result.1.now t.result.0.now t.result.1.now b s.ensures.value s.ensures.front_len t.ensures.value t.ensures.front_len in
-    let band = get_or t.result.0.now 0 d in
-    let was : band ≡ get_or bands b d = at_own bands s.result.0.now t.result.0.now t.result.1.now b w d in
-    let g = band.generation in
-    let is = subst (IsBand words y m) (sym was) (are.each b d c.requires.band) in
-    let high = is.high in
     let next = c.step.new.self in
-    let put = put_together bands s.result.0.now t.result.0.now t.result.1.now b w next in
-    let own : g ≡ get_or (generations_of bands) b 0 = ap (λ (band : Band). band.generation) was ∙ sym (get_or-map (λ (band : Band). band.generation) bands b d 0 c.requires.band) in
-    ap generations_of put ∙ map-set (λ (band : Band). band.generation) bands b next ∙ ap (slice_set (generations_of bands) b) (c.step.ensures.generation ∙ ap (λ n. n + 1) own)
+    ap generations_of (put_back (split k) d next) ∙ map-set (λ (band : Band). band.generation) bands b next
+    ∙ ap (slice_set (generations_of bands) b) (c.step.ensures.generation ∙ ap (λ n. n + 1) (own_generation (split k) d))
 
 pub returns-clause-shows : goal.returns-clause-shows
 returns-clause-shows c e due width evo shows =
+    let k = (goal.at.returns-clause-shows c).After-row_below in
+    let d = c.index-own-0.result in
     let b = c.args.b in
     let bands = c.args.bands.now in
-    let d = c.index-own-0.result in
-    let are = c.requires.bands in
-    let words = length c.args.dark.now in
     let height = c.args.height in
     let rows = c.args.rows in
     let y = b * height in
-    let m = min height (rows - y) in
-    let s = c.split_at_mut-before in
-    let t = c.split_at_mut-own in
-    let w = parted bands s.result.0.now s.result.1.now t.result.0.now t.result.1.now b s.ensures.value s.ensures.front_len t.ensures.value t.ensures.front_len in
-    let band = get_or t.result.0.now 0 d in
-    let was : band ≡ get_or bands b d = at_own bands s.result.0.now t.result.0.now t.result.1.now b w d in
-    let g = band.generation in
-    let is = subst (IsBand words y m) (sym was) (are.each b d c.requires.band) in
-    let high = is.high in
-    let first = first_of bands s.result.0.now t.result.0.now t.result.1.now b w c.row_above.ensures.first in
-    let later = later_of bands s.result.0.now t.result.0.now t.result.1.now b w c.row_above.result.0.now g c.row_above.ensures.later in
-    let above = above_long words height rows bands are b d c.requires.band c.args.dark.now refl g c.row_above.result.0.now first later in
-    let last = last_of bands s.result.0.now t.result.0.now t.result.1.now b w c.row_below.ensures.last in
-    let earlier = earlier_of bands s.result.0.now t.result.0.now t.result.1.now b w c.row_below.result.0.now g c.row_below.ensures.earlier in
-    let below = below_long words height rows bands are b d c.requires.band c.args.dark.now refl g c.row_below.result.0.now last earlier in
+    let band = get_or c.split_at_mut-own.result.0.now 0 d in
+    let high = (own k).high in
     let next = c.step.new.self in
-    let put = put_together bands s.result.0.now t.result.0.now t.result.1.now b w next in
-    let own : g ≡ get_or (generations_of bands) b 0 = ap (λ (band : Band). band.generation) was ∙ sym (get_or-map (λ (band : Band). band.generation) bands b d 0 c.requires.band) in
-    let some : 0 < height = some_height _ _ is.some in
-    let up = above_shows e due words height rows width some evo bands are b d c.requires.band c.args.dark.now c.requires.dark g shows c.row_above.result.0.now first later
-    (λ lt. subst (λ g. IsAtOrAfter g (get_or (generations_of bands) (b - 1) 0)) (sym own) (upper_ready (generations_of bands) b c.requires.ready lt)) in
-    let down = below_shows e due words height rows width some evo bands are b d c.requires.band c.args.dark.now c.requires.dark g shows c.row_below.result.0.now last earlier
-    (λ lt. subst (λ g. IsAtOrAfter g (get_or (generations_of bands) (b + 1) 0)) (sym own) (lower_ready (generations_of bands) b c.requires.ready (let n = length-map bands (λ (band : Band). band.generation) in omega (arith, lt, n)))) in
-    let here = subst (ShowsBand e due y m) (sym was) (shows b d c.requires.band) in
-    let after = c.step.ensures.shows e due width rows evo (counted (λ n. ShowsBand e due y n band) m (length band.rows.items) high here) up (counted (λ n. ShowsHeads c.row_below.result.0.now (e g) (pos y +ℤ pos n)) m (length band.rows.items) high down) in
-    subst (AllShow e due height rows) (sym put)
-    (put_one (λ k band. ShowsBand e due (k * height) (min height (rows - k * height)) band) bands b next c.requires.band (subst (λ n. ShowsBand e due y n next) high after) shows)
+    let above = up_shows (split k) d e due width evo shows c.args.dark.now c.requires.dark c.requires.ready c.row_above.result.0.now c.row_above.ensures.first c.row_above.ensures.later in
+    let below = down_shows (split k) d e due width evo shows c.args.dark.now c.requires.dark c.requires.ready c.row_below.result.0.now c.row_below.ensures.last c.row_below.ensures.earlier in
+    let here = shows_band (split k) d e due width evo shows in
+    let after = c.step.ensures.shows e due width rows evo (subst (λ n. ShowsBand e due y n band) (sym high) here) above (subst (λ n. ShowsHeads c.row_below.result.0.now (e band.generation) (pos y +ℤ pos n)) (sym high) below) in
+    subst (AllShow e due height rows) (sym (put_back (split k) d next))
+    (put_one (λ k band. ShowsBand e due (k * height) (rows_in_band height rows k) band) bands b next c.requires.band (subst (λ n. ShowsBand e due y n next) high after) shows)

@@ -11,6 +11,7 @@ use Rattle.band_rows.proofs.Far.{span_dark, unlit_row, unmarked}
 use Rattle.band_rows.proofs.Moved.{AreMoved, jumped, none_moved}
 use Rattle.lane_kernel.proofs.Places.{row_steps}
 use Rattle.band_rows.proofs.band.step_band.Goals as goal
+use Rattle.band_rows.proofs.band.step_band.Goals.{After-split_at_mut-own}
 
 -- a part of a row, in the parts
 field_before : (f : Row → List ℕ) (rows before own after : List Row) (r k : ℕ) → IsParted rows r before own after → k < r → field f before k ≡ field f rows k
@@ -25,6 +26,13 @@ own_long n rows before own after r d p long =
     let lt : r < length rows = omega (arith, m) in
     ap (λ (row : Row). length row.heads.items) (at_own rows before own after r p d) ∙ sym (ap length (held (λ row. row.heads.items) rows r (get_or rows r d) d lt refl)) ∙ long r lt
 
+-- the rows as they are split about row r
+parts : (c : After-split_at_mut-own) → IsParted c.loop-r.rows c.loop-r.r c.split_at_mut-before.result.0.now c.split_at_mut-own.result.0.now c.split_at_mut-own.result.1.now
+parts c =
+    let s = c.split_at_mut-before in
+    let t = c.split_at_mut-own in
+    parted c.loop-r.rows s.result.0.now s.result.1.now t.result.0.now t.result.1.now c.loop-r.r s.ensures.value s.ensures.front_len t.ensures.value t.ensures.front_len
+
 pub above_of-requires-clause-long : goal.above_of-requires-clause-long
 above_of-requires-clause-long c lt =
     let rows = c.loop-r.rows in
@@ -33,7 +41,7 @@ above_of-requires-clause-long c lt =
     let v = i.moved in
     let s = c.split_at_mut-before in
     let t = c.split_at_mut-own in
-    let w = parted rows s.result.0.now s.result.1.now t.result.0.now t.result.1.now r s.ensures.value s.ensures.front_len t.ensures.value t.ensures.front_len in
+    let w = parts (goal.at.above_of-requires-clause-long c).After-split_at_mut-own in
     let place = s.ensures.front_len in
     let many = v.many in
     let test = c.loop-r-test.true in
@@ -48,9 +56,9 @@ below_of-requires-clause-long c lt =
     let v = i.moved in
     let s = c.split_at_mut-before in
     let t = c.split_at_mut-own in
-    let w = parted rows s.result.0.now s.result.1.now t.result.0.now t.result.1.now r s.ensures.value s.ensures.front_len t.ensures.value t.ensures.front_len in
+    let w = parts (goal.at.below_of-requires-clause-long c).After-split_at_mut-own in
     let m = many_parts rows s.result.0.now t.result.0.now t.result.1.now r w in
-    ap length (field_after (λ row. row.heads.items) rows s.result.0.now t.result.0.now t.result.1.now r w) ∙ v.long (r + 1) (omega (arith, lt, m)) ∙ sym c.requires.down
+    ap length (field_after (λ row. row.heads.items) rows s.result.0.now t.result.0.now t.result.1.now r w) ∙ v.long (r + 1) (omega (arith, lt, m)) ∙ sym c.requires.facing.long_down
 
 pub step-requires : goal.step-requires
 step-requires c =
@@ -58,20 +66,22 @@ step-requires c =
     let r = c.loop-r.r in
     let s = c.split_at_mut-before in
     let t = c.split_at_mut-own in
-    let w = parted rows s.result.0.now s.result.1.now t.result.0.now t.result.1.now r s.ensures.value s.ensures.front_len t.ensures.value t.ensures.front_len in
+    let w = parts (goal.at.step-requires c).After-split_at_mut-own in
     let long = own_long (length c.args.up.now) rows s.result.0.now t.result.0.now t.result.1.now r c.index-own-0.result w c.loop-r.invariant.moved.long in
     let above = c.above_of.ensures in
     let below = c.below_of.ensures in
     let above_end = above.within in
     let below_end = below.within in
-    let down = c.requires.down in
+    let down = c.requires.facing.long_down in
     record {
-      above = above.long ∙ sym long;
-      below = below.long ∙ down ∙ sym long;
-      above_within = omega (arith, long, above_end);
-      below_within = omega (arith, long, down, below_end);
-      dark_above = above.dark;
-      dark_below = below.dark;
+      facing = record {
+        long_up = above.long ∙ sym long;
+        long_down = below.long ∙ down ∙ sym long;
+        up_within = omega (arith, long, above_end);
+        down_within = omega (arith, long, down, below_end);
+        dark_up = above.dark;
+        dark_down = below.dark;
+      };
     }
 
 pub loop-r-preserved : goal.loop-r-preserved
@@ -82,7 +92,7 @@ loop-r-preserved c =
     let v = i.moved in
     let s = c.split_at_mut-before in
     let t = c.split_at_mut-own in
-    let w = parted rows s.result.0.now s.result.1.now t.result.0.now t.result.1.now r s.ensures.value s.ensures.front_len t.ensures.value t.ensures.front_len in
+    let w = parts (goal.at.loop-r-preserved c).After-split_at_mut-own in
     let many = v.many in
     let test = c.loop-r-test.true in
     let lt : r < length rows = omega (arith, many, test) in
@@ -95,7 +105,7 @@ loop-r-preserved c =
     let next = c.step.new.self in
     let new = s.result.0.now ++ (slice_set t.result.0.now 0 next ++ t.result.1.now) in
     let put : new ≡ slice_set rows r next = put_together rows s.result.0.now t.result.0.now t.result.1.now r w next in
-    let parts = many_parts rows s.result.0.now t.result.0.now t.result.1.now r w in
+    let split = many_parts rows s.result.0.now t.result.0.now t.result.1.now r w in
     let at : length new ≡ length rows = ap length put ∙ length-set rows r next in
     let old = c.args.rows.now in
     let e = c.step.ensures in
@@ -139,8 +149,8 @@ loop-r-preserved c =
                 (λ o j. v.tails (r - 1) j (omega (arith, o)) (omega (arith, many, lt)))
                 up (λ o. heads_shown (row_heads old (r - 1)) (row_tails old (r - 1)) (row_wires old (r - 1)) p (y +ℤ pos (r - 1)) (shown (r - 1) (omega (arith, many, lt)))) in
                 let below = below_shows c.below_of.result.0.now c.args.down.now (row_heads old (r + 1)) p y r (length old) (omega (arith, many, lt))
-                (λ o. c.below_of.ensures.last (omega (arith, o, many, parts)))
-                (λ o. c.below_of.ensures.earlier (omega (arith, o, many, parts)) ∙ field_after (λ row. row.heads.items) rows s.result.0.now t.result.0.now t.result.1.now r w ∙ v.left_heads (r + 1) (omega arith))
+                (λ o. c.below_of.ensures.last (omega (arith, o, many, split)))
+                (λ o. c.below_of.ensures.earlier (omega (arith, o, many, split)) ∙ field_after (λ row. row.heads.items) rows s.result.0.now t.result.0.now t.result.1.now r w ∙ v.left_heads (r + 1) (omega arith))
                 down (λ o. heads_shown (row_heads old (r + 1)) (row_tails old (r + 1)) (row_wires old (r + 1)) p (y +ℤ pos (r + 1)) (shown (r + 1) o)) in
                 subst (λ k. Shows (row_heads new k) (row_tails new k) (row_wires new k) (next_plane p) (y +ℤ pos k)) (sym q)
                 (shows_same (next_plane p) (y +ℤ pos r) (here (λ row. row.heads.items)) (here (λ row. row.tails.items)) (here (λ row. row.wires.items))
@@ -166,8 +176,8 @@ loop-r-preserved c =
     record {
       long_lit = c.mark_row.ensures.long ∙ i.long_lit;
       moved = jumped c.args.up.now c.args.down.now c.args.lit.now marks (not c.is_empty.result) (not c.is_empty-2.result) old new (r + 1) c.next_marked-r-in-loop-r.result c.requires.lit
-          (span_dark c.args.up_span.first c.args.up_span.end c.args.up.now c.is_empty.result c.is_empty.ensures c.requires.dark_up)
-          (span_dark c.args.down_span.first c.args.down_span.end c.args.down.now c.is_empty-2.result c.is_empty-2.ensures c.requires.dark_down)
+          (span_dark c.args.up_span.first c.args.up_span.end c.args.up.now c.is_empty.result c.is_empty.ensures c.requires.facing.dark_up)
+          (span_dark c.args.down_span.first c.args.down_span.end c.args.down.now c.is_empty-2.result c.is_empty-2.ensures c.requires.facing.dark_down)
           c.next_marked-r-in-loop-r.ensures.order (λ k ge lt inside. c.mark_near.ensures.far k inside (c.next_marked-r-in-loop-r.ensures.clear k ge lt)) moved;
     }
 
@@ -178,8 +188,8 @@ loop-r-init c =
     record {
       long_lit = c.fill.ensures.len;
       moved = jumped c.args.up.now c.args.down.now c.args.lit.now c.fill.new.self (not c.is_empty.result) (not c.is_empty-2.result) old old 0 c.next_marked-r.result q.lit
-          (span_dark c.args.up_span.first c.args.up_span.end c.args.up.now c.is_empty.result c.is_empty.ensures q.dark_up)
-          (span_dark c.args.down_span.first c.args.down_span.end c.args.down.now c.is_empty-2.result c.is_empty-2.ensures q.dark_down)
+          (span_dark c.args.up_span.first c.args.up_span.end c.args.up.now c.is_empty.result c.is_empty.ensures q.facing.dark_up)
+          (span_dark c.args.down_span.first c.args.down_span.end c.args.down.now c.is_empty-2.result c.is_empty-2.ensures q.facing.dark_down)
           c.next_marked-r.ensures.order (λ k ge lt inside. c.mark_near.ensures.far k inside (c.next_marked-r.ensures.clear k ge lt))
           (none_moved c.args.up.now c.args.down.now c.fill.new.self old q.long);
     }

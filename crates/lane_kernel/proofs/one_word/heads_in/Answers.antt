@@ -1,4 +1,4 @@
-use Rattle.std.proofs.Common.{ℕ, ◌+◌, sym, ◌∙◌, get_or, arith}
+use Rattle.std.proofs.Common.{◌+◌, sym, ◌∙◌, get_or, arith}
 use Rattle.lane_kernel.proofs.Alone.{heads_beyond}
 use Rattle.lane_kernel.proofs.OneWord.{heads_here, outside}
 use Rattle.lane_kernel.proofs.Parts.{same_heads}
@@ -12,7 +12,7 @@ returns-clause-here c =
     let z = c.alone-3.ensures in
     c.new_heads.ensures
     ∙ same_heads (get_or c.args.wires.now c.args.j 0) x.before x.here x.after y.before y.here y.after z.before z.here z.after
-    ∙ sym (heads_here c.args.j c.args.above.now c.args.heads.now c.args.below.now c.args.wires.now q.dark_above q.dark_heads q.dark_below)
+    ∙ sym (heads_here c.args.j c.args.above.now c.args.heads.now c.args.below.now c.args.wires.now q.near.dark_above q.near.dark_heads q.near.dark_below)
 
 pub returns-clause-beside : goal.returns-clause-beside
 returns-clause-beside c i ne =
@@ -22,12 +22,8 @@ returns-clause-beside c i ne =
     heads_beyond j (j + 1) c.args.above.now c.args.heads.now c.args.below.now c.args.wires.now
     (record {
       within = omega (arith, inside);
-      long_above = q.above;
-      long_below = q.below;
+      near = q.near;
       long_wires = q.wires;
-      dark_above = q.dark_above;
-      dark_heads = q.dark_heads;
-      dark_below = q.dark_below;
       fits_above = λ k. (c.type_inv.above k).fits;
       fits_heads = λ k. (c.type_inv.heads k).fits;
       fits_below = λ k. (c.type_inv.below k).fits;
