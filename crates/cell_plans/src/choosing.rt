@@ -32,7 +32,8 @@ fn smaller(lists: &[CellList], first: Chosen, second: Chosen) -> Chosen
     requires first { IsPlanOfOne lists.now first.list first.plan }
     requires second { IsPlanOfOne lists.now second.list second.plan }
     ensures plan { IsPlanOfOne lists.now result.list result.plan }
-    ensures no_larger { (tiles result.plan ≤ tiles first.plan) × (tiles result.plan ≤ tiles second.plan) }
+    ensures no_larger { (tiles result.plan ≤ tiles first.plan)
+        × (tiles result.plan ≤ tiles second.plan) }
 {
     let _lists = lists;
     if tiles(&second.plan) < tiles(&first.plan) {
@@ -162,17 +163,39 @@ fn one_plan(alloc: Global, list: &CellList) -> Result<Plan, PlanError>
 
 /// The plan of one list, as `best_plan` has it: in each cycle its outputs, its loops and its nets have the bits of their sources.
 pub fn plan_of(alloc: Global, list: &CellList) -> Result<Plan, PlanError>
-    requires small { list.now.inputs + loop_count list.now + length list.now.outs + length list.now.cells < 2 ^ 18 }
+    requires small { list.now.inputs
+        + loop_count list.now
+        + length list.now.outs
+        + length list.now.cells
+        < 2 ^ 18 }
     ensures admissible { IfOk result IsAdmissible }
     ensures edges { IfOk result HasStartEdges }
-    ensures starts { IfOk result (λ plan. StartsContexts plan (loop_state list.now list.now.starts ∷ []) (start_edges plan)) }
+    ensures starts { IfOk result (λ plan.
+        StartsContexts plan (loop_state list.now list.now.starts ∷ []) (start_edges plan)
+        ) }
     ensures computes { IfOk result (ComputesByPlan list.now) }
-    ensures lanes { IfOk result (λ plan. plan.lanes ≤ list.now.inputs + 2 * loop_count list.now + length list.now.outs + length list.now.cells + 2 + max list.now.inputs (length list.now.outs)) }
+    ensures lanes { IfOk result (λ plan.
+        plan.lanes
+        ≤ list.now.inputs
+        + 2 * loop_count list.now
+        + length list.now.outs
+        + length list.now.cells
+        + 2
+        + max list.now.inputs (length list.now.outs)
+        ) }
     ensures empty { IfOk result (λ plan. IsEmpty list.now → plan.lanes ≡ 0) }
     ensures entries { IfOk result (λ plan. AreAtEntries list.now plan.lanes plan.ins plan.nets) }
     ensures exits { IfOk result (λ plan. AreAtExits list.now plan.columns plan.nets) }
-    ensures instrs { IfOk result (λ plan. instr_count plan.columns ≤ (3 * length list.now.cells + length list.now.outs + 2 * loop_count list.now) * plan.lanes) }
-    ensures columns { IfOk result (λ plan. length plan.columns ≤ (3 * length list.now.cells + length list.now.outs + 2 * loop_count list.now + 1) * (plan.lanes + 1)) }
+    ensures instrs { IfOk result (λ plan.
+        instr_count plan.columns
+        ≤ (3 * length list.now.cells + length list.now.outs + 2 * loop_count list.now)
+        * plan.lanes
+        ) }
+    ensures columns { IfOk result (λ plan.
+        length plan.columns
+        ≤ (3 * length list.now.cells + length list.now.outs + 2 * loop_count list.now + 1)
+        * (plan.lanes + 1)
+        ) }
 {
     let plan = one_plan(alloc, list)?;
     Ok(plan)

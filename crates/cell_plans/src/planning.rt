@@ -1,10 +1,9 @@
 // Plans of one list of cells.
-ghost use Rattle.std.specs.Prelude.{◌≡◌, ◌≤◌, ◌<◌, ◌+◌, ◌^◌, max, length, IfOk, IfSome};
-ghost use Rattle.cell_core.specs.Loops.{loop_count};
+ghost use Rattle.std.specs.Prelude.{◌≡◌, ◌≤◌, max, length, IfOk, IfSome};
 ghost use Rattle.cell_order.specs.Alike.{ComputeAlike};
 ghost use Rattle.row_placer.specs.Placed.{IsPlacedWithin};
 ghost use Rattle.cell_plans.specs.Counts.{tiles};
-ghost use Rattle.cell_plans.specs.PlanOf.{IsPlanOf};
+ghost use Rattle.cell_plans.specs.PlanOf.{IsPlannable, IsPlanOf};
 
 use crate::PlanError;
 use cell_core::CellList;
@@ -24,8 +23,9 @@ const LONG_LIST: usize = 4096;
 
 // The plan of a list by a program that computes it.
 fn closed(alloc: Global, list: &CellList, program: &Program) -> Result<Plan, PlanError>
-    requires small { list.now.inputs + loop_count list.now + length list.now.outs + length list.now.cells < 2 ^ 18 }
-    requires placed { IsPlacedWithin list.now (max list.now.inputs (length list.now.outs)) program.now }
+    requires short { IsPlannable list.now }
+    requires placed { IsPlacedWithin list.now
+        (max list.now.inputs (length list.now.outs)) program.now }
     ensures { IfOk result (IsPlanOf list.now) }
 {
     let _list = list;
@@ -37,7 +37,7 @@ fn closed(alloc: Global, list: &CellList, program: &Program) -> Result<Plan, Pla
 
 // The plan of a list with its cells in the order in which they stand.
 fn planned(alloc: Global, list: &CellList) -> Result<Plan, PlanError>
-    requires small { list.now.inputs + loop_count list.now + length list.now.outs + length list.now.cells < 2 ^ 18 }
+    requires short { IsPlannable list.now }
     ensures { IfOk result (IsPlanOf list.now) }
 {
     let program = place(alloc, list)?;
@@ -46,7 +46,7 @@ fn planned(alloc: Global, list: &CellList) -> Result<Plan, PlanError>
 
 // Such a plan with so many spare lanes and, if they will do, with its inputs and the dark lane on these lanes.
 fn planned_at(alloc: Global, list: &CellList, spare: u32, lanes: &[u32]) -> Result<Plan, PlanError>
-    requires small { list.now.inputs + loop_count list.now + length list.now.outs + length list.now.cells < 2 ^ 18 }
+    requires short { IsPlannable list.now }
     ensures { IfOk result (IsPlanOf list.now) }
 {
     let program = place_at(alloc, list, spare, lanes)?;
@@ -57,7 +57,7 @@ fn planned_at(alloc: Global, list: &CellList, spare: u32, lanes: &[u32]) -> Resu
 #[tactic(auto, using(crate::proofs::Alike::plan_by))]
 fn planned_by(alloc: Global, list: &CellList, other: &CellList) -> Result<Plan, PlanError>
     requires alike { ComputeAlike list.now other.now }
-    requires small { list.now.inputs + loop_count list.now + length list.now.outs + length list.now.cells < 2 ^ 18 }
+    requires short { IsPlannable list.now }
     ensures { IfOk result (IsPlanOf list.now) }
 {
     let _list = list;
@@ -73,7 +73,7 @@ fn planned_by_at(
     found: &Climbed,
 ) -> Result<Plan, PlanError>
     requires alike { ComputeAlike list.now other.now }
-    requires small { list.now.inputs + loop_count list.now + length list.now.outs + length list.now.cells < 2 ^ 18 }
+    requires short { IsPlannable list.now }
     ensures { IfOk result (IsPlanOf list.now) }
 {
     let _list = list;
@@ -86,7 +86,7 @@ pub fn climbed_plan(
     list: &CellList,
     found: &Climbed,
 ) -> Result<Option<Plan>, PlanError>
-    requires small { list.now.inputs + loop_count list.now + length list.now.outs + length list.now.cells < 2 ^ 18 }
+    requires short { IsPlannable list.now }
     ensures { IfOk result (λ plan. IfSome plan (IsPlanOf list.now)) }
 {
     match in_order(alloc, list, &found.order)? {
@@ -125,7 +125,7 @@ fn smaller(list: &CellList, first: Plan, second: Plan) -> Plan
 // The plan, or one of another order of the list's cells that takes fewer tiles.
 fn better(alloc: Global, list: &CellList, plan: Plan, reach: u32) -> Result<Plan, PlanError>
     requires plan { IsPlanOf list.now plan }
-    requires small { list.now.inputs + loop_count list.now + length list.now.outs + length list.now.cells < 2 ^ 18 }
+    requires short { IsPlannable list.now }
     ensures plan { IfOk result (IsPlanOf list.now) }
     ensures no_larger { IfOk result (λ next. tiles next ≤ tiles plan) }
 {
@@ -150,7 +150,7 @@ pub fn reaches(list: &CellList) -> Range<u32> {
 
 /// The plan of a list that takes the fewest tiles, of those of a few orders of its cells.
 pub fn plain_plan(alloc: Global, list: &CellList) -> Result<Plan, PlanError>
-    requires small { list.now.inputs + loop_count list.now + length list.now.outs + length list.now.cells < 2 ^ 18 }
+    requires short { IsPlannable list.now }
     ensures { IfOk result (IsPlanOf list.now) }
 {
     let mut plan = planned(alloc, list)?;

@@ -16,7 +16,7 @@ use Rattle.row_placer.specs.Ready.{AreSettled}
 use Rattle.cell_core.specs.Loops.{loop_state, loop_count, names_one}
 use Rattle.row_placer.specs.Numbers.{gate_of, IsThere, ReadsWhatIsThere}
 use Rattle.cell_meaning.specs.Computes.{ComputesByProgram}
-use Rattle.row_placer.specs.Placed.{IsPrepared, AreOuts, AreHomes, net_place_of}
+use Rattle.row_placer.specs.Placed.{IsPrepared, IsPlacedWithin, AreOuts, AreHomes, net_place_of}
 use Rattle.row_placer.proofs.Whole.{computes}
 use Rattle.row_placer.proofs.Homes.{homes_hold}
 use Rattle.row_placer.proofs.Prepared.{length-ports}
@@ -89,3 +89,14 @@ instr_count i g p l s c o k n le eg ep el es =
     let same : g * (3 * s) + p * s + l * s ≡ c * (3 * n) + (k + o) * n + k * n =
     ap₂ (λ a b. a + b) (ap₂ (λ a b. a + b) (ap₂ (λ a b. a * (3 * b)) eg es) (ap₂ (λ a b. a * b) ep es)) (ap₂ (λ a b. a * b) el es) in
     subst (λ m. i ≤ m) (same ∙ sums c o k n) le
+
+-- what is placed within a few spare lanes is placed within more
+pub within_more : (list : CellList) (few many : ℕ) (p : Program) → few ≤ many → IsPlacedWithin list few p → IsPlacedWithin list many p
+within_more list few many p le placed = record {
+  computes = placed.computes;
+  instrs = placed.instrs;
+  lanes = omega (arith, placed.lanes, le);
+  empty = λ none. (let least = placed.empty none in omega (arith, least, le));
+  entries = placed.entries;
+  made = placed.made;
+}

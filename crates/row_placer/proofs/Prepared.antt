@@ -43,6 +43,30 @@ ports_below list ports n sound is at i d below =
 pub length-ports : (list : CellList) (ports : List ℕ) → ReadsWhatIsThere list → ports ≡ map (number list) (loop_data list ++ list.outs) → length ports ≡ loop_count list + length list.outs
 length-ports list ports sound is = ap length is ∙ length-map (loop_data list ++ list.outs) (number list) ∙ length-append (loop_data list) list.outs ∙ ap (λ n. n + length list.outs) (length-data list sound.fits)
 
+-- what a job's gates and ports are by the list's own counts
+pub record JobFacts (list : CellList) (loops : ℕ) (gates : List NumberedCell) (ports : List ℕ) : Type 0 where
+  pub base : list.inputs + loops + 1 ≡ list.inputs + loop_count list + 1
+  pub cells : length gates ≡ length list.cells
+  pub many : length ports ≡ loop_count list + length list.outs
+  pub known : AreKnown (list.inputs + loops + 1) gates
+  pub gates_low : All (ReadsBelow (list.inputs + loops + 1 + length gates)) gates
+  pub ports_low : All (λ v. v < list.inputs + loops + 1 + length gates) ports
+
+pub job_facts : (list : CellList) (loops : ℕ) (gates : List NumberedCell) (ports : List ℕ) → loops ≡ loop_count list → ReadsWhatIsThere list → gates ≡ map (gate_of list) list.cells
+    → ports ≡ map (number list) (loop_data list ++ list.outs) → JobFacts list loops gates ports
+job_facts list loops gates ports same sound gates_are ports_are =
+    let base : list.inputs + loops + 1 ≡ list.inputs + loop_count list + 1 = ap (λ n. list.inputs + n + 1) same in
+    let cells : length gates ≡ length list.cells = ap length gates_are ∙ length-map list.cells (gate_of list) in
+    let known = gates_known list gates (list.inputs + loops + 1) sound gates_are base in
+    record {
+      base = base;
+      cells = cells;
+      many = length-ports list ports sound ports_are;
+      known = known;
+      gates_low = gates_below (list.inputs + loops + 1) (list.inputs + loops + 1 + length gates) gates known refl;
+      ports_low = ports_below list ports (list.inputs + loops + 1 + length gates) sound ports_are (omega (arith, base, cells));
+    }
+
 -- a lane with a tag is counted
 pub counted_tag : (tags : List Tag) (lane v : ℕ) → lane < length tags → get_or tags lane free_tag ≡ tag v Kept → 1 ≤ count v Kept tags
 counted_tag tags lane v within here =

@@ -1,5 +1,5 @@
 -- What is known of a program when all is placed.
-use Rattle.std.specs.Prelude.{ℕ, ◌+◌, ◌-◌, ◌<◌, ◌≤◌, ◌≡◌, ◌≢◌, Bool, List, ◌++◌, ◌*◌, take, length, map, get_or, None, All}
+use Rattle.std.specs.Prelude.{ℕ, ◌+◌, ◌-◌, ◌<◌, ◌≤◌, ◌≡◌, ◌≢◌, Bool, List, ◌++◌, ◌*◌, ◌^◌, take, length, map, get_or, None, All}
 use Rattle.lane_core.specs.Places.{AreDistinctBelow}
 use Rattle.lane_core.specs.declared.plan.NetPlace.{NetPlace}
 use Rattle.lane_core.specs.declared.plan.Program.{Program}
@@ -94,13 +94,17 @@ pub record IsPrepared (list : CellList) (spare : ℕ) (job : Job) (left homes : 
   pub room : loop_count list ≤ length job.start
   pub below : All (λ lane. lane < length job.start) homes
   pub lanes : length job.start ≤ list.inputs + 2 * loop_count list + length list.outs + length list.cells + 2 + spare
-  pub empty : IsEmpty list → spare ≡ 0 → length job.start ≡ 0
+  pub empty : IsEmpty list → length job.start ≤ spare
 
--- a program that is placed with no more spare lanes than these
+-- the list is short enough to be placed
+abbrev pub IsPlaceable : CellList → Type 0
+IsPlaceable list = list.inputs + loop_count list + length list.outs + length list.cells < 2 ^ 20
+
+-- a program that is placed with no more spare lanes than these, and with these alone where the list is empty
 pub record IsPlacedWithin (list : CellList) (spare : ℕ) (p : Program) : Type 0 where
   pub computes : ComputesByProgram list p
   pub instrs : length p.instrs ≤ (3 * length list.cells + length list.outs + 2 * loop_count list) * p.lanes
   pub lanes : p.lanes ≤ list.inputs + 2 * loop_count list + length list.outs + length list.cells + 2 + spare
-  pub empty : IsEmpty list → p.lanes ≡ 0
+  pub empty : IsEmpty list → p.lanes ≤ spare
   pub entries : AreAtEntries list p.lanes p.ins p.nets
   pub made : AreAtCells list p.instrs p.nets

@@ -2,11 +2,8 @@
 ghost use Rattle.std.specs.Prelude.{◌≡◌, ◌≤◌, ◌<◌, ◌+◌, ◌-◌, ◌*◌, ◌^◌, ◌++◌, length, get_or, map, max, cond, All, [], ◌∷◌, true, false, ◌⊎◌, IfOk, OnOk};
 ghost use Rattle.cell_core.specs.Loops.{loop_count, loop_data, loop_state, names_one};
 ghost use Rattle.row_placer.specs.Numbers.{number, ReadsWhatIsThere, NamesZero};
-ghost use Rattle.row_placer.specs.Placed.{IsPrepared, AreOuts, net_place_of};
+ghost use Rattle.row_placer.specs.Placed.{IsPlaceable, IsPlacedWithin, IsPrepared, AreOuts, net_place_of};
 ghost use Rattle.row_placer.specs.Ready.{HoldPorts};
-ghost use Rattle.row_placer.specs.Empty.{IsEmpty};
-ghost use Rattle.row_placer.specs.Entries.{AreAtEntries, AreAtCells};
-ghost use Rattle.cell_meaning.specs.Computes.{ComputesByProgram};
 ghost use Rattle.cell_core.specs.declared.cells.Src.TheVariants.{One, Zero};
 
 use crate::counting::{count_idle, count_uses};
@@ -66,7 +63,7 @@ pub fn prepare(
     requires loops { loops ≡ loop_count list.now }
     requires spare { spare < 2 ^ 20 }
     requires sound { ReadsWhatIsThere list.now }
-    requires small { list.now.inputs + loop_count list.now + length list.now.outs + length list.now.cells < 2 ^ 20 }
+    requires small { IsPlaceable list.now }
     ensures { IfOk result (λ r. IsPrepared list.now spare r.job r.left.items r.homes.items) }
 {
     let inner = list.inputs + loops;
@@ -195,26 +192,9 @@ fn place_with(
     wanted: &[u32],
 ) -> Result<Placed, PlaceError>
     requires loops { loops ≡ loop_count list.now }
-    requires small { list.now.inputs + loop_count list.now + length list.now.outs + length list.now.cells < 2 ^ 20 }
+    requires small { IsPlaceable list.now }
     requires spare { spare < 2 ^ 20 }
-    ensures computes { IfOk result (λ r. ComputesByProgram list.now r.program) }
-    ensures instrs { IfOk result (λ r.
-        length r.program.instrs
-        ≤ (3 * length list.now.cells + length list.now.outs + 2 * loop_count list.now)
-        * r.program.lanes
-        ) }
-    ensures lanes { IfOk result (λ r.
-        r.program.lanes
-        ≤ list.now.inputs
-        + 2 * loop_count list.now
-        + length list.now.outs
-        + length list.now.cells
-        + 2
-        + spare
-        ) }
-    ensures empty { IfOk result (λ r. IsEmpty list.now → spare ≡ 0 → r.program.lanes ≡ 0) }
-    ensures entries { IfOk result (λ r. AreAtEntries list.now r.program.lanes r.program.ins r.program.nets) }
-    ensures made { IfOk result (λ r. AreAtCells list.now r.program.instrs r.program.nets) }
+    ensures { IfOk result (λ r. IsPlacedWithin list.now spare r.program) }
 {
     let latches = latches_of(alloc, list)?;
     let Prepared { job, left, homes } = prepare(alloc, list, loops, spare, wanted)?;
@@ -246,25 +226,8 @@ fn most_spare(list: &CellList) -> u32
 
 /// A program that computes the list. It is tried with up to 4 spare lanes; which of the programs is kept is free.
 pub fn place(alloc: Global, list: &CellList) -> Result<Program, PlaceError>
-    requires small { list.now.inputs + loop_count list.now + length list.now.outs + length list.now.cells < 2 ^ 20 }
-    ensures computes { IfOk result (λ p. ComputesByProgram list.now p) }
-    ensures instrs { IfOk result (λ p.
-        length p.instrs
-        ≤ (3 * length list.now.cells + length list.now.outs + 2 * loop_count list.now)
-        * p.lanes
-        ) }
-    ensures lanes { IfOk result (λ p.
-        p.lanes
-        ≤ list.now.inputs
-        + 2 * loop_count list.now
-        + length list.now.outs
-        + length list.now.cells
-        + 2
-        + max list.now.inputs (length list.now.outs)
-        ) }
-    ensures empty { IfOk result (λ p. IsEmpty list.now → p.lanes ≡ 0) }
-    ensures entries { IfOk result (λ p. AreAtEntries list.now p.lanes p.ins p.nets) }
-    ensures made { IfOk result (λ p. AreAtCells list.now p.instrs p.nets) }
+    requires small { IsPlaceable list.now }
+    ensures { IfOk result (IsPlacedWithin list.now (max list.now.inputs (length list.now.outs))) }
 {
     let loops = count_loops(list);
     let mut best = place_with(alloc, list, loops, 0, &[])?;
@@ -284,25 +247,8 @@ pub fn place_at(
     spare: u32,
     wanted: &[u32],
 ) -> Result<Program, PlaceError>
-    requires small { list.now.inputs + loop_count list.now + length list.now.outs + length list.now.cells < 2 ^ 20 }
-    ensures computes { IfOk result (λ p. ComputesByProgram list.now p) }
-    ensures instrs { IfOk result (λ p.
-        length p.instrs
-        ≤ (3 * length list.now.cells + length list.now.outs + 2 * loop_count list.now)
-        * p.lanes
-        ) }
-    ensures lanes { IfOk result (λ p.
-        p.lanes
-        ≤ list.now.inputs
-        + 2 * loop_count list.now
-        + length list.now.outs
-        + length list.now.cells
-        + 2
-        + max list.now.inputs (length list.now.outs)
-        ) }
-    ensures empty { IfOk result (λ p. IsEmpty list.now → p.lanes ≡ 0) }
-    ensures entries { IfOk result (λ p. AreAtEntries list.now p.lanes p.ins p.nets) }
-    ensures made { IfOk result (λ p. AreAtCells list.now p.instrs p.nets) }
+    requires small { IsPlaceable list.now }
+    ensures { IfOk result (IsPlacedWithin list.now (max list.now.inputs (length list.now.outs))) }
 {
     let loops = count_loops(list);
     let spare = spare.min(most_spare(list));

@@ -93,82 +93,48 @@ invariant_of-program c =
           (all ∙ ap length r.job_of.gates ∙ length-map list.cells (gate_of list)) r.zero nets);
     }
 
-pub returns-clause-computes : goal.returns-clause-computes
-returns-clause-computes c =
+pub returns : goal.returns
+returns c =
     let list = c.args.list.now in
     let L = c.in_ok-lanes.lanes in
     let le = c.in_ok-lanes.ensures in
+    let job = c.in_ok-job.field-0.job in
     let left = c.in_ok-job.field-0.left.items in
     let homes = c.in_ok-job.field-0.homes.items in
     let loops = c.requires.loops in
-    let r = subst (λ (x : Job). IsPrepared list c.args.spare x left homes) (sym le.job) c.in_ok-job.ensures in
+    let ready = c.in_ok-job.ensures in
+    let r = subst (λ (x : Job). IsPrepared list c.args.spare x left homes) (sym le.job) ready in
     let count : length L.tags.items ≡ c.len-count.result = sym (c.len-count.ensures ∙ L.tags.ok.0) in
+    let wide : length job.start ≡ c.len-count.result = sym le.long ∙ count in
     let settled = subst (λ n. AreSettled L.job.now n L.tags.items) loops (subst (λ (x : Job). AreSettled x c.args.loops L.tags.items) (sym le.job) le.settled) in
     let outs = subst (λ n. AreOuts L.job.now n L.tags.items c.of-4.result) loops (subst (AreOuts L.job.now c.args.loops L.tags.items) (sym c.of-4.ensures) c.in_ok-outs.ensures.outs) in
     let all : length L.made.items ≡ length L.job.now.gates = le.made ∙ ap (λ (x : Job). length x.gates) (sym le.job) in
+    let cells : length job.gates ≡ length list.cells = ap length ready.job_of.gates ∙ length-map list.cells (gate_of list) in
+    let gates : L.job.now.gates ≡ map (gate_of list) list.cells = ap (λ (x : Job). x.gates) le.job ∙ ready.job_of.gates in
     let nets = c.of-5.ensures ∙ c.in_ok-outs.ensures.nets ∙ ap (λ hs. map (net_place_of list hs L.made.items) list.nets) c.deref.ensures.value in
     let ins = c.of-2.ensures ∙ c.truncate.ensures.items in
-    let latches = c.of-3.ensures ∙ c.in_ok-latches.ensures in
-    finish list _ L.job.now L.tags.items L.made.items c.args.spare left homes (sound c.args.list.now) r (record {
-      lanes = count;
-      start = L.long;
-      told = subst (Told L.job.now L.tags.items) (sym c.of.ensures) L.told;
-      made_told = subst (λ is. MadeTold L.job.now is L.made.items) (sym c.of.ensures) L.made_told;
-      all_made = all;
-      latches = latches;
-      settled = settled;
-      outs = outs;
-      outs_long = omega (arith, ap length c.of-4.ensures, c.in_ok-outs.ensures.long, loops);
-      nets = nets;
-      ins = ins;
-    })
-
-pub returns-clause-instrs : goal.returns-clause-instrs
-returns-clause-instrs c =
-    let list = c.args.list.now in
-    let L = c.in_ok-lanes.lanes in
-    let r = c.in_ok-job.ensures in
-    let job = c.in_ok-job.field-0.job in
-    let count : length L.tags.items ≡ c.len-count.result = sym (c.len-count.ensures ∙ L.tags.ok.0) in
-    let most = instr_count (length L.instrs.items) (length job.gates) (length job.ports) c.args.loops (length job.start) (length list.cells) (length list.outs) (loop_count list) c.len-count.result
-    c.in_ok-lanes.ensures.count (ap length r.job_of.gates ∙ length-map list.cells (gate_of list)) (length-ports list job.ports (sound c.args.list.now) r.job_of.ports) c.requires.loops (sym c.in_ok-lanes.ensures.long ∙ count) in
-    subst (λ is. length is ≤ (3 * length list.cells + length list.outs + 2 * loop_count list) * c.len-count.result) (sym c.of.ensures) most
-
-pub returns-clause-empty : goal.returns-clause-empty
-returns-clause-empty c =
-    let L = c.in_ok-lanes.lanes in
-    let count : length L.tags.items ≡ c.len-count.result = sym (c.len-count.ensures ∙ L.tags.ok.0) in
-    λ h e. (let none = c.in_ok-job.ensures.empty h e in omega (arith, none, c.in_ok-lanes.ensures.long, count))
-
-pub returns-clause-entries : goal.returns-clause-entries
-returns-clause-entries c =
-    let list = c.args.list.now in
-    let L = c.in_ok-lanes.lanes in
-    let homes = c.in_ok-job.field-0.homes.items in
-    let r = c.in_ok-job.ensures in
-    let count : length L.tags.items ≡ c.len-count.result = sym (c.len-count.ensures ∙ L.tags.ok.0) in
-    let ins = c.of-2.ensures ∙ c.truncate.ensures.items in
-    let nets = c.of-5.ensures ∙ c.in_ok-outs.ensures.nets ∙ ap (λ hs. map (net_place_of list hs L.made.items) list.nets) c.deref.ensures.value in
-    let wide : length c.in_ok-job.field-0.job.start ≡ c.len-count.result = sym c.in_ok-lanes.ensures.long ∙ count in
-    subst (λ lanes. AreAtEntries list lanes c.of-2.result c.of-5.result) wide
-    (subst (λ is. AreAtEntries list (length c.in_ok-job.field-0.job.start) is c.of-5.result) (sym ins)
-    (at_entries list (length c.in_ok-job.field-0.job.start) (take list.inputs homes) homes L.made.items c.of-5.result r.homes_of (sound list).nets nets))
-
-pub returns-clause-made : goal.returns-clause-made
-returns-clause-made c =
-    let list = c.args.list.now in
-    let L = c.in_ok-lanes.lanes in
-    let le = c.in_ok-lanes.ensures in
-    let homes = c.in_ok-job.field-0.homes.items in
-    let r = c.in_ok-job.ensures in
-    let gates : L.job.now.gates ≡ map (gate_of list) list.cells = ap (λ (x : Job). x.gates) le.job ∙ r.job_of.gates in
-    let all : length L.made.items ≡ length list.cells = le.made ∙ ap length r.job_of.gates ∙ length-map list.cells (gate_of list) in
-    let nets = c.of-5.ensures ∙ c.in_ok-outs.ensures.nets ∙ ap (λ hs. map (net_place_of list hs L.made.items) list.nets) c.deref.ensures.value in
-    subst (λ is. AreAtCells list is c.of-5.result) (sym c.of.ensures)
-    (at_cells list L.job.now L.instrs.items homes L.made.items c.of-5.result gates all L.made_at (sound list).nets nets)
-
-pub returns-clause-lanes : goal.returns-clause-lanes
-returns-clause-lanes c =
-    let L = c.in_ok-lanes.lanes in
-    let count : length L.tags.items ≡ c.len-count.result = sym (c.len-count.ensures ∙ L.tags.ok.0) in
-    omega (arith, c.in_ok-job.ensures.lanes, c.in_ok-lanes.ensures.long, count)
+    let few = instr_count (length L.instrs.items) (length job.gates) (length job.ports) c.args.loops (length job.start) (length list.cells) (length list.outs) (loop_count list) c.len-count.result
+    le.count cells (length-ports list job.ports (sound list) ready.job_of.ports) loops wide in
+    record {
+      computes = finish list _ L.job.now L.tags.items L.made.items c.args.spare left homes (sound list) r (record {
+        lanes = count;
+        start = L.long;
+        told = subst (Told L.job.now L.tags.items) (sym c.of.ensures) L.told;
+        made_told = subst (λ is. MadeTold L.job.now is L.made.items) (sym c.of.ensures) L.made_told;
+        all_made = all;
+        latches = c.of-3.ensures ∙ c.in_ok-latches.ensures;
+        settled = settled;
+        outs = outs;
+        outs_long = omega (arith, ap length c.of-4.ensures, c.in_ok-outs.ensures.long, loops);
+        nets = nets;
+        ins = ins;
+      });
+      instrs = subst (λ is. length is ≤ (3 * length list.cells + length list.outs + 2 * loop_count list) * c.len-count.result) (sym c.of.ensures) few;
+      lanes = omega (arith, ready.lanes, wide);
+      empty = λ h. (let none = ready.empty h in omega (arith, none, wide));
+      entries = subst (λ lanes. AreAtEntries list lanes c.of-2.result c.of-5.result) wide
+          (subst (λ is. AreAtEntries list (length job.start) is c.of-5.result) (sym ins)
+          (at_entries list (length job.start) (take list.inputs homes) homes L.made.items c.of-5.result ready.homes_of (sound list).nets nets));
+      made = subst (λ is. AreAtCells list is c.of-5.result) (sym c.of.ensures)
+          (at_cells list L.job.now L.instrs.items homes L.made.items c.of-5.result gates (le.made ∙ cells) L.made_at (sound list).nets nets);
+    }

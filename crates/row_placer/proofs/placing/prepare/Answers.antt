@@ -1,13 +1,11 @@
 use Rattle.std.proofs.Common.{◌≡◌, ◌≢◌, refl, sym, ◌∙◌, ap, ap₂, subst, ℕ, ◌+◌, ◌<◌, ◌≤◌, ◌++◌, cond, length, get_or, arith}
 use Rattle.std.specs.Prelude.{All, AllPairs}
-use Rattle.std.proofs.lemmas.List.{length-map}
 use Rattle.lists.proofs.Numbers.{at_most_one}
 use Rattle.row_placer.specs.Uses.{uses_of, owed, idle, AreCounted, ReadsBelow, AreKnown}
 use Rattle.row_placer.specs.Ready.{Ready}
 use Rattle.cell_core.specs.Loops.{loop_count}
-use Rattle.row_placer.specs.Numbers.{gate_of}
 use Rattle.row_placer.specs.Placed.{IsStart, AreAtHome}
-use Rattle.row_placer.proofs.Prepared.{gates_known, gates_below, ports_below, length-ports, start_ready, nothing_used}
+use Rattle.row_placer.proofs.Prepared.{job_facts, start_ready, nothing_used}
 use Rattle.row_placer.proofs.Sides.{homes_within, homes_of_list}
 use Rattle.lane_homes.specs.Homes.{AreHomesAbove}
 use Rattle.row_placer.proofs.placing.prepare.Goals as goal
@@ -18,135 +16,48 @@ gates_of-requires c = record { loops = c.requires.loops; sound = c.requires.soun
 pub ports_of-requires : goal.ports_of-requires
 ports_of-requires c = record { loops = c.requires.loops; sound = c.requires.sound; small = omega (arith, c.requires.small) }
 
-pub count_uses-requires-clause-fits : goal.count_uses-requires-clause-fits
-count_uses-requires-clause-fits c =
+pub count_uses-requires : goal.count_uses-requires
+count_uses-requires c =
     let list = c.args.list.now in
-    let cells = ap length c.in_ok-gates.ensures ∙ length-map list.cells (gate_of list) in
-    omega (arith, ap length c.deref.ensures.value, cells, c.requires.loops, c.requires.small)
-
-pub count_uses-requires-clause-few : goal.count_uses-requires-clause-few
-count_uses-requires-clause-few c =
-    let list = c.args.list.now in
-    let cells = ap length c.in_ok-gates.ensures ∙ length-map list.cells (gate_of list) in
-    let ports = length-ports list c.in_ok-ports.ports.items c.requires.sound c.in_ok-ports.ensures in
-    omega (arith, ap length c.deref.ensures.value, ap length c.deref-2.ensures.value, cells, ports, c.requires.small)
-
-pub count_uses-requires-clause-gates : goal.count_uses-requires-clause-gates
-count_uses-requires-clause-gates c =
-    let list = c.args.list.now in
-    let g = c.in_ok-gates.gates.items in
-    let ports = c.in_ok-ports.ports.items in
     let base = list.inputs + c.args.loops + 1 in
-    let at : base ≡ list.inputs + loop_count list + 1 = ap (λ n. list.inputs + n + 1) c.requires.loops in
-    let cells : length g ≡ length list.cells = ap length c.in_ok-gates.ensures ∙ length-map list.cells (gate_of list) in
-    let known = gates_known list g base c.requires.sound c.in_ok-gates.ensures at in
-    subst (λ gs. All (ReadsBelow (base + length gs)) gs) (sym c.deref.ensures.value) (gates_below base (base + length g) g known refl)
-
-pub count_uses-requires-clause-ports : goal.count_uses-requires-clause-ports
-count_uses-requires-clause-ports c =
-    let list = c.args.list.now in
-    let g = c.in_ok-gates.gates.items in
     let ports = c.in_ok-ports.ports.items in
-    let base = list.inputs + c.args.loops + 1 in
-    let at : base ≡ list.inputs + loop_count list + 1 = ap (λ n. list.inputs + n + 1) c.requires.loops in
-    let cells : length g ≡ length list.cells = ap length c.in_ok-gates.ensures ∙ length-map list.cells (gate_of list) in
-    let known = gates_known list g base c.requires.sound c.in_ok-gates.ensures at in
-    subst (λ gs. All (λ v. v < base + length gs) c.deref-2.result.now) (sym c.deref.ensures.value)
-    (subst (All (λ v. v < base + length g)) (sym c.deref-2.ensures.value) (ports_below list ports (base + length g) c.requires.sound c.in_ok-ports.ensures (omega (arith, at, cells))))
+    let facts = job_facts list c.args.loops c.in_ok-gates.gates.items ports c.requires.loops c.requires.sound c.in_ok-gates.ensures c.in_ok-ports.ensures in
+    let gates_are = c.deref.ensures.value in
+    let ports_are = c.deref-2.ensures.value in
+    record {
+      fits = omega (arith, ap length gates_are, facts.cells, c.requires.loops, c.requires.small);
+      gates = subst (λ gs. All (ReadsBelow (base + length gs)) gs) (sym gates_are) facts.gates_low;
+      ports = subst (λ gs. All (λ v. v < base + length gs) c.deref-2.result.now) (sym gates_are)
+          (subst (All (λ v. v < base + length c.in_ok-gates.gates.items)) (sym ports_are) facts.ports_low);
+      few = omega (arith, ap length gates_are, ap length ports_are, facts.cells, facts.many, c.requires.small);
+    }
 
-pub start_tags-requires-clause-within : goal.start_tags-requires-clause-within
-start_tags-requires-clause-within c =
+pub start_tags-requires : goal.start_tags-requires
+start_tags-requires c =
     let list = c.args.list.now in
-    let g = c.in_ok-gates.gates.items in
-    let ports = c.in_ok-ports.ports.items in
     let base = list.inputs + c.args.loops + 1 in
-    let at : base ≡ list.inputs + loop_count list + 1 = ap (λ n. list.inputs + n + 1) c.requires.loops in
-    let cells : length g ≡ length list.cells = ap length c.in_ok-gates.ensures ∙ length-map list.cells (gate_of list) in
-    let known = gates_known list g base c.requires.sound c.in_ok-gates.ensures at in
-    let left = c.in_ok-left.left.items in
-    let wide : length left ≡ base + length g = c.in_ok-left.ensures.long ∙ ap (λ gs. base + length gs) c.deref.ensures.value in
+    let above = c.first_home-least.result + c.args.spare + list.inputs in
     let dark = c.wants_zero-zero.result in
     let small = at_most_one dark in
-    let inner = list.inputs + c.args.loops in
-    let first = c.first_home-least.result + c.args.spare in
-    let homes = c.in_ok-homes.homes.items in
-    let above = first + list.inputs in
-    let s : AreHomesAbove above list.inputs c.args.loops dark homes = c.in_ok-homes.ensures in
-    subst (All (λ lane. lane < above + c.args.loops)) (sym c.deref-3.ensures.value) (homes_within above list.inputs c.args.loops (above + c.args.loops) dark homes s refl)
-
-pub start_tags-requires-clause-apart : goal.start_tags-requires-clause-apart
-start_tags-requires-clause-apart c =
-    let list = c.args.list.now in
-    let g = c.in_ok-gates.gates.items in
-    let ports = c.in_ok-ports.ports.items in
-    let base = list.inputs + c.args.loops + 1 in
-    let at : base ≡ list.inputs + loop_count list + 1 = ap (λ n. list.inputs + n + 1) c.requires.loops in
-    let cells : length g ≡ length list.cells = ap length c.in_ok-gates.ensures ∙ length-map list.cells (gate_of list) in
-    let known = gates_known list g base c.requires.sound c.in_ok-gates.ensures at in
-    let left = c.in_ok-left.left.items in
-    let wide : length left ≡ base + length g = c.in_ok-left.ensures.long ∙ ap (λ gs. base + length gs) c.deref.ensures.value in
-    let dark = c.wants_zero-zero.result in
-    let small = at_most_one dark in
-    let inner = list.inputs + c.args.loops in
-    let first = c.first_home-least.result + c.args.spare in
-    let homes = c.in_ok-homes.homes.items in
-    let above = first + list.inputs in
-    let s : AreHomesAbove above list.inputs c.args.loops dark homes = c.in_ok-homes.ensures in
-    subst (AllPairs (λ a b. a ≢ b)) (sym c.deref-3.ensures.value) s.apart
-
-pub start_tags-requires-clause-left : goal.start_tags-requires-clause-left
-start_tags-requires-clause-left c =
-    let list = c.args.list.now in
-    let g = c.in_ok-gates.gates.items in
-    let ports = c.in_ok-ports.ports.items in
-    let base = list.inputs + c.args.loops + 1 in
-    let at : base ≡ list.inputs + loop_count list + 1 = ap (λ n. list.inputs + n + 1) c.requires.loops in
-    let cells : length g ≡ length list.cells = ap length c.in_ok-gates.ensures ∙ length-map list.cells (gate_of list) in
-    let known = gates_known list g base c.requires.sound c.in_ok-gates.ensures at in
-    let left = c.in_ok-left.left.items in
-    let wide : length left ≡ base + length g = c.in_ok-left.ensures.long ∙ ap (λ gs. base + length gs) c.deref.ensures.value in
-    let dark = c.wants_zero-zero.result in
-    let small = at_most_one dark in
-    let inner = list.inputs + c.args.loops in
-    let first = c.first_home-least.result + c.args.spare in
-    let homes = c.in_ok-homes.homes.items in
-    let above = first + list.inputs in
-    let s : AreHomesAbove above list.inputs c.args.loops dark homes = c.in_ok-homes.ensures in
-    omega (arith, ap length c.deref-3.ensures.value, ap length c.deref-4.ensures.value, s.long, small, wide)
-
-pub start_tags-requires-clause-few : goal.start_tags-requires-clause-few
-start_tags-requires-clause-few c =
-    let list = c.args.list.now in
-    let g = c.in_ok-gates.gates.items in
-    let ports = c.in_ok-ports.ports.items in
-    let base = list.inputs + c.args.loops + 1 in
-    let at : base ≡ list.inputs + loop_count list + 1 = ap (λ n. list.inputs + n + 1) c.requires.loops in
-    let cells : length g ≡ length list.cells = ap length c.in_ok-gates.ensures ∙ length-map list.cells (gate_of list) in
-    let known = gates_known list g base c.requires.sound c.in_ok-gates.ensures at in
-    let left = c.in_ok-left.left.items in
-    let wide : length left ≡ base + length g = c.in_ok-left.ensures.long ∙ ap (λ gs. base + length gs) c.deref.ensures.value in
-    let dark = c.wants_zero-zero.result in
-    let small = at_most_one dark in
-    let inner = list.inputs + c.args.loops in
-    let first = c.first_home-least.result + c.args.spare in
-    let homes = c.in_ok-homes.homes.items in
-    let above = first + list.inputs in
-    let s : AreHomesAbove above list.inputs c.args.loops dark homes = c.in_ok-homes.ensures in
-    omega (arith, ap length c.deref-3.ensures.value, s.long, small, at, c.requires.small)
+    let homes : AreHomesAbove above list.inputs c.args.loops dark c.in_ok-homes.homes.items = c.in_ok-homes.ensures in
+    let same = c.deref-3.ensures.value in
+    record {
+      within = subst (All (λ lane. lane < above + c.args.loops)) (sym same)
+          (homes_within above list.inputs c.args.loops (above + c.args.loops) dark c.in_ok-homes.homes.items homes refl);
+      apart = subst (AllPairs (λ a b. a ≢ b)) (sym same) homes.apart;
+      left = (let wide = c.in_ok-left.ensures.long ∙ ap (λ gs. base + length gs) c.deref.ensures.value in
+          omega (arith, ap length same, ap length c.deref-4.ensures.value, homes.long, small, wide));
+      few = omega (arith, ap length same, homes.long, small, c.requires.loops, c.requires.small);
+    }
 
 pub invariant_of-job : goal.invariant_of-job
 invariant_of-job c =
     let list = c.args.list.now in
-    let g = c.in_ok-gates.gates.items in
-    let ports = c.in_ok-ports.ports.items in
-    let base = list.inputs + c.args.loops + 1 in
-    let at : base ≡ list.inputs + loop_count list + 1 = ap (λ n. list.inputs + n + 1) c.requires.loops in
-    let cells : length g ≡ length list.cells = ap length c.in_ok-gates.ensures ∙ length-map list.cells (gate_of list) in
-    let known = gates_known list g base c.requires.sound c.in_ok-gates.ensures at in
+    let facts = job_facts list c.args.loops c.in_ok-gates.gates.items c.in_ok-ports.ports.items c.requires.loops c.requires.sound c.in_ok-gates.ensures c.in_ok-ports.ensures in
     record {
-      known = subst (AreKnown base) (sym c.of.ensures) known;
-      few_ports = omega (arith, ap length c.of-2.ensures, length-ports list ports c.requires.sound c.in_ok-ports.ensures, c.requires.small);
-      few = omega (arith, ap length c.of.ensures, cells, at, c.requires.small);
+      known = subst (AreKnown (list.inputs + c.args.loops + 1)) (sym c.of.ensures) facts.known;
+      few_ports = omega (arith, ap length c.of-2.ensures, facts.many, c.requires.small);
+      few = omega (arith, ap length c.of.ensures, facts.cells, facts.base, c.requires.small);
     }
 
 pub returns : goal.returns
@@ -154,45 +65,43 @@ returns c =
     let list = c.args.list.now in
     let g = c.in_ok-gates.gates.items in
     let ports = c.in_ok-ports.ports.items in
-    let base = list.inputs + c.args.loops + 1 in
-    let at : base ≡ list.inputs + loop_count list + 1 = ap (λ n. list.inputs + n + 1) c.requires.loops in
-    let cells : length g ≡ length list.cells = ap length c.in_ok-gates.ensures ∙ length-map list.cells (gate_of list) in
-    let known = gates_known list g base c.requires.sound c.in_ok-gates.ensures at in
+    let inner = list.inputs + c.args.loops in
+    let base = inner + 1 in
+    let facts = job_facts list c.args.loops g ports c.requires.loops c.requires.sound c.in_ok-gates.ensures c.in_ok-ports.ensures in
     let left = c.in_ok-left.left.items in
     let wide : length left ≡ base + length g = c.in_ok-left.ensures.long ∙ ap (λ gs. base + length gs) c.deref.ensures.value in
     let dark = c.wants_zero-zero.result in
     let small = at_most_one dark in
-    let inner = list.inputs + c.args.loops in
     let first = c.first_home-least.result + c.args.spare in
     let homes = c.in_ok-homes.homes.items in
     let above = first + list.inputs in
     let s : AreHomesAbove above list.inputs c.args.loops dark homes = c.in_ok-homes.ensures in
+    let low = homes_within above list.inputs c.args.loops (above + c.args.loops) dark homes s refl in
     let start = c.in_ok-start.start.items in
     let is : IsStart homes left (above + c.args.loops) start = subst (λ hs. IsStart hs left (above + c.args.loops) start) c.deref-3.ensures.value (subst (λ l. IsStart c.deref-3.result.now l (above + c.args.loops) start) c.deref-4.ensures.value c.in_ok-start.ensures) in
     let counted : AreCounted left (uses_of g ++ ports) = subst (AreCounted left) (ap₂ (λ gs ps. uses_of gs ++ ps) c.deref.ensures.value c.deref-2.ensures.value) c.in_ok-left.ensures.left in
     let owes : c.in_ok-left.owed ≡ owed ports base g = c.in_ok-left.ensures.owed ∙ ap₂ (λ gs ps. owed ps base gs) c.deref.ensures.value c.deref-2.ensures.value in
     let idles : c.count_idle-idle.result ≡ idle left (length homes) = c.count_idle-idle.ensures ∙ ap (idle left) (ap (λ n. inner + n) c.one_if-dark.ensures ∙ sym s.long) in
     let few : c.in_ok-left.owed ≤ length g + length ports + 1 = omega (arith, c.in_ok-left.ensures.few, ap length c.deref.ensures.value, ap length c.deref-2.ensures.value) in
-    let ready = start_ready g ports homes left inner (above + c.args.loops) first base dark start is (homes_within above list.inputs c.args.loops (above + c.args.loops) dark homes s refl) counted refl wide s.long c.wants_zero-zero.ensures.used (omega arith)
+    let ready = start_ready g ports homes left inner (above + c.args.loops) first base dark start is low counted refl wide s.long c.wants_zero-zero.ensures.used (omega arith)
     (omega (arith, owes, idles, c.first_home-least.ensures.enough, c.one_if-dark.ensures)) in
-    let inner_is : inner ≡ list.inputs + loop_count list = ap (λ n. list.inputs + n) c.requires.loops in
-    let many : length ports ≡ loop_count list + length list.outs = length-ports list ports c.requires.sound c.in_ok-ports.ensures in
+    let long : length c.of-3.result ≡ above + c.args.loops = ap length c.of-3.ensures ∙ is.long in
     record {
-      job_of = record { base = at; gates = c.of.ensures ∙ c.in_ok-gates.ensures; ports = c.of-2.ensures ∙ c.in_ok-ports.ensures };
+      job_of = record { base = facts.base; gates = c.of.ensures ∙ c.in_ok-gates.ensures; ports = c.of-2.ensures ∙ c.in_ok-ports.ensures };
       ready = subst (λ st. Ready (uses_of c.of.result ++ c.of-2.result) (base + 0) (owed c.of-2.result (base + 0) c.of.result) st left) (sym c.of-3.ensures)
           (subst (λ ps. Ready (uses_of c.of.result ++ ps) (base + 0) (owed ps (base + 0) c.of.result) start left) (sym c.of-2.ensures)
           (subst (λ gs. Ready (uses_of gs ++ ports) (base + 0) (owed ports (base + 0) gs) start left) (sym c.of.ensures) ready));
       counted = wide ∙ ap (λ n. base + n) (sym (ap length c.of.ensures));
       home = subst (AreAtHome homes) (sym c.of-3.ensures) is.home;
-      homes_of = homes_of_list list above (length c.of-3.result) dark homes (subst (λ n. AreHomesAbove above list.inputs n dark homes) c.requires.loops s) (ap length c.of-3.ensures ∙ is.long ∙ ap (λ n. above + n) c.requires.loops);
-      zero = λ k d below e. (let one : cond {A = ℕ} dark 1 0 ≡ 1 = ap (λ b. cond {A = ℕ} b 1 0) (c.wants_zero-zero.ensures.nets k d below e) in omega (arith, one, s.long, inner_is));
-      ports = subst (All (λ v. v < base + length c.of.result)) (sym c.of-2.ensures) (ports_below list ports (base + length c.of.result) c.requires.sound c.in_ok-ports.ensures (omega (arith, at, ap length c.of.ensures, cells)));
-      room = omega (arith, ap length c.of-3.ensures, is.long, inner_is);
-      below = subst (λ n. All (λ lane. lane < n) homes) (sym (ap length c.of-3.ensures ∙ is.long)) (homes_within above list.inputs c.args.loops (above + c.args.loops) dark homes s refl);
-      lanes = omega (arith, ap length c.of-3.ensures, is.long, c.first_home-least.ensures.most, c.one_if-dark.ensures, small, few, cells, length-ports list ports c.requires.sound c.in_ok-ports.ensures, inner_is);
-      empty = λ (h : list.inputs + loop_count list + length list.cells + length list.outs + length list.nets ≡ 0) (e : c.args.spare ≡ 0).
-          (let used = nothing_used base g ports (omega (arith, h, cells)) (omega (arith, h, many)) in
+      homes_of = homes_of_list list above (length c.of-3.result) dark homes (subst (λ n. AreHomesAbove above list.inputs n dark homes) c.requires.loops s) (long ∙ ap (λ n. above + n) c.requires.loops);
+      zero = λ k d below e. (let one : cond {A = ℕ} dark 1 0 ≡ 1 = ap (λ b. cond {A = ℕ} b 1 0) (c.wants_zero-zero.ensures.nets k d below e) in omega (arith, one, s.long, c.requires.loops));
+      ports = subst (λ gs. All (λ v. v < base + length gs) c.of-2.result) (sym c.of.ensures) (subst (All (λ v. v < base + length g)) (sym c.of-2.ensures) facts.ports_low);
+      room = omega (arith, long, c.requires.loops);
+      below = subst (λ n. All (λ lane. lane < n) homes) (sym long) low;
+      lanes = omega (arith, long, c.first_home-least.ensures.most, c.one_if-dark.ensures, small, few, facts.cells, facts.many, c.requires.loops);
+      empty = λ (h : list.inputs + loop_count list + length list.cells + length list.outs + length list.nets ≡ 0).
+          (let used = nothing_used base g ports (omega (arith, h, facts.cells)) (omega (arith, h, facts.many)) in
           let unused : get_or left inner 0 ≡ 0 = counted inner (omega (arith, wide)) ∙ used.1 inner in
           let off : cond {A = ℕ} dark 1 0 ≡ 0 = ap (λ b. cond {A = ℕ} b 1 0) (c.wants_zero-zero.ensures.none unused (omega (arith, h))) in
-          omega (arith, ap length c.of-3.ensures, is.long, c.first_home-least.ensures.most, c.one_if-dark.ensures, off, owes, used.0, e, h, inner_is));
+          omega (arith, long, c.first_home-least.ensures.most, c.one_if-dark.ensures, off, owes, used.0, h, c.requires.loops));
     }
