@@ -103,8 +103,8 @@ HasHomeIfZero list homes src = src ≡ Zero → list.inputs + loop_count list < 
 -- sources have places: each that no cell makes has a home, but perhaps constant 0, and each cell is made
 pub record HavePlaces (list : CellList) (homes : List ℕ) (made : List NetPlace) : Type 0 where
   pub small : list.inputs + loop_count list + 1 + length list.cells < 2 ^ 32
-  pub homes : list.inputs + loop_count list ≤ length homes
-  pub made : length made ≡ length list.cells
+  pub known_home : list.inputs + loop_count list ≤ length homes
+  pub all_made : length made ≡ length list.cells
 
 -- the list is short enough to be placed
 abbrev pub IsPlaceable : CellList → Type 0

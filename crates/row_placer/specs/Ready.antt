@@ -57,5 +57,5 @@ pub record IsRunnable (job : Job) (loops : ℕ) (left : List ℕ) : Type 0 where
   pub ready : ReadyForGate job 0 job.start left
   pub wide : value_count job ≤ length left
   pub known : ArePortsKnown job
-  pub loops : loops ≤ length job.ports
-  pub lanes : loops ≤ length job.start
+  pub among_ports : loops ≤ length job.ports
+  pub room : loops ≤ length job.start

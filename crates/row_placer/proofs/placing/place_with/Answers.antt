@@ -32,8 +32,8 @@ run-requires c =
       ready = search rules;
       wide = search rules;
       known = ready.ports;
-      loops = omega (arith, ports, c.requires.loops);
-      lanes = omega (arith, ready.room, c.requires.loops);
+      among_ports = omega (arith, ports, c.requires.loops);
+      room = omega (arith, ready.room, c.requires.loops);
     }
 
 pub ends_of-requires-clause-loops : goal.ends_of-requires-clause-loops
@@ -54,8 +54,8 @@ ends_of-requires-clause-places c =
     let ready = c.in_ok-job.ensures in
     let here : HavePlaces list c.in_ok-job.field-0.homes.items made = record {
       small = omega (arith, c.requires.small);
-      homes = ready.homes_of.least;
-      made = c.in_ok-lanes.ensures.made ∙ ap length ready.job_of.gates ∙ length-map list.cells (gate_of list);
+      known_home = ready.homes_of.least;
+      all_made = c.in_ok-lanes.ensures.made ∙ ap length ready.job_of.gates ∙ length-map list.cells (gate_of list);
     } in
     subst (λ hs. HavePlaces list hs made) (sym c.deref.ensures.value) here
 
