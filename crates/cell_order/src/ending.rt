@@ -301,7 +301,9 @@ impl Search {
     // The numbers of the cells that come, in their order.
     fn take_all(&mut self, alloc: Global, list: &CellList) -> Result<Vec<u32>, ReorderError>
         ensures few { IfOk result (λ order. length order.items ≤ length list.now.cells) }
-        ensures below { IfOk result (λ order. All (λ cell. cell < length list.now.cells) order.items) }
+        ensures below { IfOk result (λ order.
+            All (λ cell. cell < length list.now.cells) order.items
+            ) }
     {
         let cells = list.cells.len();
         let mut order = Vec::with_capacity(alloc, cells)?;

@@ -6,13 +6,13 @@ use Rattle.std.proofs.lemmas.Option.{get_or_from_slice_get}
 use Rattle.std.proofs.lemmas.List.{length-set}
 use Rattle.lane_core.specs.declared.plan.NetPlace.{NetPlace}
 use Rattle.row_placer.specs.Told.{count, tag, free_tag, Exchanged, BothExchanged}
-use Rattle.row_placer.proofs.Uses.{first_used, second_used, Usable, usable, used, comes, made as gate_made, ended as gate_ended}
+use Rattle.row_placer.proofs.Uses.{first_used, second_used, usable, used, comes, made as gate_made, ended as gate_ended}
 use Rattle.row_placer.specs.declared.roles.Role.TheVariants.{Kept, First, Second}
 use Rattle.row_placer.specs.declared.roles.Tag.{Tag}
 use Rattle.row_placer.specs.declared.job.NumberedCell.{NumberedCell}
 use Rattle.row_placer.specs.declared.job.Job.{Job}
 use Rattle.row_placer.specs.Uses.{need, owed, owed_ports, unused, times, uses_of, AreKnown}
-use Rattle.row_placer.specs.Ready.{Ready, ReadyForGate, ReadyForPort}
+use Rattle.row_placer.specs.Ready.{Ready, ReadyForGate, ReadyForPort, IsUsable}
 
 abbrev pub pending : Job → ℕ → List ℕ
 pending job g = uses_of (drop g job.gates) ++ job.ports
@@ -46,7 +46,7 @@ pub record Begun (job : Job) (g : ℕ) (gate : NumberedCell) (tags : List Tag) (
   pub second : gate.second < job.base + g
   pub ready : Ready (gate.first ∷ gate.second ∷ pending job (g + 1)) (job.base + g)
       (need gate.first (gate.second ∷ pending job (g + 1)) + (need gate.second (pending job (g + 1)) + still job g)) tags table
-  pub usable : Usable gate.first (need gate.second (pending job (g + 1)) + still job g) tags table
+  pub usable : IsUsable gate.first tags table
 
 pub begun : (job : Job) (made : List NetPlace) (i count : ℕ) (gate : NumberedCell) (tags : List Tag) (table : List ℕ) → i ≡ count → length made ≡ count → slice_get job.gates i ≡ Some gate → length made < length job.gates
     → ReadyForGate job (length made) tags table → Begun job (length made) gate tags table
@@ -65,7 +65,7 @@ begun job made i n gate tags table len ok got within r =
 -- and one whose first operand is held
 pub record Halfway (job : Job) (g : ℕ) (gate : NumberedCell) (tags : List Tag) (table : List ℕ) : Type 0 where
   pub ready : Ready (gate.second ∷ pending job (g + 1)) (job.base + g) (need gate.second (pending job (g + 1)) + still job g) tags table
-  pub usable : Usable gate.second (still job g) tags table
+  pub usable : IsUsable gate.second tags table
   pub held : 1 ≤ count gate.first First tags
 
 pub halfway : (job : Job) (g : ℕ) (gate : NumberedCell) (tags tags' : List Tag) (table table' : List ℕ) → Begun job g gate tags table

@@ -14,9 +14,9 @@ use Rattle.row_placer.specs.declared.roles.Tag.{Tag}
 use Rattle.row_placer.specs.declared.job.Job.{Job}
 use Rattle.row_placer.specs.Told.{role_code, count, tag, free_tag, Exchanged, SameTags, is_tag}
 use Rattle.row_placer.specs.Uses.{need, owed_ports}
-use Rattle.row_placer.specs.Ready.{Ready, ReadyForPort, HoldPorts, AreSettled}
+use Rattle.row_placer.specs.Ready.{Ready, ReadyForPort, HoldPorts, AreSettled, IsUsable}
 use Rattle.row_placer.proofs.Carry.{brought_to}
-use Rattle.row_placer.proofs.Uses.{Usable, usable, used, comes, stays}
+use Rattle.row_placer.proofs.Uses.{usable, used, comes, stays}
 
 port_role : (i : ℕ) → 2 ≤ role_code (Port i)
 port_role i = let e : 2 ≤ 4 + i = omega arith in e
@@ -26,7 +26,7 @@ pub record Ported (job : Job) (i v : ℕ) (tags : List Tag) (table : List ℕ) :
   pub known : get_or job.ports i 0 ≡ v
   pub low : v < job.base + length job.gates
   pub ready : Ready (v ∷ drop (i + 1) job.ports) (job.base + length job.gates) (need v (drop (i + 1) job.ports) + owed_ports (drop (i + 1) job.ports)) tags table
-  pub usable : Usable v (owed_ports (drop (i + 1) job.ports)) tags table
+  pub usable : IsUsable v tags table
 
 pub ported : (job : Job) (i v : ℕ) (tags : List Tag) (table : List ℕ) → slice_get job.ports i ≡ Some v → i < length job.ports → All (λ v. v < job.base + length job.gates) job.ports
     → ReadyForPort job i tags table → Ported job i v tags table

@@ -9,7 +9,7 @@ use Rattle.row_placer.specs.declared.roles.Role.TheVariants.{Free, Kept, First, 
 use Rattle.row_placer.specs.declared.roles.Tag.{Tag}
 use Rattle.row_placer.specs.Told.{role_code, count, is_tag, tag, free_tag, Exchanged, BothExchanged}
 use Rattle.row_placer.specs.Uses.{times, need, unused}
-use Rattle.row_placer.specs.Ready.{Ready}
+use Rattle.row_placer.specs.Ready.{Ready, IsUsable}
 use Rattle.std.proofs.lemmas.Bool.{ne_eqb as eq_no}
 
 pub times_head : (v w : ℕ) (us : List ℕ) → v ≡ w → times w (v ∷ us) ≡ 1 + times w us
@@ -62,13 +62,7 @@ gone_high v n w r high = by (n == 1)
 need_one : (v : ℕ) (us : List ℕ) → times v us ≢ 0 → need v us ≡ 1
 need_one v us ne = ap (λ b. cond {A = ℕ} b 0 1) (eq_no (times v us) 0 ne)
 
-pub record Usable (v least : ℕ) (tags : List Tag) (table : List ℕ) : Type 0 where
-  pub within : v < length table
-  pub has : 1 ≤ count v Kept tags
-  pub some : 1 ≤ get_or table v 0
-  pub dark : get_or table v 0 ≢ 1 → 1 ≤ count 0 Free tags
-
-pub usable : (v : ℕ) (us : List ℕ) (limit least : ℕ) (tags : List Tag) (table : List ℕ) → Ready (v ∷ us) limit (need v us + least) tags table → v < limit → Usable v least tags table
+pub usable : (v : ℕ) (us : List ℕ) (limit least : ℕ) (tags : List Tag) (table : List ℕ) → Ready (v ∷ us) limit (need v us + least) tags table → v < limit → IsUsable v tags table
 usable v us limit least tags table r low =
     let within : v < length table = omega (arith, low, r.wide) in
     let head = times_head v v us refl in
@@ -77,7 +71,7 @@ usable v us limit least tags table r low =
       within = within;
       has = r.kept v low (omega (arith, head));
       some = omega (arith, head, left);
-      dark = λ ne. (let one = need_one v us (λ e. ne (omega (arith, head, left, e))) in omega (arith, one, r.free));
+      free = λ ne. (let one = need_one v us (λ e. ne (omega (arith, head, left, e))) in omega (arith, one, r.free));
     }
 
 pub used : (v : ℕ) (role : Role) (us : List ℕ) (limit least : ℕ) (tags tags' : List Tag) (table table' : List ℕ) → Ready (v ∷ us) limit (need v us + least) tags table → v < limit → 2 ≤ role_code role

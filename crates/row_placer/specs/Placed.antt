@@ -96,6 +96,16 @@ pub record IsPrepared (list : CellList) (spare : ℕ) (job : Job) (left homes : 
   pub lanes : length job.start ≤ list.inputs + 2 * loop_count list + length list.outs + length list.cells + 2 + spare
   pub empty : IsEmpty list → length job.start ≤ spare
 
+-- where the source is constant 0, that has a home
+abbrev pub HasHomeIfZero : CellList → List ℕ → Src → Type 0
+HasHomeIfZero list homes src = src ≡ Zero → list.inputs + loop_count list < length homes
+
+-- sources have places: each that no cell makes has a home, but perhaps constant 0, and each cell is made
+pub record HavePlaces (list : CellList) (homes : List ℕ) (made : List NetPlace) : Type 0 where
+  pub small : list.inputs + loop_count list + 1 + length list.cells < 2 ^ 32
+  pub known_home : list.inputs + loop_count list ≤ length homes
+  pub all_made : length made ≡ length list.cells
+
 -- the list is short enough to be placed
 abbrev pub IsPlaceable : CellList → Type 0
 IsPlaceable list = list.inputs + loop_count list + length list.outs + length list.cells < 2 ^ 20

@@ -27,6 +27,14 @@ tag value role = record { value = value; role = role }
 abbrev pub free_tag : Tag
 free_tag = record { value = 0; role = Free }
 
+-- the tag on a lane
+abbrev pub tag_on : List Tag → ℕ → Tag
+tag_on tags lane = get_or tags lane free_tag
+
+-- what goes where a kept value is used: its own tag at the last use, else that of a free lane
+abbrev pub taken_tag : ℕ → Bool → Tag
+taken_tag value last = cond last (tag value Kept) free_tag
+
 -- a lane that is free tells nothing
 abbrev pub Tells : (ℕ → Bool) → Tag → Bool → Type 0
 Tells bit t b = 0 < role_code t.role → b ≡ bit t.value
@@ -95,3 +103,18 @@ Exchanged old new gone come = (p : Tag → Bool) → count_by p new + cond (p go
 abbrev pub BothExchanged : List Tag → List Tag → Tag → Tag → Tag → Tag → Type 0
 BothExchanged old new gone gone' come come' =
     (p : Tag → Bool) → count_by p new + (cond (p gone) 1 0 + cond (p gone') 1 0) ≡ count_by p old + (cond (p come) 1 0 + cond (p come') 1 0)
+
+-- a gate's operands have been exchanged for its value and a free lane
+abbrev pub GateExchanged : List Tag → List Tag → NumberedCell → ℕ → Type 0
+GateExchanged old new gate value = BothExchanged old new (tag gate.first First) (tag gate.second Second) (tag value Kept) free_tag
+
+-- each lane has the tag that another lane had
+abbrev pub Rearranged : List Tag → List Tag → (ℕ → ℕ) → Type 0
+Rearranged old new from = (lane : ℕ) → tag_on new lane ≡ tag_on old (from lane)
+
+-- what stands on the upper and on the lower lane of a gate
+abbrev pub upper_operand : NumberedCell → Bool → Tag
+upper_operand gate turned = cond turned (tag gate.second Second) (tag gate.first First)
+
+abbrev pub lower_operand : NumberedCell → Bool → Tag
+lower_operand gate turned = cond turned (tag gate.first First) (tag gate.second Second)

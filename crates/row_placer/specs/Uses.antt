@@ -10,6 +10,10 @@ uses_of (q ∷ qs) = q.first ∷ q.second ∷ uses_of qs
 abbrev pub times : ℕ → List ℕ → ℕ
 times v us = count_by (λ u. u == v) us
 
+-- how many uses of a value are left, by a table of the uses of each
+abbrev pub uses_left : List ℕ → ℕ → ℕ
+uses_left left v = get_or left v 0
+
 -- a copy is needed where a value is used later
 abbrev pub need : ℕ → List ℕ → ℕ
 need v us = cond (times v us == 0) 0 1

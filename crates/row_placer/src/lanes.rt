@@ -1,10 +1,11 @@
 // Lanes, with their tags and clocks, and the instructions so far.
-ghost use Rattle.std.specs.Prelude.{ℕ, ◌≡◌, ◌==◌, ◌≢◌, ◌≤◌, ◌<◌, ◌+◌, ◌-◌, ◌*◌, ◌^◌, ◌++◌, ◌∷◌, [], length, All, cond, get_or, slice_get, Some, set, OnOk, IfSome, IfOk, true, false};
+ghost use Rattle.std.specs.Prelude.{◌≡◌, ◌==◌, ◌≤◌, ◌<◌, ◌+◌, ◌-◌, ◌*◌, ◌^◌, ◌++◌, ◌∷◌, [], length, All, get_or, slice_get, Some, set, OnOk, IfSome, IfOk, true, false};
 ghost use Rattle.lane_core.specs.Instrs.{IsOnLanes, lane_of};
 ghost use Rattle.lane_core.specs.Places.{IsPlaceWithin};
 ghost use Rattle.row_placer.specs.declared.roles.Role.TheVariants.{Free, Kept, First, Second};
-ghost use Rattle.row_placer.specs.Told.{role_code, Told, MadeTold, MadeAt, PutsTags, SameTags, Exchanged, count, free_tag, tag, gate_instr, BothExchanged};
-ghost use Rattle.row_placer.specs.Ready.{ReadyForGate, ReadyForPort, HoldPorts, AreSettled};
+ghost use Rattle.row_placer.specs.Told.{role_code, Told, MadeTold, MadeAt, PutsTags, SameTags, Exchanged, GateExchanged, Rearranged, count, free_tag, tag, tag_on, taken_tag, upper_operand, lower_operand, gate_instr};
+ghost use Rattle.row_placer.specs.Uses.{uses_left};
+ghost use Rattle.row_placer.specs.Ready.{ReadyForGate, ReadyForPort, HoldAllPorts, AreSettled, IsUsable, IsRunnable, IsGateOf, ArePortsKnown, value_count};
 ghost use Rattle.row_placer.specs.Placed.{AreOuts};
 ghost use Rattle.row_placer.specs.declared.job.CellKind.TheVariants.{AndNot};
 ghost use Rattle.channel_router.specs.Routes.{swapped, brought, distance};
@@ -58,13 +59,8 @@ impl<'a> Lanes<'a> {
         loops: u32,
         left: &mut [u32],
     ) -> Result<Lanes<'a>, PlaceError>
-        requires few { length job.now.start < 2 ^ 32 }
-        requires ready { ReadyForGate job.now 0 job.now.start left.old }
-        requires wide { job.now.base + length job.now.gates ≤ length left.old }
-        requires known { All (λ v. v < job.now.base + length job.now.gates) job.now.ports }
-        requires loops { loops ≤ length job.now.ports }
-        requires lanes { loops ≤ length job.now.start }
-        ensures held { IfOk result (λ r. HoldPorts job.now (length job.now.ports) r.tags.items) }
+        requires { IsRunnable job.now loops left.old }
+        ensures held { IfOk result (λ r. HoldAllPorts job.now r.tags.items) }
         ensures settled { IfOk result (λ r. AreSettled job.now loops r.tags.items) }
         ensures long { IfOk result (λ r. length r.tags.items ≡ length job.now.start) }
         ensures made { IfOk result (λ r. length r.made.items ≡ length job.now.gates) }
@@ -109,13 +105,13 @@ impl<'a> Lanes<'a> {
     fn swap(&mut self, lane: u32) -> Result<(), PlaceError>
         requires { lane + 1 < length self.old.tags.items }
         ensures lanes { OnOk result (
-            (l : ℕ)
-            → get_or self.new.tags.items l free_tag
-            ≡ get_or self.old.tags.items (swapped lane l) free_tag
+            Rearranged self.old.tags.items self.new.tags.items (swapped lane)
             ) }
         ensures long { OnOk result (length self.new.tags.items ≡ length self.old.tags.items) }
         ensures same { OnOk result (SameTags self.old.tags.items self.new.tags.items) }
-        ensures count { OnOk result (length self.new.instrs.items ≡ length self.old.instrs.items + 1) }
+        ensures count { OnOk result (
+            length self.new.instrs.items ≡ length self.old.instrs.items + 1
+            ) }
         ensures made { self.new.made.items ≡ self.old.made.items }
         ensures job { self.new.job ≡ self.old.job }
     {
@@ -129,19 +125,21 @@ impl<'a> Lanes<'a> {
     fn fork(&mut self, lane: u32) -> Result<(), PlaceError>
         requires { lane + 1 < length self.old.tags.items }
         ensures upper { OnOk result (
-            get_or self.new.tags.items lane free_tag ≡ get_or self.old.tags.items lane free_tag
+            tag_on self.new.tags.items lane ≡ tag_on self.old.tags.items lane
             ) }
         ensures lower { OnOk result (
-            get_or self.new.tags.items (lane + 1) free_tag
-            ≡ get_or self.old.tags.items lane free_tag
+            tag_on self.new.tags.items (lane + 1) ≡ tag_on self.old.tags.items lane
             ) }
         ensures exchanged { OnOk result (
-            Exchanged self.old.tags.items self.new.tags.items (get_or self.old.tags.items (lane + 1) free_tag) (
-            get_or self.old.tags.items lane free_tag
-            )
+            Exchanged
+            self.old.tags.items self.new.tags.items
+            (tag_on self.old.tags.items (lane + 1))
+            (tag_on self.old.tags.items lane)
             ) }
         ensures long { OnOk result (length self.new.tags.items ≡ length self.old.tags.items) }
-        ensures count { OnOk result (length self.new.instrs.items ≡ length self.old.instrs.items + 1) }
+        ensures count { OnOk result (
+            length self.new.instrs.items ≡ length self.old.instrs.items + 1
+            ) }
         ensures made { self.new.made.items ≡ self.old.made.items }
         ensures job { self.new.job ≡ self.old.job }
     {
@@ -153,10 +151,10 @@ impl<'a> Lanes<'a> {
     /// Gives the value on a lane another role.
     fn mark(&mut self, lane: u32, role: Role)
         requires within { lane < length self.old.tags.items }
-        requires some { 0 < role_code (get_or self.old.tags.items lane free_tag).role }
+        requires some { 0 < role_code (tag_on self.old.tags.items lane).role }
         ensures tags { self.new.tags.items
             ≡ set self.old.tags.items lane (
-            tag (get_or self.old.tags.items lane free_tag).value role
+            tag (tag_on self.old.tags.items lane).value role
             ) }
         ensures count { length self.new.instrs.items ≡ length self.old.instrs.items }
         ensures made { self.new.made.items ≡ self.old.made.items }
@@ -184,7 +182,7 @@ impl<'a> Lanes<'a> {
     fn end(&mut self, value: u32, uses: u32)
         requires { 1 ≤ count value Kept self.old.tags.items }
         ensures exchanged { Exchanged
-            self.old.tags.items self.new.tags.items (cond (uses == 0) (tag value Kept) free_tag)
+            self.old.tags.items self.new.tags.items (taken_tag value (uses == 0))
             free_tag }
         ensures long { length self.new.tags.items ≡ length self.old.tags.items }
         ensures count { length self.new.instrs.items ≡ length self.old.instrs.items }
@@ -202,7 +200,7 @@ impl<'a> Lanes<'a> {
     fn find(&self, value: u32, role: Role) -> u32
         requires { 1 ≤ count value role self.now.tags.items }
         ensures within { result < length self.now.tags.items }
-        ensures here { get_or self.now.tags.items result free_tag ≡ tag value role }
+        ensures here { tag_on self.now.tags.items result ≡ tag value role }
     {
         let mut lane = 0;
         while (lane as usize) < self.tags.len() {
@@ -219,13 +217,13 @@ impl<'a> Lanes<'a> {
         requires from { from < length self.old.tags.items }
         requires to { to < length self.old.tags.items }
         ensures lanes { OnOk result (
-            (l : ℕ)
-            → get_or self.new.tags.items l free_tag
-            ≡ get_or self.old.tags.items (brought from to l) free_tag
+            Rearranged self.old.tags.items self.new.tags.items (brought from to)
             ) }
         ensures long { OnOk result (length self.new.tags.items ≡ length self.old.tags.items) }
         ensures same { OnOk result (SameTags self.old.tags.items self.new.tags.items) }
-        ensures count { OnOk result (length self.new.instrs.items ≡ length self.old.instrs.items + distance from to) }
+        ensures count { OnOk result (
+            length self.new.instrs.items ≡ length self.old.instrs.items + distance from to
+            ) }
         ensures made { self.new.made.items ≡ self.old.made.items }
         ensures job { self.new.job ≡ self.old.job }
     {
@@ -243,13 +241,13 @@ impl<'a> Lanes<'a> {
         requires order { from ≤ to }
         requires to { to < length self.old.tags.items }
         ensures lanes { OnOk result (
-            (l : ℕ)
-            → get_or self.new.tags.items l free_tag
-            ≡ get_or self.old.tags.items (brought from to l) free_tag
+            Rearranged self.old.tags.items self.new.tags.items (brought from to)
             ) }
         ensures long { OnOk result (length self.new.tags.items ≡ length self.old.tags.items) }
         ensures same { OnOk result (SameTags self.old.tags.items self.new.tags.items) }
-        ensures count { OnOk result (length self.new.instrs.items ≡ length self.old.instrs.items + distance from to) }
+        ensures count { OnOk result (
+            length self.new.instrs.items ≡ length self.old.instrs.items + distance from to
+            ) }
         ensures made { self.new.made.items ≡ self.old.made.items }
         ensures job { self.new.job ≡ self.old.job }
     {
@@ -266,13 +264,13 @@ impl<'a> Lanes<'a> {
         requires order { to ≤ from }
         requires from { from < length self.old.tags.items }
         ensures lanes { OnOk result (
-            (l : ℕ)
-            → get_or self.new.tags.items l free_tag
-            ≡ get_or self.old.tags.items (brought from to l) free_tag
+            Rearranged self.old.tags.items self.new.tags.items (brought from to)
             ) }
         ensures long { OnOk result (length self.new.tags.items ≡ length self.old.tags.items) }
         ensures same { OnOk result (SameTags self.old.tags.items self.new.tags.items) }
-        ensures count { OnOk result (length self.new.instrs.items ≡ length self.old.instrs.items + distance from to) }
+        ensures count { OnOk result (
+            length self.new.instrs.items ≡ length self.old.instrs.items + distance from to
+            ) }
         ensures made { self.new.made.items ≡ self.old.made.items }
         ensures job { self.new.job ≡ self.old.job }
     {
@@ -314,11 +312,10 @@ impl<'a> Lanes<'a> {
         requires high { at < lower }
         requires within { lower < length self.old.tags.items }
         ensures first { OnOk result (
-            get_or self.new.tags.items at free_tag ≡ get_or self.old.tags.items upper free_tag
+            tag_on self.new.tags.items at ≡ tag_on self.old.tags.items upper
             ) }
         ensures second { OnOk result (
-            get_or self.new.tags.items (at + 1) free_tag
-            ≡ get_or self.old.tags.items lower free_tag
+            tag_on self.new.tags.items (at + 1) ≡ tag_on self.old.tags.items lower
             ) }
         ensures long { OnOk result (length self.new.tags.items ≡ length self.old.tags.items) }
         ensures same { OnOk result (SameTags self.old.tags.items self.new.tags.items) }
@@ -336,7 +333,7 @@ impl<'a> Lanes<'a> {
     /// The nearest free lane below.
     fn free_below(&self, lane: u32) -> Option<u32>
         ensures within { IfSome result (λ r. r < length self.now.tags.items) }
-        ensures here { IfSome result (λ r. get_or self.now.tags.items r free_tag ≡ free_tag) }
+        ensures here { IfSome result (λ r. tag_on self.now.tags.items r ≡ free_tag) }
     {
         let mut at = lane;
         while at as usize + 1 < self.tags.len() {
@@ -352,7 +349,7 @@ impl<'a> Lanes<'a> {
     fn free_above(&self, lane: u32) -> Option<u32>
         requires { lane < length self.now.tags.items }
         ensures within { IfSome result (λ r. r < length self.now.tags.items) }
-        ensures here { IfSome result (λ r. get_or self.now.tags.items r free_tag ≡ free_tag) }
+        ensures here { IfSome result (λ r. tag_on self.now.tags.items r ≡ free_tag) }
     {
         let mut at = lane;
         while at > 0 {
@@ -383,7 +380,7 @@ impl<'a> Lanes<'a> {
         requires within { lane < length self.now.tags.items }
         requires free { 1 ≤ count 0 Free self.now.tags.items }
         ensures within { result < length self.now.tags.items }
-        ensures here { get_or self.now.tags.items result free_tag ≡ free_tag }
+        ensures here { tag_on self.now.tags.items result ≡ free_tag }
     {
         match (self.free_below(lane), self.free_above(lane)) {
             (Some(below), Some(above)) => {
@@ -402,19 +399,18 @@ impl<'a> Lanes<'a> {
     /// A second copy of what stands on a lane: the upper one of the two lanes that then have it.
     fn copy(&mut self, lane: u32) -> Result<u32, PlaceError>
         requires within { lane < length self.old.tags.items }
-        requires some { 0 < role_code (get_or self.old.tags.items lane free_tag).role }
+        requires some { 0 < role_code (tag_on self.old.tags.items lane).role }
         requires free { 1 ≤ count 0 Free self.old.tags.items }
         ensures within { IfOk result (λ r. r + 1 < length self.old.tags.items) }
         ensures upper { IfOk result (λ r.
-            get_or self.new.tags.items r free_tag ≡ get_or self.old.tags.items lane free_tag
+            tag_on self.new.tags.items r ≡ tag_on self.old.tags.items lane
             ) }
         ensures lower { IfOk result (λ r.
-            get_or self.new.tags.items (r + 1) free_tag
-            ≡ get_or self.old.tags.items lane free_tag
+            tag_on self.new.tags.items (r + 1) ≡ tag_on self.old.tags.items lane
             ) }
         ensures exchanged { OnOk result (
             Exchanged self.old.tags.items self.new.tags.items free_tag (
-            get_or self.old.tags.items lane free_tag
+            tag_on self.old.tags.items lane
             )
             ) }
         ensures long { OnOk result (length self.new.tags.items ≡ length self.old.tags.items) }
@@ -445,7 +441,7 @@ impl<'a> Lanes<'a> {
         requires has { 1 ≤ count value Kept self.old.tags.items }
         requires free { last ≡ false → 1 ≤ count 0 Free self.old.tags.items }
         ensures exchanged { OnOk result (
-            Exchanged self.old.tags.items self.new.tags.items (cond last (tag value Kept) free_tag) (
+            Exchanged self.old.tags.items self.new.tags.items (taken_tag value last) (
             tag value role
             )
             ) }
@@ -476,7 +472,7 @@ impl<'a> Lanes<'a> {
     fn note(&mut self, lane: u32) -> Result<(), PlaceError>
         requires lane { lane < length self.old.tags.items }
         requires some { 0 < length self.old.instrs.items }
-        requires here { get_or self.old.tags.items lane free_tag
+        requires here { tag_on self.old.tags.items lane
             ≡ tag (self.old.job.now.base + length self.old.made.items) Kept }
         requires last { (gate : NumberedCell)
             → slice_get self.old.instrs.items (length self.old.instrs.items - 1)
@@ -502,16 +498,19 @@ impl<'a> Lanes<'a> {
     fn make(&mut self, lane: u32, gate: NumberedCell, turned: bool) -> Result<(), PlaceError>
         requires lane { lane + 1 < length self.old.tags.items }
         requires within { length self.old.made.items < length self.old.job.now.gates }
-        requires known { get_or self.old.job.now.gates (length self.old.made.items) gate ≡ gate }
-        requires upper { get_or self.old.tags.items lane free_tag
-            ≡ cond turned (tag gate.second Second) (tag gate.first First) }
-        requires lower { get_or self.old.tags.items (lane + 1) free_tag
-            ≡ cond turned (tag gate.first First) (tag gate.second Second) }
+        requires known { IsGateOf self.old.job.now (length self.old.made.items) gate }
+        requires upper { tag_on self.old.tags.items lane ≡ upper_operand gate turned }
+        requires lower { tag_on self.old.tags.items (lane + 1) ≡ lower_operand gate turned }
         requires order { gate.kind ≡ AndNot → turned ≡ false }
-        ensures exchanged { OnOk result (BothExchanged self.old.tags.items self.new.tags.items (tag gate.first First) (tag gate.second Second)
-            (tag (self.old.job.now.base + length self.old.made.items) Kept) free_tag) }
+        ensures exchanged { OnOk result (
+            GateExchanged self.old.tags.items self.new.tags.items gate (
+            self.old.job.now.base + length self.old.made.items
+            )
+            ) }
         ensures long { OnOk result (length self.new.tags.items ≡ length self.old.tags.items) }
-        ensures count { OnOk result (length self.new.instrs.items ≡ length self.old.instrs.items + 1) }
+        ensures count { OnOk result (
+            length self.new.instrs.items ≡ length self.old.instrs.items + 1
+            ) }
         ensures made { OnOk result (length self.new.made.items ≡ length self.old.made.items + 1) }
         ensures job { self.new.job ≡ self.old.job }
     {
@@ -535,11 +534,14 @@ impl<'a> Lanes<'a> {
     /// Makes the next gate of its operands.
     fn gate(&mut self, gate: NumberedCell) -> Result<(), PlaceError>
         requires within { length self.old.made.items < length self.old.job.now.gates }
-        requires known { get_or self.old.job.now.gates (length self.old.made.items) gate ≡ gate }
+        requires known { IsGateOf self.old.job.now (length self.old.made.items) gate }
         requires first { 1 ≤ count gate.first First self.old.tags.items }
         requires second { 1 ≤ count gate.second Second self.old.tags.items }
-        ensures exchanged { OnOk result (BothExchanged self.old.tags.items self.new.tags.items (tag gate.first First) (tag gate.second Second)
-            (tag (self.old.job.now.base + length self.old.made.items) Kept) free_tag) }
+        ensures exchanged { OnOk result (
+            GateExchanged self.old.tags.items self.new.tags.items gate (
+            self.old.job.now.base + length self.old.made.items
+            )
+            ) }
         ensures long { OnOk result (length self.new.tags.items ≡ length self.old.tags.items) }
         ensures count { OnOk result (
             length self.new.instrs.items
@@ -578,16 +580,14 @@ impl<'a> Lanes<'a> {
         left: &mut [u32],
     ) -> Result<(), PlaceError>
         requires role { 2 ≤ role_code role }
-        requires within { value < length left.old }
-        requires has { 1 ≤ count value Kept self.old.tags.items }
-        requires some { 1 ≤ get_or left.old value 0 }
-        requires free { get_or left.old value 0 ≢ 1 → 1 ≤ count 0 Free self.old.tags.items }
+        requires usable { IsUsable value self.old.tags.items left.old }
         ensures exchanged { OnOk result (
-            Exchanged self.old.tags.items self.new.tags.items (cond (get_or left.old value 0 == 1) (tag value Kept) free_tag) (
-            tag value role
-            )
+            Exchanged
+            self.old.tags.items self.new.tags.items
+            (taken_tag value (uses_left left.old value == 1))
+            (tag value role)
             ) }
-        ensures left { left.new ≡ set left.old value (get_or left.old value 0 - 1) }
+        ensures left { left.new ≡ set left.old value (uses_left left.old value - 1) }
         ensures long { OnOk result (length self.new.tags.items ≡ length self.old.tags.items) }
         ensures count { OnOk result (
             length self.new.instrs.items
@@ -617,8 +617,9 @@ impl<'a> Lanes<'a> {
     /// Places the next gate.
     fn next(&mut self, left: &mut [u32]) -> Result<(), PlaceError>
         requires within { length self.old.made.items < length self.old.job.now.gates }
-        requires ready { ReadyForGate self.old.job.now (length self.old.made.items) self.old.tags.items left.old }
-        requires wide { self.old.job.now.base + length self.old.job.now.gates ≤ length left.old }
+        requires ready { ReadyForGate
+            self.old.job.now (length self.old.made.items) self.old.tags.items left.old }
+        requires wide { value_count self.old.job.now ≤ length left.old }
         ensures ready { OnOk result (
             ReadyForGate
             self.old.job.now (length self.old.made.items + 1) self.new.tags.items left.new
@@ -647,7 +648,7 @@ impl<'a> Lanes<'a> {
     fn place_gates(&mut self, left: &mut [u32]) -> Result<(), PlaceError>
         requires none { length self.old.made.items ≡ 0 }
         requires ready { ReadyForGate self.old.job.now 0 self.old.tags.items left.old }
-        requires wide { self.old.job.now.base + length self.old.job.now.gates ≤ length left.old }
+        requires wide { value_count self.old.job.now ≤ length left.old }
         ensures ready { OnOk result (ReadyForPort self.old.job.now 0 self.new.tags.items left.new) }
         ensures long { OnOk result (length self.new.tags.items ≡ length self.old.tags.items) }
         ensures count { OnOk result (
@@ -668,8 +669,8 @@ impl<'a> Lanes<'a> {
     /// Gives each port a lane of its own.
     fn place_ports(&mut self, loops: u32, left: &mut [u32]) -> Result<(), PlaceError>
         requires ready { ReadyForPort self.old.job.now 0 self.old.tags.items left.old }
-        requires known { All (λ v. v < self.old.job.now.base + length self.old.job.now.gates) self.old.job.now.ports }
-        ensures held { OnOk result (HoldPorts self.old.job.now (length self.old.job.now.ports) self.new.tags.items) }
+        requires known { ArePortsKnown self.old.job.now }
+        ensures held { OnOk result (HoldAllPorts self.old.job.now self.new.tags.items) }
         ensures long { OnOk result (length self.new.tags.items ≡ length self.old.tags.items) }
         ensures count { OnOk result (
             length self.new.instrs.items
@@ -693,8 +694,8 @@ impl<'a> Lanes<'a> {
     fn settle_loops(&mut self, loops: u32) -> Result<(), PlaceError>
         requires loops { loops ≤ length self.old.job.now.ports }
         requires lanes { loops ≤ length self.old.tags.items }
-        requires held { HoldPorts self.old.job.now (length self.old.job.now.ports) self.old.tags.items }
-        ensures held { OnOk result (HoldPorts self.old.job.now (length self.old.job.now.ports) self.new.tags.items) }
+        requires held { HoldAllPorts self.old.job.now self.old.tags.items }
+        ensures held { OnOk result (HoldAllPorts self.old.job.now self.new.tags.items) }
         ensures settled { OnOk result (AreSettled self.old.job.now loops self.new.tags.items) }
         ensures long { OnOk result (length self.new.tags.items ≡ length self.old.tags.items) }
         ensures count { OnOk result (
@@ -718,9 +719,11 @@ impl<'a> Lanes<'a> {
     /// The lanes of the ports that are no loops.
     pub fn find_outs(&self, alloc: Global, loops: u32) -> Result<Vec<u32>, PlaceError>
         requires loops { loops ≤ length self.now.job.now.ports }
-        requires held { HoldPorts self.now.job.now (length self.now.job.now.ports) self.now.tags.items }
+        requires held { HoldAllPorts self.now.job.now self.now.tags.items }
         ensures long { IfOk result (λ v. length v.items + loops ≡ length self.now.job.now.ports) }
-        ensures outs { IfOk result (λ v. AreOuts self.now.job.now loops self.now.tags.items v.items) }
+        ensures outs { IfOk result (λ v.
+            AreOuts self.now.job.now loops self.now.tags.items v.items
+            ) }
     {
         let mut outs = Vec::new(alloc);
         let mut port = loops;

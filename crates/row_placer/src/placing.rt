@@ -2,9 +2,9 @@
 ghost use Rattle.std.specs.Prelude.{◌≡◌, ◌≤◌, ◌<◌, ◌+◌, ◌-◌, ◌*◌, ◌^◌, ◌++◌, length, get_or, map, max, cond, All, [], ◌∷◌, true, false, ◌⊎◌, IfOk, OnOk};
 ghost use Rattle.cell_core.specs.Loops.{loop_count, loop_data, loop_state, names_one};
 ghost use Rattle.row_placer.specs.Numbers.{number, ReadsWhatIsThere, NamesZero};
-ghost use Rattle.row_placer.specs.Placed.{IsPlaceable, IsPlacedWithin, IsPrepared, AreOuts, net_place_of};
-ghost use Rattle.row_placer.specs.Ready.{HoldPorts};
-ghost use Rattle.cell_core.specs.declared.cells.Src.TheVariants.{One, Zero};
+ghost use Rattle.row_placer.specs.Placed.{HasHomeIfZero, HavePlaces, IsPlaceable, IsPlacedWithin, IsPrepared, AreOuts, net_place_of};
+ghost use Rattle.row_placer.specs.Ready.{HoldAllPorts};
+ghost use Rattle.cell_core.specs.declared.cells.Src.TheVariants.{One};
 
 use crate::counting::{count_idle, count_uses};
 use crate::reading::{count_loops, gates_of, names_zero, places_of, push_numbers};
@@ -21,7 +21,9 @@ pub fn ports_of(alloc: Global, list: &CellList, loops: u32) -> Result<Vec<u32>, 
     requires loops { loops ≡ loop_count list.now }
     requires sound { ReadsWhatIsThere list.now }
     requires small { list.now.inputs + loop_count list.now + 1 + length list.now.cells < 2 ^ 32 }
-    ensures { IfOk result (λ v. v.items ≡ map (number list.now) (loop_data list.now ++ list.now.outs)) }
+    ensures { IfOk result (λ v.
+        v.items ≡ map (number list.now) (loop_data list.now ++ list.now.outs)
+        ) }
 {
     let mut ports = Vec::new(alloc);
     push_numbers(list, loops, list.latches.as_slice(), &mut ports)?;
@@ -166,14 +168,14 @@ fn ends_of(
     lanes: &Lanes,
 ) -> Result<Ends, PlaceError>
     requires loops { loops ≡ loop_count list.now }
-    requires small { list.now.inputs + loop_count list.now + 1 + length list.now.cells < 2 ^ 32 }
     requires ports { loops ≤ length lanes.now.job.now.ports }
-    requires held { HoldPorts lanes.now.job.now (length lanes.now.job.now.ports) lanes.now.tags.items }
-    requires homes { list.now.inputs + loop_count list.now ≤ length homes.now }
-    requires zero { All (λ src. src ≡ Zero → list.now.inputs + loop_count list.now < length homes.now) list.now.nets }
-    requires made { length lanes.now.made.items ≡ length list.now.cells }
+    requires held { HoldAllPorts lanes.now.job.now lanes.now.tags.items }
+    requires places { HavePlaces list.now homes.now lanes.now.made.items }
+    requires zero { All (HasHomeIfZero list.now homes.now) list.now.nets }
     ensures long { IfOk result (λ r. length r.outs.items + loops ≡ length lanes.now.job.now.ports) }
-    ensures outs { IfOk result (λ r. AreOuts lanes.now.job.now loops lanes.now.tags.items r.outs.items) }
+    ensures outs { IfOk result (λ r.
+        AreOuts lanes.now.job.now loops lanes.now.tags.items r.outs.items
+        ) }
     ensures nets { IfOk result (λ r.
         r.nets.items ≡ map (net_place_of list.now homes.now lanes.now.made.items) list.now.nets
         ) }

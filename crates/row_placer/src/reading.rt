@@ -1,8 +1,8 @@
 // A list of cells by numbers of values.
-ghost use Rattle.std.specs.Prelude.{◌≡◌, ◌≤◌, ◌<◌, ◌+◌, ◌-◌, ◌*◌, ◌^◌, ◌++◌, length, All, map, true, false, IfOk, OnOk};
+ghost use Rattle.std.specs.Prelude.{◌≡◌, ◌<◌, ◌+◌, ◌-◌, ◌*◌, ◌^◌, ◌++◌, length, All, map, true, false, IfOk, OnOk};
 ghost use Rattle.cell_core.specs.Loops.{loop_count};
 ghost use Rattle.row_placer.specs.Numbers.{number, gate_of, IsThere, ReadsWhatIsThere, NamesZero, ReadsThere};
-ghost use Rattle.row_placer.specs.Placed.{net_place_of};
+ghost use Rattle.row_placer.specs.Placed.{HasHomeIfZero, HavePlaces, net_place_of};
 ghost use Rattle.cell_core.specs.declared.cells.Src.TheVariants.{Zero};
 
 use crate::{CellKind, NumberedCell, PlaceError};
@@ -79,7 +79,9 @@ pub fn push_numbers(
     requires loops { loops ≡ loop_count list.now }
     requires there { All (IsThere list.now (length list.now.cells)) srcs.now }
     requires small { list.now.inputs + loop_count list.now + 1 + length list.now.cells < 2 ^ 32 }
-    ensures { OnOk result (numbers.new.items ≡ numbers.old.items ++ map (number list.now) srcs.now) }
+    ensures { OnOk result (
+        numbers.new.items ≡ numbers.old.items ++ map (number list.now) srcs.now
+        ) }
 {
     let mut at = 0;
     while at < srcs.len() {
@@ -123,11 +125,11 @@ pub fn places_of(
 ) -> Result<Vec<NetPlace>, PlaceError>
     requires loops { loops ≡ loop_count list.now }
     requires sound { ReadsWhatIsThere list.now }
-    requires small { list.now.inputs + loop_count list.now + 1 + length list.now.cells < 2 ^ 32 }
-    requires homes { list.now.inputs + loop_count list.now ≤ length homes.now }
-    requires zero { All (λ src. src ≡ Zero → list.now.inputs + loop_count list.now < length homes.now) list.now.nets }
-    requires made { length made.now ≡ length list.now.cells }
-    ensures { IfOk result (λ v. v.items ≡ map (net_place_of list.now homes.now made.now) list.now.nets) }
+    requires places { HavePlaces list.now homes.now made.now }
+    requires zero { All (HasHomeIfZero list.now homes.now) list.now.nets }
+    ensures { IfOk result (λ v.
+        v.items ≡ map (net_place_of list.now homes.now made.now) list.now.nets
+        ) }
 {
     let mut places = Vec::new(alloc);
     let mut at = 0;
@@ -141,10 +143,8 @@ pub fn places_of(
 fn find_place(list: &CellList, loops: u32, homes: &[u32], made: &[NetPlace], src: Src) -> NetPlace
     requires loops { loops ≡ loop_count list.now }
     requires there { IsThere list.now (length list.now.cells) src }
-    requires small { list.now.inputs + loop_count list.now + 1 + length list.now.cells < 2 ^ 32 }
-    requires homes { list.now.inputs + loop_count list.now ≤ length homes.now }
-    requires zero { src ≡ Zero → list.now.inputs + loop_count list.now < length homes.now }
-    requires made { length made.now ≡ length list.now.cells }
+    requires places { HavePlaces list.now homes.now made.now }
+    requires zero { HasHomeIfZero list.now homes.now src }
     ensures { result ≡ net_place_of list.now homes.now made.now src }
 {
     match src {

@@ -1,5 +1,5 @@
-use Rattle.std.proofs.Common.{◌∙◌, ap, map, length}
-use Rattle.row_placer.specs.Placed.{net_place_of}
+use Rattle.std.proofs.Common.{sym, ◌∙◌, ap, subst, map}
+use Rattle.row_placer.specs.Placed.{HavePlaces, net_place_of}
 use Rattle.row_placer.proofs.Sound.{sound}
 use Rattle.row_placer.proofs.placing.ends_of.Goals as goal
 
@@ -13,10 +13,8 @@ pub places_of-requires : goal.places_of-requires
 places_of-requires c = record {
   loops = c.requires.loops;
   sound = sound c.args.list.now;
-  small = c.requires.small;
-  homes = c.requires.homes;
+  places = subst (HavePlaces c.args.list.now c.args.homes.now) (sym c.deref.ensures.value) c.requires.places;
   zero = c.requires.zero;
-  made = ap length c.deref.ensures.value ∙ c.requires.made;
 }
 
 pub returns-clause-nets : goal.returns-clause-nets

@@ -1,4 +1,4 @@
-use Rattle.std.proofs.Common.{◌≡◌, refl, sym, ◌∙◌, ap, ap₂, subst, ◌+◌, ◌-◌, ◌*◌, ◌<◌, ◌≤◌, length, map, take, arith}
+use Rattle.std.proofs.Common.{rules, ◌≡◌, refl, sym, ◌∙◌, ap, ap₂, subst, ◌+◌, ◌-◌, ◌*◌, ◌<◌, ◌≤◌, length, map, take, arith}
 use Rattle.std.specs.Prelude.{All}
 use Rattle.cell_core.specs.declared.cells.Src.TheVariants.{Zero}
 use Rattle.row_placer.specs.declared.job.Job.{Job}
@@ -9,7 +9,7 @@ use Rattle.row_placer.specs.Told.{Told, MadeTold}
 use Rattle.row_placer.specs.Ready.{HoldPorts, AreSettled}
 use Rattle.cell_core.specs.Loops.{loop_count}
 use Rattle.row_placer.specs.Numbers.{gate_of}
-use Rattle.row_placer.specs.Placed.{IsPrepared, AreOuts, net_place_of}
+use Rattle.row_placer.specs.Placed.{HavePlaces, IsPrepared, AreOuts, net_place_of}
 use Rattle.row_placer.proofs.Whole.{length-loops}
 use Rattle.row_placer.proofs.Ports.{outs_apart}
 use Rattle.row_placer.proofs.Finish.{finish, nets_within, instr_count}
@@ -22,25 +22,22 @@ use Rattle.row_placer.proofs.placing.place_with.Goals as goal
 pub prepare-requires : goal.prepare-requires
 prepare-requires c = record { loops = c.requires.loops; spare = c.requires.spare; sound = sound c.args.list.now; small = c.requires.small }
 
-pub run-requires-clause-few : goal.run-requires-clause-few
-run-requires-clause-few c = omega (arith, c.in_ok-job.ensures.lanes, c.requires.small, c.requires.spare)
-
-pub run-requires-clause-known : goal.run-requires-clause-known
-run-requires-clause-known c = c.in_ok-job.ensures.ports
-
-pub run-requires-clause-loops : goal.run-requires-clause-loops
-run-requires-clause-loops c =
-    let ports = length-ports c.args.list.now c.in_ok-job.field-0.job.ports (sound c.args.list.now) c.in_ok-job.ensures.job_of.ports in
-    omega (arith, ports, c.requires.loops)
-
-pub run-requires-clause-lanes : goal.run-requires-clause-lanes
-run-requires-clause-lanes c = omega (arith, c.in_ok-job.ensures.room, c.requires.loops)
+pub run-requires : goal.run-requires
+run-requires c =
+    let list = c.args.list.now in
+    let ready = c.in_ok-job.ensures in
+    let ports = length-ports list c.in_ok-job.field-0.job.ports (sound list) ready.job_of.ports in
+    record {
+      few = omega (arith, ready.lanes, c.requires.small, c.requires.spare);
+      ready = search rules;
+      wide = search rules;
+      known = ready.ports;
+      among_ports = omega (arith, ports, c.requires.loops);
+      room = omega (arith, ready.room, c.requires.loops);
+    }
 
 pub ends_of-requires-clause-loops : goal.ends_of-requires-clause-loops
 ends_of-requires-clause-loops c = c.requires.loops
-
-pub ends_of-requires-clause-small : goal.ends_of-requires-clause-small
-ends_of-requires-clause-small c = omega (arith, c.requires.small)
 
 pub ends_of-requires-clause-ports : goal.ends_of-requires-clause-ports
 ends_of-requires-clause-ports c =
@@ -50,20 +47,22 @@ ends_of-requires-clause-ports c =
 pub ends_of-requires-clause-held : goal.ends_of-requires-clause-held
 ends_of-requires-clause-held c = subst (λ (j : Job). HoldPorts j (length j.ports) c.in_ok-lanes.lanes.tags.items) (sym c.in_ok-lanes.ensures.job) c.in_ok-lanes.ensures.held
 
-pub ends_of-requires-clause-homes : goal.ends_of-requires-clause-homes
-ends_of-requires-clause-homes c =
+pub ends_of-requires-clause-places : goal.ends_of-requires-clause-places
+ends_of-requires-clause-places c =
     let list = c.args.list.now in
-    subst (λ hs. list.inputs + loop_count list ≤ length hs) (sym c.deref.ensures.value) c.in_ok-job.ensures.homes_of.least
+    let made = c.in_ok-lanes.lanes.made.items in
+    let ready = c.in_ok-job.ensures in
+    let here : HavePlaces list c.in_ok-job.field-0.homes.items made = record {
+      small = omega (arith, c.requires.small);
+      known_home = ready.homes_of.least;
+      all_made = c.in_ok-lanes.ensures.made ∙ ap length ready.job_of.gates ∙ length-map list.cells (gate_of list);
+    } in
+    subst (λ hs. HavePlaces list hs made) (sym c.deref.ensures.value) here
 
 pub ends_of-requires-clause-zero : goal.ends_of-requires-clause-zero
 ends_of-requires-clause-zero c =
     let list = c.args.list.now in
     subst (λ hs. All (λ src. src ≡ Zero → list.inputs + loop_count list < length hs) list.nets) (sym c.deref.ensures.value) c.in_ok-job.ensures.zero
-
-pub ends_of-requires-clause-made : goal.ends_of-requires-clause-made
-ends_of-requires-clause-made c =
-    let list = c.args.list.now in
-    c.in_ok-lanes.ensures.made ∙ ap length c.in_ok-job.ensures.job_of.gates ∙ length-map list.cells (gate_of list)
 
 pub invariant_of-program : goal.invariant_of-program
 invariant_of-program c =

@@ -8,58 +8,19 @@ use Rattle.row_placer.proofs.Gates.{begun, halfway, whole}
 use Rattle.row_placer.proofs.Uses.{result_there}
 use Rattle.row_placer.proofs.lanes.Lanes.next.Goals as goal
 
-pub use_value-requires-clause-has : goal.use_value-requires-clause-has
-use_value-requires-clause-has c =
+pub use_value-requires-clause-usable : goal.use_value-requires-clause-usable
+use_value-requires-clause-usable c =
     let s = c.args.self.now in
-    let gate = c.get-gate.result.now in
-    let b = begun s.job.now s.made.items c.len.result s.made.len gate s.tags.items c.args.left.now c.len.ensures (sym s.made.ok.0) c.get-gate.ensures c.requires.within c.requires.ready in
-    b.usable.has
+    let b = begun s.job.now s.made.items c.len.result s.made.len c.get-gate.result.now s.tags.items c.args.left.now c.len.ensures (sym s.made.ok.0) c.get-gate.ensures c.requires.within c.requires.ready in
+    b.usable
 
-pub use_value-requires-clause-some : goal.use_value-requires-clause-some
-use_value-requires-clause-some c =
-    let s = c.args.self.now in
-    let gate = c.get-gate.result.now in
-    let b = begun s.job.now s.made.items c.len.result s.made.len gate s.tags.items c.args.left.now c.len.ensures (sym s.made.ok.0) c.get-gate.ensures c.requires.within c.requires.ready in
-    b.usable.some
-
-pub use_value-requires-clause-free : goal.use_value-requires-clause-free
-use_value-requires-clause-free c =
-    let s = c.args.self.now in
-    let gate = c.get-gate.result.now in
-    let b = begun s.job.now s.made.items c.len.result s.made.len gate s.tags.items c.args.left.now c.len.ensures (sym s.made.ok.0) c.get-gate.ensures c.requires.within c.requires.ready in
-    b.usable.dark
-
-pub use_value-requires-2-clause-within : goal.use_value-requires-2-clause-within
-use_value-requires-2-clause-within c =
+pub use_value-requires-2-clause-usable : goal.use_value-requires-2-clause-usable
+use_value-requires-2-clause-usable c =
     let s = c.args.self.now in
     let gate = c.get-gate.result.now in
     let b = begun s.job.now s.made.items c.len.result s.made.len gate s.tags.items c.args.left.now c.len.ensures (sym s.made.ok.0) c.get-gate.ensures c.requires.within c.requires.ready in
     let h = halfway s.job.now (length s.made.items) gate s.tags.items c.use_value.new.self.tags.items c.args.left.now c.use_value.new.left b c.in_ok-use_value.ensures.exchanged c.in_ok-use_value.ensures.left in
-    h.usable.within
-
-pub use_value-requires-2-clause-has : goal.use_value-requires-2-clause-has
-use_value-requires-2-clause-has c =
-    let s = c.args.self.now in
-    let gate = c.get-gate.result.now in
-    let b = begun s.job.now s.made.items c.len.result s.made.len gate s.tags.items c.args.left.now c.len.ensures (sym s.made.ok.0) c.get-gate.ensures c.requires.within c.requires.ready in
-    let h = halfway s.job.now (length s.made.items) gate s.tags.items c.use_value.new.self.tags.items c.args.left.now c.use_value.new.left b c.in_ok-use_value.ensures.exchanged c.in_ok-use_value.ensures.left in
-    h.usable.has
-
-pub use_value-requires-2-clause-some : goal.use_value-requires-2-clause-some
-use_value-requires-2-clause-some c =
-    let s = c.args.self.now in
-    let gate = c.get-gate.result.now in
-    let b = begun s.job.now s.made.items c.len.result s.made.len gate s.tags.items c.args.left.now c.len.ensures (sym s.made.ok.0) c.get-gate.ensures c.requires.within c.requires.ready in
-    let h = halfway s.job.now (length s.made.items) gate s.tags.items c.use_value.new.self.tags.items c.args.left.now c.use_value.new.left b c.in_ok-use_value.ensures.exchanged c.in_ok-use_value.ensures.left in
-    h.usable.some
-
-pub use_value-requires-2-clause-free : goal.use_value-requires-2-clause-free
-use_value-requires-2-clause-free c =
-    let s = c.args.self.now in
-    let gate = c.get-gate.result.now in
-    let b = begun s.job.now s.made.items c.len.result s.made.len gate s.tags.items c.args.left.now c.len.ensures (sym s.made.ok.0) c.get-gate.ensures c.requires.within c.requires.ready in
-    let h = halfway s.job.now (length s.made.items) gate s.tags.items c.use_value.new.self.tags.items c.args.left.now c.use_value.new.left b c.in_ok-use_value.ensures.exchanged c.in_ok-use_value.ensures.left in
-    h.usable.dark
+    h.usable
 
 pub gate-requires-clause-known : goal.gate-requires-clause-known
 gate-requires-clause-known c =

@@ -5,32 +5,14 @@ use Rattle.row_placer.specs.Ready.{HoldPorts}
 use Rattle.row_placer.proofs.Ports.{ported, port_used, port_held, more_count}
 use Rattle.row_placer.proofs.lanes.Lanes.place_ports.Goals as goal
 
-pub use_value-requires-clause-has : goal.use_value-requires-clause-has
-use_value-requires-clause-has c =
+pub use_value-requires-clause-usable : goal.use_value-requires-clause-usable
+use_value-requires-clause-usable c =
     let s = c.loop-port.self in
     let i = c.loop-port.invariant in
     let job = c.args.self.now.job.now in
     let less : c.loop-port.port < length job.ports = omega (arith, c.loop-port-test.true, c.len.ensures, ap (λ (j : Bor Job). length j.now.ports) i.6) in
     let p = ported job c.loop-port.port c.get-value.result.now s.tags.items c.loop-port.left (subst (λ (j : Bor Job). slice_get j.now.ports c.loop-port.port ≡ Some c.get-value.result.now) i.6 c.get-value.ensures) less c.requires.known i.0 in
-    p.usable.has
-
-pub use_value-requires-clause-some : goal.use_value-requires-clause-some
-use_value-requires-clause-some c =
-    let s = c.loop-port.self in
-    let i = c.loop-port.invariant in
-    let job = c.args.self.now.job.now in
-    let less : c.loop-port.port < length job.ports = omega (arith, c.loop-port-test.true, c.len.ensures, ap (λ (j : Bor Job). length j.now.ports) i.6) in
-    let p = ported job c.loop-port.port c.get-value.result.now s.tags.items c.loop-port.left (subst (λ (j : Bor Job). slice_get j.now.ports c.loop-port.port ≡ Some c.get-value.result.now) i.6 c.get-value.ensures) less c.requires.known i.0 in
-    p.usable.some
-
-pub use_value-requires-clause-free : goal.use_value-requires-clause-free
-use_value-requires-clause-free c =
-    let s = c.loop-port.self in
-    let i = c.loop-port.invariant in
-    let job = c.args.self.now.job.now in
-    let less : c.loop-port.port < length job.ports = omega (arith, c.loop-port-test.true, c.len.ensures, ap (λ (j : Bor Job). length j.now.ports) i.6) in
-    let p = ported job c.loop-port.port c.get-value.result.now s.tags.items c.loop-port.left (subst (λ (j : Bor Job). slice_get j.now.ports c.loop-port.port ≡ Some c.get-value.result.now) i.6 c.get-value.ensures) less c.requires.known i.0 in
-    p.usable.dark
+    p.usable
 
 pub loop-port-preserved : goal.loop-port-preserved
 loop-port-preserved c =
