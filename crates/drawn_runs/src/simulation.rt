@@ -22,7 +22,7 @@ use tile_match::{AuditError, audit};
 use ww_rule::Pattern;
 
 // So many cells of a pattern are looked at in the time of one generation.
-const CELLS_A_GENERATION: u128 = 32;
+const CELLS_A_GENERATION: u128 = 128;
 
 // Whether there is one context, and its run takes longer than a look at each cell of the pattern, and goes not too far.
 fn pays(pattern: &Pattern, ports: &Ports, streams: &Streams) -> bool
