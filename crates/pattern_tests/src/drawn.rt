@@ -55,7 +55,7 @@ const LATCHES: &[(&[u8], &[u8], &str, &[u8])] = &[
     ),
     // names that no netlist has
     (
-        b"#C BLIFWW 2 P 192 L 32 C 1\n#C BLIFWW IN 32 8 d e\n#C BLIFWW OUT 64 8 q\n",
+        b"#C BLIFWW 2 P 192 L 32 C 1\n#C BLIFWW IN 32 8 d%20e\n#C BLIFWW OUT 64 8 q\n",
         LATCH,
         "d e=001011",
         b"100101,",
