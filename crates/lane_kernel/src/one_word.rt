@@ -2,7 +2,7 @@
 ghost use Rattle.std.specs.Prelude.{◌≡◌, ◌+◌, ◌<◌, ◌≢◌, ◌==◌, not, true, ℕ, length, get_or};
 ghost use Rattle.std.specs.Int.RustNames.{bit_or};
 ghost use Rattle.lane_kernel.specs.Words.{heads_word};
-ghost use Rattle.lane_kernel.specs.Spans.{AreDarkWhere, IsBeyond, IsDarkBeyond, IsLitWithin, stays_within};
+ghost use Rattle.lane_kernel.specs.Spans.{AreSameWords, AreDarkWhere, IsBeyond, IsDarkBeyond, IsLitWithin, stays_within};
 ghost use Rattle.lane_kernel.specs.Steps.{IsStepped};
 
 use crate::words::{alone, new_heads, new_wires};
@@ -35,7 +35,7 @@ pub fn step_one_word(
     ensures stepped { IsStepped
         above.now heads.old below.now tails.old wires.old heads.new wires.new }
     ensures long_tails { length tails.new ≡ length heads.old }
-    ensures tails { (i : ℕ) → get_or tails.new i 0 ≡ get_or heads.old i 0 }
+    ensures tails { AreSameWords tails.new heads.old }
     ensures dark_heads { IsDarkBeyond j (j + 1) heads.new }
     ensures dark_tails { IsDarkBeyond j (j + 1) tails.new }
     ensures lit { result ≡ not (bit_or (get_or heads.new j 0) (get_or tails.new j 0) == 0) }

@@ -216,7 +216,7 @@ returns-clause-steps c p y west shown up down k h =
     v.done p y west shown up down k (omega (arith, h, end)) (omega (arith, h, many))
 
 pub returns-clause-tails : goal.returns-clause-tails
-returns-clause-tails c k j h =
+returns-clause-tails c k h j =
     let v = c.loop-r.invariant.moved in
     let many = v.many in
     let end = c.loop-r-test.false in
