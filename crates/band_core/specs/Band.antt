@@ -8,6 +8,7 @@ use Rattle.ww_rule.specs.Injections.{due_of_list}
 use Rattle.ww_rule.specs.declared.pattern.State.{State}
 use Rattle.ww_rule.specs.declared.pattern.State.TheVariants.{Empty, Head, Tail}
 use Rattle.lane_kernel.specs.Rows.{is_set, row_state}
+use Rattle.lane_kernel.specs.Spans.{AreZero}
 use Rattle.band_rows.specs.declared.row.Row.{Row}
 use Rattle.band_rows.specs.Rows.{AreLong, AreMarked, ShowRows, ShowsHeads, row_heads, row_tails, row_wires}
 use Rattle.band_core.specs.declared.band.Band.{Band}
@@ -33,7 +34,7 @@ pub record IsBand (words y many : ℕ) (band : Band) : Type 0 where
   pub long : AreLong words band.rows.items
   pub lit : AreMarked band.lit.items band.rows.items
   pub near : length band.near.items ≡ length band.lit.items
-  pub dark : band.is_dark ≡ true → (j : ℕ) → get_or band.lit.items j 0 ≡ 0
+  pub dark : band.is_dark ≡ true → AreZero band.lit.items
   pub top : length band.top.heads.items ≡ words
   pub bottom : length band.bottom.heads.items ≡ words
   pub inside : AreInRows words y many band.injections.items

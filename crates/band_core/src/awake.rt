@@ -1,8 +1,8 @@
 // Cells that keep a band awake.
 ghost use Rattle.ww_rule.specs.Due.{due_count};
-ghost use Rattle.std.specs.Prelude.{◌≡◌, ◌+◌, ◌-◌, ◌<◌, ◌≤◌, ◌^◌, ◌⊎◌, ℕ, true, false, length, get_or, drop, None, IfSome};
+ghost use Rattle.std.specs.Prelude.{◌≡◌, ◌+◌, ◌-◌, ◌<◌, ◌≤◌, ◌^◌, ◌⊎◌, ℕ, true, false, length, drop, None, IfSome};
 ghost use Rattle.lane_kernel.specs.Rows.{is_set};
-ghost use Rattle.lane_kernel.specs.Spans.{IsDarkBeyond};
+ghost use Rattle.lane_kernel.specs.Spans.{AreZero, IsDarkBeyond};
 ghost use Rattle.band_rows.specs.Rows.{AreMarked, row_heads, row_tails};
 ghost use Rattle.band_core.specs.Band.{IsLitIn, IsNextDue};
 
@@ -30,7 +30,7 @@ pub fn lit_cell(rows: &[Row], lit: &[u64], is_dark: bool, y: usize) -> Option<(u
     requires long { (k : ℕ) → k < length rows.now → length (row_heads rows.now k) ≤ 2 ^ 58 }
     requires room { y + length rows.now < 2 ^ 64 }
     requires lit { AreMarked lit.now rows.now }
-    requires dark { is_dark ≡ true → (j : ℕ) → get_or lit.now j 0 ≡ 0 }
+    requires dark { is_dark ≡ true → AreZero lit.now }
     ensures some { IfSome result (λ cell. IsLitIn rows.now y cell.0 cell.1) }
     ensures no_head { result ≡ None
         → (k x : ℕ)

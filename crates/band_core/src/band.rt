@@ -1,9 +1,9 @@
 // One band.
 ghost use Rattle.ww_rule.specs.Due.{due_count};
-ghost use Rattle.std.specs.Prelude.{◌≡◌, ◌+◌, ◌-◌, ◌<◌, ◌≤◌, ◌^◌, ◌+ℤ◌, ◌-ℤ◌, ℕ, List, pos, length, get_or, take};
+ghost use Rattle.std.specs.Prelude.{◌≡◌, ◌+◌, ◌-◌, ◌<◌, ◌≤◌, ◌^◌, ◌+ℤ◌, ◌-ℤ◌, ℕ, List, pos, length, take};
 ghost use Rattle.ww_rule.specs.Wireworld.{Plane, Due, next_plane, injected};
 ghost use Rattle.ww_rule.specs.Injections.{has_cell};
-ghost use Rattle.lane_kernel.specs.Spans.{IsDarkBeyond};
+ghost use Rattle.lane_kernel.specs.Spans.{AreZero, AreSameWords, IsDarkBeyond};
 ghost use Rattle.band_rows.specs.Rows.{AreLong, AreMarked, IsEmptyWest, ShowRows, ShowsHeads, row_heads, row_tails};
 ghost use Rattle.band_rows.specs.Spans.{AreFacing};
 ghost use Rattle.band_core.specs.Band.{AreInRows, IsBand, IsEvolution, ShowsBand, bottom_at, top_at, injected_cells};
@@ -65,10 +65,8 @@ fn keep_edges(rows: &[Row], top: &mut Kept, bottom: &mut Kept)
         ≡ length bottom.old.heads.items }
     ensures long_top { length top.new.heads.items ≡ length top.old.heads.items }
     ensures long_bottom { length bottom.new.heads.items ≡ length bottom.old.heads.items }
-    ensures top { (j : ℕ) → get_or top.new.heads.items j 0 ≡ get_or (row_tails rows.now 0) j 0 }
-    ensures bottom { (j : ℕ)
-        → get_or bottom.new.heads.items j 0
-        ≡ get_or (row_tails rows.now (length rows.now - 1)) j 0 }
+    ensures top { AreSameWords top.new.heads.items (row_tails rows.now 0) }
+    ensures bottom { AreSameWords bottom.new.heads.items (row_tails rows.now (length rows.now - 1)) }
 {
     let last = rows.len() - 1;
     top.keep(rows[0].tails.as_slice(), rows[0].span);
@@ -105,10 +103,8 @@ fn step_with_due(
     ensures near { length near.new ≡ length near.old }
     ensures long_top { length top.new.heads.items ≡ length up.now }
     ensures long_bottom { length bottom.new.heads.items ≡ length up.now }
-    ensures top { (j : ℕ) → get_or top.new.heads.items j 0 ≡ get_or (row_heads rows.old 0) j 0 }
-    ensures bottom { (j : ℕ)
-        → get_or bottom.new.heads.items j 0
-        ≡ get_or (row_heads rows.old (length rows.old - 1)) j 0 }
+    ensures top { AreSameWords top.new.heads.items (row_heads rows.old 0) }
+    ensures bottom { AreSameWords bottom.new.heads.items (row_heads rows.old (length rows.old - 1)) }
     ensures shows { (p : Plane)
         → IsEmptyWest p
         → ShowRows rows.old p (pos y)
@@ -199,8 +195,8 @@ impl Band {
         ensures long_top { length self.new.top.heads.items ≡ length self.old.top.heads.items }
         ensures long_bottom { length self.new.bottom.heads.items
             ≡ length self.old.bottom.heads.items }
-        ensures top { (j : ℕ) → get_or self.new.top.heads.items j 0 ≡ 0 }
-        ensures bottom { (j : ℕ) → get_or self.new.bottom.heads.items j 0 ≡ 0 }
+        ensures top { AreZero self.new.top.heads.items }
+        ensures bottom { AreZero self.new.bottom.heads.items }
     {
         self.generation += 1;
         self.top.clear();

@@ -1,7 +1,7 @@
 // Bands that move on beside others.
 ghost use Rattle.std.specs.Prelude.{◌≡◌, ◌+◌, ◌-◌, ◌*◌, ◌<◌, ◌≤◌, ◌^◌, ℕ, length, get_or, slice_set, None, IfSome};
 ghost use Rattle.ww_rule.specs.Wireworld.{Plane, Due};
-ghost use Rattle.lane_kernel.specs.Spans.{IsDarkBeyond};
+ghost use Rattle.lane_kernel.specs.Spans.{AreZero, IsDarkBeyond};
 ghost use Rattle.band_core.specs.declared.band.Band.{Band};
 ghost use Rattle.band_core.specs.Bands.{not_ready, unready_neighbour};
 ghost use Rattle.band_core.specs.Band.{AreBands, AllShow, HasNoneDue, IsEvolution, IsQuiet, IsWaking, bottom_at, generation_at, generations_of, rows_in_band, top_at};
@@ -52,7 +52,7 @@ fn row_above<'a>(before: &'a [Band], generation: u64, dark: &'a [u64]) -> (&'a [
     requires some { (d : Band)
         → 0 < length before.now
         → 0 < length (get_or before.now (length before.now - 1) d).rows.items }
-    requires dark { (j : ℕ) → get_or dark.now j 0 ≡ 0 }
+    requires dark { AreZero dark.now }
     ensures first { length before.now ≡ 0 → result.0.now ≡ dark.now }
     ensures later { (d : Band)
         → 0 < length before.now
@@ -71,7 +71,7 @@ fn row_below<'a>(after: &'a [Band], generation: u64, dark: &'a [u64]) -> (&'a [u
     requires some { (d : Band)
         → 0 < length after.now
         → 0 < length (get_or after.now 0 d).rows.items }
-    requires dark { (j : ℕ) → get_or dark.now j 0 ≡ 0 }
+    requires dark { AreZero dark.now }
     ensures last { length after.now ≡ 0 → result.0.now ≡ dark.now }
     ensures earlier { (d : Band)
         → 0 < length after.now
@@ -93,7 +93,7 @@ pub fn move_band(bands: &mut [Band], b: usize, height: usize, rows: usize, dark:
     requires room { generation_at bands.old b + 1 < 2 ^ 64 }
     requires ready { unready_neighbour (generations_of bands.old) b ≡ None }
     requires bands { AreBands (length dark.now) height rows bands.old }
-    requires dark { (j : ℕ) → get_or dark.now j 0 ≡ 0 }
+    requires dark { AreZero dark.now }
     ensures bands { AreBands (length dark.now) height rows bands.new }
     ensures generations { generations_of bands.new
         ≡ slice_set (generations_of bands.old) b (generation_at bands.old b + 1) }
@@ -142,7 +142,7 @@ pub fn awake_cell(
     requires room { generation_at bands.now b + 1 < 2 ^ 64 }
     requires ready { unready_neighbour (generations_of bands.now) b ≡ None }
     requires bands { AreBands (length dark.now) height rows bands.now }
-    requires dark { (j : ℕ) → get_or dark.now j 0 ≡ 0 }
+    requires dark { AreZero dark.now }
     requires few { length dark.now ≤ 2 ^ 58 }
     ensures some { IfSome result (λ cell.
         (e : ℕ → Plane) (due : Due) (width : ℕ)

@@ -4,7 +4,7 @@ use Rattle.std.proofs.lemmas.Bool.{cases_lt, eqb-true, not-false, or_parts}
 use Rattle.std.proofs.lemmas.Int.{ints}
 use Rattle.ww_rule.specs.Wireworld.{Plane, next_plane}
 use Rattle.lane_kernel.specs.Rows.{is_set, row_state, next_in_rows, AreDisjoint}
-use Rattle.lane_kernel.specs.Spans.{IsDarkBeyond}
+use Rattle.lane_kernel.specs.Spans.{AreZero, IsDarkBeyond}
 use Rattle.lane_kernel.proofs.Parts.{dark_heads, dark_wires, wholly_dark}
 use Rattle.lane_kernel.proofs.Places.{Fit, stepped_cells, row_steps}
 use Rattle.band_rows.specs.declared.row.Row.{Row}
@@ -12,27 +12,23 @@ use Rattle.band_rows.specs.Rows.{row_heads, row_tails, row_wires, AreMarked, IsD
 use Rattle.band_rows.proofs.Bands.{words_show, heads_shown, as_num}
 use Rattle.band_rows.proofs.Marks.{none_set}
 
--- all words of a row are 0
-abbrev pub IsZero : List ℕ → Type 0
-IsZero words = (j : ℕ) → get_or words j 0 ≡ 0
-
-zero_fits : (words : List ℕ) → IsZero words → Fit words
+zero_fits : (words : List ℕ) → AreZero words → Fit words
 zero_fits words z j = let e = z j in omega (arith, e)
 
 -- a row without light between rows without heads is its own next one, and shows it
-pub dark_cells : (a h b t w : List ℕ) → IsZero a → IsZero h → IsZero b → IsZero t → AreDisjoint h t w → (x : ℕ) → row_state h t w x ≡ next_in_rows a h b t w x
+pub dark_cells : (a h b t w : List ℕ) → AreZero a → AreZero h → AreZero b → AreZero t → AreDisjoint h t w → (x : ℕ) → row_state h t w x ≡ next_in_rows a h b t w x
 dark_cells a h b t w za zh zb zt apart =
     let none = dark_heads a h b w za zh zb in
     stepped_cells a h b t w h t w (zero_fits a za) (zero_fits h zh) (zero_fits b zb) (λ j. zh j ∙ sym (none j)) (λ j. zt j ∙ sym (zh j)) (λ j. sym (dark_wires a h b t w none zt j)) apart
 
-pub stays : (a h b t w : List ℕ) (p : Plane) (y : ℤ) → IsEmptyWest p → IsZero a → IsZero h → IsZero b → IsZero t → ShowsHeads a p (y -ℤ pos 1) → Shows h t w p y → ShowsHeads b p (y +ℤ pos 1) → Shows h t w (next_plane p) y
+pub stays : (a h b t w : List ℕ) (p : Plane) (y : ℤ) → IsEmptyWest p → AreZero a → AreZero h → AreZero b → AreZero t → ShowsHeads a p (y -ℤ pos 1) → Shows h t w p y → ShowsHeads b p (y +ℤ pos 1) → Shows h t w (next_plane p) y
 stays a h b t w p y west za zh zb zt above here below =
     let apart : AreDisjoint h t w = λ x. ap₂ (λ c d. (c && d) || (c && is_set w x) || (d && is_set w x)) (none_set 0 h zh x) (none_set 0 t zt x) in
     row_steps a h b t w h t w p y west (as_num a p (y -ℤ pos 1) above) here (as_num b p (y +ℤ pos 1) below)
     (dark_cells a h b t w za zh zb zt apart)
 
 -- of marked rows, a row that is far from all marks shows the next plane as it stands
-module _ (marks up down : List ℕ) (up_is_lit down_is_lit : Bool) (rows : List Row) (are : AreMarked marks rows) (up_dark : up_is_lit ≡ false → IsZero up) (down_dark : down_is_lit ≡ false → IsZero down) (k : ℕ) (within : k < length rows) (far : IsFar marks up_is_lit down_is_lit (length rows) k) where
+module _ (marks up down : List ℕ) (up_is_lit down_is_lit : Bool) (rows : List Row) (are : AreMarked marks rows) (up_dark : up_is_lit ≡ false → AreZero up) (down_dark : down_is_lit ≡ false → AreZero down) (k : ℕ) (within : k < length rows) (far : IsFar marks up_is_lit down_is_lit (length rows) k) where
   pub own_dark : IsDarkRow rows k
   own_dark = are.dark k within (far.beside k (inl refl))
 
@@ -77,7 +73,7 @@ pub unmarked : (new old : List ℕ) (k m : ℕ) (is_lit : Bool) → is_set new m
 unmarked new old k m is_lit e clear = or_parts _ _ (sym e ∙ clear)
 
 -- words that are dark beyond a span without a word
-pub span_dark : (first end : ℕ) (words : List ℕ) (empty : Bool) → empty ≡ (first == end) → IsDarkBeyond first end words → not empty ≡ false → IsZero words
+pub span_dark : (first end : ℕ) (words : List ℕ) (empty : Bool) → empty ≡ (first == end) → IsDarkBeyond first end words → not empty ≡ false → AreZero words
 span_dark first end words empty e dark unlit = wholly_dark first end words (eqb-true first end (sym e ∙ not-false empty unlit)) dark
 
 -- a row whose span is empty is dark

@@ -3,13 +3,14 @@ use Rattle.std.proofs.Common.{ℤ, pos, ◌+ℤ◌, ◌-ℤ◌, ℕ, ◌<◌, �
 use Rattle.std.proofs.lemmas.Bool.{cases_lt}
 use Rattle.ww_rule.specs.Wireworld.{Plane, next_plane}
 use Rattle.lane_kernel.specs.Rows.{is_set}
+use Rattle.lane_kernel.specs.Spans.{AreZero}
 use Rattle.band_rows.specs.declared.row.Row.{Row}
 use Rattle.band_rows.specs.Rows.{row_heads, row_tails, row_wires, AreLong, AreMarked, IsDarkRow, IsEmptyWest, IsFar, Shows, ShowRows, ShowsHeads}
 use Rattle.band_rows.proofs.Bands.{shows_same}
-use Rattle.band_rows.proofs.Far.{IsZero, own_dark, far_stays}
+use Rattle.band_rows.proofs.Far.{own_dark, far_stays}
 
 -- the rows before row r have moved on, and the others stand as they were; of those that have, a row without a mark is dark
-pub record AreMoved (up down marks : List ℕ) (old new : List Row) (r : ℕ) : Type 0 where
+pub record AreRowsMoved (up down marks : List ℕ) (old new : List Row) (r : ℕ) : Type 0 where
   pub many : length new ≡ length old
   pub long : AreLong (length up) new
   pub left_heads : (k : ℕ) → r ≤ k → row_heads new k ≡ row_heads old k
@@ -19,7 +20,7 @@ pub record AreMoved (up down marks : List ℕ) (old new : List Row) (r : ℕ) : 
   pub done : (p : Plane) (y : ℤ) → IsEmptyWest p → ShowRows old p y → ShowsHeads up p (y -ℤ pos 1) → ShowsHeads down p (y +ℤ pos (length old)) → (k : ℕ) → k < r → k < length old → Shows (row_heads new k) (row_tails new k) (row_wires new k) (next_plane p) (y +ℤ pos k)
   pub dark : (k : ℕ) → k < r → k < length old → is_set marks k ≡ false → IsDarkRow new k
 
-pub jumped : (up down was marks : List ℕ) (up_is_lit down_is_lit : Bool) (old new : List Row) (r s : ℕ) → AreMarked was old → (up_is_lit ≡ false → IsZero up) → (down_is_lit ≡ false → IsZero down) → r ≤ s → ((k : ℕ) → r ≤ k → k < s → k < length old → IsFar was up_is_lit down_is_lit (length old) k) → AreMoved up down marks old new r → AreMoved up down marks old new s
+pub jumped : (up down was marks : List ℕ) (up_is_lit down_is_lit : Bool) (old new : List Row) (r s : ℕ) → AreMarked was old → (up_is_lit ≡ false → AreZero up) → (down_is_lit ≡ false → AreZero down) → r ≤ s → ((k : ℕ) → r ≤ k → k < s → k < length old → IsFar was up_is_lit down_is_lit (length old) k) → AreRowsMoved up down marks old new r → AreRowsMoved up down marks old new s
 jumped up down was marks up_is_lit down_is_lit old new r s are up_dark down_dark le far m =
     record {
       many = m.many;
@@ -54,7 +55,7 @@ jumped up down was marks up_is_lit down_is_lit old new r s are up_dark down_dark
     }
 
 -- before the first row nothing has moved
-pub none_moved : (up down marks : List ℕ) (rows : List Row) → AreLong (length up) rows → AreMoved up down marks rows rows 0
+pub none_moved : (up down marks : List ℕ) (rows : List Row) → AreLong (length up) rows → AreRowsMoved up down marks rows rows 0
 none_moved up down marks rows long =
     record {
       many = refl;

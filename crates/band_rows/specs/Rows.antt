@@ -5,6 +5,7 @@ use Rattle.ww_rule.specs.declared.pattern.State.TheVariants.{Empty}
 use Rattle.ww_rule.specs.Wireworld.{Plane, count_head}
 use Rattle.band_rows.specs.declared.row.Row.{Row}
 use Rattle.lane_kernel.specs.Rows.{is_set, state_of, row_state}
+use Rattle.lane_kernel.specs.Spans.{AreZero}
 
 -- the state of a cell of a row, by its column
 abbrev pub state_in_row : Row → ℕ → State
@@ -41,8 +42,8 @@ AreLong n rows = (k : ℕ) → k < length rows → length (row_heads rows k) ≡
 
 -- row k has no head and no tail
 pub record IsDarkRow (rows : List Row) (k : ℕ) : Type 0 where
-  pub heads : (j : ℕ) → get_or (row_heads rows k) j 0 ≡ 0
-  pub tails : (j : ℕ) → get_or (row_tails rows k) j 0 ≡ 0
+  pub heads : AreZero (row_heads rows k)
+  pub tails : AreZero (row_tails rows k)
 
 -- bits for rows, bit k for row k: a row without a mark is dark
 pub record AreMarked (marks : List ℕ) (rows : List Row) : Type 0 where

@@ -1,7 +1,7 @@
 // Rows that stand one below the other.
-ghost use Rattle.std.specs.Prelude.{◌≡◌, ◌+◌, ◌-◌, ◌<◌, ◌≤◌, ◌+ℤ◌, ◌-ℤ◌, ℤ, ℕ, pos, length, get_or};
+ghost use Rattle.std.specs.Prelude.{◌≡◌, ◌+◌, ◌-◌, ◌<◌, ◌≤◌, ◌+ℤ◌, ◌-ℤ◌, ℤ, ℕ, pos, length};
 ghost use Rattle.ww_rule.specs.Wireworld.{Plane, next_plane};
-ghost use Rattle.lane_kernel.specs.Spans.{IsDarkBeyond};
+ghost use Rattle.lane_kernel.specs.Spans.{AreSameWords, IsDarkBeyond};
 ghost use Rattle.band_rows.specs.Rows.{row_heads, row_tails, AreLong, AreMarked, IsEmptyWest, ShowRows, ShowsHeads};
 ghost use Rattle.band_rows.specs.Spans.{AreFacing};
 
@@ -32,9 +32,9 @@ pub fn step_band(
     ensures lit { AreMarked lit.new rows.new }
     ensures long_lit { length lit.new ≡ length lit.old }
     ensures near { length near.new ≡ length near.old }
-    ensures tails { (k j : ℕ)
+    ensures tails { (k : ℕ)
         → k < length rows.old
-        → get_or (row_tails rows.new k) j 0 ≡ get_or (row_heads rows.old k) j 0 }
+        → AreSameWords (row_tails rows.new k) (row_heads rows.old k) }
     ensures steps { (p : Plane) (y : ℤ)
         → IsEmptyWest p
         → ShowRows rows.old p y

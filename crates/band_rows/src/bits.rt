@@ -2,6 +2,7 @@
 ghost use Rattle.std.specs.Prelude.{◌≡◌, ◌≢◌, ◌<◌, ◌≤◌, ◌*◌, ◌/◌, ◌==◌, ◌&&◌, ◌||◌, not, if◌then◌else◌, ℕ, length, get_or};
 ghost use Rattle.ww_rule.specs.declared.pattern.State.TheVariants.{Empty, Head};
 ghost use Rattle.lane_kernel.specs.Rows.{is_set, row_state, AreDisjoint};
+ghost use Rattle.lane_kernel.specs.Spans.{AreZero};
 ghost use Rattle.band_rows.specs.Cells.{marks_head, marks_tail, marks_wire};
 
 use ww_rule::State;
@@ -70,9 +71,9 @@ pub fn mark_all(heads: &mut [u64], tails: &mut [u64], wires: &mut [u64], cells: 
     requires long { length cells.now ≤ 64 * length heads.old }
     requires long_tails { length tails.old ≡ length heads.old }
     requires long_wires { length wires.old ≡ length heads.old }
-    requires dark_heads { (j : ℕ) → get_or heads.old j 0 ≡ 0 }
-    requires dark_tails { (j : ℕ) → get_or tails.old j 0 ≡ 0 }
-    requires dark_wires { (j : ℕ) → get_or wires.old j 0 ≡ 0 }
+    requires dark_heads { AreZero heads.old }
+    requires dark_tails { AreZero tails.old }
+    requires dark_wires { AreZero wires.old }
     ensures long_heads { length heads.new ≡ length heads.old }
     ensures long_tails { length tails.new ≡ length heads.old }
     ensures long_wires { length wires.new ≡ length heads.old }

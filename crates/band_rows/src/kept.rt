@@ -1,6 +1,6 @@
 // Rows of heads that are kept.
-ghost use Rattle.std.specs.Prelude.{◌≡◌, ◌≤◌, ℕ, length, get_or};
-ghost use Rattle.lane_kernel.specs.Spans.{IsDarkBeyond};
+ghost use Rattle.std.specs.Prelude.{◌≡◌, ◌≤◌, length};
+ghost use Rattle.lane_kernel.specs.Spans.{AreZero, AreSameWords, IsDarkBeyond};
 
 use crate::span::Span;
 use lane_kernel::put_words;
@@ -20,7 +20,7 @@ fn darken(words: &mut [u64], first: usize, end: usize)
     requires within { end ≤ length words.old }
     requires dark { IsDarkBeyond first end words.old }
     ensures long { length words.new ≡ length words.old }
-    ensures dark { (j : ℕ) → get_or words.new j 0 ≡ 0 }
+    ensures dark { AreZero words.new }
 {
     words[first..end].fill(0);
 }
@@ -33,7 +33,7 @@ fn copy_heads(heads: &mut [u64], old: Span, new: Span, words: &[u64])
     requires new_within { new.end ≤ length words.now }
     requires new_dark { IsDarkBeyond new.first new.end words.now }
     ensures long { length heads.new ≡ length heads.old }
-    ensures same { (j : ℕ) → get_or heads.new j 0 ≡ get_or words.now j 0 }
+    ensures same { AreSameWords heads.new words.now }
 {
     put_words(heads, old.first, old.end, words);
     put_words(heads, new.first, new.end, words);
@@ -43,7 +43,7 @@ impl Kept {
     /// Takes all heads away.
     pub fn clear(&mut self)
         ensures long { length self.new.heads.items ≡ length self.old.heads.items }
-        ensures dark { (j : ℕ) → get_or self.new.heads.items j 0 ≡ 0 }
+        ensures dark { AreZero self.new.heads.items }
     {
         if self.span.is_empty() {
             return;
@@ -58,7 +58,7 @@ impl Kept {
         requires within { span.end ≤ length words.now }
         requires dark { IsDarkBeyond span.first span.end words.now }
         ensures long { length self.new.heads.items ≡ length self.old.heads.items }
-        ensures same { (j : ℕ) → get_or self.new.heads.items j 0 ≡ get_or words.now j 0 }
+        ensures same { AreSameWords self.new.heads.items words.now }
     {
         if self.span.is_empty() && span.is_empty() {
             return;

@@ -2,7 +2,7 @@
 ghost use Rattle.std.specs.Prelude.{◌≡◌, ◌+◌, ◌-◌, ◌*◌, ◌/◌, ◌<◌, ◌≤◌, ◌^◌, ◌==◌, ◌&&◌, true, if◌then◌else◌, ℕ, length, get_or, IfOk};
 ghost use Rattle.ww_rule.specs.declared.pattern.State.TheVariants.{Empty, Head};
 ghost use Rattle.lane_kernel.specs.Rows.{row_state, next_in_rows, AreDisjoint};
-ghost use Rattle.lane_kernel.specs.Spans.{IsDarkBeyond, IsLitWithin, stays_within};
+ghost use Rattle.lane_kernel.specs.Spans.{AreSameWords, IsDarkBeyond, IsLitWithin, stays_within};
 ghost use Rattle.band_rows.specs.Spans.{AreFacing, IsRow};
 
 use crate::bits::{is_set, mark_all, put_head};
@@ -49,7 +49,7 @@ fn step_in_word(
     requires apart { AreDisjoint heads.old tails.old wires.old }
     ensures long { length heads.new ≡ length heads.old }
     ensures row { IsRow result heads.new tails.new wires.new }
-    ensures tails { (i : ℕ) → get_or tails.new i 0 ≡ get_or heads.old i 0 }
+    ensures tails { AreSameWords tails.new heads.old }
     ensures cells { (x : ℕ)
         → row_state heads.new tails.new wires.new x
         ≡ next_in_rows above.now heads.old below.now tails.old wires.old x }
@@ -163,8 +163,7 @@ impl Row {
             self.old.tails.items self.old.wires.items }
         requires stays { stays_within j (j + 1) above.now self.old.heads.items below.now ≡ true }
         ensures long { length self.new.heads.items ≡ length self.old.heads.items }
-        ensures tails { (j : ℕ)
-            → get_or self.new.tails.items j 0 ≡ get_or self.old.heads.items j 0 }
+        ensures tails { AreSameWords self.new.tails.items self.old.heads.items }
         ensures cells { (x : ℕ)
             → row_state self.new.heads.items self.new.tails.items self.new.wires.items x
             ≡ next_in_rows above.now self.old.heads.items below.now
@@ -189,8 +188,7 @@ impl Row {
             above.now self.old.heads.items below.now
             self.old.tails.items self.old.wires.items }
         ensures long { length self.new.heads.items ≡ length self.old.heads.items }
-        ensures tails { (j : ℕ)
-            → get_or self.new.tails.items j 0 ≡ get_or self.old.heads.items j 0 }
+        ensures tails { AreSameWords self.new.tails.items self.old.heads.items }
         ensures cells { (x : ℕ)
             → row_state self.new.heads.items self.new.tails.items self.new.wires.items x
             ≡ next_in_rows above.now self.old.heads.items below.now
@@ -213,8 +211,7 @@ impl Row {
         requires facing { AreFacing (length self.old.heads.items)
             above.now above_span below.now below_span }
         ensures long { length self.new.heads.items ≡ length self.old.heads.items }
-        ensures tails { (j : ℕ)
-            → get_or self.new.tails.items j 0 ≡ get_or self.old.heads.items j 0 }
+        ensures tails { AreSameWords self.new.tails.items self.old.heads.items }
         ensures cells { (x : ℕ)
             → row_state self.new.heads.items self.new.tails.items self.new.wires.items x
             ≡ next_in_rows above.now self.old.heads.items below.now

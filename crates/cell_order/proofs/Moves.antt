@@ -18,7 +18,7 @@ use Rattle.cell_core.proofs.Order.{in_order_push}
 use Rattle.cell_core.proofs.OwnBits.{cell_in_order, bit_of_cell}
 use Rattle.cell_core.specs.Loops.{names_one}
 use Rattle.cell_order.specs.Alike.{ComputeAlike}
-use Rattle.cell_order.specs.Renamed.{Numbers, renamed, renamed_cell, AreMoved}
+use Rattle.cell_order.specs.Renamed.{Numbers, renamed, renamed_cell, AreRenamed}
 
 none_is_some : {A B : Type 0} (f : A → B) (x : A) (xs : List A) → [] ≡ map f (x ∷ xs) → ⊥
 none_is_some f x xs e = let n : 0 ≡ suc (length (map f xs)) = ap length e in omega arith
@@ -33,7 +33,7 @@ record Follows (list : CellList) (cells : List Cell) (src new : Src) : Type 0 wh
   there : (made : ℕ) → is_there list.inputs (length list.starts) made src ≡ true → is_there list.inputs (length list.starts) (length cells) new ≡ true
   bit : (inputs state : List Bool) → bit_in cells inputs state new ≡ bit_in list.cells inputs state src
 
-follows : (list : CellList) (cells : List Cell) (numbers : Numbers) → AreMoved list cells numbers → (src new : Src) → renamed numbers src ≡ Some new → Follows list cells src new
+follows : (list : CellList) (cells : List Cell) (numbers : Numbers) → AreRenamed list cells numbers → (src new : Src) → renamed numbers src ≡ Some new → Follows list cells src new
 follows list cells numbers are (Input i) new e = subst (λ s. Follows list cells (Input i) s) (same_Some _ _ e) (record { entry = refl; maker = λ lane. refl; there = λ made h. h; bit = λ inputs state. refl })
 follows list cells numbers are (Latch i) new e = subst (λ s. Follows list cells (Latch i) s) (same_Some _ _ e) (record { entry = refl; maker = λ lane. refl; there = λ made h. h; bit = λ inputs state. refl })
 follows list cells numbers are One new e = subst (λ s. Follows list cells One s) (same_Some _ _ e) (record { entry = refl; maker = λ lane. refl; there = λ made h. h; bit = λ inputs state. refl })
@@ -58,7 +58,7 @@ both f None b new e = absurd (none-some new e)
 both f (Some x) None new e = absurd (none-some new e)
 both f (Some x) (Some y) new e = (x, y, refl, refl, same_Some _ _ e)
 
-cell_follows : (list : CellList) (cells : List Cell) (numbers : Numbers) → AreMoved list cells numbers → (cell new : Cell) → renamed_cell numbers cell ≡ Some new → CellFollows list cells cell new
+cell_follows : (list : CellList) (cells : List Cell) (numbers : Numbers) → AreRenamed list cells numbers → (cell new : Cell) → renamed_cell numbers cell ≡ Some new → CellFollows list cells cell new
 cell_follows list cells numbers are (Or a b) new e =
     let (x, y, at_a, at_b, is) = both Or (renamed numbers a) (renamed numbers b) new e in
     let p : Follows list cells a x = follows list cells numbers are a x at_a in
@@ -96,8 +96,8 @@ front_kept cells rest m d low =
     slice_get-get_or (cells ++ rest) m d (let e = length-append cells rest in omega (arith, e, low))
     ∙ ap Some (get_or_append_left cells rest d m low) ∙ sym (slice_get-get_or cells m d low)
 
-pub moved_more : (list : CellList) (cells : List Cell) (numbers : Numbers) → AreMoved list cells numbers → (i : ℕ) (cell new : Cell) → slice_get list.cells i ≡ Some cell
-    → renamed_cell numbers cell ≡ Some new → AreMoved list (cells ++ new ∷ []) numbers
+pub moved_more : (list : CellList) (cells : List Cell) (numbers : Numbers) → AreRenamed list cells numbers → (i : ℕ) (cell new : Cell) → slice_get list.cells i ≡ Some cell
+    → renamed_cell numbers cell ≡ Some new → AreRenamed list (cells ++ new ∷ []) numbers
 moved_more list cells numbers are i cell new at is =
     let f : CellFollows list cells cell new = cell_follows list cells numbers are cell new is in
     let within : i < length list.cells = slice_get_within list.cells i cell at in
@@ -114,10 +114,10 @@ moved_more list cells numbers are i cell new at is =
     }
 
 -- and its number is written down
-pub moved_numbered : (list : CellList) (cells : List Cell) (numbers : Numbers) → AreMoved list cells numbers → (i : ℕ) (cell new : Cell) → slice_get list.cells i ≡ Some cell
-    → renamed_cell numbers cell ≡ Some new → (place : ℕ) → place ≡ length cells → i < length numbers → AreMoved list (cells ++ new ∷ []) (slice_set numbers i (Some place))
+pub moved_numbered : (list : CellList) (cells : List Cell) (numbers : Numbers) → AreRenamed list cells numbers → (i : ℕ) (cell new : Cell) → slice_get list.cells i ≡ Some cell
+    → renamed_cell numbers cell ≡ Some new → (place : ℕ) → place ≡ length cells → i < length numbers → AreRenamed list (cells ++ new ∷ []) (slice_set numbers i (Some place))
 moved_numbered list cells numbers are i cell new at is place last inside =
-    let more : AreMoved list (cells ++ new ∷ []) numbers = moved_more list cells numbers are i cell new at is in
+    let more : AreRenamed list (cells ++ new ∷ []) numbers = moved_more list cells numbers are i cell new at is in
     let f : CellFollows list cells cell new = cell_follows list cells numbers are cell new is in
     let within : i < length list.cells = slice_get_within list.cells i cell at in
     let long : length (cells ++ new ∷ []) ≡ length cells + 1 = length_push cells new in
@@ -153,7 +153,7 @@ sources_more numbers sources found i d new within so e =
     ap (map (renamed numbers)) (take_more sources i d within) ∙ map-append (renamed numbers) (take i sources) (get_or sources i d ∷ [])
     ∙ ap₂ (λ (l : List (Option Src)) (o : Option Src). l ++ o ∷ []) so e ∙ sym (map-append (λ s. Some s) found (new ∷ []))
 
-pub bits_follow : (list : CellList) (cells : List Cell) (numbers : Numbers) → AreMoved list cells numbers → (sources found : List Src) → map (renamed numbers) sources ≡ map Some found
+pub bits_follow : (list : CellList) (cells : List Cell) (numbers : Numbers) → AreRenamed list cells numbers → (sources found : List Src) → map (renamed numbers) sources ≡ map Some found
     → (inputs state : List Bool) → map (bit_in cells inputs state) found ≡ map (bit_in list.cells inputs state) sources
 bits_follow list cells numbers are [] [] e inputs state = refl
 bits_follow list cells numbers are [] (new ∷ found) e inputs state = absurd (none_is_some (λ s. Some s) new found e)
@@ -163,7 +163,7 @@ bits_follow list cells numbers are (src ∷ sources) (new ∷ found) e inputs st
     ap₂ (λ (b : Bool) (bs : List Bool). b ∷ bs) ((follows list cells numbers are src new parts.0).bit inputs state) (bits_follow list cells numbers are sources found parts.1 inputs state)
 
 -- nets keep their entries, and the kinds of cells that make them
-pub entries_follow : (list : CellList) (cells : List Cell) (numbers : Numbers) → AreMoved list cells numbers → (sources found : List Src) → map (renamed numbers) sources ≡ map Some found
+pub entries_follow : (list : CellList) (cells : List Cell) (numbers : Numbers) → AreRenamed list cells numbers → (sources found : List Src) → map (renamed numbers) sources ≡ map Some found
     → map entry_source found ≡ map entry_source sources
 entries_follow list cells numbers are [] [] e = refl
 entries_follow list cells numbers are [] (new ∷ found) e = absurd (none_is_some (λ s. Some s) new found e)
@@ -172,7 +172,7 @@ entries_follow list cells numbers are (src ∷ sources) (new ∷ found) e =
     let parts : (renamed numbers src ≡ Some new) × (map (renamed numbers) sources ≡ map Some found) = ∷-parts e in
     ap₂ (λ (s : Option Src) (l : List (Option Src)). s ∷ l) (follows list cells numbers are src new parts.0).entry (entries_follow list cells numbers are sources found parts.1)
 
-pub makers_follow : (list : CellList) (cells : List Cell) (numbers : Numbers) → AreMoved list cells numbers → (sources found : List Src) → map (renamed numbers) sources ≡ map Some found
+pub makers_follow : (list : CellList) (cells : List Cell) (numbers : Numbers) → AreRenamed list cells numbers → (sources found : List Src) → map (renamed numbers) sources ≡ map Some found
     → (lane : ℕ) → map (maker_on cells lane) found ≡ map (maker_on list.cells lane) sources
 makers_follow list cells numbers are [] [] e lane = refl
 makers_follow list cells numbers are [] (new ∷ found) e lane = absurd (none_is_some (λ s. Some s) new found e)
@@ -182,7 +182,7 @@ makers_follow list cells numbers are (src ∷ sources) (new ∷ found) e lane =
     ap₂ (λ (i : Option Instr) (l : List (Option Instr)). i ∷ l) ((follows list cells numbers are src new parts.0).maker lane)
     (makers_follow list cells numbers are sources found parts.1 lane)
 
-pub there_follow : (list : CellList) (cells : List Cell) (numbers : Numbers) → AreMoved list cells numbers → (sources found : List Src) → map (renamed numbers) sources ≡ map Some found
+pub there_follow : (list : CellList) (cells : List Cell) (numbers : Numbers) → AreRenamed list cells numbers → (sources found : List Src) → map (renamed numbers) sources ≡ map Some found
     → are_there list.inputs (length list.starts) (length list.cells) sources ≡ true → are_there list.inputs (length list.starts) (length cells) found ≡ true
 there_follow list cells numbers are [] [] e there = refl
 there_follow list cells numbers are [] (new ∷ found) e there = absurd (none_is_some (λ s. Some s) new found e)
@@ -193,12 +193,12 @@ there_follow list cells numbers are (src ∷ sources) (new ∷ found) e there =
     (there_follow list cells numbers are sources found parts.1 (and_parts _ _ there).1)
 
 -- ---- the list with the cells that have come
-pub in_order_again : (list : CellList) (cells new : List Cell) (numbers : Numbers) (starts : List Bool) → AreMoved list cells numbers → new ≡ cells → starts ≡ list.starts
+pub in_order_again : (list : CellList) (cells new : List Cell) (numbers : Numbers) (starts : List Bool) → AreRenamed list cells numbers → new ≡ cells → starts ≡ list.starts
     → are_in_order list.inputs (length starts) 0 new ≡ true
 in_order_again list cells new numbers starts are same_cells same_starts =
     ap₂ (λ (s : List Bool) (c : List Cell). are_in_order list.inputs (length s) 0 c) same_starts same_cells ∙ are.in_order
 
-pub there_again : (list : CellList) (cells new : List Cell) (numbers : Numbers) (starts : List Bool) (sources found found' : List Src) → AreMoved list cells numbers → new ≡ cells → starts ≡ list.starts
+pub there_again : (list : CellList) (cells new : List Cell) (numbers : Numbers) (starts : List Bool) (sources found found' : List Src) → AreRenamed list cells numbers → new ≡ cells → starts ≡ list.starts
     → map (renamed numbers) sources ≡ map (λ s. Some s) found → found' ≡ found → are_there list.inputs (length list.starts) (length list.cells) sources ≡ true
     → are_there list.inputs (length starts) (length new) found' ≡ true
 there_again list cells new numbers starts sources found found' are same_cells same_starts e same_found there =
@@ -214,12 +214,12 @@ pub record ArePorts (list : CellList) (numbers : Numbers) (sources found new : L
   pub follow : map (renamed numbers) sources ≡ map (λ s. Some s) found
   pub is : new ≡ found
 
-ports_alike : (list : CellList) (cells new : List Cell) (numbers : Numbers) (sources found found' : List Src) → AreMoved list cells numbers → new ≡ cells → ArePorts list numbers sources found found'
+ports_alike : (list : CellList) (cells new : List Cell) (numbers : Numbers) (sources found found' : List Src) → AreRenamed list cells numbers → new ≡ cells → ArePorts list numbers sources found found'
     → (inputs state : List Bool) → map (bit_in new inputs state) found' ≡ map (bit_in list.cells inputs state) sources
 ports_alike list cells new numbers sources found found' are same_cells ports inputs state =
     ap₂ (λ (c : List Cell) (l : List Src). map (bit_in c inputs state) l) same_cells ports.is ∙ bits_follow list cells numbers are sources found ports.follow inputs state
 
-pub compute_alike : (list new : CellList) (cells : List Cell) (numbers : Numbers) (outs latches nets : List Src) → AreMoved list cells numbers
+pub compute_alike : (list new : CellList) (cells : List Cell) (numbers : Numbers) (outs latches nets : List Src) → AreRenamed list cells numbers
     → new.inputs ≡ list.inputs → new.starts ≡ list.starts → new.cells ≡ cells → length new.cells ≡ length list.cells → names_one new ≡ names_one list
     → ArePorts list numbers list.outs outs new.outs → ArePorts list numbers list.latches latches new.latches → ArePorts list numbers list.nets nets new.nets → ComputeAlike list new
 compute_alike list new cells numbers outs latches nets are inputs starts same_cells many one out latch net =

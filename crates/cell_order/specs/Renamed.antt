@@ -28,7 +28,7 @@ renamed_cell numbers (Xor a b) = option_and_then (λ x. option_map (Xor x) (rena
 renamed_cell numbers (AndNot a b) = option_and_then (λ x. option_map (AndNot x) (renamed numbers b)) (renamed numbers a)
 
 -- Cells are in order, and each that a new number names has the bit of the one whose number it was, and is of its kind.
-pub record AreMoved (list : CellList) (cells : List Cell) (numbers : Numbers) : Type 0 where
+pub record AreRenamed (list : CellList) (cells : List Cell) (numbers : Numbers) : Type 0 where
   pub in_order : are_in_order list.inputs (length list.starts) 0 cells ≡ true
   pub there : (i m : ℕ) → get_or numbers i None ≡ Some m → m < length cells
   pub bits : (i m : ℕ) → get_or numbers i None ≡ Some m → (inputs state : List Bool) → bit_in cells inputs state (Made m) ≡ bit_in list.cells inputs state (Made i)

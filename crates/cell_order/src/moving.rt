@@ -1,6 +1,6 @@
 // Cells that are moved to other places, one after another.
 ghost use Rattle.std.specs.Prelude.{◌≡◌, ◌<◌, map, slice_get, IfOk, IfSome, OnOk, Some};
-ghost use Rattle.cell_order.specs.Renamed.{renamed, renamed_cell, AreMoved};
+ghost use Rattle.cell_order.specs.Renamed.{renamed, renamed_cell, AreRenamed};
 
 use crate::ReorderError;
 use cell_core::{Cell, CellList, Src};
@@ -54,7 +54,7 @@ pub struct Moved {
 impl Moved {
     /// None has come.
     pub fn begin(alloc: Global, list: &CellList) -> Result<Moved, ReorderError>
-        ensures { IfOk result (λ moved. AreMoved list.now moved.cells.items moved.numbers.items) }
+        ensures { IfOk result (λ moved. AreRenamed list.now moved.cells.items moved.numbers.items) }
     {
         let many = list.cells.len();
         let mut numbers = Vec::with_capacity(alloc, many)?;
@@ -67,8 +67,8 @@ impl Moved {
 
     /// A cell comes, if it is one of the list, and what it reads has come.
     pub fn add(&mut self, list: &CellList, number: u32) -> Result<(), ReorderError>
-        requires { AreMoved list.now self.old.cells.items self.old.numbers.items }
-        ensures { OnOk result (AreMoved list.now self.new.cells.items self.new.numbers.items) }
+        requires { AreRenamed list.now self.old.cells.items self.old.numbers.items }
+        ensures { OnOk result (AreRenamed list.now self.new.cells.items self.new.numbers.items) }
     {
         let Some(old) = cell_at(list, number) else {
             return Ok(());

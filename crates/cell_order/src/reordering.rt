@@ -1,7 +1,7 @@
 // A list of cells in another order.
 ghost use Rattle.std.specs.Prelude.{IfOk, IfSome};
 ghost use Rattle.cell_order.specs.Alike.{ComputeAlike};
-ghost use Rattle.cell_order.specs.Renamed.{AreMoved};
+ghost use Rattle.cell_order.specs.Renamed.{AreRenamed};
 
 use crate::ReorderError;
 use crate::moving::Moved;
@@ -16,7 +16,7 @@ fn with_moved(
     list: &CellList,
     moved: Moved,
 ) -> Result<Option<CellList>, ReorderError>
-    requires { AreMoved list.now moved.cells.items moved.numbers.items }
+    requires { AreRenamed list.now moved.cells.items moved.numbers.items }
     ensures { IfOk result (λ new. IfSome new (ComputeAlike list.now)) }
 {
     if moved.cells.len() != list.cells.len() {

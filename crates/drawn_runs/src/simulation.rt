@@ -11,7 +11,7 @@ ghost use Rattle.drawn_runs.specs.Laws.{DrawsList};
 
 use crate::laws::drawings_show_their_lists;
 use cell_core::CellList;
-use drive::{GREATEST_GENERATION, SimulateError};
+use drive::{GREATEST_GENERATION, SimulateError, last_from};
 use lane_core::Plan;
 use lists::List;
 use pattern_reading::Ports;
@@ -26,13 +26,14 @@ const CELLS_A_GENERATION: u128 = 128;
 
 // Whether there is one context, and its run takes longer than a look at each cell of the pattern, and goes not too far.
 fn pays(pattern: &Pattern, ports: &Ports, streams: &Streams) -> bool
-    requires { 0 < streams.now.cycles }
+    requires cycles { 0 < streams.now.cycles }
+    requires streams { AreFor ports.now streams.now }
     ensures { IsTrue result → last_generation ports.now streams.now ≤ greatest_generation }
 {
     if ports.c != 1 {
         return false;
     }
-    let last = ports.l as u128 + (streams.cycles as u128 - 1) * ports.p as u128;
+    let last = last_from(ports.l, ports, streams);
     let cells = pattern.width as u128 * pattern.height as u128;
     last <= GREATEST_GENERATION && cells <= CELLS_A_GENERATION * last
 }
@@ -73,7 +74,8 @@ fn list_to_run(
     ports: &Ports,
     streams: &Streams,
 ) -> Result<Option<CellList>, AllocError>
-    requires { 0 < streams.now.cycles }
+    requires cycles { 0 < streams.now.cycles }
+    requires streams { AreFor ports.now streams.now }
     ensures drawn { IfOk result (λ found. MatchOption found ⊤ (DrawsList (grid_of pattern.now) ports.now)) }
     ensures near { IfOk result (λ found. MatchOption found ⊤ (λ _.
         last_generation ports.now streams.now ≤ greatest_generation)) }

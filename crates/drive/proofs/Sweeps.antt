@@ -14,12 +14,12 @@ use Rattle.band_core.specs.Bands.IsAwake.{head, tail, faced, due}
 use Rattle.drive.specs.Runs.{AreAt}
 
 -- the first b bands have moved on from a generation
-pub record AreMoved (g b : ℕ) (old now : BandedPattern) : Type 0 where
+pub record AreBandsMoved (g b : ℕ) (old now : BandedPattern) : Type 0 where
   pub same : IsSamePattern old now
   pub moved : (k : ℕ) → k < b → generation_of now k ≡ g + 1
   pub left : (k : ℕ) → b ≤ k → k < length old.generations → generation_of now k ≡ g
 
-pub none_moved : (g : ℕ) (old : BandedPattern) → AreAt g old → AreMoved g 0 old old
+pub none_moved : (g : ℕ) (old : BandedPattern) → AreAt g old → AreBandsMoved g 0 old old
 none_moved g old at =
     record {
       same = record { grid = refl; injections = refl; height = refl; many = refl };
@@ -27,7 +27,7 @@ none_moved g old at =
       left = λ k le lt. at k lt;
     }
 
-pub all_moved : (g b : ℕ) (old now : BandedPattern) → length old.generations ≤ b → AreMoved g b old now → AreAt (g + 1) now
+pub all_moved : (g b : ℕ) (old now : BandedPattern) → length old.generations ≤ b → AreBandsMoved g b old now → AreAt (g + 1) now
 all_moved g b old now le m k lt = let many = m.same.many in m.moved k (omega (arith, le, lt, many))
 
 -- a neighbour at the band's generation or one further is ready
@@ -45,7 +45,7 @@ is_ready generations b n near = ap (λ (t : Bool). if t then None else Some (rec
     test (inr e) = or_right (other == own) (other == own + 1) (eq-eqb other (own + 1) e)
 
 -- so the next band can move on
-pub next_ready : (g b : ℕ) (old now : BandedPattern) → AreMoved g b old now → b < length old.generations → unready_neighbour now.generations b ≡ None
+pub next_ready : (g b : ℕ) (old now : BandedPattern) → AreBandsMoved g b old now → b < length old.generations → unready_neighbour now.generations b ≡ None
 next_ready g b old now m lt = ap₂ option_or (upper b (m.left b (omega arith) lt) m.moved) (lower (nat_lt (b + 1) (length now.generations)) refl)
   where
     upper : (b : ℕ) → generation_of now b ≡ g → ((k : ℕ) → k < b → generation_of now k ≡ g + 1) → upper_not_ready now.generations b ≡ None
@@ -60,7 +60,7 @@ next_ready g b old now m lt = ap₂ option_or (upper b (m.left b (omega arith) l
         is_ready now.generations b (b + 1) (inl (m.left (b + 1) (omega arith) (omega (arith, l, many)) ∙ sym (m.left b (omega arith) lt)))
 
 -- and then one more has moved
-pub one_more : (g b : ℕ) (old now new : BandedPattern) → AreMoved g b old now → b < length old.generations → new ≡ moved_on b now → AreMoved g (b + 1) old new
+pub one_more : (g b : ℕ) (old now new : BandedPattern) → AreBandsMoved g b old now → b < length old.generations → new ≡ moved_on b now → AreBandsMoved g (b + 1) old new
 one_more g b old now new m lt e =
     let many = m.same.many in
     let there : b < length now.generations = omega (arith, many, lt) in
@@ -115,7 +115,7 @@ awake_too old now b x y same e wake =
     (awake_alike old.grid old.injections old.height old.generations now.generations b x y e wake)))
 
 -- where the next band sleeps too, so do all up to it
-pub more_asleep : (g b : ℕ) (old now : BandedPattern) (all next : Bool) → AreAt g old → AreMoved g b old now → b < length old.generations → (all ≡ true → (k x y : ℕ) → k < b → IsAwake old k x y → ⊥) → (next ≡ true → (x y : ℕ) → IsAwake now b x y → ⊥) → (all && next) ≡ true → (k x y : ℕ) → k < b + 1 → IsAwake old k x y → ⊥
+pub more_asleep : (g b : ℕ) (old now : BandedPattern) (all next : Bool) → AreAt g old → AreBandsMoved g b old now → b < length old.generations → (all ≡ true → (k x y : ℕ) → k < b → IsAwake old k x y → ⊥) → (next ≡ true → (x y : ℕ) → IsAwake now b x y → ⊥) → (all && next) ≡ true → (k x y : ℕ) → k < b + 1 → IsAwake old k x y → ⊥
 more_asleep g b old now all next at m lt before own both k x y l wake =
     let parts = and_parts all next both in
     elim (cases_lt k b) [

@@ -105,6 +105,17 @@ fn columns_of_cells(
     Ok(columns_of(alloc, &rows, rows[0].len())?)
 }
 
+/// The generation of the last of the bits that begin at a generation.
+pub fn last_from(first: u64, ports: &Ports, streams: &Streams) -> u128
+    requires cycles { 0 < streams.now.cycles }
+    requires streams { AreFor ports.now streams.now }
+    ensures { result ≡ last_from first ports.now streams.now }
+{
+    let before_last = CONTEXT_GENERATIONS as u128 * (ports.c as u128 - 1)
+        + (streams.cycles as u128 - 1) * ports.p as u128;
+    first as u128 + before_last
+}
+
 /// The bits that cells show in each context, cycle after cycle, while streams drive a pattern: all cells of context 0
 /// come first, and bit t of a cell in context k is 1 exactly where the cell is a head at generation `first + 32 k + t
 /// p`. A call asks for at least one cycle, for one stream of as many bits for each context and input, and for inputs
@@ -130,9 +141,7 @@ pub fn bits_of_cells(
     ensures refused { IfErr result (
         HasSimulateCause ports.now streams.now (plane_of pattern.rows) (last_from first ports.now streams.now)) }
 {
-    let before_last = CONTEXT_GENERATIONS as u128 * (ports.c as u128 - 1)
-        + (streams.cycles as u128 - 1) * ports.p as u128;
-    let generations = first as u128 + before_last;
+    let generations = last_from(first, ports, streams);
     if generations > GREATEST_GENERATION {
         return Err(SimulateError::TooFar { generations });
     }

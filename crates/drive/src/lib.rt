@@ -11,7 +11,7 @@ mod moving;
 mod run;
 mod simulation;
 
-pub use bits::{GREATEST_GENERATION, bits_of_cells};
+pub use bits::{GREATEST_GENERATION, bits_of_cells, last_from};
 pub use driving::{CONTEXT_GENERATIONS, injections};
 pub use error::{DriveError, SimulateError};
 pub use run::Run;

@@ -1,8 +1,9 @@
 // A row whose light lies in one word.
 ghost use Rattle.std.specs.Prelude.{◌≡◌, ◌+◌, ◌<◌, ◌≢◌, ◌==◌, not, true, ℕ, length, get_or};
 ghost use Rattle.std.specs.Int.RustNames.{bit_or};
-ghost use Rattle.lane_kernel.specs.Words.{heads_word, wires_word, new_heads_of, new_wires_of};
-ghost use Rattle.lane_kernel.specs.Spans.{AreDarkWhere, IsBeyond, IsDarkBeyond, IsLitWithin, stays_within};
+ghost use Rattle.lane_kernel.specs.Words.{heads_word};
+ghost use Rattle.lane_kernel.specs.Spans.{AreSameWords, AreDarkWhere, IsBeyond, IsDarkBeyond, IsLitWithin, stays_within};
+ghost use Rattle.lane_kernel.specs.Steps.{IsStepped};
 
 use crate::words::{alone, new_heads, new_wires};
 
@@ -31,14 +32,10 @@ pub fn step_one_word(
 ) -> bool
     requires lit { IsLitWithin j (j + 1) above.now heads.old below.now tails.old wires.old }
     requires stays { stays_within j (j + 1) above.now heads.old below.now ≡ true }
-    ensures long_heads { length heads.new ≡ length heads.old }
+    ensures stepped { IsStepped
+        above.now heads.old below.now tails.old wires.old heads.new wires.new }
     ensures long_tails { length tails.new ≡ length heads.old }
-    ensures long_wires { length wires.new ≡ length heads.old }
-    ensures heads { (i : ℕ)
-        → get_or heads.new i 0 ≡ heads_word above.now heads.old below.now wires.old i }
-    ensures tails { (i : ℕ) → get_or tails.new i 0 ≡ get_or heads.old i 0 }
-    ensures wires { (i : ℕ)
-        → get_or wires.new i 0 ≡ wires_word above.now heads.old below.now tails.old wires.old i }
+    ensures tails { AreSameWords tails.new heads.old }
     ensures dark_heads { IsDarkBeyond j (j + 1) heads.new }
     ensures dark_tails { IsDarkBeyond j (j + 1) tails.new }
     ensures lit { result ≡ not (bit_or (get_or heads.new j 0) (get_or tails.new j 0) == 0) }

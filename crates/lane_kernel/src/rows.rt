@@ -1,7 +1,7 @@
 // Whole rows.
-ghost use Rattle.std.specs.Prelude.{◌≡◌, ◌+◌, ◌<◌, ◌≤◌, ◌⊎◌, ◌&&◌, ◌||◌, not, ℕ, length, get_or};
+ghost use Rattle.std.specs.Prelude.{◌≡◌, ◌+◌, ◌<◌, ◌&&◌, ◌||◌, not, ℕ, length};
 ghost use Rattle.lane_kernel.specs.Rows.{is_one_or_two, is_set, row_state, heads_in_rows, next_in_rows, AreDisjoint};
-ghost use Rattle.lane_kernel.specs.Words.{heads_word, wires_word};
+ghost use Rattle.lane_kernel.specs.Steps.{AreEquallyLong, AreWordsStepped, IsStepped};
 
 use crate::lanes::step_four;
 use crate::words::{new_heads, new_wires, words_near};
@@ -16,23 +16,9 @@ fn step_one(
     j: usize,
 )
     requires within { j < length heads.now }
-    requires tails { length tails.old ≡ length heads.now }
-    requires wires { length wires.old ≡ length heads.now }
-    ensures long_tails { length tails.new ≡ length heads.now }
-    ensures long_wires { length wires.new ≡ length heads.now }
-    ensures heads { (k : ℕ)
-        → k < 1
-        → get_or tails.new (j + k) 0 ≡ heads_word above.now heads.now below.now wires.old (j + k) }
-    ensures wires { (k : ℕ)
-        → k < 1
-        → get_or wires.new (j + k) 0
-        ≡ wires_word above.now heads.now below.now tails.old wires.old (j + k) }
-    ensures other_tails { (k : ℕ)
-        → (k < j) ⊎ (j + 1 ≤ k)
-        → get_or tails.new k 0 ≡ get_or tails.old k 0 }
-    ensures other_wires { (k : ℕ)
-        → (k < j) ⊎ (j + 1 ≤ k)
-        → get_or wires.new k 0 ≡ get_or wires.old k 0 }
+    requires rows { AreEquallyLong above.now heads.now below.now tails.old wires.old }
+    ensures { AreWordsStepped j (j + 1)
+        above.now heads.now below.now tails.old wires.old tails.new wires.new }
 {
     let fired = new_heads(
         words_near(above, j),
@@ -47,18 +33,9 @@ fn step_one(
 /// The new words of a row, as if it stood alone, four at once where there are enough, and else one: the new heads in the
 /// tails' place, the new wires in the wires'.
 pub fn step_words(above: &[u64], heads: &[u64], below: &[u64], tails: &mut [u64], wires: &mut [u64])
-    requires above { length above.now ≡ length heads.now }
-    requires below { length below.now ≡ length heads.now }
-    requires tails { length tails.old ≡ length heads.now }
-    requires wires { length wires.old ≡ length heads.now }
-    ensures long_tails { length tails.new ≡ length heads.now }
-    ensures long_wires { length wires.new ≡ length heads.now }
-    ensures heads { (j : ℕ)
-        → j < length heads.now
-        → get_or tails.new j 0 ≡ heads_word above.now heads.now below.now wires.old j }
-    ensures wires { (j : ℕ)
-        → j < length heads.now
-        → get_or wires.new j 0 ≡ wires_word above.now heads.now below.now tails.old wires.old j }
+    requires { AreEquallyLong above.now heads.now below.now tails.old wires.old }
+    ensures { IsStepped
+        above.now heads.now below.now tails.old wires.old tails.new wires.new }
 {
     let mut j = 0;
     while j < heads.len() {
@@ -85,10 +62,7 @@ pub fn step_rows(
     new_heads: &mut [u64],
     new_wires: &mut [u64],
 )
-    requires above { length above.now ≡ length heads.now }
-    requires below { length below.now ≡ length heads.now }
-    requires tails { length tails.now ≡ length heads.now }
-    requires wires { length wires.now ≡ length heads.now }
+    requires rows { AreEquallyLong above.now heads.now below.now tails.now wires.now }
     requires new_heads { length new_heads.old ≡ length heads.now }
     requires new_wires { length new_wires.old ≡ length heads.now }
     ensures heads { (x : ℕ)

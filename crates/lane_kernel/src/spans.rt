@@ -1,7 +1,7 @@
 // A row that is dark but for a span of its words.
-ghost use Rattle.std.specs.Prelude.{◌≡◌, ◌-◌, ◌<◌, ◌≤◌, ◌⊎◌, ◌==◌, ◌&&◌, true, ℕ, length, get_or};
-ghost use Rattle.lane_kernel.specs.Words.{heads_word, wires_word};
-ghost use Rattle.lane_kernel.specs.Spans.{AreDarkWhere, IsDarkBeyond, IsLitWithin, has_head, stays_east, stays_west, stays_within};
+ghost use Rattle.std.specs.Prelude.{◌≡◌, ◌-◌, ◌<◌, ◌≤◌, ◌==◌, ◌&&◌, true, ℕ, length, get_or};
+ghost use Rattle.lane_kernel.specs.Spans.{AreDarkWhere, IsBeyond, IsDarkBeyond, IsLitWithin, has_head, stays_east, stays_west, stays_within};
+ghost use Rattle.lane_kernel.specs.Steps.{IsStepped};
 
 use crate::rows::step_words;
 
@@ -12,7 +12,7 @@ pub fn put_words(row: &mut [u64], lo: usize, hi: usize, from: &[u64])
     requires same { length from.now ≡ length row.old }
     ensures long { length row.new ≡ length row.old }
     ensures inside { (j : ℕ) → lo ≤ j → j < hi → get_or row.new j 0 ≡ get_or from.now j 0 }
-    ensures outside { (j : ℕ) → (j < lo) ⊎ (hi ≤ j) → get_or row.new j 0 ≡ get_or row.old j 0 }
+    ensures outside { (j : ℕ) → IsBeyond lo hi j → get_or row.new j 0 ≡ get_or row.old j 0 }
 {
     row[lo..hi].copy_from_slice(&from[lo..hi]);
 }
@@ -96,12 +96,8 @@ pub fn step_span(
     requires order { lo ≤ hi }
     requires lit { IsLitWithin lo hi above.now heads.now below.now tails.old wires.old }
     requires stays { stays_within lo hi above.now heads.now below.now ≡ true }
-    ensures long_tails { length tails.new ≡ length heads.now }
-    ensures long_wires { length wires.new ≡ length heads.now }
-    ensures heads { (j : ℕ)
-        → get_or tails.new j 0 ≡ heads_word above.now heads.now below.now wires.old j }
-    ensures wires { (j : ℕ)
-        → get_or wires.new j 0 ≡ wires_word above.now heads.now below.now tails.old wires.old j }
+    ensures stepped { IsStepped
+        above.now heads.now below.now tails.old wires.old tails.new wires.new }
     ensures dark { IsDarkBeyond lo hi tails.new }
 {
     step_words(

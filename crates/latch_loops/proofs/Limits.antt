@@ -7,12 +7,11 @@ use Rattle.lane_core.specs.declared.instr.Column.{Column}
 use Rattle.lane_core.specs.declared.plan.Program.{Program}
 use Rattle.lane_core.specs.declared.plan.Plan.{Plan}
 use Rattle.lane_core.specs.Plans.{period_of}
-use Rattle.plan_waves.specs.Cycles.{cycle_steps}
-use Rattle.plan_waves.proofs.Machine.{steps_with_loops}
+use Rattle.lane_core.specs.Tape.{cycle_tiles}
+use Rattle.plan_waves.proofs.CycleTiles.{period_is, tiles_with_loops, tiles_without}
 use Rattle.latch_loops.specs.Closed.{IsPadded, contexts_size, least_size, IsClosed, contexts_limit, DoesAsProgram}
 use Rattle.latch_loops.specs.Padded.{IsPaddedPlan, DoesAsPlan}
 use Rattle.latch_loops.proofs.Padding.{small_size, padded_more}
-use Rattle.latch_loops.proofs.PaddedPlans.{steps_without}
 
 limit_without : (columns : List Column) (program : Program) → length program.latches ≡ 0 → contexts_limit columns program ≡ 1
 limit_without columns program none =
@@ -37,27 +36,18 @@ pub count_is : (program : Program) (columns : List Column) (contexts : ℕ) (pla
     → length plan.columns ≡ max (max (length program.latches) (min program.lanes 1)) (length columns)
 count_is program columns contexts plan few c = omega (arith, c.padded.count, small_size (length program.latches) contexts few)
 
--- as many contexts fit as its period has macro steps
-pub limit_is_steps : (program : Program) (columns : List Column) (contexts : ℕ) (plan : Plan) → contexts ≤ 1 → IsClosed program columns contexts plan
-    → contexts_limit columns program ≡ cycle_steps plan
-limit_is_steps program columns contexts plan few c =
+-- as many contexts fit as a cycle has tiles
+pub limit_is_tiles : (program : Program) (columns : List Column) (contexts : ℕ) (plan : Plan) → contexts ≤ 1 → IsClosed program columns contexts plan
+    → contexts_limit columns program ≡ cycle_tiles plan
+limit_is_tiles program columns contexts plan few c =
     ⊎_elim
-    (λ none. limit_without columns program none ∙ sym (steps_without plan (c.latches ∙ none)))
+    (λ none. limit_without columns program none ∙ sym (tiles_without plan (c.latches ∙ none)))
     (λ some. (let loops : 0 < length program.latches = omega (arith, some) in
-    omega (arith, limit_with columns program loops, steps_with_loops plan (omega (arith, loops, c.latches)), count_is program columns contexts plan few c, c.latches, loops, program.loops_fit)))
+    omega (arith, limit_with columns program loops, tiles_with_loops plan (omega (arith, loops, c.latches)), count_is program columns contexts plan few c, c.latches, loops, program.loops_fit)))
     (cases_eq (length program.latches) 0)
 
-period_is_steps : (plan : Plan) → period_of plan ≡ 32 * cycle_steps plan
-period_is_steps plan =
-    ⊎_elim
-    (λ none. cond-true (plan.latches == 0) 32 (32 * (2 * length plan.columns + 4 * plan.latches)) (eq-eqb plan.latches 0 none) ∙ ap (λ n. 32 * n) (sym (steps_without plan none)))
-    (λ some. (let no : (plan.latches == 0) ≡ false = grind (arith, nat_tests) in
-    let period = cond-false (plan.latches == 0) 32 (32 * (2 * length plan.columns + 4 * plan.latches)) no in
-    omega (arith, period, steps_with_loops plan (omega (arith, some)))))
-    (cases_eq plan.latches 0)
-
 pub limit_is_period : (program : Program) (columns : List Column) (plan : Plan) → IsClosed program columns 1 plan → period_of plan ≡ 32 * contexts_limit columns program
-limit_is_period program columns plan c = period_is_steps plan ∙ ap (λ n. 32 * n) (sym (limit_is_steps program columns 1 plan (omega arith) c))
+limit_is_period program columns plan c = sym (period_is plan) ∙ ap (λ n. 32 * n) (sym (limit_is_tiles program columns 1 plan (omega arith) c))
 
 -- ---- a plan without starts, then the same with those of contexts
 pub closed_more : (program : Program) (columns : List Column) (contexts : ℕ) (middle plan : Plan) → IsClosed program columns 0 middle → IsPaddedPlan (contexts_size middle.latches contexts) middle plan
@@ -82,8 +72,8 @@ pub does_as_padded : (program : Program) (middle plan : Plan) → DoesAsProgram 
 does_as_padded program middle plan d s = record { end = λ bits. s.end bits ∙ d.end bits; nets = λ bits. s.nets bits ∙ d.nets bits }
 
 -- what is asked of the plan in between
-pub fits_between : (program : Program) (columns : List Column) (contexts : ℕ) (middle : Plan) → IsClosed program columns 0 middle → contexts ≤ contexts_limit columns program → contexts ≤ cycle_steps middle
-fits_between program columns contexts middle c fit = omega (arith, fit, limit_is_steps program columns 0 middle (omega arith) c)
+pub fits_between : (program : Program) (columns : List Column) (contexts : ℕ) (middle : Plan) → IsClosed program columns 0 middle → contexts ≤ contexts_limit columns program → contexts ≤ cycle_tiles middle
+fits_between program columns contexts middle c fit = omega (arith, fit, limit_is_tiles program columns 0 middle (omega arith) c)
 
 pub long_between : (program : Program) (columns : List Column) (starts : List (List Bool)) (middle : Plan) → IsClosed program columns 0 middle
     → All (λ bits. length bits ≡ length program.latches) starts → All (λ bits. length bits ≡ middle.latches) starts

@@ -11,41 +11,37 @@ use Rattle.lane_core.specs.Columns.{after_columns, IsColumnOnLanes}
 use Rattle.lane_core.specs.Entering.{bits_after}
 use Rattle.lane_core.specs.Places.{AreDistinctBelow, IsPlaceWithin}
 use Rattle.lane_core.specs.Plans.{IsAdmissible}
-use Rattle.lane_core.specs.Tape.{AreTapeLists}
+use Rattle.lane_core.specs.Tape.{AreTapeLists, cycle_tiles}
 use Rattle.lane_core.proofs.Lookup.{columns_apart as all_apart}
 use Rattle.plan_waves.specs.Waves.{tiles_back}
-use Rattle.plan_waves.specs.Cycles.{cycle_steps}
 use Rattle.plan_waves.specs.Contexts.{contexts_on_ways}
-use Rattle.plan_waves.proofs.Machine.{steps_with_loops}
+use Rattle.plan_waves.proofs.CycleTiles.{tiles_with_loops, tiles_without}
 use Rattle.plan_waves.proofs.RunningContexts.{ways_with_loops}
 use Rattle.latch_loops.specs.Closed.{contexts_size}
 use Rattle.latch_loops.specs.Padded.{IsPaddedPlan, DoesAsPlan}
 use Rattle.latch_loops.proofs.Padding.{padded_after, padded_front, empty_on_lanes, size_with_loops, size_without, small_size}
 
-pub steps_without : (plan : Plan) → plan.latches ≡ 0 → cycle_steps plan ≡ 1
-steps_without plan none = cond-true (plan.latches == 0) 1 (length plan.columns + tiles_back plan) (eq-eqb plan.latches 0 none)
-
 ways_without : (plan : Plan) → plan.latches ≡ 0 → contexts_on_ways plan ≡ 1
 ways_without plan none = cond-true (plan.latches == 0) 1 (tiles_back plan) (eq-eqb plan.latches 0 none)
 
 -- the starts lie on the ways back of the padded plan
-pub room : (plan padded : Plan) (contexts : ℕ) → contexts ≤ cycle_steps plan → IsPaddedPlan (contexts_size plan.latches contexts) plan padded → contexts ≤ contexts_on_ways padded
+pub room : (plan padded : Plan) (contexts : ℕ) → contexts ≤ cycle_tiles plan → IsPaddedPlan (contexts_size plan.latches contexts) plan padded → contexts ≤ contexts_on_ways padded
 room plan padded contexts fit p =
     ⊎_elim
-    (λ none. omega (arith, fit, steps_without plan none, ways_without padded (p.latches ∙ none)))
+    (λ none. omega (arith, fit, tiles_without plan none, ways_without padded (p.latches ∙ none)))
     (λ some. omega (arith, ways_with_loops padded (omega (arith, some, p.latches)), size_with_loops plan.latches contexts (omega (arith, some)), p.columns.count, p.latches))
     (cases_eq plan.latches 0)
 
 -- no more than twice as many columns
-twice : (plan padded : Plan) (contexts : ℕ) → contexts ≤ cycle_steps plan → IsPaddedPlan (contexts_size plan.latches contexts) plan padded → length padded.columns ≤ 2 * length plan.columns
+twice : (plan padded : Plan) (contexts : ℕ) → contexts ≤ cycle_tiles plan → IsPaddedPlan (contexts_size plan.latches contexts) plan padded → length padded.columns ≤ 2 * length plan.columns
 twice plan padded contexts fit p =
     ⊎_elim
     (λ none. omega (arith, p.columns.count, size_without plan.latches contexts none))
-    (λ some. omega (arith, p.columns.count, size_with_loops plan.latches contexts (omega (arith, some)), fit, steps_with_loops plan (omega (arith, some))))
+    (λ some. omega (arith, p.columns.count, size_with_loops plan.latches contexts (omega (arith, some)), fit, tiles_with_loops plan (omega (arith, some))))
     (cases_eq plan.latches 0)
 
 -- and for one context no more at all
-few_columns : (plan padded : Plan) (contexts : ℕ) → IsAdmissible plan → (1 < contexts → length plan.columns < 2 ^ 39) → contexts ≤ cycle_steps plan
+few_columns : (plan padded : Plan) (contexts : ℕ) → IsAdmissible plan → (1 < contexts → length plan.columns < 2 ^ 39) → contexts ≤ cycle_tiles plan
     → IsPaddedPlan (contexts_size plan.latches contexts) plan padded → length padded.columns < 2 ^ 40
 few_columns plan padded contexts h few fit p =
     ⊎_elim
@@ -59,7 +55,7 @@ after_more n m low after h = λ step e. omega (arith, h step e, low)
 places_more : (lanes n m : ℕ) → n ≤ m → (places : List NetPlace) → All (IsPlaceWithin lanes n) places → All (IsPlaceWithin lanes m) places
 places_more lanes n m low places all k d within = record { lane = (all k d within).lane; after = after_more n m low _ (all k d within).after }
 
-pub padded_admissible : (plan padded : Plan) (contexts : ℕ) → (1 < contexts → length plan.columns < 2 ^ 39) → contexts ≤ cycle_steps plan → IsAdmissible plan
+pub padded_admissible : (plan padded : Plan) (contexts : ℕ) → (1 < contexts → length plan.columns < 2 ^ 39) → contexts ≤ cycle_tiles plan → IsAdmissible plan
     → IsPaddedPlan (contexts_size plan.latches contexts) plan padded → IsAdmissible padded
 padded_admissible plan padded contexts few fit h p = record {
   size = record {

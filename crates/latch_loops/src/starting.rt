@@ -1,8 +1,8 @@
 // Plans in several contexts.
 ghost use Rattle.std.specs.Prelude.{◌≡◌, ◌<◌, ◌≤◌, ◌^◌, All, length, IfOk};
 ghost use Rattle.lane_core.specs.Plans.{IsAdmissible};
+ghost use Rattle.lane_core.specs.Tape.{cycle_tiles};
 ghost use Rattle.plan_layout.specs.Starts.{start_edges, HasStartEdges};
-ghost use Rattle.plan_waves.specs.Cycles.{cycle_steps};
 ghost use Rattle.plan_waves.specs.Contexts.{StartsContexts};
 ghost use Rattle.latch_loops.specs.Closed.{contexts_size, IsPadded};
 ghost use Rattle.latch_loops.specs.Padded.{IsPaddedPlan, DoesAsPlan};
@@ -43,7 +43,7 @@ fn contexts_size(loops: u32, contexts: usize) -> usize
 #[tactic(auto, using(crate::proofs::PaddedPlans::padded_admissible, crate::proofs::PaddedPlans::room, crate::proofs::PaddedPlans::does_as_plan))]
 pub fn start_contexts(alloc: Global, plan: Plan, starts: &[List<bool>]) -> Result<Plan, CloseError>
     requires admissible { IsAdmissible plan }
-    requires fit { length starts.now ≤ cycle_steps plan }
+    requires fit { length starts.now ≤ cycle_tiles plan }
     requires long { All (λ bits. length bits ≡ plan.latches) starts.now }
     requires few { 1 < length starts.now → length plan.columns < 2 ^ 39 }
     ensures admissible { IfOk result IsAdmissible }

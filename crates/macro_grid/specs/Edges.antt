@@ -1,6 +1,6 @@
 -- Which edges of a plan are lit.
-use Rattle.std.specs.Prelude.{ℕ, ◌+◌, ◌*◌, ◌≡◌, nat_lt, Bool, false, ◌&&◌, List, length, get_or}
-use Rattle.tiling.specs.Tiling.{Lit}
+use Rattle.std.specs.Prelude.{ℕ, ◌+◌, ◌*◌, ◌/◌, ◌%◌, ◌<◌, ◌≡◌, nat_lt, Bool, false, ◌&&◌, List, length, get_or}
+use Rattle.tiling.specs.Tiling.{Edge, Lit}
 use Rattle.tiling.specs.Tiling.Edge.{Beside, Above}
 use Rattle.lane_core.specs.declared.plan.Plan.{Plan}
 use Rattle.lane_core.specs.Tape.{tape_shift}
@@ -17,6 +17,10 @@ pub record EdgeBits : Type 0 where
 abbrev pub lit_of : EdgeBits → Lit
 lit_of bits (Beside column lane) = nat_lt lane bits.lanes && get_or bits.beside (column * bits.lanes + lane) false
 lit_of bits (Above column lane) = nat_lt lane bits.lanes && get_or bits.above (column * bits.lanes + lane) false
+
+-- The first bits tell which edges are lit: bit k is that of block k on one of its sides.
+abbrev pub TellEdges : (count lanes : ℕ) → (side : ℕ → ℕ → Edge) → List Bool → Lit → Type 0
+TellEdges count lanes side bits lit = (k : ℕ) → k < count → get_or bits k false ≡ lit (side (k / lanes) (k % lanes))
 
 -- the tile columns and lanes that have bits: those of the drawing, and some round it, where nothing stands
 abbrev pub edge_columns : Plan → ℕ

@@ -1,12 +1,12 @@
 // Which edges of a plan's drawing are lit. An edge is a side at which two blocks meet, named by the tile column and the lane of the
 // block east of it (`beside`) or south of it (`above`).
-ghost use Rattle.std.specs.Prelude.{◌≡◌, ℕ, ◌+◌, ◌*◌, ◌/◌, ◌%◌, ◌^◌, ◌<◌, ◌≤◌, ◌&&◌, nat_lt, get_or, false, length, IfOk};
+ghost use Rattle.std.specs.Prelude.{◌≡◌, ◌+◌, ◌*◌, ◌^◌, ◌<◌, ◌≤◌, ◌&&◌, nat_lt, get_or, false, length, IfOk};
 ghost use Rattle.tiling.specs.Tiling as tiling;
 ghost use Rattle.tiling.specs.Tiling.Edge.{Beside, Above};
 ghost use Rattle.lane_core.specs.Plans.{IsAdmissible};
 ghost use Rattle.plan_layout.specs.Starts.{HasStartEdges};
 ghost use Rattle.plan_layout.specs.Tape.{drawn_edges};
-ghost use Rattle.macro_grid.specs.Edges.{IsEdgesOf, edge_columns, edge_lanes, lit_of};
+ghost use Rattle.macro_grid.specs.Edges.{IsEdgesOf, TellEdges, edge_columns, edge_lanes, lit_of};
 
 use lane_core::{Plan, tape_shift};
 use plan_layout::{Edge, is_lit};
@@ -105,7 +105,7 @@ fn light_beside(plan: &Plan, lanes: usize, bits: &mut [bool])
     requires some { 0 < lanes }
     requires few { lanes < 2 ^ 40 }
     requires columns { length bits.old ≤ 2 ^ 57 * lanes }
-    ensures { (k : ℕ) → k < length bits.new → get_or bits.new k false ≡ drawn_edges plan.now (Beside (k / lanes) (k % lanes)) }
+    ensures { TellEdges (length bits.new) lanes Beside bits.new (drawn_edges plan.now) }
 {
     for (i, lit) in bits.iter_mut().enumerate() {
         *lit = is_lit(plan, Edge::Beside((i / lanes) as u64, (i % lanes) as u64));
@@ -119,7 +119,7 @@ fn light_above(plan: &Plan, lanes: usize, bits: &mut [bool])
     requires some { 0 < lanes }
     requires few { lanes < 2 ^ 40 }
     requires columns { length bits.old ≤ 2 ^ 57 * lanes }
-    ensures { (k : ℕ) → k < length bits.new → get_or bits.new k false ≡ drawn_edges plan.now (Above (k / lanes) (k % lanes)) }
+    ensures { TellEdges (length bits.new) lanes Above bits.new (drawn_edges plan.now) }
 {
     for (i, lit) in bits.iter_mut().enumerate() {
         *lit = is_lit(plan, Edge::Above((i / lanes) as u64, (i % lanes) as u64));

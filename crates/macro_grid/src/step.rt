@@ -1,5 +1,5 @@
 // Which edges are lit 32 generations later.
-ghost use Rattle.std.specs.Prelude.{◌≡◌, ℕ, ◌+◌, ◌*◌, ◌/◌, ◌%◌, ◌<◌, ◌^◌, get_or, false, length};
+ghost use Rattle.std.specs.Prelude.{◌≡◌, ◌<◌, ◌^◌, length};
 ghost use Rattle.tile_core.specs.declared.kind.Kind.{Kind};
 ghost use Rattle.tile_core.specs.Drawing.{Drawing};
 ghost use Rattle.tile_core.specs.Kinds.{interface};
@@ -10,7 +10,7 @@ ghost use Rattle.tiling.specs.Tiling.Edge.{Beside, Above};
 ghost use Rattle.tiling.specs.Tiling.Piece.{Tile};
 ghost use Rattle.tiling.specs.MacroStep.{macro_step as next_edges, slot_answers, piece_answers};
 ghost use Rattle.lane_core.specs.Plans.{IsAdmissible};
-ghost use Rattle.macro_grid.specs.Edges.{IsEdgesOf, lit_of};
+ghost use Rattle.macro_grid.specs.Edges.{IsEdgesOf, TellEdges, lit_of};
 ghost use Rattle.plan_layout.specs.Tape.{drawn_tiling};
 ghost use Rattle.plan_layout.specs.Slots.{slot_of};
 
@@ -143,7 +143,8 @@ fn step_beside(plan: &Plan, old: &Edges, lanes: usize, bits: &mut [bool])
     requires admissible { IsAdmissible plan.now }
     requires some { 0 < lanes }
     requires few { lanes < 2 ^ 62 }
-    ensures { (k : ℕ) → k < length bits.new → get_or bits.new k false ≡ next_edges (drawn_tiling plan.now) (lit_of old.now) (Beside (k / lanes) (k % lanes)) }
+    ensures { TellEdges (length bits.new) lanes Beside bits.new
+        (next_edges (drawn_tiling plan.now) (lit_of old.now)) }
 {
     for (i, lit) in bits.iter_mut().enumerate() {
         *lit = beside_after(plan, old, (i / lanes) as u64, (i % lanes) as u64);
@@ -155,7 +156,8 @@ fn step_above(plan: &Plan, old: &Edges, lanes: usize, bits: &mut [bool])
     requires admissible { IsAdmissible plan.now }
     requires some { 0 < lanes }
     requires few { lanes < 2 ^ 62 }
-    ensures { (k : ℕ) → k < length bits.new → get_or bits.new k false ≡ next_edges (drawn_tiling plan.now) (lit_of old.now) (Above (k / lanes) (k % lanes)) }
+    ensures { TellEdges (length bits.new) lanes Above bits.new
+        (next_edges (drawn_tiling plan.now) (lit_of old.now)) }
 {
     for (i, lit) in bits.iter_mut().enumerate() {
         *lit = above_after(plan, old, (i / lanes) as u64, (i % lanes) as u64);

@@ -13,17 +13,17 @@ use Rattle.model_words.specs.declared.word.Word.{Word}
 use Rattle.model_words.specs.Words.{word_port, word_ports}
 use Rattle.net_faults.specs.declared.numbering.Numbering.{Numbering}
 use Rattle.net_faults.specs.declared.numbering.NumberedWord.{NumberedWord}
-use Rattle.net_faults.specs.Numbering.{AreNumbered, IsNumbered, IsNumbering, IsPut, KeepsNumbers, StandsAt, count_of, numbered_names, name_number, numbered_port, numbered_ports}
+use Rattle.net_faults.specs.Numbering.{AreNumbered, IsNumbered, IsNumbering, GivesNumber, KeepsNumbers, StandsAt, count_of, numbered_names, name_number, numbered_port, numbered_ports}
 
 -- a name that had no number gets the next one
-pub fresh_keeps : (old new : Numbering) (name : Name) (next : ℕ) → name_number old name ≡ None → IsPut old new name next → KeepsNumbers old new
+pub fresh_keeps : (old new : Numbering) (name : Name) (next : ℕ) → name_number old name ≡ None → GivesNumber old new name next → KeepsNumbers old new
 fresh_keeps old new name next none put other number is = put other ∙ by (bytes_eq name other) refl
   where
     by : (b : Bool) → bytes_eq name other ≡ b → cond b (Some next) (name_number old other) ≡ Some number
     by true e = absurd (let clash : None ≡ Some number = sym none ∙ ap (name_number old) ((bytes_eq-Decides name other).0 e) ∙ is in cc)
     by false e = is
 
-pub fresh_numbering : (old new : Numbering) (key : Bor (List ℕ)) (next : ℕ) → IsNumbering old → next ≡ count_of old → IsPut old new key.now next → new.names.items ≡ old.names.items ++ key ∷ [] → IsNumbering new
+pub fresh_numbering : (old new : Numbering) (key : Bor (List ℕ)) (next : ℕ) → IsNumbering old → next ≡ count_of old → GivesNumber old new key.now next → new.names.items ≡ old.names.items ++ key ∷ [] → IsNumbering new
 fresh_numbering old new key next had is put pushed other number e = by (bytes_eq key.now other) refl (sym (put other) ∙ e)
   where
     names : numbered_names new ≡ numbered_names old ++ key.now ∷ []
@@ -48,7 +48,7 @@ fresh_numbering old new key next had is put pushed other number e = by (bytes_eq
         ((omega arith), ap (λ ns. get_or ns number []) names ∙ get_or_append_left (numbered_names old) (key.now ∷ []) [] number (omega arith) ∙ stands.1)
 
 -- a name that had a number gets it back
-pub back : (old middle new : Numbering) (name : Name) (next number : ℕ) → name_number old name ≡ Some number → IsPut old middle name next → IsPut middle new name number → (other : Name) → name_number new other ≡ name_number old other
+pub back : (old middle new : Numbering) (name : Name) (next number : ℕ) → name_number old name ≡ Some number → GivesNumber old middle name next → GivesNumber middle new name number → (other : Name) → name_number new other ≡ name_number old other
 back old middle new name next number known one two other = two other ∙ ap (cond (bytes_eq name other) (Some number)) (one other) ∙ by (bytes_eq name other) refl
   where
     by : (b : Bool) → bytes_eq name other ≡ b → cond b (Some number) (cond b (Some next) (name_number old other)) ≡ name_number old other
@@ -63,7 +63,7 @@ back_numbering old new had same names name number is =
     ((omega arith), ap (λ (ns : List (Bor (List ℕ))). get_or (map (λ n. n.now) ns) number []) names ∙ stands.1)
 
 -- what is put is the name's number
-pub put_there : (old new : Numbering) (name : Name) (number : ℕ) → IsPut old new name number → name_number new name ≡ Some number
+pub put_there : (old new : Numbering) (name : Name) (number : ℕ) → GivesNumber old new name number → name_number new name ≡ Some number
 put_there old new name number put = put name ∙ ap (λ b. cond b (Some number) (name_number old name)) ((bytes_eq-Decides name name).1 refl)
 
 -- words keep their numbers

@@ -30,9 +30,9 @@ StandsAt names name number = (number < count_of names) × (slice_index_or (numbe
 abbrev pub IsNumbering : Numbering → Type 0
 IsNumbering names = (name : Name) (number : ℕ) → name_number names name ≡ Some number → StandsAt names name number
 
--- a name has this number, and every other name what it had
-abbrev pub IsPut : Numbering → Numbering → Name → ℕ → Type 0
-IsPut old new name number = (other : Name) → name_number new other ≡ cond (bytes_eq name other) (Some number) (name_number old other)
+-- a name is given this number, and every other name has what it had
+abbrev pub GivesNumber : Numbering → Numbering → Name → ℕ → Type 0
+GivesNumber old new name number = (other : Name) → name_number new other ≡ cond (bytes_eq name other) (Some number) (name_number old other)
 
 -- each name keeps its number
 abbrev pub KeepsNumbers : Numbering → Numbering → Type 0

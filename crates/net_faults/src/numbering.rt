@@ -1,7 +1,7 @@
 // Names by number.
 ghost use Rattle.std.specs.Prelude.{◌≡◌, IfOk, OnOk};
 ghost use Rattle.model_words.specs.Words.{word_ports};
-ghost use Rattle.net_faults.specs.Numbering.{AreNumbered, IsNumbering, IsPut, KeepsNumbers, count_of, name_number, numbered_ports};
+ghost use Rattle.net_faults.specs.Numbering.{AreNumbered, IsNumbering, GivesNumber, KeepsNumbers, count_of, name_number, numbered_ports};
 
 use model_words::Word;
 use std::alloc::{AllocError, Global};
@@ -49,7 +49,7 @@ impl<'a> Numbering<'a> {
     // Puts a number in the place of what is kept for a name, and answers what was kept.
     fn put(&mut self, name: &'a [u8], number: usize) -> Result<Option<usize>, AllocError>
         ensures old { IfOk result (λ known. known ≡ name_number self.old name.now) }
-        ensures new { OnOk result (IsPut self.old self.new name.now number) }
+        ensures new { OnOk result (GivesNumber self.old self.new name.now number) }
         ensures names { self.new.names.items ≡ self.old.names.items }
     {
         Ok(self.numbers.insert(name, number)?)

@@ -9,8 +9,8 @@ use Rattle.lists.proofs.Numbers.{at_most_one, length_if}
 use Rattle.lane_core.specs.declared.plan.NetPlace.{NetPlace}
 use Rattle.lane_core.specs.declared.plan.Plan.{Plan}
 use Rattle.lane_core.specs.Plans.{IsAdmissible, period_of}
-use Rattle.plan_waves.specs.Cycles.{cycle_steps}
-use Rattle.plan_waves.proofs.CycleSteps.{period_is}
+use Rattle.lane_core.specs.Tape.{cycle_tiles}
+use Rattle.plan_waves.proofs.CycleTiles.{period_is}
 use Rattle.plan_waves.specs.Contexts.{StartsContexts}
 use Rattle.netlist_core.specs.declared.flat.Flat.{Flat}
 use Rattle.netlist_meaning.specs.Flat.{IsWeighed}
@@ -64,7 +64,7 @@ module _ (flat : Flat) (plan : Plan) (w : IsWeighed flat) (k : IsPlanned flat pl
   loops_long = subst (λ (all : List (List Bool)). All (λ bits. length bits ≡ plan.latches) all) (sym loops_are) (all_long k.list plan starts k.is.computes.loops latches_long)
 
 -- ---- what is asked of the plan
-pub contexts_fit : (plan : Plan) (contexts : ℕ) → 32 * contexts ≤ period_of plan → contexts ≤ cycle_steps plan
+pub contexts_fit : (plan : Plan) (contexts : ℕ) → 32 * contexts ≤ period_of plan → contexts ≤ cycle_tiles plan
 contexts_fit plan contexts fit = omega (arith, fit, period_is plan)
 
 product : (a b s : ℕ) → a ≤ 6 * s → b ≤ 6 * s → a * b ≤ 36 * (s * s)

@@ -20,7 +20,7 @@ use Rattle.lane_core.specs.Entering.{first_loop_lane, lane_bit, bits_after}
 use Rattle.plan_waves.specs.Contexts.{StartsContexts, DrivesContexts, injected_in, context_bits}
 use Rattle.plan_waves.specs.ShownContexts.{ShowsContextBits}
 use Rattle.plan_waves.specs.ContextRows.{drive_of_contexts, row_bits_in, AreInjectedInContexts, bits_of_context_rows}
-use Rattle.plan_waves.proofs.CycleSteps.{same_entering}
+use Rattle.plan_waves.proofs.CycleTiles.{same_entering}
 use Rattle.plan_waves.proofs.InputCells.{lane_of_input, input_of_lane, input_cell}
 use Rattle.plan_waves.proofs.ShownContexts.{plans_show_contexts}
 use Rattle.plan_waves.proofs.IsolatedContexts.{contexts_apart}

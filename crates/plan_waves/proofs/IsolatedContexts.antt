@@ -14,7 +14,7 @@ use Rattle.lane_core.specs.Columns.{after_columns}
 use Rattle.lane_core.specs.Plans.{IsAdmissible, period_of, out_cell_of, net_place, net_cell_of}
 use Rattle.lane_core.specs.Entering.{bits_after}
 use Rattle.plan_layout.specs.Planes.{plane_with}
-use Rattle.plan_waves.proofs.CycleSteps.{period_is, same_entering}
+use Rattle.plan_waves.proofs.CycleTiles.{period_is, same_entering}
 use Rattle.plan_waves.specs.Contexts.{StartsContexts, DrivesContexts, injected_in, context_bits}
 use Rattle.plan_waves.specs.ShownContexts.{ShowsEachContext, ShowsContextBits, IsIsolated}
 use Rattle.plan_waves.proofs.RunningContexts.{contexts_in_cycle}

@@ -8,7 +8,7 @@ pub mod WayBack
 pub mod Loops
 pub mod Beginning
 pub mod Machine
-pub mod CycleSteps
+pub mod CycleTiles
 pub mod EdgesShown
 pub mod InputCells
 pub mod FreePorts

@@ -1,6 +1,6 @@
 -- The macro times of a plan that runs several contexts.
 use Rattle.std.proofs.Common.{◌≡◌, ◌≢◌, refl, sym, ◌∙◌, ap, pos, ℕ, zero, suc, ◌+◌, ◌-◌, ◌*◌, ◌<◌, ◌≤◌, Bool, true, false, cond, ◌||◌, ⊎_elim, List, [], ◌∷◌, length, take, get_or, replicate, arith}
-use Rattle.std.specs.Prelude.{◌==◌, All}
+use Rattle.std.specs.Prelude.{◌==◌, ◌/◌, All}
 use Rattle.std.proofs.lemmas.Bool.{cases_lt, false_from_ne_true, true≢false, cond-false}
 use Rattle.std.proofs.lemmas.Bool.Decides.{nat_tests}
 use Rattle.std.proofs.lemmas.List.{ext_get_or, length-replicate}
@@ -17,18 +17,19 @@ use Rattle.lane_core.specs.Instrs.{bit_on}
 use Rattle.lane_core.specs.Columns.{after_columns, IsColumnOnLanes}
 use Rattle.lane_core.specs.Plans.{IsAdmissible, left_of, row_of, period_of}
 use Rattle.lane_core.specs.Entering.{first_loop_lane}
+use Rattle.lane_core.specs.Tape.{cycle_tiles}
 use Rattle.lane_core.proofs.Dark.{dark}
 use Rattle.plan_layout.specs.Layout.{tiling_of}
 use Rattle.plan_waves.specs.Waves.{is_free_entry, is_body_entry, GoesOn, is_inside, IsDarkInside, bits_at, loop_entry, tiles_back, DrivesInputs}
 use Rattle.plan_waves.specs.WaysBack.{before_entry}
-use Rattle.plan_waves.specs.Cycles.{cycle_steps, free_bits, loop_bits}
+use Rattle.plan_waves.specs.Cycles.{free_bits, loop_bits}
 use Rattle.plan_waves.proofs.Inputs.{free_place, not_injected, or_none, driven_edges_go_on, inputs_enter}
 use Rattle.plan_waves.proofs.Paths.{loop_lane, left_inside}
 use Rattle.plan_waves.proofs.Columns.{length-bits_at, bit_on-bits_at, columns_pass}
 use Rattle.plan_waves.proofs.Loops.{ways_back, ways_back_are_apart, loops_return, loops_come_round}
 use Rattle.plan_waves.proofs.Beginning.{after_dark, body_begins_dark}
-use Rattle.plan_waves.proofs.Machine.{steps_with_loops, both_bits, edges_run_by_cycles}
-use Rattle.plan_waves.proofs.CycleSteps.{cycle_time, same_entering}
+use Rattle.plan_waves.proofs.Machine.{both_bits, edges_run_by_cycles}
+use Rattle.plan_waves.proofs.CycleTiles.{tiles_with_loops, cycle_time, same_entering}
 use Rattle.plan_waves.specs.Contexts.{contexts_on_ways, StartsContexts, DrivesContexts, injected_in, context_bits, RunsByContexts}
 
 -- columns make nothing of nothing
@@ -45,12 +46,12 @@ ways_with_loops plan some =
     cond-false (plan.latches == 0) 1 (tiles_back plan) no
 
 -- so contexts begin one after the other within a cycle
-pub contexts_in_cycle : (plan : Plan) → contexts_on_ways plan ≤ cycle_steps plan
-contexts_in_cycle plan = by (plan.latches == 0) (tiles_back plan) (length plan.columns + tiles_back plan) (omega arith)
+pub contexts_in_cycle : (plan : Plan) → contexts_on_ways plan ≤ cycle_tiles plan
+contexts_in_cycle plan = by (plan.latches == 0) (tiles_back plan) (2 * length plan.columns + 4 * plan.latches) (omega arith)
   where
-    by : (b : Bool) (x y : ℕ) → x ≤ y → cond b 1 x ≤ cond b 1 y
-    by true x y h = omega arith
-    by false x y h = h
+    by : (b : Bool) (x n : ℕ) → x ≤ n → cond b 1 x ≤ cond b 32 (32 * n) / 32
+    by true x n h = omega arith
+    by false x n h = omega (arith, h)
 
 -- entries that are no entries of the body, and edges inside it, are no free entries
 pub free_is_entry : (plan : Plan) (edge : Edge) → is_body_entry plan edge ≡ false → is_free_entry plan edge ≡ false
@@ -139,27 +140,27 @@ plans_run_by_contexts plan h due starts lit d s = record { lit = shown; dark = o
         ∙ ap (λ x. due 0 (pos x) (pos (row_of lane))) column
     driven_at (suc m) lane low = inputs_enter plan h due lit m lane low
 
-    injected : (c t : ℕ) → free_bits plan (edges (c + t * cycle_steps plan)) ≡ injected_in plan due c t
+    injected : (c t : ℕ) → free_bits plan (edges (c + t * cycle_tiles plan)) ≡ injected_in plan due c t
     injected c t =
-        let time : 32 * (c + t * cycle_steps plan) ≡ 32 * c + t * period_of plan = omega (arith, cycle_time plan t) in
+        let time : 32 * (c + t * cycle_tiles plan) ≡ 32 * c + t * period_of plan = omega (arith, cycle_time plan t) in
         fill_by_all (λ lane. due (32 * c + t * period_of plan) (pos (left_of plan 0)) (pos (row_of lane)))
-        (free_bits plan (edges (c + t * cycle_steps plan))) (first_loop_lane plan.lanes plan.latches) false
-        (length-map-range_with_len (λ lane. edges (c + t * cycle_steps plan) (Beside plan.latches lane)) 0 (first_loop_lane plan.lanes plan.latches))
-        (λ k low. get_or-map-range_with_len (λ lane. edges (c + t * cycle_steps plan) (Beside plan.latches lane)) 0 (first_loop_lane plan.lanes plan.latches) k k false low (omega arith)
-        ∙ driven_at (c + t * cycle_steps plan) k low
+        (free_bits plan (edges (c + t * cycle_tiles plan))) (first_loop_lane plan.lanes plan.latches) false
+        (length-map-range_with_len (λ lane. edges (c + t * cycle_tiles plan) (Beside plan.latches lane)) 0 (first_loop_lane plan.lanes plan.latches))
+        (λ k low. get_or-map-range_with_len (λ lane. edges (c + t * cycle_tiles plan) (Beside plan.latches lane)) 0 (first_loop_lane plan.lanes plan.latches) k k false low (omega arith)
+        ∙ driven_at (c + t * cycle_tiles plan) k low
         ∙ ap (λ g. due g (pos (left_of plan 0)) (pos (row_of k))) time)
 
     shown : (c t column : ℕ) → c < length starts → column ≤ length plan.columns
-        → bits_at plan column (edges (c + t * cycle_steps plan + column)) ≡ after_columns (take column plan.columns) (context_bits plan due starts c t)
+        → bits_at plan column (edges (c + t * cycle_tiles plan + column)) ≡ after_columns (take column plan.columns) (context_bits plan due starts c t)
     shown c t column low within =
         edges_run_by_cycles plan h edges goes_on c t column within
         ∙ ap (after_columns (take column plan.columns)) (same_entering plan _ (injected_in plan due c) _ (get_or starts c []) (injected c) (begins c low) t)
 
-    not_due : (m lane : ℕ) → ((c t : ℕ) → c < length starts → m ≢ c + t * cycle_steps plan) → due (32 * m) (pos (left_of plan 0)) (pos (row_of lane)) ≡ false
+    not_due : (m lane : ℕ) → ((c t : ℕ) → c < length starts → m ≢ c + t * cycle_tiles plan) → due (32 * m) (pos (left_of plan 0)) (pos (row_of lane)) ≡ false
     not_due m lane none = false_from_ne_true _ (λ e. (let f = d.on_time _ _ _ e in none f.0 f.1 f.2 (omega (arith, f.3, cycle_time plan f.1))))
 
     -- on the way back from the start on: the tile m tiles before the entry is lit by no context
-    no_start : (m loop : ℕ) → loop < plan.latches → m ≤ tiles_back plan → ((c t : ℕ) → c < length starts → m ≢ c + t * cycle_steps plan) → edges m (loop_entry plan loop) ≡ false
+    no_start : (m loop : ℕ) → loop < plan.latches → m ≤ tiles_back plan → ((c t : ℕ) → c < length starts → m ≢ c + t * cycle_tiles plan) → edges m (loop_entry plan loop) ≡ false
     no_start m loop inside within none =
         way_lit loop m inside within
         ∙ false_from_ne_true (lit (before_entry plan loop m)) (λ e. (let o = s.only (before_entry plan loop m) e in
@@ -179,27 +180,27 @@ plans_run_by_contexts plan h due starts lit d s = record { lit = shown; dark = o
         ∙ ap (λ bits. bit_on bits lane) (body_begins_dark plan h edges goes_on dark_first before (length plan.columns) (omega arith) (omega arith))
         ∙ dark plan.lanes lane
 
-    no_loop : (m loop : ℕ) → loop < plan.latches → ((c t : ℕ) → c < length starts → m ≢ c + t * cycle_steps plan)
-        → ((before : ℕ) → before < m → ((c t : ℕ) → c < length starts → before ≢ c + t * cycle_steps plan) → bits_at plan 0 (edges before) ≡ replicate plan.lanes false)
+    no_loop : (m loop : ℕ) → loop < plan.latches → ((c t : ℕ) → c < length starts → m ≢ c + t * cycle_tiles plan)
+        → ((before : ℕ) → before < m → ((c t : ℕ) → c < length starts → before ≢ c + t * cycle_tiles plan) → bits_at plan 0 (edges before) ≡ replicate plan.lanes false)
         → edges m (loop_entry plan loop) ≡ false
     no_loop m loop inside none earlier =
-        let steps : cycle_steps plan ≡ length plan.columns + tiles_back plan = steps_with_loops plan (omega arith) in
+        let steps : cycle_tiles plan ≡ length plan.columns + tiles_back plan = tiles_with_loops plan (omega arith) in
         ⊎_elim
         (λ soon. ⊎_elim
         (λ far. no_exit m loop inside far (omega (arith, steps, soon)))
         (λ near. no_start m loop inside near none)
         (cases_lt (tiles_back plan) m))
-        (λ late. (let before = m - cycle_steps plan in
+        (λ late. (let before = m - cycle_tiles plan in
         let sum : m ≡ before + (length plan.columns + tiles_back plan) = omega (arith, steps, late) in
         ap (λ n. edges n (loop_entry plan loop)) sum
         ∙ loops_come_round plan h edges goes_on before loop inside
         ∙ ap (λ bits. bit_on (after_columns plan.columns bits) (plan.lanes - 1 - loop))
-        (earlier before (omega (arith, steps, late, inside)) (λ c t low e. none c (suc t) low (omega (arith, late, e, suc-mul t (cycle_steps plan)))))
+        (earlier before (omega (arith, steps, late, inside)) (λ c t low e. none c (suc t) low (omega (arith, late, e, suc-mul t (cycle_tiles plan)))))
         ∙ ap (λ bits. bit_on bits (plan.lanes - 1 - loop)) (columns_dark plan.lanes plan.columns h.instrs)
         ∙ dark plan.lanes (plan.lanes - 1 - loop)))
-        (cases_lt m (cycle_steps plan))
+        (cases_lt m (cycle_tiles plan))
 
-    nothing_enters : (fuel m : ℕ) → m < fuel → ((c t : ℕ) → c < length starts → m ≢ c + t * cycle_steps plan) → bits_at plan 0 (edges m) ≡ replicate plan.lanes false
+    nothing_enters : (fuel m : ℕ) → m < fuel → ((c t : ℕ) → c < length starts → m ≢ c + t * cycle_tiles plan) → bits_at plan 0 (edges m) ≡ replicate plan.lanes false
     nothing_enters zero m less none = absurd (omega arith)
     nothing_enters (suc fuel) m less none =
         ext_get_or false (bits_at plan 0 (edges m)) (replicate plan.lanes false) (length-bits_at plan 0 (edges m) ∙ sym (length-replicate plan.lanes false))
@@ -214,7 +215,7 @@ plans_run_by_contexts plan h due starts lit d s = record { lit = shown; dark = o
         (cases_lt l (first_loop_lane plan.lanes plan.latches))
         ∙ sym (dark plan.lanes l)))
 
-    others : (m column : ℕ) → column ≤ length plan.columns → ((c t : ℕ) → c < length starts → m ≢ c + t * cycle_steps plan + column) → bits_at plan column (edges m) ≡ replicate plan.lanes false
+    others : (m column : ℕ) → column ≤ length plan.columns → ((c t : ℕ) → c < length starts → m ≢ c + t * cycle_tiles plan + column) → bits_at plan column (edges m) ≡ replicate plan.lanes false
     others m column within none =
         ⊎_elim
         (λ soon. body_begins_dark plan h edges goes_on dark_first m column soon within)

@@ -21,13 +21,13 @@ use Rattle.lane_core.specs.Plans.{IsAdmissible, left_of, row_of, latency_of, per
 use Rattle.plan_layout.specs.Layout.{tiling_of}
 use Rattle.lane_core.proofs.Dark.{dark}
 use Rattle.lane_core.specs.Entering.{bits_after}
+use Rattle.lane_core.specs.Tape.{cycle_tiles}
 use Rattle.plan_layout.specs.Planes.{plane_with}
-use Rattle.plan_waves.specs.Cycles.{cycle_steps}
 use Rattle.plan_waves.specs.ShownEdges.{ShowsEachStep, ShowsDrivenEdges}
 use Rattle.plan_layout.proofs.Parts.{some_columns}
 use Rattle.plan_waves.proofs.Columns.{bit_on-bits_at}
 use Rattle.plan_waves.proofs.EdgesShown.{plans_show_edges}
-use Rattle.plan_waves.proofs.CycleSteps.{cycle_time}
+use Rattle.plan_waves.proofs.CycleTiles.{cycle_time}
 use Rattle.plan_waves.specs.Contexts.{StartsContexts, DrivesContexts, context_bits, RunsByContexts}
 use Rattle.plan_waves.specs.ShownContexts.{ShowsEachContext, ShowsContextBits}
 use Rattle.plan_waves.proofs.RunningContexts.{free_dark, inputs_of_contexts, plans_run_by_contexts}
@@ -84,17 +84,17 @@ plans_show_contexts library law plan h due starts lit d s = record {
     bit_of column l c t = bit_on (after_columns (take column plan.columns) (context_bits plan due starts c t)) l
 
     in_cycle : (column l c t : ℕ) → c < length starts → column ≤ length plan.columns → l < plan.lanes
-        → edges (c + t * cycle_steps plan + column) (Beside (plan.latches + column) l) ≡ bit_of column l c t
+        → edges (c + t * cycle_tiles plan + column) (Beside (plan.latches + column) l) ≡ bit_of column l c t
     in_cycle column l c t among within low =
-        sym (bit_on-bits_at plan column (edges (c + t * cycle_steps plan + column)) l low) ∙ ap (λ bits. bit_on bits l) (runs.lit c t column among within)
+        sym (bit_on-bits_at plan column (edges (c + t * cycle_tiles plan + column)) l low) ∙ ap (λ bits. bit_on bits l) (runs.lit c t column among within)
 
     edge_lit : (column l : ℕ) → column ≤ length plan.columns → l < plan.lanes → (m : ℕ)
-        → (edges m (Beside (plan.latches + column) l) ≡ true) → ((c : ℕ) × (t : ℕ) × (c < length starts) × (m ≡ c + t * cycle_steps plan + column) × (bit_of column l c t ≡ true))
+        → (edges m (Beside (plan.latches + column) l) ≡ true) → ((c : ℕ) × (t : ℕ) × (c < length starts) × (m ≡ c + t * cycle_tiles plan + column) × (bit_of column l c t ≡ true))
     edge_lit column l within low m bright =
         ⊎_elim
         (λ f. (f.0, f.1, f.2, f.3, sym (in_cycle column l f.0 f.1 f.2 within low) ∙ ap (λ n. edges n (Beside (plan.latches + column) l)) (sym f.3) ∙ bright))
         (λ none. absurd (true≢false (sym bright ∙ sym (bit_on-bits_at plan column (edges m) l low) ∙ ap (λ bits. bit_on bits l) (runs.dark m column within none) ∙ dark plan.lanes l)))
-        (find_context (length starts) m (cycle_steps plan) column)
+        (find_context (length starts) m (cycle_tiles plan) column)
 
     -- a cell that shows such an edge shows the bits on its lane
     edge_shows : (column l : ℕ) → column ≤ length plan.columns → l < plan.lanes → (cell : ℕ × ℕ) → ShowsEachStep plane cell 0 (λ m. edges m (Beside (plan.latches + column) l))
@@ -103,7 +103,7 @@ plans_show_contexts library law plan h due starts lit d s = record {
       λ head. (let lit = (shows g).0 head in
           let f = edge_lit column l within low lit.0 lit.2 in
           (f.0, f.1, f.2, omega (arith, lit.1, f.3, cycle_time plan f.1), f.4)),
-      λ b. (shows g).1 (b.0 + b.1 * cycle_steps plan + column, omega (arith, b.3, cycle_time plan b.1), in_cycle column l b.0 b.1 b.2 within low ∙ b.4),
+      λ b. (shows g).1 (b.0 + b.1 * cycle_tiles plan + column, omega (arith, b.3, cycle_time plan b.1), in_cycle column l b.0 b.1 b.2 within low ∙ b.4),
     )
 
     exit_shows : (column l : ℕ) → column < length plan.columns → l < plan.lanes
@@ -113,9 +113,9 @@ plans_show_contexts library law plan h due starts lit d s = record {
           λ seen. (let lit = head.0 seen in
               let f = edge_lit (column + 1) l (omega arith) low (suc lit.0) lit.2 in
               (f.0, f.1, f.2, omega (arith, lit.1, f.3, cycle_time plan f.1), f.4)),
-          λ b. (let later : suc (b.0 + b.1 * cycle_steps plan + column) ≡ b.0 + b.1 * cycle_steps plan + (column + 1) = omega arith in
+          λ b. (let later : suc (b.0 + b.1 * cycle_tiles plan + column) ≡ b.0 + b.1 * cycle_tiles plan + (column + 1) = omega arith in
               head.1 (
-                b.0 + b.1 * cycle_steps plan + column,
+                b.0 + b.1 * cycle_tiles plan + column,
                 omega (arith, b.3, cycle_time plan b.1),
                 ap (λ n. edges n (Beside (plan.latches + (column + 1)) l)) later ∙ in_cycle (column + 1) l b.0 b.1 b.2 (omega arith) low ∙ b.4,
               )),

@@ -10,10 +10,10 @@ use Rattle.lane_core.specs.Instrs.{bit_on}
 use Rattle.lane_core.specs.Columns.{after_columns}
 use Rattle.lane_core.specs.Plans.{IsAdmissible, left_of, row_of, period_of}
 use Rattle.lane_core.specs.Entering.{first_loop_lane, entering_bits}
+use Rattle.lane_core.specs.Tape.{cycle_tiles}
 use Rattle.plan_layout.specs.Layout.{tiling_of}
 use Rattle.plan_waves.specs.Waves.{bits_at, tiles_back}
 use Rattle.plan_waves.specs.WaysBack.{before_entry}
-use Rattle.plan_waves.specs.Cycles.{cycle_steps}
 
 -- how many contexts can start outside the body: as many as the way back of a loop has tiles, and without loops one
 abbrev pub contexts_on_ways : Plan → ℕ
@@ -45,8 +45,8 @@ context_bits plan due starts c t = entering_bits (first_loop_lane plan.lanes pla
 -- after that cycle's beginning as columns stand before; and they are dark at all other macro times.
 pub record RunsByContexts (plan : Plan) (due : Due) (starts : List (List Bool)) (edges : ℕ → Lit) : Type 0 where
   pub lit : (c t column : ℕ) → c < length starts → column ≤ length plan.columns
-      → bits_at plan column (edges (c + t * cycle_steps plan + column)) ≡ after_columns (take column plan.columns) (context_bits plan due starts c t)
-  pub dark : (m column : ℕ) → column ≤ length plan.columns → ((c t : ℕ) → c < length starts → m ≢ c + t * cycle_steps plan + column)
+      → bits_at plan column (edges (c + t * cycle_tiles plan + column)) ≡ after_columns (take column plan.columns) (context_bits plan due starts c t)
+  pub dark : (m column : ℕ) → column ≤ length plan.columns → ((c t : ℕ) → c < length starts → m ≢ c + t * cycle_tiles plan + column)
       → bits_at plan column (edges m) ≡ replicate plan.lanes false
 
 -- so it is of every admissible plan, from all edges on that start the contexts

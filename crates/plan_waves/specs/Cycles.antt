@@ -1,5 +1,6 @@
--- What a plan does from cycle to cycle: it is a machine whose state lies on the lanes of its loops.
-use Rattle.std.specs.Prelude.{ℕ, ◌+◌, ◌*◌, ◌≤◌, ◌≡◌, ◌==◌, cond, Bool, List, length, map, take}
+-- What a plan does from cycle to cycle: it is a machine whose state lies on the lanes of its loops. Signals go through one tile
+-- in each macro step, so a cycle has as many macro steps as tiles.
+use Rattle.std.specs.Prelude.{ℕ, ◌+◌, ◌*◌, ◌≤◌, ◌≡◌, Bool, List, length, map, take}
 use Rattle.std.specs.List.{range_with_len}
 use Rattle.tiling.specs.Tiling.{Lit}
 use Rattle.tiling.specs.Tiling.Edge.{Beside}
@@ -7,11 +8,8 @@ use Rattle.lane_core.specs.declared.plan.Plan.{Plan}
 use Rattle.lane_core.specs.Columns.{after_columns}
 use Rattle.lane_core.specs.Plans.{IsAdmissible}
 use Rattle.lane_core.specs.Entering.{first_loop_lane, entering_bits}
-use Rattle.plan_waves.specs.Waves.{GoesOn, bits_at, loop_entry, tiles_back}
-
--- macro steps from cycle to cycle: the tiles of a loop, in the body and on the way back; without loops one
-abbrev pub cycle_steps : Plan → ℕ
-cycle_steps plan = cond (plan.latches == 0) 1 (length plan.columns + tiles_back plan)
+use Rattle.lane_core.specs.Tape.{cycle_tiles}
+use Rattle.plan_waves.specs.Waves.{GoesOn, bits_at, loop_entry}
 
 -- the bits that enter the body on the lanes that no loop enters, and on those of loops
 abbrev pub free_bits : Plan → Lit → List Bool
@@ -25,5 +23,5 @@ loop_bits plan lit = map (λ loop. lit (loop_entry plan loop)) (range_with_len 0
 abbrev pub EdgesRunByCycles : Type 0
 EdgesRunByCycles =
     (plan : Plan) → IsAdmissible plan → (edges : ℕ → Lit) → GoesOn plan edges → (first t c : ℕ) → c ≤ length plan.columns
-    → bits_at plan c (edges (first + t * cycle_steps plan + c))
-    ≡ after_columns (take c plan.columns) (entering_bits (first_loop_lane plan.lanes plan.latches) plan.columns (λ i. free_bits plan (edges (first + i * cycle_steps plan))) (loop_bits plan (edges first)) t)
+    → bits_at plan c (edges (first + t * cycle_tiles plan + c))
+    ≡ after_columns (take c plan.columns) (entering_bits (first_loop_lane plan.lanes plan.latches) plan.columns (λ i. free_bits plan (edges (first + i * cycle_tiles plan))) (loop_bits plan (edges first)) t)

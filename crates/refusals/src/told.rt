@@ -5,6 +5,7 @@ ghost use Rattle.std.specs.Io.KnownBytes.{Appends};
 ghost use Rattle.ww_base.specs.Faults.{HasCause};
 ghost use Rattle.ww_base.specs.Pages.{held};
 ghost use Rattle.ww_base.specs.Progress.{Wrote, Broke};
+ghost use Rattle.refusals.specs.Tells.{Tells};
 ghost use Rattle.refusals.specs.Refusals.{rle_fault_name, port_fault_name, start_fault_name, stream_fault_name, circuit_fault_name, circuit_line, fault_line, stream_line, fault_text, netlist_line, after_blanks, loop_line, aig_fault_text, aig_fault_line, spaced_numbers, aig_loop_line, cause_line, refusal_line};
 
 use crate::causes::Cause;
@@ -88,10 +89,8 @@ fn circuit_fault_name(fault: CircuitFault) -> &'static [u8]
 
 // Tells a fault and its line.
 fn tell_fault<E: Sink>(err: &mut E, name: &[u8], line: u64) -> Result<(), Failed>
-    ensures ok { OnOk result (Appends (E.written err.old) (E.written err.new) (fault_line name.now line)) }
-    ensures front { OnErr result
-        ((n : ℕ) × Appends (E.written err.old) (E.written err.new) (take n (fault_line name.now line))) }
-    ensures cause { HasCause (E.faults err.old) (E.faults err.new) result }
+    ensures { Tells (fault_line name.now line)
+        (E.written err.old) (E.written err.new) (E.faults err.old) (E.faults err.new) result }
 {
     let mut digits = Buffer::new();
     write_pieces(
@@ -102,12 +101,8 @@ fn tell_fault<E: Sink>(err: &mut E, name: &[u8], line: u64) -> Result<(), Failed
 
 // Tells the box that has too many cells.
 fn tell_grid<E: Sink>(err: &mut E, width: u64, height: u64) -> Result<(), Failed>
-    ensures ok { OnOk result
-        (Appends (E.written err.old) (E.written err.new) (cause_line (Cause.GridTooLarge width height))) }
-    ensures front { OnErr result
-        ((n : ℕ) × Appends (E.written err.old) (E.written err.new)
-        (take n (cause_line (Cause.GridTooLarge width height)))) }
-    ensures cause { HasCause (E.faults err.old) (E.faults err.new) result }
+    ensures { Tells (cause_line (Cause.GridTooLarge width height))
+        (E.written err.old) (E.written err.new) (E.faults err.old) (E.faults err.new) result }
 {
     let mut columns = Buffer::new();
     let mut rows = Buffer::new();
@@ -118,11 +113,8 @@ fn tell_grid<E: Sink>(err: &mut E, width: u64, height: u64) -> Result<(), Failed
 
 // Tells how many generations are too many.
 fn tell_generations<E: Sink>(err: &mut E, generations: u128) -> Result<(), Failed>
-    ensures ok { OnOk result
-        (Appends (E.written err.old) (E.written err.new) (cause_line (Cause.TooFar generations))) }
-    ensures front { OnErr result
-        ((n : ℕ) × Appends (E.written err.old) (E.written err.new) (take n (cause_line (Cause.TooFar generations)))) }
-    ensures cause { HasCause (E.faults err.old) (E.faults err.new) result }
+    ensures { Tells (cause_line (Cause.TooFar generations))
+        (E.written err.old) (E.written err.new) (E.faults err.old) (E.faults err.new) result }
 {
     let mut digits = Buffer::new();
     let count = digits.format(generations).as_bytes();
@@ -131,12 +123,8 @@ fn tell_generations<E: Sink>(err: &mut E, generations: u128) -> Result<(), Faile
 
 // Tells an injection that meets no conductor.
 fn tell_miss<E: Sink>(err: &mut E, generation: u64, x: u64, y: u64) -> Result<(), Failed>
-    ensures ok { OnOk result
-        (Appends (E.written err.old) (E.written err.new) (cause_line (Cause.NotQuiet generation x y))) }
-    ensures front { OnErr result
-        ((n : ℕ) × Appends (E.written err.old) (E.written err.new)
-        (take n (cause_line (Cause.NotQuiet generation x y)))) }
-    ensures cause { HasCause (E.faults err.old) (E.faults err.new) result }
+    ensures { Tells (cause_line (Cause.NotQuiet generation x y))
+        (E.written err.old) (E.written err.new) (E.faults err.old) (E.faults err.new) result }
 {
     let mut digits = Buffer::new();
     let mut columns = Buffer::new();
@@ -160,26 +148,16 @@ fn tell_miss<E: Sink>(err: &mut E, generation: u64, x: u64, y: u64) -> Result<()
 
 // Tells why a pattern is no circuit.
 fn tell_circuit<E: Sink>(err: &mut E, fault: CircuitFault) -> Result<(), Failed>
-    ensures ok { OnOk result (
-        Appends (E.written err.old) (E.written err.new) (
-        circuit_line (circuit_fault_name fault)
-        )
-        ) }
-    ensures front { OnErr result
-        ((n : ℕ) × Appends (E.written err.old) (E.written err.new) (take n (circuit_line (circuit_fault_name fault)))) }
-    ensures cause { HasCause (E.faults err.old) (E.faults err.new) result }
+    ensures { Tells (circuit_line (circuit_fault_name fault))
+        (E.written err.old) (E.written err.new) (E.faults err.old) (E.faults err.new) result }
 {
     write_pieces(err, &[b"not a circuit: ", circuit_fault_name(fault), b"\n"])
 }
 
 // Tells how many contexts are too many.
 fn tell_contexts<E: Sink>(err: &mut E, contexts: u64, limit: u64) -> Result<(), Failed>
-    ensures ok { OnOk result
-        (Appends (E.written err.old) (E.written err.new) (cause_line (Cause.TooManyContexts contexts limit))) }
-    ensures front { OnErr result
-        ((n : ℕ) × Appends (E.written err.old) (E.written err.new)
-        (take n (cause_line (Cause.TooManyContexts contexts limit)))) }
-    ensures cause { HasCause (E.faults err.old) (E.faults err.new) result }
+    ensures { Tells (cause_line (Cause.TooManyContexts contexts limit))
+        (E.written err.old) (E.written err.new) (E.faults err.old) (E.faults err.new) result }
 {
     let mut digits = Buffer::new();
     let mut limits = Buffer::new();
@@ -193,12 +171,8 @@ fn tell_contexts<E: Sink>(err: &mut E, contexts: u64, limit: u64) -> Result<(), 
 
 // Tells a fault of streams or of start words, and the word at fault.
 fn tell_streams<'a, E: Sink>(err: &mut E, name: &'a [u8], word: &'a [u8]) -> Result<(), Failed>
-    ensures ok { OnOk result (
-        Appends (E.written err.old) (E.written err.new) (stream_line name.now word.now)
-        ) }
-    ensures front { OnErr result
-        ((n : ℕ) × Appends (E.written err.old) (E.written err.new) (take n (stream_line name.now word.now))) }
-    ensures cause { HasCause (E.faults err.old) (E.faults err.new) result }
+    ensures { Tells (stream_line name.now word.now)
+        (E.written err.old) (E.written err.new) (E.faults err.old) (E.faults err.new) result }
 {
     write_pieces(err, &[b"stream: ", name, b" ", word, b"\n"])
 }
@@ -211,12 +185,8 @@ fn write_fault<'a, E: Sink>(
     line: &'a [u8],
     word: &'a [u8],
 ) -> Result<(), Failed>
-    ensures ok { OnOk result
-        (Appends (E.written err.old) (E.written err.new) (fault_text number.now name.now line.now word.now)) }
-    ensures front { OnErr result
-        ((n : ℕ) × Appends (E.written err.old) (E.written err.new)
-        (take n (fault_text number.now name.now line.now word.now))) }
-    ensures cause { HasCause (E.faults err.old) (E.faults err.new) result }
+    ensures { Tells (fault_text number.now name.now line.now word.now)
+        (E.written err.old) (E.written err.new) (E.faults err.old) (E.faults err.new) result }
 {
     write_pieces(
         err,
@@ -228,10 +198,8 @@ fn write_fault<'a, E: Sink>(
 
 // Tells a fault of a netlist's text.
 fn tell_netlist_fault<E: Sink>(err: &mut E, fault: &Fault) -> Result<(), Failed>
-    ensures ok { OnOk result (Appends (E.written err.old) (E.written err.new) (netlist_line fault.now)) }
-    ensures front { OnErr result
-        ((n : ℕ) × Appends (E.written err.old) (E.written err.new) (take n (netlist_line fault.now))) }
-    ensures cause { HasCause (E.faults err.old) (E.faults err.new) result }
+    ensures { Tells (netlist_line fault.now)
+        (E.written err.old) (E.written err.new) (E.faults err.old) (E.faults err.new) result }
 {
     let mut digits = Buffer::new();
     let mut lines = Buffer::new();
@@ -248,22 +216,16 @@ fn write_aig_fault<'a, E: Sink>(
     name: &'a [u8],
     line: &'a [u8],
 ) -> Result<(), Failed>
-    ensures ok { OnOk result
-        (Appends (E.written err.old) (E.written err.new) (aig_fault_text number.now name.now line.now)) }
-    ensures front { OnErr result
-        ((n : ℕ) × Appends (E.written err.old) (E.written err.new)
-        (take n (aig_fault_text number.now name.now line.now))) }
-    ensures cause { HasCause (E.faults err.old) (E.faults err.new) result }
+    ensures { Tells (aig_fault_text number.now name.now line.now)
+        (E.written err.old) (E.written err.new) (E.faults err.old) (E.faults err.new) result }
 {
     write_pieces(err, &[b"A", number, b" ", name, b" line ", line, b"\n"])
 }
 
 // Tells a fault of a circuit's text.
 fn tell_aig_fault<E: Sink>(err: &mut E, fault: AigFault) -> Result<(), Failed>
-    ensures ok { OnOk result (Appends (E.written err.old) (E.written err.new) (aig_fault_line fault)) }
-    ensures front { OnErr result
-        ((n : ℕ) × Appends (E.written err.old) (E.written err.new) (take n (aig_fault_line fault))) }
-    ensures cause { HasCause (E.faults err.old) (E.faults err.new) result }
+    ensures { Tells (aig_fault_line fault)
+        (E.written err.old) (E.written err.new) (E.faults err.old) (E.faults err.new) result }
 {
     let mut digits = Buffer::new();
     let mut lines = Buffer::new();
@@ -275,12 +237,8 @@ fn tell_aig_fault<E: Sink>(err: &mut E, fault: AigFault) -> Result<(), Failed>
 
 // Tells that a netlist weighs too much.
 fn tell_weight<E: Sink>(err: &mut E, weight: u64) -> Result<(), Failed>
-    ensures ok { OnOk result
-        (Appends (E.written err.old) (E.written err.new) (cause_line (Cause.WeightTooLarge weight))) }
-    ensures front { OnErr result
-        ((n : ℕ) × Appends (E.written err.old) (E.written err.new)
-        (take n (cause_line (Cause.WeightTooLarge weight)))) }
-    ensures cause { HasCause (E.faults err.old) (E.faults err.new) result }
+    ensures { Tells (cause_line (Cause.WeightTooLarge weight))
+        (E.written err.old) (E.written err.new) (E.faults err.old) (E.faults err.new) result }
 {
     let mut digits = Buffer::new();
     let mut limits = Buffer::new();

@@ -1,9 +1,9 @@
 -- What the rows of a tape drive: the tape has room for them, and its bits are what is due.
-use Rattle.std.proofs.Common.{◌≡◌, ◌≢◌, refl, sym, ◌∙◌, ap, ap₂, ℤ, pos, ℕ, ◌+◌, ◌-◌, ◌*◌, ◌/◌, ◌%◌, ◌<◌, ◌≤◌, Bool, true, false, cond, ⊎_elim, List, [], length, get_or, arith}
+use Rattle.std.proofs.Common.{◌≡◌, sym, ◌∙◌, ap, ap₂, ℤ, pos, ℕ, ◌-◌, ◌*◌, ◌/◌, ◌%◌, ◌<◌, ◌≤◌, Bool, true, false, ⊎_elim, List, [], length, get_or, arith}
 use Rattle.std.specs.Prelude.{◌==◌, unwrap_or, slice_get}
 use Rattle.std.specs.Cmp.{both_ways as same_bit}
 use Rattle.std.specs.List.{list_any}
-use Rattle.std.proofs.lemmas.Bool.{true≢false, false_from_ne_true, cases_lt, and_parts, and_from, eqb-true, eqb-false, eq-eqb}
+use Rattle.std.proofs.lemmas.Bool.{true≢false, false_from_ne_true, cases_eq, cases_lt, and_parts, and_from, eqb-true, eq-eqb}
 use Rattle.std.proofs.lemmas.Int.{ints}
 use Rattle.std.proofs.lemmas.List.{get_or-map, get_or_past, length-map}
 use Rattle.std.proofs.lemmas.List.Elements.{All-get_or}
@@ -15,9 +15,8 @@ use Rattle.ww_rule.proofs.Streams.{streams_injected}
 use Rattle.lane_core.specs.declared.plan.Plan.{Plan}
 use Rattle.lane_core.specs.Plans.{IsAdmissible, left_of, row_of, period_of, input_cells}
 use Rattle.lane_core.specs.Entering.{lane_bit}
-use Rattle.plan_waves.specs.Cycles.{cycle_steps}
-use Rattle.plan_waves.specs.Waves.{DrivesInputs, tiles_back}
-use Rattle.plan_waves.proofs.CycleSteps.{period_is, cycle_time}
+use Rattle.plan_waves.specs.Waves.{DrivesInputs}
+use Rattle.plan_waves.proofs.CycleTiles.{tiles_with_loops, tiles_without, cycle_time}
 use Rattle.plan_waves.proofs.InputCells.{lane_of_input, input_of_lane, input_cell}
 use Rattle.lane_core.specs.Tape.{HasFittingTape, tape_cycles, tape_row, tape_rows, cycle_tiles, tape_tiles, tape_shift, tape_bit}
 use Rattle.tape_waves.specs.Tape.{drive_of_rows, is_due_on}
@@ -63,10 +62,6 @@ rows_drive plan h rows = record {
   at_free_entries = λ g x y e. (let bit = due_bit plan rows g x y e in (get_or plan.ins bit.input 0, h.ins.below bit.input 0 bit.within, bit.column, bit.line));
 }
 
--- tiles from cycle to cycle
-tiles_are : (plan : Plan) → cycle_tiles plan ≡ cycle_steps plan
-tiles_are plan = omega (arith, period_is plan)
-
 rows_many : (plan : Plan) → length (tape_rows plan) ≡ tape_cycles plan
 rows_many plan = length-map-range_with_len (tape_row plan) 0 (tape_cycles plan)
 
@@ -86,10 +81,9 @@ tapes_fit plan = record { room = omega arith; on_inputs = on_inputs; within = wi
     within : (m lane : ℕ) → tape_tiles plan < m → is_due_on plan (drive_of_rows plan (tape_rows plan)) (32 * m) lane ≡ false
     within m lane late =
         false_from_ne_true _ (λ e. (let bit = due_bit plan (tape_rows plan) (32 * m) (pos (left_of plan 0)) (pos (row_of lane)) e in
-        let same : m ≡ bit.cycle * cycle_steps plan = omega (arith, bit.time, cycle_time plan bit.cycle) in
-        let long : tape_tiles plan ≡ (tape_cycles plan - 1) * cycle_steps plan = ap (λ n. (tape_cycles plan - 1) * n) (tiles_are plan) in
-        let most : bit.cycle * cycle_steps plan ≤ (tape_cycles plan - 1) * cycle_steps plan = mul-le-mul_right (cycle_steps plan) (omega (arith, bit.early, rows_many plan)) in
-        absurd (omega (arith, late, long, same, most))))
+        let same : m ≡ bit.cycle * cycle_tiles plan = omega (arith, bit.time, cycle_time plan bit.cycle) in
+        let most : bit.cycle * cycle_tiles plan ≤ (tape_cycles plan - 1) * cycle_tiles plan = mul-le-mul_right (cycle_tiles plan) (omega (arith, bit.early, rows_many plan)) in
+        absurd (omega (arith, late, same, most))))
 
 -- the bits of the tape are those of its rows
 module _ (plan : Plan) (fits : HasFittingTape plan) where
@@ -110,14 +104,11 @@ module _ (plan : Plan) (fits : HasFittingTape plan) where
   row_at cycle early = get_or-map-range_with_len (tape_row plan) 0 (tape_cycles plan) cycle cycle [] early (omega arith)
 
   some_tiles : 0 < cycle_tiles plan
-  some_tiles = omega (arith, tiles_are plan, some_steps (plan.latches == 0) (length plan.columns + tiles_back plan) (λ none. loop_tiles (eqb-false plan.latches 0 none)))
-    where
-      some_steps : (none : Bool) (n : ℕ) → (none ≡ false → 0 < n) → 0 < cond none 1 n
-      some_steps true n some = omega arith
-      some_steps false n some = some refl
-
-      loop_tiles : plan.latches ≢ 0 → 0 < length plan.columns + tiles_back plan
-      loop_tiles some = omega (arith, some)
+  some_tiles =
+      ⊎_elim
+      (λ none. omega (arith, tiles_without plan none))
+      (λ some. omega (arith, tiles_with_loops plan (omega (arith, some)), some))
+      (cases_eq plan.latches 0)
 
   pub tape_is_due : (tiles lane : ℕ) → tape_bit plan tiles lane ≡ is_due_on plan (drive_of_rows plan (tape_rows plan)) (32 * tiles) lane
   tape_is_due tiles lane = same_bit _ _ to from
@@ -130,11 +121,10 @@ module _ (plan : Plan) (fits : HasFittingTape plan) where
           let cell = input_cell plan input.0 input.1 in
           let whole : tiles % cycle_tiles plan ≡ 0 = eqb-true (tiles % cycle_tiles plan) 0 parts.0 in
           let time : cycle * cycle_tiles plan ≡ tiles = omega (arith, div-add-mod tiles (cycle_tiles plan), whole, mul_comm (cycle_tiles plan) cycle) in
-          let steps : cycle * cycle_tiles plan ≡ cycle * cycle_steps plan = ap (λ n. cycle * n) (tiles_are plan) in
           (streams_injected (period_of plan) (input_cells plan) (tape_rows plan) (32 * tiles) (pos (left_of plan 0)) (pos (row_of lane))).1 (record {
             cycle = cycle;
             input = input.0;
-            in_time = omega (arith, time, steps, cycle_time plan cycle);
+            in_time = omega (arith, time, cycle_time plan cycle);
             in_cells = omega (arith, input.1, cells_long plan);
             one = ap (λ row. get_or row input.0 false) (row_at cycle (bit_early cycle input.0 input.3)) ∙ input.3;
             column = ap (λ c. pos c.0) cell;
@@ -144,8 +134,7 @@ module _ (plan : Plan) (fits : HasFittingTape plan) where
       from : is_due_on plan (drive_of_rows plan (tape_rows plan)) (32 * tiles) lane ≡ true → tape_bit plan tiles lane ≡ true
       from e =
           let bit = due_bit plan (tape_rows plan) (32 * tiles) (pos (left_of plan 0)) (pos (row_of lane)) e in
-          let steps : bit.cycle * cycle_tiles plan ≡ bit.cycle * cycle_steps plan = ap (λ n. bit.cycle * n) (tiles_are plan) in
-          let time : tiles ≡ bit.cycle * cycle_tiles plan = omega (arith, bit.time, steps, cycle_time plan bit.cycle) in
+          let time : tiles ≡ bit.cycle * cycle_tiles plan = omega (arith, bit.time, cycle_time plan bit.cycle) in
           let whole : tiles % cycle_tiles plan ≡ 0 = ap (λ n. n % cycle_tiles plan) time ∙ mul-mod_left bit.cycle (cycle_tiles plan) in
           let cycle : tiles / cycle_tiles plan ≡ bit.cycle = ap (λ n. n / cycle_tiles plan) time ∙ mul-div_cancel bit.cycle some_tiles in
           let one : get_or (tape_row plan bit.cycle) bit.input false ≡ true = sym (ap (λ row. get_or row bit.input false) (row_at bit.cycle (omega (arith, bit.early, rows_many plan)))) ∙ bit.one in

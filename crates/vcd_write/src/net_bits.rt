@@ -10,7 +10,7 @@ use crate::due_bits::Raster;
 use crate::first_bits::sorted_first_bits;
 use crate::packed_bits::PackedBits;
 use crate::reading::read_bits;
-use drive::{CONTEXT_GENERATIONS, Run, SimulateError};
+use drive::{Run, SimulateError, last_from};
 use pattern_reading::{NetLine, Ports};
 use std::alloc::Global;
 use streams::Streams;
@@ -36,9 +36,7 @@ pub fn last_of_all_nets(ports: &Ports, streams: &Streams) -> u128
     if nets.is_empty() {
         return 0;
     }
-    let before_last = CONTEXT_GENERATIONS as u128 * (ports.c as u128 - 1)
-        + (streams.cycles as u128 - 1) * ports.p as u128;
-    greatest_offset(nets) as u128 + before_last
+    last_from(greatest_offset(nets), ports, streams)
 }
 
 /// The raster of so many variables, if memory could have places for all bits.

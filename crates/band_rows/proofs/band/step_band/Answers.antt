@@ -8,7 +8,7 @@ use Rattle.band_rows.specs.Rows.{AreLong, IsDarkRow, row_heads, row_tails, row_w
 use Rattle.band_rows.proofs.Parts.{IsParted, parted, many as many_parts, at_before, at_own, at_after, put_together, mapped}
 use Rattle.band_rows.proofs.Bands.{field, other, same, held, above_shows, below_shows, heads_shown, as_num, shows_same}
 use Rattle.band_rows.proofs.Far.{span_dark, unlit_row, unmarked}
-use Rattle.band_rows.proofs.Moved.{AreMoved, jumped, none_moved}
+use Rattle.band_rows.proofs.Moved.{AreRowsMoved, jumped, none_moved}
 use Rattle.lane_kernel.proofs.Places.{row_steps}
 use Rattle.band_rows.proofs.band.step_band.Goals as goal
 use Rattle.band_rows.proofs.band.step_band.Goals.{After-split_at_mut-own}
@@ -117,7 +117,7 @@ loop-r-preserved c =
     let old_row_tails : row_tails old r ≡ row.tails.items = sym (v.left_tails r (omega arith)) ∙ was (λ row. row.tails.items) in
     let old_row_wires : row_wires old r ≡ row.wires.items = sym (v.left_wires r (omega arith)) ∙ was (λ row. row.wires.items) in
     let marks = c.mark_row.new.marks in
-    let moved : AreMoved c.args.up.now c.args.down.now marks old new (r + 1) =
+    let moved : AreRowsMoved c.args.up.now c.args.down.now marks old new (r + 1) =
     record {
       many = omega (arith, many, at);
       long = λ k h.
@@ -216,7 +216,7 @@ returns-clause-steps c p y west shown up down k h =
     v.done p y west shown up down k (omega (arith, h, end)) (omega (arith, h, many))
 
 pub returns-clause-tails : goal.returns-clause-tails
-returns-clause-tails c k j h =
+returns-clause-tails c k h j =
     let v = c.loop-r.invariant.moved in
     let many = v.many in
     let end = c.loop-r-test.false in

@@ -50,12 +50,12 @@ returns-clause-row c =
     let span = c.trimmed.ensures in
     record {
       within = span.within;
-      long_tails = sym e.long_tails;
-      long_wires = e.long_wires ∙ sym e.long_tails;
+      long_tails = sym e.stepped.long_heads;
+      long_wires = e.stepped.long_wires ∙ sym e.stepped.long_heads;
       dark_heads = span.heads;
       dark_tails = span.tails;
       apart = stepped_apart c.args.above.now c.args.heads.now c.args.below.now c.args.tails.now c.args.wires.now new.tails c.args.heads.now new.wires
-          (λ j. (c.type_inv.above j).fits) (λ j. (c.type_inv.heads j).fits) (λ j. (c.type_inv.below j).fits) e.heads (λ j. refl) e.wires c.requires.apart;
+          (λ j. (c.type_inv.above j).fits) (λ j. (c.type_inv.heads j).fits) (λ j. (c.type_inv.below j).fits) e.stepped.heads_are (λ j. refl) e.stepped.wires_are c.requires.apart;
     }
 
 pub returns-clause-cells : goal.returns-clause-cells
@@ -63,4 +63,4 @@ returns-clause-cells c =
     let e = c.step_span.ensures in
     let new = c.step_span.new in
     stepped_cells c.args.above.now c.args.heads.now c.args.below.now c.args.tails.now c.args.wires.now new.tails c.args.heads.now new.wires
-    (λ j. (c.type_inv.above j).fits) (λ j. (c.type_inv.heads j).fits) (λ j. (c.type_inv.below j).fits) e.heads (λ j. refl) e.wires c.requires.apart
+    (λ j. (c.type_inv.above j).fits) (λ j. (c.type_inv.heads j).fits) (λ j. (c.type_inv.below j).fits) e.stepped.heads_are (λ j. refl) e.stepped.wires_are c.requires.apart

@@ -1,7 +1,7 @@
-use Rattle.std.proofs.Common.{◌≡◌, ℕ, ◌/◌, ◌%◌, ◌<◌, false, get_or}
 use Rattle.tiling.specs.Tiling.Edge.{Beside}
 use Rattle.plan_layout.specs.Tape.{drawn_edges}
+use Rattle.macro_grid.specs.Edges.{TellEdges}
 use Rattle.macro_grid.proofs.edges.light_beside.Given as goal
 
 abbrev pub invariant-loop-i : goal.invariant-loop-i
-invariant-loop-i l = (k : ℕ) → k < l.i → get_or l.bits k false ≡ drawn_edges l.plan (Beside (k / l.lanes) (k % l.lanes))
+invariant-loop-i l = TellEdges l.i l.lanes Beside l.bits (drawn_edges l.plan)
