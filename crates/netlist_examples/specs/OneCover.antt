@@ -6,7 +6,7 @@ use Rattle.netlist_core.specs.declared.model.Cover.{Cover}
 use Rattle.netlist_core.specs.Names.{Name, port_names}
 use Rattle.netlist_meaning.specs.CoverValue.{cover_value}
 use Rattle.netlist_meaning.specs.Valuation.{Valuation, IsRun, output_bits}
-use Rattle.one_cover.specs.Parts.{ports_with, cover_with, design_with}
+use Rattle.netlist_examples.specs.Parts.{ports_with, cover_with, design_with}
 
 -- .model or / .inputs a b / .outputs y / .names a b y / 1- 1 / -1 1 / .end
 abbrev pub or_main : Model

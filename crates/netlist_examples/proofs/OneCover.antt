@@ -9,8 +9,8 @@ use Rattle.netlist_meaning.specs.Places.{Place, model_at, main_inputs, main_outp
 use Rattle.netlist_meaning.specs.Nets.{Net, IsControl, IsInNames}
 use Rattle.netlist_meaning.specs.CoverValue.{cover_value}
 use Rattle.netlist_meaning.specs.Valuation.{Valuation, LatchState, IsValuation, IsRun, latches_in, start_state, output_bits}
-use Rattle.one_cover.specs.OneCover.{or_main, or_design, IsOneCover, Computes, OneCoverComputes, or_cover_rows, OneCoverComputesOr, OneCoverComputesNand}
-use Rattle.one_cover.specs.Parts.{cover_with}
+use Rattle.netlist_examples.specs.OneCover.{or_main, or_design, IsOneCover, Computes, OneCoverComputes, or_cover_rows, OneCoverComputesOr, OneCoverComputesNand}
+use Rattle.netlist_examples.specs.Parts.{cover_with}
 use Rattle.lists.proofs.Names.{bytes_eq-same, bytes_eq-other, apart_by}
 use Rattle.netlist_meaning.proofs.Names.{contains-one}
 use Rattle.netlist_meaning.proofs.SingleModel.{IsFlat, model_at-main, model_at-flat, joined-flat, no_latch-flat, all_in_names}
