@@ -2,7 +2,7 @@
 use Rattle.std.specs.Prelude.{ℕ, zero, suc, ◌+◌, ◌-◌, ◌/◌, ◌%◌, ◌==◌, Bool, ◌||◌, not, if◌then◌else◌, List, [], ◌∷◌, ◌++◌, length, map, flat_map, get_or}
 use Rattle.std.specs.List.{range_with_len}
 use Rattle.pattern_writing.specs.Writer.{ended_lines}
-use Rattle.vcd_text.specs.Reading.{VcdVar, VcdValue, VcdBlock, VcdForm, form_lines}
+use Rattle.vcd_write.specs.Reading.{VcdVar, VcdValue, VcdBlock, VcdForm, form_lines}
 
 -- variables by their references, and the bit of each in each cycle
 pub record Waves : Type 0 where

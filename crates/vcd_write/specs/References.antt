@@ -3,7 +3,7 @@
 use Rattle.std.specs.Prelude.{◌≢◌, ◌<◌, ℕ, ◌==◌, ◌&&◌, not, Bool, List, [], All}
 use Rattle.std.specs.Str.{byte}
 use Rattle.pattern_reading.specs.Escapes.{escaped, is_plain_in_name}
-use Rattle.vcd_text.specs.Reading.{IsWord}
+use Rattle.vcd_write.specs.Reading.{IsWord}
 
 abbrev pub is_plain_in_reference : ℕ → Bool
 is_plain_in_reference b = is_plain_in_name b && not (b == byte "$")

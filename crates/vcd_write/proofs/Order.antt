@@ -6,12 +6,12 @@ use Rattle.std.specs.Str.{bytes_eq}
 use Rattle.std.proofs.lemmas.List.FromFn.{length-map-range_with_len, get_or-map-range_with_len}
 use Rattle.std.proofs.lemmas.List.Folds.{list_any_at}
 use Rattle.lists.proofs.Names.{bytes_eq-same}
-use Rattle.vcd_text.specs.Reading.{VcdVar, VcdValue, VcdBlock, ReadsAsVcd, last_time_after, IsWord, AreRising, BeginsAtZero, has_id, IsInOrder}
-use Rattle.vcd_text.specs.Writing.{Waves, vcd_id, var_of, is_written, value_of, block_of, last_block, vcd_form, vcd_text}
-use Rattle.vcd_text.specs.Laws.{TextsSayWaves}
-use Rattle.vcd_text.proofs.OneForm.{reads_as_one_form}
-use Rattle.vcd_text.proofs.Ids.{ids_are_distinct, digits_are_words}
-use Rattle.vcd_text.proofs.Values.{bit_is}
+use Rattle.vcd_write.specs.Reading.{VcdVar, VcdValue, VcdBlock, ReadsAsVcd, last_time_after, IsWord, AreRising, BeginsAtZero, has_id, IsInOrder}
+use Rattle.vcd_write.specs.Writing.{Waves, vcd_id, var_of, is_written, value_of, block_of, last_block, vcd_form, vcd_text}
+use Rattle.vcd_write.specs.Laws.{TextsSayWaves}
+use Rattle.vcd_write.proofs.OneForm.{reads_as_one_form}
+use Rattle.vcd_write.proofs.Ids.{ids_are_distinct, digits_are_words}
+use Rattle.vcd_write.proofs.Values.{bit_is}
 
 word_at : (words : List (List ℕ)) (k : ℕ) → AllByRecursion IsWord words → k < length words → IsWord (get_or words k [])
 word_at [] k all within = absurd (omega arith)

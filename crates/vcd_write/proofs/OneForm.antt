@@ -10,8 +10,8 @@ use Rattle.std.proofs.lemmas.Fmt.{decimal_injective, decimal_is_IsNumeral}
 use Rattle.std.proofs.lemmas.Str.Parse.{digit_from_value}
 use Rattle.std.proofs.lemmas.Slice.Eq.{bytes_eq-Decides}
 use Rattle.pattern_writing.specs.Writer.{ended_lines}
-use Rattle.vcd_text.specs.Reading.{VcdVar, VcdValue, VcdBlock, VcdForm, IsWord, IsInOrder, has_id, var_line, last_definition, time_line, value_line, block_lines, form_lines}
-use Rattle.vcd_text.specs.Laws.{ReadsAsOneForm}
+use Rattle.vcd_write.specs.Reading.{VcdVar, VcdValue, VcdBlock, VcdForm, IsWord, IsInOrder, has_id, var_line, last_definition, time_line, value_line, block_lines, form_lines}
+use Rattle.vcd_write.specs.Laws.{ReadsAsOneForm}
 
 -- none of the bytes is this one
 abbrev Lacks : ℕ → List ℕ → Type 0

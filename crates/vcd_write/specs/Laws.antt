@@ -1,8 +1,8 @@
 -- Laws of VCD texts.
 use Rattle.std.specs.Prelude.{◌≡◌, ◌<◌, ◌^◌, ℕ, List, length, Some}
 use Rattle.std.specs.List.{AllByRecursion}
-use Rattle.vcd_text.specs.Reading.{VcdForm, IsWord, ReadsAsVcd, last_time, value_at}
-use Rattle.vcd_text.specs.Writing.{Waves, vcd_form, vcd_id, vcd_text}
+use Rattle.vcd_write.specs.Reading.{VcdForm, IsWord, ReadsAsVcd, last_time, value_at}
+use Rattle.vcd_write.specs.Writing.{Waves, vcd_form, vcd_id, vcd_text}
 
 -- A text reads as one form.
 abbrev pub ReadsAsOneForm : Type 0

@@ -6,7 +6,7 @@ use Rattle.std.specs.Fmt.{digit_glyph}
 use Rattle.std.proofs.lemmas.Bool.{and_parts, leb-true, ltb-true}
 use Rattle.std.proofs.lemmas.List.Elements.{All-head, All-tail}
 use Rattle.pattern_reading.specs.Escapes.{escaped_byte}
-use Rattle.vcd_text.specs.References.{is_plain_in_reference, escaped_reference, ReferencesAreWords}
+use Rattle.vcd_write.specs.References.{is_plain_in_reference, escaped_reference, ReferencesAreWords}
 
 abbrev IsShown : ℕ → Type 0
 IsShown b = (33 ≤ b) × (b ≤ 126)

@@ -1,6 +1,6 @@
-use Rattle.vcd_text.proofs.Alike.{same_waves_are_written_alike}
-use Rattle.vcd_text.proofs.Order.{texts_say_waves}
-use Rattle.vcd_text.proofs.texts_say_waves.Goals as goal
+use Rattle.vcd_write.proofs.Alike.{same_waves_are_written_alike}
+use Rattle.vcd_write.proofs.Order.{texts_say_waves}
+use Rattle.vcd_write.proofs.laws.texts_say_waves.Goals as goal
 
 pub returns-clause-says : goal.returns-clause-says
 returns-clause-says c = texts_say_waves

@@ -3,9 +3,9 @@ use Rattle.std.proofs.Common.{◌≡◌, refl, ◌∙◌, ap, ap₂, ℕ, zero, 
 use Rattle.std.specs.Prelude.{◌==◌}
 use Rattle.std.specs.List.{range_with_len}
 use Rattle.pattern_writing.specs.Writer.{ended_lines}
-use Rattle.vcd_text.specs.Reading.{VcdBlock, form_lines}
-use Rattle.vcd_text.specs.Writing.{Waves, vcd_id, are_other, value_of, values_at, var_of, block_of, last_block, vcd_form}
-use Rattle.vcd_text.specs.Laws.{AreSameWaves, SameWavesAreWrittenAlike}
+use Rattle.vcd_write.specs.Reading.{VcdBlock, form_lines}
+use Rattle.vcd_write.specs.Writing.{Waves, vcd_id, are_other, value_of, values_at, var_of, block_of, last_block, vcd_form}
+use Rattle.vcd_write.specs.Laws.{AreSameWaves, SameWavesAreWrittenAlike}
 
 -- maps that agree on a range
 map_alike : {X : Type 0} (f g : ℕ → X) (a many : ℕ) → ((k : ℕ) → k < a + many → f k ≡ g k) → map f (range_with_len a many) ≡ map g (range_with_len a many)
