@@ -4,7 +4,7 @@ ghost use Rattle.lane_core.specs.Plans.{IsAdmissible};
 ghost use Rattle.plan_layout.specs.Layout.{tiling_of};
 ghost use Rattle.plan_layout.specs.Starts.{named_edges, NamesEdge};
 ghost use Rattle.plan_waves.specs.Contexts.{contexts_on_ways, StartsContexts};
-ghost use Rattle.loop_starts.specs.Starts.{starts_of_loop};
+ghost use Rattle.latch_loops.specs.Starts.{starts_of_loop};
 
 use crate::walking::tile_before;
 use lane_core::{Plan, Start, Starts};

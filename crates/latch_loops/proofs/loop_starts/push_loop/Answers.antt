@@ -1,8 +1,8 @@
 use Rattle.std.proofs.Common.{◌≡◌, get_or, []}
 use Rattle.lane_core.specs.Instrs.{bit_on}
 use Rattle.plan_layout.specs.Edges.{as_edge}
-use Rattle.loop_starts.proofs.Near.{bit_is, one_more}
-use Rattle.loop_starts.proofs.starting.push_loop.Goals as goal
+use Rattle.latch_loops.proofs.Near.{bit_is, one_more}
+use Rattle.latch_loops.proofs.loop_starts.push_loop.Goals as goal
 
 pub loop-bits-preserved : goal.loop-bits-preserved
 loop-bits-preserved c =

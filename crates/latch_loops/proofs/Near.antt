@@ -14,7 +14,7 @@ use Rattle.plan_waves.specs.Contexts.{contexts_on_ways}
 use Rattle.plan_waves.proofs.RunningContexts.{ways_with_loops}
 use Rattle.lane_core.specs.declared.starts.Start.{Start}
 use Rattle.plan_layout.specs.Starts.{edge_name}
-use Rattle.loop_starts.specs.Starts.{starts_of_loop, start_in}
+use Rattle.latch_loops.specs.Starts.{starts_of_loop, start_in}
 use Rattle.tile_core.specs.declared.kind.Kind.{Kind}
 use Rattle.tile_core.specs.declared.kind.Kind.TheVariants.{Swap, Xor, Or, AndNot, Fork, East, South, North, EastSouth, SouthWest, WestNorth, NorthEast, West, WestSwap}
 use Rattle.tile_core.specs.Kinds.{entries}

@@ -1,6 +1,6 @@
 use Rattle.plan_layout.specs.Edges.{as_edge}
-use Rattle.loop_starts.proofs.Near.{IsWalked}
-use Rattle.loop_starts.proofs.starting.push_loop.Given as goal
+use Rattle.latch_loops.proofs.Near.{IsWalked}
+use Rattle.latch_loops.proofs.loop_starts.push_loop.Given as goal
 
 -- the starts so far, and the edge that comes next
 abbrev pub invariant-loop-bits : goal.invariant-loop-bits

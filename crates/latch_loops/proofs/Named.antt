@@ -21,8 +21,8 @@ use Rattle.plan_waves.specs.WaysBack.{before_entry}
 use Rattle.plan_waves.specs.Contexts.{contexts_on_ways, StartsContexts}
 use Rattle.plan_waves.proofs.Loops.{ways_back_are_apart}
 use Rattle.plan_waves.proofs.RunningContexts.{ways_with_loops}
-use Rattle.loop_starts.specs.Starts.{start_in, starts_of_loop, starts_of_loops}
-use Rattle.loop_starts.proofs.Passed.{way_passed}
+use Rattle.latch_loops.specs.Starts.{start_in, starts_of_loop, starts_of_loops}
+use Rattle.latch_loops.proofs.Passed.{way_passed}
 
 -- the start has this name
 abbrev is_named : ℕ → ℕ → Start → Bool

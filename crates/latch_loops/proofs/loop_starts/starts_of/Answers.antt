@@ -1,9 +1,9 @@
 use Rattle.std.proofs.Common.{rules, ◌≡◌, ◌∙◌, ap}
 use Rattle.lane_core.specs.declared.starts.Start.{Start}
 use Rattle.lane_core.specs.Starts.{is_start_at}
-use Rattle.loop_starts.specs.Starts.{starts_of_loops}
-use Rattle.loop_starts.proofs.Named.{HasNamesOf, starts_are_on_ways, names_are_edges}
-use Rattle.loop_starts.proofs.starting.starts_of.Goals as goal
+use Rattle.latch_loops.specs.Starts.{starts_of_loops}
+use Rattle.latch_loops.proofs.Named.{HasNamesOf, starts_are_on_ways, names_are_edges}
+use Rattle.latch_loops.proofs.loop_starts.starts_of.Goals as goal
 
 pub returns-clause-contexts : goal.returns-clause-contexts
 returns-clause-contexts c =
