@@ -19,7 +19,7 @@ use Rattle.netlist_core.specs.Names.{Name}
 use Rattle.blif_write.specs.Text.{lifted_text, worded_text}
 use Rattle.lifted_designs.specs.Lifted.{lifted_design, line_past_cells}
 use Rattle.lifted_designs.specs.Names.{mark, zero_name}
-use Rattle.lifted_lines.specs.Lines.{cell_lines, latch_lines, lines_of_outputs, worded_line}
+use Rattle.lifted_designs.specs.Lines.{cell_lines, latch_lines, lines_of_outputs, worded_line}
 use Rattle.carries.specs.Carries.{Carries}
 use Rattle.carries.specs.Cells.{Spells}
 use Rattle.carries.proofs.OneWay.{one_spelling}
