@@ -6,7 +6,7 @@ use Rattle.aiger_meaning.specs.Circuit.{aig_output_bit}
 use Rattle.carries.specs.Cells.{drive}
 use Rattle.carries.proofs.Cycles.{in_cycle, in_time}
 use Rattle.carries.proofs.Period.{has_period}
-use Rattle.aiger_carries.specs.Laws.{CarriesAigCycles, OneAigRunIsShown}
+use Rattle.aiger_plans.specs.Laws.{CarriesAigCycles, OneAigRunIsShown}
 
 pub carries_aig_cycles : CarriesAigCycles
 carries_aig_cycles text aig c rows are run is = record {

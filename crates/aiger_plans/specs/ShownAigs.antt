@@ -8,7 +8,7 @@ use Rattle.drive.specs.Driving.{AreFor, shown_bits}
 use Rattle.aiger_text.specs.declared.aig.Aig.{Aig}
 use Rattle.aiger_text.specs.SoundAig.{IsSoundAig}
 use Rattle.aiger_meaning.specs.Circuit.{IsAigRun}
-use Rattle.aiger_carries.specs.CarriesAig.{CarriesAig}
+use Rattle.aiger_plans.specs.CarriesAig.{CarriesAig}
 
 -- the bits of a literal in a run, cycle after cycle
 abbrev pub aig_bits_in_run : (ℕ → ℕ → Bool) → ℕ → ℕ → List Bool

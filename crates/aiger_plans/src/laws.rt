@@ -1,12 +1,7 @@
-//! What it means that a text carries an AIGER circuit: the pattern that it spells shows the circuit's runs.
-//!
-//! The functions here do nothing: their clauses are laws of the definition.
-//!
-//! Theorem: `aigs_are_carried`, `carries_aig_cycles`, `flats_of_aigs_ask_alike`; definition `CarriesAig`.
-#![tactic(auto)]
-
-ghost use Rattle.aiger_carries.specs.Needs.{FlatsOfAigsAskAlike};
-ghost use Rattle.aiger_carries.specs.Laws.{AigsAreCarried, CarriesAigCycles, OneAigRunIsShown};
+// What it means that a text carries a circuit. The functions do nothing: their clauses are the laws.
+ghost use Rattle.aiger_plans.specs.Laws.{AigsAreCarried, CarriesAigCycles, OneAigRunIsShown};
+ghost use Rattle.aiger_plans.specs.Needs.{FlatsOfAigsAskAlike};
+ghost use Rattle.aiger_plans.specs.ShownAigs.{CarriersShowAigRuns};
 
 /// A text that carries the flat netlist of a circuit carries the circuit.
 pub fn aigs_are_carried()
@@ -25,4 +20,10 @@ pub fn carries_aig_cycles()
 /// are both negated, or a negated literal that a latch or an output reads.
 pub fn flats_of_aigs_ask_alike()
     ensures { FlatsOfAigsAskAlike }
+{}
+
+/// Of a text that carries a sound circuit: under streams for its inputs there is a run of the circuit, and the bits that the
+/// pattern shows are those of the outputs, in order, in every such run.
+pub fn carriers_show_aig_runs()
+    ensures { CarriersShowAigRuns }
 {}

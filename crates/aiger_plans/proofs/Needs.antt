@@ -14,7 +14,7 @@ use Rattle.aiger_text.specs.declared.aig.AigAnd.{AigAnd}
 use Rattle.aiger_text.specs.declared.aig.Aig.{Aig}
 use Rattle.aiger_text.specs.SoundAig.{sides_of}
 use Rattle.aiger_meaning.specs.FlatOf.{net_id, net_of_literal, node_of, nodes_from, node_reads, first_gate, buffer, row_character, latches_from}
-use Rattle.aiger_carries.specs.Needs.{is_odd, aig_needs_one, FlatsOfAigsAskAlike}
+use Rattle.aiger_plans.specs.Needs.{is_odd, aig_needs_one, FlatsOfAigsAskAlike}
 
 -- no literal of a node is even
 abbrev all_odd : List ℕ → Bool

@@ -16,9 +16,9 @@ use Rattle.aiger_meaning.specs.Circuit.{IsAigValuation, IsAigRun, AreAigRows, ai
 use Rattle.aiger_meaning.specs.Lowered.{IsLowered, AreSameCycle}
 use Rattle.carries.specs.Cells.{ShowsBitsFrom, drive}
 use Rattle.carries.specs.FlatNets.{CarriesFlat}
-use Rattle.aiger_carries.specs.CarriesAig.{ShowsAigRuns}
-use Rattle.aiger_carries.specs.Laws.{AigsAreCarried}
-use Rattle.aiger_carries.proofs.SameRuns.{other_run, each_cycle}
+use Rattle.aiger_plans.specs.CarriesAig.{ShowsAigRuns}
+use Rattle.aiger_plans.specs.Laws.{AigsAreCarried}
+use Rattle.aiger_plans.proofs.SameRuns.{other_run, each_cycle}
 
 -- what shows bits shows those that are the same in each of the cycles
 same_shown : (first period cycles : ℕ) (bit other : ℕ → Bool) (g : ℕ) (plane : Plane) (x y : ℕ) → ((t : ℕ) → t < cycles → bit t ≡ other t)

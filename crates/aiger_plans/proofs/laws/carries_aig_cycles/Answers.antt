@@ -1,5 +1,5 @@
-use Rattle.aiger_carries.proofs.Cycles.{carries_aig_cycles, one_aig_run_is_shown}
-use Rattle.aiger_carries.proofs.carries_aig_cycles.Goals as goal
+use Rattle.aiger_plans.proofs.Cycles.{carries_aig_cycles, one_aig_run_is_shown}
+use Rattle.aiger_plans.proofs.laws.carries_aig_cycles.Goals as goal
 
 pub returns-clause-outputs : goal.returns-clause-outputs
 returns-clause-outputs c = carries_aig_cycles

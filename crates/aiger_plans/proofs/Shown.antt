@@ -22,9 +22,9 @@ use Rattle.shown_runs.proofs.ShownContexts.{head_is}
 use Rattle.aiger_text.specs.declared.aig.Aig.{Aig}
 use Rattle.aiger_text.specs.SoundAig.{IsSoundAig, output_names}
 use Rattle.aiger_meaning.specs.Circuit.{AreAigRows, IsAigRun, aig_output_bit}
-use Rattle.aiger_carries.specs.CarriesAig.{CarriesAig}
-use Rattle.aiger_carries.proofs.Cycles.{carries_aig_cycles}
-use Rattle.shown_aigs.specs.ShownAigs.{CarriersShowAigRuns, aig_bits_in_run}
+use Rattle.aiger_plans.specs.CarriesAig.{CarriesAig}
+use Rattle.aiger_plans.proofs.Cycles.{carries_aig_cycles}
+use Rattle.aiger_plans.specs.ShownAigs.{CarriersShowAigRuns, aig_bits_in_run}
 
 module _ (text : List ℕ) (aig : Aig) (s : IsSoundAig aig) (c : CarriesAig text aig) (streams : Streams) (are : AreFor c.ports streams) where
   one : streams.c ≡ 1

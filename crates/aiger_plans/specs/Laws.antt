@@ -10,7 +10,7 @@ use Rattle.aiger_meaning.specs.Circuit.{AreAigRows, IsAigRun, aig_output_bit}
 use Rattle.aiger_meaning.specs.Lowered.{IsLowered}
 use Rattle.carries.specs.Cells.{drive}
 use Rattle.carries.specs.FlatNets.{CarriesFlat}
-use Rattle.aiger_carries.specs.CarriesAig.{CarriesAig}
+use Rattle.aiger_plans.specs.CarriesAig.{CarriesAig}
 
 abbrev pub AigsAreCarried : Type 0
 AigsAreCarried = (text : List ℕ) (aig : Aig) (flat : Flat) → CarriesFlat text flat → IsLowered aig flat → CarriesAig text aig
