@@ -10,7 +10,7 @@ use Rattle.cell_core.specs.declared.cells.Src.{Src}
 use Rattle.cell_core.specs.declared.cells.Cell.{Cell}
 use Rattle.cell_core.specs.declared.list.CellList.{CellList}
 use Rattle.circuit_plans.specs.Circuits.{without_nets}
-use Rattle.plan_cells.specs.Lists.{IsListOf}
+use Rattle.circuit_plans.specs.Lists.{IsListOf}
 use Rattle.tile_match.specs.Circuit.{IsPlanDrawing}
 use Rattle.tile_match.specs.Laws.{DrawsOnePlan}
 use Rattle.netlist_core.specs.declared.model.Design.{Design}
