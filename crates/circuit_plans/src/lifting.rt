@@ -11,9 +11,9 @@ ghost use Rattle.circuit_plans.specs.Lists.{IsListOf};
 
 use crate::entry::entry_sources;
 use crate::error::LiftError;
+use crate::first_bits;
 use crate::leaving::{sources_leaving, sources_on};
 use cell_core::{Cell, CellList, Src};
-use circuit_plans::first_bits;
 use lane_core::{Column, Instr, Plan};
 use lists::List;
 use std::alloc::{AllocError, Global};

@@ -1,11 +1,5 @@
-//! Plans with a tape: the bits of their inputs lie before the body and run in by themselves.
-//!
-//! The functions here do nothing: their clauses are the laws.
-//!
-//! Theorem: `tapes_run_in`, `tapes_begin`, `tapes_show_rows`.
-#![tactic(auto)]
-
-ghost use Rattle.tape_waves.specs.Laws.{TapesRunIn, TapesBegin, TapesShowRows};
+// How the bits of a tape run in. The functions do nothing: their clauses are the laws.
+ghost use Rattle.plan_tapes.specs.Laws.{TapesBegin, TapesRunIn, TapesShowRows};
 
 /// A macro step of an admissible plan with a tape is one of the plan that is driven, with the tape a tile further east.
 pub fn tapes_run_in()

@@ -38,14 +38,14 @@ use Rattle.plan_layout.proofs.Parts.{some_columns, body_at}
 use Rattle.plan_waves.proofs.Passing.{step_east}
 use Rattle.lane_core.specs.Tape.{HasFittingTape, tape_rows, tape_tiles, tape_shift}
 use Rattle.plan_layout.specs.Tape.{taped_tiling, drawn_edges, drawn_plane}
-use Rattle.tape_waves.specs.Tape.{drive_of_rows, taped_edges}
-use Rattle.tape_waves.specs.Laws.{ShowsWithoutDrive, ShowsByItself}
+use Rattle.plan_tapes.specs.Tape.{drive_of_rows, taped_edges}
+use Rattle.plan_tapes.specs.Laws.{ShowsWithoutDrive, ShowsByItself}
 use Rattle.plan_layout.proofs.Taped.{plan_block}
 use Rattle.plan_layout.proofs.TapesFit.{fits_together}
-use Rattle.tape_waves.proofs.Blocks.{beside_kept}
-use Rattle.tape_waves.proofs.Begin.{begins}
-use Rattle.tape_waves.proofs.Rows.{rows_drive, tapes_fit}
-use Rattle.tape_waves.proofs.RunIn.{runs_in}
+use Rattle.plan_tapes.proofs.Blocks.{beside_kept}
+use Rattle.plan_tapes.proofs.Begin.{begins}
+use Rattle.plan_tapes.proofs.Rows.{rows_drive, tapes_fit}
+use Rattle.plan_tapes.proofs.RunIn.{runs_in}
 
 -- what stands at the cells of ports
 entered_at : (plan : Plan) → IsAdmissible plan → (c l : ℕ) → c < length plan.columns → l < plan.lanes → is_entered (tiling_of plan (plan.latches + c) l) 0 8 ≡ true
