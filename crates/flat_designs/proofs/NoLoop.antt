@@ -9,7 +9,7 @@ use Rattle.netlist_meaning.specs.Nets.{Net, net_at, Joined}
 use Rattle.netlist_meaning.specs.Nets.Joined.{followed}
 use Rattle.netlist_meaning.specs.Loop.{Feeds, FeedsThrough}
 use Rattle.lists.proofs.Members.{In, in_from, contains_from, in_got, got_from}
-use Rattle.sound_designs.specs.Order.{CoverAt, IsCoverAt, IsCoverOrder, OrderedHaveNoLoop}
+use Rattle.flat_designs.specs.Order.{CoverAt, IsCoverAt, IsCoverOrder, OrderedHaveNoLoop}
 
 -- one step or more
 data Steps (design : Design) : Net → Net → Type 0 where

@@ -17,11 +17,11 @@ use Rattle.netlist_meaning.specs.Valuation.{Valuation, LatchState, IsValuation}
 use Rattle.netlist_meaning.proofs.Joined.{in_names_are_one, no_clock_net-joined}
 use Rattle.netlist_rules.specs.ModelFaults.{AreFaultless}
 use Rattle.lists.proofs.Members.{In, in_from, contains_from, in_left, in_right, in_parts, is_in, in_flat, in_got, got_from}
-use Rattle.sound_designs.specs.OneDriver.{Driver, Drives}
-use Rattle.sound_designs.specs.OneDriver.Drives.{of_port, of_cover, of_latch}
-use Rattle.sound_designs.specs.Order.{CoverAt, IsCoverAt, IsCoverOrder, OrderedHaveAtMostOneValuation}
-use Rattle.sound_designs.proofs.Sound.{wired, in_names_append}
-use Rattle.sound_designs.proofs.Sources.{have_drivers}
+use Rattle.flat_designs.specs.OneDriver.{Driver, Drives}
+use Rattle.flat_designs.specs.OneDriver.Drives.{of_port, of_cover, of_latch}
+use Rattle.flat_designs.specs.Order.{CoverAt, IsCoverAt, IsCoverOrder, OrderedHaveAtMostOneValuation}
+use Rattle.flat_designs.proofs.Faultless.{wired, in_names_append}
+use Rattle.flat_designs.proofs.Sources.{have_drivers}
 
 -- what is not the control stays among the IN names
 stays : (design : Design) {names rest : List Name} (name : Name) → WithoutControl design names rest → In name names → ¬ IsControl design (net_at [] name) → In name rest

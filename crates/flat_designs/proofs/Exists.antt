@@ -28,20 +28,20 @@ use Rattle.netlist_rules.specs.declared.fault.FaultKind.TheVariants.{DuplicatePo
 use Rattle.netlist_rules.specs.Drivers.{stands_earlier, repeats_after}
 use Rattle.netlist_rules.specs.ModelFaults.{AreFaultless, doubles_after, is_output_before, is_input_by_then, duplicate_ports}
 use Rattle.lists.proofs.Members.{is_distinct, In, in_from, contains_from, in_left, in_right, is_in, in_flat, in_map, Distinct, in_got, got_from}
-use Rattle.sound_designs.specs.Laws.{FaultlessHaveDistinctPorts}
-use Rattle.sound_designs.specs.OneDriver.{Driver, Drives}
-use Rattle.sound_designs.specs.OneDriver.Driver.{port, cover, latch}
-use Rattle.sound_designs.specs.OneDriver.Drives.{of_port, of_cover, of_latch}
-use Rattle.sound_designs.specs.Order.{CoverAt, IsCoverAt, IsCoverOrder, OrderedHaveAValuation}
-use Rattle.sound_designs.proofs.Sound.{in_models, formals_named, clean_of}
-use Rattle.sound_designs.proofs.Local.{Apart, no_repeat}
-use Rattle.sound_designs.proofs.OneDriver.{at_most_one_driver}
-use Rattle.sound_designs.proofs.Driven.{names_left}
-use Rattle.sound_designs.proofs.Sources.{have_drivers}
+use Rattle.flat_designs.specs.Faultless.{FaultlessHaveDistinctPorts}
+use Rattle.flat_designs.specs.OneDriver.{Driver, Drives}
+use Rattle.flat_designs.specs.OneDriver.Driver.{port, cover, latch}
+use Rattle.flat_designs.specs.OneDriver.Drives.{of_port, of_cover, of_latch}
+use Rattle.flat_designs.specs.Order.{CoverAt, IsCoverAt, IsCoverOrder, OrderedHaveAValuation}
+use Rattle.flat_designs.proofs.Faultless.{in_models, formals_named, clean_of}
+use Rattle.flat_designs.proofs.Local.{Apart, no_repeat}
+use Rattle.flat_designs.proofs.OneDriver.{at_most_one_driver}
+use Rattle.flat_designs.proofs.Driven.{names_left}
+use Rattle.flat_designs.proofs.Sources.{have_drivers}
 use Rattle.lists.proofs.Bools.{or_false_left as first_of}
 use Rattle.lists.proofs.Appends.{append_nil_left as none_left, append_nil_right as none_right}
-use Rattle.sound_designs.proofs.Ordered.{same_map, in_covers}
-use Rattle.sound_designs.proofs.NoLoop.{split_at}
+use Rattle.flat_designs.proofs.Ordered.{same_map, in_covers}
+use Rattle.flat_designs.proofs.NoLoop.{split_at}
 use Rattle.std.proofs.lemmas.Bool.{and_parts as both_true, false_from_ne_true}
 use Rattle.netlist_rules.proofs.Faultless.{none_kept}
 use Rattle.std.proofs.Math.Bool.{or-false as or_nil}

@@ -21,12 +21,12 @@ use Rattle.netlist_rules.specs.declared.fault.FaultKind.TheVariants.{MultipleDri
 use Rattle.netlist_rules.specs.Drivers.{is_input_pin, is_output_pin, same_name_up_to, same_name_before, stands_earlier, firsts_after, inputs_of, cover_output, latch_output, actual_if, actuals_on, actuals, drivers_of}
 use Rattle.netlist_rules.specs.ModelFaults.{AreFaultless}
 use Rattle.lists.proofs.Members.{In, in_from, in_left, in_right, in_mapped, filtered_in, in_got}
-use Rattle.sound_designs.specs.OneDriver.{Driver, Drives, FaultlessHaveAtMostOneDriver}
-use Rattle.sound_designs.specs.OneDriver.Driver.{port, cover, latch}
-use Rattle.sound_designs.specs.OneDriver.Drives.{of_port, of_cover, of_latch}
+use Rattle.flat_designs.specs.OneDriver.{Driver, Drives, FaultlessHaveAtMostOneDriver}
+use Rattle.flat_designs.specs.OneDriver.Driver.{port, cover, latch}
+use Rattle.flat_designs.specs.OneDriver.Drives.{of_port, of_cover, of_latch}
 use Rattle.lists.proofs.Ends.{not_nil, snoc_same}
-use Rattle.sound_designs.proofs.Sound.{in_models, named_in, formals_once, clean_of, known}
-use Rattle.sound_designs.proofs.Local.{Apart, no_repeat, apart_left, apart_right, apart_cross, same_place, same_line, apart_at, same_kept, got_mapped, got_flat}
+use Rattle.flat_designs.proofs.Faultless.{in_models, named_in, formals_once, clean_of, known}
+use Rattle.flat_designs.proofs.Local.{Apart, no_repeat, apart_left, apart_right, apart_cross, same_place, same_line, apart_at, same_kept, got_mapped, got_flat}
 use Rattle.std.proofs.lemmas.Bool.{and_parts as two_true}
 use Rattle.std.proofs.lemmas.Option.{same_Some}
 use Rattle.lists.proofs.Members.{passes_at as any_in}

@@ -28,7 +28,7 @@ use Rattle.netlist_rules.specs.Circles.{HasSubcktOf, Leads}
 use Rattle.lists.proofs.Members.{In, in_from, contains_from, Distinct, distinct_from, in_map, in_left, in_right, filtered_in, in_got}
 use Rattle.netlist_rules.proofs.ModelSteps.{model_of_name}
 use Rattle.netlist_rules.proofs.Faultless.{no_model_is_in_itself, formals_are_distinct}
-use Rattle.sound_designs.specs.Laws.{FaultlessAreNotRecursive, FaultlessNameFormalsOnce, FaultlessAreWired}
+use Rattle.flat_designs.specs.Faultless.{FaultlessAreNotRecursive, FaultlessNameFormalsOnce, FaultlessAreWired}
 use Rattle.netlist_rules.proofs.Faultless.{nothing_of as none_of}
 use Rattle.netlist_rules.proofs.Faultless.{some_models}
 use Rattle.netlist_rules.specs.declared.fault.FaultKind.{FaultKind}

@@ -21,15 +21,15 @@ use Rattle.netlist_rules.specs.declared.fault.FaultKind.TheVariants.{DuplicatePo
 use Rattle.netlist_rules.specs.Drivers.{is_input_pin, is_output_pin, same_name_up_to, same_name_before, stands_earlier}
 use Rattle.netlist_rules.specs.ModelFaults.{AreFaultless, unless_named, doubles_after, is_output_before, is_input_by_then, duplicate_ports, formals_of, unpinned_inputs, earliest, missing_pin, on_line}
 use Rattle.lists.proofs.Members.{In, in_from, contains_from, in_left, in_right, in_parts, in_mapped, in_map, in_flat, filtered_in, in_got}
-use Rattle.sound_designs.specs.OneDriver.{Driver, Drives, FaultlessHaveDrivers}
-use Rattle.sound_designs.specs.OneDriver.Driver.{port, cover, latch}
-use Rattle.sound_designs.specs.OneDriver.Drives.{of_port, of_cover, of_latch}
-use Rattle.sound_designs.proofs.Sound.{in_models, named_in, not_recursive, clean_of}
-use Rattle.sound_designs.proofs.Local.{not_any, not_up_to, not_before}
-use Rattle.sound_designs.proofs.OneDriver.{Local, Reaches, drivers_apart, input_pin}
-use Rattle.sound_designs.proofs.OneDriver.Local.{by_input, by_cover, by_latch, by_output}
-use Rattle.sound_designs.proofs.OneDriver.Reaches.{here, up, down}
-use Rattle.sound_designs.proofs.Driven.{name_local}
+use Rattle.flat_designs.specs.OneDriver.{Driver, Drives, FaultlessHaveDrivers}
+use Rattle.flat_designs.specs.OneDriver.Driver.{port, cover, latch}
+use Rattle.flat_designs.specs.OneDriver.Drives.{of_port, of_cover, of_latch}
+use Rattle.flat_designs.proofs.Faultless.{in_models, named_in, not_recursive, clean_of}
+use Rattle.flat_designs.proofs.Local.{not_any, not_up_to, not_before}
+use Rattle.flat_designs.proofs.OneDriver.{Local, Reaches, drivers_apart, input_pin}
+use Rattle.flat_designs.proofs.OneDriver.Local.{by_input, by_cover, by_latch, by_output}
+use Rattle.flat_designs.proofs.OneDriver.Reaches.{here, up, down}
+use Rattle.flat_designs.proofs.Driven.{name_local}
 use Rattle.lists.proofs.Bools.{or_false_right as second_of}
 use Rattle.lists.proofs.Appends.{append_nil_left as none_left, append_nil_right as none_right}
 use Rattle.netlist_rules.proofs.Faultless.{nothing_of as none_of, port_name}

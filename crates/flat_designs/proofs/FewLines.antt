@@ -12,7 +12,7 @@ use Rattle.netlist_meaning.specs.Weight.{of_model, weight_below, weight}
 use Rattle.netlist_meaning.proofs.Names.{and_then-from}
 use Rattle.netlist_meaning.proofs.Depth.{places_are_shallow}
 use Rattle.netlist_rules.specs.ModelFaults.{AreFaultless}
-use Rattle.sound_designs.proofs.Sound.{not_recursive}
+use Rattle.flat_designs.proofs.Faultless.{not_recursive}
 
 own_lines : (m : Model) → length m.subckts ≤ own_weight m
 own_lines m = within (port_weight m) (2 * length m.latches) (length m.subckts) (sum_by cover_weight m.covers)

@@ -15,9 +15,9 @@ use Rattle.netlist_rules.specs.declared.fault.FaultKind.TheVariants.{Undriven}
 use Rattle.netlist_rules.specs.Drivers.{is_input_pin, is_output_pin, is_unknown_pin, stands_earlier, firsts_after, inputs_of, cover_output, latch_output, cover_readings, latch_readings, actual_if, actuals_on, actuals, drivers_of, readings_of}
 use Rattle.netlist_rules.specs.ModelFaults.{AreFaultless, unless_named}
 use Rattle.lists.proofs.Members.{In, in_left, in_right, in_parts, in_mapped, in_map, in_flat, in_flattened, in_filtered, filtered_in, in_got, got_from}
-use Rattle.sound_designs.proofs.Sound.{named_in, clean_of, known}
-use Rattle.sound_designs.proofs.OneDriver.{Local}
-use Rattle.sound_designs.proofs.OneDriver.Local.{by_input, by_cover, by_latch, by_output}
+use Rattle.flat_designs.proofs.Faultless.{named_in, clean_of, known}
+use Rattle.flat_designs.proofs.OneDriver.{Local}
+use Rattle.flat_designs.proofs.OneDriver.Local.{by_input, by_cover, by_latch, by_output}
 use Rattle.netlist_rules.proofs.Faultless.{port_name}
 
 pub names_left : (ps qs : List Port) (name : List ℕ) → In name (port_names ps) → In name (port_names (ps ++ qs))
