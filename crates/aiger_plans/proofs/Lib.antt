@@ -1,2 +1,7 @@
+pub mod SameRuns
+pub mod Carried
+pub mod Cycles
+pub mod Needs
 pub mod Named
 pub mod OfFlat
+pub mod Shown

@@ -20,8 +20,8 @@ use Rattle.netlist_plans.specs.Planned.{ComputesCells, IsSmall}
 use Rattle.aiger_text.specs.declared.aig.Aig.{Aig}
 use Rattle.aiger_meaning.specs.FlatOf.{IsFlatOfAig}
 use Rattle.aiger_meaning.specs.Lowered.{IsLowered}
-use Rattle.aiger_carries.specs.Laws.{AigsAreCarried}
-use Rattle.aiger_carries.specs.Needs.{AsksAlike, FlatsOfAigsAskAlike}
+use Rattle.aiger_plans.specs.Laws.{AigsAreCarried}
+use Rattle.aiger_plans.specs.Needs.{AsksAlike, FlatsOfAigsAskAlike}
 use Rattle.aiger_plans.specs.Planned.{IsTableOfAig, IsPlanOfAig}
 use Rattle.aiger_plans.proofs.Named.{none_listed}
 

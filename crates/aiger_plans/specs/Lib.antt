@@ -1,1 +1,5 @@
+pub mod CarriesAig
+pub mod Laws
+pub mod Needs
 pub mod Planned
+pub mod ShownAigs

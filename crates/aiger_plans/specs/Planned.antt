@@ -15,8 +15,8 @@ use Rattle.netlist_plans.specs.Planned.{ComputesCells}
 use Rattle.aiger_text.specs.declared.aig.Aig.{Aig}
 use Rattle.aiger_meaning.specs.Circuit.{aig_weight}
 use Rattle.aiger_meaning.specs.FlatOf.{IsFlatOfAig}
-use Rattle.aiger_carries.specs.Needs.{aig_needs_one}
-use Rattle.aiger_carries.specs.CarriesAig.{CarriesAig, NamesAig}
+use Rattle.aiger_plans.specs.Needs.{aig_needs_one}
+use Rattle.aiger_plans.specs.CarriesAig.{CarriesAig, NamesAig}
 
 -- The table of a plan of a circuit: the period, the latency and the cells of ports are the plan's, and the names of ports the circuit's,
 -- each in order. It lists no nets. One context runs in the pattern.

@@ -7,7 +7,7 @@ ghost use Rattle.aiger_meaning.specs.Circuit.{aig_weight};
 ghost use Rattle.aiger_meaning.specs.Loop.{IsAigLoop};
 ghost use Rattle.aiger_plans.specs.Planned.{IsPlanOfAig};
 
-use aiger_carries::{aigs_are_carried, flats_of_aigs_ask_alike};
+use crate::{aigs_are_carried, flats_of_aigs_ask_alike};
 use aiger_meaning::{LowerError, lower};
 use aiger_text::Aig;
 use netlist_plans::{NetlistPlanError, Planned, plan_netlist};

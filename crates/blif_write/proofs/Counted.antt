@@ -10,8 +10,8 @@ use Rattle.cell_core.specs.declared.cells.Cell.TheVariants.{Or, Xor, AndNot}
 use Rattle.cell_core.specs.declared.list.CellList.{CellList}
 use Rattle.lifted_designs.specs.Names.{mark, zero_name, loop_name, gate_name, source_name}
 use Rattle.lifted_designs.specs.Lifted.{cell_rows, first_of, second_of, line_past_cells}
-use Rattle.lifted_lines.specs.Lines.{worded_line, row, rows_then, cell_lines, lines_of_outputs, start_word, latch_lines, lines_after_ports, lines_with_mark, lifted_lines}
-use Rattle.lifted_lines.specs.Words.{counted_lines}
+use Rattle.lifted_designs.specs.Lines.{worded_line, row, rows_then, cell_lines, lines_of_outputs, start_word, latch_lines, lines_after_ports, lines_with_mark, lifted_lines}
+use Rattle.lifted_designs.specs.Words.{counted_lines}
 
 -- the lines are numbered from this one on
 abbrev AreCounted : ℕ → List Logical → Type 0

@@ -19,8 +19,8 @@ use Rattle.cell_core.specs.declared.list.CellList.{CellList}
 use Rattle.cell_core.specs.Sources.{is_there, reads_there, are_in_order, are_there}
 use Rattle.lifted_designs.specs.Names.{most_leading, zero_name, loop_name, gate_name, source_name}
 use Rattle.lifted_designs.specs.Lifted.{cell_rows, first_of, second_of, line_past_cells}
-use Rattle.lifted_lines.specs.Lines.{worded_line, row, rows_then, cell_lines, lines_of_outputs, start_word, latch_lines, lines_with_mark, lifted_lines}
-use Rattle.lifted_lines.specs.Words.{ends_word, ends_well, is_word, is_line}
+use Rattle.lifted_designs.specs.Lines.{worded_line, row, rows_then, cell_lines, lines_of_outputs, start_word, latch_lines, lines_with_mark, lifted_lines}
+use Rattle.lifted_designs.specs.Words.{ends_word, ends_well, is_word, is_line}
 
 -- a byte that neither ends a word nor is a `\`
 abbrev is_plain : ℕ → Bool

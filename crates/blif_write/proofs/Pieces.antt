@@ -11,8 +11,8 @@ use Rattle.cell_core.specs.declared.cells.Cell.{Cell}
 use Rattle.cell_core.specs.declared.cells.Cell.TheVariants.{Or, Xor, AndNot}
 use Rattle.lifted_designs.specs.Names.{loop_name, gate_name, source_name}
 use Rattle.lifted_designs.specs.Lifted.{cell_rows, first_of, second_of, line_past_cells}
-use Rattle.lifted_lines.specs.Lines.{worded_line, row, rows_then, cell_lines, lines_of_outputs, start_word, latch_lines, lines_with_mark}
-use Rattle.lifted_lines.specs.Words.{words_line}
+use Rattle.lifted_designs.specs.Lines.{worded_line, row, rows_then, cell_lines, lines_of_outputs, start_word, latch_lines, lines_with_mark}
+use Rattle.lifted_designs.specs.Words.{words_line}
 use Rattle.blif_write.specs.Text.{worded_text}
 use Rattle.blif_write.specs.Marks.{mark_after}
 use Rattle.blif_write.specs.Words.{words_after_spaces, mark_in, head_then}

@@ -1,8 +1,8 @@
 -- The text of a lifted netlist is that netlist.
 use Rattle.std.proofs.Common.{◌∙◌, map}
-use Rattle.lifted_lines.specs.Lines.{lifted_lines}
-use Rattle.lifted_lines.proofs.Worded.{words_are_read}
-use Rattle.lifted_lines.proofs.TextsRead.{texts_read}
+use Rattle.lifted_designs.specs.Lines.{lifted_lines}
+use Rattle.lifted_designs.proofs.Worded.{words_are_read}
+use Rattle.lifted_designs.proofs.TextsRead.{texts_read}
 use Rattle.blif_write.specs.Laws.{LiftedTextsRead}
 use Rattle.blif_write.specs.Text.{lifted_text}
 use Rattle.blif_write.proofs.Counted.{lifted_are_counted}

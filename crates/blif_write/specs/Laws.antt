@@ -7,7 +7,7 @@ use Rattle.cell_core.specs.declared.list.CellList.{CellList}
 use Rattle.cell_core.specs.Loops.{names_one}
 use Rattle.lifted_designs.specs.Lifted.{lifted_design}
 use Rattle.lifted_designs.specs.Runs.{ArePortNames}
-use Rattle.lifted_lines.specs.Words.{is_word}
+use Rattle.lifted_designs.specs.Words.{is_word}
 use Rattle.blif_write.specs.Text.{lifted_text}
 
 -- where the ports have names of their own that are words

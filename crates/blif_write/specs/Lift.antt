@@ -3,7 +3,7 @@ use Rattle.std.specs.Prelude.{ℕ, ◌≡◌, List}
 use Rattle.lane_core.specs.declared.plan.Plan.{Plan}
 use Rattle.pattern_reading.specs.declared.ports.Ports.{Ports}
 use Rattle.pattern_reading.specs.Ports.{names_of}
-use Rattle.plan_cells.specs.Lists.{IsListOf}
+use Rattle.circuit_plans.specs.Lists.{IsListOf}
 use Rattle.blif_write.specs.declared.lift.Lift.{Lift}
 use Rattle.blif_write.specs.Text.{lifted_text}
 

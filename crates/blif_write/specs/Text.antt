@@ -3,8 +3,8 @@ use Rattle.std.specs.Prelude.{ℕ, List, map}
 use Rattle.netlist_core.specs.Names.{Name}
 use Rattle.blif_text.specs.declared.logical.Logical.{Logical}
 use Rattle.cell_core.specs.declared.list.CellList.{CellList}
-use Rattle.lifted_lines.specs.Lines.{lifted_lines}
-use Rattle.lifted_lines.specs.Words.{text_of}
+use Rattle.lifted_designs.specs.Lines.{lifted_lines}
+use Rattle.lifted_designs.specs.Words.{text_of}
 
 -- the text that has the words of these lines: a space stands between two words, and byte 10 after each line
 abbrev pub worded_text : List Logical → List ℕ

@@ -4,7 +4,7 @@ use Rattle.netlist_core.specs.Names.{Name}
 use Rattle.cell_core.specs.declared.cells.Src.{Src}
 use Rattle.blif_text.specs.declared.logical.Logical.{Logical}
 use Rattle.lifted_designs.specs.Names.{zero_name, loop_name, gate_name, source_name}
-use Rattle.lifted_lines.specs.Lines.{worded_line, row}
+use Rattle.lifted_designs.specs.Lines.{worded_line, row}
 use Rattle.blif_write.specs.declared.lift.Lift.{Lift}
 use Rattle.blif_write.specs.declared.word.LineWord.{LineWord}
 use Rattle.blif_write.specs.declared.word.LineWord.TheVariants.{Bytes, Net, Loop, Gate}

@@ -12,7 +12,7 @@ mod text;
 mod word;
 mod words;
 
+pub use circuit_plans::LiftError;
 pub use lift::Lift;
 pub use lifting::of;
-pub use plan_cells::LiftError;
 pub use text::write;

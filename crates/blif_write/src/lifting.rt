@@ -9,10 +9,10 @@ ghost use Rattle.lifted_designs.specs.Names.{leading, most_leading};
 ghost use Rattle.blif_write.specs.Lift.{IsLiftOf};
 
 use crate::Lift;
+use circuit_plans::{LiftError, cells_of};
 use lane_core::Plan;
 use lists::{Bytes, List, copied};
 use pattern_reading::{PortLine, Ports};
-use plan_cells::{LiftError, cells_of};
 use std::alloc::{AllocError, Global};
 
 // Copies of the names of ports.

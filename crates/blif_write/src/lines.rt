@@ -3,7 +3,7 @@ ghost use Rattle.std.specs.Prelude.{ℕ, List, ◌∷◌, ◌++◌, map, OnOk, O
 ghost use Rattle.ww_base.specs.Pages.{held};
 ghost use Rattle.ww_base.specs.Progress.{Wrote, Broke};
 ghost use Rattle.blif_text.specs.declared.logical.Logical.{Logical};
-ghost use Rattle.lifted_lines.specs.Lines.{worded_line};
+ghost use Rattle.lifted_designs.specs.Lines.{worded_line};
 ghost use Rattle.blif_write.specs.Text.{worded_text};
 ghost use Rattle.blif_write.specs.Words.{words_after_spaces, word_in};
 

@@ -5,7 +5,7 @@ ghost use Rattle.ww_base.specs.Progress.{Wrote, Broke};
 ghost use Rattle.blif_text.specs.declared.logical.Logical.{Logical};
 ghost use Rattle.cell_core.specs.declared.cells.Cell.{Cell};
 ghost use Rattle.lifted_designs.specs.Lifted.{first_of, second_of};
-ghost use Rattle.lifted_lines.specs.Lines.{cell_lines, latch_lines, lines_of_outputs, row, rows_then, start_word};
+ghost use Rattle.lifted_designs.specs.Lines.{cell_lines, latch_lines, lines_of_outputs, row, rows_then, start_word};
 ghost use Rattle.blif_write.specs.Text.{worded_text};
 ghost use Rattle.blif_write.specs.Words.{mark_in, output_then};
 

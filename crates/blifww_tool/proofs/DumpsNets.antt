@@ -16,8 +16,8 @@ use Rattle.carries.specs.DesignContexts.{CarriesNetsInContexts}
 use Rattle.drive.specs.Driving.{AreFor}
 use Rattle.probe_view.specs.Probes.{probed_at}
 use Rattle.shown_runs.specs.ShownRuns.{CarriersShowContexts, CarriersShowNetsInContexts, StreamsAreFor, net_bits_in_run}
-use Rattle.vcd_text.specs.Reading.{ReadsAsVcd}
-use Rattle.vcd_text.specs.Writing.{vcd_form}
+use Rattle.vcd_write.specs.Reading.{ReadsAsVcd}
+use Rattle.vcd_write.specs.Writing.{vcd_form}
 use Rattle.vcd_write.specs.NetWaves.{NetInContext, NetsHaveTheirBits, nets_in, nets_in_contexts, reference_of}
 use Rattle.blifww_tool.specs.Dumping.{waves_of}
 use Rattle.blifww_tool.specs.PrintsAlike.{AreRunsOn}

@@ -3,7 +3,7 @@
 use Rattle.std.proofs.Common.{◌≡◌, ℕ, Some, subst, sym, List, []}
 use Rattle.blif_text.specs.Faults.{IsDesignOf}
 use Rattle.aiger_text.specs.AigText.{ReadsAsAig}
-use Rattle.aiger_carries.specs.CarriesAig.{CarriesAig}
+use Rattle.aiger_plans.specs.CarriesAig.{CarriesAig}
 use Rattle.command_words.specs.Shapes.{CommandValues, aiger, compile, lift, tape, vcd}
 use Rattle.blifww_tool.specs.Aigs.{CompilesAig}
 use Rattle.blifww_tool.specs.Commands.{Prints}

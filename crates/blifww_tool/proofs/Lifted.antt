@@ -7,8 +7,8 @@ use Rattle.pattern_reading.specs.Ports.{names_of}
 use Rattle.port_table.proofs.SoundTable.{sound_table}
 use Rattle.cell_core.specs.declared.list.CellList.{CellList}
 use Rattle.netlist_core.specs.Names.{Name}
-use Rattle.plan_cells.specs.Lists.{IsListOf}
-use Rattle.plan_cells.proofs.Whole.{is_plain}
+use Rattle.circuit_plans.specs.Lists.{IsListOf}
+use Rattle.circuit_plans.proofs.Whole.{is_plain}
 use Rattle.lifted_designs.specs.Clocks.{LiftedHaveNoClockFault}
 use Rattle.lifted_designs.specs.Lifted.{lifted_design}
 use Rattle.lifted_designs.specs.NoLoop.{LiftedHaveNoLoop}

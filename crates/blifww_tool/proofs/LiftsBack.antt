@@ -10,7 +10,7 @@ use Rattle.cell_core.specs.declared.cells.Src.{Src}
 use Rattle.cell_core.specs.declared.cells.Cell.{Cell}
 use Rattle.cell_core.specs.declared.list.CellList.{CellList}
 use Rattle.circuit_plans.specs.Circuits.{without_nets}
-use Rattle.plan_cells.specs.Lists.{IsListOf}
+use Rattle.circuit_plans.specs.Lists.{IsListOf}
 use Rattle.tile_match.specs.Circuit.{IsPlanDrawing}
 use Rattle.tile_match.specs.Laws.{DrawsOnePlan}
 use Rattle.netlist_core.specs.declared.model.Design.{Design}
@@ -19,7 +19,7 @@ use Rattle.netlist_core.specs.Names.{Name}
 use Rattle.blif_write.specs.Text.{lifted_text, worded_text}
 use Rattle.lifted_designs.specs.Lifted.{lifted_design, line_past_cells}
 use Rattle.lifted_designs.specs.Names.{mark, zero_name}
-use Rattle.lifted_lines.specs.Lines.{cell_lines, latch_lines, lines_of_outputs, worded_line}
+use Rattle.lifted_designs.specs.Lines.{cell_lines, latch_lines, lines_of_outputs, worded_line}
 use Rattle.carries.specs.Carries.{Carries}
 use Rattle.carries.specs.Cells.{Spells}
 use Rattle.carries.proofs.OneWay.{one_spelling}

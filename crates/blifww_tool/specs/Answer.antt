@@ -4,7 +4,7 @@ use Rattle.lane_core.specs.Plans.{IsAdmissible}
 use Rattle.grid_assembly.specs.PlanDrawing.{start_grid}
 use Rattle.pattern_writing.specs.WrittenText.{pattern_text}
 use Rattle.blif_write.specs.Lift.{text_of_lift}
-use Rattle.vcd_text.specs.Writing.{vcd_text}
+use Rattle.vcd_write.specs.Writing.{vcd_text}
 use Rattle.vcd_write.specs.Vcd.{waves_in}
 use Rattle.blifww_tool.specs.Run.{Reading, Writing, GainedNothing, WriteFailed, Does, HasReason}
 use Rattle.blifww_tool.specs.declared.output.Output.{Output}

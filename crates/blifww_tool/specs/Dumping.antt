@@ -1,8 +1,8 @@
 -- What the nets of a text's pattern show under streams of bits, as a VCD text.
 use Rattle.std.specs.Prelude.{◌≡◌, ℕ, List}
 use Rattle.ww_rule.specs.Grid.{plane_of}
-use Rattle.vcd_text.specs.Laws.{SaysWaves}
-use Rattle.vcd_text.specs.Writing.{Waves, vcd_text}
+use Rattle.vcd_write.specs.Laws.{SaysWaves}
+use Rattle.vcd_write.specs.Writing.{Waves, vcd_text}
 use Rattle.vcd_write.specs.NetWaves.{last_of_all_nets, net_waves}
 use Rattle.blifww_tool.specs.Simulation.{Simulation, RunsInTime, HasNoRun}
 use Rattle.refusals.specs.declared.causes.Cause.{Cause}

@@ -7,8 +7,8 @@ use Rattle.netlist_meaning.specs.Valuation.{Valuation, LatchState}
 use Rattle.carries.specs.DesignContexts.{CarriesNetsInContexts}
 use Rattle.streams.specs.declared.streams.Streams.{Streams}
 use Rattle.shown_runs.specs.ShownRuns.{IsLineOf}
-use Rattle.vcd_text.specs.Reading.{VcdForm, ReadsAsVcd, value_at}
-use Rattle.vcd_text.specs.Writing.{vcd_id}
+use Rattle.vcd_write.specs.Reading.{VcdForm, ReadsAsVcd, value_at}
+use Rattle.vcd_write.specs.Writing.{vcd_id}
 use Rattle.command_words.specs.Shapes.{vcd}
 use Rattle.blifww_tool.specs.Evaluation.{FeedsInputs}
 use Rattle.blifww_tool.specs.Commands.{Prints}

@@ -10,9 +10,9 @@ use Rattle.streams.specs.Rows.{rows_of}
 use Rattle.start_words.specs.Starts.{starts_of_words}
 use Rattle.aiger_text.specs.declared.aig.Aig.{Aig}
 use Rattle.aiger_text.specs.AigText.{ReadsAsAig}
-use Rattle.aiger_carries.specs.CarriesAig.{CarriesAig}
-use Rattle.vcd_text.specs.Laws.{SaysWaves}
-use Rattle.vcd_text.specs.Writing.{vcd_text}
+use Rattle.aiger_plans.specs.CarriesAig.{CarriesAig}
+use Rattle.vcd_write.specs.Laws.{SaysWaves}
+use Rattle.vcd_write.specs.Writing.{vcd_text}
 use Rattle.blifww_tool.specs.Simulation.{Simulation, IsSimulation}
 use Rattle.blifww_tool.specs.Evaluation.{Evaluation, IsEvaluation}
 use Rattle.blifww_tool.specs.Dumping.{waves_of}

@@ -10,7 +10,7 @@ use Rattle.tile_match.specs.Circuit.{IsPlanDrawing}
 use Rattle.tile_match.specs.Faults.{HasCircuitFault}
 use Rattle.tile_match.specs.Names.{has_bad_name}
 use Rattle.cell_core.specs.declared.list.CellList.{CellList}
-use Rattle.plan_cells.specs.Lists.{IsListOf}
+use Rattle.circuit_plans.specs.Lists.{IsListOf}
 use Rattle.netlist_core.specs.declared.model.Design.{Design}
 use Rattle.netlist_meaning.specs.Nets.{Net}
 use Rattle.netlist_meaning.specs.Loop.{IsCombinationalLoop}

@@ -13,7 +13,7 @@ use Rattle.netlist_meaning.specs.FlatOf.{IsFlatOf}
 use Rattle.plan_ports.specs.Tables.{IsTableOf}
 use Rattle.streams.specs.declared.streams.Streams.{Streams}
 use Rattle.streams.specs.Rows.{rows_of}
-use Rattle.tape_loader.specs.Loaded.{with_tape}
+use Rattle.plan_tapes.specs.Loaded.{with_tape}
 use Rattle.blifww_tool.specs.Compilation.{IsCarriedBy}
 use Rattle.blifww_tool.specs.Evaluation.{Evaluation, IsEvaluation}
 

@@ -8,7 +8,7 @@ use crate::driven::driven_by;
 use crate::output::Output;
 use refusals::TextError;
 use std::alloc::Global;
-use vcd_text::texts_say_waves;
+use vcd_write::texts_say_waves;
 
 /// The dump of the bits that the nets of the text's pattern show in each of its contexts, where the words are the streams
 /// of the inputs. All nets of context 0 come first.

@@ -1,1 +1,4 @@
 pub mod Ordered
+pub mod Steps
+pub mod EntryBits
+pub mod Whole

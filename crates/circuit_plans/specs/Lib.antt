@@ -1,2 +1,4 @@
 pub mod Circuits
 pub mod Laws
+pub mod Lifted
+pub mod Lists

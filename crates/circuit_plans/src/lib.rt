@@ -1,10 +1,18 @@
-//! The plans of circuits: admissible plans without a tape, where electrons stand at generation 0 only where loops enter
-//! the columns. A circuit's starts are a bit for each loop.
+//! The plans of circuits, and the cells that their columns make, the converse of placing cells on lanes. The plan of a circuit
+//! is admissible and has no tape, and electrons stand at generation 0 only where loops enter the columns: so its starts are a
+//! bit for each loop.
 //!
-//! Theorem: `first_bits`, `starts_of_bits`, `starts_are_of_loops`; definition `IsCircuit`.
+//! Theorem: `cells_of` (`computes`, `starts`, `no_one`), `first_bits`, `starts_of_bits`, `starts_are_of_loops`; definition
+//! `IsCircuit`.
 #![tactic(auto)]
 
+mod entry;
+mod error;
 pub mod laws;
+mod leaving;
+mod lifting;
 mod loops;
 
+pub use error::LiftError;
+pub use lifting::cells_of;
 pub use loops::{first_bits, loop_start, starts_of_bits};

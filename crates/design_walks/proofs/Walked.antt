@@ -15,7 +15,7 @@ use Rattle.netlist_meaning.proofs.Depth.{model_at-append, places_are_shallow}
 use Rattle.netlist_rules.specs.ModelFaults.{AreFaultless}
 use Rattle.netlist_rules.proofs.Faultless.{some_models}
 use Rattle.lists.proofs.Cuts.{got_left, got_push}
-use Rattle.sound_designs.proofs.Sound.{not_recursive}
+use Rattle.flat_designs.proofs.Faultless.{not_recursive}
 use Rattle.model_index.specs.ByName.{IsNumberOf}
 use Rattle.model_index.proofs.Numbered.{number_found}
 use Rattle.design_walks.specs.declared.placed.Parent.{Parent}

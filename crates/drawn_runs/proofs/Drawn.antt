@@ -17,7 +17,7 @@ use Rattle.shown_runs.specs.ShownRuns.{CarriersShowRuns, OneContextIsQuiet, Show
 use Rattle.lifted_designs.specs.Lifted.{lifted_design}
 use Rattle.lifted_designs.specs.Computes.{ComputesDesign, ListsComputeLifted}
 use Rattle.lifted_designs.proofs.Lifted.{names_at}
-use Rattle.plan_cells.proofs.Whole.{is_plain}
+use Rattle.circuit_plans.proofs.Whole.{is_plain}
 use Rattle.cell_runs.specs.Runs.{ListsRunAsDesigns}
 use Rattle.lift_carries.specs.Lifts.{LiftsCarry}
 use Rattle.lift_carries.proofs.Lifted.{named_ins, named_outs}

@@ -10,7 +10,7 @@ use Rattle.pattern_writing.specs.WrittenText.{IsWritable}
 use Rattle.streams.specs.declared.streams.Streams.{Streams}
 use Rattle.streams.specs.Rows.{rows_of}
 use Rattle.drive.specs.Driving.{AreFor, first_miss, shown_bits}
-use Rattle.plan_cells.specs.Lists.{IsListOf}
+use Rattle.circuit_plans.specs.Lists.{IsListOf}
 use Rattle.cell_runs.specs.Runs.{shown_by}
 use Rattle.tile_match.specs.Circuit.{IsPlanDrawing}
 use Rattle.tile_match.specs.Names.{has_bad_name}

@@ -6,16 +6,16 @@ ghost use Rattle.lane_core.specs.Plans.{IsAdmissible};
 ghost use Rattle.pattern_reading.specs.Laws.{HasCellsInside};
 ghost use Rattle.pattern_reading.specs.SoundTable.{IsSoundTable};
 ghost use Rattle.drive.specs.Driving.{AreFor, first_miss, shown_bits, greatest_generation, last_generation, HasSimulateCause};
-ghost use Rattle.plan_cells.specs.Lists.{IsListOf};
+ghost use Rattle.circuit_plans.specs.Lists.{IsListOf};
 ghost use Rattle.drawn_runs.specs.Laws.{DrawsList};
 
 use crate::laws::drawings_show_their_lists;
 use cell_core::CellList;
+use circuit_plans::{LiftError, cells_of};
 use drive::{GREATEST_GENERATION, SimulateError, last_from};
 use lane_core::Plan;
 use lists::List;
 use pattern_reading::Ports;
-use plan_cells::{LiftError, cells_of};
 use std::alloc::{AllocError, Global};
 use streams::Streams;
 use tile_match::{AuditError, audit};

@@ -13,7 +13,7 @@ use Rattle.netlist_meaning.specs.Roots.{pin_named, actual_or_formal, out_of_line
 use Rattle.netlist_meaning.proofs.InNames.{root_of_top}
 use Rattle.netlist_meaning.proofs.Roots.{joined_is_same_root}
 use Rattle.lists.proofs.Members.{In, contains_from}
-use Rattle.sound_designs.proofs.Sound.{formals_once}
+use Rattle.flat_designs.proofs.Faultless.{formals_once}
 use Rattle.flat_designs.specs.Laws.{RootsAreByPins}
 use Rattle.lists.proofs.Ends.{not_nil}
 

@@ -16,7 +16,7 @@ use Rattle.netlist_meaning.proofs.Roots.{joined_is_same_root, roots_are_nearest}
 use Rattle.netlist_meaning.proofs.PlaceOrder.{places_are_ordered}
 use Rattle.netlist_rules.specs.ModelFaults.{AreFaultless}
 use Rattle.lists.proofs.Members.{In, in_right, in_map, in_flat, in_from, contains_from, in_got}
-use Rattle.sound_designs.proofs.Sound.{not_recursive, formals_once, formals_named}
+use Rattle.flat_designs.proofs.Faultless.{not_recursive, formals_once, formals_named}
 use Rattle.netlist_core.specs.declared.flat.Flat.{Flat}
 use Rattle.netlist_meaning.specs.Flat.{class_of, no_net}
 use Rattle.netlist_meaning.specs.FlatOrder.{IsFirstOfClass}

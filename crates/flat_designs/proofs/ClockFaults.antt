@@ -18,7 +18,7 @@ use Rattle.netlist_meaning.proofs.Roots.{joined_is_same_root}
 use Rattle.netlist_meaning.proofs.PlaceOrder.{places_are_ordered}
 use Rattle.netlist_rules.specs.ModelFaults.{AreFaultless}
 use Rattle.lists.proofs.Members.{In, in_left, in_map, in_mapped, in_from, contains_from, in_got}
-use Rattle.sound_designs.proofs.Sound.{formals_once}
+use Rattle.flat_designs.proofs.Faultless.{formals_once}
 use Rattle.netlist_core.specs.declared.flat.NetId.{NetId}
 use Rattle.netlist_core.specs.declared.flat.FlatPort.{FlatPort}
 use Rattle.netlist_core.specs.declared.flat.FlatLatch.{FlatLatch}

@@ -19,7 +19,7 @@ use Rattle.netlist_meaning.proofs.InNames.{root_of_top}
 use Rattle.netlist_meaning.proofs.Roots.{joined_is_same_root}
 use Rattle.netlist_rules.specs.ModelFaults.{AreFaultless}
 use Rattle.lists.proofs.Members.{In, in_map, in_mapped, in_from, contains_from, is_in, in_got}
-use Rattle.sound_designs.proofs.Sound.{formals_once}
+use Rattle.flat_designs.proofs.Faultless.{formals_once}
 use Rattle.netlist_core.specs.declared.flat.NetId.{NetId}
 use Rattle.netlist_core.specs.declared.flat.FlatPort.{FlatPort}
 use Rattle.netlist_core.specs.declared.flat.FlatLatch.{FlatLatch}

@@ -8,7 +8,7 @@ use Rattle.netlist_core.specs.declared.model.Model.{Model}
 use Rattle.netlist_meaning.specs.Places.{Place, model_at, IsBefore}
 use Rattle.netlist_meaning.proofs.PlaceOrder.{places_are_ordered}
 use Rattle.netlist_rules.specs.ModelFaults.{AreFaultless}
-use Rattle.sound_designs.proofs.Sound.{not_recursive}
+use Rattle.flat_designs.proofs.Faultless.{not_recursive}
 use Rattle.netlist_meaning.specs.InOrder.{of_some, places_in_order}
 use Rattle.netlist_meaning.specs.FlatOf.{at_places}
 use Rattle.flat_designs.proofs.Lists.{Pairs, pairs_weaken, pair_at, one_place, start, From, from, into, start_less, in_some_map}

@@ -7,14 +7,14 @@ use Rattle.netlist_meaning.specs.Nets.{net_at, IsControl}
 use Rattle.netlist_rules.specs.declared.fault.FaultKind.TheVariants.{DuplicatePort}
 use Rattle.netlist_rules.specs.ModelFaults.{AreFaultless, doubles_after, is_output_before, is_input_by_then}
 use Rattle.lists.proofs.Members.{In}
-use Rattle.sound_designs.proofs.Local.{Apart, no_repeat}
+use Rattle.flat_designs.proofs.Local.{Apart, no_repeat}
 use Rattle.lists.proofs.Appends.{append_nil_left as none_left, append_nil_right as none_right}
 use Rattle.netlist_meaning.specs.FlatOf.{PortsWithoutControl, kept, left_out}
 use Rattle.flat_designs.proofs.Lists.{Pairs, one_of_pairs, pairs_map}
 use Rattle.netlist_core.specs.Names.{Name, port_names}
 use Rattle.flat_designs.proofs.Valuations.{port_kept}
-use Rattle.sound_designs.proofs.Exists.{no_double}
-use Rattle.sound_designs.proofs.Sound.{clean_of}
+use Rattle.flat_designs.proofs.Exists.{no_double}
+use Rattle.flat_designs.proofs.Faultless.{clean_of}
 
 abbrev pub OtherName : Port → Port → Type 0
 OtherName p q = q.name ≢ p.name

@@ -18,11 +18,11 @@ use Rattle.netlist_rules.specs.declared.fault.FaultKind.TheVariants.{TwoClocks}
 use Rattle.netlist_rules.specs.Clocks.{HasNoClockFault, IsUse, by_cover, by_latch, by_main_output}
 use Rattle.netlist_rules.specs.ModelFaults.{AreFaultless}
 use Rattle.lists.proofs.Members.{In, in_left, in_right, in_map, in_mapped, in_from, contains_from, in_got, got_from}
-use Rattle.sound_designs.proofs.Sound.{in_models, wired, in_names_append}
-use Rattle.sound_designs.proofs.Driven.{names_left}
-use Rattle.sound_designs.proofs.OneDriver.{at_most_one_driver}
-use Rattle.sound_designs.proofs.Sources.{have_drivers}
-use Rattle.sound_designs.specs.OneDriver.{of_port, of_cover, of_latch}
+use Rattle.flat_designs.proofs.Faultless.{in_models, wired, in_names_append}
+use Rattle.flat_designs.proofs.Driven.{names_left}
+use Rattle.flat_designs.proofs.OneDriver.{at_most_one_driver}
+use Rattle.flat_designs.proofs.Sources.{have_drivers}
+use Rattle.flat_designs.specs.OneDriver.{of_port, of_cover, of_latch}
 use Rattle.netlist_core.specs.declared.flat.NetId.{NetId}
 use Rattle.netlist_core.specs.declared.flat.FlatPort.{FlatPort}
 use Rattle.netlist_core.specs.declared.flat.FlatLatch.{FlatLatch}
@@ -49,19 +49,19 @@ abbrev DesignNet : Design → Net → Type 0
 DesignNet design net = Rattle.netlist_meaning.specs.Nets.IsNet design net
 
 abbrev DesignDriver : Type 0
-DesignDriver = Rattle.sound_designs.specs.OneDriver.Driver
+DesignDriver = Rattle.flat_designs.specs.OneDriver.Driver
 
 abbrev DesignDrives : Design → DesignDriver → Net → Type 0
-DesignDrives design d net = Rattle.sound_designs.specs.OneDriver.Drives design d net
+DesignDrives design d net = Rattle.flat_designs.specs.OneDriver.Drives design d net
 
 abbrev covers_of : Model → List Cover
 covers_of m = m.covers
 
 -- a driver of a class and the driver of the design that it is
 abbrev SameDriver : (design : Design) (flat : Flat) → IsFlatOf design flat → FlatDriver → DesignDriver → Type 0
-SameDriver design flat h (input i) e = (p : Port) × (slice_get h.in_ports i ≡ Some p) × (e ≡ Rattle.sound_designs.specs.OneDriver.Driver.port p.name)
-SameDriver design flat h (latch i) e = (place : Place) × (number : ℕ) × IsIndex design latches_of (flat_latch design) place number i × (e ≡ Rattle.sound_designs.specs.OneDriver.Driver.latch place number)
-SameDriver design flat h (node n) e = (place : Place) × (number : ℕ) × IsIndex design covers_of (flat_node design) place number n × (e ≡ Rattle.sound_designs.specs.OneDriver.Driver.cover place number)
+SameDriver design flat h (input i) e = (p : Port) × (slice_get h.in_ports i ≡ Some p) × (e ≡ Rattle.flat_designs.specs.OneDriver.Driver.port p.name)
+SameDriver design flat h (latch i) e = (place : Place) × (number : ℕ) × IsIndex design latches_of (flat_latch design) place number i × (e ≡ Rattle.flat_designs.specs.OneDriver.Driver.latch place number)
+SameDriver design flat h (node n) e = (place : Place) × (number : ℕ) × IsIndex design covers_of (flat_node design) place number n × (e ≡ Rattle.flat_designs.specs.OneDriver.Driver.cover place number)
 
 record HasSameDriver (design : Design) (flat : Flat) (h : IsFlatOf design flat) (d : FlatDriver) (class : ℕ) : Type 0 where
   pub driver : DesignDriver
@@ -81,7 +81,7 @@ driven design flat faultless h (input i) class (x, is_x, is_class) =
     let n : DesignNet design (net_at [] p.name) = in_port_net design flat h p j in
     let (m, is_main, is_m, k) = in_port_main design flat h p j in
     record {
-      driver = Rattle.sound_designs.specs.OneDriver.Driver.port p.name;
+      driver = Rattle.flat_designs.specs.OneDriver.Driver.port p.name;
       net = net_at [] p.name;
       is_net = n;
       drives = of_port is_main (contains_from (port_names (m.ins ++ m.clocks)) p.name (names_left m.ins m.clocks p.name (in_map (λ (q : Port). q.name) m.ins p k)));
@@ -92,7 +92,7 @@ driven design flat faultless h (latch i) class (x, is_x, is_class) =
     let r : At design latches_of (flat_latch design) i x = at_of design latches_of (flat_latch design) i x (ap (λ (xs : List FlatLatch). slice_get xs i) (sym h.latches) ∙ is_x) in
     let n : DesignNet design (net_at r.place r.item.output) = is_net_of design r.place r.model r.item.output r.has_model (latch_name r.model r.item r.item.output (in_got r.model.latches r.number r.item r.has_item) (inr (inl refl))) in
     record {
-      driver = Rattle.sound_designs.specs.OneDriver.Driver.latch r.place r.number;
+      driver = Rattle.flat_designs.specs.OneDriver.Driver.latch r.place r.number;
       net = net_at r.place r.item.output;
       is_net = n;
       drives = of_latch r.has_model r.has_item;
@@ -103,7 +103,7 @@ driven design flat faultless h (node k) class (less, is_class) =
     let r : At design covers_of (flat_node design) k (node_at flat k) = at_of design covers_of (flat_node design) k (node_at flat k) (ap (λ (xs : List Node). slice_get xs k) (sym h.nodes) ∙ slice_get-get_or flat.nodes k no_node less) in
     let n : DesignNet design (net_at r.place r.item.out) = is_net_of design r.place r.model r.item.out r.has_model (cover_name r.model r.item r.item.out (in_got r.model.covers r.number r.item r.has_item) (in_right r.item.ins (r.item.out ∷ []) r.item.out (inl refl))) in
     record {
-      driver = Rattle.sound_designs.specs.OneDriver.Driver.cover r.place r.number;
+      driver = Rattle.flat_designs.specs.OneDriver.Driver.cover r.place r.number;
       net = net_at r.place r.item.out;
       is_net = n;
       drives = of_cover r.has_model r.has_item;
@@ -120,19 +120,19 @@ in_ports_apart design flat faultless h = kept_apart design (main_ports (λ (m : 
 
 same_driver : (design : Design) (flat : Flat) → AreFaultless design.models → (h : IsFlatOf design flat) (d e : FlatDriver) (x : DesignDriver) → SameDriver design flat h d x → SameDriver design flat h e x → d ≡ e
 same_driver design flat faultless h (input i) (input j) x (p, is_p, a) (q, is_q, b) =
-    let s : Rattle.sound_designs.specs.OneDriver.Driver.port p.name ≡ Rattle.sound_designs.specs.OneDriver.Driver.port q.name = sym a ∙ b in
+    let s : Rattle.flat_designs.specs.OneDriver.Driver.port p.name ≡ Rattle.flat_designs.specs.OneDriver.Driver.port q.name = sym a ∙ b in
     ap input (one_port h.in_ports i j p q (in_ports_apart design flat faultless h) is_p is_q (let e : p.name ≡ q.name = cc in e))
 same_driver design flat faultless h (input i) (latch j) x (p, is_p, a) (place, number, index, b) = absurd (cc)
 same_driver design flat faultless h (input i) (node j) x (p, is_p, a) (place, number, index, b) = absurd (cc)
 same_driver design flat faultless h (latch i) (input j) x (place, number, index, b) (p, is_p, a) = absurd (cc)
 same_driver design flat faultless h (latch i) (latch j) x (p, k, index, a) (q, l, other, b) =
-    let s : Rattle.sound_designs.specs.OneDriver.Driver.latch p k ≡ Rattle.sound_designs.specs.OneDriver.Driver.latch q l = sym a ∙ b in
+    let s : Rattle.flat_designs.specs.OneDriver.Driver.latch p k ≡ Rattle.flat_designs.specs.OneDriver.Driver.latch q l = sym a ∙ b in
     ap latch (one_index design latches_of (flat_latch design) p q k l i j index other (let e : p ≡ q = cc in e) (let e : k ≡ l = cc in e))
 same_driver design flat faultless h (latch i) (node j) x (p, k, index, a) (q, l, other, b) = absurd (cc)
 same_driver design flat faultless h (node i) (input j) x (place, number, index, b) (p, is_p, a) = absurd (cc)
 same_driver design flat faultless h (node i) (latch j) x (p, k, index, a) (q, l, other, b) = absurd (cc)
 same_driver design flat faultless h (node i) (node j) x (p, k, index, a) (q, l, other, b) =
-    let s : Rattle.sound_designs.specs.OneDriver.Driver.cover p k ≡ Rattle.sound_designs.specs.OneDriver.Driver.cover q l = sym a ∙ b in
+    let s : Rattle.flat_designs.specs.OneDriver.Driver.cover p k ≡ Rattle.flat_designs.specs.OneDriver.Driver.cover q l = sym a ∙ b in
     ap node (one_index design covers_of (flat_node design) p q k l i j index other (let e : p ≡ q = cc in e) (let e : k ≡ l = cc in e))
 
 one_driver : (design : Design) (flat : Flat) → AreFaultless design.models → IsFlatOf design flat → (class : ℕ) (d e : FlatDriver) → FlatDrives flat d class → FlatDrives flat e class → d ≡ e
@@ -300,12 +300,12 @@ has_driver design flat faultless clean h net n away =
         by_clock p (main_in (λ (m : Model). m.clocks) m p is_m j) (ap (λ v. class_of_net design (net_at [] v)) (sym same) ∙ e) (in_or_not (class_of_net design net) (port_classes flat flat.ins))
 
     by : (d : DesignDriver) (source : Net) → DesignDrives design d source → class_of_net design source ≡ class_of_net design net → (d : FlatDriver) × FlatDrives flat d (class_of_net design net)
-    by (Rattle.sound_designs.specs.OneDriver.Driver.port name) source (of_port {main = m} is_m c) e = by_port m name is_m (in_names_append m.ins m.clocks name (in_from (port_names (m.ins ++ m.clocks)) name c)) e
-    by (Rattle.sound_designs.specs.OneDriver.Driver.cover place number) source (of_cover {model = m} {c = c} is_m is_c) e =
+    by (Rattle.flat_designs.specs.OneDriver.Driver.port name) source (of_port {main = m} is_m c) e = by_port m name is_m (in_names_append m.ins m.clocks name (in_from (port_names (m.ins ++ m.clocks)) name c)) e
+    by (Rattle.flat_designs.specs.OneDriver.Driver.cover place number) source (of_cover {model = m} {c = c} is_m is_c) e =
         let i : In c m.covers = in_got m.covers number c is_c in
         let (k, less, is) = is_node design flat faultless h place m c is_m i in
         (node k, (less, ap (λ (v : Node). class_of flat v.out) is ∙ class_is design flat faultless h (net_at place c.out) (out_net design place m c is_m i) ∙ e))
-    by (Rattle.sound_designs.specs.OneDriver.Driver.latch place number) source (of_latch {model = m} {l = l} is_m is_l) e =
+    by (Rattle.flat_designs.specs.OneDriver.Driver.latch place number) source (of_latch {model = m} {l = l} is_m is_l) e =
         let (k, _, is) = index_of design faultless latches_of (flat_latch design) place m number l is_m is_l in
         (latch k, (flat_latch design place l, ap (λ (xs : List FlatLatch). slice_get xs k) h.latches ∙ is, class_is design flat faultless h (net_at place l.output) (state_net design place m l is_m (in_got m.latches number l is_l)) ∙ e))
 

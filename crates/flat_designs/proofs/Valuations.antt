@@ -21,7 +21,7 @@ use Rattle.netlist_meaning.proofs.Names.{and_then-from}
 use Rattle.netlist_meaning.proofs.InNames.{root_of_top}
 use Rattle.netlist_rules.specs.ModelFaults.{AreFaultless}
 use Rattle.lists.proofs.Members.{In, in_left, in_right, in_map, in_mapped, in_flat, in_flattened, in_from, contains_from, in_got, got_from, map_in}
-use Rattle.sound_designs.proofs.Sound.{wired, not_recursive}
+use Rattle.flat_designs.proofs.Faultless.{wired, not_recursive}
 use Rattle.netlist_core.specs.declared.flat.NetId.{NetId}
 use Rattle.netlist_core.specs.declared.flat.FlatPort.{FlatPort}
 use Rattle.netlist_core.specs.declared.flat.FlatLatch.{FlatLatch}
@@ -37,7 +37,7 @@ use Rattle.flat_designs.proofs.Listed.{place_is, place_listed}
 use Rattle.flat_designs.proofs.Names.{input_name, cover_name, latch_name, is_net_of, main_port}
 use Rattle.flat_designs.proofs.Classes.{net_there, class_is, joined_class, root_joined, root_is_net}
 use Rattle.lists.proofs.Appends.{slice_get_push as at_end}
-use Rattle.sound_designs.proofs.Exists.{joined_nets}
+use Rattle.flat_designs.proofs.Exists.{joined_nets}
 
 -- IN ports have the IN names
 pub ports_names : (design : Design) (ports rest : List Port) → PortsWithoutControl design ports rest → WithoutControl design (port_names ports) (port_names rest)

@@ -27,10 +27,10 @@ use Rattle.netlist_rules.specs.ModelFaults.{AreFaultless}
 use Rattle.lists.proofs.Members.{In, in_left, in_right, in_map, in_mapped, in_flat, in_from, contains_from, distinct_from, in_got, got_from}
 use Rattle.netlist_rules.proofs.ModelSteps.{model_of_name}
 use Rattle.netlist_rules.proofs.Faultless.{formals_are_distinct}
-use Rattle.sound_designs.proofs.Sound.{not_recursive, named_in, in_names_append}
-use Rattle.sound_designs.proofs.Driven.{name_local}
-use Rattle.sound_designs.proofs.OneDriver.{Local}
-use Rattle.sound_designs.proofs.OneDriver.Local.{by_input, by_cover, by_latch, by_output}
+use Rattle.flat_designs.proofs.Faultless.{not_recursive, named_in, in_names_append}
+use Rattle.flat_designs.proofs.Driven.{name_local}
+use Rattle.flat_designs.proofs.OneDriver.{Local}
+use Rattle.flat_designs.proofs.OneDriver.Local.{by_input, by_cover, by_latch, by_output}
 use Rattle.netlist_core.specs.declared.flat.Node.{Node}
 use Rattle.netlist_core.specs.declared.flat.FlatLatch.{FlatLatch}
 use Rattle.netlist_core.specs.declared.flat.FlatPort.{FlatPort}
@@ -45,7 +45,7 @@ use Rattle.flat_designs.proofs.Listed.{name_is, names_once}
 use Rattle.flat_designs.proofs.Indices.{row}
 use Rattle.lists.proofs.Sums.{sum_by-map, sum_by-same}
 use Rattle.std.proofs.lemmas.Map.Keys.{any_passes_from_place as any_at}
-use Rattle.sound_designs.proofs.Sound.{one_pin}
+use Rattle.flat_designs.proofs.Faultless.{one_pin}
 use Rattle.netlist_meaning.proofs.Places.{both}
 
 -- the sum of a number of models, over a model and all those below it

@@ -14,7 +14,7 @@ use Rattle.netlist_meaning.proofs.InNames.{in_names_are_there}
 use Rattle.netlist_meaning.proofs.Joined.{in_names_are_one}
 use Rattle.netlist_rules.specs.ModelFaults.{AreFaultless}
 use Rattle.lists.proofs.Members.{In, in_mapped, in_got, map_in}
-use Rattle.sound_designs.proofs.Sound.{not_recursive, formals_once}
+use Rattle.flat_designs.proofs.Faultless.{not_recursive, formals_once}
 use Rattle.netlist_core.specs.declared.flat.FlatPort.{FlatPort}
 use Rattle.netlist_core.specs.declared.flat.FlatLatch.{FlatLatch}
 use Rattle.netlist_core.specs.declared.flat.Flat.{Flat}

@@ -1,2 +1,5 @@
+pub mod Faultless
+pub mod OneDriver
+pub mod Order
 pub mod Laws
 pub mod ClockLaws

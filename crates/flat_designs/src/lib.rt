@@ -1,11 +1,31 @@
-//! Laws of the flat netlist of a design: it exists, it is unique, and it has the design's valuations, cycles and loops.
+//! Laws of designs without a fault, and of the flat netlist of a design. A design without a fault is not recursive, and each net
+//! has exactly one driver; its flat netlist exists, it is unique, and it has the design's valuations, cycles and loops.
 //!
 //! The functions here do nothing: their clauses are the laws.
 //!
-//! Theorem: `flat_is_there`, `flat_is_one`, `valuations_are_flat`, `cycles_are_flat`, `loops_are_flat`.
+//! Theorem: `faultless_have_drivers`, `faultless_are_not_recursive`, `flat_is_there`, `flat_is_one`, `valuations_are_flat`,
+//! `cycles_are_flat`, `loops_are_flat`.
 #![tactic(auto)]
 
+ghost use Rattle.flat_designs.specs.Faultless.{FaultlessAreNotRecursive};
 ghost use Rattle.flat_designs.specs.Laws.{ValuationsAreFlat, FlatIsSound, FlatIsInRange, LoopsAreFlat, FlatIsWeighed, FlatIsNamed, FlatIsThere, FlatIsOne, CyclesAreFlat};
+ghost use Rattle.flat_designs.specs.OneDriver.{FaultlessHaveAtMostOneDriver, FaultlessHaveDrivers};
+
+/// No model stands inside a place of itself.
+#[tactic(auto, using(crate::proofs::Faultless::not_recursive))]
+pub fn faultless_are_not_recursive()
+    ensures { FaultlessAreNotRecursive }
+{}
+
+/// Nets that are joined have at most one driver: a port of the main model, a cover or a latch.
+pub fn faultless_have_at_most_one_driver()
+    ensures { FaultlessHaveAtMostOneDriver }
+{}
+
+/// Each net is joined with one that has a driver.
+pub fn faultless_have_drivers()
+    ensures { FaultlessHaveDrivers }
+{}
 
 /// A valuation of the design is one of its flat netlist, and the other way round.
 pub fn valuations_are_flat()

@@ -1,3 +1,6 @@
+pub mod Near
+pub mod Passed
+pub mod Named
 pub mod Padding
 pub mod Uses
 pub mod Admissible

@@ -1,15 +1,19 @@
 //! Makes a plan of the columns of a program, with loops that bring back what leaves the columns, in one or several
-//! contexts.
+//! contexts. In context c a loop starts at the edge that lies c tiles before its entry, on its way back.
 //!
-//! Theorem: `close` (`admissible`, `closed`, `same`, `contexts`), `start_contexts`, `most_contexts`.
+//! Theorem: `close` (`admissible`, `closed`, `same`, `contexts`), `start_contexts`, `most_contexts`, `starts_of`.
 #![tactic(auto)]
 
 mod closing;
 mod error;
 pub mod laws;
+mod loop_starts;
 mod places;
 mod starting;
+mod walking;
 
 pub use closing::{close, most_contexts};
 pub use error::CloseError;
+pub use loop_starts::starts_of;
 pub use starting::start_contexts;
+pub use walking::tile_before;

@@ -7,10 +7,9 @@ ghost use Rattle.plan_waves.specs.Contexts.{StartsContexts};
 ghost use Rattle.latch_loops.specs.Closed.{contexts_size, IsPadded};
 ghost use Rattle.latch_loops.specs.Padded.{IsPaddedPlan, DoesAsPlan};
 
-use crate::CloseError;
+use crate::{CloseError, starts_of};
 use lane_core::{Column, Plan};
 use lists::List;
-use loop_starts::starts_of;
 use std::alloc::Global;
 
 /// Adds columns without instructions, where there are fewer than this many.

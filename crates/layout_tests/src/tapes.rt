@@ -10,9 +10,9 @@ use grid_assembly::size;
 use lane_core::Plan;
 use lists::List;
 use macro_grid::{Edges, admissible, macro_step};
+use plan_tapes::{LoadError, load};
 use std::alloc::Global;
 use std::test::Fail;
-use tape_loader::{LoadError, load};
 use ww_rule::State;
 
 // Lists of bits, a letter for each bit.

@@ -40,9 +40,9 @@ use Rattle.flat_designs.specs.Laws.{state_in_order}
 use Rattle.carries.specs.Cells.{ShowsBitsFrom, ShowsOutputs, drive}
 use Rattle.carries.specs.Carries.{ShowsRuns}
 use Rattle.circuit_plans.specs.Circuits.{IsCircuit, first_bits, without_nets}
-use Rattle.plan_cells.specs.Lifted.{entry_lanes, lift_columns, source_on}
-use Rattle.plan_cells.specs.Lists.{IsListOf}
-use Rattle.plan_cells.proofs.Whole.{computes_bare, is_plain}
+use Rattle.circuit_plans.specs.Lifted.{entry_lanes, lift_columns, source_on}
+use Rattle.circuit_plans.specs.Lists.{IsListOf}
+use Rattle.circuit_plans.proofs.Whole.{computes_bare, is_plain}
 use Rattle.plan_carries.proofs.Carried.{in_contexts}
 use Rattle.lifted_designs.specs.Computes.{ComputesDesign, ListsComputeLifted}
 use Rattle.lifted_designs.specs.Lifted.{lifted_design}

@@ -16,7 +16,7 @@ use Rattle.pattern_reading.specs.declared.ports.Ports.{Ports}
 use Rattle.pattern_reading.specs.Ports.{names_of}
 use Rattle.pattern_reading.specs.SoundTable.{IsSoundTable}
 use Rattle.lifted_designs.specs.Runs.{ArePortNames}
-use Rattle.lifted_lines.specs.Words.{ends_word, ends_well, is_word}
+use Rattle.lifted_designs.specs.Words.{ends_word, ends_well, is_word}
 use Rattle.tile_match.specs.Names.{is_break, is_bad_name, is_bad_port, shares_name, has_bad_name}
 
 no_line : PortLine

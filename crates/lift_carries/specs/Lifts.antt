@@ -7,7 +7,7 @@ use Rattle.pattern_reading.specs.declared.ports.Ports.{Ports}
 use Rattle.pattern_reading.specs.Ports.{names_of}
 use Rattle.carries.specs.Cells.{Spells}
 use Rattle.carries.specs.Carries.{Carries}
-use Rattle.plan_cells.specs.Lists.{IsListOf}
+use Rattle.circuit_plans.specs.Lists.{IsListOf}
 use Rattle.lifted_designs.specs.Lifted.{lifted_design}
 use Rattle.tile_match.specs.Circuit.{IsPlanDrawing}
 use Rattle.tile_match.specs.Names.{has_bad_name}

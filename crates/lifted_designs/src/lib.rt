@@ -1,15 +1,20 @@
-//! The netlist of a list of cells, as one BLIF model: the list computes it, it has runs, and it breaks no rule.
+//! The netlist of a list of cells, as one BLIF model: the list computes it, it has runs, and it breaks no rule. The lines of
+//! the model: what they say, and that a text with these lines is that netlist.
 //!
 //! The functions here do nothing: their clauses are the laws.
 //!
-//! Theorem: `lists_compute`, `lifted_have_runs`, `lifted_are_faultless`, `lifted_have_no_loop`; definition `lifted_design`.
+//! Theorem: `lists_compute`, `lifted_have_runs`, `lifted_are_faultless`, `lifted_have_no_loop`, `texts_read`, `words_are_read`;
+//! definitions `lifted_design`, `lifted_lines`.
 #![tactic(auto)]
 
 ghost use Rattle.lifted_designs.specs.Clocks.{LiftedHaveNoClockFault};
 ghost use Rattle.lifted_designs.specs.Computes.{ListsComputeLifted};
 ghost use Rattle.lifted_designs.specs.Faultless.{LiftedAreFaultless};
+ghost use Rattle.lifted_designs.specs.Lines.{LinesBreakNone, LinesSayLifted};
 ghost use Rattle.lifted_designs.specs.NoLoop.{LiftedHaveNoLoop};
+ghost use Rattle.lifted_designs.specs.Reads.{ReadAsLifted};
 ghost use Rattle.lifted_designs.specs.Runs.{LiftedHaveRuns};
+ghost use Rattle.lifted_designs.specs.Words.{WordsAreRead};
 
 /// A list of cells that names no constant 1 computes the netlist that is lifted of it.
 pub fn lists_compute()
@@ -34,4 +39,24 @@ pub fn lifted_have_no_clock_fault()
 /// It has no combinational loop, where its ports have names of their own.
 pub fn lifted_have_no_loop()
     ensures { LiftedHaveNoLoop }
+{}
+
+/// The lines say the lifted model.
+pub fn lines_say()
+    ensures { LinesSayLifted }
+{}
+
+/// No line breaks a rule on lines.
+pub fn lines_break_none()
+    ensures { LinesBreakNone }
+{}
+
+/// A text with these lines is the lifted netlist, without a fault by a rule on lines or models.
+pub fn texts_read()
+    ensures { ReadAsLifted }
+{}
+
+/// A text of lines of words has these logical lines. A word may hold `\`, but not at its end.
+pub fn words_are_read()
+    ensures { WordsAreRead }
 {}

@@ -13,13 +13,13 @@ use Rattle.netlist_meaning.specs.Places.{Place, model_at, latch_at, main_inputs}
 use Rattle.netlist_meaning.specs.Nets.{Net, net_at, IsPinned, by_pin, IsControl, IsClockNet, IsInNames}
 use Rattle.netlist_meaning.specs.CoverValue.{cover_value}
 use Rattle.netlist_meaning.specs.Valuation.{Valuation, LatchState, IsValuation, latches_in, start_state, output_bits}
-use Rattle.one_cover.specs.Parts.{pin_with}
+use Rattle.netlist_examples.specs.Parts.{pin_with}
 use Rattle.netlist_examples.specs.Designs.{sum_cover, carry_cover, first_line, second_line, adder_main, adder_design, full_adder}
 use Rattle.netlist_examples.specs.Instances.{AdderAdds, AdderHasClasses, number_spelled}
 use Rattle.netlist_meaning.proofs.Names.{and_then-from}
 use Rattle.netlist_meaning.proofs.SingleModel.{all_in_names}
 use Rattle.netlist_meaning.proofs.Joined.{in_names_are_one, pins_are_enough}
-use Rattle.one_cover.proofs.OneCover.{row_by_row}
+use Rattle.netlist_examples.proofs.OneCover.{row_by_row}
 use Rattle.lists.proofs.Members.{in_from, all_in}
 
 -- a fact of each element

@@ -15,7 +15,7 @@ use Rattle.lists.proofs.Names.{bytes_eq-same, bytes_eq-other, apart_by}
 use Rattle.netlist_meaning.proofs.SingleModel.{IsFlat, model_at-main, model_at-flat, joined-flat, latch_at-flat}
 use Rattle.netlist_meaning.proofs.Joined.{in_names_are_one}
 use Rattle.netlist_examples.proofs.ClockInstances.{control_is, control_is_no_input}
-use Rattle.one_cover.proofs.OneCover.{first_bit}
+use Rattle.netlist_examples.proofs.OneCover.{first_bit}
 
 -- a design of one latch, from d to q, whose one IN name is d
 record IsOneLatch (d q : Name) (first : Bool) (design : Design) : Type 0 where

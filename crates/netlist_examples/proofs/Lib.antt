@@ -1,3 +1,4 @@
+pub mod OneCover
 pub mod Toggle
 pub mod Loops
 pub mod TowerWeights

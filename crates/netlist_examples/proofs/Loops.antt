@@ -4,7 +4,7 @@ use Rattle.netlist_core.specs.declared.model.Pin.{Pin}
 use Rattle.netlist_meaning.specs.Nets.{Net, net_at, Joined, by_pin, itself, reversed, followed}
 use Rattle.netlist_meaning.specs.Loop.{Feeds}
 use Rattle.netlist_examples.specs.Designs.{loop_main, circle_line, circle_main, buffer_model, circle_design}
-use Rattle.one_cover.specs.Parts.{cover_with, pin_with}
+use Rattle.netlist_examples.specs.Parts.{cover_with, pin_with}
 use Rattle.netlist_examples.specs.Instances.{CoverReadsItself, IsLoopThroughPins}
 
 pub cover_reads_itself : CoverReadsItself

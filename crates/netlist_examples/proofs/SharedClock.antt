@@ -11,7 +11,7 @@ use Rattle.netlist_meaning.specs.Nets.{Net, net_at, IsPinned, Joined, by_pin, it
 use Rattle.netlist_meaning.specs.Roots.{root}
 use Rattle.netlist_rules.specs.Clocks.{PlacedLatch, IsPlacedLatch, HasSameControl, HasSameClock}
 use Rattle.netlist_core.specs.declared.model.Trigger.TheVariants.{Rise}
-use Rattle.one_cover.specs.Parts.{pin_with}
+use Rattle.netlist_examples.specs.Parts.{pin_with}
 use Rattle.netlist_examples.specs.Designs.{shared_line, shared_main, shared_inner, shared_design}
 use Rattle.netlist_examples.specs.Instances.{HasSharedClock}
 use Rattle.lists.proofs.Names.{apart_by}

@@ -11,7 +11,7 @@ use Rattle.netlist_meaning.specs.CoverValue.{cover_value}
 use Rattle.netlist_meaning.specs.Valuation.{Valuation, LatchState, IsValuation, IsRun, latches_in, start_state}
 use Rattle.netlist_meaning.specs.Loop.{Feeds, FeedsThrough}
 use Rattle.netlist_examples.specs.Designs.{toggle_main, toggle_design}
-use Rattle.one_cover.specs.Parts.{cover_with, plain_latch}
+use Rattle.netlist_examples.specs.Parts.{cover_with, plain_latch}
 use Rattle.netlist_examples.specs.Instances.{is_odd_cycle, LatchToggles, LatchBreaksLoop}
 use Rattle.lists.proofs.Names.{bytes_eq-same, bytes_eq-other}
 use Rattle.netlist_meaning.proofs.Names.{contains-one}

@@ -1,5 +1,5 @@
 -- Single designs, each with its text in a comment, where a slash stands for a line end.
-use Rattle.one_cover.specs.Parts.{ports_with, cover_with, plain_latch, pin_with, subckt_with, design_with}
+use Rattle.netlist_examples.specs.Parts.{ports_with, cover_with, plain_latch, pin_with, subckt_with, design_with}
 use Rattle.std.specs.Prelude.{ℕ, zero, suc, ◌+◌, ◌++◌, List, [], ◌∷◌, Some, codes, decimal}
 use Rattle.netlist_core.specs.declared.model.Design.{Design}
 use Rattle.netlist_core.specs.declared.model.Model.{Model}

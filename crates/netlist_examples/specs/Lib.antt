@@ -1,3 +1,5 @@
+pub mod Parts
+pub mod OneCover
 pub mod Designs
 pub mod Instances
 pub mod FlatInstances

@@ -21,7 +21,7 @@ use Rattle.netlist_meaning.proofs.Names.{and_then-from}
 use Rattle.netlist_meaning.proofs.Depth.{model_at-append}
 use Rattle.netlist_rules.specs.ModelFaults.{AreFaultless}
 use Rattle.lists.proofs.Members.{In, in_from, in_map, in_mapped, contains_from, in_got, got_from}
-use Rattle.sound_designs.proofs.Sound.{formals_named}
+use Rattle.flat_designs.proofs.Faultless.{formals_named}
 use Rattle.lists.proofs.Ends.{snoc_same}
 use Rattle.flat_designs.proofs.Lists.{in_some_map}
 use Rattle.flat_designs.proofs.Classes.{net_joined}

@@ -14,7 +14,7 @@ use Rattle.netlist_core.specs.declared.model.Subckt.{Subckt}
 use Rattle.netlist_core.specs.declared.model.Model.{Model}
 use Rattle.netlist_core.specs.Names.{Name, at_line, port_names}
 use Rattle.netlist_meaning.specs.Nets.{model_names}
-use Rattle.sound_designs.proofs.Sound.{in_models}
+use Rattle.flat_designs.proofs.Faultless.{in_models}
 use Rattle.blif_text.specs.declared.logical.Logical.{Logical}
 use Rattle.blif_text.specs.LogicalLines.{logical_lines, is_space}
 use Rattle.blif_text.specs.Models.{operands, has_directive, begins_model, stays_in_model, is_row, lines_with, ports_on, ports_listed, last_word, cover_of, cover_at, covers_of, is_control, latch_with, latch_on, is_equals, pin_of, pin_words, subckt_of, model_of, model_if, models_of}

@@ -4,8 +4,8 @@ use cell_rewriting::RewriteError;
 use cover_mapper::MapError;
 use latch_loops::CloseError;
 use plan_ports::PortsError;
+use plan_tapes::LoadError;
 use std::alloc::AllocError;
-use tape_loader::LoadError;
 use thiserror::Error;
 
 /// Why there is no plan. Each sound netlist with an order has one.

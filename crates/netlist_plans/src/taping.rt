@@ -9,7 +9,7 @@ ghost use Rattle.pattern_writing.specs.WrittenText.{pattern_text};
 ghost use Rattle.plan_layout.specs.Starts.{HasStartEdges};
 ghost use Rattle.plan_ports.specs.Tables.{HasPortNames, HasTablePlaces, IsTableOf};
 ghost use Rattle.streams.specs.Rows.{rows_of};
-ghost use Rattle.tape_loader.specs.Loaded.{with_tape};
+ghost use Rattle.plan_tapes.specs.Loaded.{with_tape};
 ghost use Rattle.netlist_plans.specs.Lists.{IsPlanned};
 ghost use Rattle.netlist_plans.specs.Planned.{IsSmall};
 
@@ -19,9 +19,9 @@ use lane_core::Plan;
 use netlist_core::Flat;
 use plan_carries::{plans_have_ports, tapes_run_by_themselves};
 use plan_ports::of_plan;
+use plan_tapes::load;
 use std::alloc::Global;
 use streams::Streams;
-use tape_loader::load;
 
 /// The plan that `plan_netlist` makes of a flat netlist, with streams of its inputs on its tape, and the table of that plan,
 /// which names no input. The text of both runs by itself: nothing drives it, and it shows the run on the streams, and on 0

@@ -12,7 +12,7 @@ use Rattle.netlist_meaning.specs.Valuation.{Valuation, LatchState, AgreeOnNets, 
 use Rattle.netlist_rules.specs.ModelFaults.{AreFaultless}
 use Rattle.netlist_rules.specs.Clocks.{HasNoClockFault, IsUse, by_latch, by_main_output}
 use Rattle.lists.proofs.Members.{In, in_mapped, contains_from, in_got, got_from, map_in}
-use Rattle.sound_designs.proofs.Sound.{wired}
+use Rattle.flat_designs.proofs.Faultless.{wired}
 use Rattle.flat_designs.specs.Laws.{latch_bits_from, state_in_order}
 use Rattle.flat_designs.proofs.Names.{output_name}
 use Rattle.flat_designs.proofs.Sound.{main_net, data_net}

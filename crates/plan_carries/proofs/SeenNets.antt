@@ -33,7 +33,7 @@ use Rattle.flat_designs.proofs.Classes.{class_is}
 use Rattle.flat_designs.proofs.Clocks.{clock_class}
 use Rattle.flat_designs.proofs.ClockFaults.{clock_classes_are_clock_nets}
 use Rattle.flat_designs.proofs.Valuations.{same_bit}
-use Rattle.sound_designs.proofs.FewLines.{lines_are_few}
+use Rattle.flat_designs.proofs.FewLines.{lines_are_few}
 use Rattle.place_paths.specs.Paths.{HasTableNumbers, name_and_path}
 use Rattle.plan_ports.specs.Tables.{HasTablePlaces, named_paths}
 use Rattle.plan_ports.proofs.Listed.{all_listed, pairs_listed}

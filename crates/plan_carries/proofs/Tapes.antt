@@ -17,7 +17,7 @@ use Rattle.lane_core.specs.declared.plan.NetPlace.{NetPlace}
 use Rattle.lane_core.specs.declared.plan.Plan.{Plan}
 use Rattle.lane_core.specs.Plans.{IsAdmissible, left_of, row_of, cell_after, net_cell_of}
 use Rattle.lane_core.specs.Tape.{AreTapeLists, tape_cycles, tape_row, tape_rows, tape_shift, moved_east}
-use Rattle.tape_loader.specs.Loaded.{with_tape}
+use Rattle.plan_tapes.specs.Loaded.{with_tape}
 use Rattle.plan_layout.specs.Starts.{HasStartEdges}
 use Rattle.plan_layout.specs.Planes.{start_plane}
 use Rattle.plan_layout.specs.Tape.{drawn_plane}
@@ -39,8 +39,8 @@ use Rattle.plan_ports.specs.Laws.{TablesAreReadable}
 use Rattle.plan_ports.specs.Tables.{IsTableOf}
 use Rattle.plan_ports.proofs.GatheredNets.{place_of_line}
 use Rattle.plan_ports.proofs.Readable.{one_has_room, small_size}
-use Rattle.tape_waves.specs.Tape.{drive_of_rows}
-use Rattle.tape_waves.specs.Laws.{ShowsByItself, TapesShowRows}
+use Rattle.plan_tapes.specs.Tape.{drive_of_rows}
+use Rattle.plan_tapes.specs.Laws.{ShowsByItself, TapesShowRows}
 use Rattle.plan_carries.specs.Compiled.{IsCompiled}
 use Rattle.plan_carries.specs.Laws.{PlansHavePorts, PlanesShowRuns, StartsAsFlat}
 use Rattle.plan_carries.specs.TapeLaws.{TapesRunByThemselves}

@@ -14,7 +14,7 @@ ghost use Rattle.plan_carries.specs.TapeLaws.{DesignsRunByThemselves, TapesRunBy
 use grid_assembly::laws::{keeps_law, patterns_are_planes};
 use pattern_writing::written_text_reads;
 use plan_ports::tables_are_readable;
-use tape_waves::tapes_show_rows;
+use plan_tapes::tapes_show_rows;
 use tile_library::Shipped;
 
 /// A plan that computes the cells of a flat netlist has its inputs and outputs.

@@ -2,8 +2,7 @@
 use crate::written::{Written, list_of};
 use cell_core::{Cell, CellList, Src};
 use cell_plans::plan_of;
-use circuit_plans::{first_bits, starts_of_bits};
-use plan_cells::cells_of;
+use circuit_plans::{cells_of, first_bits, starts_of_bits};
 use std::alloc::Global;
 use std::test::Fail;
 

@@ -29,7 +29,7 @@ use Rattle.flat_designs.proofs.Listed.{net_is, net_listed}
 use Rattle.flat_designs.proofs.Lists.{map_flat}
 use Rattle.flat_designs.proofs.Names.{latch_name, is_net_of}
 use Rattle.flat_designs.proofs.Valuations.{placed}
-use Rattle.sound_designs.proofs.Sound.{not_recursive}
+use Rattle.flat_designs.proofs.Faultless.{not_recursive}
 use Rattle.start_words.specs.Starts.{is_main_name, output_class}
 use Rattle.start_words.specs.Laws.{HasNamedLatch, LatchesAreFlat, NamedLatchesAreJoined}
 

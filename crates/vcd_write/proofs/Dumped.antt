@@ -11,7 +11,7 @@ use Rattle.pattern_reading.specs.declared.ports.NetLine.{NetLine}
 use Rattle.pattern_reading.specs.declared.ports.Ports.{Ports}
 use Rattle.streams.specs.declared.streams.Streams.{Streams}
 use Rattle.drive.specs.Driving.{driven_by}
-use Rattle.vcd_text.specs.Laws.{AreSameWaves}
+use Rattle.vcd_write.specs.Laws.{AreSameWaves}
 use Rattle.vcd_write.specs.declared.due_bits.Raster.{Raster}
 use Rattle.vcd_write.specs.NetBits.{FitsNets}
 use Rattle.vcd_write.specs.NetWaves.{NetInContext, last_of_all_nets, last_of_nets, net_waves, nets_in_contexts, reference_of, shown_of}

@@ -1,3 +1,9 @@
+mod Ids
+mod Values
+mod OneForm
+mod Order
+mod Alike
+mod EscapedNames
 mod Packed
 mod DueOrder
 mod DueSteps

@@ -6,7 +6,7 @@ use Rattle.std.proofs.lemmas.List.Elements.{All-append, All-cons, All-nil}
 use Rattle.std.proofs.lemmas.Grind.{flat_map-append}
 use Rattle.pattern_reading.specs.declared.ports.NetLine.{NetLine}
 use Rattle.pattern_reading.specs.Escapes.{escaped_byte}
-use Rattle.vcd_text.specs.References.{escaped_reference, is_plain_in_reference}
+use Rattle.vcd_write.specs.References.{escaped_reference, is_plain_in_reference}
 use Rattle.vcd_write.specs.NetWaves.{IsByteName, NetInContext, nets_in, reference_of}
 use Rattle.vcd_write.proofs.Variables.{contexts_more}
 

@@ -16,9 +16,9 @@ use Rattle.pattern_reading.specs.declared.ports.NetLine.{NetLine}
 use Rattle.pattern_reading.specs.declared.ports.Ports.{Ports}
 use Rattle.pattern_reading.specs.PortLines.{is_path_number, path_in}
 use Rattle.pattern_reading.specs.SoundTable.{IsSoundNet, IsSoundTable}
-use Rattle.vcd_text.specs.Reading.{IsWord}
-use Rattle.vcd_text.specs.References.{escaped_reference}
-use Rattle.vcd_text.proofs.References.{references_are_words}
+use Rattle.vcd_write.specs.Reading.{IsWord}
+use Rattle.vcd_write.specs.References.{escaped_reference}
+use Rattle.vcd_write.proofs.EscapedNames.{references_are_words}
 use Rattle.vcd_write.specs.NetWaves.{IsByteName, NetInContext, nets_in_contexts, path_before, reference_of}
 use Rattle.vcd_write.proofs.Variables.{context_low, net_there}
 

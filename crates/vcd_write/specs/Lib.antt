@@ -1,3 +1,7 @@
+pub mod Reading
+pub mod Writing
+pub mod References
+pub mod Laws
 pub mod Bits
 pub mod DueBits
 pub mod FirstBits

@@ -10,8 +10,8 @@ use Rattle.word_cuts.specs.Cuts.{with_context}
 use Rattle.streams.specs.declared.streams.Streams.{Streams}
 use Rattle.drive.specs.Driving.{last_from}
 use Rattle.probe_view.specs.Probes.{probed_at}
-use Rattle.vcd_text.specs.References.{escaped_reference}
-use Rattle.vcd_text.specs.Writing.{Waves}
+use Rattle.vcd_write.specs.References.{escaped_reference}
+use Rattle.vcd_write.specs.Writing.{Waves}
 
 -- a net as one context has it
 pub record NetInContext : Type 0 where

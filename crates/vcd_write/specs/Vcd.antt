@@ -2,8 +2,8 @@
 use Rattle.std.specs.Prelude.{ℕ, ◌+◌, ◌*◌, false, List, length, map, flat_map, get_or}
 use Rattle.std.specs.List.{range_with_len}
 use Rattle.pattern_writing.specs.Writer.{ended_lines}
-use Rattle.vcd_text.specs.Reading.{var_line, value_line, block_lines}
-use Rattle.vcd_text.specs.Writing.{Waves, var_of, value_of, block_of}
+use Rattle.vcd_write.specs.Reading.{var_line, value_line, block_lines}
+use Rattle.vcd_write.specs.Writing.{Waves, var_of, value_of, block_of}
 use Rattle.vcd_write.specs.declared.vcd.Vcd.{Vcd}
 
 -- the variables, each with its bits: that of variable n in a cycle stands at place cycle * count + n

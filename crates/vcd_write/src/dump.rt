@@ -4,7 +4,7 @@ ghost use Rattle.ww_rule.specs.Grid.{AreInBox, plane_of};
 ghost use Rattle.pattern_reading.specs.Ports.{cells_of};
 ghost use Rattle.pattern_reading.specs.SoundTable.{IsSoundTable};
 ghost use Rattle.drive.specs.Driving.{AreFor, HasSimulateCause, first_miss, greatest_generation};
-ghost use Rattle.vcd_text.specs.Laws.{AreSameWaves, SaysWaves};
+ghost use Rattle.vcd_write.specs.Laws.{AreSameWaves, SaysWaves};
 ghost use Rattle.vcd_write.specs.NetWaves.{last_of_all_nets, net_waves};
 ghost use Rattle.vcd_write.specs.Vcd.{waves_in};
 

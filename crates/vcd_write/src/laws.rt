@@ -1,8 +1,30 @@
-// Laws of the waves of nets.
+// Laws of VCD texts, and of the waves of nets. The functions do nothing: their clauses are the laws.
+ghost use Rattle.vcd_write.specs.Laws.{IdsAreDistinct, ReadsAsOneForm, SameWavesAreWrittenAlike, TextsSayWaves};
 ghost use Rattle.vcd_write.specs.NetWaves.{NetsHaveTheirBits};
+ghost use Rattle.vcd_write.specs.References.{ReferencesAreWords};
 
-/// Does nothing: its clause is the law that net i in context c is variable `c n + i`, where there are n nets, with the bits
-/// that its cell shows.
+/// The text of variables reads as them, and as nothing else: each has its bit at the time of each cycle.
+pub fn texts_say_waves()
+    ensures says { TextsSayWaves }
+    ensures alike { SameWavesAreWrittenAlike }
+{}
+
+/// Each text reads as one form at most.
+pub fn texts_read_as_one_form()
+    ensures { ReadsAsOneForm }
+{}
+
+/// No two variables have one id.
+pub fn ids_are_distinct()
+    ensures { IdsAreDistinct }
+{}
+
+/// Names with escapes are words, which stand between two spaces of a line.
+pub fn references_are_words()
+    ensures { ReferencesAreWords }
+{}
+
+/// Net i in context c is variable `c n + i`, where there are n nets, with the bits that its cell shows.
 pub fn nets_have_their_bits()
     ensures { NetsHaveTheirBits }
 {}

@@ -1,7 +1,8 @@
-//! Writes what the nets of a driven pattern show, cycle after cycle, as a VCD text. All nets are read in one run, and the text
-//! is written without memory.
+//! What VCD texts say (the value change dump of IEEE 1364, with variables of one bit), and what writes as such a text what the nets
+//! of a driven pattern show, cycle after cycle. All nets are read in one run, and the text is written without memory.
 //!
-//! Theorem: `of` (`near`, `quiet`, `waves`, `says`, `refused`); `write` (`ok`, `front`, `cause`).
+//! Theorem: `of` (`near`, `quiet`, `waves`, `says`, `refused`); `write` (`ok`, `front`, `cause`); `texts_say_waves`,
+//! `texts_read_as_one_form`, `ids_are_distinct`, `references_are_words`; definition `ReadsAsVcd`.
 #![tactic(auto)]
 
 mod due_bits;
@@ -17,7 +18,10 @@ mod text;
 mod vcd;
 
 pub use dump::of;
-pub use laws::nets_have_their_bits;
+pub use laws::{
+    ids_are_distinct, nets_have_their_bits, references_are_words, texts_read_as_one_form,
+    texts_say_waves,
+};
 pub use packed_bits::PackedBits;
 pub use text::write;
 pub use vcd::Vcd;

@@ -2,8 +2,8 @@
 ghost use Rattle.std.specs.Prelude.{◌≡◌, ◌≢◌, ◌<◌, ◌+◌, ◌%◌, ◌/◌, ℕ, List, [], ◌∷◌, ◌++◌, codes, decimal, OnOk, OnErr, if◌then◌else◌};
 ghost use Rattle.ww_base.specs.Pages.{held};
 ghost use Rattle.ww_base.specs.Progress.{Wrote, Broke};
-ghost use Rattle.vcd_text.specs.Reading.{var_line, time_line, value_line};
-ghost use Rattle.vcd_text.specs.Writing.{vcd_id};
+ghost use Rattle.vcd_write.specs.Reading.{var_line, time_line, value_line};
+ghost use Rattle.vcd_write.specs.Writing.{vcd_id};
 
 use itoa::Buffer;
 use ww_base::{Failed, Page, Sink};

@@ -3,7 +3,7 @@ ghost use Rattle.std.specs.Prelude.{◌≡◌, ◌<◌, ◌++◌, true, All, IfO
 ghost use Rattle.std.specs.List.{AllByRecursion};
 ghost use Rattle.std.specs.Fmt.{digit_glyph};
 ghost use Rattle.pattern_reading.specs.Escapes.{escaped_byte};
-ghost use Rattle.vcd_text.specs.References.{escaped_reference, is_plain_in_reference};
+ghost use Rattle.vcd_write.specs.References.{escaped_reference, is_plain_in_reference};
 ghost use Rattle.vcd_write.specs.NetWaves.{IsByteName, nets_in, nets_in_contexts, path_before, reference_of};
 
 use lists::{Bytes, List};

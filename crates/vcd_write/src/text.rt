@@ -4,7 +4,7 @@ ghost use Rattle.std.specs.Io.KnownBytes.{Appends};
 ghost use Rattle.ww_base.specs.Faults.{HasCause};
 ghost use Rattle.ww_base.specs.Pages.{held};
 ghost use Rattle.ww_base.specs.Progress.{Wrote, Broke};
-ghost use Rattle.vcd_text.specs.Writing.{is_written, vcd_text};
+ghost use Rattle.vcd_write.specs.Writing.{is_written, vcd_text};
 ghost use Rattle.vcd_write.specs.Vcd.{waves_in, vars_text, values_text, blocks_text};
 
 use crate::Vcd;

@@ -1,7 +1,7 @@
 use Rattle.std.proofs.Common.{sym, ap, ◌∙◌, max, length}
 use Rattle.std.proofs.lemmas.List.{length-map}
 use Rattle.pattern_reading.specs.Ports.{names_of}
-use Rattle.plan_cells.specs.Lifted.{source_on, lift_columns, entry_lanes}
+use Rattle.circuit_plans.specs.Lifted.{source_on, lift_columns, entry_lanes}
 use Rattle.lifted_designs.specs.Names.{most_leading}
 use Rattle.blif_write.proofs.Leading.{most_of_both}
 use Rattle.blif_write.proofs.lifting.of.Goals as goal

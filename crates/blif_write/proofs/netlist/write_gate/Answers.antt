@@ -4,7 +4,7 @@ use Rattle.lists.proofs.Results.{on_err}
 use Rattle.ww_base.specs.Pages.{held}
 use Rattle.ww_base.proofs.Steps.{wrote_then, wrote_broke, wrote_as, broke_as}
 use Rattle.blif_text.specs.declared.logical.Logical.{Logical}
-use Rattle.lifted_lines.specs.Lines.{rows_then}
+use Rattle.lifted_designs.specs.Lines.{rows_then}
 use Rattle.blif_write.specs.Words.{mark_in}
 use Rattle.blif_write.proofs.Pieces as pieces
 use Rattle.blif_write.proofs.netlist.write_gate.Goals as goal

@@ -3,7 +3,7 @@ use Rattle.lists.proofs.Results.{on_err}
 use Rattle.ww_base.specs.Pages.{held}
 use Rattle.ww_base.proofs.Steps.{wrote_then, wrote_broke, wrote_to}
 use Rattle.blif_text.specs.declared.logical.Logical.{Logical}
-use Rattle.lifted_lines.specs.Lines.{cell_lines}
+use Rattle.lifted_designs.specs.Lines.{cell_lines}
 use Rattle.blif_write.specs.Words.{mark_in}
 use Rattle.blif_write.proofs.Pieces as pieces
 use Rattle.blif_write.proofs.netlist.write_gates.Goals as goal

@@ -2,7 +2,7 @@ use Rattle.std.proofs.Common.{ℕ, List, ◌++◌, drop}
 use Rattle.ww_base.specs.Pages.{held}
 use Rattle.ww_base.specs.Progress.{Wrote}
 use Rattle.blif_text.specs.declared.logical.Logical.{Logical}
-use Rattle.lifted_lines.specs.Lines.{cell_lines}
+use Rattle.lifted_designs.specs.Lines.{cell_lines}
 use Rattle.blif_write.specs.Text.{worded_text}
 use Rattle.blif_write.specs.Words.{mark_in}
 use Rattle.blif_write.proofs.netlist.write_gates.Given as goal

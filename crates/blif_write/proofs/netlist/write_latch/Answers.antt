@@ -3,7 +3,7 @@ use Rattle.std.specs.Prelude.{codes}
 use Rattle.std.proofs.lemmas.Result.{on_ok_weaker, on_err_weaker}
 use Rattle.ww_base.specs.Pages.{held}
 use Rattle.ww_base.proofs.Steps.{wrote_as, broke_as}
-use Rattle.lifted_lines.specs.Lines.{worded_line}
+use Rattle.lifted_designs.specs.Lines.{worded_line}
 use Rattle.blif_write.specs.Text.{worded_text}
 use Rattle.blif_write.specs.Words.{mark_in}
 use Rattle.blif_write.proofs.netlist.write_latch.Goals as goal

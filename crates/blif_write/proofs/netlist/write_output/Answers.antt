@@ -4,7 +4,7 @@ use Rattle.std.proofs.lemmas.Result.{on_ok_weaker, on_err_weaker}
 use Rattle.lists.proofs.Results.{on_err}
 use Rattle.ww_base.proofs.Steps.{wrote_then, wrote_broke}
 use Rattle.blif_text.specs.declared.logical.Logical.{Logical}
-use Rattle.lifted_lines.specs.Lines.{row}
+use Rattle.lifted_designs.specs.Lines.{row}
 use Rattle.blif_write.proofs.netlist.write_output.Goals as goal
 
 pub returns-in_err-write_line-clause-err : goal.returns-in_err-write_line-clause-err

@@ -3,7 +3,7 @@ use Rattle.std.proofs.lemmas.Result.{on_ok_weaker, on_err_weaker}
 use Rattle.lists.proofs.Results.{on_err}
 use Rattle.ww_base.specs.Pages.{held}
 use Rattle.ww_base.proofs.Steps.{wrote_then, wrote_broke, wrote_to}
-use Rattle.lifted_lines.specs.Lines.{lines_of_outputs}
+use Rattle.lifted_designs.specs.Lines.{lines_of_outputs}
 use Rattle.blif_write.specs.Words.{mark_in}
 use Rattle.blif_write.proofs.Pieces as pieces
 use Rattle.blif_write.proofs.netlist.write_outputs.Goals as goal

@@ -1,7 +1,7 @@
 use Rattle.std.proofs.Common.{ℕ, ◌++◌, drop}
 use Rattle.ww_base.specs.Pages.{held}
 use Rattle.ww_base.specs.Progress.{Wrote}
-use Rattle.lifted_lines.specs.Lines.{lines_of_outputs}
+use Rattle.lifted_designs.specs.Lines.{lines_of_outputs}
 use Rattle.blif_write.specs.Text.{worded_text}
 use Rattle.blif_write.specs.Words.{mark_in}
 use Rattle.blif_write.proofs.netlist.write_outputs.Given as goal

@@ -6,7 +6,7 @@ use Rattle.ww_base.specs.Pages.{held}
 use Rattle.ww_base.proofs.Steps.{wrote_then, wrote_broke, wrote_to}
 use Rattle.blif_text.specs.declared.logical.Logical.{Logical}
 use Rattle.lifted_designs.specs.Names.{zero_name}
-use Rattle.lifted_lines.specs.Lines.{worded_line}
+use Rattle.lifted_designs.specs.Lines.{worded_line}
 use Rattle.blif_write.specs.Text.{worded_text}
 use Rattle.blif_write.specs.Words.{mark_in}
 use Rattle.blif_write.proofs.text.write_head.Goals as goal

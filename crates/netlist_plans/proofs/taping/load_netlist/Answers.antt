@@ -7,7 +7,7 @@ use Rattle.carries.specs.ByItself.{RunsByItselfFlat}
 use Rattle.plan_layout.specs.Starts.{HasStartEdges}
 use Rattle.streams.specs.Rows.{rows_of}
 use Rattle.plan_ports.specs.Tables.{HasPortsOf, IsTableOf}
-use Rattle.tape_loader.specs.Loaded.{with_tape}
+use Rattle.plan_tapes.specs.Loaded.{with_tape}
 use Rattle.plan_carries.specs.Compiled.{IsCompiled}
 use Rattle.plan_carries.proofs.Carried.{starts_as_flat}
 use Rattle.netlist_plans.specs.Planned.{IsSmall}

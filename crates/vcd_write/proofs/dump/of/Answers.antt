@@ -6,7 +6,7 @@ use Rattle.std.proofs.lemmas.Result.{err_from_is_err_and}
 use Rattle.drive.specs.Driving.{HasRunCause, first_miss, greatest_generation}
 use Rattle.drive.proofs.LaterMisses.{simulate_cause}
 use Rattle.drive.specs.Runs.{planes_of}
-use Rattle.vcd_text.proofs.Order.{texts_say_waves}
+use Rattle.vcd_write.proofs.Order.{texts_say_waves}
 use Rattle.vcd_write.specs.NetWaves.{last_of_all_nets, net_waves, nets_in_contexts, reference_of}
 use Rattle.vcd_write.proofs.Dumped.{fits_of, same_waves}
 use Rattle.vcd_write.proofs.Words.{references_words}

@@ -3,7 +3,7 @@ use Rattle.std.proofs.lemmas.Result.{on_ok_weaker, on_err_weaker}
 use Rattle.ww_base.specs.Pages.{held}
 use Rattle.lists.proofs.Results.{on_err}
 use Rattle.ww_base.proofs.Steps.{wrote_then, wrote_broke, wrote_as, broke_as}
-use Rattle.vcd_text.specs.Writing.{vcd_id}
+use Rattle.vcd_write.specs.Writing.{vcd_id}
 use Rattle.vcd_write.proofs.Texts.{var_joined}
 use Rattle.vcd_write.proofs.lines.write_var.Goals as goal
 

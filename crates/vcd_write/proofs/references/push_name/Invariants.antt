@@ -1,5 +1,5 @@
 use Rattle.std.proofs.Common.{◌≡◌, ◌++◌, take}
-use Rattle.vcd_text.specs.References.{escaped_reference}
+use Rattle.vcd_write.specs.References.{escaped_reference}
 use Rattle.vcd_write.specs.NetWaves.{IsByteName}
 use Rattle.vcd_write.proofs.references.push_name.Given as goal
 

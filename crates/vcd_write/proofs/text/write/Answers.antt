@@ -5,7 +5,7 @@ use Rattle.lists.proofs.Results.{on_err}
 use Rattle.ww_base.proofs.Steps.{wrote_then, wrote_broke, wrote_as, wrote_whole, broke_as, front_of, broke_cause, cause_of}
 use Rattle.vcd_write.specs.Vcd.{waves_in, blocks_text}
 use Rattle.vcd_write.proofs.text.write.Goals as goal
-use Rattle.vcd_text.specs.Reading.{time_line}
+use Rattle.vcd_write.specs.Reading.{time_line}
 use Rattle.vcd_write.proofs.Texts.{text_start}
 
 pub returns-in_err-write_vars-clause-front : goal.returns-in_err-write_vars-clause-front

@@ -5,8 +5,8 @@ use Rattle.ww_base.proofs.Steps.{wrote_then, wrote_broke, wrote_to}
 use Rattle.vcd_write.specs.Vcd.{waves_in, vars_text}
 use Rattle.vcd_write.proofs.text.write_vars.Goals as goal
 use Rattle.vcd_write.proofs.Texts.{vars_next, vars_none}
-use Rattle.vcd_text.specs.Reading.{var_line}
-use Rattle.vcd_text.specs.Writing.{vcd_id}
+use Rattle.vcd_write.specs.Reading.{var_line}
+use Rattle.vcd_write.specs.Writing.{vcd_id}
 
 pub reference-requires : goal.reference-requires
 reference-requires g c = omega (arith, c.loop-n-test.true, c.len-n-end.ensures)

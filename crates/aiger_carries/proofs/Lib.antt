@@ -1,4 +1,0 @@
-pub mod SameRuns
-pub mod Carried
-pub mod Cycles
-pub mod Needs

@@ -1,3 +1,0 @@
-pub mod CarriesAig
-pub mod Laws
-pub mod Needs

@@ -1,0 +1,10 @@
+//! Tapes of plans: bits for the inputs of a plan are put on its tape, before the body, and run in by themselves.
+//!
+//! Theorem: `load` (`loaded`, `admissible`, `back`), `tapes_run_in`, `tapes_begin`, `tapes_show_rows`.
+#![tactic(auto)]
+
+mod laws;
+mod loading;
+
+pub use laws::{tapes_begin, tapes_run_in, tapes_show_rows};
+pub use loading::{LoadError, load};

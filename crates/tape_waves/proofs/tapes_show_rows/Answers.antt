@@ -1,5 +1,0 @@
-use Rattle.tape_waves.proofs.Shown.{shows_by_itself}
-use Rattle.tape_waves.proofs.tapes_show_rows.Goals as goal
-
-pub returns : goal.returns
-returns c = λ library law plan h starts. shows_by_itself library law plan h h.tape starts

@@ -1,4 +1,0 @@
-pub mod Reading
-pub mod Writing
-pub mod References
-pub mod Laws
