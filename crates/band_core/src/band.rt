@@ -66,7 +66,8 @@ fn keep_edges(rows: &[Row], top: &mut Kept, bottom: &mut Kept)
     ensures long_top { length top.new.heads.items ≡ length top.old.heads.items }
     ensures long_bottom { length bottom.new.heads.items ≡ length bottom.old.heads.items }
     ensures top { AreSameWords top.new.heads.items (row_tails rows.now 0) }
-    ensures bottom { AreSameWords bottom.new.heads.items (row_tails rows.now (length rows.now - 1)) }
+    ensures bottom { AreSameWords bottom.new.heads.items
+        (row_tails rows.now (length rows.now - 1)) }
 {
     let last = rows.len() - 1;
     top.keep(rows[0].tails.as_slice(), rows[0].span);
@@ -104,7 +105,8 @@ fn step_with_due(
     ensures long_top { length top.new.heads.items ≡ length up.now }
     ensures long_bottom { length bottom.new.heads.items ≡ length up.now }
     ensures top { AreSameWords top.new.heads.items (row_heads rows.old 0) }
-    ensures bottom { AreSameWords bottom.new.heads.items (row_heads rows.old (length rows.old - 1)) }
+    ensures bottom { AreSameWords bottom.new.heads.items
+        (row_heads rows.old (length rows.old - 1)) }
     ensures shows { (p : Plane)
         → IsEmptyWest p
         → ShowRows rows.old p (pos y)

@@ -58,7 +58,8 @@ fn list_drawn(
     pattern: &Pattern,
     ports: &Ports,
 ) -> Result<Option<CellList>, AllocError>
-    ensures { IfOk result (λ found. MatchOption found ⊤ (DrawsList (grid_of pattern.now) ports.now)) }
+    ensures { IfOk result (λ found. MatchOption found ⊤
+        (DrawsList (grid_of pattern.now) ports.now)) }
 {
     match audit(alloc, pattern, ports) {
         Ok(plan) => Ok(Some(list_of(alloc, &plan)?)),
@@ -76,7 +77,8 @@ fn list_to_run(
 ) -> Result<Option<CellList>, AllocError>
     requires cycles { 0 < streams.now.cycles }
     requires streams { AreFor ports.now streams.now }
-    ensures drawn { IfOk result (λ found. MatchOption found ⊤ (DrawsList (grid_of pattern.now) ports.now)) }
+    ensures drawn { IfOk result (λ found. MatchOption found ⊤
+        (DrawsList (grid_of pattern.now) ports.now)) }
     ensures near { IfOk result (λ found. MatchOption found ⊤ (λ _.
         last_generation ports.now streams.now ≤ greatest_generation)) }
 {
@@ -102,10 +104,13 @@ pub fn simulate(
     requires inside { HasCellsInside pattern.width pattern.height ports.now }
     ensures near { OnOk result (last_generation ports.now streams.now ≤ greatest_generation) }
     ensures quiet { OnOk result (
-        first_miss ports.now streams.now (plane_of pattern.rows) (last_generation ports.now streams.now) ≡ None) }
-    ensures bits { IfOk result (λ bits. bits ≡ shown_bits ports.now streams.now (plane_of pattern.rows)) }
+        first_miss ports.now streams.now (plane_of pattern.rows)
+        (last_generation ports.now streams.now) ≡ None) }
+    ensures bits { IfOk result (λ bits. bits ≡
+        shown_bits ports.now streams.now (plane_of pattern.rows)) }
     ensures refused { IfErr result (
-        HasSimulateCause ports.now streams.now (plane_of pattern.rows) (last_generation ports.now streams.now)) }
+        HasSimulateCause ports.now streams.now (plane_of pattern.rows)
+        (last_generation ports.now streams.now)) }
 {
     match list_to_run(alloc, &pattern, ports, streams)? {
         Some(list) => {

@@ -47,7 +47,8 @@ pub fn start_contexts(alloc: Global, plan: Plan, starts: &[List<bool>]) -> Resul
     requires few { 1 < length starts.now → length plan.columns < 2 ^ 39 }
     ensures admissible { IfOk result IsAdmissible }
     ensures edges { IfOk result HasStartEdges }
-    ensures padded { IfOk result (IsPaddedPlan (contexts_size plan.latches (length starts.now)) plan) }
+    ensures padded { IfOk result
+        (IsPaddedPlan (contexts_size plan.latches (length starts.now)) plan) }
     ensures same { IfOk result (DoesAsPlan plan) }
     ensures contexts { IfOk result (λ p. StartsContexts p starts.now (start_edges p)) }
 {

@@ -52,7 +52,8 @@ impl Edges {
         requires admissible { IsAdmissible plan.now }
         requires starts { HasStartEdges plan.now }
         ensures made { IfOk result (IsEdgesOf plan.now) }
-        ensures lit { IfOk result (λ e. (edge : tiling.Edge) → lit_of e edge ≡ drawn_edges plan.now edge) }
+        ensures lit { IfOk result (λ e. (edge : tiling.Edge) →
+            lit_of e edge ≡ drawn_edges plan.now edge) }
     {
         let lanes = edge_lanes(plan);
         let Some(count) = edge_columns(plan).checked_mul(lanes) else {

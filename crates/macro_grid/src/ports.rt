@@ -36,7 +36,8 @@ fn are_distinct(lanes: &[u32]) -> bool
 
 // The least of the lanes from `from` on.
 fn least_from(lanes: &[u32], from: u64) -> Option<u32>
-    ensures { MatchOption result (All (λ lane. lane < from) lanes.now) (IsLeastFrom from lanes.now) }
+    ensures { MatchOption result (All (λ lane. lane < from) lanes.now)
+        (IsLeastFrom from lanes.now) }
 {
     let mut least = None;
     for lane in lanes {
@@ -49,7 +50,8 @@ fn least_from(lanes: &[u32], from: u64) -> Option<u32>
 
 // The place of a lane in the span that begins at `from`, and none for a lane of another span.
 fn place_in_span(lane: u32, from: u32) -> Option<usize>
-    ensures { MatchOption result ((lane < from) ⊎ (from + 65536 ≤ lane)) (λ place. (place < 65536) × (lane ≡ from + place)) }
+    ensures { MatchOption result ((lane < from) ⊎ (from + 65536 ≤ lane))
+        (λ place. (place < 65536) × (lane ≡ from + place)) }
 {
     let place = lane.checked_sub(from)? as usize;
     if place < SPAN { Some(place) } else { None }

@@ -85,7 +85,8 @@ fn are_places_within(places: &[NetPlace], lanes: u32, steps: u64) -> bool
 
 // Whether each list has this many bits, which is from 1 to 4,096.
 fn are_tape_lists(lists: &[List<bool>], cycles: usize) -> bool
-    ensures { IsTrue result ↔ All (λ bits. (1 ≤ length bits) × (length bits ≤ 4096) × (length bits ≡ cycles)) lists.now }
+    ensures { IsTrue result ↔
+        All (λ bits. (1 ≤ length bits) × (length bits ≤ 4096) × (length bits ≡ cycles)) lists.now }
 {
     lists.iter().all(|bits| 1 <= bits.len() && bits.len() <= 4096 && bits.len() == cycles)
 }

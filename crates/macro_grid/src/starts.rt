@@ -11,7 +11,8 @@ use plan_layout::{Edge, edge_name, is_passed};
 
 // The edge that has the cell at this `x` and `y`.
 fn edge_at(x: u64, y: u64) -> Option<Edge>
-    ensures { MatchOption result ((edge : tiling.Edge) → HasCell edge x y → ⊥) (λ edge. HasCell (as_edge edge) x y) }
+    ensures { MatchOption result ((edge : tiling.Edge) → HasCell edge x y → ⊥)
+        (λ edge. HasCell (as_edge edge) x y) }
 {
     let (column, lane) = (x / 32, y / 16);
     match (x % 32, y % 16) {

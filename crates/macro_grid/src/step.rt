@@ -169,10 +169,13 @@ pub fn macro_step(plan: &Plan, old: &Edges, new: &mut Edges)
     requires admissible { IsAdmissible plan.now }
     requires made { IsEdgesOf plan.now new.old }
     ensures made { IsEdgesOf plan.now new.new }
-    ensures step { (edge : Edge) → lit_of new.new edge ≡ next_edges (drawn_tiling plan.now) (lit_of old.now) edge }
+    ensures step { (edge : Edge) → lit_of new.new edge ≡
+        next_edges (drawn_tiling plan.now) (lit_of old.now) edge }
     // whatever the drawings of the tiles, if they keep the timing law
-    ensures plane { (library : Kind → Drawing) → KeepsLaw library → IsDrawnAfter32 library (drawn_tiling plan.now) (lit_of old.now) (lit_of new.new) }
-    ensures later { (library : Kind → Drawing) → KeepsLaw library → StepsByMacro library (drawn_tiling plan.now) (lit_of old.now) }
+    ensures plane { (library : Kind → Drawing) → KeepsLaw library →
+        IsDrawnAfter32 library (drawn_tiling plan.now) (lit_of old.now) (lit_of new.new) }
+    ensures later { (library : Kind → Drawing) → KeepsLaw library →
+        StepsByMacro library (drawn_tiling plan.now) (lit_of old.now) }
 {
     let lanes = new.lanes;
     step_beside(plan, old, lanes, &mut new.beside);

@@ -268,7 +268,8 @@ fn put_spaced<E: Sink>(err: &mut E, page: &mut Page, names: &[Bytes]) -> Result<
 
 // Tells a loop by the names of its nets.
 fn tell_loop<E: Sink>(err: &mut E, names: &[Bytes]) -> Result<(), Failed>
-    ensures ok { OnOk result (Appends (E.written err.old) (E.written err.new) (loop_line names.now)) }
+    ensures ok { OnOk result (Appends (E.written err.old) (E.written err.new)
+        (loop_line names.now)) }
     ensures front { OnErr result
         ((n : ℕ) × Appends (E.written err.old) (E.written err.new) (take n (loop_line names.now))) }
     ensures cause { HasCause (E.faults err.old) (E.faults err.new) result }
@@ -299,9 +300,11 @@ fn put_numbers<E: Sink>(err: &mut E, page: &mut Page, numbers: &[u64]) -> Result
 
 // Tells a loop of a circuit by the literals of its left sides.
 fn tell_aig_loop<E: Sink>(err: &mut E, literals: &[u64]) -> Result<(), Failed>
-    ensures ok { OnOk result (Appends (E.written err.old) (E.written err.new) (aig_loop_line literals.now)) }
+    ensures ok { OnOk result (Appends (E.written err.old) (E.written err.new)
+        (aig_loop_line literals.now)) }
     ensures front { OnErr result
-        ((n : ℕ) × Appends (E.written err.old) (E.written err.new) (take n (aig_loop_line literals.now))) }
+        ((n : ℕ) × Appends (E.written err.old) (E.written err.new)
+        (take n (aig_loop_line literals.now))) }
     ensures cause { HasCause (E.faults err.old) (E.faults err.new) result }
 {
     let mut page = Page::new();
@@ -314,9 +317,11 @@ fn tell_aig_loop<E: Sink>(err: &mut E, literals: &[u64]) -> Result<(), Failed>
 impl Cause {
     // Writes the one line that tells the cause, or a front of it where a write fails.
     fn tell<E: Sink>(&self, err: &mut E) -> Result<(), Failed>
-        ensures ok { OnOk result (Appends (E.written err.old) (E.written err.new) (cause_line self.now)) }
+        ensures ok { OnOk result (Appends (E.written err.old) (E.written err.new)
+            (cause_line self.now)) }
         ensures front { OnErr result
-            ((n : ℕ) × Appends (E.written err.old) (E.written err.new) (take n (cause_line self.now))) }
+            ((n : ℕ) × Appends (E.written err.old) (E.written err.new)
+            (take n (cause_line self.now))) }
         ensures cause { HasCause (E.faults err.old) (E.faults err.new) result }
     {
         match self {
@@ -346,9 +351,11 @@ impl Cause {
 impl Refusal {
     /// Writes the one line that tells the refusal, or a front of it where a write fails.
     pub fn tell<E: Sink>(&self, err: &mut E) -> Result<(), Failed>
-        ensures ok { OnOk result (Appends (E.written err.old) (E.written err.new) (refusal_line self.now)) }
+        ensures ok { OnOk result (Appends (E.written err.old) (E.written err.new)
+            (refusal_line self.now)) }
         ensures front { OnErr result
-            ((n : ℕ) × Appends (E.written err.old) (E.written err.new) (take n (refusal_line self.now))) }
+            ((n : ℕ) × Appends (E.written err.old) (E.written err.new)
+            (take n (refusal_line self.now))) }
         ensures cause { HasCause (E.faults err.old) (E.faults err.new) result }
     {
         match self {

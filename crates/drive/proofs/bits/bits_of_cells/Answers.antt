@@ -1,4 +1,4 @@
-use Rattle.std.proofs.Common.{◌≡◌, ◌+◌, ◌*◌, ◌-◌, sym, ap, subst, ◌∙◌, arith, ℕ, Option}
+use Rattle.std.proofs.Common.{◌≡◌, sym, ap, subst, ◌∙◌, arith, ℕ, Option}
 use Rattle.ww_rule.specs.declared.pattern.Injection.{Injection}
 use Rattle.ww_rule.specs.Grid.{plane_of}
 use Rattle.ww_rule.specs.Wireworld.{Plane}
@@ -27,8 +27,8 @@ returns-in_err-quiet-clause-refused c =
     let streams = c.args.streams.now in
     let plane = plane_of c.args.pattern.rows in
     let last = last_from c.args.first ports streams in
-    let generations = c.args.first + (32 * (ports.c - 1) + (streams.cycles - 1) * ports.p) in
-    let same : generations ≡ last = omega arith in
+    let generations = c.last_from-generations.result in
+    let same : generations ≡ last = c.last_from-generations.ensures in
     let near = c.if-generations-gt-GREATEST_GENERATION.false in
     let error = c.in_err-quiet.field-0.0 in
     let misses = c.pass_injections.ensures.misses ∙ c.in_ok-bits.ensures.gone.misses ∙ c.in_ok-run.ensures.misses in
@@ -44,8 +44,8 @@ returns-clause-quiet c =
     let streams = c.args.streams.now in
     let plane = plane_of c.args.pattern.rows in
     let last = last_from c.args.first ports streams in
-    let generations = c.args.first + (32 * (ports.c - 1) + (streams.cycles - 1) * ports.p) in
-    let same : generations ≡ last = omega arith in
+    let generations = c.last_from-generations.result in
+    let same : generations ≡ last = c.last_from-generations.ensures in
     ap (first_miss ports streams plane) (sym same)
     ∙ sym (c.pass_injections.ensures.missed
     ∙ ap (λ (m : ℕ → Option Injection). m generations) (c.pass_injections.ensures.misses ∙ c.in_ok-bits.ensures.gone.misses ∙ c.in_ok-run.ensures.misses))
