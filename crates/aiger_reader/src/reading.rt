@@ -1,5 +1,5 @@
 // The reading of a text.
-ghost use Rattle.std.specs.Prelude.{◌≡◌, ◌+◌, ◌^◌, ◌<◌, ◌≤◌, ◌++◌, [], List, Some, length, filter_map, slice_get, option_map, IfOk, IfErr, OnOk};
+ghost use Rattle.std.specs.Prelude.{ℕ, ◌≡◌, ◌+◌, ◌^◌, ◌<◌, ◌≤◌, ◌++◌, [], List, Some, length, filter_map, slice_get, option_map, IfOk, IfErr, OnOk};
 ghost use Rattle.std.specs.Result.{IsErrOf, IsOkUnless};
 ghost use Rattle.aiger_text.specs.declared.aig.Aig.{Aig};
 ghost use Rattle.aiger_text.specs.declared.fault.AigFault.{AigFault};
@@ -11,7 +11,7 @@ ghost use Rattle.aiger_text.specs.Symbols.{Symbol};
 ghost use Rattle.aiger_text.specs.declared.fault.AigFaultKind.TheVariants.{Undefined};
 ghost use Rattle.aiger_text.specs.declared.section.SymbolKind.TheVariants.{Input, Output};
 ghost use Rattle.aiger_reader.specs.Known.{KnowsDefined, KnowsSymbols};
-ghost use Rattle.aiger_reader.specs.Read.{IsFirstOf, lines_after, undefined_at};
+ghost use Rattle.aiger_reader.specs.Read.{IsFirstOf, IsReadOf, lines_after, undefined_at};
 ghost use Rattle.aiger_reader.specs.declared.error.AigReadError.TheVariants.{Fault, NoMemory};
 
 use crate::check::reads_undefined;
@@ -55,6 +55,51 @@ fn first_undefined(entries: &[Entry], defined: &BTreeSet<u64>) -> Option<u64>
     None
 }
 
+// Adds the names of the inputs and then those of the outputs, where no two have one.
+fn push_port_names(
+    names: &mut Vec<Bytes>,
+    alloc: Global,
+    counts: Counts,
+    tables: &NameTables<'_>,
+) -> Result<(), AigReadError>
+    requires few { 2 + counts.inputs + counts.latches + counts.outputs < 2 ^ 64 }
+    requires empty { names.old.items ≡ [] }
+    requires known { (symbols : List Symbol) × KnowsSymbols counts tables.now symbols }
+    ensures names { OnOk result (
+        (symbols : List Symbol)
+        → KnowsSymbols counts tables.now symbols
+        → names.new.items
+        ≡ names_for symbols Input counts.inputs ++ names_for symbols Output counts.outputs
+        ) }
+    ensures apart { OnOk result (
+        (symbols : List Symbol)
+        → KnowsSymbols counts tables.now symbols
+        → name_faults counts symbols ≡ []
+        ) }
+    ensures refused { IfErr result (λ e.
+        (symbols : List Symbol)
+        → KnowsSymbols counts tables.now symbols
+        → IsFirstOf (name_faults counts symbols) e
+        ) }
+{
+    push_names(names, alloc, SymbolKind::Input, &tables.inputs)?;
+    if let Some(line) = first_repeat(alloc, names, 2)? {
+        return Err(AigReadError::Fault(AigFault {
+            kind: AigFaultKind::SameName,
+            line,
+        }));
+    }
+    let inputs = names.len();
+    push_names(names, alloc, SymbolKind::Output, &tables.outputs)?;
+    if let Some(line) = first_repeat(alloc, &names[inputs..], 2 + counts.inputs + counts.latches)? {
+        return Err(AigReadError::Fault(AigFault {
+            kind: AigFaultKind::SameName,
+            line,
+        }));
+    }
+    Ok(())
+}
+
 // The names of the inputs and then those of the outputs, where no two have one.
 fn port_names(
     alloc: Global,
@@ -77,21 +122,7 @@ fn port_names(
         ) }
 {
     let mut names = Vec::with_capacity(alloc, (counts.inputs + counts.outputs) as usize)?;
-    push_names(&mut names, alloc, SymbolKind::Input, &tables.inputs)?;
-    if let Some(line) = first_repeat(alloc, &names, 2)? {
-        return Err(AigReadError::Fault(AigFault {
-            kind: AigFaultKind::SameName,
-            line,
-        }));
-    }
-    let inputs = names.len();
-    push_names(&mut names, alloc, SymbolKind::Output, &tables.outputs)?;
-    if let Some(line) = first_repeat(alloc, &names[inputs..], 2 + counts.inputs + counts.latches)? {
-        return Err(AigReadError::Fault(AigFault {
-            kind: AigFaultKind::SameName,
-            line,
-        }));
-    }
+    push_port_names(&mut names, alloc, counts, tables)?;
     Ok(names)
 }
 
@@ -116,6 +147,37 @@ fn aig_of(alloc: Global, m: u64, entries: &[Entry], names: Vec<Bytes>) -> Result
     })
 }
 
+// The circuit that the lines of the sections and the symbols make.
+fn aig_in(
+    alloc: Global,
+    counts: Counts,
+    sections: &Sections<'_>,
+    tables: &NameTables<'_>,
+) -> Result<Aig, AigReadError>
+    requires { (text : List ℕ) × IsReadOf counts text sections.now tables.now }
+    ensures aig { IfOk result (λ aig. (text : List ℕ) → IsReadOf counts text sections.now tables.now
+        → aig ≡ aig_with counts (lines_after 1 text)) }
+    ensures no_fault { OnOk result (
+        (text : List ℕ)
+        → IsReadOf counts text sections.now tables.now
+        → later_faults counts (lines_after 1 text) ≡ []
+        ) }
+    ensures refused { IfErr result (λ e.
+        (text : List ℕ)
+        → IsReadOf counts text sections.now tables.now
+        → IsFirstOf (later_faults counts (lines_after 1 text)) e
+        ) }
+{
+    if let Some(line) = first_undefined(&sections.entries, &sections.defined) {
+        return Err(AigReadError::Fault(AigFault {
+            kind: AigFaultKind::Undefined,
+            line,
+        }));
+    }
+    let names = port_names(alloc, counts, tables)?;
+    Ok(aig_of(alloc, counts.m, &sections.entries, names)?)
+}
+
 // The circuit of the lines after a header with these counts.
 fn read_later(alloc: Global, counts: Counts, text: &[u8]) -> Result<Aig, AigReadError>
     requires { 2 + length text.now < 2 ^ 64 }
@@ -125,14 +187,7 @@ fn read_later(alloc: Global, counts: Counts, text: &[u8]) -> Result<Aig, AigRead
 {
     let sections = read_sections(alloc, counts, text)?;
     let tables = read_symbols(alloc, counts, sections.lines, sections.rest)?;
-    if let Some(line) = first_undefined(&sections.entries, &sections.defined) {
-        return Err(AigReadError::Fault(AigFault {
-            kind: AigFaultKind::Undefined,
-            line,
-        }));
-    }
-    let names = port_names(alloc, counts, &tables)?;
-    Ok(aig_of(alloc, counts.m, &sections.entries, names)?)
+    aig_in(alloc, counts, &sections, &tables)
 }
 
 /// Reads an AIGER text in ASCII, whose lines end with byte 10, or with bytes 13 and 10: a header `aag M I L O A`; a line

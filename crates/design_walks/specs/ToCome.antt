@@ -1,5 +1,5 @@
 -- What a walk over the places of a design has still to list.
-use Rattle.std.specs.Prelude.{ℕ, suc, ◌≡◌, ◌-◌, List, [], ◌∷◌, ◌++◌, Some, length, map, slice_get, position, MatchOption, option_map, option_to_list}
+use Rattle.std.specs.Prelude.{ℕ, suc, ◌≡◌, ◌-◌, List, [], ◌∷◌, ◌++◌, Some, None, length, map, slice_get, position, MatchOption, option_map, option_to_list}
 use Rattle.netlist_core.specs.declared.model.Design.{Design}
 use Rattle.netlist_core.specs.declared.model.Model.{Model}
 use Rattle.netlist_core.specs.declared.model.Subckt.{Subckt}
@@ -8,6 +8,10 @@ use Rattle.netlist_meaning.specs.Places.{Place}
 use Rattle.netlist_meaning.specs.InOrder.{of_some, places_in_lines, places_below}
 use Rattle.design_walks.specs.declared.placed.PlacedModel.{PlacedModel}
 use Rattle.design_walks.specs.Places.{IsModelAt, HasParent}
+
+-- the place of the main model
+abbrev pub main_placed : PlacedModel
+main_placed = record { place = []; model = 0; parent = None }
 
 -- the model of that number, at the place of a line inside the place of that number
 abbrev pub inner_at : PlacedModel → ℕ → ℕ → ℕ → PlacedModel

@@ -1,6 +1,7 @@
 // Each name where it first stands, with its position.
-ghost use Rattle.std.specs.Prelude.{◌≡◌, Contains, is_some, slice_get, Some, IfOk, OnOk, MatchOption};
-ghost use Rattle.netlist_meaning.specs.InOrder.{by_line, model_words, names_in_order};
+ghost use Rattle.std.specs.Prelude.{◌≡◌, [], Contains, is_some, slice_get, Some, IfOk, OnOk, MatchOption};
+ghost use Rattle.netlist_core.specs.Names.{port_names};
+ghost use Rattle.netlist_meaning.specs.InOrder.{by_line, first_names, model_words, names_in_order};
 ghost use Rattle.flat_designs.specs.Laws.{append_unless};
 ghost use Rattle.design_walks.specs.Positions.{bytes_of, position_in, HasPositions};
 ghost use Rattle.design_walks.specs.Words.{as_ports};
@@ -37,9 +38,7 @@ impl<'a> ModelNames<'a> {
         let words = words_by_line(alloc, model)?;
         let mut names = Vec::new(alloc);
         let mut positions = BTreeMap::new(alloc);
-        for word in &words {
-            push_new(&mut names, &mut positions, word.name)?;
-        }
+        push_first_names(&mut names, &mut positions, &words)?;
         Ok(ModelNames {
             names: List::of(names),
             positions,
@@ -92,5 +91,24 @@ fn push_new<'a>(
     }
     positions.insert(name, names.len())?;
     names.push(name)?;
+    Ok(())
+}
+
+// Adds the names of words, each where it first stands, to an empty list.
+fn push_first_names<'a>(
+    names: &mut Vec<&'a [u8]>,
+    positions: &mut BTreeMap<&'a [u8], usize>,
+    words: &[Word<'a>],
+) -> Result<(), AllocError>
+    requires names { names.old.items ≡ [] }
+    requires positions { HasPositions positions.old [] }
+    ensures names { OnOk result (
+        bytes_of names.new.items ≡ first_names (port_names (as_ports words.now))
+        ) }
+    ensures positions { OnOk result (HasPositions positions.new (bytes_of names.new.items)) }
+{
+    for word in words {
+        push_new(names, positions, word.name)?;
+    }
     Ok(())
 }

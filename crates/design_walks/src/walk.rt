@@ -3,7 +3,7 @@ ghost use Rattle.std.specs.Prelude.{◌≡◌, ◌<◌, ◌≤◌, ◌^◌, ◌+
 ghost use Rattle.netlist_meaning.specs.Weight.{weight};
 ghost use Rattle.netlist_rules.specs.ModelFaults.{AreFaultless};
 ghost use Rattle.design_walks.specs.Places.{ArePlaces};
-ghost use Rattle.design_walks.specs.ToCome.{placed_by, placed_by_lines};
+ghost use Rattle.design_walks.specs.ToCome.{main_placed, placed_by, placed_by_lines};
 
 use crate::placed::{Parent, PlacedModel};
 use lists::List;
@@ -78,6 +78,29 @@ fn push_inside(
     Ok(())
 }
 
+// Lists the places that a stack has still to give, each before those inside it.
+fn list_places(
+    listed: &mut Vec<PlacedModel>,
+    to_come: &mut Vec<PlacedModel>,
+    alloc: Global,
+    design: &Design,
+    named: &NamedModels,
+) -> Result<(), AllocError>
+    requires faultless { AreFaultless design.now.models }
+    requires few { weight design.now < 2 ^ 32 }
+    requires named { named.now ≡ design.now.models }
+    requires listed { listed.old.items ≡ [] }
+    requires to_come { to_come.old.items ≡ main_placed ∷ [] }
+    ensures { OnOk result (ArePlaces design.now listed.new.items) }
+{
+    while let Some(placed) = to_come.pop() {
+        let lines = design.models.get(placed.model).subckts.as_slice();
+        push_inside(to_come, alloc, named, &placed, listed.len(), lines)?;
+        listed.push(placed)?;
+    }
+    Ok(())
+}
+
 /// The places of a design, each before those inside it.
 pub fn places(
     alloc: Global,
@@ -96,10 +119,6 @@ pub fn places(
         model: 0,
         parent: None,
     })?;
-    while let Some(placed) = to_come.pop() {
-        let lines = design.models.get(placed.model).subckts.as_slice();
-        push_inside(&mut to_come, alloc, named, &placed, listed.len(), lines)?;
-        listed.push(placed)?;
-    }
+    list_places(&mut listed, &mut to_come, alloc, design, named)?;
     Ok(List::of(listed))
 }

@@ -44,7 +44,8 @@ fn weights(
 ) -> Result<Vec<u64>, AllocError>
     requires index { named.now ≡ design.now.models }
     requires order { IsModelOrder design.now.models order.now }
-    ensures { IfOk result (λ weights. AreWeights design.now order.now (length order.now) weights.items) }
+    ensures { IfOk result (λ weights. AreWeights design.now order.now
+        (length order.now) weights.items) }
 {
     let models = design.models.as_slice();
     let mut weights = vec![in alloc; 0; models.len()]?;

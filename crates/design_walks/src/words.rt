@@ -49,14 +49,16 @@ fn push_ports<'a>(words: &mut Vec<Word<'a>>, ports: &'a [Port]) -> Result<(), Al
 }
 
 fn push_cover<'a>(words: &mut Vec<Word<'a>>, cover: &'a Cover) -> Result<(), AllocError>
-    ensures { OnOk result (as_ports words.new.items ≡ as_ports words.old.items ++ cover_words cover.now) }
+    ensures { OnOk result (as_ports words.new.items ≡
+        as_ports words.old.items ++ cover_words cover.now) }
 {
     push_names(words, cover.line, cover.ins.as_slice())?;
     push_name(words, cover.line, &cover.out)
 }
 
 fn push_latch<'a>(words: &mut Vec<Word<'a>>, latch: &'a LatchRow) -> Result<(), AllocError>
-    ensures { OnOk result (as_ports words.new.items ≡ as_ports words.old.items ++ latch_words latch.now) }
+    ensures { OnOk result (as_ports words.new.items ≡
+        as_ports words.old.items ++ latch_words latch.now) }
 {
     push_name(words, latch.line, &latch.input)?;
     push_name(words, latch.line, &latch.output)?;
@@ -67,7 +69,8 @@ fn push_latch<'a>(words: &mut Vec<Word<'a>>, latch: &'a LatchRow) -> Result<(), 
 }
 
 fn push_subckt<'a>(words: &mut Vec<Word<'a>>, line: &'a Subckt) -> Result<(), AllocError>
-    ensures { OnOk result (as_ports words.new.items ≡ as_ports words.old.items ++ subckt_words line.now) }
+    ensures { OnOk result (as_ports words.new.items ≡
+        as_ports words.old.items ++ subckt_words line.now) }
 {
     for pin in line.pins.as_slice() {
         push_name(words, line.line, &pin.actual)?;
@@ -108,16 +111,25 @@ fn push_subckts<'a>(words: &mut Vec<Word<'a>>, lines: &'a [Subckt]) -> Result<()
     Ok(())
 }
 
+// Adds the words of a model's lines to an empty list.
+fn push_model_words<'a>(words: &mut Vec<Word<'a>>, model: &'a Model) -> Result<(), AllocError>
+    requires { words.old.items ≡ [] }
+    ensures { OnOk result (as_ports words.new.items ≡ model_words model.now) }
+{
+    push_ports(words, model.ins.as_slice())?;
+    push_ports(words, model.outs.as_slice())?;
+    push_ports(words, model.clocks.as_slice())?;
+    push_covers(words, model.covers.as_slice())?;
+    push_latches(words, model.latches.as_slice())?;
+    push_subckts(words, model.subckts.as_slice())?;
+    Ok(())
+}
+
 /// The words of a model's lines, list by list.
 pub fn words_of(alloc: Global, model: &Model) -> Result<Vec<Word<'_>>, AllocError>
     ensures { IfOk result (λ words. as_ports words.items ≡ model_words model.now) }
 {
     let mut words = Vec::new(alloc);
-    push_ports(&mut words, model.ins.as_slice())?;
-    push_ports(&mut words, model.outs.as_slice())?;
-    push_ports(&mut words, model.clocks.as_slice())?;
-    push_covers(&mut words, model.covers.as_slice())?;
-    push_latches(&mut words, model.latches.as_slice())?;
-    push_subckts(&mut words, model.subckts.as_slice())?;
+    push_model_words(&mut words, model)?;
     Ok(words)
 }

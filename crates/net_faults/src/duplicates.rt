@@ -1,11 +1,12 @@
 // Names that are twice a port.
-ghost use Rattle.std.specs.Prelude.{◌≡◌, List, [], OnOk};
+ghost use Rattle.std.specs.Prelude.{◌≡◌, ◌++◌, List, [], OnOk};
 ghost use Rattle.netlist_core.specs.declared.model.Port.{Port};
 ghost use Rattle.netlist_rules.specs.ModelFaults.{doubles_after, duplicate_ports};
 ghost use Rattle.model_words.specs.Words.{earliest_word, earliest_after};
 ghost use Rattle.net_faults.specs.declared.numbering.Numbering as numbered;
 ghost use Rattle.net_faults.specs.Numbering.{AreNumbered, IsNumbered, numbered_port, numbered_ports};
 ghost use Rattle.net_faults.specs.Elsewhere.{KnowsOthers, stands_elsewhere};
+ghost use Rattle.net_faults.specs.FirstLines.{AreFirstLines};
 ghost use Rattle.net_faults.specs.NetWords.{ArePortsOf, HaveNumbers};
 
 use crate::first_lines::FirstLines;
@@ -27,7 +28,8 @@ pub enum Elsewhere<'l> {
 
 // Whether the name of a word stands in the other list.
 fn stands_elsewhere(elsewhere: Elsewhere<'_>, word: NumberedWord<'_>) -> bool
-    ensures { (names : numbered.Numbering) (others : List Port) → IsNumbered names word.entry → KnowsOthers names elsewhere.entry others →
+    ensures { (names : numbered.Numbering) (others : List Port) → IsNumbered names word.entry →
+        KnowsOthers names elsewhere.entry others →
         result ≡ stands_elsewhere elsewhere.entry others (numbered_port word.entry) }
 {
     match elsewhere {
@@ -46,7 +48,9 @@ fn offer_doubles<'a>(
 ) -> Result<(), AllocError>
     requires { AreNumbered names.now words.now }
     ensures { OnOk result ((others : List Port) → KnowsOthers names.now elsewhere.entry others →
-        earliest_word earliest.new ≡ earliest_after (earliest_word earliest.old) (doubles_after (stands_elsewhere elsewhere.entry others) [] (numbered_ports words.now))) }
+        earliest_word earliest.new ≡
+        earliest_after (earliest_word earliest.old)
+        (doubles_after (stands_elsewhere elsewhere.entry others) [] (numbered_ports words.now))) }
 {
     let mut repeats = Repeats::new(alloc, names, words)?;
     for word in words {
@@ -54,6 +58,34 @@ fn offer_doubles<'a>(
             earliest.offer(word.word);
         }
     }
+    Ok(())
+}
+
+// Offers the names of a model that are twice a port, by the lines of its inputs and clocks and those of its outputs.
+fn offer_duplicates_by<'a>(
+    alloc: Global,
+    model: &'a Model,
+    words: &NetWords<'a>,
+    inputs: &FirstLines,
+    outputs: &FirstLines,
+    earliest: &mut Earliest<'a>,
+) -> Result<(), AllocError>
+    requires numbers { HaveNumbers words.now }
+    requires ports { ArePortsOf words.now model.now }
+    requires inputs { AreFirstLines words.now.names inputs.now (model.now.ins ++ model.now.clocks) }
+    requires outputs { AreFirstLines words.now.names outputs.now model.now.outs }
+    ensures { OnOk result (
+        earliest_word earliest.new
+        ≡ earliest_after (earliest_word earliest.old) (duplicate_ports model.now)
+        ) }
+{
+    let names = &words.names;
+    let before = Elsewhere::Before(outputs);
+    let up_to = Elsewhere::UpTo(inputs);
+    let (ins, clocks) = words.inputs.split_at(model.ins.len());
+    offer_doubles(alloc, names, ins, before, earliest)?;
+    offer_doubles(alloc, names, clocks, before, earliest)?;
+    offer_doubles(alloc, names, &words.outputs, up_to, earliest)?;
     Ok(())
 }
 
@@ -72,19 +104,7 @@ pub fn offer_duplicates<'a>(
         ≡ earliest_after (earliest_word earliest.old) (duplicate_ports model.now)
         ) }
 {
-    let names = &words.names;
-    let inputs = FirstLines::of(alloc, names, &words.inputs)?;
-    let outputs = FirstLines::of(alloc, names, &words.outputs)?;
-    let before = Elsewhere::Before(&outputs);
-    let (ins, clocks) = words.inputs.split_at(model.ins.len());
-    offer_doubles(alloc, names, ins, before, earliest)?;
-    offer_doubles(alloc, names, clocks, before, earliest)?;
-    offer_doubles(
-        alloc,
-        names,
-        &words.outputs,
-        Elsewhere::UpTo(&inputs),
-        earliest,
-    )?;
-    Ok(())
+    let inputs = FirstLines::of(alloc, &words.names, &words.inputs)?;
+    let outputs = FirstLines::of(alloc, &words.names, &words.outputs)?;
+    offer_duplicates_by(alloc, model, words, &inputs, &outputs, earliest)
 }

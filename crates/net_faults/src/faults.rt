@@ -1,7 +1,7 @@
 // The faults of models in their nets.
-ghost use Rattle.std.specs.Prelude.{◌≡◌, List, IfOk, OnOk};
+ghost use Rattle.std.specs.Prelude.{◌≡◌, List, flat_map, IfOk, OnOk};
 ghost use Rattle.netlist_core.specs.declared.model.Model.{Model};
-ghost use Rattle.netlist_rules.specs.ModelFaults.{duplicate_ports, second_drivers, undriven_readings};
+ghost use Rattle.netlist_rules.specs.ModelFaults.{earliest, duplicate_ports, second_drivers, undriven_readings};
 ghost use Rattle.netlist_rules.specs.declared.fault.FaultKind.TheVariants.{DuplicatePort, MultipleDrivers, Undriven};
 ghost use Rattle.model_words.specs.EarliestBroken.{earliest_broken};
 ghost use Rattle.model_words.specs.Words.{earliest_word, earliest_after};
@@ -48,10 +48,15 @@ fn offer_model<'a>(
         duplicate_ports model.now
         )
         ) }
-    ensures second_driver { OnOk result ((models : List Model) → KnowsPlaced placed.now models model.now →
-        earliest_word earliest.new.second_driver ≡ earliest_after (earliest_word earliest.old.second_driver) (second_drivers models model.now)) }
-    ensures undriven { OnOk result ((models : List Model) → KnowsPlaced placed.now models model.now →
-        earliest_word earliest.new.undriven ≡ earliest_after (earliest_word earliest.old.undriven) (undriven_readings models model.now)) }
+    ensures second_driver { OnOk result ((models : List Model) →
+        KnowsPlaced placed.now models model.now →
+        earliest_word earliest.new.second_driver ≡
+        earliest_after (earliest_word earliest.old.second_driver)
+        (second_drivers models model.now)) }
+    ensures undriven { OnOk result ((models : List Model) →
+        KnowsPlaced placed.now models model.now →
+        earliest_word earliest.new.undriven ≡
+        earliest_after (earliest_word earliest.old.undriven) (undriven_readings models model.now)) }
 {
     let words = NetWords::of(alloc, model, placed)?;
     offer_duplicates(alloc, model, &words, &mut earliest.duplicate_port)?;
@@ -59,16 +64,19 @@ fn offer_model<'a>(
     offer_undriven(alloc, model, placed, &words, &mut earliest.undriven)
 }
 
-/// The faults of models, whose ports are these.
-pub fn net_faults<'a>(
+// The earliest word at which models break each rule.
+fn earliest_words<'a>(
     alloc: Global,
     models: &'a [Model],
     placed: &PlacedPorts<'_, 'a>,
-) -> Result<NetFaults, AllocError>
+) -> Result<EarliestWords<'a>, AllocError>
     requires { KnowsPorts placed.now models.now }
-    ensures duplicate_port { IfOk result (λ faults. faults.duplicate_port ≡ earliest_broken DuplicatePort models.now) }
-    ensures second_driver { IfOk result (λ faults. faults.second_driver ≡ earliest_broken MultipleDrivers models.now) }
-    ensures undriven { IfOk result (λ faults. faults.undriven ≡ earliest_broken Undriven models.now) }
+    ensures duplicate_port { IfOk result (λ words. earliest_word words.duplicate_port ≡
+        earliest (flat_map duplicate_ports models.now)) }
+    ensures second_driver { IfOk result (λ words. earliest_word words.second_driver ≡
+        earliest (flat_map (second_drivers models.now) models.now)) }
+    ensures undriven { IfOk result (λ words. earliest_word words.undriven ≡
+        earliest (flat_map (undriven_readings models.now) models.now)) }
 {
     let mut earliest = EarliestWords {
         duplicate_port: Earliest::new(),
@@ -78,13 +86,34 @@ pub fn net_faults<'a>(
     for model in models {
         offer_model(alloc, model, placed, &mut earliest)?;
     }
+    Ok(earliest)
+}
+
+/// The faults of models, whose ports are these.
+pub fn net_faults<'a>(
+    alloc: Global,
+    models: &'a [Model],
+    placed: &PlacedPorts<'_, 'a>,
+) -> Result<NetFaults, AllocError>
+    requires { KnowsPorts placed.now models.now }
+    ensures duplicate_port { IfOk result (λ faults. faults.duplicate_port ≡
+        earliest_broken DuplicatePort models.now) }
+    ensures second_driver { IfOk result (λ faults. faults.second_driver ≡
+        earliest_broken MultipleDrivers models.now) }
+    ensures undriven { IfOk result (λ faults. faults.undriven ≡
+        earliest_broken Undriven models.now) }
+{
+    let earliest = earliest_words(alloc, models, placed)?;
+    let duplicate_port = earliest
+        .duplicate_port
+        .fault(alloc, FaultKind::DuplicatePort)?;
+    let second_driver = earliest
+        .second_driver
+        .fault(alloc, FaultKind::MultipleDrivers)?;
+    let undriven = earliest.undriven.fault(alloc, FaultKind::Undriven)?;
     Ok(NetFaults {
-        duplicate_port: earliest
-            .duplicate_port
-            .fault(alloc, FaultKind::DuplicatePort)?,
-        second_driver: earliest
-            .second_driver
-            .fault(alloc, FaultKind::MultipleDrivers)?,
-        undriven: earliest.undriven.fault(alloc, FaultKind::Undriven)?,
+        duplicate_port,
+        second_driver,
+        undriven,
     })
 }

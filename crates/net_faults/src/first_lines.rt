@@ -89,9 +89,11 @@ impl FirstLines {
 
     /// Adds a word, and answers whether its name stood on a line up to the word's.
     pub fn insert(&mut self, word: NumberedWord<'_>) -> bool
-        ensures stood { (names : numbered.Numbering) (ports : List Port) → IsNumbered names word.entry → AreFirstLines names self.old ports →
+        ensures stood { (names : numbered.Numbering) (ports : List Port) →
+            IsNumbered names word.entry → AreFirstLines names self.old ports →
             result ≡ list_any (same_name_up_to (numbered_port word.entry)) ports }
-        ensures added { (names : numbered.Numbering) (ports : List Port) → IsNumbered names word.entry → AreFirstLines names self.old ports →
+        ensures added { (names : numbered.Numbering) (ports : List Port) →
+            IsNumbered names word.entry → AreFirstLines names self.old ports →
             AreFirstLines names self.new (numbered_port word.entry ∷ ports) }
     {
         let known = self.line(word.number);
@@ -101,7 +103,8 @@ impl FirstLines {
 
     /// Whether the word's name stands on a line before the word's.
     pub fn has_before(&self, word: NumberedWord<'_>) -> bool
-        ensures { (names : numbered.Numbering) (ports : List Port) → IsNumbered names word.entry → AreFirstLines names self.now ports →
+        ensures { (names : numbered.Numbering) (ports : List Port) → IsNumbered names word.entry →
+            AreFirstLines names self.now ports →
             result ≡ list_any (same_name_before (numbered_port word.entry)) ports }
     {
         is_before(self.line(word.number), word.word.line)
@@ -109,7 +112,8 @@ impl FirstLines {
 
     /// Whether the word's name stands on a line up to the word's.
     pub fn has_up_to(&self, word: NumberedWord<'_>) -> bool
-        ensures { (names : numbered.Numbering) (ports : List Port) → IsNumbered names word.entry → AreFirstLines names self.now ports →
+        ensures { (names : numbered.Numbering) (ports : List Port) → IsNumbered names word.entry →
+            AreFirstLines names self.now ports →
             result ≡ list_any (same_name_up_to (numbered_port word.entry)) ports }
     {
         is_up_to(self.line(word.number), word.word.line)

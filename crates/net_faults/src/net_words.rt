@@ -50,16 +50,17 @@ impl<'a> NetWords<'a> {
     ) -> Result<NetWords<'a>, AllocError>
         ensures numbers { IfOk result (λ words. HaveNumbers words) }
         ensures ports { IfOk result (λ words. ArePortsOf words model.now) }
-        ensures drivers { IfOk result (λ words. (models : List Model) → KnowsPlaced placed.now models model.now
+        ensures drivers { IfOk result (λ words. (models : List Model) →
+            KnowsPlaced placed.now models model.now
             → AreDriverWords words models model.now) }
     {
         let mut names = Numbering::new(alloc);
-        let inputs = names.number_words(alloc, &input_words(alloc, model)?)?;
-        let outputs = names.number_words(alloc, &port_words(alloc, model.outs.as_slice())?)?;
-        let others = names.number_words(alloc, &other_drivers(alloc, model, placed)?)?;
-        let unknown = names.number_words(
+        let inputs = names.number_found(alloc, input_words(alloc, model))?;
+        let outputs = names.number_found(alloc, port_words(alloc, model.outs.as_slice()))?;
+        let others = names.number_found(alloc, other_drivers(alloc, model, placed))?;
+        let unknown = names.number_found(
             alloc,
-            &actual_words(alloc, PinKind::Unknown, model, placed)?,
+            actual_words(alloc, PinKind::Unknown, model, placed),
         )?;
         Ok(NetWords {
             names,
@@ -73,7 +74,8 @@ impl<'a> NetWords<'a> {
     /// The drivers of the model's nets.
     pub fn drivers(&self, alloc: Global) -> Result<Vec<NumberedWord<'a>>, AllocError>
         requires { HaveNumbers self.now }
-        ensures words { IfOk result (λ words. (models : List Model) (model : Model) → ArePortsOf self.now model → AreDriverWords self.now models model →
+        ensures words { IfOk result (λ words. (models : List Model) (model : Model) →
+            ArePortsOf self.now model → AreDriverWords self.now models model →
             numbered_ports words.items ≡ drivers_of models model) }
         ensures numbers { IfOk result (λ words. AreNumbered self.now.names words.items) }
     {

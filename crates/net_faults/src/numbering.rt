@@ -1,5 +1,6 @@
 // Names by number.
-ghost use Rattle.std.specs.Prelude.{◌≡◌, IfOk, OnOk};
+ghost use Rattle.std.specs.Prelude.{◌≡◌, List, IfOk, OnOk};
+ghost use Rattle.netlist_core.specs.declared.model.Port.{Port};
 ghost use Rattle.model_words.specs.Words.{word_ports};
 ghost use Rattle.net_faults.specs.Numbering.{AreNumbered, IsNumbering, GivesNumber, KeepsNumbers, count_of, name_number, numbered_ports};
 
@@ -82,7 +83,8 @@ impl<'a> Numbering<'a> {
         words: &[Word<'a>],
     ) -> Result<Vec<NumberedWord<'a>>, AllocError>
         requires { IsNumbering self.old }
-        ensures words { IfOk result (λ numbered. numbered_ports numbered.items ≡ word_ports words.now) }
+        ensures words { IfOk result (λ numbered. numbered_ports numbered.items ≡
+            word_ports words.now) }
         ensures numbers { IfOk result (λ numbered. AreNumbered self.new numbered.items) }
         ensures numbering { OnOk result (IsNumbering self.new) }
         ensures keeps { OnOk result (KeepsNumbers self.old self.new) }
@@ -96,5 +98,25 @@ impl<'a> Numbering<'a> {
             })?;
         }
         Ok(numbered)
+    }
+
+    /// The same for words that were to be found.
+    pub fn number_found(
+        &mut self,
+        alloc: Global,
+        words: Result<Vec<Word<'a>>, AllocError>,
+    ) -> Result<Vec<NumberedWord<'a>>, AllocError>
+        requires { IsNumbering self.old }
+        ensures words { IfOk result (λ numbered.
+            (ports : List Port)
+            → IfOk words.entry (λ found. word_ports found.items ≡ ports)
+            → numbered_ports numbered.items ≡ ports
+            ) }
+        ensures numbers { IfOk result (λ numbered. AreNumbered self.new numbered.items) }
+        ensures numbering { OnOk result (IsNumbering self.new) }
+        ensures keeps { OnOk result (KeepsNumbers self.old self.new) }
+    {
+        let words = words?;
+        self.number_words(alloc, &words)
     }
 }

@@ -59,8 +59,11 @@ fn push_pins<'a>(
     placed: Option<&PortNames<'_>>,
     subckt: &'a Subckt,
 ) -> Result<(), AllocError>
-    ensures { OnOk result ((model : Option Model) → ArePlacedNames model (option_copied placed.entry) →
-        word_ports words.new.items ≡ word_ports words.old.items ++ filter_map (actual_if (is_pin_of kind model) subckt.now.line) subckt.now.pins) }
+    ensures { OnOk result ((model : Option Model) →
+        ArePlacedNames model (option_copied placed.entry) →
+        word_ports words.new.items ≡
+        word_ports words.old.items ++
+        filter_map (actual_if (is_pin_of kind model) subckt.now.line) subckt.now.pins) }
 {
     for pin in subckt.pins.as_slice() {
         if is_of_kind(kind, placed, pin) {
@@ -81,7 +84,8 @@ pub fn push_actuals<'a>(
     placed: &PlacedPorts<'_, 'a>,
 ) -> Result<(), AllocError>
     ensures { OnOk result ((models : List Model) → KnowsPlaced placed.now models model.now →
-        word_ports words.new.items ≡ word_ports words.old.items ++ actuals models (is_pin_of kind) model.now) }
+        word_ports words.new.items ≡
+        word_ports words.old.items ++ actuals models (is_pin_of kind) model.now) }
 {
     for subckt in model.subckts.as_slice() {
         push_pins(words, kind, placed.find(subckt.model.as_slice()), subckt)?;

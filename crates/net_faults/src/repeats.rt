@@ -27,7 +27,8 @@ impl Repeats {
         words: &[NumberedWord<'_>],
     ) -> Result<Repeats, AllocError>
         requires { AreNumbered names.now words.now }
-        ensures { IfOk result (λ repeats. IsBetween names.now repeats [] (numbered_ports words.now)) }
+        ensures { IfOk result (λ repeats. IsBetween names.now repeats []
+            (numbered_ports words.now)) }
     {
         Ok(Repeats {
             all: FirstLines::of(alloc, names, words)?,
@@ -37,10 +38,14 @@ impl Repeats {
 
     /// Passes the next word, and answers whether its name stands earlier.
     pub fn pass(&mut self, word: NumberedWord<'_>) -> bool
-        ensures told { (names : numbered.Numbering) (before after : List Port) → IsNumbered names word.entry →
-            IsBetween names self.old before (numbered_port word.entry ∷ after) → result ≡ stands_earlier before (numbered_port word.entry) after }
-        ensures passed { (names : numbered.Numbering) (before after : List Port) → IsNumbered names word.entry →
-            IsBetween names self.old before (numbered_port word.entry ∷ after) → IsBetween names self.new (numbered_port word.entry ∷ before) after }
+        ensures told { (names : numbered.Numbering) (before after : List Port) →
+            IsNumbered names word.entry →
+            IsBetween names self.old before (numbered_port word.entry ∷ after) →
+            result ≡ stands_earlier before (numbered_port word.entry) after }
+        ensures passed { (names : numbered.Numbering) (before after : List Port) →
+            IsNumbered names word.entry →
+            IsBetween names self.old before (numbered_port word.entry ∷ after) →
+            IsBetween names self.new (numbered_port word.entry ∷ before) after }
     {
         let has_passed = self.passed.insert(word);
         has_passed || self.all.has_before(word)
@@ -54,7 +59,8 @@ pub fn firsts<'a>(
     words: &[NumberedWord<'a>],
 ) -> Result<Vec<NumberedWord<'a>>, AllocError>
     requires { AreNumbered names.now words.now }
-    ensures words { IfOk result (λ found. numbered_ports found.items ≡ firsts (numbered_ports words.now)) }
+    ensures words { IfOk result (λ found. numbered_ports found.items ≡
+        firsts (numbered_ports words.now)) }
     ensures numbers { IfOk result (λ found. AreNumbered names.now found.items) }
 {
     let mut repeats = Repeats::new(alloc, names, words)?;

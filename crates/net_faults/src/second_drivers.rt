@@ -17,8 +17,10 @@ pub fn offer_second_drivers<'a>(
     earliest: &mut Earliest<'a>,
 ) -> Result<(), AllocError>
     requires { HaveNumbers words.now }
-    ensures { OnOk result ((models : List Model) (model : Model) → ArePortsOf words.now model → AreDriverWords words.now models model →
-        earliest_word earliest.new ≡ earliest_after (earliest_word earliest.old) (second_drivers models model)) }
+    ensures { OnOk result ((models : List Model) (model : Model) → ArePortsOf words.now model →
+        AreDriverWords words.now models model →
+        earliest_word earliest.new ≡
+        earliest_after (earliest_word earliest.old) (second_drivers models model)) }
 {
     let drivers = words.drivers(alloc)?;
     offer_repeats(alloc, &words.names, &drivers, earliest)

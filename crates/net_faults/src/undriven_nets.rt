@@ -25,7 +25,9 @@ fn offer_unnamed<'a>(
     earliest: &mut Earliest<'a>,
 )
     ensures { (ports : List Port) → AreFirstLines names.now drivers.now ports →
-        earliest_word earliest.new ≡ earliest_after (earliest_word earliest.old) (filter_map (unless_named ports) (word_ports words.now)) }
+        earliest_word earliest.new ≡
+        earliest_after (earliest_word earliest.old)
+        (filter_map (unless_named ports) (word_ports words.now)) }
 {
     for word in words {
         if !drivers.has_name(names, word.name) {
@@ -37,8 +39,10 @@ fn offer_unnamed<'a>(
 // The lines of the drivers of a model's nets, among which the actuals of unknown pins count here.
 fn driver_lines(alloc: Global, words: &NetWords<'_>) -> Result<FirstLines, AllocError>
     requires numbers { HaveNumbers words.now }
-    ensures { IfOk result (λ lines. (models : List Model) (model : Model) → ArePortsOf words.now model → AreDriverWords words.now models model →
-        AreFirstLines words.now.names lines (drivers_of models model ++ actuals models is_unknown_pin model)) }
+    ensures { IfOk result (λ lines. (models : List Model) (model : Model) →
+        ArePortsOf words.now model → AreDriverWords words.now models model →
+        AreFirstLines words.now.names lines
+        (drivers_of models model ++ actuals models is_unknown_pin model)) }
 {
     let mut drivers = words.drivers(alloc)?;
     push_words(&mut drivers, &words.unknown)?;
@@ -55,8 +59,10 @@ pub fn offer_undriven<'a>(
 ) -> Result<(), AllocError>
     requires numbers { HaveNumbers words.now }
     requires ports { ArePortsOf words.now model.now }
-    ensures { OnOk result ((models : List Model) → KnowsPlaced placed.now models model.now → AreDriverWords words.now models model.now →
-        earliest_word earliest.new ≡ earliest_after (earliest_word earliest.old) (undriven_readings models model.now)) }
+    ensures { OnOk result ((models : List Model) → KnowsPlaced placed.now models model.now →
+        AreDriverWords words.now models model.now →
+        earliest_word earliest.new ≡
+        earliest_after (earliest_word earliest.old) (undriven_readings models model.now)) }
 {
     let drivers = driver_lines(alloc, words)?;
     let readings = reading_words(alloc, model, placed)?;

@@ -21,18 +21,7 @@ use Rattle.streams.proofs.Across.{columns_are, rows_long}
 use Rattle.streams.specs.declared.streams.Streams.{Streams}
 use Rattle.streams.specs.Rows.{bits_across, stream_row, rows_of}
 use Rattle.netlist_text.specs.Parts.{AreParts}
-use Rattle.netlist_run.specs.Runs.{bits_in_run, ShowsRun}
-
--- the bits of the outputs in each of so many cycles
-abbrev pub output_rows : Design → ℕ → (ℕ → Valuation) → List (List Bool)
-output_rows design cycles run = map (λ cycle. output_bits design (run cycle)) (range_with_len 0 cycles)
-
--- the run of the first cycles, with the outputs that they gave and the state after them
-pub record Ran (design : Design) (streams : Streams) (cycles : ℕ) (rows : List (List Bool)) (state : List Bool) : Type 0 where
-  pub run : ℕ → Valuation
-  pub holds : (t : ℕ) → t < cycles → IsValuation design (stream_row streams t) (latches_in design (start_state design) run t) (run t)
-  pub are_rows : rows ≡ output_rows design cycles run
-  pub state_is : state ≡ state_in_order design (latches_in design (start_state design) run cycles)
+use Rattle.netlist_run.specs.Runs.{bits_in_run, output_rows, Ran, ShowsRun}
 
 pub same_on_range : {X : Type 0} (f g : ℕ → X) (n : ℕ) → ((t : ℕ) → t < n → f t ≡ g t) → map f (range_with_len 0 n) ≡ map g (range_with_len 0 n)
 same_on_range f g n same =

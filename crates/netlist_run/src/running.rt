@@ -1,14 +1,18 @@
 // A netlist run cycle by cycle.
-ghost use Rattle.std.specs.Prelude.{◌≡◌, ◌<◌, All, length, IfOk};
+ghost use Rattle.std.specs.Prelude.{ℕ, ◌≡◌, ◌<◌, List, [], All, length, IfOk};
+ghost use Rattle.netlist_core.specs.declared.model.Design.{Design};
+ghost use Rattle.netlist_meaning.specs.Flat.{IsSound};
+ghost use Rattle.netlist_meaning.specs.FlatOrder.{IsOrder};
 ghost use Rattle.streams.specs.Rows.{bits_across};
-ghost use Rattle.netlist_run.specs.Runs.{ShowsRun};
+ghost use Rattle.netlist_run.specs.Runs.{AreRowsInRun, Ran, ShowsRun};
 ghost use Rattle.netlist_text.specs.Parts.{AreParts};
 
 use crate::error::RunError;
 use lists::List;
+use netlist_core::{Flat, Order};
 use netlist_eval::Machine;
 use netlist_text::Netlist;
-use std::alloc::Global;
+use std::alloc::{AllocError, Global};
 use streams::{Streams, columns_of};
 
 // Puts the bit at a place of each list.
@@ -22,6 +26,68 @@ fn put_column(lists: &[List<bool>], place: usize, row: &mut [bool])
     }
 }
 
+// The outputs' bits of each cycle that a machine shows under the streams, over a row for its inputs and one for its outputs.
+fn machine_rows(
+    alloc: Global,
+    machine: &mut Machine<'_>,
+    streams: &Streams,
+    row: &mut [bool],
+    shown: &mut [bool],
+) -> Result<Vec<List<bool>>, AllocError>
+    requires inputs { length row.old ≡ length machine.old.flat.ins }
+    requires outputs { length shown.old ≡ length machine.old.flat.outs }
+    requires many { length streams.now.bits ≡ length machine.old.flat.ins }
+    requires long { All (λ bits. length bits ≡ streams.now.cycles) streams.now.bits }
+    ensures { IfOk result (λ rows. (design : Design) (order : List ℕ) →
+        AreParts design machine.old.flat order →
+        Ran design streams.now 0 [] machine.old.state →
+        Ran design streams.now streams.now.cycles rows.items machine.new.state) }
+{
+    let mut rows = Vec::with_capacity(alloc, streams.cycles)?;
+    for cycle in 0..streams.cycles {
+        put_column(streams.bits.as_slice(), cycle, row);
+        machine.cycle(row, shown);
+        rows.push(List::of(shown.to_vec(alloc)?))?;
+    }
+    Ok(rows)
+}
+
+// The same for a machine in its first state.
+fn rows_in_run(
+    alloc: Global,
+    flat: &Flat,
+    order: Order,
+    streams: &Streams,
+) -> Result<Vec<List<bool>>, RunError>
+    requires sound { IsSound flat.now }
+    requires ordered { IsOrder flat.now order.nodes }
+    requires many { length streams.now.bits ≡ length flat.now.ins }
+    requires long { All (λ bits. length bits ≡ streams.now.cycles) streams.now.bits }
+    ensures { IfOk result (λ rows. AreRowsInRun flat.now streams.now rows.items) }
+{
+    let mut machine = Machine::new(alloc, flat, order)?;
+    let mut row = vec![in alloc; false; flat.ins.len()]?;
+    let mut shown = vec![in alloc; false; flat.outs.len()]?;
+    Ok(machine_rows(alloc, &mut machine, streams, &mut row, &mut shown)?)
+}
+
+// The bits of each output, cycle after cycle, in the run of a flat netlist under streams.
+fn columns_in_run(
+    alloc: Global,
+    flat: &Flat,
+    order: Order,
+    streams: &Streams,
+) -> Result<List<List<bool>>, RunError>
+    requires parts { (design : Design) × AreParts design flat.now order.nodes }
+    requires many { length streams.now.bits ≡ length flat.now.ins }
+    requires long { All (λ bits. length bits ≡ streams.now.cycles) streams.now.bits }
+    ensures { IfOk result (λ columns. (design : Design) → AreParts design flat.now order.nodes
+        → ShowsRun design streams.now columns) }
+{
+    let rows = rows_in_run(alloc, flat, order, streams)?;
+    Ok(columns_of(alloc, &rows, flat.outs.len())?)
+}
+
 /// The bits of each main output, cycle after cycle, in the netlist's run under the streams of its inputs.
 pub fn run(alloc: Global, netlist: Netlist, streams: &Streams) -> Result<List<List<bool>>, RunError>
     requires parts { AreParts netlist.design netlist.flat netlist.order.nodes }
@@ -30,16 +96,5 @@ pub fn run(alloc: Global, netlist: Netlist, streams: &Streams) -> Result<List<Li
     ensures { IfOk result (ShowsRun netlist.design streams.now) }
 {
     let Netlist { flat, order, .. } = netlist;
-    let mut machine = Machine::new(alloc, &flat, order)?;
-    let mut inputs = vec![in alloc; false; flat.ins.len()]?;
-    let mut outputs = vec![in alloc; false; flat.outs.len()]?;
-    let row = inputs.as_mut_slice();
-    let shown = outputs.as_mut_slice();
-    let mut rows = Vec::with_capacity(alloc, streams.cycles)?;
-    for cycle in 0..streams.cycles {
-        put_column(streams.bits.as_slice(), cycle, row);
-        machine.cycle(row, shown);
-        rows.push(List::of(shown.to_vec(alloc)?))?;
-    }
-    Ok(columns_of(alloc, &rows, flat.outs.len())?)
+    columns_in_run(alloc, &flat, order, streams)
 }

@@ -1,30 +1,14 @@
-use Rattle.std.proofs.Common.{◌≡◌, ap, ◌∙◌, subst, [], ◌++◌}
-use Rattle.netlist_rules.specs.ModelFaults.{doubles_after, is_output_before, is_input_by_then}
-use Rattle.model_words.specs.Words.{earliest_word, earliest_after}
+use Rattle.std.proofs.Common.{ap, ◌∙◌, subst}
 use Rattle.net_faults.specs.Numbering.{numbered_ports}
 use Rattle.net_faults.specs.FirstLines.{AreFirstLines}
-use Rattle.net_faults.proofs.Passing.{offered_thrice}
-use Rattle.net_faults.proofs.Numbers.{ports_in_back, ports_in_front}
 use Rattle.net_faults.proofs.duplicates.offer_duplicates.Goals as goal
 
-pub returns : goal.returns
-returns c =
-    let m = c.args.model.now in
-    let words = c.args.words.now in
-    let ports = c.requires.ports in
-    let all : numbered_ports c.deref-3.result.now ≡ m.ins ++ m.clocks = ap numbered_ports c.deref-3.ensures.value ∙ ports.inputs in
-    let ins : numbered_ports c.split_at.result.0.now ≡ m.ins = ports_in_front c.deref-3.result.now m.ins m.clocks c.len.result c.split_at.result.0.now all c.len.ensures c.split_at.ensures.front in
-    let clocks : numbered_ports c.split_at.result.1.now ≡ m.clocks = ports_in_back c.deref-3.result.now m.ins m.clocks c.len.result c.split_at.result.1.now all c.len.ensures c.split_at.ensures.back in
-    let outs : numbered_ports c.deref-4.result.now ≡ m.outs = ap numbered_ports c.deref-4.ensures.value ∙ ports.outputs in
-    let outputs : AreFirstLines words.names c.in_ok-outputs.outputs m.outs = subst (AreFirstLines words.names c.in_ok-outputs.outputs) (ap numbered_ports c.deref-2.ensures.value ∙ ports.outputs) c.in_ok-outputs.ensures in
-    let inputs = subst (AreFirstLines words.names c.in_ok-inputs.inputs) (ap numbered_ports c.deref.ensures.value ∙ ports.inputs) c.in_ok-inputs.ensures in
-    let start = earliest_word c.args.earliest.now in
-    let first = earliest_word c.offer_doubles.new.earliest in
-    let second = earliest_word c.offer_doubles-2.new.earliest in
-    offered_thrice start first second (earliest_word c.offer_doubles-3.new.earliest)
-    (doubles_after (is_output_before m) [] m.ins)
-    (doubles_after (is_output_before m) [] m.clocks)
-    (doubles_after (is_input_by_then m) [] m.outs)
-    (c.in_ok-offer_doubles.ensures m.outs outputs ∙ ap (λ ps. earliest_after start (doubles_after (is_output_before m) [] ps)) ins)
-    (c.in_ok-offer_doubles-2.ensures m.outs outputs ∙ ap (λ ps. earliest_after first (doubles_after (is_output_before m) [] ps)) clocks)
-    (c.in_ok-offer_doubles-3.ensures (m.ins ++ m.clocks) inputs ∙ ap (λ ps. earliest_after second (doubles_after (is_input_by_then m) [] ps)) outs)
+pub offer_duplicates_by-requires : goal.offer_duplicates_by-requires
+offer_duplicates_by-requires c =
+    let names = c.args.words.now.names in
+    let ports = c.requires.ports in record {
+      numbers = c.requires.numbers;
+      ports = ports;
+      inputs = subst (AreFirstLines names c.in_ok-inputs.inputs) (ap numbered_ports c.deref.ensures.value ∙ ports.inputs) c.in_ok-inputs.ensures;
+      outputs = subst (AreFirstLines names c.in_ok-outputs.outputs) (ap numbered_ports c.deref-2.ensures.value ∙ ports.outputs) c.in_ok-outputs.ensures;
+    }

@@ -1,7 +1,7 @@
 use Rattle.std.proofs.Common.{length}
 use Rattle.design_walks.specs.ToCome.{places_to_come}
 use Rattle.design_walks.proofs.Walked.{IsWalk}
-use Rattle.design_walks.proofs.walk.places.Given as goal
+use Rattle.design_walks.proofs.walk.list_places.Given as goal
 
 abbrev pub invariant-loop-placed : goal.invariant-loop-placed
 invariant-loop-placed l = IsWalk l.design l.listed.items l.to_come.items

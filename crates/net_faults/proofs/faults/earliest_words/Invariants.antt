@@ -1,7 +1,7 @@
 use Rattle.std.proofs.Common.{◌≡◌, take, flat_map}
 use Rattle.netlist_rules.specs.ModelFaults.{earliest, duplicate_ports, second_drivers, undriven_readings}
 use Rattle.model_words.specs.Words.{earliest_word}
-use Rattle.net_faults.proofs.faults.net_faults.Given as goal
+use Rattle.net_faults.proofs.faults.earliest_words.Given as goal
 
 abbrev pub invariant-loop-model : goal.invariant-loop-model
 invariant-loop-model l = record {

@@ -3,7 +3,7 @@ use Rattle.netlist_core.specs.declared.model.Model.{Model}
 use Rattle.netlist_rules.specs.ModelFaults.{duplicate_ports, second_drivers, undriven_readings}
 use Rattle.model_words.specs.Placed.{KnowsPlaced}
 use Rattle.model_words.proofs.OfferedWords.{offered_more}
-use Rattle.net_faults.proofs.faults.net_faults.Goals as goal
+use Rattle.net_faults.proofs.faults.earliest_words.Goals as goal
 
 pub loop-model-preserved : goal.loop-model-preserved
 loop-model-preserved c =

@@ -3,10 +3,10 @@ use Rattle.netlist_core.specs.Names.{port_names}
 use Rattle.netlist_meaning.specs.InOrder.{first_names}
 use Rattle.design_walks.specs.Words.{as_ports}
 use Rattle.design_walks.specs.Positions.{bytes_of, HasPositions}
-use Rattle.design_walks.proofs.names.ModelNames.of.Given as goal
+use Rattle.design_walks.proofs.names.push_first_names.Given as goal
 
 abbrev pub invariant-loop-word : goal.invariant-loop-word
 invariant-loop-word l = record {
-  names : bytes_of l.names.items ≡ first_names (port_names (as_ports (take l.word-index l.word-items)));
+  names : bytes_of l.names.items ≡ first_names (port_names (as_ports (take l.word-index l.words)));
   positions : HasPositions l.positions (bytes_of l.names.items);
 }
