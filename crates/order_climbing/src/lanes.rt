@@ -34,7 +34,7 @@ enum Way {
 }
 
 // The way by which a copy is there first: one up takes a column more.
-fn way(below: Option<Copying>, above: Option<Copying>) -> Option<Way> {
+fn first_way(below: Option<Copying>, above: Option<Copying>) -> Option<Way> {
     let Some(down) = below else {
         return Some(Way::Up(above?));
     };
@@ -219,7 +219,7 @@ impl Lanes {
     pub fn copy(&mut self, lane: usize) -> Option<usize> {
         let below = self.copy_below(lane);
         let above = self.copy_above(lane);
-        let at = match way(below, above)? {
+        let at = match first_way(below, above)? {
             Way::Down(copying) => self.copy_down(lane, copying.free, copying.meeting.at),
             Way::Up(copying) => self.copy_up(lane, copying.free, copying.meeting.at),
         };
