@@ -101,7 +101,11 @@ impl Lanes {
 
     /// The column after the last instruction.
     pub fn columns(&self) -> usize {
-        self.clocks.iter().copied().max().unwrap_or(0)
+        let mut latest = 0usize;
+        for clock in &self.clocks {
+            latest = latest.max(*clock);
+        }
+        latest
     }
 
     /// An instruction on a lane and the next one; the column after it.
@@ -192,9 +196,12 @@ impl Lanes {
     }
 
     fn free_above(&self, lane: usize) -> Option<usize> {
-        for (free, number) in self.standing.get(..lane)?.iter().enumerate().rev() {
-            if *number == self.nothing {
-                return Some(free);
+        if lane > self.standing.len() {
+            return None;
+        }
+        for above in (0..lane).rev() {
+            if self.standing[above] == self.nothing {
+                return Some(above);
             }
         }
         None

@@ -108,26 +108,6 @@ impl Homes {
     }
 }
 
-// The place after the last of the cells that a gate reads.
-fn after_read(cells: &[usize], gates: &Gates, gate: Gate) -> usize {
-    for (place, cell) in cells.iter().enumerate().rev() {
-        if gate.reads(gates.made_by(*cell)) {
-            return place.saturating_add(1);
-        }
-    }
-    0
-}
-
-// The place of the first of the cells that reads a value, or how many there are.
-fn before_reader(cells: &[usize], gates: &Gates, value: usize) -> usize {
-    for (place, cell) in cells.iter().enumerate() {
-        if gates.does_read(*cell, value) {
-            return place;
-        }
-    }
-    cells.len()
-}
-
 /// A layout. `order` has the numbers of the cells, each after those that it reads.
 #[derive(Drop)]
 pub struct Layout {
@@ -170,9 +150,29 @@ impl Layout {
     pub fn range(&self, gates: &Gates, place: usize) -> Option<Range<usize>> {
         let cell = *self.order.get(place)?;
         let gate = *gates.gates.get(cell)?;
-        let first = after_read(self.order.get(..place)?, gates, gate);
-        let more = before_reader(self.order.get(place..)?, gates, gates.made_by(cell));
-        Some(first..place.saturating_add(more))
+        let first = self.after_read(gates, gate, place);
+        let end = self.before_reader(gates, gates.made_by(cell), place);
+        Some(first..end)
+    }
+
+    // The place after the last cell before a place that a gate reads.
+    fn after_read(&self, gates: &Gates, gate: Gate, place: usize) -> usize {
+        for earlier in (0..place.min(self.order.len())).rev() {
+            if gate.reads(gates.made_by(self.order[earlier])) {
+                return earlier.saturating_add(1);
+            }
+        }
+        0
+    }
+
+    // The place of the first cell from a place on that reads a value, or the end.
+    fn before_reader(&self, gates: &Gates, value: usize, place: usize) -> usize {
+        for later in place..self.order.len() {
+            if gates.does_read(self.order[later], value) {
+                return later;
+            }
+        }
+        self.order.len()
     }
 
     /// The cell at one place goes to another.
@@ -215,8 +215,8 @@ fn push_inputs(
 }
 
 fn note_readers(ranked: &mut [(usize, usize)], gates: &Gates, order: &[usize]) {
-    for (place, cell) in order.iter().enumerate().rev() {
-        if let Some(gate) = gates.gates.get(*cell) {
+    for place in (0..order.len()).rev() {
+        if let Some(gate) = gates.gates.get(order[place]) {
             let before_end = order.len().saturating_sub(place);
             note_reader(ranked, gate.first, before_end);
             note_reader(ranked, gate.second, before_end);

@@ -253,8 +253,8 @@ impl<'a> Sorted<'a> {
     }
 
     fn two_cells_with(&self, a: Divisor, earlier: usize) -> Option<(Cell, Outer)> {
-        for b in self.all.iter().take(earlier) {
-            if let Some(found) = self.two_cells_of(a, *b) {
+        for place in 0..earlier.min(self.all.len()) {
+            if let Some(found) = self.two_cells_of(a, self.all[place]) {
                 return Some(found);
             }
         }

@@ -235,9 +235,10 @@ impl Search {
 
     // The known cells that are needed, the last first.
     fn push_cone(&self, cone: &mut Vec<u32>, needed: &mut Vec<u32>) -> Result<(), CellError> {
-        for known in self.window.order.iter().rev() {
-            if needed.contains(known) {
-                self.push_known(cone, needed, *known)?;
+        for place in (0..self.window.order.len()).rev() {
+            let known = self.window.order[place];
+            if needed.contains(&known) {
+                self.push_known(cone, needed, known)?;
             }
         }
         Ok(())

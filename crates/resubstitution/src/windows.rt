@@ -142,8 +142,8 @@ impl Window {
 
     // The words of cells, from the last to the first.
     fn add_all(&mut self, network: &Network, cells: &[u32]) -> Result<(), CellError> {
-        for number in cells.iter().rev() {
-            self.add(network, *number)?;
+        for place in (0..cells.len()).rev() {
+            self.add(network, cells[place])?;
         }
         Ok(())
     }
