@@ -1,8 +1,8 @@
 // What is answered where no plan is made.
+use cell_core::CellError;
 use cell_order::ReorderError;
 use column_packer::PackError;
 use latch_loops::CloseError;
-use order_climbing::ClimbError;
 use row_placer::PlaceError;
 use std::alloc::{AllocError, AllocFailed};
 use thiserror::Error;
@@ -46,10 +46,10 @@ impl From<ReorderError> for PlanError {
     }
 }
 
-impl From<ClimbError> for PlanError {
-    fn from(error: ClimbError) -> Self {
+impl From<CellError> for PlanError {
+    fn from(error: CellError) -> Self {
         match error {
-            ClimbError::NoMemory => PlanError::NoMemory,
+            CellError::NoMemory => PlanError::NoMemory,
         }
     }
 }

@@ -2,7 +2,7 @@
 ghost use Rattle.std.specs.Prelude.{◌≡◌};
 ghost use Rattle.cell_rewriting.specs.declared.error.RewriteError.TheVariants.{NoMemory};
 
-use resubstitution::SearchError;
+use cell_core::CellError;
 use std::alloc::{AllocError, AllocFailed};
 use thiserror::Error;
 
@@ -29,10 +29,10 @@ impl<T: Drop> From<AllocFailed<T>> for RewriteError {
     }
 }
 
-impl From<SearchError> for RewriteError {
-    fn from(error: SearchError) -> Self {
+impl From<CellError> for RewriteError {
+    fn from(error: CellError) -> Self {
         match error {
-            SearchError::NoMemory => RewriteError::NoMemory,
+            CellError::NoMemory => RewriteError::NoMemory,
         }
     }
 }

@@ -46,11 +46,10 @@ fn source_bit(row: &[bool], state: &[bool], made: &[bool], source: Src) -> bool
 fn cell_bit(row: &[bool], state: &[bool], made: &[bool], cell: Cell) -> bool
     ensures { result ≡ cell_bit row.now state.now made.now cell }
 {
-    let bit = |source| source_bit(row, state, made, source);
     match cell {
-        Cell::Or(a, b) => bit(a) || bit(b),
-        Cell::Xor(a, b) => bit(a) != bit(b),
-        Cell::AndNot(a, b) => bit(a) && !bit(b),
+        Cell::Or(a, b) => source_bit(row, state, made, a) || source_bit(row, state, made, b),
+        Cell::Xor(a, b) => source_bit(row, state, made, a) != source_bit(row, state, made, b),
+        Cell::AndNot(a, b) => source_bit(row, state, made, a) && !source_bit(row, state, made, b),
     }
 }
 

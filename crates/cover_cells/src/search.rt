@@ -93,9 +93,19 @@ fn joined(net: Src, zero: Src, one: u64) -> Cell {
     }
 }
 
+// The place of a cell, if it is there.
+fn place_of(cells: &[Cell], cell: Cell) -> Option<usize> {
+    for (place, old) in cells.iter().enumerate() {
+        if *old == cell {
+            return Some(place);
+        }
+    }
+    None
+}
+
 // The place of a cell, which is added where it is new.
 fn push_new(cells: &mut Vec<Cell>, cell: Cell) -> Result<Src, CellError> {
-    let place = match cells.iter().position(|old| *old == cell) {
+    let place = match place_of(cells, cell) {
         Some(place) => place,
         None => {
             cells.push(cell)?;

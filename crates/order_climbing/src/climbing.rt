@@ -1,9 +1,9 @@
 // Climbing: small changes are kept where they do not make the drawing larger.
-use crate::ClimbError;
 use crate::draws::Draws;
 use crate::gates::Gates;
 use crate::layout::{Homes, Layout};
 use crate::placing::Placer;
+use cell_core::CellError;
 use std::alloc::Global;
 use std::mem;
 
@@ -15,106 +15,102 @@ pub struct Camp {
     pub tiles: u64,
 }
 
-/// A camp that goes on.
+/// What changes camps, and tries what the changes bring.
 #[derive(Drop)]
 pub struct Climber<'a> {
     gates: &'a Gates,
     placer: Placer<'a>,
     draws: Draws,
-    pub camp: Camp,
     // the homes of the layout before a change, or after it
     other: Homes,
 }
 
 impl<'a> Climber<'a> {
-    /// A climber at a camp of the gates.
-    pub fn new(
-        alloc: Global,
-        gates: &'a Gates,
-        camp: Camp,
-        seed: u64,
-    ) -> Result<Climber<'a>, ClimbError> {
+    /// A climber at camps of the gates.
+    pub fn new(alloc: Global, gates: &'a Gates, seed: u64) -> Result<Climber<'a>, CellError> {
         Ok(Climber {
             gates,
             placer: Placer::new(alloc, gates)?,
             draws: Draws::new(seed),
-            camp,
             other: Homes::new(alloc),
         })
     }
 
-    /// Tries as many changes as place so many gates.
-    pub fn climb(&mut self, work: usize) -> Result<(), ClimbError> {
+    /// Tries as many changes of a camp as place so many gates.
+    pub fn climb(&mut self, camp: &mut Camp, work: usize) -> Result<(), CellError> {
         for _ in 0..work / self.gates.gates.len().saturating_add(4) {
             match self.draws.below(10) {
-                0..=5 => self.try_cell()?,
-                6..=8 => self.try_input()?,
-                _ => self.try_lanes()?,
+                0..=5 => self.try_cell(camp)?,
+                6..=8 => self.try_input(camp)?,
+                _ => self.try_lanes(camp)?,
             }
         }
         Ok(())
     }
 
     // Whether the changed layout's drawing is no larger; then it counts.
-    fn accepts(&mut self) -> Result<bool, ClimbError> {
-        match self.placer.tiles(&self.camp.layout, self.camp.tiles)? {
+    fn accepts(&mut self, camp: &mut Camp) -> Result<bool, CellError> {
+        match self.placer.tiles(&camp.layout, camp.tiles)? {
             Some(tiles) => {
-                self.camp.tiles = tiles;
+                camp.tiles = tiles;
                 Ok(true)
             }
             None => Ok(false),
         }
     }
 
+    // A place to which the cell at a place may go.
+    fn other_place(&mut self, layout: &Layout, from: usize) -> Option<usize> {
+        let range = layout.range(self.gates, from)?;
+        let more = self.draws.below(range.end.saturating_sub(range.start));
+        Some(range.start.saturating_add(more))
+    }
+
     // A cell goes elsewhere in the order.
-    fn try_cell(&mut self) -> Result<(), ClimbError> {
-        let from = self.draws.below(self.camp.layout.order.len());
-        let Some(range) = self.camp.layout.range(self.gates, from) else {
-            return Ok(());
-        };
-        let to = range
-            .start
-            .saturating_add(self.draws.below(range.end.saturating_sub(range.start)));
-        if to == from {
-            return Ok(());
+    fn try_cell(&mut self, camp: &mut Camp) -> Result<(), CellError> {
+        let from = self.draws.below(camp.layout.order.len());
+        match self.other_place(&camp.layout, from) {
+            Some(to) if to != from => self.try_shift(camp, from, to),
+            _ => Ok(()),
         }
-        self.camp.layout.shift(from, to);
-        if !self.accepts()? {
-            self.camp.layout.shift(to, from);
+    }
+
+    // The cell at one place goes to another.
+    fn try_shift(&mut self, camp: &mut Camp, from: usize, to: usize) -> Result<(), CellError> {
+        camp.layout.shift(from, to);
+        if !self.accepts(camp)? {
+            camp.layout.shift(to, from);
         }
         Ok(())
     }
 
+    // A lane above the loops, or that of an input.
+    fn other_lane(&mut self, homes: &Homes) -> Option<usize> {
+        if self.draws.coin() {
+            let other = self.draws.below(homes.ins.len());
+            return homes.ins.get(other).copied();
+        }
+        let above = homes.lanes.saturating_sub(self.gates.loops);
+        Some(self.draws.below(above))
+    }
+
     // An input goes to another lane, or to that of another one.
-    fn try_input(&mut self) -> Result<(), ClimbError> {
-        let inputs = self.camp.layout.homes.ins.len();
-        let input = self.draws.below(inputs);
-        let lane = if self.draws.coin() {
-            let other = self.draws.below(inputs);
-            self.camp.layout.homes.ins.get(other).copied()
-        } else {
-            let above = self
-                .camp
-                .layout
-                .homes
-                .lanes
-                .saturating_sub(self.gates.loops);
-            Some(self.draws.below(above))
-        };
-        let Some(lane) = lane else {
+    fn try_input(&mut self, camp: &mut Camp) -> Result<(), CellError> {
+        let input = self.draws.below(camp.layout.homes.ins.len());
+        let Some(lane) = self.other_lane(&camp.layout.homes) else {
             return Ok(());
         };
-        if self.camp.layout.homes.input_on(lane) == Some(input) {
+        if camp.layout.homes.is_home(input, lane) {
             return Ok(());
         }
-        self.other.copy(&self.camp.layout.homes)?;
+        self.other.copy(&camp.layout.homes)?;
         self.other.place(input, lane);
-        self.try_other()
+        self.try_other(camp)
     }
 
     // There are one or two lanes more, or one less.
-    fn try_lanes(&mut self) -> Result<(), ClimbError> {
-        let old = self.camp.layout.homes.lanes;
+    fn try_lanes(&mut self, camp: &mut Camp) -> Result<(), CellError> {
+        let old = camp.layout.homes.lanes;
         let lanes = match self.draws.below(4) {
             0 => old.saturating_add(1),
             1 | 2 => old.saturating_sub(1),
@@ -123,21 +119,19 @@ impl<'a> Climber<'a> {
         if lanes < self.gates.fewest_homes() {
             return Ok(());
         }
-        self.other.copy(&self.camp.layout.homes)?;
-        if !self
-            .other
-            .resize(lanes, lanes.saturating_sub(self.gates.loops))
-        {
+        self.other.copy(&camp.layout.homes)?;
+        let above = lanes.saturating_sub(self.gates.loops);
+        if !self.other.resize(lanes, above) {
             return Ok(());
         }
-        self.try_other()
+        self.try_other(camp)
     }
 
     // The other homes are tried.
-    fn try_other(&mut self) -> Result<(), ClimbError> {
-        mem::swap(&mut self.camp.layout.homes, &mut self.other);
-        if !self.accepts()? {
-            mem::swap(&mut self.camp.layout.homes, &mut self.other);
+    fn try_other(&mut self, camp: &mut Camp) -> Result<(), CellError> {
+        mem::swap(&mut camp.layout.homes, &mut self.other);
+        if !self.accepts(camp)? {
+            mem::swap(&mut camp.layout.homes, &mut self.other);
         }
         Ok(())
     }

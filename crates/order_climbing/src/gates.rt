@@ -1,6 +1,5 @@
 // A list of cells by the numbers of its values: inputs, loops, constant 0, and then what the cells make.
-use crate::ClimbError;
-use cell_core::{Cell, CellList, Src};
+use cell_core::{Cell, CellError, CellList, Src};
 use std::alloc::Global;
 
 /// A cell by the numbers of the values that it reads.
@@ -34,22 +33,29 @@ pub struct Gates {
 
 impl Gates {
     /// The gates of a list.
-    pub fn of(alloc: Global, list: &CellList) -> Result<Gates, ClimbError> {
+    pub fn of(alloc: Global, list: &CellList) -> Result<Gates, CellError> {
         let one = if list.names_one() { 1 } else { 0 };
         let mut gates = Gates {
             inputs: list.inputs as usize,
             loops: list.starts.len().saturating_add(one),
-            gates: Vec::with_capacity(alloc, list.cells.len())?,
+            gates: Vec::new(alloc),
             ports: Vec::new(alloc),
             uses: Vec::new(alloc),
             is_dark: false,
         };
-        let values = gates.made_by(list.cells.len());
-        gates.uses.resize(values, 0)?;
-        gates.read_cells(list.cells.as_slice(), list.starts.len())?;
-        gates.read_ports(list)?;
-        gates.is_dark = gates.uses_of(gates.zero()) > 0 || names_zero(list.nets.as_slice());
+        gates.read(list)?;
         Ok(gates)
+    }
+
+    // The cells and ports of the list.
+    fn read(&mut self, list: &CellList) -> Result<(), CellError> {
+        let values = self.made_by(list.cells.len());
+        self.uses.resize(values, 0)?;
+        self.gates.reserve(list.cells.len())?;
+        self.read_cells(list.cells.as_slice(), list.starts.len())?;
+        self.read_ports(list)?;
+        self.is_dark = self.uses_of(self.zero()) > 0 || names_zero(list.nets.as_slice());
+        Ok(())
     }
 
     /// The number of constant 0.
@@ -68,27 +74,45 @@ impl Gates {
     }
 
     /// The fewest lanes on which the cells can be placed in an order: one for each value that is still read, and for the copies in hand.
-    pub fn fewest_lanes(&self, alloc: Global, order: &[u32]) -> Result<usize, ClimbError> {
+    pub fn fewest_lanes(&self, alloc: Global, order: &[u32]) -> Result<usize, CellError> {
         let mut left = self.uses.as_slice().to_vec(alloc)?;
-        let homes = left.get(..self.made_by(0)).unwrap_or(&[]);
-        let mut live = homes.iter().filter(|uses| **uses > 0).count();
+        let most = self.most_live(&mut left, order);
+        Ok(most.max(self.fewest_homes()).max(self.ports.len()))
+    }
+
+    // The most lanes in use at a time, where the values have so many uses.
+    fn most_live(&self, left: &mut [usize], order: &[u32]) -> usize {
+        let mut live = count_used(left.get(..self.made_by(0)).unwrap_or(&[]));
         let mut most = live;
         for cell in order {
-            let Some(gate) = self.gates.get(*cell as usize) else {
-                continue;
-            };
-            let ended = use_up(&mut left, gate.first).saturating_add(use_up(
-                &mut left,
-                gate.second,
-            ));
-            most = most.max(live.saturating_add(2).saturating_sub(ended));
-            live = live.saturating_sub(ended);
-            if self.uses_of(self.made_by(*cell as usize)) > 0 {
-                live = live.saturating_add(1);
+            let cell = *cell as usize;
+            if let Some(gate) = self.gates.get(cell) {
+                let ended = end_operands(left, *gate);
+                most = most.max(live.saturating_add(2).saturating_sub(ended));
+                live = live
+                    .saturating_sub(ended)
+                    .saturating_add(self.lanes_of(cell));
+                most = most.max(live);
             }
-            most = most.max(live);
         }
-        Ok(most.max(self.fewest_homes()).max(self.ports.len()))
+        most
+    }
+
+    // How many lanes the value of a cell takes: none where it is not read.
+    fn lanes_of(&self, cell: usize) -> usize {
+        if self.uses_of(self.made_by(cell)) > 0 {
+            1
+        } else {
+            0
+        }
+    }
+
+    /// Whether a cell reads a value.
+    pub fn does_read(&self, cell: usize, value: usize) -> bool {
+        match self.gates.get(cell) {
+            Some(gate) => gate.reads(value),
+            None => false,
+        }
     }
 
     /// How many lanes the inputs, the loops and a dark lane take.
@@ -130,7 +154,7 @@ impl Gates {
         }
     }
 
-    fn read_cells(&mut self, cells: &[Cell], latches: usize) -> Result<(), ClimbError> {
+    fn read_cells(&mut self, cells: &[Cell], latches: usize) -> Result<(), CellError> {
         for cell in cells {
             let (first, second, is_and_not) = match *cell {
                 Cell::Or(a, b) | Cell::Xor(a, b) => (a, b, false),
@@ -148,13 +172,13 @@ impl Gates {
         Ok(())
     }
 
-    fn read_port(&mut self, value: usize) -> Result<(), ClimbError> {
+    fn read_port(&mut self, value: usize) -> Result<(), CellError> {
         self.count(value);
         self.ports.push(value)?;
         Ok(())
     }
 
-    fn read_ports(&mut self, list: &CellList) -> Result<(), ClimbError> {
+    fn read_ports(&mut self, list: &CellList) -> Result<(), CellError> {
         let latches = list.starts.len();
         for src in list.latches.as_slice() {
             self.read_port(self.number(latches, *src))?;
@@ -180,6 +204,23 @@ fn use_up(left: &mut [usize], value: usize) -> usize {
     }
 }
 
+// The operands of a gate are read once less; how many of them for the last time.
+fn end_operands(left: &mut [usize], gate: Gate) -> usize {
+    let first = use_up(left, gate.first);
+    first.saturating_add(use_up(left, gate.second))
+}
+
+// How many values are used.
+fn count_used(left: &[usize]) -> usize {
+    let mut count = 0usize;
+    for uses in left {
+        if *uses > 0 {
+            count = count.saturating_add(1);
+        }
+    }
+    count
+}
+
 fn names_zero(sources: &[Src]) -> bool {
-    sources.iter().any(|src| *src == Src::Zero)
+    sources.contains(&Src::Zero)
 }

@@ -1,5 +1,5 @@
 // Lanes as the placer sees them, without instructions: what stands on each, and from which column on it is idle.
-use crate::ClimbError;
+use cell_core::CellError;
 use std::alloc::Global;
 
 /// What stands on a lane is a number: of a value, or of a port, or of an operand in hand, and `nothing` on a free lane. Each but `nothing`
@@ -19,11 +19,35 @@ struct Meeting {
     time: usize,
 }
 
+/// A free lane for a copy, and where the lane that is copied meets it.
+#[derive(Clone, Copy)]
+struct Copying {
+    free: usize,
+    meeting: Meeting,
+}
+
+/// Whether a copy is made on a free lane below or above.
+#[derive(Clone, Copy)]
+enum Way {
+    Down(Copying),
+    Up(Copying),
+}
+
+// The way by which a copy is there first: one up takes a column more.
+fn first_way(below: Option<Copying>, above: Option<Copying>) -> Option<Way> {
+    let Some(down) = below else {
+        return Some(Way::Up(above?));
+    };
+    match above {
+        Some(up) if down.meeting.time > up.meeting.time.saturating_add(1) => Some(Way::Up(up)),
+        _ => Some(Way::Down(down)),
+    }
+}
+
 impl Lanes {
     /// No lanes yet, for numbers below `nothing`.
-    pub fn new(alloc: Global, nothing: usize) -> Result<Lanes, ClimbError> {
-        let mut places = Vec::new(alloc);
-        places.resize(nothing.saturating_add(1), 0)?;
+    pub fn new(alloc: Global, nothing: usize) -> Result<Lanes, CellError> {
+        let places = vec![in alloc; 0; nothing.saturating_add(1)]?;
         Ok(Lanes {
             standing: Vec::new(alloc),
             clocks: Vec::new(alloc),
@@ -33,7 +57,7 @@ impl Lanes {
     }
 
     /// So many lanes, all free, at the first column.
-    pub fn clear(&mut self, lanes: usize) -> Result<(), ClimbError> {
+    pub fn clear(&mut self, lanes: usize) -> Result<(), CellError> {
         self.standing.clear();
         self.standing.resize(lanes, self.nothing)?;
         self.clocks.clear();
@@ -77,7 +101,11 @@ impl Lanes {
 
     /// The column after the last instruction.
     pub fn columns(&self) -> usize {
-        self.clocks.iter().copied().max().unwrap_or(0)
+        let mut latest = 0usize;
+        for clock in &self.clocks {
+            latest = latest.max(*clock);
+        }
+        latest
     }
 
     /// An instruction on a lane and the next one; the column after it.
@@ -159,33 +187,48 @@ impl Lanes {
 
     fn free_below(&self, lane: usize) -> Option<usize> {
         let first = lane.saturating_add(1);
-        let below = self.standing.get(first..)?;
-        let more = below.iter().position(|number| *number == self.nothing)?;
-        Some(first.saturating_add(more))
+        for (more, number) in self.standing.get(first..)?.iter().enumerate() {
+            if *number == self.nothing {
+                return Some(first.saturating_add(more));
+            }
+        }
+        None
     }
 
     fn free_above(&self, lane: usize) -> Option<usize> {
-        let above = self.standing.get(..lane)?;
-        above.iter().rposition(|number| *number == self.nothing)
+        if lane > self.standing.len() {
+            return None;
+        }
+        for above in (0..lane).rev() {
+            if self.standing[above] == self.nothing {
+                return Some(above);
+            }
+        }
+        None
+    }
+
+    // The next free lane below, and where a lane meets it.
+    fn copy_below(&self, lane: usize) -> Option<Copying> {
+        let free = self.free_below(lane)?;
+        let meeting = self.meeting(lane, free);
+        Some(Copying { free, meeting })
+    }
+
+    // The next free lane above, and where a lane meets it.
+    fn copy_above(&self, lane: usize) -> Option<Copying> {
+        let free = self.free_above(lane)?;
+        let meeting = self.meeting(free, lane);
+        Some(Copying { free, meeting })
     }
 
     /// Makes a second copy of what stands on a lane, by the free lane that it can meet first: the upper one of the two lanes that then have
     /// it. There is none where no lane is free.
     pub fn copy(&mut self, lane: usize) -> Option<usize> {
-        let below = self
-            .free_below(lane)
-            .map(|free| (free, self.meeting(lane, free)));
-        let above = self
-            .free_above(lane)
-            .map(|free| (free, self.meeting(free, lane)));
-        let at = match (below, above) {
-            (Some((free, meeting)), None) => self.copy_down(lane, free, meeting.at),
-            (Some((free, meeting)), Some((_, other)))
-                if meeting.time <= other.time.saturating_add(1) => {
-                self.copy_down(lane, free, meeting.at)
-            }
-            (_, Some((free, meeting))) => self.copy_up(lane, free, meeting.at),
-            (None, None) => return None,
+        let below = self.copy_below(lane);
+        let above = self.copy_above(lane);
+        let at = match first_way(below, above)? {
+            Way::Down(copying) => self.copy_down(lane, copying.free, copying.meeting.at),
+            Way::Up(copying) => self.copy_up(lane, copying.free, copying.meeting.at),
         };
         self.tick(at);
         Some(at)

@@ -1,8 +1,7 @@
 // What is climbed: an order of the cells, the lanes of the inputs, and how many lanes there are.
-use crate::ClimbError;
-use crate::gates::Gates;
+use crate::gates::{Gate, Gates};
+use cell_core::CellError;
 use std::alloc::Global;
-use std::cmp::Reverse;
 use std::ops::Range;
 
 /// The lane of each input, apart and above the loops, and how many lanes there are.
@@ -22,16 +21,29 @@ impl Homes {
     }
 
     /// Makes them equal to others.
-    pub fn copy(&mut self, other: &Homes) -> Result<(), ClimbError> {
+    pub fn copy(&mut self, other: &Homes) -> Result<(), CellError> {
         self.ins.clear();
         self.ins.extend_from_slice(&other.ins)?;
         self.lanes = other.lanes;
         Ok(())
     }
 
-    /// The input that stands on a lane.
-    pub fn input_on(&self, lane: usize) -> Option<usize> {
-        self.ins.iter().position(|home| *home == lane)
+    // The input that stands on a lane.
+    fn input_on(&self, lane: usize) -> Option<usize> {
+        for (input, home) in self.ins.iter().enumerate() {
+            if *home == lane {
+                return Some(input);
+            }
+        }
+        None
+    }
+
+    /// Whether an input stands on a lane.
+    pub fn is_home(&self, input: usize, lane: usize) -> bool {
+        match self.input_on(lane) {
+            Some(other) => other == input,
+            None => false,
+        }
     }
 
     /// The input goes to the lane; one that stands there comes to its own.
@@ -53,12 +65,30 @@ impl Homes {
 
     /// The highest lane above the loops on which no input stands, of `above` lanes.
     pub fn dark_lane(&self, above: usize) -> Option<usize> {
-        (0..above).find(|lane| !self.ins.contains(lane))
+        for lane in 0..above {
+            if !self.ins.contains(&lane) {
+                return Some(lane);
+            }
+        }
+        None
     }
 
     // The lowest of them.
     fn free_lane(&self, above: usize) -> Option<usize> {
-        (0..above).rev().find(|lane| !self.ins.contains(lane))
+        for lane in (0..above).rev() {
+            if !self.ins.contains(&lane) {
+                return Some(lane);
+            }
+        }
+        None
+    }
+
+    // The inputs, in their ranks, over the lanes above the loops.
+    fn spread(&mut self, ranked: &[(usize, usize)], above: usize) {
+        let inputs = self.ins.len().max(1);
+        for (rank, (_, input)) in ranked.iter().enumerate() {
+            self.put(*input, rank.saturating_mul(above) / inputs);
+        }
     }
 
     /// So many lanes, of which `above` stand above the loops: inputs that would stand on loops' lanes go to free ones. Whether there are
@@ -92,46 +122,57 @@ impl Layout {
         gates: &Gates,
         order: &[u32],
         lanes: usize,
-    ) -> Result<Layout, ClimbError> {
-        let mut numbers = Vec::with_capacity(alloc, order.len())?;
-        for cell in order {
-            numbers.push(*cell as usize)?;
-        }
-        let ranked = by_first_reader(alloc, gates, &numbers)?;
-        let above = lanes.saturating_sub(gates.loops);
-        let mut homes = Homes {
-            ins: vec![in alloc; 0; gates.inputs]?,
-            lanes,
+    ) -> Result<Layout, CellError> {
+        let mut layout = Layout {
+            order: Vec::new(alloc),
+            homes: Homes::new(alloc),
         };
-        for (rank, (_, input)) in ranked.iter().enumerate() {
-            homes.put(*input, rank.saturating_mul(above) / gates.inputs.max(1));
+        layout.fill(gates, order, lanes)?;
+        let ranked = by_first_reader(alloc, gates, &layout.order)?;
+        layout
+            .homes
+            .spread(&ranked, lanes.saturating_sub(gates.loops));
+        Ok(layout)
+    }
+
+    // The order, and so many lanes, of which no input has its own yet.
+    fn fill(&mut self, gates: &Gates, order: &[u32], lanes: usize) -> Result<(), CellError> {
+        self.order.reserve(order.len())?;
+        for cell in order {
+            self.order.push(*cell as usize)?;
         }
-        Ok(Layout {
-            order: numbers,
-            homes,
-        })
+        self.homes.ins.resize(gates.inputs, 0)?;
+        self.homes.lanes = lanes;
+        Ok(())
     }
 
     /// The places to which the cell at a place may go: after those that it reads, and before those that read it.
     pub fn range(&self, gates: &Gates, place: usize) -> Option<Range<usize>> {
         let cell = *self.order.get(place)?;
         let gate = *gates.gates.get(cell)?;
-        let made = gates.made_by(cell);
-        let after = self
-            .order
-            .get(..place)?
-            .iter()
-            .rposition(|cell| gate.reads(gates.made_by(*cell)));
-        let later = self.order.get(place..)?;
-        let before = later.iter().position(|cell| match gates.gates.get(*cell) {
-            Some(gate) => gate.reads(made),
-            None => false,
-        });
-        let first = match after {
-            Some(last) => last.saturating_add(1),
-            None => 0,
-        };
-        Some(first..place.saturating_add(before.unwrap_or(later.len())))
+        let first = self.after_read(gates, gate, place);
+        let end = self.before_reader(gates, gates.made_by(cell), place);
+        Some(first..end)
+    }
+
+    // The place after the last cell before a place that a gate reads.
+    fn after_read(&self, gates: &Gates, gate: Gate, place: usize) -> usize {
+        for earlier in (0..place.min(self.order.len())).rev() {
+            if gate.reads(gates.made_by(self.order[earlier])) {
+                return earlier.saturating_add(1);
+            }
+        }
+        0
+    }
+
+    // The place of the first cell from a place on that reads a value, or the end.
+    fn before_reader(&self, gates: &Gates, value: usize, place: usize) -> usize {
+        for later in place..self.order.len() {
+            if gates.does_read(self.order[later], value) {
+                return later;
+            }
+        }
+        self.order.len()
     }
 
     /// The cell at one place goes to another.
@@ -147,29 +188,45 @@ impl Layout {
     }
 }
 
-// The inputs, each with the place of its first reader, or 0, those whose first reader comes latest first.
+// The inputs, each with how far before the end its first reader stands, those whose first reader comes latest first.
 fn by_first_reader(
     alloc: Global,
     gates: &Gates,
     order: &[usize],
-) -> Result<Vec<(usize, usize)>, ClimbError> {
-    let mut ranked = Vec::with_capacity(alloc, gates.inputs)?;
-    for input in 0..gates.inputs {
-        ranked.push((0, input))?;
-    }
-    for (place, cell) in order.iter().enumerate().rev() {
-        if let Some(gate) = gates.gates.get(*cell) {
-            note_reader(&mut ranked, gate.first, place);
-            note_reader(&mut ranked, gate.second, place);
-        }
-    }
-    ranked.sort_unstable_by_key(|(place, input)| (Reverse(*place), *input));
+) -> Result<Vec<(usize, usize)>, CellError> {
+    let mut ranked = Vec::new(alloc);
+    push_inputs(&mut ranked, gates.inputs, order.len())?;
+    note_readers(&mut ranked, gates, order);
+    ranked.as_mut_slice().sort_unstable();
     Ok(ranked)
 }
 
-// A value is read at a place of the order.
-fn note_reader(ranked: &mut [(usize, usize)], value: usize, place: usize) {
+// So many inputs, each as if it were read at the start.
+fn push_inputs(
+    ranked: &mut Vec<(usize, usize)>,
+    inputs: usize,
+    start: usize,
+) -> Result<(), CellError> {
+    ranked.reserve(inputs)?;
+    for input in 0..inputs {
+        ranked.push((start, input))?;
+    }
+    Ok(())
+}
+
+fn note_readers(ranked: &mut [(usize, usize)], gates: &Gates, order: &[usize]) {
+    for place in (0..order.len()).rev() {
+        if let Some(gate) = gates.gates.get(order[place]) {
+            let before_end = order.len().saturating_sub(place);
+            note_reader(ranked, gate.first, before_end);
+            note_reader(ranked, gate.second, before_end);
+        }
+    }
+}
+
+// A value is read so far before the end of the order.
+fn note_reader(ranked: &mut [(usize, usize)], value: usize, before_end: usize) {
     if let Some((first, _)) = ranked.get_mut(value) {
-        *first = place;
+        *first = before_end;
     }
 }

@@ -6,12 +6,10 @@
 
 mod climbing;
 mod draws;
-mod error;
 mod gates;
 mod lanes;
 mod layout;
 mod placing;
 mod starting;
 
-pub use error::ClimbError;
 pub use starting::{Climbed, Start, climb};

@@ -1,8 +1,8 @@
 // How many columns the placer takes for an order of the cells: the placer's own steps, without instructions.
-use crate::ClimbError;
 use crate::gates::{Gate, Gates};
 use crate::lanes::Lanes;
 use crate::layout::Layout;
+use cell_core::CellError;
 use std::alloc::Global;
 
 /// A placer of some gates. It takes memory once; what stands on lanes is numbered as `Lanes` says: values, ports, the two operands.
@@ -17,20 +17,20 @@ pub struct Placer<'a> {
 
 impl<'a> Placer<'a> {
     /// A placer that has placed nothing.
-    pub fn new(alloc: Global, gates: &'a Gates) -> Result<Placer<'a>, ClimbError> {
+    pub fn new(alloc: Global, gates: &'a Gates) -> Result<Placer<'a>, CellError> {
         let first = gates.uses.len().saturating_add(gates.ports.len());
         let second = first.saturating_add(1);
         Ok(Placer {
             gates,
             lanes: Lanes::new(alloc, second.saturating_add(1))?,
-            left: Vec::with_capacity(alloc, gates.uses.len())?,
+            left: Vec::new(alloc),
             first,
             second,
         })
     }
 
     /// How many tiles the drawing of a layout has, if these are at most so many, and the lanes are enough.
-    pub fn tiles(&mut self, layout: &Layout, most: u64) -> Result<Option<u64>, ClimbError> {
+    pub fn tiles(&mut self, layout: &Layout, most: u64) -> Result<Option<u64>, CellError> {
         self.begin(layout)?;
         let lanes = layout.homes.lanes;
         let Some(columns) = self.place_all(layout, self.gates.most_columns(most, lanes)) else {
@@ -44,7 +44,7 @@ impl<'a> Placer<'a> {
     }
 
     // The lanes at the start.
-    fn begin(&mut self, layout: &Layout) -> Result<(), ClimbError> {
+    fn begin(&mut self, layout: &Layout) -> Result<(), CellError> {
         self.lanes.clear(layout.homes.lanes)?;
         self.left.clear();
         self.left.extend_from_slice(&self.gates.uses)?;

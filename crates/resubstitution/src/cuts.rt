@@ -1,7 +1,6 @@
 // Cuts: at most six sources of which a cell is a function.
-use crate::SearchError;
 use crate::network::Network;
-use cell_core::Src;
+use cell_core::{CellError, Src};
 use std::alloc::Global;
 
 // The most leaves of a cut.
@@ -61,7 +60,7 @@ impl Cut {
         best
     }
 
-    fn add(&mut self, src: Src) -> Result<(), SearchError> {
+    fn add(&mut self, src: Src) -> Result<(), CellError> {
         if self.is_new(src) {
             self.leaves.push(src)?;
         }
@@ -69,7 +68,7 @@ impl Cut {
     }
 
     // What a cell reads are leaves, as far as they are new.
-    fn open(&mut self, network: &Network, number: u32) -> Result<(), SearchError> {
+    fn open(&mut self, network: &Network, number: u32) -> Result<(), CellError> {
         self.inside.push(number)?;
         if let Some((a, b)) = network.operands(number) {
             self.add(a)?;
@@ -79,7 +78,7 @@ impl Cut {
     }
 
     // Opens the best leaf, if the leaves stay few enough. Whether it did.
-    fn widen(&mut self, network: &Network) -> Result<bool, SearchError> {
+    fn widen(&mut self, network: &Network) -> Result<bool, CellError> {
         let Some((place, more)) = self.best_leaf(network) else {
             return Ok(false);
         };
@@ -97,17 +96,23 @@ impl Cut {
     }
 
     /// The cut of a cell: first its operands; then that leaf is opened which brings the fewest new ones, while they are few enough.
-    pub fn of(alloc: Global, network: &Network, number: u32) -> Result<Cut, SearchError> {
+    pub fn of(alloc: Global, network: &Network, number: u32) -> Result<Cut, CellError> {
         let mut cut = Cut {
             leaves: Vec::new(alloc),
             inside: Vec::new(alloc),
         };
-        cut.open(network, number)?;
+        cut.grow(network, number)?;
+        Ok(cut)
+    }
+
+    // The cell is opened, and then leaves are while the cut stays small.
+    fn grow(&mut self, network: &Network, number: u32) -> Result<(), CellError> {
+        self.open(network, number)?;
         for _ in 1..MOST_INSIDE {
-            if !cut.widen(network)? {
+            if !self.widen(network)? {
                 break;
             }
         }
-        Ok(cut)
+        Ok(())
     }
 }

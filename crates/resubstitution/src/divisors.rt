@@ -1,9 +1,8 @@
 // Divisors: the sources of which a cell may be made.
-use crate::SearchError;
 use crate::chances::Chances;
 use crate::cuts::Cut;
 use crate::windows::Window;
-use cell_core::Src;
+use cell_core::{CellError, Src};
 use std::alloc::Global;
 
 /// A source, and its table over the leaves.
@@ -26,12 +25,28 @@ fn add(
     window: &Window,
     gone: &[u32],
     src: Src,
-) -> Result<(), SearchError> {
+) -> Result<(), CellError> {
     if !stays(src, gone) {
         return Ok(());
     }
     if let Some(word) = window.word(src) {
         divisors.push(Divisor { src, word })?;
+    }
+    Ok(())
+}
+
+// Adds the leaves and the cells of a window that do not go.
+fn add_all(
+    divisors: &mut Vec<Divisor>,
+    cut: &Cut,
+    window: &Window,
+    gone: &[u32],
+) -> Result<(), CellError> {
+    for leaf in &cut.leaves {
+        add(divisors, window, gone, *leaf)?;
+    }
+    for number in &window.order {
+        add(divisors, window, gone, Src::Cell(*number))?;
     }
     Ok(())
 }
@@ -43,14 +58,9 @@ pub fn divisors_of(
     window: &Window,
     gone: &[u32],
     has_one: bool,
-) -> Result<Vec<Divisor>, SearchError> {
+) -> Result<Vec<Divisor>, CellError> {
     let mut divisors = Vec::new(alloc);
-    for leaf in &cut.leaves {
-        add(&mut divisors, window, gone, *leaf)?;
-    }
-    for number in &window.order {
-        add(&mut divisors, window, gone, Src::Cell(*number))?;
-    }
+    add_all(&mut divisors, cut, window, gone)?;
     if has_one {
         add(&mut divisors, window, gone, Src::One)?;
     }

@@ -7,7 +7,6 @@
 mod chances;
 mod cuts;
 mod divisors;
-mod error;
 mod matching;
 mod network;
 mod replacing;
@@ -15,5 +14,4 @@ mod sieve;
 mod windows;
 
 pub use chances::Chances;
-pub use error::SearchError;
 pub use replacing::{Replacement, Round, replacements};

@@ -1,8 +1,7 @@
 // A table as that of a divisor, of a cell of two divisors, or of two cells of three.
-use crate::SearchError;
 use crate::divisors::Divisor;
 use crate::sieve::Sieve;
-use cell_core::{Cell, Src};
+use cell_core::{Cell, CellError, Src};
 use std::alloc::Global;
 
 /// How the second of two new cells reads the first, and another source.
@@ -30,8 +29,8 @@ impl Outer {
 
 /// The divisors by how their tables lie to one that is wanted.
 #[derive(Drop)]
-pub struct Sorted {
-    all: Vec<Divisor>,
+pub struct Sorted<'a> {
+    all: &'a [Divisor],
     /// 0 wherever the wanted one is.
     lower: Vec<Divisor>,
     /// 1 wherever the wanted one is.
@@ -47,56 +46,70 @@ pub fn same(divisors: &[Divisor], word: u64) -> Option<Src> {
     if word == 0 {
         return Some(Src::Zero);
     }
-    let found = divisors.iter().find(|divisor| divisor.word == word)?;
-    Some(found.src)
+    for divisor in divisors {
+        if divisor.word == word {
+            return Some(divisor.src);
+        }
+    }
+    None
+}
+
+// The cell with its operands turned, where that makes no difference.
+fn turned(cell: Cell) -> Cell {
+    match cell {
+        Cell::Or(a, b) => Cell::Or(b, a),
+        Cell::Xor(a, b) => Cell::Xor(b, a),
+        Cell::AndNot(a, b) => Cell::AndNot(a, b),
+    }
 }
 
 // Whether the two cells are one, also where the operands of an OR or XOR are turned.
 fn is_alike(a: Cell, b: Cell) -> bool {
-    match (a, b) {
-        (Cell::Or(p, q), Cell::Or(r, s)) | (Cell::Xor(p, q), Cell::Xor(r, s)) => {
-            (p == r && q == s) || (p == s && q == r)
-        }
-        (Cell::AndNot(p, q), Cell::AndNot(r, s)) => p == r && q == s,
-        _ => false,
-    }
+    a == b || turned(a) == b
 }
 
-impl Sorted {
-    pub fn of(alloc: Global, divisors: Vec<Divisor>, word: u64) -> Result<Sorted, SearchError> {
+// Adds a divisor to those of its kind.
+fn push_if(kind: &mut Vec<Divisor>, is_one: bool, divisor: Divisor) -> Result<(), CellError> {
+    if is_one {
+        kind.push(divisor)?;
+    }
+    Ok(())
+}
+
+impl<'a> Sorted<'a> {
+    /// The divisors, sorted for a table.
+    pub fn of(alloc: Global, divisors: &'a [Divisor], word: u64) -> Result<Sorted<'a>, CellError> {
         let mut sorted = Sorted {
-            all: Vec::new(alloc),
+            all: divisors,
             lower: Vec::new(alloc),
             upper: Vec::new(alloc),
             apart: Vec::new(alloc),
-            sieve: Sieve::new(alloc)?,
+            sieve: Sieve::new(),
             word,
         };
-        for divisor in &divisors {
-            sorted.add(*divisor)?;
-        }
-        sorted.all = divisors;
+        sorted.add_all(divisors)?;
         Ok(sorted)
     }
 
-    fn add(&mut self, divisor: Divisor) -> Result<(), SearchError> {
-        self.sieve.add(divisor.word);
-        if divisor.word & !self.word == 0 {
-            self.lower.push(divisor)?;
-        }
-        if self.word & !divisor.word == 0 {
-            self.upper.push(divisor)?;
-        }
-        if self.word & divisor.word == 0 {
-            self.apart.push(divisor)?;
+    fn add_all(&mut self, divisors: &[Divisor]) -> Result<(), CellError> {
+        for divisor in divisors {
+            self.add(*divisor)?;
         }
         Ok(())
+    }
+
+    fn add(&mut self, divisor: Divisor) -> Result<(), CellError> {
+        let word = self.word;
+        self.sieve.add(divisor.word);
+        push_if(&mut self.lower, divisor.word & !word == 0, divisor)?;
+        push_if(&mut self.upper, word & !divisor.word == 0, divisor)?;
+        push_if(&mut self.apart, word & divisor.word == 0, divisor)
     }
 
     // The divisor with a table.
     fn find(&self, word: u64) -> Option<Src> {
         if self.sieve.has(word) {
-            same(&self.all, word)
+            same(self.all, word)
         } else {
             None
         }
@@ -104,7 +117,7 @@ impl Sorted {
 
     // The XOR of two divisors with the table, but for a cell.
     fn xor(&self, own: Cell) -> Option<Cell> {
-        for a in &self.all {
+        for a in self.all {
             if let Some(b) = self.find(a.word ^ self.word) {
                 let cell = Cell::Xor(a.src, b);
                 if !is_alike(cell, own) {
@@ -170,24 +183,58 @@ impl Sorted {
         self.and_not(own)
     }
 
-    // How a second cell that has the table reads a first one with this word.
-    fn outer(&self, first: u64) -> Option<Outer> {
-        if first & !self.word == 0 {
-            if let Some(other) = self.lower.iter().find(|d| d.word | first == self.word) {
+    // The OR of a first cell with this word and of a divisor, if it has the table.
+    fn outer_or(&self, first: u64) -> Option<Outer> {
+        if first & !self.word != 0 {
+            return None;
+        }
+        for other in &self.lower {
+            if other.word | first == self.word {
                 return Some(Outer::Or(other.src));
             }
         }
-        if first & self.word == 0 {
-            if let Some(other) = self.upper.iter().find(|d| d.word & !first == self.word) {
+        None
+    }
+
+    // A divisor without a first cell with this word, if it has the table.
+    fn outer_within(&self, first: u64) -> Option<Outer> {
+        if first & self.word != 0 {
+            return None;
+        }
+        for other in &self.upper {
+            if other.word & !first == self.word {
                 return Some(Outer::Within(other.src));
             }
         }
-        if self.word & !first == 0 {
-            if let Some(other) = self.apart.iter().find(|d| first & !d.word == self.word) {
+        None
+    }
+
+    // A first cell with this word without a divisor, if it has the table.
+    fn outer_but(&self, first: u64) -> Option<Outer> {
+        if self.word & !first != 0 {
+            return None;
+        }
+        for other in &self.apart {
+            if first & !other.word == self.word {
                 return Some(Outer::But(other.src));
             }
         }
-        Some(Outer::Xor(self.find(first ^ self.word)?))
+        None
+    }
+
+    // How a second cell that has the table reads a first one with this word.
+    fn outer(&self, first: u64) -> Option<Outer> {
+        if let Some(outer) = self.outer_or(first) {
+            return Some(outer);
+        }
+        if let Some(outer) = self.outer_within(first) {
+            return Some(outer);
+        }
+        if let Some(outer) = self.outer_but(first) {
+            return Some(outer);
+        }
+        let other = self.find(first ^ self.word)?;
+        Some(Outer::Xor(other))
     }
 
     // Two cells, of which the first reads these two divisors.
@@ -206,8 +253,8 @@ impl Sorted {
     }
 
     fn two_cells_with(&self, a: Divisor, earlier: usize) -> Option<(Cell, Outer)> {
-        for b in self.all.iter().take(earlier) {
-            if let Some(found) = self.two_cells_of(a, *b) {
+        for place in 0..earlier.min(self.all.len()) {
+            if let Some(found) = self.two_cells_of(a, self.all[place]) {
                 return Some(found);
             }
         }

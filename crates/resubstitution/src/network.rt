@@ -1,11 +1,10 @@
 // A list of cells as a network that changes: each cell with its readers.
-use crate::SearchError;
-use cell_core::{Cell, CellList, Src};
+use cell_core::{Cell, CellError, CellList, Src};
 use std::alloc::Global;
 use std::mem;
 
 /// What may become of a cell.
-#[derive(Clone, Copy, PartialEq, Eq)]
+#[derive(Clone, Copy)]
 pub enum Role {
     /// It may be replaced.
     Free,
@@ -55,18 +54,27 @@ fn turned_cell(cell: Cell, from: Src, to: Src) -> Cell {
     }
 }
 
-// So many lists without readers.
-fn no_readers(alloc: Global, count: usize) -> Result<Vec<Vec<u32>>, SearchError> {
-    let mut all = Vec::with_capacity(alloc, count)?;
+// Adds so many lists without readers.
+fn push_empty(lists: &mut Vec<Vec<u32>>, alloc: Global, count: usize) -> Result<(), CellError> {
     for _ in 0..count {
-        all.push(Vec::new(alloc))?;
+        lists.push(Vec::new(alloc))?;
     }
-    Ok(all)
+    Ok(())
+}
+
+// The place of a number in a list.
+fn place_of(readers: &[u32], number: u32) -> Option<usize> {
+    for (place, reader) in readers.iter().enumerate() {
+        if *reader == number {
+            return Some(place);
+        }
+    }
+    None
 }
 
 // Takes one entry of a number out of a list.
 fn take_out(readers: &mut Vec<u32>, number: u32) {
-    if let Some(place) = readers.iter().position(|reader| *reader == number) {
+    if let Some(place) = place_of(readers, number) {
         if place < readers.len() {
             readers.swap_remove(place);
         }
@@ -75,21 +83,35 @@ fn take_out(readers: &mut Vec<u32>, number: u32) {
 
 impl Network {
     /// The network of a list, of which some sources stay the cells that they are.
-    pub fn of(alloc: Global, list: &CellList, kept: &[Src]) -> Result<Network, SearchError> {
+    pub fn of(alloc: Global, list: &CellList, kept: &[Src]) -> Result<Network, CellError> {
         let mut network = Network {
-            gates: Vec::with_capacity(alloc, list.cells.len())?,
-            inputs: no_readers(alloc, list.inputs as usize)?,
-            latches: no_readers(alloc, list.starts.len())?,
+            gates: Vec::new(alloc),
+            inputs: Vec::new(alloc),
+            latches: Vec::new(alloc),
             has_one: list.names_one(),
         };
-        for cell in list.cells.as_slice() {
-            network.add(alloc, *cell)?;
-        }
-        network.use_all(list.outs.as_slice());
-        network.use_all(list.latches.as_slice());
-        network.use_all(list.nets.as_slice());
+        network.take_in(alloc, list)?;
         network.keep_all(kept);
         Ok(network)
+    }
+
+    // A list comes into a network that has no cells.
+    fn take_in(&mut self, alloc: Global, list: &CellList) -> Result<(), CellError> {
+        push_empty(&mut self.inputs, alloc, list.inputs as usize)?;
+        push_empty(&mut self.latches, alloc, list.starts.len())?;
+        self.gates.reserve(list.cells.len())?;
+        self.add_all(alloc, list.cells.as_slice())?;
+        self.use_all(list.outs.as_slice());
+        self.use_all(list.latches.as_slice());
+        self.use_all(list.nets.as_slice());
+        Ok(())
+    }
+
+    fn add_all(&mut self, alloc: Global, cells: &[Cell]) -> Result<(), CellError> {
+        for cell in cells {
+            self.add(alloc, *cell)?;
+        }
+        Ok(())
     }
 
     /// The number of the next cell that is added.
@@ -98,7 +120,7 @@ impl Network {
     }
 
     /// Adds a cell at the end, and answers its number.
-    pub fn add(&mut self, alloc: Global, cell: Cell) -> Result<u32, SearchError> {
+    pub fn add(&mut self, alloc: Global, cell: Cell) -> Result<u32, CellError> {
         let number = self.next_number();
         self.gates.push(Gate {
             cell,
@@ -113,7 +135,7 @@ impl Network {
     }
 
     // A cell reads a source.
-    fn read(&mut self, src: Src, reader: u32) -> Result<(), SearchError> {
+    fn read(&mut self, src: Src, reader: u32) -> Result<(), CellError> {
         self.use_more(src, 1);
         if let Some(readers) = self.readers_mut(src) {
             readers.push(reader)?;
@@ -154,18 +176,14 @@ impl Network {
         }
     }
 
-    // One use less of a source. Whether it is a cell that has no other.
-    fn use_less(&mut self, src: Src) -> bool {
+    // One use less of a source: its number, where it is a cell that has no other.
+    fn use_less(&mut self, src: Src) -> Option<u32> {
         let Src::Cell(i) = src else {
-            return false;
+            return None;
         };
-        match self.gates.get_mut(i as usize) {
-            Some(gate) => {
-                gate.uses = gate.uses.saturating_sub(1);
-                gate.uses == 0
-            }
-            None => false,
-        }
+        let gate = self.gates.get_mut(i as usize)?;
+        gate.uses = gate.uses.saturating_sub(1);
+        if gate.uses == 0 { Some(i) } else { None }
     }
 
     // Ports read sources.
@@ -206,33 +224,41 @@ impl Network {
     }
 
     /// A cell, and those that only its making reads: the cells that go with it.
-    pub fn cone_of(&mut self, alloc: Global, number: u32) -> Result<Vec<u32>, SearchError> {
+    pub fn cone_of(&mut self, alloc: Global, number: u32) -> Result<Vec<u32>, CellError> {
         let mut gone = Vec::new(alloc);
+        self.release_all(&mut gone, number)?;
+        self.restore(&gone);
+        Ok(gone)
+    }
+
+    // A cell goes, and so does what is not read any more.
+    fn release_all(&mut self, gone: &mut Vec<u32>, number: u32) -> Result<(), CellError> {
         gone.push(number)?;
         for place in 0..self.gates.len() {
             match gone.get(place) {
                 Some(next) => {
                     let next = *next;
-                    self.release(&mut gone, next)?;
+                    self.release_operands(gone, next)?;
                 }
                 None => break,
             }
         }
-        self.restore(&gone);
-        Ok(gone)
+        Ok(())
     }
 
-    // One use less of what a cell reads; what is not read any more goes too.
-    fn release(&mut self, gone: &mut Vec<u32>, number: u32) -> Result<(), SearchError> {
+    // One use less of what a cell reads.
+    fn release_operands(&mut self, gone: &mut Vec<u32>, number: u32) -> Result<(), CellError> {
         let Some((a, b)) = self.operands(number) else {
             return Ok(());
         };
-        for src in [a, b] {
-            if self.use_less(src) {
-                if let Src::Cell(i) = src {
-                    gone.push(i)?;
-                }
-            }
+        self.release(gone, a)?;
+        self.release(gone, b)
+    }
+
+    // One use less of a source, which goes too if it is not read any more.
+    fn release(&mut self, gone: &mut Vec<u32>, src: Src) -> Result<(), CellError> {
+        if let Some(number) = self.use_less(src) {
+            gone.push(number)?;
         }
         Ok(())
     }
@@ -247,18 +273,16 @@ impl Network {
         }
     }
 
-    // What a cell is read for goes to another source: its uses, and its readers, which are answered.
-    fn hand_over(&mut self, alloc: Global, number: u32, by: Src) -> Result<Vec<u32>, SearchError> {
+    // Takes the readers of a cell away, and its uses, which another source gets.
+    fn take_readers(&mut self, alloc: Global, number: u32, by: Src) -> Vec<u32> {
         let Some(gate) = self.gates.get_mut(number as usize) else {
-            return Ok(Vec::new(alloc));
+            return Vec::new(alloc);
         };
         let readers = mem::replace(&mut gate.readers, Vec::new(alloc));
-        let uses = mem::replace(&mut gate.uses, 0);
+        let uses = gate.uses;
+        gate.uses = 0;
         self.use_more(by, uses);
-        for reader in &readers {
-            self.turn(*reader, Src::Cell(number), by);
-        }
-        Ok(readers)
+        readers
     }
 
     // A cell reads the second source in place of the first.
@@ -268,38 +292,54 @@ impl Network {
         }
     }
 
-    /// The readers of a cell read a source in its place, and the cells that only it needed go.
-    pub fn replace(&mut self, alloc: Global, number: u32, by: Src) -> Result<(), SearchError> {
-        let readers = self.hand_over(alloc, number, by)?;
-        if let Some(more) = self.readers_mut(by) {
-            more.extend_from_slice(&readers)?;
+    // The readers of a cell read a source in its place.
+    fn turn_all(&mut self, readers: &[u32], number: u32, by: Src) -> Result<(), CellError> {
+        for reader in readers {
+            self.turn(*reader, Src::Cell(number), by);
         }
+        if let Some(more) = self.readers_mut(by) {
+            more.extend_from_slice(readers)?;
+        }
+        Ok(())
+    }
+
+    /// The readers of a cell read a source in its place, and the cells that only it needed go.
+    pub fn replace(&mut self, alloc: Global, number: u32, by: Src) -> Result<(), CellError> {
+        let readers = self.take_readers(alloc, number, by);
+        self.turn_all(&readers, number, by)?;
         self.remove(alloc, number)
     }
 
     // Takes a cell away, and those that nothing reads without it.
-    fn remove(&mut self, alloc: Global, number: u32) -> Result<(), SearchError> {
+    fn remove(&mut self, alloc: Global, number: u32) -> Result<(), CellError> {
         let mut gone = Vec::new(alloc);
+        self.remove_all(&mut gone, number)
+    }
+
+    fn remove_all(&mut self, gone: &mut Vec<u32>, number: u32) -> Result<(), CellError> {
         gone.push(number)?;
         for _ in 0..self.gates.len() {
             match gone.pop() {
-                Some(next) => self.remove_one(&mut gone, next)?,
+                Some(next) => self.remove_one(gone, next)?,
                 None => break,
             }
         }
         Ok(())
     }
 
-    fn remove_one(&mut self, gone: &mut Vec<u32>, number: u32) -> Result<(), SearchError> {
+    fn remove_one(&mut self, gone: &mut Vec<u32>, number: u32) -> Result<(), CellError> {
         self.set_role(number, Role::Gone);
-        let Some((a, b)) = self.operands(number) else {
-            return Ok(());
-        };
-        for src in [a, b] {
-            if let Some(readers) = self.readers_mut(src) {
-                take_out(readers, number);
-            }
+        if let Some((a, b)) = self.operands(number) {
+            self.unread(a, number);
+            self.unread(b, number);
         }
-        self.release(gone, number)
+        self.release_operands(gone, number)
+    }
+
+    // A cell reads a source no more.
+    fn unread(&mut self, src: Src, number: u32) {
+        if let Some(readers) = self.readers_mut(src) {
+            take_out(readers, number);
+        }
     }
 }

@@ -1,12 +1,11 @@
 // Replacements, one cell after another.
-use crate::SearchError;
 use crate::chances::Chances;
 use crate::cuts::Cut;
 use crate::divisors::{Divisor, divisors_of, shuffle};
 use crate::matching::{Sorted, same};
 use crate::network::{Network, Role, operands};
 use crate::windows::Window;
-use cell_core::{Cell, CellList, Src};
+use cell_core::{Cell, CellError, CellList, Src};
 use std::alloc::Global;
 
 /// Cells to be added at the end of a list, and a source, one of these cells or another, that has the bit of a cell of the list and may be read in its place:
@@ -21,7 +20,7 @@ pub struct Replacement {
 }
 
 /// Which replacements are taken.
-#[derive(Clone, Copy, PartialEq, Eq)]
+#[derive(Clone, Copy)]
 pub enum Round {
     /// Those by which cells become fewer.
     Fewer,
@@ -30,7 +29,7 @@ pub enum Round {
 }
 
 /// How many new cells a replacement may have.
-#[derive(Clone, Copy, PartialEq, Eq)]
+#[derive(Clone, Copy)]
 enum Most {
     None,
     One,
@@ -46,16 +45,26 @@ const MOST_VISITS: usize = 1 << 24;
 struct Search {
     network: Network,
     window: Window,
-    round: Round,
+    is_wandering: bool,
     chances: Chances,
     found: Vec<Replacement>,
     visits_left: usize,
 }
 
-// New cells, and the source that is read in place of a cell.
-#[derive(Drop)]
+// A cell that may be replaced.
+#[derive(Clone, Copy)]
+struct Target {
+    number: u32,
+    cell: Cell,
+    // Whether it may also be replaced by as many cells as go.
+    is_lucky: bool,
+}
+
+// At most two new cells, and the source that is read in place of a cell.
+#[derive(Clone, Copy)]
 struct Made {
-    cells: Vec<Cell>,
+    first: Option<Cell>,
+    second: Option<Cell>,
     by: Src,
 }
 
@@ -69,51 +78,82 @@ fn most_new(gone: usize, equal: bool) -> Most {
     }
 }
 
+// Two cells that have the table, of which the first gets this number.
+fn two_cells(sorted: &Sorted, number: u32) -> Option<Made> {
+    let (first, outer) = sorted.two_cells()?;
+    Some(Made {
+        first: Some(first),
+        second: Some(outer.cell(Src::Cell(number))),
+        by: Src::Cell(number.saturating_add(1)),
+    })
+}
+
+// Cells that have the table, few enough, of which the first gets this number.
+fn new_cells(sorted: &Sorted, own: Cell, most: Most, number: u32) -> Option<Made> {
+    if let Some(cell) = sorted.one_cell(own) {
+        return Some(Made {
+            first: Some(cell),
+            second: None,
+            by: Src::Cell(number),
+        });
+    }
+    match most {
+        Most::None | Most::One => None,
+        Most::Two => two_cells(sorted, number),
+    }
+}
+
 // What has the table, with few enough new cells, of which the first gets this number.
 fn made_of(
     alloc: Global,
-    divisors: Vec<Divisor>,
+    divisors: &[Divisor],
     word: u64,
     own: Cell,
     most: Most,
     number: u32,
-) -> Result<Option<Made>, SearchError> {
-    let mut cells = Vec::new(alloc);
-    if let Some(by) = same(&divisors, word) {
-        return Ok(Some(Made { cells, by }));
+) -> Result<Option<Made>, CellError> {
+    if let Some(by) = same(divisors, word) {
+        return Ok(Some(Made {
+            first: None,
+            second: None,
+            by,
+        }));
     }
-    if most == Most::None {
-        return Ok(None);
+    match most {
+        Most::None => Ok(None),
+        Most::One | Most::Two => {
+            let sorted = Sorted::of(alloc, divisors, word)?;
+            Ok(new_cells(&sorted, own, most, number))
+        }
     }
-    let sorted = Sorted::of(alloc, divisors, word)?;
-    if let Some(cell) = sorted.one_cell(own) {
-        cells.push(cell)?;
-        let by = Src::Cell(number);
-        return Ok(Some(Made { cells, by }));
-    }
-    if most == Most::One {
-        return Ok(None);
-    }
-    if let Some((first, outer)) = sorted.two_cells() {
-        cells.push(first)?;
-        cells.push(outer.cell(Src::Cell(number)))?;
-        let by = Src::Cell(number.saturating_add(1));
-        return Ok(Some(Made { cells, by }));
-    }
-    Ok(None)
 }
 
-fn push_cell(cells: &mut Vec<u32>, src: Src) -> Result<(), SearchError> {
+fn push_cell(cells: &mut Vec<u32>, src: Src) -> Result<(), CellError> {
     if let Src::Cell(i) = src {
         cells.push(i)?;
     }
     Ok(())
 }
 
-fn push_operands(cells: &mut Vec<u32>, cell: Cell) -> Result<(), SearchError> {
+fn push_operands(cells: &mut Vec<u32>, cell: Cell) -> Result<(), CellError> {
     let (a, b) = operands(cell);
     push_cell(cells, a)?;
     push_cell(cells, b)
+}
+
+fn push_made(cells: &mut Vec<u32>, made: Option<Cell>) -> Result<(), CellError> {
+    match made {
+        Some(cell) => push_operands(cells, cell),
+        None => Ok(()),
+    }
+}
+
+// The cells that a cell reads, and those that what comes in its place reads.
+fn push_needed(needed: &mut Vec<u32>, own: Cell, made: Made) -> Result<(), CellError> {
+    push_operands(needed, own)?;
+    push_cell(needed, made.by)?;
+    push_made(needed, made.first)?;
+    push_made(needed, made.second)
 }
 
 impl Search {
@@ -123,11 +163,16 @@ impl Search {
         kept: &[Src],
         round: Round,
         chances: Chances,
-    ) -> Result<Search, SearchError> {
+    ) -> Result<Search, CellError> {
+        let network = Network::of(alloc, list, kept)?;
+        let window = Window::new(alloc, list.cells.len())?;
         Ok(Search {
-            network: Network::of(alloc, list, kept)?,
-            window: Window::new(alloc, list.cells.len())?,
-            round,
+            network,
+            window,
+            is_wandering: match round {
+                Round::Wander => true,
+                Round::Fewer => false,
+            },
             chances,
             found: Vec::new(alloc),
             visits_left: MOST_VISITS,
@@ -138,106 +183,181 @@ impl Search {
         self.visits_left = self.visits_left.saturating_sub(visits);
     }
 
-    // Whether a cell may also be replaced by as many as go.
-    fn is_lucky(&mut self) -> bool {
-        self.round == Round::Wander && self.chances.below(4) == 0
+    // A cell, if it may be replaced.
+    fn target(&mut self, number: u32) -> Option<Target> {
+        let Some((cell, Role::Free)) = self.network.role(number) else {
+            return None;
+        };
+        Some(Target {
+            number,
+            cell,
+            is_lucky: self.is_wandering && self.chances.below(4) == 0,
+        })
     }
 
     // What may be read in place of a cell, over its cut.
     fn made(
         &mut self,
         alloc: Global,
+        target: Target,
         cut: &Cut,
         gone: &[u32],
-        own: Cell,
-        is_lucky: bool,
-    ) -> Result<Option<Made>, SearchError> {
+    ) -> Result<Option<Made>, CellError> {
         let Some(word) = self.window.own else {
             return Ok(None);
         };
         let mut divisors = divisors_of(alloc, cut, &self.window, gone, self.network.has_one)?;
-        if is_lucky {
+        if target.is_lucky {
             shuffle(&mut divisors, &mut self.chances);
         }
-        let most = most_new(gone.len(), is_lucky);
+        let most = most_new(gone.len(), target.is_lucky);
         self.spend(divisors.len().saturating_mul(divisors.len()));
         let number = self.network.next_number();
-        made_of(alloc, divisors, word, own, most, number)
+        made_of(alloc, &divisors, word, target.cell, most, number)
     }
 
-    // The cells whose tables show that a source has the bit of a cell.
-    fn cone(
+    // A known cell is of the cone, and what it reads is needed too.
+    fn push_known(
         &self,
-        alloc: Global,
-        number: u32,
-        own: Cell,
-        made: &Made,
-    ) -> Result<Vec<u32>, SearchError> {
-        let mut needed = Vec::new(alloc);
-        push_operands(&mut needed, own)?;
-        push_cell(&mut needed, made.by)?;
-        for cell in &made.cells {
-            push_operands(&mut needed, *cell)?;
+        cone: &mut Vec<u32>,
+        needed: &mut Vec<u32>,
+        known: u32,
+    ) -> Result<(), CellError> {
+        cone.push(known)?;
+        match self.network.operands(known) {
+            Some((a, b)) => {
+                push_cell(needed, a)?;
+                push_cell(needed, b)
+            }
+            None => Ok(()),
         }
-        let mut cone = Vec::new(alloc);
-        for known in self.window.order.iter().rev() {
-            if needed.contains(known) {
-                cone.push(*known)?;
-                if let Some((a, b)) = self.network.operands(*known) {
-                    push_cell(&mut needed, a)?;
-                    push_cell(&mut needed, b)?;
-                }
+    }
+
+    // The known cells that are needed, the last first.
+    fn push_cone(&self, cone: &mut Vec<u32>, needed: &mut Vec<u32>) -> Result<(), CellError> {
+        for place in (0..self.window.order.len()).rev() {
+            let known = self.window.order[place];
+            if needed.contains(&known) {
+                self.push_known(cone, needed, known)?;
             }
         }
+        Ok(())
+    }
+
+    // The cells whose tables show that a source has the bit of a cell, which comes last.
+    fn fill_cone(
+        &self,
+        alloc: Global,
+        cone: &mut Vec<u32>,
+        target: Target,
+        made: Made,
+    ) -> Result<(), CellError> {
+        let mut needed = Vec::new(alloc);
+        push_needed(&mut needed, target.cell, made)?;
+        self.push_cone(cone, &mut needed)?;
         cone.reverse();
-        cone.push(number)?;
-        Ok(cone)
+        Ok(cone.push(target.number)?)
+    }
+
+    // A cell comes to the end of the network.
+    fn add_new(
+        &mut self,
+        alloc: Global,
+        new: &mut Replacement,
+        made: Option<Cell>,
+    ) -> Result<(), CellError> {
+        let Some(cell) = made else {
+            return Ok(());
+        };
+        let number = self.network.add(alloc, cell)?;
+        new.cells.push(cell)?;
+        new.cone.push(number)?;
+        self.window.add_cell()
+    }
+
+    // A replacement is made in the network.
+    fn perform(
+        &mut self,
+        alloc: Global,
+        new: &mut Replacement,
+        target: Target,
+        made: Made,
+    ) -> Result<(), CellError> {
+        self.fill_cone(alloc, &mut new.cone, target, made)?;
+        self.add_new(alloc, new, made.first)?;
+        self.add_new(alloc, new, made.second)?;
+        self.network.replace(alloc, target.number, made.by)
     }
 
     // A cell is replaced.
     fn take(
         &mut self,
         alloc: Global,
-        number: u32,
-        own: Cell,
-        cut: Cut,
+        target: Target,
+        leaves: &[Src],
         made: Made,
-    ) -> Result<(), SearchError> {
-        let mut cone = self.cone(alloc, number, own, &made)?;
-        for cell in &made.cells {
-            cone.push(self.network.add(alloc, *cell)?)?;
-            self.window.add_cell()?;
+    ) -> Result<(), CellError> {
+        let mut new = Replacement {
+            cells: Vec::new(alloc),
+            cell: target.number,
+            by: made.by,
+            leaves: Vec::new(alloc),
+            cone: Vec::new(alloc),
+        };
+        new.leaves.extend_from_slice(leaves)?;
+        self.perform(alloc, &mut new, target, made)?;
+        Ok(self.found.push(new)?)
+    }
+
+    // Replaces a cell, if something is found for it over its cut.
+    fn replace_over(
+        &mut self,
+        alloc: Global,
+        target: Target,
+        cut: &Cut,
+        gone: &[u32],
+    ) -> Result<(), CellError> {
+        self.window.fill(&self.network, cut, target.number)?;
+        self.spend(self.window.visits);
+        if let Some(made) = self.made(alloc, target, cut, gone)? {
+            self.take(alloc, target, &cut.leaves, made)?;
         }
-        self.network.replace(alloc, number, made.by)?;
-        Ok(
-            self.found.push(Replacement {
-                cells: made.cells,
-                cell: number,
-                by: made.by,
-                leaves: cut.leaves,
-                cone,
-            })?,
-        )
+        self.window.clear();
+        Ok(())
+    }
+
+    // Replaces a cell with which these cells go, if enough go and something is found for it.
+    fn replace_with(
+        &mut self,
+        alloc: Global,
+        target: Target,
+        gone: &[u32],
+    ) -> Result<(), CellError> {
+        self.spend(gone.len());
+        if self.is_wandering && !target.is_lucky && gone.len() < 2 {
+            return Ok(());
+        }
+        let cut = Cut::of(alloc, &self.network, target.number)?;
+        self.replace_over(alloc, target, &cut, gone)
     }
 
     // Replaces a cell that may be, if something is found for it.
-    fn replace_cell(&mut self, alloc: Global, number: u32) -> Result<(), SearchError> {
-        let Some((own, Role::Free)) = self.network.role(number) else {
+    fn replace_cell(&mut self, alloc: Global, number: u32) -> Result<(), CellError> {
+        let Some(target) = self.target(number) else {
             return Ok(());
         };
-        let is_lucky = self.is_lucky();
         let gone = self.network.cone_of(alloc, number)?;
-        self.spend(gone.len());
-        if self.round == Round::Wander && !is_lucky && gone.len() < 2 {
-            return Ok(());
+        self.replace_with(alloc, target, &gone)
+    }
+
+    // Replaces the first so many cells, while visits are left.
+    fn replace_all(&mut self, alloc: Global, count: u32) -> Result<(), CellError> {
+        for number in 0..count {
+            if self.visits_left == 0 {
+                break;
+            }
+            self.replace_cell(alloc, number)?;
         }
-        let cut = Cut::of(alloc, &self.network, number)?;
-        self.window.fill(&self.network, &cut, number)?;
-        self.spend(self.window.visits);
-        if let Some(made) = self.made(alloc, &cut, &gone, own, is_lucky)? {
-            self.take(alloc, number, own, cut, made)?;
-        }
-        self.window.clear();
         Ok(())
     }
 }
@@ -250,15 +370,10 @@ pub fn replacements(
     kept: &[Src],
     round: Round,
     chances: &mut Chances,
-) -> Result<Vec<Replacement>, SearchError> {
+) -> Result<Vec<Replacement>, CellError> {
     let count = u32::try_from(list.cells.len()).unwrap_or(0);
     let mut search = Search::begin(alloc, list, kept, round, *chances)?;
-    for number in 0..count {
-        if search.visits_left == 0 {
-            break;
-        }
-        search.replace_cell(alloc, number)?;
-    }
+    search.replace_all(alloc, count)?;
     *chances = search.chances;
     Ok(search.found)
 }

@@ -1,11 +1,9 @@
 // A sieve of words: a small table that says of most words that they are not in a set.
-use crate::SearchError;
-use std::alloc::Global;
 
 /// A bit for each of 1,024 places; a word has one place.
 #[derive(Drop)]
 pub struct Sieve {
-    bits: Vec<u64>,
+    bits: [u64; 16],
 }
 
 // The place of a word: one of 16 words of 64 bits, and the bit in it.
@@ -16,12 +14,12 @@ fn place(word: u64) -> (usize, u64) {
 }
 
 impl Sieve {
-    pub fn new(alloc: Global) -> Result<Sieve, SearchError> {
-        Ok(Sieve {
-            bits: vec![in alloc; 0; 16]?,
-        })
+    /// A sieve of no words.
+    pub fn new() -> Sieve {
+        Sieve { bits: [0; 16] }
     }
 
+    /// Adds a word.
     pub fn add(&mut self, word: u64) {
         let (at, bit) = place(word);
         if let Some(bits) = self.bits.get_mut(at) {

@@ -1,8 +1,7 @@
 // Windows: the tables of all cells that are functions of a cut's leaves, but for those that read the cell of the cut.
-use crate::SearchError;
 use crate::cuts::Cut;
 use crate::network::{Network, Role};
-use cell_core::{Cell, Src};
+use cell_core::{Cell, CellError, Src};
 use cover_cells::net_word;
 use std::alloc::Global;
 
@@ -33,7 +32,7 @@ fn made_word(cell: Cell, a: u64, b: u64) -> u64 {
 
 impl Window {
     /// A window for networks of so many cells, in which no word is known.
-    pub fn new(alloc: Global, cells: usize) -> Result<Window, SearchError> {
+    pub fn new(alloc: Global, cells: usize) -> Result<Window, CellError> {
         Ok(Window {
             words: vec![in alloc; None; cells]?,
             leaves: Vec::new(alloc),
@@ -45,7 +44,7 @@ impl Window {
     }
 
     /// A cell was added to the network.
-    pub fn add_cell(&mut self) -> Result<(), SearchError> {
+    pub fn add_cell(&mut self) -> Result<(), CellError> {
         Ok(self.words.push(None)?)
     }
 
@@ -94,23 +93,20 @@ impl Window {
     }
 
     // The word of a cell becomes known, if those of its operands are.
-    fn add(&mut self, network: &Network, number: u32) -> Result<(), SearchError> {
+    fn add(&mut self, network: &Network, number: u32) -> Result<(), CellError> {
         if self.has_word(number) {
             return Ok(());
         }
-        let Some((cell, role)) = network.role(number) else {
+        let Some((cell, Role::Free | Role::Kept)) = network.role(number) else {
             return Ok(());
         };
-        if role == Role::Gone {
-            return Ok(());
-        }
         if let Some(word) = self.word_of_cell(cell) {
             self.put(number, word)?;
         }
         Ok(())
     }
 
-    fn put(&mut self, number: u32, word: u64) -> Result<(), SearchError> {
+    fn put(&mut self, number: u32, word: u64) -> Result<(), CellError> {
         if number == self.cell {
             self.own = Some(word);
             return Ok(());
@@ -120,7 +116,7 @@ impl Window {
     }
 
     // The words of the leaves themselves.
-    fn add_leaves(&mut self, leaves: &[Src]) -> Result<(), SearchError> {
+    fn add_leaves(&mut self, leaves: &[Src]) -> Result<(), CellError> {
         for (place, leaf) in leaves.iter().enumerate() {
             if place < 6 {
                 let word = net_word(place);
@@ -134,7 +130,7 @@ impl Window {
     }
 
     // The words of the cells of the cut, of which each is a function of the leaves.
-    fn add_inside(&mut self, network: &Network, inside: &[u32]) -> Result<(), SearchError> {
+    fn add_inside(&mut self, network: &Network, inside: &[u32]) -> Result<(), CellError> {
         for _ in 0..inside.len() {
             self.add_all(network, inside)?;
             if self.own.is_some() {
@@ -145,15 +141,15 @@ impl Window {
     }
 
     // The words of cells, from the last to the first.
-    fn add_all(&mut self, network: &Network, cells: &[u32]) -> Result<(), SearchError> {
-        for number in cells.iter().rev() {
-            self.add(network, *number)?;
+    fn add_all(&mut self, network: &Network, cells: &[u32]) -> Result<(), CellError> {
+        for place in (0..cells.len()).rev() {
+            self.add(network, cells[place])?;
         }
         Ok(())
     }
 
     // The words of the cells that read a source.
-    fn add_readers(&mut self, network: &Network, src: Src) -> Result<(), SearchError> {
+    fn add_readers(&mut self, network: &Network, src: Src) -> Result<(), CellError> {
         if let Some(readers) = network.readers(src) {
             self.visits = self.visits.saturating_add(readers.len());
             for reader in readers {
@@ -164,7 +160,7 @@ impl Window {
     }
 
     // The words of the cells that read known ones, further and further, while they are few enough.
-    fn spread(&mut self, network: &Network, leaves: &[Src]) -> Result<(), SearchError> {
+    fn spread(&mut self, network: &Network, leaves: &[Src]) -> Result<(), CellError> {
         for leaf in leaves {
             self.add_readers(network, *leaf)?;
         }
@@ -181,7 +177,7 @@ impl Window {
     }
 
     /// Finds the words over the leaves of a cut, where none is known.
-    pub fn fill(&mut self, network: &Network, cut: &Cut, number: u32) -> Result<(), SearchError> {
+    pub fn fill(&mut self, network: &Network, cut: &Cut, number: u32) -> Result<(), CellError> {
         self.cell = number;
         self.add_leaves(&cut.leaves)?;
         self.add_inside(network, &cut.inside)?;
