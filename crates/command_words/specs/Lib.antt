@@ -1,4 +1,5 @@
 pub mod App
+pub mod Arguments
 pub mod Errors
 pub mod Laws
 pub mod Numbers

@@ -6,7 +6,10 @@ ghost use Rattle.clap.specs.declared.builder.command.Command.TheViews.{out-Comma
 ghost use Rattle.command_words.specs.App.{bare_app, blifww_app};
 ghost use Rattle.command_words.specs.Program.{first_app, older_app};
 
-use crate::app::{compile_command, driven_command, probe_command, window_command, with_options};
+use crate::app::{
+    command_with, compile_command, driven_command, make_command, probe_command, self_command,
+    window_command,
+};
 use clap::Command;
 use std::alloc::{AllocError, Global};
 
@@ -51,9 +54,8 @@ fn older_commands<'a>(alloc: Global) -> Result<Command<'a>, AllocError>
     let first = first_commands(alloc)?;
     let second = with_command(first, probe_command(alloc))?;
     let third = with_command(second, window_command(alloc))?;
-    let fourth = with_command(third, with_options(alloc, "make", &["seed", "size"]))?;
-    let last = with_options(alloc, "self", &["seed", "size", "cycles"]);
-    with_command(fourth, last)
+    let fourth = with_command(third, make_command(alloc))?;
+    with_command(fourth, self_command(alloc))
 }
 
 /// The program's command line, with one subcommand for each command.
@@ -62,8 +64,8 @@ pub fn blifww_command<'a>(alloc: Global) -> Result<Command<'a>, AllocError>
 {
     let older = older_commands(alloc)?;
     let taped = with_command(older, driven_command(alloc, "tape"))?;
-    let circuits = with_command(taped, with_options(alloc, "aiger", &[]))?;
+    let circuits = with_command(taped, command_with(alloc, "aiger", &[]))?;
     let dumped = with_command(circuits, driven_command(alloc, "vcd"))?;
-    let last = with_options(alloc, "lift", &[]);
+    let last = command_with(alloc, "lift", &[]);
     with_command(dumped, last)
 }

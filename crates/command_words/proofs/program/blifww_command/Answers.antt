@@ -15,8 +15,8 @@ returns c =
     IfOk-weaker c.with_command-4.result _ _
     (λ m h. h
     ∙ ap (λ (a : App). with_subcommand a lift_app.top) (c.in_ok-dumped.ensures (driven_app (codes "vcd")) c.driven_command-2.ensures.app c.driven_command-2.ensures.plain
-    ∙ ap (λ (a : App). with_subcommand a (driven_app (codes "vcd")).top) (c.in_ok-circuits.ensures aiger_app c.with_options.ensures.app c.with_options.ensures.plain
+    ∙ ap (λ (a : App). with_subcommand a (driven_app (codes "vcd")).top) (c.in_ok-circuits.ensures aiger_app c.command_with.ensures.app c.command_with.ensures.plain
     ∙ ap (λ (a : App). with_subcommand a aiger_app.top) (c.in_ok-taped.ensures (driven_app (codes "tape")) c.driven_command.ensures.app c.driven_command.ensures.plain
     ∙ ap (λ (a : App). with_subcommand a (driven_app (codes "tape")).top) c.in_ok-older.ensures)))
     ∙ whole)
-    (c.with_command-4.ensures lift_app c.with_options-last.ensures.app c.with_options-last.ensures.plain)
+    (c.with_command-4.ensures lift_app c.command_with-last.ensures.app c.command_with-last.ensures.plain)

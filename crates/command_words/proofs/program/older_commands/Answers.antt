@@ -8,8 +8,8 @@ pub returns : goal.returns
 returns c =
     IfOk-weaker c.with_command-4.result _ _
     (λ m h. h
-    ∙ ap (λ (a : App). with_subcommand a self_app.top) (c.in_ok-fourth.ensures make_app c.with_options.ensures.app c.with_options.ensures.plain
+    ∙ ap (λ (a : App). with_subcommand a self_app.top) (c.in_ok-fourth.ensures make_app c.make_command.ensures.app c.make_command.ensures.plain
     ∙ ap (λ (a : App). with_subcommand a make_app.top) (c.in_ok-third.ensures window_app c.window_command.ensures.app c.window_command.ensures.plain
     ∙ ap (λ (a : App). with_subcommand a window_app.top) (c.in_ok-second.ensures probe_app c.probe_command.ensures.app c.probe_command.ensures.plain
     ∙ ap (λ (a : App). with_subcommand a probe_app.top) c.in_ok-first.ensures))))
-    (c.with_command-4.ensures self_app c.with_options-last.ensures.app c.with_options-last.ensures.plain)
+    (c.with_command-4.ensures self_app c.self_command.ensures.app c.self_command.ensures.plain)
