@@ -3,6 +3,5 @@ pub mod Arguments
 pub mod Errors
 pub mod Laws
 pub mod Numbers
-pub mod Program
 pub mod Shapes
 pub mod Driven

@@ -1,10 +1,9 @@
 // The command line as clap reads it.
-ghost use Rattle.std.specs.Prelude.{◌≡◌, Bool, IfOk, false};
-ghost use Rattle.clap.specs.Simple.{App, with_rule};
-ghost use Rattle.clap.specs.Words.{app_of, rule_of, new_app};
+ghost use Rattle.std.specs.Prelude.{◌≡◌, IfOk, false};
+ghost use Rattle.clap.specs.Words.{app_of, rule_of};
 ghost use Rattle.clap.specs.declared.builder.command.Command.TheViews.{out-Command as fields_of};
-ghost use Rattle.command_words.specs.App.{compile_app, driven_app, make_app, probe_app, self_app, stream_words, window_app};
-ghost use Rattle.command_words.specs.Arguments.{option_by, rule_for, with_arguments};
+ghost use Rattle.command_words.specs.App.{stream_words};
+ghost use Rattle.command_words.specs.Arguments.{app_for, option_by, rule_for};
 
 use clap::{Arg, ArgAction, Command};
 use std::alloc::{AllocError, Global};
@@ -17,6 +16,12 @@ pub enum Argument {
     Free(&'static str),
     // Words of any number, last.
     Streams,
+}
+
+// A command's name, and what it takes.
+pub struct CommandForm {
+    pub name: &'static str,
+    pub arguments: &'static [Argument],
 }
 
 // An option of one value.
@@ -52,101 +57,14 @@ fn arg_of<'a>(alloc: Global, argument: &Argument) -> Arg<'a>
     }
 }
 
-// A command of this name with these arguments.
-pub fn command_with<'a>(
-    alloc: Global,
-    name: &'static str,
-    arguments: &[Argument],
-) -> Result<Command<'a>, AllocError>
-    ensures app { IfOk result (λ c. app_of c ≡ with_arguments (new_app name.now) arguments.now) }
+// The command of a form.
+pub fn command_with<'a>(alloc: Global, form: &CommandForm) -> Result<Command<'a>, AllocError>
+    ensures app { IfOk result (λ c. app_of c ≡ app_for form.now) }
     ensures plain { IfOk result (λ c. (fields_of c).has_globals ≡ false) }
 {
-    let mut command = Command::new(alloc, name);
-    'arguments: for argument in arguments {
+    let mut command = Command::new(alloc, form.name);
+    'arguments: for argument in form.arguments {
         command = command.arg(arg_of(alloc, argument))?;
     }
     Ok(command)
-}
-
-pub fn compile_command<'a>(alloc: Global) -> Result<Command<'a>, AllocError>
-    ensures app { IfOk result (λ c. app_of c ≡ compile_app) }
-    ensures plain { IfOk result (λ c. (fields_of c).has_globals ≡ false) }
-{
-    command_with(
-        alloc,
-        "compile",
-        &[Argument::Free("contexts"), Argument::Streams],
-    )
-}
-
-// A command of this name with `--cycles N`, and any words.
-pub fn driven_command<'a>(alloc: Global, name: &'static str) -> Result<Command<'a>, AllocError>
-    ensures app { IfOk result (λ c. app_of c ≡ driven_app name.now) }
-    ensures plain { IfOk result (λ c. (fields_of c).has_globals ≡ false) }
-{
-    command_with(
-        alloc,
-        name,
-        &[Argument::Required("cycles"), Argument::Streams],
-    )
-}
-
-pub fn probe_command<'a>(alloc: Global) -> Result<Command<'a>, AllocError>
-    ensures app { IfOk result (λ c. app_of c ≡ probe_app) }
-    ensures plain { IfOk result (λ c. (fields_of c).has_globals ≡ false) }
-{
-    command_with(
-        alloc,
-        "probe",
-        &[
-            Argument::Required("cycles"),
-            Argument::Required("net"),
-            Argument::Free("path"),
-            Argument::Streams,
-        ],
-    )
-}
-
-pub fn window_command<'a>(alloc: Global) -> Result<Command<'a>, AllocError>
-    ensures app { IfOk result (λ c. app_of c ≡ window_app) }
-    ensures plain { IfOk result (λ c. (fields_of c).has_globals ≡ false) }
-{
-    command_with(
-        alloc,
-        "window",
-        &[
-            Argument::Required("gen"),
-            Argument::Required("x"),
-            Argument::Required("y"),
-            Argument::Required("width"),
-            Argument::Required("height"),
-            Argument::Streams,
-        ],
-    )
-}
-
-pub fn make_command<'a>(alloc: Global) -> Result<Command<'a>, AllocError>
-    ensures app { IfOk result (λ c. app_of c ≡ make_app) }
-    ensures plain { IfOk result (λ c. (fields_of c).has_globals ≡ false) }
-{
-    command_with(
-        alloc,
-        "make",
-        &[Argument::Required("seed"), Argument::Required("size")],
-    )
-}
-
-pub fn self_command<'a>(alloc: Global) -> Result<Command<'a>, AllocError>
-    ensures app { IfOk result (λ c. app_of c ≡ self_app) }
-    ensures plain { IfOk result (λ c. (fields_of c).has_globals ≡ false) }
-{
-    command_with(
-        alloc,
-        "self",
-        &[
-            Argument::Required("seed"),
-            Argument::Required("size"),
-            Argument::Required("cycles"),
-        ],
-    )
 }

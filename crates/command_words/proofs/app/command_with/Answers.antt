@@ -1,4 +1,4 @@
-use Rattle.std.proofs.Common.{ℕ, ◌+◌, List, [], ap, ap₂, arith, drop, sym, ◌∙◌, ◌||◌}
+use Rattle.std.proofs.Common.{◌+◌, [], ap, ap₂, arith, drop, sym, ◌∙◌, ◌||◌}
 use Rattle.std.proofs.lemmas.List.{at_drop_all, drop_more}
 use Rattle.clap.specs.Simple.{App, app_of, with_rule}
 use Rattle.command_words.specs.Arguments.{with_arguments}
@@ -9,7 +9,7 @@ use Rattle.command_words.proofs.app.command_with.Goals as goal
 pub arguments-preserved : goal.arguments-preserved
 arguments-preserved c =
     let i = c.arguments.argument-index in
-    let arguments = c.args.arguments.now in
+    let arguments = c.args.form.now.arguments.now in
     let command = app_of c.arguments.command in (
       ap (λ (a : App). with_arguments a (drop (i + 1) arguments))
           (c.in_ok-command.ensures.shape c.arg_of.ensures.local ∙ ap (with_rule command) c.arg_of.ensures.rule)
@@ -19,11 +19,11 @@ arguments-preserved c =
     )
 
 pub arguments-init : goal.arguments-init
-arguments-init c = (ap (λ (a : App). with_arguments a c.args.arguments.now) c.new-command.ensures.app, c.new-command.ensures.local)
+arguments-init c = (ap (λ (a : App). with_arguments a c.args.form.now.arguments.now) c.new-command.ensures.app, c.new-command.ensures.local)
 
 pub returns-clause-app : goal.returns-clause-app
 returns-clause-app c =
-    sym (at_drop_all (with_arguments (app_of c.arguments.command)) c.args.arguments.now c.arguments.argument-index (omega arith)) ∙ c.arguments.invariant.0
+    sym (at_drop_all (with_arguments (app_of c.arguments.command)) c.args.form.now.arguments.now c.arguments.argument-index (omega arith)) ∙ c.arguments.invariant.0
 
 pub returns-clause-plain : goal.returns-clause-plain
 returns-clause-plain c = c.arguments.invariant.1
