@@ -9,16 +9,22 @@ use Rattle.ww_base.specs.declared.whole.ReadAllError.{ReadAllError}
 use Rattle.ww_base.specs.declared.whole.ReadAllError.TheVariants as read_error
 use Rattle.refusals.specs.declared.causes.TextError.{TextError}
 use Rattle.refusals.specs.declared.causes.TextError.TheVariants as text_error
-use Rattle.blifww_tool.specs.Answer.{HasStopped}
-use Rattle.blifww_tool.specs.Commands.{reads_text, HasTextCause, Prints}
+use Rattle.blifww_tool.specs.Answer.{HasStopped, HasStoppedOn, PrintsPart}
+use Rattle.blifww_tool.specs.Commands.{reads_text, HasTextCause}
 use Rattle.refusals.specs.Refusals.{words_refusal, read_refusal, text_refusal}
-use Rattle.blifww_tool.specs.Run.{Reading, Writing, IsAsked, Gave, Gained, HasText, GainedNothing, ReadFailed, WriteFailed, text_limit}
-use Rattle.refusals.specs.declared.refusal.Refusal.TheVariants.{WriteFault}
+use Rattle.blifww_tool.specs.Run.{Reading, Writing, IsAsked, Gave, HasText, GainedNothing, ReadFailed, Does, text_limit}
+use Rattle.refusals.specs.declared.refusal.Refusal.{Refusal}
+use Rattle.refusals.specs.declared.refusal.Refusal.TheVariants.{Usage, TooLong, ReadFault, WriteFault, NoMemory, Text}
 
 -- what is not written to stays
 pub kept : (held : Option (List ℕ)) → Keeps held held
 kept None = tt
 kept (Some bytes) = refl
+
+-- what is printed of the text that words have is what they do
+pub does : (words : List (List ℕ)) (src : Reading) (out : Writing) (command : CommandValues) (text : List ℕ) (part : List ℕ → List ℕ) → IsAsked words command → HasText command src text → PrintsPart command text out part
+    → Does words src out part
+does words src out command text part asked given p = record { command = command; asked = asked; text = text; given = given; output = p.output; prints = p.prints; wrote = p.wrote }
 
 -- at words that give no command,
 pub by_words : (words : List (List ℕ)) (src : Reading) (out : Writing) (e : WordsError) → GainedNothing out → ((e ≡ words_error.Usage) → IsCommand words → ⊥) → HasStopped words src out (words_refusal e)
@@ -34,13 +40,16 @@ by_read words src out command read_error.TooLong nothing asked reads failed long
 by_read words src out command read_error.NoMemory nothing asked reads failed long = (nothing, tt)
 
 -- at a text that gives no output,
-pub by_text : (words : List (List ℕ)) (src : Reading) (out : Writing) (command : CommandValues) (text : List ℕ) (e : TextError) → GainedNothing out → IsAsked words command → HasText command src text
-    → HasTextCause command text e → HasStopped words src out (text_refusal e)
-by_text words src out command text (text_error.Refused cause) nothing asked given h = (nothing, record { command = command; asked = asked; text = text; given = given; refused = h })
-by_text words src out command text text_error.NoMemory nothing asked given h = (nothing, tt)
+pub refused_on : (command : CommandValues) (text : List ℕ) (out : Writing) (e : TextError) → GainedNothing out → HasTextCause command text e → HasStoppedOn command text out (text_refusal e)
+refused_on command text out (text_error.Refused cause) nothing h = (nothing, h)
+refused_on command text out text_error.NoMemory nothing h = nothing
 
--- and at an output that is cut off
-pub by_write : (words : List (List ℕ)) (src : Reading) (out : Writing) (command : CommandValues) (text output : List ℕ) (n : ℕ) → IsAsked words command → HasText command src text → Prints command text output
-    → WriteFailed out → Gained out (take n output) → HasStopped words src out WriteFault
-by_write words src out command text output n asked given prints failed gained =
-    (n, failed, record { command = command; asked = asked; text = text; given = given; output = output; prints = prints; wrote = gained })
+-- and where what is done of a text stops
+pub by_text : (words : List (List ℕ)) (src : Reading) (out : Writing) (command : CommandValues) (text : List ℕ) (r : Refusal) → IsAsked words command → HasText command src text → HasStoppedOn command text out r
+    → HasStopped words src out r
+by_text words src out command text WriteFault asked given h = (h.0, h.1, does words src out command text (take h.0) asked given h.2)
+by_text words src out command text NoMemory asked given h = (h, tt)
+by_text words src out command text (Text cause) asked given h = (h.0, record { command = command; asked = asked; text = text; given = given; refused = h.1 })
+by_text words src out command text Usage asked given h = absurd h
+by_text words src out command text TooLong asked given h = absurd h
+by_text words src out command text ReadFault asked given h = absurd h

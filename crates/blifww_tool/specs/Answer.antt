@@ -6,11 +6,13 @@ use Rattle.pattern_writing.specs.WrittenText.{pattern_text}
 use Rattle.blif_write.specs.Lift.{text_of_lift}
 use Rattle.vcd_write.specs.Writing.{vcd_text}
 use Rattle.vcd_write.specs.Vcd.{waves_in}
-use Rattle.blifww_tool.specs.Run.{Reading, Writing, GainedNothing, WriteFailed, Does, HasReason}
+use Rattle.command_words.specs.Shapes.{CommandValues}
+use Rattle.blifww_tool.specs.Commands.{Prints, Refuses}
+use Rattle.blifww_tool.specs.Run.{Reading, Writing, Gained, GainedNothing, WriteFailed, Does, HasReason}
 use Rattle.blifww_tool.specs.declared.output.Output.{Output}
 use Rattle.blifww_tool.specs.declared.output.Output.TheVariants.{Lines, Drawing, Waves, Lifted}
 use Rattle.refusals.specs.declared.refusal.Refusal.{Refusal}
-use Rattle.refusals.specs.declared.refusal.Refusal.TheVariants.{WriteFault}
+use Rattle.refusals.specs.declared.refusal.Refusal.TheVariants.{WriteFault, NoMemory, Text}
 
 -- its bytes
 abbrev pub output_text : Output → List ℕ
@@ -30,3 +32,16 @@ IsWritableOutput (Lifted lift) = ⊤
 abbrev pub HasStopped : List (List ℕ) → Reading → Writing → Refusal → Type 0
 HasStopped words src out WriteFault = (k : ℕ) × WriteFailed out × Does words src out (take k)
 HasStopped words src out refusal = GainedNothing out × HasReason words src refusal
+
+-- out gained this part of what the command prints of the text
+pub record PrintsPart (command : CommandValues) (text : List ℕ) (out : Writing) (part : List ℕ → List ℕ) : Type 0 where
+  pub output : List ℕ
+  pub prints : Prints command text output
+  pub wrote : Gained out (part output)
+
+-- out was cut off, or gained nothing where the command refuses the text or there is not enough memory
+abbrev pub HasStoppedOn : CommandValues → List ℕ → Writing → Refusal → Type 0
+HasStoppedOn command text out WriteFault = (k : ℕ) × WriteFailed out × PrintsPart command text out (take k)
+HasStoppedOn command text out NoMemory = GainedNothing out
+HasStoppedOn command text out (Text cause) = GainedNothing out × Refuses command text cause
+HasStoppedOn command text out refusal = ⊥

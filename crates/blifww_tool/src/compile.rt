@@ -1,5 +1,6 @@
 // `compile`: the pattern of a netlist.
 ghost use Rattle.std.specs.Prelude.{◌≡◌, ◌==◌, ◌&&◌, ◌<◌, ℕ, List, [], length, map, string_bytes, IfOk, IfErr};
+ghost use Rattle.netlist_text.specs.NetlistText.{IsNetlist};
 ghost use Rattle.netlist_text.specs.Parts.{AreParts};
 ghost use Rattle.plan_ports.specs.Tables.{HasPortNames};
 ghost use Rattle.netlist_plans.specs.Lists.{IsPlanned};
@@ -90,6 +91,28 @@ fn started(
     Ok(Output::Drawing(started))
 }
 
+// The pattern of a netlist in so many contexts, where the words say with which bits its latches start.
+fn compiled(
+    alloc: Global,
+    netlist: &Netlist,
+    contexts: u64,
+    words: &[String],
+) -> Result<Output, TextError>
+    requires some { 0 < contexts }
+    requires parts { AreParts netlist.now.design netlist.now.flat netlist.now.order.nodes }
+    requires names { HasPortNames netlist.now.flat }
+    ensures printed { IfOk result (λ output. (text : List ℕ) → IsNetlist text netlist.now.design
+        → Prints (compile contexts (map string_bytes words.now)) text (output_text output)) }
+    ensures writable { IfOk result IsWritableOutput }
+    ensures refused { IfErr result (λ e. (text : List ℕ) → IsNetlist text netlist.now.design
+        → HasTextCause (compile contexts (map string_bytes words.now)) text e) }
+{
+    latches_are_flat();
+    let starts = Starts::read(alloc, &netlist.flat, words, contexts)?;
+    let planned = plan_of(alloc, netlist)?;
+    started(alloc, netlist, planned, contexts, words, &starts)
+}
+
 /// The pattern of the netlist whose text this is, in so many contexts, with the lines that say where its ports and nets
 /// are. The words say with which bits its latches start.
 pub fn compile(
@@ -106,8 +129,5 @@ pub fn compile(
         HasTextCause (compile contexts (map string_bytes words.now)) text.now e) }
 {
     let netlist = netlist_of(alloc, text)?;
-    latches_are_flat();
-    let starts = Starts::read(alloc, &netlist.flat, words, contexts)?;
-    let planned = plan_of(alloc, &netlist)?;
-    started(alloc, &netlist, planned, contexts, words, &starts)
+    compiled(alloc, &netlist, contexts, words)
 }

@@ -1,9 +1,11 @@
 // The top call.
-ghost use Rattle.std.specs.Prelude.{◌≡◌, ℕ, List, [], map, string_bytes, IfOk, IfErr, OnOk, IsErrOf};
+ghost use Rattle.std.specs.Prelude.{◌≡◌, ℕ, List, [], map, string_bytes, take, IfOk, IfErr, OnOk, OnErr, IsErrOf};
+ghost use Rattle.std.specs.Io.KnownBytes.{Appends};
+ghost use Rattle.ww_base.specs.Faults.{HasCause};
 ghost use Rattle.command_words.specs.Shapes.{aiger, compile, lift, tape, values_of, vcd, HasNumbersInRange};
 ghost use Rattle.blifww_tool.specs.Headline.{WritesDump, WritesInContexts, WritesItsAig, WritesItsNetlist, WritesTape, WritesWhatItRead};
 ghost use Rattle.blifww_tool.specs.Commands.{Prints, HasTextCause};
-ghost use Rattle.blifww_tool.specs.Answer.{output_text, IsWritableOutput, HasStopped};
+ghost use Rattle.blifww_tool.specs.Answer.{output_text, IsWritableOutput, HasStopped, HasStoppedOn, PrintsPart};
 ghost use Rattle.blifww_tool.specs.Run.{Asks, AsksForNoText, reading, writing, call, Gave, Does, Ends};
 
 use crate::aiger::aiger;
@@ -60,6 +62,30 @@ fn answer(alloc: Global, command: &Command, text: &[u8]) -> Result<Output, TextE
     }
 }
 
+// Writes an output, and lets it go.
+fn send<O: Sink>(output: Output, out: &mut O) -> Result<(), Failed>
+    requires { IsWritableOutput output }
+    ensures ok { OnOk result (Appends (O.written out.old) (O.written out.new) (output_text output)) }
+    ensures front { OnErr result
+        ((n : ℕ) × Appends (O.written out.old) (O.written out.new) (take n (output_text output))) }
+    ensures cause { HasCause (O.faults out.old) (O.faults out.new) result }
+{
+    output.write(out)
+}
+
+// Writes what the command prints of a text.
+fn print<O: Sink>(alloc: Global, command: &Command, text: &[u8], out: &mut O) -> Result<(), Refusal>
+    requires numbers { HasNumbersInRange (values_of command.now) }
+    ensures done { OnOk result (PrintsPart (values_of command.now) text.now
+        (writing O.written O.faults out.old out.new) (λ output. output)) }
+    ensures stopped { IfErr result (HasStoppedOn (values_of command.now) text.now
+        (writing O.written O.faults out.old out.new)) }
+{
+    let output = answer(alloc, command, text)?;
+    send(output, out)?;
+    Ok(())
+}
+
 // Does what the words say.
 fn work<S: Source, O: Sink>(
     alloc: Global,
@@ -77,9 +103,7 @@ fn work<S: Source, O: Sink>(
 {
     let command = command_of(alloc, words)?;
     let text = text_for(alloc, &command, src)?;
-    let output = answer(alloc, &command, text.as_slice())?;
-    output.write(out)?;
-    Ok(())
+    print(alloc, &command, text.as_slice(), out)
 }
 
 /// Does what the words say, and answers the exit status. `words` begins with the program's name.

@@ -7,5 +7,6 @@ pub mod Numerals
 pub mod ReadMet
 pub mod Parsed
 pub mod Rules
+pub mod Unnamed
 pub mod Walks
 pub mod Written

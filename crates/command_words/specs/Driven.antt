@@ -1,9 +1,11 @@
 -- What the commands are read as.
 use Rattle.std.specs.Prelude.{◌≡◌, ⊤, ℕ, List, Option, Some, None, Ok, Err, Result}
-use Rattle.clap.specs.Walk.{Text}
+use Rattle.clap.specs.Walk.{Row, Text}
 use Rattle.command_words.specs.Numbers.{NumberRange, cycles_range, tape_cycles_range}
-use Rattle.command_words.specs.Shapes.{CommandValues, HasNumbersInRange, values_of, simulate, eval, tape, vcd}
+use Rattle.command_words.specs.Shapes.{CommandValues, HasNumbersInRange, compile_by, driven_command_by, make_by, probe_by, self_by, window_by, values_of, simulate, eval, tape, aiger, vcd, lift}
 use Rattle.command_words.specs.declared.command.Command.{Command}
+use Rattle.command_words.specs.declared.command.CommandKind.{CommandKind}
+use Rattle.command_words.specs.declared.command.CommandKind.TheVariants as kind
 use Rattle.command_words.specs.declared.command.Driven.{Driven}
 use Rattle.command_words.specs.declared.command.Driven.TheVariants.{Simulate, Eval, Tape, Vcd}
 use Rattle.command_words.specs.declared.error.WordsError.{WordsError}
@@ -20,6 +22,17 @@ values_by Vcd cycles streams = vcd cycles streams
 abbrev pub range_of : Driven → NumberRange
 range_of Tape = tape_cycles_range
 range_of _ = cycles_range
+
+-- the values of a command of this kind, by the matches of its options and words
+abbrev pub values_of_kind : CommandKind → List Row → Option CommandValues
+values_of_kind kind.Compile rows = compile_by rows
+values_of_kind (kind.Driven driven) rows = driven_command_by (range_of driven) (values_by driven) rows
+values_of_kind kind.Probe rows = probe_by rows
+values_of_kind kind.Window rows = window_by rows
+values_of_kind kind.Make rows = make_by rows
+values_of_kind kind.Self_ rows = self_by rows
+values_of_kind kind.Aiger rows = Some aiger
+values_of_kind kind.Lift rows = Some lift
 
 -- a command has the values that were met, with numbers in their ranges, and where words are refused as none there are no values
 abbrev pub Reads : Option CommandValues → Result Command WordsError → Type 0

@@ -1,7 +1,7 @@
 pub mod App
+pub mod Arguments
 pub mod Errors
 pub mod Laws
 pub mod Numbers
-pub mod Program
 pub mod Shapes
 pub mod Driven

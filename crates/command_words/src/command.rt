@@ -1,12 +1,12 @@
 // The command that words ask for.
-ghost use Rattle.std.specs.Prelude.{◌≡◌, ◌≤◌, ◌==◌, not, IfOk, IfSome, OnOk, IsErrOf, MatchResult, Some, length, map, option_map, string_bytes};
+ghost use Rattle.std.specs.Prelude.{◌≡◌, ◌≤◌, ◌==◌, not, IfOk, IfSome, List, OnOk, IsErrOf, MatchResult, Some, length, map, option_and_then, option_map, string_bytes};
 ghost use Rattle.clap.specs.Simple.{subcommand_rows_of};
 ghost use Rattle.clap.specs.Lexer.{usize_max};
-ghost use Rattle.clap.specs.Walk.{first_of, rows_of};
+ghost use Rattle.clap.specs.Walk.{Row, first_of, rows_of};
 ghost use Rattle.clap.specs.Words.{found_of};
-ghost use Rattle.command_words.specs.Driven.{Reads, range_of, values_by};
+ghost use Rattle.command_words.specs.Driven.{Reads, range_of, values_by, values_of_kind};
 ghost use Rattle.command_words.specs.Numbers.{TakesNumber, contexts_range, cycles_range, seed_range, size_range, tape_cycles_range};
-ghost use Rattle.command_words.specs.Shapes.{CommandValues, HasNumbersInRange, HasViewInRange, IsCommand, IsTaken, IsWritten, command_values, compile_by, contexts_met, driven_command_by, make_by, number_met, probe_by, self_by, streams_met, values_met, values_of, view_met, window_by};
+ghost use Rattle.command_words.specs.Shapes.{CommandValues, HasNumbersInRange, HasViewInRange, IsCommand, IsTaken, IsWritten, command_values, compile_by, contexts_met, driven_command_by, make_by, number_met, probe_by, self_by, streams_met, values_by_name, values_met, values_of, view_met, window_by};
 
 use crate::WordsError;
 use crate::numbers::number_between;
@@ -17,7 +17,7 @@ use std::alloc::{AllocError, Global};
 
 /// A part of the plane at a generation: `width` cells of each of `height` rows, the first of which is the cell `x`,
 /// `y`.
-#[derive(Clone, Copy, Debug, PartialEq, Eq)]
+#[derive(Clone, Copy, PartialEq, Eq)]
 pub struct View {
     pub generation: u64,
     pub x: u64,
@@ -268,23 +268,69 @@ fn self_in(found: &ArgMatches<'_>) -> Result<Command, WordsError>
     Ok(Command::Self_ { seed, size, cycles })
 }
 
+// The commands, without their values.
+#[derive(Clone, Copy)]
+enum CommandKind {
+    Compile,
+    Driven(Driven),
+    Probe,
+    Window,
+    Make,
+    Self_,
+    Aiger,
+    Lift,
+}
+
+// The command of this name.
+fn kind_named(name: &str) -> Option<CommandKind>
+    ensures { (rows : List Row) → values_by_name name.now rows ≡ option_and_then (λ kind. values_of_kind kind rows) result }
+{
+    match name {
+        "compile" => Some(CommandKind::Compile),
+        "simulate" => Some(CommandKind::Driven(Driven::Simulate)),
+        "eval" => Some(CommandKind::Driven(Driven::Eval)),
+        "probe" => Some(CommandKind::Probe),
+        "window" => Some(CommandKind::Window),
+        "make" => Some(CommandKind::Make),
+        "self" => Some(CommandKind::Self_),
+        "tape" => Some(CommandKind::Driven(Driven::Tape)),
+        "aiger" => Some(CommandKind::Aiger),
+        "vcd" => Some(CommandKind::Driven(Driven::Vcd)),
+        "lift" => Some(CommandKind::Lift),
+        _ => None,
+    }
+}
+
+// The command of this kind, with its values.
+fn command_by(
+    alloc: Global,
+    kind: CommandKind,
+    found: &ArgMatches<'_>,
+) -> Result<Command, WordsError>
+    ensures { Reads (values_of_kind kind (rows_of (found_of found.now))) result }
+{
+    match kind {
+        CommandKind::Compile => compile_in(alloc, found),
+        CommandKind::Driven(driven) => driven_in(alloc, driven, found),
+        CommandKind::Probe => probe_in(alloc, found),
+        CommandKind::Window => window_in(alloc, found),
+        CommandKind::Make => make_in(found),
+        CommandKind::Self_ => self_in(found),
+        CommandKind::Aiger => Ok(Command::Aiger),
+        CommandKind::Lift => Ok(Command::Lift),
+    }
+}
+
 // The command that clap has found, with its values.
 fn command_in(alloc: Global, found: &ArgMatches<'_>) -> Result<Command, WordsError>
     ensures { Reads (values_met (subcommand_rows_of found.now)) result }
 {
-    match found.subcommand() {
-        Some(("compile", inner)) => compile_in(alloc, inner),
-        Some(("simulate", inner)) => driven_in(alloc, Driven::Simulate, inner),
-        Some(("eval", inner)) => driven_in(alloc, Driven::Eval, inner),
-        Some(("probe", inner)) => probe_in(alloc, inner),
-        Some(("window", inner)) => window_in(alloc, inner),
-        Some(("make", inner)) => make_in(inner),
-        Some(("self", inner)) => self_in(inner),
-        Some(("tape", inner)) => driven_in(alloc, Driven::Tape, inner),
-        Some(("aiger", _)) => Ok(Command::Aiger),
-        Some(("vcd", inner)) => driven_in(alloc, Driven::Vcd, inner),
-        Some(("lift", _)) => Ok(Command::Lift),
-        _ => Err(WordsError::Usage),
+    let Some((name, inner)) = found.subcommand() else {
+        return Err(WordsError::Usage);
+    };
+    match kind_named(name) {
+        Some(kind) => command_by(alloc, kind, inner),
+        None => Err(WordsError::Usage),
     }
 }
 

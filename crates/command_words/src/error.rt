@@ -6,7 +6,7 @@ use clap::error::ErrorKind;
 use std::alloc::AllocError;
 
 /// Why the words of a command line give no command.
-#[derive(Clone, Copy, Debug, PartialEq, Eq)]
+#[derive(Clone, Copy)]
 pub enum WordsError {
     /// The words are no command, or a number is out of its range.
     Usage,

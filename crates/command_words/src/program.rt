@@ -4,11 +4,77 @@ ghost use Rattle.clap.specs.Simple.{App, with_subcommand};
 ghost use Rattle.clap.specs.Words.{app_of};
 ghost use Rattle.clap.specs.declared.builder.command.Command.TheViews.{out-Command as fields_of};
 ghost use Rattle.command_words.specs.App.{bare_app, blifww_app};
-ghost use Rattle.command_words.specs.Program.{first_app, older_app};
+ghost use Rattle.command_words.specs.Arguments.{with_forms};
 
-use crate::app::{compile_command, driven_command, probe_command, window_command, with_options};
+use crate::app::{Argument, CommandForm, command_with};
 use clap::Command;
 use std::alloc::{AllocError, Global};
+
+// What a command takes that is driven by streams.
+const DRIVEN: &[Argument] = &[Argument::Required("cycles"), Argument::Streams];
+
+const COMMANDS: &[CommandForm] = &[
+    CommandForm {
+        name: "compile",
+        arguments: &[Argument::Free("contexts"), Argument::Streams],
+    },
+    CommandForm {
+        name: "simulate",
+        arguments: DRIVEN,
+    },
+    CommandForm {
+        name: "eval",
+        arguments: DRIVEN,
+    },
+    CommandForm {
+        name: "probe",
+        arguments: &[
+            Argument::Required("cycles"),
+            Argument::Required("net"),
+            Argument::Free("path"),
+            Argument::Streams,
+        ],
+    },
+    CommandForm {
+        name: "window",
+        arguments: &[
+            Argument::Required("gen"),
+            Argument::Required("x"),
+            Argument::Required("y"),
+            Argument::Required("width"),
+            Argument::Required("height"),
+            Argument::Streams,
+        ],
+    },
+    CommandForm {
+        name: "make",
+        arguments: &[Argument::Required("seed"), Argument::Required("size")],
+    },
+    CommandForm {
+        name: "self",
+        arguments: &[
+            Argument::Required("seed"),
+            Argument::Required("size"),
+            Argument::Required("cycles"),
+        ],
+    },
+    CommandForm {
+        name: "tape",
+        arguments: DRIVEN,
+    },
+    CommandForm {
+        name: "aiger",
+        arguments: &[],
+    },
+    CommandForm {
+        name: "vcd",
+        arguments: DRIVEN,
+    },
+    CommandForm {
+        name: "lift",
+        arguments: &[],
+    },
+];
 
 // The program's own level, which has neither a help nor a version of clap's own.
 fn bare_command<'a>(alloc: Global) -> Command<'a>
@@ -35,35 +101,24 @@ fn with_command<'a>(
     }
 }
 
-// The program with `compile`, `simulate` and `eval`.
-fn first_commands<'a>(alloc: Global) -> Result<Command<'a>, AllocError>
-    ensures { IfOk result (λ c. app_of c ≡ first_app) }
+// The program with commands of these forms too.
+fn with_commands<'a>(
+    alloc: Global,
+    program: Command<'a>,
+    forms: &[CommandForm],
+) -> Result<Command<'a>, AllocError>
+    ensures { (app : App) → app_of program.entry ≡ app → IfOk result (λ c. app_of c ≡ with_forms app forms.now) }
 {
-    let first = with_command(bare_command(alloc), compile_command(alloc))?;
-    let second = with_command(first, driven_command(alloc, "simulate"))?;
-    with_command(second, driven_command(alloc, "eval"))
-}
-
-// The program with these and `probe`, `window`, `make` and `self`.
-fn older_commands<'a>(alloc: Global) -> Result<Command<'a>, AllocError>
-    ensures { IfOk result (λ c. app_of c ≡ older_app) }
-{
-    let first = first_commands(alloc)?;
-    let second = with_command(first, probe_command(alloc))?;
-    let third = with_command(second, window_command(alloc))?;
-    let fourth = with_command(third, with_options(alloc, "make", &["seed", "size"]))?;
-    let last = with_options(alloc, "self", &["seed", "size", "cycles"]);
-    with_command(fourth, last)
+    let mut whole = program;
+    'forms: for form in forms {
+        whole = with_command(whole, command_with(alloc, form))?;
+    }
+    Ok(whole)
 }
 
 /// The program's command line, with one subcommand for each command.
 pub fn blifww_command<'a>(alloc: Global) -> Result<Command<'a>, AllocError>
     ensures { IfOk result (λ c. app_of c ≡ blifww_app) }
 {
-    let older = older_commands(alloc)?;
-    let taped = with_command(older, driven_command(alloc, "tape"))?;
-    let circuits = with_command(taped, with_options(alloc, "aiger", &[]))?;
-    let dumped = with_command(circuits, driven_command(alloc, "vcd"))?;
-    let last = with_options(alloc, "lift", &[]);
-    with_command(dumped, last)
+    with_commands(alloc, bare_command(alloc), COMMANDS)
 }

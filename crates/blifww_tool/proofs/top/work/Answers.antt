@@ -1,9 +1,9 @@
-use Rattle.std.proofs.Common.{ap, subst, ℕ, List, Err}
-use Rattle.std.proofs.lemmas.Result.{err_from_is_err_and}
+use Rattle.std.proofs.Common.{ap, absurd, subst, ℕ, ⊤, List, Err, Result, IfErr}
+use Rattle.std.proofs.lemmas.Result.{err_from_is_err_and, on_ok_weaker, IfErr-weaker}
 use Rattle.command_words.specs.Shapes.{values_of}
-use Rattle.blifww_tool.specs.Answer.{output_text}
-use Rattle.blifww_tool.specs.Commands.{HasTextCause, Prints}
-use Rattle.blifww_tool.proofs.Stopped.{kept, by_words, by_read, by_text, by_write}
+use Rattle.refusals.specs.declared.refusal.Refusal.{Refusal}
+use Rattle.blifww_tool.specs.Answer.{HasStoppedOn, PrintsPart}
+use Rattle.blifww_tool.proofs.Stopped.{kept, by_words, by_read, by_text, does}
 use Rattle.blifww_tool.proofs.top.work.Goals as goal
 
 pub returns-in_err-command-clause-stopped : goal.returns-in_err-command-clause-stopped
@@ -18,20 +18,22 @@ returns-in_err-text-clause-stopped g c =
     (record { asks = c.in_ok-command.ensures.ok; taken = c.in_ok-command.ensures.taken }) c.in_err-text.ensures.read
     (λ w. c.in_err-text.ensures.fault (ap Err w)) (λ w. c.in_err-text.ensures.too_long (ap Err w)))
 
-pub returns-in_err-output-clause-stopped : goal.returns-in_err-output-clause-stopped
-returns-in_err-output-clause-stopped g c =
-    let p = err_from_is_err_and c.from_residual-in_err-output.result c.from_residual-in_err-output.ensures.1 in
+pub returns-clause-done : goal.returns-clause-done
+returns-clause-done g c =
     let command = values_of c.in_ok-command.command in
-    rw (p.1, p.2) (by_text _ _ _ command c.in_ok-text.text c.in_err-output.field-0.0 (kept _)
-    (record { asks = c.in_ok-command.ensures.ok; taken = c.in_ok-command.ensures.taken })
-    c.in_ok-text.ensures.given
-    (subst (λ (t : List ℕ). HasTextCause command t c.in_err-output.field-0.0) c.as_slice.ensures c.in_err-output.ensures.refused))
+    on_ok_weaker c.print.result
+    (λ p. does _ _ _ command c.in_ok-text.text (λ output. output) (record { asks = c.in_ok-command.ensures.ok; taken = c.in_ok-command.ensures.taken }) c.in_ok-text.ensures.given
+    (subst (λ (t : List ℕ). PrintsPart command t _ (λ output. output)) c.as_slice.ensures p))
+    c.print.ensures.done
 
-pub returns-in_err-write-clause-stopped : goal.returns-in_err-write-clause-stopped
-returns-in_err-write-clause-stopped g c =
-    let p = err_from_is_err_and c.from_residual-in_err-write.result c.from_residual-in_err-write.ensures.1 in
+pub returns-clause-stopped : goal.returns-clause-stopped
+returns-clause-stopped g c =
     let command = values_of c.in_ok-command.command in
-    let output = output_text c.in_ok-output.output in
-    let front = c.in_err-write.ensures.front in
-    rw (p.1, p.2) (by_write _ _ _ command c.in_ok-text.text output front.0 (record { asks = c.in_ok-command.ensures.ok; taken = c.in_ok-command.ensures.taken }) c.in_ok-text.ensures.given
-    (subst (λ (t : List ℕ). Prints command t output) c.as_slice.ensures c.in_ok-output.ensures.printed) c.in_err-write.ensures.cause.failed front.1)
+    IfErr-weaker c.print.result _ _
+    (λ r h. by_text _ _ _ command c.in_ok-text.text r (record { asks = c.in_ok-command.ensures.ok; taken = c.in_ok-command.ensures.taken }) c.in_ok-text.ensures.given
+    (subst (λ (t : List ℕ). HasStoppedOn command t _ r) c.as_slice.ensures h))
+    c.print.ensures.stopped
+
+pub returns-clause-refused_unread : goal.returns-clause-refused_unread
+returns-clause-refused_unread g c = λ is.
+    absurd (subst (λ (result : Result ⊤ Refusal). IfErr result (HasStoppedOn (values_of c.in_ok-command.command) c.as_slice.result.now _)) is c.print.ensures.stopped)
