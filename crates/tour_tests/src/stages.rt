@@ -8,7 +8,7 @@ use cell_core::{CellList, Src};
 use cover_mapper::map;
 use flat_designs::{flat_is_sound, flat_is_weighed};
 use lane_core::{Column, Instr, Plan};
-use netlist_core::{Flat, FlatPort, NetId, Node};
+use netlist_core::{Flat, FlatLatch, FlatPort, NetId, Node};
 use netlist_plans::plan_netlist;
 use netlist_text::{Netlist, netlist_of};
 use std::alloc::{AllocError, Global};
@@ -18,89 +18,99 @@ use std::test::Fail;
 const TOGGLE: &[u8] =
     b".model toggle\n.inputs en\n.outputs q\n.latch n q 0\n.names en q n\n10 1\n01 1\n.end\n";
 
-// The name of a net.
-fn name_of(alloc: Global, flat: &Flat, net: NetId) -> Result<String, AllocError> {
-    name_at(alloc, flat, net.0 as usize)
-}
-
-// The name of the net at a position, or nothing where there is none.
-fn name_at(alloc: Global, flat: &Flat, net: usize) -> Result<String, AllocError> {
-    let mut name = String::new(alloc);
+// Puts the name of the net at a position on the page, or nothing where there is none.
+fn push_name_at(page: &mut String, flat: &Flat, net: usize) -> Result<(), AllocError> {
     if let Some(known) = flat.nets.as_slice().get(net) {
         for byte in known.name.as_slice() {
-            name.push(*byte as char)?;
+            page.push(*byte as char)?;
         }
     }
-    Ok(name)
+    Ok(())
 }
 
-fn push_node(
-    page: &mut String,
-    alloc: Global,
-    flat: &Flat,
-    number: usize,
-    node: &Node,
-) -> Result<(), AllocError> {
-    write!(
-        page,
-        "cover {number}: {} of",
-        name_of(alloc, flat, node.out)?
-    )?;
+// Puts the name of a net on the page.
+fn push_name(page: &mut String, flat: &Flat, net: NetId) -> Result<(), AllocError> {
+    push_name_at(page, flat, net.0 as usize)
+}
+
+fn push_node(page: &mut String, flat: &Flat, number: usize, node: &Node) -> Result<(), AllocError> {
+    write!(page, "cover {number}: ")?;
+    push_name(page, flat, node.out)?;
+    page.push_str(" of")?;
     for net in node.ins.as_slice() {
-        write!(page, " {}", name_of(alloc, flat, *net)?)?;
+        page.push(' ')?;
+        push_name(page, flat, *net)?;
     }
     writeln!(page, ", line {}", node.line)
 }
 
-fn push_nets(page: &mut String, alloc: Global, flat: &Flat) -> Result<(), AllocError> {
+// Puts a line for a net on the page, with what the net is and its number there.
+fn push_line(
+    page: &mut String,
+    flat: &Flat,
+    what: &str,
+    number: usize,
+    net: usize,
+) -> Result<(), AllocError> {
+    write!(page, "{what} {number}: ")?;
+    push_name_at(page, flat, net)?;
+    page.push('\n')
+}
+
+fn push_nets(page: &mut String, flat: &Flat) -> Result<(), AllocError> {
     for number in 0..flat.nets.len() {
-        writeln!(page, "net {number}: {}", name_at(alloc, flat, number)?)?;
+        push_line(page, flat, "net", number, number)?;
     }
     Ok(())
 }
 
 fn push_ports(
     page: &mut String,
-    alloc: Global,
     flat: &Flat,
     what: &str,
     ports: &[FlatPort],
 ) -> Result<(), AllocError> {
     for (number, port) in ports.iter().enumerate() {
-        writeln!(page, "{what} {number}: {}", name_of(alloc, flat, port.net)?)?;
+        push_line(page, flat, what, number, port.net.0 as usize)?;
     }
     Ok(())
 }
 
-fn push_nodes(page: &mut String, alloc: Global, flat: &Flat) -> Result<(), AllocError> {
+fn push_nodes(page: &mut String, flat: &Flat) -> Result<(), AllocError> {
     for (number, node) in flat.nodes.as_slice().iter().enumerate() {
-        push_node(page, alloc, flat, number, node)?;
+        push_node(page, flat, number, node)?;
     }
     Ok(())
 }
 
-fn push_latches(page: &mut String, alloc: Global, flat: &Flat) -> Result<(), AllocError> {
+fn push_latch(
+    page: &mut String,
+    flat: &Flat,
+    number: usize,
+    latch: &FlatLatch,
+) -> Result<(), AllocError> {
+    write!(page, "latch {number}: ")?;
+    push_name(page, flat, latch.input)?;
+    page.push_str(" to ")?;
+    push_name(page, flat, latch.output)?;
+    writeln!(page, ", init {}", latch.init)
+}
+
+fn push_latches(page: &mut String, flat: &Flat) -> Result<(), AllocError> {
     for (number, latch) in flat.latches.as_slice().iter().enumerate() {
-        let data = name_of(alloc, flat, latch.input)?;
-        let output = name_of(alloc, flat, latch.output)?;
-        writeln!(
-            page,
-            "latch {number}: {data} to {output}, init {}",
-            latch.init
-        )?;
+        push_latch(page, flat, number, latch)?;
     }
     Ok(())
 }
 
 // The nets of a flat netlist, its ports, covers and latches.
-fn flat_stage(alloc: Global, flat: &Flat) -> Result<String, AllocError> {
-    let mut page = format!(in alloc; "weight {}\n", flat.weight)?;
-    push_nets(&mut page, alloc, flat)?;
-    push_ports(&mut page, alloc, flat, "input", flat.ins.as_slice())?;
-    push_ports(&mut page, alloc, flat, "output", flat.outs.as_slice())?;
-    push_nodes(&mut page, alloc, flat)?;
-    push_latches(&mut page, alloc, flat)?;
-    Ok(page)
+fn push_flat(page: &mut String, flat: &Flat) -> Result<(), AllocError> {
+    writeln!(page, "weight {}", flat.weight)?;
+    push_nets(page, flat)?;
+    push_ports(page, flat, "input", flat.ins.as_slice())?;
+    push_ports(page, flat, "output", flat.outs.as_slice())?;
+    push_nodes(page, flat)?;
+    push_latches(page, flat)
 }
 
 fn push_sources(page: &mut String, what: &str, sources: &[Src]) -> Result<(), AllocError> {
@@ -111,102 +121,87 @@ fn push_sources(page: &mut String, what: &str, sources: &[Src]) -> Result<(), Al
 }
 
 // The cells, and the sources of the outputs, of the latches' data and of the nets.
-fn cells_stage(alloc: Global, list: &CellList) -> Result<String, AllocError> {
-    let mut page = String::new(alloc);
+fn push_list(page: &mut String, list: &CellList) -> Result<(), AllocError> {
     for (number, cell) in list.cells.as_slice().iter().enumerate() {
         writeln!(page, "cell {number}: {cell:?}")?;
     }
-    push_sources(&mut page, "output", list.outs.as_slice())?;
-    push_sources(&mut page, "latch", list.latches.as_slice())?;
-    push_sources(&mut page, "net", list.nets.as_slice())?;
-    Ok(page)
+    push_sources(page, "output", list.outs.as_slice())?;
+    push_sources(page, "latch", list.latches.as_slice())?;
+    push_sources(page, "net", list.nets.as_slice())
 }
 
-// What stands on each lane: a net's name, a gate's result that no net names, or nothing.
-#[derive(Drop)]
-struct Lanes {
-    labels: Vec<String>,
+// What stands on a lane: nothing, the bit of the net at a position, or what a gate makes that no net names.
+#[derive(Clone, Copy)]
+enum Label {
+    Nothing,
+    Net(usize),
+    Made(&'static str),
 }
 
-// What a gate that no net names makes.
-fn result_of(instr: Instr) -> &'static str {
+fn push_label(page: &mut String, flat: &Flat, label: Label) -> Result<(), AllocError> {
+    page.push(' ')?;
+    match label {
+        Label::Nothing => {}
+        Label::Net(net) => push_name_at(page, flat, net)?,
+        Label::Made(gate) => page.push_str(gate)?,
+    }
+    page.push_str(" |")
+}
+
+// What an instruction leaves on its two lanes, of what stood there.
+fn labels_after(instr: Instr, upper: Label, lower: Label) -> (Label, Label) {
     match instr {
-        Instr::Or(_) => "or",
-        Instr::Xor(_) => "xor",
-        Instr::AndNot(_) => "and-not",
-        Instr::Swap(_) | Instr::Fork(_) => "",
+        Instr::Swap(_) => (lower, upper),
+        Instr::Fork(_) => (upper, upper),
+        Instr::Xor(_) => (Label::Made("xor"), Label::Nothing),
+        Instr::Or(_) => (Label::Made("or"), Label::Nothing),
+        Instr::AndNot(_) => (Label::Made("and-not"), Label::Nothing),
     }
 }
 
-impl Lanes {
-    fn empty(alloc: Global, lanes: u32) -> Result<Lanes, AllocError> {
-        let mut labels = Vec::new(alloc);
-        for _lane in 0..lanes {
-            labels.push(String::new(alloc))?;
-        }
-        Ok(Lanes { labels })
+fn label_on(labels: &[Label], lane: u32) -> Label {
+    match labels.get(lane as usize) {
+        Some(label) => *label,
+        None => Label::Nothing,
     }
+}
 
-    fn on(&self, alloc: Global, lane: u32) -> Result<String, AllocError> {
-        match self.labels.get(lane as usize) {
-            Some(label) => label.clone(),
-            None => Ok(String::new(alloc)),
+fn put(labels: &mut [Label], lane: u32, label: Label) {
+    if let Some(place) = labels.get_mut(lane as usize) {
+        *place = label;
+    }
+}
+
+// Does an instruction.
+fn step(labels: &mut [Label], instr: Instr) {
+    let lane = instr.lane();
+    let next = lane.saturating_add(1);
+    let (above, below) = labels_after(instr, label_on(labels, lane), label_on(labels, next));
+    put(labels, lane, above);
+    put(labels, next, below);
+}
+
+// Does the instructions of a column.
+fn step_all(labels: &mut [Label], column: &Column) {
+    for instr in column.instrs.as_slice() {
+        step(labels, *instr);
+    }
+}
+
+// Names what nets show from a place on: the entry, or the exit of a column.
+fn name(labels: &mut [Label], plan: &Plan, after: Option<u64>) {
+    for (net, place) in plan.nets.as_slice().iter().enumerate() {
+        if place.after == after {
+            put(labels, place.lane, Label::Net(net));
         }
     }
+}
 
-    fn put(&mut self, lane: u32, label: String) {
-        if let Some(place) = self.labels.get_mut(lane as usize) {
-            *place = label;
-        }
+fn push_row(page: &mut String, flat: &Flat, labels: &[Label]) -> Result<(), AllocError> {
+    for label in labels {
+        push_label(page, flat, *label)?;
     }
-
-    // Does an instruction.
-    fn step(&mut self, alloc: Global, instr: Instr) -> Result<(), AllocError> {
-        let lane = instr.lane();
-        let upper = self.on(alloc, lane)?;
-        let lower = self.on(alloc, lane.saturating_add(1))?;
-        let (above, below) = match instr {
-            Instr::Swap(_) => (lower, upper),
-            Instr::Fork(_) => (upper.clone()?, upper),
-            Instr::Xor(_) | Instr::Or(_) | Instr::AndNot(_) => {
-                (result_of(instr).to_string(alloc)?, String::new(alloc))
-            }
-        };
-        self.put(lane, above);
-        self.put(lane.saturating_add(1), below);
-        Ok(())
-    }
-
-    // Does the instructions of a column.
-    fn step_all(&mut self, alloc: Global, column: &Column) -> Result<(), AllocError> {
-        for instr in column.instrs.as_slice() {
-            self.step(alloc, *instr)?;
-        }
-        Ok(())
-    }
-
-    // Names what nets show from a place on: the entry, or the exit of a column.
-    fn name(
-        &mut self,
-        alloc: Global,
-        flat: &Flat,
-        plan: &Plan,
-        after: Option<u64>,
-    ) -> Result<(), AllocError> {
-        for (net, place) in plan.nets.as_slice().iter().enumerate() {
-            if place.after == after {
-                self.put(place.lane, name_at(alloc, flat, net)?);
-            }
-        }
-        Ok(())
-    }
-
-    fn push_row(&self, page: &mut String) -> Result<(), AllocError> {
-        for label in &self.labels {
-            write!(page, " {label} |")?;
-        }
-        page.push('\n')
-    }
+    page.push('\n')
 }
 
 fn push_column(page: &mut String, number: usize, column: &Column) -> Result<(), AllocError> {
@@ -239,72 +234,104 @@ fn push_head(page: &mut String, lanes: u32) -> Result<(), AllocError> {
     page.push_str("\n| before | |")
 }
 
-// The columns from the first on, with what stands on the lanes before it.
+// The columns, with what stands on the lanes after each; before the first these labels stand there.
 fn push_columns(
     page: &mut String,
-    alloc: Global,
     flat: &Flat,
     plan: &Plan,
-    lanes: Lanes,
+    labels: &mut [Label],
 ) -> Result<(), AllocError> {
-    let mut lanes = lanes;
     for (number, column) in plan.columns.as_slice().iter().enumerate() {
         push_column(page, number, column)?;
-        lanes.step_all(alloc, column)?;
-        lanes.name(alloc, flat, plan, Some(number as u64))?;
-        lanes.push_row(page)?;
+        step_all(labels, column);
+        name(labels, plan, Some(number as u64));
+        push_row(page, flat, labels)?;
     }
     Ok(())
 }
 
-// The columns of a plan as a table: their instructions, and what stands on each lane after them.
-fn lanes_stage(alloc: Global, flat: &Flat, plan: &Plan) -> Result<String, AllocError> {
-    let mut page = String::new(alloc);
-    push_head(&mut page, plan.lanes)?;
-    let mut lanes = Lanes::empty(alloc, plan.lanes)?;
-    lanes.name(alloc, flat, plan, None)?;
-    lanes.push_row(&mut page)?;
-    push_columns(&mut page, alloc, flat, plan, lanes)?;
-    Ok(page)
-}
-
-// The texts of a flat netlist, of its cells, and of its plan's lanes and columns.
-fn texts_of(
-    alloc: Global,
+// The columns of a plan as a table: their instructions, and what stands on each lane after them. The labels are of its lanes.
+fn push_plan(
+    page: &mut String,
     flat: &Flat,
-    list: &CellList,
     plan: &Plan,
-) -> Result<[String; 3], AllocError> {
-    let nets = flat_stage(alloc, flat)?;
-    let cells = cells_stage(alloc, list)?;
-    let lanes = lanes_stage(alloc, flat, plan)?;
-    Ok([nets, cells, lanes])
+    labels: &mut [Label],
+) -> Result<(), AllocError> {
+    push_head(page, plan.lanes)?;
+    name(labels, plan, None);
+    push_row(page, flat, labels)?;
+    push_columns(page, flat, plan, labels)
 }
 
-// The texts of a netlist's stages.
-fn planned(alloc: Global, netlist: &Netlist) -> Result<[String; 3], Fail>
-    requires of_text { (text : List ℕ) × IsNetlist text netlist.now.design }
+// Fails where a page is not the stage.
+fn expect_stage(page: &str, stage: &str) -> Result<(), Fail> {
+    if page == stage {
+        return Ok(());
+    }
+    Err(Fail::new(format_args!("{page}")))
+}
+
+fn check_flat(alloc: Global, flat: &Flat) -> Result<(), Fail> {
+    let mut page = String::new(alloc);
+    push_flat(&mut page, flat)?;
+    expect_stage(page.as_str(), FLAT)
+}
+
+fn check_list(alloc: Global, list: &CellList) -> Result<(), Fail> {
+    let mut page = String::new(alloc);
+    push_list(&mut page, list)?;
+    expect_stage(page.as_str(), CELLS)
+}
+
+fn check_lanes(alloc: Global, flat: &Flat, plan: &Plan, labels: &mut [Label]) -> Result<(), Fail> {
+    let mut page = String::new(alloc);
+    push_plan(&mut page, flat, plan, labels)?;
+    expect_stage(page.as_str(), LANES)
+}
+
+fn check_plan(alloc: Global, flat: &Flat, plan: &Plan) -> Result<(), Fail> {
+    let mut labels = vec![in alloc; Label::Nothing; plan.lanes as usize]?;
+    check_lanes(alloc, flat, plan, &mut labels)
+}
+
+// The cells of a netlist.
+fn check_cells(alloc: Global, netlist: &Netlist) -> Result<(), Fail>
     requires parts { AreParts netlist.now.design netlist.now.flat netlist.now.order.nodes }
 {
     flat_is_sound();
     flat_is_weighed();
     let mapped = map(alloc, &netlist.flat, &netlist.order)?;
-    let planned = plan_netlist(alloc, &netlist.flat, &netlist.order)?;
-    Ok(texts_of(alloc, &netlist.flat, &mapped.list, &planned.plan)?)
+    check_list(alloc, &mapped.list)
 }
 
-// The texts of the stages of a text's netlist: flat, as cells, and as lanes and columns.
-fn stages(alloc: Global, text: &[u8]) -> Result<[String; 3], Fail> {
+// The lanes and columns of a netlist's plan.
+fn check_planned(alloc: Global, netlist: &Netlist) -> Result<(), Fail>
+    requires of_text { (text : List ℕ) × IsNetlist text netlist.now.design }
+    requires parts { AreParts netlist.now.design netlist.now.flat netlist.now.order.nodes }
+{
+    flat_is_sound();
+    flat_is_weighed();
+    let planned = plan_netlist(alloc, &netlist.flat, &netlist.order)?;
+    check_plan(alloc, &netlist.flat, &planned.plan)
+}
+
+// The stages of a netlist: flat, as cells, and as lanes and columns.
+fn check_netlist(alloc: Global, netlist: &Netlist) -> Result<(), Fail>
+    requires of_text { (text : List ℕ) × IsNetlist text netlist.now.design }
+    requires parts { AreParts netlist.now.design netlist.now.flat netlist.now.order.nodes }
+{
+    check_flat(alloc, &netlist.flat)?;
+    check_cells(alloc, netlist)?;
+    check_planned(alloc, netlist)
+}
+
+// The stages of a text's netlist.
+fn check_stages(alloc: Global, text: &[u8]) -> Result<(), Fail> {
     let netlist = netlist_of(alloc, text)?;
-    planned(alloc, &netlist)
+    check_netlist(alloc, &netlist)
 }
 
 #[test]
 fn stages_of_the_toggle_are_those_of_the_tour(rt: HostRuntime) -> Result<(), Fail> {
-    let [flat, cells, lanes] = stages(rt.alloc(), TOGGLE)?;
-    assert_eq!(rt;
-        [flat.as_str(), cells.as_str(), lanes.as_str()],
-        [FLAT, CELLS, LANES]
-    );
-    Ok(())
+    check_stages(rt.alloc(), TOGGLE)
 }

@@ -3,13 +3,7 @@ use Rattle.flat_designs.proofs.Whole.{flat_is_named}
 use Rattle.netlist_text.proofs.SoundParts.{sound, weighed, small}
 use Rattle.netlist_plans.proofs.Names.{texts_have_port_names}
 use Rattle.plan_carries.proofs.SeenNets.{places_fit}
-use Rattle.tour_tests.proofs.stages.planned.Goals as goal
-
-pub map-requires-clause-sound : goal.map-requires-clause-sound
-map-requires-clause-sound c = sound c.args.netlist.now.design c.args.netlist.now.flat _ c.requires.parts c.flat_is_sound.ensures
-
-pub map-requires-clause-weighed : goal.map-requires-clause-weighed
-map-requires-clause-weighed c = weighed c.args.netlist.now.design c.args.netlist.now.flat _ c.requires.parts c.flat_is_weighed.ensures
+use Rattle.tour_tests.proofs.stages.check_planned.Goals as goal
 
 pub plan_netlist-requires-clause-sound : goal.plan_netlist-requires-clause-sound
 plan_netlist-requires-clause-sound c = sound c.args.netlist.now.design c.args.netlist.now.flat _ c.requires.parts c.flat_is_sound.ensures
@@ -19,9 +13,6 @@ plan_netlist-requires-clause-weighed c = weighed c.args.netlist.now.design c.arg
 
 pub plan_netlist-requires-clause-small : goal.plan_netlist-requires-clause-small
 plan_netlist-requires-clause-small c = small c.args.netlist.now.design c.args.netlist.now.flat _ c.requires.parts
-
-pub map-requires-clause-ordered : goal.map-requires-clause-ordered
-map-requires-clause-ordered c = c.requires.parts.is_order
 
 pub plan_netlist-requires-clause-ordered : goal.plan_netlist-requires-clause-ordered
 plan_netlist-requires-clause-ordered c = c.requires.parts.is_order
