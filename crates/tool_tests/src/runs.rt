@@ -1,5 +1,11 @@
 // Runs over sources and sinks in memory.
-ghost use Rattle.std.specs.Prelude.{◌≡◌, ◌≤◌, length, IfOk};
+//
+// A list of cases is one text, since a table costs its proof for each row. A case begins with `>` and a line of commands, each of
+// which reads what the one before wrote, with `|` between any two, and ` -- ` before a word on the case. The lines of a text follow,
+// which the first command reads; a case without one reads the text that its list is over. Then come `== ` with the status, and the
+// lines that the last command writes where that is 0, or tells where it is another; it writes and tells no more. Where three full
+// stops stand there, anything may.
+ghost use Rattle.std.specs.Prelude.{◌≤◌};
 
 mod circuits;
 mod compiling;
@@ -17,40 +23,16 @@ use std::alloc::{AllocError, Global};
 use std::test::Fail;
 use ww_base::{MemSink, MemSource};
 
-/// The words that ask for a netlist's pattern.
-pub const COMPILE: &[&str] = &["blifww", "compile"];
-
 /// An OR gate.
-pub const GATE: &[u8] = b".model or\n.inputs a b\n.outputs y\n.names a b y\n1- 1\n-1 1\n.end\n";
+pub const GATE: &str = ".model or\n.inputs a b\n.outputs y\n.names a b y\n1- 1\n-1 1\n.end\n";
 
 /// What is written for it: 321 bytes.
-pub const PATTERN: &[u8] =
-    b"#C BLIFWW 2 P 32 L 32 C 1\n#C BLIFWW IN 0 8 a\n#C BLIFWW IN 0 24 b\n#C BLIFWW OUT 32 8 y\n#C BLIFWW NET 0 8 0 a -\n#C BLIFWW NET 0 24 0 b -\n#C BLIFWW NET 31 8 31 y -\nx = 33, y = 32, rule = WireWorld\n8$5C18.10C$5.C16.C$6.C14.C$7.C12.C$8.C10.C$9.C.2C5.C$10.2C.C3.C$11.2C.\nC.C$15.C$11.2C.C$10.2C.C$9.C.2C$8.C$7.C$6.C$5.C$5C26.C!\n";
+pub const PATTERN: &str =
+    "#C BLIFWW 2 P 32 L 32 C 1\n#C BLIFWW IN 0 8 a\n#C BLIFWW IN 0 24 b\n#C BLIFWW OUT 32 8 y\n#C BLIFWW NET 0 8 0 a -\n#C BLIFWW NET 0 24 0 b -\n#C BLIFWW NET 31 8 31 y -\nx = 33, y = 32, rule = WireWorld\n8$5C18.10C$5.C16.C$6.C14.C$7.C12.C$8.C10.C$9.C.2C5.C$10.2C.C3.C$11.2C.\nC.C$15.C$11.2C.C$10.2C.C$9.C.2C$8.C$7.C$6.C$5.C$5C26.C!\n";
 
 /// What words that are no command are told.
-pub const USAGE: &[u8] =
-    b"usage: blifww compile|simulate|eval|probe|window|make|self|tape|aiger|vcd|lift\n";
-
-/// Words that drive the gate through four cycles.
-pub const OR_STREAMS: &[&str] = &["blifww", "simulate", "--cycles", "4", "a=0011", "b=0101"];
-
-/// Words that ask for a corner of the plane.
-pub const CORNER: &[&str] = &[
-    "blifww", "window", "--gen", "1", "--x", "0", "--y", "0", "--width", "3", "--height", "2",
-];
-
-/// How a run ends.
-#[derive(Clone, Copy)]
-pub enum Ending<'a> {
-    /// With status 0: all that is written. Nothing is told.
-    Writes(&'a [u8]),
-    /// The same: how what is written begins and how it ends.
-    Spans(&'a [u8], &'a [u8]),
-    /// With nothing written: the status, and what is told.
-    Tells(u8, &'a [u8]),
-    /// With status 6: what is written, and what is told.
-    Cut(&'a [u8], &'a [u8]),
-}
+pub const USAGE: &str =
+    "usage: blifww compile|simulate|eval|probe|window|make|self|tape|aiger|vcd|lift\n";
 
 /// The status, and what `out` and `err` hold.
 #[derive(Drop)]
@@ -61,41 +43,46 @@ pub struct Outcome {
 }
 
 impl Outcome {
-    // Whether the run ended with this status, and wrote and told this.
-    fn is(&self, status: u8, out: &[u8], err: &[u8]) -> bool {
-        self.status == status && self.out.as_slice() == out && self.err.as_slice() == err
+    /// Whether the run ended with this status, and wrote and told this, or what begins and ends so where three full stops stand.
+    pub fn is(&self, status: u8, out: &str, err: &str) -> bool {
+        self.status == status
+            && self.err.as_slice() == err.as_bytes()
+            && matches(self.out.as_slice(), out)
     }
 
-    // Whether the run ended so.
-    fn has(&self, ending: Ending) -> bool {
-        match ending {
-            Ending::Writes(all) => self.is(0, all, b""),
-            Ending::Spans(begin, end) => self.status == 0
-                && self.err.is_empty()
-                && self.out.starts_with(begin)
-                && self.out.ends_with(end),
-            Ending::Tells(status, line) => self.is(status, b"", line),
-            Ending::Cut(front, line) => self.is(6, front, line),
+    /// Whether the run ended as a case says.
+    pub fn ends(&self, case: &Case) -> bool {
+        if case.status == 0 {
+            self.is(0, case.said, "")
+        } else {
+            self.is(case.status, "", case.said)
         }
     }
 }
 
-/// Words as a command line has them.
-pub fn strings_of(alloc: Global, words: &[&str]) -> Result<Vec<String>, AllocError>
-    ensures { IfOk result (λ strings. length strings.items ≡ length words.now) }
-{
-    let mut strings = Vec::new(alloc);
-    for word in words {
-        strings.push(String::from_str(alloc, word)?)?;
+// Whether a text is this, or begins and ends so where three full stops stand.
+fn matches(text: &[u8], said: &str) -> bool {
+    match said.split_once("...") {
+        Some((begin, end)) => text.starts_with(begin.as_bytes()) && text.ends_with(end.as_bytes()),
+        None => text == said.as_bytes(),
     }
-    Ok(strings)
+}
+
+/// A command's words as a command line has them.
+pub fn words_of(alloc: Global, command: &str) -> Result<Vec<String>, AllocError> {
+    let mut words = Vec::new(alloc);
+    words.push(String::from_str(alloc, "blifww")?)?;
+    for word in command.split_ascii_whitespace() {
+        words.push(String::from_str(alloc, word)?)?;
+    }
+    Ok(words)
 }
 
 /// A text of parts, one after the other.
-pub fn joined(alloc: Global, parts: &[&[u8]]) -> Result<Vec<u8>, AllocError> {
-    let mut text = Vec::new(alloc);
+pub fn text_of(alloc: Global, parts: &[&str]) -> Result<String, AllocError> {
+    let mut text = String::new(alloc);
     for part in parts {
-        text.extend_from_slice(part)?;
+        text.push_str(part)?;
     }
     Ok(text)
 }
@@ -103,16 +90,16 @@ pub fn joined(alloc: Global, parts: &[&[u8]]) -> Result<Vec<u8>, AllocError> {
 /// A run over a source in memory, by its chunk and the calls that fail, and sinks with some room.
 pub fn run_over(
     alloc: Global,
-    words: &[&str],
+    command: &str,
     text: &[u8],
     source: (usize, &[u64]),
     rooms: (usize, usize),
 ) -> Result<Outcome, Fail>
     requires { 1 ≤ source.0 }
 {
-    let given = strings_of(alloc, words)?;
+    let words = words_of(alloc, command)?;
     let mut src = MemSource::new(alloc, text, source.0, source.1)?;
-    run_on(alloc, &given, &mut src, rooms)
+    run_on(alloc, &words, &mut src, rooms)
 }
 
 // A run over a source, and sinks with some room.
@@ -135,58 +122,101 @@ fn ended(alloc: Global, status: u8, out: &[u8], err: &[u8]) -> Result<Outcome, F
     Ok(Outcome { status, out, err })
 }
 
-/// What a row's table is about, and the row's number, counted from 0.
-pub type Row = (&'static str, usize);
+/// A run with ample room.
+pub fn run_amply(alloc: Global, command: &str, text: &[u8]) -> Result<Outcome, Fail> {
+    run_over(alloc, command, text, (16, &[]), (1 << 20, 99))
+}
 
-/// Fails, with the row and the words, where a run of it did not end so.
-pub fn expect(is_so: bool, row: Row, words: &[&str]) -> Result<(), Fail> {
-    if is_so {
-        Ok(())
+/// What a command writes of a text with status 0.
+pub fn written(alloc: Global, command: &str, text: &[u8]) -> Result<Vec<u8>, Fail> {
+    let got = run_amply(alloc, command, text)?;
+    if got.status == 0 {
+        Ok(got.out)
     } else {
-        Err(Fail::new(format_args!("{row:?}: {words:?} end otherwise")))
+        Err(Fail::new(format_args!("{command}: {}", got.status)))
     }
 }
 
-/// Fails where words over a text, with such a source and such sinks, end otherwise.
-pub fn expect_run_over(
-    alloc: Global,
-    row: Row,
-    asked: (&[&str], &[u8]),
-    source: (usize, &[u64]),
-    rooms: (usize, usize),
-    ending: Ending,
-) -> Result<(), Fail>
-    requires { 1 ≤ source.0 }
-{
-    let (words, text) = asked;
-    let got = run_over(alloc, words, text, source, rooms)?;
-    expect(got.has(ending), row, words)
+// What the last of some commands writes, each of which reads what the one before wrote.
+fn text_after(alloc: Global, commands: &str, text: &[u8]) -> Result<Vec<u8>, Fail> {
+    let mut read = text.to_vec(alloc)?;
+    for command in commands.split('|') {
+        read = written(alloc, command, &read)?;
+    }
+    Ok(read)
 }
 
-/// A run with ample room.
-pub fn run_amply(alloc: Global, words: &[&str], text: &[u8]) -> Result<Outcome, Fail> {
-    run_over(alloc, words, text, (16, &[]), (1 << 20, 99))
+// A run of the last of some commands, each of which reads what the one before wrote.
+fn run_after(alloc: Global, commands: &str, text: &[u8]) -> Result<Outcome, Fail> {
+    match commands.rsplit_once('|') {
+        Some((before, last)) => {
+            let read = text_after(alloc, before, text)?;
+            run_amply(alloc, last, &read)
+        }
+        None => run_amply(alloc, commands, text),
+    }
 }
 
-/// Fails where words over a text, with ample room, end otherwise.
-pub fn expect_run(
-    alloc: Global,
-    row: Row,
-    words: &[&str],
-    text: &[u8],
-    ending: Ending,
-) -> Result<(), Fail> {
-    let got = run_amply(alloc, words, text)?;
-    expect(got.has(ending), row, words)
+/// A case, without its mark.
+#[derive(Clone, Copy)]
+pub struct Case<'a> {
+    commands: &'a str,
+    text: &'a str,
+    status: u8,
+    said: &'a str,
 }
 
-/// Words, a text, and how the run ends.
-pub type Run = (&'static [&'static str], &'static [u8], Ending<'static>);
+// The commands of a line without the word on the case.
+fn commands_of(line: &str) -> &str {
+    match line.split_once(" -- ") {
+        Some((commands, _)) => commands.trim(),
+        None => line.trim(),
+    }
+}
 
-// Fails where one of the runs of a table ends otherwise.
-fn expect_runs(alloc: Global, about: &'static str, runs: &[Run]) -> Result<(), Fail> {
-    for (number, (words, text, ending)) in runs.iter().enumerate() {
-        expect_run(alloc, (about, number), words, text, *ending)?;
+/// The case that a text says.
+pub fn case_of(case: &str) -> Option<Case<'_>> {
+    let (asked, wanted) = case.split_once("== ")?;
+    let (line, text) = asked.split_once('\n')?;
+    let (number, said) = wanted.split_once('\n')?;
+    let status = number.parse().ok()?;
+    Some(Case {
+        commands: commands_of(line),
+        text,
+        status,
+        said,
+    })
+}
+
+/// Fails, with what it is about, where something is not so.
+pub fn expect(is_so: bool, about: &str) -> Result<(), Fail> {
+    if is_so {
+        Ok(())
+    } else {
+        Err(Fail::new(format_args!("this is not so: {about}")))
+    }
+}
+
+// Fails where a case ends otherwise. One without a text reads the other text.
+fn expect_case(alloc: Global, said: &str, other: &str) -> Result<(), Fail> {
+    match case_of(said) {
+        Some(case) => {
+            let text = if case.text.is_empty() {
+                other
+            } else {
+                case.text
+            };
+            let got = run_after(alloc, case.commands, text.as_bytes())?;
+            expect(got.ends(&case), said)
+        }
+        None => Err(Fail::new("no case")),
+    }
+}
+
+// Fails where a case of a list ends otherwise.
+fn expect_cases(alloc: Global, cases: &str, other: &str) -> Result<(), Fail> {
+    for case in cases.split('>').skip(1) {
+        expect_case(alloc, case, other)?;
     }
     Ok(())
 }
@@ -194,63 +224,26 @@ fn expect_runs(alloc: Global, about: &'static str, runs: &[Run]) -> Result<(), F
 #[test]
 fn commands_write_or_tell_why_not(rt: HostRuntime) -> Result<(), Fail> {
     let alloc = rt.alloc();
-    expect_runs(alloc, "aiger", circuits::RUNS)?;
-    expect_runs(alloc, "compile", compiling::RUNS)?;
-    expect_runs(alloc, "contexts", contexts::RUNS)?;
-    expect_runs(alloc, "eval", evaluating::RUNS)?;
-    expect_runs(alloc, "lift", lifts::RUNS)?;
-    expect_runs(alloc, "simulate", simulating::RUNS)?;
-    expect_runs(alloc, "tape", tapes::RUNS)?;
-    expect_runs(alloc, "vcd", dumps::RUNS)
-}
-
-/// What a command writes of a text with status 0.
-pub fn written(alloc: Global, words: &[&str], text: &[u8]) -> Result<Vec<u8>, Fail> {
-    let got = run_amply(alloc, words, text)?;
-    if got.status == 0 {
-        Ok(got.out)
-    } else {
-        Err(Fail::new("a command that others read from fails"))
-    }
-}
-
-// What the last of the commands writes, each of which reads what the one before wrote.
-fn text_after(alloc: Global, commands: &[&[&str]], text: &[u8]) -> Result<Vec<u8>, Fail> {
-    let mut text = text.to_vec(alloc)?;
-    for words in commands {
-        text = written(alloc, words, &text)?;
-    }
-    Ok(text)
-}
-
-/// Commands, words, a text, and how the run of the words ends over what the commands make of the text, one after the other.
-pub type Piped = (
-    &'static [&'static [&'static str]],
-    &'static [&'static str],
-    &'static [u8],
-    Ending<'static>,
-);
-
-// Fails where such a run ends otherwise.
-fn expect_last(alloc: Global, row: Row, run: &Piped) -> Result<(), Fail> {
-    let (commands, words, text, ending) = run;
-    let read = text_after(alloc, commands, text)?;
-    expect_run(alloc, row, words, &read, *ending)
-}
-
-// Fails where one of the runs of a table ends otherwise.
-fn expect_piped(alloc: Global, about: &'static str, runs: &[Piped]) -> Result<(), Fail> {
-    for (number, run) in runs.iter().enumerate() {
-        expect_last(alloc, (about, number), run)?;
-    }
-    Ok(())
+    expect_cases(alloc, circuits::CASES, "")?;
+    expect_cases(alloc, compiling::CASES, "")?;
+    expect_cases(alloc, contexts::CASES, "")?;
+    expect_cases(alloc, dumps::CASES, "")?;
+    expect_cases(alloc, evaluating::CASES, "")?;
+    expect_cases(alloc, lifts::CASES, "")?;
+    expect_cases(alloc, simulating::CASES, "")?;
+    expect_cases(alloc, tapes::CASES, "")
 }
 
 #[test]
-fn what_commands_write_is_read_by_others(rt: HostRuntime) -> Result<(), Fail> {
+fn commands_over_one_text_write_or_tell_why_not(rt: HostRuntime) -> Result<(), Fail> {
     let alloc = rt.alloc();
-    expect_piped(alloc, "aiger", circuits::SHOWN)?;
-    expect_piped(alloc, "contexts", contexts::SHOWN)?;
-    expect_piped(alloc, "lift", lifts::SHOWN)?;
-    expect_piped(alloc, "tape", tapes::SHOWN)
+    expect_cases(alloc, contexts::OF_THE_TOGGLE, compiling::TOGGLE)?;
+    expect_cases(alloc, contexts::OF_THE_WIRE, contexts::WIRE)?;
+    expect_cases(alloc, dumps::OF_THE_GATE, PATTERN)?;
+    expect_cases(alloc, evaluating::OF_THE_GATE, GATE)?;
+    expect_cases(alloc, lifts::OF_THE_GATE, GATE)?;
+    expect_cases(alloc, lifts::OF_THE_TOGGLE, compiling::TOGGLE)?;
+    expect_cases(alloc, simulating::OF_THE_GATE, PATTERN)?;
+    expect_cases(alloc, tapes::OF_THE_GATE, GATE)?;
+    expect_cases(alloc, tapes::OF_THE_TOGGLE, compiling::TOGGLE)
 }

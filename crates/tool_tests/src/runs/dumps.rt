@@ -1,70 +1,97 @@
 // Runs of `vcd`.
-use crate::runs::{Ending, PATTERN, Run};
 
-const TWO_CYCLES: &[&str] = &["blifww", "vcd", "--cycles", "2", "a=01", "b=00"];
+/// Patterns with other tables than the gate's, and what gives no dump.
+pub const CASES: &str = "
+> vcd --cycles 1 a=1 -- all nets are dumped
+#C BLIFWW 1 P 4 L 2
+#C BLIFWW IN 0 0 a
+#C BLIFWW OUT 2 0 y
+x = 3, y = 1, rule = WireWorld
+3C!
+== 0
+$enddefinitions $end
+#0
+#1
+> vcd --cycles 2 a=11 -- without nets no generation but the first is needed
+#C BLIFWW 1 P 4294967296 L 2
+#C BLIFWW IN 0 0 a
+#C BLIFWW OUT 2 0 y
+x = 3, y = 1, rule = WireWorld
+3C!
+== 0
+$enddefinitions $end
+#0
+#1
+#2
+> vcd --cycles 1 a=1
+#C BLIFWW 2 P 4 L 2 C 1
+#C BLIFWW IN 0 0 a
+#C BLIFWW NET 2 0 2 a$%25%20 1.0
+x = 3, y = 1, rule = WireWorld
+3C!
+== 0
+$var wire 1 ! 1.0/a%24%25%20 $end
+$enddefinitions $end
+#0
+1!
+#1
+> vcd --cycles 2 a=11 -- texts that give no dump
+#C BLIFWW 1 P 4294967296 L 0
+#C BLIFWW IN 0 0 a
+#C BLIFWW NET 2 0 2 y -
+x = 3, y = 1, rule = WireWorld
+3C!
+== 4
+too large: generations 4294967298
+> vcd --cycles 2 a=11
+#C BLIFWW 1 P 1 L 0
+#C BLIFWW IN 0 0 a
+#C BLIFWW NET 2 0 2 y -
+x = 3, y = 1, rule = WireWorld
+3C!
+== 10
+not quiet: generation 1 cell 0 0
+> vcd --cycles 1 a=1
+#C BLIFWW 1 P 4 L 2
+#C BLIFWW IN 0 0 a
+x = 3, y = 1, rule = WireWorld
+.2C!
+== 10
+not quiet: generation 0 cell 0 0
+> vcd --cycles 1 a=1
+x = 3, y = 1, rule = WireWorld
+0C!
+== 8
+G4 BadItem line 2
+> vcd --cycles 1 a=1
+#C BLIFWW 1 P 4 L 2
+#C BLIFWW NET 3 0 0 y -
+x = 3, y = 1, rule = WireWorld
+3C!
+== 8
+H3 CellOutside line 2
+";
 
-const ONE_BIT: &[&str] = &["blifww", "vcd", "--cycles", "1", "a=1"];
-
-const TWO_BITS: &[&str] = &["blifww", "vcd", "--cycles", "2", "a=11"];
-
-// The first line of the block of cycle 1 is that of the input that changes.
-const OR_DUMP: &[u8] =
-    b"$var wire 1 ! a $end\n$var wire 1 \" b $end\n$var wire 1 # y $end\n$enddefinitions $end\n#0\n0!\n0\"\n0#\n#1\n1!\n1#\n#2\n";
-
-/// Dumps, and what gives none.
-pub const RUNS: &[Run] = &[
-    // All nets are dumped.
-    (TWO_CYCLES, PATTERN, Ending::Writes(OR_DUMP)),
-    (
-        ONE_BIT,
-        b"#C BLIFWW 1 P 4 L 2\n#C BLIFWW IN 0 0 a\n#C BLIFWW OUT 2 0 y\nx = 3, y = 1, rule = WireWorld\n3C!\n",
-        Ending::Writes(b"$enddefinitions $end\n#0\n#1\n"),
-    ),
-    // Without nets no generation but the first is needed.
-    (
-        TWO_BITS,
-        b"#C BLIFWW 1 P 4294967296 L 2\n#C BLIFWW IN 0 0 a\n#C BLIFWW OUT 2 0 y\nx = 3, y = 1, rule = WireWorld\n3C!\n",
-        Ending::Writes(b"$enddefinitions $end\n#0\n#1\n#2\n"),
-    ),
-    (
-        ONE_BIT,
-        b"#C BLIFWW 2 P 4 L 2 C 1\n#C BLIFWW IN 0 0 a\n#C BLIFWW NET 2 0 2 a$%25%20 1.0\nx = 3, y = 1, rule = WireWorld\n3C!\n",
-        Ending::Writes(b"$var wire 1 ! 1.0/a%24%25%20 $end\n$enddefinitions $end\n#0\n1!\n#1\n"),
-    ),
-    // Texts that give no dump.
-    (
-        &["blifww", "vcd", "--cycles", "2", "a=01", "b=0"],
-        PATTERN,
-        Ending::Tells(9, b"stream: BadLength b=0\n"),
-    ),
-    (
-        &["blifww", "vcd", "--cycles", "1", "a=0"],
-        PATTERN,
-        Ending::Tells(9, b"stream: MissingInput b\n"),
-    ),
-    (
-        TWO_BITS,
-        b"#C BLIFWW 1 P 4294967296 L 0\n#C BLIFWW IN 0 0 a\n#C BLIFWW NET 2 0 2 y -\nx = 3, y = 1, rule = WireWorld\n3C!\n",
-        Ending::Tells(4, b"too large: generations 4294967298\n"),
-    ),
-    (
-        TWO_BITS,
-        b"#C BLIFWW 1 P 1 L 0\n#C BLIFWW IN 0 0 a\n#C BLIFWW NET 2 0 2 y -\nx = 3, y = 1, rule = WireWorld\n3C!\n",
-        Ending::Tells(10, b"not quiet: generation 1 cell 0 0\n"),
-    ),
-    (
-        ONE_BIT,
-        b"#C BLIFWW 1 P 4 L 2\n#C BLIFWW IN 0 0 a\nx = 3, y = 1, rule = WireWorld\n.2C!\n",
-        Ending::Tells(10, b"not quiet: generation 0 cell 0 0\n"),
-    ),
-    (
-        ONE_BIT,
-        b"x = 3, y = 1, rule = WireWorld\n0C!\n",
-        Ending::Tells(8, b"G4 BadItem line 2\n"),
-    ),
-    (
-        ONE_BIT,
-        b"#C BLIFWW 1 P 4 L 2\n#C BLIFWW NET 3 0 0 y -\nx = 3, y = 1, rule = WireWorld\n3C!\n",
-        Ending::Tells(8, b"H3 CellOutside line 2\n"),
-    ),
-];
+/// Over the gate's pattern. The first line of the block of cycle 1 is that of the input that changes.
+pub const OF_THE_GATE: &str = "
+> vcd --cycles 2 a=01 b=00 -- all nets are dumped
+== 0
+$var wire 1 ! a $end
+$var wire 1 \" b $end
+$var wire 1 # y $end
+$enddefinitions $end
+#0
+0!
+0\"
+0#
+#1
+1!
+1#
+#2
+> vcd --cycles 2 a=01 b=0 -- texts that give no dump
+== 9
+stream: BadLength b=0
+> vcd --cycles 1 a=0
+== 9
+stream: MissingInput b
+";

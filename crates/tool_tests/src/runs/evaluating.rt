@@ -1,109 +1,158 @@
 // Runs of `eval`.
-use crate::runs::compiling::{ADDER, TOGGLE};
-use crate::runs::{Ending, GATE, Run};
-
-/// `eval` for one cycle.
-pub const ONE_CYCLE: &[&str] = &["blifww", "eval", "--cycles", "1"];
-
-const FOUR_CYCLES: &[&str] = &["blifww", "eval", "--cycles", "4"];
-
-const THROUGH: &[u8] =
-    b".model m\n.outputs n\n.subckt p u=n v=n w=n\n.end\n.model p\n.inputs u v\n.outputs w\n.names u v d\n00 1\n.latch d w 0\n.end\n";
 
 /// Netlists, and what gives no run of one.
-pub const RUNS: &[Run] = &[
-    // Netlists show their runs.
-    (FOUR_CYCLES, TOGGLE, Ending::Writes(b"q=0101\n")),
-    (
-        &["blifww", "eval", "--cycles", "4", "d=0010"],
-        b".model r\n.inputs d\n.outputs q\n.latch d q 1\n.end\n",
-        Ending::Writes(b"q=1001\n"),
-    ),
-    (
-        &["blifww", "eval", "--cycles", "2", "d=10"],
-        b".model m\n.inputs d \\\nclk # two\n.outputs q\n.latch d q re clk 2\n.end\n",
-        Ending::Writes(b"q=01\n"),
-    ),
-    (
-        &[
-            "blifww", "eval", "--cycles", "1", "a0=1", "a1=1", "b0=1", "b1=0", "ci=0",
-        ],
-        ADDER,
-        Ending::Writes(b"s0=0\ns1=0\nc=1\n"),
-    ),
-    // Texts that are no netlists.
-    (ONE_CYCLE, b"", Ending::Tells(1, b"B22 NoModel line 1: -\n")),
-    (
-        ONE_CYCLE,
-        b".inputs a\n",
-        Ending::Tells(1, b"B1 NoModelYet line 1: .inputs\n"),
-    ),
-    (
-        ONE_CYCLE,
-        b"aag 0 0 0 0 0\n",
-        Ending::Tells(1, b"B1 NoModelYet line 1: aag\n"),
-    ),
-    (
-        ONE_CYCLE,
-        b".model m\n.end\n.names y\n",
-        Ending::Tells(1, b"B10 AfterEnd line 3: .names\n"),
-    ),
-    (
-        ONE_CYCLE,
-        b".model m\n.outputs y\n.names z y\n1 1\n",
-        Ending::Tells(1, b"B14 Undriven line 3: z\n"),
-    ),
-    (
-        ONE_CYCLE,
-        b".model m\n.subckt m\n",
-        Ending::Tells(1, b"B19 Recursive line 2: m\n"),
-    ),
-    (
-        ONE_CYCLE,
-        b".model m\n.inputs d c e\n.outputs q r\n.latch d q re c 0\n.latch d r re e 0\n.end\n",
-        Ending::Tells(1, b"B20 TwoClocks line 5: e\n"),
-    ),
-    (
-        ONE_CYCLE,
-        b".model m\n.inputs d clk\n.outputs q y\n.latch d q re clk 2\n.names clk y\n1 1\n",
-        Ending::Tells(1, b"B21 ClockRead line 5: clk\n"),
-    ),
-    (
-        ONE_CYCLE,
-        b".model m\n.inputs a\n.outputs x\n.names x a x\n11 1\n.end\n",
-        Ending::Tells(3, b"loop: x\n"),
-    ),
-    // Words that give a netlist no streams.
-    (
-        &["blifww", "eval", "--cycles", "2", "a=01", "b=0"],
-        GATE,
-        Ending::Tells(9, b"stream: BadLength b=0\n"),
-    ),
-    (
-        &["blifww", "eval", "--cycles", "2", "a=01"],
-        GATE,
-        Ending::Tells(9, b"stream: MissingInput b\n"),
-    ),
-    (
-        &["blifww", "eval", "--cycles", "2", "a=01", "a=01", "b=01"],
-        GATE,
-        Ending::Tells(9, b"stream: TwiceInput a=01\n"),
-    ),
-    // Models inside models: a net goes in through two formals and comes out through a third.
-    (
-        &["blifww", "eval", "--cycles", "4"],
-        THROUGH,
-        Ending::Writes(b"n=0101\n"),
-    ),
-    // Circles through models.
-    (
-        ONE_CYCLE,
-        b".model a\n.subckt b\n.end\n.model b\n.subckt a\n",
-        Ending::Tells(1, b"B19 Recursive line 2: a b\n"),
-    ),
-    (
-        ONE_CYCLE,
-        b".model m\n.outputs y\n.subckt i a=y z=y\n.end\n.model i\n.inputs a\n.outputs z\n.names a z\n0 1\n",
-        Ending::Tells(3, b"loop: y\n"),
-    ),
-];
+pub const CASES: &str = "
+> eval --cycles 4 -- netlists show their runs
+.model t
+.outputs q
+.latch n q 0
+.names q n
+0 1
+.end
+== 0
+q=0101
+> eval --cycles 4 d=0010
+.model r
+.inputs d
+.outputs q
+.latch d q 1
+.end
+== 0
+q=1001
+> eval --cycles 2 d=10
+.model m
+.inputs d \\
+clk # two
+.outputs q
+.latch d q re clk 2
+.end
+== 0
+q=01
+> eval --cycles 1 a0=1 a1=1 b0=1 b1=0 ci=0
+.model add
+.inputs a0 a1 b0 b1 ci
+.outputs s0 s1 c
+.subckt fa a=a0 b=b0 c=ci s=s0 co=k
+.subckt fa a=a1 b=b1 c=k s=s1 co=c
+.end
+.model fa
+.inputs a b c
+.outputs s co
+.names a b c s
+100 1
+010 1
+001 1
+111 1
+.names a b c co
+11- 1
+1-1 1
+-11 1
+.end
+== 0
+s0=0
+s1=0
+c=1
+> eval --cycles 1 -- texts that are no netlists
+== 1
+B22 NoModel line 1: -
+> eval --cycles 1
+.inputs a
+== 1
+B1 NoModelYet line 1: .inputs
+> eval --cycles 1
+aag 0 0 0 0 0
+== 1
+B1 NoModelYet line 1: aag
+> eval --cycles 1
+.model m
+.end
+.names y
+== 1
+B10 AfterEnd line 3: .names
+> eval --cycles 1
+.model m
+.outputs y
+.names z y
+1 1
+== 1
+B14 Undriven line 3: z
+> eval --cycles 1
+.model m
+.subckt m
+== 1
+B19 Recursive line 2: m
+> eval --cycles 1
+.model m
+.inputs d c e
+.outputs q r
+.latch d q re c 0
+.latch d r re e 0
+.end
+== 1
+B20 TwoClocks line 5: e
+> eval --cycles 1
+.model m
+.inputs d clk
+.outputs q y
+.latch d q re clk 2
+.names clk y
+1 1
+== 1
+B21 ClockRead line 5: clk
+> eval --cycles 1
+.model m
+.inputs a
+.outputs x
+.names x a x
+11 1
+.end
+== 3
+loop: x
+> eval --cycles 4 -- models inside models: a net goes in through two formals and comes out through a third
+.model m
+.outputs n
+.subckt p u=n v=n w=n
+.end
+.model p
+.inputs u v
+.outputs w
+.names u v d
+00 1
+.latch d w 0
+.end
+== 0
+n=0101
+> eval --cycles 1 -- circles through models
+.model a
+.subckt b
+.end
+.model b
+.subckt a
+== 1
+B19 Recursive line 2: a b
+> eval --cycles 1
+.model m
+.outputs y
+.subckt i a=y z=y
+.end
+.model i
+.inputs a
+.outputs z
+.names a z
+0 1
+== 3
+loop: y
+";
+
+/// Over the gate.
+pub const OF_THE_GATE: &str = "
+> eval --cycles 2 a=01 b=0 -- words that give a netlist no streams
+== 9
+stream: BadLength b=0
+> eval --cycles 2 a=01
+== 9
+stream: MissingInput b
+> eval --cycles 2 a=01 a=01 b=01
+== 9
+stream: TwiceInput a=01
+";

@@ -1,7 +1,5 @@
 // Texts that say the same again and again: models inside models, and weights near the limit and far beyond it.
-use crate::runs::circuits::AIGER;
-use crate::runs::evaluating::ONE_CYCLE;
-use crate::runs::{COMPILE, Ending, Row, expect_run};
+use crate::runs::run_amply;
 use itoa::Buffer;
 use std::alloc::{AllocError, Global};
 use std::test::Fail;
@@ -98,92 +96,104 @@ fn repeated(alloc: Global, of: &Repeating, times: usize) -> Result<Vec<u8>, Allo
     Ok(text)
 }
 
-// Words, what the text says, how often, and how the run ends.
-type Repeated = (
-    &'static [&'static str],
+// A command, what the text says, how often, the status, and what is written and told.
+type Run = (
+    &'static str,
     &'static Repeating,
     usize,
-    Ending<'static>,
+    u8,
+    &'static str,
+    &'static str,
 );
 
-const ROWS: &[Repeated] = &[
+const RUNS: &[Run] = &[
     // Models inside models show their run.
-    (
-        &["blifww", "eval", "--cycles", "3", "a=011"],
-        CHAIN,
-        300,
-        Ending::Writes(b"y=100\n"),
-    ),
-    (ONE_CYCLE, BROAD, 500, Ending::Writes(b"y=1\n")),
+    ("eval --cycles 3 a=011", CHAIN, 300, 0, "y=100\n", ""),
+    ("eval --cycles 1", BROAD, 500, 0, "y=1\n", ""),
     // The greatest weight, which is compiled, and more.
+    ("compile", WIDE, 8190, 0, "#C BLIFWW 2 P 32 L ...\n", ""),
     (
-        COMPILE,
+        "eval --cycles 1",
         WIDE,
         8190,
-        Ending::Spans(b"#C BLIFWW 2 P 32 L ", b""),
+        9,
+        "",
+        "stream: MissingInput i0\n",
     ),
     (
-        ONE_CYCLE,
-        WIDE,
-        8190,
-        Ending::Tells(9, b"stream: MissingInput i0\n"),
-    ),
-    (
-        ONE_CYCLE,
+        "eval --cycles 1",
         WIDE,
         8191,
-        Ending::Tells(4, b"too large: weight 8193 limit 8192\n"),
+        4,
+        "",
+        "too large: weight 8193 limit 8192\n",
     ),
     (
-        AIGER,
+        "aiger",
         OUTPUTS,
         2048,
-        Ending::Tells(4, b"too large: weight 8194 limit 8192\n"),
+        4,
+        "",
+        "too large: weight 8194 limit 8192\n",
     ),
     (
-        ONE_CYCLE,
+        "eval --cycles 1",
         DEEP,
         40,
-        Ending::Tells(4, b"too large: weight 3298534883326 limit 8192\n"),
+        4,
+        "",
+        "too large: weight 3298534883326 limit 8192\n",
     ),
     (
-        ONE_CYCLE,
+        "eval --cycles 1",
         DEEP,
         62,
-        Ending::Tells(4, b"too large: weight 13835058055282163710 limit 8192\n"),
+        4,
+        "",
+        "too large: weight 13835058055282163710 limit 8192\n",
     ),
     (
-        ONE_CYCLE,
+        "eval --cycles 1",
         DEEP,
         63,
-        Ending::Tells(4, b"too large: weight 18446744073709551615 limit 8192\n"),
+        4,
+        "",
+        "too large: weight 18446744073709551615 limit 8192\n",
     ),
     // 16,777,216 bytes, and one more.
     (
-        COMPILE,
+        "compile",
         COMMENT,
         1_048_576,
-        Ending::Tells(1, b"B22 NoModel line 1: -\n"),
+        1,
+        "",
+        "B22 NoModel line 1: -\n",
     ),
     (
-        COMPILE,
+        "compile",
         LONGER,
         1_048_576,
-        Ending::Tells(4, b"too long: limit 16777216\n"),
+        4,
+        "",
+        "too long: limit 16777216\n",
     ),
 ];
 
 // Fails where a run over the text ends otherwise.
-fn expect_repeated(alloc: Global, row: Row, run: &Repeated) -> Result<(), Fail> {
-    let (words, of, times, ending) = run;
-    let text = repeated(alloc, of, *times)?;
-    expect_run(alloc, row, words, &text, *ending)
+fn expect_run(alloc: Global, (command, of, times, status, out, err): Run) -> Result<(), Fail> {
+    let text = repeated(alloc, of, times)?;
+    let got = run_amply(alloc, command, &text)?;
+    if got.is(status, out, err) {
+        Ok(())
+    } else {
+        Err(Fail::new(format_args!("{command}, {times} times: {}", got.status)))
+    }
 }
 
 #[test]
 fn texts_that_repeat_are_read_or_too_large(rt: HostRuntime) -> Result<(), Fail> {
-    for (number, run) in ROWS.iter().enumerate() {
-        expect_repeated(rt.alloc(), ("long texts", number), run)?;
+    for run in RUNS {
+        expect_run(rt.alloc(), *run)?;
     }
     Ok(())
 }

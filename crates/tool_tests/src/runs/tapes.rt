@@ -1,91 +1,79 @@
-// Runs of `tape`.
-use crate::runs::compiling::{INVERTER, TOGGLE};
-use crate::runs::{Ending, GATE, Piped, Run, USAGE};
-
-const OR_TAPE: &[&str] = &["blifww", "tape", "--cycles", "2", "a=01", "b=11"];
-
-/// The words that ask for a tape of four cycles.
-pub const TOGGLE_TAPE: &[&str] = &["blifww", "tape", "--cycles", "4"];
-
-// The table has no inputs, and what it names stands 32 cells further east.
-const OR_BEGIN: &[u8] =
-    b"#C BLIFWW 2 P 32 L 32 C 1\n#C BLIFWW OUT 64 8 y\n#C BLIFWW NET 32 8 0 a -\n#C BLIFWW NET 32 24 0 b -\n#C BLIFWW NET 63 8 31 y -\nx = 65, y = 32, rule = WireWorld\n8$A36C18.10C$";
-
-const OR_END: &[u8] = b"A30CBA4C\n26.C!\n";
+// Runs of `tape`. After a tape's cycles come zeros.
 
 /// Tapes, and what gives none.
-pub const RUNS: &[Run] = &[
-    // Streams lie before the gate.
-    (OR_TAPE, GATE, Ending::Spans(OR_BEGIN, OR_END)),
-    // Texts that give no tape.
-    (
-        &["blifww", "tape", "--cycles", "2", "a=01"],
-        GATE,
-        Ending::Tells(9, b"stream: MissingInput b\n"),
-    ),
-    (
-        &["blifww", "tape", "--cycles", "2", "a=01", "b=0"],
-        GATE,
-        Ending::Tells(9, b"stream: BadLength b=0\n"),
-    ),
-    (
-        TOGGLE_TAPE,
-        b".model m\n.outputs y\n.names z y\n1 1\n",
-        Ending::Tells(1, b"B14 Undriven line 3: z\n"),
-    ),
-    (
-        TOGGLE_TAPE,
-        b".model m\n.inputs a\n.outputs x\n.names x a x\n11 1\n.end\n",
-        Ending::Tells(3, b"loop: x\n"),
-    ),
-    (
-        &["blifww", "tape", "--cycles", "4097"],
-        TOGGLE,
-        Ending::Tells(2, USAGE),
-    ),
-    (
-        &["blifww", "tape", "--cycles", "0"],
-        TOGGLE,
-        Ending::Tells(2, USAGE),
-    ),
-];
+pub const CASES: &str = "
+> tape --cycles 4 -- texts that give no tape
+.model m
+.outputs y
+.names z y
+1 1
+== 1
+B14 Undriven line 3: z
+> tape --cycles 4
+.model m
+.inputs a
+.outputs x
+.names x a x
+11 1
+.end
+== 3
+loop: x
+> tape --cycles 4 d=0010 | simulate --cycles 6
+.model r
+.inputs d
+.outputs q
+.latch d q 1
+.end
+== 0
+q=100100
+> tape --cycles 3 a=011 | simulate --cycles 5
+.model n
+.inputs a
+.outputs y
+.names a y
+0 1
+== 0
+y=10011
+";
 
-/// What is simulated of tapes: after a tape's cycles come zeros.
-pub const SHOWN: &[Piped] = &[
-    (
-        &[OR_TAPE],
-        &["blifww", "simulate", "--cycles", "3"],
-        GATE,
-        Ending::Writes(b"y=110\n"),
-    ),
-    (
-        &[OR_TAPE],
-        &["blifww", "simulate", "--cycles", "1"],
-        GATE,
-        Ending::Writes(b"y=1\n"),
-    ),
-    (
-        &[TOGGLE_TAPE],
-        &["blifww", "simulate", "--cycles", "6"],
-        TOGGLE,
-        Ending::Writes(b"q=010101\n"),
-    ),
-    (
-        &[&["blifww", "tape", "--cycles", "4", "d=0010"]],
-        &["blifww", "simulate", "--cycles", "6"],
-        b".model r\n.inputs d\n.outputs q\n.latch d q 1\n.end\n",
-        Ending::Writes(b"q=100100\n"),
-    ),
-    (
-        &[&["blifww", "tape", "--cycles", "3", "a=011"]],
-        &["blifww", "simulate", "--cycles", "5"],
-        INVERTER,
-        Ending::Writes(b"y=10011\n"),
-    ),
-    (
-        &[&["blifww", "tape", "--cycles", "1", "a=1", "b=0"]],
-        &["blifww", "simulate", "--cycles", "2"],
-        GATE,
-        Ending::Writes(b"y=10\n"),
-    ),
-];
+/// Over the gate. A tape's table has no inputs, and what it names stands 32 cells further east.
+pub const OF_THE_GATE: &str = "
+> tape --cycles 2 a=01 b=11 -- streams lie before the gate
+== 0
+#C BLIFWW 2 P 32 L 32 C 1
+#C BLIFWW OUT 64 8 y
+#C BLIFWW NET 32 8 0 a -
+#C BLIFWW NET 32 24 0 b -
+#C BLIFWW NET 63 8 31 y -
+x = 65, y = 32, rule = WireWorld
+8$A36C18.10C$...A30CBA4C
+26.C!
+> tape --cycles 2 a=01 -- texts that give no tape
+== 9
+stream: MissingInput b
+> tape --cycles 2 a=01 b=0
+== 9
+stream: BadLength b=0
+> tape --cycles 2 a=01 b=11 | simulate --cycles 3
+== 0
+y=110
+> tape --cycles 2 a=01 b=11 | simulate --cycles 1
+== 0
+y=1
+> tape --cycles 1 a=1 b=0 | simulate --cycles 2
+== 0
+y=10
+";
+
+/// Over the toggle.
+pub const OF_THE_TOGGLE: &str = "
+> tape --cycles 4097 -- texts that give no tape
+== 2
+usage: blifww compile|simulate|eval|probe|window|make|self|tape|aiger|vcd|lift
+> tape --cycles 0
+== 2
+usage: blifww compile|simulate|eval|probe|window|make|self|tape|aiger|vcd|lift
+> tape --cycles 4 | simulate --cycles 6
+== 0
+q=010101
+";
