@@ -1,7 +1,6 @@
 // What lists of words ask for.
-use crate::runs::strings_of;
 use command_words::{Command, View, WordsError, command_of};
-use std::alloc::Global;
+use std::alloc::{AllocError, Global};
 use std::test::Fail;
 
 // What is asked for, with the words that stand last.
@@ -233,6 +232,15 @@ fn is_answer(answer: &Result<Command, WordsError>, asked: Asked) -> bool {
         Err(WordsError::Usage) => matches!(asked, Asked::Usage),
         Err(WordsError::NoMemory) => false,
     }
+}
+
+// Words as a command line has them.
+fn strings_of(alloc: Global, words: &[&str]) -> Result<Vec<String>, AllocError> {
+    let mut strings = Vec::new(alloc);
+    for word in words {
+        strings.push(String::from_str(alloc, word)?)?;
+    }
+    Ok(strings)
 }
 
 // Fails where words give another answer than was asked for.

@@ -1,82 +1,123 @@
 // What `compile` makes of several contexts, and what such patterns show.
-use crate::runs::compiling::{TOGGLE, compiled};
-use crate::runs::{GATE, expect_run, joined, run_over};
+use crate::runs::compiling::TOGGLE;
+use crate::runs::{expect, run_amply, text_of, written};
 use itoa::Buffer;
-use std::alloc::Global;
+use std::alloc::{AllocError, Global};
 use std::test::Fail;
 
-// A number of contexts and words for their starts, a netlist, the status, and the line that is told.
-const REFUSED: &[(&[&str], &[u8], u8, &[u8])] = &[
-    (
-        &["blifww", "compile", "--contexts", "2"],
-        GATE,
-        4,
-        b"too large: contexts 2 limit 1\n",
-    ),
-    (
-        &["blifww", "compile", "--contexts", "2", "2:q=1"],
-        TOGGLE,
-        9,
-        b"stream: BadContext 2:q=1\n",
-    ),
-    (
-        &["blifww", "compile", "--contexts", "2", "01:q=1"],
-        TOGGLE,
-        9,
-        b"stream: BadContext 01:q=1\n",
-    ),
-    (
-        &["blifww", "compile", "--contexts", "2", "1:q"],
-        TOGGLE,
-        9,
-        b"stream: NoEquals 1:q\n",
-    ),
-    (
-        &["blifww", "compile", "--contexts", "2", "1:n=1"],
-        TOGGLE,
-        9,
-        b"stream: NoSuchLatch 1:n=1\n",
-    ),
-    (
-        &["blifww", "compile", "--contexts", "2", "1:q=1", "1:q=0"],
-        TOGGLE,
-        9,
-        b"stream: TwiceLatch 1:q=0\n",
-    ),
-    (
-        &["blifww", "compile", "--contexts", "2", "1:q=10"],
-        TOGGLE,
-        9,
-        b"stream: BadBit 1:q=10\n",
-    ),
-    // The words are looked at before the room.
-    (
-        &["blifww", "compile", "--contexts", "4294967295", "q=1"],
-        TOGGLE,
-        9,
-        b"stream: BadContext q=1\n",
-    ),
-    (
-        &["blifww", "compile", "--contexts", "2", "q=1"],
-        b".model m\n.outputs q\n.end\n",
-        1,
-        b"B14 Undriven line 2: q\n",
-    ),
-    (
-        &["blifww", "compile", "1:q=1"],
-        TOGGLE,
-        2,
-        b"usage: blifww compile|simulate|eval|probe|window|make|self|tape|aiger|vcd|lift\n",
-    ),
-];
+/// Netlists in contexts.
+pub const CASES: &str = "
+> compile --contexts 2 -- contexts that cannot be
+.model or
+.inputs a b
+.outputs y
+.names a b y
+1- 1
+-1 1
+.end
+== 4
+too large: contexts 2 limit 1
+> compile --contexts 2 q=1 -- the words are looked at before the room
+.model m
+.outputs q
+.end
+== 1
+B14 Undriven line 2: q
+> compile --contexts 2 | simulate --cycles 4 0:a=0110 1:a=0011 -- constant 1 holds in each context
+.model n
+.inputs a
+.outputs y
+.names a y
+0 1
+== 0
+0:y=1001
+1:y=1100
+";
 
-#[test]
-fn contexts_that_cannot_be_are_refused(rt: HostRuntime) -> Result<(), Fail> {
-    for (words, text, status, line) in REFUSED {
-        expect_run(rt.alloc(), words, text, *status, b"", line)?;
-    }
-    Ok(())
-}
+/// Over the toggle: contexts that cannot be, and each that can starts as its words say.
+pub const OF_THE_TOGGLE: &str = "
+> compile --contexts 2 2:q=1 -- contexts that cannot be
+== 9
+stream: BadContext 2:q=1
+> compile --contexts 2 01:q=1
+== 9
+stream: BadContext 01:q=1
+> compile --contexts 2 1:q
+== 9
+stream: NoEquals 1:q
+> compile --contexts 2 1:n=1
+== 9
+stream: NoSuchLatch 1:n=1
+> compile --contexts 2 1:q=1 1:q=0
+== 9
+stream: TwiceLatch 1:q=0
+> compile --contexts 2 1:q=10
+== 9
+stream: BadBit 1:q=10
+> compile --contexts 4294967295 q=1 -- the words are looked at before the room
+== 9
+stream: BadContext q=1
+> compile 1:q=1
+== 2
+usage: blifww compile|simulate|eval|probe|window|make|self|tape|aiger|vcd|lift
+> compile --contexts 2 1:q=1 | simulate --cycles 4 -- each context starts as its words say: of the toggle's two one starts with 1
+== 0
+0:q=0101
+1:q=1010
+> compile --contexts 2 1:q=1 | probe --cycles 4 --net n
+== 0
+0:n=1010
+1:n=0101
+> compile --contexts 2 1:q=1 | vcd --cycles 2 -- their nets are dumped
+== 0
+$var wire 1 ! 0:q $end
+$var wire 1 \" 0:n $end
+$var wire 1 # 1:q $end
+$var wire 1 $ 1:n $end
+$enddefinitions $end
+#0
+0!
+1\"
+1#
+0$
+#1
+1!
+0\"
+0#
+1$
+#2
+";
+
+/// A wire of three cells in two contexts.
+pub const WIRE: &str =
+    "#C BLIFWW 1 P 64 L 2 C 2\n#C BLIFWW IN 0 0 a\n#C BLIFWW OUT 2 0 y\n#C BLIFWW NET 1 0 1 m -\nx = 3, y = 1, rule = WireWorld\n3C!\n";
+
+/// Over the wire.
+pub const OF_THE_WIRE: &str = "
+> simulate --cycles 2 1:a=10 0:a=01 -- a wire in two contexts is driven
+== 0
+0:y=01
+1:y=10
+> probe --cycles 2 --net m 1:a=10 0:a=01
+== 0
+0:m=01
+1:m=10
+> window --gen 33 --x 0 --y 0 --width 3 --height 1 1:a=10 0:a=01
+== 0
+BAC
+> simulate --cycles 2 a=01
+== 9
+stream: BadContext a=01
+> simulate --cycles 2 2:a=01
+== 9
+stream: BadContext 2:a=01
+> simulate --cycles 2 0:a=01 0:a=10
+== 9
+stream: TwiceInput 0:a=10
+> simulate --cycles 2 0:a=01
+== 9
+stream: MissingInput 1:a
+";
 
 // The number that a text begins with.
 fn number_at(text: &[u8]) -> u64 {
@@ -91,152 +132,54 @@ fn number_at(text: &[u8]) -> u64 {
 }
 
 // As many contexts as the period of a netlist's pattern has room for.
-fn room_of(alloc: Global, netlist: &[u8]) -> Result<u64, Fail> {
-    let text = compiled(alloc, netlist)?;
+fn room_of(alloc: Global, netlist: &str) -> Result<u64, Fail> {
+    let text = written(alloc, "compile", netlist.as_bytes())?;
     match text.strip_prefix(b"#C BLIFWW 2 P ") {
         Some(rest) => Ok(number_at(rest) / 32),
         None => Err(Fail::new("the text begins otherwise")),
     }
 }
 
+// Fails where some number of contexts of the toggle ends otherwise.
+fn expect_contexts(
+    alloc: Global,
+    contexts: u64,
+    status: u8,
+    out: &str,
+    err: &str,
+) -> Result<(), Fail> {
+    let mut digits = Buffer::new();
+    let command = text_of(alloc, &["compile --contexts ", digits.format(contexts)])?;
+    let got = run_amply(alloc, &command, TOGGLE.as_bytes())?;
+    expect(got.is(status, out, err), &command)
+}
+
+// The line for one context more than there is room for.
+fn no_room(alloc: Global, more: u64, room: u64) -> Result<String, AllocError> {
+    let mut asked = Buffer::new();
+    let mut limit = Buffer::new();
+    let parts = [
+        "too large: contexts ",
+        asked.format(more),
+        " limit ",
+        limit.format(room),
+        "\n",
+    ];
+    text_of(alloc, &parts)
+}
+
+// Fails where one context more is not refused.
+fn expect_no_room(alloc: Global, room: u64) -> Result<(), Fail> {
+    let more = room % 1_000_000 + 1;
+    let line = no_room(alloc, more, room)?;
+    expect_contexts(alloc, more, 4, "", &line)
+}
+
 #[test]
 fn as_many_contexts_as_have_room_are_compiled(rt: HostRuntime) -> Result<(), Fail> {
     let alloc = rt.alloc();
     let room = room_of(alloc, TOGGLE)?;
-    let mut digits = Buffer::new();
-    let words = ["blifww", "compile", "--contexts", digits.format(room)];
-    let got = run_over(alloc, &words, TOGGLE, (4096, &[]), (1 << 20, 99))?;
-    assert!(rt; got.status == 0 && room >= 6);
-    Ok(())
-}
-
-#[test]
-fn one_context_more_has_no_room(rt: HostRuntime) -> Result<(), Fail> {
-    let alloc = rt.alloc();
-    let room = room_of(alloc, TOGGLE)?;
-    let mut digits = Buffer::new();
-    let mut rooms = Buffer::new();
-    let more = digits.format(room % 1_000_000 + 1);
-    let limit = rooms.format(room).as_bytes();
-    let parts = [
-        b"too large: contexts ".as_slice(),
-        more.as_bytes(),
-        b" limit ",
-        limit,
-        b"\n",
-    ];
-    let line = joined(alloc, &parts)?;
-    let words = ["blifww", "compile", "--contexts", more];
-    expect_run(alloc, &words, TOGGLE, 4, b"", &line)
-}
-
-// In one context without words nothing is written otherwise.
-#[test]
-fn one_context_is_what_compile_writes(rt: HostRuntime) -> Result<(), Fail> {
-    let alloc = rt.alloc();
-    let words = ["blifww", "compile", "--contexts", "1"];
-    let got = run_over(alloc, &words, TOGGLE, (4096, &[]), (1 << 20, 0))?;
-    assert!(rt; got.status == 0 && got.out == compiled(alloc, TOGGLE)?);
-    Ok(())
-}
-
-const BOTH: &[&str] = &["blifww", "compile", "--contexts", "2", "1:q=1"];
-
-// Commands, and what they print of the toggle in two contexts, of which one starts with 1.
-const SHOWN: &[(&[&str], &[u8])] = &[
-    (
-        &["blifww", "simulate", "--cycles", "4"],
-        b"0:q=0101\n1:q=1010\n",
-    ),
-    (
-        &["blifww", "probe", "--cycles", "4", "--net", "n"],
-        b"0:n=1010\n1:n=0101\n",
-    ),
-];
-
-#[test]
-fn each_context_starts_as_its_words_say(rt: HostRuntime) -> Result<(), Fail> {
-    let alloc = rt.alloc();
-    let got = run_over(alloc, BOTH, TOGGLE, (4096, &[]), (1 << 20, 0))?;
-    for (words, lines) in SHOWN {
-        expect_run(alloc, words, &got.out, 0, lines, b"")?;
-    }
-    Ok(())
-}
-
-// A wire of three cells in two contexts.
-const WIRE: &[u8] =
-    b"#C BLIFWW 1 P 64 L 2 C 2\n#C BLIFWW IN 0 0 a\n#C BLIFWW OUT 2 0 y\n#C BLIFWW NET 1 0 1 m -\nx = 3, y = 1, rule = WireWorld\n3C!\n";
-
-// Words, the status, and what is printed and told of the wire.
-const DRIVEN: &[(&[&str], u8, &[u8], &[u8])] = &[
-    (
-        &["blifww", "simulate", "--cycles", "2", "1:a=10", "0:a=01"],
-        0,
-        b"0:y=01\n1:y=10\n",
-        b"",
-    ),
-    (
-        &[
-            "blifww", "probe", "--cycles", "2", "--net", "m", "1:a=10", "0:a=01",
-        ],
-        0,
-        b"0:m=01\n1:m=10\n",
-        b"",
-    ),
-    (
-        &[
-            "blifww", "window", "--gen", "33", "--x", "0", "--y", "0", "--width", "3", "--height",
-            "1", "1:a=10", "0:a=01",
-        ],
-        0,
-        b"BAC\n",
-        b"",
-    ),
-    (
-        &["blifww", "simulate", "--cycles", "2", "a=01"],
-        9,
-        b"",
-        b"stream: BadContext a=01\n",
-    ),
-    (
-        &["blifww", "simulate", "--cycles", "2", "2:a=01"],
-        9,
-        b"",
-        b"stream: BadContext 2:a=01\n",
-    ),
-    (
-        &["blifww", "simulate", "--cycles", "2", "0:a=01", "0:a=10"],
-        9,
-        b"",
-        b"stream: TwiceInput 0:a=10\n",
-    ),
-    (
-        &["blifww", "simulate", "--cycles", "2", "0:a=01"],
-        9,
-        b"",
-        b"stream: MissingInput 1:a\n",
-    ),
-];
-
-#[test]
-fn a_wire_in_two_contexts_is_driven(rt: HostRuntime) -> Result<(), Fail> {
-    for (words, status, out, err) in DRIVEN {
-        expect_run(rt.alloc(), words, WIRE, *status, out, err)?;
-    }
-    Ok(())
-}
-
-// Constant 1 holds in each context.
-const INVERTER: &[u8] = b".model n\n.inputs a\n.outputs y\n.names a y\n0 1\n";
-
-#[test]
-fn constant_1_holds_in_each_context(rt: HostRuntime) -> Result<(), Fail> {
-    let alloc = rt.alloc();
-    let compile = ["blifww", "compile", "--contexts", "2"];
-    let got = run_over(alloc, &compile, INVERTER, (4096, &[]), (1 << 20, 0))?;
-    let simulate = [
-        "blifww", "simulate", "--cycles", "4", "0:a=0110", "1:a=0011",
-    ];
-    expect_run(alloc, &simulate, &got.out, 0, b"0:y=1001\n1:y=1100\n", b"")
+    expect_contexts(alloc, room, 0, "#C BLIFWW 2 P ...\n", "")?;
+    expect_no_room(alloc, room)?;
+    expect(room >= 6, "the room of the toggle")
 }

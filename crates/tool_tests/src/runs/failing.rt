@@ -1,110 +1,255 @@
-// Reads and writes that fail, one after another, for each command.
+// Sources and sinks that fail, and what such runs leave behind.
 ghost use Rattle.std.specs.Prelude.{◌≤◌};
 
 use crate::runs::circuits::NAND;
-use crate::runs::{GATE, PATTERN, USAGE, expect_run_over, run_over, strings_of};
+use crate::runs::compiling::INVERTER;
+use crate::runs::{GATE, PATTERN, USAGE, run_over, words_of};
 use blifww_tool::run;
 use std::alloc::Global;
 use std::test::Fail;
 use ww_base::{MemSink, MemSource};
 
-const COMPILE: &[&str] = &["blifww", "compile"];
+// The first 179 bytes of the gate's pattern.
+const FRONT: &str =
+    "#C BLIFWW 2 P 32 L 32 C 1\n#C BLIFWW IN 0 8 a\n#C BLIFWW IN 0 24 b\n#C BLIFWW OUT 32 8 y\n#C BLIFWW NET 0 8 0 a -\n#C BLIFWW NET 0 24 0 b -\n#C BLIFWW NET 31 8 31 y -\nx = 33, y = 32, ru";
 
-#[test]
-fn each_read_that_fails_is_told(rt: HostRuntime) -> Result<(), Fail> {
-    // The text has 61 bytes, and one read more finds its end.
-    for call in 0..62u64 {
-        let ending = (5, b"".as_slice(), b"read fault\n".as_slice());
-        expect_run_over(rt.alloc(), COMPILE, GATE, (1, &[call]), (321, 99), ending)?;
+const MADE: &str =
+    ".model made\n.inputs i0 i1 i2 i3\n.outputs g1 q0 q1\n.latch i2 q0 0\n.latch i3 q1 1\n.names q0 i3 g0\n10 1\n01 1\n.names g0 g0 g1\n11 0\n.end\n";
+
+// What is told of it, but for its lanes.
+const TOLD: &str =
+    "weight 22\nlanes ...\nsim g1=1011\neval g1=1011\nsim q0=0111\neval q0=0111\nsim q1=1001\neval q1=1001\n";
+
+// A command, a text, the calls of the source that fail, the rooms of the sinks, the status, and what is written and told.
+type Run = (
+    &'static str,
+    &'static str,
+    &'static [u64],
+    (usize, usize),
+    u8,
+    &'static str,
+    &'static str,
+);
+
+const RUNS: &[Run] = &[
+    // Each failure is told.
+    ("compile", GATE, &[9], (179, 99), 6, FRONT, "write fault\n"),
+    ("compile", GATE, &[9], (179, 5), 6, FRONT, "write"),
+    ("compile", GATE, &[1], (321, 99), 5, "", "read fault\n"),
+    ("compile", GATE, &[1], (321, 4), 6, "", "read"),
+    ("", GATE, &[0], (321, 99), 2, "", USAGE),
+    ("compile compile", GATE, &[0], (321, 99), 2, "", USAGE),
+    ("simulate", GATE, &[0], (321, 99), 2, "", USAGE),
+    ("", GATE, &[0], (321, 20), 6, "", "usage: blifww compil"),
+    (
+        "window --gen 1 --x 0 --y 0 --width 3 --height 2",
+        GATE,
+        &[0],
+        (321, 99),
+        5,
+        "",
+        "read fault\n",
+    ),
+    (
+        "make --seed 1 --size 2",
+        GATE,
+        &[0],
+        (0, 99),
+        6,
+        "",
+        "write fault\n",
+    ),
+    // A line is cut off where the output has no room.
+    ("lift", GATE, &[], (99, 99), 8, "", "G1 NoHeader line 1\n"),
+    ("lift", "", &[], (99, 99), 8, "", "G1 NoHeader line 1\n"),
+    ("lift x", PATTERN, &[], (99, 99), 2, "", USAGE),
+    (
+        "lift",
+        PATTERN,
+        &[],
+        (20, 99),
+        6,
+        ".model lifted\n.input",
+        "write fault\n",
+    ),
+    ("lift", PATTERN, &[], (0, 99), 6, "", "write fault\n"),
+    (
+        "simulate --cycles 4 a=0011 b=0101",
+        PATTERN,
+        &[],
+        (4, 99),
+        6,
+        "y=01",
+        "write fault\n",
+    ),
+    // No more room is needed.
+    (
+        "simulate --cycles 4 a=0011 b=0101",
+        PATTERN,
+        &[],
+        (7, 0),
+        0,
+        "y=0111\n",
+        "",
+    ),
+    ("compile", GATE, &[], (321, 0), 0, PATTERN, ""),
+    // Nothing is read for what is made: the first call of the source would fail.
+    ("make --seed 1 --size 2", "", &[0], (999, 0), 0, MADE, ""),
+    (
+        "self --seed 1 --size 2 --cycles 4",
+        "",
+        &[0],
+        (999, 0),
+        0,
+        TOLD,
+        "",
+    ),
+    // Nothing is on either where the line of a refusal fails at once.
+    ("", "", &[], (99, 0), 6, "", ""),
+];
+
+// Fails where a run ends otherwise.
+fn expect_run(
+    alloc: Global,
+    (command, text, fails, rooms, status, out, err): Run,
+) -> Result<(), Fail> {
+    let got = run_over(alloc, command, text.as_bytes(), (16, fails), rooms)?;
+    if got.is(status, out, err) {
+        Ok(())
+    } else {
+        Err(Fail::new(format_args!("{command}, {fails:?}, {rooms:?}: {}", got.status)))
     }
-    let ending = (0, PATTERN, b"".as_slice());
-    expect_run_over(rt.alloc(), COMPILE, GATE, (1, &[62]), (321, 0), ending)
 }
 
 #[test]
-fn output_is_cut_where_there_is_no_room(rt: HostRuntime) -> Result<(), Fail> {
-    for room in 0..321 {
-        let got = run_over(rt.alloc(), COMPILE, GATE, (4096, &[]), (room, 99))?;
-        let is_cut = got.out.len() == room && PATTERN.starts_with(&got.out);
-        assert!(rt;
-            is_cut && got.is(6, &got.out, b"write fault\n"),
-            "room {room}"
-        );
+fn each_failure_is_told(rt: HostRuntime) -> Result<(), Fail> {
+    for run in RUNS {
+        expect_run(rt.alloc(), *run)?;
     }
     Ok(())
 }
 
-#[test]
-fn output_is_whole_where_there_is_room(rt: HostRuntime) -> Result<(), Fail> {
-    let ending = (0, PATTERN, b"".as_slice());
-    expect_run_over(rt.alloc(), COMPILE, GATE, (4096, &[]), (321, 0), ending)
-}
-
-const INVERTER: &[u8] = b".model n\n.inputs a\n.outputs y\n.names a y\n0 1\n";
-
-// Words, and a text that they read.
-const COMMANDS: &[(&[&str], &[u8])] = &[
-    (&["blifww", "eval", "--cycles", "4", "a=0110"], INVERTER),
+// Commands, and a text that each reads.
+const COMMANDS: &[(&str, &str)] = &[
+    ("eval --cycles 4 a=0110", INVERTER),
+    ("simulate --cycles 1 a=0 b=1", PATTERN),
+    ("probe --cycles 1 --net y a=0 b=1", PATTERN),
     (
-        &["blifww", "simulate", "--cycles", "1", "a=0", "b=1"],
+        "window --gen 0 --x 0 --y 0 --width 1 --height 1 a= b=",
         PATTERN,
     ),
-    (
-        &[
-            "blifww", "probe", "--cycles", "1", "--net", "y", "a=0", "b=1",
-        ],
-        PATTERN,
-    ),
-    (
-        &[
-            "blifww", "window", "--gen", "0", "--x", "0", "--y", "0", "--width", "1", "--height",
-            "1", "a=", "b=",
-        ],
-        PATTERN,
-    ),
-    (&["blifww", "tape", "--cycles", "1", "a=0"], INVERTER),
-    (&["blifww", "aiger"], NAND),
-    (&["blifww", "vcd", "--cycles", "1", "a=0", "b=1"], PATTERN),
-    (&["blifww", "lift"], PATTERN),
+    ("tape --cycles 1 a=0", INVERTER),
+    ("aiger", NAND),
+    ("vcd --cycles 1 a=0 b=1", PATTERN),
+    ("lift", PATTERN),
 ];
+
+// Fails where a command does not tell that the source fails, or the sink.
+fn expect_told(alloc: Global, command: &'static str, text: &'static str) -> Result<(), Fail> {
+    expect_run(
+        alloc,
+        (command, text, &[0], (99, 99), 5, "", "read fault\n"),
+    )?;
+    expect_run(alloc, (command, text, &[], (0, 99), 6, "", "write fault\n"))
+}
 
 #[test]
 fn each_command_tells_what_failed(rt: HostRuntime) -> Result<(), Fail> {
-    for (words, text) in COMMANDS {
-        let unread = (5, b"".as_slice(), b"read fault\n".as_slice());
-        expect_run_over(rt.alloc(), words, text, (16, &[0]), (99, 99), unread)?;
-        let unwritten = (6, b"".as_slice(), b"write fault\n".as_slice());
-        expect_run_over(rt.alloc(), words, text, (16, &[]), (0, 99), unwritten)?;
+    for (command, text) in COMMANDS {
+        expect_told(rt.alloc(), command, text)?;
     }
-    // Nothing is on either where the line of a refusal fails at once.
-    let silent = (6, b"".as_slice(), b"".as_slice());
-    expect_run_over(rt.alloc(), &["blifww"], b"", (16, &[]), (99, 0), silent)
+    Ok(())
+}
+
+// Fails where `compile` over the gate, read byte by byte with a call that fails, is not refused, or where it is though no call does.
+fn expect_read(alloc: Global, call: u64) -> Result<(), Fail> {
+    let got = run_over(alloc, "compile", GATE.as_bytes(), (1, &[call]), (321, 99))?;
+    // The text has 61 bytes, and one read more finds its end.
+    let is_so = if call < 62 {
+        got.is(5, "", "read fault\n")
+    } else {
+        got.is(0, PATTERN, "")
+    };
+    if is_so {
+        Ok(())
+    } else {
+        Err(Fail::new(format_args!("call {call}: {}", got.status)))
+    }
+}
+
+#[test]
+fn each_read_that_fails_is_told(rt: HostRuntime) -> Result<(), Fail> {
+    for call in 0..63 {
+        expect_read(rt.alloc(), call)?;
+    }
+    Ok(())
+}
+
+// Fails where the pattern is not cut off where there is no room for it.
+fn expect_cut(alloc: Global, room: usize) -> Result<(), Fail> {
+    let got = run_over(alloc, "compile", GATE.as_bytes(), (4096, &[]), (room, 99))?;
+    let is_so = if room < 321 {
+        got.out.len() == room
+            && got.status == 6
+            && got.err.as_slice() == b"write fault\n".as_slice()
+    } else {
+        got.is(0, PATTERN, "")
+    };
+    if is_so && PATTERN.as_bytes().starts_with(&got.out) {
+        Ok(())
+    } else {
+        Err(Fail::new(format_args!("room {room}: {}", got.status)))
+    }
+}
+
+#[test]
+fn output_is_cut_where_there_is_no_room(rt: HostRuntime) -> Result<(), Fail> {
+    for room in 0..322 {
+        expect_cut(rt.alloc(), room)?;
+    }
+    Ok(())
 }
 
 // The numbers of calls of a sink that takes 7 bytes at a time: the usage line takes fewer of them.
 const CALLS: &[u64] = &[0, 1, 2, 3, 4, 5, 6, 7, 8, 9, 10, 11, 12];
 
-// Fails where a run calls a sink again that has failed. Each call of `out` from this number on fails, and so does each one of `err`.
-// The words, the status, how often they fail, and the lengths of what they hold.
-fn expect_failures(
+// The status, how often `out` and `err` failed, and the lengths of what they hold.
+type Counts = (u8, u64, u64, usize, usize);
+
+// What a run comes to over a source. Each call of `out` from a number on fails, and so does each one of `err` from another.
+fn counts_of(
     alloc: Global,
-    words: &[&str],
+    words: &[String],
+    src: &mut MemSource,
     calls: (usize, usize),
-    ending: (u8, u64, u64, usize, usize),
+) -> Result<Counts, Fail>
+    requires out { calls.0 ≤ 13 }
+    requires err { calls.1 ≤ 13 }
+{
+    let mut out = MemSink::new(alloc, 99, 7, &CALLS[calls.0..])?;
+    let mut err = MemSink::new(alloc, 99, 7, &CALLS[calls.1..])?;
+    let status = run(alloc, words, src, &mut out, &mut err);
+    let held = (out.held().len(), err.held().len());
+    Ok((status, out.faults(), err.faults(), held.0, held.1))
+}
+
+// Fails where a run comes to something else, as where it calls a sink again that has failed.
+fn expect_counts(
+    alloc: Global,
+    command: &str,
+    calls: (usize, usize),
+    counts: Counts,
 ) -> Result<(), Fail>
     requires out { calls.0 ≤ 13 }
     requires err { calls.1 ≤ 13 }
 {
-    let given = strings_of(alloc, words)?;
-    let mut src = MemSource::new(alloc, GATE, 4096, &[])?;
-    let mut out = MemSink::new(alloc, 99, 7, &CALLS[calls.0..])?;
-    let mut err = MemSink::new(alloc, 99, 7, &CALLS[calls.1..])?;
-    let status = run(alloc, &given, &mut src, &mut out, &mut err);
-    let held = (out.held().len(), err.held().len());
-    if (status, out.faults(), err.faults(), held.0, held.1) == ending {
+    let given = words_of(alloc, command)?;
+    let mut src = MemSource::new(alloc, GATE.as_bytes(), 4096, &[])?;
+    let got = counts_of(alloc, &given, &mut src, calls)?;
+    if got == counts {
         Ok(())
     } else {
-        Err(Fail::new(format_args!("{words:?}, {calls:?}: {status}")))
+        Err(Fail::new(format_args!("{command}, {calls:?}: {got:?}")))
     }
 }
 
@@ -112,10 +257,10 @@ fn expect_failures(
 fn a_sink_that_failed_is_not_called_again(rt: HostRuntime) -> Result<(), Fail> {
     let alloc = rt.alloc();
     for call in 0..9 {
-        expect_failures(alloc, &["blifww"], (0, call), (6, 0, 1, 0, 7 * call))?;
-        expect_failures(alloc, COMPILE, (call, 12), (6, 1, 0, 7 * call, 12))?;
+        expect_counts(alloc, "", (0, call), (6, 0, 1, 0, 7 * call))?;
+        expect_counts(alloc, "compile", (call, 12), (6, 1, 0, 7 * call, 12))?;
     }
     // All calls fail: the first one on each sink is its last.
-    expect_failures(alloc, COMPILE, (0, 0), (6, 1, 1, 0, 0))?;
-    expect_failures(alloc, &["blifww"], (0, 12), (2, 0, 0, 0, USAGE.len()))
+    expect_counts(alloc, "compile", (0, 0), (6, 1, 1, 0, 0))?;
+    expect_counts(alloc, "", (0, 12), (2, 0, 0, 0, USAGE.len()))
 }
