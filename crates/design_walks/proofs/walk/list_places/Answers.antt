@@ -2,7 +2,7 @@ use Rattle.std.proofs.Common.{rules, ℕ, ◌≡◌, ◌≤◌, ◌-◌, take, s
 use Rattle.netlist_meaning.specs.Weight.{weight}
 use Rattle.design_walks.specs.declared.placed.PlacedModel.{PlacedModel}
 use Rattle.design_walks.specs.Places.{IsModelAt}
-use Rattle.sound_designs.proofs.FewLines.{lines_are_few}
+use Rattle.flat_designs.proofs.FewLines.{lines_are_few}
 use Rattle.design_walks.proofs.Walked.{IsWalk, GoesOn, walk_starts, top_is_placed, one_step, walk_is_done}
 use Rattle.design_walks.proofs.walk.list_places.Goals as goal
 
