@@ -92,7 +92,8 @@ pub fn new_sources(
     news: &[Option<Src>],
     sources: &[Src],
 ) -> Result<Option<Vec<Src>>, RewriteError>
-    ensures { IfOk result (λ o. IfSome o (λ found. map (new_source news.now) sources.now ≡ map Some found.items)) }
+    ensures { IfOk result (λ o. IfSome o (λ found. map (new_source news.now) sources.now ≡
+        map Some found.items)) }
 {
     let mut found = Vec::with_capacity(alloc, sources.len())?;
     for src in sources {

@@ -45,7 +45,8 @@ fn replaced(
     now: &KeptList,
     all: &[Replacement],
 ) -> Result<Option<KeptList>, RewriteError>
-    ensures { IfOk result (λ o. IfSome o (λ n. Keeps now.now.list now.now.kept.items n.list n.kept.items)) }
+    ensures { IfOk result (λ o. IfSome o (λ n. Keeps now.now.list now.now.kept.items n.list
+        n.kept.items)) }
 {
     let subst = substituted(alloc, &now.list, all)?;
     rebuilt(alloc, &subst, &now.kept)
@@ -69,7 +70,8 @@ fn next_list(
     round: Round,
     chances: &mut Chances,
 ) -> Result<Option<KeptList>, RewriteError>
-    ensures { IfOk result (λ o. IfSome o (λ n. IsRewritten now.now.list now.now.kept.items n.list n.kept.items)) }
+    ensures { IfOk result (λ o. IfSome o (λ n. IsRewritten now.now.list now.now.kept.items n.list
+        n.kept.items)) }
 {
     let all = replacements(alloc, &now.list, &now.kept, round, chances)?;
     if all.is_empty() {

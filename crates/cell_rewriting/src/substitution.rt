@@ -91,7 +91,8 @@ impl Substitution {
     // Whether a source is seen to be there and to have the bit of the cell in whose place it is to be read.
     fn allows(&self, alloc: Global, new: &Replacement) -> Result<bool, RewriteError>
         requires { AreEqual self.now.list self.now.instead.items }
-        ensures { IfOk result (λ yes. yes ≡ true → IsSubstitute self.now.list new.now.cell new.now.by) }
+        ensures { IfOk result (λ yes. yes ≡ true →
+            IsSubstitute self.now.list new.now.cell new.now.by) }
     {
         let list = &self.list;
         if new.cell as usize >= list.cells.len() {
