@@ -1,5 +1,5 @@
 // The first fault of lines.
-ghost use Rattle.std.specs.Prelude.{◌≡◌, ℕ, List, option_map, IfOk};
+ghost use Rattle.std.specs.Prelude.{◌≡◌, ℕ, List, [], option_map, IfOk};
 ghost use Rattle.std.specs.Option.{option_copied, option_or};
 ghost use Rattle.blif_text.specs.declared.logical.Logical.{Logical};
 ghost use Rattle.blif_text.specs.Models.{first_operand};
@@ -139,7 +139,8 @@ fn broken_or<'a>(
     later: Option<Broken<'a>>,
 ) -> Option<Broken<'a>>
     ensures { (line : ℕ) → option_map (broken_fault line) result ≡
-        option_or (option_map (fault_on kind line) (option_copied word.entry)) (option_map (broken_fault line) later.entry) }
+        option_or (option_map (fault_on kind line) (option_copied word.entry))
+        (option_map (broken_fault line) later.entry) }
 {
     match word {
         None => later,
@@ -150,7 +151,8 @@ fn broken_or<'a>(
 // The first rule that a line inside a model breaks.
 fn broken_inside<'a>(before: &Before<'a>, line: &'a Logical) -> Option<Broken<'a>>
     ensures { option_map (broken_fault line.now.line) result ≡
-        inside_fault (option_copied before.now.directive) (option_copied before.now.row) (holds_name before.now.names (first_operand line.now)) line.now }
+        inside_fault (option_copied before.now.directive) (option_copied before.now.row)
+        (holds_name before.now.names (first_operand line.now)) line.now }
 {
     let directive = before.directive;
     let row = before.row;
@@ -193,20 +195,39 @@ fn broken_rule<'a>(before: &Before<'a>, line: &'a Logical) -> Option<Broken<'a>>
     broken_inside(before, line)
 }
 
+// The fault on a line that breaks a rule.
+fn fault_of(alloc: Global, line: u64, broken: Broken<'_>) -> Result<Fault, AllocError>
+    ensures { IfOk result (λ fault. fault ≡ broken_fault line broken.entry) }
+{
+    Ok(Fault {
+        kind: broken.kind,
+        line,
+        word: copied(alloc, broken.word)?,
+    })
+}
+
+// The first fault of some lines, over what is kept of those before.
+fn first_fault<'a>(
+    alloc: Global,
+    before: &mut Before<'a>,
+    lines: &'a [Logical],
+) -> Result<Option<Fault>, AllocError>
+    requires { HasRead before.old [] }
+    ensures { IfOk result (λ fault. fault ≡ line_fault lines.now) }
+{
+    for line in lines {
+        if let Some(broken) = broken_rule(before, line) {
+            return Ok(Some(fault_of(alloc, line.line, broken)?));
+        }
+        before.push(line)?;
+    }
+    Ok(None)
+}
+
 /// The fault of the earliest line that breaks a rule on lines, by the rule of the lowest number.
 pub fn line_fault(alloc: Global, lines: &[Logical]) -> Result<Option<Fault>, AllocError>
     ensures { IfOk result (λ fault. fault ≡ line_fault lines.now) }
 {
     let mut before = Before::new(alloc);
-    for line in lines {
-        if let Some(broken) = broken_rule(&before, line) {
-            return Ok(Some(Fault {
-                kind: broken.kind,
-                line: line.line,
-                word: copied(alloc, broken.word)?,
-            }));
-        }
-        before.push(line)?;
-    }
-    Ok(None)
+    first_fault(alloc, &mut before, lines)
 }

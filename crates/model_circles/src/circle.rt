@@ -5,7 +5,7 @@ ghost use Rattle.model_circles.specs.Earliest.{IsNoLater, IsLookedAt, IsEarliest
 ghost use Rattle.model_circles.specs.Ranks.{AreRanks};
 
 use crate::ranking::ranks;
-use crate::search::Search;
+use crate::search::way_between;
 use lists::List;
 use model_index::{NamedModels, placed};
 use netlist_core::Model;
@@ -56,8 +56,7 @@ fn look_at(
     if ranks[inner] != ranks[n] {
         return Ok(best);
     }
-    let search = Search::from(alloc, models, named, inner)?;
-    match search.way_to(alloc, models, inner, n)? {
+    match way_between(alloc, models, named, inner, n)? {
         None => Ok(best),
         Some(others) => Ok(Some(Circle {
             line,

@@ -62,7 +62,8 @@ impl Search {
         requires place { at < length self.old.found.items }
         ensures search { OnOk result (IsSearchOf models.now first self.new) }
         ensures kept { OnOk result (StillFound self.old.places.items self.new.places.items) }
-        ensures met { OnOk result ((inner : ℕ) → PlacesSomewhere models.now (get_or self.old.found.items at 0) inner
+        ensures met { OnOk result ((inner : ℕ) → PlacesSomewhere models.now
+            (get_or self.old.found.items at 0) inner
             → IsFound self.new.places.items inner) }
     {
         let n = self.found[at];
@@ -129,11 +130,31 @@ impl Search {
         requires search { IsWholeSearch models.now first self.now }
         requires goal { goal < length models.now }
         ensures { IfOk result (λ found. MatchOption found ((numbers : List ℕ)
-            → ¬ LeadsBackBy models.now first numbers goal) (λ way. IsWayBack models.now first goal way.items)) }
+            → ¬ LeadsBackBy models.now first numbers goal)
+            (λ way. IsWayBack models.now first goal way.items)) }
     {
         match self.places[goal] {
             None => Ok(None),
             Some(place) => Ok(Some(self.way(alloc, models, first, place)?)),
         }
     }
+}
+
+/// The models on a way from one to a goal, but the goal, where there is a way.
+pub fn way_between(
+    alloc: Global,
+    models: &[Model],
+    named: &NamedModels,
+    first: usize,
+    goal: usize,
+) -> Result<Option<Vec<usize>>, AllocError>
+    requires index { named.now ≡ models.now }
+    requires first { first < length models.now }
+    requires goal { goal < length models.now }
+    ensures { IfOk result (λ found. MatchOption found ((numbers : List ℕ)
+        → ¬ LeadsBackBy models.now first numbers goal)
+        (λ way. IsWayBack models.now first goal way.items)) }
+{
+    let search = Search::from(alloc, models, named, first)?;
+    search.way_to(alloc, models, first, goal)
 }

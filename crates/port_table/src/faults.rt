@@ -45,9 +45,11 @@ fn fault_of_form<'a>(
     height: u64,
     form: &'a Option<PortForm>,
 ) -> Result<Option<PortFaultKind>, AllocError>
-    ensures fault { IfOk result (λ fault. (before : List lines.PortForm) → HasSeen seen.old before → is_first ≡ (length before == 0) →
+    ensures fault { IfOk result (λ fault. (before : List lines.PortForm) → HasSeen seen.old before →
+        is_first ≡ (length before == 0) →
         fault ≡ fault_of_form width height (map Some before) (option_map form_of form.now)) }
-    ensures seen { IfOk result (λ fault. (before : List lines.PortForm) (next : lines.PortForm) → HasSeen seen.old before → fault ≡ None →
+    ensures seen { IfOk result (λ fault. (before : List lines.PortForm) (next : lines.PortForm) →
+        HasSeen seen.old before → fault ≡ None →
         option_map form_of form.now ≡ Some next → HasSeen seen.new (before ++ next ∷ [])) }
 {
     let Some(form) = form else {
@@ -67,6 +69,29 @@ fn fault_of_form<'a>(
     })
 }
 
+// The first fault of a table's lines, none of which is seen yet.
+fn first_fault_unseen<'a>(
+    seen: &mut Seen<'a>,
+    lines: &'a [TableLine],
+    width: u64,
+    height: u64,
+) -> Result<Option<PortFault>, AllocError>
+    requires { HasSeen seen.old [] }
+    ensures { IfOk result (λ fault.
+        option_map port_fault_of fault ≡
+        slice_get (faults_after width height [] (map table_line_of lines.now)) 0) }
+{
+    for (index, line) in lines.iter().enumerate() {
+        if let Some(kind) = fault_of_form(seen, index == 0, width, height, &line.form)? {
+            return Ok(Some(PortFault {
+                kind,
+                line: line.number,
+            }));
+        }
+    }
+    Ok(None)
+}
+
 /// The first fault of a table's lines in a box of this width and height, if they have one.
 pub fn first_fault(
     alloc: Global,
@@ -75,16 +100,9 @@ pub fn first_fault(
     height: u64,
 ) -> Result<Option<PortFault>, AllocError>
     ensures { IfOk result (λ fault.
-        option_map port_fault_of fault ≡ slice_get (faults_after width height [] (map table_line_of lines.now)) 0) }
+        option_map port_fault_of fault ≡
+        slice_get (faults_after width height [] (map table_line_of lines.now)) 0) }
 {
     let mut seen = Seen::new(alloc);
-    for (index, line) in lines.iter().enumerate() {
-        if let Some(kind) = fault_of_form(&mut seen, index == 0, width, height, &line.form)? {
-            return Ok(Some(PortFault {
-                kind,
-                line: line.number,
-            }));
-        }
-    }
-    Ok(None)
+    first_fault_unseen(&mut seen, lines, width, height)
 }

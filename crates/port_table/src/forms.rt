@@ -123,7 +123,8 @@ fn counted_line(
     c: &[u8],
 ) -> Option<PortForm>
     ensures { option_map form_of result ≡
-        form_of_fields Raw (number.now ∷ p_word.now ∷ p.now ∷ l_word.now ∷ l.now ∷ c_word.now ∷ c.now ∷ []) }
+        form_of_fields Raw (number.now ∷ p_word.now ∷ p.now ∷ l_word.now ∷ l.now ∷ c_word.now ∷
+        c.now ∷ []) }
 {
     version_named(number)?;
     version_in(p_word, p, l_word, l, count_in(c_word, c))

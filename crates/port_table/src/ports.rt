@@ -1,5 +1,5 @@
 // The table that lines make.
-ghost use Rattle.std.specs.Prelude.{◌≡◌, ◌++◌, IfOk, OnOk};
+ghost use Rattle.std.specs.Prelude.{◌≡◌, ◌++◌, [], filter_map, IfOk, OnOk};
 ghost use Rattle.pattern_reading.specs.PortTable.{input_of, output_of, period_in, latency_in, contexts_in, ports_of};
 ghost use Rattle.pattern_reading.specs.PortTable as table;
 ghost use Rattle.port_table.specs.Lent.{forms_in, said_by};
@@ -41,15 +41,36 @@ struct Lists {
 
 impl Lists {
     fn push(&mut self, form: Option<PortForm>) -> Result<(), AllocError>
-        ensures ins { OnOk result (self.new.ins.items ≡ self.old.ins.items ++ said_by input_of form) }
-        ensures outs { OnOk result (self.new.outs.items ≡ self.old.outs.items ++ said_by output_of form) }
-        ensures nets { OnOk result (self.new.nets.items ≡ self.old.nets.items ++ said_by table.net_of form) }
+        ensures ins { OnOk result (self.new.ins.items ≡
+            self.old.ins.items ++ said_by input_of form) }
+        ensures outs { OnOk result (self.new.outs.items ≡
+            self.old.outs.items ++ said_by output_of form) }
+        ensures nets { OnOk result (self.new.nets.items ≡
+            self.old.nets.items ++ said_by table.net_of form) }
     {
         match form {
             None | Some(PortForm::Version { .. }) => {}
             Some(PortForm::In(port)) => self.ins.push(port)?,
             Some(PortForm::Out(port)) => self.outs.push(port)?,
             Some(PortForm::Net(net)) => self.nets.push(net)?,
+        }
+        Ok(())
+    }
+
+    // Adds the lines of a table to empty lists.
+    fn push_all(&mut self, lines: Vec<TableLine>) -> Result<(), AllocError>
+        requires no_ins { self.old.ins.items ≡ [] }
+        requires no_outs { self.old.outs.items ≡ [] }
+        requires no_nets { self.old.nets.items ≡ [] }
+        ensures ins { OnOk result (self.new.ins.items ≡
+            filter_map input_of (forms_in lines.items)) }
+        ensures outs { OnOk result (self.new.outs.items ≡
+            filter_map output_of (forms_in lines.items)) }
+        ensures nets { OnOk result (self.new.nets.items ≡
+            filter_map table.net_of (forms_in lines.items)) }
+    {
+        for line in lines {
+            self.push(line.form)?;
         }
         Ok(())
     }
@@ -65,9 +86,7 @@ pub fn ports_of(alloc: Global, lines: Vec<TableLine>) -> Result<Ports, AllocErro
         outs: Vec::new(alloc),
         nets: Vec::new(alloc),
     };
-    for line in lines {
-        lists.push(line.form)?;
-    }
+    lists.push_all(lines)?;
     Ok(Ports {
         p,
         l,

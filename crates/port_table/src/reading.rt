@@ -42,7 +42,8 @@ impl From<AllocError> for PortReadError {
 /// `Fault` has the first line that is at fault, and the first fault of that line.
 pub fn read(alloc: Global, text: &[u8], width: u64, height: u64) -> Result<Ports, PortReadError>
     ensures table { IfOk result (ReadsAsPorts text.now width height) }
-    ensures reads { (ports : Ports) → ReadsAsPorts text.now width height ports → IsOkUnless result NoMemory }
+    ensures reads { (ports : Ports) → ReadsAsPorts text.now width height ports →
+        IsOkUnless result NoMemory }
     ensures fault { (fault : PortFault) → IsErrOf result (Fault fault) →
         HasPortFault text.now width height fault.kind fault.line }
 {

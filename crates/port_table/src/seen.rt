@@ -32,7 +32,8 @@ impl<'a> Seen<'a> {
 
     /// Adds a line, and answers whether its name was new, and for a net its name and path.
     pub fn insert(&mut self, form: &'a PortForm) -> Result<bool, AllocError>
-        ensures added { IfOk result (λ added. (before : List lines.PortForm) → HasSeen self.old before →
+        ensures added { IfOk result (λ added. (before : List lines.PortForm) →
+            HasSeen self.old before →
             added ≡ not (list_any (is_same_port (form_of form.now)) before)) }
         ensures seen { OnOk result ((before : List lines.PortForm) → HasSeen self.old before →
             HasSeen self.new (before ++ form_of form.now ∷ [])) }

@@ -1,5 +1,5 @@
 // The lines of a text's table.
-ghost use Rattle.std.specs.Prelude.{◌≡◌, ◌==◌, not, map, option_map, IfOk, codes};
+ghost use Rattle.std.specs.Prelude.{◌≡◌, ◌==◌, not, [], map, option_map, IfOk, OnOk, codes};
 ghost use Rattle.std.specs.List.{prefix_len};
 ghost use Rattle.std.specs.Option.{option_copied};
 ghost use Rattle.pattern_reading.specs.Numbers.{after_prefix};
@@ -79,18 +79,23 @@ fn table_line(
     }
 }
 
-/// The lines of a text's table, in order, which are those before its header; all where it has none.
-pub fn table_lines(alloc: Global, text: &[u8]) -> Result<Vec<TableLine>, AllocError>
-    ensures { IfOk result (λ lines. map table_line_of lines.items ≡ table_of text.now) }
+// Adds the lines of a text's table to an empty list.
+fn push_table_lines(
+    table: &mut Vec<TableLine>,
+    alloc: Global,
+    version: TableVersion,
+    text: &[u8],
+) -> Result<(), AllocError>
+    requires empty { table.old.items ≡ [] }
+    requires version { version ≡ table_version text.now }
+    ensures { OnOk result (map table_line_of table.new.items ≡ table_of text.now) }
 {
-    let version = table_version(text);
-    let mut table = Vec::new(alloc);
     let mut lines_before = 0;
     let mut rest = text;
     while !rest.is_empty() {
         let (line, after) = split_line(lines_before, rest);
         if !line.is_skipped() {
-            return Ok(table);
+            return Ok(());
         }
         if let Some(entry) = table_line(alloc, version, line)? {
             table.push(entry)?;
@@ -98,5 +103,15 @@ pub fn table_lines(alloc: Global, text: &[u8]) -> Result<Vec<TableLine>, AllocEr
         lines_before += 1;
         rest = after;
     }
+    Ok(())
+}
+
+/// The lines of a text's table, in order, which are those before its header; all where it has none.
+pub fn table_lines(alloc: Global, text: &[u8]) -> Result<Vec<TableLine>, AllocError>
+    ensures { IfOk result (λ lines. map table_line_of lines.items ≡ table_of text.now) }
+{
+    let version = table_version(text);
+    let mut table = Vec::new(alloc);
+    push_table_lines(&mut table, alloc, version, text)?;
     Ok(table)
 }

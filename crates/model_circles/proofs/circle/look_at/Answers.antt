@@ -15,4 +15,4 @@ returns-in-Some-2 c =
     let lines : subckts_of c.args.models.now c.args.n ≡ c.index-models-n.result.subckts = lines_at c.args.models.now c.args.n c.index-models-n.result c.requires.model c.index-models-n.is in
     improved c.args.models.now c.args.n c.args.k c.in-Some.inner c.get.result.now c.of.result c.args.best (ap (λ v. slice_get v c.args.k) lines ∙ ap (λ (m : Model). slice_get m.subckts c.args.k) c.index-models-n.is ∙ c.get.ensures) (λ h. true≢false (sym (c.if-is_no_later.ensures.1 h))) (sym c.in-Some.ensures.number)
     (subst (λ v. IsWayBack c.args.models.now c.in-Some.inner c.args.n v) (sym c.of.ensures)
-    (subst (λ o. MatchOption o ((numbers : List ℕ) → ¬ LeadsBackBy c.args.models.now c.in-Some.inner numbers c.args.n) (λ (way : Vec ℕ Global). IsWayBack c.args.models.now c.in-Some.inner c.args.n way.items)) c.in-Some-2.is c.in_ok-way_to.ensures))
+    (subst (λ o. MatchOption o ((numbers : List ℕ) → ¬ LeadsBackBy c.args.models.now c.in-Some.inner numbers c.args.n) (λ (way : Vec ℕ Global). IsWayBack c.args.models.now c.in-Some.inner c.args.n way.items)) c.in-Some-2.is c.in_ok-way_between.ensures))

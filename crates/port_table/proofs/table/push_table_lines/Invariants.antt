@@ -2,7 +2,7 @@ use Rattle.std.proofs.Common.{◌≡◌, ◌+◌, ◌≤◌, ◌++◌, map, leng
 use Rattle.pattern_reading.specs.PortLines.{table_of, table_version}
 use Rattle.port_table.specs.Lent.{table_line_of}
 use Rattle.port_table.proofs.Walk.{table_from}
-use Rattle.port_table.proofs.table.table_lines.Given as goal
+use Rattle.port_table.proofs.table.push_table_lines.Given as goal
 
 abbrev pub invariant-loop-rest : goal.invariant-loop-rest
 invariant-loop-rest l = record {

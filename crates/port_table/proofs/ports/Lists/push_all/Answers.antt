@@ -2,7 +2,7 @@ use Rattle.std.proofs.Common.{sym, ap, ◌∙◌, ◌++◌}
 use Rattle.pattern_reading.specs.PortTable.{input_of, output_of, net_of}
 use Rattle.port_table.specs.Lent.{said_by}
 use Rattle.port_table.proofs.Walking.{said_more}
-use Rattle.port_table.proofs.ports.ports_of.Goals as goal
+use Rattle.port_table.proofs.ports.Lists.push_all.Goals as goal
 
 pub loop-line-preserved : goal.loop-line-preserved
 loop-line-preserved c =

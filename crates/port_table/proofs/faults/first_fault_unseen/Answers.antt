@@ -4,7 +4,7 @@ use Rattle.pattern_reading.specs.PortTable.{fault_of_form}
 use Rattle.port_table.specs.Lent.{form_of}
 use Rattle.port_table.specs.declared.table.TableLine.{TableLine}
 use Rattle.port_table.proofs.Walking.{has_form, no_fault_yet}
-use Rattle.port_table.proofs.faults.first_fault.Goals as goal
+use Rattle.port_table.proofs.faults.first_fault_unseen.Goals as goal
 
 pub loop-index-preserved : goal.loop-index-preserved
 loop-index-preserved c =

@@ -3,7 +3,7 @@ use Rattle.pattern_reading.specs.PortLines.{PortForm}
 use Rattle.pattern_reading.specs.PortTable.{faults_after}
 use Rattle.port_table.specs.Lent.{table_line_of}
 use Rattle.port_table.specs.Seen.{HasSeen}
-use Rattle.port_table.proofs.faults.first_fault.Given as goal
+use Rattle.port_table.proofs.faults.first_fault_unseen.Given as goal
 
 abbrev pub invariant-loop-index : goal.invariant-loop-index
 invariant-loop-index l =
