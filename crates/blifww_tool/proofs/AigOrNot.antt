@@ -1,12 +1,11 @@
 -- A text is a circuit, or is refused in one way.
-use Rattle.std.proofs.Common.{ℕ, ◌≡◌, ◌<◌, ◌≤◌, refl, sym, ap, ◌∙◌, subst, List, arith}
+use Rattle.std.proofs.Common.{ℕ, ◌≡◌, refl, sym, ap, ◌∙◌, subst, List, arith}
 use Rattle.aiger_text.specs.declared.aig.Aig.{Aig}
 use Rattle.aiger_text.specs.declared.fault.AigFault.{AigFault}
 use Rattle.aiger_text.specs.AigText.{ReadsAsAig, HasAigFault}
 use Rattle.aiger_text.proofs.OneThing.{texts_say_one_thing}
 use Rattle.aiger_meaning.specs.declared.error.LowerError.TheVariants as planning
 use Rattle.aiger_meaning.specs.Causes.{HasLowerCause}
-use Rattle.aiger_meaning.specs.Loop.{IsAigLoop}
 use Rattle.blifww_tool.specs.Commands.{AreLikeCauses}
 use Rattle.blifww_tool.specs.Aigs.{IsAig, HasNoAig}
 use Rattle.blifww_tool.proofs.EvaluationOrNot.{alike}

@@ -10,7 +10,7 @@ use Rattle.rle_read.specs.declared.error.RleFault.{RleFault}
 use Rattle.port_table.specs.declared.faults.PortFault.{PortFault}
 use Rattle.tile_match.specs.declared.error.CircuitFault.{CircuitFault}
 use Rattle.tile_match.specs.declared.error.CircuitFault.TheVariants as fault
-use Rattle.tile_match.specs.Circuit.{HasSomePlan, IsPlanDrawing}
+use Rattle.tile_match.specs.Circuit.{IsPlanDrawing}
 use Rattle.tile_match.specs.Faults.{HasCircuitFault}
 use Rattle.tile_match.specs.Names.{has_bad_name}
 use Rattle.blifww_tool.specs.Lifting.{IsCircuitText, HasNoCircuit}

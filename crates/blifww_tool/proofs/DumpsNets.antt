@@ -1,5 +1,5 @@
 -- What `vcd` writes of a text that carries the nets of a design is the nets' bits in its runs.
-use Rattle.std.proofs.Common.{ℕ, zero, suc, ◌≡◌, ◌<◌, ◌≤◌, ◌+◌, ◌*◌, refl, sym, ap, ◌∙◌, subst, Bool, false, List, length, flat_map, get_or, length-append, arith}
+use Rattle.std.proofs.Common.{ℕ, zero, suc, ◌≡◌, ◌<◌, ◌≤◌, ◌+◌, ◌*◌, sym, ap, ◌∙◌, subst, Bool, false, List, length, flat_map, get_or, length-append, arith}
 use Rattle.std.specs.List.{range_with_len}
 use Rattle.std.specs.Prelude.{Some, slice_get}
 use Rattle.std.proofs.Math.Nat.{mul-le-mul_right, suc-mul, zero-mul}
@@ -9,10 +9,8 @@ use Rattle.std.proofs.lemmas.Option.{slice_get_within}
 use Rattle.ww_rule.specs.Grid.{Grid, plane_of}
 use Rattle.pattern_reading.specs.declared.ports.NetLine.{NetLine}
 use Rattle.pattern_reading.specs.declared.ports.Ports.{Ports}
-use Rattle.netlist_core.specs.declared.model.Design.{Design}
 use Rattle.netlist_meaning.specs.Nets.{Net}
-use Rattle.netlist_meaning.specs.Valuation.{Valuation, LatchState}
-use Rattle.carries.specs.DesignContexts.{CarriesNetsInContexts}
+use Rattle.netlist_meaning.specs.Valuation.{Valuation}
 use Rattle.drive.specs.Driving.{AreFor}
 use Rattle.probe_view.specs.Probes.{probed_at}
 use Rattle.shown_runs.specs.ShownRuns.{CarriersShowContexts, CarriersShowNetsInContexts, StreamsAreFor, net_bits_in_run}
@@ -20,7 +18,6 @@ use Rattle.vcd_write.specs.Reading.{ReadsAsVcd}
 use Rattle.vcd_write.specs.Writing.{vcd_form}
 use Rattle.vcd_write.specs.NetWaves.{NetInContext, NetsHaveTheirBits, nets_in, nets_in_contexts, reference_of}
 use Rattle.blifww_tool.specs.Dumping.{waves_of}
-use Rattle.blifww_tool.specs.PrintsAlike.{AreRunsOn}
 use Rattle.blifww_tool.specs.Simulation.{Simulation}
 use Rattle.blifww_tool.specs.DumpsNets.{CarriersDumpNets}
 use Rattle.blifww_tool.proofs.Fed.{as_many, feeds, for_table, is_start, own_run, read, start_of}

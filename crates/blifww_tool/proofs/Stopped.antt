@@ -1,5 +1,5 @@
 -- How the part of a run that reads and writes stops.
-use Rattle.std.proofs.Common.{ℕ, true, ◌≡◌, ◌<◌, refl, List, length, take}
+use Rattle.std.proofs.Common.{ℕ, true, ◌≡◌, ◌<◌, refl, subst, List, length, take, Err, Result, IfErr}
 use Rattle.std.specs.Prelude.{Option, Some, None}
 use Rattle.std.specs.Io.KnownBytes.{Keeps}
 use Rattle.command_words.specs.Shapes.{CommandValues, IsCommand}
@@ -22,9 +22,11 @@ kept None = tt
 kept (Some bytes) = refl
 
 -- what is printed of the text that words have is what they do
-pub does : (words : List (List ℕ)) (src : Reading) (out : Writing) (command : CommandValues) (text : List ℕ) (part : List ℕ → List ℕ) → IsAsked words command → HasText command src text → PrintsPart command text out part
+pub does : (words : List (List ℕ)) (src : Reading) (out : Writing) (command : CommandValues) (text t : List ℕ) (part : List ℕ → List ℕ) → IsAsked words command → HasText command src text → t ≡ text → PrintsPart command t out part
     → Does words src out part
-does words src out command text part asked given p = record { command = command; asked = asked; text = text; given = given; output = p.output; prints = p.prints; wrote = p.wrote }
+does words src out command text t part asked given same h =
+    let p = subst (λ (t : List ℕ). PrintsPart command t out part) same h in
+    record { command = command; asked = asked; text = text; given = given; output = p.output; prints = p.prints; wrote = p.wrote }
 
 -- at words that give no command,
 pub by_words : (words : List (List ℕ)) (src : Reading) (out : Writing) (e : WordsError) → GainedNothing out → ((e ≡ words_error.Usage) → IsCommand words → ⊥) → HasStopped words src out (words_refusal e)
@@ -44,12 +46,21 @@ pub refused_on : (command : CommandValues) (text : List ℕ) (out : Writing) (e 
 refused_on command text out (text_error.Refused cause) nothing h = (nothing, h)
 refused_on command text out text_error.NoMemory nothing h = nothing
 
--- and where what is done of a text stops
-pub by_text : (words : List (List ℕ)) (src : Reading) (out : Writing) (command : CommandValues) (text : List ℕ) (r : Refusal) → IsAsked words command → HasText command src text → HasStoppedOn command text out r
+-- where what is printed of a text stops,
+stopped_on : (words : List (List ℕ)) (src : Reading) (out : Writing) (command : CommandValues) (text : List ℕ) (r : Refusal) → IsAsked words command → HasText command src text → HasStoppedOn command text out r
     → HasStopped words src out r
-by_text words src out command text WriteFault asked given h = (h.0, h.1, does words src out command text (take h.0) asked given h.2)
-by_text words src out command text NoMemory asked given h = (h, tt)
-by_text words src out command text (Text cause) asked given h = (h.0, record { command = command; asked = asked; text = text; given = given; refused = h.1 })
-by_text words src out command text Usage asked given h = absurd h
-by_text words src out command text TooLong asked given h = absurd h
-by_text words src out command text ReadFault asked given h = absurd h
+stopped_on words src out command text WriteFault asked given h = (h.0, h.1, does words src out command text text (take h.0) asked given refl h.2)
+stopped_on words src out command text NoMemory asked given h = (h, tt)
+stopped_on words src out command text (Text cause) asked given h = (h.0, record { command = command; asked = asked; text = text; given = given; refused = h.1 })
+stopped_on words src out command text Usage asked given h = absurd h
+stopped_on words src out command text TooLong asked given h = absurd h
+stopped_on words src out command text ReadFault asked given h = absurd h
+
+pub by_text : (words : List (List ℕ)) (src : Reading) (out : Writing) (command : CommandValues) (text t : List ℕ) (r : Refusal) → IsAsked words command → HasText command src text → t ≡ text → HasStoppedOn command t out r
+    → HasStopped words src out r
+by_text words src out command text t r asked given same h =
+    stopped_on words src out command text r asked given (subst (λ (t : List ℕ). HasStoppedOn command t out r) same h)
+
+-- and it never stops for words that are no command
+pub never_usage : {T : Type 0} (command : CommandValues) (text : List ℕ) (out : Writing) (result : Result T Refusal) → IfErr result (HasStoppedOn command text out) → result ≡ Err Usage → ⊥
+never_usage command text out result stopped is = rw is at stopped

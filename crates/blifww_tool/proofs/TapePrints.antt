@@ -1,6 +1,5 @@
 -- What `simulate` prints of a tape is what the netlist gives on the streams, and goes on with 0.
 use Rattle.std.proofs.Common.{ℕ, ◌≡◌, ◌≤◌, sym, ap, ap₂, ◌∙◌, subst, Bool, List, [], flat_map, length, arith}
-use Rattle.std.specs.Prelude.{All, false}
 use Rattle.std.proofs.lemmas.List.{append-nil}
 use Rattle.std.proofs.lemmas.List.FromFn.{length-map-range_with_len}
 use Rattle.ww_rule.specs.Grid.{Grid}

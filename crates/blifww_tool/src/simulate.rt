@@ -1,14 +1,28 @@
 // `simulate`: the bits that a pattern's outputs show, as lines.
-ghost use Rattle.std.specs.Prelude.{◌<◌, map, string_bytes, IfOk, IfErr};
+ghost use Rattle.std.specs.Prelude.{◌≡◌, ◌<◌, map, flat_map, zip, string_bytes, IfOk, IfErr};
+ghost use Rattle.std.specs.List.{range_with_len};
 ghost use Rattle.command_words.specs.Shapes.{simulate};
 ghost use Rattle.blifww_tool.specs.Answer.{output_text, IsWritableOutput};
 ghost use Rattle.blifww_tool.specs.Commands.{Prints, HasTextCause};
+ghost use Rattle.blifww_tool.specs.Driven.{names_in_context};
+ghost use Rattle.blifww_tool.specs.Lines.{bits_line};
 
 use crate::driven::{driven_by, names_in_contexts};
 use crate::lines::output_lines;
 use crate::output::Output;
+use lists::{Bytes, List};
+use pattern_reading::Ports;
 use refusals::TextError;
-use std::alloc::Global;
+use std::alloc::{AllocError, Global};
+
+// A line for each output in each context, by the bits that it shows.
+fn shown_lines(alloc: Global, ports: &Ports, bits: &[List<bool>]) -> Result<Bytes, AllocError>
+    ensures { IfOk result (λ lines. lines ≡ flat_map (λ p. bits_line p.0 p.1)
+        (zip (flat_map (names_in_context ports.now.c ports.now.outs) (range_with_len 0 ports.now.c)) bits.now)) }
+{
+    let outs = names_in_contexts(alloc, ports.outs.as_slice(), ports.c)?;
+    output_lines(alloc, &outs, bits)
+}
 
 /// A line for each output of the text's pattern in each of its contexts, with the bits that it shows, where the words
 /// are the streams of the inputs. All outputs of context 0 come first.
@@ -26,6 +40,5 @@ pub fn simulate(
 {
     let driven = driven_by(alloc, cycles, words, text)?;
     let bits = drawn_runs::simulate(alloc, driven.pattern, &driven.ports, &driven.streams)?;
-    let outs = names_in_contexts(alloc, driven.ports.outs.as_slice(), driven.ports.c)?;
-    Ok(Output::Lines(output_lines(alloc, &outs, bits.as_slice())?))
+    Ok(Output::Lines(shown_lines(alloc, &driven.ports, bits.as_slice())?))
 }

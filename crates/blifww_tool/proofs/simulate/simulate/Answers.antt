@@ -1,4 +1,4 @@
-use Rattle.std.proofs.Common.{ap, ap₂, ◌∙◌, ℕ, List, Bool, map, flat_map, zip, string_bytes}
+use Rattle.std.proofs.Common.{ap, ◌∙◌, List, Bool, map, flat_map, zip, string_bytes}
 use Rattle.std.specs.List.{range_with_len}
 use Rattle.std.proofs.lemmas.Result.{err_from_is_err_and}
 use Rattle.ww_rule.specs.Grid.{plane_of}
@@ -27,8 +27,7 @@ returns-clause-printed c =
     let s : Simulation = simulation_of c.in_ok-driven.driven in (
       s,
       record { is = c.in_ok-driven.ensures.is; near = c.in_ok-bits.ensures.near; quiet = c.in_ok-bits.ensures.quiet },
-      c.in_ok-output_lines.ensures
-          ∙ ap₂ (λ (outs : List (List ℕ)) (bits : List (List Bool)). flat_map line (zip outs bits)) (c.deref.ensures.value ∙ c.in_ok-outs.ensures ∙ ap (λ ports. flat_map (names_in_context s.ports.c ports) (range_with_len 0 s.ports.c)) c.as_slice.ensures)
-          (c.as_slice-2.ensures ∙ c.in_ok-bits.ensures.bits)
+      c.in_ok-shown_lines.ensures
+          ∙ ap (λ (bits : List (List Bool)). flat_map line (zip (flat_map (names_in_context s.ports.c s.ports.outs) (range_with_len 0 s.ports.c)) bits)) (c.as_slice.ensures ∙ c.in_ok-bits.ensures.bits)
           ∙ lines_in_contexts (λ context (p : PortLine). with_context s.ports.c context p.name) (shown_at s.ports s.streams (plane_of s.grid.rows)) s.ports.outs (range_with_len 0 s.ports.c),
     )

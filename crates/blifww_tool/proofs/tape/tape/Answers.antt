@@ -1,4 +1,4 @@
-use Rattle.std.proofs.Common.{◌∙◌, arith, map, string_bytes}
+use Rattle.std.proofs.Common.{arith, map, string_bytes}
 use Rattle.std.proofs.lemmas.Result.{err_from_is_err_and, IfErr-weaker, IfOk-weaker}
 use Rattle.netlist_plans.proofs.Names.{texts_have_port_names}
 use Rattle.blifww_tool.proofs.Taped.{inputs_refused, netlist_refused, no_memory, tape_printed}

@@ -1,5 +1,4 @@
 use Rattle.std.proofs.Common.{arith, refl, subst}
-use Rattle.std.proofs.lemmas.Result.{err_from_is_err_and}
 use Rattle.flat_designs.proofs.Whole.{flat_is_named}
 use Rattle.grid_assembly.specs.PlanDrawing.{start_grid}
 use Rattle.netlist_core.specs.declared.flat.Flat.{Flat}

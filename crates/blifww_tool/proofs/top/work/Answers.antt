@@ -1,9 +1,7 @@
-use Rattle.std.proofs.Common.{ap, absurd, subst, ℕ, ⊤, List, Err, Result, IfErr}
+use Rattle.std.proofs.Common.{ap, Err}
 use Rattle.std.proofs.lemmas.Result.{err_from_is_err_and, on_ok_weaker, IfErr-weaker}
 use Rattle.command_words.specs.Shapes.{values_of}
-use Rattle.refusals.specs.declared.refusal.Refusal.{Refusal}
-use Rattle.blifww_tool.specs.Answer.{HasStoppedOn, PrintsPart}
-use Rattle.blifww_tool.proofs.Stopped.{kept, by_words, by_read, by_text, does}
+use Rattle.blifww_tool.proofs.Stopped.{kept, by_words, by_read, by_text, does, never_usage}
 use Rattle.blifww_tool.proofs.top.work.Goals as goal
 
 pub returns-in_err-command-clause-stopped : goal.returns-in_err-command-clause-stopped
@@ -20,20 +18,17 @@ returns-in_err-text-clause-stopped g c =
 
 pub returns-clause-done : goal.returns-clause-done
 returns-clause-done g c =
-    let command = values_of c.in_ok-command.command in
     on_ok_weaker c.print.result
-    (λ p. does _ _ _ command c.in_ok-text.text (λ output. output) (record { asks = c.in_ok-command.ensures.ok; taken = c.in_ok-command.ensures.taken }) c.in_ok-text.ensures.given
-    (subst (λ (t : List ℕ). PrintsPart command t _ (λ output. output)) c.as_slice.ensures p))
+    (λ p. does _ _ _ (values_of c.in_ok-command.command) c.in_ok-text.text c.as_slice.result.now (λ output. output) (record { asks = c.in_ok-command.ensures.ok; taken = c.in_ok-command.ensures.taken }) c.in_ok-text.ensures.given
+    c.as_slice.ensures p)
     c.print.ensures.done
 
 pub returns-clause-stopped : goal.returns-clause-stopped
 returns-clause-stopped g c =
-    let command = values_of c.in_ok-command.command in
     IfErr-weaker c.print.result _ _
-    (λ r h. by_text _ _ _ command c.in_ok-text.text r (record { asks = c.in_ok-command.ensures.ok; taken = c.in_ok-command.ensures.taken }) c.in_ok-text.ensures.given
-    (subst (λ (t : List ℕ). HasStoppedOn command t _ r) c.as_slice.ensures h))
+    (λ r h. by_text _ _ _ (values_of c.in_ok-command.command) c.in_ok-text.text c.as_slice.result.now r (record { asks = c.in_ok-command.ensures.ok; taken = c.in_ok-command.ensures.taken }) c.in_ok-text.ensures.given
+    c.as_slice.ensures h)
     c.print.ensures.stopped
 
 pub returns-clause-refused_unread : goal.returns-clause-refused_unread
-returns-clause-refused_unread g c = λ is.
-    absurd (subst (λ (result : Result ⊤ Refusal). IfErr result (HasStoppedOn (values_of c.in_ok-command.command) c.as_slice.result.now _)) is c.print.ensures.stopped)
+returns-clause-refused_unread g c = λ is. absurd (never_usage _ _ _ c.print.result c.print.ensures.stopped is)

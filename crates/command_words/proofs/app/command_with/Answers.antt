@@ -2,7 +2,6 @@ use Rattle.std.proofs.Common.{◌+◌, [], ap, ap₂, arith, drop, sym, ◌∙�
 use Rattle.std.proofs.lemmas.List.{at_drop_all, drop_more}
 use Rattle.clap.specs.Simple.{App, app_of, with_rule}
 use Rattle.command_words.specs.Arguments.{with_arguments}
-use Rattle.command_words.specs.declared.app.Argument.{Argument}
 use Rattle.command_words.specs.declared.app.Argument.TheVariants.{Required}
 use Rattle.command_words.proofs.app.command_with.Goals as goal
 

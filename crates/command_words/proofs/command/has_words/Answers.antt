@@ -1,4 +1,4 @@
-use Rattle.std.proofs.Common.{◌∙◌, ◌==◌, ℕ, Bor, List, ap, length, map, not, refl, sym}
+use Rattle.std.proofs.Common.{◌∙◌, ◌==◌, ℕ, Bor, List, ap, length, not, refl, sym}
 use Rattle.std.proofs.lemmas.List.{length-map}
 use Rattle.clap.specs.Matches.{found_of}
 use Rattle.clap.specs.Walk.{Text}
