@@ -38,11 +38,11 @@ fn push_cycle(
     requires { machine.old.flat ≡ flat.now }
     ensures { machine.new.flat ≡ machine.old.flat }
 {
+    line.push(b' ')?;
     let mut inputs = vec![in alloc; false; flat.ins.len()]?;
     let mut outputs = vec![in alloc; false; flat.outs.len()]?;
     set_bits(inputs.as_mut_slice(), row);
     machine.cycle(&inputs, outputs.as_mut_slice());
-    line.push(b' ')?;
     push_bits(line, &outputs)
 }
 
@@ -62,6 +62,19 @@ fn push_cycles(
 }
 
 // The weight, and the bits of the outputs in each cycle.
+fn machine_said(
+    alloc: Global,
+    machine: &mut Machine<'_>,
+    flat: &Flat,
+    rows: &[&[u8]],
+) -> Result<Vec<u8>, AllocError>
+    requires { machine.old.flat ≡ flat.now }
+{
+    let mut line = format!(in alloc; "weight {}", flat.weight)?.into_bytes();
+    push_cycles(&mut line, alloc, machine, flat, rows)?;
+    Ok(line)
+}
+
 fn flat_said(
     alloc: Global,
     flat: &Flat,
@@ -71,12 +84,10 @@ fn flat_said(
     requires sound { IsSound flat.now }
     requires order { IsOrder flat.now order.nodes }
 {
-    let mut line = format!(in alloc; "weight {}", flat.weight)?.into_bytes();
     match Machine::new(alloc, flat, order) {
         Ok(machine) => {
             let mut machine = machine;
-            push_cycles(&mut line, alloc, &mut machine, flat, rows)?;
-            Ok(line)
+            machine_said(alloc, &mut machine, flat, rows)
         }
         Err(_) => Err(AllocError),
     }
@@ -90,6 +101,20 @@ fn loop_said(alloc: Global, lits: &[u64]) -> Result<Vec<u8>, AllocError> {
     Ok(line)
 }
 
+fn weight_said(alloc: Global, weight: u64) -> Result<Vec<u8>, AllocError> {
+    let line = format!(in alloc; "too large: weight {weight}")?;
+    Ok(line.into_bytes())
+}
+
+// Why there is no flat netlist.
+fn refusal_said(alloc: Global, error: &LowerError) -> Result<Vec<u8>, AllocError> {
+    match error {
+        LowerError::TooLarge { weight } => weight_said(alloc, *weight),
+        LowerError::Loop(lits) => loop_said(alloc, lits.as_slice()),
+        LowerError::NoMemory => Err(AllocError),
+    }
+}
+
 fn aig_said(alloc: Global, aig: &Aig, rows: &[&[u8]]) -> Result<Vec<u8>, AllocError>
     requires { IsSoundAig aig.now }
 {
@@ -98,11 +123,7 @@ fn aig_said(alloc: Global, aig: &Aig, rows: &[&[u8]]) -> Result<Vec<u8>, AllocEr
             let Lowered { flat, order } = lowered;
             flat_said(alloc, &flat, order, rows)
         }
-        Err(LowerError::TooLarge { weight }) => {
-            Ok(format!(in alloc; "too large: weight {weight}")?.into_bytes())
-        }
-        Err(LowerError::Loop(lits)) => loop_said(alloc, lits.as_slice()),
-        Err(LowerError::NoMemory) => Err(AllocError),
+        Err(error) => refusal_said(alloc, &error),
     }
 }
 

@@ -1,6 +1,9 @@
 // Circuits as flat netlists: their weight, what they do, and why there is none.
+ghost use Rattle.std.specs.Prelude.{◌<◌};
+
 use crate::chains::chain;
 use crate::flats::lowered_said;
+use std::alloc::Global;
 use std::test::Fail;
 use ww_base::expect;
 
@@ -58,15 +61,20 @@ const CIRCUITS: &[(&[u8], &[&[u8]], &[u8])] = &[
     ),
 ];
 
+fn check_circuit(alloc: Global, text: &[u8], rows: &[&[u8]], want: &[u8]) -> Result<(), Fail> {
+    let said = lowered_said(alloc, text, rows)?;
+    expect(&said, want)
+}
+
 #[test]
 fn circuits_become_flat_netlists(rt: HostRuntime) -> Result<(), Fail> {
     for (text, rows, want) in CIRCUITS {
-        expect(&lowered_said(rt.alloc(), text, rows)?, want)?;
+        check_circuit(rt.alloc(), text, rows, want)?;
     }
     Ok(())
 }
 
-// Chains: how many inputs and gates, whether it is closed, and what is said, up to its end or a number of bytes.
+// Chains: how many inputs and gates, whether it is closed, and what is said.
 const CHAINS: &[(u64, u64, bool, &[u8])] = &[
     (186, 2000, false, b"weight 8192 1 1 0"),
     (187, 2000, false, b"too large: weight 8193"),
@@ -79,20 +87,47 @@ const ALL: &[u8] = &[b'1'; 186];
 
 const ROWS: &[&[u8]] = &[b"", b"1", ALL];
 
+fn check_chain(
+    alloc: Global,
+    inputs: u64,
+    gates: u64,
+    closed: bool,
+    want: &[u8],
+) -> Result<(), Fail>
+    requires inputs { inputs < 65536 }
+    requires gates { gates < 65536 }
+{
+    let text = chain(alloc, inputs, gates, closed)?;
+    check_circuit(alloc, &text, ROWS, want)
+}
+
 #[test]
 fn chains_have_weight(rt: HostRuntime) -> Result<(), Fail> {
     for (inputs, gates, closed, want) in CHAINS {
-        let text = chain(rt.alloc(), *inputs, *gates, *closed)?;
-        expect(&lowered_said(rt.alloc(), &text, ROWS)?, want)?;
+        check_chain(rt.alloc(), *inputs, *gates, *closed, want)?;
     }
     Ok(())
+}
+
+// How many gates stand in what is said of the loop of a text.
+fn gates_in_loop(alloc: Global, text: &[u8]) -> Result<usize, Fail> {
+    let said = lowered_said(alloc, text, &[])?;
+    Ok(said.iter().filter(|b| **b == b' ').count())
+}
+
+fn gates_in_closed_chain(alloc: Global, gates: u64) -> Result<usize, Fail>
+    requires { gates < 65536 }
+{
+    let text = chain(alloc, 1, gates, true)?;
+    gates_in_loop(alloc, &text)
 }
 
 // A loop of two thousand gates.
 #[test]
 fn a_long_loop_is_told(rt: HostRuntime) -> Result<(), Fail> {
-    let text = chain(rt.alloc(), 1, 2000, true)?;
-    let said = lowered_said(rt.alloc(), &text, &[])?;
-    let spaces = said.iter().filter(|b| **b == b' ').count();
-    expect(format!(in rt.alloc(); "{spaces}")?.as_bytes(), b"2000")
+    let gates = gates_in_closed_chain(rt.alloc(), 2000)?;
+    if gates == 2000 {
+        return Ok(());
+    }
+    Err(Fail::new(format_args!("{gates} gates")))
 }

@@ -1,6 +1,7 @@
 // What was read, as text.
 
 use aiger_reader::{Aig, AigAnd, AigFault, AigLatch};
+use lists::Bytes;
 use std::alloc::{AllocError, Global};
 
 fn push_lits(
@@ -35,17 +36,26 @@ fn push_ands(alloc: Global, line: &mut Vec<u8>, ands: &[AigAnd]) -> Result<(), A
     Ok(())
 }
 
-/// A circuit as one line: its greatest variable, its inputs, latches, outputs and gates, and then the names.
-pub fn circuit_shown(alloc: Global, aig: &Aig) -> Result<Vec<u8>, AllocError> {
-    let mut line = format!(in alloc; "m {}", aig.m)?.into_bytes();
-    push_lits(alloc, &mut line, "in", aig.inputs.as_slice())?;
-    push_latches(alloc, &mut line, aig.latches.as_slice())?;
-    push_lits(alloc, &mut line, "out", aig.outputs.as_slice())?;
-    push_ands(alloc, &mut line, aig.ands.as_slice())?;
-    for name in aig.names.as_slice() {
+fn push_names(line: &mut Vec<u8>, names: &[Bytes]) -> Result<(), AllocError> {
+    for name in names {
         line.extend_from_slice(b", ")?;
         line.extend_from_slice(name.as_slice())?;
     }
+    Ok(())
+}
+
+fn push_circuit(alloc: Global, line: &mut Vec<u8>, aig: &Aig) -> Result<(), AllocError> {
+    push_lits(alloc, line, "in", aig.inputs.as_slice())?;
+    push_latches(alloc, line, aig.latches.as_slice())?;
+    push_lits(alloc, line, "out", aig.outputs.as_slice())?;
+    push_ands(alloc, line, aig.ands.as_slice())?;
+    push_names(line, aig.names.as_slice())
+}
+
+/// A circuit as one line: its greatest variable, its inputs, latches, outputs and gates, and then the names.
+pub fn circuit_shown(alloc: Global, aig: &Aig) -> Result<Vec<u8>, AllocError> {
+    let mut line = format!(in alloc; "m {}", aig.m)?.into_bytes();
+    push_circuit(alloc, &mut line, aig)?;
     Ok(line)
 }
 

@@ -1,5 +1,5 @@
 // Which list's plan is kept, and how large it is.
-ghost use Rattle.std.specs.Prelude.{All, IfOk};
+ghost use Rattle.std.specs.Prelude.{All, IfOk, OnOk};
 ghost use Rattle.cell_plans.specs.PlanOf.{IsPlannable};
 
 use crate::written::{Written, list_of, must};
@@ -47,8 +47,11 @@ const FOUR_CELLS: Written<'static> = Written {
     nets: &[Src::Input(0), Src::Input(1), Src::Cell(3)],
 };
 
-// Lists in an order, the number of the one that has the smallest plan, and that plan's lanes and columns.
-const CHOICES: &[(&[Written<'static>], (usize, u32, usize))] = &[
+// The number of a list, and the lanes and the columns of its plan.
+type Choice = (usize, u32, usize);
+
+// Lists in an order, and the choice of the one that has the smallest plan.
+const CHOICES: &[(&[Written<'static>], Choice)] = &[
     (&[ONE_CELL], (0, 2, 1)),
     (&[THREE_CELLS], (0, 4, 6)),
     (&[FOUR_CELLS], (0, 4, 7)),
@@ -61,29 +64,50 @@ const CHOICES: &[(&[Written<'static>], (usize, u32, usize))] = &[
     (&[ONE_CELL, FOUR_CELLS, THREE_CELLS], (0, 2, 1)),
 ];
 
+// Puts a list at the end.
+fn push_list(alloc: Global, lists: &mut Vec<CellList>, written: &Written<'_>) -> Result<(), Fail>
+    requires { All IsPlannable lists.old.items }
+    ensures { OnOk result (All IsPlannable lists.new.items) }
+{
+    let list = list_of(alloc, written)?;
+    Ok(lists.push(list)?)
+}
+
 fn lists_of(alloc: Global, written: &[Written<'_>]) -> Result<Vec<CellList>, Fail>
     ensures { IfOk result (λ lists. All IsPlannable lists.items) }
 {
     let mut lists = Vec::new(alloc);
     for one in written {
-        let list = list_of(alloc, one)?;
-        lists.push(list)?;
+        push_list(alloc, &mut lists, one)?;
     }
     Ok(lists)
 }
 
 // The number of the list whose plan is kept, and the plan's lanes and columns.
-fn choice(alloc: Global, written: &[Written<'_>]) -> Result<(usize, u32, usize), Fail> {
-    let lists = lists_of(alloc, written)?;
+fn choice_of(alloc: Global, lists: &[CellList]) -> Result<Choice, Fail>
+    requires { All IsPlannable lists.now }
+{
     must(!lists.is_empty())?;
-    let chosen = best_plan(alloc, &lists)?;
+    let chosen = best_plan(alloc, lists)?;
     Ok((chosen.list, chosen.plan.lanes, chosen.plan.columns.len()))
+}
+
+fn choice(alloc: Global, written: &[Written<'_>]) -> Result<Choice, Fail> {
+    let lists = lists_of(alloc, written)?;
+    choice_of(alloc, &lists)
+}
+
+fn expect_choice(made: Choice, wanted: Choice) -> Result<(), Fail> {
+    if made == wanted {
+        return Ok(());
+    }
+    Err(Fail::new(format_args!("{made:?}, and not {wanted:?}")))
 }
 
 #[test]
 fn the_list_with_the_smallest_plan_is_kept(rt: HostRuntime) -> Result<(), Fail> {
     for (lists, wanted) in CHOICES {
-        assert_eq!(rt; choice(rt.alloc(), lists)?, *wanted);
+        expect_choice(choice(rt.alloc(), lists)?, *wanted)?;
     }
     Ok(())
 }

@@ -4,10 +4,12 @@ ghost use Rattle.lane_core.specs.Plans.{IsAdmissible};
 ghost use Rattle.aiger_text.specs.SoundAig.{IsSoundAig};
 
 use crate::running::plays;
+use crate::written::must;
 use aiger_meaning::LowerError;
 use aiger_plans::plan_circuit;
 use aiger_reader::{Aig, read};
 use aiger_text::laws::read_aigs_are_sound;
+use lists::List;
 use netlist_plans::Planned;
 use std::alloc::Global;
 use std::test::Fail;
@@ -75,7 +77,18 @@ fn circuit_of(alloc: Global, text: &[u8]) -> Result<Aig, Fail>
     read_aigs_are_sound();
     match read(alloc, text) {
         Ok(aig) => Ok(aig),
-        Err(_) => Err(Fail::new(format_args!("no circuit"))),
+        Err(_) => Err(Fail::new("no circuit")),
+    }
+}
+
+// The plan of a sound circuit.
+fn plan_of(alloc: Global, aig: &Aig) -> Result<Planned, Fail>
+    requires { IsSoundAig aig.now }
+    ensures { IfOk result (λ p. IsAdmissible p.plan) }
+{
+    match plan_circuit(alloc, aig) {
+        Ok(planned) => Ok(planned),
+        Err(_) => Err(Fail::new("no plan")),
     }
 }
 
@@ -83,24 +96,34 @@ fn planned(alloc: Global, text: &[u8]) -> Result<Planned, Fail>
     ensures { IfOk result (λ p. IsAdmissible p.plan) }
 {
     let aig = circuit_of(alloc, text)?;
-    match plan_circuit(alloc, &aig) {
-        Ok(planned) => Ok(planned),
-        Err(_) => Err(Fail::new(format_args!("no plan"))),
-    }
+    plan_of(alloc, &aig)
 }
 
-// Whether the case's plan makes its streams, whether its period is 32, and how many nets its table lists.
-fn played(alloc: Global, case: &Case) -> Result<(bool, bool, usize), Fail> {
+// Fails where the plan does not make the case's streams, has another period, or a table that lists nets.
+fn check_plan(alloc: Global, case: &Case, planned: &Planned) -> Result<(), Fail>
+    requires { IsAdmissible planned.now.plan }
+{
+    let plays = plays(alloc, &planned.plan, case.cycles, case.ins, case.outs)?;
+    let is_short = planned.ports.p == 32;
+    let nets = planned.ports.nets.len();
+    if plays && is_short == case.is_short && nets == 0 {
+        return Ok(());
+    }
+    Err(Fail::new(format_args!(
+        "{:?}: plays {plays}, period 32 {is_short}, {nets} nets",
+        case.text
+    )))
+}
+
+fn check_case(alloc: Global, case: &Case) -> Result<(), Fail> {
     let planned = planned(alloc, case.text)?;
-    let done = plays(alloc, &planned.plan, case.cycles, case.ins, case.outs)?;
-    Ok((done, planned.ports.p == 32, planned.ports.nets.len()))
+    check_plan(alloc, case, &planned)
 }
 
 #[test]
 fn circuits_do_what_they_say(rt: HostRuntime) -> Result<(), Fail> {
     for case in CASES {
-        let done = played(rt.alloc(), case)?;
-        assert_eq!(rt; done, (true, case.is_short, 0));
+        check_case(rt.alloc(), case)?;
     }
     Ok(())
 }
@@ -117,22 +140,28 @@ fn what_nobody_reads_takes_no_lane(rt: HostRuntime) -> Result<(), Fail> {
     let nothing = box_of(rt.alloc(), b"aag 0 0 0 0 0\n")?;
     let unread = box_of(rt.alloc(), b"aag 4 2 0 1 2\n2\n4\n6\n6 2 4\n8 2 6\n")?;
     let read = box_of(rt.alloc(), b"aag 3 2 0 1 1\n2\n4\n6\n6 2 4\n")?;
-    assert_eq!(rt; (nothing, unread == read), ((0, 0), true));
+    must(nothing == (0, 0) && unread == read)?;
     Ok(())
 }
 
 // The literals of the loop for which a circuit has no plan.
-fn loop_of(alloc: Global, text: &[u8]) -> Result<Vec<u64>, Fail> {
-    let aig = circuit_of(alloc, text)?;
-    match plan_circuit(alloc, &aig) {
-        Err(LowerError::Loop(literals)) => Ok(literals.as_slice().to_vec(alloc)?),
-        _ => Err(Fail::new(format_args!("no loop"))),
+fn loop_in(alloc: Global, aig: &Aig) -> Result<List<u64>, Fail>
+    requires { IsSoundAig aig.now }
+{
+    match plan_circuit(alloc, aig) {
+        Err(LowerError::Loop(literals)) => Ok(literals),
+        _ => Err(Fail::new("no loop")),
     }
+}
+
+fn loop_of(alloc: Global, text: &[u8]) -> Result<List<u64>, Fail> {
+    let aig = circuit_of(alloc, text)?;
+    loop_in(alloc, &aig)
 }
 
 #[test]
 fn gates_in_a_circle_have_no_plan(rt: HostRuntime) -> Result<(), Fail> {
     let found = loop_of(rt.alloc(), b"aag 1 0 0 1 1\n2\n2 2 2\n")?;
-    assert_eq!(rt; found.as_slice(), [2].as_slice());
+    must(found.as_slice() == [2].as_slice())?;
     Ok(())
 }

@@ -1,12 +1,14 @@
 // What lists of cells give, cycle by cycle.
-ghost use Rattle.std.specs.Prelude.{◌≡◌, All, IfOk, length};
+ghost use Rattle.std.specs.Prelude.{◌≡◌, All, IfOk, OnOk, length};
 
 use crate::written::{Written, list_of, must};
+use cell_core::CellList;
 use cell_runs::run;
 use lists::List;
 use std::alloc::{AllocError, Global};
 use std::test::Fail;
 use streams::Streams;
+use ww_base::expect;
 
 // The bits of a stream, a letter for each cycle.
 fn stream_of(alloc: Global, letters: &[u8], cycles: usize) -> Result<Vec<bool>, Fail>
@@ -17,12 +19,26 @@ fn stream_of(alloc: Global, letters: &[u8], cycles: usize) -> Result<Vec<bool>, 
     Ok(stream)
 }
 
+// Puts a stream at the end.
+fn push_stream(
+    alloc: Global,
+    bits: &mut Vec<List<bool>>,
+    letters: &[u8],
+    cycles: usize,
+) -> Result<(), Fail>
+    requires { All (λ bits. length bits ≡ cycles) bits.old.items }
+    ensures { OnOk result (All (λ bits. length bits ≡ cycles) bits.new.items) }
+{
+    let stream = stream_of(alloc, letters, cycles)?;
+    Ok(bits.push(List::of(stream))?)
+}
+
 fn streams_of(alloc: Global, ins: &[&[u8]], cycles: usize) -> Result<Streams, Fail>
     ensures { IfOk result (λ streams. All (λ bits. length bits ≡ streams.cycles) streams.bits) }
 {
     let mut bits = Vec::new(alloc);
     for letters in ins {
-        bits.push(List::of(stream_of(alloc, letters, cycles)?))?;
+        push_stream(alloc, &mut bits, letters, cycles)?;
     }
     Ok(Streams {
         cycles,
@@ -49,6 +65,24 @@ fn lines_of(alloc: Global, lists: &[List<bool>]) -> Result<Vec<u8>, AllocError> 
     Ok(text)
 }
 
+// What the list shows under the streams.
+fn shown_said(alloc: Global, list: &CellList, streams: &Streams) -> Result<Vec<u8>, Fail>
+    requires { All (λ bits. length bits ≡ streams.now.cycles) streams.now.bits }
+{
+    let shown = run(alloc, list, streams)?;
+    Ok(lines_of(alloc, shown.as_slice())?)
+}
+
+fn list_said(
+    alloc: Global,
+    list: &CellList,
+    ins: &[&[u8]],
+    cycles: usize,
+) -> Result<Vec<u8>, Fail> {
+    let streams = streams_of(alloc, ins, cycles)?;
+    shown_said(alloc, list, &streams)
+}
+
 /// What a list gives at its outputs under streams of letters: a line for each output, with a letter for each cycle.
 pub fn outputs_said(
     alloc: Global,
@@ -57,17 +91,27 @@ pub fn outputs_said(
     cycles: usize,
 ) -> Result<Vec<u8>, Fail> {
     let list = list_of(alloc, written)?;
-    let streams = streams_of(alloc, ins, cycles)?;
-    let shown = run(alloc, &list, &streams)?;
-    Ok(lines_of(alloc, shown.as_slice())?)
+    list_said(alloc, &list, ins, cycles)
 }
 
-/// Streams of letters, a line for each.
-pub fn lines(alloc: Global, streams: &[&[u8]]) -> Result<Vec<u8>, AllocError> {
+// Puts a line at the end of a text.
+fn push_letters(text: &mut Vec<u8>, letters: &[u8]) -> Result<(), AllocError> {
+    text.extend_from_slice(letters)?;
+    text.push(b'\n')?;
+    Ok(())
+}
+
+// Streams of letters, a line for each.
+fn lines(alloc: Global, streams: &[&[u8]]) -> Result<Vec<u8>, AllocError> {
     let mut text = Vec::new(alloc);
     for letters in streams {
-        text.extend_from_slice(letters)?;
-        text.push(b'\n')?;
+        push_letters(&mut text, letters)?;
     }
     Ok(text)
+}
+
+/// Fails where the text is not of a line for each of the streams.
+pub fn expect_lines(alloc: Global, said: &[u8], streams: &[&[u8]]) -> Result<(), Fail> {
+    let want = lines(alloc, streams)?;
+    expect(said, &want)
 }

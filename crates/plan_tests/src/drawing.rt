@@ -1,9 +1,10 @@
 // Random lists of cells.
-ghost use Rattle.std.specs.Prelude.{◌≡◌, ◌<◌, ◌^◌, ◌+◌, ◌-◌, IfOk, length};
+ghost use Rattle.std.specs.Prelude.{◌≡◌, ◌<◌, ◌^◌, IfOk, length};
+ghost use Rattle.cell_plans.specs.PlanOf.{IsPlannable};
 
 use crate::written::{Written, list_of};
 use cell_core::{Cell, CellList, Src};
-use std::alloc::Global;
+use std::alloc::{AllocError, Global};
 use std::test::Fail;
 
 /// A generator of numbers.
@@ -59,7 +60,7 @@ fn draw_sources(
     draw: &mut Draw,
     counts: Counts,
     many: u32,
-) -> Result<Vec<Src>, Fail> {
+) -> Result<Vec<Src>, AllocError> {
     let mut sources = Vec::new(alloc);
     for turn in 0..many {
         sources.push(draw_source(draw, counts))?;
@@ -68,7 +69,7 @@ fn draw_sources(
 }
 
 /// So many bits.
-pub fn draw_bits(alloc: Global, draw: &mut Draw, count: u32) -> Result<Vec<bool>, Fail>
+pub fn draw_bits(alloc: Global, draw: &mut Draw, count: u32) -> Result<Vec<bool>, AllocError>
     ensures { IfOk result (λ bits. length bits.items ≡ count) }
 {
     let mut bits = Vec::new(alloc);
@@ -89,7 +90,7 @@ fn draw_cell(draw: &mut Draw, counts: Counts) -> Cell {
 }
 
 // Cells, each of which reads only what is before it.
-fn draw_cells(alloc: Global, draw: &mut Draw, counts: Counts) -> Result<Vec<Cell>, Fail> {
+fn draw_cells(alloc: Global, draw: &mut Draw, counts: Counts) -> Result<Vec<Cell>, AllocError> {
     let mut drawn = Vec::new(alloc);
     for cells in 0..counts.cells {
         drawn.push(draw_cell(draw, Counts { cells, ..counts }))?;
@@ -105,7 +106,7 @@ fn draw_ports(
     starts: &[bool],
     cells: &[Cell],
 ) -> Result<CellList, Fail>
-    ensures { IfOk result (λ list. list.inputs + length list.starts + length list.outs + length list.cells < 2 ^ 18 - 1) }
+    ensures { IfOk result IsPlannable }
 {
     let (many, more) = (draw.below(6), draw.below(10));
     let outs = draw_sources(alloc, draw, counts, many)?;
@@ -124,7 +125,7 @@ fn draw_ports(
 
 /// A list of at most 4 inputs, 3 latches, 13 cells, 5 outputs and 9 nets.
 pub fn draw_list(alloc: Global, draw: &mut Draw) -> Result<CellList, Fail>
-    ensures { IfOk result (λ list. list.inputs + length list.starts + length list.outs + length list.cells < 2 ^ 18 - 1) }
+    ensures { IfOk result IsPlannable }
 {
     let counts = Counts {
         inputs: draw.below(5),

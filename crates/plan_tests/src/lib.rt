@@ -16,6 +16,8 @@ mod netlists;
 #[cfg(test)]
 mod plans;
 #[cfg(test)]
+mod ports;
+#[cfg(test)]
 mod rows;
 #[cfg(test)]
 mod running;

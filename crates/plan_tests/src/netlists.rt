@@ -1,22 +1,21 @@
 // The BLIF texts of what is lifted from plans.
 ghost use Rattle.lane_core.specs.Plans.{IsAdmissible};
 
-use crate::written::{Written, list_of};
-use blif_write::{of, write};
+use crate::ports::{PortRow, ports_of};
+use crate::written::{Written, plan_of_written};
+use blif_write::{Lift, of, write};
 use cell_core::{Cell, Src};
-use cell_plans::plan_of;
 use lane_core::Plan;
-use lists::{List, copied};
-use pattern_reading::{PortLine, Ports};
+use pattern_reading::Ports;
 use std::alloc::Global;
 use std::test::Fail;
-use ww_base::MemSink;
+use ww_base::{MemSink, expect};
 
-// A list of cells that is placed and lifted, the names of its inputs and outputs, and the text.
+// A list of cells that is placed and lifted, its inputs and outputs with their names, and the text.
 struct Case {
     written: Written<'static>,
-    ins: &'static [&'static [u8]],
-    outs: &'static [&'static [u8]],
+    ins: &'static [PortRow],
+    outs: &'static [PortRow],
     text: &'static [u8],
 }
 
@@ -30,8 +29,8 @@ const CASES: &[Case] = &[
             starts: &[],
             nets: &[],
         },
-        ins: &[b"a", b"b"],
-        outs: &[b"y"],
+        ins: &[(0, 0, b"a"), (0, 0, b"b")],
+        outs: &[(0, 0, b"y")],
         text: b".model lifted\n.inputs a b\n.outputs y\n.names _z\n.names a b _g0\n1- 1\n-1 1\n.names _g0 y\n1 1\n.end\n",
     },
     Case {
@@ -57,8 +56,8 @@ const CASES: &[Case] = &[
             starts: &[],
             nets: &[],
         },
-        ins: &[b"_z", b"a\\b"],
-        outs: &[b"__"],
+        ins: &[(0, 0, b"_z"), (0, 0, b"a\\b")],
+        outs: &[(0, 0, b"__")],
         text: b".model lifted\n.inputs _z a\\b\n.outputs __\n.names ___z\n.names _z a\\b ___g0\n10 1\n01 1\n.names ___g0 __\n1 1\n.end\n",
     },
     // an input at two outputs, with names of other signs
@@ -71,8 +70,8 @@ const CASES: &[Case] = &[
             starts: &[],
             nets: &[],
         },
-        ins: &[b"a=b"],
-        outs: &[b".names", b"y\\1"],
+        ins: &[(0, 0, b"a=b")],
+        outs: &[(0, 0, b".names"), (0, 0, b"y\\1")],
         text: b".model lifted\n.inputs a=b\n.outputs .names y\\1\n.names _z\n.names a=b .names\n1 1\n.names a=b y\\1\n1 1\n.end\n",
     },
     // two loops, each of which reads the other
@@ -86,7 +85,7 @@ const CASES: &[Case] = &[
             nets: &[],
         },
         ins: &[],
-        outs: &[b"y"],
+        outs: &[(0, 0, b"y")],
         text: b".model lifted\n.inputs\n.outputs y\n.names _z\n.latch _q1 _q0 1\n.latch _q0 _q1 0\n.names _q0 y\n1 1\n.end\n",
     },
     // a gate of a latch and an input, which the loop reads again, and an output that is constant 0
@@ -99,36 +98,17 @@ const CASES: &[Case] = &[
             starts: &[true],
             nets: &[],
         },
-        ins: &[b"in"],
-        outs: &[b"zero"],
+        ins: &[(0, 0, b"in")],
+        outs: &[(0, 0, b"zero")],
         text: b".model lifted\n.inputs in\n.outputs zero\n.names _z\n.latch _g0 _q0 1\n.names in _q0 _g0\n10 1\n.names _z zero\n1 1\n.end\n",
     },
 ];
 
-// Ports with these names.
-fn lines_of(alloc: Global, names: &[&[u8]]) -> Result<List<PortLine>, Fail> {
-    let mut lines = Vec::new(alloc);
-    for name in names {
-        lines.push(PortLine {
-            x: 0,
-            y: 0,
-            name: copied(alloc, name)?,
-        })?;
-    }
-    Ok(List::of(lines))
-}
-
-fn ports_of(alloc: Global, case: &Case) -> Result<Ports, Fail> {
-    let ins = lines_of(alloc, case.ins)?;
-    let outs = lines_of(alloc, case.outs)?;
-    Ok(Ports {
-        p: 32,
-        l: 32,
-        c: 1,
-        ins,
-        outs,
-        nets: List::of(Vec::new(alloc)),
-    })
+// The text of what is lifted.
+fn text_of_lift(alloc: Global, lift: &Lift) -> Result<MemSink, Fail> {
+    let mut sink = MemSink::new(alloc, 1000, 7, &[])?;
+    write(lift, &mut sink)?;
+    Ok(sink)
 }
 
 // The text of a plan with these ports, where there is one for each output.
@@ -139,23 +119,28 @@ fn text_of(alloc: Global, plan: &Plan, ports: &Ports) -> Result<MemSink, Fail>
         return Err(Fail::new("an output without a port"));
     }
     let lift = of(alloc, plan, ports)?;
-    let mut sink = MemSink::new(alloc, 1000, 7, &[])?;
-    write(&lift, &mut sink)?;
-    Ok(sink)
+    text_of_lift(alloc, &lift)
+}
+
+fn text_with(alloc: Global, written: &Written<'_>, ports: &Ports) -> Result<MemSink, Fail> {
+    let plan = plan_of_written(alloc, written)?;
+    text_of(alloc, &plan, ports)
 }
 
 fn text_of_case(alloc: Global, case: &Case) -> Result<MemSink, Fail> {
-    let list = list_of(alloc, &case.written)?;
-    let plan = plan_of(alloc, &list)?;
-    let ports = ports_of(alloc, case)?;
-    text_of(alloc, &plan, &ports)
+    let ports = ports_of(alloc, case.ins, case.outs, &[])?;
+    text_with(alloc, &case.written, &ports)
+}
+
+fn check_case(alloc: Global, case: &Case) -> Result<(), Fail> {
+    let sink = text_of_case(alloc, case)?;
+    expect(sink.held(), case.text)
 }
 
 #[test]
 fn plans_are_lifted_to_netlists(rt: HostRuntime) -> Result<(), Fail> {
     for case in CASES {
-        let sink = text_of_case(rt.alloc(), case)?;
-        assert!(rt; sink.held() == case.text);
+        check_case(rt.alloc(), case)?;
     }
     Ok(())
 }

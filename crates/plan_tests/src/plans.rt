@@ -1,10 +1,11 @@
 // Lists of cells against their plans, cycle by cycle.
+ghost use Rattle.cell_plans.specs.PlanOf.{IsPlannable};
+
 use crate::drawing::{Draw, draw_list};
 use crate::running::agrees;
-use crate::written::{Written, list_of};
-use cell_core::{Cell, Src};
-use cell_plans::plan_of;
-use lane_core::{Instr, Plan};
+use crate::written::{Written, must, plan_of_list, plan_of_written};
+use cell_core::{Cell, CellList, Src};
+use lane_core::{Column, Instr, Plan};
 use std::alloc::Global;
 use std::test::Fail;
 
@@ -27,49 +28,54 @@ const NOTHING: Written<'static> = Written {
     nets: &[],
 };
 
-// The plan of a list that is written down.
-fn planned(alloc: Global, written: &Written<'_>) -> Result<Plan, Fail> {
-    let list = list_of(alloc, written)?;
-    Ok(plan_of(alloc, &list)?)
+// Whether the plan has two lanes and one column, of the OR of the two.
+fn is_or(plan: &Plan) -> bool {
+    plan.lanes == 2
+        && plan.ins.as_slice() == [0, 1].as_slice()
+        && plan.outs.as_slice() == [0].as_slice()
+        && has_one_column(plan.columns.as_slice(), &[Instr::Or(0)])
 }
 
-// Whether the plan has one column, of these instructions.
-fn has_one_column(plan: &Plan, instrs: &[Instr]) -> bool {
-    let mut same = plan.columns.len() == 1;
-    for column in plan.columns.as_slice() {
-        same = same && column.instrs.as_slice() == instrs;
-    }
-    same
+fn has_one_column(columns: &[Column], instrs: &[Instr]) -> bool {
+    columns.len() == 1 && columns[0].instrs.as_slice() == instrs
 }
 
 #[test]
 fn an_or_takes_two_lanes_and_a_column(rt: HostRuntime) -> Result<(), Fail> {
-    let plan = planned(rt.alloc(), &OR)?;
-    let one_or = has_one_column(&plan, &[Instr::Or(0)]);
-    assert_eq!(rt;
-        (
-            plan.lanes,
-            plan.ins.as_slice(),
-            plan.outs.as_slice(),
-            one_or
-        ),
-        (2, [0, 1].as_slice(), [0].as_slice(), true)
-    );
+    let plan = plan_of_written(rt.alloc(), &OR)?;
+    must(is_or(&plan))?;
     Ok(())
 }
 
 #[test]
 fn nothing_takes_no_lane(rt: HostRuntime) -> Result<(), Fail> {
-    let plan = planned(rt.alloc(), &NOTHING)?;
-    assert_eq!(rt; (plan.lanes, plan.columns.len()), (0, 0));
+    let plan = plan_of_written(rt.alloc(), &NOTHING)?;
+    must(plan.lanes == 0 && plan.columns.len() == 0)?;
     Ok(())
+}
+
+// Whether the plan of the list does what the list does.
+fn list_agrees(alloc: Global, list: &CellList, draw: &mut Draw) -> Result<bool, Fail>
+    requires { IsPlannable list.now }
+{
+    let plan = plan_of_list(alloc, list)?;
+    Ok(agrees(alloc, list, &plan, draw)?)
 }
 
 // Whether the plan of a list that is drawn does what the list does.
 fn drawn_agrees(alloc: Global, draw: &mut Draw) -> Result<bool, Fail> {
     let list = draw_list(alloc, draw)?;
-    let plan = plan_of(alloc, &list)?;
-    agrees(alloc, &list, &plan, draw)
+    list_agrees(alloc, &list, draw)
+}
+
+// Fails where one of 1,000 lists that are drawn has a plan that does not what the list does.
+fn check_1000(alloc: Global, draw: &mut Draw) -> Result<(), Fail> {
+    for turn in 0..1000u32 {
+        if !drawn_agrees(alloc, draw)? {
+            return Err(Fail::new(format_args!("list {turn}")));
+        }
+    }
+    Ok(())
 }
 
 // Where the generator stands after the first 1,000 lists.
@@ -80,18 +86,13 @@ const AFTER_1000: u32 = 2_669_688_757;
 #[test]
 fn plans_do_what_random_lists_do(rt: HostRuntime) -> Result<(), Fail> {
     let mut draw = Draw { state: 1 };
-    for turn in 0..1000u32 {
-        assert!(rt; drawn_agrees(rt.alloc(), &mut draw)?, "list {turn}");
-    }
-    assert_eq!(rt; draw.state, AFTER_1000);
+    check_1000(rt.alloc(), &mut draw)?;
+    must(draw.state == AFTER_1000)?;
     Ok(())
 }
 
 #[test]
 fn plans_do_what_1000_more_lists_do(rt: HostRuntime) -> Result<(), Fail> {
     let mut draw = Draw { state: AFTER_1000 };
-    for turn in 0..1000u32 {
-        assert!(rt; drawn_agrees(rt.alloc(), &mut draw)?, "list {turn}");
-    }
-    Ok(())
+    check_1000(rt.alloc(), &mut draw)
 }

@@ -4,9 +4,8 @@ ghost use Rattle.lane_core.specs.Plans.{IsAdmissible};
 
 use crate::drawing::{Draw, draw_bits};
 use cell_core::{Cell, CellList, Src};
-use lane_core::{Plan, run_columns};
-use std::alloc::Global;
-use std::test::Fail;
+use lane_core::{NetPlace, Plan, run_columns};
+use std::alloc::{AllocError, Global};
 
 fn bit_or_dark(bits: &[bool], i: usize) -> bool {
     match bits.get(i) {
@@ -20,25 +19,25 @@ fn bit_at(bits: &[bool], i: u32) -> bool {
 }
 
 // The bits of a cycle: of the inputs, of the latches, and of the cells.
-#[derive(Drop)]
-struct Cycle {
-    inputs: Vec<bool>,
-    state: Vec<bool>,
-    made: Vec<bool>,
+#[derive(Clone, Copy)]
+struct Cycle<'a> {
+    inputs: &'a [bool],
+    state: &'a [bool],
+    made: &'a [bool],
 }
 
-impl Cycle {
-    fn read(&self, src: Src) -> bool {
+impl Cycle<'_> {
+    fn read(self, src: Src) -> bool {
         match src {
-            Src::Input(i) => bit_at(&self.inputs, i),
-            Src::Latch(i) => bit_at(&self.state, i),
+            Src::Input(i) => bit_at(self.inputs, i),
+            Src::Latch(i) => bit_at(self.state, i),
             Src::One => true,
             Src::Zero => false,
-            Src::Cell(i) => bit_at(&self.made, i),
+            Src::Cell(i) => bit_at(self.made, i),
         }
     }
 
-    fn make(&self, cell: Cell) -> bool {
+    fn make(self, cell: Cell) -> bool {
         match cell {
             Cell::Or(a, b) => self.read(a) || self.read(b),
             Cell::Xor(a, b) => self.read(a) != self.read(b),
@@ -47,22 +46,24 @@ impl Cycle {
     }
 }
 
-fn run_list(
+// The bits of the cells.
+fn made_of(
     alloc: Global,
     list: &CellList,
-    inputs: Vec<bool>,
-    state: Vec<bool>,
-) -> Result<Cycle, Fail> {
-    let mut cycle = Cycle {
-        inputs,
-        state,
-        made: Vec::new(alloc),
-    };
+    inputs: &[bool],
+    state: &[bool],
+) -> Result<Vec<bool>, AllocError> {
+    let mut made = Vec::new(alloc);
     for cell in list.cells.as_slice() {
+        let cycle = Cycle {
+            inputs,
+            state,
+            made: &made,
+        };
         let bit = cycle.make(*cell);
-        cycle.made.push(bit)?;
+        made.push(bit)?;
     }
-    Ok(cycle)
+    Ok(made)
 }
 
 fn put(bits: &mut [bool], lane: u32, bit: bool)
@@ -74,7 +75,12 @@ fn put(bits: &mut [bool], lane: u32, bit: bool)
 }
 
 // The bits on all lanes at the entry of the first column.
-fn entry(alloc: Global, plan: &Plan, inputs: &[bool], loops: &[bool]) -> Result<Vec<bool>, Fail>
+fn entry(
+    alloc: Global,
+    plan: &Plan,
+    inputs: &[bool],
+    loops: &[bool],
+) -> Result<Vec<bool>, AllocError>
     ensures { IfOk result (λ bits. length bits.items ≡ plan.now.lanes) }
 {
     let mut bits = vec![in alloc; false; plan.lanes as usize]?;
@@ -90,7 +96,12 @@ fn entry(alloc: Global, plan: &Plan, inputs: &[bool], loops: &[bool]) -> Result<
 }
 
 // The bits that leave this many columns.
-fn leave(alloc: Global, plan: &Plan, columns: usize, entry: &[bool]) -> Result<Vec<bool>, Fail>
+fn leave(
+    alloc: Global,
+    plan: &Plan,
+    columns: usize,
+    entry: &[bool],
+) -> Result<Vec<bool>, AllocError>
     requires admissible { IsAdmissible plan.now }
     requires wide { length entry.now ≡ plan.now.lanes }
     ensures { IfOk result (λ bits. length bits.items ≡ plan.now.lanes) }
@@ -101,7 +112,7 @@ fn leave(alloc: Global, plan: &Plan, columns: usize, entry: &[bool]) -> Result<V
     Ok(bits)
 }
 
-fn outs_agree(list: &CellList, plan: &Plan, cycle: &Cycle, end: &[bool]) -> bool {
+fn outs_agree(list: &CellList, plan: &Plan, cycle: Cycle<'_>, end: &[bool]) -> bool {
     let ports = plan.outs.as_slice().iter().zip(list.outs.as_slice().iter());
     let mut same = plan.outs.len() == list.outs.len();
     for (lane, src) in ports {
@@ -110,31 +121,40 @@ fn outs_agree(list: &CellList, plan: &Plan, cycle: &Cycle, end: &[bool]) -> bool
     same
 }
 
+// The bit at the place of a net.
+fn net_bit(alloc: Global, plan: &Plan, place: NetPlace, entry: &[bool]) -> Result<bool, AllocError>
+    requires admissible { IsAdmissible plan.now }
+    requires wide { length entry.now ≡ plan.now.lanes }
+{
+    let columns = match place.after {
+        None => 0,
+        Some(column) => (column as usize).saturating_add(1),
+    };
+    let bits = leave(alloc, plan, columns, entry)?;
+    Ok(bit_at(&bits, place.lane))
+}
+
 fn nets_agree(
     alloc: Global,
     list: &CellList,
     plan: &Plan,
-    cycle: &Cycle,
+    cycle: Cycle<'_>,
     entry: &[bool],
-) -> Result<bool, Fail>
+) -> Result<bool, AllocError>
     requires admissible { IsAdmissible plan.now }
     requires wide { length entry.now ≡ plan.now.lanes }
 {
     let nets = plan.nets.as_slice().iter().zip(list.nets.as_slice().iter());
     let mut same = plan.nets.len() == list.nets.len();
     for (place, src) in nets {
-        let columns = match place.after {
-            None => 0,
-            Some(column) => (column as usize).saturating_add(1),
-        };
-        let bits = leave(alloc, plan, columns, entry)?;
-        same = same && bit_at(&bits, place.lane) == cycle.read(*src);
+        let bit = net_bit(alloc, plan, *place, entry)?;
+        same = same && bit == cycle.read(*src);
     }
     Ok(same)
 }
 
 // The bits that the loops bring: the first loop leaves on the lowest lane.
-fn brought(alloc: Global, plan: &Plan, end: &[bool]) -> Result<Vec<bool>, Fail> {
+fn brought(alloc: Global, plan: &Plan, end: &[bool]) -> Result<Vec<bool>, AllocError> {
     let mut bits = Vec::new(alloc);
     for loop_number in 0..plan.latches {
         let lane = plan.lanes.saturating_sub(1).saturating_sub(loop_number);
@@ -143,7 +163,7 @@ fn brought(alloc: Global, plan: &Plan, end: &[bool]) -> Result<Vec<bool>, Fail> 
     Ok(bits)
 }
 
-fn next_state(alloc: Global, list: &CellList, cycle: &Cycle) -> Result<Vec<bool>, Fail> {
+fn next_state(alloc: Global, list: &CellList, cycle: Cycle<'_>) -> Result<Vec<bool>, AllocError> {
     let mut bits = Vec::new(alloc);
     for src in list.latches.as_slice() {
         bits.push(cycle.read(*src))?;
@@ -152,7 +172,7 @@ fn next_state(alloc: Global, list: &CellList, cycle: &Cycle) -> Result<Vec<bool>
 }
 
 // The bits that loops bring for the bits of latches, the last one for constant 1 where there is one for it.
-fn loops_of(alloc: Global, state: &[bool], one: bool) -> Result<Vec<bool>, Fail> {
+fn loops_of(alloc: Global, state: &[bool], one: bool) -> Result<Vec<bool>, AllocError> {
     let mut bits = state.to_vec(alloc)?;
     if one {
         bits.push(true)?;
@@ -160,42 +180,80 @@ fn loops_of(alloc: Global, state: &[bool], one: bool) -> Result<Vec<bool>, Fail>
     Ok(bits)
 }
 
-// The bits that leave the plan, of the bits of its inputs and of its loops.
-fn end_of(alloc: Global, plan: &Plan, inputs: &[bool], loops: &[bool]) -> Result<Vec<bool>, Fail>
-    requires { IsAdmissible plan.now }
-{
-    let entry = entry(alloc, plan, inputs, loops)?;
-    leave(alloc, plan, plan.columns.len(), &entry)
+// Whether the loops bring these bits.
+fn loops_bring(plan: &Plan, end: &[bool], bits: &[bool]) -> bool {
+    let mut same = bits.len() == plan.latches as usize;
+    let mut lane = plan.lanes;
+    for bit in bits {
+        lane = lane.saturating_sub(1);
+        same = same && bit_at(end, lane) == *bit;
+    }
+    same
 }
 
-// Whether the loops bring the bits of the latches in the next cycle.
-fn loops_agree(
+// The bits that loops bring for the latches in the next cycle.
+fn next_loops(alloc: Global, list: &CellList, cycle: Cycle<'_>) -> Result<Vec<bool>, AllocError> {
+    let state = next_state(alloc, list, cycle)?;
+    loops_of(alloc, &state, list.names_one())
+}
+
+// Whether the bits that leave are those of the outputs and of the latches in the next cycle.
+fn ends_agree(
     alloc: Global,
     list: &CellList,
     plan: &Plan,
-    cycle: &Cycle,
+    cycle: Cycle<'_>,
     end: &[bool],
-) -> Result<bool, Fail> {
-    let state = next_state(alloc, list, cycle)?;
-    let next = loops_of(alloc, &state, list.names_one())?;
-    let brought = brought(alloc, plan, end)?;
-    Ok(brought.as_slice() == next.as_slice())
+) -> Result<bool, AllocError> {
+    let next = next_loops(alloc, list, cycle)?;
+    Ok(loops_bring(plan, end, &next) && outs_agree(list, plan, cycle, end))
+}
+
+// The bits at the entry, of the bits of inputs and latches.
+fn entry_of(
+    alloc: Global,
+    list: &CellList,
+    plan: &Plan,
+    cycle: Cycle<'_>,
+) -> Result<Vec<bool>, AllocError>
+    ensures { IfOk result (λ bits. length bits.items ≡ plan.now.lanes) }
+{
+    let loops = loops_of(alloc, cycle.state, list.names_one())?;
+    entry(alloc, plan, cycle.inputs, &loops)
+}
+
+// Whether the plan does from these bits at its entry what the list does.
+fn agrees_from(
+    alloc: Global,
+    list: &CellList,
+    plan: &Plan,
+    cycle: Cycle<'_>,
+    entry: &[bool],
+) -> Result<bool, AllocError>
+    requires admissible { IsAdmissible plan.now }
+    requires wide { length entry.now ≡ plan.now.lanes }
+{
+    let nets = nets_agree(alloc, list, plan, cycle, entry)?;
+    let end = leave(alloc, plan, plan.columns.len(), entry)?;
+    let ends = ends_agree(alloc, list, plan, cycle, &end)?;
+    Ok(nets && ends)
 }
 
 // Whether the plan does in a cycle what the list does.
-fn agrees_in(alloc: Global, list: &CellList, plan: &Plan, cycle: &Cycle) -> Result<bool, Fail>
+fn agrees_in(
+    alloc: Global,
+    list: &CellList,
+    plan: &Plan,
+    cycle: Cycle<'_>,
+) -> Result<bool, AllocError>
     requires { IsAdmissible plan.now }
 {
-    let loops = loops_of(alloc, &cycle.state, list.names_one())?;
-    let entry = entry(alloc, plan, &cycle.inputs, &loops)?;
-    let end = leave(alloc, plan, plan.columns.len(), &entry)?;
-    let nets = nets_agree(alloc, list, plan, cycle, &entry)?;
-    let same = loops_agree(alloc, list, plan, cycle, &end)?;
-    Ok(nets && same && outs_agree(list, plan, cycle, &end))
+    let entry = entry_of(alloc, list, plan, cycle)?;
+    agrees_from(alloc, list, plan, cycle, &entry)
 }
 
 // The bits with which the loops of a plan start, by the cells at which they enter its first column.
-fn starting(alloc: Global, plan: &Plan) -> Result<Vec<bool>, Fail>
+fn starting(alloc: Global, plan: &Plan) -> Result<Vec<bool>, AllocError>
     requires { IsAdmissible plan.now }
 {
     let x = 32 * plan.latches as u64;
@@ -206,7 +264,7 @@ fn starting(alloc: Global, plan: &Plan) -> Result<Vec<bool>, Fail>
     Ok(bits)
 }
 
-fn starts_agree(alloc: Global, list: &CellList, plan: &Plan) -> Result<bool, Fail>
+fn starts_agree(alloc: Global, list: &CellList, plan: &Plan) -> Result<bool, AllocError>
     requires { IsAdmissible plan.now }
 {
     let starts = loops_of(alloc, list.starts.as_slice(), list.names_one())?;
@@ -214,23 +272,62 @@ fn starts_agree(alloc: Global, list: &CellList, plan: &Plan) -> Result<bool, Fai
     Ok(starts.as_slice() == loops.as_slice())
 }
 
-/// Whether the plan does what the list does, in four cycles of random inputs.
-pub fn agrees(alloc: Global, list: &CellList, plan: &Plan, draw: &mut Draw) -> Result<bool, Fail>
+// Whether the plan does in a cycle what the list does; the latches then have their next bits.
+fn agrees_next(
+    alloc: Global,
+    list: &CellList,
+    plan: &Plan,
+    inputs: &[bool],
+    state: &mut Vec<bool>,
+) -> Result<bool, AllocError>
     requires { IsAdmissible plan.now }
 {
-    let mut state = list.starts.as_slice().to_vec(alloc)?;
-    let mut same = starts_agree(alloc, list, plan)?;
+    let made = made_of(alloc, list, inputs, state.as_slice())?;
+    let cycle = Cycle {
+        inputs,
+        state: state.as_slice(),
+        made: &made,
+    };
+    let same = agrees_in(alloc, list, plan, cycle)?;
+    *state = next_state(alloc, list, cycle)?;
+    Ok(same)
+}
+
+// Whether the plan does what the list does, in four cycles of random inputs from these bits of the latches on.
+fn cycles_agree(
+    alloc: Global,
+    list: &CellList,
+    plan: &Plan,
+    draw: &mut Draw,
+    state: &mut Vec<bool>,
+) -> Result<bool, AllocError>
+    requires { IsAdmissible plan.now }
+{
+    let mut same = true;
     for _ in 0..4u32 {
         let inputs = draw_bits(alloc, draw, list.inputs)?;
-        let cycle = run_list(alloc, list, inputs, state)?;
-        same = same && agrees_in(alloc, list, plan, &cycle)?;
-        state = next_state(alloc, list, &cycle)?;
+        same = agrees_next(alloc, list, plan, &inputs, state)? && same;
     }
     Ok(same)
 }
 
+/// Whether the plan does what the list does, in four cycles of random inputs.
+pub fn agrees(
+    alloc: Global,
+    list: &CellList,
+    plan: &Plan,
+    draw: &mut Draw,
+) -> Result<bool, AllocError>
+    requires { IsAdmissible plan.now }
+{
+    let starts = starts_agree(alloc, list, plan)?;
+    let mut state = list.starts.as_slice().to_vec(alloc)?;
+    let cycles = cycles_agree(alloc, list, plan, draw, &mut state)?;
+    Ok(starts && cycles)
+}
+
 // The last bits of a number, the last one first.
-fn bits_of(alloc: Global, number: u32, count: usize) -> Result<Vec<bool>, Fail> {
+fn bits_of(alloc: Global, number: u32, count: usize) -> Result<Vec<bool>, AllocError> {
     let mut bits = Vec::new(alloc);
     let mut rest = number;
     for _ in 0..count {
@@ -240,17 +337,42 @@ fn bits_of(alloc: Global, number: u32, count: usize) -> Result<Vec<bool>, Fail> 
     Ok(bits)
 }
 
-/// Whether the plan does what the list does, for all bits of at most eight inputs and latches.
-pub fn agrees_for_all(alloc: Global, list: &CellList, plan: &Plan) -> Result<bool, Fail>
+// Whether the plan does in a cycle of these bits what the list does.
+fn agrees_at(
+    alloc: Global,
+    list: &CellList,
+    plan: &Plan,
+    inputs: &[bool],
+    state: &[bool],
+) -> Result<bool, AllocError>
+    requires { IsAdmissible plan.now }
+{
+    let made = made_of(alloc, list, inputs, state)?;
+    let cycle = Cycle {
+        inputs,
+        state,
+        made: &made,
+    };
+    agrees_in(alloc, list, plan, cycle)
+}
+
+// Whether it does for the bits of a number: those of the latches are its last ones, and those of the inputs stand before.
+fn agrees_for(alloc: Global, list: &CellList, plan: &Plan, number: u32) -> Result<bool, AllocError>
     requires { IsAdmissible plan.now }
 {
     let latches = list.starts.len();
+    let state = bits_of(alloc, number, latches)?;
+    let inputs = bits_of(alloc, number >> latches.min(8), list.inputs as usize)?;
+    agrees_at(alloc, list, plan, &inputs, &state)
+}
+
+/// Whether the plan does what the list does, for all bits of at most eight inputs and latches.
+pub fn agrees_for_all(alloc: Global, list: &CellList, plan: &Plan) -> Result<bool, AllocError>
+    requires { IsAdmissible plan.now }
+{
     let mut same = starts_agree(alloc, list, plan)?;
     for number in 0..256u32 {
-        let state = bits_of(alloc, number, latches)?;
-        let inputs = bits_of(alloc, number >> latches.min(8), list.inputs as usize)?;
-        let cycle = run_list(alloc, list, inputs, state)?;
-        same = same && agrees_in(alloc, list, plan, &cycle)?;
+        same = agrees_for(alloc, list, plan, number)? && same;
     }
     Ok(same)
 }
@@ -263,7 +385,7 @@ fn is_one(stream: &[u8], cycle: usize) -> bool {
 }
 
 // The bits of streams in a cycle, one letter of each stream.
-fn letters(alloc: Global, streams: &[&[u8]], cycle: usize) -> Result<Vec<bool>, Fail> {
+fn letters(alloc: Global, streams: &[&[u8]], cycle: usize) -> Result<Vec<bool>, AllocError> {
     let mut bits = Vec::new(alloc);
     for stream in streams {
         bits.push(is_one(stream, cycle))?;
@@ -271,25 +393,44 @@ fn letters(alloc: Global, streams: &[&[u8]], cycle: usize) -> Result<Vec<bool>, 
     Ok(bits)
 }
 
-fn outs_of(alloc: Global, plan: &Plan, end: &[bool]) -> Result<Vec<bool>, Fail> {
-    let mut bits = Vec::new(alloc);
-    for lane in plan.outs.as_slice() {
-        bits.push(bit_at(end, *lane))?;
+// Whether the outputs show the letters of streams in a cycle.
+fn outs_show(plan: &Plan, end: &[bool], streams: &[&[u8]], cycle: usize) -> bool {
+    let mut same = plan.outs.len() == streams.len();
+    for (lane, stream) in plan.outs.as_slice().iter().zip(streams.iter()) {
+        same = same && bit_at(end, *lane) == is_one(stream, cycle);
     }
-    Ok(bits)
+    same
 }
 
-// Whether the outputs show the letters of streams in a cycle.
-fn outs_show(
+// The bits that leave the plan in a cycle of streams, of these bits of its loops.
+fn end_of(
     alloc: Global,
     plan: &Plan,
-    end: &[bool],
     streams: &[&[u8]],
     cycle: usize,
-) -> Result<bool, Fail> {
-    let wanted = letters(alloc, streams, cycle)?;
-    let made = outs_of(alloc, plan, end)?;
-    Ok(made.as_slice() == wanted.as_slice())
+    loops: &[bool],
+) -> Result<Vec<bool>, AllocError>
+    requires { IsAdmissible plan.now }
+{
+    let inputs = letters(alloc, streams, cycle)?;
+    let entry = entry(alloc, plan, &inputs, loops)?;
+    leave(alloc, plan, plan.columns.len(), &entry)
+}
+
+// Whether the plan makes in a cycle the letters of `outs` of those of `ins`; the loops then have the bits that they bring.
+fn plays_next(
+    alloc: Global,
+    plan: &Plan,
+    cycle: usize,
+    ins: &[&[u8]],
+    outs: &[&[u8]],
+    loops: &mut Vec<bool>,
+) -> Result<bool, AllocError>
+    requires { IsAdmissible plan.now }
+{
+    let end = end_of(alloc, plan, ins, cycle, loops.as_slice())?;
+    *loops = brought(alloc, plan, &end)?;
+    Ok(outs_show(plan, &end, outs, cycle))
 }
 
 /// Whether the plan, from its starts on, makes the streams `outs` of the streams `ins`.
@@ -299,16 +440,13 @@ pub fn plays(
     cycles: usize,
     ins: &[&[u8]],
     outs: &[&[u8]],
-) -> Result<bool, Fail>
+) -> Result<bool, AllocError>
     requires { IsAdmissible plan.now }
 {
     let mut loops = starting(alloc, plan)?;
     let mut same = true;
     for cycle in 0..cycles {
-        let inputs = letters(alloc, ins, cycle)?;
-        let end = end_of(alloc, plan, &inputs, &loops)?;
-        same = same && outs_show(alloc, plan, &end, outs, cycle)?;
-        loops = brought(alloc, plan, &end)?;
+        same = plays_next(alloc, plan, cycle, ins, outs, &mut loops)? && same;
     }
     Ok(same)
 }

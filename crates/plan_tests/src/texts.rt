@@ -1,86 +1,56 @@
 // Plans of ORs, and their texts.
+use crate::ports::{NetRow, PortRow, ports_of};
+use crate::written::must;
 use lane_core::{Column, Instr, Plan, Starts};
-use lists::{List, copied};
+use lists::List;
 use macro_grid::admissible;
-use pattern_reading::{NetLine, PortLine, Ports};
+use pattern_reading::Ports;
 use rle_write::write;
 use std::alloc::Global;
 use std::test::Fail;
-use ww_base::{Failed, MemSink};
+use ww_base::{Failed, MemSink, expect};
+
+// A column with an OR of the two upper lanes.
+fn or_column(alloc: Global) -> Result<Column, Fail> {
+    let instrs = vec![in alloc; Instr::Or(0)]?;
+    Ok(Column {
+        instrs: List::of(instrs),
+    })
+}
+
+fn or_columns(alloc: Global, columns: usize) -> Result<Vec<Column>, Fail> {
+    let mut made = Vec::new(alloc);
+    for _ in 0..columns {
+        made.push(or_column(alloc)?)?;
+    }
+    Ok(made)
+}
 
 // Two lanes and columns with their OR, with the output on the upper lane.
 fn plan_of(alloc: Global, columns: usize) -> Result<Plan, Fail> {
-    let mut made = Vec::with_capacity(alloc, columns)?;
-    for _ in 0..columns {
-        made.push(Column {
-            instrs: List::of(vec![in alloc; Instr::Or(0)]?),
-        })?;
-    }
+    let ins = vec![in alloc; 0, 1]?;
+    let outs = vec![in alloc; 0]?;
+    let columns = or_columns(alloc, columns)?;
     Ok(Plan {
         lanes: 2,
-        columns: List::of(made),
+        columns: List::of(columns),
         latches: 0,
         starts: Starts::of(Vec::new(alloc)),
-        ins: List::of(vec![in alloc; 0, 1]?),
-        outs: List::of(vec![in alloc; 0]?),
+        ins: List::of(ins),
+        outs: List::of(outs),
         nets: List::of(Vec::new(alloc)),
         tape: List::of(Vec::new(alloc)),
     })
 }
 
 // The cells and the names of the OR's inputs.
-const INS: &[(u64, u64, &[u8])] = &[(0, 8, b"a"), (0, 24, b"b")];
+const INS: &[PortRow] = &[(0, 8, b"a"), (0, 24, b"b")];
 
 // The cell and the name of its output.
-const OUTS: &[(u64, u64, &[u8])] = &[(32, 8, b"y")];
+const OUTS: &[PortRow] = &[(32, 8, b"y")];
 
 // The cells, the offsets and the names of its nets.
-const NETS: &[(u64, u64, u64, &[u8])] = &[(0, 8, 0, b"a"), (0, 24, 0, b"b"), (31, 8, 31, b"y")];
-
-fn port_lines(alloc: Global, table: &[(u64, u64, &[u8])]) -> Result<List<PortLine>, Fail> {
-    let mut lines = Vec::new(alloc);
-    for (x, y, name) in table {
-        lines.push(PortLine {
-            x: *x,
-            y: *y,
-            name: copied(alloc, name)?,
-        })?;
-    }
-    Ok(List::of(lines))
-}
-
-fn net_line(alloc: Global, x: u64, y: u64, offset: u64, name: &[u8]) -> Result<NetLine, Fail> {
-    let path = copied(alloc, b"-")?;
-    Ok(NetLine {
-        x,
-        y,
-        offset,
-        name: copied(alloc, name)?,
-        path,
-    })
-}
-
-fn net_lines(alloc: Global, table: &[(u64, u64, u64, &[u8])]) -> Result<List<NetLine>, Fail> {
-    let mut lines = Vec::new(alloc);
-    for (x, y, offset, name) in table {
-        lines.push(net_line(alloc, *x, *y, *offset, name)?)?;
-    }
-    Ok(List::of(lines))
-}
-
-fn gate_ports(alloc: Global) -> Result<Ports, Fail> {
-    let ins = port_lines(alloc, INS)?;
-    let outs = port_lines(alloc, OUTS)?;
-    let nets = net_lines(alloc, NETS)?;
-    Ok(Ports {
-        p: 32,
-        l: 32,
-        c: 1,
-        ins,
-        outs,
-        nets,
-    })
-}
+const NETS: &[NetRow] = &[(0, 8, 0, b"a"), (0, 24, 0, b"b"), (31, 8, 31, b"y")];
 
 // 321 bytes.
 const TEXT_WITH_NETS: &[u8] = b"#C BLIFWW 2 P 32 L 32 C 1
@@ -95,42 +65,100 @@ x = 33, y = 32, rule = WireWorld
 C.C$15.C$11.2C.C$10.2C.C$9.C.2C$8.C$7.C$6.C$5.C$5C26.C!
 ";
 
+// What comes of writing a plan to a sink.
+fn write_plan(plan: &Plan, ports: &Ports, sink: &mut MemSink) -> Result<Result<(), Failed>, Fail> {
+    if admissible(plan) {
+        Ok(write(plan, ports, sink))
+    } else {
+        Err(Fail::new("the plan is refused"))
+    }
+}
+
+// What comes of writing so many columns with these ports to a sink.
+fn write_columns(
+    alloc: Global,
+    columns: usize,
+    ports: &Ports,
+    sink: &mut MemSink,
+) -> Result<Result<(), Failed>, Fail> {
+    let plan = plan_of(alloc, columns)?;
+    write_plan(&plan, ports, sink)
+}
+
 // What comes of writing the OR to a sink.
 fn write_or(alloc: Global, sink: &mut MemSink) -> Result<Result<(), Failed>, Fail> {
-    let plan = plan_of(alloc, 1)?;
-    if !admissible(&plan) {
-        return Err(Fail::new("the plan is refused"));
+    let ports = ports_of(alloc, INS, OUTS, NETS)?;
+    write_columns(alloc, 1, &ports, sink)
+}
+
+// A sink by its room, the most bytes that a call takes and the calls that fail; what comes of writing the OR to it, and how
+// much of the text is held then.
+struct SinkCase {
+    room: usize,
+    chunk: usize,
+    fails: &'static [u64],
+    wanted: Result<(), Failed>,
+    held: usize,
+}
+
+// A sink that takes all; sinks of no room, of room for a front, and with a third call that fails.
+const SINKS: &[SinkCase] = &[
+    SinkCase {
+        room: 1000,
+        chunk: 7,
+        fails: &[],
+        wanted: Ok(()),
+        held: 321,
+    },
+    SinkCase {
+        room: 0,
+        chunk: 1000,
+        fails: &[9],
+        wanted: Err(Failed),
+        held: 0,
+    },
+    SinkCase {
+        room: 100,
+        chunk: 1000,
+        fails: &[9],
+        wanted: Err(Failed),
+        held: 100,
+    },
+    SinkCase {
+        room: 320,
+        chunk: 1000,
+        fails: &[9],
+        wanted: Err(Failed),
+        held: 320,
+    },
+    SinkCase {
+        room: 1000,
+        chunk: 7,
+        fails: &[2],
+        wanted: Err(Failed),
+        held: 14,
+    },
+];
+
+// Fails where other comes of a sink than is wanted.
+fn expect_sink(case: &SinkCase, written: Result<(), Failed>, held: &[u8]) -> Result<(), Fail> {
+    let front = &TEXT_WITH_NETS[..case.held.min(TEXT_WITH_NETS.len())];
+    if written == case.wanted && held == front {
+        return Ok(());
     }
-    let ports = gate_ports(alloc)?;
-    Ok(write(&plan, &ports, sink))
+    Err(Fail::new(format_args!("with room for {}: {written:?}, {held:?}", case.room)))
+}
+
+fn check_sink(alloc: Global, case: &SinkCase) -> Result<(), Fail> {
+    let mut sink = MemSink::new(alloc, case.room, case.chunk.max(1), case.fails)?;
+    let written = write_or(alloc, &mut sink)?;
+    expect_sink(case, written, sink.held())
 }
 
 #[test]
 fn a_plan_is_written_by_its_cells_and_ports(rt: HostRuntime) -> Result<(), Fail> {
-    let mut sink = MemSink::new(rt.alloc(), 1000, 7, &[])?;
-    let result = write_or(rt.alloc(), &mut sink)?;
-    assert!(rt; result == Ok(()) && sink.held() == TEXT_WITH_NETS);
-    Ok(())
-}
-
-// Sinks that fail, with what they hold then: of no room, of room for a front, and with a third call that fails.
-const FAILING: [(usize, usize, u64, usize); 4] = [
-    (0, 1000, 9, 0),
-    (100, 1000, 9, 100),
-    (320, 1000, 9, 320),
-    (1000, 7, 2, 14),
-];
-
-#[test]
-fn a_front_is_written_where_the_sink_fails(rt: HostRuntime) -> Result<(), Fail> {
-    for (room, chunk, fails, front) in FAILING {
-        let mut sink = MemSink::new(rt.alloc(), room, chunk, &[fails])?;
-        let result = write_or(rt.alloc(), &mut sink)?;
-        assert_eq!(rt;
-            (result, sink.held()),
-            (Err(Failed), &TEXT_WITH_NETS[..front]),
-            "with room for {room}"
-        );
+    for case in SINKS {
+        check_sink(rt.alloc(), case)?;
     }
     Ok(())
 }
@@ -146,28 +174,24 @@ fn no_ports(alloc: Global) -> Ports {
     }
 }
 
-// What is written of a hundred columns.
-fn wide_text(alloc: Global) -> Result<MemSink, Fail> {
-    let plan = plan_of(alloc, 100)?;
-    if !admissible(&plan) {
-        return Err(Fail::new("the plan is refused"));
-    }
+// What comes of writing a hundred columns to a sink.
+fn write_wide(alloc: Global, sink: &mut MemSink) -> Result<Result<(), Failed>, Fail> {
     let ports = no_ports(alloc);
-    let mut sink = MemSink::new(alloc, 20000, 1000, &[])?;
-    write(&plan, &ports, &mut sink)?;
-    Ok(sink)
+    write_columns(alloc, 100, &ports, sink)
 }
 
-// A row of 3,201 cells is 13 pieces, and the text is longer than a page.
+// Whether the text is longer than a page, with the lines of a wide plan first and the end of a pattern last.
+fn is_wide_text(text: &[u8]) -> bool {
+    text.len() > 8192
+        && text.starts_with(b"#C BLIFWW 2 P 32 L 3200 C 1\nx = 3201, y = 32, rule = WireWorld\n")
+        && text.ends_with(b"C!\n")
+}
+
+// A row of 3,201 cells is 13 pieces.
 #[test]
 fn a_wide_plan_is_written_in_lines_of_70_bytes(rt: HostRuntime) -> Result<(), Fail> {
-    let sink = wide_text(rt.alloc())?;
-    assert!(rt; sink.held().len() > 8192);
-    assert!(rt;
-        sink.held().starts_with(
-            b"#C BLIFWW 2 P 32 L 3200 C 1\nx = 3201, y = 32, rule = WireWorld\n"
-        )
-    );
-    assert!(rt; sink.held().ends_with(b"C!\n"));
+    let mut sink = MemSink::new(rt.alloc(), 20000, 1000, &[])?;
+    let written = write_wide(rt.alloc(), &mut sink)?;
+    must(written == Ok(()) && is_wide_text(sink.held()))?;
     Ok(())
 }

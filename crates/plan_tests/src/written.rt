@@ -1,8 +1,12 @@
 // Lists of cells that a test writes down.
-ghost use Rattle.std.specs.Prelude.{◌<◌, ◌^◌, ◌+◌, ◌-◌, IsTrue, OnOk, IfOk, length};
-ghost use Rattle.cell_core.specs.Sources.{are_there};
+ghost use Rattle.std.specs.Prelude.{◌≡◌, ◌<◌, ◌+◌, IsTrue, OnOk, IfOk, length};
+ghost use Rattle.cell_core.specs.Sources.{are_in_order, are_there};
+ghost use Rattle.cell_plans.specs.PlanOf.{IsPlannable};
+ghost use Rattle.lane_core.specs.Plans.{IsAdmissible};
 
 use cell_core::{Cell, CellList, Src};
+use cell_plans::{PlanError, plan_of};
+use lane_core::Plan;
 use lists::List;
 use std::alloc::Global;
 use std::test::Fail;
@@ -25,89 +29,85 @@ pub fn must(holds: bool) -> Result<(), &'static str>
     if holds {
         Ok(())
     } else {
-        Err("no list of cells")
+        Err("it does not hold")
     }
 }
 
-// Sources, each of which is there, where there are so many inputs, latches and cells.
-fn copied(
-    alloc: Global,
-    sources: &[Src],
-    inputs: u32,
-    latches: usize,
-    cells: usize,
-) -> Result<Vec<Src>, Fail>
-    ensures { IfOk result (λ v. IsTrue (are_there inputs latches cells v.items)) }
+// Whether each of the cells reads only what is there before it.
+fn are_in_order(cells: &[Cell], inputs: usize, latches: usize) -> bool
+    ensures { result ≡ are_in_order inputs latches 0 cells.now }
 {
-    let mut copies = Vec::new(alloc);
-    for src in sources {
-        must(src.is_there(inputs as usize, latches, cells))?;
-        copies.push(*src)?;
+    for (made, cell) in cells.iter().enumerate() {
+        if !cell.reads_there(inputs, latches, made) {
+            return false;
+        }
     }
-    Ok(copies)
+    true
 }
 
-// Sources, each of which is there in the list.
-fn copied_in(alloc: Global, list: &CellList, sources: &[Src]) -> Result<Vec<Src>, Fail>
-    ensures { IfOk result (λ v. IsTrue (are_there list.now.inputs (length list.now.starts) (length list.now.cells) v.items)) }
+// Whether each of the sources is there.
+fn are_there(sources: &[Src], inputs: usize, latches: usize, cells: usize) -> bool
+    ensures { result ≡ are_there inputs latches cells sources.now }
 {
-    let copies = copied(
-        alloc,
-        sources,
-        list.inputs,
-        list.starts.len(),
-        list.cells.len(),
-    )?;
-    Ok(copies)
+    sources
+        .iter()
+        .all(|src| src.is_there(inputs, latches, cells))
 }
 
-// The latches of the list, which read constant 0.
-fn latches_of(alloc: Global, written: &Written<'_>) -> Result<CellList, Fail> {
-    let zeros = vec![in alloc; Src::Zero; written.starts.len()]?;
-    let latches = copied(alloc, &zeros, written.inputs, written.starts.len(), 0)?;
-    must(latches.len() == written.starts.len())?;
-    Ok(CellList {
-        inputs: written.inputs,
-        cells: List::of(Vec::new(alloc)),
-        outs: List::of(Vec::new(alloc)),
-        latches: List::of(latches),
-        starts: List::of(written.starts.to_vec(alloc)?),
-        nets: List::of(Vec::new(alloc)),
-    })
-}
-
-// The list without its ports and nets, whose latches read constant 0.
-fn cells_of(alloc: Global, written: &Written<'_>) -> Result<CellList, Fail> {
-    let mut list = latches_of(alloc, written)?;
-    for cell in written.cells {
-        let (inputs, latches) = (list.inputs as usize, list.starts.len());
-        must(cell.reads_there(inputs, latches, list.cells.len()))?;
-        list.push(alloc, *cell)?;
-    }
-    Ok(list)
+// Fails where no list is written down, or a large one.
+fn check(written: &Written<'_>) -> Result<(), &'static str>
+    ensures order { OnOk result (IsTrue (are_in_order written.now.inputs (length written.now.starts.now) 0 written.now.cells.now)) }
+    ensures outs { OnOk result (IsTrue (are_there written.now.inputs (length written.now.starts.now) (length written.now.cells.now) written.now.outs.now)) }
+    ensures latches { OnOk result (IsTrue (are_there written.now.inputs (length written.now.starts.now) (length written.now.cells.now) written.now.latches.now)) }
+    ensures nets { OnOk result (IsTrue (are_there written.now.inputs (length written.now.starts.now) (length written.now.cells.now) written.now.nets.now)) }
+    ensures starts { OnOk result (length written.now.starts.now ≡ length written.now.latches.now) }
+    ensures small { OnOk result (written.now.inputs + length written.now.starts.now + length written.now.outs.now + length written.now.cells.now < 4000) }
+{
+    let inputs = written.inputs as usize;
+    let (latches, cells) = (written.starts.len(), written.cells.len());
+    must(are_in_order(written.cells, inputs, latches))?;
+    must(are_there(written.outs, inputs, latches, cells))?;
+    must(are_there(written.latches, inputs, latches, cells))?;
+    must(are_there(written.nets, inputs, latches, cells))?;
+    must(latches == written.latches.len())?;
+    must(written.inputs < 1000 && latches < 1000 && written.outs.len() < 1000 && cells < 1000)
 }
 
 /// The list that is written down.
 pub fn list_of(alloc: Global, written: &Written<'_>) -> Result<CellList, Fail>
-    ensures { IfOk result (λ list. list.inputs + length list.starts + length list.outs + length list.cells < 2 ^ 18 - 1) }
+    ensures { IfOk result IsPlannable }
 {
-    let list = cells_of(alloc, written)?;
-    let outs = copied_in(alloc, &list, written.outs)?;
-    let latches = copied_in(alloc, &list, written.latches)?;
-    let nets = copied_in(alloc, &list, written.nets)?;
-    must(
-        latches.len() == list.starts.len()
-            && list.inputs < 1000
-            && latches.len() < 1000
-            && outs.len() < 1000
-            && list.cells.len() < 1000,
-    )?;
+    check(written)?;
+    let cells = written.cells.to_vec(alloc)?;
+    let outs = written.outs.to_vec(alloc)?;
+    let latches = written.latches.to_vec(alloc)?;
+    let starts = written.starts.to_vec(alloc)?;
+    let nets = written.nets.to_vec(alloc)?;
     Ok(CellList {
-        inputs: list.inputs,
-        cells: list.cells,
+        inputs: written.inputs,
+        cells: List::of(cells),
         outs: List::of(outs),
         latches: List::of(latches),
-        starts: list.starts,
+        starts: List::of(starts),
         nets: List::of(nets),
     })
+}
+
+/// The plan of a list.
+pub fn plan_of_list(alloc: Global, list: &CellList) -> Result<Plan, Fail>
+    requires { IsPlannable list.now }
+    ensures { IfOk result IsAdmissible }
+{
+    match plan_of(alloc, list) {
+        Ok(plan) => Ok(plan),
+        Err(PlanError::NoMemory) => Err(Fail::new("no plan")),
+    }
+}
+
+/// The plan of a list that is written down.
+pub fn plan_of_written(alloc: Global, written: &Written<'_>) -> Result<Plan, Fail>
+    ensures { IfOk result IsAdmissible }
+{
+    let list = list_of(alloc, written)?;
+    plan_of_list(alloc, &list)
 }
