@@ -1,16 +1,17 @@
 // Patterns with their tables: circuits, and why some are none.
-ghost use Rattle.std.specs.Prelude.{IfOk};
 ghost use Rattle.lane_core.specs.Plans.{IsAdmissible};
 
+use crate::fails::expect_holds;
 use crate::plans::{BARE, Written, admitted};
 use grid_assembly::pattern_of;
 use lane_core::{Instr, Plan, latency, period};
 use lists::List;
 use pattern_reading::Ports;
-use std::alloc::Global;
+use std::alloc::{AllocError, Global};
 use std::test::Fail;
 use tile_match::{AuditError, CircuitFault, audit};
 use ww_base::expect;
+use ww_rule::Pattern;
 
 // A table, the items of its pattern, and what is said.
 struct Case {
@@ -121,41 +122,55 @@ fn answer_said(answer: &Result<Plan, AuditError>) -> &'static [u8] {
     }
 }
 
-// What is said of a pattern with a table.
-fn said(alloc: Global, table: &[u8], items: &[u8]) -> Result<&'static [u8], Fail> {
-    let mut text = table.to_vec(alloc)?;
-    text.extend_from_slice(items)?;
-    let pattern = rle_read::read(alloc, &text)?;
-    let ports = port_table::read(alloc, &text, pattern.width, pattern.height)?;
-    Ok(answer_said(&audit(alloc, &pattern, &ports)))
+// What is said of a pattern with the table of a text.
+fn expect_audit(alloc: Global, text: &[u8], pattern: &Pattern, want: &[u8]) -> Result<(), Fail> {
+    let ports = port_table::read(alloc, text, pattern.width, pattern.height)?;
+    expect(answer_said(&audit(alloc, pattern, &ports)), want)
+}
+
+fn expect_said(alloc: Global, text: &[u8], want: &[u8]) -> Result<(), Fail> {
+    let pattern = rle_read::read(alloc, text)?;
+    expect_audit(alloc, text, &pattern, want)
+}
+
+fn text_of(alloc: Global, case: &Case) -> Result<Vec<u8>, AllocError> {
+    let mut text = case.table.to_vec(alloc)?;
+    text.extend_from_slice(case.items)?;
+    Ok(text)
+}
+
+fn expect_case(alloc: Global, case: &Case) -> Result<(), Fail> {
+    let text = text_of(alloc, case)?;
+    expect_said(alloc, &text, case.said)
 }
 
 #[test]
 fn patterns_are_circuits_or_not(rt: HostRuntime) -> Result<(), Fail> {
     for case in CASES {
-        expect(said(rt.alloc(), case.table, case.items)?, case.said)?;
+        expect_case(rt.alloc(), case)?;
     }
     Ok(())
 }
 
-// Plans without ports: each instruction beside the one of its other half, and loops of which one starts with 1.
-const PLANS: &[Written<'static>] = &[
-    Written {
-        lanes: 4,
-        columns: &[
-            &[Instr::Swap(0), Instr::Fork(2)],
-            &[Instr::Xor(1)],
-            &[Instr::Or(0), Instr::AndNot(2)],
-            &[],
-        ],
-        latches: 0,
-        starts: &[],
-        ins: &[],
-        outs: &[],
-        nets: &[],
-    },
-    BARE,
-];
+// Each instruction beside the one of its other half.
+const FOUR_LANES: Written<'static> = Written {
+    lanes: 4,
+    columns: &[
+        &[Instr::Swap(0), Instr::Fork(2)],
+        &[Instr::Xor(1)],
+        &[Instr::Or(0), Instr::AndNot(2)],
+        &[],
+    ],
+    latches: 0,
+    starts: &[],
+    ins: &[],
+    outs: &[],
+    nets: &[],
+    tape: &[],
+};
+
+// Plans without ports: instructions, and loops of which one starts with 1.
+const PLANS: &[(&str, &Written<'static>)] = &[("four lanes", &FOUR_LANES), ("three loops", &BARE)];
 
 // Whether a plan was answered that has these columns and starts.
 fn is_plan(answer: &Result<Plan, AuditError>, plan: &Plan) -> bool {
@@ -172,25 +187,44 @@ fn is_plan(answer: &Result<Plan, AuditError>, plan: &Plan) -> bool {
         && read.starts.list.as_slice() == plan.starts.list.as_slice()
 }
 
-// Whether the drawing of a plan without ports is read as the plan.
-fn is_read_again(alloc: Global, written: &Written<'_>) -> Result<bool, Fail> {
-    let plan = admitted(alloc, written)?;
-    let ports = Ports {
-        p: period(&plan),
-        l: latency(&plan),
+// The table of a plan without ports.
+fn ports_of(alloc: Global, plan: &Plan) -> Ports
+    requires { IsAdmissible plan.now }
+{
+    Ports {
+        p: period(plan),
+        l: latency(plan),
         c: 1,
         ins: List::of(Vec::new(alloc)),
         outs: List::of(Vec::new(alloc)),
         nets: List::of(Vec::new(alloc)),
-    };
-    let pattern = pattern_of(alloc, &plan)?;
-    Ok(is_plan(&audit(alloc, &pattern, &ports), &plan))
+    }
+}
+
+// Whether a pattern with the table of a plan without ports is read as the plan.
+fn is_read(alloc: Global, pattern: &Pattern, plan: &Plan) -> bool
+    requires { IsAdmissible plan.now }
+{
+    let ports = ports_of(alloc, plan);
+    is_plan(&audit(alloc, pattern, &ports), plan)
+}
+
+fn expect_read(alloc: Global, about: &str, plan: &Plan) -> Result<(), Fail>
+    requires { IsAdmissible plan.now }
+{
+    let pattern = pattern_of(alloc, plan)?;
+    expect_holds(about, is_read(alloc, &pattern, plan))
+}
+
+fn expect_read_again(alloc: Global, about: &str, written: &Written<'_>) -> Result<(), Fail> {
+    let plan = admitted(alloc, written)?;
+    expect_read(alloc, about, &plan)
 }
 
 #[test]
 fn drawings_are_read_as_their_plans(rt: HostRuntime) -> Result<(), Fail> {
-    for written in PLANS {
-        assert!(rt; is_read_again(rt.alloc(), written)?);
+    for (about, written) in PLANS {
+        expect_read_again(rt.alloc(), about, written)?;
     }
     Ok(())
 }

@@ -1,12 +1,13 @@
 // A list that grows.
 ghost use Rattle.std.specs.Prelude.{◌≡◌, length};
 
+use crate::fails::expect_holds;
 use cell_core::{Cell, CellList, Src};
 use lists::List;
 use std::alloc::Global;
 use std::test::Fail;
 
-const ADDED: [Cell; 2] = [
+const ADDED: &[Cell] = &[
     Cell::Or(Src::Input(0), Src::Zero),
     Cell::AndNot(Src::One, Src::Cell(0)),
 ];
@@ -26,16 +27,20 @@ fn one_input(alloc: Global) -> CellList
     }
 }
 
+// Adds cells at the end, of which the second alone names constant 1.
+fn expect_added(list: &mut CellList, alloc: Global) -> Result<(), Fail>
+    requires inputs { list.old.inputs ≡ 1 }
+    requires cells { length list.old.cells ≡ 0 }
+{
+    list.push(alloc, Cell::Or(Src::Input(0), Src::Zero))?;
+    expect_holds("no constant 1", !list.names_one())?;
+    list.push(alloc, Cell::AndNot(Src::One, Src::Cell(0)))?;
+    expect_holds("constant 1", list.names_one())?;
+    expect_holds("both cells", list.cells.as_slice() == ADDED)
+}
+
 #[test]
 fn cells_are_added_at_the_end(rt: HostRuntime) -> Result<(), Fail> {
-    let alloc = rt.alloc();
-    let mut list = one_input(alloc);
-    list.push(alloc, Cell::Or(Src::Input(0), Src::Zero))?;
-    let named_at_first = list.names_one();
-    list.push(alloc, Cell::AndNot(Src::One, Src::Cell(0)))?;
-    assert_eq!(rt;
-        (named_at_first, list.names_one(), list.cells.as_slice()),
-        (false, true, ADDED.as_slice())
-    );
-    Ok(())
+    let mut list = one_input(rt.alloc());
+    expect_added(&mut list, rt.alloc())
 }

@@ -1,21 +1,11 @@
-// Worked values: what each instruction does, and the places of two small plans.
-ghost use Rattle.std.specs.Prelude.{◌≡◌, length};
+// What each instruction does.
+ghost use Rattle.std.specs.Prelude.{◌≡◌};
 ghost use Rattle.lane_core.specs.Plans.{IsAdmissible};
 
-use crate::plans::{OR, Written, admitted, column_of, in_cells, net_cells, out_cells};
-use lane_core::{Instr, Plan, Start, latency, period, run_columns, run_instrs};
+use crate::fails::expect_holds;
+use crate::plans::{Written, admitted, column_of};
+use lane_core::{Column, Instr, Plan, run_columns, run_instrs};
 use std::test::Fail;
-
-// Three columns without instructions, and two loops.
-const LOOPS: Written<'static> = Written {
-    lanes: 5,
-    columns: &[&[], &[], &[]],
-    latches: 2,
-    starts: &[Start { x: 64, y: 72 }],
-    ins: &[],
-    outs: &[2],
-    nets: &[],
-};
 
 // A Fork, and an Xor in the next column.
 const FORK_AND_XOR: Written<'static> = Written {
@@ -26,6 +16,7 @@ const FORK_AND_XOR: Written<'static> = Written {
     ins: &[],
     outs: &[],
     nets: &[],
+    tape: &[],
 };
 
 // The bits that an instruction finds on its upper and its lower lane, and those that it puts there.
@@ -62,15 +53,19 @@ fn after(instr: Instr, bits: [bool; 4]) -> Option<[bool; 4]> {
     Some(bits)
 }
 
+// Fails where an instruction on two lanes puts other bits there.
+fn expect_answer(instr: Instr, found: (bool, bool), left: (bool, bool)) -> Result<(), Fail> {
+    if after(instr, [true, found.0, found.1, true]) == Some([true, left.0, left.1, true]) {
+        Ok(())
+    } else {
+        Err(Fail::new(format_args!("{instr:?} on {} {}", found.0, found.1)))
+    }
+}
+
 #[test]
 fn each_instruction_changes_its_two_lanes(rt: HostRuntime) -> Result<(), Fail> {
-    for (instr, (upper, lower), (above, below)) in ANSWERS {
-        let bits = after(*instr, [true, *upper, *lower, true]);
-        assert_eq!(rt;
-            bits,
-            Some([true, *above, *below, true]),
-            "{instr:?} on {upper} {lower}"
-        );
+    for (instr, found, left) in ANSWERS {
+        expect_answer(*instr, *found, *left)?;
     }
     Ok(())
 }
@@ -85,49 +80,20 @@ fn after_columns(plan: &Plan, bits: [bool; 3]) -> [bool; 3]
     bits
 }
 
-#[test]
-fn instructions_and_columns_are_done_in_order(rt: HostRuntime) -> Result<(), Fail> {
+// Whether instructions, and the columns of a plan, are done in order.
+fn are_in_order(plan: &Plan) -> bool
+    requires admissible { IsAdmissible plan.now }
+    requires lanes { plan.now.lanes ≡ 3 }
+{
     let mut bits = [true, false, true];
     run_instrs(&[Instr::Fork(0), Instr::Xor(1)], &mut bits);
-    assert_eq!(rt; bits, [true, false, false]);
+    bits == [true, false, false] && after_columns(plan, [true, false, true]) == bits
+}
+
+#[test]
+fn instructions_and_columns_are_done_in_order(rt: HostRuntime) -> Result<(), Fail> {
     let plan = admitted(rt.alloc(), &FORK_AND_XOR)?;
-    assert_eq!(rt;
-        after_columns(&plan, [true, false, true]),
-        [true, false, false]
-    );
-    Ok(())
-}
-
-// The cells of an Or's inputs, its output and its nets.
-const OR_INS: &[(u64, u64, u64)] = &[(0, 8, 0), (0, 24, 0)];
-
-const OR_OUTS: &[(u64, u64, u64)] = &[(32, 8, 32)];
-
-const OR_NETS: &[(u64, u64, u64)] = &[(0, 8, 0), (0, 24, 0), (31, 8, 31)];
-
-#[test]
-fn an_or_has_its_places(rt: HostRuntime) -> Result<(), Fail> {
-    let plan = admitted(rt.alloc(), &OR)?;
-    let ins = in_cells(rt.alloc(), &plan)?;
-    let outs = out_cells(rt.alloc(), &plan)?;
-    let nets = net_cells(rt.alloc(), &plan)?;
-    assert_eq!(rt; (period(&plan), latency(&plan)), (32, 32));
-    assert_eq!(rt;
-        (ins.as_slice(), outs.as_slice(), nets.as_slice()),
-        (OR_INS, OR_OUTS, OR_NETS)
-    );
-    Ok(())
-}
-
-#[test]
-fn loops_lengthen_the_period(rt: HostRuntime) -> Result<(), Fail> {
-    let plan = admitted(rt.alloc(), &LOOPS)?;
-    let outs = out_cells(rt.alloc(), &plan)?;
-    assert_eq!(rt;
-        (period(&plan), latency(&plan), outs.as_slice()),
-        (448, 96, [(160, 40, 96)].as_slice())
-    );
-    Ok(())
+    expect_holds("the order", are_in_order(&plan))
 }
 
 // The instructions that are found on lanes.
@@ -141,11 +107,17 @@ const FOUND: &[(u32, Option<Instr>)] = &[
     (6, None),
 ];
 
+fn expect_found(column: &Column) -> Result<(), Fail> {
+    for (lane, instr) in FOUND {
+        if column.instr_on(*lane) != *instr {
+            return Err(Fail::new(format_args!("at lane {lane}")));
+        }
+    }
+    Ok(())
+}
+
 #[test]
 fn a_column_is_searched_by_lane(rt: HostRuntime) -> Result<(), Fail> {
     let column = column_of(rt.alloc(), &[Instr::Or(1), Instr::Swap(4)])?;
-    for (lane, instr) in FOUND {
-        assert_eq!(rt; column.instr_on(*lane), *instr, "at {lane}");
-    }
-    Ok(())
+    expect_found(&column)
 }

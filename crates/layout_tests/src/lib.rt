@@ -8,9 +8,13 @@ mod bringing;
 #[cfg(test)]
 mod cells;
 #[cfg(test)]
+mod circuits;
+#[cfg(test)]
 mod closing;
 #[cfg(test)]
-mod drawings;
+mod facts;
+#[cfg(test)]
+mod fails;
 #[cfg(test)]
 mod lanes;
 #[cfg(test)]
@@ -22,6 +26,8 @@ mod plans;
 #[cfg(test)]
 mod programs;
 #[cfg(test)]
+mod rules;
+#[cfg(test)]
 mod slots;
 #[cfg(test)]
 mod tapes;
@@ -29,3 +35,5 @@ mod tapes;
 mod tiles;
 #[cfg(test)]
 mod windows;
+#[cfg(test)]
+mod worked;

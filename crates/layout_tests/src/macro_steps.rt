@@ -1,38 +1,21 @@
-// Signals of small plans, and the rules of ports.
+// Signals of small plans, block by block.
 ghost use Rattle.lane_core.specs.Plans.{IsAdmissible};
 ghost use Rattle.macro_grid.specs.Edges.{IsEdgesOf, lit_of};
 ghost use Rattle.macro_grid.specs.Planes.{IsDrawnAfter32};
+ghost use Rattle.plan_layout.specs.Starts.{HasStartEdges};
 ghost use Rattle.plan_layout.specs.Tape.{drawn_tiling};
 ghost use Rattle.tile_library.specs.Drawings.{shipped_drawing};
 
-use crate::plans::{BARE, OR, Written, admitted, plan_of};
+use crate::fails::expect_turn;
+use crate::plans::{BARE, LOOP, OR, admitted};
+use crate::tapes::taped;
 use grid_assembly::laws::keeps_law;
 use lane_core::Plan;
-use macro_grid::{Edges, admissible, macro_step};
+use macro_grid::{Edges, EdgesError, macro_step};
+use std::alloc::Global;
+use std::mem;
 use std::test::Fail;
 use tile_library::Shipped;
-
-// Whether no edge of the blocks in three columns and three lanes is lit.
-fn are_dark(edges: &Edges) -> bool {
-    for column in 0..3 {
-        for lane in 0..3 {
-            if edges.beside(column, lane) || edges.above(column, lane) {
-                return false;
-            }
-        }
-    }
-    true
-}
-
-#[test]
-fn dark_edges_stay_dark(rt: HostRuntime) -> Result<(), Fail> {
-    let plan = admitted(rt.alloc(), &OR)?;
-    let start = Edges::start(rt.alloc(), &plan)?;
-    let mut after = Edges::start(rt.alloc(), &plan)?;
-    macro_step(&plan, &start, &mut after);
-    assert_eq!(rt; (are_dark(&start), are_dark(&after)), (true, true));
-    Ok(())
-}
 
 // A macro step is 32 generations of the plane in the shipped drawings.
 fn step_shipped(plan: &Plan, old: &Edges, new: &mut Edges)
@@ -45,13 +28,77 @@ fn step_shipped(plan: &Plan, old: &Edges, new: &mut Edges)
     macro_step(plan, old, new);
 }
 
+/// The edges of a plan after so many macro steps.
+pub fn edges_after(alloc: Global, plan: &Plan, steps: u64) -> Result<Edges, EdgesError>
+    requires admissible { IsAdmissible plan.now }
+    requires starts { HasStartEdges plan.now }
+{
+    let mut edges = Edges::start(alloc, plan)?;
+    let mut following = Edges::start(alloc, plan)?;
+    for step in 0..steps {
+        step_shipped(plan, &edges, &mut following);
+        mem::swap(&mut edges, &mut following);
+    }
+    Ok(edges)
+}
+
+// Whether no edge of the blocks in three columns and three lanes is lit.
+fn are_dark(edges: &Edges) -> bool {
+    for block in 0..9 {
+        if edges.beside(block / 3, block % 3) || edges.above(block / 3, block % 3) {
+            return false;
+        }
+    }
+    true
+}
+
+fn expect_dark(alloc: Global, plan: &Plan, steps: u64) -> Result<(), Fail>
+    requires admissible { IsAdmissible plan.now }
+    requires starts { HasStartEdges plan.now }
+{
+    let edges = edges_after(alloc, plan, steps)?;
+    expect_turn("dark after steps", steps, are_dark(&edges))
+}
+
+fn stay_dark(alloc: Global, plan: &Plan) -> Result<(), Fail>
+    requires admissible { IsAdmissible plan.now }
+    requires starts { HasStartEdges plan.now }
+{
+    expect_dark(alloc, plan, 0)?;
+    expect_dark(alloc, plan, 1)
+}
+
 #[test]
-fn dark_edges_stay_dark_in_the_shipped_drawings(rt: HostRuntime) -> Result<(), Fail> {
+fn dark_edges_stay_dark(rt: HostRuntime) -> Result<(), Fail> {
     let plan = admitted(rt.alloc(), &OR)?;
-    let start = Edges::start(rt.alloc(), &plan)?;
-    let mut after = Edges::start(rt.alloc(), &plan)?;
-    step_shipped(&plan, &start, &mut after);
-    assert_eq!(rt; (are_dark(&start), are_dark(&after)), (true, true));
+    stay_dark(rt.alloc(), &plan)
+}
+
+// Whether the edges at the west sides of three blocks of a column are lit.
+fn lit(edges: &Edges, column: u64) -> [bool; 3] {
+    [
+        edges.beside(column, 0),
+        edges.beside(column, 1),
+        edges.beside(column, 2),
+    ]
+}
+
+fn expect_round(alloc: Global, plan: &Plan, steps: u64) -> Result<(), Fail>
+    requires admissible { IsAdmissible plan.now }
+    requires starts { HasStartEdges plan.now }
+{
+    let edges = edges_after(alloc, plan, steps)?;
+    let want = [steps % 36 == 0, false, steps == 18];
+    expect_turn("round after steps", steps, lit(&edges, 3) == want)
+}
+
+fn goes_round(alloc: Global, plan: &Plan) -> Result<(), Fail>
+    requires admissible { IsAdmissible plan.now }
+    requires starts { HasStartEdges plan.now }
+{
+    for steps in 0..37 {
+        expect_round(alloc, plan, steps)?;
+    }
     Ok(())
 }
 
@@ -60,60 +107,30 @@ fn dark_edges_stay_dark_in_the_shipped_drawings(rt: HostRuntime) -> Result<(), F
 #[test]
 fn an_electron_goes_round_a_loop(rt: HostRuntime) -> Result<(), Fail> {
     let plan = admitted(rt.alloc(), &BARE)?;
-    let mut current = Edges::start(rt.alloc(), &plan)?;
-    let mut following = Edges::start(rt.alloc(), &plan)?;
-    for step in 0..36 {
-        let lit = [
-            current.beside(3, 0),
-            current.beside(3, 1),
-            current.beside(3, 2),
-        ];
-        assert_eq!(rt; lit, [step == 0, false, step == 18], "after {step} steps");
-        macro_step(&plan, &current, &mut following);
-        std::mem::swap(&mut current, &mut following);
+    goes_round(rt.alloc(), &plan)
+}
+
+fn expect_run_in(alloc: Global, plan: &Plan, column: u64) -> Result<(), Fail>
+    requires admissible { IsAdmissible plan.now }
+    requires starts { HasStartEdges plan.now }
+{
+    let edges = edges_after(alloc, plan, column)?;
+    expect_turn("at column", column, edges.beside(column, 0))
+}
+
+fn runs_in(alloc: Global, plan: &Plan) -> Result<(), Fail>
+    requires admissible { IsAdmissible plan.now }
+    requires starts { HasStartEdges plan.now }
+{
+    for column in 0..9 {
+        expect_run_in(alloc, plan, column)?;
     }
-    assert!(rt; current.beside(3, 0));
     Ok(())
 }
 
-// An Or without ports.
-const OR_ALONE: Written<'static> = Written {
-    ins: &[],
-    outs: &[],
-    nets: &[],
-    ..OR
-};
-
-// The lanes and the loops of an Or's plan, its inputs and its outputs, and whether it is admissible.
-const PORTS: &[(u32, u32, &[u32], &[u32], bool)] = &[
-    (2, 0, &[0, 1], &[0], true),
-    (3, 0, &[0, 2], &[1], true),
-    (1, 0, &[0], &[0], false),
-    (0, 0, &[], &[], false),
-    (2, 1, &[0], &[0], true),
-    (2, 1, &[1], &[0], false),
-    (2, 0, &[1, 1], &[0], false),
-    (2, 0, &[0, 1], &[2], false),
-    (65_537, 0, &[0, 65_536], &[65_536, 65_535], true),
-    (65_537, 0, &[0, 65_536, 65_536], &[0], false),
-    (65_537, 0, &[0], &[65_535, 0, 65_536, 65_535], false),
-    (u32::MAX, 0, &[u32::MAX - 1, 0], &[u32::MAX - 1], true),
-    (u32::MAX, 0, &[u32::MAX - 1, 0, u32::MAX - 1], &[], false),
-    (u32::MAX, 0, &[u32::MAX], &[], false),
-];
-
+// The bit 1 of the second cycle is at the west side of one tile after the other.
 #[test]
-fn each_rule_on_ports_and_lanes_is_kept(rt: HostRuntime) -> Result<(), Fail> {
-    for (lanes, latches, ins, outs, want) in PORTS {
-        let written = Written {
-            lanes: *lanes,
-            latches: *latches,
-            ins,
-            outs,
-            ..OR_ALONE
-        };
-        let plan = plan_of(rt.alloc(), &written)?;
-        assert_eq!(rt; admissible(&plan), *want, "{lanes} lanes, {latches} loops");
-    }
-    Ok(())
+fn a_tape_runs_in(rt: HostRuntime) -> Result<(), Fail> {
+    let plan = taped(rt.alloc(), &LOOP, &[b"01"])?;
+    runs_in(rt.alloc(), &plan)
 }

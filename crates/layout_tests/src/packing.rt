@@ -1,8 +1,8 @@
-// Worked values: the columns of small programs.
-
+// The columns of small programs.
+use crate::fails::expect_holds;
 use crate::programs::{Listed, program_of};
 use column_packer::pack;
-use lane_core::{Column, Instr};
+use lane_core::{Column, Instr, Program};
 use std::alloc::Global;
 use std::test::Fail;
 
@@ -44,21 +44,40 @@ fn are_columns(columns: &[Column], want: &[&[Instr]]) -> bool {
     same
 }
 
-fn packed(alloc: Global, listed: &Listed<'_>) -> Result<Vec<Column>, Fail> {
+fn expect_packed(
+    alloc: Global,
+    about: &str,
+    program: &Program,
+    want: &[&[Instr]],
+) -> Result<(), Fail> {
+    let columns = pack(alloc, program)?;
+    expect_holds(about, are_columns(&columns, want))
+}
+
+fn expect_columns(
+    alloc: Global,
+    about: &str,
+    listed: &Listed<'_>,
+    want: &[&[Instr]],
+) -> Result<(), Fail> {
     let program = program_of(alloc, listed)?;
-    Ok(pack(alloc, &program)?)
+    expect_packed(alloc, about, &program, want)
 }
 
-#[test]
-fn each_instruction_comes_first_after_its_lanes_uses(rt: HostRuntime) -> Result<(), Fail> {
-    let columns = packed(rt.alloc(), &FIVE_LANES)?;
-    assert!(rt; are_columns(&columns, FIVE_LANES_COLUMNS));
-    Ok(())
-}
+// Programs and their columns.
+const PACKED: &[(&str, &Listed<'static>, &[&[Instr]])] = &[
+    (
+        "each instruction comes first after its lanes' uses",
+        &FIVE_LANES,
+        FIVE_LANES_COLUMNS,
+    ),
+    ("a column is sorted", &UPSIDE_DOWN, UPSIDE_DOWN_COLUMNS),
+];
 
 #[test]
-fn a_column_is_sorted(rt: HostRuntime) -> Result<(), Fail> {
-    let columns = packed(rt.alloc(), &UPSIDE_DOWN)?;
-    assert!(rt; are_columns(&columns, UPSIDE_DOWN_COLUMNS));
+fn programs_are_packed(rt: HostRuntime) -> Result<(), Fail> {
+    for (about, listed, want) in PACKED {
+        expect_columns(rt.alloc(), about, listed, want)?;
+    }
     Ok(())
 }

@@ -4,13 +4,14 @@ ghost use Rattle.lane_core.specs.Instrs.{are_sorted_apart, is_above};
 ghost use Rattle.lane_core.specs.Plans.{IsAdmissible};
 ghost use Rattle.plan_layout.specs.Starts.{HasStartEdges};
 
-use lane_core::{Column, Instr, NetPlace, Plan, Start, Starts, in_cell, net_cell, out_cell};
+use lane_core::{Column, Instr, NetPlace, Plan, Start, Starts};
 use lists::List;
 use macro_grid::admissible;
 use std::alloc::{AllocError, Global};
 use std::test::Fail;
 
-/// A plan as it is written down: the instructions of each column, at most two of them.
+/// A plan as it is written down: the instructions of each column, at most two of them, and the bits of each input on its
+/// tape, a letter for each bit.
 #[derive(Drop)]
 pub struct Written<'a> {
     pub lanes: u32,
@@ -20,6 +21,7 @@ pub struct Written<'a> {
     pub ins: &'a [u32],
     pub outs: &'a [u32],
     pub nets: &'a [NetPlace],
+    pub tape: &'a [&'a [u8]],
 }
 
 /// An Or on two lanes: net 0 and net 1 are the inputs, net 2 is the output.
@@ -44,6 +46,7 @@ pub const OR: Written<'static> = Written {
             after: Some(0),
         },
     ],
+    tape: &[],
 };
 
 /// Three loops alone, of which the first starts with 1.
@@ -55,6 +58,19 @@ pub const BARE: Written<'static> = Written {
     ins: &[],
     outs: &[],
     nets: &[],
+    tape: &[],
+};
+
+/// Two lanes and a loop that starts with 1: the Or takes its bit, and the Fork gives it to the output and back to the loop.
+pub const LOOP: Written<'static> = Written {
+    lanes: 2,
+    columns: &[&[Instr::Or(0)], &[Instr::Fork(0)]],
+    latches: 1,
+    starts: &[Start { x: 32, y: 24 }],
+    ins: &[0],
+    outs: &[0],
+    nets: &[],
+    tape: &[],
 };
 
 // Whether the lanes of the second are below those of the first.
@@ -92,24 +108,55 @@ fn columns_of(alloc: Global, written: &[&[Instr]]) -> Result<List<Column>, Fail>
     Ok(List::of(columns))
 }
 
-/// The plan that is written down.
-pub fn plan_of(alloc: Global, written: &Written<'_>) -> Result<Plan, Fail>
-    ensures { IfOk result (λ plan. plan.lanes ≡ written.now.lanes) }
+fn bits_of(alloc: Global, letters: &[u8]) -> Result<List<bool>, AllocError> {
+    let bits = letters.iter().map(|letter| *letter == b'1').collect(alloc)?;
+    Ok(List::of(bits))
+}
+
+/// Lists of bits, a letter for each bit.
+pub fn lists_of(alloc: Global, written: &[&[u8]]) -> Result<Vec<List<bool>>, AllocError> {
+    let mut lists = Vec::new(alloc);
+    for letters in written {
+        lists.push(bits_of(alloc, letters)?)?;
+    }
+    Ok(lists)
+}
+
+// A plan of these columns alone.
+fn with_columns(alloc: Global, written: &Written<'_>, columns: List<Column>) -> Plan
+    ensures { result.lanes ≡ written.now.lanes }
 {
-    let mut plan = Plan {
+    Plan {
         lanes: written.lanes,
-        columns: columns_of(alloc, written.columns)?,
+        columns,
         latches: written.latches,
         starts: Starts::of(Vec::new(alloc)),
         ins: List::of(Vec::new(alloc)),
         outs: List::of(Vec::new(alloc)),
         nets: List::of(Vec::new(alloc)),
         tape: List::of(Vec::new(alloc)),
-    };
+    }
+}
+
+// Writes the rest of a plan.
+fn fill(plan: &mut Plan, alloc: Global, written: &Written<'_>) -> Result<(), AllocError>
+    ensures { IfOk result (λ _. plan.new.lanes ≡ plan.old.lanes) }
+{
     plan.starts = Starts::of(written.starts.to_vec(alloc)?);
     plan.ins = List::of(written.ins.to_vec(alloc)?);
     plan.outs = List::of(written.outs.to_vec(alloc)?);
     plan.nets = List::of(written.nets.to_vec(alloc)?);
+    plan.tape = List::of(lists_of(alloc, written.tape)?);
+    Ok(())
+}
+
+/// The plan that is written down.
+pub fn plan_of(alloc: Global, written: &Written<'_>) -> Result<Plan, Fail>
+    ensures { IfOk result (λ plan. plan.lanes ≡ written.now.lanes) }
+{
+    let columns = columns_of(alloc, written.columns)?;
+    let mut plan = with_columns(alloc, written, columns);
+    fill(&mut plan, alloc, written)?;
     Ok(plan)
 }
 
@@ -133,50 +180,4 @@ pub fn admitted(alloc: Global, written: &Written<'_>) -> Result<Plan, Fail>
     ensures lanes { IfOk result (λ plan. plan.lanes ≡ written.now.lanes) }
 {
     checked(plan_of(alloc, written)?)
-}
-
-/// The same with other starts.
-pub fn started(alloc: Global, written: &Written<'_>, starts: &[Start]) -> Result<Plan, Fail>
-    ensures admissible { IfOk result IsAdmissible }
-    ensures lanes { IfOk result (λ plan. plan.lanes ≡ written.now.lanes) }
-{
-    let mut plan = plan_of(alloc, written)?;
-    plan.starts = Starts::of(starts.to_vec(alloc)?);
-    checked(plan)
-}
-
-/// The cells of the inputs.
-pub fn in_cells(alloc: Global, plan: &Plan) -> Result<Vec<(u64, u64, u64)>, AllocError>
-    requires { IsAdmissible plan.now }
-    ensures { IfOk result (λ cells. length cells.items ≡ length plan.now.ins) }
-{
-    let mut cells = Vec::new(alloc);
-    for i in 0..plan.ins.len() {
-        cells.push(in_cell(plan, i))?;
-    }
-    Ok(cells)
-}
-
-/// The cells of the outputs.
-pub fn out_cells(alloc: Global, plan: &Plan) -> Result<Vec<(u64, u64, u64)>, AllocError>
-    requires { IsAdmissible plan.now }
-    ensures { IfOk result (λ cells. length cells.items ≡ length plan.now.outs) }
-{
-    let mut cells = Vec::new(alloc);
-    for i in 0..plan.outs.len() {
-        cells.push(out_cell(plan, i))?;
-    }
-    Ok(cells)
-}
-
-/// The cells of the nets.
-pub fn net_cells(alloc: Global, plan: &Plan) -> Result<Vec<(u64, u64, u64)>, AllocError>
-    requires { IsAdmissible plan.now }
-    ensures { IfOk result (λ cells. length cells.items ≡ length plan.now.nets) }
-{
-    let mut cells = Vec::new(alloc);
-    for i in 0..plan.nets.len() {
-        cells.push(net_cell(plan, i))?;
-    }
-    Ok(cells)
 }

@@ -1,4 +1,5 @@
 // The rows of the timing law's test, and the page of all tiles.
+use crate::fails::expect_holds;
 use page::PAGE;
 use std::alloc::{AllocError, Global};
 use std::test::Fail;
@@ -50,21 +51,25 @@ fn or_without_diodes() -> [State; 1024] {
     cells
 }
 
-#[test]
-fn law_holds_of_the_or_drawing_alone(rt: HostRuntime) -> Result<(), Fail> {
+// Whether the law holds of the drawing, of one without diodes, as one of another kind, without its last cell, and with a
+// head.
+fn laws() -> [bool; 5] {
     let or = or_cells();
     let all_but_one = &or[..1023];
     let mut lit = or_cells();
     lit[8 * 32] = State::Head;
-    assert!(rt; law_holds(&or, Kind::Or), "the drawing");
-    assert!(rt;
-        !law_holds(&or_without_diodes(), Kind::Or),
-        "without diodes"
-    );
-    assert!(rt; !law_holds(&or, Kind::Xor), "another kind");
-    assert!(rt; !law_holds(all_but_one, Kind::Or), "another length");
-    assert!(rt; !law_holds(&lit, Kind::Or), "with a head");
-    Ok(())
+    [
+        law_holds(&or, Kind::Or),
+        law_holds(&or_without_diodes(), Kind::Or),
+        law_holds(&or, Kind::Xor),
+        law_holds(all_but_one, Kind::Or),
+        law_holds(&lit, Kind::Or),
+    ]
+}
+
+#[test]
+fn law_holds_of_the_or_drawing_alone(rt: HostRuntime) {
+    assert_eq!(rt; laws(), [true, false, false, false, false]);
 }
 
 // The letter of a cell: its port's, or whether it is a conductor.
@@ -138,8 +143,7 @@ fn sections(alloc: Global) -> Result<String, AllocError> {
 #[test]
 fn page_shows_every_tile(rt: HostRuntime) -> Result<(), Fail> {
     let sections = sections(rt.alloc())?;
-    assert!(rt; PAGE.ends_with(sections.as_str()));
-    Ok(())
+    expect_holds("the page", PAGE.ends_with(sections.as_str()))
 }
 
 // What a tile lights, if its first entry is lit alone.
@@ -147,12 +151,17 @@ fn lit_by_first<T: Tile>(tile: &T) -> [bool; 2] {
     tile.answer([true, false])
 }
 
+fn lights() -> [[bool; 2]; 4] {
+    [
+        lit_by_first(&tiles::Swap),
+        lit_by_first(&tiles::Fork),
+        lit_by_first(&tiles::SouthWest),
+        [tiles::SouthWest.cell(23, 7), tiles::SouthWest.cell(24, 7)],
+    ]
+}
+
 #[test]
-fn tiles_answer_by_themselves(rt: HostRuntime) -> Result<(), Fail> {
-    assert_eq!(rt; lit_by_first(&tiles::Swap), [false, true]);
-    assert_eq!(rt; lit_by_first(&tiles::Fork), [true, true]);
-    assert_eq!(rt; lit_by_first(&tiles::SouthWest), [true, false]);
-    assert_eq!(rt; tiles::SouthWest::ENTRIES, [(16, 0), (0, 0)]);
-    assert!(rt; tiles::SouthWest.cell(23, 7) && !tiles::SouthWest.cell(24, 7));
-    Ok(())
+fn tiles_answer_by_themselves(rt: HostRuntime) {
+    let want = [[false, true], [true, true], [true, false], [true, false]];
+    assert!(rt; lights() == want && tiles::SouthWest::ENTRIES == [(16, 0), (0, 0)]);
 }

@@ -1,26 +1,25 @@
 // A window's step, on an electron.
-use std::test::Fail;
 use tile_timing::window_step;
 use ww_rule::State;
 
-#[test]
-fn electron_moves_and_passes_no_border(rt: HostRuntime) -> Result<(), Fail> {
+// The cells of a wire after a step in one row, in two rows and in a column.
+fn stepped() -> [[State; 4]; 3] {
     let wire = [State::Tail, State::Head, State::Conductor, State::Conductor];
-    let mut next = [State::Empty; 4];
-    window_step(&wire, &mut next, 4);
-    assert!(rt;
-        next == [State::Conductor, State::Tail, State::Head, State::Conductor],
-        "one row"
-    );
-    window_step(&wire, &mut next, 2);
-    assert!(rt;
-        next == [State::Conductor, State::Tail, State::Head, State::Head],
-        "two rows"
-    );
-    window_step(&wire, &mut next, 1);
-    assert!(rt;
-        next == [State::Conductor, State::Tail, State::Head, State::Conductor],
-        "a column"
-    );
-    Ok(())
+    let mut row = [State::Empty; 4];
+    window_step(&wire, &mut row, 4);
+    let mut rows = [State::Empty; 4];
+    window_step(&wire, &mut rows, 2);
+    let mut column = [State::Empty; 4];
+    window_step(&wire, &mut column, 1);
+    [row, rows, column]
+}
+
+#[test]
+fn electron_moves_and_passes_no_border(rt: HostRuntime) {
+    let want = [
+        [State::Conductor, State::Tail, State::Head, State::Conductor],
+        [State::Conductor, State::Tail, State::Head, State::Head],
+        [State::Conductor, State::Tail, State::Head, State::Conductor],
+    ];
+    assert!(rt; stepped() == want);
 }

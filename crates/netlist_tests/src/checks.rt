@@ -1,27 +1,34 @@
 // Texts whose models are a design, and texts whose models are at fault.
-use blif_check::{CheckError, Fault, check};
-use blif_lex::lines;
-use blif_reader::read;
+use crate::texts::{fault_shown, models_of};
+use blif_check::{CheckError, Design, check};
 use std::alloc::{AllocError, Global};
 use std::test::Fail;
 use ww_base::expect;
 
-fn fault_shown(alloc: Global, fault: &Fault) -> Result<Vec<u8>, AllocError> {
-    let start = format!(in alloc; "B{} line {}: ", fault.kind.number(), fault.line)?;
-    let mut shown = start.into_bytes();
-    shown.extend_from_slice(fault.word.as_slice())?;
-    Ok(shown)
+// The number of models of a design, or the models' fault.
+fn checked_shown(
+    alloc: Global,
+    checked: &Result<Design, CheckError>,
+) -> Result<Vec<u8>, AllocError> {
+    match checked {
+        Ok(design) => Ok(format!(in alloc; "{} models", design.models.len())?.into_bytes()),
+        Err(CheckError::Fault(fault)) => fault_shown(alloc, fault),
+        Err(CheckError::NoMemory) => Err(AllocError),
+    }
 }
 
-// The number of models of a text, or their fault.
-fn shown(alloc: Global, text: &[u8]) -> Result<Vec<u8>, Fail> {
-    let models = read(alloc, lines(alloc, text)?.as_slice())?;
-    let shown = match check(alloc, models) {
-        Ok(design) => format!(in alloc; "{} models", design.models.len())?.into_bytes(),
-        Err(CheckError::Fault(fault)) => fault_shown(alloc, &fault)?,
-        Err(CheckError::NoMemory) => return Err(Fail::new("no memory")),
-    };
-    Ok(shown)
+fn expect_checked(
+    alloc: Global,
+    checked: &Result<Design, CheckError>,
+    want: &[u8],
+) -> Result<(), Fail> {
+    expect(&checked_shown(alloc, checked)?, want)
+}
+
+// What the check of a text's models says.
+fn expect_check(alloc: Global, text: &[u8], want: &[u8]) -> Result<(), Fail> {
+    let models = models_of(alloc, text)?;
+    expect_checked(alloc, &check(alloc, models), want)
 }
 
 // Texts, and how many models they have or their fault.
@@ -78,7 +85,7 @@ const CASES: &[(&[u8], &[u8])] = &[
 #[test]
 fn the_lowest_rule_and_there_the_earliest_word(rt: HostRuntime) -> Result<(), Fail> {
     for (text, want) in CASES {
-        expect(&shown(rt.alloc(), text)?, want)?;
+        expect_check(rt.alloc(), text, want)?;
     }
     Ok(())
 }

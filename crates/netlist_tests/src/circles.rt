@@ -1,4 +1,6 @@
-use lists::{Bytes, List};
+// Circles of models that read one another.
+use crate::texts::fault_shown;
+use lists::{Bytes, List, copied};
 use model_circles::circle_fault;
 use model_index::NamedModels;
 use netlist_core::{Model, Subckt};
@@ -7,27 +9,30 @@ use std::alloc::{AllocError, Global};
 use std::test::Fail;
 use ww_base::expect;
 
-fn name_of(alloc: Global, letter: u8) -> Result<Bytes, AllocError> {
-    Ok(List::of([letter].to_vec(alloc)?))
+// A model as it is written down: its name, and for each of its subckt lines its number and the letter of a model.
+struct Written {
+    name: u8,
+    subckts: &'static [(u64, u8)],
 }
 
-// A model whose name is the first letter; then come its subckt lines, each a number and the letter of a model.
-fn model(alloc: Global, text: &[u8]) -> Result<Model, AllocError> {
+fn subckt(alloc: Global, line: u64, letter: u8) -> Result<Subckt, AllocError> {
+    Ok(Subckt {
+        line,
+        model: copied(alloc, &[letter])?,
+        pins: List::of(Vec::new(alloc)),
+    })
+}
+
+fn subckts_of(alloc: Global, written: &[(u64, u8)]) -> Result<Vec<Subckt>, AllocError> {
     let mut subckts = Vec::new(alloc);
-    let mut line = 0;
-    for (place, byte) in text.iter().enumerate() {
-        if place % 2 == 1 {
-            line = u64::from(*byte);
-        } else if place > 0 {
-            subckts.push(Subckt {
-                line,
-                model: name_of(alloc, *byte)?,
-                pins: List::of(Vec::new(alloc)),
-            })?;
-        }
+    for (line, letter) in written {
+        subckts.push(subckt(alloc, *line, *letter)?)?;
     }
-    let name = name_of(alloc, text.first().copied().unwrap_or(b'-'))?;
-    Ok(Model {
+    Ok(subckts)
+}
+
+fn model_with(alloc: Global, name: Bytes, subckts: Vec<Subckt>) -> Model {
+    Model {
         line: 1,
         name,
         ins: List::of(Vec::new(alloc)),
@@ -36,52 +41,147 @@ fn model(alloc: Global, text: &[u8]) -> Result<Model, AllocError> {
         covers: List::of(Vec::new(alloc)),
         latches: List::of(Vec::new(alloc)),
         subckts: List::of(subckts),
-    })
+    }
 }
 
-fn fault_of(alloc: Global, texts: &[&[u8]]) -> Result<Option<Fault>, AllocError> {
+fn model(alloc: Global, written: &Written) -> Result<Model, AllocError> {
+    let name = copied(alloc, &[written.name])?;
+    Ok(model_with(alloc, name, subckts_of(alloc, written.subckts)?))
+}
+
+fn models_of(alloc: Global, written: &[Written]) -> Result<Vec<Model>, AllocError> {
     let mut models = Vec::new(alloc);
-    for text in texts {
-        models.push(model(alloc, text)?)?;
+    for it in written {
+        models.push(model(alloc, it)?)?;
     }
-    let named = NamedModels::new(alloc, &models)?;
-    circle_fault(alloc, &models, &named)
+    Ok(models)
 }
 
-// The line and the word of the fault of models, where they have one.
-fn said(alloc: Global, texts: &[&[u8]]) -> Result<Vec<u8>, AllocError> {
-    let mut said = Vec::new(alloc);
-    if let Some(fault) = fault_of(alloc, texts)? {
-        said.push((fault.line % 256) as u8)?;
-        said.push(b' ')?;
-        said.extend_from_slice(fault.word.as_slice())?;
-    }
-    Ok(said)
+fn fault_of(alloc: Global, models: &[Model]) -> Result<Option<Fault>, AllocError> {
+    let named = NamedModels::new(alloc, models)?;
+    circle_fault(alloc, models, &named)
 }
 
-// Models, and the line and the word of their fault.
-const CIRCLES: &[(&[&[u8]], &[u8])] = &[
-    (&[b"a2a"], b"2 a"),
-    (&[b"m2a3c", b"a8b", b"b9a", b"c5d", b"d7c"], b"5 c d"),
-    (&[b"m2a", b"a4b5a", b"b"], b"5 a"),
-    (&[b"m2a", b"a4b", b"b"], b""),
-    (&[b"m2n", b"n", b"n6m"], b""),
+// The fault of models, or nothing.
+fn said(alloc: Global, models: &[Model]) -> Result<Vec<u8>, AllocError> {
+    match fault_of(alloc, models)? {
+        Some(fault) => fault_shown(alloc, &fault),
+        None => Ok(Vec::new(alloc)),
+    }
+}
+
+fn expect_fault(alloc: Global, written: &[Written], want: &[u8]) -> Result<(), Fail> {
+    let models = models_of(alloc, written)?;
+    expect(&said(alloc, &models)?, want)
+}
+
+// Many lines of one model, which are no circle.
+const MANY: &[(u64, u8)] = &[(50, b'b'); 500];
+
+// Models, and their fault.
+const CIRCLES: &[(&[Written], &[u8])] = &[
+    (
+        &[Written {
+            name: b'a',
+            subckts: &[(2, b'a')],
+        }],
+        b"B19 line 2: a",
+    ),
+    (
+        &[
+            Written {
+                name: b'm',
+                subckts: &[(2, b'a'), (3, b'c')],
+            },
+            Written {
+                name: b'a',
+                subckts: &[(8, b'b')],
+            },
+            Written {
+                name: b'b',
+                subckts: &[(9, b'a')],
+            },
+            Written {
+                name: b'c',
+                subckts: &[(5, b'd')],
+            },
+            Written {
+                name: b'd',
+                subckts: &[(7, b'c')],
+            },
+        ],
+        b"B19 line 5: c d",
+    ),
+    (
+        &[
+            Written {
+                name: b'm',
+                subckts: &[(2, b'a')],
+            },
+            Written {
+                name: b'a',
+                subckts: &[(4, b'b'), (5, b'a')],
+            },
+            Written {
+                name: b'b',
+                subckts: &[],
+            },
+        ],
+        b"B19 line 5: a",
+    ),
+    (
+        &[
+            Written {
+                name: b'm',
+                subckts: &[(2, b'a')],
+            },
+            Written {
+                name: b'a',
+                subckts: &[(4, b'b')],
+            },
+            Written {
+                name: b'b',
+                subckts: &[],
+            },
+        ],
+        b"",
+    ),
+    (
+        &[
+            Written {
+                name: b'm',
+                subckts: &[(2, b'n')],
+            },
+            Written {
+                name: b'n',
+                subckts: &[],
+            },
+            Written {
+                name: b'n',
+                subckts: &[(6, b'm')],
+            },
+        ],
+        b"",
+    ),
+    (
+        &[
+            Written {
+                name: b'a',
+                subckts: MANY,
+            },
+            Written {
+                name: b'b',
+                subckts: &[],
+            },
+        ],
+        b"",
+    ),
 ];
 
 #[test]
 fn the_earliest_line_on_a_circle_is_the_fault(rt: HostRuntime) -> Result<(), Fail> {
-    for (texts, want) in CIRCLES {
-        expect(&said(rt.alloc(), texts)?, want)?;
+    for (models, want) in CIRCLES {
+        expect_fault(rt.alloc(), models, want)?;
     }
     Ok(())
-}
-
-#[test]
-fn many_lines_of_one_model_are_no_circle(rt: HostRuntime) -> Result<(), Fail> {
-    let alloc = rt.alloc();
-    let mut many = b"a".to_vec(alloc)?;
-    for _ in 0..500 {
-        many.extend_from_slice(b"2b")?;
-    }
-    expect(&said(alloc, &[many.as_slice(), b"b"])?, b"")
 }

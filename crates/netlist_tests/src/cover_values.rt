@@ -1,64 +1,115 @@
 // The bits that covers give.
+use crate::texts::copies_of;
 use lists::List;
 use netlist_core::Cover;
 use netlist_meaning::cover_value;
 use std::alloc::{AllocError, Global};
 use std::test::Fail;
+use ww_base::expect;
 
-// A cover of the rows, each as wide as the cover has inputs. Only what `cover_value` reads is filled in.
-fn cover(alloc: Global, rows: &[&[u8]], on: bool) -> Result<Cover, AllocError> {
-    let mut held = Vec::new(alloc);
-    for row in rows {
-        held.push(List::of(row.to_vec(alloc)?))?;
-    }
+// A cover of rows, as it is written down: whether these end in `1`, the bits of its inputs time after time, and a letter
+// for each value.
+struct Written {
+    rows: &'static [&'static [u8]],
+    on: bool,
+    inputs: &'static [&'static [bool]],
+    values: &'static [u8],
+}
+
+// The bits 00, 01, 10 and 11.
+const TWO: &[&[bool]] = &[
+    &[false, false],
+    &[false, true],
+    &[true, false],
+    &[true, true],
+];
+
+const COVERS: &[Written] = &[
+    Written {
+        rows: &[b"1-", b"-1"],
+        on: true,
+        inputs: TWO,
+        values: b"0111",
+    },
+    Written {
+        rows: &[b"10"],
+        on: true,
+        inputs: TWO,
+        values: b"0010",
+    },
+    Written {
+        rows: &[b"11"],
+        on: false,
+        inputs: TWO,
+        values: b"1110",
+    },
+    Written {
+        rows: &[b"10", b"01"],
+        on: true,
+        inputs: TWO,
+        values: b"0110",
+    },
+    Written {
+        rows: &[],
+        on: true,
+        inputs: TWO,
+        values: b"0000",
+    },
+    Written {
+        rows: &[b"0"],
+        on: true,
+        inputs: &[&[false], &[true]],
+        values: b"10",
+    },
+    // no input
+    Written {
+        rows: &[b""],
+        on: true,
+        inputs: &[&[]],
+        values: b"1",
+    },
+    Written {
+        rows: &[],
+        on: true,
+        inputs: &[&[]],
+        values: b"0",
+    },
+    Written {
+        rows: &[b"11-", b"1-1", b"-11"],
+        on: true,
+        inputs: &[&[true, true, false], &[true, false, false]],
+        values: b"10",
+    },
+];
+
+// Only what `cover_value` reads is filled in.
+fn cover(alloc: Global, written: &Written) -> Result<Cover, AllocError> {
     Ok(Cover {
         line: 1,
         ins: List::of(Vec::new(alloc)),
         out: List::of(Vec::new(alloc)),
-        rows: List::of(held),
-        on,
+        rows: List::of(copies_of(alloc, written.rows)?),
+        on: written.on,
     })
 }
 
-// The rows of a cover of two inputs, whether they end in `1`, and the values under the bits 00, 01, 10 and 11.
-const OF_TWO: &[(&[&[u8]], bool, [bool; 4])] = &[
-    (&[b"1-", b"-1"], true, [false, true, true, true]),
-    (&[b"10"], true, [false, false, true, false]),
-    (&[b"11"], false, [true, true, true, false]),
-    (&[b"10", b"01"], true, [false, true, true, false]),
-    (&[], true, [false, false, false, false]),
-];
-
-#[test]
-fn covers_of_two_have_the_values_of_their_rows(rt: HostRuntime) -> Result<(), Fail> {
-    for (rows, on, values) in OF_TWO {
-        let cover = cover(rt.alloc(), rows, *on)?;
-        let found = [
-            cover_value(&cover, &[false, false]),
-            cover_value(&cover, &[false, true]),
-            cover_value(&cover, &[true, false]),
-            cover_value(&cover, &[true, true]),
-        ];
-        assert_eq!(rt; found, *values);
+fn values_of(alloc: Global, cover: &Cover, inputs: &[&[bool]]) -> Result<Vec<u8>, AllocError> {
+    let mut values = Vec::new(alloc);
+    for bits in inputs {
+        values.push(if cover_value(cover, bits) { b'1' } else { b'0' })?;
     }
-    Ok(())
+    Ok(values)
 }
 
-// Rows that end in `1`, the bits of the inputs, and the value.
-const OF_OTHERS: &[(&[&[u8]], &[bool], bool)] = &[
-    (&[b"0"], &[false], true),
-    (&[b"0"], &[true], false),
-    (&[b""], &[], true),
-    (&[], &[], false),
-    (&[b"11-", b"1-1", b"-11"], &[true, true, false], true),
-    (&[b"11-", b"1-1", b"-11"], &[true, false, false], false),
-];
+fn expect_values(alloc: Global, written: &Written) -> Result<(), Fail> {
+    let cover = cover(alloc, written)?;
+    expect(&values_of(alloc, &cover, written.inputs)?, written.values)
+}
 
 #[test]
 fn covers_have_the_values_of_their_rows(rt: HostRuntime) -> Result<(), Fail> {
-    for (rows, bits, value) in OF_OTHERS {
-        let cover = cover(rt.alloc(), rows, true)?;
-        assert_eq!(rt; cover_value(&cover, bits), *value);
+    for written in COVERS {
+        expect_values(rt.alloc(), written)?;
     }
     Ok(())
 }

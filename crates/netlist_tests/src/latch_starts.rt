@@ -1,5 +1,9 @@
 // Words that say with which bits latches start, context by context.
+ghost use Rattle.std.specs.Prelude.{◌≡◌, length};
+
+use crate::texts::joined;
 use lists::List;
+use netlist_core::Flat;
 use netlist_text::netlist_of;
 use start_words::{StartError, StartFault, StartFaultKind, Starts};
 use std::alloc::{AllocError, Global};
@@ -21,26 +25,23 @@ fn kind_name(kind: StartFaultKind) -> &'static str {
 }
 
 fn fault_shown(alloc: Global, fault: &StartFault) -> Result<Vec<u8>, AllocError> {
-    let mut shown = Vec::new(alloc);
-    shown.extend_from_slice(kind_name(fault.kind).as_bytes())?;
-    shown.push(b' ')?;
-    shown.extend_from_slice(fault.word.as_slice())?;
-    Ok(shown)
+    let kind = format!(in alloc; "{} ", kind_name(fault.kind))?;
+    joined(alloc, &[kind.as_bytes(), fault.word.as_slice()])
 }
 
+// Adds bits, and a blank after them.
 fn push_bits(shown: &mut Vec<u8>, bits: &[bool]) -> Result<(), AllocError> {
     for bit in bits {
         shown.push(if *bit { b'1' } else { b'0' })?;
     }
-    Ok(())
+    shown.extend_from_slice(b" ")
 }
 
 // The latches' bits, a word for each context.
-fn starts_shown(alloc: Global, starts: &List<List<bool>>) -> Result<Vec<u8>, AllocError> {
+fn bits_shown(alloc: Global, starts: &List<List<bool>>) -> Result<Vec<u8>, AllocError> {
     let mut shown = Vec::new(alloc);
     for bits in starts.as_slice() {
         push_bits(&mut shown, bits.as_slice())?;
-        shown.push(b' ')?;
     }
     Ok(shown)
 }
@@ -53,21 +54,51 @@ fn words_of(alloc: Global, words: &[&str]) -> Result<Vec<String>, AllocError> {
     Ok(strings)
 }
 
-// What the words set in so many contexts of the counter, or their fault.
-fn shown(alloc: Global, contexts: u64, words: &[&str]) -> Result<Vec<u8>, Fail> {
+fn starts_shown(
+    alloc: Global,
+    flat: &Flat,
+    starts: &Starts,
+    contexts: u64,
+) -> Result<Vec<u8>, AllocError> {
+    bits_shown(alloc, &starts.in_contexts(alloc, flat, contexts)?)
+}
+
+// What the words set in so many contexts, or their fault.
+fn said(alloc: Global, flat: &Flat, words: &[String], contexts: u64) -> Result<Vec<u8>, AllocError>
+    requires { length flat.now.latches ≡ 2 }
+{
+    match Starts::read(alloc, flat, words, contexts) {
+        Ok(starts) => starts_shown(alloc, flat, &starts, contexts),
+        Err(StartError::Fault(fault)) => fault_shown(alloc, &fault),
+        Err(StartError::NoMemory) => Err(AllocError),
+    }
+}
+
+// What the words set in so many contexts of a netlist with two latches, or their fault.
+fn shown(alloc: Global, flat: &Flat, words: &[&str], contexts: u64) -> Result<Vec<u8>, AllocError>
+    requires { length flat.now.latches ≡ 2 }
+{
     let words = words_of(alloc, words)?;
-    let netlist = netlist_of(alloc, COUNTER)?;
-    if netlist.flat.latches.len() != 2 {
+    said(alloc, flat, &words, contexts)
+}
+
+fn expect_shown(
+    alloc: Global,
+    flat: &Flat,
+    contexts: u64,
+    words: &[&str],
+    want: &[u8],
+) -> Result<(), Fail> {
+    if flat.latches.len() != 2 {
         return Err(Fail::new("two latches"));
     }
-    match Starts::read(alloc, &netlist.flat, words.as_slice(), contexts) {
-        Ok(starts) => {
-            let bits = starts.in_contexts(alloc, &netlist.flat, contexts)?;
-            Ok(starts_shown(alloc, &bits)?)
-        }
-        Err(StartError::Fault(fault)) => Ok(fault_shown(alloc, &fault)?),
-        Err(StartError::NoMemory) => Err(Fail::new("no memory")),
-    }
+    expect(&shown(alloc, flat, words, contexts)?, want)
+}
+
+// The same of the counter.
+fn expect_starts(alloc: Global, contexts: u64, words: &[&str], want: &[u8]) -> Result<(), Fail> {
+    let netlist = netlist_of(alloc, COUNTER)?;
+    expect_shown(alloc, &netlist.flat, contexts, words, want)
 }
 
 // Numbers of contexts, words, and what they set: of the latches by place, q1 first.
@@ -89,7 +120,7 @@ const CASES: &[(u64, &[&str], &[u8])] = &[
 #[test]
 fn words_set_the_starts_of_latches(rt: HostRuntime) -> Result<(), Fail> {
     for (contexts, words, want) in CASES {
-        expect(shown(rt.alloc(), *contexts, words)?.as_slice(), want)?;
+        expect_starts(rt.alloc(), *contexts, words, want)?;
     }
     Ok(())
 }

@@ -5,24 +5,30 @@ use std::alloc::{AllocError, Global};
 use std::test::Fail;
 use ww_base::expect;
 
+fn push_number(alloc: Global, shown: &mut Vec<u8>, number: u64) -> Result<(), AllocError> {
+    let digits = format!(in alloc; "{number}:")?;
+    shown.extend_from_slice(digits.as_bytes())
+}
+
 fn push_line(alloc: Global, shown: &mut Vec<u8>, line: &Logical) -> Result<(), AllocError> {
-    shown.extend_from_slice(format!(in alloc; "{}:", line.line)?.as_bytes())?;
+    push_number(alloc, shown, line.line)?;
     for word in line.words.as_slice() {
         push_all(shown, &[word.as_slice(), b","])?;
     }
-    shown.push(b';')?;
-    Ok(())
+    shown.extend_from_slice(b";")
 }
 
-fn shown(alloc: Global, text: &[u8]) -> Result<Vec<u8>, AllocError> {
+fn lines_shown(alloc: Global, lines: &[Logical]) -> Result<Vec<u8>, AllocError> {
     let mut shown = Vec::new(alloc);
-    let Ok(found) = lines(alloc, text) else {
-        return Err(AllocError);
-    };
-    for line in found.as_slice() {
+    for line in lines {
         push_line(alloc, &mut shown, line)?;
     }
     Ok(shown)
+}
+
+fn expect_lines(alloc: Global, text: &[u8], want: &[u8]) -> Result<(), Fail> {
+    let found = lines(alloc, text)?;
+    expect(&lines_shown(alloc, found.as_slice())?, want)
 }
 
 // Texts and their logical lines.
@@ -47,20 +53,17 @@ const LINES: &[(&[u8], &[u8])] = &[
     (b"a\\\n#b\nc", b"1:a,;3:c,;"),
     (b"a\x0bb\x0cc\td", b"1:a,b,c,d,;"),
     (b"a\\", b"1:a,;"),
+    // no byte but the five is a blank
+    (
+        b"a\0b\x85c\xa0d\x1ce\xff\xe2\x80\x83f",
+        b"1:a\0b\x85c\xa0d\x1ce\xff\xe2\x80\x83f,;",
+    ),
 ];
 
 #[test]
 fn lines_are_joined_and_cut(rt: HostRuntime) -> Result<(), Fail> {
     for (text, want) in LINES {
-        expect(&shown(rt.alloc(), text)?, want)?;
+        expect_lines(rt.alloc(), text, want)?;
     }
     Ok(())
-}
-
-#[test]
-fn no_byte_but_the_five_is_a_blank(rt: HostRuntime) -> Result<(), Fail> {
-    expect(
-        &shown(rt.alloc(), b"a\0b\x85c\xa0d\x1ce\xff\xe2\x80\x83f")?,
-        b"1:a\0b\x85c\xa0d\x1ce\xff\xe2\x80\x83f,;",
-    )
 }

@@ -1,6 +1,8 @@
 // A known text and its state, and the first numbers that are drawn.
-use made_netlists::{draw, make};
+use crate::texts::expect_number;
+use made_netlists::{Made, draw, make};
 use std::test::Fail;
+use ww_base::expect;
 
 #[test]
 fn numbers_are_drawn(rt: HostRuntime) -> Result<(), Fail> {
@@ -12,13 +14,15 @@ fn numbers_are_drawn(rt: HostRuntime) -> Result<(), Fail> {
     Ok(())
 }
 
+const TEXT: &[u8] =
+    b".model made\n.inputs i0 i1 i2 i3\n.outputs g1 q0 q1\n.latch i2 q0 0\n.latch i3 q1 1\n.names q0 i3 g0\n10 1\n01 1\n.names g0 g0 g1\n11 0\n.end\n";
+
+fn expect_made(made: &Made, text: &[u8], state: u32) -> Result<(), Fail> {
+    expect(made.text.as_slice(), text)?;
+    expect_number("the state", u64::from(made.state), u64::from(state))
+}
+
 #[test]
 fn two_gates_are_made(rt: HostRuntime) -> Result<(), Fail> {
-    let made = make(rt.alloc(), 1, 2).expect(&rt, "memory");
-    assert_eq!(rt;
-        made.text.as_slice(),
-        b".model made\n.inputs i0 i1 i2 i3\n.outputs g1 q0 q1\n.latch i2 q0 0\n.latch i3 q1 1\n.names q0 i3 g0\n10 1\n01 1\n.names g0 g0 g1\n11 0\n.end\n".as_slice()
-    );
-    assert_eq!(rt; made.state, 486256185);
-    Ok(())
+    expect_made(&make(rt.alloc(), 1, 2)?, TEXT, 486256185)
 }

@@ -1,19 +1,11 @@
 // Lines with their models, and lines that are at fault.
-use crate::texts::push_all;
-use blif_lex::lines;
-use blif_reader::{Fault, Model, ReadError, read};
+use crate::texts::{fault_shown, models_of, push_all};
+use blif_reader::{Model, ReadError};
 use lists::{Bytes, List};
 use netlist_core::{Cover, LatchRow, Port, Subckt};
 use std::alloc::{AllocError, Global};
 use std::test::Fail;
 use ww_base::expect;
-
-fn fault_shown(alloc: Global, fault: &Fault) -> Result<Vec<u8>, AllocError> {
-    let start = format!(in alloc; "B{} line {}: ", fault.kind.number(), fault.line)?;
-    let mut shown = start.into_bytes();
-    shown.extend_from_slice(fault.word.as_slice())?;
-    Ok(shown)
-}
 
 fn push_words(shown: &mut Vec<u8>, words: &List<Bytes>) -> Result<(), AllocError> {
     for word in words.as_slice() {
@@ -22,64 +14,88 @@ fn push_words(shown: &mut Vec<u8>, words: &List<Bytes>) -> Result<(), AllocError
     Ok(())
 }
 
+fn push_port(alloc: Global, shown: &mut Vec<u8>, port: &Port) -> Result<(), AllocError> {
+    let start = format!(in alloc; " {}/", port.line)?;
+    push_all(shown, &[start.as_bytes(), port.name.as_slice()])
+}
+
 fn push_ports(
     alloc: Global,
     shown: &mut Vec<u8>,
-    kind: &str,
+    kind: &[u8],
     ports: &[Port],
 ) -> Result<(), AllocError> {
-    shown.extend_from_slice(kind.as_bytes())?;
+    shown.extend_from_slice(kind)?;
     for port in ports {
-        let start = format!(in alloc; " {}/", port.line)?;
-        push_all(shown, &[start.as_bytes(), port.name.as_slice()])?;
+        push_port(alloc, shown, port)?;
     }
     Ok(())
 }
 
-fn push_model(alloc: Global, shown: &mut Vec<u8>, model: &Model) -> Result<(), AllocError> {
+fn push_head(alloc: Global, shown: &mut Vec<u8>, model: &Model) -> Result<(), AllocError> {
     push_all(shown, &[b"model ", model.name.as_slice()])?;
-    push_ports(alloc, shown, " in", model.ins.as_slice())?;
-    push_ports(alloc, shown, " out", model.outs.as_slice())?;
-    push_ports(alloc, shown, " clock", model.clocks.as_slice())?;
-    shown.push(b';')?;
-    Ok(())
+    push_ports(alloc, shown, b" in", model.ins.as_slice())?;
+    push_ports(alloc, shown, b" out", model.outs.as_slice())?;
+    push_ports(alloc, shown, b" clock", model.clocks.as_slice())?;
+    shown.extend_from_slice(b";")
 }
 
 fn push_cover(alloc: Global, shown: &mut Vec<u8>, cover: &Cover) -> Result<(), AllocError> {
-    let start = format!(in alloc; " names {} {}", cover.line, cover.on)?;
-    shown.extend_from_slice(start.as_bytes())?;
+    push_start(alloc, shown, "names", cover.line, cover.on)?;
     push_words(shown, &cover.ins)?;
     push_all(shown, &[b" >", cover.out.as_slice()])?;
     push_words(shown, &cover.rows)?;
-    shown.push(b';')?;
-    Ok(())
+    shown.extend_from_slice(b";")
+}
+
+// The line of a cover or a latch, and whether the cover's rows end in `1`, or the latch has a kind.
+fn push_start(
+    alloc: Global,
+    shown: &mut Vec<u8>,
+    about: &str,
+    line: u64,
+    has: bool,
+) -> Result<(), AllocError> {
+    let start = format!(in alloc; " {about} {line} {has}")?;
+    shown.extend_from_slice(start.as_bytes())
+}
+
+fn init_name(init: u8) -> &'static [u8] {
+    match init {
+        0 => b" 0",
+        1 => b" 1",
+        2 => b" 2",
+        3 => b" 3",
+        _ => b" ?",
+    }
 }
 
 fn push_latch(alloc: Global, shown: &mut Vec<u8>, latch: &LatchRow) -> Result<(), AllocError> {
-    let has_kind = latch.kind.is_some();
-    let start = format!(in alloc; " latch {} {has_kind} {}", latch.line, latch.init)?;
-    shown.extend_from_slice(start.as_bytes())?;
+    push_start(alloc, shown, "latch", latch.line, latch.kind.is_some())?;
+    push_all(shown, &[init_name(latch.init)])?;
     if let Some(control) = &latch.control {
         push_all(shown, &[b" ", control.as_slice()])?;
     }
-    shown.push(b';')?;
-    Ok(())
+    shown.extend_from_slice(b";")
 }
 
 fn push_subckt(alloc: Global, shown: &mut Vec<u8>, subckt: &Subckt) -> Result<(), AllocError> {
     let start = format!(in alloc; " subckt {} ", subckt.line)?;
-    push_all(shown, &[start.as_bytes(), subckt.model.as_slice()])?;
+    push_all(shown, &[start.as_bytes(), subckt.model.as_slice()])
+}
+
+fn push_pins(shown: &mut Vec<u8>, subckt: &Subckt) -> Result<(), AllocError> {
     for pin in subckt.pins.as_slice() {
         push_all(
             shown,
             &[b" ", pin.formal.as_slice(), b"|", pin.actual.as_slice()],
         )?;
     }
-    shown.push(b';')?;
-    Ok(())
+    shown.extend_from_slice(b";")
 }
 
-fn push_cells(alloc: Global, shown: &mut Vec<u8>, model: &Model) -> Result<(), AllocError> {
+fn push_model(alloc: Global, shown: &mut Vec<u8>, model: &Model) -> Result<(), AllocError> {
+    push_head(alloc, shown, model)?;
     for cover in model.covers.as_slice() {
         push_cover(alloc, shown, cover)?;
     }
@@ -88,6 +104,7 @@ fn push_cells(alloc: Global, shown: &mut Vec<u8>, model: &Model) -> Result<(), A
     }
     for subckt in model.subckts.as_slice() {
         push_subckt(alloc, shown, subckt)?;
+        push_pins(shown, subckt)?;
     }
     Ok(())
 }
@@ -97,19 +114,21 @@ fn models_shown(alloc: Global, models: &[Model]) -> Result<Vec<u8>, AllocError> 
     let mut shown = Vec::new(alloc);
     for model in models {
         push_model(alloc, &mut shown, model)?;
-        push_cells(alloc, &mut shown, model)?;
     }
     Ok(shown)
 }
 
-// The models, or the fault.
-fn shown(alloc: Global, text: &[u8]) -> Result<Vec<u8>, Fail> {
-    let shown = match read(alloc, lines(alloc, text)?.as_slice()) {
+// The models that were read, or the fault.
+fn read_shown(alloc: Global, read: &Result<List<Model>, ReadError>) -> Result<Vec<u8>, AllocError> {
+    match read {
         Ok(models) => models_shown(alloc, models.as_slice()),
-        Err(ReadError::Fault(fault)) => fault_shown(alloc, &fault),
+        Err(ReadError::Fault(fault)) => fault_shown(alloc, fault),
         Err(ReadError::NoMemory) => Err(AllocError),
-    };
-    Ok(shown?)
+    }
+}
+
+fn expect_models(alloc: Global, text: &[u8], want: &[u8]) -> Result<(), Fail> {
+    expect(&read_shown(alloc, &models_of(alloc, text))?, want)
 }
 
 // Texts, and their models or their faults.
@@ -157,7 +176,7 @@ const TEXTS: &[(&[u8], &[u8])] = &[
 #[test]
 fn models_are_read(rt: HostRuntime) -> Result<(), Fail> {
     for (text, want) in TEXTS {
-        expect(&shown(rt.alloc(), text)?, want)?;
+        expect_models(rt.alloc(), text, want)?;
     }
     Ok(())
 }

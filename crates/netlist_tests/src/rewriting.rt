@@ -1,100 +1,87 @@
 // Lists of cells that come to have fewer.
-ghost use Rattle.std.specs.Prelude.{◌≡◌, length};
-ghost use Rattle.cell_core.specs.Sources.{are_there};
-
+use crate::covers::{are_there, empty};
+use crate::texts::expect_number;
 use cell_core::{Cell, CellError, CellList, Src};
 use cell_rewriting::rewritten;
 use lists::List;
 use std::alloc::{AllocError, Global};
 use std::test::Fail;
 
-fn are_there(list: &CellList, sources: &[Src]) -> bool
-    ensures { result
-        ≡ are_there list.now.inputs (length list.now.starts) (length list.now.cells) sources.now }
-{
-    sources.iter().all(|src| {
-        src.is_there(list.inputs as usize, list.starts.len(), list.cells.len())
-    })
-}
-
-// A list of three inputs, without cells.
-fn empty(alloc: Global) -> CellList {
-    CellList {
-        inputs: 3,
-        cells: List::of(Vec::new(alloc)),
-        outs: List::of(Vec::new(alloc)),
-        latches: List::of(Vec::new(alloc)),
-        starts: List::of(Vec::new(alloc)),
-        nets: List::of(Vec::new(alloc)),
-    }
-}
-
-// A list with these cells, but for those that read what is not there.
-fn with_cells(alloc: Global, cells: &[Cell]) -> Result<CellList, CellError> {
-    let mut list = empty(alloc);
+// Adds these cells, but for those that read what is not there.
+fn add_cells(list: &mut CellList, alloc: Global, cells: &[Cell]) -> Result<(), CellError> {
     for cell in cells {
         if cell.reads_there(list.inputs as usize, list.starts.len(), list.cells.len()) {
             list.push(alloc, *cell)?;
         }
     }
-    Ok(list)
+    Ok(())
 }
 
-// A list with these cells, and nets of these sources, if they are there.
-fn list_of(alloc: Global, cells: &[Cell], nets: &[Src]) -> Result<CellList, Fail> {
-    let list = with_cells(alloc, cells)?;
-    if !are_there(&list, nets) {
-        return Ok(list);
+// The list with nets of these sources, if they are there.
+fn with_nets(list: CellList, nets: Vec<Src>) -> CellList {
+    if !are_there(&list, &nets) {
+        return list;
     }
-    let nets = nets.to_vec(alloc)?;
-    Ok(CellList {
+    CellList {
         inputs: list.inputs,
         cells: list.cells,
         outs: list.outs,
         latches: list.latches,
         starts: list.starts,
         nets: List::of(nets),
-    })
+    }
 }
 
-// Its cells, and the sources of its nets.
-fn text_of(alloc: Global, list: &CellList) -> Result<String, AllocError> {
-    let mut page = String::new(alloc);
+// A list of three inputs with these cells and nets.
+fn list_of(alloc: Global, cells: &[Cell], nets: &[Src]) -> Result<CellList, CellError> {
+    let nets = nets.to_vec(alloc)?;
+    let mut list = empty(alloc, 3);
+    add_cells(&mut list, alloc, cells)?;
+    Ok(with_nets(list, nets))
+}
+
+// Adds its cells, and the sources of its nets.
+fn push_list(page: &mut String, list: &CellList) -> Result<(), AllocError> {
     for cell in list.cells.as_slice() {
         write!(page, "{cell:?} ")?;
     }
     for src in list.nets.as_slice() {
         write!(page, "{src:?} ")?;
     }
-    Ok(page)
+    Ok(())
 }
 
-// The text of the first list that is made of a list, and how many have that text.
-fn texts_of(alloc: Global, lists: &[CellList]) -> Result<(String, usize), AllocError> {
-    let mut first = String::new(alloc);
-    let mut count: usize = 0;
+fn is_shown(alloc: Global, list: &CellList, want: &str) -> Result<bool, AllocError> {
+    let mut page = String::new(alloc);
+    push_list(&mut page, list)?;
+    Ok(page.as_str() == want)
+}
+
+// How many lists have a text, or none where the first has another one.
+fn count_of(alloc: Global, lists: &[CellList], want: &str) -> Result<u64, AllocError> {
+    let mut count: u64 = 0;
     for list in lists {
-        let text = text_of(alloc, list)?;
-        if count == 0 {
-            first = text;
-            count = 1;
-        } else if text == first {
+        if is_shown(alloc, list, want)? {
             count = count.saturating_add(1);
+        } else if count == 0 {
+            return Ok(0);
         }
     }
-    Ok((first, count))
+    Ok(count)
 }
 
-// What is made of a list with these cells and nets, where these sources are kept.
-fn made_of(
+// Of a list with these cells and nets, where these sources are kept, four lists are made that have this text, also the
+// first of all.
+fn expect_lists(
     alloc: Global,
     cells: &[Cell],
     nets: &[Src],
     kept: &[Src],
-) -> Result<(String, usize), Fail> {
+    want: &str,
+) -> Result<(), Fail> {
     let list = list_of(alloc, cells, nets)?;
     let lists = rewritten(alloc, &list, kept)?;
-    Ok(texts_of(alloc, &lists)?)
+    expect_number(want, count_of(alloc, &lists, want)?, 4)
 }
 
 // An XOR of two inputs as two AND-NOTs and an OR.
@@ -135,8 +122,7 @@ const LISTS: &[(&[Cell], &[Src], &[Src], &str)] = &[
 #[test]
 fn lists_come_to_have_fewer_cells(rt: HostRuntime) -> Result<(), Fail> {
     for (cells, nets, kept, want) in LISTS {
-        let (text, count) = made_of(rt.alloc(), cells, nets, kept)?;
-        assert_eq!(rt; (text.as_str(), count), (*want, 4));
+        expect_lists(rt.alloc(), cells, nets, kept, want)?;
     }
     Ok(())
 }

@@ -1,14 +1,53 @@
-// Texts of several parts.
-ghost use Rattle.std.specs.Prelude.{◌≤◌, length, IfOk};
-
-use std::alloc::AllocError;
+// Texts of several parts, what texts have, and what tests compare.
+use blif_lex::lines;
+use blif_reader::{Fault, Model, ReadError, read};
+use lists::{Bytes, List, copied};
+use std::alloc::{AllocError, Global};
+use std::test::Fail;
 
 /// Adds parts, one after the other.
-pub fn push_all(text: &mut Vec<u8>, parts: &[&[u8]]) -> Result<(), AllocError>
-    ensures { IfOk result (λ _. length text.old.items ≤ length text.new.items) }
-{
+pub fn push_all(text: &mut Vec<u8>, parts: &[&[u8]]) -> Result<(), AllocError> {
     for part in parts {
         text.extend_from_slice(part)?;
     }
     Ok(())
+}
+
+/// A text of parts.
+pub fn joined(alloc: Global, parts: &[&[u8]]) -> Result<Vec<u8>, AllocError> {
+    let mut text = Vec::new(alloc);
+    push_all(&mut text, parts)?;
+    Ok(text)
+}
+
+/// Copies of texts.
+pub fn copies_of(alloc: Global, texts: &[&[u8]]) -> Result<Vec<Bytes>, AllocError> {
+    let mut copies = Vec::new(alloc);
+    for text in texts {
+        copies.push(copied(alloc, text)?)?;
+    }
+    Ok(copies)
+}
+
+/// The rule, the line and the word of a fault.
+pub fn fault_shown(alloc: Global, fault: &Fault) -> Result<Vec<u8>, AllocError> {
+    let start = format!(in alloc; "B{} line {}: ", fault.kind.number(), fault.line)?;
+    joined(alloc, &[start.as_bytes(), fault.word.as_slice()])
+}
+
+/// The models of a text.
+pub fn models_of(alloc: Global, text: &[u8]) -> Result<List<Model>, ReadError> {
+    match lines(alloc, text) {
+        Ok(lines) => read(alloc, lines.as_slice()),
+        Err(_) => Err(ReadError::NoMemory),
+    }
+}
+
+/// Fails where a number is not the one that is wanted, and tells of what it is, and both.
+pub fn expect_number(about: &str, said: u64, want: u64) -> Result<(), Fail> {
+    if said == want {
+        Ok(())
+    } else {
+        Err(Fail::new(format_args!("{about}: {said}, and not {want}")))
+    }
 }

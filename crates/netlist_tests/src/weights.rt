@@ -1,15 +1,14 @@
 // The weight of a model.
-use blif_lex::lines;
-use blif_reader::read;
+use crate::texts::{expect_number, joined, models_of};
+use blif_reader::Model;
 use netlist_core::weight_of;
 use std::alloc::Global;
 use std::test::Fail;
 
-// The weight of the only model of a text.
-fn weight(alloc: Global, text: &[u8]) -> Result<u64, Fail> {
-    let models = read(alloc, lines(alloc, text)?.as_slice())?;
-    match models.as_slice() {
-        [model] => Ok(weight_of(model)),
+// Fails where there is not one model alone, of this weight.
+fn expect_weight(about: &str, models: &[Model], want: u64) -> Result<(), Fail> {
+    match models {
+        [model] => expect_number(about, weight_of(model), want),
         _ => Err(Fail::new("not one model")),
     }
 }
@@ -30,15 +29,21 @@ const FULL_ADDER: &[u8] = b".model fa
 ";
 
 // Lines that are added to the full adder, and its weight with them.
-const CLOCKS: &[(&[u8], u64)] = &[(b"", 32), (b".clock a", 32), (b".clock a clk", 33)];
+const CLOCKS: &[(&str, &[u8], u64)] = &[
+    ("no clock", b"", 32),
+    ("an input as the clock", b".clock a", 32),
+    ("a clock beside the inputs", b".clock a clk", 33),
+];
+
+fn expect_adder(alloc: Global, about: &str, clocks: &[u8], want: u64) -> Result<(), Fail> {
+    let text = joined(alloc, &[FULL_ADDER, clocks])?;
+    expect_weight(about, models_of(alloc, &text)?.as_slice(), want)
+}
 
 #[test]
 fn a_full_adder_has_its_weight(rt: HostRuntime) -> Result<(), Fail> {
-    let alloc = rt.alloc();
-    for (clocks, want) in CLOCKS {
-        let mut text = FULL_ADDER.to_vec(alloc)?;
-        text.extend_from_slice(clocks)?;
-        assert_eq!(rt; weight(alloc, &text)?, *want);
+    for (about, clocks, want) in CLOCKS {
+        expect_adder(rt.alloc(), about, clocks, *want)?;
     }
     Ok(())
 }

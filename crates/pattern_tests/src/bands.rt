@@ -7,7 +7,7 @@ mod shown;
 
 use band_core::{Bands, NotReady, NotSkipped};
 use rle_read::read;
-use shown::shown_row;
+use shown::push_row;
 use std::alloc::{AllocError, Global};
 use std::test::Fail;
 use ww_base::expect;
@@ -29,8 +29,15 @@ fn bands_of(alloc: Global, text: &[u8], width: u64, rows: usize, height: u32) ->
 // A head above two conductors.
 const COLUMN: &[u8] = b"x = 1, y = 3, rule = WireWorld\nA$C$C!";
 
-// What a call on a band answers.
-#[derive(Clone, Copy, Debug, PartialEq, Eq)]
+// A call on a band.
+#[derive(Clone, Copy)]
+enum Call {
+    Advance(usize),
+    Skip(usize),
+}
+
+// What it answers.
+#[derive(Clone, Copy, PartialEq)]
 enum Answer {
     Moved,
     NotReady { neighbour: usize, generation: u64 },
@@ -58,7 +65,9 @@ fn advanced(bands: &mut Bands, b: usize) -> Answer
     }
 }
 
-fn skipped(bands: &mut Bands, b: usize) -> Answer {
+fn skipped(bands: &mut Bands, b: usize) -> Answer
+    ensures { IsSamePattern bands.old bands.new }
+{
     if b >= bands.bands() || bands.generation(b) == u64::MAX {
         return Answer::NoSuchBand;
     }
@@ -79,20 +88,22 @@ fn skipped(bands: &mut Bands, b: usize) -> Answer {
     }
 }
 
-fn behind(neighbour: usize, generation: u64) -> Answer {
-    Answer::NotReady {
-        neighbour,
-        generation,
+fn answered(bands: &mut Bands, call: Call) -> Answer
+    ensures { IsSamePattern bands.old bands.new }
+{
+    match call {
+        Call::Advance(b) => advanced(bands, b),
+        Call::Skip(b) => skipped(bands, b),
     }
 }
 
-// Makes calls of `advance`, and tells whether they answered these.
-fn answers_are_right(bands: &mut Bands, calls: &[(usize, Answer)]) -> bool
+// Makes calls, and tells whether they answered these.
+fn answers_are_right(bands: &mut Bands, calls: &[(Call, Answer)]) -> bool
     ensures { IsSamePattern bands.old bands.new }
 {
     let mut are_right = true;
-    for (b, answer) in calls {
-        are_right &= advanced(bands, *b) == *answer;
+    for (call, answer) in calls {
+        are_right &= answered(bands, *call) == *answer;
     }
     are_right
 }
@@ -111,62 +122,117 @@ const BEHIND_BOTTOM: Answer = Answer::NotReady {
 };
 
 // Calls with their answers, and the column's cells after them.
-const ORDERS: &[(&[(usize, Answer)], &[u8])] = &[
-    (
-        &[(2, OK), (2, BEHIND_MIDDLE), (3, Answer::NoSuchBand)],
-        b"ACC",
-    ),
-    (&[(1, OK), (0, OK), (2, OK), (2, OK)], b"BAA"),
-    (&[(2, OK), (1, OK), (0, OK), (2, OK)], b"BAA"),
+const ORDERS: &[(&[(Call, Answer)], &[u8])] = &[
     (
         &[
-            (0, OK),
-            (0, BEHIND_MIDDLE),
-            (1, OK),
-            (1, BEHIND_BOTTOM),
-            (2, OK),
-            (2, OK),
-            (0, OK),
-            (1, OK),
-            (2, OK),
+            (Call::Advance(2), OK),
+            (Call::Advance(2), BEHIND_MIDDLE),
+            (Call::Advance(3), Answer::NoSuchBand),
+        ],
+        b"ACC",
+    ),
+    (
+        &[
+            (Call::Advance(1), OK),
+            (Call::Advance(0), OK),
+            (Call::Advance(2), OK),
+            (Call::Advance(2), OK),
+        ],
+        b"BAA",
+    ),
+    (
+        &[
+            (Call::Advance(2), OK),
+            (Call::Advance(1), OK),
+            (Call::Advance(0), OK),
+            (Call::Advance(2), OK),
+        ],
+        b"BAA",
+    ),
+    (
+        &[
+            (Call::Advance(0), OK),
+            (Call::Advance(0), BEHIND_MIDDLE),
+            (Call::Advance(1), OK),
+            (Call::Advance(1), BEHIND_BOTTOM),
+            (Call::Advance(2), OK),
+            (Call::Advance(2), OK),
+            (Call::Advance(0), OK),
+            (Call::Advance(1), OK),
+            (Call::Advance(2), OK),
         ],
         b"CBB",
     ),
+    // a lit cell keeps bands awake
+    (
+        &[
+            (Call::Skip(2), OK),
+            (Call::Skip(1), Answer::Awake { x: 0, y: 0 }),
+            (Call::Advance(1), OK),
+            (Call::Skip(0), Answer::Awake { x: 0, y: 0 }),
+            (Call::Skip(2), Answer::Awake { x: 0, y: 1 }),
+            (Call::Advance(2), OK),
+            (
+                Call::Advance(2),
+                Answer::NotReady {
+                    neighbour: 1,
+                    generation: 1,
+                },
+            ),
+        ],
+        b"AAA",
+    ),
 ];
 
-// All rows, one after the other.
-fn shown_rows(
+// Adds all rows, one after the other.
+fn push_rows(
+    text: &mut Vec<u8>,
+    bands: &Bands,
+    height: u32,
+    width: u64,
+    count: u64,
+) -> Result<(), AllocError>
+    requires height { height ≡ bands.now.height }
+    requires width { width ≡ bands.now.grid.width }
+    requires count { count ≡ length bands.now.grid.rows }
+{
+    for y in 0..count {
+        push_row(text, bands, height, width, y)?;
+    }
+    Ok(())
+}
+
+// Fails where all rows, one after the other, are not these cells.
+fn expect_rows(
     alloc: Global,
     bands: &Bands,
     height: u32,
     width: u64,
     count: u64,
-) -> Result<Vec<u8>, AllocError>
+    cells: &[u8],
+) -> Result<(), Fail>
     requires height { height ≡ bands.now.height }
     requires width { width ≡ bands.now.grid.width }
     requires count { count ≡ length bands.now.grid.rows }
 {
     let mut rows = Vec::new(alloc);
-    for y in 0..count {
-        let row = shown_row(alloc, bands, height, width, y)?;
-        rows.extend_from_slice(&row)?;
-    }
-    Ok(rows)
+    push_rows(&mut rows, bands, height, width, count)?;
+    expect(&rows, cells)
 }
 
-// The column's cells after calls of `advance`, from the top down.
-fn column_after(alloc: Global, calls: &[(usize, Answer)]) -> Result<Vec<u8>, Fail> {
+// The column's calls, their answers, and its cells after them, from the top down.
+fn expect_order(alloc: Global, calls: &[(Call, Answer)], cells: &[u8]) -> Result<(), Fail> {
     let mut bands = bands_of(alloc, COLUMN, 1, 3, 1)?;
     if !answers_are_right(&mut bands, calls) {
-        return Err(Fail::new("another answer"));
+        return Err(Fail::new(format_args!("another answer before {cells:?}")));
     }
-    Ok(shown_rows(alloc, &bands, 1, 1, 3)?)
+    expect_rows(alloc, &bands, 1, 1, 3, cells)
 }
 
 #[test]
 fn bands_advance_in_any_order(rt: HostRuntime) -> Result<(), Fail> {
     for (calls, cells) in ORDERS {
-        expect(&column_after(rt.alloc(), calls)?, cells)?;
+        expect_order(rt.alloc(), calls, cells)?;
     }
     Ok(())
 }
@@ -181,12 +247,12 @@ fn advance_all(bands: &mut Bands)
 }
 
 // Both rows of a pattern of two by three cells a generation later, by bands of this height.
-fn both_rows_after(alloc: Global, text: &[u8], height: u32) -> Result<Vec<u8>, Fail>
+fn expect_both_rows(alloc: Global, text: &[u8], height: u32, cells: &[u8]) -> Result<(), Fail>
     requires { 0 < height }
 {
     let mut bands = bands_of(alloc, text, 3, 2, height)?;
     advance_all(&mut bands);
-    Ok(shown_rows(alloc, &bands, height, 3, 2)?)
+    expect_rows(alloc, &bands, height, 3, 2, cells)
 }
 
 // Three cells above a conductor, and both rows a generation later.
@@ -197,37 +263,10 @@ const ABOVE: &[(&[u8], &[u8])] = &[
 
 #[test]
 fn two_heads_light_a_conductor_and_three_do_not(rt: HostRuntime) -> Result<(), Fail> {
-    let alloc = rt.alloc();
     for (text, cells) in ABOVE {
-        expect(&both_rows_after(alloc, text, 1)?, cells)?;
-        expect(&both_rows_after(alloc, text, 2)?, cells)?;
+        expect_both_rows(rt.alloc(), text, 1, cells)?;
+        expect_both_rows(rt.alloc(), text, 2, cells)?;
     }
-    Ok(())
-}
-
-#[test]
-fn a_lit_cell_keeps_bands_awake(rt: HostRuntime) -> Result<(), Fail> {
-    let alloc = rt.alloc();
-    let mut bands = bands_of(alloc, COLUMN, 1, 3, 1)?;
-    let answers = [
-        skipped(&mut bands, 2),
-        skipped(&mut bands, 1),
-        advanced(&mut bands, 1),
-        skipped(&mut bands, 0),
-        skipped(&mut bands, 2),
-        advanced(&mut bands, 2),
-        advanced(&mut bands, 2),
-    ];
-    let awake = [
-        OK,
-        Answer::Awake { x: 0, y: 0 },
-        OK,
-        Answer::Awake { x: 0, y: 0 },
-        Answer::Awake { x: 0, y: 1 },
-        OK,
-        behind(1, 1),
-    ];
-    assert_eq!(rt; answers, awake);
     Ok(())
 }
 
@@ -238,14 +277,20 @@ const COUNTS: &[(&[u8], usize)] = &[
     (COLUMN, 1),
 ];
 
+fn expect_count(alloc: Global, text: &[u8], count: usize) -> Result<(), Fail> {
+    let pattern = read(alloc, text)?;
+    let bands = Bands::new(alloc, pattern, Vec::new(alloc), u32::MAX)?;
+    if bands.bands() == count {
+        Ok(())
+    } else {
+        Err(Fail::new(format_args!("not {count} bands of {text:?}")))
+    }
+}
+
 #[test]
 fn a_pattern_without_cells_has_no_band(rt: HostRuntime) -> Result<(), Fail> {
-    let alloc = rt.alloc();
     for (text, count) in COUNTS {
-        let bands = Bands::new(alloc, read(alloc, text)?, Vec::new(alloc), u32::MAX)?;
-        if bands.bands() != *count {
-            return Err(Fail::new("another count"));
-        }
+        expect_count(rt.alloc(), text, *count)?;
     }
     Ok(())
 }

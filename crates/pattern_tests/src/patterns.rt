@@ -4,18 +4,23 @@ use rle_read::{RleReadError, read};
 use std::alloc::{AllocError, Global};
 use std::test::Fail;
 use ww_base::expect;
+use ww_rule::Pattern;
 
 // The rows of the pattern of a text, or the text's fault and its line, or the size of a box past the limit.
-fn said(alloc: Global, text: &[u8]) -> Result<Vec<u8>, AllocError> {
-    let fault = match read(alloc, text) {
+fn read_shown(alloc: Global, read: &Result<Pattern, RleReadError>) -> Result<Vec<u8>, AllocError> {
+    let shown = match read {
         Ok(pattern) => return drawn(alloc, &pattern.rows),
-        Err(RleReadError::Fault(fault)) => format!(in alloc; "{:?} {}", fault.kind, fault.line)?,
+        Err(RleReadError::Fault(fault)) => format!(in alloc; "{:?} {}", fault.kind, fault.line),
         Err(RleReadError::TooLarge { width, height }) => format!(in alloc;
             "TooLarge {width} {height}"
-        )?,
-        Err(RleReadError::NoMemory) => return Err(AllocError),
+        ),
+        Err(RleReadError::NoMemory) => Err(AllocError),
     };
-    Ok(fault.into_bytes())
+    Ok(shown?.into_bytes())
+}
+
+fn expect_read(alloc: Global, text: &[u8], want: &[u8]) -> Result<(), Fail> {
+    expect(&read_shown(alloc, &read(alloc, text))?, want)
 }
 
 // Texts, and what they say.
@@ -112,7 +117,7 @@ const TEXTS: &[(&[u8], &[u8])] = &[
 #[test]
 fn texts_are_read(rt: HostRuntime) -> Result<(), Fail> {
     for (text, want) in TEXTS {
-        expect(&said(rt.alloc(), text)?, want)?;
+        expect_read(rt.alloc(), text, want)?;
     }
     Ok(())
 }

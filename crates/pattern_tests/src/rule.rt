@@ -1,22 +1,31 @@
 // Small patterns by hand, in the letters of RLE: '.' is empty, A a head, B a tail and C a conductor.
-use crate::texts::drawn;
+use crate::texts::{drawn, push_all};
 use rle_read::read;
-use std::alloc::Global;
+use std::alloc::{AllocError, Global};
 use std::test::Fail;
 use ww_base::expect;
-use ww_rule::{Plane, mirror_x, step_driven, step_plain};
+use ww_rule::{Pattern, Plane, RuleError, mirror_x, step_driven, step_plain};
 
 fn plane_of(alloc: Global, text: &[u8]) -> Result<Plane, Fail> {
     let pattern = read(alloc, text)?;
     Ok(Plane::from_pattern(alloc, &pattern)?)
 }
 
-// The rows of a plane, and its width and height.
-fn shown(alloc: Global, plane: &Plane) -> Result<Vec<u8>, Fail> {
-    let mut text = drawn(alloc, &plane.rows)?;
+// Adds the width and height of a plane.
+fn push_size(alloc: Global, text: &mut Vec<u8>, plane: &Plane) -> Result<(), AllocError> {
     let size = format!(in alloc; "{} {}", plane.width, plane.height)?;
-    text.extend_from_slice(size.as_bytes())?;
+    push_all(text, &[size.as_bytes()])
+}
+
+// The rows of a plane, and its width and height.
+fn shown(alloc: Global, plane: &Plane) -> Result<Vec<u8>, AllocError> {
+    let mut text = drawn(alloc, &plane.rows)?;
+    push_size(alloc, &mut text, plane)?;
     Ok(text)
+}
+
+fn expect_plane(alloc: Global, plane: &Plane, want: &[u8]) -> Result<(), Fail> {
+    expect(&shown(alloc, plane)?, want)
 }
 
 // Patterns, and what is shown of them and of the same a generation later.
@@ -48,15 +57,19 @@ const GENERATIONS: &[(&[u8], &[u8], &[u8])] = &[
     ),
 ];
 
-// What is shown of a plane a generation later.
-fn shown_next(alloc: Global, plane: &Plane) -> Result<Vec<u8>, Fail> {
-    shown(alloc, &step_plain(alloc, plane)?)
+fn expect_next(alloc: Global, plane: &Plane, want: &[u8]) -> Result<(), Fail> {
+    let next = step_plain(alloc, plane)?;
+    expect_plane(alloc, &next, want)
+}
+
+fn expect_both(alloc: Global, plane: &Plane, before: &[u8], after: &[u8]) -> Result<(), Fail> {
+    expect_plane(alloc, plane, before)?;
+    expect_next(alloc, plane, after)
 }
 
 fn becomes(alloc: Global, text: &[u8], before: &[u8], after: &[u8]) -> Result<(), Fail> {
     let plane = plane_of(alloc, text)?;
-    expect(&shown(alloc, &plane)?, before)?;
-    expect(&shown_next(alloc, &plane)?, after)
+    expect_both(alloc, &plane, before, after)
 }
 
 #[test]
@@ -67,24 +80,33 @@ fn one_generation_by_the_rule(rt: HostRuntime) -> Result<(), Fail> {
     Ok(())
 }
 
-#[test]
-fn an_injection_follows_the_rule(rt: HostRuntime) -> Result<(), Fail> {
-    let alloc = rt.alloc();
-    let plane = plane_of(alloc, b"x = 3, y = 1, rule = WireWorld\nCCA!")?;
+// An injection at the first cell, and a generation later.
+fn expect_driven(alloc: Global, plane: &Plane, want: &[u8]) -> Result<(), Fail> {
     if plane.width == 0 || plane.height == 0 {
         return Err(Fail::new("no cells"));
     }
-    let next = step_driven(alloc, &plane, &[(0, 0)])?;
-    expect(&shown(alloc, &next)?, b"AAB$3 1")
+    let next = step_driven(alloc, plane, &[(0, 0)])?;
+    expect_plane(alloc, &next, want)
+}
+
+#[test]
+fn an_injection_follows_the_rule(rt: HostRuntime) -> Result<(), Fail> {
+    let plane = plane_of(rt.alloc(), b"x = 3, y = 1, rule = WireWorld\nCCA!")?;
+    expect_driven(rt.alloc(), &plane, b"AAB$3 1")
+}
+
+fn mirrored(alloc: Global, pattern: &Pattern) -> Result<Plane, RuleError> {
+    let mirror = mirror_x(alloc, pattern)?;
+    Plane::from_pattern(alloc, &mirror)
+}
+
+fn expect_mirror(alloc: Global, pattern: &Pattern, want: &[u8]) -> Result<(), Fail> {
+    let plane = mirrored(alloc, pattern)?;
+    expect_plane(alloc, &plane, want)
 }
 
 #[test]
 fn a_mirror_turns_each_row(rt: HostRuntime) -> Result<(), Fail> {
-    let alloc = rt.alloc();
-    let pattern = read(alloc, b"x = 3, y = 1, rule = WireWorld\nCA.!")?;
-    let mirror = mirror_x(alloc, &pattern)?;
-    expect(
-        &shown(alloc, &Plane::from_pattern(alloc, &mirror)?)?,
-        b".AC$3 1",
-    )
+    let pattern = read(rt.alloc(), b"x = 3, y = 1, rule = WireWorld\nCA.!")?;
+    expect_mirror(rt.alloc(), &pattern, b".AC$3 1")
 }

@@ -6,9 +6,10 @@ ghost use Rattle.pattern_reading.specs.SoundTable.{IsSoundTable};
 ghost use Rattle.ww_rule.specs.Grid.{AreInBox};
 ghost use Rattle.drive.specs.Driving.{AreFor};
 
+use crate::texts::joined;
 use crate::waves::dump_said;
 use drive::{SimulateError, StreamError, Streams, simulate};
-use lists::{Bytes, List};
+use lists::{Bytes, List, copied};
 use pattern_reading::{PortLine, Ports};
 use std::alloc::{AllocError, Global};
 use std::test::Fail;
@@ -69,7 +70,7 @@ fn names_of(alloc: Global, ports: &[PortLine]) -> Result<Vec<Bytes>, AllocError>
 {
     let mut names = Vec::new(alloc);
     for port in ports {
-        names.push(Bytes::of(port.name.as_slice().to_vec(alloc)?))?;
+        names.push(copied(alloc, port.name.as_slice())?)?;
     }
     Ok(names)
 }
@@ -78,8 +79,7 @@ fn push_bits(text: &mut Vec<u8>, bits: &[bool]) -> Result<(), AllocError> {
     for bit in bits {
         text.push(b'0' + u8::from(*bit))?;
     }
-    text.push(b',')?;
-    Ok(())
+    text.extend_from_slice(b",")
 }
 
 // The bits of each output, with a comma after them.
@@ -92,13 +92,12 @@ fn shown(alloc: Global, outputs: &[List<bool>]) -> Result<Vec<u8>, AllocError> {
 }
 
 // A fault, and the word at fault.
-fn fault_shown(alloc: Global, error: StreamError) -> Result<Vec<u8>, AllocError> {
+fn fault_shown(alloc: Global, error: &StreamError) -> Result<Vec<u8>, AllocError> {
     let StreamError::Fault(fault) = error else {
         return Err(AllocError);
     };
-    let mut text = format!(in alloc; "{:?} ", fault.kind)?.into_bytes();
-    text.extend_from_slice(fault.word.as_slice())?;
-    Ok(text)
+    let kind = format!(in alloc; "{:?} ", fault.kind)?;
+    joined(alloc, &[kind.as_bytes(), fault.word.as_slice()])
 }
 
 // The streams that words say for inputs of so many contexts.
@@ -130,15 +129,14 @@ pub enum Asked {
 
 /// Why a pattern is not run.
 pub fn refusal_said(alloc: Global, error: SimulateError) -> Result<Vec<u8>, AllocError> {
-    match error {
-        SimulateError::TooFar { generations } => {
-            Ok(format!(in alloc; "TooFar {generations}")?.into_bytes())
-        }
-        SimulateError::NotQuiet { generation, x, y } => {
-            Ok(format!(in alloc; "NotQuiet {generation} {x} {y}")?.into_bytes())
-        }
+    let said = match error {
+        SimulateError::TooFar { generations } => format!(in alloc; "TooFar {generations}"),
+        SimulateError::NotQuiet { generation, x, y } => format!(in alloc;
+            "NotQuiet {generation} {x} {y}"
+        ),
         SimulateError::NoMemory => Err(AllocError),
-    }
+    };
+    Ok(said?.into_bytes())
 }
 
 // What outputs show, or why a pattern is not run.
@@ -187,7 +185,7 @@ fn said(
     let ports = port_table::read(alloc, text, pattern.width, pattern.height)?;
     let said = match streams_for(alloc, ports.ins.as_slice(), words, cycles, ports.c) {
         Ok(streams) => run(alloc, pattern, &ports, &streams, asked),
-        Err(error) => fault_shown(alloc, error),
+        Err(error) => fault_shown(alloc, &error),
     };
     Ok(said?)
 }
@@ -204,9 +202,21 @@ pub fn said_of(
     if cycles == 0 {
         return Err(Fail::new("no cycles"));
     }
-    let mut text = table.to_vec(alloc)?;
-    text.extend_from_slice(pattern)?;
+    let text = joined(alloc, &[table, pattern])?;
     said(alloc, &text, words, cycles, asked)
+}
+
+/// Expects this of what is said.
+pub fn expect_said(
+    alloc: Global,
+    table: &[u8],
+    pattern: &[u8],
+    words: &[&str],
+    cycles: usize,
+    asked: Asked,
+    want: &[u8],
+) -> Result<(), Fail> {
+    expect(&said_of(alloc, table, pattern, words, cycles, asked)?, want)
 }
 
 /// Expects this of what the outputs show, in both ways.
@@ -218,10 +228,8 @@ pub fn expect_shown(
     cycles: usize,
     want: &[u8],
 ) -> Result<(), Fail> {
-    let driven = said_of(alloc, table, pattern, words, cycles, Asked::Outputs)?;
-    expect(&driven, want)?;
-    let drawn = said_of(alloc, table, pattern, words, cycles, Asked::Drawn)?;
-    Ok(expect(&drawn, want)?)
+    expect_said(alloc, table, pattern, words, cycles, Asked::Outputs, want)?;
+    expect_said(alloc, table, pattern, words, cycles, Asked::Drawn, want)
 }
 
 // A ring on which an electron goes round for ever.

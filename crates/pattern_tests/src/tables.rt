@@ -1,9 +1,20 @@
 // Tables of known texts, and texts that are at fault.
+use crate::texts::{joined, push_all};
 use lists::List;
 use port_table::{NetLine, PortLine, PortReadError, Ports, read, write_line};
 use std::alloc::{AllocError, Global};
 use std::test::Fail;
 use ww_base::{MemSink, expect};
+
+fn push_port(
+    alloc: Global,
+    line: &mut Vec<u8>,
+    kind: &str,
+    port: &PortLine,
+) -> Result<(), AllocError> {
+    let start = format!(in alloc; ", {kind} {} {} ", port.x, port.y)?;
+    push_all(line, &[start.as_bytes(), port.name.as_slice()])
+}
 
 fn push_ports(
     alloc: Global,
@@ -12,21 +23,29 @@ fn push_ports(
     ports: &[PortLine],
 ) -> Result<(), AllocError> {
     for port in ports {
-        line.extend_from_slice(format!(in alloc; ", {kind} {} {} ", port.x, port.y)?.as_bytes())?;
-        line.extend_from_slice(port.name.as_slice())?;
+        push_port(alloc, line, kind, port)?;
     }
     Ok(())
 }
 
-fn push_nets(alloc: Global, line: &mut Vec<u8>, nets: &[NetLine]) -> Result<(), AllocError> {
-    for net in nets {
-        line.extend_from_slice(format!(in alloc;
-            ", NET {} {} {} ",
-            net.x, net.y, net.offset
-        )?.as_bytes())?;
-        line.extend_from_slice(net.name.as_slice())?;
-        line.push(b' ')?;
-        line.extend_from_slice(net.path.as_slice())?;
+fn push_net(alloc: Global, line: &mut Vec<u8>, net: &NetLine) -> Result<(), AllocError> {
+    let start = format!(in alloc; ", NET {} {} {} ", net.x, net.y, net.offset)?;
+    push_all(
+        line,
+        &[
+            start.as_bytes(),
+            net.name.as_slice(),
+            b" ",
+            net.path.as_slice(),
+        ],
+    )
+}
+
+fn push_table(alloc: Global, line: &mut Vec<u8>, ports: &Ports) -> Result<(), AllocError> {
+    push_ports(alloc, line, "IN", ports.ins.as_slice())?;
+    push_ports(alloc, line, "OUT", ports.outs.as_slice())?;
+    for net in ports.nets.as_slice() {
+        push_net(alloc, line, net)?;
     }
     Ok(())
 }
@@ -34,21 +53,30 @@ fn push_nets(alloc: Global, line: &mut Vec<u8>, nets: &[NetLine]) -> Result<(), 
 // A table as one line: the period, the latency and the number of contexts, and then each port and net.
 fn shown(alloc: Global, ports: &Ports) -> Result<Vec<u8>, AllocError> {
     let mut line = format!(in alloc; "{} {} {}", ports.p, ports.l, ports.c)?.into_bytes();
-    push_ports(alloc, &mut line, "IN", ports.ins.as_slice())?;
-    push_ports(alloc, &mut line, "OUT", ports.outs.as_slice())?;
-    push_nets(alloc, &mut line, ports.nets.as_slice())?;
+    push_table(alloc, &mut line, ports)?;
     Ok(line)
 }
 
-// The table of a text for a pattern of this size, or its fault and line.
-fn said(alloc: Global, text: &[u8], width: u64, height: u64) -> Result<Vec<u8>, AllocError> {
-    match read(alloc, text, width, height) {
-        Ok(ports) => shown(alloc, &ports),
+// A table, or its fault and line.
+fn read_shown(alloc: Global, read: &Result<Ports, PortReadError>) -> Result<Vec<u8>, AllocError> {
+    match read {
+        Ok(ports) => shown(alloc, ports),
         Err(PortReadError::Fault(fault)) => {
             Ok(format!(in alloc; "{:?} {}", fault.kind, fault.line)?.into_bytes())
         }
         Err(PortReadError::NoMemory) => Err(AllocError),
     }
+}
+
+// What the table of a text for a pattern of this size says.
+fn expect_table(
+    alloc: Global,
+    text: &[u8],
+    width: u64,
+    height: u64,
+    want: &[u8],
+) -> Result<(), Fail> {
+    expect(&read_shown(alloc, &read(alloc, text, width, height))?, want)
 }
 
 // The OR gate's table.
@@ -212,7 +240,7 @@ const TABLES: &[(&[u8], u64, u64, &[u8])] = &[
 #[test]
 fn tables_are_read(rt: HostRuntime) -> Result<(), Fail> {
     for (text, width, height, want) in TABLES {
-        expect(&said(rt.alloc(), text, *width, *height)?, want)?;
+        expect_table(rt.alloc(), text, *width, *height, want)?;
     }
     Ok(())
 }
@@ -228,33 +256,50 @@ fn name_of_all_bytes(alloc: Global) -> Result<Vec<u8>, AllocError> {
     Ok(name)
 }
 
-// The text of a table whose one input has a name.
-fn text_of(alloc: Global, name: Vec<u8>) -> Result<MemSink, Fail> {
+// A table whose one input has a name.
+fn table_with(alloc: Global, name: &[u8]) -> Result<Ports, AllocError> {
+    let name = name.to_vec(alloc)?;
     let mut ins = Vec::new(alloc);
     ins.push(PortLine {
         x: 0,
         y: 0,
         name: List::of(name),
     })?;
-    let ports = Ports {
+    Ok(Ports {
         p: 32,
         l: 0,
         c: 1,
         ins: List::of(ins),
         outs: List::of(Vec::new(alloc)),
         nets: List::of(Vec::new(alloc)),
-    };
+    })
+}
+
+// Writes both lines of a table.
+fn write_lines(ports: &Ports, sink: &mut MemSink) -> Result<(), Fail> {
+    write_line(ports, 0, sink)?;
+    write_line(ports, 1, sink)?;
+    Ok(())
+}
+
+fn text_of(alloc: Global, ports: &Ports) -> Result<MemSink, Fail> {
     let mut sink = MemSink::new(alloc, 1000, 1000, &[])?;
-    write_line(&ports, 0, &mut sink)?;
-    write_line(&ports, 1, &mut sink)?;
+    write_lines(ports, &mut sink)?;
     Ok(sink)
+}
+
+fn expect_name(alloc: Global, text: &[u8], name: &[u8]) -> Result<(), Fail> {
+    let want = joined(alloc, &[b"32 0 1, IN 0 0 ", name])?;
+    expect_table(alloc, text, 1, 1, &want)
+}
+
+fn expect_read_back(alloc: Global, name: &[u8]) -> Result<(), Fail> {
+    let ports = table_with(alloc, name)?;
+    expect_name(alloc, text_of(alloc, &ports)?.held(), name)
 }
 
 #[test]
 fn a_name_of_all_bytes_is_read_back(rt: HostRuntime) -> Result<(), Fail> {
-    let alloc = rt.alloc();
-    let sink = text_of(alloc, name_of_all_bytes(alloc)?)?;
-    let mut want = b"32 0 1, IN 0 0 ".as_slice().to_vec(alloc)?;
-    want.extend_from_slice(&name_of_all_bytes(alloc)?)?;
-    expect(&said(alloc, sink.held(), 1, 1)?, &want)
+    let name = name_of_all_bytes(rt.alloc())?;
+    expect_read_back(rt.alloc(), &name)
 }

@@ -1,13 +1,9 @@
-// Cells as letters.
-ghost use Rattle.std.specs.Prelude.{◌≡◌, ◌≤◌, ◌+◌, length, IfOk};
-
+// Cells as letters, and texts of several parts.
 use std::alloc::{AllocError, Global};
 use ww_rule::{CellRows, State};
 
 /// The letter of a cell, as in RLE.
-pub fn letter(state: State) -> u8
-    ensures { result ≤ 67 }
-{
+pub fn letter(state: State) -> u8 {
     match state {
         State::Empty => b'.',
         State::Head => b'A',
@@ -17,23 +13,39 @@ pub fn letter(state: State) -> u8
 }
 
 /// Adds the letters of cells.
-pub fn push_cells(text: &mut Vec<u8>, cells: &[State]) -> Result<(), AllocError>
-    ensures { IfOk result (λ _. length text.new.items ≡ length text.old.items + length cells.now) }
-{
+pub fn push_cells(text: &mut Vec<u8>, cells: &[State]) -> Result<(), AllocError> {
     for state in cells {
         text.push(letter(*state))?;
     }
     Ok(())
 }
 
+// Adds the letters of a row, and `$` after it.
+fn push_row(text: &mut Vec<u8>, cells: &[State]) -> Result<(), AllocError> {
+    push_cells(text, cells)?;
+    text.extend_from_slice(b"$")
+}
+
 /// The letters of rows, with `$` after each row.
-pub fn drawn(alloc: Global, rows: &CellRows) -> Result<Vec<u8>, AllocError>
-    ensures { IfOk result (λ text. length rows.now ≤ length text.items) }
-{
+pub fn drawn(alloc: Global, rows: &CellRows) -> Result<Vec<u8>, AllocError> {
     let mut text = Vec::new(alloc);
     for y in 0..rows.len() {
-        push_cells(&mut text, rows.row_or_none(y))?;
-        text.push(b'$')?;
+        push_row(&mut text, rows.row_or_none(y))?;
     }
+    Ok(text)
+}
+
+/// Adds parts, one after the other.
+pub fn push_all(text: &mut Vec<u8>, parts: &[&[u8]]) -> Result<(), AllocError> {
+    for part in parts {
+        text.extend_from_slice(part)?;
+    }
+    Ok(())
+}
+
+/// A text of parts.
+pub fn joined(alloc: Global, parts: &[&[u8]]) -> Result<Vec<u8>, AllocError> {
+    let mut text = Vec::new(alloc);
+    push_all(&mut text, parts)?;
     Ok(text)
 }

@@ -4,7 +4,8 @@ ghost use Rattle.pattern_reading.specs.Ports.{cells_of};
 ghost use Rattle.ww_rule.specs.Grid.{AreInBox};
 ghost use Rattle.drive.specs.Driving.{AreFor};
 
-use crate::runs::{Asked, OR_GATE, WIRE, refusal_said, said_of};
+use crate::runs::{Asked, OR_GATE, WIRE, expect_said, refusal_said, said_of};
+use crate::texts::push_all;
 use drive::Streams;
 use pattern_reading::Ports;
 use std::alloc::{AllocError, Global};
@@ -134,18 +135,29 @@ $var wire 1 # 1:y $end\n$var wire 1 $ 1:1.0/a $end\n$enddefinitions $end
 #[test]
 fn nets_are_dumped(rt: HostRuntime) -> Result<(), Fail> {
     for (table, pattern, words, cycles, want) in DUMPS {
-        let said = said_of(rt.alloc(), table, pattern, words, *cycles, Asked::Dump)?;
-        expect(&said, want)?;
+        expect_said(
+            rt.alloc(),
+            table,
+            pattern,
+            words,
+            *cycles,
+            Asked::Dump,
+            want,
+        )?;
     }
     Ok(())
+}
+
+fn push_net(alloc: Global, table: &mut Vec<u8>, net: usize) -> Result<(), AllocError> {
+    let line = format!(in alloc; "#C BLIFWW NET 0 0 0 n{net} -\n")?;
+    table.extend_from_slice(line.as_bytes())
 }
 
 // A table of a wire with so many nets.
 fn table_of(alloc: Global, nets: usize) -> Result<Vec<u8>, AllocError> {
     let mut table = b"#C BLIFWW 1 P 4 L 2\n#C BLIFWW IN 0 0 a\n".to_vec(alloc)?;
     for net in 0..nets {
-        let line = format!(in alloc; "#C BLIFWW NET 0 0 0 n{net} -\n")?;
-        table.extend_from_slice(line.as_bytes())?;
+        push_net(alloc, &mut table, net)?;
     }
     Ok(table)
 }
@@ -154,20 +166,31 @@ fn table_of(alloc: Global, nets: usize) -> Result<Vec<u8>, AllocError> {
 fn lines(alloc: Global, text: &[u8], first: usize, many: usize) -> Result<Vec<u8>, AllocError> {
     let mut found = Vec::new(alloc);
     for line in text.split(|b| *b == b'\n').skip(first).take(many) {
-        found.extend_from_slice(line)?;
-        found.push(b'\n')?;
+        push_all(&mut found, &[line, b"\n"])?;
     }
     Ok(found)
+}
+
+fn expect_lines(alloc: Global, text: &[u8], first: usize, want: &[u8]) -> Result<(), Fail> {
+    expect(&lines(alloc, text, first, 2)?, want)
+}
+
+// Expects these ids of the last two nets of many on the wire.
+fn expect_ids(alloc: Global, table: &[u8], first: usize, want: &[u8]) -> Result<(), Fail> {
+    let said = said_of(alloc, table, WIRE, &["a=1"], 1, Asked::Dump)?;
+    expect_lines(alloc, &said, first, want)
 }
 
 // The last id of one digit, and the first of two.
 #[test]
 fn ids_have_digits(rt: HostRuntime) -> Result<(), Fail> {
-    let alloc = rt.alloc();
-    let table = table_of(alloc, 95)?;
-    let said = said_of(alloc, &table, WIRE, &["a=1"], 1, Asked::Dump)?;
-    let ids = lines(alloc, &said, 93, 2)?;
-    expect(&ids, b"$var wire 1 ~ n93 $end\n$var wire 1 !\" n94 $end\n")
+    let table = table_of(rt.alloc(), 95)?;
+    expect_ids(
+        rt.alloc(),
+        &table,
+        93,
+        b"$var wire 1 ~ n93 $end\n$var wire 1 !\" n94 $end\n",
+    )
 }
 
 // Some bits around the borders of words, where two are set.

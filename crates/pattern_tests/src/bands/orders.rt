@@ -5,7 +5,7 @@ ghost use Rattle.ww_rule.specs.Grid.{AreInBox};
 ghost use Rattle.ww_rule.specs.Injections.{AreInside};
 ghost use Rattle.band_core.specs.Bands.{IsSamePattern, generation_of};
 
-use super::shown::shown_row;
+use super::shown::push_row;
 use crate::texts::push_cells;
 use band_core::Bands;
 use rle_read::read;
@@ -16,7 +16,7 @@ use ww_rule::{Injection, Pattern, Plane, step_driven};
 // The last generation that a band comes to.
 const LAST: u64 = 6;
 
-#[derive(Drop)]
+#[derive(Clone, Copy)]
 struct Dice {
     state: u32,
 }
@@ -32,7 +32,7 @@ impl Dice {
 }
 
 // Adds a row of random cells.
-fn push_row(text: &mut Vec<u8>, dice: &mut Dice, width: u64) -> Result<(), AllocError> {
+fn push_random_row(text: &mut Vec<u8>, dice: &mut Dice, width: u64) -> Result<(), AllocError> {
     for _x in 0..width {
         let letter = match dice.below(8) {
             0 => b'.',
@@ -42,17 +42,21 @@ fn push_row(text: &mut Vec<u8>, dice: &mut Dice, width: u64) -> Result<(), Alloc
         };
         text.push(letter)?;
     }
-    text.push(b'$')?;
-    Ok(())
+    text.extend_from_slice(b"$")
+}
+
+// Adds five rows, and an end.
+fn push_random_rows(text: &mut Vec<u8>, dice: &mut Dice, width: u64) -> Result<(), AllocError> {
+    for _y in 0..5 {
+        push_random_row(text, dice, width)?;
+    }
+    text.extend_from_slice(b"!")
 }
 
 // The text of a random pattern of five rows.
 fn random_text(alloc: Global, dice: &mut Dice, width: u64) -> Result<Vec<u8>, AllocError> {
     let mut text = format!(in alloc; "x = {width}, y = 5, rule = WireWorld\n")?.into_bytes();
-    for _y in 0..5 {
-        push_row(&mut text, dice, width)?;
-    }
-    text.push(b'!')?;
+    push_random_rows(&mut text, dice, width)?;
     Ok(text)
 }
 
@@ -129,16 +133,27 @@ fn next_plane(
     Ok(step_driven(alloc, plane, &cells)?)
 }
 
+// Adds the plane of the next generation.
+fn push_plane(
+    planes: &mut Vec<Plane>,
+    alloc: Global,
+    drive: &[Injection],
+    generation: u64,
+) -> Result<(), Fail> {
+    if let Some(plane) = planes.last() {
+        let next = next_plane(alloc, plane, drive, generation)?;
+        planes.push(next)?;
+    }
+    Ok(())
+}
+
 // The planes of the generations, by the plain step.
 fn planes(alloc: Global, pattern: &Pattern, drive: &[Injection]) -> Result<Vec<Plane>, Fail> {
-    let mut plane = first_plane(alloc, pattern, drive)?;
     let mut planes = Vec::new(alloc);
+    planes.push(first_plane(alloc, pattern, drive)?)?;
     for generation in 1..LAST + 1 {
-        let next = next_plane(alloc, &plane, drive, generation)?;
-        planes.push(plane)?;
-        plane = next;
+        push_plane(&mut planes, alloc, drive, generation)?;
     }
-    planes.push(plane)?;
     Ok(planes)
 }
 
@@ -169,7 +184,21 @@ fn call_at_random(bands: &mut Bands, dice: &mut Dice)
     }
 }
 
-// Whether a row shows what the plane of its band's generation has there.
+// A row of the plane of a generation, if that is there.
+fn plane_row(
+    alloc: Global,
+    planes: &[Plane],
+    generation: u64,
+    y: u64,
+) -> Result<Vec<u8>, AllocError> {
+    let mut row = Vec::new(alloc);
+    if let Some(plane) = planes.get(generation as usize) {
+        push_cells(&mut row, plane.rows.row_or_none(y as usize))?;
+    }
+    Ok(row)
+}
+
+// Whether a row of some cells shows what the plane of its band's generation has there.
 fn is_right(
     alloc: Global,
     bands: &Bands,
@@ -182,19 +211,15 @@ fn is_right(
     requires width { width ≡ bands.now.grid.width }
     requires row { y < length bands.now.grid.rows }
 {
-    let shown = shown_row(alloc, bands, height, width, y)?;
     let count = bands.bands();
     let b = y as usize / height as usize;
     if b >= count {
         return Ok(false);
     }
-    let generation = bands.generation(b);
-    let Some(plane) = planes.get(generation as usize) else {
-        return Ok(false);
-    };
-    let mut drawn = Vec::new(alloc);
-    push_cells(&mut drawn, plane.rows.row_or_none(y as usize))?;
-    Ok(drawn == shown)
+    let want = plane_row(alloc, planes, bands.generation(b), y)?;
+    let mut shown = Vec::new(alloc);
+    push_row(&mut shown, bands, height, width, y)?;
+    Ok(!shown.is_empty() && shown == want)
 }
 
 // Whether all five rows do.
@@ -217,6 +242,23 @@ fn are_right(
 }
 
 // Whether all rows do, after calls in a random order.
+fn calls_are_right(
+    alloc: Global,
+    dice: &mut Dice,
+    bands: &mut Bands,
+    height: u32,
+    width: u64,
+    planes: &[Plane],
+) -> Result<bool, AllocError>
+    requires height { height ≡ bands.old.height }
+    requires width { width ≡ bands.old.grid.width }
+    requires rows { length bands.old.grid.rows ≡ 5 }
+{
+    call_at_random(bands, dice);
+    are_right(alloc, bands, height, width, planes)
+}
+
+// The same of a random pattern, which is driven at random.
 fn order_is_right(alloc: Global, dice: &mut Dice, height: u32, width: u64) -> Result<bool, Fail>
     requires height { 0 < height }
     requires width { 0 < width }
@@ -225,20 +267,32 @@ fn order_is_right(alloc: Global, dice: &mut Dice, height: u32, width: u64) -> Re
     let drive = random_drive(alloc, dice, width)?;
     let planes = planes(alloc, &pattern, &drive)?;
     let mut bands = Bands::new(alloc, pattern, drive, height)?;
-    call_at_random(&mut bands, dice);
-    Ok(are_right(alloc, &bands, height, width, &planes)?)
+    Ok(calls_are_right(alloc, dice, &mut bands, height, width, &planes)?)
+}
+
+fn expect_right(alloc: Global, dice: &mut Dice, height: u32, width: u64) -> Result<(), Fail>
+    requires height { 0 < height }
+    requires width { 0 < width }
+{
+    if order_is_right(alloc, dice, height, width)? {
+        Ok(())
+    } else {
+        Err(Fail::new(format_args!("bands of {height} rows, {width} columns")))
+    }
+}
+
+fn expect_all_right(alloc: Global, dice: &mut Dice) -> Result<(), Fail> {
+    for (height, width) in [(1, 3), (2, 3), (3, 65), (1, 65), (2, 64), (7, 1)] {
+        expect_right(alloc, dice, height, width)?;
+    }
+    Ok(())
 }
 
 #[test]
 fn random_orders_show_the_driven_planes(rt: HostRuntime) -> Result<(), Fail> {
-    let alloc = rt.alloc();
     let mut dice = Dice { state: 1 };
-    let kinds = [(1, 3), (2, 3), (3, 65), (1, 65), (2, 64), (7, 1)];
     for _round in 0..334 {
-        for (height, width) in kinds {
-            let is_right = order_is_right(alloc, &mut dice, height, width)?;
-            assert!(rt; is_right, "bands of {height} rows, {width} columns");
-        }
+        expect_all_right(rt.alloc(), &mut dice)?;
     }
     Ok(())
 }

@@ -1,30 +1,28 @@
 // Rows that bands show, as letters.
-ghost use Rattle.std.specs.Prelude.{◌≡◌, ◌<◌, ◌≤◌, length, IfOk};
+ghost use Rattle.std.specs.Prelude.{◌≡◌, ◌<◌, length};
 
 use crate::texts::letter;
 use band_core::Bands;
-use std::alloc::{AllocError, Global};
+use std::alloc::AllocError;
 
-/// A row of the pattern, at the generation of its band.
-pub fn shown_row(
-    alloc: Global,
+/// Adds a row of the pattern, at the generation of its band.
+pub fn push_row(
+    text: &mut Vec<u8>,
     bands: &Bands,
     height: u32,
     width: u64,
     y: u64,
-) -> Result<Vec<u8>, AllocError>
+) -> Result<(), AllocError>
     requires height { height ≡ bands.now.height }
     requires width { width ≡ bands.now.grid.width }
     requires row { y < length bands.now.grid.rows }
-    ensures { IfOk result (λ row. length row.items ≤ width) }
 {
-    let mut row = Vec::new(alloc);
     let count = bands.bands();
     let b = y as usize / height as usize;
     if b < count {
         for x in 0..width {
-            row.push(letter(bands.cell(b, x, y)))?;
+            text.push(letter(bands.cell(b, x, y)))?;
         }
     }
-    Ok(row)
+    Ok(())
 }

@@ -1,5 +1,5 @@
 use Rattle.std.proofs.Common.{◌≡◌, All, length}
-use Rattle.layout_tests.proofs.drawings.drawn.Given as goal
+use Rattle.layout_tests.proofs.circuits.drawn.Given as goal
 
 abbrev pub invariant-loop-y : goal.invariant-loop-y
 invariant-loop-y l =

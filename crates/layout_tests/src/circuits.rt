@@ -1,0 +1,237 @@
+// A circuit and a loop, run by the rule alone.
+ghost use Rattle.std.specs.Prelude.{◌≡◌, ◌<◌, IfOk};
+ghost use Rattle.lane_core.specs.Plans.{IsAdmissible};
+ghost use Rattle.plan_layout.specs.Starts.{HasStartEdges};
+
+use crate::fails::expect_turn;
+use crate::macro_steps::edges_after;
+use crate::plans::{LOOP, Written, admitted};
+use grid_assembly::fill_row;
+use lane_core::{Instr, Plan, Start, run_columns};
+use macro_grid::Edges;
+use std::alloc::Global;
+use std::test::Fail;
+use ww_rule::{CellRows, Plane, RuleError, State, step_driven};
+
+/// A circuit of five lanes, with each instruction in one of its columns, an input on every other lane, and an output on
+/// every lane.
+pub const CIRCUIT: Written<'static> = Written {
+    lanes: 5,
+    columns: &[
+        &[Instr::Fork(0), Instr::Fork(2)],
+        &[Instr::Swap(1), Instr::AndNot(3)],
+        &[Instr::Xor(0), Instr::Or(2)],
+        &[Instr::Swap(1)],
+    ],
+    latches: 0,
+    starts: &[],
+    ins: &[0, 2, 4],
+    outs: &[0, 1, 2, 3, 4],
+    nets: &[],
+    tape: &[],
+};
+
+// 129 columns and 80 rows of cells: the circuit's, and more rows than the loop's.
+fn drawn(alloc: Global, plan: &Plan) -> Result<Plane, RuleError>
+    requires { IsAdmissible plan.now }
+    ensures width { IfOk result (λ plane. plane.width ≡ 129) }
+    ensures height { IfOk result (λ plane. plane.height ≡ 80) }
+{
+    let mut rows = CellRows::with_room(alloc, 129, 80)?;
+    for y in 0..80 {
+        let mut row = [State::Empty; 129];
+        fill_row(plan, y, 0, &mut row);
+        rows.push_row(&row)?;
+    }
+    Ok(Plane {
+        width: 129,
+        height: 80,
+        rows,
+    })
+}
+
+// The plane with the head of an input whose bit is 1.
+fn with_input(plane: Plane, y: u64, bit: bool) -> Plane
+    requires wide { 0 < plane.width }
+    requires high { y < plane.height }
+    ensures width { result.width ≡ plane.width }
+    ensures height { result.height ≡ plane.height }
+{
+    if bit { plane.inject(&[(0, y)]) } else { plane }
+}
+
+// The plane after some generations by the rule.
+fn evolved(alloc: Global, start: Plane, generations: u64) -> Result<Plane, RuleError> {
+    let mut plane = start;
+    for _ in 0..generations {
+        plane = step_driven(alloc, &plane, &[])?;
+    }
+    Ok(plane)
+}
+
+// Whether the cell at x, y is a head.
+fn is_head(plane: &Plane, x: u64, y: u64) -> bool {
+    plane.rows.row_or_none(y as usize).get(x as usize) == Some(&State::Head)
+}
+
+// The circuit's plane after 128 generations, of the bits of its inputs.
+fn answered(alloc: Global, plan: &Plan, ins: [bool; 3]) -> Result<Plane, RuleError>
+    requires { IsAdmissible plan.now }
+{
+    let dark = drawn(alloc, plan)?;
+    let first = with_input(dark, 8, ins[0]);
+    let second = with_input(first, 40, ins[1]);
+    let start = with_input(second, 72, ins[2]);
+    evolved(alloc, start, 128)
+}
+
+// The bits of five lanes after the columns of a plan on them.
+fn after_columns(plan: &Plan, bits: [bool; 5]) -> [bool; 5]
+    requires admissible { IsAdmissible plan.now }
+    requires lanes { plan.now.lanes ≡ 5 }
+{
+    let mut bits = bits;
+    run_columns(plan.columns.as_slice(), &mut bits);
+    bits
+}
+
+// Whether the cells of the circuit's outputs are heads.
+fn out_heads(plane: &Plane) -> [bool; 5] {
+    [
+        is_head(plane, 128, 8),
+        is_head(plane, 128, 24),
+        is_head(plane, 128, 40),
+        is_head(plane, 128, 56),
+        is_head(plane, 128, 72),
+    ]
+}
+
+fn expect_answer(alloc: Global, plan: &Plan, choice: u64) -> Result<(), Fail>
+    requires admissible { IsAdmissible plan.now }
+    requires lanes { plan.now.lanes ≡ 5 }
+{
+    let [a, b, c] = [choice & 1 == 1, choice & 2 == 2, choice & 4 == 4];
+    let bits = after_columns(plan, [a, false, b, false, c]);
+    let end = answered(alloc, plan, [a, b, c])?;
+    expect_turn("choice", choice, out_heads(&end) == bits)
+}
+
+fn answers(alloc: Global, plan: &Plan) -> Result<(), Fail>
+    requires admissible { IsAdmissible plan.now }
+    requires lanes { plan.now.lanes ≡ 5 }
+{
+    for choice in 0..8 {
+        expect_answer(alloc, plan, choice)?;
+    }
+    Ok(())
+}
+
+#[test]
+fn a_circuit_answers_by_the_rule(rt: HostRuntime) -> Result<(), Fail> {
+    let plan = admitted(rt.alloc(), &CIRCUIT)?;
+    answers(rt.alloc(), &plan)
+}
+
+// How many heads there are.
+fn heads_of(plane: &Plane) -> usize {
+    let mut heads = 0usize;
+    for place in 0..10_320 {
+        if is_head(plane, place % 129, place / 129) {
+            heads = heads.saturating_add(1);
+        }
+    }
+    heads
+}
+
+// Whether the heads are at these cells, of which no two are the same.
+fn has_heads_at(plane: &Plane, cells: &[Start]) -> bool {
+    let mut same = heads_of(plane) == cells.len();
+    for cell in cells {
+        same = same && is_head(plane, cell.x, cell.y);
+    }
+    same
+}
+
+// Whether one of the two cells at the west side of a block is a head just where the edge is lit, and one of those at its
+// north side too.
+fn has_heads_round(plane: &Plane, edges: &Edges, column: u64, lane: u64) -> bool
+    requires in_columns { column < 5 }
+    requires in_lanes { lane < 4 }
+{
+    let (x, y) = (32 * column, 16 * lane);
+    let beside = is_head(plane, x, y + 8) || is_head(plane, x.saturating_sub(1), y + 8);
+    let above = is_head(plane, x + 16, y) || is_head(plane, x + 16, y.saturating_sub(1));
+    beside == edges.beside(column, lane) && above == edges.above(column, lane)
+}
+
+// Whether that is so at each block.
+fn has_heads_of(plane: &Plane, edges: &Edges) -> bool {
+    let mut same = true;
+    for block in 0..20 {
+        same = same && has_heads_round(plane, edges, block / 4, block % 4);
+    }
+    same
+}
+
+// The heads after each 32 generations, through the Or and the Fork, to the output and round: the cells were read off the
+// drawing by hand.
+const LOOP_HEADS: &[&[Start]] = &[
+    &[Start { x: 32, y: 24 }],
+    &[Start { x: 64, y: 8 }],
+    &[Start { x: 96, y: 8 }, Start { x: 96, y: 24 }],
+    &[Start { x: 112, y: 32 }],
+    &[Start { x: 95, y: 40 }],
+    &[Start { x: 63, y: 40 }],
+    &[Start { x: 31, y: 40 }],
+    &[Start { x: 16, y: 31 }],
+    &[Start { x: 32, y: 24 }],
+];
+
+// The plane after so many times 32 generations.
+fn plane_after(alloc: Global, plan: &Plan, steps: u64) -> Result<Plane, RuleError>
+    requires { IsAdmissible plan.now }
+{
+    evolved(alloc, drawn(alloc, plan)?, steps.saturating_mul(32))
+}
+
+// After so many times 32 generations the heads are at these cells, and those of so many macro steps.
+fn expect_plane(alloc: Global, plan: &Plan, steps: u64, heads: &[Start]) -> Result<(), Fail>
+    requires admissible { IsAdmissible plan.now }
+    requires starts { HasStartEdges plan.now }
+{
+    let plane = plane_after(alloc, plan, steps)?;
+    let edges = edges_after(alloc, plan, steps)?;
+    let is_right = has_heads_at(&plane, heads) && has_heads_of(&plane, &edges);
+    expect_turn("after steps", steps, is_right)
+}
+
+fn expect_heads(
+    alloc: Global,
+    written: &Written<'_>,
+    steps: u64,
+    heads: &[Start],
+) -> Result<(), Fail> {
+    let plan = admitted(alloc, written)?;
+    expect_plane(alloc, &plan, steps, heads)
+}
+
+#[test]
+fn a_loop_goes_round_by_the_rule_and_by_macro_steps(rt: HostRuntime) -> Result<(), Fail> {
+    for (step, heads) in LOOP_HEADS.iter().enumerate() {
+        expect_heads(rt.alloc(), &LOOP, step as u64, heads)?;
+    }
+    Ok(())
+}
+
+// A plan that starts on these edges has its heads there.
+#[test]
+fn a_loop_starts_anywhere_on_its_way(rt: HostRuntime) -> Result<(), Fail> {
+    for heads in LOOP_HEADS {
+        let started = Written {
+            starts: heads,
+            ..LOOP
+        };
+        expect_heads(rt.alloc(), &started, 0, heads)?;
+    }
+    Ok(())
+}

@@ -1,0 +1,93 @@
+// The rules of plans: their lanes, ports, starts and tapes.
+use crate::fails::expect_turn;
+use crate::plans::{LOOP, OR, Written, plan_of};
+use lane_core::Start;
+use macro_grid::admissible;
+use std::alloc::Global;
+use std::test::Fail;
+
+// What is written otherwise of a plan: the lanes and the loops of an Or, its inputs and its outputs, its tape or its
+// start, or the start of the loop.
+enum Change {
+    Ports(u32, u32, &'static [u32], &'static [u32]),
+    Tape(&'static [&'static [u8]]),
+    OrStart(&'static [Start]),
+    LoopStart(&'static [Start]),
+}
+
+// Changes, and whether a plan is admissible with them.
+const RULES: &[(Change, bool)] = &[
+    (Change::Ports(2, 0, &[0, 1], &[0]), true),
+    (Change::Ports(3, 0, &[0, 2], &[1]), true),
+    (Change::Ports(1, 0, &[0], &[0]), false),
+    (Change::Ports(0, 0, &[], &[]), false),
+    (Change::Ports(2, 1, &[0], &[0]), true),
+    (Change::Ports(2, 1, &[1], &[0]), false),
+    (Change::Ports(2, 0, &[1, 1], &[0]), false),
+    (Change::Ports(2, 0, &[0, 1], &[2]), false),
+    (
+        Change::Ports(65_537, 0, &[0, 65_536], &[65_536, 65_535]),
+        true,
+    ),
+    (Change::Ports(65_537, 0, &[0, 65_536, 65_536], &[0]), false),
+    (
+        Change::Ports(65_537, 0, &[0], &[65_535, 0, 65_536, 65_535]),
+        false,
+    ),
+    (
+        Change::Ports(u32::MAX, 0, &[u32::MAX - 1, 0], &[u32::MAX - 1]),
+        true,
+    ),
+    (
+        Change::Ports(u32::MAX, 0, &[u32::MAX - 1, 0, u32::MAX - 1], &[]),
+        false,
+    ),
+    (Change::Ports(u32::MAX, 0, &[u32::MAX], &[]), false),
+    // a start names an edge by the cell by which a tile is entered, or left where nothing is entered
+    (Change::LoopStart(&[Start { x: 32, y: 24 }]), true),
+    (Change::LoopStart(&[Start { x: 31, y: 24 }]), false),
+    (Change::LoopStart(&[Start { x: 33, y: 24 }]), false),
+    (Change::LoopStart(&[Start { x: 16, y: 31 }]), true),
+    (Change::LoopStart(&[Start { x: 16, y: 32 }]), false),
+    (Change::LoopStart(&[Start { x: 95, y: 40 }]), true),
+    (Change::LoopStart(&[Start { x: 96, y: 40 }]), false),
+    (Change::LoopStart(&[Start { x: 128, y: 8 }]), false),
+    (Change::OrStart(&[Start { x: 31, y: 24 }]), true),
+    (Change::OrStart(&[Start { x: 32, y: 24 }]), false),
+    // a tape has bits for each input
+    (Change::Tape(&[]), true),
+    (Change::Tape(&[b"0", b"1"]), true),
+    (Change::Tape(&[b"01", b"1"]), false),
+    (Change::Tape(&[b"", b""]), false),
+    (Change::Tape(&[b"01"]), false),
+    (Change::Tape(&[b"0", b"1", b"0"]), false),
+];
+
+fn written(change: &Change) -> Written<'static> {
+    match change {
+        Change::Ports(lanes, latches, ins, outs) => Written {
+            lanes: *lanes,
+            latches: *latches,
+            ins,
+            outs,
+            nets: &[],
+            ..OR
+        },
+        Change::Tape(tape) => Written { tape, ..OR },
+        Change::OrStart(starts) => Written { starts, ..OR },
+        Change::LoopStart(starts) => Written { starts, ..LOOP },
+    }
+}
+
+fn expect_rule(alloc: Global, number: u64, change: &Change, want: bool) -> Result<(), Fail> {
+    let plan = plan_of(alloc, &written(change))?;
+    expect_turn("rule", number, admissible(&plan) == want)
+}
+
+#[test]
+fn each_rule_of_plans_is_kept(rt: HostRuntime) -> Result<(), Fail> {
+    for (number, (change, want)) in RULES.iter().enumerate() {
+        expect_rule(rt.alloc(), number as u64, change, *want)?;
+    }
+    Ok(())
+}

@@ -1,0 +1,337 @@
+// Worked values of small plans.
+ghost use Rattle.std.specs.Prelude.{IfOk};
+ghost use Rattle.lane_core.specs.Plans.{IsAdmissible};
+
+use crate::circuits::CIRCUIT;
+use crate::closing::{FIVE_LANES, THREE_COLUMNS, TWO_LOOPS, closed};
+use crate::facts::{Fact, expect_facts};
+use crate::plans::{BARE, LOOP, OR, Written, admitted};
+use crate::tapes::taped;
+use lane_core::{Instr, NetPlace, Plan, Start};
+use std::alloc::Global;
+use std::test::Fail;
+use ww_rule::State;
+
+// Where a plan is from: it is written down, has these bits on its tape, or is that of a program.
+enum Origin {
+    Or,
+    Circuit,
+    Loop,
+    ForkLoop,
+    ThreeLoops,
+    LongLoops,
+    TapedOr(&'static [&'static [u8]]),
+    TapedLoop(&'static [&'static [u8]]),
+    TapedThreeLoops,
+    FiveLanes,
+    TwoLoops,
+    ThreeColumns,
+}
+
+struct Case {
+    about: &'static str,
+    plan: Origin,
+    facts: &'static [Fact],
+}
+
+// Two lanes, two columns and a loop.
+const FORK_LOOP: Written<'static> = Written {
+    lanes: 2,
+    columns: &[&[Instr::Fork(0)], &[Instr::Or(0)]],
+    latches: 1,
+    starts: &[Start { x: 32, y: 24 }],
+    ins: &[0],
+    outs: &[0],
+    nets: &[],
+    tape: &[],
+};
+
+// Three columns without instructions, and two loops.
+const LOOPS: Written<'static> = Written {
+    lanes: 5,
+    columns: &[&[], &[], &[]],
+    latches: 2,
+    starts: &[Start { x: 64, y: 72 }],
+    ins: &[],
+    outs: &[2],
+    nets: &[],
+    tape: &[],
+};
+
+// The rows of an OR gate and its output cell.
+const OR_ROWS: &[&[u8; 33]] = &[
+    b".................................",
+    b".................................",
+    b".................................",
+    b".................................",
+    b".................................",
+    b".................................",
+    b".................................",
+    b".................................",
+    b"CCCCC..................CCCCCCCCCC",
+    b".....C................C..........",
+    b"......C..............C...........",
+    b".......C............C............",
+    b"........C..........C.............",
+    b".........C.CC.....C..............",
+    b"..........CC.C...C...............",
+    b"...........CC.C.C................",
+    b"...............C.................",
+    b"...........CC.C..................",
+    b"..........CC.C...................",
+    b".........C.CC....................",
+    b"........C........................",
+    b".......C.........................",
+    b"......C..........................",
+    b".....C...........................",
+    b"CCCCC..........................C.",
+    b".................................",
+    b".................................",
+    b".................................",
+    b".................................",
+    b".................................",
+    b".................................",
+    b".................................",
+];
+
+const PLANS: &[Case] = &[
+    Case {
+        about: "an OR",
+        plan: Origin::Or,
+        facts: &[
+            Fact::Size(33, 32),
+            Fact::Period(32),
+            Fact::Latency(32),
+            Fact::InCells(&[(0, 8, 0), (0, 24, 0)]),
+            Fact::OutCells(&[(32, 8, 32)]),
+            Fact::NetCells(&[(0, 8, 0), (0, 24, 0), (31, 8, 31)]),
+            Fact::Cells(&[
+                (5, 8, State::Empty),
+                (32, 8, State::Conductor),
+                (31, 24, State::Conductor),
+                (33, 8, State::Empty),
+                (0, 40, State::Empty),
+            ]),
+            Fact::Rows(OR_ROWS),
+            Fact::Slots(&[b"O*.", b"o..", b"..."]),
+        ],
+    },
+    Case {
+        about: "a circuit of five lanes",
+        plan: Origin::Circuit,
+        facts: &[
+            Fact::Size(129, 80),
+            Fact::InCells(&[(0, 8, 0), (0, 40, 0), (0, 72, 0)]),
+            Fact::OutCells(&[
+                (128, 8, 128),
+                (128, 24, 128),
+                (128, 40, 128),
+                (128, 56, 128),
+                (128, 72, 128),
+            ]),
+        ],
+    },
+    Case {
+        about: "a loop",
+        plan: Origin::Loop,
+        facts: &[
+            Fact::Size(129, 48),
+            Fact::Period(256),
+            Fact::Cells(&[
+                (32, 24, State::Head),
+                (31, 24, State::Tail),
+                (32, 8, State::Conductor),
+                (96, 8, State::Conductor),
+                (95, 40, State::Conductor),
+                (96, 9, State::Empty),
+            ]),
+        ],
+    },
+    Case {
+        about: "a loop of which the Fork comes first",
+        plan: Origin::ForkLoop,
+        facts: &[Fact::Slots(&[b".FO*.", b"rfo7.", b"L<<J.", b"....."])],
+    },
+    Case {
+        about: "three loops alone",
+        plan: Origin::ThreeLoops,
+        facts: &[Fact::Slots(&[
+            b"r>>>>>>>7",
+            b"^r>>>>>7v",
+            b"^^r>>>7vv",
+            b"^^LW<WJvv",
+            b"^L<wWw<Jv",
+            b"L<<<w<<<J",
+        ])],
+    },
+    Case {
+        about: "loops lengthen the period",
+        plan: Origin::LongLoops,
+        facts: &[
+            Fact::Period(448),
+            Fact::Latency(96),
+            Fact::OutCells(&[(160, 40, 96)]),
+        ],
+    },
+    Case {
+        about: "one tile of tape before the OR, with which the output moves",
+        plan: Origin::TapedOr(&[b"01", b"11"]),
+        facts: &[
+            Fact::Size(65, 32),
+            Fact::OutCells(&[(64, 8, 32)]),
+            Fact::Cells(&[
+                (0, 8, State::Head),
+                (1, 8, State::Conductor),
+                (31, 8, State::Conductor),
+                (32, 8, State::Conductor),
+                (64, 8, State::Conductor),
+                (0, 24, State::Head),
+                (30, 24, State::Conductor),
+                (31, 24, State::Tail),
+                (32, 24, State::Head),
+                (33, 24, State::Conductor),
+                (0, 7, State::Empty),
+                (0, 9, State::Empty),
+            ]),
+        ],
+    },
+    Case {
+        about: "one cycle is no tile of tape",
+        plan: Origin::TapedOr(&[b"1", b"0"]),
+        facts: &[
+            Fact::Size(33, 32),
+            Fact::Cells(&[
+                (0, 8, State::Head),
+                (0, 24, State::Conductor),
+                (32, 8, State::Conductor),
+            ]),
+        ],
+    },
+    Case {
+        about: "eight tiles of tape before a body with one column of turns, which is drawn seven further east",
+        plan: Origin::TapedLoop(&[b"01"]),
+        facts: &[
+            Fact::Size(353, 48),
+            Fact::Cells(&[
+                (0, 8, State::Head),
+                (1, 8, State::Conductor),
+                (255, 8, State::Conductor),
+                (256, 8, State::Conductor),
+                (255, 24, State::Tail),
+                (256, 24, State::Head),
+                (223, 24, State::Empty),
+                (0, 24, State::Empty),
+                (320, 8, State::Conductor),
+            ]),
+        ],
+    },
+    Case {
+        about: "sixteen tiles of tape",
+        plan: Origin::TapedLoop(&[b"110"]),
+        facts: &[
+            Fact::Size(609, 48),
+            Fact::Cells(&[
+                (0, 8, State::Conductor),
+                (255, 8, State::Tail),
+                (256, 8, State::Head),
+                (257, 8, State::Conductor),
+                (511, 8, State::Tail),
+                (512, 8, State::Head),
+                (511, 24, State::Tail),
+                (512, 24, State::Head),
+            ]),
+        ],
+    },
+    Case {
+        about: "no tile of tape, so no tail before the body",
+        plan: Origin::TapedLoop(&[b"1"]),
+        facts: &[
+            Fact::Size(129, 48),
+            Fact::Cells(&[
+                (31, 8, State::Empty),
+                (32, 8, State::Head),
+                (31, 24, State::Tail),
+                (32, 24, State::Head),
+            ]),
+        ],
+    },
+    Case {
+        about: "no input, so no tape",
+        plan: Origin::TapedThreeLoops,
+        facts: &[
+            Fact::Size(289, 96),
+            Fact::Cells(&[(96, 8, State::Head), (95, 8, State::Tail)]),
+        ],
+    },
+    Case {
+        about: "places are those of last uses",
+        plan: Origin::FiveLanes,
+        facts: &[
+            Fact::Columns(3),
+            Fact::Nets(&[
+                NetPlace {
+                    lane: 0,
+                    after: Some(2),
+                },
+                NetPlace {
+                    lane: 0,
+                    after: Some(0),
+                },
+                NetPlace {
+                    lane: 4,
+                    after: None,
+                },
+                NetPlace {
+                    lane: 3,
+                    after: None,
+                },
+            ]),
+        ],
+    },
+    Case {
+        about: "there are as many columns as loops",
+        plan: Origin::TwoLoops,
+        facts: &[
+            Fact::Columns(2),
+            Fact::Latches(2),
+            Fact::Starts(&[Start { x: 64, y: 8 }]),
+        ],
+    },
+    Case {
+        about: "loops take each column twice",
+        plan: Origin::ThreeColumns,
+        facts: &[Fact::Columns(3), Fact::Latency(96), Fact::Period(448)],
+    },
+];
+
+fn made(alloc: Global, origin: &Origin) -> Result<Plan, Fail>
+    ensures { IfOk result IsAdmissible }
+{
+    match origin {
+        Origin::Or => admitted(alloc, &OR),
+        Origin::Circuit => admitted(alloc, &CIRCUIT),
+        Origin::Loop => admitted(alloc, &LOOP),
+        Origin::ForkLoop => admitted(alloc, &FORK_LOOP),
+        Origin::ThreeLoops => admitted(alloc, &BARE),
+        Origin::LongLoops => admitted(alloc, &LOOPS),
+        Origin::TapedOr(bits) => taped(alloc, &OR, bits),
+        Origin::TapedLoop(bits) => taped(alloc, &LOOP, bits),
+        Origin::TapedThreeLoops => taped(alloc, &BARE, &[]),
+        Origin::FiveLanes => closed(alloc, &FIVE_LANES),
+        Origin::TwoLoops => closed(alloc, &TWO_LOOPS),
+        Origin::ThreeColumns => closed(alloc, &THREE_COLUMNS),
+    }
+}
+
+fn expect_case(alloc: Global, case: &Case) -> Result<(), Fail> {
+    let plan = made(alloc, &case.plan)?;
+    expect_facts(case.about, &plan, case.facts)
+}
+
+#[test]
+fn plans_have_their_worked_values(rt: HostRuntime) -> Result<(), Fail> {
+    for case in PLANS {
+        expect_case(rt.alloc(), case)?;
+    }
+    Ok(())
+}
