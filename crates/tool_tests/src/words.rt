@@ -1,4 +1,5 @@
 // What lists of words ask for.
+use crate::runs::words_of;
 use command_words::{Command, View, WordsError, command_of};
 use std::alloc::{AllocError, Global};
 use std::test::Fail;
@@ -22,9 +23,7 @@ enum Asked {
 
 const CASES: &[(&[&str], Asked)] = &[
     (&[], Asked::Usage),
-    (&["blifww"], Asked::Usage),
     (&["blifww", "compile"], Asked::Compile(1, &[])),
-    (&["blifww", "compile", "1:q=1"], Asked::Usage),
     (
         &["blifww", "compile", "--contexts", "1"],
         Asked::Compile(1, &[]),
@@ -41,19 +40,7 @@ const CASES: &[(&[&str], Asked)] = &[
         &["blifww", "compile", "--contexts", "4294967295"],
         Asked::Compile(4_294_967_295, &[]),
     ),
-    (
-        &["blifww", "compile", "--contexts", "4294967296"],
-        Asked::Usage,
-    ),
-    (&["blifww", "compile", "--contexts", "0"], Asked::Usage),
-    (&["blifww", "compile", "--contexts", "+2"], Asked::Usage),
     (&["blifww", "compile", "--contexts", ""], Asked::Usage),
-    (&["blifww", "compile", "--contexts"], Asked::Usage),
-    (&["blifww", "Compile"], Asked::Usage),
-    (&["blifww", "simulate"], Asked::Usage),
-    (&["blifww", "simulate", "a=01"], Asked::Usage),
-    (&["blifww", "simulate", "--cycles"], Asked::Usage),
-    (&["blifww", "simulate", "--cycles", "0"], Asked::Usage),
     (
         &["blifww", "simulate", "--cycles", "1"],
         Asked::Simulate(1, &[]),
@@ -72,29 +59,15 @@ const CASES: &[(&[&str], Asked)] = &[
         &["blifww", "simulate", "a=01", "--cycles", "2"],
         Asked::Simulate(2, &["a=01"]),
     ),
-    (&["blifww", "simulate", "--cycles", "+7"], Asked::Usage),
-    (&["blifww", "simulate", "--cycles", "7x"], Asked::Usage),
     (&["blifww", "simulate", "--cycles", ""], Asked::Usage),
     (
         &["blifww", "simulate", "--cycles", "1048576"],
         Asked::Simulate(1_048_576, &[]),
     ),
-    (&["blifww", "simulate", "--cycles", "1048577"], Asked::Usage),
-    (
-        &["blifww", "simulate", "--cycles", "18446744073709551617"],
-        Asked::Usage,
-    ),
     (
         &["blifww", "simulate", "--cycles=3", "a=011"],
         Asked::Simulate(3, &["a=011"]),
     ),
-    (
-        &["blifww", "simulate", "--cycles", "3", "--cycles", "3"],
-        Asked::Usage,
-    ),
-    (&["blifww", "simulate", "--rounds", "3"], Asked::Usage),
-    (&["blifww", "eval"], Asked::Usage),
-    (&["blifww", "eval", "--cycles", "0"], Asked::Usage),
     (
         &["blifww", "eval", "--cycles", "2", "a=01", "b=10"],
         Asked::Eval(2, &["a=01", "b=10"]),
@@ -109,7 +82,6 @@ const CASES: &[(&[&str], Asked)] = &[
         &["blifww", "probe", "--cycles", "1", "--net", "co"],
         Asked::Probe(1, "co", "-", &[]),
     ),
-    (&["blifww", "probe", "--cycles", "1", "a=1"], Asked::Usage),
     (
         &[
             "blifww", "window", "--gen", "1", "--x", "0", "--y", "0", "--width", "3", "--height",
@@ -127,27 +99,8 @@ const CASES: &[(&[&str], Asked)] = &[
         ),
     ),
     (
-        &[
-            "blifww", "window", "--gen", "1", "--x", "0", "--y", "0", "--width", "0", "--height",
-            "2",
-        ],
-        Asked::Usage,
-    ),
-    (
         &["blifww", "make", "--seed", "007", "--size", "2"],
         Asked::Make(7, 2),
-    ),
-    (
-        &["blifww", "make", "--seed", "+1", "--size", "2"],
-        Asked::Usage,
-    ),
-    (
-        &["blifww", "make", "--seed", "1", "--size", "129"],
-        Asked::Usage,
-    ),
-    (
-        &["blifww", "make", "--seed", "1", "--size", "2", "x"],
-        Asked::Usage,
     ),
     (
         &[
@@ -159,27 +112,54 @@ const CASES: &[(&[&str], Asked)] = &[
         &["blifww", "tape", "--cycles", "4096", "a=01"],
         Asked::Tape(4096, &["a=01"]),
     ),
-    (&["blifww", "tape", "--cycles", "4097"], Asked::Usage),
-    (&["blifww", "tape", "--cycles", "0"], Asked::Usage),
-    (&["blifww", "tape"], Asked::Usage),
     (&["blifww", "aiger"], Asked::Aiger),
-    (&["blifww", "aiger", "x"], Asked::Usage),
-    (&["blifww", "aiger", "--cycles", "1"], Asked::Usage),
     (
         &["blifww", "vcd", "--cycles", "1048576", "a=01"],
         Asked::Vcd(1_048_576, &["a=01"]),
     ),
-    (&["blifww", "vcd", "--cycles", "0"], Asked::Usage),
-    (&["blifww", "vcd", "a=01"], Asked::Usage),
     (&["blifww", "lift"], Asked::Lift),
-    (&["blifww", "lift", "x"], Asked::Usage),
-    (&["blifww", "lift", "--cycles", "1"], Asked::Usage),
-    (&["blifww", "--help"], Asked::Usage),
-    (&["blifww", "-h"], Asked::Usage),
-    (&["blifww", "help"], Asked::Usage),
-    (&["blifww", "--version"], Asked::Usage),
-    (&["blifww", "simulate", "--help"], Asked::Usage),
 ];
+
+// Words that are no command, those of a case on a line: no word first.
+const REFUSED: &str = "
+compile 1:q=1
+compile --contexts 4294967296
+compile --contexts 0
+compile --contexts +2
+compile --contexts
+Compile
+simulate
+simulate a=01
+simulate --cycles
+simulate --cycles 0
+simulate --cycles +7
+simulate --cycles 7x
+simulate --cycles 1048577
+simulate --cycles 18446744073709551617
+simulate --cycles 3 --cycles 3
+simulate --rounds 3
+eval
+eval --cycles 0
+probe --cycles 1 a=1
+window --gen 1 --x 0 --y 0 --width 0 --height 2
+make --seed +1 --size 2
+make --seed 1 --size 129
+make --seed 1 --size 2 x
+tape --cycles 4097
+tape --cycles 0
+tape
+aiger x
+aiger --cycles 1
+vcd --cycles 0
+vcd a=01
+lift x
+lift --cycles 1
+--help
+-h
+help
+--version
+simulate --help
+";
 
 // Whether the words are these.
 fn are_words(streams: &[String], words: &[&str]) -> bool {
@@ -251,6 +231,24 @@ fn expect_answer(alloc: Global, words: &[&str], asked: Asked) -> Result<(), Fail
     } else {
         Err(Fail::new(format_args!("{words:?} ask for something else")))
     }
+}
+
+// Fails where the words of a line are a command.
+fn expect_refused(alloc: Global, line: &str) -> Result<(), Fail> {
+    let given = words_of(alloc, line)?;
+    if is_answer(&command_of(alloc, &given), Asked::Usage) {
+        Ok(())
+    } else {
+        Err(Fail::new(format_args!("{line}: a command")))
+    }
+}
+
+#[test]
+fn these_words_are_no_commands(rt: HostRuntime) -> Result<(), Fail> {
+    for line in REFUSED.lines() {
+        expect_refused(rt.alloc(), line)?;
+    }
+    Ok(())
 }
 
 #[test]

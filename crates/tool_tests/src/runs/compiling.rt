@@ -345,10 +345,19 @@ co 1 co=1
     },
 ];
 
-// The netlist's text with a net as its first output.
-fn with_output(alloc: Global, driven: &Driven, net: &str) -> Result<String, Fail> {
-    match driven.text.strip_prefix(driven.model) {
-        Some(rest) => Ok(text_of(alloc, &[driven.model, ".outputs ", net, "\n", rest])?),
+// The text of a model, whose first line this is, with a net as its first output.
+fn with_output(alloc: Global, model: &str, text: &str, net: &str) -> Result<String, Fail> {
+    match text.strip_prefix(model) {
+        Some(rest) => Ok(text_of(
+            alloc,
+            &[
+                model.trim_end(),
+                "\n.outputs ",
+                net.trim(),
+                "\n",
+                rest.trim_start(),
+            ],
+        )?),
         None => Err(Fail::new("the text has another first line")),
     }
 }
@@ -356,7 +365,7 @@ fn with_output(alloc: Global, driven: &Driven, net: &str) -> Result<String, Fail
 // What `eval` does with the net as the netlist's first output.
 fn evaluated(alloc: Global, driven: &Driven, net: &str) -> Result<Outcome, Fail> {
     let asked = text_of(alloc, &["eval --cycles ", driven.words])?;
-    let wider = with_output(alloc, driven, net)?;
+    let wider = with_output(alloc, driven.model, driven.text, net)?;
     run_amply(alloc, &asked, wider.as_bytes())
 }
 
@@ -372,42 +381,43 @@ fn expect_first(alloc: Global, driven: &Driven, net: &str, line: &str) -> Result
 // Fails where a pattern shows another line at a net.
 fn expect_probed(
     alloc: Global,
-    driven: &Driven,
+    words: &'static str,
     pattern: &[u8],
-    (net, path): (&str, &str),
+    net: (&'static str, &'static str),
     line: &str,
 ) -> Result<(), Fail> {
-    let parts = [
-        "probe --net ",
-        net,
-        " --path ",
-        path,
-        " --cycles ",
-        driven.words,
-    ];
-    let asked = text_of(alloc, &parts)?;
+    let asked = text_of(
+        alloc,
+        &[
+            "probe --net ",
+            net.0,
+            " --path ",
+            net.1,
+            " --cycles ",
+            words,
+        ],
+    )?;
     let got = run_amply(alloc, &asked, pattern)?;
-    expect(
-        got.out.strip_suffix(
-            b"
-",
-        ) == Some(line.as_bytes()),
-        line,
-    )
+    expect(got.out.strip_suffix(b"\n") == Some(line.as_bytes()), line)
 }
 
 // A net with its path, and what is printed of it.
-fn cut(row: &str) -> Option<((&str, &str), &str)> {
+fn cut(row: &'static str) -> Option<((&'static str, &'static str), &'static str)> {
     let (net, rest) = row.split_once(' ')?;
     let (path, line) = rest.split_once(' ')?;
     Some(((net, path), line))
 }
 
 // Fails where a net shows something else in the netlist's pattern, or `eval` prints something else of it, as far as the main model has it.
-fn expect_net(alloc: Global, driven: &Driven, pattern: &[u8], row: &str) -> Result<(), Fail> {
+fn expect_net(
+    alloc: Global,
+    driven: &Driven,
+    pattern: &[u8],
+    row: &'static str,
+) -> Result<(), Fail> {
     match cut(row) {
         Some((net, line)) => {
-            expect_probed(alloc, driven, pattern, net, line)?;
+            expect_probed(alloc, driven.words, pattern, net, line)?;
             if net.1 == "-" {
                 expect_first(alloc, driven, net.0, line)
             } else {

@@ -1,5 +1,5 @@
 // Texts that say the same again and again: models inside models, and weights near the limit and far beyond it.
-use crate::runs::run_amply;
+use crate::runs::run_over;
 use itoa::Buffer;
 use std::alloc::{AllocError, Global};
 use std::test::Fail;
@@ -182,7 +182,7 @@ const RUNS: &[Run] = &[
 // Fails where a run over the text ends otherwise.
 fn expect_run(alloc: Global, (command, of, times, status, out, err): Run) -> Result<(), Fail> {
     let text = repeated(alloc, of, times)?;
-    let got = run_amply(alloc, command, &text)?;
+    let got = run_over(alloc, command, &text, (1 << 20, &[]), (1 << 20, 99))?;
     if got.is(status, out, err) {
         Ok(())
     } else {
