@@ -1,8 +1,7 @@
 // The cells that the columns of plans make.
 use crate::written::{Written, must, plan_of_written};
 use cell_core::{Cell, CellList, Src};
-use circuit_plans::{first_bits, starts_of_bits};
-use circuit_plans::cells_of;
+use circuit_plans::{cells_of, first_bits, starts_of_bits};
 use std::alloc::Global;
 use std::test::Fail;
 use ww_base::expect;
