@@ -7,6 +7,7 @@ ghost use Rattle.netlist_meaning.specs.InOrder.{names_in_order, places_in_order,
 ghost use Rattle.netlist_meaning.specs.FlatOf.{id_of};
 ghost use Rattle.netlist_meaning.specs.Weight.{weight};
 ghost use Rattle.netlist_rules.specs.ModelFaults.{AreFaultless};
+ghost use Rattle.design_walks.specs.Places.{ArePlaces};
 ghost use Rattle.netlist_flatten.specs.Numbered.{place_at, nets_before};
 
 use crate::tables::{firsts_of, names_by_model};
@@ -36,6 +37,16 @@ impl<'a> std::marker::Model for Numbers<'a> {
     ghost invariant = { λ n. AreTables n.design.now n.placed n.names n.firsts };
 }
 
+// The places of a design, each with its model and its parent.
+fn placed_models(alloc: Global, design: &Design) -> Result<List<PlacedModel>, AllocError>
+    requires faultless { AreFaultless design.now.models }
+    requires few { weight design.now < 2 ^ 32 }
+    ensures { IfOk result (ArePlaces design.now) }
+{
+    let named = NamedModels::new(alloc, design.models.as_slice())?;
+    places(alloc, design, &named)
+}
+
 impl<'a> Numbers<'a> {
     /// The numbers of a design.
     pub fn new(alloc: Global, design: &'a Design) -> Result<Numbers<'a>, AllocError>
@@ -43,8 +54,7 @@ impl<'a> Numbers<'a> {
         requires few { weight design.now < 2 ^ 32 }
         ensures { IfOk result (λ numbers. numbers ≡ design.now) }
     {
-        let named = NamedModels::new(alloc, design.models.as_slice())?;
-        let placed = places(alloc, design, &named)?;
+        let placed = placed_models(alloc, design)?;
         let names = names_by_model(alloc, design, placed.as_slice())?;
         let firsts = firsts_of(alloc, design, placed.as_slice(), &names)?;
         Ok(Numbers {
