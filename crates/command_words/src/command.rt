@@ -124,7 +124,8 @@ fn owned(alloc: Global, texts: &[&str]) -> Result<List<String>, AllocError>
 
 // The last words.
 fn streams_in(alloc: Global, found: &ArgMatches<'_>) -> Result<List<String>, AllocError>
-    ensures { IfOk result (λ streams. map string_bytes streams ≡ streams_met (rows_of (found_of found.now))) }
+    ensures { IfOk result (λ streams. map string_bytes streams ≡
+        streams_met (rows_of (found_of found.now))) }
 {
     owned(alloc, found.get_strs("streams").unwrap_or(&[]))
 }
@@ -138,7 +139,8 @@ fn text_in<'a>(found: &ArgMatches<'a>, name: &str) -> Option<&'a str>
 
 // The number that is given for an option of this name, if it lies between the bounds.
 fn number_in(found: &ArgMatches<'_>, name: &str, least: u64, most: u64) -> Option<u64>
-    ensures value { result ≡ number_met (record { name = name.now; least = least; most = most }) (rows_of (found_of found.now)) }
+    ensures value { result ≡ number_met (record { name = name.now; least = least; most = most })
+        (rows_of (found_of found.now)) }
     ensures bounds { IfSome result (λ number. (least ≤ number) × (number ≤ most)) }
 {
     number_between(text_in(found, name)?, least, most)
@@ -219,7 +221,8 @@ fn compile_in(alloc: Global, found: &ArgMatches<'_>) -> Result<Command, WordsErr
 }
 
 fn driven_in(alloc: Global, driven: Driven, found: &ArgMatches<'_>) -> Result<Command, WordsError>
-    ensures { Reads (driven_command_by (range_of driven) (values_by driven) (rows_of (found_of found.now))) result }
+    ensures { Reads (driven_command_by (range_of driven) (values_by driven)
+        (rows_of (found_of found.now))) result }
 {
     let cycles = driven.cycles_in(found).ok_or(WordsError::Usage)?;
     let streams = streams_in(alloc, found)?;
@@ -283,7 +286,8 @@ enum CommandKind {
 
 // The command of this name.
 fn kind_named(name: &str) -> Option<CommandKind>
-    ensures { (rows : List Row) → values_by_name name.now rows ≡ option_and_then (λ kind. values_of_kind kind rows) result }
+    ensures { (rows : List Row) → values_by_name name.now rows ≡
+        option_and_then (λ kind. values_of_kind kind rows) result }
 {
     match name {
         "compile" => Some(CommandKind::Compile),
@@ -350,11 +354,13 @@ fn length_fits(words: &[String])
 /// `Usage` comes only where the words are no command, and each other answer but `NoMemory` only where they have its
 /// values.
 pub fn command_of(alloc: Global, words: &[String]) -> Result<Command, WordsError>
-    ensures ok { IfOk result (λ c. command_values (map string_bytes words.now) ≡ Some (values_of c)) }
+    ensures ok { IfOk result (λ c. command_values (map string_bytes words.now) ≡
+        Some (values_of c)) }
     ensures taken { OnOk result (IsTaken (map string_bytes words.now)) }
     ensures numbers { IfOk result (λ c. HasNumbersInRange (values_of c)) }
     ensures usage { IsErrOf result WordsError.Usage → IsCommand (map string_bytes words.now) → ⊥ }
-    ensures written { (v : CommandValues) → IsWritten v (map string_bytes words.now) → MatchResult result (λ c. values_of c ≡ v) (λ e. e ≡ WordsError.NoMemory) }
+    ensures written { (v : CommandValues) → IsWritten v (map string_bytes words.now) →
+        MatchResult result (λ c. values_of c ≡ v) (λ e. e ≡ WordsError.NoMemory) }
 {
     length_fits(words);
     let found = blifww_command(alloc)?.try_get_matches_from(words)?;

@@ -92,7 +92,8 @@ fn with_command<'a>(
     program: Command<'a>,
     command: Result<Command<'a>, AllocError>,
 ) -> Result<Command<'a>, AllocError>
-    ensures { (app : App) → IfOk command.entry (λ c. app_of c ≡ app) → IfOk command.entry (λ c. (fields_of c).has_globals ≡ false)
+    ensures { (app : App) → IfOk command.entry (λ c. app_of c ≡ app) →
+        IfOk command.entry (λ c. (fields_of c).has_globals ≡ false)
         → IfOk result (λ c. app_of c ≡ with_subcommand (app_of program.entry) app.top) }
 {
     match command {
@@ -107,7 +108,8 @@ fn with_commands<'a>(
     program: Command<'a>,
     forms: &[CommandForm],
 ) -> Result<Command<'a>, AllocError>
-    ensures { (app : App) → app_of program.entry ≡ app → IfOk result (λ c. app_of c ≡ with_forms app forms.now) }
+    ensures { (app : App) → app_of program.entry ≡ app →
+        IfOk result (λ c. app_of c ≡ with_forms app forms.now) }
 {
     let mut whole = program;
     'forms: for form in forms {

@@ -6,7 +6,7 @@ use std::alloc::{AllocError, AllocFailed};
 
 /// The faults of stream words, by the names that the program prints. The first word at fault is answered, and of one
 /// word the first of these; `MissingInput` comes where no word is at fault.
-#[derive(Clone, Copy, Debug)]
+#[derive(Clone, Copy, Debug, PartialEq, Eq)]
 pub enum StreamFaultKind {
     /// The word has no `=`.
     NoEquals,
