@@ -1,4 +1,7 @@
 // Tables of known texts, and texts that are at fault.
+ghost use Rattle.std.specs.Prelude.{◌<◌, length, IfOk};
+ghost use Rattle.pattern_reading.specs.Spelling.{port_lines};
+
 use crate::texts::{joined, push_all};
 use lists::List;
 use port_table::{NetLine, PortLine, PortReadError, Ports, read, write_line};
@@ -257,7 +260,9 @@ fn name_of_all_bytes(alloc: Global) -> Result<Vec<u8>, AllocError> {
 }
 
 // A table whose one input has a name.
-fn table_with(alloc: Global, name: &[u8]) -> Result<Ports, AllocError> {
+fn table_with(alloc: Global, name: &[u8]) -> Result<Ports, AllocError>
+    ensures { IfOk result (λ ports. 1 < length (port_lines ports)) }
+{
     let name = name.to_vec(alloc)?;
     let mut ins = Vec::new(alloc);
     ins.push(PortLine {
@@ -276,13 +281,17 @@ fn table_with(alloc: Global, name: &[u8]) -> Result<Ports, AllocError> {
 }
 
 // Writes both lines of a table.
-fn write_lines(ports: &Ports, sink: &mut MemSink) -> Result<(), Fail> {
+fn write_lines(ports: &Ports, sink: &mut MemSink) -> Result<(), Fail>
+    requires { 1 < length (port_lines ports.now) }
+{
     write_line(ports, 0, sink)?;
     write_line(ports, 1, sink)?;
     Ok(())
 }
 
-fn text_of(alloc: Global, ports: &Ports) -> Result<MemSink, Fail> {
+fn text_of(alloc: Global, ports: &Ports) -> Result<MemSink, Fail>
+    requires { 1 < length (port_lines ports.now) }
+{
     let mut sink = MemSink::new(alloc, 1000, 1000, &[])?;
     write_lines(ports, &mut sink)?;
     Ok(sink)
